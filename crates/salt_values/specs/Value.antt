@@ -1,0 +1,35 @@
+-- Values and their order.
+use Rattle.salt_values.specs.Text.{is_text}
+use Rattle.salt_values.specs.declared.value.Value.{Value}
+use Rattle.salt_values.specs.declared.value.Value.TheVariants.{Int, Text}
+use Rattle.std.specs.Cmp.{IsTotalOrder, int_cmp_total, nat_cmp_total, on_total, then_total}
+use Rattle.std.specs.Cmp.Lexicographic.{nat_list_cmp_total, slice_cmp}
+use Rattle.std.specs.Int.{w64}
+use Rattle.std.specs.Ordering.{int_cmp, nat_cmp, on, then_cmp}
+use Rattle.std.specs.Prelude.{FitsSigned, List, [], pos, true, ℕ, ℤ, ◌≡◌}
+use Rattle.std.specs.declared.cmp.Ordering.{Ordering}
+
+-- a number of 64 bits, or a text
+abbrev pub IsValue : Value → Type 0
+IsValue (Int z) = FitsSigned w64 z
+IsValue (Text t) = is_text t ≡ true
+
+-- a number before a text
+abbrev pub kind_number : Value → ℕ
+kind_number (Int z) = 0
+kind_number (Text t) = 1
+
+abbrev pub int_in : Value → ℤ
+int_in (Int z) = z
+int_in (Text t) = pos 0
+
+abbrev pub text_in : Value → List ℕ
+text_in (Int z) = []
+text_in (Text t) = t
+
+-- numbers by number, texts by their bytes
+abbrev pub value_cmp : Value → Value → Ordering
+value_cmp = then_cmp (on kind_number nat_cmp) (then_cmp (on int_in int_cmp) (on text_in (slice_cmp nat_cmp)))
+
+pub value_total : IsTotalOrder value_cmp
+value_total = then_total (on_total kind_number nat_cmp_total) (then_total (on_total int_in int_cmp_total) (on_total text_in nat_list_cmp_total))

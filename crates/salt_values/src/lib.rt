@@ -1,0 +1,14 @@
+//! Values, rows, names and numbers of units, as every layer sees them.
+#![tactic(auto)]
+
+mod copy;
+mod id;
+mod placement;
+mod text;
+mod value;
+
+pub use copy::TryCopy;
+pub use id::{Id, Ids};
+pub use placement::{PlaceKind, Placement, Shape, place_of};
+pub use text::{Text, TextErr};
+pub use value::{Bytes, Key, Name, Names, Row, Rows, Value};
