@@ -1,0 +1,15 @@
+pub mod Words
+pub mod Tables
+pub mod Statements
+pub mod Kept
+pub mod Log
+pub mod After
+pub mod Texts
+pub mod Refusals
+pub mod Next
+pub mod Played
+pub mod Honest
+pub mod EventTexts
+pub mod Computing
+pub mod Walk
+pub mod Rows

@@ -1,0 +1,10 @@
+//! The story that a run prints: its events, the trees of its lines, and what a story has to be (in specs/).
+#![tactic(auto)]
+
+mod events;
+mod trees;
+
+pub use events::{Answer, Cause, End, Event, Refusal, Story, UnitKind};
+pub use trees::{
+    Act, Bound, ColType, Expr, Exprs, Field, Fields, Line, Scan, Statement, TableDef, What,
+};
