@@ -2,9 +2,11 @@
 #![tactic(auto)]
 
 mod events;
+mod laws;
 mod trees;
 
 pub use events::{Answer, Cause, End, Event, Refusal, Story, UnitKind};
+pub use laws::played_is_honest;
 pub use trees::{
     Act, Bound, ColType, Expr, Exprs, Field, Fields, Line, Scan, Statement, TableDef, What,
 };
