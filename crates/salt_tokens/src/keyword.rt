@@ -123,6 +123,7 @@ impl Keyword {
     }
 
     /// The keyword that the bytes are in capital or small letters.
+    #[tactic(auto, unfolding(crate::specs::Spelling::keyword_of))]
     pub fn of_word(word: &[u8]) -> Option<Keyword>
         ensures { result ≡ keyword_of word.now }
     {

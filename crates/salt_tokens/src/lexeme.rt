@@ -1,6 +1,7 @@
 ghost use Rattle.std.specs.Prelude.{◌≡◌, ◌≤◌, List, Err, IfOk, length, min, vec_len};
-ghost use Rattle.std.specs.Str.Parse.{AllDigits, digits_value};
-ghost use Rattle.salt_tokens.specs.Pieces.{IsToken, Piece, Lexes};
+ghost use Rattle.std.specs.Str.Parse.{digits_value};
+ghost use Rattle.salt_tokens.specs.Bytes.{is_digit};
+ghost use Rattle.salt_tokens.specs.Pieces.{IsToken, Piece, Lexes, Run};
 ghost use Rattle.salt_tokens.specs.Symbols.{between, largest_int, row, row_of, symbol, symbol_by};
 ghost use Rattle.salt_tokens.specs.declared.error.ScanErr.TheVariants.{Syntax};
 
@@ -26,7 +27,7 @@ pub enum Lexeme<'a> {
 
 /// The number that the digits write, or 2^64 - 1 where it is larger.
 fn number(digits: &[u8]) -> u64
-    requires { AllDigits 10 digits.now }
+    requires { Run is_digit digits.now }
     ensures { result ≡ min (digits_value 10 digits.now) largest_int }
 {
     let mut n: u64 = 0;

@@ -15,19 +15,23 @@ fn lower(b: u8) -> u8
 pub fn same_in_any_case(bytes: &[u8], spelling: &[u8]) -> bool
     ensures { result ≡ same_bytes (map lower bytes.now) spelling.now }
 {
-    match (bytes, spelling) {
-        ([], []) => true,
-        ([first, rest @ ..], [letter, letters @ ..]) => lower(*first) == *letter && same_in_any_case(rest, letters),
-        _ => false,
-    }
+    let [first, rest @ ..] = bytes else {
+        return spelling.is_empty();
+    };
+    let [letter, letters @ ..] = spelling else {
+        return false;
+    };
+    lower(*first) == *letter && same_in_any_case(rest, letters)
 }
 
 pub fn same(bytes: &[u8], spelling: &[u8]) -> bool
     ensures { result ≡ same_bytes bytes.now spelling.now }
 {
-    match (bytes, spelling) {
-        ([], []) => true,
-        ([first, rest @ ..], [letter, letters @ ..]) => *first == *letter && same(rest, letters),
-        _ => false,
-    }
+    let [first, rest @ ..] = bytes else {
+        return spelling.is_empty();
+    };
+    let [letter, letters @ ..] = spelling else {
+        return false;
+    };
+    *first == *letter && same(rest, letters)
 }

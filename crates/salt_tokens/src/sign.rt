@@ -59,6 +59,7 @@ impl Sign {
     }
 
     /// The sign that the bytes are.
+    #[tactic(auto, unfolding(crate::specs::Spelling::sign_of))]
     pub fn of_bytes(bytes: &[u8]) -> Option<Sign>
         ensures { result ≡ sign_of bytes.now }
     {
