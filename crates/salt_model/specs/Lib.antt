@@ -13,3 +13,4 @@ pub mod EventTexts
 pub mod Computing
 pub mod Walk
 pub mod Rows
+pub mod Lines
