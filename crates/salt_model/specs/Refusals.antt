@@ -14,22 +14,22 @@ use Rattle.salt_model.specs.declared.trees.Statement.{Statement}
 use Rattle.salt_model.specs.declared.trees.Statement.TheVariants.{Insert, Select}
 use Rattle.salt_model.specs.declared.trees.TableDef.{TableDef}
 use Rattle.std.specs.List.{list_any}
-use Rattle.std.specs.Prelude.{Bool, List, None, Option, Some, [], false, is_none, is_some, length, map, nat_le, not, ℕ, ◌++◌, ◌==◌, ◌∷◌}
+use Rattle.std.specs.Prelude.{Bool, List, None, Option, Some, [], false, is_none, is_some, length, nat_le, not, option_map, ℕ, ◌++◌, ◌==◌, ◌∷◌}
 
-abbrev pub names_of : List Field → List (List ℕ)
-names_of fields = map (λ f. f.name) fields
+abbrev pub has_name : List ℕ → Field → Bool
+has_name n f = is_same_name n f.name
 
 -- the first name that stands there before, in the text or among those seen
-abbrev pub first_doubled : List (List ℕ) → List (List ℕ) → Option (List ℕ)
+abbrev pub first_doubled : List Field → List Field → Option (List ℕ)
 first_doubled seen [] = None
-first_doubled seen (n ∷ ns) = or_else (when (list_any (is_same_name n) seen) n) (first_doubled (seen ++ n ∷ []) ns)
+first_doubled seen (f ∷ fs) = or_else (when (list_any (has_name f.name) seen) f.name) (first_doubled (seen ++ f ∷ []) fs)
 
 -- at most 64 tables are kept; a further one is outside what is read so far
 abbrev pub refused_table : List TableDef → TableDef → Option Refusal
 refused_table schema d =
     or_else (when (nat_le 64 (length schema)) Syntax)
     (or_else (when (is_some (table_named d.name schema)) (Exists d.name))
-    (elim (first_doubled [] (names_of d.columns)) [ None ↦ None | Some n ↦ Some (Exists n) ]))
+    (option_map Exists (first_doubled [] d.columns)))
 
 -- as many values as the table has columns
 abbrev pub is_mistyped : TableDef → Statement → Bool

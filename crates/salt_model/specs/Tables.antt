@@ -1,4 +1,5 @@
 -- Tables: a finite map from places, a table and a key, to rows, as the list of its entries in order of table and key.
+use Rattle.salt_model.specs.declared.tables.Place.{Place}
 use Rattle.salt_values.specs.Value.{value_cmp, value_total}
 use Rattle.salt_values.specs.declared.value.Value.{Value}
 use Rattle.salt_values.specs.declared.value.Value.TheVariants.{Int}
@@ -8,10 +9,6 @@ use Rattle.std.specs.Ordering.{is_eq, is_gt, nat_cmp, on, then_cmp}
 use Rattle.std.specs.Prelude.{Bool, List, None, Option, Some, [], not, pos, true, ℕ, ◌&&◌, ◌==◌, ◌∷◌}
 use Rattle.std.specs.declared.cmp.Ordering.{Ordering}
 use lib.Dec.{T}
-
-pub record Place : Type 0 where
-  pub table : ℕ
-  pub key : Value
 
 abbrev pub table_at : Place → ℕ
 table_at p = p.table

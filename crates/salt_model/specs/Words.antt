@@ -1,5 +1,6 @@
 -- Small words on options, results, lists and names.
 use Rattle.salt_values.specs.declared.id.Id.{Id}
+use Rattle.std.specs.Str.{bytes_eq}
 use Rattle.std.specs.Prelude.{Bool, Err, List, None, Ok, Option, Result, Some, [], false, true, ℕ, ⊤, ◌&&◌, ◌==◌, ◌∷◌}
 
 -- the first of two answers that is one
@@ -19,10 +20,7 @@ and_then (Err e) f = Err e
 
 -- two rows of bytes are one
 abbrev pub is_same_name : List ℕ → List ℕ → Bool
-is_same_name [] [] = true
-is_same_name (x ∷ xs) (y ∷ ys) = (x == y) && is_same_name xs ys
-is_same_name [] (y ∷ ys) = false
-is_same_name (x ∷ xs) [] = false
+is_same_name = bytes_eq
 
 abbrev pub is_same_id : Id → Id → Bool
 is_same_id a b = (a.boot == b.boot) && (a.seq == b.seq)

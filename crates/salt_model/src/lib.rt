@@ -3,10 +3,12 @@
 
 mod events;
 mod laws;
+mod tables;
 mod trees;
 
 pub use events::{Answer, Cause, End, Event, Refusal, Story, UnitKind};
 pub use laws::played_is_honest;
+pub use tables::Place;
 pub use trees::{
     Act, Bound, ColType, Expr, Exprs, Field, Fields, Line, Scan, Statement, TableDef, What,
 };

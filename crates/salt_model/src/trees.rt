@@ -1,7 +1,8 @@
 //! The trees of lines. Each has the forms that are read so far; further forms are further variants.
 
-use salt_values::{Name, Value};
+use salt_values::{Name, TryCopy, Value};
 use sqlite_items::Items;
+use std::alloc::{AllocError, Global};
 
 /// The type of a column.
 #[derive(Clone, Copy, Debug, PartialEq, Eq)]
@@ -98,6 +99,64 @@ impl Drop for Line {
                 session: _session,
                 act: _act,
             } => {}
+        }
+    }
+}
+
+impl TryCopy for Field {
+    fn copy(&self, alloc: Global) -> Result<Field, AllocError> {
+        Ok(Field {
+            name: self.name.copy(alloc)?,
+            kind: self.kind,
+        })
+    }
+}
+
+impl TryCopy for TableDef {
+    fn copy(&self, alloc: Global) -> Result<TableDef, AllocError> {
+        Ok(TableDef {
+            name: self.name.copy(alloc)?,
+            columns: self.columns.copy(alloc)?,
+        })
+    }
+}
+
+impl TryCopy for Expr {
+    fn copy(&self, alloc: Global) -> Result<Expr, AllocError> {
+        match self {
+            Expr::Lit(value) => Ok(Expr::Lit(value.copy(alloc)?)),
+        }
+    }
+}
+
+impl TryCopy for Bound {
+    fn copy(&self, alloc: Global) -> Result<Bound, AllocError> {
+        match self {
+            Bound::Key(key) => Ok(Bound::Key(key.copy(alloc)?)),
+        }
+    }
+}
+
+impl TryCopy for Scan {
+    fn copy(&self, alloc: Global) -> Result<Scan, AllocError> {
+        Ok(Scan {
+            bound: self.bound.copy(alloc)?,
+        })
+    }
+}
+
+impl TryCopy for Statement {
+    fn copy(&self, alloc: Global) -> Result<Statement, AllocError> {
+        match self {
+            Statement::Insert { table, values } => Ok(Statement::Insert {
+                table: table.copy(alloc)?,
+                values: values.copy(alloc)?,
+            }),
+            Statement::Select { what, table, scan } => Ok(Statement::Select {
+                what: *what,
+                table: table.copy(alloc)?,
+                scan: scan.copy(alloc)?,
+            }),
         }
     }
 }

@@ -1,0 +1,56 @@
+//! Where a row stands.
+
+ghost use Rattle.salt_model.specs.Tables.{place_cmp, place_total};
+ghost use Rattle.std.specs.Cmp.{eq_by_cmp_equiv, partial_equiv_from_equiv, partial_order_from_total};
+ghost use Rattle.std.specs.Ordering.{as_partial_cmp, eq_by_cmp};
+ghost use Rattle.std.specs.Prelude.{refl};
+
+use salt_values::Key;
+use std::cmp::Ordering;
+
+/// The place of a row: its table's number and its key. Places are ordered by table, then by key.
+#[derive(Debug, Drop)]
+pub struct Place {
+    pub table: u16,
+    pub key: Key,
+}
+
+impl PartialEq for Place {
+    ghost eq = { eq_by_cmp place_cmp };
+
+    ghost laws = { partial_equiv_from_equiv (eq_by_cmp_equiv place_total) };
+
+    fn eq(&self, other: &Place) -> bool {
+        self.cmp(other).is_eq()
+    }
+}
+
+impl Eq for Place {
+    ghost laws = { eq_by_cmp_equiv place_total };
+}
+
+impl PartialOrd for Place {
+    ghost partial_cmp = { as_partial_cmp place_cmp };
+
+    ghost laws = { partial_order_from_total place_total };
+
+    fn partial_cmp(&self, other: &Place) -> Option<Ordering> {
+        Some(self.cmp(other))
+    }
+}
+
+impl Ord for Place {
+    ghost cmp = { place_cmp };
+
+    ghost total = { place_total };
+
+    ghost matches_partial_cmp = { λ a b. refl };
+
+    ghost matches_eq = { λ a b. refl };
+
+    fn cmp(&self, other: &Place) -> Ordering {
+        self.table
+            .cmp(&other.table)
+            .then(self.key.cmp(&other.key))
+    }
+}
