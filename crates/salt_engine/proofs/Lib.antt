@@ -1,3 +1,5 @@
 pub mod Lookups
 pub mod Entries
 pub mod Outcomes
+pub mod CutShort
+pub mod Segments

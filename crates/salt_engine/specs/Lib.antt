@@ -1,2 +1,3 @@
 pub mod Schema
 pub mod Execute
+pub mod Engine

@@ -2,7 +2,7 @@
 #![tactic(auto)]
 
 
-
+mod engine;
 mod execute;
 mod schema;
 

@@ -1,6 +1,6 @@
 //! The tables defined, and what a line is refused for by them.
 
-ghost use Rattle.std.specs.Prelude.{◌≡◌, [], IfOk, MatchOption, None, Some, slice_get};
+ghost use Rattle.std.specs.Prelude.{◌≡◌, ◌<◌, ◌≤◌, ◌++◌, ◌∷◌, [], IfOk, OnOk, length};
 ghost use Rattle.std.specs.List.{list_any};
 ghost use Rattle.std.specs.Option.{option_copied};
 ghost use Rattle.salt_model.specs.Refusals.{first_doubled, has_name, is_mistyped, refused_line, refused_statement, refused_table};
@@ -11,10 +11,55 @@ ghost use Rattle.salt_engine.specs.Schema.{IsKnownAt};
 
 use salt_model::{Act, Field, Line, Refusal, Statement, TableDef};
 use salt_values::{Name, TryCopy};
+use sqlite_items::Items;
 use std::alloc::{AllocError, Global};
+use std::marker::Model;
 
 /// The most tables that are kept.
 pub const TABLES_MOST: usize = 64;
+
+/// The tables defined, numbered from 0, at most 64. Contracts see the list of their definitions.
+#[derive(Drop)]
+pub struct Schema {
+    tables: Items<TableDef>,
+}
+
+impl Model for Schema {
+    ghost use Rattle.std.specs.Prelude.{List, length, ◌≤◌};
+    ghost use Rattle.salt_model.specs.declared.trees.TableDef.{TableDef};
+
+    ghost Value = { List TableDef };
+
+    ghost view = { λ s. s.tables };
+
+    ghost invariant = { λ s. length s.tables ≤ 64 };
+}
+
+impl Schema {
+    /// No tables.
+    pub fn new(alloc: Global) -> Schema
+        ensures { result ≡ [] }
+    {
+        Schema {
+            tables: Items::new(alloc),
+        }
+    }
+
+    pub fn tables(&self) -> &[TableDef]
+        ensures tables { result.now ≡ self.now }
+        ensures few { length result.now ≤ 64 }
+    {
+        self.tables.as_slice()
+    }
+
+    /// Adds a table, which takes the next number.
+    pub fn add(&mut self, def: TableDef) -> Result<(), AllocError>
+        requires { length self.old < 64 }
+        ensures { OnOk result (self.new ≡ self.old ++ def ∷ []) }
+    {
+        self.tables.push(def)
+    }
+}
 
 fn is_same_name(a: &[u8], b: &[u8]) -> bool
     ensures { result ≡ is_same_name a.now b.now }

@@ -51,7 +51,7 @@ turn-fits : (log : Log) (u : Id) (o : Option Statement) (e : Event) → last log
 turn-fits log u None e h k = absurd cc
 turn-fits log u (Some st) e h k = subst (Fits log) (inside _ _ k) (h, refl)
 
-did-ends : (log : Log) (u : Id) (answer : Answer) → after_did log u answer ≡ Ended u (end_after (next_number log) answer)
+pub did-ends : (log : Log) (u : Id) (answer : Answer) → after_did log u answer ≡ Ended u (end_after (next_number log) answer)
 did-ends log u (Answer.Failed c) = refl
 did-ends log u (Count n) = refl
 did-ends log u (Rows rows) = refl

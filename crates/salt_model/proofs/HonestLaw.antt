@@ -37,7 +37,7 @@ record Inv (log : Log) : Type 0 where
   replays : Replays log (last log)
 
 -- where a segment is complete, no unit has begun without a turn, and none has done its statement without an end
-run_on-one : (schema : List TableDef) (st : Statement) (r : Run) → run_on schema (st ∷ []) r ≡ with_done schema r st
+pub run_on-one : (schema : List TableDef) (st : Statement) (r : Run) → run_on schema (st ∷ []) r ≡ with_done schema r st
 run_on-one schema st r = both (has_failed (doing schema r st).answer) (with_done schema r st)
   where
     both : (b : Bool) (x : Run) → cond b x x ≡ x

@@ -1,0 +1,79 @@
+-- What an engine stands for: the log that it and its story are those of.
+use Rattle.salt_engine.specs.declared.engine.Engine.{Engine}
+use Rattle.salt_model.specs.After.{kept, tables_after}
+use Rattle.salt_model.specs.Honest.{cause_in}
+use Rattle.salt_model.specs.Kept.{schema_of}
+use Rattle.salt_model.specs.Log.{Asked, Log, lines_of, unit_count}
+use Rattle.salt_model.specs.Played.{IsComplete, Tells}
+use Rattle.salt_model.specs.Statements.{Done, outcome_of}
+use Rattle.salt_model.specs.Tables.{Change, Entry, Tables, with_changes}
+use Rattle.salt_model.specs.declared.events.Answer.{Answer}
+use Rattle.salt_model.specs.declared.events.Cause.{Cause}
+use Rattle.salt_model.specs.declared.events.End.{End}
+use Rattle.salt_model.specs.declared.events.End.TheVariants.{Committed, Failed}
+use Rattle.salt_model.specs.declared.events.Event.{Event}
+use Rattle.salt_model.specs.declared.events.Event.TheVariants.{Began, Did, Ended}
+use Rattle.salt_model.specs.declared.events.UnitKind.TheVariants.{Acid}
+use Rattle.salt_model.specs.declared.trees.Statement.{Statement}
+use Rattle.salt_values.specs.declared.id.Id.{Id}
+use Rattle.std.specs.Prelude.{List, None, Option, Some, [], take, ℕ, ◌++◌, ◌+◌, ◌∷◌, ◌≡◌, ◌≤◌}
+
+-- the engine and the story are those of a log that is played and complete
+pub record Serves (e : Engine) (story : List Event) (log : Log) : Type 0 where
+  pub tells : Tells log story
+  pub complete : IsComplete log
+  pub schema : schema_of (kept log) ≡ e.schema
+  pub rows : e.rows.entries ≡ (tables_after log).list
+  pub boot : (kept log).boot ≡ e.boot
+  pub decisions : (kept log).decisions ≡ e.decisions
+  pub units : unit_count log ≡ e.units
+
+-- each log of the engine and the story goes on by the line and its whole segment
+abbrev pub GoesOn : Engine → List Event → Asked → Engine → List Event → Type 0
+GoesOn old story line new told = (log : Log) → Serves old story log → (after : Log) × (lines_of after ≡ lines_of log ++ line ∷ []) × Serves new told after
+
+-- or by the line and a front of its segment
+abbrev pub BreaksOff : Engine → List Event → Asked → List Event → Type 0
+BreaksOff old story line told = (log : Log) → Serves old story log → (after : Log) × (lines_of after ≡ lines_of log ++ line ∷ []) × Tells after told
+
+-- a front of the events was told
+abbrev pub IsCutShort : List Event → List Event → List Event → Type 0
+IsCutShort story events told = (k : ℕ) × (told ≡ story ++ take k events)
+
+abbrev pub next_unit : Engine → Id
+next_unit e = record { boot = e.boot; seq = e.units + 1 }
+
+-- how a unit ends with a cause, or without, after so many decisions
+abbrev pub end_by : ℕ → Option Cause → End
+end_by n (Some c) = Failed c
+end_by n None = Committed (n + 1)
+
+abbrev pub unit_events : Engine → ℕ → Statement → Answer → List Event
+unit_events e s st answer = Began (next_unit e) (Acid s) ∷ Did (next_unit e) st answer ∷ Ended (next_unit e) (end_by e.decisions (cause_in answer)) ∷ []
+
+-- a unit that fails changes nothing
+abbrev pub rows_by : Option Cause → List Change → Tables → List Entry
+rows_by (Some c) changes es = es.list
+rows_by None changes es = (with_changes changes es).list
+
+abbrev pub decisions_after : Option Cause → ℕ → ℕ
+decisions_after (Some c) n = n
+decisions_after None n = n + 1
+
+-- what a statement does on the tables that an engine keeps
+abbrev pub done_by : Engine → Tables → Statement → Done
+done_by e es st = outcome_of e.schema es [] st
+
+-- the engine and the story after a unit's statement was done on the tables
+pub record HasRun (old : Engine) (story : List Event) (session : ℕ) (st : Statement) (es : Tables) (new : Engine) (told : List Event) : Type 0 where
+  pub tells : told ≡ story ++ unit_events old session st (done_by old es st).answer
+  pub schema : new.schema ≡ old.schema
+  pub rows : new.rows.entries ≡ rows_by (cause_in (done_by old es st).answer) (done_by old es st).changes es
+  pub boot : new.boot ≡ old.boot
+  pub decisions : new.decisions ≡ decisions_after (cause_in (done_by old es st).answer) old.decisions
+  pub units : new.units ≡ old.units + 1
+
+-- a step raises each number by one at most
+pub record NumbersRise (old new : Engine) : Type 0 where
+  pub units : new.units ≤ old.units + 1
+  pub decisions : new.decisions ≤ old.decisions + 1

@@ -1,0 +1,172 @@
+//! The engine's state, and its step.
+
+ghost use Rattle.std.specs.Prelude.{◌≡◌, ◌+◌, ◌-◌, ◌<◌, ◌^◌, ◌++◌, ◌∷◌, [], IfOk, List, OnErr, OnOk};
+ghost use Rattle.salt_model.specs.After.{kept};
+ghost use Rattle.salt_model.specs.Honest.{cause_in};
+ghost use Rattle.salt_model.specs.Kept.{nothing_kept};
+ghost use Rattle.salt_model.specs.Log.{Log, unit_count};
+ghost use Rattle.salt_model.specs.Played.{IsComplete, Tells};
+ghost use Rattle.salt_model.specs.Tables.{Tables, with_changes};
+ghost use Rattle.salt_model.specs.declared.events.Event.{Event};
+ghost use Rattle.salt_engine.specs.Execute.{changes_of};
+
+use crate::execute::{Added, Outcome, PlacedRows, execute};
+use crate::schema::{Schema, refusal_of};
+use salt_model::{Act, Answer, Cause, End, Event, Line, Refusal, Statement, Story, TableDef, UnitKind};
+use salt_values::{Id, TryCopy};
+use std::alloc::{AllocError, Global};
+use std::collections::BTreeMap;
+
+/// Keeps the tables, and numbers units and decisions.
+#[derive(Drop)]
+pub struct Engine {
+    alloc: Global,
+    schema: Schema,
+    rows: PlacedRows,
+    boot: u64,
+    decisions: u64,
+    units: u64,
+}
+
+/// Appends a unit's Did.
+fn tell(story: &mut Story, unit: Id, statement: Statement, answer: Answer) -> Result<(), AllocError>
+    ensures ok { OnOk result (story.new ≡ story.old ++ Event.Did unit statement answer ∷ []) }
+    ensures err { OnErr result (story.new ≡ story.old) }
+{
+    story.push(Event::Did {
+        unit,
+        statement,
+        answer,
+    })
+}
+
+fn cause_of(answer: &Answer) -> Option<Cause>
+    ensures { result ≡ cause_in answer.now }
+{
+    match answer {
+        Answer::Failed(cause) => Some(*cause),
+        _ => None,
+    }
+}
+
+impl Engine {
+    ghost use Rattle.salt_engine.specs.Engine.{BreaksOff, GoesOn, HasRun, IsCutShort, Serves, decisions_after, done_by, end_by, next_unit, rows_by, unit_events};
+
+    /// An engine of no tables, in the boot that a story's opening tells.
+    pub fn new(alloc: Global, boot: u64) -> Engine
+        ensures { (log : Log) (story : List Event) → Tells log story → IsComplete log → kept log ≡ record nothing_kept { boot = boot } → unit_count log ≡ 0 → Serves result story log }
+    {
+        Engine {
+            alloc,
+            schema: Schema::new(alloc),
+            rows: BTreeMap::new(alloc),
+            boot,
+            decisions: 0,
+            units: 0,
+        }
+    }
+
+    /// How many decisions were made.
+    pub fn decisions(&self) -> u64
+        ensures { result ≡ self.now.decisions }
+    {
+        self.decisions
+    }
+
+    /// Appends the Began of the next unit, and gives its name.
+    fn begin(&mut self, session: u8, story: &mut Story) -> Result<Id, AllocError>
+        requires { self.old.units < 2 ^ 64 - 1 }
+        ensures unit { IfOk result (λ unit. unit ≡ next_unit self.old) }
+        ensures engine { OnOk result (self.new ≡ record self.old { units = self.old.units + 1 }) }
+        ensures ok { OnOk result (story.new ≡ story.old ++ Event.Began (next_unit self.old) (UnitKind.Acid session) ∷ []) }
+        ensures err { OnErr result (story.new ≡ story.old) }
+    {
+        self.units += 1;
+        let unit = Id {
+            boot: self.boot,
+            seq: self.units,
+        };
+        story.push(Event::Began {
+            unit,
+            kind: UnitKind::Acid { session },
+        })?;
+        Ok(unit)
+    }
+
+    /// Puts a row in.
+    fn add(&mut self, added: Option<Added>) -> Result<(), AllocError>
+        ensures rows { OnOk result ((es : Tables) → self.old.rows.entries ≡ es.list → self.new.rows.entries ≡ (with_changes (changes_of added) es).list) }
+        ensures rest { OnOk result (self.new ≡ record self.old { rows = self.new.rows }) }
+    {
+        match added {
+            Some(Added { place, row }) => {
+                self.rows.insert(place, row)?;
+                Ok(())
+            }
+            None => Ok(()),
+        }
+    }
+
+    /// Puts a unit's row in, and appends its Committed.
+    fn commit(
+        &mut self,
+        unit: Id,
+        added: Option<Added>,
+        story: &mut Story,
+    ) -> Result<(), AllocError>
+        requires { self.old.decisions < 2 ^ 64 - 1 }
+        ensures rows { OnOk result ((es : Tables) → self.old.rows.entries ≡ es.list → self.new.rows.entries ≡ (with_changes (changes_of added) es).list) }
+        ensures rest { OnOk result (self.new ≡ record self.old { rows = self.new.rows; decisions = self.old.decisions + 1 }) }
+        ensures ok { OnOk result (story.new ≡ story.old ++ Event.Ended unit (End.Committed (self.old.decisions + 1)) ∷ []) }
+        ensures err { OnErr result (story.new ≡ story.old) }
+    {
+        self.add(added)?;
+        self.decisions += 1;
+        story.push(Event::Ended {
+            unit,
+            end: End::Committed(self.decisions),
+        })
+    }
+
+    /// Ends a unit: by a commit, or with the cause of its failure.
+    fn finish(
+        &mut self,
+        unit: Id,
+        cause: Option<Cause>,
+        added: Option<Added>,
+        story: &mut Story,
+    ) -> Result<(), AllocError>
+        requires { self.old.decisions < 2 ^ 64 - 1 }
+        ensures rows { OnOk result ((es : Tables) → self.old.rows.entries ≡ es.list → self.new.rows.entries ≡ rows_by cause (changes_of added) es) }
+        ensures rest { OnOk result (self.new ≡ record self.old { rows = self.new.rows; decisions = decisions_after cause self.old.decisions }) }
+        ensures ok { OnOk result (story.new ≡ story.old ++ Event.Ended unit (end_by self.old.decisions cause) ∷ []) }
+        ensures err { OnErr result (story.new ≡ story.old) }
+    {
+        match cause {
+            Some(cause) => story.push(Event::Ended {
+                unit,
+                end: End::Failed(cause),
+            }),
+            None => self.commit(unit, added, story),
+        }
+    }
+
+    /// Appends the events of a session's statement, a unit of its own.
+    fn run_unit(
+        &mut self,
+        session: u8,
+        st: &Statement,
+        story: &mut Story,
+    ) -> Result<(), AllocError>
+        requires units { self.old.units < 2 ^ 64 - 1 }
+        requires decisions { self.old.decisions < 2 ^ 64 - 1 }
+        ensures ok { OnOk result ((es : Tables) → self.old.rows.entries ≡ es.list → HasRun self.old story.old session st.now es self.new story.new) }
+        ensures err { OnErr result ((es : Tables) → self.old.rows.entries ≡ es.list → IsCutShort story.old (unit_events self.old session st.now (done_by self.old es st.now).answer) story.new) }
+    {
+        let unit = self.begin(session, story)?;
+        let Outcome { answer, added } = execute(self.alloc, self.schema.tables(), &self.rows, st)?;
+        let cause = cause_of(&answer);
+        tell(story, unit, st.copy(self.alloc)?, answer)?;
+        self.finish(unit, cause, added, story)
+    }
+}
