@@ -3,3 +3,4 @@ pub mod Entries
 pub mod Outcomes
 pub mod CutShort
 pub mod Segments
+pub mod Steps

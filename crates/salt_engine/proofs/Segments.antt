@@ -73,7 +73,7 @@ ended-last log u o c Serving = refl
 ended-last log u o c Opening = refl
 ended-last log u o c Fallen = refl
 
-defined-last : (log : Log) (n : ℕ) (t : List ℕ) (ph : Phase) → said_event ph log (Defined n t) ≡ None
+pub defined-last : (log : Log) (n : ℕ) (t : List ℕ) (ph : Phase) → said_event ph log (Defined n t) ≡ None
 defined-last log n t Serving = refl
 defined-last log n t Opening = refl
 defined-last log n t Fallen = refl

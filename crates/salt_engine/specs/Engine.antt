@@ -7,14 +7,19 @@ use Rattle.salt_model.specs.Log.{Asked, Log, lines_of, unit_count}
 use Rattle.salt_model.specs.Played.{IsComplete, Tells}
 use Rattle.salt_model.specs.Statements.{Done, outcome_of}
 use Rattle.salt_model.specs.Tables.{Change, Entry, Tables, with_changes}
+use Rattle.salt_model.specs.Texts.{table_text}
 use Rattle.salt_model.specs.declared.events.Answer.{Answer}
 use Rattle.salt_model.specs.declared.events.Cause.{Cause}
 use Rattle.salt_model.specs.declared.events.End.{End}
 use Rattle.salt_model.specs.declared.events.End.TheVariants.{Committed, Failed}
 use Rattle.salt_model.specs.declared.events.Event.{Event}
-use Rattle.salt_model.specs.declared.events.Event.TheVariants.{Began, Did, Ended}
+use Rattle.salt_model.specs.declared.events.Event.TheVariants.{Began, Defined, Did, Ended}
 use Rattle.salt_model.specs.declared.events.UnitKind.TheVariants.{Acid}
+use Rattle.salt_model.specs.declared.trees.Act.TheVariants.{Do}
+use Rattle.salt_model.specs.declared.trees.Line.{Line}
+use Rattle.salt_model.specs.declared.trees.Line.TheVariants.{Nothing, Session, Table}
 use Rattle.salt_model.specs.declared.trees.Statement.{Statement}
+use Rattle.salt_model.specs.declared.trees.TableDef.{TableDef}
 use Rattle.salt_values.specs.declared.id.Id.{Id}
 use Rattle.std.specs.Prelude.{List, None, Option, Some, [], take, ℕ, ◌++◌, ◌+◌, ◌∷◌, ◌≡◌, ◌≤◌}
 
@@ -72,6 +77,22 @@ pub record HasRun (old : Engine) (story : List Event) (session : ℕ) (st : Stat
   pub boot : new.boot ≡ old.boot
   pub decisions : new.decisions ≡ decisions_after (cause_in (done_by old es st).answer) old.decisions
   pub units : new.units ≡ old.units + 1
+
+-- the engine after a table was defined
+abbrev pub defined_by : Engine → TableDef → Engine
+defined_by e d = record e { schema = e.schema ++ d ∷ []; decisions = e.decisions + 1 }
+
+-- the engine and the story after a line that was not refused
+abbrev pub IsServed : Engine → List Event → Line → Engine → List Event → Type 0
+IsServed old story Nothing new told = (new ≡ old) × (told ≡ story)
+IsServed old story (Table d) new told = (new ≡ defined_by old d) × (told ≡ story ++ Defined (old.decisions + 1) (table_text d) ∷ [])
+IsServed old story (Session s (Do st)) new told = (es : Tables) → old.rows.entries ≡ es.list → HasRun old story s st es new told
+
+-- the story where memory ran out in the line
+abbrev pub IsLeft : Engine → List Event → Line → List Event → Type 0
+IsLeft old story (Session s (Do st)) told = (es : Tables) → old.rows.entries ≡ es.list → IsCutShort story (unit_events old s st (done_by old es st).answer) told
+IsLeft old story Nothing told = told ≡ story
+IsLeft old story (Table d) told = told ≡ story
 
 -- a step raises each number by one at most
 pub record NumbersRise (old new : Engine) : Type 0 where

@@ -1,12 +1,14 @@
 //! The engine's state, and its step.
 
-ghost use Rattle.std.specs.Prelude.{◌≡◌, ◌+◌, ◌-◌, ◌<◌, ◌^◌, ◌++◌, ◌∷◌, [], IfOk, List, OnErr, OnOk};
+ghost use Rattle.std.specs.Prelude.{◌≡◌, ◌+◌, ◌-◌, ◌<◌, ◌^◌, ◌++◌, ◌∷◌, [], IfOk, List, None, OnErr, OnOk, length};
 ghost use Rattle.salt_model.specs.After.{kept};
 ghost use Rattle.salt_model.specs.Honest.{cause_in};
 ghost use Rattle.salt_model.specs.Kept.{nothing_kept};
-ghost use Rattle.salt_model.specs.Log.{Log, unit_count};
+ghost use Rattle.salt_model.specs.Log.{Log, Tree, Unread, unit_count};
 ghost use Rattle.salt_model.specs.Played.{IsComplete, Tells};
+ghost use Rattle.salt_model.specs.Refusals.{refused_line};
 ghost use Rattle.salt_model.specs.Tables.{Tables, with_changes};
+ghost use Rattle.salt_model.specs.Texts.{table_text};
 ghost use Rattle.salt_model.specs.declared.events.Event.{Event};
 ghost use Rattle.salt_engine.specs.Execute.{changes_of};
 
@@ -50,7 +52,7 @@ fn cause_of(answer: &Answer) -> Option<Cause>
 }
 
 impl Engine {
-    ghost use Rattle.salt_engine.specs.Engine.{BreaksOff, GoesOn, HasRun, IsCutShort, Serves, decisions_after, done_by, end_by, next_unit, rows_by, unit_events};
+    ghost use Rattle.salt_engine.specs.Engine.{BreaksOff, GoesOn, HasRun, IsCutShort, IsLeft, IsServed, NumbersRise, Serves, decisions_after, defined_by, done_by, end_by, next_unit, rows_by, unit_events};
 
     /// An engine of no tables, in the boot that a story's opening tells.
     pub fn new(alloc: Global, boot: u64) -> Engine
@@ -168,5 +170,13 @@ impl Engine {
         let cause = cause_of(&answer);
         tell(story, unit, st.copy(self.alloc)?, answer)?;
         self.finish(unit, cause, added, story)
+    }
+
+    /// Appends the refusal of a line whose text spells nothing. Where memory runs out, the story is as it was.
+    pub fn refuse(&self, story: &mut Story) -> Result<(), AllocError>
+        ensures segment { OnOk result (GoesOn self.now story.old (Unread Refusal.Syntax) self.now story.new) }
+        ensures broken_off { OnErr result (BreaksOff self.now story.old (Unread Refusal.Syntax) story.new) }
+    {
+        story.push(Event::Refused(Refusal::Syntax))
     }
 }
