@@ -1,5 +1,5 @@
 -- What tokens stand for.
-use Rattle.std.specs.Prelude.{ℕ, ◌+◌, ◌-◌, ◌^◌, List, [], ◌∷◌, ◌==◌, length, take, drop, map, min, Option, Some, None, if◌then◌else◌}
+use Rattle.std.specs.Prelude.{ℕ, ◌-◌, ◌^◌, List, [], ◌∷◌, ◌==◌, length, take, drop, map, min, Option, Some, None, if◌then◌else◌}
 use Rattle.std.specs.Str.Parse.{digits_value}
 use Rattle.salt_tokens.specs.declared.keyword.Keyword.{Keyword}
 use Rattle.salt_tokens.specs.declared.sign.Sign.{Sign}
