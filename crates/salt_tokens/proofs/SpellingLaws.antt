@@ -1,13 +1,11 @@
 -- What a search among spellings finds.
-use Rattle.std.proofs.Common.{◌≡◌, ℕ, zero, suc, ◌-◌, ◌<◌, Bool, true, false, cond, eqb, ◌&&◌, List, [], ◌∷◌, length, map, Option, Some, None, refl, sym, ap, subst, ◌∙◌, arith, ◌⊎◌, inl, inr, not, ◌||◌, is_some, rules, length-append}
+use Rattle.std.proofs.Common.{◌≡◌, ℕ, ◌-◌, Bool, true, false, cond, eqb, ◌&&◌, List, [], ◌∷◌, length, map, Option, Some, None, refl, sym, ap, subst, ◌∙◌, arith, is_some, rules, length-append}
 use Rattle.std.specs.Prelude.{find}
 use Rattle.std.proofs.lemmas.Bool.{eqb-true}
-use Rattle.std.proofs.lemmas.Bool.Decides.{nat_tests}
 use Rattle.std.proofs.lemmas.List.{take_at}
 use Rattle.salt_tokens.specs.declared.keyword.Keyword.{Keyword}
 use Rattle.salt_tokens.specs.declared.sign.Sign.{Sign}
-use Rattle.salt_tokens.specs.declared.sign.Sign.TheVariants as mark
-use Rattle.salt_tokens.specs.Bytes.{lower, is_single, is_pair}
+use Rattle.salt_tokens.specs.Bytes.{lower, is_blank, is_letter, is_digit}
 use Rattle.salt_tokens.specs.Pieces.{doubled, quoted}
 use Rattle.salt_tokens.specs.Spelling.{keyword_spelling, sign_spelling, all_keywords, all_signs, same_bytes, keyword_of, sign_of}
 use Rattle.salt_tokens.specs.Symbols.{undoubled, between}
@@ -36,68 +34,33 @@ keyword_only bs k h = same_is (map lower bs) (keyword_spelling k) (found_passes 
 
 -- ---- signs
 
-all_below : (ℕ → Bool) → ℕ → Bool
-all_below p zero = true
-all_below p (suc n) = p n && all_below p n
-
-and_both : (a b : Bool) → (a && b) ≡ true → (a ≡ true) × (b ≡ true)
-and_both true b h = (refl, h)
-and_both false b h = absurd cc
-
-or_either : (a b : Bool) → (a || b) ≡ true → (a ≡ true) ⊎ (b ≡ true)
-or_either true b h = inl refl
-or_either false b h = inr h
-
-below : (p : ℕ → Bool) (n : ℕ) → all_below p n ≡ true → (k : ℕ) → k < n → p k ≡ true
-unfolding all_below
-below p zero h k lt = absurd (omega arith)
-below p (suc n) h k lt = go (eqb k n) refl (and_both (p n) (all_below p n) h) (below p n)
-  where
-    go : (t : Bool) → eqb k n ≡ t → (p n ≡ true) × (all_below p n ≡ true) → (all_below p n ≡ true → (j : ℕ) → j < n → p j ≡ true) → p k ≡ true
-    go true e both ih = let is : k ≡ n = eqb-true k n e in rw is both.0
-    go false e both ih = ih both.1 k (grind (arith, nat_tests))
-
-single_small : (a : ℕ) → is_single a ≡ true → a < 127
-single_small a h = grind (arith, nat_tests)
-
-implied : (a b : Bool) → (not a || b) ≡ true → a ≡ true → b ≡ true
-implied true b h e = h
-implied false b h e = absurd cc
-
-some_sign : (bs : List ℕ) (found : Option Sign) → find (λ s. same_bytes bs (sign_spelling s)) all_signs ≡ found → is_some found ≡ true → (s : Sign) × (bs ≡ sign_spelling s)
+some_sign : (bs : List ℕ) (found : Option Sign) → sign_of bs ≡ found → is_some found ≡ true → (s : Sign) × (bs ≡ sign_spelling s)
+unfolding sign_of
 some_sign bs None e h = absurd cc
 some_sign bs (Some s) e h = (s, same_is bs (sign_spelling s) (found_passes (λ j. same_bytes bs (sign_spelling j)) all_signs s e))
 
-pub single_sign : (a : ℕ) → is_single a ≡ true → (s : Sign) × (a ∷ [] ≡ sign_spelling s)
-unfolding sign_of all_below
-single_sign a h =
-    let each = below (λ k. not (is_single k) || is_some (sign_of (k ∷ []))) 127 refl a (single_small a h) in
-    some_sign (a ∷ []) (sign_of (a ∷ [])) refl (implied (is_single a) (is_some (sign_of (a ∷ []))) each h)
+pub sign_is : (bs : List ℕ) → is_some (sign_of bs) ≡ true → (s : Sign) × (bs ≡ sign_spelling s)
+sign_is bs h = some_sign bs (sign_of bs) refl h
 
-pair_is : (a b x y : ℕ) → eqb a x ≡ true → eqb b y ≡ true → (s : Sign) → x ∷ y ∷ [] ≡ sign_spelling s → (s : Sign) × (a ∷ b ∷ [] ≡ sign_spelling s)
-pair_is a b x y first second s is = let one : a ≡ x = eqb-true a x first in let two : b ≡ y = eqb-true b y second in (s, rw (one, two) is)
+pub sign_read : (s : Sign) → sign_of (sign_spelling s) ≡ Some s
+unfolding sign_of
+sign_read = search rules
 
-pub pair_sign : (a b : ℕ) → is_pair a b ≡ true → (s : Sign) × (a ∷ b ∷ [] ≡ sign_spelling s)
-pair_sign a b h =
-    elim (or_either (eqb a 124 && eqb b 124 || eqb a 60 && (eqb b 62 || eqb b 61)) (eqb a 62 && eqb b 61) h) [
-      | inr p ↦ (let both = and_both (eqb a 62) (eqb b 61) p in pair_is a b 62 61 both.0 both.1 mark.AtLeast refl)
-      | inl p ↦ elim (or_either (eqb a 124 && eqb b 124) (eqb a 60 && (eqb b 62 || eqb b 61)) p) [
-        | inl q ↦ (let both = and_both (eqb a 124) (eqb b 124) q in pair_is a b 124 124 both.0 both.1 mark.Bars refl)
-        | inr q ↦ (
-            let both = and_both (eqb a 60) (eqb b 62 || eqb b 61) q in
-            elim (or_either (eqb b 62) (eqb b 61) both.1) [
-              | inl r ↦ pair_is a b 60 62 both.0 r mark.Unequal refl
-              | inr r ↦ pair_is a b 60 61 both.0 r mark.AtMost refl
-            ]
-            )
-      ]
-    ]
+pub is_sign : (bs : List ℕ) → (s : Sign) × (bs ≡ sign_spelling s) → is_some (sign_of bs) ≡ true
+is_sign bs h = let found : sign_of bs ≡ Some h.0 = ap sign_of h.1 ∙ sign_read h.0 in rw found refl
 
--- one byte or two that are a sign
+-- a byte that begins no other token
+pub record IsOther (b : ℕ) : Type 0 where
+  pub blank : is_blank b ≡ false
+  pub letter : is_letter b ≡ false
+  pub digit : is_digit b ≡ false
+  pub quote : eqb b 39 ≡ false
+
+-- one byte or two, the first of which begins no other token
 abbrev pub AreSignBytes : List ℕ → Type 0
 AreSignBytes [] = ⊥
-AreSignBytes (a ∷ []) = is_single a ≡ true
-AreSignBytes (a ∷ b ∷ []) = is_pair a b ≡ true
+AreSignBytes (a ∷ []) = IsOther a
+AreSignBytes (a ∷ b ∷ []) = IsOther a
 AreSignBytes (a ∷ b ∷ c ∷ cs) = ⊥
 
 spelling_AreSignBytes : (s : Sign) → AreSignBytes (sign_spelling s)
@@ -106,28 +69,11 @@ spelling_AreSignBytes = search rules
 pub sign_bytes : (bs : List ℕ) → (s : Sign) × (bs ≡ sign_spelling s) → AreSignBytes bs
 sign_bytes bs h = subst AreSignBytes (sym h.1) (spelling_AreSignBytes h.0)
 
-pub sign_read : (s : Sign) → sign_of (sign_spelling s) ≡ Some s
-unfolding sign_of
-sign_read = search rules
-
-sign_found : (bs : List ℕ) (found : Option Sign) → sign_of bs ≡ found → is_some found ≡ true → (s : Sign) × (bs ≡ sign_spelling s)
-unfolding sign_of
-sign_found bs found e h = some_sign bs found e h
-
-pub pair_same : (a b : ℕ) → is_some (sign_of (a ∷ b ∷ [])) ≡ is_pair a b
-pair_same a b = go (is_pair a b) refl (is_some (sign_of (a ∷ b ∷ []))) refl
-  where
-    go : (t : Bool) → is_pair a b ≡ t → (u : Bool) → is_some (sign_of (a ∷ b ∷ [])) ≡ u → u ≡ t
-    go true e true f = refl
-    go true e false f = let s = pair_sign a b e in let k : sign_of (a ∷ b ∷ []) ≡ Some s.0 = ap sign_of s.1 ∙ sign_read s.0 in sym f ∙ ap (λ (o : Option Sign). is_some o) k
-    go false e true f = sym (sign_bytes (a ∷ b ∷ []) (sign_found (a ∷ b ∷ []) (sign_of (a ∷ b ∷ [])) refl f)) ∙ e
-    go false e false f = refl
-
 pub no_three : (a b c : ℕ) → is_some (sign_of (a ∷ b ∷ c ∷ [])) ≡ false
 no_three a b c = go (is_some (sign_of (a ∷ b ∷ c ∷ []))) refl
   where
     go : (u : Bool) → is_some (sign_of (a ∷ b ∷ c ∷ [])) ≡ u → u ≡ false
-    go true f = absurd (sign_bytes (a ∷ b ∷ c ∷ []) (sign_found (a ∷ b ∷ c ∷ []) (sign_of (a ∷ b ∷ c ∷ [])) refl f))
+    go true f = absurd (sign_bytes (a ∷ b ∷ c ∷ []) (sign_is (a ∷ b ∷ c ∷ []) f))
     go false f = refl
 
 -- ---- texts

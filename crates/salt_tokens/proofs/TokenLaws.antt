@@ -16,9 +16,9 @@ use Rattle.salt_tokens.specs.declared.error.ScanErr.TheVariants.{Syntax}
 use Rattle.std.proofs.lemmas.List.Sums.{prefix_len-le-length}
 use Rattle.salt_tokens.proofs.Quoted.{quoted_at-within}
 use Rattle.salt_tokens.specs.Spelling.{sign_of}
-use Rattle.salt_tokens.proofs.SpellingLaws.{single_sign, pair_sign, AreSignBytes, sign_bytes, pair_same, no_three}
+use Rattle.salt_tokens.proofs.SpellingLaws.{AreSignBytes, sign_is, is_sign, sign_bytes, no_three}
 use Rattle.salt_tokens.proofs.Steps.{lex_blank, lex_token}
-use Rattle.salt_tokens.specs.Bytes.{is_blank, is_digit, is_letter, is_word, is_printable, is_single, is_pair}
+use Rattle.salt_tokens.specs.Bytes.{is_blank, is_digit, is_letter, is_word, is_printable}
 
 letter_not_blank : (b : ℕ) → is_letter b ≡ true → is_blank b ≡ false
 letter_not_blank b h = grind (arith, nat_tests)
@@ -28,30 +28,6 @@ digit_not_blank b h = grind (arith, nat_tests)
 
 digit_not_letter : (b : ℕ) → is_digit b ≡ true → is_letter b ≡ false
 digit_not_letter b h = grind (arith, nat_tests)
-
-single_not_letter : (b : ℕ) → is_single b ≡ true → is_letter b ≡ false
-single_not_letter b h = grind (arith, nat_tests)
-
-single_not_digit : (b : ℕ) → is_single b ≡ true → is_digit b ≡ false
-single_not_digit b h = grind (arith, nat_tests)
-
-single_not_blank : (b : ℕ) → is_single b ≡ true → is_blank b ≡ false
-single_not_blank b h = grind (arith, nat_tests)
-
-single_not_quote : (b : ℕ) → is_single b ≡ true → eqb b 39 ≡ false
-single_not_quote b h = grind (arith, nat_tests)
-
-pair_not_letter : (a b : ℕ) → is_pair a b ≡ true → is_letter a ≡ false
-pair_not_letter a b h = grind (arith, nat_tests)
-
-pair_not_digit : (a b : ℕ) → is_pair a b ≡ true → is_digit a ≡ false
-pair_not_digit a b h = grind (arith, nat_tests)
-
-pair_not_blank : (a b : ℕ) → is_pair a b ≡ true → is_blank a ≡ false
-pair_not_blank a b h = grind (arith, nat_tests)
-
-pair_not_quote : (a b : ℕ) → is_pair a b ≡ true → eqb a 39 ≡ false
-pair_not_quote a b h = grind (arith, nat_tests)
 
 abbrev found : {A : Type 0} → A → Option A
 found x = Some x
@@ -159,15 +135,15 @@ pair_ends a b (c ∷ rest) = no_three a b c
 sign_sound : (bs : List ℕ) (n : ℕ) → sign_at bs ≡ Some n → IsFirst bs (Sign, n)
 sign_sound [] n h = absurd cc
 sign_sound (a ∷ []) n h =
-    elim (chosen (is_single a) (Some 1) None (Some n) h) [
-      | inl p ↦ (let e : 1 ≡ n = cc p.1 in same_first (a ∷ []) Sign 1 n e (single_sign a p.0, tt, omega arith, omega arith))
+    elim (chosen (is_some (sign_of (a ∷ []))) (Some 1) None (Some n) h) [
+      | inl p ↦ (let e : 1 ≡ n = cc p.1 in same_first (a ∷ []) Sign 1 n e (sign_is (a ∷ []) p.0, tt, omega arith, omega arith))
       | inr p ↦ absurd (cc p.1)
     ]
 sign_sound (a ∷ b ∷ bs) n h =
-    elim (chosen (is_pair a b) (Some 2) (cond (is_single a) (Some 1) None) (Some n) h) [
-      | inl p ↦ (let e : 2 ≡ n = cc p.1 in same_first (a ∷ b ∷ bs) Sign 2 n e (pair_sign a b p.0, pair_ends a b bs, omega arith, omega arith))
-      | inr p ↦ elim (chosen (is_single a) (Some 1) None (Some n) p.1) [
-        | inl q ↦ (let e : 1 ≡ n = cc q.1 in same_first (a ∷ b ∷ bs) Sign 1 n e (single_sign a q.0, pair_same a b ∙ p.0, omega arith, omega arith))
+    elim (chosen (is_some (sign_of (a ∷ b ∷ []))) (Some 2) (cond (is_some (sign_of (a ∷ []))) (Some 1) None) (Some n) h) [
+      | inl p ↦ (let e : 2 ≡ n = cc p.1 in same_first (a ∷ b ∷ bs) Sign 2 n e (sign_is (a ∷ b ∷ []) p.0, pair_ends a b bs, omega arith, omega arith))
+      | inr p ↦ elim (chosen (is_some (sign_of (a ∷ []))) (Some 1) None (Some n) p.1) [
+        | inl q ↦ (let e : 1 ≡ n = cc q.1 in same_first (a ∷ b ∷ bs) Sign 1 n e (sign_is (a ∷ []) q.0, p.0, omega arith, omega arith))
         | inr q ↦ absurd (cc q.1)
       ]
     ]
@@ -200,16 +176,16 @@ first_sound (b ∷ bs) t h =
       ]
     ]
 
-sign_complete : (text rest : List ℕ) → AreSignBytes text → Ends Sign text rest → first_at (text ++ rest) ≡ Some (Sign, length text)
+sign_complete : (text rest : List ℕ) → is_some (sign_of text) ≡ true → AreSignBytes text → Ends Sign text rest → first_at (text ++ rest) ≡ Some (Sign, length text)
 unfolding first_at
-sign_complete [] rest h e = absurd h
-sign_complete (a ∷ []) rest h e = rw (single_not_letter a h, single_not_digit a h, single_not_quote a h) (one rest e)
+sign_complete [] rest is h e = absurd h
+sign_complete (a ∷ []) rest is h e = rw (h.letter, h.digit, h.quote) (one rest e)
   where
     one : (rest : List ℕ) → NotNext (λ b. is_some (sign_of (a ∷ b ∷ []))) rest → ◌>>=◌ {B = TokenKind × ℕ} (sign_at (a ∷ rest)) (λ n. Some (Sign, n)) ≡ Some (Sign, 1)
-    one [] k = rw h refl
-    one (b ∷ rest) k = let no_pair : is_pair a b ≡ false = sym (pair_same a b) ∙ k in rw (no_pair, h) refl
-sign_complete (a ∷ b ∷ []) rest h e = rw (pair_not_letter a b h, pair_not_digit a b h, pair_not_quote a b h, h) refl
-sign_complete (a ∷ b ∷ c ∷ cs) rest h e = absurd h
+    one [] k = rw is refl
+    one (b ∷ rest) k = rw (k, is) refl
+sign_complete (a ∷ b ∷ []) rest is h e = rw (h.letter, h.digit, h.quote, is) refl
+sign_complete (a ∷ b ∷ c ∷ cs) rest is h e = absurd h
 
 first_complete : (k : TokenKind) (text rest : List ℕ) → IsToken k text → Ends k text rest → first_at (text ++ rest) ≡ Some (k, length text)
 unfolding first_at
@@ -219,7 +195,7 @@ first_complete Int [] rest h e = absurd h
 first_complete Int (b ∷ text) rest h e = rw (digit_not_letter b h.0, h.0, run_len is_digit text rest h.1 e) (ap (λ (n : ℕ). Some (Int, n)) (omega arith))
 first_complete Text text rest h e =
     rw h.2 (rw (quoted_len h.0 rest h.1 e) (ap (λ (n : ℕ). Some (Text, n)) (omega (arith, length-append (doubled h.0) (39 ∷ [])))))
-first_complete Sign text rest h e = sign_complete text rest (sign_bytes text h) e
+first_complete Sign text rest h e = sign_complete text rest (is_sign text h) (sign_bytes text h) e
 
 -- ---- the whole row
 
@@ -247,8 +223,8 @@ lex_sound zero (b ∷ bs) ps le h = go (λ k qs l e. lex_sound k bs qs l e) (cho
             subst (λ (x : List ℕ). Lexes x ps) (take-append-drop (suc n) (b ∷ bs)) (subst (λ (x : List Piece). Lexes (take (suc n) (b ∷ bs) ++ drop (suc n) (b ∷ bs)) x) (some_is _ ps r.2) whole)
 
 sign_not_blank : (b : ℕ) (text : List ℕ) → AreSignBytes (b ∷ text) → is_blank b ≡ false
-sign_not_blank b [] h = single_not_blank b h
-sign_not_blank b (c ∷ []) h = pair_not_blank b c h
+sign_not_blank b [] h = h.blank
+sign_not_blank b (c ∷ []) h = h.blank
 sign_not_blank b (c ∷ d ∷ ds) h = absurd h
 
 not_blank : (k : TokenKind) (b : ℕ) (text : List ℕ) → IsToken k (b ∷ text) → is_blank b ≡ false

@@ -1,7 +1,8 @@
 -- The row of tokens of some bytes, taken from left to right.
-use Rattle.std.specs.Prelude.{◌≡◌, ℕ, zero, suc, ◌+◌, ◌-◌, Bool, true, false, List, [], ◌∷◌, take, Option, Some, None, Result, Ok, Err, ◌==◌, if◌then◌else◌}
+use Rattle.std.specs.Prelude.{is_some, ◌≡◌, ℕ, zero, suc, ◌+◌, ◌-◌, Bool, true, false, List, [], ◌∷◌, take, Option, Some, None, Result, Ok, Err, ◌==◌, if◌then◌else◌}
 use Rattle.std.specs.List.{prefix_len}
-use Rattle.salt_tokens.specs.Bytes.{is_blank, is_digit, is_letter, is_word, is_printable, is_single, is_pair}
+use Rattle.salt_tokens.specs.Bytes.{is_blank, is_digit, is_letter, is_word, is_printable}
+use Rattle.salt_tokens.specs.Spelling.{sign_of}
 use Rattle.salt_tokens.specs.Pieces.{Piece}
 use Rattle.salt_tokens.specs.declared.token.TokenKind.{TokenKind}
 use Rattle.salt_tokens.specs.declared.token.TokenKind.TheVariants.{Word, Int, Text, Sign}
@@ -25,10 +26,11 @@ quoted_at true [] = Some 0
 quoted_at false (b ∷ bs) = if b == 39 then more 1 (quoted_at true bs) else if is_printable b then more 1 (quoted_at false bs) else None
 quoted_at true (b ∷ bs) = if b == 39 then more 1 (quoted_at false bs) else Some 0
 
+-- how many bytes are of the sign at the front
 abbrev pub sign_at : List ℕ → Option ℕ
 sign_at [] = None
-sign_at (a ∷ []) = if is_single a then Some 1 else None
-sign_at (a ∷ b ∷ bs) = if is_pair a b then Some 2 else if is_single a then Some 1 else None
+sign_at (a ∷ []) = if is_some (sign_of (a ∷ [])) then Some 1 else None
+sign_at (a ∷ b ∷ bs) = if is_some (sign_of (a ∷ b ∷ [])) then Some 2 else if is_some (sign_of (a ∷ [])) then Some 1 else None
 
 -- the kind and the length of the token at the front
 unfoldable pub first_at : List ℕ → Option (TokenKind × ℕ)
