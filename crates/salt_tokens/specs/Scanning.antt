@@ -11,15 +11,17 @@ use Rattle.salt_tokens.specs.Spans.{pieces}
 use Rattle.salt_tokens.specs.declared.error.ScanErr.{ScanErr}
 use Rattle.salt_tokens.specs.declared.error.ScanErr.TheVariants.{Memory, Syntax}
 
+-- what follows a value, where there is one
 infixl 10 ◌>>=◌
 abbrev pub ◌>>=◌ : {A B : Type 0} → Option A → (A → Option B) → Option B
 None >>= f = None
 (Some x) >>= f = f x
 
+-- more by a number, where there is one
 abbrev pub more : ℕ → Option ℕ → Option ℕ
 more k o = o >>= λ n. Some (n + k)
 
--- How many bytes are left of a text; a quote may stand just before.
+-- how many bytes are left of a text; a quote that is not yet known to be doubled may stand just before
 unfoldable pub quoted_at : Bool → List ℕ → Option ℕ
 quoted_at false [] = None
 quoted_at true [] = Some 0
@@ -41,7 +43,7 @@ first_at (b ∷ bs) =
     else if b == 39 then (quoted_at false bs >>= λ n. Some (Text, n + 1))
     else (sign_at (b ∷ bs) >>= λ n. Some (Sign, n))
 
--- The tokens, where the first `skip` bytes are of a token that was taken.
+-- the tokens, where the first `skip` bytes are of a token that was taken.
 unfoldable pub lex : ℕ → List ℕ → Option (List Piece)
 lex skip [] = Some []
 lex (suc skip) (b ∷ bs) = lex skip bs
@@ -49,7 +51,7 @@ lex zero (b ∷ bs) =
     if is_blank b then lex 0 bs
     else (first_at (b ∷ bs) >>= λ t. lex (t.1 - 1) bs >>= λ ps. Some (record { kind = t.0; text = take t.1 (b ∷ bs) } ∷ ps))
 
--- What a scan answers is this row, unless memory ran out.
+-- what a scan answers is this row, unless memory ran out.
 abbrev pub Gives : List ℕ → Result (List Token) ScanErr → Option (List Piece) → Type 0
 Gives bytes (Ok ts) read = read ≡ Some (pieces bytes ts)
 Gives bytes (Err Memory) read = Unit {0}

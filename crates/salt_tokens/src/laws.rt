@@ -4,14 +4,15 @@ ghost use Rattle.std.specs.Prelude.{◌≡◌, ℕ, List, map, Some};
 ghost use Rattle.salt_tokens.specs.Bytes.{lower};
 ghost use Rattle.salt_tokens.specs.Pieces.{Piece, IsToken, Lexes, quoted};
 ghost use Rattle.salt_tokens.specs.Spelling.{keyword_of, keyword_spelling, sign_of, sign_spelling};
-ghost use Rattle.salt_tokens.specs.Symbols.{symbol_by, text};
+ghost use Rattle.salt_tokens.specs.Symbols.{HasRow, Row, symbol_by, text};
 ghost use Rattle.salt_tokens.specs.declared.keyword.Keyword.{Keyword};
 ghost use Rattle.salt_tokens.specs.declared.sign.Sign.{Sign};
 ghost use Rattle.salt_tokens.specs.declared.token.TokenKind.TheVariants.{Word, Text};
 
-/// No bytes are two rows of tokens.
+/// No bytes are two rows of tokens, and so none stand for two rows of symbols.
 pub fn one_row()
-    ensures { (bs : List ℕ) (ps qs : List Piece) → Lexes bs ps → Lexes bs qs → ps ≡ qs }
+    ensures symbols { (bs : List ℕ) (r s : Row) → HasRow bs r → HasRow bs s → r ≡ s }
+    ensures pieces { (bs : List ℕ) (ps qs : List Piece) → Lexes bs ps → Lexes bs qs → ps ≡ qs }
 {}
 
 /// A keyword is a word in small letters, and is what it is spelled like; no other word is that keyword.

@@ -17,3 +17,6 @@ pub use lexeme::{Lexeme, lexemes};
 pub use scanner::scan;
 pub use sign::Sign;
 pub use token::{Token, TokenKind, Tokens};
+
+#[cfg(test)]
+mod tests;

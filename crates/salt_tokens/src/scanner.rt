@@ -130,10 +130,10 @@ pub fn scan(alloc: Global, bytes: &[u8]) -> Result<Tokens, ScanErr>
     ensures spans { IfOk result (λ ts. AreInOrder 0 ts (length bytes.now)) }
     ensures syntax { result ≡ Err Syntax → (ps : List Piece) → ¬ (Lexes bytes.now ps) }
 {
-    all(alloc, bytes)
+    tokens_of(alloc, bytes)
 }
 
-fn all(alloc: Global, bytes: &[u8]) -> Result<Tokens, ScanErr>
+fn tokens_of(alloc: Global, bytes: &[u8]) -> Result<Tokens, ScanErr>
     ensures reads { Gives bytes.now result (lex 0 bytes.now) }
     ensures spans { IfOk result (λ ts. AreInOrder 0 ts (length bytes.now)) }
 {
