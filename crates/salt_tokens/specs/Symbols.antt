@@ -23,7 +23,7 @@ pub data Symbol : Type 0 where
 abbrev pub Row : Type 0
 Row = List Symbol
 
--- larger numbers stand for this one
+-- the largest number of 64 bits, which a larger one is taken as: a text that holds either passes each limit on numbers
 abbrev pub largest_int : ℕ
 largest_int = 2 ^ 64 - 1
 

@@ -12,7 +12,7 @@ mod token;
 
 pub use error::ScanErr;
 pub use keyword::Keyword;
-pub use laws::{keyword_spellings, one_row, quoted_text, sign_spellings};
+pub use laws::{keyword_spellings, one_row, quoted_text, sign_spellings, written_number};
 pub use lexeme::{Lexeme, lexemes};
 pub use scanner::scan;
 pub use sign::Sign;
