@@ -12,13 +12,16 @@ abbrev pub begun_with : ℕ → List (List ℕ) → List ℕ → Pieces
 begun_with byte [] last = record { ended = []; last = byte ∷ last }
 begun_with byte (piece ∷ pieces) last = record { ended = (byte ∷ piece) ∷ pieces; last = last }
 
-abbrev pub pieces_of : List ℕ → Pieces
-pieces_of [] = record { ended = []; last = [] }
-pieces_of (byte ∷ bytes) =
-    let behind = pieces_of bytes in
+-- one byte, and then these pieces
+abbrev pub with_byte : ℕ → Pieces → Pieces
+with_byte byte behind =
     if eqb byte 10
     then record { ended = [] ∷ behind.ended; last = behind.last }
     else begun_with byte behind.ended behind.last
+
+abbrev pub pieces_of : List ℕ → Pieces
+pieces_of [] = record { ended = []; last = [] }
+pieces_of (byte ∷ bytes) = with_byte byte (pieces_of bytes)
 
 abbrev pub ends_in : ℕ → List ℕ → Bool
 ends_in byte [] = false

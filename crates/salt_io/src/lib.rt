@@ -2,9 +2,11 @@
 #![tactic(auto)]
 
 mod disks;
+mod lines;
 mod no_disks;
 mod streams;
 
 pub use disks::{DiskErr, Disks};
+pub use lines::lines_join;
 pub use no_disks::NoDisks;
 pub use streams::{IoFailed, Sink, Source};
