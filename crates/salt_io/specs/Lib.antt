@@ -1,3 +1,4 @@
 pub mod Disks
+pub mod LineText
 pub mod Lines
 pub mod Streams

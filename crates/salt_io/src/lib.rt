@@ -2,11 +2,12 @@
 #![tactic(auto)]
 
 mod disks;
+mod line_text;
 mod lines;
 mod no_disks;
 mod streams;
 
 pub use disks::{DiskErr, Disks};
-pub use lines::lines_join;
+pub use lines::{LONGEST_SCRIPT, LineErr, Lines, Next, lines_join};
 pub use no_disks::NoDisks;
 pub use streams::{IoFailed, Sink, Source};
