@@ -179,7 +179,9 @@ impl Lines {
             };
             if byte != LF {
                 text.add(line, byte)?;
-            } else if text.end_piece(line)? {
+                continue;
+            }
+            if text.end_piece(line)? {
                 return Ok(kind_of(text.is_long));
             }
         }

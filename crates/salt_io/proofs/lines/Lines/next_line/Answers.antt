@@ -20,8 +20,8 @@ returns-in_err-byte-clause-too_long g c is =
     let long : c.in_err-byte.field-0.0 ≡ ScriptTooLong = sym same in
     reads-cut_off 16777216 _ _ _ _ _ _ c.loop-byte.invariant.reads (c.in_err-byte.ensures.long (ap Err long)) (c.in_err-byte.ensures.more (ap Err long))
 
-pub loop-byte-preserved-in-Continue-branch-3 : goal.loop-byte-preserved-in-Continue-branch-3
-loop-byte-preserved-in-Continue-branch-3 g c =
+pub loop-byte-preserved-then-byte-ne-LF : goal.loop-byte-preserved-then-byte-ne-LF
+loop-byte-preserved-then-byte-ne-LF g c =
     let given = rw c.in-Some.is at c.in_ok-byte.ensures.some in
     let counted = rw c.in-Some.is at c.in_ok-byte.ensures.counted in
     record {
