@@ -1,0 +1,56 @@
+-- What a run has to be: its story, its lines, and how far it came.
+use Rattle.salt_io.specs.Lines.{lines_of, script_of}
+use Rattle.salt_io.specs.Streams.{Gains, GainsSome, bytes_before}
+use Rattle.salt_model.specs.EventTexts.{story_text}
+use Rattle.salt_model.specs.Lines.{AskInOrder}
+use Rattle.salt_model.specs.Log as log_words
+use Rattle.salt_model.specs.Log.{Fallen, Log}
+use Rattle.salt_model.specs.Next.{phase}
+use Rattle.salt_model.specs.Played.{IsComplete, Tells}
+use Rattle.salt_model.specs.declared.events.Event.{Event}
+use Rattle.salt_run.specs.declared.status.Status.{Status}
+use Rattle.salt_run.specs.declared.status.Status.TheVariants.{Done, Memory, ReadFault, ScriptTooLong, Usage, WriteFault}
+use Rattle.std.specs.Prelude.{List, None, Option, Some, [], length, take, ℕ, ⊤, ◌++◌, ◌≡◌, ◌≤◌}
+
+-- the most bytes of a script
+abbrev pub longest_script : ℕ
+longest_script = 16777216
+
+-- these come first
+abbrev pub IsFrontOf : {A : Type 0} → List A → List A → Type 0
+IsFrontOf {A} xs all = (more : List A) × (all ≡ xs ++ more)
+
+-- the lines that a run does of a script of these bytes, of which these are left at its end
+abbrev pub AreLinesDone : Status → List ℕ → Option (List ℕ) → List (List ℕ) → Type 0
+AreLinesDone Done script left texts = (texts ≡ lines_of script) × (length script ≤ longest_script)
+AreLinesDone ScriptTooLong script left texts = texts ≡ (script_of (take longest_script script)).ended
+AreLinesDone ReadFault script left texts = (got : List ℕ) × (Some script ≡ bytes_before got left) × (texts ≡ (script_of got).ended)
+AreLinesDone Memory script left texts = IsFrontOf texts (lines_of script)
+AreLinesDone WriteFault script left texts = IsFrontOf texts (lines_of script)
+AreLinesDone Usage script left texts = texts ≡ []
+
+-- where the source tells its bytes
+abbrev pub AreLinesOf : Status → Option (List ℕ) → Option (List ℕ) → List (List ℕ) → Type 0
+AreLinesOf status None left texts = ⊤
+AreLinesOf status (Some script) left texts = AreLinesDone status script left texts
+
+-- a run ends between lines; where memory ran out anywhere, and with wrong words before it began
+abbrev pub MayLeave : Status → Log → Type 0
+MayLeave Memory log = ⊤
+MayLeave Usage log = phase log ≡ Fallen
+MayLeave status log = IsComplete log
+
+-- the story is that of a log which is played, and whose lines are those that were done
+pub record IsPlayedRun (status : Status) (script left : Option (List ℕ)) (story : List Event) : Type 0 where
+  pub log : Log
+  pub texts : List (List ℕ)
+  pub tells : Tells log story
+  pub asked : AskInOrder texts (log_words.lines_of log)
+  pub lines : AreLinesOf status script left texts
+  pub leaves : MayLeave status log
+
+-- what the sink gained: the story's text, where memory or the sink failed a front of it
+abbrev pub IsWritten : Status → Option (List ℕ) → List Event → Option (List ℕ) → Type 0
+IsWritten Memory before story now = GainsSome before (story_text story) now
+IsWritten WriteFault before story now = GainsSome before (story_text story) now
+IsWritten status before story now = Gains before (story_text story) now
