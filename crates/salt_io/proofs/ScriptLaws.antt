@@ -28,7 +28,7 @@ spaced-is-some xs ys e = more (front xs) ys e where
   more [] ys e = cc
   more (z ∷ zs) ys e = cc
 
-last_text-nil : (piece : List ℕ) (joins : Bool) → ends_in_backslash piece ≡ joins → last_text piece ≡ [] → piece ≡ []
+pub last_text-nil : (piece : List ℕ) (joins : Bool) → ends_in_backslash piece ≡ joins → last_text piece ≡ [] → piece ≡ []
 last_text-nil piece true e h = absurd (append-is-some (front piece) 32 (rw e at h))
 last_text-nil piece false e h = rw e at h
 
