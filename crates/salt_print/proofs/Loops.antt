@@ -1,0 +1,31 @@
+-- Steps of the loops that print lists.
+use Rattle.salt_model.specs.Texts.{list_text}
+use Rattle.salt_print.proofs.Joins.{◌⨾◌}
+use Rattle.salt_print.specs.Listed.{more_text}
+use Rattle.salt_print.specs.Prints.{Prints}
+use Rattle.salt_print.specs.declared.printer.Printer.{Printer}
+use Rattle.std.proofs.Common.{List, [], ◌∷◌, ◌++◌, ◌≡◌, ◌+◌, ◌-◌, ◌<◌, ◌≤◌, ℕ, ap, append-nil, arith, drop, get_or, length, subst, take, ◌∙◌, sym}
+use Rattle.std.proofs.lemmas.Grind.{flat_map-append}
+use Rattle.std.proofs.lemmas.List.{take_more, take_rest}
+use Rattle.std.specs.List.{flat_map}
+use Rattle.std.specs.Prelude.{Option, map}
+
+-- the texts of one more item
+pub flat_map-take_more : {A : Type 0} (f : A → List ℕ) (xs : List A) (i : ℕ) (x : A) → i < length xs → x ≡ get_or xs i x → flat_map f (take (i + 1) xs) ≡ flat_map f (take i xs) ++ f x
+flat_map-take_more f xs i x within is =
+    ap (flat_map f) (take_more xs i x within) ∙ flat_map-append f (take i xs) (get_or xs i x ∷ []) ∙ ap (λ l. flat_map f (take i xs) ++ l) (append-nil (f (get_or xs i x)) ∙ ap f (sym is))
+
+pub Prints-more : {K A : Type 0} {held : K → Option (List ℕ)} {faults : K → ℕ} (f : A → List ℕ) (xs : List A) (i : ℕ) (x : A) {s t v : Printer K}
+    → i < length xs → x ≡ get_or xs i x → Prints held faults s t (flat_map f (take i xs)) → Prints held faults t v (f x) → Prints held faults s v (flat_map f (take (i + 1) xs))
+Prints-more {held = held} {faults = faults} f xs i x {s = s} {v = v} within is first second =
+    subst (Prints held faults s v) (sym (flat_map-take_more f xs i x within is)) (first ⨾ second)
+
+-- a list's text is that of its first item, and then those of the others behind commas
+pub list_text-cons : {A : Type 0} (f : A → List ℕ) (t : List ℕ) (xs : List A) → list_text (t ∷ map f xs) ≡ t ++ more_text f xs
+list_text-cons f t [] = sym (append-nil t)
+list_text-cons f t (x ∷ xs) = ap (λ l. t ++ (44 ∷ 32 ∷ l)) (list_text-cons f (f x) xs)
+
+-- the others, as a slice pattern binds them
+pub others_are : {A : Type 0} (xs : List A) (x : A) → 1 ≤ length xs → x ≡ get_or xs 0 x → xs ≡ x ∷ take (length xs - 1) (drop 1 xs)
+others_are [] x some is = absurd (omega arith)
+others_are (y ∷ ys) x some is = ap (λ z. z ∷ ys) (sym is) ∙ ap (λ l. x ∷ l) (sym (take_rest (y ∷ ys) 1))

@@ -1,0 +1,11 @@
+use Rattle.salt_print.proofs.Joins.{◌⨾◌}
+use Rattle.salt_print.proofs.printer.Printer.answer.Goals as goal
+
+pub returns-in-Count : goal.returns-in-Count
+returns-in-Count g c = rw c.in-Count.is (c.bytes.ensures ⨾ c.number.ensures)
+
+pub returns-in-Rows : goal.returns-in-Rows
+returns-in-Rows g c = rw c.in-Rows.is (c.bytes-in-Rows.ensures ⨾ c.rows.ensures)
+
+pub returns-in-Failed : goal.returns-in-Failed
+returns-in-Failed g c = rw c.in-Failed.is (c.bytes-in-Failed.ensures ⨾ c.cause.ensures)
