@@ -41,6 +41,10 @@ GoesOn old story line new told = (log : Log) → Serves old story log → (after
 abbrev pub BreaksOff : Engine → List Event → Asked → List Event → Type 0
 BreaksOff old story line told = (log : Log) → Serves old story log → (after : Log) × (lines_of after ≡ lines_of log ++ line ∷ []) × Tells after told
 
+-- the story has gained events, if any
+abbrev pub Grows : List Event → List Event → Type 0
+Grows story told = (more : List Event) × (told ≡ story ++ more)
+
 -- a front of the events was told
 abbrev pub IsCutShort : List Event → List Event → List Event → Type 0
 IsCutShort story events told = (k : ℕ) × (told ≡ story ++ take k events)

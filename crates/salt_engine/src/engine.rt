@@ -15,6 +15,7 @@ ghost use Rattle.salt_engine.specs.Execute.{changes_of};
 use crate::execute::{Added, Outcome, PlacedRows, execute};
 use crate::schema::{Schema, refusal_of};
 use salt_model::{Act, Answer, Cause, End, Event, Line, Refusal, Statement, Story, TableDef, UnitKind};
+use salt_print::table_text;
 use salt_values::{Id, TryCopy};
 use std::alloc::{AllocError, Global};
 use std::collections::BTreeMap;
@@ -52,7 +53,7 @@ fn cause_of(answer: &Answer) -> Option<Cause>
 }
 
 impl Engine {
-    ghost use Rattle.salt_engine.specs.Engine.{BreaksOff, GoesOn, HasRun, IsCutShort, IsLeft, IsServed, NumbersRise, Serves, decisions_after, defined_by, done_by, end_by, next_unit, rows_by, unit_events};
+    ghost use Rattle.salt_engine.specs.Engine.{BreaksOff, GoesOn, Grows, HasRun, IsCutShort, IsLeft, IsServed, NumbersRise, Serves, decisions_after, defined_by, done_by, end_by, next_unit, rows_by, unit_events};
 
     /// An engine of no tables, in the boot that a story's opening tells.
     pub fn new(alloc: Global, boot: u64) -> Engine
@@ -172,10 +173,61 @@ impl Engine {
         self.finish(unit, cause, added, story)
     }
 
+    /// Keeps a table, and appends its Defined.
+    fn define(&mut self, def: &TableDef, story: &mut Story) -> Result<(), AllocError>
+        requires few { length self.old.schema < 64 }
+        requires decisions { self.old.decisions < 2 ^ 64 - 1 }
+        ensures engine { OnOk result (self.new ≡ defined_by self.old def.now) }
+        ensures ok { OnOk result (story.new ≡ story.old ++ Event.Defined (self.old.decisions + 1) (table_text def.now) ∷ []) }
+        ensures err { OnErr result (story.new ≡ story.old) }
+    {
+        let text = table_text(self.alloc, def)?;
+        self.schema.add(def.copy(self.alloc)?)?;
+        self.decisions += 1;
+        story.push(Event::Defined {
+            number: self.decisions,
+            text,
+        })
+    }
+
+    /// Appends the events of a line that is not refused.
+    fn serve(&mut self, line: &Line, story: &mut Story) -> Result<(), AllocError>
+        requires allowed { refused_line self.old.schema line.now ≡ None }
+        requires units { self.old.units < 2 ^ 64 - 1 }
+        requires decisions { self.old.decisions < 2 ^ 64 - 1 }
+        ensures ok { OnOk result (IsServed self.old story.old line.now self.new story.new) }
+        ensures err { OnErr result (IsLeft self.old story.old line.now story.new) }
+    {
+        match line {
+            Line::Nothing => Ok(()),
+            Line::Table(def) => self.define(def, story),
+            Line::Session { session, act } => match act {
+                Act::Do(st) => self.run_unit(*session, st, story),
+            },
+        }
+    }
+
+    /// Does a line: appends its refusal, or the events of its segment. Where memory runs out, the events before it stand,
+    /// and the engine is not stepped again.
+    pub fn step(&mut self, line: &Line, story: &mut Story) -> Result<(), AllocError>
+        requires units { self.old.units < 2 ^ 64 - 1 }
+        requires decisions { self.old.decisions < 2 ^ 64 - 1 }
+        ensures segment { OnOk result (GoesOn self.old story.old (Tree line.now) self.new story.new) }
+        ensures broken_off { OnErr result (BreaksOff self.old story.old (Tree line.now) story.new) }
+        ensures grows { Grows story.old story.new }
+        ensures numbers { OnOk result ((log : Log) → Serves self.old story.old log → NumbersRise self.old self.new) }
+    {
+        match refusal_of(self.alloc, self.schema.tables(), line)? {
+            Some(refusal) => story.push(Event::Refused(refusal)),
+            None => self.serve(line, story),
+        }
+    }
+
     /// Appends the refusal of a line whose text spells nothing. Where memory runs out, the story is as it was.
     pub fn refuse(&self, story: &mut Story) -> Result<(), AllocError>
         ensures segment { OnOk result (GoesOn self.now story.old (Unread Refusal.Syntax) self.now story.new) }
         ensures broken_off { OnErr result (BreaksOff self.now story.old (Unread Refusal.Syntax) story.new) }
+        ensures grows { Grows story.old story.new }
     {
         story.push(Event::Refused(Refusal::Syntax))
     }
