@@ -33,17 +33,37 @@ pub record Serves (e : Engine) (story : List Event) (log : Log) : Type 0 where
   pub decisions : (kept log).decisions ≡ e.decisions
   pub units : unit_count log ≡ e.units
 
--- each log of the engine and the story goes on by the line and its whole segment
-abbrev pub GoesOn : Engine → List Event → Asked → Engine → List Event → Type 0
-GoesOn old story line new told = (log : Log) → Serves old story log → (after : Log) × (lines_of after ≡ lines_of log ++ line ∷ []) × Serves new told after
-
--- or by the line and a front of its segment
-abbrev pub BreaksOff : Engine → List Event → Asked → List Event → Type 0
-BreaksOff old story line told = (log : Log) → Serves old story log → (after : Log) × (lines_of after ≡ lines_of log ++ line ∷ []) × Tells after told
-
 -- the story has gained events, if any
 abbrev pub Grows : List Event → List Event → Type 0
 Grows story told = (more : List Event) × (told ≡ story ++ more)
+
+-- a step raises each number by one at most
+pub record NumbersRise (old new : Engine) : Type 0 where
+  pub units : new.units ≤ old.units + 1
+  pub decisions : new.decisions ≤ old.decisions + 1
+
+-- a log goes on by a line and its whole segment
+pub record Goes (log : Log) (line : Asked) (old : Engine) (story : List Event) (new : Engine) (told : List Event) : Type 0 where
+  pub after : Log
+  pub asks : lines_of after ≡ lines_of log ++ line ∷ []
+  pub serves : Serves new told after
+  pub grows : Grows story told
+  pub rise : NumbersRise old new
+
+-- or by a line and a front of its segment
+pub record Breaks (log : Log) (line : Asked) (story told : List Event) : Type 0 where
+  pub after : Log
+  pub asks : lines_of after ≡ lines_of log ++ line ∷ []
+  pub tells : Tells after told
+  pub grows : Grows story told
+
+-- each log of the engine and the story goes on by the line
+abbrev pub GoesOn : Engine → List Event → Asked → Engine → List Event → Type 0
+GoesOn old story line new told = (log : Log) → Serves old story log → Goes log line old story new told
+
+-- or breaks off in it
+abbrev pub BreaksOff : Engine → List Event → Asked → List Event → Type 0
+BreaksOff old story line told = (log : Log) → Serves old story log → Breaks log line story told
 
 -- a front of the events was told
 abbrev pub IsCutShort : List Event → List Event → List Event → Type 0
@@ -97,8 +117,3 @@ abbrev pub IsLeft : Engine → List Event → Line → List Event → Type 0
 IsLeft old story (Session s (Do st)) told = (es : Tables) → old.rows.entries ≡ es.list → IsCutShort story (unit_events old s st (done_by old es st).answer) told
 IsLeft old story Nothing told = told ≡ story
 IsLeft old story (Table d) told = told ≡ story
-
--- a step raises each number by one at most
-pub record NumbersRise (old new : Engine) : Type 0 where
-  pub units : new.units ≤ old.units + 1
-  pub decisions : new.decisions ≤ old.decisions + 1

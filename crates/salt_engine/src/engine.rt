@@ -52,8 +52,16 @@ fn cause_of(answer: &Answer) -> Option<Cause>
     }
 }
 
+fn statement_in(act: &Act) -> &Statement
+    ensures { act.now ≡ Act.Do result.now }
+{
+    match act {
+        Act::Do(statement) => statement,
+    }
+}
+
 impl Engine {
-    ghost use Rattle.salt_engine.specs.Engine.{BreaksOff, GoesOn, Grows, HasRun, IsCutShort, IsLeft, IsServed, NumbersRise, Serves, decisions_after, defined_by, done_by, end_by, next_unit, rows_by, unit_events};
+    ghost use Rattle.salt_engine.specs.Engine.{BreaksOff, GoesOn, HasRun, IsCutShort, IsLeft, IsServed, Serves, decisions_after, defined_by, done_by, end_by, next_unit, rows_by, unit_events};
 
     /// An engine of no tables, in the boot that a story's opening tells.
     pub fn new(alloc: Global, boot: u64) -> Engine
@@ -201,9 +209,7 @@ impl Engine {
         match line {
             Line::Nothing => Ok(()),
             Line::Table(def) => self.define(def, story),
-            Line::Session { session, act } => match act {
-                Act::Do(st) => self.run_unit(*session, st, story),
-            },
+            Line::Session { session, act } => self.run_unit(*session, statement_in(act), story),
         }
     }
 
@@ -214,8 +220,6 @@ impl Engine {
         requires decisions { self.old.decisions < 2 ^ 64 - 1 }
         ensures segment { OnOk result (GoesOn self.old story.old (Tree line.now) self.new story.new) }
         ensures broken_off { OnErr result (BreaksOff self.old story.old (Tree line.now) story.new) }
-        ensures grows { Grows story.old story.new }
-        ensures numbers { OnOk result ((log : Log) → Serves self.old story.old log → NumbersRise self.old self.new) }
     {
         match refusal_of(self.alloc, self.schema.tables(), line)? {
             Some(refusal) => story.push(Event::Refused(refusal)),
@@ -227,7 +231,6 @@ impl Engine {
     pub fn refuse(&self, story: &mut Story) -> Result<(), AllocError>
         ensures segment { OnOk result (GoesOn self.now story.old (Unread Refusal.Syntax) self.now story.new) }
         ensures broken_off { OnErr result (BreaksOff self.now story.old (Unread Refusal.Syntax) story.new) }
-        ensures grows { Grows story.old story.new }
     {
         story.push(Event::Refused(Refusal::Syntax))
     }
