@@ -4,6 +4,8 @@
 mod events;
 mod memory;
 mod printer;
+#[cfg(test)]
+mod tests;
 mod trees;
 mod values;
 
