@@ -11,8 +11,12 @@ mod std_streams;
 mod streams;
 
 pub use disks::{DiskErr, Disks};
+pub use line_text::LONGEST_LINE;
 pub use lines::{LONGEST_SCRIPT, LineErr, Lines, Next, lines_join};
 pub use memory::{MemSink, MemSource};
 pub use no_disks::NoDisks;
 pub use std_streams::{StdSink, StdSource};
 pub use streams::{IoFailed, Sink, Source, write_whole};
+
+#[cfg(test)]
+mod tests;

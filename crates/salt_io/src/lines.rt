@@ -62,6 +62,7 @@ impl From<AllocError> for LineErr {
 ///
 /// A line ends at an LF, without a CR directly before it, or at the script's end. Where its last
 /// byte is a backslash, a space takes the backslash's place, and the next line is joined on.
+#[derive(Drop)]
 pub struct Lines {
     buf: [u8; 4096],
     from: usize,

@@ -11,7 +11,7 @@ pub trait Source {
     /// The bytes left; `None` where the source does not tell them.
     ghost left: { Self → Option (List ℕ) };
 
-    /// How many reads have failed, at most 2^64 - 1.
+    /// The count of faults, which a failed read raises unless it stands at 2^64 - 1.
     ghost faults: { Self → ℕ };
 
     /// Puts the next bytes at the start of `buf`, and gives how many. Zero for a buffer that is not
@@ -30,7 +30,7 @@ pub trait Sink {
     /// The bytes written; `None` where the sink does not tell them.
     ghost held: { Self → Option (List ℕ) };
 
-    /// How many writes have failed, at most 2^64 - 1.
+    /// The count of faults, which a failed write raises unless it stands at 2^64 - 1.
     ghost faults: { Self → ℕ };
 
     /// Writes some first part of `bytes`, and gives its length, which is at least 1 where there are
