@@ -1,0 +1,126 @@
+//! Symbols of a row, taken one after the other.
+
+ghost use Rattle.std.specs.Prelude.{◌≡◌, ◌<◌, ◌≤◌, IsTrue, OnOk, false, if◌then◌else◌, length, None, Some};
+ghost use Rattle.salt_script.specs.Answers.{GivesAll, Gives, Leaves};
+ghost use Rattle.salt_script.specs.Reading.{after, end_at, int_at, name_at, session_at};
+ghost use Rattle.salt_tokens.specs.Symbols.{key, row, sign};
+
+use crate::error::ReadErr;
+use salt_tokens::{Keyword, Lexeme, Sign};
+use salt_values::Name;
+use sqlite_items::Items;
+use std::alloc::Global;
+
+/// The most bytes of a name.
+const NAME_MOST: usize = 32;
+
+/// The largest session.
+const SESSION_MOST: u64 = 64;
+
+/// The tokens that are still to be read.
+#[derive(Drop)]
+pub struct Cursor<'a> {
+    pub rest: &'a [Lexeme<'a>],
+}
+
+impl<'a> Cursor<'a> {
+    /// Takes this keyword, if it comes next.
+    #[tactic(auto, unfolding(crate::specs::Reading::after))]
+    pub fn skip_key(&mut self, wanted: Keyword) -> bool
+        ensures reads { after (key wanted) (row self.old.rest.now) ≡ (if result then Some (row self.new.rest.now) else None) }
+        ensures stays { result ≡ false → self.new ≡ self.old }
+    {
+        match self.rest {
+            [Lexeme::Key(first), rest @ ..] if *first == wanted => {
+                self.rest = rest;
+                true
+            }
+            _ => false,
+        }
+    }
+
+    /// Takes this sign, if it comes next.
+    #[tactic(auto, unfolding(crate::specs::Reading::after))]
+    pub fn skip_sign(&mut self, wanted: Sign) -> bool
+        ensures reads { after (sign wanted) (row self.old.rest.now) ≡ (if result then Some (row self.new.rest.now) else None) }
+        ensures shrinks { IsTrue result → length self.new.rest.now < length self.old.rest.now }
+        ensures stays { result ≡ false → self.new ≡ self.old }
+    {
+        match self.rest {
+            [Lexeme::Sign(first), rest @ ..] if *first == wanted => {
+                self.rest = rest;
+                true
+            }
+            _ => false,
+        }
+    }
+
+    /// Takes this keyword, which has to come next.
+    pub fn take_key(&mut self, wanted: Keyword) -> Result<(), ReadErr>
+        ensures { Leaves result (row self.new.rest.now) (after (key wanted) (row self.old.rest.now)) }
+    {
+        if self.skip_key(wanted) {
+            Ok(())
+        } else {
+            Err(ReadErr::Syntax)
+        }
+    }
+
+    /// Takes this sign, which has to come next.
+    pub fn take_sign(&mut self, wanted: Sign) -> Result<(), ReadErr>
+        ensures { Leaves result (row self.new.rest.now) (after (sign wanted) (row self.old.rest.now)) }
+    {
+        if self.skip_sign(wanted) {
+            Ok(())
+        } else {
+            Err(ReadErr::Syntax)
+        }
+    }
+
+    /// Takes a name of at most 32 bytes.
+    pub fn name(&mut self, alloc: Global) -> Result<Name, ReadErr>
+        ensures { Gives result (row self.new.rest.now) (name_at (row self.old.rest.now)) }
+    {
+        match self.rest {
+            [Lexeme::Name(name), rest @ ..] if name.len() <= NAME_MOST => {
+                self.rest = rest;
+                Ok(Items::from_slice(alloc, name)?)
+            }
+            _ => Err(ReadErr::Syntax),
+        }
+    }
+
+    /// Takes a number, where 2^64 - 1 is every number from there on.
+    pub fn int(&mut self) -> Result<u64, ReadErr>
+        ensures reads { Gives result (row self.new.rest.now) (int_at (row self.old.rest.now)) }
+        ensures shrinks { OnOk result (length self.new.rest.now < length self.old.rest.now) }
+    {
+        let [Lexeme::Int(number), rest @ ..] = self.rest else {
+            return Err(ReadErr::Syntax);
+        };
+        self.rest = rest;
+        Ok(*number)
+    }
+
+    /// Takes a session's number, 1 to 64.
+    pub fn session(&mut self) -> Result<u8, ReadErr>
+        ensures { Gives result (row self.new.rest.now) (session_at (row self.old.rest.now)) }
+    {
+        let number = self.int()?;
+        if 1 <= number && number <= SESSION_MOST {
+            Ok(number as u8)
+        } else {
+            Err(ReadErr::Syntax)
+        }
+    }
+
+    /// Nothing may come next.
+    pub fn end(&self) -> Result<(), ReadErr>
+        ensures { GivesAll result (end_at (row self.now.rest.now)) }
+    {
+        match self.rest {
+            [] => Ok(()),
+            _ => Err(ReadErr::Syntax),
+        }
+    }
+}

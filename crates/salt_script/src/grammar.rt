@@ -1,0 +1,178 @@
+//! From tokens to trees, a method for each form of the grammar.
+
+ghost use Rattle.std.specs.Prelude.{◌≡◌, ◌<◌, ◌≤◌, OnOk, length};
+ghost use Rattle.salt_script.specs.Answers.{GivesAll, Gives};
+ghost use Rattle.salt_script.specs.Reading.{act_at, begun_at, column_at, columns_at, insert_at, key_column_at, line_at, literal_at, select_at, signed, statement_at, table_at, value_at, values_at};
+ghost use Rattle.salt_tokens.specs.Symbols.{row};
+
+use crate::cursor::Cursor;
+use crate::error::ReadErr;
+use salt_model::{
+    Act, Bound, ColType, Expr, Exprs, Field, Fields, Line, Scan, Statement, TableDef, What,
+};
+use salt_tokens::{Keyword, Lexeme, Sign};
+use salt_values::Value;
+use sqlite_items::Items;
+use std::alloc::Global;
+
+/// The most columns of a table.
+const COLUMNS_MOST: usize = 16;
+
+/// A number of 64 bits, below 0 behind a minus.
+fn signed(minus: bool, number: u64) -> Option<i64>
+    ensures { result ≡ signed minus number }
+{
+    let number = i128::from(number);
+    i64::try_from(if minus { -number } else { number }).ok()
+}
+
+impl<'a> Cursor<'a> {
+    fn literal(&mut self) -> Result<i64, ReadErr>
+        ensures reads { Gives result (row self.new.rest.now) (literal_at (row self.old.rest.now)) }
+        ensures shrinks { OnOk result (length self.new.rest.now < length self.old.rest.now) }
+    {
+        let minus = self.skip_sign(Sign::Minus);
+        let number = self.int()?;
+        signed(minus, number).ok_or(ReadErr::Syntax)
+    }
+
+    fn value(&mut self) -> Result<Expr, ReadErr>
+        ensures reads { Gives result (row self.new.rest.now) (value_at (row self.old.rest.now)) }
+        ensures shrinks { OnOk result (length self.new.rest.now < length self.old.rest.now) }
+    {
+        Ok(Expr::Lit(Value::Int(self.literal()?)))
+    }
+
+    /// One value or more, with commas between them.
+    fn values(&mut self, alloc: Global) -> Result<Exprs, ReadErr>
+        ensures { Gives result (row self.new.rest.now) (values_at (row self.old.rest.now)) }
+    {
+        let mut values = Items::new(alloc);
+        values.push(self.value()?)?;
+        while self.skip_sign(Sign::Comma) {
+            values.push(self.value()?)?;
+        }
+        Ok(values)
+    }
+
+    fn column(&mut self, alloc: Global) -> Result<Field, ReadErr>
+        ensures { Gives result (row self.new.rest.now) (column_at (row self.old.rest.now)) }
+    {
+        let name = self.name(alloc)?;
+        self.take_key(Keyword::Int)?;
+        Ok(Field {
+            name,
+            kind: ColType::Int,
+        })
+    }
+
+    fn key_column(&mut self, alloc: Global) -> Result<Field, ReadErr>
+        ensures { Gives result (row self.new.rest.now) (key_column_at (row self.old.rest.now)) }
+    {
+        let column = self.column(alloc)?;
+        self.take_key(Keyword::Key)?;
+        Ok(column)
+    }
+
+    /// The key's column, and at most 15 further ones, with commas between them.
+    fn columns(&mut self, alloc: Global) -> Result<Fields, ReadErr>
+        ensures { Gives result (row self.new.rest.now) (columns_at (row self.old.rest.now)) }
+    {
+        let mut columns = Items::new(alloc);
+        columns.push(self.key_column(alloc)?)?;
+        while self.skip_sign(Sign::Comma) {
+            if columns.len() == COLUMNS_MOST {
+                return Err(ReadErr::Syntax);
+            }
+            columns.push(self.column(alloc)?)?;
+        }
+        Ok(columns)
+    }
+
+    /// What stands behind `insert`.
+    fn insert(&mut self, alloc: Global) -> Result<Statement, ReadErr>
+        ensures { Gives result (row self.new.rest.now) (insert_at (row self.old.rest.now)) }
+    {
+        self.take_key(Keyword::Into)?;
+        let table = self.name(alloc)?;
+        self.take_key(Keyword::Values)?;
+        self.take_sign(Sign::Open)?;
+        let values = self.values(alloc)?;
+        self.take_sign(Sign::Close)?;
+        Ok(Statement::Insert { table, values })
+    }
+
+    /// What stands behind `select`.
+    fn select(&mut self, alloc: Global) -> Result<Statement, ReadErr>
+        ensures { Gives result (row self.new.rest.now) (select_at (row self.old.rest.now)) }
+    {
+        self.take_sign(Sign::Star)?;
+        self.take_key(Keyword::From)?;
+        let table = self.name(alloc)?;
+        self.take_key(Keyword::Where)?;
+        self.take_key(Keyword::Key)?;
+        self.take_sign(Sign::Equal)?;
+        let key = self.value()?;
+        Ok(Statement::Select {
+            what: What::All,
+            table,
+            scan: Scan {
+                bound: Bound::Key(key),
+            },
+        })
+    }
+
+    fn statement(&mut self, alloc: Global) -> Result<Statement, ReadErr>
+        ensures { Gives result (row self.new.rest.now) (statement_at (row self.old.rest.now)) }
+    {
+        if self.skip_key(Keyword::Insert) {
+            return self.insert(alloc);
+        }
+        self.take_key(Keyword::Select)?;
+        self.select(alloc)
+    }
+
+    /// What stands behind `create`.
+    fn table(&mut self, alloc: Global) -> Result<Line, ReadErr>
+        ensures { Gives result (row self.new.rest.now) (table_at (row self.old.rest.now)) }
+    {
+        self.take_key(Keyword::Table)?;
+        let name = self.name(alloc)?;
+        self.take_sign(Sign::Open)?;
+        let columns = self.columns(alloc)?;
+        self.take_sign(Sign::Close)?;
+        Ok(Line::Table(TableDef { name, columns }))
+    }
+
+    /// What stands behind `@`.
+    fn act(&mut self, alloc: Global) -> Result<Line, ReadErr>
+        ensures { Gives result (row self.new.rest.now) (act_at (row self.old.rest.now)) }
+    {
+        let session = self.session()?;
+        let statement = self.statement(alloc)?;
+        Ok(Line::Session {
+            session,
+            act: Act::Do(statement),
+        })
+    }
+
+    fn line(&mut self, alloc: Global) -> Result<Line, ReadErr>
+        ensures { Gives result (row self.new.rest.now) (begun_at (row self.old.rest.now)) }
+    {
+        if self.skip_key(Keyword::Create) {
+            return self.table(alloc);
+        }
+        self.take_sign(Sign::At)?;
+        self.act(alloc)
+    }
+}
+
+/// The line that the whole row spells.
+pub fn whole_line<'a>(alloc: Global, tokens: &'a [Lexeme<'a>]) -> Result<Line, ReadErr>
+    ensures { GivesAll result (line_at (row tokens.now)) }
+{
+    let mut cursor = Cursor { rest: tokens };
+    let line = cursor.line(alloc)?;
+    cursor.end()?;
+    Ok(line)
+}
