@@ -120,5 +120,12 @@ impl Drop for Event {
     }
 }
 
+/// A decision that was in flight where a run ended: a unit's, or a definition's with its canonical text.
+#[derive(Drop)]
+pub enum Flight {
+    Unit(Id),
+    Definition(Bytes),
+}
+
 /// The events of a run, in their order.
 pub type Story = Items<Event>;

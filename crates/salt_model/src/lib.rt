@@ -6,7 +6,7 @@ mod laws;
 mod tables;
 mod trees;
 
-pub use events::{Answer, Cause, End, Event, Refusal, Story, UnitKind};
+pub use events::{Answer, Cause, End, Event, Flight, Refusal, Story, UnitKind};
 pub use laws::played_is_honest;
 pub use tables::Place;
 pub use trees::{

@@ -1,2 +1,4 @@
 pub mod Words
 pub mod Run
+pub mod Serving
+pub mod Status

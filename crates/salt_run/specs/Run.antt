@@ -1,6 +1,6 @@
 -- What a run has to be: its story, its lines, and how far it came.
 use Rattle.salt_io.specs.Lines.{lines_of, script_of}
-use Rattle.salt_io.specs.Streams.{Gains, GainsSome, bytes_before}
+use Rattle.salt_io.specs.Streams.{Gains, GainsSome, IsAtEnd, bytes_before}
 use Rattle.salt_model.specs.EventTexts.{story_text}
 use Rattle.salt_model.specs.Lines.{AskInOrder}
 use Rattle.salt_model.specs.Log as log_words
@@ -10,7 +10,7 @@ use Rattle.salt_model.specs.Played.{IsComplete, Tells}
 use Rattle.salt_model.specs.declared.events.Event.{Event}
 use Rattle.salt_run.specs.declared.status.Status.{Status}
 use Rattle.salt_run.specs.declared.status.Status.TheVariants.{Done, Memory, ReadFault, ScriptTooLong, Usage, WriteFault}
-use Rattle.std.specs.Prelude.{List, None, Option, Some, [], length, take, ℕ, ⊤, ◌++◌, ◌≡◌, ◌≤◌}
+use Rattle.std.specs.Prelude.{List, None, Option, Some, [], length, take, ℕ, ⊤, ◌++◌, ◌<◌, ◌≡◌, ◌≤◌, ◌⊎◌}
 
 -- the most bytes of a script
 abbrev pub longest_script : ℕ
@@ -20,11 +20,16 @@ longest_script = 16777216
 abbrev pub IsFrontOf : {A : Type 0} → List A → List A → Type 0
 IsFrontOf {A} xs all = (more : List A) × (all ≡ xs ++ more)
 
--- the lines that a run does of a script of these bytes, of which these are left at its end
+-- the lines whose end was read: those that an LF ends in the bytes that the source gave, and all lines where it told its end
+abbrev pub AreLinesRead : List ℕ → Option (List ℕ) → List (List ℕ) → Type 0
+AreLinesRead script left texts =
+    (got : List ℕ) × (Some script ≡ bytes_before got left) × ((texts ≡ (script_of got).ended) ⊎ (IsAtEnd left × (texts ≡ lines_of script)))
+
+-- the lines that a run does of a script of these bytes, of which these are left at the run's end
 abbrev pub AreLinesDone : Status → List ℕ → Option (List ℕ) → List (List ℕ) → Type 0
 AreLinesDone Done script left texts = (texts ≡ lines_of script) × (length script ≤ longest_script)
-AreLinesDone ScriptTooLong script left texts = texts ≡ (script_of (take longest_script script)).ended
-AreLinesDone ReadFault script left texts = (got : List ℕ) × (Some script ≡ bytes_before got left) × (texts ≡ (script_of got).ended)
+AreLinesDone ScriptTooLong script left texts = (texts ≡ (script_of (take longest_script script)).ended) × (longest_script < length script)
+AreLinesDone ReadFault script left texts = AreLinesRead script left texts
 AreLinesDone Memory script left texts = IsFrontOf texts (lines_of script)
 AreLinesDone WriteFault script left texts = IsFrontOf texts (lines_of script)
 AreLinesDone Usage script left texts = texts ≡ []
@@ -38,9 +43,12 @@ AreLinesOf status (Some script) left texts = AreLinesDone status script left tex
 abbrev pub MayLeave : Status → Log → Type 0
 MayLeave Memory log = ⊤
 MayLeave Usage log = phase log ≡ Fallen
-MayLeave status log = IsComplete log
+MayLeave Done log = IsComplete log
+MayLeave ReadFault log = IsComplete log
+MayLeave WriteFault log = IsComplete log
+MayLeave ScriptTooLong log = IsComplete log
 
--- the story is that of a log which is played, and whose lines are those that were done
+-- the story is that of a log which is played, and whose lines are those that were done of the script
 pub record IsPlayedRun (status : Status) (script left : Option (List ℕ)) (story : List Event) : Type 0 where
   pub log : Log
   pub texts : List (List ℕ)
@@ -53,4 +61,7 @@ pub record IsPlayedRun (status : Status) (script left : Option (List ℕ)) (stor
 abbrev pub IsWritten : Status → Option (List ℕ) → List Event → Option (List ℕ) → Type 0
 IsWritten Memory before story now = GainsSome before (story_text story) now
 IsWritten WriteFault before story now = GainsSome before (story_text story) now
-IsWritten status before story now = Gains before (story_text story) now
+IsWritten Done before story now = Gains before (story_text story) now
+IsWritten ReadFault before story now = Gains before (story_text story) now
+IsWritten ScriptTooLong before story now = Gains before (story_text story) now
+IsWritten Usage before story now = Gains before (story_text story) now

@@ -1,5 +1,8 @@
 //! How a run ends.
 
+ghost use Rattle.std.specs.Prelude.{◌≡◌};
+ghost use Rattle.salt_run.specs.Status.{number_of};
+
 use salt_model::{Flight, Story};
 
 /// How a run ends, and with which number as the program's exit status.

@@ -8,7 +8,7 @@ pub fn is_run_alone(words: &[String]) -> bool
     ensures { IsTrue result ↔ IsRunAlone words.now }
 {
     match words {
-        [word] => word.as_bytes() == b"run",
+        [word] => word.as_bytes() == b"run".as_slice(),
         _ => false,
     }
 }

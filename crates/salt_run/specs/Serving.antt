@@ -1,0 +1,107 @@
+-- What holds of a run between its lines, and what a line adds.
+use Rattle.salt_engine.specs.Engine.{BreaksOff, GoesOn, Serves}
+use Rattle.salt_engine.specs.declared.engine.Engine.{Engine}
+use Rattle.salt_io.specs.Lines.{Reading, lines_of, script_of}
+use Rattle.salt_io.specs.Streams.{Gains, GainsSome, IsAtEnd, bytes_before}
+use Rattle.salt_model.specs.EventTexts.{story_text}
+use Rattle.salt_model.specs.Lines.{AskInOrder, Asks}
+use Rattle.salt_model.specs.Log as log_words
+use Rattle.salt_model.specs.Log.{Asked, Log, Unread}
+use Rattle.salt_io.specs.declared.lines.LineErr.{LineErr}
+use Rattle.salt_model.specs.declared.events.Event.{Event}
+use Rattle.salt_model.specs.declared.events.Event.TheVariants.{Opened, Ready}
+use Rattle.salt_model.specs.declared.events.Refusal.TheVariants.{Syntax}
+use Rattle.salt_run.specs.Run.{IsPlayedRun, IsWritten}
+use Rattle.salt_run.specs.declared.serving.Stop.{Stop}
+use Rattle.salt_run.specs.declared.serving.Stop.TheVariants.{Memory, ReadFault, ScriptTooLong, WriteFault}
+use Rattle.salt_run.specs.declared.status.Status.{Status}
+use Rattle.salt_run.specs.declared.status.Status.TheVariants as status
+use Rattle.std.specs.Prelude.{Bool, List, None, Option, Some, [], drop, false, length, true, ℕ, ⊤, ◌++◌, ◌∷◌, ◌≡◌, ◌≤◌, ◌⊎◌}
+
+-- the texts are the lines of the bytes that were given of a script, and the rest of it begins a line, or is at its end
+pub record IsAtLine (script : List ℕ) (taken : ℕ) (rest : Option (List ℕ)) (texts : List (List ℕ)) : Type 0 where
+  pub given : List ℕ
+  pub whole : Some script ≡ bytes_before given rest
+  pub counted : length given ≡ taken
+  pub lines : texts ≡ lines_of given
+  pub at_start : ((script_of given).rest ≡ []) ⊎ IsAtEnd rest
+
+-- where the source tells its bytes
+abbrev pub IsAt : Option (List ℕ) → ℕ → Option (List ℕ) → List (List ℕ) → Type 0
+IsAt None taken rest texts = ⊤
+IsAt (Some script) taken rest texts = IsAtLine script taken rest texts
+
+-- the bytes that a reader has taken and not given, and those that its source has left
+abbrev pub rest_of : Reading → Option (List ℕ) → Option (List ℕ)
+rest_of reading left = bytes_before reading.kept left
+
+-- a unit and a decision take a line each, and a line a byte
+pub record HasNumbers (e : Engine) (taken : ℕ) : Type 0 where
+  pub units : e.units ≤ taken
+  pub decisions : e.decisions ≤ taken
+
+-- a run between its lines: of a script, over a sink that held these bytes
+pub record IsServing (script before : Option (List ℕ)) (e : Engine) (reading : Reading) (left : Option (List ℕ)) (story : List Event) (held : Option (List ℕ)) : Type 0 where
+  pub log : Log
+  pub texts : List (List ℕ)
+  pub serves : Serves e story log
+  pub asked : AskInOrder texts (log_words.lines_of log)
+  pub place : IsAt script reading.taken (rest_of reading left) texts
+  pub written : Gains before (story_text story) held
+  pub numbers : HasNumbers e reading.taken
+
+-- a line's text asks; one that is too long has none here
+abbrev pub TextAsks : Option (List ℕ) → Asked → Type 0
+TextAsks (Some text) asked = Asks text asked
+TextAsks None asked = asked ≡ Unread Syntax
+
+-- a line that was done
+abbrev pub IsDone : Option (List ℕ) → Engine → List Event → Engine → List Event → Type 0
+IsDone text old story new told = (asked : Asked) × TextAsks text asked × GoesOn old story asked new told
+
+-- a line in which memory ran out: before it was read, or in its segment
+abbrev pub IsLeftIn : Option (List ℕ) → Engine → List Event → List Event → Type 0
+IsLeftIn text old story told = (told ≡ story) ⊎ ((asked : Asked) × TextAsks text asked × BreaksOff old story asked told)
+
+-- the text of the events that a line has added
+abbrev pub added_text : List Event → List Event → List ℕ
+added_text story told = story_text (drop (length story) told)
+
+-- how the telling of a line stops: in the line, or with its events written in part
+abbrev pub StopsTelling : Option (List ℕ) → Engine → List Event → Engine → List Event → Option (List ℕ) → Option (List ℕ) → Stop → Type 0
+StopsTelling text old story new told before held Memory = IsLeftIn text old story told × (held ≡ before)
+StopsTelling text old story new told before held WriteFault = IsDone text old story new told × GainsSome before (added_text story told) held
+StopsTelling text old story new told before held ReadFault = ⊥
+StopsTelling text old story new told before held ScriptTooLong = ⊥
+
+-- what an opening tells
+abbrev pub opening : List Event
+opening = Opened 1 0 ∷ Ready ∷ []
+
+-- how an opening stops: before all of it is told, or with it written in part
+abbrev pub StopsOpening : List Event → Option (List ℕ) → Option (List ℕ) → Stop → Type 0
+StopsOpening told before held Memory = ((told ≡ []) ⊎ (told ≡ Opened 1 0 ∷ [])) × (held ≡ before)
+StopsOpening told before held WriteFault = (told ≡ opening) × GainsSome before (story_text opening) held
+StopsOpening told before held ReadFault = ⊥
+StopsOpening told before held ScriptTooLong = ⊥
+
+abbrev pub stop_of : LineErr → Stop
+stop_of LineErr.ReadFault = ReadFault
+stop_of LineErr.ScriptTooLong = ScriptTooLong
+stop_of LineErr.Memory = Memory
+
+abbrev pub status_of : Stop → Status
+status_of Memory = status.Memory
+status_of ReadFault = status.ReadFault
+status_of WriteFault = status.WriteFault
+status_of ScriptTooLong = status.ScriptTooLong
+
+-- a run that has ended
+pub record IsEnded (end : Status) (script left before : Option (List ℕ)) (story : List Event) (held : Option (List ℕ)) : Type 0 where
+  pub played : IsPlayedRun end script left story
+  pub written : IsWritten end before story held
+
+-- after a line: the run goes on, or the script was at its end
+abbrev pub IsAfterLine : Bool → Option (List ℕ) → Option (List ℕ) → Engine → Reading → Option (List ℕ) → List Event → Option (List ℕ) → Type 0
+IsAfterLine true script before e reading left story held = IsServing script before e reading left story held
+IsAfterLine false script before e reading left story held = IsEnded status.Done script left before story held × IsAtEnd left

@@ -1,0 +1,66 @@
+//! The top call.
+
+ghost use Rattle.std.specs.Prelude.{◌≡◌, ◌≤◌, ◌↔◌, [], List, None};
+ghost use Rattle.salt_io.specs.Streams.{IsAtEnd, Rose};
+ghost use Rattle.salt_model.specs.Honest.{IsHonest};
+ghost use Rattle.salt_model.specs.Log.{Log};
+ghost use Rattle.salt_model.specs.Played.{Tells};
+ghost use Rattle.salt_run.specs.Run.{IsPlayedRun, IsWritten};
+ghost use Rattle.salt_run.specs.Words.{IsRunAlone};
+
+use crate::serving::{serve, status_of};
+use crate::status::{Ended, Status};
+use crate::words::is_run_alone;
+use salt_io::{Disks, Sink, Source};
+use salt_values::{Key, PlaceKind, Placement};
+use sqlite_items::Items;
+use std::alloc::Global;
+
+/// Runs the command that the words say.
+///
+/// `run` reads a script from the source, line by line, does each line, and writes the story to the sink.
+/// `docs/STORY.md` says what the clauses promise; `docs/SCRIPT.md` what lines there are.
+pub fn run<S: Source, K: Sink, D: Disks, F: Fn(PlaceKind, &Key, u32) -> u32>(
+    alloc: Global,
+    words: &[String],
+    source: &mut S,
+    sink: &mut K,
+    disks: &mut D,
+    place: &Placement<F>,
+) -> Ended
+    // The words are no command, and then nothing is read or written.
+    ensures usage { (result.status ≡ Status.Usage) ↔ (IsRunAlone words.now → ⊥) }
+    ensures untouched { result.status ≡ Status.Usage → (source.new ≡ source.old) × (sink.new ≡ sink.old) × (result.story ≡ []) }
+
+    // The story is that of a played log, whose lines are those of the source's bytes.
+    ensures played { IsPlayedRun result.status (S.left source.old) (S.left source.new) result.story }
+    // Its printed answers are those of one unit at a time, in the order of commits.
+    ensures honest { (log : Log) × Tells log result.story × IsHonest log }
+    // The sink gains the story's text.
+    ensures text { IsWritten result.status (K.held sink.old) result.story (K.held sink.new) }
+
+    // Each status but want of memory has its cause.
+    ensures done { result.status ≡ Status.Done → IsAtEnd (S.left source.new) }
+    ensures read_fault { result.status ≡ Status.ReadFault → Rose (S.faults source.old) (S.faults source.new) }
+    ensures write_fault { result.status ≡ Status.WriteFault → Rose (K.faults sink.old) (K.faults sink.new) }
+    ensures reads_later { S.faults source.old ≤ S.faults source.new }
+    ensures writes_later { K.faults sink.old ≤ K.faults sink.new }
+
+    ensures disks { disks.new ≡ disks.old }
+    ensures flight { result.flight ≡ None }
+{
+    let mut story = Items::new(alloc);
+    let status = if is_run_alone(words) {
+        match serve(alloc, source, sink, &mut story) {
+            Ok(()) => Status::Done,
+            Err(stop) => status_of(stop),
+        }
+    } else {
+        Status::Usage
+    };
+    Ended {
+        status,
+        story,
+        flight: None,
+    }
+}

@@ -1,0 +1,10 @@
+//! The top call: a script in, its story out.
+#![tactic(auto)]
+
+mod command;
+mod serving;
+mod status;
+mod words;
+
+pub use command::run;
+pub use status::{Ended, Status};
