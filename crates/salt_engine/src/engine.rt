@@ -65,7 +65,9 @@ impl Engine {
 
     /// An engine of no tables, in the boot that a story's opening tells.
     pub fn new(alloc: Global, boot: u64) -> Engine
-        ensures { (log : Log) (story : List Event) → Tells log story → IsComplete log → kept log ≡ record nothing_kept { boot = boot } → unit_count log ≡ 0 → Serves result story log }
+        ensures serves { (log : Log) (story : List Event) → Tells log story → IsComplete log → kept log ≡ record nothing_kept { boot = boot } → unit_count log ≡ 0 → Serves result story log }
+        ensures units { result.units ≡ 0 }
+        ensures decisions { result.decisions ≡ 0 }
     {
         Engine {
             alloc,
@@ -75,13 +77,6 @@ impl Engine {
             decisions: 0,
             units: 0,
         }
-    }
-
-    /// How many decisions were made.
-    pub fn decisions(&self) -> u64
-        ensures { result ≡ self.now.decisions }
-    {
-        self.decisions
     }
 
     /// Appends the Began of the next unit, and gives its name.

@@ -1,1 +1,4 @@
 pub mod Places
+pub mod Ends
+pub mod Openings
+pub mod RunWord

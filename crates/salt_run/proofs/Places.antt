@@ -6,6 +6,7 @@ use Rattle.salt_run.specs.Run.{AreLinesDone, AreLinesOf, AreLinesRead, IsFrontOf
 use Rattle.salt_run.specs.Serving.{IsAt, IsAtLine}
 use Rattle.salt_run.specs.declared.status.Status.TheVariants.{Done, Memory, ReadFault, ScriptTooLong, WriteFault}
 use Rattle.std.proofs.Common.{ap, append-nil, append_assoc, arith, inl, inr, length-append, subst, sym, ◌∙◌}
+use Rattle.std.proofs.Math.Seq.{take-append-add}
 use Rattle.std.specs.Prelude.{List, None, Option, Some, [], length, refl, take, ℕ, ⊤, ◌++◌, ◌+◌, ◌-◌, ◌<◌, ◌∷◌, ◌≡◌, ◌≢◌, ◌≤◌, ◌⊎◌}
 
 some_is : {A : Type 0} (x y : A) → Some x ≡ Some y → x ≡ y
@@ -84,11 +85,11 @@ end-place (Some script) taken rest left texts at end within =
 
 -- a source that failed
 pub fault-place : (script : Option (List ℕ)) (taken : ℕ) (before left : Option (List ℕ)) (texts : List (List ℕ)) → IsAt script taken before texts → TakesNoLine before left → AreLinesOf ReadFault script left texts
-fault-place None taken before left texts at no = tt
-fault-place (Some script) taken before left texts at no = (at.given ++ no.got, whole, by at.at_start)
+fault-place None taken before left texts at cut = tt
+fault-place (Some script) taken before left texts at cut = (at.given ++ cut.got, whole, by at.at_start)
   where
-    whole : Some script ≡ bytes_before (at.given ++ no.got) left
-    whole = at.whole ∙ ap (bytes_before at.given) no.given ∙ bytes_before-append at.given no.got left
+    whole : Some script ≡ bytes_before (at.given ++ cut.got) left
+    whole = at.whole ∙ ap (bytes_before at.given) cut.given ∙ bytes_before-append at.given cut.got left
 
     nothing : (got : List ℕ) (b l : Option (List ℕ)) (bytes : List ℕ) → b ≡ Some bytes → IsAtEnd b → Takes b got l → (got ≡ []) × IsAtEnd l
     nothing got b None bytes is end takes = absurd (none_some (sym is ∙ takes))
@@ -105,15 +106,15 @@ fault-place (Some script) taken before left texts at no = (at.given ++ no.got, w
         cons_nil : [] ≡ (y ∷ ys) ++ xs → ⊥
         cons_nil e = cc
 
-    by : ((script_of at.given).rest ≡ []) ⊎ IsAtEnd before → (texts ≡ (script_of (at.given ++ no.got)).ended) ⊎ (IsAtEnd left × (texts ≡ lines_of script))
+    by : ((script_of at.given).rest ≡ []) ⊎ IsAtEnd before → (texts ≡ (script_of (at.given ++ cut.got)).ended) ⊎ (IsAtEnd left × (texts ≡ lines_of script))
     by (inl start) = inl (
       at.lines ∙ rest-nil (script_of at.given).ended (script_of at.given).rest start
-      ∙ sym (append-nil (script_of at.given).ended) ∙ ap (λ ls. (script_of at.given).ended ++ ls) (sym no.no_line)
-      ∙ sym (ap (λ s. s.ended) (script_of-append at.given no.got start))
+      ∙ sym (append-nil (script_of at.given).ended) ∙ ap (λ ls. (script_of at.given).ended ++ ls) (sym cut.no_line)
+      ∙ sym (ap (λ s. s.ended) (script_of-append at.given cut.got start))
     )
     by (inr end) =
         let b = behind script at.given before at.whole in
-        let n = nothing no.got before left b.0 b.1 end no.given in
+        let n = nothing cut.got before left b.0 b.1 end cut.given in
         let empty : b.0 ≡ [] = subst IsAtEnd b.1 end in
         inr (n.1, at.lines ∙ ap lines_of (sym (b.2 ∙ ap (λ l. at.given ++ l) empty ∙ append-nil at.given)))
 
@@ -132,7 +133,9 @@ long-place (Some script) taken before left texts at cut within = by at.at_start
     long = omega (arith, ap length b.2, length-append at.given b.0, at.counted, cut_here.0)
 
     front : take longest_script script ≡ at.given ++ take (longest_script - taken) b.0
-    front = ?
+    front =
+        let count : longest_script ≡ length at.given + (longest_script - taken) = omega (arith, at.counted) in
+        ap (take longest_script) b.2 ∙ ap (λ n. take n (at.given ++ b.0)) count ∙ take-append-add at.given b.0 (longest_script - taken)
 
     by : ((script_of at.given).rest ≡ []) ⊎ IsAtEnd before → (texts ≡ (script_of (take longest_script script)).ended) × (longest_script < length script)
     by (inl start) = (

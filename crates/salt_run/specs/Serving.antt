@@ -11,7 +11,7 @@ use Rattle.salt_io.specs.declared.lines.LineErr.{LineErr}
 use Rattle.salt_model.specs.declared.events.Event.{Event}
 use Rattle.salt_model.specs.declared.events.Event.TheVariants.{Opened, Ready}
 use Rattle.salt_model.specs.declared.events.Refusal.TheVariants.{Syntax}
-use Rattle.salt_run.specs.Run.{IsPlayedRun, IsWritten}
+use Rattle.salt_run.specs.Run.{IsPlayedRun, IsWritten, longest_script}
 use Rattle.salt_run.specs.declared.serving.Stop.{Stop}
 use Rattle.salt_run.specs.declared.serving.Stop.TheVariants.{Memory, ReadFault, ScriptTooLong, WriteFault}
 use Rattle.salt_run.specs.declared.status.Status.{Status}
@@ -49,6 +49,7 @@ pub record IsServing (script before : Option (List ℕ)) (e : Engine) (reading :
   pub place : IsAt script reading.taken (rest_of reading left) texts
   pub written : Gains before (story_text story) held
   pub numbers : HasNumbers e reading.taken
+  pub within : reading.taken ≤ longest_script
 
 -- a line's text asks; one that is too long has none here
 abbrev pub TextAsks : Option (List ℕ) → Asked → Type 0

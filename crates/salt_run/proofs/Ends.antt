@@ -1,0 +1,216 @@
+-- From line to line, and how a run ends.
+use Rattle.salt_engine.specs.Engine.{Breaks, BreaksOff, Goes, GoesOn, Grows, NumbersRise, Serves}
+use Rattle.salt_engine.specs.declared.engine.Engine.{Engine}
+use Rattle.salt_io.specs.Lines.{IsCutOff, Reading, TakesLine, TakesLong, TakesNoLine}
+use Rattle.salt_io.specs.declared.lines.LineErr.{LineErr}
+use Rattle.salt_io.specs.Streams.{Gains, GainsSome, IsAtEnd, bytes_before}
+use Rattle.salt_model.specs.EventTexts.{event_text, story_text}
+use Rattle.salt_model.specs.Lines.{AskInOrder, Asks}
+use Rattle.salt_model.specs.Log as log_words
+use Rattle.salt_model.specs.Log.{Asked, Log}
+use Rattle.salt_model.specs.Played.{Tells}
+use Rattle.salt_model.specs.declared.events.Event.{Event}
+use Rattle.salt_print.proofs.Joins.{Gains-append}
+use Rattle.salt_run.proofs.Places.{end-place, fault-place, long-place, memory-place, next-place, write-place}
+use Rattle.salt_run.specs.Run.{longest_script}
+use Rattle.salt_run.specs.Serving.{HasNumbers, IsAt, IsDone, IsEnded, IsLeftIn, IsServing, StopsTelling, TextAsks, added_text, rest_of, status_of, stop_of}
+use Rattle.salt_run.specs.declared.serving.Stop.{Stop}
+use Rattle.salt_run.specs.declared.serving.Stop.TheVariants as stop
+use Rattle.salt_run.specs.declared.status.Status.TheVariants.{Done, Memory, ReadFault, ScriptTooLong, WriteFault}
+use Rattle.std.proofs.Common.{ap, append-nil, append_assoc, arith, inl, inr, subst, sym, ◌∙◌}
+use Rattle.std.specs.List.{flat_map}
+use Rattle.std.specs.Result.{IfErr, IsErrAnd}
+use Rattle.std.specs.Prelude.{Err, List, None, Ok, Option, Result, Some, [], drop, length, option_map, refl, ℕ, ⊤, ◌++◌, ◌+◌, ◌-◌, ◌<◌, ◌∷◌, ◌≡◌, ◌≤◌, ◌⊎◌}
+
+ask-one : (texts : List (List ℕ)) (lines : List Asked) (text : List ℕ) (line : Asked) → AskInOrder texts lines → Asks text line → AskInOrder (texts ++ text ∷ []) (lines ++ line ∷ [])
+ask-one [] [] text line h a = (a, tt)
+ask-one [] (l ∷ lines) text line h a = absurd h
+ask-one (t ∷ texts) [] text line h a = absurd h
+ask-one (t ∷ texts) (l ∷ lines) text line h a = (h.0, ask-one texts lines text line h.1 a)
+
+story_text-append : (story more : List Event) → story_text (story ++ more) ≡ story_text story ++ story_text more
+story_text-append [] more = refl
+story_text-append (e ∷ story) more = ap (λ t. event_text e ++ t) (story_text-append story more) ∙ sym (append_assoc (event_text e) (story_text story) (story_text more))
+
+drop-front : {A : Type 0} (xs ys : List A) → drop (length xs) (xs ++ ys) ≡ ys
+drop-front [] ys = refl
+drop-front (x ∷ xs) ys = drop-front xs ys
+
+-- a story's text is that of what was told before, and of what was added
+grown-text : (story told : List Event) → Grows story told → story_text told ≡ story_text story ++ added_text story told
+grown-text story told grows =
+    ap story_text grows.1 ∙ story_text-append story grows.0
+    ∙ ap (λ l. story_text story ++ story_text l) (sym (drop-front story grows.0) ∙ ap (drop (length story)) (sym grows.1))
+
+gains-some : (before : Option (List ℕ)) (text : List ℕ) (held : Option (List ℕ)) → Gains before text held → GainsSome before text held
+gains-some before text held g = record { part = text; others = []; whole = sym (append-nil text); gained = g }
+
+gains-then-some : (a b : List ℕ) (before mid held : Option (List ℕ)) → Gains before a mid → GainsSome mid b held → GainsSome before (a ++ b) held
+gains-then-some a b before mid held g s = record {
+  part = a ++ s.part;
+  others = s.others;
+  whole = ap (λ t. a ++ t) s.whole ∙ sym (append_assoc a s.part s.others);
+  gained = Gains-append a s.part before mid held g s.gained;
+}
+
+gains-front : (a b : List ℕ) (before held : Option (List ℕ)) → Gains before a held → GainsSome before (a ++ b) held
+gains-front a b before held g = record { part = a; others = b; whole = refl; gained = g }
+
+-- a line was taken, which asks what its text or its length says
+pub record HasTaken (text : Option (List ℕ)) (before after : Option (List ℕ)) (taken taken_after : ℕ) : Type 0 where
+  pub line : List ℕ
+  pub takes : TakesLine longest_script before after taken taken_after line
+  pub asks : (asked : Asked) → TextAsks text asked → Asks line asked
+
+module _ (script before : Option (List ℕ)) (old new : Engine) (reading : Reading) (left : Option (List ℕ)) (story told : List Event) (held : Option (List ℕ)) (serving : IsServing script before old reading left story held) where
+  module _ (reading_after : Reading) (left_after : Option (List ℕ)) (text : Option (List ℕ)) (taken : HasTaken text (rest_of reading left) (rest_of reading_after left_after) reading.taken reading_after.taken) where
+    here : IsAt script reading_after.taken (rest_of reading_after left_after) (serving.texts ++ taken.line ∷ [])
+    here = next-place script reading.taken reading_after.taken (rest_of reading left) (rest_of reading_after left_after) serving.texts taken.line serving.place taken.takes
+
+    asked-here : (asked : Asked) (after : Log) → log_words.lines_of after ≡ log_words.lines_of serving.log ++ asked ∷ [] → TextAsks text asked → AskInOrder (serving.texts ++ taken.line ∷ []) (log_words.lines_of after)
+    asked-here asked after lines asks = subst (AskInOrder (serving.texts ++ taken.line ∷ [])) (sym lines) (ask-one serving.texts (log_words.lines_of serving.log) taken.line asked serving.asked (taken.asks asked asks))
+
+    pub line-done : (held_after : Option (List ℕ)) → IsDone text old story new told → Gains held (added_text story told) held_after → IsServing script before new reading_after left_after told held_after
+    line-done held_after done written =
+        let goes = done.2 serving.log serving.serves in
+        record {
+          log = goes.after;
+          texts = serving.texts ++ taken.line ∷ [];
+          serves = goes.serves;
+          asked = asked-here done.0 goes.after goes.asks done.1;
+          place = here;
+          written = subst (λ t. Gains before t held_after) (sym (grown-text story told goes.grows)) (Gains-append (story_text story) (added_text story told) before held held_after serving.written written);
+          numbers = record {
+            units = omega (arith, serving.numbers.units, goes.rise.units, taken.takes.some, taken.takes.counted);
+            decisions = omega (arith, serving.numbers.decisions, goes.rise.decisions, taken.takes.some, taken.takes.counted);
+          };
+          within = taken.takes.within;
+        }
+
+    left-in : (held_after left_end : Option (List ℕ)) → held_after ≡ held → IsLeftIn text old story told → IsEnded Memory script left_end before told held_after
+    left-in held_after left_end same (inl is) = record {
+      played = record {
+        log = serving.log;
+        texts = serving.texts;
+        tells = subst (λ t. Tells serving.log t) (sym is) serving.serves.tells;
+        asked = serving.asked;
+        lines = memory-place script reading.taken (rest_of reading left) left_end serving.texts serving.place;
+        leaves = tt;
+      };
+      written = gains-some before (story_text told) held_after (subst (λ t. Gains before (story_text t) held_after) (sym is) (subst (Gains before (story_text story)) (sym same) serving.written));
+    }
+    left-in held_after left_end same (inr broken) =
+        let breaks = broken.2 serving.log serving.serves in
+        record {
+          played = record {
+            log = breaks.after;
+            texts = serving.texts ++ taken.line ∷ [];
+            tells = breaks.tells;
+            asked = asked-here broken.0 breaks.after breaks.asks broken.1;
+            lines = memory-place script reading_after.taken (rest_of reading_after left_after) left_end (serving.texts ++ taken.line ∷ []) here;
+            leaves = tt;
+          };
+          written = subst (λ t. GainsSome before t held_after) (sym (grown-text story told breaks.grows)) (gains-front (story_text story) (added_text story told) before held_after (subst (Gains before (story_text story)) (sym same) serving.written));
+        }
+
+    half-written : (held_after left_end : Option (List ℕ)) → IsDone text old story new told → GainsSome held (added_text story told) held_after → IsEnded WriteFault script left_end before told held_after
+    half-written held_after left_end done written =
+        let goes = done.2 serving.log serving.serves in
+        record {
+          played = record {
+            log = goes.after;
+            texts = serving.texts ++ taken.line ∷ [];
+            tells = goes.serves.tells;
+            asked = asked-here done.0 goes.after goes.asks done.1;
+            lines = write-place script reading_after.taken (rest_of reading_after left_after) left_end (serving.texts ++ taken.line ∷ []) here;
+            leaves = goes.serves.complete;
+          };
+          written = subst (λ t. GainsSome before t held_after) (sym (grown-text story told goes.grows)) (gains-then-some (story_text story) (added_text story told) before held held_after serving.written written);
+        }
+
+    pub telling-stops : (held_after left_end : Option (List ℕ)) (s : Stop) → StopsTelling text old story new told held held_after s → IsEnded (status_of s) script left_end before told held_after
+    telling-stops held_after left_end stop.Memory h = left-in held_after left_end h.1 h.0
+    telling-stops held_after left_end stop.WriteFault h = half-written held_after left_end h.0 h.1
+    telling-stops held_after left_end stop.ReadFault h = absurd h
+    telling-stops held_after left_end stop.ScriptTooLong h = absurd h
+
+  -- nothing more was told
+  pub done-ends : (left_end : Option (List ℕ)) → IsAtEnd (rest_of reading left) → IsEnded Done script left_end before story held
+  done-ends left_end end = record {
+    played = record {
+      log = serving.log;
+      texts = serving.texts;
+      tells = serving.serves.tells;
+      asked = serving.asked;
+      lines = end-place script reading.taken (rest_of reading left) left_end serving.texts serving.place end serving.within;
+      leaves = serving.serves.complete;
+    };
+    written = serving.written;
+  }
+
+  pub fault-ends : (left_end : Option (List ℕ)) → TakesNoLine (rest_of reading left) left_end → IsEnded ReadFault script left_end before story held
+  fault-ends left_end cut = record {
+    played = record {
+      log = serving.log;
+      texts = serving.texts;
+      tells = serving.serves.tells;
+      asked = serving.asked;
+      lines = fault-place script reading.taken (rest_of reading left) left_end serving.texts serving.place cut;
+      leaves = serving.serves.complete;
+    };
+    written = serving.written;
+  }
+
+  pub long-ends : (left_end : Option (List ℕ)) → IsCutOff (longest_script - reading.taken) (rest_of reading left) → IsEnded ScriptTooLong script left_end before story held
+  long-ends left_end cut = record {
+    played = record {
+      log = serving.log;
+      texts = serving.texts;
+      tells = serving.serves.tells;
+      asked = serving.asked;
+      lines = long-place script reading.taken (rest_of reading left) left_end serving.texts serving.place cut serving.within;
+      leaves = serving.serves.complete;
+    };
+    written = serving.written;
+  }
+
+  pub memory-ends : (left_end : Option (List ℕ)) → IsEnded Memory script left_end before story held
+  memory-ends left_end = record {
+    played = record {
+      log = serving.log;
+      texts = serving.texts;
+      tells = serving.serves.tells;
+      asked = serving.asked;
+      lines = memory-place script reading.taken (rest_of reading left) left_end serving.texts serving.place;
+      leaves = tt;
+    };
+    written = gains-some before (story_text story) held serving.written;
+  }
+
+  -- why the next line was not read
+  pub reading-stops : (left_end : Option (List ℕ)) (e : LineErr) → (e ≡ LineErr.ReadFault → TakesNoLine (rest_of reading left) left_end) → (e ≡ LineErr.ScriptTooLong → IsCutOff (longest_script - reading.taken) (rest_of reading left)) → IsEnded (status_of (stop_of e)) script left_end before story held
+  reading-stops left_end LineErr.ReadFault fault long = fault-ends left_end (fault refl)
+  reading-stops left_end LineErr.ScriptTooLong fault long = long-ends left_end (long refl)
+  reading-stops left_end LineErr.Memory fault long = memory-ends left_end
+
+pub end-left : (kept : List ℕ) (left : Option (List ℕ)) → IsAtEnd (bytes_before kept left) → IsAtEnd left
+end-left kept None h = tt
+end-left [] (Some bytes) h = h
+end-left (k ∷ kept) (Some bytes) h = absurd (cons_nil h)
+  where
+    cons_nil : (k ∷ kept) ++ bytes ≡ [] → ⊥
+    cons_nil e = cc
+
+pub if_err_gives : {A E : Type 0} (r : Result A E) (e : E) (P : E → Type 0) → IsErrAnd r (λ x. x ≡ e) → P e → IfErr r P
+if_err_gives (Ok x) e P h p = tt
+if_err_gives (Err x) e P h p = subst P (sym h) p
+
+-- a line whose text is at hand
+pub line-taken : (line : List ℕ) (before after : Option (List ℕ)) (taken taken_after : ℕ) (text : Option (List ℕ)) → text ≡ Some line → TakesLine longest_script before after taken taken_after line → HasTaken text before after taken taken_after
+line-taken line before after taken taken_after text is takes =
+    subst (λ t. HasTaken t before after taken taken_after) (sym is) (record { line = line; takes = takes; asks = λ asked h. h })
+
+-- a line that is too long
+pub long-taken : (before after : Option (List ℕ)) (taken taken_after : ℕ) (text : Option (List ℕ)) → text ≡ None → TakesLong 65536 longest_script before after taken taken_after → HasTaken text before after taken taken_after
+long-taken before after taken taken_after text is long =
+    subst (λ t. HasTaken t before after taken taken_after) (sym is) (record { line = long.text; takes = long.taken; asks = λ asked h. subst (Asks long.text) (sym h) (inl long.long) })

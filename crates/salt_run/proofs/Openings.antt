@@ -1,0 +1,91 @@
+-- The opening of a run, and a run that has not begun.
+use Rattle.salt_engine.specs.Engine.{Serves}
+use Rattle.salt_engine.specs.declared.engine.Engine.{Engine}
+use Rattle.salt_io.specs.Lines.{Reading, lines_of}
+use Rattle.salt_io.specs.Streams.{Gains, GainsSome, bytes_before}
+use Rattle.salt_model.specs.After.{kept}
+use Rattle.salt_model.specs.EventTexts.{story_text}
+use Rattle.salt_model.specs.Honest.{IsHonest}
+use Rattle.salt_model.specs.Kept.{nothing_kept}
+use Rattle.salt_model.specs.Log.{Log, from, unit_count, ◌says◌}
+use Rattle.salt_model.specs.Played.{IsComplete, Played, Tells}
+use Rattle.salt_model.specs.declared.events.Event.{Event}
+use Rattle.salt_model.specs.declared.events.Event.TheVariants.{Opened, Ready}
+use Rattle.salt_print.proofs.Joins.{Gains-nil}
+use Rattle.salt_run.specs.Run.{AreLinesOf, IsFrontOf, IsPlayedRun, IsWritten}
+use Rattle.salt_run.specs.Serving.{HasNumbers, IsAt, IsEnded, IsServing, StopsOpening, opening, status_of}
+use Rattle.salt_run.specs.declared.serving.Stop.{Stop}
+use Rattle.salt_run.specs.declared.serving.Stop.TheVariants as stop
+use Rattle.salt_run.specs.declared.status.Status.{Status}
+use Rattle.salt_run.specs.declared.status.Status.TheVariants.{Done, Memory, ReadFault, ScriptTooLong, Usage, WriteFault}
+use Rattle.std.proofs.Common.{ap, arith, inl, inr, subst, sym, ◌∙◌}
+use Rattle.std.specs.Prelude.{List, None, Option, Some, [], refl, ℕ, ⊤, ◌++◌, ◌∷◌, ◌≡◌, ◌≤◌, ◌⊎◌}
+
+abbrev pub opened : Log
+opened = from nothing_kept says Opened 1 0 says Ready
+
+pub opened-tells : Tells opened opening
+opened-tells = record { start = refl; told = refl; played = ((tt, (refl, refl)), refl) }
+
+pub opened-complete : IsComplete opened
+opened-complete = (refl, refl)
+
+no-lines : (left : Option (List ℕ)) → IsAt left 0 (bytes_before [] left) []
+no-lines None = tt
+no-lines (Some script) = record { given = []; whole = refl; counted = refl; lines = refl; at_start = inl refl }
+
+-- an engine that has just been made serves
+pub serving-opened : (e : Engine) (reading : Reading) (left before held : Option (List ℕ)) (story : List Event) →
+    ((log : Log) (story : List Event) → Tells log story → IsComplete log → kept log ≡ record nothing_kept { boot = 1 } → unit_count log ≡ 0 → Serves e story log) →
+    reading ≡ record { kept = []; taken = 0 } → e.units ≡ 0 → e.decisions ≡ 0 → story ≡ opening → Gains before (story_text opening) held → IsServing left before e reading left story held
+serving-opened e reading left before held story serves is units decisions told written =
+    subst (λ r. IsServing left before e r left story held) (sym is) (subst (λ s. IsServing left before e (record { kept = []; taken = 0 }) left s held) (sym told) (record {
+      log = opened;
+      texts = [];
+      serves = serves opened opening opened-tells opened-complete refl refl;
+      asked = tt;
+      place = no-lines left;
+      written = written;
+      numbers = record { units = omega (arith, units); decisions = omega (arith, decisions) };
+      within = omega arith;
+    }))
+
+memory-before : (script left : Option (List ℕ)) → AreLinesOf Memory script left []
+memory-before None left = tt
+memory-before (Some script) left = (lines_of script, refl)
+
+write-before : (script left : Option (List ℕ)) → AreLinesOf WriteFault script left []
+write-before None left = tt
+write-before (Some script) left = (lines_of script, refl)
+
+usage-before : (script left : Option (List ℕ)) → AreLinesOf Usage script left []
+usage-before None left = tt
+usage-before (Some script) left = refl
+
+nothing-gained : (before held : Option (List ℕ)) (text : List ℕ) → held ≡ before → GainsSome before text held
+nothing-gained before held text same = subst (GainsSome before text) (sym same) (record { part = []; others = text; whole = refl; gained = Gains-nil before })
+
+pub opening-stops : (script left before : Option (List ℕ)) (told : List Event) (held : Option (List ℕ)) (s : Stop) → StopsOpening told before held s → IsEnded (status_of s) script left before told held
+opening-stops script left before told held stop.Memory (inl is, same) = record {
+  played = record { log = from nothing_kept; texts = []; tells = record { start = refl; told = sym is; played = tt }; asked = tt; lines = memory-before script left; leaves = tt };
+  written = nothing-gained before held (story_text told) same;
+}
+opening-stops script left before told held stop.Memory (inr is, same) = record {
+  played = record { log = from nothing_kept says Opened 1 0; texts = []; tells = record { start = refl; told = sym is; played = (tt, (refl, refl)) }; asked = tt; lines = memory-before script left; leaves = tt };
+  written = nothing-gained before held (story_text told) same;
+}
+opening-stops script left before told held stop.WriteFault h = record {
+  played = record { log = opened; texts = []; tells = subst (Tells opened) (sym h.0) opened-tells; asked = tt; lines = write-before script left; leaves = opened-complete };
+  written = subst (λ t. GainsSome before (story_text t) held) (sym h.0) h.1;
+}
+opening-stops script left before told held stop.ReadFault h = absurd h
+opening-stops script left before told held stop.ScriptTooLong h = absurd h
+
+-- a run of wrong words
+pub usage-played : (script left : Option (List ℕ)) → IsPlayedRun Usage script left []
+usage-played script left = record { log = from nothing_kept; texts = []; tells = record { start = refl; told = refl; played = tt }; asked = tt; lines = usage-before script left; leaves = refl }
+
+-- a run that was played, whatever its parts are called
+pub played-at : (script : Option (List ℕ)) (status now : Status) (left left_now : Option (List ℕ)) (story told : List Event) → now ≡ status → left_now ≡ left → told ≡ story → IsPlayedRun status script left story → IsPlayedRun now script left_now told
+played-at script status now left left_now story told a b c played =
+    subst (λ s. IsPlayedRun s script left_now told) (sym a) (subst (λ l. IsPlayedRun status script l told) (sym b) (subst (IsPlayedRun status script left) (sym c) played))
