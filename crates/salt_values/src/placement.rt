@@ -23,6 +23,7 @@ pub struct Shape {
 
 /// A caller's closure that says which partition a key's row stands in. That it may be called at each kind, each key and
 /// 1 to 8 parts, and then gives `place_of`, is a condition of each call that uses it.
+#[derive(Drop)]
 pub struct Placement<F: Fn(PlaceKind, &Key, u32) -> u32> {
     pub place: F,
 }
