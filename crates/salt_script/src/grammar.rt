@@ -18,7 +18,7 @@ use std::alloc::Global;
 /// The most columns of a table.
 const COLUMNS_MOST: usize = 16;
 
-/// A number of 64 bits, below 0 behind a minus.
+/// The number, negative behind a minus, where it is one of 64 bits.
 fn signed(minus: bool, number: u64) -> Option<i64>
     ensures { result ≡ signed minus number }
 {

@@ -1,7 +1,6 @@
 use Rattle.std.proofs.Common.{◌≡◌, ◌+◌, ◌-◌, ◌≤◌, ◌++◌, ◌∷◌, [], suc, length, refl, arith, length-append}
 use Rattle.std.proofs.lemmas.Result.{err_from_is_err_and}
 use Rattle.salt_script.specs.Reading.{column_at}
-use Rattle.salt_tokens.specs.Symbols.{row}
 use Rattle.salt_script.proofs.Listing.{more_goes_on, more_ends, more_fails, more_full}
 use Rattle.salt_script.proofs.cursor.Cursor.columns.Goals as goal
 

@@ -1,6 +1,5 @@
 use Rattle.std.proofs.Common.{◌≡◌, ◌-◌, ◌≤◌, length}
 use Rattle.salt_script.specs.Reading.{column_at, columns_at, more_at, with_front}
-use Rattle.salt_tokens.specs.Symbols.{row}
 use Rattle.salt_script.proofs.cursor.Cursor.columns.Given as goal
 
 abbrev pub invariant-loop-alloc : goal.invariant-loop-alloc

@@ -1,8 +1,6 @@
 use Rattle.std.proofs.Common.{◌<◌, length, refl, arith}
-use Rattle.std.proofs.lemmas.List.{length-map}
 use Rattle.std.proofs.lemmas.Result.{err_from_is_err_and}
 use Rattle.salt_script.specs.Reading.{value_at}
-use Rattle.salt_tokens.specs.Symbols.{row, symbol}
 use Rattle.salt_script.proofs.Listing.{IsListing-goes_on, IsListing-fails, more_ends}
 use Rattle.salt_script.proofs.cursor.Cursor.values.Goals as goal
 

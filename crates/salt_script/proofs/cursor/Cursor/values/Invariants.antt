@@ -1,6 +1,5 @@
 use Rattle.std.proofs.Common.{length}
 use Rattle.salt_script.specs.Reading.{value_at, values_at}
-use Rattle.salt_tokens.specs.Symbols.{row}
 use Rattle.salt_script.proofs.Listing.{IsListing}
 use Rattle.salt_script.proofs.cursor.Cursor.values.Given as goal
 
