@@ -10,6 +10,7 @@ use salt_tokens::{Keyword, Lexeme, Sign};
 use salt_values::Name;
 use sqlite_items::Items;
 use std::alloc::Global;
+use std::marker::Model;
 
 /// The most bytes of a name.
 const NAME_MOST: usize = 32;
@@ -17,17 +18,31 @@ const NAME_MOST: usize = 32;
 /// The largest session.
 const SESSION_MOST: u64 = 64;
 
-/// The tokens that are still to be read.
+/// The tokens that are still to be read. Contracts see the symbols that they stand for.
 #[derive(Drop)]
 pub struct Cursor<'a> {
-    pub rest: &'a [Lexeme<'a>],
+    rest: &'a [Lexeme<'a>],
+}
+
+impl<'a> Model for Cursor<'a> {
+    ghost use Rattle.salt_tokens.specs.Symbols.{Row, row};
+
+    ghost Value = { Row };
+
+    ghost view = { λ c. row c.rest.now };
 }
 
 impl<'a> Cursor<'a> {
+    pub fn new(tokens: &'a [Lexeme<'a>]) -> Cursor<'a>
+        ensures { result ≡ row tokens.now }
+    {
+        Cursor { rest: tokens }
+    }
+
     /// Takes this keyword, if it comes next.
     #[tactic(auto, unfolding(crate::specs::Reading::after))]
     pub fn skip_key(&mut self, wanted: Keyword) -> bool
-        ensures reads { after (key wanted) (row self.old.rest.now) ≡ (if result then Some (row self.new.rest.now) else None) }
+        ensures reads { after (key wanted) self.old ≡ (if result then Some self.new else None) }
         ensures stays { result ≡ false → self.new ≡ self.old }
     {
         match self.rest {
@@ -42,8 +57,8 @@ impl<'a> Cursor<'a> {
     /// Takes this sign, if it comes next.
     #[tactic(auto, unfolding(crate::specs::Reading::after))]
     pub fn skip_sign(&mut self, wanted: Sign) -> bool
-        ensures reads { after (sign wanted) (row self.old.rest.now) ≡ (if result then Some (row self.new.rest.now) else None) }
-        ensures shrinks { IsTrue result → length self.new.rest.now < length self.old.rest.now }
+        ensures reads { after (sign wanted) self.old ≡ (if result then Some self.new else None) }
+        ensures shrinks { IsTrue result → length self.new < length self.old }
         ensures stays { result ≡ false → self.new ≡ self.old }
     {
         match self.rest {
@@ -57,7 +72,7 @@ impl<'a> Cursor<'a> {
 
     /// Takes this keyword, which has to come next.
     pub fn take_key(&mut self, wanted: Keyword) -> Result<(), ReadErr>
-        ensures { Leaves result (row self.new.rest.now) (after (key wanted) (row self.old.rest.now)) }
+        ensures { Leaves result self.new (after (key wanted) self.old) }
     {
         if self.skip_key(wanted) {
             Ok(())
@@ -68,7 +83,7 @@ impl<'a> Cursor<'a> {
 
     /// Takes this sign, which has to come next.
     pub fn take_sign(&mut self, wanted: Sign) -> Result<(), ReadErr>
-        ensures { Leaves result (row self.new.rest.now) (after (sign wanted) (row self.old.rest.now)) }
+        ensures { Leaves result self.new (after (sign wanted) self.old) }
     {
         if self.skip_sign(wanted) {
             Ok(())
@@ -79,7 +94,7 @@ impl<'a> Cursor<'a> {
 
     /// Takes a name of at most 32 bytes.
     pub fn name(&mut self, alloc: Global) -> Result<Name, ReadErr>
-        ensures { Gives result (row self.new.rest.now) (name_at (row self.old.rest.now)) }
+        ensures { Gives result self.new (name_at self.old) }
     {
         match self.rest {
             [Lexeme::Name(name), rest @ ..] if name.len() <= NAME_MOST => {
@@ -92,8 +107,8 @@ impl<'a> Cursor<'a> {
 
     /// Takes a number, where 2^64 - 1 is every number from there on.
     pub fn int(&mut self) -> Result<u64, ReadErr>
-        ensures reads { Gives result (row self.new.rest.now) (int_at (row self.old.rest.now)) }
-        ensures shrinks { OnOk result (length self.new.rest.now < length self.old.rest.now) }
+        ensures reads { Gives result self.new (int_at self.old) }
+        ensures shrinks { OnOk result (length self.new < length self.old) }
     {
         let [Lexeme::Int(number), rest @ ..] = self.rest else {
             return Err(ReadErr::Syntax);
@@ -104,7 +119,7 @@ impl<'a> Cursor<'a> {
 
     /// Takes a session's number, 1 to 64.
     pub fn session(&mut self) -> Result<u8, ReadErr>
-        ensures { Gives result (row self.new.rest.now) (session_at (row self.old.rest.now)) }
+        ensures { Gives result self.new (session_at self.old) }
     {
         let number = self.int()?;
         if 1 <= number && number <= SESSION_MOST {
@@ -116,7 +131,7 @@ impl<'a> Cursor<'a> {
 
     /// Nothing may come next.
     pub fn end(&self) -> Result<(), ReadErr>
-        ensures { GivesAll result (end_at (row self.now.rest.now)) }
+        ensures { GivesAll result (end_at self.now) }
     {
         match self.rest {
             [] => Ok(()),

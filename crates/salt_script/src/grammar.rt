@@ -18,7 +18,7 @@ use std::alloc::Global;
 /// The most columns of a table.
 const COLUMNS_MOST: usize = 16;
 
-/// A number of 64 bits, below 0 behind a minus.
+/// The number, negative behind a minus, where it is one of 64 bits.
 fn signed(minus: bool, number: u64) -> Option<i64>
     ensures { result ≡ signed minus number }
 {
@@ -28,8 +28,8 @@ fn signed(minus: bool, number: u64) -> Option<i64>
 
 impl<'a> Cursor<'a> {
     fn literal(&mut self) -> Result<i64, ReadErr>
-        ensures reads { Gives result (row self.new.rest.now) (literal_at (row self.old.rest.now)) }
-        ensures shrinks { OnOk result (length self.new.rest.now < length self.old.rest.now) }
+        ensures reads { Gives result self.new (literal_at self.old) }
+        ensures shrinks { OnOk result (length self.new < length self.old) }
     {
         let minus = self.skip_sign(Sign::Minus);
         let number = self.int()?;
@@ -37,15 +37,15 @@ impl<'a> Cursor<'a> {
     }
 
     fn value(&mut self) -> Result<Expr, ReadErr>
-        ensures reads { Gives result (row self.new.rest.now) (value_at (row self.old.rest.now)) }
-        ensures shrinks { OnOk result (length self.new.rest.now < length self.old.rest.now) }
+        ensures reads { Gives result self.new (value_at self.old) }
+        ensures shrinks { OnOk result (length self.new < length self.old) }
     {
         Ok(Expr::Lit(Value::Int(self.literal()?)))
     }
 
     /// One value or more, with commas between them.
     fn values(&mut self, alloc: Global) -> Result<Exprs, ReadErr>
-        ensures { Gives result (row self.new.rest.now) (values_at (row self.old.rest.now)) }
+        ensures { Gives result self.new (values_at self.old) }
     {
         let mut values = Items::new(alloc);
         values.push(self.value()?)?;
@@ -56,7 +56,7 @@ impl<'a> Cursor<'a> {
     }
 
     fn column(&mut self, alloc: Global) -> Result<Field, ReadErr>
-        ensures { Gives result (row self.new.rest.now) (column_at (row self.old.rest.now)) }
+        ensures { Gives result self.new (column_at self.old) }
     {
         let name = self.name(alloc)?;
         self.take_key(Keyword::Int)?;
@@ -67,7 +67,7 @@ impl<'a> Cursor<'a> {
     }
 
     fn key_column(&mut self, alloc: Global) -> Result<Field, ReadErr>
-        ensures { Gives result (row self.new.rest.now) (key_column_at (row self.old.rest.now)) }
+        ensures { Gives result self.new (key_column_at self.old) }
     {
         let column = self.column(alloc)?;
         self.take_key(Keyword::Key)?;
@@ -76,7 +76,7 @@ impl<'a> Cursor<'a> {
 
     /// The key's column, and at most 15 further ones, with commas between them.
     fn columns(&mut self, alloc: Global) -> Result<Fields, ReadErr>
-        ensures { Gives result (row self.new.rest.now) (columns_at (row self.old.rest.now)) }
+        ensures { Gives result self.new (columns_at self.old) }
     {
         let mut columns = Items::new(alloc);
         columns.push(self.key_column(alloc)?)?;
@@ -91,7 +91,7 @@ impl<'a> Cursor<'a> {
 
     /// What stands behind `insert`.
     fn insert(&mut self, alloc: Global) -> Result<Statement, ReadErr>
-        ensures { Gives result (row self.new.rest.now) (insert_at (row self.old.rest.now)) }
+        ensures { Gives result self.new (insert_at self.old) }
     {
         self.take_key(Keyword::Into)?;
         let table = self.name(alloc)?;
@@ -104,7 +104,7 @@ impl<'a> Cursor<'a> {
 
     /// What stands behind `select`.
     fn select(&mut self, alloc: Global) -> Result<Statement, ReadErr>
-        ensures { Gives result (row self.new.rest.now) (select_at (row self.old.rest.now)) }
+        ensures { Gives result self.new (select_at self.old) }
     {
         self.take_sign(Sign::Star)?;
         self.take_key(Keyword::From)?;
@@ -123,7 +123,7 @@ impl<'a> Cursor<'a> {
     }
 
     fn statement(&mut self, alloc: Global) -> Result<Statement, ReadErr>
-        ensures { Gives result (row self.new.rest.now) (statement_at (row self.old.rest.now)) }
+        ensures { Gives result self.new (statement_at self.old) }
     {
         if self.skip_key(Keyword::Insert) {
             return self.insert(alloc);
@@ -134,7 +134,7 @@ impl<'a> Cursor<'a> {
 
     /// What stands behind `create`.
     fn table(&mut self, alloc: Global) -> Result<Line, ReadErr>
-        ensures { Gives result (row self.new.rest.now) (table_at (row self.old.rest.now)) }
+        ensures { Gives result self.new (table_at self.old) }
     {
         self.take_key(Keyword::Table)?;
         let name = self.name(alloc)?;
@@ -146,7 +146,7 @@ impl<'a> Cursor<'a> {
 
     /// What stands behind `@`.
     fn act(&mut self, alloc: Global) -> Result<Line, ReadErr>
-        ensures { Gives result (row self.new.rest.now) (act_at (row self.old.rest.now)) }
+        ensures { Gives result self.new (act_at self.old) }
     {
         let session = self.session()?;
         let statement = self.statement(alloc)?;
@@ -157,7 +157,7 @@ impl<'a> Cursor<'a> {
     }
 
     fn line(&mut self, alloc: Global) -> Result<Line, ReadErr>
-        ensures { Gives result (row self.new.rest.now) (begun_at (row self.old.rest.now)) }
+        ensures { Gives result self.new (begun_at self.old) }
     {
         if self.skip_key(Keyword::Create) {
             return self.table(alloc);
@@ -171,7 +171,7 @@ impl<'a> Cursor<'a> {
 pub fn whole_line<'a>(alloc: Global, tokens: &'a [Lexeme<'a>]) -> Result<Line, ReadErr>
     ensures { GivesAll result (line_at (row tokens.now)) }
 {
-    let mut cursor = Cursor { rest: tokens };
+    let mut cursor = Cursor::new(tokens);
     let line = cursor.line(alloc)?;
     cursor.end()?;
     Ok(line)

@@ -9,3 +9,6 @@ mod line;
 
 pub use laws::one_tree;
 pub use line::read_line;
+
+#[cfg(test)]
+mod tests;

@@ -50,6 +50,7 @@ fn read_tokens(alloc: Global, text: &[u8]) -> Result<Line, ReadErr>
     ensures found { IfOk result (λ line. HasLine text.now line) }
     ensures syntax { result ≡ Err Syntax → (line : Line) → ¬ (HasLine text.now line) }
 {
+    // For the proof alone: the bytes are one row of tokens, and no other.
     one_row();
     let tokens = lexemes(alloc, text)?;
     whole_line(alloc, tokens.as_slice())
