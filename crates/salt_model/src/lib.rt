@@ -12,3 +12,6 @@ pub use tables::Place;
 pub use trees::{
     Act, Bound, ColType, Expr, Exprs, Field, Fields, Line, Scan, Statement, TableDef, What,
 };
+
+#[cfg(test)]
+mod tests;

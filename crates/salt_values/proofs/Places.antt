@@ -6,12 +6,10 @@ use Rattle.salt_values.specs.declared.placement.PlaceKind.{PlaceKind}
 use Rattle.salt_values.specs.declared.placement.PlaceKind.TheVariants.{Bands, Remainder}
 use Rattle.salt_values.specs.declared.value.Value.{Value}
 use Rattle.salt_values.specs.declared.value.Value.TheVariants.{Int, Text}
-use Rattle.std.proofs.Common.{arith, refl, ◌*◌, ◌+◌, ◌-◌, ◌/◌, ◌<◌, ◌∷◌, ◌≡◌, ◌≤◌, ℕ, ℤ, pos, negsuc, List, [], true, false, Bool, length, ◌&&◌, eqb}
+use Rattle.std.proofs.Common.{arith, refl, ◌*◌, ◌-◌, ◌/◌, ◌<◌, ◌∷◌, ◌≡◌, ◌≤◌, ℕ, ℤ, pos, negsuc, List, [], true, false, Bool, ◌&&◌}
 use Rattle.std.proofs.Math.Nat.{mul-le-mul_left}
 use Rattle.std.proofs.lemmas.Bool.Decides.{nat_tests}
 use Rattle.std.specs.Int.{int_div_euclid}
-use Rattle.std.specs.List.{list_all}
-use Rattle.std.specs.Prelude.{nat_le, sum, ◌%◌}
 
 pub remainder-below : (z : ℤ) (n : ℕ) → 1 ≤ n → remainder z n < n
 remainder-below (pos a) n p = omega arith

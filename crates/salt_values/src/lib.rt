@@ -12,3 +12,6 @@ pub use id::{Id, Ids};
 pub use placement::{PlaceKind, Placement, Shape, place_of};
 pub use text::{Text, TextErr};
 pub use value::{Bytes, Key, Name, Names, Row, Rows, Value};
+
+#[cfg(test)]
+mod tests;
