@@ -1,22 +1,22 @@
 -- What comes next: one walk over `next`, which says of each event that may stand what stood before it.
 use Rattle.salt_model.specs.After.{answer_now}
 use Rattle.salt_model.specs.Log.{Asked, Fallen, Log, Opening, Phase, Serving, Tree, Unread, from, line_of, ◌asks◌, ◌says◌}
-use Rattle.salt_model.specs.Next.{after_did, asked_in, fresh_unit, line_event, next, next_number, phase, said_event}
+use Rattle.salt_model.specs.Next.{after_did, asked_in, line_event, next, next_number, phase, said_event}
 use Rattle.salt_model.specs.Refusals.{refusal}
 use Rattle.salt_model.specs.Words.{or_else}
 use Rattle.salt_model.specs.declared.events.Answer.{Answer}
-use Rattle.salt_model.specs.declared.events.Answer.TheVariants.{Count, Failed, Rows}
+use Rattle.salt_model.specs.declared.events.Answer.TheVariants.{Count, Rows}
 use Rattle.salt_model.specs.declared.events.End.{End}
-use Rattle.salt_model.specs.declared.events.End.TheVariants.{Committed, Failed}
+use Rattle.salt_model.specs.declared.events.End.TheVariants.{Committed}
 use Rattle.salt_model.specs.declared.events.Event.{Event}
-use Rattle.salt_model.specs.declared.events.Event.TheVariants.{Began, Defined, Did, Ended, Opened, Ready, Refused}
+use Rattle.salt_model.specs.declared.events.Event.TheVariants.{Began, Did, Ended, Opened, Refused}
 use Rattle.salt_model.specs.declared.events.Refusal.{Refusal}
 use Rattle.salt_model.specs.declared.trees.Act.TheVariants.{Do}
 use Rattle.salt_model.specs.declared.trees.Line.TheVariants.{Nothing, Session, Table}
 use Rattle.salt_model.specs.declared.trees.Statement.{Statement}
 use Rattle.salt_values.specs.declared.id.Id.{Id}
 use Rattle.std.proofs.Common.{subst, sym}
-use Rattle.std.specs.Prelude.{None, Option, Some, option_map, refl, ⊤, ℕ, ◌≡◌}
+use Rattle.std.specs.Prelude.{None, Option, Some, option_map, refl, ℕ, ◌≡◌}
 
 -- how a log ends: with a unit that has just begun, with one that has just done its statement, or with no open unit
 pub data Last : Type 0 where

@@ -5,20 +5,20 @@ use Rattle.salt_model.proofs.Ids.{is_same_id-refl, same_is}
 use Rattle.salt_model.specs.After.{answer_now, kept, run_of, stage}
 use Rattle.salt_model.specs.Honest.{Always, AnswersReplay, Each, FailsOnce, FitsEnd, IsHonest, cause_among}
 use Rattle.salt_model.specs.Kept.{schema_of}
-use Rattle.salt_model.specs.Log.{Asked, Fallen, Log, Never, Opening, Over, Phase, Running, Serving, Standing, answers_of, from, is_open, is_open_standing, line_of, standing, statements_done, ◌asks◌, ◌says◌}
+use Rattle.salt_model.specs.Log.{Fallen, Log, Opening, Over, Phase, Running, Serving, Standing, answers_of, from, is_open, is_open_standing, line_of, standing, statements_done, ◌asks◌, ◌says◌}
 use Rattle.salt_model.specs.Next.{asked_in, next, next_number, phase, said_event}
-use Rattle.salt_model.specs.Played.{IsComplete, May, MayOpen, Played}
-use Rattle.salt_model.specs.Statements.{Run, doing, has_failed, run_from, run_on, serial, with_done}
+use Rattle.salt_model.specs.Played.{IsComplete, MayOpen, Played}
+use Rattle.salt_model.specs.Statements.{Run, doing, has_failed, run_on, serial, with_done}
 use Rattle.salt_model.specs.Words.{is_same_id}
 use Rattle.salt_model.specs.declared.events.Answer.{Answer}
-use Rattle.salt_model.specs.declared.events.Answer.TheVariants.{Count, Failed, Rows}
+use Rattle.salt_model.specs.declared.events.Answer.TheVariants.{Count, Rows}
 use Rattle.salt_model.specs.declared.events.Event.{Event}
-use Rattle.salt_model.specs.declared.events.Event.TheVariants.{Began, Defined, Did, Ended, Opened, Ready, Refused}
+use Rattle.salt_model.specs.declared.events.Event.TheVariants.{Began, Did, Ended, Opened}
 use Rattle.salt_model.specs.declared.trees.Statement.{Statement}
 use Rattle.salt_model.specs.declared.trees.TableDef.{TableDef}
 use Rattle.salt_values.specs.declared.id.Id.{Id}
 use Rattle.std.proofs.Common.{ap, subst, sym, ◌∙◌}
-use Rattle.std.specs.Prelude.{Bool, IsTrue, List, None, Option, Some, [], cond, false, option_map, refl, true, ⊤, ℕ, ◌++◌, ◌∷◌, ◌≡◌}
+use Rattle.std.specs.Prelude.{Bool, List, None, Option, Some, [], cond, false, option_map, refl, true, ⊤, ℕ, ◌∷◌, ◌≡◌}
 
 -- whether the unit is the one that is open
 abbrev opened : Last → Id → Bool
@@ -48,8 +48,7 @@ did-replays : (log : Log) (u : Id) (st : Statement) (answer : Answer) → Replay
 did-replays log u st answer before is =
     let run : List Statement → Run = λ sts. serial (schema_of (kept log)) (kept log).tables ((stage log).vars u) sts in
     let done : statements_done u (log says Did u st answer) ≡ st ∷ [] = rw (is_same_id-refl u, before.1) refl in
-    let schema : List TableDef = schema_of (kept log) in
-    (
+    let schema : List TableDef = schema_of (kept log) in (
       rw (is_same_id-refl u, before.0) refl,
       ap (λ sts. (run sts).answers) done ∙ ap (λ r. r.answers) (run_on-one schema st (run []))
           ∙ ap (λ a. a ∷ []) (sym (is ∙ ap (λ sts. (doing schema (run sts) st).answer) before.1)),

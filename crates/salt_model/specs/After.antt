@@ -1,6 +1,6 @@
 -- What is kept after a log: the tables after the commits so far, in their order, and with them definitions and the decision number.
 use Rattle.salt_model.specs.Kept.{Definition, Kept, OfTable, schema_of, vars_of_kind}
-use Rattle.salt_model.specs.Log.{Asked, Log, Tree, Unread, from, line_of, statements_done, ◌asks◌, ◌says◌}
+use Rattle.salt_model.specs.Log.{Asked, Log, Tree, from, line_of, statements_done, ◌asks◌, ◌says◌}
 use Rattle.salt_model.specs.Statements.{Binding, Run, outcome_of, serial}
 use Rattle.salt_model.specs.Tables.{Tables}
 use Rattle.salt_model.specs.Words.{is_same_id}
@@ -11,7 +11,7 @@ use Rattle.salt_model.specs.declared.events.Event.TheVariants.{Began, Defined, E
 use Rattle.salt_model.specs.declared.trees.Line.TheVariants.{Table}
 use Rattle.salt_model.specs.declared.trees.Statement.{Statement}
 use Rattle.salt_values.specs.declared.id.Id.{Id}
-use Rattle.std.specs.Prelude.{List, [], if◌then◌else◌, ℕ, ◌++◌, ◌∷◌}
+use Rattle.std.specs.Prelude.{List, [], if◌then◌else◌, ◌++◌, ◌∷◌}
 
 abbrev pub defined_by : Asked → List Definition
 defined_by (Tree (Table d)) = OfTable d ∷ []

@@ -1,11 +1,11 @@
 -- The text of an event and of a story.
 use Rattle.salt_model.specs.Texts.{row_text, statement_text}
 use Rattle.salt_model.specs.declared.events.Answer.{Answer}
-use Rattle.salt_model.specs.declared.events.Answer.TheVariants.{Count, Failed, Rows}
+use Rattle.salt_model.specs.declared.events.Answer.TheVariants.{Count, Rows}
 use Rattle.salt_model.specs.declared.events.Cause.{Cause}
 use Rattle.salt_model.specs.declared.events.Cause.TheVariants.{Duplicate}
 use Rattle.salt_model.specs.declared.events.End.{End}
-use Rattle.salt_model.specs.declared.events.End.TheVariants.{Committed, Failed}
+use Rattle.salt_model.specs.declared.events.End.TheVariants.{Committed}
 use Rattle.salt_model.specs.declared.events.Event.{Event}
 use Rattle.salt_model.specs.declared.events.Event.TheVariants.{Began, Defined, Did, Ended, Opened, Ready, Refused}
 use Rattle.salt_model.specs.declared.events.Refusal.{Refusal}

@@ -3,10 +3,9 @@ use Rattle.salt_model.specs.After.{run_of}
 use Rattle.salt_model.specs.Log.{Log, answers_of, from, is_open, ◌asks◌, ◌says◌}
 use Rattle.salt_model.specs.Words.{or_else}
 use Rattle.salt_model.specs.declared.events.Answer.{Answer}
-use Rattle.salt_model.specs.declared.events.Answer.TheVariants.{Failed}
 use Rattle.salt_model.specs.declared.events.Cause.{Cause}
 use Rattle.salt_model.specs.declared.events.End.{End}
-use Rattle.salt_model.specs.declared.events.End.TheVariants.{Committed, Failed}
+use Rattle.salt_model.specs.declared.events.End.TheVariants.{Committed}
 use Rattle.salt_model.specs.declared.events.Event.{Event}
 use Rattle.salt_model.specs.declared.events.Event.TheVariants.{Did, Ended}
 use Rattle.salt_values.specs.declared.id.Id.{Id}

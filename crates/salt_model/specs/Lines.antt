@@ -52,14 +52,14 @@ pub data Columns : Row → List Field → Type 0 where
 
 pub data IsStatement : Row → Statement → Type 0 where
   insert : {n : List ℕ} {ts : Row} {es : List Expr} → IsShort n → Listed Value ts es →
-    IsStatement (key word.Insert ∷ key word.Into ∷ name n ∷ key word.Values ∷ sign mark.Open ∷ (ts ++ sign mark.Close ∷ [])) (Insert n es)
+      IsStatement (key word.Insert ∷ key word.Into ∷ name n ∷ key word.Values ∷ sign mark.Open ∷ (ts ++ sign mark.Close ∷ [])) (Insert n es)
   select : {n : List ℕ} {ts : Row} {e : Expr} → IsShort n → Value ts e →
-    IsStatement (key word.Select ∷ sign mark.Star ∷ key word.From ∷ name n ∷ key word.Where ∷ key word.Key ∷ sign mark.Equal ∷ ts) (Select All n (record { bound = Key e }))
+      IsStatement (key word.Select ∷ sign mark.Star ∷ key word.From ∷ name n ∷ key word.Where ∷ key word.Key ∷ sign mark.Equal ∷ ts) (Select All n (record { bound = Key e }))
 
 -- sessions are 1 to 64
 pub data IsLine : Row → Line → Type 0 where
   creates : {n : List ℕ} {ts : Row} {fields : List Field} → IsShort n → Columns ts fields →
-    IsLine (key word.Create ∷ key word.Table ∷ name n ∷ sign mark.Open ∷ (ts ++ sign mark.Close ∷ [])) (Table (record { name = n; columns = fields }))
+      IsLine (key word.Create ∷ key word.Table ∷ name n ∷ sign mark.Open ∷ (ts ++ sign mark.Close ∷ [])) (Table (record { name = n; columns = fields }))
   does : {s : ℕ} {ts : Row} {st : Statement} → 1 ≤ s → s ≤ 64 → IsStatement ts st → IsLine (sign mark.At ∷ int s ∷ ts) (Session s (Do st))
 
 abbrev pub begins_comment : List ℕ → Bool

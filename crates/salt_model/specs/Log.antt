@@ -11,7 +11,7 @@ use Rattle.salt_model.specs.declared.trees.Line.{Line}
 use Rattle.salt_model.specs.declared.trees.Line.TheVariants.{Nothing}
 use Rattle.salt_model.specs.declared.trees.Statement.{Statement}
 use Rattle.salt_values.specs.declared.id.Id.{Id}
-use Rattle.std.specs.Prelude.{Bool, List, None, Option, Some, [], false, if◌then◌else◌, true, ℕ, ◌++◌, ◌+◌, ◌∷◌}
+use Rattle.std.specs.Prelude.{Bool, List, None, Option, [], false, if◌then◌else◌, true, ℕ, ◌++◌, ◌+◌, ◌∷◌}
 
 -- a line, as its text was read: its tree, or why it has none
 pub data Asked : Type 0 where

@@ -1,6 +1,6 @@
 -- The next event of the segment in which a log ends. None: the segment is complete, or the run is down and is to be opened.
 use Rattle.salt_model.specs.After.{answer_now, kept}
-use Rattle.salt_model.specs.Log.{Asked, Fallen, Log, Opening, Phase, Serving, Tree, Unread, from, line_of, unit_count, ◌asks◌, ◌says◌}
+use Rattle.salt_model.specs.Log.{Asked, Fallen, Log, Opening, Phase, Serving, Tree, from, line_of, unit_count, ◌asks◌, ◌says◌}
 use Rattle.salt_model.specs.Refusals.{refusal}
 use Rattle.salt_model.specs.Texts.{table_text}
 use Rattle.salt_model.specs.Words.{or_else}
@@ -11,8 +11,7 @@ use Rattle.salt_model.specs.declared.events.Event.{Event}
 use Rattle.salt_model.specs.declared.events.Event.TheVariants.{Began, Defined, Did, Ended, Opened, Ready, Refused}
 use Rattle.salt_model.specs.declared.events.UnitKind.TheVariants.{Acid}
 use Rattle.salt_model.specs.declared.trees.Act.TheVariants.{Do}
-use Rattle.salt_model.specs.declared.trees.Line.{Line}
-use Rattle.salt_model.specs.declared.trees.Line.TheVariants.{Nothing, Session, Table}
+use Rattle.salt_model.specs.declared.trees.Line.TheVariants.{Session, Table}
 use Rattle.salt_model.specs.declared.trees.Statement.{Statement}
 use Rattle.salt_values.specs.declared.id.Id.{Id}
 use Rattle.std.specs.Prelude.{None, Option, Some, option_map, ℕ, ◌+◌}

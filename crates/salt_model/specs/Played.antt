@@ -1,6 +1,6 @@
 -- What it means that a log is played: each event may stand where it stands, and nothing is left out.
 use Rattle.salt_model.specs.After.{kept}
-use Rattle.salt_model.specs.Kept.{Kept, nothing_kept}
+use Rattle.salt_model.specs.Kept.{nothing_kept}
 use Rattle.salt_model.specs.Log.{Fallen, Log, Phase, Serving, from, start_of, story_of, ◌asks◌, ◌says◌}
 use Rattle.salt_model.specs.Next.{next, phase}
 use Rattle.salt_model.specs.declared.events.Event.{Event}

@@ -14,7 +14,7 @@ use Rattle.salt_model.specs.declared.trees.Statement.{Statement}
 use Rattle.salt_model.specs.declared.trees.Statement.TheVariants.{Insert, Select}
 use Rattle.salt_model.specs.declared.trees.TableDef.{TableDef}
 use Rattle.std.specs.List.{list_any}
-use Rattle.std.specs.Prelude.{Bool, List, None, Option, Some, [], false, is_none, is_some, length, nat_le, not, option_map, ℕ, ◌++◌, ◌==◌, ◌∷◌}
+use Rattle.std.specs.Prelude.{Bool, List, None, Option, Some, [], false, is_some, length, nat_le, not, option_map, ℕ, ◌++◌, ◌==◌, ◌∷◌}
 
 abbrev pub has_name : List ℕ → Field → Bool
 has_name n f = is_same_name n f.name

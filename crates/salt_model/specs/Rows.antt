@@ -8,9 +8,7 @@ use Rattle.salt_model.specs.declared.trees.Bound.TheVariants.{Key}
 use Rattle.salt_model.specs.declared.trees.ColType.{ColType}
 use Rattle.salt_model.specs.declared.trees.Expr.{Expr}
 use Rattle.salt_model.specs.declared.trees.Expr.TheVariants.{Lit}
-use Rattle.salt_model.specs.declared.trees.Field.{Field}
 use Rattle.salt_model.specs.declared.trees.Line.TheVariants.{Nothing, Session, Table}
-use Rattle.salt_model.specs.declared.trees.Statement.{Statement}
 use Rattle.salt_model.specs.declared.trees.Statement.TheVariants.{Insert, Select}
 use Rattle.salt_model.specs.declared.trees.TableDef.{TableDef}
 use Rattle.salt_model.specs.declared.trees.What.TheVariants.{All}

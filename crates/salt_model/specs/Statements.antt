@@ -16,7 +16,7 @@ use Rattle.salt_model.specs.declared.trees.What.{What}
 use Rattle.salt_model.specs.declared.trees.What.TheVariants.{All}
 use Rattle.salt_values.specs.declared.value.Value.{Value}
 use Rattle.salt_values.specs.declared.value.Value.TheVariants.{Int}
-use Rattle.std.specs.Prelude.{Bool, Err, List, None, Ok, Option, Result, Some, [], false, if◌then◌else◌, map, option_and_then, pos, true, ℕ, ◌++◌, ◌+◌, ◌∷◌}
+use Rattle.std.specs.Prelude.{Bool, Err, List, None, Ok, Option, Result, Some, [], false, if◌then◌else◌, map, pos, true, ℕ, ◌++◌, ◌+◌, ◌∷◌}
 
 -- the table of a name, with its number
 abbrev pub table_from : ℕ → List ℕ → List TableDef → Option (ℕ × TableDef)

@@ -6,7 +6,6 @@ use Rattle.salt_model.specs.declared.trees.ColType.TheVariants.{Int}
 use Rattle.salt_model.specs.declared.trees.Expr.{Expr}
 use Rattle.salt_model.specs.declared.trees.Expr.TheVariants.{Lit}
 use Rattle.salt_model.specs.declared.trees.Field.{Field}
-use Rattle.salt_model.specs.declared.trees.Scan.{Scan}
 use Rattle.salt_model.specs.declared.trees.Statement.{Statement}
 use Rattle.salt_model.specs.declared.trees.Statement.TheVariants.{Insert, Select}
 use Rattle.salt_model.specs.declared.trees.TableDef.{TableDef}

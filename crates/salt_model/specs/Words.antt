@@ -1,7 +1,7 @@
 -- Small words on options, results, lists and names.
 use Rattle.salt_values.specs.declared.id.Id.{Id}
 use Rattle.std.specs.Str.{bytes_eq}
-use Rattle.std.specs.Prelude.{Bool, Err, List, None, Ok, Option, Result, Some, [], false, true, ℕ, ⊤, ◌&&◌, ◌==◌, ◌∷◌}
+use Rattle.std.specs.Prelude.{Bool, Err, List, None, Ok, Option, Result, Some, false, true, ℕ, ◌&&◌, ◌==◌}
 
 -- the first of two answers that is one
 abbrev pub or_else : {A : Type 0} → Option A → Option A → Option A

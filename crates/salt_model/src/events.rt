@@ -71,7 +71,10 @@ impl Drop for Refusal {
 /// One thing that a run tells.
 pub enum Event {
     /// A unit begins.
-    Began { unit: Id, kind: UnitKind },
+    Began {
+        unit: Id,
+        kind: UnitKind,
+    },
     /// A unit's statement is done.
     Did {
         unit: Id,
@@ -79,13 +82,22 @@ pub enum Event {
         answer: Answer,
     },
     /// A unit ends.
-    Ended { unit: Id, end: End },
+    Ended {
+        unit: Id,
+        end: End,
+    },
     /// The database was opened, in a new boot; so many decisions stand.
-    Opened { boot: u64, decisions: u64 },
+    Opened {
+        boot: u64,
+        decisions: u64,
+    },
     /// The opening is done, and lines are served.
     Ready,
     /// A definition was made by the decision of this number; its canonical text.
-    Defined { number: u64, text: Bytes },
+    Defined {
+        number: u64,
+        text: Bytes,
+    },
     /// A line was refused.
     Refused(Refusal),
 }

@@ -49,8 +49,6 @@ impl Ord for Place {
     ghost matches_eq = { λ a b. refl };
 
     fn cmp(&self, other: &Place) -> Ordering {
-        self.table
-            .cmp(&other.table)
-            .then(self.key.cmp(&other.key))
+        self.table.cmp(&other.table).then(self.key.cmp(&other.key))
     }
 }

@@ -6,10 +6,22 @@ use std::test::Fail;
 #[test]
 fn places_stand_by_table_then_key(rt: HostRuntime) -> Result<(), Fail> {
     let places = [
-        Place { table: 0, key: Value::Int(9) },
-        Place { table: 0, key: Value::Text(Text::new(rt.alloc(), b"")?) },
-        Place { table: 1, key: Value::Int(-9) },
-        Place { table: 1, key: Value::Int(9) },
+        Place {
+            table: 0,
+            key: Value::Int(9),
+        },
+        Place {
+            table: 0,
+            key: Value::Text(Text::new(rt.alloc(), b"")?),
+        },
+        Place {
+            table: 1,
+            key: Value::Int(-9),
+        },
+        Place {
+            table: 1,
+            key: Value::Int(9),
+        },
     ];
     for (i, a) in places.iter().enumerate() {
         for (j, b) in places.iter().enumerate() {
@@ -36,7 +48,10 @@ fn trees_are_copied_whole(rt: HostRuntime) -> Result<(), Fail> {
     let copied = def.copy(rt.alloc())?;
     assert_eq!(rt; copied.name.as_slice(), b"t".as_slice());
     assert_eq!(rt; copied.columns.len(), 2);
-    assert_eq!(rt; copied.columns.as_slice()[1].name.as_slice(), b"v".as_slice());
+    assert_eq!(rt;
+        copied.columns.as_slice()[1].name.as_slice(),
+        b"v".as_slice()
+    );
     let mut values = Items::new(rt.alloc());
     values.push(Expr::Lit(Value::Int(-3)))?;
     let insert = Statement::Insert {
