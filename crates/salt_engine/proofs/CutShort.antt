@@ -1,8 +1,8 @@
 -- Stories that were cut short in a segment.
 use Rattle.salt_engine.specs.Engine.{IsCutShort}
 use Rattle.salt_model.specs.declared.events.Event.{Event}
-use Rattle.std.proofs.Common.{ap, append_assoc, sym, ◌∙◌}
-use Rattle.std.specs.Prelude.{Err, List, Ok, OnErr, Result, [], refl, take, ◌++◌, ◌∷◌, ◌≡◌}
+use Rattle.std.proofs.Common.{ap, append_assoc, ◌∙◌}
+use Rattle.std.specs.Prelude.{Err, List, Ok, OnErr, Result, [], ◌++◌, ◌∷◌, ◌≡◌}
 
 pub on_err : {A E : Type 0} (r : Result A E) {P : Type 0} → P → OnErr r P
 on_err (Ok x) p = tt

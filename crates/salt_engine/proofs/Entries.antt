@@ -1,18 +1,18 @@
 -- The entries of one key in tables: what a map gives at a place, and what it puts there.
 use Rattle.salt_engine.specs.Execute.{entries_at}
-use Rattle.salt_model.specs.Tables.{Entry, Mode, Tables, has_key, is_at_most, is_within, key_at, one_key, place, place_cmp, place_total, table_at}
+use Rattle.salt_model.specs.Tables.{Entry, Mode, Tables, has_key, is_within, one_key, place, place_cmp, place_total}
 use Rattle.salt_model.specs.declared.tables.Place.{Place}
 use Rattle.salt_values.specs.Value.{value_cmp, value_total}
 use Rattle.salt_values.specs.declared.value.Value.{Value}
-use Rattle.std.proofs.Common.{ap, subst, sym, ◌∙◌}
+use Rattle.std.proofs.Common.{ap, ◌∙◌}
 use Rattle.std.specs.BTreeMap.{insert_entry, is_at}
 use Rattle.std.specs.Cmp.{IsTotalOrder, tied_then, unsigned_ties}
 use Rattle.std.specs.FinMap.Entries.{below_all, by_order, is_sorted, put}
 use Rattle.std.specs.List.{filter}
 use Rattle.std.specs.Map.{lookup}
 use Rattle.std.specs.Option.{option_to_list}
-use Rattle.std.specs.Ordering.{eq_by_cmp, is_eq, is_gt, is_lt, match_ordering, nat_cmp, ordering_reverse}
-use Rattle.std.specs.Prelude.{Bool, List, None, Option, Some, [], cond, false, map, not, refl, true, ℕ, ◌&&◌, ◌==◌, ◌∷◌, ◌≡◌}
+use Rattle.std.specs.Ordering.{is_eq, is_gt, is_lt, match_ordering, nat_cmp, ordering_reverse}
+use Rattle.std.specs.Prelude.{Bool, List, Some, [], cond, false, map, not, refl, true, ℕ, ◌&&◌, ◌∷◌, ◌≡◌}
 use Rattle.std.specs.declared.cmp.Ordering.{Ordering}
 use Rattle.std.specs.declared.cmp.Ordering.TheVariants.{Equal, Greater, Less}
 use lib.Dec.{T}

@@ -1,9 +1,8 @@
 -- What the engine does with a statement is what the statement does.
 use Rattle.salt_engine.proofs.Entries.{rows-found}
-use Rattle.salt_engine.specs.Execute.{IsInserted, IsOutcome, IsSelected, changes_of, entries_at, value_in}
-use Rattle.salt_engine.specs.declared.execute.Outcome.{Outcome}
-use Rattle.salt_model.specs.Statements.{Done, done, first_key, inserted, outcome_of, reach_in, table_named, values_of}
-use Rattle.salt_model.specs.Tables.{Entry, Read, Tables, Write, key_of, one_key, place, place_cmp, rows_in}
+use Rattle.salt_engine.specs.Execute.{IsInserted, IsOutcome, IsSelected, entries_at, value_in}
+use Rattle.salt_model.specs.Statements.{done, first_key, inserted, outcome_of, table_named, values_of}
+use Rattle.salt_model.specs.Tables.{Entry, Read, Tables, Write, key_of, one_key, place, place_cmp}
 use Rattle.salt_model.specs.declared.events.Answer.TheVariants.{Count, Failed, Rows}
 use Rattle.salt_model.specs.declared.events.Cause.TheVariants.{Duplicate}
 use Rattle.salt_model.specs.declared.trees.Bound.TheVariants.{Key}

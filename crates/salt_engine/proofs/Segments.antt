@@ -1,35 +1,30 @@
 -- The segments of lines: what an engine appends is what comes next.
-use Rattle.salt_engine.specs.Engine.{HasRun, Serves, decisions_after, done_by, end_by, next_unit, rows_by, unit_events}
-use Rattle.salt_engine.specs.declared.engine.Engine.{Engine}
+use Rattle.salt_engine.specs.Engine.{decisions_after, end_by, rows_by}
 use Rattle.salt_model.proofs.Coming.{did-ends, end_after}
 use Rattle.salt_model.proofs.HonestLaw.{run_on-one}
 use Rattle.salt_model.proofs.Ids.{is_same_id-refl}
-use Rattle.salt_model.specs.After.{answer_now, kept, run_of, stage, stage_run, tables_after}
+use Rattle.salt_model.specs.After.{answer_now, kept, stage, stage_run, tables_after}
 use Rattle.salt_model.specs.Honest.{cause_in}
-use Rattle.salt_model.specs.Kept.{Kept, OfTable, schema_of, table_of_definition}
-use Rattle.salt_model.specs.Log.{Asked, Fallen, Log, Opening, Phase, Serving, Tree, Unread, from, lines_of, start_of, statements_done, story_of, unit_count, ◌asks◌, ◌says◌}
-use Rattle.salt_model.specs.Next.{follow, fresh_unit, next, next_number, phase, said_event}
-use Rattle.salt_model.specs.Played.{IsComplete, Played, Tells}
-use Rattle.salt_model.specs.Refusals.{refusal, refused_line}
-use Rattle.salt_model.specs.Statements.{Binding, Done, Run, outcome_of, run_from, run_on, serial, with_done}
-use Rattle.salt_model.specs.Tables.{Tables, with_changes}
-use Rattle.salt_model.specs.Texts.{table_text}
+use Rattle.salt_model.specs.Kept.{Kept, schema_of}
+use Rattle.salt_model.specs.Log.{Asked, Fallen, Log, Opening, Phase, Serving, Tree, lines_of, start_of, statements_done, story_of, ◌asks◌, ◌says◌}
+use Rattle.salt_model.specs.Next.{follow, fresh_unit, next, phase, said_event}
+use Rattle.salt_model.specs.Played.{IsComplete, Played}
+use Rattle.salt_model.specs.Refusals.{refusal}
+use Rattle.salt_model.specs.Statements.{Binding, Done, Run, outcome_of, run_from, serial}
+use Rattle.salt_model.specs.Tables.{with_changes}
 use Rattle.salt_model.specs.declared.events.Answer.{Answer}
-use Rattle.salt_model.specs.declared.events.Answer.TheVariants.{Count, Failed, Rows}
+use Rattle.salt_model.specs.declared.events.Answer.TheVariants.{Count, Rows}
 use Rattle.salt_model.specs.declared.events.Cause.{Cause}
 use Rattle.salt_model.specs.declared.events.Event.{Event}
 use Rattle.salt_model.specs.declared.events.Event.TheVariants.{Began, Defined, Did, Ended, Refused}
 use Rattle.salt_model.specs.declared.events.Refusal.{Refusal}
 use Rattle.salt_model.specs.declared.events.UnitKind.TheVariants.{Acid}
 use Rattle.salt_model.specs.declared.trees.Act.TheVariants.{Do}
-use Rattle.salt_model.specs.declared.trees.Line.{Line}
-use Rattle.salt_model.specs.declared.trees.Line.TheVariants.{Nothing, Session, Table}
+use Rattle.salt_model.specs.declared.trees.Line.TheVariants.{Session}
 use Rattle.salt_model.specs.declared.trees.Statement.{Statement}
-use Rattle.salt_model.specs.declared.trees.TableDef.{TableDef}
 use Rattle.salt_values.specs.declared.id.Id.{Id}
-use Rattle.std.proofs.Common.{ap, append-nil, append_assoc, subst, sym, ◌∙◌}
-use Rattle.std.proofs.lemmas.List.{map-append}
-use Rattle.std.specs.Prelude.{List, None, Option, Some, [], map, option_map, refl, take, suc, zero, ℕ, ◌++◌, ◌+◌, ◌∷◌, ◌≡◌}
+use Rattle.std.proofs.Common.{ap, append-nil, append_assoc, sym, ◌∙◌}
+use Rattle.std.specs.Prelude.{List, None, Option, Some, [], refl, take, suc, zero, ℕ, ◌++◌, ◌+◌, ◌∷◌, ◌≡◌}
 
 -- events said one after another
 abbrev pub says_all : Log → List Event → Log

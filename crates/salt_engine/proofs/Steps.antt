@@ -1,16 +1,14 @@
 -- A line's segment, told by an engine: each log of the engine goes on by it.
-use Rattle.salt_engine.proofs.Segments.{asked, boot-by, decisions-by, defined-last, done, ended, front-played, refused-complete, refused-played, rows-by, says_all, says_all-lines, says_all-start, says_all-story, schema-by, unit-complete, unit-played}
-use Rattle.salt_engine.specs.Engine.{Breaks, BreaksOff, Goes, GoesOn, HasRun, IsCutShort, IsLeft, IsServed, NumbersRise, Serves, decisions_after, defined_by, done_by, end_by, next_unit, rows_by, unit_events}
+use Rattle.salt_engine.proofs.Segments.{boot-by, decisions-by, defined-last, ended, front-played, refused-complete, refused-played, rows-by, says_all, says_all-lines, says_all-start, says_all-story, schema-by, unit-complete, unit-played}
+use Rattle.salt_engine.specs.Engine.{Breaks, BreaksOff, Goes, GoesOn, HasRun, IsCutShort, IsLeft, IsServed, Serves, decisions_after, defined_by, done_by, end_by, next_unit, rows_by, unit_events}
 use Rattle.salt_engine.specs.declared.engine.Engine.{Engine}
 use Rattle.salt_model.specs.After.{kept, tables_after}
 use Rattle.salt_model.specs.Honest.{cause_in}
 use Rattle.salt_model.specs.Kept.{OfTable, schema_of, table_of_definition}
-use Rattle.salt_model.specs.Log.{Asked, Log, Tree, Unread, lines_of, start_of, story_of, unit_count, ◌asks◌, ◌says◌}
-use Rattle.salt_model.specs.Next.{fresh_unit, phase, said_event}
-use Rattle.salt_model.specs.Played.{Played, Tells}
+use Rattle.salt_model.specs.Log.{Asked, Log, Tree, ◌asks◌, ◌says◌}
+use Rattle.salt_model.specs.Next.{fresh_unit, phase}
 use Rattle.salt_model.specs.Refusals.{refusal, refused_line}
 use Rattle.salt_model.specs.Statements.{Done, outcome_of}
-use Rattle.salt_model.specs.Tables.{Tables}
 use Rattle.salt_model.specs.Texts.{table_text}
 use Rattle.salt_model.specs.declared.events.Cause.{Cause}
 use Rattle.salt_model.specs.declared.events.Event.{Event}
@@ -22,10 +20,9 @@ use Rattle.salt_model.specs.declared.trees.Line.{Line}
 use Rattle.salt_model.specs.declared.trees.Line.TheVariants.{Nothing, Session, Table}
 use Rattle.salt_model.specs.declared.trees.Statement.{Statement}
 use Rattle.salt_model.specs.declared.trees.TableDef.{TableDef}
-use Rattle.salt_values.specs.declared.id.Id.{Id}
 use Rattle.std.proofs.Common.{ap, append-nil, arith, subst, sym, ◌∙◌}
 use Rattle.std.proofs.lemmas.List.{map-append}
-use Rattle.std.specs.Prelude.{List, None, OnOk, Option, Result, Some, [], map, refl, take, ℕ, ◌++◌, ◌+◌, ◌∷◌, ◌≡◌, ◌≤◌}
+use Rattle.std.specs.Prelude.{List, None, Option, Some, [], refl, take, ℕ, ◌++◌, ◌+◌, ◌∷◌, ◌≡◌, ◌≤◌}
 
 -- a line that a log refuses
 pub refused-goes : (old : Engine) (story told : List Event) (line : Asked) (r : Refusal) → ((log : Log) → Serves old story log → refusal log line ≡ Some r) → told ≡ story ++ Refused r ∷ [] → GoesOn old story line old told

@@ -1,8 +1,8 @@
 -- What the engine's outcome of a statement stands for.
 use Rattle.salt_engine.specs.declared.execute.Added.{Added}
 use Rattle.salt_engine.specs.declared.execute.Outcome.{Outcome}
-use Rattle.salt_model.specs.Statements.{Done, do_in, done}
-use Rattle.salt_model.specs.Tables.{Change, Entry, Mode, Read, Reach, Tables, Write, key_of, one_key, rows_in}
+use Rattle.salt_model.specs.Statements.{Done, done}
+use Rattle.salt_model.specs.Tables.{Change, Entry, Mode, Read, Tables, Write, key_of, one_key, rows_in}
 use Rattle.salt_model.specs.declared.events.Answer.TheVariants.{Rows}
 use Rattle.salt_model.specs.Statements.{inserted}
 use Rattle.salt_model.specs.declared.trees.Expr.{Expr}

@@ -14,7 +14,9 @@ ghost use Rattle.salt_engine.specs.Execute.{changes_of};
 
 use crate::execute::{Added, Outcome, PlacedRows, execute};
 use crate::schema::{Schema, refusal_of};
-use salt_model::{Act, Answer, Cause, End, Event, Line, Refusal, Statement, Story, TableDef, UnitKind};
+use salt_model::{
+    Act, Answer, Cause, End, Event, Line, Refusal, Statement, Story, TableDef, UnitKind,
+};
 use salt_print::table_text;
 use salt_values::{Id, TryCopy};
 use std::alloc::{AllocError, Global};
@@ -158,12 +160,7 @@ impl Engine {
     }
 
     /// Appends the events of a session's statement, a unit of its own.
-    fn run_unit(
-        &mut self,
-        session: u8,
-        st: &Statement,
-        story: &mut Story,
-    ) -> Result<(), AllocError>
+    fn run_unit(&mut self, session: u8, st: &Statement, story: &mut Story) -> Result<(), AllocError>
         requires units { self.old.units < 2 ^ 64 - 1 }
         requires decisions { self.old.decisions < 2 ^ 64 - 1 }
         ensures ok { OnOk result ((es : Tables) → self.old.rows.entries ≡ es.list → HasRun self.old story.old session st.now es self.new story.new) }

@@ -95,12 +95,7 @@ fn rows_of(alloc: Global, found: Option<&Row>) -> Result<Rows, AllocError>
     }
 }
 
-fn select(
-    alloc: Global,
-    rows: &PlacedRows,
-    table: u16,
-    key: &Key,
-) -> Result<Outcome, AllocError>
+fn select(alloc: Global, rows: &PlacedRows, table: u16, key: &Key) -> Result<Outcome, AllocError>
     ensures { (es : Tables) → rows.now.entries ≡ es.list → IfOk result (IsSelected table es key.now) }
 {
     let place = Place {
@@ -134,7 +129,9 @@ pub fn execute(
     match st {
         Statement::Insert { values, .. } => insert(alloc, rows, table, values.as_slice()),
         Statement::Select { scan, .. } => {
-            let Scan { bound: Bound::Key(key) } = scan;
+            let Scan {
+                bound: Bound::Key(key),
+            } = scan;
             select(alloc, rows, table, value_in(key))
         }
     }

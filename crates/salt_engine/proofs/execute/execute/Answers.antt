@@ -12,4 +12,4 @@ returns-in-Insert c = λ es same.
     let known : IsKnownAt schema c.in-Insert.table (Some c.in-Some.number) = subst (λ n. IsKnownAt schema n (Some c.in-Some.number)) names c.in-Some.ensures in
     let done = subst (λ vs. IfOk c.insert.result (IsInserted c.in-Some.number es (map value_in vs))) c.as_slice-in-Insert.ensures (c.insert.ensures es same) in
     subst (λ st. IfOk c.insert.result (λ o. IsOutcome o (outcome_of schema es [] st))) (sym c.in-Insert.is)
-        (subst (λ d. IfOk c.insert.result (λ o. IsOutcome o d)) (sym (outcome_of-insert schema es c.in-Insert.table c.in-Insert.values c.in-Some.number known.0 known.1)) done)
+    (subst (λ d. IfOk c.insert.result (λ o. IsOutcome o d)) (sym (outcome_of-insert schema es c.in-Insert.table c.in-Insert.values c.in-Some.number known.0 known.1)) done)

@@ -10,4 +10,4 @@ returns-in_ok-insert-in-Some-clause-rows c = λ es same.
     let place = c.in-Some.field-0.place in
     let row = c.in-Some.field-0.row in
     subst (λ a. c.insert.new.self.entries ≡ (with_changes (changes_of a) es).list) (sym c.in-Some.is)
-        (c.in_ok-insert-in-Some.ensures.entries ∙ ap (λ l. insert_entry place_cmp l place row) same ∙ insert_entry-put place_cmp place_total place row es.list)
+    (c.in_ok-insert-in-Some.ensures.entries ∙ ap (λ l. insert_entry place_cmp l place row) same ∙ insert_entry-put place_cmp place_total place row es.list)

@@ -3,7 +3,7 @@ use Rattle.salt_engine.proofs.Steps.{asked-breaks, refused-goes, refused-here, s
 use Rattle.salt_engine.proofs.engine.Engine.step.Goals as goal
 use Rattle.salt_model.specs.Log.{Tree}
 use Rattle.salt_model.specs.Refusals.{refused_line}
-use Rattle.std.proofs.Common.{Some, ap, refl, sym, ◌∙◌, ◌≡◌}
+use Rattle.std.proofs.Common.{ap, refl, sym, ◌∙◌}
 use Rattle.std.proofs.lemmas.Result.{on_err_weaker, on_ok_weaker}
 
 pub returns-in_err-refusal-clause-broken_off : goal.returns-in_err-refusal-clause-broken_off
