@@ -7,10 +7,9 @@ ghost use Rattle.salt_values.specs.Placement.{IsParts, place_of};
 use salt_io::{NoDisks, StdSink, StdSource};
 use salt_run::{Status, run};
 use salt_values::{Key, PlaceKind, Placement, place_of};
-use std::env;
 use std::process::ExitCode;
 use std::rt::Env;
-use std::io;
+use std::{env, io};
 
 /// The words behind the program's name.
 fn words(rt: &(impl Env + AllocGlobal)) -> io::Result<Vec<String>> {
@@ -32,7 +31,15 @@ fn main(rt: HostRuntime) -> ExitCode {
         Ok(words) => {
             let mut source = StdSource::new(rt.reader());
             let mut sink = StdSink::new(io::writer(&rt));
-            run(rt.alloc(), words.as_slice(), &mut source, &mut sink, &mut NoDisks, &place).status
+            run(
+                rt.alloc(),
+                words.as_slice(),
+                &mut source,
+                &mut sink,
+                &mut NoDisks,
+                &place,
+            )
+            .status
         }
         Err(_) => Status::Memory,
     };

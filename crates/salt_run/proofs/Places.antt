@@ -108,10 +108,10 @@ fault-place (Some script) taken before left texts at cut = (at.given ++ cut.got,
 
     by : ((script_of at.given).rest ≡ []) ⊎ IsAtEnd before → (texts ≡ (script_of (at.given ++ cut.got)).ended) ⊎ (IsAtEnd left × (texts ≡ lines_of script))
     by (inl start) = inl (
-      at.lines ∙ rest-nil (script_of at.given).ended (script_of at.given).rest start
-      ∙ sym (append-nil (script_of at.given).ended) ∙ ap (λ ls. (script_of at.given).ended ++ ls) (sym cut.no_line)
-      ∙ sym (ap (λ s. s.ended) (script_of-append at.given cut.got start))
-    )
+        at.lines ∙ rest-nil (script_of at.given).ended (script_of at.given).rest start
+        ∙ sym (append-nil (script_of at.given).ended) ∙ ap (λ ls. (script_of at.given).ended ++ ls) (sym cut.no_line)
+        ∙ sym (ap (λ s. s.ended) (script_of-append at.given cut.got start))
+        )
     by (inr end) =
         let b = behind script at.given before at.whole in
         let n = nothing cut.got before left b.0 b.1 end cut.given in
@@ -140,8 +140,8 @@ long-place (Some script) taken before left texts at cut within = by at.at_start
     by : ((script_of at.given).rest ≡ []) ⊎ IsAtEnd before → (texts ≡ (script_of (take longest_script script)).ended) × (longest_script < length script)
     by (inl start) = (
       at.lines ∙ rest-nil (script_of at.given).ended (script_of at.given).rest start
-      ∙ sym (append-nil (script_of at.given).ended) ∙ ap (λ ls. (script_of at.given).ended ++ ls) (sym cut_here.1)
-      ∙ sym (ap (λ s. s.ended) (script_of-append at.given (take (longest_script - taken) b.0) start)) ∙ ap (λ l. (script_of l).ended) (sym front),
+          ∙ sym (append-nil (script_of at.given).ended) ∙ ap (λ ls. (script_of at.given).ended ++ ls) (sym cut_here.1)
+          ∙ sym (ap (λ s. s.ended) (script_of-append at.given (take (longest_script - taken) b.0) start)) ∙ ap (λ l. (script_of l).ended) (sym front),
       long,
     )
     by (inr end) = let empty : b.0 ≡ [] = subst IsAtEnd b.1 end in absurd (omega (arith, ap length empty, cut_here.0))

@@ -8,3 +8,6 @@ mod words;
 
 pub use command::run;
 pub use status::{Ended, Status};
+
+#[cfg(test)]
+mod tests;

@@ -8,7 +8,7 @@ pub returns-in_err-open-clause-stops : goal.returns-in_err-open-clause-stops
 returns-in_err-open-clause-stops g c =
     let e = c.in_err-open.field-0.0 in
     if_err_gives c.from_residual.result e _ c.from_residual.ensures.1
-        (opening-stops (g.S.Source.left c.args.source.now) (g.S.Source.left c.args.source.now) (g.K.Sink.held c.args.sink.now) c.open.new.story (g.K.Sink.held c.open.new.sink) e c.in_err-open.ensures.stops)
+    (opening-stops (g.S.Source.left c.args.source.now) (g.S.Source.left c.args.source.now) (g.K.Sink.held c.args.sink.now) c.open.new.story (g.K.Sink.held c.open.new.sink) e c.in_err-open.ensures.stops)
 
 pub lines-init : goal.lines-init
 lines-init g c = record {
@@ -21,14 +21,14 @@ pub returns-in_err-serve_line-clause-stops : goal.returns-in_err-serve_line-clau
 returns-in_err-serve_line-clause-stops g c =
     let e = c.in_err-serve_line.field-0.0 in
     if_err_gives c.from_residual-in_err-serve_line.result e _ c.from_residual-in_err-serve_line.ensures.1
-        (c.in_err-serve_line.ensures.stops (g.S.Source.left c.args.source.now) (g.K.Sink.held c.args.sink.now) c.lines.invariant.serving)
+    (c.in_err-serve_line.ensures.stops (g.S.Source.left c.args.source.now) (g.K.Sink.held c.args.sink.now) c.lines.invariant.serving)
 
 pub returns-clause-done : goal.returns-clause-done
 returns-clause-done g c =
     (subst (λ more. IsAfterLine more (g.S.Source.left c.args.source.now) (g.K.Sink.held c.args.sink.now) c.serve_line.new.engine c.serve_line.new.lines (g.S.Source.left c.serve_line.new.source) c.serve_line.new.story (g.K.Sink.held c.serve_line.new.sink))
-        c.if-branch.false (c.in_ok-serve_line.ensures.goes (g.S.Source.left c.args.source.now) (g.K.Sink.held c.args.sink.now) c.lines.invariant.serving)).0
+    c.if-branch.false (c.in_ok-serve_line.ensures.goes (g.S.Source.left c.args.source.now) (g.K.Sink.held c.args.sink.now) c.lines.invariant.serving)).0
 
 pub returns-clause-end : goal.returns-clause-end
 returns-clause-end g c =
     (subst (λ more. IsAfterLine more (g.S.Source.left c.args.source.now) (g.K.Sink.held c.args.sink.now) c.serve_line.new.engine c.serve_line.new.lines (g.S.Source.left c.serve_line.new.source) c.serve_line.new.story (g.K.Sink.held c.serve_line.new.sink))
-        c.if-branch.false (c.in_ok-serve_line.ensures.goes (g.S.Source.left c.args.source.now) (g.K.Sink.held c.args.sink.now) c.lines.invariant.serving)).1
+    c.if-branch.false (c.in_ok-serve_line.ensures.goes (g.S.Source.left c.args.source.now) (g.K.Sink.held c.args.sink.now) c.lines.invariant.serving)).1

@@ -9,4 +9,4 @@ pub returns-in-len1 : goal.returns-in-len1
 returns-in-len1 c =
     let words = one_word c.args.words.now c.word-item.result c.in-len1.len_at_least c.in-len1.len_below c.word-item.is in
     run_word (string_bytes {Z = Global} c.word-item.result) (map (string_bytes {Z = Global}) c.args.words.now) c.eq.result (ap (map (string_bytes {Z = Global})) words)
-        (c.eq.ensures ∙ ap (λ word. bytes_eq word c.as_slice.result.now) c.as_bytes.ensures.value ∙ ap (bytes_eq (string_bytes {Z = Global} c.word-item.result)) c.as_slice.ensures)
+    (c.eq.ensures ∙ ap (λ word. bytes_eq word c.as_slice.result.now) c.as_bytes.ensures.value ∙ ap (bytes_eq (string_bytes {Z = Global} c.word-item.result)) c.as_slice.ensures)

@@ -1,0 +1,427 @@
+ghost use Rattle.std.specs.Prelude.{◌≡◌};
+ghost use Rattle.salt_values.specs.Placement.{IsParts, place_of};
+
+use super::*;
+use salt_io::{MemSink, MemSource, NoDisks};
+use salt_values::{Key, PlaceKind, Placement, place_of};
+use std::alloc::{AllocError, Global};
+use std::process::Abort;
+use std::test::Fail;
+
+const OPENING: &[u8] = b"opened 1 0\nready\n";
+
+const SYNTAX: &[u8] = b"refused 3 syntax\n";
+
+const ROOM: usize = 16_384;
+
+// The lines of the first row, and what each tells.
+const FIRST_ROW: [(&[u8], &[u8]); 4] = [
+    (
+        b"create table t (id int key, v int)\n",
+        b"defined 1 create table t (id int key, v int)\n",
+    ),
+    (
+        b"@1 insert into t values (5, -3)\n",
+        b"u1.1 began @1\nu1.1 did insert into t values (5, -3) -> count 1\nu1.1 committed 2\n",
+    ),
+    (
+        b"@1 select * from t where key = 5\n",
+        b"u1.2 began @1\nu1.2 did select * from t where key = 5 -> rows (5, -3)\nu1.2 committed 3\n",
+    ),
+    (
+        b"@1 insert into t values (5, 0)\n",
+        b"u1.3 began @1\nu1.3 did insert into t values (5, 0) -> failed duplicate\nu1.3 failed duplicate\n",
+    ),
+];
+
+fn first_row(alloc: Global) -> Result<Vec<u8>, AllocError> {
+    let mut script = Vec::new(alloc);
+    for (line, _) in FIRST_ROW {
+        script.extend_from_slice(line)?;
+    }
+    Ok(script)
+}
+
+// What the lines tell that end within so many bytes of the first row.
+fn ended_text(alloc: Global, count: usize) -> Result<Vec<u8>, AllocError> {
+    let mut text = Vec::from_slice(alloc, OPENING)?;
+    let mut left = count;
+    for (line, told) in FIRST_ROW {
+        if left < line.len() {
+            return Ok(text);
+        }
+        text.extend_from_slice(told)?;
+        left -= line.len();
+    }
+    Ok(text)
+}
+
+// What a script tells of so many bytes of the first row. A line is whole without its LF too; of less than that it is no
+// line of the grammar.
+fn front_text(alloc: Global, count: usize) -> Result<Vec<u8>, AllocError> {
+    let mut text = Vec::from_slice(alloc, OPENING)?;
+    let mut left = count;
+    for (line, told) in FIRST_ROW {
+        if left == 0 {
+            return Ok(text);
+        }
+        if left.saturating_add(1) < line.len() {
+            text.extend_from_slice(SYNTAX)?;
+            return Ok(text);
+        }
+        text.extend_from_slice(told)?;
+        left = left.saturating_sub(line.len());
+    }
+    Ok(text)
+}
+
+fn words_of(alloc: Global, words: &[&str]) -> Result<Vec<String>, AllocError> {
+    let mut list = Vec::new(alloc);
+    for word in words {
+        list.push(String::from_str(alloc, word)?)?;
+    }
+    Ok(list)
+}
+
+fn status_of(
+    alloc: Global,
+    words: &[&str],
+    source: &mut MemSource,
+    sink: &mut MemSink,
+) -> Result<Status, AllocError> {
+    let words = words_of(alloc, words)?;
+    let place = Placement::new(
+        |kind: PlaceKind, key: &Key, parts: u32| -> u32
+            requires { IsParts parts }
+            ensures { result ≡ place_of kind key.now parts }
+        { place_of(kind, key, parts) },
+    );
+    Ok(run(alloc, words.as_slice(), source, sink, &mut NoDisks, &place).status)
+}
+
+// The script is told as the opening and this text.
+fn tells(rt: &impl Abort, alloc: Global, script: &[u8], told: &[u8]) -> Result<(), Fail> {
+    let mut source = MemSource::new(alloc, script)?;
+    let mut sink = MemSink::new(alloc, ROOM)?;
+    assert_eq!(rt;
+        status_of(alloc, &["run"], &mut source, &mut sink)?,
+        Status::Done
+    );
+    let mut text = Vec::from_slice(alloc, OPENING)?;
+    text.extend_from_slice(told)?;
+    assert_eq!(rt; sink.bytes(), text.as_slice());
+    Ok(())
+}
+
+// A run of the script, in pieces of at most so many bytes, and with a read that fails.
+fn reads(
+    rt: &impl Abort,
+    alloc: Global,
+    script: &[u8],
+    most: usize,
+    failing: u64,
+) -> Result<(Status, Vec<u8>), Fail> {
+    let mut source = MemSource::new(alloc, script)?;
+    assert!(rt; 0 < most);
+    source.give_at_most(most);
+    source.fail_call(failing)?;
+    let mut sink = MemSink::new(alloc, ROOM)?;
+    let status = status_of(alloc, &["run"], &mut source, &mut sink)?;
+    Ok((status, Vec::from_slice(alloc, sink.bytes())?))
+}
+
+// Each byte of the first row is a read of its own; the script's end is one more.
+#[test]
+fn the_first_row_and_its_reads(rt: HostRuntime) -> Result<(), Fail> {
+    let alloc = rt.alloc();
+    let script = first_row(alloc)?;
+    for (count, _) in script.iter().enumerate() {
+        let front = script.get(..count).unwrap_or_default();
+        let (status, text) = reads(&rt, alloc, front, 4096, 0)?;
+        assert_eq!(rt; status, Status::Done);
+        assert_eq!(rt; text, front_text(alloc, count)?);
+    }
+    for most in [1, 7, 4096] {
+        let (status, text) = reads(&rt, alloc, &script, most, 0)?;
+        assert_eq!(rt; status, Status::Done);
+        assert_eq!(rt; text, ended_text(alloc, script.len())?);
+    }
+    Ok(())
+}
+
+#[test]
+fn a_read_that_fails(rt: HostRuntime) -> Result<(), Fail> {
+    let alloc = rt.alloc();
+    let script = first_row(alloc)?;
+    for count in 0..=script.len() {
+        let (status, text) = reads(&rt, alloc, &script, 1, (count as u64).saturating_add(1))?;
+        assert_eq!(rt; status, Status::ReadFault);
+        assert_eq!(rt; text, ended_text(alloc, count)?);
+    }
+    let whole = ended_text(alloc, script.len())?;
+    for (most, failing, want, text) in [
+        (1, 133, Status::Done, whole.as_slice()),
+        (4096, 1, Status::ReadFault, OPENING),
+        (4096, 2, Status::ReadFault, whole.as_slice()),
+        (4096, 3, Status::Done, whole.as_slice()),
+    ] {
+        let (status, told) = reads(&rt, alloc, &script, most, failing)?;
+        assert_eq!(rt; status, want);
+        assert_eq!(rt; told.as_slice(), text);
+    }
+    Ok(())
+}
+
+// How the first row ends where this write fails, and what is written.
+fn writes(alloc: Global, failing: u64) -> Result<(Status, Vec<u8>), AllocError> {
+    let mut source = MemSource::new(alloc, &first_row(alloc)?)?;
+    let mut sink = MemSink::new(alloc, ROOM)?;
+    sink.fail_call(failing)?;
+    let status = status_of(alloc, &["run"], &mut source, &mut sink)?;
+    Ok((status, Vec::from_slice(alloc, sink.bytes())?))
+}
+
+#[test]
+fn a_write_that_fails(rt: HostRuntime) -> Result<(), Fail> {
+    let alloc = rt.alloc();
+    let whole = ended_text(alloc, first_row(alloc)?.len())?;
+    let mut written = 0;
+    for failing in 1..200 {
+        let (status, text) = writes(alloc, failing)?;
+        let is_whole = text.len() == whole.len();
+        assert_eq!(rt;
+            status,
+            if is_whole {
+                Status::Done
+            } else {
+                Status::WriteFault
+            }
+        );
+        assert!(rt; whole.starts_with(&text));
+        assert!(rt; written <= text.len());
+        assert_eq!(rt; text.is_empty(), failing == 1);
+        written = text.len();
+    }
+    assert_eq!(rt; written, whole.len());
+    Ok(())
+}
+
+const TABLE: &[u8] = b"create table t (id int key)\n";
+
+const DEFINED: &[u8] = b"defined 1 create table t (id int key)\n";
+
+// Lines behind a table of one column, and what they tell.
+const LINES: [(&[u8], &[u8]); 26] = [
+    (b"", b""),
+    (b"\n  \n\t\n-- a comment\n--\x00\xff\n\n", b""),
+    (
+        b"create table t (a int key, b int, b int)",
+        b"refused 6 exists t\n",
+    ),
+    (b"create table t (a int key", SYNTAX),
+    (
+        b"create table u (a int key, b int, c int, b int, a int)",
+        b"refused 6 exists b\n",
+    ),
+    (
+        b"create table T (a int key)\r\ncreate table u (a int key, A int)",
+        b"defined 2 create table T (a int key)\ndefined 3 create table u (a int key, A int)\n",
+    ),
+    (
+        b"@1 insert into T values (1, 2)\n@1 insert into t values (1)",
+        b"refused 5 unknown T\nu1.1 began @1\nu1.1 did insert into t values (1) -> count 1\nu1.1 committed 2\n",
+    ),
+    (
+        b"@1 select * from tt where key = 1",
+        b"refused 5 unknown tt\n",
+    ),
+    (b"@1 insert into t values (1, 2)", b"refused 7 type\n"),
+    (b"@1 insert into u values (1", SYNTAX),
+    (
+        b"@64 SELECT * From t\tWHERE KEY=007",
+        b"u1.1 began @64\nu1.1 did select * from t where key = 7 -> rows\nu1.1 committed 2\n",
+    ),
+    (b"@0 select * from t where key = 1", SYNTAX),
+    (b"@65 select * from t where key = 1", SYNTAX),
+    (b"@257 select * from t where key = 1", SYNTAX),
+    (
+        b"@18446744073709551617 select * from t where key = 1",
+        SYNTAX,
+    ),
+    (
+        b"@1 insert into t values (9223372036854775807)",
+        b"u1.1 began @1\nu1.1 did insert into t values (9223372036854775807) -> count 1\nu1.1 committed 2\n",
+    ),
+    (
+        b"@1 insert into t values (-9223372036854775808)",
+        b"u1.1 began @1\nu1.1 did insert into t values (-9223372036854775808) -> count 1\nu1.1 committed 2\n",
+    ),
+    (
+        b"@1 insert into t values (-0)",
+        b"u1.1 began @1\nu1.1 did insert into t values (0) -> count 1\nu1.1 committed 2\n",
+    ),
+    (b"@1 insert into t values (9223372036854775808)", SYNTAX),
+    (b"@1 insert into t values (-9223372036854775809)", SYNTAX),
+    (b"@1 insert into t values (18446744073709551617)", SYNTAX),
+    (b"@1 insert into t values (--1)", SYNTAX),
+    (b"@1 select * from t where id = 1", SYNTAX),
+    (
+        b"\x00\n\x7f\n\x80\n\xff\n",
+        b"refused 3 syntax\nrefused 3 syntax\nrefused 3 syntax\nrefused 3 syntax\n",
+    ),
+    (b"create table key (id int key)", SYNTAX),
+    (b"@1 select * from t where key = 1 2", SYNTAX),
+];
+
+#[test]
+fn lines_and_what_they_tell(rt: HostRuntime) -> Result<(), Fail> {
+    let alloc = rt.alloc();
+    for (lines, told) in LINES {
+        let mut script = Vec::from_slice(alloc, TABLE)?;
+        script.extend_from_slice(lines)?;
+        let mut text = Vec::from_slice(alloc, DEFINED)?;
+        text.extend_from_slice(told)?;
+        tells(&rt, alloc, &script, &text)?;
+    }
+    Ok(())
+}
+
+// A script of a piece, so many times, between two others.
+fn repeated(
+    alloc: Global,
+    before: &[u8],
+    times: usize,
+    piece: &[u8],
+    behind: &[u8],
+) -> Result<Vec<u8>, AllocError> {
+    let mut script = Vec::from_slice(alloc, before)?;
+    for _ in 0..times {
+        script.extend_from_slice(piece)?;
+    }
+    script.extend_from_slice(behind)?;
+    Ok(script)
+}
+
+#[test]
+fn long_scripts(rt: HostRuntime) -> Result<(), Fail> {
+    let alloc = rt.alloc();
+    let cases: [(&[u8], usize, &[u8], &[u8], &[u8]); 8] = [
+        (b"", 100_000, b"\n", b"", b""),
+        (b"--", 65_534, b"x", b"\n", b""),
+        (b"--", 65_535, b"x", b"\n\n", SYNTAX),
+        (b"create table t (id int key", 65_509, b" ", b")\n", DEFINED),
+        (b"create table t (id int key", 65_510, b" ", b")\n", SYNTAX),
+        (
+            b"create table t (id int key",
+            1_000,
+            b"\\\n",
+            b")\n",
+            DEFINED,
+        ),
+        (b"create table t ", 128, b"(", b"\n", SYNTAX),
+        (b"create table t ", 60_000, b"(", b"\n", SYNTAX),
+    ];
+    for (before, times, piece, behind, told) in cases {
+        tells(
+            &rt,
+            alloc,
+            &repeated(alloc, before, times, piece, behind)?,
+            told,
+        )?;
+    }
+    Ok(())
+}
+
+#[test]
+fn the_most_tables(rt: HostRuntime) -> Result<(), Fail> {
+    let alloc = rt.alloc();
+    let mut script = Vec::new(alloc);
+    let mut told = Vec::new(alloc);
+    for number in 1..65 {
+        let table = format!(in alloc; "create table t{number} (id int key)\n")?;
+        script.extend_from_slice(table.as_bytes())?;
+        told.extend_from_slice(format!(in alloc; "defined {number} {table}")?.as_bytes())?;
+    }
+    script.extend_from_slice(b"create table t65 (id int key)\ncreate table t1 (id int key)\n")?;
+    told.extend_from_slice(SYNTAX)?;
+    told.extend_from_slice(SYNTAX)?;
+    tells(&rt, alloc, &script, &told)
+}
+
+// A table, and behind it lines that do nothing, of so many bytes in all.
+#[test]
+fn the_most_bytes(rt: HostRuntime) -> Result<(), Fail> {
+    let alloc = rt.alloc();
+    let mut text = Vec::from_slice(alloc, OPENING)?;
+    text.extend_from_slice(DEFINED)?;
+    for (empty_lines, want) in [
+        (16_777_188, Status::Done),
+        (16_777_189, Status::ScriptTooLong),
+    ] {
+        let script = repeated(alloc, TABLE, empty_lines, b"\n", b"")?;
+        let (status, told) = reads(&rt, alloc, &script, 4096, 0)?;
+        assert_eq!(rt; status, want);
+        assert_eq!(rt; told, text);
+    }
+    Ok(())
+}
+
+#[test]
+fn wrong_words(rt: HostRuntime) -> Result<(), Fail> {
+    let alloc = rt.alloc();
+    let mut source = MemSource::new(alloc, &first_row(alloc)?)?;
+    let mut sink = MemSink::new(alloc, ROOM)?;
+    let cases: [&[&str]; 7] = [
+        &[],
+        &["run", "run"],
+        &["run", "--parts", "2"],
+        &["Run"],
+        &[""],
+        &["run "],
+        &["load", "1"],
+    ];
+    for words in cases {
+        assert_eq!(rt;
+            status_of(alloc, words, &mut source, &mut sink)?,
+            Status::Usage
+        );
+        assert!(rt; sink.bytes().is_empty());
+    }
+    assert_eq!(rt;
+        status_of(alloc, &["run"], &mut source, &mut sink)?,
+        Status::Done
+    );
+    assert_eq!(rt; sink.bytes(), ended_text(alloc, 132)?.as_slice());
+    Ok(())
+}
+
+#[test]
+fn statuses(rt: HostRuntime) {
+    for (status, number, message) in [
+        (Status::Done, 0, None),
+        (Status::Memory, 1, Some("salt: no memory")),
+        (
+            Status::Usage,
+            2,
+            Some("salt: usage: salt run [--parts N] [--dir PATH] [--place KIND] or salt load N"),
+        ),
+        (
+            Status::ReadFault,
+            3,
+            Some("salt: the script could not be read"),
+        ),
+        (
+            Status::WriteFault,
+            4,
+            Some("salt: the output could not be written"),
+        ),
+        (
+            Status::ScriptTooLong,
+            9,
+            Some("salt: the script is longer than 16777216 bytes"),
+        ),
+    ] {
+        assert_eq!(rt; status.number(), number);
+        assert_eq!(rt; status.message(), message);
+    }
+}
