@@ -45,6 +45,7 @@ impl Schema {
         }
     }
 
+    /// The tables, at most 64, in order of their numbers.
     pub fn tables(&self) -> &[TableDef]
         ensures tables { result.now ≡ self.now }
         ensures few { length result.now ≤ 64 }

@@ -17,6 +17,7 @@ pub struct Field {
     pub kind: ColType,
 }
 
+/// Columns, in the order of the text.
 pub type Fields = Items<Field>;
 
 /// A table's name and columns, of which the first is its key.
@@ -26,11 +27,14 @@ pub struct TableDef {
     pub columns: Fields,
 }
 
+/// What gives a value.
 #[derive(Drop)]
 pub enum Expr {
+    /// The value as it is written.
     Lit(Value),
 }
 
+/// Expressions, in the order of the text.
 pub type Exprs = Items<Expr>;
 
 /// What a SELECT shows of each row.
@@ -47,11 +51,13 @@ pub enum Bound {
     Key(Expr),
 }
 
+/// Which rows of a table a statement goes over.
 #[derive(Drop)]
 pub struct Scan {
     pub bound: Bound,
 }
 
+/// A statement, of the table that it names.
 pub enum Statement {
     Insert { table: Name, values: Exprs },
     Select { what: What, table: Name, scan: Scan },

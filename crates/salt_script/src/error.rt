@@ -7,6 +7,7 @@ ghost use Rattle.salt_script.specs.Errors.{read_err};
 use salt_tokens::ScanErr;
 use std::alloc::{AllocError, AllocFailed};
 
+/// Why tokens give no tree.
 #[derive(Clone, Copy, Debug, PartialEq, Eq)]
 pub enum ReadErr {
     /// Memory ran out.

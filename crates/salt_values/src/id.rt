@@ -9,4 +9,5 @@ pub struct Id {
     pub seq: u64,
 }
 
+/// Names of units or programs.
 pub type Ids = Items<Id>;

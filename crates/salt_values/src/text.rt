@@ -78,6 +78,7 @@ impl Text {
         Ok(Text { bytes })
     }
 
+    /// Its bytes, at most 255, each from 32 to 126.
     pub fn as_bytes(&self) -> &[u8]
         ensures bytes { result.now ≡ self.now }
         ensures text { is_text self.now ≡ true }

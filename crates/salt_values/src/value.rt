@@ -12,11 +12,13 @@ use sqlite_items::Items;
 use std::alloc::{AllocError, Global};
 use std::cmp::Ordering;
 
+/// Bytes that are kept, as a text that was printed.
 pub type Bytes = Items<u8>;
 
 /// The bytes of a name.
 pub type Name = Items<u8>;
 
+/// Names, in the order of the text.
 pub type Names = Items<Name>;
 
 /// A number or a text. Numbers are ordered as numbers, texts by their bytes, and a number stands before a text.
@@ -29,8 +31,10 @@ pub enum Value {
 /// A row's key is its first value.
 pub type Key = Value;
 
+/// A row: a value for each column, the key first.
 pub type Row = Items<Value>;
 
+/// Rows, in order of their keys.
 pub type Rows = Items<Row>;
 
 impl Value {
