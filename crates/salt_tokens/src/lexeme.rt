@@ -1,0 +1,81 @@
+ghost use Rattle.std.specs.Prelude.{◌≡◌, ◌≤◌, List, Err, IfOk, length, min, vec_len};
+ghost use Rattle.std.specs.Str.Parse.{digits_value};
+ghost use Rattle.salt_tokens.specs.Bytes.{is_digit};
+ghost use Rattle.salt_tokens.specs.Pieces.{IsToken, Piece, Lexes, Run};
+ghost use Rattle.salt_tokens.specs.Symbols.{between, largest_int, row, row_of, symbol, symbol_by};
+ghost use Rattle.salt_tokens.specs.declared.error.ScanErr.TheVariants.{Syntax};
+
+use crate::error::ScanErr;
+use crate::keyword::Keyword;
+use crate::scanner::scan;
+use crate::sign::Sign;
+use crate::token::TokenKind;
+use std::alloc::Global;
+
+/// A token and what it stands for.
+#[derive(Clone, Copy, Debug)]
+pub enum Lexeme<'a> {
+    Key(Keyword),
+    /// A name, as it is written.
+    Name(&'a [u8]),
+    /// A number, where 2^64 - 1 is every number from there on.
+    Int(u64),
+    /// What stands between the quotes of a text, with each quote still doubled.
+    Text(&'a [u8]),
+    Sign(Sign),
+}
+
+/// The number that the digits write, or 2^64 - 1 where it is larger.
+fn number(digits: &[u8]) -> u64
+    requires { Run is_digit digits.now }
+    ensures { result ≡ min (digits_value 10 digits.now) largest_int }
+{
+    let mut n: u64 = 0;
+    for digit in digits {
+        n = n.saturating_mul(10).saturating_add((*digit - b'0') as u64);
+    }
+    n
+}
+
+/// What stands between the first byte and the last.
+fn inside(bytes: &[u8]) -> &[u8]
+    ensures { result.now ≡ between bytes.now }
+{
+    match bytes {
+        [_, inner @ .., _] => inner,
+        _ => &[],
+    }
+}
+
+/// What a token stands for.
+fn lexeme_of<'a>(kind: TokenKind, text: &'a [u8]) -> Lexeme<'a>
+    requires { IsToken kind text.now }
+    ensures { symbol result ≡ symbol_by kind text.now }
+{
+    match kind {
+        TokenKind::Word => match Keyword::of_word(text) {
+            Some(keyword) => Lexeme::Key(keyword),
+            None => Lexeme::Name(text),
+        },
+        TokenKind::Int => Lexeme::Int(number(text)),
+        TokenKind::Text => Lexeme::Text(inside(text)),
+        TokenKind::Sign => Lexeme::Sign(Sign::of_bytes(text).unwrap_or(Sign::Dot)),
+    }
+}
+
+/// The tokens of the bytes, each with what it stands for; the time is linear in the bytes.
+///
+/// `Syntax` where the bytes are no row of tokens, and `Memory` where memory runs out.
+pub fn lexemes<'a>(alloc: Global, bytes: &'a [u8]) -> Result<Vec<Lexeme<'a>>, ScanErr>
+    ensures found { IfOk result (λ v. (ps : List Piece) × Lexes bytes.now ps × (row v.items ≡ row_of ps)) }
+    ensures short { IfOk result (λ v. vec_len v ≤ length bytes.now) }
+    ensures syntax { result ≡ Err Syntax → (ps : List Piece) → ¬ (Lexes bytes.now ps) }
+{
+    let tokens = scan(alloc, bytes)?;
+    let mut lexemes = Vec::new(alloc);
+    for token in tokens.as_slice() {
+        let text = &bytes[token.at..token.at + token.len];
+        lexemes.push(lexeme_of(token.kind, text))?;
+    }
+    Ok(lexemes)
+}

@@ -1,0 +1,17 @@
+//! The tokens of lines, and what each stands for.
+#![tactic(auto)]
+
+mod error;
+mod keyword;
+mod lexeme;
+mod same;
+mod scanner;
+mod sign;
+mod token;
+
+pub use error::ScanErr;
+pub use keyword::Keyword;
+pub use lexeme::{Lexeme, lexemes};
+pub use scanner::scan;
+pub use sign::Sign;
+pub use token::{Token, TokenKind, Tokens};
