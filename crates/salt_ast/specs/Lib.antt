@@ -8,3 +8,4 @@ pub mod Spelling
 pub mod Texts
 pub mod Limits
 pub mod Judgement
+pub mod Examples
