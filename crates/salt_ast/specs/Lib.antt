@@ -8,4 +8,5 @@ pub mod Spelling
 pub mod Texts
 pub mod Limits
 pub mod Judgement
+pub mod Sending
 pub mod Examples

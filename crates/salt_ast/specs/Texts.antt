@@ -19,15 +19,15 @@ use Rattle.salt_values.specs.declared.value.Value.TheVariants as value
 use Rattle.std.specs.Fmt.{signed_decimal}
 use Rattle.std.specs.Prelude.{List, None, Option, Some, [], codes, ℕ, ◌++◌, ◌∷◌}
 
--- each with a comma before it
-abbrev pub behind_commas : {A : Type 0} → (A → List ℕ) → List A → List ℕ
-behind_commas text [] = []
-behind_commas text (x ∷ xs) = codes ", " ++ (text x ++ behind_commas text xs)
+-- each with these bytes before it
+abbrev pub preceded : {A : Type 0} → List ℕ → (A → List ℕ) → List A → List ℕ
+preceded before text [] = []
+preceded before text (x ∷ xs) = before ++ (text x ++ preceded before text xs)
 
 -- one behind the other, with commas between them
 abbrev pub between_commas : {A : Type 0} → (A → List ℕ) → List A → List ℕ
 between_commas text [] = []
-between_commas text (x ∷ xs) = text x ++ behind_commas text xs
+between_commas text (x ∷ xs) = text x ++ preceded (codes ", ") text xs
 
 -- a quote in a text is doubled
 abbrev pub value_text : Value → List ℕ
@@ -89,10 +89,7 @@ field_text f = f.name ++ (codes " " ++ type_text f.kind)
 -- the first column is the key
 abbrev pub columns_text : List Field → List ℕ
 columns_text [] = []
-columns_text (f ∷ fs) = field_text f ++ (codes " key" ++ behind_commas field_text fs)
-
-abbrev pub check_text : Expr → List ℕ
-check_text e = codes "check " ++ expr_text e
+columns_text (f ∷ fs) = field_text f ++ (codes " key" ++ preceded (codes ", ") field_text fs)
 
 abbrev pub table_text : TableDef → List ℕ
-table_text d = codes "create table " ++ (d.name ++ (codes " (" ++ (columns_text d.columns ++ (behind_commas check_text d.checks ++ codes ")"))))
+table_text d = codes "create table " ++ (d.name ++ (codes " (" ++ (columns_text d.columns ++ (preceded (codes ", check ") expr_text d.checks ++ codes ")"))))

@@ -1,8 +1,10 @@
 //! The trees of tables and statements, which texts spell them, their canonical texts, and what is refused of them.
 #![tactic(auto)]
 
+mod canonical;
 mod copy;
 mod limit;
+mod send;
 mod trees;
 
 pub use limit::LimitName;
