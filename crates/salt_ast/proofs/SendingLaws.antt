@@ -3,7 +3,7 @@ use Rattle.salt_ast.specs.Sending.{gained}
 use Rattle.salt_io.specs.Streams.{Gains, GainsSome}
 use Rattle.std.proofs.Common.{Err, List, None, Ok, OnErr, OnOk, Option, Result, Some, [], ap, append_assoc, arith, drop, length, length-drop, refl, sym, subst, take, true, ℕ, ◌++◌, ◌-◌, ◌∙◌, ◌∷◌, ◌≡◌, ◌≤◌}
 use Rattle.std.specs.Prelude.{◌==◌}
-use Rattle.std.proofs.Math.Seq.{take-length}
+use Rattle.std.proofs.Math.Seq.{take-append_seam, take-length}
 use Rattle.std.proofs.lemmas.Bool.{eqb-true}
 use Rattle.std.proofs.lemmas.List.{append-nil, nil_from_length, take-append-drop}
 
@@ -100,3 +100,14 @@ leaves_next x z y now l e n = leaves_less x y (z ++ y) now l (ap (λ t. t ++ y) 
 -- writing it fails
 pub leaves_stop : {s : Option (List ℕ)} {w : List ℕ} {h : Option (List ℕ)} (x z y : List ℕ) (c : Option (List ℕ)) → Leaves s w h (z ++ y) → x ≡ z → GainsSome h x c → GainsSome s w c
 leaves_stop x z y c l e g = leaves_part x y (z ++ y) c l (ap (λ t. t ++ y) e) g
+
+-- what was appended to bytes in memory, cut off again
+pub cut_off : (old text new : List ℕ) → GainsSome (Some old) text (Some new) → take (length old) new ≡ old
+cut_off old text new g =
+    let whole : Some new ≡ Some (old ++ g.part) = g.gained in
+    let same : new ≡ old ++ g.part = cc in
+    rw same (take-append_seam old g.part)
+
+pub appended : (old text new : List ℕ) → Some new ≡ gained (Some old) text → new ≡ old ++ text
+unfolding gained
+appended old text new e = cc
