@@ -2,7 +2,7 @@
 use Rattle.salt_ast.specs.Sending.{joined}
 use Rattle.salt_ast.specs.Texts.{between_commas, columns_text, field_text, preceded}
 use Rattle.salt_ast.specs.declared.trees.Field.{Field}
-use Rattle.std.proofs.Common.{List, [], add-one, ap, append_assoc, drop, drop-cons, get_or, length, refl, subst, suc, sym, take, ℕ, ◌+◌, ◌++◌, ◌-◌, ◌<◌, ◌∙◌, ◌∷◌, ◌≡◌, ◌≤◌, codes, arith}
+use Rattle.std.proofs.Common.{List, [], add-one, ap, drop, drop-cons, get_or, length, refl, suc, sym, take, ℕ, ◌+◌, ◌++◌, ◌-◌, ◌<◌, ◌∙◌, ◌∷◌, ◌≡◌, ◌≤◌, codes, arith}
 use Rattle.std.proofs.Math.ListN.{drop_of_length-le}
 use Rattle.std.proofs.Math.Seq.{take-length}
 use Rattle.std.proofs.lemmas.List.{append-nil}

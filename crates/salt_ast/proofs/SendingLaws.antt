@@ -1,7 +1,7 @@
 -- One text behind another, written to a sink.
 use Rattle.salt_ast.specs.Sending.{gained}
-use Rattle.salt_io.specs.Streams.{Gains, GainsSome}
-use Rattle.std.proofs.Common.{Err, List, None, Ok, OnErr, OnOk, Option, Result, Some, [], ap, append_assoc, arith, drop, length, length-drop, refl, sym, subst, take, true, ℕ, ◌++◌, ◌-◌, ◌∙◌, ◌∷◌, ◌≡◌, ◌≤◌}
+use Rattle.salt_io.specs.Streams.{GainsSome}
+use Rattle.std.proofs.Common.{Err, List, None, Ok, OnErr, OnOk, Option, Result, Some, [], ap, append_assoc, drop, length, length-drop, refl, sym, subst, take, true, ℕ, ◌++◌, ◌-◌, ◌∙◌, ◌≡◌, ◌≤◌}
 use Rattle.std.specs.Prelude.{◌==◌}
 use Rattle.std.proofs.Math.Seq.{take-append_seam, take-length}
 use Rattle.std.proofs.lemmas.Bool.{eqb-true}

@@ -1,6 +1,5 @@
 -- Which rows of symbols spell which statement.
 use Rattle.salt_ast.specs.Grammar.{Conjunction, Expression, Sum}
-use Rattle.salt_ast.specs.declared.trees.Bound.{Bound}
 use Rattle.salt_ast.specs.declared.trees.Bound.TheVariants as bound
 use Rattle.salt_ast.specs.declared.trees.Expr.{Expr}
 use Rattle.salt_ast.specs.declared.trees.Scan.{Scan}

@@ -57,7 +57,11 @@ pub fn send_joined<T: Canonical, K: Sink>(sink: &mut K, parts: &[T]) -> Result<(
 }
 
 /// Writes the items with these bytes before each.
-pub fn send_preceded<T: Canonical, K: Sink>(sink: &mut K, before: &[u8], items: &[T]) -> Result<(), IoFailed>
+pub fn send_preceded<T: Canonical, K: Sink>(
+    sink: &mut K,
+    before: &[u8],
+    items: &[T],
+) -> Result<(), IoFailed>
     ensures ok { OnOk result (K.held sink.new ≡ gained (K.held sink.old) (preceded before.now T.text items.now)) }
     ensures err { OnErr result (GainsSome (K.held sink.old) (preceded before.now T.text items.now) (K.held sink.new)) }
     ensures failed { OnErr result (Rose (K.faults sink.old) (K.faults sink.new)) }

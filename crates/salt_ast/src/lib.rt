@@ -12,4 +12,7 @@ mod trees;
 
 pub use limit::LimitName;
 pub use print::{print_statement, print_table, send_statement};
-pub use trees::{Bound, ColType, Expr, Exprs, Field, Fields, Op, Scan, Scope, Set, Sets, Statement, Statements, TableDef, What};
+pub use trees::{
+    Bound, ColType, Expr, Exprs, Field, Fields, Op, Scan, Scope, Set, Sets, Statement, Statements,
+    TableDef, What,
+};

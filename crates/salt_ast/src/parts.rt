@@ -107,15 +107,27 @@ impl Canonical for What {
             What::Count => send_bytes(sink, b"count(*)"),
             What::Sum(column) => send_joined(
                 sink,
-                &[Part::Bytes(b"sum("), Part::Bytes(column.as_slice()), Part::Bytes(b")")],
+                &[
+                    Part::Bytes(b"sum("),
+                    Part::Bytes(column.as_slice()),
+                    Part::Bytes(b")"),
+                ],
             ),
             What::Min(column) => send_joined(
                 sink,
-                &[Part::Bytes(b"min("), Part::Bytes(column.as_slice()), Part::Bytes(b")")],
+                &[
+                    Part::Bytes(b"min("),
+                    Part::Bytes(column.as_slice()),
+                    Part::Bytes(b")"),
+                ],
             ),
             What::Max(column) => send_joined(
                 sink,
-                &[Part::Bytes(b"max("), Part::Bytes(column.as_slice()), Part::Bytes(b")")],
+                &[
+                    Part::Bytes(b"max("),
+                    Part::Bytes(column.as_slice()),
+                    Part::Bytes(b")"),
+                ],
             ),
         }
     }

@@ -1,4 +1,4 @@
-use Rattle.std.proofs.Common.{ℕ, length, ◌≤◌}
+use Rattle.std.proofs.Common.{length, ◌≤◌}
 use Rattle.salt_ast.proofs.SendingLaws.{Leaves}
 use Rattle.salt_ast.proofs.canonical.send_bytes.Given as goal
 
