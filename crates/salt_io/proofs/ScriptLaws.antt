@@ -1,5 +1,6 @@
 -- Scripts one after another.
 use Rattle.std.proofs.Common.{◌≡◌, ℕ, Bool, true, false, eqb, List, [], ◌∷◌, ◌++◌, refl, ◌∙◌, ap}
+use Rattle.salt_io.proofs.Ends.{append-is-some}
 use Rattle.salt_io.specs.Lines.{Pieces, with_byte, pieces_of, Script, ends_in_backslash, front, spaced, before_script, last_text, without_cr, script_from, script_of}
 
 -- these pieces, and then those
@@ -18,17 +19,13 @@ pub pieces-append : (a b : List ℕ) → pieces_of (a ++ b) ≡ behind_pieces (p
 pieces-append [] b = refl
 pieces-append (x ∷ xs) b = ap (with_byte x) (pieces-append xs b) ∙ pieces-at_byte x (eqb x 10) refl (pieces_of xs).ended (pieces_of xs).last b
 
-append-is-some : (xs : List ℕ) (y : ℕ) → xs ++ y ∷ [] ≡ [] → ⊥
-append-is-some [] y e = cc
-append-is-some (x ∷ xs) y e = cc
-
 spaced-is-some : (xs ys : List ℕ) → spaced xs ++ ys ≡ [] → ⊥
 spaced-is-some xs ys e = more (front xs) ys e where
   more : (zs ys : List ℕ) → zs ++ 32 ∷ [] ++ ys ≡ [] → ⊥
   more [] ys e = cc
   more (z ∷ zs) ys e = cc
 
-last_text-nil : (piece : List ℕ) (joins : Bool) → ends_in_backslash piece ≡ joins → last_text piece ≡ [] → piece ≡ []
+pub last_text-nil : (piece : List ℕ) (joins : Bool) → ends_in_backslash piece ≡ joins → last_text piece ≡ [] → piece ≡ []
 last_text-nil piece true e h = absurd (append-is-some (front piece) 32 (rw e at h))
 last_text-nil piece false e h = rw e at h
 

@@ -1,3 +1,6 @@
+pub mod Calls
 pub mod Disks
+pub mod LineText
 pub mod Lines
+pub mod MemStreams
 pub mod Streams

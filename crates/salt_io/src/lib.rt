@@ -1,12 +1,22 @@
 //! Where bytes come from and go to: sources, sinks, the lines of a script, and the devices.
 #![tactic(auto)]
 
+mod calls;
 mod disks;
+mod line_text;
 mod lines;
+mod memory;
 mod no_disks;
+mod std_streams;
 mod streams;
 
 pub use disks::{DiskErr, Disks};
-pub use lines::lines_join;
+pub use line_text::LONGEST_LINE;
+pub use lines::{LONGEST_SCRIPT, LineErr, Lines, Next, lines_join};
+pub use memory::{MemSink, MemSource};
 pub use no_disks::NoDisks;
-pub use streams::{IoFailed, Sink, Source};
+pub use std_streams::{StdSink, StdSource};
+pub use streams::{IoFailed, Sink, Source, write_whole};
+
+#[cfg(test)]
+mod tests;

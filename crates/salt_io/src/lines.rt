@@ -1,6 +1,202 @@
 // The lines of a script.
-ghost use Rattle.std.specs.Prelude.{◌≡◌, ℕ, List, [], ◌++◌};
-ghost use Rattle.salt_io.specs.Lines.{script_of};
+ghost use Rattle.std.specs.Prelude.{◌≡◌, ◌≢◌, ℕ, ◌+◌, ◌<◌, ◌≤◌, ◌-◌, List, [], ◌∷◌, ◌++◌, length, take, IfOk, OnOk, OnErr, IfSome, IfNone, true, false};
+ghost use Rattle.salt_io.specs.Streams.{Rose, Takes, IsAtEnd, bytes_before};
+ghost use Rattle.salt_io.specs.Lines.{script_of, TakesLine, TakesLong, TakesNoLine, IsCutOff};
+ghost use Rattle.salt_io.specs.declared.lines.LineErr.TheVariants.{ReadFault, Memory};
+
+use crate::line_text::{LONGEST_LINE, LineText};
+use crate::{IoFailed, Source};
+use std::alloc::AllocError;
+use std::marker::Model;
+
+/// The most bytes of a script.
+pub const LONGEST_SCRIPT: u64 = 16_777_216;
+
+const LF: u8 = b'\n';
+
+/// What a reader of lines came to.
+#[derive(Clone, Copy, Debug, PartialEq, Eq)]
+pub enum Next {
+    /// A line.
+    Line,
+    /// A line of more bytes than a line may have.
+    TooLong,
+    /// The script's end.
+    End,
+}
+
+/// Why there is no next line.
+#[derive(Clone, Copy, Debug, PartialEq, Eq)]
+pub enum LineErr {
+    /// The source failed, before a line's end.
+    ReadFault,
+    /// The line needs more bytes than a script may have.
+    ScriptTooLong,
+    /// No memory was left.
+    Memory,
+}
+
+impl From<IoFailed> for LineErr {
+    ghost from_gives = { λ _ e. e ≡ ReadFault };
+
+    fn from(_: IoFailed) -> Self {
+        LineErr::ReadFault
+    }
+}
+
+impl From<AllocError> for LineErr {
+    ghost from_gives = { λ _ e. e ≡ Memory };
+
+    fn from(_: AllocError) -> Self {
+        LineErr::Memory
+    }
+}
+
+/// Reads the lines of a script: those of the bytes that it has taken from the source and not given
+/// yet, followed by those that the source has left.
+///
+/// A line ends at an LF, without a CR directly before it, or at the script's end. Where its last
+/// byte is a backslash, a space takes the backslash's place, and the next line is joined on.
+#[derive(Drop)]
+pub struct Lines {
+    buf: [u8; 4096],
+    from: usize,
+    to: usize,
+    taken: u64,
+}
+
+impl Model for Lines {
+    ghost use Rattle.std.specs.Prelude.{◌-◌, ◌≤◌, take, drop};
+    ghost use Rattle.salt_io.specs.Lines.{Reading};
+
+    ghost Value = { Reading };
+
+    ghost view = { λ r. record { kept = take (r.to - r.from) (drop r.from r.buf); taken = r.taken } };
+
+    ghost invariant = { λ r. (r.from ≤ r.to) × (r.to ≤ 4096) × (r.taken ≤ 16777216) };
+}
+
+impl Lines {
+    /// Of a script of which nothing has been read.
+    pub fn new() -> Self
+        ensures { result ≡ record { kept = []; taken = 0 } }
+    {
+        Lines {
+            buf: [0; 4096],
+            from: 0,
+            to: 0,
+            taken: 0,
+        }
+    }
+
+    /// Takes bytes from the source where none are kept.
+    fn fill<S: Source>(&mut self, source: &mut S) -> Result<(), IoFailed>
+        ensures taken { self.new.taken ≡ self.old.taken }
+        ensures within { self.new.taken ≤ LONGEST_SCRIPT }
+        ensures same { OnOk result (bytes_before self.old.kept (S.left source.old) ≡ bytes_before self.new.kept (S.left source.new)) }
+        ensures end { OnOk result (self.new.kept ≡ [] → IsAtEnd (S.left source.new)) }
+        ensures none { OnErr result (self.old.kept ≡ []) }
+        ensures kept { OnErr result (S.left source.new ≡ S.left source.old) }
+        ensures failed { OnErr result (Rose (S.faults source.old) (S.faults source.new)) }
+        ensures later { S.faults source.old ≤ S.faults source.new }
+    {
+        if self.from == self.to {
+            let n = source.read(&mut self.buf)?;
+            self.from = 0;
+            self.to = n;
+        }
+        Ok(())
+    }
+
+    /// Gives the script's next byte, or `None` at its end.
+    fn next_byte<S: Source>(&mut self, source: &mut S) -> Result<Option<u8>, LineErr>
+        ensures some { IfOk result (λ next. IfSome next (λ byte.
+            Takes (bytes_before self.old.kept (S.left source.old)) (byte ∷ []) (bytes_before self.new.kept (S.left source.new)))) }
+        ensures counted { IfOk result (λ next. IfSome next (λ _. self.new.taken ≡ self.old.taken + 1)) }
+        ensures within { self.new.taken ≤ LONGEST_SCRIPT }
+        ensures end { IfOk result (λ next. IfNone next (IsAtEnd (bytes_before self.new.kept (S.left source.new)))) }
+        ensures none { IfOk result (λ next. IfNone next (self.new.taken ≡ self.old.taken)) }
+        ensures same { IfOk result (λ next. IfNone next
+            (bytes_before self.old.kept (S.left source.old) ≡ bytes_before self.new.kept (S.left source.new))) }
+        ensures fault { result ≡ Err LineErr.ReadFault → Rose (S.faults source.old) (S.faults source.new) }
+        ensures fault_left { result ≡ Err LineErr.ReadFault → bytes_before self.old.kept (S.left source.old) ≡ S.left source.new }
+        ensures long { result ≡ Err LineErr.ScriptTooLong → self.old.taken ≡ LONGEST_SCRIPT }
+        ensures more { result ≡ Err LineErr.ScriptTooLong → IfSome (bytes_before self.old.kept (S.left source.old)) (λ all. 0 < length all) }
+        ensures later { S.faults source.old ≤ S.faults source.new }
+    {
+        self.fill(source)?;
+        if self.from == self.to {
+            return Ok(None);
+        }
+        if self.taken == LONGEST_SCRIPT {
+            return Err(LineErr::ScriptTooLong);
+        }
+        let byte = self.buf[self.from];
+        self.from += 1;
+        self.taken += 1;
+        Ok(Some(byte))
+    }
+
+    /// Puts the next line's text into `line`, in place of what is there. After an error, or a line
+    /// that is too long, `line` holds some bytes, no more than a line may have.
+    ///
+    /// After `Memory` the source may have been read further.
+    pub fn next_line<S: Source>(
+        &mut self,
+        source: &mut S,
+        line: &mut Vec<u8>,
+    ) -> Result<Next, LineErr>
+        ensures line { result ≡ Ok Next.Line → TakesLine LONGEST_SCRIPT
+            (bytes_before self.old.kept (S.left source.old)) (bytes_before self.new.kept (S.left source.new))
+            self.old.taken self.new.taken line.new.items }
+        ensures fits { result ≡ Ok Next.Line → length line.new.items ≤ LONGEST_LINE }
+        ensures long { result ≡ Ok Next.TooLong → TakesLong LONGEST_LINE LONGEST_SCRIPT
+            (bytes_before self.old.kept (S.left source.old)) (bytes_before self.new.kept (S.left source.new))
+            self.old.taken self.new.taken }
+
+        ensures end { result ≡ Ok Next.End → IsAtEnd (bytes_before self.old.kept (S.left source.old)) }
+        ensures end_after { result ≡ Ok Next.End → IsAtEnd (bytes_before self.new.kept (S.left source.new)) }
+        ensures end_taken { result ≡ Ok Next.End → self.new.taken ≡ self.old.taken }
+
+        ensures fault { result ≡ Err LineErr.ReadFault → Rose (S.faults source.old) (S.faults source.new) }
+        ensures cut_off { result ≡ Err LineErr.ReadFault
+            → TakesNoLine (bytes_before self.old.kept (S.left source.old)) (S.left source.new) }
+        ensures too_long { result ≡ Err LineErr.ScriptTooLong
+            → IsCutOff (LONGEST_SCRIPT - self.old.taken) (bytes_before self.old.kept (S.left source.old)) }
+
+        ensures within { self.new.taken ≤ LONGEST_SCRIPT }
+        ensures later { S.faults source.old ≤ S.faults source.new }
+    {
+        line.clear();
+        let mut text = LineText::new();
+        loop {
+            let Some(byte) = self.next_byte(source)? else {
+                break;
+            };
+            if byte != LF {
+                text.add(line, byte)?;
+                continue;
+            }
+            if text.end_piece(line)? {
+                return Ok(kind_of(text.is_long));
+            }
+        }
+        text.end_script(line)?;
+        if line.is_empty() {
+            return Ok(Next::End);
+        }
+        Ok(kind_of(text.is_long))
+    }
+}
+
+/// What a line is that was cut, or not.
+fn kind_of(is_long: bool) -> Next
+    ensures long { result ≡ Next.TooLong → is_long ≡ true }
+    ensures short { result ≡ Next.Line → is_long ≡ false }
+    ensures some { result ≢ Next.End }
+{
+    if is_long { Next::TooLong } else { Next::Line }
+}
 
 /// Two laws on the lines of a script. At a line's start a script goes on as one of its own; and the
 /// lines that are ended stay as they are, whatever follows.

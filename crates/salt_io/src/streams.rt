@@ -1,5 +1,5 @@
 // Where a script comes from, and where a transcript goes.
-ghost use Rattle.std.specs.Prelude.{◌≡◌, ℕ, ◌<◌, ◌≤◌, List, length, take, Option, IfOk, OnErr};
+ghost use Rattle.std.specs.Prelude.{◌≡◌, ℕ, ◌<◌, ◌≤◌, List, length, take, Option, IfOk, OnOk, OnErr};
 ghost use Rattle.salt_io.specs.Streams.{Rose, Takes, Gains, GainsSome, IsAtEnd};
 
 /// A read or a write that failed; the count of faults of its source or sink has risen.
@@ -11,7 +11,7 @@ pub trait Source {
     /// The bytes left; `None` where the source does not tell them.
     ghost left: { Self → Option (List ℕ) };
 
-    /// How many reads have failed, at most 2^64 - 1.
+    /// The count of faults, which a failed read raises unless it stands at 2^64 - 1.
     ghost faults: { Self → ℕ };
 
     /// Puts the next bytes at the start of `buf`, and gives how many. Zero for a buffer that is not
@@ -30,7 +30,7 @@ pub trait Sink {
     /// The bytes written; `None` where the sink does not tell them.
     ghost held: { Self → Option (List ℕ) };
 
-    /// How many writes have failed, at most 2^64 - 1.
+    /// The count of faults, which a failed write raises unless it stands at 2^64 - 1.
     ghost faults: { Self → ℕ };
 
     /// Writes some first part of `bytes`, and gives its length, which is at least 1 where there are
@@ -42,4 +42,19 @@ pub trait Sink {
         ensures kept { OnErr result (held self.new ≡ held self.old) }
         ensures failed { OnErr result (Rose (faults self.old) (faults self.new)) }
         ensures later { faults self.old ≤ faults self.new };
+}
+
+/// Writes all of the bytes, in as many writes as it takes. After an error some first part of them
+/// has been written. It takes no memory.
+pub fn write_whole<K: Sink>(sink: &mut K, bytes: &[u8]) -> Result<(), IoFailed>
+    ensures all { OnOk result (Gains (K.held sink.old) bytes.now (K.held sink.new)) }
+    ensures part { OnErr result (GainsSome (K.held sink.old) bytes.now (K.held sink.new)) }
+    ensures failed { OnErr result (Rose (K.faults sink.old) (K.faults sink.new)) }
+    ensures later { K.faults sink.old ≤ K.faults sink.new }
+{
+    let mut done = 0;
+    while done < bytes.len() {
+        done += sink.write(&bytes[done..])?;
+    }
+    Ok(())
 }

@@ -1,0 +1,13 @@
+use Rattle.std.proofs.Common.{◌-◌, ◌≤◌}
+use Rattle.salt_io.specs.Streams.{bytes_before}
+use Rattle.salt_io.proofs.HowFar.{Reads}
+use Rattle.salt_io.proofs.lines.Lines.next_line.Given as goal
+
+abbrev pub invariant-loop-byte : goal.invariant-loop-byte
+invariant-loop-byte g l = record {
+  reads : Reads (bytes_before l.fn.self.kept (g.S.Source.left l.fn.source)) (bytes_before l.self.kept (g.S.Source.left l.source)) l.fn.self.taken l.self.taken l.line.items l.text;
+  later : g.S.Source.faults l.fn.source ≤ g.S.Source.faults l.source;
+}
+
+abbrev pub decreases-loop-byte : goal.decreases-loop-byte
+decreases-loop-byte g l = 16777216 - l.self.taken

@@ -1,0 +1,136 @@
+// A line while its bytes come in.
+ghost use Rattle.std.specs.Prelude.{◌≡◌, ℕ, ◌≤◌, List, [], ◌∷◌, ◌++◌, length, OnOk, IfOk, MatchBool, true, false};
+ghost use Rattle.salt_io.specs.Lines.{last_text, spaced, without_cr, ends_in_backslash};
+ghost use Rattle.salt_io.specs.LineText.{tail_bytes, IsKept, IsText};
+
+use std::alloc::AllocError;
+
+/// The most bytes of a line.
+pub const LONGEST_LINE: usize = 65_536;
+
+const CR: u8 = b'\r';
+
+const BACKSLASH: u8 = b'\\';
+
+/// The last bytes of a text that are dropped if an LF comes next.
+#[derive(Clone, Copy)]
+pub enum Tail {
+    Nothing,
+    Cr,
+    Backslash,
+    BackslashCr,
+}
+
+/// What is known of a line beside the bytes that are kept of it, which are all but its tail, and no
+/// more than a line may have.
+#[derive(Clone, Copy)]
+pub struct LineText {
+    pub tail: Tail,
+    /// Some byte was not kept.
+    pub is_long: bool,
+}
+
+impl LineText {
+    /// Of a line of which nothing has come yet.
+    pub fn new() -> Self
+        ensures { IsText [] result [] }
+    {
+        LineText {
+            tail: Tail::Nothing,
+            is_long: false,
+        }
+    }
+
+    /// Puts a byte behind those that are kept, or drops it where they are as many as may be.
+    fn keep(&mut self, line: &mut Vec<u8>, byte: u8) -> Result<(), AllocError>
+        ensures kept { OnOk result ((text : List ℕ) → IsKept line.old.items self.old.is_long text
+            → IsKept line.new.items self.new.is_long (text ++ byte ∷ [])) }
+        ensures tail { self.new.tail ≡ self.old.tail }
+    {
+        if line.len() < LONGEST_LINE {
+            line.push(byte)?;
+        } else {
+            self.is_long = true;
+        }
+        Ok(())
+    }
+
+    /// Keeps the bytes of the tail too, since no LF came next.
+    fn keep_tail(&mut self, line: &mut Vec<u8>) -> Result<(), AllocError>
+        ensures { OnOk result ((text : List ℕ) → IsKept line.old.items self.old.is_long text
+            → IsKept line.new.items self.new.is_long (text ++ tail_bytes self.old.tail)) }
+    {
+        match self.tail {
+            Tail::Nothing => Ok(()),
+            Tail::Cr => self.keep(line, CR),
+            Tail::Backslash => self.keep(line, BACKSLASH),
+            Tail::BackslashCr => {
+                self.keep(line, BACKSLASH)?;
+                self.keep(line, CR)
+            }
+        }
+    }
+
+    /// The line goes on with a CR.
+    fn add_cr(&mut self, line: &mut Vec<u8>) -> Result<(), AllocError>
+        ensures { OnOk result ((text : List ℕ) → IsText line.old.items self.old text
+            → IsText line.new.items self.new (text ++ 13 ∷ [])) }
+    {
+        match self.tail {
+            Tail::Backslash => {
+                self.tail = Tail::BackslashCr;
+                Ok(())
+            }
+            _ => {
+                self.keep_tail(line)?;
+                self.tail = Tail::Cr;
+                Ok(())
+            }
+        }
+    }
+
+    /// The line goes on with a byte that is no LF.
+    pub fn add(&mut self, line: &mut Vec<u8>, byte: u8) -> Result<(), AllocError>
+        ensures { OnOk result ((text : List ℕ) → IsText line.old.items self.old text
+            → IsText line.new.items self.new (text ++ byte ∷ [])) }
+    {
+        if byte == CR {
+            return self.add_cr(line);
+        }
+        self.keep_tail(line)?;
+        if byte == BACKSLASH {
+            self.tail = Tail::Backslash;
+            return Ok(());
+        }
+        self.tail = Tail::Nothing;
+        self.keep(line, byte)
+    }
+
+    /// An LF comes: gives whether it ends the line. If not, the next line is joined on.
+    pub fn end_piece(&mut self, line: &mut Vec<u8>) -> Result<bool, AllocError>
+        ensures { IfOk result (λ ends. (text : List ℕ) → IsText line.old.items self.old text
+            → MatchBool ends
+            ((ends_in_backslash (without_cr text) ≡ false) × IsKept line.new.items self.new.is_long (without_cr text))
+            ((ends_in_backslash (without_cr text) ≡ true) × IsText line.new.items self.new (spaced (without_cr text)))) }
+    {
+        match self.tail {
+            Tail::Nothing | Tail::Cr => Ok(true),
+            Tail::Backslash | Tail::BackslashCr => {
+                self.tail = Tail::Nothing;
+                self.keep(line, b' ')?;
+                Ok(false)
+            }
+        }
+    }
+
+    /// The script ends.
+    pub fn end_script(&mut self, line: &mut Vec<u8>) -> Result<(), AllocError>
+        ensures { OnOk result ((text : List ℕ) → IsText line.old.items self.old text
+            → IsKept line.new.items self.new.is_long (last_text text)) }
+    {
+        match self.tail {
+            Tail::Backslash => self.keep(line, b' '),
+            _ => self.keep_tail(line),
+        }
+    }
+}
