@@ -1,11 +1,16 @@
 -- The number that digits write, as a loop goes over them.
-use Rattle.std.proofs.Common.{◌≡◌, ℕ, zero, suc, ◌+◌, ◌-◌, ◌*◌, ◌<◌, ◌≤◌, Bool, true, List, [], ◌∷◌, length, get_or, take, min, sym, ◌∙◌, ap, arith}
+use Rattle.std.proofs.Common.{◌^◌, ◌≡◌, ℕ, zero, suc, ◌+◌, ◌-◌, ◌*◌, ◌<◌, ◌≤◌, Bool, true, List, [], ◌∷◌, length, get_or, take, min, ◌∙◌, ap, arith}
 use Rattle.std.proofs.lemmas.Bool.Decides.{nat_tests}
 use Rattle.std.proofs.lemmas.Int.Digits.{digits_value_more}
 use Rattle.std.specs.Char.{digit_value}
-use Rattle.std.specs.Str.Parse.{digits_value}
+use Rattle.std.specs.Str.Parse.{AllDigits, digits_value}
+use Rattle.std.specs.Fmt.{decimal}
+use Rattle.std.proofs.lemmas.Str.Parse.{digit_at}
+use Rattle.std.proofs.lemmas.Fmt.{decimal_is_IsNumeral}
+use Rattle.salt_tokens.specs.declared.token.TokenKind.TheVariants.{Int}
+use Rattle.salt_tokens.specs.Symbols.{int, largest_int, symbol_by}
 use Rattle.salt_tokens.specs.Bytes.{is_digit}
-use Rattle.salt_tokens.specs.Pieces.{Run}
+use Rattle.salt_tokens.specs.Pieces.{Run, IsToken}
 
 run_at : (p : ℕ → Bool) (xs : List ℕ) (i : ℕ) → Run p xs → i < length xs → p (get_or xs i 0) ≡ true
 run_at p [] i h lt = absurd (omega arith)
@@ -31,3 +36,25 @@ number_more xs i most n m h lt large a b =
     let value = digit_value_is (get_or xs i 0) r.0 r.1 in
     let more : digits_value 10 (take (i + 1) xs) ≡ digits_value 10 (take i xs) * 10 + (get_or xs i 0 - 48) = digits_value_more 10 xs i lt ∙ ap (λ (k : ℕ). digits_value 10 (take i xs) * 10 + k) value in
     rw more (capped_more (digits_value 10 (take i xs)) (get_or xs i 0 - 48) most n m (omega (arith, r)) large a b)
+
+-- ---- a number that is written
+
+digit_is : (d : ℕ) → 48 ≤ d → d ≤ 57 → is_digit d ≡ true
+digit_is d a b = grind (arith, nat_tests)
+
+digits_run : (ds : List ℕ) → AllDigits 10 ds → Run is_digit ds
+digits_run [] h = tt
+digits_run (d ∷ ds) h = let r = digit_at (d ∷ ds) 0 h (omega arith) in (digit_is d r.0 r.1, digits_run ds h.1)
+
+digits_token : (ds : List ℕ) → 0 < length ds → Run is_digit ds → IsToken Int ds
+digits_token [] lt h = absurd (omega arith)
+digits_token (d ∷ ds) lt h = h
+
+pub decimal_token : (n : ℕ) → n < 2 ^ 64 → IsToken Int (decimal n)
+decimal_token n lt = let is = decimal_is_IsNumeral n lt in digits_token (decimal n) is.0.0 (digits_run (decimal n) is.0.1)
+
+not_capped : (v n most : ℕ) → v ≡ n → n ≤ most → min v most ≡ n
+not_capped v n most is le = omega arith
+
+pub decimal_symbol : (n : ℕ) → n < 2 ^ 64 → symbol_by Int (decimal n) ≡ int n
+decimal_symbol n lt = let is = decimal_is_IsNumeral n lt in ap (λ (k : ℕ). int k) (not_capped (digits_value 10 (decimal n)) n largest_int is.1 (omega arith))

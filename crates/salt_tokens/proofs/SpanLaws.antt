@@ -1,5 +1,5 @@
 -- Tokens one behind the other within their bytes, and the pieces that they are.
-use Rattle.std.proofs.Common.{◌≡◌, ℕ, zero, suc, ◌+◌, ◌-◌, ◌<◌, ◌≤◌, List, [], ◌∷◌, length, get_or, take, drop, map, ap, arith}
+use Rattle.std.proofs.Common.{◌≡◌, ℕ, zero, suc, ◌+◌, ◌<◌, ◌≤◌, List, [], ◌∷◌, length, get_or, take, drop, ap, arith}
 use Rattle.salt_tokens.specs.declared.token.Token.{Token}
 use Rattle.salt_tokens.specs.Pieces.{Piece, IsToken, Lexes, ended, blank, token}
 use Rattle.std.proofs.lemmas.List.{length-map, length-take}

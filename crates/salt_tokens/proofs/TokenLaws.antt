@@ -1,5 +1,5 @@
 -- A row of tokens is what the scan takes, and the other way round.
-use Rattle.std.proofs.Common.{◌≡◌, ℕ, zero, suc, ◌+◌, ◌-◌, ◌<◌, ◌≤◌, ◌⊎◌, inl, inr, Bool, true, false, cond, eqb, List, [], ◌∷◌, ◌++◌, length, take, drop, Option, Some, None, refl, sym, ap, subst, ◌∙◌, arith, add-one, sub-one, length-append, take-append-drop}
+use Rattle.std.proofs.Common.{◌≡◌, ℕ, zero, suc, ◌+◌, ◌-◌, ◌<◌, ◌≤◌, ◌⊎◌, inl, inr, Bool, true, false, cond, eqb, List, [], ◌∷◌, ◌++◌, length, take, drop, Option, Some, None, is_some, refl, sym, ap, subst, ◌∙◌, arith, add-one, sub-one, length-append, take-append-drop}
 use Rattle.std.proofs.lemmas.Bool.Decides.{nat_tests}
 use Rattle.std.proofs.lemmas.List.{take_at, drop_at}
 use Rattle.std.proofs.lemmas.Bool.{eqb-true}
@@ -12,11 +12,13 @@ use Rattle.salt_tokens.specs.Spans.{pieces}
 use Rattle.std.specs.Prelude.{Result, Ok, Err, IfOk}
 use Rattle.salt_tokens.specs.declared.token.Token.{Token}
 use Rattle.salt_tokens.specs.declared.error.ScanErr.{ScanErr}
-use Rattle.salt_tokens.specs.declared.error.ScanErr.TheVariants.{Memory, Syntax}
+use Rattle.salt_tokens.specs.declared.error.ScanErr.TheVariants.{Syntax}
 use Rattle.std.proofs.lemmas.List.Sums.{prefix_len-le-length}
 use Rattle.salt_tokens.proofs.Quoted.{quoted_at-within}
+use Rattle.salt_tokens.specs.Spelling.{sign_of}
+use Rattle.salt_tokens.proofs.SpellingLaws.{AreSignBytes, sign_is, is_sign, sign_bytes, no_three}
 use Rattle.salt_tokens.proofs.Steps.{lex_blank, lex_token}
-use Rattle.salt_tokens.specs.Bytes.{is_blank, is_digit, is_letter, is_word, is_printable, is_single, is_pair}
+use Rattle.salt_tokens.specs.Bytes.{is_blank, is_digit, is_letter, is_word, is_printable}
 
 letter_not_blank : (b : ℕ) → is_letter b ≡ true → is_blank b ≡ false
 letter_not_blank b h = grind (arith, nat_tests)
@@ -26,30 +28,6 @@ digit_not_blank b h = grind (arith, nat_tests)
 
 digit_not_letter : (b : ℕ) → is_digit b ≡ true → is_letter b ≡ false
 digit_not_letter b h = grind (arith, nat_tests)
-
-single_not_letter : (b : ℕ) → is_single b ≡ true → is_letter b ≡ false
-single_not_letter b h = grind (arith, nat_tests)
-
-single_not_digit : (b : ℕ) → is_single b ≡ true → is_digit b ≡ false
-single_not_digit b h = grind (arith, nat_tests)
-
-single_not_blank : (b : ℕ) → is_single b ≡ true → is_blank b ≡ false
-single_not_blank b h = grind (arith, nat_tests)
-
-single_not_quote : (b : ℕ) → is_single b ≡ true → eqb b 39 ≡ false
-single_not_quote b h = grind (arith, nat_tests)
-
-pair_not_letter : (a b : ℕ) → is_pair a b ≡ true → is_letter a ≡ false
-pair_not_letter a b h = grind (arith, nat_tests)
-
-pair_not_digit : (a b : ℕ) → is_pair a b ≡ true → is_digit a ≡ false
-pair_not_digit a b h = grind (arith, nat_tests)
-
-pair_not_blank : (a b : ℕ) → is_pair a b ≡ true → is_blank a ≡ false
-pair_not_blank a b h = grind (arith, nat_tests)
-
-pair_not_quote : (a b : ℕ) → is_pair a b ≡ true → eqb a 39 ≡ false
-pair_not_quote a b h = grind (arith, nat_tests)
 
 abbrev found : {A : Type 0} → A → Option A
 found x = Some x
@@ -149,18 +127,23 @@ IsFirst bs t = IsToken t.0 (take t.1 bs) × Ends t.0 (take t.1 bs) (drop t.1 bs)
 same_first : (bs : List ℕ) (k : TokenKind) (m n : ℕ) → m ≡ n → IsFirst bs (k, m) → IsFirst bs (k, n)
 same_first bs k m n e h = subst (λ (x : ℕ). IsFirst bs (k, x)) e h
 
+-- no third byte goes on with a sign of two
+pair_ends : (a b : ℕ) (rest : List ℕ) → NotNext (λ c. is_some (sign_of (a ∷ b ∷ c ∷ []))) rest
+pair_ends a b [] = tt
+pair_ends a b (c ∷ rest) = no_three a b c
+
 sign_sound : (bs : List ℕ) (n : ℕ) → sign_at bs ≡ Some n → IsFirst bs (Sign, n)
 sign_sound [] n h = absurd cc
 sign_sound (a ∷ []) n h =
-    elim (chosen (is_single a) (Some 1) None (Some n) h) [
-      | inl p ↦ (let e : 1 ≡ n = cc p.1 in same_first (a ∷ []) Sign 1 n e (p.0, tt, omega arith, omega arith))
+    elim (chosen (is_some (sign_of (a ∷ []))) (Some 1) None (Some n) h) [
+      | inl p ↦ (let e : 1 ≡ n = cc p.1 in same_first (a ∷ []) Sign 1 n e (sign_is (a ∷ []) p.0, tt, omega arith, omega arith))
       | inr p ↦ absurd (cc p.1)
     ]
 sign_sound (a ∷ b ∷ bs) n h =
-    elim (chosen (is_pair a b) (Some 2) (cond (is_single a) (Some 1) None) (Some n) h) [
-      | inl p ↦ (let e : 2 ≡ n = cc p.1 in same_first (a ∷ b ∷ bs) Sign 2 n e (p.0, tt, omega arith, omega arith))
-      | inr p ↦ elim (chosen (is_single a) (Some 1) None (Some n) p.1) [
-        | inl q ↦ (let e : 1 ≡ n = cc q.1 in same_first (a ∷ b ∷ bs) Sign 1 n e (q.0, p.0, omega arith, omega arith))
+    elim (chosen (is_some (sign_of (a ∷ b ∷ []))) (Some 2) (cond (is_some (sign_of (a ∷ []))) (Some 1) None) (Some n) h) [
+      | inl p ↦ (let e : 2 ≡ n = cc p.1 in same_first (a ∷ b ∷ bs) Sign 2 n e (sign_is (a ∷ b ∷ []) p.0, pair_ends a b bs, omega arith, omega arith))
+      | inr p ↦ elim (chosen (is_some (sign_of (a ∷ []))) (Some 1) None (Some n) p.1) [
+        | inl q ↦ (let e : 1 ≡ n = cc q.1 in same_first (a ∷ b ∷ bs) Sign 1 n e (sign_is (a ∷ []) q.0, p.0, omega arith, omega arith))
         | inr q ↦ absurd (cc q.1)
       ]
     ]
@@ -193,6 +176,17 @@ first_sound (b ∷ bs) t h =
       ]
     ]
 
+sign_complete : (text rest : List ℕ) → is_some (sign_of text) ≡ true → AreSignBytes text → Ends Sign text rest → first_at (text ++ rest) ≡ Some (Sign, length text)
+unfolding first_at
+sign_complete [] rest is h e = absurd h
+sign_complete (a ∷ []) rest is h e = rw (h.letter, h.digit, h.quote) (one rest e)
+  where
+    one : (rest : List ℕ) → NotNext (λ b. is_some (sign_of (a ∷ b ∷ []))) rest → ◌>>=◌ {B = TokenKind × ℕ} (sign_at (a ∷ rest)) (λ n. Some (Sign, n)) ≡ Some (Sign, 1)
+    one [] k = rw is refl
+    one (b ∷ rest) k = rw (k, is) refl
+sign_complete (a ∷ b ∷ []) rest is h e = rw (h.letter, h.digit, h.quote, is) refl
+sign_complete (a ∷ b ∷ c ∷ cs) rest is h e = absurd h
+
 first_complete : (k : TokenKind) (text rest : List ℕ) → IsToken k text → Ends k text rest → first_at (text ++ rest) ≡ Some (k, length text)
 unfolding first_at
 first_complete Word [] rest h e = absurd h
@@ -201,14 +195,7 @@ first_complete Int [] rest h e = absurd h
 first_complete Int (b ∷ text) rest h e = rw (digit_not_letter b h.0, h.0, run_len is_digit text rest h.1 e) (ap (λ (n : ℕ). Some (Int, n)) (omega arith))
 first_complete Text text rest h e =
     rw h.2 (rw (quoted_len h.0 rest h.1 e) (ap (λ (n : ℕ). Some (Text, n)) (omega (arith, length-append (doubled h.0) (39 ∷ [])))))
-first_complete Sign [] rest h e = absurd h
-first_complete Sign (a ∷ []) rest h e = rw (single_not_letter a h, single_not_digit a h, single_not_quote a h) (one rest e)
-  where
-    one : (rest : List ℕ) → NotNext (is_pair a) rest → ◌>>=◌ {B = TokenKind × ℕ} (sign_at (a ∷ rest)) (λ n. Some (Sign, n)) ≡ Some (Sign, 1)
-    one [] k = rw h refl
-    one (b ∷ rest) k = rw (k, h) refl
-first_complete Sign (a ∷ b ∷ []) rest h e = rw (pair_not_letter a b h, pair_not_digit a b h, pair_not_quote a b h, h) refl
-first_complete Sign (a ∷ b ∷ c ∷ cs) rest h e = absurd h
+first_complete Sign text rest h e = sign_complete text rest (is_sign text h) (sign_bytes text h) e
 
 -- ---- the whole row
 
@@ -235,19 +222,22 @@ lex_sound zero (b ∷ bs) ps le h = go (λ k qs l e. lex_sound k bs qs l e) (cho
             let whole = token k (take (suc n) (b ∷ bs)) f.0 f.1 rest in
             subst (λ (x : List ℕ). Lexes x ps) (take-append-drop (suc n) (b ∷ bs)) (subst (λ (x : List Piece). Lexes (take (suc n) (b ∷ bs) ++ drop (suc n) (b ∷ bs)) x) (some_is _ ps r.2) whole)
 
+sign_not_blank : (b : ℕ) (text : List ℕ) → AreSignBytes (b ∷ text) → is_blank b ≡ false
+sign_not_blank b [] h = h.blank
+sign_not_blank b (c ∷ []) h = h.blank
+sign_not_blank b (c ∷ d ∷ ds) h = absurd h
+
 not_blank : (k : TokenKind) (b : ℕ) (text : List ℕ) → IsToken k (b ∷ text) → is_blank b ≡ false
 not_blank Word b text h = letter_not_blank b h.0
 not_blank Int b text h = digit_not_blank b h.0
 not_blank Text b text h = let e : b ≡ 39 = cc h.2 in rw e refl
-not_blank Sign b [] h = single_not_blank b h
-not_blank Sign b (c ∷ []) h = pair_not_blank b c h
-not_blank Sign b (c ∷ d ∷ ds) h = absurd h
+not_blank Sign b text h = sign_not_blank b text (sign_bytes (b ∷ text) h)
 
 not_empty : (k : TokenKind) → IsToken k [] → ⊥
 not_empty Word h = h
 not_empty Int h = h
 not_empty Text h = cc h.2
-not_empty Sign h = h
+not_empty Sign h = sign_bytes [] h
 
 pub lex_complete : {bs : List ℕ} {ps : List Piece} → Lexes bs ps → lex 0 bs ≡ Some ps
 unfolding lex

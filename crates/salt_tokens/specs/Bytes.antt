@@ -20,14 +20,6 @@ is_word b = is_letter b || is_digit b
 abbrev pub is_printable : ℕ → Bool
 is_printable b = nat_le 32 b && nat_le b 126
 
--- ( ) { } , ; : @ . * + - = < >
-abbrev pub is_single : ℕ → Bool
-is_single b = b == 40 || b == 41 || b == 123 || b == 125 || b == 44 || b == 59 || b == 58 || b == 64 || b == 46 || b == 42 || b == 43 || b == 45 || b == 61 || b == 60 || b == 62
-
--- || <> <= >=
-abbrev pub is_pair : ℕ → ℕ → Bool
-is_pair a b = a == 124 && b == 124 || a == 60 && (b == 62 || b == 61) || a == 62 && b == 61
-
 -- a letter's small form
 abbrev pub lower : ℕ → ℕ
 lower b = if nat_le 65 b && nat_le b 90 then b + 32 else b

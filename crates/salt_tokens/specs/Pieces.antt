@@ -1,6 +1,8 @@
 -- Which bytes are which row of tokens.
-use Rattle.std.specs.Prelude.{◌≡◌, ℕ, Bool, true, false, List, [], ◌∷◌, ◌++◌, ◌==◌, if◌then◌else◌}
-use Rattle.salt_tokens.specs.Bytes.{is_blank, is_digit, is_letter, is_word, is_printable, is_single, is_pair}
+use Rattle.std.specs.Prelude.{◌≡◌, ℕ, Bool, true, false, List, [], ◌∷◌, ◌++◌, ◌==◌, is_some, if◌then◌else◌}
+use Rattle.salt_tokens.specs.Bytes.{is_blank, is_digit, is_letter, is_word, is_printable}
+use Rattle.salt_tokens.specs.Spelling.{sign_spelling, sign_of}
+use Rattle.salt_tokens.specs.declared.sign.Sign as mark
 use Rattle.salt_tokens.specs.declared.token.TokenKind.{TokenKind}
 use Rattle.salt_tokens.specs.declared.token.TokenKind.TheVariants.{Word, Int, Text, Sign}
 
@@ -9,12 +11,12 @@ pub record Piece : Type 0 where
   pub kind : TokenKind
   pub text : List ℕ
 
--- each byte passes
+-- each byte passes the test
 abbrev pub Run : (ℕ → Bool) → List ℕ → Type 0
 Run p [] = Unit {0}
 Run p (b ∷ bs) = (p b ≡ true) × Run p bs
 
--- the next byte, if there is one, doesn't pass
+-- the next byte, if there is one, doesn't pass the test
 abbrev pub NotNext : (ℕ → Bool) → List ℕ → Type 0
 NotNext p [] = Unit {0}
 NotNext p (b ∷ bs) = p b ≡ false
@@ -24,38 +26,30 @@ abbrev pub doubled : List ℕ → List ℕ
 doubled [] = []
 doubled (b ∷ bs) = if b == 39 then 39 ∷ 39 ∷ doubled bs else b ∷ doubled bs
 
+-- a text as it is written
 abbrev pub quoted : List ℕ → List ℕ
 quoted content = 39 ∷ (doubled content ++ 39 ∷ [])
 
--- a first byte, and bytes that pass
+-- a first byte that passes one test, and bytes that pass another
 abbrev pub First : (ℕ → Bool) → (ℕ → Bool) → List ℕ → Type 0
 First p q [] = ⊥
 First p q (b ∷ bs) = (p b ≡ true) × Run q bs
 
-abbrev pub IsSign : List ℕ → Type 0
-IsSign [] = ⊥
-IsSign (a ∷ []) = is_single a ≡ true
-IsSign (a ∷ b ∷ []) = is_pair a b ≡ true
-IsSign (a ∷ b ∷ c ∷ cs) = ⊥
-
+-- the bytes are a token of this kind
 abbrev pub IsToken : TokenKind → List ℕ → Type 0
 IsToken Word text = First is_letter is_word text
 IsToken Int text = First is_digit is_digit text
 IsToken Text text = (content : List ℕ) × Run is_printable content × (text ≡ quoted content)
-IsToken Sign text = IsSign text
+IsToken Sign text = (s : mark.Sign) × (text ≡ sign_spelling s)
 
--- no longer sign stands there
-abbrev pub SignEnds : List ℕ → List ℕ → Type 0
-SignEnds (a ∷ []) rest = NotNext (is_pair a) rest
-SignEnds _ rest = Unit {0}
-
--- the token is the longest at its place
+-- the token is the longest at its place: the next byte, if there is one, does not go on with it
 abbrev pub Ends : TokenKind → List ℕ → List ℕ → Type 0
 Ends Word text rest = NotNext is_word rest
 Ends Int text rest = NotNext is_digit rest
 Ends Text text rest = NotNext (λ b. b == 39) rest
-Ends Sign text rest = SignEnds text rest
+Ends Sign text rest = NotNext (λ b. is_some (sign_of (text ++ b ∷ []))) rest
 
+-- the bytes are this row of tokens, with blanks before and after each
 pub data Lexes : List ℕ → List Piece → Type 0 where
   ended : Lexes [] []
   blank : {b : ℕ} {bs : List ℕ} {ps : List Piece} → is_blank b ≡ true → Lexes bs ps → Lexes (b ∷ bs) ps

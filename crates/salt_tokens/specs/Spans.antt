@@ -3,9 +3,11 @@ use Rattle.std.specs.Prelude.{ℕ, ◌+◌, ◌≤◌, ◌<◌, List, [], ◌∷
 use Rattle.salt_tokens.specs.declared.token.Token.{Token}
 use Rattle.salt_tokens.specs.Pieces.{Piece}
 
+-- a token by its bytes
 abbrev pub piece_of : List ℕ → Token → Piece
 piece_of bytes t = record { kind = t.kind; text = take t.len (drop t.at bytes) }
 
+-- tokens by their bytes
 abbrev pub pieces : List ℕ → List Token → List Piece
 pieces bytes ts = map (piece_of bytes) ts
 

@@ -6,6 +6,7 @@ use Rattle.salt_tokens.specs.declared.sign.Sign.{Sign}
 use Rattle.salt_tokens.specs.declared.sign.Sign.TheVariants as mark
 use Rattle.salt_tokens.specs.Bytes.{lower}
 
+-- a keyword in small letters
 abbrev pub keyword_spelling : Keyword → List ℕ
 keyword_spelling word.Create = codes "create"
 keyword_spelling word.Table = codes "table"
@@ -82,6 +83,7 @@ all_keywords = word.Create ∷ word.Table ∷ word.Int ∷ word.Text ∷ word.Ke
 abbrev pub all_signs : List Sign
 all_signs = mark.Open ∷ mark.Close ∷ mark.OpenBrace ∷ mark.CloseBrace ∷ mark.Comma ∷ mark.Semicolon ∷ mark.Colon ∷ mark.At ∷ mark.Dot ∷ mark.Star ∷ mark.Plus ∷ mark.Minus ∷ mark.Bars ∷ mark.Equal ∷ mark.Unequal ∷ mark.Less ∷ mark.AtMost ∷ mark.Greater ∷ mark.AtLeast ∷ []
 
+-- whether two rows of bytes are one
 abbrev pub same_bytes : List ℕ → List ℕ → Bool
 same_bytes [] [] = true
 same_bytes [] (y ∷ ys) = false

@@ -1,5 +1,5 @@
 -- What tokens stand for.
-use Rattle.std.specs.Prelude.{ℕ, ◌+◌, ◌-◌, ◌^◌, List, [], ◌∷◌, ◌==◌, length, take, drop, map, min, Option, Some, None, if◌then◌else◌}
+use Rattle.std.specs.Prelude.{◌≡◌, ℕ, ◌-◌, ◌^◌, List, [], ◌∷◌, ◌==◌, length, take, drop, map, min, Option, Some, None, if◌then◌else◌}
 use Rattle.std.specs.Str.Parse.{digits_value}
 use Rattle.salt_tokens.specs.declared.keyword.Keyword.{Keyword}
 use Rattle.salt_tokens.specs.declared.sign.Sign.{Sign}
@@ -8,7 +8,7 @@ use Rattle.salt_tokens.specs.declared.token.TokenKind.{TokenKind}
 use Rattle.salt_tokens.specs.declared.token.TokenKind.TheVariants as kind
 use Rattle.salt_tokens.specs.declared.lexeme.Lexeme.{Lexeme}
 use Rattle.salt_tokens.specs.declared.lexeme.Lexeme.TheVariants as lexeme
-use Rattle.salt_tokens.specs.Pieces.{Piece}
+use Rattle.salt_tokens.specs.Pieces.{Piece, Lexes}
 use Rattle.salt_tokens.specs.Spelling.{keyword_of, sign_of}
 
 -- what a token stands for, wherever its bytes lie
@@ -19,10 +19,11 @@ pub data Symbol : Type 0 where
   text : List ℕ → Symbol
   sign : Sign → Symbol
 
+-- symbols, in the order of the text
 abbrev pub Row : Type 0
 Row = List Symbol
 
--- the largest number that a symbol tells from larger ones
+-- the largest number of 64 bits, which a larger one is taken as: a text that holds either passes each limit on numbers
 abbrev pub largest_int : ℕ
 largest_int = 2 ^ 64 - 1
 
@@ -36,6 +37,7 @@ undoubled (b ∷ c ∷ cs) = if b == 39 then b ∷ undoubled cs else b ∷ undou
 abbrev pub between : List ℕ → List ℕ
 between bs = take (length bs - 2) (drop 1 bs)
 
+-- a keyword, or else a name with its letters as they are
 abbrev pub word_symbol : List ℕ → Option Keyword → Symbol
 word_symbol bs None = name bs
 word_symbol bs (Some k) = key k
@@ -45,6 +47,7 @@ abbrev pub sign_symbol : Option Sign → Symbol
 sign_symbol None = sign mark.Dot
 sign_symbol (Some s) = sign s
 
+-- what the bytes of a token of this kind stand for
 abbrev pub symbol_by : TokenKind → List ℕ → Symbol
 symbol_by kind.Word bs = word_symbol bs (keyword_of bs)
 symbol_by kind.Int bs = int (min (digits_value 10 bs) largest_int)
@@ -54,8 +57,13 @@ symbol_by kind.Sign bs = sign_symbol (sign_of bs)
 abbrev pub symbol_of : Piece → Symbol
 symbol_of p = symbol_by p.kind p.text
 
+-- the row that tokens stand for
 abbrev pub row_of : List Piece → Row
 row_of ps = map symbol_of ps
+
+-- the bytes are tokens that stand for this row
+abbrev pub HasRow : List ℕ → Row → Type 0
+HasRow bytes r = (ps : List Piece) × Lexes bytes ps × (r ≡ row_of ps)
 
 -- what the program's form of a token stands for
 abbrev pub symbol : Lexeme → Symbol
@@ -65,5 +73,6 @@ symbol (lexeme.Int n) = int n
 symbol (lexeme.Text t) = text (undoubled t.now)
 symbol (lexeme.Sign s) = sign s
 
+-- the row that the program's tokens stand for
 abbrev pub row : List Lexeme → Row
 row ts = map symbol ts

@@ -2,7 +2,6 @@ ghost use Rattle.std.specs.Prelude.{◌≡◌, map};
 ghost use Rattle.salt_tokens.specs.Bytes.{lower};
 ghost use Rattle.salt_tokens.specs.Spelling.{keyword_spelling, keyword_of, same_bytes};
 
-
 use crate::same::same_in_any_case;
 
 /// A word that is no name, written in capital or small letters.
@@ -57,7 +56,55 @@ pub enum Keyword {
     Retry,
 }
 
-const ALL: [Keyword; 47] = [Keyword::Create, Keyword::Table, Keyword::Int, Keyword::Text, Keyword::Key, Keyword::Check, Keyword::Insert, Keyword::Into, Keyword::Values, Keyword::Select, Keyword::From, Keyword::Where, Keyword::And, Keyword::Or, Keyword::Not, Keyword::Between, Keyword::Update, Keyword::Set, Keyword::Delete, Keyword::Ensure, Keyword::Count, Keyword::Sum, Keyword::Min, Keyword::Max, Keyword::Program, Keyword::Var, Keyword::Acid, Keyword::Base, Keyword::Part, Keyword::Then, Keyword::On, Keyword::Failure, Keyword::Go, Keyword::End, Keyword::Begin, Keyword::Commit, Keyword::Rollback, Keyword::Step, Keyword::Call, Keyword::Show, Keyword::Locks, Keyword::Bases, Keyword::Crash, Keyword::All, Keyword::Null, Keyword::Is, Keyword::Retry];
+const ALL: [Keyword; 47] = [
+    Keyword::Create,
+    Keyword::Table,
+    Keyword::Int,
+    Keyword::Text,
+    Keyword::Key,
+    Keyword::Check,
+    Keyword::Insert,
+    Keyword::Into,
+    Keyword::Values,
+    Keyword::Select,
+    Keyword::From,
+    Keyword::Where,
+    Keyword::And,
+    Keyword::Or,
+    Keyword::Not,
+    Keyword::Between,
+    Keyword::Update,
+    Keyword::Set,
+    Keyword::Delete,
+    Keyword::Ensure,
+    Keyword::Count,
+    Keyword::Sum,
+    Keyword::Min,
+    Keyword::Max,
+    Keyword::Program,
+    Keyword::Var,
+    Keyword::Acid,
+    Keyword::Base,
+    Keyword::Part,
+    Keyword::Then,
+    Keyword::On,
+    Keyword::Failure,
+    Keyword::Go,
+    Keyword::End,
+    Keyword::Begin,
+    Keyword::Commit,
+    Keyword::Rollback,
+    Keyword::Step,
+    Keyword::Call,
+    Keyword::Show,
+    Keyword::Locks,
+    Keyword::Bases,
+    Keyword::Crash,
+    Keyword::All,
+    Keyword::Null,
+    Keyword::Is,
+    Keyword::Retry,
+];
 
 impl Keyword {
     /// The keyword in small letters.

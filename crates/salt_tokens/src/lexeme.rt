@@ -1,8 +1,8 @@
-ghost use Rattle.std.specs.Prelude.{◌≡◌, ◌≤◌, List, Err, IfOk, length, min, vec_len};
+ghost use Rattle.std.specs.Prelude.{◌≡◌, ◌≤◌, Err, IfOk, length, min, vec_len};
 ghost use Rattle.std.specs.Str.Parse.{digits_value};
 ghost use Rattle.salt_tokens.specs.Bytes.{is_digit};
-ghost use Rattle.salt_tokens.specs.Pieces.{IsToken, Piece, Lexes, Run};
-ghost use Rattle.salt_tokens.specs.Symbols.{between, largest_int, row, row_of, symbol, symbol_by};
+ghost use Rattle.salt_tokens.specs.Pieces.{IsToken, Run};
+ghost use Rattle.salt_tokens.specs.Symbols.{HasRow, Row, between, largest_int, row, symbol, symbol_by};
 ghost use Rattle.salt_tokens.specs.declared.error.ScanErr.TheVariants.{Syntax};
 
 use crate::error::ScanErr;
@@ -12,9 +12,10 @@ use crate::sign::Sign;
 use crate::token::TokenKind;
 use std::alloc::Global;
 
-/// A token and what it stands for.
+/// What a token stands for.
 #[derive(Clone, Copy, Debug)]
 pub enum Lexeme<'a> {
+    /// A keyword, whatever its letters' case.
     Key(Keyword),
     /// A name, as it is written.
     Name(&'a [u8]),
@@ -22,6 +23,7 @@ pub enum Lexeme<'a> {
     Int(u64),
     /// What stands between the quotes of a text, with each quote still doubled.
     Text(&'a [u8]),
+    /// A sign.
     Sign(Sign),
 }
 
@@ -63,13 +65,13 @@ fn lexeme_of<'a>(kind: TokenKind, text: &'a [u8]) -> Lexeme<'a>
     }
 }
 
-/// The tokens of the bytes, each with what it stands for; the time is linear in the bytes.
+/// What the tokens of the bytes stand for, one after the other; the time is linear in the bytes.
 ///
 /// `Syntax` where the bytes are no row of tokens, and `Memory` where memory runs out.
 pub fn lexemes<'a>(alloc: Global, bytes: &'a [u8]) -> Result<Vec<Lexeme<'a>>, ScanErr>
-    ensures found { IfOk result (λ v. (ps : List Piece) × Lexes bytes.now ps × (row v.items ≡ row_of ps)) }
+    ensures found { IfOk result (λ v. HasRow bytes.now (row v.items)) }
     ensures short { IfOk result (λ v. vec_len v ≤ length bytes.now) }
-    ensures syntax { result ≡ Err Syntax → (ps : List Piece) → ¬ (Lexes bytes.now ps) }
+    ensures syntax { result ≡ Err Syntax → (r : Row) → ¬ (HasRow bytes.now r) }
 {
     let tokens = scan(alloc, bytes)?;
     let mut lexemes = Vec::new(alloc);

@@ -3,6 +3,7 @@
 
 mod error;
 mod keyword;
+mod laws;
 mod lexeme;
 mod same;
 mod scanner;
@@ -11,7 +12,11 @@ mod token;
 
 pub use error::ScanErr;
 pub use keyword::Keyword;
+pub use laws::{keyword_spellings, one_row, quoted_text, sign_spellings, written_number};
 pub use lexeme::{Lexeme, lexemes};
 pub use scanner::scan;
 pub use sign::Sign;
 pub use token::{Token, TokenKind, Tokens};
+
+#[cfg(test)]
+mod tests;

@@ -1,14 +1,16 @@
 //! From bytes to tokens.
 
-ghost use Rattle.std.specs.Prelude.{◌≡◌, ℕ, List, ◌<◌, ◌≤◌, ◌+◌, ◌-◌, length, drop, IfOk, IfSome, Err, false};
+ghost use Rattle.std.specs.Prelude.{◌≡◌, ℕ, List, ◌<◌, ◌≤◌, ◌+◌, ◌-◌, length, drop, IfOk, IfSome, Err, false, is_some};
 ghost use Rattle.std.specs.List.{prefix_len};
-ghost use Rattle.salt_tokens.specs.Bytes.{is_blank, is_digit, is_letter, is_word, is_printable, is_single, is_pair};
+ghost use Rattle.salt_tokens.specs.Bytes.{is_blank, is_digit, is_letter, is_word, is_printable};
 ghost use Rattle.salt_tokens.specs.Pieces.{Piece, Lexes};
 ghost use Rattle.salt_tokens.specs.Scanning.{first_at, quoted_at, sign_at, lex, Gives};
+ghost use Rattle.salt_tokens.specs.Spelling.{sign_of};
 ghost use Rattle.salt_tokens.specs.Spans.{pieces, AreInOrder};
 ghost use Rattle.salt_tokens.specs.declared.error.ScanErr.TheVariants.{Syntax};
 
 use crate::error::ScanErr;
+use crate::sign::Sign;
 use crate::token::{Token, TokenKind, Tokens};
 use sqlite_items::Items;
 use std::alloc::Global;
@@ -43,30 +45,10 @@ fn is_printable(b: u8) -> bool
     32 <= b && b <= 126
 }
 
-fn is_single(b: u8) -> bool
-    ensures { result ≡ is_single b }
+fn is_sign(bytes: &[u8]) -> bool
+    ensures { result ≡ is_some (sign_of bytes.now) }
 {
-    b == b'('
-        || b == b')'
-        || b == b'{'
-        || b == b'}'
-        || b == b','
-        || b == b';'
-        || b == b':'
-        || b == b'@'
-        || b == b'.'
-        || b == b'*'
-        || b == b'+'
-        || b == b'-'
-        || b == b'='
-        || b == b'<'
-        || b == b'>'
-}
-
-fn is_pair(a: u8, b: u8) -> bool
-    ensures { result ≡ is_pair a b }
-{
-    a == b'|' && b == b'|' || a == b'<' && (b == b'>' || b == b'=') || a == b'>' && b == b'='
+    Sign::of_bytes(bytes).is_some()
 }
 
 #[tactic(auto, using(crate::proofs::Quoted::lengths))]
@@ -106,13 +88,14 @@ fn quoted_len(bytes: &[u8]) -> Option<usize>
     if after_quote { Some(bytes.len()) } else { None }
 }
 
+/// How many bytes are of the sign at the front, the longest that stands there.
 fn sign_len(bytes: &[u8]) -> Option<usize>
     ensures value { result ≡ sign_at bytes.now }
     ensures within { IfSome result (λ n. (0 < n) × (n ≤ length bytes.now)) }
 {
     match bytes {
-        [a, b, ..] if is_pair(*a, *b) => Some(2),
-        [a, ..] if is_single(*a) => Some(1),
+        [a, b, ..] if is_sign(&[*a, *b]) => Some(2),
+        [a, ..] if is_sign(&[*a]) => Some(1),
         _ => None,
     }
 }
@@ -147,10 +130,10 @@ pub fn scan(alloc: Global, bytes: &[u8]) -> Result<Tokens, ScanErr>
     ensures spans { IfOk result (λ ts. AreInOrder 0 ts (length bytes.now)) }
     ensures syntax { result ≡ Err Syntax → (ps : List Piece) → ¬ (Lexes bytes.now ps) }
 {
-    all(alloc, bytes)
+    tokens_of(alloc, bytes)
 }
 
-fn all(alloc: Global, bytes: &[u8]) -> Result<Tokens, ScanErr>
+fn tokens_of(alloc: Global, bytes: &[u8]) -> Result<Tokens, ScanErr>
     ensures reads { Gives bytes.now result (lex 0 bytes.now) }
     ensures spans { IfOk result (λ ts. AreInOrder 0 ts (length bytes.now)) }
 {

@@ -1,7 +1,6 @@
 ghost use Rattle.std.specs.Prelude.{◌≡◌};
 ghost use Rattle.salt_tokens.specs.Spelling.{sign_spelling, sign_of};
 
-
 use crate::same::same;
 
 /// A sign of one byte or of two.
@@ -28,7 +27,27 @@ pub enum Sign {
     AtLeast,
 }
 
-const ALL: [Sign; 19] = [Sign::Open, Sign::Close, Sign::OpenBrace, Sign::CloseBrace, Sign::Comma, Sign::Semicolon, Sign::Colon, Sign::At, Sign::Dot, Sign::Star, Sign::Plus, Sign::Minus, Sign::Bars, Sign::Equal, Sign::Unequal, Sign::Less, Sign::AtMost, Sign::Greater, Sign::AtLeast];
+const ALL: [Sign; 19] = [
+    Sign::Open,
+    Sign::Close,
+    Sign::OpenBrace,
+    Sign::CloseBrace,
+    Sign::Comma,
+    Sign::Semicolon,
+    Sign::Colon,
+    Sign::At,
+    Sign::Dot,
+    Sign::Star,
+    Sign::Plus,
+    Sign::Minus,
+    Sign::Bars,
+    Sign::Equal,
+    Sign::Unequal,
+    Sign::Less,
+    Sign::AtMost,
+    Sign::Greater,
+    Sign::AtLeast,
+];
 
 impl Sign {
     /// The sign's bytes.
@@ -63,6 +82,8 @@ impl Sign {
     pub fn of_bytes(bytes: &[u8]) -> Option<Sign>
         ensures { result ≡ sign_of bytes.now }
     {
-        ALL.iter().copied().find(|sign| same(bytes, sign.spelling()))
+        ALL.iter()
+            .copied()
+            .find(|sign| same(bytes, sign.spelling()))
     }
 }

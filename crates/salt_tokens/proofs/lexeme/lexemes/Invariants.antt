@@ -1,4 +1,4 @@
-use Rattle.std.proofs.Common.{◌≡◌, take, map}
+use Rattle.std.proofs.Common.{◌≡◌, take}
 use Rattle.salt_tokens.specs.Spans.{pieces}
 use Rattle.salt_tokens.specs.Symbols.{row, row_of}
 use Rattle.salt_tokens.proofs.lexeme.lexemes.Given as goal

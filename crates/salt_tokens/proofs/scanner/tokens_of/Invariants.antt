@@ -2,7 +2,7 @@ use Rattle.std.proofs.Common.{◌≡◌, ◌≤◌, ◌-◌, length, drop}
 use Rattle.salt_tokens.specs.Scanning.{lex}
 use Rattle.salt_tokens.specs.Spans.{pieces, AreInOrder}
 use Rattle.salt_tokens.proofs.Steps.{with_front}
-use Rattle.salt_tokens.proofs.scanner.all.Given as goal
+use Rattle.salt_tokens.proofs.scanner.tokens_of.Given as goal
 
 abbrev pub invariant-loop-at : goal.invariant-loop-at
 invariant-loop-at l = record {

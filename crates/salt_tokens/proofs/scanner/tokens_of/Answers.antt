@@ -3,7 +3,7 @@ use Rattle.std.proofs.lemmas.List.{map_push}
 use Rattle.std.proofs.lemmas.Slice.{between_to_end}
 use Rattle.salt_tokens.specs.Spans.{pieces, piece_of}
 use Rattle.salt_tokens.proofs.Steps.{blank_goes_on, token_goes_on, token_fails, lex_ends, AreInOrder-push, AreInOrder-later}
-use Rattle.salt_tokens.proofs.scanner.all.Goals as goal
+use Rattle.salt_tokens.proofs.scanner.tokens_of.Goals as goal
 
 pub loop-at-preserved-then-is_blank : goal.loop-at-preserved-then-is_blank
 loop-at-preserved-then-is_blank c = record {
