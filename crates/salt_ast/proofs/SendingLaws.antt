@@ -60,13 +60,6 @@ pub leaves_less : {s : Option (List ℕ)} {w : List ℕ} {h : Option (List ℕ)}
 leaves_less {s = s} {w = w} {h = h} x y left now l e n =
     subst (λ (t : Option (List ℕ)). Leaves s w t y) (sym n) (leaves_rest x y (subst (λ (t : List ℕ). Leaves s w h t) (sym e) l))
 
--- the two parts of a list at n
-pub parts_at : (n : ℕ) (l : List ℕ) → n ≤ length l → take n l ++ take (length l - n) (drop n l) ≡ l
-parts_at n l h = ap (λ k. take n l ++ take k (drop n l)) (sym (length-drop n l)) ∙ (ap (λ t. take n l ++ t) (take-length (drop n l)) ∙ take-append-drop n l)
-
-pub nothing_left : (l : List ℕ) → (length l == 0) ≡ true → l ≡ []
-nothing_left l h = nil_from_length l (eqb-true _ _ h)
-
 -- writing the next part fails
 pub leaves_part : {s : Option (List ℕ)} {w : List ℕ} {h : Option (List ℕ)} (x y : List ℕ) (left : List ℕ) (c : Option (List ℕ)) → Leaves s w h left → x ++ y ≡ left → GainsSome h x c → GainsSome s w c
 leaves_part {s = s} {w = w} {h = h} x y left c l e g = l.some c (subst (λ (t : List ℕ). GainsSome h t c) e (some_before h x y c g))
