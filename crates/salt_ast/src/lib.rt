@@ -8,6 +8,8 @@ mod limit;
 mod parts;
 mod print;
 mod send;
+#[cfg(test)]
+mod tests;
 mod trees;
 
 pub use limit::LimitName;
