@@ -147,35 +147,49 @@ fn ensure(alloc: Global) -> Result<Statement, Fail> {
     Ok(Statement::Ensure(binary(alloc, number(1), Op::Equal, number(2))?))
 }
 
+/// The text of a copy.
+fn printed(alloc: Global, statement: Statement) -> Result<Vec<u8>, AllocError> {
+    let mut out = Vec::new(alloc);
+    print_statement(&mut out, &statement.copy(alloc)?)?;
+    Ok(out)
+}
+
 #[test]
 fn statements_and_their_texts(rt: HostRuntime) -> Result<(), Fail> {
     let alloc = rt.alloc();
-    let cases: [(Statement, &[u8]); 8] = [
-        (insert(alloc)?, b"insert into t values (5, -3, 'it''s')"),
+    let cases: [(Vec<u8>, &[u8]); 8] = [
         (
-            select(alloc)?,
+            printed(alloc, insert(alloc)?)?,
+            b"insert into t values (5, -3, 'it''s')",
+        ),
+        (
+            printed(alloc, select(alloc)?)?,
             b"select n, id from w where key between 0 and 3 and (not (n = 'x'))",
         ),
         (
-            count(alloc)?,
+            printed(alloc, count(alloc)?)?,
             b"select count(*) from t where ((a <= 1) or (b <> :x))",
         ),
-        (greatest(alloc)?, b"select max(bal) from acct"),
         (
-            select_into(alloc)?,
+            printed(alloc, greatest(alloc)?)?,
+            b"select max(bal) from acct",
+        ),
+        (
+            printed(alloc, select_into(alloc)?)?,
             b"select bal into :x from acct where key = (1 * 2)",
         ),
         (
-            update(alloc)?,
+            printed(alloc, update(alloc)?)?,
             b"update acct set bal = (bal - :amt), n = (n || '') where key = :a",
         ),
-        (delete(alloc)?, b"delete from t where key = 1 and flag"),
-        (ensure(alloc)?, b"ensure (1 = 2)"),
+        (
+            printed(alloc, delete(alloc)?)?,
+            b"delete from t where key = 1 and flag",
+        ),
+        (printed(alloc, ensure(alloc)?)?, b"ensure (1 = 2)"),
     ];
-    for (statement, want) in cases {
-        let mut out = Vec::new(alloc);
-        print_statement(&mut out, &statement.copy(alloc)?)?;
-        assert_eq!(rt; out.as_slice(), want);
+    for (text, want) in &cases {
+        assert_eq!(rt; text.as_slice(), *want);
     }
     Ok(())
 }
