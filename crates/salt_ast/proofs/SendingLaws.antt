@@ -1,11 +1,9 @@
 -- One text behind another, written to a sink.
 use Rattle.salt_ast.specs.Sending.{gained}
 use Rattle.salt_io.specs.Streams.{GainsSome}
-use Rattle.std.proofs.Common.{Err, List, None, Ok, OnErr, OnOk, Option, Result, Some, [], ap, append_assoc, drop, length, length-drop, refl, sym, subst, take, true, ℕ, ◌++◌, ◌-◌, ◌∙◌, ◌≡◌, ◌≤◌}
-use Rattle.std.specs.Prelude.{◌==◌}
-use Rattle.std.proofs.Math.Seq.{take-append_seam, take-length}
-use Rattle.std.proofs.lemmas.Bool.{eqb-true}
-use Rattle.std.proofs.lemmas.List.{append-nil, nil_from_length, take-append-drop}
+use Rattle.std.proofs.Common.{Err, List, None, Ok, OnErr, OnOk, Option, Result, Some, [], ap, append_assoc, length, refl, subst, sym, take, ℕ, ◌++◌, ◌∙◌, ◌≡◌}
+use Rattle.std.proofs.Math.Seq.{take-append_seam}
+use Rattle.std.proofs.lemmas.List.{append-nil}
 
 pub gained_append : (h : Option (List ℕ)) (x y : List ℕ) → gained h (x ++ y) ≡ gained (gained h x) y
 unfolding gained
@@ -35,11 +33,6 @@ some_before h x y c g = record {
   whole = ap (λ t. t ++ y) g.whole ∙ append_assoc g.part g.others y;
   gained = g.gained;
 }
-
--- nothing yet
-pub some_nothing : (h : Option (List ℕ)) (x : List ℕ) → GainsSome h x h
-unfolding gained
-some_nothing h x = record { part = []; others = x; whole = refl; gained = sym (gained_nothing h) }
 
 -- All of a text has been written to a sink that held `start`, but for what is left.
 pub record Leaves (start : Option (List ℕ)) (whole : List ℕ) (now : Option (List ℕ)) (left : List ℕ) : Type 0 where

@@ -12,7 +12,8 @@ use salt_values::Name;
 pub trait Canonical {
     ghost text: { Self → List ℕ };
 
-    /// Writes the text. After an error some first part of it has been written, and the count of faults has risen.
+    /// Writes the text. After an error some first part of it has been written, and the sink's count of
+    /// faults has risen.
     fn send<K: Sink>(&self, sink: &mut K) -> Result<(), IoFailed>
         ensures ok { OnOk result (K.held sink.new ≡ gained (K.held sink.old) (text self.now)) }
         ensures err { OnErr result (GainsSome (K.held sink.old) (text self.now) (K.held sink.new)) }

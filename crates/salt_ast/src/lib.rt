@@ -1,4 +1,5 @@
-//! The trees of tables and statements, which texts spell them, their canonical texts, and what is refused of them.
+//! The trees of tables and statements, which texts spell them, their canonical texts, and what is
+//! refused of them.
 #![tactic(auto)]
 
 mod appender;

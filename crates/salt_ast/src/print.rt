@@ -99,8 +99,8 @@ impl Canonical for TableDef {
     }
 }
 
-/// Writes the canonical text of a statement; it takes no memory. After an error some first part of the text has been
-/// written, and the sink's count of faults has risen.
+/// Writes the canonical text of a statement; it takes no memory. After an error some first part of
+/// the text has been written, and the sink's count of faults has risen.
 #[tactic(auto, unfolding(crate::specs::Sending::gained))]
 pub fn send_statement<K: Sink>(sink: &mut K, st: &Statement) -> Result<(), IoFailed>
     ensures ok { OnOk result (Gains (K.held sink.old) (statement_text st.now) (K.held sink.new)) }
