@@ -1,5 +1,5 @@
 -- From line to line, and how a run ends.
-use Rattle.salt_engine.specs.Engine.{Breaks, BreaksOff, Goes, GoesOn, Grows, NumbersRise, Serves}
+use Rattle.salt_engine.specs.Engine.{Grows}
 use Rattle.salt_engine.specs.declared.engine.Engine.{Engine}
 use Rattle.salt_io.specs.Lines.{IsCutOff, Reading, TakesLine, TakesLong, TakesNoLine}
 use Rattle.salt_io.specs.declared.lines.LineErr.{LineErr}
@@ -13,14 +13,13 @@ use Rattle.salt_model.specs.declared.events.Event.{Event}
 use Rattle.salt_print.proofs.Joins.{Gains-append}
 use Rattle.salt_run.proofs.Places.{end-place, fault-place, long-place, memory-place, next-place, write-place}
 use Rattle.salt_run.specs.Run.{longest_script}
-use Rattle.salt_run.specs.Serving.{HasNumbers, IsAt, IsDone, IsEnded, IsLeftIn, IsServing, StopsTelling, TextAsks, added_text, rest_of, status_of, stop_of}
+use Rattle.salt_run.specs.Serving.{IsAt, IsDone, IsEnded, IsLeftIn, IsServing, StopsTelling, TextAsks, added_text, rest_of, status_of, stop_of}
 use Rattle.salt_run.specs.declared.serving.Stop.{Stop}
 use Rattle.salt_run.specs.declared.serving.Stop.TheVariants as stop
 use Rattle.salt_run.specs.declared.status.Status.TheVariants.{Done, Memory, ReadFault, ScriptTooLong, WriteFault}
 use Rattle.std.proofs.Common.{ap, append-nil, append_assoc, arith, inl, inr, subst, sym, ◌∙◌}
-use Rattle.std.specs.List.{flat_map}
 use Rattle.std.specs.Result.{IfErr, IsErrAnd}
-use Rattle.std.specs.Prelude.{Err, List, None, Ok, Option, Result, Some, [], drop, length, option_map, refl, ℕ, ⊤, ◌++◌, ◌+◌, ◌-◌, ◌<◌, ◌∷◌, ◌≡◌, ◌≤◌, ◌⊎◌}
+use Rattle.std.specs.Prelude.{Err, List, None, Ok, Option, Result, Some, [], drop, length, refl, ℕ, ◌++◌, ◌-◌, ◌∷◌, ◌≡◌}
 
 ask-one : (texts : List (List ℕ)) (lines : List Asked) (text : List ℕ) (line : Asked) → AskInOrder texts lines → Asks text line → AskInOrder (texts ++ text ∷ []) (lines ++ line ∷ [])
 ask-one [] [] text line h a = (a, tt)

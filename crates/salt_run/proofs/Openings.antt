@@ -5,21 +5,20 @@ use Rattle.salt_io.specs.Lines.{Reading, lines_of}
 use Rattle.salt_io.specs.Streams.{Gains, GainsSome, bytes_before}
 use Rattle.salt_model.specs.After.{kept}
 use Rattle.salt_model.specs.EventTexts.{story_text}
-use Rattle.salt_model.specs.Honest.{IsHonest}
 use Rattle.salt_model.specs.Kept.{nothing_kept}
 use Rattle.salt_model.specs.Log.{Log, from, unit_count, ◌says◌}
-use Rattle.salt_model.specs.Played.{IsComplete, Played, Tells}
+use Rattle.salt_model.specs.Played.{IsComplete, Tells}
 use Rattle.salt_model.specs.declared.events.Event.{Event}
 use Rattle.salt_model.specs.declared.events.Event.TheVariants.{Opened, Ready}
 use Rattle.salt_print.proofs.Joins.{Gains-nil}
-use Rattle.salt_run.specs.Run.{AreLinesOf, IsFrontOf, IsPlayedRun, IsWritten}
-use Rattle.salt_run.specs.Serving.{HasNumbers, IsAt, IsEnded, IsServing, StopsOpening, opening, status_of}
+use Rattle.salt_run.specs.Run.{AreLinesOf, IsPlayedRun}
+use Rattle.salt_run.specs.Serving.{IsAt, IsEnded, IsServing, StopsOpening, opening, status_of}
 use Rattle.salt_run.specs.declared.serving.Stop.{Stop}
 use Rattle.salt_run.specs.declared.serving.Stop.TheVariants as stop
 use Rattle.salt_run.specs.declared.status.Status.{Status}
-use Rattle.salt_run.specs.declared.status.Status.TheVariants.{Done, Memory, ReadFault, ScriptTooLong, Usage, WriteFault}
-use Rattle.std.proofs.Common.{ap, arith, inl, inr, subst, sym, ◌∙◌}
-use Rattle.std.specs.Prelude.{List, None, Option, Some, [], refl, ℕ, ⊤, ◌++◌, ◌∷◌, ◌≡◌, ◌≤◌, ◌⊎◌}
+use Rattle.salt_run.specs.declared.status.Status.TheVariants.{Memory, Usage, WriteFault}
+use Rattle.std.proofs.Common.{arith, inl, inr, subst, sym}
+use Rattle.std.specs.Prelude.{List, None, Option, Some, [], refl, ℕ, ◌≡◌}
 
 abbrev pub opened : Log
 opened = from nothing_kept says Opened 1 0 says Ready

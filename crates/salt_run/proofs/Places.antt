@@ -1,13 +1,13 @@
 -- How far a run came in its script: from one line to the next, and where it ends.
 use Rattle.salt_io.proofs.ScriptLaws.{script_of-append}
-use Rattle.salt_io.specs.Lines.{IsCutOff, IsLineOf, Script, TakesLine, TakesNoLine, lines_of, script_of, with_rest}
+use Rattle.salt_io.specs.Lines.{IsCutOff, IsLineOf, TakesLine, TakesNoLine, lines_of, script_of, with_rest}
 use Rattle.salt_io.specs.Streams.{IsAtEnd, Takes, bytes_before}
-use Rattle.salt_run.specs.Run.{AreLinesDone, AreLinesOf, AreLinesRead, IsFrontOf, longest_script}
+use Rattle.salt_run.specs.Run.{AreLinesOf, IsFrontOf, longest_script}
 use Rattle.salt_run.specs.Serving.{IsAt, IsAtLine}
 use Rattle.salt_run.specs.declared.status.Status.TheVariants.{Done, Memory, ReadFault, ScriptTooLong, WriteFault}
 use Rattle.std.proofs.Common.{ap, append-nil, append_assoc, arith, inl, inr, length-append, subst, sym, ◌∙◌}
 use Rattle.std.proofs.Math.Seq.{take-append-add}
-use Rattle.std.specs.Prelude.{List, None, Option, Some, [], length, refl, take, ℕ, ⊤, ◌++◌, ◌+◌, ◌-◌, ◌<◌, ◌∷◌, ◌≡◌, ◌≢◌, ◌≤◌, ◌⊎◌}
+use Rattle.std.specs.Prelude.{List, None, Option, Some, [], length, refl, take, ℕ, ◌++◌, ◌+◌, ◌-◌, ◌<◌, ◌∷◌, ◌≡◌, ◌≢◌, ◌≤◌, ◌⊎◌}
 
 some_is : {A : Type 0} (x y : A) → Some x ≡ Some y → x ≡ y
 some_is x y e = cc

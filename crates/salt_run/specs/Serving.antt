@@ -16,7 +16,7 @@ use Rattle.salt_run.specs.declared.serving.Stop.{Stop}
 use Rattle.salt_run.specs.declared.serving.Stop.TheVariants.{Memory, ReadFault, ScriptTooLong, WriteFault}
 use Rattle.salt_run.specs.declared.status.Status.{Status}
 use Rattle.salt_run.specs.declared.status.Status.TheVariants as status
-use Rattle.std.specs.Prelude.{Bool, List, None, Option, Some, [], drop, false, length, true, ℕ, ⊤, ◌++◌, ◌∷◌, ◌≡◌, ◌≤◌, ◌⊎◌}
+use Rattle.std.specs.Prelude.{Bool, List, None, Option, Some, [], drop, false, length, true, ℕ, ⊤, ◌∷◌, ◌≡◌, ◌≤◌, ◌⊎◌}
 
 -- the texts are the lines of the bytes that were given of a script, and the rest of it begins a line, or is at its end
 pub record IsAtLine (script : List ℕ) (taken : ℕ) (rest : Option (List ℕ)) (texts : List (List ℕ)) : Type 0 where

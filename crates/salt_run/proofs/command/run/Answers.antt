@@ -2,7 +2,6 @@ use Rattle.salt_model.proofs.HonestLaw.{honest}
 use Rattle.salt_run.proofs.Openings.{played-at, usage-played}
 use Rattle.salt_run.proofs.command.run.Goals as goal
 use Rattle.salt_run.proofs.command.run.Goals.{else-is_run_alone, then-is_run_alone+in-Err, then-is_run_alone+in-Ok}
-use Rattle.salt_run.specs.Run.{IsPlayedRun}
 use Rattle.salt_run.specs.Serving.{status_of}
 use Rattle.salt_run.specs.declared.status.Status.TheVariants.{Done, Usage}
 use Rattle.std.proofs.Common.{[], ap, ◌∙◌}

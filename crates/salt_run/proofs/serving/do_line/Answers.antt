@@ -4,7 +4,7 @@ use Rattle.salt_model.specs.declared.events.Refusal.TheVariants.{Syntax}
 use Rattle.salt_run.proofs.serving.do_line.Goals as goal
 use Rattle.salt_run.specs.Serving.{IsDone, IsLeftIn}
 use Rattle.salt_script.specs.Answers.{asked_of}
-use Rattle.std.proofs.Common.{OnErr, OnOk, ap, inl, inr, refl, subst, sym, ◌∙◌}
+use Rattle.std.proofs.Common.{OnErr, OnOk, ap, inr, refl, subst, sym}
 use Rattle.std.proofs.lemmas.Result.{on_err_weaker, on_ok_weaker}
 use Rattle.std.specs.Option.{option_copied}
 

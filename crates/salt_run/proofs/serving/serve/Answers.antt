@@ -2,7 +2,7 @@ use Rattle.salt_run.proofs.Ends.{if_err_gives}
 use Rattle.salt_run.proofs.Openings.{opening-stops, serving-opened}
 use Rattle.salt_run.proofs.serving.serve.Goals as goal
 use Rattle.salt_run.specs.Serving.{IsAfterLine}
-use Rattle.std.proofs.Common.{arith, refl, subst}
+use Rattle.std.proofs.Common.{arith, subst}
 
 pub returns-in_err-open-clause-stops : goal.returns-in_err-open-clause-stops
 returns-in_err-open-clause-stops g c =

@@ -1,6 +1,6 @@
 use Rattle.salt_run.proofs.words.is_run_alone.Goals as goal
 use Rattle.salt_run.proofs.RunWord.{one_word, run_word}
-use Rattle.std.proofs.Common.{ap, map, subst, sym, ◌∙◌}
+use Rattle.std.proofs.Common.{ap, map, ◌∙◌}
 use Rattle.std.specs.Global.{Global}
 use Rattle.std.specs.Prelude.{string_bytes}
 use Rattle.std.specs.Str.{bytes_eq}
