@@ -1,0 +1,4 @@
+pub mod SendingLaws
+pub mod Quotes
+pub mod Lists
+pub mod Nodes

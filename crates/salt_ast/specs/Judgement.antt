@@ -1,0 +1,271 @@
+-- What is refused of tables and statements under the tables defined before: names that are not known, names that come twice, and types.
+use Rattle.salt_ast.specs.Trees.{bound_exprs}
+use Rattle.salt_ast.specs.Words.{first_in, in_some, is_among, is_same_name, or_else, when}
+use Rattle.salt_ast.specs.declared.limit.LimitName.{LimitName}
+use Rattle.salt_ast.specs.declared.limit.LimitName.TheVariants as limit
+use Rattle.salt_ast.specs.declared.trees.ColType.{ColType}
+use Rattle.salt_ast.specs.declared.trees.ColType.TheVariants as kind
+use Rattle.salt_ast.specs.declared.trees.Expr.{Binary', Column, Expr, Lit, Not', Variable, end_of-Expr, more_of-Expr}
+use Rattle.salt_ast.specs.declared.trees.Field.{Field}
+use Rattle.salt_ast.specs.declared.trees.Op.{Op}
+use Rattle.salt_ast.specs.declared.trees.Op.TheVariants as op
+use Rattle.salt_ast.specs.declared.trees.Scan.{Scan}
+use Rattle.salt_ast.specs.declared.trees.Scope.{Scope}
+use Rattle.salt_ast.specs.declared.trees.Set.{Set}
+use Rattle.salt_ast.specs.declared.trees.Statement.{Statement}
+use Rattle.salt_ast.specs.declared.trees.Statement.TheVariants as statement
+use Rattle.salt_ast.specs.declared.trees.TableDef.{TableDef}
+use Rattle.salt_ast.specs.declared.trees.What.{What}
+use Rattle.salt_ast.specs.declared.trees.What.TheVariants as what
+use Rattle.salt_values.specs.declared.value.Value.{Value}
+use Rattle.salt_values.specs.declared.value.Value.TheVariants as value
+use Rattle.std.specs.List.{list_all}
+use Rattle.std.specs.Prelude.{Bool, List, None, Option, Some, [], false, if◌then◌else◌, length, map, nat_le, not, option_and_then, option_map, true, ℕ, ◌&&◌, ◌++◌, ◌∷◌}
+
+-- A schema is the list of the tables defined before.
+
+abbrev pub field_names : List Field → List (List ℕ)
+field_names fs = map (λ f. f.name) fs
+
+abbrev pub is_table : List TableDef → List ℕ → Bool
+is_table [] n = false
+is_table (d ∷ ds) n = if is_same_name n d.name then true else is_table ds n
+
+-- the columns of the table of this name: none where it is not known
+abbrev pub columns_of : List TableDef → List ℕ → List Field
+columns_of [] n = []
+columns_of (d ∷ ds) n = if is_same_name n d.name then d.columns else columns_of ds n
+
+-- the parameters and variables that `:x` may name
+abbrev pub bindings : Scope → List Field
+bindings scope = scope.params ++ scope.vars
+
+-- UNKNOWN: the first name in the text that is not known.
+
+abbrev pub unknown_name : List Field → List ℕ → Option (List ℕ)
+unknown_name fs n = when (not (is_among n (field_names fs))) n
+
+abbrev pub unknown_table : List TableDef → List ℕ → Option (List ℕ)
+unknown_table schema n = when (not (is_table schema n)) n
+
+-- of an expression that may name these columns, and these parameters and variables
+abbrev pub unknown_in_expr : (columns variables : List Field) → Expr → Option (List ℕ)
+unknown_in_expr columns variables (Lit v) = None
+unknown_in_expr columns variables (Column n) = unknown_name columns n
+unknown_in_expr columns variables (Variable n) = unknown_name variables n
+unknown_in_expr columns variables (Not' _ (more_of-Expr e end_of-Expr)) = unknown_in_expr columns variables e
+unknown_in_expr columns variables (Binary' o _ (more_of-Expr l end_of-Expr) _ (more_of-Expr r end_of-Expr)) =
+    or_else (unknown_in_expr columns variables l) (unknown_in_expr columns variables r)
+
+abbrev pub unknown_in_what : List Field → What → Option (List ℕ)
+unknown_in_what columns what.All = None
+unknown_in_what columns (what.Columns ns) = first_in (unknown_name columns) ns
+unknown_in_what columns what.Count = None
+unknown_in_what columns (what.Sum n) = unknown_name columns n
+unknown_in_what columns (what.Min n) = unknown_name columns n
+unknown_in_what columns (what.Max n) = unknown_name columns n
+
+-- no column stands in a key's bound
+abbrev pub unknown_in_scan : (columns variables : List Field) → Scan → Option (List ℕ)
+unknown_in_scan columns variables scan =
+    or_else (first_in (unknown_in_expr [] variables) (bound_exprs scan.bound)) (in_some (unknown_in_expr columns variables) scan.filter)
+
+abbrev pub unknown_in_set : (columns variables : List Field) → Set → Option (List ℕ)
+unknown_in_set columns variables set = or_else (unknown_name columns set.column) (unknown_in_expr columns variables set.value)
+
+abbrev pub unknown_in_statement : List TableDef → Scope → Statement → Option (List ℕ)
+unknown_in_statement schema scope (statement.Insert table es) =
+    or_else (unknown_table schema table) (first_in (unknown_in_expr [] (bindings scope)) es)
+unknown_in_statement schema scope (statement.Select w table scan) =
+    or_else (unknown_in_what (columns_of schema table) w)
+    (or_else (unknown_table schema table) (unknown_in_scan (columns_of schema table) (bindings scope) scan))
+unknown_in_statement schema scope (statement.SelectInto column var table key) =
+    or_else (unknown_name (columns_of schema table) column)
+    (or_else (unknown_name scope.vars var)
+    (or_else (unknown_table schema table) (unknown_in_expr [] (bindings scope) key)))
+unknown_in_statement schema scope (statement.Update table sets scan) =
+    or_else (unknown_table schema table)
+    (or_else (first_in (unknown_in_set (columns_of schema table) (bindings scope)) sets)
+    (unknown_in_scan (columns_of schema table) (bindings scope) scan))
+unknown_in_statement schema scope (statement.Delete table scan) =
+    or_else (unknown_table schema table) (unknown_in_scan (columns_of schema table) (bindings scope) scan)
+unknown_in_statement schema scope (statement.Ensure e) = unknown_in_expr [] (bindings scope) e
+
+-- a check names columns of its own table, and no parameter or variable
+abbrev pub unknown_in_table : TableDef → Option (List ℕ)
+unknown_in_table d = first_in (unknown_in_expr d.columns []) d.checks
+
+-- EXISTS: the first name in the text that stands there, or is kept, already.
+
+-- the first that is among those before it or these
+abbrev pub doubled_name : List (List ℕ) → List (List ℕ) → Option (List ℕ)
+doubled_name before [] = None
+doubled_name before (n ∷ ns) = if is_among n before then Some n else doubled_name (n ∷ before) ns
+
+-- no statement but UPDATE names what it changes twice
+abbrev pub doubled_in_statement : Statement → Option (List ℕ)
+doubled_in_statement (statement.Update table sets scan) = doubled_name [] (map (λ s. s.column) sets)
+doubled_in_statement (statement.Insert table es) = None
+doubled_in_statement (statement.Select w table scan) = None
+doubled_in_statement (statement.SelectInto column var table key) = None
+doubled_in_statement (statement.Delete table scan) = None
+doubled_in_statement (statement.Ensure e) = None
+
+abbrev pub doubled_in_table : List TableDef → TableDef → Option (List ℕ)
+doubled_in_table schema d = or_else (when (is_table schema d.name) d.name) (doubled_name [] (field_names d.columns))
+
+-- TYPE: what is asked of types, where each name is known.
+
+-- what an expression gives: a value of a type, or a truth value
+pub data Kind : Type 0 where
+  values : ColType → Kind
+  truths : Kind
+
+abbrev pub is_same_type : ColType → ColType → Bool
+is_same_type kind.Int kind.Int = true
+is_same_type kind.Text kind.Text = true
+is_same_type kind.Int kind.Text = false
+is_same_type kind.Text kind.Int = false
+
+abbrev pub is_same_kind : Kind → Kind → Bool
+is_same_kind (values a) (values b) = is_same_type a b
+is_same_kind truths truths = true
+is_same_kind (values a) truths = false
+is_same_kind truths (values b) = false
+
+abbrev pub is_of_kind : Kind → Option Kind → Bool
+is_of_kind k None = false
+is_of_kind k (Some j) = is_same_kind k j
+
+abbrev pub type_named : List Field → List ℕ → Option ColType
+type_named [] n = None
+type_named (f ∷ fs) n = if is_same_name n f.name then Some f.kind else type_named fs n
+
+-- which two operands an operation takes, and what it gives
+
+-- two values of one type
+abbrev pub comparison_kind : Kind → Kind → Option Kind
+comparison_kind (values a) (values b) = when (is_same_type a b) truths
+comparison_kind (values a) truths = None
+comparison_kind truths k = None
+
+-- two operands of a kind, which it gives
+abbrev pub closed_kind : Kind → Kind → Kind → Option Kind
+closed_kind k l r = when (is_same_kind k l && is_same_kind k r) k
+
+abbrev pub operation_kind : Op → Kind → Kind → Option Kind
+operation_kind op.Or l r = closed_kind truths l r
+operation_kind op.And l r = closed_kind truths l r
+operation_kind op.Equal l r = comparison_kind l r
+operation_kind op.Unequal l r = comparison_kind l r
+operation_kind op.Less l r = comparison_kind l r
+operation_kind op.AtMost l r = comparison_kind l r
+operation_kind op.Greater l r = comparison_kind l r
+operation_kind op.AtLeast l r = comparison_kind l r
+operation_kind op.Add l r = closed_kind (values kind.Int) l r
+operation_kind op.Sub l r = closed_kind (values kind.Int) l r
+operation_kind op.Join l r = closed_kind (values kind.Text) l r
+operation_kind op.Mul l r = closed_kind (values kind.Int) l r
+
+abbrev pub value_kind : Value → Kind
+value_kind (value.Int z) = values kind.Int
+value_kind (value.Text t) = values kind.Text
+
+-- what an expression gives over these columns, and these parameters and variables: nothing where its types are wrong
+abbrev pub expr_kind : (columns variables : List Field) → Expr → Option Kind
+expr_kind columns variables (Lit v) = Some (value_kind v)
+expr_kind columns variables (Column n) = option_map values (type_named columns n)
+expr_kind columns variables (Variable n) = option_map values (type_named variables n)
+expr_kind columns variables (Not' _ (more_of-Expr e end_of-Expr)) = when (is_of_kind truths (expr_kind columns variables e)) truths
+expr_kind columns variables (Binary' o _ (more_of-Expr l end_of-Expr) _ (more_of-Expr r end_of-Expr)) =
+    option_and_then (λ k. option_and_then (operation_kind o k) (expr_kind columns variables r)) (expr_kind columns variables l)
+
+abbrev pub gives_truth : (columns variables : List Field) → Expr → Bool
+gives_truth columns variables e = is_of_kind truths (expr_kind columns variables e)
+
+-- it gives a value of the type, if there is one
+abbrev pub gives_type : (columns variables : List Field) → Option ColType → Expr → Bool
+gives_type columns variables None e = false
+gives_type columns variables (Some t) e = is_of_kind (values t) (expr_kind columns variables e)
+
+-- the type of the key, which is the first column
+abbrev pub key_type : List Field → Option ColType
+key_type [] = None
+key_type (f ∷ fs) = Some f.kind
+
+abbrev pub is_key : List Field → List ℕ → Bool
+is_key [] n = false
+is_key (f ∷ fs) n = is_same_name n f.name
+
+-- one value of its type for each column
+abbrev pub are_row : (columns variables : List Field) → List Expr → Bool
+are_row [] variables [] = true
+are_row (f ∷ fs) variables (e ∷ es) = gives_type [] variables (Some f.kind) e && are_row fs variables es
+are_row [] variables (e ∷ es) = false
+are_row (f ∷ fs) variables [] = false
+
+-- a sum is one of numbers
+abbrev pub is_typed_what : List Field → What → Bool
+is_typed_what columns (what.Sum n) = is_of_kind (values kind.Int) (option_map values (type_named columns n))
+is_typed_what columns what.All = true
+is_typed_what columns (what.Columns ns) = true
+is_typed_what columns what.Count = true
+is_typed_what columns (what.Min n) = true
+is_typed_what columns (what.Max n) = true
+
+abbrev pub is_typed_filter : (columns variables : List Field) → Option Expr → Bool
+is_typed_filter columns variables None = true
+is_typed_filter columns variables (Some e) = gives_truth columns variables e
+
+abbrev pub is_typed_scan : (columns variables : List Field) → Scan → Bool
+is_typed_scan columns variables scan =
+    list_all (gives_type [] variables (key_type columns)) (bound_exprs scan.bound) && is_typed_filter columns variables scan.filter
+
+-- no set is of the key
+abbrev pub is_typed_set : (columns variables : List Field) → Set → Bool
+is_typed_set columns variables set =
+    not (is_key columns set.column) && gives_type columns variables (type_named columns set.column) set.value
+
+abbrev pub same_types : Option ColType → Option ColType → Bool
+same_types (Some a) (Some b) = is_same_type a b
+same_types None t = false
+same_types (Some a) None = false
+
+abbrev pub is_typed_statement : List TableDef → Scope → Statement → Bool
+is_typed_statement schema scope (statement.Insert table es) = are_row (columns_of schema table) (bindings scope) es
+is_typed_statement schema scope (statement.Select w table scan) =
+    is_typed_what (columns_of schema table) w && is_typed_scan (columns_of schema table) (bindings scope) scan
+is_typed_statement schema scope (statement.SelectInto column var table key) =
+    same_types (type_named (columns_of schema table) column) (type_named scope.vars var)
+    && gives_type [] (bindings scope) (key_type (columns_of schema table)) key
+is_typed_statement schema scope (statement.Update table sets scan) =
+    list_all (is_typed_set (columns_of schema table) (bindings scope)) sets
+    && is_typed_scan (columns_of schema table) (bindings scope) scan
+is_typed_statement schema scope (statement.Delete table scan) = is_typed_scan (columns_of schema table) (bindings scope) scan
+is_typed_statement schema scope (statement.Ensure e) = gives_truth [] (bindings scope) e
+
+abbrev pub is_typed_table : TableDef → Bool
+is_typed_table d = list_all (gives_truth d.columns []) d.checks
+
+-- The judgement: each of these stands before the ones below it.
+
+pub data Fault : Type 0 where
+  unknown : List ℕ → Fault
+  exists : List ℕ → Fault
+  mistyped : Fault
+
+abbrev pub first_fault : Option (List ℕ) → Option (List ℕ) → Bool → Option Fault
+first_fault not_known doubled is_typed =
+    or_else (option_map unknown not_known) (or_else (option_map exists doubled) (when (not is_typed) mistyped))
+
+-- what is refused of a statement, whose program has these parameters and variables; a session's statement has none
+unfoldable pub statement_fault : List TableDef → Scope → Statement → Option Fault
+statement_fault schema scope st = first_fault (unknown_in_statement schema scope st) (doubled_in_statement st) (is_typed_statement schema scope st)
+
+-- what is refused of a table
+unfoldable pub table_fault : List TableDef → TableDef → Option Fault
+table_fault schema d = first_fault (unknown_in_table d) (doubled_in_table schema d) (is_typed_table d)
+
+-- the limit that a further table passes, which stands before its faults
+abbrev pub kept_limit : List TableDef → Option LimitName
+kept_limit schema = when (nat_le 64 (length schema)) limit.Tables

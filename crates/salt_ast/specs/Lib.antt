@@ -1,0 +1,12 @@
+pub mod Words
+pub mod Trees
+pub mod Operators
+pub mod Grammar
+pub mod Statements
+pub mod Tables
+pub mod Spelling
+pub mod Texts
+pub mod Limits
+pub mod Judgement
+pub mod Sending
+pub mod Examples

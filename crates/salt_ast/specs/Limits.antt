@@ -1,0 +1,118 @@
+-- Limits, and the first that a tree's text passes.
+use Rattle.salt_ast.specs.Trees.{statement_exprs}
+use Rattle.salt_ast.specs.Words.{first_in, in_some, or_else, when}
+use Rattle.salt_ast.specs.declared.limit.LimitName.{LimitName}
+use Rattle.salt_ast.specs.declared.limit.LimitName.TheVariants as limit
+use Rattle.salt_ast.specs.declared.trees.Bound.{Bound}
+use Rattle.salt_ast.specs.declared.trees.Bound.TheVariants as bound
+use Rattle.salt_ast.specs.declared.trees.Expr.{Binary', Column, Expr, Lit, Not', Variable, end_of-Expr, more_of-Expr}
+use Rattle.salt_ast.specs.declared.trees.Field.{Field}
+use Rattle.salt_ast.specs.declared.trees.Scan.{Scan}
+use Rattle.salt_ast.specs.declared.trees.Set.{Set}
+use Rattle.salt_ast.specs.declared.trees.Statement.{Statement}
+use Rattle.salt_ast.specs.declared.trees.Statement.TheVariants as statement
+use Rattle.salt_ast.specs.declared.trees.TableDef.{TableDef}
+use Rattle.salt_ast.specs.declared.trees.What.{What}
+use Rattle.salt_ast.specs.declared.trees.What.TheVariants as what
+use Rattle.salt_values.specs.declared.value.Value.{Value}
+use Rattle.salt_values.specs.declared.value.Value.TheVariants as value
+use Rattle.std.specs.List.{list_any}
+use Rattle.std.specs.Prelude.{Bool, List, None, Option, Some, [], codes, length, max, nat_lt, negsuc, pos, suc, zero, ℕ, ℤ, ◌+◌, ◌-◌, ◌^◌, ◌∷◌}
+
+abbrev pub limit_word : LimitName → List ℕ
+limit_word limit.Session = codes "session"
+limit_word limit.Name = codes "name"
+limit_word limit.Number = codes "number"
+limit_word limit.Text = codes "text"
+limit_word limit.Tables = codes "tables"
+limit_word limit.Columns = codes "columns"
+limit_word limit.Checks = codes "checks"
+limit_word limit.Depth = codes "depth"
+
+-- the limit that a number above `most` passes
+abbrev pub above : ℕ → LimitName → ℕ → Option LimitName
+above most l n = when (nat_lt most n) l
+
+-- the first limit that a list of at most `room` items passes; a further item passes the list's where it begins
+abbrev pub passed_in_list : {A : Type 0} → ℕ → LimitName → (A → Option LimitName) → List A → Option LimitName
+passed_in_list room l passed [] = None
+passed_in_list zero l passed (x ∷ xs) = Some l
+passed_in_list (suc room) l passed (x ∷ xs) = or_else (passed x) (passed_in_list room l passed xs)
+
+-- The first limit that is passed in the order of the text, but for the depth.
+
+abbrev pub name_passed : List ℕ → Option LimitName
+name_passed n = above 32 limit.Name (length n)
+
+-- one more behind a minus sign
+abbrev pub int_passed : ℤ → Option LimitName
+int_passed (pos n) = above (2 ^ 63 - 1) limit.Number n
+int_passed (negsuc n) = above (2 ^ 63) limit.Number (n + 1)
+
+abbrev pub value_passed : Value → Option LimitName
+value_passed (value.Int z) = int_passed z
+value_passed (value.Text t) = above 255 limit.Text (length t)
+
+abbrev pub expr_passed : Expr → Option LimitName
+expr_passed (Lit v) = value_passed v
+expr_passed (Column n) = name_passed n
+expr_passed (Variable n) = name_passed n
+expr_passed (Not' _ (more_of-Expr e end_of-Expr)) = expr_passed e
+expr_passed (Binary' o _ (more_of-Expr l end_of-Expr) _ (more_of-Expr r end_of-Expr)) = or_else (expr_passed l) (expr_passed r)
+
+abbrev pub what_passed : What → Option LimitName
+what_passed what.All = None
+what_passed (what.Columns ns) = first_in name_passed ns
+what_passed what.Count = None
+what_passed (what.Sum n) = name_passed n
+what_passed (what.Min n) = name_passed n
+what_passed (what.Max n) = name_passed n
+
+abbrev pub bound_passed : Bound → Option LimitName
+bound_passed bound.All = None
+bound_passed (bound.Key e) = expr_passed e
+bound_passed (bound.Between low high) = or_else (expr_passed low) (expr_passed high)
+
+abbrev pub scan_passed : Scan → Option LimitName
+scan_passed scan = or_else (bound_passed scan.bound) (in_some expr_passed scan.filter)
+
+abbrev pub set_passed : Set → Option LimitName
+set_passed set = or_else (name_passed set.column) (expr_passed set.value)
+
+abbrev pub statement_passed : Statement → Option LimitName
+statement_passed (statement.Insert table es) = or_else (name_passed table) (first_in expr_passed es)
+statement_passed (statement.Select w table scan) = or_else (what_passed w) (or_else (name_passed table) (scan_passed scan))
+statement_passed (statement.SelectInto column var table key) = or_else (name_passed column) (or_else (name_passed var) (or_else (name_passed table) (expr_passed key)))
+statement_passed (statement.Update table sets scan) = or_else (name_passed table) (or_else (first_in set_passed sets) (scan_passed scan))
+statement_passed (statement.Delete table scan) = or_else (name_passed table) (scan_passed scan)
+statement_passed (statement.Ensure e) = expr_passed e
+
+abbrev pub field_passed : Field → Option LimitName
+field_passed f = name_passed f.name
+
+abbrev pub table_passed : TableDef → Option LimitName
+table_passed d = or_else (name_passed d.name) (or_else (passed_in_list 16 limit.Columns field_passed d.columns) (passed_in_list 16 limit.Checks expr_passed d.checks))
+
+-- The depth, which comes after all other limits of a text.
+
+-- a literal, a column, a parameter or variable is 1 high
+abbrev pub height : Expr → ℕ
+height (Lit v) = 1
+height (Column n) = 1
+height (Variable n) = 1
+height (Not' _ (more_of-Expr e end_of-Expr)) = suc (height e)
+height (Binary' o _ (more_of-Expr l end_of-Expr) _ (more_of-Expr r end_of-Expr)) = suc (max (height l) (height r))
+
+abbrev pub is_high : Expr → Bool
+is_high e = nat_lt 64 (height e)
+
+abbrev pub height_passed : List Expr → Option LimitName
+height_passed es = when (list_any is_high es) limit.Depth
+
+-- the first limit that a statement passes by its tree
+unfoldable pub statement_limit : Statement → Option LimitName
+statement_limit st = or_else (statement_passed st) (height_passed (statement_exprs st))
+
+-- the first limit that a table passes by its tree
+unfoldable pub table_limit : TableDef → Option LimitName
+table_limit d = or_else (table_passed d) (height_passed d.checks)

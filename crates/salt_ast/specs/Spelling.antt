@@ -1,0 +1,58 @@
+-- Which bytes spell which tree, and which count they pass.
+use Rattle.salt_ast.specs.Grammar.{Within}
+use Rattle.salt_ast.specs.Limits.{statement_limit, table_limit}
+use Rattle.salt_ast.specs.Statements.{IsStatement}
+use Rattle.salt_ast.specs.Tables.{IsTable}
+use Rattle.salt_ast.specs.declared.limit.LimitName.{LimitName}
+use Rattle.salt_ast.specs.declared.limit.LimitName.TheVariants as limit
+use Rattle.salt_ast.specs.declared.trees.Statement.{Statement}
+use Rattle.salt_ast.specs.declared.trees.TableDef.{TableDef}
+use Rattle.salt_tokens.specs.Pieces.{Lexes, Piece}
+use Rattle.salt_tokens.specs.Symbols.{Row, row_of}
+use Rattle.std.specs.Prelude.{List, None, Option, Some, ℕ, ◌≡◌}
+
+-- The bytes are tokens that spell the tree.
+pub record Spells {Tree : Type 0} (IsTree : Row → Tree → Type 0) (bytes : List ℕ) (tree : Tree) : Type 0 where
+  pub tokens : List Piece
+  pub lexes : Lexes bytes tokens
+  pub spelled : IsTree (row_of tokens) tree
+
+-- no token stands within more than 128 open parentheses
+abbrev pub SpellsStatement : List ℕ → Statement → Type 0
+SpellsStatement = Spells (IsStatement (Within 128) (Within 127))
+
+abbrev pub SpellsTable : List ℕ → TableDef → Type 0
+SpellsTable = Spells (IsTable (Within 127))
+
+-- nor does a token of an expression stand within more than 64 parentheses of the expression
+abbrev pub SpellsShallowStatement : List ℕ → Statement → Type 0
+SpellsShallowStatement = Spells (IsStatement (Within 64) (Within 64))
+
+abbrev pub SpellsShallowTable : List ℕ → TableDef → Type 0
+SpellsShallowTable = Spells (IsTable (Within 64))
+
+-- This limit is passed first: one of the tree, or else the depth, by the parentheses of the text.
+pub data Passes (tree_limit : Option LimitName) (IsShallow : Type 0) : LimitName → Type 0 where
+  by_tree : {l : LimitName} → tree_limit ≡ Some l → Passes tree_limit IsShallow l
+  by_parentheses : tree_limit ≡ None → ¬ IsShallow → Passes tree_limit IsShallow limit.Depth
+
+-- No limit is passed.
+pub record IsWithinLimits (tree_limit : Option LimitName) (IsShallow : Type 0) : Type 0 where
+  pub tree : tree_limit ≡ None
+  pub parentheses : IsShallow
+
+-- Of bytes that spell the statement.
+
+abbrev pub StatementPasses : List ℕ → Statement → LimitName → Type 0
+StatementPasses bytes st = Passes (statement_limit st) (SpellsShallowStatement bytes st)
+
+abbrev pub IsStatementWithinLimits : List ℕ → Statement → Type 0
+IsStatementWithinLimits bytes st = IsWithinLimits (statement_limit st) (SpellsShallowStatement bytes st)
+
+-- Of bytes that spell the table.
+
+abbrev pub TablePasses : List ℕ → TableDef → LimitName → Type 0
+TablePasses bytes d = Passes (table_limit d) (SpellsShallowTable bytes d)
+
+abbrev pub IsTableWithinLimits : List ℕ → TableDef → Type 0
+IsTableWithinLimits bytes d = IsWithinLimits (table_limit d) (SpellsShallowTable bytes d)

@@ -1,0 +1,41 @@
+ghost use Rattle.std.specs.Prelude.{◌≡◌};
+ghost use Rattle.salt_ast.specs.Limits.{limit_word};
+
+/// What there may be only so many of, by the word that a refusal names.
+#[derive(Clone, Copy, Debug, PartialEq, Eq)]
+pub enum LimitName {
+    /// The number of a session is 1 to 64.
+    Session,
+    /// A name has at most 32 bytes.
+    Name,
+    /// A number is at most 2^63 - 1, behind a minus sign 2^63.
+    Number,
+    /// A text has at most 255 bytes.
+    Text,
+    /// There are at most 64 tables.
+    Tables,
+    /// A table has at most 16 columns.
+    Columns,
+    /// A table has at most 16 checks.
+    Checks,
+    /// An expression's height, and the number of its parentheses around a token, are at most 64.
+    Depth,
+}
+
+impl LimitName {
+    /// The word that names the limit.
+    pub fn word(self) -> &'static [u8]
+        ensures { result.now ≡ limit_word self }
+    {
+        match self {
+            LimitName::Session => b"session",
+            LimitName::Name => b"name",
+            LimitName::Number => b"number",
+            LimitName::Text => b"text",
+            LimitName::Tables => b"tables",
+            LimitName::Columns => b"columns",
+            LimitName::Checks => b"checks",
+            LimitName::Depth => b"depth",
+        }
+    }
+}

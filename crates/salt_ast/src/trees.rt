@@ -1,0 +1,211 @@
+//! The trees of tables and statements.
+
+use salt_values::{Name, Names, Value};
+use sqlite_items::{Boxed, Items};
+
+/// The type of a column.
+#[derive(Clone, Copy, Debug, PartialEq, Eq)]
+pub enum ColType {
+    Int,
+    Text,
+}
+
+/// A column's name and type.
+#[derive(Drop)]
+pub struct Field {
+    pub name: Name,
+    pub kind: ColType,
+}
+
+pub type Fields = Items<Field>;
+
+/// An operation on two operands.
+#[derive(Clone, Copy, Debug, PartialEq, Eq)]
+pub enum Op {
+    Or,
+    And,
+    Equal,
+    Unequal,
+    Less,
+    AtMost,
+    Greater,
+    AtLeast,
+    Add,
+    Sub,
+    /// Two texts, one behind the other.
+    Join,
+    Mul,
+}
+
+#[derive(Drop)]
+pub enum Expr {
+    Lit(Value),
+    Column(Name),
+    /// `:x`, a parameter or a variable of a program.
+    Variable(Name),
+    Not(Boxed<Expr>),
+    Binary {
+        op: Op,
+        left: Boxed<Expr>,
+        right: Boxed<Expr>,
+    },
+}
+
+pub type Exprs = Items<Expr>;
+
+/// A table's name, its columns, of which the first is the key, and what each of its rows must meet.
+pub struct TableDef {
+    pub name: Name,
+    pub columns: Fields,
+    pub checks: Exprs,
+}
+
+impl Drop for TableDef {
+    fn drop(self) {
+        let TableDef {
+            name: _name,
+            columns: _columns,
+            checks: _checks,
+        } = self;
+    }
+}
+
+/// What a SELECT shows.
+pub enum What {
+    /// All columns of each row.
+    All,
+    /// These columns of each row, in this order.
+    Columns(Names),
+    /// The number of rows.
+    Count,
+    Sum(Name),
+    Min(Name),
+    Max(Name),
+}
+
+impl Drop for What {
+    fn drop(self) {
+        match self {
+            What::All => {}
+            What::Columns(_names) => {}
+            What::Count => {}
+            What::Sum(_column) => {}
+            What::Min(_column) => {}
+            What::Max(_column) => {}
+        }
+    }
+}
+
+/// A column and the value that it takes.
+#[derive(Drop)]
+pub struct Set {
+    pub column: Name,
+    pub value: Expr,
+}
+
+pub type Sets = Items<Set>;
+
+/// Which keys a statement goes over.
+pub enum Bound {
+    All,
+    /// The one key.
+    Key(Expr),
+    /// From the first key to the second, both included.
+    Between(Expr, Expr),
+}
+
+impl Drop for Bound {
+    fn drop(self) {
+        match self {
+            Bound::All => {}
+            Bound::Key(_key) => {}
+            Bound::Between(_low, _high) => {}
+        }
+    }
+}
+
+/// Which rows a statement is for: those with a key in the bound for which the filter holds.
+pub struct Scan {
+    pub bound: Bound,
+    pub filter: Option<Expr>,
+}
+
+impl Drop for Scan {
+    fn drop(self) {
+        let Scan {
+            bound: _bound,
+            filter: _filter,
+        } = self;
+    }
+}
+
+pub enum Statement {
+    Insert {
+        table: Name,
+        values: Exprs,
+    },
+    Select {
+        what: What,
+        table: Name,
+        scan: Scan,
+    },
+    /// A column of the row with the key is kept in a variable of the program.
+    SelectInto {
+        column: Name,
+        var: Name,
+        table: Name,
+        key: Expr,
+    },
+    Update {
+        table: Name,
+        sets: Sets,
+        scan: Scan,
+    },
+    Delete {
+        table: Name,
+        scan: Scan,
+    },
+    /// The condition must hold.
+    Ensure(Expr),
+}
+
+pub type Statements = Items<Statement>;
+
+impl Drop for Statement {
+    fn drop(self) {
+        match self {
+            Statement::Insert {
+                table: _table,
+                values: _values,
+            } => {}
+            Statement::Select {
+                what: _what,
+                table: _table,
+                scan: _scan,
+            } => {}
+            Statement::SelectInto {
+                column: _column,
+                var: _var,
+                table: _table,
+                key: _key,
+            } => {}
+            Statement::Update {
+                table: _table,
+                sets: _sets,
+                scan: _scan,
+            } => {}
+            Statement::Delete {
+                table: _table,
+                scan: _scan,
+            } => {}
+            Statement::Ensure(_condition) => {}
+        }
+    }
+}
+
+/// The parameters and variables of a program, with their types, which the statements in it may name.
+#[derive(Drop)]
+pub struct Scope {
+    pub params: Fields,
+    pub vars: Fields,
+}
