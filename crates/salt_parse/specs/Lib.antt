@@ -1,3 +1,6 @@
 pub mod Answers
 pub mod Flags
+pub mod Lists
 pub mod Reading
+pub mod StatementReading
+pub mod TableReading

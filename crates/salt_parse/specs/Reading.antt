@@ -35,6 +35,11 @@ abbrev pub GivesBuilt : Result Built ParseErr → Flags → Row → Option (Read
 GivesBuilt (Ok b) f left read = read ≡ Some (built_of b, f, left)
 GivesBuilt (Err err) f left read = Fails err read
 
+-- the same of what passes nothing
+abbrev pub GivesAs : {X : Type 0} → Result X ParseErr → Row → Option (X × Row) → Type 0
+GivesAs (Ok x) left read = read ≡ Some (x, left)
+GivesAs (Err err) left read = Fails err read
+
 -- the symbols that are left are those behind what was taken
 abbrev pub Leaves : Result (Unit {0}) ParseErr → Row → Option Row → Type 0
 Leaves (Ok _) left read = read ≡ Some left

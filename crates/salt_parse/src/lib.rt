@@ -7,6 +7,9 @@ mod error;
 mod expr;
 mod parser;
 mod quoted;
+mod scan;
+mod statement;
+mod table;
 mod token;
 
 pub use error::ParseErr;
