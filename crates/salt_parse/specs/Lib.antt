@@ -1,4 +1,5 @@
 pub mod Answers
+pub mod Attempts
 pub mod Flags
 pub mod Lists
 pub mod Reading
