@@ -1,0 +1,13 @@
+pub mod ExpressionLaws
+pub mod Listing
+pub mod Loop
+pub mod Mirror
+pub mod MirrorLists
+pub mod MirrorStatements
+pub mod Nodes
+pub mod StatementComplete
+pub mod StatementSound
+pub mod StatementTrees
+pub mod Trees
+pub mod Up
+pub mod Whole

@@ -1,0 +1,219 @@
+-- The statements and tables that are spelled so are found.
+use Rattle.std.proofs.Common.{◌≡◌, ℕ, suc, zero, Bool, true, false, cond, List, [], ◌∷◌, ◌++◌, ◌≤◌, ◌<◌, length, Option, Some, None, refl, sym, ap, subst, ◌∙◌, append_assoc, arith, length-append}
+use Rattle.std.proofs.lemmas.List.{append-nil}
+use Rattle.salt_ast.specs.Grammar.{Expression}
+use Rattle.salt_ast.specs.Operators.{operator, precedence}
+use Rattle.salt_ast.specs.Statements as form
+use Rattle.salt_ast.specs.Statements.{Following, IsAnd, IsName, IsScan, IsSet, IsStatement, IsWhat, Listed}
+use Rattle.salt_ast.specs.Tables as table
+use Rattle.salt_ast.specs.Tables.{IsCheck, IsField, IsTable}
+use Rattle.salt_ast.specs.declared.trees.Bound.TheVariants as bound
+use Rattle.salt_ast.specs.declared.trees.ColType.{ColType}
+use Rattle.salt_ast.specs.declared.trees.ColType.TheVariants as kind
+use Rattle.salt_ast.specs.declared.trees.Expr.{Expr}
+use Rattle.salt_ast.specs.declared.trees.Field.{Field}
+use Rattle.salt_ast.specs.declared.trees.Op.{Op}
+use Rattle.salt_ast.specs.declared.trees.Op.TheVariants as op
+use Rattle.salt_ast.specs.declared.trees.Scan.{Scan}
+use Rattle.salt_ast.specs.declared.trees.Set.{Set}
+use Rattle.salt_ast.specs.declared.trees.Statement.{Statement}
+use Rattle.salt_ast.specs.declared.trees.Statement.TheVariants as statement
+use Rattle.salt_ast.specs.declared.trees.TableDef.{TableDef}
+use Rattle.salt_ast.specs.declared.trees.What.{What}
+use Rattle.salt_ast.specs.declared.trees.What.TheVariants as what
+use Rattle.salt_parse.specs.Lists.{comma, either}
+use Rattle.salt_parse.specs.Reading.{after}
+use Rattle.salt_parse.specs.StatementReading.{is_into}
+use Rattle.salt_parse.specs.TableReading.{field_comma, kind_at}
+use Rattle.salt_parse.proofs.ExpressionLaws.{Begins-after, Begins-append, Complete, Sound, Stops, Stops-weaker, conjunction_complete, expression_begins, expression_complete, sum_complete}
+use Rattle.salt_parse.proofs.Loop.{after_is}
+use Rattle.salt_parse.proofs.StatementTrees.{aggregate_of, ahead, and_of, between_of, bound_of, change_of, check_of, checks_of, columns_of, count_of, definition_of, delete_of, enclosed_of, ensure_of, equal_of, field_of, fields_of, filter_of, following_of, insert_of, into_of, largest_of, least_of, listed_of, name_of, names_of, only_key_of, scan_of, select_into_of, select_of, select_rows_of, set_of, sets_of, statement_of, table_of, total_of, update_of, values_of, what_of, where_of}
+use Rattle.salt_parse.proofs.Trees.{TreeReader, conjunction_of, expression_of, sum_of}
+use Rattle.salt_tokens.specs.Scanning.{◌>>=◌}
+use Rattle.salt_tokens.specs.Symbols.{Row, Symbol, int, key, name, sign, text}
+use Rattle.salt_tokens.specs.declared.keyword.Keyword.TheVariants as word
+use Rattle.salt_tokens.specs.declared.sign.Sign.TheVariants as mark
+
+-- what is spelled so is found, where `Follow` holds of what follows
+abbrev pub CompleteFor : {A : Type 0} → (Row → Type 0) → (Row → A → Type 0) → TreeReader A → Type 0
+CompleteFor {A} Follow G find = (ts rest : Row) (x : A) → G ts x → Follow rest → find (ts ++ rest) ≡ Some (x, rest)
+
+-- what may follow a statement: no operation, no `where` and no comma
+pub record Ends (rest : Row) : Type 0 where
+  pub stops : Stops 1 rest
+  pub no_where : after (key word.Where) rest ≡ None
+  pub no_comma : comma rest ≡ None
+
+abbrev Anything : Row → Type 0
+Anything rest = Unit {0}
+
+name_complete : CompleteFor Anything IsName name_of
+name_complete _ rest _ form.is_name f = refl
+
+-- ---- lists
+
+following_few : {A : Type 0} {G : Row → A → Type 0} {ts : Row} {xs : List A} → Following G ts xs → length xs ≤ length ts
+following_few form.no_more = omega arith
+following_few (form.one_more {a = u} {b = v} g d) = omega (arith, length-append u v, following_few d)
+
+comma_stops : (us : Row) → Stops 1 (sign mark.Comma ∷ us)
+comma_stops us o h = absurd cc
+
+module _ {A : Type 0} (separator : Row → Option Row) (G : Row → A → Type 0) (find : TreeReader A) (Follow : Row → Type 0) (c : CompleteFor Follow G find) (goes : (us : Row) → Follow (sign mark.Comma ∷ us)) where
+  pub follows : {ts : Row} {xs : List A} (rest : Row) → Following G ts xs → Follow rest → Follow (ts ++ rest)
+  follows rest form.no_more f = f
+  follows rest (form.one_more {a = u} {b = v} g d) f = goes ((u ++ v) ++ rest)
+
+  pub following_complete : (opens : (u us : Row) (x : A) → G u x → separator (sign mark.Comma ∷ (u ++ us)) ≡ Some (u ++ us)) → {ts : Row} {xs : List A} (room : ℕ) (rest : Row) → Following G ts xs → Follow rest → separator rest ≡ None → length xs ≤ room → following_of separator find room (ts ++ rest) ≡ Some (xs, rest)
+  unfolding following_of
+  following_complete opens zero rest form.no_more f a few = rw a refl
+  following_complete opens (suc room) rest form.no_more f a few = rw a refl
+  following_complete opens zero rest (form.one_more g d) f a few = absurd (omega arith)
+  following_complete opens (suc room) rest (form.one_more {a = u} {b = v} {x = x} {xs = xs} g d) f a few =
+      let ih = following_complete opens {ts = v} {xs = xs} room rest d f a (omega arith) in
+      rw (append_assoc u v rest, opens u (v ++ rest) x g, c u (v ++ rest) x g (follows rest d f), ih) refl
+
+comma_opens : {A : Type 0} (G : Row → A → Type 0) (u us : Row) (x : A) → G u x → comma (sign mark.Comma ∷ (u ++ us)) ≡ Some (u ++ us)
+unfolding after
+comma_opens G u us x g = refl
+
+listed_complete : {A : Type 0} (G : Row → A → Type 0) (find : TreeReader A) (Follow : Row → Type 0) (c : CompleteFor Follow G find) (goes : (us : Row) → Follow (sign mark.Comma ∷ us)) {ts : Row} {xs : List A} (rest : Row) → Listed G ts xs → Follow rest → comma rest ≡ None → listed_of find (ts ++ rest) ≡ Some (xs, rest)
+listed_complete G find Follow c goes rest (form.items {a = u} {b = v} {x = x} {xs = xs} g d) f a =
+    let few : length xs ≤ length (v ++ rest) = omega (arith, length-append v rest, following_few d) in
+    let others = following_complete comma G find Follow c goes (comma_opens G) {ts = v} {xs = xs} (length (v ++ rest)) rest d f a few in
+    rw (append_assoc u v rest, c u (v ++ rest) x g (follows comma G find Follow c goes rest d f), others) refl
+
+-- ---- what a SELECT shows
+
+from_stops : (us : Row) → comma (key word.From ∷ us) ≡ None
+unfolding after
+from_stops us = refl
+
+what_complete : {ts : Row} {x : What} (us : Row) → IsWhat ts x → what_of (ts ++ key word.From ∷ us) ≡ Some (x, key word.From ∷ us)
+unfolding after
+what_complete us form.every_column = refl
+what_complete us (form.named_columns (form.items {b = b} {xs = ns} (form.is_name {n = n}) d)) =
+    let names = listed_complete IsName name_of Anything name_complete (λ us. tt) {ts = name n ∷ b} {xs = n ∷ ns} (key word.From ∷ us) (form.items form.is_name d) tt (from_stops us) in
+    rw names refl
+what_complete us form.count_rows = refl
+what_complete us form.sum_of = refl
+what_complete us form.min_of = refl
+what_complete us form.max_of = refl
+
+not_into : {ts : Row} {x : What} (us : Row) → IsWhat ts x → is_into (ts ++ key word.From ∷ us) ≡ false
+not_into us form.every_column = refl
+not_into us (form.named_columns (form.items form.is_name form.no_more)) = refl
+not_into us (form.named_columns (form.items form.is_name (form.one_more g d))) = refl
+not_into us form.count_rows = refl
+not_into us form.sum_of = refl
+not_into us form.min_of = refl
+not_into us form.max_of = refl
+
+-- ---- `where`
+
+-- an `and` ends a sum
+and_below : (o : Op) → operator (key word.And) ≡ Some o → precedence o < 4
+and_below o h = let same : op.And ≡ o = cc h in rw (← same) (omega arith)
+
+module _ (Inner : Row → Expr → Type 0) (find : TreeReader Expr) (s : Sound Inner find) (c : Complete 1 Inner find) where
+  and_complete : CompleteFor (Stops 1) (IsAnd Inner) (and_of find)
+  unfolding after
+  and_complete _ rest _ form.no_and st = rw (no_and_next rest st) refl
+    where
+      no_and_next : (rest : Row) → Stops 1 rest → after (key word.And) rest ≡ None
+      no_and_next [] st = refl
+      no_and_next (key word.And ∷ us) st = absurd (omega (arith, st _ refl))
+      no_and_next _ st = refl
+  and_complete _ rest _ (form.and {ts = ts} {e = e} d) st = rw (conjunction_complete Inner find s c ts rest e d (Stops-weaker 1 2 rest (omega arith) st)) refl
+
+  and_stops : {b : Row} {f : Option Expr} (rest : Row) → IsAnd Inner b f → Stops 1 rest → Stops 4 (b ++ rest)
+  and_stops rest form.no_and st = Stops-weaker 1 4 rest (omega arith) st
+  and_stops rest (form.and d) st = and_below
+
+  scan_complete : CompleteFor Ends (IsScan Inner) (scan_of find)
+  unfolding after
+  scan_complete _ rest _ form.no_where st = rw st.no_where refl
+  scan_complete _ rest _ (form.where_filter {ts = a} {e = f} d) st =
+      rw (Begins-after word.Key (a ++ rest) (Begins-append word.Key a rest (expression_begins word.Key refl Inner a f d)), expression_complete Inner find s c a rest f d st.stops) refl
+  scan_complete _ rest _ (form.where_key {a = a} {b = b} {e = e} {f = f} d k) st =
+      rw (append_assoc a b rest, sum_complete Inner find s c a (b ++ rest) e d (and_stops rest k st.stops), and_complete b rest f k st.stops) refl
+  scan_complete _ rest _ (form.where_between {a = a} {b = b} {c = m} {low = e} {high = g} {f = f} d d2 k) st =
+      let stops : Stops 4 (key word.And ∷ ((b ++ m) ++ rest)) = and_below in
+      rw (append_assoc a (key word.And ∷ (b ++ m)) rest, sum_complete Inner find s c a (key word.And ∷ ((b ++ m) ++ rest)) e d stops) (rw (append_assoc b m rest, sum_complete Inner find s c b (m ++ rest) g d2 (and_stops rest k st.stops), and_complete m rest f k st.stops) refl)
+
+  -- what follows the columns of an UPDATE
+  scan_stops : {ts : Row} {x : Scan} (rest : Row) → IsScan Inner ts x → Ends rest → Stops 1 (ts ++ rest)
+  scan_stops rest form.no_where st = st.stops
+  scan_stops rest (form.where_filter d) st = λ o h. absurd cc
+  scan_stops rest (form.where_key d k) st = λ o h. absurd cc
+  scan_stops rest (form.where_between d d2 k) st = λ o h. absurd cc
+
+  scan_no_comma : {ts : Row} {x : Scan} (rest : Row) → IsScan Inner ts x → Ends rest → comma (ts ++ rest) ≡ None
+  unfolding after
+  scan_no_comma rest form.no_where st = st.no_comma
+  scan_no_comma rest (form.where_filter d) st = refl
+  scan_no_comma rest (form.where_key d k) st = refl
+  scan_no_comma rest (form.where_between d d2 k) st = refl
+
+  set_complete : CompleteFor (Stops 1) (IsSet Inner) (set_of find)
+  unfolding after
+  set_complete _ rest _ (form.is_set {n = n} {ts = ts} {e = e} d) st = rw (expression_complete Inner find s c ts rest e d st) refl
+
+  sets_complete : {ts : Row} {xs : List Set} (rest : Row) → Listed (IsSet Inner) ts xs → Stops 1 rest → comma rest ≡ None → sets_of find (ts ++ rest) ≡ Some (xs, rest)
+  sets_complete rest d st a = listed_complete (IsSet Inner) (set_of find) (Stops 1) set_complete comma_stops rest d st a
+
+  values_complete : {ts : Row} {xs : List Expr} (rest : Row) → Listed (Expression Inner) ts xs → Stops 1 rest → comma rest ≡ None → values_of find (ts ++ rest) ≡ Some (xs, rest)
+  values_complete rest d st a = listed_complete (Expression Inner) (expression_of find) (Stops 1) (expression_complete Inner find s c) comma_stops rest d st a
+
+close_stops : (us : Row) → Stops 1 (sign mark.Close ∷ us)
+close_stops us o h = absurd cc
+
+close_no_comma : (us : Row) → comma (sign mark.Close ∷ us) ≡ None
+unfolding after
+close_no_comma us = refl
+
+pub statement_complete : (Inner Deeper : Row → Expr → Type 0) (find found : TreeReader Expr) → Sound Inner find → Sound Deeper found → Complete 1 Inner find → Complete 1 Deeper found → CompleteFor Ends (IsStatement Inner Deeper) (statement_of find found)
+unfolding after
+statement_complete Inner Deeper find found s t c d _ rest _ (form.is_insert {ts = ts} {es = es} l) st =
+    rw (append_assoc ts (sign mark.Close ∷ []) rest, values_complete Deeper found t d (sign mark.Close ∷ rest) l (close_stops rest) (close_no_comma rest)) refl
+statement_complete Inner Deeper find found s t c d _ rest _ (form.is_select {t = n} {a = a} {b = b} {w = w} {scan = scan} k sc) st =
+    rw (append_assoc a (key word.From ∷ name n ∷ b) rest, not_into (name n ∷ (b ++ rest)) k, what_complete (name n ∷ (b ++ rest)) k, scan_complete Inner find s c b rest scan sc st) refl
+statement_complete Inner Deeper find found s t c d _ rest _ (form.is_select_into {ts = ts} {e = e} k) st =
+    rw (sum_complete Inner find s c ts rest e k (Stops-weaker 1 4 rest (omega arith) st.stops)) refl
+statement_complete Inner Deeper find found s t c d _ rest _ (form.is_update {t = n} {a = a} {b = b} {sets = sets} {scan = scan} l sc) st =
+    rw (append_assoc a b rest, sets_complete Inner find s c (b ++ rest) l (scan_stops Inner find s c rest sc st) (scan_no_comma Inner find s c rest sc st), scan_complete Inner find s c b rest scan sc st) refl
+statement_complete Inner Deeper find found s t c d _ rest _ (form.is_delete {ts = ts} {scan = scan} sc) st = rw (scan_complete Inner find s c ts rest scan sc st) refl
+statement_complete Inner Deeper find found s t c d _ rest _ (form.is_ensure {ts = ts} {e = e} k) st = rw (expression_complete Inner find s c ts rest e k st.stops) refl
+
+-- ---- tables
+
+field_complete : CompleteFor Anything IsField field_of
+unfolding after
+field_complete _ rest _ table.int_field f = refl
+field_complete _ rest _ table.text_field f = refl
+
+field_opens : (u us : Row) (x : Field) → IsField u x → field_comma (sign mark.Comma ∷ (u ++ us)) ≡ Some (u ++ us)
+unfolding after
+field_opens _ us _ table.int_field = refl
+field_opens _ us _ table.text_field = refl
+
+module _ (Inner : Row → Expr → Type 0) (find : TreeReader Expr) (s : Sound Inner find) (c : Complete 1 Inner find) where
+  check_complete : CompleteFor (Stops 1) (IsCheck Inner) (check_of find)
+  unfolding after
+  check_complete _ rest _ (table.is_check {ts = ts} {e = e} d) st = expression_complete Inner find s c ts rest e d st
+
+  -- no further column stands before the checks
+  no_field : {ts : Row} {es : List Expr} (rest : Row) → Following (IsCheck Inner) ts es → field_comma (ts ++ sign mark.Close ∷ rest) ≡ None
+  unfolding after
+  no_field rest form.no_more = refl
+  no_field rest (form.one_more (table.is_check d) k) = refl
+
+  pub table_complete : (ts rest : Row) (x : TableDef) → IsTable Inner ts x → table_of find (ts ++ rest) ≡ Some (x, rest)
+  unfolding after
+  table_complete _ rest _ (table.is_table {t = t} {a = a} {b = b} {c = m} {f = f} {fs = fs} {es = es} g d k) =
+      let behind : Row = sign mark.Close ∷ rest in
+      let few : length fs ≤ length (b ++ (m ++ behind)) = omega (arith, length-append b (m ++ behind), following_few d) in
+      let fewer : length es ≤ length (m ++ behind) = omega (arith, length-append m behind, following_few k) in
+      let fields = following_complete field_comma IsField field_of Anything field_complete (λ us. tt) field_opens {ts = b} {xs = fs} (length (b ++ (m ++ behind))) (m ++ behind) d tt (no_field rest k) few in
+      let checks = following_complete comma (IsCheck Inner) (check_of find) (Stops 1) check_complete comma_stops (comma_opens (IsCheck Inner)) {ts = m} {xs = es} (length (m ++ behind)) behind k (close_stops rest) (close_no_comma rest) fewer in
+      rw (append_assoc a (key word.Key ∷ (b ++ (m ++ sign mark.Close ∷ []))) rest, append_assoc b (m ++ sign mark.Close ∷ []) rest, append_assoc m (sign mark.Close ∷ []) rest, field_complete a (key word.Key ∷ (b ++ (m ++ behind))) f g tt, fields, checks) refl

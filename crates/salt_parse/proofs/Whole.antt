@@ -1,0 +1,294 @@
+-- What the bytes spell, by what their symbols spell.
+use Rattle.std.proofs.Common.{◌≡◌, ◌≢◌, ℕ, zero, suc, ◌≤◌, Bool, true, false, cond, not, ◌&&◌, ◌||◌, List, [], ◌∷◌, ◌++◌, Option, Some, None, Result, Ok, Err, refl, sym, ap, subst, ◌∙◌, arith}
+use Rattle.std.proofs.lemmas.List.{append-nil}
+use Rattle.std.specs.List.{list_all, list_any}
+use Rattle.std.specs.Prelude.{IfOk, is_none}
+use Rattle.salt_ast.specs.Grammar.{Within}
+use Rattle.salt_ast.specs.Limits.{height_passed, statement_limit, table_limit}
+use Rattle.salt_ast.specs.Spelling.{IsStatementWithinLimits, IsTableWithinLimits, IsWithinLimits, Passes, Spells, SpellsShallowStatement, SpellsShallowTable, SpellsStatement, SpellsTable, StatementPasses, TablePasses, by_parentheses, by_tree}
+use Rattle.salt_ast.specs.Statements.{IsStatement}
+use Rattle.salt_ast.specs.Tables.{IsTable}
+use Rattle.salt_ast.specs.Words.{or_else, when}
+use Rattle.salt_ast.specs.declared.limit.LimitName.{LimitName}
+use Rattle.salt_ast.specs.declared.limit.LimitName.TheVariants as limit
+use Rattle.salt_ast.specs.declared.trees.Expr.{Expr}
+use Rattle.salt_ast.specs.declared.trees.Statement.{Statement}
+use Rattle.salt_ast.specs.declared.trees.TableDef.{TableDef}
+use Rattle.salt_parse.specs.Answers.{parse_err}
+use Rattle.salt_parse.specs.Attempts.{IsAnswer, attempt_of, ended, limit_in, settled, too_deep, tree_or_limit}
+use Rattle.salt_parse.specs.Flags.{Flags, clear, no_flags}
+use Rattle.salt_parse.specs.Lists.{comma}
+use Rattle.salt_parse.specs.Reading.{Read, after, within_at}
+use Rattle.salt_parse.specs.StatementReading.{statement_at}
+use Rattle.salt_parse.specs.TableReading.{table_at}
+use Rattle.salt_parse.specs.declared.error.ParseErr.{ParseErr}
+use Rattle.salt_parse.specs.declared.error.ParseErr.TheVariants.{Limit, Memory, Syntax}
+use Rattle.salt_parse.proofs.ExpressionLaws.{Sound, some_is, within_complete, within_sound}
+use Rattle.salt_parse.proofs.Mirror.{Agrees, ArePrintable, IsKept, IsPrintable, Marks, noted, within_mirrors}
+use Rattle.salt_parse.proofs.MirrorStatements.{statement_agrees, statement_marks, table_agrees, table_marks}
+use Rattle.salt_parse.proofs.StatementComplete.{Ends, statement_complete, table_complete}
+use Rattle.salt_parse.proofs.StatementSound.{statement_sound, table_sound}
+use Rattle.salt_parse.proofs.StatementTrees.{statement_of, table_of}
+use Rattle.salt_parse.proofs.Trees.{within_of}
+use Rattle.salt_parse.proofs.Up.{statement_up, table_up, within_up}
+use Rattle.salt_tokens.specs.Bytes.{is_printable}
+use Rattle.salt_tokens.specs.Pieces.{IsToken, Lexes, Piece, Run, blank, ended as no_more, quoted, token}
+use Rattle.salt_tokens.specs.Spelling.{keyword_of, sign_of}
+use Rattle.salt_tokens.specs.Symbols.{HasRow, Row, row_of, sign_symbol, symbol_by, text, word_symbol}
+use Rattle.salt_tokens.specs.declared.error.ScanErr.{ScanErr}
+use Rattle.salt_tokens.specs.declared.error.ScanErr.TheVariants as scan
+use Rattle.salt_tokens.specs.declared.keyword.Keyword.{Keyword}
+use Rattle.salt_tokens.specs.declared.keyword.Keyword.TheVariants as word
+use Rattle.salt_tokens.specs.declared.sign.Sign.{Sign}
+use Rattle.salt_tokens.specs.declared.token.TokenKind.{TokenKind}
+use Rattle.salt_tokens.specs.declared.token.TokenKind.TheVariants as kind
+
+-- ---- texts of tokens are printable
+
+run_all : (bs : List ℕ) → Run is_printable bs → list_all is_printable bs ≡ true
+run_all [] r = refl
+run_all (b ∷ bs) r = rw r.0 (run_all bs r.1)
+
+-- a text in quotes stands for the text
+abbrev pub TextLaw : Type 0
+TextLaw = (content : List ℕ) → symbol_by kind.Text (quoted content) ≡ text content
+
+word_printable : (bs : List ℕ) (k : Option Keyword) → IsPrintable (word_symbol bs k)
+word_printable bs None = tt
+word_printable bs (Some k) = tt
+
+sign_printable : (s : Option Sign) → IsPrintable (sign_symbol s)
+sign_printable None = tt
+sign_printable (Some s) = tt
+
+token_printable : TextLaw → (k : TokenKind) (bs : List ℕ) → IsToken k bs → IsPrintable (symbol_by k bs)
+token_printable law kind.Word bs h = word_printable bs (keyword_of bs)
+token_printable law kind.Int bs h = tt
+token_printable law kind.Text bs h =
+    let is : symbol_by kind.Text bs ≡ text h.0 = ap (λ (x : List ℕ). symbol_by kind.Text x) h.2 ∙ law h.0 in
+    subst IsPrintable (sym is) (run_all h.0 h.1)
+token_printable law kind.Sign bs h = sign_printable (sign_of bs)
+
+lexes_printable : TextLaw → {bs : List ℕ} {ps : List Piece} → Lexes bs ps → ArePrintable (row_of ps)
+lexes_printable law no_more = tt
+lexes_printable law (blank b d) = lexes_printable law d
+lexes_printable law (token k bs t e d) = (token_printable law k bs t, lexes_printable law d)
+
+pub row_printable : TextLaw → (bytes : List ℕ) (r : Row) → HasRow bytes r → ArePrintable r
+row_printable law bytes r h = subst ArePrintable (sym h.2) (lexes_printable law h.1)
+
+-- ---- one attempt
+
+-- the first limit that a tree passes
+limit_of : {A : Type 0} → Marks A → A → Option LimitName
+limit_of m x = or_else (m.passed x) (when (m.high x) limit.Depth)
+
+-- what an attempt tells of the tree that is found
+abbrev Finds : {A : Type 0} → Marks A → Option (A × Row) → Result (Result A LimitName) ParseErr → Type 0
+Finds m q (Ok (Ok x)) = (q ≡ Some (x, [])) × (or_else (m.passed x) (when (m.high x) limit.Depth) ≡ None)
+Finds {A} m q (Ok (Err l)) = (x : A) × (q ≡ Some (x, [])) × (or_else (m.passed x) (when (m.high x) limit.Depth) ≡ Some l)
+Finds {A} m q (Err Syntax) = (x : A) → q ≢ Some (x, [])
+Finds m q (Err Memory) = ⊥
+Finds m q (Err (Limit l)) = ⊥
+
+-- where no limit is found, the flags are clear
+none_clear : (f : Flags) → limit_in f ≡ None → clear f ≡ true
+none_clear f h = go f.over f.deep h
+  where
+    go : (v : Option LimitName) (d : Bool) → or_else v (when d limit.Depth) ≡ None → (is_none v && not d) ≡ true
+    go None false h = refl
+    go None true h = absurd cc
+    go (Some x) d h = absurd cc
+
+module _ {A : Type 0} (m : Marks A) where
+  of_tree : (x a : A) (f : Flags) → f ≡ noted m no_flags a → (clear f ≡ true → x ≡ a) → Finds m (Some (a, [])) (tree_or_limit x (limit_in f))
+  of_tree x a f e i = go (limit_in f) refl
+    where
+      same : limit_in f ≡ or_else (m.passed a) (when (m.high a) limit.Depth)
+      same = ap limit_in e
+
+      go : (l : Option LimitName) → limit_in f ≡ l → Finds m (Some (a, [])) (tree_or_limit x l)
+      go None h =
+          let is : x ≡ a = i (none_clear f h) in
+          subst (λ (z : A). (◌≡◌ {A = Option (A × Row)} (Some (a, [])) (Some (z, []))) × (or_else (m.passed z) (when (m.high z) limit.Depth) ≡ None)) (sym is) (refl, sym same ∙ h)
+      go (Some l) h = (a, refl, sym same ∙ h)
+
+  pub finds : (r : Option (Read A)) (q : Option (A × Row)) → Agrees m IsKept no_flags r q → Finds m q (attempt_of r)
+  finds None None h = λ x e. cc
+  finds None (Some y) h = absurd h
+  finds (Some x) None h = absurd h
+  finds (Some x) (Some y) h = go x.2 y.1 h.left
+    where
+      go : (us vs : Row) → us ≡ vs → Finds m (Some (y.0, vs)) (ended x.0 x.1 us)
+      go [] [] e = of_tree x.0 y.0 x.1 h.flags h.is
+      go [] (v ∷ vs) e = absurd cc
+      go (u ∷ us) [] e = absurd cc
+      go (u ∷ us) (v ∷ vs) e = λ z k. (let is : v ∷ vs ≡ [] = ap (λ (t : A × Row). t.1) (some_is (y.0, v ∷ vs) (z, []) k) in cc)
+
+-- ---- two attempts
+
+module _ {A : Type 0} (m : Marks A) (Shallow Deep : Row → A → Type 0) (up : (ts : Row) (x : A) → Shallow ts x → Deep ts x) (p q : Option (A × Row)) (ts : Row) where
+  abbrev Found : Option (A × Row) → (Row → A → Type 0) → Type 0
+  Found o G = ((x : A) → o ≡ Some (x, []) → G ts x) × ((x : A) → G ts x → o ≡ Some (x, []))
+
+  abbrev tree_limit : A → Option LimitName
+  tree_limit x = or_else (m.passed x) (when (m.high x) limit.Depth)
+
+  -- what is answered, by what the row spells
+  abbrev pub Settles : Result A ParseErr → Type 0
+  Settles (Ok x) = Shallow ts x × (tree_limit x ≡ None)
+  Settles (Err Memory) = Unit {0}
+  Settles (Err Syntax) = (x : A) → Deep ts x → ⊥
+  Settles (Err (Limit l)) = (x : A) × Deep ts x × Passes (tree_limit x) (Shallow ts x) l
+
+  settles : (r s : Result (Result A LimitName) ParseErr) → Found p Shallow → Found q Deep → Finds m p r → Finds m q s → Settles (settled r s)
+  settles (Ok (Ok x)) s f g h k = (f.0 x h.0, h.1)
+  settles (Ok (Err l)) s f g h k = (h.0, up ts h.0 (f.0 h.0 h.1), by_tree h.2)
+  settles (Err Memory) s f g h k = absurd h
+  settles (Err (Limit l)) s f g h k = absurd h
+  settles (Err Syntax) (Ok (Ok x)) f g h k = (x, g.0 x k.0, by_parentheses k.1 (λ d. h x (f.1 x d)))
+  settles (Err Syntax) (Ok (Err l)) f g h k = (k.0, g.0 k.0 k.1, by_tree k.2)
+  settles (Err Syntax) (Err Syntax) f g h k = λ x d. k x (g.1 x d)
+  settles (Err Syntax) (Err Memory) f g h k = absurd k
+  settles (Err Syntax) (Err (Limit l)) f g h k = absurd k
+
+  pub answered : (r : Result A ParseErr) (a : Result A ParseErr) → IsAnswer r a → Settles a → Settles r
+  answered (Ok x) a e h = subst Settles e h
+  answered (Err Memory) a e h = tt
+  answered (Err Syntax) a e h = subst Settles e h
+  answered (Err (Limit l)) a e h = subst Settles e h
+
+  pub all : (r : Result A ParseErr) (u v : Option (Read A)) → Found p Shallow → Found q Deep → Agrees m IsKept no_flags u p → Agrees m IsKept no_flags v q → IsAnswer r (settled (attempt_of u) (attempt_of v)) → Settles r
+  all r u v f g h k e = answered r (settled (attempt_of u) (attempt_of v)) e (settles (attempt_of u) (attempt_of v) f g (finds m u p h) (finds m v q k))
+
+-- ---- statements
+
+ends : Ends []
+unfolding after
+ends = record { stops = tt; no_where = refl; no_comma = refl }
+
+whole : {A : Type 0} (G : Row → A → Type 0) (ts : Row) (x : A) → (front : Row) × (ts ≡ front ++ []) × G front x → G ts x
+whole {A} G ts x r = subst (λ (z : Row). G z x) (sym (r.1 ∙ append-nil r.0)) r.2
+
+statement_found : (d n : ℕ) (ts : Row) → ((x : Statement) → statement_of (within_of d) (within_of n) ts ≡ Some (x, []) → IsStatement (Within d) (Within n) ts x) × ((x : Statement) → IsStatement (Within d) (Within n) ts x → statement_of (within_of d) (within_of n) ts ≡ Some (x, []))
+statement_found d n ts = (
+  λ x h. whole (IsStatement (Within d) (Within n)) ts x (statement_sound (Within d) (Within n) (within_of d) (within_sound d) (within_of n) (within_sound n) ts x [] h),
+  λ x h. ap (statement_of (within_of d) (within_of n)) (sym (append-nil ts)) ∙ statement_complete (Within d) (Within n) (within_of d) (within_of n) (within_sound d) (within_sound n) (within_complete d) (within_complete n) ts [] x h ends,
+)
+
+table_found : (d : ℕ) (ts : Row) → ((x : TableDef) → table_of (within_of d) ts ≡ Some (x, []) → IsTable (Within d) ts x) × ((x : TableDef) → IsTable (Within d) ts x → table_of (within_of d) ts ≡ Some (x, []))
+table_found d ts = (
+  λ x h. whole (IsTable (Within d)) ts x (table_sound (Within d) (within_of d) (within_sound d) ts x [] h),
+  λ x h. ap (table_of (within_of d)) (sym (append-nil ts)) ∙ table_complete (Within d) (within_of d) (within_sound d) (within_complete d) ts [] x h,
+)
+
+-- no row spells two trees
+one_of : {A : Type 0} (G : Row → A → Type 0) (o : Option (A × Row)) (ts : Row) → ((x : A) → G ts x → o ≡ Some (x, [])) → (a b : A) → G ts a → G ts b → a ≡ b
+one_of {A} G o ts c a b d k = ap (λ (x : A × Row). x.0) (some_is (a, []) (b, []) (sym (c a d) ∙ c b k))
+
+-- the bytes have one row of tokens at most
+abbrev pub OneRow : Type 0
+OneRow = (bs : List ℕ) (ps qs : List Piece) → Lexes bs ps → Lexes bs qs → ps ≡ qs
+
+module _ {A : Type 0} (one : OneRow) (bytes : List ℕ) where
+  -- what the row of the bytes spells, they spell
+  spelled : (G : Row → A → Type 0) (r : Row) (x : A) → HasRow bytes r → G r x → Spells G bytes x
+  spelled G r x h d = record { tokens = h.0; lexes = h.1; spelled = subst (λ (z : Row). G z x) h.2 d }
+
+  unspelled : (G : Row → A → Type 0) (r : Row) (x : A) → HasRow bytes r → Spells G bytes x → G r x
+  unspelled G r x h s =
+      let same : row_of s.tokens ≡ r = ap row_of (one bytes s.tokens h.0 s.lexes h.1) ∙ sym h.2 in
+      subst (λ (z : Row). G z x) same s.spelled
+
+  one_tree : (G : Row → A → Type 0) (find : Row → Option (A × Row)) → ((ts : Row) (x : A) → G ts x → find ts ≡ Some (x, [])) → (a b : A) → Spells G bytes a → Spells G bytes b → a ≡ b
+  one_tree G find c a b s t =
+      let h : HasRow bytes (row_of t.tokens) = (t.tokens, t.lexes, refl) in
+      one_of G (find (row_of t.tokens)) (row_of t.tokens) (λ x d. c (row_of t.tokens) x d) a b (unspelled G (row_of t.tokens) a h s) t.spelled
+
+  passes : (Shallow : Row → A → Type 0) (o : Option LimitName) (r : Row) (x : A) (l : LimitName) → HasRow bytes r → Passes o (Shallow r x) l → Passes o (Spells Shallow bytes x) l
+  passes Shallow o r x l h (by_tree e) = by_tree e
+  passes Shallow o r x l h (by_parentheses e n) = by_parentheses e (λ s. n (unspelled Shallow r x h s))
+
+pub one_statement : OneRow → (bytes : List ℕ) (a b : Statement) → SpellsStatement bytes a → SpellsStatement bytes b → a ≡ b
+one_statement one bytes a b s t = one_tree one bytes (IsStatement (Within 128) (Within 127)) (statement_of (within_of 128) (within_of 127)) (λ ts x d. (statement_found 128 127 ts).1 x d) a b s t
+
+pub one_table : OneRow → (bytes : List ℕ) (a b : TableDef) → SpellsTable bytes a → SpellsTable bytes b → a ≡ b
+one_table one bytes a b s t = one_tree one bytes (IsTable (Within 127)) (table_of (within_of 127)) (λ ts x d. (table_found 127 ts).1 x d) a b s t
+
+-- ---- the answers
+
+abbrev pub StatementAnswer : Row → Result Statement ParseErr → Type 0
+StatementAnswer ts r = IsAnswer r (settled (attempt_of (statement_at (within_at 64) (within_at 64) no_flags ts)) (attempt_of (statement_at (within_at 128) (within_at 127) no_flags ts)))
+
+abbrev pub TableAnswer : Row → Result TableDef ParseErr → Type 0
+TableAnswer ts r = IsAnswer r (settled (attempt_of (table_at (within_at 64) no_flags ts)) (attempt_of (table_at (within_at 127) no_flags ts)))
+
+abbrev ShallowStatement : Row → Statement → Type 0
+ShallowStatement = IsStatement (Within 64) (Within 64)
+
+abbrev DeepStatement : Row → Statement → Type 0
+DeepStatement = IsStatement (Within 128) (Within 127)
+
+statement_settles : (ts : Row) (r : Result Statement ParseErr) → ArePrintable ts → StatementAnswer ts r → Settles statement_marks ShallowStatement DeepStatement (λ us x d. statement_up (within_up 64 128 (omega arith)) (within_up 64 127 (omega arith)) us x d) (statement_of (within_of 64) (within_of 64) ts) (statement_of (within_of 128) (within_of 127) ts) ts r
+statement_settles ts r p e =
+    all statement_marks ShallowStatement DeepStatement (λ us x d. statement_up (within_up 64 128 (omega arith)) (within_up 64 127 (omega arith)) us x d) (statement_of (within_of 64) (within_of 64) ts) (statement_of (within_of 128) (within_of 127) ts) ts r
+    (statement_at (within_at 64) (within_at 64) no_flags ts) (statement_at (within_at 128) (within_at 127) no_flags ts) (statement_found 64 64 ts) (statement_found 128 127 ts)
+    (statement_agrees (within_at 64) (within_at 64) (within_of 64) (within_of 64) (within_mirrors 64) (within_mirrors 64) no_flags ts p) (statement_agrees (within_at 128) (within_at 127) (within_of 128) (within_of 127) (within_mirrors 128) (within_mirrors 127) no_flags ts p) e
+
+table_settles : (ts : Row) (r : Result TableDef ParseErr) → ArePrintable ts → TableAnswer ts r → Settles table_marks (IsTable (Within 64)) (IsTable (Within 127)) (λ us x d. table_up (within_up 64 127 (omega arith)) us x d) (table_of (within_of 64) ts) (table_of (within_of 127) ts) ts r
+table_settles ts r p e =
+    all table_marks (IsTable (Within 64)) (IsTable (Within 127)) (λ us x d. table_up (within_up 64 127 (omega arith)) us x d) (table_of (within_of 64) ts) (table_of (within_of 127) ts) ts r
+    (table_at (within_at 64) no_flags ts) (table_at (within_at 127) no_flags ts) (table_found 64 ts) (table_found 127 ts)
+    (table_agrees (within_at 64) (within_of 64) (within_mirrors 64) no_flags ts p) (table_agrees (within_at 127) (within_of 127) (within_mirrors 127) no_flags ts p) e
+
+module _ (one : OneRow) (law : TextLaw) (bytes : List ℕ) (ts : Row) (h : HasRow bytes ts) where
+  pub statement_is : (r : Result Statement ParseErr) → StatementAnswer ts r → IfOk r (λ st. IsStatementWithinLimits bytes st)
+  unfolding statement_limit
+  statement_is (Ok x) e = let k = statement_settles ts (Ok x) (row_printable law bytes ts h) e in record { tree = k.1; parentheses = spelled one bytes ShallowStatement ts x h k.0 }
+  statement_is (Err e) k = tt
+
+  pub statement_limit_is : (r : Result Statement ParseErr) (l : LimitName) → StatementAnswer ts r → r ≡ Err (Limit l) → (st : Statement) × SpellsStatement bytes st × StatementPasses bytes st l
+  unfolding statement_limit
+  statement_limit_is (Ok x) l e is = absurd cc
+  statement_limit_is (Err Memory) l e is = absurd cc
+  statement_limit_is (Err Syntax) l e is = absurd cc
+  statement_limit_is (Err (Limit k)) l e is =
+      let same : k ≡ l = cc is in
+      let d = statement_settles ts (Err (Limit k)) (row_printable law bytes ts h) e in
+      (d.0, spelled one bytes DeepStatement ts d.0 h d.1, subst (λ (z : LimitName). StatementPasses bytes d.0 z) same (passes one bytes ShallowStatement (statement_limit d.0) ts d.0 k h d.2))
+
+  pub no_statement : (r : Result Statement ParseErr) → StatementAnswer ts r → r ≡ Err Syntax → (st : Statement) → SpellsStatement bytes st → ⊥
+  no_statement (Ok x) e is st s = absurd cc
+  no_statement (Err Memory) e is st s = absurd cc
+  no_statement (Err (Limit k)) e is st s = absurd cc
+  no_statement (Err Syntax) e is st s = statement_settles ts (Err Syntax) (row_printable law bytes ts h) e st (unspelled one bytes DeepStatement ts st h s)
+
+  pub table_is : (r : Result TableDef ParseErr) → TableAnswer ts r → IfOk r (λ d. IsTableWithinLimits bytes d)
+  unfolding table_limit
+  table_is (Ok x) e = let k = table_settles ts (Ok x) (row_printable law bytes ts h) e in record { tree = k.1; parentheses = spelled one bytes (IsTable (Within 64)) ts x h k.0 }
+  table_is (Err e) k = tt
+
+  pub table_limit_is : (r : Result TableDef ParseErr) (l : LimitName) → TableAnswer ts r → r ≡ Err (Limit l) → (d : TableDef) × SpellsTable bytes d × TablePasses bytes d l
+  unfolding table_limit
+  table_limit_is (Ok x) l e is = absurd cc
+  table_limit_is (Err Memory) l e is = absurd cc
+  table_limit_is (Err Syntax) l e is = absurd cc
+  table_limit_is (Err (Limit k)) l e is =
+      let same : k ≡ l = cc is in
+      let d = table_settles ts (Err (Limit k)) (row_printable law bytes ts h) e in
+      (d.0, spelled one bytes (IsTable (Within 127)) ts d.0 h d.1, subst (λ (z : LimitName). TablePasses bytes d.0 z) same (passes one bytes (IsTable (Within 64)) (table_limit d.0) ts d.0 k h d.2))
+
+  pub no_table : (r : Result TableDef ParseErr) → TableAnswer ts r → r ≡ Err Syntax → (d : TableDef) → SpellsTable bytes d → ⊥
+  no_table (Ok x) e is st s = absurd cc
+  no_table (Err Memory) e is st s = absurd cc
+  no_table (Err (Limit k)) e is st s = absurd cc
+  no_table (Err Syntax) e is st s = table_settles ts (Err Syntax) (row_printable law bytes ts h) e st (unspelled one bytes (IsTable (Within 127)) ts st h s)
+
+-- a scan that failed for its bytes
+pub scan_syntax : (e : ScanErr) → parse_err e ≡ Syntax → e ≡ scan.Syntax
+scan_syntax scan.Memory h = absurd cc
+scan_syntax scan.Syntax h = refl
+
+pub scan_no_limit : (e : ScanErr) (l : LimitName) → parse_err e ≡ Limit l → ⊥
+scan_no_limit scan.Memory l h = cc
+scan_no_limit scan.Syntax l h = cc

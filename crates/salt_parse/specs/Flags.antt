@@ -1,0 +1,85 @@
+-- What a text was seen to pass so far, and what is built meanwhile.
+use Rattle.salt_ast.specs.Limits.{expr_passed, is_high}
+use Rattle.salt_ast.specs.Trees.{letters, negation, number, operation}
+use Rattle.salt_ast.specs.Words.{or_else}
+use Rattle.salt_ast.specs.declared.limit.LimitName.{LimitName}
+use Rattle.salt_ast.specs.declared.trees.Expr.{Expr}
+use Rattle.salt_ast.specs.declared.trees.Op.{Op}
+use Rattle.salt_parse.specs.declared.built.Built.{Built}
+use Rattle.salt_values.specs.Text.{is_text}
+use Rattle.std.specs.Prelude.{Bool, List, None, Option, Some, [], false, if◌then◌else◌, is_none, max, min, nat_le, nat_lt, neg_ℤ, not, pos, suc, true, ℕ, ℤ, ◌&&◌, ◌^◌, ◌||◌}
+
+-- the first limit that was passed, and whether some expression was too high
+pub record Flags : Type 0 where
+  pub over : Option LimitName
+  pub deep : Bool
+
+abbrev pub flags : Option LimitName → Bool → Flags
+flags over deep = record { over = over; deep = deep }
+
+abbrev pub no_flags : Flags
+no_flags = flags None false
+
+-- nothing is passed yet
+abbrev pub clear : Flags → Bool
+clear f = is_none f.over && not f.deep
+
+-- the flags after a part of the text that passes this limit and is, or is not, too high
+abbrev pub note : Flags → Option LimitName → Bool → Flags
+note f l high = record { over = or_else f.over l; deep = f.deep || high }
+
+-- a height of more than 64 is noted
+abbrev pub note_height : Flags → ℕ → Flags
+note_height f h = note f None (nat_lt 64 h)
+
+-- An expression while it is read: its tree while nothing is passed, and its height, where 65 is all above 64.
+pub record BuiltTree : Type 0 where
+  pub tree : Expr
+  pub height : ℕ
+
+abbrev pub built_of : Built → BuiltTree
+built_of b = record { tree = b.tree; height = b.height }
+
+-- what is built where something is passed
+abbrev pub stand_in : Expr
+stand_in = number (pos 0)
+
+abbrev pub kept : Flags → Expr → Expr
+kept f e = if clear f then e else stand_in
+
+abbrev pub kept_name : Flags → List ℕ → List ℕ
+kept_name f n = if clear f then n else []
+
+abbrev pub leaf : Expr → BuiltTree
+leaf e = record { tree = e; height = 1 }
+
+abbrev pub both_height : BuiltTree → BuiltTree → ℕ
+both_height l r = suc (max l.height r.height)
+
+-- an operation on what was built
+abbrev pub join_flags : BuiltTree → BuiltTree → Flags → Flags
+join_flags l r f = note_height f (both_height l r)
+
+abbrev pub join_tree : Op → BuiltTree → BuiltTree → Flags → BuiltTree
+join_tree o l r f = record { tree = kept (join_flags l r f) (operation o l.tree r.tree); height = min (both_height l r) 65 }
+
+-- `not` around what was built
+abbrev pub negate_flags : BuiltTree → Flags → Flags
+negate_flags b f = note_height f (suc b.height)
+
+abbrev pub negate_tree : BuiltTree → Flags → BuiltTree
+negate_tree b f = record { tree = kept (negate_flags b f) (negation b.tree); height = min (suc b.height) 65 }
+
+-- a number of 64 bits, by whether a minus sign stands before it
+abbrev pub signed : Bool → ℕ → Option ℤ
+signed false n = if nat_lt n (2 ^ 63) then Some (pos n) else None
+signed true n = if nat_le n (2 ^ 63) then Some (neg_ℤ (pos n)) else None
+
+-- a number, where it has 64 bits
+abbrev pub int_tree : Option ℤ → Expr
+int_tree None = stand_in
+int_tree (Some z) = number z
+
+-- a text, where the bytes are one
+abbrev pub text_tree : List ℕ → Expr
+text_tree t = if is_text t then letters t else stand_in

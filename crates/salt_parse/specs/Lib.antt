@@ -1,0 +1,7 @@
+pub mod Answers
+pub mod Attempts
+pub mod Flags
+pub mod Lists
+pub mod Reading
+pub mod StatementReading
+pub mod TableReading

@@ -1,0 +1,57 @@
+-- Reading tables from left to right, with what they pass.
+use Rattle.salt_ast.specs.Words.{when}
+use Rattle.salt_ast.specs.declared.limit.LimitName.{LimitName}
+use Rattle.salt_ast.specs.declared.limit.LimitName.TheVariants as limit
+use Rattle.salt_ast.specs.declared.trees.ColType.{ColType}
+use Rattle.salt_ast.specs.declared.trees.ColType.TheVariants as kind
+use Rattle.salt_ast.specs.declared.trees.Expr.{Expr}
+use Rattle.salt_ast.specs.declared.trees.Field.{Field}
+use Rattle.salt_ast.specs.declared.trees.TableDef.{TableDef}
+use Rattle.salt_parse.specs.Flags.{BuiltTree, Flags, note}
+use Rattle.salt_parse.specs.Lists.{comma, either, following_at, with_front}
+use Rattle.salt_parse.specs.Reading.{Read, Reader, after, expression_at}
+use Rattle.salt_parse.specs.StatementReading.{name_at, tree_at}
+use Rattle.salt_tokens.specs.Scanning.{◌>>=◌}
+use Rattle.salt_tokens.specs.Symbols.{Row, key, sign}
+use Rattle.salt_tokens.specs.declared.keyword.Keyword.TheVariants as word
+use Rattle.salt_tokens.specs.declared.sign.Sign.TheVariants as mark
+use Rattle.std.specs.Prelude.{List, None, Option, Some, [], false, length, nat_le, ℕ, ◌∷◌}
+
+-- a column's type, and what stands behind it
+abbrev pub kind_at : Row → Option (ColType × Row)
+kind_at ts = either (after (key word.Int) ts) (after (key word.Text) ts >>= λ us. Some (kind.Text, us)) (λ us. Some (kind.Int, us))
+
+abbrev pub field_at : Reader Field
+field_at f ts = name_at f ts >>= λ n. kind_at n.2 >>= λ k. Some (record { name = n.0; kind = k.0 }, n.1, k.1)
+
+-- the flags before an item behind so many others, where there may be 16 in all
+abbrev pub counted : LimitName → ℕ → Flags → Flags
+counted l n f = note f (when (nat_le 16 n) l) false
+
+-- the column that stands behind so many others
+abbrev pub further_field_at : ℕ → Reader Field
+further_field_at n f ts = field_at (counted limit.Columns n f) ts
+
+-- what stands behind a comma, where it is no check
+abbrev pub field_comma : Row → Option Row
+field_comma ts = comma ts >>= λ us. either (after (key word.Check) us) (Some us) (λ vs. None)
+
+-- the key's column and further ones
+abbrev pub fields_at : Reader (List Field)
+fields_at f ts =
+    field_at f ts >>= λ c. after (key word.Key) c.2 >>= λ us. with_front (c.0 ∷ []) (following_at field_comma further_field_at 1 (length us) c.1 us)
+
+-- the check that stands behind so many others
+abbrev pub check_at : Reader BuiltTree → ℕ → Reader Expr
+check_at inner n f ts = after (key word.Check) ts >>= λ us. tree_at (expression_at inner) (counted limit.Checks n f) us
+
+abbrev pub checks_at : Reader BuiltTree → Reader (List Expr)
+checks_at inner f ts = following_at comma (check_at inner) 0 (length ts) f ts
+
+-- what stands behind `create table`
+abbrev pub definition_at : Reader BuiltTree → Reader TableDef
+definition_at inner f ts =
+    name_at f ts >>= λ n. after (sign mark.Open) n.2 >>= λ us. fields_at n.1 us >>= λ cs. checks_at inner cs.1 cs.2 >>= λ es. after (sign mark.Close) es.2 >>= λ vs. Some (record { name = n.0; columns = cs.0; checks = es.0 }, es.1, vs)
+
+unfoldable pub table_at : Reader BuiltTree → Reader TableDef
+table_at inner f ts = after (key word.Create) ts >>= λ us. after (key word.Table) us >>= λ vs. definition_at inner f vs

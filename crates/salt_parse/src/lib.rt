@@ -1,0 +1,20 @@
+//! From bytes to the trees of statements and tables.
+#![tactic(auto)]
+
+mod built;
+mod cursor;
+mod error;
+mod expr;
+mod laws;
+mod parser;
+mod quoted;
+mod read;
+mod scan;
+mod statement;
+mod table;
+mod token;
+
+pub use error::ParseErr;
+pub use laws::{one_statement, one_table};
+pub use read::{read_statement, read_table};
+pub use token::tokens;
