@@ -9,3 +9,4 @@ pub mod CanonicalExprs
 pub mod CanonicalLists
 pub mod LowExprs
 pub mod CanonicalStatements
+pub mod CanonicalTables

@@ -14,7 +14,7 @@ mod send;
 mod tests;
 mod trees;
 
-pub use laws::canonical_statement;
+pub use laws::{canonical_statement, canonical_table};
 pub use limit::LimitName;
 pub use print::{print_statement, print_table, send_statement};
 pub use trees::{
