@@ -2,3 +2,11 @@ pub mod SendingLaws
 pub mod Quotes
 pub mod Lists
 pub mod Nodes
+pub mod Each
+pub mod Fragments
+pub mod TokenRows
+pub mod CanonicalExprs
+pub mod CanonicalLists
+pub mod LowExprs
+pub mod CanonicalStatements
+pub mod CanonicalTables

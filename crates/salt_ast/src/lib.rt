@@ -5,6 +5,7 @@
 mod appender;
 mod canonical;
 mod copy;
+mod laws;
 mod limit;
 mod parts;
 mod print;
@@ -13,6 +14,7 @@ mod send;
 mod tests;
 mod trees;
 
+pub use laws::{canonical_statement, canonical_table};
 pub use limit::LimitName;
 pub use print::{print_statement, print_table, send_statement};
 pub use trees::{

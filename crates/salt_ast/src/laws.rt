@@ -1,0 +1,32 @@
+//! What holds of canonical texts.
+
+ghost use Rattle.std.specs.Prelude.{◌≡◌, List, None, ℕ};
+ghost use Rattle.salt_ast.specs.Limits.{statement_limit, table_limit};
+ghost use Rattle.salt_ast.specs.Spelling.{SpellsShallowStatement, SpellsShallowTable, SpellsStatement, SpellsTable};
+ghost use Rattle.salt_ast.specs.Texts.{statement_text, table_text};
+ghost use Rattle.salt_ast.specs.declared.trees.Statement.{Statement};
+ghost use Rattle.salt_ast.specs.declared.trees.TableDef.{TableDef};
+
+use salt_tokens::{keyword_spellings, quoted_text, sign_spellings, written_number};
+
+/// The canonical text of a statement that some bytes spell, and that passes no limit by its tree,
+/// spells this statement, with no more parentheses than the limit on depth.
+pub fn canonical_statement()
+    ensures { (bytes : List ℕ) (st : Statement) → SpellsStatement bytes st → statement_limit st ≡ None → SpellsShallowStatement (statement_text st) st }
+{
+    keyword_spellings();
+    sign_spellings();
+    quoted_text();
+    written_number();
+}
+
+/// The canonical text of a table that some bytes spell, and that passes no limit by its tree,
+/// spells this table, with no more parentheses than the limit on depth.
+pub fn canonical_table()
+    ensures { (bytes : List ℕ) (d : TableDef) → SpellsTable bytes d → table_limit d ≡ None → SpellsShallowTable (table_text d) d }
+{
+    keyword_spellings();
+    sign_spellings();
+    quoted_text();
+    written_number();
+}
