@@ -5,12 +5,13 @@ A script is one `create table`, then inserts for its first half and selects of r
 rest; every line is a transaction of its own. Prints lines per second and how much a line's cost grew
 from one size to the next; ends with 1 where it grew by more than 1.3 from the first size to the last.
 """
-import random, shutil, subprocess, sys, time
+import random, shutil, subprocess, sys
 from pathlib import Path
+
+from timing import seconds
 
 SIZES = [10_000, 20_000, 40_000]
 GROWTH = 1.3
-ROUNDS = 3
 TOP = Path(__file__).resolve().parent.parent
 
 
@@ -31,17 +32,6 @@ def salt_script(lines):
 def sqlite_script(lines):
     texts = [text.replace("key =", "id =") + ";" for text in statements(lines)]
     return "\n".join(["create table t (id integer primary key, v int);", *texts, ""]).encode()
-
-
-def seconds(command, script):
-    """The least wall time of a few rounds; a program that fails ends the measure."""
-    best = None
-    for _ in range(ROUNDS):
-        start = time.monotonic()
-        subprocess.run(command, input=script, stdout=subprocess.DEVNULL, check=True)
-        took = time.monotonic() - start
-        best = took if best is None else min(best, took)
-    return best
 
 
 def measure(name, command, script_of):

@@ -5,14 +5,15 @@ The program `parse_bench` reads a statement from each line. Beside it stands `ex
 parses and plans them (`key` is the column `id` there, ENSURE a SELECT, and INTO is left out). Ends with 1 where the time for
 a term grew by more than 1.3 from 16 terms to 64.
 """
-import random, shutil, subprocess, sys, time
+import random, shutil, subprocess, sys
 from pathlib import Path
+
+from timing import seconds
 
 STATEMENTS = 100_000
 EXPRESSIONS = 20_000
 TERMS = [16, 32, 64]
 GROWTH = 1.3
-ROUNDS = 3
 CRATE = Path(__file__).resolve().parent.parent / "crates/parse_bench"
 PROGRAM = CRATE / "out/parse_bench"
 
@@ -42,33 +43,25 @@ def in_sqlite(statement):
     return f"explain {words};"
 
 
-def seconds(command, lines):
-    """The least wall time of a few rounds; a program that fails ends the measure."""
-    script = "".join(line + "\n" for line in lines).encode()
-    best = None
-    for _ in range(ROUNDS):
-        start = time.monotonic()
-        subprocess.run(command, input=script, stdout=subprocess.DEVNULL, check=True)
-        took = time.monotonic() - start
-        best = took if best is None else min(best, took)
-    return best
+def script(lines):
+    return "".join(line + "\n" for line in lines).encode()
 
 
 def main():
     with (CRATE / "stdin").open("rb") as example:
         subprocess.run(["rt", "run"], cwd=CRATE, stdin=example, stdout=subprocess.DEVNULL, stderr=subprocess.DEVNULL, check=True)
     mixed = statements()
-    took = seconds([PROGRAM], mixed)
+    took = seconds([PROGRAM], script(mixed))
     print(f"salt     {STATEMENTS} statements {took:8.3f} s {STATEMENTS / took:10.0f} statements/s", flush=True)
     if shutil.which("sqlite3"):
         tables = ["create table t (id integer primary key, b text, a int);"]
-        took = seconds(["sqlite3", ":memory:"], tables + [in_sqlite(statement) for statement in mixed])
+        took = seconds(["sqlite3", ":memory:"], script(tables + [in_sqlite(statement) for statement in mixed]))
         print(f"sqlite3  {STATEMENTS} statements {took:8.3f} s {STATEMENTS / took:10.0f} statements/s (explain)", flush=True)
     else:
         print("sqlite3 is not installed: nothing to compare with (apt-get install sqlite3)")
     costs = []
     for terms in TERMS:
-        took = seconds([PROGRAM], expressions(terms))
+        took = seconds([PROGRAM], script(expressions(terms)))
         costs.append(took / EXPRESSIONS / terms)
         print(f"salt     {terms:3} terms {took:8.3f} s {costs[-1] * 1e9:8.0f} ns a term", flush=True)
     growth = costs[-1] / costs[0]
