@@ -27,7 +27,16 @@ limit_word limit.Text = codes "text"
 limit_word limit.Tables = codes "tables"
 limit_word limit.Columns = codes "columns"
 limit_word limit.Checks = codes "checks"
+limit_word limit.Programs = codes "programs"
+limit_word limit.Parts = codes "parts"
+limit_word limit.Statements = codes "statements"
+limit_word limit.Parameters = codes "parameters"
+limit_word limit.Variables = codes "variables"
 limit_word limit.Depth = codes "depth"
+limit_word limit.Crash = codes "crash"
+limit_word limit.Pick = codes "pick"
+limit_word limit.Pairs = codes "pairs"
+limit_word limit.Bases = codes "bases"
 
 -- the limit that a number above `most` passes
 abbrev pub above : ℕ → LimitName → ℕ → Option LimitName

@@ -1,5 +1,5 @@
-//! The trees of tables and statements, which texts spell them, their canonical texts, and what is
-//! refused of them.
+//! The trees of tables, statements, programs and lines, which texts spell them, their canonical
+//! texts, and what is refused of them.
 #![tactic(auto)]
 
 mod appender;
@@ -7,8 +7,10 @@ mod canonical;
 mod copy;
 mod laws;
 mod limit;
+mod lines;
 mod parts;
 mod print;
+mod programs;
 mod send;
 #[cfg(test)]
 mod tests;
@@ -16,7 +18,9 @@ mod trees;
 
 pub use laws::{canonical_statement, canonical_table};
 pub use limit::LimitName;
+pub use lines::{Act, Line, Pairs};
 pub use print::{print_statement, print_table, send_statement};
+pub use programs::{Body, Next, PartDef, Parts, ProgramDef};
 pub use trees::{
     Bound, ColType, Expr, Exprs, Field, Fields, Op, Scan, Scope, Set, Sets, Statement, Statements,
     TableDef, What,

@@ -18,8 +18,26 @@ pub enum LimitName {
     Columns,
     /// A table has at most 16 checks.
     Checks,
+    /// There are at most 256 programs.
+    Programs,
+    /// A program has at most 32 parts.
+    Parts,
+    /// A part, or an ACID program, has at most 64 statements.
+    Statements,
+    /// A program has at most 16 parameters.
+    Parameters,
+    /// A program has at most 16 variables.
+    Variables,
     /// An expression's height, and the number of its parentheses around a token, are at most 64.
     Depth,
+    /// The number of the call at which the disks stop is 1 to 1,000,000.
+    Crash,
+    /// The number of what a stop leaves is at most 4.
+    Pick,
+    /// A line arms at most 8 stops.
+    Pairs,
+    /// At most 1,024 BASE programs are in their first part, or accepted and not yet released.
+    Bases,
 }
 
 impl LimitName {
@@ -35,7 +53,16 @@ impl LimitName {
             LimitName::Tables => b"tables",
             LimitName::Columns => b"columns",
             LimitName::Checks => b"checks",
+            LimitName::Programs => b"programs",
+            LimitName::Parts => b"parts",
+            LimitName::Statements => b"statements",
+            LimitName::Parameters => b"parameters",
+            LimitName::Variables => b"variables",
             LimitName::Depth => b"depth",
+            LimitName::Crash => b"crash",
+            LimitName::Pick => b"pick",
+            LimitName::Pairs => b"pairs",
+            LimitName::Bases => b"bases",
         }
     }
 }

@@ -1,0 +1,72 @@
+//! The trees of programs.
+
+use crate::trees::{Fields, Statements};
+use salt_values::Name;
+use sqlite_items::Items;
+
+/// Where a program goes on behind a part.
+#[derive(Clone, Copy, Debug, PartialEq, Eq)]
+pub enum Next {
+    /// At this part, where the first is 1.
+    Part(u64),
+    /// Nowhere: the program ends.
+    End,
+}
+
+/// A part of a BASE program: the statements of one unit, and where the program goes on.
+pub struct PartDef {
+    pub block: Statements,
+    /// Behind the part's commit; where nothing is said, at the part that follows, or at the end
+    /// behind the last.
+    pub then: Option<Next>,
+    /// Behind the part's failure. Each part but the first has one.
+    pub on_failure: Option<Next>,
+}
+
+impl Drop for PartDef {
+    fn drop(self) {
+        let PartDef {
+            block: _block,
+            then: _then,
+            on_failure: _on_failure,
+        } = self;
+    }
+}
+
+pub type Parts = Items<PartDef>;
+
+/// What a program does.
+pub enum Body {
+    /// All statements in one ACID unit.
+    Acid(Statements),
+    /// Each part in a unit of its own, along the path that the parts declare.
+    Base(Parts),
+}
+
+impl Drop for Body {
+    fn drop(self) {
+        match self {
+            Body::Acid(_block) => {}
+            Body::Base(_parts) => {}
+        }
+    }
+}
+
+/// A program's name, its parameters and variables, and what it does.
+pub struct ProgramDef {
+    pub name: Name,
+    pub params: Fields,
+    pub vars: Fields,
+    pub body: Body,
+}
+
+impl Drop for ProgramDef {
+    fn drop(self) {
+        let ProgramDef {
+            name: _name,
+            params: _params,
+            vars: _vars,
+            body: _body,
+        } = self;
+    }
+}
