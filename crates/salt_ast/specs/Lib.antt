@@ -10,4 +10,5 @@ pub mod Limits
 pub mod Judgement
 pub mod Sending
 pub mod Parts
+pub mod ProgramTexts
 pub mod Examples
