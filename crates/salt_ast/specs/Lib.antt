@@ -11,4 +11,5 @@ pub mod Judgement
 pub mod Sending
 pub mod Parts
 pub mod ProgramTexts
+pub mod Paths
 pub mod Examples

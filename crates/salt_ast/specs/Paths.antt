@@ -1,0 +1,86 @@
+-- The path of a program: its blocks, where it goes on behind each part, and how many statements may still run.
+use Rattle.salt_ast.specs.Words.{in_some, when}
+use Rattle.salt_ast.specs.declared.programs.Body.{Body}
+use Rattle.salt_ast.specs.declared.programs.Body.TheVariants as body
+use Rattle.salt_ast.specs.declared.programs.Next.{Next}
+use Rattle.salt_ast.specs.declared.programs.Next.TheVariants as next
+use Rattle.salt_ast.specs.declared.programs.PartDef.{PartDef}
+use Rattle.salt_ast.specs.declared.trees.Statement.{Statement}
+use Rattle.std.specs.Prelude.{List, None, Option, Some, [], if◌then◌else◌, length, map, max, nat_lt, suc, zero, ℕ, ◌+◌, ◌++◌, ◌==◌, ◌∷◌}
+
+-- Parts are numbered from 1. The block of a part is what its unit does; the whole of an ACID program is one unit.
+
+abbrev pub part_block : PartDef → List Statement
+part_block p = p.block
+
+abbrev pub blocks : Body → List (List Statement)
+blocks (body.Acid block) = block ∷ []
+blocks (body.Base parts) = map part_block parts
+
+-- the statements of all blocks, in the order of the text
+abbrev pub statements_in : List (List Statement) → List Statement
+statements_in [] = []
+statements_in (block ∷ bs) = block ++ statements_in bs
+
+abbrev pub body_statements : Body → List Statement
+body_statements b = statements_in (blocks b)
+
+-- what stands at this place, counted from 1
+abbrev pub at_number : {A : Type 0} → ℕ → List A → Option A
+at_number k [] = None
+at_number zero (x ∷ xs) = None
+at_number (suc zero) (x ∷ xs) = Some x
+at_number (suc (suc k)) (x ∷ xs) = at_number (suc k) xs
+
+-- WAYS. A way leads to a part, or to the end, which is no part.
+
+abbrev pub part_of_next : Next → Option ℕ
+part_of_next (next.Part k) = Some k
+part_of_next next.End = None
+
+-- the way of part `k` of `count` parts behind its commit: by default the part that follows, or the end behind the last
+abbrev pub way_on_commit : (count k : ℕ) → Option Next → Option ℕ
+way_on_commit count k None = when (nat_lt k count) (suc k)
+way_on_commit count k (Some n) = part_of_next n
+
+-- the way behind a failure, which each part but the first declares
+abbrev pub way_on_failure : Option Next → Option ℕ
+way_on_failure way = in_some part_of_next way
+
+-- where a program of these parts goes on behind the commit of part `k`: none is the end
+abbrev pub next_on_commit : List PartDef → ℕ → Option ℕ
+next_on_commit parts k = in_some (λ p. way_on_commit (length parts) k p.then) (at_number k parts)
+
+-- where it goes on behind the failure of part `k`, which is above 1: none is the end
+abbrev pub next_on_failure : List PartDef → ℕ → Option ℕ
+next_on_failure parts k = in_some (λ p. way_on_failure p.on_failure) (at_number k parts)
+
+-- REST: how many statements may still run from a way on, at most.
+
+-- what is told of the parts behind one, from the nearest on: a part's number and its rest
+pub record Rest : Type 0 where
+  pub part : ℕ
+  pub statements : ℕ
+
+-- the end has none, and no part is before the one that it is told behind
+abbrev pub rest_among : List Rest → Option ℕ → ℕ
+rest_among rs None = 0
+rest_among [] (Some k) = 0
+rest_among (r ∷ rs) (Some k) = if r.part == k then r.statements else rest_among rs (Some k)
+
+-- the statements of part `k`, and the greater rest of its two ways
+abbrev pub part_rest : (count k : ℕ) → PartDef → List Rest → ℕ
+part_rest count k p behind =
+    length p.block + max (rest_among behind (way_on_commit count k p.then)) (rest_among behind (way_on_failure p.on_failure))
+
+abbrev pub with_rest : (count k : ℕ) → PartDef → List Rest → List Rest
+with_rest count k p behind = record { part = k; statements = part_rest count k p behind } ∷ behind
+
+-- the rests of these parts, the first of which is part `k`
+abbrev pub rests : (count k : ℕ) → List PartDef → List Rest
+rests count k [] = []
+rests count k (p ∷ ps) = with_rest count k p (rests count (suc k) ps)
+
+-- from part `k` on, or from the end
+abbrev pub rest_of : List PartDef → Option ℕ → ℕ
+rest_of parts way = rest_among (rests (length parts) 1 parts) way
