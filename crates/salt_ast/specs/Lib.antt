@@ -12,4 +12,5 @@ pub mod Sending
 pub mod Parts
 pub mod ProgramTexts
 pub mod Paths
+pub mod ProgramLimits
 pub mod Examples
