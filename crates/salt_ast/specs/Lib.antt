@@ -13,4 +13,5 @@ pub mod Parts
 pub mod ProgramTexts
 pub mod Paths
 pub mod ProgramLimits
+pub mod ProgramJudgement
 pub mod Examples
