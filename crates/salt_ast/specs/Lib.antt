@@ -15,3 +15,4 @@ pub mod Paths
 pub mod ProgramLimits
 pub mod ProgramJudgement
 pub mod Examples
+pub mod ProgramExamples
