@@ -10,3 +10,4 @@ pub mod CanonicalLists
 pub mod LowExprs
 pub mod CanonicalStatements
 pub mod CanonicalTables
+pub mod Rests

@@ -9,6 +9,7 @@ mod laws;
 mod limit;
 mod lines;
 mod parts;
+mod path_laws;
 mod print;
 mod programs;
 mod send;
@@ -19,6 +20,7 @@ mod trees;
 pub use laws::{canonical_statement, canonical_table};
 pub use limit::LimitName;
 pub use lines::{Act, Line, Pairs};
+pub use path_laws::rest_of_a_part;
 pub use print::{print_statement, print_table, send_statement};
 pub use programs::{Body, Next, PartDef, Parts, ProgramDef};
 pub use trees::{
