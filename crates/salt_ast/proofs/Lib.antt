@@ -11,3 +11,4 @@ pub mod LowExprs
 pub mod CanonicalStatements
 pub mod CanonicalTables
 pub mod Rests
+pub mod Ways

@@ -51,7 +51,7 @@ failure_later : (count k : ℕ) (w : Option Next) → is_backward count k w ≡ 
 failure_later count k None h = tt
 failure_later count k (Some n) h = told_later count k n h
 
-first_is_none : {A : Type 0} (x y : Option A) → or_else x y ≡ None → x ≡ None
+pub first_is_none : {A : Type 0} (x y : Option A) → or_else x y ≡ None → x ≡ None
 first_is_none None y h = refl
 first_is_none (Some x) y h = absurd (cc h)
 
@@ -64,7 +64,7 @@ neither true b c h = absurd (cc h)
 neither false true c h = absurd (cc h)
 neither false false c h = (refl, refl)
 
-both_forward : (count k : ℕ) (p : PartDef) → part_fault count k p ≡ None → (is_backward count k p.then ≡ false) × (is_backward count k p.on_failure ≡ false)
+pub both_forward : (count k : ℕ) (p : PartDef) → part_fault count k p ≡ None → (is_backward count k p.then ≡ false) × (is_backward count k p.on_failure ≡ false)
 both_forward count k p sound = neither _ _ _ (not_told _ _ (other_is_none _ _ sound))
 
 first_rest : (count k : ℕ) (q : PartDef) (qs : List PartDef) (whole : List Rest) → Agrees count k (q ∷ qs) whole → part_fault count k q ≡ None →
