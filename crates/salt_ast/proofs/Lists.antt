@@ -1,7 +1,8 @@
 -- The texts of lists, item by item.
 use Rattle.salt_ast.specs.Sending.{joined}
-use Rattle.salt_ast.specs.Texts.{between_commas, preceded}
-use Rattle.std.proofs.Common.{List, [], add-one, ap, append_assoc, drop, drop-cons, get_or, length, refl, subst, suc, sym, take, ℕ, ◌+◌, ◌++◌, ◌-◌, ◌<◌, ◌∙◌, ◌∷◌, ◌≡◌, ◌≤◌, codes, arith}
+use Rattle.salt_ast.specs.Texts.{between_commas, columns_text, field_text, preceded}
+use Rattle.salt_ast.specs.declared.trees.Field.{Field}
+use Rattle.std.proofs.Common.{List, [], add-one, ap, drop, drop-cons, get_or, length, refl, suc, sym, take, ℕ, ◌+◌, ◌++◌, ◌-◌, ◌<◌, ◌∙◌, ◌∷◌, ◌≡◌, ◌≤◌, codes, arith}
 use Rattle.std.proofs.Math.ListN.{drop_of_length-le}
 use Rattle.std.proofs.Math.Seq.{take-length}
 use Rattle.std.proofs.lemmas.List.{append-nil}
@@ -36,3 +37,14 @@ module _ {A : Type 0} (text : A → List ℕ) where
   first_item (y ∷ ys) x le is =
       let rest : suc (length ys) - 1 ≡ length ys = omega arith in
       rw is (ap (λ zs. text y ++ preceded (codes ", ") text zs) (ap (λ k. take k ys) rest ∙ take-length ys))
+
+pub no_columns : (fs : List Field) → length fs < 1 → columns_text fs ≡ []
+no_columns [] lt = refl
+no_columns (f ∷ fs) lt = absurd (omega arith)
+
+-- the key, and the columns behind it
+pub key_first : (fs : List Field) (f : Field) → 1 ≤ length fs → f ≡ get_or fs 0 f → columns_text fs ≡ field_text f ++ (codes " key" ++ preceded (codes ", ") field_text (take (length fs - 1) (drop 1 fs)))
+key_first [] f le is = absurd (omega arith)
+key_first (e ∷ fs) f le is =
+    let rest : suc (length fs) - 1 ≡ length fs = omega arith in
+    rw is (ap (λ gs. field_text e ++ (codes " key" ++ preceded (codes ", ") field_text gs)) (sym (ap (λ k. take k fs) rest ∙ take-length fs)))

@@ -1,11 +1,9 @@
 -- One text behind another, written to a sink.
 use Rattle.salt_ast.specs.Sending.{gained}
-use Rattle.salt_io.specs.Streams.{Gains, GainsSome}
-use Rattle.std.proofs.Common.{Err, List, None, Ok, OnErr, OnOk, Option, Result, Some, [], ap, append_assoc, arith, drop, length, length-drop, refl, sym, subst, take, true, ℕ, ◌++◌, ◌-◌, ◌∙◌, ◌∷◌, ◌≡◌, ◌≤◌}
-use Rattle.std.specs.Prelude.{◌==◌}
-use Rattle.std.proofs.Math.Seq.{take-length}
-use Rattle.std.proofs.lemmas.Bool.{eqb-true}
-use Rattle.std.proofs.lemmas.List.{append-nil, nil_from_length, take-append-drop}
+use Rattle.salt_io.specs.Streams.{GainsSome}
+use Rattle.std.proofs.Common.{Err, List, None, Ok, OnErr, OnOk, Option, Result, Some, [], ap, append_assoc, length, refl, subst, sym, take, ℕ, ◌++◌, ◌∙◌, ◌≡◌}
+use Rattle.std.proofs.Math.Seq.{take-append_seam}
+use Rattle.std.proofs.lemmas.List.{append-nil}
 
 pub gained_append : (h : Option (List ℕ)) (x y : List ℕ) → gained h (x ++ y) ≡ gained (gained h x) y
 unfolding gained
@@ -36,11 +34,6 @@ some_before h x y c g = record {
   gained = g.gained;
 }
 
--- nothing yet
-pub some_nothing : (h : Option (List ℕ)) (x : List ℕ) → GainsSome h x h
-unfolding gained
-some_nothing h x = record { part = []; others = x; whole = refl; gained = sym (gained_nothing h) }
-
 -- All of a text has been written to a sink that held `start`, but for what is left.
 pub record Leaves (start : Option (List ℕ)) (whole : List ℕ) (now : Option (List ℕ)) (left : List ℕ) : Type 0 where
   pub all : gained now left ≡ gained start whole
@@ -59,13 +52,6 @@ leaves_nothing {s = s} {w = w} {h = h} x l e = subst (λ (t : List ℕ). gained 
 pub leaves_less : {s : Option (List ℕ)} {w : List ℕ} {h : Option (List ℕ)} (x y : List ℕ) (left : List ℕ) (now : Option (List ℕ)) → Leaves s w h left → x ++ y ≡ left → now ≡ gained h x → Leaves s w now y
 leaves_less {s = s} {w = w} {h = h} x y left now l e n =
     subst (λ (t : Option (List ℕ)). Leaves s w t y) (sym n) (leaves_rest x y (subst (λ (t : List ℕ). Leaves s w h t) (sym e) l))
-
--- the two parts of a list at n
-pub parts_at : (n : ℕ) (l : List ℕ) → n ≤ length l → take n l ++ take (length l - n) (drop n l) ≡ l
-parts_at n l h = ap (λ k. take n l ++ take k (drop n l)) (sym (length-drop n l)) ∙ (ap (λ t. take n l ++ t) (take-length (drop n l)) ∙ take-append-drop n l)
-
-pub nothing_left : (l : List ℕ) → (length l == 0) ≡ true → l ≡ []
-nothing_left l h = nil_from_length l (eqb-true _ _ h)
 
 -- writing the next part fails
 pub leaves_part : {s : Option (List ℕ)} {w : List ℕ} {h : Option (List ℕ)} (x y : List ℕ) (left : List ℕ) (c : Option (List ℕ)) → Leaves s w h left → x ++ y ≡ left → GainsSome h x c → GainsSome s w c
@@ -100,3 +86,14 @@ leaves_next x z y now l e n = leaves_less x y (z ++ y) now l (ap (λ t. t ++ y) 
 -- writing it fails
 pub leaves_stop : {s : Option (List ℕ)} {w : List ℕ} {h : Option (List ℕ)} (x z y : List ℕ) (c : Option (List ℕ)) → Leaves s w h (z ++ y) → x ≡ z → GainsSome h x c → GainsSome s w c
 leaves_stop x z y c l e g = leaves_part x y (z ++ y) c l (ap (λ t. t ++ y) e) g
+
+-- what was appended to bytes in memory, cut off again
+pub cut_off : (old text new : List ℕ) → GainsSome (Some old) text (Some new) → take (length old) new ≡ old
+cut_off old text new g =
+    let whole : Some new ≡ Some (old ++ g.part) = g.gained in
+    let same : new ≡ old ++ g.part = cc in
+    rw same (take-append_seam old g.part)
+
+pub appended : (old text new : List ℕ) → Some new ≡ gained (Some old) text → new ≡ old ++ text
+unfolding gained
+appended old text new e = cc

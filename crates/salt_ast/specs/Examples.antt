@@ -9,7 +9,6 @@ use Rattle.salt_ast.specs.Tables.{IsTable}
 use Rattle.salt_ast.specs.Tables as table
 use Rattle.salt_ast.specs.Texts.{statement_text, table_text}
 use Rattle.salt_ast.specs.Trees.{letters, negation, number, operation}
-use Rattle.salt_ast.specs.declared.limit.LimitName.{LimitName}
 use Rattle.salt_ast.specs.declared.limit.LimitName.TheVariants as limit
 use Rattle.salt_ast.specs.declared.trees.Bound.{Bound}
 use Rattle.salt_ast.specs.declared.trees.Bound.TheVariants as bound
@@ -31,7 +30,7 @@ use Rattle.salt_tokens.specs.Symbols.{Row, int, key, name, row_of, sign, text}
 use Rattle.salt_tokens.specs.declared.keyword.Keyword.TheVariants as word
 use Rattle.salt_tokens.specs.declared.sign.Sign.TheVariants as mark
 use Rattle.std.specs.Fmt.{digits}
-use Rattle.std.specs.Prelude.{List, None, Option, Some, [], codes, map, neg_ℤ, option_map, pos, refl, replicate, suc, zero, ℕ, ◌++◌, ◌∷◌, ◌≡◌}
+use Rattle.std.specs.Prelude.{List, None, Option, Some, [], codes, neg_ℤ, option_map, pos, refl, replicate, suc, zero, ℕ, ◌++◌, ◌∷◌, ◌≡◌}
 
 -- the symbols of a text
 abbrev symbols : List ℕ → Option Row

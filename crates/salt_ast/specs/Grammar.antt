@@ -15,19 +15,22 @@ Spells = Row → Expr → Type 0
 -- Operand { operation Operand }, grouped to the left
 pub data Left (level : ℕ) (Operand : Row → Expr → Type 0) : Row → Expr → Type 0 where
   one : {ts : Row} {e : Expr} → Operand ts e → Left level Operand ts e
-  more : {a b : Row} {o : Op} {l r : Expr} → Left level Operand a l → (t : Symbol) → operator t ≡ Some o → precedence o ≡ level → Operand b r → Left level Operand (a ++ t ∷ b) (operation o l r)
+  more : {a b : Row} {o : Op} {l r : Expr} → Left level Operand a l → (t : Symbol) → operator t ≡ Some o → precedence o ≡ level → Operand b r →
+      Left level Operand (a ++ t ∷ b) (operation o l r)
 
 -- Operand [ operation Operand ]
 pub data Once (level : ℕ) (Operand : Row → Expr → Type 0) : Row → Expr → Type 0 where
   alone : {ts : Row} {e : Expr} → Operand ts e → Once level Operand ts e
-  pair : {a b : Row} {o : Op} {l r : Expr} → Operand a l → (t : Symbol) → operator t ≡ Some o → precedence o ≡ level → Operand b r → Once level Operand (a ++ t ∷ b) (operation o l r)
+  pair : {a b : Row} {o : Op} {l r : Expr} → Operand a l → (t : Symbol) → operator t ≡ Some o → precedence o ≡ level → Operand b r →
+      Once level Operand (a ++ t ∷ b) (operation o l r)
 
 -- {"not"} Operand
 pub data Nots (Operand : Row → Expr → Type 0) : Row → Expr → Type 0 where
   plain : {ts : Row} {e : Expr} → Operand ts e → Nots Operand ts e
   not : {ts : Row} {e : Expr} → Nots Operand ts e → Nots Operand (key word.Not ∷ ts) (negation e)
 
--- a literal, a column, a parameter or variable, or what stands in parentheses; a minus sign belongs to the number behind it
+-- a literal, a column, a parameter or variable, or what stands in parentheses; a minus sign belongs to the number
+-- behind it
 pub data Atom (Inner : Row → Expr → Type 0) : Row → Expr → Type 0 where
   plus_int : {n : ℕ} → Atom Inner (int n ∷ []) (number (pos n))
   minus_int : {n : ℕ} → Atom Inner (sign mark.Minus ∷ int n ∷ []) (number (neg_ℤ (pos n)))

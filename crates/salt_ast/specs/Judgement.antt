@@ -1,4 +1,5 @@
--- What is refused of tables and statements under the tables defined before: names that are not known, names that come twice, and types.
+-- What is refused of tables and statements under the tables defined before: names that are not known, names that come
+-- twice, and types.
 use Rattle.salt_ast.specs.Trees.{bound_exprs}
 use Rattle.salt_ast.specs.Words.{first_in, in_some, is_among, is_same_name, or_else, when}
 use Rattle.salt_ast.specs.declared.limit.LimitName.{LimitName}
@@ -68,7 +69,8 @@ unknown_in_what columns (what.Max n) = unknown_name columns n
 -- no column stands in a key's bound
 abbrev pub unknown_in_scan : (columns variables : List Field) → Scan → Option (List ℕ)
 unknown_in_scan columns variables scan =
-    or_else (first_in (unknown_in_expr [] variables) (bound_exprs scan.bound)) (in_some (unknown_in_expr columns variables) scan.filter)
+    or_else (first_in (unknown_in_expr [] variables) (bound_exprs scan.bound))
+    (in_some (unknown_in_expr columns variables) scan.filter)
 
 abbrev pub unknown_in_set : (columns variables : List Field) → Set → Option (List ℕ)
 unknown_in_set columns variables set = or_else (unknown_name columns set.column) (unknown_in_expr columns variables set.value)
@@ -176,7 +178,8 @@ abbrev pub expr_kind : (columns variables : List Field) → Expr → Option Kind
 expr_kind columns variables (Lit v) = Some (value_kind v)
 expr_kind columns variables (Column n) = option_map values (type_named columns n)
 expr_kind columns variables (Variable n) = option_map values (type_named variables n)
-expr_kind columns variables (Not' _ (more_of-Expr e end_of-Expr)) = when (is_of_kind truths (expr_kind columns variables e)) truths
+expr_kind columns variables (Not' _ (more_of-Expr e end_of-Expr)) =
+    when (is_of_kind truths (expr_kind columns variables e)) truths
 expr_kind columns variables (Binary' o _ (more_of-Expr l end_of-Expr) _ (more_of-Expr r end_of-Expr)) =
     option_and_then (λ k. option_and_then (operation_kind o k) (expr_kind columns variables r)) (expr_kind columns variables l)
 
@@ -260,7 +263,8 @@ first_fault not_known doubled is_typed =
 
 -- what is refused of a statement, whose program has these parameters and variables; a session's statement has none
 unfoldable pub statement_fault : List TableDef → Scope → Statement → Option Fault
-statement_fault schema scope st = first_fault (unknown_in_statement schema scope st) (doubled_in_statement st) (is_typed_statement schema scope st)
+statement_fault schema scope st =
+    first_fault (unknown_in_statement schema scope st) (doubled_in_statement st) (is_typed_statement schema scope st)
 
 -- what is refused of a table
 unfoldable pub table_fault : List TableDef → TableDef → Option Fault

@@ -9,4 +9,5 @@ pub mod Texts
 pub mod Limits
 pub mod Judgement
 pub mod Sending
+pub mod Parts
 pub mod Examples

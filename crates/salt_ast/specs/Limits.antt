@@ -58,7 +58,8 @@ expr_passed (Lit v) = value_passed v
 expr_passed (Column n) = name_passed n
 expr_passed (Variable n) = name_passed n
 expr_passed (Not' _ (more_of-Expr e end_of-Expr)) = expr_passed e
-expr_passed (Binary' o _ (more_of-Expr l end_of-Expr) _ (more_of-Expr r end_of-Expr)) = or_else (expr_passed l) (expr_passed r)
+expr_passed (Binary' o _ (more_of-Expr l end_of-Expr) _ (more_of-Expr r end_of-Expr)) =
+    or_else (expr_passed l) (expr_passed r)
 
 abbrev pub what_passed : What → Option LimitName
 what_passed what.All = None
@@ -82,7 +83,8 @@ set_passed set = or_else (name_passed set.column) (expr_passed set.value)
 abbrev pub statement_passed : Statement → Option LimitName
 statement_passed (statement.Insert table es) = or_else (name_passed table) (first_in expr_passed es)
 statement_passed (statement.Select w table scan) = or_else (what_passed w) (or_else (name_passed table) (scan_passed scan))
-statement_passed (statement.SelectInto column var table key) = or_else (name_passed column) (or_else (name_passed var) (or_else (name_passed table) (expr_passed key)))
+statement_passed (statement.SelectInto column var table key) =
+    or_else (name_passed column) (or_else (name_passed var) (or_else (name_passed table) (expr_passed key)))
 statement_passed (statement.Update table sets scan) = or_else (name_passed table) (or_else (first_in set_passed sets) (scan_passed scan))
 statement_passed (statement.Delete table scan) = or_else (name_passed table) (scan_passed scan)
 statement_passed (statement.Ensure e) = expr_passed e
@@ -91,7 +93,9 @@ abbrev pub field_passed : Field → Option LimitName
 field_passed f = name_passed f.name
 
 abbrev pub table_passed : TableDef → Option LimitName
-table_passed d = or_else (name_passed d.name) (or_else (passed_in_list 16 limit.Columns field_passed d.columns) (passed_in_list 16 limit.Checks expr_passed d.checks))
+table_passed d =
+    or_else (name_passed d.name)
+    (or_else (passed_in_list 16 limit.Columns field_passed d.columns) (passed_in_list 16 limit.Checks expr_passed d.checks))
 
 -- The depth, which comes after all other limits of a text.
 

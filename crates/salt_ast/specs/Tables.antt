@@ -21,4 +21,8 @@ pub data IsCheck (Inner : Row → Expr → Type 0) : Row → Expr → Type 0 whe
 
 -- a table, where `Inner` stands in the parentheses of its checks; the first column is the key
 pub data IsTable (Inner : Row → Expr → Type 0) : Row → TableDef → Type 0 where
-  is_table : {t : List ℕ} {a b c : Row} {f : Field} {fs : List Field} {es : List Expr} → IsField a f → Following IsField b fs → Following (IsCheck Inner) c es → IsTable Inner (key word.Create ∷ key word.Table ∷ name t ∷ sign mark.Open ∷ (a ++ key word.Key ∷ (b ++ (c ++ sign mark.Close ∷ [])))) (record { name = t; columns = f ∷ fs; checks = es })
+  is_table : {t : List ℕ} {a b c : Row} {f : Field} {fs : List Field} {es : List Expr} →
+      IsField a f → Following IsField b fs → Following (IsCheck Inner) c es →
+      IsTable Inner
+      (key word.Create ∷ key word.Table ∷ name t ∷ sign mark.Open ∷ (a ++ key word.Key ∷ (b ++ (c ++ sign mark.Close ∷ []))))
+      (record { name = t; columns = f ∷ fs; checks = es })

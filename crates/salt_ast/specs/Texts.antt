@@ -40,7 +40,8 @@ expr_text (Lit v) = value_text v
 expr_text (Column n) = n
 expr_text (Variable n) = codes ":" ++ n
 expr_text (Not' _ (more_of-Expr e end_of-Expr)) = codes "(not " ++ (expr_text e ++ codes ")")
-expr_text (Binary' o _ (more_of-Expr l end_of-Expr) _ (more_of-Expr r end_of-Expr)) = codes "(" ++ (expr_text l ++ (codes " " ++ (op_text o ++ (codes " " ++ (expr_text r ++ codes ")")))))
+expr_text (Binary' o _ (more_of-Expr l end_of-Expr) _ (more_of-Expr r end_of-Expr)) =
+    codes "(" ++ (expr_text l ++ (codes " " ++ (op_text o ++ (codes " " ++ (expr_text r ++ codes ")")))))
 
 abbrev pub name_text : List ℕ → List ℕ
 name_text n = n
@@ -53,30 +54,34 @@ what_text (what.Sum n) = codes "sum(" ++ (n ++ codes ")")
 what_text (what.Min n) = codes "min(" ++ (n ++ codes ")")
 what_text (what.Max n) = codes "max(" ++ (n ++ codes ")")
 
--- a filter behind a key's bound
-abbrev pub and_text : Option Expr → List ℕ
-and_text None = []
-and_text (Some e) = codes " and " ++ expr_text e
+-- a filter, if there is one, behind this word
+abbrev pub filter_text : List ℕ → Option Expr → List ℕ
+filter_text word None = []
+filter_text word (Some e) = word ++ expr_text e
 
--- a filter alone
-abbrev pub where_text : Option Expr → List ℕ
-where_text None = []
-where_text (Some e) = codes " where " ++ expr_text e
+abbrev pub bound_text : Bound → Option Expr → List ℕ
+bound_text bound.All filter = filter_text (codes " where ") filter
+bound_text (bound.Key e) filter =
+    codes " where key = " ++ (expr_text e ++ filter_text (codes " and ") filter)
+bound_text (bound.Between low high) filter =
+    codes " where key between " ++ (expr_text low ++ (codes " and " ++ (expr_text high ++ filter_text (codes " and ") filter)))
 
-abbrev pub scan_text : Bound → Option Expr → List ℕ
-scan_text bound.All filter = where_text filter
-scan_text (bound.Key e) filter = codes " where key = " ++ (expr_text e ++ and_text filter)
-scan_text (bound.Between low high) filter = codes " where key between " ++ (expr_text low ++ (codes " and " ++ (expr_text high ++ and_text filter)))
+abbrev pub scan_text : Scan → List ℕ
+scan_text scan = bound_text scan.bound scan.filter
 
 abbrev pub set_text : Set → List ℕ
 set_text set = set.column ++ (codes " = " ++ expr_text set.value)
 
 abbrev pub statement_text : Statement → List ℕ
-statement_text (statement.Insert table es) = codes "insert into " ++ (table ++ (codes " values (" ++ (between_commas expr_text es ++ codes ")")))
-statement_text (statement.Select w table scan) = codes "select " ++ (what_text w ++ (codes " from " ++ (table ++ scan_text scan.bound scan.filter)))
-statement_text (statement.SelectInto column var table key) = codes "select " ++ (column ++ (codes " into :" ++ (var ++ (codes " from " ++ (table ++ (codes " where key = " ++ expr_text key))))))
-statement_text (statement.Update table sets scan) = codes "update " ++ (table ++ (codes " set " ++ (between_commas set_text sets ++ scan_text scan.bound scan.filter)))
-statement_text (statement.Delete table scan) = codes "delete from " ++ (table ++ scan_text scan.bound scan.filter)
+statement_text (statement.Insert table es) =
+    codes "insert into " ++ (table ++ (codes " values (" ++ (between_commas expr_text es ++ codes ")")))
+statement_text (statement.Select w table scan) =
+    codes "select " ++ (what_text w ++ (codes " from " ++ (table ++ scan_text scan)))
+statement_text (statement.SelectInto column var table key) =
+    codes "select " ++ (column ++ (codes " into :" ++ (var ++ (codes " from " ++ (table ++ (codes " where key = " ++ expr_text key))))))
+statement_text (statement.Update table sets scan) =
+    codes "update " ++ (table ++ (codes " set " ++ (between_commas set_text sets ++ scan_text scan)))
+statement_text (statement.Delete table scan) = codes "delete from " ++ (table ++ scan_text scan)
 statement_text (statement.Ensure e) = codes "ensure " ++ expr_text e
 
 abbrev pub type_text : ColType → List ℕ
@@ -92,4 +97,5 @@ columns_text [] = []
 columns_text (f ∷ fs) = field_text f ++ (codes " key" ++ preceded (codes ", ") field_text fs)
 
 abbrev pub table_text : TableDef → List ℕ
-table_text d = codes "create table " ++ (d.name ++ (codes " (" ++ (columns_text d.columns ++ (preceded (codes ", check ") expr_text d.checks ++ codes ")"))))
+table_text d =
+    codes "create table " ++ (d.name ++ (codes " (" ++ (columns_text d.columns ++ (preceded (codes ", check ") expr_text d.checks ++ codes ")"))))

@@ -5,14 +5,15 @@ ghost use Rattle.salt_ast.specs.Sending.{gained, joined};
 ghost use Rattle.salt_ast.specs.Texts.{between_commas, preceded};
 ghost use Rattle.salt_io.specs.Streams.{GainsSome, Rose};
 
-use salt_io::{IoFailed, Sink};
+use salt_io::{IoFailed, Sink, write_whole};
 use salt_values::Name;
 
 /// What has a canonical text.
 pub trait Canonical {
     ghost text: { Self → List ℕ };
 
-    /// Writes the text. After an error some first part of it has been written, and the count of faults has risen.
+    /// Writes the text. After an error some first part of it has been written, and the sink's count of
+    /// faults has risen.
     fn send<K: Sink>(&self, sink: &mut K) -> Result<(), IoFailed>
         ensures ok { OnOk result (K.held sink.new ≡ gained (K.held sink.old) (text self.now)) }
         ensures err { OnErr result (GainsSome (K.held sink.old) (text self.now) (K.held sink.new)) }
@@ -20,19 +21,15 @@ pub trait Canonical {
         ensures later { K.faults sink.old ≤ K.faults sink.new };
 }
 
-/// Writes all the bytes, as often as the sink takes only some of them.
+/// Writes all the bytes.
+#[tactic(auto, unfolding(crate::specs::Sending::gained))]
 pub fn send_bytes<K: Sink>(sink: &mut K, bytes: &[u8]) -> Result<(), IoFailed>
     ensures ok { OnOk result (K.held sink.new ≡ gained (K.held sink.old) bytes.now) }
     ensures err { OnErr result (GainsSome (K.held sink.old) bytes.now (K.held sink.new)) }
     ensures failed { OnErr result (Rose (K.faults sink.old) (K.faults sink.new)) }
     ensures later { K.faults sink.old ≤ K.faults sink.new }
 {
-    let mut left = bytes;
-    while !left.is_empty() {
-        let count = sink.write(left)?;
-        left = &left[count..];
-    }
-    Ok(())
+    write_whole(sink, bytes)
 }
 
 impl Canonical for Name {
@@ -57,7 +54,11 @@ pub fn send_joined<T: Canonical, K: Sink>(sink: &mut K, parts: &[T]) -> Result<(
 }
 
 /// Writes the items with these bytes before each.
-pub fn send_preceded<T: Canonical, K: Sink>(sink: &mut K, before: &[u8], items: &[T]) -> Result<(), IoFailed>
+pub fn send_preceded<T: Canonical, K: Sink>(
+    sink: &mut K,
+    before: &[u8],
+    items: &[T],
+) -> Result<(), IoFailed>
     ensures ok { OnOk result (K.held sink.new ≡ gained (K.held sink.old) (preceded before.now T.text items.now)) }
     ensures err { OnErr result (GainsSome (K.held sink.old) (preceded before.now T.text items.now) (K.held sink.new)) }
     ensures failed { OnErr result (Rose (K.faults sink.old) (K.faults sink.new)) }

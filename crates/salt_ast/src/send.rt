@@ -91,7 +91,7 @@ impl Op {
     }
 }
 
-fn send_expr<K: Sink>(sink: &mut K, expr: &Expr) -> Result<(), IoFailed>
+pub fn send_expr<K: Sink>(sink: &mut K, expr: &Expr) -> Result<(), IoFailed>
     ensures ok { OnOk result (K.held sink.new ≡ gained (K.held sink.old) (expr_text expr.now)) }
     ensures err { OnErr result (GainsSome (K.held sink.old) (expr_text expr.now) (K.held sink.new)) }
     ensures failed { OnErr result (Rose (K.faults sink.old) (K.faults sink.new)) }

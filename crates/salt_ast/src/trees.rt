@@ -53,7 +53,7 @@ pub enum Expr {
 
 pub type Exprs = Items<Expr>;
 
-/// A table's name, its columns, of which the first is the key, and what each of its rows must meet.
+/// A table's name, its columns, of which the first is the key, and the checks that each row meets.
 pub struct TableDef {
     pub name: Name,
     pub columns: Fields,
@@ -203,7 +203,8 @@ impl Drop for Statement {
     }
 }
 
-/// The parameters and variables of a program, with their types, which the statements in it may name.
+/// The parameters and variables of a program, which its statements may name; a session's statements
+/// have none.
 #[derive(Drop)]
 pub struct Scope {
     pub params: Fields,

@@ -20,3 +20,8 @@ without_cr-none text e = rw e
 
 pub without_cr-append : (text : List ℕ) → without_cr (text ++ 13 ∷ []) ≡ text
 without_cr-append text = rw (ends_in-append 13 text 13) (front-append text 13)
+
+-- a text with a last byte is not empty
+pub append-is-some : (xs : List ℕ) (y : ℕ) → xs ++ y ∷ [] ≡ [] → ⊥
+append-is-some [] y e = cc
+append-is-some (x ∷ xs) y e = cc

@@ -3,7 +3,7 @@ use Rattle.std.proofs.Common.{◌≡◌, ℕ, ◌++◌, arith, Bool, true, false
 use Rattle.std.proofs.lemmas.Bool.Decides.{nat_tests}
 use Rattle.std.proofs.lemmas.List.{append-nil}
 use Rattle.salt_io.specs.Lines.{Pieces, with_byte, pieces_of, Script, ends_in, ends_in_backslash, front, spaced, joined_on, before_script, last_text, without_cr, script_from, script_of}
-use Rattle.salt_io.proofs.Ends.{ends_in-append}
+use Rattle.salt_io.proofs.Ends.{append-is-some, ends_in-append}
 
 abbrev pub HasNoLf : List ℕ → Type 0
 HasNoLf [] = Unit {0}
@@ -111,10 +111,6 @@ pub record IsOpen (used text : List ℕ) : Type 0 where
 
 pub open-none : IsOpen [] []
 open-none = record { no_lf = tt; goes_on = λ v. refl; some = λ e. refl }
-
-append-is-some : (xs : List ℕ) (y : ℕ) → xs ++ y ∷ [] ≡ [] → ⊥
-append-is-some [] y e = cc
-append-is-some (x ∷ xs) y e = cc
 
 pub open-byte : (used text : List ℕ) (byte : ℕ) → IsOpen used text → (byte ≡ 10 → ⊥) → IsOpen (used ++ byte ∷ []) (text ++ byte ∷ [])
 open-byte used text byte so_far no_lf = record {

@@ -1,5 +1,6 @@
 -- Scripts one after another.
 use Rattle.std.proofs.Common.{◌≡◌, ℕ, Bool, true, false, eqb, List, [], ◌∷◌, ◌++◌, refl, ◌∙◌, ap}
+use Rattle.salt_io.proofs.Ends.{append-is-some}
 use Rattle.salt_io.specs.Lines.{Pieces, with_byte, pieces_of, Script, ends_in_backslash, front, spaced, before_script, last_text, without_cr, script_from, script_of}
 
 -- these pieces, and then those
@@ -17,10 +18,6 @@ pieces-at_byte byte false e (p ∷ ps) last b = rw e
 pub pieces-append : (a b : List ℕ) → pieces_of (a ++ b) ≡ behind_pieces (pieces_of a).ended (pieces_of ((pieces_of a).last ++ b))
 pieces-append [] b = refl
 pieces-append (x ∷ xs) b = ap (with_byte x) (pieces-append xs b) ∙ pieces-at_byte x (eqb x 10) refl (pieces_of xs).ended (pieces_of xs).last b
-
-append-is-some : (xs : List ℕ) (y : ℕ) → xs ++ y ∷ [] ≡ [] → ⊥
-append-is-some [] y e = cc
-append-is-some (x ∷ xs) y e = cc
 
 spaced-is-some : (xs ys : List ℕ) → spaced xs ++ ys ≡ [] → ⊥
 spaced-is-some xs ys e = more (front xs) ys e where

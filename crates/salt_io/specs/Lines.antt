@@ -1,5 +1,5 @@
 -- The lines of a script, from its bytes.
-use Rattle.std.specs.Prelude.{◌≡◌, ◌≢◌, ℕ, ◌+◌, ◌<◌, ◌≤◌, Bool, false, if◌then◌else◌, eqb, List, [], ◌∷◌, ◌++◌, length, take, Option, Some, None, ◌⊎◌, refl}
+use Rattle.std.specs.Prelude.{◌≡◌, ◌≢◌, ℕ, ◌+◌, ◌<◌, ◌≤◌, Bool, false, if◌then◌else◌, ◌==◌, List, [], ◌∷◌, ◌++◌, length, take, Option, Some, None, ◌⊎◌, refl}
 use Rattle.salt_io.specs.Streams.{Takes, IsAtEnd}
 
 -- What the LFs cut bytes into: the pieces that an LF ends, and the piece behind the last LF.
@@ -15,7 +15,7 @@ begun_with byte (piece ∷ pieces) last = record { ended = (byte ∷ piece) ∷ 
 -- one byte, and then these pieces
 abbrev pub with_byte : ℕ → Pieces → Pieces
 with_byte byte behind =
-    if eqb byte 10
+    if byte == 10
     then record { ended = [] ∷ behind.ended; last = behind.last }
     else begun_with byte behind.ended behind.last
 
@@ -25,7 +25,7 @@ pieces_of (byte ∷ bytes) = with_byte byte (pieces_of bytes)
 
 abbrev pub ends_in : ℕ → List ℕ → Bool
 ends_in byte [] = false
-ends_in byte (b ∷ []) = eqb b byte
+ends_in byte (b ∷ []) = b == byte
 ends_in byte (b ∷ c ∷ bytes) = ends_in byte (c ∷ bytes)
 
 -- all but the last byte

@@ -2,10 +2,11 @@
 ghost use Rattle.std.specs.Prelude.{◌≡◌, ◌≢◌, ℕ, ◌+◌, ◌<◌, ◌≤◌, ◌-◌, List, [], ◌∷◌, ◌++◌, length, take, IfOk, OnOk, OnErr, IfSome, IfNone, true, false};
 ghost use Rattle.salt_io.specs.Streams.{Rose, Takes, IsAtEnd, bytes_before};
 ghost use Rattle.salt_io.specs.Lines.{script_of, TakesLine, TakesLong, TakesNoLine, IsCutOff};
+ghost use Rattle.salt_io.specs.declared.lines.LineErr.TheVariants.{ReadFault, Memory};
 
 use crate::line_text::{LONGEST_LINE, LineText};
 use crate::{IoFailed, Source};
-use std::alloc::{AllocError, AllocFailed};
+use std::alloc::AllocError;
 use std::marker::Model;
 
 /// The most bytes of a script.
@@ -36,9 +37,6 @@ pub enum LineErr {
 }
 
 impl From<IoFailed> for LineErr {
-    ghost use Rattle.std.specs.Prelude.{◌≡◌};
-    ghost use Rattle.salt_io.specs.declared.lines.LineErr.TheVariants.{ReadFault};
-
     ghost from_gives = { λ _ e. e ≡ ReadFault };
 
     fn from(_: IoFailed) -> Self {
@@ -47,9 +45,6 @@ impl From<IoFailed> for LineErr {
 }
 
 impl From<AllocError> for LineErr {
-    ghost use Rattle.std.specs.Prelude.{◌≡◌};
-    ghost use Rattle.salt_io.specs.declared.lines.LineErr.TheVariants.{Memory};
-
     ghost from_gives = { λ _ e. e ≡ Memory };
 
     fn from(_: AllocError) -> Self {

@@ -10,7 +10,7 @@ fn transcript<S: Source>(alloc: Global, source: &mut S) -> Result<Vec<u8>, Alloc
     let mut lines = Lines::new();
     let mut line = Vec::new(alloc);
     let mut told = Vec::new(alloc);
-    for _ in 0..20_000_000u32 {
+    for _ in 0..100 {
         match lines.next_line(source, &mut line) {
             Ok(Next::Line) => {
                 told.extend_from_slice(&line)?;
