@@ -97,6 +97,7 @@ pub struct Parser<'a> {
 }
 
 impl<'a> Parser<'a> {
+    /// A reader of these tokens, which have passed nothing yet.
     pub fn new(alloc: Global, rest: &'a [Lexeme<'a>]) -> Self
         ensures over { result.over ≡ None }
         ensures deep { result.deep ≡ false }
