@@ -381,4 +381,3 @@ pub within_complete : (depth : ℕ) → Complete 1 (Within depth) (within_of dep
 unfolding Within within_of
 within_complete zero ts rest e d st = absurd d
 within_complete (suc depth) ts rest e d st = expression_complete (Within depth) (within_of depth) (within_sound depth) (within_complete depth) ts rest e d st
-

@@ -1,5 +1,5 @@
 -- The same of lists of items.
-use Rattle.std.proofs.Common.{◌≡◌, ℕ, suc, zero, ◌-◌, ◌≤◌, ◌<◌, Bool, true, false, cond, ◌||◌, leb, List, [], ◌∷◌, ◌++◌, length, Option, Some, None, refl, sym, ap, subst, ◌∙◌, arith}
+use Rattle.std.proofs.Common.{◌≡◌, ℕ, suc, zero, ◌-◌, ◌≤◌, ◌<◌, Bool, true, false, ◌||◌, leb, List, [], ◌∷◌, length, Option, Some, None, refl, sym, ap, ◌∙◌, arith}
 use Rattle.std.proofs.lemmas.Bool.{leb-true}
 use Rattle.std.proofs.lemmas.Bool.Decides.{nat_tests}
 use Rattle.std.specs.List.{list_any}
@@ -7,8 +7,8 @@ use Rattle.salt_ast.specs.Limits.{passed_in_list}
 use Rattle.salt_ast.specs.Words.{first_in, or_else, when}
 use Rattle.salt_ast.specs.declared.limit.LimitName.{LimitName}
 use Rattle.salt_parse.specs.Flags.{Flags, clear, note}
-use Rattle.salt_parse.specs.Lists.{comma, either, following_at, listed_at, with_front}
-use Rattle.salt_parse.specs.Reading.{Read, Reader, after}
+use Rattle.salt_parse.specs.Lists.{comma, following_at, listed_at, with_front}
+use Rattle.salt_parse.specs.Reading.{Read, Reader}
 use Rattle.salt_parse.proofs.Mirror.{Agree, Agrees, AgreesAll, ArePrintable, IsKept, Marks, after_printable, agrees_bind, agrees_either, clear_before, note_note, noted, or_else_none, or_false}
 use Rattle.salt_parse.proofs.StatementTrees.{ahead, following_of, listed_of}
 use Rattle.salt_parse.proofs.Trees.{TreeReader}

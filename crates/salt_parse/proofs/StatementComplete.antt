@@ -1,36 +1,27 @@
 -- The statements and tables that are spelled so are found.
-use Rattle.std.proofs.Common.{◌≡◌, ℕ, suc, zero, Bool, true, false, cond, List, [], ◌∷◌, ◌++◌, ◌≤◌, ◌<◌, length, Option, Some, None, refl, sym, ap, subst, ◌∙◌, append_assoc, arith, length-append}
-use Rattle.std.proofs.lemmas.List.{append-nil}
+use Rattle.std.proofs.Common.{◌≡◌, ℕ, suc, zero, false, List, [], ◌∷◌, ◌++◌, ◌≤◌, ◌<◌, length, Option, Some, None, refl, append_assoc, arith, length-append}
 use Rattle.salt_ast.specs.Grammar.{Expression}
 use Rattle.salt_ast.specs.Operators.{operator, precedence}
 use Rattle.salt_ast.specs.Statements as form
 use Rattle.salt_ast.specs.Statements.{Following, IsAnd, IsName, IsScan, IsSet, IsStatement, IsWhat, Listed}
 use Rattle.salt_ast.specs.Tables as table
 use Rattle.salt_ast.specs.Tables.{IsCheck, IsField, IsTable}
-use Rattle.salt_ast.specs.declared.trees.Bound.TheVariants as bound
-use Rattle.salt_ast.specs.declared.trees.ColType.{ColType}
-use Rattle.salt_ast.specs.declared.trees.ColType.TheVariants as kind
 use Rattle.salt_ast.specs.declared.trees.Expr.{Expr}
 use Rattle.salt_ast.specs.declared.trees.Field.{Field}
 use Rattle.salt_ast.specs.declared.trees.Op.{Op}
 use Rattle.salt_ast.specs.declared.trees.Op.TheVariants as op
 use Rattle.salt_ast.specs.declared.trees.Scan.{Scan}
 use Rattle.salt_ast.specs.declared.trees.Set.{Set}
-use Rattle.salt_ast.specs.declared.trees.Statement.{Statement}
-use Rattle.salt_ast.specs.declared.trees.Statement.TheVariants as statement
 use Rattle.salt_ast.specs.declared.trees.TableDef.{TableDef}
 use Rattle.salt_ast.specs.declared.trees.What.{What}
-use Rattle.salt_ast.specs.declared.trees.What.TheVariants as what
-use Rattle.salt_parse.specs.Lists.{comma, either}
+use Rattle.salt_parse.specs.Lists.{comma}
 use Rattle.salt_parse.specs.Reading.{after}
 use Rattle.salt_parse.specs.StatementReading.{is_into}
-use Rattle.salt_parse.specs.TableReading.{field_comma, kind_at}
+use Rattle.salt_parse.specs.TableReading.{field_comma}
 use Rattle.salt_parse.proofs.ExpressionLaws.{Begins-after, Begins-append, Complete, Sound, Stops, Stops-weaker, conjunction_complete, expression_begins, expression_complete, sum_complete}
-use Rattle.salt_parse.proofs.Loop.{after_is}
-use Rattle.salt_parse.proofs.StatementTrees.{aggregate_of, ahead, and_of, between_of, bound_of, change_of, check_of, checks_of, columns_of, count_of, definition_of, delete_of, enclosed_of, ensure_of, equal_of, field_of, fields_of, filter_of, following_of, insert_of, into_of, largest_of, least_of, listed_of, name_of, names_of, only_key_of, scan_of, select_into_of, select_of, select_rows_of, set_of, sets_of, statement_of, table_of, total_of, update_of, values_of, what_of, where_of}
-use Rattle.salt_parse.proofs.Trees.{TreeReader, conjunction_of, expression_of, sum_of}
-use Rattle.salt_tokens.specs.Scanning.{◌>>=◌}
-use Rattle.salt_tokens.specs.Symbols.{Row, Symbol, int, key, name, sign, text}
+use Rattle.salt_parse.proofs.StatementTrees.{and_of, check_of, field_of, following_of, listed_of, name_of, scan_of, set_of, sets_of, statement_of, table_of, values_of, what_of}
+use Rattle.salt_parse.proofs.Trees.{TreeReader, expression_of}
+use Rattle.salt_tokens.specs.Symbols.{Row, key, name, sign}
 use Rattle.salt_tokens.specs.declared.keyword.Keyword.TheVariants as word
 use Rattle.salt_tokens.specs.declared.sign.Sign.TheVariants as mark
 

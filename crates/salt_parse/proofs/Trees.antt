@@ -85,4 +85,3 @@ expression_of inner = left_of 1 (conjunction_of inner)
 unfoldable pub within_of : ℕ → TreeReader Expr
 within_of zero ts = None
 within_of (suc depth) ts = expression_of (within_of depth) ts
-

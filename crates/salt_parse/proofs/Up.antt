@@ -1,15 +1,12 @@
 -- What is spelled with fewer parentheses is spelled with more.
-use Rattle.std.proofs.Common.{◌≡◌, ℕ, zero, suc, ◌≤◌, List, [], ◌∷◌, ◌++◌, Option, arith}
-use Rattle.salt_ast.specs.Grammar.{Atom, Comparison, Conjunction, Expression, Left, Negation, Nots, Once, Product, Sum, Within, alone, colon, literal, minus_int, more, named, not, one, pair, paren, plain, plus_int}
+use Rattle.std.proofs.Common.{ℕ, zero, suc, ◌≤◌, List, Option, arith}
+use Rattle.salt_ast.specs.Grammar.{Atom, Conjunction, Expression, Left, Nots, Once, Sum, Within, alone, colon, literal, minus_int, more, named, not, one, pair, paren, plain, plus_int}
 use Rattle.salt_ast.specs.Statements as form
 use Rattle.salt_ast.specs.Statements.{Following, IsAnd, IsScan, IsSet, IsStatement, Listed}
 use Rattle.salt_ast.specs.Tables as table
 use Rattle.salt_ast.specs.Tables.{IsCheck, IsTable}
 use Rattle.salt_ast.specs.declared.trees.Expr.{Expr}
 use Rattle.salt_ast.specs.declared.trees.Scan.{Scan}
-use Rattle.salt_ast.specs.declared.trees.Set.{Set}
-use Rattle.salt_ast.specs.declared.trees.Statement.{Statement}
-use Rattle.salt_ast.specs.declared.trees.TableDef.{TableDef}
 use Rattle.salt_tokens.specs.Symbols.{Row}
 
 -- each row of the first spells the same by the second

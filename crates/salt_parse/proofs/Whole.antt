@@ -1,29 +1,27 @@
 -- What the bytes spell, by what their symbols spell.
-use Rattle.std.proofs.Common.{◌≡◌, ◌≢◌, ℕ, zero, suc, ◌≤◌, Bool, true, false, cond, not, ◌&&◌, ◌||◌, List, [], ◌∷◌, ◌++◌, Option, Some, None, Result, Ok, Err, refl, sym, ap, subst, ◌∙◌, arith}
+use Rattle.std.proofs.Common.{◌≡◌, ◌≢◌, ℕ, Bool, true, false, not, ◌&&◌, List, [], ◌∷◌, ◌++◌, Option, Some, None, Result, Ok, Err, refl, sym, ap, subst, ◌∙◌, arith}
 use Rattle.std.proofs.lemmas.List.{append-nil}
-use Rattle.std.specs.List.{list_all, list_any}
+use Rattle.std.specs.List.{list_all}
 use Rattle.std.specs.Prelude.{IfOk, is_none}
 use Rattle.salt_ast.specs.Grammar.{Within}
-use Rattle.salt_ast.specs.Limits.{height_passed, statement_limit, table_limit}
-use Rattle.salt_ast.specs.Spelling.{IsStatementWithinLimits, IsTableWithinLimits, IsWithinLimits, Passes, Spells, SpellsShallowStatement, SpellsShallowTable, SpellsStatement, SpellsTable, StatementPasses, TablePasses, by_parentheses, by_tree}
+use Rattle.salt_ast.specs.Limits.{statement_limit, table_limit}
+use Rattle.salt_ast.specs.Spelling.{IsStatementWithinLimits, IsTableWithinLimits, Passes, Spells, SpellsStatement, SpellsTable, StatementPasses, TablePasses, by_parentheses, by_tree}
 use Rattle.salt_ast.specs.Statements.{IsStatement}
 use Rattle.salt_ast.specs.Tables.{IsTable}
 use Rattle.salt_ast.specs.Words.{or_else, when}
 use Rattle.salt_ast.specs.declared.limit.LimitName.{LimitName}
 use Rattle.salt_ast.specs.declared.limit.LimitName.TheVariants as limit
-use Rattle.salt_ast.specs.declared.trees.Expr.{Expr}
 use Rattle.salt_ast.specs.declared.trees.Statement.{Statement}
 use Rattle.salt_ast.specs.declared.trees.TableDef.{TableDef}
 use Rattle.salt_parse.specs.Answers.{parse_err}
-use Rattle.salt_parse.specs.Attempts.{IsAnswer, attempt_of, ended, limit_in, settled, too_deep, tree_or_limit}
+use Rattle.salt_parse.specs.Attempts.{IsAnswer, attempt_of, ended, limit_in, settled, tree_or_limit}
 use Rattle.salt_parse.specs.Flags.{Flags, clear, no_flags}
-use Rattle.salt_parse.specs.Lists.{comma}
 use Rattle.salt_parse.specs.Reading.{Read, after, within_at}
 use Rattle.salt_parse.specs.StatementReading.{statement_at}
 use Rattle.salt_parse.specs.TableReading.{table_at}
 use Rattle.salt_parse.specs.declared.error.ParseErr.{ParseErr}
 use Rattle.salt_parse.specs.declared.error.ParseErr.TheVariants.{Limit, Memory, Syntax}
-use Rattle.salt_parse.proofs.ExpressionLaws.{Sound, some_is, within_complete, within_sound}
+use Rattle.salt_parse.proofs.ExpressionLaws.{some_is, within_complete, within_sound}
 use Rattle.salt_parse.proofs.Mirror.{Agrees, ArePrintable, IsKept, IsPrintable, Marks, noted, within_mirrors}
 use Rattle.salt_parse.proofs.MirrorStatements.{statement_agrees, statement_marks, table_agrees, table_marks}
 use Rattle.salt_parse.proofs.StatementComplete.{Ends, statement_complete, table_complete}
@@ -38,7 +36,6 @@ use Rattle.salt_tokens.specs.Symbols.{HasRow, Row, row_of, sign_symbol, symbol_b
 use Rattle.salt_tokens.specs.declared.error.ScanErr.{ScanErr}
 use Rattle.salt_tokens.specs.declared.error.ScanErr.TheVariants as scan
 use Rattle.salt_tokens.specs.declared.keyword.Keyword.{Keyword}
-use Rattle.salt_tokens.specs.declared.keyword.Keyword.TheVariants as word
 use Rattle.salt_tokens.specs.declared.sign.Sign.{Sign}
 use Rattle.salt_tokens.specs.declared.token.TokenKind.{TokenKind}
 use Rattle.salt_tokens.specs.declared.token.TokenKind.TheVariants as kind

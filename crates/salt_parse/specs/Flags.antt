@@ -1,5 +1,4 @@
 -- What a text was seen to pass so far, and what is built meanwhile.
-use Rattle.salt_ast.specs.Limits.{expr_passed, is_high}
 use Rattle.salt_ast.specs.Trees.{letters, negation, number, operation}
 use Rattle.salt_ast.specs.Words.{or_else}
 use Rattle.salt_ast.specs.declared.limit.LimitName.{LimitName}

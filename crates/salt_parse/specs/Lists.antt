@@ -1,5 +1,4 @@
 -- Reading lists of items from left to right.
-use Rattle.salt_parse.specs.Flags.{Flags}
 use Rattle.salt_parse.specs.Reading.{Read, Reader, after}
 use Rattle.salt_tokens.specs.Scanning.{◌>>=◌}
 use Rattle.salt_tokens.specs.Symbols.{Row, sign}

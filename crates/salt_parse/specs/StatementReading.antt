@@ -7,14 +7,14 @@ use Rattle.salt_ast.specs.declared.trees.Statement.{Statement}
 use Rattle.salt_ast.specs.declared.trees.Statement.TheVariants as statement
 use Rattle.salt_ast.specs.declared.trees.What.{What}
 use Rattle.salt_ast.specs.declared.trees.What.TheVariants as what
-use Rattle.salt_parse.specs.Flags.{BuiltTree, Flags, kept_name}
+use Rattle.salt_parse.specs.Flags.{BuiltTree, kept_name}
 use Rattle.salt_parse.specs.Lists.{either, listed_at}
-use Rattle.salt_parse.specs.Reading.{Read, Reader, after, conjunction_at, expression_at, is_same, name_flags, sum_at}
+use Rattle.salt_parse.specs.Reading.{Reader, after, conjunction_at, expression_at, is_same, name_flags, sum_at}
 use Rattle.salt_tokens.specs.Scanning.{◌>>=◌}
 use Rattle.salt_tokens.specs.Symbols.{Row, key, name, sign}
 use Rattle.salt_tokens.specs.declared.keyword.Keyword.TheVariants as word
 use Rattle.salt_tokens.specs.declared.sign.Sign.TheVariants as mark
-use Rattle.std.specs.Prelude.{Bool, List, None, Option, Some, [], false, if◌then◌else◌, ℕ, ◌∷◌}
+use Rattle.std.specs.Prelude.{Bool, List, None, Option, Some, false, if◌then◌else◌, ℕ, ◌∷◌}
 
 -- a name, while no limit is passed
 abbrev pub name_at : Reader (List ℕ)

@@ -9,7 +9,7 @@ use Rattle.salt_ast.specs.declared.trees.Field.{Field}
 use Rattle.salt_ast.specs.declared.trees.TableDef.{TableDef}
 use Rattle.salt_parse.specs.Flags.{BuiltTree, Flags, note}
 use Rattle.salt_parse.specs.Lists.{comma, either, following_at, with_front}
-use Rattle.salt_parse.specs.Reading.{Read, Reader, after, expression_at}
+use Rattle.salt_parse.specs.Reading.{Reader, after, expression_at}
 use Rattle.salt_parse.specs.StatementReading.{name_at, tree_at}
 use Rattle.salt_tokens.specs.Scanning.{◌>>=◌}
 use Rattle.salt_tokens.specs.Symbols.{Row, key, sign}

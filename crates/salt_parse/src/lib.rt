@@ -18,3 +18,6 @@ pub use error::ParseErr;
 pub use laws::{one_statement, one_table};
 pub use read::{read_statement, read_table};
 pub use token::tokens;
+
+#[cfg(test)]
+mod tests;

@@ -8,8 +8,8 @@ ghost use Rattle.salt_parse.specs.Reading.{column_at, int_at, name_flags, named_
 ghost use Rattle.salt_tokens.specs.Symbols.{row, undoubled};
 
 use crate::built::Built;
-use crate::quoted::{content, content_len};
 use crate::cursor::Cursor;
+use crate::quoted::{content, content_len};
 use salt_ast::{Expr, LimitName, Op};
 use salt_tokens::Lexeme;
 use salt_values::{Name, Text, TextErr, Value};
@@ -97,6 +97,7 @@ pub struct Parser<'a> {
 }
 
 impl<'a> Parser<'a> {
+    /// A reader of these tokens, which have passed nothing yet.
     pub fn new(alloc: Global, rest: &'a [Lexeme<'a>]) -> Self
         ensures over { result.over ≡ None }
         ensures deep { result.deep ≡ false }

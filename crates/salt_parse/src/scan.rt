@@ -86,6 +86,7 @@ impl<'a> Parser<'a> {
         })
     }
 
+    /// Which rows: `where` and what stands behind it, or all rows.
     pub fn scan(&mut self, room: u32) -> Result<Scan, ParseErr>
         ensures { Gives result (flags self.new.over self.new.deep) (row self.new.cursor.rest.now) (scan_at (within_at room) (flags self.old.over self.old.deep) (row self.old.cursor.rest.now)) }
     {

@@ -1,0 +1,370 @@
+use super::*;
+use salt_ast::{LimitName, print_statement, print_table};
+use salt_tokens::TokenKind;
+use std::alloc::{AllocError, Global};
+use std::test::Fail;
+
+// What stands in place of a canonical text where there is none.
+fn error_text(out: &mut Vec<u8>, error: ParseErr) -> Result<(), AllocError> {
+    match error {
+        ParseErr::Memory => Err(AllocError),
+        ParseErr::Syntax => out.extend_from_slice(b"syntax"),
+        ParseErr::Limit(limit) => {
+            out.extend_from_slice(b"limit ")?;
+            out.extend_from_slice(limit.word())
+        }
+    }
+}
+
+fn statement_told(alloc: Global, bytes: &[u8]) -> Result<Vec<u8>, AllocError> {
+    let mut out = Vec::new(alloc);
+    match read_statement(alloc, bytes) {
+        Ok(statement) => print_statement(&mut out, &statement)?,
+        Err(error) => error_text(&mut out, error)?,
+    }
+    Ok(out)
+}
+
+fn table_told(alloc: Global, bytes: &[u8]) -> Result<Vec<u8>, AllocError> {
+    let mut out = Vec::new(alloc);
+    match read_table(alloc, bytes) {
+        Ok(table) => print_table(&mut out, &table)?,
+        Err(error) => error_text(&mut out, error)?,
+    }
+    Ok(out)
+}
+
+// Statements, and the canonical texts of their trees.
+const STATEMENTS: [(&[u8], &[u8]); 31] = [
+    (b"insert into t values (1)", b"insert into t values (1)"),
+    (
+        b"INSERT Into t VALUES(1,-2 ,'it''s',:x,a+b)",
+        b"insert into t values (1, -2, 'it''s', :x, (a + b))",
+    ),
+    (b"\tselect  * from t ", b"select * from t"),
+    (
+        b"select a , b,c from t where a=1",
+        b"select a, b, c from t where (a = 1)",
+    ),
+    (b"select count ( * ) from t", b"select count(*) from t"),
+    (
+        b"select sum(a) from t where key = 1+2",
+        b"select sum(a) from t where key = (1 + 2)",
+    ),
+    (
+        b"select n from w where key between 0 and 3 and not n = 'x'",
+        b"select n from w where key between 0 and 3 and (not (n = 'x'))",
+    ),
+    (
+        b"select min(a) from t where key between 1 and 2 and 3",
+        b"select min(a) from t where key between 1 and 2 and 3",
+    ),
+    (
+        b"select max(a) from t where key = 1 and a = 2 and b",
+        b"select max(a) from t where key = 1 and ((a = 2) and b)",
+    ),
+    (
+        b"select a into :x from t where key = 007",
+        b"select a into :x from t where key = 7",
+    ),
+    (
+        b"update t set a = 1, b = a - 1 - 2 where a < 1 or b >= 2 and c <> 3",
+        b"update t set a = 1, b = ((a - 1) - 2) where ((a < 1) or ((b >= 2) and (c <> 3)))",
+    ),
+    (b"delete from keys", b"delete from keys"),
+    (
+        b"delete from t where key = (1 = 2)",
+        b"delete from t where key = (1 = 2)",
+    ),
+    (
+        b"delete from t where not not (a)",
+        b"delete from t where (not (not a))",
+    ),
+    (
+        b"ensure a || 'b' || c = 'abc'",
+        b"ensure (((a || 'b') || c) = 'abc')",
+    ),
+    (b"ensure (a = b) = c", b"ensure ((a = b) = c)"),
+    (b"ensure a<=b", b"ensure (a <= b)"),
+    (b"ensure a>b", b"ensure (a > b)"),
+    (b"ensure a <-1", b"ensure (a < -1)"),
+    (b"ensure a--1", b"ensure (a - -1)"),
+    (b"ensure a-1", b"ensure (a - 1)"),
+    (b"ensure -0", b"ensure 0"),
+    (b"ensure ''", b"ensure ''"),
+    (b"ensure ''''", b"ensure ''''"),
+    (b"ensure 2*3*4+5*6", b"ensure (((2 * 3) * 4) + (5 * 6))"),
+    (b"ensure 2*(3+4)", b"ensure (2 * (3 + 4))"),
+    (b"ensure not a and b", b"ensure ((not a) and b)"),
+    (b"ensure not a = b", b"ensure (not (a = b))"),
+    (
+        b"ensure a or b and c or d",
+        b"ensure ((a or (b and c)) or d)",
+    ),
+    (b"ensure 1and 2", b"ensure (1 and 2)"),
+    (
+        b"ensure -9223372036854775808 < 9223372036854775807",
+        b"ensure (-9223372036854775808 < 9223372036854775807)",
+    ),
+];
+
+// Texts that spell no statement.
+const NO_STATEMENTS: [&[u8]; 30] = [
+    b"",
+    b";",
+    b"a",
+    b"create table t (a int key)",
+    b"insert into t values ()",
+    b"insert into t values (1,)",
+    b"insert into t values (1",
+    b"insert into t values 1",
+    b"insert into 't' values (1)",
+    b"select into from t",
+    b"select key from t",
+    b"select a b from t",
+    b"select * from t where",
+    b"select max(*) from t",
+    b"select a into x from t where key = 1",
+    b"select a into :x from t",
+    b"select a into :x from t where key = 1 and a",
+    b"select a from t where key = 1 or a",
+    b"delete from t where key = 1 = 2",
+    b"delete from t where key > 1",
+    b"delete from t where key between 1",
+    b"update t set a where b",
+    b"update t a = 1",
+    b"ensure a = b = c",
+    b"ensure a< =b",
+    b"ensure - a",
+    b"ensure --1",
+    b"ensure 1 2",
+    b"ensure (a",
+    b"ensure 'a\x7f'",
+];
+
+#[test]
+fn statements_and_their_trees(rt: HostRuntime) -> Result<(), Fail> {
+    for (bytes, told) in STATEMENTS {
+        assert_eq!(rt; statement_told(rt.alloc(), bytes)?.as_slice(), told);
+        assert_eq!(rt; statement_told(rt.alloc(), told)?.as_slice(), told);
+    }
+    for bytes in NO_STATEMENTS {
+        assert_eq!(rt;
+            statement_told(rt.alloc(), bytes)?.as_slice(),
+            b"syntax".as_slice()
+        );
+    }
+    Ok(())
+}
+
+#[test]
+fn tables_and_their_trees(rt: HostRuntime) -> Result<(), Fail> {
+    let cases: [(&[u8], &[u8]); 12] = [
+        (
+            b"create table t (id int key)",
+            b"create table t (id int key)",
+        ),
+        (
+            b"create table w(id int KEY,n text,check n<>''  ,check id>0)",
+            b"create table w (id int key, n text, check (n <> ''), check (id > 0))",
+        ),
+        (
+            b"create table T (Id text key)",
+            b"create table T (Id text key)",
+        ),
+        (b"create table t (id key)", b"syntax"),
+        (b"create table t (id int)", b"syntax"),
+        (b"create table t (id int key, check a, b int)", b"syntax"),
+        (b"create table t ()", b"syntax"),
+        (b"create table t (a int key, b int key)", b"syntax"),
+        (b"create table t (a int key,)", b"syntax"),
+        (b"create table t (a int key) b", b"syntax"),
+        (b"create table int (a int key)", b"syntax"),
+        (b"delete from t", b"syntax"),
+    ];
+    for (bytes, told) in cases {
+        assert_eq!(rt; table_told(rt.alloc(), bytes)?.as_slice(), told);
+    }
+    Ok(())
+}
+
+// A piece, so many times, between two others.
+fn repeated(
+    alloc: Global,
+    before: &[u8],
+    times: usize,
+    piece: &[u8],
+    behind: &[u8],
+) -> Result<Vec<u8>, AllocError> {
+    let mut text = Vec::from_slice(alloc, before)?;
+    for _ in 0..times {
+        text.extend_from_slice(piece)?;
+    }
+    text.extend_from_slice(behind)?;
+    Ok(text)
+}
+
+// An expression in so many parentheses, behind the word of a statement.
+fn enclosed(
+    alloc: Global,
+    before: &[u8],
+    parentheses: usize,
+    expression: &[u8],
+    behind: &[u8],
+) -> Result<Vec<u8>, AllocError> {
+    let opened = repeated(alloc, before, parentheses, b"(", expression)?;
+    repeated(alloc, &opened, parentheses, b")", behind)
+}
+
+fn error_of(alloc: Global, bytes: &[u8]) -> Result<Vec<u8>, AllocError> {
+    let mut out = Vec::new(alloc);
+    match read_statement(alloc, bytes) {
+        Ok(_statement) => out.extend_from_slice(b"read")?,
+        Err(error) => error_text(&mut out, error)?,
+    }
+    Ok(out)
+}
+
+#[test]
+fn limits_at_their_bounds(rt: HostRuntime) -> Result<(), Fail> {
+    let alloc = rt.alloc();
+    let cases: [(&[u8], usize, &[u8], &[u8], &[u8]); 18] = [
+        (b"delete from ", 32, b"a", b"", b"read"),
+        (b"delete from ", 33, b"a", b"", b"limit name"),
+        (b"ensure :", 33, b"_", b"", b"limit name"),
+        (b"ensure '", 255, b"a", b"'", b"read"),
+        (b"ensure '", 256, b"a", b"'", b"limit text"),
+        (b"ensure '", 255, b"''", b"'", b"read"),
+        (b"ensure '", 256, b"''", b"'", b"limit text"),
+        (b"ensure 9223372036854775807", 0, b"", b"", b"read"),
+        (b"ensure 9223372036854775808", 0, b"", b"", b"limit number"),
+        (b"ensure -9223372036854775808", 0, b"", b"", b"read"),
+        (b"ensure -9223372036854775809", 0, b"", b"", b"limit number"),
+        (b"ensure 18446744073709551617", 0, b"", b"", b"limit number"),
+        (
+            b"insert into t values (9223372036854775808, ",
+            33,
+            b"a",
+            b")",
+            b"limit number",
+        ),
+        (
+            b"insert into ",
+            33,
+            b"a",
+            b" values (9223372036854775808)",
+            b"limit name",
+        ),
+        (b"ensure 1", 63, b"+1", b"", b"read"),
+        (b"ensure 1", 64, b"+1", b"", b"limit depth"),
+        (b"ensure ", 63, b"not ", b"a", b"read"),
+        (
+            b"ensure ",
+            64,
+            b"not ",
+            b"9223372036854775808",
+            b"limit number",
+        ),
+    ];
+    for (before, times, piece, behind, told) in cases {
+        let bytes = repeated(alloc, before, times, piece, behind)?;
+        assert_eq!(rt; error_of(alloc, &bytes)?.as_slice(), told);
+    }
+    let parentheses: [(&[u8], usize, &[u8], &[u8], &[u8]); 9] = [
+        (b"ensure ", 64, b"1 = 1", b"", b"read"),
+        (b"ensure ", 65, b"1 = 1", b"", b"limit depth"),
+        (b"ensure ", 65, b"9223372036854775808", b"", b"limit number"),
+        (b"ensure ", 128, b"a", b"", b"limit depth"),
+        (b"ensure ", 129, b"a", b"", b"syntax"),
+        (b"insert into t values (", 64, b"a", b")", b"read"),
+        (b"insert into t values (", 65, b"a", b")", b"limit depth"),
+        (b"insert into t values (", 127, b"a", b")", b"limit depth"),
+        (b"insert into t values (", 128, b"a", b")", b"syntax"),
+    ];
+    for (before, count, expression, behind, told) in parentheses {
+        let bytes = enclosed(alloc, before, count, expression, behind)?;
+        assert_eq!(rt; error_of(alloc, &bytes)?.as_slice(), told);
+    }
+    Ok(())
+}
+
+#[test]
+fn limits_of_tables(rt: HostRuntime) -> Result<(), Fail> {
+    let alloc = rt.alloc();
+    let cases: [(usize, &[u8], &[u8], Option<ParseErr>); 6] = [
+        (15, b", c int", b")", None),
+        (
+            16,
+            b", c int",
+            b")",
+            Some(ParseErr::Limit(LimitName::Columns)),
+        ),
+        (
+            16,
+            b", a23456789_123456789_123456789_123 int",
+            b")",
+            Some(ParseErr::Limit(LimitName::Name)),
+        ),
+        (16, b", check 1", b")", None),
+        (
+            17,
+            b", check 1",
+            b")",
+            Some(ParseErr::Limit(LimitName::Checks)),
+        ),
+        (16, b", check 1", b", check", Some(ParseErr::Syntax)),
+    ];
+    for (times, piece, behind, error) in cases {
+        let bytes = repeated(alloc, b"create table t (a int key", times, piece, behind)?;
+        assert_eq!(rt; read_table(alloc, &bytes).err(), error);
+    }
+    let mut seventeenth = repeated(alloc, b"create table t (a int key", 15, b", c int", b", ")?;
+    seventeenth.extend_from_slice(b"a23456789_123456789_123456789_123 int)")?;
+    assert_eq!(rt;
+        read_table(alloc, &seventeenth).err(),
+        Some(ParseErr::Limit(LimitName::Columns))
+    );
+    Ok(())
+}
+
+// Texts of 65,536 bytes, or a few less.
+#[test]
+fn long_texts(rt: HostRuntime) -> Result<(), Fail> {
+    let alloc = rt.alloc();
+    let cases: [(&[u8], usize, &[u8], &[u8], &[u8]); 6] = [
+        (b"ensure ", 16_382, b"not ", b"a", b"limit depth"),
+        (b"ensure 1", 16_382, b" + 1", b"", b"limit depth"),
+        (b"ensure 1", 32_764, b"*1", b"", b"limit depth"),
+        (b"ensure ", 65_529, b"(", b"", b"syntax"),
+        (b"insert into t values (1", 32_756, b",1", b")", b"read"),
+        (b"ensure ", 65_529, b"a", b"", b"limit name"),
+    ];
+    for (before, times, piece, behind, told) in cases {
+        let bytes = repeated(alloc, before, times, piece, behind)?;
+        assert_eq!(rt; error_of(alloc, &bytes)?.as_slice(), told);
+    }
+    Ok(())
+}
+
+#[test]
+fn places_of_tokens(rt: HostRuntime) -> Result<(), Fail> {
+    let found = tokens(rt.alloc(), b"a<=12 'b''c'")?;
+    let wanted = [
+        (TokenKind::Word, 0, 1),
+        (TokenKind::Sign, 1, 2),
+        (TokenKind::Int, 3, 2),
+        (TokenKind::Text, 6, 6),
+    ];
+    assert_eq!(rt; found.len(), wanted.len());
+    for (token, place) in found.as_slice().iter().zip(wanted) {
+        assert_eq!(rt; (token.kind, token.at, token.len), place);
+    }
+    assert_eq!(rt; tokens(rt.alloc(), b"a # b").err(), Some(ParseErr::Syntax));
+    Ok(())
+}
+
+#[test]
+fn laws_hold() {
+    one_statement();
+    one_table();
+}
