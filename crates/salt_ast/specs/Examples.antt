@@ -3,6 +3,7 @@ use Rattle.salt_ast.specs.Grammar.{Within, alone, colon, literal, minus_int, nam
 use Rattle.salt_ast.specs.Grammar as grammar
 use Rattle.salt_ast.specs.Judgement.{Fault, exists, mistyped, statement_fault, table_fault, unknown}
 use Rattle.salt_ast.specs.Limits.{statement_limit, table_limit}
+use Rattle.salt_ast.specs.Sample.{acct, acct_def, bal, field, id, in_range, scan, set}
 use Rattle.salt_ast.specs.Statements as form
 use Rattle.salt_ast.specs.Statements.{IsStatement}
 use Rattle.salt_ast.specs.Tables.{IsTable}
@@ -36,23 +37,8 @@ use Rattle.std.specs.Prelude.{List, None, Option, Some, [], codes, neg_ℤ, opti
 abbrev symbols : List ℕ → Option Row
 symbols bytes = option_map row_of (lex 0 bytes)
 
-abbrev field : List ℕ → ColType → Field
-field n k = record { name = n; kind = k }
-
-abbrev scan : Bound → Option Expr → Scan
-scan b f = record { bound = b; filter = f }
-
-abbrev id : List ℕ
-id = codes "id"
-
 abbrev n : List ℕ
 n = codes "n"
-
-abbrev bal : List ℕ
-bal = codes "bal"
-
-abbrev acct : List ℕ
-acct = codes "acct"
 
 -- A statement whose key's bound is followed by a filter.
 
@@ -88,12 +74,6 @@ acct_row =
     key word.Create ∷ key word.Table ∷ name acct ∷ sign mark.Open ∷ name id ∷ key word.Int ∷ key word.Key ∷ sign mark.Comma ∷ name bal ∷ key word.Int ∷
     sign mark.Comma ∷ key word.Check ∷ name bal ∷ sign mark.AtLeast ∷ int 0 ∷ key word.And ∷ name bal ∷ sign mark.AtMost ∷ int 1000 ∷ sign mark.Close ∷ []
 
-abbrev in_range : Expr
-in_range = operation op.And (operation op.AtLeast (Column bal) (number (pos 0))) (operation op.AtMost (Column bal) (number (pos 1000)))
-
-abbrev acct_def : TableDef
-acct_def = record { name = acct; columns = field id kind.Int ∷ field bal kind.Int ∷ []; checks = in_range ∷ [] }
-
 acct_symbols : symbols (codes "create table acct (id int key, bal int, check bal >= 0 and bal <= 1000)") ≡ Some acct_row
 unfolding lex first_at quoted_at keyword_of sign_of
 acct_symbols = refl
@@ -126,9 +106,6 @@ sum_text = refl
 into_text : statement_text (statement.SelectInto bal (codes "x") acct (operation op.Mul (number (pos 2)) (number (pos 3)))) ≡ codes "select bal into :x from acct where key = (2 * 3)"
 unfolding digits
 into_text = refl
-
-abbrev set : List ℕ → Expr → Set
-set c e = record { column = c; value = e }
 
 update_text : statement_text (statement.Update acct (set bal (number (pos 0)) ∷ set n (operation op.Join (Column n) (Column n)) ∷ []) all_rows) ≡ codes "update acct set bal = 0, n = (n || n)"
 unfolding digits

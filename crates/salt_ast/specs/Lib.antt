@@ -1,5 +1,6 @@
 pub mod Words
 pub mod Trees
+pub mod Sample
 pub mod Operators
 pub mod Grammar
 pub mod Statements

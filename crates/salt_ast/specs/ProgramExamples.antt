@@ -4,6 +4,7 @@ use Rattle.salt_ast.specs.Paths.{blocks, next_on_commit, next_on_failure, rest_o
 use Rattle.salt_ast.specs.ProgramJudgement.{Known, LineFault, ProgramFault, backward, branch, call_fault, fits, faulty, in_branches, in_text, kept, line_fault, no_branch, program_fault, program_kept_limit}
 use Rattle.salt_ast.specs.ProgramLimits.{line_limit, program_limit}
 use Rattle.salt_ast.specs.ProgramTexts.{line_text, program_text}
+use Rattle.salt_ast.specs.Sample.{acct, acct_def, amounts, bal, field, id, in_range, move, part, scan, set, transfer, transfer_parts}
 use Rattle.salt_ast.specs.Trees.{negation, number, operation}
 use Rattle.salt_ast.specs.declared.limit.LimitName.TheVariants as limit
 use Rattle.salt_ast.specs.declared.lines.Act.{Act}
@@ -37,35 +38,11 @@ use Rattle.std.specs.Prelude.{List, None, Option, Some, [], codes, false, neg_�
 
 -- A table of accounts.
 
-abbrev id : List ℕ
-id = codes "id"
-
-abbrev bal : List ℕ
-bal = codes "bal"
-
-abbrev acct : List ℕ
-acct = codes "acct"
-
-abbrev field : List ℕ → ColType → Field
-field n k = record { name = n; kind = k }
-
-abbrev in_range : Expr
-in_range = operation op.And (operation op.AtLeast (Column bal) (number (pos 0))) (operation op.AtMost (Column bal) (number (pos 1000)))
-
-abbrev acct_def : TableDef
-acct_def = record { name = acct; columns = field id kind.Int ∷ field bal kind.Int ∷ []; checks = in_range ∷ [] }
-
 abbrev schema : List TableDef
 schema = acct_def ∷ []
 
-abbrev scan : Bound → Option Expr → Scan
-scan b f = record { bound = b; filter = f }
-
 abbrev all_rows : Scan
 all_rows = scan bound.All None
-
-abbrev set : List ℕ → Expr → Set
-set c e = record { column = c; value = e }
 
 abbrev true_sum : Expr
 true_sum = operation op.Equal (number (pos 1)) (number (pos 1))
@@ -76,26 +53,6 @@ negations zero = true_sum
 negations (suc k) = negation (negations k)
 
 -- A transfer in three parts: what the first takes, the second brings, or else the third brings back.
-
--- the balance of an account, by this operation with the amount
-abbrev move : Op → List ℕ → Statement
-move o key =
-    statement.Update acct (set bal (operation o (Column bal) (Variable (codes "amt"))) ∷ []) (scan (bound.Key (Variable key)) None)
-
-abbrev part : List Statement → Option Next → Option Next → PartDef
-part b commit failure = record { block = b; then = commit; on_failure = failure }
-
-abbrev amounts : List Field
-amounts = field (codes "a") kind.Int ∷ field (codes "b") kind.Int ∷ field (codes "amt") kind.Int ∷ []
-
-abbrev transfer_parts : List PartDef
-transfer_parts =
-    part (move op.Sub (codes "a") ∷ []) None None ∷
-    part (move op.Add (codes "b") ∷ []) (Some next.End) (Some (next.Part 3)) ∷
-    part (move op.Add (codes "a") ∷ []) None (Some next.End) ∷ []
-
-abbrev transfer : ProgramDef
-transfer = record { name = codes "transfer"; params = amounts; vars = []; body = body.Base transfer_parts }
 
 transfer_text :
     program_text transfer

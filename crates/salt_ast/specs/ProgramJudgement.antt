@@ -21,6 +21,7 @@ use Rattle.salt_ast.specs.declared.trees.ColType.TheVariants as kind
 use Rattle.salt_ast.specs.declared.trees.Field.{Field}
 use Rattle.salt_ast.specs.declared.trees.Scope.{Scope}
 use Rattle.salt_ast.specs.declared.trees.TableDef.{TableDef}
+use Rattle.salt_values.specs.Id.{is_same_id}
 use Rattle.salt_values.specs.declared.id.Id.{Id}
 use Rattle.salt_values.specs.declared.value.Value.{Value}
 use Rattle.salt_values.specs.declared.value.Value.TheVariants as value
@@ -160,9 +161,6 @@ pub data LineFault : Type 0 where
 abbrev pub of_program_fault : ProgramFault → LineFault
 of_program_fault (in_text f) = faulty f
 of_program_fault (in_branches b) = branch (faulty_part b)
-
-abbrev pub is_same_id : Id → Id → Bool
-is_same_id a b = a.boot == b.boot && a.seq == b.seq
 
 abbrev pub go_fault : List Id → Id → Option Fault
 go_fault unfinished base = when (not (list_any (is_same_id base) unfinished)) (unknown (base_text base))

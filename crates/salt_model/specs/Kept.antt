@@ -1,31 +1,154 @@
--- What is kept at a place of a run: boot, decision number, definitions and tables. A start has the same.
-use Rattle.salt_model.specs.Statements.{Binding}
+-- What is kept at a place of a run: what a start has, and what devices stand for. And what is read off it: tables, programs, parts and ways.
+use Rattle.salt_ast.specs.Paths.{at_number, next_on_commit, next_on_failure}
+use Rattle.salt_ast.specs.ProgramJudgement.{program_named}
+use Rattle.salt_ast.specs.declared.lines.Act.TheVariants.{Call}
+use Rattle.salt_ast.specs.declared.programs.Body.TheVariants.{Acid, Base}
+use Rattle.salt_ast.specs.declared.programs.PartDef.{PartDef}
+use Rattle.salt_ast.specs.declared.programs.ProgramDef.{ProgramDef}
+use Rattle.salt_ast.specs.declared.trees.ColType.TheVariants.{Int, Text}
+use Rattle.salt_ast.specs.declared.trees.ColType.{ColType}
+use Rattle.salt_ast.specs.declared.trees.Field.{Field}
+use Rattle.salt_ast.specs.declared.trees.Statement.{Statement}
+use Rattle.salt_ast.specs.declared.trees.TableDef.{TableDef}
+use Rattle.salt_model.specs.Eval.{named_values}
 use Rattle.salt_model.specs.Tables.{Tables, no_rows}
+use Rattle.salt_model.specs.declared.events.Owner.TheVariants.{Base}
+use Rattle.salt_model.specs.declared.events.UnitKind.TheVariants.{Acid, Call, First, Later}
 use Rattle.salt_model.specs.declared.events.UnitKind.{UnitKind}
-use Rattle.salt_model.specs.declared.events.UnitKind.TheVariants.{Acid}
-use Rattle.salt_model.specs.declared.trees.TableDef.{TableDef}
-use Rattle.std.specs.Prelude.{List, [], map, ℕ}
+use Rattle.salt_model.specs.declared.locks.Family.TheVariants.{Acid}
+use Rattle.salt_model.specs.declared.shown.BaseAt.TheVariants.{First}
+use Rattle.salt_model.specs.declared.shown.Item.TheVariants.{Base}
+use Rattle.salt_model.specs.declared.vars.Binding.{Binding}
+use Rattle.salt_values.specs.Id.{is_same_id}
+use Rattle.salt_values.specs.declared.cont.Cont.{Cont}
+use Rattle.salt_values.specs.declared.id.Id.{Id}
+use Rattle.salt_values.specs.declared.value.Value.TheVariants.{Int, Text}
+use Rattle.salt_values.specs.declared.value.Value.{Value}
+use Rattle.std.specs.List.{filter_map}
+use Rattle.std.specs.Prelude.{List, None, Option, Some, [], drop, if◌then◌else◌, length, map, option_and_then, option_map, pos, ℕ, ◌++◌, ◌∷◌}
 
 -- a definition, as the line that made it
 pub data Definition : Type 0 where
   OfTable : TableDef → Definition
+  OfProgram : ProgramDef → Definition
 
 pub record Kept : Type 0 where
   pub boot : ℕ
   pub decisions : ℕ
   pub definitions : List Definition
   pub tables : Tables
+  pub conts : List Cont
 
 abbrev pub nothing_kept : Kept
-nothing_kept = record { boot = 0; decisions = 0; definitions = []; tables = no_rows }
+nothing_kept = record { boot = 0; decisions = 0; definitions = []; tables = no_rows; conts = [] }
 
-abbrev pub table_of_definition : Definition → TableDef
-table_of_definition (OfTable d) = d
+abbrev pub table_of_definition : Definition → Option TableDef
+table_of_definition (OfTable d) = Some d
+table_of_definition (OfProgram p) = None
 
--- the tables defined, numbered from 0
+abbrev pub program_of_definition : Definition → Option ProgramDef
+program_of_definition (OfTable d) = None
+program_of_definition (OfProgram p) = Some p
+
 abbrev pub schema_of : Kept → List TableDef
-schema_of k = map table_of_definition k.definitions
+schema_of k = filter_map table_of_definition k.definitions
 
--- the variables with which a unit of this kind begins; a session's statement has none
+abbrev pub programs_of : Kept → List ProgramDef
+programs_of k = filter_map program_of_definition k.definitions
+
+abbrev pub kept_program : List ℕ → Kept → Option ProgramDef
+kept_program n k = program_named (programs_of k) n
+
+abbrev pub cont_in : Id → List Cont → Option Cont
+cont_in b [] = None
+cont_in b (c ∷ cs) = if is_same_id b c.base then Some c else cont_in b cs
+
+-- the continuation of a program that is accepted and not finished
+abbrev pub cont_of : Id → Kept → Option Cont
+cont_of b k = cont_in b k.conts
+
+abbrev pub parts_of : ProgramDef → List PartDef
+parts_of p = elim p.body [ Acid block ↦ [] | Base parts ↦ parts ]
+
+-- where part n goes on after a commit: its way, else the next part; none is the end
+abbrev pub then_of : ProgramDef → ℕ → Option ℕ
+then_of p n = next_on_commit (parts_of p) n
+
+-- where it goes on after a failure
+abbrev pub branch_of : ProgramDef → ℕ → Option ℕ
+branch_of p n = next_on_failure (parts_of p) n
+
+abbrev pub zero_of : ColType → Value
+zero_of ColType.Int = Int (pos 0)
+zero_of ColType.Text = Text []
+
+abbrev pub zeros : List Field → List Value
+zeros fields = map (λ f. zero_of f.kind) fields
+
+-- the arguments, and every variable 0 or the empty text
+abbrev pub vars_at_call : ProgramDef → List Value → List Binding
+vars_at_call p args = named_values p.params args ++ named_values p.vars (zeros p.vars)
+
+abbrev pub vars_at_cont : ProgramDef → Cont → List Binding
+vars_at_cont p c = named_values p.params c.args ++ named_values p.vars c.vars
+
+-- the values of a program's variables, its arguments aside
+abbrev pub values_kept : ProgramDef → List Binding → List Value
+values_kept p vars = map (λ b. b.value) (drop (length p.params) vars)
+
+-- the variables with which a unit of this kind begins
 abbrev pub vars_of_kind : Kept → UnitKind → List Binding
 vars_of_kind k (Acid s) = []
+vars_of_kind k (Call s n args) = elim (kept_program n k) [ None ↦ [] | Some p ↦ vars_at_call p args ]
+vars_of_kind k (First s b n args) = elim (kept_program n k) [ None ↦ [] | Some p ↦ vars_at_call p args ]
+vars_of_kind k (Later b part) =
+    elim (cont_of b k) [ None ↦ [] | Some c ↦ elim (kept_program c.program k) [ None ↦ [] | Some p ↦ vars_at_cont p c ] ]
+
+abbrev pub block_of_part : ProgramDef → ℕ → List Statement
+block_of_part p n = elim (at_number n (parts_of p)) [ None ↦ [] | Some part ↦ part.block ]
+
+abbrev pub block_of_call : ProgramDef → List Statement
+block_of_call p = elim p.body [ Acid block ↦ block | Base parts ↦ [] ]
+
+-- the statements of a unit's program or part; a unit of a session has none
+abbrev pub block_of_kind : Kept → UnitKind → Option (List Statement)
+block_of_kind k (Acid s) = None
+block_of_kind k (Call s n args) = option_map block_of_call (kept_program n k)
+block_of_kind k (First s b n args) = option_map (λ p. block_of_part p 1) (kept_program n k)
+block_of_kind k (Later b part) =
+    option_and_then (λ c. option_map (λ p. block_of_part p part) (kept_program c.program k)) (cont_of b k)
+
+abbrev pub without_cont : Id → List Cont → List Cont
+without_cont b [] = []
+without_cont b (c ∷ cs) = if is_same_id b c.base then cs else c ∷ without_cont b cs
+
+abbrev pub change_cont : Id → (Cont → Cont) → List Cont → List Cont
+change_cont b f [] = []
+change_cont b f (c ∷ cs) = if is_same_id b c.base then f c ∷ cs else c ∷ change_cont b f cs
+
+-- a continuation that goes on at a part, with these variables, or ends
+abbrev pub moved : Id → Option ℕ → (Cont → Cont) → List Cont → List Cont
+moved b None f cs = without_cont b cs
+moved b (Some part) f cs = change_cont b (λ c. record (f c) { next = part }) cs
+
+-- part 1 was committed by decision n: the continuation begins, unless the way is the end
+abbrev pub begun_cont : Id → ℕ → ProgramDef → List Value → List Binding → Option ℕ → List Cont → List Cont
+begun_cont b n p args vars None cs = cs
+begun_cont b n p args vars (Some part) cs =
+    cs ++ record { base = b; accepted = n; program = p.name; args = args; vars = values_kept p vars; next = part } ∷ []
+
+-- the continuations after a commit
+abbrev pub conts_committed : Kept → ℕ → UnitKind → List Binding → List Cont
+conts_committed k n (Acid s) vars = k.conts
+conts_committed k n (Call s name args) vars = k.conts
+conts_committed k n (First s b name args) vars = elim (kept_program name k) [ None ↦ k.conts | Some p ↦ begun_cont b n p args vars (then_of p 1) k.conts ]
+conts_committed k n (Later b part) vars =
+    elim (option_and_then (λ c. kept_program c.program k) (cont_of b k))
+    [ None ↦ k.conts | Some p ↦ moved b (then_of p part) (λ c. record c { vars = values_kept p vars }) k.conts ]
+
+-- the continuations after a branch
+abbrev pub conts_branched : Kept → UnitKind → List Cont
+conts_branched k (Later b part) =
+    elim (option_and_then (λ c. kept_program c.program k) (cont_of b k))
+    [ None ↦ k.conts | Some p ↦ moved b (branch_of p part) (λ c. c) k.conts ]
+conts_branched k kind = k.conts

@@ -1,17 +1,16 @@
 -- The text of a line: which bytes spell which tree, and what a line of some bytes asks.
 use Rattle.salt_model.specs.Log.{Asked, Tree, Unread}
-use Rattle.salt_model.specs.declared.events.Refusal.TheVariants.{Exists, Mistyped, Syntax, Unknown}
-use Rattle.salt_model.specs.declared.trees.Act.TheVariants.{Do}
-use Rattle.salt_model.specs.declared.trees.Bound.TheVariants.{Key}
-use Rattle.salt_model.specs.declared.trees.ColType.{ColType}
-use Rattle.salt_model.specs.declared.trees.Expr.{Expr}
-use Rattle.salt_model.specs.declared.trees.Expr.TheVariants.{Lit}
-use Rattle.salt_model.specs.declared.trees.Field.{Field}
-use Rattle.salt_model.specs.declared.trees.Line.{Line}
-use Rattle.salt_model.specs.declared.trees.Line.TheVariants.{Nothing, Session, Table}
-use Rattle.salt_model.specs.declared.trees.Statement.{Statement}
-use Rattle.salt_model.specs.declared.trees.Statement.TheVariants.{Insert, Select}
-use Rattle.salt_model.specs.declared.trees.What.TheVariants.{All}
+use Rattle.salt_model.specs.declared.events.Refusal.TheVariants.{Syntax}
+use Rattle.salt_ast.specs.declared.lines.Act.TheVariants.{Do}
+use Rattle.salt_ast.specs.declared.trees.Bound.TheVariants.{Key}
+use Rattle.salt_ast.specs.declared.trees.ColType.{ColType}
+use Rattle.salt_ast.specs.declared.trees.Expr.{Expr, Lit}
+use Rattle.salt_ast.specs.declared.trees.Field.{Field}
+use Rattle.salt_ast.specs.declared.lines.Line.{Line}
+use Rattle.salt_ast.specs.declared.lines.Line.TheVariants.{Nothing, Session, Table}
+use Rattle.salt_ast.specs.declared.trees.Statement.{Statement}
+use Rattle.salt_ast.specs.declared.trees.Statement.TheVariants.{Insert, Select}
+use Rattle.salt_ast.specs.declared.trees.What.TheVariants.{All}
 use Rattle.salt_tokens.specs.Bytes.{is_blank}
 use Rattle.salt_tokens.specs.Pieces.{Lexes, Piece}
 use Rattle.salt_tokens.specs.Symbols.{Row, int, key, name, row_of, sign}
@@ -19,7 +18,7 @@ use Rattle.salt_tokens.specs.declared.keyword.Keyword.TheVariants as word
 use Rattle.salt_tokens.specs.declared.sign.Sign.TheVariants as mark
 use Rattle.salt_values.specs.declared.value.Value.TheVariants.{Int}
 use Rattle.std.specs.List.{list_all}
-use Rattle.std.specs.Prelude.{Bool, List, [], false, length, neg_ℤ, pos, true, ℕ, ℤ, ⊤, ◌&&◌, ◌++◌, ◌<◌, ◌==◌, ◌^◌, ◌||◌, ◌∷◌, ◌≡◌, ◌≤◌, ◌⊎◌}
+use Rattle.std.specs.Prelude.{Bool, List, None, [], false, length, neg_ℤ, pos, true, ℕ, ℤ, ⊤, ◌&&◌, ◌++◌, ◌<◌, ◌==◌, ◌^◌, ◌||◌, ◌∷◌, ◌≡◌, ◌≤◌, ◌⊎◌}
 
 -- One { "," One }
 pub data Listed {A : Type 0} (One : Row → A → Type 0) : Row → List A → Type 0 where
@@ -54,12 +53,12 @@ pub data IsStatement : Row → Statement → Type 0 where
   insert : {n : List ℕ} {ts : Row} {es : List Expr} → IsShort n → Listed Value ts es →
       IsStatement (key word.Insert ∷ key word.Into ∷ name n ∷ key word.Values ∷ sign mark.Open ∷ (ts ++ sign mark.Close ∷ [])) (Insert n es)
   select : {n : List ℕ} {ts : Row} {e : Expr} → IsShort n → Value ts e →
-      IsStatement (key word.Select ∷ sign mark.Star ∷ key word.From ∷ name n ∷ key word.Where ∷ key word.Key ∷ sign mark.Equal ∷ ts) (Select All n (record { bound = Key e }))
+      IsStatement (key word.Select ∷ sign mark.Star ∷ key word.From ∷ name n ∷ key word.Where ∷ key word.Key ∷ sign mark.Equal ∷ ts) (Select All n (record { bound = Key e; filter = None }))
 
 -- sessions are 1 to 64
 pub data IsLine : Row → Line → Type 0 where
   creates : {n : List ℕ} {ts : Row} {fields : List Field} → IsShort n → Columns ts fields →
-      IsLine (key word.Create ∷ key word.Table ∷ name n ∷ sign mark.Open ∷ (ts ++ sign mark.Close ∷ [])) (Table (record { name = n; columns = fields }))
+      IsLine (key word.Create ∷ key word.Table ∷ name n ∷ sign mark.Open ∷ (ts ++ sign mark.Close ∷ [])) (Table (record { name = n; columns = fields; checks = [] }))
   does : {s : ℕ} {ts : Row} {st : Statement} → 1 ≤ s → s ≤ 64 → IsStatement ts st → IsLine (sign mark.At ∷ int s ∷ ts) (Session s (Do st))
 
 abbrev pub begins_comment : List ℕ → Bool
@@ -82,9 +81,7 @@ longest_line = 65536
 abbrev pub Asks : List ℕ → Asked → Type 0
 Asks text (Tree line) = (length text ≤ longest_line) × Spells text line
 Asks text (Unread Syntax) = (longest_line < length text) ⊎ ((line : Line) → Spells text line → ⊥)
-Asks text (Unread (Unknown n)) = ⊥
-Asks text (Unread (Exists n)) = ⊥
-Asks text (Unread Mistyped) = ⊥
+Asks text (Unread r) = ⊥
 
 -- what lines of these bytes ask, one after another
 abbrev pub AskInOrder : List (List ℕ) → List Asked → Type 0

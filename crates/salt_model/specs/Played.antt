@@ -1,34 +1,75 @@
--- What it means that a log is played: each event may stand where it stands, and nothing is left out.
-use Rattle.salt_model.specs.After.{kept}
-use Rattle.salt_model.specs.Kept.{nothing_kept}
-use Rattle.salt_model.specs.Log.{Fallen, Log, Phase, Serving, from, start_of, story_of, ◌asks◌, ◌says◌}
-use Rattle.salt_model.specs.Next.{next, phase}
+-- The relation between the lines done and the story.
+use Rattle.salt_model.specs.After.{kept, reach_now}
+use Rattle.salt_model.specs.Log.{Log, from, ◌asks◌, ◌says◌, ◌turns◌}
+use Rattle.salt_model.specs.Next.{flight, is_decision, next}
+use Rattle.salt_model.specs.Phases.{Fallen, Opening, Phase, Serving, downs, has_opened, phase}
+use Rattle.salt_model.specs.Turns.{next_number, next_turn}
+use Rattle.salt_model.specs.declared.events.Event.TheVariants.{Did, Down, Opened}
 use Rattle.salt_model.specs.declared.events.Event.{Event}
-use Rattle.salt_model.specs.declared.events.Event.TheVariants.{Opened}
-use Rattle.std.specs.Prelude.{List, None, Some, ℕ, ⊤, ◌+◌, ◌≡◌}
+use Rattle.salt_model.specs.declared.events.Why.TheVariants.{Fault, Stopped}
+use Rattle.salt_model.specs.declared.events.Why.{Why}
+use Rattle.std.specs.Prelude.{Bool, IsSome, IsTrue, None, Option, Some, false, if◌then◌else◌, is_some, not, true, ℕ, ⊤, ◌&&◌, ◌+◌, ◌<◌, ◌≡◌, ◌≤◌, ◌⊎◌}
 
--- an opening begins the next boot, and tells the decisions that stand
+-- a fact of each event and the log before it
+abbrev pub Each : (Log → Event → Type 0) → Log → Type 0
+Each R (from k) = ⊤
+Each R (log asks asked) = Each R log
+Each R (log turns b) = Each R log
+Each R (log says e) = Each R log × R log e
+
+-- a stop or a fault falls where devices are written or read
+abbrev pub is_at_devices : Log → Event → Bool
+is_at_devices log (Did u st answer) = is_some (reach_now u log st)
+is_at_devices log e = is_decision e
+
+abbrev pub is_device_next : Log → Option Event → Bool
+is_device_next log None = false
+is_device_next log (Some e) = is_at_devices log e
+
+abbrev pub is_stopped : Why → Bool
+is_stopped Stopped = true
+is_stopped Fault = false
+
+-- the log ends with an Opened: what may come next is the flight's decision, which is at the devices already
+abbrev pub is_just_opened : Log → Bool
+is_just_opened (from k) = false
+is_just_opened (log asks asked) = false
+is_just_opened (log turns b) = false
+is_just_opened (log says Opened boot n) = true
+is_just_opened (log says e) = false
+
+-- the drain is about to read or write the devices
+abbrev pub is_drain_at_devices : Log → Bool
+is_drain_at_devices log = not (is_just_opened log) && is_device_next log (next log)
+
+-- a Down: while serving, where the next missing event is at the devices; in an opening as a stop, before its Opened or in the drain
+abbrev pub MayFall : Phase → Log → Why → Type 0
+MayFall Serving log why = IsTrue (is_device_next log (next log))
+MayFall Opening log why = (why ≡ Stopped) × IsTrue (is_drain_at_devices log)
+MayFall Fallen log why = why ≡ Stopped
+
+-- the boots that an opening may have, and its decision number: the last, or the flight's
 abbrev pub MayOpen : Phase → Log → ℕ → ℕ → Type 0
-MayOpen Fallen log boot n = (boot ≡ (kept log).boot + 1) × (n ≡ (kept log).decisions)
+MayOpen Fallen log boot n =
+    ((kept log).boot < boot) ×
+    (boot ≤ (kept log).boot + (downs log + (if has_opened log then 0 else 1))) ×
+    ((n ≡ (kept log).decisions) ⊎ (IsSome (flight log) × (n ≡ next_number log)))
 MayOpen phase log boot n = ⊥
 
--- an event may stand after a log: an opening where the run is down, else the next event and no other
+-- an event may stand after a log
 abbrev pub May : Log → Event → Type 0
+May log (Down why) = MayFall (phase log) log why
 May log (Opened boot n) = MayOpen (phase log) log boot n
 May log e = next log ≡ Some e
 
 -- nothing is missing of the segment in which the log ends
 abbrev pub IsComplete : Log → Type 0
-IsComplete log = (phase log ≡ Serving) × (next log ≡ None)
+IsComplete log = (phase log ≡ Serving) × (next log ≡ None) × (next_turn log ≡ None)
 
 -- each event may stand where it stands, and each segment is complete when the next line is asked
 abbrev pub Played : Log → Type 0
 Played (from k) = ⊤
-Played (log asks line) = Played log × IsComplete log
+Played (log asks asked) = Played log × IsComplete log
+Played (log turns b) = Played log × (phase log ≡ Serving) × (next log ≡ None) × (next_turn log ≡ Some b)
 Played (log says e) = Played log × May log e
 
--- the story is that of a log which is played from the empty start
-pub record Tells (log : Log) (story : List Event) : Type 0 where
-  pub start : start_of log ≡ nothing_kept
-  pub told : story_of log ≡ story
-  pub played : Played log

@@ -1,50 +1,95 @@
--- Refusals of a line: the first that applies.
+-- The refusal of a line: the first that applies, by the log before it.
+use Rattle.salt_ast.specs.Judgement.{Fault, exists, mistyped, unknown}
+use Rattle.salt_ast.specs.ProgramJudgement.{Known, LineFault, branch, faulty, kept as of_kept, line_fault}
+use Rattle.salt_ast.specs.Words.{or_else, when}
+use Rattle.salt_ast.specs.declared.lines.Act.TheVariants.{Begin, Call, Commit, Do, Rollback, Step}
+use Rattle.salt_ast.specs.declared.lines.Act.{Act}
+use Rattle.salt_ast.specs.declared.lines.Line.TheVariants.{Crash, Go, Program, Session, Table}
+use Rattle.salt_ast.specs.declared.lines.Line.{Line}
 use Rattle.salt_model.specs.After.{kept}
-use Rattle.salt_model.specs.Kept.{schema_of}
-use Rattle.salt_model.specs.Log.{Asked, Log, Tree, Unread}
-use Rattle.salt_model.specs.Statements.{table_in, table_named}
-use Rattle.salt_model.specs.Words.{is_same_name, or_else, when}
+use Rattle.salt_model.specs.Kept.{programs_of, schema_of}
+use Rattle.salt_model.specs.Locks.{is_holding}
+use Rattle.salt_model.specs.Log.{Asked, Log, Tree, Unread, accepted_in, is_waiting, kind_of, open_units, program_unit, session_unit, start_of}
+use Rattle.salt_model.specs.Programs.{under_way}
+use Rattle.salt_model.specs.Words.{is_empty}
+use Rattle.salt_model.specs.declared.events.Refusal.TheVariants as refused
 use Rattle.salt_model.specs.declared.events.Refusal.{Refusal}
-use Rattle.salt_model.specs.declared.events.Refusal.TheVariants.{Exists, Mistyped, Syntax, Unknown}
-use Rattle.salt_model.specs.declared.trees.Act.TheVariants.{Do}
-use Rattle.salt_model.specs.declared.trees.Field.{Field}
-use Rattle.salt_model.specs.declared.trees.Line.{Line}
-use Rattle.salt_model.specs.declared.trees.Line.TheVariants.{Nothing, Session, Table}
-use Rattle.salt_model.specs.declared.trees.Statement.{Statement}
-use Rattle.salt_model.specs.declared.trees.Statement.TheVariants.{Insert, Select}
-use Rattle.salt_model.specs.declared.trees.TableDef.{TableDef}
+use Rattle.salt_model.specs.declared.events.UnitKind.TheVariants.{Acid}
+use Rattle.salt_model.specs.declared.events.UnitKind.{UnitKind}
+use Rattle.salt_values.specs.declared.id.Id.{Id}
 use Rattle.std.specs.List.{list_any}
-use Rattle.std.specs.Prelude.{Bool, List, None, Option, Some, [], false, is_some, length, nat_le, not, option_map, ℕ, ◌++◌, ◌==◌, ◌∷◌}
+use Rattle.std.specs.Prelude.{Bool, None, Option, Some, false, length, map, not, option_map, true, ◌&&◌, ◌||◌}
 
-abbrev pub has_name : List ℕ → Field → Bool
-has_name n f = is_same_name n f.name
+-- By the tree, and what is known: limits of what is kept, names, types and branches.
 
--- the first name that stands there before, in the text or among those seen
-abbrev pub first_doubled : List Field → List Field → Option (List ℕ)
-first_doubled seen [] = None
-first_doubled seen (f ∷ fs) = or_else (when (list_any (has_name f.name) seen) f.name) (first_doubled (seen ++ f ∷ []) fs)
+abbrev pub known_at : Log → Known
+known_at log = record {
+  schema = schema_of (kept log);
+  catalogue = programs_of (kept log);
+  unfinished = map (λ c. c.base) (kept log).conts;
+  unreleased = length (under_way log);
+}
 
--- at most 64 tables are kept; a further one is outside what is read so far
-abbrev pub refused_table : List TableDef → TableDef → Option Refusal
-refused_table schema d =
-    or_else (when (nat_le 64 (length schema)) Syntax)
-    (or_else (when (is_some (table_named d.name schema)) (Exists d.name))
-    (option_map Exists (first_doubled [] d.columns)))
+abbrev pub refusal_by_fault : Fault → Refusal
+refusal_by_fault (unknown n) = refused.Unknown n
+refusal_by_fault (exists n) = refused.Exists n
+refusal_by_fault mistyped = refused.Mistyped
 
--- as many values as the table has columns
-abbrev pub is_mistyped : TableDef → Statement → Bool
-is_mistyped d (Insert t es) = not (length es == length d.columns)
-is_mistyped d (Select what t scan) = false
+abbrev pub refusal_by : LineFault → Refusal
+refusal_by (of_kept limit) = refused.Limit limit
+refusal_by (faulty f) = refusal_by_fault f
+refusal_by (branch part) = refused.Branch part
 
-abbrev pub refused_statement : List TableDef → Statement → Option Refusal
-refused_statement schema st = elim (table_named (table_in st) schema) [ None ↦ Some (Unknown (table_in st)) | Some d ↦ when (is_mistyped d.1 st) Mistyped ]
+abbrev pub judged : Log → Line → Option Refusal
+judged log line = option_map refusal_by (line_fault (known_at log) line)
 
-abbrev pub refused_line : List TableDef → Line → Option Refusal
-refused_line schema Nothing = None
-refused_line schema (Table d) = refused_table schema d
-refused_line schema (Session s (Do st)) = refused_statement schema st
+-- By the state of sessions, programs and disks.
 
--- the refusal of a line, by the log before it
+abbrev pub has_block : UnitKind → Bool
+has_block (Acid s) = false
+has_block kind = true
+
+-- a unit that came from `call`
+abbrev pub is_called : Log → Id → Bool
+is_called log u = elim (kind_of u log) [ None ↦ false | Some kind ↦ has_block kind ]
+
+-- the acts that the state of a session's unit refuses
+abbrev pub state_wrong : Log → Option Id → Act → Bool
+state_wrong log (Some u) Begin = true
+state_wrong log (Some u) (Call p args) = true
+state_wrong log (Some u) (Do st) = is_waiting log u || is_called log u
+state_wrong log (Some u) Step = is_waiting log u || not (is_called log u)
+state_wrong log (Some u) Commit = is_waiting log u || is_called log u
+state_wrong log (Some u) Rollback = false
+state_wrong log None Step = true
+state_wrong log None Commit = true
+state_wrong log None Rollback = true
+state_wrong log None act = false
+
+abbrev pub is_waiting_unit : Log → Option Id → Bool
+is_waiting_unit log None = false
+is_waiting_unit log (Some u) = is_waiting log u
+
+abbrev pub is_state_wrong : Log → Line → Bool
+is_state_wrong log (Session s act) = state_wrong log (session_unit s log) act
+is_state_wrong log (Go b) = is_waiting_unit log (program_unit b log)
+is_state_wrong log (Crash pairs) = not (start_of log).can_stop
+is_state_wrong log line = false
+
+-- a unit is open, or a program is not released
+abbrev pub is_busy : Log → Bool
+is_busy log = not (is_empty (open_units log)) || list_any (is_holding log) (accepted_in log)
+
+abbrev pub defines : Line → Bool
+defines (Table d) = true
+defines (Program p) = true
+defines line = false
+
+abbrev pub refused_line : Log → Line → Option Refusal
+refused_line log line =
+    or_else (judged log line) (or_else (when (is_state_wrong log line) refused.State) (when (defines line && is_busy log) refused.Busy))
+
+-- the refusals of a line's text come before these
 abbrev pub refusal : Log → Asked → Option Refusal
+refusal log (Tree line) = refused_line log line
 refusal log (Unread r) = Some r
-refusal log (Tree line) = refused_line (schema_of (kept log)) line

@@ -1,22 +1,37 @@
--- What a statement reaches and does, and what statements do one after another.
-use Rattle.salt_model.specs.Tables.{Change, Entry, KeyRange, Mode, Reach, Read, Tables, Write, key_of, one_key, place, rows_in, with_changes}
-use Rattle.salt_model.specs.Words.{and_then, is_same_name}
+-- What a statement reaches and does.
+use Rattle.salt_ast.specs.Words.{is_same_name}
+use Rattle.salt_ast.specs.declared.trees.Bound.TheVariants.{All, Between, Key}
+use Rattle.salt_ast.specs.declared.trees.Bound.{Bound}
+use Rattle.salt_ast.specs.declared.trees.ColType.TheVariants.{Int}
+use Rattle.salt_ast.specs.declared.trees.Expr.{Expr}
+use Rattle.salt_ast.specs.declared.trees.Field.{Field}
+use Rattle.salt_ast.specs.declared.trees.Set.{Set}
+use Rattle.salt_ast.specs.declared.trees.Statement.TheVariants.{Delete, Ensure, Insert, Select, SelectInto, Update}
+use Rattle.salt_ast.specs.declared.trees.Statement.{Statement}
+use Rattle.salt_ast.specs.declared.trees.TableDef.{TableDef}
+use Rattle.salt_ast.specs.declared.trees.What.TheVariants.{All, Columns, Count, Max, Min, Sum}
+use Rattle.salt_ast.specs.declared.trees.What.{What}
+use Rattle.salt_model.specs.Eval.{Visible, is_int64, named_values, passes, truth_of, value_named, value_of, values_of}
+use Rattle.salt_model.specs.Tables.{Edits, Entry, Tables, key_of, no_edits, place, put_changes, rows_in, with_changes}
+use Rattle.salt_model.specs.Words.{and_then}
+use Rattle.salt_model.specs.declared.events.Answer.TheVariants.{Cell, Count, Failed, Rows, Stored}
 use Rattle.salt_model.specs.declared.events.Answer.{Answer}
-use Rattle.salt_model.specs.declared.events.Answer.TheVariants.{Count, Failed, Rows}
+use Rattle.salt_model.specs.declared.events.Cause.TheVariants.{Check, Duplicate, Ensure, Missing, Overflow}
 use Rattle.salt_model.specs.declared.events.Cause.{Cause}
-use Rattle.salt_model.specs.declared.events.Cause.TheVariants.{Duplicate}
-use Rattle.salt_model.specs.declared.trees.Bound.{Bound}
-use Rattle.salt_model.specs.declared.trees.Bound.TheVariants.{Key}
-use Rattle.salt_model.specs.declared.trees.Expr.{Expr}
-use Rattle.salt_model.specs.declared.trees.Expr.TheVariants.{Lit}
-use Rattle.salt_model.specs.declared.trees.Statement.{Statement}
-use Rattle.salt_model.specs.declared.trees.Statement.TheVariants.{Insert, Select}
-use Rattle.salt_model.specs.declared.trees.TableDef.{TableDef}
-use Rattle.salt_model.specs.declared.trees.What.{What}
-use Rattle.salt_model.specs.declared.trees.What.TheVariants.{All}
-use Rattle.salt_values.specs.declared.value.Value.{Value}
+use Rattle.salt_model.specs.declared.events.End.TheVariants.{Failed}
+use Rattle.salt_model.specs.declared.locks.Mode.TheVariants.{Read, Write}
+use Rattle.salt_model.specs.declared.locks.Mode.{Mode}
+use Rattle.salt_model.specs.declared.locks.Reach.{Reach}
+use Rattle.salt_model.specs.declared.places.Place.{Place}
+use Rattle.salt_model.specs.declared.vars.Binding.{Binding}
+use Rattle.salt_ranges.specs.Ranges.{all_keys, is_range_empty, one_key}
+use Rattle.salt_ranges.specs.declared.range.KeyRange.{KeyRange}
+use Rattle.salt_values.specs.Value.{int_in, is_value_below}
+use Rattle.salt_values.specs.declared.change.Change.{Change}
 use Rattle.salt_values.specs.declared.value.Value.TheVariants.{Int}
-use Rattle.std.specs.Prelude.{Bool, Err, List, None, Ok, Option, Result, Some, [], false, if◌then◌else◌, map, pos, true, ℕ, ◌++◌, ◌+◌, ◌∷◌}
+use Rattle.salt_values.specs.declared.value.Value.{Value}
+use Rattle.std.specs.List.{cons_option, filter}
+use Rattle.std.specs.Prelude.{Bool, Err, List, None, Ok, Option, Result, Some, [], false, if◌then◌else◌, length, map, option_and_then, pos, true, unwrap_or, ℕ, ℤ, ◌++◌, ◌+ℤ◌, ◌+◌, ◌∷◌}
 
 -- the table of a name, with its number
 abbrev pub table_from : ℕ → List ℕ → List TableDef → Option (ℕ × TableDef)
@@ -26,47 +41,59 @@ table_from n name (d ∷ ds) = if is_same_name name d.name then Some (n, d) else
 abbrev pub table_named : List ℕ → List TableDef → Option (ℕ × TableDef)
 table_named name schema = table_from 0 name schema
 
-abbrev pub table_in : Statement → List ℕ
-table_in (Insert t es) = t
-table_in (Select what t scan) = t
+abbrev pub table_in : Statement → Option (List ℕ)
+table_in (Insert t es) = Some t
+table_in (Select w t scan) = Some t
+table_in (SelectInto c v t k) = Some t
+table_in (Update t sets scan) = Some t
+table_in (Delete t scan) = Some t
+table_in (Ensure e) = None
 
--- a variable and its value
-pub record Binding : Type 0 where
-  pub name : List ℕ
-  pub value : Value
+-- outside rows a statement sees the variables alone
+abbrev pub no_row : List Binding → Visible
+no_row vars = record { columns = []; vars = vars }
 
--- the value of an expression, or its cause
-abbrev pub value_of : List Binding → Expr → Result Value Cause
-value_of vars (Lit v) = Ok v
+abbrev pub in_row : TableDef → List Value → List Binding → Visible
+in_row def row vars = record { columns = named_values def.columns row; vars = vars }
 
--- the values of expressions, from left to right, or the first cause
-abbrev pub values_of : List Binding → List Expr → Result (List Value) Cause
-values_of vars [] = Ok []
-values_of vars (e ∷ es) = and_then (value_of vars e) (λ v. and_then (values_of vars es) (λ vs. Ok (v ∷ vs)))
-
+-- the range of a bound; its cause
 abbrev pub range_of : List Binding → Bound → Result KeyRange Cause
-range_of vars (Key e) = and_then (value_of vars e) (λ k. Ok (one_key k))
+range_of vars All = Ok all_keys
+range_of vars (Key e) = and_then (value_of (no_row vars) e) (λ k. Ok (one_key k))
+range_of vars (Between a b) = and_then (value_of (no_row vars) a) (λ lo. and_then (value_of (no_row vars) b) (λ hi. Ok (record { lo = Some lo; hi = Some hi })))
 
--- where a bound or a key has a cause, nothing is reached
+-- nothing is reached where a bound has a cause, or the lower one is above the upper one
 abbrev pub reached : ℕ → Mode → Result KeyRange Cause → Option Reach
 reached t mode (Err c) = None
-reached t mode (Ok r) = Some (record { table = t; range = r; mode = mode })
+reached t mode (Ok r) = if is_range_empty r then None else Some (record { table = t; range = r; mode = mode })
 
-abbrev pub first_key : List Binding → List Expr → Result KeyRange Cause
-first_key vars [] = Ok (one_key (Int (pos 0)))
-first_key vars (e ∷ es) = range_of vars (Key e)
+-- one key is a range that is not empty
+abbrev pub key_reached : ℕ → Mode → Result Value Cause → Option Reach
+key_reached t mode (Err c) = None
+key_reached t mode (Ok k) = Some (record { table = t; range = one_key k; mode = mode })
+
+abbrev pub first_value : List Binding → List Expr → Result Value Cause
+first_value vars [] = Ok (Int (pos 0))
+first_value vars (e ∷ es) = value_of (no_row vars) e
 
 abbrev pub reach_in : ℕ → List Binding → Statement → Option Reach
-reach_in t vars (Insert name es) = reached t Write (first_key vars es)
+reach_in t vars (Insert name es) = key_reached t Write (first_value vars es)
 reach_in t vars (Select what name scan) = reached t Read (range_of vars scan.bound)
+reach_in t vars (SelectInto c v name key) = key_reached t Read (value_of (no_row vars) key)
+reach_in t vars (Update name sets scan) = reached t Write (range_of vars scan.bound)
+reach_in t vars (Delete name scan) = reached t Write (range_of vars scan.bound)
+reach_in t vars (Ensure e) = None
+
+abbrev pub table_for : List TableDef → Statement → Option (ℕ × TableDef)
+table_for schema st = option_and_then (λ name. table_named name schema) (table_in st)
 
 abbrev pub reach_at : List Binding → Statement → Option (ℕ × TableDef) → Option Reach
 reach_at vars st None = None
 reach_at vars st (Some d) = reach_in d.0 vars st
 
--- a statement reaches one range of one table, or nothing; it looks at no row
-abbrev pub reach_of : List TableDef → List Binding → Statement → Option Reach
-reach_of schema vars st = reach_at vars st (table_named (table_in st) schema)
+-- a statement reaches one range of one table, or nothing
+unfoldable pub reach : List TableDef → List Binding → Statement → Option Reach
+reach schema vars st = reach_at vars st (table_for schema st)
 
 -- the answer, the changes, and the variables after
 pub record Done : Type 0 where
@@ -75,38 +102,118 @@ pub record Done : Type 0 where
   pub vars : List Binding
 
 -- a statement that fails changes nothing
+abbrev pub failing : List Binding → Cause → Done
+failing vars c = record { answer = Failed c; changes = []; vars = vars }
+
 abbrev pub done : List Binding → Result Done Cause → Done
 done vars (Ok d) = d
-done vars (Err c) = record { answer = Failed c; changes = []; vars = vars }
+done vars (Err c) = failing vars c
 
--- a row is put in where none of its key is there
-abbrev pub inserted : ℕ → List Binding → List Entry → List Value → Result Done Cause
-inserted t vars [] row = Ok (record { answer = Count 1; changes = record { at = place t (key_of row); row = Some row } ∷ []; vars = vars })
-inserted t vars (e ∷ es) row = Err Duplicate
+abbrev pub answering : List Binding → Answer → Done
+answering vars a = record { answer = a; changes = []; vars = vars }
 
-abbrev pub shown : What → List (List Value) → Answer
-shown All rows = Rows rows
+-- the checks of a table on a row: the first that is false or has a cause
+abbrev pub checked : Visible → List Expr → Result Bool Cause
+checked s [] = Ok true
+checked s (e ∷ es) = and_then (truth_of s e) (λ b. if b then checked s es else Err Check)
+
+abbrev pub change_to : Place → Option (List Value) → Change
+change_to p row = record { table = p.table; key = p.key; row = row }
+
+-- what f gives of each element, as far as it gives something
+abbrev pub collect : {A B : Type 0} → (A → Result (Option B) Cause) → List A → Result (List B) Cause
+collect f [] = Ok []
+collect f (x ∷ xs) = and_then (f x) (λ o. and_then (collect f xs) (λ more. Ok (cons_option o more)))
+
+-- what f gives of a row whose filter is true
+abbrev pub on_match : {B : Type 0} → TableDef → List Binding → Option Expr → (Entry → Result B Cause) → Entry → Result (Option B) Cause
+on_match def vars filter f e = and_then (passes (in_row def e.1 vars) filter) (λ b. if b then and_then (f e) (λ x. Ok (Some x)) else Ok None)
+
+abbrev pub set_field : List Field → List ℕ → Value → List Value → List Value
+set_field [] c v vs = vs
+set_field (f ∷ fs) c v [] = []
+set_field (f ∷ fs) c v (w ∷ ws) = (if is_same_name c f.name then v else w) ∷ set_field fs c v ws
+
+-- each set's expression on the old row, in the order written
+abbrev pub with_sets : TableDef → Visible → List Set → List Value → Result (List Value) Cause
+with_sets def old [] row = Ok row
+with_sets def old (s ∷ sets) row = and_then (value_of old s.value) (λ v. with_sets def old sets (set_field def.columns s.column v row))
+
+-- the sets and the checks of a row
+abbrev pub updated : TableDef → List Binding → List Set → Entry → Result Change Cause
+updated def vars sets e = and_then (with_sets def (in_row def e.1 vars) sets e.1) (λ new. and_then (checked (in_row def new []) def.checks) (λ b. Ok (change_to e.0 (Some new))))
+
+abbrev pub removed : Entry → Result Change Cause
+removed e = Ok (change_to e.0 None)
+
+abbrev pub seen : Entry → Result (List Value) Cause
+seen e = Ok e.1
+
+abbrev pub column_of : TableDef → List ℕ → List Value → Value
+column_of def c row = unwrap_or (value_named c (named_values def.columns row)) (Int (pos 0))
+
+abbrev pub total : List Value → ℤ
+total [] = pos 0
+total (v ∷ vs) = int_in v +ℤ total vs
+
+abbrev pub least : List Value → Option Value
+least [] = None
+least (v ∷ vs) = elim (least vs) [ None ↦ Some v | Some w ↦ Some (if is_value_below w v then w else v) ]
+
+abbrev pub most_value : List Value → Option Value
+most_value [] = None
+most_value (v ∷ vs) = elim (most_value vs) [ None ↦ Some v | Some w ↦ Some (if is_value_below v w then w else v) ]
+
+abbrev pub shown : TableDef → What → List (List Value) → Result Answer Cause
+shown def All rows = Ok (Rows rows)
+shown def (Columns names) rows = Ok (Rows (map (λ row. map (λ c. column_of def c row) names) rows))
+shown def Count rows = Ok (Cell (Some (Int (pos (length rows)))))
+shown def (Sum c) rows = let t = total (map (column_of def c) rows) in (if is_int64 t then Ok (Cell (Some (Int t))) else Err Overflow)
+shown def (Min c) rows = Ok (Cell (least (map (column_of def c) rows)))
+shown def (Max c) rows = Ok (Cell (most_value (map (column_of def c) rows)))
+
+abbrev pub set_var : List ℕ → Value → List Binding → List Binding
+set_var n v [] = []
+set_var n v (b ∷ bs) = if is_same_name n b.name then record { name = n; value = v } ∷ bs else b ∷ set_var n v bs
+
+abbrev pub inserted : ℕ → TableDef → List Binding → List Entry → List Value → Result Done Cause
+inserted t def vars [] row = and_then (checked (in_row def row []) def.checks) (λ b. Ok (record { answer = Count 1; changes = change_to (place t (key_of row)) (Some row) ∷ []; vars = vars }))
+inserted t def vars (e ∷ es) row = Err Duplicate
+
+abbrev pub stored : TableDef → List Binding → List ℕ → List ℕ → List Entry → Result Done Cause
+stored def vars c v [] = Err Missing
+stored def vars c v (e ∷ es) = let x = column_of def c e.1 in Ok (record { answer = Stored x; changes = []; vars = set_var v x vars })
+
+abbrev pub changing : List Binding → List Change → Done
+changing vars changes = record { answer = Count (length changes); changes = changes; vars = vars }
 
 -- doing a statement, given the entries in its reach
-abbrev pub do_in : ℕ → List Binding → Statement → List Entry → Result Done Cause
-do_in t vars (Insert name es) rows = and_then (values_of vars es) (inserted t vars rows)
-do_in t vars (Select what name scan) rows =
-    and_then (range_of vars scan.bound) (λ r. Ok (record { answer = shown what (map (λ e. e.1) rows); changes = []; vars = vars }))
+abbrev pub do_in : ℕ → TableDef → List Binding → Statement → List Entry → Result Done Cause
+do_in t def vars (Insert name es) rows = and_then (values_of (no_row vars) es) (inserted t def vars rows)
+do_in t def vars (Select what name scan) rows =
+    and_then (range_of vars scan.bound) (λ r. and_then (collect (on_match def vars scan.filter seen) rows) (λ found. and_then (shown def what found) (λ a. Ok (answering vars a))))
+do_in t def vars (SelectInto c v name key) rows = and_then (value_of (no_row vars) key) (λ k. stored def vars c v rows)
+do_in t def vars (Update name sets scan) rows =
+    and_then (range_of vars scan.bound) (λ r. and_then (collect (on_match def vars scan.filter (updated def vars sets)) rows) (λ changes. Ok (changing vars changes)))
+do_in t def vars (Delete name scan) rows =
+    and_then (range_of vars scan.bound) (λ r. and_then (collect (on_match def vars scan.filter removed) rows) (λ changes. Ok (changing vars changes)))
+do_in t def vars (Ensure e) rows = and_then (truth_of (no_row vars) e) (λ b. if b then Ok (answering vars Answer.Held) else Err Cause.Ensure)
 
--- no statement whose table is not known is done: such a line is refused
 abbrev pub do_at : List Binding → Statement → Option (ℕ × TableDef) → List Entry → Done
-do_at vars st None rows = record { answer = Rows []; changes = []; vars = vars }
-do_at vars st (Some d) rows = done vars (do_in d.0 vars st rows)
+do_at vars (Ensure e) d rows = done vars (do_in 0 (record { name = []; columns = []; checks = [] }) vars (Ensure e) rows)
+do_at vars st None rows = failing vars Missing
+do_at vars st (Some d) rows = done vars (do_in d.0 d.1 vars st rows)
 
 -- doing a statement on the tables: it sees the entries in its reach, and no others
-abbrev pub outcome_of : List TableDef → Tables → List Binding → Statement → Done
-outcome_of schema tables vars st = do_at vars st (table_named (table_in st) schema) (rows_in (reach_of schema vars st) tables)
+unfoldable pub do_statement : List TableDef → Tables → List Binding → Statement → Done
+do_statement schema tables vars st = do_at vars st (table_for schema st) (rows_in (reach schema vars st) tables)
 
 -- what doing statements one after another gives
 pub record Run : Type 0 where
   pub answers : List Answer
   pub tables : Tables
   pub vars : List Binding
+  pub changes : Edits
   pub reaches : List Reach
 
 abbrev pub has_failed : Answer → Bool
@@ -122,14 +229,15 @@ after_done r reach d = record {
   answers = r.answers ++ d.answer ∷ [];
   tables = with_changes d.changes r.tables;
   vars = d.vars;
+  changes = put_changes d.changes r.changes;
   reaches = r.reaches ++ list_of reach;
 }
 
 abbrev pub doing : List TableDef → Run → Statement → Done
-doing schema r st = outcome_of schema r.tables r.vars st
+doing schema r st = do_statement schema r.tables r.vars st
 
 abbrev pub with_done : List TableDef → Run → Statement → Run
-with_done schema r st = after_done r (reach_of schema r.vars st) (doing schema r st)
+with_done schema r st = after_done r (reach schema r.vars st) (doing schema r st)
 
 -- a fold, which ends at the first failed answer
 abbrev pub run_on : List TableDef → List Statement → Run → Run
@@ -137,7 +245,7 @@ run_on schema [] r = r
 run_on schema (st ∷ sts) r = if has_failed (doing schema r st).answer then with_done schema r st else run_on schema sts (with_done schema r st)
 
 abbrev pub run_from : Tables → List Binding → Run
-run_from tables vars = record { answers = []; tables = tables; vars = vars; reaches = [] }
+run_from tables vars = record { answers = []; tables = tables; vars = vars; changes = no_edits; reaches = [] }
 
 abbrev pub serial : List TableDef → Tables → List Binding → List Statement → Run
 serial schema tables vars sts = run_on schema sts (run_from tables vars)

@@ -1,12 +1,15 @@
--- Tables: a finite map from places, a table and a key, to rows, as the list of its entries in order of table and key.
-use Rattle.salt_model.specs.declared.tables.Place.{Place}
+-- Tables: a finite map from places to rows, as the list of its entries in order of table and key.
+use Rattle.salt_model.specs.declared.locks.Reach.{Reach}
+use Rattle.salt_model.specs.declared.places.Place.{Place}
+use Rattle.salt_ranges.specs.Ranges.{has_key}
 use Rattle.salt_values.specs.Value.{value_cmp, value_total}
-use Rattle.salt_values.specs.declared.value.Value.{Value}
+use Rattle.salt_values.specs.declared.change.Change.{Change}
 use Rattle.salt_values.specs.declared.value.Value.TheVariants.{Int}
+use Rattle.salt_values.specs.declared.value.Value.{Value}
 use Rattle.std.specs.Cmp.{IsTotalOrder, nat_cmp_total, on_total, then_total}
 use Rattle.std.specs.FinMap.Entries.{find, is_sorted, is_sorted-put, is_sorted-where_key, put, where_key}
-use Rattle.std.specs.Ordering.{is_eq, is_gt, nat_cmp, on, then_cmp}
-use Rattle.std.specs.Prelude.{Bool, List, None, Option, Some, [], not, pos, true, ℕ, ◌&&◌, ◌==◌, ◌∷◌}
+use Rattle.std.specs.Ordering.{is_eq, nat_cmp, on, then_cmp}
+use Rattle.std.specs.Prelude.{Bool, List, None, Option, Some, [], not, pos, ℕ, ◌&&◌, ◌==◌, ◌∷◌}
 use Rattle.std.specs.declared.cmp.Ordering.{Ordering}
 use lib.Dec.{T}
 
@@ -53,38 +56,6 @@ is_other p q = not (is_eq (place_cmp p q))
 abbrev pub remove_at : Place → Tables → Tables
 remove_at p es = record { list = where_key place_cmp (is_other p) es.list; sorted = is_sorted-where_key place_cmp (is_other p) es.list es.sorted }
 
--- keys from lo to hi, both inside; where an end is none, all to that side
-pub record KeyRange : Type 0 where
-  pub lo : Option Value
-  pub hi : Option Value
-
-abbrev pub is_at_most : Value → Value → Bool
-is_at_most v w = not (is_gt (value_cmp v w))
-
-abbrev pub is_above_low : Option Value → Value → Bool
-is_above_low None v = true
-is_above_low (Some lo) v = is_at_most lo v
-
-abbrev pub is_below_high : Option Value → Value → Bool
-is_below_high None v = true
-is_below_high (Some hi) v = is_at_most v hi
-
-abbrev pub has_key : KeyRange → Value → Bool
-has_key r k = is_above_low r.lo k && is_below_high r.hi k
-
-abbrev pub one_key : Value → KeyRange
-one_key k = record { lo = Some k; hi = Some k }
-
-pub data Mode : Type 0 where
-  Read : Mode
-  Write : Mode
-
--- what a statement reaches: one range of one table, to read or to write
-pub record Reach : Type 0 where
-  pub table : ℕ
-  pub range : KeyRange
-  pub mode : Mode
-
 abbrev pub is_within : Reach → Place → Bool
 is_within r p = (r.table == p.table) && has_key r.range p.key
 
@@ -93,16 +64,36 @@ abbrev pub rows_in : Option Reach → Tables → List Entry
 rows_in None es = []
 rows_in (Some r) es = where_key place_cmp (is_within r) es.list
 
--- a place's new row, or its removal
-pub record Change : Type 0 where
-  pub at : Place
-  pub row : Option (List Value)
+abbrev pub changed_at : Change → Place
+changed_at c = place c.table c.key
 
 abbrev pub set_row : Place → Option (List Value) → Tables → Tables
 set_row p None es = remove_at p es
 set_row p (Some row) es = put_row p row es
 
+abbrev pub make_change : Change → Tables → Tables
+make_change c es = set_row (changed_at c) c.row es
+
 -- the tables with changes made, in order
-abbrev pub with_changes : List Change → Tables → Tables
+unfoldable pub with_changes : List Change → Tables → Tables
 with_changes [] es = es
-with_changes (c ∷ cs) es = with_changes cs (set_row c.at c.row es)
+with_changes (c ∷ cs) es = with_changes cs (make_change c es)
+
+-- what changes make of tables: at each place that they change a row, or its removal
+pub record Edits : Type 0 where
+  pub list : List (Place × Option (List Value))
+  pub sorted : T (is_sorted place_cmp list)
+
+abbrev pub no_edits : Edits
+no_edits = record { list = []; sorted = tt }
+
+abbrev pub put_change : Change → Edits → Edits
+put_change c ds = record { list = put place_cmp (changed_at c) c.row ds.list; sorted = is_sorted-put place_cmp place_total (changed_at c) c.row ds.list ds.sorted }
+
+abbrev pub put_changes : List Change → Edits → Edits
+put_changes [] ds = ds
+put_changes (c ∷ cs) ds = put_changes cs (put_change c ds)
+
+-- the row at a place under edits of tables
+abbrev pub row_under : Edits → Tables → Place → Option (List Value)
+row_under ds es p = elim (find place_cmp p ds.list) [ None ↦ row_at p es | Some row ↦ row ]

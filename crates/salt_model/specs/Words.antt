@@ -1,26 +1,49 @@
--- Small words on options, results, lists and names.
+-- Small words on lists, names and numbers of units.
+use Rattle.salt_values.specs.Id.{is_older, is_same_id}
 use Rattle.salt_values.specs.declared.id.Id.{Id}
-use Rattle.std.specs.Str.{bytes_eq}
-use Rattle.std.specs.Prelude.{Bool, Err, List, None, Ok, Option, Result, Some, false, true, ℕ, ◌&&◌, ◌==◌}
+use Rattle.std.specs.List.{filter, list_all, list_any}
+use Rattle.std.specs.Prelude.{Bool, Err, List, None, Ok, Option, Result, Some, [], false, if◌then◌else◌, not, suc, true, zero, ℕ, ⊤, ◌∷◌}
 
--- the first of two answers that is one
-abbrev pub or_else : {A : Type 0} → Option A → Option A → Option A
-or_else (Some x) other = Some x
-or_else None other = other
+abbrev pub first_of_list : {A : Type 0} → List A → Option A
+first_of_list [] = None
+first_of_list (x ∷ xs) = Some x
 
--- what is given, where the test holds
-abbrev pub when : {A : Type 0} → Bool → A → Option A
-when true x = Some x
-when false x = None
+abbrev pub is_empty : {A : Type 0} → List A → Bool
+is_empty [] = true
+is_empty (x ∷ xs) = false
 
--- what f gives of what was given, or the cause
+-- and_then r f: f of what r gives, or r's cause
 abbrev pub and_then : {A B E : Type 0} → Result A E → (A → Result B E) → Result B E
 and_then (Ok x) f = f x
 and_then (Err e) f = Err e
 
--- two rows of bytes are one
-abbrev pub is_same_name : List ℕ → List ℕ → Bool
-is_same_name = bytes_eq
+abbrev pub has_id : Id → List Id → Bool
+has_id u ids = list_any (is_same_id u) ids
 
-abbrev pub is_same_id : Id → Id → Bool
-is_same_id a b = (a.boot == b.boot) && (a.seq == b.seq)
+-- u put into a list in order of names, once
+abbrev pub insert_id : Id → List Id → List Id
+insert_id u [] = u ∷ []
+insert_id u (v ∷ vs) = if is_older u v then u ∷ v ∷ vs else (if is_same_id u v then v ∷ vs else v ∷ insert_id u vs)
+
+-- the names in order, each once
+abbrev pub in_order : List Id → List Id
+in_order [] = []
+in_order (u ∷ us) = insert_id u (in_order us)
+
+abbrev pub greatest : List Id → Option Id
+greatest [] = None
+greatest (u ∷ us) = elim (greatest us) [ None ↦ Some u | Some v ↦ Some (if is_older u v then v else u) ]
+
+-- the elements of the second list that are not in the first
+abbrev pub without : List Id → List Id → List Id
+without seen ids = filter (λ u. not (has_id u seen)) ids
+
+-- a fact of each element
+abbrev pub Every : {A : Type 0} → (A → Type 0) → List A → Type 0
+Every P [] = ⊤
+Every P (x ∷ xs) = P x × Every P xs
+
+-- a list without those that the test on what is left drops, again and again
+abbrev pub shrink : {A : Type 0} → (List A → A → Bool) → ℕ → List A → List A
+shrink test zero xs = xs
+shrink test (suc n) xs = elim (list_all (test xs) xs) [ true ↦ xs | false ↦ shrink test n (filter (test xs) xs) ]

@@ -1,17 +1,19 @@
-//! The story that a run prints: its events, the trees of its lines, and what a story has to be (in specs/).
+//! The story that a run prints: its events, and what a story has to be (in specs/).
 #![tactic(auto)]
 
 mod events;
-mod laws;
-mod tables;
-mod trees;
+mod locks;
+mod places;
+mod shown;
+mod vars;
 
-pub use events::{Answer, Cause, End, Event, Flight, Refusal, Story, UnitKind};
-pub use laws::played_is_honest;
-pub use tables::Place;
-pub use trees::{
-    Act, Bound, ColType, Expr, Exprs, Field, Fields, Line, Scan, Statement, TableDef, What,
+pub use events::{
+    Answer, Cause, End, Event, Flight, Owner, Owners, Refusal, Story, UnitKind, Why,
 };
+pub use locks::{Family, Lock, Mode, Reach};
+pub use places::Place;
+pub use shown::{BaseAt, Item, Items};
+pub use vars::{Binding, Vars};
 
 #[cfg(test)]
 mod tests;

@@ -1,3 +1,4 @@
+pub mod Id
 pub mod Text
 pub mod Value
 pub mod Placement

@@ -5,8 +5,8 @@ use Rattle.salt_values.specs.declared.value.Value.TheVariants.{Int, Text}
 use Rattle.std.specs.Cmp.{IsTotalOrder, int_cmp_total, nat_cmp_total, on_total, then_total}
 use Rattle.std.specs.Cmp.Lexicographic.{nat_list_cmp_total, slice_cmp}
 use Rattle.std.specs.Int.{w64}
-use Rattle.std.specs.Ordering.{int_cmp, nat_cmp, on, then_cmp}
-use Rattle.std.specs.Prelude.{FitsSigned, List, [], pos, true, ℕ, ℤ, ◌≡◌}
+use Rattle.std.specs.Ordering.{int_cmp, is_eq, is_gt, is_lt, nat_cmp, on, then_cmp}
+use Rattle.std.specs.Prelude.{Bool, FitsSigned, List, [], not, pos, true, ℕ, ℤ, ◌≡◌}
 use Rattle.std.specs.declared.cmp.Ordering.{Ordering}
 
 -- a number of 64 bits, or a text
@@ -33,3 +33,12 @@ value_cmp = then_cmp (on kind_number nat_cmp) (then_cmp (on int_in int_cmp) (on 
 
 pub value_total : IsTotalOrder value_cmp
 value_total = then_total (on_total kind_number nat_cmp_total) (then_total (on_total int_in int_cmp_total) (on_total text_in nat_list_cmp_total))
+
+abbrev pub is_same_value : Value → Value → Bool
+is_same_value v w = is_eq (value_cmp v w)
+
+abbrev pub is_value_below : Value → Value → Bool
+is_value_below v w = is_lt (value_cmp v w)
+
+abbrev pub is_value_at_most : Value → Value → Bool
+is_value_at_most v w = not (is_gt (value_cmp v w))

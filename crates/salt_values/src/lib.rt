@@ -1,12 +1,16 @@
 //! Values, rows, names and numbers of units, as every layer sees them.
 #![tactic(auto)]
 
+mod change;
+mod cont;
 mod copy;
 mod id;
 mod placement;
 mod text;
 mod value;
 
+pub use change::{Change, Changes};
+pub use cont::{Cont, Conts};
 pub use copy::TryCopy;
 pub use id::{Id, Ids};
 pub use placement::{PlaceKind, Placement, Shape, place_of};

@@ -1,0 +1,69 @@
+-- The clause of a whole run, over the log that lines and story are those of.
+use Rattle.salt_model.specs.After.{keep, kept, stage}
+use Rattle.salt_model.specs.Continuing.{Continued, ReleasesRight}
+use Rattle.salt_model.specs.Decided.{KeptStory}
+use Rattle.salt_model.specs.Honest.{Honest}
+use Rattle.salt_model.specs.Isolation.{Salted, Whole}
+use Rattle.salt_model.specs.Kept.{Kept}
+use Rattle.salt_model.specs.Locks.{NoneConflict, held}
+use Rattle.salt_model.specs.Log.{Asked, Log, Start, lines_of, start_of, story_of}
+use Rattle.salt_model.specs.Next.{flight, next}
+use Rattle.salt_model.specs.Phases.{Phase, Serving, phase}
+use Rattle.salt_model.specs.Played.{IsComplete, Played, is_device_next}
+use Rattle.salt_model.specs.Releasing.{ReleasesAll}
+use Rattle.salt_model.specs.declared.events.Event.{Event}
+use Rattle.std.specs.Prelude.{Bool, IsTrue, List, None, Option, Some, false, not, true, ⊤, ◌||◌, ◌≡◌, ◌⊎◌}
+
+-- how a run may end: between lines, anywhere, within an opening, where devices are used, or where the output failed
+pub data Leave : Type 0 where
+  AtLineEnd : Leave
+  AnyPlace : Leave
+  InAnOpening : Leave
+  AtDevices : Leave
+  AtOutput : Leave
+
+abbrev pub is_serving : Phase → Bool
+is_serving Serving = true
+is_serving phase = false
+
+abbrev pub MayLeave : Leave → Log → Type 0
+MayLeave AtLineEnd log = IsComplete log
+MayLeave AnyPlace log = ⊤
+MayLeave InAnOpening log = is_serving (phase log) ≡ false
+MayLeave AtDevices log = IsTrue (not (is_serving (phase log)) || is_device_next log (next log))
+MayLeave AtOutput log = IsComplete log ⊎ IsTrue (not (is_serving (phase log)) || is_device_next log (next log))
+
+pub record AllHold (k : Start) (lines : List Asked) (story : List Event) (leave : Leave) (log : Log) : Type 0 where
+  pub start : start_of log ≡ k
+  pub lines_done : lines_of log ≡ lines
+  pub tells : story_of log ≡ story
+  pub played : Played log
+  pub leaves : MayLeave leave log
+  pub honest : Honest log
+  pub salted : Salted log
+  pub whole : Whole log
+  pub apart : NoneConflict (held log)
+  pub released : ReleasesRight log
+  pub releasable : ReleasesAll log
+  pub continued : Continued log
+  pub kept_story : KeptStory log
+
+-- lines and story are those of a log for which all of this holds
+abbrev pub Headline : Start → List Asked → List Event → Leave → Type 0
+Headline k lines story leave = (log : Log) × AllHold k lines story leave log
+
+-- what devices may stand for at the end of a log: what is kept there, with or without the flight
+abbrev pub kept_with : Log → Option Event → Kept
+kept_with log None = kept log
+kept_with log (Some e) = keep log e (stage log)
+
+abbrev pub IsSameKept : Kept → Kept → Type 0
+IsSameKept a b = (a.decisions ≡ b.decisions) × (a.definitions ≡ b.definitions) × (a.tables ≡ b.tables) × (a.conts ≡ b.conts)
+
+-- the images of devices and what they stand for are the disk's: parameters here
+module _ (Image : Type 0) (stands : Image → Option Kept) where
+  abbrev pub StandsFor : Image → Kept → Type 0
+  StandsFor b k = (found : Kept) × (stands b ≡ Some found) × IsSameKept found k
+
+  abbrev pub ImagesStand : (Image → Type 0) → Log → Type 0
+  ImagesStand may_be log = (b : Image) → may_be b → StandsFor b (kept log) ⊎ StandsFor b (kept_with log (flight log))

@@ -1,0 +1,105 @@
+-- Turns: which statement a unit asks for. Who waits for whom, and the victim.
+use Rattle.salt_ast.specs.Words.{or_else}
+use Rattle.salt_ast.specs.declared.lines.Act.TheVariants.{Do}
+use Rattle.salt_ast.specs.declared.lines.Act.{Act}
+use Rattle.salt_ast.specs.declared.lines.Line.TheVariants.{Session}
+use Rattle.salt_ast.specs.declared.lines.Line.{Line}
+use Rattle.salt_ast.specs.declared.programs.Body.TheVariants.{Base}
+use Rattle.salt_ast.specs.declared.trees.Statement.{Statement}
+use Rattle.salt_model.specs.After.{kept}
+use Rattle.salt_model.specs.Kept.{block_of_kind}
+use Rattle.salt_model.specs.Locks.{clashing}
+use Rattle.salt_model.specs.Log.{Log, Standing, Waiting, done_of, is_of_program, kind_of, line_of, line_waited, program_of, standing, wait_list}
+use Rattle.salt_model.specs.Reads.{is_finished, sources}
+use Rattle.salt_model.specs.Words.{greatest, has_id, in_order, is_empty}
+use Rattle.salt_model.specs.declared.events.Owner.TheVariants.{Base, Unit}
+use Rattle.salt_model.specs.declared.events.Owner.{Owner}
+use Rattle.salt_model.specs.declared.shown.Item.TheVariants.{Base}
+use Rattle.salt_values.specs.Id.{is_same_id}
+use Rattle.salt_values.specs.declared.id.Id.{Id}
+use Rattle.std.specs.List.{filter, find, flat_map, list_any}
+use Rattle.std.specs.Prelude.{Bool, List, None, Option, Some, [], if◌then◌else◌, is_none, length, map, not, option_and_then, slice_get, suc, zero, ℕ, ◌&&◌, ◌++◌, ◌∷◌}
+
+abbrev pub statement_of_act : Act → Option Statement
+statement_of_act (Do st) = Some st
+statement_of_act act = None
+
+-- the statement of a session's line
+abbrev pub statement_of_line : Line → Option Statement
+statement_of_line (Session s act) = statement_of_act act
+statement_of_line line = None
+
+-- the line whose statement a session's unit asks for: that of its Waits, or this one
+abbrev pub asking_line : Id → Log → Standing → Line
+asking_line u log Waiting = line_waited u log
+asking_line u log s = line_of log
+
+-- the statement after those done, of a block; without a block, that of the line
+abbrev pub statement_in : Id → Log → Option (List Statement) → Option Statement
+statement_in u log (Some block) = slice_get block (length (done_of u log))
+statement_in u log None = statement_of_line (asking_line u log (standing u log))
+
+abbrev pub block_of : Id → Log → Option (List Statement)
+block_of u log = option_and_then (block_of_kind (kept log)) (kind_of u log)
+
+-- the statement that an open unit asks for
+abbrev pub asked_by : Id → Log → Option Statement
+asked_by u log = statement_in u log (block_of u log)
+
+abbrev pub clashing_now : Log → Id → List Owner
+clashing_now log u = elim (asked_by u log) [ None ↦ [] | Some st ↦ clashing log u st ]
+
+abbrev pub is_waiting_for : Log → Id → Id → Bool
+is_waiting_for log b u = is_of_program b log u
+
+-- the waiting subtransactions of the unfinished programs among these
+abbrev pub waiting_of : Log → List Id → List Id
+waiting_of log bs = filter (λ u. list_any (λ b. not (is_finished log b) && is_of_program b log u) bs) (wait_list log)
+
+abbrev pub edges_to : Log → Owner → List Id
+edges_to log (Unit v) = v ∷ []
+edges_to log (Base c) = waiting_of log (sources log c)
+
+-- a waiting unit and the units that it waits for
+pub record WaitUnit : Type 0 where
+  pub unit : Id
+  pub acid : Bool
+  pub edges : List Id
+
+abbrev pub is_acid : Log → Id → Bool
+is_acid log u = is_none (program_of u log)
+
+abbrev pub wait_unit : Log → Id → WaitUnit
+wait_unit log u = record { unit = u; acid = is_acid log u; edges = flat_map (edges_to log) (clashing_now log u) }
+
+-- the graph of the waiting units
+abbrev pub wait_graph : Log → List WaitUnit
+wait_graph log = map (wait_unit log) (wait_list log)
+
+abbrev pub edges_in : List WaitUnit → Id → List Id
+edges_in [] u = []
+edges_in (w ∷ ws) u = if is_same_id u w.unit then w.edges else edges_in ws u
+
+abbrev pub led_to : ℕ → List WaitUnit → List Id → List Id
+led_to zero graph seen = seen
+led_to (suc n) graph seen = led_to n graph (in_order (seen ++ flat_map (edges_in graph) seen))
+
+-- a unit lies on a cycle: its edges lead back to it
+abbrev pub is_on_cycle : List WaitUnit → WaitUnit → Bool
+is_on_cycle graph w = has_id w.unit (led_to (length graph) graph w.edges)
+
+abbrev pub names_of : List WaitUnit → List Id
+names_of ws = map (λ w. w.unit) ws
+
+-- the youngest ACID unit on a cycle; if there is none, the youngest subtransaction
+abbrev pub victim_of : List WaitUnit → Option Id
+victim_of graph =
+    let on = filter (is_on_cycle graph) graph in
+    or_else (greatest (names_of (filter (λ w. w.acid) on))) (greatest (names_of on))
+
+abbrev pub victim : Log → Option Id
+victim log = victim_of (wait_graph log)
+
+-- the longest waiting unit whose statement no longer clashes
+abbrev pub next_served : Log → Option Id
+next_served log = find (λ u. is_empty (clashing_now log u)) (wait_list log)

@@ -1,0 +1,6 @@
+//! Ranges of keys.
+#![tactic(auto)]
+
+mod range;
+
+pub use range::KeyRange;

@@ -1,0 +1,22 @@
+//! Where BASE programs go on.
+
+use crate::id::Id;
+use crate::value::{Name, Row};
+use sqlite_items::Items;
+
+/// Where a BASE program goes on that is accepted and not finished.
+#[derive(Drop)]
+pub struct Cont {
+    pub base: Id,
+    /// The number of the decision that accepted it.
+    pub accepted: u64,
+    pub program: Name,
+    pub args: Row,
+    /// The values of the program's variables.
+    pub vars: Row,
+    /// The part that comes next, where the first is 1.
+    pub next: u32,
+}
+
+/// Continuations, in the order of acceptance.
+pub type Conts = Items<Cont>;
