@@ -1,0 +1,46 @@
+-- A unit that no event of a log names is new there; and a fact of an event that may come.
+use Rattle.salt_ast.specs.Words.{or_else, when}
+use Rattle.salt_laws.specs.Names.{is_named, is_unit_of}
+use Rattle.salt_model.specs.Log.{Log, Never, Standing, from, standing, standing_after, ◌asks◌, ◌says◌, ◌turns◌}
+use Rattle.salt_model.specs.declared.events.Event.TheVariants.{Began, Did, Ended, Waits}
+use Rattle.salt_model.specs.declared.events.Event.{Event}
+use Rattle.salt_values.specs.declared.id.Id.{Id}
+use Rattle.std.proofs.Common.{◌∙◌}
+use Rattle.std.specs.Prelude.{Bool, None, Option, Some, false, option_map, refl, true, ⊤, ◌||◌, ◌≡◌}
+
+pub or_left : (p q : Bool) → (p || q) ≡ false → p ≡ false
+or_left true q h = h
+or_left false q h = refl
+
+pub or_right : (p q : Bool) → (p || q) ≡ false → q ≡ false
+or_right true q h = cc
+or_right false q h = h
+
+standing-other : (u : Id) (e : Event) (s : Standing) → is_unit_of u e ≡ false → standing_after u e s ≡ s
+standing-other u (Began v kind) s h = rw h refl
+standing-other u (Did v st answer) s h = rw h refl
+standing-other u (Waits v owners) s h = rw h refl
+standing-other u (Ended v end) s h = rw h refl
+standing-other u e s h = refl
+
+pub standing-new : (u : Id) (log : Log) → is_named u log ≡ false → standing u log ≡ Never
+standing-new u (from k) h = refl
+standing-new u (log asks line) h = standing-new u log h
+standing-new u (log turns b) h = standing-new u log h
+standing-new u (log says e) h = standing-other u e (standing u log) (or_left _ _ h) ∙ standing-new u log (or_right (is_unit_of u e) _ h)
+
+abbrev pub IfComes : (Event → Type 0) → Option Event → Type 0
+IfComes P None = ⊤
+IfComes P (Some e) = P e
+
+pub comes-or_else : (P : Event → Type 0) (o other : Option Event) → IfComes P o → IfComes P other → IfComes P (or_else o other)
+comes-or_else P None other h g = g
+comes-or_else P (Some e) other h g = h
+
+pub comes-map : {A : Type 0} (P : Event → Type 0) (f : A → Event) (o : Option A) → ((a : A) → P (f a)) → IfComes P (option_map f o)
+comes-map P f None h = tt
+comes-map P f (Some a) h = h a
+
+pub comes-when : (P : Event → Type 0) (b : Bool) (e : Event) → P e → IfComes P (when b e)
+comes-when P true e h = h
+comes-when P false e h = tt

@@ -1,0 +1,95 @@
+-- The pruned list of the programs to release is that of the releasable ones.
+use Rattle.salt_laws.proofs.Ids.{is_same_id-true}
+use Rattle.salt_laws.proofs.Lists.{In, PassesSelf, all-in, either, has-in, in-has, in-order, in-shrink, in-without, into-all, into-filter, into-shrink, or_cases, or_right_true, shrink-ends}
+use Rattle.salt_laws.proofs.NextFits.{Fits}
+use Rattle.salt_laws.proofs.Reading.{Salty}
+use Rattle.salt_laws.proofs.Salted.{OfBoots, holds, may-fit}
+use Rattle.salt_laws.proofs.Sound.{to_release-finished}
+use Rattle.salt_model.specs.Log.{Log, finished_in, from, released_in, start_of, ◌asks◌, ◌says◌, ◌turns◌}
+use Rattle.salt_model.specs.Played.{Played}
+use Rattle.salt_model.specs.Reads.{read_directly, reads_within, to_release}
+use Rattle.salt_model.specs.Releasing.{IsReleasable, NamesReleasable, ReadsThrough, ReleasesAll, itself, through}
+use Rattle.salt_model.specs.Words.{has_id, in_order, insert_id, without}
+use Rattle.salt_model.specs.declared.events.Event.TheVariants.{Released}
+use Rattle.salt_model.specs.declared.events.Event.{Event}
+use Rattle.salt_values.specs.Id.{is_older, is_same_id}
+use Rattle.salt_values.specs.declared.id.Id.{Id}
+use Rattle.std.proofs.Common.{arith, inl, inr, subst, sym, ◌∙◌}
+use Rattle.std.specs.Prelude.{Bool, IsTrue, List, [], cond, false, length, not, refl, true, ◌||◌, ◌↔◌, ◌∷◌, ◌≡◌, ◌⊎◌}
+
+into-insert : (x u : Id) (vs : List Id) → In x (u ∷ vs) → In x (insert_id u vs)
+into-insert x u [] h = h
+into-insert x u (v ∷ vs) h = go (into-insert x u vs) (is_older u v) (is_same_id u v) refl h
+  where
+    go : (In x (u ∷ vs) → In x (insert_id u vs)) → (b c : Bool) → is_same_id u v ≡ c → In x (u ∷ v ∷ vs) → In x (cond b (u ∷ v ∷ vs) (cond c (v ∷ vs) (v ∷ insert_id u vs)))
+    go more true c e g = g
+    go more false true e (inl s) = inl (sym (is_same_id-true u v e) ∙ s)
+    go more false true e (inr g) = g
+    go more false false e (inl s) = inr (more (inl s))
+    go more false false e (inr (inl s)) = inl s
+    go more false false e (inr (inr g)) = inr (more (inr g))
+
+into-order : (x : Id) (us : List Id) → In x us → In x (in_order us)
+into-order x [] h = h
+into-order x (u ∷ us) (inl e) = into-insert x u (in_order us) (inl e)
+into-order x (u ∷ us) (inr h) = into-insert x u (in_order us) (inr (into-order x us h))
+
+module _ (log : Log) where
+  abbrev start : List Id
+  start = in_order (without (released_in log) (finished_in log))
+
+  abbrev Out : Id → Type 0
+  Out b = In b (to_release log) ⊎ In b (released_in log)
+
+  out-next : (b c : Id) → ((x y : Id) → In x (released_in log) → In y (read_directly x log) → In y (released_in log)) → Out b → In c (read_directly b log) → Out c
+  out-next b c closed (inl i) h =
+      let all : PassesSelf (reads_within log) (to_release log) = shrink-ends (reads_within log) _ start (omega arith) in
+      let one : reads_within log (to_release log) b ≡ true = all-in (reads_within log (to_release log)) b (to_release log) all i in
+      let mine : (has_id c (to_release log) || has_id c (released_in log)) ≡ true = all-in _ c (read_directly b log) one h in
+      either (λ g. inl (has-in c _ g)) (λ g. inr (has-in c _ g)) (or_cases (has_id c (to_release log)) _ mine)
+  out-next b c closed (inr r) h = inr (closed b c r h)
+
+  out-through : (b c : Id) → ((x y : Id) → In x (released_in log) → In y (read_directly x log) → In y (released_in log)) → ReadsThrough log b c → Out b → Out c
+  out-through b c closed itself o = o
+  out-through b c closed (through {c = x} h r) o = out-through x c closed r (out-next b x closed o (has-in x _ h))
+
+  or-first : (p q : Bool) → p ≡ true → (p || q) ≡ true
+  or-first true q h = refl
+  or-first false q h = cc
+
+  out-done : (c : Id) → Out c → (has_id c (finished_in log) || has_id c (released_in log)) ≡ true
+  out-done c (inl i) = or-first (has_id c (finished_in log)) _ (in-has c _ (to_release-finished log c i))
+  out-done c (inr r) = or_right_true (has_id c (finished_in log)) _ (in-has c _ r)
+
+  abbrev Due : Id → Type 0
+  Due b = (has_id b (released_in log) ≡ false) × IsReleasable log b
+
+  due-start : (b : Id) → Due b → In b start
+  due-start b d = into-order b _ (into-filter (λ u. not (has_id u (released_in log))) b (finished_in log) (either (λ f. has-in b _ f) (λ r. absurd (let x : true ≡ false = sym r ∙ d.0 in cc)) (or_cases (has_id b (finished_in log)) _ (d.1 b itself))) (rw d.0 refl))
+
+  due-keeps : (xs : List Id) → ((b : Id) → Due b → In b xs) → (b : Id) → Due b → reads_within log xs b ≡ true
+  due-keeps xs all b d = into-all (λ c. has_id c xs || has_id c (released_in log)) (read_directly b log) (λ c h. go c (has_id c (released_in log)) refl (λ x r. d.1 x (through (in-has c _ h) r)))
+    where
+      go : (c : Id) (t : Bool) → has_id c (released_in log) ≡ t → IsReleasable log c → (has_id c xs || has_id c (released_in log)) ≡ true
+      go c true e r = or_right_true (has_id c xs) _ e
+      go c false e r = or-first (has_id c xs) _ (in-has c xs (all c (e, r)))
+
+  not-in : (b : Id) → In b (to_release log) → has_id b (released_in log) ≡ false
+  not-in b i = (in-without b (released_in log) (finished_in log) (in-order b _ (in-shrink (reads_within log) _ b start i))).1
+
+  -- exactly the releasable programs that are not released
+  pub to_release-exact : ((x y : Id) → In x (released_in log) → In y (read_directly x log) → In y (released_in log)) → (b : Id) → IsTrue (has_id b (to_release log)) ↔ ((has_id b (released_in log) ≡ false) × IsReleasable log b)
+  to_release-exact closed b = (
+    (λ h. let i = has-in b (to_release log) h in (not-in b i, (λ c r. out-done c (out-through b c closed r (inl i))))),
+    (λ d. in-has b _ (into-shrink Due (reads_within log) due-keeps (length start) start due-start b d)),
+  )
+
+names-at : (log : Log) (e : Event) → Salty log → Fits log e → NamesReleasable log e
+names-at log (Released bs) z f = λ b. subst (λ l. IsTrue (has_id b l) ↔ ((has_id b (released_in log) ≡ false) × IsReleasable log b)) (sym f.0) (to_release-exact log z.closed b)
+names-at log e z f = tt
+
+pub releases-all-played : (log : Log) → Played log → OfBoots (start_of log).kept → ReleasesAll log
+releases-all-played (from k) p w = tt
+releases-all-played (log asks line) p w = releases-all-played log p.0 w
+releases-all-played (log turns b) p w = releases-all-played log p.0 w
+releases-all-played (log says e) p w = let r = holds log p.0 w in (releases-all-played log p.0 w, names-at log e r.salty (may-fit log e r.comes p.1))

@@ -1,0 +1,69 @@
+-- What an ACID unit touches of a program's committed parts, it touches when the program is released.
+use Rattle.salt_ast.specs.Words.{when}
+use Rattle.salt_ast.specs.declared.lines.Act.TheVariants.{Call}
+use Rattle.salt_ast.specs.declared.programs.Body.TheVariants.{Acid, Base}
+use Rattle.salt_ast.specs.declared.trees.Statement.{Statement}
+use Rattle.salt_laws.proofs.Apart.{and-false, beside, touches-swap, unnot}
+use Rattle.salt_laws.proofs.Coming.{Good}
+use Rattle.salt_laws.proofs.Every.{every-map}
+use Rattle.salt_laws.proofs.Replays.{good-event, replays}
+use Rattle.salt_model.specs.After.{reach_now}
+use Rattle.salt_model.specs.Isolation.{TouchesWhole, Whole, is_committed_standing, is_program_released, is_unreleased_part, touches_unreleased}
+use Rattle.salt_model.specs.Locks.{Taken, as_held, family_of, lock_by, lock_of, saline_lock, taken_in, touches}
+use Rattle.salt_model.specs.Log.{Log, Over, Standing, from, kind_of, program_of_kind, released_in, standing, ◌asks◌, ◌says◌, ◌turns◌}
+use Rattle.salt_model.specs.Played.{Played}
+use Rattle.salt_model.specs.Words.{Every, has_id}
+use Rattle.salt_model.specs.declared.events.Answer.{Answer}
+use Rattle.salt_model.specs.declared.events.End.TheVariants.{Committed}
+use Rattle.salt_model.specs.declared.events.Event.TheVariants.{Did}
+use Rattle.salt_model.specs.declared.events.Owner.TheVariants.{Base, Unit}
+use Rattle.salt_model.specs.declared.events.UnitKind.TheVariants.{Acid, Call, First, Later}
+use Rattle.salt_model.specs.declared.events.UnitKind.{UnitKind}
+use Rattle.salt_model.specs.declared.locks.Family.TheVariants.{Acid, Saline}
+use Rattle.salt_model.specs.declared.locks.Family.{Family}
+use Rattle.salt_model.specs.declared.locks.Reach.{Reach}
+use Rattle.salt_model.specs.declared.shown.BaseAt.TheVariants.{First}
+use Rattle.salt_model.specs.declared.shown.Item.TheVariants.{Base}
+use Rattle.salt_values.specs.declared.id.Id.{Id}
+use Rattle.std.proofs.Common.{ap, sym, ◌∙◌}
+use Rattle.std.specs.List.{list_any}
+use Rattle.std.specs.Prelude.{Bool, IsTrue, List, None, Option, Some, [], false, is_none, not, option_and_then, option_map, refl, true, ◌&&◌, ◌∷◌, ◌≡◌}
+
+pub acid-family : (k : Option UnitKind) → is_none (option_and_then program_of_kind k) ≡ true → family_of k ≡ Family.Acid
+acid-family None h = refl
+acid-family (Some (Acid s)) h = refl
+acid-family (Some (Call s n args)) h = refl
+acid-family (Some (First s b n args)) h = cc
+acid-family (Some (Later b part)) h = cc
+
+any-none : {A : Type 0} (p : A → Bool) (xs : List A) → Every (λ x. p x ≡ false) xs → list_any p xs ≡ false
+any-none p [] h = refl
+any-none p (x ∷ xs) h = rw (h.0, any-none p xs h.1) refl
+
+pub untouched-part : (log : Log) (u : Id) (r : Reach) (t : Taken) (x : Standing) (k : Option UnitKind) → beside (Some (lock_of (Unit u) Family.Acid r)) (lock_by log t x k) ≡ true → (touches r t.reach && (is_committed_standing x && not (is_program_released log (option_and_then program_of_kind k)))) ≡ false
+untouched-part log u r t (Over (Committed n)) k h = by (option_and_then program_of_kind k) h
+  where
+    by : (p : Option Id) → beside (Some (lock_of (Unit u) Family.Acid r)) (saline_lock log p t.reach) ≡ true → (touches r t.reach && (true && not (is_program_released log p))) ≡ false
+    by None h = and-false (touches r t.reach)
+    by (Some b) h = at (has_id b (released_in log)) h
+      where
+        at : (v : Bool) → beside (Some (lock_of (Unit u) Family.Acid r)) (when (not v) (lock_of (Base b) Saline t.reach)) ≡ true → (touches r t.reach && (true && not v)) ≡ false
+        at true h = and-false (touches r t.reach)
+        at false h = rw (unnot (touches r t.reach) h) refl
+untouched-part log u r t x k h = and-false (touches r t.reach)
+
+touches-whole : (log : Log) (u : Id) (st : Statement) (a : Answer) → Good log (Did u st a) → TouchesWhole log (Did u st a)
+touches-whole log u st a g acid = by (reach_now u log st) g.4
+  where
+    by : (o : Option Reach) → Every (λ s. beside (option_map (lock_of (Unit u) (family_of (kind_of u log))) o) (as_held log s) ≡ true) (taken_in log) → IsTrue (not (touches_unreleased log o))
+    by None c = refl
+    by (Some r) c = ap not (any-none (λ t. touches t.reach r && is_unreleased_part log t) (taken_in log)
+        (every-map (λ s. beside (Some (lock_of (Unit u) (family_of (kind_of u log)) r)) (as_held log s) ≡ true) (λ t. (touches t.reach r && is_unreleased_part log t) ≡ false)
+        (λ t h. ap (λ b. b && is_unreleased_part log t) (touches-swap t.reach r) ∙ untouched-part log u r t (standing t.unit log) (kind_of t.unit log) (ap (λ f. beside (Some (lock_of (Unit u) f r)) (as_held log t)) (sym (acid-family (kind_of u log) acid)) ∙ h)) (taken_in log) c))
+
+pub whole : (log : Log) → Played log → Whole log
+whole (from k) p = tt
+whole (log asks line) p = whole log p.0
+whole (log turns b) p = whole log p.0
+whole (log says Did u st a) p = (whole log p.0, touches-whole log u st a (good-event log (Did u st a) (replays log p.0) p.1))
+whole (log says e) p = (whole log p.0, tt)
