@@ -26,3 +26,8 @@ pub mod Releasing
 pub mod Headline
 pub mod Walk
 pub mod Computing
+pub mod Scripts
+pub mod SessionRows
+pub mod ProgramRows
+pub mod StopRows
+pub mod RefusalRows

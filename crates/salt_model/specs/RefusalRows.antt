@@ -1,0 +1,143 @@
+-- Worked rows of refusals, and wrong rows.
+use Rattle.salt_ast.specs.Sample.{acct, field, id, part, set}
+use Rattle.salt_ast.specs.Trees.{operation}
+use Rattle.salt_ast.specs.declared.limit.LimitName.TheVariants as limit
+use Rattle.salt_ast.specs.declared.lines.Line.TheVariants as line
+use Rattle.salt_ast.specs.declared.lines.Line.{Line}
+use Rattle.salt_ast.specs.declared.programs.Body.TheVariants as body
+use Rattle.salt_ast.specs.declared.programs.ProgramDef.{ProgramDef}
+use Rattle.salt_ast.specs.declared.trees.ColType.TheVariants as kind
+use Rattle.salt_ast.specs.declared.trees.Expr.{Expr}
+use Rattle.salt_ast.specs.declared.trees.Op.TheVariants as op
+use Rattle.salt_ast.specs.declared.trees.Statement.TheVariants as statement
+use Rattle.salt_ast.specs.declared.trees.What.TheVariants as what
+use Rattle.salt_model.specs.Computing.{computing}
+use Rattle.salt_model.specs.Log.{Log, Tree, Unread, from, ◌asks◌, ◌says◌}
+use Rattle.salt_model.specs.Played.{May}
+use Rattle.salt_model.specs.Refusals.{refusal}
+use Rattle.salt_model.specs.Scripts.{accounts, all_rows, at, bal_at, base, begin, call_transfer, commit, go, insert_acct, insert_into, int}
+use Rattle.salt_model.specs.Kept.{nothing_kept}
+use Rattle.salt_model.specs.Walk.{completed, opened, printed, printed_of, walk, walk_on}
+use Rattle.salt_model.specs.declared.events.End.TheVariants as end
+use Rattle.salt_model.specs.declared.events.Event.TheVariants as event
+use Rattle.salt_model.specs.declared.events.Owner.TheVariants as owner
+use Rattle.salt_model.specs.declared.events.Refusal.TheVariants as refused
+use Rattle.salt_values.specs.declared.id.Id.{Id}
+use Rattle.std.specs.Prelude.{List, None, Some, [], codes, drop, false, pos, refl, suc, zero, ℕ, ◌++◌, ◌∷◌, ◌≡◌}
+
+-- Each of these lines is refused where the accounts and the program of transfers stand.
+
+abbrev one : Expr
+one = int 1
+
+abbrev no_branch : ProgramDef
+no_branch = record {
+  name = codes "p";
+  params = [];
+  vars = [];
+  body = body.Base (part (statement.Ensure (operation op.Equal one one) ∷ []) None None ∷ part (statement.Ensure (operation op.Equal one one) ∷ []) None None ∷ []);
+}
+
+abbrev table_of : List ℕ → Line
+table_of n = line.Table (record { name = n; columns = field id kind.Int ∷ []; checks = [] })
+
+abbrev refused_lines : List Line
+refused_lines =
+    at 1 (statement.Select what.All (codes "nosuch") all_rows) ∷
+    table_of acct ∷
+    at 1 (insert_into acct (pos 1 ∷ [])) ∷
+    at 1 (statement.Update acct (set id (int 3) ∷ []) all_rows) ∷
+    line.Program no_branch ∷
+    commit 1 ∷
+    go 1 ∷
+    begin 1 ∷
+    table_of (codes "x") ∷
+    commit 1 ∷
+    call_transfer 1 1 2 30 ∷
+    table_of (codes "x") ∷ []
+
+refused_printed : drop 10 (printed (accounts ++ refused_lines)) ≡
+    codes "refused 5 unknown nosuch" ∷
+    codes "refused 6 exists acct" ∷
+    codes "refused 7 type" ∷
+    codes "refused 7 type" ∷
+    codes "refused 8 branch 2" ∷
+    codes "refused 9 state" ∷
+    codes "refused 5 unknown b1.1" ∷
+    codes "u1.3 began @1" ∷
+    codes "refused 10 busy" ∷
+    codes "u1.3 committed 5" ∷
+    codes "u1.4 began @1 b1.1 part 1 of transfer(1, 2, 30)" ∷
+    codes "u1.4 did update acct set bal = (bal - :amt) where key = :a -> count 1" ∷
+    codes "u1.4 committed 6" ∷
+    codes "b1.1 accepted" ∷
+    codes "refused 10 busy" ∷ []
+unfolding computing
+refused_printed = refl
+
+-- What a text is refused for is told as it is.
+unread_printed : drop 2 (printed_of (walk_on (Unread refused.Long ∷ Unread refused.Byte ∷ Unread refused.Syntax ∷ []) opened)) ≡
+    codes "refused 1 long" ∷ codes "refused 2 byte" ∷ codes "refused 3 syntax" ∷ []
+unfolding computing
+unread_printed = refl
+
+-- A stop can't be armed where the disks can't be stopped.
+unstopped : refusal (completed 9 (from (record { kept = nothing_kept; can_stop = false }) says event.Opened 1 0)) (Tree (line.Crash ((1, 0) ∷ []))) ≡ Some refused.State
+unfolding computing
+unstopped = refl
+
+-- At most 1,024 programs are under way.
+
+abbrev accepting : ℕ → Log
+accepting zero = walk accounts
+accepting (suc n) = accepting n says event.Accepted (base (suc n))
+
+one_program_more : refusal (accepting 1023) (Tree (call_transfer 1 1 2 0)) ≡ None
+unfolding computing
+one_program_more = refl
+
+one_program_too_many : refusal (accepting 1024) (Tree (call_transfer 1 1 2 0)) ≡ Some (refused.Limit limit.Bases)
+unfolding computing
+one_program_too_many = refl
+
+-- WRONG ROWS, each of one event that may not stand where it stands.
+
+abbrev unit : ℕ → Id
+unit n = record { boot = 1; seq = n }
+
+-- a reader waits for the program that holds what it asks for
+abbrev asking : Log
+asking = completed 1 (walk (accounts ++ call_transfer 1 1 2 30 ∷ []) asks Tree (at 2 (bal_at 1)))
+
+waits_for_it : May asking (event.Waits (unit 4) (owner.Base (base 1) ∷ []))
+unfolding computing
+waits_for_it = refl
+
+-- and for no other
+wrong_owner : May asking (event.Waits (unit 4) (owner.Unit (unit 3) ∷ [])) → ⊥
+unfolding computing
+wrong_owner h = cc
+
+-- a program that read from an unfinished one finishes, and is not released
+abbrev finishing : Log
+finishing = completed 4 (walk (accounts ++ at 1 (insert_acct 3 0) ∷ call_transfer 1 1 2 30 ∷ call_transfer 2 1 3 10 ∷ []) asks Tree (go 2))
+
+finished_last : drop 24 (printed_of finishing) ≡ codes "b1.2 finished" ∷ []
+unfolding computing
+finished_last = refl
+
+too_early : May finishing (event.Released (base 2 ∷ [])) → ⊥
+unfolding computing
+too_early h = cc
+
+-- a decision number that is too high
+abbrev committing : Log
+committing = walk (accounts ++ begin 1 ∷ []) asks Tree (commit 1)
+
+commits_next : May committing (event.Ended (unit 3) (end.Committed 5))
+unfolding computing
+commits_next = refl
+
+too_high : May committing (event.Ended (unit 3) (end.Committed 6)) → ⊥
+unfolding computing
+too_high h = cc
