@@ -1,6 +1,8 @@
 -- All that is proved of played logs with no engine.
 use Rattle.salt_ast.specs.declared.trees.Statement.{Statement}
+use Rattle.salt_laws.proofs.Continues.{continued-played}
 use Rattle.salt_laws.proofs.Fresh.{IfComes}
+use Rattle.salt_laws.proofs.Rising.{rises, rises-with}
 use Rattle.salt_laws.proofs.HeldLocks.{none-conflict}
 use Rattle.salt_laws.proofs.HonestLaw.{honest}
 use Rattle.salt_laws.proofs.KeptLaws.{kept-played}
@@ -8,11 +10,12 @@ use Rattle.salt_laws.proofs.Lists.{In, either}
 use Rattle.salt_laws.proofs.NextFits.{Flies}
 use Rattle.salt_laws.proofs.Reading.{writers-released}
 use Rattle.salt_laws.proofs.Releasable.{releases-all-played}
-use Rattle.salt_laws.proofs.Salted.{Kept_up, OfBoots, continued-played, holds, may-fit, releases-played, salted-played}
+use Rattle.salt_laws.proofs.Salted.{Kept_up, OfBoots, holds, may-fit, releases-played, salted-played}
 use Rattle.salt_laws.proofs.Sound.{Old, boot-ended, conts-back, old-fallen}
 use Rattle.salt_laws.proofs.Unreleased.{whole-did}
 use Rattle.salt_laws.proofs.WholeLaw.{whole}
-use Rattle.salt_laws.specs.Laws.{Isolated, Lawful, WellKept}
+use Rattle.salt_laws.specs.Laws.{Isolated, Lawful}
+use Rattle.salt_model.specs.Kept.{WellKept}
 use Rattle.salt_model.specs.After.{kept, reach_now}
 use Rattle.salt_model.specs.Headline.{Headline, Leave, MayLeave, kept_with}
 use Rattle.salt_model.specs.Isolation.{is_program_released}
@@ -49,12 +52,12 @@ base-each n (c ∷ cs) h = (h c.base (inl refl), base-each n cs (λ b i. h b (in
 
 pub isolated : (log : Log) → Played log → WellKept (start_of log).kept → Isolated log
 isolated log p k =
-    let w : OfBoots (start_of log).kept = each-base (start_of log).kept.boot (start_of log).kept.conts k in
+    let w : OfBoots (start_of log).kept = each-base (start_of log).kept.boot (start_of log).kept.conts k.boots in
     record {
       salted = salted-played log p w;
       released = releases-played log p w;
       releasable = releases-all-played log p w;
-      continued = continued-played log p w;
+      continued = continued-played log p w k.accepted;
       kept_story = kept-played log p w;
     }
 
@@ -82,10 +85,15 @@ of-boots-flight log p w = its (flight log) h.flies
     its (Some e) g = absurd g
 
 well-kept : (log : Log) → Played log → WellKept (start_of log).kept → WellKept (kept log)
-well-kept log p k = base-each (kept log).boot (kept log).conts (of-boots log p (each-base (start_of log).kept.boot (start_of log).kept.conts k))
+well-kept log p k =
+    let w : OfBoots (start_of log).kept = each-base (start_of log).kept.boot (start_of log).kept.conts k.boots in
+    record { boots = base-each (kept log).boot (kept log).conts (of-boots log p w); accepted = rises log p w k.accepted }
 
 well-kept-flight : (log : Log) → Played log → WellKept (start_of log).kept → WellKept (kept_with log (flight log))
-well-kept-flight log p k = base-each (kept_with log (flight log)).boot (kept_with log (flight log)).conts (of-boots-flight log p (each-base (start_of log).kept.boot (start_of log).kept.conts k))
+well-kept-flight log p k =
+    let w : OfBoots (start_of log).kept = each-base (start_of log).kept.boot (start_of log).kept.conts k.boots in
+    let f = kept_with log (flight log) in
+    record { boots = base-each f.boot f.conts (of-boots-flight log p w); accepted = rises-with log (flight log) (holds log p w).flies (rises log p w k.accepted) }
 
 pub kept-well : (log : Log) → Played log → WellKept (start_of log).kept → WellKept (kept log) × WellKept (kept_with log (flight log))
 kept-well log p k = (well-kept log p k, well-kept-flight log p k)
@@ -115,6 +123,6 @@ headline log leave p k m =
 -- what an ACID unit's statement reads from, directly, is ACID or of a released program
 pub acid-reads : (log : Log) (u : Id) (st : Statement) (a : Answer) → Played (log says Did u st a) → WellKept (start_of log).kept → is_acid log u ≡ true → (v : Id) → In v (writers_in log (reach_now u log st)) → is_program_released log (program_of v log) ≡ true
 acid-reads log u st a p k acid v i =
-    let h = holds log p.0 (each-base (start_of log).kept.boot (start_of log).kept.conts k) in
+    let h = holds log p.0 (each-base (start_of log).kept.boot (start_of log).kept.conts k.boots) in
     let f = may-fit log (Did u st a) h.comes p.1 in
     writers-released log (reach_now u log st) v h.salty (whole-did log u st (h.sound.known u f.0) acid (f.2 acid)) i

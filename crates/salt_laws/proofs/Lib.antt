@@ -22,3 +22,7 @@ pub mod Salted
 pub mod Releasable
 pub mod KeptLaws
 pub mod AllLaws
+pub mod Due
+pub mod Accounts
+pub mod Rising
+pub mod Continues

@@ -11,7 +11,7 @@ use Rattle.salt_laws.proofs.Fresh.{IfComes, comes-map, comes-or_else, comes-when
 use Rattle.salt_laws.proofs.Ids.{is_same_id-refl}
 use Rattle.salt_laws.proofs.Lists.{In, either, in-cases, in-filter, in-map, in-order, in-without}
 use Rattle.salt_model.specs.After.{kept}
-use Rattle.salt_model.specs.Continuing.{InOpening, IsAcceptance, IsForOpening, IsLastEnd, last_said, part_due}
+use Rattle.salt_model.specs.Continuing.{last_said, part_due, program_continued}
 use Rattle.salt_model.specs.Kept.{cont_in, cont_of, kept_program}
 use Rattle.salt_model.specs.Locks.{clashing}
 use Rattle.salt_model.specs.Log.{Asked, Log, Running, Waiting, from, is_of_program, is_of_session, is_open, is_open_standing, kind_of, line_asked, line_of, open_units, program_unit, session_unit, standing, units_begun, wait_list, ◌asks◌, ◌says◌, ◌turns◌}
@@ -25,9 +25,9 @@ use Rattle.salt_model.specs.Waiting.{WaitUnit, asked_by, block_of, clashing_now,
 use Rattle.salt_model.specs.Words.{first_of_list, greatest, is_empty, without}
 use Rattle.salt_model.specs.declared.events.Answer.TheVariants.{Failed}
 use Rattle.salt_model.specs.declared.events.Answer.{Answer}
-use Rattle.salt_model.specs.declared.events.End.TheVariants.{Branched, Committed, Cut, Failed}
+use Rattle.salt_model.specs.declared.events.End.TheVariants.{Branched, Committed, Cut, Failed, Victim}
 use Rattle.salt_model.specs.declared.events.End.{End}
-use Rattle.salt_model.specs.declared.events.Event.TheVariants.{Accepted, Began, Defined, Did, Ended, Finished, Opened, Ready, Refused, Released, Waits}
+use Rattle.salt_model.specs.declared.events.Event.TheVariants.{Accepted, Armed, Began, Defined, Did, Ended, Finished, Opened, Ready, Refused, Released, Shown, Waits}
 use Rattle.salt_model.specs.declared.events.Event.{Event}
 use Rattle.salt_model.specs.declared.events.Owner.TheVariants.{Base}
 use Rattle.salt_model.specs.declared.events.Owner.{Owner}
@@ -42,7 +42,7 @@ use Rattle.salt_values.specs.declared.id.Id.{Id}
 use Rattle.salt_values.specs.declared.value.Value.{Value}
 use Rattle.std.proofs.Common.{ap, inl, inr, subst, sym, ◌∙◌}
 use Rattle.std.specs.List.{filter, find}
-use Rattle.std.specs.Prelude.{Bool, List, None, Option, Some, [], cond, false, if◌then◌else◌, is_none, nat_lt, option_map, refl, true, ℕ, ⊤, ◌<◌, ◌==◌, ◌∷◌, ◌≡◌, ◌⊎◌}
+use Rattle.std.specs.Prelude.{Bool, List, None, Option, Some, [], cond, false, if◌then◌else◌, is_none, map, nat_lt, option_and_then, option_map, refl, true, ℕ, ⊤, ◌<◌, ◌==◌, ◌∷◌, ◌≡◌, ◌⊎◌}
 use Rattle.salt_model.specs.Turns.{go}
 
 pub first-in : {A : Type 0} (x : A) (xs : List A) → first_of_list xs ≡ Some x → In x xs
@@ -93,9 +93,45 @@ comes-when-at : (P : Event → Type 0) (b : Bool) (e : Event) → (b ≡ true �
 comes-when-at P true e h = h refl
 comes-when-at P false e h = tt
 
+abbrev pub is_first_of : Id → Option UnitKind → Bool
+is_first_of b (Some (First s c n args)) = is_same_id b c
+is_first_of b kind = false
+
+-- directly after the Committed of b's First unit
+abbrev pub IsAcceptance : Id → Log → Option Event → Type 0
+IsAcceptance b log (Some (Ended u (Committed n))) = is_first_of b (kind_of u log) ≡ true
+IsAcceptance b log e = ⊥
+
+-- directly after the decided end, or the Accepted that follows it, whose way is the end
+abbrev pub IsLastEnd : Id → Log → Option Event → Type 0
+IsLastEnd b log (Some (Ended u (Committed n))) = (option_and_then program_continued (kind_of u log) ≡ Some b) × (part_due log b ≡ None)
+IsLastEnd b log (Some (Ended u (Branched n c))) = (option_and_then program_continued (kind_of u log) ≡ Some b) × (part_due log b ≡ None)
+IsLastEnd b log (Some (Accepted c)) = (c ≡ b) × (part_due log b ≡ None)
+IsLastEnd b log e = ⊥
+
+-- the events that an opening may have
+abbrev pub ForOpening : Event → Type 0
+ForOpening (Began u (Later b part)) = ⊤
+ForOpening (Began u kind) = ⊥
+ForOpening (Waits u owners) = ⊥
+ForOpening (Ended u Victim) = ⊥
+ForOpening (Refused r) = ⊥
+ForOpening (Armed pairs) = ⊥
+ForOpening (Shown items) = ⊥
+ForOpening (Released bs) = ⊥
+ForOpening e = ⊤
+
+abbrev pub Within : Phase → Event → Type 0
+Within Opening e = ForOpening e
+Within phase e = ⊤
+
+-- nothing is open, and b's continuation is the first
+abbrev pub DrainsFirst : Log → Id → Type 0
+DrainsFirst log b = (open_units log ≡ []) × (first_of_list (map (λ (c : Cont). c.base) (kept log).conts) ≡ Some b)
+
 abbrev pub FitsKind : Log → UnitKind → Type 0
 FitsKind log (First s b n args) = (phase log ≡ Serving) × (b ≡ fresh_base log)
-FitsKind log (Later b part) = (program_unit b log ≡ None) × (part_due log b ≡ Some part)
+FitsKind log (Later b part) = (program_unit b log ≡ None) × (part_due log b ≡ Some part) × (phase log ≡ Opening → DrainsFirst log b)
 FitsKind log kind = phase log ≡ Serving
 
 abbrev pub IsAfterFinished : Option Event → Type 0
@@ -118,7 +154,7 @@ Fits log (Accepted b) = IsAcceptance b log (last_said log)
 Fits log (Finished b) = IsLastEnd b log (last_said log)
 Fits log (Released bs) = (bs ≡ to_release log) × (releases (to_release log) ≡ Some (Released bs)) × IsAfterFinished (last_said log) × (phase log ≡ Serving)
 Fits log (Opened boot n) = (phase log ≡ Fallen) × ((kept log).boot < boot)
-Fits log Ready = (phase log ≡ Opening) × ((kept log).conts ≡ []) × (to_cut log ≡ [])
+Fits log Ready = (phase log ≡ Opening) × ((kept log).conts ≡ []) × (to_cut log ≡ []) × (open_units log ≡ [])
 Fits log e = ⊤
 
 is-serving : (p : Phase) → p ≡ Serving → (p ≡ Fallen → ⊥) × (p ≡ Opening → ⊥)
@@ -157,7 +193,7 @@ module _ (log : Log) (serving : phase log ≡ Serving) where
 
   fits-goes_on : (b : Id) (o : Option Id) → program_unit b log ≡ o → ((u : Id) → o ≡ Some u → is_open log u ≡ true) → IfComes P (goes_on log b o)
   fits-goes_on b (Some u) e h = fits-turn u (h u refl)
-  fits-goes_on b None e h = comes-map-at P _ (cont_of b (kept log)) (λ c g. (refl, not-fallen, (e, ap (option_map (λ c. c.next)) g)))
+  fits-goes_on b None e h = comes-map-at P _ (cont_of b (kept log)) (λ c g. (refl, not-fallen, (e, ap (option_map (λ c. c.next)) g, (λ o. absurd ((is-serving (phase log) serving).1 o)))))
 
   opened-in : (p : Id → Bool) (u : Id) → first_of_list (filter p (open_units log)) ≡ Some u → (is_open log u ≡ true) × (p u ≡ true)
   opened-in p u h = let r = in-filter p u (open_units log) (first-in u _ h) in ((in-filter (is_open log) u (units_begun log) r.0).1, r.1)
@@ -255,7 +291,7 @@ abbrev pub Drains : Log → Type 0
 Drains log = phase log ≡ Opening → (u : Id) → IsOwn u (last_said log) → is_acid log u ≡ false
 
 abbrev pub FitsOpening : Log → Event → Type 0
-FitsOpening log e = Fits log e × IsForOpening e
+FitsOpening log e = Fits log e × ForOpening e
 
 module _ (log : Log) (opening : phase log ≡ Opening) where
   abbrev Q : Event → Type 0
@@ -268,8 +304,8 @@ module _ (log : Log) (opening : phase log ≡ Opening) where
   fits-serve u o a = comes-map Q _ (asked_by u log) (λ st. ((o, (λ p. a), (λ t. cc)), tt))
 
   fits-drains : (cs : List Cont) → (kept log).conts ≡ cs → to_cut log ≡ [] → open_units log ≡ [] → Q (drains log cs)
-  fits-drains [] e c n = ((opening, e, c), tt)
-  fits-drains (x ∷ cs) e c n = ((refl, open-fallen, (ap (λ us. first_of_list (filter (is_of_program x.base log) us)) n, subst (λ (l : List Cont). option_map (λ (y : Cont). y.next) (cont_in x.base l) ≡ Some x.next) (sym e) (rw (is_same_id-refl x.base) refl))), tt)
+  fits-drains [] e c n = ((opening, e, c, n), tt)
+  fits-drains (x ∷ cs) e c n = ((refl, open-fallen, (ap (λ us. first_of_list (filter (is_of_program x.base log) us)) n, subst (λ (l : List Cont). option_map (λ (y : Cont). y.next) (cont_in x.base l) ≡ Some x.next) (sym e) (rw (is_same_id-refl x.base) refl), (λ o. (n, ap (λ (l : List Cont). first_of_list (map (λ (c : Cont). c.base) l)) e)))), tt)
 
   fits-cuts : (us : List Id) → to_cut log ≡ us → IfComes Q (cuts_or_drains log us)
   fits-cuts [] e = comes-when-at Q (is_empty (open_units log)) (drains log (kept log).conts) (λ n. fits-drains (kept log).conts refl e (none (open_units log) n))
@@ -282,22 +318,22 @@ module _ (log : Log) (opening : phase log ≡ Opening) where
       let f = in-filter (λ u. nat_lt u.boot (kept log).boot) u (open_units log) (in-order u _ i) in
       (((in-filter (is_open log) u (units_begun log) f.0).1, (opening, ap first_of_list e)), tt)
 
-is-for : (P : Event → Type 0) (o : Option Event) → IfComes P o → IfComes IsForOpening o → IfComes (λ e. P e × IsForOpening e) o
+is-for : (P : Event → Type 0) (o : Option Event) → IfComes P o → IfComes ForOpening o → IfComes (λ e. P e × ForOpening e) o
 is-for P None h g = tt
 is-for P (Some e) h g = (h, g)
 
-for-did : (log : Log) (u : Id) (a : Answer) → IfComes IsForOpening (after_did log u a)
+for-did : (log : Log) (u : Id) (a : Answer) → IfComes ForOpening (after_did log u a)
 for-did log u (Failed c) = go (kind_of u log)
   where
-    go : (o : Option UnitKind) → IsForOpening (fails log u c o)
+    go : (o : Option UnitKind) → ForOpening (fails log u c o)
     go (Some (Later b part)) = tt
     go o = tt
-for-did log u a = comes-when IsForOpening (is_at_end log u (block_of u log)) (commits log u) tt
+for-did log u a = comes-when ForOpening (is_at_end log u (block_of u log)) (commits log u) tt
 
-for-end : (log : Log) (end : End) (o : Option UnitKind) → IfComes IsForOpening (after_end log end o)
+for-end : (log : Log) (end : End) (o : Option UnitKind) → IfComes ForOpening (after_end log end o)
 for-end log (Committed n) (Some (First s b name args)) = tt
-for-end log (Committed n) (Some (Later b part)) = comes-when IsForOpening (is_none (cont_of b (kept log))) (Finished b) tt
-for-end log (Branched n c) (Some (Later b part)) = comes-when IsForOpening (is_none (cont_of b (kept log))) (Finished b) tt
+for-end log (Committed n) (Some (Later b part)) = comes-when ForOpening (is_none (cont_of b (kept log))) (Finished b) tt
+for-end log (Branched n c) (Some (Later b part)) = comes-when ForOpening (is_none (cont_of b (kept log))) (Finished b) tt
 for-end log end o = tt
 
 opens-follow : (log : Log) (e : Event) → phase (log says e) ≡ Opening → Drains (log says e) → IfComes (FitsOpening (log says e)) (follow_opening (log says e) e)
@@ -309,7 +345,7 @@ opens-follow log e p d = tt
 
 -- what may come after a log
 abbrev pub Comes : Log → Event → Type 0
-Comes log e = Fits log e × InOpening (phase log) e
+Comes log e = Fits log e × Within (phase log) e
 
 with-phase : (log : Log) (p : Phase) (o : Option Event) → phase log ≡ p → (p ≡ Opening → IfComes (FitsOpening log) o) → ((p ≡ Opening → ⊥) → IfComes (Fits log) o) → IfComes (Comes log) o
 with-phase log p None e f g = tt

@@ -7,7 +7,7 @@ use Rattle.salt_laws.proofs.NextFits.{Comes, Fits, Flies, IsAfterFinished, fits-
 use Rattle.salt_laws.proofs.Reading.{Covered, ReadOk, Salty, salty-step}
 use Rattle.salt_laws.proofs.Sound.{Sound, sound-step}
 use Rattle.salt_model.specs.After.{kept}
-use Rattle.salt_model.specs.Continuing.{Continued, GoesAlong, InOpening, ReleasesDue, ReleasesRight, due_after, last_said, released_by}
+use Rattle.salt_model.specs.Continuing.{ReleasesDue, ReleasesRight, due_after, last_said, released_by}
 use Rattle.salt_model.specs.Isolation.{IsChain, ReadsReleased, Salted, is_linked, is_program_released, is_same_program, read_by}
 use Rattle.salt_model.specs.Kept.{Kept}
 use Rattle.salt_model.specs.Log.{Asked, Log, Start, from, program_of, released_in, start_of, ◌asks◌, ◌says◌, ◌turns◌}
@@ -18,9 +18,8 @@ use Rattle.salt_model.specs.Reads.{Written, to_release}
 use Rattle.salt_model.specs.Turns.{releases, settle}
 use Rattle.salt_model.specs.Words.{has_id}
 use Rattle.salt_model.specs.declared.events.End.TheVariants.{Branched, Committed}
-use Rattle.salt_model.specs.declared.events.Event.TheVariants.{Accepted, Began, Defined, Did, Down, Ended, Finished, Opened, Ready, Released}
+use Rattle.salt_model.specs.declared.events.Event.TheVariants.{Defined, Did, Down, Ended, Finished, Opened, Released}
 use Rattle.salt_model.specs.declared.events.Event.{Event}
-use Rattle.salt_model.specs.declared.events.UnitKind.TheVariants.{Later}
 use Rattle.salt_model.specs.declared.events.Why.{Why}
 use Rattle.salt_model.specs.declared.shown.BaseAt.TheVariants.{Finished}
 use Rattle.salt_values.specs.declared.cont.Cont.{Cont}
@@ -89,7 +88,7 @@ pub record Kept_up (log : Log) : Type 0 where
   pub comes : IfComes (Comes log) (next log)
   pub flies : IfComes (Flies log) (flight log)
 
-may-open : (p : Phase) (log : Log) (boot n : ℕ) → MayOpen p log boot n → (p ≡ Fallen) × ((kept log).boot < boot)
+pub may-open : (p : Phase) (log : Log) (boot n : ℕ) → MayOpen p log boot n → (p ≡ Fallen) × ((kept log).boot < boot)
 may-open Fallen log boot n m = (refl, m.0)
 may-open Opening log boot n m = absurd m
 may-open Serving log boot n m = absurd m
@@ -235,31 +234,9 @@ due-at log (Down why) p c m = due-falls log why p c m
 due-at log (Opened boot n) p c m = let f : phase log ≡ Fallen = (may-open (phase log) log boot n m).0 in ap releases (due-not (phase log) log (last_said log) (λ s. cc))
 due-at log e p c m = due-comes log e p (comes-at log e c m).0 m
 
-goes-at : (log : Log) (e : Event) → Fits log e → GoesAlong log e
-goes-at log (Began u (Later b part)) f = f.2.1
-goes-at log (Accepted b) f = f
-goes-at log (Finished b) f = f
-goes-at log Ready f = f.1
-goes-at log e f = tt
-
-falls-in : (p : Phase) (why : Why) → InOpening p (Down why)
-falls-in Opening why = tt
-falls-in Serving why = tt
-falls-in Fallen why = tt
-
-opens-in : (p : Phase) (boot n : ℕ) → InOpening p (Opened boot n)
-opens-in Opening boot n = tt
-opens-in Serving boot n = tt
-opens-in Fallen boot n = tt
-
-opening-at : (log : Log) (e : Event) → IfComes (Comes log) (next log) → May log e → InOpening (phase log) e
-opening-at log (Down why) c m = falls-in (phase log) why
-opening-at log (Opened boot n) c m = opens-in (phase log) boot n
-opening-at log e c m = (comes-at log e c m).1
-
 -- the laws at an event
 abbrev Laws : Log → Event → Type 0
-Laws log e = ReadsReleased log e × ReleasesDue log e × GoesAlong log e × InOpening (phase log) e
+Laws log e = ReadsReleased log e × ReleasesDue log e
 
 laws : (log : Log) → Played log → OfBoots (start_of log).kept → Each Laws log
 laws (from k) p w = tt
@@ -268,7 +245,7 @@ laws (log turns b) p w = laws log p.0 w
 laws (log says e) p w =
     let r = holds log p.0 w in
     let f = may-fit log e r.comes p.1 in
-    (laws log p.0 w, (salted-at log e r.sound r.salty f, due-at log e p.0 r.comes p.1, goes-at log e f, opening-at log e r.comes p.1))
+    (laws log p.0 w, (salted-at log e r.sound r.salty f, due-at log e p.0 r.comes p.1))
 
 pub each : (P Q : Log → Event → Type 0) → ((log : Log) (e : Event) → P log e → Q log e) → (log : Log) → Each P log → Each Q log
 each P Q f (from k) h = tt
@@ -281,6 +258,3 @@ salted-played log p w = each Laws ReadsReleased (λ l e r. r.0) log (laws log p 
 
 pub releases-played : (log : Log) → Played log → OfBoots (start_of log).kept → ReleasesRight log
 releases-played log p w = each Laws ReleasesDue (λ l e r. r.1) log (laws log p w)
-
-pub continued-played : (log : Log) → Played log → OfBoots (start_of log).kept → Continued log
-continued-played log p w = (each Laws GoesAlong (λ l e r. r.2) log (laws log p w), each Laws (λ l e. InOpening (phase l) e) (λ l e r. r.3) log (laws log p w))

@@ -7,10 +7,10 @@ use Rattle.salt_laws.proofs.Fresh.{or_left, or_right, standing-new}
 use Rattle.salt_laws.proofs.HeldLocks.{boot-branched}
 use Rattle.salt_laws.proofs.Ids.{is_same_id-refl, is_same_id-true}
 use Rattle.salt_laws.proofs.Lists.{In, either, in-cases, in-left, in-order, in-right, in-shrink, in-without, into-filter, or_cases, order-none}
-use Rattle.salt_laws.proofs.NextFits.{Drains, Fits, FitsKind}
+use Rattle.salt_laws.proofs.NextFits.{Drains, Fits, FitsKind, IsAcceptance, IsLastEnd, is_first_of}
 use Rattle.salt_laws.specs.Names.{is_named, is_unit_of}
 use Rattle.salt_model.specs.After.{branched, conts_at, kept, run_of}
-use Rattle.salt_model.specs.Continuing.{IsAcceptance, IsLastEnd, is_first_of, last_said, part_due}
+use Rattle.salt_model.specs.Continuing.{last_said, part_due, program_continued}
 use Rattle.salt_model.specs.Isolation.{is_committed_standing}
 use Rattle.salt_model.specs.Kept.{Kept, begun_cont, branch_of, change_cont, cont_in, cont_of, conts_branched, conts_committed, kept_program, moved, then_of, values_kept, without_cont}
 use Rattle.salt_model.specs.Log.{Log, Never, Over, Running, Waiting, base_count, finished_in, from, is_of_program, is_open, is_open_standing, kind_begun, kind_of, open_units, program_of, program_of_kind, program_unit, programs_in, released_in, standing, unit_count, units_begun, ◌asks◌, ◌says◌, ◌turns◌}
@@ -269,7 +269,7 @@ program-of log u b h = its (program_of u log) h
 
 -- continuations
 
-due-in : (b : Id) (part : ℕ) (cs : List Cont) → option_map (λ c. c.next) (cont_in b cs) ≡ Some part → In b (map (λ c. c.base) cs)
+pub due-in : (b : Id) (part : ℕ) (cs : List Cont) → option_map (λ c. c.next) (cont_in b cs) ≡ Some part → In b (map (λ c. c.base) cs)
 due-in b part [] h = cc
 due-in b part (c ∷ cs) h = go (due-in b part cs) (is_same_id b c.base) refl h
   where
@@ -305,11 +305,11 @@ base-change b c f same (x ∷ cs) h = go (base-change b c f same cs) (is_same_id
     go more false (inl e) = inl e
     go more false (inr g) = inr (more g)
 
-base-moved : (b c : Id) (o : Option ℕ) (f : Cont → Cont) → ((x : Cont) → (f x).base ≡ x.base) → (cs : List Cont) → In b (map (λ (x : Cont). x.base) (moved c o f cs)) → In b (map (λ (x : Cont). x.base) cs)
+pub base-moved : (b c : Id) (o : Option ℕ) (f : Cont → Cont) → ((x : Cont) → (f x).base ≡ x.base) → (cs : List Cont) → In b (map (λ (x : Cont). x.base) (moved c o f cs)) → In b (map (λ (x : Cont). x.base) cs)
 base-moved b c None f same cs h = base-without b c cs h
 base-moved b c (Some part) f same cs h = base-change b c _ (λ x. same x) cs h
 
-base-begun : (b c : Id) (n : ℕ) (p : ProgramDef) (args : List Value) (vars : List Binding) (o : Option ℕ) (cs : List Cont) → In b (map (λ (x : Cont). x.base) (begun_cont c n p args vars o cs)) → In b (map (λ (x : Cont). x.base) cs) ⊎ (c ≡ b)
+pub base-begun : (b c : Id) (n : ℕ) (p : ProgramDef) (args : List Value) (vars : List Binding) (o : Option ℕ) (cs : List Cont) → In b (map (λ (x : Cont). x.base) (begun_cont c n p args vars o cs)) → In b (map (λ (x : Cont). x.base) cs) ⊎ (c ≡ b)
 base-begun b c n p args vars None cs h = inl h
 base-begun b c n p args vars (Some part) [] (inl e) = inr e
 base-begun b c n p args vars (Some part) [] (inr e) = absurd e
@@ -357,9 +357,16 @@ conts-back log u end b h = inl h
 pub to_release-finished : (log : Log) (b : Id) → In b (to_release log) → In b (finished_in log)
 to_release-finished log b h = (in-without b (released_in log) (finished_in log) (in-order b _ (in-shrink (reads_within log) _ b _ h))).0
 
+continued-of : (o : Option UnitKind) (b : Id) → option_and_then program_continued o ≡ Some b → option_and_then program_of_kind o ≡ Some b
+continued-of (Some (Later c part)) b h = h
+continued-of None b h = cc
+continued-of (Some (Acid s)) b h = cc
+continued-of (Some (Call s n args)) b h = cc
+continued-of (Some (First s c n args)) b h = cc
+
 last-just : (log : Log) (b : Id) (o : Option Event) → IsLastEnd b log o → JustEnded b log o × (part_due log b ≡ None)
-last-just log b (Some (Ended u (Committed n))) h = (of-program log u b h.0, h.1)
-last-just log b (Some (Ended u (Branched n c))) h = (of-program log u b h.0, h.1)
+last-just log b (Some (Ended u (Committed n))) h = (of-program log u b (continued-of (kind_of u log) b h.0), h.1)
+last-just log b (Some (Ended u (Branched n c))) h = (of-program log u b (continued-of (kind_of u log) b h.0), h.1)
 last-just log b (Some (Accepted c)) h = (h.0, h.1)
 last-just log b o h = absurd h
 
@@ -524,7 +531,7 @@ base-kept-moved : (b c : Id) → (c ≡ b → ⊥) → (o : Option ℕ) (f : Con
 base-kept-moved b c n None f same cs h = base-kept-without b c n cs h
 base-kept-moved b c n (Some part) f same cs h = base-kept-change b c _ (λ x. same x) cs h
 
-base-kept-begun : (b c : Id) (n : ℕ) (p : ProgramDef) (args : List Value) (vars : List Binding) (o : Option ℕ) (cs : List Cont) → In b (map (λ (x : Cont). x.base) cs) → In b (map (λ (x : Cont). x.base) (begun_cont c n p args vars o cs))
+pub base-kept-begun : (b c : Id) (n : ℕ) (p : ProgramDef) (args : List Value) (vars : List Binding) (o : Option ℕ) (cs : List Cont) → In b (map (λ (x : Cont). x.base) cs) → In b (map (λ (x : Cont). x.base) (begun_cont c n p args vars o cs))
 base-kept-begun b c n p args vars None cs h = h
 base-kept-begun b c n p args vars (Some part) [] h = absurd h
 base-kept-begun b c n p args vars (Some part) (x ∷ cs) (inl e) = inl e
@@ -552,7 +559,7 @@ base-kept-branched b k (Later c part) x h = go (option_and_then (λ c. kept_prog
     go (Some p) = base-kept-moved b c (λ e. x (ap Some e)) (branch_of p part) _ (λ x. refl) k.conts h
 base-kept-branched b k kind x h = h
 
-conts-kept : (log : Log) (u : Id) (end : End) (b : Id) → (program_of u log ≡ Some b → ⊥) → In b (bases_in log) → In b (bases_in (log says Ended u end))
+pub conts-kept : (log : Log) (u : Id) (end : End) (b : Id) → (program_of u log ≡ Some b → ⊥) → In b (bases_in log) → In b (bases_in (log says Ended u end))
 conts-kept log u (Committed n) b x h = go (kind_of u log) x
   where
     go : (o : Option UnitKind) → (option_and_then program_of_kind o ≡ Some b → ⊥) → In b (map (λ (x : Cont). x.base) (conts_at (kept log) n o (run_of u log).vars))

@@ -5,19 +5,12 @@ use Rattle.salt_model.specs.Decided.{KeptStory}
 use Rattle.salt_model.specs.Headline.{Headline, Leave, MayLeave, kept_with}
 use Rattle.salt_model.specs.Honest.{Honest}
 use Rattle.salt_model.specs.Isolation.{Salted, Whole}
-use Rattle.salt_model.specs.Kept.{Kept}
+use Rattle.salt_model.specs.Kept.{WellKept}
 use Rattle.salt_model.specs.Locks.{NoneConflict, held}
 use Rattle.salt_model.specs.Log.{Log, lines_of, start_of, story_of}
 use Rattle.salt_model.specs.Next.{flight}
 use Rattle.salt_model.specs.Played.{Played}
 use Rattle.salt_model.specs.Releasing.{ReleasesAll}
-use Rattle.salt_model.specs.Words.{Every}
-use Rattle.salt_values.specs.declared.cont.Cont.{Cont}
-use Rattle.std.specs.Prelude.{◌≤◌}
-
--- the programs that go on from a start are of its boots
-abbrev pub WellKept : Kept → Type 0
-WellKept k = Every (λ (c : Cont). c.base.boot ≤ k.boot) k.conts
 
 -- what holds of each log that is played, however often it stops
 pub record Lawful (log : Log) : Type 0 where

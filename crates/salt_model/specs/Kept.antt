@@ -1,4 +1,5 @@
 -- What is kept at a place of a run: what a start has, and what devices stand for. And what is read off it: tables, programs, parts and ways.
+use Rattle.salt_model.specs.Words.{Every}
 use Rattle.salt_ast.specs.Paths.{at_number, next_on_commit, next_on_failure}
 use Rattle.salt_ast.specs.ProgramJudgement.{program_named}
 use Rattle.salt_ast.specs.declared.lines.Act.TheVariants.{Call}
@@ -25,7 +26,7 @@ use Rattle.salt_values.specs.declared.id.Id.{Id}
 use Rattle.salt_values.specs.declared.value.Value.TheVariants.{Int, Text}
 use Rattle.salt_values.specs.declared.value.Value.{Value}
 use Rattle.std.specs.List.{filter_map}
-use Rattle.std.specs.Prelude.{List, None, Option, Some, [], drop, if◌then◌else◌, length, map, option_and_then, option_map, pos, ℕ, ◌++◌, ◌∷◌}
+use Rattle.std.specs.Prelude.{List, None, Option, Some, [], drop, if◌then◌else◌, length, map, option_and_then, option_map, pos, ℕ, ⊤, ◌++◌, ◌<◌, ◌∷◌, ◌≤◌}
 
 -- a definition, as the line that made it
 pub data Definition : Type 0 where
@@ -41,6 +42,16 @@ pub record Kept : Type 0 where
 
 abbrev pub nothing_kept : Kept
 nothing_kept = record { boot = 0; decisions = 0; definitions = []; tables = no_rows; conts = [] }
+
+-- each was accepted by a decision after those of the ones before it, and none by one above n
+abbrev pub Rise : ℕ → List Cont → Type 0
+Rise n [] = ⊤
+Rise n (c ∷ cs) = Every (λ (d : Cont). c.accepted < d.accepted) cs × (c.accepted ≤ n) × Rise n cs
+
+-- what may be kept: its programs are of its boots, and were accepted by its decisions, in this order
+pub record WellKept (k : Kept) : Type 0 where
+  pub boots : Every (λ (c : Cont). c.base.boot ≤ k.boot) k.conts
+  pub accepted : Rise k.decisions k.conts
 
 abbrev pub table_of_definition : Definition → Option TableDef
 table_of_definition (OfTable d) = Some d
