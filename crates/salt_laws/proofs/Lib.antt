@@ -26,3 +26,5 @@ pub mod Due
 pub mod Accounts
 pub mod Rising
 pub mod Continues
+pub mod WrittenKeys
+pub mod FinishedSources

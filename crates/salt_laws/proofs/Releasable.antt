@@ -8,7 +8,7 @@ use Rattle.salt_laws.proofs.Sound.{to_release-finished}
 use Rattle.salt_model.specs.Log.{Log, finished_in, from, released_in, start_of, ◌asks◌, ◌says◌, ◌turns◌}
 use Rattle.salt_model.specs.Played.{Played}
 use Rattle.salt_model.specs.Reads.{read_directly, reads_within, to_release}
-use Rattle.salt_model.specs.Releasing.{IsReleasable, NamesReleasable, ReadsThrough, ReleasesAll, itself, through}
+use Rattle.salt_model.specs.Releasing.{MayGo, NamesReleasable, ReadsThrough, ReleasesAll, itself, through}
 use Rattle.salt_model.specs.Words.{has_id, in_order, insert_id, without}
 use Rattle.salt_model.specs.declared.events.Event.TheVariants.{Released}
 use Rattle.salt_model.specs.declared.events.Event.{Event}
@@ -33,6 +33,10 @@ into-order : (x : Id) (us : List Id) → In x us → In x (in_order us)
 into-order x [] h = h
 into-order x (u ∷ us) (inl e) = into-insert x u (in_order us) (inl e)
 into-order x (u ∷ us) (inr h) = into-insert x u (in_order us) (inr (into-order x us h))
+
+-- every program that b reads from is finished, or released before
+abbrev pub MayGo : Log → Id → Type 0
+MayGo log b = (c : Id) → ReadsThrough log b c → IsTrue (has_id c (finished_in log) || has_id c (released_in log))
 
 module _ (log : Log) where
   abbrev start : List Id
@@ -62,7 +66,7 @@ module _ (log : Log) where
   out-done c (inr r) = or_right_true (has_id c (finished_in log)) _ (in-has c _ r)
 
   abbrev Due : Id → Type 0
-  Due b = (has_id b (released_in log) ≡ false) × IsReleasable log b
+  Due b = (has_id b (released_in log) ≡ false) × MayGo log b
 
   due-start : (b : Id) → Due b → In b start
   due-start b d = into-order b _ (into-filter (λ u. not (has_id u (released_in log))) b (finished_in log) (either (λ f. has-in b _ f) (λ r. absurd (let x : true ≡ false = sym r ∙ d.0 in cc)) (or_cases (has_id b (finished_in log)) _ (d.1 b itself))) (rw d.0 refl))
@@ -70,7 +74,7 @@ module _ (log : Log) where
   due-keeps : (xs : List Id) → ((b : Id) → Due b → In b xs) → (b : Id) → Due b → reads_within log xs b ≡ true
   due-keeps xs all b d = into-all (λ c. has_id c xs || has_id c (released_in log)) (read_directly b log) (λ c h. go c (has_id c (released_in log)) refl (λ x r. d.1 x (through (in-has c _ h) r)))
     where
-      go : (c : Id) (t : Bool) → has_id c (released_in log) ≡ t → IsReleasable log c → (has_id c xs || has_id c (released_in log)) ≡ true
+      go : (c : Id) (t : Bool) → has_id c (released_in log) ≡ t → MayGo log c → (has_id c xs || has_id c (released_in log)) ≡ true
       go c true e r = or_right_true (has_id c xs) _ e
       go c false e r = or-first (has_id c xs) _ (in-has c xs (all c (e, r)))
 
@@ -78,18 +82,8 @@ module _ (log : Log) where
   not-in b i = (in-without b (released_in log) (finished_in log) (in-order b _ (in-shrink (reads_within log) _ b start i))).1
 
   -- exactly the releasable programs that are not released
-  pub to_release-exact : ((x y : Id) → In x (released_in log) → In y (read_directly x log) → In y (released_in log)) → (b : Id) → IsTrue (has_id b (to_release log)) ↔ ((has_id b (released_in log) ≡ false) × IsReleasable log b)
+  pub to_release-exact : ((x y : Id) → In x (released_in log) → In y (read_directly x log) → In y (released_in log)) → (b : Id) → IsTrue (has_id b (to_release log)) ↔ ((has_id b (released_in log) ≡ false) × MayGo log b)
   to_release-exact closed b = (
     (λ h. let i = has-in b (to_release log) h in (not-in b i, (λ c r. out-done c (out-through b c closed r (inl i))))),
     (λ d. in-has b _ (into-shrink Due (reads_within log) due-keeps (length start) start due-start b d)),
   )
-
-names-at : (log : Log) (e : Event) → Salty log → Fits log e → NamesReleasable log e
-names-at log (Released bs) z f = λ b. subst (λ l. IsTrue (has_id b l) ↔ ((has_id b (released_in log) ≡ false) × IsReleasable log b)) (sym f.0) (to_release-exact log z.closed b)
-names-at log e z f = tt
-
-pub releases-all-played : (log : Log) → Played log → OfBoots (start_of log).kept → ReleasesAll log
-releases-all-played (from k) p w = tt
-releases-all-played (log asks line) p w = releases-all-played log p.0 w
-releases-all-played (log turns b) p w = releases-all-played log p.0 w
-releases-all-played (log says e) p w = let r = holds log p.0 w in (releases-all-played log p.0 w, names-at log e r.salty (may-fit log e r.comes p.1))

@@ -135,7 +135,7 @@ answers-other log (Began v kind) u other = rw other refl
 answers-other log (Did v st a) u other = rw other refl
 answers-other log e u other = refl
 
-open-other : (log : Log) (e : Event) (u : Id) → is_unit_of u e ≡ false → Open (log says e) u → Open log u
+pub open-other : (log : Log) (e : Event) (u : Id) → is_unit_of u e ≡ false → Open (log says e) u → Open log u
 open-other log (Began v kind) u other o = rw other at o
 open-other log (Did v st a) u other o = rw other at o
 open-other log (Waits v owners) u other o = rw other at o
@@ -226,7 +226,7 @@ each-began log u kind = record {
   begun = any-last u (units_begun log);
 }
 
-did-run : (log : Log) (u : Id) (st : Statement) (a : Answer) → Ground log → failing u log ≡ None → Open log u → run_of u (log says Did u st a) ≡ with_done (schema_of (kept log)) (run_of u log) st
+pub did-run : (log : Log) (u : Id) (st : Statement) (a : Answer) → Ground log → failing u log ≡ None → Open log u → run_of u (log says Did u st a) ≡ with_done (schema_of (kept log)) (run_of u log) st
 did-run log u st a inv quiet o =
     let was = inv.each u o in
     rw (is_same_id-refl u) (run-more (schema_of (kept log)) (done_of u log) st (run_from (tables_after log) (vars_of u log)) (ap cause_among (sym was.answers) ∙ was.causes ∙ quiet))

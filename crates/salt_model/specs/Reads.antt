@@ -1,4 +1,7 @@
 -- Who wrote last, who reads from whom, and what is releasable.
+use Rattle.std.specs.Ordering.{is_eq}
+use Rattle.salt_model.specs.declared.places.Place.{Place}
+use Rattle.salt_model.specs.Tables.{place, place_cmp}
 use Rattle.salt_model.specs.After.{changes_now, reach_now}
 use Rattle.salt_model.specs.Log.{Log, accepted_in, finished_in, from, is_of_program, program_of, released_in, ◌asks◌, ◌says◌, ◌turns◌}
 use Rattle.salt_model.specs.Words.{has_id, in_order, shrink, without}
@@ -7,7 +10,6 @@ use Rattle.salt_model.specs.declared.events.Event.TheVariants.{Did, Ended}
 use Rattle.salt_model.specs.declared.locks.Reach.{Reach}
 use Rattle.salt_ranges.specs.Ranges.{has_key}
 use Rattle.salt_values.specs.Id.{is_same_id}
-use Rattle.salt_values.specs.Value.{is_same_value}
 use Rattle.salt_values.specs.declared.change.Change.{Change}
 use Rattle.salt_values.specs.declared.id.Id.{Id}
 use Rattle.salt_values.specs.declared.value.Value.{Value}
@@ -39,17 +41,20 @@ written_in (log turns b) = written_in log
 written_in (log says Ended u (Committed n)) = wrote_of u log ++ written_in log
 written_in (log says e) = written_in log
 
-abbrev pub is_written_at : ℕ → Value → Written → Bool
-is_written_at t k w = (w.table == t) && is_same_value k w.key
+abbrev pub written_at : Written → Place
+written_at w = place w.table w.key
+
+abbrev pub is_written_at : Place → Written → Bool
+is_written_at p w = is_eq (place_cmp p (written_at w))
 
 -- the last writer of a key
-abbrev pub last_writer : Log → ℕ → Value → Option Id
-last_writer log t k = option_map (λ w. w.unit) (find (is_written_at t k) (written_in log))
+abbrev pub last_writer : Log → Place → Option Id
+last_writer log p = option_map (λ w. w.unit) (find (is_written_at p) (written_in log))
 
 -- of each key its last writing alone
 abbrev pub last_of_each : List Written → List Written
 last_of_each [] = []
-last_of_each (w ∷ ws) = w ∷ filter (λ v. not (is_written_at w.table w.key v)) (last_of_each ws)
+last_of_each (w ∷ ws) = w ∷ filter (λ v. not (is_written_at (written_at w) v)) (last_of_each ws)
 
 abbrev pub is_reached : Reach → Written → Bool
 is_reached r w = (w.table == r.table) && has_key r.range w.key
