@@ -1,5 +1,5 @@
 use super::*;
-use salt_model::{Act, Bound, Expr, Line, Statement, TableDef};
+use salt_ast::{Act, Bound, Expr, Line, Statement, TableDef};
 use salt_values::Value;
 use std::alloc::{AllocError, Global};
 use std::test::Fail;
