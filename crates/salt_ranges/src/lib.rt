@@ -4,3 +4,6 @@
 mod range;
 
 pub use range::KeyRange;
+
+#[cfg(test)]
+mod tests;

@@ -4,9 +4,9 @@ use Rattle.std.proofs.lemmas.Bool.{lt-ltb, le-leb}
 use Rattle.std.proofs.lemmas.List.{append-nil}
 use Rattle.std.specs.Prelude.{nat_le, nat_lt}
 use Rattle.salt_model.specs.Lines.{Column, Columns, IsLine, IsShort, IsStatement, Listed, Literal, Value, alone, column, creates, does, insert, last, literal, minus, more, plain, select, with_more}
-use Rattle.salt_model.specs.declared.trees.Expr.{Expr}
-use Rattle.salt_model.specs.declared.trees.Field.{Field}
-use Rattle.salt_model.specs.declared.trees.Line.{Line}
+use Rattle.salt_ast.specs.declared.trees.Expr.{Expr}
+use Rattle.salt_ast.specs.declared.trees.Field.{Field}
+use Rattle.salt_ast.specs.declared.lines.Line.{Line}
 use Rattle.salt_script.specs.Reading.{Reader, after, begun_at, column_at, columns_at, line_at, literal_at, more_at, name_at, session_at, statement_at, value_at, values_at}
 use Rattle.salt_tokens.specs.Symbols.{Row, int, key, name, sign}
 use Rattle.salt_tokens.specs.declared.keyword.Keyword.TheVariants as word

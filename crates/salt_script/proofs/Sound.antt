@@ -2,15 +2,15 @@
 use Rattle.std.proofs.Common.{◌≡◌, ℕ, ℤ, zero, suc, ◌≤◌, true, false, List, [], ◌∷◌, ◌++◌, length, Option, Some, None, refl, sym, ap, subst, ◌∙◌, append_assoc, arith}
 use Rattle.std.proofs.lemmas.List.{append-nil}
 use Rattle.salt_model.specs.Lines.{Column, Columns, IsLine, IsShort, IsStatement, Listed, Literal, Value, alone, column, creates, does, insert, int_field, last, literal, minus, more, plain, select, with_more}
-use Rattle.salt_model.specs.declared.trees.Act.TheVariants.{Do}
-use Rattle.salt_model.specs.declared.trees.Bound.TheVariants.{Key}
-use Rattle.salt_model.specs.declared.trees.Expr.TheVariants.{Lit}
-use Rattle.salt_model.specs.declared.trees.Field.{Field}
-use Rattle.salt_model.specs.declared.trees.Line.{Line}
-use Rattle.salt_model.specs.declared.trees.Line.TheVariants.{Session, Table}
-use Rattle.salt_model.specs.declared.trees.Statement.{Statement}
-use Rattle.salt_model.specs.declared.trees.Statement.TheVariants.{Insert, Select}
-use Rattle.salt_model.specs.declared.trees.What.TheVariants.{All}
+use Rattle.salt_ast.specs.declared.lines.Act.TheVariants.{Do}
+use Rattle.salt_ast.specs.declared.trees.Bound.TheVariants.{Key}
+use Rattle.salt_ast.specs.declared.trees.Expr.{Lit}
+use Rattle.salt_ast.specs.declared.trees.Field.{Field}
+use Rattle.salt_ast.specs.declared.lines.Line.{Line}
+use Rattle.salt_ast.specs.declared.lines.Line.TheVariants.{Session, Table}
+use Rattle.salt_ast.specs.declared.trees.Statement.{Statement}
+use Rattle.salt_ast.specs.declared.trees.Statement.TheVariants.{Insert, Select}
+use Rattle.salt_ast.specs.declared.trees.What.TheVariants.{All}
 use Rattle.salt_script.specs.Reading.{Reader, act_at, after, begun_at, column_at, columns_at, end_at, insert_at, key_column_at, line_at, literal_at, more_at, name_at, number_at, select_at, session_at, statement_at, table_at, value_at, values_at, with_front}
 use Rattle.salt_script.proofs.Steps.{after_is, bind_some, either_is, minus_is, name_is, number_is, plain_is, session_is, some_is}
 use Rattle.salt_tokens.specs.Scanning.{◌>>=◌}
@@ -146,13 +146,13 @@ insert_sound ts x rest h =
 
 select_sound : (ts : Row) (x : Statement) (rest : Row) → select_at ts ≡ Some (x, rest) → (front : Row) × (key word.Select ∷ ts ≡ front ++ rest) × IsStatement front x
 select_sound ts x rest h =
-    let a = bind_some (after (sign mark.Star) ts) (λ us. after (key word.From) us >>= λ vs. name_at vs >>= λ n. after (key word.Where) n.1 >>= λ ws. after (key word.Key) ws >>= λ xs. after (sign mark.Equal) xs >>= λ ys. value_at ys >>= λ e. Some (Select All n.0 (record { bound = Key e.0 }), e.1)) (x, rest) h in
-    let b = bind_some (after (key word.From) a.0) (λ vs. name_at vs >>= λ n. after (key word.Where) n.1 >>= λ ws. after (key word.Key) ws >>= λ xs. after (sign mark.Equal) xs >>= λ ys. value_at ys >>= λ e. Some (Select All n.0 (record { bound = Key e.0 }), e.1)) (x, rest) a.2 in
-    let c = bind_some (name_at b.0) (λ n. after (key word.Where) n.1 >>= λ ws. after (key word.Key) ws >>= λ xs. after (sign mark.Equal) xs >>= λ ys. value_at ys >>= λ e. Some (Select All n.0 (record { bound = Key e.0 }), e.1)) (x, rest) b.2 in
-    let d = bind_some (after (key word.Where) c.0.1) (λ ws. after (key word.Key) ws >>= λ xs. after (sign mark.Equal) xs >>= λ ys. value_at ys >>= λ e. Some (Select All c.0.0 (record { bound = Key e.0 }), e.1)) (x, rest) c.2 in
-    let e = bind_some (after (key word.Key) d.0) (λ xs. after (sign mark.Equal) xs >>= λ ys. value_at ys >>= λ e. Some (Select All c.0.0 (record { bound = Key e.0 }), e.1)) (x, rest) d.2 in
-    let f = bind_some (after (sign mark.Equal) e.0) (λ ys. value_at ys >>= λ e. Some (Select All c.0.0 (record { bound = Key e.0 }), e.1)) (x, rest) e.2 in
-    let g = bind_some (value_at f.0) (λ e. Some (Select All c.0.0 (record { bound = Key e.0 }), e.1)) (x, rest) f.2 in
+    let a = bind_some (after (sign mark.Star) ts) (λ us. after (key word.From) us >>= λ vs. name_at vs >>= λ n. after (key word.Where) n.1 >>= λ ws. after (key word.Key) ws >>= λ xs. after (sign mark.Equal) xs >>= λ ys. value_at ys >>= λ e. Some (Select All n.0 (record { bound = Key e.0; filter = None }), e.1)) (x, rest) h in
+    let b = bind_some (after (key word.From) a.0) (λ vs. name_at vs >>= λ n. after (key word.Where) n.1 >>= λ ws. after (key word.Key) ws >>= λ xs. after (sign mark.Equal) xs >>= λ ys. value_at ys >>= λ e. Some (Select All n.0 (record { bound = Key e.0; filter = None }), e.1)) (x, rest) a.2 in
+    let c = bind_some (name_at b.0) (λ n. after (key word.Where) n.1 >>= λ ws. after (key word.Key) ws >>= λ xs. after (sign mark.Equal) xs >>= λ ys. value_at ys >>= λ e. Some (Select All n.0 (record { bound = Key e.0; filter = None }), e.1)) (x, rest) b.2 in
+    let d = bind_some (after (key word.Where) c.0.1) (λ ws. after (key word.Key) ws >>= λ xs. after (sign mark.Equal) xs >>= λ ys. value_at ys >>= λ e. Some (Select All c.0.0 (record { bound = Key e.0; filter = None }), e.1)) (x, rest) c.2 in
+    let e = bind_some (after (key word.Key) d.0) (λ xs. after (sign mark.Equal) xs >>= λ ys. value_at ys >>= λ e. Some (Select All c.0.0 (record { bound = Key e.0; filter = None }), e.1)) (x, rest) d.2 in
+    let f = bind_some (after (sign mark.Equal) e.0) (λ ys. value_at ys >>= λ e. Some (Select All c.0.0 (record { bound = Key e.0; filter = None }), e.1)) (x, rest) e.2 in
+    let g = bind_some (value_at f.0) (λ e. Some (Select All c.0.0 (record { bound = Key e.0; filter = None }), e.1)) (x, rest) f.2 in
     let n = name_is b.0 c.0.0 c.0.1 c.1 in
     let r = value_sound f.0 g.0.0 g.0.1 g.1 in
     let equal : e.0 ≡ sign mark.Equal ∷ (r.0 ++ g.0.1) = after_is (sign mark.Equal) e.0 f.0 f.1 ∙ ap (λ (x : Row). sign mark.Equal ∷ x) r.1 in
@@ -160,7 +160,7 @@ select_sound ts x rest h =
     let bounded : c.0.1 ≡ key word.Where ∷ key word.Key ∷ sign mark.Equal ∷ (r.0 ++ g.0.1) = after_is (key word.Where) c.0.1 d.0 d.1 ∙ ap (λ (x : Row). key word.Where ∷ x) keyed in
     let named : b.0 ≡ name c.0.0 ∷ key word.Where ∷ key word.Key ∷ sign mark.Equal ∷ (r.0 ++ g.0.1) = n.0 ∙ ap (λ (x : Row). name c.0.0 ∷ x) bounded in
     let front : Row = key word.Select ∷ sign mark.Star ∷ key word.From ∷ name c.0.0 ∷ key word.Where ∷ key word.Key ∷ sign mark.Equal ∷ r.0 in
-    renamed IsStatement (key word.Select ∷ ts) front (Select All c.0.0 (record { bound = Key g.0.0 })) g.0.1 x rest g.2 (ap (λ (x : Row). key word.Select ∷ x) (after_is (sign mark.Star) ts a.0 a.1 ∙ ap (λ (x : Row). sign mark.Star ∷ x) (after_is (key word.From) a.0 b.0 b.1 ∙ ap (λ (x : Row). key word.From ∷ x) named))) (select n.1 r.2)
+    renamed IsStatement (key word.Select ∷ ts) front (Select All c.0.0 (record { bound = Key g.0.0; filter = None })) g.0.1 x rest g.2 (ap (λ (x : Row). key word.Select ∷ x) (after_is (sign mark.Star) ts a.0 a.1 ∙ ap (λ (x : Row). sign mark.Star ∷ x) (after_is (key word.From) a.0 b.0 b.1 ∙ ap (λ (x : Row). key word.From ∷ x) named))) (select n.1 r.2)
 
 statement_sound : Sound IsStatement statement_at
 statement_sound ts x rest h =
@@ -175,18 +175,18 @@ statement_sound ts x rest h =
 
 table_sound : (ts : Row) (x : Line) (rest : Row) → table_at ts ≡ Some (x, rest) → (front : Row) × (key word.Create ∷ ts ≡ front ++ rest) × IsLine front x
 table_sound ts x rest h =
-    let a = bind_some (after (key word.Table) ts) (λ us. name_at us >>= λ n. after (sign mark.Open) n.1 >>= λ vs. columns_at vs >>= λ cs. after (sign mark.Close) cs.1 >>= λ ws. Some (Table (record { name = n.0; columns = cs.0 }), ws)) (x, rest) h in
-    let b = bind_some (name_at a.0) (λ n. after (sign mark.Open) n.1 >>= λ vs. columns_at vs >>= λ cs. after (sign mark.Close) cs.1 >>= λ ws. Some (Table (record { name = n.0; columns = cs.0 }), ws)) (x, rest) a.2 in
-    let c = bind_some (after (sign mark.Open) b.0.1) (λ vs. columns_at vs >>= λ cs. after (sign mark.Close) cs.1 >>= λ ws. Some (Table (record { name = b.0.0; columns = cs.0 }), ws)) (x, rest) b.2 in
-    let d = bind_some (columns_at c.0) (λ cs. after (sign mark.Close) cs.1 >>= λ ws. Some (Table (record { name = b.0.0; columns = cs.0 }), ws)) (x, rest) c.2 in
-    let e = bind_some (after (sign mark.Close) d.0.1) (λ ws. Some (Table (record { name = b.0.0; columns = d.0.0 }), ws)) (x, rest) d.2 in
+    let a = bind_some (after (key word.Table) ts) (λ us. name_at us >>= λ n. after (sign mark.Open) n.1 >>= λ vs. columns_at vs >>= λ cs. after (sign mark.Close) cs.1 >>= λ ws. Some (Table (record { name = n.0; columns = cs.0; checks = [] }), ws)) (x, rest) h in
+    let b = bind_some (name_at a.0) (λ n. after (sign mark.Open) n.1 >>= λ vs. columns_at vs >>= λ cs. after (sign mark.Close) cs.1 >>= λ ws. Some (Table (record { name = n.0; columns = cs.0; checks = [] }), ws)) (x, rest) a.2 in
+    let c = bind_some (after (sign mark.Open) b.0.1) (λ vs. columns_at vs >>= λ cs. after (sign mark.Close) cs.1 >>= λ ws. Some (Table (record { name = b.0.0; columns = cs.0; checks = [] }), ws)) (x, rest) b.2 in
+    let d = bind_some (columns_at c.0) (λ cs. after (sign mark.Close) cs.1 >>= λ ws. Some (Table (record { name = b.0.0; columns = cs.0; checks = [] }), ws)) (x, rest) c.2 in
+    let e = bind_some (after (sign mark.Close) d.0.1) (λ ws. Some (Table (record { name = b.0.0; columns = d.0.0; checks = [] }), ws)) (x, rest) d.2 in
     let n = name_is a.0 b.0.0 b.0.1 b.1 in
     let r = columns_sound c.0 d.0.0 d.0.1 d.1 in
     let list : c.0 ≡ (r.0 ++ sign mark.Close ∷ []) ++ e.0 = r.1 ∙ ap (λ (x : Row). r.0 ++ x) (after_is (sign mark.Close) d.0.1 e.0 e.1) ∙ sym (append_assoc r.0 (sign mark.Close ∷ []) e.0) in
     let opened : b.0.1 ≡ sign mark.Open ∷ ((r.0 ++ sign mark.Close ∷ []) ++ e.0) = after_is (sign mark.Open) b.0.1 c.0 c.1 ∙ ap (λ (x : Row). sign mark.Open ∷ x) list in
     let named : a.0 ≡ name b.0.0 ∷ sign mark.Open ∷ ((r.0 ++ sign mark.Close ∷ []) ++ e.0) = n.0 ∙ ap (λ (x : Row). name b.0.0 ∷ x) opened in
     let front : Row = key word.Create ∷ key word.Table ∷ name b.0.0 ∷ sign mark.Open ∷ (r.0 ++ sign mark.Close ∷ []) in
-    renamed IsLine (key word.Create ∷ ts) front (Table (record { name = b.0.0; columns = d.0.0 })) e.0 x rest e.2 (ap (λ (x : Row). key word.Create ∷ x) (after_is (key word.Table) ts a.0 a.1 ∙ ap (λ (x : Row). key word.Table ∷ x) named)) (creates n.1 r.2)
+    renamed IsLine (key word.Create ∷ ts) front (Table (record { name = b.0.0; columns = d.0.0; checks = [] })) e.0 x rest e.2 (ap (λ (x : Row). key word.Create ∷ x) (after_is (key word.Table) ts a.0 a.1 ∙ ap (λ (x : Row). key word.Table ∷ x) named)) (creates n.1 r.2)
 
 act_sound : (ts : Row) (x : Line) (rest : Row) → act_at ts ≡ Some (x, rest) → (front : Row) × (sign mark.At ∷ ts ≡ front ++ rest) × IsLine front x
 act_sound ts x rest h =

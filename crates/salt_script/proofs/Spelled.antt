@@ -2,7 +2,7 @@
 use Rattle.std.proofs.Common.{◌≡◌, ℕ, false, List, Some, None, refl, sym, subst, ◌∙◌, Result, Ok, Err}
 use Rattle.std.specs.Prelude.{IfOk}
 use Rattle.salt_model.specs.Lines.{IsLine, Spells, does_nothing, idle, tokens}
-use Rattle.salt_model.specs.declared.trees.Line.{Line}
+use Rattle.salt_ast.specs.declared.lines.Line.{Line}
 use Rattle.salt_script.specs.Answers.{GivesAll, HasLine}
 use Rattle.salt_script.specs.Errors.{read_err}
 use Rattle.salt_script.specs.Reading.{line_at}

@@ -1,7 +1,7 @@
 -- What the answers of the reader mean.
 use Rattle.salt_model.specs.Log.{Asked, Tree, Unread}
 use Rattle.salt_model.specs.declared.events.Refusal.TheVariants as refusal
-use Rattle.salt_model.specs.declared.trees.Line.{Line}
+use Rattle.salt_ast.specs.declared.lines.Line.{Line}
 use Rattle.salt_script.specs.declared.error.ReadErr.{ReadErr}
 use Rattle.salt_script.specs.declared.error.ReadErr.TheVariants.{Memory, Syntax}
 use Rattle.salt_model.specs.Lines.{IsLine}

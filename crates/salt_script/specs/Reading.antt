@@ -1,16 +1,15 @@
 -- Reading a row of symbols from left to right.
 use denote.Enum.Bare.{sameb}
 use Rattle.salt_model.specs.Lines.{int_field}
-use Rattle.salt_model.specs.declared.trees.Act.TheVariants.{Do}
-use Rattle.salt_model.specs.declared.trees.Bound.TheVariants.{Key}
-use Rattle.salt_model.specs.declared.trees.Expr.{Expr}
-use Rattle.salt_model.specs.declared.trees.Expr.TheVariants.{Lit}
-use Rattle.salt_model.specs.declared.trees.Field.{Field}
-use Rattle.salt_model.specs.declared.trees.Line.{Line}
-use Rattle.salt_model.specs.declared.trees.Line.TheVariants.{Session, Table}
-use Rattle.salt_model.specs.declared.trees.Statement.{Statement}
-use Rattle.salt_model.specs.declared.trees.Statement.TheVariants.{Insert, Select}
-use Rattle.salt_model.specs.declared.trees.What.TheVariants.{All}
+use Rattle.salt_ast.specs.declared.lines.Act.TheVariants.{Do}
+use Rattle.salt_ast.specs.declared.trees.Bound.TheVariants.{Key}
+use Rattle.salt_ast.specs.declared.trees.Expr.{Expr, Lit}
+use Rattle.salt_ast.specs.declared.trees.Field.{Field}
+use Rattle.salt_ast.specs.declared.lines.Line.{Line}
+use Rattle.salt_ast.specs.declared.lines.Line.TheVariants.{Session, Table}
+use Rattle.salt_ast.specs.declared.trees.Statement.{Statement}
+use Rattle.salt_ast.specs.declared.trees.Statement.TheVariants.{Insert, Select}
+use Rattle.salt_ast.specs.declared.trees.What.TheVariants.{All}
 use Rattle.salt_tokens.specs.Scanning.{◌>>=◌}
 use Rattle.salt_tokens.specs.Symbols.{Row, Symbol, int, key, name, sign}
 use Rattle.salt_tokens.specs.contracts.keyword.Keyword.{the_type as keywords}
@@ -100,7 +99,7 @@ insert_at ts =
 -- what stands behind `select`
 abbrev pub select_at : Reader Statement
 select_at ts =
-    after (sign mark.Star) ts >>= λ us. after (key word.From) us >>= λ vs. name_at vs >>= λ n. after (key word.Where) n.1 >>= λ ws. after (key word.Key) ws >>= λ xs. after (sign mark.Equal) xs >>= λ ys. value_at ys >>= λ e. Some (Select All n.0 (record { bound = Key e.0 }), e.1)
+    after (sign mark.Star) ts >>= λ us. after (key word.From) us >>= λ vs. name_at vs >>= λ n. after (key word.Where) n.1 >>= λ ws. after (key word.Key) ws >>= λ xs. after (sign mark.Equal) xs >>= λ ys. value_at ys >>= λ e. Some (Select All n.0 (record { bound = Key e.0; filter = None }), e.1)
 
 abbrev pub statement_at : Reader Statement
 statement_at ts = either (after (key word.Insert) ts) (after (key word.Select) ts >>= select_at) insert_at
@@ -108,7 +107,7 @@ statement_at ts = either (after (key word.Insert) ts) (after (key word.Select) t
 -- what stands behind `create`
 abbrev pub table_at : Reader Line
 table_at ts =
-    after (key word.Table) ts >>= λ us. name_at us >>= λ n. after (sign mark.Open) n.1 >>= λ vs. columns_at vs >>= λ cs. after (sign mark.Close) cs.1 >>= λ ws. Some (Table (record { name = n.0; columns = cs.0 }), ws)
+    after (key word.Table) ts >>= λ us. name_at us >>= λ n. after (sign mark.Open) n.1 >>= λ vs. columns_at vs >>= λ cs. after (sign mark.Close) cs.1 >>= λ ws. Some (Table (record { name = n.0; columns = cs.0; checks = [] }), ws)
 
 -- what stands behind `@`
 abbrev pub act_at : Reader Line

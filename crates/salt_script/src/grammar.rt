@@ -7,7 +7,7 @@ ghost use Rattle.salt_tokens.specs.Symbols.{row};
 
 use crate::cursor::Cursor;
 use crate::error::ReadErr;
-use salt_model::{
+use salt_ast::{
     Act, Bound, ColType, Expr, Exprs, Field, Fields, Line, Scan, Statement, TableDef, What,
 };
 use salt_tokens::{Keyword, Lexeme, Sign};
@@ -118,6 +118,7 @@ impl<'a> Cursor<'a> {
             table,
             scan: Scan {
                 bound: Bound::Key(key),
+                filter: None,
             },
         })
     }
@@ -141,7 +142,11 @@ impl<'a> Cursor<'a> {
         self.take_sign(Sign::Open)?;
         let columns = self.columns(alloc)?;
         self.take_sign(Sign::Close)?;
-        Ok(Line::Table(TableDef { name, columns }))
+        Ok(Line::Table(TableDef {
+            name,
+            columns,
+            checks: Items::new(alloc),
+        }))
     }
 
     /// What stands behind `@`.

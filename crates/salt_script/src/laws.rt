@@ -2,7 +2,7 @@
 
 ghost use Rattle.std.specs.Prelude.{◌≡◌, ℕ, List};
 ghost use Rattle.salt_model.specs.Lines.{Spells};
-ghost use Rattle.salt_model.specs.declared.trees.Line.{Line};
+ghost use Rattle.salt_ast.specs.declared.lines.Line.{Line};
 
 use salt_tokens::one_row;
 

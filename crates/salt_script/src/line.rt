@@ -3,14 +3,14 @@
 ghost use Rattle.std.specs.Prelude.{◌≡◌, IfOk, Err};
 ghost use Rattle.std.specs.List.{list_all};
 ghost use Rattle.salt_model.specs.Lines.{Asks, begins_comment, does_nothing};
-ghost use Rattle.salt_model.specs.declared.trees.Line.{Line};
+ghost use Rattle.salt_ast.specs.declared.lines.Line.{Line};
 ghost use Rattle.salt_script.specs.Answers.{HasLine, asked_of};
 ghost use Rattle.salt_script.specs.declared.error.ReadErr.TheVariants.{Syntax};
 ghost use Rattle.salt_tokens.specs.Bytes.{is_blank};
 
 use crate::error::ReadErr;
 use crate::grammar::whole_line;
-use salt_model::Line;
+use salt_ast::Line;
 use salt_tokens::{lexemes, one_row};
 use std::alloc::{AllocError, Global};
 

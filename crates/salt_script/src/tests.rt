@@ -1,5 +1,5 @@
 use super::*;
-use salt_model::{Act, Bound, Expr, Line, Statement, TableDef};
+use salt_ast::{Act, Bound, ColType, Expr, Line, Scan, Statement, TableDef, What};
 use salt_values::Value;
 use std::alloc::{AllocError, Global};
 use std::test::Fail;
@@ -12,7 +12,7 @@ fn show_number(alloc: Global, out: &mut Vec<u8>, number: i64) -> Result<(), Allo
 fn show_value(alloc: Global, out: &mut Vec<u8>, value: &Expr) -> Result<(), AllocError> {
     match value {
         Expr::Lit(Value::Int(number)) => show_number(alloc, out, *number),
-        Expr::Lit(Value::Text(text)) => out.extend_from_slice(text.as_bytes()),
+        _ => out.extend_from_slice(b" another expression"),
     }
 }
 
@@ -22,8 +22,43 @@ fn show_table(out: &mut Vec<u8>, def: &TableDef) -> Result<(), AllocError> {
     for column in def.columns.as_slice() {
         out.extend_from_slice(b" ")?;
         out.extend_from_slice(column.name.as_slice())?;
+        if column.kind == ColType::Text {
+            out.extend_from_slice(b" text")?;
+        }
+    }
+    if !def.checks.as_slice().is_empty() {
+        out.extend_from_slice(b" with checks")?;
     }
     Ok(())
+}
+
+fn show_insert(
+    alloc: Global,
+    out: &mut Vec<u8>,
+    table: &[u8],
+    values: &[Expr],
+) -> Result<(), AllocError> {
+    out.extend_from_slice(b" insert ")?;
+    out.extend_from_slice(table)?;
+    for value in values {
+        show_value(alloc, out, value)?;
+    }
+    Ok(())
+}
+
+fn show_select(
+    alloc: Global,
+    out: &mut Vec<u8>,
+    what: &What,
+    table: &[u8],
+    scan: &Scan,
+) -> Result<(), AllocError> {
+    out.extend_from_slice(b" select ")?;
+    out.extend_from_slice(table)?;
+    match (what, &scan.bound, &scan.filter) {
+        (What::All, Bound::Key(key), None) => show_value(alloc, out, key),
+        _ => out.extend_from_slice(b" another selection"),
+    }
 }
 
 fn show_statement(
@@ -33,24 +68,28 @@ fn show_statement(
 ) -> Result<(), AllocError> {
     match statement {
         Statement::Insert { table, values } => {
-            out.extend_from_slice(b" insert ")?;
-            out.extend_from_slice(table.as_slice())?;
-            for value in values.as_slice() {
-                show_value(alloc, out, value)?;
-            }
-            Ok(())
+            show_insert(alloc, out, table.as_slice(), values.as_slice())
         }
-        Statement::Select {
-            what: _,
-            table,
-            scan,
+        Statement::Select { what, table, scan } => {
+            show_select(alloc, out, what, table.as_slice(), scan)
+        }
+        _ => out.extend_from_slice(b" another statement"),
+    }
+}
+
+/// What a line was read as, in words.
+fn show_line(alloc: Global, out: &mut Vec<u8>, line: &Line) -> Result<(), AllocError> {
+    match line {
+        Line::Nothing => out.extend_from_slice(b"nothing"),
+        Line::Table(def) => show_table(out, def),
+        Line::Session {
+            session,
+            act: Act::Do(statement),
         } => {
-            out.extend_from_slice(b" select ")?;
-            out.extend_from_slice(table.as_slice())?;
-            match &scan.bound {
-                Bound::Key(key) => show_value(alloc, out, key),
-            }
+            show_number(alloc, out, i64::from(*session))?;
+            show_statement(alloc, out, statement)
         }
+        _ => out.extend_from_slice(b"another line"),
     }
 }
 
@@ -59,14 +98,7 @@ fn shown(alloc: Global, text: &[u8]) -> Result<Vec<u8>, AllocError> {
     let mut out = Vec::new(alloc);
     match &read_line(alloc, text)? {
         None => out.extend_from_slice(b"none")?,
-        Some(Line::Nothing) => out.extend_from_slice(b"nothing")?,
-        Some(Line::Table(def)) => show_table(&mut out, def)?,
-        Some(Line::Session { session, act }) => {
-            show_number(alloc, &mut out, i64::from(*session))?;
-            match act {
-                Act::Do(statement) => show_statement(alloc, &mut out, statement)?,
-            }
-        }
+        Some(line) => show_line(alloc, &mut out, line)?,
     }
     Ok(out)
 }
