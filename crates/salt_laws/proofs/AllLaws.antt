@@ -9,7 +9,7 @@ use Rattle.salt_laws.proofs.KeptLaws.{kept-played}
 use Rattle.salt_laws.proofs.Lists.{In, either}
 use Rattle.salt_laws.proofs.NextFits.{Flies}
 use Rattle.salt_laws.proofs.Reading.{writers-released}
-use Rattle.salt_laws.proofs.Releasable.{releases-all-played}
+use Rattle.salt_laws.proofs.FinishedSources.{releases-all-played}
 use Rattle.salt_laws.proofs.Salted.{Kept_up, OfBoots, holds, may-fit, releases-played, salted-played}
 use Rattle.salt_laws.proofs.Sound.{Old, boot-ended, conts-back, old-fallen}
 use Rattle.salt_laws.proofs.Unreleased.{whole-did}

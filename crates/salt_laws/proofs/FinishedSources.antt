@@ -1,23 +1,23 @@
 -- A program that another reads from, and that is released, is finished; so releases are exactly those of programs all of whose sources are finished.
+use Rattle.salt_model.specs.declared.locks.Reach.{Reach}
 use Rattle.salt_model.specs.declared.events.End.{End}
 use Rattle.salt_ast.specs.Words.{or_else, when}
 use Rattle.salt_laws.proofs.Accounts.{accounts, goes-along}
 use Rattle.salt_laws.proofs.Due.{accepts-asks, accepts-due, accepts-turns, finishes-due}
-use Rattle.salt_laws.proofs.Fresh.{IfComes}
-use Rattle.salt_laws.proofs.Ids.{and_left, is_same_id-refl, is_same_id-true}
+use Rattle.salt_laws.proofs.Ids.{and_left, is_same_id-true}
 use Rattle.salt_laws.proofs.Lists.{In, either, has-in, in-cases, in-filter_map, in-has, in-left, in-right, in-without, or_cases}
 use Rattle.salt_laws.proofs.NextFits.{Fits, IsAcceptance, is_first_of}
 use Rattle.salt_laws.proofs.Reading.{Salty, writer-in}
-use Rattle.salt_laws.proofs.Releasable.{MayGo, to_release-exact, to_release-finished}
+use Rattle.salt_laws.proofs.Releasable.{MayGo, to_release-exact}
 use Rattle.salt_laws.proofs.Salted.{OfBoots, holds, may-fit}
-use Rattle.salt_laws.proofs.Sound.{Dead, Sound, of-program}
+use Rattle.salt_laws.proofs.Sound.{Dead, of-program, to_release-finished}
 use Rattle.salt_model.specs.After.{reach_now}
-use Rattle.salt_model.specs.Continuing.{AcceptsDue, FinishesDue, GoesAlong, accepted_after, accepted_by, is_unfinished, last_said}
+use Rattle.salt_model.specs.Continuing.{AcceptsDue, GoesAlong, accepted_after, accepted_by, is_unfinished, last_said}
 use Rattle.salt_model.specs.Isolation.{is_committed_standing}
 use Rattle.salt_model.specs.Log.{Log, Over, Running, Waiting, accepted_in, finished_in, from, is_of_program, kind_of, program_of, program_of_kind, released_in, standing, start_of, ◌asks◌, ◌says◌, ◌turns◌}
-use Rattle.salt_model.specs.Played.{Each, Played}
+use Rattle.salt_model.specs.Played.{Played}
 use Rattle.salt_model.specs.Programs.{program_begun}
-use Rattle.salt_model.specs.Reads.{programs_among, read_directly, to_release, writers_in}
+use Rattle.salt_model.specs.Reads.{programs_among, read_directly, writers_in}
 use Rattle.salt_model.specs.Releasing.{IsReleasable, NamesReleasable, ReadsThrough, ReleasesAll, itself, through}
 use Rattle.salt_model.specs.Words.{has_id, without}
 use Rattle.salt_model.specs.declared.events.End.TheVariants.{Committed}
@@ -28,7 +28,7 @@ use Rattle.salt_model.specs.declared.events.UnitKind.{UnitKind}
 use Rattle.salt_values.specs.Id.{is_same_id}
 use Rattle.salt_values.specs.declared.id.Id.{Id}
 use Rattle.std.proofs.Common.{ap, inl, inr, subst, sym, ◌∙◌}
-use Rattle.std.specs.Prelude.{Bool, IsTrue, List, None, Option, Some, [], cond, false, option_and_then, refl, true, ℕ, ◌&&◌, ◌++◌, ◌||◌, ◌∷◌, ◌≡◌, ◌⊎◌}
+use Rattle.std.specs.Prelude.{Bool, IsTrue, None, Option, Some, [], cond, false, option_and_then, refl, true, ℕ, ◌++◌, ◌||◌, ◌↔◌, ◌∷◌, ◌≡◌, ◌⊎◌}
 
 -- programs of units, and what is released of them
 pub record Sources (log : Log) : Type 0 where
@@ -105,10 +105,104 @@ committed-step log e s a u c h k = either (λ was. inl (old was)) (λ now. new n
 
     ends : (n : ℕ) (o : Option UnitKind) → kind_of u log ≡ o → option_and_then program_of_kind o ≡ Some c → In c (accepted_in log) ⊎ (option_and_then program_begun o ≡ Some c)
     ends n (Some (First t b name args)) q p = inr p
-    ends n (Some (Later b part)) q p = let s : b ≡ c = cc in inl (subst (λ x. In x (accepted_in log)) s (s.later u b part q))
+    ends n (Some (Later b part)) q p = let same : b ≡ c = cc in inl (subst (λ x. In x (accepted_in log)) same (s.later u b part q))
     ends n None q p = cc
     ends n (Some (Acid t)) q p = cc
     ends n (Some (Call t name args)) q p = cc
 
     new : (n : ℕ) → e ≡ Ended u (Committed n) → In c (accepted_in (log says e)) ⊎ (accepted_after (log says e) (Some e) ≡ Some c)
     new n i = subst (λ x. In c (accepted_in (log says x)) ⊎ (accepted_after (log says x) (Some x) ≡ Some c)) (sym i) (ends n (kind_of u log) refl here)
+
+-- a program that is about to be accepted is not over
+acceptance-alive : (log : Log) → Played log → OfBoots (start_of log).kept → (c : Id) → IsAcceptance c log (last_said log) → Dead log c → ⊥
+acceptance-alive (from k) p w c a d = absurd a
+acceptance-alive (log asks asked) p w c a d = acceptance-alive log p.0 w c (before (last_said log) a) d
+  where
+    before : (o : Option Event) → IsAcceptance c (log asks asked) o → IsAcceptance c log o
+    before (Some (Ended u (Committed n))) h = h
+    before o h = absurd h
+acceptance-alive (log turns b) p w c a d = acceptance-alive log p.0 w c (before (last_said log) a) d
+  where
+    before : (o : Option Event) → IsAcceptance c (log turns b) o → IsAcceptance c log o
+    before (Some (Ended u (Committed n))) h = h
+    before o h = absurd h
+acceptance-alive (log says Ended u (Committed n)) p w c a d = let h = holds log p.0 w in h.sound.alive c u (may-fit log (Ended u (Committed n)) h.comes p.1).0 (of-program log u c (first (kind_of u log) a)) d
+  where
+    first : (o : Option UnitKind) → is_first_of c o ≡ true → option_and_then program_of_kind o ≡ Some c
+    first (Some (First t b name args)) g = ap Some (sym (is_same_id-true c b g))
+    first None g = cc
+    first (Some (Acid t)) g = cc
+    first (Some (Call t name args)) g = cc
+    first (Some (Later b part)) g = cc
+acceptance-alive (log says e) p w c a d = absurd a
+
+read-step : (log : Log) (e : Event) → Sources log → Salty log → AcceptsDue log e → (b c : Id) → In c (read_directly b (log says e)) → In c (accepted_in (log says e))
+read-step log (Did u st a) s z q b c h = by (is_of_program b log u) h
+  where
+    new : In c (without (b ∷ []) (programs_among log (writers_in log (reach_now u log st)))) → In c (accepted_in log)
+    new i = from-writer (reach_now u log st) (in-filter_map (λ x. program_of x log) c (writers_in log (reach_now u log st)) (in-without c (b ∷ []) _ i).0)
+      where
+        from-writer : (o : Option Reach) → (x : Id) × In x (writers_in log o) × (program_of x log ≡ Some c) → In c (accepted_in log)
+        from-writer None m = absurd m.1
+        from-writer (Some r) m =
+            let w = writer-in log r m.0 m.1 in
+            let done : is_committed_standing (standing m.0 log) ≡ true = subst (λ x. is_committed_standing (standing x log) ≡ true) w.3 (z.written w.0 w.1).committed in
+            either (λ i. i) (λ d. let x : None ≡ Some c = sym q ∙ d in cc) (s.committed m.0 c done m.2)
+
+    by : (t : Bool) → In c (cond t (without (b ∷ []) (programs_among log (writers_in log (reach_now u log st))) ++ read_directly b log) (read_directly b log)) → In c (accepted_in log)
+    by true g = either new (λ i. s.read b c i) (in-cases c _ (read_directly b log) g)
+    by false g = s.read b c g
+read-step log e s z q b c h = accepted-says log e c (s.read b c h)
+
+over-step : (log : Log) (e : Event) → Sources log → Fits log e → GoesAlong log e → ((c : Id) → IsAcceptance c log (last_said log) → Dead log c → ⊥) → (c : Id) → In c (released_in (log says e)) → In c (accepted_in (log says e)) → In c (finished_in (log says e))
+over-step log (Released bs) s f g n c r a = either (λ i. s.over c i a) (λ i. to_release-finished log c (subst (In c) f.0 i)) (in-cases c (released_in log) bs r)
+over-step log Ready s f g n c r a = by (has_id c (finished_in log)) refl
+  where
+    by : (t : Bool) → has_id c (finished_in log) ≡ t → In c (finished_in log)
+    by true e = has-in c (finished_in log) e
+    by false e = let x : is_unfinished log c ≡ true = rw (in-has c (accepted_in log) a, e) refl in let y : true ≡ false = sym x ∙ g c in cc
+over-step log (Accepted b) s f g n c r a = either (λ i. s.over c r i) (λ i. either (λ e. absurd (n b f (inr (subst (λ x. In x (released_in log)) (sym e) r)))) (λ x. absurd x) i) (in-cases c (accepted_in log) (b ∷ []) a)
+over-step log (Finished b) s f g n c r a = in-left c (finished_in log) (b ∷ []) (s.over c r a)
+over-step log e s f g n c r a = s.over c r a
+
+sources : (log : Log) → Played log → OfBoots (start_of log).kept → Sources log
+sources (from k) p w = record { later = λ u c part h. cc; committed = λ u c h q. cc; read = λ b c h. absurd h; over = λ c h a. absurd h }
+sources (log asks asked) p w = let s = sources log p.0 w in record { later = s.later; committed = λ u c h q. either (λ i. inl i) (λ d. inr (accepts-asks log asked (last_said log) ∙ d)) (s.committed u c h q); read = s.read; over = s.over }
+sources (log turns b) p w = let s = sources log p.0 w in record { later = s.later; committed = λ u c h q. either (λ i. inl i) (λ d. inr (accepts-turns log b (last_said log) ∙ d)) (s.committed u c h q); read = s.read; over = s.over }
+sources (log says e) p w =
+    let s = sources log p.0 w in
+    let h = holds log p.0 w in
+    let f = may-fit log e h.comes p.1 in
+    let a = accepts-due log e p.0 h.comes p.1 in
+    let g = goes-along log e (accounts log p.0 w) h.sound f a (finishes-due log e p.0 h.comes p.1) in
+    record { later = later-step log e s g; committed = committed-step log e s a; read = read-step log e s h.salty a; over = over-step log e s f g (acceptance-alive log p.0 w) }
+
+-- what a program reads, directly or through programs, is finished where it is released
+read-finished : (log : Log) → Sources log → (b x c : Id) → IsTrue (has_id x (read_directly b log)) → ReadsThrough log x c → has_id c (released_in log) ≡ true → has_id c (finished_in log) ≡ true
+read-finished log s b x c i itself d = in-has c (finished_in log) (s.over c (has-in c (released_in log) d) (s.read b c (has-in c (read_directly b log) i)))
+read-finished log s b x c i (through {c = y} j r) d = read-finished log s x y c j r d
+
+-- so a source of a program that is not released is finished
+source-finished : (log : Log) → Sources log → (b c : Id) → has_id b (released_in log) ≡ false → ReadsThrough log b c → (has_id c (finished_in log) || has_id c (released_in log)) ≡ true → has_id c (finished_in log) ≡ true
+source-finished log s b c n itself h = either (λ f. f) (λ d. let x : true ≡ false = sym d ∙ n in cc) (or_cases (has_id c (finished_in log)) _ h)
+source-finished log s b c n (through {c = x} i r) h = either (λ f. f) (λ d. read-finished log s b x c i r d) (or_cases (has_id c (finished_in log)) _ h)
+
+to-finished : (log : Log) → Sources log → (b : Id) → (has_id b (released_in log) ≡ false) × MayGo log b → (has_id b (released_in log) ≡ false) × IsReleasable log b
+to-finished log s b h = (h.0, λ c r. source-finished log s b c h.0 r (h.1 c r))
+
+or-left-true : (p q : Bool) → p ≡ true → (p || q) ≡ true
+or-left-true true q h = refl
+or-left-true false q h = cc
+
+from-finished : (log : Log) (b : Id) → (has_id b (released_in log) ≡ false) × IsReleasable log b → (has_id b (released_in log) ≡ false) × MayGo log b
+from-finished log b h = (h.0, λ c r. or-left-true (has_id c (finished_in log)) (has_id c (released_in log)) (h.1 c r))
+
+names-at : (log : Log) (e : Event) → Sources log → Salty log → Fits log e → NamesReleasable log e
+names-at log (Released bs) s z f = λ b. subst (λ l. IsTrue (has_id b l) ↔ ((has_id b (released_in log) ≡ false) × IsReleasable log b)) (sym f.0) (let x = to_release-exact log z.closed b in ((λ h. to-finished log s b (x.0 h)), (λ h. x.1 (from-finished log b h))))
+names-at log e s z f = tt
+
+pub releases-all-played : (log : Log) → Played log → OfBoots (start_of log).kept → ReleasesAll log
+releases-all-played (from k) p w = tt
+releases-all-played (log asks asked) p w = releases-all-played log p.0 w
+releases-all-played (log turns b) p w = releases-all-played log p.0 w
+releases-all-played (log says e) p w = let r = holds log p.0 w in (releases-all-played log p.0 w, names-at log e (sources log p.0 w) r.salty (may-fit log e r.comes p.1))

@@ -137,7 +137,7 @@ last-in w [] h = h
 last-in w (x ∷ ws) (inl e) = inl e
 last-in w (x ∷ ws) (inr h) = inr (last-in w ws (in-filter _ w (last_of_each ws) h).0)
 
-writer-in : (log : Log) (r : Reach) (v : Id) → In v (writers_in log (Some r)) → (w : Written) × In w (written_in log) × (is_reached r w ≡ true) × (w.unit ≡ v)
+pub writer-in : (log : Log) (r : Reach) (v : Id) → In v (writers_in log (Some r)) → (w : Written) × In w (written_in log) × (is_reached r w ≡ true) × (w.unit ≡ v)
 writer-in log r v h =
     let m = in-map (λ (w : Written). w.unit) v (filter (is_reached r) (last_of_each (written_in log))) h in
     let i = in-filter (is_reached r) m.0 (last_of_each (written_in log)) m.1 in

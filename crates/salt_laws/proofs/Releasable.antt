@@ -1,20 +1,14 @@
 -- The pruned list of the programs to release is that of the releasable ones.
 use Rattle.salt_laws.proofs.Ids.{is_same_id-true}
 use Rattle.salt_laws.proofs.Lists.{In, PassesSelf, all-in, either, has-in, in-has, in-order, in-shrink, in-without, into-all, into-filter, into-shrink, or_cases, or_right_true, shrink-ends}
-use Rattle.salt_laws.proofs.NextFits.{Fits}
-use Rattle.salt_laws.proofs.Reading.{Salty}
-use Rattle.salt_laws.proofs.Salted.{OfBoots, holds, may-fit}
 use Rattle.salt_laws.proofs.Sound.{to_release-finished}
-use Rattle.salt_model.specs.Log.{Log, finished_in, from, released_in, start_of, ◌asks◌, ◌says◌, ◌turns◌}
-use Rattle.salt_model.specs.Played.{Played}
+use Rattle.salt_model.specs.Log.{Log, finished_in, released_in}
 use Rattle.salt_model.specs.Reads.{read_directly, reads_within, to_release}
-use Rattle.salt_model.specs.Releasing.{MayGo, NamesReleasable, ReadsThrough, ReleasesAll, itself, through}
+use Rattle.salt_model.specs.Releasing.{ReadsThrough, itself, through}
 use Rattle.salt_model.specs.Words.{has_id, in_order, insert_id, without}
-use Rattle.salt_model.specs.declared.events.Event.TheVariants.{Released}
-use Rattle.salt_model.specs.declared.events.Event.{Event}
 use Rattle.salt_values.specs.Id.{is_older, is_same_id}
 use Rattle.salt_values.specs.declared.id.Id.{Id}
-use Rattle.std.proofs.Common.{arith, inl, inr, subst, sym, ◌∙◌}
+use Rattle.std.proofs.Common.{arith, inl, inr, sym, ◌∙◌}
 use Rattle.std.specs.Prelude.{Bool, IsTrue, List, [], cond, false, length, not, refl, true, ◌||◌, ◌↔◌, ◌∷◌, ◌≡◌, ◌⊎◌}
 
 into-insert : (x u : Id) (vs : List Id) → In x (u ∷ vs) → In x (insert_id u vs)
