@@ -6,7 +6,7 @@ use Rattle.salt_laws.proofs.NextFits.{Comes, Fits, Within}
 use Rattle.salt_laws.proofs.Rising.{Rises, first-accepted, rises}
 use Rattle.salt_laws.proofs.Salted.{OfBoots, comes-at, each, holds, may-fit}
 use Rattle.salt_model.specs.After.{kept}
-use Rattle.salt_model.specs.Continuing.{AcceptsDue, Continued, FinishesDue, GoesAlong, InOpening, Opens}
+use Rattle.salt_model.specs.Continuing.{AcceptsDue, IsContinued, FinishesDue, GoesAlong, InOpening, Opens}
 use Rattle.salt_model.specs.Log.{Log, from, start_of, ◌asks◌, ◌says◌, ◌turns◌}
 use Rattle.salt_model.specs.Next.{next}
 use Rattle.salt_model.specs.Phases.{Fallen, Opening, Phase, Serving, phase}
@@ -57,7 +57,7 @@ continues (log says e) p w r =
     let d = finishes-due log e p.0 h.comes p.1 in
     (continues log p.0 w r, (a, d, goes-along log e (accounts log p.0 w) h.sound f a d, opens-at log e h.comes (rises log p.0 w r) p.1))
 
-pub continued-played : (log : Log) → Played log → OfBoots (start_of log).kept → Rises (start_of log).kept → Continued log
+pub continued-played : (log : Log) → Played log → OfBoots (start_of log).kept → Rises (start_of log).kept → IsContinued log
 continued-played log p w r =
     let c = continues log p w r in
     record {

@@ -9,16 +9,18 @@ use Rattle.salt_laws.proofs.Lists.{In, either, has-in, in-cases, in-filter_map, 
 use Rattle.salt_laws.proofs.NextFits.{Fits, IsAcceptance, is_first_of}
 use Rattle.salt_laws.proofs.Reading.{Salty, writer-in}
 use Rattle.salt_laws.proofs.Releasable.{MayGo, to_release-exact}
-use Rattle.salt_laws.proofs.Salted.{OfBoots, holds, may-fit}
+use Rattle.salt_laws.proofs.Salted.{OfBoots, due-played, holds, may-fit}
 use Rattle.salt_laws.proofs.Sound.{Dead, of-program, to_release-finished}
 use Rattle.salt_model.specs.After.{reach_now}
 use Rattle.salt_model.specs.Continuing.{AcceptsDue, GoesAlong, accepted_after, accepted_by, is_unfinished, last_said}
 use Rattle.salt_model.specs.Isolation.{is_committed_standing}
 use Rattle.salt_model.specs.Log.{Log, Over, Running, Waiting, accepted_in, finished_in, from, is_of_program, kind_of, program_of, program_of_kind, released_in, standing, start_of, ◌asks◌, ◌says◌, ◌turns◌}
-use Rattle.salt_model.specs.Played.{Played}
+use Rattle.salt_model.specs.Played.{Each, Played}
 use Rattle.salt_model.specs.Programs.{program_begun}
-use Rattle.salt_model.specs.Reads.{programs_among, read_directly, writers_in}
-use Rattle.salt_model.specs.Releasing.{IsReleasable, NamesReleasable, ReadsThrough, ReleasesAll, itself, through}
+use Rattle.salt_model.specs.Reads.{programs_among, read_directly, to_release, writers_in}
+use Rattle.salt_model.specs.Releasing.{IsReleasable, NamesReleasable, ReadsThrough, ReleasesDue, ReleasesExactly, due_after, is_finish, itself, released_by, released_names, through}
+use Rattle.salt_model.specs.Phases.{Phase, Serving, phase}
+use Rattle.salt_model.specs.Turns.{releases}
 use Rattle.salt_model.specs.Words.{has_id, without}
 use Rattle.salt_model.specs.declared.events.End.TheVariants.{Committed}
 use Rattle.salt_model.specs.declared.events.Event.TheVariants.{Accepted, Began, Did, Ended, Finished, Ready, Released, Waits}
@@ -28,7 +30,7 @@ use Rattle.salt_model.specs.declared.events.UnitKind.{UnitKind}
 use Rattle.salt_values.specs.Id.{is_same_id}
 use Rattle.salt_values.specs.declared.id.Id.{Id}
 use Rattle.std.proofs.Common.{ap, inl, inr, subst, sym, ◌∙◌}
-use Rattle.std.specs.Prelude.{Bool, IsTrue, None, Option, Some, [], cond, false, option_and_then, refl, true, ℕ, ◌++◌, ◌||◌, ◌↔◌, ◌∷◌, ◌≡◌, ◌⊎◌}
+use Rattle.std.specs.Prelude.{Bool, IsTrue, List, None, Option, Some, [], cond, false, option_and_then, refl, true, ℕ, ◌++◌, ◌||◌, ◌↔◌, ◌∷◌, ◌≡◌, ◌⊎◌}
 
 -- programs of units, and what is released of them
 pub record Sources (log : Log) : Type 0 where
@@ -197,12 +199,27 @@ or-left-true false q h = cc
 from-finished : (log : Log) (b : Id) → (has_id b (released_in log) ≡ false) × IsReleasable log b → (has_id b (released_in log) ≡ false) × MayGo log b
 from-finished log b h = (h.0, λ c r. or-left-true (has_id c (finished_in log)) (has_id c (released_in log)) (h.1 c r))
 
-names-at : (log : Log) (e : Event) → Sources log → Salty log → Fits log e → NamesReleasable log e
-names-at log (Released bs) s z f = λ b. subst (λ l. IsTrue (has_id b l) ↔ ((has_id b (released_in log) ≡ false) × IsReleasable log b)) (sym f.0) (let x = to_release-exact log z.closed b in ((λ h. to-finished log s b (x.0 h)), (λ h. x.1 (from-finished log b h))))
-names-at log e s z f = tt
+named : (xs : List Id) (e : Event) → releases xs ≡ released_by e → xs ≡ released_names e
+named [] (Released bs) h = cc
+named [] e h = refl
+named (x ∷ xs) (Released bs) h = cc
+named (x ∷ xs) e h = cc
 
-pub releases-all-played : (log : Log) → Played log → OfBoots (start_of log).kept → ReleasesAll log
-releases-all-played (from k) p w = tt
-releases-all-played (log asks asked) p w = releases-all-played log p.0 w
-releases-all-played (log turns b) p w = releases-all-played log p.0 w
-releases-all-played (log says e) p w = let r = holds log p.0 w in (releases-all-played log p.0 w, names-at log e (sources log p.0 w) r.salty (may-fit log e r.comes p.1))
+names-at : (log : Log) (e : Event) → Sources log → Salty log → ReleasesDue log e → NamesReleasable log e
+names-at log e s z d = λ f b. by (phase log) (last_said log) f d b
+  where
+    exact : (b : Id) → IsTrue (has_id b (to_release log)) ↔ ((has_id b (released_in log) ≡ false) × IsReleasable log b)
+    exact b = let x = to_release-exact log z.closed b in ((λ h. to-finished log s b (x.0 h)), (λ h. x.1 (from-finished log b h)))
+
+    by : (p : Phase) (o : Option Event) → IsTrue (is_finish p o) → releases (due_after p log o) ≡ released_by e → (b : Id) → IsTrue (has_id b (released_names e)) ↔ ((has_id b (released_in log) ≡ false) × IsReleasable log b)
+    by Serving (Some (Finished c)) f d b = subst (λ l. IsTrue (has_id b l) ↔ ((has_id b (released_in log) ≡ false) × IsReleasable log b)) (named (to_release log) e d) (exact b)
+    by p o f d b = cc
+
+names-all : (log : Log) → Played log → OfBoots (start_of log).kept → Each ReleasesDue log → Each NamesReleasable log
+names-all (from k) p w d = tt
+names-all (log asks asked) p w d = names-all log p.0 w d
+names-all (log turns b) p w d = names-all log p.0 w d
+names-all (log says e) p w d = (names-all log p.0 w d.0, names-at log e (sources log p.0 w) (holds log p.0 w).salty d.1)
+
+pub releases-played : (log : Log) → Played log → OfBoots (start_of log).kept → ReleasesExactly log
+releases-played log p w = let d = due-played log p w in record { due = d; names = names-all log p w d }

@@ -1,7 +1,7 @@
 -- The law: a played log is honest, through every stop.
 use Rattle.salt_laws.proofs.Ids.{is_same_id-refl}
 use Rattle.salt_laws.proofs.Replays.{good-event, quiet, replays}
-use Rattle.salt_model.specs.Honest.{Always, AnswersReplay, FailsOnce, FitsEnd, Honest}
+use Rattle.salt_model.specs.Honest.{Always, AnswersReplay, FailsOnce, FitsEnd, IsHonest}
 use Rattle.salt_model.specs.Log.{Log, from, ◌asks◌, ◌says◌, ◌turns◌}
 use Rattle.salt_model.specs.Played.{Each, Played}
 use Rattle.salt_model.specs.declared.events.Event.TheVariants.{Did, Ended}
@@ -31,5 +31,5 @@ always (log asks line) p = (always log p.0, here (log asks line) p)
 always (log turns b) p = (always log p.0, here (log turns b) p)
 always (log says e) p = (always log p.0, here (log says e) p)
 
-pub honest : (log : Log) → Played log → Honest log
-honest log p = (always log p, fails-once log p)
+pub honest : (log : Log) → Played log → IsHonest log
+honest log p = record { replays = always log p; fails_once = fails-once log p }

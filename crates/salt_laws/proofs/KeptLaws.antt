@@ -3,7 +3,7 @@ use Rattle.salt_ast.specs.Words.{or_else, when}
 use Rattle.salt_laws.proofs.NextFits.{Fits}
 use Rattle.salt_laws.proofs.Salted.{OfBoots, each, holds, may-fit}
 use Rattle.salt_model.specs.After.{kept}
-use Rattle.salt_model.specs.Decided.{CutsRight, KeptStory, NumbersOn, OnlyAfter, OpensRight, TellsFlight, number_in}
+use Rattle.salt_model.specs.Decided.{CutsRight, IsKept, NumbersOn, OnlyAfter, OpensRight, TellsFlight, number_in}
 use Rattle.salt_model.specs.Log.{Log, from, open_units, start_of, ◌asks◌, ◌says◌, ◌turns◌}
 use Rattle.salt_model.specs.Next.{flight, next}
 use Rattle.salt_model.specs.Openings.{cuts_or_drains, drains, stands_now, to_cut}
@@ -88,5 +88,12 @@ kept-laws (log asks line) p w = kept-laws log p.0 w
 kept-laws (log turns b) p w = kept-laws log p.0 w
 kept-laws (log says e) p w = let f = may-fit log e (holds log p.0 w).comes p.1 in (kept-laws log p.0 w, (numbers-at log e f, opens-at log e p.1, tells-at log e p.0 p.1, cuts-at log e f))
 
-pub kept-played : (log : Log) → Played log → OfBoots (start_of log).kept → KeptStory log
-kept-played log p w = let a = kept-laws log p w in (each KeptLaws NumbersOn (λ l e r. r.0) log a, each KeptLaws OpensRight (λ l e r. r.1) log a, each KeptLaws TellsFlight (λ l e r. r.2) log a, each KeptLaws CutsRight (λ l e r. r.3) log a)
+pub kept-played : (log : Log) → Played log → OfBoots (start_of log).kept → IsKept log
+kept-played log p w =
+    let a = kept-laws log p w in
+    record {
+      numbers = each KeptLaws NumbersOn (λ l e r. r.0) log a;
+      opens = each KeptLaws OpensRight (λ l e r. r.1) log a;
+      flight = each KeptLaws TellsFlight (λ l e r. r.2) log a;
+      cuts = each KeptLaws CutsRight (λ l e r. r.3) log a;
+    }

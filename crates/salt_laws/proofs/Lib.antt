@@ -21,7 +21,7 @@ pub mod Reading
 pub mod Salted
 pub mod Releasable
 pub mod KeptLaws
-pub mod AllLaws
+pub mod WellKept
 pub mod Due
 pub mod Accounts
 pub mod Rising

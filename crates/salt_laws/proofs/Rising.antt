@@ -1,5 +1,5 @@
 -- Continuations stand in the order of the decisions that accepted their programs.
-use Rattle.salt_model.specs.Headline.{kept_with}
+use Rattle.salt_model.specs.Ends.{kept_with}
 use Rattle.std.proofs.Common.{ap, arith, subst, sym, ◌∙◌}
 use Rattle.std.specs.Prelude.{Bool, List, None, Option, Some, [], cond, false, map, option_and_then, refl, true, ℕ, ◌++◌, ◌+◌, ◌<◌, ◌∷◌, ◌≡◌, ◌≤◌}
 use Rattle.salt_ast.specs.declared.programs.ProgramDef.{ProgramDef}

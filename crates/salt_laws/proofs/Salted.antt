@@ -7,8 +7,9 @@ use Rattle.salt_laws.proofs.NextFits.{Comes, Fits, Flies, IsAfterFinished, fits-
 use Rattle.salt_laws.proofs.Reading.{Covered, ReadOk, Salty, salty-step}
 use Rattle.salt_laws.proofs.Sound.{Sound, sound-step}
 use Rattle.salt_model.specs.After.{kept}
-use Rattle.salt_model.specs.Continuing.{ReleasesDue, ReleasesRight, due_after, last_said, released_by}
-use Rattle.salt_model.specs.Isolation.{IsChain, ReadsReleased, Salted, is_linked, is_program_released, is_same_program, read_by}
+use Rattle.salt_model.specs.Continuing.{last_said}
+use Rattle.salt_model.specs.Releasing.{ReleasesDue, due_after, released_by}
+use Rattle.salt_model.specs.Isolation.{IsChain, ReadsReleased, IsSalted, is_linked, is_program_released, is_same_program, read_by}
 use Rattle.salt_model.specs.Kept.{Kept}
 use Rattle.salt_model.specs.Log.{Asked, Log, Start, from, program_of, released_in, start_of, ◌asks◌, ◌says◌, ◌turns◌}
 use Rattle.salt_model.specs.Next.{decision_in, flight, next, said_event}
@@ -253,8 +254,8 @@ each P Q f (log asks asked) h = each P Q f log h
 each P Q f (log turns b) h = each P Q f log h
 each P Q f (log says e) h = (each P Q f log h.0, f log e h.1)
 
-pub salted-played : (log : Log) → Played log → OfBoots (start_of log).kept → Salted log
+pub salted-played : (log : Log) → Played log → OfBoots (start_of log).kept → IsSalted log
 salted-played log p w = each Laws ReadsReleased (λ l e r. r.0) log (laws log p w)
 
-pub releases-played : (log : Log) → Played log → OfBoots (start_of log).kept → ReleasesRight log
-releases-played log p w = each Laws ReleasesDue (λ l e r. r.1) log (laws log p w)
+pub due-played : (log : Log) → Played log → OfBoots (start_of log).kept → Each ReleasesDue log
+due-played log p w = each Laws ReleasesDue (λ l e r. r.1) log (laws log p w)

@@ -1,6 +1,6 @@
-//! The laws of the protocol, proved from the definitions of the story alone.
+//! The laws of the protocol, proved from the definitions of the story alone, through every stop and opening.
 #![tactic(auto)]
 
-mod law;
+mod laws;
 
-pub use law::played_laws;
+pub use laws::{changes_are_those_written, held_locks_stand_together, kept_stays_well_kept, played_is_continued, played_is_honest, played_is_kept, played_is_salted, played_is_whole, played_releases_exactly};

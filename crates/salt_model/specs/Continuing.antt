@@ -6,10 +6,8 @@ use Rattle.salt_model.specs.Programs.{program_begun}
 use Rattle.salt_model.specs.After.{kept}
 use Rattle.salt_model.specs.Kept.{cont_of}
 use Rattle.salt_model.specs.Log.{Log, accepted_in, finished_in, from, kind_of, open_units, ◌asks◌, ◌says◌, ◌turns◌}
-use Rattle.salt_model.specs.Phases.{Opening, Phase, Serving, phase}
+use Rattle.salt_model.specs.Phases.{Opening, Phase, phase}
 use Rattle.salt_model.specs.Played.{Each}
-use Rattle.salt_model.specs.Reads.{to_release}
-use Rattle.salt_model.specs.Turns.{releases}
 use Rattle.salt_model.specs.declared.events.End.TheVariants.{Branched, Committed, Victim}
 use Rattle.salt_model.specs.declared.events.Event.TheVariants.{Accepted, Armed, Began, Ended, Finished, Ready, Refused, Released, Shown, Waits}
 use Rattle.salt_model.specs.declared.events.Event.{Event}
@@ -17,7 +15,7 @@ use Rattle.salt_model.specs.declared.events.UnitKind.TheVariants.{Acid, Call, Fi
 use Rattle.salt_model.specs.declared.events.UnitKind.{UnitKind}
 use Rattle.salt_model.specs.declared.shown.BaseAt.TheVariants.{Finished, First}
 use Rattle.salt_values.specs.declared.id.Id.{Id}
-use Rattle.std.specs.Prelude.{Bool, IsTrue, List, None, Option, Some, [], false, is_none, not, option_and_then, option_map, ℕ, ⊤, ◌&&◌, ◌≡◌, ◌≤◌}
+use Rattle.std.specs.Prelude.{Bool, IsTrue, None, Option, Some, [], false, is_none, not, option_and_then, option_map, ℕ, ⊤, ◌&&◌, ◌≡◌, ◌≤◌}
 
 -- the last event of a log
 abbrev pub last_said : Log → Option Event
@@ -106,24 +104,8 @@ InOpening phase log e = ⊤
 abbrev pub Opens : Log → Event → Type 0
 Opens log e = InOpening (phase log) log e
 
-pub record Continued (log : Log) : Type 0 where
+pub record IsContinued (log : Log) : Type 0 where
   pub accepts : Each AcceptsDue log
   pub finishes : Each FinishesDue log
   pub goes_along : Each GoesAlong log
   pub opens : Each Opens log
-
--- what is released directly after an event, outside an opening
-abbrev pub due_after : Phase → Log → Option Event → List Id
-due_after Serving log (Some (Finished b)) = to_release log
-due_after phase log e = []
-
-abbrev pub released_by : Event → Option Event
-released_by (Released bs) = Some (Released bs)
-released_by e = None
-
--- a Released comes exactly where programs are due, and names them
-abbrev pub ReleasesDue : Log → Event → Type 0
-ReleasesDue log e = releases (due_after (phase log) log (last_said log)) ≡ released_by e
-
-abbrev pub ReleasesRight : Log → Type 0
-ReleasesRight log = Each ReleasesDue log

@@ -41,5 +41,8 @@ abbrev pub CutsRight : Log → Event → Type 0
 CutsRight log (Ended u Cut) = (phase log ≡ Opening) × (first_of_list (to_cut log) ≡ Some u)
 CutsRight log e = ⊤
 
-abbrev pub KeptStory : Log → Type 0
-KeptStory log = Each NumbersOn log × Each OpensRight log × Each TellsFlight log × Each CutsRight log
+pub record IsKept (log : Log) : Type 0 where
+  pub numbers : Each NumbersOn log
+  pub opens : Each OpensRight log
+  pub flight : Each TellsFlight log
+  pub cuts : Each CutsRight log

@@ -48,5 +48,6 @@ FailsOnce log (Did u st answer) = cause_among (answers_of u log) ≡ None
 FailsOnce log (Ended u end) = FitsEnd end (cause_among (answers_of u log))
 FailsOnce log e = ⊤
 
-abbrev pub Honest : Log → Type 0
-Honest log = Always AnswersReplay log × Each FailsOnce log
+pub record IsHonest (log : Log) : Type 0 where
+  pub replays : Always AnswersReplay log
+  pub fails_once : Each FailsOnce log

@@ -47,8 +47,8 @@ ReadsReleased log (Did a st answer) =
     IsTrue (list_all (λ u. is_program_released log (program_of u log)) chain)
 ReadsReleased log e = ⊤
 
-abbrev pub Salted : Log → Type 0
-Salted log = Each ReadsReleased log
+abbrev pub IsSalted : Log → Type 0
+IsSalted log = Each ReadsReleased log
 
 abbrev pub is_committed_standing : Standing → Bool
 is_committed_standing (Over (Committed n)) = true
@@ -66,5 +66,5 @@ abbrev pub TouchesWhole : Log → Event → Type 0
 TouchesWhole log (Did a st answer) = IsTrue (is_acid log a) → IsTrue (not (touches_unreleased log (reach_now a log st)))
 TouchesWhole log e = ⊤
 
-abbrev pub Whole : Log → Type 0
-Whole log = Each TouchesWhole log
+abbrev pub IsWhole : Log → Type 0
+IsWhole log = Each TouchesWhole log

@@ -23,7 +23,7 @@ pub mod Isolation
 pub mod Continuing
 pub mod Decided
 pub mod Releasing
-pub mod Headline
+pub mod Ends
 pub mod Walk
 pub mod Computing
 pub mod Scripts

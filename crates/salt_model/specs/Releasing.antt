@@ -1,12 +1,30 @@
--- What is releasable, said without computing: the statement that `to_release` is proved to meet.
+-- Releases come exactly when they are due, and name exactly the programs that are releasable.
+use Rattle.salt_model.specs.Continuing.{last_said}
 use Rattle.salt_model.specs.Log.{Log, finished_in, released_in}
+use Rattle.salt_model.specs.Phases.{Phase, Serving, phase}
 use Rattle.salt_model.specs.Played.{Each}
-use Rattle.salt_model.specs.Reads.{read_directly}
+use Rattle.salt_model.specs.Reads.{read_directly, to_release}
+use Rattle.salt_model.specs.Turns.{releases}
 use Rattle.salt_model.specs.Words.{has_id}
-use Rattle.salt_model.specs.declared.events.Event.TheVariants.{Released}
+use Rattle.salt_model.specs.declared.events.Event.TheVariants.{Finished, Released}
 use Rattle.salt_model.specs.declared.events.Event.{Event}
 use Rattle.salt_values.specs.declared.id.Id.{Id}
-use Rattle.std.specs.Prelude.{IsTrue, false, ⊤, ◌↔◌, ◌≡◌}
+use Rattle.std.specs.Prelude.{Bool, IsTrue, List, None, Option, Some, [], false, true, ◌↔◌, ◌≡◌}
+
+-- what is released directly after an event, outside an opening, in order of names
+abbrev pub due_after : Phase → Log → Option Event → List Id
+due_after Serving log (Some (Finished b)) = to_release log
+due_after phase log e = []
+
+abbrev pub released_by : Event → Option Event
+released_by (Released bs) = Some (Released bs)
+released_by e = None
+
+-- a Released comes exactly where programs are due, and names them
+abbrev pub ReleasesDue : Log → Event → Type 0
+ReleasesDue log e = releases (due_after (phase log) log (last_said log)) ≡ released_by e
+
+-- Which programs are due, said without computing.
 
 -- b is c, or reads from it, directly or through programs
 pub data ReadsThrough (log : Log) : Id → Id → Type 0 where
@@ -17,10 +35,21 @@ pub data ReadsThrough (log : Log) : Id → Id → Type 0 where
 abbrev pub IsReleasable : Log → Id → Type 0
 IsReleasable log b = (c : Id) → ReadsThrough log b c → IsTrue (has_id c (finished_in log))
 
--- a Released names the programs that are releasable and not yet released, and no others
-abbrev pub NamesReleasable : Log → Event → Type 0
-NamesReleasable log (Released bs) = (b : Id) → IsTrue (has_id b bs) ↔ ((has_id b (released_in log) ≡ false) × IsReleasable log b)
-NamesReleasable log e = ⊤
+abbrev pub released_names : Event → List Id
+released_names (Released bs) = bs
+released_names e = []
 
-abbrev pub ReleasesAll : Log → Type 0
-ReleasesAll log = Each NamesReleasable log
+-- a program has just come to its end, outside an opening
+abbrev pub is_finish : Phase → Option Event → Bool
+is_finish Serving (Some (Finished b)) = true
+is_finish phase e = false
+
+-- directly after it the programs are released that are releasable and not yet released, and no others
+abbrev pub NamesReleasable : Log → Event → Type 0
+NamesReleasable log e =
+    IsTrue (is_finish (phase log) (last_said log)) →
+    (b : Id) → IsTrue (has_id b (released_names e)) ↔ ((has_id b (released_in log) ≡ false) × IsReleasable log b)
+
+pub record ReleasesExactly (log : Log) : Type 0 where
+  pub due : Each ReleasesDue log
+  pub names : Each NamesReleasable log

@@ -1,18 +1,14 @@
--- The clause of a whole run, over the log that lines and story are those of.
+-- How a run may end, and what stands then.
 use Rattle.salt_model.specs.After.{keep, kept, stage}
-use Rattle.salt_model.specs.Continuing.{Continued, ReleasesRight}
-use Rattle.salt_model.specs.Decided.{KeptStory}
-use Rattle.salt_model.specs.Honest.{Honest}
-use Rattle.salt_model.specs.Isolation.{Salted, Whole}
 use Rattle.salt_model.specs.Kept.{Kept}
-use Rattle.salt_model.specs.Locks.{NoneConflict, held}
-use Rattle.salt_model.specs.Log.{Asked, Log, Start, lines_of, start_of, story_of}
+use Rattle.salt_model.specs.Log.{Log}
 use Rattle.salt_model.specs.Next.{flight, next}
 use Rattle.salt_model.specs.Phases.{Phase, Serving, phase}
-use Rattle.salt_model.specs.Played.{IsComplete, Played, is_device_next}
-use Rattle.salt_model.specs.Releasing.{ReleasesAll}
+use Rattle.salt_model.specs.Played.{IsComplete, is_device_next}
+use Rattle.salt_model.specs.declared.events.Event.TheVariants.{Defined, Ended}
 use Rattle.salt_model.specs.declared.events.Event.{Event}
-use Rattle.std.specs.Prelude.{Bool, IsTrue, List, None, Option, Some, false, not, true, ⊤, ◌||◌, ◌≡◌, ◌⊎◌}
+use Rattle.salt_model.specs.declared.events.Flight.{Flight}
+use Rattle.std.specs.Prelude.{Bool, IsTrue, None, Option, Some, false, not, true, ⊤, ◌||◌, ◌≡◌, ◌⊎◌}
 
 -- how a run may end: between lines, anywhere, within an opening, where devices are used, or where the output failed
 pub data Leave : Type 0 where
@@ -33,24 +29,11 @@ MayLeave InAnOpening log = is_serving (phase log) ≡ false
 MayLeave AtDevices log = IsTrue (not (is_serving (phase log)) || is_device_next log (next log))
 MayLeave AtOutput log = IsComplete log ⊎ IsTrue (not (is_serving (phase log)) || is_device_next log (next log))
 
-pub record AllHold (k : Start) (lines : List Asked) (story : List Event) (leave : Leave) (log : Log) : Type 0 where
-  pub start : start_of log ≡ k
-  pub lines_done : lines_of log ≡ lines
-  pub tells : story_of log ≡ story
-  pub played : Played log
-  pub leaves : MayLeave leave log
-  pub honest : Honest log
-  pub salted : Salted log
-  pub whole : Whole log
-  pub apart : NoneConflict (held log)
-  pub released : ReleasesRight log
-  pub releasable : ReleasesAll log
-  pub continued : Continued log
-  pub kept_story : KeptStory log
-
--- lines and story are those of a log for which all of this holds
-abbrev pub Headline : Start → List Asked → List Event → Leave → Type 0
-Headline k lines story leave = (log : Log) × AllHold k lines story leave log
+-- what is told to be in flight at the end of a log
+abbrev pub flight_told : Option Event → Option Flight
+flight_told (Some (Defined n text)) = Some (Flight.Definition text)
+flight_told (Some (Ended u end)) = Some (Flight.Unit u)
+flight_told e = None
 
 -- what devices may stand for at the end of a log: what is kept there, with or without the flight
 abbrev pub kept_with : Log → Option Event → Kept

@@ -1,0 +1,75 @@
+-- What is kept after a log is as a start has to be.
+use Rattle.salt_laws.proofs.Fresh.{IfComes}
+use Rattle.salt_laws.proofs.Rising.{rises, rises-with}
+use Rattle.salt_laws.proofs.Lists.{In, either}
+use Rattle.salt_laws.proofs.NextFits.{Flies}
+use Rattle.salt_laws.proofs.Salted.{Kept_up, OfBoots, holds}
+use Rattle.salt_laws.proofs.Sound.{Old, boot-ended, conts-back, old-fallen}
+use Rattle.salt_model.specs.Kept.{Kept, WellKept}
+use Rattle.salt_model.specs.After.{kept}
+use Rattle.salt_model.specs.Ends.{kept_with}
+use Rattle.salt_model.specs.Log.{Log, start_of, ◌says◌}
+use Rattle.salt_model.specs.Next.{flight}
+use Rattle.salt_model.specs.Phases.{phase}
+use Rattle.salt_model.specs.Played.{Played}
+use Rattle.salt_model.specs.Turns.{fresh_base}
+use Rattle.salt_model.specs.Words.{Every}
+use Rattle.salt_model.specs.declared.events.End.TheVariants.{Branched, Committed}
+use Rattle.salt_model.specs.declared.events.End.{End}
+use Rattle.salt_model.specs.declared.events.Event.TheVariants.{Defined, Ended}
+use Rattle.salt_model.specs.declared.events.Event.{Event}
+use Rattle.salt_values.specs.declared.cont.Cont.{Cont}
+use Rattle.salt_values.specs.declared.id.Id.{Id}
+use Rattle.std.proofs.Common.{inl, inr, subst}
+use Rattle.std.specs.Prelude.{List, None, Option, Some, [], map, refl, ℕ, ◌∷◌, ◌≤◌}
+
+-- a start as a list of facts, and as one of its members
+each-base : (n : ℕ) (cs : List Cont) → Every (λ (c : Cont). c.base.boot ≤ n) cs → (b : Id) → In b (map (λ (c : Cont). c.base) cs) → b.boot ≤ n
+each-base n [] h b i = absurd i
+each-base n (c ∷ cs) h b (inl e) = subst (λ (x : Id). x.boot ≤ n) e h.0
+each-base n (c ∷ cs) h b (inr i) = each-base n cs h.1 b i
+
+base-each : (n : ℕ) (cs : List Cont) → ((b : Id) → In b (map (λ (c : Cont). c.base) cs) → b.boot ≤ n) → Every (λ (c : Cont). c.base.boot ≤ n) cs
+base-each n [] h = tt
+base-each n (c ∷ cs) h = (h c.base (inl refl), base-each n cs (λ b i. h b (inr i)))
+
+-- the two facts that a start brings
+pub of-start : (k : Kept) → WellKept k → OfBoots k
+of-start k w = each-base k.boot k.conts w.boots
+
+-- what is kept at any place is as a start is to be, with the flight or without
+of-boots : (log : Log) → Played log → OfBoots (start_of log).kept → OfBoots (kept log)
+of-boots log p w b i = old-fallen (phase log) b (fresh_base log) ((holds log p w).sound.old_conts b i)
+
+of-boots-flight : (log : Log) → Played log → OfBoots (start_of log).kept → OfBoots (kept_with log (flight log))
+of-boots-flight log p w = its (flight log) h.flies
+  where
+    h : Kept_up log
+    h = holds log p w
+
+    here : (b : Id) → Old log b → b.boot ≤ (kept log).boot
+    here b o = old-fallen (phase log) b (fresh_base log) o
+
+    ended : (u : Id) (end : End) → OfBoots (kept (log says Ended u end))
+    ended u end b i = rw (boot-ended log u end) (here b (either (λ j. h.sound.old_conts b j) (λ q. h.sound.old_units b u q) (conts-back log u end b i)))
+
+    its : (f : Option Event) → IfComes (Flies log) f → OfBoots (kept_with log f)
+    its None g = of-boots log p w
+    its (Some (Ended u (Committed n))) g = ended u (Committed n)
+    its (Some (Ended u (Branched n c))) g = ended u (Branched n c)
+    its (Some (Defined n text)) g = of-boots log p w
+    its (Some e) g = absurd g
+
+well-kept : (log : Log) → Played log → WellKept (start_of log).kept → WellKept (kept log)
+well-kept log p k =
+    let w : OfBoots (start_of log).kept = of-start (start_of log).kept k in
+    record { boots = base-each (kept log).boot (kept log).conts (of-boots log p w); accepted = rises log p w k.accepted }
+
+well-kept-flight : (log : Log) → Played log → WellKept (start_of log).kept → WellKept (kept_with log (flight log))
+well-kept-flight log p k =
+    let w : OfBoots (start_of log).kept = of-start (start_of log).kept k in
+    let f = kept_with log (flight log) in
+    record { boots = base-each f.boot f.conts (of-boots-flight log p w); accepted = rises-with log (flight log) (holds log p w).flies (rises log p w k.accepted) }
+
+pub kept-well : (log : Log) → Played log → WellKept (start_of log).kept → WellKept (kept log) × WellKept (kept_with log (flight log))
+kept-well log p k = (well-kept log p k, well-kept-flight log p k)
