@@ -24,6 +24,8 @@ pub mod Continuing
 pub mod Decided
 pub mod Releasing
 pub mod Ends
+pub mod Printable
+pub mod Summary
 pub mod Walk
 pub mod Computing
 pub mod Scripts

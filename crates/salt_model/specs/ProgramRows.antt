@@ -1,4 +1,7 @@
 -- Worked rows of programs, computed from script to printed lines.
+use Rattle.salt_model.specs.declared.events.Event.{Event}
+use Rattle.salt_model.specs.Log.{story_of}
+use Rattle.salt_model.specs.Summary.{summary_of}
 use Rattle.salt_ast.specs.Sample.{acct, bal, field, scan, set}
 use Rattle.salt_ast.specs.Trees.{operation}
 use Rattle.salt_ast.specs.declared.lines.Line.TheVariants as line
@@ -10,9 +13,10 @@ use Rattle.salt_ast.specs.declared.trees.ColType.TheVariants as kind
 use Rattle.salt_ast.specs.declared.trees.Expr.{Expr, Variable}
 use Rattle.salt_ast.specs.declared.trees.Op.TheVariants as op
 use Rattle.salt_ast.specs.declared.trees.Statement.TheVariants as statement
+use Rattle.salt_ast.specs.declared.trees.What.TheVariants as what
 use Rattle.salt_model.specs.Computing.{computing}
-use Rattle.salt_model.specs.Scripts.{accounts, at, bal_at, begin, call, call_transfer, go, insert_acct, int, step}
-use Rattle.salt_model.specs.Walk.{printed}
+use Rattle.salt_model.specs.Scripts.{accounts, all_rows, at, bal_at, begin, call, call_transfer, go, insert_acct, int, step}
+use Rattle.salt_model.specs.Walk.{printed, walk}
 use Rattle.std.specs.Prelude.{List, None, [], codes, drop, pos, refl, ℕ, ◌++◌, ◌∷◌, ◌≡◌}
 
 -- Two accounts and the program of transfers.
@@ -267,3 +271,12 @@ go_all_printed : drop 10 (printed go_all) ≡
     codes "released b1.1 b1.2" ∷ []
 unfolding computing
 go_all_printed = refl
+
+-- The summary of the two transfers that one turn each has finished, and of a sum behind them.
+
+abbrev summed : List Event
+summed = story_of (walk (go_all ++ at 1 (statement.Select (what.Sum bal) acct all_rows) ∷ []))
+
+summary : summary_of 2 8 summed ≡ codes "load 2 lines 8 units 7 committed 7 accepted 2 released 2 waits 0 victims 0 total 150" ++ 10 ∷ []
+unfolding computing
+summary = refl

@@ -1,0 +1,96 @@
+-- Which events print as what they are: their names are names, their statements and definitions are spelled and pass no limit, and their lists are as printed forms have them.
+use Rattle.salt_ast.specs.Limits.{name_passed, statement_limit, table_limit}
+use Rattle.salt_ast.specs.Paths.{blocks}
+use Rattle.salt_ast.specs.ProgramLimits.{program_limit}
+use Rattle.salt_ast.specs.ProgramTexts.{base_text, program_text}
+use Rattle.salt_ast.specs.Spelling.{SpellsStatement, SpellsTable}
+use Rattle.salt_ast.specs.Texts.{table_text}
+use Rattle.salt_ast.specs.declared.programs.ProgramDef.{ProgramDef}
+use Rattle.salt_ast.specs.declared.trees.Field.{Field}
+use Rattle.salt_ast.specs.declared.trees.Statement.{Statement}
+use Rattle.salt_ast.specs.declared.trees.TableDef.{TableDef}
+use Rattle.salt_model.specs.Words.{Every, is_empty}
+use Rattle.salt_model.specs.declared.events.Event.TheVariants as event
+use Rattle.salt_model.specs.declared.events.Event.{Event}
+use Rattle.salt_model.specs.declared.events.Refusal.TheVariants as refused
+use Rattle.salt_model.specs.declared.events.Refusal.{Refusal}
+use Rattle.salt_model.specs.declared.events.UnitKind.TheVariants as kind
+use Rattle.salt_model.specs.declared.events.UnitKind.{UnitKind}
+use Rattle.salt_model.specs.declared.shown.Item.TheVariants as item
+use Rattle.salt_model.specs.declared.shown.Item.{Item}
+use Rattle.salt_ranges.specs.declared.range.KeyRange.{KeyRange}
+use Rattle.salt_tokens.specs.Symbols.{HasRow, name}
+use Rattle.salt_values.specs.declared.id.Id.{Id}
+use Rattle.std.specs.Prelude.{List, None, [], false, is_none, length, ℕ, ⊤, ◌<◌, ◌∷◌, ◌≡◌, ◌≤◌, ◌⊎◌}
+
+-- the bytes are a name, and not too long
+pub record IsName (n : List ℕ) : Type 0 where
+  pub token : HasRow n (name n ∷ [])
+  pub short : name_passed n ≡ None
+
+-- some text spells the statement, and no limit is passed
+pub record IsSpelled (st : Statement) : Type 0 where
+  pub text : List ℕ
+  pub spells : SpellsStatement text st
+  pub within : statement_limit st ≡ None
+
+pub record IsSpelledTable (d : TableDef) : Type 0 where
+  pub text : List ℕ
+  pub spells : SpellsTable text d
+  pub within : table_limit d ≡ None
+
+abbrev pub HasName : Field → Type 0
+HasName f = IsName f.name
+
+-- a block has a statement, and each of its statements is spelled
+abbrev pub IsSpelledBlock : List Statement → Type 0
+IsSpelledBlock block = (is_empty block ≡ false) × Every IsSpelled block
+
+pub record IsSpelledProgram (p : ProgramDef) : Type 0 where
+  pub name : IsName p.name
+  pub params : Every HasName p.params
+  pub vars : Every HasName p.vars
+  pub parts : is_empty (blocks p.body) ≡ false
+  pub body : Every IsSpelledBlock (blocks p.body)
+  pub within : program_limit p ≡ None
+
+-- the canonical text of a table or a program
+abbrev pub IsDefinition : List ℕ → Type 0
+IsDefinition text =
+    ((d : TableDef) × IsSpelledTable d × (text ≡ table_text d)) ⊎
+    ((p : ProgramDef) × IsSpelledProgram p × (text ≡ program_text p))
+
+abbrev pub IsPrintableKind : UnitKind → Type 0
+IsPrintableKind (kind.Acid s) = ⊤
+IsPrintableKind (kind.Call s n args) = IsName n
+IsPrintableKind (kind.First s b n args) = IsName n
+IsPrintableKind (kind.Later b part) = ⊤
+
+-- the details that refusals have: a name, that of a base too, and a part
+abbrev pub IsPrintableRefusal : Refusal → Type 0
+IsPrintableRefusal (refused.Unknown n) = IsName n ⊎ ((b : Id) × (n ≡ base_text b))
+IsPrintableRefusal (refused.Exists n) = IsName n
+IsPrintableRefusal (refused.Branch part) = (1 ≤ part) × (part ≤ 32)
+IsPrintableRefusal r = ⊤
+
+-- a range has both ends, or none
+abbrev pub IsPrintableRange : KeyRange → Type 0
+IsPrintableRange r = is_none r.lo ≡ is_none r.hi
+
+abbrev pub IsPrintableItem : List TableDef → Item → Type 0
+IsPrintableItem schema (item.Lock l) = (l.table < length schema) × IsPrintableRange l.range
+IsPrintableItem schema (item.Base b n at) = IsName n
+
+abbrev pub IsPrintable : List TableDef → Event → Type 0
+IsPrintable schema (event.Began u k) = IsPrintableKind k
+IsPrintable schema (event.Did u st answer) = IsSpelled st
+IsPrintable schema (event.Waits u owners) = is_empty owners ≡ false
+IsPrintable schema (event.Released bs) = is_empty bs ≡ false
+IsPrintable schema (event.Defined n text) = IsDefinition text
+IsPrintable schema (event.Refused r) = IsPrintableRefusal r
+IsPrintable schema (event.Armed pairs) = is_empty pairs ≡ false
+IsPrintable schema (event.Shown items) = Every (IsPrintableItem schema) items
+IsPrintable schema e = ⊤
+
+abbrev pub IsPrintableStory : List TableDef → List Event → Type 0
+IsPrintableStory schema story = Every (IsPrintable schema) story
