@@ -176,6 +176,31 @@ reader_given_up_printed : drop 10 (printed reader_given_up) ≡
 unfolding computing
 reader_given_up_printed = refl
 
+-- A reader that waits for a finished program waits for the unfinished one that it reads from.
+
+abbrev through_a_source : List Line
+through_a_source =
+    accounts ++ at 1 (insert_acct 3 0) ∷ call_transfer 1 1 2 30 ∷ call_transfer 2 1 3 10 ∷ go 2 ∷
+    begin 3 ∷ at 3 (bal_at 2) ∷ go 1 ∷ at 3 (bal_at 3) ∷ []
+
+through_a_source_printed : drop 21 (printed through_a_source) ≡
+    codes "u1.6 began b1.2 part 2" ∷
+    codes "u1.6 did update acct set bal = (bal + :amt) where key = :b -> count 1" ∷
+    codes "u1.6 committed 8" ∷
+    codes "b1.2 finished" ∷
+    codes "u1.7 began @3" ∷
+    codes "u1.7 did select bal from acct where key = 2 -> rows (50)" ∷
+    codes "u1.8 began b1.1 part 2" ∷
+    codes "u1.8 waits u1.7" ∷
+    codes "u1.7 waits b1.2" ∷
+    codes "u1.7 victim" ∷
+    codes "u1.8 did update acct set bal = (bal + :amt) where key = :b -> count 1" ∷
+    codes "u1.8 committed 9" ∷
+    codes "b1.1 finished" ∷
+    codes "released b1.1 b1.2" ∷ []
+unfolding computing
+through_a_source_printed = refl
+
 -- A part that fails goes on at its branch.
 
 abbrev branched : List Line
