@@ -112,8 +112,8 @@ pub fn send_statement<K: Sink>(sink: &mut K, st: &Statement) -> Result<(), IoFai
     st.send(sink)
 }
 
-/// Writes a value's text, a text in quotes; it takes no memory. After an error some first part of the
-/// text has been written, and the sink's count of faults has risen.
+/// Writes the text of a value, a number's digits or a text in quotes; it takes no memory. After an
+/// error some first part of the text has been written, and the sink's count of faults has risen.
 #[tactic(auto, unfolding(crate::specs::Sending::gained))]
 pub fn send_value<K: Sink>(sink: &mut K, value: &Value) -> Result<(), IoFailed>
     ensures ok { OnOk result (Gains (K.held sink.old) (value_text value.now) (K.held sink.new)) }
