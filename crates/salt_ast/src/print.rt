@@ -1,8 +1,8 @@
-//! Canonical texts of statements and tables.
+//! Canonical texts of statements, tables and values.
 
 ghost use Rattle.std.specs.Prelude.{◌≡◌, ◌++◌, ◌≤◌, OnErr, OnOk};
 ghost use Rattle.salt_ast.specs.Sending.{gained};
-ghost use Rattle.salt_ast.specs.Texts.{statement_text, table_text};
+ghost use Rattle.salt_ast.specs.Texts.{statement_text, table_text, value_text};
 ghost use Rattle.salt_io.specs.Streams.{Gains, GainsSome, Rose};
 
 use crate::appender::Appender;
@@ -10,6 +10,7 @@ use crate::canonical::{Canonical, send_joined};
 use crate::parts::{Clause, Part};
 use crate::trees::{Statement, TableDef};
 use salt_io::{IoFailed, Sink};
+use salt_values::Value;
 use std::alloc::AllocError;
 use std::mem;
 
@@ -109,6 +110,18 @@ pub fn send_statement<K: Sink>(sink: &mut K, st: &Statement) -> Result<(), IoFai
     ensures later { K.faults sink.old ≤ K.faults sink.new }
 {
     st.send(sink)
+}
+
+/// Writes the text of a value, a number's digits or a text in quotes; it takes no memory. After an
+/// error some first part of the text has been written, and the sink's count of faults has risen.
+#[tactic(auto, unfolding(crate::specs::Sending::gained))]
+pub fn send_value<K: Sink>(sink: &mut K, value: &Value) -> Result<(), IoFailed>
+    ensures ok { OnOk result (Gains (K.held sink.old) (value_text value.now) (K.held sink.new)) }
+    ensures err { OnErr result (GainsSome (K.held sink.old) (value_text value.now) (K.held sink.new)) }
+    ensures failed { OnErr result (Rose (K.faults sink.old) (K.faults sink.new)) }
+    ensures later { K.faults sink.old ≤ K.faults sink.new }
+{
+    value.send(sink)
 }
 
 /// Appends the canonical text of a statement. After an error the bytes are as they were.

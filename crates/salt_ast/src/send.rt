@@ -8,7 +8,7 @@ ghost use Rattle.salt_ast.specs.Texts.{expr_text, value_text};
 ghost use Rattle.salt_io.specs.Streams.{GainsSome, Rose};
 ghost use Rattle.salt_tokens.specs.Pieces.{doubled, quoted};
 
-use crate::canonical::send_bytes;
+use crate::canonical::{Canonical, send_bytes};
 use crate::trees::{Expr, Op};
 use itoa::Buffer;
 use salt_io::{IoFailed, Sink};
@@ -54,18 +54,17 @@ fn send_quoted<K: Sink>(sink: &mut K, text: &[u8]) -> Result<(), IoFailed>
     send_bytes(sink, b"'")
 }
 
-fn send_value<K: Sink>(sink: &mut K, value: &Value) -> Result<(), IoFailed>
-    ensures ok { OnOk result (K.held sink.new ≡ gained (K.held sink.old) (value_text value.now)) }
-    ensures err { OnErr result (GainsSome (K.held sink.old) (value_text value.now) (K.held sink.new)) }
-    ensures failed { OnErr result (Rose (K.faults sink.old) (K.faults sink.new)) }
-    ensures later { K.faults sink.old ≤ K.faults sink.new }
-{
-    match value {
-        Value::Int(number) => {
-            let mut buffer = Buffer::new();
-            send_bytes(sink, buffer.format(*number).as_bytes())
+impl Canonical for Value {
+    ghost text = { value_text };
+
+    fn send<K: Sink>(&self, sink: &mut K) -> Result<(), IoFailed> {
+        match self {
+            Value::Int(number) => {
+                let mut buffer = Buffer::new();
+                send_bytes(sink, buffer.format(*number).as_bytes())
+            }
+            Value::Text(text) => send_quoted(sink, text.as_bytes()),
         }
-        Value::Text(text) => send_quoted(sink, text.as_bytes()),
     }
 }
 
@@ -98,7 +97,7 @@ pub fn send_expr<K: Sink>(sink: &mut K, expr: &Expr) -> Result<(), IoFailed>
     ensures later { K.faults sink.old ≤ K.faults sink.new }
 {
     match expr {
-        Expr::Lit(value) => send_value(sink, value),
+        Expr::Lit(value) => value.send(sink),
         Expr::Column(name) => send_bytes(sink, name.as_slice()),
         Expr::Variable(name) => {
             send_bytes(sink, b":")?;

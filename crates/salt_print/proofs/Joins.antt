@@ -72,7 +72,7 @@ pub Prints-nil : {K : Type 0} (held : K → Option (List ℕ)) (faults : K → �
 Prints-nil held faults s = record { same_sink = refl; printed = Continues-nil held faults s.outcome s.sink.now }
 
 -- one text is printed, and then another
-infixl 40 ◌⨾◌
+infixr 40 ◌⨾◌
 pub ◌⨾◌ : {K : Type 0} {held : K → Option (List ℕ)} {faults : K → ℕ} {a b : List ℕ} {s t v : Printer K}
     → Prints held faults s t a → Prints held faults t v b → Prints held faults s v (a ++ b)
 ◌⨾◌ {held = held} {faults = faults} {a = a} {b = b} {s = s} {t = t} {v = v} first second = record {

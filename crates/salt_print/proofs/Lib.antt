@@ -1,3 +1,3 @@
 pub mod Joins
 pub mod Loops
-pub mod Quotes
+pub mod Schemas

@@ -1,13 +1,12 @@
-//! The texts of events and stories, written to a sink; and the text of a table's definition.
+//! The texts of events and stories, written to a sink.
 #![tactic(auto)]
 
 mod events;
-mod memory;
+mod names;
 mod printer;
+mod shown;
 #[cfg(test)]
 mod tests;
-mod trees;
 mod values;
 
 pub use events::{print, print_story};
-pub use memory::table_text;

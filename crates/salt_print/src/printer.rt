@@ -1,13 +1,11 @@
-// A sink that is written to until a write fails.
-ghost use Rattle.std.specs.Prelude.{◌≡◌, List, ℕ, map};
-ghost use Rattle.salt_model.specs.Texts.{list_text};
-ghost use Rattle.salt_print.specs.Listed.{more_text};
+//! A sink that is written to until a write fails.
+ghost use Rattle.std.specs.Prelude.{◌≡◌, List, ℕ};
+ghost use Rattle.salt_ast.specs.Texts.{preceded};
 ghost use Rattle.salt_print.specs.Prints.{Prints};
 
 use itoa::{Buffer, Integer};
 use salt_io::{IoFailed, Sink, write_whole};
 use salt_values::Bytes;
-use sqlite_items::Items;
 
 /// A sink, and the outcome of the writes to it so far. After one that failed no more are made.
 #[derive(Drop)]
@@ -47,22 +45,12 @@ impl<K: Sink> Printer<'_, K> {
         self.bytes(buffer.format(number).as_bytes());
     }
 
-    /// Items with a comma and a space between them.
-    pub fn list<T: Listed>(&mut self, items: &Items<T>)
-        ensures { Prints K.held K.faults self.old self.new (list_text (map T.text items.now)) }
-    {
-        if let [first, rest @ ..] = items.as_slice() {
-            first.print(self);
-            self.more(rest);
-        }
-    }
-
-    /// Further items of a list, each behind a comma and a space.
-    pub fn more<T: Listed>(&mut self, items: &[T])
-        ensures { Prints K.held K.faults self.old self.new (more_text T.text items.now) }
+    /// Each item with these bytes before it.
+    pub fn preceded<T: Listed>(&mut self, before: &[u8], items: &[T])
+        ensures { Prints K.held K.faults self.old self.new (preceded before.now T.text items.now) }
     {
         for item in items {
-            self.bytes(b", ");
+            self.bytes(before);
             item.print(self);
         }
     }

@@ -1,15 +1,31 @@
+//! The text of each form of an event, written out by hand, and sinks that fail.
+
+ghost use Rattle.std.specs.Prelude.{Some};
+
 use super::*;
-use salt_io::{IoFailed, MemSink};
+use salt_ast::{Bound, Expr, Exprs, Fields, LimitName, Op, Pairs, Scan, Statement, TableDef, What};
+use salt_io::{IoFailed, MemSink, Sink};
 use salt_model::{
-    Answer, Bound, Cause, ColType, End, Event, Expr, Field, Refusal, Scan, Statement, TableDef,
-    UnitKind, What,
+    Answer, BaseAt, Cause, End, Event, Family, Item, Items as Shown, Lock, Mode, Owner, Owners,
+    Refusal, Story, UnitKind, Why,
 };
-use salt_values::{Id, Name, Row, Text, Value};
-use sqlite_items::Items;
+use salt_ranges::KeyRange;
+use salt_values::{Id, Ids, Key, Name, Row, Rows, Text, Value};
+use sqlite_items::{Boxed, Items};
 use std::alloc::Global;
+use std::process::Abort;
 use std::test::Fail;
 
 const ROOM: usize = 4096;
+
+const FIRST: Id = Id { boot: 1, seq: 1 };
+
+const SECOND: Id = Id { boot: 1, seq: 2 };
+
+const LAST: Id = Id {
+    boot: 30,
+    seq: u64::MAX,
+};
 
 fn name(alloc: Global, bytes: &[u8]) -> Result<Name, Fail> {
     Ok(Items::from_slice(alloc, bytes)?)
@@ -20,60 +36,252 @@ fn text(alloc: Global, bytes: &[u8]) -> Result<Value, Fail> {
 }
 
 fn row(alloc: Global, key: i64, bytes: &[u8]) -> Result<Row, Fail> {
-    let mut row = Items::new(alloc);
+    let mut row = Row::new(alloc);
     row.push(Value::Int(key))?;
     row.push(text(alloc, bytes)?)?;
     Ok(row)
 }
 
-fn insert(alloc: Global, key: i64, bytes: &[u8]) -> Result<Statement, Fail> {
-    let mut values = Items::new(alloc);
-    values.push(Expr::Lit(Value::Int(key)))?;
-    values.push(Expr::Lit(text(alloc, bytes)?))?;
+// Tables `acct` and `w`, with no columns: only their names are printed.
+fn schema(alloc: Global) -> Result<Items<TableDef>, Fail> {
+    let mut tables = Items::new(alloc);
+    let names: [&[u8]; 2] = [b"acct", b"w"];
+    for table in names {
+        tables.push(TableDef {
+            name: name(alloc, table)?,
+            columns: Fields::new(alloc),
+            checks: Exprs::new(alloc),
+        })?;
+    }
+    Ok(tables)
+}
+
+// Each event's text, and that of all of them.
+fn compare(rt: &impl Abort, alloc: Global, events: &Story, lines: &[&str]) -> Result<(), Fail> {
+    let tables = schema(alloc)?;
+    let mut whole = MemSink::new(alloc, ROOM)?;
+    let mut said = Vec::new(alloc);
+    assert_eq!(rt; events.len(), lines.len());
+    for (event, line) in events.as_slice().iter().zip(lines) {
+        let mut sink = MemSink::new(alloc, ROOM)?;
+        assert_eq!(rt; print(&mut sink, event, tables.as_slice()), Ok(()));
+        assert_eq!(rt; sink.bytes(), line.as_bytes());
+        said.extend_from_slice(line.as_bytes())?;
+    }
+    assert_eq!(rt;
+        print_story(&mut whole, events.as_slice(), tables.as_slice()),
+        Ok(())
+    );
+    assert_eq!(rt; whole.bytes(), said.as_slice());
+    Ok(())
+}
+
+fn began(unit: Id, kind: UnitKind) -> Event {
+    Event::Began { unit, kind }
+}
+
+fn called(alloc: Global) -> Result<UnitKind, Fail> {
+    Ok(UnitKind::Call {
+        session: 64,
+        program: name(alloc, b"p")?,
+        args: row(alloc, 1, b"a")?,
+    })
+}
+
+fn first(alloc: Global) -> Result<UnitKind, Fail> {
+    Ok(UnitKind::First {
+        session: 2,
+        base: FIRST,
+        program: name(alloc, b"pay")?,
+        args: Row::new(alloc),
+    })
+}
+
+#[test]
+fn units_that_begin(rt: HostRuntime) -> Result<(), Fail> {
+    let alloc = rt.alloc();
+    let mut events = Story::new(alloc);
+    events.push(began(FIRST, UnitKind::Acid { session: 1 }))?;
+    events.push(began(LAST, called(alloc)?))?;
+    events.push(began(FIRST, first(alloc)?))?;
+    events.push(began(
+        SECOND,
+        UnitKind::Later {
+            base: FIRST,
+            part: 32,
+        },
+    ))?;
+    let lines = [
+        "u1.1 began @1\n",
+        "u30.18446744073709551615 began @64 call p(1, 'a')\n",
+        "u1.1 began @2 b1.1 part 1 of pay()\n",
+        "u1.2 began b1.1 part 32\n",
+    ];
+    compare(&rt, rt.alloc(), &events, &lines)
+}
+
+fn ended(end: End) -> Event {
+    Event::Ended { unit: FIRST, end }
+}
+
+#[test]
+fn units_that_end(rt: HostRuntime) -> Result<(), Fail> {
+    let mut events = Story::new(rt.alloc());
+    events.push(ended(End::Committed(u64::MAX)))?;
+    let causes = [
+        Cause::Duplicate,
+        Cause::Check,
+        Cause::Missing,
+        Cause::Ensure,
+        Cause::Overflow,
+        Cause::TooLong,
+    ];
+    for cause in causes {
+        events.push(ended(End::Failed(cause)))?;
+    }
+    events.push(ended(End::Branched(5, Cause::Missing)))?;
+    events.push(ended(End::RolledBack))?;
+    events.push(ended(End::Victim))?;
+    events.push(ended(End::Cut))?;
+    let lines = [
+        "u1.1 committed 18446744073709551615\n",
+        "u1.1 failed duplicate\n",
+        "u1.1 failed check\n",
+        "u1.1 failed missing\n",
+        "u1.1 failed ensure\n",
+        "u1.1 failed overflow\n",
+        "u1.1 failed toolong\n",
+        "u1.1 branched 5 missing\n",
+        "u1.1 rolled back\n",
+        "u1.1 victim\n",
+        "u1.1 cut\n",
+    ];
+    compare(&rt, rt.alloc(), &events, &lines)
+}
+
+fn insert(alloc: Global) -> Result<Statement, Fail> {
+    let mut values = Exprs::new(alloc);
+    values.push(Expr::Lit(Value::Int(-5)))?;
+    values.push(Expr::Lit(text(alloc, b"it's")?))?;
     Ok(Statement::Insert {
         table: name(alloc, b"acct")?,
         values,
     })
 }
 
-fn select(alloc: Global, key: i64) -> Result<Statement, Fail> {
+fn select(alloc: Global, what: What) -> Result<Statement, Fail> {
     Ok(Statement::Select {
-        what: What::All,
+        what,
         table: name(alloc, b"acct")?,
         scan: Scan {
-            bound: Bound::Key(Expr::Lit(Value::Int(key))),
+            bound: Bound::All,
+            filter: None,
         },
     })
 }
 
+fn select_into(alloc: Global) -> Result<Statement, Fail> {
+    Ok(Statement::SelectInto {
+        column: name(alloc, b"bal")?,
+        var: name(alloc, b"x")?,
+        table: name(alloc, b"acct")?,
+        key: Expr::Lit(Value::Int(1)),
+    })
+}
+
+fn ensure(alloc: Global) -> Result<Statement, Fail> {
+    Ok(Statement::Ensure(Expr::Binary {
+        op: Op::AtLeast,
+        left: Boxed::new(alloc, Expr::Variable(name(alloc, b"x")?))?,
+        right: Boxed::new(alloc, Expr::Lit(Value::Int(0)))?,
+    }))
+}
+
 fn did(statement: Statement, answer: Answer) -> Event {
     Event::Did {
-        unit: Id { boot: 1, seq: 2 },
+        unit: SECOND,
         statement,
         answer,
     }
 }
 
-fn ended(end: End) -> Event {
-    Event::Ended {
-        unit: Id {
-            boot: 2,
-            seq: u64::MAX,
-        },
-        end,
-    }
-}
-
-fn rows(alloc: Global) -> Result<Answer, Fail> {
-    let mut rows = Items::new(alloc);
+fn two_rows(alloc: Global) -> Result<Answer, Fail> {
+    let mut rows = Rows::new(alloc);
     rows.push(row(alloc, i64::MIN, b"a'b''")?)?;
     rows.push(row(alloc, 0, b"")?)?;
     Ok(Answer::Rows(rows))
 }
 
-// Each form of an event once.
-fn story(alloc: Global) -> Result<Items<Event>, Fail> {
-    let mut events = Items::new(alloc);
+#[test]
+fn statements_and_their_answers(rt: HostRuntime) -> Result<(), Fail> {
+    let alloc = rt.alloc();
+    let mut events = Story::new(alloc);
+    events.push(did(insert(alloc)?, Answer::Count(1)))?;
+    events.push(did(select(alloc, What::All)?, two_rows(alloc)?))?;
+    events.push(did(select(alloc, What::All)?, Answer::Rows(Rows::new(alloc))))?;
+    events.push(did(
+        select(alloc, What::Count)?,
+        Answer::Cell(Some(Value::Int(7))),
+    ))?;
+    events.push(did(
+        select(alloc, What::Min(name(alloc, b"n")?))?,
+        Answer::Cell(Some(text(alloc, b"'")?)),
+    ))?;
+    events.push(did(
+        select(alloc, What::Max(name(alloc, b"n")?))?,
+        Answer::Cell(None),
+    ))?;
+    events.push(did(select_into(alloc)?, Answer::Stored(Value::Int(-1))))?;
+    events.push(did(ensure(alloc)?, Answer::Held))?;
+    events.push(did(ensure(alloc)?, Answer::Failed(Cause::Ensure)))?;
+    let lines = [
+        "u1.2 did insert into acct values (-5, 'it''s') -> count 1\n",
+        "u1.2 did select * from acct -> rows (-9223372036854775808, 'a''b''''') (0, '')\n",
+        "u1.2 did select * from acct -> rows\n",
+        "u1.2 did select count(*) from acct -> value 7\n",
+        "u1.2 did select min(n) from acct -> value ''''\n",
+        "u1.2 did select max(n) from acct -> value none\n",
+        "u1.2 did select bal into :x from acct where key = 1 -> stored -1\n",
+        "u1.2 did ensure (:x >= 0) -> true\n",
+        "u1.2 did ensure (:x >= 0) -> failed ensure\n",
+    ];
+    compare(&rt, rt.alloc(), &events, &lines)
+}
+
+fn owners(alloc: Global) -> Result<Owners, Fail> {
+    let mut owners = Owners::new(alloc);
+    owners.push(Owner::Unit(FIRST))?;
+    owners.push(Owner::Base(FIRST))?;
+    Ok(owners)
+}
+
+fn pairs(alloc: Global) -> Result<Pairs, Fail> {
+    let mut pairs = Pairs::new(alloc);
+    pairs.push((1, 0))?;
+    pairs.push((1_000_000, 4))?;
+    Ok(pairs)
+}
+
+fn bases(alloc: Global) -> Result<Ids, Fail> {
+    let mut bases = Ids::new(alloc);
+    bases.push(FIRST)?;
+    bases.push(SECOND)?;
+    Ok(bases)
+}
+
+#[test]
+fn waits_programs_and_openings(rt: HostRuntime) -> Result<(), Fail> {
+    let alloc = rt.alloc();
+    let mut events = Story::new(alloc);
+    events.push(Event::Waits {
+        unit: SECOND,
+        owners: owners(alloc)?,
+    })?;
+    events.push(Event::Accepted(FIRST))?;
+    events.push(Event::Finished(LAST))?;
+    events.push(Event::Released(bases(alloc)?))?;
+    events.push(Event::Down(Why::Stopped))?;
+    events.push(Event::Down(Why::Fault))?;
     events.push(Event::Opened {
         boot: 1,
         decisions: 0,
@@ -83,95 +291,227 @@ fn story(alloc: Global) -> Result<Items<Event>, Fail> {
         number: 10,
         text: name(alloc, b"create table t (k int key)")?,
     })?;
-    events.push(Event::Began {
-        unit: Id { boot: 1, seq: 2 },
-        kind: UnitKind::Acid { session: 64 },
-    })?;
-    events.push(did(insert(alloc, -5, b"it's")?, Answer::Count(1)))?;
-    events.push(did(insert(alloc, 7, b"'")?, Answer::Failed(Cause::Duplicate)))?;
-    events.push(did(select(alloc, -1)?, rows(alloc)?))?;
-    events.push(did(select(alloc, 3)?, Answer::Rows(Items::new(alloc))))?;
-    events.push(ended(End::Committed(5)))?;
-    events.push(ended(End::Failed(Cause::Duplicate)))?;
+    events.push(Event::Armed(pairs(alloc)?))?;
+    let lines = [
+        "u1.2 waits u1.1 b1.1\n",
+        "b1.1 accepted\n",
+        "b30.18446744073709551615 finished\n",
+        "released b1.1 b1.2\n",
+        "down stopped\n",
+        "down fault\n",
+        "opened 1 0\n",
+        "ready\n",
+        "defined 10 create table t (k int key)\n",
+        "armed 1 0 1000000 4\n",
+    ];
+    compare(&rt, rt.alloc(), &events, &lines)
+}
+
+#[test]
+fn lines_that_are_refused(rt: HostRuntime) -> Result<(), Fail> {
+    let alloc = rt.alloc();
+    let mut events = Story::new(alloc);
+    events.push(Event::Refused(Refusal::Long))?;
+    events.push(Event::Refused(Refusal::Byte))?;
     events.push(Event::Refused(Refusal::Syntax))?;
     events.push(Event::Refused(Refusal::Unknown(name(alloc, b"x_1")?)))?;
     events.push(Event::Refused(Refusal::Exists(name(alloc, b"acct")?)))?;
     events.push(Event::Refused(Refusal::Mistyped))?;
-    Ok(events)
+    events.push(Event::Refused(Refusal::Branch(32)))?;
+    events.push(Event::Refused(Refusal::State))?;
+    events.push(Event::Refused(Refusal::Busy))?;
+    let lines = [
+        "refused 1 long\n",
+        "refused 2 byte\n",
+        "refused 3 syntax\n",
+        "refused 5 unknown x_1\n",
+        "refused 6 exists acct\n",
+        "refused 7 type\n",
+        "refused 8 branch 32\n",
+        "refused 9 state\n",
+        "refused 10 busy\n",
+    ];
+    compare(&rt, rt.alloc(), &events, &lines)
 }
 
-// Their texts, written out by hand.
-const LINES: [&str; 14] = [
-    "opened 1 0\n",
-    "ready\n",
-    "defined 10 create table t (k int key)\n",
-    "u1.2 began @64\n",
-    "u1.2 did insert into acct values (-5, 'it''s') -> count 1\n",
-    "u1.2 did insert into acct values (7, '''') -> failed duplicate\n",
-    "u1.2 did select * from acct where key = -1 -> rows (-9223372036854775808, 'a''b''''') (0, '')\n",
-    "u1.2 did select * from acct where key = 3 -> rows\n",
-    "u2.18446744073709551615 committed 5\n",
-    "u2.18446744073709551615 failed duplicate\n",
-    "refused 3 syntax\n",
-    "refused 5 unknown x_1\n",
-    "refused 6 exists acct\n",
-    "refused 7 type\n",
-];
-
 #[test]
-fn each_form_of_an_event(rt: HostRuntime) -> Result<(), Fail> {
-    let events = story(rt.alloc())?;
-    let mut whole = MemSink::new(rt.alloc(), ROOM)?;
-    let mut said = Vec::new(rt.alloc());
-    assert_eq!(rt; events.len(), LINES.len());
-    for (event, line) in events.as_slice().iter().zip(LINES) {
+fn limits_that_are_passed(rt: HostRuntime) -> Result<(), Fail> {
+    let cases = [
+        (LimitName::Session, "refused 4 limit session\n"),
+        (LimitName::Name, "refused 4 limit name\n"),
+        (LimitName::Number, "refused 4 limit number\n"),
+        (LimitName::Text, "refused 4 limit text\n"),
+        (LimitName::Tables, "refused 4 limit tables\n"),
+        (LimitName::Columns, "refused 4 limit columns\n"),
+        (LimitName::Checks, "refused 4 limit checks\n"),
+        (LimitName::Programs, "refused 4 limit programs\n"),
+        (LimitName::Parts, "refused 4 limit parts\n"),
+        (LimitName::Statements, "refused 4 limit statements\n"),
+        (LimitName::Parameters, "refused 4 limit parameters\n"),
+        (LimitName::Variables, "refused 4 limit variables\n"),
+        (LimitName::Depth, "refused 4 limit depth\n"),
+        (LimitName::Crash, "refused 4 limit crash\n"),
+        (LimitName::Pick, "refused 4 limit pick\n"),
+        (LimitName::Pairs, "refused 4 limit pairs\n"),
+        (LimitName::Bases, "refused 4 limit bases\n"),
+    ];
+    for (limit, line) in cases {
         let mut sink = MemSink::new(rt.alloc(), ROOM)?;
-        assert_eq!(rt; print(&mut sink, event), Ok(()));
+        let event = Event::Refused(Refusal::Limit(limit));
+        assert_eq!(rt; print(&mut sink, &event, &[]), Ok(()));
         assert_eq!(rt; sink.bytes(), line.as_bytes());
-        said.extend_from_slice(line.as_bytes())?;
     }
-    assert_eq!(rt; print_story(&mut whole, events.as_slice()), Ok(()));
-    assert_eq!(rt; whole.bytes(), said.as_slice());
     Ok(())
 }
 
+fn lock(
+    owner: Owner,
+    family: Family,
+    mode: Mode,
+    table: u16,
+    lo: Option<Key>,
+    hi: Option<Key>,
+) -> Item {
+    Item::Lock(Lock {
+        owner,
+        family,
+        mode,
+        table,
+        range: KeyRange { lo, hi },
+    })
+}
+
+fn base(alloc: Global, at: BaseAt) -> Result<Item, Fail> {
+    Ok(Item::Base {
+        base: FIRST,
+        program: name(alloc, b"p")?,
+        at,
+    })
+}
+
+// Table 2 is not in the schema.
+fn locks(alloc: Global) -> Result<Shown, Fail> {
+    let mut items = Shown::new(alloc);
+    let key = Some(Value::Int(-1));
+    items.push(lock(
+        Owner::Base(FIRST),
+        Family::Saline,
+        Mode::Write,
+        1,
+        key,
+        Some(Value::Int(3)),
+    ))?;
+    let key = Some(text(alloc, b"a'")?);
+    items.push(lock(
+        Owner::Unit(FIRST),
+        Family::Acid,
+        Mode::Read,
+        0,
+        key,
+        Some(text(alloc, b"b")?),
+    ))?;
+    items.push(lock(
+        Owner::Unit(SECOND),
+        Family::Alkaline,
+        Mode::Write,
+        0,
+        None,
+        None,
+    ))?;
+    items.push(lock(
+        Owner::Unit(SECOND),
+        Family::Alkaline,
+        Mode::Read,
+        2,
+        Some(Value::Int(0)),
+        None,
+    ))?;
+    items.push(lock(
+        Owner::Unit(SECOND),
+        Family::Alkaline,
+        Mode::Read,
+        2,
+        None,
+        Some(Value::Int(0)),
+    ))?;
+    Ok(items)
+}
+
+fn programs(alloc: Global) -> Result<Shown, Fail> {
+    let mut items = Shown::new(alloc);
+    items.push(base(alloc, BaseAt::First)?)?;
+    items.push(base(alloc, BaseAt::Next(2))?)?;
+    items.push(base(alloc, BaseAt::Finished)?)?;
+    Ok(items)
+}
+
+#[test]
+fn what_is_shown(rt: HostRuntime) -> Result<(), Fail> {
+    let alloc = rt.alloc();
+    let mut events = Story::new(alloc);
+    events.push(Event::Shown(locks(alloc)?))?;
+    events.push(Event::Shown(programs(alloc)?))?;
+    events.push(Event::Shown(Shown::new(alloc)))?;
+    let lines = [
+        "lock b1.1 saline write w -1..3\n\
+         lock u1.1 acid read acct 'a'''..'b'\n\
+         lock u1.2 alkaline write acct all\n\
+         lock u1.2 alkaline read  all\n\
+         lock u1.2 alkaline read  all\n\
+         shown 5\n",
+        "base b1.1 p first\n\
+         base b1.1 p next 2\n\
+         base b1.1 p finished\n\
+         shown 3\n",
+        "shown 0\n",
+    ];
+    compare(&rt, rt.alloc(), &events, &lines)
+}
+
+// A sink that takes a byte at a time, so many of them, and then fails.
+#[derive(Drop)]
+struct Narrow {
+    bytes: Vec<u8>,
+    room: usize,
+    faults: u64,
+}
+
+impl Sink for Narrow {
+    ghost held = { λ sink. Some sink.bytes.items };
+
+    ghost faults = { λ sink. sink.faults };
+
+    fn write(&mut self, bytes: &[u8]) -> Result<usize, IoFailed> {
+        let Some(first) = bytes.first() else {
+            return Ok(0);
+        };
+        if self.bytes.len() >= self.room || self.bytes.push(*first).is_err() {
+            self.faults = self.faults.saturating_add(1);
+            return Err(IoFailed);
+        }
+        Ok(1)
+    }
+}
+
+// Whatever the byte at which a sink fails, those before it stand there, and one fault is counted.
 #[test]
 fn a_write_that_fails(rt: HostRuntime) -> Result<(), Fail> {
-    let events = story(rt.alloc())?;
-    let held: [(u64, &[u8]); 4] = [
-        (1, b""),
-        (2, b"opened "),
-        (3, b"opened 1"),
-        (5, b"opened 1 0"),
-    ];
-    for (call, want) in held {
-        let mut sink = MemSink::new(rt.alloc(), ROOM)?;
-        sink.fail_call(call)?;
-        assert_eq!(rt; print_story(&mut sink, events.as_slice()), Err(IoFailed));
-        assert_eq!(rt; sink.bytes(), want);
-    }
-    Ok(())
-}
-
-#[test]
-fn a_table_with_its_columns(rt: HostRuntime) -> Result<(), Fail> {
     let alloc = rt.alloc();
-    let mut columns = Items::new(alloc);
-    let names: [&[u8]; 3] = [b"id", b"bal", b"due"];
-    for column in names {
-        columns.push(Field {
-            name: name(alloc, column)?,
-            kind: ColType::Int,
-        })?;
+    let mut events = Story::new(alloc);
+    events.push(did(insert(alloc)?, Answer::Count(1)))?;
+    events.push(Event::Armed(pairs(alloc)?))?;
+    let said = b"u1.2 did insert into acct values (-5, 'it''s') -> count 1\narmed 1 0 1000000 4\n";
+    for room in 0..=said.len() {
+        let mut sink = Narrow {
+            bytes: Vec::new(alloc),
+            room,
+            faults: 0,
+        };
+        let printed = print_story(&mut sink, events.as_slice(), &[]);
+        let fails = room < said.len();
+        assert_eq!(rt; printed.is_err(), fails);
+        assert_eq!(rt; sink.bytes.as_slice(), &said[..room]);
+        assert_eq!(rt; sink.faults, u64::from(fails));
     }
-    let def = TableDef {
-        name: name(alloc, b"acct")?,
-        columns,
-    };
-    let made = table_text(alloc, &def)?;
-    assert_eq!(rt;
-        made.as_slice(),
-        b"create table acct (id int key, bal int, due int)".as_slice()
-    );
     Ok(())
 }

@@ -1,11 +1,14 @@
-// Values and rows.
-ghost use Rattle.std.specs.Prelude.{◌≡◌, ◌<◌, ◌==◌, [], ◌∷◌, ◌++◌, IfNone, IfSome, length, position};
-ghost use Rattle.salt_model.specs.Texts.{doubled, int_text, row_text, value_text};
+//! Values, rows and calls of programs; statements.
+ghost use Rattle.std.specs.Prelude.{◌++◌, codes};
+ghost use Rattle.salt_ast.specs.ProgramTexts.{call_text};
+ghost use Rattle.salt_ast.specs.Texts.{between_commas, statement_text, value_text};
+ghost use Rattle.salt_model.specs.EventTexts.{cell_text, row_text};
 ghost use Rattle.salt_print.specs.Prints.{Prints};
 
 use crate::printer::{Listed, Printer};
+use salt_ast::{Statement, send_statement, send_value};
 use salt_io::Sink;
-use salt_values::{Row, Text, Value};
+use salt_values::{Name, Row, Value};
 
 impl Listed for Value {
     ghost text = { value_text };
@@ -15,62 +18,64 @@ impl Listed for Value {
     }
 }
 
-/// Where the first quote stands.
-fn quote_in(bytes: &[u8]) -> Option<usize>
-    ensures first { result ≡ position (λ byte. byte == 39) bytes.now }
-    ensures within { IfSome result (λ at. at < length bytes.now) }
-{
-    bytes.iter().position(|byte| *byte == b'\'')
-}
+impl Listed for Row {
+    ghost text = { row_text };
 
-/// The bytes up to the first quote, which is the last of them, and those behind it.
-fn first_run(bytes: &[u8]) -> Option<(&[u8], &[u8])>
-    ensures split { IfSome result (λ parts. doubled bytes.now ≡ (parts.0.now ++ 39 ∷ []) ++ doubled parts.1.now) }
-    ensures shorter { IfSome result (λ parts. length parts.1.now < length bytes.now) }
-    ensures none { IfNone result (doubled bytes.now ≡ bytes.now) }
-{
-    let quote = quote_in(bytes)?;
-    Some(bytes.split_at(quote + 1))
+    fn print<K: Sink>(&self, out: &mut Printer<'_, K>) {
+        out.row(self);
+    }
 }
 
 impl<K: Sink> Printer<'_, K> {
-    fn signed(&mut self, number: i64)
-        ensures { Prints K.held K.faults self.old self.new (int_text number) }
+    pub fn statement(&mut self, statement: &Statement)
+        ensures { Prints K.held K.faults self.old self.new (statement_text statement.now) }
     {
-        self.number(number);
-    }
-
-    /// A text with each quote doubled, in runs that end at a quote.
-    fn doubled(&mut self, text: &Text)
-        ensures { Prints K.held K.faults self.old self.new (doubled text.now) }
-    {
-        let mut rest = text.as_bytes();
-        while let Some((front, others)) = first_run(rest) {
-            self.bytes(front);
-            self.bytes(b"'");
-            rest = others;
+        if self.outcome.is_ok() {
+            self.outcome = send_statement(self.sink, statement);
         }
-        self.bytes(rest);
     }
 
     pub fn value(&mut self, value: &Value)
         ensures { Prints K.held K.faults self.old self.new (value_text value.now) }
     {
-        match value {
-            Value::Int(number) => self.signed(*number),
-            Value::Text(text) => {
-                self.bytes(b"'");
-                self.doubled(text);
-                self.bytes(b"'");
-            }
+        if self.outcome.is_ok() {
+            self.outcome = send_value(self.sink, value);
         }
     }
 
-    pub fn row(&mut self, row: &Row)
+    /// Values with a comma and a space between them.
+    fn values(&mut self, values: &Row)
+        ensures { Prints K.held K.faults self.old self.new (between_commas value_text values.now) }
+    {
+        if let [first, others @ ..] = values.as_slice() {
+            self.value(first);
+            self.preceded(b", ", others);
+        }
+    }
+
+    fn row(&mut self, row: &Row)
         ensures { Prints K.held K.faults self.old self.new (row_text row.now) }
     {
         self.bytes(b"(");
-        self.list(row);
+        self.values(row);
         self.bytes(b")");
+    }
+
+    /// A program's name and its arguments.
+    pub fn call(&mut self, program: &Name, args: &Row)
+        ensures { Prints K.held K.faults self.old self.new (call_text program.now args.now) }
+    {
+        self.kept(program);
+        self.row(args);
+    }
+
+    /// A value that may be none.
+    pub fn cell(&mut self, cell: &Option<Value>)
+        ensures { Prints K.held K.faults self.old self.new (cell_text cell.now) }
+    {
+        match cell {
+            None => self.bytes(b"none"),
+            Some(value) => self.value(value),
+        }
     }
 }

@@ -4,4 +4,4 @@ use Rattle.salt_print.specs.Prints.{Prints}
 use Rattle.salt_print.proofs.printer.Printer.story.Given as goal
 
 abbrev pub invariant-loop-event : goal.invariant-loop-event
-invariant-loop-event g l = Prints g.K.Sink.held g.K.Sink.faults l.fn.self l.self (story_text (take l.event-index l.events))
+invariant-loop-event g l = Prints g.K.Sink.held g.K.Sink.faults l.fn.self l.self (story_text l.fn.schema (take l.event-index l.events))

@@ -2,4 +2,4 @@ use Rattle.salt_print.proofs.Joins.{◌⨾◌}
 use Rattle.salt_print.proofs.printer.Printer.unit.Goals as goal
 
 pub returns : goal.returns
-returns g c = c.bytes.ensures ⨾ c.number.ensures ⨾ c.bytes-2.ensures ⨾ c.number-2.ensures
+returns g c = c.bytes.ensures ⨾ c.id.ensures
