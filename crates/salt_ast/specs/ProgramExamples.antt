@@ -4,7 +4,7 @@ use Rattle.salt_ast.specs.Paths.{blocks, next_on_commit, next_on_failure, rest_o
 use Rattle.salt_ast.specs.ProgramJudgement.{Known, LineFault, ProgramFault, backward, branch, call_fault, fits, faulty, in_branches, in_text, kept, line_fault, no_branch, program_fault, program_kept_limit}
 use Rattle.salt_ast.specs.ProgramLimits.{line_limit, program_limit}
 use Rattle.salt_ast.specs.ProgramTexts.{line_text, program_text}
-use Rattle.salt_ast.specs.Sample.{acct, acct_def, amounts, bal, field, id, in_range, move, part, scan, set, transfer, transfer_parts}
+use Rattle.salt_ast.specs.Sample.{acct, acct_def, bal, field, id, part, scan, set, transfer, transfer_parts}
 use Rattle.salt_ast.specs.Trees.{negation, number, operation}
 use Rattle.salt_ast.specs.declared.limit.LimitName.TheVariants as limit
 use Rattle.salt_ast.specs.declared.lines.Act.{Act}
@@ -12,20 +12,15 @@ use Rattle.salt_ast.specs.declared.lines.Act.TheVariants as act
 use Rattle.salt_ast.specs.declared.lines.Line.{Line}
 use Rattle.salt_ast.specs.declared.lines.Line.TheVariants as line
 use Rattle.salt_ast.specs.declared.programs.Body.TheVariants as body
-use Rattle.salt_ast.specs.declared.programs.Next.{Next}
 use Rattle.salt_ast.specs.declared.programs.Next.TheVariants as next
 use Rattle.salt_ast.specs.declared.programs.PartDef.{PartDef}
 use Rattle.salt_ast.specs.declared.programs.ProgramDef.{ProgramDef}
-use Rattle.salt_ast.specs.declared.trees.Bound.{Bound}
 use Rattle.salt_ast.specs.declared.trees.Bound.TheVariants as bound
-use Rattle.salt_ast.specs.declared.trees.ColType.{ColType}
 use Rattle.salt_ast.specs.declared.trees.ColType.TheVariants as kind
-use Rattle.salt_ast.specs.declared.trees.Expr.{Column, Expr, Variable}
+use Rattle.salt_ast.specs.declared.trees.Expr.{Expr, Variable}
 use Rattle.salt_ast.specs.declared.trees.Field.{Field}
-use Rattle.salt_ast.specs.declared.trees.Op.{Op}
 use Rattle.salt_ast.specs.declared.trees.Op.TheVariants as op
 use Rattle.salt_ast.specs.declared.trees.Scan.{Scan}
-use Rattle.salt_ast.specs.declared.trees.Set.{Set}
 use Rattle.salt_ast.specs.declared.trees.Statement.{Statement}
 use Rattle.salt_ast.specs.declared.trees.Statement.TheVariants as statement
 use Rattle.salt_ast.specs.declared.trees.TableDef.{TableDef}

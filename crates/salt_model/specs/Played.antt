@@ -72,4 +72,3 @@ Played (from k) = ⊤
 Played (log asks asked) = Played log × IsComplete log
 Played (log turns b) = Played log × (phase log ≡ Serving) × (next log ≡ None) × (next_turn log ≡ Some b)
 Played (log says e) = Played log × May log e
-

@@ -18,7 +18,9 @@ pub type Owners = Items<Owner>;
 /// Whose unit it is.
 pub enum UnitKind {
     /// An ACID transaction of a session.
-    Acid { session: u8 },
+    Acid {
+        session: u8,
+    },
     /// The unit of an ACID program that a session called.
     Call {
         session: u8,
@@ -33,7 +35,10 @@ pub enum UnitKind {
         args: Row,
     },
     /// A later part of a BASE program.
-    Later { base: Id, part: u32 },
+    Later {
+        base: Id,
+        part: u32,
+    },
 }
 
 impl Drop for UnitKind {
@@ -170,7 +175,10 @@ impl Drop for Refusal {
 /// One thing that a run tells.
 pub enum Event {
     /// A unit begins.
-    Began { unit: Id, kind: UnitKind },
+    Began {
+        unit: Id,
+        kind: UnitKind,
+    },
     /// A unit's statement is done.
     Did {
         unit: Id,
@@ -178,9 +186,15 @@ pub enum Event {
         answer: Answer,
     },
     /// A unit's statement clashes with what these hold.
-    Waits { unit: Id, owners: Owners },
+    Waits {
+        unit: Id,
+        owners: Owners,
+    },
     /// A unit ends.
-    Ended { unit: Id, end: End },
+    Ended {
+        unit: Id,
+        end: End,
+    },
     /// The first part of a BASE program is committed.
     Accepted(Id),
     /// A BASE program has come to its end.
@@ -190,11 +204,17 @@ pub enum Event {
     /// The run goes down.
     Down(Why),
     /// The database was opened, in a new boot; so many decisions stand.
-    Opened { boot: u64, decisions: u64 },
+    Opened {
+        boot: u64,
+        decisions: u64,
+    },
     /// The opening is done, and lines are served.
     Ready,
     /// A definition was made by the decision of this number; its canonical text.
-    Defined { number: u64, text: Bytes },
+    Defined {
+        number: u64,
+        text: Bytes,
+    },
     /// A line was refused.
     Refused(Refusal),
     /// Stops of the disks were armed.

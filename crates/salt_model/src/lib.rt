@@ -7,9 +7,7 @@ mod places;
 mod shown;
 mod vars;
 
-pub use events::{
-    Answer, Cause, End, Event, Flight, Owner, Owners, Refusal, Story, UnitKind, Why,
-};
+pub use events::{Answer, Cause, End, Event, Flight, Owner, Owners, Refusal, Story, UnitKind, Why};
 pub use locks::{Family, Lock, Mode, Reach};
 pub use places::Place;
 pub use shown::{BaseAt, Item, Items};
