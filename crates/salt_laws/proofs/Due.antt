@@ -46,7 +46,6 @@ module _ (due : Log → Option Event → Option Id) (told : Event → Option Id)
     (quiet : (log : Log) (e : Event) → Fits log e → due log (last_said log) ≡ None → told e ≡ None)
     (tells : (b : Id) → told (event b) ≡ Some b)
     (away : (log : Log) (b : Id) → is_at_devices log (event b) ≡ false) where
-
   abbrev IsDue : Log → Type 0
   IsDue log = (b : Id) × (due log (last_said log) ≡ Some b) × (next log ≡ Some (event b))
 
