@@ -1,6 +1,5 @@
 pub mod Lookups
+pub mod Refused
 pub mod Entries
 pub mod Outcomes
 pub mod CutShort
-pub mod Segments
-pub mod Steps
