@@ -3,3 +3,6 @@ pub mod Refused
 pub mod Entries
 pub mod Outcomes
 pub mod CutShort
+pub mod Idle
+pub mod Segments
+pub mod Steps

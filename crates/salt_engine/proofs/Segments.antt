@@ -1,0 +1,213 @@
+-- The segments of lines on an idle log: what an engine appends is what comes next.
+use Rattle.salt_ast.specs.declared.lines.Act.TheVariants.{Do}
+use Rattle.salt_ast.specs.declared.lines.Line.TheVariants.{Session}
+use Rattle.salt_ast.specs.declared.lines.Line.{Line}
+use Rattle.salt_ast.specs.declared.trees.Statement.{Statement}
+use Rattle.salt_ast.specs.declared.trees.TableDef.{TableDef}
+use Rattle.salt_engine.proofs.Idle.{none-clashes, none-open, none-settles, none-waits}
+use Rattle.salt_engine.specs.Engine.{IsIdle, decisions_after, end_by, rows_by}
+use Rattle.salt_laws.proofs.Ids.{is_same_id-refl}
+use Rattle.salt_model.specs.After.{answer_now, kept, run_of, stage, stage_run, tables_after}
+use Rattle.salt_model.specs.Honest.{cause_in}
+use Rattle.salt_model.specs.Kept.{Kept, schema_of}
+use Rattle.salt_model.specs.Log.{Asked, Log, Running, Tree, done_of, is_open, kind_of, line_begun, lines_of, open_units, standing, start_of, story_of, wait_list, ◌asks◌, ◌says◌}
+use Rattle.salt_model.specs.Next.{next}
+use Rattle.salt_model.specs.Phases.{Serving, phase}
+use Rattle.salt_model.specs.Played.{IsComplete, Played}
+use Rattle.salt_model.specs.Refusals.{refusal}
+use Rattle.salt_model.specs.Statements.{Done, Run, do_statement, doing, has_failed, run_from, run_on, serial, with_done}
+use Rattle.salt_model.specs.Tables.{with_changes}
+use Rattle.salt_model.specs.Turns.{after_did, after_end, fresh_unit, is_at_end, settle, still_to_go}
+use Rattle.salt_model.specs.Waiting.{asked_by, block_of}
+use Rattle.salt_model.specs.Words.{without}
+use Rattle.salt_model.specs.declared.events.Answer.TheVariants.{Cell, Count, Held, Rows, Stored}
+use Rattle.salt_model.specs.declared.events.Answer.{Answer}
+use Rattle.salt_model.specs.declared.events.Cause.{Cause}
+use Rattle.salt_model.specs.declared.events.End.TheVariants.{Branched, Committed}
+use Rattle.salt_model.specs.declared.events.End.{End}
+use Rattle.salt_model.specs.declared.events.Event.TheVariants.{Began, Defined, Did, Ended, Refused}
+use Rattle.salt_model.specs.declared.events.Event.{Event}
+use Rattle.salt_model.specs.declared.events.Refusal.{Refusal}
+use Rattle.salt_model.specs.declared.events.UnitKind.TheVariants.{Acid}
+use Rattle.salt_model.specs.declared.events.UnitKind.{UnitKind}
+use Rattle.salt_model.specs.declared.vars.Binding.{Binding}
+use Rattle.salt_values.specs.Id.{is_same_id}
+use Rattle.salt_values.specs.declared.id.Id.{Id}
+use Rattle.std.proofs.Common.{ap, append-nil, append_assoc, sym, ◌∙◌}
+use Rattle.std.specs.Prelude.{Bool, List, None, Option, Some, [], cond, false, refl, suc, take, true, zero, ℕ, ◌++◌, ◌+◌, ◌∷◌, ◌≡◌}
+
+-- events said one after another
+abbrev pub says_all : Log → List Event → Log
+says_all log [] = log
+says_all log (e ∷ es) = says_all (log says e) es
+
+pub says_all-story : (log : Log) (es : List Event) → story_of (says_all log es) ≡ story_of log ++ es
+says_all-story log [] = sym (append-nil (story_of log))
+says_all-story log (e ∷ es) = says_all-story (log says e) es ∙ append_assoc (story_of log) (e ∷ []) es
+
+pub says_all-lines : (log : Log) (es : List Event) → lines_of (says_all log es) ≡ lines_of log
+says_all-lines log [] = refl
+says_all-lines log (e ∷ es) = says_all-lines (log says e) es
+
+pub says_all-start : (log : Log) (es : List Event) → start_of (says_all log es) ≡ start_of log
+says_all-start log [] = refl
+says_all-start log (e ∷ es) = says_all-start (log says e) es
+
+pub before-said : (log : Log) (es : List Event) → Played (says_all log es) → Played log
+before-said log [] p = p
+before-said log (e ∷ es) p = (before-said (log says e) es p).0
+
+-- a front of what may be said may be said
+pub front-played : (k : ℕ) (log : Log) (es : List Event) → Played (says_all log es) → Played (says_all log (take k es))
+front-played zero log es p = before-said log es p
+front-played (suc k) log [] p = p
+front-played (suc k) log (e ∷ es) p = front-played k (log says e) es p
+
+module _ (log : Log) (idle : IsIdle log) (complete : IsComplete log) where
+  -- a line's one event, after which nothing comes
+  pub defined-complete : (asked : Asked) (n : ℕ) (text : List ℕ) → still_to_go (log asks asked) ≡ [] → IsComplete (log asks asked says Defined n text)
+  defined-complete asked n text turns =
+      let after : Log = log asks asked says Defined n text in
+      (complete.0, rw (complete.0, none-settles after (none-waits log idle)) refl, rw turns refl)
+
+  pub refused-complete : (asked : Asked) (r : Refusal) → still_to_go (log asks asked) ≡ [] → IsComplete (log asks asked says Refused r)
+  refused-complete asked r turns =
+      let after : Log = log asks asked says Refused r in
+      (complete.0, rw (complete.0, none-settles after (none-waits log idle)) refl, rw turns refl)
+
+run_on-one : (schema : List TableDef) (st : Statement) (r : Run) → run_on schema (st ∷ []) r ≡ with_done schema r st
+run_on-one schema st r = both (has_failed (doing schema r st).answer) (with_done schema r st)
+  where
+    both : (b : Bool) (x : Run) → cond b x x ≡ x
+    both true x = refl
+    both false x = refl
+
+-- the segment of a session's statement: Began, Did, Ended
+module _ (log : Log) (s : ℕ) (st : Statement) (idle : IsIdle log) (complete : IsComplete log) where
+  abbrev pub line : Line
+  line = Session s (Do st)
+
+  abbrev pub asked : Log
+  asked = log asks Tree line
+
+  abbrev pub unit : Id
+  unit = fresh_unit log
+
+  abbrev pub began : Log
+  began = asked says Began unit (Acid s)
+
+  abbrev pub done : Done
+  done = do_statement (schema_of (kept log)) (tables_after log) [] st
+
+  abbrev pub did : Answer → Log
+  did a = began says Did unit st a
+
+  next-asked : refusal log (Tree line) ≡ None → next asked ≡ Some (Began unit (Acid s))
+  next-asked allowed = rw (allowed, none-open log idle) refl
+
+  kind-began : kind_of unit began ≡ Some (Acid s)
+  kind-began = rw (is_same_id-refl unit) refl
+
+  standing-began : standing unit began ≡ Running
+  standing-began = rw (is_same_id-refl unit) refl
+
+  block-began : block_of unit began ≡ None
+  block-began = rw kind-began refl
+
+  asked-began : asked_by unit began ≡ Some st
+  asked-began = rw (block-began, standing-began) refl
+
+  abbrev run_with : List Binding → List Statement → Run
+  run_with vars sts = serial (schema_of (kept log)) (tables_after log) vars sts
+
+  vars-began : (stage began).vars unit ≡ []
+  vars-began = rw (is_same_id-refl unit) refl
+
+  done-began : done_of unit began ≡ []
+  done-began = rw (is_same_id-refl unit) refl
+
+  run-began : run_of unit began ≡ run_with [] []
+  run-began = ap (λ vars. run_with vars (done_of unit began)) vars-began ∙ ap (run_with []) done-began
+
+  answer-began : answer_now unit began st ≡ done.answer
+  answer-began = ap (λ r. (do_statement (schema_of (kept log)) r.tables r.vars st).answer) run-began
+
+  next-began : next began ≡ Some (Did unit st done.answer)
+  next-began = rw (complete.0, asked-began, none-clashes log idle (Tree line) unit (Acid s) st, answer-began) refl
+
+  line-did : (a : Answer) → line_begun unit (did a) ≡ line
+  line-did a = rw (is_same_id-refl unit) refl
+
+  at-end : (a : Answer) → is_at_end (did a) unit (block_of unit (did a)) ≡ true
+  at-end a = rw (kind-began, line-did a) refl
+
+  after-did : (x a : Answer) → after_did (did x) unit a ≡ Some (Ended unit (end_by (kept log).decisions (cause_in a)))
+  after-did x (Answer.Failed c) = rw kind-began refl
+  after-did x (Count n) = rw (at-end x) refl
+  after-did x (Rows rows) = rw (at-end x) refl
+  after-did x (Cell v) = rw (at-end x) refl
+  after-did x (Stored v) = rw (at-end x) refl
+  after-did x Held = rw (at-end x) refl
+
+  next-did : (a : Answer) → next (did a) ≡ Some (Ended unit (end_by (kept log).decisions (cause_in a)))
+  next-did a = rw (complete.0, after-did a a) refl
+
+  abbrev ended_by : Answer → Option Cause → Log
+  ended_by a o = did a says Ended unit (end_by (kept log).decisions o)
+
+  abbrev pub ended : Log
+  ended = ended_by done.answer (cause_in done.answer)
+
+  pub unit-played : Played log → refusal log (Tree line) ≡ None → Played ended
+  unit-played played allowed = ((((played, complete), next-asked allowed), next-began), next-did done.answer)
+
+  after-end : (a : Answer) (o : Option Cause) → after_end (ended_by a o) (end_by (kept log).decisions o) (kind_of unit (ended_by a o)) ≡ None
+  after-end a (Some c) = refl
+  after-end a None = rw kind-began refl
+
+  none-left : (a : Answer) (o : Option Cause) → wait_list (ended_by a o) ≡ []
+  none-left a o = ap (λ w. without (unit ∷ []) (without (unit ∷ []) w)) (none-waits log idle)
+
+  next-ended : (a : Answer) (o : Option Cause) → next (ended_by a o) ≡ None
+  next-ended a o = rw (complete.0, after-end a o, none-settles (ended_by a o) (none-left a o)) refl
+
+  pub unit-complete : IsComplete ended
+  unit-complete = (complete.0, next-ended done.answer (cause_in done.answer), refl)
+
+  shut : (a : Answer) (o : Option Cause) (x : Id) → is_open (ended_by a o) x ≡ false
+  shut a o x = by (is_same_id x unit) refl
+    where
+      by : (b : Bool) → is_same_id x unit ≡ b → is_open (ended_by a o) x ≡ false
+      by true e = rw e refl
+      by false e = rw e (idle.none_open x)
+
+  pub unit-idle : IsIdle ended
+  unit-idle = record { none_open = shut done.answer (cause_in done.answer); none_begun = idle.none_begun; none_accepted = idle.none_accepted }
+
+  one-done : (a : Answer) → done_of unit (did a) ≡ st ∷ []
+  one-done a = rw (is_same_id-refl unit) refl
+
+  run-here : (a : Answer) → (stage_run (stage (did a)) unit (did a)).tables ≡ with_changes done.changes (tables_after log)
+  run-here a =
+      ap (λ r. r.tables)
+      (ap (λ vars. run_with vars (done_of unit (did a))) vars-began ∙ ap (run_with []) (one-done a)
+      ∙ run_on-one (schema_of (kept log)) st (run_from (tables_after log) []))
+
+  abbrev kept_by : Answer → Option Cause → Kept
+  kept_by a o = kept (ended_by a o)
+
+  pub schema-by : (a : Answer) (o : Option Cause) → schema_of (kept_by a o) ≡ schema_of (kept log)
+  schema-by a (Some c) = refl
+  schema-by a None = refl
+
+  pub boot-by : (a : Answer) (o : Option Cause) → (kept_by a o).boot ≡ (kept log).boot
+  boot-by a (Some c) = refl
+  boot-by a None = refl
+
+  pub decisions-by : (a : Answer) (o : Option Cause) → (kept_by a o).decisions ≡ decisions_after o (kept log).decisions
+  decisions-by a (Some c) = refl
+  decisions-by a None = refl
+
+  pub rows-by : (a : Answer) (o : Option Cause) → rows_by o done.changes (tables_after log) ≡ (kept_by a o).tables.list
+  rows-by a (Some c) = refl
+  rows-by a None = ap (λ t. t.list) (sym (run-here a))
