@@ -5,8 +5,8 @@ use Rattle.salt_laws.proofs.Ids.{is_same_id-sym}
 use Rattle.salt_laws.proofs.Lists.{In}
 use Rattle.salt_laws.proofs.Opens.{Open}
 use Rattle.salt_laws.proofs.Reading.{program-in}
-use Rattle.salt_model.specs.Locks.{Taken, as_held, clash_locks, clashes, clashing, held, is_same_owner, lock_by, owners_of, saline_lock, taken_in}
-use Rattle.salt_model.specs.Log.{Asked, Log, Never, Over, Running, Standing, Waiting, is_open, is_open_standing, kind_of, open_units, program_of, program_of_kind, programs_in, standing, units_begun, wait_list, ◌asks◌, ◌says◌}
+use Rattle.salt_model.specs.Locks.{Taken, as_held, clash_locks, clashes, clashing, is_same_owner, lock_by, owners_of, saline_lock, taken_in}
+use Rattle.salt_model.specs.Log.{Asked, Log, Never, Over, Running, Standing, Waiting, is_open, is_open_standing, kind_of, open_units, program_of, program_of_kind, standing, units_begun, wait_list, ◌asks◌, ◌says◌}
 use Rattle.salt_model.specs.Turns.{settle}
 use Rattle.salt_model.specs.Waiting.{clashing_now, next_served, victim, victim_of, wait_unit}
 use Rattle.salt_model.specs.Words.{Every, is_empty}
@@ -20,9 +20,9 @@ use Rattle.salt_model.specs.declared.locks.Reach.{Reach}
 use Rattle.salt_ast.specs.declared.trees.Statement.{Statement}
 use Rattle.salt_values.specs.Id.{is_same_id}
 use Rattle.salt_values.specs.declared.id.Id.{Id}
-use Rattle.std.proofs.Common.{ap, subst, sym, ◌∙◌}
+use Rattle.std.proofs.Common.{ap, subst}
 use Rattle.std.specs.List.{cons_option, filter, filter_map, find}
-use Rattle.std.specs.Prelude.{Bool, List, None, Option, Some, [], cond, false, map, option_and_then, refl, true, ⊤, ◌∷◌, ◌≡◌}
+use Rattle.std.specs.Prelude.{Bool, List, None, Option, Some, [], false, map, option_and_then, refl, true, ⊤, ◌∷◌, ◌≡◌}
 
 filter-none : {A : Type 0} (p : A → Bool) → ((x : A) → p x ≡ false) → (xs : List A) → filter p xs ≡ []
 filter-none p h [] = refl

@@ -1,12 +1,11 @@
 -- Finding a table by its name.
 use Rattle.salt_ast.specs.Judgement.{columns_of, is_table}
 use Rattle.salt_ast.specs.Words.{is_same_name}
-use Rattle.salt_ast.specs.declared.trees.Field.{Field}
 use Rattle.salt_ast.specs.declared.trees.TableDef.{TableDef}
 use Rattle.salt_model.specs.Statements.{table_from}
 use Rattle.std.proofs.Common.{List, Some, ap, arith, drop, drop-cons, get_or, length, refl, subst, true, ℕ, ◌<◌, ◌≡◌}
 use Rattle.std.specs.List.{list_all}
-use Rattle.std.specs.Prelude.{Bool, None, Option, [], cond, false, suc, ◌&&◌, ◌+◌, ◌∷◌}
+use Rattle.std.specs.Prelude.{Bool, None, Option, [], cond, false, ◌&&◌, ◌+◌, ◌∷◌}
 
 pub found_here : (schema : List TableDef) (name : List ℕ) (i : ℕ) (d : TableDef) → i < length schema → d ≡ get_or schema i d → is_same_name name d.name ≡ true → table_from i name (drop i schema) ≡ Some (i, d)
 found_here schema name i d within is same = rw (drop-cons schema i d within, ← is, same) refl

@@ -5,7 +5,7 @@ use Rattle.salt_ast.specs.declared.trees.Statement.TheVariants.{Insert, Select}
 use Rattle.salt_ast.specs.declared.trees.TableDef.{TableDef}
 use Rattle.salt_ast.specs.declared.trees.What.TheVariants.{All}
 use Rattle.salt_engine.proofs.Entries.{rows-found}
-use Rattle.salt_engine.specs.Execute.{IsInserted, IsOutcome, IsSelected, changes_of, entries_at, literals_in, put_in}
+use Rattle.salt_engine.specs.Execute.{IsInserted, IsOutcome, IsSelected, entries_at, literals_in, put_in}
 use Rattle.salt_engine.specs.Served.{is_int, is_number, is_plain_table, literal_in, statement_of}
 use Rattle.salt_engine.specs.Schema.{table_of}
 use Rattle.salt_engine.specs.declared.request.Task.TheVariants as task
@@ -13,7 +13,7 @@ use Rattle.salt_engine.specs.declared.request.Task.{Task}
 use Rattle.salt_laws.proofs.Coming.{nothing}
 use Rattle.salt_laws.proofs.Ids.{and_right}
 use Rattle.salt_model.specs.Eval.{values_of}
-use Rattle.salt_model.specs.Statements.{answering, change_to, collect, do_statement, done, failing, first_value, inserted, no_row, on_match, reach, seen, table_named}
+use Rattle.salt_model.specs.Statements.{answering, collect, do_statement, done, failing, first_value, inserted, no_row, on_match, reach, seen, table_named}
 use Rattle.salt_model.specs.Tables.{Entry, Tables, key_of, place, place_cmp}
 use Rattle.salt_model.specs.declared.events.Answer.TheVariants.{Count, Failed, Rows}
 use Rattle.salt_model.specs.declared.events.Cause.TheVariants.{Duplicate, Missing}

@@ -1,5 +1,5 @@
 -- What is refused of a request is what is refused of its line.
-use Rattle.salt_ast.specs.Judgement.{are_row, columns_of, doubled_in_table, doubled_name, exists, field_names, first_fault, gives_type, is_of_kind, is_same_type, key_type, kept_limit, statement_fault, table_fault, unknown_in_expr, unknown_table, value_kind, values}
+use Rattle.salt_ast.specs.Judgement.{are_row, columns_of, doubled_in_table, doubled_name, field_names, first_fault, gives_type, is_of_kind, is_same_type, key_type, statement_fault, table_fault, unknown_in_expr, unknown_table, value_kind, values}
 use Rattle.salt_ast.specs.ProgramJudgement.{Known, faulty, kept, line_fault}
 use Rattle.salt_ast.specs.Words.{first_in, or_else, when}
 use Rattle.salt_ast.specs.declared.lines.Act.TheVariants.{Do}
@@ -13,7 +13,7 @@ use Rattle.salt_ast.specs.declared.trees.TableDef.{TableDef}
 use Rattle.salt_engine.proofs.Lookups.{found, not-found}
 use Rattle.salt_engine.proofs.Outcomes.{no-checks}
 use Rattle.salt_engine.specs.Schema.{IsKnown, is_fitting, is_key_value, request_refusal, table_of, table_refusal, task_refusal}
-use Rattle.salt_engine.specs.Served.{IsNumeric, IsWellFormed, is_int, is_number, is_plain_table, line_of, statement_of}
+use Rattle.salt_engine.specs.Served.{IsNumeric, IsWellFormed, is_int, is_number, line_of, statement_of}
 use Rattle.salt_engine.specs.declared.request.Request.TheVariants as request
 use Rattle.salt_engine.specs.declared.request.Request.{Request}
 use Rattle.salt_engine.specs.declared.request.Task.TheVariants as task
@@ -21,15 +21,13 @@ use Rattle.salt_engine.specs.declared.request.Task.{Task}
 use Rattle.salt_engine.specs.declared.schema.Known as known
 use Rattle.salt_model.specs.Refusals.{refusal_by}
 use Rattle.salt_model.specs.Statements.{table_named}
-use Rattle.salt_model.specs.Words.{is_empty}
 use Rattle.salt_model.specs.declared.events.Refusal.TheVariants.{Exists, Limit, Mistyped, Unknown}
-use Rattle.salt_model.specs.declared.events.Refusal.{Refusal}
 use Rattle.salt_values.specs.declared.value.Value.TheVariants as value
 use Rattle.salt_values.specs.declared.value.Value.{Value}
-use Rattle.std.proofs.Common.{ap, arith, subst, sym, ◌∙◌}
+use Rattle.std.proofs.Common.{arith, subst, sym}
 use Rattle.std.proofs.lemmas.Bool.Decides.{nat_tests}
 use Rattle.std.specs.List.{list_all}
-use Rattle.std.specs.Prelude.{Bool, List, None, Option, Some, [], false, is_some, length, nat_le, not, option_map, refl, suc, true, zero, ℕ, ◌&&◌, ◌<◌, ◌==◌, ◌∷◌, ◌≡◌}
+use Rattle.std.specs.Prelude.{Bool, List, None, Option, Some, [], false, is_some, length, nat_le, not, option_map, refl, suc, true, ℕ, ◌&&◌, ◌<◌, ◌==◌, ◌∷◌, ◌≡◌}
 
 room : (n : ℕ) → n < 64 → nat_le 64 n ≡ false
 room n h = grind (arith, nat_tests)

@@ -10,31 +10,27 @@ use Rattle.salt_laws.proofs.Ids.{is_same_id-refl}
 use Rattle.salt_model.specs.After.{answer_now, kept, run_of, stage, stage_run, tables_after}
 use Rattle.salt_model.specs.Honest.{cause_in}
 use Rattle.salt_model.specs.Kept.{Kept, schema_of}
-use Rattle.salt_model.specs.Log.{Asked, Log, Running, Tree, done_of, is_open, kind_of, line_begun, lines_of, open_units, standing, start_of, story_of, wait_list, ◌asks◌, ◌says◌}
+use Rattle.salt_model.specs.Log.{Asked, Log, Running, Tree, done_of, is_open, kind_of, line_begun, lines_of, standing, start_of, story_of, wait_list, ◌asks◌, ◌says◌}
 use Rattle.salt_model.specs.Next.{next}
-use Rattle.salt_model.specs.Phases.{Serving, phase}
 use Rattle.salt_model.specs.Played.{IsComplete, Played}
 use Rattle.salt_model.specs.Refusals.{refusal}
 use Rattle.salt_model.specs.Statements.{Done, Run, do_statement, doing, has_failed, run_from, run_on, serial, with_done}
 use Rattle.salt_model.specs.Tables.{with_changes}
-use Rattle.salt_model.specs.Turns.{after_did, after_end, fresh_unit, is_at_end, settle, still_to_go}
+use Rattle.salt_model.specs.Turns.{after_did, after_end, fresh_unit, is_at_end, still_to_go}
 use Rattle.salt_model.specs.Waiting.{asked_by, block_of}
 use Rattle.salt_model.specs.Words.{without}
 use Rattle.salt_model.specs.declared.events.Answer.TheVariants.{Cell, Count, Held, Rows, Stored}
 use Rattle.salt_model.specs.declared.events.Answer.{Answer}
 use Rattle.salt_model.specs.declared.events.Cause.{Cause}
-use Rattle.salt_model.specs.declared.events.End.TheVariants.{Branched, Committed}
-use Rattle.salt_model.specs.declared.events.End.{End}
 use Rattle.salt_model.specs.declared.events.Event.TheVariants.{Began, Defined, Did, Ended, Refused}
 use Rattle.salt_model.specs.declared.events.Event.{Event}
 use Rattle.salt_model.specs.declared.events.Refusal.{Refusal}
 use Rattle.salt_model.specs.declared.events.UnitKind.TheVariants.{Acid}
-use Rattle.salt_model.specs.declared.events.UnitKind.{UnitKind}
 use Rattle.salt_model.specs.declared.vars.Binding.{Binding}
 use Rattle.salt_values.specs.Id.{is_same_id}
 use Rattle.salt_values.specs.declared.id.Id.{Id}
 use Rattle.std.proofs.Common.{ap, append-nil, append_assoc, sym, ◌∙◌}
-use Rattle.std.specs.Prelude.{Bool, List, None, Option, Some, [], cond, false, refl, suc, take, true, zero, ℕ, ◌++◌, ◌+◌, ◌∷◌, ◌≡◌}
+use Rattle.std.specs.Prelude.{Bool, List, None, Option, Some, [], cond, false, refl, suc, take, true, zero, ℕ, ◌++◌, ◌∷◌, ◌≡◌}
 
 -- events said one after another
 abbrev pub says_all : Log → List Event → Log

@@ -66,7 +66,7 @@ fn text_of(alloc: Global, def: &TableDef) -> Result<Bytes, AllocError>
 }
 
 impl Engine {
-    ghost use Rattle.salt_engine.specs.Engine.{BreaksOff, GoesOn, HasRun, IsCutShort, IsIdle, IsLeft, IsServed, Serves, Tells, decisions_after, defined_by, done_by, end_by, next_unit, rows_by, unit_events};
+    ghost use Rattle.salt_engine.specs.Engine.{BreaksOff, GoesOn, HasRun, IsCutShort, IsIdle, IsLeft, IsServed, NumbersRise, Serves, Tells, decisions_after, defined_by, done_by, end_by, next_unit, rows_by, unit_events};
 
     /// An engine of no tables, in the boot that a story's opening tells.
     pub fn new(alloc: Global, boot: u64) -> Engine
@@ -175,6 +175,7 @@ impl Engine {
         requires decisions { self.old.decisions < 2 ^ 64 - 1 }
         ensures ok { OnOk result ((es : Tables) → self.old.rows.entries ≡ es.list → HasRun self.old story.old session st.now es self.new story.new) }
         ensures err { OnErr result ((es : Tables) → self.old.rows.entries ≡ es.list → IsCutShort story.old (unit_events self.old session st.now (done_by self.old es st.now).answer) story.new) }
+        ensures rise { OnOk result (NumbersRise self.old self.new) }
     {
         let unit = self.begin(session, story)?;
         let Outcome { answer, added } = execute(
@@ -214,6 +215,7 @@ impl Engine {
         requires decisions { self.old.decisions < 2 ^ 64 - 1 }
         ensures ok { OnOk result (IsServed self.old story.old request.now self.new story.new) }
         ensures err { OnErr result (IsLeft self.old story.old request.now story.new) }
+        ensures rise { OnOk result (NumbersRise self.old self.new) }
     {
         match request {
             Request::Nothing => Ok(()),
@@ -233,6 +235,7 @@ impl Engine {
         requires decisions { self.old.decisions < 2 ^ 64 - 1 }
         ensures segment { OnOk result (GoesOn self.old story.old (asked_of line.now) self.new story.new) }
         ensures broken_off { OnErr result (BreaksOff self.old story.old (asked_of line.now) story.new) }
+        ensures rise { OnOk result (NumbersRise self.old self.new) }
     {
         let Some(request) = request_in(line) else {
             return self.refuse(story);

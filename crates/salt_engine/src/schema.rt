@@ -166,9 +166,7 @@ fn is_fitting(columns: &[Field], task: &Task<'_>) -> bool
     ensures { result ≡ is_fitting columns.now task.now }
 {
     match task {
-        Task::Insert { values, .. } => {
-            columns.len() == values.len() && are_ints(columns)
-        }
+        Task::Insert { values, .. } => { columns.len() == values.len() && are_ints(columns) }
         Task::Select { key, .. } => is_key_value(columns, key),
     }
 }

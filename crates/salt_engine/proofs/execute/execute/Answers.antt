@@ -1,12 +1,11 @@
 use Rattle.salt_engine.proofs.Lookups.{found}
 use Rattle.salt_engine.proofs.Outcomes.{does-insert, does-select, does-unknown, no-checks}
 use Rattle.salt_engine.proofs.execute.execute.Goals as goal
-use Rattle.salt_engine.specs.Execute.{IsOutcome, changes_of}
+use Rattle.salt_engine.specs.Execute.{IsOutcome}
 use Rattle.salt_engine.specs.Schema.{table_of}
 use Rattle.salt_engine.specs.Served.{IsNumeric, is_plain_table, statement_of}
 use Rattle.salt_model.specs.Statements.{do_statement, table_named}
 use Rattle.std.proofs.Common.{IfOk, Some, [], ap, arith, subst, sym, ◌∙◌, ◌≡◌}
-use Rattle.std.specs.Prelude.{refl}
 
 pub returns-in_default : goal.returns-in_default
 returns-in_default c = λ es st same is.

@@ -3,7 +3,7 @@ use Rattle.salt_engine.proofs.schema.refused_task.Goals as goal
 use Rattle.salt_engine.specs.Schema.{is_fitting}
 use Rattle.salt_model.specs.Statements.{table_named}
 use Rattle.salt_model.specs.declared.events.Refusal.TheVariants.{Unknown}
-use Rattle.std.proofs.Common.{Some, ap, false, sym, true, ◌∙◌, ◌≡◌}
+use Rattle.std.proofs.Common.{Some, ap, false, sym, true, ◌∙◌}
 
 pub returns-in_default : goal.returns-in_default
 returns-in_default c =
