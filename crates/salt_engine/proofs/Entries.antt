@@ -1,7 +1,9 @@
 -- The entries of one key in tables: what a map gives at a place, and what it puts there.
 use Rattle.salt_engine.specs.Execute.{entries_at}
-use Rattle.salt_model.specs.Tables.{Entry, Mode, Tables, has_key, is_within, one_key, place, place_cmp, place_total}
-use Rattle.salt_model.specs.declared.tables.Place.{Place}
+use Rattle.salt_model.specs.Tables.{Entry, Tables, is_within, place, place_cmp, place_total}
+use Rattle.salt_model.specs.declared.locks.Mode.{Mode}
+use Rattle.salt_model.specs.declared.places.Place.{Place}
+use Rattle.salt_ranges.specs.Ranges.{has_key, one_key}
 use Rattle.salt_values.specs.Value.{value_cmp, value_total}
 use Rattle.salt_values.specs.declared.value.Value.{Value}
 use Rattle.std.proofs.Common.{ap, ◌∙◌}

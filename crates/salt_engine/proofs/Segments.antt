@@ -1,30 +1,36 @@
--- The segments of lines: what an engine appends is what comes next.
-use Rattle.salt_engine.specs.Engine.{decisions_after, end_by, rows_by}
-use Rattle.salt_model.proofs.Coming.{did-ends, end_after}
-use Rattle.salt_model.proofs.HonestLaw.{run_on-one}
-use Rattle.salt_model.proofs.Ids.{is_same_id-refl}
-use Rattle.salt_model.specs.After.{answer_now, kept, stage, stage_run, tables_after}
+-- The segments of lines on an idle log: what an engine appends is what comes next.
+use Rattle.salt_ast.specs.declared.lines.Act.TheVariants.{Do}
+use Rattle.salt_ast.specs.declared.lines.Line.TheVariants.{Session}
+use Rattle.salt_ast.specs.declared.lines.Line.{Line}
+use Rattle.salt_ast.specs.declared.trees.Statement.{Statement}
+use Rattle.salt_ast.specs.declared.trees.TableDef.{TableDef}
+use Rattle.salt_engine.proofs.Idle.{none-clashes, none-open, none-settles, none-waits}
+use Rattle.salt_engine.specs.Engine.{IsIdle, decisions_after, end_by, rows_by}
+use Rattle.salt_laws.proofs.Ids.{is_same_id-refl}
+use Rattle.salt_model.specs.After.{answer_now, kept, run_of, stage, stage_run, tables_after}
 use Rattle.salt_model.specs.Honest.{cause_in}
 use Rattle.salt_model.specs.Kept.{Kept, schema_of}
-use Rattle.salt_model.specs.Log.{Asked, Fallen, Log, Opening, Phase, Serving, Tree, lines_of, start_of, statements_done, story_of, ◌asks◌, ◌says◌}
-use Rattle.salt_model.specs.Next.{follow, fresh_unit, next, phase, said_event}
+use Rattle.salt_model.specs.Log.{Asked, Log, Running, Tree, done_of, is_open, kind_of, line_begun, lines_of, standing, start_of, story_of, wait_list, ◌asks◌, ◌says◌}
+use Rattle.salt_model.specs.Next.{next}
 use Rattle.salt_model.specs.Played.{IsComplete, Played}
 use Rattle.salt_model.specs.Refusals.{refusal}
-use Rattle.salt_model.specs.Statements.{Binding, Done, Run, outcome_of, run_from, serial}
+use Rattle.salt_model.specs.Statements.{Done, Run, do_statement, doing, has_failed, run_from, run_on, serial, with_done}
 use Rattle.salt_model.specs.Tables.{with_changes}
+use Rattle.salt_model.specs.Turns.{after_did, after_end, fresh_unit, is_at_end, still_to_go}
+use Rattle.salt_model.specs.Waiting.{asked_by, block_of}
+use Rattle.salt_model.specs.Words.{without}
+use Rattle.salt_model.specs.declared.events.Answer.TheVariants.{Cell, Count, Held, Rows, Stored}
 use Rattle.salt_model.specs.declared.events.Answer.{Answer}
-use Rattle.salt_model.specs.declared.events.Answer.TheVariants.{Count, Rows}
 use Rattle.salt_model.specs.declared.events.Cause.{Cause}
-use Rattle.salt_model.specs.declared.events.Event.{Event}
 use Rattle.salt_model.specs.declared.events.Event.TheVariants.{Began, Defined, Did, Ended, Refused}
+use Rattle.salt_model.specs.declared.events.Event.{Event}
 use Rattle.salt_model.specs.declared.events.Refusal.{Refusal}
 use Rattle.salt_model.specs.declared.events.UnitKind.TheVariants.{Acid}
-use Rattle.salt_model.specs.declared.trees.Act.TheVariants.{Do}
-use Rattle.salt_model.specs.declared.trees.Line.TheVariants.{Session}
-use Rattle.salt_model.specs.declared.trees.Statement.{Statement}
+use Rattle.salt_model.specs.declared.vars.Binding.{Binding}
+use Rattle.salt_values.specs.Id.{is_same_id}
 use Rattle.salt_values.specs.declared.id.Id.{Id}
 use Rattle.std.proofs.Common.{ap, append-nil, append_assoc, sym, ◌∙◌}
-use Rattle.std.specs.Prelude.{List, None, Option, Some, [], refl, take, suc, zero, ℕ, ◌++◌, ◌+◌, ◌∷◌, ◌≡◌}
+use Rattle.std.specs.Prelude.{Bool, List, None, Option, Some, [], cond, false, refl, suc, take, true, zero, ℕ, ◌++◌, ◌∷◌, ◌≡◌}
 
 -- events said one after another
 abbrev pub says_all : Log → List Event → Log
@@ -53,45 +59,32 @@ front-played zero log es p = before-said log es p
 front-played (suc k) log [] p = p
 front-played (suc k) log (e ∷ es) p = front-played k (log says e) es p
 
-serving-said : (log : Log) (e : Event) (ph : Phase) → ph ≡ Serving → said_event ph log e ≡ follow log e
-serving-said log e Serving s = refl
-serving-said log e Opening s = absurd cc
-serving-said log e Fallen s = absurd cc
+module _ (log : Log) (idle : IsIdle log) (complete : IsComplete log) where
+  -- a line's one event, after which nothing comes
+  pub defined-complete : (asked : Asked) (n : ℕ) (text : List ℕ) → still_to_go (log asks asked) ≡ [] → IsComplete (log asks asked says Defined n text)
+  defined-complete asked n text turns =
+      let after : Log = log asks asked says Defined n text in
+      (complete.0, rw (complete.0, none-settles after (none-waits log idle)) refl, rw turns refl)
 
-refused-last : (log : Log) (r : Refusal) (ph : Phase) → said_event ph log (Refused r) ≡ None
-refused-last log r Serving = refl
-refused-last log r Opening = refl
-refused-last log r Fallen = refl
+  pub refused-complete : (asked : Asked) (r : Refusal) → still_to_go (log asks asked) ≡ [] → IsComplete (log asks asked says Refused r)
+  refused-complete asked r turns =
+      let after : Log = log asks asked says Refused r in
+      (complete.0, rw (complete.0, none-settles after (none-waits log idle)) refl, rw turns refl)
 
-ended-last : (log : Log) (u : Id) (o : ℕ) (c : Option Cause) (ph : Phase) → said_event ph log (Ended u (end_by o c)) ≡ None
-ended-last log u o c Serving = refl
-ended-last log u o c Opening = refl
-ended-last log u o c Fallen = refl
+run_on-one : (schema : List TableDef) (st : Statement) (r : Run) → run_on schema (st ∷ []) r ≡ with_done schema r st
+run_on-one schema st r = both (has_failed (doing schema r st).answer) (with_done schema r st)
+  where
+    both : (b : Bool) (x : Run) → cond b x x ≡ x
+    both true x = refl
+    both false x = refl
 
-pub defined-last : (log : Log) (n : ℕ) (t : List ℕ) (ph : Phase) → said_event ph log (Defined n t) ≡ None
-defined-last log n t Serving = refl
-defined-last log n t Opening = refl
-defined-last log n t Fallen = refl
+-- the segment of a session's statement: Began, Did, Ended
+module _ (log : Log) (s : ℕ) (st : Statement) (idle : IsIdle log) (complete : IsComplete log) where
+  abbrev pub line : Line
+  line = Session s (Do st)
 
-end-is : (n : ℕ) (a : Answer) → end_after (n + 1) a ≡ end_by n (cause_in a)
-end-is n (Answer.Failed c) = refl
-end-is n (Count m) = refl
-end-is n (Rows rows) = refl
-
-module _ (log : Log) (line : Asked) (played : Played log) (complete : IsComplete log) where
-  asked-played : Played (log asks line)
-  asked-played = (played, complete)
-
-  pub refused-played : (r : Refusal) → refusal log line ≡ Some r → Played (log asks line says Refused r)
-  refused-played r h = (asked-played, rw h refl)
-
-  pub refused-complete : (r : Refusal) → IsComplete (log asks line says Refused r)
-  refused-complete r = (complete.0, refused-last (log asks line says Refused r) r (phase log))
-
--- the segment of a statement's unit
-module _ (log : Log) (s : ℕ) (st : Statement) (played : Played log) (complete : IsComplete log) (allowed : refusal log (Tree (Session s (Do st))) ≡ None) where
   abbrev pub asked : Log
-  asked = log asks Tree (Session s (Do st))
+  asked = log asks Tree line
 
   abbrev pub unit : Id
   unit = fresh_unit log
@@ -100,54 +93,104 @@ module _ (log : Log) (s : ℕ) (st : Statement) (played : Played log) (complete 
   began = asked says Began unit (Acid s)
 
   abbrev pub done : Done
-  done = outcome_of (schema_of (kept log)) (tables_after log) [] st
+  done = do_statement (schema_of (kept log)) (tables_after log) [] st
 
   abbrev pub did : Answer → Log
   did a = began says Did unit st a
 
-  vars-here : (stage began).vars unit ≡ []
-  vars-here = rw (is_same_id-refl unit) refl
+  next-asked : refusal log (Tree line) ≡ None → next asked ≡ Some (Began unit (Acid s))
+  next-asked allowed = rw (allowed, none-open log idle) refl
 
-  none-done : statements_done unit began ≡ []
-  none-done = rw (is_same_id-refl unit) refl
+  kind-began : kind_of unit began ≡ Some (Acid s)
+  kind-began = rw (is_same_id-refl unit) refl
 
-  one-done : (a : Answer) → statements_done unit (did a) ≡ st ∷ []
-  one-done a = rw (is_same_id-refl unit) refl
+  standing-began : standing unit began ≡ Running
+  standing-began = rw (is_same_id-refl unit) refl
+
+  block-began : block_of unit began ≡ None
+  block-began = rw kind-began refl
+
+  asked-began : asked_by unit began ≡ Some st
+  asked-began = rw (block-began, standing-began) refl
 
   abbrev run_with : List Binding → List Statement → Run
   run_with vars sts = serial (schema_of (kept log)) (tables_after log) vars sts
 
-  answer-here : answer_now unit began st ≡ done.answer
-  answer-here =
-      ap (λ r. (outcome_of (schema_of (kept log)) r.tables r.vars st).answer)
-      (ap (λ vars. run_with vars (statements_done unit began)) vars-here ∙ ap (run_with []) none-done)
+  vars-began : (stage began).vars unit ≡ []
+  vars-began = rw (is_same_id-refl unit) refl
 
-  began-next : next began ≡ Some (Did unit st done.answer)
-  began-next = serving-said began (Began unit (Acid s)) (phase log) complete.0 ∙ ap (λ a. Some (Did unit st a)) answer-here
+  done-began : done_of unit began ≡ []
+  done-began = rw (is_same_id-refl unit) refl
 
-  did-next : next (did done.answer) ≡ Some (Ended unit (end_by (kept log).decisions (cause_in done.answer)))
-  did-next =
-      serving-said (did done.answer) (Did unit st done.answer) (phase log) complete.0
-      ∙ ap (λ e. Some e) (did-ends (did done.answer) unit done.answer)
-      ∙ ap (λ e. Some (Ended unit e)) (end-is (kept log).decisions done.answer)
+  run-began : run_of unit began ≡ run_with [] []
+  run-began = ap (λ vars. run_with vars (done_of unit began)) vars-began ∙ ap (run_with []) done-began
+
+  answer-began : answer_now unit began st ≡ done.answer
+  answer-began = ap (λ r. (do_statement (schema_of (kept log)) r.tables r.vars st).answer) run-began
+
+  next-began : next began ≡ Some (Did unit st done.answer)
+  next-began = rw (complete.0, asked-began, none-clashes log idle (Tree line) unit (Acid s) st, answer-began) refl
+
+  line-did : (a : Answer) → line_begun unit (did a) ≡ line
+  line-did a = rw (is_same_id-refl unit) refl
+
+  at-end : (a : Answer) → is_at_end (did a) unit (block_of unit (did a)) ≡ true
+  at-end a = rw (kind-began, line-did a) refl
+
+  after-did : (x a : Answer) → after_did (did x) unit a ≡ Some (Ended unit (end_by (kept log).decisions (cause_in a)))
+  after-did x (Answer.Failed c) = rw kind-began refl
+  after-did x (Count n) = rw (at-end x) refl
+  after-did x (Rows rows) = rw (at-end x) refl
+  after-did x (Cell v) = rw (at-end x) refl
+  after-did x (Stored v) = rw (at-end x) refl
+  after-did x Held = rw (at-end x) refl
+
+  next-did : (a : Answer) → next (did a) ≡ Some (Ended unit (end_by (kept log).decisions (cause_in a)))
+  next-did a = rw (complete.0, after-did a a) refl
+
+  abbrev ended_by : Answer → Option Cause → Log
+  ended_by a o = did a says Ended unit (end_by (kept log).decisions o)
 
   abbrev pub ended : Log
-  ended = did done.answer says Ended unit (end_by (kept log).decisions (cause_in done.answer))
+  ended = ended_by done.answer (cause_in done.answer)
 
-  pub unit-played : Played ended
-  unit-played = ((((played, complete), rw allowed refl), began-next), did-next)
+  pub unit-played : Played log → refusal log (Tree line) ≡ None → Played ended
+  unit-played played allowed = ((((played, complete), next-asked allowed), next-began), next-did done.answer)
+
+  after-end : (a : Answer) (o : Option Cause) → after_end (ended_by a o) (end_by (kept log).decisions o) (kind_of unit (ended_by a o)) ≡ None
+  after-end a (Some c) = refl
+  after-end a None = rw kind-began refl
+
+  none-left : (a : Answer) (o : Option Cause) → wait_list (ended_by a o) ≡ []
+  none-left a o = ap (λ w. without (unit ∷ []) (without (unit ∷ []) w)) (none-waits log idle)
+
+  next-ended : (a : Answer) (o : Option Cause) → next (ended_by a o) ≡ None
+  next-ended a o = rw (complete.0, after-end a o, none-settles (ended_by a o) (none-left a o)) refl
 
   pub unit-complete : IsComplete ended
-  unit-complete = (complete.0, ended-last ended unit (kept log).decisions (cause_in done.answer) (phase log))
+  unit-complete = (complete.0, next-ended done.answer (cause_in done.answer), refl)
+
+  shut : (a : Answer) (o : Option Cause) (x : Id) → is_open (ended_by a o) x ≡ false
+  shut a o x = by (is_same_id x unit) refl
+    where
+      by : (b : Bool) → is_same_id x unit ≡ b → is_open (ended_by a o) x ≡ false
+      by true e = rw e refl
+      by false e = rw e (idle.none_open x)
+
+  pub unit-idle : IsIdle ended
+  unit-idle = record { none_open = shut done.answer (cause_in done.answer); none_begun = idle.none_begun; none_accepted = idle.none_accepted }
+
+  one-done : (a : Answer) → done_of unit (did a) ≡ st ∷ []
+  one-done a = rw (is_same_id-refl unit) refl
 
   run-here : (a : Answer) → (stage_run (stage (did a)) unit (did a)).tables ≡ with_changes done.changes (tables_after log)
   run-here a =
       ap (λ r. r.tables)
-      (ap (λ vars. run_with vars (statements_done unit (did a))) vars-here ∙ ap (run_with []) (one-done a)
+      (ap (λ vars. run_with vars (done_of unit (did a))) vars-began ∙ ap (run_with []) (one-done a)
       ∙ run_on-one (schema_of (kept log)) st (run_from (tables_after log) []))
 
   abbrev kept_by : Answer → Option Cause → Kept
-  kept_by a o = kept (did a says Ended unit (end_by (kept log).decisions o))
+  kept_by a o = kept (ended_by a o)
 
   pub schema-by : (a : Answer) (o : Option Cause) → schema_of (kept_by a o) ≡ schema_of (kept log)
   schema-by a (Some c) = refl

@@ -1,32 +1,49 @@
 -- What an engine stands for: the log that it and its story are those of.
+use Rattle.salt_ast.specs.Texts.{table_text}
+use Rattle.salt_ast.specs.declared.trees.Statement.{Statement}
+use Rattle.salt_ast.specs.declared.trees.TableDef.{TableDef}
 use Rattle.salt_engine.specs.declared.engine.Engine.{Engine}
+use Rattle.salt_engine.specs.declared.request.Request.TheVariants as request
+use Rattle.salt_engine.specs.declared.request.Request.{Request}
 use Rattle.salt_model.specs.After.{kept, tables_after}
 use Rattle.salt_model.specs.Honest.{cause_in}
-use Rattle.salt_model.specs.Kept.{schema_of}
-use Rattle.salt_model.specs.Log.{Asked, Log, lines_of, unit_count}
-use Rattle.salt_model.specs.Played.{IsComplete, Tells}
-use Rattle.salt_model.specs.Statements.{Done, outcome_of}
-use Rattle.salt_model.specs.Tables.{Change, Entry, Tables, with_changes}
-use Rattle.salt_model.specs.Texts.{table_text}
+use Rattle.salt_model.specs.Kept.{nothing_kept, schema_of}
+use Rattle.salt_model.specs.Log.{Asked, Log, Start, accepted_in, is_open, lines_of, programs_in, start_of, story_of, unit_count}
+use Rattle.salt_model.specs.Played.{IsComplete, Played}
+use Rattle.salt_model.specs.Statements.{Done, do_statement}
+use Rattle.salt_model.specs.Tables.{Entry, Tables, with_changes}
 use Rattle.salt_model.specs.declared.events.Answer.{Answer}
 use Rattle.salt_model.specs.declared.events.Cause.{Cause}
-use Rattle.salt_model.specs.declared.events.End.{End}
 use Rattle.salt_model.specs.declared.events.End.TheVariants.{Committed, Failed}
-use Rattle.salt_model.specs.declared.events.Event.{Event}
+use Rattle.salt_model.specs.declared.events.End.{End}
 use Rattle.salt_model.specs.declared.events.Event.TheVariants.{Began, Defined, Did, Ended}
+use Rattle.salt_model.specs.declared.events.Event.{Event}
 use Rattle.salt_model.specs.declared.events.UnitKind.TheVariants.{Acid}
-use Rattle.salt_model.specs.declared.trees.Act.TheVariants.{Do}
-use Rattle.salt_model.specs.declared.trees.Line.{Line}
-use Rattle.salt_model.specs.declared.trees.Line.TheVariants.{Nothing, Session, Table}
-use Rattle.salt_model.specs.declared.trees.Statement.{Statement}
-use Rattle.salt_model.specs.declared.trees.TableDef.{TableDef}
+use Rattle.salt_values.specs.declared.change.Change.{Change}
 use Rattle.salt_values.specs.declared.id.Id.{Id}
-use Rattle.std.specs.Prelude.{List, None, Option, Some, [], take, ℕ, ◌++◌, ◌+◌, ◌∷◌, ◌≡◌, ◌≤◌}
+use Rattle.std.specs.Prelude.{List, None, Option, Some, [], false, take, ℕ, ◌++◌, ◌+◌, ◌∷◌, ◌≡◌, ◌≤◌}
+
+-- nothing is kept, over disks that can't be stopped
+abbrev pub empty_start : Start
+empty_start = record { kept = nothing_kept; can_stop = false }
+
+-- the story is that of a log which is played from the empty start
+pub record Tells (log : Log) (story : List Event) : Type 0 where
+  pub start : start_of log ≡ empty_start
+  pub told : story_of log ≡ story
+  pub played : Played log
+
+-- no unit is open, and no BASE program was begun or accepted
+pub record IsIdle (log : Log) : Type 0 where
+  pub none_open : (u : Id) → is_open log u ≡ false
+  pub none_begun : programs_in log ≡ []
+  pub none_accepted : accepted_in log ≡ []
 
 -- the engine and the story are those of a log that is played and complete
 pub record Serves (e : Engine) (story : List Event) (log : Log) : Type 0 where
   pub tells : Tells log story
   pub complete : IsComplete log
+  pub idle : IsIdle log
   pub schema : schema_of (kept log) ≡ e.schema
   pub rows : e.rows.entries ≡ (tables_after log).list
   pub boot : (kept log).boot ≡ e.boot
@@ -43,27 +60,27 @@ pub record NumbersRise (old new : Engine) : Type 0 where
   pub decisions : new.decisions ≤ old.decisions + 1
 
 -- a log goes on by a line and its whole segment
-pub record Goes (log : Log) (line : Asked) (old : Engine) (story : List Event) (new : Engine) (told : List Event) : Type 0 where
+pub record Goes (log : Log) (asked : Asked) (old : Engine) (story : List Event) (new : Engine) (told : List Event) : Type 0 where
   pub after : Log
-  pub asks : lines_of after ≡ lines_of log ++ line ∷ []
+  pub asks : lines_of after ≡ lines_of log ++ asked ∷ []
   pub serves : Serves new told after
   pub grows : Grows story told
   pub rise : NumbersRise old new
 
 -- or by a line and a front of its segment
-pub record Breaks (log : Log) (line : Asked) (story told : List Event) : Type 0 where
+pub record Breaks (log : Log) (asked : Asked) (story told : List Event) : Type 0 where
   pub after : Log
-  pub asks : lines_of after ≡ lines_of log ++ line ∷ []
+  pub asks : lines_of after ≡ lines_of log ++ asked ∷ []
   pub tells : Tells after told
   pub grows : Grows story told
 
 -- each log of the engine and the story goes on by the line
 abbrev pub GoesOn : Engine → List Event → Asked → Engine → List Event → Type 0
-GoesOn old story line new told = (log : Log) → Serves old story log → Goes log line old story new told
+GoesOn old story asked new told = (log : Log) → Serves old story log → Goes log asked old story new told
 
 -- or breaks off in it
 abbrev pub BreaksOff : Engine → List Event → Asked → List Event → Type 0
-BreaksOff old story line told = (log : Log) → Serves old story log → Breaks log line story told
+BreaksOff old story asked told = (log : Log) → Serves old story log → Breaks log asked story told
 
 -- a front of the events was told
 abbrev pub IsCutShort : List Event → List Event → List Event → Type 0
@@ -91,7 +108,7 @@ decisions_after None n = n + 1
 
 -- what a statement does on the tables that an engine keeps
 abbrev pub done_by : Engine → Tables → Statement → Done
-done_by e es st = outcome_of e.schema es [] st
+done_by e es st = do_statement e.schema es [] st
 
 -- the engine and the story after a unit's statement was done on the tables
 pub record HasRun (old : Engine) (story : List Event) (session : ℕ) (st : Statement) (es : Tables) (new : Engine) (told : List Event) : Type 0 where
@@ -107,13 +124,13 @@ abbrev pub defined_by : Engine → TableDef → Engine
 defined_by e d = record e { schema = e.schema ++ d ∷ []; decisions = e.decisions + 1 }
 
 -- the engine and the story after a line that was not refused
-abbrev pub IsServed : Engine → List Event → Line → Engine → List Event → Type 0
-IsServed old story Nothing new told = (new ≡ old) × (told ≡ story)
-IsServed old story (Table d) new told = (new ≡ defined_by old d) × (told ≡ story ++ Defined (old.decisions + 1) (table_text d) ∷ [])
-IsServed old story (Session s (Do st)) new told = (es : Tables) → old.rows.entries ≡ es.list → HasRun old story s st es new told
+abbrev pub IsServed : Engine → List Event → Request → Engine → List Event → Type 0
+IsServed old story request.Nothing new told = (new ≡ old) × (told ≡ story)
+IsServed old story (request.Define d) new told = (new ≡ defined_by old d.now) × (told ≡ story ++ Defined (old.decisions + 1) (table_text d.now) ∷ [])
+IsServed old story (request.Do s st t) new told = (es : Tables) → old.rows.entries ≡ es.list → HasRun old story s st.now es new told
 
 -- the story where memory ran out in the line
-abbrev pub IsLeft : Engine → List Event → Line → List Event → Type 0
-IsLeft old story (Session s (Do st)) told = (es : Tables) → old.rows.entries ≡ es.list → IsCutShort story (unit_events old s st (done_by old es st).answer) told
-IsLeft old story Nothing told = told ≡ story
-IsLeft old story (Table d) told = told ≡ story
+abbrev pub IsLeft : Engine → List Event → Request → List Event → Type 0
+IsLeft old story (request.Do s st t) told = (es : Tables) → old.rows.entries ≡ es.list → IsCutShort story (unit_events old s st.now (done_by old es st.now).answer) told
+IsLeft old story request.Nothing told = told ≡ story
+IsLeft old story (request.Define d) told = told ≡ story

@@ -1,3 +1,4 @@
+pub mod Served
 pub mod Schema
 pub mod Execute
 pub mod Engine

@@ -1,24 +1,26 @@
 //! The engine's state, and its step.
 
-ghost use Rattle.std.specs.Prelude.{◌≡◌, ◌+◌, ◌-◌, ◌<◌, ◌^◌, ◌++◌, ◌∷◌, [], IfOk, List, None, OnErr, OnOk, length};
+ghost use Rattle.std.specs.Prelude.{◌≡◌, ◌+◌, ◌-◌, ◌<◌, ◌^◌, ◌++◌, ◌∷◌, [], IfOk, List, None, OnErr, OnOk, Some, length, true};
+ghost use Rattle.salt_ast.specs.Texts.{table_text};
+ghost use Rattle.salt_ast.specs.declared.trees.Statement.{Statement};
 ghost use Rattle.salt_model.specs.After.{kept};
 ghost use Rattle.salt_model.specs.Honest.{cause_in};
 ghost use Rattle.salt_model.specs.Kept.{nothing_kept};
-ghost use Rattle.salt_model.specs.Log.{Log, Tree, Unread, unit_count};
-ghost use Rattle.salt_model.specs.Played.{IsComplete, Tells};
-ghost use Rattle.salt_model.specs.Refusals.{refused_line};
+ghost use Rattle.salt_model.specs.Log.{Log, Unread, unit_count};
+ghost use Rattle.salt_model.specs.Played.{IsComplete};
 ghost use Rattle.salt_model.specs.Tables.{Tables, with_changes};
-ghost use Rattle.salt_model.specs.Texts.{table_text};
 ghost use Rattle.salt_model.specs.declared.events.Event.{Event};
 ghost use Rattle.salt_engine.specs.Execute.{changes_of};
+ghost use Rattle.salt_engine.specs.Schema.{request_refusal};
+ghost use Rattle.salt_engine.specs.Served.{IsTaskOf, IsWellFormed, asked_of, is_plain_table};
 
 use crate::execute::{Added, Outcome, PlacedRows, execute};
+use crate::request::{Request, Task, request_in};
 use crate::schema::{Schema, refusal_of};
-use salt_model::{
-    Act, Answer, Cause, End, Event, Line, Refusal, Statement, Story, TableDef, UnitKind,
-};
-use salt_print::table_text;
-use salt_values::{Id, TryCopy};
+use salt_ast::{Line, Statement, TableDef, print_table};
+use salt_model::{Answer, Cause, End, Event, Refusal, Story, UnitKind};
+use salt_values::{Bytes, Id, TryCopy};
+use sqlite_items::Items;
 use std::alloc::{AllocError, Global};
 use std::collections::BTreeMap;
 
@@ -54,20 +56,21 @@ fn cause_of(answer: &Answer) -> Option<Cause>
     }
 }
 
-fn statement_in(act: &Act) -> &Statement
-    ensures { act.now ≡ Act.Do result.now }
+/// A table's canonical text.
+fn text_of(alloc: Global, def: &TableDef) -> Result<Bytes, AllocError>
+    ensures { IfOk result (λ text. text ≡ table_text def.now) }
 {
-    match act {
-        Act::Do(statement) => statement,
-    }
+    let mut text = Vec::new(alloc);
+    print_table(&mut text, def)?;
+    Ok(Items::from_vec(text))
 }
 
 impl Engine {
-    ghost use Rattle.salt_engine.specs.Engine.{BreaksOff, GoesOn, HasRun, IsCutShort, IsLeft, IsServed, Serves, decisions_after, defined_by, done_by, end_by, next_unit, rows_by, unit_events};
+    ghost use Rattle.salt_engine.specs.Engine.{BreaksOff, GoesOn, HasRun, IsCutShort, IsIdle, IsLeft, IsServed, NumbersRise, Serves, Tells, decisions_after, defined_by, done_by, end_by, next_unit, rows_by, unit_events};
 
     /// An engine of no tables, in the boot that a story's opening tells.
     pub fn new(alloc: Global, boot: u64) -> Engine
-        ensures serves { (log : Log) (story : List Event) → Tells log story → IsComplete log → kept log ≡ record nothing_kept { boot = boot } → unit_count log ≡ 0 → Serves result story log }
+        ensures serves { (log : Log) (story : List Event) → Tells log story → IsComplete log → IsIdle log → kept log ≡ record nothing_kept { boot = boot } → unit_count log ≡ 0 → Serves result story log }
         ensures units { result.units ≡ 0 }
         ensures decisions { result.decisions ≡ 0 }
     {
@@ -160,14 +163,27 @@ impl Engine {
     }
 
     /// Appends the events of a session's statement, a unit of its own.
-    fn run_unit(&mut self, session: u8, st: &Statement, story: &mut Story) -> Result<(), AllocError>
+    fn run_unit(
+        &mut self,
+        session: u8,
+        st: &Statement,
+        task: &Task<'_>,
+        story: &mut Story,
+    ) -> Result<(), AllocError>
+        requires task { IsTaskOf st.now (Some task.now) }
         requires units { self.old.units < 2 ^ 64 - 1 }
         requires decisions { self.old.decisions < 2 ^ 64 - 1 }
         ensures ok { OnOk result ((es : Tables) → self.old.rows.entries ≡ es.list → HasRun self.old story.old session st.now es self.new story.new) }
         ensures err { OnErr result ((es : Tables) → self.old.rows.entries ≡ es.list → IsCutShort story.old (unit_events self.old session st.now (done_by self.old es st.now).answer) story.new) }
+        ensures rise { OnOk result (NumbersRise self.old self.new) }
     {
         let unit = self.begin(session, story)?;
-        let Outcome { answer, added } = execute(self.alloc, self.schema.tables(), &self.rows, st)?;
+        let Outcome { answer, added } = execute(
+            self.alloc,
+            self.schema.tables(),
+            &self.rows,
+            task,
+        )?;
         let cause = cause_of(&answer);
         tell(story, unit, st.copy(self.alloc)?, answer)?;
         self.finish(unit, cause, added, story)
@@ -176,12 +192,13 @@ impl Engine {
     /// Keeps a table, and appends its Defined.
     fn define(&mut self, def: &TableDef, story: &mut Story) -> Result<(), AllocError>
         requires few { length self.old.schema < 64 }
+        requires plain { is_plain_table def.now ≡ true }
         requires decisions { self.old.decisions < 2 ^ 64 - 1 }
         ensures engine { OnOk result (self.new ≡ defined_by self.old def.now) }
         ensures ok { OnOk result (story.new ≡ story.old ++ Event.Defined (self.old.decisions + 1) (table_text def.now) ∷ []) }
         ensures err { OnErr result (story.new ≡ story.old) }
     {
-        let text = table_text(self.alloc, def)?;
+        let text = text_of(self.alloc, def)?;
         self.schema.add(def.copy(self.alloc)?)?;
         self.decisions += 1;
         story.push(Event::Defined {
@@ -190,32 +207,42 @@ impl Engine {
         })
     }
 
-    /// Appends the events of a line that is not refused.
-    fn serve(&mut self, line: &Line, story: &mut Story) -> Result<(), AllocError>
-        requires allowed { refused_line self.old.schema line.now ≡ None }
+    /// Appends the events of a request that is not refused.
+    fn serve(&mut self, request: &Request<'_>, story: &mut Story) -> Result<(), AllocError>
+        requires well_formed { IsWellFormed request.now }
+        requires allowed { request_refusal self.old.schema request.now ≡ None }
         requires units { self.old.units < 2 ^ 64 - 1 }
         requires decisions { self.old.decisions < 2 ^ 64 - 1 }
-        ensures ok { OnOk result (IsServed self.old story.old line.now self.new story.new) }
-        ensures err { OnErr result (IsLeft self.old story.old line.now story.new) }
+        ensures ok { OnOk result (IsServed self.old story.old request.now self.new story.new) }
+        ensures err { OnErr result (IsLeft self.old story.old request.now story.new) }
+        ensures rise { OnOk result (NumbersRise self.old self.new) }
     {
-        match line {
-            Line::Nothing => Ok(()),
-            Line::Table(def) => self.define(def, story),
-            Line::Session { session, act } => self.run_unit(*session, statement_in(act), story),
+        match request {
+            Request::Nothing => Ok(()),
+            Request::Define(def) => self.define(def, story),
+            Request::Do {
+                session,
+                statement,
+                task,
+            } => self.run_unit(*session, statement, task, story),
         }
     }
 
-    /// Does a line: appends its refusal, or the events of its segment. Where memory runs out, the events before it stand,
-    /// and the engine is not stepped again.
+    /// Does a line: appends its refusal, or the events of its segment. A line of a form that is not served is refused as one
+    /// that spells nothing. Where memory runs out, the events before it stand, and the engine is not stepped again.
     pub fn step(&mut self, line: &Line, story: &mut Story) -> Result<(), AllocError>
         requires units { self.old.units < 2 ^ 64 - 1 }
         requires decisions { self.old.decisions < 2 ^ 64 - 1 }
-        ensures segment { OnOk result (GoesOn self.old story.old (Tree line.now) self.new story.new) }
-        ensures broken_off { OnErr result (BreaksOff self.old story.old (Tree line.now) story.new) }
+        ensures segment { OnOk result (GoesOn self.old story.old (asked_of line.now) self.new story.new) }
+        ensures broken_off { OnErr result (BreaksOff self.old story.old (asked_of line.now) story.new) }
+        ensures rise { OnOk result (NumbersRise self.old self.new) }
     {
-        match refusal_of(self.alloc, self.schema.tables(), line)? {
+        let Some(request) = request_in(line) else {
+            return self.refuse(story);
+        };
+        match refusal_of(self.alloc, self.schema.tables(), &request)? {
             Some(refusal) => story.push(Event::Refused(refusal)),
-            None => self.serve(line, story),
+            None => self.serve(&request, story),
         }
     }
 

@@ -1,13 +1,18 @@
 //! What a statement does.
 
-ghost use Rattle.std.specs.Prelude.{◌≡◌, ◌≤◌, [], IfOk, length, map, option_to_list};
+ghost use Rattle.std.specs.Prelude.{◌≡◌, ◌≤◌, [], IfOk, Some, length, option_to_list, true};
+ghost use Rattle.std.specs.List.{list_all};
 ghost use Rattle.std.specs.Option.{option_copied};
-ghost use Rattle.salt_model.specs.Statements.{outcome_of};
+ghost use Rattle.salt_ast.specs.declared.trees.Statement.{Statement};
+ghost use Rattle.salt_model.specs.Statements.{do_statement};
 ghost use Rattle.salt_model.specs.Tables.{Tables, key_of};
-ghost use Rattle.salt_engine.specs.Execute.{IsInserted, IsOutcome, IsSelected, value_in};
+ghost use Rattle.salt_engine.specs.Execute.{IsInserted, IsOutcome, IsSelected, literals_in};
+ghost use Rattle.salt_engine.specs.Served.{IsTaskOf, is_plain_table};
 
-use crate::schema::{number_of, table_in};
-use salt_model::{Answer, Bound, Cause, Expr, Place, Scan, Statement, TableDef};
+use crate::request::{Task, literal_in};
+use crate::schema::{Known, table_named, table_of};
+use salt_ast::{Expr, TableDef};
+use salt_model::{Answer, Cause, Place};
 use salt_values::{Key, Row, Rows, TryCopy, Value};
 use sqlite_items::Items;
 use std::alloc::{AllocError, Global};
@@ -30,20 +35,15 @@ pub struct Outcome {
     pub added: Option<Added>,
 }
 
-fn value_in(expr: &Expr) -> &Value
-    ensures { result.now ≡ value_in expr.now }
-{
-    match expr {
-        Expr::Lit(value) => value,
-    }
-}
-
-fn values_in(alloc: Global, exprs: &[Expr]) -> Result<Row, AllocError>
-    ensures { IfOk result (λ row. row ≡ map value_in exprs.now) }
+/// The literals among expressions.
+fn literals_in(alloc: Global, exprs: &[Expr]) -> Result<Row, AllocError>
+    ensures { IfOk result (λ row. row ≡ literals_in exprs.now) }
 {
     let mut row = Items::new(alloc);
     for expr in exprs {
-        row.push(value_in(expr).copy(alloc)?)?;
+        if let Some(value) = literal_in(expr) {
+            row.push(value.copy(alloc)?)?;
+        }
     }
     Ok(row)
 }
@@ -64,9 +64,9 @@ fn insert(
     table: u16,
     values: &[Expr],
 ) -> Result<Outcome, AllocError>
-    ensures { (es : Tables) → rows.now.entries ≡ es.list → IfOk result (IsInserted table es (map value_in values.now)) }
+    ensures { (es : Tables) → rows.now.entries ≡ es.list → IfOk result (IsInserted table es (literals_in values.now)) }
 {
-    let row = values_in(alloc, values)?;
+    let row = literals_in(alloc, values)?;
     let key = key_of(alloc, row.as_slice())?;
     let place = Place { table, key };
     if rows.contains_key(&place) {
@@ -109,30 +109,26 @@ fn select(alloc: Global, rows: &PlacedRows, table: u16, key: &Key) -> Result<Out
     })
 }
 
-/// What a statement does to the rows. Its table is known.
+/// What a task does to the rows.
 pub fn execute(
     alloc: Global,
     schema: &[TableDef],
     rows: &PlacedRows,
-    st: &Statement,
+    task: &Task<'_>,
 ) -> Result<Outcome, AllocError>
-    requires { length schema.now ≤ 64 }
-    ensures { (es : Tables) → rows.now.entries ≡ es.list → IfOk result (λ done. IsOutcome done (outcome_of schema.now es [] st.now)) }
+    requires few { length schema.now ≤ 64 }
+    requires plain { list_all is_plain_table schema.now ≡ true }
+    ensures { (es : Tables) (st : Statement) → rows.now.entries ≡ es.list → IsTaskOf st (Some task.now) → IfOk result (λ done. IsOutcome done (do_statement schema.now es [] st)) }
 {
-    let Some(number) = number_of(schema, table_in(st).as_slice()) else {
+    let Some(Known { number, .. }) = table_named(schema, table_of(task).as_slice()) else {
         return Ok(Outcome {
-            answer: Answer::Rows(Items::new(alloc)),
+            answer: Answer::Failed(Cause::Missing),
             added: None,
         });
     };
     let table = number as u16;
-    match st {
-        Statement::Insert { values, .. } => insert(alloc, rows, table, values.as_slice()),
-        Statement::Select { scan, .. } => {
-            let Scan {
-                bound: Bound::Key(key),
-            } = scan;
-            select(alloc, rows, table, value_in(key))
-        }
+    match task {
+        Task::Insert { values, .. } => insert(alloc, rows, table, values),
+        Task::Select { key, .. } => select(alloc, rows, table, key),
     }
 }

@@ -3,6 +3,9 @@
 
 mod engine;
 mod execute;
+mod request;
 mod schema;
+#[cfg(test)]
+mod tests;
 
 pub use engine::Engine;

@@ -1,16 +1,18 @@
 //! The tables defined, and what a line is refused for by them.
 
-ghost use Rattle.std.specs.Prelude.{◌≡◌, ◌<◌, ◌≤◌, ◌++◌, ◌∷◌, [], IfOk, OnOk, length};
-ghost use Rattle.std.specs.List.{list_any};
+ghost use Rattle.std.specs.Prelude.{◌≡◌, ◌<◌, ◌≤◌, ◌++◌, ◌∷◌, [], IfOk, OnOk, length, true};
+ghost use Rattle.std.specs.List.{list_all, list_any};
 ghost use Rattle.std.specs.Option.{option_copied};
-ghost use Rattle.salt_model.specs.Refusals.{first_doubled, has_name, is_mistyped, refused_line, refused_statement, refused_table};
-ghost use Rattle.salt_model.specs.Statements.{table_in, table_named};
-ghost use Rattle.salt_model.specs.Words.{is_same_name};
-ghost use Rattle.salt_model.specs.declared.trees.TableDef.{TableDef};
-ghost use Rattle.salt_engine.specs.Schema.{IsKnownAt};
+ghost use Rattle.salt_ast.specs.Judgement.{doubled_name, field_names};
+ghost use Rattle.salt_ast.specs.Words.{is_same_name};
+ghost use Rattle.salt_ast.specs.declared.trees.TableDef.{TableDef};
+ghost use Rattle.salt_engine.specs.Schema.{IsKnown, has_name, is_fitting, is_key_value, request_refusal, table_of, table_refusal, task_refusal};
+ghost use Rattle.salt_engine.specs.Served.{is_plain_table};
 
-use salt_model::{Act, Field, Line, Refusal, Statement, TableDef};
-use salt_values::{Name, TryCopy};
+use crate::request::{Request, Task, are_ints};
+use salt_ast::{ColType, Field, LimitName, TableDef};
+use salt_model::Refusal;
+use salt_values::{Name, TryCopy, Value};
 use sqlite_items::Items;
 use std::alloc::{AllocError, Global};
 use std::marker::Model;
@@ -18,21 +20,27 @@ use std::marker::Model;
 /// The most tables that are kept.
 pub const TABLES_MOST: usize = 64;
 
-/// The tables defined, numbered from 0, at most 64. Contracts see the list of their definitions.
+/// The tables defined, numbered from 0, at most 64: of numbers, without checks. Contracts see the list of their definitions.
 #[derive(Drop)]
 pub struct Schema {
     tables: Items<TableDef>,
 }
 
 impl Model for Schema {
-    ghost use Rattle.std.specs.Prelude.{List, length, ◌≤◌};
-    ghost use Rattle.salt_model.specs.declared.trees.TableDef.{TableDef};
+    ghost use Rattle.std.specs.List.{list_all};
+    ghost use Rattle.std.specs.Prelude.{List, length, true, ◌≡◌, ◌≤◌};
+    ghost use Rattle.salt_ast.specs.declared.trees.TableDef.{TableDef};
+    ghost use Rattle.std.specs.Coded.{codes};
+    ghost use Rattle.salt_ast.specs.contracts.trees.Expr as expr;
+    ghost use Rattle.salt_engine.specs.Served.{is_plain_table};
 
     ghost Value = { List TableDef };
 
+    ghost coded = { Prim.hlevel (codes, expr.the_row.coded) };
+
     ghost view = { λ s. s.tables };
 
-    ghost invariant = { λ s. length s.tables ≤ 64 };
+    ghost invariant = { λ s. (length s.tables ≤ 64) × (list_all is_plain_table s.tables ≡ true) };
 }
 
 impl Schema {
@@ -49,13 +57,15 @@ impl Schema {
     pub fn tables(&self) -> &[TableDef]
         ensures tables { result.now ≡ self.now }
         ensures few { length result.now ≤ 64 }
+        ensures plain { list_all is_plain_table result.now ≡ true }
     {
         self.tables.as_slice()
     }
 
     /// Adds a table, which takes the next number.
     pub fn add(&mut self, def: TableDef) -> Result<(), AllocError>
-        requires { length self.old < 64 }
+        requires few { length self.old < 64 }
+        requires plain { is_plain_table def ≡ true }
         ensures { OnOk result (self.new ≡ self.old ++ def ∷ []) }
     {
         self.tables.push(def)
@@ -68,13 +78,20 @@ fn is_same_name(a: &[u8], b: &[u8]) -> bool
     a == b
 }
 
-/// The number of the table of a name.
-pub fn number_of(schema: &[TableDef], name: &[u8]) -> Option<usize>
-    ensures { IsKnownAt schema.now name.now result }
+/// A table and its number.
+#[derive(Clone, Copy)]
+pub struct Known<'a> {
+    pub number: usize,
+    pub def: &'a TableDef,
+}
+
+/// The table of a name.
+pub fn table_named<'a>(schema: &'a [TableDef], name: &[u8]) -> Option<Known<'a>>
+    ensures { IsKnown schema.now name.now result }
 {
     for (number, def) in schema.iter().enumerate() {
         if is_same_name(name, def.name.as_slice()) {
-            return Some(number);
+            return Some(Known { number, def });
         }
     }
     None
@@ -90,7 +107,7 @@ fn stands_in(name: &[u8], fields: &[Field]) -> bool
 
 /// The first name of a field that an earlier field has.
 fn first_doubled(fields: &[Field]) -> Option<&Name>
-    ensures { option_copied result ≡ first_doubled [] fields.now }
+    ensures { option_copied result ≡ doubled_name [] (field_names fields.now) }
 {
     for (at, field) in fields.iter().enumerate() {
         if stands_in(field.name.as_slice(), &fields[..at]) {
@@ -105,12 +122,12 @@ fn refused_table(
     schema: &[TableDef],
     def: &TableDef,
 ) -> Result<Option<Refusal>, AllocError>
-    ensures { IfOk result (λ refused. refused ≡ refused_table schema.now def.now) }
+    ensures { IfOk result (λ refused. refused ≡ table_refusal schema.now def.now) }
 {
     if TABLES_MOST <= schema.len() {
-        return Ok(Some(Refusal::Syntax));
+        return Ok(Some(Refusal::Limit(LimitName::Tables)));
     }
-    if number_of(schema, def.name.as_slice()).is_some() {
+    if table_named(schema, def.name.as_slice()).is_some() {
         return Ok(Some(Refusal::Exists(def.name.copy(alloc)?)));
     }
     match first_doubled(def.columns.as_slice()) {
@@ -119,55 +136,70 @@ fn refused_table(
     }
 }
 
-/// The table that a statement names.
-pub fn table_in(st: &Statement) -> &Name
-    ensures { result.now ≡ table_in st.now }
+/// The table that a task names.
+pub fn table_of<'a>(task: &Task<'a>) -> &'a Name
+    ensures { result.now ≡ table_of task.now }
 {
-    match st {
-        Statement::Insert { table, .. } => table,
-        Statement::Select { table, .. } => table,
+    match task {
+        Task::Insert { table, .. } => table,
+        Task::Select { table, .. } => table,
     }
 }
 
-fn is_mistyped(def: &TableDef, st: &Statement) -> bool
-    ensures { result ≡ is_mistyped def.now st.now }
+/// A value of the type of the first column.
+fn is_key_value(columns: &[Field], key: &Value) -> bool
+    ensures { result ≡ is_key_value columns.now key.now }
 {
-    match st {
-        Statement::Insert { values, .. } => values.len() != def.columns.len(),
-        Statement::Select { .. } => false,
+    let [first, ..] = columns else {
+        return false;
+    };
+    match (first.kind, key) {
+        (ColType::Int, Value::Int(_)) => true,
+        (ColType::Text, Value::Text(_)) => true,
+        (ColType::Int, Value::Text(_)) => false,
+        (ColType::Text, Value::Int(_)) => false,
     }
 }
 
-fn refused_statement(
+/// One number for each column, or a key of the key's type.
+fn is_fitting(columns: &[Field], task: &Task<'_>) -> bool
+    ensures { result ≡ is_fitting columns.now task.now }
+{
+    match task {
+        Task::Insert { values, .. } => { columns.len() == values.len() && are_ints(columns) }
+        Task::Select { key, .. } => is_key_value(columns, key),
+    }
+}
+
+fn refused_task(
     alloc: Global,
     schema: &[TableDef],
-    st: &Statement,
+    task: &Task<'_>,
 ) -> Result<Option<Refusal>, AllocError>
-    ensures { IfOk result (λ refused. refused ≡ refused_statement schema.now st.now) }
+    ensures { IfOk result (λ refused. refused ≡ task_refusal schema.now task.now) }
 {
-    let Some(number) = number_of(schema, table_in(st).as_slice()) else {
-        return Ok(Some(Refusal::Unknown(table_in(st).copy(alloc)?)));
+    let name = table_of(task);
+    let Some(known) = table_named(schema, name.as_slice()) else {
+        return Ok(Some(Refusal::Unknown(name.copy(alloc)?)));
     };
-    if is_mistyped(&schema[number], st) {
-        Ok(Some(Refusal::Mistyped))
-    } else {
+    if is_fitting(known.def.columns.as_slice(), task) {
         Ok(None)
+    } else {
+        Ok(Some(Refusal::Mistyped))
     }
 }
 
-/// Why a line is refused, if it is.
+/// Why a request is refused, if it is.
 pub fn refusal_of(
     alloc: Global,
     schema: &[TableDef],
-    line: &Line,
+    request: &Request<'_>,
 ) -> Result<Option<Refusal>, AllocError>
-    ensures { IfOk result (λ refused. refused ≡ refused_line schema.now line.now) }
+    ensures { IfOk result (λ refused. refused ≡ request_refusal schema.now request.now) }
 {
-    match line {
-        Line::Nothing => Ok(None),
-        Line::Table(def) => refused_table(alloc, schema, def),
-        Line::Session { act, .. } => match act {
-            Act::Do(st) => refused_statement(alloc, schema, st),
-        },
+    match request {
+        Request::Nothing => Ok(None),
+        Request::Define(def) => refused_table(alloc, schema, def),
+        Request::Do { task, .. } => refused_task(alloc, schema, task),
     }
 }

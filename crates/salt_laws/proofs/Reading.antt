@@ -232,7 +232,7 @@ reads-step log (Did x st a) s z f u v h = go (is_same_id u x) refl h
 reads-step log e s z f u v h = read-says log e u v s f (z.reads u v h)
 
 -- the program of a unit has an event
-program-in : (log : Log) (v c : Id) → program_of v log ≡ Some c → In c (programs_in log)
+pub program-in : (log : Log) (v c : Id) → program_of v log ≡ Some c → In c (programs_in log)
 program-in (from k) v c h = cc
 program-in (log asks line) v c h = program-in log v c h
 program-in (log turns b) v c h = program-in log v c h

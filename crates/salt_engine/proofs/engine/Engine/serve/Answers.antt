@@ -1,14 +1,11 @@
 use Rattle.salt_engine.proofs.engine.Engine.serve.Goals as goal
 use Rattle.salt_engine.specs.Engine.{IsLeft, IsServed}
-use Rattle.salt_model.specs.declared.trees.Line.TheVariants.{Session}
-use Rattle.std.proofs.Common.{OnErr, OnOk, ap, subst, sym, ◌∙◌}
+use Rattle.std.proofs.Common.{OnErr, OnOk, subst, sym}
 
-pub returns-in-Session-clause-ok : goal.returns-in-Session-clause-ok
-returns-in-Session-clause-ok c =
-    subst (λ line. OnOk c.run_unit.result (IsServed c.args.self.now c.args.story.now line c.run_unit.new.self c.run_unit.new.story))
-    (sym (c.in-Session.is ∙ ap (Session c.in-Session.session) c.statement_in.ensures)) c.run_unit.ensures.ok
+pub returns-in-Do-clause-ok : goal.returns-in-Do-clause-ok
+returns-in-Do-clause-ok c =
+    subst (λ r. OnOk c.run_unit.result (IsServed c.args.self.now c.args.story.now r c.run_unit.new.self c.run_unit.new.story)) (sym c.in-Do.is) c.run_unit.ensures.ok
 
-pub returns-in-Session-clause-err : goal.returns-in-Session-clause-err
-returns-in-Session-clause-err c =
-    subst (λ line. OnErr c.run_unit.result (IsLeft c.args.self.now c.args.story.now line c.run_unit.new.story))
-    (sym (c.in-Session.is ∙ ap (Session c.in-Session.session) c.statement_in.ensures)) c.run_unit.ensures.err
+pub returns-in-Do-clause-err : goal.returns-in-Do-clause-err
+returns-in-Do-clause-err c =
+    subst (λ r. OnErr c.run_unit.result (IsLeft c.args.self.now c.args.story.now r c.run_unit.new.story)) (sym c.in-Do.is) c.run_unit.ensures.err

@@ -1,4 +1,4 @@
-use Rattle.salt_engine.proofs.schema.number_of.Given as goal
+use Rattle.salt_engine.proofs.schema.table_named.Given as goal
 use Rattle.salt_model.specs.Statements.{table_from}
 use Rattle.std.proofs.Common.{drop, ◌≡◌}
 
