@@ -13,7 +13,7 @@ use Rattle.salt_engine.specs.declared.request.Task.{Task}
 use Rattle.salt_laws.proofs.Coming.{nothing}
 use Rattle.salt_laws.proofs.Ids.{and_right}
 use Rattle.salt_model.specs.Eval.{values_of}
-use Rattle.salt_model.specs.Statements.{answering, collect, do_statement, done, failing, first_value, inserted, no_row, on_match, reach, seen, table_named}
+use Rattle.salt_model.specs.Statements.{answering, collect, done, failing, first_value, inserted, no_row, on_match, outcome_of, reach, seen, table_named}
 use Rattle.salt_model.specs.Tables.{Entry, Tables, key_of, place, place_cmp}
 use Rattle.salt_model.specs.declared.events.Answer.TheVariants.{Count, Failed, Rows}
 use Rattle.salt_model.specs.declared.events.Cause.TheVariants.{Duplicate, Missing}
@@ -21,7 +21,7 @@ use Rattle.salt_model.specs.declared.locks.Mode.TheVariants.{Read, Write}
 use Rattle.salt_values.specs.Value.{value_total}
 use Rattle.salt_values.specs.declared.value.Value.TheVariants.{Int}
 use Rattle.salt_values.specs.declared.value.Value.{Value}
-use Rattle.std.proofs.Common.{ap, get_or, take, subst, sym, ◌∙◌}
+use Rattle.std.proofs.Common.{ap, get_or, subst, sym, take, ◌∙◌}
 use Rattle.std.proofs.lemmas.List.Elements.{filter_map-append}
 use Rattle.std.proofs.lemmas.List.{take_more}
 use Rattle.std.specs.BTreeMap.{is_at}
@@ -67,8 +67,8 @@ pub no-checks : (d : TableDef) → is_plain_table d ≡ true → d.checks ≡ []
 no-checks d h = nothing d.checks (and_right (list_all is_int d.columns) _ h)
 
 pub does-insert : (schema : List TableDef) (es : Tables) (name : List ℕ) (values : List Expr) (t : ℕ) (def : TableDef) → table_named name schema ≡ Some (t, def) → def.checks ≡ [] → list_all is_number values ≡ true →
-    do_statement schema es [] (Insert name values) ≡ put_in t (literals_in values) (entries_at t Write (key_of (literals_in values)) es)
-unfolding do_statement reach
+    outcome_of schema es [] (Insert name values) ≡ put_in t (literals_in values) (entries_at t Write (key_of (literals_in values)) es)
+unfolding outcome_of reach
 does-insert schema es name values t def known plain numbers =
     rw (known, first-literal values numbers, values_of-literals values numbers) (put-in t def (entries_at t Write (key_of (literals_in values)) es) (literals_in values) plain)
 
@@ -77,14 +77,14 @@ collect-all def [] = refl
 collect-all def (e ∷ es) = rw (collect-all def es) refl
 
 pub does-select : (schema : List TableDef) (es : Tables) (name : List ℕ) (key : Value) (t : ℕ) (def : TableDef) → table_named name schema ≡ Some (t, def) →
-    do_statement schema es [] (Select All name (record { bound = Key (Lit key); filter = None })) ≡ answering [] (Rows (map (λ e. e.1) (entries_at t Read key es)))
-unfolding do_statement reach
+    outcome_of schema es [] (Select All name (record { bound = Key (Lit key); filter = None })) ≡ answering [] (Rows (map (λ e. e.1) (entries_at t Read key es)))
+unfolding outcome_of reach
 does-select schema es name key t def known =
     rw (known, tied_itself value_total key, collect-all def (entries_at t Read key es)) refl
 
 -- of a table that is not there
-pub does-unknown : (schema : List TableDef) (es : Tables) (t : Task) → table_named (table_of t) schema ≡ None → do_statement schema es [] (statement_of t) ≡ failing [] Missing
-unfolding do_statement reach
+pub does-unknown : (schema : List TableDef) (es : Tables) (t : Task) → table_named (table_of t) schema ≡ None → outcome_of schema es [] (statement_of t) ≡ failing [] Missing
+unfolding outcome_of reach
 does-unknown schema es (task.Insert n values) h = rw h refl
 does-unknown schema es (task.Select n key) h = rw h refl
 

@@ -12,9 +12,9 @@ use Rattle.salt_model.specs.Honest.{cause_in}
 use Rattle.salt_model.specs.Kept.{Kept, schema_of}
 use Rattle.salt_model.specs.Log.{Asked, Log, Running, Tree, done_of, is_open, kind_of, line_begun, lines_of, standing, start_of, story_of, wait_list, ◌asks◌, ◌says◌}
 use Rattle.salt_model.specs.Next.{next}
-use Rattle.salt_model.specs.Played.{IsComplete, Played}
+use Rattle.salt_model.specs.Played.{IsComplete, IsPlayed}
 use Rattle.salt_model.specs.Refusals.{refusal}
-use Rattle.salt_model.specs.Statements.{Done, Run, do_statement, doing, has_failed, run_from, run_on, serial, with_done}
+use Rattle.salt_model.specs.Statements.{Done, Run, doing, has_failed, outcome_of, run_from, run_on, serial, with_done}
 use Rattle.salt_model.specs.Tables.{with_changes}
 use Rattle.salt_model.specs.Turns.{after_did, after_end, fresh_unit, is_at_end, still_to_go}
 use Rattle.salt_model.specs.Waiting.{asked_by, block_of}
@@ -49,12 +49,12 @@ pub says_all-start : (log : Log) (es : List Event) → start_of (says_all log es
 says_all-start log [] = refl
 says_all-start log (e ∷ es) = says_all-start (log says e) es
 
-pub before-said : (log : Log) (es : List Event) → Played (says_all log es) → Played log
+pub before-said : (log : Log) (es : List Event) → IsPlayed (says_all log es) → IsPlayed log
 before-said log [] p = p
 before-said log (e ∷ es) p = (before-said (log says e) es p).0
 
 -- a front of what may be said may be said
-pub front-played : (k : ℕ) (log : Log) (es : List Event) → Played (says_all log es) → Played (says_all log (take k es))
+pub front-played : (k : ℕ) (log : Log) (es : List Event) → IsPlayed (says_all log es) → IsPlayed (says_all log (take k es))
 front-played zero log es p = before-said log es p
 front-played (suc k) log [] p = p
 front-played (suc k) log (e ∷ es) p = front-played k (log says e) es p
@@ -93,7 +93,7 @@ module _ (log : Log) (s : ℕ) (st : Statement) (idle : IsIdle log) (complete : 
   began = asked says Began unit (Acid s)
 
   abbrev pub done : Done
-  done = do_statement (schema_of (kept log)) (tables_after log) [] st
+  done = outcome_of (schema_of (kept log)) (tables_after log) [] st
 
   abbrev pub did : Answer → Log
   did a = began says Did unit st a
@@ -126,7 +126,7 @@ module _ (log : Log) (s : ℕ) (st : Statement) (idle : IsIdle log) (complete : 
   run-began = ap (λ vars. run_with vars (done_of unit began)) vars-began ∙ ap (run_with []) done-began
 
   answer-began : answer_now unit began st ≡ done.answer
-  answer-began = ap (λ r. (do_statement (schema_of (kept log)) r.tables r.vars st).answer) run-began
+  answer-began = ap (λ r. (outcome_of (schema_of (kept log)) r.tables r.vars st).answer) run-began
 
   next-began : next began ≡ Some (Did unit st done.answer)
   next-began = rw (complete.0, asked-began, none-clashes log idle (Tree line) unit (Acid s) st, answer-began) refl
@@ -154,7 +154,7 @@ module _ (log : Log) (s : ℕ) (st : Statement) (idle : IsIdle log) (complete : 
   abbrev pub ended : Log
   ended = ended_by done.answer (cause_in done.answer)
 
-  pub unit-played : Played log → refusal log (Tree line) ≡ None → Played ended
+  pub unit-played : IsPlayed log → refusal log (Tree line) ≡ None → IsPlayed ended
   unit-played played allowed = ((((played, complete), next-asked allowed), next-began), next-did done.answer)
 
   after-end : (a : Answer) (o : Option Cause) → after_end (ended_by a o) (end_by (kept log).decisions o) (kind_of unit (ended_by a o)) ≡ None

@@ -1,4 +1,6 @@
 -- A line's segment, told by an engine: each log of the engine goes on by it.
+use Rattle.salt_model.specs.Words.{Every}
+use Rattle.salt_model.specs.EventTexts.{ShowsNothing}
 use Rattle.salt_ast.specs.Texts.{table_text}
 use Rattle.salt_ast.specs.declared.lines.Act.TheVariants.{Do}
 use Rattle.salt_ast.specs.declared.lines.Line.TheVariants.{Session, Table}
@@ -20,9 +22,9 @@ use Rattle.salt_model.specs.After.{kept, tables_after}
 use Rattle.salt_model.specs.Honest.{cause_in}
 use Rattle.salt_model.specs.Kept.{OfTable, schema_of, table_of_definition}
 use Rattle.salt_model.specs.Log.{Asked, Log, Tree, Unread, ◌asks◌, ◌says◌}
-use Rattle.salt_model.specs.Played.{Played}
+use Rattle.salt_model.specs.Played.{IsPlayed}
 use Rattle.salt_model.specs.Refusals.{judged, known_at, refusal, refused_line}
-use Rattle.salt_model.specs.Statements.{Done, do_statement}
+use Rattle.salt_model.specs.Statements.{Done, outcome_of}
 use Rattle.salt_model.specs.Turns.{fresh_unit, still_to_go}
 use Rattle.salt_model.specs.declared.events.Cause.{Cause}
 use Rattle.salt_model.specs.declared.events.Event.TheVariants.{Began, Defined, Did, Ended, Refused}
@@ -32,7 +34,7 @@ use Rattle.salt_model.specs.declared.events.Refusal.{Refusal}
 use Rattle.salt_model.specs.declared.events.UnitKind.TheVariants.{Acid}
 use Rattle.std.proofs.Common.{ap, append-nil, arith, subst, sym, ◌∙◌}
 use Rattle.std.proofs.lemmas.List.Elements.{filter_map-append}
-use Rattle.std.specs.Prelude.{List, None, Option, Some, [], false, refl, take, true, ℕ, ◌++◌, ◌+◌, ◌∷◌, ◌≡◌, ◌≤◌}
+use Rattle.std.specs.Prelude.{List, None, Option, Some, [], false, refl, suc, take, true, zero, ℕ, ◌++◌, ◌+◌, ◌∷◌, ◌≡◌, ◌≤◌}
 
 -- `go all` alone turns to programs
 abbrev pub TurnsToNone : Asked → Type 0
@@ -54,7 +56,7 @@ refused-goes old story told asked r turns refuses is log serves =
       asks = refl;
       serves = record {
         tells = record {
-          start = serves.tells.start;
+          begins = serves.tells.begins;
           told = ap (λ s. s ++ Refused r ∷ []) serves.tells.told ∙ sym is;
           played = ((serves.tells.played, serves.complete), rw (refuses log serves) refl);
         };
@@ -66,7 +68,7 @@ refused-goes old story told asked r turns refuses is log serves =
         decisions = serves.decisions;
         units = serves.units;
       };
-      grows = (Refused r ∷ [], is);
+      grows = (Refused r ∷ [], is, (tt, tt));
       rise = record { units = omega arith; decisions = omega arith };
     }
 
@@ -76,8 +78,8 @@ asked-breaks old story told asked is log serves =
     record {
       after = log asks asked;
       asks = refl;
-      tells = record { start = serves.tells.start; told = serves.tells.told ∙ sym is; played = (serves.tells.played, serves.complete) };
-      grows = ([], is ∙ sym (append-nil story));
+      tells = record { begins = serves.tells.begins; told = serves.tells.told ∙ sym is; played = (serves.tells.played, serves.complete) };
+      grows = ([], is ∙ sym (append-nil story), tt);
     }
 
 -- between lines a request is refused by its tree alone
@@ -106,7 +108,7 @@ nothing-goes old story log serves =
       after = log asks Tree (line_of request.Nothing);
       asks = refl;
       serves = record {
-        tells = record { start = serves.tells.start; told = serves.tells.told; played = (serves.tells.played, serves.complete) };
+        tells = record { begins = serves.tells.begins; told = serves.tells.told; played = (serves.tells.played, serves.complete) };
         complete = (serves.complete.0, rw (refusal-here log request.Nothing serves.idle tt) refl, refl);
         idle = record { none_open = serves.idle.none_open; none_begun = serves.idle.none_begun; none_accepted = serves.idle.none_accepted };
         schema = serves.schema;
@@ -115,12 +117,17 @@ nothing-goes old story log serves =
         decisions = serves.decisions;
         units = serves.units;
       };
-      grows = ([], sym (append-nil story));
+      grows = ([], sym (append-nil story), tt);
       rise = record { units = omega arith; decisions = omega arith };
     }
 
 abbrev Allowed : Engine → List Event → Line → Type 0
 Allowed old story line = (log : Log) → Serves old story log → refusal log (Tree line) ≡ None
+
+every-take : {A : Type 0} (P : A → Type 0) (n : ℕ) (xs : List A) → Every P xs → Every P (take n xs)
+every-take P zero xs h = tt
+every-take P (suc n) [] h = tt
+every-take P (suc n) (x ∷ xs) h = (h.0, every-take P n xs h.1)
 
 defined-goes : (old : Engine) (story told : List Event) (d : TableDef) → Allowed old story (Table d) → told ≡ story ++ Defined (old.decisions + 1) (table_text d) ∷ [] → GoesOn old story (Tree (Table d)) (defined_by old d) told
 defined-goes old story told d allowed is log serves =
@@ -130,7 +137,7 @@ defined-goes old story told d allowed is log serves =
       asks = refl;
       serves = record {
         tells = record {
-          start = serves.tells.start;
+          begins = serves.tells.begins;
           told = ap (λ s. s ++ Defined number (table_text d) ∷ []) serves.tells.told ∙ ap (λ n. story ++ Defined (n + 1) (table_text d) ∷ []) serves.decisions ∙ sym is;
           played = ((serves.tells.played, serves.complete), rw (allowed log serves) refl);
         };
@@ -142,16 +149,16 @@ defined-goes old story told d allowed is log serves =
         decisions = ap (λ n. n + 1) serves.decisions;
         units = serves.units;
       };
-      grows = (Defined (old.decisions + 1) (table_text d) ∷ [], is);
+      grows = (Defined (old.decisions + 1) (table_text d) ∷ [], is, (tt, tt));
       rise = record { units = omega arith; decisions = omega arith };
     }
 
 module _ (old : Engine) (story : List Event) (s : ℕ) (st : Statement) (allowed : Allowed old story (Session s (Do st))) (log : Log) (serves : Serves old story log) where
   abbrev here : Done
-  here = do_statement (schema_of (kept log)) (tables_after log) [] st
+  here = outcome_of (schema_of (kept log)) (tables_after log) [] st
 
   same-done : here ≡ done_by old (tables_after log) st
-  same-done = ap (λ tables. do_statement tables (tables_after log) [] st) serves.schema
+  same-done = ap (λ tables. outcome_of tables (tables_after log) [] st) serves.schema
 
   same-unit : fresh_unit log ≡ next_unit old
   same-unit i = record { boot = serves.boot i; seq = serves.units i + 1 }
@@ -170,7 +177,7 @@ module _ (old : Engine) (story : List Event) (s : ℕ) (st : Statement) (allowed
   abbrev begun_line : Log
   begun_line = log asks Tree (Session s (Do st))
 
-  end-played : Played end
+  end-played : IsPlayed end
   end-played = unit-played log s st serves.idle serves.complete serves.tells.played (allowed log serves)
 
   unit-goes : (new : Engine) (told : List Event) → HasRun old story s st (tables_after log) new told → Goes log (Tree (Session s (Do st))) old story new told
@@ -181,7 +188,7 @@ module _ (old : Engine) (story : List Event) (s : ℕ) (st : Statement) (allowed
         asks = refl;
         serves = record {
           tells = record {
-            start = serves.tells.start;
+            begins = serves.tells.begins;
             told = says_all-story begun_line events ∙ ap (λ x. x ++ events) serves.tells.told ∙ ap (λ es. story ++ es) same-events ∙ sym run.tells;
             played = end-played;
           };
@@ -195,7 +202,7 @@ module _ (old : Engine) (story : List Event) (s : ℕ) (st : Statement) (allowed
               ∙ ap (λ d. decisions_after (cause_in d.answer) old.decisions) same-done ∙ sym run.decisions;
           units = ap (λ n. n + 1) serves.units ∙ sym run.units;
         };
-        grows = (unit_events old s st (done_by old (tables_after log) st).answer, run.tells);
+        grows = (unit_events old s st (done_by old (tables_after log) st).answer, run.tells, (tt, (tt, (tt, tt))));
         rise = record { units = omega (arith, run.units); decisions = omega (arith, run.decisions, decisions-rise (cause_in (done_by old (tables_after log) st).answer) old.decisions) };
       }
 
@@ -206,11 +213,11 @@ module _ (old : Engine) (story : List Event) (s : ℕ) (st : Statement) (allowed
         after = says_all begun_line told_so_far;
         asks = says_all-lines begun_line told_so_far;
         tells = record {
-          start = says_all-start begun_line told_so_far ∙ serves.tells.start;
+          begins = says_all-start begun_line told_so_far ∙ serves.tells.begins;
           told = says_all-story begun_line told_so_far ∙ ap (λ x. x ++ told_so_far) serves.tells.told ∙ ap (λ es. story ++ take cut.0 es) same-events ∙ sym cut.1;
           played = front-played cut.0 begun_line events end-played;
         };
-        grows = (take cut.0 (unit_events old s st (done_by old (tables_after log) st).answer), cut.1);
+        grows = (take cut.0 (unit_events old s st (done_by old (tables_after log) st).answer), cut.1, every-take ShowsNothing cut.0 (unit_events old s st (done_by old (tables_after log) st).answer) (tt, (tt, (tt, tt))));
       }
 
 pub served-goes : (old new : Engine) (story told : List Event) (r : Request) → Allowed old story (line_of r) → IsServed old story r new told → GoesOn old story (Tree (line_of r)) new told

@@ -1,4 +1,6 @@
 -- What an engine stands for: the log that it and its story are those of.
+use Rattle.salt_model.specs.Words.{Every}
+use Rattle.salt_model.specs.EventTexts.{ShowsNothing}
 use Rattle.salt_ast.specs.Texts.{table_text}
 use Rattle.salt_ast.specs.declared.trees.Statement.{Statement}
 use Rattle.salt_ast.specs.declared.trees.TableDef.{TableDef}
@@ -7,10 +9,10 @@ use Rattle.salt_engine.specs.declared.request.Request.TheVariants as request
 use Rattle.salt_engine.specs.declared.request.Request.{Request}
 use Rattle.salt_model.specs.After.{kept, tables_after}
 use Rattle.salt_model.specs.Honest.{cause_in}
-use Rattle.salt_model.specs.Kept.{nothing_kept, schema_of}
-use Rattle.salt_model.specs.Log.{Asked, Log, Start, accepted_in, is_open, lines_of, programs_in, start_of, story_of, unit_count}
-use Rattle.salt_model.specs.Played.{IsComplete, Played}
-use Rattle.salt_model.specs.Statements.{Done, do_statement}
+use Rattle.salt_model.specs.Kept.{schema_of}
+use Rattle.salt_model.specs.Log.{Asked, Log, accepted_in, is_open, lines_of, programs_in, unit_count}
+use Rattle.salt_model.specs.Played.{IsComplete, Tells, empty_start}
+use Rattle.salt_model.specs.Statements.{Done, outcome_of}
 use Rattle.salt_model.specs.Tables.{Entry, Tables, with_changes}
 use Rattle.salt_model.specs.declared.events.Answer.{Answer}
 use Rattle.salt_model.specs.declared.events.Cause.{Cause}
@@ -23,16 +25,6 @@ use Rattle.salt_values.specs.declared.change.Change.{Change}
 use Rattle.salt_values.specs.declared.id.Id.{Id}
 use Rattle.std.specs.Prelude.{List, None, Option, Some, [], false, take, ℕ, ◌++◌, ◌+◌, ◌∷◌, ◌≡◌, ◌≤◌}
 
--- nothing is kept, over disks that can't be stopped
-abbrev pub empty_start : Start
-empty_start = record { kept = nothing_kept; can_stop = false }
-
--- the story is that of a log which is played from the empty start
-pub record Tells (log : Log) (story : List Event) : Type 0 where
-  pub start : start_of log ≡ empty_start
-  pub told : story_of log ≡ story
-  pub played : Played log
-
 -- no unit is open, and no BASE program was begun or accepted
 pub record IsIdle (log : Log) : Type 0 where
   pub none_open : (u : Id) → is_open log u ≡ false
@@ -41,7 +33,7 @@ pub record IsIdle (log : Log) : Type 0 where
 
 -- the engine and the story are those of a log that is played and complete
 pub record Serves (e : Engine) (story : List Event) (log : Log) : Type 0 where
-  pub tells : Tells log story
+  pub tells : Tells empty_start log story
   pub complete : IsComplete log
   pub idle : IsIdle log
   pub schema : schema_of (kept log) ≡ e.schema
@@ -50,9 +42,9 @@ pub record Serves (e : Engine) (story : List Event) (log : Log) : Type 0 where
   pub decisions : (kept log).decisions ≡ e.decisions
   pub units : unit_count log ≡ e.units
 
--- the story has gained events, if any
+-- the story has gained events, if any, and none that shows
 abbrev pub Grows : List Event → List Event → Type 0
-Grows story told = (more : List Event) × (told ≡ story ++ more)
+Grows story told = (more : List Event) × (told ≡ story ++ more) × Every ShowsNothing more
 
 -- a step raises each number by one at most
 pub record NumbersRise (old new : Engine) : Type 0 where
@@ -71,7 +63,7 @@ pub record Goes (log : Log) (asked : Asked) (old : Engine) (story : List Event) 
 pub record Breaks (log : Log) (asked : Asked) (story told : List Event) : Type 0 where
   pub after : Log
   pub asks : lines_of after ≡ lines_of log ++ asked ∷ []
-  pub tells : Tells after told
+  pub tells : Tells empty_start after told
   pub grows : Grows story told
 
 -- each log of the engine and the story goes on by the line
@@ -108,7 +100,7 @@ decisions_after None n = n + 1
 
 -- what a statement does on the tables that an engine keeps
 abbrev pub done_by : Engine → Tables → Statement → Done
-done_by e es st = do_statement e.schema es [] st
+done_by e es st = outcome_of e.schema es [] st
 
 -- the engine and the story after a unit's statement was done on the tables
 pub record HasRun (old : Engine) (story : List Event) (session : ℕ) (st : Statement) (es : Tables) (new : Engine) (told : List Event) : Type 0 where

@@ -1,5 +1,5 @@
 -- Where a table stands in a schema, and what is refused of a request.
-use Rattle.salt_ast.specs.Judgement.{columns_of, doubled_in_table, is_of_kind, key_type, kept_limit, unknown_table, value_kind, values}
+use Rattle.salt_ast.specs.Judgement.{columns_of, doubled_in_table, is_of_kind, kept_limit, key_type, unknown_table, value_kind, values}
 use Rattle.salt_ast.specs.Words.{is_same_name, or_else, when}
 use Rattle.salt_ast.specs.declared.trees.Field.{Field}
 use Rattle.salt_ast.specs.declared.trees.TableDef.{TableDef}

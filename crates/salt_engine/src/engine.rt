@@ -7,7 +7,7 @@ ghost use Rattle.salt_model.specs.After.{kept};
 ghost use Rattle.salt_model.specs.Honest.{cause_in};
 ghost use Rattle.salt_model.specs.Kept.{nothing_kept};
 ghost use Rattle.salt_model.specs.Log.{Log, Unread, unit_count};
-ghost use Rattle.salt_model.specs.Played.{IsComplete};
+ghost use Rattle.salt_model.specs.Played.{IsComplete, Tells, empty_start};
 ghost use Rattle.salt_model.specs.Tables.{Tables, with_changes};
 ghost use Rattle.salt_model.specs.declared.events.Event.{Event};
 ghost use Rattle.salt_engine.specs.Execute.{changes_of};
@@ -66,11 +66,11 @@ fn text_of(alloc: Global, def: &TableDef) -> Result<Bytes, AllocError>
 }
 
 impl Engine {
-    ghost use Rattle.salt_engine.specs.Engine.{BreaksOff, GoesOn, HasRun, IsCutShort, IsIdle, IsLeft, IsServed, NumbersRise, Serves, Tells, decisions_after, defined_by, done_by, end_by, next_unit, rows_by, unit_events};
+    ghost use Rattle.salt_engine.specs.Engine.{BreaksOff, GoesOn, HasRun, IsCutShort, IsIdle, IsLeft, IsServed, NumbersRise, Serves, decisions_after, defined_by, done_by, end_by, next_unit, rows_by, unit_events};
 
     /// An engine of no tables, in the boot that a story's opening tells.
     pub fn new(alloc: Global, boot: u64) -> Engine
-        ensures serves { (log : Log) (story : List Event) → Tells log story → IsComplete log → IsIdle log → kept log ≡ record nothing_kept { boot = boot } → unit_count log ≡ 0 → Serves result story log }
+        ensures serves { (log : Log) (story : List Event) → Tells empty_start log story → IsComplete log → IsIdle log → kept log ≡ record nothing_kept { boot = boot } → unit_count log ≡ 0 → Serves result story log }
         ensures units { result.units ≡ 0 }
         ensures decisions { result.decisions ≡ 0 }
     {

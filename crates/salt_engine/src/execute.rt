@@ -4,7 +4,7 @@ ghost use Rattle.std.specs.Prelude.{◌≡◌, ◌≤◌, [], IfOk, Some, length
 ghost use Rattle.std.specs.List.{list_all};
 ghost use Rattle.std.specs.Option.{option_copied};
 ghost use Rattle.salt_ast.specs.declared.trees.Statement.{Statement};
-ghost use Rattle.salt_model.specs.Statements.{do_statement};
+ghost use Rattle.salt_model.specs.Statements.{outcome_of};
 ghost use Rattle.salt_model.specs.Tables.{Tables, key_of};
 ghost use Rattle.salt_engine.specs.Execute.{IsInserted, IsOutcome, IsSelected, literals_in};
 ghost use Rattle.salt_engine.specs.Served.{IsTaskOf, is_plain_table};
@@ -118,7 +118,7 @@ pub fn execute(
 ) -> Result<Outcome, AllocError>
     requires few { length schema.now ≤ 64 }
     requires plain { list_all is_plain_table schema.now ≡ true }
-    ensures { (es : Tables) (st : Statement) → rows.now.entries ≡ es.list → IsTaskOf st (Some task.now) → IfOk result (λ done. IsOutcome done (do_statement schema.now es [] st)) }
+    ensures { (es : Tables) (st : Statement) → rows.now.entries ≡ es.list → IsTaskOf st (Some task.now) → IfOk result (λ done. IsOutcome done (outcome_of schema.now es [] st)) }
 {
     let Some(Known { number, .. }) = table_named(schema, table_of(task).as_slice()) else {
         return Ok(Outcome {

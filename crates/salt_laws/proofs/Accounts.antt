@@ -15,7 +15,7 @@ use Rattle.salt_model.specs.After.{branched, conts_at, kept, run_of}
 use Rattle.salt_model.specs.Continuing.{AcceptsDue, FinishesDue, GoesAlong, accepted_after, finished_after, if_ended, is_unfinished, last_said, program_continued}
 use Rattle.salt_model.specs.Kept.{begun_cont, branch_of, cont_of, kept_program, moved, then_of, values_kept}
 use Rattle.salt_model.specs.Log.{Log, accepted_in, finished_in, from, kind_of, program_of_kind, start_of, ◌asks◌, ◌says◌, ◌turns◌}
-use Rattle.salt_model.specs.Played.{Played}
+use Rattle.salt_model.specs.Played.{IsPlayed}
 use Rattle.salt_model.specs.Words.{has_id}
 use Rattle.salt_model.specs.declared.events.End.TheVariants.{Branched, Committed}
 use Rattle.salt_model.specs.declared.events.End.{End}
@@ -142,7 +142,7 @@ begins-step log (Accepted c) r a b i = inl (either (λ g. in-left b (accepted_in
 begins-step log (Ended u end) r a b i = either (λ j. inl (either (λ g. g) (λ d. none-some _ b d a) (r.begins b j))) (λ g. inr g) (bases-back log u end b i)
 begins-step log e r a b i = inl (either (λ g. g) (λ d. none-some _ b d a) (r.begins b i))
 
-pub accounts : (log : Log) → Played log → OfBoots (start_of log).kept → Accounts log
+pub accounts : (log : Log) → IsPlayed log → OfBoots (start_of log).kept → Accounts log
 accounts (from k) p w = record { ends = λ b i. inr (inl i); begins = λ b i. inl i }
 accounts (log asks asked) p w =
     let r = accounts log p.0 w in

@@ -6,11 +6,11 @@ use Rattle.salt_laws.proofs.NextFits.{Comes, Fits, Within}
 use Rattle.salt_laws.proofs.Rising.{Rises, first-accepted, rises}
 use Rattle.salt_laws.proofs.Salted.{OfBoots, comes-at, each, holds, may-fit}
 use Rattle.salt_model.specs.After.{kept}
-use Rattle.salt_model.specs.Continuing.{AcceptsDue, IsContinued, FinishesDue, GoesAlong, InOpening, Opens}
+use Rattle.salt_model.specs.Continuing.{AcceptsDue, FinishesDue, GoesAlong, InOpening, IsContinued, Opens}
 use Rattle.salt_model.specs.Log.{Log, from, start_of, ◌asks◌, ◌says◌, ◌turns◌}
 use Rattle.salt_model.specs.Next.{next}
 use Rattle.salt_model.specs.Phases.{Fallen, Opening, Phase, Serving, phase}
-use Rattle.salt_model.specs.Played.{Each, May, Played}
+use Rattle.salt_model.specs.Played.{Each, IsPlayed, May}
 use Rattle.salt_model.specs.declared.events.End.TheVariants.{Victim}
 use Rattle.salt_model.specs.declared.events.Event.TheVariants.{Began, Down, Ended, Opened, Ready}
 use Rattle.salt_model.specs.declared.events.Event.{Event}
@@ -46,7 +46,7 @@ opens-at log e c r m = let h = comes-at log e c m in comes-in log e h.0 r (phase
 abbrev ContinuesAt : Log → Event → Type 0
 ContinuesAt log e = AcceptsDue log e × FinishesDue log e × GoesAlong log e × Opens log e
 
-continues : (log : Log) → Played log → OfBoots (start_of log).kept → Rises (start_of log).kept → Each ContinuesAt log
+continues : (log : Log) → IsPlayed log → OfBoots (start_of log).kept → Rises (start_of log).kept → Each ContinuesAt log
 continues (from k) p w r = tt
 continues (log asks asked) p w r = continues log p.0 w r
 continues (log turns b) p w r = continues log p.0 w r
@@ -57,7 +57,7 @@ continues (log says e) p w r =
     let d = finishes-due log e p.0 h.comes p.1 in
     (continues log p.0 w r, (a, d, goes-along log e (accounts log p.0 w) h.sound f a d, opens-at log e h.comes (rises log p.0 w r) p.1))
 
-pub continued-played : (log : Log) → Played log → OfBoots (start_of log).kept → Rises (start_of log).kept → IsContinued log
+pub continued-played : (log : Log) → IsPlayed log → OfBoots (start_of log).kept → Rises (start_of log).kept → IsContinued log
 continued-played log p w r =
     let c = continues log p w r in
     record {

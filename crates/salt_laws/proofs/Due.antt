@@ -15,7 +15,7 @@ use Rattle.salt_model.specs.Kept.{cont_of}
 use Rattle.salt_model.specs.Log.{Asked, Log, Start, from, kind_of, ◌asks◌, ◌says◌, ◌turns◌}
 use Rattle.salt_model.specs.Next.{next, said_event}
 use Rattle.salt_model.specs.Phases.{Fallen, Opening, Phase, Serving, phase}
-use Rattle.salt_model.specs.Played.{May, MayFall, Played, is_at_devices, is_device_next}
+use Rattle.salt_model.specs.Played.{IsPlayed, May, MayFall, is_at_devices, is_device_next}
 use Rattle.salt_model.specs.Programs.{program_begun}
 use Rattle.salt_model.specs.Turns.{after_end, finishes, settle}
 use Rattle.salt_model.specs.declared.events.End.TheVariants.{Branched, Committed}
@@ -28,7 +28,7 @@ use Rattle.salt_values.specs.declared.cont.Cont.{Cont}
 use Rattle.salt_values.specs.declared.id.Id.{Id}
 
 -- nothing comes while the run is down
-pub nothing-fallen : (log : Log) → Played log → phase log ≡ Fallen → next log ≡ None
+pub nothing-fallen : (log : Log) → IsPlayed log → phase log ≡ Fallen → next log ≡ None
 nothing-fallen (from k) p f = refl
 nothing-fallen (log asks asked) p f = let e : Serving ≡ Fallen = sym p.1.0 ∙ f in cc
 nothing-fallen (log turns b) p f = let e : Serving ≡ Fallen = sym p.1 ∙ f in cc
@@ -42,14 +42,14 @@ module _ (due : Log → Option Event → Option Id) (told : Event → Option Id)
     (by-asks : (log : Log) (asked : Asked) (o : Option Event) → due (log asks asked) o ≡ due log o)
     (by-turns : (log : Log) (b : Id) (o : Option Event) → due (log turns b) o ≡ due log o)
     (start : (k : Start) → due (from k) None ≡ None)
-    (comes : (log : Log) (x : Event) (b : Id) → Played (log says x) → due (log says x) (Some x) ≡ Some b → next (log says x) ≡ Some (event b))
+    (comes : (log : Log) (x : Event) (b : Id) → IsPlayed (log says x) → due (log says x) (Some x) ≡ Some b → next (log says x) ≡ Some (event b))
     (quiet : (log : Log) (e : Event) → Fits log e → due log (last_said log) ≡ None → told e ≡ None)
     (tells : (b : Id) → told (event b) ≡ Some b)
     (away : (log : Log) (b : Id) → is_at_devices log (event b) ≡ false) where
   abbrev IsDue : Log → Type 0
   IsDue log = (b : Id) × (due log (last_said log) ≡ Some b) × (next log ≡ Some (event b))
 
-  due-next : (log : Log) → Played log → (due log (last_said log) ≡ None) ⊎ IsDue log
+  due-next : (log : Log) → IsPlayed log → (due log (last_said log) ≡ None) ⊎ IsDue log
   due-next (from k) p = inl (start k)
   due-next (log asks asked) p = either (λ h. inl (by-asks log asked (last_said log) ∙ h)) (λ r. let e : Some (event r.0) ≡ None = sym r.2 ∙ p.1.1 in cc) (due-next log p.0)
   due-next (log turns b) p = either (λ h. inl (by-turns log b (last_said log) ∙ h)) (λ r. let e : Some (event r.0) ≡ None = sym r.2 ∙ p.2 in cc) (due-next log p.0)
@@ -59,7 +59,7 @@ module _ (due : Log → Option Event → Option Id) (told : Event → Option Id)
       by None e = inl e
       by (Some b) e = inr (b, e, comes log x b p e)
 
-  no-fall : (log : Log) (why : Why) (b : Id) → Played log → next log ≡ Some (event b) → MayFall (phase log) log why → ⊥
+  no-fall : (log : Log) (why : Why) (b : Id) → IsPlayed log → next log ≡ Some (event b) → MayFall (phase log) log why → ⊥
   no-fall log why b p n m = by (phase log) refl m
     where
       not-at : is_device_next log (next log) ≡ false
@@ -70,12 +70,12 @@ module _ (due : Log → Option Event → Option Id) (told : Event → Option Id)
       by Opening e g = let x : false ≡ true = sym not-at ∙ and_right _ _ g.1 in cc
       by Fallen e g = let x : None ≡ Some (event b) = sym (nothing-fallen log p e) ∙ n in cc
 
-  telling : (log : Log) (e : Event) (b : Id) → Played log → next log ≡ Some (event b) → May log e → told e ≡ Some b
+  telling : (log : Log) (e : Event) (b : Id) → IsPlayed log → next log ≡ Some (event b) → May log e → told e ≡ Some b
   telling log (Down why) b p n m = absurd (no-fall log why b p n m)
   telling log (Opened boot x) b p n m = let f : phase log ≡ Fallen = (may-open (phase log) log boot x m).0 in let g : None ≡ Some (event b) = sym (nothing-fallen log p f) ∙ n in cc
   telling log e b p n m = let g : Some e ≡ Some (event b) = sym m ∙ n in let h : e ≡ event b = cc in ap told h ∙ tells b
 
-  pub comes-due : (log : Log) (e : Event) → Played log → IfComes (Comes log) (next log) → May log e → due log (last_said log) ≡ told e
+  pub comes-due : (log : Log) (e : Event) → IsPlayed log → IfComes (Comes log) (next log) → May log e → due log (last_said log) ≡ told e
   comes-due log e p c m = either (λ h. h ∙ sym (quiet log e (may-fit log e c m) h)) (λ r. r.1 ∙ sym (telling log e r.0 p r.2 m)) (due-next log p)
 
 or-first : (o other : Option Event) (e : Event) → o ≡ Some e → or_else o other ≡ Some e
@@ -83,7 +83,7 @@ or-first (Some x) other e h = h
 or-first None other e h = cc
 
 -- what follows an event comes directly after it, where the run is not down
-follows : (log : Log) (x e : Event) → Played log → next log ≡ Some x → phase (log says x) ≡ phase log → ((q : Phase) → (q ≡ Fallen → ⊥) → said_event q (log says x) x ≡ Some e) → said_event (phase (log says x)) (log says x) x ≡ Some e
+follows : (log : Log) (x e : Event) → IsPlayed log → next log ≡ Some x → phase (log says x) ≡ phase log → ((q : Phase) → (q ≡ Fallen → ⊥) → said_event q (log says x) x ≡ Some e) → said_event (phase (log says x)) (log says x) x ≡ Some e
 follows log x e p n same f = ap (λ q. said_event q (log says x) x) same ∙ f (phase log) (λ d. let g : None ≡ Some x = sym (nothing-fallen log p d) ∙ n in cc)
 
 -- ACCEPTED
@@ -109,7 +109,7 @@ end-follows log u end e h Serving d = or-first _ (settle (log says Ended u end))
 end-follows log u end e h Opening d = or-first _ _ e h
 end-follows log u end e h Fallen d = absurd (d refl)
 
-accepts-comes : (log : Log) (x : Event) (b : Id) → Played (log says x) → accepted_after (log says x) (Some x) ≡ Some b → next (log says x) ≡ Some (Accepted b)
+accepts-comes : (log : Log) (x : Event) (b : Id) → IsPlayed (log says x) → accepted_after (log says x) (Some x) ≡ Some b → next (log says x) ≡ Some (Accepted b)
 accepts-comes log (Ended u (Committed n)) b p h = follows log (Ended u (Committed n)) (Accepted b) p.0 p.1 refl (end-follows log u (Committed n) (Accepted b) (after-first (log says Ended u (Committed n)) n (kind_of u log) b h))
 accepts-comes log x b p h = cc
 
@@ -128,7 +128,7 @@ accepts-quiet log (Accepted b) f h = absurd (by (last_said log) f h)
     by o g d = absurd g
 accepts-quiet log e f h = refl
 
-pub accepts-due : (log : Log) (e : Event) → Played log → IfComes (Comes log) (next log) → May log e → AcceptsDue log e
+pub accepts-due : (log : Log) (e : Event) → IsPlayed log → IfComes (Comes log) (next log) → May log e → AcceptsDue log e
 accepts-due = comes-due accepted_after accepted_by Accepted accepts-asks accepts-turns (λ k. refl) accepts-comes accepts-quiet (λ b. refl) (λ log b. refl)
 
 -- FINISHED
@@ -184,7 +184,7 @@ acceptance-follows log c e h Serving d = or-first _ (settle (log says Accepted c
 acceptance-follows log c e h Opening d = or-first _ _ e h
 acceptance-follows log c e h Fallen d = absurd (d refl)
 
-finishes-comes : (log : Log) (x : Event) (b : Id) → Played (log says x) → finished_after (log says x) (Some x) ≡ Some b → next (log says x) ≡ Some (Finished b)
+finishes-comes : (log : Log) (x : Event) (b : Id) → IsPlayed (log says x) → finished_after (log says x) (Some x) ≡ Some b → next (log says x) ≡ Some (Finished b)
 finishes-comes log (Ended u (Committed n)) b p h = follows log (Ended u (Committed n)) (Finished b) p.0 p.1 refl (end-follows log u (Committed n) (Finished b) (after-committed (log says Ended u (Committed n)) n (kind_of u log) b h))
 finishes-comes log (Ended u (Branched n c)) b p h = follows log (Ended u (Branched n c)) (Finished b) p.0 p.1 refl (end-follows log u (Branched n c) (Finished b) (after-branched (log says Ended u (Branched n c)) n c (kind_of u log) b h))
 finishes-comes log (Accepted c) b p h = follows log (Accepted c) (Finished b) p.0 p.1 refl (acceptance-follows log c (Finished b) (ends-finish (log says Accepted c) c b h))
@@ -203,5 +203,5 @@ finishes-quiet log (Finished b) f h = absurd (by (last_said log) f h)
     by o g d = absurd g
 finishes-quiet log e f h = refl
 
-pub finishes-due : (log : Log) (e : Event) → Played log → IfComes (Comes log) (next log) → May log e → FinishesDue log e
+pub finishes-due : (log : Log) (e : Event) → IsPlayed log → IfComes (Comes log) (next log) → May log e → FinishesDue log e
 finishes-due = comes-due finished_after finished_by Finished finishes-asks finishes-turns (λ k. refl) finishes-comes finishes-quiet (λ b. refl) (λ log b. refl)

@@ -15,7 +15,7 @@ use Rattle.salt_model.specs.After.{reach_now}
 use Rattle.salt_model.specs.Continuing.{AcceptsDue, GoesAlong, accepted_after, accepted_by, is_unfinished, last_said}
 use Rattle.salt_model.specs.Isolation.{is_committed_standing}
 use Rattle.salt_model.specs.Log.{Log, Over, Running, Waiting, accepted_in, finished_in, from, is_of_program, kind_of, program_of, program_of_kind, released_in, standing, start_of, ◌asks◌, ◌says◌, ◌turns◌}
-use Rattle.salt_model.specs.Played.{Each, Played}
+use Rattle.salt_model.specs.Played.{Each, IsPlayed}
 use Rattle.salt_model.specs.Programs.{program_begun}
 use Rattle.salt_model.specs.Reads.{programs_among, read_directly, to_release, writers_in}
 use Rattle.salt_model.specs.Releasing.{IsReleasable, NamesReleasable, ReadsThrough, ReleasesDue, ReleasesExactly, due_after, is_finish, itself, released_by, released_names, through}
@@ -116,7 +116,7 @@ committed-step log e s a u c h k = either (λ was. inl (old was)) (λ now. new n
     new n i = subst (λ x. In c (accepted_in (log says x)) ⊎ (accepted_after (log says x) (Some x) ≡ Some c)) (sym i) (ends n (kind_of u log) refl here)
 
 -- a program that is about to be accepted is not over
-acceptance-alive : (log : Log) → Played log → OfBoots (start_of log).kept → (c : Id) → IsAcceptance c log (last_said log) → Dead log c → ⊥
+acceptance-alive : (log : Log) → IsPlayed log → OfBoots (start_of log).kept → (c : Id) → IsAcceptance c log (last_said log) → Dead log c → ⊥
 acceptance-alive (from k) p w c a d = absurd a
 acceptance-alive (log asks asked) p w c a d = acceptance-alive log p.0 w c (before (last_said log) a) d
   where
@@ -167,7 +167,7 @@ over-step log (Accepted b) s f g n c r a = either (λ i. s.over c r i) (λ i. ei
 over-step log (Finished b) s f g n c r a = in-left c (finished_in log) (b ∷ []) (s.over c r a)
 over-step log e s f g n c r a = s.over c r a
 
-sources : (log : Log) → Played log → OfBoots (start_of log).kept → Sources log
+sources : (log : Log) → IsPlayed log → OfBoots (start_of log).kept → Sources log
 sources (from k) p w = record { later = λ u c part h. cc; committed = λ u c h q. cc; read = λ b c h. absurd h; over = λ c h a. absurd h }
 sources (log asks asked) p w = let s = sources log p.0 w in record { later = s.later; committed = λ u c h q. either (λ i. inl i) (λ d. inr (accepts-asks log asked (last_said log) ∙ d)) (s.committed u c h q); read = s.read; over = s.over }
 sources (log turns b) p w = let s = sources log p.0 w in record { later = s.later; committed = λ u c h q. either (λ i. inl i) (λ d. inr (accepts-turns log b (last_said log) ∙ d)) (s.committed u c h q); read = s.read; over = s.over }
@@ -215,11 +215,11 @@ names-at log e s z d = λ f b. by (phase log) (last_said log) f d b
     by Serving (Some (Finished c)) f d b = subst (λ l. IsTrue (has_id b l) ↔ ((has_id b (released_in log) ≡ false) × IsReleasable log b)) (named (to_release log) e d) (exact b)
     by p o f d b = cc
 
-names-all : (log : Log) → Played log → OfBoots (start_of log).kept → Each ReleasesDue log → Each NamesReleasable log
+names-all : (log : Log) → IsPlayed log → OfBoots (start_of log).kept → Each ReleasesDue log → Each NamesReleasable log
 names-all (from k) p w d = tt
 names-all (log asks asked) p w d = names-all log p.0 w d
 names-all (log turns b) p w d = names-all log p.0 w d
 names-all (log says e) p w d = (names-all log p.0 w d.0, names-at log e (sources log p.0 w) (holds log p.0 w).salty d.1)
 
-pub releases-played : (log : Log) → Played log → OfBoots (start_of log).kept → ReleasesExactly log
+pub releases-played : (log : Log) → IsPlayed log → OfBoots (start_of log).kept → ReleasesExactly log
 releases-played log p w = let d = due-played log p w in record { due = d; names = names-all log p w d }

@@ -15,7 +15,7 @@ use Rattle.salt_model.specs.Locks.{NoneConflict, Taken, as_held, conflict, famil
 use Rattle.salt_model.specs.Log.{Log, Never, Over, Running, Standing, Waiting, from, is_open, is_open_standing, kind_of, program_of_kind, programs_in, released_in, standing, unit_count, units_begun, ◌asks◌, ◌says◌, ◌turns◌}
 use Rattle.salt_model.specs.Next.{next}
 use Rattle.salt_model.specs.Phases.{Fallen, Opening, Phase, Serving, phase}
-use Rattle.salt_model.specs.Played.{May, MayOpen, Played}
+use Rattle.salt_model.specs.Played.{IsPlayed, May, MayOpen}
 use Rattle.salt_model.specs.Words.{Every, has_id}
 use Rattle.salt_model.specs.declared.events.Answer.{Answer}
 use Rattle.salt_model.specs.declared.events.End.TheVariants.{Branched, Committed}
@@ -333,7 +333,7 @@ held-says log (Ended v (Committed n)) inv m h =
 held-says log (Ended v end) inv m h = held-plain log (Ended v end) inv m h refl (every-all _ (λ t. tt) (taken_in log)) refl refl
 held-says log e inv m h = held-plain log e inv m h refl (every-all _ (λ t. tt) (taken_in log)) refl refl
 
-pub no-clash : (log : Log) → Played log → HeldFacts log
+pub no-clash : (log : Log) → IsPlayed log → HeldFacts log
 no-clash (from k) p = record { units = tt; takers = tt; clear = tt }
 no-clash (log asks line) p = let h = no-clash log p.0 in record { units = h.units; takers = h.takers; clear = pairs-map (Stands log) (Stands (log asks line)) (λ t. ⊤) (taken_in log) (every-all _ (λ t. tt) (taken_in log)) (λ t s x y q. fades-beside _ _ _ _ (inl (same t (standing t.unit log) (kind_of t.unit log))) (inl (same s (standing s.unit log) (kind_of s.unit log))) q) h.clear }
   where
@@ -364,7 +364,7 @@ every-held {A} {B} P f (x ∷ xs) h = by (f x) h.0 (every-held P f xs h.1)
     by (Some y) p more = (p, more)
 
 -- in a played log no two held locks of different owners clash, saline beside alkaline being no clash
-pub none-conflict : (log : Log) → Played log → NoneConflict (held log)
+pub none-conflict : (log : Log) → IsPlayed log → NoneConflict (held log)
 none-conflict log p =
     every-held (λ l. Every (λ m. conflict l m ≡ false) (held log)) (as_held log) (taken_in log)
     (every-map (λ t. Every (Stands log t) (taken_in log)) (λ t. IfSome (λ l. Every (λ m. conflict l m ≡ false) (held log)) (as_held log t)) (λ t h. first t (as_held log t) h) (taken_in log) (no-clash log p).clear)

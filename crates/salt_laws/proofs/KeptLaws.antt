@@ -8,7 +8,7 @@ use Rattle.salt_model.specs.Log.{Log, from, open_units, start_of, ◌asks◌, �
 use Rattle.salt_model.specs.Next.{flight, next}
 use Rattle.salt_model.specs.Openings.{cuts_or_drains, drains, stands_now, to_cut}
 use Rattle.salt_model.specs.Phases.{Fallen, Opening, Phase, Serving, phase}
-use Rattle.salt_model.specs.Played.{Each, May, MayOpen, Played}
+use Rattle.salt_model.specs.Played.{Each, IsPlayed, May, MayOpen}
 use Rattle.salt_model.specs.Turns.{begins, next_number}
 use Rattle.salt_model.specs.Words.{is_empty}
 use Rattle.salt_model.specs.declared.events.End.TheVariants.{Branched, Committed, Cut}
@@ -52,7 +52,7 @@ cuts-number log e [] cs k h = go (is_empty (open_units log)) cs (subst (λ l. wh
 unequal-next : (n d : ℕ) → n ≡ d → (n == d + 1) ≡ true → ⊥
 unequal-next n d e h = grind (arith, nat_tests)
 
-tells-flight : (log : Log) (boot n : ℕ) (e : Event) → Played (log says Opened boot n) → next (log says Opened boot n) ≡ Some e → OnlyAfter (n == (kept log).decisions + 1) (flight log) e
+tells-flight : (log : Log) (boot n : ℕ) (e : Event) → IsPlayed (log says Opened boot n) → next (log says Opened boot n) ≡ Some e → OnlyAfter (n == (kept log).decisions + 1) (flight log) e
 tells-flight log boot n e p h = go (n == (kept log).decisions + 1) refl (flight log) (opens-at log (Opened boot n) p.1).2 h
   where
     here : Log
@@ -65,16 +65,16 @@ tells-flight log boot n e p h = go (n == (kept log).decisions + 1) refl (flight 
     go false q None m g = cuts-number (log says Opened boot n) e (to_cut (log says Opened boot n)) (kept log).conts refl g
     go false q (Some d) m g = cuts-number (log says Opened boot n) e (to_cut (log says Opened boot n)) (kept log).conts refl (sym (ap (λ b. or_else (when b d) (cuts_or_drains (log says Opened boot n) (to_cut (log says Opened boot n)))) q) ∙ g)
 
-tells-by : (log : Log) (e : Event) → Played log → next log ≡ Some e → TellsFlight log e
+tells-by : (log : Log) (e : Event) → IsPlayed log → next log ≡ Some e → TellsFlight log e
 tells-by log (Down why) p h = tt
 tells-by (log says Opened boot n) e p h = tells-flight log boot n e p h
 tells-by log e p h = tt
 
-tells-at : (log : Log) (e : Event) → Played log → May log e → TellsFlight log e
+tells-at : (log : Log) (e : Event) → IsPlayed log → May log e → TellsFlight log e
 tells-at log (Down why) p m = tt
 tells-at log (Opened boot n) p m = opened log p m
   where
-    opened : (log : Log) → Played log → MayOpen (phase log) log boot n → TellsFlight log (Opened boot n)
+    opened : (log : Log) → IsPlayed log → MayOpen (phase log) log boot n → TellsFlight log (Opened boot n)
     opened (log says Opened x y) p m = absurd m
     opened log p m = tt
 tells-at log e p m = tells-by log e p m
@@ -82,13 +82,13 @@ tells-at log e p m = tells-by log e p m
 abbrev KeptLaws : Log → Event → Type 0
 KeptLaws log e = NumbersOn log e × OpensRight log e × TellsFlight log e × CutsRight log e
 
-kept-laws : (log : Log) → Played log → OfBoots (start_of log).kept → Each KeptLaws log
+kept-laws : (log : Log) → IsPlayed log → OfBoots (start_of log).kept → Each KeptLaws log
 kept-laws (from k) p w = tt
 kept-laws (log asks line) p w = kept-laws log p.0 w
 kept-laws (log turns b) p w = kept-laws log p.0 w
 kept-laws (log says e) p w = let f = may-fit log e (holds log p.0 w).comes p.1 in (kept-laws log p.0 w, (numbers-at log e f, opens-at log e p.1, tells-at log e p.0 p.1, cuts-at log e f))
 
-pub kept-played : (log : Log) → Played log → OfBoots (start_of log).kept → IsKept log
+pub kept-played : (log : Log) → IsPlayed log → OfBoots (start_of log).kept → IsKept log
 kept-played log p w =
     let a = kept-laws log p w in
     record {

@@ -5,7 +5,7 @@ use Rattle.salt_laws.proofs.Lists.{In}
 use Rattle.salt_laws.proofs.Places.{both_true}
 use Rattle.salt_laws.proofs.Writes.{Writes, statement-writes}
 use Rattle.salt_model.specs.Locks.{is_read}
-use Rattle.salt_model.specs.Statements.{do_statement, reach}
+use Rattle.salt_model.specs.Statements.{outcome_of, reach}
 use Rattle.salt_model.specs.Tables.{Tables}
 use Rattle.salt_model.specs.Words.{Every}
 use Rattle.salt_model.specs.declared.locks.Reach.{Reach}
@@ -30,5 +30,5 @@ covers : (o : Option Reach) (c : Change) → Writes o c → Covers o c.table c.k
 covers None c w = absurd w
 covers (Some r) c w = let b = both_true (r.table == c.table) _ w.1 in (ap is_read w.0, eqb-true r.table c.table b.0, b.1)
 
-pub covers-change : (schema : List TableDef) (tables : Tables) (vars : List Binding) (st : Statement) (c : Change) → In c (do_statement schema tables vars st).changes → Covers (reach schema vars st) c.table c.key
-covers-change schema tables vars st c i = covers (reach schema vars st) c (every-in (Writes (reach schema vars st)) c (do_statement schema tables vars st).changes (statement-writes schema tables vars st) i)
+pub covers-change : (schema : List TableDef) (tables : Tables) (vars : List Binding) (st : Statement) (c : Change) → In c (outcome_of schema tables vars st).changes → Covers (reach schema vars st) c.table c.key
+covers-change schema tables vars st c i = covers (reach schema vars st) c (every-in (Writes (reach schema vars st)) c (outcome_of schema tables vars st).changes (statement-writes schema tables vars st) i)

@@ -20,7 +20,7 @@ use Rattle.salt_model.specs.Log.{Log, answers_of, done_of, from, is_open, kind_o
 use Rattle.salt_model.specs.Next.{decision_in, flight, is_decision, next, said_event}
 use Rattle.salt_model.specs.Openings.{cuts_or_drains, drains, stands_now, to_cut}
 use Rattle.salt_model.specs.Phases.{Fallen, Opening, Phase, Serving, phase}
-use Rattle.salt_model.specs.Played.{May, Played}
+use Rattle.salt_model.specs.Played.{IsPlayed, May}
 use Rattle.salt_model.specs.Refusals.{refusal}
 use Rattle.salt_model.specs.Statements.{Run, doing, has_failed, list_of, run_from, run_on, serial, with_done}
 use Rattle.salt_model.specs.Tables.{Tables}
@@ -480,7 +480,7 @@ complete-quiet log u inv o s n = by (failing u log) refl
     by (Some c) f = absurd ((inv.closing u o c f).2 s n)
 
 -- what holds at each place of a played log, through every stop
-pub replays : (log : Log) → Played log → Inv log
+pub replays : (log : Log) → IsPlayed log → Inv log
 replays (from k) p = record { base = record { each = λ u o. cc; apart = λ u v o q d. cc; sole = λ s. tt }; coming = tt; flying = tt; closing = λ u o c f. cc }
 replays (log asks line) p =
     let inv = replays log p.0 in

@@ -12,7 +12,7 @@ use Rattle.salt_model.specs.After.{branched, conts_at, kept, run_of}
 use Rattle.salt_model.specs.Continuing.{IsFirstAccepted}
 use Rattle.salt_model.specs.Kept.{Kept, Rise, begun_cont, branch_of, change_cont, cont_in, cont_of, kept_program, moved, then_of, values_kept, without_cont}
 use Rattle.salt_model.specs.Log.{Log, from, kind_of, start_of, ◌asks◌, ◌says◌, ◌turns◌}
-use Rattle.salt_model.specs.Played.{Played}
+use Rattle.salt_model.specs.Played.{IsPlayed}
 use Rattle.salt_model.specs.Words.{Every, first_of_list}
 use Rattle.salt_model.specs.declared.events.End.TheVariants.{Branched, Committed}
 use Rattle.salt_model.specs.declared.events.Event.TheVariants.{Defined, Ended}
@@ -122,7 +122,7 @@ rises-step log (Ended u (Branched n c)) f h = branches-rise log u n (kind_of u l
 rises-step log (Defined n text) f h = subst (λ m. Rise m (kept log).conts) (sym f) (rise-up (kept log).decisions (kept log).conts h)
 rises-step log e f h = h
 
-pub rises : (log : Log) → Played log → OfBoots (start_of log).kept → Rises (start_of log).kept → Rises (kept log)
+pub rises : (log : Log) → IsPlayed log → OfBoots (start_of log).kept → Rises (start_of log).kept → Rises (kept log)
 rises (from k) p w h = h
 rises (log asks asked) p w h = rises log p.0 w h
 rises (log turns b) p w h = rises log p.0 w h

@@ -9,12 +9,12 @@ use Rattle.salt_laws.proofs.Sound.{Sound, sound-step}
 use Rattle.salt_model.specs.After.{kept}
 use Rattle.salt_model.specs.Continuing.{last_said}
 use Rattle.salt_model.specs.Releasing.{ReleasesDue, due_after, released_by}
-use Rattle.salt_model.specs.Isolation.{IsChain, ReadsReleased, IsSalted, is_linked, is_program_released, is_same_program, read_by}
+use Rattle.salt_model.specs.Isolation.{IsChain, IsSalted, ReadsReleased, is_linked, is_program_released, is_same_program, read_by}
 use Rattle.salt_model.specs.Kept.{Kept}
 use Rattle.salt_model.specs.Log.{Asked, Log, Start, from, program_of, released_in, start_of, ◌asks◌, ◌says◌, ◌turns◌}
 use Rattle.salt_model.specs.Next.{decision_in, flight, next, said_event}
 use Rattle.salt_model.specs.Phases.{Fallen, Opening, Phase, Serving, phase}
-use Rattle.salt_model.specs.Played.{Each, May, MayFall, MayOpen, Played, is_at_devices, is_device_next}
+use Rattle.salt_model.specs.Played.{Each, IsPlayed, May, MayFall, MayOpen, is_at_devices, is_device_next}
 use Rattle.salt_model.specs.Reads.{Written, to_release}
 use Rattle.salt_model.specs.Turns.{releases, settle}
 use Rattle.salt_model.specs.Words.{has_id}
@@ -117,7 +117,7 @@ held-says log (Down why) h f = record { sound = sound-step log (Down why) h.soun
 held-says log (Opened boot n) h f = with-next (log says Opened boot n) (sound-step log (Opened boot n) h.sound f) (salty-step log (Opened boot n) h.sound h.salty f) (fits-opened log boot n h.flies) refl
 held-says log e h f = let s = sound-step log e h.sound f in with-next (log says e) s (salty-step log e h.sound h.salty f) (fits-says log e s.drains) refl
 
-pub holds : (log : Log) → Played log → OfBoots (start_of log).kept → Kept_up log
+pub holds : (log : Log) → IsPlayed log → OfBoots (start_of log).kept → Kept_up log
 holds (from k) p w = record { sound = sound-start k w; salty = salty-start k; comes = tt; flies = tt }
 holds (log asks asked) p w = let r = holds log p.0 w in with-next (log asks asked) (sound-asks log asked r.sound) (salty-asks log asked r.salty) (fits-asked log asked p.1.0) refl
 holds (log turns b) p w = let r = holds log p.0 w in with-next (log turns b) (sound-turns log b r.sound) (salty-turns log b r.salty) (fits-turns log b p.1) refl
@@ -185,7 +185,7 @@ due-turns Serving log b (Some (Finished c)) = refl
 due-turns p log b o = refl
 
 -- where nothing is missing, no release is due
-due-done : (log : Log) → Played log → next log ≡ None → due log ≡ None
+due-done : (log : Log) → IsPlayed log → next log ≡ None → due log ≡ None
 due-done (from k) p n = refl
 due-done (log asks asked) p n = ap releases (due-asks (phase log) log asked (last_said log)) ∙ due-done log p.0 p.1.1
 due-done (log turns b) p n = ap releases (due-turns (phase log) log b (last_said log)) ∙ due-done log p.0 p.2
@@ -206,7 +206,7 @@ finished-some log b e Serving (c ∷ cs) f s t h = let g : Some (Released (c ∷
 finished-some log b e Opening (c ∷ cs) f s t h = cc
 finished-some log b e Fallen (c ∷ cs) f s t h = cc
 
-due-comes : (log : Log) (e : Event) → Played log → Fits log e → next log ≡ Some e → due log ≡ released_by e
+due-comes : (log : Log) (e : Event) → IsPlayed log → Fits log e → next log ≡ Some e → due log ≡ released_by e
 due-comes (from k) e p f n = cc
 due-comes (log asks asked) e p f n = let d : due (log asks asked) ≡ None = ap releases (due-asks (phase log) log asked (last_said log)) ∙ due-done log p.0 p.1.1 in d ∙ sym (no-release (log asks asked) e f d)
 due-comes (log turns b) e p f n = let d : due (log turns b) ≡ None = ap releases (due-turns (phase log) log b (last_said log)) ∙ due-done log p.0 p.2 in d ∙ sym (no-release (log turns b) e f d)
@@ -218,7 +218,7 @@ at-devices : (log : Log) (x : Event) → is_at_devices log x ≡ true → releas
 at-devices log (Released bs) h = cc
 at-devices log x h = refl
 
-due-falls : (log : Log) (why : Why) → Played log → IfComes (Comes log) (next log) → MayFall (phase log) log why → due log ≡ None
+due-falls : (log : Log) (why : Why) → IsPlayed log → IfComes (Comes log) (next log) → MayFall (phase log) log why → due log ≡ None
 due-falls log why p c m = go (phase log) refl m
   where
     its : (o : Option Event) → next log ≡ o → is_device_next log o ≡ true → due log ≡ None
@@ -230,7 +230,7 @@ due-falls log why p c m = go (phase log) refl m
     go Opening e g = ap releases (due-not (phase log) log (last_said log) (λ s. cc))
     go Fallen e g = ap releases (due-not (phase log) log (last_said log) (λ s. cc))
 
-due-at : (log : Log) (e : Event) → Played log → IfComes (Comes log) (next log) → May log e → ReleasesDue log e
+due-at : (log : Log) (e : Event) → IsPlayed log → IfComes (Comes log) (next log) → May log e → ReleasesDue log e
 due-at log (Down why) p c m = due-falls log why p c m
 due-at log (Opened boot n) p c m = let f : phase log ≡ Fallen = (may-open (phase log) log boot n m).0 in ap releases (due-not (phase log) log (last_said log) (λ s. cc))
 due-at log e p c m = due-comes log e p (comes-at log e c m).0 m
@@ -239,7 +239,7 @@ due-at log e p c m = due-comes log e p (comes-at log e c m).0 m
 abbrev Laws : Log → Event → Type 0
 Laws log e = ReadsReleased log e × ReleasesDue log e
 
-laws : (log : Log) → Played log → OfBoots (start_of log).kept → Each Laws log
+laws : (log : Log) → IsPlayed log → OfBoots (start_of log).kept → Each Laws log
 laws (from k) p w = tt
 laws (log asks asked) p w = laws log p.0 w
 laws (log turns b) p w = laws log p.0 w
@@ -254,8 +254,8 @@ each P Q f (log asks asked) h = each P Q f log h
 each P Q f (log turns b) h = each P Q f log h
 each P Q f (log says e) h = (each P Q f log h.0, f log e h.1)
 
-pub salted-played : (log : Log) → Played log → OfBoots (start_of log).kept → IsSalted log
+pub salted-played : (log : Log) → IsPlayed log → OfBoots (start_of log).kept → IsSalted log
 salted-played log p w = each Laws ReadsReleased (λ l e r. r.0) log (laws log p w)
 
-pub due-played : (log : Log) → Played log → OfBoots (start_of log).kept → Each ReleasesDue log
+pub due-played : (log : Log) → IsPlayed log → OfBoots (start_of log).kept → Each ReleasesDue log
 due-played log p w = each Laws ReleasesDue (λ l e r. r.1) log (laws log p w)

@@ -11,7 +11,7 @@ use Rattle.salt_model.specs.Ends.{kept_with}
 use Rattle.salt_model.specs.Log.{Log, start_of, ◌says◌}
 use Rattle.salt_model.specs.Next.{flight}
 use Rattle.salt_model.specs.Phases.{phase}
-use Rattle.salt_model.specs.Played.{Played}
+use Rattle.salt_model.specs.Played.{IsPlayed}
 use Rattle.salt_model.specs.Turns.{fresh_base}
 use Rattle.salt_model.specs.Words.{Every}
 use Rattle.salt_model.specs.declared.events.End.TheVariants.{Branched, Committed}
@@ -38,10 +38,10 @@ pub of-start : (k : Kept) → WellKept k → OfBoots k
 of-start k w = each-base k.boot k.conts w.boots
 
 -- what is kept at any place is as a start is to be, with the flight or without
-of-boots : (log : Log) → Played log → OfBoots (start_of log).kept → OfBoots (kept log)
+of-boots : (log : Log) → IsPlayed log → OfBoots (start_of log).kept → OfBoots (kept log)
 of-boots log p w b i = old-fallen (phase log) b (fresh_base log) ((holds log p w).sound.old_conts b i)
 
-of-boots-flight : (log : Log) → Played log → OfBoots (start_of log).kept → OfBoots (kept_with log (flight log))
+of-boots-flight : (log : Log) → IsPlayed log → OfBoots (start_of log).kept → OfBoots (kept_with log (flight log))
 of-boots-flight log p w = its (flight log) h.flies
   where
     h : Kept_up log
@@ -60,16 +60,16 @@ of-boots-flight log p w = its (flight log) h.flies
     its (Some (Defined n text)) g = of-boots log p w
     its (Some e) g = absurd g
 
-well-kept : (log : Log) → Played log → WellKept (start_of log).kept → WellKept (kept log)
+well-kept : (log : Log) → IsPlayed log → WellKept (start_of log).kept → WellKept (kept log)
 well-kept log p k =
     let w : OfBoots (start_of log).kept = of-start (start_of log).kept k in
     record { boots = base-each (kept log).boot (kept log).conts (of-boots log p w); accepted = rises log p w k.accepted }
 
-well-kept-flight : (log : Log) → Played log → WellKept (start_of log).kept → WellKept (kept_with log (flight log))
+well-kept-flight : (log : Log) → IsPlayed log → WellKept (start_of log).kept → WellKept (kept_with log (flight log))
 well-kept-flight log p k =
     let w : OfBoots (start_of log).kept = of-start (start_of log).kept k in
     let f = kept_with log (flight log) in
     record { boots = base-each f.boot f.conts (of-boots-flight log p w); accepted = rises-with log (flight log) (holds log p w).flies (rises log p w k.accepted) }
 
-pub kept-well : (log : Log) → Played log → WellKept (start_of log).kept → WellKept (kept log) × WellKept (kept_with log (flight log))
+pub kept-well : (log : Log) → IsPlayed log → WellKept (start_of log).kept → WellKept (kept log) × WellKept (kept_with log (flight log))
 kept-well log p k = (well-kept log p k, well-kept-flight log p k)

@@ -8,10 +8,10 @@ use Rattle.salt_laws.proofs.Coming.{Good}
 use Rattle.salt_laws.proofs.Every.{every-map}
 use Rattle.salt_laws.proofs.Replays.{good-event, replays}
 use Rattle.salt_model.specs.After.{reach_now}
-use Rattle.salt_model.specs.Isolation.{TouchesWhole, IsWhole, is_committed_standing, is_program_released, is_unreleased_part, touches_unreleased}
+use Rattle.salt_model.specs.Isolation.{IsWhole, TouchesWhole, is_committed_standing, is_program_released, is_unreleased_part, touches_unreleased}
 use Rattle.salt_model.specs.Locks.{Taken, as_held, family_of, lock_by, lock_of, saline_lock, taken_in, touches}
 use Rattle.salt_model.specs.Log.{Log, Over, Standing, from, kind_of, program_of_kind, released_in, standing, ◌asks◌, ◌says◌, ◌turns◌}
-use Rattle.salt_model.specs.Played.{Played}
+use Rattle.salt_model.specs.Played.{IsPlayed}
 use Rattle.salt_model.specs.Words.{Every, has_id}
 use Rattle.salt_model.specs.declared.events.Answer.{Answer}
 use Rattle.salt_model.specs.declared.events.End.TheVariants.{Committed}
@@ -61,7 +61,7 @@ touches-whole log u st a g acid = by (reach_now u log st) g.4
         (every-map (λ s. beside (Some (lock_of (Unit u) (family_of (kind_of u log)) r)) (as_held log s) ≡ true) (λ t. (touches t.reach r && is_unreleased_part log t) ≡ false)
         (λ t h. ap (λ b. b && is_unreleased_part log t) (touches-swap t.reach r) ∙ untouched-part log u r t (standing t.unit log) (kind_of t.unit log) (ap (λ f. beside (Some (lock_of (Unit u) f r)) (as_held log t)) (sym (acid-family (kind_of u log) acid)) ∙ h)) (taken_in log) c))
 
-pub whole : (log : Log) → Played log → IsWhole log
+pub whole : (log : Log) → IsPlayed log → IsWhole log
 whole (from k) p = tt
 whole (log asks line) p = whole log p.0
 whole (log turns b) p = whole log p.0

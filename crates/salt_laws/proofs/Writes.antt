@@ -9,7 +9,7 @@ use Rattle.salt_ast.specs.declared.trees.What.TheVariants.{Count}
 use Rattle.salt_laws.proofs.Every.{IfOk, IfSome, every-collect, every-passes, ok-all, ok-bind, ok-map}
 use Rattle.salt_laws.proofs.Places.{has-itself}
 use Rattle.salt_model.specs.Eval.{passes, truth_of, value_of, values_of}
-use Rattle.salt_model.specs.Statements.{Done, answering, change_to, changing, checked, collect, do_at, do_in, do_statement, done, first_value, in_row, inserted, key_reached, no_row, on_match, range_of, reach, reach_at, reach_in, reached, removed, seen, shown, stored, table_for, updated, with_sets}
+use Rattle.salt_model.specs.Statements.{Done, answering, change_to, changing, checked, collect, do_at, do_in, done, first_value, in_row, inserted, key_reached, no_row, on_match, outcome_of, range_of, reach, reach_at, reach_in, reached, removed, seen, shown, stored, table_for, updated, with_sets}
 use Rattle.salt_model.specs.Tables.{Entry, Tables, changed_at, is_within, key_of, place, rows_in}
 use Rattle.salt_model.specs.Words.{Every, and_then}
 use Rattle.salt_model.specs.declared.events.Answer.TheVariants.{Count}
@@ -124,11 +124,11 @@ at-writes vars st None rows h = tt
 at-writes vars st (Some d) rows h = done-writes (reach_in d.0 vars st) vars (do_in d.0 d.1 vars st rows) (in-writes d.0 d.1 vars st rows h)
 
 -- the keys that a statement changes lie in its reach, in Write mode
-pub statement-writes : (schema : List TableDef) (es : Tables) (vars : List Binding) (st : Statement) → Every (Writes (reach schema vars st)) (do_statement schema es vars st).changes
-unfolding do_statement reach
+pub statement-writes : (schema : List TableDef) (es : Tables) (vars : List Binding) (st : Statement) → Every (Writes (reach schema vars st)) (outcome_of schema es vars st).changes
+unfolding outcome_of reach
 statement-writes schema es vars st = at-writes vars st (table_for schema st) (rows_in (reach schema vars st) es) (rows-in (reach schema vars st) es)
 
 -- the frame law: tables with the same entries in the reach do the same
-pub statement-frame : (schema : List TableDef) (a b : Tables) (vars : List Binding) (st : Statement) → rows_in (reach schema vars st) a ≡ rows_in (reach schema vars st) b → do_statement schema a vars st ≡ do_statement schema b vars st
-unfolding do_statement
+pub statement-frame : (schema : List TableDef) (a b : Tables) (vars : List Binding) (st : Statement) → rows_in (reach schema vars st) a ≡ rows_in (reach schema vars st) b → outcome_of schema a vars st ≡ outcome_of schema b vars st
+unfolding outcome_of
 statement-frame schema a b vars st e = ap (do_at vars st (table_for schema st)) e

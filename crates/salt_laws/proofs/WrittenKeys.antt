@@ -11,7 +11,7 @@ use Rattle.salt_laws.specs.Names.{is_named, is_unit_of}
 use Rattle.salt_laws.specs.Rewordings.{WritesAtEnd, is_changed, is_written}
 use Rattle.salt_model.specs.After.{changes_now, run_of}
 use Rattle.salt_model.specs.Log.{Log, from, is_open, start_of, ◌asks◌, ◌says◌, ◌turns◌}
-use Rattle.salt_model.specs.Played.{Each, May, Played}
+use Rattle.salt_model.specs.Played.{Each, IsPlayed, May}
 use Rattle.salt_model.specs.Reads.{Written, written_by, wrote_of}
 use Rattle.salt_model.specs.Statements.{Run}
 use Rattle.salt_model.specs.Tables.{Edits, changed_at, place_cmp, place_total, put_change, put_changes}
@@ -109,7 +109,7 @@ same-says log e inv s m f h u o = by (is_unit_of u e) refl
     by true i = same-own log e u inv s m f h o i
     by false n = let was = open-other log e u n o in same-other log e u inv m (h u was) was n
 
-same : (log : Log) → Played log → OfBoots (start_of log).kept → (u : Id) → Open log u → Same log u
+same : (log : Log) → IsPlayed log → OfBoots (start_of log).kept → (u : Id) → Open log u → Same log u
 same (from k) p w = λ u o. cc
 same (log asks asked) p w = same log p.0 w
 same (log turns b) p w = same log p.0 w
@@ -119,7 +119,7 @@ at-end : (log : Log) (e : Event) → ((u : Id) → Open log u → Same log u) �
 at-end log (Ended u (Committed n)) h f = h u f.0
 at-end log e h f = tt
 
-pub written-at-end : (log : Log) → Played log → OfBoots (start_of log).kept → Each WritesAtEnd log
+pub written-at-end : (log : Log) → IsPlayed log → OfBoots (start_of log).kept → Each WritesAtEnd log
 written-at-end (from k) p w = tt
 written-at-end (log asks asked) p w = written-at-end log p.0 w
 written-at-end (log turns b) p w = written-at-end log p.0 w

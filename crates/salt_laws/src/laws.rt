@@ -1,4 +1,4 @@
-//! The laws, each on a function that does nothing. `Played` (salt_model, specs/Played.antt) is a log that a
+//! The laws, each on a function that does nothing. `IsPlayed` (salt_model, specs/Played.antt) is a log that a
 //! run may tell; `WellKept` is what a start has to be, and the empty one is.
 
 ghost use Rattle.salt_model.specs.After.{kept};
@@ -11,55 +11,55 @@ ghost use Rattle.salt_model.specs.Kept.{WellKept};
 ghost use Rattle.salt_model.specs.Locks.{NoneConflict, held};
 ghost use Rattle.salt_model.specs.Log.{Log, start_of};
 ghost use Rattle.salt_model.specs.Next.{flight};
-ghost use Rattle.salt_model.specs.Played.{Each, Played};
+ghost use Rattle.salt_model.specs.Played.{Each, IsPlayed};
 ghost use Rattle.salt_model.specs.Releasing.{ReleasesExactly};
 ghost use Rattle.salt_laws.specs.Rewordings.{WritesAtEnd};
 
 /// The answers printed for each unit are those of doing its statements one after another on the tables of
 /// the commits so far; a failed answer is its last, and its end says so.
 pub fn played_is_honest()
-    ensures { (log : Log) → Played log → IsHonest log }
+    ensures { (log : Log) → IsPlayed log → IsHonest log }
 {}
 
 /// What an ACID unit touches of a BASE program's committed parts, it touches when the program is released.
 pub fn played_is_whole()
-    ensures { (log : Log) → Played log → IsWhole log }
+    ensures { (log : Log) → IsPlayed log → IsWhole log }
 {}
 
 /// No two held locks of different owners clash, but for an alkaline one beside a saline one.
 pub fn held_locks_stand_together()
-    ensures { (log : Log) → Played log → NoneConflict (held log) }
+    ensures { (log : Log) → IsPlayed log → NoneConflict (held log) }
 {}
 
 /// What an ACID unit reads comes, by any chain of readers, from no BASE program that is not released.
 pub fn played_is_salted()
-    ensures { (log : Log) → Played log → WellKept (start_of log).kept → IsSalted log }
+    ensures { (log : Log) → IsPlayed log → WellKept (start_of log).kept → IsSalted log }
 {}
 
 /// A release comes exactly when programs are due, and names exactly those that are finished with all that
 /// they read from, and not yet released.
 pub fn played_releases_exactly()
-    ensures { (log : Log) → Played log → WellKept (start_of log).kept → ReleasesExactly log }
+    ensures { (log : Log) → IsPlayed log → WellKept (start_of log).kept → ReleasesExactly log }
 {}
 
 /// Each accepted BASE program goes along its declared path, and each opening that is completed brings every
 /// one of them to its end.
 pub fn played_is_continued()
-    ensures { (log : Log) → Played log → WellKept (start_of log).kept → IsContinued log }
+    ensures { (log : Log) → IsPlayed log → WellKept (start_of log).kept → IsContinued log }
 {}
 
 /// Decisions are numbered one by one, through every stop, and an opening tells at most the one in flight.
 pub fn played_is_kept()
-    ensures { (log : Log) → Played log → WellKept (start_of log).kept → IsKept log }
+    ensures { (log : Log) → IsPlayed log → WellKept (start_of log).kept → IsKept log }
 {}
 
 /// What is kept after a log, with the flight or without, is as a start has to be: a next run may begin with it.
 pub fn kept_stays_well_kept()
-    ensures { (log : Log) → Played log → WellKept (start_of log).kept → WellKept (kept log) × WellKept (kept_with log (flight log)) }
+    ensures { (log : Log) → IsPlayed log → WellKept (start_of log).kept → WellKept (kept log) × WellKept (kept_with log (flight log)) }
 {}
 
 /// The keys that a committed unit wrote, each as its statement was done, are those that its changes name
 /// when all of them are done anew at its commit.
 pub fn changes_are_those_written()
-    ensures { (log : Log) → Played log → WellKept (start_of log).kept → Each WritesAtEnd log }
+    ensures { (log : Log) → IsPlayed log → WellKept (start_of log).kept → Each WritesAtEnd log }
 {}

@@ -4,7 +4,7 @@ use Rattle.salt_ast.specs.declared.lines.Line.{Line}
 use Rattle.salt_ast.specs.declared.trees.Statement.{Statement}
 use Rattle.salt_model.specs.Kept.{Definition, Kept, OfProgram, OfTable, conts_branched, conts_committed, schema_of, vars_of_kind}
 use Rattle.salt_model.specs.Log.{Log, done_of, from, kind_of, line_of, ◌asks◌, ◌says◌, ◌turns◌}
-use Rattle.salt_model.specs.Statements.{Run, do_statement, reach, serial}
+use Rattle.salt_model.specs.Statements.{Run, outcome_of, reach, serial}
 use Rattle.salt_model.specs.Tables.{Tables}
 use Rattle.salt_model.specs.declared.events.Answer.{Answer}
 use Rattle.salt_model.specs.declared.events.End.TheVariants.{Branched, Committed}
@@ -82,8 +82,8 @@ abbrev pub reach_now : Id → Log → Statement → Option Reach
 reach_now u log st = reach (schema_of (kept log)) (run_of u log).vars st
 
 abbrev pub answer_now : Id → Log → Statement → Answer
-answer_now u log st = let run = run_of u log in (do_statement (schema_of (kept log)) run.tables run.vars st).answer
+answer_now u log st = let run = run_of u log in (outcome_of (schema_of (kept log)) run.tables run.vars st).answer
 
 -- the changes that a statement of the unit makes here
 abbrev pub changes_now : Id → Log → Statement → List Change
-changes_now u log st = let run = run_of u log in (do_statement (schema_of (kept log)) run.tables run.vars st).changes
+changes_now u log st = let run = run_of u log in (outcome_of (schema_of (kept log)) run.tables run.vars st).changes

@@ -31,7 +31,7 @@ use Rattle.salt_model.specs.declared.shown.Item.{Item}
 use Rattle.salt_values.specs.declared.id.Id.{Id}
 use Rattle.salt_values.specs.declared.value.Value.{Value}
 use Rattle.std.specs.Fmt.{decimal}
-use Rattle.std.specs.Prelude.{List, None, Option, Some, [], codes, flat_map, length, slice_get, ℕ, ◌++◌, ◌∷◌}
+use Rattle.std.specs.Prelude.{List, None, Option, Some, [], codes, flat_map, length, slice_get, ℕ, ⊤, ◌++◌, ◌∷◌}
 
 -- a unit's name, as u1.2
 abbrev pub unit_text : Id → List ℕ
@@ -151,3 +151,8 @@ event_text schema e = event_line schema e ++ 10 ∷ []
 -- the lines of a story, one after another
 abbrev pub story_text : List TableDef → List Event → List ℕ
 story_text schema events = flat_map (event_text schema) events
+
+-- an event that shows nothing reads the same under each schema
+abbrev pub ShowsNothing : Event → Type 0
+ShowsNothing (event.Shown items) = ⊥
+ShowsNothing e = ⊤

@@ -1,6 +1,7 @@
 -- The relation between the lines done and the story.
+use Rattle.salt_model.specs.Kept.{nothing_kept}
 use Rattle.salt_model.specs.After.{kept, reach_now}
-use Rattle.salt_model.specs.Log.{Log, from, ◌asks◌, ◌says◌, ◌turns◌}
+use Rattle.salt_model.specs.Log.{Log, Start, from, start_of, story_of, ◌asks◌, ◌says◌, ◌turns◌}
 use Rattle.salt_model.specs.Next.{flight, is_decision, next}
 use Rattle.salt_model.specs.Phases.{Fallen, Opening, Phase, Serving, downs, has_opened, phase}
 use Rattle.salt_model.specs.Turns.{next_number, next_turn}
@@ -8,7 +9,7 @@ use Rattle.salt_model.specs.declared.events.Event.TheVariants.{Did, Down, Opened
 use Rattle.salt_model.specs.declared.events.Event.{Event}
 use Rattle.salt_model.specs.declared.events.Why.TheVariants.{Fault, Stopped}
 use Rattle.salt_model.specs.declared.events.Why.{Why}
-use Rattle.std.specs.Prelude.{Bool, IsSome, IsTrue, None, Option, Some, false, if◌then◌else◌, is_some, not, true, ℕ, ⊤, ◌&&◌, ◌+◌, ◌<◌, ◌≡◌, ◌≤◌, ◌⊎◌}
+use Rattle.std.specs.Prelude.{Bool, IsSome, IsTrue, List, None, Option, Some, false, if◌then◌else◌, is_some, not, true, ℕ, ⊤, ◌&&◌, ◌+◌, ◌<◌, ◌≡◌, ◌≤◌, ◌⊎◌}
 
 -- a fact of each event and the log before it
 abbrev pub Each : (Log → Event → Type 0) → Log → Type 0
@@ -67,8 +68,18 @@ abbrev pub IsComplete : Log → Type 0
 IsComplete log = (phase log ≡ Serving) × (next log ≡ None) × (next_turn log ≡ None)
 
 -- each event may stand where it stands, and each segment is complete when the next line is asked
-abbrev pub Played : Log → Type 0
-Played (from k) = ⊤
-Played (log asks asked) = Played log × IsComplete log
-Played (log turns b) = Played log × (phase log ≡ Serving) × (next log ≡ None) × (next_turn log ≡ Some b)
-Played (log says e) = Played log × May log e
+abbrev pub IsPlayed : Log → Type 0
+IsPlayed (from k) = ⊤
+IsPlayed (log asks asked) = IsPlayed log × IsComplete log
+IsPlayed (log turns b) = IsPlayed log × (phase log ≡ Serving) × (next log ≡ None) × (next_turn log ≡ Some b)
+IsPlayed (log says e) = IsPlayed log × May log e
+
+-- nothing is kept, over disks that can't be stopped
+abbrev pub empty_start : Start
+empty_start = record { kept = nothing_kept; can_stop = false }
+
+-- the story is that of a log which is played from this start
+pub record Tells (start : Start) (log : Log) (story : List Event) : Type 0 where
+  pub begins : start_of log ≡ start
+  pub told : story_of log ≡ story
+  pub played : IsPlayed log

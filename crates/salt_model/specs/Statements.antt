@@ -205,8 +205,8 @@ do_at vars st None rows = failing vars Missing
 do_at vars st (Some d) rows = done vars (do_in d.0 d.1 vars st rows)
 
 -- doing a statement on the tables: it sees the entries in its reach, and no others
-unfoldable pub do_statement : List TableDef → Tables → List Binding → Statement → Done
-do_statement schema tables vars st = do_at vars st (table_for schema st) (rows_in (reach schema vars st) tables)
+unfoldable pub outcome_of : List TableDef → Tables → List Binding → Statement → Done
+outcome_of schema tables vars st = do_at vars st (table_for schema st) (rows_in (reach schema vars st) tables)
 
 -- what doing statements one after another gives
 pub record Run : Type 0 where
@@ -234,7 +234,7 @@ after_done r reach d = record {
 }
 
 abbrev pub doing : List TableDef → Run → Statement → Done
-doing schema r st = do_statement schema r.tables r.vars st
+doing schema r st = outcome_of schema r.tables r.vars st
 
 abbrev pub with_done : List TableDef → Run → Statement → Run
 with_done schema r st = after_done r (reach schema r.vars st) (doing schema r st)

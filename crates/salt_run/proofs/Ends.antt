@@ -1,19 +1,20 @@
 -- From line to line, and how a run ends.
+use Rattle.salt_model.specs.Words.{Every}
 use Rattle.salt_engine.specs.Engine.{Grows}
 use Rattle.salt_engine.specs.declared.engine.Engine.{Engine}
 use Rattle.salt_io.specs.Lines.{IsCutOff, Reading, TakesLine, TakesLong, TakesNoLine}
 use Rattle.salt_io.specs.declared.lines.LineErr.{LineErr}
 use Rattle.salt_io.specs.Streams.{Gains, GainsSome, IsAtEnd, bytes_before}
-use Rattle.salt_model.specs.EventTexts.{event_text, story_text}
+use Rattle.salt_model.specs.EventTexts.{ShowsNothing, event_text}
 use Rattle.salt_model.specs.Lines.{AskInOrder, Asks}
 use Rattle.salt_model.specs.Log as log_words
 use Rattle.salt_model.specs.Log.{Asked, Log}
-use Rattle.salt_model.specs.Played.{Tells}
+use Rattle.salt_model.specs.Played.{Tells, empty_start}
 use Rattle.salt_model.specs.declared.events.Event.{Event}
 use Rattle.salt_print.proofs.Joins.{Gains-append}
 use Rattle.salt_run.proofs.Places.{end-place, fault-place, long-place, memory-place, next-place, write-place}
 use Rattle.salt_run.specs.Run.{longest_script}
-use Rattle.salt_run.specs.Serving.{IsAt, IsDone, IsEnded, IsLeftIn, IsServing, StopsTelling, TextAsks, added_text, rest_of, status_of, stop_of}
+use Rattle.salt_run.specs.Serving.{IsAt, IsDone, IsEnded, IsLeftIn, IsServing, StopsTelling, TextAsks, added_text, rest_of, status_of, stop_of, told_text}
 use Rattle.salt_run.specs.declared.serving.Stop.{Stop}
 use Rattle.salt_run.specs.declared.serving.Stop.TheVariants as stop
 use Rattle.salt_run.specs.declared.status.Status.TheVariants.{Done, Memory, ReadFault, ScriptTooLong, WriteFault}
@@ -27,19 +28,26 @@ ask-one [] (l ∷ lines) text line h a = absurd h
 ask-one (t ∷ texts) [] text line h a = absurd h
 ask-one (t ∷ texts) (l ∷ lines) text line h a = (h.0, ask-one texts lines text line h.1 a)
 
-story_text-append : (story more : List Event) → story_text (story ++ more) ≡ story_text story ++ story_text more
-story_text-append [] more = refl
-story_text-append (e ∷ story) more = ap (λ t. event_text e ++ t) (story_text-append story more) ∙ sym (append_assoc (event_text e) (story_text story) (story_text more))
+told_text-append : (story more : List Event) → told_text (story ++ more) ≡ told_text story ++ told_text more
+told_text-append [] more = refl
+told_text-append (e ∷ story) more = ap (λ t. event_text [] e ++ t) (told_text-append story more) ∙ sym (append_assoc (event_text [] e) (told_text story) (told_text more))
 
 drop-front : {A : Type 0} (xs ys : List A) → drop (length xs) (xs ++ ys) ≡ ys
 drop-front [] ys = refl
 drop-front (x ∷ xs) ys = drop-front xs ys
 
 -- a story's text is that of what was told before, and of what was added
-grown-text : (story told : List Event) → Grows story told → story_text told ≡ story_text story ++ added_text story told
+grown-text : (story told : List Event) → Grows story told → told_text told ≡ told_text story ++ added_text story told
 grown-text story told grows =
-    ap story_text grows.1 ∙ story_text-append story grows.0
-    ∙ ap (λ l. story_text story ++ story_text l) (sym (drop-front story grows.0) ∙ ap (drop (length story)) (sym grows.1))
+    ap told_text grows.1 ∙ told_text-append story grows.0
+    ∙ ap (λ l. told_text story ++ told_text l) (sym (drop-front story grows.0) ∙ ap (drop (length story)) (sym grows.1))
+
+every-more : (story more : List Event) → Every ShowsNothing story → Every ShowsNothing more → Every ShowsNothing (story ++ more)
+every-more [] more h g = g
+every-more (e ∷ story) more h g = (h.0, every-more story more h.1 g)
+
+grown-unshown : (story told : List Event) → Grows story told → Every ShowsNothing story → Every ShowsNothing told
+grown-unshown story told grows h = subst (Every ShowsNothing) (sym grows.1) (every-more story grows.0 h grows.2)
 
 gains-some : (before : Option (List ℕ)) (text : List ℕ) (held : Option (List ℕ)) → Gains before text held → GainsSome before text held
 gains-some before text held g = record { part = text; others = []; whole = sym (append-nil text); gained = g }
@@ -78,7 +86,8 @@ module _ (script before : Option (List ℕ)) (old new : Engine) (reading : Readi
           serves = goes.serves;
           asked = asked-here done.0 goes.after goes.asks done.1;
           place = here;
-          written = subst (λ t. Gains before t held_after) (sym (grown-text story told goes.grows)) (Gains-append (story_text story) (added_text story told) before held held_after serving.written written);
+          written = subst (λ t. Gains before t held_after) (sym (grown-text story told goes.grows)) (Gains-append (told_text story) (added_text story told) before held held_after serving.written written);
+          unshown = grown-unshown story told goes.grows serving.unshown;
           numbers = record {
             units = omega (arith, serving.numbers.units, goes.rise.units, taken.takes.some, taken.takes.counted);
             decisions = omega (arith, serving.numbers.decisions, goes.rise.decisions, taken.takes.some, taken.takes.counted);
@@ -91,12 +100,13 @@ module _ (script before : Option (List ℕ)) (old new : Engine) (reading : Readi
       played = record {
         log = serving.log;
         texts = serving.texts;
-        tells = subst (λ t. Tells serving.log t) (sym is) serving.serves.tells;
+        tells = subst (λ t. Tells empty_start serving.log t) (sym is) serving.serves.tells;
         asked = serving.asked;
         lines = memory-place script reading.taken (rest_of reading left) left_end serving.texts serving.place;
         leaves = tt;
       };
-      written = gains-some before (story_text told) held_after (subst (λ t. Gains before (story_text t) held_after) (sym is) (subst (Gains before (story_text story)) (sym same) serving.written));
+      written = gains-some before (told_text told) held_after (subst (λ t. Gains before (told_text t) held_after) (sym is) (subst (Gains before (told_text story)) (sym same) serving.written));
+      unshown = subst (Every ShowsNothing) (sym is) serving.unshown;
     }
     left-in held_after left_end same (inr broken) =
         let breaks = broken.2 serving.log serving.serves in
@@ -109,7 +119,8 @@ module _ (script before : Option (List ℕ)) (old new : Engine) (reading : Readi
             lines = memory-place script reading_after.taken (rest_of reading_after left_after) left_end (serving.texts ++ taken.line ∷ []) here;
             leaves = tt;
           };
-          written = subst (λ t. GainsSome before t held_after) (sym (grown-text story told breaks.grows)) (gains-front (story_text story) (added_text story told) before held_after (subst (Gains before (story_text story)) (sym same) serving.written));
+          written = subst (λ t. GainsSome before t held_after) (sym (grown-text story told breaks.grows)) (gains-front (told_text story) (added_text story told) before held_after (subst (Gains before (told_text story)) (sym same) serving.written));
+          unshown = grown-unshown story told breaks.grows serving.unshown;
         }
 
     half-written : (held_after left_end : Option (List ℕ)) → IsDone text old story new told → GainsSome held (added_text story told) held_after → IsEnded WriteFault script left_end before told held_after
@@ -124,7 +135,8 @@ module _ (script before : Option (List ℕ)) (old new : Engine) (reading : Readi
             lines = write-place script reading_after.taken (rest_of reading_after left_after) left_end (serving.texts ++ taken.line ∷ []) here;
             leaves = goes.serves.complete;
           };
-          written = subst (λ t. GainsSome before t held_after) (sym (grown-text story told goes.grows)) (gains-then-some (story_text story) (added_text story told) before held held_after serving.written written);
+          written = subst (λ t. GainsSome before t held_after) (sym (grown-text story told goes.grows)) (gains-then-some (told_text story) (added_text story told) before held held_after serving.written written);
+          unshown = grown-unshown story told goes.grows serving.unshown;
         }
 
     pub telling-stops : (held_after left_end : Option (List ℕ)) (s : Stop) → StopsTelling text old story new told held held_after s → IsEnded (status_of s) script left_end before told held_after
@@ -145,6 +157,7 @@ module _ (script before : Option (List ℕ)) (old new : Engine) (reading : Readi
       leaves = serving.serves.complete;
     };
     written = serving.written;
+    unshown = serving.unshown;
   }
 
   pub fault-ends : (left_end : Option (List ℕ)) → TakesNoLine (rest_of reading left) left_end → IsEnded ReadFault script left_end before story held
@@ -158,6 +171,7 @@ module _ (script before : Option (List ℕ)) (old new : Engine) (reading : Readi
       leaves = serving.serves.complete;
     };
     written = serving.written;
+    unshown = serving.unshown;
   }
 
   pub long-ends : (left_end : Option (List ℕ)) → IsCutOff (longest_script - reading.taken) (rest_of reading left) → IsEnded ScriptTooLong script left_end before story held
@@ -171,6 +185,7 @@ module _ (script before : Option (List ℕ)) (old new : Engine) (reading : Readi
       leaves = serving.serves.complete;
     };
     written = serving.written;
+    unshown = serving.unshown;
   }
 
   pub memory-ends : (left_end : Option (List ℕ)) → IsEnded Memory script left_end before story held
@@ -183,7 +198,8 @@ module _ (script before : Option (List ℕ)) (old new : Engine) (reading : Readi
       lines = memory-place script reading.taken (rest_of reading left) left_end serving.texts serving.place;
       leaves = tt;
     };
-    written = gains-some before (story_text story) held serving.written;
+    written = gains-some before (told_text story) held serving.written;
+    unshown = serving.unshown;
   }
 
   -- why the next line was not read

@@ -2,3 +2,4 @@ pub mod Places
 pub mod Ends
 pub mod Openings
 pub mod RunWord
+pub mod Read

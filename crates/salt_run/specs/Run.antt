@@ -1,12 +1,19 @@
 -- What a run has to be: its story, its lines, and how far it came.
 use Rattle.salt_io.specs.Lines.{lines_of, script_of}
 use Rattle.salt_io.specs.Streams.{Gains, GainsSome, IsAtEnd, bytes_before}
-use Rattle.salt_model.specs.EventTexts.{story_text}
 use Rattle.salt_model.specs.Lines.{AskInOrder}
 use Rattle.salt_model.specs.Log as log_words
-use Rattle.salt_model.specs.Log.{Fallen, Log}
-use Rattle.salt_model.specs.Next.{phase}
-use Rattle.salt_model.specs.Played.{IsComplete, Tells}
+use Rattle.salt_model.specs.Log.{Log}
+use Rattle.salt_model.specs.Phases.{Fallen, phase}
+use Rattle.salt_model.specs.Played.{IsComplete, Tells, empty_start}
+use Rattle.salt_model.specs.Continuing.{IsContinued}
+use Rattle.salt_model.specs.Decided.{IsKept}
+use Rattle.salt_model.specs.EventTexts.{story_text}
+use Rattle.salt_model.specs.Honest.{IsHonest}
+use Rattle.salt_model.specs.Isolation.{IsSalted, IsWhole}
+use Rattle.salt_model.specs.Locks.{NoneConflict, held}
+use Rattle.salt_model.specs.Releasing.{ReleasesExactly}
+use Rattle.salt_ast.specs.declared.trees.TableDef.{TableDef}
 use Rattle.salt_model.specs.declared.events.Event.{Event}
 use Rattle.salt_run.specs.declared.status.Status.{Status}
 use Rattle.salt_run.specs.declared.status.Status.TheVariants.{Done, Memory, ReadFault, ScriptTooLong, Usage, WriteFault}
@@ -52,16 +59,30 @@ MayLeave ScriptTooLong log = IsComplete log
 pub record IsPlayedRun (status : Status) (script left : Option (List ℕ)) (story : List Event) : Type 0 where
   pub log : Log
   pub texts : List (List ℕ)
-  pub tells : Tells log story
+  pub tells : Tells empty_start log story
   pub asked : AskInOrder texts (log_words.lines_of log)
   pub lines : AreLinesOf status script left texts
   pub leaves : MayLeave status log
 
--- what the sink gained: the story's text, where memory or the sink failed a front of it
-abbrev pub IsWritten : Status → Option (List ℕ) → List Event → Option (List ℕ) → Type 0
-IsWritten Memory before story now = GainsSome before (story_text story) now
-IsWritten WriteFault before story now = GainsSome before (story_text story) now
-IsWritten Done before story now = Gains before (story_text story) now
-IsWritten ReadFault before story now = Gains before (story_text story) now
-IsWritten ScriptTooLong before story now = Gains before (story_text story) now
-IsWritten Usage before story now = Gains before (story_text story) now
+-- what is promised of a played log
+pub record Promises (log : Log) : Type 0 where
+  pub honest : IsHonest log
+  pub salted : IsSalted log
+  pub whole : IsWhole log
+  pub releases : ReleasesExactly log
+  pub continued : IsContinued log
+  pub kept : IsKept log
+  pub apart : NoneConflict (held log)
+
+-- what the sink gained: the text, where memory or the sink failed a front of it
+abbrev pub IsWritten : Status → Option (List ℕ) → List ℕ → Option (List ℕ) → Type 0
+IsWritten Memory before text now = GainsSome before text now
+IsWritten WriteFault before text now = GainsSome before text now
+IsWritten Done before text now = Gains before text now
+IsWritten ReadFault before text now = Gains before text now
+IsWritten ScriptTooLong before text now = Gains before text now
+IsWritten Usage before text now = Gains before text now
+
+-- the text of a story, under each schema: none of its events shows locks, which alone name tables by number
+abbrev pub IsTold : Status → Option (List ℕ) → List Event → Option (List ℕ) → Type 0
+IsTold status before story now = (schema : List TableDef) → IsWritten status before (story_text schema story) now

@@ -3,7 +3,8 @@ use Rattle.salt_engine.specs.Engine.{BreaksOff, GoesOn, Serves}
 use Rattle.salt_engine.specs.declared.engine.Engine.{Engine}
 use Rattle.salt_io.specs.Lines.{Reading, lines_of, script_of}
 use Rattle.salt_io.specs.Streams.{Gains, GainsSome, IsAtEnd, bytes_before}
-use Rattle.salt_model.specs.EventTexts.{story_text}
+use Rattle.salt_model.specs.EventTexts.{ShowsNothing, story_text}
+use Rattle.salt_model.specs.Words.{Every}
 use Rattle.salt_model.specs.Lines.{AskInOrder, Asks}
 use Rattle.salt_model.specs.Log as log_words
 use Rattle.salt_model.specs.Log.{Asked, Log, Unread}
@@ -40,6 +41,10 @@ pub record HasNumbers (e : Engine) (taken : ℕ) : Type 0 where
   pub units : e.units ≤ taken
   pub decisions : e.decisions ≤ taken
 
+-- a text that names no table, as the run writes it
+abbrev pub told_text : List Event → List ℕ
+told_text story = story_text [] story
+
 -- a run between its lines: of a script, over a sink that held these bytes
 pub record IsServing (script before : Option (List ℕ)) (e : Engine) (reading : Reading) (left : Option (List ℕ)) (story : List Event) (held : Option (List ℕ)) : Type 0 where
   pub log : Log
@@ -47,7 +52,8 @@ pub record IsServing (script before : Option (List ℕ)) (e : Engine) (reading :
   pub serves : Serves e story log
   pub asked : AskInOrder texts (log_words.lines_of log)
   pub place : IsAt script reading.taken (rest_of reading left) texts
-  pub written : Gains before (story_text story) held
+  pub written : Gains before (told_text story) held
+  pub unshown : Every ShowsNothing story
   pub numbers : HasNumbers e reading.taken
   pub within : reading.taken ≤ longest_script
 
@@ -66,7 +72,7 @@ IsLeftIn text old story told = (told ≡ story) ⊎ ((asked : Asked) × TextAsks
 
 -- the text of the events that a line has added
 abbrev pub added_text : List Event → List Event → List ℕ
-added_text story told = story_text (drop (length story) told)
+added_text story told = told_text (drop (length story) told)
 
 -- how the telling of a line stops: in the line, or with its events written in part
 abbrev pub StopsTelling : Option (List ℕ) → Engine → List Event → Engine → List Event → Option (List ℕ) → Option (List ℕ) → Stop → Type 0
@@ -82,7 +88,7 @@ opening = Opened 1 0 ∷ Ready ∷ []
 -- how an opening stops: before all of it is told, or with it written in part
 abbrev pub StopsOpening : List Event → Option (List ℕ) → Option (List ℕ) → Stop → Type 0
 StopsOpening told before held Memory = ((told ≡ []) ⊎ (told ≡ Opened 1 0 ∷ [])) × (held ≡ before)
-StopsOpening told before held WriteFault = (told ≡ opening) × GainsSome before (story_text opening) held
+StopsOpening told before held WriteFault = (told ≡ opening) × GainsSome before (told_text opening) held
 StopsOpening told before held ReadFault = ⊥
 StopsOpening told before held ScriptTooLong = ⊥
 
@@ -100,7 +106,8 @@ status_of ScriptTooLong = status.ScriptTooLong
 -- a run that has ended
 pub record IsEnded (end : Status) (script left before : Option (List ℕ)) (story : List Event) (held : Option (List ℕ)) : Type 0 where
   pub played : IsPlayedRun end script left story
-  pub written : IsWritten end before story held
+  pub written : IsWritten end before (told_text story) held
+  pub unshown : Every ShowsNothing story
 
 -- after a line: the run goes on, or the script was at its end
 abbrev pub IsAfterLine : Bool → Option (List ℕ) → Option (List ℕ) → Engine → Reading → Option (List ℕ) → List Event → Option (List ℕ) → Type 0

@@ -2,12 +2,10 @@
 
 ghost use Rattle.std.specs.Prelude.{◌≡◌, ◌≤◌, ◌↔◌, [], List, None};
 ghost use Rattle.salt_io.specs.Streams.{IsAtEnd, Rose};
-ghost use Rattle.salt_model.specs.Honest.{IsHonest};
-ghost use Rattle.salt_model.specs.Log.{Log};
-ghost use Rattle.salt_model.specs.Played.{Tells};
-ghost use Rattle.salt_run.specs.Run.{IsPlayedRun, IsWritten};
+ghost use Rattle.salt_run.specs.Run.{IsPlayedRun, IsTold, Promises};
 ghost use Rattle.salt_run.specs.Words.{IsRunAlone};
 
+use crate::promises::told_keeps_promises;
 use crate::serving::{serve, status_of};
 use crate::status::{Ended, Status};
 use crate::words::is_run_alone;
@@ -32,12 +30,10 @@ pub fn run<S: Source, K: Sink, D: Disks, F: Fn(PlaceKind, &Key, u32) -> u32>(
     ensures usage { (result.status ≡ Status.Usage) ↔ (IsRunAlone words.now → ⊥) }
     ensures untouched { result.status ≡ Status.Usage → (source.new ≡ source.old) × (sink.new ≡ sink.old) × (result.story ≡ []) }
 
-    // The story is that of a played log, whose lines are those of the source's bytes.
-    ensures played { IsPlayedRun result.status (S.left source.old) (S.left source.new) result.story }
-    // Its printed answers are those of one unit at a time, in the order of commits.
-    ensures honest { (log : Log) × Tells log result.story × IsHonest log }
+    // The story is that of a log that is played, whose lines are those of the source's bytes; and the log keeps each promise.
+    ensures played { (told : IsPlayedRun result.status (S.left source.old) (S.left source.new) result.story) × Promises told.log }
     // The sink gains the story's text.
-    ensures text { IsWritten result.status (K.held sink.old) result.story (K.held sink.new) }
+    ensures text { IsTold result.status (K.held sink.old) result.story (K.held sink.new) }
 
     // Each status but want of memory has its cause.
     ensures done { result.status ≡ Status.Done → IsAtEnd (S.left source.new) }
@@ -49,6 +45,8 @@ pub fn run<S: Source, K: Sink, D: Disks, F: Fn(PlaceKind, &Key, u32) -> u32>(
     ensures disks { disks.new ≡ disks.old }
     ensures flight { result.flight ≡ None }
 {
+    // For the proof alone: what holds of each story.
+    told_keeps_promises();
     let mut story = Items::new(alloc);
     let status = if is_run_alone(words) {
         match serve(alloc, source, sink, &mut story) {

@@ -2,6 +2,7 @@
 #![tactic(auto)]
 
 mod command;
+mod promises;
 mod serving;
 mod status;
 mod words;

@@ -3,8 +3,7 @@
 ghost use Rattle.std.specs.Prelude.{◌≡◌, ◌+◌, ◌-◌, ◌<◌, ◌^◌, ◌≤◌, [], Err, IfErr, IfOk, OnErr, OnOk, Ok, Option, true, List, ℕ};
 ghost use Rattle.std.specs.Option.{option_copied};
 ghost use Rattle.salt_io.specs.Streams.{Gains, IsAtEnd, Rose};
-ghost use Rattle.salt_model.specs.EventTexts.{story_text};
-ghost use Rattle.salt_run.specs.Serving.{HasNumbers, IsAfterLine, IsDone, IsEnded, IsLeftIn, IsServing, StopsOpening, StopsTelling, added_text, opening, status_of, stop_of};
+ghost use Rattle.salt_run.specs.Serving.{HasNumbers, IsAfterLine, IsDone, IsEnded, IsLeftIn, IsServing, StopsOpening, StopsTelling, added_text, opening, status_of, stop_of, told_text};
 ghost use Rattle.salt_run.specs.declared.serving.Stop.TheVariants.{Memory, WriteFault};
 
 use crate::status::Status;
@@ -102,7 +101,7 @@ fn tell_line<K: Sink>(
 {
     let told = story.len();
     do_line(alloc, engine, text, story)?;
-    print_story(sink, story.as_slice().get(told..).unwrap_or_default())?;
+    print_story(sink, story.as_slice().get(told..).unwrap_or_default(), &[])?;
     Ok(())
 }
 
@@ -139,7 +138,7 @@ fn serve_line<S: Source, K: Sink>(
 fn open<K: Sink>(sink: &mut K, story: &mut Story) -> Result<(), Stop>
     requires { story.old ≡ [] }
     ensures ok { OnOk result (story.new ≡ opening) }
-    ensures written { OnOk result (Gains (K.held sink.old) (story_text opening) (K.held sink.new)) }
+    ensures written { OnOk result (Gains (K.held sink.old) (told_text opening) (K.held sink.new)) }
     ensures stops { IfErr result (StopsOpening story.new (K.held sink.old) (K.held sink.new)) }
     ensures fault { result ≡ Err Stop.WriteFault → Rose (K.faults sink.old) (K.faults sink.new) }
     ensures later { K.faults sink.old ≤ K.faults sink.new }
@@ -149,7 +148,7 @@ fn open<K: Sink>(sink: &mut K, story: &mut Story) -> Result<(), Stop>
         decisions: 0,
     })?;
     story.push(Event::Ready)?;
-    print_story(sink, story.as_slice())?;
+    print_story(sink, story.as_slice(), &[])?;
     Ok(())
 }
 

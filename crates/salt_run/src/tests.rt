@@ -343,8 +343,7 @@ fn the_most_tables(rt: HostRuntime) -> Result<(), Fail> {
         told.extend_from_slice(format!(in alloc; "defined {number} {table}")?.as_bytes())?;
     }
     script.extend_from_slice(b"create table t65 (id int key)\ncreate table t1 (id int key)\n")?;
-    told.extend_from_slice(SYNTAX)?;
-    told.extend_from_slice(SYNTAX)?;
+    told.extend_from_slice(b"refused 4 limit tables\nrefused 4 limit tables\n")?;
     tells(&rt, alloc, &script, &told)
 }
 

@@ -3,7 +3,7 @@ use Rattle.salt_ast.specs.Words.{is_among}
 use Rattle.salt_engine.proofs.schema.first_doubled.Given as goal
 use Rattle.salt_engine.specs.Schema.{has_name}
 use Rattle.std.specs.List.{list_any}
-use Rattle.std.proofs.Common.{List, drop, take, [], ℕ, ◌≡◌}
+use Rattle.std.proofs.Common.{List, [], drop, take, ℕ, ◌≡◌}
 
 -- the names before are seen, in some order
 abbrev pub invariant-loop-at : goal.invariant-loop-at

@@ -1,7 +1,7 @@
 use Rattle.salt_ast.specs.Words.{is_same_name}
 use Rattle.salt_engine.proofs.Lookups.{found_here}
 use Rattle.salt_engine.proofs.schema.table_named.Goals as goal
-use Rattle.std.proofs.Common.{ap, sym, true, ◌≡◌, ◌∙◌}
+use Rattle.std.proofs.Common.{ap, sym, true, ◌∙◌, ◌≡◌}
 
 pub returns-then-is_same_name : goal.returns-then-is_same_name
 returns-then-is_same_name c =

@@ -1,3 +1,5 @@
+use Rattle.salt_engine.specs.Engine.{BreaksOff, GoesOn}
+use Rattle.salt_run.proofs.Read.{read-served}
 use Rattle.salt_model.specs.Lines.{Asks}
 use Rattle.salt_model.specs.Log.{Tree, Unread}
 use Rattle.salt_model.specs.declared.events.Refusal.TheVariants.{Syntax}
@@ -22,13 +24,13 @@ pub returns-in-Some-2-clause-ok : goal.returns-in-Some-2-clause-ok
 returns-in-Some-2-clause-ok c =
     let asks = subst (λ line. Asks c.in-Some.text.now (asked_of line)) c.in-Some-2.is c.in_ok-line.ensures in
     subst (λ text. OnOk c.step.result (IsDone text c.args.engine.now c.args.story.now c.step.new.self c.step.new.story)) (sym (ap option_copied c.in-Some.is))
-    (on_ok_weaker c.step.result (λ goes. (Tree c.in-Some-2.line, asks, goes)) c.step.ensures.segment)
+    (on_ok_weaker c.step.result (λ goes. (Tree c.in-Some-2.line, asks, subst (λ asked. GoesOn c.args.engine.now c.args.story.now asked c.step.new.self c.step.new.story) (read-served c.in-Some.text.now c.in-Some-2.line asks) goes)) c.step.ensures.segment)
 
 pub returns-in-Some-2-clause-err : goal.returns-in-Some-2-clause-err
 returns-in-Some-2-clause-err c =
     let asks = subst (λ line. Asks c.in-Some.text.now (asked_of line)) c.in-Some-2.is c.in_ok-line.ensures in
     subst (λ text. OnErr c.step.result (IsLeftIn text c.args.engine.now c.args.story.now c.step.new.story)) (sym (ap option_copied c.in-Some.is))
-    (on_err_weaker c.step.result (λ breaks. inr (Tree c.in-Some-2.line, asks, breaks)) c.step.ensures.broken_off)
+    (on_err_weaker c.step.result (λ breaks. inr (Tree c.in-Some-2.line, asks, subst (λ asked. BreaksOff c.args.engine.now c.args.story.now asked c.step.new.story) (read-served c.in-Some.text.now c.in-Some-2.line asks) breaks)) c.step.ensures.broken_off)
 
 pub returns-in-None-clause-ok : goal.returns-in-None-clause-ok
 returns-in-None-clause-ok c =

@@ -2,7 +2,7 @@ use Rattle.salt_engine.proofs.Entries.{insert_entry-put}
 use Rattle.salt_engine.proofs.engine.Engine.add.Goals as goal
 use Rattle.salt_engine.specs.Execute.{changes_of}
 use Rattle.salt_model.specs.Tables.{place_cmp, place_total, with_changes}
-use Rattle.std.proofs.Common.{ap, subst, sym, ◌≡◌, ◌∙◌}
+use Rattle.std.proofs.Common.{ap, subst, sym, ◌∙◌, ◌≡◌}
 use Rattle.std.specs.BTreeMap.{insert_entry}
 
 pub returns-in_ok-insert-in-Some-clause-rows : goal.returns-in_ok-insert-in-Some-clause-rows
