@@ -4,6 +4,5 @@ pub mod Entries
 pub mod Outcomes
 pub mod CutShort
 pub mod Idle
-pub mod Opened
 pub mod Segments
 pub mod Steps
