@@ -6,7 +6,8 @@ use Rattle.salt_laws.proofs.Lists.{In}
 use Rattle.salt_laws.proofs.Opens.{Open}
 use Rattle.salt_laws.proofs.Reading.{program-in}
 use Rattle.salt_model.specs.Locks.{Taken, as_held, clash_locks, clashes, clashing, is_same_owner, lock_by, owners_of, saline_lock, taken_in}
-use Rattle.salt_model.specs.Log.{Asked, Log, Never, Over, Running, Standing, Waiting, is_open, is_open_standing, kind_of, open_units, program_of, program_of_kind, standing, units_begun, wait_list, ◌asks◌, ◌says◌}
+use Rattle.salt_model.specs.Log.{Asked, Log, ◌asks◌, ◌says◌}
+use Rattle.salt_model.specs.Units.{Never, Over, Running, Standing, Waiting, is_open, is_open_standing, kind_of, open_units, program_of, program_of_kind, standing, units_begun, wait_list}
 use Rattle.salt_model.specs.Turns.{settle}
 use Rattle.salt_model.specs.Waiting.{clashing_now, next_served, victim, victim_of, wait_unit}
 use Rattle.salt_model.specs.Words.{Every, is_empty}

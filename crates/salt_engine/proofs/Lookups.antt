@@ -2,7 +2,7 @@
 use Rattle.salt_ast.specs.Judgement.{columns_of, is_table}
 use Rattle.salt_ast.specs.Words.{is_same_name}
 use Rattle.salt_ast.specs.declared.trees.TableDef.{TableDef}
-use Rattle.salt_model.specs.Statements.{table_from}
+use Rattle.salt_model.specs.Reaches.{table_from}
 use Rattle.std.proofs.Common.{List, Some, ap, arith, drop, drop-cons, get_or, length, refl, subst, true, ℕ, ◌<◌, ◌≡◌}
 use Rattle.std.specs.List.{list_all}
 use Rattle.std.specs.Prelude.{Bool, None, Option, [], cond, false, ◌&&◌, ◌+◌, ◌∷◌}

@@ -13,7 +13,8 @@ use Rattle.salt_engine.specs.declared.request.Task.{Task}
 use Rattle.salt_laws.proofs.Coming.{nothing}
 use Rattle.salt_laws.proofs.Ids.{and_right}
 use Rattle.salt_model.specs.Eval.{values_of}
-use Rattle.salt_model.specs.Statements.{answering, collect, done, failing, first_value, inserted, no_row, on_match, outcome_of, reach, seen, table_named}
+use Rattle.salt_model.specs.Statements.{answering, collect, done, failing, inserted, on_match, outcome_of, seen}
+use Rattle.salt_model.specs.Reaches.{first_value, no_row, reach, table_named}
 use Rattle.salt_model.specs.Tables.{Entry, Tables, key_of, place, place_cmp}
 use Rattle.salt_model.specs.declared.events.Answer.TheVariants.{Count, Failed, Rows}
 use Rattle.salt_model.specs.declared.events.Cause.TheVariants.{Duplicate, Missing}

@@ -10,7 +10,8 @@ use Rattle.salt_laws.proofs.Ids.{is_same_id-refl}
 use Rattle.salt_model.specs.After.{answer_now, kept, run_of, stage, stage_run, tables_after}
 use Rattle.salt_model.specs.Honest.{cause_in}
 use Rattle.salt_model.specs.Kept.{Kept, schema_of}
-use Rattle.salt_model.specs.Log.{Asked, Log, Running, Tree, done_of, is_open, kind_of, line_begun, lines_of, standing, start_of, story_of, wait_list, ◌asks◌, ◌says◌}
+use Rattle.salt_model.specs.Log.{Asked, Log, Tree, lines_of, start_of, story_of, ◌asks◌, ◌says◌}
+use Rattle.salt_model.specs.Units.{Running, done_of, is_open, kind_of, line_begun, standing, wait_list}
 use Rattle.salt_model.specs.Next.{next}
 use Rattle.salt_model.specs.Played.{IsComplete, IsPlayed}
 use Rattle.salt_model.specs.Refusals.{refusal}

@@ -10,7 +10,9 @@ use Rattle.salt_engine.specs.declared.request.Request.{Request}
 use Rattle.salt_model.specs.After.{kept, tables_after}
 use Rattle.salt_model.specs.Honest.{cause_in}
 use Rattle.salt_model.specs.Kept.{schema_of}
-use Rattle.salt_model.specs.Log.{Asked, Log, accepted_in, is_open, lines_of, programs_in, unit_count}
+use Rattle.salt_model.specs.Log.{Asked, Log, lines_of}
+use Rattle.salt_model.specs.Programs.{accepted_in, programs_in}
+use Rattle.salt_model.specs.Units.{is_open, unit_count}
 use Rattle.salt_model.specs.Played.{IsComplete, Tells, empty_start}
 use Rattle.salt_model.specs.Statements.{Done, outcome_of}
 use Rattle.salt_model.specs.Tables.{Entry, Tables, with_changes}

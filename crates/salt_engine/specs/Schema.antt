@@ -9,7 +9,7 @@ use Rattle.salt_engine.specs.declared.request.Request.{Request}
 use Rattle.salt_engine.specs.declared.request.Task.TheVariants as task
 use Rattle.salt_engine.specs.declared.request.Task.{Task}
 use Rattle.salt_engine.specs.declared.schema.Known.{Known}
-use Rattle.salt_model.specs.Statements.{table_named}
+use Rattle.salt_model.specs.Reaches.{table_named}
 use Rattle.salt_model.specs.declared.events.Refusal.TheVariants.{Exists, Limit, Mistyped, Unknown}
 use Rattle.salt_model.specs.declared.events.Refusal.{Refusal}
 use Rattle.salt_values.specs.declared.value.Value.{Value}

@@ -9,7 +9,9 @@ use Rattle.salt_laws.proofs.Places.{both_true}
 use Rattle.salt_laws.proofs.Runs.{NoTouch, Untouched}
 use Rattle.salt_model.specs.After.{reach_now}
 use Rattle.salt_model.specs.Locks.{Taken, as_held, base_owner, clash_locks, clashes, clashing, conflict, family_of, is_between, is_clash, is_read, is_same_owner, lock_by, lock_of, owners_of, reach_of, saline_lock, taken_in, touches, unit_owner}
-use Rattle.salt_model.specs.Log.{Log, Never, Over, Running, Standing, Waiting, is_open_standing, kind_of, program_of_kind, released_in, standing}
+use Rattle.salt_model.specs.Log.{Log}
+use Rattle.salt_model.specs.Programs.{released_in}
+use Rattle.salt_model.specs.Units.{Never, Over, Running, Standing, Waiting, is_open_standing, kind_of, program_of_kind, standing}
 use Rattle.salt_model.specs.Statements.{list_of}
 use Rattle.salt_model.specs.Words.{Every, has_id, in_order, insert_id}
 use Rattle.salt_model.specs.declared.events.End.TheVariants.{Committed}

@@ -13,7 +13,9 @@ use Rattle.salt_model.specs.After.{answer_now, kept, reach_now}
 use Rattle.salt_model.specs.Honest.{FitsEnd, cause_in}
 use Rattle.salt_model.specs.Kept.{cont_of, kept_program}
 use Rattle.salt_model.specs.Locks.{as_held, clashing, family_of, is_holding, lock_of, taken_in, touches}
-use Rattle.salt_model.specs.Log.{Asked, Log, Running, Tree, Unread, Waiting, accepted_in, from, is_of_program, is_of_session, is_open, is_open_standing, kind_of, line_asked, line_of, open_units, program_unit, session_unit, standing, units_begun, wait_list, ◌asks◌, ◌says◌, ◌turns◌}
+use Rattle.salt_model.specs.Log.{Asked, Log, Tree, Unread, from, line_asked, line_of, ◌asks◌, ◌says◌, ◌turns◌}
+use Rattle.salt_model.specs.Programs.{accepted_in}
+use Rattle.salt_model.specs.Units.{Running, Waiting, is_of_program, is_of_session, is_open, is_open_standing, kind_of, open_units, program_unit, session_unit, standing, units_begun, wait_list}
 use Rattle.salt_model.specs.Next.{serving_event}
 use Rattle.salt_model.specs.Openings.{cuts_or_drains, drains, follow_opening, opening_event, to_cut}
 use Rattle.salt_model.specs.Phases.{Opening, Serving, phase}

@@ -12,7 +12,8 @@ use Rattle.salt_laws.proofs.Salted.{may-fit, may-open}
 use Rattle.salt_model.specs.After.{kept}
 use Rattle.salt_model.specs.Continuing.{AcceptsDue, FinishesDue, accepted_after, accepted_by, finished_after, finished_by, if_ended, last_said, part_due, program_continued}
 use Rattle.salt_model.specs.Kept.{cont_of}
-use Rattle.salt_model.specs.Log.{Asked, Log, Start, from, kind_of, ◌asks◌, ◌says◌, ◌turns◌}
+use Rattle.salt_model.specs.Log.{Asked, Log, Start, from, ◌asks◌, ◌says◌, ◌turns◌}
+use Rattle.salt_model.specs.Units.{kind_of}
 use Rattle.salt_model.specs.Next.{next, said_event}
 use Rattle.salt_model.specs.Phases.{Fallen, Opening, Phase, Serving, phase}
 use Rattle.salt_model.specs.Played.{IsPlayed, May, MayFall, is_at_devices, is_device_next}

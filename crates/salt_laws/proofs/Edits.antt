@@ -4,7 +4,8 @@ use Rattle.salt_ast.specs.declared.trees.TableDef.{TableDef}
 use Rattle.salt_laws.proofs.Places.{row_at-set}
 use Rattle.salt_model.specs.After.{kept, run_of, tables_after, vars_of}
 use Rattle.salt_model.specs.Kept.{schema_of}
-use Rattle.salt_model.specs.Log.{Log, done_of, ◌says◌}
+use Rattle.salt_model.specs.Log.{Log, ◌says◌}
+use Rattle.salt_model.specs.Units.{done_of}
 use Rattle.salt_model.specs.Statements.{Run, doing, has_failed, run_from, run_on, with_done}
 use Rattle.salt_model.specs.Tables.{Edits, Tables, changed_at, make_change, place_cmp, place_total, put_change, put_changes, row_at, row_under, with_changes}
 use Rattle.salt_model.specs.declared.events.End.TheVariants.{Committed}

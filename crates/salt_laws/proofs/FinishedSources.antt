@@ -14,9 +14,10 @@ use Rattle.salt_laws.proofs.Sound.{Dead, of-program, to_release-finished}
 use Rattle.salt_model.specs.After.{reach_now}
 use Rattle.salt_model.specs.Continuing.{AcceptsDue, GoesAlong, accepted_after, accepted_by, is_unfinished, last_said}
 use Rattle.salt_model.specs.Isolation.{is_committed_standing}
-use Rattle.salt_model.specs.Log.{Log, Over, Running, Waiting, accepted_in, finished_in, from, is_of_program, kind_of, program_of, program_of_kind, released_in, standing, start_of, ◌asks◌, ◌says◌, ◌turns◌}
+use Rattle.salt_model.specs.Log.{Log, from, start_of, ◌asks◌, ◌says◌, ◌turns◌}
+use Rattle.salt_model.specs.Programs.{accepted_in, finished_in, program_begun, released_in}
+use Rattle.salt_model.specs.Units.{Over, Running, Waiting, is_of_program, kind_of, program_of, program_of_kind, standing}
 use Rattle.salt_model.specs.Played.{Each, IsPlayed}
-use Rattle.salt_model.specs.Programs.{program_begun}
 use Rattle.salt_model.specs.Reads.{programs_among, read_directly, to_release, writers_in}
 use Rattle.salt_model.specs.Releasing.{IsReleasable, NamesReleasable, ReadsThrough, ReleasesDue, ReleasesExactly, due_after, is_finish, itself, released_by, released_names, through}
 use Rattle.salt_model.specs.Phases.{Phase, Serving, phase}

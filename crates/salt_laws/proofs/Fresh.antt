@@ -1,7 +1,8 @@
 -- A unit that no event of a log names is new there; and a fact of an event that may come.
 use Rattle.salt_ast.specs.Words.{or_else, when}
 use Rattle.salt_laws.specs.Names.{is_named, is_unit_of}
-use Rattle.salt_model.specs.Log.{Log, Never, Standing, from, standing, standing_after, ◌asks◌, ◌says◌, ◌turns◌}
+use Rattle.salt_model.specs.Log.{Log, from, ◌asks◌, ◌says◌, ◌turns◌}
+use Rattle.salt_model.specs.Units.{Never, Standing, standing, standing_after}
 use Rattle.salt_model.specs.declared.events.Event.TheVariants.{Began, Did, Ended, Waits}
 use Rattle.salt_model.specs.declared.events.Event.{Event}
 use Rattle.salt_values.specs.declared.id.Id.{Id}

@@ -12,7 +12,9 @@ use Rattle.salt_laws.proofs.Replays.{Inv, any-left, good-event, replays}
 use Rattle.salt_model.specs.After.{branched, kept, reach_now}
 use Rattle.salt_model.specs.Kept.{Kept}
 use Rattle.salt_model.specs.Locks.{NoneConflict, Taken, as_held, conflict, family_of, held, is_between, is_same_owner, lock_by, lock_of, reach_of, saline_lock, taken_by, taken_in, touches}
-use Rattle.salt_model.specs.Log.{Log, Never, Over, Running, Standing, Waiting, from, is_open, is_open_standing, kind_of, program_of_kind, programs_in, released_in, standing, unit_count, units_begun, ◌asks◌, ◌says◌, ◌turns◌}
+use Rattle.salt_model.specs.Log.{Log, from, ◌asks◌, ◌says◌, ◌turns◌}
+use Rattle.salt_model.specs.Programs.{programs_in, released_in}
+use Rattle.salt_model.specs.Units.{Never, Over, Running, Standing, Waiting, is_open, is_open_standing, kind_of, program_of_kind, standing, unit_count, units_begun}
 use Rattle.salt_model.specs.Next.{next}
 use Rattle.salt_model.specs.Phases.{Fallen, Opening, Phase, Serving, phase}
 use Rattle.salt_model.specs.Played.{IsPlayed, May, MayOpen}

@@ -4,7 +4,8 @@ use Rattle.salt_laws.proofs.NextFits.{Fits}
 use Rattle.salt_laws.proofs.Salted.{OfBoots, each, holds, may-fit}
 use Rattle.salt_model.specs.After.{kept}
 use Rattle.salt_model.specs.Decided.{CutsRight, IsKept, NumbersOn, OnlyAfter, OpensRight, TellsFlight, number_in}
-use Rattle.salt_model.specs.Log.{Log, from, open_units, start_of, ◌asks◌, ◌says◌, ◌turns◌}
+use Rattle.salt_model.specs.Log.{Log, from, start_of, ◌asks◌, ◌says◌, ◌turns◌}
+use Rattle.salt_model.specs.Units.{open_units}
 use Rattle.salt_model.specs.Next.{flight, next}
 use Rattle.salt_model.specs.Openings.{cuts_or_drains, drains, stands_now, to_cut}
 use Rattle.salt_model.specs.Phases.{Fallen, Opening, Phase, Serving, phase}

@@ -14,13 +14,14 @@ use Rattle.salt_model.specs.After.{kept}
 use Rattle.salt_model.specs.Continuing.{last_said, part_due, program_continued}
 use Rattle.salt_model.specs.Kept.{cont_in, cont_of, kept_program}
 use Rattle.salt_model.specs.Locks.{clashing}
-use Rattle.salt_model.specs.Log.{Asked, Log, Running, Waiting, from, is_of_program, is_of_session, is_open, is_open_standing, kind_of, line_asked, line_of, open_units, program_unit, session_unit, standing, units_begun, wait_list, ◌asks◌, ◌says◌, ◌turns◌}
+use Rattle.salt_model.specs.Log.{Asked, Log, from, line_asked, line_of, ◌asks◌, ◌says◌, ◌turns◌}
+use Rattle.salt_model.specs.Units.{Running, Waiting, is_of_program, is_of_session, is_open, is_open_standing, kind_of, open_units, program_unit, session_unit, standing, units_begun, wait_list}
 use Rattle.salt_model.specs.Next.{decision_in, flight, next, said_event, serving_event}
 use Rattle.salt_model.specs.Openings.{cuts_or_drains, drains, follow_opening, opening_event, stands_now, to_cut}
 use Rattle.salt_model.specs.Phases.{Fallen, Opening, Phase, Serving, phase}
 use Rattle.salt_model.specs.Reads.{to_release}
 use Rattle.salt_model.specs.Refusals.{refusal}
-use Rattle.salt_model.specs.Turns.{act_event, after_began, after_did, after_end, asks_for, commits, does, fails, follow, fresh_base, fresh_unit, goes_on, is_at_end, kind_called, line_event, next_number, releases, serve, settle, settle_by, turn, turn_of}
+use Rattle.salt_model.specs.Turns.{act_event, after_began, after_did, after_end, asks_for, commits, does, fails, follow, fresh_base, fresh_unit, go, goes_on, is_at_end, kind_called, line_event, next_number, releases, serve, settle, settle_by, turn, turn_of}
 use Rattle.salt_model.specs.Waiting.{WaitUnit, asked_by, block_of, clashing_now, is_acid, is_on_cycle, names_of, next_served, victim, wait_graph, wait_unit}
 use Rattle.salt_model.specs.Words.{first_of_list, greatest, is_empty, without}
 use Rattle.salt_model.specs.declared.events.Answer.TheVariants.{Failed}
@@ -43,7 +44,6 @@ use Rattle.salt_values.specs.declared.value.Value.{Value}
 use Rattle.std.proofs.Common.{ap, inl, inr, subst, sym, ◌∙◌}
 use Rattle.std.specs.List.{filter, find}
 use Rattle.std.specs.Prelude.{Bool, List, None, Option, Some, [], cond, false, if◌then◌else◌, is_none, map, nat_lt, option_and_then, option_map, refl, true, ℕ, ⊤, ◌<◌, ◌==◌, ◌∷◌, ◌≡◌, ◌⊎◌}
-use Rattle.salt_model.specs.Turns.{go}
 
 pub first-in : {A : Type 0} (x : A) (xs : List A) → first_of_list xs ≡ Some x → In x xs
 first-in x [] h = cc

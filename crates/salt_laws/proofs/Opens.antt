@@ -1,7 +1,8 @@
 -- Whose an event is, which units are open, and whose statement has just failed.
 use Rattle.salt_model.specs.Honest.{cause_in}
 use Rattle.salt_model.specs.Locks.{family_of}
-use Rattle.salt_model.specs.Log.{Log, is_open, kind_of, ◌says◌}
+use Rattle.salt_model.specs.Log.{Log, ◌says◌}
+use Rattle.salt_model.specs.Units.{is_open, kind_of}
 use Rattle.salt_model.specs.declared.events.Cause.{Cause}
 use Rattle.salt_model.specs.declared.events.End.TheVariants.{Cut}
 use Rattle.salt_model.specs.declared.events.Event.TheVariants.{Began, Did, Down, Ended, Opened}

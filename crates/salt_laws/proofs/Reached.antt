@@ -5,7 +5,8 @@ use Rattle.salt_laws.proofs.Lists.{In}
 use Rattle.salt_laws.proofs.Places.{both_true}
 use Rattle.salt_laws.proofs.Writes.{Writes, statement-writes}
 use Rattle.salt_model.specs.Locks.{is_read}
-use Rattle.salt_model.specs.Statements.{outcome_of, reach}
+use Rattle.salt_model.specs.Statements.{outcome_of}
+use Rattle.salt_model.specs.Reaches.{reach}
 use Rattle.salt_model.specs.Tables.{Tables}
 use Rattle.salt_model.specs.Words.{Every}
 use Rattle.salt_model.specs.declared.locks.Reach.{Reach}

@@ -13,7 +13,9 @@ use Rattle.salt_model.specs.After.{changes_now, kept, reach_now, run_of}
 use Rattle.salt_model.specs.Isolation.{is_committed_standing, is_program_released, is_unreleased_part, read_by, touches_unreleased}
 use Rattle.salt_model.specs.Kept.{schema_of}
 use Rattle.salt_model.specs.Locks.{Taken, is_read, taken_by, taken_in, touches}
-use Rattle.salt_model.specs.Log.{Log, Never, Over, Running, Standing, Waiting, finished_in, from, is_of_program, is_open, is_open_standing, kind_of, program_of, program_of_kind, programs_in, released_in, standing, standing_after, ◌asks◌, ◌says◌, ◌turns◌}
+use Rattle.salt_model.specs.Log.{Log, from, ◌asks◌, ◌says◌, ◌turns◌}
+use Rattle.salt_model.specs.Programs.{finished_in, programs_in, released_in}
+use Rattle.salt_model.specs.Units.{Never, Over, Running, Standing, Waiting, is_of_program, is_open, is_open_standing, kind_of, program_of, program_of_kind, standing, standing_after}
 use Rattle.salt_model.specs.Reads.{Written, is_reached, last_of_each, programs_among, read_directly, reads_within, to_release, writers_in, written_by, written_in, wrote_of}
 use Rattle.salt_model.specs.Words.{has_id, in_order, without}
 use Rattle.salt_model.specs.declared.events.Answer.{Answer}

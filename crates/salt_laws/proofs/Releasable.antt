@@ -2,7 +2,8 @@
 use Rattle.salt_laws.proofs.Ids.{is_same_id-true}
 use Rattle.salt_laws.proofs.Lists.{In, PassesSelf, all-in, either, has-in, in-has, in-order, in-shrink, in-without, into-all, into-filter, into-shrink, or_cases, or_right_true, shrink-ends}
 use Rattle.salt_laws.proofs.Sound.{to_release-finished}
-use Rattle.salt_model.specs.Log.{Log, finished_in, released_in}
+use Rattle.salt_model.specs.Log.{Log}
+use Rattle.salt_model.specs.Programs.{finished_in, released_in}
 use Rattle.salt_model.specs.Reads.{read_directly, reads_within, to_release}
 use Rattle.salt_model.specs.Releasing.{ReadsThrough, itself, through}
 use Rattle.salt_model.specs.Words.{has_id, in_order, insert_id, without}

@@ -16,7 +16,8 @@ use Rattle.salt_model.specs.After.{answer_now, branched, kept, reach_now, run_of
 use Rattle.salt_model.specs.Honest.{cause_among, cause_in}
 use Rattle.salt_model.specs.Kept.{schema_of}
 use Rattle.salt_model.specs.Locks.{taken_by, taken_in}
-use Rattle.salt_model.specs.Log.{Log, answers_of, done_of, from, is_open, kind_of, open_units, units_begun, ◌asks◌, ◌says◌, ◌turns◌}
+use Rattle.salt_model.specs.Log.{Log, from, ◌asks◌, ◌says◌, ◌turns◌}
+use Rattle.salt_model.specs.Units.{answers_of, done_of, is_open, kind_of, open_units, units_begun}
 use Rattle.salt_model.specs.Next.{decision_in, flight, is_decision, next, said_event}
 use Rattle.salt_model.specs.Openings.{cuts_or_drains, drains, stands_now, to_cut}
 use Rattle.salt_model.specs.Phases.{Fallen, Opening, Phase, Serving, phase}

@@ -11,7 +11,8 @@ use Rattle.salt_laws.proofs.Salted.{OfBoots, holds, may-fit}
 use Rattle.salt_model.specs.After.{branched, conts_at, kept, run_of}
 use Rattle.salt_model.specs.Continuing.{IsFirstAccepted}
 use Rattle.salt_model.specs.Kept.{Kept, Rise, begun_cont, branch_of, change_cont, cont_in, cont_of, kept_program, moved, then_of, values_kept, without_cont}
-use Rattle.salt_model.specs.Log.{Log, from, kind_of, start_of, ◌asks◌, ◌says◌, ◌turns◌}
+use Rattle.salt_model.specs.Log.{Log, from, start_of, ◌asks◌, ◌says◌, ◌turns◌}
+use Rattle.salt_model.specs.Units.{kind_of}
 use Rattle.salt_model.specs.Played.{IsPlayed}
 use Rattle.salt_model.specs.Words.{Every, first_of_list}
 use Rattle.salt_model.specs.declared.events.End.TheVariants.{Branched, Committed}

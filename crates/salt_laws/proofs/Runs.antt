@@ -5,7 +5,8 @@ use Rattle.salt_laws.proofs.Every.{every-left, every-map, every-right}
 use Rattle.salt_laws.proofs.Places.{Agree, IsAway, agree-away, agree-changes, agree-rows, away-untouched}
 use Rattle.salt_laws.proofs.Writes.{Writes, statement-frame, statement-writes}
 use Rattle.salt_model.specs.Locks.{touches}
-use Rattle.salt_model.specs.Statements.{Run, after_done, doing, has_failed, list_of, reach, run_from, run_on, serial, with_done}
+use Rattle.salt_model.specs.Statements.{Run, after_done, doing, has_failed, list_of, run_from, run_on, serial, with_done}
+use Rattle.salt_model.specs.Reaches.{reach}
 use Rattle.salt_model.specs.Tables.{Tables, row_at, rows_in, with_changes}
 use Rattle.salt_model.specs.Words.{Every}
 use Rattle.salt_model.specs.declared.locks.Reach.{Reach}

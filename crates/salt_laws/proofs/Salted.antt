@@ -11,7 +11,9 @@ use Rattle.salt_model.specs.Continuing.{last_said}
 use Rattle.salt_model.specs.Releasing.{ReleasesDue, due_after, released_by}
 use Rattle.salt_model.specs.Isolation.{IsChain, IsSalted, ReadsReleased, is_linked, is_program_released, is_same_program, read_by}
 use Rattle.salt_model.specs.Kept.{Kept}
-use Rattle.salt_model.specs.Log.{Asked, Log, Start, from, program_of, released_in, start_of, ◌asks◌, ◌says◌, ◌turns◌}
+use Rattle.salt_model.specs.Log.{Asked, Log, Start, from, start_of, ◌asks◌, ◌says◌, ◌turns◌}
+use Rattle.salt_model.specs.Programs.{released_in}
+use Rattle.salt_model.specs.Units.{program_of}
 use Rattle.salt_model.specs.Next.{decision_in, flight, next, said_event}
 use Rattle.salt_model.specs.Phases.{Fallen, Opening, Phase, Serving, phase}
 use Rattle.salt_model.specs.Played.{Each, IsPlayed, May, MayFall, MayOpen, is_at_devices, is_device_next}

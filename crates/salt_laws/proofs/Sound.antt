@@ -13,7 +13,9 @@ use Rattle.salt_model.specs.After.{branched, conts_at, kept, run_of}
 use Rattle.salt_model.specs.Continuing.{last_said, part_due, program_continued}
 use Rattle.salt_model.specs.Isolation.{is_committed_standing}
 use Rattle.salt_model.specs.Kept.{Kept, begun_cont, branch_of, change_cont, cont_in, cont_of, conts_branched, conts_committed, kept_program, moved, then_of, values_kept, without_cont}
-use Rattle.salt_model.specs.Log.{Log, Never, Over, Running, Waiting, base_count, finished_in, from, is_of_program, is_open, is_open_standing, kind_begun, kind_of, open_units, program_of, program_of_kind, program_unit, programs_in, released_in, standing, unit_count, units_begun, ◌asks◌, ◌says◌, ◌turns◌}
+use Rattle.salt_model.specs.Log.{Log, from, ◌asks◌, ◌says◌, ◌turns◌}
+use Rattle.salt_model.specs.Programs.{finished_in, programs_in, released_in}
+use Rattle.salt_model.specs.Units.{Never, Over, Running, Waiting, base_count, is_of_program, is_open, is_open_standing, kind_begun, kind_of, open_units, program_of, program_of_kind, program_unit, standing, unit_count, units_begun}
 use Rattle.salt_model.specs.Phases.{Fallen, Opening, Phase, Serving, phase}
 use Rattle.salt_model.specs.Reads.{reads_within, to_release}
 use Rattle.salt_model.specs.Turns.{fresh_base, fresh_unit}

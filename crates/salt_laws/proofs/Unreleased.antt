@@ -8,7 +8,8 @@ use Rattle.salt_model.specs.After.{reach_now}
 use Rattle.salt_model.specs.Eval.{known}
 use Rattle.salt_model.specs.Isolation.{is_committed_standing, is_program_released, is_unreleased_part, touches_unreleased}
 use Rattle.salt_model.specs.Locks.{Taken, as_held, base_owner, clash_locks, clashes, clashing, family_of, held, lock_by, lock_of, owners_of, saline_lock, taken_in, touches, unit_owner}
-use Rattle.salt_model.specs.Log.{Log, Never, Over, Running, Standing, Waiting, kind_of, program_of_kind, standing}
+use Rattle.salt_model.specs.Log.{Log}
+use Rattle.salt_model.specs.Units.{Never, Over, Running, Standing, Waiting, kind_of, program_of_kind, standing}
 use Rattle.salt_model.specs.Waiting.{is_acid}
 use Rattle.salt_model.specs.Words.{in_order}
 use Rattle.salt_model.specs.declared.events.End.TheVariants.{Committed}

@@ -10,7 +10,9 @@ use Rattle.salt_laws.proofs.Replays.{good-event, replays}
 use Rattle.salt_model.specs.After.{reach_now}
 use Rattle.salt_model.specs.Isolation.{IsWhole, TouchesWhole, is_committed_standing, is_program_released, is_unreleased_part, touches_unreleased}
 use Rattle.salt_model.specs.Locks.{Taken, as_held, family_of, lock_by, lock_of, saline_lock, taken_in, touches}
-use Rattle.salt_model.specs.Log.{Log, Over, Standing, from, kind_of, program_of_kind, released_in, standing, ◌asks◌, ◌says◌, ◌turns◌}
+use Rattle.salt_model.specs.Log.{Log, from, ◌asks◌, ◌says◌, ◌turns◌}
+use Rattle.salt_model.specs.Programs.{released_in}
+use Rattle.salt_model.specs.Units.{Over, Standing, kind_of, program_of_kind, standing}
 use Rattle.salt_model.specs.Played.{IsPlayed}
 use Rattle.salt_model.specs.Words.{Every, has_id}
 use Rattle.salt_model.specs.declared.events.Answer.{Answer}

@@ -9,7 +9,8 @@ use Rattle.salt_ast.specs.declared.trees.What.TheVariants.{Count}
 use Rattle.salt_laws.proofs.Every.{IfOk, IfSome, every-collect, every-passes, ok-all, ok-bind, ok-map}
 use Rattle.salt_laws.proofs.Places.{has-itself}
 use Rattle.salt_model.specs.Eval.{passes, truth_of, value_of, values_of}
-use Rattle.salt_model.specs.Statements.{Done, answering, change_to, changing, checked, collect, do_at, do_in, done, first_value, in_row, inserted, key_reached, no_row, on_match, outcome_of, range_of, reach, reach_at, reach_in, reached, removed, seen, shown, stored, table_for, updated, with_sets}
+use Rattle.salt_model.specs.Statements.{Done, answering, change_to, changing, checked, collect, do_at, do_in, done, inserted, on_match, outcome_of, removed, seen, shown, stored, updated, with_sets}
+use Rattle.salt_model.specs.Reaches.{first_value, in_row, key_reached, no_row, range_of, reach, reach_at, reach_in, reached, table_for}
 use Rattle.salt_model.specs.Tables.{Entry, Tables, changed_at, is_within, key_of, place, rows_in}
 use Rattle.salt_model.specs.Words.{Every, and_then}
 use Rattle.salt_model.specs.declared.events.Answer.TheVariants.{Count}

@@ -10,7 +10,8 @@ use Rattle.salt_laws.proofs.Sound.{Sound, not-fresh}
 use Rattle.salt_laws.specs.Names.{is_named, is_unit_of}
 use Rattle.salt_laws.specs.Rewordings.{WritesAtEnd, is_changed, is_written}
 use Rattle.salt_model.specs.After.{changes_now, run_of}
-use Rattle.salt_model.specs.Log.{Log, from, is_open, start_of, ◌asks◌, ◌says◌, ◌turns◌}
+use Rattle.salt_model.specs.Log.{Log, from, start_of, ◌asks◌, ◌says◌, ◌turns◌}
+use Rattle.salt_model.specs.Units.{is_open}
 use Rattle.salt_model.specs.Played.{Each, IsPlayed, May}
 use Rattle.salt_model.specs.Reads.{Written, written_by, wrote_of}
 use Rattle.salt_model.specs.Statements.{Run}

@@ -3,8 +3,10 @@ use Rattle.salt_ast.specs.declared.lines.Line.TheVariants.{Program, Table}
 use Rattle.salt_ast.specs.declared.lines.Line.{Line}
 use Rattle.salt_ast.specs.declared.trees.Statement.{Statement}
 use Rattle.salt_model.specs.Kept.{Definition, Kept, OfProgram, OfTable, conts_branched, conts_committed, schema_of, vars_of_kind}
-use Rattle.salt_model.specs.Log.{Log, done_of, from, kind_of, line_of, ◌asks◌, ◌says◌, ◌turns◌}
-use Rattle.salt_model.specs.Statements.{Run, outcome_of, reach, serial}
+use Rattle.salt_model.specs.Log.{Log, from, line_of, ◌asks◌, ◌says◌, ◌turns◌}
+use Rattle.salt_model.specs.Units.{done_of, kind_of}
+use Rattle.salt_model.specs.Statements.{Run, outcome_of, serial}
+use Rattle.salt_model.specs.Reaches.{reach}
 use Rattle.salt_model.specs.Tables.{Tables}
 use Rattle.salt_model.specs.declared.events.Answer.{Answer}
 use Rattle.salt_model.specs.declared.events.End.TheVariants.{Branched, Committed}

@@ -1,7 +1,8 @@
 -- What a proof by computation opens: `unfolding computing`.
 use Rattle.salt_ast.specs.Judgement.{statement_fault, table_fault}
 use Rattle.salt_ast.specs.ProgramJudgement.{call_fault, line_fault, program_fault}
-use Rattle.salt_model.specs.Statements.{outcome_of, reach}
+use Rattle.salt_model.specs.Statements.{outcome_of}
+use Rattle.salt_model.specs.Reaches.{reach}
 use Rattle.salt_model.specs.Tables.{with_changes}
 use Rattle.std.specs.Fmt.{digits}
 use Rattle.std.specs.Prelude.{ℕ}

@@ -1,7 +1,8 @@
 -- The printed answers are those of one unit at a time, in the order of commits.
 use Rattle.salt_ast.specs.Words.{or_else}
 use Rattle.salt_model.specs.After.{run_of}
-use Rattle.salt_model.specs.Log.{Log, answers_of, from, is_open, ◌asks◌, ◌says◌, ◌turns◌}
+use Rattle.salt_model.specs.Log.{Log, from, ◌asks◌, ◌says◌, ◌turns◌}
+use Rattle.salt_model.specs.Units.{answers_of, is_open}
 use Rattle.salt_model.specs.Played.{Each}
 use Rattle.salt_model.specs.declared.events.Answer.{Answer}
 use Rattle.salt_model.specs.declared.events.Cause.{Cause}

@@ -1,7 +1,9 @@
 -- What ACID units see of BASE programs: chains of readers, and whole programs.
 use Rattle.salt_model.specs.After.{reach_now}
 use Rattle.salt_model.specs.Locks.{Taken, taken_in, touches}
-use Rattle.salt_model.specs.Log.{Log, Over, Standing, from, program_of, released_in, standing, ◌asks◌, ◌says◌, ◌turns◌}
+use Rattle.salt_model.specs.Log.{Log, from, ◌asks◌, ◌says◌, ◌turns◌}
+use Rattle.salt_model.specs.Programs.{released_in}
+use Rattle.salt_model.specs.Units.{Over, Standing, program_of, standing}
 use Rattle.salt_model.specs.Played.{Each}
 use Rattle.salt_model.specs.Reads.{writers_in}
 use Rattle.salt_model.specs.Waiting.{is_acid}

@@ -1,12 +1,14 @@
 pub mod Words
 pub mod Eval
 pub mod Tables
+pub mod Reaches
 pub mod Statements
 pub mod Kept
 pub mod Log
+pub mod Units
+pub mod Programs
 pub mod After
 pub mod Locks
-pub mod Programs
 pub mod Reads
 pub mod Waiting
 pub mod Refusals

@@ -3,7 +3,9 @@ use Rattle.salt_ast.specs.Words.{when}
 use Rattle.salt_ast.specs.declared.programs.Body.TheVariants.{Base}
 use Rattle.salt_ast.specs.declared.trees.Statement.{Statement}
 use Rattle.salt_model.specs.After.{reach_now}
-use Rattle.salt_model.specs.Log.{Log, Over, Running, Standing, Waiting, from, kind_of, program_of_kind, released_in, standing, ◌asks◌, ◌says◌, ◌turns◌}
+use Rattle.salt_model.specs.Log.{Log, from, ◌asks◌, ◌says◌, ◌turns◌}
+use Rattle.salt_model.specs.Programs.{released_in}
+use Rattle.salt_model.specs.Units.{Over, Running, Standing, Waiting, kind_of, program_of_kind, standing}
 use Rattle.salt_model.specs.Words.{Every, has_id, in_order}
 use Rattle.salt_model.specs.declared.events.End.TheVariants.{Committed}
 use Rattle.salt_model.specs.declared.events.Event.TheVariants.{Did}

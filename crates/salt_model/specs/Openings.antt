@@ -1,7 +1,8 @@
 -- The complete segment of an opening, after its Opened: the flight where it stands, the Cuts, then the drain.
 use Rattle.salt_ast.specs.Words.{or_else, when}
 use Rattle.salt_model.specs.After.{kept}
-use Rattle.salt_model.specs.Log.{Log, kind_of, open_units}
+use Rattle.salt_model.specs.Log.{Log}
+use Rattle.salt_model.specs.Units.{kind_of, open_units}
 use Rattle.salt_model.specs.Turns.{after_did, after_end, begins, finishes, next_number, serve}
 use Rattle.salt_model.specs.Words.{in_order, is_empty}
 use Rattle.salt_model.specs.declared.events.Answer.{Answer}

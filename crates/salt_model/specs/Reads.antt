@@ -3,7 +3,9 @@ use Rattle.std.specs.Ordering.{is_eq}
 use Rattle.salt_model.specs.declared.places.Place.{Place}
 use Rattle.salt_model.specs.Tables.{place, place_cmp}
 use Rattle.salt_model.specs.After.{changes_now, reach_now}
-use Rattle.salt_model.specs.Log.{Log, accepted_in, finished_in, from, is_of_program, program_of, released_in, ◌asks◌, ◌says◌, ◌turns◌}
+use Rattle.salt_model.specs.Log.{Log, from, ◌asks◌, ◌says◌, ◌turns◌}
+use Rattle.salt_model.specs.Programs.{accepted_in, finished_in, released_in}
+use Rattle.salt_model.specs.Units.{is_of_program, program_of}
 use Rattle.salt_model.specs.Words.{has_id, in_order, shrink, without}
 use Rattle.salt_model.specs.declared.events.End.TheVariants.{Committed}
 use Rattle.salt_model.specs.declared.events.Event.TheVariants.{Did, Ended}

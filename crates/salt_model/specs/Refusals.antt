@@ -9,8 +9,9 @@ use Rattle.salt_ast.specs.declared.lines.Line.{Line}
 use Rattle.salt_model.specs.After.{kept}
 use Rattle.salt_model.specs.Kept.{programs_of, schema_of}
 use Rattle.salt_model.specs.Locks.{is_holding}
-use Rattle.salt_model.specs.Log.{Asked, Log, Tree, Unread, accepted_in, is_waiting, kind_of, open_units, program_unit, session_unit, start_of}
-use Rattle.salt_model.specs.Programs.{under_way}
+use Rattle.salt_model.specs.Log.{Asked, Log, Tree, Unread, start_of}
+use Rattle.salt_model.specs.Programs.{accepted_in, under_way}
+use Rattle.salt_model.specs.Units.{is_waiting, kind_of, open_units, program_unit, session_unit}
 use Rattle.salt_model.specs.Words.{is_empty}
 use Rattle.salt_model.specs.declared.events.Refusal.TheVariants as refused
 use Rattle.salt_model.specs.declared.events.Refusal.{Refusal}

@@ -1,6 +1,7 @@
 -- Releases come exactly when they are due, and name exactly the programs that are releasable.
 use Rattle.salt_model.specs.Continuing.{last_said}
-use Rattle.salt_model.specs.Log.{Log, finished_in, released_in}
+use Rattle.salt_model.specs.Log.{Log}
+use Rattle.salt_model.specs.Programs.{finished_in, released_in}
 use Rattle.salt_model.specs.Phases.{Phase, Serving, phase}
 use Rattle.salt_model.specs.Played.{Each}
 use Rattle.salt_model.specs.Reads.{read_directly, to_release}

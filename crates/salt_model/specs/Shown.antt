@@ -3,7 +3,8 @@ use Rattle.salt_ast.specs.declared.programs.Body.TheVariants.{Base}
 use Rattle.salt_model.specs.After.{kept}
 use Rattle.salt_model.specs.Kept.{cont_of}
 use Rattle.salt_model.specs.Locks.{held, is_same_owner}
-use Rattle.salt_model.specs.Log.{Log, from, open_units, ◌asks◌, ◌says◌, ◌turns◌}
+use Rattle.salt_model.specs.Log.{Log, from, ◌asks◌, ◌says◌, ◌turns◌}
+use Rattle.salt_model.specs.Units.{open_units}
 use Rattle.salt_model.specs.Programs.{under_way, unreleased}
 use Rattle.salt_model.specs.Reads.{is_finished}
 use Rattle.salt_model.specs.Words.{in_order}

@@ -10,7 +10,8 @@ use Rattle.salt_ast.specs.declared.trees.Statement.{Statement}
 use Rattle.salt_model.specs.After.{answer_now, kept}
 use Rattle.salt_model.specs.Kept.{cont_of, kept_program}
 use Rattle.salt_model.specs.Locks.{clashing}
-use Rattle.salt_model.specs.Log.{Log, Tree, base_count, done_of, from, is_waiting, kind_of, line_begun, line_of, program_unit, session_unit, unit_count, ◌asks◌, ◌says◌, ◌turns◌}
+use Rattle.salt_model.specs.Log.{Log, Tree, from, line_of, ◌asks◌, ◌says◌, ◌turns◌}
+use Rattle.salt_model.specs.Units.{base_count, done_of, is_waiting, kind_of, line_begun, program_unit, session_unit, unit_count}
 use Rattle.salt_model.specs.Reads.{to_release}
 use Rattle.salt_model.specs.Shown.{base_items, lock_items}
 use Rattle.salt_ast.specs.ProgramTexts.{program_text}

@@ -9,7 +9,8 @@ use Rattle.salt_ast.specs.declared.trees.Statement.{Statement}
 use Rattle.salt_model.specs.After.{kept}
 use Rattle.salt_model.specs.Kept.{block_of_kind}
 use Rattle.salt_model.specs.Locks.{clashing}
-use Rattle.salt_model.specs.Log.{Log, Standing, Waiting, done_of, is_of_program, kind_of, line_of, line_waited, program_of, standing, wait_list}
+use Rattle.salt_model.specs.Log.{Log, line_of}
+use Rattle.salt_model.specs.Units.{Standing, Waiting, done_of, is_of_program, kind_of, line_waited, program_of, standing, wait_list}
 use Rattle.salt_model.specs.Reads.{is_finished, sources}
 use Rattle.salt_model.specs.Words.{greatest, has_id, in_order, is_empty}
 use Rattle.salt_model.specs.declared.events.Owner.TheVariants.{Base, Unit}

@@ -8,7 +8,8 @@ use Rattle.salt_io.specs.Streams.{Gains, GainsSome, bytes_before}
 use Rattle.salt_model.specs.After.{kept}
 use Rattle.salt_model.specs.EventTexts.{ShowsNothing, event_text, story_text}
 use Rattle.salt_model.specs.Kept.{nothing_kept}
-use Rattle.salt_model.specs.Log.{Log, from, unit_count, ◌says◌}
+use Rattle.salt_model.specs.Log.{Log, from, ◌says◌}
+use Rattle.salt_model.specs.Units.{unit_count}
 use Rattle.salt_model.specs.Played.{IsComplete, Tells, empty_start}
 use Rattle.salt_model.specs.declared.events.Event.{Event}
 use Rattle.salt_model.specs.declared.events.Event.TheVariants.{Opened, Ready, Shown}

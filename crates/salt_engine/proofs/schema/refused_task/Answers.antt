@@ -1,7 +1,7 @@
 use Rattle.salt_engine.proofs.Refused.{task-known, task-unknown}
 use Rattle.salt_engine.proofs.schema.refused_task.Goals as goal
 use Rattle.salt_engine.specs.Schema.{is_fitting}
-use Rattle.salt_model.specs.Statements.{table_named}
+use Rattle.salt_model.specs.Reaches.{table_named}
 use Rattle.salt_model.specs.declared.events.Refusal.TheVariants.{Unknown}
 use Rattle.std.proofs.Common.{Some, ap, false, sym, true, ◌∙◌}
 

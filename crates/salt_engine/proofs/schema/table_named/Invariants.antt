@@ -1,5 +1,5 @@
 use Rattle.salt_engine.proofs.schema.table_named.Given as goal
-use Rattle.salt_model.specs.Statements.{table_from}
+use Rattle.salt_model.specs.Reaches.{table_from}
 use Rattle.std.proofs.Common.{drop, ◌≡◌}
 
 abbrev pub invariant-loop-number : goal.invariant-loop-number
