@@ -14,7 +14,6 @@ use Rattle.salt_model.specs.declared.events.Event.TheVariants.{Accepted, Armed, 
 use Rattle.salt_model.specs.declared.events.Event.{Event}
 use Rattle.salt_model.specs.declared.events.UnitKind.TheVariants.{Acid, Call, First, Later}
 use Rattle.salt_model.specs.declared.events.UnitKind.{UnitKind}
-use Rattle.salt_model.specs.declared.shown.BaseAt.TheVariants.{Finished, First}
 use Rattle.salt_values.specs.declared.id.Id.{Id}
 use Rattle.std.specs.Prelude.{Bool, IsTrue, None, Option, Some, [], false, is_none, not, option_and_then, option_map, ℕ, ⊤, ◌&&◌, ◌≡◌, ◌≤◌}
 

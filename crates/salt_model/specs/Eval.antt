@@ -1,6 +1,5 @@
 -- Expressions: what they give, with the first cause met from left to right.
 use Rattle.salt_ast.specs.Words.{is_same_name}
-use Rattle.salt_ast.specs.declared.trees.ColType.TheVariants.{Int, Text}
 use Rattle.salt_ast.specs.declared.trees.Expr.{Binary', Column, Expr, Lit, Not', Variable, end_of-Expr, more_of-Expr}
 use Rattle.salt_ast.specs.declared.trees.Field.{Field}
 use Rattle.salt_ast.specs.declared.trees.Op.TheVariants.{Add, And, AtLeast, AtMost, Equal, Greater, Join, Less, Mul, Or, Sub, Unequal}

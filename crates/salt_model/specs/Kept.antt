@@ -2,23 +2,17 @@
 use Rattle.salt_model.specs.Words.{Every}
 use Rattle.salt_ast.specs.Paths.{at_number, next_on_commit, next_on_failure}
 use Rattle.salt_ast.specs.ProgramJudgement.{program_named}
-use Rattle.salt_ast.specs.declared.lines.Act.TheVariants.{Call}
 use Rattle.salt_ast.specs.declared.programs.Body.TheVariants.{Acid, Base}
 use Rattle.salt_ast.specs.declared.programs.PartDef.{PartDef}
 use Rattle.salt_ast.specs.declared.programs.ProgramDef.{ProgramDef}
-use Rattle.salt_ast.specs.declared.trees.ColType.TheVariants.{Int, Text}
 use Rattle.salt_ast.specs.declared.trees.ColType.{ColType}
 use Rattle.salt_ast.specs.declared.trees.Field.{Field}
 use Rattle.salt_ast.specs.declared.trees.Statement.{Statement}
 use Rattle.salt_ast.specs.declared.trees.TableDef.{TableDef}
 use Rattle.salt_model.specs.Eval.{named_values}
 use Rattle.salt_model.specs.Tables.{Tables, no_rows}
-use Rattle.salt_model.specs.declared.events.Owner.TheVariants.{Base}
 use Rattle.salt_model.specs.declared.events.UnitKind.TheVariants.{Acid, Call, First, Later}
 use Rattle.salt_model.specs.declared.events.UnitKind.{UnitKind}
-use Rattle.salt_model.specs.declared.locks.Family.TheVariants.{Acid}
-use Rattle.salt_model.specs.declared.shown.BaseAt.TheVariants.{First}
-use Rattle.salt_model.specs.declared.shown.Item.TheVariants.{Base}
 use Rattle.salt_model.specs.declared.vars.Binding.{Binding}
 use Rattle.salt_values.specs.Id.{is_same_id}
 use Rattle.salt_values.specs.declared.cont.Cont.{Cont}

@@ -33,5 +33,6 @@ pub mod Computing
 pub mod Scripts
 pub mod SessionRows
 pub mod ProgramRows
+pub mod WaitRows
 pub mod StopRows
 pub mod RefusalRows

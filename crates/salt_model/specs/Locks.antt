@@ -1,6 +1,5 @@
 -- The held locks, read off the log, and clashes.
 use Rattle.salt_ast.specs.Words.{when}
-use Rattle.salt_ast.specs.declared.programs.Body.TheVariants.{Base}
 use Rattle.salt_ast.specs.declared.trees.Statement.{Statement}
 use Rattle.salt_model.specs.After.{reach_now}
 use Rattle.salt_model.specs.Log.{Log, from, ◌asks◌, ◌says◌, ◌turns◌}
@@ -19,8 +18,6 @@ use Rattle.salt_model.specs.declared.locks.Lock.{Lock}
 use Rattle.salt_model.specs.declared.locks.Mode.TheVariants.{Read, Write}
 use Rattle.salt_model.specs.declared.locks.Mode.{Mode}
 use Rattle.salt_model.specs.declared.locks.Reach.{Reach}
-use Rattle.salt_model.specs.declared.shown.BaseAt.TheVariants.{First}
-use Rattle.salt_model.specs.declared.shown.Item.TheVariants.{Base}
 use Rattle.salt_ranges.specs.Ranges.{meets}
 use Rattle.salt_values.specs.Id.{is_same_id}
 use Rattle.salt_values.specs.declared.id.Id.{Id}

@@ -1,14 +1,10 @@
 -- The BASE programs: accepted, finished, released, and those that are under way.
-use Rattle.salt_ast.specs.declared.lines.Act.TheVariants.{Call}
-use Rattle.salt_ast.specs.declared.programs.Body.TheVariants.{Acid}
 use Rattle.salt_model.specs.Log.{Log, from, ◌asks◌, ◌says◌, ◌turns◌}
 use Rattle.salt_model.specs.Units.{kind_of, open_units, program_of_kind}
 use Rattle.salt_model.specs.Words.{in_order, without}
 use Rattle.salt_model.specs.declared.events.Event.TheVariants.{Accepted, Began, Finished, Ready, Released}
 use Rattle.salt_model.specs.declared.events.UnitKind.TheVariants.{Acid, Call, First, Later}
 use Rattle.salt_model.specs.declared.events.UnitKind.{UnitKind}
-use Rattle.salt_model.specs.declared.locks.Family.TheVariants.{Acid}
-use Rattle.salt_model.specs.declared.shown.BaseAt.TheVariants.{Finished, First}
 use Rattle.salt_values.specs.declared.id.Id.{Id}
 use Rattle.std.specs.List.{filter_map}
 use Rattle.std.specs.Prelude.{List, None, Option, Some, [], map, option_and_then, ◌++◌, ◌∷◌}

@@ -2,7 +2,6 @@
 use Rattle.salt_ast.specs.Words.{is_same_name}
 use Rattle.salt_ast.specs.declared.trees.Bound.TheVariants.{All, Between, Key}
 use Rattle.salt_ast.specs.declared.trees.Bound.{Bound}
-use Rattle.salt_ast.specs.declared.trees.ColType.TheVariants.{Int}
 use Rattle.salt_ast.specs.declared.trees.Expr.{Expr}
 use Rattle.salt_ast.specs.declared.trees.Statement.TheVariants.{Delete, Ensure, Insert, Select, SelectInto, Update}
 use Rattle.salt_ast.specs.declared.trees.Statement.{Statement}

@@ -1,5 +1,4 @@
 -- The items of `show locks` and `show bases`.
-use Rattle.salt_ast.specs.declared.programs.Body.TheVariants.{Base}
 use Rattle.salt_model.specs.After.{kept}
 use Rattle.salt_model.specs.Kept.{cont_of}
 use Rattle.salt_model.specs.Locks.{held, is_same_owner}
@@ -13,9 +12,8 @@ use Rattle.salt_model.specs.declared.events.Owner.TheVariants.{Base, Unit}
 use Rattle.salt_model.specs.declared.events.UnitKind.TheVariants.{First, Later}
 use Rattle.salt_model.specs.declared.events.UnitKind.{UnitKind}
 use Rattle.salt_model.specs.declared.locks.Lock.{Lock}
-use Rattle.salt_model.specs.declared.shown.BaseAt.TheVariants.{First, Next}
+use Rattle.salt_model.specs.declared.shown.BaseAt.TheVariants.{Next}
 use Rattle.salt_model.specs.declared.shown.BaseAt.{BaseAt}
-use Rattle.salt_model.specs.declared.shown.Item.TheVariants.{Base}
 use Rattle.salt_model.specs.declared.shown.Item.{Item}
 use Rattle.salt_values.specs.Id.{is_same_id}
 use Rattle.salt_values.specs.declared.id.Id.{Id}

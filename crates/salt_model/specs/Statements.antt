@@ -1,7 +1,6 @@
 -- What a statement does, and statements one after another.
 use Rattle.salt_ast.specs.Words.{is_same_name}
 use Rattle.salt_ast.specs.declared.trees.Bound.TheVariants.{All}
-use Rattle.salt_ast.specs.declared.trees.ColType.TheVariants.{Int}
 use Rattle.salt_ast.specs.declared.trees.Expr.{Expr}
 use Rattle.salt_ast.specs.declared.trees.Field.{Field}
 use Rattle.salt_ast.specs.declared.trees.Set.{Set}

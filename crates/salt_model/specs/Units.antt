@@ -1,9 +1,7 @@
 -- Units: who is open, runs or waits, for whom, and what it has done.
 use Rattle.salt_ast.specs.Words.{or_else, when}
-use Rattle.salt_ast.specs.declared.lines.Act.TheVariants.{Call}
 use Rattle.salt_ast.specs.declared.lines.Line.TheVariants.{Nothing}
 use Rattle.salt_ast.specs.declared.lines.Line.{Line}
-use Rattle.salt_ast.specs.declared.programs.Body.TheVariants.{Acid}
 use Rattle.salt_ast.specs.declared.trees.Statement.{Statement}
 use Rattle.salt_model.specs.Words.{first_of_list, without}
 use Rattle.salt_model.specs.declared.events.Answer.{Answer}
@@ -12,8 +10,6 @@ use Rattle.salt_model.specs.declared.events.Event.TheVariants.{Began, Did, Ended
 use Rattle.salt_model.specs.declared.events.Event.{Event}
 use Rattle.salt_model.specs.declared.events.UnitKind.TheVariants.{Acid, Call, First, Later}
 use Rattle.salt_model.specs.declared.events.UnitKind.{UnitKind}
-use Rattle.salt_model.specs.declared.locks.Family.TheVariants.{Acid}
-use Rattle.salt_model.specs.declared.shown.BaseAt.TheVariants.{First}
 use Rattle.salt_values.specs.Id.{is_same_id}
 use Rattle.salt_values.specs.declared.id.Id.{Id}
 use Rattle.std.specs.List.{filter}

@@ -4,7 +4,6 @@ use Rattle.salt_ast.specs.declared.lines.Act.TheVariants.{Do}
 use Rattle.salt_ast.specs.declared.lines.Act.{Act}
 use Rattle.salt_ast.specs.declared.lines.Line.TheVariants.{Session}
 use Rattle.salt_ast.specs.declared.lines.Line.{Line}
-use Rattle.salt_ast.specs.declared.programs.Body.TheVariants.{Base}
 use Rattle.salt_ast.specs.declared.trees.Statement.{Statement}
 use Rattle.salt_model.specs.After.{kept}
 use Rattle.salt_model.specs.Kept.{block_of_kind}
@@ -15,7 +14,6 @@ use Rattle.salt_model.specs.Reads.{is_finished, sources}
 use Rattle.salt_model.specs.Words.{greatest, has_id, in_order, is_empty}
 use Rattle.salt_model.specs.declared.events.Owner.TheVariants.{Base, Unit}
 use Rattle.salt_model.specs.declared.events.Owner.{Owner}
-use Rattle.salt_model.specs.declared.shown.Item.TheVariants.{Base}
 use Rattle.salt_values.specs.Id.{is_same_id}
 use Rattle.salt_values.specs.declared.id.Id.{Id}
 use Rattle.std.specs.List.{filter, find, flat_map, list_any}
