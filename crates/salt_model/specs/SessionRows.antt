@@ -1,4 +1,6 @@
 -- Worked rows of tables and sessions, computed from script to printed lines.
+use Rattle.salt_values.specs.declared.id.Id.{Id}
+use Rattle.salt_model.specs.Units.{history_of}
 use Rattle.salt_ast.specs.Sample.{acct, field, id, scan, set}
 use Rattle.salt_ast.specs.Trees.{operation}
 use Rattle.salt_ast.specs.declared.lines.Line.TheVariants as line
@@ -12,7 +14,7 @@ use Rattle.salt_ast.specs.declared.trees.TableDef.{TableDef}
 use Rattle.salt_ast.specs.declared.trees.What.TheVariants as what
 use Rattle.salt_model.specs.Computing.{computing}
 use Rattle.salt_model.specs.Scripts.{accounts, all_rows, at, bal_at, begin, call_transfer, commit, insert_acct, insert_into, int, key_is, raise_all, rollback, set_bal, step}
-use Rattle.salt_model.specs.Walk.{printed}
+use Rattle.salt_model.specs.Walk.{printed, walk}
 use Rattle.std.specs.Prelude.{List, None, [], codes, drop, negsuc, pos, refl, ℕ, ℤ, ◌++◌, ◌∷◌, ◌≡◌}
 
 -- A row is put in, asked for, and put in a second time.
@@ -111,6 +113,13 @@ deadlock_printed : drop 10 (printed deadlock) ≡
     codes "u1.3 committed 5" ∷ []
 unfolding computing
 deadlock_printed = refl
+
+abbrev unit : ℕ → Id
+unit n = record { boot = 1; seq = n }
+
+deadlock_history : history_of (walk deadlock) ≡ unit 1 ∷ unit 2 ∷ unit 4 ∷ unit 3 ∷ []
+unfolding computing
+deadlock_history = refl
 
 -- A number outside 64 bits fails its statement; a sum is exact.
 

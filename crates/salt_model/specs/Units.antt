@@ -73,6 +73,14 @@ units_begun (log says e) = units_begun log
 abbrev pub open_units : Log → List Id
 open_units log = filter (is_open log) (units_begun log)
 
+-- the history: the ended units, in the order of their ends
+abbrev pub history_of : Log → List Id
+history_of (from k) = []
+history_of (log asks asked) = history_of log
+history_of (log turns b) = history_of log
+history_of (log says Ended u end) = history_of log ++ u ∷ []
+history_of (log says e) = history_of log
+
 -- the statements that a unit has done since its Began, in order
 abbrev pub done_of : Id → Log → List Statement
 done_of u (from k) = []
