@@ -1,4 +1,4 @@
--- Each program goes along its declared path, and releases come exactly when they are due.
+-- Each program goes along its declared path, and each opening brings all of them to their ends.
 use Rattle.salt_values.specs.declared.cont.Cont.{Cont}
 use Rattle.salt_ast.specs.Words.{when}
 use Rattle.salt_model.specs.Words.{Every, has_id}

@@ -1,17 +1,18 @@
 -- How a run may end, and what stands then.
 use Rattle.salt_model.specs.After.{keep, kept, stage}
 use Rattle.salt_model.specs.Kept.{Kept}
-use Rattle.salt_model.specs.Log.{Log}
+use Rattle.salt_model.specs.Log.{Log, story_of}
 use Rattle.salt_model.specs.Next.{flight, next}
 use Rattle.salt_model.specs.Phases.{Phase, Serving, phase}
 use Rattle.salt_model.specs.Played.{IsComplete, is_device_next}
 use Rattle.salt_model.specs.declared.events.Event.TheVariants.{Defined, Ended}
 use Rattle.salt_model.specs.declared.events.Event.{Event}
 use Rattle.salt_model.specs.declared.events.Flight.{Flight}
-use Rattle.std.specs.Prelude.{Bool, IsTrue, None, Option, Some, false, not, true, ⊤, ◌||◌, ◌≡◌, ◌⊎◌}
+use Rattle.std.specs.Prelude.{Bool, IsTrue, None, Option, Some, [], false, not, true, ⊤, ◌||◌, ◌≡◌, ◌⊎◌}
 
--- how a run may end: between lines, anywhere, within an opening, where devices are used, or where the output failed
+-- how a run may end: before it begins, between lines, anywhere, within an opening, where devices are used, or where the output failed
 pub data Leave : Type 0 where
+  NotBegun : Leave
   AtLineEnd : Leave
   AnyPlace : Leave
   InAnOpening : Leave
@@ -23,6 +24,7 @@ is_serving Serving = true
 is_serving phase = false
 
 abbrev pub MayLeave : Leave → Log → Type 0
+MayLeave NotBegun log = story_of log ≡ []
 MayLeave AtLineEnd log = IsComplete log
 MayLeave AnyPlace log = ⊤
 MayLeave InAnOpening log = is_serving (phase log) ≡ false

@@ -4,8 +4,8 @@ use Rattle.salt_io.specs.Streams.{Gains, GainsSome, IsAtEnd, bytes_before}
 use Rattle.salt_model.specs.Lines.{AskInOrder}
 use Rattle.salt_model.specs.Log as log_words
 use Rattle.salt_model.specs.Log.{Log}
-use Rattle.salt_model.specs.Phases.{Fallen, phase}
-use Rattle.salt_model.specs.Played.{IsComplete, Tells, empty_start}
+use Rattle.salt_model.specs.Ends.{AnyPlace, AtLineEnd, Leave, MayLeave, NotBegun}
+use Rattle.salt_model.specs.Played.{Tells, empty_start}
 use Rattle.salt_model.specs.Continuing.{IsContinued}
 use Rattle.salt_model.specs.Decided.{IsKept}
 use Rattle.salt_model.specs.EventTexts.{story_text}
@@ -46,14 +46,14 @@ abbrev pub AreLinesOf : Status → Option (List ℕ) → Option (List ℕ) → L
 AreLinesOf status None left texts = ⊤
 AreLinesOf status (Some script) left texts = AreLinesDone status script left texts
 
--- a run ends between lines; where memory ran out anywhere, and with wrong words before it began
-abbrev pub MayLeave : Status → Log → Type 0
-MayLeave Memory log = ⊤
-MayLeave Usage log = phase log ≡ Fallen
-MayLeave Done log = IsComplete log
-MayLeave ReadFault log = IsComplete log
-MayLeave WriteFault log = IsComplete log
-MayLeave ScriptTooLong log = IsComplete log
+-- a run ends between lines; where memory ran out anywhere, and with wrong words before it begins
+abbrev pub leave_of : Status → Leave
+leave_of Memory = AnyPlace
+leave_of Usage = NotBegun
+leave_of Done = AtLineEnd
+leave_of ReadFault = AtLineEnd
+leave_of WriteFault = AtLineEnd
+leave_of ScriptTooLong = AtLineEnd
 
 -- the story is that of a log which is played, and whose lines are those that were done of the script
 pub record IsPlayedRun (status : Status) (script left : Option (List ℕ)) (story : List Event) : Type 0 where
@@ -62,7 +62,7 @@ pub record IsPlayedRun (status : Status) (script left : Option (List ℕ)) (stor
   pub tells : Tells empty_start log story
   pub asked : AskInOrder texts (log_words.lines_of log)
   pub lines : AreLinesOf status script left texts
-  pub leaves : MayLeave status log
+  pub leaves : MayLeave (leave_of status) log
 
 -- what is promised of a played log
 pub record Promises (log : Log) : Type 0 where
