@@ -12,7 +12,7 @@ use Rattle.salt_ast.specs.declared.trees.Op.{Op}
 use Rattle.salt_ast.specs.declared.trees.Op.TheVariants as op
 use Rattle.salt_tokens.specs.Bytes.{is_printable}
 use Rattle.salt_tokens.specs.Pieces.{Run}
-use Rattle.salt_tokens.specs.Symbols.{Row, Symbol, int, key, name, sign, text}
+use Rattle.salt_tokens.specs.Symbols.{Symbols, Symbol, int, key, name, sign, text}
 use Rattle.salt_tokens.specs.declared.keyword.Keyword.TheVariants as word
 use Rattle.salt_tokens.specs.declared.sign.Sign.TheVariants as mark
 use Rattle.std.proofs.Common.{List, [], append_assoc, arith, codes, neg_ℤ, pos, refl, suc, sym, zero, ℕ, ◌++◌, ◌<◌, ◌^◌, ◌∷◌, ◌≤◌}
@@ -23,11 +23,11 @@ IsReadExpr e = (depth : ℕ) → height e ≤ suc depth → IsReadAs (Atom (With
 
 -- so is the text of each expression that tokens spell in this form
 abbrev pub AreRead : Spells → Type 0
-AreRead Form = (ts : Row) (e : Expr) → Form ts e → Each HasToken ts → IsReadExpr e
+AreRead Form = (ts : Symbols) (e : Expr) → Form ts e → Each HasToken ts → IsReadExpr e
 
 -- ---- the levels of an atom
 
-module _ {Inner : Spells} {ts : Row} {e : Expr} (a : Atom Inner ts e) where
+module _ {Inner : Spells} {ts : Symbols} {e : Expr} (a : Atom Inner ts e) where
   as_product : Product Inner ts e
   as_product = one a
 
@@ -58,7 +58,7 @@ op_symbol op.Join = sign mark.Bars
 op_symbol op.Mul = sign mark.Star
 
 -- two atoms and an operation
-joined : {Inner : Spells} {a b : Row} {l r : Expr} → Atom Inner a l → Atom Inner b r → (o : Op) → Expression Inner (a ++ op_symbol o ∷ b) (operation o l r)
+joined : {Inner : Spells} {a b : Symbols} {l r : Expr} → Atom Inner a l → Atom Inner b r → (o : Op) → Expression Inner (a ++ op_symbol o ∷ b) (operation o l r)
 unfolding op_symbol
 joined x y op.Or = more (as_expression x) _ refl refl (as_conjunction y)
 joined x y op.And = one (more (as_conjunction x) _ refl refl (as_negation y))
@@ -83,7 +83,7 @@ height_positive (Binary' o _ (more_of-Expr l end_of-Expr) _ (more_of-Expr r end_
 -- ---- texts of expressions
 
 module _ (laws : TokenLaws) where
-  op_fragment : (o : Op) {b : List ℕ} {us : Row} → IsFragment Stops b us → IsFragment Stops (op_text o ++ (codes " " ++ b)) (op_symbol o ∷ us)
+  op_fragment : (o : Op) {b : List ℕ} {us : Symbols} → IsFragment Stops b us → IsFragment Stops (op_text o ++ (codes " " ++ b)) (op_symbol o ∷ us)
   unfolding op_symbol
   op_fragment op.Or f = spaced_word laws word.Or f
   op_fragment op.And f = spaced_word laws word.And f

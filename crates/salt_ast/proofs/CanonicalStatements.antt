@@ -19,7 +19,7 @@ use Rattle.salt_ast.specs.declared.trees.Set.{Set}
 use Rattle.salt_ast.specs.declared.trees.Statement.{Statement}
 use Rattle.salt_ast.specs.declared.trees.What.{What}
 use Rattle.salt_tokens.specs.Spelling.{keyword_spelling}
-use Rattle.salt_tokens.specs.Symbols.{Row, key, name, row_of, sign}
+use Rattle.salt_tokens.specs.Symbols.{Symbols, key, name, symbols_of, sign}
 use Rattle.salt_tokens.specs.declared.keyword.Keyword.{Keyword}
 use Rattle.salt_tokens.specs.declared.keyword.Keyword.TheVariants as word
 use Rattle.salt_tokens.specs.declared.sign.Sign.TheVariants as mark
@@ -27,18 +27,18 @@ use Rattle.std.proofs.Common.{List, None, Option, Some, [], codes, map, refl, �
 
 -- ---- names, and what is shown
 
-name_read : (ts : Row) (n : List ℕ) → IsName ts n → Each HasToken ts → IsReadAs IsName (name_text n) n
+name_read : (ts : Symbols) (n : List ℕ) → IsName ts n → Each HasToken ts → IsReadAs IsName (name_text n) n
 name_read _ _ (is_name {n}) (named, _) = record { symbols = name n ∷ []; fragment = name_fragment n named; spelled = is_name }
 
 module _ (laws : TokenLaws) where
-  names_read : (ts : Row) (ns : List (List ℕ)) → Listed IsName ts ns → Each HasToken ts → IsReadAs (Listed IsName) (between_commas name_text ns) ns
+  names_read : (ts : Symbols) (ns : List (List ℕ)) → Listed IsName ts ns → Each HasToken ts → IsReadAs (Listed IsName) (between_commas name_text ns) ns
   names_read ts ns d h = listed_read laws IsName name_text ts ns d (each_listed IsName (λ n. IsReadAs IsName (name_text n) n) name_read ts ns d h)
 
   -- what is computed of a column
   of_column : (k : Keyword) (n : List ℕ) → IsNameWord n → IsFragment Stops (keyword_spelling k ++ (codes "(" ++ (n ++ codes ")"))) (key k ∷ sign mark.Open ∷ name n ∷ sign mark.Close ∷ [])
   of_column k n named = word_before laws k (λ rest next. refl) (open_before laws (closed laws (name_fragment n named)))
 
-  what_read : (ts : Row) (w : What) → IsWhat ts w → Each HasToken ts → IsReadAs IsWhat (what_text w) w
+  what_read : (ts : Symbols) (w : What) → IsWhat ts w → Each HasToken ts → IsReadAs IsWhat (what_text w) w
   what_read _ _ every_column h = record { symbols = sign mark.Star ∷ []; fragment = star_before laws nothing; spelled = every_column }
   what_read _ _ (named_columns {ts = ts} {ns = ns} d) h =
       let x = names_read ts ns d h in
@@ -84,7 +84,7 @@ abbrev IsReadSet : Set → Type 0
 IsReadSet set = IsReadAs (IsSet (Within 64)) (set_text set) set
 
 module _ (laws : TokenLaws) {Inner : Spells} (inner : AreRead Inner) where
-  and_read : (ts : Row) (f : Option Expr) → IsAnd Inner ts f → Each HasToken ts → Each IsLow (filter_exprs f) → IsReadAs (IsAnd (Within 64)) (filter_text (codes " and ") f) f
+  and_read : (ts : Symbols) (f : Option Expr) → IsAnd Inner ts f → Each HasToken ts → Each IsLow (filter_exprs f) → IsReadAs (IsAnd (Within 64)) (filter_text (codes " and ") f) f
   and_read _ _ no_and h low = record { symbols = []; fragment = nothing; spelled = no_and }
   and_read _ _ (and {ts = ts} {e = e} d) (_, row) (low, _) =
       let x = low_conjunction e (conjunction_read laws inner ts e d row) low in
@@ -94,7 +94,7 @@ module _ (laws : TokenLaws) {Inner : Spells} (inner : AreRead Inner) where
         spelled = and x.spelled;
       }
 
-  scan_read : (ts : Row) (scan : Scan) → IsScan Inner ts scan → Each HasToken ts → Each IsLow (scan_exprs scan) → IsReadAs (IsScan (Within 64)) (scan_text scan) scan
+  scan_read : (ts : Symbols) (scan : Scan) → IsScan Inner ts scan → Each HasToken ts → Each IsLow (scan_exprs scan) → IsReadAs (IsScan (Within 64)) (scan_text scan) scan
   scan_read _ _ no_where h low = record { symbols = []; fragment = nothing; spelled = no_where }
   scan_read _ _ (where_key {a = a} {b = b} {e = e} {f = f} d k) (_, (_, (_, row))) (low, lows) =
       let rows = each_of_append HasToken a b row in
@@ -129,7 +129,7 @@ module _ (laws : TokenLaws) {Inner : Spells} (inner : AreRead Inner) where
 
   -- ---- lists in statements
 
-  set_read : (ts : Row) (set : Set) → IsSet Inner ts set → Each HasToken ts → IsLow (set_value set) → IsReadSet set
+  set_read : (ts : Symbols) (set : Set) → IsSet Inner ts set → Each HasToken ts → IsLow (set_value set) → IsReadSet set
   set_read _ _ (is_set {n = n} {ts = ts} {e = e} d) (named, (_, row)) low =
       let x = low_expression e (expression_read laws inner ts e d row) low in
       record {
@@ -138,12 +138,12 @@ module _ (laws : TokenLaws) {Inner : Spells} (inner : AreRead Inner) where
         spelled = is_set x.spelled;
       }
 
-  sets_read : (ts : Row) (sets : List Set) → Listed (IsSet Inner) ts sets → Each HasToken ts → Each IsLow (map set_value sets) → IsReadAs (Listed (IsSet (Within 64))) (between_commas set_text sets) sets
+  sets_read : (ts : Symbols) (sets : List Set) → Listed (IsSet Inner) ts sets → Each HasToken ts → Each IsLow (map set_value sets) → IsReadAs (Listed (IsSet (Within 64))) (between_commas set_text sets) sets
   sets_read ts sets d h low =
       let each = each_listed (IsSet Inner) (λ set. IsLow (set_value set) → IsReadSet set) set_read ts sets d h in
       listed_read laws (IsSet (Within 64)) set_text ts sets d (each_follows (λ set. IsLow (set_value set)) IsReadSet sets each (each_of_map IsLow set_value sets low))
 
-  values_read : (ts : Row) (es : List Expr) → Listed (Expression Inner) ts es → Each HasToken ts → Each IsLow es → IsReadAs (Listed (Expression (Within 64))) (between_commas expr_text es) es
+  values_read : (ts : Symbols) (es : List Expr) → Listed (Expression Inner) ts es → Each HasToken ts → Each IsLow es → IsReadAs (Listed (Expression (Within 64))) (between_commas expr_text es) es
   values_read ts es d h low =
       let each = each_listed (Expression Inner) IsReadExpr (expression_read laws inner) ts es d h in
       listed_read laws (Expression (Within 64)) expr_text ts es d (low_expressions es each low)
@@ -151,7 +151,7 @@ module _ (laws : TokenLaws) {Inner : Spells} (inner : AreRead Inner) where
 -- ---- statements
 
 module _ (laws : TokenLaws) {Inner Deeper : Spells} (inner : AreRead Inner) (deeper : AreRead Deeper) where
-  statement_read : (ts : Row) (st : Statement) → IsStatement Inner Deeper ts st → Each HasToken ts → Each IsLow (statement_exprs st) → IsReadAs (IsStatement (Within 64) (Within 64)) (statement_text st) st
+  statement_read : (ts : Symbols) (st : Statement) → IsStatement Inner Deeper ts st → Each HasToken ts → Each IsLow (statement_exprs st) → IsReadAs (IsStatement (Within 64) (Within 64)) (statement_text st) st
   statement_read _ _ (is_insert {t = t} {ts = ts} {es = es} d) (_, (_, (named, (_, (_, row))))) low =
       let x = values_read laws deeper ts es d (each_of_append HasToken ts (sign mark.Close ∷ []) row).0 low in
       let values = spaced_word laws word.Values (open_before laws (closed laws x.fragment)) in
@@ -211,4 +211,4 @@ pub canonical_statement : TokenLaws → (bytes : List ℕ) (st : Statement) → 
 unfolding statement_limit
 canonical_statement laws bytes st spells limit =
     let low = all_low (statement_exprs st) (other_is_none (statement_passed st) (height_passed (statement_exprs st)) limit) in
-    text_spells (statement_read laws (within_read laws 128) (within_read laws 127) (row_of spells.tokens) st spells.spelled (row_has_tokens laws spells.lexes) low)
+    text_spells (statement_read laws (within_read laws 128) (within_read laws 127) (symbols_of spells.tokens) st spells.spelled (row_has_tokens laws spells.lexes) low)

@@ -14,7 +14,7 @@ use Rattle.salt_ast.specs.Texts.{expr_text, field_text, preceded, table_text}
 use Rattle.salt_ast.specs.declared.trees.Expr.{Expr}
 use Rattle.salt_ast.specs.declared.trees.Field.{Field}
 use Rattle.salt_ast.specs.declared.trees.TableDef.{TableDef}
-use Rattle.salt_tokens.specs.Symbols.{Row, key, name, row_of, sign}
+use Rattle.salt_tokens.specs.Symbols.{Symbols, key, name, symbols_of, sign}
 use Rattle.salt_tokens.specs.declared.keyword.Keyword.TheVariants as word
 use Rattle.salt_tokens.specs.declared.sign.Sign.TheVariants as mark
 use Rattle.std.proofs.Common.{List, None, [], ap, append_assoc, codes, refl, subst, ℕ, ◌++◌, ◌∷◌, ◌≡◌}
@@ -34,7 +34,7 @@ checks_stops [] rest = close_stops rest
 checks_stops (e ∷ es) rest = comma_stops _
 
 module _ (laws : TokenLaws) where
-  field_read : (ts : Row) (f : Field) → IsField ts f → Each HasToken ts → IsReadAs IsField (field_text f) f
+  field_read : (ts : Symbols) (f : Field) → IsField ts f → Each HasToken ts → IsReadAs IsField (field_text f) f
   field_read _ _ (int_field {n}) (named, _) = record {
     symbols = name n ∷ key word.Int ∷ [];
     fragment = spaced_name n named (word_before laws word.Int (λ rest next. next.words) nothing);
@@ -46,17 +46,17 @@ module _ (laws : TokenLaws) where
     spelled = text_field;
   }
 
-  fields_read : (ts : Row) (fs : List Field) → Following IsField ts fs → Each HasToken ts → IsReadAs (Following IsField) (preceded (codes ", ") field_text fs) fs
+  fields_read : (ts : Symbols) (fs : List Field) → Following IsField ts fs → Each HasToken ts → IsReadAs (Following IsField) (preceded (codes ", ") field_text fs) fs
   fields_read ts fs d h = following_read laws IsField field_text fs (each_following IsField (λ f. IsReadAs IsField (field_text f) f) field_read ts fs d h)
 
 module _ (laws : TokenLaws) {Inner : Spells} (inner : AreRead Inner) where
-  check_read : (ts : Row) (e : Expr) → IsCheck Inner ts e → Each HasToken ts → IsLow e → IsReadAs (IsCheck (Within 64)) (check_text e) e
+  check_read : (ts : Symbols) (e : Expr) → IsCheck Inner ts e → Each HasToken ts → IsLow e → IsReadAs (IsCheck (Within 64)) (check_text e) e
   unfolding check_text
   check_read _ _ (is_check {ts = ts} {e = e} d) (_, row) low =
       let x = low_expression e (expression_read laws inner ts e d row) low in
       record { symbols = key word.Check ∷ x.symbols; fragment = spaced_word laws word.Check x.fragment; spelled = is_check x.spelled }
 
-  checks_read : (ts : Row) (es : List Expr) → Following (IsCheck Inner) ts es → Each HasToken ts → Each IsLow es → IsReadAs (Following (IsCheck (Within 64))) (preceded (codes ", check ") expr_text es) es
+  checks_read : (ts : Symbols) (es : List Expr) → Following (IsCheck Inner) ts es → Each HasToken ts → Each IsLow es → IsReadAs (Following (IsCheck (Within 64))) (preceded (codes ", check ") expr_text es) es
   checks_read ts es d h low =
       let each = each_following (IsCheck Inner) (λ e. IsLow e → IsReadAs (IsCheck (Within 64)) (check_text e) e) check_read ts es d h in
       let checks = following_read laws (IsCheck (Within 64)) check_text es (each_follows IsLow (λ e. IsReadAs (IsCheck (Within 64)) (check_text e) e) es each low) in
@@ -64,7 +64,7 @@ module _ (laws : TokenLaws) {Inner : Spells} (inner : AreRead Inner) where
 
   -- ---- tables
 
-  table_read : (ts : Row) (d : TableDef) → IsTable Inner ts d → Each HasToken ts → Each IsLow d.checks → IsReadAs (IsTable (Within 64)) (table_text d) d
+  table_read : (ts : Symbols) (d : TableDef) → IsTable Inner ts d → Each HasToken ts → Each IsLow d.checks → IsReadAs (IsTable (Within 64)) (table_text d) d
   table_read _ _ (is_table {t = t} {a = a} {b = b} {c = c} {f = f} {fs = fs} {es = es} d k g) (_, (_, (named, (_, row)))) low =
       let first = each_of_append HasToken a (key word.Key ∷ (b ++ (c ++ sign mark.Close ∷ []))) row in
       let others = each_of_append HasToken b (c ++ sign mark.Close ∷ []) first.1.1 in
@@ -76,7 +76,7 @@ module _ (laws : TokenLaws) {Inner : Spells} (inner : AreRead Inner) where
       let fields = word_before laws word.Key (λ rest next. (preceded_stops field_text fs rest next).words) y.fragment in
       let columns = behind_space x.fragment fields in
       let items = behind columns (λ rest next. checks_stops es rest) checks in
-      let close : Row = sign mark.Close ∷ [] in
+      let close : Symbols = sign mark.Close ∷ [] in
       record {
         symbols = key word.Create ∷ key word.Table ∷ name t ∷ sign mark.Open ∷ (x.symbols ++ key word.Key ∷ (y.symbols ++ (z.symbols ++ close)));
         fragment = spaced_word laws word.Create (spaced_word laws word.Table (spaced_name t named (open_before laws (regrouped (append_assoc x.symbols (key word.Key ∷ y.symbols) (z.symbols ++ close)) items))));
@@ -87,4 +87,4 @@ pub canonical_table : TokenLaws → (bytes : List ℕ) (d : TableDef) → Spells
 unfolding table_limit
 canonical_table laws bytes d spells limit =
     let low = all_low d.checks (other_is_none (table_passed d) (height_passed d.checks) limit) in
-    text_spells (table_read laws (within_read laws 127) (row_of spells.tokens) d spells.spelled (row_has_tokens laws spells.lexes) low)
+    text_spells (table_read laws (within_read laws 127) (symbols_of spells.tokens) d spells.spelled (row_has_tokens laws spells.lexes) low)

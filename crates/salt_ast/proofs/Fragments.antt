@@ -3,7 +3,7 @@ use Rattle.salt_ast.specs.Spelling.{Spells}
 use Rattle.salt_tokens.specs.Bytes.{is_digit, is_printable, is_word}
 use Rattle.salt_tokens.specs.Pieces.{Ends, IsToken, Lexes, NotNext, Run, blank, ended, quoted, token}
 use Rattle.salt_tokens.specs.Spelling.{keyword_of, keyword_spelling, sign_of, sign_spelling}
-use Rattle.salt_tokens.specs.Symbols.{HasRow, Row, Symbol, int, key, name, sign, sign_symbol, symbol_by, text, word_symbol}
+use Rattle.salt_tokens.specs.Symbols.{HasSymbols, Symbols, Symbol, int, key, name, sign, sign_symbol, symbol_by, text, word_symbol}
 use Rattle.salt_tokens.specs.declared.keyword.Keyword.{Keyword}
 use Rattle.salt_tokens.specs.declared.sign.Sign.{Sign}
 use Rattle.salt_tokens.specs.declared.sign.Sign.TheVariants as mark
@@ -42,12 +42,12 @@ pub comma_stops : (rest : List ℕ) → Stops (44 ∷ rest)
 comma_stops rest = record { words = refl; digits = refl; quotes = refl }
 
 -- the bytes are these symbols, in front of each text for which `Next` holds
-pub record IsFragment (Next : List ℕ → Type 0) (bytes : List ℕ) (symbols : Row) : Type 0 where
-  pub reads : (rest : List ℕ) (r : Row) → Next rest → HasRow rest r → HasRow (bytes ++ rest) (symbols ++ r)
+pub record IsFragment (Next : List ℕ → Type 0) (bytes : List ℕ) (symbols : Symbols) : Type 0 where
+  pub reads : (rest : List ℕ) (r : Symbols) → Next rest → HasSymbols rest r → HasSymbols (bytes ++ rest) (symbols ++ r)
 
 -- the bytes are read as the tree, wherever a word, a number or a text may end
-pub record IsReadAs {Tree : Type 0} (IsTree : Row → Tree → Type 0) (bytes : List ℕ) (tree : Tree) : Type 0 where
-  pub symbols : Row
+pub record IsReadAs {Tree : Type 0} (IsTree : Symbols → Tree → Type 0) (bytes : List ℕ) (tree : Tree) : Type 0 where
+  pub symbols : Symbols
   pub fragment : IsFragment Stops bytes symbols
   pub spelled : IsTree symbols tree
 
@@ -56,31 +56,31 @@ module _ {Next : List ℕ → Type 0} where
   nothing = record { reads = λ rest r next has. has }
 
   -- a fragment in front of no bytes
-  whole : {bytes : List ℕ} {symbols : Row} → IsFragment Next (bytes ++ []) symbols → IsFragment Next bytes symbols
+  whole : {bytes : List ℕ} {symbols : Symbols} → IsFragment Next (bytes ++ []) symbols → IsFragment Next bytes symbols
   whole {bytes} {symbols} f = subst (λ (x : List ℕ). IsFragment Next x symbols) (append-nil bytes) f
 
-  pub regrouped : {bytes : List ℕ} {s t : Row} → s ≡ t → IsFragment Next bytes s → IsFragment Next bytes t
-  regrouped {bytes} e f = subst (λ (x : Row). IsFragment Next bytes x) e f
+  pub regrouped : {bytes : List ℕ} {s t : Symbols} → s ≡ t → IsFragment Next bytes s → IsFragment Next bytes t
+  regrouped {bytes} e f = subst (λ (x : Symbols). IsFragment Next bytes x) e f
 
-  pub space_before : {b : List ℕ} {us : Row} → IsFragment Next b us → IsFragment Next (32 ∷ b) us
+  pub space_before : {b : List ℕ} {us : Symbols} → IsFragment Next b us → IsFragment Next (32 ∷ b) us
   space_before f = record { reads = λ rest r next has. let t = f.reads rest r next has in (t.0, blank refl t.1, t.2) }
 
   -- one fragment behind another
-  pub behind : {First : List ℕ → Type 0} {a b : List ℕ} {ts us : Row} → IsFragment First a ts → ((rest : List ℕ) → Next rest → First (b ++ rest)) → IsFragment Next b us → IsFragment Next (a ++ b) (ts ++ us)
+  pub behind : {First : List ℕ → Type 0} {a b : List ℕ} {ts us : Symbols} → IsFragment First a ts → ((rest : List ℕ) → Next rest → First (b ++ rest)) → IsFragment Next b us → IsFragment Next (a ++ b) (ts ++ us)
   behind {a = a} {b = b} {ts = ts} {us = us} f first g = record {
     reads = λ rest r next has. rw (append_assoc a b rest, append_assoc ts us r) (f.reads (b ++ rest) (us ++ r) (first rest next) (g.reads rest r next has));
   }
 
-  pub behind_space : {a b : List ℕ} {ts us : Row} → IsFragment Stops a ts → IsFragment Next b us → IsFragment Next (a ++ 32 ∷ b) (ts ++ us)
+  pub behind_space : {a b : List ℕ} {ts us : Symbols} → IsFragment Stops a ts → IsFragment Next b us → IsFragment Next (a ++ 32 ∷ b) (ts ++ us)
   behind_space f g = behind f (λ rest next. space_stops _) (space_before g)
 
-  token_before : (k : TokenKind) (bytes : List ℕ) (s : Symbol) {b : List ℕ} {us : Row} → IsToken k bytes → symbol_by k bytes ≡ s → ((rest : List ℕ) → Next rest → Ends k bytes (b ++ rest)) → IsFragment Next b us → IsFragment Next (bytes ++ b) (s ∷ us)
+  token_before : (k : TokenKind) (bytes : List ℕ) (s : Symbol) {b : List ℕ} {us : Symbols} → IsToken k bytes → symbol_by k bytes ≡ s → ((rest : List ℕ) → Next rest → Ends k bytes (b ++ rest)) → IsFragment Next b us → IsFragment Next (bytes ++ b) (s ∷ us)
   token_before k bytes s {b = b} {us = us} h is ends f = record {
     reads = λ rest r next has.
         let t = f.reads rest r next has in (
           record { kind = k; text = bytes } ∷ t.0,
           rw (append_assoc bytes b rest) (token k bytes h (ends rest next) t.1),
-          rw (← is) (ap (λ (x : Row). symbol_by k bytes ∷ x) t.2),
+          rw (← is) (ap (λ (x : Symbols). symbol_by k bytes ∷ x) t.2),
         );
   }
 
@@ -98,47 +98,47 @@ unfolding sign_of
 space_ends = search rules
 
 module _ (laws : TokenLaws) {Next : List ℕ → Type 0} where
-  pub word_before : (k : Keyword) {b : List ℕ} {us : Row} → ((rest : List ℕ) → Next rest → NotNext is_word (b ++ rest)) → IsFragment Next b us → IsFragment Next (keyword_spelling k ++ b) (key k ∷ us)
+  pub word_before : (k : Keyword) {b : List ℕ} {us : Symbols} → ((rest : List ℕ) → Next rest → NotNext is_word (b ++ rest)) → IsFragment Next b us → IsFragment Next (keyword_spelling k ++ b) (key k ∷ us)
   word_before k ends f = token_before kind.Word (keyword_spelling k) (key k) (laws.words k) (ap (word_symbol (keyword_spelling k)) (laws.keywords k)) ends f
 
-  pub spaced_word : (k : Keyword) {b : List ℕ} {us : Row} → IsFragment Next b us → IsFragment Next (keyword_spelling k ++ 32 ∷ b) (key k ∷ us)
+  pub spaced_word : (k : Keyword) {b : List ℕ} {us : Symbols} → IsFragment Next b us → IsFragment Next (keyword_spelling k ++ 32 ∷ b) (key k ∷ us)
   spaced_word k f = word_before k (λ rest next. refl) (space_before f)
 
-  sign_before : (s : Sign) {b : List ℕ} {us : Row} → ((rest : List ℕ) → Next rest → Ends kind.Sign (sign_spelling s) (b ++ rest)) → IsFragment Next b us → IsFragment Next (sign_spelling s ++ b) (sign s ∷ us)
+  sign_before : (s : Sign) {b : List ℕ} {us : Symbols} → ((rest : List ℕ) → Next rest → Ends kind.Sign (sign_spelling s) (b ++ rest)) → IsFragment Next b us → IsFragment Next (sign_spelling s ++ b) (sign s ∷ us)
   sign_before s ends f = token_before kind.Sign (sign_spelling s) (sign s) (s, refl) (ap sign_symbol (laws.signs s)) ends f
 
-  pub spaced_sign : (s : Sign) {b : List ℕ} {us : Row} → IsFragment Next b us → IsFragment Next (sign_spelling s ++ 32 ∷ b) (sign s ∷ us)
+  pub spaced_sign : (s : Sign) {b : List ℕ} {us : Symbols} → IsFragment Next b us → IsFragment Next (sign_spelling s ++ 32 ∷ b) (sign s ∷ us)
   spaced_sign s f = sign_before s (λ rest next. space_ends s) (space_before f)
 
-  lone_before : (s : Sign) → IsLone s → {b : List ℕ} {us : Row} → IsFragment Next b us → IsFragment Next (sign_spelling s ++ b) (sign s ∷ us)
+  lone_before : (s : Sign) → IsLone s → {b : List ℕ} {us : Symbols} → IsFragment Next b us → IsFragment Next (sign_spelling s ++ b) (sign s ∷ us)
   lone_before s lone {b = b} f = sign_before s (λ rest next. lone_ends s lone (b ++ rest)) f
 
-  pub open_before : {b : List ℕ} {us : Row} → IsFragment Next b us → IsFragment Next (codes "(" ++ b) (sign mark.Open ∷ us)
+  pub open_before : {b : List ℕ} {us : Symbols} → IsFragment Next b us → IsFragment Next (codes "(" ++ b) (sign mark.Open ∷ us)
   unfolding sign_of
   open_before f = lone_before mark.Open (λ b. refl) f
 
-  pub close_before : {b : List ℕ} {us : Row} → IsFragment Next b us → IsFragment Next (codes ")" ++ b) (sign mark.Close ∷ us)
+  pub close_before : {b : List ℕ} {us : Symbols} → IsFragment Next b us → IsFragment Next (codes ")" ++ b) (sign mark.Close ∷ us)
   unfolding sign_of
   close_before f = lone_before mark.Close (λ b. refl) f
 
-  pub comma_before : {b : List ℕ} {us : Row} → IsFragment Next b us → IsFragment Next (codes "," ++ b) (sign mark.Comma ∷ us)
+  pub comma_before : {b : List ℕ} {us : Symbols} → IsFragment Next b us → IsFragment Next (codes "," ++ b) (sign mark.Comma ∷ us)
   unfolding sign_of
   comma_before f = lone_before mark.Comma (λ b. refl) f
 
-  pub colon_before : {b : List ℕ} {us : Row} → IsFragment Next b us → IsFragment Next (codes ":" ++ b) (sign mark.Colon ∷ us)
+  pub colon_before : {b : List ℕ} {us : Symbols} → IsFragment Next b us → IsFragment Next (codes ":" ++ b) (sign mark.Colon ∷ us)
   unfolding sign_of
   colon_before f = lone_before mark.Colon (λ b. refl) f
 
-  pub minus_before : {b : List ℕ} {us : Row} → IsFragment Next b us → IsFragment Next (codes "-" ++ b) (sign mark.Minus ∷ us)
+  pub minus_before : {b : List ℕ} {us : Symbols} → IsFragment Next b us → IsFragment Next (codes "-" ++ b) (sign mark.Minus ∷ us)
   unfolding sign_of
   minus_before f = lone_before mark.Minus (λ b. refl) f
 
-  pub star_before : {b : List ℕ} {us : Row} → IsFragment Next b us → IsFragment Next (codes "*" ++ b) (sign mark.Star ∷ us)
+  pub star_before : {b : List ℕ} {us : Symbols} → IsFragment Next b us → IsFragment Next (codes "*" ++ b) (sign mark.Star ∷ us)
   unfolding sign_of
   star_before f = lone_before mark.Star (λ b. refl) f
 
 -- a closing parenthesis behind a fragment
-pub closed : TokenLaws → {a : List ℕ} {ts : Row} → IsFragment Stops a ts → IsFragment Stops (a ++ codes ")") (ts ++ sign mark.Close ∷ [])
+pub closed : TokenLaws → {a : List ℕ} {ts : Symbols} → IsFragment Stops a ts → IsFragment Stops (a ++ codes ")") (ts ++ sign mark.Close ∷ [])
 closed laws f = behind f (λ rest next. close_stops rest) (close_before laws nothing)
 
 -- ---- names, texts and numbers
@@ -150,7 +150,7 @@ IsNameWord n = IsToken kind.Word n × (keyword_of n ≡ None)
 pub name_fragment : (n : List ℕ) → IsNameWord n → IsFragment Stops n (name n ∷ [])
 name_fragment n h = whole (token_before kind.Word n (name n) h.0 (ap (word_symbol n) h.1) (λ rest next. next.words) nothing)
 
-pub spaced_name : (n : List ℕ) → IsNameWord n → {Next : List ℕ → Type 0} {b : List ℕ} {us : Row} → IsFragment Next b us → IsFragment Next (n ++ 32 ∷ b) (name n ∷ us)
+pub spaced_name : (n : List ℕ) → IsNameWord n → {Next : List ℕ → Type 0} {b : List ℕ} {us : Symbols} → IsFragment Next b us → IsFragment Next (n ++ 32 ∷ b) (name n ∷ us)
 spaced_name n h f = behind_space (name_fragment n h) f
 
 module _ (laws : TokenLaws) where
@@ -162,11 +162,11 @@ module _ (laws : TokenLaws) where
 
 -- ---- a whole text
 
-pub text_spells : {Tree : Type 0} {IsTree : Row → Tree → Type 0} {bytes : List ℕ} {tree : Tree} → IsReadAs IsTree bytes tree → Spells IsTree bytes tree
+pub text_spells : {Tree : Type 0} {IsTree : Symbols → Tree → Type 0} {bytes : List ℕ} {tree : Tree} → IsReadAs IsTree bytes tree → Spells IsTree bytes tree
 text_spells {IsTree = IsTree} {bytes = bytes} {tree = tree} x =
     let row = x.fragment.reads [] [] end_stops ([], ended, refl) in
     record {
       tokens = row.0;
       lexes = subst (λ (bs : List ℕ). Lexes bs row.0) (append-nil bytes) row.1;
-      spelled = subst (λ (r : Row). IsTree r tree) (sym (append-nil x.symbols) ∙ row.2) x.spelled;
+      spelled = subst (λ (r : Symbols). IsTree r tree) (sym (append-nil x.symbols) ∙ row.2) x.spelled;
     }

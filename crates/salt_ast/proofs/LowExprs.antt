@@ -5,7 +5,8 @@ use Rattle.salt_ast.proofs.Fragments.{IsReadAs}
 use Rattle.salt_ast.specs.Grammar.{Atom, Conjunction, Expression, Sum, Within}
 use Rattle.salt_ast.specs.Limits.{height, height_passed, is_high}
 use Rattle.salt_ast.specs.Texts.{expr_text}
-use Rattle.salt_ast.specs.Words.{or_else, when}
+use Rattle.std.specs.Bool.{then_some}
+use Rattle.std.specs.Option.{option_or}
 use Rattle.salt_ast.specs.declared.limit.LimitName.TheVariants as limit
 use Rattle.salt_ast.specs.declared.trees.Expr.{Expr}
 use Rattle.std.proofs.Common.{Bool, List, None, Option, Some, [], arith, false, refl, true, ◌||◌, ◌∷◌, ◌≡◌, ◌≤◌}
@@ -37,10 +38,10 @@ pub all_low : (es : List Expr) → height_passed es ≡ None → Each IsLow es
 all_low [] h = tt
 all_low (e ∷ es) h = go (is_high e) refl (all_low es) h
   where
-    go : (t : Bool) → is_high e ≡ t → (height_passed es ≡ None → Each IsLow es) → when (t || list_any is_high es) limit.Depth ≡ None → Each IsLow (e ∷ es)
+    go : (t : Bool) → is_high e ≡ t → (height_passed es ≡ None → Each IsLow es) → then_some (t || list_any is_high es) limit.Depth ≡ None → Each IsLow (e ∷ es)
     go true k others h = absurd (cc h)
     go false k others h = (grind (arith, nat_tests), others h)
 
-pub other_is_none : {A : Type 0} (x y : Option A) → or_else x y ≡ None → y ≡ None
+pub other_is_none : {A : Type 0} (x y : Option A) → option_or x y ≡ None → y ≡ None
 other_is_none None y h = h
 other_is_none (Some x) y h = absurd (cc h)

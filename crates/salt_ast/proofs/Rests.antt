@@ -2,13 +2,14 @@
 use Rattle.salt_ast.proofs.LowExprs.{other_is_none}
 use Rattle.salt_ast.specs.Paths.{Rest, at_number, next_on_commit, next_on_failure, part_rest, rest_among, rest_of, rests, way_on_commit, way_on_failure}
 use Rattle.salt_ast.specs.ProgramJudgement.{fault_in_parts, is_backward, part_fault}
-use Rattle.salt_ast.specs.Words.{in_some, or_else, when}
+use Rattle.std.specs.Bool.{then_some}
+use Rattle.std.specs.Option.{option_or}
 use Rattle.salt_ast.specs.declared.programs.Next.{Next}
 use Rattle.salt_ast.specs.declared.programs.Next.TheVariants as next
 use Rattle.salt_ast.specs.declared.programs.PartDef.{PartDef}
 use Rattle.std.proofs.Common.{Bool, List, None, Option, Some, [], ap, arith, false, refl, subst, suc, sym, true, zero, ℕ, ◌+◌, ◌∙◌, ◌||◌, ◌∷◌, ◌≡◌, ◌≤◌}
 use Rattle.std.proofs.lemmas.Bool.Decides.{nat_tests}
-use Rattle.std.specs.Prelude.{length, max, nat_lt, ⊤}
+use Rattle.std.specs.Prelude.{length, max, nat_lt, ⊤, option_and_then}
 
 -- what is told of the parts from part `k` on is what is told of all
 abbrev Agrees : (count k : ℕ) → List PartDef → List Rest → Type 0
@@ -41,7 +42,7 @@ told_later count k next.End h = tt
 commit_later : (count k : ℕ) (w : Option Next) → is_backward count k w ≡ false → IsLater k (way_on_commit count k w)
 commit_later count k None h = go (nat_lt k count)
   where
-    go : (t : Bool) → IsLater k (when t (suc k))
+    go : (t : Bool) → IsLater k (then_some t (suc k))
     go true = omega arith
     go false = tt
 commit_later count k (Some (next.Part j)) h = told_later count k (next.Part j) h
@@ -51,11 +52,11 @@ failure_later : (count k : ℕ) (w : Option Next) → is_backward count k w ≡ 
 failure_later count k None h = tt
 failure_later count k (Some n) h = told_later count k n h
 
-pub first_is_none : {A : Type 0} (x y : Option A) → or_else x y ≡ None → x ≡ None
+pub first_is_none : {A : Type 0} (x y : Option A) → option_or x y ≡ None → x ≡ None
 first_is_none None y h = refl
 first_is_none (Some x) y h = absurd (cc h)
 
-not_told : {A : Type 0} (b : Bool) (x : A) → when b x ≡ None → b ≡ false
+not_told : {A : Type 0} (b : Bool) (x : A) → then_some b x ≡ None → b ≡ false
 not_told true x h = absurd (cc h)
 not_told false x h = refl
 
@@ -102,5 +103,5 @@ rest_of_part parts (suc i) p sound is =
     subst (λ n. rest_among (rests (length parts) 1 parts) (Some n) ≡ part_rest (length parts) n p (rests (length parts) 1 parts)) e
     (rest_at (length parts) 1 parts (rests (length parts) 1 parts) (λ j le. refl) sound i p is) in
     subst (λ o. rest_of parts (Some (suc i)) ≡ length p.block
-    + max (rest_of parts (in_some (λ r. way_on_commit (length parts) (suc i) r.then) o)) (rest_of parts (in_some (λ r. way_on_failure r.on_failure) o)))
+    + max (rest_of parts (option_and_then (λ r. way_on_commit (length parts) (suc i) r.then) o)) (rest_of parts (option_and_then (λ r. way_on_failure r.on_failure) o)))
     (sym is) at_part

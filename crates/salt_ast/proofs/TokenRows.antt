@@ -4,7 +4,7 @@ use Rattle.salt_ast.proofs.Fragments.{IsNameWord, TokenLaws}
 use Rattle.salt_tokens.specs.Bytes.{is_printable}
 use Rattle.salt_tokens.specs.Pieces.{IsToken, Lexes, Piece, Run, blank, ended, token}
 use Rattle.salt_tokens.specs.Spelling.{keyword_of, sign_of}
-use Rattle.salt_tokens.specs.Symbols.{Symbol, int, key, largest_int, name, row_of, sign, sign_symbol, symbol_by, text, word_symbol}
+use Rattle.salt_tokens.specs.Symbols.{Symbol, int, key, largest_int, name, symbols_of, sign, sign_symbol, symbol_by, text, word_symbol}
 use Rattle.salt_tokens.specs.declared.keyword.Keyword.{Keyword}
 use Rattle.salt_tokens.specs.declared.sign.Sign.{Sign}
 use Rattle.salt_tokens.specs.declared.token.TokenKind.{TokenKind}
@@ -38,7 +38,7 @@ module _ (laws : TokenLaws) where
   symbol_has_token kind.Text bs h = subst HasToken (sym (ap (symbol_by kind.Text) h.2 ∙ laws.texts h.0)) h.1
   symbol_has_token kind.Sign bs h = sign_has_token (sign_of bs)
 
-  pub row_has_tokens : {bs : List ℕ} {ps : List Piece} → Lexes bs ps → Each HasToken (row_of ps)
+  pub row_has_tokens : {bs : List ℕ} {ps : List Piece} → Lexes bs ps → Each HasToken (symbols_of ps)
   row_has_tokens ended = tt
   row_has_tokens (blank h d) = row_has_tokens d
   row_has_tokens (token k bytes h e d) = (symbol_has_token k bytes h, row_has_tokens d)

@@ -3,13 +3,13 @@ use Rattle.salt_ast.proofs.LowExprs.{other_is_none}
 use Rattle.salt_ast.proofs.Rests.{both_forward, first_is_none}
 use Rattle.salt_ast.specs.Paths.{at_number, next_on_commit, next_on_failure, part_of_next, way_on_commit, way_on_failure}
 use Rattle.salt_ast.specs.ProgramJudgement.{fault_in_parts, is_backward, part_fault}
-use Rattle.salt_ast.specs.Words.{in_some, when}
+use Rattle.std.specs.Bool.{then_some}
 use Rattle.salt_ast.specs.declared.programs.Next.{Next}
 use Rattle.salt_ast.specs.declared.programs.Next.TheVariants as next
 use Rattle.salt_ast.specs.declared.programs.PartDef.{PartDef}
 use Rattle.std.proofs.Common.{Bool, List, None, Option, Some, [], arith, false, refl, subst, suc, sym, true, zero, ℕ, ◌+◌, ◌<◌, ◌∷◌, ◌≡◌, ◌≤◌}
 use Rattle.std.proofs.lemmas.Bool.Decides.{nat_tests}
-use Rattle.std.specs.Prelude.{length, nat_lt}
+use Rattle.std.specs.Prelude.{length, nat_lt, option_and_then}
 
 -- a way of part `k` of `count` leads to a later one, or to the end
 abbrev LeadsOn : (count k : ℕ) → Option ℕ → Type 0
@@ -24,7 +24,7 @@ told_on count k next.End h j is = absurd (cc is)
 commit_on : (count k : ℕ) (w : Option Next) → is_backward count k w ≡ false → LeadsOn count k (way_on_commit count k w)
 commit_on count k None h j is = go (nat_lt k count) refl is
   where
-    go : (t : Bool) → nat_lt k count ≡ t → when t (suc k) ≡ Some j → (k < j) × (j ≤ count)
+    go : (t : Bool) → nat_lt k count ≡ t → then_some t (suc k) ≡ Some j → (k < j) × (j ≤ count)
     go true e is =
         let f : suc k ≡ j = cc is in
         (omega arith, grind (arith, nat_tests))
@@ -59,7 +59,7 @@ commit_leads_on [] zero j sound is = absurd (cc is)
 commit_leads_on (q ∷ qs) zero j sound is = absurd (cc is)
 commit_leads_on parts (suc i) j sound is = go (at_number (suc i) parts) refl is
   where
-    go : (o : Option PartDef) → at_number (suc i) parts ≡ o → in_some (λ p. way_on_commit (length parts) (suc i) p.then) o ≡ Some j → (suc i < j) × (j ≤ length parts)
+    go : (o : Option PartDef) → at_number (suc i) parts ≡ o → option_and_then (λ p. way_on_commit (length parts) (suc i) p.then) o ≡ Some j → (suc i < j) × (j ≤ length parts)
     go None e is = absurd (cc is)
     go (Some p) e is = commit_on (length parts) (suc i) p.then (both_forward (length parts) (suc i) p (sound_part parts sound i p e)).0 j is
 
@@ -68,6 +68,6 @@ failure_leads_on [] zero j sound is = absurd (cc is)
 failure_leads_on (q ∷ qs) zero j sound is = absurd (cc is)
 failure_leads_on parts (suc i) j sound is = go (at_number (suc i) parts) refl is
   where
-    go : (o : Option PartDef) → at_number (suc i) parts ≡ o → in_some (λ p. way_on_failure p.on_failure) o ≡ Some j → (suc i < j) × (j ≤ length parts)
+    go : (o : Option PartDef) → at_number (suc i) parts ≡ o → option_and_then (λ p. way_on_failure p.on_failure) o ≡ Some j → (suc i < j) × (j ≤ length parts)
     go None e is = absurd (cc is)
     go (Some p) e is = failure_on (length parts) (suc i) p.on_failure (both_forward (length parts) (suc i) p (sound_part parts sound i p e)).1 j is

@@ -24,22 +24,22 @@ use Rattle.salt_ast.specs.declared.trees.TableDef.{TableDef}
 use Rattle.salt_ast.specs.declared.trees.What.TheVariants as what
 use Rattle.salt_tokens.specs.Scanning.{first_at, lex, quoted_at}
 use Rattle.salt_tokens.specs.Spelling.{keyword_of, sign_of}
-use Rattle.salt_tokens.specs.Symbols.{Row, int, key, name, row_of, sign, text}
+use Rattle.salt_tokens.specs.Symbols.{Symbols, int, key, name, symbols_of, sign, text}
 use Rattle.salt_tokens.specs.declared.keyword.Keyword.TheVariants as word
 use Rattle.salt_tokens.specs.declared.sign.Sign.TheVariants as mark
 use Rattle.std.specs.Fmt.{digits}
 use Rattle.std.specs.Prelude.{List, None, Option, Some, [], codes, neg_ℤ, option_map, pos, refl, replicate, suc, zero, ℕ, ◌++◌, ◌∷◌, ◌≡◌}
 
 -- the symbols of a text
-abbrev symbols : List ℕ → Option Row
-symbols bytes = option_map row_of (lex 0 bytes)
+abbrev symbols : List ℕ → Option Symbols
+symbols bytes = option_map symbols_of (lex 0 bytes)
 
 abbrev n : List ℕ
 n = codes "n"
 
 -- A statement whose key's bound is followed by a filter.
 
-abbrev between_row : Row
+abbrev between_row : Symbols
 between_row =
     key word.Select ∷ name n ∷ key word.From ∷ name (codes "w") ∷ key word.Where ∷ key word.Key ∷ key word.Between ∷ int 0 ∷ key word.And ∷ int 3 ∷
     key word.And ∷ key word.Not ∷ name n ∷ sign mark.Equal ∷ text (codes "it's") ∷ []
@@ -66,7 +66,7 @@ between_text = refl
 
 -- A table with a check.
 
-abbrev acct_row : Row
+abbrev acct_row : Symbols
 acct_row =
     key word.Create ∷ key word.Table ∷ name acct ∷ sign mark.Open ∷ name id ∷ key word.Int ∷ key word.Key ∷ sign mark.Comma ∷ name bal ∷ key word.Int ∷
     sign mark.Comma ∷ key word.Check ∷ name bal ∷ sign mark.AtLeast ∷ int 0 ∷ key word.And ∷ name bal ∷ sign mark.AtMost ∷ int 1000 ∷ sign mark.Close ∷ []

@@ -3,41 +3,41 @@ use Rattle.salt_ast.specs.Operators.{operator, precedence}
 use Rattle.salt_ast.specs.Trees.{letters, negation, number, operation}
 use Rattle.salt_ast.specs.declared.trees.Expr.{Column, Expr, Variable}
 use Rattle.salt_ast.specs.declared.trees.Op.{Op}
-use Rattle.salt_tokens.specs.Symbols.{Row, Symbol, int, key, name, sign, text}
+use Rattle.salt_tokens.specs.Symbols.{Symbols, Symbol, int, key, name, sign, text}
 use Rattle.salt_tokens.specs.declared.keyword.Keyword.TheVariants as word
 use Rattle.salt_tokens.specs.declared.sign.Sign.TheVariants as mark
 use Rattle.std.specs.Prelude.{List, Some, [], neg_ℤ, pos, suc, zero, ℕ, ◌++◌, ◌∷◌, ◌≡◌}
 
 -- what spells what
 abbrev pub Spells : Type 1
-Spells = Row → Expr → Type 0
+Spells = Symbols → Expr → Type 0
 
 -- Operand { operation Operand }, grouped to the left
-pub data Left (level : ℕ) (Operand : Row → Expr → Type 0) : Row → Expr → Type 0 where
-  one : {ts : Row} {e : Expr} → Operand ts e → Left level Operand ts e
-  more : {a b : Row} {o : Op} {l r : Expr} → Left level Operand a l → (t : Symbol) → operator t ≡ Some o → precedence o ≡ level → Operand b r →
+pub data Left (level : ℕ) (Operand : Symbols → Expr → Type 0) : Symbols → Expr → Type 0 where
+  one : {ts : Symbols} {e : Expr} → Operand ts e → Left level Operand ts e
+  more : {a b : Symbols} {o : Op} {l r : Expr} → Left level Operand a l → (t : Symbol) → operator t ≡ Some o → precedence o ≡ level → Operand b r →
       Left level Operand (a ++ t ∷ b) (operation o l r)
 
 -- Operand [ operation Operand ]
-pub data Once (level : ℕ) (Operand : Row → Expr → Type 0) : Row → Expr → Type 0 where
-  alone : {ts : Row} {e : Expr} → Operand ts e → Once level Operand ts e
-  pair : {a b : Row} {o : Op} {l r : Expr} → Operand a l → (t : Symbol) → operator t ≡ Some o → precedence o ≡ level → Operand b r →
+pub data Once (level : ℕ) (Operand : Symbols → Expr → Type 0) : Symbols → Expr → Type 0 where
+  alone : {ts : Symbols} {e : Expr} → Operand ts e → Once level Operand ts e
+  pair : {a b : Symbols} {o : Op} {l r : Expr} → Operand a l → (t : Symbol) → operator t ≡ Some o → precedence o ≡ level → Operand b r →
       Once level Operand (a ++ t ∷ b) (operation o l r)
 
 -- {"not"} Operand
-pub data Nots (Operand : Row → Expr → Type 0) : Row → Expr → Type 0 where
-  plain : {ts : Row} {e : Expr} → Operand ts e → Nots Operand ts e
-  not : {ts : Row} {e : Expr} → Nots Operand ts e → Nots Operand (key word.Not ∷ ts) (negation e)
+pub data Nots (Operand : Symbols → Expr → Type 0) : Symbols → Expr → Type 0 where
+  plain : {ts : Symbols} {e : Expr} → Operand ts e → Nots Operand ts e
+  not : {ts : Symbols} {e : Expr} → Nots Operand ts e → Nots Operand (key word.Not ∷ ts) (negation e)
 
 -- a literal, a column, a parameter or variable, or what stands in parentheses; a minus sign belongs to the number
 -- behind it
-pub data Atom (Inner : Row → Expr → Type 0) : Row → Expr → Type 0 where
+pub data Atom (Inner : Symbols → Expr → Type 0) : Symbols → Expr → Type 0 where
   plus_int : {n : ℕ} → Atom Inner (int n ∷ []) (number (pos n))
   minus_int : {n : ℕ} → Atom Inner (sign mark.Minus ∷ int n ∷ []) (number (neg_ℤ (pos n)))
   literal : {t : List ℕ} → Atom Inner (text t ∷ []) (letters t)
   named : {n : List ℕ} → Atom Inner (name n ∷ []) (Column n)
   colon : {n : List ℕ} → Atom Inner (sign mark.Colon ∷ name n ∷ []) (Variable n)
-  paren : {ts : Row} {e : Expr} → Inner ts e → Atom Inner (sign mark.Open ∷ (ts ++ sign mark.Close ∷ [])) e
+  paren : {ts : Symbols} {e : Expr} → Inner ts e → Atom Inner (sign mark.Open ∷ (ts ++ sign mark.Close ∷ [])) e
 
 -- The forms of expressions, from the tightest on, given what stands in their parentheses.
 

@@ -1,7 +1,11 @@
 -- What is refused of tables and statements under the tables defined before: names that are not known, names that come
 -- twice, and types.
+use Rattle.salt_values.specs.declared.limits.TheConstants.{TABLES_MOST}
 use Rattle.salt_ast.specs.Trees.{bound_exprs}
-use Rattle.salt_ast.specs.Words.{first_in, in_some, is_among, is_same_name, or_else, when}
+use Rattle.salt_ast.specs.Words.{first_in, is_among}
+use Rattle.salt_tokens.specs.Spelling.{same_bytes}
+use Rattle.std.specs.Bool.{then_some}
+use Rattle.std.specs.Option.{option_or}
 use Rattle.salt_ast.specs.declared.limit.LimitName.{LimitName}
 use Rattle.salt_ast.specs.declared.limit.LimitName.TheVariants as limit
 use Rattle.salt_ast.specs.declared.trees.ColType.{ColType}
@@ -30,12 +34,12 @@ field_names fs = map (λ f. f.name) fs
 
 abbrev pub is_table : List TableDef → List ℕ → Bool
 is_table [] n = false
-is_table (d ∷ ds) n = if is_same_name n d.name then true else is_table ds n
+is_table (d ∷ ds) n = if same_bytes n d.name then true else is_table ds n
 
 -- the columns of the table of this name: none where it is not known
 abbrev pub columns_of : List TableDef → List ℕ → List Field
 columns_of [] n = []
-columns_of (d ∷ ds) n = if is_same_name n d.name then d.columns else columns_of ds n
+columns_of (d ∷ ds) n = if same_bytes n d.name then d.columns else columns_of ds n
 
 -- the parameters and variables that `:x` may name
 abbrev pub bindings : Scope → List Field
@@ -44,10 +48,10 @@ bindings scope = scope.params ++ scope.vars
 -- UNKNOWN: the first name in the text that is not known.
 
 abbrev pub unknown_name : List Field → List ℕ → Option (List ℕ)
-unknown_name fs n = when (not (is_among n (field_names fs))) n
+unknown_name fs n = then_some (not (is_among n (field_names fs))) n
 
 abbrev pub unknown_table : List TableDef → List ℕ → Option (List ℕ)
-unknown_table schema n = when (not (is_table schema n)) n
+unknown_table schema n = then_some (not (is_table schema n)) n
 
 -- of an expression that may name these columns, and these parameters and variables
 abbrev pub unknown_in_expr : (columns variables : List Field) → Expr → Option (List ℕ)
@@ -56,7 +60,7 @@ unknown_in_expr columns variables (Column n) = unknown_name columns n
 unknown_in_expr columns variables (Variable n) = unknown_name variables n
 unknown_in_expr columns variables (Not' _ (more_of-Expr e end_of-Expr)) = unknown_in_expr columns variables e
 unknown_in_expr columns variables (Binary' o _ (more_of-Expr l end_of-Expr) _ (more_of-Expr r end_of-Expr)) =
-    or_else (unknown_in_expr columns variables l) (unknown_in_expr columns variables r)
+    option_or (unknown_in_expr columns variables l) (unknown_in_expr columns variables r)
 
 abbrev pub unknown_in_what : List Field → What → Option (List ℕ)
 unknown_in_what columns what.All = None
@@ -69,28 +73,28 @@ unknown_in_what columns (what.Max n) = unknown_name columns n
 -- no column stands in a key's bound
 abbrev pub unknown_in_scan : (columns variables : List Field) → Scan → Option (List ℕ)
 unknown_in_scan columns variables scan =
-    or_else (first_in (unknown_in_expr [] variables) (bound_exprs scan.bound))
-    (in_some (unknown_in_expr columns variables) scan.filter)
+    option_or (first_in (unknown_in_expr [] variables) (bound_exprs scan.bound))
+    (option_and_then (unknown_in_expr columns variables) scan.filter)
 
 abbrev pub unknown_in_set : (columns variables : List Field) → Set → Option (List ℕ)
-unknown_in_set columns variables set = or_else (unknown_name columns set.column) (unknown_in_expr columns variables set.value)
+unknown_in_set columns variables set = option_or (unknown_name columns set.column) (unknown_in_expr columns variables set.value)
 
 abbrev pub unknown_in_statement : List TableDef → Scope → Statement → Option (List ℕ)
 unknown_in_statement schema scope (statement.Insert table es) =
-    or_else (unknown_table schema table) (first_in (unknown_in_expr [] (bindings scope)) es)
+    option_or (unknown_table schema table) (first_in (unknown_in_expr [] (bindings scope)) es)
 unknown_in_statement schema scope (statement.Select w table scan) =
-    or_else (unknown_in_what (columns_of schema table) w)
-    (or_else (unknown_table schema table) (unknown_in_scan (columns_of schema table) (bindings scope) scan))
+    option_or (unknown_in_what (columns_of schema table) w)
+    (option_or (unknown_table schema table) (unknown_in_scan (columns_of schema table) (bindings scope) scan))
 unknown_in_statement schema scope (statement.SelectInto column var table key) =
-    or_else (unknown_name (columns_of schema table) column)
-    (or_else (unknown_name scope.vars var)
-    (or_else (unknown_table schema table) (unknown_in_expr [] (bindings scope) key)))
+    option_or (unknown_name (columns_of schema table) column)
+    (option_or (unknown_name scope.vars var)
+    (option_or (unknown_table schema table) (unknown_in_expr [] (bindings scope) key)))
 unknown_in_statement schema scope (statement.Update table sets scan) =
-    or_else (unknown_table schema table)
-    (or_else (first_in (unknown_in_set (columns_of schema table) (bindings scope)) sets)
+    option_or (unknown_table schema table)
+    (option_or (first_in (unknown_in_set (columns_of schema table) (bindings scope)) sets)
     (unknown_in_scan (columns_of schema table) (bindings scope) scan))
 unknown_in_statement schema scope (statement.Delete table scan) =
-    or_else (unknown_table schema table) (unknown_in_scan (columns_of schema table) (bindings scope) scan)
+    option_or (unknown_table schema table) (unknown_in_scan (columns_of schema table) (bindings scope) scan)
 unknown_in_statement schema scope (statement.Ensure e) = unknown_in_expr [] (bindings scope) e
 
 -- a check names columns of its own table, and no parameter or variable
@@ -114,7 +118,7 @@ doubled_in_statement (statement.Delete table scan) = None
 doubled_in_statement (statement.Ensure e) = None
 
 abbrev pub doubled_in_table : List TableDef → TableDef → Option (List ℕ)
-doubled_in_table schema d = or_else (when (is_table schema d.name) d.name) (doubled_name [] (field_names d.columns))
+doubled_in_table schema d = option_or (then_some (is_table schema d.name) d.name) (doubled_name [] (field_names d.columns))
 
 -- TYPE: what is asked of types, where each name is known.
 
@@ -141,19 +145,19 @@ is_of_kind k (Some j) = is_same_kind k j
 
 abbrev pub type_named : List Field → List ℕ → Option ColType
 type_named [] n = None
-type_named (f ∷ fs) n = if is_same_name n f.name then Some f.kind else type_named fs n
+type_named (f ∷ fs) n = if same_bytes n f.name then Some f.kind else type_named fs n
 
 -- which two operands an operation takes, and what it gives
 
 -- two values of one type
 abbrev pub comparison_kind : Kind → Kind → Option Kind
-comparison_kind (values a) (values b) = when (is_same_type a b) truths
+comparison_kind (values a) (values b) = then_some (is_same_type a b) truths
 comparison_kind (values a) truths = None
 comparison_kind truths k = None
 
 -- two operands of a kind, which it gives
 abbrev pub closed_kind : Kind → Kind → Kind → Option Kind
-closed_kind k l r = when (is_same_kind k l && is_same_kind k r) k
+closed_kind k l r = then_some (is_same_kind k l && is_same_kind k r) k
 
 abbrev pub operation_kind : Op → Kind → Kind → Option Kind
 operation_kind op.Or l r = closed_kind truths l r
@@ -179,7 +183,7 @@ expr_kind columns variables (Lit v) = Some (value_kind v)
 expr_kind columns variables (Column n) = option_map values (type_named columns n)
 expr_kind columns variables (Variable n) = option_map values (type_named variables n)
 expr_kind columns variables (Not' _ (more_of-Expr e end_of-Expr)) =
-    when (is_of_kind truths (expr_kind columns variables e)) truths
+    then_some (is_of_kind truths (expr_kind columns variables e)) truths
 expr_kind columns variables (Binary' o _ (more_of-Expr l end_of-Expr) _ (more_of-Expr r end_of-Expr)) =
     option_and_then (λ k. option_and_then (operation_kind o k) (expr_kind columns variables r)) (expr_kind columns variables l)
 
@@ -198,7 +202,7 @@ key_type (f ∷ fs) = Some f.kind
 
 abbrev pub is_key : List Field → List ℕ → Bool
 is_key [] n = false
-is_key (f ∷ fs) n = is_same_name n f.name
+is_key (f ∷ fs) n = same_bytes n f.name
 
 -- one value of its type for each column
 abbrev pub are_row : (columns variables : List Field) → List Expr → Bool
@@ -259,7 +263,7 @@ pub data Fault : Type 0 where
 
 abbrev pub first_fault : Option (List ℕ) → Option (List ℕ) → Bool → Option Fault
 first_fault not_known doubled is_typed =
-    or_else (option_map unknown not_known) (or_else (option_map exists doubled) (when (not is_typed) mistyped))
+    option_or (option_map unknown not_known) (option_or (option_map exists doubled) (then_some (not is_typed) mistyped))
 
 -- what is refused of a statement, whose program has these parameters and variables; a session's statement has none
 unfoldable pub statement_fault : List TableDef → Scope → Statement → Option Fault
@@ -272,4 +276,4 @@ table_fault schema d = first_fault (unknown_in_table d) (doubled_in_table schema
 
 -- the limit that a further table passes, which stands before its faults
 abbrev pub kept_limit : List TableDef → Option LimitName
-kept_limit schema = when (nat_le 64 (length schema)) limit.Tables
+kept_limit schema = then_some (nat_le TABLES_MOST (length schema)) limit.Tables

@@ -1,6 +1,9 @@
 -- Limits, and the first that a tree's text passes.
+use Rattle.salt_values.specs.declared.limits.TheConstants.{CHECKS_MOST, COLUMNS_MOST, DEPTH_MOST, NAME_MOST, TEXT_MOST}
 use Rattle.salt_ast.specs.Trees.{statement_exprs}
-use Rattle.salt_ast.specs.Words.{first_in, in_some, or_else, when}
+use Rattle.salt_ast.specs.Words.{first_in}
+use Rattle.std.specs.Bool.{then_some}
+use Rattle.std.specs.Option.{option_or}
 use Rattle.salt_ast.specs.declared.limit.LimitName.{LimitName}
 use Rattle.salt_ast.specs.declared.limit.LimitName.TheVariants as limit
 use Rattle.salt_ast.specs.declared.trees.Bound.{Bound}
@@ -17,7 +20,7 @@ use Rattle.salt_ast.specs.declared.trees.What.TheVariants as what
 use Rattle.salt_values.specs.declared.value.Value.{Value}
 use Rattle.salt_values.specs.declared.value.Value.TheVariants as value
 use Rattle.std.specs.List.{list_any}
-use Rattle.std.specs.Prelude.{Bool, List, None, Option, Some, [], codes, length, max, nat_lt, negsuc, pos, suc, zero, ℕ, ℤ, ◌+◌, ◌-◌, ◌^◌, ◌∷◌}
+use Rattle.std.specs.Prelude.{Bool, List, None, Option, Some, [], codes, length, max, nat_lt, negsuc, pos, suc, zero, ℕ, ℤ, ◌+◌, ◌-◌, ◌^◌, ◌∷◌, option_and_then}
 
 abbrev pub limit_word : LimitName → List ℕ
 limit_word limit.Session = codes "session"
@@ -40,18 +43,18 @@ limit_word limit.Bases = codes "bases"
 
 -- the limit that a number above `most` passes
 abbrev pub above : ℕ → LimitName → ℕ → Option LimitName
-above most l n = when (nat_lt most n) l
+above most l n = then_some (nat_lt most n) l
 
 -- the first limit that a list of at most `room` items passes; a further item passes the list's where it begins
 abbrev pub passed_in_list : {A : Type 0} → ℕ → LimitName → (A → Option LimitName) → List A → Option LimitName
 passed_in_list room l passed [] = None
 passed_in_list zero l passed (x ∷ xs) = Some l
-passed_in_list (suc room) l passed (x ∷ xs) = or_else (passed x) (passed_in_list room l passed xs)
+passed_in_list (suc room) l passed (x ∷ xs) = option_or (passed x) (passed_in_list room l passed xs)
 
 -- The first limit that is passed in the order of the text, but for the depth.
 
 abbrev pub name_passed : List ℕ → Option LimitName
-name_passed n = above 32 limit.Name (length n)
+name_passed n = above NAME_MOST limit.Name (length n)
 
 -- one more behind a minus sign
 abbrev pub int_passed : ℤ → Option LimitName
@@ -60,7 +63,7 @@ int_passed (negsuc n) = above (2 ^ 63) limit.Number (n + 1)
 
 abbrev pub value_passed : Value → Option LimitName
 value_passed (value.Int z) = int_passed z
-value_passed (value.Text t) = above 255 limit.Text (length t)
+value_passed (value.Text t) = above TEXT_MOST limit.Text (length t)
 
 abbrev pub expr_passed : Expr → Option LimitName
 expr_passed (Lit v) = value_passed v
@@ -68,7 +71,7 @@ expr_passed (Column n) = name_passed n
 expr_passed (Variable n) = name_passed n
 expr_passed (Not' _ (more_of-Expr e end_of-Expr)) = expr_passed e
 expr_passed (Binary' o _ (more_of-Expr l end_of-Expr) _ (more_of-Expr r end_of-Expr)) =
-    or_else (expr_passed l) (expr_passed r)
+    option_or (expr_passed l) (expr_passed r)
 
 abbrev pub what_passed : What → Option LimitName
 what_passed what.All = None
@@ -81,21 +84,21 @@ what_passed (what.Max n) = name_passed n
 abbrev pub bound_passed : Bound → Option LimitName
 bound_passed bound.All = None
 bound_passed (bound.Key e) = expr_passed e
-bound_passed (bound.Between low high) = or_else (expr_passed low) (expr_passed high)
+bound_passed (bound.Between low high) = option_or (expr_passed low) (expr_passed high)
 
 abbrev pub scan_passed : Scan → Option LimitName
-scan_passed scan = or_else (bound_passed scan.bound) (in_some expr_passed scan.filter)
+scan_passed scan = option_or (bound_passed scan.bound) (option_and_then expr_passed scan.filter)
 
 abbrev pub set_passed : Set → Option LimitName
-set_passed set = or_else (name_passed set.column) (expr_passed set.value)
+set_passed set = option_or (name_passed set.column) (expr_passed set.value)
 
 abbrev pub statement_passed : Statement → Option LimitName
-statement_passed (statement.Insert table es) = or_else (name_passed table) (first_in expr_passed es)
-statement_passed (statement.Select w table scan) = or_else (what_passed w) (or_else (name_passed table) (scan_passed scan))
+statement_passed (statement.Insert table es) = option_or (name_passed table) (first_in expr_passed es)
+statement_passed (statement.Select w table scan) = option_or (what_passed w) (option_or (name_passed table) (scan_passed scan))
 statement_passed (statement.SelectInto column var table key) =
-    or_else (name_passed column) (or_else (name_passed var) (or_else (name_passed table) (expr_passed key)))
-statement_passed (statement.Update table sets scan) = or_else (name_passed table) (or_else (first_in set_passed sets) (scan_passed scan))
-statement_passed (statement.Delete table scan) = or_else (name_passed table) (scan_passed scan)
+    option_or (name_passed column) (option_or (name_passed var) (option_or (name_passed table) (expr_passed key)))
+statement_passed (statement.Update table sets scan) = option_or (name_passed table) (option_or (first_in set_passed sets) (scan_passed scan))
+statement_passed (statement.Delete table scan) = option_or (name_passed table) (scan_passed scan)
 statement_passed (statement.Ensure e) = expr_passed e
 
 abbrev pub field_passed : Field → Option LimitName
@@ -103,8 +106,8 @@ field_passed f = name_passed f.name
 
 abbrev pub table_passed : TableDef → Option LimitName
 table_passed d =
-    or_else (name_passed d.name)
-    (or_else (passed_in_list 16 limit.Columns field_passed d.columns) (passed_in_list 16 limit.Checks expr_passed d.checks))
+    option_or (name_passed d.name)
+    (option_or (passed_in_list COLUMNS_MOST limit.Columns field_passed d.columns) (passed_in_list CHECKS_MOST limit.Checks expr_passed d.checks))
 
 -- The depth, which comes after all other limits of a text.
 
@@ -117,15 +120,15 @@ height (Not' _ (more_of-Expr e end_of-Expr)) = suc (height e)
 height (Binary' o _ (more_of-Expr l end_of-Expr) _ (more_of-Expr r end_of-Expr)) = suc (max (height l) (height r))
 
 abbrev pub is_high : Expr → Bool
-is_high e = nat_lt 64 (height e)
+is_high e = nat_lt DEPTH_MOST (height e)
 
 abbrev pub height_passed : List Expr → Option LimitName
-height_passed es = when (list_any is_high es) limit.Depth
+height_passed es = then_some (list_any is_high es) limit.Depth
 
 -- the first limit that a statement passes by its tree
 unfoldable pub statement_limit : Statement → Option LimitName
-statement_limit st = or_else (statement_passed st) (height_passed (statement_exprs st))
+statement_limit st = option_or (statement_passed st) (height_passed (statement_exprs st))
 
 -- the first limit that a table passes by its tree
 unfoldable pub table_limit : TableDef → Option LimitName
-table_limit d = or_else (table_passed d) (height_passed d.checks)
+table_limit d = option_or (table_passed d) (height_passed d.checks)

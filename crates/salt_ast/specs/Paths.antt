@@ -1,12 +1,12 @@
 -- The path of a program: its blocks, where it goes on behind each part, and how many statements may still run.
-use Rattle.salt_ast.specs.Words.{in_some, when}
+use Rattle.std.specs.Bool.{then_some}
 use Rattle.salt_ast.specs.declared.programs.Body.{Body}
 use Rattle.salt_ast.specs.declared.programs.Body.TheVariants as body
 use Rattle.salt_ast.specs.declared.programs.Next.{Next}
 use Rattle.salt_ast.specs.declared.programs.Next.TheVariants as next
 use Rattle.salt_ast.specs.declared.programs.PartDef.{PartDef}
 use Rattle.salt_ast.specs.declared.trees.Statement.{Statement}
-use Rattle.std.specs.Prelude.{List, None, Option, Some, [], if◌then◌else◌, length, map, max, nat_lt, suc, zero, ℕ, ◌+◌, ◌++◌, ◌==◌, ◌∷◌}
+use Rattle.std.specs.Prelude.{List, None, Option, Some, [], if◌then◌else◌, length, map, max, nat_lt, suc, zero, ℕ, ◌+◌, ◌++◌, ◌==◌, ◌∷◌, option_and_then}
 
 -- Parts are numbered from 1. The block of a part is what its unit does; the whole of an ACID program is one unit.
 
@@ -40,20 +40,20 @@ part_of_next next.End = None
 
 -- the way of part `k` of `count` parts behind its commit: by default the part that follows, or the end behind the last
 abbrev pub way_on_commit : (count k : ℕ) → Option Next → Option ℕ
-way_on_commit count k None = when (nat_lt k count) (suc k)
+way_on_commit count k None = then_some (nat_lt k count) (suc k)
 way_on_commit count k (Some n) = part_of_next n
 
 -- the way behind a failure, which each part but the first declares
 abbrev pub way_on_failure : Option Next → Option ℕ
-way_on_failure way = in_some part_of_next way
+way_on_failure way = option_and_then part_of_next way
 
 -- where a program of these parts goes on behind the commit of part `k`: none is the end
 abbrev pub next_on_commit : List PartDef → ℕ → Option ℕ
-next_on_commit parts k = in_some (λ p. way_on_commit (length parts) k p.then) (at_number k parts)
+next_on_commit parts k = option_and_then (λ p. way_on_commit (length parts) k p.then) (at_number k parts)
 
 -- where it goes on behind the failure of part `k`, which is above 1: none is the end
 abbrev pub next_on_failure : List PartDef → ℕ → Option ℕ
-next_on_failure parts k = in_some (λ p. way_on_failure p.on_failure) (at_number k parts)
+next_on_failure parts k = option_and_then (λ p. way_on_failure p.on_failure) (at_number k parts)
 
 -- REST: how many statements may still run from a way on, at most.
 

@@ -1,9 +1,13 @@
 -- What is refused of programs, calls and lines under what is defined before: limits of what is kept, names that are not
 -- known, names that come twice, types, and branches.
+use Rattle.salt_values.specs.declared.limits.TheConstants.{BASES_MOST, PROGRAMS_MOST}
 use Rattle.salt_ast.specs.Judgement.{Fault, doubled_in_statement, doubled_name, field_names, first_fault, is_same_type, is_typed_statement, kept_limit, statement_fault, table_fault, unknown, unknown_in_statement}
 use Rattle.salt_ast.specs.Paths.{body_statements}
 use Rattle.salt_ast.specs.ProgramTexts.{base_text}
-use Rattle.salt_ast.specs.Words.{first_in, in_some, is_same_name, or_else, when}
+use Rattle.salt_ast.specs.Words.{first_in}
+use Rattle.salt_tokens.specs.Spelling.{same_bytes}
+use Rattle.std.specs.Bool.{then_some}
+use Rattle.std.specs.Option.{option_or}
 use Rattle.salt_ast.specs.declared.limit.LimitName.{LimitName}
 use Rattle.salt_ast.specs.declared.limit.LimitName.TheVariants as limit
 use Rattle.salt_ast.specs.declared.lines.Act.{Act}
@@ -26,13 +30,13 @@ use Rattle.salt_values.specs.declared.id.Id.{Id}
 use Rattle.salt_values.specs.declared.value.Value.{Value}
 use Rattle.salt_values.specs.declared.value.Value.TheVariants as value
 use Rattle.std.specs.List.{list_all, list_any}
-use Rattle.std.specs.Prelude.{Bool, List, None, Option, Some, [], false, if◌then◌else◌, is_some, length, nat_le, nat_lt, not, option_map, suc, true, ℕ, ◌&&◌, ◌++◌, ◌==◌, ◌∷◌, ◌||◌}
+use Rattle.std.specs.Prelude.{Bool, List, None, Option, Some, [], false, if◌then◌else◌, is_some, length, nat_le, nat_lt, not, option_map, suc, true, ℕ, ◌&&◌, ◌++◌, ◌==◌, ◌∷◌, ◌||◌, option_and_then}
 
 -- A catalogue is the list of the programs defined before.
 
 abbrev pub program_named : List ProgramDef → List ℕ → Option ProgramDef
 program_named [] n = None
-program_named (p ∷ ps) n = if is_same_name n p.name then Some p else program_named ps n
+program_named (p ∷ ps) n = if same_bytes n p.name then Some p else program_named ps n
 
 abbrev pub is_program : List ProgramDef → List ℕ → Bool
 is_program catalogue n = is_some (program_named catalogue n)
@@ -58,13 +62,13 @@ pub data BranchFault : Type 0 where
 -- of part `k` of `count` parts
 abbrev pub part_fault : (count k : ℕ) → PartDef → Option BranchFault
 part_fault count k p =
-    or_else (when (nat_lt 1 k && not (is_some p.on_failure)) (no_branch k))
-    (when (is_backward count k p.then || is_backward count k p.on_failure || (k == 1 && is_some p.on_failure)) (backward k))
+    option_or (then_some (nat_lt 1 k && not (is_some p.on_failure)) (no_branch k))
+    (then_some (is_backward count k p.then || is_backward count k p.on_failure || (k == 1 && is_some p.on_failure)) (backward k))
 
 -- of these of `count` parts, the first of which is part `k`: the least part's
 abbrev pub fault_in_parts : (count k : ℕ) → List PartDef → Option BranchFault
 fault_in_parts count k [] = None
-fault_in_parts count k (p ∷ ps) = or_else (part_fault count k p) (fault_in_parts count (suc k) ps)
+fault_in_parts count k (p ∷ ps) = option_or (part_fault count k p) (fault_in_parts count (suc k) ps)
 
 abbrev pub branch_fault : Body → Option BranchFault
 branch_fault (body.Acid block) = None
@@ -86,8 +90,8 @@ unknown_in_program schema p = first_in (unknown_in_statement schema (program_sco
 -- parameters and variables have different names, and a program may have the name of a table
 abbrev pub doubled_in_program : List ProgramDef → ProgramDef → Option (List ℕ)
 doubled_in_program catalogue p =
-    or_else (when (is_program catalogue p.name) p.name)
-    (or_else (doubled_name [] (field_names (p.params ++ p.vars))) (first_in doubled_in_statement (body_statements p.body)))
+    option_or (then_some (is_program catalogue p.name) p.name)
+    (option_or (doubled_name [] (field_names (p.params ++ p.vars))) (first_in doubled_in_statement (body_statements p.body)))
 
 abbrev pub is_typed_program : List TableDef → ProgramDef → Bool
 is_typed_program schema p = list_all (is_typed_statement schema (program_scope p)) (body_statements p.body)
@@ -99,12 +103,12 @@ pub data ProgramFault : Type 0 where
 -- what is refused of a program: each of these stands before the ones below it
 unfoldable pub program_fault : List TableDef → List ProgramDef → ProgramDef → Option ProgramFault
 program_fault schema catalogue p =
-    or_else (option_map in_text (first_fault (unknown_in_program schema p) (doubled_in_program catalogue p) (is_typed_program schema p)))
+    option_or (option_map in_text (first_fault (unknown_in_program schema p) (doubled_in_program catalogue p) (is_typed_program schema p)))
     (option_map in_branches (branch_fault p.body))
 
 -- the limit that a further program passes, which stands before its faults
 abbrev pub program_kept_limit : List ProgramDef → Option LimitName
-program_kept_limit catalogue = when (nat_le 256 (length catalogue)) limit.Programs
+program_kept_limit catalogue = then_some (nat_le PROGRAMS_MOST (length catalogue)) limit.Programs
 
 -- Of a call.
 
@@ -128,7 +132,7 @@ abbrev pub fits : List ProgramDef → List ℕ → List Value → Bool
 fits catalogue n args = fits_program (program_named catalogue n) args
 
 unfoldable pub call_fault : List ProgramDef → List ℕ → List Value → Option Fault
-call_fault catalogue n args = first_fault (when (not (is_program catalogue n)) n) None (fits catalogue n args)
+call_fault catalogue n args = first_fault (then_some (not (is_program catalogue n)) n) None (fits catalogue n args)
 
 abbrev pub is_base : ProgramDef → Bool
 is_base p = is_base_body p.body
@@ -139,7 +143,7 @@ is_base p = is_base_body p.body
 
 -- the limit that a further run of a BASE program passes where so many are in their first part, or accepted and not released
 abbrev pub call_kept_limit : List ProgramDef → (unreleased : ℕ) → List ℕ → Option LimitName
-call_kept_limit catalogue unreleased n = in_some (λ p. when (is_base p && nat_le 1024 unreleased) limit.Bases) (program_named catalogue n)
+call_kept_limit catalogue unreleased n = option_and_then (λ p. then_some (is_base p && nat_le BASES_MOST unreleased) limit.Bases) (program_named catalogue n)
 
 -- Of a line.
 
@@ -163,14 +167,14 @@ of_program_fault (in_text f) = faulty f
 of_program_fault (in_branches b) = branch (faulty_part b)
 
 abbrev pub go_fault : List Id → Id → Option Fault
-go_fault unfinished base = when (not (list_any (is_same_id base) unfinished)) (unknown (base_text base))
+go_fault unfinished base = then_some (not (list_any (is_same_id base) unfinished)) (unknown (base_text base))
 
 abbrev pub session_scope : Scope
 session_scope = record { params = []; vars = [] }
 
 abbrev pub act_fault : Known → Act → Option LineFault
 act_fault known (act.Call program args) =
-    or_else (option_map kept (call_kept_limit known.catalogue known.unreleased program))
+    option_or (option_map kept (call_kept_limit known.catalogue known.unreleased program))
     (option_map faulty (call_fault known.catalogue program args))
 act_fault known (act.Do st) = option_map faulty (statement_fault known.schema session_scope st)
 act_fault known act.Begin = None
@@ -181,9 +185,9 @@ act_fault known act.Step = None
 -- what is refused of a line that passes no limit of its text: limits of what is kept, names, types and branches
 unfoldable pub line_fault : Known → Line → Option LineFault
 line_fault known (line.Table d) =
-    or_else (option_map kept (kept_limit known.schema)) (option_map faulty (table_fault known.schema d))
+    option_or (option_map kept (kept_limit known.schema)) (option_map faulty (table_fault known.schema d))
 line_fault known (line.Program p) =
-    or_else (option_map kept (program_kept_limit known.catalogue))
+    option_or (option_map kept (program_kept_limit known.catalogue))
     (option_map of_program_fault (program_fault known.schema known.catalogue p))
 line_fault known (line.Session session a) = act_fault known a
 line_fault known (line.Go base) = option_map faulty (go_fault known.unfinished base)

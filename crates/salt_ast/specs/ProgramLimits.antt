@@ -1,8 +1,11 @@
 -- Limits of programs and lines, and the first that a tree's text passes.
+use Rattle.salt_values.specs.declared.limits.TheConstants.{CRASH_MOST, PAIRS_MOST, PARAMETERS_MOST, PARTS_MOST, PICK_MOST, SESSION_MOST, STATEMENTS_MOST, VARIABLES_MOST}
 use Rattle.salt_ast.specs.Limits.{above, field_passed, height_passed, name_passed, passed_in_list, statement_passed, table_passed, value_passed}
 use Rattle.salt_ast.specs.Paths.{body_statements}
 use Rattle.salt_ast.specs.Trees.{statement_exprs}
-use Rattle.salt_ast.specs.Words.{first_in, in_some, or_else, when}
+use Rattle.salt_ast.specs.Words.{first_in}
+use Rattle.std.specs.Bool.{then_some}
+use Rattle.std.specs.Option.{option_or}
 use Rattle.salt_ast.specs.declared.limit.LimitName.{LimitName}
 use Rattle.salt_ast.specs.declared.limit.LimitName.TheVariants as limit
 use Rattle.salt_ast.specs.declared.lines.Act.{Act}
@@ -17,11 +20,11 @@ use Rattle.salt_ast.specs.declared.programs.PartDef.{PartDef}
 use Rattle.salt_ast.specs.declared.programs.ProgramDef.{ProgramDef}
 use Rattle.salt_ast.specs.declared.trees.Expr.{Expr}
 use Rattle.salt_ast.specs.declared.trees.Statement.{Statement}
-use Rattle.std.specs.Prelude.{List, None, Option, [], flat_map, nat_lt, ℕ, ◌-◌, ◌^◌, ◌||◌}
+use Rattle.std.specs.Prelude.{List, None, Option, [], flat_map, nat_lt, ℕ, ◌-◌, ◌^◌, ◌||◌, option_and_then}
 
 -- the limit that a number below `least` or above `most` passes
 abbrev pub outside : (least most : ℕ) → LimitName → ℕ → Option LimitName
-outside least most l n = when (nat_lt n least || nat_lt most n) l
+outside least most l n = then_some (nat_lt n least || nat_lt most n) l
 
 -- a number that has no limit of its own
 abbrev pub number_passed : ℕ → Option LimitName
@@ -30,47 +33,47 @@ number_passed n = above (2 ^ 63 - 1) limit.Number n
 -- The first limit that is passed in the order of the text, but for the depth.
 
 abbrev pub block_passed : List Statement → Option LimitName
-block_passed block = passed_in_list 64 limit.Statements statement_passed block
+block_passed block = passed_in_list STATEMENTS_MOST limit.Statements statement_passed block
 
 abbrev pub next_passed : Next → Option LimitName
 next_passed (next.Part k) = number_passed k
 next_passed next.End = None
 
 abbrev pub part_passed : PartDef → Option LimitName
-part_passed p = or_else (block_passed p.block) (or_else (in_some next_passed p.then) (in_some next_passed p.on_failure))
+part_passed p = option_or (block_passed p.block) (option_or (option_and_then next_passed p.then) (option_and_then next_passed p.on_failure))
 
 abbrev pub body_passed : Body → Option LimitName
 body_passed (body.Acid block) = block_passed block
-body_passed (body.Base parts) = passed_in_list 32 limit.Parts part_passed parts
+body_passed (body.Base parts) = passed_in_list PARTS_MOST limit.Parts part_passed parts
 
 abbrev pub program_passed : ProgramDef → Option LimitName
 program_passed p =
-    or_else (name_passed p.name)
-    (or_else (passed_in_list 16 limit.Parameters field_passed p.params)
-    (or_else (passed_in_list 16 limit.Variables field_passed p.vars) (body_passed p.body)))
+    option_or (name_passed p.name)
+    (option_or (passed_in_list PARAMETERS_MOST limit.Parameters field_passed p.params)
+    (option_or (passed_in_list VARIABLES_MOST limit.Variables field_passed p.vars) (body_passed p.body)))
 
 abbrev pub act_passed : Act → Option LimitName
 act_passed act.Begin = None
 act_passed act.Commit = None
 act_passed act.Rollback = None
 act_passed act.Step = None
-act_passed (act.Call program args) = or_else (name_passed program) (first_in value_passed args)
+act_passed (act.Call program args) = option_or (name_passed program) (first_in value_passed args)
 act_passed (act.Do st) = statement_passed st
 
 -- the call that stops, and what it leaves
 abbrev pub stop_passed : ℕ × ℕ → Option LimitName
-stop_passed stop = or_else (outside 1 1000000 limit.Crash stop.0) (above 4 limit.Pick stop.1)
+stop_passed stop = option_or (outside 1 CRASH_MOST limit.Crash stop.0) (above PICK_MOST limit.Pick stop.1)
 
 abbrev pub line_passed : Line → Option LimitName
 line_passed line.Nothing = None
 line_passed (line.Table d) = table_passed d
 line_passed (line.Program p) = program_passed p
-line_passed (line.Session session a) = or_else (outside 1 64 limit.Session session) (act_passed a)
-line_passed (line.Go base) = or_else (number_passed base.boot) (number_passed base.seq)
+line_passed (line.Session session a) = option_or (outside 1 SESSION_MOST limit.Session session) (act_passed a)
+line_passed (line.Go base) = option_or (number_passed base.boot) (number_passed base.seq)
 line_passed line.GoAll = None
 line_passed line.ShowLocks = None
 line_passed line.ShowBases = None
-line_passed (line.Crash stops) = passed_in_list 8 limit.Pairs stop_passed stops
+line_passed (line.Crash stops) = passed_in_list PAIRS_MOST limit.Pairs stop_passed stops
 
 -- The depth, which comes after all other limits of a text.
 
@@ -99,8 +102,8 @@ line_exprs (line.Crash stops) = []
 
 -- the first limit that a program passes by its tree
 unfoldable pub program_limit : ProgramDef → Option LimitName
-program_limit p = or_else (program_passed p) (height_passed (program_exprs p))
+program_limit p = option_or (program_passed p) (height_passed (program_exprs p))
 
 -- the first limit that a line passes by its tree
 unfoldable pub line_limit : Line → Option LimitName
-line_limit l = or_else (line_passed l) (height_passed (line_exprs l))
+line_limit l = option_or (line_passed l) (height_passed (line_exprs l))

@@ -1,4 +1,5 @@
 -- Which bytes spell which tree, and which count they pass.
+use Rattle.salt_values.specs.declared.limits.TheConstants.{DEPTH_MOST, PARENTHESES_MOST}
 use Rattle.salt_ast.specs.Grammar.{Within}
 use Rattle.salt_ast.specs.Limits.{statement_limit, table_limit}
 use Rattle.salt_ast.specs.Statements.{IsStatement}
@@ -8,28 +9,28 @@ use Rattle.salt_ast.specs.declared.limit.LimitName.TheVariants as limit
 use Rattle.salt_ast.specs.declared.trees.Statement.{Statement}
 use Rattle.salt_ast.specs.declared.trees.TableDef.{TableDef}
 use Rattle.salt_tokens.specs.Pieces.{Lexes, Piece}
-use Rattle.salt_tokens.specs.Symbols.{Row, row_of}
-use Rattle.std.specs.Prelude.{List, None, Option, Some, ℕ, ◌≡◌}
+use Rattle.salt_tokens.specs.Symbols.{Symbols, symbols_of}
+use Rattle.std.specs.Prelude.{List, None, Option, Some, ℕ, ◌-◌, ◌≡◌}
 
 -- The bytes are tokens that spell the tree.
-pub record Spells {Tree : Type 0} (IsTree : Row → Tree → Type 0) (bytes : List ℕ) (tree : Tree) : Type 0 where
+pub record Spells {Tree : Type 0} (IsTree : Symbols → Tree → Type 0) (bytes : List ℕ) (tree : Tree) : Type 0 where
   pub tokens : List Piece
   pub lexes : Lexes bytes tokens
-  pub spelled : IsTree (row_of tokens) tree
+  pub spelled : IsTree (symbols_of tokens) tree
 
--- no token stands within more than 128 open parentheses
+-- no token stands within more open parentheses than a text may have; one is that of `values` or of `create table`
 abbrev pub SpellsStatement : List ℕ → Statement → Type 0
-SpellsStatement = Spells (IsStatement (Within 128) (Within 127))
+SpellsStatement = Spells (IsStatement (Within PARENTHESES_MOST) (Within (PARENTHESES_MOST - 1)))
 
 abbrev pub SpellsTable : List ℕ → TableDef → Type 0
-SpellsTable = Spells (IsTable (Within 127))
+SpellsTable = Spells (IsTable (Within (PARENTHESES_MOST - 1)))
 
--- nor does a token of an expression stand within more than 64 parentheses of the expression
+-- nor does a token of an expression stand deeper within the parentheses of the expression
 abbrev pub SpellsShallowStatement : List ℕ → Statement → Type 0
-SpellsShallowStatement = Spells (IsStatement (Within 64) (Within 64))
+SpellsShallowStatement = Spells (IsStatement (Within DEPTH_MOST) (Within DEPTH_MOST))
 
 abbrev pub SpellsShallowTable : List ℕ → TableDef → Type 0
-SpellsShallowTable = Spells (IsTable (Within 64))
+SpellsShallowTable = Spells (IsTable (Within DEPTH_MOST))
 
 -- This limit is passed first: one of the tree, or else the depth, by the parentheses of the text.
 pub data Passes (tree_limit : Option LimitName) (IsShallow : Type 0) : LimitName → Type 0 where

@@ -8,34 +8,34 @@ use Rattle.salt_ast.specs.declared.trees.Statement.{Statement}
 use Rattle.salt_ast.specs.declared.trees.Statement.TheVariants as statement
 use Rattle.salt_ast.specs.declared.trees.What.{What}
 use Rattle.salt_ast.specs.declared.trees.What.TheVariants as what
-use Rattle.salt_tokens.specs.Symbols.{Row, key, name, sign}
+use Rattle.salt_tokens.specs.Symbols.{Symbols, key, name, sign}
 use Rattle.salt_tokens.specs.declared.keyword.Keyword.TheVariants as word
 use Rattle.salt_tokens.specs.declared.sign.Sign.TheVariants as mark
 use Rattle.std.specs.Prelude.{List, None, Option, Some, [], ℕ, ◌++◌, ◌∷◌}
 
 -- {"," Item}
-pub data Following {A : Type 0} (Item : Row → A → Type 0) : Row → List A → Type 0 where
+pub data Following {A : Type 0} (Item : Symbols → A → Type 0) : Symbols → List A → Type 0 where
   no_more : Following Item [] []
-  one_more : {a b : Row} {x : A} {xs : List A} → Item a x → Following Item b xs →
+  one_more : {a b : Symbols} {x : A} {xs : List A} → Item a x → Following Item b xs →
       Following Item (sign mark.Comma ∷ (a ++ b)) (x ∷ xs)
 
 -- Item {"," Item}
-pub data Listed {A : Type 0} (Item : Row → A → Type 0) : Row → List A → Type 0 where
-  items : {a b : Row} {x : A} {xs : List A} → Item a x → Following Item b xs →
+pub data Listed {A : Type 0} (Item : Symbols → A → Type 0) : Symbols → List A → Type 0 where
+  items : {a b : Symbols} {x : A} {xs : List A} → Item a x → Following Item b xs →
       Listed Item (a ++ b) (x ∷ xs)
 
-pub data IsName : Row → List ℕ → Type 0 where
+pub data IsName : Symbols → List ℕ → Type 0 where
   is_name : {n : List ℕ} → IsName (name n ∷ []) n
 
 -- NAME "=" expression
-pub data IsSet (Inner : Row → Expr → Type 0) : Row → Set → Type 0 where
-  is_set : {n : List ℕ} {ts : Row} {e : Expr} → Expression Inner ts e →
+pub data IsSet (Inner : Symbols → Expr → Type 0) : Symbols → Set → Type 0 where
+  is_set : {n : List ℕ} {ts : Symbols} {e : Expr} → Expression Inner ts e →
       IsSet Inner (name n ∷ sign mark.Equal ∷ ts) (record { column = n; value = e })
 
 -- "*", names, "count(*)", or "sum", "min" or "max" of a name in parentheses
-pub data IsWhat : Row → What → Type 0 where
+pub data IsWhat : Symbols → What → Type 0 where
   every_column : IsWhat (sign mark.Star ∷ []) what.All
-  named_columns : {ts : Row} {ns : List (List ℕ)} → Listed IsName ts ns → IsWhat ts (what.Columns ns)
+  named_columns : {ts : Symbols} {ns : List (List ℕ)} → Listed IsName ts ns → IsWhat ts (what.Columns ns)
   count_rows : IsWhat (key word.Count ∷ sign mark.Open ∷ sign mark.Star ∷ sign mark.Close ∷ []) what.Count
   sum_of : {n : List ℕ} →
       IsWhat (key word.Sum ∷ sign mark.Open ∷ name n ∷ sign mark.Close ∷ []) (what.Sum n)
@@ -45,35 +45,35 @@ pub data IsWhat : Row → What → Type 0 where
       IsWhat (key word.Max ∷ sign mark.Open ∷ name n ∷ sign mark.Close ∷ []) (what.Max n)
 
 -- ["and" conjunction]
-pub data IsAnd (Inner : Row → Expr → Type 0) : Row → Option Expr → Type 0 where
+pub data IsAnd (Inner : Symbols → Expr → Type 0) : Symbols → Option Expr → Type 0 where
   no_and : IsAnd Inner [] None
-  and : {ts : Row} {e : Expr} → Conjunction Inner ts e → IsAnd Inner (key word.And ∷ ts) (Some e)
+  and : {ts : Symbols} {e : Expr} → Conjunction Inner ts e → IsAnd Inner (key word.And ∷ ts) (Some e)
 
 -- a statement's "where", or nothing; the word "key" names the key column here alone
-pub data IsScan (Inner : Row → Expr → Type 0) : Row → Scan → Type 0 where
+pub data IsScan (Inner : Symbols → Expr → Type 0) : Symbols → Scan → Type 0 where
   no_where : IsScan Inner [] (record { bound = bound.All; filter = None })
-  where_key : {a b : Row} {e : Expr} {f : Option Expr} → Sum Inner a e → IsAnd Inner b f →
+  where_key : {a b : Symbols} {e : Expr} {f : Option Expr} → Sum Inner a e → IsAnd Inner b f →
       IsScan Inner (key word.Where ∷ key word.Key ∷ sign mark.Equal ∷ (a ++ b))
       (record { bound = bound.Key e; filter = f })
-  where_between : {a b c : Row} {low high : Expr} {f : Option Expr} → Sum Inner a low → Sum Inner b high → IsAnd Inner c f →
+  where_between : {a b c : Symbols} {low high : Expr} {f : Option Expr} → Sum Inner a low → Sum Inner b high → IsAnd Inner c f →
       IsScan Inner (key word.Where ∷ key word.Key ∷ key word.Between ∷ (a ++ key word.And ∷ (b ++ c)))
       (record { bound = bound.Between low high; filter = f })
-  where_filter : {ts : Row} {e : Expr} → Expression Inner ts e →
+  where_filter : {ts : Symbols} {e : Expr} → Expression Inner ts e →
       IsScan Inner (key word.Where ∷ ts) (record { bound = bound.All; filter = Some e })
 
 -- a statement, where `Inner` stands in the parentheses of its expressions, and `Deeper` in those of expressions that
 -- stand in a parenthesis of the statement
-pub data IsStatement (Inner Deeper : Row → Expr → Type 0) : Row → Statement → Type 0 where
-  is_insert : {t : List ℕ} {ts : Row} {es : List Expr} → Listed (Expression Deeper) ts es →
+pub data IsStatement (Inner Deeper : Symbols → Expr → Type 0) : Symbols → Statement → Type 0 where
+  is_insert : {t : List ℕ} {ts : Symbols} {es : List Expr} → Listed (Expression Deeper) ts es →
       IsStatement Inner Deeper (key word.Insert ∷ key word.Into ∷ name t ∷ key word.Values ∷ sign mark.Open ∷ (ts ++ sign mark.Close ∷ [])) (statement.Insert t es)
-  is_select : {t : List ℕ} {a b : Row} {w : What} {scan : Scan} → IsWhat a w → IsScan Inner b scan →
+  is_select : {t : List ℕ} {a b : Symbols} {w : What} {scan : Scan} → IsWhat a w → IsScan Inner b scan →
       IsStatement Inner Deeper (key word.Select ∷ (a ++ key word.From ∷ name t ∷ b)) (statement.Select w t scan)
-  is_select_into : {c v t : List ℕ} {ts : Row} {e : Expr} → Sum Inner ts e →
+  is_select_into : {c v t : List ℕ} {ts : Symbols} {e : Expr} → Sum Inner ts e →
       IsStatement Inner Deeper (key word.Select ∷ name c ∷ key word.Into ∷ sign mark.Colon ∷ name v ∷ key word.From ∷ name t ∷ key word.Where ∷ key word.Key ∷ sign mark.Equal ∷ ts)
       (statement.SelectInto c v t e)
-  is_update : {t : List ℕ} {a b : Row} {sets : List Set} {scan : Scan} → Listed (IsSet Inner) a sets → IsScan Inner b scan →
+  is_update : {t : List ℕ} {a b : Symbols} {sets : List Set} {scan : Scan} → Listed (IsSet Inner) a sets → IsScan Inner b scan →
       IsStatement Inner Deeper (key word.Update ∷ name t ∷ key word.Set ∷ (a ++ b)) (statement.Update t sets scan)
-  is_delete : {t : List ℕ} {ts : Row} {scan : Scan} → IsScan Inner ts scan →
+  is_delete : {t : List ℕ} {ts : Symbols} {scan : Scan} → IsScan Inner ts scan →
       IsStatement Inner Deeper (key word.Delete ∷ key word.From ∷ name t ∷ ts) (statement.Delete t scan)
-  is_ensure : {ts : Row} {e : Expr} → Expression Inner ts e →
+  is_ensure : {ts : Symbols} {e : Expr} → Expression Inner ts e →
       IsStatement Inner Deeper (key word.Ensure ∷ ts) (statement.Ensure e)

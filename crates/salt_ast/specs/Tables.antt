@@ -5,23 +5,23 @@ use Rattle.salt_ast.specs.declared.trees.ColType.TheVariants as kind
 use Rattle.salt_ast.specs.declared.trees.Expr.{Expr}
 use Rattle.salt_ast.specs.declared.trees.Field.{Field}
 use Rattle.salt_ast.specs.declared.trees.TableDef.{TableDef}
-use Rattle.salt_tokens.specs.Symbols.{Row, key, name, sign}
+use Rattle.salt_tokens.specs.Symbols.{Symbols, key, name, sign}
 use Rattle.salt_tokens.specs.declared.keyword.Keyword.TheVariants as word
 use Rattle.salt_tokens.specs.declared.sign.Sign.TheVariants as mark
 use Rattle.std.specs.Prelude.{List, [], ℕ, ◌++◌, ◌∷◌}
 
 -- a name and a type
-pub data IsField : Row → Field → Type 0 where
+pub data IsField : Symbols → Field → Type 0 where
   int_field : {n : List ℕ} → IsField (name n ∷ key word.Int ∷ []) (record { name = n; kind = kind.Int })
   text_field : {n : List ℕ} → IsField (name n ∷ key word.Text ∷ []) (record { name = n; kind = kind.Text })
 
 -- "check" expression
-pub data IsCheck (Inner : Row → Expr → Type 0) : Row → Expr → Type 0 where
-  is_check : {ts : Row} {e : Expr} → Expression Inner ts e → IsCheck Inner (key word.Check ∷ ts) e
+pub data IsCheck (Inner : Symbols → Expr → Type 0) : Symbols → Expr → Type 0 where
+  is_check : {ts : Symbols} {e : Expr} → Expression Inner ts e → IsCheck Inner (key word.Check ∷ ts) e
 
 -- a table, where `Inner` stands in the parentheses of its checks; the first column is the key
-pub data IsTable (Inner : Row → Expr → Type 0) : Row → TableDef → Type 0 where
-  is_table : {t : List ℕ} {a b c : Row} {f : Field} {fs : List Field} {es : List Expr} →
+pub data IsTable (Inner : Symbols → Expr → Type 0) : Symbols → TableDef → Type 0 where
+  is_table : {t : List ℕ} {a b c : Symbols} {f : Field} {fs : List Field} {es : List Expr} →
       IsField a f → Following IsField b fs → Following (IsCheck Inner) c es →
       IsTable Inner
       (key word.Create ∷ key word.Table ∷ name t ∷ sign mark.Open ∷ (a ++ key word.Key ∷ (b ++ (c ++ sign mark.Close ∷ []))))

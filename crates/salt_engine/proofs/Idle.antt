@@ -1,4 +1,4 @@
--- What holds of a log in which no unit is open and no BASE program was begun.
+-- What holds of a trace in which no unit is open and no BASE program was begun.
 use Rattle.salt_engine.specs.Engine.{IsIdle}
 use Rattle.salt_laws.proofs.Coming.{waits-open}
 use Rattle.salt_laws.proofs.Ids.{is_same_id-sym}
@@ -6,10 +6,10 @@ use Rattle.salt_laws.proofs.Lists.{In}
 use Rattle.salt_laws.proofs.Opens.{Open}
 use Rattle.salt_laws.proofs.Reading.{program-in}
 use Rattle.salt_model.specs.Locks.{Taken, as_held, clash_locks, clashes, clashing, is_same_owner, lock_by, owners_of, saline_lock, taken_in}
-use Rattle.salt_model.specs.Log.{Asked, Log, ◌asks◌, ◌says◌}
+use Rattle.salt_model.specs.Trace.{Asked, Trace, ◌asks◌, ◌says◌}
 use Rattle.salt_model.specs.Units.{Never, Over, Running, Standing, Waiting, is_open, is_open_standing, kind_of, open_units, program_of, program_of_kind, standing, units_begun, wait_list}
 use Rattle.salt_model.specs.Turns.{settle}
-use Rattle.salt_model.specs.Waiting.{clashing_now, next_served, victim, victim_of, wait_unit}
+use Rattle.salt_model.specs.Waiting.{clashing_now, next_unblocked, victim, victim_of, wait_unit}
 use Rattle.salt_model.specs.Words.{Every, is_empty}
 use Rattle.salt_model.specs.declared.events.End.TheVariants.{Committed}
 use Rattle.salt_model.specs.declared.events.Event.TheVariants.{Began}
@@ -29,29 +29,29 @@ filter-none : {A : Type 0} (p : A → Bool) → ((x : A) → p x ≡ false) → 
 filter-none p h [] = refl
 filter-none p h (x ∷ xs) = rw (h x) (filter-none p h xs)
 
-pub none-open : (log : Log) → IsIdle log → open_units log ≡ []
-none-open log idle = filter-none (is_open log) idle.none_open (units_begun log)
+pub none-open : (trace : Trace) → IsIdle trace → open_units trace ≡ []
+none-open trace idle = filter-none (is_open trace) idle.none_open (units_begun trace)
 
-pub none-waits : (log : Log) → IsIdle log → wait_list log ≡ []
-none-waits log idle = by (wait_list log) (waits-open log)
+pub none-waits : (trace : Trace) → IsIdle trace → wait_list trace ≡ []
+none-waits trace idle = by (wait_list trace) (waits-open trace)
   where
-    by : (us : List Id) → Every (Open log) us → us ≡ []
+    by : (us : List Id) → Every (Open trace) us → us ≡ []
     by [] h = refl
-    by (u ∷ us) h = let shut = idle.none_open u in let open_now : is_open log u ≡ true = h.0 in absurd cc
+    by (u ∷ us) h = let shut = idle.none_open u in let open_now : is_open trace u ≡ true = h.0 in absurd cc
 
 -- nothing settles where nobody waits
-pub none-settles : (log : Log) → wait_list log ≡ [] → settle log ≡ None
-none-settles log h =
-    let v : victim log ≡ None = ap (λ w. victim_of (map (wait_unit log) w)) h in
-    let s : next_served log ≡ None = ap (λ w. find (λ u. is_empty (clashing_now log u)) w) h in
+pub none-settles : (trace : Trace) → wait_list trace ≡ [] → settle trace ≡ None
+none-settles trace h =
+    let v : victim trace ≡ None = ap (λ w. victim_of (map (wait_unit trace) w)) h in
+    let s : next_unblocked trace ≡ None = ap (λ w. find (λ u. is_empty (clashing_now trace u)) w) h in
     rw (v, s) refl
 
-none-program : (log : Log) → IsIdle log → (u : Id) → program_of u log ≡ None
-none-program log idle u = by (program_of u log) refl
+none-program : (trace : Trace) → IsIdle trace → (u : Id) → program_of u trace ≡ None
+none-program trace idle u = by (program_of u trace) refl
   where
-    by : (o : Option Id) → program_of u log ≡ o → o ≡ None
+    by : (o : Option Id) → program_of u trace ≡ o → o ≡ None
     by None h = refl
-    by (Some b) h = absurd (subst (In b) idle.none_begun (program-in log u b h))
+    by (Some b) h = absurd (subst (In b) idle.none_begun (program-in trace u b h))
 
 -- a lock that does not stand in the unit's way
 abbrev IsOwn : Id → Option Lock → Type 0
@@ -66,9 +66,9 @@ own-clear u family r f h (t ∷ ts) = by (f t) (h t) (filter_map f ts) (own-clea
     by None own ls more = more
     by (Some lock) own ls more = rw own more
 
-module _ (log : Log) (idle : IsIdle log) (asked : Asked) (u : Id) (kind : UnitKind) where
-  abbrev began : Log
-  began = log asks asked says Began u kind
+module _ (trace : Trace) (idle : IsIdle trace) (asked : Asked) (u : Id) (kind : UnitKind) where
+  abbrev began : Trace
+  began = trace asks asked says Began u kind
 
   no-saline : (o : Option Id) (r : Reach) → o ≡ None → IsOwn u (saline_lock began o r)
   no-saline None r h = tt
@@ -86,7 +86,7 @@ module _ (log : Log) (idle : IsIdle log) (asked : Asked) (u : Id) (kind : UnitKi
     where
       by : (b : Bool) → is_same_id t.unit u ≡ b → IsOwn u (as_held began t)
       by true e = rw (e, is_same_id-sym u t.unit, e) refl
-      by false e = rw e (shut-own t (standing t.unit log) (kind_of t.unit log) (idle.none_open t.unit) (none-program log idle t.unit))
+      by false e = rw e (shut-own t (standing t.unit trace) (kind_of t.unit trace) (idle.none_open t.unit) (none-program trace idle t.unit))
 
   locks-clear : (k : Option UnitKind) (o : Option Reach) → clash_locks began u k o ≡ []
   locks-clear k None = refl

@@ -1,13 +1,13 @@
 -- Finding a table by its name.
 use Rattle.salt_ast.specs.Judgement.{columns_of, is_table}
-use Rattle.salt_ast.specs.Words.{is_same_name}
+use Rattle.salt_tokens.specs.Spelling.{same_bytes}
 use Rattle.salt_ast.specs.declared.trees.TableDef.{TableDef}
 use Rattle.salt_model.specs.Reaches.{table_from}
 use Rattle.std.proofs.Common.{List, Some, ap, arith, drop, drop-cons, get_or, length, refl, subst, true, ℕ, ◌<◌, ◌≡◌}
 use Rattle.std.specs.List.{list_all}
 use Rattle.std.specs.Prelude.{Bool, None, Option, [], cond, false, ◌&&◌, ◌+◌, ◌∷◌}
 
-pub found_here : (schema : List TableDef) (name : List ℕ) (i : ℕ) (d : TableDef) → i < length schema → d ≡ get_or schema i d → is_same_name name d.name ≡ true → table_from i name (drop i schema) ≡ Some (i, d)
+pub found_here : (schema : List TableDef) (name : List ℕ) (i : ℕ) (d : TableDef) → i < length schema → d ≡ get_or schema i d → same_bytes name d.name ≡ true → table_from i name (drop i schema) ≡ Some (i, d)
 found_here schema name i d within is same = rw (drop-cons schema i d within, ← is, same) refl
 
 abbrev number_found : Option (ℕ × TableDef) → ℕ → ℕ
@@ -27,7 +27,7 @@ pub record Found (schema : List TableDef) (name : List ℕ) (i n : ℕ) (d : Tab
 
 pub found : (schema : List TableDef) (name : List ℕ) (i n : ℕ) (d : TableDef) → table_from i name schema ≡ Some (n, d) → Found schema name i n d
 found [] name i n d h = absurd cc
-found (e ∷ es) name i n d h = by (is_same_name name e.name) refl (found es name (i + 1) n d) h
+found (e ∷ es) name i n d h = by (same_bytes name e.name) refl (found es name (i + 1) n d) h
   where
     head : (p : TableDef → Bool) (b : Bool) → (p e && b) ≡ true → p e ≡ true
     head p b h = elim (p e) as (λ x. (x && b) ≡ true → x ≡ true) [ true ↦ λ h. refl | false ↦ λ h. h ] h
@@ -36,7 +36,7 @@ found (e ∷ es) name i n d h = by (is_same_name name e.name) refl (found es nam
     tail true y h = h
     tail false y h = absurd cc
 
-    by : (b : Bool) → is_same_name name e.name ≡ b → (table_from (i + 1) name es ≡ Some (n, d) → Found es name (i + 1) n d) →
+    by : (b : Bool) → same_bytes name e.name ≡ b → (table_from (i + 1) name es ≡ Some (n, d) → Found es name (i + 1) n d) →
         cond b (Some (i, e)) (table_from (i + 1) name es) ≡ Some (n, d) → Found (e ∷ es) name i n d
     by true s more h =
         let number : i ≡ n = ap (λ o. number_found o i) h in
@@ -59,7 +59,7 @@ found (e ∷ es) name i n d h = by (is_same_name name e.name) refl (found es nam
 -- one that is not found is not known
 pub not-found : (schema : List TableDef) (name : List ℕ) (i : ℕ) → table_from i name schema ≡ None → is_table schema name ≡ false
 not-found [] name i h = refl
-not-found (e ∷ es) name i h = by (is_same_name name e.name) (not-found es name (i + 1)) h
+not-found (e ∷ es) name i h = by (same_bytes name e.name) (not-found es name (i + 1)) h
   where
     by : (b : Bool) → (table_from (i + 1) name es ≡ None → is_table es name ≡ false) → cond b (Some (i, e)) (table_from (i + 1) name es) ≡ None → cond b true (is_table es name) ≡ false
     by true more h = absurd cc

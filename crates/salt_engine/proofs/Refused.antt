@@ -1,7 +1,9 @@
 -- What is refused of a request is what is refused of its line.
 use Rattle.salt_ast.specs.Judgement.{are_row, columns_of, doubled_in_table, doubled_name, field_names, first_fault, gives_type, is_of_kind, is_same_type, key_type, statement_fault, table_fault, unknown_in_expr, unknown_table, value_kind, values}
 use Rattle.salt_ast.specs.ProgramJudgement.{Known, faulty, kept, line_fault}
-use Rattle.salt_ast.specs.Words.{first_in, or_else, when}
+use Rattle.salt_ast.specs.Words.{first_in}
+use Rattle.std.specs.Bool.{then_some}
+use Rattle.std.specs.Option.{option_or}
 use Rattle.salt_ast.specs.declared.lines.Act.TheVariants.{Do}
 use Rattle.salt_ast.specs.declared.lines.Line.TheVariants.{Session}
 use Rattle.salt_ast.specs.declared.limit.LimitName.TheVariants.{Tables}
@@ -13,7 +15,7 @@ use Rattle.salt_ast.specs.declared.trees.TableDef.{TableDef}
 use Rattle.salt_engine.proofs.Lookups.{found, not-found}
 use Rattle.salt_engine.proofs.Outcomes.{no-checks}
 use Rattle.salt_engine.specs.Schema.{IsKnown, is_fitting, is_key_value, request_refusal, table_of, table_refusal, task_refusal}
-use Rattle.salt_engine.specs.Served.{IsNumeric, IsWellFormed, is_int, is_number, line_of, statement_of}
+use Rattle.salt_engine.specs.Supported.{IsNumeric, IsWellFormed, is_int, is_number, line_of, statement_of}
 use Rattle.salt_engine.specs.declared.request.Request.TheVariants as request
 use Rattle.salt_engine.specs.declared.request.Request.{Request}
 use Rattle.salt_engine.specs.declared.request.Task.TheVariants as task
@@ -45,15 +47,15 @@ table-doubled schema d None x few k h is = rw (room (length schema) few, not-fou
 pub task-unknown : (schema : List TableDef) (t : Task) → table_named (table_of t) schema ≡ None → task_refusal schema t ≡ Some (Unknown (table_of t))
 task-unknown schema t h = rw (not-found schema (table_of t) 0 h) refl
 
-pub task-known : (schema : List TableDef) (t : Task) (n : ℕ) (d : TableDef) (b : Bool) → table_named (table_of t) schema ≡ Some (n, d) → b ≡ is_fitting d.columns t → task_refusal schema t ≡ when (not b) Mistyped
+pub task-known : (schema : List TableDef) (t : Task) (n : ℕ) (d : TableDef) (b : Bool) → table_named (table_of t) schema ≡ Some (n, d) → b ≡ is_fitting d.columns t → task_refusal schema t ≡ then_some (not b) Mistyped
 task-known schema t n d b h is = let f = found schema (table_of t) 0 n d h in rw (f.known, f.columns, is) refl
 
-table-by : (b : Bool) (o : Option (List ℕ)) → option_map refusal_by (or_else (option_map kept (when b Tables)) (option_map faulty (first_fault None o true))) ≡ or_else (option_map Limit (when b Tables)) (option_map Exists o)
+table-by : (b : Bool) (o : Option (List ℕ)) → option_map refusal_by (option_or (option_map kept (then_some b Tables)) (option_map faulty (first_fault None o true))) ≡ option_or (option_map Limit (then_some b Tables)) (option_map Exists o)
 table-by true o = refl
 table-by false None = refl
 table-by false (Some n) = refl
 
-task-by : (u : Option (List ℕ)) (b : Bool) → option_map refusal_by (option_map faulty (first_fault u None b)) ≡ or_else (option_map Unknown u) (when (not b) Mistyped)
+task-by : (u : Option (List ℕ)) (b : Bool) → option_map refusal_by (option_map faulty (first_fault u None b)) ≡ option_or (option_map Unknown u) (then_some (not b) Mistyped)
 task-by None true = refl
 task-by None false = refl
 task-by (Some n) b = refl
@@ -63,7 +65,7 @@ numbers-known [] h = refl
 numbers-known (Lit (value.Int z) ∷ es) h = numbers-known es h
 numbers-known (e ∷ es) h = absurd cc
 
-or-none : {A : Type 0} (o : Option A) → or_else o None ≡ o
+or-none : {A : Type 0} (o : Option A) → option_or o None ≡ o
 or-none None = refl
 or-none (Some x) = refl
 

@@ -1,4 +1,4 @@
--- The segments of lines on an idle log: what an engine appends is what comes next.
+-- The segments of lines on an idle trace: what an engine appends is what comes next.
 use Rattle.salt_ast.specs.declared.lines.Act.TheVariants.{Do}
 use Rattle.salt_ast.specs.declared.lines.Line.TheVariants.{Session}
 use Rattle.salt_ast.specs.declared.lines.Line.{Line}
@@ -10,10 +10,11 @@ use Rattle.salt_laws.proofs.Ids.{is_same_id-refl}
 use Rattle.salt_model.specs.After.{answer_now, kept, run_of, stage, stage_run, tables_after}
 use Rattle.salt_model.specs.Honest.{cause_in}
 use Rattle.salt_model.specs.Kept.{Kept, schema_of}
-use Rattle.salt_model.specs.Log.{Asked, Log, Tree, lines_of, start_of, story_of, ◌asks◌, ◌says◌}
+use Rattle.salt_model.specs.Trace.{Asked, Trace, Tree, lines_of, start_of, story_of, ◌asks◌, ◌says◌}
 use Rattle.salt_model.specs.Units.{Running, done_of, is_open, kind_of, line_begun, standing, wait_list}
 use Rattle.salt_model.specs.Next.{next}
-use Rattle.salt_model.specs.Played.{IsComplete, IsPlayed}
+use Rattle.salt_model.specs.Played.{IsPlayed}
+use Rattle.salt_model.specs.Segments.{IsComplete}
 use Rattle.salt_model.specs.Refusals.{refusal}
 use Rattle.salt_model.specs.Statements.{Done, Run, doing, has_failed, outcome_of, run_from, run_on, serial, with_done}
 use Rattle.salt_model.specs.Tables.{with_changes}
@@ -34,43 +35,43 @@ use Rattle.std.proofs.Common.{ap, append-nil, append_assoc, sym, ◌∙◌}
 use Rattle.std.specs.Prelude.{Bool, List, None, Option, Some, [], cond, false, refl, suc, take, true, zero, ℕ, ◌++◌, ◌∷◌, ◌≡◌}
 
 -- events said one after another
-abbrev pub says_all : Log → List Event → Log
-says_all log [] = log
-says_all log (e ∷ es) = says_all (log says e) es
+abbrev pub says_all : Trace → List Event → Trace
+says_all trace [] = trace
+says_all trace (e ∷ es) = says_all (trace says e) es
 
-pub says_all-story : (log : Log) (es : List Event) → story_of (says_all log es) ≡ story_of log ++ es
-says_all-story log [] = sym (append-nil (story_of log))
-says_all-story log (e ∷ es) = says_all-story (log says e) es ∙ append_assoc (story_of log) (e ∷ []) es
+pub says_all-story : (trace : Trace) (es : List Event) → story_of (says_all trace es) ≡ story_of trace ++ es
+says_all-story trace [] = sym (append-nil (story_of trace))
+says_all-story trace (e ∷ es) = says_all-story (trace says e) es ∙ append_assoc (story_of trace) (e ∷ []) es
 
-pub says_all-lines : (log : Log) (es : List Event) → lines_of (says_all log es) ≡ lines_of log
-says_all-lines log [] = refl
-says_all-lines log (e ∷ es) = says_all-lines (log says e) es
+pub says_all-lines : (trace : Trace) (es : List Event) → lines_of (says_all trace es) ≡ lines_of trace
+says_all-lines trace [] = refl
+says_all-lines trace (e ∷ es) = says_all-lines (trace says e) es
 
-pub says_all-start : (log : Log) (es : List Event) → start_of (says_all log es) ≡ start_of log
-says_all-start log [] = refl
-says_all-start log (e ∷ es) = says_all-start (log says e) es
+pub says_all-start : (trace : Trace) (es : List Event) → start_of (says_all trace es) ≡ start_of trace
+says_all-start trace [] = refl
+says_all-start trace (e ∷ es) = says_all-start (trace says e) es
 
-pub before-said : (log : Log) (es : List Event) → IsPlayed (says_all log es) → IsPlayed log
-before-said log [] p = p
-before-said log (e ∷ es) p = (before-said (log says e) es p).0
+pub before-said : (trace : Trace) (es : List Event) → IsPlayed (says_all trace es) → IsPlayed trace
+before-said trace [] p = p
+before-said trace (e ∷ es) p = (before-said (trace says e) es p).0
 
 -- a front of what may be said may be said
-pub front-played : (k : ℕ) (log : Log) (es : List Event) → IsPlayed (says_all log es) → IsPlayed (says_all log (take k es))
-front-played zero log es p = before-said log es p
-front-played (suc k) log [] p = p
-front-played (suc k) log (e ∷ es) p = front-played k (log says e) es p
+pub front-played : (k : ℕ) (trace : Trace) (es : List Event) → IsPlayed (says_all trace es) → IsPlayed (says_all trace (take k es))
+front-played zero trace es p = before-said trace es p
+front-played (suc k) trace [] p = p
+front-played (suc k) trace (e ∷ es) p = front-played k (trace says e) es p
 
-module _ (log : Log) (idle : IsIdle log) (complete : IsComplete log) where
+module _ (trace : Trace) (idle : IsIdle trace) (complete : IsComplete trace) where
   -- a line's one event, after which nothing comes
-  pub defined-complete : (asked : Asked) (n : ℕ) (text : List ℕ) → still_to_go (log asks asked) ≡ [] → IsComplete (log asks asked says Defined n text)
+  pub defined-complete : (asked : Asked) (n : ℕ) (text : List ℕ) → still_to_go (trace asks asked) ≡ [] → IsComplete (trace asks asked says Defined n text)
   defined-complete asked n text turns =
-      let after : Log = log asks asked says Defined n text in
-      (complete.0, rw (complete.0, none-settles after (none-waits log idle)) refl, rw turns refl)
+      let after : Trace = trace asks asked says Defined n text in
+      (complete.0, rw (complete.0, none-settles after (none-waits trace idle)) refl, rw turns refl)
 
-  pub refused-complete : (asked : Asked) (r : Refusal) → still_to_go (log asks asked) ≡ [] → IsComplete (log asks asked says Refused r)
+  pub refused-complete : (asked : Asked) (r : Refusal) → still_to_go (trace asks asked) ≡ [] → IsComplete (trace asks asked says Refused r)
   refused-complete asked r turns =
-      let after : Log = log asks asked says Refused r in
-      (complete.0, rw (complete.0, none-settles after (none-waits log idle)) refl, rw turns refl)
+      let after : Trace = trace asks asked says Refused r in
+      (complete.0, rw (complete.0, none-settles after (none-waits trace idle)) refl, rw turns refl)
 
 run_on-one : (schema : List TableDef) (st : Statement) (r : Run) → run_on schema (st ∷ []) r ≡ with_done schema r st
 run_on-one schema st r = both (has_failed (doing schema r st).answer) (with_done schema r st)
@@ -80,27 +81,27 @@ run_on-one schema st r = both (has_failed (doing schema r st).answer) (with_done
     both false x = refl
 
 -- the segment of a session's statement: Began, Did, Ended
-module _ (log : Log) (s : ℕ) (st : Statement) (idle : IsIdle log) (complete : IsComplete log) where
+module _ (trace : Trace) (s : ℕ) (st : Statement) (idle : IsIdle trace) (complete : IsComplete trace) where
   abbrev pub line : Line
   line = Session s (Do st)
 
-  abbrev pub asked : Log
-  asked = log asks Tree line
+  abbrev pub asked : Trace
+  asked = trace asks Tree line
 
   abbrev pub unit : Id
-  unit = fresh_unit log
+  unit = fresh_unit trace
 
-  abbrev pub began : Log
+  abbrev pub began : Trace
   began = asked says Began unit (Acid s)
 
   abbrev pub done : Done
-  done = outcome_of (schema_of (kept log)) (tables_after log) [] st
+  done = outcome_of (schema_of (kept trace)) (tables_after trace) [] st
 
-  abbrev pub did : Answer → Log
+  abbrev pub did : Answer → Trace
   did a = began says Did unit st a
 
-  next-asked : refusal log (Tree line) ≡ None → next asked ≡ Some (Began unit (Acid s))
-  next-asked allowed = rw (allowed, none-open log idle) refl
+  next-asked : refusal trace (Tree line) ≡ None → next asked ≡ Some (Began unit (Acid s))
+  next-asked allowed = rw (allowed, none-open trace idle) refl
 
   kind-began : kind_of unit began ≡ Some (Acid s)
   kind-began = rw (is_same_id-refl unit) refl
@@ -115,7 +116,7 @@ module _ (log : Log) (s : ℕ) (st : Statement) (idle : IsIdle log) (complete : 
   asked-began = rw (block-began, standing-began) refl
 
   abbrev run_with : List Binding → List Statement → Run
-  run_with vars sts = serial (schema_of (kept log)) (tables_after log) vars sts
+  run_with vars sts = serial (schema_of (kept trace)) (tables_after trace) vars sts
 
   vars-began : (stage began).vars unit ≡ []
   vars-began = rw (is_same_id-refl unit) refl
@@ -127,10 +128,10 @@ module _ (log : Log) (s : ℕ) (st : Statement) (idle : IsIdle log) (complete : 
   run-began = ap (λ vars. run_with vars (done_of unit began)) vars-began ∙ ap (run_with []) done-began
 
   answer-began : answer_now unit began st ≡ done.answer
-  answer-began = ap (λ r. (outcome_of (schema_of (kept log)) r.tables r.vars st).answer) run-began
+  answer-began = ap (λ r. (outcome_of (schema_of (kept trace)) r.tables r.vars st).answer) run-began
 
   next-began : next began ≡ Some (Did unit st done.answer)
-  next-began = rw (complete.0, asked-began, none-clashes log idle (Tree line) unit (Acid s) st, answer-began) refl
+  next-began = rw (complete.0, asked-began, none-clashes trace idle (Tree line) unit (Acid s) st, answer-began) refl
 
   line-did : (a : Answer) → line_begun unit (did a) ≡ line
   line-did a = rw (is_same_id-refl unit) refl
@@ -138,7 +139,7 @@ module _ (log : Log) (s : ℕ) (st : Statement) (idle : IsIdle log) (complete : 
   at-end : (a : Answer) → is_at_end (did a) unit (block_of unit (did a)) ≡ true
   at-end a = rw (kind-began, line-did a) refl
 
-  after-did : (x a : Answer) → after_did (did x) unit a ≡ Some (Ended unit (end_by (kept log).decisions (cause_in a)))
+  after-did : (x a : Answer) → after_did (did x) unit a ≡ Some (Ended unit (end_by (kept trace).decisions (cause_in a)))
   after-did x (Answer.Failed c) = rw kind-began refl
   after-did x (Count n) = rw (at-end x) refl
   after-did x (Rows rows) = rw (at-end x) refl
@@ -146,24 +147,24 @@ module _ (log : Log) (s : ℕ) (st : Statement) (idle : IsIdle log) (complete : 
   after-did x (Stored v) = rw (at-end x) refl
   after-did x Held = rw (at-end x) refl
 
-  next-did : (a : Answer) → next (did a) ≡ Some (Ended unit (end_by (kept log).decisions (cause_in a)))
+  next-did : (a : Answer) → next (did a) ≡ Some (Ended unit (end_by (kept trace).decisions (cause_in a)))
   next-did a = rw (complete.0, after-did a a) refl
 
-  abbrev ended_by : Answer → Option Cause → Log
-  ended_by a o = did a says Ended unit (end_by (kept log).decisions o)
+  abbrev ended_by : Answer → Option Cause → Trace
+  ended_by a o = did a says Ended unit (end_by (kept trace).decisions o)
 
-  abbrev pub ended : Log
+  abbrev pub ended : Trace
   ended = ended_by done.answer (cause_in done.answer)
 
-  pub unit-played : IsPlayed log → refusal log (Tree line) ≡ None → IsPlayed ended
+  pub unit-played : IsPlayed trace → refusal trace (Tree line) ≡ None → IsPlayed ended
   unit-played played allowed = ((((played, complete), next-asked allowed), next-began), next-did done.answer)
 
-  after-end : (a : Answer) (o : Option Cause) → after_end (ended_by a o) (end_by (kept log).decisions o) (kind_of unit (ended_by a o)) ≡ None
+  after-end : (a : Answer) (o : Option Cause) → after_end (ended_by a o) (end_by (kept trace).decisions o) (kind_of unit (ended_by a o)) ≡ None
   after-end a (Some c) = refl
   after-end a None = rw kind-began refl
 
   none-left : (a : Answer) (o : Option Cause) → wait_list (ended_by a o) ≡ []
-  none-left a o = ap (λ w. without (unit ∷ []) (without (unit ∷ []) w)) (none-waits log idle)
+  none-left a o = ap (λ w. without (unit ∷ []) (without (unit ∷ []) w)) (none-waits trace idle)
 
   next-ended : (a : Answer) (o : Option Cause) → next (ended_by a o) ≡ None
   next-ended a o = rw (complete.0, after-end a o, none-settles (ended_by a o) (none-left a o)) refl
@@ -184,27 +185,27 @@ module _ (log : Log) (s : ℕ) (st : Statement) (idle : IsIdle log) (complete : 
   one-done : (a : Answer) → done_of unit (did a) ≡ st ∷ []
   one-done a = rw (is_same_id-refl unit) refl
 
-  run-here : (a : Answer) → (stage_run (stage (did a)) unit (did a)).tables ≡ with_changes done.changes (tables_after log)
+  run-here : (a : Answer) → (stage_run (stage (did a)) unit (did a)).tables ≡ with_changes done.changes (tables_after trace)
   run-here a =
       ap (λ r. r.tables)
       (ap (λ vars. run_with vars (done_of unit (did a))) vars-began ∙ ap (run_with []) (one-done a)
-      ∙ run_on-one (schema_of (kept log)) st (run_from (tables_after log) []))
+      ∙ run_on-one (schema_of (kept trace)) st (run_from (tables_after trace) []))
 
   abbrev kept_by : Answer → Option Cause → Kept
   kept_by a o = kept (ended_by a o)
 
-  pub schema-by : (a : Answer) (o : Option Cause) → schema_of (kept_by a o) ≡ schema_of (kept log)
+  pub schema-by : (a : Answer) (o : Option Cause) → schema_of (kept_by a o) ≡ schema_of (kept trace)
   schema-by a (Some c) = refl
   schema-by a None = refl
 
-  pub boot-by : (a : Answer) (o : Option Cause) → (kept_by a o).boot ≡ (kept log).boot
+  pub boot-by : (a : Answer) (o : Option Cause) → (kept_by a o).boot ≡ (kept trace).boot
   boot-by a (Some c) = refl
   boot-by a None = refl
 
-  pub decisions-by : (a : Answer) (o : Option Cause) → (kept_by a o).decisions ≡ decisions_after o (kept log).decisions
+  pub decisions-by : (a : Answer) (o : Option Cause) → (kept_by a o).decisions ≡ decisions_after o (kept trace).decisions
   decisions-by a (Some c) = refl
   decisions-by a None = refl
 
-  pub rows-by : (a : Answer) (o : Option Cause) → rows_by o done.changes (tables_after log) ≡ (kept_by a o).tables.list
+  pub rows-by : (a : Answer) (o : Option Cause) → rows_by o done.changes (tables_after trace) ≡ (kept_by a o).tables.list
   rows-by a (Some c) = refl
   rows-by a None = ap (λ t. t.list) (sym (run-here a))

@@ -1,4 +1,4 @@
--- What an engine stands for: the log that it and its story are those of.
+-- What an engine stands for: the trace that it and its story are those of.
 use Rattle.salt_model.specs.Words.{Every}
 use Rattle.salt_model.specs.EventTexts.{ShowsNothing}
 use Rattle.salt_ast.specs.Texts.{table_text}
@@ -10,10 +10,11 @@ use Rattle.salt_engine.specs.declared.request.Request.{Request}
 use Rattle.salt_model.specs.After.{kept, tables_after}
 use Rattle.salt_model.specs.Honest.{cause_in}
 use Rattle.salt_model.specs.Kept.{schema_of}
-use Rattle.salt_model.specs.Log.{Asked, Log, lines_of}
+use Rattle.salt_model.specs.Trace.{Asked, Trace, lines_of}
 use Rattle.salt_model.specs.Programs.{accepted_in, programs_in}
 use Rattle.salt_model.specs.Units.{is_open, unit_count}
-use Rattle.salt_model.specs.Played.{IsComplete, Tells, empty_start}
+use Rattle.salt_model.specs.Played.{Tells, empty_start}
+use Rattle.salt_model.specs.Segments.{IsComplete}
 use Rattle.salt_model.specs.Statements.{Done, outcome_of}
 use Rattle.salt_model.specs.Tables.{Entry, Tables, with_changes}
 use Rattle.salt_model.specs.declared.events.Answer.{Answer}
@@ -28,21 +29,21 @@ use Rattle.salt_values.specs.declared.id.Id.{Id}
 use Rattle.std.specs.Prelude.{List, None, Option, Some, [], false, take, ℕ, ◌++◌, ◌+◌, ◌∷◌, ◌≡◌, ◌≤◌}
 
 -- no unit is open, and no BASE program was begun or accepted
-pub record IsIdle (log : Log) : Type 0 where
-  pub none_open : (u : Id) → is_open log u ≡ false
-  pub none_begun : programs_in log ≡ []
-  pub none_accepted : accepted_in log ≡ []
+pub record IsIdle (trace : Trace) : Type 0 where
+  pub none_open : (u : Id) → is_open trace u ≡ false
+  pub none_begun : programs_in trace ≡ []
+  pub none_accepted : accepted_in trace ≡ []
 
--- the engine and the story are those of a log that is played and complete
-pub record Serves (e : Engine) (story : List Event) (log : Log) : Type 0 where
-  pub tells : Tells empty_start log story
-  pub complete : IsComplete log
-  pub idle : IsIdle log
-  pub schema : schema_of (kept log) ≡ e.schema
-  pub rows : e.rows.entries ≡ (tables_after log).list
-  pub boot : (kept log).boot ≡ e.boot
-  pub decisions : (kept log).decisions ≡ e.decisions
-  pub units : unit_count log ≡ e.units
+-- the engine and the story are those of a trace that is played and complete
+pub record Serves (e : Engine) (story : List Event) (trace : Trace) : Type 0 where
+  pub tells : Tells empty_start trace story
+  pub complete : IsComplete trace
+  pub idle : IsIdle trace
+  pub schema : schema_of (kept trace) ≡ e.schema
+  pub rows : e.rows.entries ≡ (tables_after trace).list
+  pub boot : (kept trace).boot ≡ e.boot
+  pub decisions : (kept trace).decisions ≡ e.decisions
+  pub units : unit_count trace ≡ e.units
 
 -- the story has gained events, if any, and none that shows
 abbrev pub Grows : List Event → List Event → Type 0
@@ -53,28 +54,28 @@ pub record NumbersRise (old new : Engine) : Type 0 where
   pub units : new.units ≤ old.units + 1
   pub decisions : new.decisions ≤ old.decisions + 1
 
--- a log goes on by a line and its whole segment
-pub record Goes (log : Log) (asked : Asked) (old : Engine) (story : List Event) (new : Engine) (told : List Event) : Type 0 where
-  pub after : Log
-  pub asks : lines_of after ≡ lines_of log ++ asked ∷ []
+-- a trace goes on by a line and its whole segment
+pub record Goes (trace : Trace) (asked : Asked) (old : Engine) (story : List Event) (new : Engine) (told : List Event) : Type 0 where
+  pub after : Trace
+  pub asks : lines_of after ≡ lines_of trace ++ asked ∷ []
   pub serves : Serves new told after
   pub grows : Grows story told
   pub rise : NumbersRise old new
 
 -- or by a line and a front of its segment
-pub record Breaks (log : Log) (asked : Asked) (story told : List Event) : Type 0 where
-  pub after : Log
-  pub asks : lines_of after ≡ lines_of log ++ asked ∷ []
+pub record Breaks (trace : Trace) (asked : Asked) (story told : List Event) : Type 0 where
+  pub after : Trace
+  pub asks : lines_of after ≡ lines_of trace ++ asked ∷ []
   pub tells : Tells empty_start after told
   pub grows : Grows story told
 
--- each log of the engine and the story goes on by the line
+-- each trace of the engine and the story goes on by the line
 abbrev pub GoesOn : Engine → List Event → Asked → Engine → List Event → Type 0
-GoesOn old story asked new told = (log : Log) → Serves old story log → Goes log asked old story new told
+GoesOn old story asked new told = (trace : Trace) → Serves old story trace → Goes trace asked old story new told
 
 -- or breaks off in it
 abbrev pub BreaksOff : Engine → List Event → Asked → List Event → Type 0
-BreaksOff old story asked told = (log : Log) → Serves old story log → Breaks log asked story told
+BreaksOff old story asked told = (trace : Trace) → Serves old story trace → Breaks trace asked story told
 
 -- a front of the events was told
 abbrev pub IsCutShort : List Event → List Event → List Event → Type 0
@@ -118,10 +119,10 @@ abbrev pub defined_by : Engine → TableDef → Engine
 defined_by e d = record e { schema = e.schema ++ d ∷ []; decisions = e.decisions + 1 }
 
 -- the engine and the story after a line that was not refused
-abbrev pub IsServed : Engine → List Event → Request → Engine → List Event → Type 0
-IsServed old story request.Nothing new told = (new ≡ old) × (told ≡ story)
-IsServed old story (request.Define d) new told = (new ≡ defined_by old d.now) × (told ≡ story ++ Defined (old.decisions + 1) (table_text d.now) ∷ [])
-IsServed old story (request.Do s st t) new told = (es : Tables) → old.rows.entries ≡ es.list → HasRun old story s st.now es new told
+abbrev pub IsRequestDone : Engine → List Event → Request → Engine → List Event → Type 0
+IsRequestDone old story request.Nothing new told = (new ≡ old) × (told ≡ story)
+IsRequestDone old story (request.Define d) new told = (new ≡ defined_by old d.now) × (told ≡ story ++ Defined (old.decisions + 1) (table_text d.now) ∷ [])
+IsRequestDone old story (request.Do s st t) new told = (es : Tables) → old.rows.entries ≡ es.list → HasRun old story s st.now es new told
 
 -- the story where memory ran out in the line
 abbrev pub IsLeft : Engine → List Event → Request → List Event → Type 0

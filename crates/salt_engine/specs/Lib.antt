@@ -1,4 +1,4 @@
-pub mod Served
+pub mod Supported
 pub mod Schema
 pub mod Execute
 pub mod Engine

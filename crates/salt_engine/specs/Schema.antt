@@ -1,9 +1,11 @@
 -- Where a table stands in a schema, and what is refused of a request.
 use Rattle.salt_ast.specs.Judgement.{columns_of, doubled_in_table, is_of_kind, kept_limit, key_type, unknown_table, value_kind, values}
-use Rattle.salt_ast.specs.Words.{is_same_name, or_else, when}
+use Rattle.salt_tokens.specs.Spelling.{same_bytes}
+use Rattle.std.specs.Bool.{then_some}
+use Rattle.std.specs.Option.{option_or}
 use Rattle.salt_ast.specs.declared.trees.Field.{Field}
 use Rattle.salt_ast.specs.declared.trees.TableDef.{TableDef}
-use Rattle.salt_engine.specs.Served.{is_int}
+use Rattle.salt_engine.specs.Supported.{is_int}
 use Rattle.salt_engine.specs.declared.request.Request.TheVariants as request
 use Rattle.salt_engine.specs.declared.request.Request.{Request}
 use Rattle.salt_engine.specs.declared.request.Task.TheVariants as task
@@ -22,11 +24,11 @@ IsKnown schema name None = table_named name schema ≡ None
 IsKnown schema name (Some k) = table_named name schema ≡ Some (k.number, k.def.now)
 
 abbrev pub has_name : List ℕ → Field → Bool
-has_name name f = is_same_name name f.name
+has_name name f = same_bytes name f.name
 
 -- why a table without checks is refused
 abbrev pub table_refusal : List TableDef → TableDef → Option Refusal
-table_refusal schema d = or_else (option_map Limit (kept_limit schema)) (option_map Exists (doubled_in_table schema d))
+table_refusal schema d = option_or (option_map Limit (kept_limit schema)) (option_map Exists (doubled_in_table schema d))
 
 -- the table that a task names
 abbrev pub table_of : Task → List ℕ
@@ -45,7 +47,7 @@ is_fitting columns (task.Select t k) = is_key_value columns k.now
 -- why a task is refused
 abbrev pub task_refusal : List TableDef → Task → Option Refusal
 task_refusal schema t =
-    or_else (option_map Unknown (unknown_table schema (table_of t))) (when (not (is_fitting (columns_of schema (table_of t)) t)) Mistyped)
+    option_or (option_map Unknown (unknown_table schema (table_of t))) (then_some (not (is_fitting (columns_of schema (table_of t)) t)) Mistyped)
 
 abbrev pub request_refusal : List TableDef → Request → Option Refusal
 request_refusal schema request.Nothing = None

@@ -6,14 +6,15 @@ ghost use Rattle.salt_ast.specs.declared.trees.Statement.{Statement};
 ghost use Rattle.salt_model.specs.After.{kept};
 ghost use Rattle.salt_model.specs.Honest.{cause_in};
 ghost use Rattle.salt_model.specs.Kept.{nothing_kept};
-ghost use Rattle.salt_model.specs.Log.{Log, Unread};
+ghost use Rattle.salt_model.specs.Trace.{Trace, Rejected};
 ghost use Rattle.salt_model.specs.Units.{unit_count};
-ghost use Rattle.salt_model.specs.Played.{IsComplete, Tells, empty_start};
+ghost use Rattle.salt_model.specs.Played.{Tells, empty_start};
+ghost use Rattle.salt_model.specs.Segments.{IsComplete};
 ghost use Rattle.salt_model.specs.Tables.{Tables, with_changes};
 ghost use Rattle.salt_model.specs.declared.events.Event.{Event};
 ghost use Rattle.salt_engine.specs.Execute.{changes_of};
 ghost use Rattle.salt_engine.specs.Schema.{request_refusal};
-ghost use Rattle.salt_engine.specs.Served.{IsTaskOf, IsWellFormed, asked_of, is_plain_table};
+ghost use Rattle.salt_engine.specs.Supported.{IsTaskOf, IsWellFormed, asked_of, is_plain_table};
 
 use crate::execute::{Added, Outcome, PlacedRows, execute};
 use crate::request::{Request, Task, request_in};
@@ -67,11 +68,11 @@ fn text_of(alloc: Global, def: &TableDef) -> Result<Bytes, AllocError>
 }
 
 impl Engine {
-    ghost use Rattle.salt_engine.specs.Engine.{BreaksOff, GoesOn, HasRun, IsCutShort, IsIdle, IsLeft, IsServed, NumbersRise, Serves, decisions_after, defined_by, done_by, end_by, next_unit, rows_by, unit_events};
+    ghost use Rattle.salt_engine.specs.Engine.{BreaksOff, GoesOn, HasRun, IsCutShort, IsIdle, IsLeft, IsRequestDone, NumbersRise, Serves, decisions_after, defined_by, done_by, end_by, next_unit, rows_by, unit_events};
 
     /// An engine of no tables, in the boot that a story's opening tells.
     pub fn new(alloc: Global, boot: u64) -> Engine
-        ensures serves { (log : Log) (story : List Event) → Tells empty_start log story → IsComplete log → IsIdle log → kept log ≡ record nothing_kept { boot = boot } → unit_count log ≡ 0 → Serves result story log }
+        ensures serves { (trace : Trace) (story : List Event) → Tells empty_start trace story → IsComplete trace → IsIdle trace → kept trace ≡ record nothing_kept { boot = boot } → unit_count trace ≡ 0 → Serves result story trace }
         ensures units { result.units ≡ 0 }
         ensures decisions { result.decisions ≡ 0 }
     {
@@ -209,12 +210,12 @@ impl Engine {
     }
 
     /// Appends the events of a request that is not refused.
-    fn serve(&mut self, request: &Request<'_>, story: &mut Story) -> Result<(), AllocError>
+    fn do_request(&mut self, request: &Request<'_>, story: &mut Story) -> Result<(), AllocError>
         requires well_formed { IsWellFormed request.now }
         requires allowed { request_refusal self.old.schema request.now ≡ None }
         requires units { self.old.units < 2 ^ 64 - 1 }
         requires decisions { self.old.decisions < 2 ^ 64 - 1 }
-        ensures ok { OnOk result (IsServed self.old story.old request.now self.new story.new) }
+        ensures ok { OnOk result (IsRequestDone self.old story.old request.now self.new story.new) }
         ensures err { OnErr result (IsLeft self.old story.old request.now story.new) }
         ensures rise { OnOk result (NumbersRise self.old self.new) }
     {
@@ -243,14 +244,14 @@ impl Engine {
         };
         match refusal_of(self.alloc, self.schema.tables(), &request)? {
             Some(refusal) => story.push(Event::Refused(refusal)),
-            None => self.serve(&request, story),
+            None => self.do_request(&request, story),
         }
     }
 
     /// Appends the refusal of a line whose text spells nothing. Where memory runs out, the story is as it was.
     pub fn refuse(&self, story: &mut Story) -> Result<(), AllocError>
-        ensures segment { OnOk result (GoesOn self.now story.old (Unread Refusal.Syntax) self.now story.new) }
-        ensures broken_off { OnErr result (BreaksOff self.now story.old (Unread Refusal.Syntax) story.new) }
+        ensures segment { OnOk result (GoesOn self.now story.old (Rejected Refusal.Syntax) self.now story.new) }
+        ensures broken_off { OnErr result (BreaksOff self.now story.old (Rejected Refusal.Syntax) story.new) }
     {
         story.push(Event::Refused(Refusal::Syntax))
     }

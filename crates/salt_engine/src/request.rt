@@ -3,7 +3,7 @@
 ghost use Rattle.std.specs.Prelude.{◌≡◌};
 ghost use Rattle.std.specs.List.{list_all};
 ghost use Rattle.std.specs.Option.{option_copied};
-ghost use Rattle.salt_engine.specs.Served.{IsRequestOf, IsTaskOf, is_int, is_number, is_plain_table, key_in, literal_in};
+ghost use Rattle.salt_engine.specs.Supported.{IsRequestOf, IsTaskOf, is_int, is_number, is_plain_table, key_in, literal_in};
 
 use salt_ast::{Act, Bound, ColType, Expr, Field, Line, Scan, Statement, TableDef, What};
 use salt_values::{Name, Value};

@@ -4,23 +4,21 @@ ghost use Rattle.std.specs.Prelude.{◌≡◌, ◌<◌, ◌≤◌, ◌++◌, ◌
 ghost use Rattle.std.specs.List.{list_all, list_any};
 ghost use Rattle.std.specs.Option.{option_copied};
 ghost use Rattle.salt_ast.specs.Judgement.{doubled_name, field_names};
-ghost use Rattle.salt_ast.specs.Words.{is_same_name};
+ghost use Rattle.salt_tokens.specs.Spelling.{same_bytes};
 ghost use Rattle.salt_ast.specs.declared.trees.TableDef.{TableDef};
 ghost use Rattle.salt_engine.specs.Schema.{IsKnown, has_name, is_fitting, is_key_value, request_refusal, table_of, table_refusal, task_refusal};
-ghost use Rattle.salt_engine.specs.Served.{is_plain_table};
+ghost use Rattle.salt_engine.specs.Supported.{is_plain_table};
 
 use crate::request::{Request, Task, are_ints};
 use salt_ast::{ColType, Field, LimitName, TableDef};
 use salt_model::Refusal;
+use salt_values::limits::TABLES_MOST;
 use salt_values::{Name, TryCopy, Value};
 use sqlite_items::Items;
 use std::alloc::{AllocError, Global};
 use std::marker::Model;
 
-/// The most tables that are kept.
-pub const TABLES_MOST: usize = 64;
-
-/// The tables defined, numbered from 0, at most 64: of numbers, without checks. Contracts see the list of their definitions.
+/// The tables defined, numbered from 0, no more than there may be: of numbers, without checks. Contracts see the list of their definitions.
 #[derive(Drop)]
 pub struct Schema {
     tables: Items<TableDef>,
@@ -32,7 +30,8 @@ impl Model for Schema {
     ghost use Rattle.salt_ast.specs.declared.trees.TableDef.{TableDef};
     ghost use Rattle.std.specs.Coded.{codes};
     ghost use Rattle.salt_ast.specs.contracts.trees.Expr as expr;
-    ghost use Rattle.salt_engine.specs.Served.{is_plain_table};
+    ghost use Rattle.salt_engine.specs.Supported.{is_plain_table};
+    ghost use Rattle.salt_values.specs.declared.limits.TheConstants.{TABLES_MOST};
 
     ghost Value = { List TableDef };
 
@@ -40,7 +39,7 @@ impl Model for Schema {
 
     ghost view = { λ s. s.tables };
 
-    ghost invariant = { λ s. (length s.tables ≤ 64) × (list_all is_plain_table s.tables ≡ true) };
+    ghost invariant = { λ s. (length s.tables ≤ TABLES_MOST) × (list_all is_plain_table s.tables ≡ true) };
 }
 
 impl Schema {
@@ -53,10 +52,10 @@ impl Schema {
         }
     }
 
-    /// The tables, at most 64, in order of their numbers.
+    /// The tables, in order of their numbers.
     pub fn tables(&self) -> &[TableDef]
         ensures tables { result.now ≡ self.now }
-        ensures few { length result.now ≤ 64 }
+        ensures few { length result.now ≤ TABLES_MOST }
         ensures plain { list_all is_plain_table result.now ≡ true }
     {
         self.tables.as_slice()
@@ -64,7 +63,7 @@ impl Schema {
 
     /// Adds a table, which takes the next number.
     pub fn add(&mut self, def: TableDef) -> Result<(), AllocError>
-        requires few { length self.old < 64 }
+        requires few { length self.old < TABLES_MOST }
         requires plain { is_plain_table def ≡ true }
         ensures { OnOk result (self.new ≡ self.old ++ def ∷ []) }
     {
@@ -72,8 +71,8 @@ impl Schema {
     }
 }
 
-fn is_same_name(a: &[u8], b: &[u8]) -> bool
-    ensures { result ≡ is_same_name a.now b.now }
+fn same_bytes(a: &[u8], b: &[u8]) -> bool
+    ensures { result ≡ same_bytes a.now b.now }
 {
     a == b
 }
@@ -90,7 +89,7 @@ pub fn table_named<'a>(schema: &'a [TableDef], name: &[u8]) -> Option<Known<'a>>
     ensures { IsKnown schema.now name.now result }
 {
     for (number, def) in schema.iter().enumerate() {
-        if is_same_name(name, def.name.as_slice()) {
+        if same_bytes(name, def.name.as_slice()) {
             return Some(Known { number, def });
         }
     }
@@ -102,7 +101,7 @@ fn stands_in(name: &[u8], fields: &[Field]) -> bool
 {
     fields
         .iter()
-        .any(|field| is_same_name(name, field.name.as_slice()))
+        .any(|field| same_bytes(name, field.name.as_slice()))
 }
 
 /// The first name of a field that an earlier field has.

@@ -1,9 +1,10 @@
 -- How far a reader has come in a line.
+use Rattle.salt_values.specs.declared.limits.TheConstants.{LINE_MOST}
 use Rattle.std.proofs.Common.{◌≡◌, ℕ, ◌+◌, ◌-◌, ◌<◌, ◌≤◌, Bool, true, false, List, [], ◌∷◌, ◌++◌, length, Option, Some, None, inl, inr, IfSome, refl, sym, ◌∙◌, ap, arith, length-append}
 use Rattle.std.proofs.Math.Seq.{take-append_seam}
 use Rattle.std.proofs.lemmas.List.{append-nil}
 use Rattle.salt_io.specs.Lines.{spaced, without_cr, last_text, ends_in_backslash, Script, script_of, TakesLine, TakesLong, EndsNoLine, TakesNoLine, IsCutOff}
-use Rattle.salt_io.specs.LineText.{IsKept, IsText}
+use Rattle.salt_io.specs.LineText.{KeepsFront, IsText}
 use Rattle.salt_io.specs.Streams.{bytes_before, Takes, IsAtEnd}
 use Rattle.salt_io.specs.declared.line_text.LineText.{LineText}
 use Rattle.salt_io.proofs.OpenLines.{IsOpen, open-none, open-byte, open-join, open-line, open-end}
@@ -56,12 +57,12 @@ reads-join before now next taken_before taken after line new state state' byte r
 -- a line with this text has been taken, and that much of it is kept
 pub record Found (most : ℕ) (before after : Option (List ℕ)) (taken_before taken : ℕ) (line : List ℕ) (is_long : Bool) : Type 0 where
   pub text : List ℕ
-  pub kept : IsKept line is_long text
+  pub kept : KeepsFront line is_long text
   pub takes : TakesLine most before after taken_before taken text
 
 pub reads-line : (most : ℕ) (before now next : Option (List ℕ)) (taken_before taken after : ℕ) (line new : List ℕ) (state : LineText) (is_long : Bool) (byte : ℕ)
     → Reads before now taken_before taken line state → Takes now (byte ∷ []) next → after ≡ taken + 1 → after ≤ most → byte ≡ 10
-    → ((text : List ℕ) → IsText line state text → (ends_in_backslash (without_cr text) ≡ false) × IsKept new is_long (without_cr text)) → Found most before next taken_before after new is_long
+    → ((text : List ℕ) → IsText line state text → (ends_in_backslash (without_cr text) ≡ false) × KeepsFront new is_long (without_cr text)) → Found most before next taken_before after new is_long
 reads-line most before now next taken_before taken after line new state is_long byte r given counted within lf end = record {
   text = without_cr r.text;
   kept = (end r.text r.is).1;
@@ -79,14 +80,14 @@ some-of : (used : List ℕ) → (used ≡ [] → ⊥) → 0 < length used
 some-of [] none = absurd (none refl)
 some-of (x ∷ xs) none = omega arith
 
-kept-some : (line : List ℕ) (is_long : Bool) (text : List ℕ) → IsKept line is_long text → (line ≡ [] → ⊥) → text ≡ [] → ⊥
+kept-some : (line : List ℕ) (is_long : Bool) (text : List ℕ) → KeepsFront line is_long text → (line ≡ [] → ⊥) → text ≡ [] → ⊥
 kept-some [] is_long text kept some none = some refl
 kept-some (x ∷ xs) is_long text kept some none = let e : x ∷ xs ++ kept.dropped ≡ [] = sym kept.whole ∙ none in cc
 
 -- at the script's end
 pub reads-last : (most : ℕ) (before now next : Option (List ℕ)) (taken_before taken after : ℕ) (line new : List ℕ) (state : LineText) (is_long : Bool)
     → Reads before now taken_before taken line state → now ≡ next → after ≡ taken → after ≤ most → IsAtEnd next → (new ≡ [] → ⊥)
-    → ((text : List ℕ) → IsText line state text → IsKept new is_long (last_text text)) → Found most before next taken_before after new is_long
+    → ((text : List ℕ) → IsText line state text → KeepsFront new is_long (last_text text)) → Found most before next taken_before after new is_long
 reads-last most before now next taken_before taken after line new state is_long r same counted within at_end some end = record {
   text = last_text r.text;
   kept = kept;
@@ -99,7 +100,7 @@ reads-last most before now next taken_before taken after line new state is_long 
     within = within;
   };
 } where
-  kept : IsKept new is_long (last_text r.text)
+  kept : KeepsFront new is_long (last_text r.text)
   kept = end r.text r.is
 
   text_some : last_text r.text ≡ [] → ⊥
@@ -108,7 +109,7 @@ reads-last most before now next taken_before taken after line new state is_long 
   script : script_of r.used ≡ record { ended = []; rest = last_text r.text }
   script = open-end r.used r.text r.stands_for
 
-kept-none : (is_long : Bool) (text : List ℕ) → IsKept [] is_long text → text ≡ []
+kept-none : (is_long : Bool) (text : List ℕ) → KeepsFront [] is_long text → text ≡ []
 kept-none true text kept = absurd (omega (arith, (kept.long refl).0))
 kept-none false text kept = kept.whole ∙ kept.short refl
 
@@ -123,7 +124,7 @@ pub record IsEmpty (before : Option (List ℕ)) (taken_before after : ℕ) : Typ
 
 pub reads-nothing : (before now : Option (List ℕ)) (taken_before taken after : ℕ) (line new : List ℕ) (state : LineText) (is_long : Bool)
     → Reads before now taken_before taken line state → after ≡ taken → IsAtEnd now → new ≡ []
-    → ((text : List ℕ) → IsText line state text → IsKept new is_long (last_text text)) → IsEmpty before taken_before after
+    → ((text : List ℕ) → IsText line state text → KeepsFront new is_long (last_text text)) → IsEmpty before taken_before after
 reads-nothing before now taken_before taken after line new state is_long r counted at_end empty end = record {
   none = rw (r.given, none) (at_end-before now at_end);
   taken = let e : length r.used ≡ 0 = ap length none in omega (arith, r.counted);
@@ -156,7 +157,7 @@ found-line most before after taken_before taken line is_long short found = rw (�
   same : found.text ≡ line
   same = found.kept.whole ∙ ap (λ others. line ++ others) (found.kept.short short) ∙ append-nil line
 
-pub found-long : (most : ℕ) (before after : Option (List ℕ)) (taken_before taken : ℕ) (line : List ℕ) (is_long : Bool) → is_long ≡ true → Found most before after taken_before taken line is_long → TakesLong 65536 most before after taken_before taken
+pub found-long : (most : ℕ) (before after : Option (List ℕ)) (taken_before taken : ℕ) (line : List ℕ) (is_long : Bool) → is_long ≡ true → Found most before after taken_before taken line is_long → TakesLong LINE_MOST most before after taken_before taken
 found-long most before after taken_before taken line is_long long found = record {
   text = found.text;
   long = let e : length found.text ≡ length line + length found.kept.dropped = ap length found.kept.whole ∙ length-append line found.kept.dropped in let f = found.kept.long long in omega (arith, e, f.0, f.1);

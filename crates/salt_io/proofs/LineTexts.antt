@@ -1,16 +1,17 @@
 -- What is kept of a line, byte by byte.
+use Rattle.salt_values.specs.declared.limits.TheConstants.{LINE_MOST}
 use Rattle.std.proofs.Common.{◌≡◌, ℕ, ◌<◌, ◌≤◌, Bool, true, false, eqb, ◌⊎◌, inl, inr, List, [], ◌∷◌, ◌++◌, length, refl, sym, ◌∙◌, ap, append_assoc, arith, length-append}
 use Rattle.std.proofs.lemmas.List.{append-nil}
 use Rattle.std.proofs.lemmas.Bool.Decides.{nat_tests}
 use Rattle.salt_io.specs.Lines.{ends_in_backslash, spaced, without_cr, last_text}
-use Rattle.salt_io.specs.LineText.{tail_bytes, IsKept, IsBeforeTail, IsText}
+use Rattle.salt_io.specs.LineText.{tail_bytes, KeepsFront, IsBeforeTail, IsText}
 use Rattle.salt_io.specs.declared.line_text.LineText.{LineText}
 use Rattle.salt_io.specs.declared.line_text.Tail.{Tail}
 use Rattle.salt_io.specs.declared.line_text.Tail.TheVariants.{Nothing, Cr, Backslash, BackslashCr}
 use Rattle.salt_io.proofs.Ends.{ends_in-append, front-append, spaced-append, without_cr-none, without_cr-append}
 
 -- a byte that there is room for
-pub kept-push : (line : List ℕ) (is_long : Bool) (text : List ℕ) (byte : ℕ) → IsKept line is_long text → length line < 65536 → IsKept (line ++ byte ∷ []) is_long (text ++ byte ∷ [])
+pub kept-push : (line : List ℕ) (is_long : Bool) (text : List ℕ) (byte : ℕ) → KeepsFront line is_long text → length line < LINE_MOST → KeepsFront (line ++ byte ∷ []) is_long (text ++ byte ∷ [])
 kept-push line true text byte k room = absurd (omega (arith, (k.long refl).0))
 kept-push line false text byte k room = record {
   dropped = [];
@@ -21,7 +22,7 @@ kept-push line false text byte k room = record {
 }
 
 -- a byte too many
-pub kept-full : (line : List ℕ) (is_long : Bool) (text : List ℕ) (byte : ℕ) → IsKept line is_long text → 65536 ≤ length line → IsKept line true (text ++ byte ∷ [])
+pub kept-full : (line : List ℕ) (is_long : Bool) (text : List ℕ) (byte : ℕ) → KeepsFront line is_long text → LINE_MOST ≤ length line → KeepsFront line true (text ++ byte ∷ [])
 kept-full line is_long text byte k full = record {
   dropped = k.dropped ++ byte ∷ [];
   whole = ap (λ first. first ++ byte ∷ []) k.whole ∙ append_assoc line k.dropped (byte ∷ []);
@@ -32,7 +33,7 @@ kept-full line is_long text byte k full = record {
 
 -- the text with its tail kept too
 pub text_kept : (line new : List ℕ) (state : LineText) (is_long : Bool) (text : List ℕ) (is : IsText line state text)
-    → IsKept new is_long (is.before_tail ++ tail_bytes state.tail) → IsKept new is_long text
+    → KeepsFront new is_long (is.before_tail ++ tail_bytes state.tail) → KeepsFront new is_long text
 text_kept line new state is_long text is kept = rw is.whole kept
 
 -- a text that ends in no backslash, but for the tail
@@ -54,10 +55,10 @@ pub ends-cr : (before : List ℕ) → IsBeforeTail before Cr → EndsLine (befor
 ends-cr before cut = record { no_join = rw (without_cr-append before) cut; is = without_cr-append before }
 
 pub ends_line : (line : List ℕ) (state : LineText) (text : List ℕ) → (state.tail ≡ Nothing) ⊎ (state.tail ≡ Cr) → IsText line state text
-    → (ends_in_backslash (without_cr text) ≡ false) × IsKept line state.is_long (without_cr text)
+    → (ends_in_backslash (without_cr text) ≡ false) × KeepsFront line state.is_long (without_cr text)
 ends_line line state text ends is = of state.tail state.is_long is.before_tail is.whole is.kept is.cut ends where
-  of : (tail : Tail) (is_long : Bool) (before : List ℕ) → text ≡ before ++ tail_bytes tail → IsKept line is_long before → IsBeforeTail before tail → (tail ≡ Nothing) ⊎ (tail ≡ Cr)
-      → (ends_in_backslash (without_cr text) ≡ false) × IsKept line is_long (without_cr text)
+  of : (tail : Tail) (is_long : Bool) (before : List ℕ) → text ≡ before ++ tail_bytes tail → KeepsFront line is_long before → IsBeforeTail before tail → (tail ≡ Nothing) ⊎ (tail ≡ Cr)
+      → (ends_in_backslash (without_cr text) ≡ false) × KeepsFront line is_long (without_cr text)
   of Nothing is_long before whole kept cut ends = let e = ends-nothing before cut in rw whole (e.no_join, rw e.is kept)
   of Cr is_long before whole kept cut ends = let e = ends-cr before cut in rw whole (e.no_join, rw e.is kept)
   of Backslash is_long before whole kept cut (inl e) = cc
@@ -80,7 +81,7 @@ pub joins-backslash_cr : (before : List ℕ) → Joins (before ++ tail_bytes Bac
 joins-backslash_cr before = joins-at _ before (rw (← append_assoc before (92 ∷ []) (13 ∷ [])) (without_cr-append (before ++ 92 ∷ [])))
 
 -- after a join nothing is in the tail
-pub spaced_text : (line : List ℕ) (state : LineText) (before : List ℕ) → state.tail ≡ Nothing → IsKept line state.is_long (before ++ 32 ∷ []) → IsText line state (before ++ 32 ∷ [])
+pub spaced_text : (line : List ℕ) (state : LineText) (before : List ℕ) → state.tail ≡ Nothing → KeepsFront line state.is_long (before ++ 32 ∷ []) → IsText line state (before ++ 32 ∷ [])
 spaced_text line state before none kept = record {
   before_tail = before ++ 32 ∷ [];
   whole = rw none (sym (append-nil (before ++ 32 ∷ [])));
@@ -89,10 +90,10 @@ spaced_text line state before none kept = record {
 }
 
 pub joins_line : (line new : List ℕ) (state : LineText) (after : LineText) (text : List ℕ) → (state.tail ≡ Backslash) ⊎ (state.tail ≡ BackslashCr) → after.tail ≡ Nothing
-    → ((before : List ℕ) → IsKept line state.is_long before → IsKept new after.is_long (before ++ 32 ∷ [])) → IsText line state text
+    → ((before : List ℕ) → KeepsFront line state.is_long before → KeepsFront new after.is_long (before ++ 32 ∷ [])) → IsText line state text
     → (ends_in_backslash (without_cr text) ≡ true) × IsText new after (spaced (without_cr text))
 joins_line line new state after text joins none goes_on is = of state.tail is.whole joins where
-  kept : IsKept new after.is_long (is.before_tail ++ 32 ∷ [])
+  kept : KeepsFront new after.is_long (is.before_tail ++ 32 ∷ [])
   kept = goes_on is.before_tail is.kept
 
   of : (tail : Tail) → text ≡ is.before_tail ++ tail_bytes tail → (tail ≡ Backslash) ⊎ (tail ≡ BackslashCr)
@@ -106,7 +107,7 @@ joins_line line new state after text joins none goes_on is = of state.tail is.wh
 
 -- a CR behind a text that ends in no backslash
 pub text-cr : (line new : List ℕ) (state : LineText) (is_long : Bool) (text : List ℕ) (is : IsText line state text) → (state.tail ≡ Backslash → ⊥)
-    → IsKept new is_long (is.before_tail ++ tail_bytes state.tail) → IsText new (record { tail = Cr; is_long = is_long }) (text ++ 13 ∷ [])
+    → KeepsFront new is_long (is.before_tail ++ tail_bytes state.tail) → IsText new (record { tail = Cr; is_long = is_long }) (text ++ 13 ∷ [])
 text-cr line new state is_long text is other kept = record {
   before_tail = text;
   whole = refl;
@@ -116,7 +117,7 @@ text-cr line new state is_long text is other kept = record {
 
 -- a byte that is neither a CR nor a backslash
 pub text-other : (line new : List ℕ) (state after : LineText) (text : List ℕ) (byte : ℕ) → (byte ≡ 13 → ⊥) → (byte ≡ 92 → ⊥) → after.tail ≡ Nothing
-    → IsKept new after.is_long (text ++ byte ∷ []) → IsText new after (text ++ byte ∷ [])
+    → KeepsFront new after.is_long (text ++ byte ∷ []) → IsText new after (text ++ byte ∷ [])
 text-other line new state after text byte no_cr no_backslash none kept = record {
   before_tail = text ++ byte ∷ [];
   whole = rw none (sym (append-nil (text ++ byte ∷ [])));
@@ -128,15 +129,15 @@ text-other line new state after text byte no_cr no_backslash none kept = record 
 
 -- the script ends behind a backslash
 pub last-backslash : (line new : List ℕ) (state after : LineText) (text : List ℕ) → state.tail ≡ Backslash
-    → ((before : List ℕ) → IsKept line state.is_long before → IsKept new after.is_long (before ++ 32 ∷ [])) → IsText line state text
-    → IsKept new after.is_long (last_text text)
+    → ((before : List ℕ) → KeepsFront line state.is_long before → KeepsFront new after.is_long (before ++ 32 ∷ [])) → IsText line state text
+    → KeepsFront new after.is_long (last_text text)
 last-backslash line new state after text tail goes_on is =
     let whole : text ≡ is.before_tail ++ 92 ∷ [] = is.whole ∙ ap (λ t. is.before_tail ++ tail_bytes t) tail in
     rw (whole, ends_in-append 92 is.before_tail 92, front-append is.before_tail 92) (goes_on is.before_tail is.kept)
 
 -- the script ends otherwise
 pub last-other : (line new : List ℕ) (state : LineText) (is_long : Bool) (text : List ℕ) → (state.tail ≡ Backslash → ⊥)
-    → (is : IsText line state text) → IsKept new is_long (is.before_tail ++ tail_bytes state.tail) → IsKept new is_long (last_text text)
+    → (is : IsText line state text) → KeepsFront new is_long (is.before_tail ++ tail_bytes state.tail) → KeepsFront new is_long (last_text text)
 last-other line new state is_long text other is kept =
     let no_join : ends_in_backslash text ≡ false = rw is.whole (no_backslash is.before_tail state.tail is.cut other) in
     rw no_join (text_kept line new state is_long text is kept)

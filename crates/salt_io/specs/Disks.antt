@@ -35,14 +35,14 @@ abbrev pub Shrinks : View → View → ℕ → Type 0
 Shrinks old new dev = (c : List ℕ) → new.image dev c → old.image dev c
 
 -- The device is as it was.
-pub record IsKept (old new : View) (dev : ℕ) : Type 0 where
+pub record IsUnchanged (old new : View) (dev : ℕ) : Type 0 where
   pub bytes : new.bytes dev ≡ old.bytes dev
   pub images : Shrinks old new dev
 
 -- Each device is as it was.
-pub record IsAllKept (old new : View) : Type 0 where
+pub record AreUnchanged (old new : View) : Type 0 where
   pub shape : SameShape old new
-  pub each : (dev : ℕ) → IsKept old new dev
+  pub each : (dev : ℕ) → IsUnchanged old new dev
 
 -- What a call answered, as an Option: None for Ok, else the error. (So that these words serve results of each type.)
 
@@ -65,7 +65,7 @@ IfNothingDone None P = Unit {0}
 -- A call leaves each device but these as it was; after a fault or a stop their images are some of those from before.
 pub record KeepsBut (touched : ℕ → Type 0) (old new : View) (answer : Option DiskErr) : Type 0 where
   pub shape : SameShape old new
-  pub kept : UnlessDown answer ((dev : ℕ) → ¬ touched dev → IsKept old new dev)
+  pub kept : UnlessDown answer ((dev : ℕ) → ¬ touched dev → IsUnchanged old new dev)
   pub images : (dev : ℕ) → ¬ touched dev → Shrinks old new dev
 
 abbrev pub KeepsOthers : ℕ → View → View → Option DiskErr → Type 0

@@ -1,4 +1,5 @@
 -- What a reader keeps of a line while its bytes come in.
+use Rattle.salt_values.specs.declared.limits.TheConstants.{LINE_MOST}
 use Rattle.std.specs.Prelude.{◌≡◌, ℕ, ◌<◌, ◌≤◌, Bool, true, false, List, [], ◌∷◌, ◌++◌, length}
 use Rattle.salt_io.specs.Lines.{ends_in, ends_in_backslash}
 use Rattle.salt_io.specs.declared.line_text.LineText.{LineText}
@@ -12,12 +13,12 @@ tail_bytes Backslash = 92 ∷ []
 tail_bytes BackslashCr = 92 ∷ 13 ∷ []
 
 -- The line is the first bytes of the text, no more than a line may have, and all of them unless it is long.
-pub record IsKept (line : List ℕ) (is_long : Bool) (text : List ℕ) : Type 0 where
+pub record KeepsFront (line : List ℕ) (is_long : Bool) (text : List ℕ) : Type 0 where
   pub dropped : List ℕ
   pub whole : text ≡ line ++ dropped
-  pub within : length line ≤ 65536
+  pub within : length line ≤ LINE_MOST
   pub short : is_long ≡ false → dropped ≡ []
-  pub long : is_long ≡ true → (length line ≡ 65536) × (0 < length dropped)
+  pub long : is_long ≡ true → (length line ≡ LINE_MOST) × (0 < length dropped)
 
 -- No byte at the end of the text belongs to the tail.
 abbrev pub IsBeforeTail : List ℕ → Tail → Type 0
@@ -30,5 +31,5 @@ IsBeforeTail text BackslashCr = Unit {0}
 pub record IsText (line : List ℕ) (state : LineText) (text : List ℕ) : Type 0 where
   pub before_tail : List ℕ
   pub whole : text ≡ before_tail ++ tail_bytes state.tail
-  pub kept : IsKept line state.is_long before_tail
+  pub kept : KeepsFront line state.is_long before_tail
   pub cut : IsBeforeTail before_tail state.tail

@@ -2,7 +2,7 @@
 ghost use Rattle.std.specs.Prelude.{◌≡◌, ◌+◌, ◌^◌, ◌<◌, ◌≤◌, IsTrue, false, length, IfOk, OnOk, OnErr};
 ghost use Rattle.std.specs.Result.{result_err};
 ghost use Rattle.salt_io.specs.Streams.{Rose};
-ghost use Rattle.salt_io.specs.Disks.{View, IsSettled, Shrinks, IsAllKept, KeepsOthers, KeepsAll, IfNothingDone, IsKept, HasCause, FullExactly, NeverFull, OnlyFails, written, Tears, IsRead, IsRestarted};
+ghost use Rattle.salt_io.specs.Disks.{View, IsSettled, Shrinks, AreUnchanged, KeepsOthers, KeepsAll, IfNothingDone, IsUnchanged, HasCause, FullExactly, NeverFull, OnlyFails, written, Tears, IsRead, IsRestarted};
 ghost use Rattle.salt_io.specs.declared.disks.DiskErr.TheVariants.{Stopped, Memory};
 
 use std::alloc::{AllocError, AllocFailed};
@@ -59,7 +59,7 @@ pub trait Disks {
         requires known { dev < (view self.old).count }
         requires place { IsTrue (view self.old).told → at ≤ length ((view self.old).bytes dev) }
         ensures ok { OnOk result (IsTrue (view self.old).told → (view self.new).bytes dev ≡ written ((view self.old).bytes dev) at bytes.now) }
-        ensures nothing { IfNothingDone (result_err result) (IsKept (view self.old) (view self.new) dev) }
+        ensures nothing { IfNothingDone (result_err result) (IsUnchanged (view self.old) (view self.new) dev) }
         ensures images { Tears (view self.old) (view self.new) dev at (length bytes.now) }
         ensures others { KeepsOthers dev (view self.old) (view self.new) (result_err result) }
         ensures stopped { result ≡ Err Stopped → (d : _) → d < (view self.old).count → IsSettled (view self.new) d }
@@ -72,7 +72,7 @@ pub trait Disks {
         requires { dev < (view self.old).count }
         ensures ok { OnOk result (IsSettled (view self.new) dev) }
         ensures bytes { OnOk result ((view self.new).bytes dev ≡ (view self.old).bytes dev) }
-        ensures nothing { IfNothingDone (result_err result) (IsKept (view self.old) (view self.new) dev) }
+        ensures nothing { IfNothingDone (result_err result) (IsUnchanged (view self.old) (view self.new) dev) }
         ensures images { Shrinks (view self.old) (view self.new) dev }
         ensures others { KeepsOthers dev (view self.old) (view self.new) (result_err result) }
         ensures stopped { result ≡ Err Stopped → (d : _) → d < (view self.old).count → IsSettled (view self.new) d }
@@ -96,12 +96,12 @@ pub trait Disks {
         ensures ok { OnOk result ((view self.new).stops_left ≡ (view self.old).stops_left + 1) }
         ensures err { OnErr result ((view self.new).stops_left ≡ (view self.old).stops_left) }
         ensures faults { (view self.new).faults ≡ (view self.old).faults }
-        ensures kept { IsAllKept (view self.old) (view self.new) };
+        ensures kept { AreUnchanged (view self.old) (view self.new) };
 
     /// Counts a fault where the disks gave other bytes than were written.
     fn reject(&mut self)
         requires { (view self.old).told ≡ false }
         ensures faults { Rose (view self.old).faults (view self.new).faults }
         ensures stops { (view self.new).stops_left ≡ (view self.old).stops_left }
-        ensures kept { IsAllKept (view self.old) (view self.new) };
+        ensures kept { AreUnchanged (view self.old) (view self.new) };
 }

@@ -11,8 +11,7 @@ mod std_streams;
 mod streams;
 
 pub use disks::{DiskErr, Disks};
-pub use line_text::LONGEST_LINE;
-pub use lines::{LONGEST_SCRIPT, LineErr, Lines, Next, lines_join};
+pub use lines::{LineErr, Lines, Next, lines_join};
 pub use memory::{MemSink, MemSource};
 pub use no_disks::NoDisks;
 pub use std_streams::{StdSink, StdSource};

@@ -1,12 +1,10 @@
 // A line while its bytes come in.
 ghost use Rattle.std.specs.Prelude.{◌≡◌, ℕ, ◌≤◌, List, [], ◌∷◌, ◌++◌, length, OnOk, IfOk, MatchBool, true, false};
 ghost use Rattle.salt_io.specs.Lines.{last_text, spaced, without_cr, ends_in_backslash};
-ghost use Rattle.salt_io.specs.LineText.{tail_bytes, IsKept, IsText};
+ghost use Rattle.salt_io.specs.LineText.{tail_bytes, KeepsFront, IsText};
 
+use salt_values::limits::LINE_MOST;
 use std::alloc::AllocError;
-
-/// The most bytes of a line.
-pub const LONGEST_LINE: usize = 65_536;
 
 const CR: u8 = b'\r';
 
@@ -43,11 +41,11 @@ impl LineText {
 
     /// Puts a byte behind those that are kept, or drops it where they are as many as may be.
     fn keep(&mut self, line: &mut Vec<u8>, byte: u8) -> Result<(), AllocError>
-        ensures kept { OnOk result ((text : List ℕ) → IsKept line.old.items self.old.is_long text
-            → IsKept line.new.items self.new.is_long (text ++ byte ∷ [])) }
+        ensures kept { OnOk result ((text : List ℕ) → KeepsFront line.old.items self.old.is_long text
+            → KeepsFront line.new.items self.new.is_long (text ++ byte ∷ [])) }
         ensures tail { self.new.tail ≡ self.old.tail }
     {
-        if line.len() < LONGEST_LINE {
+        if line.len() < LINE_MOST {
             line.push(byte)?;
         } else {
             self.is_long = true;
@@ -57,8 +55,8 @@ impl LineText {
 
     /// Keeps the bytes of the tail too, since no LF came next.
     fn keep_tail(&mut self, line: &mut Vec<u8>) -> Result<(), AllocError>
-        ensures { OnOk result ((text : List ℕ) → IsKept line.old.items self.old.is_long text
-            → IsKept line.new.items self.new.is_long (text ++ tail_bytes self.old.tail)) }
+        ensures { OnOk result ((text : List ℕ) → KeepsFront line.old.items self.old.is_long text
+            → KeepsFront line.new.items self.new.is_long (text ++ tail_bytes self.old.tail)) }
     {
         match self.tail {
             Tail::Nothing => Ok(()),
@@ -110,7 +108,7 @@ impl LineText {
     pub fn end_piece(&mut self, line: &mut Vec<u8>) -> Result<bool, AllocError>
         ensures { IfOk result (λ ends. (text : List ℕ) → IsText line.old.items self.old text
             → MatchBool ends
-            ((ends_in_backslash (without_cr text) ≡ false) × IsKept line.new.items self.new.is_long (without_cr text))
+            ((ends_in_backslash (without_cr text) ≡ false) × KeepsFront line.new.items self.new.is_long (without_cr text))
             ((ends_in_backslash (without_cr text) ≡ true) × IsText line.new.items self.new (spaced (without_cr text)))) }
     {
         match self.tail {
@@ -126,7 +124,7 @@ impl LineText {
     /// The script ends.
     pub fn end_script(&mut self, line: &mut Vec<u8>) -> Result<(), AllocError>
         ensures { OnOk result ((text : List ℕ) → IsText line.old.items self.old text
-            → IsKept line.new.items self.new.is_long (last_text text)) }
+            → KeepsFront line.new.items self.new.is_long (last_text text)) }
     {
         match self.tail {
             Tail::Backslash => self.keep(line, b' '),

@@ -4,13 +4,11 @@ ghost use Rattle.salt_io.specs.Streams.{Rose, Takes, IsAtEnd, bytes_before};
 ghost use Rattle.salt_io.specs.Lines.{script_of, TakesLine, TakesLong, TakesNoLine, IsCutOff};
 ghost use Rattle.salt_io.specs.declared.lines.LineErr.TheVariants.{ReadFault, Memory};
 
-use crate::line_text::{LONGEST_LINE, LineText};
+use crate::line_text::LineText;
 use crate::{IoFailed, Source};
+use salt_values::limits::{LINE_MOST, SCRIPT_MOST};
 use std::alloc::AllocError;
 use std::marker::Model;
-
-/// The most bytes of a script.
-pub const LONGEST_SCRIPT: u64 = 16_777_216;
 
 const LF: u8 = b'\n';
 
@@ -68,12 +66,13 @@ pub struct Lines {
 impl Model for Lines {
     ghost use Rattle.std.specs.Prelude.{◌-◌, ◌≤◌, take, drop};
     ghost use Rattle.salt_io.specs.Lines.{Reading};
+    ghost use Rattle.salt_values.specs.declared.limits.TheConstants.{SCRIPT_MOST};
 
     ghost Value = { Reading };
 
     ghost view = { λ r. record { kept = take (r.to - r.from) (drop r.from r.buf); taken = r.taken } };
 
-    ghost invariant = { λ r. (r.from ≤ r.to) × (r.to ≤ 4096) × (r.taken ≤ 16777216) };
+    ghost invariant = { λ r. (r.from ≤ r.to) × (r.to ≤ 4096) × (r.taken ≤ SCRIPT_MOST) };
 }
 
 impl Lines {
@@ -92,7 +91,7 @@ impl Lines {
     /// Takes bytes from the source where none are kept.
     fn fill<S: Source>(&mut self, source: &mut S) -> Result<(), IoFailed>
         ensures taken { self.new.taken ≡ self.old.taken }
-        ensures within { self.new.taken ≤ LONGEST_SCRIPT }
+        ensures within { self.new.taken ≤ SCRIPT_MOST }
         ensures same { OnOk result (bytes_before self.old.kept (S.left source.old) ≡ bytes_before self.new.kept (S.left source.new)) }
         ensures end { OnOk result (self.new.kept ≡ [] → IsAtEnd (S.left source.new)) }
         ensures none { OnErr result (self.old.kept ≡ []) }
@@ -113,14 +112,14 @@ impl Lines {
         ensures some { IfOk result (λ next. IfSome next (λ byte.
             Takes (bytes_before self.old.kept (S.left source.old)) (byte ∷ []) (bytes_before self.new.kept (S.left source.new)))) }
         ensures counted { IfOk result (λ next. IfSome next (λ _. self.new.taken ≡ self.old.taken + 1)) }
-        ensures within { self.new.taken ≤ LONGEST_SCRIPT }
+        ensures within { self.new.taken ≤ SCRIPT_MOST }
         ensures end { IfOk result (λ next. IfNone next (IsAtEnd (bytes_before self.new.kept (S.left source.new)))) }
         ensures none { IfOk result (λ next. IfNone next (self.new.taken ≡ self.old.taken)) }
         ensures same { IfOk result (λ next. IfNone next
             (bytes_before self.old.kept (S.left source.old) ≡ bytes_before self.new.kept (S.left source.new))) }
         ensures fault { result ≡ Err LineErr.ReadFault → Rose (S.faults source.old) (S.faults source.new) }
         ensures fault_left { result ≡ Err LineErr.ReadFault → bytes_before self.old.kept (S.left source.old) ≡ S.left source.new }
-        ensures long { result ≡ Err LineErr.ScriptTooLong → self.old.taken ≡ LONGEST_SCRIPT }
+        ensures long { result ≡ Err LineErr.ScriptTooLong → self.old.taken ≡ SCRIPT_MOST }
         ensures more { result ≡ Err LineErr.ScriptTooLong → IfSome (bytes_before self.old.kept (S.left source.old)) (λ all. 0 < length all) }
         ensures later { S.faults source.old ≤ S.faults source.new }
     {
@@ -128,7 +127,7 @@ impl Lines {
         if self.from == self.to {
             return Ok(None);
         }
-        if self.taken == LONGEST_SCRIPT {
+        if self.taken == SCRIPT_MOST {
             return Err(LineErr::ScriptTooLong);
         }
         let byte = self.buf[self.from];
@@ -146,11 +145,11 @@ impl Lines {
         source: &mut S,
         line: &mut Vec<u8>,
     ) -> Result<Next, LineErr>
-        ensures line { result ≡ Ok Next.Line → TakesLine LONGEST_SCRIPT
+        ensures line { result ≡ Ok Next.Line → TakesLine SCRIPT_MOST
             (bytes_before self.old.kept (S.left source.old)) (bytes_before self.new.kept (S.left source.new))
             self.old.taken self.new.taken line.new.items }
-        ensures fits { result ≡ Ok Next.Line → length line.new.items ≤ LONGEST_LINE }
-        ensures long { result ≡ Ok Next.TooLong → TakesLong LONGEST_LINE LONGEST_SCRIPT
+        ensures fits { result ≡ Ok Next.Line → length line.new.items ≤ LINE_MOST }
+        ensures long { result ≡ Ok Next.TooLong → TakesLong LINE_MOST SCRIPT_MOST
             (bytes_before self.old.kept (S.left source.old)) (bytes_before self.new.kept (S.left source.new))
             self.old.taken self.new.taken }
 
@@ -162,9 +161,9 @@ impl Lines {
         ensures cut_off { result ≡ Err LineErr.ReadFault
             → TakesNoLine (bytes_before self.old.kept (S.left source.old)) (S.left source.new) }
         ensures too_long { result ≡ Err LineErr.ScriptTooLong
-            → IsCutOff (LONGEST_SCRIPT - self.old.taken) (bytes_before self.old.kept (S.left source.old)) }
+            → IsCutOff (SCRIPT_MOST - self.old.taken) (bytes_before self.old.kept (S.left source.old)) }
 
-        ensures within { self.new.taken ≤ LONGEST_SCRIPT }
+        ensures within { self.new.taken ≤ SCRIPT_MOST }
         ensures later { S.faults source.old ≤ S.faults source.new }
     {
         line.clear();

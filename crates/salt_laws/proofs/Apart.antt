@@ -1,5 +1,5 @@
 -- A statement that clashes with no held lock touches nothing that another open unit reached.
-use Rattle.salt_ast.specs.Words.{when}
+use Rattle.std.specs.Bool.{then_some}
 use Rattle.salt_ast.specs.declared.programs.Body.TheVariants.{Base}
 use Rattle.salt_ast.specs.declared.trees.Statement.{Statement}
 use Rattle.salt_laws.proofs.Every.{every-all, every-map}
@@ -8,11 +8,10 @@ use Rattle.salt_laws.proofs.Opens.{Alone, Open}
 use Rattle.salt_laws.proofs.Places.{both_true}
 use Rattle.salt_laws.proofs.Runs.{NoTouch, Untouched}
 use Rattle.salt_model.specs.After.{reach_now}
-use Rattle.salt_model.specs.Locks.{Taken, as_held, base_owner, clash_locks, clashes, clashing, conflict, family_of, is_between, is_clash, is_read, is_same_owner, lock_by, lock_of, owners_of, reach_of, saline_lock, taken_in, touches, unit_owner}
-use Rattle.salt_model.specs.Log.{Log}
+use Rattle.salt_model.specs.Locks.{Taken, as_held, base_owner, clash_locks, clashes, clashing, conflict, family_of, may_not_stand_together, is_clash, is_read, is_same_owner, lock_by, lock_of, owners_of, reach_of, saline_lock, taken_in, touches, unit_owner}
+use Rattle.salt_model.specs.Trace.{Trace}
 use Rattle.salt_model.specs.Programs.{released_in}
 use Rattle.salt_model.specs.Units.{Never, Over, Running, Standing, Waiting, is_open_standing, kind_of, program_of_kind, standing}
-use Rattle.salt_model.specs.Statements.{list_of}
 use Rattle.salt_model.specs.Words.{Every, has_id, in_order, insert_id}
 use Rattle.salt_model.specs.declared.events.End.TheVariants.{Committed}
 use Rattle.salt_model.specs.declared.events.Owner.TheVariants.{Base, Unit}
@@ -32,7 +31,7 @@ use Rattle.salt_values.specs.Id.{is_older, is_same_id}
 use Rattle.salt_values.specs.declared.id.Id.{Id}
 use Rattle.std.proofs.Common.{ap, sym, ◌∙◌}
 use Rattle.std.specs.List.{cons_option, filter, filter_map, list_all}
-use Rattle.std.specs.Prelude.{Bool, List, None, Option, Some, [], cond, false, map, not, option_and_then, option_map, refl, true, ◌&&◌, ◌++◌, ◌==◌, ◌∷◌, ◌≡◌}
+use Rattle.std.specs.Prelude.{Bool, List, None, Option, Some, [], cond, false, map, not, option_and_then, option_map, refl, true, ◌&&◌, ◌++◌, ◌==◌, ◌∷◌, ◌≡◌, option_to_list}
 
 some-owner : (lock : Lock) (locks : List Lock) → owners_of (lock ∷ locks) ≡ [] → ⊥
 some-owner lock locks h = by lock.owner h
@@ -80,8 +79,8 @@ filter-none {X} {Y} p f (x ∷ xs) h = by (f x) h (filter-none p f xs)
     by (Some y) h g = in-cond (p y) y h g
 
 -- a reach among those taken by a unit
-abbrev pub IsTaken : Log → Id → Reach → Type 0
-IsTaken log u r = (q : Taken → Bool) → list_all q (taken_in log) ≡ true → q (record { unit = u; reach = r }) ≡ true
+abbrev pub IsTaken : Trace → Id → Reach → Type 0
+IsTaken trace u r = (q : Taken → Bool) → list_all q (taken_in trace) ≡ true → q (record { unit = u; reach = r }) ≡ true
 
 never-saline : (k : Option UnitKind) → family_of k ≡ Saline → ⊥
 never-saline (Some (First s b n args)) h = cc
@@ -105,29 +104,29 @@ unclashing u v k j r s other h =
     ap (λ x. (s.table == r.table) && meets s.range r.range && x) (sym (family-clash k j s.mode r.mode))
     ∙ ap (λ b. not b && (s.table == r.table) && meets s.range r.range && is_clash (family_of k) s.mode (family_of j) r.mode) (sym other) ∙ h
 
-held-lock : (log : Log) (v : Id) (s : Reach) (q : Lock → Bool) → Open log v → passes_by q (as_held log) (record { unit = v; reach = s }) ≡ true → q (lock_of (Unit v) (family_of (kind_of v log)) s) ≡ false
-held-lock log v s q o h = by (standing v log) o h
+held-lock : (trace : Trace) (v : Id) (s : Reach) (q : Lock → Bool) → Open trace v → passes_by q (as_held trace) (record { unit = v; reach = s }) ≡ true → q (lock_of (Unit v) (family_of (kind_of v trace)) s) ≡ false
+held-lock trace v s q o h = by (standing v trace) o h
   where
     un : (b : Bool) → not b ≡ true → b ≡ false
     un true e = cc
     un false e = refl
 
-    by : (x : Standing) → is_open_standing x ≡ true → elim (lock_by log (record { unit = v; reach = s }) x (kind_of v log)) [ None ↦ true | Some y ↦ not (q y) ] ≡ true → q (lock_of (Unit v) (family_of (kind_of v log)) s) ≡ false
+    by : (x : Standing) → is_open_standing x ≡ true → elim (lock_by trace (record { unit = v; reach = s }) x (kind_of v trace)) [ None ↦ true | Some y ↦ not (q y) ] ≡ true → q (lock_of (Unit v) (family_of (kind_of v trace)) s) ≡ false
     by Running o h = un _ h
     by Waiting o h = un _ h
     by Never o h = cc
     by (Over e) o h = cc
 
 -- the reach of a statement that comes where nothing clashes does not touch what other open units have taken
-pub takes-apart : (log : Log) (u v : Id) (st : Statement) (s : Reach) → clashing log u st ≡ [] → is_same_id u v ≡ false → Open log v → IsTaken log v s → Every (λ r. touches s r ≡ false) (list_of (reach_now u log st))
-takes-apart log u v st s none other o taken = by (reach_now u log st) (no-owners _ none)
+pub takes-apart : (trace : Trace) (u v : Id) (st : Statement) (s : Reach) → clashing trace u st ≡ [] → is_same_id u v ≡ false → Open trace v → IsTaken trace v s → Every (λ r. touches s r ≡ false) (option_to_list (reach_now u trace st))
+takes-apart trace u v st s none other o taken = by (reach_now u trace st) (no-owners _ none)
   where
-    by : (r : Option Reach) → clash_locks log u (kind_of u log) r ≡ [] → Every (λ r. touches s r ≡ false) (list_of r)
+    by : (r : Option Reach) → clash_locks trace u (kind_of u trace) r ≡ [] → Every (λ r. touches s r ≡ false) (option_to_list r)
     by None h = tt
     by (Some r) h = (
-      unclashing u v (kind_of v log) (kind_of u log) r s other
-          (held-lock log v s (clashes (Unit u) (family_of (kind_of u log)) r) o
-          (taken (passes_by (clashes (Unit u) (family_of (kind_of u log)) r) (as_held log)) (filter-none (clashes (Unit u) (family_of (kind_of u log)) r) (as_held log) (taken_in log) h))),
+      unclashing u v (kind_of v trace) (kind_of u trace) r s other
+          (held-lock trace v s (clashes (Unit u) (family_of (kind_of u trace)) r) o
+          (taken (passes_by (clashes (Unit u) (family_of (kind_of u trace)) r) (as_held trace)) (filter-none (clashes (Unit u) (family_of (kind_of u trace)) r) (as_held trace) (taken_in trace) h))),
       tt,
     )
 
@@ -165,7 +164,7 @@ regroup false b c d h = refl
 clear-lock : (u : Id) (k : Option UnitKind) (r : Reach) (m : Lock) → clashes (Unit u) (family_of k) r m ≡ false → not (conflict (lock_of (Unit u) (family_of k) r) m) ≡ true
 clear-lock u k r m h = ap not (by (family_of k) m.family (never-saline k) h)
   where
-    by : (f g : Family) → (f ≡ Saline → ⊥) → (not (is_same_owner (Unit u) m.owner) && (m.table == r.table) && meets m.range r.range && is_clash g m.mode f r.mode) ≡ false → (not (is_same_owner (Unit u) m.owner) && (is_between f g && touches r (reach_of m))) ≡ false
+    by : (f g : Family) → (f ≡ Saline → ⊥) → (not (is_same_owner (Unit u) m.owner) && (m.table == r.table) && meets m.range r.range && is_clash g m.mode f r.mode) ≡ false → (not (is_same_owner (Unit u) m.owner) && (may_not_stand_together f g && touches r (reach_of m))) ≡ false
     by Saline g n h = absurd (n refl)
     by Alkaline Saline n h = and-false _
     by Family.Acid Saline n h = rw (touches-swap r (reach_of m)) (regroup (not (is_same_owner (Unit u) m.owner)) _ _ _ h)
@@ -178,36 +177,36 @@ every-all-true : {A : Type 0} (p : A → Bool) (xs : List A) → list_all p xs �
 every-all-true p [] h = tt
 every-all-true p (x ∷ xs) h = let b = both_true (p x) _ h in (b.0, every-all-true p xs b.1)
 
-pub takes-clear : (log : Log) (u : Id) (st : Statement) → clashing log u st ≡ [] → Every (λ s. beside (option_map (lock_of (Unit u) (family_of (kind_of u log))) (reach_now u log st)) (as_held log s) ≡ true) (taken_in log)
-takes-clear log u st none = by (reach_now u log st) (no-owners _ none)
+pub takes-clear : (trace : Trace) (u : Id) (st : Statement) → clashing trace u st ≡ [] → Every (λ s. beside (option_map (lock_of (Unit u) (family_of (kind_of u trace))) (reach_now u trace st)) (as_held trace s) ≡ true) (taken_in trace)
+takes-clear trace u st none = by (reach_now u trace st) (no-owners _ none)
   where
-    one : (r : Reach) (o : Option Lock) → elim o [ None ↦ true | Some y ↦ not (clashes (Unit u) (family_of (kind_of u log)) r y) ] ≡ true → beside (Some (lock_of (Unit u) (family_of (kind_of u log)) r)) o ≡ true
+    one : (r : Reach) (o : Option Lock) → elim o [ None ↦ true | Some y ↦ not (clashes (Unit u) (family_of (kind_of u trace)) r y) ] ≡ true → beside (Some (lock_of (Unit u) (family_of (kind_of u trace)) r)) o ≡ true
     one r None h = refl
-    one r (Some m) h = clear-lock u (kind_of u log) r m (unnot _ h)
+    one r (Some m) h = clear-lock u (kind_of u trace) r m (unnot _ h)
 
-    by : (r : Option Reach) → clash_locks log u (kind_of u log) r ≡ [] → Every (λ s. beside (option_map (lock_of (Unit u) (family_of (kind_of u log))) r) (as_held log s) ≡ true) (taken_in log)
-    by None h = every-all _ (λ s. refl) (taken_in log)
+    by : (r : Option Reach) → clash_locks trace u (kind_of u trace) r ≡ [] → Every (λ s. beside (option_map (lock_of (Unit u) (family_of (kind_of u trace))) r) (as_held trace s) ≡ true) (taken_in trace)
+    by None h = every-all _ (λ s. refl) (taken_in trace)
     by (Some r) h =
-        every-map (λ s. passes_by (clashes (Unit u) (family_of (kind_of u log)) r) (as_held log) s ≡ true) _ (λ s e. one r (as_held log s) e) (taken_in log)
-        (every-all-true (passes_by (clashes (Unit u) (family_of (kind_of u log)) r) (as_held log)) (taken_in log) (filter-none (clashes (Unit u) (family_of (kind_of u log)) r) (as_held log) (taken_in log) h))
+        every-map (λ s. passes_by (clashes (Unit u) (family_of (kind_of u trace)) r) (as_held trace) s ≡ true) _ (λ s e. one r (as_held trace s) e) (taken_in trace)
+        (every-all-true (passes_by (clashes (Unit u) (family_of (kind_of u trace)) r) (as_held trace)) (taken_in trace) (filter-none (clashes (Unit u) (family_of (kind_of u trace)) r) (as_held trace) (taken_in trace) h))
 
 -- a subtransaction alone among open units: what else is held is saline
-pub alone-clear : (log : Log) (u : Id) (st : Statement) → Alone log u → Every (λ s. beside (option_map (lock_of (Unit u) (family_of (kind_of u log))) (reach_now u log st)) (as_held log s) ≡ true) (taken_in log)
-alone-clear log u st alone = every-all _ (λ s. rw alone.1 (by s (reach_now u log st) (standing s.unit log) refl)) (taken_in log)
+pub alone-clear : (trace : Trace) (u : Id) (st : Statement) → Alone trace u → Every (λ s. beside (option_map (lock_of (Unit u) (family_of (kind_of u trace))) (reach_now u trace st)) (as_held trace s) ≡ true) (taken_in trace)
+alone-clear trace u st alone = every-all _ (λ s. rw alone.1 (by s (reach_now u trace st) (standing s.unit trace) refl)) (taken_in trace)
   where
     own : (s : Taken) (r : Reach) (f : Family) → is_same_id u s.unit ≡ true → not (conflict (lock_of (Unit u) Alkaline r) (lock_of (Unit s.unit) f s.reach)) ≡ true
     own s r f e = rw e refl
 
-    by : (s : Taken) (o : Option Reach) (x : Standing) → standing s.unit log ≡ x → beside (option_map (lock_of (Unit u) Alkaline) o) (lock_by log s x (kind_of s.unit log)) ≡ true
+    by : (s : Taken) (o : Option Reach) (x : Standing) → standing s.unit trace ≡ x → beside (option_map (lock_of (Unit u) Alkaline) o) (lock_by trace s x (kind_of s.unit trace)) ≡ true
     by s None x e = refl
-    by s (Some r) Running e = own s r (family_of (kind_of s.unit log)) (alone.0 s.unit (ap is_open_standing e))
-    by s (Some r) Waiting e = own s r (family_of (kind_of s.unit log)) (alone.0 s.unit (ap is_open_standing e))
+    by s (Some r) Running e = own s r (family_of (kind_of s.unit trace)) (alone.0 s.unit (ap is_open_standing e))
+    by s (Some r) Waiting e = own s r (family_of (kind_of s.unit trace)) (alone.0 s.unit (ap is_open_standing e))
     by s (Some r) Never e = refl
-    by s (Some r) (Over (Committed n)) e = saline (option_and_then program_of_kind (kind_of s.unit log)) (λ b. not (has_id b (released_in log)))
+    by s (Some r) (Over (Committed n)) e = saline (option_and_then program_of_kind (kind_of s.unit trace)) (λ b. not (has_id b (released_in trace)))
       where
-        saline : (p : Option Id) (q : Id → Bool) → beside (Some (lock_of (Unit u) Alkaline r)) (saline_lock log p s.reach) ≡ true
+        saline : (p : Option Id) (q : Id → Bool) → beside (Some (lock_of (Unit u) Alkaline r)) (saline_lock trace p s.reach) ≡ true
         saline None q = refl
-        saline (Some b) q = elim (not (has_id b (released_in log))) as (λ v. beside (Some (lock_of (Unit u) Alkaline r)) (when v (lock_of (Base b) Saline s.reach)) ≡ true) [ true ↦ refl | false ↦ refl ]
+        saline (Some b) q = elim (not (has_id b (released_in trace))) as (λ v. beside (Some (lock_of (Unit u) Alkaline r)) (then_some v (lock_of (Base b) Saline s.reach)) ≡ true) [ true ↦ refl | false ↦ refl ]
     by s (Some r) (Over end) e = refl
 
 none-each : (rs : List Reach) → NoTouch rs []

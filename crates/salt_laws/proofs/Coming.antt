@@ -1,5 +1,6 @@
 -- What comes next: whose it is, and why it may come.
-use Rattle.salt_ast.specs.Words.{or_else, when}
+use Rattle.std.specs.Bool.{then_some}
+use Rattle.std.specs.Option.{option_or}
 use Rattle.salt_ast.specs.declared.lines.Act.TheVariants.{Begin, Call, Commit, Do, Rollback, Step}
 use Rattle.salt_ast.specs.declared.lines.Act.{Act}
 use Rattle.salt_ast.specs.declared.lines.Line.TheVariants.{Go, Program, Session, Table}
@@ -13,7 +14,7 @@ use Rattle.salt_model.specs.After.{answer_now, kept, reach_now}
 use Rattle.salt_model.specs.Honest.{FitsEnd, cause_in}
 use Rattle.salt_model.specs.Kept.{cont_of, kept_program}
 use Rattle.salt_model.specs.Locks.{as_held, clashing, family_of, is_holding, lock_of, taken_in, touches}
-use Rattle.salt_model.specs.Log.{Asked, Log, Tree, Unread, from, line_asked, line_of, ◌asks◌, ◌says◌, ◌turns◌}
+use Rattle.salt_model.specs.Trace.{Asked, Trace, Tree, Rejected, from, line_asked, line_of, ◌asks◌, ◌says◌, ◌turns◌}
 use Rattle.salt_model.specs.Programs.{accepted_in}
 use Rattle.salt_model.specs.Units.{Running, Waiting, is_of_program, is_of_session, is_open, is_open_standing, kind_of, open_units, program_unit, session_unit, standing, units_begun, wait_list}
 use Rattle.salt_model.specs.Next.{serving_event}
@@ -21,9 +22,8 @@ use Rattle.salt_model.specs.Openings.{cuts_or_drains, drains, follow_opening, op
 use Rattle.salt_model.specs.Phases.{Opening, Serving, phase}
 use Rattle.salt_model.specs.Reads.{to_release}
 use Rattle.salt_model.specs.Refusals.{is_busy, judged, refusal, refused_line}
-use Rattle.salt_model.specs.Statements.{list_of}
-use Rattle.salt_model.specs.Turns.{act_event, after_began, after_did, after_end, asks_for, commits, does, fails, finishes, follow, fresh_unit, go, goes_on, is_at_end, line_event, next_number, releases, serve, settle, settle_by, turn, turn_of}
-use Rattle.salt_model.specs.Waiting.{WaitUnit, asked_by, block_of, clashing_now, is_on_cycle, names_of, next_served, victim, wait_graph, wait_unit}
+use Rattle.salt_model.specs.Turns.{act_event, after_began, after_did, after_end, asks_for, commits, does, fails, finishes, follow, fresh_unit, go, goes_on, is_at_end, line_event, next_number, releases, does_next, settle, settle_by, turn, turn_of}
+use Rattle.salt_model.specs.Waiting.{WaitUnit, asked_by, block_of, clashing_now, is_on_cycle, names_of, next_unblocked, victim, wait_graph, wait_unit}
 use Rattle.salt_model.specs.Words.{Every, first_of_list, greatest, in_order, insert_id, is_empty, without}
 use Rattle.salt_model.specs.declared.events.Answer.{Answer}
 use Rattle.salt_model.specs.declared.events.Cause.{Cause}
@@ -45,33 +45,33 @@ use Rattle.salt_values.specs.declared.cont.Cont.{Cont}
 use Rattle.salt_values.specs.declared.id.Id.{Id}
 use Rattle.std.proofs.Common.{subst, sym, ◌∙◌}
 use Rattle.std.specs.List.{filter, find, list_any}
-use Rattle.std.specs.Prelude.{Bool, List, None, Option, Some, [], cond, false, if◌then◌else◌, is_none, map, nat_lt, not, option_map, refl, true, ℕ, ⊤, ◌||◌, ◌∷◌, ◌≡◌}
+use Rattle.std.specs.Prelude.{Bool, List, None, Option, Some, [], cond, false, if◌then◌else◌, is_none, map, nat_lt, not, option_map, refl, true, ℕ, ⊤, ◌||◌, ◌∷◌, ◌≡◌, option_to_list}
 
 -- what a statement would reach is free of what other open units have taken
-abbrev pub Free : Log → Id → Statement → Type 0
-Free log u st = (v : Id) → Open log v → is_same_id u v ≡ false → (s : Reach) → IsTaken log v s → Every (λ r. touches s r ≡ false) (list_of (reach_now u log st))
+abbrev pub Free : Trace → Id → Statement → Type 0
+Free trace u st = (v : Id) → Open trace v → is_same_id u v ≡ false → (s : Reach) → IsTaken trace v s → Every (λ r. touches s r ≡ false) (option_to_list (reach_now u trace st))
 
 -- a statement's lock would stand beside each held lock
-abbrev pub Clear : Log → Id → Statement → Type 0
-Clear log u st = Every (λ s. beside (option_map (lock_of (Unit u) (family_of (kind_of u log))) (reach_now u log st)) (as_held log s) ≡ true) (taken_in log)
+abbrev pub Clear : Trace → Id → Statement → Type 0
+Clear trace u st = Every (λ s. beside (option_map (lock_of (Unit u) (family_of (kind_of u trace))) (reach_now u trace st)) (as_held trace s) ≡ true) (taken_in trace)
 
-abbrev pub CutFits : Log → End → Type 0
-CutFits log Cut = phase log ≡ Serving → ⊥
-CutFits log end = ⊤
+abbrev pub CutFits : Trace → End → Type 0
+CutFits trace Cut = phase trace ≡ Serving → ⊥
+CutFits trace end = ⊤
 
 -- what is known of an event that comes next
-abbrev pub Good : Log → Event → Type 0
-Good log (Did u st a) = Open log u × (a ≡ answer_now u log st) × Free log u st × (phase log ≡ Opening → Alone log u) × Clear log u st
-Good log (Waits u owners) = Open log u
-Good log (Ended u end) = Open log u × FitsEnd end (failing u log) × CutFits log end
-Good log (Defined n t) = open_units log ≡ []
-Good log (Began u kind) = (phase log ≡ Opening → (open_units log ≡ []) × (family_of (Some kind) ≡ Alkaline)) × (u ≡ fresh_unit log)
-Good log Ready = open_units log ≡ []
-Good log e = ⊤
+abbrev pub Good : Trace → Event → Type 0
+Good trace (Did u st a) = Open trace u × (a ≡ answer_now u trace st) × Free trace u st × (phase trace ≡ Opening → Alone trace u) × Clear trace u st
+Good trace (Waits u owners) = Open trace u
+Good trace (Ended u end) = Open trace u × FitsEnd end (failing u trace) × CutFits trace end
+Good trace (Defined n t) = open_units trace ≡ []
+Good trace (Began u kind) = (phase trace ≡ Opening → (open_units trace ≡ []) × (family_of (Some kind) ≡ Alkaline)) × (u ≡ fresh_unit trace)
+Good trace Ready = open_units trace ≡ []
+Good trace e = ⊤
 
-pub some-or_else : {A : Type 0} (P : A → Type 0) (o other : Option A) → IfSome P o → IfSome P other → IfSome P (or_else o other)
-some-or_else P None other h g = g
-some-or_else P (Some e) other h g = h
+pub some-option_or : {A : Type 0} (P : A → Type 0) (o other : Option A) → IfSome P o → IfSome P other → IfSome P (option_or o other)
+some-option_or P None other h g = g
+some-option_or P (Some e) other h g = h
 
 some-map : {A B : Type 0} (P : B → Type 0) (f : A → B) (o : Option A) → IfSome (λ a. P (f a)) o → IfSome P (option_map f o)
 some-map P f None h = tt
@@ -81,9 +81,9 @@ some-all : {A : Type 0} (P : A → Type 0) (o : Option A) → ((a : A) → P a) 
 some-all P None f = tt
 some-all P (Some a) f = f a
 
-pub some-when : {A : Type 0} (P : A → Type 0) (b : Bool) (e : A) → P e → IfSome P (when b e)
-some-when P true e h = h
-some-when P false e h = tt
+pub some-then_some : {A : Type 0} (P : A → Type 0) (b : Bool) (e : A) → P e → IfSome P (then_some b e)
+some-then_some P true e h = h
+some-then_some P false e h = tt
 
 some-first : {A : Type 0} (P : A → Type 0) (xs : List A) → Every P xs → IfSome P (first_of_list xs)
 some-first P [] h = tt
@@ -110,12 +110,12 @@ every-mapped P f [] h = tt
 every-mapped P f (x ∷ xs) h = (h.0, every-mapped P f xs h.1)
 
 -- waiting units are open
-stays : (log : Log) (e : Event) (u : Id) → is_ended u e ≡ false → Open log u → Open (log says e) u
-stays log (Ended v end) u n h = rw n h
-stays log (Began v kind) u n h = elim (is_same_id u v) as (λ b. is_open_standing (cond b Running (standing u log)) ≡ true) [ true ↦ refl | false ↦ h ]
-stays log (Did v st a) u n h = elim (is_same_id u v) as (λ b. is_open_standing (cond b Running (standing u log)) ≡ true) [ true ↦ refl | false ↦ h ]
-stays log (Waits v owners) u n h = elim (is_same_id u v) as (λ b. is_open_standing (cond b Waiting (standing u log)) ≡ true) [ true ↦ refl | false ↦ h ]
-stays log e u n h = h
+stays : (trace : Trace) (e : Event) (u : Id) → is_ended u e ≡ false → Open trace u → Open (trace says e) u
+stays trace (Ended v end) u n h = rw n h
+stays trace (Began v kind) u n h = elim (is_same_id u v) as (λ b. is_open_standing (cond b Running (standing u trace)) ≡ true) [ true ↦ refl | false ↦ h ]
+stays trace (Did v st a) u n h = elim (is_same_id u v) as (λ b. is_open_standing (cond b Running (standing u trace)) ≡ true) [ true ↦ refl | false ↦ h ]
+stays trace (Waits v owners) u n h = elim (is_same_id u v) as (λ b. is_open_standing (cond b Waiting (standing u trace)) ≡ true) [ true ↦ refl | false ↦ h ]
+stays trace e u n h = h
 
 every-without : (P Q : Id → Type 0) (v : Id) → ((u : Id) → is_same_id u v ≡ false → P u → Q u) → (us : List Id) → Every P us → Every Q (without (v ∷ []) us)
 every-without P Q v f [] h = tt
@@ -125,30 +125,30 @@ every-without P Q v f (u ∷ us) h = by (is_same_id u v) refl (every-without P Q
     by true e more = more
     by false e more = (f u e h.0, more)
 
-pub waits-open : (log : Log) → Every (Open log) (wait_list log)
+pub waits-open : (trace : Trace) → Every (Open trace) (wait_list trace)
 waits-open (from k) = tt
-waits-open (log asks line) = waits-open log
-waits-open (log turns b) = waits-open log
-waits-open (log says Waits v owners) =
-    every-append (Open (log says Waits v owners)) (without (v ∷ []) (wait_list log)) (v ∷ [])
-    (every-without (Open log) (Open (log says Waits v owners)) v (λ u n h. stays log (Waits v owners) u refl h) (wait_list log) (waits-open log))
+waits-open (trace asks line) = waits-open trace
+waits-open (trace turns b) = waits-open trace
+waits-open (trace says Waits v owners) =
+    every-append (Open (trace says Waits v owners)) (without (v ∷ []) (wait_list trace)) (v ∷ [])
+    (every-without (Open trace) (Open (trace says Waits v owners)) v (λ u n h. stays trace (Waits v owners) u refl h) (wait_list trace) (waits-open trace))
     (rw (is_same_id-refl v) refl, tt)
-waits-open (log says Did v st a) = every-without (Open log) (Open (log says Did v st a)) v (λ u n h. stays log (Did v st a) u refl h) (wait_list log) (waits-open log)
-waits-open (log says Ended v end) = every-without (Open log) (Open (log says Ended v end)) v (λ u n h. stays log (Ended v end) u n h) (wait_list log) (waits-open log)
-waits-open (log says Began v kind) = every-map (Open log) (Open (log says Began v kind)) (λ u h. stays log (Began v kind) u refl h) (wait_list log) (waits-open log)
-waits-open (log says e) = waits-open log
+waits-open (trace says Did v st a) = every-without (Open trace) (Open (trace says Did v st a)) v (λ u n h. stays trace (Did v st a) u refl h) (wait_list trace) (waits-open trace)
+waits-open (trace says Ended v end) = every-without (Open trace) (Open (trace says Ended v end)) v (λ u n h. stays trace (Ended v end) u n h) (wait_list trace) (waits-open trace)
+waits-open (trace says Began v kind) = every-map (Open trace) (Open (trace says Began v kind)) (λ u h. stays trace (Began v kind) u refl h) (wait_list trace) (waits-open trace)
+waits-open (trace says e) = waits-open trace
 
-victim-open : (log : Log) → IfSome (Open log) (victim log)
-victim-open log =
-    some-or_else (Open log) (greatest (names_of (filter (λ w. w.acid) on))) (greatest (names_of on))
-    (some-greatest (Open log) (names_of (filter (λ w. w.acid) on)) (every-mapped (Open log) (λ w. w.unit) (filter (λ w. w.acid) on) (every-filter (λ w. Open log w.unit) (λ w. w.acid) on on-open)))
-    (some-greatest (Open log) (names_of on) (every-mapped (Open log) (λ w. w.unit) on on-open))
+victim-open : (trace : Trace) → IfSome (Open trace) (victim trace)
+victim-open trace =
+    some-option_or (Open trace) (greatest (names_of (filter (λ w. w.acid) on))) (greatest (names_of on))
+    (some-greatest (Open trace) (names_of (filter (λ w. w.acid) on)) (every-mapped (Open trace) (λ w. w.unit) (filter (λ w. w.acid) on) (every-filter (λ w. Open trace w.unit) (λ w. w.acid) on on-open)))
+    (some-greatest (Open trace) (names_of on) (every-mapped (Open trace) (λ w. w.unit) on on-open))
   where
     on : List WaitUnit
-    on = filter (is_on_cycle (wait_graph log)) (wait_graph log)
+    on = filter (is_on_cycle (wait_graph trace)) (wait_graph trace)
 
-    on-open : Every (λ w. Open log w.unit) on
-    on-open = every-filter (λ w. Open log w.unit) (is_on_cycle (wait_graph log)) (wait_graph log) (every-mapped (λ w. Open log w.unit) (wait_unit log) (wait_list log) (waits-open log))
+    on-open : Every (λ w. Open trace w.unit) on
+    on-open = every-filter (λ w. Open trace w.unit) (is_on_cycle (wait_graph trace)) (wait_graph trace) (every-mapped (λ w. Open trace w.unit) (wait_unit trace) (wait_list trace) (waits-open trace))
 
 fits-none : (end : End) (f : Option Cause) → f ≡ None → FitsEnd end None → FitsEnd end f
 fits-none end f e h = subst (FitsEnd end) (sym e) h
@@ -157,22 +157,22 @@ pub nothing : {A : Type 0} (xs : List A) → is_empty xs ≡ true → xs ≡ []
 nothing [] h = refl
 nothing (x ∷ xs) h = cc
 
-module _ (log : Log) where
+module _ (trace : Trace) where
   abbrev G : Event → Type 0
-  G = Good log
+  G = Good trace
 
-  good-fails : (u : Id) (c : Cause) (o : Option UnitKind) → Open log u → failing u log ≡ Some c → G (fails log u c o)
+  good-fails : (u : Id) (c : Cause) (o : Option UnitKind) → Open trace u → failing u trace ≡ Some c → G (fails trace u c o)
   good-fails u c (Some (Later b part)) h f = (h, f, tt)
   good-fails u c o h f = (h, f, tt)
 
-  good-did : (u : Id) (a : Answer) → Open log u → failing u log ≡ cause_in a → IfSome G (after_did log u a)
-  good-did u (Answer.Failed c) h f = good-fails u c (kind_of u log) h f
-  good-did u a h f = some-when G (is_at_end log u (block_of u log)) (commits log u) (h, fits-none (Committed (next_number log)) (failing u log) f tt, tt)
+  good-did : (u : Id) (a : Answer) → Open trace u → failing u trace ≡ cause_in a → IfSome G (after_did trace u a)
+  good-did u (Answer.Failed c) h f = good-fails u c (kind_of u trace) h f
+  good-did u a h f = some-then_some G (is_at_end trace u (block_of u trace)) (commits trace u) (h, fits-none (Committed (next_number trace)) (failing u trace) f tt, tt)
 
-  good-finishes : (b : Id) → IfSome G (finishes log b)
-  good-finishes b = some-when G (is_none (cont_of b (kept log))) (Finished b) tt
+  good-finishes : (b : Id) → IfSome G (finishes trace b)
+  good-finishes b = some-then_some G (is_none (cont_of b (kept trace))) (Finished b) tt
 
-  good-end : (end : End) (o : Option UnitKind) → IfSome G (after_end log end o)
+  good-end : (end : End) (o : Option UnitKind) → IfSome G (after_end trace end o)
   good-end (Committed n) (Some (First s b name args)) = tt
   good-end (Committed n) (Some (Later b part)) = good-finishes b
   good-end (Branched n c) (Some (Later b part)) = good-finishes b
@@ -183,95 +183,95 @@ module _ (log : Log) where
   good-releases (b ∷ bs) = tt
 
 -- while serving
-module _ (log : Log) (serving : phase log ≡ Serving) where
-  not-opening : {A : Type 0} → phase log ≡ Opening → A
+module _ (trace : Trace) (serving : phase trace ≡ Serving) where
+  not-opening : {A : Type 0} → phase trace ≡ Opening → A
   not-opening e = let x : Opening ≡ Serving = sym e ∙ serving in cc
 
-  good-asks : (u : Id) (st : Statement) (owners : List Owner) → Open log u → clashing log u st ≡ owners → (Good log) (asks_for log u st owners)
-  good-asks u st [] o e = (o, refl, (λ v p differ s t. takes-apart log u v st s e differ p t), not-opening, takes-clear log u st e)
+  good-asks : (u : Id) (st : Statement) (owners : List Owner) → Open trace u → clashing trace u st ≡ owners → (Good trace) (asks_for trace u st owners)
+  good-asks u st [] o e = (o, refl, (λ v p differ s t. takes-apart trace u v st s e differ p t), not-opening, takes-clear trace u st e)
   good-asks u st (owner ∷ owners) o e = o
 
-  good-turn : (u : Id) → Open log u → IfSome (Good log) (turn log u)
-  good-turn u o = some-map (Good log) (λ st. asks_for log u st (clashing log u st)) (asked_by u log) (some-all _ (asked_by u log) (λ st. good-asks u st (clashing log u st) o refl))
+  good-turn : (u : Id) → Open trace u → IfSome (Good trace) (turn trace u)
+  good-turn u o = some-map (Good trace) (λ st. asks_for trace u st (clashing trace u st)) (asked_by u trace) (some-all _ (asked_by u trace) (λ st. good-asks u st (clashing trace u st) o refl))
 
-  good-serve : (u : Id) → Open log u → is_empty (clashing_now log u) ≡ true → IfSome (Good log) (serve log u)
-  good-serve u o e = by (asked_by u log) e
+  good-does_next : (u : Id) → Open trace u → is_empty (clashing_now trace u) ≡ true → IfSome (Good trace) (does_next trace u)
+  good-does_next u o e = by (asked_by u trace) e
     where
-      by : (p : Option Statement) → is_empty (elim p [ None ↦ [] | Some st ↦ clashing log u st ]) ≡ true → IfSome (Good log) (option_map (does log u) p)
+      by : (p : Option Statement) → is_empty (elim p [ None ↦ [] | Some st ↦ clashing trace u st ]) ≡ true → IfSome (Good trace) (option_map (does trace u) p)
       by None h = tt
-      by (Some st) h = good-asks u st [] o (nothing (clashing log u st) h)
+      by (Some st) h = good-asks u st [] o (nothing (clashing trace u st) h)
 
-  good-turn_of : (o : Option Id) → IfSome (Open log) o → IfSome (Good log) (turn_of log o)
+  good-turn_of : (o : Option Id) → IfSome (Open trace) o → IfSome (Good trace) (turn_of trace o)
   good-turn_of None h = tt
   good-turn_of (Some u) h = good-turn u h
 
-  good-act : ((u : Id) → failing u log ≡ None) → (s : ℕ) (act : Act) (o : Option Id) → IfSome (Open log) o → IfSome (Good log) (act_event log s act o)
+  good-act : ((u : Id) → failing u trace ≡ None) → (s : ℕ) (act : Act) (o : Option Id) → IfSome (Open trace) o → IfSome (Good trace) (act_event trace s act o)
   good-act q s Begin o h = (not-opening, refl)
   good-act q s (Do st) None h = (not-opening, refl)
   good-act q s (Do st) (Some u) h = good-turn u h
-  good-act q s (Call n args) o h = some-map (Good log) _ (kept_program n (kept log)) (some-all _ (kept_program n (kept log)) (λ p. (not-opening, refl)))
+  good-act q s (Call n args) o h = some-map (Good trace) _ (kept_program n (kept trace)) (some-all _ (kept_program n (kept trace)) (λ p. (not-opening, refl)))
   good-act q s Step o h = good-turn_of o h
   good-act q s Commit None h = tt
-  good-act q s Commit (Some u) h = (h, fits-none (Committed (next_number log)) (failing u log) (q u) tt, tt)
+  good-act q s Commit (Some u) h = (h, fits-none (Committed (next_number trace)) (failing u trace) (q u) tt, tt)
   good-act q s Rollback None h = tt
   good-act q s Rollback (Some u) h = (h, q u, tt)
 
-  good-goes_on : (b : Id) (o : Option Id) → IfSome (Open log) o → IfSome (Good log) (goes_on log b o)
+  good-goes_on : (b : Id) (o : Option Id) → IfSome (Open trace) o → IfSome (Good trace) (goes_on trace b o)
   good-goes_on b (Some u) h = good-turn u h
-  good-goes_on b None h = some-map (Good log) _ (cont_of b (kept log)) (some-all _ (cont_of b (kept log)) (λ c. (not-opening, refl)))
+  good-goes_on b None h = some-map (Good trace) _ (cont_of b (kept trace)) (some-all _ (cont_of b (kept trace)) (λ c. (not-opening, refl)))
 
-  open-units : Every (Open log) (open_units log)
-  open-units = every-passes (is_open log) (units_begun log)
+  open-units : Every (Open trace) (open_units trace)
+  open-units = every-passes (is_open trace) (units_begun trace)
 
-  good-go : (b : Id) → IfSome (Good log) (go log b)
-  good-go b = good-goes_on b (program_unit b log) (some-first (Open log) (filter (is_of_program b log) (open_units log)) (every-filter (Open log) (is_of_program b log) (open_units log) open-units))
+  good-go : (b : Id) → IfSome (Good trace) (go trace b)
+  good-go b = good-goes_on b (program_unit b trace) (some-first (Open trace) (filter (is_of_program b trace) (open_units trace)) (every-filter (Open trace) (is_of_program b trace) (open_units trace) open-units))
 
   -- a definition is asked for where nothing is open
   abbrev NoneOpen : Line → Type 0
-  NoneOpen (Table d) = open_units log ≡ []
-  NoneOpen (Program p) = open_units log ≡ []
+  NoneOpen (Table d) = open_units trace ≡ []
+  NoneOpen (Program p) = open_units trace ≡ []
   NoneOpen line = ⊤
 
-  good-line : ((u : Id) → failing u log ≡ None) → (line : Line) → NoneOpen line → IfSome (Good log) (line_event log line)
-  good-line q (Session s act) h = good-act q s act (session_unit s log) (some-first (Open log) (filter (is_of_session s log) (open_units log)) (every-filter (Open log) (is_of_session s log) (open_units log) open-units))
+  good-line : ((u : Id) → failing u trace ≡ None) → (line : Line) → NoneOpen line → IfSome (Good trace) (line_event trace line)
+  good-line q (Session s act) h = good-act q s act (session_unit s trace) (some-first (Open trace) (filter (is_of_session s trace) (open_units trace)) (every-filter (Open trace) (is_of_session s trace) (open_units trace) open-units))
   good-line q (Go b) h = good-go b
   good-line q (Table d) h = h
   good-line q (Program p) h = h
   good-line q line h = tt
 
-  good-began : (u : Id) (line : Line) → Open log u → IfSome (Good log) (after_began log u line)
+  good-began : (u : Id) (line : Line) → Open trace u → IfSome (Good trace) (after_began trace u line)
   good-began u (Session s Begin) o = tt
   good-began u line o = good-turn u o
 
-  good-settle : ((u : Id) → failing u log ≡ None) → IfSome (Good log) (settle log)
-  good-settle q = by (victim log) (next_served log) (victim-open log) (some-find (Open log) (λ u. is_empty (clashing_now log u)) (wait_list log) (waits-open log))
+  good-settle : ((u : Id) → failing u trace ≡ None) → IfSome (Good trace) (settle trace)
+  good-settle q = by (victim trace) (next_unblocked trace) (victim-open trace) (some-find (Open trace) (λ u. is_empty (clashing_now trace u)) (wait_list trace) (waits-open trace))
     where
-      by : (v s : Option Id) → IfSome (Open log) v → IfSome (λ u. Open log u × (is_empty (clashing_now log u) ≡ true)) s → IfSome (Good log) (settle_by log v s)
+      by : (v s : Option Id) → IfSome (Open trace) v → IfSome (λ u. Open trace u × (is_empty (clashing_now trace u) ≡ true)) s → IfSome (Good trace) (settle_by trace v s)
       by (Some u) s h g = (h, q u, tt)
-      by None (Some u) h g = good-serve u g.0 g.1
+      by None (Some u) h g = good-does_next u g.0 g.1
       by None None h g = tt
 
-good-follow : (log : Log) (e : Event) → phase (log says e) ≡ Serving → IfSome (Good (log says e)) (follow (log says e) e)
-good-follow log (Began u kind) p = good-began (log says Began u kind) p u (line_of log) (rw (is_same_id-refl u) refl)
-good-follow log (Did u st a) p = good-did (log says Did u st a) u a (rw (is_same_id-refl u) refl) (rw (is_same_id-refl u) refl)
-good-follow log (Ended u end) p = good-end (log says Ended u end) end (kind_of u (log says Ended u end))
-good-follow log (Accepted b) p = good-finishes (log says Accepted b) b
-good-follow log (Finished b) p = good-releases (log says Finished b) (to_release (log says Finished b))
-good-follow log e p = tt
+good-follow : (trace : Trace) (e : Event) → phase (trace says e) ≡ Serving → IfSome (Good (trace says e)) (follow (trace says e) e)
+good-follow trace (Began u kind) p = good-began (trace says Began u kind) p u (line_of trace) (rw (is_same_id-refl u) refl)
+good-follow trace (Did u st a) p = good-did (trace says Did u st a) u a (rw (is_same_id-refl u) refl) (rw (is_same_id-refl u) refl)
+good-follow trace (Ended u end) p = good-end (trace says Ended u end) end (kind_of u (trace says Ended u end))
+good-follow trace (Accepted b) p = good-finishes (trace says Accepted b) b
+good-follow trace (Finished b) p = good-releases (trace says Finished b) (to_release (trace says Finished b))
+good-follow trace e p = tt
 
 -- nothing fails after an event that follows nothing failed
-unfailing : (log : Log) (v : Id) (st : Statement) (a : Answer) → cause_in a ≡ None → (u : Id) → failing u (log says Did v st a) ≡ None
-unfailing log v st a e u = rw e (elim (is_same_id u v) as (λ b. cond {A = Option Cause} b None None ≡ None) [ true ↦ refl | false ↦ refl ])
+unfailing : (trace : Trace) (v : Id) (st : Statement) (a : Answer) → cause_in a ≡ None → (u : Id) → failing u (trace says Did v st a) ≡ None
+unfailing trace v st a e u = rw e (elim (is_same_id u v) as (λ b. cond {A = Option Cause} b None None ≡ None) [ true ↦ refl | false ↦ refl ])
 
-pub good-serving : (log : Log) (e : Event) → phase (log says e) ≡ Serving → lasts e ≡ false → IfSome (Good (log says e)) (serving_event (log says e) e)
-good-serving log Ready p l = tt
-good-serving log (Did v st (Answer.Failed c)) p l = good-follow log (Did v st (Answer.Failed c)) p
-good-serving log (Did v st a) p l =
-    some-or_else (Good (log says Did v st a)) (follow (log says Did v st a) (Did v st a)) (settle (log says Did v st a)) (good-follow log (Did v st a) p) (good-settle (log says Did v st a) p (unfailing log v st a refl))
-good-serving log (Down why) p l = cc
-good-serving log (Opened boot n) p l = cc
-good-serving log (Ended v Cut) p l = cc
-good-serving log e p l = some-or_else (Good (log says e)) (follow (log says e) e) (settle (log says e)) (good-follow log e p) (good-settle (log says e) p (λ u. refl))
+pub good-serving : (trace : Trace) (e : Event) → phase (trace says e) ≡ Serving → lasts e ≡ false → IfSome (Good (trace says e)) (serving_event (trace says e) e)
+good-serving trace Ready p l = tt
+good-serving trace (Did v st (Answer.Failed c)) p l = good-follow trace (Did v st (Answer.Failed c)) p
+good-serving trace (Did v st a) p l =
+    some-option_or (Good (trace says Did v st a)) (follow (trace says Did v st a) (Did v st a)) (settle (trace says Did v st a)) (good-follow trace (Did v st a) p) (good-settle (trace says Did v st a) p (unfailing trace v st a refl))
+good-serving trace (Down why) p l = cc
+good-serving trace (Opened boot n) p l = cc
+good-serving trace (Ended v Cut) p l = cc
+good-serving trace e p l = some-option_or (Good (trace says e)) (follow (trace says e) e) (settle (trace says e)) (good-follow trace e p) (good-settle (trace says e) p (λ u. refl))
 
 -- in an opening
 every-insert : (P : Id → Type 0) (u : Id) (us : List Id) → P u → Every P us → Every P (insert_id u us)
@@ -287,61 +287,61 @@ every-order : (P : Id → Type 0) (us : List Id) → Every P us → Every P (in_
 every-order P [] h = tt
 every-order P (u ∷ us) h = every-insert P u (in_order us) h.0 (every-order P us h.1)
 
-pub good-cuts : (log : Log) → phase log ≡ Opening → IfSome (Good log) (cuts_or_drains log (to_cut log))
-good-cuts log p = by (to_cut log) (every-order (Open log) _ (every-filter (Open log) (λ u. nat_lt u.boot (kept log).boot) (open_units log) (every-passes (is_open log) (units_begun log))))
+pub good-cuts : (trace : Trace) → phase trace ≡ Opening → IfSome (Good trace) (cuts_or_drains trace (to_cut trace))
+good-cuts trace p = by (to_cut trace) (every-order (Open trace) _ (every-filter (Open trace) (λ u. nat_lt u.boot (kept trace).boot) (open_units trace) (every-passes (is_open trace) (units_begun trace))))
   where
-    drained : (cs : List Cont) (b : Bool) → is_empty (open_units log) ≡ b → IfSome (Good log) (when b (drains log cs))
+    drained : (cs : List Cont) (b : Bool) → is_empty (open_units trace) ≡ b → IfSome (Good trace) (then_some b (drains trace cs))
     drained cs false e = tt
-    drained [] true e = nothing (open_units log) e
-    drained (c ∷ cs) true e = ((λ p. (nothing (open_units log) e, refl)), refl)
+    drained [] true e = nothing (open_units trace) e
+    drained (c ∷ cs) true e = ((λ p. (nothing (open_units trace) e, refl)), refl)
 
-    by : (us : List Id) → Every (Open log) us → IfSome (Good log) (cuts_or_drains log us)
+    by : (us : List Id) → Every (Open trace) us → IfSome (Good trace) (cuts_or_drains trace us)
     by (u ∷ us) h = (h.0, tt, λ s. let x : Opening ≡ Serving = sym p ∙ s in cc)
-    by [] h = drained (kept log).conts (is_empty (open_units log)) refl
+    by [] h = drained (kept trace).conts (is_empty (open_units trace)) refl
 
-free-alone : (log : Log) (u : Id) (st : Statement) → ((v : Id) → Open log v → is_same_id u v ≡ true) → Free log u st
-free-alone log u st alone v o differ s t = let x = alone v o in cc
+free-alone : (trace : Trace) (u : Id) (st : Statement) → ((v : Id) → Open trace v → is_same_id u v ≡ true) → Free trace u st
+free-alone trace u st alone v o differ s t = let x = alone v o in cc
 
-alone-serve : (log : Log) (u : Id) → Open log u → Alone log u → IfSome (Good log) (serve log u)
-alone-serve log u o alone = some-map (Good log) (does log u) (asked_by u log) (some-all _ (asked_by u log) (λ st. (o, refl, free-alone log u st alone.0, (λ p. alone), alone-clear log u st alone)))
+alone-does_next : (trace : Trace) (u : Id) → Open trace u → Alone trace u → IfSome (Good trace) (does_next trace u)
+alone-does_next trace u o alone = some-map (Good trace) (does trace u) (asked_by u trace) (some-all _ (asked_by u trace) (λ st. (o, refl, free-alone trace u st alone.0, (λ p. alone), alone-clear trace u st alone)))
 
-good-drains : (log : Log) (e : Event) → Sole (log says e) → IfSome (Good (log says e)) (follow_opening (log says e) e)
-good-drains log (Began u kind) s = alone-serve (log says Began u kind) u (rw (is_same_id-refl u) refl) s
-good-drains log (Did u st a) s =
-    some-or_else (Good (log says Did u st a)) (after_did (log says Did u st a) u a) (serve (log says Did u st a) u)
-    (good-did (log says Did u st a) u a (rw (is_same_id-refl u) refl) (rw (is_same_id-refl u) refl)) (alone-serve (log says Did u st a) u (rw (is_same_id-refl u) refl) s)
-good-drains log (Ended u end) s = good-end (log says Ended u end) end (kind_of u (log says Ended u end))
-good-drains log (Accepted b) s = good-finishes (log says Accepted b) b
-good-drains log e s = tt
+good-drains : (trace : Trace) (e : Event) → Sole (trace says e) → IfSome (Good (trace says e)) (follow_opening (trace says e) e)
+good-drains trace (Began u kind) s = alone-does_next (trace says Began u kind) u (rw (is_same_id-refl u) refl) s
+good-drains trace (Did u st a) s =
+    some-option_or (Good (trace says Did u st a)) (after_did (trace says Did u st a) u a) (does_next (trace says Did u st a) u)
+    (good-did (trace says Did u st a) u a (rw (is_same_id-refl u) refl) (rw (is_same_id-refl u) refl)) (alone-does_next (trace says Did u st a) u (rw (is_same_id-refl u) refl) s)
+good-drains trace (Ended u end) s = good-end (trace says Ended u end) end (kind_of u (trace says Ended u end))
+good-drains trace (Accepted b) s = good-finishes (trace says Accepted b) b
+good-drains trace e s = tt
 
-pub good-opening : (log : Log) (e : Event) → phase (log says e) ≡ Opening → Sole (log says e) → IfSome (Good (log says e)) (opening_event (log says e) e)
-good-opening log e p s = some-or_else (Good (log says e)) (follow_opening (log says e) e) (cuts_or_drains (log says e) (to_cut (log says e))) (good-drains log e s) (good-cuts (log says e) p)
+pub good-opening : (trace : Trace) (e : Event) → phase (trace says e) ≡ Opening → Sole (trace says e) → IfSome (Good (trace says e)) (opening_event (trace says e) e)
+good-opening trace e p s = some-option_or (Good (trace says e)) (follow_opening (trace says e) e) (cuts_or_drains (trace says e) (to_cut (trace says e))) (good-drains trace e s) (good-cuts (trace says e) p)
 
-not-busy : (log : Log) → is_busy log ≡ false → open_units log ≡ []
-not-busy log h = by (open_units log) h
+not-busy : (trace : Trace) → is_busy trace ≡ false → open_units trace ≡ []
+not-busy trace h = by (open_units trace) h
   where
-    by : (us : List Id) → (not (is_empty us) || list_any (is_holding log) (accepted_in log)) ≡ false → us ≡ []
+    by : (us : List Id) → (not (is_empty us) || list_any (is_holding trace) (accepted_in trace)) ≡ false → us ≡ []
     by [] h = refl
     by (u ∷ us) h = cc
 
 -- of two answers that are none, each is none
-pub neither : {A : Type 0} (o other : Option A) → or_else o other ≡ None → (o ≡ None) × (other ≡ None)
+pub neither : {A : Type 0} (o other : Option A) → option_or o other ≡ None → (o ≡ None) × (other ≡ None)
 neither None other h = (refl, h)
 neither (Some x) other h = cc
 
-none-when : {A : Type 0} (b : Bool) (x : A) → when b x ≡ None → b ≡ false
-none-when true x h = cc
-none-when false x h = refl
+none-then_some : {A : Type 0} (b : Bool) (x : A) → then_some b x ≡ None → b ≡ false
+none-then_some true x h = cc
+none-then_some false x h = refl
 
-unrefused : (log : Log) (p : phase log ≡ Serving) (line : Line) → refused_line log line ≡ None → NoneOpen (log asks Tree line) p line
-unrefused log p (Table d) h = not-busy log (none-when (is_busy log) Busy (neither (judged log (Table d)) _ h).1)
-unrefused log p (Program d) h = not-busy log (none-when (is_busy log) Busy (neither (judged log (Program d)) _ h).1)
-unrefused log p line h = tt
+unrefused : (trace : Trace) (p : phase trace ≡ Serving) (line : Line) → refused_line trace line ≡ None → NoneOpen (trace asks Tree line) p line
+unrefused trace p (Table d) h = not-busy trace (none-then_some (is_busy trace) Busy (neither (judged trace (Table d)) _ h).1)
+unrefused trace p (Program d) h = not-busy trace (none-then_some (is_busy trace) Busy (neither (judged trace (Program d)) _ h).1)
+unrefused trace p line h = tt
 
-pub good-asked : (log : Log) (p : phase log ≡ Serving) (asked : Asked) (o : Option Refusal) → refusal log asked ≡ o → IfSome (Good (log asks asked)) (or_else (option_map Refused o) (line_event (log asks asked) (line_asked asked)))
-good-asked log p asked (Some r) e = tt
-good-asked log p (Tree line) None e = good-line (log asks Tree line) p (λ u. refl) line (unrefused log p line e)
-good-asked log p (Unread r) None e = cc
+pub good-asked : (trace : Trace) (p : phase trace ≡ Serving) (asked : Asked) (o : Option Refusal) → refusal trace asked ≡ o → IfSome (Good (trace asks asked)) (option_or (option_map Refused o) (line_event (trace asks asked) (line_asked asked)))
+good-asked trace p asked (Some r) e = tt
+good-asked trace p (Tree line) None e = good-line (trace asks Tree line) p (λ u. refl) line (unrefused trace p line e)
+good-asked trace p (Rejected r) None e = cc
 
-pub good-turned : (log : Log) (p : phase log ≡ Serving) (b : Id) → IfSome (Good (log turns b)) (go (log turns b) b)
-good-turned log p b = good-go (log turns b) p b
+pub good-turned : (trace : Trace) (p : phase trace ≡ Serving) (b : Id) → IfSome (Good (trace turns b)) (go (trace turns b) b)
+good-turned trace p b = good-go (trace turns b) p b

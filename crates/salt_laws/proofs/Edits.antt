@@ -4,7 +4,7 @@ use Rattle.salt_ast.specs.declared.trees.TableDef.{TableDef}
 use Rattle.salt_laws.proofs.Places.{row_at-set}
 use Rattle.salt_model.specs.After.{kept, run_of, tables_after, vars_of}
 use Rattle.salt_model.specs.Kept.{schema_of}
-use Rattle.salt_model.specs.Log.{Log, ◌says◌}
+use Rattle.salt_model.specs.Trace.{Trace, ◌says◌}
 use Rattle.salt_model.specs.Units.{done_of}
 use Rattle.salt_model.specs.Statements.{Run, doing, has_failed, run_from, run_on, with_done}
 use Rattle.salt_model.specs.Tables.{Edits, Tables, changed_at, make_change, place_cmp, place_total, put_change, put_changes, row_at, row_under, with_changes}
@@ -43,5 +43,5 @@ run-told schema (st ∷ sts) es r h = by (has_failed (doing schema r st).answer)
     by false x y = y
 
 -- a unit's commit makes of the tables what its changes say
-pub commit-told : (log : Log) (u : Id) (n : ℕ) (q : Place) → row_at q (tables_after (log says Ended u (Committed n))) ≡ row_under (run_of u log).changes (tables_after log) q
-commit-told log u n q = run-told (schema_of (kept log)) (done_of u log) (tables_after log) (run_from (tables_after log) (vars_of u log)) (λ p. refl) q
+pub commit-told : (trace : Trace) (u : Id) (n : ℕ) (q : Place) → row_at q (tables_after (trace says Ended u (Committed n))) ≡ row_under (run_of u trace).changes (tables_after trace) q
+commit-told trace u n q = run-told (schema_of (kept trace)) (done_of u trace) (tables_after trace) (run_from (tables_after trace) (vars_of u trace)) (λ p. refl) q

@@ -1,7 +1,7 @@
 -- Whose an event is, which units are open, and whose statement has just failed.
 use Rattle.salt_model.specs.Honest.{cause_in}
 use Rattle.salt_model.specs.Locks.{family_of}
-use Rattle.salt_model.specs.Log.{Log, ◌says◌}
+use Rattle.salt_model.specs.Trace.{Trace, ◌says◌}
 use Rattle.salt_model.specs.Units.{is_open, kind_of}
 use Rattle.salt_model.specs.declared.events.Cause.{Cause}
 use Rattle.salt_model.specs.declared.events.End.TheVariants.{Cut}
@@ -12,16 +12,16 @@ use Rattle.salt_values.specs.Id.{is_same_id}
 use Rattle.salt_values.specs.declared.id.Id.{Id}
 use Rattle.std.specs.Prelude.{Bool, None, Option, false, if◌then◌else◌, true, ⊤, ◌||◌, ◌≡◌}
 
-abbrev pub Open : Log → Id → Type 0
-Open log u = is_open log u ≡ true
+abbrev pub Open : Trace → Id → Type 0
+Open trace u = is_open trace u ≡ true
 
 -- the cause of the statement that came last, where it is the unit's and failed; it stays through a stop
-abbrev pub failing : Id → Log → Option Cause
-failing u (log says Did v st a) = if is_same_id u v then cause_in a else None
-failing u (log says Down why) = failing u log
-failing u (log says Opened boot n) = failing u log
-failing u (log says Ended v Cut) = failing u log
-failing u log = None
+abbrev pub failing : Id → Trace → Option Cause
+failing u (trace says Did v st a) = if is_same_id u v then cause_in a else None
+failing u (trace says Down why) = failing u trace
+failing u (trace says Opened boot n) = failing u trace
+failing u (trace says Ended v Cut) = failing u trace
+failing u trace = None
 
 -- the events through which it stays
 abbrev pub lasts : Event → Bool
@@ -43,11 +43,11 @@ abbrev pub Closes : Id → Event → Type 0
 Closes u e = (is_ended u e || is_cut e) ≡ true
 
 -- no other unit is open, and this one is a subtransaction
-abbrev pub Alone : Log → Id → Type 0
-Alone log u = ((v : Id) → Open log v → is_same_id u v ≡ true) × (family_of (kind_of u log) ≡ Alkaline)
+abbrev pub Alone : Trace → Id → Type 0
+Alone trace u = ((v : Id) → Open trace v → is_same_id u v ≡ true) × (family_of (kind_of u trace) ≡ Alkaline)
 
 -- in an opening, only the unit that the last event is of is open
-abbrev pub Sole : Log → Type 0
-Sole (log says Began u kind) = Alone (log says Began u kind) u
-Sole (log says Did u st a) = Alone (log says Did u st a) u
-Sole log = ⊤
+abbrev pub Sole : Trace → Type 0
+Sole (trace says Began u kind) = Alone (trace says Began u kind) u
+Sole (trace says Did u st a) = Alone (trace says Did u st a) u
+Sole trace = ⊤

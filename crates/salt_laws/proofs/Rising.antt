@@ -11,7 +11,7 @@ use Rattle.salt_laws.proofs.Salted.{OfBoots, holds, may-fit}
 use Rattle.salt_model.specs.After.{branched, conts_at, kept, run_of}
 use Rattle.salt_model.specs.Continuing.{IsFirstAccepted}
 use Rattle.salt_model.specs.Kept.{Kept, Rise, begun_cont, branch_of, change_cont, cont_in, cont_of, kept_program, moved, then_of, values_kept, without_cont}
-use Rattle.salt_model.specs.Log.{Log, from, start_of, ◌asks◌, ◌says◌, ◌turns◌}
+use Rattle.salt_model.specs.Trace.{Trace, from, start_of, ◌asks◌, ◌says◌, ◌turns◌}
 use Rattle.salt_model.specs.Units.{kind_of}
 use Rattle.salt_model.specs.Played.{IsPlayed}
 use Rattle.salt_model.specs.Words.{Every, first_of_list}
@@ -111,37 +111,37 @@ rise-branched k (Some (Later c part)) h = rise-up k.decisions _ (go (option_and_
     go None = h
     go (Some p) = rise-moved k.decisions c (branch_of p part) _ (λ x. refl) k.conts h
 
-ends-rise : (log : Log) (u : Id) (n : ℕ) → n ≡ (kept log).decisions + 1 → Rises (kept log) → Rises (kept (log says Ended u (Committed n)))
-ends-rise log u n e h = subst (λ m. Rise m (conts_at (kept log) m (kind_of u log) (run_of u log).vars)) (sym e) (rise-committed (kept log) (kind_of u log) (run_of u log).vars h)
+ends-rise : (trace : Trace) (u : Id) (n : ℕ) → n ≡ (kept trace).decisions + 1 → Rises (kept trace) → Rises (kept (trace says Ended u (Committed n)))
+ends-rise trace u n e h = subst (λ m. Rise m (conts_at (kept trace) m (kind_of u trace) (run_of u trace).vars)) (sym e) (rise-committed (kept trace) (kind_of u trace) (run_of u trace).vars h)
 
-branches-rise : (log : Log) (u : Id) (n : ℕ) (o : Option UnitKind) → n ≡ (kept log).decisions + 1 → Rises (kept log) → Rises (branched (kept log) n o)
-branches-rise log u n o e h = subst (λ m. Rises (branched (kept log) m o)) (sym e) (rise-branched (kept log) o h)
+branches-rise : (trace : Trace) (u : Id) (n : ℕ) (o : Option UnitKind) → n ≡ (kept trace).decisions + 1 → Rises (kept trace) → Rises (branched (kept trace) n o)
+branches-rise trace u n o e h = subst (λ m. Rises (branched (kept trace) m o)) (sym e) (rise-branched (kept trace) o h)
 
-rises-step : (log : Log) (e : Event) → Fits log e → Rises (kept log) → Rises (kept (log says e))
-rises-step log (Ended u (Committed n)) f h = ends-rise log u n f.1 h
-rises-step log (Ended u (Branched n c)) f h = branches-rise log u n (kind_of u log) f.1 h
-rises-step log (Defined n text) f h = subst (λ m. Rise m (kept log).conts) (sym f) (rise-up (kept log).decisions (kept log).conts h)
-rises-step log e f h = h
+rises-step : (trace : Trace) (e : Event) → Fits trace e → Rises (kept trace) → Rises (kept (trace says e))
+rises-step trace (Ended u (Committed n)) f h = ends-rise trace u n f.1 h
+rises-step trace (Ended u (Branched n c)) f h = branches-rise trace u n (kind_of u trace) f.1 h
+rises-step trace (Defined n text) f h = subst (λ m. Rise m (kept trace).conts) (sym f) (rise-up (kept trace).decisions (kept trace).conts h)
+rises-step trace e f h = h
 
-pub rises : (log : Log) → IsPlayed log → OfBoots (start_of log).kept → Rises (start_of log).kept → Rises (kept log)
+pub rises : (trace : Trace) → IsPlayed trace → OfBoots (start_of trace).kept → Rises (start_of trace).kept → Rises (kept trace)
 rises (from k) p w h = h
-rises (log asks asked) p w h = rises log p.0 w h
-rises (log turns b) p w h = rises log p.0 w h
-rises (log says e) p w h = rises-step log e (may-fit log e (holds log p.0 w).comes p.1) (rises log p.0 w h)
+rises (trace asks asked) p w h = rises trace p.0 w h
+rises (trace turns b) p w h = rises trace p.0 w h
+rises (trace says e) p w h = rises-step trace e (may-fit trace e (holds trace p.0 w).comes p.1) (rises trace p.0 w h)
 
 -- with what is in flight
-pub rises-with : (log : Log) (o : Option Event) → IfComes (Flies log) o → Rises (kept log) → Rises (kept_with log o)
-rises-with log None g h = h
-rises-with log (Some (Ended u (Committed n))) g h = ends-rise log u n g.1 h
-rises-with log (Some (Ended u (Branched n c))) g h = branches-rise log u n (kind_of u log) g.1 h
-rises-with log (Some (Defined n text)) g h = subst (λ m. Rise m (kept log).conts) (sym g) (rise-up (kept log).decisions (kept log).conts h)
-rises-with log (Some e) g h = absurd g
+pub rises-with : (trace : Trace) (o : Option Event) → IfComes (Flies trace) o → Rises (kept trace) → Rises (kept_with trace o)
+rises-with trace None g h = h
+rises-with trace (Some (Ended u (Committed n))) g h = ends-rise trace u n g.1 h
+rises-with trace (Some (Ended u (Branched n c))) g h = branches-rise trace u n (kind_of u trace) g.1 h
+rises-with trace (Some (Defined n text)) g h = subst (λ m. Rise m (kept trace).conts) (sym g) (rise-up (kept trace).decisions (kept trace).conts h)
+rises-with trace (Some e) g h = absurd g
 
 -- the first continuation is that of the first accepted program
-pub first-accepted : (log : Log) (b : Id) → Rises (kept log) → first_of_list (map (λ (c : Cont). c.base) (kept log).conts) ≡ Some b → IsFirstAccepted log b
-first-accepted log b h f = by (kept log).conts refl h f
+pub first-accepted : (trace : Trace) (b : Id) → Rises (kept trace) → first_of_list (map (λ (c : Cont). c.base) (kept trace).conts) ≡ Some b → IsFirstAccepted trace b
+first-accepted trace b h f = by (kept trace).conts refl h f
   where
-    by : (cs : List Cont) → (kept log).conts ≡ cs → Rise (kept log).decisions cs → first_of_list (map (λ (c : Cont). c.base) cs) ≡ Some b → (c : Cont) → cont_in b cs ≡ Some c → Every (λ (d : Cont). c.accepted ≤ d.accepted) cs
+    by : (cs : List Cont) → (kept trace).conts ≡ cs → Rise (kept trace).decisions cs → first_of_list (map (λ (c : Cont). c.base) cs) ≡ Some b → (c : Cont) → cont_in b cs ≡ Some c → Every (λ (d : Cont). c.accepted ≤ d.accepted) cs
     by [] e r g c i = cc
     by (x ∷ cs) e r g c i =
         let s : x.base ≡ b = cc in

@@ -5,7 +5,7 @@ use Rattle.salt_laws.proofs.Every.{every-left, every-map, every-right}
 use Rattle.salt_laws.proofs.Places.{Agree, IsAway, agree-away, agree-changes, agree-rows, away-untouched}
 use Rattle.salt_laws.proofs.Writes.{Writes, statement-frame, statement-writes}
 use Rattle.salt_model.specs.Locks.{touches}
-use Rattle.salt_model.specs.Statements.{Run, after_done, doing, has_failed, list_of, run_from, run_on, serial, with_done}
+use Rattle.salt_model.specs.Statements.{Run, after_done, doing, has_failed, run_from, run_on, serial, with_done}
 use Rattle.salt_model.specs.Reaches.{reach}
 use Rattle.salt_model.specs.Tables.{Tables, row_at, rows_in, with_changes}
 use Rattle.salt_model.specs.Words.{Every}
@@ -13,20 +13,20 @@ use Rattle.salt_model.specs.declared.locks.Reach.{Reach}
 use Rattle.salt_model.specs.declared.vars.Binding.{Binding}
 use Rattle.salt_values.specs.declared.change.Change.{Change}
 use Rattle.std.proofs.Common.{ap, sym, ◌∙◌}
-use Rattle.std.specs.Prelude.{Bool, List, None, Option, Some, [], cond, false, refl, true, ◌∷◌, ◌≡◌}
+use Rattle.std.specs.Prelude.{Bool, List, None, Option, Some, [], cond, false, refl, true, ◌∷◌, ◌≡◌, option_to_list}
 
 -- reaches only grow
 pub reaches-grow : (P : Reach → Type 0) (schema : List TableDef) (sts : List Statement) (r : Run) → Every P (run_on schema sts r).reaches → Every P r.reaches
 reaches-grow P schema [] r h = h
-reaches-grow P schema (st ∷ sts) r h = every-left P r.reaches (list_of (reach schema r.vars st)) (by (has_failed (doing schema r st).answer) h (reaches-grow P schema sts (with_done schema r st)))
+reaches-grow P schema (st ∷ sts) r h = every-left P r.reaches (option_to_list (reach schema r.vars st)) (by (has_failed (doing schema r st).answer) h (reaches-grow P schema sts (with_done schema r st)))
   where
     by : (b : Bool) → Every P (cond b (with_done schema r st) (run_on schema sts (with_done schema r st))).reaches → (Every P (run_on schema sts (with_done schema r st)).reaches → Every P (with_done schema r st).reaches) → Every P (with_done schema r st).reaches
     by true h f = h
     by false h f = f h
 
 -- the first of the reaches, after one step
-pub first-reach : (P : Reach → Type 0) (schema : List TableDef) (st : Statement) (sts : List Statement) (r : Run) → Every P (run_on schema (st ∷ sts) r).reaches → Every P (list_of (reach schema r.vars st))
-first-reach P schema st sts r h = every-right P r.reaches (list_of (reach schema r.vars st)) (by (has_failed (doing schema r st).answer) h (reaches-grow P schema sts (with_done schema r st)))
+pub first-reach : (P : Reach → Type 0) (schema : List TableDef) (st : Statement) (sts : List Statement) (r : Run) → Every P (run_on schema (st ∷ sts) r).reaches → Every P (option_to_list (reach schema r.vars st))
+first-reach P schema st sts r h = every-right P r.reaches (option_to_list (reach schema r.vars st)) (by (has_failed (doing schema r st).answer) h (reaches-grow P schema sts (with_done schema r st)))
   where
     by : (b : Bool) → Every P (cond b (with_done schema r st) (run_on schema sts (with_done schema r st))).reaches → (Every P (run_on schema sts (with_done schema r st)).reaches → Every P (with_done schema r st).reaches) → Every P (with_done schema r st).reaches
     by true h f = h
@@ -39,11 +39,11 @@ on_tables r es = record r { tables = es }
 abbrev pub AgreeOn : List Reach → Tables → Tables → Type 0
 AgreeOn rs a b = Every (λ r. Agree r a b) rs
 
-rows-same : (o : Option Reach) (a b : Tables) → AgreeOn (list_of o) a b → rows_in o a ≡ rows_in o b
+rows-same : (o : Option Reach) (a b : Tables) → AgreeOn (option_to_list o) a b → rows_in o a ≡ rows_in o b
 rows-same None a b h = refl
 rows-same (Some r) a b h = agree-rows r a b h.0
 
-doing-frame : (schema : List TableDef) (st : Statement) (r : Run) (b : Tables) → AgreeOn (list_of (reach schema r.vars st)) r.tables b → doing schema (on_tables r b) st ≡ doing schema r st
+doing-frame : (schema : List TableDef) (st : Statement) (r : Run) (b : Tables) → AgreeOn (option_to_list (reach schema r.vars st)) r.tables b → doing schema (on_tables r b) st ≡ doing schema r st
 doing-frame schema st r b h = sym (statement-frame schema r.tables b r.vars st (rows-same (reach schema r.vars st) r.tables b h))
 
 -- what other tables become by the changes of a statement
@@ -68,7 +68,7 @@ run-frame schema (st ∷ sts) r b h =
 abbrev pub Untouched : Reach → Reach → Type 0
 Untouched r s = touches r s ≡ false
 
-writes-away : (r : Reach) (o : Option Reach) → Every (Untouched r) (list_of o) → (c : Change) → Writes o c → IsAway r c
+writes-away : (r : Reach) (o : Option Reach) → Every (Untouched r) (option_to_list o) → (c : Change) → Writes o c → IsAway r c
 writes-away r None h c w = absurd w
 writes-away r (Some s) h c w = away-untouched r s c h.0 w.0 w.1
 

@@ -1,5 +1,5 @@
--- The laws of isolation, for all played logs, stops and openings included.
-use Rattle.salt_ast.specs.Words.{or_else}
+-- The laws of isolation, for all played traces, stops and openings included.
+use Rattle.std.specs.Option.{option_or}
 use Rattle.salt_laws.proofs.Fresh.{IfComes}
 use Rattle.salt_laws.proofs.Ids.{is_same_id-true}
 use Rattle.salt_laws.proofs.Lists.{In, either, has-in, in-has, or_cases}
@@ -11,12 +11,15 @@ use Rattle.salt_model.specs.Continuing.{last_said}
 use Rattle.salt_model.specs.Releasing.{ReleasesDue, due_after, released_by}
 use Rattle.salt_model.specs.Isolation.{IsChain, IsSalted, ReadsReleased, is_linked, is_program_released, is_same_program, read_by}
 use Rattle.salt_model.specs.Kept.{Kept}
-use Rattle.salt_model.specs.Log.{Asked, Log, Start, from, start_of, ◌asks◌, ◌says◌, ◌turns◌}
+use Rattle.salt_model.specs.Trace.{Asked, Trace, Start, from, start_of, ◌asks◌, ◌says◌, ◌turns◌}
 use Rattle.salt_model.specs.Programs.{released_in}
 use Rattle.salt_model.specs.Units.{program_of}
 use Rattle.salt_model.specs.Next.{decision_in, flight, next, said_event}
 use Rattle.salt_model.specs.Phases.{Fallen, Opening, Phase, Serving, phase}
-use Rattle.salt_model.specs.Played.{Each, IsPlayed, May, MayFall, MayOpen, is_at_devices, is_device_next}
+use Rattle.salt_model.specs.Played.{IsPlayed}
+use Rattle.salt_model.specs.Segments.{May}
+use Rattle.salt_model.specs.Stops.{MayFall, MayOpen, is_at_devices, is_device_next}
+use Rattle.salt_model.specs.Everywhere.{Each}
 use Rattle.salt_model.specs.Reads.{Written, to_release}
 use Rattle.salt_model.specs.Turns.{releases, settle}
 use Rattle.salt_model.specs.Words.{has_id}
@@ -54,210 +57,210 @@ sound-start k w = record {
 salty-start : (k : Start) → Salty (from k)
 salty-start k = record { written = λ w h. absurd h; reads = λ u v h. absurd h; reads_in = λ b c h. absurd h; closed = λ b c r h. absurd h }
 
-sound-asks : (log : Log) (asked : Asked) → Sound log → Sound (log asks asked)
-sound-asks log asked s = record { known = s.known; older = s.older; old_units = s.old_units; old_conts = s.old_conts; old_dead = s.old_dead; one = s.one; alive = s.alive; goes_on = s.goes_on; quiet = s.quiet; old_programs = s.old_programs; drains = s.drains; drained = s.drained }
+sound-asks : (trace : Trace) (asked : Asked) → Sound trace → Sound (trace asks asked)
+sound-asks trace asked s = record { known = s.known; older = s.older; old_units = s.old_units; old_conts = s.old_conts; old_dead = s.old_dead; one = s.one; alive = s.alive; goes_on = s.goes_on; quiet = s.quiet; old_programs = s.old_programs; drains = s.drains; drained = s.drained }
 
-sound-turns : (log : Log) (b : Id) → Sound log → Sound (log turns b)
-sound-turns log b s = record { known = s.known; older = s.older; old_units = s.old_units; old_conts = s.old_conts; old_dead = s.old_dead; one = s.one; alive = s.alive; goes_on = s.goes_on; quiet = s.quiet; old_programs = s.old_programs; drains = s.drains; drained = s.drained }
+sound-turns : (trace : Trace) (b : Id) → Sound trace → Sound (trace turns b)
+sound-turns trace b s = record { known = s.known; older = s.older; old_units = s.old_units; old_conts = s.old_conts; old_dead = s.old_dead; one = s.one; alive = s.alive; goes_on = s.goes_on; quiet = s.quiet; old_programs = s.old_programs; drains = s.drains; drained = s.drained }
 
-covered-asks : (log : Log) (asked : Asked) (w : Written) → Covered log w → Covered (log asks asked) w
-covered-asks log asked w c = record { committed = c.committed; kind_known = c.kind_known; taken = c.taken }
+covered-asks : (trace : Trace) (asked : Asked) (w : Written) → Covered trace w → Covered (trace asks asked) w
+covered-asks trace asked w c = record { committed = c.committed; kind_known = c.kind_known; taken = c.taken }
 
-covered-turns : (log : Log) (b : Id) (w : Written) → Covered log w → Covered (log turns b) w
-covered-turns log b w c = record { committed = c.committed; kind_known = c.kind_known; taken = c.taken }
+covered-turns : (trace : Trace) (b : Id) (w : Written) → Covered trace w → Covered (trace turns b) w
+covered-turns trace b w c = record { committed = c.committed; kind_known = c.kind_known; taken = c.taken }
 
-ok-asks : (log : Log) (asked : Asked) (p q : Option Id) → ReadOk log p q → ReadOk (log asks asked) p q
-ok-asks log asked None None h = h
-ok-asks log asked None (Some c) h = h
-ok-asks log asked (Some b) None h = h
-ok-asks log asked (Some b) (Some c) h = h
+ok-asks : (trace : Trace) (asked : Asked) (p q : Option Id) → ReadOk trace p q → ReadOk (trace asks asked) p q
+ok-asks trace asked None None h = h
+ok-asks trace asked None (Some c) h = h
+ok-asks trace asked (Some b) None h = h
+ok-asks trace asked (Some b) (Some c) h = h
 
-ok-turns : (log : Log) (b : Id) (p q : Option Id) → ReadOk log p q → ReadOk (log turns b) p q
-ok-turns log b None None h = h
-ok-turns log b None (Some c) h = h
-ok-turns log b (Some x) None h = h
-ok-turns log b (Some x) (Some c) h = h
+ok-turns : (trace : Trace) (b : Id) (p q : Option Id) → ReadOk trace p q → ReadOk (trace turns b) p q
+ok-turns trace b None None h = h
+ok-turns trace b None (Some c) h = h
+ok-turns trace b (Some x) None h = h
+ok-turns trace b (Some x) (Some c) h = h
 
-salty-asks : (log : Log) (asked : Asked) → Salty log → Salty (log asks asked)
-salty-asks log asked z = record { written = λ w h. covered-asks log asked w (z.written w h); reads = λ u v h. let r = z.reads u v h in record { reader_known = r.reader_known; writer_known = r.writer_known; fits = ok-asks log asked (program_of u log) (program_of v log) r.fits }; reads_in = z.reads_in; closed = z.closed }
+salty-asks : (trace : Trace) (asked : Asked) → Salty trace → Salty (trace asks asked)
+salty-asks trace asked z = record { written = λ w h. covered-asks trace asked w (z.written w h); reads = λ u v h. let r = z.reads u v h in record { reader_known = r.reader_known; writer_known = r.writer_known; fits = ok-asks trace asked (program_of u trace) (program_of v trace) r.fits }; reads_in = z.reads_in; closed = z.closed }
 
-salty-turns : (log : Log) (b : Id) → Salty log → Salty (log turns b)
-salty-turns log b z = record { written = λ w h. covered-turns log b w (z.written w h); reads = λ u v h. let r = z.reads u v h in record { reader_known = r.reader_known; writer_known = r.writer_known; fits = ok-turns log b (program_of u log) (program_of v log) r.fits }; reads_in = z.reads_in; closed = z.closed }
+salty-turns : (trace : Trace) (b : Id) → Salty trace → Salty (trace turns b)
+salty-turns trace b z = record { written = λ w h. covered-turns trace b w (z.written w h); reads = λ u v h. let r = z.reads u v h in record { reader_known = r.reader_known; writer_known = r.writer_known; fits = ok-turns trace b (program_of u trace) (program_of v trace) r.fits }; reads_in = z.reads_in; closed = z.closed }
 
 -- all of it, at a place
-pub record Kept_up (log : Log) : Type 0 where
-  pub sound : Sound log
-  pub salty : Salty log
-  pub comes : IfComes (Comes log) (next log)
-  pub flies : IfComes (Flies log) (flight log)
+pub record Upheld (trace : Trace) : Type 0 where
+  pub sound : Sound trace
+  pub salty : Salty trace
+  pub comes : IfComes (Comes trace) (next trace)
+  pub flies : IfComes (Flies trace) (flight trace)
 
-pub may-open : (p : Phase) (log : Log) (boot n : ℕ) → MayOpen p log boot n → (p ≡ Fallen) × ((kept log).boot < boot)
-may-open Fallen log boot n m = (refl, m.0)
-may-open Opening log boot n m = absurd m
-may-open Serving log boot n m = absurd m
+pub may-open : (p : Phase) (trace : Trace) (boot n : ℕ) → MayOpen p trace boot n → (p ≡ Fallen) × ((kept trace).boot < boot)
+may-open Fallen trace boot n m = (refl, m.0)
+may-open Opening trace boot n m = absurd m
+may-open Serving trace boot n m = absurd m
 
-pub comes-at : (log : Log) (e : Event) → IfComes (Comes log) (next log) → next log ≡ Some e → Comes log e
-comes-at log e c h = subst (IfComes (Comes log)) h c
+pub comes-at : (trace : Trace) (e : Event) → IfComes (Comes trace) (next trace) → next trace ≡ Some e → Comes trace e
+comes-at trace e c h = subst (IfComes (Comes trace)) h c
 
-pub may-fit : (log : Log) (e : Event) → IfComes (Comes log) (next log) → May log e → Fits log e
-may-fit log (Down why) c m = tt
-may-fit log (Opened boot n) c m = may-open (phase log) log boot n m
-may-fit log e c m = (comes-at log e c m).0
+pub may-fit : (trace : Trace) (e : Event) → IfComes (Comes trace) (next trace) → May trace e → Fits trace e
+may-fit trace (Down why) c m = tt
+may-fit trace (Opened boot n) c m = may-open (phase trace) trace boot n m
+may-fit trace e c m = (comes-at trace e c m).0
 
-flies-down : (log : Log) (why : Why) (o : Option Event) → IfComes (Flies log) o → IfComes (Flies (log says Down why)) o
-flies-down log why None h = tt
-flies-down log why (Some (Ended u (Committed m))) h = h
-flies-down log why (Some (Ended u (Branched m c))) h = h
-flies-down log why (Some (Defined m text)) h = h
-flies-down log why (Some e) h = absurd h
+flies-down : (trace : Trace) (why : Why) (o : Option Event) → IfComes (Flies trace) o → IfComes (Flies (trace says Down why)) o
+flies-down trace why None h = tt
+flies-down trace why (Some (Ended u (Committed m))) h = h
+flies-down trace why (Some (Ended u (Branched m c))) h = h
+flies-down trace why (Some (Defined m text)) h = h
+flies-down trace why (Some e) h = absurd h
 
-with-next : (log : Log) → Sound log → Salty log → IfComes (Comes log) (next log) → flight log ≡ decision_in (next log) → Kept_up log
-with-next log s z c e = record { sound = s; salty = z; comes = c; flies = subst (IfComes (Flies log)) (sym e) (flies-next log (next log) c) }
+with-next : (trace : Trace) → Sound trace → Salty trace → IfComes (Comes trace) (next trace) → flight trace ≡ decision_in (next trace) → Upheld trace
+with-next trace s z c e = record { sound = s; salty = z; comes = c; flies = subst (IfComes (Flies trace)) (sym e) (flies-next trace (next trace) c) }
 
-held-says : (log : Log) (e : Event) → Kept_up log → Fits log e → Kept_up (log says e)
-held-says log (Down why) h f = record { sound = sound-step log (Down why) h.sound f; salty = salty-step log (Down why) h.sound h.salty f; comes = tt; flies = flies-down log why (flight log) h.flies }
-held-says log (Opened boot n) h f = with-next (log says Opened boot n) (sound-step log (Opened boot n) h.sound f) (salty-step log (Opened boot n) h.sound h.salty f) (fits-opened log boot n h.flies) refl
-held-says log e h f = let s = sound-step log e h.sound f in with-next (log says e) s (salty-step log e h.sound h.salty f) (fits-says log e s.drains) refl
+held-says : (trace : Trace) (e : Event) → Upheld trace → Fits trace e → Upheld (trace says e)
+held-says trace (Down why) h f = record { sound = sound-step trace (Down why) h.sound f; salty = salty-step trace (Down why) h.sound h.salty f; comes = tt; flies = flies-down trace why (flight trace) h.flies }
+held-says trace (Opened boot n) h f = with-next (trace says Opened boot n) (sound-step trace (Opened boot n) h.sound f) (salty-step trace (Opened boot n) h.sound h.salty f) (fits-opened trace boot n h.flies) refl
+held-says trace e h f = let s = sound-step trace e h.sound f in with-next (trace says e) s (salty-step trace e h.sound h.salty f) (fits-says trace e s.drains) refl
 
-pub holds : (log : Log) → IsPlayed log → OfBoots (start_of log).kept → Kept_up log
+pub holds : (trace : Trace) → IsPlayed trace → OfBoots (start_of trace).kept → Upheld trace
 holds (from k) p w = record { sound = sound-start k w; salty = salty-start k; comes = tt; flies = tt }
-holds (log asks asked) p w = let r = holds log p.0 w in with-next (log asks asked) (sound-asks log asked r.sound) (salty-asks log asked r.salty) (fits-asked log asked p.1.0) refl
-holds (log turns b) p w = let r = holds log p.0 w in with-next (log turns b) (sound-turns log b r.sound) (salty-turns log b r.salty) (fits-turns log b p.1) refl
-holds (log says e) p w = let r = holds log p.0 w in held-says log e r (may-fit log e r.comes p.1)
+holds (trace asks asked) p w = let r = holds trace p.0 w in with-next (trace asks asked) (sound-asks trace asked r.sound) (salty-asks trace asked r.salty) (fits-asked trace asked p.1.0) refl
+holds (trace turns b) p w = let r = holds trace p.0 w in with-next (trace turns b) (sound-turns trace b r.sound) (salty-turns trace b r.salty) (fits-turns trace b p.1) refl
+holds (trace says e) p w = let r = holds trace p.0 w in held-says trace e r (may-fit trace e r.comes p.1)
 
 -- chains of readers
 
-abbrev Good : Log → Id → Type 0
-Good log u = is_program_released log (program_of u log) ≡ true
+abbrev Good : Trace → Id → Type 0
+Good trace u = is_program_released trace (program_of u trace) ≡ true
 
-good-read : (log : Log) (p q : Option Id) → Salty log → ReadOk log p q → is_program_released log p ≡ true → is_program_released log q ≡ true
-good-read log None q z h g = h
-good-read log (Some b) None z h g = refl
-good-read log (Some b) (Some c) z h g = either (λ e. subst (λ x. has_id x (released_in log) ≡ true) (sym e) g) (λ i. in-has c _ (z.closed b c (has-in b _ g) i)) h
+good-read : (trace : Trace) (p q : Option Id) → Salty trace → ReadOk trace p q → is_program_released trace p ≡ true → is_program_released trace q ≡ true
+good-read trace None q z h g = h
+good-read trace (Some b) None z h g = refl
+good-read trace (Some b) (Some c) z h g = either (λ e. subst (λ x. has_id x (released_in trace) ≡ true) (sym e) g) (λ i. in-has c _ (z.closed b c (has-in b _ g) i)) h
 
-good-same : (log : Log) (p q : Option Id) → is_same_program p q ≡ true → is_program_released log p ≡ true → is_program_released log q ≡ true
-good-same log (Some b) (Some c) h g = subst (λ x. has_id x (released_in log) ≡ true) (is_same_id-true b c h) g
-good-same log None q h g = cc
-good-same log (Some b) None h g = cc
+good-same : (trace : Trace) (p q : Option Id) → is_same_program p q ≡ true → is_program_released trace p ≡ true → is_program_released trace q ≡ true
+good-same trace (Some b) (Some c) h g = subst (λ x. has_id x (released_in trace) ≡ true) (is_same_id-true b c h) g
+good-same trace None q h g = cc
+good-same trace (Some b) None h g = cc
 
-good-linked : (log : Log) (u v : Id) → Salty log → is_linked log u v ≡ true → Good log u → Good log v
-good-linked log u v z h g = either (λ r. good-read log (program_of u log) (program_of v log) z (z.reads u v (has-in v _ r)).fits g) (λ m. good-same log (program_of u log) (program_of v log) m g) (or_cases (has_id v (read_by u log)) _ h)
+good-linked : (trace : Trace) (u v : Id) → Salty trace → is_linked trace u v ≡ true → Good trace u → Good trace v
+good-linked trace u v z h g = either (λ r. good-read trace (program_of u trace) (program_of v trace) z (z.reads u v (has-in v _ r)).fits g) (λ m. good-same trace (program_of u trace) (program_of v trace) m g) (or_cases (has_id v (read_by u trace)) _ h)
 
-good-chain : (log : Log) (u : Id) (chain : List Id) → Salty log → IsChain log u chain → Good log u → list_all (λ v. is_program_released log (program_of v log)) chain ≡ true
-good-chain log u [] z c g = refl
-good-chain log u (v ∷ vs) z c g = let n = good-linked log u v z c.0 g in rw n (good-chain log v vs z c.1 n)
+good-chain : (trace : Trace) (u : Id) (chain : List Id) → Salty trace → IsChain trace u chain → Good trace u → list_all (λ v. is_program_released trace (program_of v trace)) chain ≡ true
+good-chain trace u [] z c g = refl
+good-chain trace u (v ∷ vs) z c g = let n = good-linked trace u v z c.0 g in rw n (good-chain trace v vs z c.1 n)
 
-acid-good : (log : Log) (p : Option Id) → is_none p ≡ true → is_program_released log p ≡ true
-acid-good log None h = refl
-acid-good log (Some b) h = cc
+acid-good : (trace : Trace) (p : Option Id) → is_none p ≡ true → is_program_released trace p ≡ true
+acid-good trace None h = refl
+acid-good trace (Some b) h = cc
 
-salted-at : (log : Log) (e : Event) → Sound log → Salty log → Fits log e → ReadsReleased log e
-salted-at log (Did a st answer) s z f = λ acid chain c. good-chain (log says Did a st answer) a chain (salty-step log (Did a st answer) s z f) c (acid-good log (program_of a log) acid)
-salted-at log e s z f = tt
+salted-at : (trace : Trace) (e : Event) → Sound trace → Salty trace → Fits trace e → ReadsReleased trace e
+salted-at trace (Did a st answer) s z f = λ acid chain c. good-chain (trace says Did a st answer) a chain (salty-step trace (Did a st answer) s z f) c (acid-good trace (program_of a trace) acid)
+salted-at trace e s z f = tt
 
 -- releases and paths
 
-abbrev due : Log → Option Event
-due log = releases (due_after (phase log) log (last_said log))
+abbrev due : Trace → Option Event
+due trace = releases (due_after (phase trace) trace (last_said trace))
 
-due-by : (p : Phase) (log : Log) (o : Option Event) → (IsAfterFinished o → ⊥) → due_after p log o ≡ []
-due-by Serving log (Some (Finished b)) n = absurd (n tt)
-due-by p log o n = refl
+due-by : (p : Phase) (trace : Trace) (o : Option Event) → (IsAfterFinished o → ⊥) → due_after p trace o ≡ []
+due-by Serving trace (Some (Finished b)) n = absurd (n tt)
+due-by p trace o n = refl
 
-due-not : (p : Phase) (log : Log) (o : Option Event) → (p ≡ Serving → ⊥) → due_after p log o ≡ []
-due-not Serving log o n = absurd (n refl)
-due-not Opening log o n = refl
-due-not Fallen log o n = refl
+due-not : (p : Phase) (trace : Trace) (o : Option Event) → (p ≡ Serving → ⊥) → due_after p trace o ≡ []
+due-not Serving trace o n = absurd (n refl)
+due-not Opening trace o n = refl
+due-not Fallen trace o n = refl
 
-none-first : (o p : Option Event) → or_else o p ≡ None → o ≡ None
+none-first : (o p : Option Event) → option_or o p ≡ None → o ≡ None
 none-first None p h = refl
 none-first (Some e) p h = cc
 
-finished-none : (log : Log) (b : Id) (p : Phase) → said_event p (log says Finished b) (Finished b) ≡ None → releases (due_after p (log says Finished b) (Some (Finished b))) ≡ None
-finished-none log b Serving h = none-first (releases (to_release (log says Finished b))) _ h
-finished-none log b Opening h = refl
-finished-none log b Fallen h = refl
+finished-none : (trace : Trace) (b : Id) (p : Phase) → said_event p (trace says Finished b) (Finished b) ≡ None → releases (due_after p (trace says Finished b) (Some (Finished b))) ≡ None
+finished-none trace b Serving h = none-first (releases (to_release (trace says Finished b))) _ h
+finished-none trace b Opening h = refl
+finished-none trace b Fallen h = refl
 
-due-asks : (p : Phase) (log : Log) (asked : Asked) (o : Option Event) → due_after p (log asks asked) o ≡ due_after p log o
-due-asks Serving log asked (Some (Finished b)) = refl
-due-asks p log asked o = refl
+due-asks : (p : Phase) (trace : Trace) (asked : Asked) (o : Option Event) → due_after p (trace asks asked) o ≡ due_after p trace o
+due-asks Serving trace asked (Some (Finished b)) = refl
+due-asks p trace asked o = refl
 
-due-turns : (p : Phase) (log : Log) (b : Id) (o : Option Event) → due_after p (log turns b) o ≡ due_after p log o
-due-turns Serving log b (Some (Finished c)) = refl
-due-turns p log b o = refl
+due-turns : (p : Phase) (trace : Trace) (b : Id) (o : Option Event) → due_after p (trace turns b) o ≡ due_after p trace o
+due-turns Serving trace b (Some (Finished c)) = refl
+due-turns p trace b o = refl
 
 -- where nothing is missing, no release is due
-due-done : (log : Log) → IsPlayed log → next log ≡ None → due log ≡ None
+due-done : (trace : Trace) → IsPlayed trace → next trace ≡ None → due trace ≡ None
 due-done (from k) p n = refl
-due-done (log asks asked) p n = ap releases (due-asks (phase log) log asked (last_said log)) ∙ due-done log p.0 p.1.1
-due-done (log turns b) p n = ap releases (due-turns (phase log) log b (last_said log)) ∙ due-done log p.0 p.2
-due-done (log says Finished b) p n = finished-none log b (phase log) n
-due-done (log says e) p n = ap releases (due-by (phase (log says e)) (log says e) (Some e) (λ x. x))
+due-done (trace asks asked) p n = ap releases (due-asks (phase trace) trace asked (last_said trace)) ∙ due-done trace p.0 p.1.1
+due-done (trace turns b) p n = ap releases (due-turns (phase trace) trace b (last_said trace)) ∙ due-done trace p.0 p.2
+due-done (trace says Finished b) p n = finished-none trace b (phase trace) n
+due-done (trace says e) p n = ap releases (due-by (phase (trace says e)) (trace says e) (Some e) (λ x. x))
 
-no-release : (log : Log) (e : Event) → Fits log e → due log ≡ None → released_by e ≡ None
-no-release log (Released bs) f d = go (last_said log) f.2 (subst (λ p. releases (due_after p log (last_said log)) ≡ None) f.3 d)
+no-release : (trace : Trace) (e : Event) → Fits trace e → due trace ≡ None → released_by e ≡ None
+no-release trace (Released bs) f d = go (last_said trace) f.2 (subst (λ p. releases (due_after p trace (last_said trace)) ≡ None) f.3 d)
   where
-    go : (o : Option Event) → IsAfterFinished o → releases (due_after Serving log o) ≡ None → Some (Released bs) ≡ None
+    go : (o : Option Event) → IsAfterFinished o → releases (due_after Serving trace o) ≡ None → Some (Released bs) ≡ None
     go (Some (Finished b)) a g = sym f.1 ∙ g
     go o a g = absurd a
-no-release log e f d = refl
+no-release trace e f d = refl
 
-finished-some : (log : Log) (b : Id) (e : Event) (p : Phase) (bs : List Id) → Fits (log says Finished b) e → phase log ≡ p → due_after p (log says Finished b) (Some (Finished b)) ≡ bs → said_event p (log says Finished b) (Finished b) ≡ Some e → releases bs ≡ released_by e
-finished-some log b e p [] f s t h = sym (no-release (log says Finished b) e f (subst (λ q. releases (due_after q (log says Finished b) (Some (Finished b))) ≡ None) (sym s) (ap releases t)))
-finished-some log b e Serving (c ∷ cs) f s t h = let g : Some (Released (c ∷ cs)) ≡ Some e = sym (ap (λ l. or_else (releases l) (settle (log says Finished b))) t) ∙ h in let k : Released (c ∷ cs) ≡ e = cc in ap released_by k
-finished-some log b e Opening (c ∷ cs) f s t h = cc
-finished-some log b e Fallen (c ∷ cs) f s t h = cc
+finished-some : (trace : Trace) (b : Id) (e : Event) (p : Phase) (bs : List Id) → Fits (trace says Finished b) e → phase trace ≡ p → due_after p (trace says Finished b) (Some (Finished b)) ≡ bs → said_event p (trace says Finished b) (Finished b) ≡ Some e → releases bs ≡ released_by e
+finished-some trace b e p [] f s t h = sym (no-release (trace says Finished b) e f (subst (λ q. releases (due_after q (trace says Finished b) (Some (Finished b))) ≡ None) (sym s) (ap releases t)))
+finished-some trace b e Serving (c ∷ cs) f s t h = let g : Some (Released (c ∷ cs)) ≡ Some e = sym (ap (λ l. option_or (releases l) (settle (trace says Finished b))) t) ∙ h in let k : Released (c ∷ cs) ≡ e = cc in ap released_by k
+finished-some trace b e Opening (c ∷ cs) f s t h = cc
+finished-some trace b e Fallen (c ∷ cs) f s t h = cc
 
-due-comes : (log : Log) (e : Event) → IsPlayed log → Fits log e → next log ≡ Some e → due log ≡ released_by e
+due-comes : (trace : Trace) (e : Event) → IsPlayed trace → Fits trace e → next trace ≡ Some e → due trace ≡ released_by e
 due-comes (from k) e p f n = cc
-due-comes (log asks asked) e p f n = let d : due (log asks asked) ≡ None = ap releases (due-asks (phase log) log asked (last_said log)) ∙ due-done log p.0 p.1.1 in d ∙ sym (no-release (log asks asked) e f d)
-due-comes (log turns b) e p f n = let d : due (log turns b) ≡ None = ap releases (due-turns (phase log) log b (last_said log)) ∙ due-done log p.0 p.2 in d ∙ sym (no-release (log turns b) e f d)
-due-comes (log says Finished b) e p f n = finished-some log b e (phase log) (due_after (phase log) (log says Finished b) (Some (Finished b))) f refl refl n
-due-comes (log says x) e p f n = let d : due (log says x) ≡ None = ap releases (due-by (phase (log says x)) (log says x) (Some x) (λ y. y)) in d ∙ sym (no-release (log says x) e f d)
+due-comes (trace asks asked) e p f n = let d : due (trace asks asked) ≡ None = ap releases (due-asks (phase trace) trace asked (last_said trace)) ∙ due-done trace p.0 p.1.1 in d ∙ sym (no-release (trace asks asked) e f d)
+due-comes (trace turns b) e p f n = let d : due (trace turns b) ≡ None = ap releases (due-turns (phase trace) trace b (last_said trace)) ∙ due-done trace p.0 p.2 in d ∙ sym (no-release (trace turns b) e f d)
+due-comes (trace says Finished b) e p f n = finished-some trace b e (phase trace) (due_after (phase trace) (trace says Finished b) (Some (Finished b))) f refl refl n
+due-comes (trace says x) e p f n = let d : due (trace says x) ≡ None = ap releases (due-by (phase (trace says x)) (trace says x) (Some x) (λ y. y)) in d ∙ sym (no-release (trace says x) e f d)
 
 -- a stop falls where no release is due
-at-devices : (log : Log) (x : Event) → is_at_devices log x ≡ true → released_by x ≡ None
-at-devices log (Released bs) h = cc
-at-devices log x h = refl
+at-devices : (trace : Trace) (x : Event) → is_at_devices trace x ≡ true → released_by x ≡ None
+at-devices trace (Released bs) h = cc
+at-devices trace x h = refl
 
-due-falls : (log : Log) (why : Why) → IsPlayed log → IfComes (Comes log) (next log) → MayFall (phase log) log why → due log ≡ None
-due-falls log why p c m = go (phase log) refl m
+due-falls : (trace : Trace) (why : Why) → IsPlayed trace → IfComes (Comes trace) (next trace) → MayFall (phase trace) trace why → due trace ≡ None
+due-falls trace why p c m = go (phase trace) refl m
   where
-    its : (o : Option Event) → next log ≡ o → is_device_next log o ≡ true → due log ≡ None
+    its : (o : Option Event) → next trace ≡ o → is_device_next trace o ≡ true → due trace ≡ None
     its None e g = cc
-    its (Some x) e g = due-comes log x p (comes-at log x c e).0 e ∙ at-devices log x g
+    its (Some x) e g = due-comes trace x p (comes-at trace x c e).0 e ∙ at-devices trace x g
 
-    go : (q : Phase) → phase log ≡ q → MayFall q log why → due log ≡ None
-    go Serving e g = its (next log) refl g
-    go Opening e g = ap releases (due-not (phase log) log (last_said log) (λ s. cc))
-    go Fallen e g = ap releases (due-not (phase log) log (last_said log) (λ s. cc))
+    go : (q : Phase) → phase trace ≡ q → MayFall q trace why → due trace ≡ None
+    go Serving e g = its (next trace) refl g
+    go Opening e g = ap releases (due-not (phase trace) trace (last_said trace) (λ s. cc))
+    go Fallen e g = ap releases (due-not (phase trace) trace (last_said trace) (λ s. cc))
 
-due-at : (log : Log) (e : Event) → IsPlayed log → IfComes (Comes log) (next log) → May log e → ReleasesDue log e
-due-at log (Down why) p c m = due-falls log why p c m
-due-at log (Opened boot n) p c m = let f : phase log ≡ Fallen = (may-open (phase log) log boot n m).0 in ap releases (due-not (phase log) log (last_said log) (λ s. cc))
-due-at log e p c m = due-comes log e p (comes-at log e c m).0 m
+due-at : (trace : Trace) (e : Event) → IsPlayed trace → IfComes (Comes trace) (next trace) → May trace e → ReleasesDue trace e
+due-at trace (Down why) p c m = due-falls trace why p c m
+due-at trace (Opened boot n) p c m = let f : phase trace ≡ Fallen = (may-open (phase trace) trace boot n m).0 in ap releases (due-not (phase trace) trace (last_said trace) (λ s. cc))
+due-at trace e p c m = due-comes trace e p (comes-at trace e c m).0 m
 
 -- the laws at an event
-abbrev Laws : Log → Event → Type 0
-Laws log e = ReadsReleased log e × ReleasesDue log e
+abbrev Laws : Trace → Event → Type 0
+Laws trace e = ReadsReleased trace e × ReleasesDue trace e
 
-laws : (log : Log) → IsPlayed log → OfBoots (start_of log).kept → Each Laws log
+laws : (trace : Trace) → IsPlayed trace → OfBoots (start_of trace).kept → Each Laws trace
 laws (from k) p w = tt
-laws (log asks asked) p w = laws log p.0 w
-laws (log turns b) p w = laws log p.0 w
-laws (log says e) p w =
-    let r = holds log p.0 w in
-    let f = may-fit log e r.comes p.1 in
-    (laws log p.0 w, (salted-at log e r.sound r.salty f, due-at log e p.0 r.comes p.1))
+laws (trace asks asked) p w = laws trace p.0 w
+laws (trace turns b) p w = laws trace p.0 w
+laws (trace says e) p w =
+    let r = holds trace p.0 w in
+    let f = may-fit trace e r.comes p.1 in
+    (laws trace p.0 w, (salted-at trace e r.sound r.salty f, due-at trace e p.0 r.comes p.1))
 
-pub each : (P Q : Log → Event → Type 0) → ((log : Log) (e : Event) → P log e → Q log e) → (log : Log) → Each P log → Each Q log
+pub each : (P Q : Trace → Event → Type 0) → ((trace : Trace) (e : Event) → P trace e → Q trace e) → (trace : Trace) → Each P trace → Each Q trace
 each P Q f (from k) h = tt
-each P Q f (log asks asked) h = each P Q f log h
-each P Q f (log turns b) h = each P Q f log h
-each P Q f (log says e) h = (each P Q f log h.0, f log e h.1)
+each P Q f (trace asks asked) h = each P Q f trace h
+each P Q f (trace turns b) h = each P Q f trace h
+each P Q f (trace says e) h = (each P Q f trace h.0, f trace e h.1)
 
-pub salted-played : (log : Log) → IsPlayed log → OfBoots (start_of log).kept → IsSalted log
-salted-played log p w = each Laws ReadsReleased (λ l e r. r.0) log (laws log p w)
+pub salted-played : (trace : Trace) → IsPlayed trace → OfBoots (start_of trace).kept → IsSalted trace
+salted-played trace p w = each Laws ReadsReleased (λ l e r. r.0) trace (laws trace p w)
 
-pub due-played : (log : Log) → IsPlayed log → OfBoots (start_of log).kept → Each ReleasesDue log
-due-played log p w = each Laws ReleasesDue (λ l e r. r.1) log (laws log p w)
+pub due-played : (trace : Trace) → IsPlayed trace → OfBoots (start_of trace).kept → Each ReleasesDue trace
+due-played trace p w = each Laws ReleasesDue (λ l e r. r.1) trace (laws trace p w)

@@ -1,14 +1,14 @@
--- What is kept after a log is as a start has to be.
+-- What is kept after a trace is as a start has to be.
 use Rattle.salt_laws.proofs.Fresh.{IfComes}
 use Rattle.salt_laws.proofs.Rising.{rises, rises-with}
 use Rattle.salt_laws.proofs.Lists.{In, either}
 use Rattle.salt_laws.proofs.NextFits.{Flies}
-use Rattle.salt_laws.proofs.Salted.{Kept_up, OfBoots, holds}
+use Rattle.salt_laws.proofs.Salted.{Upheld, OfBoots, holds}
 use Rattle.salt_laws.proofs.Sound.{Old, boot-ended, conts-back, old-fallen}
 use Rattle.salt_model.specs.Kept.{Kept, WellKept}
 use Rattle.salt_model.specs.After.{kept}
 use Rattle.salt_model.specs.Ends.{kept_with}
-use Rattle.salt_model.specs.Log.{Log, start_of, ◌says◌}
+use Rattle.salt_model.specs.Trace.{Trace, start_of, ◌says◌}
 use Rattle.salt_model.specs.Next.{flight}
 use Rattle.salt_model.specs.Phases.{phase}
 use Rattle.salt_model.specs.Played.{IsPlayed}
@@ -38,38 +38,38 @@ pub of-start : (k : Kept) → WellKept k → OfBoots k
 of-start k w = each-base k.boot k.conts w.boots
 
 -- what is kept at any place is as a start is to be, with the flight or without
-of-boots : (log : Log) → IsPlayed log → OfBoots (start_of log).kept → OfBoots (kept log)
-of-boots log p w b i = old-fallen (phase log) b (fresh_base log) ((holds log p w).sound.old_conts b i)
+of-boots : (trace : Trace) → IsPlayed trace → OfBoots (start_of trace).kept → OfBoots (kept trace)
+of-boots trace p w b i = old-fallen (phase trace) b (fresh_base trace) ((holds trace p w).sound.old_conts b i)
 
-of-boots-flight : (log : Log) → IsPlayed log → OfBoots (start_of log).kept → OfBoots (kept_with log (flight log))
-of-boots-flight log p w = its (flight log) h.flies
+of-boots-flight : (trace : Trace) → IsPlayed trace → OfBoots (start_of trace).kept → OfBoots (kept_with trace (flight trace))
+of-boots-flight trace p w = its (flight trace) h.flies
   where
-    h : Kept_up log
-    h = holds log p w
+    h : Upheld trace
+    h = holds trace p w
 
-    here : (b : Id) → Old log b → b.boot ≤ (kept log).boot
-    here b o = old-fallen (phase log) b (fresh_base log) o
+    here : (b : Id) → Old trace b → b.boot ≤ (kept trace).boot
+    here b o = old-fallen (phase trace) b (fresh_base trace) o
 
-    ended : (u : Id) (end : End) → OfBoots (kept (log says Ended u end))
-    ended u end b i = rw (boot-ended log u end) (here b (either (λ j. h.sound.old_conts b j) (λ q. h.sound.old_units b u q) (conts-back log u end b i)))
+    ended : (u : Id) (end : End) → OfBoots (kept (trace says Ended u end))
+    ended u end b i = rw (boot-ended trace u end) (here b (either (λ j. h.sound.old_conts b j) (λ q. h.sound.old_units b u q) (conts-back trace u end b i)))
 
-    its : (f : Option Event) → IfComes (Flies log) f → OfBoots (kept_with log f)
-    its None g = of-boots log p w
+    its : (f : Option Event) → IfComes (Flies trace) f → OfBoots (kept_with trace f)
+    its None g = of-boots trace p w
     its (Some (Ended u (Committed n))) g = ended u (Committed n)
     its (Some (Ended u (Branched n c))) g = ended u (Branched n c)
-    its (Some (Defined n text)) g = of-boots log p w
+    its (Some (Defined n text)) g = of-boots trace p w
     its (Some e) g = absurd g
 
-well-kept : (log : Log) → IsPlayed log → WellKept (start_of log).kept → WellKept (kept log)
-well-kept log p k =
-    let w : OfBoots (start_of log).kept = of-start (start_of log).kept k in
-    record { boots = base-each (kept log).boot (kept log).conts (of-boots log p w); accepted = rises log p w k.accepted }
+well-kept : (trace : Trace) → IsPlayed trace → WellKept (start_of trace).kept → WellKept (kept trace)
+well-kept trace p k =
+    let w : OfBoots (start_of trace).kept = of-start (start_of trace).kept k in
+    record { boots = base-each (kept trace).boot (kept trace).conts (of-boots trace p w); accepted = rises trace p w k.accepted }
 
-well-kept-flight : (log : Log) → IsPlayed log → WellKept (start_of log).kept → WellKept (kept_with log (flight log))
-well-kept-flight log p k =
-    let w : OfBoots (start_of log).kept = of-start (start_of log).kept k in
-    let f = kept_with log (flight log) in
-    record { boots = base-each f.boot f.conts (of-boots-flight log p w); accepted = rises-with log (flight log) (holds log p w).flies (rises log p w k.accepted) }
+well-kept-flight : (trace : Trace) → IsPlayed trace → WellKept (start_of trace).kept → WellKept (kept_with trace (flight trace))
+well-kept-flight trace p k =
+    let w : OfBoots (start_of trace).kept = of-start (start_of trace).kept k in
+    let f = kept_with trace (flight trace) in
+    record { boots = base-each f.boot f.conts (of-boots-flight trace p w); accepted = rises-with trace (flight trace) (holds trace p w).flies (rises trace p w k.accepted) }
 
-pub kept-well : (log : Log) → IsPlayed log → WellKept (start_of log).kept → WellKept (kept log) × WellKept (kept_with log (flight log))
-kept-well log p k = (well-kept log p k, well-kept-flight log p k)
+pub kept-well : (trace : Trace) → IsPlayed trace → WellKept (start_of trace).kept → WellKept (kept trace) × WellKept (kept_with trace (flight trace))
+kept-well trace p k = (well-kept trace p k, well-kept-flight trace p k)

@@ -1,5 +1,5 @@
 -- What an ACID unit touches of a program's committed parts, it touches when the program is released.
-use Rattle.salt_ast.specs.Words.{when}
+use Rattle.std.specs.Bool.{then_some}
 use Rattle.salt_ast.specs.declared.lines.Act.TheVariants.{Call}
 use Rattle.salt_ast.specs.declared.programs.Body.TheVariants.{Acid, Base}
 use Rattle.salt_ast.specs.declared.trees.Statement.{Statement}
@@ -10,7 +10,7 @@ use Rattle.salt_laws.proofs.Replays.{good-event, replays}
 use Rattle.salt_model.specs.After.{reach_now}
 use Rattle.salt_model.specs.Isolation.{IsWhole, TouchesWhole, is_committed_standing, is_program_released, is_unreleased_part, touches_unreleased}
 use Rattle.salt_model.specs.Locks.{Taken, as_held, family_of, lock_by, lock_of, saline_lock, taken_in, touches}
-use Rattle.salt_model.specs.Log.{Log, from, ◌asks◌, ◌says◌, ◌turns◌}
+use Rattle.salt_model.specs.Trace.{Trace, from, ◌asks◌, ◌says◌, ◌turns◌}
 use Rattle.salt_model.specs.Programs.{released_in}
 use Rattle.salt_model.specs.Units.{Over, Standing, kind_of, program_of_kind, standing}
 use Rattle.salt_model.specs.Played.{IsPlayed}
@@ -42,30 +42,30 @@ any-none : {A : Type 0} (p : A → Bool) (xs : List A) → Every (λ x. p x ≡ 
 any-none p [] h = refl
 any-none p (x ∷ xs) h = rw (h.0, any-none p xs h.1) refl
 
-pub untouched-part : (log : Log) (u : Id) (r : Reach) (t : Taken) (x : Standing) (k : Option UnitKind) → beside (Some (lock_of (Unit u) Family.Acid r)) (lock_by log t x k) ≡ true → (touches r t.reach && (is_committed_standing x && not (is_program_released log (option_and_then program_of_kind k)))) ≡ false
-untouched-part log u r t (Over (Committed n)) k h = by (option_and_then program_of_kind k) h
+pub untouched-part : (trace : Trace) (u : Id) (r : Reach) (t : Taken) (x : Standing) (k : Option UnitKind) → beside (Some (lock_of (Unit u) Family.Acid r)) (lock_by trace t x k) ≡ true → (touches r t.reach && (is_committed_standing x && not (is_program_released trace (option_and_then program_of_kind k)))) ≡ false
+untouched-part trace u r t (Over (Committed n)) k h = by (option_and_then program_of_kind k) h
   where
-    by : (p : Option Id) → beside (Some (lock_of (Unit u) Family.Acid r)) (saline_lock log p t.reach) ≡ true → (touches r t.reach && (true && not (is_program_released log p))) ≡ false
+    by : (p : Option Id) → beside (Some (lock_of (Unit u) Family.Acid r)) (saline_lock trace p t.reach) ≡ true → (touches r t.reach && (true && not (is_program_released trace p))) ≡ false
     by None h = and-false (touches r t.reach)
-    by (Some b) h = at (has_id b (released_in log)) h
+    by (Some b) h = at (has_id b (released_in trace)) h
       where
-        at : (v : Bool) → beside (Some (lock_of (Unit u) Family.Acid r)) (when (not v) (lock_of (Base b) Saline t.reach)) ≡ true → (touches r t.reach && (true && not v)) ≡ false
+        at : (v : Bool) → beside (Some (lock_of (Unit u) Family.Acid r)) (then_some (not v) (lock_of (Base b) Saline t.reach)) ≡ true → (touches r t.reach && (true && not v)) ≡ false
         at true h = and-false (touches r t.reach)
         at false h = rw (unnot (touches r t.reach) h) refl
-untouched-part log u r t x k h = and-false (touches r t.reach)
+untouched-part trace u r t x k h = and-false (touches r t.reach)
 
-touches-whole : (log : Log) (u : Id) (st : Statement) (a : Answer) → Good log (Did u st a) → TouchesWhole log (Did u st a)
-touches-whole log u st a g acid = by (reach_now u log st) g.4
+touches-whole : (trace : Trace) (u : Id) (st : Statement) (a : Answer) → Good trace (Did u st a) → TouchesWhole trace (Did u st a)
+touches-whole trace u st a g acid = by (reach_now u trace st) g.4
   where
-    by : (o : Option Reach) → Every (λ s. beside (option_map (lock_of (Unit u) (family_of (kind_of u log))) o) (as_held log s) ≡ true) (taken_in log) → IsTrue (not (touches_unreleased log o))
+    by : (o : Option Reach) → Every (λ s. beside (option_map (lock_of (Unit u) (family_of (kind_of u trace))) o) (as_held trace s) ≡ true) (taken_in trace) → IsTrue (not (touches_unreleased trace o))
     by None c = refl
-    by (Some r) c = ap not (any-none (λ t. touches t.reach r && is_unreleased_part log t) (taken_in log)
-        (every-map (λ s. beside (Some (lock_of (Unit u) (family_of (kind_of u log)) r)) (as_held log s) ≡ true) (λ t. (touches t.reach r && is_unreleased_part log t) ≡ false)
-        (λ t h. ap (λ b. b && is_unreleased_part log t) (touches-swap t.reach r) ∙ untouched-part log u r t (standing t.unit log) (kind_of t.unit log) (ap (λ f. beside (Some (lock_of (Unit u) f r)) (as_held log t)) (sym (acid-family (kind_of u log) acid)) ∙ h)) (taken_in log) c))
+    by (Some r) c = ap not (any-none (λ t. touches t.reach r && is_unreleased_part trace t) (taken_in trace)
+        (every-map (λ s. beside (Some (lock_of (Unit u) (family_of (kind_of u trace)) r)) (as_held trace s) ≡ true) (λ t. (touches t.reach r && is_unreleased_part trace t) ≡ false)
+        (λ t h. ap (λ b. b && is_unreleased_part trace t) (touches-swap t.reach r) ∙ untouched-part trace u r t (standing t.unit trace) (kind_of t.unit trace) (ap (λ f. beside (Some (lock_of (Unit u) f r)) (as_held trace t)) (sym (acid-family (kind_of u trace) acid)) ∙ h)) (taken_in trace) c))
 
-pub whole : (log : Log) → IsPlayed log → IsWhole log
+pub whole : (trace : Trace) → IsPlayed trace → IsWhole trace
 whole (from k) p = tt
-whole (log asks line) p = whole log p.0
-whole (log turns b) p = whole log p.0
-whole (log says Did u st a) p = (whole log p.0, touches-whole log u st a (good-event log (Did u st a) (replays log p.0) p.1))
-whole (log says e) p = (whole log p.0, tt)
+whole (trace asks line) p = whole trace p.0
+whole (trace turns b) p = whole trace p.0
+whole (trace says Did u st a) p = (whole trace p.0, touches-whole trace u st a (good-event trace (Did u st a) (replays trace p.0) p.1))
+whole (trace says e) p = (whole trace p.0, tt)

@@ -1,5 +1,5 @@
--- Which units have a name in a log.
-use Rattle.salt_model.specs.Log.{Log, from, ◌asks◌, ◌says◌, ◌turns◌}
+-- Which units have a name in a trace.
+use Rattle.salt_model.specs.Trace.{Trace, from, ◌asks◌, ◌says◌, ◌turns◌}
 use Rattle.salt_model.specs.declared.events.Event.TheVariants.{Began, Did, Ended, Waits}
 use Rattle.salt_model.specs.declared.events.Event.{Event}
 use Rattle.salt_values.specs.Id.{is_same_id}
@@ -14,11 +14,11 @@ is_unit_of u (Waits v owners) = is_same_id u v
 is_unit_of u (Ended v end) = is_same_id u v
 is_unit_of u e = false
 
-abbrev pub is_named : Id → Log → Bool
+abbrev pub is_named : Id → Trace → Bool
 is_named u (from k) = false
-is_named u (log asks asked) = is_named u log
-is_named u (log turns b) = is_named u log
-is_named u (log says e) = is_unit_of u e || is_named u log
+is_named u (trace asks asked) = is_named u trace
+is_named u (trace turns b) = is_named u trace
+is_named u (trace says e) = is_unit_of u e || is_named u trace
 
 abbrev pub unit_numbered : ℕ → ℕ → Id
 unit_numbered boot n = record { boot = boot; seq = n }

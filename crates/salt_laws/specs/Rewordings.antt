@@ -1,6 +1,6 @@
 -- What could be said in another way, and comes to the same.
 use Rattle.salt_model.specs.After.{run_of}
-use Rattle.salt_model.specs.Log.{Log}
+use Rattle.salt_model.specs.Trace.{Trace}
 use Rattle.salt_model.specs.Reads.{Written, is_written_at, wrote_of}
 use Rattle.salt_model.specs.Tables.{Edits, place_cmp}
 use Rattle.salt_model.specs.declared.events.End.TheVariants.{Committed}
@@ -18,6 +18,6 @@ abbrev pub is_changed : Place → Edits → Bool
 is_changed p ds = is_some (find place_cmp p ds.list)
 
 -- the keys that a unit wrote as its statements were done are those that its changes name when it commits, done anew on the tables of the commits so far
-abbrev pub WritesAtEnd : Log → Event → Type 0
-WritesAtEnd log (Ended u (Committed n)) = (p : Place) → is_written p (wrote_of u log) ≡ is_changed p (run_of u log).changes
-WritesAtEnd log e = ⊤
+abbrev pub WritesAtEnd : Trace → Event → Type 0
+WritesAtEnd trace (Ended u (Committed n)) = (p : Place) → is_written p (wrote_of u trace) ≡ is_changed p (run_of u trace).changes
+WritesAtEnd trace e = ⊤

@@ -1,4 +1,4 @@
-//! The laws, each on a function that does nothing. `IsPlayed` (salt_model, specs/Played.antt) is a log that a
+//! The laws, each on a function that does nothing. `IsPlayed` (salt_model, specs/Played.antt) is a trace that a
 //! run may tell; `WellKept` is what a start has to be, and the empty one is.
 
 ghost use Rattle.salt_model.specs.After.{kept};
@@ -9,57 +9,58 @@ ghost use Rattle.salt_model.specs.Honest.{IsHonest};
 ghost use Rattle.salt_model.specs.Isolation.{IsSalted, IsWhole};
 ghost use Rattle.salt_model.specs.Kept.{WellKept};
 ghost use Rattle.salt_model.specs.Locks.{NoneConflict, held};
-ghost use Rattle.salt_model.specs.Log.{Log, start_of};
+ghost use Rattle.salt_model.specs.Trace.{Trace, start_of};
 ghost use Rattle.salt_model.specs.Next.{flight};
-ghost use Rattle.salt_model.specs.Played.{Each, IsPlayed};
+ghost use Rattle.salt_model.specs.Played.{IsPlayed};
+ghost use Rattle.salt_model.specs.Everywhere.{Each};
 ghost use Rattle.salt_model.specs.Releasing.{ReleasesExactly};
 ghost use Rattle.salt_laws.specs.Rewordings.{WritesAtEnd};
 
 /// The answers printed for each unit are those of doing its statements one after another on the tables of
 /// the commits so far; a failed answer is its last, and its end says so.
 pub fn played_is_honest()
-    ensures { (log : Log) → IsPlayed log → IsHonest log }
+    ensures { (trace : Trace) → IsPlayed trace → IsHonest trace }
 {}
 
 /// What an ACID unit touches of a BASE program's committed parts, it touches when the program is released.
 pub fn played_is_whole()
-    ensures { (log : Log) → IsPlayed log → IsWhole log }
+    ensures { (trace : Trace) → IsPlayed trace → IsWhole trace }
 {}
 
 /// No two held locks of different owners clash, but for an alkaline one beside a saline one.
 pub fn held_locks_stand_together()
-    ensures { (log : Log) → IsPlayed log → NoneConflict (held log) }
+    ensures { (trace : Trace) → IsPlayed trace → NoneConflict (held trace) }
 {}
 
 /// What an ACID unit reads comes, by any chain of readers, from no BASE program that is not released.
 pub fn played_is_salted()
-    ensures { (log : Log) → IsPlayed log → WellKept (start_of log).kept → IsSalted log }
+    ensures { (trace : Trace) → IsPlayed trace → WellKept (start_of trace).kept → IsSalted trace }
 {}
 
 /// A release comes exactly when programs are due, and names exactly those that are finished with all that
 /// they read from, and not yet released.
 pub fn played_releases_exactly()
-    ensures { (log : Log) → IsPlayed log → WellKept (start_of log).kept → ReleasesExactly log }
+    ensures { (trace : Trace) → IsPlayed trace → WellKept (start_of trace).kept → ReleasesExactly trace }
 {}
 
 /// Each accepted BASE program goes along its declared path, and each opening that is completed brings every
 /// one of them to its end.
 pub fn played_is_continued()
-    ensures { (log : Log) → IsPlayed log → WellKept (start_of log).kept → IsContinued log }
+    ensures { (trace : Trace) → IsPlayed trace → WellKept (start_of trace).kept → IsContinued trace }
 {}
 
 /// Decisions are numbered one by one, through every stop, and an opening tells at most the one in flight.
 pub fn played_is_kept()
-    ensures { (log : Log) → IsPlayed log → WellKept (start_of log).kept → IsKept log }
+    ensures { (trace : Trace) → IsPlayed trace → WellKept (start_of trace).kept → IsKept trace }
 {}
 
-/// What is kept after a log, with the flight or without, is as a start has to be: a next run may begin with it.
+/// What is kept after a trace, with the flight or without, is as a start has to be: a next run may begin with it.
 pub fn kept_stays_well_kept()
-    ensures { (log : Log) → IsPlayed log → WellKept (start_of log).kept → WellKept (kept log) × WellKept (kept_with log (flight log)) }
+    ensures { (trace : Trace) → IsPlayed trace → WellKept (start_of trace).kept → WellKept (kept trace) × WellKept (kept_with trace (flight trace)) }
 {}
 
 /// The keys that a committed unit wrote, each as its statement was done, are those that its changes name
 /// when all of them are done anew at its commit.
 pub fn changes_are_those_written()
-    ensures { (log : Log) → IsPlayed log → WellKept (start_of log).kept → Each WritesAtEnd log }
+    ensures { (trace : Trace) → IsPlayed trace → WellKept (start_of trace).kept → Each WritesAtEnd trace }
 {}

@@ -1,9 +1,9 @@
--- What is kept after a log: the tables after the commits so far, in their order, and with them definitions, the decision number and continuations.
+-- What is kept after a trace: the tables after the commits so far, in their order, and with them definitions, the decision number and continuations.
 use Rattle.salt_ast.specs.declared.lines.Line.TheVariants.{Program, Table}
 use Rattle.salt_ast.specs.declared.lines.Line.{Line}
 use Rattle.salt_ast.specs.declared.trees.Statement.{Statement}
 use Rattle.salt_model.specs.Kept.{Definition, Kept, OfProgram, OfTable, conts_branched, conts_committed, schema_of, vars_of_kind}
-use Rattle.salt_model.specs.Log.{Log, from, line_of, ◌asks◌, ◌says◌, ◌turns◌}
+use Rattle.salt_model.specs.Trace.{Trace, from, line_of, ◌asks◌, ◌says◌, ◌turns◌}
 use Rattle.salt_model.specs.Units.{done_of, kind_of}
 use Rattle.salt_model.specs.Statements.{Run, outcome_of, serial}
 use Rattle.salt_model.specs.Reaches.{reach}
@@ -43,49 +43,49 @@ pub record Stage : Type 0 where
   pub kept : Kept
   pub vars : Id → List Binding
 
-abbrev pub stage_run : Stage → Id → Log → Run
-stage_run s u log = serial (schema_of s.kept) s.kept.tables (s.vars u) (done_of u log)
+abbrev pub stage_run : Stage → Id → Trace → Run
+stage_run s u trace = serial (schema_of s.kept) s.kept.tables (s.vars u) (done_of u trace)
 
 -- what an event makes of what is kept
-abbrev pub keep : Log → Event → Stage → Kept
-keep log (Ended u (Committed n)) s = committed s.kept n (kind_of u log) (stage_run s u log)
-keep log (Ended u (Branched n c)) s = branched s.kept n (kind_of u log)
-keep log (Defined n text) s = record s.kept { decisions = n; definitions = s.kept.definitions ++ defined_by (line_of log) }
-keep log (Opened boot n) s = record s.kept { boot = boot }
-keep log e s = s.kept
+abbrev pub keep : Trace → Event → Stage → Kept
+keep trace (Ended u (Committed n)) s = committed s.kept n (kind_of u trace) (stage_run s u trace)
+keep trace (Ended u (Branched n c)) s = branched s.kept n (kind_of u trace)
+keep trace (Defined n text) s = record s.kept { decisions = n; definitions = s.kept.definitions ++ defined_by (line_of trace) }
+keep trace (Opened boot n) s = record s.kept { boot = boot }
+keep trace e s = s.kept
 
 abbrev pub begun_with : Event → Stage → Id → List Binding
 begun_with (Began v kind) s u = if is_same_id u v then vars_of_kind s.kept kind else s.vars u
 begun_with e s u = s.vars u
 
-abbrev pub stage : Log → Stage
+abbrev pub stage : Trace → Stage
 stage (from k) = record { kept = k.kept; vars = λ u. [] }
-stage (log asks asked) = stage log
-stage (log turns b) = stage log
-stage (log says e) = record { kept = keep log e (stage log); vars = begun_with e (stage log) }
+stage (trace asks asked) = stage trace
+stage (trace turns b) = stage trace
+stage (trace says e) = record { kept = keep trace e (stage trace); vars = begun_with e (stage trace) }
 
-abbrev pub kept : Log → Kept
-kept log = (stage log).kept
+abbrev pub kept : Trace → Kept
+kept trace = (stage trace).kept
 
 -- the variables with which a unit began
-abbrev pub vars_of : Id → Log → List Binding
-vars_of u log = (stage log).vars u
+abbrev pub vars_of : Id → Trace → List Binding
+vars_of u trace = (stage trace).vars u
 
 -- After
-abbrev pub tables_after : Log → Tables
-tables_after log = (kept log).tables
+abbrev pub tables_after : Trace → Tables
+tables_after trace = (kept trace).tables
 
 -- doing the statements that an open unit has done, on the committed tables
-abbrev pub run_of : Id → Log → Run
-run_of u log = stage_run (stage log) u log
+abbrev pub run_of : Id → Trace → Run
+run_of u trace = stage_run (stage trace) u trace
 
 -- what a statement of the unit would reach, and do, here
-abbrev pub reach_now : Id → Log → Statement → Option Reach
-reach_now u log st = reach (schema_of (kept log)) (run_of u log).vars st
+abbrev pub reach_now : Id → Trace → Statement → Option Reach
+reach_now u trace st = reach (schema_of (kept trace)) (run_of u trace).vars st
 
-abbrev pub answer_now : Id → Log → Statement → Answer
-answer_now u log st = let run = run_of u log in (outcome_of (schema_of (kept log)) run.tables run.vars st).answer
+abbrev pub answer_now : Id → Trace → Statement → Answer
+answer_now u trace st = let run = run_of u trace in (outcome_of (schema_of (kept trace)) run.tables run.vars st).answer
 
 -- the changes that a statement of the unit makes here
-abbrev pub changes_now : Id → Log → Statement → List Change
-changes_now u log st = let run = run_of u log in (outcome_of (schema_of (kept log)) run.tables run.vars st).changes
+abbrev pub changes_now : Id → Trace → Statement → List Change
+changes_now u trace st = let run = run_of u trace in (outcome_of (schema_of (kept trace)) run.tables run.vars st).changes

@@ -1,10 +1,11 @@
 -- How a run may end, and what stands then.
 use Rattle.salt_model.specs.After.{keep, kept, stage}
 use Rattle.salt_model.specs.Kept.{Kept}
-use Rattle.salt_model.specs.Log.{Log, story_of}
+use Rattle.salt_model.specs.Trace.{Trace, story_of}
 use Rattle.salt_model.specs.Next.{flight, next}
 use Rattle.salt_model.specs.Phases.{Phase, Serving, phase}
-use Rattle.salt_model.specs.Played.{IsComplete, is_device_next}
+use Rattle.salt_model.specs.Segments.{IsComplete}
+use Rattle.salt_model.specs.Stops.{is_device_next}
 use Rattle.salt_model.specs.declared.events.Event.TheVariants.{Defined, Ended}
 use Rattle.salt_model.specs.declared.events.Event.{Event}
 use Rattle.salt_model.specs.declared.events.Flight.{Flight}
@@ -23,24 +24,24 @@ abbrev pub is_serving : Phase → Bool
 is_serving Serving = true
 is_serving phase = false
 
-abbrev pub MayLeave : Leave → Log → Type 0
-MayLeave NotBegun log = story_of log ≡ []
-MayLeave AtLineEnd log = IsComplete log
-MayLeave AnyPlace log = ⊤
-MayLeave InAnOpening log = is_serving (phase log) ≡ false
-MayLeave AtDevices log = IsTrue (not (is_serving (phase log)) || is_device_next log (next log))
-MayLeave AtOutput log = IsComplete log ⊎ IsTrue (not (is_serving (phase log)) || is_device_next log (next log))
+abbrev pub MayLeave : Leave → Trace → Type 0
+MayLeave NotBegun trace = story_of trace ≡ []
+MayLeave AtLineEnd trace = IsComplete trace
+MayLeave AnyPlace trace = ⊤
+MayLeave InAnOpening trace = is_serving (phase trace) ≡ false
+MayLeave AtDevices trace = IsTrue (not (is_serving (phase trace)) || is_device_next trace (next trace))
+MayLeave AtOutput trace = IsComplete trace ⊎ IsTrue (not (is_serving (phase trace)) || is_device_next trace (next trace))
 
--- what is told to be in flight at the end of a log
+-- what is told to be in flight at the end of a trace
 abbrev pub flight_told : Option Event → Option Flight
 flight_told (Some (Defined n text)) = Some (Flight.Definition text)
 flight_told (Some (Ended u end)) = Some (Flight.Unit u)
 flight_told e = None
 
--- what devices may stand for at the end of a log: what is kept there, with or without the flight
-abbrev pub kept_with : Log → Option Event → Kept
-kept_with log None = kept log
-kept_with log (Some e) = keep log e (stage log)
+-- what devices may stand for at the end of a trace: what is kept there, with or without the flight
+abbrev pub kept_with : Trace → Option Event → Kept
+kept_with trace None = kept trace
+kept_with trace (Some e) = keep trace e (stage trace)
 
 abbrev pub IsSameKept : Kept → Kept → Type 0
 IsSameKept a b = (a.decisions ≡ b.decisions) × (a.definitions ≡ b.definitions) × (a.tables ≡ b.tables) × (a.conts ≡ b.conts)
@@ -50,5 +51,5 @@ module _ (Image : Type 0) (stands : Image → Option Kept) where
   abbrev pub StandsFor : Image → Kept → Type 0
   StandsFor b k = (found : Kept) × (stands b ≡ Some found) × IsSameKept found k
 
-  abbrev pub ImagesStand : (Image → Type 0) → Log → Type 0
-  ImagesStand may_be log = (b : Image) → may_be b → StandsFor b (kept log) ⊎ StandsFor b (kept_with log (flight log))
+  abbrev pub ImagesStand : (Image → Type 0) → Trace → Type 0
+  ImagesStand may_be trace = (b : Image) → may_be b → StandsFor b (kept trace) ⊎ StandsFor b (kept_with trace (flight trace))

@@ -1,5 +1,6 @@
 -- Expressions: what they give, with the first cause met from left to right.
-use Rattle.salt_ast.specs.Words.{is_same_name}
+use Rattle.salt_values.specs.declared.limits.TheConstants.{TEXT_MOST}
+use Rattle.salt_tokens.specs.Spelling.{same_bytes}
 use Rattle.salt_ast.specs.declared.trees.Expr.{Binary', Column, Expr, Lit, Not', Variable, end_of-Expr, more_of-Expr}
 use Rattle.salt_ast.specs.declared.trees.Field.{Field}
 use Rattle.salt_ast.specs.declared.trees.Op.TheVariants.{Add, And, AtLeast, AtMost, Equal, Greater, Join, Less, Mul, Or, Sub, Unequal}
@@ -25,7 +26,7 @@ pub record Visible : Type 0 where
 
 abbrev pub value_named : List ℕ → List Binding → Option Value
 value_named n [] = None
-value_named n (b ∷ bs) = if is_same_name n b.name then Some b.value else value_named n bs
+value_named n (b ∷ bs) = if same_bytes n b.name then Some b.value else value_named n bs
 
 -- fields with a row's values
 abbrev pub named_values : List Field → List Value → List Binding
@@ -44,7 +45,7 @@ abbrev pub int_or_overflow : ℤ → Result Datum Cause
 int_or_overflow z = if is_int64 z then Ok (Gives (Int z)) else Err Overflow
 
 abbrev pub text_or_too_long : List ℕ → Result Datum Cause
-text_or_too_long t = if nat_le (length t) 255 then Ok (Gives (Text t)) else Err TooLong
+text_or_too_long t = if nat_le (length t) TEXT_MOST then Ok (Gives (Text t)) else Err TooLong
 
 -- an operation on two values
 abbrev pub of_values : Op → Value → Value → Result Datum Cause

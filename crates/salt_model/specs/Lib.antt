@@ -4,7 +4,7 @@ pub mod Tables
 pub mod Reaches
 pub mod Statements
 pub mod Kept
-pub mod Log
+pub mod Trace
 pub mod Units
 pub mod Programs
 pub mod After
@@ -19,6 +19,9 @@ pub mod Phases
 pub mod Turns
 pub mod Openings
 pub mod Next
+pub mod Everywhere
+pub mod Stops
+pub mod Segments
 pub mod Played
 pub mod Honest
 pub mod Isolation

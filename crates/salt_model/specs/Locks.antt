@@ -1,8 +1,8 @@
--- The held locks, read off the log, and clashes.
-use Rattle.salt_ast.specs.Words.{when}
+-- The held locks, read off the trace, and clashes.
+use Rattle.std.specs.Bool.{then_some}
 use Rattle.salt_ast.specs.declared.trees.Statement.{Statement}
 use Rattle.salt_model.specs.After.{reach_now}
-use Rattle.salt_model.specs.Log.{Log, from, ◌asks◌, ◌says◌, ◌turns◌}
+use Rattle.salt_model.specs.Trace.{Trace, from, ◌asks◌, ◌says◌, ◌turns◌}
 use Rattle.salt_model.specs.Programs.{released_in}
 use Rattle.salt_model.specs.Units.{Over, Running, Standing, Waiting, kind_of, program_of_kind, standing}
 use Rattle.salt_model.specs.Words.{Every, has_id, in_order}
@@ -34,12 +34,12 @@ taken_by u None = []
 taken_by u (Some r) = record { unit = u; reach = r } ∷ []
 
 -- what the statements done reached, each with the variables that its unit had there
-abbrev pub taken_in : Log → List Taken
+abbrev pub taken_in : Trace → List Taken
 taken_in (from k) = []
-taken_in (log asks asked) = taken_in log
-taken_in (log turns b) = taken_in log
-taken_in (log says Did u st answer) = taken_in log ++ taken_by u (reach_now u log st)
-taken_in (log says e) = taken_in log
+taken_in (trace asks asked) = taken_in trace
+taken_in (trace turns b) = taken_in trace
+taken_in (trace says Did u st answer) = taken_in trace ++ taken_by u (reach_now u trace st)
+taken_in (trace says e) = taken_in trace
 
 abbrev pub is_subtransaction : UnitKind → Bool
 is_subtransaction (First s b n args) = true
@@ -55,26 +55,26 @@ abbrev pub lock_of : Owner → Family → Reach → Lock
 lock_of owner family r = record { owner = owner; family = family; mode = r.mode; table = r.table; range = r.range }
 
 -- the programs that are not released hold the saline locks of their committed subtransactions
-abbrev pub is_holding : Log → Id → Bool
-is_holding log b = not (has_id b (released_in log))
+abbrev pub is_holding : Trace → Id → Bool
+is_holding trace b = not (has_id b (released_in trace))
 
 -- a committed subtransaction's reach is its program's, until that is released
-abbrev pub saline_lock : Log → Option Id → Reach → Option Lock
-saline_lock log None r = None
-saline_lock log (Some b) r = when (is_holding log b) (lock_of (Base b) Saline r)
+abbrev pub saline_lock : Trace → Option Id → Reach → Option Lock
+saline_lock trace None r = None
+saline_lock trace (Some b) r = then_some (is_holding trace b) (lock_of (Base b) Saline r)
 
 -- an open unit's reach is its own; when it ends otherwise than by a commit, it goes
-abbrev pub lock_by : Log → Taken → Standing → Option UnitKind → Option Lock
-lock_by log t Running kind = Some (lock_of (Unit t.unit) (family_of kind) t.reach)
-lock_by log t Waiting kind = Some (lock_of (Unit t.unit) (family_of kind) t.reach)
-lock_by log t (Over (Committed n)) kind = saline_lock log (option_and_then program_of_kind kind) t.reach
-lock_by log t s kind = None
+abbrev pub lock_by : Trace → Taken → Standing → Option UnitKind → Option Lock
+lock_by trace t Running kind = Some (lock_of (Unit t.unit) (family_of kind) t.reach)
+lock_by trace t Waiting kind = Some (lock_of (Unit t.unit) (family_of kind) t.reach)
+lock_by trace t (Over (Committed n)) kind = saline_lock trace (option_and_then program_of_kind kind) t.reach
+lock_by trace t s kind = None
 
-abbrev pub as_held : Log → Taken → Option Lock
-as_held log t = lock_by log t (standing t.unit log) (kind_of t.unit log)
+abbrev pub as_held : Trace → Taken → Option Lock
+as_held trace t = lock_by trace t (standing t.unit trace) (kind_of t.unit trace)
 
-abbrev pub held : Log → List Lock
-held log = filter_map (as_held log) (taken_in log)
+abbrev pub held : Trace → List Lock
+held trace = filter_map (as_held trace) (taken_in trace)
 
 abbrev pub is_read : Mode → Bool
 is_read Read = true
@@ -96,17 +96,17 @@ is_same_owner (Unit u) (Base b) = false
 is_same_owner (Base b) (Unit u) = false
 
 -- two held locks of different owners that may not stand together
-abbrev pub is_between : Family → Family → Bool
-is_between Saline Saline = false
-is_between Saline Alkaline = false
-is_between Alkaline Saline = false
-is_between f g = true
+abbrev pub may_not_stand_together : Family → Family → Bool
+may_not_stand_together Saline Saline = false
+may_not_stand_together Saline Alkaline = false
+may_not_stand_together Alkaline Saline = false
+may_not_stand_together f g = true
 
 abbrev pub reach_of : Lock → Reach
 reach_of l = record { table = l.table; range = l.range; mode = l.mode }
 
 abbrev pub conflict : Lock → Lock → Bool
-conflict l m = not (is_same_owner l.owner m.owner) && (is_between l.family m.family && touches (reach_of l) (reach_of m))
+conflict l m = not (is_same_owner l.owner m.owner) && (may_not_stand_together l.family m.family && touches (reach_of l) (reach_of m))
 
 -- no two held locks do
 abbrev pub NoneConflict : List Lock → Type 0
@@ -128,10 +128,10 @@ abbrev pub owners_of : List Lock → List Owner
 owners_of locks = map Owner.Unit (in_order (filter_map unit_owner locks)) ++ map Owner.Base (in_order (filter_map base_owner locks))
 
 -- the locks that clash with what a unit would reach
-abbrev pub clash_locks : Log → Id → Option UnitKind → Option Reach → List Lock
-clash_locks log u kind (Some r) = filter (clashes (Unit u) (family_of kind) r) (held log)
-clash_locks log u kind None = []
+abbrev pub clash_locks : Trace → Id → Option UnitKind → Option Reach → List Lock
+clash_locks trace u kind (Some r) = filter (clashes (Unit u) (family_of kind) r) (held trace)
+clash_locks trace u kind None = []
 
 -- the owners that clash with a statement of a unit
-abbrev pub clashing : Log → Id → Statement → List Owner
-clashing log u st = owners_of (clash_locks log u (kind_of u log) (reach_now u log st))
+abbrev pub clashing : Trace → Id → Statement → List Owner
+clashing trace u st = owners_of (clash_locks trace u (kind_of u trace) (reach_now u trace st))

@@ -1,9 +1,10 @@
 -- The complete segment of an opening, after its Opened: the flight where it stands, the Cuts, then the drain.
-use Rattle.salt_ast.specs.Words.{or_else, when}
+use Rattle.std.specs.Bool.{then_some}
+use Rattle.std.specs.Option.{option_or}
 use Rattle.salt_model.specs.After.{kept}
-use Rattle.salt_model.specs.Log.{Log}
+use Rattle.salt_model.specs.Trace.{Trace}
 use Rattle.salt_model.specs.Units.{kind_of, open_units}
-use Rattle.salt_model.specs.Turns.{after_did, after_end, begins, finishes, next_number, serve}
+use Rattle.salt_model.specs.Turns.{after_did, after_end, begins, finishes, next_number, does_next}
 use Rattle.salt_model.specs.Words.{in_order, is_empty}
 use Rattle.salt_model.specs.declared.events.Answer.{Answer}
 use Rattle.salt_model.specs.declared.events.End.TheVariants.{Cut}
@@ -16,39 +17,39 @@ use Rattle.std.specs.List.{filter}
 use Rattle.std.specs.Prelude.{List, None, Option, Some, [], nat_lt, ℕ, ◌==◌, ◌∷◌}
 
 -- open units of earlier boots, in order of names
-abbrev pub to_cut : Log → List Id
-to_cut log = in_order (filter (λ u. nat_lt u.boot (kept log).boot) (open_units log))
+abbrev pub to_cut : Trace → List Id
+to_cut trace = in_order (filter (λ u. nat_lt u.boot (kept trace).boot) (open_units trace))
 
 -- a unit ends with its last statement; else it does the next. Nothing is locked
-abbrev pub drains_on : Log → Id → Answer → Option Event
-drains_on log u answer = or_else (after_did log u answer) (serve log u)
+abbrev pub drains_on : Trace → Id → Answer → Option Event
+drains_on trace u answer = option_or (after_did trace u answer) (does_next trace u)
 
 -- what follows an event of the opening: a program that has ended is finished, and none is released
-abbrev pub follow_opening : Log → Event → Option Event
-follow_opening log (Began u kind) = serve log u
-follow_opening log (Did u st answer) = drains_on log u answer
-follow_opening log (Ended u end) = after_end log end (kind_of u log)
-follow_opening log (Accepted b) = finishes log b
-follow_opening log e = None
+abbrev pub follow_opening : Trace → Event → Option Event
+follow_opening trace (Began u kind) = does_next trace u
+follow_opening trace (Did u st answer) = drains_on trace u answer
+follow_opening trace (Ended u end) = after_end trace end (kind_of u trace)
+follow_opening trace (Accepted b) = finishes trace b
+follow_opening trace e = None
 
 -- the unfinished programs run to their ends, in order of acceptance
-abbrev pub drains : Log → List Cont → Event
-drains log [] = Ready
-drains log (c ∷ cs) = begins log (Later c.base c.next)
+abbrev pub drains : Trace → List Cont → Event
+drains trace [] = Ready
+drains trace (c ∷ cs) = begins trace (Later c.base c.next)
 
 -- the drain goes on, and comes to its end, where nothing is open
-abbrev pub cuts_or_drains : Log → List Id → Option Event
-cuts_or_drains log (u ∷ us) = Some (Ended u Cut)
-cuts_or_drains log [] = when (is_empty (open_units log)) (drains log (kept log).conts)
+abbrev pub cuts_or_drains : Trace → List Id → Option Event
+cuts_or_drains trace (u ∷ us) = Some (Ended u Cut)
+cuts_or_drains trace [] = then_some (is_empty (open_units trace)) (drains trace (kept trace).conts)
 
 -- the decision in flight stands where the Opened carries the number after the last
-abbrev pub stands_now : Log → ℕ → Option Event → Option Event
-stands_now log n None = None
-stands_now log n (Some decision) = when (n == next_number log) decision
+abbrev pub stands_now : Trace → ℕ → Option Event → Option Event
+stands_now trace n None = None
+stands_now trace n (Some decision) = then_some (n == next_number trace) decision
 
 -- directly after the Opened
-abbrev pub after_opened : Log → ℕ → Option Event → Option Event
-after_opened log n pending = or_else (stands_now log n pending) (cuts_or_drains log (to_cut log))
+abbrev pub after_opened : Trace → ℕ → Option Event → Option Event
+after_opened trace n pending = option_or (stands_now trace n pending) (cuts_or_drains trace (to_cut trace))
 
-abbrev pub opening_event : Log → Event → Option Event
-opening_event log e = or_else (follow_opening log e) (cuts_or_drains log (to_cut log))
+abbrev pub opening_event : Trace → Event → Option Event
+opening_event trace e = option_or (follow_opening trace e) (cuts_or_drains trace (to_cut trace))

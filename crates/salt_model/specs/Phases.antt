@@ -1,5 +1,5 @@
 -- Where a run stands: down, within an opening, or serving.
-use Rattle.salt_model.specs.Log.{Log, from, ◌asks◌, ◌says◌, ◌turns◌}
+use Rattle.salt_model.specs.Trace.{Trace, from, ◌asks◌, ◌says◌, ◌turns◌}
 use Rattle.salt_model.specs.declared.events.Event.TheVariants.{Down, Opened, Ready}
 use Rattle.std.specs.Prelude.{Bool, false, true, ℕ, ◌+◌}
 
@@ -8,28 +8,28 @@ pub data Phase : Type 0 where
   Opening : Phase
   Serving : Phase
 
-abbrev pub phase : Log → Phase
+abbrev pub phase : Trace → Phase
 phase (from k) = Fallen
-phase (log asks asked) = phase log
-phase (log turns b) = phase log
-phase (log says Down why) = Fallen
-phase (log says Opened boot n) = Opening
-phase (log says Ready) = Serving
-phase (log says e) = phase log
+phase (trace asks asked) = phase trace
+phase (trace turns b) = phase trace
+phase (trace says Down why) = Fallen
+phase (trace says Opened boot n) = Opening
+phase (trace says Ready) = Serving
+phase (trace says e) = phase trace
 
 -- the Downs since the last Opened
-abbrev pub downs : Log → ℕ
+abbrev pub downs : Trace → ℕ
 downs (from k) = 0
-downs (log asks asked) = downs log
-downs (log turns b) = downs log
-downs (log says Down why) = downs log + 1
-downs (log says Opened boot n) = 0
-downs (log says e) = downs log
+downs (trace asks asked) = downs trace
+downs (trace turns b) = downs trace
+downs (trace says Down why) = downs trace + 1
+downs (trace says Opened boot n) = 0
+downs (trace says e) = downs trace
 
 -- whether the start has been opened
-abbrev pub has_opened : Log → Bool
+abbrev pub has_opened : Trace → Bool
 has_opened (from k) = false
-has_opened (log asks asked) = has_opened log
-has_opened (log turns b) = has_opened log
-has_opened (log says Opened boot n) = true
-has_opened (log says e) = has_opened log
+has_opened (trace asks asked) = has_opened trace
+has_opened (trace turns b) = has_opened trace
+has_opened (trace says Opened boot n) = true
+has_opened (trace says e) = has_opened trace

@@ -1,4 +1,5 @@
 -- Which events print as what they are: their names are names, their statements and definitions are spelled and pass no limit, and their lists are as printed forms have them.
+use Rattle.salt_values.specs.declared.limits.TheConstants.{PARTS_MOST}
 use Rattle.salt_ast.specs.Limits.{name_passed, statement_limit, table_limit}
 use Rattle.salt_ast.specs.Paths.{blocks}
 use Rattle.salt_ast.specs.ProgramLimits.{program_limit}
@@ -19,13 +20,13 @@ use Rattle.salt_model.specs.declared.events.UnitKind.{UnitKind}
 use Rattle.salt_model.specs.declared.shown.Item.TheVariants as item
 use Rattle.salt_model.specs.declared.shown.Item.{Item}
 use Rattle.salt_ranges.specs.declared.range.KeyRange.{KeyRange}
-use Rattle.salt_tokens.specs.Symbols.{HasRow, name}
+use Rattle.salt_tokens.specs.Symbols.{HasSymbols, name}
 use Rattle.salt_values.specs.declared.id.Id.{Id}
 use Rattle.std.specs.Prelude.{List, None, [], false, is_none, length, ℕ, ⊤, ◌<◌, ◌∷◌, ◌≡◌, ◌≤◌, ◌⊎◌}
 
 -- the bytes are a name, and not too long
 pub record IsName (n : List ℕ) : Type 0 where
-  pub token : HasRow n (name n ∷ [])
+  pub token : HasSymbols n (name n ∷ [])
   pub short : name_passed n ≡ None
 
 -- some text spells the statement, and no limit is passed
@@ -70,7 +71,7 @@ IsPrintableKind (kind.Later b part) = ⊤
 abbrev pub IsPrintableRefusal : Refusal → Type 0
 IsPrintableRefusal (refused.Unknown n) = IsName n ⊎ ((b : Id) × (n ≡ base_text b))
 IsPrintableRefusal (refused.Exists n) = IsName n
-IsPrintableRefusal (refused.Branch part) = (1 ≤ part) × (part ≤ 32)
+IsPrintableRefusal (refused.Branch part) = (1 ≤ part) × (part ≤ PARTS_MOST)
 IsPrintableRefusal r = ⊤
 
 -- a range has both ends, or none

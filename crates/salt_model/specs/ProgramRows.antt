@@ -1,6 +1,6 @@
 -- Worked rows of programs, computed from script to printed lines.
 use Rattle.salt_model.specs.declared.events.Event.{Event}
-use Rattle.salt_model.specs.Log.{story_of}
+use Rattle.salt_model.specs.Trace.{story_of}
 use Rattle.salt_model.specs.Summary.{summary_of}
 use Rattle.salt_ast.specs.Sample.{acct, bal, field, scan, set}
 use Rattle.salt_ast.specs.Trees.{operation}

@@ -1,5 +1,5 @@
 -- What a statement reaches: one range of one table, or nothing.
-use Rattle.salt_ast.specs.Words.{is_same_name}
+use Rattle.salt_tokens.specs.Spelling.{same_bytes}
 use Rattle.salt_ast.specs.declared.trees.Bound.TheVariants.{All, Between, Key}
 use Rattle.salt_ast.specs.declared.trees.Bound.{Bound}
 use Rattle.salt_ast.specs.declared.trees.Expr.{Expr}
@@ -24,7 +24,7 @@ use Rattle.std.specs.Prelude.{Err, List, None, Ok, Option, Result, Some, [], if�
 -- the table of a name, with its number
 abbrev pub table_from : ℕ → List ℕ → List TableDef → Option (ℕ × TableDef)
 table_from n name [] = None
-table_from n name (d ∷ ds) = if is_same_name name d.name then Some (n, d) else table_from (n + 1) name ds
+table_from n name (d ∷ ds) = if same_bytes name d.name then Some (n, d) else table_from (n + 1) name ds
 
 abbrev pub table_named : List ℕ → List TableDef → Option (ℕ × TableDef)
 table_named name schema = table_from 0 name schema

@@ -12,8 +12,8 @@ use Rattle.salt_ast.specs.declared.trees.Op.TheVariants as op
 use Rattle.salt_ast.specs.declared.trees.Statement.TheVariants as statement
 use Rattle.salt_ast.specs.declared.trees.What.TheVariants as what
 use Rattle.salt_model.specs.Computing.{computing}
-use Rattle.salt_model.specs.Log.{Log, Tree, Unread, from, ◌asks◌, ◌says◌}
-use Rattle.salt_model.specs.Played.{May}
+use Rattle.salt_model.specs.Trace.{Trace, Tree, Rejected, from, ◌asks◌, ◌says◌}
+use Rattle.salt_model.specs.Segments.{May}
 use Rattle.salt_model.specs.Refusals.{refusal}
 use Rattle.salt_model.specs.Scripts.{accounts, all_rows, at, bal_at, base, begin, call_transfer, commit, go, insert_acct, insert_into, int}
 use Rattle.salt_model.specs.Kept.{nothing_kept}
@@ -76,10 +76,10 @@ unfolding computing
 refused_printed = refl
 
 -- What a text is refused for is told as it is.
-unread_printed : drop 2 (printed_of (walk_on (Unread refused.Long ∷ Unread refused.Byte ∷ Unread refused.Syntax ∷ []) opened)) ≡
+rejected_printed : drop 2 (printed_of (walk_on (Rejected refused.Long ∷ Rejected refused.Byte ∷ Rejected refused.Syntax ∷ []) opened)) ≡
     codes "refused 1 long" ∷ codes "refused 2 byte" ∷ codes "refused 3 syntax" ∷ []
 unfolding computing
-unread_printed = refl
+rejected_printed = refl
 
 -- A stop can't be armed where the disks can't be stopped.
 unstopped : refusal (completed 9 (from (record { kept = nothing_kept; can_stop = false }) says event.Opened 1 0)) (Tree (line.Crash ((1, 0) ∷ []))) ≡ Some refused.State
@@ -88,7 +88,7 @@ unstopped = refl
 
 -- At most 1,024 programs are under way.
 
-abbrev accepting : ℕ → Log
+abbrev accepting : ℕ → Trace
 accepting zero = walk accounts
 accepting (suc n) = accepting n says event.Accepted (base (suc n))
 
@@ -106,7 +106,7 @@ abbrev unit : ℕ → Id
 unit n = record { boot = 1; seq = n }
 
 -- a reader waits for the program that holds what it asks for
-abbrev asking : Log
+abbrev asking : Trace
 asking = completed 1 (walk (accounts ++ call_transfer 1 1 2 30 ∷ []) asks Tree (at 2 (bal_at 1)))
 
 waits_for_it : May asking (event.Waits (unit 4) (owner.Base (base 1) ∷ []))
@@ -119,7 +119,7 @@ unfolding computing
 wrong_owner h = cc
 
 -- a program that read from an unfinished one finishes, and is not released
-abbrev finishing : Log
+abbrev finishing : Trace
 finishing = completed 4 (walk (accounts ++ at 1 (insert_acct 3 0) ∷ call_transfer 1 1 2 30 ∷ call_transfer 2 1 3 10 ∷ []) asks Tree (go 2))
 
 finished_last : drop 24 (printed_of finishing) ≡ codes "b1.2 finished" ∷ []
@@ -131,7 +131,7 @@ unfolding computing
 too_early h = cc
 
 -- a decision number that is too high
-abbrev committing : Log
+abbrev committing : Trace
 committing = walk (accounts ++ begin 1 ∷ []) asks Tree (commit 1)
 
 commits_next : May committing (event.Ended (unit 3) (end.Committed 5))

@@ -1,9 +1,9 @@
 -- Releases come exactly when they are due, and name exactly the programs that are releasable.
 use Rattle.salt_model.specs.Continuing.{last_said}
-use Rattle.salt_model.specs.Log.{Log}
+use Rattle.salt_model.specs.Trace.{Trace}
 use Rattle.salt_model.specs.Programs.{finished_in, released_in}
 use Rattle.salt_model.specs.Phases.{Phase, Serving, phase}
-use Rattle.salt_model.specs.Played.{Each}
+use Rattle.salt_model.specs.Everywhere.{Each}
 use Rattle.salt_model.specs.Reads.{read_directly, to_release}
 use Rattle.salt_model.specs.Turns.{releases}
 use Rattle.salt_model.specs.Words.{has_id}
@@ -13,28 +13,28 @@ use Rattle.salt_values.specs.declared.id.Id.{Id}
 use Rattle.std.specs.Prelude.{Bool, IsTrue, List, None, Option, Some, [], false, true, ◌↔◌, ◌≡◌}
 
 -- what is released directly after an event, outside an opening, in order of names
-abbrev pub due_after : Phase → Log → Option Event → List Id
-due_after Serving log (Some (Finished b)) = to_release log
-due_after phase log e = []
+abbrev pub due_after : Phase → Trace → Option Event → List Id
+due_after Serving trace (Some (Finished b)) = to_release trace
+due_after phase trace e = []
 
 abbrev pub released_by : Event → Option Event
 released_by (Released bs) = Some (Released bs)
 released_by e = None
 
 -- a Released comes exactly where programs are due, and names them
-abbrev pub ReleasesDue : Log → Event → Type 0
-ReleasesDue log e = releases (due_after (phase log) log (last_said log)) ≡ released_by e
+abbrev pub ReleasesDue : Trace → Event → Type 0
+ReleasesDue trace e = releases (due_after (phase trace) trace (last_said trace)) ≡ released_by e
 
 -- Which programs are due, said without computing.
 
 -- b is c, or reads from it, directly or through programs
-pub data ReadsThrough (log : Log) : Id → Id → Type 0 where
-  itself : {b : Id} → ReadsThrough log b b
-  through : {b c d : Id} → IsTrue (has_id c (read_directly b log)) → ReadsThrough log c d → ReadsThrough log b d
+pub data ReadsThrough (trace : Trace) : Id → Id → Type 0 where
+  itself : {b : Id} → ReadsThrough trace b b
+  through : {b c d : Id} → IsTrue (has_id c (read_directly b trace)) → ReadsThrough trace c d → ReadsThrough trace b d
 
 -- b is finished, and so is every program that it reads from
-abbrev pub IsReleasable : Log → Id → Type 0
-IsReleasable log b = (c : Id) → ReadsThrough log b c → IsTrue (has_id c (finished_in log))
+abbrev pub IsReleasable : Trace → Id → Type 0
+IsReleasable trace b = (c : Id) → ReadsThrough trace b c → IsTrue (has_id c (finished_in trace))
 
 abbrev pub released_names : Event → List Id
 released_names (Released bs) = bs
@@ -46,11 +46,11 @@ is_finish Serving (Some (Finished b)) = true
 is_finish phase e = false
 
 -- directly after it the programs are released that are releasable and not yet released, and no others
-abbrev pub NamesReleasable : Log → Event → Type 0
-NamesReleasable log e =
-    IsTrue (is_finish (phase log) (last_said log)) →
-    (b : Id) → IsTrue (has_id b (released_names e)) ↔ ((has_id b (released_in log) ≡ false) × IsReleasable log b)
+abbrev pub NamesReleasable : Trace → Event → Type 0
+NamesReleasable trace e =
+    IsTrue (is_finish (phase trace) (last_said trace)) →
+    (b : Id) → IsTrue (has_id b (released_names e)) ↔ ((has_id b (released_in trace) ≡ false) × IsReleasable trace b)
 
-pub record ReleasesExactly (log : Log) : Type 0 where
-  pub due : Each ReleasesDue log
-  pub names : Each NamesReleasable log
+pub record ReleasesExactly (trace : Trace) : Type 0 where
+  pub due : Each ReleasesDue trace
+  pub names : Each NamesReleasable trace

@@ -1,5 +1,5 @@
 -- What a statement does, and statements one after another.
-use Rattle.salt_ast.specs.Words.{is_same_name}
+use Rattle.salt_tokens.specs.Spelling.{same_bytes}
 use Rattle.salt_ast.specs.declared.trees.Bound.TheVariants.{All}
 use Rattle.salt_ast.specs.declared.trees.Expr.{Expr}
 use Rattle.salt_ast.specs.declared.trees.Field.{Field}
@@ -25,7 +25,7 @@ use Rattle.salt_values.specs.declared.change.Change.{Change}
 use Rattle.salt_values.specs.declared.value.Value.TheVariants.{Int}
 use Rattle.salt_values.specs.declared.value.Value.{Value}
 use Rattle.std.specs.List.{cons_option, filter}
-use Rattle.std.specs.Prelude.{Bool, Err, List, None, Ok, Option, Result, Some, [], false, if◌then◌else◌, length, map, pos, true, unwrap_or, ℕ, ℤ, ◌++◌, ◌+ℤ◌, ◌∷◌}
+use Rattle.std.specs.Prelude.{Bool, Err, List, None, Ok, Option, Result, Some, [], false, if◌then◌else◌, length, map, option_to_list, pos, true, unwrap_or, ℕ, ℤ, ◌++◌, ◌+ℤ◌, ◌∷◌}
 use Rattle.salt_model.specs.Reaches.{in_row, no_row, range_of, reach, table_for}
 
 -- the answer, the changes, and the variables after
@@ -65,7 +65,7 @@ on_match def vars filter f e = and_then (passes (in_row def e.1 vars) filter) (�
 abbrev pub set_field : List Field → List ℕ → Value → List Value → List Value
 set_field [] c v vs = vs
 set_field (f ∷ fs) c v [] = []
-set_field (f ∷ fs) c v (w ∷ ws) = (if is_same_name c f.name then v else w) ∷ set_field fs c v ws
+set_field (f ∷ fs) c v (w ∷ ws) = (if same_bytes c f.name then v else w) ∷ set_field fs c v ws
 
 -- each set's expression on the old row, in the order written
 abbrev pub with_sets : TableDef → Visible → List Set → List Value → Result (List Value) Cause
@@ -107,7 +107,7 @@ shown def (Max c) rows = Ok (Cell (most_value (map (column_of def c) rows)))
 
 abbrev pub set_var : List ℕ → Value → List Binding → List Binding
 set_var n v [] = []
-set_var n v (b ∷ bs) = if is_same_name n b.name then record { name = n; value = v } ∷ bs else b ∷ set_var n v bs
+set_var n v (b ∷ bs) = if same_bytes n b.name then record { name = n; value = v } ∷ bs else b ∷ set_var n v bs
 
 abbrev pub inserted : ℕ → TableDef → List Binding → List Entry → List Value → Result Done Cause
 inserted t def vars [] row = and_then (checked (in_row def row []) def.checks) (λ b. Ok (record { answer = Count 1; changes = change_to (place t (key_of row)) (Some row) ∷ []; vars = vars }))
@@ -153,17 +153,13 @@ abbrev pub has_failed : Answer → Bool
 has_failed (Failed c) = true
 has_failed a = false
 
-abbrev pub list_of : {A : Type 0} → Option A → List A
-list_of None = []
-list_of (Some x) = x ∷ []
-
 abbrev pub after_done : Run → Option Reach → Done → Run
 after_done r reach d = record {
   answers = r.answers ++ d.answer ∷ [];
   tables = with_changes d.changes r.tables;
   vars = d.vars;
   changes = put_changes d.changes r.changes;
-  reaches = r.reaches ++ list_of reach;
+  reaches = r.reaches ++ option_to_list reach;
 }
 
 abbrev pub doing : List TableDef → Run → Statement → Done

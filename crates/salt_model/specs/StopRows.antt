@@ -1,7 +1,7 @@
 -- Worked rows with stops and faults. Where the run goes down and what each opening finds are given; `next` gives all else.
 use Rattle.salt_ast.specs.declared.lines.Line.TheVariants as line
 use Rattle.salt_model.specs.Computing.{computing}
-use Rattle.salt_model.specs.Log.{Log, Tree, ◌asks◌, ◌says◌}
+use Rattle.salt_model.specs.Trace.{Trace, Tree, ◌asks◌, ◌says◌}
 use Rattle.salt_model.specs.Next.{flight, next}
 use Rattle.salt_model.specs.Scripts.{accounts, at, begin, call_transfer, commit, insert_acct, raise_all}
 use Rattle.salt_model.specs.Walk.{completed, opened, printed_of, walk, walk_on}
@@ -12,11 +12,11 @@ use Rattle.std.specs.Prelude.{None, Some, [], codes, drop, map, refl, ◌++◌, 
 
 -- A commit over two partitions that a stop cuts: the opening finds it undone, or done.
 
-abbrev raised : Log
+abbrev raised : Trace
 raised = walk_on (map Tree (accounts ++ begin 1 ∷ at 1 raise_all ∷ line.Crash ((11, 1) ∷ []) ∷ [])) opened
 
 -- the commit's first event is the next; the stop falls before it
-abbrev cut_short : Log
+abbrev cut_short : Trace
 cut_short = raised asks Tree (commit 1) says event.Down why.Stopped
 
 undone_printed : drop 12 (printed_of (completed 9 (cut_short says event.Opened 2 4))) ≡
@@ -31,13 +31,13 @@ done_printed = refl
 
 -- Two stops: a unit is cut, and the drain begins its part anew.
 
-abbrev before_stop : Log
+abbrev before_stop : Trace
 before_stop = completed 2 (walk (accounts ++ call_transfer 1 1 2 30 ∷ line.Crash ((1, 0) ∷ (9, 0) ∷ []) ∷ []) asks Tree (at 2 (insert_acct 7 1)))
 
-abbrev second_stop : Log
+abbrev second_stop : Trace
 second_stop = completed 3 (before_stop says event.Down why.Stopped says event.Opened 2 5)
 
-abbrev drained : Log
+abbrev drained : Trace
 drained = completed 40 (second_stop says event.Down why.Stopped says event.Opened 3 5)
 
 drained_printed : drop 14 (printed_of drained) ≡

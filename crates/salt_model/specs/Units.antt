@@ -1,5 +1,6 @@
 -- Units: who is open, runs or waits, for whom, and what it has done.
-use Rattle.salt_ast.specs.Words.{or_else, when}
+use Rattle.std.specs.Bool.{then_some}
+use Rattle.std.specs.Option.{option_or}
 use Rattle.salt_ast.specs.declared.lines.Line.TheVariants.{Nothing}
 use Rattle.salt_ast.specs.declared.lines.Line.{Line}
 use Rattle.salt_ast.specs.declared.trees.Statement.{Statement}
@@ -14,7 +15,7 @@ use Rattle.salt_values.specs.Id.{is_same_id}
 use Rattle.salt_values.specs.declared.id.Id.{Id}
 use Rattle.std.specs.List.{filter}
 use Rattle.std.specs.Prelude.{Bool, List, None, Option, Some, [], false, if◌then◌else◌, option_and_then, true, ℕ, ◌++◌, ◌+◌, ◌==◌, ◌∷◌}
-use Rattle.salt_model.specs.Log.{Log, from, line_of, ◌asks◌, ◌says◌, ◌turns◌}
+use Rattle.salt_model.specs.Trace.{Trace, from, line_of, ◌asks◌, ◌says◌, ◌turns◌}
 
 -- where a unit stands: it is open while it runs or waits
 pub data Standing : Type 0 where
@@ -30,11 +31,11 @@ standing_after u (Waits v owners) s = if is_same_id u v then Waiting else s
 standing_after u (Ended v end) s = if is_same_id u v then Over end else s
 standing_after u e s = s
 
-abbrev pub standing : Id → Log → Standing
+abbrev pub standing : Id → Trace → Standing
 standing u (from k) = Never
-standing u (log asks asked) = standing u log
-standing u (log turns b) = standing u log
-standing u (log says e) = standing_after u e (standing u log)
+standing u (trace asks asked) = standing u trace
+standing u (trace turns b) = standing u trace
+standing u (trace says e) = standing_after u e (standing u trace)
 
 abbrev pub is_open_standing : Standing → Bool
 is_open_standing Running = true
@@ -45,59 +46,59 @@ abbrev pub is_waiting_standing : Standing → Bool
 is_waiting_standing Waiting = true
 is_waiting_standing s = false
 
-abbrev pub is_open : Log → Id → Bool
-is_open log u = is_open_standing (standing u log)
+abbrev pub is_open : Trace → Id → Bool
+is_open trace u = is_open_standing (standing u trace)
 
-abbrev pub is_waiting : Log → Id → Bool
-is_waiting log u = is_waiting_standing (standing u log)
+abbrev pub is_waiting : Trace → Id → Bool
+is_waiting trace u = is_waiting_standing (standing u trace)
 
 abbrev pub kind_begun : Id → Event → Option UnitKind
-kind_begun u (Began v kind) = when (is_same_id u v) kind
+kind_begun u (Began v kind) = then_some (is_same_id u v) kind
 kind_begun u e = None
 
 -- the kind of a unit, by its Began
-abbrev pub kind_of : Id → Log → Option UnitKind
+abbrev pub kind_of : Id → Trace → Option UnitKind
 kind_of u (from k) = None
-kind_of u (log asks asked) = kind_of u log
-kind_of u (log turns b) = kind_of u log
-kind_of u (log says e) = or_else (kind_begun u e) (kind_of u log)
+kind_of u (trace asks asked) = kind_of u trace
+kind_of u (trace turns b) = kind_of u trace
+kind_of u (trace says e) = option_or (kind_begun u e) (kind_of u trace)
 
 -- the units, in the order of their Began
-abbrev pub units_begun : Log → List Id
+abbrev pub units_begun : Trace → List Id
 units_begun (from k) = []
-units_begun (log asks asked) = units_begun log
-units_begun (log turns b) = units_begun log
-units_begun (log says Began u kind) = units_begun log ++ u ∷ []
-units_begun (log says e) = units_begun log
+units_begun (trace asks asked) = units_begun trace
+units_begun (trace turns b) = units_begun trace
+units_begun (trace says Began u kind) = units_begun trace ++ u ∷ []
+units_begun (trace says e) = units_begun trace
 
-abbrev pub open_units : Log → List Id
-open_units log = filter (is_open log) (units_begun log)
+abbrev pub open_units : Trace → List Id
+open_units trace = filter (is_open trace) (units_begun trace)
 
 -- the history: the ended units, in the order of their ends
-abbrev pub history_of : Log → List Id
+abbrev pub history_of : Trace → List Id
 history_of (from k) = []
-history_of (log asks asked) = history_of log
-history_of (log turns b) = history_of log
-history_of (log says Ended u end) = history_of log ++ u ∷ []
-history_of (log says e) = history_of log
+history_of (trace asks asked) = history_of trace
+history_of (trace turns b) = history_of trace
+history_of (trace says Ended u end) = history_of trace ++ u ∷ []
+history_of (trace says e) = history_of trace
 
 -- the statements that a unit has done since its Began, in order
-abbrev pub done_of : Id → Log → List Statement
+abbrev pub done_of : Id → Trace → List Statement
 done_of u (from k) = []
-done_of u (log asks asked) = done_of u log
-done_of u (log turns b) = done_of u log
-done_of u (log says Began v kind) = if is_same_id u v then [] else done_of u log
-done_of u (log says Did v st answer) = if is_same_id u v then done_of u log ++ st ∷ [] else done_of u log
-done_of u (log says e) = done_of u log
+done_of u (trace asks asked) = done_of u trace
+done_of u (trace turns b) = done_of u trace
+done_of u (trace says Began v kind) = if is_same_id u v then [] else done_of u trace
+done_of u (trace says Did v st answer) = if is_same_id u v then done_of u trace ++ st ∷ [] else done_of u trace
+done_of u (trace says e) = done_of u trace
 
 -- its printed answers
-abbrev pub answers_of : Id → Log → List Answer
+abbrev pub answers_of : Id → Trace → List Answer
 answers_of u (from k) = []
-answers_of u (log asks asked) = answers_of u log
-answers_of u (log turns b) = answers_of u log
-answers_of u (log says Began v kind) = if is_same_id u v then [] else answers_of u log
-answers_of u (log says Did v st answer) = if is_same_id u v then answers_of u log ++ answer ∷ [] else answers_of u log
-answers_of u (log says e) = answers_of u log
+answers_of u (trace asks asked) = answers_of u trace
+answers_of u (trace turns b) = answers_of u trace
+answers_of u (trace says Began v kind) = if is_same_id u v then [] else answers_of u trace
+answers_of u (trace says Did v st answer) = if is_same_id u v then answers_of u trace ++ answer ∷ [] else answers_of u trace
+answers_of u (trace says e) = answers_of u trace
 
 abbrev pub program_of_kind : UnitKind → Option Id
 program_of_kind (First s b n args) = Some b
@@ -105,11 +106,11 @@ program_of_kind (Later b part) = Some b
 program_of_kind kind = None
 
 -- the program of a subtransaction; an ACID unit has none
-abbrev pub program_of : Id → Log → Option Id
-program_of u log = option_and_then program_of_kind (kind_of u log)
+abbrev pub program_of : Id → Trace → Option Id
+program_of u trace = option_and_then program_of_kind (kind_of u trace)
 
-abbrev pub is_of_program : Id → Log → Id → Bool
-is_of_program b log u = elim (program_of u log) [ None ↦ false | Some c ↦ is_same_id b c ]
+abbrev pub is_of_program : Id → Trace → Id → Bool
+is_of_program b trace u = elim (program_of u trace) [ None ↦ false | Some c ↦ is_same_id b c ]
 
 abbrev pub session_of_kind : UnitKind → Option ℕ
 session_of_kind (Acid s) = Some s
@@ -117,59 +118,59 @@ session_of_kind (Call s n args) = Some s
 session_of_kind (First s b n args) = Some s
 session_of_kind (Later b part) = None
 
-abbrev pub is_of_session : ℕ → Log → Id → Bool
-is_of_session s log u = elim (option_and_then session_of_kind (kind_of u log)) [ None ↦ false | Some t ↦ s == t ]
+abbrev pub is_of_session : ℕ → Trace → Id → Bool
+is_of_session s trace u = elim (option_and_then session_of_kind (kind_of u trace)) [ None ↦ false | Some t ↦ s == t ]
 
 -- the open unit of a session, and of a program
-abbrev pub session_unit : ℕ → Log → Option Id
-session_unit s log = first_of_list (filter (is_of_session s log) (open_units log))
+abbrev pub session_unit : ℕ → Trace → Option Id
+session_unit s trace = first_of_list (filter (is_of_session s trace) (open_units trace))
 
-abbrev pub program_unit : Id → Log → Option Id
-program_unit b log = first_of_list (filter (is_of_program b log) (open_units log))
+abbrev pub program_unit : Id → Trace → Option Id
+program_unit b trace = first_of_list (filter (is_of_program b trace) (open_units trace))
 
 -- the line in whose segment the unit's Began stands
-abbrev pub line_begun : Id → Log → Line
+abbrev pub line_begun : Id → Trace → Line
 line_begun u (from k) = Nothing
-line_begun u (log asks asked) = line_begun u log
-line_begun u (log turns b) = line_begun u log
-line_begun u (log says Began v kind) = if is_same_id u v then line_of log else line_begun u log
-line_begun u (log says e) = line_begun u log
+line_begun u (trace asks asked) = line_begun u trace
+line_begun u (trace turns b) = line_begun u trace
+line_begun u (trace says Began v kind) = if is_same_id u v then line_of trace else line_begun u trace
+line_begun u (trace says e) = line_begun u trace
 
 -- the line in whose segment its last Waits stands
-abbrev pub line_waited : Id → Log → Line
+abbrev pub line_waited : Id → Trace → Line
 line_waited u (from k) = Nothing
-line_waited u (log asks asked) = line_waited u log
-line_waited u (log turns b) = line_waited u log
-line_waited u (log says Waits v owners) = if is_same_id u v then line_of log else line_waited u log
-line_waited u (log says e) = line_waited u log
+line_waited u (trace asks asked) = line_waited u trace
+line_waited u (trace turns b) = line_waited u trace
+line_waited u (trace says Waits v owners) = if is_same_id u v then line_of trace else line_waited u trace
+line_waited u (trace says e) = line_waited u trace
 
 -- the waiting units, the longest first
-abbrev pub wait_list : Log → List Id
+abbrev pub wait_list : Trace → List Id
 wait_list (from k) = []
-wait_list (log asks asked) = wait_list log
-wait_list (log turns b) = wait_list log
-wait_list (log says Waits u owners) = without (u ∷ []) (wait_list log) ++ u ∷ []
-wait_list (log says Did u st answer) = without (u ∷ []) (wait_list log)
-wait_list (log says Ended u end) = without (u ∷ []) (wait_list log)
-wait_list (log says e) = wait_list log
+wait_list (trace asks asked) = wait_list trace
+wait_list (trace turns b) = wait_list trace
+wait_list (trace says Waits u owners) = without (u ∷ []) (wait_list trace) ++ u ∷ []
+wait_list (trace says Did u st answer) = without (u ∷ []) (wait_list trace)
+wait_list (trace says Ended u end) = without (u ∷ []) (wait_list trace)
+wait_list (trace says e) = wait_list trace
 
 -- units and programs are numbered from 1 in each boot
-abbrev pub unit_count : Log → ℕ
+abbrev pub unit_count : Trace → ℕ
 unit_count (from k) = 0
-unit_count (log asks asked) = unit_count log
-unit_count (log turns b) = unit_count log
-unit_count (log says Began u kind) = unit_count log + 1
-unit_count (log says Opened boot n) = 0
-unit_count (log says e) = unit_count log
+unit_count (trace asks asked) = unit_count trace
+unit_count (trace turns b) = unit_count trace
+unit_count (trace says Began u kind) = unit_count trace + 1
+unit_count (trace says Opened boot n) = 0
+unit_count (trace says e) = unit_count trace
 
 abbrev pub is_first : UnitKind → Bool
 is_first (First s b n args) = true
 is_first kind = false
 
-abbrev pub base_count : Log → ℕ
+abbrev pub base_count : Trace → ℕ
 base_count (from k) = 0
-base_count (log asks asked) = base_count log
-base_count (log turns b) = base_count log
-base_count (log says Began u kind) = if is_first kind then base_count log + 1 else base_count log
-base_count (log says Opened boot n) = 0
-base_count (log says e) = base_count log
+base_count (trace asks asked) = base_count trace
+base_count (trace turns b) = base_count trace
+base_count (trace says Began u kind) = if is_first kind then base_count trace + 1 else base_count trace
+base_count (trace says Opened boot n) = 0
+base_count (trace says e) = base_count trace

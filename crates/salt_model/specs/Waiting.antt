@@ -1,5 +1,5 @@
 -- Turns: which statement a unit asks for. Who waits for whom, and the victim.
-use Rattle.salt_ast.specs.Words.{or_else}
+use Rattle.std.specs.Option.{option_or}
 use Rattle.salt_ast.specs.declared.lines.Act.TheVariants.{Do}
 use Rattle.salt_ast.specs.declared.lines.Act.{Act}
 use Rattle.salt_ast.specs.declared.lines.Line.TheVariants.{Session}
@@ -8,7 +8,7 @@ use Rattle.salt_ast.specs.declared.trees.Statement.{Statement}
 use Rattle.salt_model.specs.After.{kept}
 use Rattle.salt_model.specs.Kept.{block_of_kind}
 use Rattle.salt_model.specs.Locks.{clashing}
-use Rattle.salt_model.specs.Log.{Log, line_of}
+use Rattle.salt_model.specs.Trace.{Trace, line_of}
 use Rattle.salt_model.specs.Units.{Standing, Waiting, done_of, is_of_program, kind_of, line_waited, program_of, standing, wait_list}
 use Rattle.salt_model.specs.Reads.{is_finished, sources}
 use Rattle.salt_model.specs.Words.{greatest, has_id, in_order, is_empty}
@@ -29,35 +29,35 @@ statement_of_line (Session s act) = statement_of_act act
 statement_of_line line = None
 
 -- the line whose statement a session's unit asks for: that of its Waits, or this one
-abbrev pub asking_line : Id → Log → Standing → Line
-asking_line u log Waiting = line_waited u log
-asking_line u log s = line_of log
+abbrev pub asking_line : Id → Trace → Standing → Line
+asking_line u trace Waiting = line_waited u trace
+asking_line u trace s = line_of trace
 
 -- the statement after those done, of a block; without a block, that of the line
-abbrev pub statement_in : Id → Log → Option (List Statement) → Option Statement
-statement_in u log (Some block) = slice_get block (length (done_of u log))
-statement_in u log None = statement_of_line (asking_line u log (standing u log))
+abbrev pub statement_in : Id → Trace → Option (List Statement) → Option Statement
+statement_in u trace (Some block) = slice_get block (length (done_of u trace))
+statement_in u trace None = statement_of_line (asking_line u trace (standing u trace))
 
-abbrev pub block_of : Id → Log → Option (List Statement)
-block_of u log = option_and_then (block_of_kind (kept log)) (kind_of u log)
+abbrev pub block_of : Id → Trace → Option (List Statement)
+block_of u trace = option_and_then (block_of_kind (kept trace)) (kind_of u trace)
 
 -- the statement that an open unit asks for
-abbrev pub asked_by : Id → Log → Option Statement
-asked_by u log = statement_in u log (block_of u log)
+abbrev pub asked_by : Id → Trace → Option Statement
+asked_by u trace = statement_in u trace (block_of u trace)
 
-abbrev pub clashing_now : Log → Id → List Owner
-clashing_now log u = elim (asked_by u log) [ None ↦ [] | Some st ↦ clashing log u st ]
+abbrev pub clashing_now : Trace → Id → List Owner
+clashing_now trace u = elim (asked_by u trace) [ None ↦ [] | Some st ↦ clashing trace u st ]
 
-abbrev pub is_waiting_for : Log → Id → Id → Bool
-is_waiting_for log b u = is_of_program b log u
+abbrev pub is_waiting_for : Trace → Id → Id → Bool
+is_waiting_for trace b u = is_of_program b trace u
 
 -- the waiting subtransactions of the unfinished programs among these
-abbrev pub waiting_of : Log → List Id → List Id
-waiting_of log bs = filter (λ u. list_any (λ b. not (is_finished log b) && is_of_program b log u) bs) (wait_list log)
+abbrev pub waiting_of : Trace → List Id → List Id
+waiting_of trace bs = filter (λ u. list_any (λ b. not (is_finished trace b) && is_of_program b trace u) bs) (wait_list trace)
 
-abbrev pub edges_to : Log → Owner → List Id
-edges_to log (Unit v) = v ∷ []
-edges_to log (Base c) = waiting_of log (sources log c)
+abbrev pub edges_to : Trace → Owner → List Id
+edges_to trace (Unit v) = v ∷ []
+edges_to trace (Base c) = waiting_of trace (sources trace c)
 
 -- a waiting unit and the units that it waits for
 pub record WaitUnit : Type 0 where
@@ -65,15 +65,15 @@ pub record WaitUnit : Type 0 where
   pub acid : Bool
   pub edges : List Id
 
-abbrev pub is_acid : Log → Id → Bool
-is_acid log u = is_none (program_of u log)
+abbrev pub is_acid : Trace → Id → Bool
+is_acid trace u = is_none (program_of u trace)
 
-abbrev pub wait_unit : Log → Id → WaitUnit
-wait_unit log u = record { unit = u; acid = is_acid log u; edges = flat_map (edges_to log) (clashing_now log u) }
+abbrev pub wait_unit : Trace → Id → WaitUnit
+wait_unit trace u = record { unit = u; acid = is_acid trace u; edges = flat_map (edges_to trace) (clashing_now trace u) }
 
 -- the graph of the waiting units
-abbrev pub wait_graph : Log → List WaitUnit
-wait_graph log = map (wait_unit log) (wait_list log)
+abbrev pub wait_graph : Trace → List WaitUnit
+wait_graph trace = map (wait_unit trace) (wait_list trace)
 
 abbrev pub edges_in : List WaitUnit → Id → List Id
 edges_in [] u = []
@@ -94,11 +94,11 @@ names_of ws = map (λ w. w.unit) ws
 abbrev pub victim_of : List WaitUnit → Option Id
 victim_of graph =
     let on = filter (is_on_cycle graph) graph in
-    or_else (greatest (names_of (filter (λ w. w.acid) on))) (greatest (names_of on))
+    option_or (greatest (names_of (filter (λ w. w.acid) on))) (greatest (names_of on))
 
-abbrev pub victim : Log → Option Id
-victim log = victim_of (wait_graph log)
+abbrev pub victim : Trace → Option Id
+victim trace = victim_of (wait_graph trace)
 
 -- the longest waiting unit whose statement no longer clashes
-abbrev pub next_served : Log → Option Id
-next_served log = find (λ u. is_empty (clashing_now log u)) (wait_list log)
+abbrev pub next_unblocked : Trace → Option Id
+next_unblocked trace = find (λ u. is_empty (clashing_now trace u)) (wait_list trace)

@@ -11,34 +11,34 @@ use Rattle.salt_parse.specs.Reading.{after, at_operator, is_same, next_operator,
 use Rattle.salt_parse.proofs.Loop.{after_is}
 use Rattle.salt_parse.proofs.Trees.{TreeReader, atom_of, colon_of, comparison_of, conjunction_of, expression_of, left_of, minus_of, negation_of, nots_of, once_of, paren_of, product_of, second_of, sum_of, tail_of, within_of}
 use Rattle.salt_tokens.specs.Scanning.{◌>>=◌}
-use Rattle.salt_tokens.specs.Symbols.{Row, Symbol, int, key, name, sign, text}
+use Rattle.salt_tokens.specs.Symbols.{Symbols, Symbol, int, key, name, sign, text}
 use Rattle.salt_tokens.specs.declared.keyword.Keyword.{Keyword}
 use Rattle.salt_tokens.specs.declared.keyword.Keyword.TheVariants as word
 use Rattle.salt_tokens.specs.declared.sign.Sign.TheVariants as mark
 
 -- one step, by what the next token stands for
-pub tail_step : (level : ℕ) (operand : TreeReader Expr) (n : ℕ) (l : Expr) (rest rest1 : Row) (o : Op) → next_operator level rest ≡ (Some o, rest1) → (length rest ≡ suc (length rest1)) × (tail_of level operand (suc n) l rest ≡ (operand rest1 >>= λ x. tail_of level operand n (operation o l x.0) x.1))
+pub tail_step : (level : ℕ) (operand : TreeReader Expr) (n : ℕ) (l : Expr) (rest rest1 : Symbols) (o : Op) → next_operator level rest ≡ (Some o, rest1) → (length rest ≡ suc (length rest1)) × (tail_of level operand (suc n) l rest ≡ (operand rest1 >>= λ x. tail_of level operand n (operation o l x.0) x.1))
 unfolding tail_of
-tail_step level operand n l [] rest1 o h = absurd (cc (ap (λ (p : Option Op × Row). p.0) h))
+tail_step level operand n l [] rest1 o h = absurd (cc (ap (λ (p : Option Op × Symbols). p.0) h))
 tail_step level operand n l (t ∷ ts) rest1 o h = go (of_level level (operator t)) h
   where
-    go : (q : Option Op) → at_operator {A = Option Op × Row} q (None, t ∷ ts) (λ o. (Some o, ts)) ≡ (Some o, rest1) → (suc (length ts) ≡ suc (length rest1)) × (at_operator q (Some (l, t ∷ ts)) (λ o. operand ts >>= λ x. tail_of level operand n (operation o l x.0) x.1) ≡ (operand rest1 >>= λ x. tail_of level operand n (operation o l x.0) x.1))
-    go None e = absurd (cc (ap (λ (p : Option Op × Row). p.0) e))
+    go : (q : Option Op) → at_operator {A = Option Op × Symbols} q (None, t ∷ ts) (λ o. (Some o, ts)) ≡ (Some o, rest1) → (suc (length ts) ≡ suc (length rest1)) × (at_operator q (Some (l, t ∷ ts)) (λ o. operand ts >>= λ x. tail_of level operand n (operation o l x.0) x.1) ≡ (operand rest1 >>= λ x. tail_of level operand n (operation o l x.0) x.1))
+    go None e = absurd (cc (ap (λ (p : Option Op × Symbols). p.0) e))
     go (Some p) e =
-        let same : ts ≡ rest1 = ap (λ (p : Option Op × Row). p.1) e in
-        let the_op : p ≡ o = cc (ap (λ (p : Option Op × Row). p.0) e) in
-        (ap (λ (x : Row). suc (length x)) same, rw (the_op, same) refl)
+        let same : ts ≡ rest1 = ap (λ (p : Option Op × Symbols). p.1) e in
+        let the_op : p ≡ o = cc (ap (λ (p : Option Op × Symbols). p.0) e) in
+        (ap (λ (x : Symbols). suc (length x)) same, rw (the_op, same) refl)
 
-pub tail_stop : (level : ℕ) (operand : TreeReader Expr) (n : ℕ) (l : Expr) (rest rest1 : Row) → next_operator level rest ≡ (None, rest1) → tail_of level operand (suc n) l rest ≡ Some (l, rest1)
+pub tail_stop : (level : ℕ) (operand : TreeReader Expr) (n : ℕ) (l : Expr) (rest rest1 : Symbols) → next_operator level rest ≡ (None, rest1) → tail_of level operand (suc n) l rest ≡ Some (l, rest1)
 unfolding tail_of
-tail_stop level operand n l [] rest1 h = ap (λ (p : Option Op × Row). Some (l, p.1)) h
+tail_stop level operand n l [] rest1 h = ap (λ (p : Option Op × Symbols). Some (l, p.1)) h
 tail_stop level operand n l (t ∷ ts) rest1 h = go (of_level level (operator t)) h
   where
-    go : (q : Option Op) → at_operator {A = Option Op × Row} q (None, t ∷ ts) (λ o. (Some o, ts)) ≡ (None, rest1) → at_operator q (Some (l, t ∷ ts)) (λ o. operand ts >>= λ x. tail_of level operand n (operation o l x.0) x.1) ≡ Some (l, rest1)
-    go None e = ap (λ (p : Option Op × Row). Some (l, p.1)) e
-    go (Some p) e = absurd (cc (ap (λ (p : Option Op × Row). p.0) e))
+    go : (q : Option Op) → at_operator {A = Option Op × Symbols} q (None, t ∷ ts) (λ o. (Some o, ts)) ≡ (None, rest1) → at_operator q (Some (l, t ∷ ts)) (λ o. operand ts >>= λ x. tail_of level operand n (operation o l x.0) x.1) ≡ Some (l, rest1)
+    go None e = ap (λ (p : Option Op × Symbols). Some (l, p.1)) e
+    go (Some p) e = absurd (cc (ap (λ (p : Option Op × Symbols). p.0) e))
 
-pub nots_stop : (operand : TreeReader Expr) (ts : Row) → after (key word.Not) ts ≡ None → nots_of operand ts ≡ operand ts
+pub nots_stop : (operand : TreeReader Expr) (ts : Symbols) → after (key word.Not) ts ≡ None → nots_of operand ts ≡ operand ts
 unfolding nots_of after
 nots_stop operand [] h = refl
 nots_stop operand (key word.Not ∷ ts) h = absurd cc
@@ -56,23 +56,23 @@ pub some_is : {A : Type 0} (x y : A) → found x ≡ found y → x ≡ y
 some_is x y e = cc
 
 -- the same tree under another name
-at_tree : (G : Row → Expr → Type 0) (front : Row) (x y : Expr × Row) → x ≡ y → G front x.0 → G front y.0
-at_tree G front x y e g = subst (λ (z : Expr × Row). G front z.0) e g
+at_tree : (G : Symbols → Expr → Type 0) (front : Symbols) (x y : Expr × Symbols) → x ≡ y → G front x.0 → G front y.0
+at_tree G front x y e g = subst (λ (z : Expr × Symbols). G front z.0) e g
 
 -- what is read is spelled so
-abbrev pub Sound : (Row → Expr → Type 0) → TreeReader Expr → Type 0
-Sound G read = (ts : Row) (e : Expr) (rest : Row) → read ts ≡ Some (e, rest) → (front : Row) × (ts ≡ front ++ rest) × G front e
+abbrev pub Sound : (Symbols → Expr → Type 0) → TreeReader Expr → Type 0
+Sound G read = (ts : Symbols) (e : Expr) (rest : Symbols) → read ts ≡ Some (e, rest) → (front : Symbols) × (ts ≡ front ++ rest) × G front e
 
 -- no operation that binds as tightly as this comes next
-abbrev pub Stops : ℕ → Row → Type 0
+abbrev pub Stops : ℕ → Symbols → Type 0
 Stops level [] = Unit {0}
 Stops level (t ∷ ts) = (o : Op) → operator t ≡ Some o → precedence o < level
 
 -- what is spelled so is read
-abbrev pub Complete : ℕ → (Row → Expr → Type 0) → TreeReader Expr → Type 0
-Complete level G read = (ts rest : Row) (e : Expr) → G ts e → Stops level rest → read (ts ++ rest) ≡ Some (e, rest)
+abbrev pub Complete : ℕ → (Symbols → Expr → Type 0) → TreeReader Expr → Type 0
+Complete level G read = (ts rest : Symbols) (e : Expr) → G ts e → Stops level rest → read (ts ++ rest) ≡ Some (e, rest)
 
-pub Stops-weaker : (k n : ℕ) (ts : Row) → k ≤ n → Stops k ts → Stops n ts
+pub Stops-weaker : (k n : ℕ) (ts : Symbols) → k ≤ n → Stops k ts → Stops n ts
 Stops-weaker k n [] le h = tt
 Stops-weaker k n (t ∷ ts) le h = λ o e. omega (arith, h o e)
 
@@ -96,41 +96,41 @@ of_level-is level (Some p) o h = go (eqb (precedence p) level) refl h
     go true e k = let same : p ≡ o = cc k in (k, rw (← same) (eqb-true (precedence p) level e))
     go false e k = absurd cc
 
-next-at : (level : ℕ) (t : Symbol) (ts : Row) (o : Op) → operator t ≡ Some o → precedence o ≡ level → next_operator level (t ∷ ts) ≡ (Some o, ts)
+next-at : (level : ℕ) (t : Symbol) (ts : Symbols) (o : Op) → operator t ≡ Some o → precedence o ≡ level → next_operator level (t ∷ ts) ≡ (Some o, ts)
 next-at level t ts o e lv =
     let h : of_level level (operator t) ≡ Some o = ap (of_level level) e ∙ of_level-at level o lv in
-    ap (λ (q : Option Op). at_operator {A = Option Op × Row} q (None, t ∷ ts) (λ o. (Some o, ts))) h
+    ap (λ (q : Option Op). at_operator {A = Option Op × Symbols} q (None, t ∷ ts) (λ o. (Some o, ts))) h
 
-next-stops : (level : ℕ) (ts : Row) → Stops level ts → next_operator level ts ≡ (None, ts)
+next-stops : (level : ℕ) (ts : Symbols) → Stops level ts → next_operator level ts ≡ (None, ts)
 next-stops level [] h = refl
-next-stops level (t ∷ ts) h = ap (λ (q : Option Op). at_operator {A = Option Op × Row} q (None, t ∷ ts) (λ o. (Some o, ts))) (of_level-below level (operator t) h)
+next-stops level (t ∷ ts) h = ap (λ (q : Option Op). at_operator {A = Option Op × Symbols} q (None, t ∷ ts) (λ o. (Some o, ts))) (of_level-below level (operator t) h)
 
-second_stops : (level : ℕ) (read : TreeReader Expr) (l : Expr) (ts : Row) → Stops level ts → second_of level read l ts ≡ Some (l, ts)
+second_stops : (level : ℕ) (read : TreeReader Expr) (l : Expr) (ts : Symbols) → Stops level ts → second_of level read l ts ≡ Some (l, ts)
 second_stops level read l [] h = refl
 second_stops level read l (t ∷ ts) h = rw (of_level-below level (operator t) h) refl
 
 -- ---- operands grouped to the left
 
-module _ (level : ℕ) (G : Row → Expr → Type 0) (read : TreeReader Expr) (sound : Sound G read) where
-  shrinks : (ts : Row) (e : Expr) (rest : Row) → read ts ≡ Some (e, rest) → length rest ≤ length ts
+module _ (level : ℕ) (G : Symbols → Expr → Type 0) (read : TreeReader Expr) (sound : Sound G read) where
+  shrinks : (ts : Symbols) (e : Expr) (rest : Symbols) → read ts ≡ Some (e, rest) → length rest ≤ length ts
   shrinks ts e rest h =
       let s = sound ts e rest h in
       omega (arith, length-append s.0 rest, ap length s.1)
 
   -- more fuel than tokens is enough
-  tail_enough : (n m : ℕ) (l : Expr) (ts : Row) → length ts < n → length ts < m → tail_of level read n l ts ≡ tail_of level read m l ts
+  tail_enough : (n m : ℕ) (l : Expr) (ts : Symbols) → length ts < n → length ts < m → tail_of level read n l ts ≡ tail_of level read m l ts
   unfolding tail_of
   tail_enough zero m l ts a b = absurd (omega arith)
   tail_enough (suc n) zero l ts a b = absurd (omega arith)
   tail_enough (suc n) (suc m) l [] a b = refl
   tail_enough (suc n) (suc m) l (t ∷ ts) a b = go (of_level level (operator t)) (read ts) refl (λ l' ts' p q. tail_enough n m l' ts' p q)
     where
-      go : (q : Option Op) (r : Option (Expr × Row)) → read ts ≡ r → ((l' : Expr) (ts' : Row) → length ts' < n → length ts' < m → tail_of level read n l' ts' ≡ tail_of level read m l' ts') → at_operator q (Some (l, t ∷ ts)) (λ o. r >>= λ x. tail_of level read n (operation o l x.0) x.1) ≡ at_operator q (Some (l, t ∷ ts)) (λ o. r >>= λ x. tail_of level read m (operation o l x.0) x.1)
+      go : (q : Option Op) (r : Option (Expr × Symbols)) → read ts ≡ r → ((l' : Expr) (ts' : Symbols) → length ts' < n → length ts' < m → tail_of level read n l' ts' ≡ tail_of level read m l' ts') → at_operator q (Some (l, t ∷ ts)) (λ o. r >>= λ x. tail_of level read n (operation o l x.0) x.1) ≡ at_operator q (Some (l, t ∷ ts)) (λ o. r >>= λ x. tail_of level read m (operation o l x.0) x.1)
       go None r e ih = refl
       go (Some o) None e ih = refl
       go (Some o) (Some x) e ih = let le = shrinks ts x.0 x.1 e in ih (operation o l x.0) x.1 (omega arith) (omega arith)
 
-  left_continues : Complete (suc level) G read → {ts : Row} {e : Expr} (rest : Row) → Left level G ts e → Stops (suc level) rest → left_of level read (ts ++ rest) ≡ tail_of level read (suc (length rest)) e rest
+  left_continues : Complete (suc level) G read → {ts : Symbols} {e : Expr} (rest : Symbols) → Left level G ts e → Stops (suc level) rest → left_of level read (ts ++ rest) ≡ tail_of level read (suc (length rest)) e rest
   unfolding left_of
   left_continues c {ts} {e} rest (one g) st = rw (c ts rest e g st) refl
   left_continues c rest (more {a = a} {b = b} {o = o} {l = l} {r = r} d t eq lv g) st =
@@ -147,26 +147,26 @@ module _ (level : ℕ) (G : Row → Expr → Type 0) (read : TreeReader Expr) (s
   left_complete c ts rest e d st =
       left_continues c rest d (Stops-weaker level (suc level) rest (omega arith) st) ∙ tail_stop level read (length rest) e rest rest (next-stops level rest st)
 
-  tail_sound : (n : ℕ) (front : Row) (l : Expr) (ts : Row) (e : Expr) (rest : Row) → Left level G front l → tail_of level read n l ts ≡ Some (e, rest) → (more : Row) × (ts ≡ more ++ rest) × Left level G (front ++ more) e
+  tail_sound : (n : ℕ) (front : Symbols) (l : Expr) (ts : Symbols) (e : Expr) (rest : Symbols) → Left level G front l → tail_of level read n l ts ≡ Some (e, rest) → (more : Symbols) × (ts ≡ more ++ rest) × Left level G (front ++ more) e
   unfolding tail_of
   tail_sound zero front l ts e rest d h = absurd cc
   tail_sound (suc n) front l [] e rest d h =
       let p = some_is (l, []) (e, rest) h in
-      let same : l ≡ e = ap (λ (x : Expr × Row). x.0) p in
-      ([], ap (λ (x : Expr × Row). x.1) p, rw (append-nil front, ← same) d)
+      let same : l ≡ e = ap (λ (x : Expr × Symbols). x.0) p in
+      ([], ap (λ (x : Expr × Symbols). x.1) p, rw (append-nil front, ← same) d)
   tail_sound (suc n) front l (t ∷ ts) e rest d h = go (of_level level (operator t)) refl (λ front' l' ts' d' h'. tail_sound n front' l' ts' e rest d' h') h
     where
-      go : (q : Option Op) → of_level level (operator t) ≡ q → ((front' : Row) (l' : Expr) (ts' : Row) → Left level G front' l' → tail_of level read n l' ts' ≡ Some (e, rest) → (more : Row) × (ts' ≡ more ++ rest) × Left level G (front' ++ more) e) → at_operator q (Some (l, t ∷ ts)) (λ o. read ts >>= λ x. tail_of level read n (operation o l x.0) x.1) ≡ Some (e, rest) → (more : Row) × (t ∷ ts ≡ more ++ rest) × Left level G (front ++ more) e
+      go : (q : Option Op) → of_level level (operator t) ≡ q → ((front' : Symbols) (l' : Expr) (ts' : Symbols) → Left level G front' l' → tail_of level read n l' ts' ≡ Some (e, rest) → (more : Symbols) × (ts' ≡ more ++ rest) × Left level G (front' ++ more) e) → at_operator q (Some (l, t ∷ ts)) (λ o. read ts >>= λ x. tail_of level read n (operation o l x.0) x.1) ≡ Some (e, rest) → (more : Symbols) × (t ∷ ts ≡ more ++ rest) × Left level G (front ++ more) e
       go None k ih h =
           let p = some_is (l, t ∷ ts) (e, rest) h in
-          let same : l ≡ e = ap (λ (x : Expr × Row). x.0) p in
-          ([], ap (λ (x : Expr × Row). x.1) p, rw (append-nil front, ← same) d)
+          let same : l ≡ e = ap (λ (x : Expr × Symbols). x.0) p in
+          ([], ap (λ (x : Expr × Symbols). x.1) p, rw (append-nil front, ← same) d)
       go (Some o) k ih h =
           let is = of_level-is level (operator t) o k in
           let b = bind_some (read ts) (λ x. tail_of level read n (operation o l x.0) x.1) (e, rest) h in
           let s = sound ts b.0.0 b.0.1 b.1 in
           let r = ih (front ++ t ∷ s.0) (operation o l b.0.0) b.0.1 (more d t is.0 is.1 s.2) b.2 in
-          (t ∷ (s.0 ++ r.0), ap (λ (x : Row). t ∷ x) (s.1 ∙ ap (λ (x : Row). s.0 ++ x) r.1 ∙ sym (append_assoc s.0 r.0 rest)), rw (← append_assoc front (t ∷ s.0) r.0) r.2)
+          (t ∷ (s.0 ++ r.0), ap (λ (x : Symbols). t ∷ x) (s.1 ∙ ap (λ (x : Symbols). s.0 ++ x) r.1 ∙ sym (append_assoc s.0 r.0 rest)), rw (← append_assoc front (t ∷ s.0) r.0) r.2)
 
   pub left_sound : Sound (Left level G) (left_of level read)
   unfolding left_of
@@ -174,7 +174,7 @@ module _ (level : ℕ) (G : Row → Expr → Type 0) (read : TreeReader Expr) (s
       let b = bind_some (read ts) (λ x. tail_of level read (suc (length x.1)) x.0 x.1) (e, rest) h in
       let s = sound ts b.0.0 b.0.1 b.1 in
       let r = tail_sound (suc (length b.0.1)) s.0 b.0.0 b.0.1 e rest (one s.2) b.2 in
-      (s.0 ++ r.0, s.1 ∙ ap (λ (x : Row). s.0 ++ x) r.1 ∙ sym (append_assoc s.0 r.0 rest), r.2)
+      (s.0 ++ r.0, s.1 ∙ ap (λ (x : Symbols). s.0 ++ x) r.1 ∙ sym (append_assoc s.0 r.0 rest), r.2)
 
   -- ---- at most one operation
 
@@ -182,28 +182,28 @@ module _ (level : ℕ) (G : Row → Expr → Type 0) (read : TreeReader Expr) (s
   unfolding once_of
   once_sound ts e rest h = finish b.0.1 s.0 s.1 s.2 b.2
     where
-      b : (x : Expr × Row) × (read ts ≡ Some x) × (second_of level read x.0 x.1 ≡ Some (e, rest))
+      b : (x : Expr × Symbols) × (read ts ≡ Some x) × (second_of level read x.0 x.1 ≡ Some (e, rest))
       b = bind_some (read ts) (λ x. second_of level read x.0 x.1) (e, rest) h
 
-      s : (front : Row) × (ts ≡ front ++ b.0.1) × G front b.0.0
+      s : (front : Symbols) × (ts ≡ front ++ b.0.1) × G front b.0.0
       s = sound ts b.0.0 b.0.1 b.1
 
-      finish : (us : Row) (front : Row) → ts ≡ front ++ us → G front b.0.0 → second_of level read b.0.0 us ≡ Some (e, rest) → (whole : Row) × (ts ≡ whole ++ rest) × Once level G whole e
+      finish : (us : Symbols) (front : Symbols) → ts ≡ front ++ us → G front b.0.0 → second_of level read b.0.0 us ≡ Some (e, rest) → (whole : Symbols) × (ts ≡ whole ++ rest) × Once level G whole e
       finish [] front is g k =
           let p = some_is (b.0.0, []) (e, rest) k in
-          (front, is ∙ ap (λ (x : Expr × Row). front ++ x.1) p, at_tree (Once level G) _ _ (e, rest) p (alone g))
+          (front, is ∙ ap (λ (x : Expr × Symbols). front ++ x.1) p, at_tree (Once level G) _ _ (e, rest) p (alone g))
       finish (t ∷ us) front is g k = go (of_level level (operator t)) refl k
         where
-          go : (q : Option Op) → of_level level (operator t) ≡ q → at_operator {A = Option (Expr × Row)} q (Some (b.0.0, t ∷ us)) (λ o. read us >>= λ x. Some (operation o b.0.0 x.0, x.1)) ≡ Some (e, rest) → (whole : Row) × (ts ≡ whole ++ rest) × Once level G whole e
+          go : (q : Option Op) → of_level level (operator t) ≡ q → at_operator {A = Option (Expr × Symbols)} q (Some (b.0.0, t ∷ us)) (λ o. read us >>= λ x. Some (operation o b.0.0 x.0, x.1)) ≡ Some (e, rest) → (whole : Symbols) × (ts ≡ whole ++ rest) × Once level G whole e
           go None j k =
               let p = some_is (b.0.0, t ∷ us) (e, rest) k in
-              (front, is ∙ ap (λ (x : Expr × Row). front ++ x.1) p, at_tree (Once level G) _ _ (e, rest) p (alone g))
+              (front, is ∙ ap (λ (x : Expr × Symbols). front ++ x.1) p, at_tree (Once level G) _ _ (e, rest) p (alone g))
           go (Some o) j k =
               let op = of_level-is level (operator t) o j in
               let b2 = bind_some (read us) (λ x. Some (operation o b.0.0 x.0, x.1)) (e, rest) k in
               let s2 = sound us b2.0.0 b2.0.1 b2.1 in
               let p = some_is (operation o b.0.0 b2.0.0, b2.0.1) (e, rest) b2.2 in
-              let parts : ts ≡ (front ++ t ∷ s2.0) ++ rest = is ∙ ap (λ (x : Row). front ++ t ∷ x) (s2.1 ∙ ap (λ (x : Expr × Row). s2.0 ++ x.1) p) ∙ sym (append_assoc front (t ∷ s2.0) rest) in
+              let parts : ts ≡ (front ++ t ∷ s2.0) ++ rest = is ∙ ap (λ (x : Symbols). front ++ t ∷ x) (s2.1 ∙ ap (λ (x : Expr × Symbols). s2.0 ++ x.1) p) ∙ sym (append_assoc front (t ∷ s2.0) rest) in
               (front ++ t ∷ s2.0, parts, at_tree (Once level G) _ _ (e, rest) p (pair g t op.0 op.1 s2.2))
 
   pub once_complete : Complete (suc level) G read → Complete level (Once level G) (once_of level read)
@@ -220,57 +220,57 @@ module _ (level : ℕ) (G : Row → Expr → Type 0) (read : TreeReader Expr) (s
 
 -- ---- rows of `not`
 
-module _ (G : Row → Expr → Type 0) (read : TreeReader Expr) where
+module _ (G : Symbols → Expr → Type 0) (read : TreeReader Expr) where
   pub nots_sound : Sound G read → Sound (Nots G) (nots_of read)
   unfolding nots_of
   nots_sound s (key word.Not ∷ ts) e rest h =
       let b = bind_some (nots_of read ts) (λ x. Some (negation x.0, x.1)) (e, rest) h in
       let r = nots_sound s ts b.0.0 b.0.1 b.1 in
       let p = some_is (negation b.0.0, b.0.1) (e, rest) b.2 in
-      (key word.Not ∷ r.0, ap (λ (x : Row). key word.Not ∷ x) (r.1 ∙ ap (λ (x : Expr × Row). r.0 ++ x.1) p), at_tree (Nots G) _ _ (e, rest) p (not r.2))
+      (key word.Not ∷ r.0, ap (λ (x : Symbols). key word.Not ∷ x) (r.1 ∙ ap (λ (x : Expr × Symbols). r.0 ++ x.1) p), at_tree (Nots G) _ _ (e, rest) p (not r.2))
   nots_sound s ts e rest h = let r = s ts e rest h in (r.0, r.1, plain r.2)
 
   -- no `not` begins an operand
-  pub nots_complete : (level : ℕ) → ((ts rest : Row) (e : Expr) → G ts e → nots_of read (ts ++ rest) ≡ read (ts ++ rest)) → Complete level G read → Complete level (Nots G) (nots_of read)
+  pub nots_complete : (level : ℕ) → ((ts rest : Symbols) (e : Expr) → G ts e → nots_of read (ts ++ rest) ≡ read (ts ++ rest)) → Complete level G read → Complete level (Nots G) (nots_of read)
   unfolding nots_of
   nots_complete level other c ts rest e (plain g) st = other ts rest e g ∙ c ts rest e g st
   nots_complete level other c _ rest _ (not {ts = ts} {e = e} d) st = rw (nots_complete level other c ts rest e d st) refl
 
 -- ---- atoms
 
-module _ (Inner : Row → Expr → Type 0) (read : TreeReader Expr) where
-  paren_sound : Sound Inner read → (ts : Row) (e : Expr) (rest : Row) → paren_of read ts ≡ Some (e, rest) → (front : Row) × (sign mark.Open ∷ ts ≡ front ++ rest) × Atom Inner front e
+module _ (Inner : Symbols → Expr → Type 0) (read : TreeReader Expr) where
+  paren_sound : Sound Inner read → (ts : Symbols) (e : Expr) (rest : Symbols) → paren_of read ts ≡ Some (e, rest) → (front : Symbols) × (sign mark.Open ∷ ts ≡ front ++ rest) × Atom Inner front e
   paren_sound s ts e rest h =
       let b = bind_some (read ts) (λ x. after (sign mark.Close) x.1 >>= λ us. Some (x.0, us)) (e, rest) h in
       let r = s ts b.0.0 b.0.1 b.1 in
       let k = bind_some (after (sign mark.Close) b.0.1) (λ us. Some (b.0.0, us)) (e, rest) b.2 in
       let p = some_is (b.0.0, k.0) (e, rest) k.2 in
-      let is : b.0.1 ≡ sign mark.Close ∷ rest = after_is (sign mark.Close) b.0.1 k.0 k.1 ∙ ap (λ (x : Expr × Row). sign mark.Close ∷ x.1) p in
-      (sign mark.Open ∷ (r.0 ++ sign mark.Close ∷ []), ap (λ (x : Row). sign mark.Open ∷ x) (r.1 ∙ ap (λ (x : Row). r.0 ++ x) is ∙ sym (append_assoc r.0 (sign mark.Close ∷ []) rest)), at_tree (Atom Inner) _ _ (e, rest) p (paren r.2))
+      let is : b.0.1 ≡ sign mark.Close ∷ rest = after_is (sign mark.Close) b.0.1 k.0 k.1 ∙ ap (λ (x : Expr × Symbols). sign mark.Close ∷ x.1) p in
+      (sign mark.Open ∷ (r.0 ++ sign mark.Close ∷ []), ap (λ (x : Symbols). sign mark.Open ∷ x) (r.1 ∙ ap (λ (x : Symbols). r.0 ++ x) is ∙ sym (append_assoc r.0 (sign mark.Close ∷ []) rest)), at_tree (Atom Inner) _ _ (e, rest) p (paren r.2))
 
-  minus_sound : (ts : Row) (e : Expr) (rest : Row) → minus_of ts ≡ Some (e, rest) → (front : Row) × (sign mark.Minus ∷ ts ≡ front ++ rest) × Atom Inner front e
+  minus_sound : (ts : Symbols) (e : Expr) (rest : Symbols) → minus_of ts ≡ Some (e, rest) → (front : Symbols) × (sign mark.Minus ∷ ts ≡ front ++ rest) × Atom Inner front e
   minus_sound (int n ∷ ts) e rest h =
       let p = some_is _ (e, rest) h in
-      (sign mark.Minus ∷ int n ∷ [], ap (λ (x : Expr × Row). sign mark.Minus ∷ int n ∷ x.1) p, at_tree (Atom Inner) _ _ (e, rest) p minus_int)
+      (sign mark.Minus ∷ int n ∷ [], ap (λ (x : Expr × Symbols). sign mark.Minus ∷ int n ∷ x.1) p, at_tree (Atom Inner) _ _ (e, rest) p minus_int)
   minus_sound _ e rest h = absurd cc
 
-  variable_sound : (ts : Row) (e : Expr) (rest : Row) → colon_of ts ≡ Some (e, rest) → (front : Row) × (sign mark.Colon ∷ ts ≡ front ++ rest) × Atom Inner front e
+  variable_sound : (ts : Symbols) (e : Expr) (rest : Symbols) → colon_of ts ≡ Some (e, rest) → (front : Symbols) × (sign mark.Colon ∷ ts ≡ front ++ rest) × Atom Inner front e
   variable_sound (name n ∷ ts) e rest h =
       let p = some_is _ (e, rest) h in
-      (sign mark.Colon ∷ name n ∷ [], ap (λ (x : Expr × Row). sign mark.Colon ∷ name n ∷ x.1) p, at_tree (Atom Inner) _ _ (e, rest) p colon)
+      (sign mark.Colon ∷ name n ∷ [], ap (λ (x : Expr × Symbols). sign mark.Colon ∷ name n ∷ x.1) p, at_tree (Atom Inner) _ _ (e, rest) p colon)
   variable_sound _ e rest h = absurd cc
 
   pub atom_sound : Sound Inner read → Sound (Atom Inner) (atom_of read)
   unfolding atom_of
   atom_sound s (int n ∷ ts) e rest h =
       let p = some_is _ (e, rest) h in
-      (int n ∷ [], ap (λ (x : Expr × Row). int n ∷ x.1) p, at_tree (Atom Inner) _ _ (e, rest) p plus_int)
+      (int n ∷ [], ap (λ (x : Expr × Symbols). int n ∷ x.1) p, at_tree (Atom Inner) _ _ (e, rest) p plus_int)
   atom_sound s (text t ∷ ts) e rest h =
       let p = some_is _ (e, rest) h in
-      (text t ∷ [], ap (λ (x : Expr × Row). text t ∷ x.1) p, at_tree (Atom Inner) _ _ (e, rest) p literal)
+      (text t ∷ [], ap (λ (x : Expr × Symbols). text t ∷ x.1) p, at_tree (Atom Inner) _ _ (e, rest) p literal)
   atom_sound s (name n ∷ ts) e rest h =
       let p = some_is _ (e, rest) h in
-      (name n ∷ [], ap (λ (x : Expr × Row). name n ∷ x.1) p, at_tree (Atom Inner) _ _ (e, rest) p named)
+      (name n ∷ [], ap (λ (x : Expr × Symbols). name n ∷ x.1) p, at_tree (Atom Inner) _ _ (e, rest) p named)
   atom_sound s (sign mark.Minus ∷ ts) e rest h = minus_sound ts e rest h
   atom_sound s (sign mark.Colon ∷ ts) e rest h = variable_sound ts e rest h
   atom_sound s (sign mark.Open ∷ ts) e rest h = paren_sound s ts e rest h
@@ -290,23 +290,23 @@ module _ (Inner : Row → Expr → Type 0) (read : TreeReader Expr) where
 
 -- ---- the keywords that no operand begins with
 
-abbrev pub Begins : Keyword → Row → Type 0
+abbrev pub Begins : Keyword → Symbols → Type 0
 Begins k [] = ⊥
 Begins k (t ∷ ts) = is_same t (key k) ≡ false
 
-pub Begins-append : (k : Keyword) (a b : Row) → Begins k a → Begins k (a ++ b)
+pub Begins-append : (k : Keyword) (a b : Symbols) → Begins k a → Begins k (a ++ b)
 Begins-append k [] b h = absurd h
 Begins-append k (t ∷ ts) b h = h
 
-pub Begins-after : (k : Keyword) (ts : Row) → Begins k ts → after (key k) ts ≡ None
+pub Begins-after : (k : Keyword) (ts : Symbols) → Begins k ts → after (key k) ts ≡ None
 unfolding after
 Begins-after k [] h = absurd h
 Begins-after k (t ∷ ts) h = rw h refl
 
-Begins-nots : (read : TreeReader Expr) (ts : Row) → Begins word.Not ts → nots_of read ts ≡ read ts
+Begins-nots : (read : TreeReader Expr) (ts : Symbols) → Begins word.Not ts → nots_of read ts ≡ read ts
 Begins-nots read ts h = nots_stop read ts (Begins-after word.Not ts h)
 
-atom_begins : (k : Keyword) {Inner : Row → Expr → Type 0} {ts : Row} {e : Expr} → Atom Inner ts e → Begins k ts
+atom_begins : (k : Keyword) {Inner : Symbols → Expr → Type 0} {ts : Symbols} {e : Expr} → Atom Inner ts e → Begins k ts
 atom_begins k plus_int = refl
 atom_begins k minus_int = refl
 atom_begins k literal = refl
@@ -314,27 +314,27 @@ atom_begins k named = refl
 atom_begins k colon = refl
 atom_begins k (paren d) = refl
 
-left_begins : (k : Keyword) (level : ℕ) (G : Row → Expr → Type 0) → ((ts : Row) (e : Expr) → G ts e → Begins k ts) → {ts : Row} {e : Expr} → Left level G ts e → Begins k ts
+left_begins : (k : Keyword) (level : ℕ) (G : Symbols → Expr → Type 0) → ((ts : Symbols) (e : Expr) → G ts e → Begins k ts) → {ts : Symbols} {e : Expr} → Left level G ts e → Begins k ts
 left_begins k level G b {ts} {e} (one g) = b ts e g
 left_begins k level G b (more {a = a} {b = rest} d t eq lv g) = Begins-append k a (t ∷ rest) (left_begins k level G b d)
 
-once_begins : (k : Keyword) (level : ℕ) (G : Row → Expr → Type 0) → ((ts : Row) (e : Expr) → G ts e → Begins k ts) → {ts : Row} {e : Expr} → Once level G ts e → Begins k ts
+once_begins : (k : Keyword) (level : ℕ) (G : Symbols → Expr → Type 0) → ((ts : Symbols) (e : Expr) → G ts e → Begins k ts) → {ts : Symbols} {e : Expr} → Once level G ts e → Begins k ts
 once_begins k level G b {ts} {e} (alone g) = b ts e g
 once_begins k level G b (pair {a = a} {b = rest} {l = l} g t eq lv g2) = Begins-append k a (t ∷ rest) (b a l g)
 
-nots_begins : (k : Keyword) (G : Row → Expr → Type 0) → is_same (key word.Not) (key k) ≡ false → ((ts : Row) (e : Expr) → G ts e → Begins k ts) → {ts : Row} {e : Expr} → Nots G ts e → Begins k ts
+nots_begins : (k : Keyword) (G : Symbols → Expr → Type 0) → is_same (key word.Not) (key k) ≡ false → ((ts : Symbols) (e : Expr) → G ts e → Begins k ts) → {ts : Symbols} {e : Expr} → Nots G ts e → Begins k ts
 nots_begins k G n b {ts} {e} (plain g) = b ts e g
 nots_begins k G n b (not d) = n
 
-comparison_begins : (k : Keyword) (Inner : Row → Expr → Type 0) (ts : Row) (e : Expr) → Comparison Inner ts e → Begins k ts
+comparison_begins : (k : Keyword) (Inner : Symbols → Expr → Type 0) (ts : Symbols) (e : Expr) → Comparison Inner ts e → Begins k ts
 comparison_begins k Inner ts e d = once_begins k 3 (Sum Inner) (λ ts e d. left_begins k 4 (Product Inner) (λ ts e d. left_begins k 5 (Atom Inner) (λ ts e d. atom_begins k d) d) d) d
 
-pub expression_begins : (k : Keyword) → is_same (key word.Not) (key k) ≡ false → (Inner : Row → Expr → Type 0) (ts : Row) (e : Expr) → Expression Inner ts e → Begins k ts
+pub expression_begins : (k : Keyword) → is_same (key word.Not) (key k) ≡ false → (Inner : Symbols → Expr → Type 0) (ts : Symbols) (e : Expr) → Expression Inner ts e → Begins k ts
 expression_begins k n Inner ts e d = left_begins k 1 (Conjunction Inner) (λ ts e d. left_begins k 2 (Negation Inner) (λ ts e d. nots_begins k (Comparison Inner) n (comparison_begins k Inner) d) d) d
 
 -- ---- the levels together
 
-module _ (Inner : Row → Expr → Type 0) (read : TreeReader Expr) (s : Sound Inner read) where
+module _ (Inner : Symbols → Expr → Type 0) (read : TreeReader Expr) (s : Sound Inner read) where
   product_sound : Sound (Product Inner) (product_of read)
   product_sound = left_sound 5 (Atom Inner) (atom_of read) (atom_sound Inner read s)
 

@@ -9,44 +9,44 @@ use Rattle.salt_parse.specs.Reading.{Read, Reader, after, at_operator, expressio
 use Rattle.salt_parse.specs.declared.error.ParseErr.{ParseErr}
 use Rattle.salt_parse.specs.declared.error.ParseErr.TheVariants.{Limit, Memory, Syntax}
 use Rattle.salt_tokens.specs.Scanning.{◌>>=◌}
-use Rattle.salt_tokens.specs.Symbols.{Row, Symbol, key, sign}
+use Rattle.salt_tokens.specs.Symbols.{Symbols, Symbol, key, sign}
 use Rattle.salt_tokens.specs.contracts.keyword.Keyword.{the_type as keywords}
 use Rattle.salt_tokens.specs.contracts.sign.Sign.{the_type as signs}
 use Rattle.salt_tokens.specs.declared.keyword.Keyword.TheVariants as word
 
 -- what was read, with what is still to be read, makes the whole
-pub record IsTail (level : ℕ) (operand : Reader BuiltTree) (left : BuiltTree) (f : Flags) (rest : Row) (total : Option (Read BuiltTree)) : Type 0 where
+pub record IsTail (level : ℕ) (operand : Reader BuiltTree) (left : BuiltTree) (f : Flags) (rest : Symbols) (total : Option (Read BuiltTree)) : Type 0 where
   pub fuel : ℕ
   pub enough : length rest < fuel
   pub so_far : tail_at level operand fuel left f rest ≡ total
 
-pub IsTail-starts : (level : ℕ) (operand : Reader BuiltTree) (f : Flags) (ts : Row) (l : BuiltTree) (g : Flags) (rest : Row) → operand f ts ≡ Some (l, g, rest) → IsTail level operand l g rest (left_at level operand f ts)
+pub IsTail-starts : (level : ℕ) (operand : Reader BuiltTree) (f : Flags) (ts : Symbols) (l : BuiltTree) (g : Flags) (rest : Symbols) → operand f ts ≡ Some (l, g, rest) → IsTail level operand l g rest (left_at level operand f ts)
 unfolding left_at
 IsTail-starts level operand f ts l g rest h = record { fuel = suc (length rest); enough = omega arith; so_far = rw h refl }
 
 -- one step, by what the next token stands for
-pub tail_step : (level : ℕ) (operand : Reader BuiltTree) (n : ℕ) (l : BuiltTree) (f : Flags) (rest rest1 : Row) (o : Op) → next_operator level rest ≡ (Some o, rest1) → (length rest ≡ suc (length rest1)) × (tail_at level operand (suc n) l f rest ≡ (operand f rest1 >>= λ x. tail_at level operand n (join_tree o l x.0 x.1) (join_flags l x.0 x.1) x.2))
+pub tail_step : (level : ℕ) (operand : Reader BuiltTree) (n : ℕ) (l : BuiltTree) (f : Flags) (rest rest1 : Symbols) (o : Op) → next_operator level rest ≡ (Some o, rest1) → (length rest ≡ suc (length rest1)) × (tail_at level operand (suc n) l f rest ≡ (operand f rest1 >>= λ x. tail_at level operand n (join_tree o l x.0 x.1) (join_flags l x.0 x.1) x.2))
 unfolding tail_at
-tail_step level operand n l f [] rest1 o h = absurd (cc (ap (λ (p : Option Op × Row). p.0) h))
+tail_step level operand n l f [] rest1 o h = absurd (cc (ap (λ (p : Option Op × Symbols). p.0) h))
 tail_step level operand n l f (t ∷ ts) rest1 o h = go (of_level level (operator t)) h
   where
-    go : (q : Option Op) → at_operator {A = Option Op × Row} q (None, t ∷ ts) (λ o. (Some o, ts)) ≡ (Some o, rest1) → (suc (length ts) ≡ suc (length rest1)) × (at_operator {A = Option (Read BuiltTree)} q (Some (l, f, t ∷ ts)) (λ o. operand f ts >>= λ x. tail_at level operand n (join_tree o l x.0 x.1) (join_flags l x.0 x.1) x.2) ≡ (operand f rest1 >>= λ x. tail_at level operand n (join_tree o l x.0 x.1) (join_flags l x.0 x.1) x.2))
-    go None e = absurd (cc (ap (λ (p : Option Op × Row). p.0) e))
+    go : (q : Option Op) → at_operator {A = Option Op × Symbols} q (None, t ∷ ts) (λ o. (Some o, ts)) ≡ (Some o, rest1) → (suc (length ts) ≡ suc (length rest1)) × (at_operator {A = Option (Read BuiltTree)} q (Some (l, f, t ∷ ts)) (λ o. operand f ts >>= λ x. tail_at level operand n (join_tree o l x.0 x.1) (join_flags l x.0 x.1) x.2) ≡ (operand f rest1 >>= λ x. tail_at level operand n (join_tree o l x.0 x.1) (join_flags l x.0 x.1) x.2))
+    go None e = absurd (cc (ap (λ (p : Option Op × Symbols). p.0) e))
     go (Some p) e =
-        let same : ts ≡ rest1 = ap (λ (p : Option Op × Row). p.1) e in
-        let the_op : p ≡ o = cc (ap (λ (p : Option Op × Row). p.0) e) in
-        (ap (λ (x : Row). suc (length x)) same, rw (the_op, same) refl)
+        let same : ts ≡ rest1 = ap (λ (p : Option Op × Symbols). p.1) e in
+        let the_op : p ≡ o = cc (ap (λ (p : Option Op × Symbols). p.0) e) in
+        (ap (λ (x : Symbols). suc (length x)) same, rw (the_op, same) refl)
 
-pub tail_stop : (level : ℕ) (operand : Reader BuiltTree) (n : ℕ) (l : BuiltTree) (f : Flags) (rest rest1 : Row) → next_operator level rest ≡ (None, rest1) → tail_at level operand (suc n) l f rest ≡ Some (l, f, rest1)
+pub tail_stop : (level : ℕ) (operand : Reader BuiltTree) (n : ℕ) (l : BuiltTree) (f : Flags) (rest rest1 : Symbols) → next_operator level rest ≡ (None, rest1) → tail_at level operand (suc n) l f rest ≡ Some (l, f, rest1)
 unfolding tail_at
-tail_stop level operand n l f [] rest1 h = ap (λ (p : Option Op × Row). Some (l, f, p.1)) h
+tail_stop level operand n l f [] rest1 h = ap (λ (p : Option Op × Symbols). Some (l, f, p.1)) h
 tail_stop level operand n l f (t ∷ ts) rest1 h = go (of_level level (operator t)) h
   where
-    go : (q : Option Op) → at_operator {A = Option Op × Row} q (None, t ∷ ts) (λ o. (Some o, ts)) ≡ (None, rest1) → at_operator {A = Option (Read BuiltTree)} q (Some (l, f, t ∷ ts)) (λ o. operand f ts >>= λ x. tail_at level operand n (join_tree o l x.0 x.1) (join_flags l x.0 x.1) x.2) ≡ Some (l, f, rest1)
-    go None e = ap (λ (p : Option Op × Row). Some (l, f, p.1)) e
-    go (Some p) e = absurd (cc (ap (λ (p : Option Op × Row). p.0) e))
+    go : (q : Option Op) → at_operator {A = Option Op × Symbols} q (None, t ∷ ts) (λ o. (Some o, ts)) ≡ (None, rest1) → at_operator {A = Option (Read BuiltTree)} q (Some (l, f, t ∷ ts)) (λ o. operand f ts >>= λ x. tail_at level operand n (join_tree o l x.0 x.1) (join_flags l x.0 x.1) x.2) ≡ Some (l, f, rest1)
+    go None e = ap (λ (p : Option Op × Symbols). Some (l, f, p.1)) e
+    go (Some p) e = absurd (cc (ap (λ (p : Option Op × Symbols). p.0) e))
 
-pub IsTail-goes_on : (level : ℕ) (operand : Reader BuiltTree) (l r : BuiltTree) (f g : Flags) (o : Op) (rest rest1 rest2 : Row) (total : Option (Read BuiltTree)) → IsTail level operand l f rest total → next_operator level rest ≡ (Some o, rest1) → operand f rest1 ≡ Some (r, g, rest2) → length rest2 ≤ length rest1 → IsTail level operand (join_tree o l r g) (join_flags l r g) rest2 total
+pub IsTail-goes_on : (level : ℕ) (operand : Reader BuiltTree) (l r : BuiltTree) (f g : Flags) (o : Op) (rest rest1 rest2 : Symbols) (total : Option (Read BuiltTree)) → IsTail level operand l f rest total → next_operator level rest ≡ (Some o, rest1) → operand f rest1 ≡ Some (r, g, rest2) → length rest2 ≤ length rest1 → IsTail level operand (join_tree o l r g) (join_flags l r g) rest2 total
 IsTail-goes_on level operand l r f g o rest rest1 rest2 total h next read shorter = go h.fuel h.enough h.so_far
   where
     go : (n : ℕ) → length rest < n → tail_at level operand n l f rest ≡ total → IsTail level operand (join_tree o l r g) (join_flags l r g) rest2 total
@@ -55,14 +55,14 @@ IsTail-goes_on level operand l r f g o rest rest1 rest2 total h next read shorte
         let s = tail_step level operand n l f rest rest1 o next in
         record { fuel = n; enough = omega (arith, s.0); so_far = (let one : tail_at level operand (suc n) l f rest ≡ tail_at level operand n (join_tree o l r g) (join_flags l r g) rest2 = s.1 ∙ rw read refl in sym one ∙ e) }
 
-pub IsTail-ends : (level : ℕ) (operand : Reader BuiltTree) (l : BuiltTree) (f : Flags) (rest rest1 : Row) (total : Option (Read BuiltTree)) → IsTail level operand l f rest total → next_operator level rest ≡ (None, rest1) → total ≡ Some (l, f, rest1)
+pub IsTail-ends : (level : ℕ) (operand : Reader BuiltTree) (l : BuiltTree) (f : Flags) (rest rest1 : Symbols) (total : Option (Read BuiltTree)) → IsTail level operand l f rest total → next_operator level rest ≡ (None, rest1) → total ≡ Some (l, f, rest1)
 IsTail-ends level operand l f rest rest1 total h next = go h.fuel h.enough h.so_far
   where
     go : (n : ℕ) → length rest < n → tail_at level operand n l f rest ≡ total → total ≡ Some (l, f, rest1)
     go zero lt e = absurd (omega arith)
     go (suc n) lt e = sym e ∙ tail_stop level operand n l f rest rest1 next
 
-pub IsTail-fails : (level : ℕ) (operand : Reader BuiltTree) (l : BuiltTree) (f : Flags) (o : Op) (rest rest1 : Row) (err : ParseErr) (total : Option (Read BuiltTree)) → IsTail level operand l f rest total → next_operator level rest ≡ (Some o, rest1) → Fails err (operand f rest1) → Fails err total
+pub IsTail-fails : (level : ℕ) (operand : Reader BuiltTree) (l : BuiltTree) (f : Flags) (o : Op) (rest rest1 : Symbols) (err : ParseErr) (total : Option (Read BuiltTree)) → IsTail level operand l f rest total → next_operator level rest ≡ (Some o, rest1) → Fails err (operand f rest1) → Fails err total
 IsTail-fails level operand l f o rest rest1 Memory total h next read = tt
 IsTail-fails level operand l f o rest rest1 (Limit n) total h next read = read
 IsTail-fails level operand l f o rest rest1 Syntax total h next read = go h.fuel h.enough h.so_far
@@ -71,7 +71,7 @@ IsTail-fails level operand l f o rest rest1 Syntax total h next read = go h.fuel
     go zero lt e = absurd (omega arith)
     go (suc n) lt e = sym e ∙ (tail_step level operand n l f rest rest1 o next).1 ∙ rw read refl
 
-pub under_nots-goes_on : (operand : Reader BuiltTree) (f : Flags) (n : ℕ) (ts : Row) → under_nots n (nots_at operand f (key word.Not ∷ ts)) ≡ under_nots (n + 1) (nots_at operand f ts)
+pub under_nots-goes_on : (operand : Reader BuiltTree) (f : Flags) (n : ℕ) (ts : Symbols) → under_nots n (nots_at operand f (key word.Not ∷ ts)) ≡ under_nots (n + 1) (nots_at operand f ts)
 unfolding nots_at
 under_nots-goes_on operand f n ts = rw add-one (go (nots_at operand f ts))
   where
@@ -85,7 +85,7 @@ is_same-true (key a) (key b) h = ap key (same_true keywords tt a b h)
 is_same-true (sign a) (sign b) h = ap sign (same_true signs tt a b h)
 is_same-true _ _ h = absurd cc
 
-pub after_is : (t : Symbol) (ts us : Row) → after t ts ≡ Some us → ts ≡ t ∷ us
+pub after_is : (t : Symbol) (ts us : Symbols) → after t ts ≡ Some us → ts ≡ t ∷ us
 unfolding after
 after_is t [] us h = absurd cc
 after_is t (u ∷ ts) us h = go (is_same u t) refl h
@@ -94,10 +94,10 @@ after_is t (u ∷ ts) us h = go (is_same u t) refl h
     go true e k = let same : u ≡ t = is_same-true u t e in let others : ts ≡ us = cc k in cc
     go false e k = absurd cc
 
-pub nots_more : (operand : Reader BuiltTree) (f : Flags) (n : ℕ) (total : Option (Read BuiltTree)) (ts us : Row) → after (key word.Not) ts ≡ Some us → total ≡ under_nots n (nots_at operand f ts) → total ≡ under_nots (n + 1) (nots_at operand f us)
-nots_more operand f n total ts us h e = e ∙ ap (λ (r : Row). under_nots n (nots_at operand f r)) (after_is (key word.Not) ts us h) ∙ under_nots-goes_on operand f n us
+pub nots_more : (operand : Reader BuiltTree) (f : Flags) (n : ℕ) (total : Option (Read BuiltTree)) (ts us : Symbols) → after (key word.Not) ts ≡ Some us → total ≡ under_nots n (nots_at operand f ts) → total ≡ under_nots (n + 1) (nots_at operand f us)
+nots_more operand f n total ts us h e = e ∙ ap (λ (r : Symbols). under_nots n (nots_at operand f r)) (after_is (key word.Not) ts us h) ∙ under_nots-goes_on operand f n us
 
-pub nots_stop : (operand : Reader BuiltTree) (f : Flags) (ts : Row) → after (key word.Not) ts ≡ None → nots_at operand f ts ≡ operand f ts
+pub nots_stop : (operand : Reader BuiltTree) (f : Flags) (ts : Symbols) → after (key word.Not) ts ≡ None → nots_at operand f ts ≡ operand f ts
 unfolding nots_at after
 nots_stop operand f [] h = refl
 nots_stop operand f (key word.Not ∷ ts) h = absurd cc
@@ -105,12 +105,12 @@ nots_stop operand f _ h = refl
 
 pub ruleset tail_steps = (IsTail-starts)
 
-pub within_opens : (depth : ℕ) (f : Flags) (ts : Row) → depth ≢ 0 → within_at depth f ts ≡ expression_at (within_at (depth - 1)) f ts
+pub within_opens : (depth : ℕ) (f : Flags) (ts : Symbols) → depth ≢ 0 → within_at depth f ts ≡ expression_at (within_at (depth - 1)) f ts
 unfolding within_at
 within_opens zero f ts h = absurd (h refl)
 within_opens (suc depth) f ts h = rw sub-one refl
 
-pub within_shut : (depth : ℕ) (f : Flags) (ts : Row) → depth ≡ 0 → within_at depth f ts ≡ None
+pub within_shut : (depth : ℕ) (f : Flags) (ts : Symbols) → depth ≡ 0 → within_at depth f ts ≡ None
 unfolding within_at
 within_shut zero f ts h = refl
 within_shut (suc depth) f ts h = absurd (omega arith)
@@ -128,8 +128,8 @@ negations-ends n i x total le h =
     rw k at h
 
 -- the same under other names
-pub IsTail-named : (level : ℕ) (operand : Reader BuiltTree) (l l' : BuiltTree) (f f' : Flags) (rest rest' : Row) (total : Option (Read BuiltTree)) → l' ≡ l → f' ≡ f → rest' ≡ rest → IsTail level operand l f rest total → IsTail level operand l' f' rest' total
+pub IsTail-named : (level : ℕ) (operand : Reader BuiltTree) (l l' : BuiltTree) (f f' : Flags) (rest rest' : Symbols) (total : Option (Read BuiltTree)) → l' ≡ l → f' ≡ f → rest' ≡ rest → IsTail level operand l f rest total → IsTail level operand l' f' rest' total
 IsTail-named level operand l l' f f' rest rest' total p q r h = record { fuel = h.fuel; enough = rw r h.enough; so_far = rw (p, q, r) h.so_far }
 
-pub same_read : (b b' : BuiltTree) (f f' : Flags) (ts ts' : Row) → b' ≡ b → f' ≡ f → ts' ≡ ts → ◌≡◌ {A = Read BuiltTree} (b', f', ts') (b, f, ts)
+pub same_read : (b b' : BuiltTree) (f f' : Flags) (ts ts' : Symbols) → b' ≡ b → f' ≡ f → ts' ≡ ts → ◌≡◌ {A = Read BuiltTree} (b', f', ts') (b, f, ts)
 same_read b b' f f' ts ts' p q r = rw (p, q, r) refl

@@ -6,7 +6,8 @@ use Rattle.std.specs.Prelude.{is_none, neg_ℤ, ℤ}
 use Rattle.salt_ast.specs.Limits.{expr_passed, height, is_high, name_passed}
 use Rattle.salt_ast.specs.Operators.{operator}
 use Rattle.salt_ast.specs.Trees.{letters, negation, number, operation}
-use Rattle.salt_ast.specs.Words.{or_else, when}
+use Rattle.std.specs.Bool.{then_some}
+use Rattle.std.specs.Option.{option_or}
 use Rattle.salt_ast.specs.declared.limit.LimitName.{LimitName}
 use Rattle.salt_ast.specs.declared.limit.LimitName.TheVariants as limit
 use Rattle.salt_ast.specs.declared.trees.Expr.{Column, Expr, Variable}
@@ -16,7 +17,7 @@ use Rattle.salt_parse.specs.Lists.{either}
 use Rattle.salt_parse.specs.Reading.{Read, Reader, after, at_operator, atom_at, colon_at, column_at, comparison_at, conjunction_at, expression_at, int_at, is_same, left_at, minus_at, name_flags, named_at, negate, negation_at, nots_at, of_level, once_at, paren_at, product_at, second_at, sum_at, tail_at, text_at, text_flags, within_at}
 use Rattle.salt_parse.proofs.Trees.{TreeReader, atom_of, colon_of, comparison_of, conjunction_of, expression_of, left_of, minus_of, negation_of, nots_of, once_of, paren_of, product_of, second_of, sum_of, tail_of, within_of}
 use Rattle.salt_tokens.specs.Scanning.{◌>>=◌}
-use Rattle.salt_tokens.specs.Symbols.{Row, Symbol, int, key, name, sign, text}
+use Rattle.salt_tokens.specs.Symbols.{Symbols, Symbol, int, key, name, sign, text}
 use Rattle.salt_tokens.specs.declared.keyword.Keyword.TheVariants as word
 use Rattle.salt_tokens.specs.declared.sign.Sign.TheVariants as mark
 use Rattle.salt_values.specs.Text.{is_printable}
@@ -30,19 +31,19 @@ IsPrintable (name n) = Unit {0}
 IsPrintable (int n) = Unit {0}
 IsPrintable (sign s) = Unit {0}
 
-abbrev pub ArePrintable : Row → Type 0
+abbrev pub ArePrintable : Symbols → Type 0
 ArePrintable [] = Unit {0}
 ArePrintable (t ∷ ts) = IsPrintable t × ArePrintable ts
 
 -- ---- flags
 
-pub or_else_assoc : (a b c : Option LimitName) → or_else (or_else a b) c ≡ or_else a (or_else b c)
-or_else_assoc None b c = refl
-or_else_assoc (Some x) b c = refl
+pub option_or_assoc : (a b c : Option LimitName) → option_or (option_or a b) c ≡ option_or a (option_or b c)
+option_or_assoc None b c = refl
+option_or_assoc (Some x) b c = refl
 
-pub or_else_none : (a : Option LimitName) → or_else a None ≡ a
-or_else_none None = refl
-or_else_none (Some x) = refl
+pub option_or_none : (a : Option LimitName) → option_or a None ≡ a
+option_or_none None = refl
+option_or_none (Some x) = refl
 
 pub or_assoc : (a b c : Bool) → ((a || b) || c) ≡ (a || (b || c))
 or_assoc true b c = refl
@@ -52,14 +53,14 @@ pub or_false : (a : Bool) → (a || false) ≡ a
 or_false true = refl
 or_false false = refl
 
-pub note_note : (f : Flags) (p q : Option LimitName) (d e : Bool) → note (note f p d) q e ≡ note f (or_else p q) (d || e)
-note_note f p q d e = λ i. record { over = or_else_assoc f.over p q i; deep = or_assoc f.deep d e i }
+pub note_note : (f : Flags) (p q : Option LimitName) (d e : Bool) → note (note f p d) q e ≡ note f (option_or p q) (d || e)
+note_note f p q d e = λ i. record { over = option_or_assoc f.over p q i; deep = or_assoc f.deep d e i }
 
 -- flags that are clear were clear before
 pub clear_before : (f : Flags) (p : Option LimitName) (d : Bool) → clear (note f p d) ≡ true → clear f ≡ true
 clear_before f p d h = go f.over f.deep h
   where
-    go : (v : Option LimitName) (b : Bool) → (is_none (or_else v p) && not (b || d)) ≡ true → (is_none v && not b) ≡ true
+    go : (v : Option LimitName) (b : Bool) → (is_none (option_or v p) && not (b || d)) ≡ true → (is_none v && not b) ≡ true
     go None false h = refl
     go None true h = go2 (is_none p) h
       where
@@ -73,7 +74,7 @@ pub clear_passes : (f : Flags) (p : Option LimitName) (d : Bool) → clear (note
 clear_passes f None d h = refl
 clear_passes f (Some x) d h = go f.over h
   where
-    go : (v : Option LimitName) → (is_none (or_else v (Some x)) && not (f.deep || d)) ≡ true → Some x ≡ None
+    go : (v : Option LimitName) → (is_none (option_or v (Some x)) && not (f.deep || d)) ≡ true → Some x ≡ None
     go None h = absurd cc
     go (Some y) h = absurd cc
 
@@ -95,35 +96,35 @@ name_marks = record { passed = name_passed; high = λ n. false }
 -- ---- what was read and built, beside what was found
 
 -- what was built is what was found, while nothing is passed
-abbrev pub IsKept : {A : Type 0} → Flags → A → A → Type 0
-IsKept f x a = clear f ≡ true → x ≡ a
+abbrev pub AreKept : {A : Type 0} → Flags → A → A → Type 0
+AreKept f x a = clear f ≡ true → x ≡ a
 
 abbrev pub IsBuilt : Flags → BuiltTree → Expr → Type 0
 IsBuilt f b e = (b.height ≡ min (height e) 65) × (clear f ≡ true → b.tree ≡ e)
 
-pub record Agree {X A : Type 0} (m : Marks A) (Is : Flags → X → A → Type 0) (f : Flags) (x : Read X) (y : A × Row) : Type 0 where
+pub record Agree {X A : Type 0} (m : Marks A) (Is : Flags → X → A → Type 0) (f : Flags) (x : Read X) (y : A × Symbols) : Type 0 where
   pub left : x.2 ≡ y.1
   pub flags : x.1 ≡ noted m f y.0
   pub is : Is x.1 x.0 y.0
   pub printable : ArePrintable y.1
 
-abbrev pub Agrees : {X A : Type 0} → Marks A → (Flags → X → A → Type 0) → Flags → Option (Read X) → Option (A × Row) → Type 0
+abbrev pub Agrees : {X A : Type 0} → Marks A → (Flags → X → A → Type 0) → Flags → Option (Read X) → Option (A × Symbols) → Type 0
 Agrees m Is f None None = Unit {0}
 Agrees m Is f None (Some y) = ⊥
 Agrees m Is f (Some x) None = ⊥
 Agrees m Is f (Some x) (Some y) = Agree m Is f x y
 
-pub agrees_bind : {X A Y B : Type 0} (m : Marks A) (Is : Flags → X → A → Type 0) (n : Marks B) (Js : Flags → Y → B → Type 0) (f g : Flags) (r : Option (Read X)) (q : Option (A × Row)) (k : Read X → Option (Read Y)) (k' : A × Row → Option (B × Row)) → Agrees m Is g r q → ((x : X) (a : A) (us : Row) → Is (noted m g a) x a → ArePrintable us → Agrees n Js f (k (x, noted m g a, us)) (k' (a, us))) → Agrees n Js f (r >>= k) (q >>= k')
+pub agrees_bind : {X A Y B : Type 0} (m : Marks A) (Is : Flags → X → A → Type 0) (n : Marks B) (Js : Flags → Y → B → Type 0) (f g : Flags) (r : Option (Read X)) (q : Option (A × Symbols)) (k : Read X → Option (Read Y)) (k' : A × Symbols → Option (B × Symbols)) → Agrees m Is g r q → ((x : X) (a : A) (us : Symbols) → Is (noted m g a) x a → ArePrintable us → Agrees n Js f (k (x, noted m g a, us)) (k' (a, us))) → Agrees n Js f (r >>= k) (q >>= k')
 agrees_bind m Is n Js f g None None k k' h c = tt
 agrees_bind m Is n Js f g None (Some y) k k' h c = absurd h
 agrees_bind m Is n Js f g (Some x) None k k' h c = absurd h
 agrees_bind {X} {A} {Y} {B} m Is n Js f g (Some x) (Some y) k k' h c = go x.0 x.1 x.2 y.0 y.1 h.left h.flags h.is h.printable
   where
-    go : (x : X) (e : Flags) (us : Row) (a : A) (vs : Row) → us ≡ vs → e ≡ noted m g a → Is e x a → ArePrintable vs → Agrees n Js f (k (x, e, us)) (k' (a, vs))
+    go : (x : X) (e : Flags) (us : Symbols) (a : A) (vs : Symbols) → us ≡ vs → e ≡ noted m g a → Is e x a → ArePrintable vs → Agrees n Js f (k (x, e, us)) (k' (a, vs))
     go x e us a vs p q i pr = rw (p, q) (c x a vs (subst (λ (z : Flags). Is z x a) q i) pr)
 
 -- the rest behind what comes next
-pub after_printable : (t : Symbol) (ts us : Row) → ArePrintable ts → after t ts ≡ Some us → ArePrintable us
+pub after_printable : (t : Symbol) (ts us : Symbols) → ArePrintable ts → after t ts ≡ Some us → ArePrintable us
 unfolding after
 after_printable t [] us p h = absurd cc
 after_printable t (u ∷ ts) us p h = go (is_same u t) h
@@ -132,11 +133,11 @@ after_printable t (u ∷ ts) us p h = go (is_same u t) h
     go true k = let same : ts ≡ us = cc k in subst ArePrintable same p.1
     go false k = absurd cc
 
-pub agrees_after : {Y B : Type 0} (n : Marks B) (Js : Flags → Y → B → Type 0) (f : Flags) (o : Option Row) (k : Row → Option (Read Y)) (k' : Row → Option (B × Row)) → ((us : Row) → o ≡ Some us → ArePrintable us) → ((us : Row) → ArePrintable us → Agrees n Js f (k us) (k' us)) → Agrees n Js f (o >>= k) (o >>= k')
+pub agrees_after : {Y B : Type 0} (n : Marks B) (Js : Flags → Y → B → Type 0) (f : Flags) (o : Option Symbols) (k : Symbols → Option (Read Y)) (k' : Symbols → Option (B × Symbols)) → ((us : Symbols) → o ≡ Some us → ArePrintable us) → ((us : Symbols) → ArePrintable us → Agrees n Js f (k us) (k' us)) → Agrees n Js f (o >>= k) (o >>= k')
 agrees_after n Js f None k k' p c = tt
 agrees_after n Js f (Some us) k k' p c = c us (p us refl)
 
-pub agrees_either : {Y B : Type 0} (n : Marks B) (Js : Flags → Y → B → Type 0) (f : Flags) (o : Option Row) (a : Option (Read Y)) (a' : Option (B × Row)) (k : Row → Option (Read Y)) (k' : Row → Option (B × Row)) → ((us : Row) → o ≡ Some us → ArePrintable us) → Agrees n Js f a a' → ((us : Row) → ArePrintable us → Agrees n Js f (k us) (k' us)) → Agrees n Js f (either o a k) (either o a' k')
+pub agrees_either : {Y B : Type 0} (n : Marks B) (Js : Flags → Y → B → Type 0) (f : Flags) (o : Option Symbols) (a : Option (Read Y)) (a' : Option (B × Symbols)) (k : Symbols → Option (Read Y)) (k' : Symbols → Option (B × Symbols)) → ((us : Symbols) → o ≡ Some us → ArePrintable us) → Agrees n Js f a a' → ((us : Symbols) → ArePrintable us → Agrees n Js f (k us) (k' us)) → Agrees n Js f (either o a k) (either o a' k')
 agrees_either n Js f None a a' k k' p h c = h
 agrees_either n Js f (Some us) a a' k k' p h c = c us (p us refl)
 
@@ -165,7 +166,7 @@ module _ (f : Flags) (o : Op) (l r : Expr) (bl br : BuiltTree) (il : IsBuilt (no
   joined_deep = (λ i. f2.deep || ltb 64 (suc (max (il.0 i) (ir.0 i)))) ∙ deep_joins (height l) (height r) f.deep
 
   pub joined_flags : join_flags bl br f2 ≡ noted expr_marks f (operation o l r)
-  joined_flags = λ i. record { over = (or_else_none f2.over ∙ or_else_assoc f.over (expr_passed l) (expr_passed r)) i; deep = joined_deep i }
+  joined_flags = λ i. record { over = (option_or_none f2.over ∙ option_or_assoc f.over (expr_passed l) (expr_passed r)) i; deep = joined_deep i }
 
   joined_tree : (b : Bool) → clear (join_flags bl br f2) ≡ b → b ≡ true → cond b (operation o bl.tree br.tree) stand_in ≡ operation o l r
   joined_tree true e h =
@@ -190,7 +191,7 @@ module _ (f : Flags) (e : Expr) (b : BuiltTree) (is : IsBuilt (noted expr_marks 
   negated_deep = (λ i. g1.deep || ltb 64 (suc (is.0 i))) ∙ deep_negates (height e) f.deep
 
   pub negated_flags : negate_flags b g1 ≡ noted expr_marks f (negation e)
-  negated_flags = λ i. record { over = or_else_none g1.over i; deep = negated_deep i }
+  negated_flags = λ i. record { over = option_or_none g1.over i; deep = negated_deep i }
 
   negated_tree : (t : Bool) → clear (negate_flags b g1) ≡ t → t ≡ true → cond t (negation b.tree) stand_in ≡ negation e
   negated_tree true h k =
@@ -208,16 +209,16 @@ module _ (f : Flags) (e : Expr) (b : BuiltTree) (is : IsBuilt (noted expr_marks 
 -- ---- levels
 
 abbrev pub AgreesAll : {X A : Type 0} → Marks A → (Flags → X → A → Type 0) → Reader X → TreeReader A → Type 0
-AgreesAll m Is read find = (f : Flags) (ts : Row) → ArePrintable ts → Agrees m Is f (read f ts) (find ts)
+AgreesAll m Is read find = (f : Flags) (ts : Symbols) → ArePrintable ts → Agrees m Is f (read f ts) (find ts)
 
 abbrev pub Mirrors : Reader BuiltTree → TreeReader Expr → Type 0
 Mirrors read find = AgreesAll expr_marks IsBuilt read find
 
-one_built : (f : Flags) (b : BuiltTree) (e : Expr) (ts : Row) → IsBuilt (noted expr_marks f e) b e → ArePrintable ts → Agree expr_marks IsBuilt f (b, noted expr_marks f e, ts) (e, ts)
+one_built : (f : Flags) (b : BuiltTree) (e : Expr) (ts : Symbols) → IsBuilt (noted expr_marks f e) b e → ArePrintable ts → Agree expr_marks IsBuilt f (b, noted expr_marks f e, ts) (e, ts)
 one_built f b e ts i p = record { left = refl; flags = refl; is = i; printable = p }
 
 module _ (level : ℕ) (read : Reader BuiltTree) (find : TreeReader Expr) (c : Mirrors read find) where
-  tail_mirrors : (n : ℕ) (f : Flags) (b : BuiltTree) (l : Expr) (ts : Row) → IsBuilt (noted expr_marks f l) b l → ArePrintable ts → Agrees expr_marks IsBuilt f (tail_at level read n b (noted expr_marks f l) ts) (tail_of level find n l ts)
+  tail_mirrors : (n : ℕ) (f : Flags) (b : BuiltTree) (l : Expr) (ts : Symbols) → IsBuilt (noted expr_marks f l) b l → ArePrintable ts → Agrees expr_marks IsBuilt f (tail_at level read n b (noted expr_marks f l) ts) (tail_of level find n l ts)
   unfolding tail_at tail_of
   tail_mirrors zero f b l ts i p = tt
   tail_mirrors (suc n) f b l [] i p = one_built f b l [] i p
@@ -226,7 +227,7 @@ module _ (level : ℕ) (read : Reader BuiltTree) (find : TreeReader Expr) (c : M
       g : Flags
       g = noted expr_marks f l
 
-      go : (q : Option Op) → ((b' : BuiltTree) (l' : Expr) (ts' : Row) → IsBuilt (noted expr_marks f l') b' l' → ArePrintable ts' → Agrees expr_marks IsBuilt f (tail_at level read n b' (noted expr_marks f l') ts') (tail_of level find n l' ts')) → Agrees expr_marks IsBuilt f (at_operator {A = Option (Read BuiltTree)} q (Some (b, g, t ∷ ts)) (λ o. read g ts >>= λ x. tail_at level read n (join_tree o b x.0 x.1) (join_flags b x.0 x.1) x.2)) (at_operator {A = Option (Expr × Row)} q (Some (l, t ∷ ts)) (λ o. find ts >>= λ x. tail_of level find n (operation o l x.0) x.1))
+      go : (q : Option Op) → ((b' : BuiltTree) (l' : Expr) (ts' : Symbols) → IsBuilt (noted expr_marks f l') b' l' → ArePrintable ts' → Agrees expr_marks IsBuilt f (tail_at level read n b' (noted expr_marks f l') ts') (tail_of level find n l' ts')) → Agrees expr_marks IsBuilt f (at_operator {A = Option (Read BuiltTree)} q (Some (b, g, t ∷ ts)) (λ o. read g ts >>= λ x. tail_at level read n (join_tree o b x.0 x.1) (join_flags b x.0 x.1) x.2)) (at_operator {A = Option (Expr × Symbols)} q (Some (l, t ∷ ts)) (λ o. find ts >>= λ x. tail_of level find n (operation o l x.0) x.1))
       go None ih = one_built f b l (t ∷ ts) i p
       go (Some o) ih =
           agrees_bind expr_marks IsBuilt expr_marks IsBuilt f g (read g ts) (find ts) (λ x. tail_at level read n (join_tree o b x.0 x.1) (join_flags b x.0 x.1) x.2) (λ x. tail_of level find n (operation o l x.0) x.1) (c g ts p.1)
@@ -238,14 +239,14 @@ module _ (level : ℕ) (read : Reader BuiltTree) (find : TreeReader Expr) (c : M
       agrees_bind expr_marks IsBuilt expr_marks IsBuilt f f (read f ts) (find ts) (λ x. tail_at level read (suc (length x.2)) x.0 x.1 x.2) (λ x. tail_of level find (suc (length x.1)) x.0 x.1) (c f ts p)
       (λ x a us i pu. tail_mirrors (suc (length us)) f x a us i pu)
 
-  second_mirrors : (f : Flags) (b : BuiltTree) (l : Expr) (ts : Row) → IsBuilt (noted expr_marks f l) b l → ArePrintable ts → Agrees expr_marks IsBuilt f (second_at level read b (noted expr_marks f l) ts) (second_of level find l ts)
+  second_mirrors : (f : Flags) (b : BuiltTree) (l : Expr) (ts : Symbols) → IsBuilt (noted expr_marks f l) b l → ArePrintable ts → Agrees expr_marks IsBuilt f (second_at level read b (noted expr_marks f l) ts) (second_of level find l ts)
   second_mirrors f b l [] i p = one_built f b l [] i p
   second_mirrors f b l (t ∷ ts) i p = go (of_level level (operator t))
     where
       g : Flags
       g = noted expr_marks f l
 
-      go : (q : Option Op) → Agrees expr_marks IsBuilt f (at_operator {A = Option (Read BuiltTree)} q (Some (b, g, t ∷ ts)) (λ o. read g ts >>= λ x. Some (join_tree o b x.0 x.1, join_flags b x.0 x.1, x.2))) (at_operator {A = Option (Expr × Row)} q (Some (l, t ∷ ts)) (λ o. find ts >>= λ x. Some (operation o l x.0, x.1)))
+      go : (q : Option Op) → Agrees expr_marks IsBuilt f (at_operator {A = Option (Read BuiltTree)} q (Some (b, g, t ∷ ts)) (λ o. read g ts >>= λ x. Some (join_tree o b x.0 x.1, join_flags b x.0 x.1, x.2))) (at_operator {A = Option (Expr × Symbols)} q (Some (l, t ∷ ts)) (λ o. find ts >>= λ x. Some (operation o l x.0, x.1)))
       go None = one_built f b l (t ∷ ts) i p
       go (Some o) =
           agrees_bind expr_marks IsBuilt expr_marks IsBuilt f g (read g ts) (find ts) (λ x. Some (join_tree o b x.0 x.1, join_flags b x.0 x.1, x.2)) (λ x. Some (operation o l x.0, x.1)) (c g ts p.1)
@@ -268,75 +269,75 @@ module _ (read : Reader BuiltTree) (find : TreeReader Expr) (c : Mirrors read fi
 
 -- ---- leaves
 
-plain_limit : (n : ℕ) → when (is_none (signed false n)) limit.Number ≡ expr_passed (number (pos n))
+plain_limit : (n : ℕ) → then_some (is_none (signed false n)) limit.Number ≡ expr_passed (number (pos n))
 plain_limit n = go (ltb n (2 ^ 63)) (ltb (2 ^ 63 - 1) n) refl refl
   where
-    go : (a b : Bool) → ltb n (2 ^ 63) ≡ a → ltb (2 ^ 63 - 1) n ≡ b → when (is_none (cond a (Some (pos n)) None)) limit.Number ≡ when b limit.Number
+    go : (a b : Bool) → ltb n (2 ^ 63) ≡ a → ltb (2 ^ 63 - 1) n ≡ b → then_some (is_none (cond a (Some (pos n)) None)) limit.Number ≡ then_some b limit.Number
     go true false h k = refl
     go false true h k = refl
     go true true h k = absurd (grind (arith, nat_tests))
     go false false h k = absurd (grind (arith, nat_tests))
 
-plain_tree : (n : ℕ) → when (is_none (signed false n)) limit.Number ≡ None → int_tree (signed false n) ≡ number (pos n)
+plain_tree : (n : ℕ) → then_some (is_none (signed false n)) limit.Number ≡ None → int_tree (signed false n) ≡ number (pos n)
 plain_tree n h = go (ltb n (2 ^ 63)) h
   where
-    go : (a : Bool) → when (is_none (cond a (Some (pos n)) None)) limit.Number ≡ None → int_tree (cond a (Some (pos n)) None) ≡ number (pos n)
+    go : (a : Bool) → then_some (is_none (cond a (Some (pos n)) None)) limit.Number ≡ None → int_tree (cond a (Some (pos n)) None) ≡ number (pos n)
     go true h = refl
     go false h = absurd cc
 
-minus_limit : (n : ℕ) → when (is_none (signed true n)) limit.Number ≡ expr_passed (number (neg_ℤ (pos n)))
+minus_limit : (n : ℕ) → then_some (is_none (signed true n)) limit.Number ≡ expr_passed (number (neg_ℤ (pos n)))
 minus_limit zero = refl
 minus_limit (suc n) = go (leb (suc n) (2 ^ 63)) (ltb (2 ^ 63) (n + 1)) refl refl
   where
-    go : (a b : Bool) → leb (suc n) (2 ^ 63) ≡ a → ltb (2 ^ 63) (n + 1) ≡ b → when (is_none (cond a (Some (neg_ℤ (pos (suc n)))) None)) limit.Number ≡ when b limit.Number
+    go : (a b : Bool) → leb (suc n) (2 ^ 63) ≡ a → ltb (2 ^ 63) (n + 1) ≡ b → then_some (is_none (cond a (Some (neg_ℤ (pos (suc n)))) None)) limit.Number ≡ then_some b limit.Number
     go true false h k = refl
     go false true h k = refl
     go true true h k = absurd (grind (arith, nat_tests))
     go false false h k = absurd (grind (arith, nat_tests))
 
-minus_tree : (n : ℕ) → when (is_none (signed true n)) limit.Number ≡ None → int_tree (signed true n) ≡ number (neg_ℤ (pos n))
+minus_tree : (n : ℕ) → then_some (is_none (signed true n)) limit.Number ≡ None → int_tree (signed true n) ≡ number (neg_ℤ (pos n))
 minus_tree n h = go (leb n (2 ^ 63)) h
   where
-    go : (a : Bool) → when (is_none (cond a (Some (neg_ℤ (pos n))) None)) limit.Number ≡ None → int_tree (cond a (Some (neg_ℤ (pos n))) None) ≡ number (neg_ℤ (pos n))
+    go : (a : Bool) → then_some (is_none (cond a (Some (neg_ℤ (pos n))) None)) limit.Number ≡ None → int_tree (cond a (Some (neg_ℤ (pos n))) None) ≡ number (neg_ℤ (pos n))
     go true h = refl
     go false h = absurd cc
 
 -- a number that is read, beside the one that is found
-int_agrees : (z : Option ℤ) (x : ℤ) (f : Flags) (ts : Row) → when (is_none z) limit.Number ≡ expr_passed (number x) → (when (is_none z) limit.Number ≡ None → int_tree z ≡ number x) → ArePrintable ts → Agrees expr_marks IsBuilt f (int_at z f ts) (Some (number x, ts))
+int_agrees : (z : Option ℤ) (x : ℤ) (f : Flags) (ts : Symbols) → then_some (is_none z) limit.Number ≡ expr_passed (number x) → (then_some (is_none z) limit.Number ≡ None → int_tree z ≡ number x) → ArePrintable ts → Agrees expr_marks IsBuilt f (int_at z f ts) (Some (number x, ts))
 int_agrees z x f ts l t p =
-    let same : note f (when (is_none z) limit.Number) false ≡ note f (expr_passed (number x)) false = ap (λ (o : Option LimitName). note f o false) l in
-    let built : clear (note f (when (is_none z) limit.Number) false) ≡ true → int_tree z ≡ number x = λ c. t (clear_passes f (when (is_none z) limit.Number) false c) in
+    let same : note f (then_some (is_none z) limit.Number) false ≡ note f (expr_passed (number x)) false = ap (λ (o : Option LimitName). note f o false) l in
+    let built : clear (note f (then_some (is_none z) limit.Number) false) ≡ true → int_tree z ≡ number x = λ c. t (clear_passes f (then_some (is_none z) limit.Number) false c) in
     record { left = refl; flags = same; is = (refl, built); printable = p }
 
-short_text : (t : List ℕ) → list_all is_printable t ≡ true → when (ltb 255 (length t)) limit.Text ≡ None → text_tree t ≡ letters t
+short_text : (t : List ℕ) → list_all is_printable t ≡ true → then_some (ltb 255 (length t)) limit.Text ≡ None → text_tree t ≡ letters t
 short_text t p h = go (leb (length t) 255) (list_all is_printable t) refl p h
   where
-    go : (a b : Bool) → leb (length t) 255 ≡ a → b ≡ true → when (ltb 255 (length t)) limit.Text ≡ None → cond (a && b) (letters t) stand_in ≡ letters t
+    go : (a b : Bool) → leb (length t) 255 ≡ a → b ≡ true → then_some (ltb 255 (length t)) limit.Text ≡ None → cond (a && b) (letters t) stand_in ≡ letters t
     go true true e p h = refl
     go true false e p h = absurd cc
     go false b e p h = absurd (long (ltb 255 (length t)) refl h)
       where
-        long : (d : Bool) → ltb 255 (length t) ≡ d → when d limit.Text ≡ None → ⊥
+        long : (d : Bool) → ltb 255 (length t) ≡ d → then_some d limit.Text ≡ None → ⊥
         long true k h = cc
         long false k h = grind (arith, nat_tests)
 
 kept_is : (f : Flags) (x e : Expr) → (clear f ≡ true → x ≡ e) → clear f ≡ true → kept f x ≡ e
 kept_is f x e h c = rw c (h c)
 
-text_agrees : (t : List ℕ) (f : Flags) (ts : Row) → list_all is_printable t ≡ true → ArePrintable ts → Agrees expr_marks IsBuilt f (text_at t f ts) (Some (letters t, ts))
+text_agrees : (t : List ℕ) (f : Flags) (ts : Symbols) → list_all is_printable t ≡ true → ArePrintable ts → Agrees expr_marks IsBuilt f (text_at t f ts) (Some (letters t, ts))
 text_agrees t f ts q p =
     record { left = refl; flags = refl; is = (refl, λ c. kept_is (text_flags t f) (text_tree t) (letters t) (λ k. short_text t q (clear_passes f (expr_passed (letters t)) false k)) c); printable = p }
 
 pub kept_name_is : (f : Flags) (n : List ℕ) → clear f ≡ true → kept_name f n ≡ n
 kept_name_is f n c = rw c refl
 
-column_agrees : (n : List ℕ) (f : Flags) (ts : Row) → ArePrintable ts → Agrees expr_marks IsBuilt f (column_at n f ts) (Some (Column n, ts))
+column_agrees : (n : List ℕ) (f : Flags) (ts : Symbols) → ArePrintable ts → Agrees expr_marks IsBuilt f (column_at n f ts) (Some (Column n, ts))
 column_agrees n f ts p = record { left = refl; flags = refl; is = (refl, λ c. ap (λ (x : List ℕ). Column x) (kept_name_is (name_flags n f) n c)); printable = p }
 
-named_agrees : (n : List ℕ) (f : Flags) (ts : Row) → ArePrintable ts → Agrees expr_marks IsBuilt f (named_at n f ts) (Some (Variable n, ts))
+named_agrees : (n : List ℕ) (f : Flags) (ts : Symbols) → ArePrintable ts → Agrees expr_marks IsBuilt f (named_at n f ts) (Some (Variable n, ts))
 named_agrees n f ts p = record { left = refl; flags = refl; is = (refl, λ c. ap (λ (x : List ℕ). Variable x) (kept_name_is (name_flags n f) n c)); printable = p }
 
-minus_agrees : (f : Flags) (ts : Row) → ArePrintable ts → Agrees expr_marks IsBuilt f (minus_at f ts) (minus_of ts)
+minus_agrees : (f : Flags) (ts : Symbols) → ArePrintable ts → Agrees expr_marks IsBuilt f (minus_at f ts) (minus_of ts)
 minus_agrees f (int n ∷ ts) p = int_agrees (signed true n) (neg_ℤ (pos n)) f ts (minus_limit n) (minus_tree n) p.1
 minus_agrees f [] p = tt
 minus_agrees f (key k ∷ ts) p = tt
@@ -344,7 +345,7 @@ minus_agrees f (name n ∷ ts) p = tt
 minus_agrees f (text t ∷ ts) p = tt
 minus_agrees f (sign s ∷ ts) p = tt
 
-colon_agrees : (f : Flags) (ts : Row) → ArePrintable ts → Agrees expr_marks IsBuilt f (colon_at f ts) (colon_of ts)
+colon_agrees : (f : Flags) (ts : Symbols) → ArePrintable ts → Agrees expr_marks IsBuilt f (colon_at f ts) (colon_of ts)
 colon_agrees f (name n ∷ ts) p = named_agrees n f ts p.1
 colon_agrees f [] p = tt
 colon_agrees f (key k ∷ ts) p = tt
@@ -353,7 +354,7 @@ colon_agrees f (text t ∷ ts) p = tt
 colon_agrees f (sign s ∷ ts) p = tt
 
 module _ (read : Reader BuiltTree) (find : TreeReader Expr) (c : Mirrors read find) where
-  paren_agrees : (f : Flags) (ts : Row) → ArePrintable ts → Agrees expr_marks IsBuilt f (paren_at read f ts) (paren_of find ts)
+  paren_agrees : (f : Flags) (ts : Symbols) → ArePrintable ts → Agrees expr_marks IsBuilt f (paren_at read f ts) (paren_of find ts)
   paren_agrees f ts p =
       agrees_bind expr_marks IsBuilt expr_marks IsBuilt f f (read f ts) (find ts) (λ x. after (sign mark.Close) x.2 >>= λ us. Some (x.0, x.1, us)) (λ x. after (sign mark.Close) x.1 >>= λ us. Some (x.0, us)) (c f ts p)
       (λ x a us i pu. agrees_after expr_marks IsBuilt f (after (sign mark.Close) us) (λ vs. Some (x, noted expr_marks f a, vs)) (λ vs. Some (a, vs)) (λ vs e. after_printable (sign mark.Close) us vs pu e) (λ vs pv. one_built f x a vs i pv))

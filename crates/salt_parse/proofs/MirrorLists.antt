@@ -4,28 +4,30 @@ use Rattle.std.proofs.lemmas.Bool.{leb-true}
 use Rattle.std.proofs.lemmas.Bool.Decides.{nat_tests}
 use Rattle.std.specs.List.{list_any}
 use Rattle.salt_ast.specs.Limits.{passed_in_list}
-use Rattle.salt_ast.specs.Words.{first_in, or_else, when}
+use Rattle.salt_ast.specs.Words.{first_in}
+use Rattle.std.specs.Bool.{then_some}
+use Rattle.std.specs.Option.{option_or}
 use Rattle.salt_ast.specs.declared.limit.LimitName.{LimitName}
 use Rattle.salt_parse.specs.Flags.{Flags, clear, note}
 use Rattle.salt_parse.specs.Lists.{comma, following_at, listed_at, with_front}
 use Rattle.salt_parse.specs.Reading.{Read, Reader}
-use Rattle.salt_parse.proofs.Mirror.{Agree, Agrees, AgreesAll, ArePrintable, IsKept, Marks, after_printable, agrees_bind, agrees_either, clear_before, note_note, noted, or_else_none, or_false}
+use Rattle.salt_parse.proofs.Mirror.{Agree, Agrees, AgreesAll, ArePrintable, AreKept, Marks, after_printable, agrees_bind, agrees_either, clear_before, note_note, noted, option_or_none, or_false}
 use Rattle.salt_parse.proofs.StatementTrees.{ahead, following_of, listed_of}
 use Rattle.salt_parse.proofs.Trees.{TreeReader}
 use Rattle.salt_tokens.specs.Scanning.{◌>>=◌}
-use Rattle.salt_tokens.specs.Symbols.{Row, sign}
+use Rattle.salt_tokens.specs.Symbols.{Symbols, sign}
 use Rattle.salt_tokens.specs.declared.sign.Sign.TheVariants as mark
 
 pub note_none : (f : Flags) → note f None false ≡ f
-note_none f = λ i. record { over = or_else_none f.over i; deep = or_false f.deep i }
+note_none f = λ i. record { over = option_or_none f.over i; deep = or_false f.deep i }
 
-pub done : {A : Type 0} (m : Marks A) (f : Flags) (x a : A) (g : Flags) (us : Row) → g ≡ noted m f a → (clear g ≡ true → x ≡ a) → ArePrintable us → Agree m IsKept f (x, g, us) (a, us)
+pub done : {A : Type 0} (m : Marks A) (f : Flags) (x a : A) (g : Flags) (us : Symbols) → g ≡ noted m f a → (clear g ≡ true → x ≡ a) → ArePrintable us → Agree m AreKept f (x, g, us) (a, us)
 done m f x a g us e i p = record { left = refl; flags = e; is = i; printable = p }
 
 -- the marks of a list, from its first item's number on
 abbrev passed_from : {A : Type 0} → (ℕ → Marks A) → ℕ → List A → Option LimitName
 passed_from m n [] = None
-passed_from m n (x ∷ xs) = or_else ((m n).passed x) (passed_from m (suc n) xs)
+passed_from m n (x ∷ xs) = option_or ((m n).passed x) (passed_from m (suc n) xs)
 
 abbrev high_from : {A : Type 0} → (ℕ → Marks A) → ℕ → List A → Bool
 high_from m n [] = false
@@ -35,23 +37,23 @@ abbrev pub from_marks : {A : Type 0} → (ℕ → Marks A) → ℕ → Marks (Li
 from_marks m n = record { passed = passed_from m n; high = high_from m n }
 
 -- what stands behind a separator is printable too
-abbrev pub Keeps : (Row → Option Row) → Type 0
-Keeps separator = (ts us : Row) → ArePrintable ts → separator ts ≡ Some us → ArePrintable us
+abbrev pub Keeps : (Symbols → Option Symbols) → Type 0
+Keeps separator = (ts us : Symbols) → ArePrintable ts → separator ts ≡ Some us → ArePrintable us
 
-module _ {A : Type 0} (separator : Row → Option Row) (keeps : Keeps separator) (m : ℕ → Marks A) (item : ℕ → Reader A) (find : TreeReader A) (c : (n : ℕ) → AgreesAll (m n) IsKept (item n) find) where
-  empty : (n : ℕ) (f : Flags) (ts : Row) → ArePrintable ts → Agree (from_marks m n) IsKept f ([], f, ts) ([], ts)
+module _ {A : Type 0} (separator : Symbols → Option Symbols) (keeps : Keeps separator) (m : ℕ → Marks A) (item : ℕ → Reader A) (find : TreeReader A) (c : (n : ℕ) → AgreesAll (m n) AreKept (item n) find) where
+  empty : (n : ℕ) (f : Flags) (ts : Symbols) → ArePrintable ts → Agree (from_marks m n) AreKept f ([], f, ts) ([], ts)
   empty n f ts p = done (from_marks m n) f [] [] f ts (sym (note_none f)) (λ c. refl) p
 
-  pub following_agrees : (n room : ℕ) → AgreesAll (from_marks m n) IsKept (following_at separator item n room) (following_of separator find room)
+  pub following_agrees : (n room : ℕ) → AgreesAll (from_marks m n) AreKept (following_at separator item n room) (following_of separator find room)
   unfolding following_at following_of
   following_agrees n zero f ts p =
-      agrees_either (from_marks m n) IsKept f (separator ts) (Some ([], f, ts)) (Some ([], ts)) (λ us. None) (λ us. None) (λ us e. keeps ts us p e) (empty n f ts p) (λ us pu. tt)
+      agrees_either (from_marks m n) AreKept f (separator ts) (Some ([], f, ts)) (Some ([], ts)) (λ us. None) (λ us. None) (λ us e. keeps ts us p e) (empty n f ts p) (λ us pu. tt)
   following_agrees n (suc room) f ts p =
-      agrees_either (from_marks m n) IsKept f (separator ts) (Some ([], f, ts)) (Some ([], ts)) (λ us. item n f us >>= λ x. with_front (x.0 ∷ []) (following_at separator item (suc n) room x.1 x.2)) (λ us. find us >>= λ x. ahead (x.0 ∷ []) (following_of separator find room x.1)) (λ us e. keeps ts us p e) (empty n f ts p)
+      agrees_either (from_marks m n) AreKept f (separator ts) (Some ([], f, ts)) (Some ([], ts)) (λ us. item n f us >>= λ x. with_front (x.0 ∷ []) (following_at separator item (suc n) room x.1 x.2)) (λ us. find us >>= λ x. ahead (x.0 ∷ []) (following_of separator find room x.1)) (λ us e. keeps ts us p e) (empty n f ts p)
       (λ us pu.
-      agrees_bind (m n) IsKept (from_marks m n) IsKept f f (item n f us) (find us) (λ x. with_front (x.0 ∷ []) (following_at separator item (suc n) room x.1 x.2)) (λ x. ahead (x.0 ∷ []) (following_of separator find room x.1)) (c n f us pu)
+      agrees_bind (m n) AreKept (from_marks m n) AreKept f f (item n f us) (find us) (λ x. with_front (x.0 ∷ []) (following_at separator item (suc n) room x.1 x.2)) (λ x. ahead (x.0 ∷ []) (following_of separator find room x.1)) (c n f us pu)
       (λ x a vs i pv.
-      agrees_bind (from_marks m (suc n)) IsKept (from_marks m n) IsKept f (noted (m n) f a) (following_at separator item (suc n) room (noted (m n) f a) vs) (following_of separator find room vs) (λ y. Some (x ∷ y.0, y.1, y.2)) (λ y. Some (a ∷ y.0, y.1)) (following_agrees (suc n) room (noted (m n) f a) vs pv)
+      agrees_bind (from_marks m (suc n)) AreKept (from_marks m n) AreKept f (noted (m n) f a) (following_at separator item (suc n) room (noted (m n) f a) vs) (following_of separator find room vs) (λ y. Some (x ∷ y.0, y.1, y.2)) (λ y. Some (a ∷ y.0, y.1)) (following_agrees (suc n) room (noted (m n) f a) vs pv)
       (λ y b ws j pw. done (from_marks m n) f (x ∷ y) (a ∷ b) (noted (from_marks m (suc n)) (noted (m n) f a) b) ws (note_note f ((m n).passed a) (passed_from m (suc n) b) ((m n).high a) (high_from m (suc n) b))
       (λ c2. (let c1 : clear (noted (m n) f a) ≡ true = clear_before (noted (m n) f a) (passed_from m (suc n) b) (high_from m (suc n) b) c2 in let e0 : x ≡ a = i c1 in let e1 : y ≡ b = j c2 in λ t. e0 t ∷ e1 t)) pw)))
 
@@ -62,7 +64,7 @@ list_marks m = record { passed = first_in m.passed; high = list_any m.high }
 
 plain_passed : {A : Type 0} (m : Marks A) (n : ℕ) (xs : List A) → passed_from (λ k. m) n xs ≡ first_in m.passed xs
 plain_passed m n [] = refl
-plain_passed m n (x ∷ xs) = ap (λ (o : Option LimitName). or_else (m.passed x) o) (plain_passed m (suc n) xs)
+plain_passed m n (x ∷ xs) = ap (λ (o : Option LimitName). option_or (m.passed x) o) (plain_passed m (suc n) xs)
 
 plain_high : {A : Type 0} (m : Marks A) (n : ℕ) (xs : List A) → high_from (λ k. m) n xs ≡ list_any m.high xs
 plain_high m n [] = refl
@@ -71,28 +73,28 @@ plain_high m n (x ∷ xs) = ap (λ (b : Bool). m.high x || b) (plain_high m (suc
 pub comma_keeps : Keeps comma
 comma_keeps ts us p e = after_printable (sign mark.Comma) ts us p e
 
-pub listed_agrees : {A : Type 0} (m : Marks A) (item : Reader A) (find : TreeReader A) → AgreesAll m IsKept item find → AgreesAll (list_marks m) IsKept (listed_at item) (listed_of find)
+pub listed_agrees : {A : Type 0} (m : Marks A) (item : Reader A) (find : TreeReader A) → AgreesAll m AreKept item find → AgreesAll (list_marks m) AreKept (listed_at item) (listed_of find)
 listed_agrees m item find c f ts p =
-    agrees_bind m IsKept (list_marks m) IsKept f f (item f ts) (find ts) (λ x. with_front (x.0 ∷ []) (following_at comma (λ n. item) 1 (length x.2) x.1 x.2)) (λ x. ahead (x.0 ∷ []) (following_of comma find (length x.1) x.1)) (c f ts p)
+    agrees_bind m AreKept (list_marks m) AreKept f f (item f ts) (find ts) (λ x. with_front (x.0 ∷ []) (following_at comma (λ n. item) 1 (length x.2) x.1 x.2)) (λ x. ahead (x.0 ∷ []) (following_of comma find (length x.1) x.1)) (c f ts p)
     (λ x a us i pu.
-    agrees_bind (from_marks (λ n. m) 1) IsKept (list_marks m) IsKept f (noted m f a) (following_at comma (λ n. item) 1 (length us) (noted m f a) us) (following_of comma find (length us) us) (λ y. Some (x ∷ y.0, y.1, y.2)) (λ y. Some (a ∷ y.0, y.1)) (following_agrees comma comma_keeps (λ n. m) (λ n. item) find (λ n. c) 1 (length us) (noted m f a) us pu)
+    agrees_bind (from_marks (λ n. m) 1) AreKept (list_marks m) AreKept f (noted m f a) (following_at comma (λ n. item) 1 (length us) (noted m f a) us) (following_of comma find (length us) us) (λ y. Some (x ∷ y.0, y.1, y.2)) (λ y. Some (a ∷ y.0, y.1)) (following_agrees comma comma_keeps (λ n. m) (λ n. item) find (λ n. c) 1 (length us) (noted m f a) us pu)
     (λ y b ws j pw. done (list_marks m) f (x ∷ y) (a ∷ b) (noted (from_marks (λ n. m) 1) (noted m f a) b) ws
-    (note_note f (m.passed a) (passed_from (λ n. m) 1 b) (m.high a) (high_from (λ n. m) 1 b) ∙ λ t. note f (or_else (m.passed a) (plain_passed m 1 b t)) (m.high a || plain_high m 1 b t))
+    (note_note f (m.passed a) (passed_from (λ n. m) 1 b) (m.high a) (high_from (λ n. m) 1 b) ∙ λ t. note f (option_or (m.passed a) (plain_passed m 1 b t)) (m.high a || plain_high m 1 b t))
     (λ c2. (let c1 : clear (noted m f a) ≡ true = clear_before (noted m f a) (passed_from (λ n. m) 1 b) (high_from (λ n. m) 1 b) c2 in let e0 : x ≡ a = i c1 in let e1 : y ≡ b = j c2 in λ t. e0 t ∷ e1 t)) pw))
 
 -- ---- counted lists
 
 -- the marks of an item behind so many others
 abbrev pub counted_marks : {A : Type 0} → LimitName → Marks A → ℕ → Marks A
-counted_marks l m n = record { passed = λ x. or_else (when (leb 16 n) l) (m.passed x); high = m.high }
+counted_marks l m n = record { passed = λ x. option_or (then_some (leb 16 n) l) (m.passed x); high = m.high }
 
 -- the flags are noted before the item
-pub agrees_counted : {A : Type 0} (l : LimitName) (m : Marks A) (n : ℕ) (f : Flags) (r : Option (Read A)) (q : Option (A × Row)) → Agrees m IsKept (note f (when (leb 16 n) l) false) r q → Agrees (counted_marks l m n) IsKept f r q
+pub agrees_counted : {A : Type 0} (l : LimitName) (m : Marks A) (n : ℕ) (f : Flags) (r : Option (Read A)) (q : Option (A × Symbols)) → Agrees m AreKept (note f (then_some (leb 16 n) l) false) r q → Agrees (counted_marks l m n) AreKept f r q
 agrees_counted l m n f None None h = tt
 agrees_counted l m n f None (Some y) h = h
 agrees_counted l m n f (Some x) None h = h
 agrees_counted l m n f (Some x) (Some y) h =
-    record { left = h.left; flags = h.flags ∙ note_note f (when (leb 16 n) l) (m.passed y.0) false (m.high y.0); is = h.is; printable = h.printable }
+    record { left = h.left; flags = h.flags ∙ note_note f (then_some (leb 16 n) l) (m.passed y.0) false (m.high y.0); is = h.is; printable = h.printable }
 
 pub counted_high : {A : Type 0} (l : LimitName) (m : Marks A) (n : ℕ) (xs : List A) → high_from (counted_marks l m) n xs ≡ list_any m.high xs
 counted_high l m n [] = refl
@@ -102,9 +104,9 @@ pub counted_passed : {A : Type 0} (l : LimitName) (m : Marks A) (n : ℕ) (xs : 
 counted_passed l m n [] = refl
 counted_passed {A} l m n (x ∷ xs) = go (leb 16 n) refl (counted_passed l m (suc n) xs)
   where
-    go : (b : Bool) → leb 16 n ≡ b → passed_from (counted_marks l m) (suc n) xs ≡ passed_in_list (16 - suc n) l m.passed xs → or_else (or_else (when b l) (m.passed x)) (passed_from (counted_marks l m) (suc n) xs) ≡ passed_in_list (16 - n) l m.passed (x ∷ xs)
+    go : (b : Bool) → leb 16 n ≡ b → passed_from (counted_marks l m) (suc n) xs ≡ passed_in_list (16 - suc n) l m.passed xs → option_or (option_or (then_some b l) (m.passed x)) (passed_from (counted_marks l m) (suc n) xs) ≡ passed_in_list (16 - n) l m.passed (x ∷ xs)
     go true e ih = let le : 16 ≤ n = leb-true 16 n e in let none : 16 - n ≡ 0 = omega arith in rw none refl
     go false e ih =
         let less : n < 16 = grind (arith, nat_tests) in
         let one : 16 - n ≡ suc (16 - suc n) = omega arith in
-        rw one (ap (λ (o : Option LimitName). or_else (m.passed x) o) ih)
+        rw one (ap (λ (o : Option LimitName). option_or (m.passed x) o) ih)

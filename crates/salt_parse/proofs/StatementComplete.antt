@@ -21,21 +21,21 @@ use Rattle.salt_parse.specs.TableReading.{field_comma}
 use Rattle.salt_parse.proofs.ExpressionLaws.{Begins-after, Begins-append, Complete, Sound, Stops, Stops-weaker, conjunction_complete, expression_begins, expression_complete, sum_complete}
 use Rattle.salt_parse.proofs.StatementTrees.{and_of, check_of, field_of, following_of, listed_of, name_of, scan_of, set_of, sets_of, statement_of, table_of, values_of, what_of}
 use Rattle.salt_parse.proofs.Trees.{TreeReader, expression_of}
-use Rattle.salt_tokens.specs.Symbols.{Row, key, name, sign}
+use Rattle.salt_tokens.specs.Symbols.{Symbols, key, name, sign}
 use Rattle.salt_tokens.specs.declared.keyword.Keyword.TheVariants as word
 use Rattle.salt_tokens.specs.declared.sign.Sign.TheVariants as mark
 
 -- what is spelled so is found, where `Follow` holds of what follows
-abbrev pub CompleteFor : {A : Type 0} → (Row → Type 0) → (Row → A → Type 0) → TreeReader A → Type 0
-CompleteFor {A} Follow G find = (ts rest : Row) (x : A) → G ts x → Follow rest → find (ts ++ rest) ≡ Some (x, rest)
+abbrev pub CompleteFor : {A : Type 0} → (Symbols → Type 0) → (Symbols → A → Type 0) → TreeReader A → Type 0
+CompleteFor {A} Follow G find = (ts rest : Symbols) (x : A) → G ts x → Follow rest → find (ts ++ rest) ≡ Some (x, rest)
 
 -- what may follow a statement: no operation, no `where` and no comma
-pub record Ends (rest : Row) : Type 0 where
+pub record Ends (rest : Symbols) : Type 0 where
   pub stops : Stops 1 rest
   pub no_where : after (key word.Where) rest ≡ None
   pub no_comma : comma rest ≡ None
 
-abbrev Anything : Row → Type 0
+abbrev Anything : Symbols → Type 0
 Anything rest = Unit {0}
 
 name_complete : CompleteFor Anything IsName name_of
@@ -43,19 +43,19 @@ name_complete _ rest _ form.is_name f = refl
 
 -- ---- lists
 
-following_few : {A : Type 0} {G : Row → A → Type 0} {ts : Row} {xs : List A} → Following G ts xs → length xs ≤ length ts
+following_few : {A : Type 0} {G : Symbols → A → Type 0} {ts : Symbols} {xs : List A} → Following G ts xs → length xs ≤ length ts
 following_few form.no_more = omega arith
 following_few (form.one_more {a = u} {b = v} g d) = omega (arith, length-append u v, following_few d)
 
-comma_stops : (us : Row) → Stops 1 (sign mark.Comma ∷ us)
+comma_stops : (us : Symbols) → Stops 1 (sign mark.Comma ∷ us)
 comma_stops us o h = absurd cc
 
-module _ {A : Type 0} (separator : Row → Option Row) (G : Row → A → Type 0) (find : TreeReader A) (Follow : Row → Type 0) (c : CompleteFor Follow G find) (goes : (us : Row) → Follow (sign mark.Comma ∷ us)) where
-  pub follows : {ts : Row} {xs : List A} (rest : Row) → Following G ts xs → Follow rest → Follow (ts ++ rest)
+module _ {A : Type 0} (separator : Symbols → Option Symbols) (G : Symbols → A → Type 0) (find : TreeReader A) (Follow : Symbols → Type 0) (c : CompleteFor Follow G find) (goes : (us : Symbols) → Follow (sign mark.Comma ∷ us)) where
+  pub follows : {ts : Symbols} {xs : List A} (rest : Symbols) → Following G ts xs → Follow rest → Follow (ts ++ rest)
   follows rest form.no_more f = f
   follows rest (form.one_more {a = u} {b = v} g d) f = goes ((u ++ v) ++ rest)
 
-  pub following_complete : (opens : (u us : Row) (x : A) → G u x → separator (sign mark.Comma ∷ (u ++ us)) ≡ Some (u ++ us)) → {ts : Row} {xs : List A} (room : ℕ) (rest : Row) → Following G ts xs → Follow rest → separator rest ≡ None → length xs ≤ room → following_of separator find room (ts ++ rest) ≡ Some (xs, rest)
+  pub following_complete : (opens : (u us : Symbols) (x : A) → G u x → separator (sign mark.Comma ∷ (u ++ us)) ≡ Some (u ++ us)) → {ts : Symbols} {xs : List A} (room : ℕ) (rest : Symbols) → Following G ts xs → Follow rest → separator rest ≡ None → length xs ≤ room → following_of separator find room (ts ++ rest) ≡ Some (xs, rest)
   unfolding following_of
   following_complete opens zero rest form.no_more f a few = rw a refl
   following_complete opens (suc room) rest form.no_more f a few = rw a refl
@@ -64,11 +64,11 @@ module _ {A : Type 0} (separator : Row → Option Row) (G : Row → A → Type 0
       let ih = following_complete opens {ts = v} {xs = xs} room rest d f a (omega arith) in
       rw (append_assoc u v rest, opens u (v ++ rest) x g, c u (v ++ rest) x g (follows rest d f), ih) refl
 
-comma_opens : {A : Type 0} (G : Row → A → Type 0) (u us : Row) (x : A) → G u x → comma (sign mark.Comma ∷ (u ++ us)) ≡ Some (u ++ us)
+comma_opens : {A : Type 0} (G : Symbols → A → Type 0) (u us : Symbols) (x : A) → G u x → comma (sign mark.Comma ∷ (u ++ us)) ≡ Some (u ++ us)
 unfolding after
 comma_opens G u us x g = refl
 
-listed_complete : {A : Type 0} (G : Row → A → Type 0) (find : TreeReader A) (Follow : Row → Type 0) (c : CompleteFor Follow G find) (goes : (us : Row) → Follow (sign mark.Comma ∷ us)) {ts : Row} {xs : List A} (rest : Row) → Listed G ts xs → Follow rest → comma rest ≡ None → listed_of find (ts ++ rest) ≡ Some (xs, rest)
+listed_complete : {A : Type 0} (G : Symbols → A → Type 0) (find : TreeReader A) (Follow : Symbols → Type 0) (c : CompleteFor Follow G find) (goes : (us : Symbols) → Follow (sign mark.Comma ∷ us)) {ts : Symbols} {xs : List A} (rest : Symbols) → Listed G ts xs → Follow rest → comma rest ≡ None → listed_of find (ts ++ rest) ≡ Some (xs, rest)
 listed_complete G find Follow c goes rest (form.items {a = u} {b = v} {x = x} {xs = xs} g d) f a =
     let few : length xs ≤ length (v ++ rest) = omega (arith, length-append v rest, following_few d) in
     let others = following_complete comma G find Follow c goes (comma_opens G) {ts = v} {xs = xs} (length (v ++ rest)) rest d f a few in
@@ -76,11 +76,11 @@ listed_complete G find Follow c goes rest (form.items {a = u} {b = v} {x = x} {x
 
 -- ---- what a SELECT shows
 
-from_stops : (us : Row) → comma (key word.From ∷ us) ≡ None
+from_stops : (us : Symbols) → comma (key word.From ∷ us) ≡ None
 unfolding after
 from_stops us = refl
 
-what_complete : {ts : Row} {x : What} (us : Row) → IsWhat ts x → what_of (ts ++ key word.From ∷ us) ≡ Some (x, key word.From ∷ us)
+what_complete : {ts : Symbols} {x : What} (us : Symbols) → IsWhat ts x → what_of (ts ++ key word.From ∷ us) ≡ Some (x, key word.From ∷ us)
 unfolding after
 what_complete us form.every_column = refl
 what_complete us (form.named_columns (form.items {b = b} {xs = ns} (form.is_name {n = n}) d)) =
@@ -91,7 +91,7 @@ what_complete us form.sum_of = refl
 what_complete us form.min_of = refl
 what_complete us form.max_of = refl
 
-not_into : {ts : Row} {x : What} (us : Row) → IsWhat ts x → is_into (ts ++ key word.From ∷ us) ≡ false
+not_into : {ts : Symbols} {x : What} (us : Symbols) → IsWhat ts x → is_into (ts ++ key word.From ∷ us) ≡ false
 not_into us form.every_column = refl
 not_into us (form.named_columns (form.items form.is_name form.no_more)) = refl
 not_into us (form.named_columns (form.items form.is_name (form.one_more g d))) = refl
@@ -106,18 +106,18 @@ not_into us form.max_of = refl
 and_below : (o : Op) → operator (key word.And) ≡ Some o → precedence o < 4
 and_below o h = let same : op.And ≡ o = cc h in rw (← same) (omega arith)
 
-module _ (Inner : Row → Expr → Type 0) (find : TreeReader Expr) (s : Sound Inner find) (c : Complete 1 Inner find) where
+module _ (Inner : Symbols → Expr → Type 0) (find : TreeReader Expr) (s : Sound Inner find) (c : Complete 1 Inner find) where
   and_complete : CompleteFor (Stops 1) (IsAnd Inner) (and_of find)
   unfolding after
   and_complete _ rest _ form.no_and st = rw (no_and_next rest st) refl
     where
-      no_and_next : (rest : Row) → Stops 1 rest → after (key word.And) rest ≡ None
+      no_and_next : (rest : Symbols) → Stops 1 rest → after (key word.And) rest ≡ None
       no_and_next [] st = refl
       no_and_next (key word.And ∷ us) st = absurd (omega (arith, st _ refl))
       no_and_next _ st = refl
   and_complete _ rest _ (form.and {ts = ts} {e = e} d) st = rw (conjunction_complete Inner find s c ts rest e d (Stops-weaker 1 2 rest (omega arith) st)) refl
 
-  and_stops : {b : Row} {f : Option Expr} (rest : Row) → IsAnd Inner b f → Stops 1 rest → Stops 4 (b ++ rest)
+  and_stops : {b : Symbols} {f : Option Expr} (rest : Symbols) → IsAnd Inner b f → Stops 1 rest → Stops 4 (b ++ rest)
   and_stops rest form.no_and st = Stops-weaker 1 4 rest (omega arith) st
   and_stops rest (form.and d) st = and_below
 
@@ -133,13 +133,13 @@ module _ (Inner : Row → Expr → Type 0) (find : TreeReader Expr) (s : Sound I
       rw (append_assoc a (key word.And ∷ (b ++ m)) rest, sum_complete Inner find s c a (key word.And ∷ ((b ++ m) ++ rest)) e d stops) (rw (append_assoc b m rest, sum_complete Inner find s c b (m ++ rest) g d2 (and_stops rest k st.stops), and_complete m rest f k st.stops) refl)
 
   -- what follows the columns of an UPDATE
-  scan_stops : {ts : Row} {x : Scan} (rest : Row) → IsScan Inner ts x → Ends rest → Stops 1 (ts ++ rest)
+  scan_stops : {ts : Symbols} {x : Scan} (rest : Symbols) → IsScan Inner ts x → Ends rest → Stops 1 (ts ++ rest)
   scan_stops rest form.no_where st = st.stops
   scan_stops rest (form.where_filter d) st = λ o h. absurd cc
   scan_stops rest (form.where_key d k) st = λ o h. absurd cc
   scan_stops rest (form.where_between d d2 k) st = λ o h. absurd cc
 
-  scan_no_comma : {ts : Row} {x : Scan} (rest : Row) → IsScan Inner ts x → Ends rest → comma (ts ++ rest) ≡ None
+  scan_no_comma : {ts : Symbols} {x : Scan} (rest : Symbols) → IsScan Inner ts x → Ends rest → comma (ts ++ rest) ≡ None
   unfolding after
   scan_no_comma rest form.no_where st = st.no_comma
   scan_no_comma rest (form.where_filter d) st = refl
@@ -150,20 +150,20 @@ module _ (Inner : Row → Expr → Type 0) (find : TreeReader Expr) (s : Sound I
   unfolding after
   set_complete _ rest _ (form.is_set {n = n} {ts = ts} {e = e} d) st = rw (expression_complete Inner find s c ts rest e d st) refl
 
-  sets_complete : {ts : Row} {xs : List Set} (rest : Row) → Listed (IsSet Inner) ts xs → Stops 1 rest → comma rest ≡ None → sets_of find (ts ++ rest) ≡ Some (xs, rest)
+  sets_complete : {ts : Symbols} {xs : List Set} (rest : Symbols) → Listed (IsSet Inner) ts xs → Stops 1 rest → comma rest ≡ None → sets_of find (ts ++ rest) ≡ Some (xs, rest)
   sets_complete rest d st a = listed_complete (IsSet Inner) (set_of find) (Stops 1) set_complete comma_stops rest d st a
 
-  values_complete : {ts : Row} {xs : List Expr} (rest : Row) → Listed (Expression Inner) ts xs → Stops 1 rest → comma rest ≡ None → values_of find (ts ++ rest) ≡ Some (xs, rest)
+  values_complete : {ts : Symbols} {xs : List Expr} (rest : Symbols) → Listed (Expression Inner) ts xs → Stops 1 rest → comma rest ≡ None → values_of find (ts ++ rest) ≡ Some (xs, rest)
   values_complete rest d st a = listed_complete (Expression Inner) (expression_of find) (Stops 1) (expression_complete Inner find s c) comma_stops rest d st a
 
-close_stops : (us : Row) → Stops 1 (sign mark.Close ∷ us)
+close_stops : (us : Symbols) → Stops 1 (sign mark.Close ∷ us)
 close_stops us o h = absurd cc
 
-close_no_comma : (us : Row) → comma (sign mark.Close ∷ us) ≡ None
+close_no_comma : (us : Symbols) → comma (sign mark.Close ∷ us) ≡ None
 unfolding after
 close_no_comma us = refl
 
-pub statement_complete : (Inner Deeper : Row → Expr → Type 0) (find found : TreeReader Expr) → Sound Inner find → Sound Deeper found → Complete 1 Inner find → Complete 1 Deeper found → CompleteFor Ends (IsStatement Inner Deeper) (statement_of find found)
+pub statement_complete : (Inner Deeper : Symbols → Expr → Type 0) (find found : TreeReader Expr) → Sound Inner find → Sound Deeper found → Complete 1 Inner find → Complete 1 Deeper found → CompleteFor Ends (IsStatement Inner Deeper) (statement_of find found)
 unfolding after
 statement_complete Inner Deeper find found s t c d _ rest _ (form.is_insert {ts = ts} {es = es} l) st =
     rw (append_assoc ts (sign mark.Close ∷ []) rest, values_complete Deeper found t d (sign mark.Close ∷ rest) l (close_stops rest) (close_no_comma rest)) refl
@@ -183,26 +183,26 @@ unfolding after
 field_complete _ rest _ table.int_field f = refl
 field_complete _ rest _ table.text_field f = refl
 
-field_opens : (u us : Row) (x : Field) → IsField u x → field_comma (sign mark.Comma ∷ (u ++ us)) ≡ Some (u ++ us)
+field_opens : (u us : Symbols) (x : Field) → IsField u x → field_comma (sign mark.Comma ∷ (u ++ us)) ≡ Some (u ++ us)
 unfolding after
 field_opens _ us _ table.int_field = refl
 field_opens _ us _ table.text_field = refl
 
-module _ (Inner : Row → Expr → Type 0) (find : TreeReader Expr) (s : Sound Inner find) (c : Complete 1 Inner find) where
+module _ (Inner : Symbols → Expr → Type 0) (find : TreeReader Expr) (s : Sound Inner find) (c : Complete 1 Inner find) where
   check_complete : CompleteFor (Stops 1) (IsCheck Inner) (check_of find)
   unfolding after
   check_complete _ rest _ (table.is_check {ts = ts} {e = e} d) st = expression_complete Inner find s c ts rest e d st
 
   -- no further column stands before the checks
-  no_field : {ts : Row} {es : List Expr} (rest : Row) → Following (IsCheck Inner) ts es → field_comma (ts ++ sign mark.Close ∷ rest) ≡ None
+  no_field : {ts : Symbols} {es : List Expr} (rest : Symbols) → Following (IsCheck Inner) ts es → field_comma (ts ++ sign mark.Close ∷ rest) ≡ None
   unfolding after
   no_field rest form.no_more = refl
   no_field rest (form.one_more (table.is_check d) k) = refl
 
-  pub table_complete : (ts rest : Row) (x : TableDef) → IsTable Inner ts x → table_of find (ts ++ rest) ≡ Some (x, rest)
+  pub table_complete : (ts rest : Symbols) (x : TableDef) → IsTable Inner ts x → table_of find (ts ++ rest) ≡ Some (x, rest)
   unfolding after
   table_complete _ rest _ (table.is_table {t = t} {a = a} {b = b} {c = m} {f = f} {fs = fs} {es = es} g d k) =
-      let behind : Row = sign mark.Close ∷ rest in
+      let behind : Symbols = sign mark.Close ∷ rest in
       let few : length fs ≤ length (b ++ (m ++ behind)) = omega (arith, length-append b (m ++ behind), following_few d) in
       let fewer : length es ≤ length (m ++ behind) = omega (arith, length-append m behind, following_few k) in
       let fields = following_complete field_comma IsField field_of Anything field_complete (λ us. tt) field_opens {ts = b} {xs = fs} (length (b ++ (m ++ behind))) (m ++ behind) d tt (no_field rest k) few in

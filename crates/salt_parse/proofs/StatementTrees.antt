@@ -15,7 +15,7 @@ use Rattle.salt_parse.specs.StatementReading.{is_into}
 use Rattle.salt_parse.specs.TableReading.{field_comma, kind_at}
 use Rattle.salt_parse.proofs.Trees.{TreeReader, conjunction_of, expression_of, sum_of}
 use Rattle.salt_tokens.specs.Scanning.{◌>>=◌}
-use Rattle.salt_tokens.specs.Symbols.{Row, key, name, sign}
+use Rattle.salt_tokens.specs.Symbols.{Symbols, key, name, sign}
 use Rattle.salt_tokens.specs.declared.keyword.Keyword.TheVariants as word
 use Rattle.salt_tokens.specs.declared.sign.Sign.TheVariants as mark
 use Rattle.std.proofs.Common.{List, None, Option, Some, [], cond, length, suc, zero, ℕ, ◌++◌, ◌∷◌}
@@ -25,10 +25,10 @@ name_of (name n ∷ ts) = Some (n, ts)
 name_of _ = None
 
 -- items before those that are found next
-abbrev pub ahead : {A : Type 0} → List A → Option (List A × Row) → Option (List A × Row)
+abbrev pub ahead : {A : Type 0} → List A → Option (List A × Symbols) → Option (List A × Symbols)
 ahead front found = found >>= λ x. Some (front ++ x.0, x.1)
 
-unfoldable pub following_of : {A : Type 0} → (Row → Option Row) → TreeReader A → ℕ → TreeReader (List A)
+unfoldable pub following_of : {A : Type 0} → (Symbols → Option Symbols) → TreeReader A → ℕ → TreeReader (List A)
 following_of separator item zero ts = either (separator ts) (Some ([], ts)) (λ us. None)
 following_of separator item (suc room) ts =
     either (separator ts) (Some ([], ts)) (λ us. item us >>= λ x. ahead (x.0 ∷ []) (following_of separator item room x.1))

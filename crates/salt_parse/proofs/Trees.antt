@@ -4,7 +4,7 @@ use Rattle.salt_ast.specs.Trees.{letters, negation, number, operation}
 use Rattle.salt_ast.specs.declared.trees.Expr.{Column, Expr, Variable}
 use Rattle.salt_parse.specs.Reading.{after, at_operator, of_level}
 use Rattle.salt_tokens.specs.Scanning.{◌>>=◌}
-use Rattle.salt_tokens.specs.Symbols.{Row, int, key, name, sign, text}
+use Rattle.salt_tokens.specs.Symbols.{Symbols, int, key, name, sign, text}
 use Rattle.salt_tokens.specs.declared.keyword.Keyword.TheVariants as word
 use Rattle.salt_tokens.specs.declared.sign.Sign.TheVariants as mark
 use Rattle.std.proofs.Common.{None, Option, Some, [], length, pos, suc, zero, ℕ, ◌∷◌}
@@ -12,7 +12,7 @@ use Rattle.std.specs.Prelude.{neg_ℤ}
 
 -- a tree, and the symbols behind it
 abbrev pub TreeReader : Type 0 → Type 0
-TreeReader A = Row → Option (A × Row)
+TreeReader A = Symbols → Option (A × Symbols)
 
 unfoldable pub tail_of : ℕ → TreeReader Expr → ℕ → Expr → TreeReader Expr
 tail_of level operand zero l ts = None

@@ -7,26 +7,26 @@ use Rattle.salt_ast.specs.Tables as table
 use Rattle.salt_ast.specs.Tables.{IsCheck, IsTable}
 use Rattle.salt_ast.specs.declared.trees.Expr.{Expr}
 use Rattle.salt_ast.specs.declared.trees.Scan.{Scan}
-use Rattle.salt_tokens.specs.Symbols.{Row}
+use Rattle.salt_tokens.specs.Symbols.{Symbols}
 
 -- each row of the first spells the same by the second
-abbrev pub Upwards : {A : Type 0} → (Row → A → Type 0) → (Row → A → Type 0) → Type 0
-Upwards {A} I J = (ts : Row) (x : A) → I ts x → J ts x
+abbrev pub Upwards : {A : Type 0} → (Symbols → A → Type 0) → (Symbols → A → Type 0) → Type 0
+Upwards {A} I J = (ts : Symbols) (x : A) → I ts x → J ts x
 
-module _ {I J : Row → Expr → Type 0} (up : Upwards I J) where
-  left_up : (level : ℕ) {ts : Row} {e : Expr} → Left level I ts e → Left level J ts e
+module _ {I J : Symbols → Expr → Type 0} (up : Upwards I J) where
+  left_up : (level : ℕ) {ts : Symbols} {e : Expr} → Left level I ts e → Left level J ts e
   left_up level {ts} {e} (one g) = one (up ts e g)
   left_up level (more {b = b} {r = r} d t eq lv g) = more (left_up level d) t eq lv (up b r g)
 
-  once_up : (level : ℕ) {ts : Row} {e : Expr} → Once level I ts e → Once level J ts e
+  once_up : (level : ℕ) {ts : Symbols} {e : Expr} → Once level I ts e → Once level J ts e
   once_up level {ts} {e} (alone g) = alone (up ts e g)
   once_up level (pair {a = a} {b = b} {l = l} {r = r} g t eq lv g2) = pair (up a l g) t eq lv (up b r g2)
 
-  nots_up : {ts : Row} {e : Expr} → Nots I ts e → Nots J ts e
+  nots_up : {ts : Symbols} {e : Expr} → Nots I ts e → Nots J ts e
   nots_up {ts} {e} (plain g) = plain (up ts e g)
   nots_up (not d) = not (nots_up d)
 
-  atom_up : {ts : Row} {e : Expr} → Atom I ts e → Atom J ts e
+  atom_up : {ts : Symbols} {e : Expr} → Atom I ts e → Atom J ts e
   atom_up plus_int = plus_int
   atom_up minus_int = minus_int
   atom_up literal = literal
@@ -34,7 +34,7 @@ module _ {I J : Row → Expr → Type 0} (up : Upwards I J) where
   atom_up colon = colon
   atom_up (paren {ts = ts} {e = e} g) = paren (up ts e g)
 
-module _ {I J : Row → Expr → Type 0} (up : Upwards I J) where
+module _ {I J : Symbols → Expr → Type 0} (up : Upwards I J) where
   sum_up : Upwards (Sum I) (Sum J)
   sum_up ts e d = left_up (λ ts e p. left_up (λ ts e a. atom_up up a) 5 p) 4 d
 
@@ -52,22 +52,22 @@ within_up (suc d) (suc n) le ts e h = expression_up (λ ts e k. within_up d n (o
 
 -- ---- lists
 
-module _ {A : Type 0} {G H : Row → A → Type 0} (up : Upwards G H) where
-  following_up : {ts : Row} {xs : List A} → Following G ts xs → Following H ts xs
+module _ {A : Type 0} {G H : Symbols → A → Type 0} (up : Upwards G H) where
+  following_up : {ts : Symbols} {xs : List A} → Following G ts xs → Following H ts xs
   following_up form.no_more = form.no_more
   following_up (form.one_more {a = a} {x = x} g d) = form.one_more (up a x g) (following_up d)
 
-  listed_up : {ts : Row} {xs : List A} → Listed G ts xs → Listed H ts xs
+  listed_up : {ts : Symbols} {xs : List A} → Listed G ts xs → Listed H ts xs
   listed_up (form.items {a = a} {x = x} g d) = form.items (up a x g) (following_up d)
 
 -- ---- statements and tables
 
-module _ {I J : Row → Expr → Type 0} (up : Upwards I J) where
-  and_up : {ts : Row} {w : Option Expr} → IsAnd I ts w → IsAnd J ts w
+module _ {I J : Symbols → Expr → Type 0} (up : Upwards I J) where
+  and_up : {ts : Symbols} {w : Option Expr} → IsAnd I ts w → IsAnd J ts w
   and_up form.no_and = form.no_and
   and_up (form.and {ts = ts} {e = e} d) = form.and (conjunction_up up ts e d)
 
-  scan_up : {ts : Row} {x : Scan} → IsScan I ts x → IsScan J ts x
+  scan_up : {ts : Symbols} {x : Scan} → IsScan I ts x → IsScan J ts x
   scan_up form.no_where = form.no_where
   scan_up (form.where_key {a = a} {e = e} d k) = form.where_key (sum_up up a e d) (and_up k)
   scan_up (form.where_between {a = a} {b = b} {low = low} {high = high} d d2 k) = form.where_between (sum_up up a low d) (sum_up up b high d2) (and_up k)
@@ -82,7 +82,7 @@ module _ {I J : Row → Expr → Type 0} (up : Upwards I J) where
   pub table_up : Upwards (IsTable I) (IsTable J)
   table_up _ _ (table.is_table f d k) = table.is_table f d (following_up check_up k)
 
-pub statement_up : {I J K L : Row → Expr → Type 0} → Upwards I J → Upwards K L → Upwards (IsStatement I K) (IsStatement J L)
+pub statement_up : {I J K L : Symbols → Expr → Type 0} → Upwards I J → Upwards K L → Upwards (IsStatement I K) (IsStatement J L)
 statement_up up deeper _ _ (form.is_insert l) = form.is_insert (listed_up (expression_up deeper) l)
 statement_up up deeper _ _ (form.is_select w s) = form.is_select w (scan_up up s)
 statement_up up deeper _ _ (form.is_select_into {ts = ts} {e = e} d) = form.is_select_into (sum_up up ts e d)

@@ -8,7 +8,8 @@ use Rattle.salt_ast.specs.Limits.{statement_limit, table_limit}
 use Rattle.salt_ast.specs.Spelling.{IsStatementWithinLimits, IsTableWithinLimits, Passes, Spells, SpellsStatement, SpellsTable, StatementPasses, TablePasses, by_parentheses, by_tree}
 use Rattle.salt_ast.specs.Statements.{IsStatement}
 use Rattle.salt_ast.specs.Tables.{IsTable}
-use Rattle.salt_ast.specs.Words.{or_else, when}
+use Rattle.std.specs.Bool.{then_some}
+use Rattle.std.specs.Option.{option_or}
 use Rattle.salt_ast.specs.declared.limit.LimitName.{LimitName}
 use Rattle.salt_ast.specs.declared.limit.LimitName.TheVariants as limit
 use Rattle.salt_ast.specs.declared.trees.Statement.{Statement}
@@ -22,7 +23,7 @@ use Rattle.salt_parse.specs.TableReading.{table_at}
 use Rattle.salt_parse.specs.declared.error.ParseErr.{ParseErr}
 use Rattle.salt_parse.specs.declared.error.ParseErr.TheVariants.{Limit, Memory, Syntax}
 use Rattle.salt_parse.proofs.ExpressionLaws.{some_is, within_complete, within_sound}
-use Rattle.salt_parse.proofs.Mirror.{Agrees, ArePrintable, IsKept, IsPrintable, Marks, noted, within_mirrors}
+use Rattle.salt_parse.proofs.Mirror.{Agrees, ArePrintable, AreKept, IsPrintable, Marks, noted, within_mirrors}
 use Rattle.salt_parse.proofs.MirrorStatements.{statement_agrees, statement_marks, table_agrees, table_marks}
 use Rattle.salt_parse.proofs.StatementComplete.{Ends, statement_complete, table_complete}
 use Rattle.salt_parse.proofs.StatementSound.{statement_sound, table_sound}
@@ -32,7 +33,7 @@ use Rattle.salt_parse.proofs.Up.{statement_up, table_up, within_up}
 use Rattle.salt_tokens.specs.Bytes.{is_printable}
 use Rattle.salt_tokens.specs.Pieces.{IsToken, Lexes, Piece, Run, blank, ended as no_more, quoted, token}
 use Rattle.salt_tokens.specs.Spelling.{keyword_of, sign_of}
-use Rattle.salt_tokens.specs.Symbols.{HasRow, Row, row_of, sign_symbol, symbol_by, text, word_symbol}
+use Rattle.salt_tokens.specs.Symbols.{HasSymbols, Symbols, symbols_of, sign_symbol, symbol_by, text, word_symbol}
 use Rattle.salt_tokens.specs.declared.error.ScanErr.{ScanErr}
 use Rattle.salt_tokens.specs.declared.error.ScanErr.TheVariants as scan
 use Rattle.salt_tokens.specs.declared.keyword.Keyword.{Keyword}
@@ -66,24 +67,24 @@ token_printable law kind.Text bs h =
     subst IsPrintable (sym is) (run_all h.0 h.1)
 token_printable law kind.Sign bs h = sign_printable (sign_of bs)
 
-lexes_printable : TextLaw → {bs : List ℕ} {ps : List Piece} → Lexes bs ps → ArePrintable (row_of ps)
+lexes_printable : TextLaw → {bs : List ℕ} {ps : List Piece} → Lexes bs ps → ArePrintable (symbols_of ps)
 lexes_printable law no_more = tt
 lexes_printable law (blank b d) = lexes_printable law d
 lexes_printable law (token k bs t e d) = (token_printable law k bs t, lexes_printable law d)
 
-pub row_printable : TextLaw → (bytes : List ℕ) (r : Row) → HasRow bytes r → ArePrintable r
+pub row_printable : TextLaw → (bytes : List ℕ) (r : Symbols) → HasSymbols bytes r → ArePrintable r
 row_printable law bytes r h = subst ArePrintable (sym h.2) (lexes_printable law h.1)
 
 -- ---- one attempt
 
 -- the first limit that a tree passes
 limit_of : {A : Type 0} → Marks A → A → Option LimitName
-limit_of m x = or_else (m.passed x) (when (m.high x) limit.Depth)
+limit_of m x = option_or (m.passed x) (then_some (m.high x) limit.Depth)
 
 -- what an attempt tells of the tree that is found
-abbrev Finds : {A : Type 0} → Marks A → Option (A × Row) → Result (Result A LimitName) ParseErr → Type 0
-Finds m q (Ok (Ok x)) = (q ≡ Some (x, [])) × (or_else (m.passed x) (when (m.high x) limit.Depth) ≡ None)
-Finds {A} m q (Ok (Err l)) = (x : A) × (q ≡ Some (x, [])) × (or_else (m.passed x) (when (m.high x) limit.Depth) ≡ Some l)
+abbrev Finds : {A : Type 0} → Marks A → Option (A × Symbols) → Result (Result A LimitName) ParseErr → Type 0
+Finds m q (Ok (Ok x)) = (q ≡ Some (x, [])) × (option_or (m.passed x) (then_some (m.high x) limit.Depth) ≡ None)
+Finds {A} m q (Ok (Err l)) = (x : A) × (q ≡ Some (x, [])) × (option_or (m.passed x) (then_some (m.high x) limit.Depth) ≡ Some l)
 Finds {A} m q (Err Syntax) = (x : A) → q ≢ Some (x, [])
 Finds m q (Err Memory) = ⊥
 Finds m q (Err (Limit l)) = ⊥
@@ -92,7 +93,7 @@ Finds m q (Err (Limit l)) = ⊥
 none_clear : (f : Flags) → limit_in f ≡ None → clear f ≡ true
 none_clear f h = go f.over f.deep h
   where
-    go : (v : Option LimitName) (d : Bool) → or_else v (when d limit.Depth) ≡ None → (is_none v && not d) ≡ true
+    go : (v : Option LimitName) (d : Bool) → option_or v (then_some d limit.Depth) ≡ None → (is_none v && not d) ≡ true
     go None false h = refl
     go None true h = absurd cc
     go (Some x) d h = absurd cc
@@ -101,35 +102,35 @@ module _ {A : Type 0} (m : Marks A) where
   of_tree : (x a : A) (f : Flags) → f ≡ noted m no_flags a → (clear f ≡ true → x ≡ a) → Finds m (Some (a, [])) (tree_or_limit x (limit_in f))
   of_tree x a f e i = go (limit_in f) refl
     where
-      same : limit_in f ≡ or_else (m.passed a) (when (m.high a) limit.Depth)
+      same : limit_in f ≡ option_or (m.passed a) (then_some (m.high a) limit.Depth)
       same = ap limit_in e
 
       go : (l : Option LimitName) → limit_in f ≡ l → Finds m (Some (a, [])) (tree_or_limit x l)
       go None h =
           let is : x ≡ a = i (none_clear f h) in
-          subst (λ (z : A). (◌≡◌ {A = Option (A × Row)} (Some (a, [])) (Some (z, []))) × (or_else (m.passed z) (when (m.high z) limit.Depth) ≡ None)) (sym is) (refl, sym same ∙ h)
+          subst (λ (z : A). (◌≡◌ {A = Option (A × Symbols)} (Some (a, [])) (Some (z, []))) × (option_or (m.passed z) (then_some (m.high z) limit.Depth) ≡ None)) (sym is) (refl, sym same ∙ h)
       go (Some l) h = (a, refl, sym same ∙ h)
 
-  pub finds : (r : Option (Read A)) (q : Option (A × Row)) → Agrees m IsKept no_flags r q → Finds m q (attempt_of r)
+  pub finds : (r : Option (Read A)) (q : Option (A × Symbols)) → Agrees m AreKept no_flags r q → Finds m q (attempt_of r)
   finds None None h = λ x e. cc
   finds None (Some y) h = absurd h
   finds (Some x) None h = absurd h
   finds (Some x) (Some y) h = go x.2 y.1 h.left
     where
-      go : (us vs : Row) → us ≡ vs → Finds m (Some (y.0, vs)) (ended x.0 x.1 us)
+      go : (us vs : Symbols) → us ≡ vs → Finds m (Some (y.0, vs)) (ended x.0 x.1 us)
       go [] [] e = of_tree x.0 y.0 x.1 h.flags h.is
       go [] (v ∷ vs) e = absurd cc
       go (u ∷ us) [] e = absurd cc
-      go (u ∷ us) (v ∷ vs) e = λ z k. (let is : v ∷ vs ≡ [] = ap (λ (t : A × Row). t.1) (some_is (y.0, v ∷ vs) (z, []) k) in cc)
+      go (u ∷ us) (v ∷ vs) e = λ z k. (let is : v ∷ vs ≡ [] = ap (λ (t : A × Symbols). t.1) (some_is (y.0, v ∷ vs) (z, []) k) in cc)
 
 -- ---- two attempts
 
-module _ {A : Type 0} (m : Marks A) (Shallow Deep : Row → A → Type 0) (up : (ts : Row) (x : A) → Shallow ts x → Deep ts x) (p q : Option (A × Row)) (ts : Row) where
-  abbrev Found : Option (A × Row) → (Row → A → Type 0) → Type 0
+module _ {A : Type 0} (m : Marks A) (Shallow Deep : Symbols → A → Type 0) (up : (ts : Symbols) (x : A) → Shallow ts x → Deep ts x) (p q : Option (A × Symbols)) (ts : Symbols) where
+  abbrev Found : Option (A × Symbols) → (Symbols → A → Type 0) → Type 0
   Found o G = ((x : A) → o ≡ Some (x, []) → G ts x) × ((x : A) → G ts x → o ≡ Some (x, []))
 
   abbrev tree_limit : A → Option LimitName
-  tree_limit x = or_else (m.passed x) (when (m.high x) limit.Depth)
+  tree_limit x = option_or (m.passed x) (then_some (m.high x) limit.Depth)
 
   -- what is answered, by what the row spells
   abbrev pub Settles : Result A ParseErr → Type 0
@@ -155,7 +156,7 @@ module _ {A : Type 0} (m : Marks A) (Shallow Deep : Row → A → Type 0) (up : 
   answered (Err Syntax) a e h = subst Settles e h
   answered (Err (Limit l)) a e h = subst Settles e h
 
-  pub all : (r : Result A ParseErr) (u v : Option (Read A)) → Found p Shallow → Found q Deep → Agrees m IsKept no_flags u p → Agrees m IsKept no_flags v q → IsAnswer r (settled (attempt_of u) (attempt_of v)) → Settles r
+  pub all : (r : Result A ParseErr) (u v : Option (Read A)) → Found p Shallow → Found q Deep → Agrees m AreKept no_flags u p → Agrees m AreKept no_flags v q → IsAnswer r (settled (attempt_of u) (attempt_of v)) → Settles r
   all r u v f g h k e = answered r (settled (attempt_of u) (attempt_of v)) e (settles (attempt_of u) (attempt_of v) f g (finds m u p h) (finds m v q k))
 
 -- ---- statements
@@ -164,24 +165,24 @@ ends : Ends []
 unfolding after
 ends = record { stops = tt; no_where = refl; no_comma = refl }
 
-whole : {A : Type 0} (G : Row → A → Type 0) (ts : Row) (x : A) → (front : Row) × (ts ≡ front ++ []) × G front x → G ts x
-whole {A} G ts x r = subst (λ (z : Row). G z x) (sym (r.1 ∙ append-nil r.0)) r.2
+whole : {A : Type 0} (G : Symbols → A → Type 0) (ts : Symbols) (x : A) → (front : Symbols) × (ts ≡ front ++ []) × G front x → G ts x
+whole {A} G ts x r = subst (λ (z : Symbols). G z x) (sym (r.1 ∙ append-nil r.0)) r.2
 
-statement_found : (d n : ℕ) (ts : Row) → ((x : Statement) → statement_of (within_of d) (within_of n) ts ≡ Some (x, []) → IsStatement (Within d) (Within n) ts x) × ((x : Statement) → IsStatement (Within d) (Within n) ts x → statement_of (within_of d) (within_of n) ts ≡ Some (x, []))
+statement_found : (d n : ℕ) (ts : Symbols) → ((x : Statement) → statement_of (within_of d) (within_of n) ts ≡ Some (x, []) → IsStatement (Within d) (Within n) ts x) × ((x : Statement) → IsStatement (Within d) (Within n) ts x → statement_of (within_of d) (within_of n) ts ≡ Some (x, []))
 statement_found d n ts = (
   λ x h. whole (IsStatement (Within d) (Within n)) ts x (statement_sound (Within d) (Within n) (within_of d) (within_sound d) (within_of n) (within_sound n) ts x [] h),
   λ x h. ap (statement_of (within_of d) (within_of n)) (sym (append-nil ts)) ∙ statement_complete (Within d) (Within n) (within_of d) (within_of n) (within_sound d) (within_sound n) (within_complete d) (within_complete n) ts [] x h ends,
 )
 
-table_found : (d : ℕ) (ts : Row) → ((x : TableDef) → table_of (within_of d) ts ≡ Some (x, []) → IsTable (Within d) ts x) × ((x : TableDef) → IsTable (Within d) ts x → table_of (within_of d) ts ≡ Some (x, []))
+table_found : (d : ℕ) (ts : Symbols) → ((x : TableDef) → table_of (within_of d) ts ≡ Some (x, []) → IsTable (Within d) ts x) × ((x : TableDef) → IsTable (Within d) ts x → table_of (within_of d) ts ≡ Some (x, []))
 table_found d ts = (
   λ x h. whole (IsTable (Within d)) ts x (table_sound (Within d) (within_of d) (within_sound d) ts x [] h),
   λ x h. ap (table_of (within_of d)) (sym (append-nil ts)) ∙ table_complete (Within d) (within_of d) (within_sound d) (within_complete d) ts [] x h,
 )
 
 -- no row spells two trees
-one_of : {A : Type 0} (G : Row → A → Type 0) (o : Option (A × Row)) (ts : Row) → ((x : A) → G ts x → o ≡ Some (x, [])) → (a b : A) → G ts a → G ts b → a ≡ b
-one_of {A} G o ts c a b d k = ap (λ (x : A × Row). x.0) (some_is (a, []) (b, []) (sym (c a d) ∙ c b k))
+one_of : {A : Type 0} (G : Symbols → A → Type 0) (o : Option (A × Symbols)) (ts : Symbols) → ((x : A) → G ts x → o ≡ Some (x, [])) → (a b : A) → G ts a → G ts b → a ≡ b
+one_of {A} G o ts c a b d k = ap (λ (x : A × Symbols). x.0) (some_is (a, []) (b, []) (sym (c a d) ∙ c b k))
 
 -- the bytes have one row of tokens at most
 abbrev pub OneRow : Type 0
@@ -189,20 +190,20 @@ OneRow = (bs : List ℕ) (ps qs : List Piece) → Lexes bs ps → Lexes bs qs �
 
 module _ {A : Type 0} (one : OneRow) (bytes : List ℕ) where
   -- what the row of the bytes spells, they spell
-  spelled : (G : Row → A → Type 0) (r : Row) (x : A) → HasRow bytes r → G r x → Spells G bytes x
-  spelled G r x h d = record { tokens = h.0; lexes = h.1; spelled = subst (λ (z : Row). G z x) h.2 d }
+  spelled : (G : Symbols → A → Type 0) (r : Symbols) (x : A) → HasSymbols bytes r → G r x → Spells G bytes x
+  spelled G r x h d = record { tokens = h.0; lexes = h.1; spelled = subst (λ (z : Symbols). G z x) h.2 d }
 
-  unspelled : (G : Row → A → Type 0) (r : Row) (x : A) → HasRow bytes r → Spells G bytes x → G r x
+  unspelled : (G : Symbols → A → Type 0) (r : Symbols) (x : A) → HasSymbols bytes r → Spells G bytes x → G r x
   unspelled G r x h s =
-      let same : row_of s.tokens ≡ r = ap row_of (one bytes s.tokens h.0 s.lexes h.1) ∙ sym h.2 in
-      subst (λ (z : Row). G z x) same s.spelled
+      let same : symbols_of s.tokens ≡ r = ap symbols_of (one bytes s.tokens h.0 s.lexes h.1) ∙ sym h.2 in
+      subst (λ (z : Symbols). G z x) same s.spelled
 
-  one_tree : (G : Row → A → Type 0) (find : Row → Option (A × Row)) → ((ts : Row) (x : A) → G ts x → find ts ≡ Some (x, [])) → (a b : A) → Spells G bytes a → Spells G bytes b → a ≡ b
+  one_tree : (G : Symbols → A → Type 0) (find : Symbols → Option (A × Symbols)) → ((ts : Symbols) (x : A) → G ts x → find ts ≡ Some (x, [])) → (a b : A) → Spells G bytes a → Spells G bytes b → a ≡ b
   one_tree G find c a b s t =
-      let h : HasRow bytes (row_of t.tokens) = (t.tokens, t.lexes, refl) in
-      one_of G (find (row_of t.tokens)) (row_of t.tokens) (λ x d. c (row_of t.tokens) x d) a b (unspelled G (row_of t.tokens) a h s) t.spelled
+      let h : HasSymbols bytes (symbols_of t.tokens) = (t.tokens, t.lexes, refl) in
+      one_of G (find (symbols_of t.tokens)) (symbols_of t.tokens) (λ x d. c (symbols_of t.tokens) x d) a b (unspelled G (symbols_of t.tokens) a h s) t.spelled
 
-  passes : (Shallow : Row → A → Type 0) (o : Option LimitName) (r : Row) (x : A) (l : LimitName) → HasRow bytes r → Passes o (Shallow r x) l → Passes o (Spells Shallow bytes x) l
+  passes : (Shallow : Symbols → A → Type 0) (o : Option LimitName) (r : Symbols) (x : A) (l : LimitName) → HasSymbols bytes r → Passes o (Shallow r x) l → Passes o (Spells Shallow bytes x) l
   passes Shallow o r x l h (by_tree e) = by_tree e
   passes Shallow o r x l h (by_parentheses e n) = by_parentheses e (λ s. n (unspelled Shallow r x h s))
 
@@ -214,31 +215,31 @@ one_table one bytes a b s t = one_tree one bytes (IsTable (Within 127)) (table_o
 
 -- ---- the answers
 
-abbrev pub StatementAnswer : Row → Result Statement ParseErr → Type 0
+abbrev pub StatementAnswer : Symbols → Result Statement ParseErr → Type 0
 StatementAnswer ts r = IsAnswer r (settled (attempt_of (statement_at (within_at 64) (within_at 64) no_flags ts)) (attempt_of (statement_at (within_at 128) (within_at 127) no_flags ts)))
 
-abbrev pub TableAnswer : Row → Result TableDef ParseErr → Type 0
+abbrev pub TableAnswer : Symbols → Result TableDef ParseErr → Type 0
 TableAnswer ts r = IsAnswer r (settled (attempt_of (table_at (within_at 64) no_flags ts)) (attempt_of (table_at (within_at 127) no_flags ts)))
 
-abbrev ShallowStatement : Row → Statement → Type 0
+abbrev ShallowStatement : Symbols → Statement → Type 0
 ShallowStatement = IsStatement (Within 64) (Within 64)
 
-abbrev DeepStatement : Row → Statement → Type 0
+abbrev DeepStatement : Symbols → Statement → Type 0
 DeepStatement = IsStatement (Within 128) (Within 127)
 
-statement_settles : (ts : Row) (r : Result Statement ParseErr) → ArePrintable ts → StatementAnswer ts r → Settles statement_marks ShallowStatement DeepStatement (λ us x d. statement_up (within_up 64 128 (omega arith)) (within_up 64 127 (omega arith)) us x d) (statement_of (within_of 64) (within_of 64) ts) (statement_of (within_of 128) (within_of 127) ts) ts r
+statement_settles : (ts : Symbols) (r : Result Statement ParseErr) → ArePrintable ts → StatementAnswer ts r → Settles statement_marks ShallowStatement DeepStatement (λ us x d. statement_up (within_up 64 128 (omega arith)) (within_up 64 127 (omega arith)) us x d) (statement_of (within_of 64) (within_of 64) ts) (statement_of (within_of 128) (within_of 127) ts) ts r
 statement_settles ts r p e =
     all statement_marks ShallowStatement DeepStatement (λ us x d. statement_up (within_up 64 128 (omega arith)) (within_up 64 127 (omega arith)) us x d) (statement_of (within_of 64) (within_of 64) ts) (statement_of (within_of 128) (within_of 127) ts) ts r
     (statement_at (within_at 64) (within_at 64) no_flags ts) (statement_at (within_at 128) (within_at 127) no_flags ts) (statement_found 64 64 ts) (statement_found 128 127 ts)
     (statement_agrees (within_at 64) (within_at 64) (within_of 64) (within_of 64) (within_mirrors 64) (within_mirrors 64) no_flags ts p) (statement_agrees (within_at 128) (within_at 127) (within_of 128) (within_of 127) (within_mirrors 128) (within_mirrors 127) no_flags ts p) e
 
-table_settles : (ts : Row) (r : Result TableDef ParseErr) → ArePrintable ts → TableAnswer ts r → Settles table_marks (IsTable (Within 64)) (IsTable (Within 127)) (λ us x d. table_up (within_up 64 127 (omega arith)) us x d) (table_of (within_of 64) ts) (table_of (within_of 127) ts) ts r
+table_settles : (ts : Symbols) (r : Result TableDef ParseErr) → ArePrintable ts → TableAnswer ts r → Settles table_marks (IsTable (Within 64)) (IsTable (Within 127)) (λ us x d. table_up (within_up 64 127 (omega arith)) us x d) (table_of (within_of 64) ts) (table_of (within_of 127) ts) ts r
 table_settles ts r p e =
     all table_marks (IsTable (Within 64)) (IsTable (Within 127)) (λ us x d. table_up (within_up 64 127 (omega arith)) us x d) (table_of (within_of 64) ts) (table_of (within_of 127) ts) ts r
     (table_at (within_at 64) no_flags ts) (table_at (within_at 127) no_flags ts) (table_found 64 ts) (table_found 127 ts)
     (table_agrees (within_at 64) (within_of 64) (within_mirrors 64) no_flags ts p) (table_agrees (within_at 127) (within_of 127) (within_mirrors 127) no_flags ts p) e
 
-module _ (one : OneRow) (law : TextLaw) (bytes : List ℕ) (ts : Row) (h : HasRow bytes ts) where
+module _ (one : OneRow) (law : TextLaw) (bytes : List ℕ) (ts : Symbols) (h : HasSymbols bytes ts) where
   pub statement_is : (r : Result Statement ParseErr) → StatementAnswer ts r → IfOk r (λ st. IsStatementWithinLimits bytes st)
   unfolding statement_limit
   statement_is (Ok x) e = let k = statement_settles ts (Ok x) (row_printable law bytes ts h) e in record { tree = k.1; parentheses = spelled one bytes ShallowStatement ts x h k.0 }

@@ -1,24 +1,25 @@
 -- What is answered for a whole row, by what reading gives.
-use Rattle.salt_ast.specs.Words.{or_else, when}
+use Rattle.std.specs.Bool.{then_some}
+use Rattle.std.specs.Option.{option_or}
 use Rattle.salt_ast.specs.declared.limit.LimitName.{LimitName}
 use Rattle.salt_ast.specs.declared.limit.LimitName.TheVariants as limit
 use Rattle.salt_parse.specs.Flags.{Flags}
 use Rattle.salt_parse.specs.Reading.{Read}
 use Rattle.salt_parse.specs.declared.error.ParseErr.{ParseErr}
 use Rattle.salt_parse.specs.declared.error.ParseErr.TheVariants.{Limit, Memory, Syntax}
-use Rattle.salt_tokens.specs.Symbols.{Row}
+use Rattle.salt_tokens.specs.Symbols.{Symbols}
 use Rattle.std.specs.Prelude.{Err, None, Ok, Option, Result, Some, [], ◌∷◌, ◌≡◌}
 
 -- the first limit that was passed, the depth last
 abbrev pub limit_in : Flags → Option LimitName
-limit_in f = or_else f.over (when f.deep limit.Depth)
+limit_in f = option_or f.over (then_some f.deep limit.Depth)
 
 abbrev pub tree_or_limit : {X : Type 0} → X → Option LimitName → Result (Result X LimitName) ParseErr
 tree_or_limit x None = Ok (Ok x)
 tree_or_limit x (Some l) = Ok (Err l)
 
 -- nothing may be left
-abbrev pub ended : {X : Type 0} → X → Flags → Row → Result (Result X LimitName) ParseErr
+abbrev pub ended : {X : Type 0} → X → Flags → Symbols → Result (Result X LimitName) ParseErr
 ended x f [] = tree_or_limit x (limit_in f)
 ended x f (t ∷ ts) = Err Syntax
 

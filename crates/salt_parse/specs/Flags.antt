@@ -1,6 +1,6 @@
 -- What a text was seen to pass so far, and what is built meanwhile.
 use Rattle.salt_ast.specs.Trees.{letters, negation, number, operation}
-use Rattle.salt_ast.specs.Words.{or_else}
+use Rattle.std.specs.Option.{option_or}
 use Rattle.salt_ast.specs.declared.limit.LimitName.{LimitName}
 use Rattle.salt_ast.specs.declared.trees.Expr.{Expr}
 use Rattle.salt_ast.specs.declared.trees.Op.{Op}
@@ -25,7 +25,7 @@ clear f = is_none f.over && not f.deep
 
 -- the flags after a part of the text that passes this limit and is, or is not, too high
 abbrev pub note : Flags → Option LimitName → Bool → Flags
-note f l high = record { over = or_else f.over l; deep = f.deep || high }
+note f l high = record { over = option_or f.over l; deep = f.deep || high }
 
 -- a height of more than 64 is noted
 abbrev pub note_height : Flags → ℕ → Flags

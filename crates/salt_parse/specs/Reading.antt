@@ -2,7 +2,7 @@
 use denote.Enum.Bare.{sameb}
 use Rattle.salt_ast.specs.Limits.{name_passed}
 use Rattle.salt_ast.specs.Operators.{operator, precedence}
-use Rattle.salt_ast.specs.Words.{when}
+use Rattle.std.specs.Bool.{then_some}
 use Rattle.salt_ast.specs.declared.limit.LimitName.TheVariants as limit
 use Rattle.salt_ast.specs.declared.trees.Expr.{Column, Variable}
 use Rattle.salt_ast.specs.declared.trees.Op.{Op}
@@ -12,7 +12,7 @@ use Rattle.salt_parse.specs.Flags.{BuiltTree, Flags, built_of, int_tree, join_fl
 use Rattle.salt_parse.specs.declared.built.Built.{Built}
 use Rattle.salt_parse.specs.declared.error.ParseErr.{ParseErr}
 use Rattle.salt_tokens.specs.Scanning.{◌>>=◌}
-use Rattle.salt_tokens.specs.Symbols.{Row, Symbol, int, key, name, sign, text}
+use Rattle.salt_tokens.specs.Symbols.{Symbols, Symbol, int, key, name, sign, text}
 use Rattle.salt_tokens.specs.contracts.keyword.Keyword.{the_type as keywords}
 use Rattle.salt_tokens.specs.contracts.sign.Sign.{the_type as signs}
 use Rattle.salt_tokens.specs.declared.keyword.Keyword.TheVariants as word
@@ -21,27 +21,27 @@ use Rattle.std.specs.Prelude.{Bool, Err, List, None, Ok, Option, Result, Some, [
 
 -- what was read, the flags after it and the symbols that are left
 abbrev pub Read : Type 0 → Type 0
-Read X = X × Flags × Row
+Read X = X × Flags × Symbols
 
 abbrev pub Reader : Type 0 → Type 0
-Reader X = Flags → Row → Option (Read X)
+Reader X = Flags → Symbols → Option (Read X)
 
 -- what a function returned, with what it left, is what reading gives
-abbrev pub Gives : {X : Type 0} → Result X ParseErr → Flags → Row → Option (Read X) → Type 0
+abbrev pub Gives : {X : Type 0} → Result X ParseErr → Flags → Symbols → Option (Read X) → Type 0
 Gives (Ok x) f left read = read ≡ Some (x, f, left)
 Gives (Err err) f left read = Fails err read
 
-abbrev pub GivesBuilt : Result Built ParseErr → Flags → Row → Option (Read BuiltTree) → Type 0
+abbrev pub GivesBuilt : Result Built ParseErr → Flags → Symbols → Option (Read BuiltTree) → Type 0
 GivesBuilt (Ok b) f left read = read ≡ Some (built_of b, f, left)
 GivesBuilt (Err err) f left read = Fails err read
 
 -- the same of what passes nothing
-abbrev pub GivesAs : {X : Type 0} → Result X ParseErr → Row → Option (X × Row) → Type 0
+abbrev pub GivesAs : {X : Type 0} → Result X ParseErr → Symbols → Option (X × Symbols) → Type 0
 GivesAs (Ok x) left read = read ≡ Some (x, left)
 GivesAs (Err err) left read = Fails err read
 
 -- the symbols that are left are those behind what was taken
-abbrev pub Leaves : Result (Unit {0}) ParseErr → Row → Option Row → Type 0
+abbrev pub Leaves : Result (Unit {0}) ParseErr → Symbols → Option Symbols → Type 0
 Leaves (Ok _) left read = read ≡ Some left
 Leaves (Err err) left read = Fails err read
 
@@ -52,7 +52,7 @@ is_same (sign a) (sign b) = sameb signs a b
 is_same _ _ = false
 
 -- what stands behind this keyword or sign
-unfoldable pub after : Symbol → Row → Option Row
+unfoldable pub after : Symbol → Symbols → Option Symbols
 after t [] = None
 after t (u ∷ us) = if is_same u t then Some us else None
 
@@ -67,7 +67,7 @@ at_operator None a f = a
 at_operator (Some o) a f = f o
 
 -- the operation of this precedence that comes next, and what follows it
-abbrev pub next_operator : ℕ → Row → Option Op × Row
+abbrev pub next_operator : ℕ → Symbols → Option Op × Symbols
 next_operator level [] = (None, [])
 next_operator level (t ∷ ts) = at_operator (of_level level (operator t)) (None, t ∷ ts) (λ o. (Some o, ts))
 
@@ -107,7 +107,7 @@ nots_at operand f (t ∷ ts) = operand f (t ∷ ts)
 
 -- a number, where it has 64 bits
 abbrev pub int_at : Option ℤ → Reader BuiltTree
-int_at z f ts = Some (leaf (int_tree z), note f (when (is_none z) limit.Number) false, ts)
+int_at z f ts = Some (leaf (int_tree z), note f (then_some (is_none z) limit.Number) false, ts)
 
 abbrev pub text_flags : List ℕ → Flags → Flags
 text_flags t f = note f (above 255 limit.Text (length t)) false

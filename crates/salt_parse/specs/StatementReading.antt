@@ -11,7 +11,7 @@ use Rattle.salt_parse.specs.Flags.{BuiltTree, kept_name}
 use Rattle.salt_parse.specs.Lists.{either, listed_at}
 use Rattle.salt_parse.specs.Reading.{Reader, after, conjunction_at, expression_at, is_same, name_flags, sum_at}
 use Rattle.salt_tokens.specs.Scanning.{◌>>=◌}
-use Rattle.salt_tokens.specs.Symbols.{Row, key, name, sign}
+use Rattle.salt_tokens.specs.Symbols.{Symbols, key, name, sign}
 use Rattle.salt_tokens.specs.declared.keyword.Keyword.TheVariants as word
 use Rattle.salt_tokens.specs.declared.sign.Sign.TheVariants as mark
 use Rattle.std.specs.Prelude.{Bool, List, None, Option, Some, false, if◌then◌else◌, ℕ, ◌∷◌}
@@ -100,7 +100,7 @@ insert_at deeper f ts =
     after (key word.Into) ts >>= λ us. name_at f us >>= λ n. after (key word.Values) n.2 >>= λ vs. after (sign mark.Open) vs >>= λ ws. values_at deeper n.1 ws >>= λ es. after (sign mark.Close) es.2 >>= λ xs. Some (statement.Insert n.0 es.0, es.1, xs)
 
 -- whether a name and `into` come next
-abbrev pub is_into : Row → Bool
+abbrev pub is_into : Symbols → Bool
 is_into (name n ∷ t ∷ ts) = is_same t (key word.Into)
 is_into _ = false
 

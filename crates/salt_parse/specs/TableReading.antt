@@ -1,5 +1,5 @@
 -- Reading tables from left to right, with what they pass.
-use Rattle.salt_ast.specs.Words.{when}
+use Rattle.std.specs.Bool.{then_some}
 use Rattle.salt_ast.specs.declared.limit.LimitName.{LimitName}
 use Rattle.salt_ast.specs.declared.limit.LimitName.TheVariants as limit
 use Rattle.salt_ast.specs.declared.trees.ColType.{ColType}
@@ -12,13 +12,13 @@ use Rattle.salt_parse.specs.Lists.{comma, either, following_at, with_front}
 use Rattle.salt_parse.specs.Reading.{Reader, after, expression_at}
 use Rattle.salt_parse.specs.StatementReading.{name_at, tree_at}
 use Rattle.salt_tokens.specs.Scanning.{◌>>=◌}
-use Rattle.salt_tokens.specs.Symbols.{Row, key, sign}
+use Rattle.salt_tokens.specs.Symbols.{Symbols, key, sign}
 use Rattle.salt_tokens.specs.declared.keyword.Keyword.TheVariants as word
 use Rattle.salt_tokens.specs.declared.sign.Sign.TheVariants as mark
 use Rattle.std.specs.Prelude.{List, None, Option, Some, [], false, length, nat_le, ℕ, ◌∷◌}
 
 -- a column's type, and what stands behind it
-abbrev pub kind_at : Row → Option (ColType × Row)
+abbrev pub kind_at : Symbols → Option (ColType × Symbols)
 kind_at ts = either (after (key word.Int) ts) (after (key word.Text) ts >>= λ us. Some (kind.Text, us)) (λ us. Some (kind.Int, us))
 
 abbrev pub field_at : Reader Field
@@ -26,14 +26,14 @@ field_at f ts = name_at f ts >>= λ n. kind_at n.2 >>= λ k. Some (record { name
 
 -- the flags before an item behind so many others, where there may be 16 in all
 abbrev pub counted : LimitName → ℕ → Flags → Flags
-counted l n f = note f (when (nat_le 16 n) l) false
+counted l n f = note f (then_some (nat_le 16 n) l) false
 
 -- the column that stands behind so many others
 abbrev pub further_field_at : ℕ → Reader Field
 further_field_at n f ts = field_at (counted limit.Columns n f) ts
 
 -- what stands behind a comma, where it is no check
-abbrev pub field_comma : Row → Option Row
+abbrev pub field_comma : Symbols → Option Symbols
 field_comma ts = comma ts >>= λ us. either (after (key word.Check) us) (Some us) (λ vs. None)
 
 -- the key's column and further ones

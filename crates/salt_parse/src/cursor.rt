@@ -4,7 +4,7 @@ ghost use Rattle.std.specs.Prelude.{◌≡◌, ◌<◌, ◌≤◌, IfNone, IsTru
 ghost use Rattle.salt_ast.specs.Operators.{precedence};
 ghost use Rattle.salt_parse.specs.Flags.{BuiltTree, Flags};
 ghost use Rattle.salt_parse.specs.Reading.{Leaves, Reader, after, next_operator, nots_at, under_nots};
-ghost use Rattle.salt_tokens.specs.Symbols.{key, row, sign};
+ghost use Rattle.salt_tokens.specs.Symbols.{key, symbols_in, sign};
 
 use crate::error::ParseErr;
 use salt_ast::Op;
@@ -32,7 +32,7 @@ pub struct Cursor<'a> {
 impl<'a> Cursor<'a> {
     /// Takes the operation that comes next, if it is one of this precedence.
     pub fn take_operator(&mut self, level: u8) -> Option<Op>
-        ensures takes { (result, row self.new.rest.now) ≡ next_operator level (row self.old.rest.now) }
+        ensures takes { (result, symbols_in self.new.rest.now) ≡ next_operator level (symbols_in self.old.rest.now) }
         ensures shrinks { OnSome result (length self.new.rest.now < length self.old.rest.now) }
         ensures stays { IfNone result (self.new ≡ self.old) }
     {
@@ -64,7 +64,7 @@ impl<'a> Cursor<'a> {
     /// Takes this keyword, if it comes next.
     #[tactic(auto, unfolding(crate::specs::Reading::after))]
     pub fn skip_key(&mut self, wanted: Keyword) -> bool
-        ensures reads { after (key wanted) (row self.old.rest.now) ≡ (if result then Some (row self.new.rest.now) else None) }
+        ensures reads { after (key wanted) (symbols_in self.old.rest.now) ≡ (if result then Some (symbols_in self.new.rest.now) else None) }
         ensures shrinks { IsTrue result → length self.new.rest.now < length self.old.rest.now }
         ensures stays { result ≡ false → self.new ≡ self.old }
     {
@@ -80,7 +80,7 @@ impl<'a> Cursor<'a> {
     /// Takes this sign, if it comes next.
     #[tactic(auto, unfolding(crate::specs::Reading::after))]
     pub fn skip_sign(&mut self, wanted: Sign) -> bool
-        ensures reads { after (sign wanted) (row self.old.rest.now) ≡ (if result then Some (row self.new.rest.now) else None) }
+        ensures reads { after (sign wanted) (symbols_in self.old.rest.now) ≡ (if result then Some (symbols_in self.new.rest.now) else None) }
         ensures shrinks { IsTrue result → length self.new.rest.now < length self.old.rest.now }
         ensures stays { result ≡ false → self.new ≡ self.old }
     {
@@ -95,7 +95,7 @@ impl<'a> Cursor<'a> {
 
     /// Takes this keyword, which has to come next.
     pub fn take_key(&mut self, wanted: Keyword) -> Result<(), ParseErr>
-        ensures reads { Leaves result (row self.new.rest.now) (after (key wanted) (row self.old.rest.now)) }
+        ensures reads { Leaves result (symbols_in self.new.rest.now) (after (key wanted) (symbols_in self.old.rest.now)) }
         ensures shrinks { OnOk result (length self.new.rest.now < length self.old.rest.now) }
     {
         if self.skip_key(wanted) {
@@ -107,7 +107,7 @@ impl<'a> Cursor<'a> {
 
     /// Takes this sign, which has to come next.
     pub fn take_sign(&mut self, wanted: Sign) -> Result<(), ParseErr>
-        ensures reads { Leaves result (row self.new.rest.now) (after (sign wanted) (row self.old.rest.now)) }
+        ensures reads { Leaves result (symbols_in self.new.rest.now) (after (sign wanted) (symbols_in self.old.rest.now)) }
         ensures shrinks { OnOk result (length self.new.rest.now < length self.old.rest.now) }
     {
         if self.skip_sign(wanted) {
@@ -119,7 +119,7 @@ impl<'a> Cursor<'a> {
 
     /// Takes the `not`s that come next, and counts them.
     pub fn skip_nots(&mut self) -> usize
-        ensures reads { (operand : Reader BuiltTree) (f : Flags) → nots_at operand f (row self.old.rest.now) ≡ under_nots result (operand f (row self.new.rest.now)) }
+        ensures reads { (operand : Reader BuiltTree) (f : Flags) → nots_at operand f (symbols_in self.old.rest.now) ≡ under_nots result (operand f (symbols_in self.new.rest.now)) }
         ensures shrinks { length self.new.rest.now ≤ length self.old.rest.now }
     {
         let mut nots: usize = 0;

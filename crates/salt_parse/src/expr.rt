@@ -3,7 +3,7 @@
 ghost use Rattle.std.specs.Prelude.{◌<◌, OnOk, length};
 ghost use Rattle.salt_parse.specs.Flags.{flags};
 ghost use Rattle.salt_parse.specs.Reading.{GivesBuilt, atom_at, comparison_at, conjunction_at, expression_at, negation_at, paren_at, product_at, sum_at, within_at};
-ghost use Rattle.salt_tokens.specs.Symbols.{row};
+ghost use Rattle.salt_tokens.specs.Symbols.{symbols_in};
 
 use crate::built::Built;
 use crate::error::ParseErr;
@@ -15,7 +15,7 @@ impl<'a> Parser<'a> {
     #[cycle(expr)]
     #[tactic(auto, using(crate::proofs::Loop::tail_steps), unfolding(crate::specs::Reading::left_at))]
     pub fn expression(&mut self, room: u32) -> Result<Built, ParseErr>
-        ensures reads { GivesBuilt result (flags self.new.over self.new.deep) (row self.new.cursor.rest.now) (expression_at (within_at room) (flags self.old.over self.old.deep) (row self.old.cursor.rest.now)) }
+        ensures reads { GivesBuilt result (flags self.new.over self.new.deep) (symbols_in self.new.cursor.rest.now) (expression_at (within_at room) (flags self.old.over self.old.deep) (symbols_in self.old.cursor.rest.now)) }
         ensures shrinks { OnOk result (length self.new.cursor.rest.now < length self.old.cursor.rest.now) }
     {
         let mut left = self.conjunction(room)?;
@@ -30,7 +30,7 @@ impl<'a> Parser<'a> {
     #[cycle(expr)]
     #[tactic(auto, using(crate::proofs::Loop::tail_steps), unfolding(crate::specs::Reading::left_at))]
     pub fn conjunction(&mut self, room: u32) -> Result<Built, ParseErr>
-        ensures reads { GivesBuilt result (flags self.new.over self.new.deep) (row self.new.cursor.rest.now) (conjunction_at (within_at room) (flags self.old.over self.old.deep) (row self.old.cursor.rest.now)) }
+        ensures reads { GivesBuilt result (flags self.new.over self.new.deep) (symbols_in self.new.cursor.rest.now) (conjunction_at (within_at room) (flags self.old.over self.old.deep) (symbols_in self.old.cursor.rest.now)) }
         ensures shrinks { OnOk result (length self.new.cursor.rest.now < length self.old.cursor.rest.now) }
     {
         let mut left = self.negation(room)?;
@@ -44,7 +44,7 @@ impl<'a> Parser<'a> {
     /// A comparison behind any number of `not`s.
     #[cycle(expr)]
     fn negation(&mut self, room: u32) -> Result<Built, ParseErr>
-        ensures reads { GivesBuilt result (flags self.new.over self.new.deep) (row self.new.cursor.rest.now) (negation_at (within_at room) (flags self.old.over self.old.deep) (row self.old.cursor.rest.now)) }
+        ensures reads { GivesBuilt result (flags self.new.over self.new.deep) (symbols_in self.new.cursor.rest.now) (negation_at (within_at room) (flags self.old.over self.old.deep) (symbols_in self.old.cursor.rest.now)) }
         ensures shrinks { OnOk result (length self.new.cursor.rest.now < length self.old.cursor.rest.now) }
     {
         let nots = self.cursor.skip_nots();
@@ -59,7 +59,7 @@ impl<'a> Parser<'a> {
     #[cycle(expr)]
     #[tactic(auto, unfolding(crate::specs::Reading::once_at))]
     fn comparison(&mut self, room: u32) -> Result<Built, ParseErr>
-        ensures reads { GivesBuilt result (flags self.new.over self.new.deep) (row self.new.cursor.rest.now) (comparison_at (within_at room) (flags self.old.over self.old.deep) (row self.old.cursor.rest.now)) }
+        ensures reads { GivesBuilt result (flags self.new.over self.new.deep) (symbols_in self.new.cursor.rest.now) (comparison_at (within_at room) (flags self.old.over self.old.deep) (symbols_in self.old.cursor.rest.now)) }
         ensures shrinks { OnOk result (length self.new.cursor.rest.now < length self.old.cursor.rest.now) }
     {
         let left = self.sum(room)?;
@@ -76,7 +76,7 @@ impl<'a> Parser<'a> {
     #[cycle(expr)]
     #[tactic(auto, using(crate::proofs::Loop::tail_steps), unfolding(crate::specs::Reading::left_at))]
     pub fn sum(&mut self, room: u32) -> Result<Built, ParseErr>
-        ensures reads { GivesBuilt result (flags self.new.over self.new.deep) (row self.new.cursor.rest.now) (sum_at (within_at room) (flags self.old.over self.old.deep) (row self.old.cursor.rest.now)) }
+        ensures reads { GivesBuilt result (flags self.new.over self.new.deep) (symbols_in self.new.cursor.rest.now) (sum_at (within_at room) (flags self.old.over self.old.deep) (symbols_in self.old.cursor.rest.now)) }
         ensures shrinks { OnOk result (length self.new.cursor.rest.now < length self.old.cursor.rest.now) }
     {
         let mut left = self.product(room)?;
@@ -91,7 +91,7 @@ impl<'a> Parser<'a> {
     #[cycle(expr)]
     #[tactic(auto, using(crate::proofs::Loop::tail_steps), unfolding(crate::specs::Reading::left_at))]
     fn product(&mut self, room: u32) -> Result<Built, ParseErr>
-        ensures reads { GivesBuilt result (flags self.new.over self.new.deep) (row self.new.cursor.rest.now) (product_at (within_at room) (flags self.old.over self.old.deep) (row self.old.cursor.rest.now)) }
+        ensures reads { GivesBuilt result (flags self.new.over self.new.deep) (symbols_in self.new.cursor.rest.now) (product_at (within_at room) (flags self.old.over self.old.deep) (symbols_in self.old.cursor.rest.now)) }
         ensures shrinks { OnOk result (length self.new.cursor.rest.now < length self.old.cursor.rest.now) }
     {
         let mut left = self.atom(room)?;
@@ -106,7 +106,7 @@ impl<'a> Parser<'a> {
     #[cycle(expr)]
     #[tactic(auto, unfolding(crate::specs::Reading::atom_at))]
     fn atom(&mut self, room: u32) -> Result<Built, ParseErr>
-        ensures reads { GivesBuilt result (flags self.new.over self.new.deep) (row self.new.cursor.rest.now) (atom_at (within_at room) (flags self.old.over self.old.deep) (row self.old.cursor.rest.now)) }
+        ensures reads { GivesBuilt result (flags self.new.over self.new.deep) (symbols_in self.new.cursor.rest.now) (atom_at (within_at room) (flags self.old.over self.old.deep) (symbols_in self.old.cursor.rest.now)) }
         ensures shrinks { OnOk result (length self.new.cursor.rest.now < length self.old.cursor.rest.now) }
     {
         match self.cursor.rest {
@@ -142,7 +142,7 @@ impl<'a> Parser<'a> {
     #[cycle(expr)]
     #[tactic(auto, using(crate::proofs::Loop::within_laws))]
     fn parenthesized(&mut self, room: u32) -> Result<Built, ParseErr>
-        ensures reads { GivesBuilt result (flags self.new.over self.new.deep) (row self.new.cursor.rest.now) (paren_at (within_at room) (flags self.old.over self.old.deep) (row self.old.cursor.rest.now)) }
+        ensures reads { GivesBuilt result (flags self.new.over self.new.deep) (symbols_in self.new.cursor.rest.now) (paren_at (within_at room) (flags self.old.over self.old.deep) (symbols_in self.old.cursor.rest.now)) }
         ensures shrinks { OnOk result (length self.new.cursor.rest.now < length self.old.cursor.rest.now) }
     {
         if room == 0 {

@@ -2,28 +2,20 @@
 
 ghost use Rattle.std.specs.Prelude.{◌≡◌, IfOk, None, Some, false, if◌then◌else◌, nat_lt};
 ghost use Rattle.salt_ast.specs.Trees.{negation, operation};
-ghost use Rattle.salt_ast.specs.Words.{when};
+ghost use Rattle.std.specs.Bool.{then_some};
 ghost use Rattle.salt_parse.specs.Flags.{built_of, clear, flags, int_tree, join_flags, join_tree, kept_name, negate_flags, negate_tree, note, signed, stand_in, text_tree};
 ghost use Rattle.salt_parse.specs.Reading.{column_at, int_at, name_flags, named_at, text_at};
-ghost use Rattle.salt_tokens.specs.Symbols.{row, undoubled};
+ghost use Rattle.salt_tokens.specs.Symbols.{symbols_in, undoubled};
 
 use crate::built::Built;
 use crate::cursor::Cursor;
 use crate::quoted::{content, content_len};
 use salt_ast::{Expr, LimitName, Op};
 use salt_tokens::Lexeme;
+use salt_values::limits::{DEPTH_MOST, NAME_MOST, TEXT_MOST};
 use salt_values::{Name, Text, TextErr, Value};
 use sqlite_items::{Boxed, Items};
 use std::alloc::{AllocError, Global};
-
-/// The most bytes of a name.
-const NAME_MOST: usize = 32;
-
-/// The most bytes of a text.
-const TEXT_MOST: usize = 255;
-
-/// The most levels of an expression.
-const HEIGHT_MOST: u32 = 64;
 
 /// What is built where a limit is passed, so that nothing grows from there on.
 fn stand_in() -> Expr
@@ -120,7 +112,7 @@ impl<'a> Parser<'a> {
 
     /// Notes that a limit is passed, if this is so and none was before.
     pub fn note(&mut self, passed: bool, name: LimitName)
-        ensures flags { flags self.new.over self.new.deep ≡ note (flags self.old.over self.old.deep) (when passed name) false }
+        ensures flags { flags self.new.over self.new.deep ≡ note (flags self.old.over self.old.deep) (then_some passed name) false }
         ensures rest { self.new.cursor ≡ self.old.cursor }
     {
         if passed && self.over.is_none() {
@@ -133,7 +125,7 @@ impl<'a> Parser<'a> {
         ensures flags { flags self.new.over self.new.deep ≡ note (flags self.old.over self.old.deep) None (nat_lt 64 height) }
         ensures rest { self.new.cursor ≡ self.old.cursor }
     {
-        self.deep = self.deep || HEIGHT_MOST < height;
+        self.deep = self.deep || DEPTH_MOST < height;
     }
 
     /// A name, while no limit is passed.
@@ -152,7 +144,7 @@ impl<'a> Parser<'a> {
 
     /// A column's name.
     pub fn column(&mut self, name: &[u8]) -> Result<Built, AllocError>
-        ensures leaf { IfOk result (λ b. column_at name.now (flags self.old.over self.old.deep) (row self.old.cursor.rest.now) ≡ Some (built_of b, flags self.new.over self.new.deep, row self.new.cursor.rest.now)) }
+        ensures leaf { IfOk result (λ b. column_at name.now (flags self.old.over self.old.deep) (symbols_in self.old.cursor.rest.now) ≡ Some (built_of b, flags self.new.over self.new.deep, symbols_in self.new.cursor.rest.now)) }
         ensures rest { self.new.cursor ≡ self.old.cursor }
     {
         let name = self.name_of(name)?;
@@ -164,7 +156,7 @@ impl<'a> Parser<'a> {
 
     /// The name of a parameter or a variable.
     pub fn variable(&mut self, name: &[u8]) -> Result<Built, AllocError>
-        ensures leaf { IfOk result (λ b. named_at name.now (flags self.old.over self.old.deep) (row self.old.cursor.rest.now) ≡ Some (built_of b, flags self.new.over self.new.deep, row self.new.cursor.rest.now)) }
+        ensures leaf { IfOk result (λ b. named_at name.now (flags self.old.over self.old.deep) (symbols_in self.old.cursor.rest.now) ≡ Some (built_of b, flags self.new.over self.new.deep, symbols_in self.new.cursor.rest.now)) }
         ensures rest { self.new.cursor ≡ self.old.cursor }
     {
         let name = self.name_of(name)?;
@@ -176,7 +168,7 @@ impl<'a> Parser<'a> {
 
     /// A number, where it has 64 bits.
     pub fn number(&mut self, number: Option<i64>) -> Built
-        ensures leaf { int_at number (flags self.old.over self.old.deep) (row self.old.cursor.rest.now) ≡ Some (built_of result, flags self.new.over self.new.deep, row self.new.cursor.rest.now) }
+        ensures leaf { int_at number (flags self.old.over self.old.deep) (symbols_in self.old.cursor.rest.now) ≡ Some (built_of result, flags self.new.over self.new.deep, symbols_in self.new.cursor.rest.now) }
         ensures rest { self.new.cursor ≡ self.old.cursor }
     {
         self.note(number.is_none(), LimitName::Number);
@@ -188,7 +180,7 @@ impl<'a> Parser<'a> {
 
     /// The text between these quotes.
     pub fn text(&mut self, quoted: &[u8]) -> Result<Built, AllocError>
-        ensures leaf { IfOk result (λ b. text_at (undoubled quoted.now) (flags self.old.over self.old.deep) (row self.old.cursor.rest.now) ≡ Some (built_of b, flags self.new.over self.new.deep, row self.new.cursor.rest.now)) }
+        ensures leaf { IfOk result (λ b. text_at (undoubled quoted.now) (flags self.old.over self.old.deep) (symbols_in self.old.cursor.rest.now) ≡ Some (built_of b, flags self.new.over self.new.deep, symbols_in self.new.cursor.rest.now)) }
         ensures rest { self.new.cursor ≡ self.old.cursor }
     {
         self.note(TEXT_MOST < content_len(quoted), LimitName::Text);
@@ -220,7 +212,7 @@ impl<'a> Parser<'a> {
         let tree = binary(self.alloc, self.is_clear(), op, left, right)?;
         Ok(Built {
             tree,
-            height: height.min(HEIGHT_MOST + 1),
+            height: height.min(DEPTH_MOST + 1),
         })
     }
 
@@ -236,7 +228,7 @@ impl<'a> Parser<'a> {
         let tree = negation(self.alloc, self.is_clear(), tree)?;
         Ok(Built {
             tree,
-            height: height.min(HEIGHT_MOST + 1),
+            height: height.min(DEPTH_MOST + 1),
         })
     }
 }

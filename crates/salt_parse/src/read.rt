@@ -11,23 +11,18 @@ ghost use Rattle.salt_parse.specs.Reading.{within_at};
 ghost use Rattle.salt_parse.specs.StatementReading.{statement_at};
 ghost use Rattle.salt_parse.specs.TableReading.{table_at};
 ghost use Rattle.salt_parse.specs.declared.error.ParseErr.TheVariants.{Limit, Syntax};
-ghost use Rattle.salt_tokens.specs.Symbols.{row};
+ghost use Rattle.salt_tokens.specs.Symbols.{symbols_in};
 
 use crate::error::ParseErr;
 use crate::parser::Parser;
 use salt_ast::{LimitName, Statement, TableDef};
 use salt_tokens::{Lexeme, lexemes, one_row, quoted_text};
+use salt_values::limits::{DEPTH_MOST, PARENTHESES_MOST};
 use std::alloc::Global;
-
-/// The parentheses of an expression in which a token may stand.
-const SHALLOW: u32 = 64;
-
-/// The open parentheses of any kind in which a token may stand.
-const DEEP: u32 = 128;
 
 /// What was found, where nothing is left.
 fn finish<T: Drop>(parser: Parser<'_>, tree: T) -> Result<Result<T, LimitName>, ParseErr>
-    ensures { result ≡ attempt_of (Some (tree, flags parser.entry.over parser.entry.deep, row parser.entry.cursor.rest.now)) }
+    ensures { result ≡ attempt_of (Some (tree, flags parser.entry.over parser.entry.deep, symbols_in parser.entry.cursor.rest.now)) }
 {
     if !parser.cursor.rest.is_empty() {
         return Err(ParseErr::Syntax);
@@ -59,7 +54,7 @@ fn try_statement<'a>(
     room: u32,
     deeper: u32,
 ) -> Result<Result<Statement, LimitName>, ParseErr>
-    ensures { IsAnswer result (attempt_of (statement_at (within_at room) (within_at deeper) no_flags (row rest.now))) }
+    ensures { IsAnswer result (attempt_of (statement_at (within_at room) (within_at deeper) no_flags (symbols_in rest.now))) }
 {
     let mut parser = Parser::new(alloc, rest);
     let statement = parser.statement(room, deeper)?;
@@ -67,13 +62,13 @@ fn try_statement<'a>(
 }
 
 fn settle_statement<'a>(alloc: Global, rest: &'a [Lexeme<'a>]) -> Result<Statement, ParseErr>
-    ensures { IsAnswer result (settled (attempt_of (statement_at (within_at 64) (within_at 64) no_flags (row rest.now))) (attempt_of (statement_at (within_at 128) (within_at 127) no_flags (row rest.now)))) }
+    ensures { IsAnswer result (settled (attempt_of (statement_at (within_at 64) (within_at 64) no_flags (symbols_in rest.now))) (attempt_of (statement_at (within_at 128) (within_at 127) no_flags (symbols_in rest.now)))) }
 {
-    match try_statement(alloc, rest, SHALLOW, SHALLOW) {
+    match try_statement(alloc, rest, DEPTH_MOST, DEPTH_MOST) {
         Ok(Ok(statement)) => Ok(statement),
         Ok(Err(limit)) => Err(ParseErr::Limit(limit)),
         Err(ParseErr::Syntax) => {
-            let attempt = try_statement(alloc, rest, DEEP, DEEP - 1);
+            let attempt = try_statement(alloc, rest, PARENTHESES_MOST, PARENTHESES_MOST - 1);
             Err(too_deep(attempt))
         }
         Err(e) => Err(e),
@@ -104,7 +99,7 @@ fn try_table<'a>(
     rest: &'a [Lexeme<'a>],
     room: u32,
 ) -> Result<Result<TableDef, LimitName>, ParseErr>
-    ensures { IsAnswer result (attempt_of (table_at (within_at room) no_flags (row rest.now))) }
+    ensures { IsAnswer result (attempt_of (table_at (within_at room) no_flags (symbols_in rest.now))) }
 {
     let mut parser = Parser::new(alloc, rest);
     let table = parser.table(room)?;
@@ -112,13 +107,13 @@ fn try_table<'a>(
 }
 
 fn settle_table<'a>(alloc: Global, rest: &'a [Lexeme<'a>]) -> Result<TableDef, ParseErr>
-    ensures { IsAnswer result (settled (attempt_of (table_at (within_at 64) no_flags (row rest.now))) (attempt_of (table_at (within_at 127) no_flags (row rest.now)))) }
+    ensures { IsAnswer result (settled (attempt_of (table_at (within_at 64) no_flags (symbols_in rest.now))) (attempt_of (table_at (within_at 127) no_flags (symbols_in rest.now)))) }
 {
-    match try_table(alloc, rest, SHALLOW) {
+    match try_table(alloc, rest, DEPTH_MOST) {
         Ok(Ok(table)) => Ok(table),
         Ok(Err(limit)) => Err(ParseErr::Limit(limit)),
         Err(ParseErr::Syntax) => {
-            let attempt = try_table(alloc, rest, DEEP - 1);
+            let attempt = try_table(alloc, rest, PARENTHESES_MOST - 1);
             Err(too_deep(attempt))
         }
         Err(e) => Err(e),

@@ -4,7 +4,7 @@ ghost use Rattle.std.specs.Prelude.{◌≡◌, ◌<◌, OnOk, length};
 ghost use Rattle.salt_parse.specs.Flags.{flags};
 ghost use Rattle.salt_parse.specs.Reading.{Gives, within_at};
 ghost use Rattle.salt_parse.specs.StatementReading.{change_at, count_at, delete_at, enclosed_at, insert_at, into_at, is_into, names_at, only_key_at, select_at, select_into_at, select_rows_at, set_at, sets_at, statement_at, update_at, values_at, what_at};
-ghost use Rattle.salt_tokens.specs.Symbols.{row};
+ghost use Rattle.salt_tokens.specs.Symbols.{symbols_in};
 
 use crate::error::ParseErr;
 use crate::parser::Parser;
@@ -16,7 +16,7 @@ use sqlite_items::Items;
 impl<'a> Parser<'a> {
     /// Expressions with commas between them.
     fn values(&mut self, room: u32) -> Result<Exprs, ParseErr>
-        ensures { Gives result (flags self.new.over self.new.deep) (row self.new.cursor.rest.now) (values_at (within_at room) (flags self.old.over self.old.deep) (row self.old.cursor.rest.now)) }
+        ensures { Gives result (flags self.new.over self.new.deep) (symbols_in self.new.cursor.rest.now) (values_at (within_at room) (flags self.old.over self.old.deep) (symbols_in self.old.cursor.rest.now)) }
     {
         let mut values = Items::new(self.alloc);
         values.push(self.whole(room)?)?;
@@ -28,7 +28,7 @@ impl<'a> Parser<'a> {
 
     /// Names with commas between them.
     fn names(&mut self) -> Result<Names, ParseErr>
-        ensures { Gives result (flags self.new.over self.new.deep) (row self.new.cursor.rest.now) (names_at (flags self.old.over self.old.deep) (row self.old.cursor.rest.now)) }
+        ensures { Gives result (flags self.new.over self.new.deep) (symbols_in self.new.cursor.rest.now) (names_at (flags self.old.over self.old.deep) (symbols_in self.old.cursor.rest.now)) }
     {
         let mut names = Items::new(self.alloc);
         names.push(self.name()?)?;
@@ -40,7 +40,7 @@ impl<'a> Parser<'a> {
 
     /// A column and the value that it takes.
     fn set(&mut self, room: u32) -> Result<Set, ParseErr>
-        ensures reads { Gives result (flags self.new.over self.new.deep) (row self.new.cursor.rest.now) (set_at (within_at room) (flags self.old.over self.old.deep) (row self.old.cursor.rest.now)) }
+        ensures reads { Gives result (flags self.new.over self.new.deep) (symbols_in self.new.cursor.rest.now) (set_at (within_at room) (flags self.old.over self.old.deep) (symbols_in self.old.cursor.rest.now)) }
         ensures shrinks { OnOk result (length self.new.cursor.rest.now < length self.old.cursor.rest.now) }
     {
         let column = self.name()?;
@@ -51,7 +51,7 @@ impl<'a> Parser<'a> {
 
     /// Columns and their values, with commas between them.
     fn sets(&mut self, room: u32) -> Result<Sets, ParseErr>
-        ensures { Gives result (flags self.new.over self.new.deep) (row self.new.cursor.rest.now) (sets_at (within_at room) (flags self.old.over self.old.deep) (row self.old.cursor.rest.now)) }
+        ensures { Gives result (flags self.new.over self.new.deep) (symbols_in self.new.cursor.rest.now) (sets_at (within_at room) (flags self.old.over self.old.deep) (symbols_in self.old.cursor.rest.now)) }
     {
         let mut sets = Items::new(self.alloc);
         sets.push(self.set(room)?)?;
@@ -63,7 +63,7 @@ impl<'a> Parser<'a> {
 
     /// A name in parentheses.
     fn enclosed(&mut self) -> Result<Name, ParseErr>
-        ensures { Gives result (flags self.new.over self.new.deep) (row self.new.cursor.rest.now) (enclosed_at (flags self.old.over self.old.deep) (row self.old.cursor.rest.now)) }
+        ensures { Gives result (flags self.new.over self.new.deep) (symbols_in self.new.cursor.rest.now) (enclosed_at (flags self.old.over self.old.deep) (symbols_in self.old.cursor.rest.now)) }
     {
         self.cursor.take_sign(Sign::Open)?;
         let name = self.name()?;
@@ -73,7 +73,7 @@ impl<'a> Parser<'a> {
 
     /// What stands behind `count`.
     fn count(&mut self) -> Result<What, ParseErr>
-        ensures { Gives result (flags self.new.over self.new.deep) (row self.new.cursor.rest.now) (count_at (flags self.old.over self.old.deep) (row self.old.cursor.rest.now)) }
+        ensures { Gives result (flags self.new.over self.new.deep) (symbols_in self.new.cursor.rest.now) (count_at (flags self.old.over self.old.deep) (symbols_in self.old.cursor.rest.now)) }
     {
         self.cursor.take_sign(Sign::Open)?;
         self.cursor.take_sign(Sign::Star)?;
@@ -83,7 +83,7 @@ impl<'a> Parser<'a> {
 
     /// What a SELECT shows.
     fn what(&mut self) -> Result<What, ParseErr>
-        ensures { Gives result (flags self.new.over self.new.deep) (row self.new.cursor.rest.now) (what_at (flags self.old.over self.old.deep) (row self.old.cursor.rest.now)) }
+        ensures { Gives result (flags self.new.over self.new.deep) (symbols_in self.new.cursor.rest.now) (what_at (flags self.old.over self.old.deep) (symbols_in self.old.cursor.rest.now)) }
     {
         if self.cursor.skip_sign(Sign::Star) {
             return Ok(What::All);
@@ -105,7 +105,7 @@ impl<'a> Parser<'a> {
 
     /// What stands behind `insert`.
     fn insert(&mut self, room: u32) -> Result<Statement, ParseErr>
-        ensures { Gives result (flags self.new.over self.new.deep) (row self.new.cursor.rest.now) (insert_at (within_at room) (flags self.old.over self.old.deep) (row self.old.cursor.rest.now)) }
+        ensures { Gives result (flags self.new.over self.new.deep) (symbols_in self.new.cursor.rest.now) (insert_at (within_at room) (flags self.old.over self.old.deep) (symbols_in self.old.cursor.rest.now)) }
     {
         self.cursor.take_key(Keyword::Into)?;
         let table = self.name()?;
@@ -118,7 +118,7 @@ impl<'a> Parser<'a> {
 
     /// Whether a name and `into` come next.
     fn is_into(&self) -> bool
-        ensures { result ≡ is_into (row self.now.cursor.rest.now) }
+        ensures { result ≡ is_into (symbols_in self.now.cursor.rest.now) }
     {
         matches!(
             self.cursor.rest,
@@ -128,7 +128,7 @@ impl<'a> Parser<'a> {
 
     /// The names behind `select` up to `from`, where `into` stands between them.
     fn into_names(&mut self) -> Result<(Name, Name), ParseErr>
-        ensures { Gives result (flags self.new.over self.new.deep) (row self.new.cursor.rest.now) (into_at (flags self.old.over self.old.deep) (row self.old.cursor.rest.now)) }
+        ensures { Gives result (flags self.new.over self.new.deep) (symbols_in self.new.cursor.rest.now) (into_at (flags self.old.over self.old.deep) (symbols_in self.old.cursor.rest.now)) }
     {
         let column = self.name()?;
         self.cursor.take_key(Keyword::Into)?;
@@ -139,7 +139,7 @@ impl<'a> Parser<'a> {
 
     /// A key alone, behind a table's name.
     fn only_key(&mut self, room: u32) -> Result<Expr, ParseErr>
-        ensures { Gives result (flags self.new.over self.new.deep) (row self.new.cursor.rest.now) (only_key_at (within_at room) (flags self.old.over self.old.deep) (row self.old.cursor.rest.now)) }
+        ensures { Gives result (flags self.new.over self.new.deep) (symbols_in self.new.cursor.rest.now) (only_key_at (within_at room) (flags self.old.over self.old.deep) (symbols_in self.old.cursor.rest.now)) }
     {
         self.cursor.take_key(Keyword::Where)?;
         self.cursor.take_key(Keyword::Key)?;
@@ -148,7 +148,7 @@ impl<'a> Parser<'a> {
     }
 
     fn select_into(&mut self, room: u32) -> Result<Statement, ParseErr>
-        ensures { Gives result (flags self.new.over self.new.deep) (row self.new.cursor.rest.now) (select_into_at (within_at room) (flags self.old.over self.old.deep) (row self.old.cursor.rest.now)) }
+        ensures { Gives result (flags self.new.over self.new.deep) (symbols_in self.new.cursor.rest.now) (select_into_at (within_at room) (flags self.old.over self.old.deep) (symbols_in self.old.cursor.rest.now)) }
     {
         let (column, var) = self.into_names()?;
         self.cursor.take_key(Keyword::From)?;
@@ -163,7 +163,7 @@ impl<'a> Parser<'a> {
     }
 
     fn select_rows(&mut self, room: u32) -> Result<Statement, ParseErr>
-        ensures { Gives result (flags self.new.over self.new.deep) (row self.new.cursor.rest.now) (select_rows_at (within_at room) (flags self.old.over self.old.deep) (row self.old.cursor.rest.now)) }
+        ensures { Gives result (flags self.new.over self.new.deep) (symbols_in self.new.cursor.rest.now) (select_rows_at (within_at room) (flags self.old.over self.old.deep) (symbols_in self.old.cursor.rest.now)) }
     {
         let what = self.what()?;
         self.cursor.take_key(Keyword::From)?;
@@ -174,7 +174,7 @@ impl<'a> Parser<'a> {
 
     /// What stands behind `select`.
     fn select(&mut self, room: u32) -> Result<Statement, ParseErr>
-        ensures { Gives result (flags self.new.over self.new.deep) (row self.new.cursor.rest.now) (select_at (within_at room) (flags self.old.over self.old.deep) (row self.old.cursor.rest.now)) }
+        ensures { Gives result (flags self.new.over self.new.deep) (symbols_in self.new.cursor.rest.now) (select_at (within_at room) (flags self.old.over self.old.deep) (symbols_in self.old.cursor.rest.now)) }
     {
         if self.is_into() {
             self.select_into(room)
@@ -185,7 +185,7 @@ impl<'a> Parser<'a> {
 
     /// What stands behind `update`.
     fn update(&mut self, room: u32) -> Result<Statement, ParseErr>
-        ensures { Gives result (flags self.new.over self.new.deep) (row self.new.cursor.rest.now) (update_at (within_at room) (flags self.old.over self.old.deep) (row self.old.cursor.rest.now)) }
+        ensures { Gives result (flags self.new.over self.new.deep) (symbols_in self.new.cursor.rest.now) (update_at (within_at room) (flags self.old.over self.old.deep) (symbols_in self.old.cursor.rest.now)) }
     {
         let table = self.name()?;
         self.cursor.take_key(Keyword::Set)?;
@@ -196,7 +196,7 @@ impl<'a> Parser<'a> {
 
     /// What stands behind `delete`.
     fn delete(&mut self, room: u32) -> Result<Statement, ParseErr>
-        ensures { Gives result (flags self.new.over self.new.deep) (row self.new.cursor.rest.now) (delete_at (within_at room) (flags self.old.over self.old.deep) (row self.old.cursor.rest.now)) }
+        ensures { Gives result (flags self.new.over self.new.deep) (symbols_in self.new.cursor.rest.now) (delete_at (within_at room) (flags self.old.over self.old.deep) (symbols_in self.old.cursor.rest.now)) }
     {
         self.cursor.take_key(Keyword::From)?;
         let table = self.name()?;
@@ -206,7 +206,7 @@ impl<'a> Parser<'a> {
 
     /// UPDATE, DELETE or ENSURE.
     fn change(&mut self, room: u32) -> Result<Statement, ParseErr>
-        ensures { Gives result (flags self.new.over self.new.deep) (row self.new.cursor.rest.now) (change_at (within_at room) (flags self.old.over self.old.deep) (row self.old.cursor.rest.now)) }
+        ensures { Gives result (flags self.new.over self.new.deep) (symbols_in self.new.cursor.rest.now) (change_at (within_at room) (flags self.old.over self.old.deep) (symbols_in self.old.cursor.rest.now)) }
     {
         if self.cursor.skip_key(Keyword::Update) {
             return self.update(room);
@@ -221,7 +221,7 @@ impl<'a> Parser<'a> {
     /// A statement, with room for so many parentheses in its expressions, and for so many in those of INSERT.
     #[tactic(auto, unfolding(crate::specs::StatementReading::statement_at))]
     pub fn statement(&mut self, room: u32, deeper: u32) -> Result<Statement, ParseErr>
-        ensures { Gives result (flags self.new.over self.new.deep) (row self.new.cursor.rest.now) (statement_at (within_at room) (within_at deeper) (flags self.old.over self.old.deep) (row self.old.cursor.rest.now)) }
+        ensures { Gives result (flags self.new.over self.new.deep) (symbols_in self.new.cursor.rest.now) (statement_at (within_at room) (within_at deeper) (flags self.old.over self.old.deep) (symbols_in self.old.cursor.rest.now)) }
     {
         if self.cursor.skip_key(Keyword::Insert) {
             return self.insert(deeper);

@@ -4,25 +4,20 @@ ghost use Rattle.std.specs.Prelude.{◌≡◌, ◌<◌, IsTrue, None, OnOk, Some
 ghost use Rattle.salt_parse.specs.Flags.{flags};
 ghost use Rattle.salt_parse.specs.Reading.{Gives, GivesAs, within_at};
 ghost use Rattle.salt_parse.specs.TableReading.{check_at, checks_at, definition_at, field_at, field_comma, fields_at, further_field_at, kind_at, table_at};
-ghost use Rattle.salt_tokens.specs.Symbols.{row};
+ghost use Rattle.salt_tokens.specs.Symbols.{symbols_in};
 
 use crate::cursor::Cursor;
 use crate::error::ParseErr;
 use crate::parser::Parser;
 use salt_ast::{ColType, Expr, Exprs, Field, Fields, LimitName, TableDef};
 use salt_tokens::{Keyword, Lexeme, Sign};
+use salt_values::limits::{CHECKS_MOST, COLUMNS_MOST};
 use sqlite_items::Items;
-
-/// The most columns of a table.
-const COLUMNS_MOST: usize = 16;
-
-/// The most checks of a table.
-const CHECKS_MOST: usize = 16;
 
 impl<'a> Cursor<'a> {
     /// Takes a column's type.
     fn take_kind(&mut self) -> Result<ColType, ParseErr>
-        ensures reads { GivesAs result (row self.new.rest.now) (kind_at (row self.old.rest.now)) }
+        ensures reads { GivesAs result (symbols_in self.new.rest.now) (kind_at (symbols_in self.old.rest.now)) }
         ensures shrinks { OnOk result (length self.new.rest.now < length self.old.rest.now) }
     {
         if self.skip_key(Keyword::Int) {
@@ -35,7 +30,7 @@ impl<'a> Cursor<'a> {
     /// Takes the comma that comes next, if no check stands behind it.
     #[tactic(auto, unfolding(crate::specs::Reading::after))]
     fn skip_field_comma(&mut self) -> bool
-        ensures reads { field_comma (row self.old.rest.now) ≡ (if result then Some (row self.new.rest.now) else None) }
+        ensures reads { field_comma (symbols_in self.old.rest.now) ≡ (if result then Some (symbols_in self.new.rest.now) else None) }
         ensures shrinks { IsTrue result → length self.new.rest.now < length self.old.rest.now }
         ensures stays { result ≡ false → self.new ≡ self.old }
     {
@@ -53,7 +48,7 @@ impl<'a> Cursor<'a> {
 impl<'a> Parser<'a> {
     /// A column's name and type.
     fn field(&mut self) -> Result<Field, ParseErr>
-        ensures reads { Gives result (flags self.new.over self.new.deep) (row self.new.cursor.rest.now) (field_at (flags self.old.over self.old.deep) (row self.old.cursor.rest.now)) }
+        ensures reads { Gives result (flags self.new.over self.new.deep) (symbols_in self.new.cursor.rest.now) (field_at (flags self.old.over self.old.deep) (symbols_in self.old.cursor.rest.now)) }
         ensures shrinks { OnOk result (length self.new.cursor.rest.now < length self.old.cursor.rest.now) }
     {
         let name = self.name()?;
@@ -63,7 +58,7 @@ impl<'a> Parser<'a> {
 
     /// The column that stands behind so many others.
     fn further_field(&mut self, count: usize) -> Result<Field, ParseErr>
-        ensures reads { Gives result (flags self.new.over self.new.deep) (row self.new.cursor.rest.now) (further_field_at count (flags self.old.over self.old.deep) (row self.old.cursor.rest.now)) }
+        ensures reads { Gives result (flags self.new.over self.new.deep) (symbols_in self.new.cursor.rest.now) (further_field_at count (flags self.old.over self.old.deep) (symbols_in self.old.cursor.rest.now)) }
         ensures shrinks { OnOk result (length self.new.cursor.rest.now < length self.old.cursor.rest.now) }
     {
         self.note(COLUMNS_MOST <= count, LimitName::Columns);
@@ -72,7 +67,7 @@ impl<'a> Parser<'a> {
 
     /// The key's column and further ones.
     fn fields(&mut self) -> Result<Fields, ParseErr>
-        ensures { Gives result (flags self.new.over self.new.deep) (row self.new.cursor.rest.now) (fields_at (flags self.old.over self.old.deep) (row self.old.cursor.rest.now)) }
+        ensures { Gives result (flags self.new.over self.new.deep) (symbols_in self.new.cursor.rest.now) (fields_at (flags self.old.over self.old.deep) (symbols_in self.old.cursor.rest.now)) }
     {
         let mut fields = Items::new(self.alloc);
         let key = self.field()?;
@@ -87,7 +82,7 @@ impl<'a> Parser<'a> {
 
     /// The check that stands behind so many others.
     fn check(&mut self, room: u32, count: usize) -> Result<Expr, ParseErr>
-        ensures reads { Gives result (flags self.new.over self.new.deep) (row self.new.cursor.rest.now) (check_at (within_at room) count (flags self.old.over self.old.deep) (row self.old.cursor.rest.now)) }
+        ensures reads { Gives result (flags self.new.over self.new.deep) (symbols_in self.new.cursor.rest.now) (check_at (within_at room) count (flags self.old.over self.old.deep) (symbols_in self.old.cursor.rest.now)) }
         ensures shrinks { OnOk result (length self.new.cursor.rest.now < length self.old.cursor.rest.now) }
     {
         self.cursor.take_key(Keyword::Check)?;
@@ -97,7 +92,7 @@ impl<'a> Parser<'a> {
 
     /// The checks, each behind a comma.
     fn checks(&mut self, room: u32) -> Result<Exprs, ParseErr>
-        ensures { Gives result (flags self.new.over self.new.deep) (row self.new.cursor.rest.now) (checks_at (within_at room) (flags self.old.over self.old.deep) (row self.old.cursor.rest.now)) }
+        ensures { Gives result (flags self.new.over self.new.deep) (symbols_in self.new.cursor.rest.now) (checks_at (within_at room) (flags self.old.over self.old.deep) (symbols_in self.old.cursor.rest.now)) }
     {
         let mut checks = Items::new(self.alloc);
         while self.cursor.skip_sign(Sign::Comma) {
@@ -109,7 +104,7 @@ impl<'a> Parser<'a> {
 
     /// What stands behind `create table`.
     fn definition(&mut self, room: u32) -> Result<TableDef, ParseErr>
-        ensures { Gives result (flags self.new.over self.new.deep) (row self.new.cursor.rest.now) (definition_at (within_at room) (flags self.old.over self.old.deep) (row self.old.cursor.rest.now)) }
+        ensures { Gives result (flags self.new.over self.new.deep) (symbols_in self.new.cursor.rest.now) (definition_at (within_at room) (flags self.old.over self.old.deep) (symbols_in self.old.cursor.rest.now)) }
     {
         let name = self.name()?;
         self.cursor.take_sign(Sign::Open)?;
@@ -126,7 +121,7 @@ impl<'a> Parser<'a> {
     /// A table, with room for so many parentheses in its checks.
     #[tactic(auto, unfolding(crate::specs::TableReading::table_at))]
     pub fn table(&mut self, room: u32) -> Result<TableDef, ParseErr>
-        ensures { Gives result (flags self.new.over self.new.deep) (row self.new.cursor.rest.now) (table_at (within_at room) (flags self.old.over self.old.deep) (row self.old.cursor.rest.now)) }
+        ensures { Gives result (flags self.new.over self.new.deep) (symbols_in self.new.cursor.rest.now) (table_at (within_at room) (flags self.old.over self.old.deep) (symbols_in self.old.cursor.rest.now)) }
     {
         self.cursor.take_key(Keyword::Create)?;
         self.cursor.take_key(Keyword::Table)?;

@@ -1,4 +1,5 @@
 -- From line to line, and how a run ends.
+use Rattle.salt_values.specs.declared.limits.TheConstants.{LINE_MOST, SCRIPT_MOST}
 use Rattle.salt_model.specs.Words.{Every}
 use Rattle.salt_engine.specs.Engine.{Grows}
 use Rattle.salt_engine.specs.declared.engine.Engine.{Engine}
@@ -7,13 +8,12 @@ use Rattle.salt_io.specs.declared.lines.LineErr.{LineErr}
 use Rattle.salt_io.specs.Streams.{Gains, GainsSome, IsAtEnd, bytes_before}
 use Rattle.salt_model.specs.EventTexts.{ShowsNothing, event_text}
 use Rattle.salt_model.specs.Lines.{AskInOrder, Asks}
-use Rattle.salt_model.specs.Log as log_words
-use Rattle.salt_model.specs.Log.{Asked, Log}
+use Rattle.salt_model.specs.Trace as trace_words
+use Rattle.salt_model.specs.Trace.{Asked, Trace}
 use Rattle.salt_model.specs.Played.{Tells, empty_start}
 use Rattle.salt_model.specs.declared.events.Event.{Event}
 use Rattle.salt_print.proofs.Joins.{Gains-append}
 use Rattle.salt_run.proofs.Places.{end-place, fault-place, long-place, memory-place, next-place, write-place}
-use Rattle.salt_run.specs.Run.{longest_script}
 use Rattle.salt_run.specs.Serving.{IsAt, IsDone, IsEnded, IsLeftIn, IsServing, StopsTelling, TextAsks, added_text, rest_of, status_of, stop_of, told_text}
 use Rattle.salt_run.specs.declared.serving.Stop.{Stop}
 use Rattle.salt_run.specs.declared.serving.Stop.TheVariants as stop
@@ -66,7 +66,7 @@ gains-front a b before held g = record { part = a; others = b; whole = refl; gai
 -- a line was taken, which asks what its text or its length says
 pub record HasTaken (text : Option (List ℕ)) (before after : Option (List ℕ)) (taken taken_after : ℕ) : Type 0 where
   pub line : List ℕ
-  pub takes : TakesLine longest_script before after taken taken_after line
+  pub takes : TakesLine SCRIPT_MOST before after taken taken_after line
   pub asks : (asked : Asked) → TextAsks text asked → Asks line asked
 
 module _ (script before : Option (List ℕ)) (old new : Engine) (reading : Reading) (left : Option (List ℕ)) (story told : List Event) (held : Option (List ℕ)) (serving : IsServing script before old reading left story held) where
@@ -74,14 +74,14 @@ module _ (script before : Option (List ℕ)) (old new : Engine) (reading : Readi
     here : IsAt script reading_after.taken (rest_of reading_after left_after) (serving.texts ++ taken.line ∷ [])
     here = next-place script reading.taken reading_after.taken (rest_of reading left) (rest_of reading_after left_after) serving.texts taken.line serving.place taken.takes
 
-    asked-here : (asked : Asked) (after : Log) → log_words.lines_of after ≡ log_words.lines_of serving.log ++ asked ∷ [] → TextAsks text asked → AskInOrder (serving.texts ++ taken.line ∷ []) (log_words.lines_of after)
-    asked-here asked after lines asks = subst (AskInOrder (serving.texts ++ taken.line ∷ [])) (sym lines) (ask-one serving.texts (log_words.lines_of serving.log) taken.line asked serving.asked (taken.asks asked asks))
+    asked-here : (asked : Asked) (after : Trace) → trace_words.lines_of after ≡ trace_words.lines_of serving.trace ++ asked ∷ [] → TextAsks text asked → AskInOrder (serving.texts ++ taken.line ∷ []) (trace_words.lines_of after)
+    asked-here asked after lines asks = subst (AskInOrder (serving.texts ++ taken.line ∷ [])) (sym lines) (ask-one serving.texts (trace_words.lines_of serving.trace) taken.line asked serving.asked (taken.asks asked asks))
 
     pub line-done : (held_after : Option (List ℕ)) → IsDone text old story new told → Gains held (added_text story told) held_after → IsServing script before new reading_after left_after told held_after
     line-done held_after done written =
-        let goes = done.2 serving.log serving.serves in
+        let goes = done.2 serving.trace serving.serves in
         record {
-          log = goes.after;
+          trace = goes.after;
           texts = serving.texts ++ taken.line ∷ [];
           serves = goes.serves;
           asked = asked-here done.0 goes.after goes.asks done.1;
@@ -98,9 +98,9 @@ module _ (script before : Option (List ℕ)) (old new : Engine) (reading : Readi
     left-in : (held_after left_end : Option (List ℕ)) → held_after ≡ held → IsLeftIn text old story told → IsEnded Memory script left_end before told held_after
     left-in held_after left_end same (inl is) = record {
       played = record {
-        log = serving.log;
+        trace = serving.trace;
         texts = serving.texts;
-        tells = subst (λ t. Tells empty_start serving.log t) (sym is) serving.serves.tells;
+        tells = subst (λ t. Tells empty_start serving.trace t) (sym is) serving.serves.tells;
         asked = serving.asked;
         lines = memory-place script reading.taken (rest_of reading left) left_end serving.texts serving.place;
         leaves = tt;
@@ -109,10 +109,10 @@ module _ (script before : Option (List ℕ)) (old new : Engine) (reading : Readi
       unshown = subst (Every ShowsNothing) (sym is) serving.unshown;
     }
     left-in held_after left_end same (inr broken) =
-        let breaks = broken.2 serving.log serving.serves in
+        let breaks = broken.2 serving.trace serving.serves in
         record {
           played = record {
-            log = breaks.after;
+            trace = breaks.after;
             texts = serving.texts ++ taken.line ∷ [];
             tells = breaks.tells;
             asked = asked-here broken.0 breaks.after breaks.asks broken.1;
@@ -125,10 +125,10 @@ module _ (script before : Option (List ℕ)) (old new : Engine) (reading : Readi
 
     half-written : (held_after left_end : Option (List ℕ)) → IsDone text old story new told → GainsSome held (added_text story told) held_after → IsEnded WriteFault script left_end before told held_after
     half-written held_after left_end done written =
-        let goes = done.2 serving.log serving.serves in
+        let goes = done.2 serving.trace serving.serves in
         record {
           played = record {
-            log = goes.after;
+            trace = goes.after;
             texts = serving.texts ++ taken.line ∷ [];
             tells = goes.serves.tells;
             asked = asked-here done.0 goes.after goes.asks done.1;
@@ -149,7 +149,7 @@ module _ (script before : Option (List ℕ)) (old new : Engine) (reading : Readi
   pub done-ends : (left_end : Option (List ℕ)) → IsAtEnd (rest_of reading left) → IsEnded Done script left_end before story held
   done-ends left_end end = record {
     played = record {
-      log = serving.log;
+      trace = serving.trace;
       texts = serving.texts;
       tells = serving.serves.tells;
       asked = serving.asked;
@@ -163,7 +163,7 @@ module _ (script before : Option (List ℕ)) (old new : Engine) (reading : Readi
   pub fault-ends : (left_end : Option (List ℕ)) → TakesNoLine (rest_of reading left) left_end → IsEnded ReadFault script left_end before story held
   fault-ends left_end cut = record {
     played = record {
-      log = serving.log;
+      trace = serving.trace;
       texts = serving.texts;
       tells = serving.serves.tells;
       asked = serving.asked;
@@ -174,10 +174,10 @@ module _ (script before : Option (List ℕ)) (old new : Engine) (reading : Readi
     unshown = serving.unshown;
   }
 
-  pub long-ends : (left_end : Option (List ℕ)) → IsCutOff (longest_script - reading.taken) (rest_of reading left) → IsEnded ScriptTooLong script left_end before story held
+  pub long-ends : (left_end : Option (List ℕ)) → IsCutOff (SCRIPT_MOST - reading.taken) (rest_of reading left) → IsEnded ScriptTooLong script left_end before story held
   long-ends left_end cut = record {
     played = record {
-      log = serving.log;
+      trace = serving.trace;
       texts = serving.texts;
       tells = serving.serves.tells;
       asked = serving.asked;
@@ -191,7 +191,7 @@ module _ (script before : Option (List ℕ)) (old new : Engine) (reading : Readi
   pub memory-ends : (left_end : Option (List ℕ)) → IsEnded Memory script left_end before story held
   memory-ends left_end = record {
     played = record {
-      log = serving.log;
+      trace = serving.trace;
       texts = serving.texts;
       tells = serving.serves.tells;
       asked = serving.asked;
@@ -203,7 +203,7 @@ module _ (script before : Option (List ℕ)) (old new : Engine) (reading : Readi
   }
 
   -- why the next line was not read
-  pub reading-stops : (left_end : Option (List ℕ)) (e : LineErr) → (e ≡ LineErr.ReadFault → TakesNoLine (rest_of reading left) left_end) → (e ≡ LineErr.ScriptTooLong → IsCutOff (longest_script - reading.taken) (rest_of reading left)) → IsEnded (status_of (stop_of e)) script left_end before story held
+  pub reading-stops : (left_end : Option (List ℕ)) (e : LineErr) → (e ≡ LineErr.ReadFault → TakesNoLine (rest_of reading left) left_end) → (e ≡ LineErr.ScriptTooLong → IsCutOff (SCRIPT_MOST - reading.taken) (rest_of reading left)) → IsEnded (status_of (stop_of e)) script left_end before story held
   reading-stops left_end LineErr.ReadFault fault long = fault-ends left_end (fault refl)
   reading-stops left_end LineErr.ScriptTooLong fault long = long-ends left_end (long refl)
   reading-stops left_end LineErr.Memory fault long = memory-ends left_end
@@ -221,11 +221,11 @@ if_err_gives (Ok x) e P h p = tt
 if_err_gives (Err x) e P h p = subst P (sym h) p
 
 -- a line whose text is at hand
-pub line-taken : (line : List ℕ) (before after : Option (List ℕ)) (taken taken_after : ℕ) (text : Option (List ℕ)) → text ≡ Some line → TakesLine longest_script before after taken taken_after line → HasTaken text before after taken taken_after
+pub line-taken : (line : List ℕ) (before after : Option (List ℕ)) (taken taken_after : ℕ) (text : Option (List ℕ)) → text ≡ Some line → TakesLine SCRIPT_MOST before after taken taken_after line → HasTaken text before after taken taken_after
 line-taken line before after taken taken_after text is takes =
     subst (λ t. HasTaken t before after taken taken_after) (sym is) (record { line = line; takes = takes; asks = λ asked h. h })
 
 -- a line that is too long
-pub long-taken : (before after : Option (List ℕ)) (taken taken_after : ℕ) (text : Option (List ℕ)) → text ≡ None → TakesLong 65536 longest_script before after taken taken_after → HasTaken text before after taken taken_after
+pub long-taken : (before after : Option (List ℕ)) (taken taken_after : ℕ) (text : Option (List ℕ)) → text ≡ None → TakesLong LINE_MOST SCRIPT_MOST before after taken taken_after → HasTaken text before after taken taken_after
 long-taken before after taken taken_after text is long =
     subst (λ t. HasTaken t before after taken taken_after) (sym is) (record { line = long.text; takes = long.taken; asks = λ asked h. subst (Asks long.text) (sym h) (inl long.long) })

@@ -8,9 +8,10 @@ use Rattle.salt_io.specs.Streams.{Gains, GainsSome, bytes_before}
 use Rattle.salt_model.specs.After.{kept}
 use Rattle.salt_model.specs.EventTexts.{ShowsNothing, event_text, story_text}
 use Rattle.salt_model.specs.Kept.{nothing_kept}
-use Rattle.salt_model.specs.Log.{Log, from, ◌says◌}
+use Rattle.salt_model.specs.Trace.{Trace, from, ◌says◌}
 use Rattle.salt_model.specs.Units.{unit_count}
-use Rattle.salt_model.specs.Played.{IsComplete, Tells, empty_start}
+use Rattle.salt_model.specs.Played.{Tells, empty_start}
+use Rattle.salt_model.specs.Segments.{IsComplete}
 use Rattle.salt_model.specs.declared.events.Event.{Event}
 use Rattle.salt_model.specs.declared.events.Event.TheVariants.{Opened, Ready, Shown}
 use Rattle.salt_print.proofs.Joins.{Gains-nil}
@@ -23,7 +24,7 @@ use Rattle.salt_run.specs.declared.status.Status.TheVariants.{Memory, Usage, Wri
 use Rattle.std.proofs.Common.{ap, arith, inl, inr, subst, sym, ◌∙◌}
 use Rattle.std.specs.Prelude.{List, None, Option, Some, [], refl, ℕ, ◌++◌, ◌∷◌, ◌≡◌}
 
-abbrev pub opened : Log
+abbrev pub opened : Trace
 opened = from empty_start says Opened 1 0 says Ready
 
 pub opened-tells : Tells empty_start opened opening
@@ -41,11 +42,11 @@ no-lines (Some script) = record { given = []; whole = refl; counted = refl; line
 
 -- an engine that has just been made serves
 pub serving-opened : (e : Engine) (reading : Reading) (left before held : Option (List ℕ)) (story : List Event) →
-    ((log : Log) (story : List Event) → Tells empty_start log story → IsComplete log → IsIdle log → kept log ≡ record nothing_kept { boot = 1 } → unit_count log ≡ 0 → Serves e story log) →
+    ((trace : Trace) (story : List Event) → Tells empty_start trace story → IsComplete trace → IsIdle trace → kept trace ≡ record nothing_kept { boot = 1 } → unit_count trace ≡ 0 → Serves e story trace) →
     reading ≡ record { kept = []; taken = 0 } → e.units ≡ 0 → e.decisions ≡ 0 → story ≡ opening → Gains before (told_text opening) held → IsServing left before e reading left story held
 serving-opened e reading left before held story serves is units decisions told written =
     subst (λ r. IsServing left before e r left story held) (sym is) (subst (λ s. IsServing left before e (record { kept = []; taken = 0 }) left s held) (sym told) (record {
-      log = opened;
+      trace = opened;
       texts = [];
       serves = serves opened opening opened-tells opened-complete opened-idle refl refl;
       asked = tt;
@@ -73,17 +74,17 @@ nothing-gained before held text same = subst (GainsSome before text) (sym same) 
 
 pub opening-stops : (script left before : Option (List ℕ)) (told : List Event) (held : Option (List ℕ)) (s : Stop) → StopsOpening told before held s → IsEnded (status_of s) script left before told held
 opening-stops script left before told held stop.Memory (inl is, same) = record {
-  played = record { log = from empty_start; texts = []; tells = record { begins = refl; told = sym is; played = tt }; asked = tt; lines = memory-before script left; leaves = tt };
+  played = record { trace = from empty_start; texts = []; tells = record { begins = refl; told = sym is; played = tt }; asked = tt; lines = memory-before script left; leaves = tt };
   written = nothing-gained before held (told_text told) same;
   unshown = subst (Every ShowsNothing) (sym is) tt;
 }
 opening-stops script left before told held stop.Memory (inr is, same) = record {
-  played = record { log = from empty_start says Opened 1 0; texts = []; tells = record { begins = refl; told = sym is; played = (tt, (omega arith, omega arith, inl refl)) }; asked = tt; lines = memory-before script left; leaves = tt };
+  played = record { trace = from empty_start says Opened 1 0; texts = []; tells = record { begins = refl; told = sym is; played = (tt, (omega arith, omega arith, inl refl)) }; asked = tt; lines = memory-before script left; leaves = tt };
   written = nothing-gained before held (told_text told) same;
   unshown = subst (Every ShowsNothing) (sym is) (tt, tt);
 }
 opening-stops script left before told held stop.WriteFault h = record {
-  played = record { log = opened; texts = []; tells = subst (Tells empty_start opened) (sym h.0) opened-tells; asked = tt; lines = write-before script left; leaves = opened-complete };
+  played = record { trace = opened; texts = []; tells = subst (Tells empty_start opened) (sym h.0) opened-tells; asked = tt; lines = write-before script left; leaves = opened-complete };
   written = subst (λ t. GainsSome before (told_text t) held) (sym h.0) h.1;
   unshown = subst (Every ShowsNothing) (sym h.0) (tt, (tt, tt));
 }
@@ -92,7 +93,7 @@ opening-stops script left before told held stop.ScriptTooLong h = absurd h
 
 -- a run of wrong words
 pub usage-played : (script left : Option (List ℕ)) → IsPlayedRun Usage script left []
-usage-played script left = record { log = from empty_start; texts = []; tells = record { begins = refl; told = refl; played = tt }; asked = tt; lines = usage-before script left; leaves = refl }
+usage-played script left = record { trace = from empty_start; texts = []; tells = record { begins = refl; told = refl; played = tt }; asked = tt; lines = usage-before script left; leaves = refl }
 
 -- a run that was played, whatever its parts are called
 pub played-at : (script : Option (List ℕ)) (status now : Status) (left left_now : Option (List ℕ)) (story told : List Event) → now ≡ status → left_now ≡ left → told ≡ story → IsPlayedRun status script left story → IsPlayedRun now script left_now told

@@ -1,8 +1,9 @@
 -- How far a run came in its script: from one line to the next, and where it ends.
+use Rattle.salt_values.specs.declared.limits.TheConstants.{SCRIPT_MOST}
 use Rattle.salt_io.proofs.ScriptLaws.{script_of-append}
 use Rattle.salt_io.specs.Lines.{IsCutOff, IsLineOf, TakesLine, TakesNoLine, lines_of, script_of, with_rest}
 use Rattle.salt_io.specs.Streams.{IsAtEnd, Takes, bytes_before}
-use Rattle.salt_run.specs.Run.{AreLinesOf, IsFrontOf, longest_script}
+use Rattle.salt_run.specs.Run.{AreLinesOf, IsFrontOf}
 use Rattle.salt_run.specs.Serving.{IsAt, IsAtLine}
 use Rattle.salt_run.specs.declared.status.Status.TheVariants.{Done, Memory, ReadFault, ScriptTooLong, WriteFault}
 use Rattle.std.proofs.Common.{ap, append-nil, append_assoc, arith, inl, inr, length-append, subst, sym, ◌∙◌}
@@ -55,7 +56,7 @@ none-taken used before after bytes is end takes some =
     let none : bytes ≡ [] = subst IsAtEnd is end in
     absurd (omega (arith, length-append used b.0, ap length (sym b.2 ∙ none)))
 
-next-line-place : (script : List ℕ) (taken taken_after : ℕ) (before after : Option (List ℕ)) (texts : List (List ℕ)) (text : List ℕ) → IsAtLine script taken before texts → TakesLine longest_script before after taken taken_after text → IsAtLine script taken_after after (texts ++ text ∷ [])
+next-line-place : (script : List ℕ) (taken taken_after : ℕ) (before after : Option (List ℕ)) (texts : List (List ℕ)) (text : List ℕ) → IsAtLine script taken before texts → TakesLine SCRIPT_MOST before after taken taken_after text → IsAtLine script taken_after after (texts ++ text ∷ [])
 next-line-place script taken taken_after before after texts text at line = by at.at_start
   where
     by : ((script_of at.given).rest ≡ []) ⊎ IsAtEnd before → IsAtLine script taken_after after (texts ++ text ∷ [])
@@ -70,12 +71,12 @@ next-line-place script taken taken_after before after texts text at line = by at
         let b = behind script at.given before at.whole in
         absurd (none-taken line.used before after b.0 b.1 end line.given line.some)
 
-pub next-place : (script : Option (List ℕ)) (taken taken_after : ℕ) (before after : Option (List ℕ)) (texts : List (List ℕ)) (text : List ℕ) → IsAt script taken before texts → TakesLine longest_script before after taken taken_after text → IsAt script taken_after after (texts ++ text ∷ [])
+pub next-place : (script : Option (List ℕ)) (taken taken_after : ℕ) (before after : Option (List ℕ)) (texts : List (List ℕ)) (text : List ℕ) → IsAt script taken before texts → TakesLine SCRIPT_MOST before after taken taken_after text → IsAt script taken_after after (texts ++ text ∷ [])
 next-place None taken taken_after before after texts text at line = tt
 next-place (Some script) taken taken_after before after texts text at line = next-line-place script taken taken_after before after texts text at line
 
 -- the script's end
-pub end-place : (script : Option (List ℕ)) (taken : ℕ) (rest left : Option (List ℕ)) (texts : List (List ℕ)) → IsAt script taken rest texts → IsAtEnd rest → taken ≤ longest_script → AreLinesOf Done script left texts
+pub end-place : (script : Option (List ℕ)) (taken : ℕ) (rest left : Option (List ℕ)) (texts : List (List ℕ)) → IsAt script taken rest texts → IsAtEnd rest → taken ≤ SCRIPT_MOST → AreLinesOf Done script left texts
 end-place None taken rest left texts at end within = tt
 end-place (Some script) taken rest left texts at end within =
     let b = behind script at.given rest at.whole in
@@ -119,29 +120,29 @@ fault-place (Some script) taken before left texts at cut = (at.given ++ cut.got,
         inr (n.1, at.lines ∙ ap lines_of (sym (b.2 ∙ ap (λ l. at.given ++ l) empty ∙ append-nil at.given)))
 
 -- a script of too many bytes
-pub long-place : (script : Option (List ℕ)) (taken : ℕ) (before left : Option (List ℕ)) (texts : List (List ℕ)) → IsAt script taken before texts → IsCutOff (longest_script - taken) before → taken ≤ longest_script → AreLinesOf ScriptTooLong script left texts
+pub long-place : (script : Option (List ℕ)) (taken : ℕ) (before left : Option (List ℕ)) (texts : List (List ℕ)) → IsAt script taken before texts → IsCutOff (SCRIPT_MOST - taken) before → taken ≤ SCRIPT_MOST → AreLinesOf ScriptTooLong script left texts
 long-place None taken before left texts at cut within = tt
 long-place (Some script) taken before left texts at cut within = by at.at_start
   where
     b : (bytes : List ℕ) × (before ≡ Some bytes) × (script ≡ at.given ++ bytes)
     b = behind script at.given before at.whole
 
-    cut_here : IsCutOff (longest_script - taken) (Some b.0)
-    cut_here = subst (IsCutOff (longest_script - taken)) b.1 cut
+    cut_here : IsCutOff (SCRIPT_MOST - taken) (Some b.0)
+    cut_here = subst (IsCutOff (SCRIPT_MOST - taken)) b.1 cut
 
-    long : longest_script < length script
+    long : SCRIPT_MOST < length script
     long = omega (arith, ap length b.2, length-append at.given b.0, at.counted, cut_here.0)
 
-    front : take longest_script script ≡ at.given ++ take (longest_script - taken) b.0
+    front : take SCRIPT_MOST script ≡ at.given ++ take (SCRIPT_MOST - taken) b.0
     front =
-        let count : longest_script ≡ length at.given + (longest_script - taken) = omega (arith, at.counted) in
-        ap (take longest_script) b.2 ∙ ap (λ n. take n (at.given ++ b.0)) count ∙ take-append-add at.given b.0 (longest_script - taken)
+        let count : SCRIPT_MOST ≡ length at.given + (SCRIPT_MOST - taken) = omega (arith, at.counted) in
+        ap (take SCRIPT_MOST) b.2 ∙ ap (λ n. take n (at.given ++ b.0)) count ∙ take-append-add at.given b.0 (SCRIPT_MOST - taken)
 
-    by : ((script_of at.given).rest ≡ []) ⊎ IsAtEnd before → (texts ≡ (script_of (take longest_script script)).ended) × (longest_script < length script)
+    by : ((script_of at.given).rest ≡ []) ⊎ IsAtEnd before → (texts ≡ (script_of (take SCRIPT_MOST script)).ended) × (SCRIPT_MOST < length script)
     by (inl start) = (
       at.lines ∙ rest-nil (script_of at.given).ended (script_of at.given).rest start
           ∙ sym (append-nil (script_of at.given).ended) ∙ ap (λ ls. (script_of at.given).ended ++ ls) (sym cut_here.1)
-          ∙ sym (ap (λ s. s.ended) (script_of-append at.given (take (longest_script - taken) b.0) start)) ∙ ap (λ l. (script_of l).ended) (sym front),
+          ∙ sym (ap (λ s. s.ended) (script_of-append at.given (take (SCRIPT_MOST - taken) b.0) start)) ∙ ap (λ l. (script_of l).ended) (sym front),
       long,
     )
     by (inr end) = let empty : b.0 ≡ [] = subst IsAtEnd b.1 end in absurd (omega (arith, ap length empty, cut_here.0))

@@ -1,9 +1,10 @@
 -- What a run has to be: its story, its lines, and how far it came.
+use Rattle.salt_values.specs.declared.limits.TheConstants.{SCRIPT_MOST}
 use Rattle.salt_io.specs.Lines.{lines_of, script_of}
 use Rattle.salt_io.specs.Streams.{Gains, GainsSome, IsAtEnd, bytes_before}
 use Rattle.salt_model.specs.Lines.{AskInOrder}
-use Rattle.salt_model.specs.Log as log_words
-use Rattle.salt_model.specs.Log.{Log}
+use Rattle.salt_model.specs.Trace as trace_words
+use Rattle.salt_model.specs.Trace.{Trace}
 use Rattle.salt_model.specs.Ends.{AnyPlace, AtLineEnd, Leave, MayLeave, NotBegun}
 use Rattle.salt_model.specs.Played.{Tells, empty_start}
 use Rattle.salt_model.specs.Continuing.{IsContinued}
@@ -19,10 +20,6 @@ use Rattle.salt_run.specs.declared.status.Status.{Status}
 use Rattle.salt_run.specs.declared.status.Status.TheVariants.{Done, Memory, ReadFault, ScriptTooLong, Usage, WriteFault}
 use Rattle.std.specs.Prelude.{List, None, Option, Some, [], length, take, ℕ, ⊤, ◌++◌, ◌<◌, ◌≡◌, ◌≤◌, ◌⊎◌}
 
--- the most bytes of a script
-abbrev pub longest_script : ℕ
-longest_script = 16777216
-
 -- these come first
 abbrev pub IsFrontOf : {A : Type 0} → List A → List A → Type 0
 IsFrontOf {A} xs all = (more : List A) × (all ≡ xs ++ more)
@@ -34,8 +31,8 @@ AreLinesRead script left texts =
 
 -- the lines that a run does of a script of these bytes, of which these are left at the run's end
 abbrev pub AreLinesDone : Status → List ℕ → Option (List ℕ) → List (List ℕ) → Type 0
-AreLinesDone Done script left texts = (texts ≡ lines_of script) × (length script ≤ longest_script)
-AreLinesDone ScriptTooLong script left texts = (texts ≡ (script_of (take longest_script script)).ended) × (longest_script < length script)
+AreLinesDone Done script left texts = (texts ≡ lines_of script) × (length script ≤ SCRIPT_MOST)
+AreLinesDone ScriptTooLong script left texts = (texts ≡ (script_of (take SCRIPT_MOST script)).ended) × (SCRIPT_MOST < length script)
 AreLinesDone ReadFault script left texts = AreLinesRead script left texts
 AreLinesDone Memory script left texts = IsFrontOf texts (lines_of script)
 AreLinesDone WriteFault script left texts = IsFrontOf texts (lines_of script)
@@ -55,24 +52,24 @@ leave_of ReadFault = AtLineEnd
 leave_of WriteFault = AtLineEnd
 leave_of ScriptTooLong = AtLineEnd
 
--- the story is that of a log which is played, and whose lines are those that were done of the script
+-- the story is that of a trace which is played, and whose lines are those that were done of the script
 pub record IsPlayedRun (status : Status) (script left : Option (List ℕ)) (story : List Event) : Type 0 where
-  pub log : Log
+  pub trace : Trace
   pub texts : List (List ℕ)
-  pub tells : Tells empty_start log story
-  pub asked : AskInOrder texts (log_words.lines_of log)
+  pub tells : Tells empty_start trace story
+  pub asked : AskInOrder texts (trace_words.lines_of trace)
   pub lines : AreLinesOf status script left texts
-  pub leaves : MayLeave (leave_of status) log
+  pub leaves : MayLeave (leave_of status) trace
 
--- what is promised of a played log
-pub record Promises (log : Log) : Type 0 where
-  pub honest : IsHonest log
-  pub salted : IsSalted log
-  pub whole : IsWhole log
-  pub releases : ReleasesExactly log
-  pub continued : IsContinued log
-  pub kept : IsKept log
-  pub apart : NoneConflict (held log)
+-- what is promised of a played trace
+pub record Promises (trace : Trace) : Type 0 where
+  pub honest : IsHonest trace
+  pub salted : IsSalted trace
+  pub whole : IsWhole trace
+  pub releases : ReleasesExactly trace
+  pub continued : IsContinued trace
+  pub kept : IsKept trace
+  pub apart : NoneConflict (held trace)
 
 -- what the sink gained: the text, where memory or the sink failed a front of it
 abbrev pub IsWritten : Status → Option (List ℕ) → List ℕ → Option (List ℕ) → Type 0

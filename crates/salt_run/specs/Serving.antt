@@ -1,4 +1,5 @@
 -- What holds of a run between its lines, and what a line adds.
+use Rattle.salt_values.specs.declared.limits.TheConstants.{SCRIPT_MOST}
 use Rattle.salt_engine.specs.Engine.{BreaksOff, GoesOn, Serves}
 use Rattle.salt_engine.specs.declared.engine.Engine.{Engine}
 use Rattle.salt_io.specs.Lines.{Reading, lines_of, script_of}
@@ -6,13 +7,13 @@ use Rattle.salt_io.specs.Streams.{Gains, GainsSome, IsAtEnd, bytes_before}
 use Rattle.salt_model.specs.EventTexts.{ShowsNothing, story_text}
 use Rattle.salt_model.specs.Words.{Every}
 use Rattle.salt_model.specs.Lines.{AskInOrder, Asks}
-use Rattle.salt_model.specs.Log as log_words
-use Rattle.salt_model.specs.Log.{Asked, Log, Unread}
+use Rattle.salt_model.specs.Trace as trace_words
+use Rattle.salt_model.specs.Trace.{Asked, Trace, Rejected}
 use Rattle.salt_io.specs.declared.lines.LineErr.{LineErr}
 use Rattle.salt_model.specs.declared.events.Event.{Event}
 use Rattle.salt_model.specs.declared.events.Event.TheVariants.{Opened, Ready}
 use Rattle.salt_model.specs.declared.events.Refusal.TheVariants.{Syntax}
-use Rattle.salt_run.specs.Run.{IsPlayedRun, IsWritten, longest_script}
+use Rattle.salt_run.specs.Run.{IsPlayedRun, IsWritten}
 use Rattle.salt_run.specs.declared.serving.Stop.{Stop}
 use Rattle.salt_run.specs.declared.serving.Stop.TheVariants.{Memory, ReadFault, ScriptTooLong, WriteFault}
 use Rattle.salt_run.specs.declared.status.Status.{Status}
@@ -47,20 +48,20 @@ told_text story = story_text [] story
 
 -- a run between its lines: of a script, over a sink that held these bytes
 pub record IsServing (script before : Option (List ℕ)) (e : Engine) (reading : Reading) (left : Option (List ℕ)) (story : List Event) (held : Option (List ℕ)) : Type 0 where
-  pub log : Log
+  pub trace : Trace
   pub texts : List (List ℕ)
-  pub serves : Serves e story log
-  pub asked : AskInOrder texts (log_words.lines_of log)
+  pub serves : Serves e story trace
+  pub asked : AskInOrder texts (trace_words.lines_of trace)
   pub place : IsAt script reading.taken (rest_of reading left) texts
   pub written : Gains before (told_text story) held
   pub unshown : Every ShowsNothing story
   pub numbers : HasNumbers e reading.taken
-  pub within : reading.taken ≤ longest_script
+  pub within : reading.taken ≤ SCRIPT_MOST
 
 -- a line's text asks; one that is too long has none here
 abbrev pub TextAsks : Option (List ℕ) → Asked → Type 0
 TextAsks (Some text) asked = Asks text asked
-TextAsks None asked = asked ≡ Unread Syntax
+TextAsks None asked = asked ≡ Rejected Syntax
 
 -- a line that was done
 abbrev pub IsDone : Option (List ℕ) → Engine → List Event → Engine → List Event → Type 0

@@ -30,8 +30,8 @@ pub fn run<S: Source, K: Sink, D: Disks, F: Fn(PlaceKind, &Key, u32) -> u32>(
     ensures usage { (result.status ≡ Status.Usage) ↔ (IsRunAlone words.now → ⊥) }
     ensures untouched { result.status ≡ Status.Usage → (source.new ≡ source.old) × (sink.new ≡ sink.old) × (result.story ≡ []) }
 
-    // The story is that of a log that is played, whose lines are those of the source's bytes; and the log keeps each promise.
-    ensures played { (told : IsPlayedRun result.status (S.left source.old) (S.left source.new) result.story) × Promises told.log }
+    // The story is that of a trace that is played, whose lines are those of the source's bytes; and the trace keeps each promise.
+    ensures played { (told : IsPlayedRun result.status (S.left source.old) (S.left source.new) result.story) × Promises told.trace }
     // The sink gains the story's text.
     ensures text { IsTold result.status (K.held sink.old) result.story (K.held sink.new) }
 

@@ -1,7 +1,7 @@
 //! What is promised of every story.
 
 ghost use Rattle.std.specs.Prelude.{List};
-ghost use Rattle.salt_model.specs.Log.{Log};
+ghost use Rattle.salt_model.specs.Trace.{Trace};
 ghost use Rattle.salt_model.specs.Played.{Tells, empty_start};
 ghost use Rattle.salt_model.specs.declared.events.Event.{Event};
 ghost use Rattle.salt_run.specs.Run.{Promises};
@@ -11,9 +11,9 @@ use salt_laws::{
     played_is_salted, played_is_whole, played_releases_exactly,
 };
 
-/// Each log that tells a story from the empty start keeps every promise.
+/// Each trace that tells a story from the empty start keeps every promise.
 pub fn told_keeps_promises()
-    ensures { (log : Log) (story : List Event) → Tells empty_start log story → Promises log }
+    ensures { (trace : Trace) (story : List Event) → Tells empty_start trace story → Promises trace }
 {
     played_is_honest();
     played_is_salted();

@@ -8,10 +8,11 @@ ghost use Rattle.salt_run.specs.declared.serving.Stop.TheVariants.{Memory, Write
 
 use crate::status::Status;
 use salt_engine::Engine;
-use salt_io::{IoFailed, LONGEST_SCRIPT, LineErr, Lines, Next, Sink, Source};
+use salt_io::{IoFailed, LineErr, Lines, Next, Sink, Source};
 use salt_model::{Event, Story};
 use salt_print::print_story;
 use salt_script::read_line;
+use salt_values::limits::SCRIPT_MOST;
 use std::alloc::{AllocError, Global};
 
 /// Why a run ends before the script does.
@@ -119,7 +120,7 @@ fn serve_line<S: Source, K: Sink>(
     ensures goes { IfOk result (λ more. (script before : Option (List ℕ)) → IsServing script before engine.old lines.old (S.left source.old) story.old (K.held sink.old) → IsAfterLine more script before engine.new lines.new (S.left source.new) story.new (K.held sink.new)) }
     ensures stops { IfErr result (λ stop. (script before : Option (List ℕ)) → IsServing script before engine.old lines.old (S.left source.old) story.old (K.held sink.old) → IsEnded (status_of stop) script (S.left source.new) before story.new (K.held sink.new)) }
     ensures nearer { result ≡ Ok true → lines.old.taken < lines.new.taken }
-    ensures within { lines.new.taken ≤ LONGEST_SCRIPT }
+    ensures within { lines.new.taken ≤ SCRIPT_MOST }
     ensures read_fault { result ≡ Err Stop.ReadFault → Rose (S.faults source.old) (S.faults source.new) }
     ensures write_fault { result ≡ Err Stop.WriteFault → Rose (K.faults sink.old) (K.faults sink.new) }
     ensures reads_later { S.faults source.old ≤ S.faults source.new }

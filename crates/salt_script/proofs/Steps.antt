@@ -6,7 +6,7 @@ use denote.Enum.Bare.{same_true}
 use Rattle.salt_model.specs.Lines.{IsShort}
 use Rattle.salt_script.specs.Reading.{after, either, int_at, is_same, name_at, number_at, session_at, signed}
 use Rattle.salt_tokens.specs.Scanning.{◌>>=◌}
-use Rattle.salt_tokens.specs.Symbols.{Row, Symbol, int, key, name, sign}
+use Rattle.salt_tokens.specs.Symbols.{Symbols, Symbol, int, key, name, sign}
 use Rattle.salt_tokens.specs.contracts.keyword.Keyword.{the_type as keywords}
 use Rattle.salt_tokens.specs.contracts.sign.Sign.{the_type as signs}
 
@@ -22,7 +22,7 @@ pub some_is : {A : Type 0} (x y : A) → found x ≡ found y → x ≡ y
 some_is x y e = cc
 
 -- which of two ways reading went
-pub either_is : {A : Type 0} (o : Option Row) (a : Option A) (f : Row → Option A) (y : A) (B : Type 0) → either o a f ≡ Some y → (o ≡ None → a ≡ Some y → B) → ((us : Row) → o ≡ Some us → f us ≡ Some y → B) → B
+pub either_is : {A : Type 0} (o : Option Symbols) (a : Option A) (f : Symbols → Option A) (y : A) (B : Type 0) → either o a f ≡ Some y → (o ≡ None → a ≡ Some y → B) → ((us : Symbols) → o ≡ Some us → f us ≡ Some y → B) → B
 either_is None a f y B h g k = g refl h
 either_is (Some us) a f y B h g k = k us refl h
 
@@ -40,7 +40,7 @@ is_same-true (key a) (key b) h = ap key (same_true keywords tt a b h)
 is_same-true (sign a) (sign b) h = ap sign (same_true signs tt a b h)
 is_same-true _ _ h = absurd cc
 
-pub after_is : (t : Symbol) (ts us : Row) → after t ts ≡ Some us → ts ≡ t ∷ us
+pub after_is : (t : Symbol) (ts us : Symbols) → after t ts ≡ Some us → ts ≡ t ∷ us
 unfolding after
 after_is t [] us h = absurd cc
 after_is t (u ∷ ts) us h =
@@ -49,37 +49,37 @@ after_is t (u ∷ ts) us h =
     let others : ts ≡ us = p.1 in
     cc
 
-pub name_is : (ts : Row) (n : List ℕ) (rest : Row) → name_at ts ≡ Some (n, rest) → (ts ≡ name n ∷ rest) × IsShort n
+pub name_is : (ts : Symbols) (n : List ℕ) (rest : Symbols) → name_at ts ≡ Some (n, rest) → (ts ≡ name n ∷ rest) × IsShort n
 name_is (name m ∷ ts) n rest h =
     let p = passed (nat_le (length m) 32) (m, ts) (n, rest) h in
-    let is : m ≡ n = ap (λ (x : List ℕ × Row). x.0) p.1 in
-    let left : ts ≡ rest = ap (λ (x : List ℕ × Row). x.1) p.1 in
+    let is : m ≡ n = ap (λ (x : List ℕ × Symbols). x.0) p.1 in
+    let left : ts ≡ rest = ap (λ (x : List ℕ × Symbols). x.1) p.1 in
     let short : length m ≤ 32 = leb-true (length m) 32 p.0 in
     rw (← is, ← left) (refl, short)
 name_is _ n rest h = absurd cc
 
-int_is : (ts : Row) (n : ℕ) (rest : Row) → int_at ts ≡ Some (n, rest) → ts ≡ int n ∷ rest
+int_is : (ts : Symbols) (n : ℕ) (rest : Symbols) → int_at ts ≡ Some (n, rest) → ts ≡ int n ∷ rest
 int_is (int m ∷ ts) n rest h =
     let p = some_is (m, ts) (n, rest) h in
-    rw (ap (λ (x : ℕ × Row). x.0) p, ap (λ (x : ℕ × Row). x.1) p) refl
+    rw (ap (λ (x : ℕ × Symbols). x.0) p, ap (λ (x : ℕ × Symbols). x.1) p) refl
 int_is _ n rest h = absurd cc
 
-pub session_is : (ts : Row) (n : ℕ) (rest : Row) → session_at ts ≡ Some (n, rest) → (ts ≡ int n ∷ rest) × (1 ≤ n) × (n ≤ 64)
+pub session_is : (ts : Symbols) (n : ℕ) (rest : Symbols) → session_at ts ≡ Some (n, rest) → (ts ≡ int n ∷ rest) × (1 ≤ n) × (n ≤ 64)
 session_is ts n rest h =
     let b = bind_some (int_at ts) (λ m. cond (nat_le 1 m.0 && nat_le m.0 64) (Some m) None) (n, rest) h in
     let p = passed (nat_le 1 b.0.0 && nat_le b.0.0 64) b.0 (n, rest) b.2 in
     let q = both_true (nat_le 1 b.0.0) (nat_le b.0.0 64) p.0 in
-    let is : b.0.0 ≡ n = ap (λ (x : ℕ × Row). x.0) p.1 in
+    let is : b.0.0 ≡ n = ap (λ (x : ℕ × Symbols). x.0) p.1 in
     let low : 1 ≤ b.0.0 = leb-true 1 b.0.0 q.0 in
     let high : b.0.0 ≤ 64 = leb-true b.0.0 64 q.1 in
-    (int_is ts b.0.0 b.0.1 b.1 ∙ ap (λ (x : ℕ × Row). int x.0 ∷ x.1) p.1, omega (arith, is, low), omega (arith, is, high))
+    (int_is ts b.0.0 b.0.1 b.1 ∙ ap (λ (x : ℕ × Symbols). int x.0 ∷ x.1) p.1, omega (arith, is, low), omega (arith, is, high))
 
-pub number_is : (minus : Bool) (ts : Row) (z : ℤ) (rest : Row) → number_at minus ts ≡ Some (z, rest) → (n : ℕ) × (ts ≡ int n ∷ rest) × (signed minus n ≡ Some z)
+pub number_is : (minus : Bool) (ts : Symbols) (z : ℤ) (rest : Symbols) → number_at minus ts ≡ Some (z, rest) → (n : ℕ) × (ts ≡ int n ∷ rest) × (signed minus n ≡ Some z)
 number_is minus ts z rest h =
     let b = bind_some (int_at ts) (λ n. signed minus n.0 >>= λ z. Some (z, n.1)) (z, rest) h in
     let d = bind_some (signed minus b.0.0) (λ z. Some (z, b.0.1)) (z, rest) b.2 in
     let p = some_is (d.0, b.0.1) (z, rest) d.2 in
-    (b.0.0, int_is ts b.0.0 b.0.1 b.1 ∙ ap (λ (x : ℤ × Row). int b.0.0 ∷ x.1) p, d.1 ∙ ap (λ (x : ℤ × Row). found x.0) p)
+    (b.0.0, int_is ts b.0.0 b.0.1 b.1 ∙ ap (λ (x : ℤ × Symbols). int b.0.0 ∷ x.1) p, d.1 ∙ ap (λ (x : ℤ × Symbols). found x.0) p)
 
 pub plain_is : (n : ℕ) (z : ℤ) → signed false n ≡ Some z → (n < 2 ^ 63) × (pos n ≡ z)
 plain_is n z h = let p = passed (nat_lt n (2 ^ 63)) (pos n) z h in (ltb-true n (2 ^ 63) p.0, p.1)

@@ -11,7 +11,7 @@ use Rattle.salt_ast.specs.declared.trees.Statement.{Statement}
 use Rattle.salt_ast.specs.declared.trees.Statement.TheVariants.{Insert, Select}
 use Rattle.salt_ast.specs.declared.trees.What.TheVariants.{All}
 use Rattle.salt_tokens.specs.Scanning.{◌>>=◌}
-use Rattle.salt_tokens.specs.Symbols.{Row, Symbol, int, key, name, sign}
+use Rattle.salt_tokens.specs.Symbols.{Symbols, Symbol, int, key, name, sign}
 use Rattle.salt_tokens.specs.contracts.keyword.Keyword.{the_type as keywords}
 use Rattle.salt_tokens.specs.contracts.sign.Sign.{the_type as signs}
 use Rattle.salt_tokens.specs.declared.keyword.Keyword.TheVariants as word
@@ -21,7 +21,7 @@ use Rattle.std.specs.Prelude.{Bool, List, None, Option, Some, [], false, if◌th
 
 -- something, and the symbols behind it
 abbrev pub Reader : Type 0 → Type 0
-Reader A = Row → Option (A × Row)
+Reader A = Symbols → Option (A × Symbols)
 
 -- two keywords or two signs that are one
 abbrev pub is_same : Symbol → Symbol → Bool
@@ -30,12 +30,12 @@ is_same (sign a) (sign b) = sameb signs a b
 is_same _ _ = false
 
 -- what stands behind this keyword or sign
-unfoldable pub after : Symbol → Row → Option Row
+unfoldable pub after : Symbol → Symbols → Option Symbols
 after t [] = None
 after t (u ∷ us) = if is_same u t then Some us else None
 
 -- one way where a keyword or a sign comes next, another where it does not
-abbrev pub either : {A : Type 0} → Option Row → A → (Row → A) → A
+abbrev pub either : {A : Type 0} → Option Symbols → A → (Symbols → A) → A
 either None without behind = without
 either (Some ts) without behind = behind ts
 
@@ -70,7 +70,7 @@ abbrev pub column_at : Reader Field
 column_at ts = name_at ts >>= λ n. after (key word.Int) n.1 >>= λ us. Some (int_field n.0, us)
 
 -- items before those that are read next
-abbrev pub with_front : {A : Type 0} → List A → Option (List A × Row) → Option (List A × Row)
+abbrev pub with_front : {A : Type 0} → List A → Option (List A × Symbols) → Option (List A × Symbols)
 with_front front read = read >>= λ x. Some (front ++ x.0, x.1)
 
 -- at most so many further items, each behind a comma
@@ -117,10 +117,10 @@ abbrev pub begun_at : Reader Line
 begun_at ts = either (after (key word.Create) ts) (after (sign mark.At) ts >>= act_at) table_at
 
 -- nothing, where no symbol is left
-abbrev pub end_at : Row → Option (Unit {0})
+abbrev pub end_at : Symbols → Option (Unit {0})
 end_at [] = Some tt
 end_at (t ∷ ts) = None
 
 -- the line that the whole row spells
-abbrev pub line_at : Row → Option Line
+abbrev pub line_at : Symbols → Option Line
 line_at ts = begun_at ts >>= λ x. end_at x.1 >>= λ e. Some x.0

@@ -3,20 +3,15 @@
 ghost use Rattle.std.specs.Prelude.{◌≡◌, ◌<◌, ◌≤◌, IsTrue, OnOk, false, if◌then◌else◌, length, None, Some};
 ghost use Rattle.salt_script.specs.Answers.{GivesAll, Gives, Leaves};
 ghost use Rattle.salt_script.specs.Reading.{after, end_at, int_at, name_at, session_at};
-ghost use Rattle.salt_tokens.specs.Symbols.{key, row, sign};
+ghost use Rattle.salt_tokens.specs.Symbols.{key, symbols_in, sign};
 
 use crate::error::ReadErr;
 use salt_tokens::{Keyword, Lexeme, Sign};
 use salt_values::Name;
+use salt_values::limits::{NAME_MOST, SESSION_MOST};
 use sqlite_items::Items;
 use std::alloc::Global;
 use std::marker::Model;
-
-/// The most bytes of a name.
-const NAME_MOST: usize = 32;
-
-/// The largest session.
-const SESSION_MOST: u64 = 64;
 
 /// The tokens that are still to be read. Contracts see the symbols that they stand for.
 #[derive(Drop)]
@@ -25,16 +20,16 @@ pub struct Cursor<'a> {
 }
 
 impl<'a> Model for Cursor<'a> {
-    ghost use Rattle.salt_tokens.specs.Symbols.{Row, row};
+    ghost use Rattle.salt_tokens.specs.Symbols.{Symbols, symbols_in};
 
-    ghost Value = { Row };
+    ghost Value = { Symbols };
 
-    ghost view = { λ c. row c.rest.now };
+    ghost view = { λ c. symbols_in c.rest.now };
 }
 
 impl<'a> Cursor<'a> {
     pub fn new(tokens: &'a [Lexeme<'a>]) -> Cursor<'a>
-        ensures { result ≡ row tokens.now }
+        ensures { result ≡ symbols_in tokens.now }
     {
         Cursor { rest: tokens }
     }

@@ -3,7 +3,7 @@
 ghost use Rattle.std.specs.Prelude.{◌≡◌, ◌<◌, ◌≤◌, OnOk, length};
 ghost use Rattle.salt_script.specs.Answers.{GivesAll, Gives};
 ghost use Rattle.salt_script.specs.Reading.{act_at, begun_at, column_at, columns_at, insert_at, key_column_at, line_at, literal_at, select_at, signed, statement_at, table_at, value_at, values_at};
-ghost use Rattle.salt_tokens.specs.Symbols.{row};
+ghost use Rattle.salt_tokens.specs.Symbols.{symbols_in};
 
 use crate::cursor::Cursor;
 use crate::error::ReadErr;
@@ -12,11 +12,9 @@ use salt_ast::{
 };
 use salt_tokens::{Keyword, Lexeme, Sign};
 use salt_values::Value;
+use salt_values::limits::COLUMNS_MOST;
 use sqlite_items::Items;
 use std::alloc::Global;
-
-/// The most columns of a table.
-const COLUMNS_MOST: usize = 16;
 
 /// The number, negative behind a minus, where it is one of 64 bits.
 fn signed(minus: bool, number: u64) -> Option<i64>
@@ -174,7 +172,7 @@ impl<'a> Cursor<'a> {
 
 /// The line that the whole row spells.
 pub fn whole_line<'a>(alloc: Global, tokens: &'a [Lexeme<'a>]) -> Result<Line, ReadErr>
-    ensures { GivesAll result (line_at (row tokens.now)) }
+    ensures { GivesAll result (line_at (symbols_in tokens.now)) }
 {
     let mut cursor = Cursor::new(tokens);
     let line = cursor.line(alloc)?;

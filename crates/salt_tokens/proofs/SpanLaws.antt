@@ -4,7 +4,7 @@ use Rattle.salt_tokens.specs.declared.token.Token.{Token}
 use Rattle.salt_tokens.specs.Pieces.{Piece, IsToken, Lexes, ended, blank, token}
 use Rattle.std.proofs.lemmas.List.{length-map, length-take}
 use Rattle.salt_tokens.specs.declared.lexeme.Lexeme.{Lexeme}
-use Rattle.salt_tokens.specs.Symbols.{symbol, symbol_of, row, row_of}
+use Rattle.salt_tokens.specs.Symbols.{symbol, symbol_of, symbols_in, symbols_of}
 use Rattle.salt_tokens.specs.Spans.{piece_of, pieces, AreInOrder}
 
 in_order_le : (from : ℕ) (ts : List Token) (to : ℕ) → AreInOrder from ts to → from ≤ to
@@ -38,7 +38,7 @@ piece_at bs (t ∷ ts) zero other h lt = h.0
 piece_at bs (t ∷ ts) (suc i) other h lt = piece_at bs ts i other h.1 (omega arith)
 
 -- no more lexemes than bytes
-pub row_short : (bs : List ℕ) (ts : List Token) (i : ℕ) (ls : List Lexeme) → row ls ≡ row_of (pieces bs (take i ts)) → AreInOrder 0 ts (length bs) → length ls ≤ length bs
+pub row_short : (bs : List ℕ) (ts : List Token) (i : ℕ) (ls : List Lexeme) → symbols_in ls ≡ symbols_of (pieces bs (take i ts)) → AreInOrder 0 ts (length bs) → length ls ≤ length bs
 row_short bs ts i ls h order =
-    let same : length (row ls) ≡ length (row_of (pieces bs (take i ts))) = ap length h in
+    let same : length (symbols_in ls) ≡ length (symbols_of (pieces bs (take i ts))) = ap length h in
     omega (arith, same, length-map ls symbol, length-map (pieces bs (take i ts)) symbol_of, length-map (take i ts) (piece_of bs), length-take i ts, in_order_short 0 ts (length bs) order)

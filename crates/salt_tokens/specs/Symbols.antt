@@ -20,8 +20,8 @@ pub data Symbol : Type 0 where
   sign : Sign → Symbol
 
 -- symbols, in the order of the text
-abbrev pub Row : Type 0
-Row = List Symbol
+abbrev pub Symbols : Type 0
+Symbols = List Symbol
 
 -- the largest number of 64 bits, which a larger one is taken as: a text that holds either passes each limit on numbers
 abbrev pub largest_int : ℕ
@@ -58,12 +58,12 @@ abbrev pub symbol_of : Piece → Symbol
 symbol_of p = symbol_by p.kind p.text
 
 -- the row that tokens stand for
-abbrev pub row_of : List Piece → Row
-row_of ps = map symbol_of ps
+abbrev pub symbols_of : List Piece → Symbols
+symbols_of ps = map symbol_of ps
 
 -- the bytes are tokens that stand for this row
-abbrev pub HasRow : List ℕ → Row → Type 0
-HasRow bytes r = (ps : List Piece) × Lexes bytes ps × (r ≡ row_of ps)
+abbrev pub HasSymbols : List ℕ → Symbols → Type 0
+HasSymbols bytes r = (ps : List Piece) × Lexes bytes ps × (r ≡ symbols_of ps)
 
 -- what the program's form of a token stands for
 abbrev pub symbol : Lexeme → Symbol
@@ -74,5 +74,5 @@ symbol (lexeme.Text t) = text (undoubled t.now)
 symbol (lexeme.Sign s) = sign s
 
 -- the row that the program's tokens stand for
-abbrev pub row : List Lexeme → Row
-row ts = map symbol ts
+abbrev pub symbols_in : List Lexeme → Symbols
+symbols_in ts = map symbol ts

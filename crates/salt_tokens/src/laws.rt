@@ -5,14 +5,14 @@ ghost use Rattle.std.specs.Fmt.{decimal};
 ghost use Rattle.salt_tokens.specs.Bytes.{lower};
 ghost use Rattle.salt_tokens.specs.Pieces.{Piece, IsToken, Lexes, quoted};
 ghost use Rattle.salt_tokens.specs.Spelling.{keyword_of, keyword_spelling, sign_of, sign_spelling};
-ghost use Rattle.salt_tokens.specs.Symbols.{HasRow, Row, int, symbol_by, text};
+ghost use Rattle.salt_tokens.specs.Symbols.{HasSymbols, Symbols, int, symbol_by, text};
 ghost use Rattle.salt_tokens.specs.declared.keyword.Keyword.{Keyword};
 ghost use Rattle.salt_tokens.specs.declared.sign.Sign.{Sign};
 ghost use Rattle.salt_tokens.specs.declared.token.TokenKind.TheVariants.{Int, Text, Word};
 
 /// No bytes are two rows of tokens, and so none stand for two rows of symbols.
 pub fn one_row()
-    ensures symbols { (bs : List ℕ) (r s : Row) → HasRow bs r → HasRow bs s → r ≡ s }
+    ensures symbols { (bs : List ℕ) (r s : Symbols) → HasSymbols bs r → HasSymbols bs s → r ≡ s }
     ensures pieces { (bs : List ℕ) (ps qs : List Piece) → Lexes bs ps → Lexes bs qs → ps ≡ qs }
 {}
 

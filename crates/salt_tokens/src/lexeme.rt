@@ -2,7 +2,7 @@ ghost use Rattle.std.specs.Prelude.{◌≡◌, ◌≤◌, Err, IfOk, length, min
 ghost use Rattle.std.specs.Str.Parse.{digits_value};
 ghost use Rattle.salt_tokens.specs.Bytes.{is_digit};
 ghost use Rattle.salt_tokens.specs.Pieces.{IsToken, Run};
-ghost use Rattle.salt_tokens.specs.Symbols.{HasRow, Row, between, largest_int, row, symbol, symbol_by};
+ghost use Rattle.salt_tokens.specs.Symbols.{HasSymbols, Symbols, between, largest_int, symbols_in, symbol, symbol_by};
 ghost use Rattle.salt_tokens.specs.declared.error.ScanErr.TheVariants.{Syntax};
 
 use crate::error::ScanErr;
@@ -69,9 +69,9 @@ fn lexeme_of<'a>(kind: TokenKind, text: &'a [u8]) -> Lexeme<'a>
 ///
 /// `Syntax` where the bytes are no row of tokens, and `Memory` where memory runs out.
 pub fn lexemes<'a>(alloc: Global, bytes: &'a [u8]) -> Result<Vec<Lexeme<'a>>, ScanErr>
-    ensures found { IfOk result (λ v. HasRow bytes.now (row v.items)) }
+    ensures found { IfOk result (λ v. HasSymbols bytes.now (symbols_in v.items)) }
     ensures short { IfOk result (λ v. vec_len v ≤ length bytes.now) }
-    ensures syntax { result ≡ Err Syntax → (r : Row) → ¬ (HasRow bytes.now r) }
+    ensures syntax { result ≡ Err Syntax → (r : Symbols) → ¬ (HasSymbols bytes.now r) }
 {
     let tokens = scan(alloc, bytes)?;
     let mut lexemes = Vec::new(alloc);

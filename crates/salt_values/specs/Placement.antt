@@ -1,4 +1,5 @@
 -- Which partition a key's row stands in.
+use Rattle.salt_values.specs.declared.limits.TheConstants.{PARTITIONS_MOST}
 use Rattle.salt_values.specs.Value.{IsValue}
 use Rattle.salt_values.specs.declared.placement.PlaceKind.{PlaceKind}
 use Rattle.salt_values.specs.declared.placement.PlaceKind.TheVariants.{Bands, Remainder}
@@ -25,7 +26,7 @@ place_of Bands (Text t) n = band_of t n
 
 -- from 1 to 8
 abbrev pub IsParts : ℕ → Type 0
-IsParts n = (1 ≤ n) × (n ≤ 8)
+IsParts n = (1 ≤ n) × (n ≤ PARTITIONS_MOST)
 
 -- a closure, by what its calls require, may be called at each kind, each key and 1 to 8 parts
 abbrev pub TakesEachKey : (PlaceKind → Bor Value → ℕ → Type 0) → Type 0

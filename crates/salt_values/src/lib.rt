@@ -5,6 +5,7 @@ mod change;
 mod cont;
 mod copy;
 mod id;
+pub mod limits;
 mod placement;
 mod text;
 mod value;

@@ -5,12 +5,10 @@ ghost use Rattle.std.specs.List.{list_all};
 ghost use Rattle.salt_values.specs.Text.{is_printable, is_text};
 ghost use Rattle.salt_values.specs.declared.text.TextErr.TheVariants.{Memory};
 
+use crate::limits::TEXT_MOST;
 use sqlite_items::Items;
 use std::alloc::{AllocError, Global};
 use std::marker::Model;
-
-/// The most bytes of a text.
-pub const TEXT_MOST: usize = 255;
 
 /// At most 255 bytes, each from 32 to 126. Contracts see the list of its bytes.
 #[derive(Debug, Drop)]

@@ -15,7 +15,7 @@ returns-clause-played g c =
       | then-is_run_alone+in-Err w ↦ played-at script (status_of w.in-Err.stop) _ (g.S.Source.left w.serve.new.source) _ w.serve.new.story _ (w.status-is ∙ w.status_of.ensures) (ap g.S.Source.left w.source-is) w.story-is w.in-Err.ensures.stops.played
       | else-is_run_alone w ↦ played-at script Usage _ script _ [] _ w.status-is (ap g.S.Source.left w.source-is) (w.story-is ∙ c.new-story.ensures) (usage-played script script)
     ] in
-    (told, c.told_keeps_promises.ensures told.log _ told.tells)
+    (told, c.told_keeps_promises.ensures told.trace _ told.tells)
 
 pub returns-clause-text : goal.returns-clause-text
 returns-clause-text g c =

@@ -1,3 +1,4 @@
+use Rattle.salt_values.specs.declared.limits.TheConstants.{SCRIPT_MOST}
 use Rattle.salt_run.proofs.serving.serve.Given as goal
 use Rattle.salt_run.specs.Serving.{IsServing}
 use Rattle.std.proofs.Common.{◌-◌, ◌≤◌}
@@ -10,4 +11,4 @@ invariant-lines g l = record {
 }
 
 abbrev pub decreases-lines : goal.decreases-lines
-decreases-lines g l = 16777216 - l.lines.taken
+decreases-lines g l = SCRIPT_MOST - l.lines.taken

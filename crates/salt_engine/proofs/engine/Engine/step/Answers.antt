@@ -1,10 +1,10 @@
 use Rattle.salt_engine.proofs.CutShort.{on_err}
-use Rattle.salt_engine.proofs.Steps.{asked-breaks, asked-request, refused-goes, refused-here, request-turns, served-breaks, served-goes}
+use Rattle.salt_engine.proofs.Steps.{asked-breaks, asked-request, refused-goes, refused-here, request-turns, done-breaks, done-goes}
 use Rattle.salt_engine.proofs.engine.Engine.step.Goals as goal
 use Rattle.salt_engine.specs.Engine.{BreaksOff, GoesOn}
 use Rattle.salt_engine.specs.Schema.{request_refusal}
-use Rattle.salt_engine.specs.Served.{asked_of, line_of}
-use Rattle.salt_model.specs.Log.{Tree}
+use Rattle.salt_engine.specs.Supported.{asked_of, line_of}
+use Rattle.salt_model.specs.Trace.{Tree}
 use Rattle.std.proofs.Common.{OnErr, OnOk, ap, refl, subst, sym, ◌∙◌}
 use Rattle.std.proofs.lemmas.Result.{on_err_weaker, on_ok_weaker}
 
@@ -27,13 +27,13 @@ returns-in-None-clause-segment c =
     let r = c.in-Some.request in
     let asked = asked-request c.args.line.now r c.in-Some.ensures.0 c.in-Some.ensures.1 in
     let allowed = sym c.in-None.is ∙ c.in_ok-refusal.ensures ∙ ap (λ tables. request_refusal tables r) c.tables.ensures.tables in
-    subst (λ a. OnOk c.serve.result (GoesOn c.args.self.now c.args.story.now a c.serve.new.self c.serve.new.story)) (sym asked)
-    (on_ok_weaker c.serve.result (served-goes c.args.self.now c.serve.new.self c.args.story.now c.serve.new.story r (refused-here c.args.self.now c.args.story.now r _ c.in-Some.ensures.1 allowed)) c.serve.ensures.ok)
+    subst (λ a. OnOk c.do_request.result (GoesOn c.args.self.now c.args.story.now a c.do_request.new.self c.do_request.new.story)) (sym asked)
+    (on_ok_weaker c.do_request.result (done-goes c.args.self.now c.do_request.new.self c.args.story.now c.do_request.new.story r (refused-here c.args.self.now c.args.story.now r _ c.in-Some.ensures.1 allowed)) c.do_request.ensures.ok)
 
 pub returns-in-None-clause-broken_off : goal.returns-in-None-clause-broken_off
 returns-in-None-clause-broken_off c =
     let r = c.in-Some.request in
     let asked = asked-request c.args.line.now r c.in-Some.ensures.0 c.in-Some.ensures.1 in
     let allowed = sym c.in-None.is ∙ c.in_ok-refusal.ensures ∙ ap (λ tables. request_refusal tables r) c.tables.ensures.tables in
-    subst (λ a. OnErr c.serve.result (BreaksOff c.args.self.now c.args.story.now a c.serve.new.story)) (sym asked)
-    (on_err_weaker c.serve.result (served-breaks c.args.self.now c.args.story.now c.serve.new.story r (refused-here c.args.self.now c.args.story.now r _ c.in-Some.ensures.1 allowed)) c.serve.ensures.err)
+    subst (λ a. OnErr c.do_request.result (BreaksOff c.args.self.now c.args.story.now a c.do_request.new.story)) (sym asked)
+    (on_err_weaker c.do_request.result (done-breaks c.args.self.now c.args.story.now c.do_request.new.story r (refused-here c.args.self.now c.args.story.now r _ c.in-Some.ensures.1 allowed)) c.do_request.ensures.err)

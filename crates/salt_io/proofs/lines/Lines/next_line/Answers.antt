@@ -1,3 +1,4 @@
+use Rattle.salt_values.specs.declared.limits.TheConstants.{SCRIPT_MOST}
 use Rattle.std.proofs.Common.{◌≡◌, ℕ, ◌∷◌, [], List, Result, Ok, Err, refl, sym, ◌∙◌, ap, arith, true, false, Bool, eqb, length, Vec, Global}
 use Rattle.std.proofs.lemmas.Bool.Decides.{nat_tests}
 use Rattle.salt_io.specs.Streams.{bytes_before}
@@ -18,7 +19,7 @@ pub returns-in_err-byte-clause-too_long : goal.returns-in_err-byte-clause-too_lo
 returns-in_err-byte-clause-too_long g c is =
     let same = rw is at c.from_residual.ensures.1 in
     let long : c.in_err-byte.field-0.0 ≡ ScriptTooLong = sym same in
-    reads-cut_off 16777216 _ _ _ _ _ _ c.loop-byte.invariant.reads (c.in_err-byte.ensures.long (ap Err long)) (c.in_err-byte.ensures.more (ap Err long))
+    reads-cut_off SCRIPT_MOST _ _ _ _ _ _ c.loop-byte.invariant.reads (c.in_err-byte.ensures.long (ap Err long)) (c.in_err-byte.ensures.more (ap Err long))
 
 pub loop-byte-preserved-then-byte-ne-LF : goal.loop-byte-preserved-then-byte-ne-LF
 loop-byte-preserved-then-byte-ne-LF g c =
@@ -45,7 +46,7 @@ line-of is_long kind short is = let e : kind ≡ Line = cc in short e
 long-of : (is_long : Bool) (kind : Next) → (kind ≡ TooLong → is_long ≡ true) → let answer : Next → Result Next LineErr = Ok in answer kind ≡ answer TooLong → is_long ≡ true
 long-of is_long kind long is = let e : kind ≡ TooLong = cc in long e
 
-found : (g : _) (c : goal.After-kind_of g) → Found 16777216 (bytes_before c.args.self.now.kept (g.S.Source.left c.args.source.now)) (bytes_before c.next_byte.new.self.kept (g.S.Source.left c.next_byte.new.source)) c.args.self.now.taken c.next_byte.new.self.taken c.end_piece.new.line.items c.end_piece.new.self.is_long
+found : (g : _) (c : goal.After-kind_of g) → Found SCRIPT_MOST (bytes_before c.args.self.now.kept (g.S.Source.left c.args.source.now)) (bytes_before c.next_byte.new.self.kept (g.S.Source.left c.next_byte.new.source)) c.args.self.now.taken c.next_byte.new.self.taken c.end_piece.new.line.items c.end_piece.new.self.is_long
 found g c =
     let given = rw c.in-Some.is at c.in_ok-byte.ensures.some in
     let counted = rw c.in-Some.is at c.in_ok-byte.ensures.counted in
@@ -86,7 +87,7 @@ returns-then-is_empty-clause-end g c is = (nothing g c).none
 pub returns-then-is_empty-clause-end_taken : goal.returns-then-is_empty-clause-end_taken
 returns-then-is_empty-clause-end_taken g c is = (nothing g c).taken
 
-last : (g : _) (c : goal.After-kind_of-2 g) → Found 16777216 (bytes_before c.args.self.now.kept (g.S.Source.left c.args.source.now)) (bytes_before c.next_byte.new.self.kept (g.S.Source.left c.next_byte.new.source)) c.args.self.now.taken c.next_byte.new.self.taken c.end_script.new.line.items c.end_script.new.self.is_long
+last : (g : _) (c : goal.After-kind_of-2 g) → Found SCRIPT_MOST (bytes_before c.args.self.now.kept (g.S.Source.left c.args.source.now)) (bytes_before c.next_byte.new.self.kept (g.S.Source.left c.next_byte.new.source)) c.args.self.now.taken c.next_byte.new.self.taken c.end_script.new.line.items c.end_script.new.self.is_long
 last g c =
     let taken = rw c.in_default.is at c.in_ok-byte.ensures.none in
     let same = rw c.in_default.is at c.in_ok-byte.ensures.same in

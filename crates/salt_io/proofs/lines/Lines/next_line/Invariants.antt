@@ -1,3 +1,4 @@
+use Rattle.salt_values.specs.declared.limits.TheConstants.{SCRIPT_MOST}
 use Rattle.std.proofs.Common.{◌-◌, ◌≤◌}
 use Rattle.salt_io.specs.Streams.{bytes_before}
 use Rattle.salt_io.proofs.HowFar.{Reads}
@@ -10,4 +11,4 @@ invariant-loop-byte g l = record {
 }
 
 abbrev pub decreases-loop-byte : goal.decreases-loop-byte
-decreases-loop-byte g l = 16777216 - l.self.taken
+decreases-loop-byte g l = SCRIPT_MOST - l.self.taken

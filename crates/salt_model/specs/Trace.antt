@@ -1,0 +1,58 @@
+-- The trace of a run: its lines, each with the events of its segment after it, in the order in which they came.
+use Rattle.salt_ast.specs.declared.lines.Line.TheVariants.{Nothing}
+use Rattle.salt_ast.specs.declared.lines.Line.{Line}
+use Rattle.salt_model.specs.Kept.{Kept}
+use Rattle.salt_model.specs.declared.events.Event.{Event}
+use Rattle.salt_model.specs.declared.events.Refusal.{Refusal}
+use Rattle.salt_values.specs.declared.id.Id.{Id}
+use Rattle.std.specs.Prelude.{Bool, List, [], ◌++◌, ◌∷◌}
+
+-- what a run begins with: what is kept, and whether its disks can be stopped
+pub record Start : Type 0 where
+  pub kept : Kept
+  pub can_stop : Bool
+
+-- what a line asks: what its tree says, or, where its text is refused, this refusal
+pub data Asked : Type 0 where
+  Tree : Line → Asked
+  Rejected : Refusal → Asked
+
+-- a line without a tree asks nothing
+abbrev pub line_asked : Asked → Line
+line_asked (Tree line) = line
+line_asked (Rejected r) = Nothing
+
+infixl 40 ◌asks◌ ◌turns◌ ◌says◌
+-- from a start; a line is asked; `go all` turns to a program; an event is said
+pub data Trace : Type 0 where
+  from : Start → Trace
+  ◌asks◌ : Trace → Asked → Trace
+  ◌turns◌ : Trace → Id → Trace
+  ◌says◌ : Trace → Event → Trace
+
+-- the story: the events of a trace
+abbrev pub story_of : Trace → List Event
+story_of (from k) = []
+story_of (trace asks asked) = story_of trace
+story_of (trace turns b) = story_of trace
+story_of (trace says e) = story_of trace ++ e ∷ []
+
+-- what its lines ask
+abbrev pub lines_of : Trace → List Asked
+lines_of (from k) = []
+lines_of (trace asks asked) = lines_of trace ++ asked ∷ []
+lines_of (trace turns b) = lines_of trace
+lines_of (trace says e) = lines_of trace
+
+-- the line in whose segment the trace ends
+abbrev pub line_of : Trace → Line
+line_of (from k) = Nothing
+line_of (trace asks asked) = line_asked asked
+line_of (trace turns b) = line_of trace
+line_of (trace says e) = line_of trace
+
+abbrev pub start_of : Trace → Start
+start_of (from k) = k
+start_of (trace asks asked) = start_of trace
+start_of (trace turns b) = start_of trace
+start_of (trace says e) = start_of trace
