@@ -2,7 +2,7 @@
 use Rattle.std.proofs.Common.{◌≡◌, ℕ, ◌+◌, ◌-◌, ◌<◌, ◌≤◌, List, [], ◌∷◌, ◌++◌, length, take, drop, Option, Some, None, refl, sym, ◌∙◌, ap, append_assoc, add-one, arith, drop-cons, slice_index_or, suc}
 use Rattle.std.proofs.Math.Seq.{take-add, take-append_seam, take-length}
 use Rattle.std.proofs.lemmas.List.{take-append-drop, drop-drop, length-drop, length-take-le}
-use Rattle.salt_io.specs.Streams.{bytes_before, Takes, Gains, GainsSome}
+use Rattle.salt_io.specs.Streams.{bytes_before, Takes, Gains, GainsShort}
 
 pub takes-none : (left : Option (List ℕ)) → Takes left [] left
 takes-none None = refl
@@ -54,11 +54,12 @@ gains-append (Some held) b c first second p q = rw (q, p) (ap Some (append_assoc
 pub gains-more : (a b c : Option (List ℕ)) (bytes : List ℕ) (done n : ℕ) → Gains a (take done bytes) b → Gains b (take n (take (length bytes - done) (drop done bytes))) c → Gains a (take (done + n) bytes) c
 gains-more a b c bytes done n p q = rw (take-add done n bytes) (gains-append a b c (take done bytes) (take n (drop done bytes)) p (rw all-left at q))
 
-pub gains-part : (a b c : Option (List ℕ)) (bytes : List ℕ) (done : ℕ) → Gains a (take done bytes) b → c ≡ b → GainsSome a bytes c
-gains-part a b c bytes done p same = record {
+pub gains-short : (a b c : Option (List ℕ)) (bytes : List ℕ) (done : ℕ) → done < length bytes → Gains a (take done bytes) b → c ≡ b → GainsShort a bytes c
+gains-short a b c bytes done less p same = record {
   part = take done bytes;
-  others = drop done bytes;
+  missing = drop done bytes;
   whole = sym (take-append-drop done bytes);
+  some = omega (arith, less, length-drop done bytes);
   gained = same ∙ p;
 }
 

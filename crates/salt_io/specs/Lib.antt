@@ -3,4 +3,5 @@ pub mod Disks
 pub mod LineText
 pub mod Lines
 pub mod MemStreams
+pub mod Sends
 pub mod Streams

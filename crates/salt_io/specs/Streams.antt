@@ -1,5 +1,5 @@
 -- The bytes that sources give and sinks take, where they are told, and counts of faults.
-use Rattle.std.specs.Prelude.{◌≡◌, ℕ, ◌+◌, ◌-◌, ◌^◌, ◌≤◌, min, List, [], ◌++◌, Option, Some, None, option_map}
+use Rattle.std.specs.Prelude.{◌≡◌, ℕ, ◌+◌, ◌-◌, ◌^◌, ◌<◌, ◌≤◌, min, List, [], ◌++◌, length, Option, Some, None, option_map}
 
 -- A count of faults has risen. A u64 that counts stays at its last value.
 abbrev pub Rose : ℕ → ℕ → Type 0
@@ -22,6 +22,14 @@ pub record GainsSome (old : Option (List ℕ)) (bytes : List ℕ) (new : Option 
   pub part : List ℕ
   pub others : List ℕ
   pub whole : bytes ≡ part ++ others
+  pub gained : Gains old part new
+
+-- Some first part of these bytes has been put behind those that were there, and not all of them.
+pub record GainsShort (old : Option (List ℕ)) (bytes : List ℕ) (new : Option (List ℕ)) : Type 0 where
+  pub part : List ℕ
+  pub missing : List ℕ
+  pub whole : bytes ≡ part ++ missing
+  pub some : 0 < length missing
   pub gained : Gains old part new
 
 -- No byte is left, where that is told.

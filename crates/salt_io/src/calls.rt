@@ -1,4 +1,4 @@
-// The calls of a source or a sink in memory.
+//! The calls of a source or a sink in memory.
 ghost use Rattle.std.specs.Prelude.{◌≡◌, ◌≤◌, ◌&&◌, [], OnOk, OnErr, is_ok};
 ghost use Rattle.salt_io.specs.Calls.{succeeds, after_call, with_failing};
 

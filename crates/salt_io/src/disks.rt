@@ -1,4 +1,4 @@
-// The devices of a database.
+//! The devices of a database.
 ghost use Rattle.std.specs.Prelude.{◌≡◌, ◌+◌, ◌^◌, ◌<◌, ◌≤◌, IsTrue, false, length, IfOk, OnOk, OnErr};
 ghost use Rattle.std.specs.Result.{result_err};
 ghost use Rattle.salt_io.specs.Streams.{Rose};

@@ -1,4 +1,4 @@
-// A line while its bytes come in.
+//! A line while its bytes come in.
 ghost use Rattle.std.specs.Prelude.{◌≡◌, ℕ, ◌≤◌, List, [], ◌∷◌, ◌++◌, length, OnOk, IfOk, MatchBool, true, false};
 ghost use Rattle.salt_io.specs.Lines.{last_text, spaced, without_cr, ends_in_backslash};
 ghost use Rattle.salt_io.specs.LineText.{tail_bytes, KeepsFront, IsText};

@@ -1,4 +1,4 @@
-// The lines of a script.
+//! The lines of a script.
 ghost use Rattle.std.specs.Prelude.{◌≡◌, ◌≢◌, ℕ, ◌+◌, ◌<◌, ◌≤◌, ◌-◌, List, [], ◌∷◌, ◌++◌, length, take, IfOk, OnOk, OnErr, IfSome, IfNone, true, false};
 ghost use Rattle.salt_io.specs.Streams.{Rose, Takes, IsAtEnd, bytes_before};
 ghost use Rattle.salt_io.specs.Lines.{script_of, TakesLine, TakesLong, TakesNoLine, IsCutOff};

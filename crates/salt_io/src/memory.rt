@@ -1,4 +1,4 @@
-// Sources and sinks in memory.
+//! Sources and sinks in memory.
 ghost use Rattle.std.specs.Prelude.{◌≡◌, ◌<◌, ◌≤◌, ◌-◌, ◌^◌, [], length, take, is_ok, IfOk, OnOk, OnErr, Some};
 ghost use Rattle.salt_io.specs.Calls.{succeeds, with_failing};
 ghost use Rattle.salt_io.specs.Streams.{Rose, Takes, Gains, IsAtEnd};
@@ -77,6 +77,7 @@ impl Source for MemSource {
         ensures within { IfOk result (λ n. n ≤ length buf.new) }
         ensures taken { IfOk result (λ n. Takes (Some self.old.left) (take n buf.new) (Some self.new.left)) }
         ensures end { IfOk result (λ n. n ≡ 0 → 0 < length buf.new → IsAtEnd (Some self.new.left)) }
+        ensures same { OnOk result (self.new.calls.faults ≡ self.old.calls.faults) }
         ensures kept { OnErr result (self.new.left ≡ self.old.left) }
         ensures failed { OnErr result (Rose self.old.calls.faults self.new.calls.faults) }
         ensures later { self.old.calls.faults ≤ self.new.calls.faults }
@@ -156,6 +157,7 @@ impl Sink for MemSink {
         ensures within { IfOk result (λ n. n ≤ length bytes.now) }
         ensures some { IfOk result (λ n. 0 < length bytes.now → 0 < n) }
         ensures gained { IfOk result (λ n. Gains (Some self.old.held) (take n bytes.now) (Some self.new.held)) }
+        ensures same { OnOk result (self.new.calls.faults ≡ self.old.calls.faults) }
         ensures kept { OnErr result (self.new.held ≡ self.old.held) }
         ensures failed { OnErr result (Rose self.old.calls.faults self.new.calls.faults) }
         ensures later { self.old.calls.faults ≤ self.new.calls.faults }

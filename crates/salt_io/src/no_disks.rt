@@ -1,4 +1,4 @@
-// Disks that hold nothing.
+//! Disks that hold nothing.
 ghost use Rattle.std.specs.Prelude.{◌≡◌, [], false, true};
 
 use crate::{DiskErr, Disks};

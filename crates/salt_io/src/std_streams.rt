@@ -1,4 +1,4 @@
-// Sources and sinks over std's readers and writers.
+//! Sources and sinks over std's readers and writers.
 ghost use Rattle.std.specs.Prelude.{◌≡◌, ◌<◌, ◌≤◌, length, IfSome, None};
 
 use crate::{IoFailed, Sink, Source};
