@@ -101,7 +101,7 @@ impl Lines {
         ensures in_hand { self.old.kept ≢ [] → (source.new ≡ source.old) × (self.new ≡ self.old) }
         ensures over { self.old.ended ≡ true → (source.new ≡ source.old) × (self.new ≡ self.old) }
         ensures none { OnErr result (self.old.kept ≡ []) }
-        ensures open { OnErr result (self.old.ended ≡ false) }
+        ensures unended { OnErr result (self.old.ended ≡ false) }
         ensures kept { OnErr result (S.left source.new ≡ S.left source.old) }
         ensures no_fault { OnOk result (S.faults source.new ≡ S.faults source.old) }
         ensures failed { OnErr result (Rose (S.faults source.old) (S.faults source.new)) }
