@@ -28,3 +28,7 @@ pub mod Rising
 pub mod Continues
 pub mod WrittenKeys
 pub mod FinishedSources
+pub mod Widening
+pub mod ReadSources
+pub mod LastWriters
+pub mod Victims
