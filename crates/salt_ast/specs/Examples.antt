@@ -16,7 +16,6 @@ use Rattle.salt_ast.specs.declared.trees.ColType.TheVariants as kind
 use Rattle.salt_ast.specs.declared.trees.Expr.{Column, Expr, Variable}
 use Rattle.salt_ast.specs.declared.trees.Field.{Field}
 use Rattle.salt_ast.specs.declared.trees.Op.TheVariants as op
-use Rattle.salt_ast.specs.declared.trees.Scan.{Scan}
 use Rattle.salt_ast.specs.declared.trees.Scope.{Scope}
 use Rattle.salt_ast.specs.declared.trees.Statement.{Statement}
 use Rattle.salt_ast.specs.declared.trees.Statement.TheVariants as statement
@@ -28,7 +27,7 @@ use Rattle.salt_tokens.specs.Symbols.{Symbols, int, key, name, symbols_of, sign,
 use Rattle.salt_tokens.specs.declared.keyword.Keyword.TheVariants as word
 use Rattle.salt_tokens.specs.declared.sign.Sign.TheVariants as mark
 use Rattle.std.specs.Fmt.{digits}
-use Rattle.std.specs.Prelude.{List, None, Option, Some, [], codes, neg_ℤ, option_map, pos, refl, replicate, suc, zero, ℕ, ◌++◌, ◌∷◌, ◌≡◌}
+use Rattle.std.specs.Prelude.{List, None, Option, Some, [], codes, neg_ℤ, option_map, pos, refl, replicate, ℕ, ◌++◌, ◌∷◌, ◌≡◌}
 
 -- the symbols of a text
 abbrev symbols : List ℕ → Option Symbols

@@ -6,7 +6,7 @@ use Rattle.salt_ast.specs.ProgramJudgement.{line_fault, no_branch, program_fault
 use Rattle.salt_ast.specs.ProgramLimits.{line_limit, program_limit}
 use Rattle.salt_ast.specs.ProgramTexts.{line_text, program_text}
 use Rattle.salt_ast.specs.Sample.{acct, acct_def, all_rows, bal, field, id, negations, part, scan, schema, set, spare, spare_block, transfer, transfer_parts, true_sum}
-use Rattle.salt_ast.specs.Trees.{negation, number, operation}
+use Rattle.salt_ast.specs.Trees.{number}
 use Rattle.salt_ast.specs.declared.limit.LimitName.TheVariants as limit
 use Rattle.salt_ast.specs.declared.lines.Act.{Act}
 use Rattle.salt_ast.specs.declared.lines.Act.TheVariants as act
@@ -18,19 +18,16 @@ use Rattle.salt_ast.specs.declared.programs.PartDef.{PartDef}
 use Rattle.salt_ast.specs.declared.programs.ProgramDef.{ProgramDef}
 use Rattle.salt_ast.specs.declared.trees.Bound.TheVariants as bound
 use Rattle.salt_ast.specs.declared.trees.ColType.TheVariants as kind
-use Rattle.salt_ast.specs.declared.trees.Expr.{Expr, Variable}
+use Rattle.salt_ast.specs.declared.trees.Expr.{Variable}
 use Rattle.salt_ast.specs.declared.trees.Field.{Field}
-use Rattle.salt_ast.specs.declared.trees.Op.TheVariants as op
-use Rattle.salt_ast.specs.declared.trees.Scan.{Scan}
 use Rattle.salt_ast.specs.declared.trees.Statement.{Statement}
 use Rattle.salt_ast.specs.declared.trees.Statement.TheVariants as statement
-use Rattle.salt_ast.specs.declared.trees.TableDef.{TableDef}
 use Rattle.salt_ast.specs.declared.trees.What.TheVariants as what
 use Rattle.salt_values.specs.declared.id.Id.{Id}
 use Rattle.salt_values.specs.declared.value.Value.{Value}
 use Rattle.salt_values.specs.declared.value.Value.TheVariants as value
 use Rattle.std.specs.Fmt.{digits}
-use Rattle.std.specs.Prelude.{List, None, Option, Some, [], codes, false, neg_ℤ, pos, refl, replicate, suc, zero, ℕ, ◌++◌, ◌∷◌, ◌≡◌}
+use Rattle.std.specs.Prelude.{List, None, Option, Some, [], codes, false, neg_ℤ, pos, refl, replicate, ℕ, ◌++◌, ◌∷◌, ◌≡◌}
 
 -- Texts of programs.
 

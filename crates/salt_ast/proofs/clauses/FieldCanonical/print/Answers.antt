@@ -1,4 +1,3 @@
-use Rattle.std.proofs.Common.{◌≡◌}
 use Rattle.salt_ast.proofs.Joins.{◌⨾◌}
 use Rattle.salt_ast.proofs.clauses.FieldCanonical.print.Goals as goal
 
