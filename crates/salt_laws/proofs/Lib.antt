@@ -20,6 +20,7 @@ pub mod Sound
 pub mod Reading
 pub mod Salted
 pub mod Releasable
+pub mod OfBoot
 pub mod KeptLaws
 pub mod WellKept
 pub mod Due

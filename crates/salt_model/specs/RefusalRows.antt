@@ -15,14 +15,13 @@ use Rattle.salt_model.specs.Computing.{computing}
 use Rattle.salt_model.specs.Trace.{Trace, Tree, Rejected, from, ◌asks◌, ◌says◌}
 use Rattle.salt_model.specs.Segments.{May}
 use Rattle.salt_model.specs.Refusals.{refusal}
-use Rattle.salt_model.specs.Scripts.{accounts, all_rows, at, bal_at, base, begin, call_transfer, commit, go, insert_acct, insert_into, int}
+use Rattle.salt_model.specs.Scripts.{accounts, all_rows, at, bal_at, base, begin, call_transfer, commit, go, insert_acct, insert_into, int, unit}
 use Rattle.salt_model.specs.Kept.{nothing_kept}
 use Rattle.salt_model.specs.Walk.{completed, opened, printed, printed_of, walk, walk_on}
 use Rattle.salt_model.specs.declared.events.End.TheVariants as end
 use Rattle.salt_model.specs.declared.events.Event.TheVariants as event
 use Rattle.salt_model.specs.declared.events.Owner.TheVariants as owner
 use Rattle.salt_model.specs.declared.events.Refusal.TheVariants as refused
-use Rattle.salt_values.specs.declared.id.Id.{Id}
 use Rattle.std.specs.Prelude.{List, None, Some, [], codes, drop, false, pos, refl, suc, zero, ℕ, ◌++◌, ◌∷◌, ◌≡◌}
 
 -- Each of these lines is refused where the accounts and the program of transfers stand.
@@ -101,9 +100,6 @@ unfolding computing
 one_program_too_many = refl
 
 -- WRONG ROWS, each of one event that may not stand where it stands.
-
-abbrev unit : ℕ → Id
-unit n = record { boot = 1; seq = n }
 
 -- a reader waits for the program that holds what it asks for
 abbrev asking : Trace
