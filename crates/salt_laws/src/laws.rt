@@ -12,7 +12,7 @@ ghost use Rattle.salt_model.specs.Locks.{NoneConflict, held};
 ghost use Rattle.salt_model.specs.Trace.{Trace, start_of};
 ghost use Rattle.salt_model.specs.Next.{flight};
 ghost use Rattle.salt_model.specs.Played.{IsPlayed};
-ghost use Rattle.salt_model.specs.Everywhere.{Each};
+ghost use Rattle.salt_model.specs.Everywhere.{Always, Each};
 ghost use Rattle.salt_model.specs.Releasing.{ReleasesExactly};
 ghost use Rattle.salt_laws.specs.Rewordings.{WritesAtEnd};
 
@@ -22,14 +22,16 @@ pub fn played_is_honest()
     ensures { (trace : Trace) → IsPlayed trace → IsHonest trace }
 {}
 
-/// What an ACID unit touches of a BASE program's committed parts, it touches when the program is released.
+/// What an ACID unit touches of a BASE program's open and committed parts, it touches when the program is
+/// released.
 pub fn played_is_whole()
     ensures { (trace : Trace) → IsPlayed trace → IsWhole trace }
 {}
 
-/// No two held locks of different owners clash, but for an alkaline one beside a saline one.
+/// At every place, no two held locks of different owners overlap of which one writes, but for an alkaline
+/// lock beside a saline one, and two saline locks.
 pub fn held_locks_stand_together()
-    ensures { (trace : Trace) → IsPlayed trace → NoneConflict (held trace) }
+    ensures { (trace : Trace) → IsPlayed trace → Always (λ t. NoneConflict (held t)) trace }
 {}
 
 /// What an ACID unit reads comes, by any chain of readers, from no BASE program that is not released.
@@ -49,7 +51,8 @@ pub fn played_is_continued()
     ensures { (trace : Trace) → IsPlayed trace → WellKept (start_of trace).kept → IsContinued trace }
 {}
 
-/// Decisions are numbered one by one, through every stop, and an opening tells at most the one in flight.
+/// Decisions are numbered one by one, through every stop. Of units of earlier boots an opening tells the decision
+/// in flight, where it stands, and then their cuts in order of names.
 pub fn played_is_kept()
     ensures { (trace : Trace) → IsPlayed trace → WellKept (start_of trace).kept → IsKept trace }
 {}
