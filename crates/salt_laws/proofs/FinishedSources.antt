@@ -16,8 +16,8 @@ use Rattle.salt_model.specs.After.{reach_now}
 use Rattle.salt_model.specs.Continuing.{AcceptsDue, GoesAlong, accepted_after, accepted_by, is_unfinished, last_said}
 use Rattle.salt_model.specs.Isolation.{is_committed_standing}
 use Rattle.salt_model.specs.Trace.{Trace, from, start_of, ◌asks◌, ◌says◌, ◌turns◌}
-use Rattle.salt_model.specs.Programs.{accepted_in, finished_in, program_begun, released_in}
-use Rattle.salt_model.specs.Units.{Over, Running, Waiting, is_of_program, kind_of, program_of, program_of_kind, standing}
+use Rattle.salt_model.specs.Programs.{accepted_in, finished_in, released_in}
+use Rattle.salt_model.specs.Units.{Over, Running, Waiting, is_of_program, kind_of, program_begun, program_of, program_of_kind, standing}
 use Rattle.salt_model.specs.Played.{IsPlayed}
 use Rattle.salt_model.specs.Everywhere.{Each}
 use Rattle.salt_model.specs.Reads.{programs_among, read_directly, to_release, writers_in}

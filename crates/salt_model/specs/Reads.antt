@@ -76,7 +76,9 @@ read_directly b (from k) = []
 read_directly b (trace asks asked) = read_directly b trace
 read_directly b (trace turns c) = read_directly b trace
 read_directly b (trace says Did u st answer) =
-    if is_of_program b trace u then without (b ∷ []) (programs_among trace (writers_in trace (reach_now u trace st))) ++ read_directly b trace else read_directly b trace
+    if is_of_program b trace u
+    then without (b ∷ []) (programs_among trace (writers_in trace (reach_now u trace st))) ++ read_directly b trace
+    else read_directly b trace
 read_directly b (trace says e) = read_directly b trace
 
 -- seen and all that they read from directly

@@ -10,6 +10,7 @@ use Rattle.salt_ast.specs.declared.trees.ColType.TheVariants as kind
 use Rattle.salt_ast.specs.declared.trees.Expr.{Expr}
 use Rattle.salt_ast.specs.declared.trees.Op.TheVariants as op
 use Rattle.salt_ast.specs.declared.trees.Statement.TheVariants as statement
+use Rattle.salt_ast.specs.declared.trees.Statement.{Statement}
 use Rattle.salt_ast.specs.declared.trees.What.TheVariants as what
 use Rattle.salt_model.specs.Computing.{computing}
 use Rattle.salt_model.specs.Trace.{Trace, Tree, Rejected, from, ◌asks◌, ◌says◌}
@@ -29,12 +30,15 @@ use Rattle.std.specs.Prelude.{List, None, Some, [], codes, drop, false, pos, ref
 abbrev one : Expr
 one = int 1
 
+abbrev holds : Statement
+holds = statement.Ensure (operation op.Equal one one)
+
 abbrev no_branch : ProgramDef
 no_branch = record {
   name = codes "p";
   params = [];
   vars = [];
-  body = body.Base (part (statement.Ensure (operation op.Equal one one) ∷ []) None None ∷ part (statement.Ensure (operation op.Equal one one) ∷ []) None None ∷ []);
+  body = body.Base (part (holds ∷ []) None None ∷ part (holds ∷ []) None None ∷ []);
 }
 
 abbrev table_of : List ℕ → Line
@@ -81,7 +85,8 @@ unfolding computing
 rejected_printed = refl
 
 -- A stop can't be armed where the disks can't be stopped.
-unstopped : refusal (completed 9 (from (record { kept = nothing_kept; can_stop = false }) says event.Opened 1 0)) (Tree (line.Crash ((1, 0) ∷ []))) ≡ Some refused.State
+unstopped : refusal (completed 9 (from (record { kept = nothing_kept; can_stop = false }) says event.Opened 1 0))
+    (Tree (line.Crash ((1, 0) ∷ []))) ≡ Some refused.State
 unfolding computing
 unstopped = refl
 

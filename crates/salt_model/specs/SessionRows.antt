@@ -61,7 +61,9 @@ blank_printed = refl
 -- A count reaches the keys between its bounds, whether rows are there or not: an insert into them waits, one outside does not.
 
 abbrev counted_range : List Line
-counted_range = accounts ++ begin 1 ∷ at 1 (statement.Select what.Count acct (scan (bound.Between (int 1) (int 9)) None)) ∷ at 2 (insert_acct 5 1) ∷ at 3 (insert_acct 10 1) ∷ commit 1 ∷ []
+counted_range =
+    accounts ++ begin 1 ∷ at 1 (statement.Select what.Count acct (scan (bound.Between (int 1) (int 9)) None)) ∷
+    at 2 (insert_acct 5 1) ∷ at 3 (insert_acct 10 1) ∷ commit 1 ∷ []
 
 counted_range_printed : drop 10 (printed counted_range) ≡
     codes "u1.3 began @1" ∷
@@ -80,7 +82,9 @@ counted_range_printed = refl
 -- A range that is empty reaches nothing. A rollback lets the reader go on.
 
 abbrev nothing_reached : List Line
-nothing_reached = accounts ++ begin 1 ∷ at 1 (statement.Select what.All acct (scan (bound.Between (int 9) (int 1)) None)) ∷ line.ShowLocks ∷ at 1 raise_all ∷ line.ShowLocks ∷ at 2 (bal_at 2) ∷ rollback 1 ∷ []
+nothing_reached =
+    accounts ++ begin 1 ∷ at 1 (statement.Select what.All acct (scan (bound.Between (int 9) (int 1)) None)) ∷
+    line.ShowLocks ∷ at 1 raise_all ∷ line.ShowLocks ∷ at 2 (bal_at 2) ∷ rollback 1 ∷ []
 
 nothing_reached_printed : drop 10 (printed nothing_reached) ≡
     codes "u1.3 began @1" ∷
