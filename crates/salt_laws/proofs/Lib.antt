@@ -22,6 +22,7 @@ pub mod Salted
 pub mod Releasable
 pub mod OfBoot
 pub mod KeptLaws
+pub mod Defined
 pub mod WellKept
 pub mod Due
 pub mod Accounts

@@ -13,7 +13,8 @@ use Rattle.salt_ast.specs.declared.trees.Statement.TheVariants as statement
 use Rattle.salt_ast.specs.declared.trees.TableDef.{TableDef}
 use Rattle.salt_ast.specs.declared.trees.What.TheVariants as what
 use Rattle.salt_model.specs.Computing.{computing}
-use Rattle.salt_model.specs.Scripts.{accounts, all_rows, at, bal_at, begin, call_transfer, commit, insert_acct, insert_into, int, key_is, raise_all, rollback, set_bal, step}
+use Rattle.salt_model.specs.Scripts.{accounts, all_rows, at, bal_at, begin, call_transfer, commit, insert_acct, insert_into}
+use Rattle.salt_model.specs.Scripts.{int, key_is, raise_all, rollback, set_bal, step}
 use Rattle.salt_model.specs.Walk.{printed, walk}
 use Rattle.std.specs.Prelude.{List, None, [], codes, drop, negsuc, pos, refl, ℕ, ℤ, ◌++◌, ◌∷◌, ◌≡◌}
 

@@ -25,7 +25,8 @@ use Rattle.salt_values.specs.declared.change.Change.{Change}
 use Rattle.salt_values.specs.declared.value.Value.TheVariants.{Int}
 use Rattle.salt_values.specs.declared.value.Value.{Value}
 use Rattle.std.specs.List.{cons_option, filter}
-use Rattle.std.specs.Prelude.{Bool, Err, List, None, Ok, Option, Result, Some, [], false, if◌then◌else◌, length, map, option_to_list, pos, true, unwrap_or, ℕ, ℤ, ◌++◌, ◌+ℤ◌, ◌∷◌}
+use Rattle.std.specs.Prelude.{Bool, Err, List, None, Ok, Option, Result, Some, [], false, if◌then◌else◌}
+use Rattle.std.specs.Prelude.{length, map, option_to_list, pos, true, unwrap_or, ℕ, ℤ, ◌++◌, ◌+ℤ◌, ◌∷◌}
 use Rattle.salt_model.specs.Reaches.{in_row, no_row, range_of, reach, table_for}
 
 -- the answer, the changes, and the variables after

@@ -17,7 +17,8 @@ use Rattle.salt_model.specs.declared.events.Owner.{Owner}
 use Rattle.salt_values.specs.Id.{is_same_id}
 use Rattle.salt_values.specs.declared.id.Id.{Id}
 use Rattle.std.specs.List.{filter, find, flat_map, list_any}
-use Rattle.std.specs.Prelude.{Bool, List, None, Option, Some, [], if◌then◌else◌, is_none, length, map, not, option_and_then, slice_get, suc, zero, ℕ, ◌&&◌, ◌++◌, ◌∷◌}
+use Rattle.std.specs.Prelude.{Bool, List, None, Option, Some, [], if◌then◌else◌}
+use Rattle.std.specs.Prelude.{is_none, length, map, not, option_and_then, slice_get, suc, zero, ℕ, ◌&&◌, ◌++◌, ◌∷◌}
 
 abbrev pub statement_of_act : Act → Option Statement
 statement_of_act (Do st) = Some st
