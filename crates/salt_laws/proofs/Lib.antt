@@ -30,3 +30,5 @@ pub mod Rising
 pub mod Continues
 pub mod WrittenKeys
 pub mod FinishedSources
+pub mod Asking
+pub mod Declares

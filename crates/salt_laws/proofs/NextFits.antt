@@ -86,7 +86,7 @@ wait-open (trace says Ended v end) u h = let r = in-without u (v ∷ []) (wait_l
 wait-open (trace says e) u h = wait-open trace u h
 
 -- a fact of what comes
-comes-map-at : {A : Type 0} (P : Event → Type 0) (f : A → Event) (o : Option A) → ((a : A) → o ≡ Some a → P (f a)) → IfComes P (option_map f o)
+pub comes-map-at : {A : Type 0} (P : Event → Type 0) (f : A → Event) (o : Option A) → ((a : A) → o ≡ Some a → P (f a)) → IfComes P (option_map f o)
 comes-map-at P f None h = tt
 comes-map-at P f (Some a) h = h a refl
 

@@ -2,6 +2,7 @@
 //! run may tell; `WellKept` is what a start has to be, and the empty one is.
 
 ghost use Rattle.salt_model.specs.After.{kept};
+ghost use Rattle.salt_model.specs.AsDeclared.{IsDeclared};
 ghost use Rattle.salt_model.specs.Continuing.{IsContinued};
 ghost use Rattle.salt_model.specs.Decided.{IsKept};
 ghost use Rattle.salt_model.specs.Ends.{kept_with};
@@ -66,4 +67,10 @@ pub fn kept_stays_well_kept()
 /// when all of them are done anew at its commit.
 pub fn changes_are_those_written()
     ensures { (trace : Trace) → IsPlayed trace → WellKept (start_of trace).kept → Each WritesAtEnd trace }
+{}
+
+/// Each statement done is the declared one: the next of its program's block, as the program is kept, or what a
+/// line of its session asks; a unit that a statement's line began does that one and no other.
+pub fn played_is_declared()
+    ensures { (trace : Trace) → IsPlayed trace → WellKept (start_of trace).kept → IsDeclared trace }
 {}
