@@ -6,21 +6,20 @@ use Rattle.salt_ast.specs.declared.lines.Line.{Line}
 use Rattle.salt_ast.specs.declared.programs.Body.TheVariants.{Acid, Base}
 use Rattle.salt_ast.specs.declared.programs.Body.{Body}
 use Rattle.salt_ast.specs.declared.trees.Statement.{Statement}
-use Rattle.salt_laws.proofs.Coming.{Good, neither, none-then_some}
+use Rattle.salt_laws.proofs.Coming.{neither, none-then_some}
 use Rattle.salt_laws.proofs.Defined.{IsKeptProgram}
-use Rattle.salt_laws.proofs.Every.{IfSome}
 use Rattle.salt_laws.proofs.Fresh.{IfComes, comes-map, comes-option_or, comes-then_some, or_left, standing-other}
 use Rattle.salt_laws.proofs.Ids.{is_same_id-refl, is_same_id-true}
 use Rattle.salt_laws.proofs.Lists.{In, either, in-cases, in-filter, in-without}
-use Rattle.salt_laws.proofs.NextFits.{Drains, Fits, IsOwn, comes-map-at, find-in, first-in}
+use Rattle.salt_laws.proofs.NextFits.{Drains, Fits, IsOwn, comes-map-at, comes-then_some-at, find-in, first-in}
 use Rattle.salt_laws.proofs.Replays.{open-other}
 use Rattle.salt_laws.proofs.Sound.{Sound, none-open, not-fresh, open-named}
 use Rattle.salt_laws.specs.Names.{is_unit_of}
 use Rattle.salt_model.specs.After.{kept}
-use Rattle.salt_model.specs.AsDeclared.{IsOfLine, IsOnly}
+use Rattle.salt_model.specs.AsDeclared.{IsOfLine, IsOnly, IsOnlyDone}
 use Rattle.salt_model.specs.Kept.{block_of_kind, cont_of, kept_program}
 use Rattle.salt_model.specs.Locks.{clashing}
-use Rattle.salt_model.specs.Next.{is_decision, next, said_event, serving_event}
+use Rattle.salt_model.specs.Next.{decision_in, is_decision, next, said_event, serving_event}
 use Rattle.salt_model.specs.Openings.{after_opened, cuts_or_drains, drains, follow_opening, opening_event, stands_now, to_cut}
 use Rattle.salt_model.specs.Phases.{Fallen, Opening, Phase, Serving, phase}
 use Rattle.salt_model.specs.Reads.{to_release}
@@ -43,6 +42,7 @@ use Rattle.salt_model.specs.declared.events.Refusal.TheVariants as refused
 use Rattle.salt_model.specs.declared.events.Refusal.{Refusal}
 use Rattle.salt_model.specs.declared.events.UnitKind.TheVariants.{Acid, Call, First, Later}
 use Rattle.salt_model.specs.declared.events.UnitKind.{UnitKind}
+use Rattle.salt_model.specs.declared.events.Why.{Why}
 use Rattle.salt_values.specs.Id.{is_same_id}
 use Rattle.salt_values.specs.declared.cont.Cont.{Cont}
 use Rattle.salt_values.specs.declared.id.Id.{Id}
@@ -52,7 +52,7 @@ use Rattle.std.proofs.lemmas.Bool.{eqb-true}
 use Rattle.std.specs.Bool.{then_some}
 use Rattle.std.specs.List.{filter}
 use Rattle.std.specs.Option.{option_or}
-use Rattle.std.specs.Prelude.{Bool, List, None, Option, Some, [], cond, false, is_none, is_some, not, option_and_then, option_map, refl, true, ℕ, ⊤, ◌&&◌, ◌==◌, ◌||◌, ◌∷◌, ◌≡◌, ◌⊎◌}
+use Rattle.std.specs.Prelude.{Bool, List, None, Option, Some, [], cond, false, is_none, is_some, length, not, option_and_then, option_map, refl, true, ℕ, ⊤, ◌&&◌, ◌==◌, ◌||◌, ◌∷◌, ◌≡◌, ◌⊎◌}
 
 -- the unit began with a statement's line
 abbrev pub IsSingle : Trace → Id → Type 0
@@ -70,6 +70,12 @@ abbrev pub WaitsByLine : Trace → Id → Type 0
 WaitsByLine trace u =
     (s : ℕ) → IsOfAcid trace u s → ((st : Statement) × (line_of trace ≡ Session s (Do st))) × (IsSingle trace u → (line_of trace ≡ line_begun u trace) × (done_of u trace ≡ []))
 
+-- a unit that commits has done its block, where it is kept, or its line's statement
+abbrev pub AllDone : Trace → Id → Option UnitKind → Type 0
+AllDone trace u None = ⊤
+AllDone trace u (Some (Acid s)) = IsOnlyDone (done_of u trace) (line_begun u trace)
+AllDone trace u (Some kind) = (block : List Statement) → block_of_kind (kept trace) kind ≡ Some block → length (done_of u trace) ≡ length block
+
 -- what is known of an event that comes next
 abbrev pub IsAsked : Trace → Event → Type 0
 IsAsked trace (Began u (Acid s)) = (t : ℕ) (only : Statement) → line_of trace ≡ Session t (Do only) → t ≡ s
@@ -77,6 +83,7 @@ IsAsked trace (Began u (Call s n args)) = IsKeptProgram (kept trace) n
 IsAsked trace (Began u (First s b n args)) = IsKeptProgram (kept trace) n
 IsAsked trace (Did u st a) = (asked_by u trace ≡ Some st) × IsFromLine trace u st
 IsAsked trace (Waits u owners) = WaitsByLine trace u
+IsAsked trace (Ended u (Committed n)) = AllDone trace u (kind_of u trace)
 IsAsked trace e = ⊤
 
 -- the event with which a trace ends, where it ends with one
@@ -115,6 +122,10 @@ waiting-line trace u s first st x w e a = cc
 only-none : (trace : Trace) (u : Id) (st : Statement) (line : Line) → ((t : ℕ) (only : Statement) → line ≡ Session t (Do only) → ⊥) → IsOnly trace u st line
 only-none trace u st (Session t (Do only)) n = absurd (n t only refl)
 only-none trace u st line n = tt
+
+done-none : (done : List Statement) (line : Line) → ((t : ℕ) (only : Statement) → line ≡ Session t (Do only) → ⊥) → IsOnlyDone done line
+done-none done (Session t (Do only)) n = absurd (n t only refl)
+done-none done line n = tt
 
 only-some : (trace : Trace) (u : Id) (st : Statement) (line : Line) → done_of u trace ≡ [] → ((t : ℕ) (only : Statement) → line ≡ Session t (Do only) → st ≡ only) → IsOnly trace u st line
 only-some trace u st (Session t (Do only)) d n = (n t only refl, d)
@@ -198,7 +209,27 @@ asked-act trace s (Call name args) o h p l n e w = comes-map-at (IsAsked trace) 
     its (Base parts) d = d
 asked-act trace s Step None h p l n e w = tt
 asked-act trace s Step (Some u) h p l n e w = asked-other trace u (called-not-acid trace u (not-false (is_called trace u) (or-neither (is_waiting trace u) _ w).1))
-asked-act trace s Commit o h p l n e w = comes-map (IsAsked trace) _ o (λ u. tt)
+asked-act trace s Commit None h p l n e w = tt
+asked-act trace s Commit (Some u) h p l n e w = by (kind_of u trace) refl
+  where
+    opened : (is_open trace u ≡ true) × (is_of_session s trace u ≡ true)
+    opened = opened-in trace (is_of_session s trace) u e
+
+    right : (is_waiting trace u ≡ false) × (is_called trace u ≡ false)
+    right = or-neither (is_waiting trace u) _ w
+
+    not-single : (t : ℕ) → IsOfAcid trace u t → IsSingle trace u → ⊥
+    not-single t k i = either (λ v. let x = v.0 in let y = right.0 in cc) (λ v. absurd (subst (IsOwn u) n v)) ((h p u opened.0 t k).single i)
+
+    called : (kind : UnitKind) → kind_of u trace ≡ Some kind → has_block kind ≡ true → ⊥
+    called kind k b = let x : false ≡ true = sym right.1 ∙ (ap (λ o. elim o [ None ↦ false | Some kind ↦ has_block kind ]) k ∙ b) in cc
+
+    by : (o : Option UnitKind) → kind_of u trace ≡ o → AllDone trace u o
+    by None k = tt
+    by (Some (Acid t)) k = done-none (done_of u trace) (line_begun u trace) (λ x only g. not-single t k (x, only, g))
+    by (Some (Call t name args)) k = absurd (called (Call t name args) k refl)
+    by (Some (First t b name args)) k = absurd (called (First t b name args) k refl)
+    by (Some (Later b part)) k = absurd (called (Later b part) k refl)
 asked-act trace s Rollback o h p l n e w = comes-map (IsAsked trace) _ o (λ u. tt)
 
 state-right : (trace : Trace) (line : Line) → refused_line trace line ≡ None → is_state_wrong trace line ≡ false
@@ -374,13 +405,31 @@ asked-began : (trace : Trace) (u : Id) (kind : UnitKind) (line : Line) → IsAsk
 asked-began trace u kind (Session t Begin) g = tt
 asked-began trace u kind line g = asked-first trace u kind g
 
-asked-did : (trace : Trace) (u : Id) (a : Answer) → IfComes (IsAsked trace) (after_did trace u a)
-asked-did trace u (Failed c) = go (kind_of u trace)
+all-done : (trace : Trace) (u : Id) (st : Statement) (a : Answer) → IsFromLine trace u st → (o : Option UnitKind) → kind_of u trace ≡ o →
+    is_at_end (trace says Did u st a) u (option_and_then (block_of_kind (kept trace)) o) ≡ true → AllDone (trace says Did u st a) u o
+all-done trace u st a g o k e = by o k e
   where
-    go : (o : Option UnitKind) → IsAsked trace (fails trace u c o)
+    line : (line : Line) → IsOnly trace u st line → IsOnlyDone (done_of u (trace says Did u st a)) line
+    line (Session t (Do only)) h = rw (is_same_id-refl u) (rw h.1 (ap (λ x. x ∷ []) h.0))
+    line l h = tt
+
+    block : (o : Option (List Statement)) → is_at_end (trace says Did u st a) u o ≡ true → (b : List Statement) → o ≡ Some b → length (done_of u (trace says Did u st a)) ≡ length b
+    block o e b q = eqb-true (length (done_of u (trace says Did u st a))) (length b) (subst (λ o. is_at_end (trace says Did u st a) u o ≡ true) q e)
+
+    by : (o : Option UnitKind) → kind_of u trace ≡ o → is_at_end (trace says Did u st a) u (option_and_then (block_of_kind (kept trace)) o) ≡ true → AllDone (trace says Did u st a) u o
+    by None k e = tt
+    by (Some (Acid s)) k e = line (line_begun u trace) (g s k).1
+    by (Some (Call s n args)) k e = block (block_of_kind (kept trace) (Call s n args)) e
+    by (Some (First s b n args)) k e = block (block_of_kind (kept trace) (First s b n args)) e
+    by (Some (Later b part)) k e = block (block_of_kind (kept trace) (Later b part)) e
+
+asked-did : (trace : Trace) (u : Id) (st : Statement) (a answer : Answer) → IsAsked trace (Did u st a) → IfComes (IsAsked (trace says Did u st a)) (after_did (trace says Did u st a) u answer)
+asked-did trace u st a (Failed c) g = go (kind_of u trace)
+  where
+    go : (o : Option UnitKind) → IsAsked (trace says Did u st a) (fails (trace says Did u st a) u c o)
     go (Some (Later b part)) = tt
     go o = tt
-asked-did trace u a = comes-then_some (IsAsked trace) (is_at_end trace u (block_of u trace)) (commits trace u) tt
+asked-did trace u st a answer g = comes-then_some-at (IsAsked (trace says Did u st a)) (is_at_end (trace says Did u st a) u (block_of u (trace says Did u st a))) (commits (trace says Did u st a) u) (λ e. all-done trace u st a g.1 (kind_of u trace) refl e)
 
 asked-finish : (trace : Trace) (b : Id) → IfComes (IsAsked trace) (finishes trace b)
 asked-finish trace b = comes-then_some (IsAsked trace) (is_none (cont_of b (kept trace))) (Finished b) tt
@@ -397,7 +446,7 @@ asked-release trace (b ∷ bs) = tt
 
 asked-follow : (trace : Trace) (e : Event) → IsAsked trace e → IfComes (IsAsked (trace says e)) (follow (trace says e) e)
 asked-follow trace (Began u kind) g = asked-began trace u kind (line_of trace) g
-asked-follow trace (Did u st a) g = asked-did (trace says Did u st a) u a
+asked-follow trace (Did u st a) g = asked-did trace u st a a g
 asked-follow trace (Ended u end) g = asked-end (trace says Ended u end) end (kind_of u trace)
 asked-follow trace (Accepted b) g = asked-finish (trace says Accepted b) b
 asked-follow trace (Finished b) g = asked-release (trace says Finished b) (to_release (trace says Finished b))
@@ -423,32 +472,67 @@ asked-cuts trace [] = comes-then_some (IsAsked trace) (is_empty (open_units trac
     go [] = tt
     go (c ∷ cs) = tt
 
-asked-opens : (trace : Trace) (e : Event) → Drains (trace says e) → phase (trace says e) ≡ Opening → IfComes (IsAsked (trace says e)) (follow_opening (trace says e) e)
-asked-opens trace (Began u kind) d p = asked-drain (trace says Began u kind) u (d p u refl)
-asked-opens trace (Did u st a) d p =
+asked-opens : (trace : Trace) (e : Event) → IsAsked trace e → Drains (trace says e) → phase (trace says e) ≡ Opening → IfComes (IsAsked (trace says e)) (follow_opening (trace says e) e)
+asked-opens trace (Began u kind) g d p = asked-drain (trace says Began u kind) u (d p u refl)
+asked-opens trace (Did u st a) g d p =
     comes-option_or (IsAsked (trace says Did u st a)) (after_did (trace says Did u st a) u a) (does_next (trace says Did u st a) u)
-    (asked-did (trace says Did u st a) u a) (asked-drain (trace says Did u st a) u (d p u refl))
-asked-opens trace (Ended u end) d p = asked-end (trace says Ended u end) end (kind_of u trace)
-asked-opens trace (Accepted b) d p = asked-finish (trace says Accepted b) b
-asked-opens trace e d p = tt
+    (asked-did trace u st a a g) (asked-drain (trace says Did u st a) u (d p u refl))
+asked-opens trace (Ended u end) g d p = asked-end (trace says Ended u end) end (kind_of u trace)
+asked-opens trace (Accepted b) g d p = asked-finish (trace says Accepted b) b
+asked-opens trace e g d p = tt
 
 pub asked-said : (trace : Trace) (e : Event) → IsAsked trace e → Sessions (trace says e) → AllWait (trace says e) → Drains (trace says e) → (q : Phase) → phase (trace says e) ≡ q → IfComes (IsAsked (trace says e)) (said_event q (trace says e) e)
 asked-said trace e g h all d Serving p = asked-serving trace e g h all p
 asked-said trace e g h all d Opening p =
     comes-option_or (IsAsked (trace says e)) (follow_opening (trace says e) e) (cuts_or_drains (trace says e) (to_cut (trace says e)))
-    (asked-opens trace e d p) (asked-cuts (trace says e) (to_cut (trace says e)))
+    (asked-opens trace e g d p) (asked-cuts (trace says e) (to_cut (trace says e)))
 asked-said trace e g h all d Fallen p = tt
 
-pub asked-opened : (trace : Trace) (boot n : ℕ) (o : Option Event) → IfSome (λ e. Good trace e × (is_decision e ≡ true)) o → IfComes (IsAsked (trace says Opened boot n)) (after_opened (trace says Opened boot n) n o)
+-- a decision in flight goes through a stop
+all-done-opened : (trace : Trace) (boot n : ℕ) (u : Id) (o : Option UnitKind) → AllDone trace u o → AllDone (trace says Opened boot n) u o
+all-done-opened trace boot n u None h = h
+all-done-opened trace boot n u (Some (Acid s)) h = h
+all-done-opened trace boot n u (Some (Call s name args)) h = h
+all-done-opened trace boot n u (Some (First s b name args)) h = h
+all-done-opened trace boot n u (Some (Later b part)) h = h
+
+all-done-down : (trace : Trace) (why : Why) (u : Id) (o : Option UnitKind) → AllDone trace u o → AllDone (trace says Down why) u o
+all-done-down trace why u None h = h
+all-done-down trace why u (Some (Acid s)) h = h
+all-done-down trace why u (Some (Call s name args)) h = h
+all-done-down trace why u (Some (First s b name args)) h = h
+all-done-down trace why u (Some (Later b part)) h = h
+
+-- a decision that comes next, or is in flight, is asked for
+abbrev pub Flying : Trace → Option Event → Type 0
+Flying trace o = IfComes (λ e. IsAsked trace e × (is_decision e ≡ true)) o
+
+pub flying-next : (trace : Trace) (o : Option Event) → IfComes (IsAsked trace) o → Flying trace (decision_in o)
+flying-next trace None h = tt
+flying-next trace (Some e) h = by (is_decision e) refl
+  where
+    by : (b : Bool) → is_decision e ≡ b → Flying trace (then_some b e)
+    by true q = (h, q)
+    by false q = tt
+
+pub flying-down : (trace : Trace) (why : Why) (o : Option Event) → Flying trace o → Flying (trace says Down why) o
+flying-down trace why None h = tt
+flying-down trace why (Some (Ended u (Committed n))) h = (all-done-down trace why u (kind_of u trace) h.0, refl)
+flying-down trace why (Some (Ended u (Branched n c))) h = (tt, refl)
+flying-down trace why (Some (Defined n text)) h = (tt, refl)
+flying-down trace why (Some e) h = absurd (let x = h.1 in cc)
+
+pub asked-opened : (trace : Trace) (boot n : ℕ) (o : Option Event) → Flying trace o → IfComes (IsAsked (trace says Opened boot n)) (after_opened (trace says Opened boot n) n o)
 asked-opened trace boot n None h = asked-cuts (trace says Opened boot n) (to_cut (trace says Opened boot n))
 asked-opened trace boot n (Some d) h =
     comes-option_or (IsAsked (trace says Opened boot n)) (stands_now (trace says Opened boot n) n (Some d)) (cuts_or_drains (trace says Opened boot n) (to_cut (trace says Opened boot n)))
-    (comes-then_some (IsAsked (trace says Opened boot n)) (n == next_number trace) d (its d h.1)) (asked-cuts (trace says Opened boot n) (to_cut (trace says Opened boot n)))
+    (comes-then_some (IsAsked (trace says Opened boot n)) (n == next_number trace) d (its d h.0 h.1)) (asked-cuts (trace says Opened boot n) (to_cut (trace says Opened boot n)))
   where
-    its : (d : Event) → is_decision d ≡ true → IsAsked (trace says Opened boot n) d
-    its (Ended u end) g = tt
-    its (Defined m text) g = tt
-    its e g = cc
+    its : (d : Event) → IsAsked trace d → is_decision d ≡ true → IsAsked (trace says Opened boot n) d
+    its (Ended u (Committed m)) a g = all-done-opened trace boot n u (kind_of u trace) a
+    its (Ended u (Branched m c)) a g = tt
+    its (Defined m text) a g = tt
+    its e a g = cc
 
 -- SESSIONS, AN EVENT ON
 

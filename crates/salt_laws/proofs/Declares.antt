@@ -1,17 +1,16 @@
 -- Each statement done is the declared one, for all played traces.
 use Rattle.salt_ast.specs.declared.programs.ProgramDef.{ProgramDef}
 use Rattle.salt_ast.specs.declared.trees.Statement.{Statement}
-use Rattle.salt_laws.proofs.Asking.{AllWait, IsAsked, IsFromLine, IsOfAcid, IsSingle, Sessions, all-wait, asked-asks, asked-go, asked-opened, asked-said, said_at_end, sessions-asks, sessions-says, sessions-turns, single-next}
+use Rattle.salt_laws.proofs.Asking.{AllDone, AllWait, Flying, IsAsked, IsFromLine, IsOfAcid, IsSingle, Sessions, all-wait, asked-asks, asked-go, asked-opened, asked-said, flying-down, flying-next, said_at_end, sessions-asks, sessions-says, sessions-turns, single-next}
 use Rattle.salt_laws.proofs.Defined.{AreDefined, IsKeptProgram, defined-kept, program-stays}
 use Rattle.salt_laws.proofs.Fresh.{IfComes}
 use Rattle.salt_laws.proofs.Ids.{is_same_id-refl, is_same_id-true}
 use Rattle.salt_laws.proofs.Lists.{In, either}
 use Rattle.salt_laws.proofs.NextFits.{Fits, IsOwn}
-use Rattle.salt_laws.proofs.Replays.{replays}
 use Rattle.salt_laws.proofs.Salted.{OfBoots, holds, may-fit}
 use Rattle.salt_laws.proofs.Sound.{IsBegan, Sound, bases_in, conts-kept, due-in, of-program, open-back}
 use Rattle.salt_model.specs.After.{branched, kept}
-use Rattle.salt_model.specs.AsDeclared.{DoesDeclared, IsDeclared, IsDeclaredBy, IsNextOfBlock}
+use Rattle.salt_model.specs.AsDeclared.{DoesDeclared, HasDoneAll, IsDeclared, IsDeclaredBy, IsNextOfBlock, IsWholeBlock}
 use Rattle.salt_model.specs.Kept.{Kept, block_of_call, block_of_kind, block_of_part, cont_in, cont_of, kept_program}
 use Rattle.salt_model.specs.Next.{flight, next}
 use Rattle.salt_model.specs.Phases.{Serving, phase}
@@ -33,7 +32,7 @@ use Rattle.salt_values.specs.declared.id.Id.{Id}
 use Rattle.std.proofs.Common.{ap, inl, inr, subst, sym, ◌∙◌}
 use Rattle.std.specs.Bool.{then_some}
 use Rattle.std.specs.Option.{option_or}
-use Rattle.std.specs.Prelude.{Bool, List, None, Option, Some, [], cond, false, is_some, map, option_and_then, option_map, refl, true, ℕ, ⊤, ◌∷◌, ◌≡◌}
+use Rattle.std.specs.Prelude.{Bool, List, None, Option, Some, [], cond, false, is_some, length, map, option_and_then, option_map, refl, true, ℕ, ⊤, ◌∷◌, ◌≡◌}
 
 -- a unit's program is kept, and a part's goes on
 abbrev HasBlock : Kept → Option UnitKind → Type 0
@@ -89,6 +88,7 @@ record AllAsked (trace : Trace) : Type 0 where
   waits : AllWait trace
   blocks : Blocks trace
   comes : IfComes (IsAsked trace) (next trace)
+  flying : Flying trace (flight trace)
 
 asked-at : (trace : Trace) (e : Event) → IfComes (IsAsked trace) (next trace) → May trace e → IsAsked trace e
 asked-at trace (Down why) c m = tt
@@ -106,22 +106,30 @@ all-says trace e p w a =
     let g = asked-at trace e a.comes p.1 in
     let sessions = sessions-says trace e a.sessions h.sound f g p.1 in
     let waits = all-wait trace e h.sound f a.waits in
-    record { sessions = sessions; waits = waits; blocks = blocks-says trace e h.sound f g a.blocks; comes = next-asked trace e p w g sessions waits }
+    let x = coming trace e p w g sessions waits a.flying in
+    record { sessions = sessions; waits = waits; blocks = blocks-says trace e h.sound f g a.blocks; comes = x.0; flying = x.1 }
   where
-    next-asked : (trace : Trace) (e : Event) → IsPlayed (trace says e) → OfBoots (start_of trace).kept → IsAsked trace e → Sessions (trace says e) → AllWait (trace says e) → IfComes (IsAsked (trace says e)) (next (trace says e))
-    next-asked trace (Down why) p w g s a = tt
-    next-asked trace (Opened boot n) p w g s a = asked-opened trace boot n (flight trace) (replays trace p.0).flying
-    next-asked trace e p w g s a = asked-said trace e g s a (holds (trace says e) p w).sound.drains (phase (trace says e)) refl
+    coming : (trace : Trace) (e : Event) → IsPlayed (trace says e) → OfBoots (start_of trace).kept → IsAsked trace e → Sessions (trace says e) → AllWait (trace says e) → Flying trace (flight trace) →
+        IfComes (IsAsked (trace says e)) (next (trace says e)) × Flying (trace says e) (flight (trace says e))
+    coming trace (Down why) p w g s a f = (tt, flying-down trace why (flight trace) f)
+    coming trace (Opened boot n) p w g s a f =
+        let x = asked-opened trace boot n (flight trace) f in
+        (x, flying-next (trace says Opened boot n) (next (trace says Opened boot n)) x)
+    coming trace e p w g s a f =
+        let x = asked-said trace e g s a (holds (trace says e) p w).sound.drains (phase (trace says e)) refl in
+        (x, flying-next (trace says e) (next (trace says e)) x)
 
 all-asked : (trace : Trace) → IsPlayed trace → OfBoots (start_of trace).kept → AllAsked trace
-all-asked (from k) p w = record { sessions = λ q. cc; waits = λ u i. absurd i; blocks = λ u o. cc; comes = tt }
+all-asked (from k) p w = record { sessions = λ q. cc; waits = λ u i. absurd i; blocks = λ u o. cc; comes = tt; flying = tt }
 all-asked (trace asks asked) p w =
     let a = all-asked trace p.0 w in
     let sessions = sessions-asks trace asked a.sessions (none-single trace p.1.0 p.1.1) in
-    record { sessions = sessions; waits = a.waits; blocks = a.blocks; comes = asked-asks trace asked sessions p.1.0 }
+    let x = asked-asks trace asked sessions p.1.0 in
+    record { sessions = sessions; waits = a.waits; blocks = a.blocks; comes = x; flying = flying-next (trace asks asked) (next (trace asks asked)) x }
 all-asked (trace turns b) p w =
     let a = all-asked trace p.0 w in
-    record { sessions = sessions-turns trace b a.sessions (none-single trace p.1 p.2); waits = a.waits; blocks = a.blocks; comes = asked-go (trace turns b) b }
+    let x = asked-go (trace turns b) b in
+    record { sessions = sessions-turns trace b a.sessions (none-single trace p.1 p.2); waits = a.waits; blocks = a.blocks; comes = x; flying = flying-next (trace turns b) (next (trace turns b)) x }
 all-asked (trace says e) p w = all-says trace e p w (all-asked trace p.0 w)
 
 -- THE LAW
@@ -160,8 +168,20 @@ declared-by trace u st (Some (Call s n args)) e d h a l = next-of trace u st (bl
 declared-by trace u st (Some (First s b n args)) e d h a l = next-of trace u st (block_of_kind (kept trace) (First s b n args)) (block-some (kept trace) (First s b n args) d h (λ t q. cc)) a
 declared-by trace u st (Some (Later b part)) e d h a l = next-of trace u st (block_of_kind (kept trace) (Later b part)) (block-some (kept trace) (Later b part) d h (λ t q. cc)) a
 
+whole-of : (done : List Statement) (o : Option (List Statement)) → is_some o ≡ true → ((block : List Statement) → o ≡ Some block → length done ≡ length block) → IsWholeBlock o done
+whole-of done None i h = cc
+whole-of done (Some block) i h = h block refl
+
+done-all : (trace : Trace) (u : Id) (o : Option UnitKind) → AreDefined (kept trace) (kept trace).conts → HasBlock (kept trace) o → AllDone trace u o → HasDoneAll trace u o
+done-all trace u None d h a = h
+done-all trace u (Some (Acid s)) d h a = a
+done-all trace u (Some (Call s n args)) d h a = whole-of (done_of u trace) (block_of_kind (kept trace) (Call s n args)) (block-some (kept trace) (Call s n args) d h (λ t q. cc)) a
+done-all trace u (Some (First s b n args)) d h a = whole-of (done_of u trace) (block_of_kind (kept trace) (First s b n args)) (block-some (kept trace) (First s b n args) d h (λ t q. cc)) a
+done-all trace u (Some (Later b part)) d h a = whole-of (done_of u trace) (block_of_kind (kept trace) (Later b part)) (block-some (kept trace) (Later b part) d h (λ t q. cc)) a
+
 declares-at : (trace : Trace) (e : Event) → AllAsked trace → Fits trace e → May trace e → AreDefined (kept trace) (kept trace).conts → DoesDeclared trace e
 declares-at trace (Did u st a) h f m d = let g = asked-at trace (Did u st a) h.comes m in declared-by trace u st (kind_of u trace) refl d (h.blocks u f.0) g.0 g.1
+declares-at trace (Ended u (Committed n)) h f m d = done-all trace u (kind_of u trace) d (h.blocks u f.0) (asked-at trace (Ended u (Committed n)) h.comes m)
 declares-at trace e h f m d = tt
 
 pub declared : (trace : Trace) → IsPlayed trace → OfBoots (start_of trace).kept → AreDefined (start_of trace).kept (start_of trace).kept.conts → IsDeclared trace

@@ -90,7 +90,7 @@ pub comes-map-at : {A : Type 0} (P : Event → Type 0) (f : A → Event) (o : Op
 comes-map-at P f None h = tt
 comes-map-at P f (Some a) h = h a refl
 
-comes-then_some-at : (P : Event → Type 0) (b : Bool) (e : Event) → (b ≡ true → P e) → IfComes P (then_some b e)
+pub comes-then_some-at : (P : Event → Type 0) (b : Bool) (e : Event) → (b ≡ true → P e) → IfComes P (then_some b e)
 comes-then_some-at P true e h = h refl
 comes-then_some-at P false e h = tt
 

@@ -70,7 +70,8 @@ pub fn changes_are_those_written()
 {}
 
 /// Each statement done is the declared one: the next of its program's block, as the program is kept, or what a
-/// line of its session asks; a unit that a statement's line began does that one and no other.
+/// line of its session asks. A unit that a statement's line began does that one and no other, and a unit commits
+/// when it has done all that is declared.
 pub fn played_is_declared()
     ensures { (trace : Trace) → IsPlayed trace → WellKept (start_of trace).kept → IsDeclared trace }
 {}

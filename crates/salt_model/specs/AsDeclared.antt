@@ -8,12 +8,13 @@ use Rattle.salt_model.specs.Everywhere.{Each}
 use Rattle.salt_model.specs.Kept.{block_of_kind}
 use Rattle.salt_model.specs.Trace.{Trace, line_of}
 use Rattle.salt_model.specs.Units.{Standing, Waiting, done_of, kind_of, line_begun, line_waited, standing}
-use Rattle.salt_model.specs.declared.events.Event.TheVariants.{Did}
+use Rattle.salt_model.specs.declared.events.End.TheVariants.{Committed}
+use Rattle.salt_model.specs.declared.events.Event.TheVariants.{Did, Ended}
 use Rattle.salt_model.specs.declared.events.Event.{Event}
 use Rattle.salt_model.specs.declared.events.UnitKind.TheVariants.{Acid}
 use Rattle.salt_model.specs.declared.events.UnitKind.{UnitKind}
 use Rattle.salt_values.specs.declared.id.Id.{Id}
-use Rattle.std.specs.Prelude.{List, None, Option, Some, [], length, slice_get, ℕ, ⊤, ◌≡◌}
+use Rattle.std.specs.Prelude.{List, None, Option, Some, [], length, slice_get, ℕ, ⊤, ◌∷◌, ◌≡◌}
 
 -- the block's statement behind those done
 abbrev pub IsNextOfBlock : Option (List Statement) → List Statement → Statement → Type 0
@@ -36,8 +37,26 @@ IsDeclaredBy trace u st None = ⊥
 IsDeclaredBy trace u st (Some (Acid s)) = IsOfLine s trace u (standing u trace) st × IsOnly trace u st (line_begun u trace)
 IsDeclaredBy trace u st (Some kind) = IsNextOfBlock (block_of_kind (kept trace) kind) (done_of u trace) st
 
+-- as many as the block has
+abbrev pub IsWholeBlock : Option (List Statement) → List Statement → Type 0
+IsWholeBlock None done = ⊥
+IsWholeBlock (Some block) done = length done ≡ length block
+
+-- where the unit began with a statement's line, that statement
+abbrev pub IsOnlyDone : List Statement → Line → Type 0
+IsOnlyDone done (Session s (Do only)) = done ≡ only ∷ []
+IsOnlyDone done line = ⊤
+
+-- nothing is left that the unit has to do
+abbrev pub HasDoneAll : Trace → Id → Option UnitKind → Type 0
+HasDoneAll trace u None = ⊥
+HasDoneAll trace u (Some (Acid s)) = IsOnlyDone (done_of u trace) (line_begun u trace)
+HasDoneAll trace u (Some kind) = IsWholeBlock (block_of_kind (kept trace) kind) (done_of u trace)
+
+-- a unit does what is declared, and commits when it has done all of it
 abbrev pub DoesDeclared : Trace → Event → Type 0
 DoesDeclared trace (Did u st answer) = IsDeclaredBy trace u st (kind_of u trace)
+DoesDeclared trace (Ended u (Committed n)) = HasDoneAll trace u (kind_of u trace)
 DoesDeclared trace e = ⊤
 
 abbrev pub IsDeclared : Trace → Type 0

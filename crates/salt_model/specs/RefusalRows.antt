@@ -12,13 +12,15 @@ use Rattle.salt_ast.specs.declared.trees.Op.TheVariants as op
 use Rattle.salt_ast.specs.declared.trees.Statement.TheVariants as statement
 use Rattle.salt_ast.specs.declared.trees.Statement.{Statement}
 use Rattle.salt_ast.specs.declared.trees.What.TheVariants as what
+use Rattle.salt_model.specs.AsDeclared.{DoesDeclared}
 use Rattle.salt_model.specs.Computing.{computing}
 use Rattle.salt_model.specs.Trace.{Trace, Tree, Rejected, from, ◌asks◌, ◌says◌}
 use Rattle.salt_model.specs.Segments.{May}
 use Rattle.salt_model.specs.Refusals.{refusal}
-use Rattle.salt_model.specs.Scripts.{accounts, all_rows, at, bal_at, base, begin, call_transfer, commit, go, insert_acct, insert_into, int, unit}
+use Rattle.salt_model.specs.Scripts.{accounts, all_rows, at, bal_at, base, begin, call_transfer, commit, go, insert_acct, insert_into, int, raise_all, unit}
 use Rattle.salt_model.specs.Kept.{nothing_kept}
 use Rattle.salt_model.specs.Walk.{completed, opened, printed, printed_of, walk, walk_on}
+use Rattle.salt_model.specs.declared.events.Answer.TheVariants as answer
 use Rattle.salt_model.specs.declared.events.End.TheVariants as end
 use Rattle.salt_model.specs.declared.events.Event.TheVariants as event
 use Rattle.salt_model.specs.declared.events.Owner.TheVariants as owner
@@ -142,3 +144,26 @@ commits_next = refl
 too_high : May committing (event.Ended (unit 3) (end.Committed 6)) → ⊥
 unfolding computing
 too_high h = cc
+
+-- a unit that a statement's line began does another statement
+abbrev reading : Trace
+reading = completed 1 (walk accounts asks Tree (at 1 (bal_at 1)))
+
+reads_next : DoesDeclared reading (event.Did (unit 3) (bal_at 1) (answer.Count 1))
+unfolding computing
+reads_next = (refl, (refl, refl))
+
+differ : raise_all ≡ bal_at 1 → ⊥
+differ e = cc
+
+other_statement : DoesDeclared reading (event.Did (unit 3) raise_all (answer.Count 1)) → ⊥
+unfolding computing
+other_statement h = differ h.1.0
+
+-- a part commits, and its statement is not done
+abbrev calling : Trace
+calling = completed 1 (walk accounts asks Tree (call_transfer 1 1 2 30))
+
+left_undone : DoesDeclared calling (event.Ended (unit 3) (end.Committed 5)) → ⊥
+unfolding computing
+left_undone h = cc
