@@ -8,10 +8,10 @@ use Rattle.salt_ast.specs.declared.programs.Body.{Body}
 use Rattle.salt_ast.specs.declared.trees.Statement.{Statement}
 use Rattle.salt_laws.proofs.Coming.{neither, none-then_some}
 use Rattle.salt_laws.proofs.Defined.{IsKeptProgram}
-use Rattle.salt_laws.proofs.Fresh.{IfComes, comes-map, comes-option_or, comes-then_some, or_left, standing-other}
+use Rattle.salt_laws.proofs.Fresh.{IfComes, comes-map, comes-option_or, comes-then_some, or_left, or_right, standing-other}
 use Rattle.salt_laws.proofs.Ids.{is_same_id-refl, is_same_id-true}
 use Rattle.salt_laws.proofs.Lists.{In, either, in-cases, in-filter, in-without}
-use Rattle.salt_laws.proofs.NextFits.{Drains, Fits, IsOwn, comes-map-at, comes-then_some-at, find-in, first-in}
+use Rattle.salt_laws.proofs.NextFits.{Drains, Fits, IsOwn, comes-map-at, comes-then_some-at, find-in, opened-in}
 use Rattle.salt_laws.proofs.Replays.{open-other}
 use Rattle.salt_laws.proofs.Sound.{Sound, none-open, not-fresh, open-named}
 use Rattle.salt_laws.specs.Names.{is_unit_of}
@@ -144,10 +144,6 @@ asked-turn trace u h = comes-map-at (IsAsked trace) _ (asked_by u trace) (λ st 
 asked-other : (trace : Trace) (u : Id) → ((s : ℕ) → IsOfAcid trace u s → ⊥) → IfComes (IsAsked trace) (turn trace u)
 asked-other trace u n = asked-turn trace u (λ st e. ((λ s k. absurd (n s k)), (λ s k. absurd (n s k))))
 
--- the first of the open units with a test is open, and passes it
-opened-in : (trace : Trace) (p : Id → Bool) (u : Id) → first_of_list (filter p (open_units trace)) ≡ Some u → (is_open trace u ≡ true) × (p u ≡ true)
-opened-in trace p u h = let r = in-filter p u (open_units trace) (first-in u _ h) in ((in-filter (is_open trace) u (units_begun trace) r.0).1, r.1)
-
 program-not-acid : (o : Option UnitKind) (b : Id) → elim (option_and_then program_of_kind o) [ None ↦ false | Some c ↦ is_same_id b c ] ≡ true → (s : ℕ) → o ≡ Some (Acid s) → ⊥
 program-not-acid o b h s k = let g : false ≡ true = subst (λ o. elim (option_and_then program_of_kind o) [ None ↦ false | Some c ↦ is_same_id b c ] ≡ true) k h in cc
 
@@ -173,10 +169,6 @@ called-not-acid trace u h s k = go (kind_of u trace) h k
     go (Some (First x b n args)) h k = cc
     go (Some (Later b part)) h k = cc
 
-or-neither : (p q : Bool) → (p || q) ≡ false → (p ≡ false) × (q ≡ false)
-or-neither false q h = (refl, h)
-or-neither true q h = cc
-
 not-false : (b : Bool) → not b ≡ false → b ≡ true
 not-false true h = refl
 not-false false h = cc
@@ -191,7 +183,7 @@ asked-act trace s (Do first) (Some u) h p l n e w = asked-turn trace u (λ st a.
     opened = opened-in trace (is_of_session s trace) u e
 
     runs : is_waiting trace u ≡ false
-    runs = (or-neither (is_waiting trace u) _ w).0
+    runs = or_left (is_waiting trace u) _ w
 
     not-single : (t : ℕ) → IsOfAcid trace u t → IsSingle trace u → ⊥
     not-single t k i = either (λ v. let x = v.0 in let y = runs in cc) (λ v. absurd (subst (IsOwn u) n v)) ((h p u opened.0 t k).single i)
@@ -208,7 +200,7 @@ asked-act trace s (Call name args) o h p l n e w = comes-map-at (IsAsked trace) 
     its (Acid block) d = d
     its (Base parts) d = d
 asked-act trace s Step None h p l n e w = tt
-asked-act trace s Step (Some u) h p l n e w = asked-other trace u (called-not-acid trace u (not-false (is_called trace u) (or-neither (is_waiting trace u) _ w).1))
+asked-act trace s Step (Some u) h p l n e w = asked-other trace u (called-not-acid trace u (not-false (is_called trace u) (or_right (is_waiting trace u) _ w)))
 asked-act trace s Commit None h p l n e w = tt
 asked-act trace s Commit (Some u) h p l n e w = by (kind_of u trace) refl
   where
@@ -216,7 +208,7 @@ asked-act trace s Commit (Some u) h p l n e w = by (kind_of u trace) refl
     opened = opened-in trace (is_of_session s trace) u e
 
     right : (is_waiting trace u ≡ false) × (is_called trace u ≡ false)
-    right = or-neither (is_waiting trace u) _ w
+    right = (or_left (is_waiting trace u) _ w, or_right (is_waiting trace u) _ w)
 
     not-single : (t : ℕ) → IsOfAcid trace u t → IsSingle trace u → ⊥
     not-single t k i = either (λ v. let x = v.0 in let y = right.0 in cc) (λ v. absurd (subst (IsOwn u) n v)) ((h p u opened.0 t k).single i)

@@ -3,7 +3,7 @@ use Rattle.salt_ast.specs.declared.programs.Body.TheVariants.{Base}
 use Rattle.salt_ast.specs.declared.trees.Statement.{Statement}
 use Rattle.salt_laws.proofs.Ids.{and_left, and_right, is_same_id-true}
 use Rattle.salt_laws.proofs.Lists.{In, any-false, into-filter, into-filter_map, order-none}
-use Rattle.salt_laws.proofs.WholeLaw.{acid-family}
+use Rattle.salt_laws.proofs.WholeLaw.{acid-family, no-program}
 use Rattle.salt_model.specs.After.{reach_now}
 use Rattle.salt_model.specs.Eval.{known}
 use Rattle.salt_model.specs.Isolation.{is_open_or_committed, is_program_released, is_unreleased_part, touches_unreleased}
@@ -95,10 +95,6 @@ clash-none trace a r acid none t h = go (touches t.reach r && is_unreleased_part
 pub whole-did : (trace : Trace) (a : Id) (st : Statement) → is_acid trace a ≡ true → clashing trace a st ≡ [] → touches_unreleased trace (reach_now a trace st) ≡ false
 whole-did trace a st acid none = go (reach_now a trace st) none
   where
-    no-program : (p : Option Id) → is_none p ≡ true → p ≡ None
-    no-program None e = refl
-    no-program (Some b) e = cc
-
     go : (r : Option Reach) → owners_of (clash_locks trace a (kind_of a trace) r) ≡ [] → touches_unreleased trace r ≡ false
     go None n = refl
     go (Some r) n = any-false _ (taken_in trace) (clash-none trace a r (no-program (program_of a trace) acid) (subst (λ f. filter (clashes (Unit a) f r) (held trace) ≡ []) (acid-family (kind_of a trace) acid) (owners-none _ n)))

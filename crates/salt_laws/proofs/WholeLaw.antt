@@ -79,13 +79,13 @@ untouched-part trace u r t x k own h = by x h
     by (Over (Committed n)) g = held-on (option_and_then program_of_kind k) g
     by x g = and-false (touches r t.reach)
 
+pub no-program : (p : Option Id) → is_none p ≡ true → p ≡ None
+no-program None e = refl
+no-program (Some b) e = cc
+
 touches-whole : (trace : Trace) (u : Id) (st : Statement) (a : Answer) → Good trace (Did u st a) → TouchesWhole trace (Did u st a)
 touches-whole trace u st a g acid = by (reach_now u trace st) g.4
   where
-    no-program : (p : Option Id) → is_none p ≡ true → p ≡ None
-    no-program None e = refl
-    no-program (Some b) e = cc
-
     own : (t : Taken) → is_same_id u t.unit ≡ true → program_of t.unit trace ≡ None
     own t e = subst (λ v. program_of v trace ≡ None) (is_same_id-true u t.unit e) (no-program (program_of u trace) acid)
 

@@ -1,7 +1,7 @@
 -- The printed answers are those of one unit at a time, in the order of commits.
 use Rattle.std.specs.Option.{option_or}
 use Rattle.salt_model.specs.After.{run_of}
-use Rattle.salt_model.specs.Trace.{Trace, from, ◌asks◌, ◌says◌, ◌turns◌}
+use Rattle.salt_model.specs.Trace.{Trace}
 use Rattle.salt_model.specs.Units.{answers_of, is_open}
 use Rattle.salt_model.specs.Everywhere.{Always, Each}
 use Rattle.salt_model.specs.declared.events.Answer.{Answer}

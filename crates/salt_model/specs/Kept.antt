@@ -20,7 +20,8 @@ use Rattle.salt_values.specs.declared.id.Id.{Id}
 use Rattle.salt_values.specs.declared.value.Value.TheVariants.{Int, Text}
 use Rattle.salt_values.specs.declared.value.Value.{Value}
 use Rattle.std.specs.List.{filter_map}
-use Rattle.std.specs.Prelude.{IsSome, List, None, Option, Some, [], drop, if◌then◌else◌, length, map, option_and_then, option_map, pos, ℕ, ⊤, ◌++◌, ◌<◌, ◌∷◌, ◌≤◌}
+use Rattle.std.specs.Prelude.{IsSome, List, None, Option, Some, []}
+use Rattle.std.specs.Prelude.{drop, if◌then◌else◌, length, map, option_and_then, option_map, pos, ℕ, ⊤, ◌++◌, ◌<◌, ◌∷◌, ◌≤◌}
 
 -- a definition, as the line that made it
 pub data Definition : Type 0 where

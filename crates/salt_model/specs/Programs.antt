@@ -5,7 +5,7 @@ use Rattle.salt_model.specs.Words.{in_order, without}
 use Rattle.salt_model.specs.declared.events.Event.TheVariants.{Accepted, Began, Finished, Ready, Released}
 use Rattle.salt_values.specs.declared.id.Id.{Id}
 use Rattle.std.specs.List.{filter_map}
-use Rattle.std.specs.Prelude.{List, None, Option, Some, [], map, option_and_then, ◌++◌, ◌∷◌}
+use Rattle.std.specs.Prelude.{List, None, Some, [], map, option_and_then, ◌++◌, ◌∷◌}
 
 -- programs, in the order of their Accepted, Finished
 abbrev pub accepted_in : Trace → List Id
