@@ -1,7 +1,7 @@
 -- What comes next is asked for: a statement by the line or by its unit's block, a call's unit by a program that is kept.
 use Rattle.salt_ast.specs.declared.lines.Act.TheVariants.{Begin, Call, Commit, Do, Rollback, Step}
 use Rattle.salt_ast.specs.declared.lines.Act.{Act}
-use Rattle.salt_ast.specs.declared.lines.Line.TheVariants.{Go, Nothing, Session}
+use Rattle.salt_ast.specs.declared.lines.Line.TheVariants.{Go, Session}
 use Rattle.salt_ast.specs.declared.lines.Line.{Line}
 use Rattle.salt_ast.specs.declared.programs.Body.TheVariants.{Acid, Base}
 use Rattle.salt_ast.specs.declared.programs.Body.{Body}
@@ -10,7 +10,7 @@ use Rattle.salt_laws.proofs.Coming.{neither, none-then_some}
 use Rattle.salt_laws.proofs.Defined.{IsKeptProgram}
 use Rattle.salt_laws.proofs.Fresh.{IfComes, comes-map, comes-option_or, comes-then_some, or_left, or_right, standing-other}
 use Rattle.salt_laws.proofs.Ids.{is_same_id-refl, is_same_id-true}
-use Rattle.salt_laws.proofs.Lists.{In, either, in-cases, in-filter, in-without}
+use Rattle.salt_laws.proofs.Lists.{In, either, in-cases, in-without}
 use Rattle.salt_laws.proofs.NextFits.{Drains, Fits, IsOwn, comes-map-at, comes-then_some-at, find-in, opened-in}
 use Rattle.salt_laws.proofs.Replays.{open-other}
 use Rattle.salt_laws.proofs.Sound.{Sound, none-open, not-fresh, open-named}
@@ -20,22 +20,22 @@ use Rattle.salt_model.specs.AsDeclared.{IsOfLine, IsOnly, IsOnlyDone}
 use Rattle.salt_model.specs.Kept.{block_of_kind, cont_of, kept_program}
 use Rattle.salt_model.specs.Locks.{clashing}
 use Rattle.salt_model.specs.Next.{decision_in, is_decision, next, said_event, serving_event}
-use Rattle.salt_model.specs.Openings.{after_opened, cuts_or_drains, drains, follow_opening, opening_event, stands_now, to_cut}
+use Rattle.salt_model.specs.Openings.{after_opened, cuts_or_drains, drains, follow_opening, stands_now, to_cut}
 use Rattle.salt_model.specs.Phases.{Fallen, Opening, Phase, Serving, phase}
 use Rattle.salt_model.specs.Reads.{to_release}
 use Rattle.salt_model.specs.Refusals.{has_block, is_called, is_state_wrong, judged, refusal, refused_line, state_wrong}
 use Rattle.salt_model.specs.Segments.{May}
 use Rattle.salt_model.specs.Trace.{Asked, Rejected, Trace, Tree, from, line_asked, line_of, ◌asks◌, ◌says◌, ◌turns◌}
-use Rattle.salt_model.specs.Turns.{act_event, after_began, after_did, after_end, asks_for, commits, does, does_next, fails, finishes, follow, fresh_unit, go, goes_on, is_at_end, is_statement_line, kind_called, line_event, next_number, releases, settle, settle_by, turn, turn_of}
-use Rattle.salt_model.specs.Units.{Never, Over, Running, Standing, Waiting, done_of, is_of_program, is_of_session, is_open, is_open_standing, is_waiting, is_waiting_standing, kind_of, line_begun, line_waited, open_units, program_of_kind, program_unit, session_of_kind, session_unit, standing, units_begun, wait_list}
+use Rattle.salt_model.specs.Turns.{act_event, after_began, after_did, after_end, asks_for, commits, does_next, fails, finishes, follow, fresh_unit, go, goes_on, is_at_end, is_statement_line, kind_called, line_event, next_number, releases, settle, settle_by, turn}
+use Rattle.salt_model.specs.Units.{Never, Over, Running, Standing, Waiting, done_of, is_of_program, is_of_session, is_open, is_open_standing, is_waiting, is_waiting_standing, kind_of, line_begun, line_waited, open_units, program_of_kind, program_unit, session_of_kind, session_unit, standing, wait_list}
 use Rattle.salt_model.specs.Waiting.{asked_by, asking_line, block_of, clashing_now, is_acid, next_unblocked, statement_in, statement_of_line, victim}
-use Rattle.salt_model.specs.Words.{first_of_list, is_empty, without}
+use Rattle.salt_model.specs.Words.{is_empty, without}
 use Rattle.salt_model.specs.declared.events.Answer.TheVariants.{Failed}
 use Rattle.salt_model.specs.declared.events.Answer.{Answer}
 use Rattle.salt_model.specs.declared.events.Cause.{Cause}
-use Rattle.salt_model.specs.declared.events.End.TheVariants.{Branched, Committed, Victim}
+use Rattle.salt_model.specs.declared.events.End.TheVariants.{Branched, Committed}
 use Rattle.salt_model.specs.declared.events.End.{End}
-use Rattle.salt_model.specs.declared.events.Event.TheVariants.{Accepted, Began, Defined, Did, Down, Ended, Finished, Opened, Ready, Refused, Released, Waits}
+use Rattle.salt_model.specs.declared.events.Event.TheVariants.{Accepted, Began, Defined, Did, Down, Ended, Finished, Opened, Ready, Refused, Waits}
 use Rattle.salt_model.specs.declared.events.Event.{Event}
 use Rattle.salt_model.specs.declared.events.Owner.{Owner}
 use Rattle.salt_model.specs.declared.events.Refusal.TheVariants as refused
@@ -46,13 +46,11 @@ use Rattle.salt_model.specs.declared.events.Why.{Why}
 use Rattle.salt_values.specs.Id.{is_same_id}
 use Rattle.salt_values.specs.declared.cont.Cont.{Cont}
 use Rattle.salt_values.specs.declared.id.Id.{Id}
-use Rattle.salt_values.specs.declared.value.Value.{Value}
 use Rattle.std.proofs.Common.{ap, inl, inr, subst, sym, ◌∙◌}
 use Rattle.std.proofs.lemmas.Bool.{eqb-true}
 use Rattle.std.specs.Bool.{then_some}
-use Rattle.std.specs.List.{filter}
 use Rattle.std.specs.Option.{option_or}
-use Rattle.std.specs.Prelude.{Bool, List, None, Option, Some, [], cond, false, is_none, is_some, length, not, option_and_then, option_map, refl, true, ℕ, ⊤, ◌&&◌, ◌==◌, ◌||◌, ◌∷◌, ◌≡◌, ◌⊎◌}
+use Rattle.std.specs.Prelude.{Bool, List, None, Option, Some, [], cond, false, is_none, is_some, length, not, option_and_then, option_map, refl, true, ℕ, ⊤, ◌==◌, ◌∷◌, ◌≡◌, ◌⊎◌}
 
 -- the unit began with a statement's line
 abbrev pub IsSingle : Trace → Id → Type 0
@@ -289,11 +287,12 @@ single-next (trace says Did v st a) u s p k i own = subst (IsServed (trace says 
 
     ended : (t : ℕ) (only : Statement) → IsOfAcid trace v s → line_begun v trace ≡ Session t (Do only) → (answer : Answer) → (e : Event) × (after_did (trace says Did v st a) v answer ≡ Some e) × (is_unit_of v e ≡ true)
     ended t only k l (Failed c) = (fails (trace says Did v st a) v c (kind_of v trace), refl, fails-own c (kind_of v trace))
-    ended t only k l answer =
-        (commits (trace says Did v st a) v,
-        ap (λ b. then_some b (commits (trace says Did v st a) v))
-        (subst (λ o. is_at_end (trace says Did v st a) v (option_and_then (block_of_kind (kept trace)) o) ≡ true) (sym k) (ap is_statement_line l)),
-        is_same_id-refl v)
+    ended t only k l answer = (
+      commits (trace says Did v st a) v,
+      ap (λ b. then_some b (commits (trace says Did v st a) v))
+          (subst (λ o. is_at_end (trace says Did v st a) v (option_and_then (block_of_kind (kept trace)) o) ≡ true) (sym k) (ap is_statement_line l)),
+      is_same_id-refl v,
+    )
 
     at-own : IsServed (trace says Did v st a) s v
     at-own k i =
@@ -388,10 +387,13 @@ asked-first trace u kind g = asked-turn (trace says Began u kind) u (λ st a. ((
         let none : done_of u (trace says Began u kind) ≡ [] = rw (is_same_id-refl u) refl in
         let by = do-line (line_of trace) st (subst (λ x. statement_of_line (asking_line u (trace says Began u kind) x) ≡ Some st) runs asked) in
         let same : by.0 ≡ s = subst (λ x. IsAsked trace (Began u x)) acid g by.0 st by.1 in
-        let line : line_of trace ≡ Session s (Do st) = subst (λ t. line_of trace ≡ Session t (Do st)) same by.1 in
-        ((subst (λ x. IsOfLine s (trace says Began u kind) u x st) (sym runs) line,
-        only-some (trace says Began u kind) u st (line_begun u (trace says Began u kind)) none (λ t only e. (let f : Session s (Do st) ≡ Session t (Do only) = sym line ∙ sym begun ∙ e in cc))),
-        ((st, line), (λ i. (sym begun, none))))
+        let line : line_of trace ≡ Session s (Do st) = subst (λ t. line_of trace ≡ Session t (Do st)) same by.1 in (
+          (
+            subst (λ x. IsOfLine s (trace says Began u kind) u x st) (sym runs) line,
+            only-some (trace says Began u kind) u st (line_begun u (trace says Began u kind)) none (λ t only e. (let f : Session s (Do st) ≡ Session t (Do only) = sym line ∙ sym begun ∙ e in cc)),
+          ),
+          ((st, line), (λ i. (sym begun, none))),
+        )
 
 asked-began : (trace : Trace) (u : Id) (kind : UnitKind) (line : Line) → IsAsked trace (Began u kind) → IfComes (IsAsked (trace says Began u kind)) (after_began (trace says Began u kind) u line)
 asked-began trace u kind (Session t Begin) g = tt

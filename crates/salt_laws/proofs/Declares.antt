@@ -1,27 +1,24 @@
 -- Each statement done is the declared one, for all played traces.
-use Rattle.salt_ast.specs.declared.programs.ProgramDef.{ProgramDef}
 use Rattle.salt_ast.specs.declared.trees.Statement.{Statement}
 use Rattle.salt_laws.proofs.Asking.{AllDone, AllWait, Flying, IsAsked, IsFromLine, IsOfAcid, IsSingle, Sessions, all-wait, asked-asks, asked-go, asked-opened, asked-said, flying-down, flying-next, said_at_end, sessions-asks, sessions-says, sessions-turns, single-next}
 use Rattle.salt_laws.proofs.Defined.{AreDefined, IsKeptProgram, defined-kept, program-stays}
 use Rattle.salt_laws.proofs.Fresh.{IfComes}
-use Rattle.salt_laws.proofs.Ids.{is_same_id-refl, is_same_id-true}
+use Rattle.salt_laws.proofs.Ids.{is_same_id-refl}
 use Rattle.salt_laws.proofs.Lists.{In, either}
 use Rattle.salt_laws.proofs.NextFits.{Fits, IsOwn}
 use Rattle.salt_laws.proofs.Salted.{OfBoots, holds, may-fit}
-use Rattle.salt_laws.proofs.Sound.{IsBegan, Sound, bases_in, conts-kept, due-in, of-program, open-back}
-use Rattle.salt_model.specs.After.{branched, kept}
+use Rattle.salt_laws.proofs.Sound.{Sound, bases_in, conts-kept, due-in, of-program, open-back}
+use Rattle.salt_model.specs.After.{kept}
 use Rattle.salt_model.specs.AsDeclared.{DoesDeclared, HasDoneAll, IsDeclared, IsDeclaredBy, IsNextOfBlock, IsWholeBlock}
-use Rattle.salt_model.specs.Kept.{Kept, block_of_call, block_of_kind, block_of_part, cont_in, cont_of, kept_program}
+use Rattle.salt_model.specs.Kept.{Kept, block_of_call, block_of_kind, block_of_part, cont_in, kept_program}
 use Rattle.salt_model.specs.Next.{flight, next}
 use Rattle.salt_model.specs.Phases.{Serving, phase}
 use Rattle.salt_model.specs.Played.{IsPlayed}
 use Rattle.salt_model.specs.Segments.{May}
-use Rattle.salt_model.specs.Trace.{Asked, Trace, from, start_of, ◌asks◌, ◌says◌, ◌turns◌}
-use Rattle.salt_model.specs.Units.{Over, Running, done_of, is_of_program, is_open, is_open_standing, kind_of, program_of, program_of_kind, standing}
-use Rattle.salt_model.specs.Waiting.{asked_by, statement_in}
-use Rattle.salt_model.specs.Words.{Every}
-use Rattle.salt_model.specs.declared.events.End.TheVariants.{Branched, Committed}
-use Rattle.salt_model.specs.declared.events.End.{End}
+use Rattle.salt_model.specs.Trace.{Trace, from, start_of, ◌asks◌, ◌says◌, ◌turns◌}
+use Rattle.salt_model.specs.Units.{Over, Running, done_of, is_open, is_open_standing, kind_of, program_of, program_of_kind, standing}
+use Rattle.salt_model.specs.Waiting.{statement_in}
+use Rattle.salt_model.specs.declared.events.End.TheVariants.{Committed}
 use Rattle.salt_model.specs.declared.events.Event.TheVariants.{Began, Did, Down, Ended, Opened}
 use Rattle.salt_model.specs.declared.events.Event.{Event}
 use Rattle.salt_model.specs.declared.events.UnitKind.TheVariants.{Acid, Call, First, Later}
@@ -29,7 +26,7 @@ use Rattle.salt_model.specs.declared.events.UnitKind.{UnitKind}
 use Rattle.salt_values.specs.Id.{is_same_id}
 use Rattle.salt_values.specs.declared.cont.Cont.{Cont}
 use Rattle.salt_values.specs.declared.id.Id.{Id}
-use Rattle.std.proofs.Common.{ap, inl, inr, subst, sym, ◌∙◌}
+use Rattle.std.proofs.Common.{inl, inr, subst, sym, ◌∙◌}
 use Rattle.std.specs.Bool.{then_some}
 use Rattle.std.specs.Option.{option_or}
 use Rattle.std.specs.Prelude.{Bool, List, None, Option, Some, [], cond, false, is_some, length, map, option_and_then, option_map, refl, true, ℕ, ⊤, ◌∷◌, ◌≡◌}

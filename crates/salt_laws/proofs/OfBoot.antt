@@ -11,12 +11,12 @@ use Rattle.salt_model.specs.Continuing.{last_said}
 use Rattle.salt_model.specs.Decided.{CutsRight, IsLeftOpen, IsOfBoot, OwnAfter, TellsOwn, counts_flight}
 use Rattle.salt_model.specs.Kept.{cont_of}
 use Rattle.salt_model.specs.Next.{flight, is_decision, next, said_event}
-use Rattle.salt_model.specs.Openings.{cuts_or_drains, drains, follow_opening, opening_event, stands_now, to_cut}
+use Rattle.salt_model.specs.Openings.{cuts_or_drains, drains, follow_opening, stands_now, to_cut}
 use Rattle.salt_model.specs.Phases.{Fallen, Opening, Phase, Serving, phase}
 use Rattle.salt_model.specs.Played.{IsPlayed}
 use Rattle.salt_model.specs.Segments.{May}
 use Rattle.salt_model.specs.Trace.{Trace, from, ◌asks◌, ◌says◌, ◌turns◌}
-use Rattle.salt_model.specs.Turns.{after_did, after_end, commits, does, does_next, fails, finishes, is_at_end, next_number}
+use Rattle.salt_model.specs.Turns.{after_did, after_end, commits, does, does_next, fails, finishes, is_at_end}
 use Rattle.salt_model.specs.Units.{is_open, kind_of, open_units, units_begun}
 use Rattle.salt_model.specs.Waiting.{asked_by, block_of}
 use Rattle.salt_model.specs.Words.{first_of_list, in_order, insert_id, is_empty}

@@ -5,7 +5,6 @@ use Rattle.salt_laws.proofs.Ids.{and_left, and_right, is_same_id-true}
 use Rattle.salt_laws.proofs.Lists.{In, any-false, into-filter, into-filter_map, order-none}
 use Rattle.salt_laws.proofs.WholeLaw.{acid-family, no-program}
 use Rattle.salt_model.specs.After.{reach_now}
-use Rattle.salt_model.specs.Eval.{known}
 use Rattle.salt_model.specs.Isolation.{is_open_or_committed, is_program_released, is_unreleased_part, touches_unreleased}
 use Rattle.salt_model.specs.Locks.{Taken, as_held, base_owner, clash_locks, clashes, clashing, family_of, held, lock_by, lock_of, owners_of, saline_lock, taken_in, touches, unit_owner}
 use Rattle.salt_model.specs.Trace.{Trace}
@@ -26,7 +25,7 @@ use Rattle.salt_values.specs.Id.{is_same_id}
 use Rattle.salt_values.specs.declared.id.Id.{Id}
 use Rattle.std.proofs.Common.{subst}
 use Rattle.std.specs.List.{cons_option, filter, filter_map}
-use Rattle.std.specs.Prelude.{Bool, List, None, Option, Some, [], false, is_none, is_some, map, not, option_and_then, refl, true, ◌&&◌, ◌++◌, ◌∷◌, ◌≡◌}
+use Rattle.std.specs.Prelude.{Bool, List, None, Option, Some, [], false, map, not, option_and_then, refl, true, ◌&&◌, ◌++◌, ◌∷◌, ◌≡◌}
 
 append-none : {A : Type 0} (xs ys : List A) → xs ++ ys ≡ [] → (xs ≡ []) × (ys ≡ [])
 append-none [] ys h = (refl, h)
@@ -88,7 +87,7 @@ clash-none trace a r acid none t h = go (touches t.reach r && is_unreleased_part
         let touch : touches t.reach r ≡ true = and_left (touches t.reach r) _ e in
         let part : is_unreleased_part trace t ≡ true = and_right (touches t.reach r) _ e in
         let lock = holds-part trace a r t (standing t.unit trace) (kind_of t.unit trace) touch (λ s. subst (λ v. program_of v trace ≡ None) (is_same_id-true a t.unit s) acid)
-            (and_left (is_open_or_committed (standing t.unit trace)) _ part) (and_right (is_open_or_committed (standing t.unit trace)) _ part) in
+        (and_left (is_open_or_committed (standing t.unit trace)) _ part) (and_right (is_open_or_committed (standing t.unit trace)) _ part) in
         let held-there = into-filter_map (as_held trace) t lock.0 (taken_in trace) h lock.1 in
         absurd (subst (In lock.0) none (into-filter (clashes (Unit a) Family.Acid r) lock.0 (held trace) held-there lock.2))
 
