@@ -1,5 +1,5 @@
 -- Accepted programs are finished, or have a continuation: each is accounted for.
-use Rattle.salt_model.specs.Programs.{accepted_in, finished_in, program_begun}
+use Rattle.salt_model.specs.Programs.{accepted_in, finished_in}
 use Rattle.salt_values.specs.declared.value.Value.{Value}
 use Rattle.std.proofs.Common.{ap, inl, inr, subst, sym, ◌∙◌}
 use Rattle.std.specs.Prelude.{Bool, List, None, Option, Some, [], false, is_none, map, not, option_and_then, option_map, refl, true, ℕ, ◌&&◌, ◌∷◌, ◌≡◌, ◌⊎◌}
@@ -15,7 +15,7 @@ use Rattle.salt_model.specs.After.{branched, conts_at, kept, run_of}
 use Rattle.salt_model.specs.Continuing.{AcceptsDue, FinishesDue, GoesAlong, accepted_after, finished_after, if_ended, is_unfinished, last_said, program_continued}
 use Rattle.salt_model.specs.Kept.{begun_cont, branch_of, cont_of, kept_program, moved, then_of, values_kept}
 use Rattle.salt_model.specs.Trace.{Trace, from, start_of, ◌asks◌, ◌says◌, ◌turns◌}
-use Rattle.salt_model.specs.Units.{kind_of, program_of_kind}
+use Rattle.salt_model.specs.Units.{kind_of, program_begun, program_of_kind}
 use Rattle.salt_model.specs.Played.{IsPlayed}
 use Rattle.salt_model.specs.Words.{has_id}
 use Rattle.salt_model.specs.declared.events.End.TheVariants.{Branched, Committed}

@@ -329,7 +329,7 @@ pub neither : {A : Type 0} (o other : Option A) → option_or o other ≡ None �
 neither None other h = (refl, h)
 neither (Some x) other h = cc
 
-none-then_some : {A : Type 0} (b : Bool) (x : A) → then_some b x ≡ None → b ≡ false
+pub none-then_some : {A : Type 0} (b : Bool) (x : A) → then_some b x ≡ None → b ≡ false
 none-then_some true x h = cc
 none-then_some false x h = refl
 

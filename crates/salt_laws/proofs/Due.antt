@@ -14,13 +14,12 @@ use Rattle.salt_model.specs.After.{kept}
 use Rattle.salt_model.specs.Continuing.{AcceptsDue, FinishesDue, accepted_after, accepted_by, finished_after, finished_by, if_ended, last_said, part_due, program_continued}
 use Rattle.salt_model.specs.Kept.{cont_of}
 use Rattle.salt_model.specs.Trace.{Asked, Trace, Start, from, ◌asks◌, ◌says◌, ◌turns◌}
-use Rattle.salt_model.specs.Units.{kind_of}
+use Rattle.salt_model.specs.Units.{kind_of, program_begun}
 use Rattle.salt_model.specs.Next.{next, said_event}
 use Rattle.salt_model.specs.Phases.{Fallen, Opening, Phase, Serving, phase}
 use Rattle.salt_model.specs.Played.{IsPlayed}
 use Rattle.salt_model.specs.Segments.{May}
 use Rattle.salt_model.specs.Stops.{MayFall, is_at_devices, is_device_next}
-use Rattle.salt_model.specs.Programs.{program_begun}
 use Rattle.salt_model.specs.Turns.{after_end, finishes, settle}
 use Rattle.salt_model.specs.declared.events.End.TheVariants.{Branched, Committed}
 use Rattle.salt_model.specs.declared.events.Event.TheVariants.{Accepted, Down, Ended, Finished, Opened, Ready}

@@ -6,7 +6,7 @@ use Rattle.std.specs.Option.{option_or}
 use Rattle.salt_laws.proofs.Accounts.{accounts, goes-along}
 use Rattle.salt_laws.proofs.Due.{accepts-asks, accepts-due, accepts-turns, finishes-due}
 use Rattle.salt_laws.proofs.Ids.{and_left, is_same_id-true}
-use Rattle.salt_laws.proofs.Lists.{In, either, has-in, in-cases, in-filter_map, in-has, in-left, in-right, in-without, or_cases}
+use Rattle.salt_laws.proofs.Lists.{In, either, has-in, in-cases, in-filter_map, in-has, in-left, in-right, in-without, or_cases, or_left_true}
 use Rattle.salt_laws.proofs.NextFits.{Fits, IsAcceptance, is_first_of}
 use Rattle.salt_laws.proofs.Reading.{Salty, writer-in}
 use Rattle.salt_laws.proofs.Releasable.{MayGo, to_release-exact}
@@ -16,8 +16,8 @@ use Rattle.salt_model.specs.After.{reach_now}
 use Rattle.salt_model.specs.Continuing.{AcceptsDue, GoesAlong, accepted_after, accepted_by, is_unfinished, last_said}
 use Rattle.salt_model.specs.Isolation.{is_committed_standing}
 use Rattle.salt_model.specs.Trace.{Trace, from, start_of, ◌asks◌, ◌says◌, ◌turns◌}
-use Rattle.salt_model.specs.Programs.{accepted_in, finished_in, program_begun, released_in}
-use Rattle.salt_model.specs.Units.{Over, Running, Waiting, is_of_program, kind_of, program_of, program_of_kind, standing}
+use Rattle.salt_model.specs.Programs.{accepted_in, finished_in, released_in}
+use Rattle.salt_model.specs.Units.{Over, Running, Waiting, is_of_program, kind_of, program_begun, program_of, program_of_kind, standing}
 use Rattle.salt_model.specs.Played.{IsPlayed}
 use Rattle.salt_model.specs.Everywhere.{Each}
 use Rattle.salt_model.specs.Reads.{programs_among, read_directly, to_release, writers_in}
@@ -195,12 +195,8 @@ source-finished trace s b c n (through {c = x} i r) h = either (λ f. f) (λ d. 
 to-finished : (trace : Trace) → Sources trace → (b : Id) → (has_id b (released_in trace) ≡ false) × MayGo trace b → (has_id b (released_in trace) ≡ false) × IsReleasable trace b
 to-finished trace s b h = (h.0, λ c r. source-finished trace s b c h.0 r (h.1 c r))
 
-or-left-true : (p q : Bool) → p ≡ true → (p || q) ≡ true
-or-left-true true q h = refl
-or-left-true false q h = cc
-
 from-finished : (trace : Trace) (b : Id) → (has_id b (released_in trace) ≡ false) × IsReleasable trace b → (has_id b (released_in trace) ≡ false) × MayGo trace b
-from-finished trace b h = (h.0, λ c r. or-left-true (has_id c (finished_in trace)) (has_id c (released_in trace)) (h.1 c r))
+from-finished trace b h = (h.0, λ c r. or_left_true (has_id c (finished_in trace)) (has_id c (released_in trace)) (h.1 c r))
 
 named : (xs : List Id) (e : Event) → releases xs ≡ released_by e → xs ≡ released_names e
 named [] (Released bs) h = cc

@@ -18,7 +18,7 @@ pub or_right : (p q : Bool) → (p || q) ≡ false → q ≡ false
 or_right true q h = cc
 or_right false q h = h
 
-standing-other : (u : Id) (e : Event) (s : Standing) → is_unit_of u e ≡ false → standing_after u e s ≡ s
+pub standing-other : (u : Id) (e : Event) (s : Standing) → is_unit_of u e ≡ false → standing_after u e s ≡ s
 standing-other u (Began v kind) s h = rw h refl
 standing-other u (Did v st answer) s h = rw h refl
 standing-other u (Waits v owners) s h = rw h refl

@@ -1,4 +1,4 @@
--- No two held locks of different owners clash, an alkaline lock beside a saline one being no clash.
+-- No two held locks of different owners clash, where an alkaline lock may stand beside a saline one, and two saline ones beside each other.
 use Rattle.std.specs.Bool.{then_some}
 use Rattle.salt_ast.specs.declared.lines.Act.TheVariants.{Call}
 use Rattle.salt_ast.specs.declared.programs.Body.TheVariants.{Acid, Base}
@@ -10,6 +10,7 @@ use Rattle.salt_laws.proofs.Ids.{is_same_id-refl, is_same_id-sym, is_same_id-tru
 use Rattle.salt_laws.proofs.Opens.{Open}
 use Rattle.salt_laws.proofs.Replays.{Inv, any-left, good-event, replays}
 use Rattle.salt_model.specs.After.{branched, kept, reach_now}
+use Rattle.salt_model.specs.Everywhere.{Always}
 use Rattle.salt_model.specs.Kept.{Kept}
 use Rattle.salt_model.specs.Locks.{NoneConflict, Taken, as_held, conflict, family_of, held, may_not_stand_together, is_same_owner, lock_by, lock_of, reach_of, saline_lock, taken_by, taken_in, touches}
 use Rattle.salt_model.specs.Trace.{Trace, from, ◌asks◌, ◌says◌, ◌turns◌}
@@ -367,7 +368,7 @@ every-held {A} {B} P f (x ∷ xs) h = by (f x) h.0 (every-held P f xs h.1)
     by None p more = more
     by (Some y) p more = (p, more)
 
--- in a played trace no two held locks of different owners clash, saline beside alkaline being no clash
+-- at the end of a played trace no two held locks of different owners conflict
 pub none-conflict : (trace : Trace) → IsPlayed trace → NoneConflict (held trace)
 none-conflict trace p =
     every-held (λ l. Every (λ m. conflict l m ≡ false) (held trace)) (as_held trace) (taken_in trace)
@@ -380,3 +381,10 @@ none-conflict trace p =
     first : (t : Taken) (o : Option Lock) → Every (λ s. beside o (as_held trace s) ≡ true) (taken_in trace) → IfSome (λ l. Every (λ m. conflict l m ≡ false) (held trace)) o
     first t None h = tt
     first t (Some l) h = every-held (λ m. conflict l m ≡ false) (as_held trace) (taken_in trace) (every-map (λ s. beside (Some l) (as_held trace s) ≡ true) (λ s. IfSome (λ m. conflict l m ≡ false) (as_held trace s)) (λ s e. second l (as_held trace s) e) (taken_in trace) h)
+
+-- and so at every place
+pub none-conflict-always : (trace : Trace) → IsPlayed trace → Always (λ t. NoneConflict (held t)) trace
+none-conflict-always (from k) p = none-conflict (from k) p
+none-conflict-always (trace asks line) p = (none-conflict-always trace p.0, none-conflict (trace asks line) p)
+none-conflict-always (trace turns b) p = (none-conflict-always trace p.0, none-conflict (trace turns b) p)
+none-conflict-always (trace says e) p = (none-conflict-always trace p.0, none-conflict (trace says e) p)

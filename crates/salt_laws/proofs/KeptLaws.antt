@@ -2,9 +2,10 @@
 use Rattle.std.specs.Bool.{then_some}
 use Rattle.std.specs.Option.{option_or}
 use Rattle.salt_laws.proofs.NextFits.{Fits}
+use Rattle.salt_laws.proofs.OfBoot.{cuts-at, owns-at}
 use Rattle.salt_laws.proofs.Salted.{OfBoots, each, holds, may-fit}
 use Rattle.salt_model.specs.After.{kept}
-use Rattle.salt_model.specs.Decided.{CutsRight, IsKept, NumbersOn, OnlyAfter, OpensRight, TellsFlight, number_in}
+use Rattle.salt_model.specs.Decided.{CutsRight, IsKept, NumbersOn, OnlyAfter, OpensRight, TellsFlight, TellsOwn, number_in}
 use Rattle.salt_model.specs.Trace.{Trace, from, start_of, ◌asks◌, ◌says◌, ◌turns◌}
 use Rattle.salt_model.specs.Units.{open_units}
 use Rattle.salt_model.specs.Next.{flight, next}
@@ -40,10 +41,6 @@ opens-at trace (Opened boot n) m = go (phase trace) m
     go Opening h = absurd h
     go Serving h = absurd h
 opens-at trace e m = tt
-
-cuts-at : (trace : Trace) (e : Event) → Fits trace e → CutsRight trace e
-cuts-at trace (Ended u Cut) f = f.1
-cuts-at trace e f = tt
 
 cuts-number : (trace : Trace) (e : Event) (us : List Id) (cs : List Cont) → (kept trace).conts ≡ cs → cuts_or_drains trace us ≡ Some e → number_in e ≡ None
 cuts-number trace e (u ∷ us) cs k h = let g : Ended u Cut ≡ e = cc in ap number_in (sym g)
@@ -85,13 +82,16 @@ tells-at trace (Opened boot n) p m = opened trace p m
 tells-at trace e p m = tells-by trace e p m
 
 abbrev KeptLaws : Trace → Event → Type 0
-KeptLaws trace e = NumbersOn trace e × OpensRight trace e × TellsFlight trace e × CutsRight trace e
+KeptLaws trace e = NumbersOn trace e × OpensRight trace e × TellsFlight trace e × TellsOwn trace e × CutsRight trace e
 
 kept-laws : (trace : Trace) → IsPlayed trace → OfBoots (start_of trace).kept → Each KeptLaws trace
 kept-laws (from k) p w = tt
 kept-laws (trace asks line) p w = kept-laws trace p.0 w
 kept-laws (trace turns b) p w = kept-laws trace p.0 w
-kept-laws (trace says e) p w = let f = may-fit trace e (holds trace p.0 w).comes p.1 in (kept-laws trace p.0 w, (numbers-at trace e f, opens-at trace e p.1, tells-at trace e p.0 p.1, cuts-at trace e f))
+kept-laws (trace says e) p w =
+    let h = holds trace p.0 w in
+    let f = may-fit trace e h.comes p.1 in
+    (kept-laws trace p.0 w, (numbers-at trace e f, opens-at trace e p.1, tells-at trace e p.0 p.1, owns-at trace e p.0 p.1, cuts-at trace e h.sound f))
 
 pub kept-played : (trace : Trace) → IsPlayed trace → OfBoots (start_of trace).kept → IsKept trace
 kept-played trace p w =
@@ -100,5 +100,6 @@ kept-played trace p w =
       numbers = each KeptLaws NumbersOn (λ l e r. r.0) trace a;
       opens = each KeptLaws OpensRight (λ l e r. r.1) trace a;
       flight = each KeptLaws TellsFlight (λ l e r. r.2) trace a;
-      cuts = each KeptLaws CutsRight (λ l e r. r.3) trace a;
+      own = each KeptLaws TellsOwn (λ l e r. r.3) trace a;
+      cuts = each KeptLaws CutsRight (λ l e r. r.4) trace a;
     }

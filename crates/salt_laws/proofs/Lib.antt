@@ -20,7 +20,9 @@ pub mod Sound
 pub mod Reading
 pub mod Salted
 pub mod Releasable
+pub mod OfBoot
 pub mod KeptLaws
+pub mod Defined
 pub mod WellKept
 pub mod Due
 pub mod Accounts
@@ -32,3 +34,5 @@ pub mod Widening
 pub mod ReadSources
 pub mod LastWriters
 pub mod Victims
+pub mod Asking
+pub mod Declares

@@ -15,6 +15,10 @@ pub or_cases : (p q : Bool) → (p || q) ≡ true → (p ≡ true) ⊎ (q ≡ tr
 or_cases true q h = inl refl
 or_cases false q h = inr h
 
+pub or_left_true : (p q : Bool) → p ≡ true → (p || q) ≡ true
+or_left_true true q h = refl
+or_left_true false q h = cc
+
 pub or_right_true : (p q : Bool) → q ≡ true → (p || q) ≡ true
 or_right_true true q h = refl
 or_right_true false q h = h

@@ -86,11 +86,11 @@ wait-open (trace says Ended v end) u h = let r = in-without u (v ∷ []) (wait_l
 wait-open (trace says e) u h = wait-open trace u h
 
 -- a fact of what comes
-comes-map-at : {A : Type 0} (P : Event → Type 0) (f : A → Event) (o : Option A) → ((a : A) → o ≡ Some a → P (f a)) → IfComes P (option_map f o)
+pub comes-map-at : {A : Type 0} (P : Event → Type 0) (f : A → Event) (o : Option A) → ((a : A) → o ≡ Some a → P (f a)) → IfComes P (option_map f o)
 comes-map-at P f None h = tt
 comes-map-at P f (Some a) h = h a refl
 
-comes-then_some-at : (P : Event → Type 0) (b : Bool) (e : Event) → (b ≡ true → P e) → IfComes P (then_some b e)
+pub comes-then_some-at : (P : Event → Type 0) (b : Bool) (e : Event) → (b ≡ true → P e) → IfComes P (then_some b e)
 comes-then_some-at P true e h = h refl
 comes-then_some-at P false e h = tt
 
@@ -161,6 +161,10 @@ Fits trace e = ⊤
 is-serving : (p : Phase) → p ≡ Serving → (p ≡ Fallen → ⊥) × (p ≡ Opening → ⊥)
 is-serving p s = ((λ f. cc), (λ o. cc))
 
+-- the first of the open units with a test is open, and passes it
+pub opened-in : (trace : Trace) (p : Id → Bool) (u : Id) → first_of_list (filter p (open_units trace)) ≡ Some u → (is_open trace u ≡ true) × (p u ≡ true)
+opened-in trace p u h = let r = in-filter p u (open_units trace) (first-in u _ h) in ((in-filter (is_open trace) u (units_begun trace) r.0).1, r.1)
+
 module _ (trace : Trace) (serving : phase trace ≡ Serving) where
   abbrev P : Event → Type 0
   P = Fits trace
@@ -196,14 +200,11 @@ module _ (trace : Trace) (serving : phase trace ≡ Serving) where
   fits-goes_on b (Some u) e h = fits-turn u (h u refl)
   fits-goes_on b None e h = comes-map-at P _ (cont_of b (kept trace)) (λ c g. (refl, not-fallen, (e, ap (option_map (λ c. c.next)) g, (λ o. absurd ((is-serving (phase trace) serving).1 o)))))
 
-  opened-in : (p : Id → Bool) (u : Id) → first_of_list (filter p (open_units trace)) ≡ Some u → (is_open trace u ≡ true) × (p u ≡ true)
-  opened-in p u h = let r = in-filter p u (open_units trace) (first-in u _ h) in ((in-filter (is_open trace) u (units_begun trace) r.0).1, r.1)
-
   fits-go : (b : Id) → IfComes P (go trace b)
-  fits-go b = fits-goes_on b (program_unit b trace) refl (λ u e. (opened-in (is_of_program b trace) u e).0)
+  fits-go b = fits-goes_on b (program_unit b trace) refl (λ u e. (opened-in trace (is_of_program b trace) u e).0)
 
   fits-line : (line : Line) → IfComes P (line_event trace line)
-  fits-line (Session s act) = fits-act s act (session_unit s trace) (λ u e. (opened-in (is_of_session s trace) u e).0)
+  fits-line (Session s act) = fits-act s act (session_unit s trace) (λ u e. (opened-in trace (is_of_session s trace) u e).0)
   fits-line (Go b) = fits-go b
   fits-line (Table d) = refl
   fits-line (Program d) = refl

@@ -4,14 +4,14 @@ use Rattle.std.specs.Option.{option_or}
 use Rattle.salt_ast.specs.declared.trees.Statement.{Statement}
 use Rattle.salt_laws.proofs.Fresh.{or_left, or_right}
 use Rattle.salt_laws.proofs.Ids.{and_left, and_right, is_same_id-refl, is_same_id-true, same_sym}
-use Rattle.salt_laws.proofs.Lists.{In, PassesSelf, all-in, either, has-in, in-cases, in-filter, in-filter_map, in-has, in-left, in-map, in-right, in-without, into-filter, into-filter_map, or_cases, shrink-ends}
+use Rattle.salt_laws.proofs.Lists.{In, PassesSelf, all-in, either, has-in, in-cases, in-filter, in-filter_map, in-has, in-left, in-map, in-right, in-without, into-filter, into-filter_map, or_cases, or_right_true, shrink-ends}
 use Rattle.salt_laws.proofs.NextFits.{Fits}
 use Rattle.salt_laws.proofs.Places.{meet-common}
 use Rattle.salt_laws.proofs.Reached.{Covers, covers-change}
 use Rattle.salt_laws.proofs.Sound.{Sound, committed-named, kind-some, kind-stays, not-fresh, of-program}
 use Rattle.salt_laws.proofs.Unreleased.{whole-did}
 use Rattle.salt_model.specs.After.{changes_now, kept, reach_now, run_of}
-use Rattle.salt_model.specs.Isolation.{is_committed_standing, is_program_released, is_unreleased_part, read_by, touches_unreleased}
+use Rattle.salt_model.specs.Isolation.{is_committed_standing, is_open_or_committed, is_program_released, is_unreleased_part, read_by, touches_unreleased}
 use Rattle.salt_model.specs.Kept.{schema_of}
 use Rattle.salt_model.specs.Locks.{Taken, is_read, taken_by, taken_in, touches}
 use Rattle.salt_model.specs.Trace.{Trace, from, ◌asks◌, ◌says◌, ◌turns◌}
@@ -160,7 +160,7 @@ reached-released trace r w none c h =
     let range : meets t.reach.range r.range ≡ true = meet-common t.reach.range r.range w.key x.3 (and_right (r.table == w.table) _ h) in
     let touch : touches t.reach r ≡ true = rw (table, range, x.1) refl in
     let part : is_unreleased_part trace t ≡ false = its (touches t.reach r) (is_unreleased_part trace t) touch (any-not _ t (taken_in trace) none c.taken.1) in
-    left (is_program_released trace (program_of w.unit trace)) (its (is_committed_standing (standing w.unit trace)) _ c.committed (subst (λ v. (is_committed_standing (standing v trace) && not (is_program_released trace (program_of v trace))) ≡ false) x.0 part))
+    left (is_program_released trace (program_of w.unit trace)) (its (is_open_or_committed (standing w.unit trace)) _ (or_right_true (is_open_standing (standing w.unit trace)) _ c.committed) (subst (λ v. (is_open_or_committed (standing v trace) && not (is_program_released trace (program_of v trace))) ≡ false) x.0 part))
   where
     its : (p q : Bool) → p ≡ true → (p && q) ≡ false → q ≡ false
     its true q e g = g
@@ -226,7 +226,7 @@ reads-step trace (Did x st a) s z f u v h = go (is_same_id u x) refl h
     new e i = subst (λ y. Read (trace says Did x st a) y v) (sym (is_same_id-true u x e)) (record {
       reader_known = s.known x f.0;
       writer_known = writers-known trace (reach_now x trace st) v z i;
-      fits = did-reads trace x st a v (program_of x trace) (program_of v trace) z refl refl (λ g. writers-released trace (reach_now x trace st) v z (whole-did trace x st (s.known x f.0) (ap is_none g) (f.2 (ap is_none g))) i) i;
+      fits = did-reads trace x st a v (program_of x trace) (program_of v trace) z refl refl (λ g. writers-released trace (reach_now x trace st) v z (whole-did trace x st (ap is_none g) (f.2 (ap is_none g))) i) i;
     })
 
     go : (b : Bool) → is_same_id u x ≡ b → In v (cond b (writers_in trace (reach_now x trace st) ++ read_by u trace) (read_by u trace)) → Read (trace says Did x st a) u v

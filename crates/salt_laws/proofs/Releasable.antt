@@ -1,5 +1,6 @@
 -- The pruned list of the programs to release is that of the releasable ones.
-use Rattle.salt_laws.proofs.Lists.{In, PassesSelf, all-in, either, has-in, in-has, in-order, in-shrink, in-without, into-all, into-filter, into-order, into-shrink, or_cases, or_right_true, shrink-ends}
+use Rattle.salt_laws.proofs.Lists.{In, PassesSelf, all-in, either, has-in, in-has, in-order, in-shrink, in-without, into-all, into-filter, into-order, into-shrink, or_cases, or_left_true, or_right_true, shrink-ends}
+use Rattle.salt_laws.proofs.Ids.{is_same_id-true}
 use Rattle.salt_laws.proofs.Sound.{to_release-finished}
 use Rattle.salt_model.specs.Trace.{Trace}
 use Rattle.salt_model.specs.Programs.{finished_in, released_in}
@@ -33,12 +34,8 @@ module _ (trace : Trace) where
   out-through b c closed itself o = o
   out-through b c closed (through {c = x} h r) o = out-through x c closed r (out-next b x closed o (has-in x _ h))
 
-  or-first : (p q : Bool) → p ≡ true → (p || q) ≡ true
-  or-first true q h = refl
-  or-first false q h = cc
-
   out-done : (c : Id) → Out c → (has_id c (finished_in trace) || has_id c (released_in trace)) ≡ true
-  out-done c (inl i) = or-first (has_id c (finished_in trace)) _ (in-has c _ (to_release-finished trace c i))
+  out-done c (inl i) = or_left_true (has_id c (finished_in trace)) _ (in-has c _ (to_release-finished trace c i))
   out-done c (inr r) = or_right_true (has_id c (finished_in trace)) _ (in-has c _ r)
 
   abbrev Due : Id → Type 0
@@ -52,7 +49,7 @@ module _ (trace : Trace) where
     where
       go : (c : Id) (t : Bool) → has_id c (released_in trace) ≡ t → MayGo trace c → (has_id c xs || has_id c (released_in trace)) ≡ true
       go c true e r = or_right_true (has_id c xs) _ e
-      go c false e r = or-first (has_id c xs) _ (in-has c xs (all c (e, r)))
+      go c false e r = or_left_true (has_id c xs) _ (in-has c xs (all c (e, r)))
 
   not-in : (b : Id) → In b (to_release trace) → has_id b (released_in trace) ≡ false
   not-in b i = (in-without b (released_in trace) (finished_in trace) (in-order b _ (in-shrink (reads_within trace) _ b start i))).1

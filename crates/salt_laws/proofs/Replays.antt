@@ -9,6 +9,7 @@ use Rattle.salt_laws.proofs.Apart.{IsTaken, no-touch-swap}
 use Rattle.salt_laws.proofs.Coming.{Good, good-asked, good-cuts, good-opening, good-serving, good-turned, nothing, some-option_or, some-then_some}
 use Rattle.salt_laws.proofs.Every.{IfSome, every-append, every-map}
 use Rattle.salt_laws.proofs.Ids.{is_same_id-refl, is_same_id-sym, is_same_id-true}
+use Rattle.salt_laws.proofs.Lists.{or_right_true}
 use Rattle.salt_laws.proofs.Opens.{Closes, Open, Sole, failing, is_cut, is_ended, lasts}
 use Rattle.salt_laws.proofs.Places.{both_true}
 use Rattle.salt_laws.proofs.Runs.{NoTouch, Untouched, on_tables, run-beside}
@@ -368,10 +369,6 @@ some-stands : (P : Event → Type 0) (trace : Trace) (n : ℕ) (o : Option Event
 some-stands P trace n None h = tt
 some-stands P trace n (Some e) h = some-then_some P (n == next_number trace) e h
 
-or-last : (b : Bool) → (b || true) ≡ true
-or-last true = refl
-or-last false = refl
-
 close-cuts : (trace : Trace) (u : Id) → Ground trace → Open trace u → IfSome (Closes u) (cuts_or_drains trace (to_cut trace))
 close-cuts trace u base o = by (to_cut trace)
   where
@@ -380,7 +377,7 @@ close-cuts trace u base o = by (to_cut trace)
     shut true e = absurd (not-open trace u (nothing (open_units trace) e) (base.each u o).begun o)
 
     by : (us : List Id) → IfSome (Closes u) (cuts_or_drains trace us)
-    by (v ∷ us) = or-last (is_same_id u v)
+    by (v ∷ us) = or_right_true (is_same_id u v) true refl
     by [] = shut (is_empty (open_units trace)) refl
 
 coming-said : (trace : Trace) (e : Event) → Ground (trace says e) → (lasts e ≡ false ⊎ (phase (trace says e) ≡ Serving → ⊥)) → (p : Phase) → phase (trace says e) ≡ p → IfSome (Good (trace says e)) (said_event p (trace says e) e)

@@ -41,7 +41,7 @@ rise-more n c e (x ∷ cs) h =
     let k : c.accepted ≡ n + 1 = e in
     (every-append (After x) cs (c ∷ []) h.0 (omega arith, tt), omega arith, rise-more n c e cs h.2)
 
-every-without : (P : Cont → Type 0) (b : Id) (cs : List Cont) → Every P cs → Every P (without_cont b cs)
+pub every-without : (P : Cont → Type 0) (b : Id) (cs : List Cont) → Every P cs → Every P (without_cont b cs)
 every-without P b [] h = tt
 every-without P b (c ∷ cs) h = by (is_same_id b c.base) (every-without P b cs h.1)
   where

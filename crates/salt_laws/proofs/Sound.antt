@@ -178,12 +178,12 @@ pub kind-stays : (trace : Trace) (e : Event) (u : Id) → Sound trace → Fits t
 kind-stays trace (Began v kind) u s f h = let n : is_same_id u v ≡ false = subst (λ x. is_same_id u x ≡ false) (sym f.0) (not-fresh trace u s f.1 (kind-named trace u h)) in rw n refl
 kind-stays trace e u s f h = refl
 
-abbrev IsBegan : Id → Event → Type 0
+abbrev pub IsBegan : Id → Event → Type 0
 IsBegan v (Began u kind) = is_same_id v u ≡ true
 IsBegan v e = ⊥
 
 -- a unit that is open after an event was open before, or has begun
-open-back : (trace : Trace) (e : Event) (v : Id) → Fits trace e → is_open (trace says e) v ≡ true → (is_open trace v ≡ true) ⊎ IsBegan v e
+pub open-back : (trace : Trace) (e : Event) (v : Id) → Fits trace e → is_open (trace says e) v ≡ true → (is_open trace v ≡ true) ⊎ IsBegan v e
 open-back trace (Began u kind) v f h = go (is_same_id v u) h
   where
     go : (b : Bool) → is_open_standing (cond b Running (standing v trace)) ≡ true → (is_open trace v ≡ true) ⊎ (b ≡ true)
@@ -453,7 +453,7 @@ one-step trace (Began x kind) s f b u v ou ov pu pv =
 one-step trace e s f b u v ou ov pu pv = s.one b u v (either (λ o. o) (λ i. absurd i) (open-back trace e u f ou)) (either (λ o. o) (λ i. absurd i) (open-back trace e v f ov)) pu pv
 
 -- at a Ready nothing is open
-none-open : (trace : Trace) → Sound trace → Fits trace Ready → (v : Id) → is_open trace v ≡ true → ⊥
+pub none-open : (trace : Trace) → Sound trace → Fits trace Ready → (v : Id) → is_open trace v ≡ true → ⊥
 none-open trace s f v o = either older goes (s.drained f.0 v o)
   where
     older : v.boot < (kept trace).boot → ⊥

@@ -1,4 +1,5 @@
 -- What is kept after a trace is as a start has to be.
+use Rattle.salt_laws.proofs.Defined.{defined-kept, defined-with}
 use Rattle.salt_laws.proofs.Fresh.{IfComes}
 use Rattle.salt_laws.proofs.Rising.{rises, rises-with}
 use Rattle.salt_laws.proofs.Lists.{In, either}
@@ -63,13 +64,17 @@ of-boots-flight trace p w = its (flight trace) h.flies
 well-kept : (trace : Trace) → IsPlayed trace → WellKept (start_of trace).kept → WellKept (kept trace)
 well-kept trace p k =
     let w : OfBoots (start_of trace).kept = of-start (start_of trace).kept k in
-    record { boots = base-each (kept trace).boot (kept trace).conts (of-boots trace p w); accepted = rises trace p w k.accepted }
+    record { boots = base-each (kept trace).boot (kept trace).conts (of-boots trace p w); accepted = rises trace p w k.accepted; defined = defined-kept trace k.defined }
 
 well-kept-flight : (trace : Trace) → IsPlayed trace → WellKept (start_of trace).kept → WellKept (kept_with trace (flight trace))
 well-kept-flight trace p k =
     let w : OfBoots (start_of trace).kept = of-start (start_of trace).kept k in
     let f = kept_with trace (flight trace) in
-    record { boots = base-each f.boot f.conts (of-boots-flight trace p w); accepted = rises-with trace (flight trace) (holds trace p w).flies (rises trace p w k.accepted) }
+    record {
+      boots = base-each f.boot f.conts (of-boots-flight trace p w);
+      accepted = rises-with trace (flight trace) (holds trace p w).flies (rises trace p w k.accepted);
+      defined = defined-with trace (flight trace) (defined-kept trace k.defined);
+    }
 
 pub kept-well : (trace : Trace) → IsPlayed trace → WellKept (start_of trace).kept → WellKept (kept trace) × WellKept (kept_with trace (flight trace))
 kept-well trace p k = (well-kept trace p k, well-kept-flight trace p k)

@@ -2,6 +2,7 @@
 use Rattle.salt_laws.proofs.Fresh.{or_left, or_right}
 use Rattle.salt_ast.specs.declared.trees.Statement.{Statement}
 use Rattle.salt_laws.proofs.Ids.{is_same_id-refl, is_same_id-true}
+use Rattle.salt_laws.proofs.Lists.{or_right_true}
 use Rattle.salt_laws.proofs.NextFits.{Fits}
 use Rattle.salt_laws.proofs.Opens.{Open}
 use Rattle.salt_laws.proofs.Replays.{Inv, did-run, good-event, open-other, others, quiet, replays}
@@ -36,10 +37,6 @@ use Rattle.std.specs.Prelude.{Bool, List, Some, [], cond, false, is_some, refl, 
 is_among_changes : Place → List Change → Bool
 is_among_changes p cs = list_any (λ c. is_eq (place_cmp p (changed_at c))) cs
 
-or-true : (b : Bool) → (b || true) ≡ true
-or-true true = refl
-or-true false = refl
-
 -- changes that are put over others change what either do
 put-changed : (p : Place) (cs : List Change) (ds : Edits) → is_changed p (put_changes cs ds) ≡ (is_among_changes p cs || is_changed p ds)
 unfolding is_among_changes
@@ -47,7 +44,7 @@ put-changed p [] ds = refl
 put-changed p (c ∷ cs) ds = put-changed p cs (put_change c ds) ∙ ap (λ o. is_among_changes p cs || is_some o) (find-put place_cmp place_total p (changed_at c) c.row ds.list) ∙ by (is_eq (place_cmp p (changed_at c)))
   where
     by : (b : Bool) → (is_among_changes p cs || is_some (cond b (Some c.row) (find place_cmp p ds.list))) ≡ ((b || is_among_changes p cs) || is_some (find place_cmp p ds.list))
-    by true = or-true (is_among_changes p cs)
+    by true = or_right_true (is_among_changes p cs) true refl
     by false = refl
 
 -- and the keys written by them are written by either

@@ -2,6 +2,7 @@
 //! run may tell; `WellKept` is what a start has to be, and the empty one is.
 
 ghost use Rattle.salt_model.specs.After.{kept};
+ghost use Rattle.salt_model.specs.AsDeclared.{IsDeclared};
 ghost use Rattle.salt_model.specs.Continuing.{IsContinued};
 ghost use Rattle.salt_model.specs.Decided.{IsKept};
 ghost use Rattle.salt_model.specs.Ends.{kept_with};
@@ -12,7 +13,7 @@ ghost use Rattle.salt_model.specs.Locks.{NoneConflict, held};
 ghost use Rattle.salt_model.specs.Trace.{Trace, start_of};
 ghost use Rattle.salt_model.specs.Next.{flight};
 ghost use Rattle.salt_model.specs.Played.{IsPlayed};
-ghost use Rattle.salt_model.specs.Everywhere.{Each};
+ghost use Rattle.salt_model.specs.Everywhere.{Always, Each};
 ghost use Rattle.salt_model.specs.Releasing.{ReleasesExactly};
 ghost use Rattle.salt_laws.specs.Cycles.{IsRightVictim};
 ghost use Rattle.salt_laws.specs.Rewordings.{SourcesAreReadThrough, WritersAreLast, WritesAtEnd};
@@ -24,14 +25,16 @@ pub fn played_is_honest()
     ensures { (trace : Trace) → IsPlayed trace → IsHonest trace }
 {}
 
-/// What an ACID unit touches of a BASE program's committed parts, it touches when the program is released.
+/// What an ACID unit touches of a BASE program's open and committed parts, it touches when the program is
+/// released.
 pub fn played_is_whole()
     ensures { (trace : Trace) → IsPlayed trace → IsWhole trace }
 {}
 
-/// No two held locks of different owners clash, but for an alkaline one beside a saline one.
+/// At every place, no two held locks of different owners overlap of which one writes, but for an alkaline
+/// lock beside a saline one, and two saline locks.
 pub fn held_locks_stand_together()
-    ensures { (trace : Trace) → IsPlayed trace → NoneConflict (held trace) }
+    ensures { (trace : Trace) → IsPlayed trace → Always (λ t. NoneConflict (held t)) trace }
 {}
 
 /// What an ACID unit reads comes, by any chain of readers, from no BASE program that is not released.
@@ -51,7 +54,8 @@ pub fn played_is_continued()
     ensures { (trace : Trace) → IsPlayed trace → WellKept (start_of trace).kept → IsContinued trace }
 {}
 
-/// Decisions are numbered one by one, through every stop, and an opening tells at most the one in flight.
+/// Decisions are numbered one by one, through every stop. Of units of earlier boots an opening tells the decision
+/// in flight, where it stands, and then their cuts in order of names.
 pub fn played_is_kept()
     ensures { (trace : Trace) → IsPlayed trace → WellKept (start_of trace).kept → IsKept trace }
 {}
@@ -81,4 +85,11 @@ pub fn victim_is_youngest_on_cycle()
 /// The units that are read from in a reach are those that wrote a key of it last.
 pub fn writers_are_last()
     ensures { (trace : Trace) → WritersAreLast trace }
+{}
+
+/// Each statement done is the declared one: the next of its program's block, as the program is kept, or what a
+/// line of its session asks. A unit that a statement's line began does that one and no other, and a unit commits
+/// when it has done all that is declared.
+pub fn played_is_declared()
+    ensures { (trace : Trace) → IsPlayed trace → WellKept (start_of trace).kept → IsDeclared trace }
 {}

@@ -2,11 +2,11 @@
 use Rattle.salt_values.specs.declared.cont.Cont.{Cont}
 use Rattle.std.specs.Bool.{then_some}
 use Rattle.salt_model.specs.Words.{Every, has_id}
-use Rattle.salt_model.specs.Programs.{accepted_in, finished_in, program_begun}
+use Rattle.salt_model.specs.Programs.{accepted_in, finished_in}
 use Rattle.salt_model.specs.After.{kept}
 use Rattle.salt_model.specs.Kept.{cont_of}
 use Rattle.salt_model.specs.Trace.{Trace, from, ◌asks◌, ◌says◌, ◌turns◌}
-use Rattle.salt_model.specs.Units.{kind_of, open_units}
+use Rattle.salt_model.specs.Units.{kind_of, open_units, program_begun}
 use Rattle.salt_model.specs.Phases.{Opening, Phase, phase}
 use Rattle.salt_model.specs.Everywhere.{Each}
 use Rattle.salt_model.specs.declared.events.End.TheVariants.{Branched, Committed, Victim}

@@ -1,16 +1,17 @@
--- Decision numbers, boots, and what a stop leaves.
+-- Decision numbers, boots, and what an opening tells of what a stop left.
 use Rattle.salt_model.specs.After.{kept}
-use Rattle.salt_model.specs.Trace.{Trace, ◌says◌}
+use Rattle.salt_model.specs.Trace.{Trace, from, ◌asks◌, ◌says◌, ◌turns◌}
 use Rattle.salt_model.specs.Next.{flight}
-use Rattle.salt_model.specs.Openings.{to_cut}
-use Rattle.salt_model.specs.Phases.{Fallen, Opening, phase}
+use Rattle.salt_model.specs.Phases.{Fallen, Opening, Phase, phase}
 use Rattle.salt_model.specs.Stops.{MayOpen}
 use Rattle.salt_model.specs.Everywhere.{Each}
-use Rattle.salt_model.specs.Words.{first_of_list}
+use Rattle.salt_model.specs.Units.{is_open}
 use Rattle.salt_model.specs.declared.events.End.TheVariants.{Branched, Committed, Cut}
-use Rattle.salt_model.specs.declared.events.Event.TheVariants.{Defined, Down, Ended, Opened}
+use Rattle.salt_model.specs.declared.events.Event.TheVariants.{Began, Defined, Did, Down, Ended, Opened, Waits}
 use Rattle.salt_model.specs.declared.events.Event.{Event}
-use Rattle.std.specs.Prelude.{Bool, None, Option, Some, false, true, ℕ, ⊤, ◌+◌, ◌==◌, ◌≡◌}
+use Rattle.salt_values.specs.Id.{is_older}
+use Rattle.salt_values.specs.declared.id.Id.{Id}
+use Rattle.std.specs.Prelude.{Bool, IsTrue, None, Option, Some, false, true, ℕ, ⊤, ◌+◌, ◌<◌, ◌==◌, ◌≡◌}
 
 abbrev pub number_in : Event → Option ℕ
 number_in (Defined n text) = Some n
@@ -27,23 +28,54 @@ abbrev pub OpensRight : Trace → Event → Type 0
 OpensRight trace (Opened boot n) = MayOpen Fallen trace boot n
 OpensRight trace e = ⊤
 
+-- the trace ends with an Opened that counts the decision in flight
+abbrev pub counts_flight : Trace → Bool
+counts_flight (from k) = false
+counts_flight (trace asks asked) = false
+counts_flight (trace turns b) = false
+counts_flight (trace says Opened boot n) = n == (kept trace).decisions + 1
+counts_flight (trace says e) = false
+
 abbrev pub OnlyAfter : Bool → Option Event → Event → Type 0
 OnlyAfter true f e = f ≡ Some e
 OnlyAfter false f e = number_in e ≡ None
 
--- a decision that an opening tells of is the flight, and directly after the Opened
+-- directly after an Opened the flight is told where the number counts it, and else no decision
 abbrev pub TellsFlight : Trace → Event → Type 0
 TellsFlight trace (Down why) = ⊤
-TellsFlight (trace says Opened boot n) e = OnlyAfter (n == (kept trace).decisions + 1) (flight trace) e
+TellsFlight (trace says Opened boot n) e = OnlyAfter (counts_flight (trace says Opened boot n)) (flight trace) e
 TellsFlight trace e = ⊤
 
--- a Cut comes in openings alone, to open units of earlier boots, in order of names
+-- an event of a unit of this boot, or of none; but any unit may be cut, and nothing is defined
+abbrev pub IsOfBoot : Trace → Event → Type 0
+IsOfBoot trace (Began u kind) = u.boot ≡ (kept trace).boot
+IsOfBoot trace (Did u st answer) = u.boot ≡ (kept trace).boot
+IsOfBoot trace (Waits u owners) = u.boot ≡ (kept trace).boot
+IsOfBoot trace (Ended u Cut) = ⊤
+IsOfBoot trace (Ended u end) = u.boot ≡ (kept trace).boot
+IsOfBoot trace (Defined n text) = ⊥
+IsOfBoot trace e = ⊤
+
+abbrev pub OwnAfter : Phase → Bool → Trace → Event → Type 0
+OwnAfter Opening false trace e = IsOfBoot trace e
+OwnAfter phase counted trace e = ⊤
+
+-- between an Opened and its Ready nothing else is told of units of earlier boots, but that they are cut, and no other definition
+abbrev pub TellsOwn : Trace → Event → Type 0
+TellsOwn trace e = OwnAfter (phase trace) (counts_flight trace) trace e
+
+-- open, and of an earlier boot
+abbrev pub IsLeftOpen : Trace → Id → Type 0
+IsLeftOpen trace u = IsTrue (is_open trace u) × (u.boot < (kept trace).boot)
+
+-- a Cut comes in openings alone, to the unit with the least name of those that are left open
 abbrev pub CutsRight : Trace → Event → Type 0
-CutsRight trace (Ended u Cut) = (phase trace ≡ Opening) × (first_of_list (to_cut trace) ≡ Some u)
+CutsRight trace (Ended u Cut) = (phase trace ≡ Opening) × IsLeftOpen trace u × ((v : Id) → IsLeftOpen trace v → is_older v u ≡ false)
 CutsRight trace e = ⊤
 
 pub record IsKept (trace : Trace) : Type 0 where
   pub numbers : Each NumbersOn trace
   pub opens : Each OpensRight trace
   pub flight : Each TellsFlight trace
+  pub own : Each TellsOwn trace
   pub cuts : Each CutsRight trace

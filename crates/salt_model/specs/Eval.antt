@@ -12,7 +12,8 @@ use Rattle.salt_model.specs.declared.vars.Binding.{Binding}
 use Rattle.salt_values.specs.Value.{is_same_value, is_value_at_most, is_value_below}
 use Rattle.salt_values.specs.declared.value.Value.TheVariants.{Int, Text}
 use Rattle.salt_values.specs.declared.value.Value.{Value}
-use Rattle.std.specs.Prelude.{Bool, Err, List, None, Ok, Option, Result, Some, [], false, if◌then◌else◌, int_le, length, nat_le, negsuc, not, pos, true, ℕ, ℤ, ◌&&◌, ◌*ℤ◌, ◌++◌, ◌+ℤ◌, ◌-ℤ◌, ◌∷◌}
+use Rattle.std.specs.Prelude.{Bool, Err, List, None, Ok, Option, Result, Some, [], false, if◌then◌else◌}
+use Rattle.std.specs.Prelude.{int_le, length, nat_le, negsuc, not, pos, true, ℕ, ℤ, ◌&&◌, ◌*ℤ◌, ◌++◌, ◌+ℤ◌, ◌-ℤ◌, ◌∷◌}
 
 -- what an expression gives: a value or a truth value
 pub data Datum : Type 0 where

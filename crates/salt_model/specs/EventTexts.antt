@@ -113,7 +113,8 @@ range_text None hi = codes "all"
 
 abbrev pub lock_text : List TableDef → Lock → List ℕ
 lock_text schema l =
-    codes "lock " ++ (owner_text l.owner ++ (codes " " ++ (family_text l.family ++ (codes " " ++ (mode_text l.mode ++ (codes " " ++ (table_name schema l.table ++ (codes " " ++ range_text l.range.lo l.range.hi))))))))
+    codes "lock " ++ (owner_text l.owner ++ (codes " " ++ (family_text l.family ++ (codes " " ++ (mode_text l.mode ++
+    (codes " " ++ (table_name schema l.table ++ (codes " " ++ range_text l.range.lo l.range.hi))))))))
 
 abbrev pub place_text : BaseAt → List ℕ
 place_text place.First = codes "first"

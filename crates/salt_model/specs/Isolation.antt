@@ -3,7 +3,7 @@ use Rattle.salt_model.specs.After.{reach_now}
 use Rattle.salt_model.specs.Locks.{Taken, taken_in, touches}
 use Rattle.salt_model.specs.Trace.{Trace, from, ◌asks◌, ◌says◌, ◌turns◌}
 use Rattle.salt_model.specs.Programs.{released_in}
-use Rattle.salt_model.specs.Units.{Over, Standing, program_of, standing}
+use Rattle.salt_model.specs.Units.{Over, Standing, is_open_standing, program_of, standing}
 use Rattle.salt_model.specs.Everywhere.{Each}
 use Rattle.salt_model.specs.Reads.{writers_in}
 use Rattle.salt_model.specs.Waiting.{is_acid}
@@ -56,14 +56,18 @@ abbrev pub is_committed_standing : Standing → Bool
 is_committed_standing (Over (Committed n)) = true
 is_committed_standing s = false
 
+-- a part counts while it is open, and once it has committed
+abbrev pub is_open_or_committed : Standing → Bool
+is_open_or_committed s = is_open_standing s || is_committed_standing s
+
 abbrev pub is_unreleased_part : Trace → Taken → Bool
-is_unreleased_part trace t = is_committed_standing (standing t.unit trace) && not (is_program_released trace (program_of t.unit trace))
+is_unreleased_part trace t = is_open_or_committed (standing t.unit trace) && not (is_program_released trace (program_of t.unit trace))
 
 abbrev pub touches_unreleased : Trace → Option Reach → Bool
 touches_unreleased trace None = false
 touches_unreleased trace (Some r) = list_any (λ t. touches t.reach r && is_unreleased_part trace t) (taken_in trace)
 
--- what an ACID unit touches of a program's committed parts, it touches when the program is released
+-- what an ACID unit touches of a program's open and committed parts, it touches when the program is released
 abbrev pub TouchesWhole : Trace → Event → Type 0
 TouchesWhole trace (Did a st answer) = IsTrue (is_acid trace a) → IsTrue (not (touches_unreleased trace (reach_now a trace st)))
 TouchesWhole trace e = ⊤

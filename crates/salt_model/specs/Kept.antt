@@ -20,7 +20,8 @@ use Rattle.salt_values.specs.declared.id.Id.{Id}
 use Rattle.salt_values.specs.declared.value.Value.TheVariants.{Int, Text}
 use Rattle.salt_values.specs.declared.value.Value.{Value}
 use Rattle.std.specs.List.{filter_map}
-use Rattle.std.specs.Prelude.{List, None, Option, Some, [], drop, if◌then◌else◌, length, map, option_and_then, option_map, pos, ℕ, ⊤, ◌++◌, ◌<◌, ◌∷◌, ◌≤◌}
+use Rattle.std.specs.Prelude.{IsSome, List, None, Option, Some, []}
+use Rattle.std.specs.Prelude.{drop, if◌then◌else◌, length, map, option_and_then, option_map, pos, ℕ, ⊤, ◌++◌, ◌<◌, ◌∷◌, ◌≤◌}
 
 -- a definition, as the line that made it
 pub data Definition : Type 0 where
@@ -42,11 +43,6 @@ abbrev pub Rise : ℕ → List Cont → Type 0
 Rise n [] = ⊤
 Rise n (c ∷ cs) = Every (λ (d : Cont). c.accepted < d.accepted) cs × (c.accepted ≤ n) × Rise n cs
 
--- what may be kept: its programs are of its boots, and were accepted by its decisions, in this order
-pub record WellKept (k : Kept) : Type 0 where
-  pub boots : Every (λ (c : Cont). c.base.boot ≤ k.boot) k.conts
-  pub accepted : Rise k.decisions k.conts
-
 abbrev pub table_of_definition : Definition → Option TableDef
 table_of_definition (OfTable d) = Some d
 table_of_definition (OfProgram p) = None
@@ -63,6 +59,12 @@ programs_of k = filter_map program_of_definition k.definitions
 
 abbrev pub kept_program : List ℕ → Kept → Option ProgramDef
 kept_program n k = program_named (programs_of k) n
+
+-- what may be kept: its programs are of its boots, were accepted by its decisions, in this order, and are defined
+pub record WellKept (k : Kept) : Type 0 where
+  pub boots : Every (λ (c : Cont). c.base.boot ≤ k.boot) k.conts
+  pub accepted : Rise k.decisions k.conts
+  pub defined : Every (λ (c : Cont). IsSome (kept_program c.program k)) k.conts
 
 abbrev pub cont_in : Id → List Cont → Option Cont
 cont_in b [] = None

@@ -28,6 +28,7 @@ pub mod Isolation
 pub mod Continuing
 pub mod Decided
 pub mod Releasing
+pub mod AsDeclared
 pub mod Ends
 pub mod Printable
 pub mod Summary

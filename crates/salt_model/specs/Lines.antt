@@ -48,18 +48,21 @@ pub data Column : Symbols → Field → Type 0 where
 -- NAME "int" "key" { "," NAME "int" }
 pub data Columns : Symbols → List Field → Type 0 where
   alone : {n : List ℕ} → IsShort n → Columns (name n ∷ key word.Int ∷ key word.Key ∷ []) (int_field n ∷ [])
-  with_more : {n : List ℕ} {ts : Symbols} {fields : List Field} → IsShort n → Listed Column ts fields → length fields < COLUMNS_MOST → Columns (name n ∷ key word.Int ∷ key word.Key ∷ sign mark.Comma ∷ ts) (int_field n ∷ fields)
+  with_more : {n : List ℕ} {ts : Symbols} {fields : List Field} → IsShort n → Listed Column ts fields → length fields < COLUMNS_MOST →
+      Columns (name n ∷ key word.Int ∷ key word.Key ∷ sign mark.Comma ∷ ts) (int_field n ∷ fields)
 
 pub data IsStatement : Symbols → Statement → Type 0 where
   insert : {n : List ℕ} {ts : Symbols} {es : List Expr} → IsShort n → Listed Value ts es →
       IsStatement (key word.Insert ∷ key word.Into ∷ name n ∷ key word.Values ∷ sign mark.Open ∷ (ts ++ sign mark.Close ∷ [])) (Insert n es)
   select : {n : List ℕ} {ts : Symbols} {e : Expr} → IsShort n → Value ts e →
-      IsStatement (key word.Select ∷ sign mark.Star ∷ key word.From ∷ name n ∷ key word.Where ∷ key word.Key ∷ sign mark.Equal ∷ ts) (Select All n (record { bound = Key e; filter = None }))
+      IsStatement (key word.Select ∷ sign mark.Star ∷ key word.From ∷ name n ∷ key word.Where ∷ key word.Key ∷ sign mark.Equal ∷ ts)
+      (Select All n (record { bound = Key e; filter = None }))
 
 -- sessions are 1 to 64
 pub data IsLine : Symbols → Line → Type 0 where
   creates : {n : List ℕ} {ts : Symbols} {fields : List Field} → IsShort n → Columns ts fields →
-      IsLine (key word.Create ∷ key word.Table ∷ name n ∷ sign mark.Open ∷ (ts ++ sign mark.Close ∷ [])) (Table (record { name = n; columns = fields; checks = [] }))
+      IsLine (key word.Create ∷ key word.Table ∷ name n ∷ sign mark.Open ∷ (ts ++ sign mark.Close ∷ []))
+      (Table (record { name = n; columns = fields; checks = [] }))
   does : {s : ℕ} {ts : Symbols} {st : Statement} → 1 ≤ s → s ≤ SESSION_MOST → IsStatement ts st → IsLine (sign mark.At ∷ int s ∷ ts) (Session s (Do st))
 
 abbrev pub begins_comment : List ℕ → Bool

@@ -1,4 +1,5 @@
--- The next event of the segment in which the trace ends. None: the segment is complete, or `go all` turns to its next program, or the run is down and is to be opened.
+-- The next event of the segment in which the trace ends. None: the segment is complete, or `go all` turns to its next program,
+-- or the run is down and is to be opened.
 use Rattle.std.specs.Bool.{then_some}
 use Rattle.std.specs.Option.{option_or}
 use Rattle.salt_model.specs.Trace.{Trace, from, line_asked, ◌asks◌, ◌says◌, ◌turns◌}

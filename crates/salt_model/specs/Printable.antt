@@ -1,4 +1,5 @@
--- Which events print as what they are: their names are names, their statements and definitions are spelled and pass no limit, and their lists are as printed forms have them.
+-- Which events print as what they are: their names are names, their statements and definitions are spelled and pass no limit,
+-- and their lists are as printed forms have them.
 use Rattle.salt_values.specs.declared.limits.TheConstants.{PARTS_MOST}
 use Rattle.salt_ast.specs.Limits.{name_passed, statement_limit, table_limit}
 use Rattle.salt_ast.specs.Paths.{blocks}

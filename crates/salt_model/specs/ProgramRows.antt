@@ -25,7 +25,9 @@ accounts_printed : printed accounts ≡
     codes "opened 1 0" ∷
     codes "ready" ∷
     codes "defined 1 create table acct (id int key, bal int, check ((bal >= 0) and (bal <= 1000)))" ∷
-    codes "defined 2 program transfer(a int, b int, amt int) base part { update acct set bal = (bal - :amt) where key = :a } part { update acct set bal = (bal + :amt) where key = :b } then end on failure go 3 part { update acct set bal = (bal + :amt) where key = :a } on failure end end" ∷
+    (codes "defined 2 program transfer(a int, b int, amt int) base part { update acct set bal = (bal - :amt) where key = :a }" ++
+    codes " part { update acct set bal = (bal + :amt) where key = :b } then end on failure go 3" ++
+    codes " part { update acct set bal = (bal + :amt) where key = :a } on failure end end") ∷
     codes "u1.1 began @1" ∷
     codes "u1.1 did insert into acct values (1, 100) -> count 1" ∷
     codes "u1.1 committed 3" ∷
@@ -133,7 +135,8 @@ abbrev in_steps : List Line
 in_steps = accounts ++ line.Program take10 ∷ call 3 (codes "take10") (pos 1 ∷ []) ∷ step 3 ∷ step 3 ∷ []
 
 in_steps_printed : drop 10 (printed in_steps) ≡
-    codes "defined 5 program take10(k int) var x int acid { select bal into :x from acct where key = :k; ensure (:x >= 10); update acct set bal = (:x - 10) where key = :k } end" ∷
+    (codes "defined 5 program take10(k int) var x int acid { select bal into :x from acct where key = :k;" ++
+    codes " ensure (:x >= 10); update acct set bal = (:x - 10) where key = :k } end") ∷
     codes "u1.3 began @3 call take10(1)" ∷
     codes "u1.3 did select bal into :x from acct where key = :k -> stored 100" ∷
     codes "u1.3 did ensure (:x >= 10) -> true" ∷

@@ -1,13 +1,11 @@
 -- The BASE programs: accepted, finished, released, and those that are under way.
 use Rattle.salt_model.specs.Trace.{Trace, from, ◌asks◌, ◌says◌, ◌turns◌}
-use Rattle.salt_model.specs.Units.{kind_of, open_units, program_of_kind}
+use Rattle.salt_model.specs.Units.{kind_of, open_units, program_begun, program_of_kind}
 use Rattle.salt_model.specs.Words.{in_order, without}
 use Rattle.salt_model.specs.declared.events.Event.TheVariants.{Accepted, Began, Finished, Ready, Released}
-use Rattle.salt_model.specs.declared.events.UnitKind.TheVariants.{Acid, Call, First, Later}
-use Rattle.salt_model.specs.declared.events.UnitKind.{UnitKind}
 use Rattle.salt_values.specs.declared.id.Id.{Id}
 use Rattle.std.specs.List.{filter_map}
-use Rattle.std.specs.Prelude.{List, None, Option, Some, [], map, option_and_then, ◌++◌, ◌∷◌}
+use Rattle.std.specs.Prelude.{List, None, Some, [], map, option_and_then, ◌++◌, ◌∷◌}
 
 -- programs, in the order of their Accepted, Finished
 abbrev pub accepted_in : Trace → List Id
@@ -44,12 +42,6 @@ released_in (trace says e) = released_in trace
 -- accepted and not released
 abbrev pub unreleased : Trace → List Id
 unreleased trace = in_order (without (released_in trace) (accepted_in trace))
-
-abbrev pub program_begun : UnitKind → Option Id
-program_begun (Acid s) = None
-program_begun (Call s n args) = None
-program_begun (First s b n args) = Some b
-program_begun (Later b part) = None
 
 -- in their first part
 abbrev pub in_part_1 : Trace → List Id

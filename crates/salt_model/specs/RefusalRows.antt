@@ -10,19 +10,21 @@ use Rattle.salt_ast.specs.declared.trees.ColType.TheVariants as kind
 use Rattle.salt_ast.specs.declared.trees.Expr.{Expr}
 use Rattle.salt_ast.specs.declared.trees.Op.TheVariants as op
 use Rattle.salt_ast.specs.declared.trees.Statement.TheVariants as statement
+use Rattle.salt_ast.specs.declared.trees.Statement.{Statement}
 use Rattle.salt_ast.specs.declared.trees.What.TheVariants as what
+use Rattle.salt_model.specs.AsDeclared.{DoesDeclared}
 use Rattle.salt_model.specs.Computing.{computing}
 use Rattle.salt_model.specs.Trace.{Trace, Tree, Rejected, from, ◌asks◌, ◌says◌}
 use Rattle.salt_model.specs.Segments.{May}
 use Rattle.salt_model.specs.Refusals.{refusal}
-use Rattle.salt_model.specs.Scripts.{accounts, all_rows, at, bal_at, base, begin, call_transfer, commit, go, insert_acct, insert_into, int}
+use Rattle.salt_model.specs.Scripts.{accounts, all_rows, at, bal_at, base, begin, call_transfer, commit, go, insert_acct, insert_into, int, raise_all, unit}
 use Rattle.salt_model.specs.Kept.{nothing_kept}
 use Rattle.salt_model.specs.Walk.{completed, opened, printed, printed_of, walk, walk_on}
+use Rattle.salt_model.specs.declared.events.Answer.TheVariants as answer
 use Rattle.salt_model.specs.declared.events.End.TheVariants as end
 use Rattle.salt_model.specs.declared.events.Event.TheVariants as event
 use Rattle.salt_model.specs.declared.events.Owner.TheVariants as owner
 use Rattle.salt_model.specs.declared.events.Refusal.TheVariants as refused
-use Rattle.salt_values.specs.declared.id.Id.{Id}
 use Rattle.std.specs.Prelude.{List, None, Some, [], codes, drop, false, pos, refl, suc, zero, ℕ, ◌++◌, ◌∷◌, ◌≡◌}
 
 -- Each of these lines is refused where the accounts and the program of transfers stand.
@@ -30,12 +32,15 @@ use Rattle.std.specs.Prelude.{List, None, Some, [], codes, drop, false, pos, ref
 abbrev one : Expr
 one = int 1
 
+abbrev holds : Statement
+holds = statement.Ensure (operation op.Equal one one)
+
 abbrev no_branch : ProgramDef
 no_branch = record {
   name = codes "p";
   params = [];
   vars = [];
-  body = body.Base (part (statement.Ensure (operation op.Equal one one) ∷ []) None None ∷ part (statement.Ensure (operation op.Equal one one) ∷ []) None None ∷ []);
+  body = body.Base (part (holds ∷ []) None None ∷ part (holds ∷ []) None None ∷ []);
 }
 
 abbrev table_of : List ℕ → Line
@@ -82,7 +87,8 @@ unfolding computing
 rejected_printed = refl
 
 -- A stop can't be armed where the disks can't be stopped.
-unstopped : refusal (completed 9 (from (record { kept = nothing_kept; can_stop = false }) says event.Opened 1 0)) (Tree (line.Crash ((1, 0) ∷ []))) ≡ Some refused.State
+unstopped : refusal (completed 9 (from (record { kept = nothing_kept; can_stop = false }) says event.Opened 1 0))
+    (Tree (line.Crash ((1, 0) ∷ []))) ≡ Some refused.State
 unfolding computing
 unstopped = refl
 
@@ -101,9 +107,6 @@ unfolding computing
 one_program_too_many = refl
 
 -- WRONG ROWS, each of one event that may not stand where it stands.
-
-abbrev unit : ℕ → Id
-unit n = record { boot = 1; seq = n }
 
 -- a reader waits for the program that holds what it asks for
 abbrev asking : Trace
@@ -141,3 +144,26 @@ commits_next = refl
 too_high : May committing (event.Ended (unit 3) (end.Committed 6)) → ⊥
 unfolding computing
 too_high h = cc
+
+-- a unit that a statement's line began does another statement
+abbrev reading : Trace
+reading = completed 1 (walk accounts asks Tree (at 1 (bal_at 1)))
+
+reads_next : DoesDeclared reading (event.Did (unit 3) (bal_at 1) (answer.Count 1))
+unfolding computing
+reads_next = (refl, (refl, refl))
+
+differ : raise_all ≡ bal_at 1 → ⊥
+differ e = cc
+
+other_statement : DoesDeclared reading (event.Did (unit 3) raise_all (answer.Count 1)) → ⊥
+unfolding computing
+other_statement h = differ h.1.0
+
+-- a part commits, and its statement is not done
+abbrev calling : Trace
+calling = completed 1 (walk accounts asks Tree (call_transfer 1 1 2 30))
+
+left_undone : DoesDeclared calling (event.Ended (unit 3) (end.Committed 5)) → ⊥
+unfolding computing
+left_undone h = cc

@@ -68,7 +68,10 @@ raise_all = statement.Update acct (set bal (operation op.Add (Column bal) (int 1
 abbrev pub call_transfer : (session from_key to_key amount : ℕ) → Line
 call_transfer s a b amt = call s (codes "transfer") (pos a ∷ pos b ∷ pos amt ∷ [])
 
--- the n-th program of the first boot
+-- the n-th unit, and the n-th program, of the first boot
+abbrev pub unit : ℕ → Id
+unit n = record { boot = 1; seq = n }
+
 abbrev pub base : ℕ → Id
 base n = record { boot = 1; seq = n }
 

@@ -13,7 +13,8 @@ use Rattle.salt_ast.specs.declared.trees.Statement.TheVariants as statement
 use Rattle.salt_ast.specs.declared.trees.TableDef.{TableDef}
 use Rattle.salt_ast.specs.declared.trees.What.TheVariants as what
 use Rattle.salt_model.specs.Computing.{computing}
-use Rattle.salt_model.specs.Scripts.{accounts, all_rows, at, bal_at, begin, call_transfer, commit, insert_acct, insert_into, int, key_is, raise_all, rollback, set_bal, step}
+use Rattle.salt_model.specs.Scripts.{accounts, all_rows, at, bal_at, begin, call_transfer, commit, insert_acct, insert_into}
+use Rattle.salt_model.specs.Scripts.{int, key_is, raise_all, rollback, set_bal, step}
 use Rattle.salt_model.specs.Walk.{printed, walk}
 use Rattle.std.specs.Prelude.{List, None, [], codes, drop, negsuc, pos, refl, ℕ, ℤ, ◌++◌, ◌∷◌, ◌≡◌}
 
@@ -61,7 +62,9 @@ blank_printed = refl
 -- A count reaches the keys between its bounds, whether rows are there or not: an insert into them waits, one outside does not.
 
 abbrev counted_range : List Line
-counted_range = accounts ++ begin 1 ∷ at 1 (statement.Select what.Count acct (scan (bound.Between (int 1) (int 9)) None)) ∷ at 2 (insert_acct 5 1) ∷ at 3 (insert_acct 10 1) ∷ commit 1 ∷ []
+counted_range =
+    accounts ++ begin 1 ∷ at 1 (statement.Select what.Count acct (scan (bound.Between (int 1) (int 9)) None)) ∷
+    at 2 (insert_acct 5 1) ∷ at 3 (insert_acct 10 1) ∷ commit 1 ∷ []
 
 counted_range_printed : drop 10 (printed counted_range) ≡
     codes "u1.3 began @1" ∷
@@ -80,7 +83,9 @@ counted_range_printed = refl
 -- A range that is empty reaches nothing. A rollback lets the reader go on.
 
 abbrev nothing_reached : List Line
-nothing_reached = accounts ++ begin 1 ∷ at 1 (statement.Select what.All acct (scan (bound.Between (int 9) (int 1)) None)) ∷ line.ShowLocks ∷ at 1 raise_all ∷ line.ShowLocks ∷ at 2 (bal_at 2) ∷ rollback 1 ∷ []
+nothing_reached =
+    accounts ++ begin 1 ∷ at 1 (statement.Select what.All acct (scan (bound.Between (int 9) (int 1)) None)) ∷
+    line.ShowLocks ∷ at 1 raise_all ∷ line.ShowLocks ∷ at 2 (bal_at 2) ∷ rollback 1 ∷ []
 
 nothing_reached_printed : drop 10 (printed nothing_reached) ≡
     codes "u1.3 began @1" ∷

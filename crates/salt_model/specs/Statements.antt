@@ -25,7 +25,8 @@ use Rattle.salt_values.specs.declared.change.Change.{Change}
 use Rattle.salt_values.specs.declared.value.Value.TheVariants.{Int}
 use Rattle.salt_values.specs.declared.value.Value.{Value}
 use Rattle.std.specs.List.{cons_option, filter}
-use Rattle.std.specs.Prelude.{Bool, Err, List, None, Ok, Option, Result, Some, [], false, if◌then◌else◌, length, map, option_to_list, pos, true, unwrap_or, ℕ, ℤ, ◌++◌, ◌+ℤ◌, ◌∷◌}
+use Rattle.std.specs.Prelude.{Bool, Err, List, None, Ok, Option, Result, Some, [], false, if◌then◌else◌}
+use Rattle.std.specs.Prelude.{length, map, option_to_list, pos, true, unwrap_or, ℕ, ℤ, ◌++◌, ◌+ℤ◌, ◌∷◌}
 use Rattle.salt_model.specs.Reaches.{in_row, no_row, range_of, reach, table_for}
 
 -- the answer, the changes, and the variables after
@@ -74,7 +75,8 @@ with_sets def old (s ∷ sets) row = and_then (value_of old s.value) (λ v. with
 
 -- the sets and the checks of a row
 abbrev pub updated : TableDef → List Binding → List Set → Entry → Result Change Cause
-updated def vars sets e = and_then (with_sets def (in_row def e.1 vars) sets e.1) (λ new. and_then (checked (in_row def new []) def.checks) (λ b. Ok (change_to e.0 (Some new))))
+updated def vars sets e =
+    and_then (with_sets def (in_row def e.1 vars) sets e.1) (λ new. and_then (checked (in_row def new []) def.checks) (λ b. Ok (change_to e.0 (Some new))))
 
 abbrev pub removed : Entry → Result Change Cause
 removed e = Ok (change_to e.0 None)
@@ -110,7 +112,9 @@ set_var n v [] = []
 set_var n v (b ∷ bs) = if same_bytes n b.name then record { name = n; value = v } ∷ bs else b ∷ set_var n v bs
 
 abbrev pub inserted : ℕ → TableDef → List Binding → List Entry → List Value → Result Done Cause
-inserted t def vars [] row = and_then (checked (in_row def row []) def.checks) (λ b. Ok (record { answer = Count 1; changes = change_to (place t (key_of row)) (Some row) ∷ []; vars = vars }))
+inserted t def vars [] row =
+    and_then (checked (in_row def row []) def.checks) (λ b.
+    Ok (record { answer = Count 1; changes = change_to (place t (key_of row)) (Some row) ∷ []; vars = vars }))
 inserted t def vars (e ∷ es) row = Err Duplicate
 
 abbrev pub stored : TableDef → List Binding → List ℕ → List ℕ → List Entry → Result Done Cause
@@ -124,10 +128,12 @@ changing vars changes = record { answer = Count (length changes); changes = chan
 abbrev pub do_in : ℕ → TableDef → List Binding → Statement → List Entry → Result Done Cause
 do_in t def vars (Insert name es) rows = and_then (values_of (no_row vars) es) (inserted t def vars rows)
 do_in t def vars (Select what name scan) rows =
-    and_then (range_of vars scan.bound) (λ r. and_then (collect (on_match def vars scan.filter seen) rows) (λ found. and_then (shown def what found) (λ a. Ok (answering vars a))))
+    and_then (range_of vars scan.bound) (λ r.
+    and_then (collect (on_match def vars scan.filter seen) rows) (λ found. and_then (shown def what found) (λ a. Ok (answering vars a))))
 do_in t def vars (SelectInto c v name key) rows = and_then (value_of (no_row vars) key) (λ k. stored def vars c v rows)
 do_in t def vars (Update name sets scan) rows =
-    and_then (range_of vars scan.bound) (λ r. and_then (collect (on_match def vars scan.filter (updated def vars sets)) rows) (λ changes. Ok (changing vars changes)))
+    and_then (range_of vars scan.bound) (λ r.
+    and_then (collect (on_match def vars scan.filter (updated def vars sets)) rows) (λ changes. Ok (changing vars changes)))
 do_in t def vars (Delete name scan) rows =
     and_then (range_of vars scan.bound) (λ r. and_then (collect (on_match def vars scan.filter removed) rows) (λ changes. Ok (changing vars changes)))
 do_in t def vars (Ensure e) rows = and_then (truth_of (no_row vars) e) (λ b. if b then Ok (answering vars Answer.Held) else Err Cause.Ensure)

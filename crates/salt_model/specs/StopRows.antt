@@ -3,7 +3,8 @@ use Rattle.salt_ast.specs.declared.lines.Line.TheVariants as line
 use Rattle.salt_model.specs.Computing.{computing}
 use Rattle.salt_model.specs.Trace.{Trace, Tree, ◌asks◌, ◌says◌}
 use Rattle.salt_model.specs.Next.{flight, next}
-use Rattle.salt_model.specs.Scripts.{accounts, at, begin, call_transfer, commit, insert_acct, raise_all}
+use Rattle.salt_model.specs.Decided.{TellsOwn}
+use Rattle.salt_model.specs.Scripts.{accounts, at, begin, call_transfer, commit, insert_acct, raise_all, unit}
 use Rattle.salt_model.specs.Walk.{completed, opened, printed_of, walk, walk_on}
 use Rattle.salt_model.specs.declared.events.End.TheVariants as end
 use Rattle.salt_model.specs.declared.events.Event.TheVariants as event
@@ -28,6 +29,14 @@ done_printed : drop 12 (printed_of (completed 9 (cut_short says event.Opened 2 5
     codes "armed 11 1" ∷ codes "down stopped" ∷ codes "opened 2 5" ∷ codes "u1.3 committed 5" ∷ codes "ready" ∷ []
 unfolding computing
 done_printed = refl
+
+-- behind the flight no other decision of an earlier boot is told
+abbrev told_flight : Trace
+told_flight = cut_short says event.Opened 2 5 says event.Ended (unit 3) (end.Committed 5)
+
+another_told : TellsOwn told_flight (event.Ended (unit 4) (end.Committed 6)) → ⊥
+unfolding computing
+another_told h = cc
 
 -- Two stops: a unit is cut, and the drain begins its part anew.
 
@@ -61,7 +70,7 @@ unfolding computing
 drained_printed = refl
 
 -- the first stop falls with the insert's commit in flight
-in_flight : flight (before_stop says event.Down why.Stopped) ≡ Some (event.Ended (record { boot = 1; seq = 4 }) (end.Committed 6))
+in_flight : flight (before_stop says event.Down why.Stopped) ≡ Some (event.Ended (unit 4) (end.Committed 6))
 unfolding computing
 in_flight = refl
 

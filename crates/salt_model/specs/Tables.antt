@@ -88,7 +88,10 @@ abbrev pub no_edits : Edits
 no_edits = record { list = []; sorted = tt }
 
 abbrev pub put_change : Change → Edits → Edits
-put_change c ds = record { list = put place_cmp (changed_at c) c.row ds.list; sorted = is_sorted-put place_cmp place_total (changed_at c) c.row ds.list ds.sorted }
+put_change c ds = record {
+  list = put place_cmp (changed_at c) c.row ds.list;
+  sorted = is_sorted-put place_cmp place_total (changed_at c) c.row ds.list ds.sorted;
+}
 
 abbrev pub put_changes : List Change → Edits → Edits
 put_changes [] ds = ds

@@ -32,7 +32,8 @@ use Rattle.salt_values.specs.Id.{is_same_id}
 use Rattle.salt_values.specs.declared.id.Id.{Id}
 use Rattle.salt_values.specs.declared.value.Value.{Value}
 use Rattle.std.specs.List.{find}
-use Rattle.std.specs.Prelude.{Bool, List, None, Option, Some, [], false, if◌then◌else◌, is_none, is_some, length, map, not, option_map, true, ℕ, ◌&&◌, ◌+◌, ◌==◌, ◌∷◌}
+use Rattle.std.specs.Prelude.{Bool, List, None, Option, Some, [], false, if◌then◌else◌}
+use Rattle.std.specs.Prelude.{is_none, is_some, length, map, not, option_map, true, ℕ, ◌&&◌, ◌+◌, ◌==◌, ◌∷◌}
 
 -- the names that come next
 abbrev pub fresh_unit : Trace → Id

@@ -14,7 +14,7 @@ use Rattle.salt_model.specs.declared.events.UnitKind.{UnitKind}
 use Rattle.salt_values.specs.Id.{is_same_id}
 use Rattle.salt_values.specs.declared.id.Id.{Id}
 use Rattle.std.specs.List.{filter}
-use Rattle.std.specs.Prelude.{Bool, List, None, Option, Some, [], false, if◌then◌else◌, option_and_then, true, ℕ, ◌++◌, ◌+◌, ◌==◌, ◌∷◌}
+use Rattle.std.specs.Prelude.{Bool, List, None, Option, Some, [], false, if◌then◌else◌, is_some, option_and_then, true, ℕ, ◌++◌, ◌+◌, ◌==◌, ◌∷◌}
 use Rattle.salt_model.specs.Trace.{Trace, from, line_of, ◌asks◌, ◌says◌, ◌turns◌}
 
 -- where a unit stands: it is open while it runs or waits
@@ -163,14 +163,17 @@ unit_count (trace says Began u kind) = unit_count trace + 1
 unit_count (trace says Opened boot n) = 0
 unit_count (trace says e) = unit_count trace
 
-abbrev pub is_first : UnitKind → Bool
-is_first (First s b n args) = true
-is_first kind = false
+-- the program that a unit begins, by its kind
+abbrev pub program_begun : UnitKind → Option Id
+program_begun (Acid s) = None
+program_begun (Call s n args) = None
+program_begun (First s b n args) = Some b
+program_begun (Later b part) = None
 
 abbrev pub base_count : Trace → ℕ
 base_count (from k) = 0
 base_count (trace asks asked) = base_count trace
 base_count (trace turns b) = base_count trace
-base_count (trace says Began u kind) = if is_first kind then base_count trace + 1 else base_count trace
+base_count (trace says Began u kind) = if is_some (program_begun kind) then base_count trace + 1 else base_count trace
 base_count (trace says Opened boot n) = 0
 base_count (trace says e) = base_count trace
