@@ -12,7 +12,7 @@ use Rattle.salt_model.specs.Trace as trace_words
 use Rattle.salt_model.specs.Trace.{Asked, Trace, story_before}
 use Rattle.salt_model.specs.Played.{Tells, empty_start}
 use Rattle.salt_model.specs.declared.events.Event.{Event}
-use Rattle.salt_print.proofs.Joins.{Gains-append}
+use Rattle.salt_ast.proofs.Joins.{Gains-append}
 use Rattle.salt_run.proofs.Places.{end-place, fault-place, long-place, memory-place, next-place, over-before, write-place}
 use Rattle.salt_run.proofs.Stories.{text-begins, told_text-append}
 use Rattle.salt_run.specs.Run.{GainsFrom, GainsShortFrom, IsFrontOf}

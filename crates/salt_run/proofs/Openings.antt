@@ -14,7 +14,7 @@ use Rattle.salt_model.specs.Played.{Tells, empty_start}
 use Rattle.salt_model.specs.Segments.{IsComplete}
 use Rattle.salt_model.specs.declared.events.Event.{Event}
 use Rattle.salt_model.specs.declared.events.Event.TheVariants.{Opened, Ready, Shown}
-use Rattle.salt_print.proofs.Joins.{Gains-nil}
+use Rattle.salt_ast.proofs.Joins.{Gains-nil}
 use Rattle.salt_run.proofs.Stories.{story-begins}
 use Rattle.salt_run.specs.Run.{AreFirstLines, AreLinesOf, GainsFrom, GainsShortFrom, IsPlayedRun, IsTold, IsWritten}
 use Rattle.salt_run.specs.Serving.{IsAt, IsEnded, IsServing, StopsOpening, opening, status_of, told_text}

@@ -10,6 +10,8 @@ use Rattle.salt_model.specs.Ends.{AnyPlace, AtLineEnd, Leave, MayLeave, NotBegun
 use Rattle.salt_model.specs.Played.{Tells, empty_start}
 use Rattle.salt_model.specs.Continuing.{IsContinued}
 use Rattle.salt_model.specs.Decided.{IsKept}
+use Rattle.salt_model.specs.AsDeclared.{IsDeclared}
+use Rattle.salt_model.specs.Everywhere.{Always}
 use Rattle.salt_model.specs.EventTexts.{story_text}
 use Rattle.salt_model.specs.Honest.{IsHonest}
 use Rattle.salt_model.specs.Isolation.{IsSalted, IsWhole}
@@ -82,7 +84,8 @@ pub record Promises (trace : Trace) : Type 0 where
   pub releases : ReleasesExactly trace
   pub continued : IsContinued trace
   pub kept : IsKept trace
-  pub apart : NoneConflict (held trace)
+  pub declared : IsDeclared trace
+  pub apart : Always (λ t. NoneConflict (held t)) trace
 
 -- some first part of a text was gained, and with it all of this one
 pub record GainsFrom (before : Option (List ℕ)) (first text : List ℕ) (now : Option (List ℕ)) : Type 0 where

@@ -12,9 +12,9 @@ returns-clause-played g c =
     let run : HasRun script before _ _ _ _ =
     elim c.if-is_run_alone.branch [
       | then-is_run_alone+in-Ok w ↦ run-at script before Done _ (g.S.Source.left w.serve.new.source) _ w.serve.new.story _ (g.K.Sink.held w.serve.new.sink) _ w.status-is (ap g.S.Source.left w.source-is) w.story-is (ap g.K.Sink.held w.sink-is)
-        (ended-run script before Done (g.S.Source.left w.serve.new.source) w.serve.new.story (g.K.Sink.held w.serve.new.sink) w.in-Ok.ensures.done)
+          (ended-run script before Done (g.S.Source.left w.serve.new.source) w.serve.new.story (g.K.Sink.held w.serve.new.sink) w.in-Ok.ensures.done)
       | then-is_run_alone+in-Err w ↦ run-at script before (status_of w.in-Err.stop) _ (g.S.Source.left w.serve.new.source) _ w.serve.new.story _ (g.K.Sink.held w.serve.new.sink) _ (w.status-is ∙ w.status_of.ensures) (ap g.S.Source.left w.source-is) w.story-is (ap g.K.Sink.held w.sink-is)
-        (ended-run script before (status_of w.in-Err.stop) (g.S.Source.left w.serve.new.source) w.serve.new.story (g.K.Sink.held w.serve.new.sink) w.in-Err.ensures.stops)
+          (ended-run script before (status_of w.in-Err.stop) (g.S.Source.left w.serve.new.source) w.serve.new.story (g.K.Sink.held w.serve.new.sink) w.in-Err.ensures.stops)
       | else-is_run_alone w ↦ run-at script before Usage _ script _ [] _ before _ w.status-is (ap g.S.Source.left w.source-is) (w.story-is ∙ c.new-story.ensures) (ap g.K.Sink.held w.sink-is) (usage-run script before script)
     ] in
     (run.0, c.told_keeps_promises.ensures run.0.trace _ run.0.tells, run.1)
