@@ -29,6 +29,7 @@ pub enum Request<'a> {
     },
 }
 
+/// The value of a literal; none of another expression.
 pub fn literal_in(expr: &Expr) -> Option<&Value>
     ensures { option_copied result ≡ literal_in expr.now }
 {
@@ -66,6 +67,7 @@ fn is_int(field: &Field) -> bool
     }
 }
 
+/// Whether each column is of numbers.
 pub fn are_ints(fields: &[Field]) -> bool
     ensures { result ≡ list_all is_int fields.now }
 {

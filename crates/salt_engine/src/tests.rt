@@ -3,7 +3,7 @@ use salt_ast::{
     Act, Bound, ColType, Expr, Field, LimitName, Line, Scan, Statement, TableDef, What,
 };
 use salt_model::{Answer, Cause, End, Event, Refusal, Story, UnitKind};
-use salt_values::{Name, Text, Value};
+use salt_values::{Name, Row, Text, Value};
 use sqlite_items::Items;
 use std::alloc::Global;
 use std::test::Fail;
@@ -13,10 +13,10 @@ use std::test::Fail;
 enum Told {
     Began(u64, u8),
     Counted(u64),
-    Showed(usize),
+    Showed(Option<(i64, i64)>),
     Fell(Cause),
     Ended(u64, End),
-    Defined(u64, usize),
+    Defined(u64, Option<u8>),
     Syntax,
     Limit(LimitName),
     Unknown,
@@ -25,10 +25,34 @@ enum Told {
     Other,
 }
 
+/// The two numbers of a table's row, where one is shown.
+fn numbers_in(rows: &[Row]) -> Option<(i64, i64)> {
+    let [row] = rows else {
+        return None;
+    };
+    match row.as_slice() {
+        [Value::Int(key), Value::Int(value)] => Some((*key, *value)),
+        _ => None,
+    }
+}
+
+/// The one letter of the table that a text defines.
+fn letter_in(text: &[u8]) -> Option<u8> {
+    if text.len() != 34 {
+        return None;
+    }
+    let (before, name, behind) = (&text[..13], text[13], &text[14..]);
+    if before == b"create table ".as_slice() && behind == b" (id int key, v int)".as_slice() {
+        Some(name)
+    } else {
+        None
+    }
+}
+
 fn told_by_answer(answer: &Answer) -> Told {
     match answer {
         Answer::Count(count) => Told::Counted(*count),
-        Answer::Rows(rows) => Told::Showed(rows.len()),
+        Answer::Rows(rows) => Told::Showed(numbers_in(rows.as_slice())),
         Answer::Failed(cause) => Told::Fell(*cause),
         _ => Told::Other,
     }
@@ -53,7 +77,7 @@ fn told_by(event: &Event) -> Told {
         } => Told::Began(unit.seq, *session),
         Event::Did { answer, .. } => told_by_answer(answer),
         Event::Ended { unit, end } => Told::Ended(unit.seq, *end),
-        Event::Defined { number, text } => Told::Defined(*number, text.len()),
+        Event::Defined { number, text } => Told::Defined(*number, letter_in(text.as_slice())),
         Event::Refused(refusal) => told_by_refusal(refusal),
         _ => Told::Other,
     }
@@ -129,7 +153,7 @@ fn rows_are_put_in_and_shown(rt: HostRuntime) -> Result<(), Fail> {
     assert_eq!(rt;
         told_from(alloc, &story, 0)?.as_slice(),
         [
-            Told::Defined(1, 34),
+            Told::Defined(1, Some(b't')),
             Told::Began(1, 1),
             Told::Counted(1),
             Told::Ended(1, End::Committed(2)),
@@ -137,10 +161,10 @@ fn rows_are_put_in_and_shown(rt: HostRuntime) -> Result<(), Fail> {
             Told::Fell(Cause::Duplicate),
             Told::Ended(2, End::Failed(Cause::Duplicate)),
             Told::Began(3, 2),
-            Told::Showed(1),
+            Told::Showed(Some((5, -3))),
             Told::Ended(3, End::Committed(3)),
             Told::Began(4, 2),
-            Told::Showed(0),
+            Told::Showed(None),
             Told::Ended(4, End::Committed(4)),
         ]
         .as_slice()
@@ -164,7 +188,7 @@ fn faulty_lines_are_refused(rt: HostRuntime) -> Result<(), Fail> {
         told_from(alloc, &story, 0)?.as_slice(),
         [
             Told::Unknown,
-            Told::Defined(1, 34),
+            Told::Defined(1, Some(b't')),
             Told::Exists,
             Told::Mistyped,
             Told::Mistyped,
@@ -206,7 +230,7 @@ fn a_table_too_many_is_refused(rt: HostRuntime) -> Result<(), Fail> {
     engine.step(&table(alloc, b"A", ColType::Int)?, &mut story)?;
     assert_eq!(rt;
         told_from(alloc, &story, 63)?.as_slice(),
-        [Told::Defined(64, 34), Told::Limit(LimitName::Tables),].as_slice()
+        [Told::Defined(64, Some(b'A' + 63)), Told::Limit(LimitName::Tables),].as_slice()
     );
     Ok(())
 }

@@ -23,6 +23,7 @@ impl Model for Calls {
 }
 
 impl Calls {
+    /// No call was made, and none is to fail.
     pub fn new(alloc: Global) -> Self
         ensures { result ≡ record { made = 0; failing = []; faults = 0 } }
     {

@@ -11,6 +11,7 @@ pub enum Family {
     Saline,
 }
 
+/// Whether a statement reads its reach or may write there.
 #[derive(Clone, Copy, Debug, PartialEq, Eq)]
 pub enum Mode {
     Read,

@@ -33,4 +33,5 @@ impl Drop for Item {
     }
 }
 
+/// What `show locks` or `show bases` tells, in the order in which it is told.
 pub type Items = List<Item>;

@@ -53,6 +53,7 @@ impl From<LineErr> for Stop {
     }
 }
 
+/// How a run ends that stops so.
 pub fn status_of(stop: Stop) -> Status
     ensures { result ≡ status_of stop }
 {

@@ -28,6 +28,7 @@ impl<'a> Model for Cursor<'a> {
 }
 
 impl<'a> Cursor<'a> {
+    /// All of these tokens are to be read.
     pub fn new(tokens: &'a [Lexeme<'a>]) -> Cursor<'a>
         ensures { result ≡ symbols_in tokens.now }
     {

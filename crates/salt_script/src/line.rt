@@ -12,10 +12,8 @@ use crate::error::ReadErr;
 use crate::grammar::whole_line;
 use salt_ast::Line;
 use salt_tokens::{lexemes, one_row};
+use salt_values::limits::LINE_MOST;
 use std::alloc::{AllocError, Global};
-
-/// The most bytes of a line.
-const LINE_MOST: usize = 65_536;
 
 fn is_blank(b: u8) -> bool
     ensures { result ≡ is_blank b }

@@ -249,8 +249,3 @@ fn long_lines(rt: HostRuntime) -> Result<(), Fail> {
     assert!(rt; found.as_slice() == b"none".as_slice());
     Ok(())
 }
-
-#[test]
-fn laws_hold() {
-    one_tree();
-}

@@ -1,3 +1,5 @@
+//! Why bytes are no tokens.
+
 ghost use Rattle.std.specs.Prelude.{◌≡◌};
 ghost use Rattle.salt_tokens.specs.declared.error.ScanErr.TheVariants.{Memory};
 

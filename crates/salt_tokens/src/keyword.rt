@@ -1,3 +1,5 @@
+//! The keywords and their spellings.
+
 ghost use Rattle.std.specs.Prelude.{◌≡◌, map};
 ghost use Rattle.salt_tokens.specs.Bytes.{lower};
 ghost use Rattle.salt_tokens.specs.Spelling.{keyword_spelling, keyword_of, same_bytes};

@@ -1,3 +1,5 @@
+//! What tokens stand for.
+
 ghost use Rattle.std.specs.Prelude.{◌≡◌, ◌≤◌, Err, IfOk, length, min, vec_len};
 ghost use Rattle.std.specs.Str.Parse.{digits_value};
 ghost use Rattle.salt_tokens.specs.Bytes.{is_digit};

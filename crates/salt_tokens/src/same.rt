@@ -24,6 +24,7 @@ pub fn same_in_any_case(bytes: &[u8], spelling: &[u8]) -> bool
     lower(*first) == *letter && same_in_any_case(rest, letters)
 }
 
+/// Whether the bytes are those of the spelling.
 pub fn same(bytes: &[u8], spelling: &[u8]) -> bool
     ensures { result ≡ same_bytes bytes.now spelling.now }
 {

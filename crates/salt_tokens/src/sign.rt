@@ -1,3 +1,5 @@
+//! The signs and their spellings.
+
 ghost use Rattle.std.specs.Prelude.{◌≡◌};
 ghost use Rattle.salt_tokens.specs.Spelling.{sign_spelling, sign_of};
 

@@ -1,3 +1,5 @@
+//! Tokens, by their kinds and places.
+
 use sqlite_items::Items;
 
 /// What kind of token some bytes are.

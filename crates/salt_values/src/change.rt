@@ -12,4 +12,5 @@ pub struct Change {
     pub row: Option<Row>,
 }
 
+/// Changes, one a place, in order of table and key where a unit commits them.
 pub type Changes = Items<Change>;
