@@ -26,7 +26,7 @@ use Rattle.salt_model.specs.declared.events.Answer.TheVariants.{Failed}
 use Rattle.salt_model.specs.declared.events.Answer.{Answer}
 use Rattle.salt_model.specs.declared.events.End.TheVariants.{Branched, Committed, Cut}
 use Rattle.salt_model.specs.declared.events.End.{End}
-use Rattle.salt_model.specs.declared.events.Event.TheVariants.{Accepted, Began, Defined, Did, Down, Ended, Finished, Opened, Ready, Waits}
+use Rattle.salt_model.specs.declared.events.Event.TheVariants.{Accepted, Began, Did, Down, Ended, Finished, Opened, Ready, Waits}
 use Rattle.salt_model.specs.declared.events.Event.{Event}
 use Rattle.salt_model.specs.declared.events.UnitKind.TheVariants.{First, Later}
 use Rattle.salt_model.specs.declared.events.UnitKind.{UnitKind}
