@@ -1,6 +1,6 @@
-pub mod SendingLaws
+pub mod Joins
+pub mod Loops
 pub mod Quotes
-pub mod Lists
 pub mod Nodes
 pub mod Each
 pub mod Fragments

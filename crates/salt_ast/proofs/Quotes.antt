@@ -1,10 +1,11 @@
 -- The bytes of a text from quote to quote.
-use Rattle.salt_ast.specs.Sending.{is_no_quote}
+use Rattle.salt_ast.specs.Words.{is_no_quote}
+use Rattle.salt_ast.proofs.Joins.{Prints-nil, ◌⨾◌}
+use Rattle.salt_ast.specs.Prints.{Prints}
+use Rattle.salt_ast.specs.declared.printer.Printer.{Printer}
 use Rattle.salt_tokens.specs.Pieces.{doubled}
-use Rattle.std.proofs.Common.{Bool, List, [], add-one, ap, arith, cond, drop, false, if◌then◌else◌, inl, inr, length, length-drop, length-take, not, one-add, refl, suc, sym, take, true, ℕ, ◌+◌, ◌++◌, ◌-◌, ◌<◌, ◌∙◌, ◌∷◌, ◌≡◌, ◌≤◌, ◌⊎◌}
-use Rattle.std.proofs.Math.Nat.{eq-or-lt_of_le}
+use Rattle.std.proofs.Common.{Bool, List, Option, [], add-one, ap, append_assoc, arith, cond, drop, false, if◌then◌else◌, length, length-drop, length-take, not, one-add, refl, subst, suc, sym, take, true, ℕ, ◌+◌, ◌++◌, ◌-◌, ◌<◌, ◌∙◌, ◌∷◌, ◌≡◌, ◌≤◌}
 use Rattle.std.proofs.Math.Seq.{take-length}
-use Rattle.std.proofs.lemmas.List.{append-nil}
 use Rattle.std.proofs.lemmas.List.Sums.{prefix_len-le-length}
 use Rattle.std.specs.List.{prefix_len}
 use Rattle.std.specs.Prelude.{◌==◌}
@@ -38,12 +39,31 @@ at_end n l e h = ap (λ k. take k l) h ∙ (take-length l ∙ sym (no_quote l (s
 pub at_quote : (n : ℕ) (l : List ℕ) → n ≡ prefix_len is_no_quote l → n < length l → take n l ++ ((39 ∷ 39 ∷ []) ++ doubled (take (length l - (n + 1)) (drop (n + 1) l))) ≡ doubled l
 at_quote n l e lt = rw (← length-drop (n + 1) l, take-length (drop (n + 1) l), e) (sym (first_quote l (rw (← e) lt)))
 
-front_of : (n : ℕ) (l : List ℕ) → n ≡ prefix_len is_no_quote l → (n ≡ length l) ⊎ (n < length l) → (y : List ℕ) × (take n l ++ y ≡ doubled l)
-front_of n l e (inl eq) = ([], append-nil (take n l) ∙ at_end n l e eq)
-front_of n l e (inr lt) = ((39 ∷ 39 ∷ []) ++ doubled (take (length l - (n + 1)) (drop (n + 1) l)), at_quote n l e lt)
-
-pub front : (n : ℕ) (l : List ℕ) → n ≡ prefix_len is_no_quote l → n ≤ length l → (y : List ℕ) × (take n l ++ y ≡ doubled l)
-front n l e le = front_of n l e (eq-or-lt_of_le le)
-
 pub rest_within : (m k : ℕ) (l : List ℕ) (n : ℕ) → length l ≤ n → length (take m (drop k l)) ≤ n
 rest_within m k l n h = simp (length-take, length-drop) (omega arith)
+
+-- The quotes of a first part of the text have been doubled and printed, and those of what is left have not.
+pub record Doubles {K : Type 0} (held : K → Option (List ℕ)) (faults : K → ℕ) (old now : Printer K) (text left : List ℕ) : Type 0 where
+  pub front : List ℕ
+  pub printed : Prints held faults old now front
+  pub whole : front ++ doubled left ≡ doubled text
+
+module _ {K : Type 0} {held : K → Option (List ℕ)} {faults : K → ℕ} {old : Printer K} {text : List ℕ} where
+  pub doubles-none : Doubles held faults old old text text
+  doubles-none = record { front = []; printed = Prints-nil held faults old; whole = refl }
+
+  -- what is left has no quote
+  pub doubles-all : {now new : Printer K} (n : ℕ) (left : List ℕ) → n ≡ prefix_len is_no_quote left → n ≡ length left →
+      Doubles held faults old now text left → Prints held faults now new (take n left) → Prints held faults old new (doubled text)
+  doubles-all {new = new} n left run all d p =
+      subst (Prints held faults old new) (ap (λ l. d.front ++ l) (at_end n left run all) ∙ d.whole) (d.printed ⨾ p)
+
+  -- the bytes before the next quote, and the quote
+  pub doubles-more : {now mid new : Printer K} (n : ℕ) (left : List ℕ) → n ≡ prefix_len is_no_quote left → n < length left →
+      Doubles held faults old now text left → Prints held faults now mid (take n left) → Prints held faults mid new (39 ∷ 39 ∷ []) →
+      Doubles held faults old new text (take (length left - (n + 1)) (drop (n + 1) left))
+  doubles-more n left run more d p q = record {
+    front = d.front ++ (take n left ++ 39 ∷ 39 ∷ []);
+    printed = d.printed ⨾ p ⨾ q;
+    whole = rw (append_assoc d.front, append_assoc (take n left)) (ap (λ l. d.front ++ l) (at_quote n left run more) ∙ d.whole);
+  }

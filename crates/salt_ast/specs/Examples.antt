@@ -3,7 +3,7 @@ use Rattle.salt_ast.specs.Grammar.{Within, alone, colon, literal, minus_int, nam
 use Rattle.salt_ast.specs.Grammar as grammar
 use Rattle.salt_ast.specs.Judgement.{Fault, exists, mistyped, statement_fault, table_fault, unknown}
 use Rattle.salt_ast.specs.Limits.{statement_limit, table_limit}
-use Rattle.salt_ast.specs.Sample.{acct, acct_def, bal, field, id, in_range, scan, set}
+use Rattle.salt_ast.specs.Sample.{acct, acct_def, all_rows, bal, field, id, in_range, negations, scan, schema, set, true_sum}
 use Rattle.salt_ast.specs.Statements as form
 use Rattle.salt_ast.specs.Statements.{IsStatement}
 use Rattle.salt_ast.specs.Tables.{IsTable}
@@ -16,7 +16,6 @@ use Rattle.salt_ast.specs.declared.trees.ColType.TheVariants as kind
 use Rattle.salt_ast.specs.declared.trees.Expr.{Column, Expr, Variable}
 use Rattle.salt_ast.specs.declared.trees.Field.{Field}
 use Rattle.salt_ast.specs.declared.trees.Op.TheVariants as op
-use Rattle.salt_ast.specs.declared.trees.Scan.{Scan}
 use Rattle.salt_ast.specs.declared.trees.Scope.{Scope}
 use Rattle.salt_ast.specs.declared.trees.Statement.{Statement}
 use Rattle.salt_ast.specs.declared.trees.Statement.TheVariants as statement
@@ -28,7 +27,7 @@ use Rattle.salt_tokens.specs.Symbols.{Symbols, int, key, name, symbols_of, sign,
 use Rattle.salt_tokens.specs.declared.keyword.Keyword.TheVariants as word
 use Rattle.salt_tokens.specs.declared.sign.Sign.TheVariants as mark
 use Rattle.std.specs.Fmt.{digits}
-use Rattle.std.specs.Prelude.{List, None, Option, Some, [], codes, neg_ℤ, option_map, pos, refl, replicate, suc, zero, ℕ, ◌++◌, ◌∷◌, ◌≡◌}
+use Rattle.std.specs.Prelude.{List, None, Option, Some, [], codes, neg_ℤ, option_map, pos, refl, replicate, ℕ, ◌++◌, ◌∷◌, ◌≡◌}
 
 -- the symbols of a text
 abbrev symbols : List ℕ → Option Symbols
@@ -58,7 +57,8 @@ between_symbols = refl
 between_spelled : IsStatement (Within 0) (Within 0) between_row between_statement
 between_spelled =
     form.is_select (form.named_columns (form.items form.is_name form.no_more))
-    (form.where_between (one (one plus_int)) (one (one plus_int)) (form.and (one (grammar.not (plain (pair (one (one named)) (sign mark.Equal) refl refl (one (one literal))))))))
+    (form.where_between (one (one plus_int)) (one (one plus_int))
+    (form.and (one (grammar.not (plain (pair (one (one named)) (sign mark.Equal) refl refl (one (one literal))))))))
 
 between_text : statement_text between_statement ≡ codes "select n from w where key between 0 and 3 and (not (n = 'it''s'))"
 unfolding digits
@@ -78,7 +78,9 @@ acct_symbols = refl
 acct_spelled : IsTable (Within 0) acct_row acct_def
 acct_spelled =
     table.is_table table.int_field (form.one_more table.int_field form.no_more)
-    (form.one_more (table.is_check (one (grammar.more (one (plain (pair (one (one named)) (sign mark.AtLeast) refl refl (one (one plus_int))))) (key word.And) refl refl (plain (pair (one (one named)) (sign mark.AtMost) refl refl (one (one plus_int)))))))
+    (form.one_more
+    (table.is_check (one (grammar.more (one (plain (pair (one (one named)) (sign mark.AtLeast) refl refl (one (one plus_int)))))
+    (key word.And) refl refl (plain (pair (one (one named)) (sign mark.AtMost) refl refl (one (one plus_int)))))))
     form.no_more)
 
 acct_text : table_text acct_def ≡ codes "create table acct (id int key, bal int, check ((bal >= 0) and (bal <= 1000)))"
@@ -87,24 +89,29 @@ acct_text = refl
 
 -- Texts of the other forms.
 
-abbrev all_rows : Scan
-all_rows = scan bound.All None
-
-insert_text : statement_text (statement.Insert (codes "t") (number (pos 5) ∷ number (neg_ℤ (pos 3)) ∷ letters [] ∷ [])) ≡ codes "insert into t values (5, -3, '')"
+insert_text :
+    statement_text (statement.Insert (codes "t") (number (pos 5) ∷ number (neg_ℤ (pos 3)) ∷ letters [] ∷ []))
+    ≡ codes "insert into t values (5, -3, '')"
 unfolding digits
 insert_text = refl
 
-count_text : statement_text (statement.Select what.Count (codes "t") (scan (bound.Key (Variable (codes "k"))) None)) ≡ codes "select count(*) from t where key = :k"
+count_text :
+    statement_text (statement.Select what.Count (codes "t") (scan (bound.Key (Variable (codes "k"))) None))
+    ≡ codes "select count(*) from t where key = :k"
 count_text = refl
 
 sum_text : statement_text (statement.Select (what.Sum bal) acct (scan bound.All (Some (Column bal)))) ≡ codes "select sum(bal) from acct where bal"
 sum_text = refl
 
-into_text : statement_text (statement.SelectInto bal (codes "x") acct (operation op.Mul (number (pos 2)) (number (pos 3)))) ≡ codes "select bal into :x from acct where key = (2 * 3)"
+into_text :
+    statement_text (statement.SelectInto bal (codes "x") acct (operation op.Mul (number (pos 2)) (number (pos 3))))
+    ≡ codes "select bal into :x from acct where key = (2 * 3)"
 unfolding digits
 into_text = refl
 
-update_text : statement_text (statement.Update acct (set bal (number (pos 0)) ∷ set n (operation op.Join (Column n) (Column n)) ∷ []) all_rows) ≡ codes "update acct set bal = 0, n = (n || n)"
+update_text :
+    statement_text (statement.Update acct (set bal (number (pos 0)) ∷ set n (operation op.Join (Column n) (Column n)) ∷ []) all_rows)
+    ≡ codes "update acct set bal = 0, n = (n || n)"
 unfolding digits
 update_text = refl
 
@@ -119,7 +126,8 @@ left_spelled : IsStatement (Within 0) (Within 0)
     (key word.Ensure ∷ int 1 ∷ sign mark.Minus ∷ int 2 ∷ sign mark.Minus ∷ sign mark.Minus ∷ int 3 ∷ [])
     (statement.Ensure (operation op.Sub (operation op.Sub (number (pos 1)) (number (pos 2))) (number (neg_ℤ (pos 3)))))
 left_spelled =
-    form.is_ensure (one (one (plain (alone (grammar.more (grammar.more (one (one plus_int)) (sign mark.Minus) refl refl (one plus_int)) (sign mark.Minus) refl refl (one minus_int))))))
+    form.is_ensure
+    (one (one (plain (alone (grammar.more (grammar.more (one (one plus_int)) (sign mark.Minus) refl refl (one plus_int)) (sign mark.Minus) refl refl (one minus_int))))))
 
 -- (:x) * 2
 paren_spelled : IsStatement (Within 1) (Within 0)
@@ -127,7 +135,8 @@ paren_spelled : IsStatement (Within 1) (Within 0)
     (statement.Ensure (operation op.Mul (Variable n) (number (pos 2))))
 unfolding Within
 paren_spelled =
-    form.is_ensure (one (one (plain (alone (one (grammar.more (one (paren (one (one (plain (alone (one (one colon)))))))) (sign mark.Star) refl refl plus_int))))))
+    form.is_ensure
+    (one (one (plain (alone (one (grammar.more (one (paren (one (one (plain (alone (one (one colon)))))))) (sign mark.Star) refl refl plus_int))))))
 
 -- Limits.
 
@@ -169,21 +178,19 @@ longer_name : statement_limit (ensures (Variable (letters_of 33))) ≡ Some limi
 unfolding statement_limit
 longer_name = refl
 
--- as many negations
-abbrev negations : ℕ → Expr
-negations zero = Column n
-negations (suc k) = negation (negations k)
+abbrev deep : ℕ → Expr
+deep k = negations k (Column n)
 
-deepest : statement_limit (ensures (negations 63)) ≡ None
+deepest : statement_limit (ensures (deep 63)) ≡ None
 unfolding statement_limit
 deepest = refl
 
-deeper : statement_limit (ensures (negations 64)) ≡ Some limit.Depth
+deeper : statement_limit (ensures (deep 64)) ≡ Some limit.Depth
 unfolding statement_limit
 deeper = refl
 
 -- the depth comes last
-deeper_and_longer : statement_limit (statement.Insert acct (negations 64 ∷ letters (letters_of 256) ∷ [])) ≡ Some limit.Text
+deeper_and_longer : statement_limit (statement.Insert acct (deep 64 ∷ letters (letters_of 256) ∷ [])) ≡ Some limit.Text
 unfolding statement_limit
 deeper_and_longer = refl
 
@@ -206,14 +213,11 @@ long_name_first : table_limit (with_columns (field (letters_of 33) kind.Int ∷ 
 unfolding table_limit
 long_name_first = refl
 
-too_many_checks : table_limit (record { name = acct; columns = columns 1; checks = replicate 16 in_range ++ negations 64 ∷ [] }) ≡ Some limit.Checks
+too_many_checks : table_limit (record { name = acct; columns = columns 1; checks = replicate 16 in_range ++ deep 64 ∷ [] }) ≡ Some limit.Checks
 unfolding table_limit
 too_many_checks = refl
 
 -- Faults, where the table above is defined.
-
-abbrev schema : List TableDef
-schema = acct_def ∷ []
 
 abbrev no_names : Scope
 no_names = record { params = []; vars = [] }
@@ -276,8 +280,6 @@ unfolding statement_fault
 key_is_set = refl
 
 -- 1 = 1 may be asked, whether two truth values are equal may not
-abbrev true_sum : Expr
-true_sum = operation op.Equal (number (pos 1)) (number (pos 1))
 
 truth : session_fault (ensures true_sum) ≡ None
 unfolding statement_fault

@@ -25,7 +25,8 @@ use Rattle.salt_ast.specs.declared.trees.What.TheVariants as what
 use Rattle.salt_values.specs.declared.value.Value.{Value}
 use Rattle.salt_values.specs.declared.value.Value.TheVariants as value
 use Rattle.std.specs.List.{list_all}
-use Rattle.std.specs.Prelude.{Bool, List, None, Option, Some, [], false, if◌then◌else◌, length, map, nat_le, not, option_and_then, option_map, true, ℕ, ◌&&◌, ◌++◌, ◌∷◌}
+use Rattle.std.specs.Prelude.{Bool, List, None, Option, Some, [], false, if◌then◌else◌, length, map, nat_le, not, true}
+use Rattle.std.specs.Prelude.{option_and_then, option_map, ℕ, ◌&&◌, ◌++◌, ◌∷◌}
 
 -- A schema is the list of the tables defined before.
 

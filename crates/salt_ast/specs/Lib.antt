@@ -9,8 +9,7 @@ pub mod Spelling
 pub mod Texts
 pub mod Limits
 pub mod Judgement
-pub mod Sending
-pub mod Parts
+pub mod Prints
 pub mod ProgramTexts
 pub mod Paths
 pub mod ProgramLimits

@@ -1,11 +1,12 @@
 -- Examples of programs and lines, computed from the definitions.
 use Rattle.salt_ast.specs.Judgement.{exists, mistyped, statement_fault, table_fault, unknown}
 use Rattle.salt_ast.specs.Paths.{blocks, next_on_commit, next_on_failure, rest_of}
-use Rattle.salt_ast.specs.ProgramJudgement.{Known, LineFault, ProgramFault, backward, branch, call_fault, fits, faulty, in_branches, in_text, kept, line_fault, no_branch, program_fault, program_kept_limit}
+use Rattle.salt_ast.specs.ProgramJudgement.{Known, LineFault, ProgramFault, backward, branch, call_fault, fits, faulty, in_branches, in_text, kept}
+use Rattle.salt_ast.specs.ProgramJudgement.{line_fault, no_branch, program_fault, program_kept_limit}
 use Rattle.salt_ast.specs.ProgramLimits.{line_limit, program_limit}
 use Rattle.salt_ast.specs.ProgramTexts.{line_text, program_text}
-use Rattle.salt_ast.specs.Sample.{acct, acct_def, bal, field, id, part, scan, set, transfer, transfer_parts}
-use Rattle.salt_ast.specs.Trees.{negation, number, operation}
+use Rattle.salt_ast.specs.Sample.{acct, acct_def, all_rows, bal, field, id, negations, part, scan, schema, set, spare, spare_block, transfer, transfer_parts, true_sum}
+use Rattle.salt_ast.specs.Trees.{number}
 use Rattle.salt_ast.specs.declared.limit.LimitName.TheVariants as limit
 use Rattle.salt_ast.specs.declared.lines.Act.{Act}
 use Rattle.salt_ast.specs.declared.lines.Act.TheVariants as act
@@ -17,55 +18,26 @@ use Rattle.salt_ast.specs.declared.programs.PartDef.{PartDef}
 use Rattle.salt_ast.specs.declared.programs.ProgramDef.{ProgramDef}
 use Rattle.salt_ast.specs.declared.trees.Bound.TheVariants as bound
 use Rattle.salt_ast.specs.declared.trees.ColType.TheVariants as kind
-use Rattle.salt_ast.specs.declared.trees.Expr.{Expr, Variable}
+use Rattle.salt_ast.specs.declared.trees.Expr.{Variable}
 use Rattle.salt_ast.specs.declared.trees.Field.{Field}
-use Rattle.salt_ast.specs.declared.trees.Op.TheVariants as op
-use Rattle.salt_ast.specs.declared.trees.Scan.{Scan}
 use Rattle.salt_ast.specs.declared.trees.Statement.{Statement}
 use Rattle.salt_ast.specs.declared.trees.Statement.TheVariants as statement
-use Rattle.salt_ast.specs.declared.trees.TableDef.{TableDef}
 use Rattle.salt_ast.specs.declared.trees.What.TheVariants as what
 use Rattle.salt_values.specs.declared.id.Id.{Id}
 use Rattle.salt_values.specs.declared.value.Value.{Value}
 use Rattle.salt_values.specs.declared.value.Value.TheVariants as value
 use Rattle.std.specs.Fmt.{digits}
-use Rattle.std.specs.Prelude.{List, None, Option, Some, [], codes, false, neg_ℤ, pos, refl, replicate, suc, zero, ℕ, ◌++◌, ◌∷◌, ◌≡◌}
+use Rattle.std.specs.Prelude.{List, None, Option, Some, [], codes, false, neg_ℤ, pos, refl, replicate, ℕ, ◌++◌, ◌∷◌, ◌≡◌}
 
--- A table of accounts.
-
-abbrev schema : List TableDef
-schema = acct_def ∷ []
-
-abbrev all_rows : Scan
-all_rows = scan bound.All None
-
-abbrev true_sum : Expr
-true_sum = operation op.Equal (number (pos 1)) (number (pos 1))
-
--- as many negations
-abbrev negations : ℕ → Expr
-negations zero = true_sum
-negations (suc k) = negation (negations k)
-
--- A transfer in three parts: what the first takes, the second brings, or else the third brings back.
+-- Texts of programs.
 
 transfer_text :
     program_text transfer
-    ≡ codes "program transfer(a int, b int, amt int) base part { update acct set bal = (bal - :amt) where key = :a } part { update acct set bal = (bal + :amt) where key = :b } then end on failure go 3 part { update acct set bal = (bal + :amt) where key = :a } on failure end end"
+    ≡ codes "program transfer(a int, b int, amt int) base part { update acct set bal = (bal - :amt) where key = :a } " ++
+    (codes "part { update acct set bal = (bal + :amt) where key = :b } then end on failure go 3 " ++
+    codes "part { update acct set bal = (bal + :amt) where key = :a } on failure end end")
 unfolding digits
 transfer_text = refl
-
--- A program of one unit, with a variable and two statements.
-
-abbrev spare : ProgramDef
-spare = record {
-  name = codes "spare";
-  params = [];
-  vars = field (codes "x") kind.Int ∷ field (codes "s") kind.Text ∷ [];
-  body = body.Acid (
-      statement.SelectInto bal (codes "x") acct (number (pos 1)) ∷
-      statement.Ensure (operation op.AtLeast (Variable (codes "x")) (number (pos 0))) ∷ []);
-}
 
 spare_text :
     program_text spare
@@ -119,7 +91,9 @@ step_text : line_text (session 1 act.Step) ≡ codes "@1 step"
 unfolding digits
 step_text = refl
 
-select_line_text : line_text (session 2 (act.Do (statement.Select (what.Columns (bal ∷ [])) acct (scan (bound.Key (number (pos 1))) None)))) ≡ codes "@2 select bal from acct where key = 1"
+select_line_text :
+    line_text (session 2 (act.Do (statement.Select (what.Columns (bal ∷ [])) acct (scan (bound.Key (number (pos 1))) None))))
+    ≡ codes "@2 select bal from acct where key = 1"
 unfolding digits
 select_line_text = refl
 
@@ -168,7 +142,7 @@ skipping =
 rests_that_skip : (rest_of skipping (Some 1) ∷ rest_of skipping (Some 2) ∷ rest_of skipping (Some 3) ∷ []) ≡ (8 ∷ 17 ∷ 7 ∷ [])
 rests_that_skip = refl
 
-blocks_of_spare : blocks spare.body ≡ (statement.SelectInto bal (codes "x") acct (number (pos 1)) ∷ statement.Ensure (operation op.AtLeast (Variable (codes "x")) (number (pos 0))) ∷ []) ∷ []
+blocks_of_spare : blocks spare.body ≡ spare_block ∷ []
 blocks_of_spare = refl
 
 -- Limits of programs and lines.
@@ -225,11 +199,13 @@ unfolding program_limit
 most_names = refl
 
 -- the depth comes last, also behind a way's number that is too large
-deep_and_far : program_limit (base (part (statement.Ensure (negations 64) ∷ []) None None ∷ part (true_block 1) (Some (next.Part 9223372036854775808)) None ∷ [])) ≡ Some limit.Number
+deep_and_far :
+    program_limit (base (part (statement.Ensure (negations 64 true_sum) ∷ []) None None ∷ part (true_block 1) (Some (next.Part 9223372036854775808)) None ∷ []))
+    ≡ Some limit.Number
 unfolding program_limit
 deep_and_far = refl
 
-deep : program_limit (acid (statement.Ensure (negations 64) ∷ [])) ≡ Some limit.Depth
+deep : program_limit (acid (statement.Ensure (negations 64 true_sum) ∷ [])) ≡ Some limit.Depth
 unfolding program_limit
 deep = refl
 
@@ -248,7 +224,8 @@ unfolding line_limit
 large_base = refl
 
 stops :
-    (line_limit (line.Crash ((0, 0) ∷ [])) ∷ line_limit (line.Crash ((1000000, 4) ∷ [])) ∷ line_limit (line.Crash ((1, 5) ∷ (0, 0) ∷ [])) ∷ line_limit (line.Crash (replicate 8 (1, 0) ++ (0, 9) ∷ [])) ∷ [])
+    (line_limit (line.Crash ((0, 0) ∷ [])) ∷ line_limit (line.Crash ((1000000, 4) ∷ [])) ∷ line_limit (line.Crash ((1, 5) ∷ (0, 0) ∷ [])) ∷
+    line_limit (line.Crash (replicate 8 (1, 0) ++ (0, 9) ∷ [])) ∷ [])
     ≡ (Some limit.Crash ∷ None ∷ Some limit.Pick ∷ Some limit.Pairs ∷ [])
 unfolding line_limit
 stops = refl
@@ -298,7 +275,8 @@ unfolding line_fault program_fault
 no_branch_in_line = refl
 
 calls :
-    (fault_of call_transfer ∷ fault_of (call (codes "transfer") (numbers (1 ∷ 2 ∷ []))) ∷ fault_of (call (codes "nosuch") []) ∷ fault_of (call (codes "spare") (value.Text [] ∷ [])) ∷ fault_of (call (codes "spare") []) ∷ [])
+    (fault_of call_transfer ∷ fault_of (call (codes "transfer") (numbers (1 ∷ 2 ∷ []))) ∷ fault_of (call (codes "nosuch") []) ∷
+    fault_of (call (codes "spare") (value.Text [] ∷ [])) ∷ fault_of (call (codes "spare") []) ∷ [])
     ≡ (None ∷ Some (faulty mistyped) ∷ Some (faulty (unknown (codes "nosuch"))) ∷ Some (faulty mistyped) ∷ None ∷ [])
 unfolding line_fault call_fault
 calls = refl
@@ -319,7 +297,8 @@ abbrev crowded : Known
 crowded = record { schema = schema; catalogue = transfer ∷ spare ∷ []; unfinished = []; unreleased = 1024 }
 
 crowded_calls :
-    (line_fault crowded call_transfer ∷ line_fault crowded (call (codes "transfer") []) ∷ line_fault crowded (call (codes "spare") []) ∷ line_fault crowded (call (codes "nosuch") []) ∷ [])
+    (line_fault crowded call_transfer ∷ line_fault crowded (call (codes "transfer") []) ∷ line_fault crowded (call (codes "spare") []) ∷
+    line_fault crowded (call (codes "nosuch") []) ∷ [])
     ≡ (Some (kept limit.Bases) ∷ Some (kept limit.Bases) ∷ None ∷ Some (faulty (unknown (codes "nosuch"))) ∷ [])
 unfolding line_fault call_fault
 crowded_calls = refl
@@ -378,7 +357,8 @@ same_part_twice = refl
 
 -- the least part is told
 least_part :
-    branch_fault_of (part (true_block 1) None None ∷ part (true_block 1) None (Some (next.Part 2)) ∷ part (true_block 1) None None ∷ []) ≡ Some (in_branches (backward 2))
+    branch_fault_of (part (true_block 1) None None ∷ part (true_block 1) None (Some (next.Part 2)) ∷ part (true_block 1) None None ∷ [])
+    ≡ Some (in_branches (backward 2))
 unfolding program_fault
 least_part = refl
 

@@ -1,7 +1,8 @@
 -- What is refused of programs, calls and lines under what is defined before: limits of what is kept, names that are not
 -- known, names that come twice, types, and branches.
 use Rattle.salt_values.specs.declared.limits.TheConstants.{BASES_MOST, PROGRAMS_MOST}
-use Rattle.salt_ast.specs.Judgement.{Fault, doubled_in_statement, doubled_name, field_names, first_fault, is_same_type, is_typed_statement, kept_limit, statement_fault, table_fault, unknown, unknown_in_statement}
+use Rattle.salt_ast.specs.Judgement.{Fault, doubled_in_statement, doubled_name, field_names, first_fault, is_same_type, is_typed_statement}
+use Rattle.salt_ast.specs.Judgement.{kept_limit, statement_fault, table_fault, unknown, unknown_in_statement}
 use Rattle.salt_ast.specs.Paths.{body_statements}
 use Rattle.salt_ast.specs.ProgramTexts.{base_text}
 use Rattle.salt_ast.specs.Words.{first_in}
@@ -30,7 +31,8 @@ use Rattle.salt_values.specs.declared.id.Id.{Id}
 use Rattle.salt_values.specs.declared.value.Value.{Value}
 use Rattle.salt_values.specs.declared.value.Value.TheVariants as value
 use Rattle.std.specs.List.{list_all, list_any}
-use Rattle.std.specs.Prelude.{Bool, List, None, Option, Some, [], false, if◌then◌else◌, is_some, length, nat_le, nat_lt, not, option_map, suc, true, ℕ, ◌&&◌, ◌++◌, ◌==◌, ◌∷◌, ◌||◌, option_and_then}
+use Rattle.std.specs.Prelude.{Bool, List, None, Option, Some, [], false, if◌then◌else◌, is_some, length, nat_le, nat_lt, not, suc, true}
+use Rattle.std.specs.Prelude.{option_and_then, option_map, ℕ, ◌&&◌, ◌++◌, ◌==◌, ◌∷◌, ◌||◌}
 
 -- A catalogue is the list of the programs defined before.
 

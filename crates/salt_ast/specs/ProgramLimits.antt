@@ -1,5 +1,6 @@
 -- Limits of programs and lines, and the first that a tree's text passes.
-use Rattle.salt_values.specs.declared.limits.TheConstants.{CRASH_MOST, PAIRS_MOST, PARAMETERS_MOST, PARTS_MOST, PICK_MOST, SESSION_MOST, STATEMENTS_MOST, VARIABLES_MOST}
+use Rattle.salt_values.specs.declared.limits.TheConstants.{CRASH_MOST, PAIRS_MOST, PARAMETERS_MOST, PARTS_MOST}
+use Rattle.salt_values.specs.declared.limits.TheConstants.{PICK_MOST, SESSION_MOST, STATEMENTS_MOST, VARIABLES_MOST}
 use Rattle.salt_ast.specs.Limits.{above, field_passed, height_passed, name_passed, passed_in_list, statement_passed, table_passed, value_passed}
 use Rattle.salt_ast.specs.Paths.{body_statements}
 use Rattle.salt_ast.specs.Trees.{statement_exprs}

@@ -45,11 +45,16 @@ variables_text (f ∷ fs) = codes "var " ++ (field_text f ++ (preceded (codes ",
 
 abbrev pub program_text : ProgramDef → List ℕ
 program_text p =
-    codes "program " ++ (p.name ++ (codes "(" ++ (between_commas field_text p.params ++ (codes ") " ++ (variables_text p.vars ++ (body_text p.body ++ codes " end"))))))
+    codes "program " ++
+    (p.name ++ (codes "(" ++ (between_commas field_text p.params ++ (codes ") " ++ (variables_text p.vars ++ (body_text p.body ++ codes " end"))))))
+
+-- values in parentheses
+abbrev pub row_text : List Value → List ℕ
+row_text values = codes "(" ++ (between_commas value_text values ++ codes ")")
 
 -- a program's name and arguments
 abbrev pub call_text : List ℕ → List Value → List ℕ
-call_text program args = program ++ (codes "(" ++ (between_commas value_text args ++ codes ")"))
+call_text program args = program ++ row_text args
 
 abbrev pub act_text : Act → List ℕ
 act_text act.Begin = codes "begin"

@@ -1,5 +1,5 @@
--- A table of accounts and a transfer between two of them, of which examples speak.
-use Rattle.salt_ast.specs.Trees.{number, operation}
+-- A table of accounts and two programs on it, of which examples speak.
+use Rattle.salt_ast.specs.Trees.{negation, number, operation}
 use Rattle.salt_ast.specs.declared.programs.Body.TheVariants as body
 use Rattle.salt_ast.specs.declared.programs.Next.{Next}
 use Rattle.salt_ast.specs.declared.programs.Next.TheVariants as next
@@ -18,7 +18,7 @@ use Rattle.salt_ast.specs.declared.trees.Set.{Set}
 use Rattle.salt_ast.specs.declared.trees.Statement.{Statement}
 use Rattle.salt_ast.specs.declared.trees.Statement.TheVariants as statement
 use Rattle.salt_ast.specs.declared.trees.TableDef.{TableDef}
-use Rattle.std.specs.Prelude.{List, None, Option, Some, [], codes, pos, ℕ, ◌∷◌}
+use Rattle.std.specs.Prelude.{List, None, Option, Some, [], codes, pos, suc, zero, ℕ, ◌∷◌}
 
 abbrev pub id : List ℕ
 id = codes "id"
@@ -44,6 +44,21 @@ scan b f = record { bound = b; filter = f }
 abbrev pub set : List ℕ → Expr → Set
 set c e = record { column = c; value = e }
 
+abbrev pub schema : List TableDef
+schema = acct_def ∷ []
+
+abbrev pub all_rows : Scan
+all_rows = scan bound.All None
+
+-- 1 = 1
+abbrev pub true_sum : Expr
+true_sum = operation op.Equal (number (pos 1)) (number (pos 1))
+
+-- as many negations of this
+abbrev pub negations : ℕ → Expr → Expr
+negations zero e = e
+negations (suc k) e = negation (negations k e)
+
 -- A transfer in three parts: what the first takes, the second brings, or else the third brings back.
 
 -- the balance of an account, by this operation with the amount
@@ -65,3 +80,18 @@ transfer_parts =
 
 abbrev pub transfer : ProgramDef
 transfer = record { name = codes "transfer"; params = amounts; vars = []; body = body.Base transfer_parts }
+
+-- A program of one unit, with a variable and two statements.
+
+abbrev pub spare_block : List Statement
+spare_block =
+    statement.SelectInto bal (codes "x") acct (number (pos 1)) ∷
+    statement.Ensure (operation op.AtLeast (Variable (codes "x")) (number (pos 0))) ∷ []
+
+abbrev pub spare : ProgramDef
+spare = record {
+  name = codes "spare";
+  params = [];
+  vars = field (codes "x") kind.Int ∷ field (codes "s") kind.Text ∷ [];
+  body = body.Acid spare_block;
+}

@@ -65,11 +65,13 @@ pub data IsScan (Inner : Symbols → Expr → Type 0) : Symbols → Scan → Typ
 -- stand in a parenthesis of the statement
 pub data IsStatement (Inner Deeper : Symbols → Expr → Type 0) : Symbols → Statement → Type 0 where
   is_insert : {t : List ℕ} {ts : Symbols} {es : List Expr} → Listed (Expression Deeper) ts es →
-      IsStatement Inner Deeper (key word.Insert ∷ key word.Into ∷ name t ∷ key word.Values ∷ sign mark.Open ∷ (ts ++ sign mark.Close ∷ [])) (statement.Insert t es)
+      IsStatement Inner Deeper (key word.Insert ∷ key word.Into ∷ name t ∷ key word.Values ∷ sign mark.Open ∷ (ts ++ sign mark.Close ∷ []))
+      (statement.Insert t es)
   is_select : {t : List ℕ} {a b : Symbols} {w : What} {scan : Scan} → IsWhat a w → IsScan Inner b scan →
       IsStatement Inner Deeper (key word.Select ∷ (a ++ key word.From ∷ name t ∷ b)) (statement.Select w t scan)
   is_select_into : {c v t : List ℕ} {ts : Symbols} {e : Expr} → Sum Inner ts e →
-      IsStatement Inner Deeper (key word.Select ∷ name c ∷ key word.Into ∷ sign mark.Colon ∷ name v ∷ key word.From ∷ name t ∷ key word.Where ∷ key word.Key ∷ sign mark.Equal ∷ ts)
+      IsStatement Inner Deeper (key word.Select ∷ name c ∷ key word.Into ∷ sign mark.Colon ∷ name v ∷ key word.From ∷ name t ∷
+      key word.Where ∷ key word.Key ∷ sign mark.Equal ∷ ts)
       (statement.SelectInto c v t e)
   is_update : {t : List ℕ} {a b : Symbols} {sets : List Set} {scan : Scan} → Listed (IsSet Inner) a sets → IsScan Inner b scan →
       IsStatement Inner Deeper (key word.Update ∷ name t ∷ key word.Set ∷ (a ++ b)) (statement.Update t sets scan)

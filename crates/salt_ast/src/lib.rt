@@ -3,25 +3,28 @@
 #![tactic(auto)]
 
 mod appender;
-mod canonical;
+mod clauses;
 mod copy;
+mod exprs;
 mod laws;
 mod limit;
 mod lines;
-mod parts;
 mod path_laws;
 mod print;
+mod printer;
 mod programs;
-mod send;
+mod rows;
 #[cfg(test)]
 mod tests;
 mod trees;
+mod values;
 
 pub use laws::{canonical_statement, canonical_table};
 pub use limit::LimitName;
 pub use lines::{Act, Line, Pairs};
 pub use path_laws::{rest_of_a_part, ways_lead_on};
 pub use print::{print_statement, print_table, send_statement, send_value};
+pub use printer::{Canonical, Printer};
 pub use programs::{Body, Next, PartDef, Parts, ProgramDef};
 pub use trees::{
     Bound, ColType, Expr, Exprs, Field, Fields, Op, Scan, Scope, Set, Sets, Statement, Statements,

@@ -1,3 +1,5 @@
+//! The limits on what is written, by the words that refusals name.
+
 ghost use Rattle.std.specs.Prelude.{◌≡◌};
 ghost use Rattle.salt_ast.specs.Limits.{limit_word};
 

@@ -9,7 +9,8 @@ ghost use Rattle.salt_ast.specs.declared.programs.PartDef.{PartDef};
 /// From a part on as many statements may still run as the part has, and then as many as behind the
 /// greater of its two ways, in each program that is not refused for its branches.
 pub fn rest_of_a_part()
-    ensures { (parts : List PartDef) (k : ℕ) (p : PartDef) → branch_fault (Base parts) ≡ None → at_number k parts ≡ Some p → rest_of parts (Some k) ≡ length p.block + max (rest_of parts (next_on_commit parts k)) (rest_of parts (next_on_failure parts k)) }
+    ensures { (parts : List PartDef) (k : ℕ) (p : PartDef) → branch_fault (Base parts) ≡ None → at_number k parts ≡ Some p
+        → rest_of parts (Some k) ≡ length p.block + max (rest_of parts (next_on_commit parts k)) (rest_of parts (next_on_failure parts k)) }
 {}
 
 /// Each way leads to a later part that is there, or to the end, in each program that is not refused

@@ -1,82 +1,76 @@
 //! Canonical texts of statements, tables and values.
 
-ghost use Rattle.std.specs.Prelude.{◌≡◌, ◌++◌, ◌≤◌, OnErr, OnOk};
-ghost use Rattle.salt_ast.specs.Sending.{gained};
-ghost use Rattle.salt_ast.specs.Texts.{statement_text, table_text, value_text};
-ghost use Rattle.salt_io.specs.Streams.{Gains, GainsSome, Rose};
+ghost use Rattle.std.specs.Prelude.{◌≡◌, ◌++◌, OnErr, OnOk, codes};
+ghost use Rattle.salt_ast.specs.Prints.{Prints};
+ghost use Rattle.salt_ast.specs.Texts.{expr_text, statement_text, table_text, value_text};
+ghost use Rattle.salt_io.specs.Sends.{Sends};
 
 use crate::appender::Appender;
-use crate::canonical::{Canonical, send_joined};
-use crate::parts::{Clause, Part};
-use crate::trees::{Statement, TableDef};
+use crate::printer::{Canonical, Printer};
+use crate::trees::{Expr, Statement, TableDef};
 use salt_io::{IoFailed, Sink};
-use salt_values::Value;
+use salt_values::{Name, Value};
 use std::alloc::AllocError;
 use std::mem;
+
+impl<K: Sink> Printer<'_, K> {
+    /// Prints what follows the variable of a `select .. into`.
+    fn from_key(&mut self, table: &Name, key: &Expr)
+        ensures { Prints K.held K.faults self.old self.new (codes " from " ++ (table.now ++ (codes " where key = " ++ expr_text key.now))) }
+    {
+        self.bytes(b" from ");
+        self.kept(table);
+        self.bytes(b" where key = ");
+        key.print(self);
+    }
+}
 
 impl Canonical for Statement {
     ghost text = { statement_text };
 
-    fn send<K: Sink>(&self, sink: &mut K) -> Result<(), IoFailed> {
+    fn print<K: Sink>(&self, out: &mut Printer<'_, K>) {
         match self {
-            Statement::Insert { table, values } => send_joined(
-                sink,
-                &[
-                    Clause::Bytes(b"insert into "),
-                    Clause::Bytes(table.as_slice()),
-                    Clause::Bytes(b" values ("),
-                    Clause::Values(values.as_slice()),
-                    Clause::Bytes(b")"),
-                ],
-            ),
-            Statement::Select { what, table, scan } => send_joined(
-                sink,
-                &[
-                    Clause::Bytes(b"select "),
-                    Clause::What(what),
-                    Clause::Bytes(b" from "),
-                    Clause::Bytes(table.as_slice()),
-                    Clause::Scan(scan),
-                ],
-            ),
+            Statement::Insert { table, values } => {
+                out.bytes(b"insert into ");
+                out.kept(table);
+                out.bytes(b" values (");
+                out.between_commas(values.as_slice());
+                out.bytes(b")");
+            }
+            Statement::Select { what, table, scan } => {
+                out.bytes(b"select ");
+                what.print(out);
+                out.bytes(b" from ");
+                out.kept(table);
+                scan.print(out);
+            }
             Statement::SelectInto {
                 column,
                 var,
                 table,
                 key,
-            } => send_joined(
-                sink,
-                &[
-                    Part::Bytes(b"select "),
-                    Part::Bytes(column.as_slice()),
-                    Part::Bytes(b" into :"),
-                    Part::Bytes(var.as_slice()),
-                    Part::Bytes(b" from "),
-                    Part::Bytes(table.as_slice()),
-                    Part::Bytes(b" where key = "),
-                    Part::Expr(key),
-                ],
-            ),
-            Statement::Update { table, sets, scan } => send_joined(
-                sink,
-                &[
-                    Clause::Bytes(b"update "),
-                    Clause::Bytes(table.as_slice()),
-                    Clause::Bytes(b" set "),
-                    Clause::Sets(sets.as_slice()),
-                    Clause::Scan(scan),
-                ],
-            ),
-            Statement::Delete { table, scan } => send_joined(
-                sink,
-                &[
-                    Clause::Bytes(b"delete from "),
-                    Clause::Bytes(table.as_slice()),
-                    Clause::Scan(scan),
-                ],
-            ),
+            } => {
+                out.bytes(b"select ");
+                out.kept(column);
+                out.bytes(b" into :");
+                out.kept(var);
+                out.from_key(table, key);
+            }
+            Statement::Update { table, sets, scan } => {
+                out.bytes(b"update ");
+                out.kept(table);
+                out.bytes(b" set ");
+                out.between_commas(sets.as_slice());
+                scan.print(out);
+            }
+            Statement::Delete { table, scan } => {
+                out.bytes(b"delete from ");
+                out.kept(table);
+                scan.print(out);
+            }
             Statement::Ensure(condition) => {
-                send_joined(sink, &[Part::Bytes(b"ensure "), Part::Expr(condition)])
+                out.bytes(b"ensure ");
+                condition.print(out);
             }
         }
     }
@@ -85,46 +79,49 @@ impl Canonical for Statement {
 impl Canonical for TableDef {
     ghost text = { table_text };
 
-    fn send<K: Sink>(&self, sink: &mut K) -> Result<(), IoFailed> {
-        send_joined(
-            sink,
-            &[
-                Clause::Bytes(b"create table "),
-                Clause::Bytes(self.name.as_slice()),
-                Clause::Bytes(b" ("),
-                Clause::Columns(self.columns.as_slice()),
-                Clause::Checks(self.checks.as_slice()),
-                Clause::Bytes(b")"),
-            ],
-        )
+    fn print<K: Sink>(&self, out: &mut Printer<'_, K>) {
+        out.bytes(b"create table ");
+        out.kept(&self.name);
+        out.bytes(b" (");
+        out.columns(self.columns.as_slice());
+        out.preceded(b", check ", self.checks.as_slice());
+        out.bytes(b")");
     }
 }
 
-/// Writes the canonical text of a statement; it takes no memory. After an error some first part of
-/// the text has been written, and the sink's count of faults has risen.
-#[tactic(auto, unfolding(crate::specs::Sending::gained))]
+/// Writes the canonical text; it takes no memory. `IoFailed` where a write failed: the sink has
+/// counted the fault, and some first part of the text was written, with at least one byte left out.
+fn send<T: Canonical, K: Sink>(sink: &mut K, tree: &T) -> Result<(), IoFailed>
+    ensures { Sends K.held K.faults sink.old sink.new result (T.text tree.now) }
+{
+    let mut out = Printer {
+        sink,
+        outcome: Ok(()),
+    };
+    tree.print(&mut out);
+    out.outcome
+}
+
+/// Writes the canonical text of a statement; it takes no memory. `IoFailed` where a write failed:
+/// the sink has counted the fault, and some first part of the text was written, with at least one
+/// byte left out.
 pub fn send_statement<K: Sink>(sink: &mut K, st: &Statement) -> Result<(), IoFailed>
-    ensures ok { OnOk result (Gains (K.held sink.old) (statement_text st.now) (K.held sink.new)) }
-    ensures err { OnErr result (GainsSome (K.held sink.old) (statement_text st.now) (K.held sink.new)) }
-    ensures failed { OnErr result (Rose (K.faults sink.old) (K.faults sink.new)) }
-    ensures later { K.faults sink.old ≤ K.faults sink.new }
+    ensures { Sends K.held K.faults sink.old sink.new result (statement_text st.now) }
 {
-    st.send(sink)
+    send(sink, st)
 }
 
-/// Writes the text of a value, a number's digits or a text in quotes; it takes no memory. After an
-/// error some first part of the text has been written, and the sink's count of faults has risen.
-#[tactic(auto, unfolding(crate::specs::Sending::gained))]
+/// Writes the text of a value, a number's digits or a text in quotes; it takes no memory. `IoFailed`
+/// where a write failed: the sink has counted the fault, and some first part of the text was
+/// written, with at least one byte left out.
 pub fn send_value<K: Sink>(sink: &mut K, value: &Value) -> Result<(), IoFailed>
-    ensures ok { OnOk result (Gains (K.held sink.old) (value_text value.now) (K.held sink.new)) }
-    ensures err { OnErr result (GainsSome (K.held sink.old) (value_text value.now) (K.held sink.new)) }
-    ensures failed { OnErr result (Rose (K.faults sink.old) (K.faults sink.new)) }
-    ensures later { K.faults sink.old ≤ K.faults sink.new }
+    ensures { Sends K.held K.faults sink.old sink.new result (value_text value.now) }
 {
-    value.send(sink)
+    send(sink, value)
 }
 
-/// Appends the canonical text of a statement. After an error the bytes are as they were.
+/// Appends the canonical text of a statement. `AllocError` where there is no memory for it: the
+/// bytes are as they were.
 pub fn print_statement(out: &mut Vec<u8>, st: &Statement) -> Result<(), AllocError>
     ensures ok { OnOk result (out.new.items ≡ out.old.items ++ statement_text st.now) }
     ensures err { OnErr result (out.new.items ≡ out.old.items) }
@@ -132,7 +129,8 @@ pub fn print_statement(out: &mut Vec<u8>, st: &Statement) -> Result<(), AllocErr
     append(out, st)
 }
 
-/// Appends the canonical text of a table. After an error the bytes are as they were.
+/// Appends the canonical text of a table. `AllocError` where there is no memory for it: the bytes
+/// are as they were.
 pub fn print_table(out: &mut Vec<u8>, def: &TableDef) -> Result<(), AllocError>
     ensures ok { OnOk result (out.new.items ≡ out.old.items ++ table_text def.now) }
     ensures err { OnErr result (out.new.items ≡ out.old.items) }
@@ -140,6 +138,8 @@ pub fn print_table(out: &mut Vec<u8>, def: &TableDef) -> Result<(), AllocError>
     append(out, def)
 }
 
+/// Appends the canonical text. `AllocError` where there is no memory for it: the bytes are as they
+/// were.
 fn append<T: Canonical>(out: &mut Vec<u8>, tree: &T) -> Result<(), AllocError>
     ensures ok { OnOk result (out.new.items ≡ out.old.items ++ T.text tree.now) }
     ensures err { OnErr result (out.new.items ≡ out.old.items) }
@@ -150,7 +150,7 @@ fn append<T: Canonical>(out: &mut Vec<u8>, tree: &T) -> Result<(), AllocError>
         bytes: mem::replace(out, empty),
         faults: 0,
     };
-    let sent = tree.send(&mut appender);
+    let sent = send(&mut appender, tree);
     let Appender {
         bytes,
         faults: _faults,

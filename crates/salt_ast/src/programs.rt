@@ -33,6 +33,7 @@ impl Drop for PartDef {
     }
 }
 
+/// The parts of a BASE program, in the order of their numbers.
 pub type Parts = Items<PartDef>;
 
 /// What a program does.

@@ -1,8 +1,8 @@
 //! Texts of trees that were built by hand, printed to memory and to sinks that fail.
 
 use super::*;
-use salt_io::MemSink;
-use salt_values::{Name, Names, Text, TextErr, TryCopy, Value};
+use salt_io::{IoFailed, MemSink};
+use salt_values::{Id, Name, Names, Row, Text, TextErr, TryCopy, Value};
 use sqlite_items::{Boxed, Items};
 use std::alloc::{AllocError, Global};
 use std::test::Fail;
@@ -223,20 +223,55 @@ fn a_table_and_its_text(rt: HostRuntime) -> Result<(), Fail> {
     Ok(())
 }
 
+/// What the printer puts into a sink.
+fn sent<T: Canonical>(alloc: Global, tree: &T) -> Result<Vec<u8>, AllocError> {
+    let mut sink = MemSink::new(alloc, 99)?;
+    let mut out = Printer {
+        sink: &mut sink,
+        outcome: Ok(()),
+    };
+    tree.print(&mut out);
+    Vec::from_slice(alloc, sink.bytes())
+}
+
+#[test]
+fn rows_names_and_stops(rt: HostRuntime) -> Result<(), Fail> {
+    let alloc = rt.alloc();
+    let mut row = Row::new(alloc);
+    let empty = sent(alloc, &row)?;
+    row.push(Value::Int(i64::MIN))?;
+    row.push(Value::Text(Text::new(alloc, b"'a'")?))?;
+    let base = Id {
+        boot: 2,
+        seq: u64::MAX,
+    };
+    let cases: [(Vec<u8>, &[u8]); 5] = [
+        (empty, b"()"),
+        (sent(alloc, &row)?, b"(-9223372036854775808, '''a''')"),
+        (sent(alloc, &name(alloc, b"acct")?)?, b"acct"),
+        (sent(alloc, &base)?, b"b2.18446744073709551615"),
+        (sent(alloc, &(1_000_000, 4))?, b"1000000 4"),
+    ];
+    for (text, want) in &cases {
+        assert_eq!(rt; text.as_slice(), *want);
+    }
+    Ok(())
+}
+
 #[test]
 fn a_sink_that_fails(rt: HostRuntime) -> Result<(), Fail> {
     let alloc = rt.alloc();
     let statement = insert(alloc)?;
-    let cases: [(usize, u64, bool, &[u8]); 4] = [
-        (99, 99, true, b"insert into t values (5, -3, 'it''s')"),
-        (99, 1, false, b""),
-        (99, 5, false, b"insert into t values (5"),
-        (22, 99, false, b"insert into t values ("),
+    let cases: [(usize, u64, Result<(), IoFailed>, &[u8]); 4] = [
+        (99, 99, Ok(()), b"insert into t values (5, -3, 'it''s')"),
+        (99, 1, Err(IoFailed), b""),
+        (99, 5, Err(IoFailed), b"insert into t values (5"),
+        (22, 99, Err(IoFailed), b"insert into t values ("),
     ];
-    for (room, call, is_sent, want) in cases {
+    for (room, call, outcome, want) in cases {
         let mut sink = MemSink::new(alloc, room)?;
         sink.fail_call(call)?;
-        assert_eq!(rt; send_statement(&mut sink, &statement).is_ok(), is_sent);
+        assert_eq!(rt; send_statement(&mut sink, &statement), outcome);
         assert_eq!(rt; sink.bytes(), want);
     }
     Ok(())

@@ -17,6 +17,7 @@ pub struct Field {
     pub kind: ColType,
 }
 
+/// Columns, parameters or variables, in the order of the text.
 pub type Fields = Items<Field>;
 
 /// An operation on two operands.
@@ -37,6 +38,7 @@ pub enum Op {
     Mul,
 }
 
+/// An expression.
 #[derive(Drop)]
 pub enum Expr {
     Lit(Value),
@@ -51,6 +53,7 @@ pub enum Expr {
     },
 }
 
+/// Expressions in the order of the text.
 pub type Exprs = Items<Expr>;
 
 /// A table's name, its columns, of which the first is the key, and the checks that each row meets.
@@ -103,6 +106,7 @@ pub struct Set {
     pub value: Expr,
 }
 
+/// What an `update` sets, in the order of the text.
 pub type Sets = Items<Set>;
 
 /// Which keys a statement goes over.
@@ -139,6 +143,7 @@ impl Drop for Scan {
     }
 }
 
+/// A statement of a session or of a program.
 pub enum Statement {
     Insert {
         table: Name,
@@ -169,6 +174,7 @@ pub enum Statement {
     Ensure(Expr),
 }
 
+/// Statements in the order of the text.
 pub type Statements = Items<Statement>;
 
 impl Drop for Statement {

@@ -5,12 +5,12 @@ use Rattle.salt_ast.specs.declared.lines.Line.{Line}
 use Rattle.salt_ast.specs.declared.trees.Statement.{Statement}
 use Rattle.salt_ast.specs.declared.trees.TableDef.{TableDef}
 use Rattle.salt_engine.proofs.Idle.{none-clashes, none-open, none-settles, none-waits}
-use Rattle.salt_engine.specs.Engine.{IsIdle, decisions_after, end_by, rows_by}
+use Rattle.salt_engine.specs.Engine.{IsIdle, NeverDown, decisions_after, end_by, rows_by}
 use Rattle.salt_laws.proofs.Ids.{is_same_id-refl}
 use Rattle.salt_model.specs.After.{answer_now, kept, run_of, stage, stage_run, tables_after}
 use Rattle.salt_model.specs.Honest.{cause_in}
 use Rattle.salt_model.specs.Kept.{Kept, schema_of}
-use Rattle.salt_model.specs.Trace.{Asked, Trace, Tree, lines_of, start_of, story_of, ◌asks◌, ◌says◌}
+use Rattle.salt_model.specs.Trace.{Asked, Trace, Tree, lines_of, start_of, story_before, story_of, ◌asks◌, ◌says◌}
 use Rattle.salt_model.specs.Units.{Running, done_of, is_open, kind_of, line_begun, standing, wait_list}
 use Rattle.salt_model.specs.Next.{next}
 use Rattle.salt_model.specs.Played.{IsPlayed}
@@ -20,7 +20,7 @@ use Rattle.salt_model.specs.Statements.{Done, Run, doing, has_failed, outcome_of
 use Rattle.salt_model.specs.Tables.{with_changes}
 use Rattle.salt_model.specs.Turns.{after_did, after_end, fresh_unit, is_at_end, still_to_go}
 use Rattle.salt_model.specs.Waiting.{asked_by, block_of}
-use Rattle.salt_model.specs.Words.{without}
+use Rattle.salt_model.specs.Words.{Every, without}
 use Rattle.salt_model.specs.declared.events.Answer.TheVariants.{Cell, Count, Held, Rows, Stored}
 use Rattle.salt_model.specs.declared.events.Answer.{Answer}
 use Rattle.salt_model.specs.declared.events.Cause.{Cause}
@@ -60,6 +60,23 @@ pub front-played : (k : ℕ) (trace : Trace) (es : List Event) → IsPlayed (say
 front-played zero trace es p = before-said trace es p
 front-played (suc k) trace [] p = p
 front-played (suc k) trace (e ∷ es) p = front-played k (trace says e) es p
+
+-- an event within a segment
+abbrev pub GoesOnIn : Event → Type 0
+GoesOnIn e = (trace : Trace) → story_before (trace says e) ≡ story_before trace
+
+pub says-before : (trace : Trace) (es : List Event) → Every GoesOnIn es → story_before (says_all trace es) ≡ story_before trace
+says-before trace [] h = refl
+says-before trace (e ∷ es) h = says-before (trace says e) es h.1 ∙ h.0 trace
+
+before-up : (trace : Trace) (es : List Event) → NeverDown (says_all trace es) → NeverDown trace
+before-up trace [] u = u
+before-up trace (e ∷ es) u = (before-up (trace says e) es u).0
+
+pub front-up : (k : ℕ) (trace : Trace) (es : List Event) → NeverDown (says_all trace es) → NeverDown (says_all trace (take k es))
+front-up zero trace es u = before-up trace es u
+front-up (suc k) trace [] u = u
+front-up (suc k) trace (e ∷ es) u = front-up k (trace says e) es u
 
 module _ (trace : Trace) (idle : IsIdle trace) (complete : IsComplete trace) where
   -- a line's one event, after which nothing comes

@@ -9,8 +9,8 @@ use Rattle.salt_ast.specs.declared.trees.Statement.{Statement}
 use Rattle.salt_ast.specs.declared.trees.TableDef.{TableDef}
 use Rattle.salt_engine.proofs.Idle.{none-open}
 use Rattle.salt_engine.proofs.Refused.{request-judged}
-use Rattle.salt_engine.proofs.Segments.{boot-by, decisions-by, defined-complete, ended, front-played, refused-complete, rows-by, says_all, says_all-lines, says_all-start, says_all-story, schema-by, unit-complete, unit-idle, unit-played}
-use Rattle.salt_engine.specs.Engine.{Breaks, BreaksOff, Goes, GoesOn, HasRun, IsCutShort, IsIdle, IsLeft, IsRequestDone, Serves, decisions_after, defined_by, done_by, end_by, next_unit, rows_by, unit_events}
+use Rattle.salt_engine.proofs.Segments.{GoesOnIn, boot-by, decisions-by, defined-complete, ended, front-played, front-up, refused-complete, rows-by, says-before, says_all, says_all-lines, says_all-start, says_all-story, schema-by, unit-complete, unit-idle, unit-played}
+use Rattle.salt_engine.specs.Engine.{Breaks, BreaksOff, Goes, GoesOn, HasRun, IsCutShort, IsIdle, IsLeft, IsRequestDone, NeverDown, Serves, decisions_after, defined_by, done_by, end_by, next_unit, rows_by, unit_events}
 use Rattle.salt_engine.specs.Schema.{request_refusal}
 use Rattle.salt_engine.specs.Supported.{IsTaskOf, IsWellFormed, asked_of, is_supported, is_supported_statement, line_of}
 use Rattle.salt_engine.specs.declared.engine.Engine.{Engine}
@@ -54,12 +54,14 @@ refused-goes old story told asked r turns refuses is trace serves =
     record {
       after = trace asks asked says Refused r;
       asks = refl;
+      before = serves.tells.told;
       serves = record {
         tells = record {
           begins = serves.tells.begins;
           told = ap (λ s. s ++ Refused r ∷ []) serves.tells.told ∙ sym is;
           played = ((serves.tells.played, serves.complete), rw (refuses trace serves) refl);
         };
+        up = (serves.up, tt);
         complete = refused-complete trace serves.idle serves.complete asked r (turns trace);
         idle = record { none_open = serves.idle.none_open; none_begun = serves.idle.none_begun; none_accepted = serves.idle.none_accepted };
         schema = serves.schema;
@@ -78,7 +80,9 @@ asked-breaks old story told asked is trace serves =
     record {
       after = trace asks asked;
       asks = refl;
+      before = serves.tells.told;
       tells = record { begins = serves.tells.begins; told = serves.tells.told ∙ sym is; played = (serves.tells.played, serves.complete) };
+      up = serves.up;
       grows = ([], is ∙ sym (append-nil story), tt);
     }
 
@@ -107,8 +111,10 @@ nothing-goes old story trace serves =
     record {
       after = trace asks Tree (line_of request.Nothing);
       asks = refl;
+      before = serves.tells.told;
       serves = record {
         tells = record { begins = serves.tells.begins; told = serves.tells.told; played = (serves.tells.played, serves.complete) };
+        up = serves.up;
         complete = (serves.complete.0, rw (refusal-here trace request.Nothing serves.idle tt) refl, refl);
         idle = record { none_open = serves.idle.none_open; none_begun = serves.idle.none_begun; none_accepted = serves.idle.none_accepted };
         schema = serves.schema;
@@ -135,12 +141,14 @@ defined-goes old story told d allowed is trace serves =
     record {
       after = trace asks Tree (Table d) says Defined number (table_text d);
       asks = refl;
+      before = serves.tells.told;
       serves = record {
         tells = record {
           begins = serves.tells.begins;
           told = ap (λ s. s ++ Defined number (table_text d) ∷ []) serves.tells.told ∙ ap (λ n. story ++ Defined (n + 1) (table_text d) ∷ []) serves.decisions ∙ sym is;
           played = ((serves.tells.played, serves.complete), rw (allowed trace serves) refl);
         };
+        up = (serves.up, tt);
         complete = defined-complete trace serves.idle serves.complete (Tree (Table d)) number (table_text d) refl;
         idle = record { none_open = serves.idle.none_open; none_begun = serves.idle.none_begun; none_accepted = serves.idle.none_accepted };
         schema = filter_map-append table_of_definition (kept trace).definitions (OfTable d ∷ []) ∙ ap (λ s. s ++ d ∷ []) serves.schema;
@@ -180,18 +188,23 @@ module _ (old : Engine) (story : List Event) (s : ℕ) (st : Statement) (allowed
   end-played : IsPlayed end
   end-played = unit-played trace s st serves.idle serves.complete serves.tells.played (allowed trace serves)
 
+  end-up : NeverDown end
+  end-up = (((serves.up, tt), tt), tt)
+
   unit-goes : (new : Engine) (told : List Event) → HasRun old story s st (tables_after trace) new told → Goes trace (Tree (Session s (Do st))) old story new told
   unit-goes new told run =
       let cause : Option Cause = cause_in here.answer in
       record {
         after = end;
         asks = refl;
+        before = serves.tells.told;
         serves = record {
           tells = record {
             begins = serves.tells.begins;
             told = says_all-story begun_line events ∙ ap (λ x. x ++ events) serves.tells.told ∙ ap (λ es. story ++ es) same-events ∙ sym run.tells;
             played = end-played;
           };
+          up = end-up;
           complete = unit-complete trace s st serves.idle serves.complete;
           idle = unit-idle trace s st serves.idle serves.complete;
           schema = schema-by trace s st serves.idle serves.complete here.answer cause ∙ serves.schema ∙ sym run.schema;
@@ -212,11 +225,13 @@ module _ (old : Engine) (story : List Event) (s : ℕ) (st : Statement) (allowed
       record {
         after = says_all begun_line told_so_far;
         asks = says_all-lines begun_line told_so_far;
+        before = says-before begun_line told_so_far (every-take GoesOnIn cut.0 events (λ t. refl, (λ t. refl, (λ t. refl, tt)))) ∙ serves.tells.told;
         tells = record {
           begins = says_all-start begun_line told_so_far ∙ serves.tells.begins;
           told = says_all-story begun_line told_so_far ∙ ap (λ x. x ++ told_so_far) serves.tells.told ∙ ap (λ es. story ++ take cut.0 es) same-events ∙ sym cut.1;
           played = front-played cut.0 begun_line events end-played;
         };
+        up = front-up cut.0 begun_line events end-up;
         grows = (take cut.0 (unit_events old s st (done_by old (tables_after trace) st).answer), cut.1, every-take ShowsNothing cut.0 (unit_events old s st (done_by old (tables_after trace) st).answer) (tt, (tt, (tt, tt))));
       }
 

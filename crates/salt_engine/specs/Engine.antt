@@ -8,9 +8,10 @@ use Rattle.salt_engine.specs.declared.engine.Engine.{Engine}
 use Rattle.salt_engine.specs.declared.request.Request.TheVariants as request
 use Rattle.salt_engine.specs.declared.request.Request.{Request}
 use Rattle.salt_model.specs.After.{kept, tables_after}
+use Rattle.salt_model.specs.Everywhere.{Each}
 use Rattle.salt_model.specs.Honest.{cause_in}
 use Rattle.salt_model.specs.Kept.{schema_of}
-use Rattle.salt_model.specs.Trace.{Asked, Trace, lines_of}
+use Rattle.salt_model.specs.Trace.{Asked, Trace, lines_of, story_before}
 use Rattle.salt_model.specs.Programs.{accepted_in, programs_in}
 use Rattle.salt_model.specs.Units.{is_open, unit_count}
 use Rattle.salt_model.specs.Played.{Tells, empty_start}
@@ -21,12 +22,12 @@ use Rattle.salt_model.specs.declared.events.Answer.{Answer}
 use Rattle.salt_model.specs.declared.events.Cause.{Cause}
 use Rattle.salt_model.specs.declared.events.End.TheVariants.{Committed, Failed}
 use Rattle.salt_model.specs.declared.events.End.{End}
-use Rattle.salt_model.specs.declared.events.Event.TheVariants.{Began, Defined, Did, Ended}
+use Rattle.salt_model.specs.declared.events.Event.TheVariants.{Began, Defined, Did, Down, Ended}
 use Rattle.salt_model.specs.declared.events.Event.{Event}
 use Rattle.salt_model.specs.declared.events.UnitKind.TheVariants.{Acid}
 use Rattle.salt_values.specs.declared.change.Change.{Change}
 use Rattle.salt_values.specs.declared.id.Id.{Id}
-use Rattle.std.specs.Prelude.{List, None, Option, Some, [], false, take, ℕ, ◌++◌, ◌+◌, ◌∷◌, ◌≡◌, ◌≤◌}
+use Rattle.std.specs.Prelude.{List, None, Option, Some, [], false, take, ℕ, ⊤, ◌++◌, ◌+◌, ◌∷◌, ◌≡◌, ◌≤◌}
 
 -- no unit is open, and no BASE program was begun or accepted
 pub record IsIdle (trace : Trace) : Type 0 where
@@ -34,10 +35,20 @@ pub record IsIdle (trace : Trace) : Type 0 where
   pub none_begun : programs_in trace ≡ []
   pub none_accepted : accepted_in trace ≡ []
 
+-- no stop and no fault
+abbrev pub IsUp : Trace → Event → Type 0
+IsUp trace (Down why) = ⊥
+IsUp trace e = ⊤
+
+-- over no devices a run never goes down
+abbrev pub NeverDown : Trace → Type 0
+NeverDown trace = Each IsUp trace
+
 -- the engine and the story are those of a trace that is played and complete
 pub record Serves (e : Engine) (story : List Event) (trace : Trace) : Type 0 where
   pub tells : Tells empty_start trace story
   pub complete : IsComplete trace
+  pub up : NeverDown trace
   pub idle : IsIdle trace
   pub schema : schema_of (kept trace) ≡ e.schema
   pub rows : e.rows.entries ≡ (tables_after trace).list
@@ -58,6 +69,7 @@ pub record NumbersRise (old new : Engine) : Type 0 where
 pub record Goes (trace : Trace) (asked : Asked) (old : Engine) (story : List Event) (new : Engine) (told : List Event) : Type 0 where
   pub after : Trace
   pub asks : lines_of after ≡ lines_of trace ++ asked ∷ []
+  pub before : story_before after ≡ story
   pub serves : Serves new told after
   pub grows : Grows story told
   pub rise : NumbersRise old new
@@ -66,7 +78,9 @@ pub record Goes (trace : Trace) (asked : Asked) (old : Engine) (story : List Eve
 pub record Breaks (trace : Trace) (asked : Asked) (story told : List Event) : Type 0 where
   pub after : Trace
   pub asks : lines_of after ≡ lines_of trace ++ asked ∷ []
+  pub before : story_before after ≡ story
   pub tells : Tells empty_start after told
+  pub up : NeverDown after
   pub grows : Grows story told
 
 -- each trace of the engine and the story goes on by the line

@@ -68,11 +68,12 @@ fn text_of(alloc: Global, def: &TableDef) -> Result<Bytes, AllocError>
 }
 
 impl Engine {
-    ghost use Rattle.salt_engine.specs.Engine.{BreaksOff, GoesOn, HasRun, IsCutShort, IsIdle, IsLeft, IsRequestDone, NumbersRise, Serves, decisions_after, defined_by, done_by, end_by, next_unit, rows_by, unit_events};
+    ghost use Rattle.salt_engine.specs.Engine.{BreaksOff, GoesOn, HasRun, IsCutShort, IsIdle, IsLeft, IsRequestDone, NeverDown, NumbersRise, Serves, decisions_after, defined_by, done_by, end_by, next_unit, rows_by, unit_events};
 
     /// An engine of no tables, in the boot that a story's opening tells.
     pub fn new(alloc: Global, boot: u64) -> Engine
-        ensures serves { (trace : Trace) (story : List Event) → Tells empty_start trace story → IsComplete trace → IsIdle trace → kept trace ≡ record nothing_kept { boot = boot } → unit_count trace ≡ 0 → Serves result story trace }
+        ensures serves { (trace : Trace) (story : List Event) → Tells empty_start trace story → IsComplete trace → NeverDown trace → IsIdle trace
+            → kept trace ≡ record nothing_kept { boot = boot } → unit_count trace ≡ 0 → Serves result story trace }
         ensures units { result.units ≡ 0 }
         ensures decisions { result.decisions ≡ 0 }
     {
@@ -252,6 +253,7 @@ impl Engine {
     pub fn refuse(&self, story: &mut Story) -> Result<(), AllocError>
         ensures segment { OnOk result (GoesOn self.now story.old (Rejected Refusal.Syntax) self.now story.new) }
         ensures broken_off { OnErr result (BreaksOff self.now story.old (Rejected Refusal.Syntax) story.new) }
+        ensures unchanged { OnErr result (story.new ≡ story.old) }
     {
         story.push(Event::Refused(Refusal::Syntax))
     }

@@ -1,69 +1,111 @@
 -- How far a reader has come in a line.
 use Rattle.salt_values.specs.declared.limits.TheConstants.{LINE_MOST}
-use Rattle.std.proofs.Common.{◌≡◌, ℕ, ◌+◌, ◌-◌, ◌<◌, ◌≤◌, Bool, true, false, List, [], ◌∷◌, ◌++◌, length, Option, Some, None, inl, inr, IfSome, refl, sym, ◌∙◌, ap, arith, length-append}
+use Rattle.std.proofs.Common.{◌≡◌, ℕ, ◌+◌, ◌-◌, ◌<◌, ◌≤◌, Bool, true, false, List, [], ◌∷◌, ◌++◌, length, Option, Some, None, inl, inr, IfSome, refl, sym, ◌∙◌, ◌⊎◌, ap, append_assoc, arith, length-append}
 use Rattle.std.proofs.Math.Seq.{take-append_seam}
 use Rattle.std.proofs.lemmas.List.{append-nil}
-use Rattle.salt_io.specs.Lines.{spaced, without_cr, last_text, ends_in_backslash, Script, script_of, TakesLine, TakesLong, EndsNoLine, TakesNoLine, IsCutOff}
+use Rattle.salt_io.specs.Lines.{Reading, spaced, without_cr, last_text, ends_in_backslash, Script, script_of, TakesLine, TakesLong, EndsNoLine, TakesNoLine, IsCutOff}
 use Rattle.salt_io.specs.LineText.{KeepsFront, IsText}
 use Rattle.salt_io.specs.Streams.{bytes_before, Takes, IsAtEnd}
 use Rattle.salt_io.specs.declared.line_text.LineText.{LineText}
 use Rattle.salt_io.proofs.OpenLines.{IsOpen, open-none, open-byte, open-join, open-line, open-end}
-use Rattle.salt_io.proofs.ScriptLaws.{last_text-nil}
+use Rattle.salt_io.proofs.ScriptLaws.{ended-prefix, last_text-nil}
 use Rattle.salt_io.proofs.Taking.{takes-none, takes-append}
 
--- These bytes have been taken since, and of the line's text so far that much is kept.
-pub record Reads (before now : Option (List ℕ)) (taken_before taken : ℕ) (line : List ℕ) (state : LineText) : Type 0 where
+-- These bytes have been taken since, and of the line's text so far that much is kept. Either the source was not asked, and what was in
+-- hand is what was taken and what is kept; or all that was in hand has been taken.
+pub record Reads (before now : Option (List ℕ)) (taken_before taken : ℕ) (line : List ℕ) (state : LineText) (in_hand kept : List ℕ) (Unasked : Type 0) : Type 0 where
   pub used : List ℕ
   pub text : List ℕ
   pub given : Takes before used now
   pub counted : taken ≡ taken_before + length used
   pub stands_for : IsOpen used text
   pub is : IsText line state text
+  pub hand : (Unasked × (in_hand ≡ used ++ kept)) ⊎ ((more : List ℕ) × (used ≡ in_hand ++ more))
 
-pub reads-none : (before : Option (List ℕ)) (taken : ℕ) (line : List ℕ) (state : LineText) → line ≡ [] → IsText [] state [] → Reads before before taken taken line state
-reads-none before taken line state empty is = record {
+pub reads-none : (before : Option (List ℕ)) (taken : ℕ) (line : List ℕ) (state : LineText) (in_hand : List ℕ) (Unasked : Type 0) → Unasked → line ≡ [] → IsText [] state []
+    → Reads before before taken taken line state in_hand in_hand Unasked
+reads-none before taken line state in_hand Unasked unasked empty is = record {
   used = [];
   text = [];
   given = takes-none before;
   counted = omega arith;
   stands_for = open-none;
   is = rw empty is;
+  hand = inl (unasked, refl);
 }
 
-pub reads-byte : (before now next : Option (List ℕ)) (taken_before taken after : ℕ) (line new : List ℕ) (state state' : LineText) (byte : ℕ)
-    → Reads before now taken_before taken line state → Takes now (byte ∷ []) next → after ≡ taken + 1 → (byte ≡ 10 → ⊥)
-    → ((text : List ℕ) → IsText line state text → IsText new state' (text ++ byte ∷ [])) → Reads before next taken_before after new state'
-reads-byte before now next taken_before taken after line new state state' byte r given counted no_lf add = record {
+-- what a byte leaves in hand, and of the source
+pub record Steps (kept kept' : List ℕ) (byte : ℕ) (Unasked Unasked' : Type 0) : Type 0 where
+  pub unasked : (kept ≡ [] → ⊥) → Unasked → Unasked'
+  pub first : (kept ≡ [] → ⊥) → kept ≡ byte ∷ kept'
+
+hand-more : (used in_hand kept kept' : List ℕ) (byte : ℕ) (Unasked Unasked' : Type 0) → Steps kept kept' byte Unasked Unasked'
+    → (Unasked × (in_hand ≡ used ++ kept)) ⊎ ((more : List ℕ) × (used ≡ in_hand ++ more))
+    → (Unasked' × (in_hand ≡ (used ++ byte ∷ []) ++ kept')) ⊎ ((more : List ℕ) × (used ++ byte ∷ [] ≡ in_hand ++ more))
+hand-more used in_hand [] kept' byte Unasked Unasked' steps (inl h) = inr (byte ∷ [], ap (λ l. l ++ byte ∷ []) (sym (h.1 ∙ append-nil used)))
+hand-more used in_hand (x ∷ xs) kept' byte Unasked Unasked' steps (inl h) = inl (steps.unasked some h.0, h.1 ∙ ap (λ l. used ++ l) (steps.first some) ∙ sym (append_assoc used (byte ∷ []) kept'))
+  where
+    some : x ∷ xs ≡ [] → ⊥
+    some e = cc
+hand-more used in_hand kept kept' byte Unasked Unasked' steps (inr h) = inr (h.0 ++ byte ∷ [], ap (λ l. l ++ byte ∷ []) h.1 ∙ append_assoc in_hand h.0 (byte ∷ []))
+
+pub reads-byte : (before now next : Option (List ℕ)) (taken_before taken after : ℕ) (line new : List ℕ) (state state' : LineText) (byte : ℕ) (in_hand kept kept' : List ℕ) (Unasked Unasked' : Type 0)
+    → Reads before now taken_before taken line state in_hand kept Unasked → Steps kept kept' byte Unasked Unasked' → Takes now (byte ∷ []) next → after ≡ taken + 1 → (byte ≡ 10 → ⊥)
+    → ((text : List ℕ) → IsText line state text → IsText new state' (text ++ byte ∷ [])) → Reads before next taken_before after new state' in_hand kept' Unasked'
+reads-byte before now next taken_before taken after line new state state' byte in_hand kept kept' Unasked Unasked' r steps given counted no_lf add = record {
   used = r.used ++ byte ∷ [];
   text = r.text ++ byte ∷ [];
   given = takes-append before now next r.used (byte ∷ []) r.given given;
   counted = omega (arith, r.counted, length-append r.used (byte ∷ []));
   stands_for = open-byte r.used r.text byte r.stands_for no_lf;
   is = add r.text r.is;
+  hand = hand-more r.used in_hand kept kept' byte Unasked Unasked' steps r.hand;
 }
 
-pub reads-join : (before now next : Option (List ℕ)) (taken_before taken after : ℕ) (line new : List ℕ) (state state' : LineText) (byte : ℕ)
-    → Reads before now taken_before taken line state → Takes now (byte ∷ []) next → after ≡ taken + 1 → byte ≡ 10
-    → ((text : List ℕ) → IsText line state text → (ends_in_backslash (without_cr text) ≡ true) × IsText new state' (spaced (without_cr text))) → Reads before next taken_before after new state'
-reads-join before now next taken_before taken after line new state state' byte r given counted lf join = record {
+pub reads-join : (before now next : Option (List ℕ)) (taken_before taken after : ℕ) (line new : List ℕ) (state state' : LineText) (byte : ℕ) (in_hand kept kept' : List ℕ) (Unasked Unasked' : Type 0)
+    → Reads before now taken_before taken line state in_hand kept Unasked → Steps kept kept' byte Unasked Unasked' → Takes now (byte ∷ []) next → after ≡ taken + 1 → byte ≡ 10
+    → ((text : List ℕ) → IsText line state text → (ends_in_backslash (without_cr text) ≡ true) × IsText new state' (spaced (without_cr text)))
+    → Reads before next taken_before after new state' in_hand kept' Unasked'
+reads-join before now next taken_before taken after line new state state' byte in_hand kept kept' Unasked Unasked' r steps given counted lf join = record {
   used = r.used ++ 10 ∷ [];
   text = spaced (without_cr r.text);
   given = takes-append before now next r.used (10 ∷ []) r.given (rw lf at given);
   counted = omega (arith, r.counted, length-append r.used (10 ∷ []));
   stands_for = open-join r.used r.text r.stands_for (join r.text r.is).0;
   is = (join r.text r.is).1;
+  hand = hand-more r.used in_hand kept kept' 10 Unasked Unasked' (rw lf at steps) r.hand;
 }
 
+-- these bytes end no line
+no_line : (used text : List ℕ) → IsOpen used text → EndsNoLine used
+no_line used text so_far = ap (λ (s : Script). s.ended) (open-end used text so_far)
+
+front-none : {A : Type 0} (xs ys : List A) → xs ++ ys ≡ [] → xs ≡ []
+front-none [] ys e = refl
+front-none (x ∷ xs) ys e = cc
+
+-- while a whole line is in hand, the source is not asked, and something is kept
+pub unasked : (before now : Option (List ℕ)) (taken_before taken : ℕ) (line : List ℕ) (state : LineText) (in_hand kept : List ℕ) (Unasked : Type 0)
+    → Reads before now taken_before taken line state in_hand kept Unasked → ((script_of in_hand).ended ≡ [] → ⊥) → Unasked × (kept ≡ [] → ⊥)
+unasked before now taken_before taken line state in_hand kept Unasked r whole = by r.hand
+  where
+    none : EndsNoLine r.used
+    none = no_line r.used r.text r.stands_for
+
+    by : (Unasked × (in_hand ≡ r.used ++ kept)) ⊎ ((more : List ℕ) × (r.used ≡ in_hand ++ more)) → Unasked × (kept ≡ [] → ⊥)
+    by (inl h) = (h.0, λ empty. whole (ap (λ l. (script_of l).ended) (h.1 ∙ ap (λ l. r.used ++ l) empty ∙ append-nil r.used) ∙ none))
+    by (inr h) = let p = ended-prefix in_hand h.0 in absurd (whole (front-none _ p.0 (sym p.1 ∙ ap (λ l. (script_of l).ended) (sym h.1) ∙ none)))
+
 -- a line with this text has been taken, and that much of it is kept
-pub record Found (most : ℕ) (before after : Option (List ℕ)) (taken_before taken : ℕ) (line : List ℕ) (is_long : Bool) : Type 0 where
+pub record Found (most : ℕ) (before after : Option (List ℕ)) (taken_before : ℕ) (reading : Reading) (line : List ℕ) (is_long : Bool) : Type 0 where
   pub text : List ℕ
   pub kept : KeepsFront line is_long text
-  pub takes : TakesLine most before after taken_before taken text
+  pub takes : TakesLine most before after taken_before reading text
 
-pub reads-line : (most : ℕ) (before now next : Option (List ℕ)) (taken_before taken after : ℕ) (line new : List ℕ) (state : LineText) (is_long : Bool) (byte : ℕ)
-    → Reads before now taken_before taken line state → Takes now (byte ∷ []) next → after ≡ taken + 1 → after ≤ most → byte ≡ 10
+pub reads-line : (most : ℕ) (before now next : Option (List ℕ)) (taken_before taken : ℕ) (after : Reading) (line new : List ℕ) (state : LineText) (in_hand kept : List ℕ) (Unasked : Type 0) (is_long : Bool) (byte : ℕ)
+    → Reads before now taken_before taken line state in_hand kept Unasked → Takes now (byte ∷ []) next → after.taken ≡ taken + 1 → after.taken ≤ most → byte ≡ 10
     → ((text : List ℕ) → IsText line state text → (ends_in_backslash (without_cr text) ≡ false) × KeepsFront new is_long (without_cr text)) → Found most before next taken_before after new is_long
-reads-line most before now next taken_before taken after line new state is_long byte r given counted within lf end = record {
+reads-line most before now next taken_before taken after line new state in_hand kept Unasked is_long byte r given counted within lf end = record {
   text = without_cr r.text;
   kept = (end r.text r.is).1;
   takes = record {
@@ -85,10 +127,10 @@ kept-some [] is_long text kept some none = some refl
 kept-some (x ∷ xs) is_long text kept some none = let e : x ∷ xs ++ kept.dropped ≡ [] = sym kept.whole ∙ none in cc
 
 -- at the script's end
-pub reads-last : (most : ℕ) (before now next : Option (List ℕ)) (taken_before taken after : ℕ) (line new : List ℕ) (state : LineText) (is_long : Bool)
-    → Reads before now taken_before taken line state → now ≡ next → after ≡ taken → after ≤ most → IsAtEnd next → (new ≡ [] → ⊥)
+pub reads-last : (most : ℕ) (before now next : Option (List ℕ)) (taken_before taken : ℕ) (after : Reading) (line new : List ℕ) (state : LineText) (in_hand kept : List ℕ) (Unasked : Type 0) (is_long : Bool)
+    → Reads before now taken_before taken line state in_hand kept Unasked → now ≡ next → after.taken ≡ taken → after.taken ≤ most → after.ended ≡ true → (new ≡ [] → ⊥)
     → ((text : List ℕ) → IsText line state text → KeepsFront new is_long (last_text text)) → Found most before next taken_before after new is_long
-reads-last most before now next taken_before taken after line new state is_long r same counted within at_end some end = record {
+reads-last most before now next taken_before taken after line new state in_hand hand Unasked is_long r same counted within at_end some end = record {
   text = last_text r.text;
   kept = kept;
   takes = record {
@@ -113,7 +155,7 @@ kept-none : (is_long : Bool) (text : List ℕ) → KeepsFront [] is_long text �
 kept-none true text kept = absurd (omega (arith, (kept.long refl).0))
 kept-none false text kept = kept.whole ∙ kept.short refl
 
-at_end-before : (left : Option (List ℕ)) → IsAtEnd left → IsAtEnd (bytes_before [] left)
+pub at_end-before : (left : Option (List ℕ)) → IsAtEnd left → IsAtEnd (bytes_before [] left)
 at_end-before None e = e
 at_end-before (Some rest) e = e
 
@@ -122,42 +164,39 @@ pub record IsEmpty (before : Option (List ℕ)) (taken_before after : ℕ) : Typ
   pub none : IsAtEnd before
   pub taken : after ≡ taken_before
 
-pub reads-nothing : (before now : Option (List ℕ)) (taken_before taken after : ℕ) (line new : List ℕ) (state : LineText) (is_long : Bool)
-    → Reads before now taken_before taken line state → after ≡ taken → IsAtEnd now → new ≡ []
+pub reads-nothing : (before now : Option (List ℕ)) (taken_before taken after : ℕ) (line new : List ℕ) (state : LineText) (in_hand kept : List ℕ) (Unasked : Type 0) (is_long : Bool)
+    → Reads before now taken_before taken line state in_hand kept Unasked → after ≡ taken → IsAtEnd now → new ≡ []
     → ((text : List ℕ) → IsText line state text → KeepsFront new is_long (last_text text)) → IsEmpty before taken_before after
-reads-nothing before now taken_before taken after line new state is_long r counted at_end empty end = record {
+reads-nothing before now taken_before taken after line new state in_hand kept Unasked is_long r counted at_end empty end = record {
   none = rw (r.given, none) (at_end-before now at_end);
   taken = let e : length r.used ≡ 0 = ap length none in omega (arith, r.counted);
 } where
   none : r.used ≡ []
   none = r.stands_for.some (last_text-nil r.text (ends_in_backslash r.text) refl (kept-none is_long (last_text r.text) (rw empty at (end r.text r.is))))
 
--- these bytes end no line
-no_line : (used text : List ℕ) → IsOpen used text → EndsNoLine used
-no_line used text so_far = ap (λ (s : Script). s.ended) (open-end used text so_far)
-
-pub reads-fault : (before now left : Option (List ℕ)) (taken_before taken : ℕ) (line : List ℕ) (state : LineText)
-    → Reads before now taken_before taken line state → now ≡ left → TakesNoLine before left
-reads-fault before now left taken_before taken line state r same = record {
+pub reads-fault : (most : ℕ) (before now left : Option (List ℕ)) (taken_before taken : ℕ) (line : List ℕ) (state : LineText) (in_hand kept : List ℕ) (Unasked : Type 0)
+    → Reads before now taken_before taken line state in_hand kept Unasked → now ≡ left → taken ≤ most → TakesNoLine (most - taken_before) before left
+reads-fault most before now left taken_before taken line state in_hand kept Unasked r same few = record {
   got = r.used;
   given = rw (← same) r.given;
   no_line = no_line r.used r.text r.stands_for;
+  within = omega (arith, r.counted);
 }
 
-pub reads-cut_off : (most : ℕ) (before now : Option (List ℕ)) (taken_before taken : ℕ) (line : List ℕ) (state : LineText)
-    → Reads before now taken_before taken line state → taken ≡ most → IfSome now (λ all. 0 < length all) → IsCutOff (most - taken_before) before
-reads-cut_off most before None taken_before taken line state r full more = rw r.given tt
-reads-cut_off most before (Some rest) taken_before taken line state r full more = rw (r.given, gone) (omega (arith, length-append r.used rest), rw (take-append_seam r.used rest) (no_line r.used r.text r.stands_for)) where
+pub reads-cut_off : (most : ℕ) (before now : Option (List ℕ)) (taken_before taken : ℕ) (line : List ℕ) (state : LineText) (in_hand kept : List ℕ) (Unasked : Type 0)
+    → Reads before now taken_before taken line state in_hand kept Unasked → taken ≡ most → IfSome now (λ all. 0 < length all) → IsCutOff (most - taken_before) before
+reads-cut_off most before None taken_before taken line state in_hand kept Unasked r full more = rw r.given tt
+reads-cut_off most before (Some rest) taken_before taken line state in_hand kept Unasked r full more = rw (r.given, gone) (omega (arith, length-append r.used rest), rw (take-append_seam r.used rest) (no_line r.used r.text r.stands_for)) where
   gone : most - taken_before ≡ length r.used
   gone = omega (arith, r.counted)
 
 -- all of a line that is not long is kept
-pub found-line : (most : ℕ) (before after : Option (List ℕ)) (taken_before taken : ℕ) (line : List ℕ) (is_long : Bool) → is_long ≡ false → Found most before after taken_before taken line is_long → TakesLine most before after taken_before taken line
+pub found-line : (most : ℕ) (before after : Option (List ℕ)) (taken_before : ℕ) (taken : Reading) (line : List ℕ) (is_long : Bool) → is_long ≡ false → Found most before after taken_before taken line is_long → TakesLine most before after taken_before taken line
 found-line most before after taken_before taken line is_long short found = rw (← same) found.takes where
   same : found.text ≡ line
   same = found.kept.whole ∙ ap (λ others. line ++ others) (found.kept.short short) ∙ append-nil line
 
-pub found-long : (most : ℕ) (before after : Option (List ℕ)) (taken_before taken : ℕ) (line : List ℕ) (is_long : Bool) → is_long ≡ true → Found most before after taken_before taken line is_long → TakesLong LINE_MOST most before after taken_before taken
+pub found-long : (most : ℕ) (before after : Option (List ℕ)) (taken_before : ℕ) (taken : Reading) (line : List ℕ) (is_long : Bool) → is_long ≡ true → Found most before after taken_before taken line is_long → TakesLong LINE_MOST most before after taken_before taken
 found-long most before after taken_before taken line is_long long found = record {
   text = found.text;
   long = let e : length found.text ≡ length line + length found.kept.dropped = ap length found.kept.whole ∙ length-append line found.kept.dropped in let f = found.kept.long long in omega (arith, e, f.0, f.1);

@@ -1,5 +1,5 @@
 -- The lines of a script, from its bytes.
-use Rattle.std.specs.Prelude.{◌≡◌, ◌≢◌, ℕ, ◌+◌, ◌<◌, ◌≤◌, Bool, false, if◌then◌else◌, ◌==◌, List, [], ◌∷◌, ◌++◌, length, take, Option, Some, None, ◌⊎◌, refl}
+use Rattle.std.specs.Prelude.{◌≡◌, ◌≢◌, ℕ, ◌+◌, ◌<◌, ◌≤◌, Bool, false, true, if◌then◌else◌, ◌==◌, List, [], ◌∷◌, ◌++◌, length, take, Option, Some, None, ◌⊎◌, refl}
 use Rattle.salt_io.specs.Streams.{Takes, IsAtEnd}
 
 -- What the LFs cut bytes into: the pieces that an LF ends, and the piece behind the last LF.
@@ -127,37 +127,44 @@ pub record Reading : Type 0 where
   pub kept : List ℕ
   -- how many of the script's bytes it has given as lines
   pub taken : ℕ
+  -- whether its source told that no more come
+  pub ended : Bool
 
--- The bytes are those of one line with this text: an LF ends it, or the script.
-abbrev pub IsLineOf : List ℕ → List ℕ → Option (List ℕ) → Type 0
-IsLineOf text bytes after =
+-- The reader reads a source that has these bytes left: once that told its end, nothing is kept, and none are left.
+abbrev pub IsReadingOf : Reading → Option (List ℕ) → Type 0
+IsReadingOf reading left = reading.ended ≡ true → (reading.kept ≡ []) × IsAtEnd left
+
+-- The bytes are those of one line with this text: an LF ends it, or the script's end, where the source has told that.
+abbrev pub IsLineOf : List ℕ → List ℕ → Bool → Type 0
+IsLineOf text bytes ended =
     (script_of bytes ≡ record { ended = text ∷ []; rest = [] })
-    ⊎ (IsAtEnd after × (text ≢ []) × (script_of bytes ≡ record { ended = []; rest = text }))
+    ⊎ ((ended ≡ true) × (text ≢ []) × (script_of bytes ≡ record { ended = []; rest = text }))
 
 -- One line with this text has been taken, of a script of at most so many bytes.
-pub record TakesLine (most : ℕ) (before after : Option (List ℕ)) (taken_before taken_after : ℕ) (text : List ℕ) : Type 0 where
+pub record TakesLine (most : ℕ) (before after : Option (List ℕ)) (taken_before : ℕ) (now : Reading) (text : List ℕ) : Type 0 where
   pub used : List ℕ
   pub given : Takes before used after
-  pub line : IsLineOf text used after
+  pub line : IsLineOf text used now.ended
   pub some : 0 < length used
-  pub counted : taken_after ≡ taken_before + length used
-  pub within : taken_after ≤ most
+  pub counted : now.taken ≡ taken_before + length used
+  pub within : now.taken ≤ most
 
 -- One line that is longer than this has been taken.
-pub record TakesLong (longest most : ℕ) (before after : Option (List ℕ)) (taken_before taken_after : ℕ) : Type 0 where
+pub record TakesLong (longest most : ℕ) (before after : Option (List ℕ)) (taken_before : ℕ) (now : Reading) : Type 0 where
   pub text : List ℕ
   pub long : longest < length text
-  pub taken : TakesLine most before after taken_before taken_after text
+  pub taken : TakesLine most before after taken_before now text
 
 -- These bytes end no line.
 abbrev pub EndsNoLine : List ℕ → Type 0
 EndsNoLine bytes = (script_of bytes).ended ≡ []
 
--- The bytes taken before what is left end no line.
-pub record TakesNoLine (before left : Option (List ℕ)) : Type 0 where
+-- The bytes taken before what is left are at most so many, and end no line.
+pub record TakesNoLine (most : ℕ) (before left : Option (List ℕ)) : Type 0 where
   pub got : List ℕ
   pub given : Takes before got left
   pub no_line : EndsNoLine got
+  pub within : length got ≤ most
 
 -- More bytes than this are there, and as many of them end no line.
 abbrev pub IsCutOff : ℕ → Option (List ℕ) → Type 0

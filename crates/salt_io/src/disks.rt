@@ -43,7 +43,8 @@ pub trait Disks {
     ghost view: { Self → View };
 
     /// Puts the device's bytes from `at` on at the start of `buf`, and gives how many: fewer than
-    /// `buf` holds only at the device's end. `Failed` or `Memory` leave the device as it was.
+    /// `buf` holds only at the device's end. `Memory` leaves each device as it was; after `Failed` each
+    /// image of a device is one from before, and no more is known.
     fn read(&mut self, dev: u32, at: u64, buf: &mut [u8]) -> Result<usize, DiskErr>
         requires { dev < (view self.old).count }
         ensures bytes { IfOk result (λ n. IsTrue (view self.old).told → IsRead ((view self.old).bytes dev) at buf.old buf.new n) }

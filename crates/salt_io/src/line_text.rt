@@ -44,6 +44,7 @@ impl LineText {
         ensures kept { OnOk result ((text : List ℕ) → KeepsFront line.old.items self.old.is_long text
             → KeepsFront line.new.items self.new.is_long (text ++ byte ∷ [])) }
         ensures tail { self.new.tail ≡ self.old.tail }
+        ensures within { length line.old.items ≤ LINE_MOST → length line.new.items ≤ LINE_MOST }
     {
         if line.len() < LINE_MOST {
             line.push(byte)?;
@@ -55,8 +56,9 @@ impl LineText {
 
     /// Keeps the bytes of the tail too, since no LF came next.
     fn keep_tail(&mut self, line: &mut Vec<u8>) -> Result<(), AllocError>
-        ensures { OnOk result ((text : List ℕ) → KeepsFront line.old.items self.old.is_long text
+        ensures text { OnOk result ((text : List ℕ) → KeepsFront line.old.items self.old.is_long text
             → KeepsFront line.new.items self.new.is_long (text ++ tail_bytes self.old.tail)) }
+        ensures within { length line.old.items ≤ LINE_MOST → length line.new.items ≤ LINE_MOST }
     {
         match self.tail {
             Tail::Nothing => Ok(()),
@@ -71,8 +73,9 @@ impl LineText {
 
     /// The line goes on with a CR.
     fn add_cr(&mut self, line: &mut Vec<u8>) -> Result<(), AllocError>
-        ensures { OnOk result ((text : List ℕ) → IsText line.old.items self.old text
+        ensures text { OnOk result ((text : List ℕ) → IsText line.old.items self.old text
             → IsText line.new.items self.new (text ++ 13 ∷ [])) }
+        ensures within { length line.old.items ≤ LINE_MOST → length line.new.items ≤ LINE_MOST }
     {
         match self.tail {
             Tail::Backslash => {
@@ -89,8 +92,9 @@ impl LineText {
 
     /// The line goes on with a byte that is no LF.
     pub fn add(&mut self, line: &mut Vec<u8>, byte: u8) -> Result<(), AllocError>
-        ensures { OnOk result ((text : List ℕ) → IsText line.old.items self.old text
+        ensures text { OnOk result ((text : List ℕ) → IsText line.old.items self.old text
             → IsText line.new.items self.new (text ++ byte ∷ [])) }
+        ensures within { length line.old.items ≤ LINE_MOST → length line.new.items ≤ LINE_MOST }
     {
         if byte == CR {
             return self.add_cr(line);
@@ -106,10 +110,11 @@ impl LineText {
 
     /// An LF comes: gives whether it ends the line. If not, the next line is joined on.
     pub fn end_piece(&mut self, line: &mut Vec<u8>) -> Result<bool, AllocError>
-        ensures { IfOk result (λ ends. (text : List ℕ) → IsText line.old.items self.old text
+        ensures text { IfOk result (λ ends. (text : List ℕ) → IsText line.old.items self.old text
             → MatchBool ends
             ((ends_in_backslash (without_cr text) ≡ false) × KeepsFront line.new.items self.new.is_long (without_cr text))
             ((ends_in_backslash (without_cr text) ≡ true) × IsText line.new.items self.new (spaced (without_cr text)))) }
+        ensures within { length line.old.items ≤ LINE_MOST → length line.new.items ≤ LINE_MOST }
     {
         match self.tail {
             Tail::Nothing | Tail::Cr => Ok(true),
@@ -123,8 +128,9 @@ impl LineText {
 
     /// The script ends.
     pub fn end_script(&mut self, line: &mut Vec<u8>) -> Result<(), AllocError>
-        ensures { OnOk result ((text : List ℕ) → IsText line.old.items self.old text
+        ensures text { OnOk result ((text : List ℕ) → IsText line.old.items self.old text
             → KeepsFront line.new.items self.new.is_long (last_text text)) }
+        ensures within { length line.old.items ≤ LINE_MOST → length line.new.items ≤ LINE_MOST }
     {
         match self.tail {
             Tail::Backslash => self.keep(line, b' '),

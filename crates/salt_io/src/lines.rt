@@ -1,7 +1,7 @@
 //! The lines of a script.
 ghost use Rattle.std.specs.Prelude.{◌≡◌, ◌≢◌, ℕ, ◌+◌, ◌<◌, ◌≤◌, ◌-◌, List, [], ◌∷◌, ◌++◌, length, take, IfOk, OnOk, OnErr, IfSome, IfNone, true, false};
 ghost use Rattle.salt_io.specs.Streams.{Rose, Takes, IsAtEnd, bytes_before};
-ghost use Rattle.salt_io.specs.Lines.{script_of, TakesLine, TakesLong, TakesNoLine, IsCutOff};
+ghost use Rattle.salt_io.specs.Lines.{script_of, IsReadingOf, TakesLine, TakesLong, TakesNoLine, IsCutOff};
 ghost use Rattle.salt_io.specs.declared.lines.LineErr.TheVariants.{ReadFault, Memory};
 
 use crate::line_text::LineText;
@@ -61,6 +61,7 @@ pub struct Lines {
     from: usize,
     to: usize,
     taken: u64,
+    ended: bool,
 }
 
 impl Model for Lines {
@@ -70,7 +71,7 @@ impl Model for Lines {
 
     ghost Value = { Reading };
 
-    ghost view = { λ r. record { kept = take (r.to - r.from) (drop r.from r.buf); taken = r.taken } };
+    ghost view = { λ r. record { kept = take (r.to - r.from) (drop r.from r.buf); taken = r.taken; ended = r.ended } };
 
     ghost invariant = { λ r. (r.from ≤ r.to) × (r.to ≤ 4096) × (r.taken ≤ SCRIPT_MOST) };
 }
@@ -78,49 +79,66 @@ impl Model for Lines {
 impl Lines {
     /// Of a script of which nothing has been read.
     pub fn new() -> Self
-        ensures { result ≡ record { kept = []; taken = 0 } }
+        ensures { result ≡ record { kept = []; taken = 0; ended = false } }
     {
         Lines {
             buf: [0; 4096],
             from: 0,
             to: 0,
             taken: 0,
+            ended: false,
         }
     }
 
-    /// Takes bytes from the source where none are kept.
+    /// Takes bytes from the source where none are kept, unless it has told its end.
     fn fill<S: Source>(&mut self, source: &mut S) -> Result<(), IoFailed>
+        requires { IsReadingOf self.old (S.left source.old) }
+        ensures of { IsReadingOf self.new (S.left source.new) }
         ensures taken { self.new.taken ≡ self.old.taken }
         ensures within { self.new.taken ≤ SCRIPT_MOST }
         ensures same { OnOk result (bytes_before self.old.kept (S.left source.old) ≡ bytes_before self.new.kept (S.left source.new)) }
-        ensures end { OnOk result (self.new.kept ≡ [] → IsAtEnd (S.left source.new)) }
+        ensures end { OnOk result (self.new.kept ≡ [] → self.new.ended ≡ true) }
+        ensures in_hand { self.old.kept ≢ [] → (source.new ≡ source.old) × (self.new ≡ self.old) }
+        ensures over { self.old.ended ≡ true → (source.new ≡ source.old) × (self.new ≡ self.old) }
         ensures none { OnErr result (self.old.kept ≡ []) }
+        ensures unended { OnErr result (self.old.ended ≡ false) }
         ensures kept { OnErr result (S.left source.new ≡ S.left source.old) }
+        ensures no_fault { OnOk result (S.faults source.new ≡ S.faults source.old) }
         ensures failed { OnErr result (Rose (S.faults source.old) (S.faults source.new)) }
         ensures later { S.faults source.old ≤ S.faults source.new }
     {
-        if self.from == self.to {
+        if self.from == self.to && !self.ended {
             let n = source.read(&mut self.buf)?;
             self.from = 0;
             self.to = n;
+            self.ended = n == 0;
         }
         Ok(())
     }
 
     /// Gives the script's next byte, or `None` at its end.
     fn next_byte<S: Source>(&mut self, source: &mut S) -> Result<Option<u8>, LineErr>
+        requires { IsReadingOf self.old (S.left source.old) }
+        ensures of { IsReadingOf self.new (S.left source.new) }
         ensures some { IfOk result (λ next. IfSome next (λ byte.
             Takes (bytes_before self.old.kept (S.left source.old)) (byte ∷ []) (bytes_before self.new.kept (S.left source.new)))) }
+        ensures first { IfOk result (λ next. IfSome next (λ byte. self.old.kept ≢ [] → self.old.kept ≡ byte ∷ self.new.kept)) }
         ensures counted { IfOk result (λ next. IfSome next (λ _. self.new.taken ≡ self.old.taken + 1)) }
+        ensures counts { self.old.taken ≤ self.new.taken }
+        ensures goes_on { IfOk result (λ next. IfSome next (λ _. self.old.ended ≡ false)) }
         ensures within { self.new.taken ≤ SCRIPT_MOST }
-        ensures end { IfOk result (λ next. IfNone next (IsAtEnd (bytes_before self.new.kept (S.left source.new)))) }
+        ensures end { IfOk result (λ next. IfNone next (self.new.ended ≡ true)) }
         ensures none { IfOk result (λ next. IfNone next (self.new.taken ≡ self.old.taken)) }
         ensures same { IfOk result (λ next. IfNone next
             (bytes_before self.old.kept (S.left source.old) ≡ bytes_before self.new.kept (S.left source.new))) }
+        ensures in_hand { self.old.kept ≢ [] → source.new ≡ source.old }
+        ensures over { self.old.ended ≡ true → source.new ≡ source.old }
         ensures fault { result ≡ Err LineErr.ReadFault → Rose (S.faults source.old) (S.faults source.new) }
         ensures fault_left { result ≡ Err LineErr.ReadFault → bytes_before self.old.kept (S.left source.old) ≡ S.left source.new }
+        ensures fault_open { result ≡ Err LineErr.ReadFault → self.old.ended ≡ false }
         ensures long { result ≡ Err LineErr.ScriptTooLong → self.old.taken ≡ SCRIPT_MOST }
         ensures more { result ≡ Err LineErr.ScriptTooLong → IfSome (bytes_before self.old.kept (S.left source.old)) (λ all. 0 < length all) }
+        ensures no_fault { result ≢ Err LineErr.ReadFault → S.faults source.new ≡ S.faults source.old }
         ensures later { S.faults source.old ≤ S.faults source.new }
     {
         self.fill(source)?;
@@ -139,31 +157,39 @@ impl Lines {
     /// Puts the next line's text into `line`, in place of what is there. After an error, or a line
     /// that is too long, `line` holds some bytes, no more than a line may have.
     ///
-    /// After `Memory` the source may have been read further.
+    /// The source is the one of all calls before. It is not asked where a whole line is kept, nor
+    /// after it told its end. After `Memory` it may have been read further.
     pub fn next_line<S: Source>(
         &mut self,
         source: &mut S,
         line: &mut Vec<u8>,
     ) -> Result<Next, LineErr>
+        requires { IsReadingOf self.old (S.left source.old) }
+        ensures of { IsReadingOf self.new (S.left source.new) }
+
         ensures line { result ≡ Ok Next.Line → TakesLine SCRIPT_MOST
             (bytes_before self.old.kept (S.left source.old)) (bytes_before self.new.kept (S.left source.new))
-            self.old.taken self.new.taken line.new.items }
-        ensures fits { result ≡ Ok Next.Line → length line.new.items ≤ LINE_MOST }
+            self.old.taken self.new line.new.items }
         ensures long { result ≡ Ok Next.TooLong → TakesLong LINE_MOST SCRIPT_MOST
             (bytes_before self.old.kept (S.left source.old)) (bytes_before self.new.kept (S.left source.new))
-            self.old.taken self.new.taken }
+            self.old.taken self.new }
+        ensures fits { length line.new.items ≤ LINE_MOST }
 
         ensures end { result ≡ Ok Next.End → IsAtEnd (bytes_before self.old.kept (S.left source.old)) }
-        ensures end_after { result ≡ Ok Next.End → IsAtEnd (bytes_before self.new.kept (S.left source.new)) }
+        ensures end_told { result ≡ Ok Next.End → self.new.ended ≡ true }
         ensures end_taken { result ≡ Ok Next.End → self.new.taken ≡ self.old.taken }
 
         ensures fault { result ≡ Err LineErr.ReadFault → Rose (S.faults source.old) (S.faults source.new) }
+        ensures fault_open { result ≡ Err LineErr.ReadFault → self.old.ended ≡ false }
         ensures cut_off { result ≡ Err LineErr.ReadFault
-            → TakesNoLine (bytes_before self.old.kept (S.left source.old)) (S.left source.new) }
+            → TakesNoLine (SCRIPT_MOST - self.old.taken) (bytes_before self.old.kept (S.left source.old)) (S.left source.new) }
         ensures too_long { result ≡ Err LineErr.ScriptTooLong
             → IsCutOff (SCRIPT_MOST - self.old.taken) (bytes_before self.old.kept (S.left source.old)) }
 
+        ensures in_hand { (script_of self.old.kept).ended ≢ [] → source.new ≡ source.old }
+        ensures over { self.old.ended ≡ true → source.new ≡ source.old }
         ensures within { self.new.taken ≤ SCRIPT_MOST }
+        ensures no_fault { result ≢ Err LineErr.ReadFault → S.faults source.new ≡ S.faults source.old }
         ensures later { S.faults source.old ≤ S.faults source.new }
     {
         line.clear();

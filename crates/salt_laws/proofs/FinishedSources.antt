@@ -170,12 +170,12 @@ over-step trace (Accepted b) s f g n c r a = either (λ i. s.over c r i) (λ i. 
 over-step trace (Finished b) s f g n c r a = in-left c (finished_in trace) (b ∷ []) (s.over c r a)
 over-step trace e s f g n c r a = s.over c r a
 
-sources : (trace : Trace) → IsPlayed trace → OfBoots (start_of trace).kept → Sources trace
-sources (from k) p w = record { later = λ u c part h. cc; committed = λ u c h q. cc; read = λ b c h. absurd h; over = λ c h a. absurd h }
-sources (trace asks asked) p w = let s = sources trace p.0 w in record { later = s.later; committed = λ u c h q. either (λ i. inl i) (λ d. inr (accepts-asks trace asked (last_said trace) ∙ d)) (s.committed u c h q); read = s.read; over = s.over }
-sources (trace turns b) p w = let s = sources trace p.0 w in record { later = s.later; committed = λ u c h q. either (λ i. inl i) (λ d. inr (accepts-turns trace b (last_said trace) ∙ d)) (s.committed u c h q); read = s.read; over = s.over }
-sources (trace says e) p w =
-    let s = sources trace p.0 w in
+pub sources-played : (trace : Trace) → IsPlayed trace → OfBoots (start_of trace).kept → Sources trace
+sources-played (from k) p w = record { later = λ u c part h. cc; committed = λ u c h q. cc; read = λ b c h. absurd h; over = λ c h a. absurd h }
+sources-played (trace asks asked) p w = let s = sources-played trace p.0 w in record { later = s.later; committed = λ u c h q. either (λ i. inl i) (λ d. inr (accepts-asks trace asked (last_said trace) ∙ d)) (s.committed u c h q); read = s.read; over = s.over }
+sources-played (trace turns b) p w = let s = sources-played trace p.0 w in record { later = s.later; committed = λ u c h q. either (λ i. inl i) (λ d. inr (accepts-turns trace b (last_said trace) ∙ d)) (s.committed u c h q); read = s.read; over = s.over }
+sources-played (trace says e) p w =
+    let s = sources-played trace p.0 w in
     let h = holds trace p.0 w in
     let f = may-fit trace e h.comes p.1 in
     let a = accepts-due trace e p.0 h.comes p.1 in
@@ -218,7 +218,7 @@ names-all : (trace : Trace) → IsPlayed trace → OfBoots (start_of trace).kept
 names-all (from k) p w d = tt
 names-all (trace asks asked) p w d = names-all trace p.0 w d
 names-all (trace turns b) p w d = names-all trace p.0 w d
-names-all (trace says e) p w d = (names-all trace p.0 w d.0, names-at trace e (sources trace p.0 w) (holds trace p.0 w).salty d.1)
+names-all (trace says e) p w d = (names-all trace p.0 w d.0, names-at trace e (sources-played trace p.0 w) (holds trace p.0 w).salty d.1)
 
 pub releases-played : (trace : Trace) → IsPlayed trace → OfBoots (start_of trace).kept → ReleasesExactly trace
 releases-played trace p w = let d = due-played trace p w in record { due = d; names = names-all trace p w d }

@@ -30,5 +30,9 @@ pub mod Rising
 pub mod Continues
 pub mod WrittenKeys
 pub mod FinishedSources
+pub mod Widening
+pub mod ReadSources
+pub mod LastWriters
+pub mod Victims
 pub mod Asking
 pub mod Declares

@@ -3,7 +3,7 @@ use Rattle.salt_laws.proofs.Ids.{and_left, and_right, is_same_id-refl, is_same_i
 use Rattle.salt_model.specs.Words.{has_id, in_order, insert_id, shrink, without}
 use Rattle.salt_values.specs.Id.{is_older, is_same_id}
 use Rattle.salt_values.specs.declared.id.Id.{Id}
-use Rattle.std.proofs.Common.{arith, inl, inr, subst, sym}
+use Rattle.std.proofs.Common.{ap, arith, inl, inr, subst, sym, ◌∙◌}
 use Rattle.std.specs.List.{cons_option, filter, filter_map, list_all, list_any}
 use Rattle.std.specs.Prelude.{Bool, List, None, Option, Some, [], cond, false, length, map, not, refl, suc, true, zero, ℕ, ◌&&◌, ◌++◌, ◌<◌, ◌||◌, ◌∷◌, ◌≡◌, ◌≤◌, ◌⊎◌}
 
@@ -73,6 +73,11 @@ in-map f y [] h = absurd h
 in-map f y (x ∷ xs) (inl e) = (x, inl refl, e)
 in-map f y (x ∷ xs) (inr h) = let r = in-map f y xs h in (r.0, inr r.1, r.2)
 
+pub into-map : {A B : Type 0} (f : A → B) (x : A) (xs : List A) → In x xs → In (f x) (map f xs)
+into-map f x [] h = absurd h
+into-map f x (y ∷ ys) (inl e) = inl (ap f e)
+into-map f x (y ∷ ys) (inr h) = inr (into-map f x ys h)
+
 pub into-filter_map : {A B : Type 0} (f : A → Option B) (x : A) (y : B) (xs : List A) → In x xs → f x ≡ Some y → In y (filter_map f xs)
 into-filter_map f x y [] h e = absurd h
 into-filter_map f x y (z ∷ zs) (inl g) e = rw (subst (λ w. f w ≡ Some y) (sym g) e) (inl refl)
@@ -118,6 +123,23 @@ pub in-order : (x : Id) (us : List Id) → In x (in_order us) → In x us
 in-order x [] h = h
 in-order x (u ∷ us) h = either (λ e. inl e) (λ g. inr (in-order x us g)) (in-insert x u (in_order us) h)
 
+into-insert : (x u : Id) (vs : List Id) → In x (u ∷ vs) → In x (insert_id u vs)
+into-insert x u [] h = h
+into-insert x u (v ∷ vs) h = go (into-insert x u vs) (is_older u v) (is_same_id u v) refl h
+  where
+    go : (In x (u ∷ vs) → In x (insert_id u vs)) → (b c : Bool) → is_same_id u v ≡ c → In x (u ∷ v ∷ vs) → In x (cond b (u ∷ v ∷ vs) (cond c (v ∷ vs) (v ∷ insert_id u vs)))
+    go more true c e g = g
+    go more false true e (inl s) = inl (sym (is_same_id-true u v e) ∙ s)
+    go more false true e (inr g) = g
+    go more false false e (inl s) = inr (more (inl s))
+    go more false false e (inr (inl s)) = inl s
+    go more false false e (inr (inr g)) = inr (more (inr g))
+
+pub into-order : (x : Id) (us : List Id) → In x us → In x (in_order us)
+into-order x [] h = h
+into-order x (u ∷ us) (inl e) = into-insert x u (in_order us) (inl e)
+into-order x (u ∷ us) (inr h) = into-insert x u (in_order us) (inr (into-order x us h))
+
 insert-some : (u : Id) (vs : List Id) → insert_id u vs ≡ [] → ⊥
 insert-some u [] h = cc
 insert-some u (v ∷ vs) h = go (is_older u v) (is_same_id u v) h
@@ -133,7 +155,7 @@ order-none (u ∷ us) h = absurd (insert-some u (in_order us) h)
 
 -- a shrinking list comes to an end within its length
 
-filter-short : {A : Type 0} (p : A → Bool) (xs : List A) → length (filter p xs) ≤ length xs
+pub filter-short : {A : Type 0} (p : A → Bool) (xs : List A) → length (filter p xs) ≤ length xs
 filter-short p [] = omega arith
 filter-short p (x ∷ xs) = go (filter-short p xs) (p x)
   where

@@ -39,13 +39,13 @@ value_same (Text s) (Text t) e = ap Value.Text (slice_cmp-IsAntisymmetric nat_cm
 value_same (Int x) (Text t) e = cc
 value_same (Text s) (Int y) e = cc
 
-place_same : (p q : Place) → place_cmp p q ≡ Equal → p ≡ q
+pub place_same : (p q : Place) → place_cmp p q ≡ Equal → p ≡ q
 place_same p q e = λ i. record {
   table = nat_cmp-IsAntisymmetric p.table q.table (then_first (nat_cmp p.table q.table) _ e) i;
   key = value_same p.key q.key (then_second (nat_cmp p.table q.table) _ e) i;
 }
 
-equal-is : (o : Ordering) → is_eq o ≡ true → o ≡ Equal
+pub equal-is : (o : Ordering) → is_eq o ≡ true → o ≡ Equal
 equal-is Less e = cc
 equal-is Equal e = refl
 equal-is Greater e = cc

@@ -3,7 +3,7 @@ use Rattle.std.specs.Bool.{then_some}
 use Rattle.std.specs.Option.{option_or}
 use Rattle.salt_ast.specs.declared.trees.Statement.{Statement}
 use Rattle.salt_laws.proofs.Fresh.{or_left, or_right}
-use Rattle.salt_laws.proofs.Ids.{and_left, and_right, is_same_id-refl, is_same_id-true}
+use Rattle.salt_laws.proofs.Ids.{and_left, and_right, is_same_id-refl, is_same_id-true, same_sym}
 use Rattle.salt_laws.proofs.Lists.{In, PassesSelf, all-in, either, has-in, in-cases, in-filter, in-filter_map, in-has, in-left, in-map, in-right, in-without, into-filter, into-filter_map, or_cases, or_right_true, shrink-ends}
 use Rattle.salt_laws.proofs.NextFits.{Fits}
 use Rattle.salt_laws.proofs.Places.{meet-common}
@@ -156,8 +156,8 @@ reached-released : (trace : Trace) (r : Reach) (w : Written) → touches_unrelea
 reached-released trace r w none c h =
     let t = c.taken.0 in
     let x = c.taken.2 in
-    let table : (t.reach.table == r.table) ≡ true = rw x.2 (and_left (w.table == r.table) _ h) in
-    let range : meets t.reach.range r.range ≡ true = meet-common t.reach.range r.range w.key x.3 (and_right (w.table == r.table) _ h) in
+    let table : (t.reach.table == r.table) ≡ true = rw x.2 (same_sym w.table r.table ∙ and_left (r.table == w.table) _ h) in
+    let range : meets t.reach.range r.range ≡ true = meet-common t.reach.range r.range w.key x.3 (and_right (r.table == w.table) _ h) in
     let touch : touches t.reach r ≡ true = rw (table, range, x.1) refl in
     let part : is_unreleased_part trace t ≡ false = its (touches t.reach r) (is_unreleased_part trace t) touch (any-not _ t (taken_in trace) none c.taken.1) in
     left (is_program_released trace (program_of w.unit trace)) (its (is_open_or_committed (standing w.unit trace)) _ (or_right_true (is_open_standing (standing w.unit trace)) _ c.committed) (subst (λ v. (is_open_or_committed (standing v trace) && not (is_program_released trace (program_of v trace))) ≡ false) x.0 part))

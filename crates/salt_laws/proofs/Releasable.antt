@@ -1,33 +1,15 @@
 -- The pruned list of the programs to release is that of the releasable ones.
+use Rattle.salt_laws.proofs.Lists.{In, PassesSelf, all-in, either, has-in, in-has, in-order, in-shrink, in-without, into-all, into-filter, into-order, into-shrink, or_cases, or_left_true, or_right_true, shrink-ends}
 use Rattle.salt_laws.proofs.Ids.{is_same_id-true}
-use Rattle.salt_laws.proofs.Lists.{In, PassesSelf, all-in, either, has-in, in-has, in-order, in-shrink, in-without, into-all, into-filter, into-shrink, or_cases, or_left_true, or_right_true, shrink-ends}
 use Rattle.salt_laws.proofs.Sound.{to_release-finished}
 use Rattle.salt_model.specs.Trace.{Trace}
 use Rattle.salt_model.specs.Programs.{finished_in, released_in}
 use Rattle.salt_model.specs.Reads.{read_directly, reads_within, to_release}
 use Rattle.salt_model.specs.Releasing.{ReadsThrough, itself, through}
-use Rattle.salt_model.specs.Words.{has_id, in_order, insert_id, without}
-use Rattle.salt_values.specs.Id.{is_older, is_same_id}
+use Rattle.salt_model.specs.Words.{has_id, in_order, without}
 use Rattle.salt_values.specs.declared.id.Id.{Id}
 use Rattle.std.proofs.Common.{arith, inl, inr, sym, ◌∙◌}
-use Rattle.std.specs.Prelude.{Bool, IsTrue, List, [], cond, false, length, not, refl, true, ◌||◌, ◌↔◌, ◌∷◌, ◌≡◌, ◌⊎◌}
-
-into-insert : (x u : Id) (vs : List Id) → In x (u ∷ vs) → In x (insert_id u vs)
-into-insert x u [] h = h
-into-insert x u (v ∷ vs) h = go (into-insert x u vs) (is_older u v) (is_same_id u v) refl h
-  where
-    go : (In x (u ∷ vs) → In x (insert_id u vs)) → (b c : Bool) → is_same_id u v ≡ c → In x (u ∷ v ∷ vs) → In x (cond b (u ∷ v ∷ vs) (cond c (v ∷ vs) (v ∷ insert_id u vs)))
-    go more true c e g = g
-    go more false true e (inl s) = inl (sym (is_same_id-true u v e) ∙ s)
-    go more false true e (inr g) = g
-    go more false false e (inl s) = inr (more (inl s))
-    go more false false e (inr (inl s)) = inl s
-    go more false false e (inr (inr g)) = inr (more (inr g))
-
-into-order : (x : Id) (us : List Id) → In x us → In x (in_order us)
-into-order x [] h = h
-into-order x (u ∷ us) (inl e) = into-insert x u (in_order us) (inl e)
-into-order x (u ∷ us) (inr h) = into-insert x u (in_order us) (inr (into-order x us h))
+use Rattle.std.specs.Prelude.{Bool, IsTrue, List, false, length, not, refl, true, ◌||◌, ◌↔◌, ◌≡◌, ◌⊎◌}
 
 -- every program that b reads from is finished, or released before
 abbrev pub MayGo : Trace → Id → Type 0

@@ -15,7 +15,9 @@ ghost use Rattle.salt_model.specs.Next.{flight};
 ghost use Rattle.salt_model.specs.Played.{IsPlayed};
 ghost use Rattle.salt_model.specs.Everywhere.{Always, Each};
 ghost use Rattle.salt_model.specs.Releasing.{ReleasesExactly};
-ghost use Rattle.salt_laws.specs.Rewordings.{WritesAtEnd};
+ghost use Rattle.salt_laws.specs.Cycles.{IsRightVictim};
+ghost use Rattle.salt_laws.specs.Rewordings.{SourcesAreReadThrough, WritersAreLast, WritesAtEnd};
+ghost use Rattle.salt_model.specs.Waiting.{victim};
 
 /// The answers printed for each unit are those of doing its statements one after another on the tables of
 /// the commits so far; a failed answer is its last, and its end says so.
@@ -67,6 +69,22 @@ pub fn kept_stays_well_kept()
 /// when all of them are done anew at its commit.
 pub fn changes_are_those_written()
     ensures { (trace : Trace) → IsPlayed trace → WellKept (start_of trace).kept → Each WritesAtEnd trace }
+{}
+
+/// The sources of a BASE program are the programs that it reads through, directly or through programs, and itself.
+pub fn sources_are_read_through()
+    ensures { (trace : Trace) → IsPlayed trace → WellKept (start_of trace).kept → SourcesAreReadThrough trace }
+{}
+
+/// There is a victim exactly where a waiting unit waits for itself, through others or at once. It is such a unit:
+/// an ACID one if there is one, and of those the one with the greatest name.
+pub fn victim_is_youngest_on_cycle()
+    ensures { (trace : Trace) → IsRightVictim trace (victim trace) }
+{}
+
+/// The units that are read from in a reach are those that wrote a key of it last.
+pub fn writers_are_last()
+    ensures { (trace : Trace) → WritersAreLast trace }
 {}
 
 /// Each statement done is the declared one: the next of its program's block, as the program is kept, or what a

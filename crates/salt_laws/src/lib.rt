@@ -6,5 +6,6 @@ mod laws;
 pub use laws::{
     changes_are_those_written, held_locks_stand_together, kept_stays_well_kept,
     played_is_continued, played_is_declared, played_is_honest, played_is_kept, played_is_salted,
-    played_is_whole, played_releases_exactly,
+    played_is_whole, played_releases_exactly, sources_are_read_through,
+    victim_is_youngest_on_cycle, writers_are_last,
 };

@@ -1,7 +1,7 @@
 -- The text of an event and of a story, under a schema that names the tables of locks.
 use Rattle.salt_ast.specs.Limits.{limit_word}
-use Rattle.salt_ast.specs.ProgramTexts.{base_text, call_text, id_text, stop_text}
-use Rattle.salt_ast.specs.Texts.{between_commas, preceded, statement_text, value_text}
+use Rattle.salt_ast.specs.ProgramTexts.{base_text, call_text, id_text, row_text, stop_text}
+use Rattle.salt_ast.specs.Texts.{preceded, statement_text, value_text}
 use Rattle.salt_ast.specs.declared.trees.TableDef.{TableDef}
 use Rattle.salt_model.specs.declared.events.Answer.TheVariants as answer
 use Rattle.salt_model.specs.declared.events.Answer.{Answer}
@@ -55,9 +55,6 @@ kind_text (kind.Call s n args) = codes " began @" ++ (decimal s ++ (codes " call
 kind_text (kind.First s b n args) =
     codes " began @" ++ (decimal s ++ (codes " " ++ (base_text b ++ (codes " part 1 of " ++ call_text n args))))
 kind_text (kind.Later b part) = codes " began " ++ (base_text b ++ (codes " part " ++ decimal part))
-
-abbrev pub row_text : List Value → List ℕ
-row_text vs = codes "(" ++ (between_commas value_text vs ++ codes ")")
 
 abbrev pub cell_text : Option Value → List ℕ
 cell_text None = codes "none"

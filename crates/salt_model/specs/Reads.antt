@@ -1,22 +1,21 @@
 -- Who wrote last, who reads from whom, and what is releasable.
 use Rattle.std.specs.Ordering.{is_eq}
 use Rattle.salt_model.specs.declared.places.Place.{Place}
-use Rattle.salt_model.specs.Tables.{place, place_cmp}
+use Rattle.salt_model.specs.Tables.{is_within, place, place_cmp}
 use Rattle.salt_model.specs.After.{changes_now, reach_now}
 use Rattle.salt_model.specs.Trace.{Trace, from, ◌asks◌, ◌says◌, ◌turns◌}
 use Rattle.salt_model.specs.Programs.{accepted_in, finished_in, released_in}
 use Rattle.salt_model.specs.Units.{is_of_program, program_of}
-use Rattle.salt_model.specs.Words.{has_id, in_order, shrink, without}
+use Rattle.salt_model.specs.Words.{has_id, in_order, shrink, widened, without}
 use Rattle.salt_model.specs.declared.events.End.TheVariants.{Committed}
 use Rattle.salt_model.specs.declared.events.Event.TheVariants.{Did, Ended}
 use Rattle.salt_model.specs.declared.locks.Reach.{Reach}
-use Rattle.salt_ranges.specs.Ranges.{has_key}
 use Rattle.salt_values.specs.Id.{is_same_id}
 use Rattle.salt_values.specs.declared.change.Change.{Change}
 use Rattle.salt_values.specs.declared.id.Id.{Id}
 use Rattle.salt_values.specs.declared.value.Value.{Value}
-use Rattle.std.specs.List.{filter, filter_map, find, flat_map, list_all}
-use Rattle.std.specs.Prelude.{Bool, List, None, Option, Some, [], if◌then◌else◌, length, map, not, option_map, suc, zero, ℕ, ◌&&◌, ◌++◌, ◌==◌, ◌||◌, ◌∷◌}
+use Rattle.std.specs.List.{filter, filter_map, find, list_all}
+use Rattle.std.specs.Prelude.{Bool, List, None, Option, Some, [], if◌then◌else◌, length, map, not, option_map, ℕ, ◌++◌, ◌||◌, ◌∷◌}
 
 -- a key that a committed unit changed
 pub record Written : Type 0 where
@@ -49,7 +48,7 @@ written_at w = place w.table w.key
 abbrev pub is_written_at : Place → Written → Bool
 is_written_at p w = is_eq (place_cmp p (written_at w))
 
--- the last writer of a key
+-- who wrote a key last: of the committed units whose statements changed it the one that committed last
 abbrev pub last_writer : Trace → Place → Option Id
 last_writer trace p = option_map (λ w. w.unit) (find (is_written_at p) (written_in trace))
 
@@ -59,7 +58,7 @@ last_of_each [] = []
 last_of_each (w ∷ ws) = w ∷ filter (λ v. not (is_written_at (written_at w) v)) (last_of_each ws)
 
 abbrev pub is_reached : Reach → Written → Bool
-is_reached r w = (w.table == r.table) && has_key r.range w.key
+is_reached r w = is_within r (written_at w)
 
 -- the last writers of the keys in a reach
 abbrev pub writers_in : Trace → Option Reach → List Id
@@ -81,17 +80,9 @@ read_directly b (trace says Did u st answer) =
     else read_directly b trace
 read_directly b (trace says e) = read_directly b trace
 
--- seen and all that they read from directly
-abbrev pub widened : Trace → List Id → List Id
-widened trace seen = in_order (seen ++ flat_map (λ b. read_directly b trace) seen)
-
-abbrev pub widened_times : ℕ → Trace → List Id → List Id
-widened_times zero trace seen = seen
-widened_times (suc n) trace seen = widened_times n trace (widened trace seen)
-
--- b and the programs that it reads from, directly or through programs
+-- b and the programs that it reads from, directly or through programs; a way to one needs no more steps than programs are accepted
 abbrev pub sources : Trace → Id → List Id
-sources trace b = widened_times (length (accepted_in trace)) trace (b ∷ [])
+sources trace b = widened (λ c. read_directly c trace) (length (accepted_in trace)) (b ∷ [])
 
 abbrev pub is_finished : Trace → Id → Bool
 is_finished trace b = has_id b (finished_in trace)

@@ -9,8 +9,7 @@ use Rattle.salt_model.specs.Reads.{is_finished}
 use Rattle.salt_model.specs.Words.{in_order}
 use Rattle.salt_model.specs.declared.events.Event.TheVariants.{Began}
 use Rattle.salt_model.specs.declared.events.Owner.TheVariants.{Base, Unit}
-use Rattle.salt_model.specs.declared.events.UnitKind.TheVariants.{First, Later}
-use Rattle.salt_model.specs.declared.events.UnitKind.{UnitKind}
+use Rattle.salt_model.specs.declared.events.UnitKind.TheVariants.{First}
 use Rattle.salt_model.specs.declared.locks.Lock.{Lock}
 use Rattle.salt_model.specs.declared.shown.BaseAt.TheVariants.{Next}
 use Rattle.salt_model.specs.declared.shown.BaseAt.{BaseAt}
@@ -30,14 +29,6 @@ locks_of_unit trace u = filter (λ l. is_same_owner (Unit u) l.owner) (held trac
 abbrev pub lock_items : Trace → List Item
 lock_items trace =
     map Item.Lock (flat_map (locks_of_base trace) (unreleased trace)) ++ map Item.Lock (flat_map (locks_of_unit trace) (in_order (open_units trace)))
-
-abbrev pub part_of_unit : UnitKind → ℕ
-part_of_unit (Later b part) = part
-part_of_unit kind = 1
-
-abbrev pub name_of_kind : UnitKind → List ℕ
-name_of_kind (First s b n args) = n
-name_of_kind kind = []
 
 -- the name of the program b, by its First unit
 abbrev pub name_of_base : Id → Trace → List ℕ

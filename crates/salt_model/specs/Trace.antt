@@ -2,6 +2,7 @@
 use Rattle.salt_ast.specs.declared.lines.Line.TheVariants.{Nothing}
 use Rattle.salt_ast.specs.declared.lines.Line.{Line}
 use Rattle.salt_model.specs.Kept.{Kept}
+use Rattle.salt_model.specs.declared.events.Event.TheVariants.{Opened}
 use Rattle.salt_model.specs.declared.events.Event.{Event}
 use Rattle.salt_model.specs.declared.events.Refusal.{Refusal}
 use Rattle.salt_values.specs.declared.id.Id.{Id}
@@ -36,6 +37,14 @@ story_of (from k) = []
 story_of (trace asks asked) = story_of trace
 story_of (trace turns b) = story_of trace
 story_of (trace says e) = story_of trace ++ e ∷ []
+
+-- the story before the segment in which the trace ends, which is that of a line or of an opening
+abbrev pub story_before : Trace → List Event
+story_before (from k) = []
+story_before (trace asks asked) = story_of trace
+story_before (trace turns b) = story_before trace
+story_before (trace says Opened boot n) = story_of trace
+story_before (trace says e) = story_before trace
 
 -- what its lines ask
 abbrev pub lines_of : Trace → List Asked

@@ -11,14 +11,13 @@ use Rattle.salt_model.specs.Locks.{clashing}
 use Rattle.salt_model.specs.Trace.{Trace, line_of}
 use Rattle.salt_model.specs.Units.{Standing, Waiting, done_of, is_of_program, kind_of, line_waited, program_of, standing, wait_list}
 use Rattle.salt_model.specs.Reads.{is_finished, sources}
-use Rattle.salt_model.specs.Words.{greatest, has_id, in_order, is_empty}
+use Rattle.salt_model.specs.Words.{greatest, has_id, is_empty, widened}
 use Rattle.salt_model.specs.declared.events.Owner.TheVariants.{Base, Unit}
 use Rattle.salt_model.specs.declared.events.Owner.{Owner}
 use Rattle.salt_values.specs.Id.{is_same_id}
 use Rattle.salt_values.specs.declared.id.Id.{Id}
 use Rattle.std.specs.List.{filter, find, flat_map, list_any}
-use Rattle.std.specs.Prelude.{Bool, List, None, Option, Some, [], if◌then◌else◌}
-use Rattle.std.specs.Prelude.{is_none, length, map, not, option_and_then, slice_get, suc, zero, ℕ, ◌&&◌, ◌++◌, ◌∷◌}
+use Rattle.std.specs.Prelude.{Bool, List, None, Option, Some, [], if◌then◌else◌, is_none, length, map, not, option_and_then, slice_get, ◌&&◌, ◌∷◌}
 
 abbrev pub statement_of_act : Act → Option Statement
 statement_of_act (Do st) = Some st
@@ -49,9 +48,6 @@ asked_by u trace = statement_in u trace (block_of u trace)
 abbrev pub clashing_now : Trace → Id → List Owner
 clashing_now trace u = elim (asked_by u trace) [ None ↦ [] | Some st ↦ clashing trace u st ]
 
-abbrev pub is_waiting_for : Trace → Id → Id → Bool
-is_waiting_for trace b u = is_of_program b trace u
-
 -- the waiting subtransactions of the unfinished programs among these
 abbrev pub waiting_of : Trace → List Id → List Id
 waiting_of trace bs = filter (λ u. list_any (λ b. not (is_finished trace b) && is_of_program b trace u) bs) (wait_list trace)
@@ -80,13 +76,9 @@ abbrev pub edges_in : List WaitUnit → Id → List Id
 edges_in [] u = []
 edges_in (w ∷ ws) u = if is_same_id u w.unit then w.edges else edges_in ws u
 
-abbrev pub led_to : ℕ → List WaitUnit → List Id → List Id
-led_to zero graph seen = seen
-led_to (suc n) graph seen = led_to n graph (in_order (seen ++ flat_map (edges_in graph) seen))
-
--- a unit lies on a cycle: its edges lead back to it
+-- a unit lies on a cycle: its edges lead back to it; a way back needs no more steps than units wait
 abbrev pub is_on_cycle : List WaitUnit → WaitUnit → Bool
-is_on_cycle graph w = has_id w.unit (led_to (length graph) graph w.edges)
+is_on_cycle graph w = has_id w.unit (widened (edges_in graph) (length graph) w.edges)
 
 abbrev pub names_of : List WaitUnit → List Id
 names_of ws = map (λ w. w.unit) ws

@@ -1,8 +1,8 @@
 -- Small words on lists, names and numbers of units.
 use Rattle.salt_values.specs.Id.{is_older, is_same_id}
 use Rattle.salt_values.specs.declared.id.Id.{Id}
-use Rattle.std.specs.List.{filter, list_all, list_any}
-use Rattle.std.specs.Prelude.{Bool, Err, List, None, Ok, Option, Result, Some, [], false, if◌then◌else◌, not, suc, true, zero, ℕ, ⊤, ◌∷◌}
+use Rattle.std.specs.List.{filter, flat_map, list_all, list_any}
+use Rattle.std.specs.Prelude.{Bool, Err, List, None, Ok, Option, Result, Some, [], false, if◌then◌else◌, not, suc, true, zero, ℕ, ⊤, ◌++◌, ◌∷◌}
 
 abbrev pub first_of_list : {A : Type 0} → List A → Option A
 first_of_list [] = None
@@ -37,6 +37,11 @@ greatest (u ∷ us) = elim (greatest us) [ None ↦ Some u | Some v ↦ Some (if
 -- the elements of the second list that are not in the first
 abbrev pub without : List Id → List Id → List Id
 without seen ids = filter (λ u. not (has_id u seen)) ids
+
+-- the names, and all to which `next` leads from them in at most that many steps
+abbrev pub widened : (Id → List Id) → ℕ → List Id → List Id
+widened next zero seen = seen
+widened next (suc n) seen = widened next n (in_order (seen ++ flat_map next seen))
 
 -- a fact of each element
 abbrev pub Every : {A : Type 0} → (A → Type 0) → List A → Type 0

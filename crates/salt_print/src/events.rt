@@ -1,252 +1,132 @@
-//! Events and their parts.
-ghost use Rattle.std.specs.Prelude.{◌++◌, codes, flat_map, length};
-ghost use Rattle.salt_ast.specs.Texts.{preceded};
-ghost use Rattle.salt_model.specs.EventTexts.{answer_text, cause_text, end_text, event_line, event_text, kind_text, refusal_text, story_text, why_text};
-ghost use Rattle.salt_print.specs.Prints.{Prints};
-ghost use Rattle.salt_print.specs.Sends.{Sends};
+//! Events and stories.
 
-use crate::printer::Printer;
-use salt_ast::TableDef;
+ghost use Rattle.std.specs.Prelude.{◌++◌, codes};
+ghost use Rattle.salt_ast.specs.Prints.{Prints};
+ghost use Rattle.salt_ast.specs.ProgramTexts.{base_text};
+ghost use Rattle.salt_ast.specs.Texts.{preceded, statement_text};
+ghost use Rattle.salt_io.specs.Sends.{Sends};
+ghost use Rattle.salt_model.specs.EventTexts.{answer_text, event_line, event_text, story_text};
+ghost use Rattle.std.specs.Fmt.{decimal};
+
+use crate::names::{print_owners, print_unit};
+use crate::parts::{print_answer, print_end, print_kind, print_refusal, print_why};
+use crate::shown::print_shown;
+use salt_ast::{Canonical, Printer, Statement, TableDef};
 use salt_io::{IoFailed, Sink};
-use salt_model::{Answer, Cause, End, Event, Refusal, UnitKind, Why};
+use salt_model::{Answer, Event};
+use salt_values::{Bytes, Id};
 
-impl<K: Sink> Printer<'_, K> {
-    fn kind(&mut self, kind: &UnitKind)
-        ensures { Prints K.held K.faults self.old self.new (kind_text kind.now) }
-    {
-        match kind {
-            UnitKind::Acid { session } => {
-                self.bytes(b" began @");
-                self.number(*session);
-            }
-            UnitKind::Call {
-                session,
-                program,
-                args,
-            } => {
-                self.bytes(b" began @");
-                self.number(*session);
-                self.bytes(b" call ");
-                self.call(program, args);
-            }
-            UnitKind::First {
-                session,
-                base,
-                program,
-                args,
-            } => {
-                self.bytes(b" began @");
-                self.number(*session);
-                self.bytes(b" ");
-                self.base(*base);
-                self.bytes(b" part 1 of ");
-                self.call(program, args);
-            }
-            UnitKind::Later { base, part } => {
-                self.bytes(b" began ");
-                self.base(*base);
-                self.bytes(b" part ");
-                self.number(*part);
-            }
+/// Prints what a unit did, behind its name.
+fn print_did<K: Sink>(out: &mut Printer<'_, K>, statement: &Statement, answer: &Answer)
+    ensures { Prints K.held K.faults out.old out.new (codes " did " ++ (statement_text statement.now ++ (codes " -> " ++ answer_text answer.now))) }
+{
+    out.bytes(b" did ");
+    statement.print(out);
+    out.bytes(b" -> ");
+    print_answer(out, answer);
+}
+
+/// Prints the name of a BASE program and what became of it.
+fn print_base<K: Sink>(out: &mut Printer<'_, K>, base: Id, word: &[u8])
+    ensures { Prints K.held K.faults out.old out.new (base_text base ++ word.now) }
+{
+    out.base(base);
+    out.bytes(word);
+}
+
+/// Prints a word, and each item with a space before it.
+fn print_list<T: Canonical, K: Sink>(out: &mut Printer<'_, K>, word: &[u8], items: &[T])
+    ensures { Prints K.held K.faults out.old out.new (word.now ++ preceded (codes " ") T.text items.now) }
+{
+    out.bytes(word);
+    out.preceded(b" ", items);
+}
+
+/// Prints which start of the program this is, and how many decisions the disks keep.
+fn print_opened<K: Sink>(out: &mut Printer<'_, K>, boot: u64, decisions: u64)
+    ensures { Prints K.held K.faults out.old out.new (codes "opened " ++ (decimal boot ++ (codes " " ++ decimal decisions))) }
+{
+    out.bytes(b"opened ");
+    out.number(boot);
+    out.bytes(b" ");
+    out.number(decisions);
+}
+
+/// Prints the number of a definition, and its text.
+fn print_defined<K: Sink>(out: &mut Printer<'_, K>, number: u64, text: &Bytes)
+    ensures { Prints K.held K.faults out.old out.new (codes "defined " ++ (decimal number ++ (codes " " ++ text.now))) }
+{
+    out.bytes(b"defined ");
+    out.number(number);
+    out.bytes(b" ");
+    out.kept(text);
+}
+
+/// Prints an event's text without the LF that ends it.
+fn print_event_line<K: Sink>(out: &mut Printer<'_, K>, schema: &[TableDef], event: &Event)
+    ensures { Prints K.held K.faults out.old out.new (event_line schema.now event.now) }
+{
+    match event {
+        Event::Began { unit, kind } => {
+            print_unit(out, *unit);
+            print_kind(out, kind);
         }
-    }
-
-    fn cause(&mut self, cause: Cause)
-        ensures { Prints K.held K.faults self.old self.new (cause_text cause) }
-    {
-        match cause {
-            Cause::Duplicate => self.bytes(b"duplicate"),
-            Cause::Check => self.bytes(b"check"),
-            Cause::Missing => self.bytes(b"missing"),
-            Cause::Ensure => self.bytes(b"ensure"),
-            Cause::Overflow => self.bytes(b"overflow"),
-            Cause::TooLong => self.bytes(b"toolong"),
+        Event::Did {
+            unit,
+            statement,
+            answer,
+        } => {
+            print_unit(out, *unit);
+            print_did(out, statement, answer);
         }
-    }
-
-    fn answer(&mut self, answer: &Answer)
-        ensures { Prints K.held K.faults self.old self.new (answer_text answer.now) }
-    {
-        match answer {
-            Answer::Count(count) => {
-                self.bytes(b"count ");
-                self.number(*count);
-            }
-            Answer::Rows(rows) => {
-                self.bytes(b"rows");
-                self.preceded(b" ", rows.as_slice());
-            }
-            Answer::Cell(cell) => {
-                self.bytes(b"value ");
-                self.cell(cell);
-            }
-            Answer::Stored(value) => {
-                self.bytes(b"stored ");
-                self.value(value);
-            }
-            Answer::Held => self.bytes(b"true"),
-            Answer::Failed(cause) => {
-                self.bytes(b"failed ");
-                self.cause(*cause);
-            }
+        Event::Waits { unit, owners } => {
+            print_unit(out, *unit);
+            out.bytes(b" waits");
+            print_owners(out, owners.as_slice());
         }
-    }
-
-    fn end(&mut self, end: End)
-        ensures { Prints K.held K.faults self.old self.new (end_text end) }
-    {
-        match end {
-            End::Committed(number) => {
-                self.bytes(b" committed ");
-                self.number(number);
-            }
-            End::Failed(cause) => {
-                self.bytes(b" failed ");
-                self.cause(cause);
-            }
-            End::Branched(number, cause) => {
-                self.bytes(b" branched ");
-                self.number(number);
-                self.bytes(b" ");
-                self.cause(cause);
-            }
-            End::RolledBack => self.bytes(b" rolled back"),
-            End::Victim => self.bytes(b" victim"),
-            End::Cut => self.bytes(b" cut"),
+        Event::Ended { unit, end } => {
+            print_unit(out, *unit);
+            print_end(out, *end);
         }
-    }
-
-    fn why(&mut self, why: Why)
-        ensures { Prints K.held K.faults self.old self.new (why_text why) }
-    {
-        match why {
-            Why::Stopped => self.bytes(b"stopped"),
-            Why::Fault => self.bytes(b"fault"),
+        Event::Accepted(base) => print_base(out, *base, b" accepted"),
+        Event::Finished(base) => print_base(out, *base, b" finished"),
+        Event::Released(bases) => print_list(out, b"released", bases.as_slice()),
+        Event::Down(why) => {
+            out.bytes(b"down ");
+            print_why(out, *why);
         }
-    }
-
-    fn refusal(&mut self, refusal: &Refusal)
-        ensures { Prints K.held K.faults self.old self.new (refusal_text refusal.now) }
-    {
-        match refusal {
-            Refusal::Long => self.bytes(b"1 long"),
-            Refusal::Byte => self.bytes(b"2 byte"),
-            Refusal::Syntax => self.bytes(b"3 syntax"),
-            Refusal::Limit(limit) => {
-                self.bytes(b"4 limit ");
-                self.bytes(limit.word());
-            }
-            Refusal::Unknown(name) => {
-                self.bytes(b"5 unknown ");
-                self.kept(name);
-            }
-            Refusal::Exists(name) => {
-                self.bytes(b"6 exists ");
-                self.kept(name);
-            }
-            Refusal::Mistyped => self.bytes(b"7 type"),
-            Refusal::Branch(part) => {
-                self.bytes(b"8 branch ");
-                self.number(*part);
-            }
-            Refusal::State => self.bytes(b"9 state"),
-            Refusal::Busy => self.bytes(b"10 busy"),
+        Event::Opened { boot, decisions } => print_opened(out, *boot, *decisions),
+        Event::Ready => out.bytes(b"ready"),
+        Event::Defined { number, text } => print_defined(out, *number, text),
+        Event::Refused(refusal) => {
+            out.bytes(b"refused ");
+            print_refusal(out, refusal);
         }
+        Event::Armed(pairs) => print_list(out, b"armed", pairs.as_slice()),
+        Event::Shown(items) => print_shown(out, schema, items),
     }
+}
 
-    /// An event's text without the LF that ends it.
-    fn event_line(&mut self, schema: &[TableDef], event: &Event)
-        ensures { Prints K.held K.faults self.old self.new (event_line schema.now event.now) }
-    {
-        match event {
-            Event::Began { unit, kind } => {
-                self.unit(*unit);
-                self.kind(kind);
-            }
-            Event::Did {
-                unit,
-                statement,
-                answer,
-            } => {
-                self.unit(*unit);
-                self.bytes(b" did ");
-                self.statement(statement);
-                self.bytes(b" -> ");
-                self.answer(answer);
-            }
-            Event::Waits { unit, owners } => {
-                self.unit(*unit);
-                self.bytes(b" waits");
-                self.preceded(b" ", owners.as_slice());
-            }
-            Event::Ended { unit, end } => {
-                self.unit(*unit);
-                self.end(*end);
-            }
-            Event::Accepted(base) => {
-                self.base(*base);
-                self.bytes(b" accepted");
-            }
-            Event::Finished(base) => {
-                self.base(*base);
-                self.bytes(b" finished");
-            }
-            Event::Released(bases) => {
-                self.bytes(b"released");
-                self.preceded(b" ", bases.as_slice());
-            }
-            Event::Down(why) => {
-                self.bytes(b"down ");
-                self.why(*why);
-            }
-            Event::Opened { boot, decisions } => {
-                self.bytes(b"opened ");
-                self.number(*boot);
-                self.bytes(b" ");
-                self.number(*decisions);
-            }
-            Event::Ready => self.bytes(b"ready"),
-            Event::Defined { number, text } => {
-                self.bytes(b"defined ");
-                self.number(*number);
-                self.bytes(b" ");
-                self.kept(text);
-            }
-            Event::Refused(refusal) => {
-                self.bytes(b"refused ");
-                self.refusal(refusal);
-            }
-            Event::Armed(pairs) => {
-                self.bytes(b"armed");
-                self.preceded(b" ", pairs.as_slice());
-            }
-            Event::Shown(items) => {
-                self.items(schema, items.as_slice());
-                self.bytes(b"shown ");
-                self.number(items.len());
-            }
-        }
-    }
+/// Prints an event's text.
+fn print_event<K: Sink>(out: &mut Printer<'_, K>, schema: &[TableDef], event: &Event)
+    ensures { Prints K.held K.faults out.old out.new (event_text schema.now event.now) }
+{
+    print_event_line(out, schema, event);
+    out.bytes(b"\n");
+}
 
-    fn event(&mut self, schema: &[TableDef], event: &Event)
-        ensures { Prints K.held K.faults self.old self.new (event_text schema.now event.now) }
-    {
-        self.event_line(schema, event);
-        self.bytes(b"\n");
-    }
-
-    fn story(&mut self, schema: &[TableDef], events: &[Event])
-        ensures { Prints K.held K.faults self.old self.new (story_text schema.now events.now) }
-    {
-        for event in events {
-            self.event(schema, event);
-        }
+/// Prints the texts of events, one after another.
+fn print_events<K: Sink>(out: &mut Printer<'_, K>, schema: &[TableDef], events: &[Event])
+    ensures { Prints K.held K.faults out.old out.new (story_text schema.now events.now) }
+{
+    for event in events {
+        print_event(out, schema, event);
     }
 }
 
 /// Appends an event's text to what the sink holds; the schema names the tables of locks. It takes no
-/// memory. After `IoFailed` some first part of the text was written, and the sink's count of faults
-/// has risen.
+/// memory. `IoFailed` where a write failed: the sink has counted the fault, and some first part of
+/// the text was written, with at least one byte left out.
 pub fn print<K: Sink>(sink: &mut K, event: &Event, schema: &[TableDef]) -> Result<(), IoFailed>
     ensures { Sends K.held K.faults sink.old sink.new result (event_text schema.now event.now) }
 {
@@ -254,13 +134,13 @@ pub fn print<K: Sink>(sink: &mut K, event: &Event, schema: &[TableDef]) -> Resul
         sink,
         outcome: Ok(()),
     };
-    out.event(schema, event);
+    print_event(&mut out, schema, event);
     out.outcome
 }
 
 /// Appends the texts of events, one after another, to what the sink holds; the schema names the
-/// tables of locks. It takes no memory. After `IoFailed` some first part was written, and the sink's
-/// count of faults has risen.
+/// tables of locks. It takes no memory. `IoFailed` where a write failed: the sink has counted the
+/// fault, and some first part of the texts was written, with at least one byte left out.
 pub fn print_story<K: Sink>(
     sink: &mut K,
     events: &[Event],
@@ -272,6 +152,6 @@ pub fn print_story<K: Sink>(
         sink,
         outcome: Ok(()),
     };
-    out.story(schema, events);
+    print_events(&mut out, schema, events);
     out.outcome
 }

@@ -3,10 +3,9 @@
 
 mod events;
 mod names;
-mod printer;
+mod parts;
 mod shown;
 #[cfg(test)]
 mod tests;
-mod values;
 
 pub use events::{print, print_story};

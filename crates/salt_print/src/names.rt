@@ -1,78 +1,39 @@
-//! Names of units and of BASE programs, and stops of the disks.
-ghost use Rattle.std.specs.Prelude.{◌++◌, codes};
-ghost use Rattle.salt_ast.specs.ProgramTexts.{base_text, id_text, stop_text};
-ghost use Rattle.salt_model.specs.EventTexts.{owner_text, unit_text};
-ghost use Rattle.salt_print.specs.Prints.{Prints};
+//! Names of units, and of what a unit waits for.
 
-use crate::printer::{Listed, Printer};
+ghost use Rattle.std.specs.Prelude.{◌++◌, codes};
+ghost use Rattle.salt_ast.specs.Prints.{Prints};
+ghost use Rattle.salt_ast.specs.Texts.{preceded};
+ghost use Rattle.salt_model.specs.EventTexts.{owner_text, unit_text};
+
+use salt_ast::Printer;
 use salt_io::Sink;
 use salt_model::Owner;
 use salt_values::Id;
 
-/// Names in a list are those of BASE programs.
-impl Listed for Id {
-    ghost text = { base_text };
+/// Prints a unit's name, as `u1.2`.
+pub fn print_unit<K: Sink>(out: &mut Printer<'_, K>, unit: Id)
+    ensures { Prints K.held K.faults out.old out.new (unit_text unit) }
+{
+    out.bytes(b"u");
+    out.id(unit);
+}
 
-    fn print<K: Sink>(&self, out: &mut Printer<'_, K>) {
-        out.base(*self);
+/// Prints the name of a unit or of a BASE program.
+pub fn print_owner<K: Sink>(out: &mut Printer<'_, K>, owner: Owner)
+    ensures { Prints K.held K.faults out.old out.new (owner_text owner) }
+{
+    match owner {
+        Owner::Unit(unit) => print_unit(out, unit),
+        Owner::Base(base) => out.base(base),
     }
 }
 
-impl Listed for Owner {
-    ghost text = { owner_text };
-
-    fn print<K: Sink>(&self, out: &mut Printer<'_, K>) {
-        out.owner(*self);
-    }
-}
-
-/// The call that stops, and what it leaves.
-impl Listed for (u64, u8) {
-    ghost text = { stop_text };
-
-    fn print<K: Sink>(&self, out: &mut Printer<'_, K>) {
-        out.stop(*self);
-    }
-}
-
-impl<K: Sink> Printer<'_, K> {
-    fn id(&mut self, id: Id)
-        ensures { Prints K.held K.faults self.old self.new (id_text id) }
-    {
-        self.number(id.boot);
-        self.bytes(b".");
-        self.number(id.seq);
-    }
-
-    pub fn unit(&mut self, unit: Id)
-        ensures { Prints K.held K.faults self.old self.new (unit_text unit) }
-    {
-        self.bytes(b"u");
-        self.id(unit);
-    }
-
-    pub fn base(&mut self, base: Id)
-        ensures { Prints K.held K.faults self.old self.new (base_text base) }
-    {
-        self.bytes(b"b");
-        self.id(base);
-    }
-
-    pub fn owner(&mut self, owner: Owner)
-        ensures { Prints K.held K.faults self.old self.new (owner_text owner) }
-    {
-        match owner {
-            Owner::Unit(unit) => self.unit(unit),
-            Owner::Base(base) => self.base(base),
-        }
-    }
-
-    fn stop(&mut self, stop: (u64, u8))
-        ensures { Prints K.held K.faults self.old self.new (stop_text stop) }
-    {
-        let (call, pick) = stop;
-        self.number(call);
-        self.bytes(b" ");
-        self.number(pick);
+/// Prints each owner's name with a space before it.
+pub fn print_owners<K: Sink>(out: &mut Printer<'_, K>, owners: &[Owner])
+    ensures { Prints K.held K.faults out.old out.new (preceded (codes " ") owner_text owners.now) }
+{
+    for owner in owners {
+        out.bytes(b" ");
+        print_owner(out, *owner);
     }
 }

@@ -1,111 +1,125 @@
 //! Locks and BASE programs, as they are shown.
+
 ghost use Rattle.std.specs.Prelude.{◌++◌, codes, flat_map, length};
 ghost use Rattle.salt_model.specs.EventTexts.{family_text, item_text, lock_text, mode_text, place_text, range_text, table_name};
-ghost use Rattle.salt_print.specs.Prints.{Prints};
+ghost use Rattle.salt_ast.specs.Prints.{Prints};
+ghost use Rattle.std.specs.Fmt.{decimal};
 
-use crate::printer::Printer;
-use salt_ast::TableDef;
+use crate::names::print_owner;
+use salt_ast::{Canonical, Printer, TableDef};
 use salt_io::Sink;
-use salt_model::{BaseAt, Family, Item, Lock, Mode};
+use salt_model::{BaseAt, Family, Item, Items, Lock, Mode};
 use salt_ranges::KeyRange;
 
-impl<K: Sink> Printer<'_, K> {
-    fn family(&mut self, family: Family)
-        ensures { Prints K.held K.faults self.old self.new (family_text family) }
-    {
-        match family {
-            Family::Acid => self.bytes(b"acid"),
-            Family::Alkaline => self.bytes(b"alkaline"),
-            Family::Saline => self.bytes(b"saline"),
+/// Prints the family of a lock.
+fn print_family<K: Sink>(out: &mut Printer<'_, K>, family: Family)
+    ensures { Prints K.held K.faults out.old out.new (family_text family) }
+{
+    match family {
+        Family::Acid => out.bytes(b"acid"),
+        Family::Alkaline => out.bytes(b"alkaline"),
+        Family::Saline => out.bytes(b"saline"),
+    }
+}
+
+/// Prints whether a lock is for reading or for writing.
+fn print_mode<K: Sink>(out: &mut Printer<'_, K>, mode: Mode)
+    ensures { Prints K.held K.faults out.old out.new (mode_text mode) }
+{
+    match mode {
+        Mode::Read => out.bytes(b"read"),
+        Mode::Write => out.bytes(b"write"),
+    }
+}
+
+/// Prints the name of the table with the number, or nothing where there is none.
+fn print_table_name<K: Sink>(out: &mut Printer<'_, K>, schema: &[TableDef], table: u16)
+    ensures { Prints K.held K.faults out.old out.new (table_name schema.now table) }
+{
+    if let Some(def) = schema.get(usize::from(table)) {
+        out.kept(&def.name);
+    }
+}
+
+/// Prints the two ends of a range of keys, or that it is all of them.
+fn print_range<K: Sink>(out: &mut Printer<'_, K>, range: &KeyRange)
+    ensures { Prints K.held K.faults out.old out.new (range_text range.now.lo range.now.hi) }
+{
+    match (&range.lo, &range.hi) {
+        (Some(low), Some(high)) => {
+            low.print(out);
+            out.bytes(b"..");
+            high.print(out);
+        }
+        _ => out.bytes(b"all"),
+    }
+}
+
+/// Prints a lock, without the LF that ends its line.
+fn print_lock<K: Sink>(out: &mut Printer<'_, K>, schema: &[TableDef], lock: &Lock)
+    ensures { Prints K.held K.faults out.old out.new (lock_text schema.now lock.now) }
+{
+    out.bytes(b"lock ");
+    print_owner(out, lock.owner);
+    out.bytes(b" ");
+    print_family(out, lock.family);
+    out.bytes(b" ");
+    print_mode(out, lock.mode);
+    out.bytes(b" ");
+    print_table_name(out, schema, lock.table);
+    out.bytes(b" ");
+    print_range(out, &lock.range);
+}
+
+/// Prints where a BASE program stands.
+fn print_place<K: Sink>(out: &mut Printer<'_, K>, place: BaseAt)
+    ensures { Prints K.held K.faults out.old out.new (place_text place) }
+{
+    match place {
+        BaseAt::First => out.bytes(b"first"),
+        BaseAt::Next(part) => {
+            out.bytes(b"next ");
+            out.number(part);
+        }
+        BaseAt::Finished => out.bytes(b"finished"),
+    }
+}
+
+/// Prints an item's line.
+fn print_item<K: Sink>(out: &mut Printer<'_, K>, schema: &[TableDef], item: &Item)
+    ensures { Prints K.held K.faults out.old out.new (item_text schema.now item.now) }
+{
+    match item {
+        Item::Lock(lock) => {
+            print_lock(out, schema, lock);
+            out.bytes(b"\n");
+        }
+        Item::Base { base, program, at } => {
+            out.bytes(b"base ");
+            out.base(*base);
+            out.bytes(b" ");
+            out.kept(program);
+            out.bytes(b" ");
+            print_place(out, *at);
+            out.bytes(b"\n");
         }
     }
+}
 
-    fn mode(&mut self, mode: Mode)
-        ensures { Prints K.held K.faults self.old self.new (mode_text mode) }
-    {
-        match mode {
-            Mode::Read => self.bytes(b"read"),
-            Mode::Write => self.bytes(b"write"),
-        }
+/// Prints a line for each item.
+fn print_items<K: Sink>(out: &mut Printer<'_, K>, schema: &[TableDef], items: &[Item])
+    ensures { Prints K.held K.faults out.old out.new (flat_map (item_text schema.now) items.now) }
+{
+    for item in items {
+        print_item(out, schema, item);
     }
+}
 
-    /// The name of the table with the number; nothing where there is none.
-    fn table_name(&mut self, schema: &[TableDef], table: u16)
-        ensures { Prints K.held K.faults self.old self.new (table_name schema.now table) }
-    {
-        if let Some(def) = schema.get(usize::from(table)) {
-            self.kept(&def.name);
-        }
-    }
-
-    fn range(&mut self, range: &KeyRange)
-        ensures { Prints K.held K.faults self.old self.new (range_text range.now.lo range.now.hi) }
-    {
-        match (&range.lo, &range.hi) {
-            (Some(low), Some(high)) => {
-                self.value(low);
-                self.bytes(b"..");
-                self.value(high);
-            }
-            _ => self.bytes(b"all"),
-        }
-    }
-
-    fn lock(&mut self, schema: &[TableDef], lock: &Lock)
-        ensures { Prints K.held K.faults self.old self.new (lock_text schema.now lock.now) }
-    {
-        self.bytes(b"lock ");
-        self.owner(lock.owner);
-        self.bytes(b" ");
-        self.family(lock.family);
-        self.bytes(b" ");
-        self.mode(lock.mode);
-        self.bytes(b" ");
-        self.table_name(schema, lock.table);
-        self.bytes(b" ");
-        self.range(&lock.range);
-    }
-
-    /// Where a BASE program stands.
-    fn place(&mut self, place: BaseAt)
-        ensures { Prints K.held K.faults self.old self.new (place_text place) }
-    {
-        match place {
-            BaseAt::First => self.bytes(b"first"),
-            BaseAt::Next(part) => {
-                self.bytes(b"next ");
-                self.number(part);
-            }
-            BaseAt::Finished => self.bytes(b"finished"),
-        }
-    }
-
-    /// An item's line.
-    fn item(&mut self, schema: &[TableDef], item: &Item)
-        ensures { Prints K.held K.faults self.old self.new (item_text schema.now item.now) }
-    {
-        match item {
-            Item::Lock(lock) => {
-                self.lock(schema, lock);
-                self.bytes(b"\n");
-            }
-            Item::Base { base, program, at } => {
-                self.bytes(b"base ");
-                self.base(*base);
-                self.bytes(b" ");
-                self.kept(program);
-                self.bytes(b" ");
-                self.place(*at);
-                self.bytes(b"\n");
-            }
-        }
-    }
-
-    pub fn items(&mut self, schema: &[TableDef], items: &[Item])
-        ensures { Prints K.held K.faults self.old self.new (flat_map (item_text schema.now) items.now) }
-    {
-        for item in items {
-            self.item(schema, item);
-        }
-    }
+/// Prints a line for each item, and how many there are.
+pub fn print_shown<K: Sink>(out: &mut Printer<'_, K>, schema: &[TableDef], items: &Items)
+    ensures { Prints K.held K.faults out.old out.new (flat_map (item_text schema.now) items.now ++ (codes "shown " ++ decimal (length items.now))) }
+{
+    print_items(out, schema, items.as_slice());
+    out.bytes(b"shown ");
+    out.number(items.len());
 }

@@ -3,34 +3,32 @@ use Rattle.salt_values.specs.declared.limits.TheConstants.{LINE_MOST, SCRIPT_MOS
 use Rattle.salt_model.specs.Words.{Every}
 use Rattle.salt_engine.specs.Engine.{Grows}
 use Rattle.salt_engine.specs.declared.engine.Engine.{Engine}
-use Rattle.salt_io.specs.Lines.{IsCutOff, Reading, TakesLine, TakesLong, TakesNoLine}
+use Rattle.salt_io.specs.Lines.{IsCutOff, IsReadingOf, Reading, TakesLine, TakesLong, TakesNoLine}
 use Rattle.salt_io.specs.declared.lines.LineErr.{LineErr}
-use Rattle.salt_io.specs.Streams.{Gains, GainsSome, IsAtEnd, bytes_before}
+use Rattle.salt_io.specs.Streams.{Gains, GainsShort, GainsSome, IsAtEnd, bytes_before}
 use Rattle.salt_model.specs.EventTexts.{ShowsNothing, event_text}
 use Rattle.salt_model.specs.Lines.{AskInOrder, Asks}
 use Rattle.salt_model.specs.Trace as trace_words
-use Rattle.salt_model.specs.Trace.{Asked, Trace}
+use Rattle.salt_model.specs.Trace.{Asked, Trace, story_before}
 use Rattle.salt_model.specs.Played.{Tells, empty_start}
 use Rattle.salt_model.specs.declared.events.Event.{Event}
-use Rattle.salt_print.proofs.Joins.{Gains-append}
-use Rattle.salt_run.proofs.Places.{end-place, fault-place, long-place, memory-place, next-place, write-place}
+use Rattle.salt_ast.proofs.Joins.{Gains-append}
+use Rattle.salt_run.proofs.Places.{end-place, fault-place, long-place, memory-place, next-place, over-before, write-place}
+use Rattle.salt_run.proofs.Stories.{text-begins, told_text-append}
+use Rattle.salt_run.specs.Run.{GainsFrom, GainsShortFrom, IsFrontOf}
 use Rattle.salt_run.specs.Serving.{IsAt, IsDone, IsEnded, IsLeftIn, IsServing, StopsTelling, TextAsks, added_text, rest_of, status_of, stop_of, told_text}
 use Rattle.salt_run.specs.declared.serving.Stop.{Stop}
 use Rattle.salt_run.specs.declared.serving.Stop.TheVariants as stop
 use Rattle.salt_run.specs.declared.status.Status.TheVariants.{Done, Memory, ReadFault, ScriptTooLong, WriteFault}
 use Rattle.std.proofs.Common.{ap, append-nil, append_assoc, arith, inl, inr, subst, sym, ◌∙◌}
 use Rattle.std.specs.Result.{IfErr, IsErrAnd}
-use Rattle.std.specs.Prelude.{Err, List, None, Ok, Option, Result, Some, [], drop, length, refl, ℕ, ◌++◌, ◌-◌, ◌∷◌, ◌≡◌}
+use Rattle.std.specs.Prelude.{Bool, Err, List, None, Ok, Option, Result, Some, [], drop, false, length, refl, true, ℕ, ◌++◌, ◌-◌, ◌∷◌, ◌≡◌}
 
 ask-one : (texts : List (List ℕ)) (lines : List Asked) (text : List ℕ) (line : Asked) → AskInOrder texts lines → Asks text line → AskInOrder (texts ++ text ∷ []) (lines ++ line ∷ [])
 ask-one [] [] text line h a = (a, tt)
 ask-one [] (l ∷ lines) text line h a = absurd h
 ask-one (t ∷ texts) [] text line h a = absurd h
 ask-one (t ∷ texts) (l ∷ lines) text line h a = (h.0, ask-one texts lines text line h.1 a)
-
-told_text-append : (story more : List Event) → told_text (story ++ more) ≡ told_text story ++ told_text more
-told_text-append [] more = refl
-told_text-append (e ∷ story) more = ap (λ t. event_text [] e ++ t) (told_text-append story more) ∙ sym (append_assoc (event_text [] e) (told_text story) (told_text more))
 
 drop-front : {A : Type 0} (xs ys : List A) → drop (length xs) (xs ++ ys) ≡ ys
 drop-front [] ys = refl
@@ -49,30 +47,41 @@ every-more (e ∷ story) more h g = (h.0, every-more story more h.1 g)
 grown-unshown : (story told : List Event) → Grows story told → Every ShowsNothing story → Every ShowsNothing told
 grown-unshown story told grows h = subst (Every ShowsNothing) (sym grows.1) (every-more story grows.0 h grows.2)
 
-gains-some : (before : Option (List ℕ)) (text : List ℕ) (held : Option (List ℕ)) → Gains before text held → GainsSome before text held
-gains-some before text held g = record { part = text; others = []; whole = sym (append-nil text); gained = g }
+-- all of it was gained, and with it what it begins with
+pub gains-all-from : (before : Option (List ℕ)) (first text : List ℕ) (held : Option (List ℕ)) → IsFrontOf first text → Gains before text held → GainsFrom before first text held
+gains-all-from before first text held begins g = record { some = record { part = text; others = []; whole = sym (append-nil text); gained = g }; from = begins }
 
-gains-then-some : (a b : List ℕ) (before mid held : Option (List ℕ)) → Gains before a mid → GainsSome mid b held → GainsSome before (a ++ b) held
-gains-then-some a b before mid held g s = record {
-  part = a ++ s.part;
-  others = s.others;
-  whole = ap (λ t. a ++ t) s.whole ∙ sym (append_assoc a s.part s.others);
-  gained = Gains-append a s.part before mid held g s.gained;
+-- the first of two texts was gained
+gains-first-from : (a b : List ℕ) (before held : Option (List ℕ)) → Gains before a held → GainsFrom before a (a ++ b) held
+gains-first-from a b before held g = record { some = record { part = a; others = b; whole = refl; gained = g }; from = ([], sym (append-nil a)) }
+
+-- the first of two texts was gained, and then the second in part
+gains-then-short : (a b : List ℕ) (before mid held : Option (List ℕ)) → Gains before a mid → GainsShort mid b held → GainsShortFrom before a (a ++ b) held
+gains-then-short a b before mid held g s = record {
+  short = record {
+    part = a ++ s.part;
+    missing = s.missing;
+    whole = ap (λ t. a ++ t) s.whole ∙ sym (append_assoc a s.part s.missing);
+    some = s.some;
+    gained = Gains-append a s.part before mid held g s.gained;
+  };
+  from = (s.part, refl);
 }
 
-gains-front : (a b : List ℕ) (before held : Option (List ℕ)) → Gains before a held → GainsSome before (a ++ b) held
-gains-front a b before held g = record { part = a; others = b; whole = refl; gained = g }
-
 -- a line was taken, which asks what its text or its length says
-pub record HasTaken (text : Option (List ℕ)) (before after : Option (List ℕ)) (taken taken_after : ℕ) : Type 0 where
+pub record HasTaken (text : Option (List ℕ)) (before after : Option (List ℕ)) (taken : ℕ) (now : Reading) : Type 0 where
   pub line : List ℕ
-  pub takes : TakesLine SCRIPT_MOST before after taken taken_after line
+  pub takes : TakesLine SCRIPT_MOST before after taken now line
   pub asks : (asked : Asked) → TextAsks text asked → Asks line asked
 
 module _ (script before : Option (List ℕ)) (old new : Engine) (reading : Reading) (left : Option (List ℕ)) (story told : List Event) (held : Option (List ℕ)) (serving : IsServing script before old reading left story held) where
-  module _ (reading_after : Reading) (left_after : Option (List ℕ)) (text : Option (List ℕ)) (taken : HasTaken text (rest_of reading left) (rest_of reading_after left_after) reading.taken reading_after.taken) where
-    here : IsAt script reading_after.taken (rest_of reading_after left_after) (serving.texts ++ taken.line ∷ [])
-    here = next-place script reading.taken reading_after.taken (rest_of reading left) (rest_of reading_after left_after) serving.texts taken.line serving.place taken.takes
+  over : reading.ended ≡ true → IsAtEnd (rest_of reading left)
+  over = over-before reading left serving.of
+
+  module _ (reading_after : Reading) (left_after : Option (List ℕ)) (of : IsReadingOf reading_after left_after) (text : Option (List ℕ))
+      (taken : HasTaken text (rest_of reading left) (rest_of reading_after left_after) reading.taken reading_after) where
+    here : IsAt script reading_after (rest_of reading_after left_after) (serving.texts ++ taken.line ∷ [])
+    here = next-place reading reading_after left (rest_of reading_after left_after) serving.texts taken.line serving.of taken.takes script serving.place
 
     asked-here : (asked : Asked) (after : Trace) → trace_words.lines_of after ≡ trace_words.lines_of serving.trace ++ asked ∷ [] → TextAsks text asked → AskInOrder (serving.texts ++ taken.line ∷ []) (trace_words.lines_of after)
     asked-here asked after lines asks = subst (AskInOrder (serving.texts ++ taken.line ∷ [])) (sym lines) (ask-one serving.texts (trace_words.lines_of serving.trace) taken.line asked serving.asked (taken.asks asked asks))
@@ -85,6 +94,7 @@ module _ (script before : Option (List ℕ)) (old new : Engine) (reading : Readi
           texts = serving.texts ++ taken.line ∷ [];
           serves = goes.serves;
           asked = asked-here done.0 goes.after goes.asks done.1;
+          of = of;
           place = here;
           written = subst (λ t. Gains before t held_after) (sym (grown-text story told goes.grows)) (Gains-append (told_text story) (added_text story told) before held held_after serving.written written);
           unshown = grown-unshown story told goes.grows serving.unshown;
@@ -101,11 +111,14 @@ module _ (script before : Option (List ℕ)) (old new : Engine) (reading : Readi
         trace = serving.trace;
         texts = serving.texts;
         tells = subst (λ t. Tells empty_start serving.trace t) (sym is) serving.serves.tells;
+        up = serving.serves.up;
         asked = serving.asked;
-        lines = memory-place script reading.taken (rest_of reading left) left_end serving.texts serving.place;
+        lines = memory-place script reading (rest_of reading left) left_end serving.texts serving.place over serving.within;
         leaves = tt;
       };
-      written = gains-some before (told_text told) held_after (subst (λ t. Gains before (told_text t) held_after) (sym is) (subst (Gains before (told_text story)) (sym same) serving.written));
+      written =
+          gains-all-from before (told_text (story_before serving.trace)) (told_text told) held_after (text-begins serving.trace told (serving.serves.tells.told ∙ sym is))
+          (subst (λ t. Gains before (told_text t) held_after) (sym is) (subst (Gains before (told_text story)) (sym same) serving.written));
       unshown = subst (Every ShowsNothing) (sym is) serving.unshown;
     }
     left-in held_after left_end same (inr broken) =
@@ -115,15 +128,19 @@ module _ (script before : Option (List ℕ)) (old new : Engine) (reading : Readi
             trace = breaks.after;
             texts = serving.texts ++ taken.line ∷ [];
             tells = breaks.tells;
+            up = breaks.up;
             asked = asked-here broken.0 breaks.after breaks.asks broken.1;
-            lines = memory-place script reading_after.taken (rest_of reading_after left_after) left_end (serving.texts ++ taken.line ∷ []) here;
+            lines = memory-place script reading_after (rest_of reading_after left_after) left_end (serving.texts ++ taken.line ∷ []) here (over-before reading_after left_after of) taken.takes.within;
             leaves = tt;
           };
-          written = subst (λ t. GainsSome before t held_after) (sym (grown-text story told breaks.grows)) (gains-front (told_text story) (added_text story told) before held_after (subst (Gains before (told_text story)) (sym same) serving.written));
+          written =
+              subst (λ s. GainsFrom before (told_text s) (told_text told) held_after) (sym breaks.before)
+              (subst (λ t. GainsFrom before (told_text story) t held_after) (sym (grown-text story told breaks.grows))
+              (gains-first-from (told_text story) (added_text story told) before held_after (subst (Gains before (told_text story)) (sym same) serving.written)));
           unshown = grown-unshown story told breaks.grows serving.unshown;
         }
 
-    half-written : (held_after left_end : Option (List ℕ)) → IsDone text old story new told → GainsSome held (added_text story told) held_after → IsEnded WriteFault script left_end before told held_after
+    half-written : (held_after left_end : Option (List ℕ)) → IsDone text old story new told → GainsShort held (added_text story told) held_after → IsEnded WriteFault script left_end before told held_after
     half-written held_after left_end done written =
         let goes = done.2 serving.trace serving.serves in
         record {
@@ -131,11 +148,15 @@ module _ (script before : Option (List ℕ)) (old new : Engine) (reading : Readi
             trace = goes.after;
             texts = serving.texts ++ taken.line ∷ [];
             tells = goes.serves.tells;
+            up = goes.serves.up;
             asked = asked-here done.0 goes.after goes.asks done.1;
-            lines = write-place script reading_after.taken (rest_of reading_after left_after) left_end (serving.texts ++ taken.line ∷ []) here;
+            lines = write-place script reading_after (rest_of reading_after left_after) left_end (serving.texts ++ taken.line ∷ []) here (over-before reading_after left_after of) taken.takes.within;
             leaves = goes.serves.complete;
           };
-          written = subst (λ t. GainsSome before t held_after) (sym (grown-text story told goes.grows)) (gains-then-some (told_text story) (added_text story told) before held held_after serving.written written);
+          written =
+              subst (λ s. GainsShortFrom before (told_text s) (told_text told) held_after) (sym goes.before)
+              (subst (λ t. GainsShortFrom before (told_text story) t held_after) (sym (grown-text story told goes.grows))
+              (gains-then-short (told_text story) (added_text story told) before held held_after serving.written written));
           unshown = grown-unshown story told goes.grows serving.unshown;
         }
 
@@ -152,22 +173,24 @@ module _ (script before : Option (List ℕ)) (old new : Engine) (reading : Readi
       trace = serving.trace;
       texts = serving.texts;
       tells = serving.serves.tells;
+      up = serving.serves.up;
       asked = serving.asked;
-      lines = end-place script reading.taken (rest_of reading left) left_end serving.texts serving.place end serving.within;
+      lines = end-place script reading (rest_of reading left) left_end serving.texts serving.place end serving.within;
       leaves = serving.serves.complete;
     };
     written = serving.written;
     unshown = serving.unshown;
   }
 
-  pub fault-ends : (left_end : Option (List ℕ)) → TakesNoLine (rest_of reading left) left_end → IsEnded ReadFault script left_end before story held
-  fault-ends left_end cut = record {
+  pub fault-ends : (left_end : Option (List ℕ)) → reading.ended ≡ false → TakesNoLine (SCRIPT_MOST - reading.taken) (rest_of reading left) left_end → IsEnded ReadFault script left_end before story held
+  fault-ends left_end unended cut = record {
     played = record {
       trace = serving.trace;
       texts = serving.texts;
       tells = serving.serves.tells;
+      up = serving.serves.up;
       asked = serving.asked;
-      lines = fault-place script reading.taken (rest_of reading left) left_end serving.texts serving.place cut;
+      lines = fault-place script reading (rest_of reading left) left_end serving.texts serving.place unended cut serving.within;
       leaves = serving.serves.complete;
     };
     written = serving.written;
@@ -180,8 +203,9 @@ module _ (script before : Option (List ℕ)) (old new : Engine) (reading : Readi
       trace = serving.trace;
       texts = serving.texts;
       tells = serving.serves.tells;
+      up = serving.serves.up;
       asked = serving.asked;
-      lines = long-place script reading.taken (rest_of reading left) left_end serving.texts serving.place cut serving.within;
+      lines = long-place script reading (rest_of reading left) left_end serving.texts serving.place over cut serving.within;
       leaves = serving.serves.complete;
     };
     written = serving.written;
@@ -194,38 +218,32 @@ module _ (script before : Option (List ℕ)) (old new : Engine) (reading : Readi
       trace = serving.trace;
       texts = serving.texts;
       tells = serving.serves.tells;
+      up = serving.serves.up;
       asked = serving.asked;
-      lines = memory-place script reading.taken (rest_of reading left) left_end serving.texts serving.place;
+      lines = memory-place script reading (rest_of reading left) left_end serving.texts serving.place over serving.within;
       leaves = tt;
     };
-    written = gains-some before (told_text story) held serving.written;
+    written = gains-all-from before (told_text (story_before serving.trace)) (told_text story) held (text-begins serving.trace story serving.serves.tells.told) serving.written;
     unshown = serving.unshown;
   }
 
   -- why the next line was not read
-  pub reading-stops : (left_end : Option (List ℕ)) (e : LineErr) → (e ≡ LineErr.ReadFault → TakesNoLine (rest_of reading left) left_end) → (e ≡ LineErr.ScriptTooLong → IsCutOff (SCRIPT_MOST - reading.taken) (rest_of reading left)) → IsEnded (status_of (stop_of e)) script left_end before story held
-  reading-stops left_end LineErr.ReadFault fault long = fault-ends left_end (fault refl)
+  pub reading-stops : (left_end : Option (List ℕ)) (e : LineErr) → (e ≡ LineErr.ReadFault → (reading.ended ≡ false) × TakesNoLine (SCRIPT_MOST - reading.taken) (rest_of reading left) left_end)
+      → (e ≡ LineErr.ScriptTooLong → IsCutOff (SCRIPT_MOST - reading.taken) (rest_of reading left)) → IsEnded (status_of (stop_of e)) script left_end before story held
+  reading-stops left_end LineErr.ReadFault fault long = fault-ends left_end (fault refl).0 (fault refl).1
   reading-stops left_end LineErr.ScriptTooLong fault long = long-ends left_end (long refl)
   reading-stops left_end LineErr.Memory fault long = memory-ends left_end
-
-pub end-left : (kept : List ℕ) (left : Option (List ℕ)) → IsAtEnd (bytes_before kept left) → IsAtEnd left
-end-left kept None h = tt
-end-left [] (Some bytes) h = h
-end-left (k ∷ kept) (Some bytes) h = absurd (cons_nil h)
-  where
-    cons_nil : (k ∷ kept) ++ bytes ≡ [] → ⊥
-    cons_nil e = cc
 
 pub if_err_gives : {A E : Type 0} (r : Result A E) (e : E) (P : E → Type 0) → IsErrAnd r (λ x. x ≡ e) → P e → IfErr r P
 if_err_gives (Ok x) e P h p = tt
 if_err_gives (Err x) e P h p = subst P (sym h) p
 
 -- a line whose text is at hand
-pub line-taken : (line : List ℕ) (before after : Option (List ℕ)) (taken taken_after : ℕ) (text : Option (List ℕ)) → text ≡ Some line → TakesLine SCRIPT_MOST before after taken taken_after line → HasTaken text before after taken taken_after
-line-taken line before after taken taken_after text is takes =
-    subst (λ t. HasTaken t before after taken taken_after) (sym is) (record { line = line; takes = takes; asks = λ asked h. h })
+pub line-taken : (line : List ℕ) (before after : Option (List ℕ)) (taken : ℕ) (now : Reading) (text : Option (List ℕ)) → text ≡ Some line → TakesLine SCRIPT_MOST before after taken now line → HasTaken text before after taken now
+line-taken line before after taken now text is takes =
+    subst (λ t. HasTaken t before after taken now) (sym is) (record { line = line; takes = takes; asks = λ asked h. h })
 
 -- a line that is too long
-pub long-taken : (before after : Option (List ℕ)) (taken taken_after : ℕ) (text : Option (List ℕ)) → text ≡ None → TakesLong LINE_MOST SCRIPT_MOST before after taken taken_after → HasTaken text before after taken taken_after
-long-taken before after taken taken_after text is long =
-    subst (λ t. HasTaken t before after taken taken_after) (sym is) (record { line = long.text; takes = long.taken; asks = λ asked h. subst (Asks long.text) (sym h) (inl long.long) })
+pub long-taken : (before after : Option (List ℕ)) (taken : ℕ) (now : Reading) (text : Option (List ℕ)) → text ≡ None → TakesLong LINE_MOST SCRIPT_MOST before after taken now → HasTaken text before after taken now
+long-taken before after taken now text is long =
+    subst (λ t. HasTaken t before after taken now) (sym is) (record { line = long.text; takes = long.taken; asks = λ asked h. subst (Asks long.text) (sym h) (inl long.long) })

@@ -1,4 +1,5 @@
 pub mod Places
+pub mod Stories
 pub mod Ends
 pub mod Openings
 pub mod RunWord

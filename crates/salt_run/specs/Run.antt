@@ -1,14 +1,17 @@
 -- What a run has to be: its story, its lines, and how far it came.
 use Rattle.salt_values.specs.declared.limits.TheConstants.{SCRIPT_MOST}
 use Rattle.salt_io.specs.Lines.{lines_of, script_of}
-use Rattle.salt_io.specs.Streams.{Gains, GainsSome, IsAtEnd, bytes_before}
+use Rattle.salt_engine.specs.Engine.{NeverDown}
+use Rattle.salt_io.specs.Streams.{Gains, GainsShort, GainsSome, bytes_before}
 use Rattle.salt_model.specs.Lines.{AskInOrder}
 use Rattle.salt_model.specs.Trace as trace_words
-use Rattle.salt_model.specs.Trace.{Trace}
+use Rattle.salt_model.specs.Trace.{Trace, story_before, story_of}
 use Rattle.salt_model.specs.Ends.{AnyPlace, AtLineEnd, Leave, MayLeave, NotBegun}
 use Rattle.salt_model.specs.Played.{Tells, empty_start}
 use Rattle.salt_model.specs.Continuing.{IsContinued}
 use Rattle.salt_model.specs.Decided.{IsKept}
+use Rattle.salt_model.specs.AsDeclared.{IsDeclared}
+use Rattle.salt_model.specs.Everywhere.{Always}
 use Rattle.salt_model.specs.EventTexts.{story_text}
 use Rattle.salt_model.specs.Honest.{IsHonest}
 use Rattle.salt_model.specs.Isolation.{IsSalted, IsWhole}
@@ -18,24 +21,35 @@ use Rattle.salt_ast.specs.declared.trees.TableDef.{TableDef}
 use Rattle.salt_model.specs.declared.events.Event.{Event}
 use Rattle.salt_run.specs.declared.status.Status.{Status}
 use Rattle.salt_run.specs.declared.status.Status.TheVariants.{Done, Memory, ReadFault, ScriptTooLong, Usage, WriteFault}
-use Rattle.std.specs.Prelude.{List, None, Option, Some, [], length, take, ℕ, ⊤, ◌++◌, ◌<◌, ◌≡◌, ◌≤◌, ◌⊎◌}
+use Rattle.std.specs.Prelude.{List, None, Option, Some, [], length, take, ℕ, ⊤, ◌++◌, ◌<◌, ◌≡◌, ◌≤◌}
 
 -- these come first
 abbrev pub IsFrontOf : {A : Type 0} → List A → List A → Type 0
 IsFrontOf {A} xs all = (more : List A) × (all ≡ xs ++ more)
 
--- the lines whose end was read: those that an LF ends in the bytes that the source gave, and all lines where it told its end
-abbrev pub AreLinesRead : List ℕ → Option (List ℕ) → List (List ℕ) → Type 0
-AreLinesRead script left texts =
-    (got : List ℕ) × (Some script ≡ bytes_before got left) × ((texts ≡ (script_of got).ended) ⊎ (IsAtEnd left × (texts ≡ lines_of script)))
+-- The source gave these bytes of the script, and no more than a script may have; an LF ends each of the lines, and what stands behind
+-- them is given up.
+pub record AreLinesRead (script : List ℕ) (left : Option (List ℕ)) (texts : List (List ℕ)) : Type 0 where
+  pub got : List ℕ
+  pub given : Some script ≡ bytes_before got left
+  pub within : length got ≤ SCRIPT_MOST
+  pub lines : texts ≡ (script_of got).ended
+
+-- They are the first lines of the script, and those of its first bytes, of which there are no more than a script may have.
+pub record AreFirstLines (script : List ℕ) (texts : List (List ℕ)) : Type 0 where
+  pub got : List ℕ
+  pub front : IsFrontOf got script
+  pub within : length got ≤ SCRIPT_MOST
+  pub lines : texts ≡ lines_of got
+  pub first : IsFrontOf texts (lines_of script)
 
 -- the lines that a run does of a script of these bytes, of which these are left at the run's end
 abbrev pub AreLinesDone : Status → List ℕ → Option (List ℕ) → List (List ℕ) → Type 0
 AreLinesDone Done script left texts = (texts ≡ lines_of script) × (length script ≤ SCRIPT_MOST)
 AreLinesDone ScriptTooLong script left texts = (texts ≡ (script_of (take SCRIPT_MOST script)).ended) × (SCRIPT_MOST < length script)
 AreLinesDone ReadFault script left texts = AreLinesRead script left texts
-AreLinesDone Memory script left texts = IsFrontOf texts (lines_of script)
-AreLinesDone WriteFault script left texts = IsFrontOf texts (lines_of script)
+AreLinesDone Memory script left texts = AreFirstLines script texts
+AreLinesDone WriteFault script left texts = AreFirstLines script texts
 AreLinesDone Usage script left texts = texts ≡ []
 
 -- where the source tells its bytes
@@ -57,6 +71,7 @@ pub record IsPlayedRun (status : Status) (script left : Option (List ℕ)) (stor
   pub trace : Trace
   pub texts : List (List ℕ)
   pub tells : Tells empty_start trace story
+  pub up : NeverDown trace
   pub asked : AskInOrder texts (trace_words.lines_of trace)
   pub lines : AreLinesOf status script left texts
   pub leaves : MayLeave (leave_of status) trace
@@ -69,17 +84,29 @@ pub record Promises (trace : Trace) : Type 0 where
   pub releases : ReleasesExactly trace
   pub continued : IsContinued trace
   pub kept : IsKept trace
-  pub apart : NoneConflict (held trace)
+  pub declared : IsDeclared trace
+  pub apart : Always (λ t. NoneConflict (held t)) trace
 
--- what the sink gained: the text, where memory or the sink failed a front of it
-abbrev pub IsWritten : Status → Option (List ℕ) → List ℕ → Option (List ℕ) → Type 0
-IsWritten Memory before text now = GainsSome before text now
-IsWritten WriteFault before text now = GainsSome before text now
-IsWritten Done before text now = Gains before text now
-IsWritten ReadFault before text now = Gains before text now
-IsWritten ScriptTooLong before text now = Gains before text now
-IsWritten Usage before text now = Gains before text now
+-- some first part of a text was gained, and with it all of this one
+pub record GainsFrom (before : Option (List ℕ)) (first text : List ℕ) (now : Option (List ℕ)) : Type 0 where
+  pub some : GainsSome before text now
+  pub from : IsFrontOf first some.part
 
--- the text of a story, under each schema: none of its events shows locks, which alone name tables by number
-abbrev pub IsTold : Status → Option (List ℕ) → List Event → Option (List ℕ) → Type 0
-IsTold status before story now = (schema : List TableDef) → IsWritten status before (story_text schema story) now
+-- some first part of a text was gained, but not all of it, and with it all of this one
+pub record GainsShortFrom (before : Option (List ℕ)) (first text : List ℕ) (now : Option (List ℕ)) : Type 0 where
+  pub short : GainsShort before text now
+  pub from : IsFrontOf first short.part
+
+-- What the sink gained of a story's text: all of it. Where memory ran out or the sink failed, what it gained begins with the text of the
+-- story before the last segment; and where the sink failed, a byte is missing.
+abbrev pub IsWritten : Status → Option (List ℕ) → List ℕ → List ℕ → Option (List ℕ) → Type 0
+IsWritten Memory before first text now = GainsFrom before first text now
+IsWritten WriteFault before first text now = GainsShortFrom before first text now
+IsWritten Done before first text now = Gains before text now
+IsWritten ReadFault before first text now = Gains before text now
+IsWritten ScriptTooLong before first text now = Gains before text now
+IsWritten Usage before first text now = Gains before text now
+
+-- the text of a trace's story, under each schema: none of its events shows locks, which alone name tables by number
+abbrev pub IsTold : Status → Option (List ℕ) → Trace → Option (List ℕ) → Type 0
+IsTold status before trace now = (schema : List TableDef) → IsWritten status before (story_text schema (story_before trace)) (story_text schema (story_of trace)) now

@@ -1,6 +1,6 @@
 //! The top call.
 
-ghost use Rattle.std.specs.Prelude.{◌≡◌, ◌≤◌, ◌↔◌, [], List, None};
+ghost use Rattle.std.specs.Prelude.{◌≡◌, ◌≢◌, ◌≤◌, ◌↔◌, [], List, None};
 ghost use Rattle.salt_io.specs.Streams.{IsAtEnd, Rose};
 ghost use Rattle.salt_run.specs.Run.{IsPlayedRun, IsTold, Promises};
 ghost use Rattle.salt_run.specs.Words.{IsRunAlone};
@@ -28,17 +28,20 @@ pub fn run<S: Source, K: Sink, D: Disks, F: Fn(PlaceKind, &Key, u32) -> u32>(
 ) -> Ended
     // The words are no command, and then nothing is read or written.
     ensures usage { (result.status ≡ Status.Usage) ↔ (IsRunAlone words.now → ⊥) }
-    ensures untouched { result.status ≡ Status.Usage → (source.new ≡ source.old) × (sink.new ≡ sink.old) × (result.story ≡ []) }
+    ensures untouched { result.status ≡ Status.Usage
+        → (source.new ≡ source.old) × (sink.new ≡ sink.old) × (result.story ≡ []) }
 
-    // The story is that of a trace that is played, whose lines are those of the source's bytes; and the trace keeps each promise.
-    ensures played { (told : IsPlayedRun result.status (S.left source.old) (S.left source.new) result.story) × Promises told.trace }
-    // The sink gains the story's text.
-    ensures text { IsTold result.status (K.held sink.old) result.story (K.held sink.new) }
+    // The story is that of a trace that is played, whose lines are those of the source's bytes; the trace
+    // keeps each promise; and the sink gains the story's text.
+    ensures played { (told : IsPlayedRun result.status (S.left source.old) (S.left source.new) result.story)
+        × Promises told.trace × IsTold result.status (K.held sink.old) told.trace (K.held sink.new) }
 
     // Each status but want of memory has its cause.
     ensures done { result.status ≡ Status.Done → IsAtEnd (S.left source.new) }
     ensures read_fault { result.status ≡ Status.ReadFault → Rose (S.faults source.old) (S.faults source.new) }
     ensures write_fault { result.status ≡ Status.WriteFault → Rose (K.faults sink.old) (K.faults sink.new) }
+    ensures no_read_fault { result.status ≢ Status.ReadFault → S.faults source.new ≡ S.faults source.old }
+    ensures no_write_fault { result.status ≢ Status.WriteFault → K.faults sink.new ≡ K.faults sink.old }
     ensures reads_later { S.faults source.old ≤ S.faults source.new }
     ensures writes_later { K.faults sink.old ≤ K.faults sink.new }
 

@@ -7,8 +7,8 @@ ghost use Rattle.salt_model.specs.declared.events.Event.{Event};
 ghost use Rattle.salt_run.specs.Run.{Promises};
 
 use salt_laws::{
-    held_locks_stand_together, played_is_continued, played_is_honest, played_is_kept,
-    played_is_salted, played_is_whole, played_releases_exactly,
+    held_locks_stand_together, played_is_continued, played_is_declared, played_is_honest,
+    played_is_kept, played_is_salted, played_is_whole, played_releases_exactly,
 };
 
 /// Each trace that tells a story from the empty start keeps every promise.
@@ -21,5 +21,6 @@ pub fn told_keeps_promises()
     played_releases_exactly();
     played_is_continued();
     played_is_kept();
+    played_is_declared();
     held_locks_stand_together();
 }

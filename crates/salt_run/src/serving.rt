@@ -1,7 +1,8 @@
 //! The run of a script: its opening, and its lines.
 
-ghost use Rattle.std.specs.Prelude.{◌≡◌, ◌+◌, ◌-◌, ◌<◌, ◌^◌, ◌≤◌, [], Err, IfErr, IfOk, OnErr, OnOk, Ok, Option, true, List, ℕ};
+ghost use Rattle.std.specs.Prelude.{◌≡◌, ◌≢◌, ◌+◌, ◌-◌, ◌<◌, ◌^◌, ◌≤◌, [], Err, IfErr, IfOk, OnErr, OnOk, Ok, Option, true, List, ℕ};
 ghost use Rattle.std.specs.Option.{option_copied};
+ghost use Rattle.salt_io.specs.Lines.{IsReadingOf};
 ghost use Rattle.salt_io.specs.Streams.{Gains, IsAtEnd, Rose};
 ghost use Rattle.salt_run.specs.Serving.{HasNumbers, IsAfterLine, IsDone, IsEnded, IsLeftIn, IsServing, StopsOpening, StopsTelling, added_text, opening, status_of, stop_of, told_text};
 ghost use Rattle.salt_run.specs.declared.serving.Stop.TheVariants.{Memory, WriteFault};
@@ -96,8 +97,10 @@ fn tell_line<K: Sink>(
     requires decisions { engine.old.decisions < 2 ^ 64 - 1 }
     ensures ok { OnOk result (IsDone (option_copied text.entry) engine.old story.old engine.new story.new) }
     ensures written { OnOk result (Gains (K.held sink.old) (added_text story.old story.new) (K.held sink.new)) }
-    ensures stops { IfErr result (StopsTelling (option_copied text.entry) engine.old story.old engine.new story.new (K.held sink.old) (K.held sink.new)) }
+    ensures stops { IfErr result (StopsTelling (option_copied text.entry) engine.old story.old engine.new story.new
+        (K.held sink.old) (K.held sink.new)) }
     ensures fault { result ≡ Err Stop.WriteFault → Rose (K.faults sink.old) (K.faults sink.new) }
+    ensures no_fault { result ≢ Err Stop.WriteFault → K.faults sink.new ≡ K.faults sink.old }
     ensures later { K.faults sink.old ≤ K.faults sink.new }
 {
     let told = story.len();
@@ -116,13 +119,20 @@ fn serve_line<S: Source, K: Sink>(
     line: &mut Vec<u8>,
     story: &mut Story,
 ) -> Result<bool, Stop>
-    requires { HasNumbers engine.old lines.old.taken }
-    ensures goes { IfOk result (λ more. (script before : Option (List ℕ)) → IsServing script before engine.old lines.old (S.left source.old) story.old (K.held sink.old) → IsAfterLine more script before engine.new lines.new (S.left source.new) story.new (K.held sink.new)) }
-    ensures stops { IfErr result (λ stop. (script before : Option (List ℕ)) → IsServing script before engine.old lines.old (S.left source.old) story.old (K.held sink.old) → IsEnded (status_of stop) script (S.left source.new) before story.new (K.held sink.new)) }
+    requires numbers { HasNumbers engine.old lines.old.taken }
+    requires of { IsReadingOf lines.old (S.left source.old) }
+    ensures goes { IfOk result (λ more. (script before : Option (List ℕ))
+        → IsServing script before engine.old lines.old (S.left source.old) story.old (K.held sink.old)
+        → IsAfterLine more script before engine.new lines.new (S.left source.new) story.new (K.held sink.new)) }
+    ensures stops { IfErr result (λ stop. (script before : Option (List ℕ))
+        → IsServing script before engine.old lines.old (S.left source.old) story.old (K.held sink.old)
+        → IsEnded (status_of stop) script (S.left source.new) before story.new (K.held sink.new)) }
     ensures nearer { result ≡ Ok true → lines.old.taken < lines.new.taken }
     ensures within { lines.new.taken ≤ SCRIPT_MOST }
     ensures read_fault { result ≡ Err Stop.ReadFault → Rose (S.faults source.old) (S.faults source.new) }
     ensures write_fault { result ≡ Err Stop.WriteFault → Rose (K.faults sink.old) (K.faults sink.new) }
+    ensures no_read_fault { result ≢ Err Stop.ReadFault → S.faults source.new ≡ S.faults source.old }
+    ensures no_write_fault { result ≢ Err Stop.WriteFault → K.faults sink.new ≡ K.faults sink.old }
     ensures reads_later { S.faults source.old ≤ S.faults source.new }
     ensures writes_later { K.faults sink.old ≤ K.faults sink.new }
 {
@@ -142,6 +152,7 @@ fn open<K: Sink>(sink: &mut K, story: &mut Story) -> Result<(), Stop>
     ensures written { OnOk result (Gains (K.held sink.old) (told_text opening) (K.held sink.new)) }
     ensures stops { IfErr result (StopsOpening story.new (K.held sink.old) (K.held sink.new)) }
     ensures fault { result ≡ Err Stop.WriteFault → Rose (K.faults sink.old) (K.faults sink.new) }
+    ensures no_fault { result ≢ Err Stop.WriteFault → K.faults sink.new ≡ K.faults sink.old }
     ensures later { K.faults sink.old ≤ K.faults sink.new }
 {
     story.push(Event::Opened {
@@ -163,9 +174,12 @@ pub fn serve<S: Source, K: Sink>(
     requires { story.old ≡ [] }
     ensures done { OnOk result (IsEnded Status.Done (S.left source.old) (S.left source.new) (K.held sink.old) story.new (K.held sink.new)) }
     ensures end { OnOk result (IsAtEnd (S.left source.new)) }
-    ensures stops { IfErr result (λ stop. IsEnded (status_of stop) (S.left source.old) (S.left source.new) (K.held sink.old) story.new (K.held sink.new)) }
+    ensures stops { IfErr result (λ stop. IsEnded (status_of stop) (S.left source.old) (S.left source.new) (K.held sink.old) story.new
+        (K.held sink.new)) }
     ensures read_fault { result ≡ Err Stop.ReadFault → Rose (S.faults source.old) (S.faults source.new) }
     ensures write_fault { result ≡ Err Stop.WriteFault → Rose (K.faults sink.old) (K.faults sink.new) }
+    ensures no_read_fault { result ≢ Err Stop.ReadFault → S.faults source.new ≡ S.faults source.old }
+    ensures no_write_fault { result ≢ Err Stop.WriteFault → K.faults sink.new ≡ K.faults sink.old }
     ensures reads_later { S.faults source.old ≤ S.faults source.new }
     ensures writes_later { K.faults sink.old ≤ K.faults sink.new }
 {

@@ -2,7 +2,7 @@ use Rattle.salt_run.proofs.Ends.{if_err_gives}
 use Rattle.salt_run.proofs.Openings.{opening-stops, serving-opened}
 use Rattle.salt_run.proofs.serving.serve.Goals as goal
 use Rattle.salt_run.specs.Serving.{IsAfterLine}
-use Rattle.std.proofs.Common.{arith, subst}
+use Rattle.std.proofs.Common.{refl, subst}
 
 pub returns-in_err-open-clause-stops : goal.returns-in_err-open-clause-stops
 returns-in_err-open-clause-stops g c =
@@ -13,8 +13,8 @@ returns-in_err-open-clause-stops g c =
 pub lines-init : goal.lines-init
 lines-init g c = record {
   serving = serving-opened c.new-engine.result c.new-lines.result (g.S.Source.left c.args.source.now) (g.K.Sink.held c.args.sink.now) (g.K.Sink.held c.open.new.sink) c.open.new.story c.new-engine.ensures.serves c.new-lines.ensures c.new-engine.ensures.units c.new-engine.ensures.decisions c.in_ok-open.ensures.ok c.in_ok-open.ensures.written;
-  reads = omega arith;
-  writes = c.open.ensures.later;
+  reads = refl;
+  writes = c.in_ok-open.ensures.no_fault (λ e. cc);
 }
 
 pub returns-in_err-serve_line-clause-stops : goal.returns-in_err-serve_line-clause-stops

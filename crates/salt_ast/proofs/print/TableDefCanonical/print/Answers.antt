@@ -1,0 +1,7 @@
+use Rattle.salt_ast.proofs.Joins.{◌⨾◌}
+use Rattle.salt_ast.proofs.print.TableDefCanonical.print.Goals as goal
+
+pub returns : goal.returns
+returns g c =
+    rw (← c.as_slice.ensures, ← c.as_slice-2.ensures)
+    (c.bytes.ensures ⨾ c.kept.ensures ⨾ c.bytes-2.ensures ⨾ c.columns.ensures ⨾ c.preceded.ensures ⨾ c.bytes-3.ensures)

@@ -1,0 +1,16 @@
+-- What printing a text leaves of a printer.
+use Rattle.salt_ast.specs.declared.printer.Printer.{Printer}
+use Rattle.salt_io.specs.Sends.{Sends}
+use Rattle.salt_io.specs.declared.streams.IoFailed.{IoFailed}
+use Rattle.std.specs.Prelude.{Err, List, Ok, Option, Result, ℕ, ◌≡◌}
+
+-- A printer that has failed stays as it is; another one writes, and keeps the outcome.
+abbrev pub Continues : {K : Type 0} → (K → Option (List ℕ)) → (K → ℕ) →
+    Result (Unit {0}) IoFailed → K → K → Result (Unit {0}) IoFailed → List ℕ → Type 0
+Continues held faults (Ok done) old new outcome text = Sends held faults old new outcome text
+Continues held faults (Err e) old new outcome text = (outcome ≡ Err e) × (new ≡ old)
+
+-- The text was printed, as far as the printer goes.
+pub record Prints {K : Type 0} (held : K → Option (List ℕ)) (faults : K → ℕ) (old new : Printer K) (text : List ℕ) : Type 0 where
+  pub same_sink : new.sink.ghost_name ≡ old.sink.ghost_name
+  pub printed : Continues held faults old.outcome old.sink.now new.sink.now new.outcome text

@@ -1,0 +1,70 @@
+//! Texts of expressions.
+
+ghost use Rattle.std.specs.Prelude.{◌≡◌};
+ghost use Rattle.salt_ast.specs.Operators.{op_text};
+ghost use Rattle.salt_ast.specs.Prints.{Prints};
+ghost use Rattle.salt_ast.specs.Texts.{expr_text};
+
+use crate::printer::{Canonical, Printer};
+use crate::trees::{Expr, Op};
+use salt_io::Sink;
+
+impl Op {
+    /// The operation's sign or word.
+    fn text(self) -> &'static [u8]
+        ensures { result.now ≡ op_text self }
+    {
+        match self {
+            Op::Or => b"or",
+            Op::And => b"and",
+            Op::Equal => b"=",
+            Op::Unequal => b"<>",
+            Op::Less => b"<",
+            Op::AtMost => b"<=",
+            Op::Greater => b">",
+            Op::AtLeast => b">=",
+            Op::Add => b"+",
+            Op::Sub => b"-",
+            Op::Join => b"||",
+            Op::Mul => b"*",
+        }
+    }
+}
+
+impl<K: Sink> Printer<'_, K> {
+    /// Prints an expression, each operation in parentheses.
+    fn expr(&mut self, expr: &Expr)
+        ensures { Prints K.held K.faults self.old self.new (expr_text expr.now) }
+    {
+        match expr {
+            Expr::Lit(value) => value.print(self),
+            Expr::Column(name) => self.kept(name),
+            Expr::Variable(name) => {
+                self.bytes(b":");
+                self.kept(name);
+            }
+            Expr::Not(operand) => {
+                self.bytes(b"(not ");
+                self.expr(operand.get());
+                self.bytes(b")");
+            }
+            Expr::Binary { op, left, right } => {
+                self.bytes(b"(");
+                self.expr(left.get());
+                self.bytes(b" ");
+                self.bytes(op.text());
+                self.bytes(b" ");
+                self.expr(right.get());
+                self.bytes(b")");
+            }
+        }
+    }
+}
+
+impl Canonical for Expr {
+    ghost text = { expr_text };
+
+    fn print<K: Sink>(&self, out: &mut Printer<'_, K>) {
+        out.expr(self);
+    }
+}

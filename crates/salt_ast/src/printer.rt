@@ -1,0 +1,72 @@
+//! A sink that is written to until a write fails, and what has a text that is written to it.
+
+ghost use Rattle.std.specs.Prelude.{List, ℕ};
+ghost use Rattle.salt_ast.specs.Prints.{Prints};
+ghost use Rattle.salt_ast.specs.Texts.{between_commas, preceded};
+
+use itoa::{Buffer, Integer};
+use salt_io::{IoFailed, Sink, write_whole};
+use salt_values::Bytes;
+
+/// A sink, and the outcome of the writes to it so far. After one that failed no more are made.
+/// Nothing that is printed takes memory.
+#[derive(Drop)]
+pub struct Printer<'a, K> {
+    pub sink: &'a mut K,
+    pub outcome: Result<(), IoFailed>,
+}
+
+/// What has a canonical text.
+pub trait Canonical {
+    ghost text: { Self → List ℕ };
+
+    /// Prints the text.
+    fn print<K: Sink>(&self, out: &mut Printer<'_, K>)
+        ensures { Prints K.held K.faults out.old out.new (text self.now) };
+}
+
+impl<K: Sink> Printer<'_, K> {
+    /// Prints the bytes as they are.
+    pub fn bytes(&mut self, bytes: &[u8])
+        ensures { Prints K.held K.faults self.old self.new bytes.now }
+    {
+        if self.outcome.is_ok() {
+            self.outcome = write_whole(self.sink, bytes);
+        }
+    }
+
+    /// Prints the bytes of a name, or of a text that was kept.
+    pub fn kept(&mut self, bytes: &Bytes)
+        ensures { Prints K.held K.faults self.old self.new bytes.now }
+    {
+        self.bytes(bytes.as_slice());
+    }
+
+    /// Prints a number's decimal digits, behind a minus sign where it is below 0.
+    pub fn number<I: Integer>(&mut self, number: I)
+        ensures { Prints K.held K.faults self.old self.new (I.text number) }
+    {
+        let mut buffer = Buffer::new();
+        self.bytes(buffer.format(number).as_bytes());
+    }
+
+    /// Prints each item with these bytes before it.
+    pub fn preceded<T: Canonical>(&mut self, before: &[u8], items: &[T])
+        ensures { Prints K.held K.faults self.old self.new (preceded before.now T.text items.now) }
+    {
+        for item in items {
+            self.bytes(before);
+            item.print(self);
+        }
+    }
+
+    /// Prints the items with a comma and a space between them.
+    pub fn between_commas<T: Canonical>(&mut self, items: &[T])
+        ensures { Prints K.held K.faults self.old self.new (between_commas T.text items.now) }
+    {
+        if let [first, others @ ..] = items {
+            first.print(self);
+            self.preceded(b", ", others);
+        }
+    }
+}

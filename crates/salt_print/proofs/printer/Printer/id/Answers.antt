@@ -1,5 +1,0 @@
-use Rattle.salt_print.proofs.Joins.{◌⨾◌}
-use Rattle.salt_print.proofs.printer.Printer.id.Goals as goal
-
-pub returns : goal.returns
-returns g c = c.number.ensures ⨾ c.bytes.ensures ⨾ c.number-2.ensures

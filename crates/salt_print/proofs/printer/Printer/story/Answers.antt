@@ -1,6 +1,0 @@
-use Rattle.salt_model.specs.EventTexts.{event_text}
-use Rattle.salt_print.proofs.Loops.{Prints-more}
-use Rattle.salt_print.proofs.printer.Printer.story.Goals as goal
-
-pub loop-event-preserved : goal.loop-event-preserved
-loop-event-preserved g c = Prints-more (event_text c.args.schema.now) c.args.events.now c.loop-event.event-index c.event-item.result c.loop-event-test.true c.event-item.is c.loop-event.invariant c.event.ensures
