@@ -91,7 +91,7 @@ kept-laws (trace turns b) p w = kept-laws trace p.0 w
 kept-laws (trace says e) p w =
     let h = holds trace p.0 w in
     let f = may-fit trace e h.comes p.1 in
-    (kept-laws trace p.0 w, (numbers-at trace e f, opens-at trace e p.1, tells-at trace e p.0 p.1, owns-at trace e p.0 p.1, cuts-at trace e h.sound f))
+    (kept-laws trace p.0 w, (numbers-at trace e f, opens-at trace e p.1, tells-at trace e p.0 p.1, owns-at trace e p.0 w f p.1, cuts-at trace e h.sound f))
 
 pub kept-played : (trace : Trace) → IsPlayed trace → OfBoots (start_of trace).kept → IsKept trace
 kept-played trace p w =

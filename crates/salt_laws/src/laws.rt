@@ -54,8 +54,8 @@ pub fn played_is_continued()
     ensures { (trace : Trace) → IsPlayed trace → WellKept (start_of trace).kept → IsContinued trace }
 {}
 
-/// Decisions are numbered one by one, through every stop. Of units of earlier boots an opening tells the decision
-/// in flight, where it stands, and then their cuts in order of names.
+/// Decisions are numbered one by one, through every stop. Of units of earlier boots nothing is told but the
+/// decision in flight, directly after its opened, and then their cuts in order of names.
 pub fn played_is_kept()
     ensures { (trace : Trace) → IsPlayed trace → WellKept (start_of trace).kept → IsKept trace }
 {}

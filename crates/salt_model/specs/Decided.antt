@@ -46,23 +46,27 @@ TellsFlight trace (Down why) = ⊤
 TellsFlight (trace says Opened boot n) e = OnlyAfter (counts_flight (trace says Opened boot n)) (flight trace) e
 TellsFlight trace e = ⊤
 
--- an event of a unit of this boot, or of none; but any unit may be cut, and nothing is defined
+-- an event of a unit is of a unit of this boot, but any may be cut
 abbrev pub IsOfBoot : Trace → Event → Type 0
 IsOfBoot trace (Began u kind) = u.boot ≡ (kept trace).boot
 IsOfBoot trace (Did u st answer) = u.boot ≡ (kept trace).boot
 IsOfBoot trace (Waits u owners) = u.boot ≡ (kept trace).boot
 IsOfBoot trace (Ended u Cut) = ⊤
 IsOfBoot trace (Ended u end) = u.boot ≡ (kept trace).boot
-IsOfBoot trace (Defined n text) = ⊥
 IsOfBoot trace e = ⊤
 
-abbrev pub OwnAfter : Phase → Bool → Trace → Event → Type 0
-OwnAfter Opening false trace e = IsOfBoot trace e
-OwnAfter phase counted trace e = ⊤
+-- and nothing is defined in an opening
+abbrev pub IsOwnIn : Phase → Trace → Event → Type 0
+IsOwnIn Opening trace (Defined n text) = ⊥
+IsOwnIn phase trace e = IsOfBoot trace e
 
--- between an Opened and its Ready nothing else is told of units of earlier boots, but that they are cut, and no other definition
+abbrev pub OwnUnless : Bool → Phase → Trace → Event → Type 0
+OwnUnless true phase trace e = ⊤
+OwnUnless false phase trace e = IsOwnIn phase trace e
+
+-- but for the flight, which stands directly after its Opened, nothing is told of units of earlier boots but that they are cut
 abbrev pub TellsOwn : Trace → Event → Type 0
-TellsOwn trace e = OwnAfter (phase trace) (counts_flight trace) trace e
+TellsOwn trace e = OwnUnless (counts_flight trace) (phase trace) trace e
 
 -- open, and of an earlier boot
 abbrev pub IsLeftOpen : Trace → Id → Type 0

@@ -14,6 +14,7 @@ use Rattle.salt_ast.specs.declared.trees.Statement.{Statement}
 use Rattle.salt_ast.specs.declared.trees.What.TheVariants as what
 use Rattle.salt_model.specs.AsDeclared.{DoesDeclared}
 use Rattle.salt_model.specs.Computing.{computing}
+use Rattle.salt_model.specs.Isolation.{TouchesWhole}
 use Rattle.salt_model.specs.Trace.{Trace, Tree, Rejected, from, ◌asks◌, ◌says◌}
 use Rattle.salt_model.specs.Segments.{May}
 use Rattle.salt_model.specs.Refusals.{refusal}
@@ -25,6 +26,7 @@ use Rattle.salt_model.specs.declared.events.End.TheVariants as end
 use Rattle.salt_model.specs.declared.events.Event.TheVariants as event
 use Rattle.salt_model.specs.declared.events.Owner.TheVariants as owner
 use Rattle.salt_model.specs.declared.events.Refusal.TheVariants as refused
+use Rattle.salt_model.specs.declared.events.UnitKind.TheVariants as unit_kind
 use Rattle.std.specs.Prelude.{List, None, Some, [], codes, drop, false, pos, refl, suc, zero, ℕ, ◌++◌, ◌∷◌, ◌≡◌}
 
 -- Each of these lines is refused where the accounts and the program of transfers stand.
@@ -167,3 +169,15 @@ calling = completed 1 (walk accounts asks Tree (call_transfer 1 1 2 30))
 left_undone : DoesDeclared calling (event.Ended (unit 3) (end.Committed 5)) → ⊥
 unfolding computing
 left_undone h = cc
+
+-- an ACID unit reads what a part of a program has changed, and may still change
+abbrev part_open : Trace
+part_open = completed 2 (walk accounts asks Tree (call_transfer 1 1 2 30)) says event.Began (unit 4) (unit_kind.Acid 2)
+
+reads_elsewhere : TouchesWhole part_open (event.Did (unit 4) (bal_at 2) (answer.Count 1))
+unfolding computing
+reads_elsewhere acid = refl
+
+reads_in_between : TouchesWhole part_open (event.Did (unit 4) (bal_at 1) (answer.Count 1)) → ⊥
+unfolding computing
+reads_in_between h = let x = h refl in cc
