@@ -127,7 +127,8 @@ left_spelled : IsStatement (Within 0) (Within 0)
     (statement.Ensure (operation op.Sub (operation op.Sub (number (pos 1)) (number (pos 2))) (number (neg_ℤ (pos 3)))))
 left_spelled =
     form.is_ensure
-    (one (one (plain (alone (grammar.more (grammar.more (one (one plus_int)) (sign mark.Minus) refl refl (one plus_int)) (sign mark.Minus) refl refl (one minus_int))))))
+    (one (one (plain (alone (grammar.more (grammar.more (one (one plus_int)) (sign mark.Minus) refl refl (one plus_int))
+    (sign mark.Minus) refl refl (one minus_int))))))
 
 -- (:x) * 2
 paren_spelled : IsStatement (Within 1) (Within 0)

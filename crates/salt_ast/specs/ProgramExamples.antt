@@ -5,7 +5,8 @@ use Rattle.salt_ast.specs.ProgramJudgement.{Known, LineFault, ProgramFault, back
 use Rattle.salt_ast.specs.ProgramJudgement.{line_fault, no_branch, program_fault, program_kept_limit}
 use Rattle.salt_ast.specs.ProgramLimits.{line_limit, program_limit}
 use Rattle.salt_ast.specs.ProgramTexts.{line_text, program_text}
-use Rattle.salt_ast.specs.Sample.{acct, acct_def, all_rows, bal, field, id, negations, part, scan, schema, set, spare, spare_block, transfer, transfer_parts, true_sum}
+use Rattle.salt_ast.specs.Sample.{acct, acct_def, all_rows, bal, field, id, negations, part, scan, schema, set, spare}
+use Rattle.salt_ast.specs.Sample.{spare_block, transfer, transfer_parts, true_sum}
 use Rattle.salt_ast.specs.Trees.{number}
 use Rattle.salt_ast.specs.declared.limit.LimitName.TheVariants as limit
 use Rattle.salt_ast.specs.declared.lines.Act.{Act}
