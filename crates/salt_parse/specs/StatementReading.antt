@@ -9,7 +9,7 @@ use Rattle.salt_ast.specs.declared.trees.What.{What}
 use Rattle.salt_ast.specs.declared.trees.What.TheVariants as what
 use Rattle.salt_parse.specs.Flags.{BuiltTree, kept_name}
 use Rattle.salt_parse.specs.Lists.{either, listed_at}
-use Rattle.salt_parse.specs.Reading.{Reader, after, conjunction_at, expression_at, is_same, name_flags, sum_at}
+use Rattle.salt_parse.specs.Reading.{Reader, after, conjunction_at, expression_at, is_same, name_flags, sum_at, within_at}
 use Rattle.salt_tokens.specs.Scanning.{◌>>=◌}
 use Rattle.salt_tokens.specs.Symbols.{Symbols, key, name, sign}
 use Rattle.salt_tokens.specs.declared.keyword.Keyword.TheVariants as word
@@ -147,3 +147,7 @@ change_at inner f ts = either (after (key word.Update) ts) (either (after (key w
 unfoldable pub statement_at : Reader BuiltTree → Reader BuiltTree → Reader Statement
 statement_at inner deeper f ts =
     either (after (key word.Insert) ts) (either (after (key word.Select) ts) (change_at inner f ts) (select_at inner f)) (insert_at deeper f)
+
+-- a whole statement, with room for so many parentheses in its expressions, and for so many in those of INSERT
+abbrev pub statement_within : ℕ → ℕ → Reader Statement
+statement_within room inside = statement_at (within_at room) (within_at inside)

@@ -9,7 +9,7 @@ use Rattle.salt_ast.specs.declared.trees.Field.{Field}
 use Rattle.salt_ast.specs.declared.trees.TableDef.{TableDef}
 use Rattle.salt_parse.specs.Flags.{BuiltTree, Flags, note}
 use Rattle.salt_parse.specs.Lists.{comma, either, following_at, with_front}
-use Rattle.salt_parse.specs.Reading.{Reader, after, expression_at}
+use Rattle.salt_parse.specs.Reading.{Reader, after, expression_at, within_at}
 use Rattle.salt_parse.specs.StatementReading.{name_at, tree_at}
 use Rattle.salt_tokens.specs.Scanning.{◌>>=◌}
 use Rattle.salt_tokens.specs.Symbols.{Symbols, key, sign}
@@ -55,3 +55,7 @@ definition_at inner f ts =
 
 unfoldable pub table_at : Reader BuiltTree → Reader TableDef
 table_at inner f ts = after (key word.Create) ts >>= λ us. after (key word.Table) us >>= λ vs. definition_at inner f vs
+
+-- a whole table, with room for so many parentheses in its checks
+abbrev pub table_within : ℕ → ℕ → Reader TableDef
+table_within room inside = table_at (within_at inside)

@@ -13,6 +13,7 @@ mod scan;
 mod statement;
 mod table;
 mod token;
+mod tree;
 
 pub use error::ParseErr;
 pub use laws::{one_statement, one_table};
