@@ -325,6 +325,7 @@ kept_is : (f : Flags) (x e : Expr) → (clear f ≡ true → x ≡ e) → clear 
 kept_is f x e h c = rw c (h c)
 
 text_agrees : (t : List ℕ) (f : Flags) (ts : Symbols) → list_all is_printable t ≡ true → ArePrintable ts → Agrees expr_marks IsBuilt f (text_at t f ts) (Some (letters t, ts))
+unfolding text_at
 text_agrees t f ts q p =
     record { left = refl; flags = refl; is = (refl, λ c. kept_is (text_flags t f) (text_tree t) (letters t) (λ k. short_text t q (clear_passes f (expr_passed (letters t)) false k)) c); printable = p }
 

@@ -366,7 +366,7 @@ field_agrees f ts p =
     (λ x a us i pu. agrees_kind f (noted name_marks f a) x a (kind_at us) (λ k e. kind_printable us k pu e) refl i)
 
 further_agrees : (n : ℕ) → AgreesAll (counted_marks limit.Columns field_marks n) AreKept (further_field_at n) field_of
-further_agrees n f ts p = agrees_counted limit.Columns field_marks n f (further_field_at n f ts) (field_of ts) (field_agrees (counted limit.Columns n f) ts p)
+further_agrees n f ts p = agrees_counted limit.Columns field_marks n f (further_field_at n f ts) (field_of ts) (field_agrees (counted 16 limit.Columns n f) ts p)
 
 field_comma_keeps : Keeps field_comma
 field_comma_keeps ts us p h = go (comma ts) refl h
@@ -405,8 +405,8 @@ agrees_named m n f (Some x) (Some y) e h = record { left = h.left; flags = h.fla
 module _ (read : Reader BuiltTree) (find : TreeReader Expr) (c : Mirrors read find) where
   check_agrees : (n : ℕ) → AgreesAll (counted_marks limit.Checks expr_marks n) AreKept (check_at read n) (check_of find)
   check_agrees n f ts p =
-      agrees_after (counted_marks limit.Checks expr_marks n) AreKept f (after (key word.Check) ts) (λ us. tree_at (expression_at read) (counted limit.Checks n f) us) (λ us. expression_of find us) (λ us e. after_printable (key word.Check) ts us p e)
-      (λ us pu. agrees_counted limit.Checks expr_marks n f (tree_at (expression_at read) (counted limit.Checks n f) us) (expression_of find us) (expression_agrees read find c (counted limit.Checks n f) us pu))
+      agrees_after (counted_marks limit.Checks expr_marks n) AreKept f (after (key word.Check) ts) (λ us. tree_at (expression_at read) (counted 16 limit.Checks n f) us) (λ us. expression_of find us) (λ us e. after_printable (key word.Check) ts us p e)
+      (λ us pu. agrees_counted limit.Checks expr_marks n f (tree_at (expression_at read) (counted 16 limit.Checks n f) us) (expression_of find us) (expression_agrees read find c (counted 16 limit.Checks n f) us pu))
 
   checks_agrees : AgreesAll checks_marks AreKept (checks_at read) (checks_of find)
   checks_agrees f ts p =

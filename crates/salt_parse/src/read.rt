@@ -6,7 +6,7 @@ ghost use Rattle.salt_ast.specs.declared.limit.LimitName.{LimitName};
 ghost use Rattle.salt_ast.specs.declared.trees.Statement.{Statement};
 ghost use Rattle.salt_ast.specs.declared.trees.TableDef.{TableDef};
 ghost use Rattle.salt_parse.specs.Attempts.{IsAnswer, IsAnswerFor, answer_for, attempt_of, too_deep};
-ghost use Rattle.salt_parse.specs.Flags.{flags, no_flags};
+ghost use Rattle.salt_parse.specs.Flags.{no_flags};
 ghost use Rattle.salt_parse.specs.declared.error.ParseErr.TheVariants.{Limit, Syntax};
 ghost use Rattle.salt_tokens.specs.Symbols.{symbols_in};
 
@@ -20,18 +20,15 @@ use std::alloc::Global;
 
 /// What was found, where nothing is left.
 fn finish<T: Drop>(parser: Parser<'_>, tree: T) -> Result<Result<T, LimitName>, ParseErr>
-    ensures { result ≡ attempt_of (Some (tree, flags parser.entry.over parser.entry.deep, symbols_in parser.entry.cursor.rest.now)) }
+    ensures { result ≡ attempt_of (Some (tree, parser.entry.flags, parser.entry.left)) }
 {
-    if !parser.cursor.rest.is_empty() {
+    if !parser.rest.is_empty() {
         return Err(ParseErr::Syntax);
     }
-    if let Some(limit) = parser.over {
-        return Ok(Err(limit));
+    match parser.limit() {
+        None => Ok(Ok(tree)),
+        Some(limit) => Ok(Err(limit)),
     }
-    if parser.deep {
-        return Ok(Err(LimitName::Depth));
-    }
-    Ok(Ok(tree))
 }
 
 /// The error where only more parentheses than 64 let a row be read.

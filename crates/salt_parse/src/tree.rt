@@ -1,11 +1,10 @@
 //! The trees that a whole text may spell.
 
 ghost use Rattle.std.specs.Prelude.{ℕ};
-ghost use Rattle.salt_parse.specs.Flags.{flags};
-ghost use Rattle.salt_parse.specs.Reading.{Gives, Reader};
+ghost use Rattle.salt_parse.specs.Parsing.{Reads};
+ghost use Rattle.salt_parse.specs.Reading.{Reader};
 ghost use Rattle.salt_parse.specs.StatementReading.{statement_within};
 ghost use Rattle.salt_parse.specs.TableReading.{table_within};
-ghost use Rattle.salt_tokens.specs.Symbols.{symbols_in};
 
 use crate::error::ParseErr;
 use crate::parser::Parser;
@@ -18,7 +17,7 @@ pub trait Tree: Drop {
 
     /// Reads it from what is left.
     fn read(parser: &mut Parser<'_>, room: u32, inside: u32) -> Result<Self, ParseErr>
-        ensures { Gives result (flags parser.new.over parser.new.deep) (symbols_in parser.new.cursor.rest.now) (reading room inside (flags parser.old.over parser.old.deep) (symbols_in parser.old.cursor.rest.now)) };
+        ensures { Reads result (reading room inside) parser.old parser.new };
 }
 
 impl Tree for Statement {
