@@ -1,12 +1,14 @@
 -- Reading operands and operations one after the other, as a loop does.
-use Rattle.std.proofs.Common.{◌≡◌, ◌≢◌, ℕ, zero, suc, ◌+◌, ◌-◌, ◌<◌, ◌≤◌, Bool, true, false, cond, [], ◌∷◌, length, Option, Some, None, refl, sym, ap, ◌∙◌, arith, add-one, sub-one}
+use Rattle.std.proofs.Common.{◌≡◌, ◌≢◌, ℕ, zero, suc, ◌+◌, ◌-◌, ◌<◌, ◌≤◌, Bool, true, false, cond, [], ◌∷◌, length, Option, Some, None, refl, sym, ap}
+use Rattle.std.proofs.Common.{◌∙◌, arith, add-one, sub-one}
 use denote.Enum.Bare.{same_true}
 use Rattle.salt_ast.specs.Operators.{operator}
 use Rattle.salt_ast.specs.declared.trees.Op.{Op}
 use Rattle.salt_parse.specs.Answers.{Fails}
 use Rattle.salt_parse.specs.Flags.{BuiltTree, Flags, join_flags, join_tree}
 use Rattle.salt_parse.specs.Parsing.{Parsing}
-use Rattle.salt_parse.specs.Reading.{Read, Reader, after, at_operator, expression_at, is_same, left_at, negate, negations, next_operator, nots_at, of_level, tail_at, under_nots, within_at}
+use Rattle.salt_parse.specs.Reading.{Read, Reader, after, at_operator, expression_at, is_same, left_at, negate, negations, next_operator, nots_at}
+use Rattle.salt_parse.specs.Reading.{of_level, tail_at, under_nots, within_at}
 use Rattle.salt_parse.specs.declared.error.ParseErr.{ParseErr}
 use Rattle.salt_parse.specs.declared.error.ParseErr.TheVariants.{Limit, Memory, Syntax}
 use Rattle.salt_tokens.specs.Scanning.{◌>>=◌}
@@ -21,34 +23,48 @@ pub record IsTail (level : ℕ) (operand : Reader BuiltTree) (left : BuiltTree) 
   pub enough : length p.left < fuel
   pub so_far : tail_at level operand fuel left p.flags p.left ≡ total
 
-pub IsTail-starts : (level : ℕ) (operand : Reader BuiltTree) (p q : Parsing) (l : BuiltTree) → operand p.flags p.left ≡ Some (l, q.flags, q.left) → IsTail level operand l q (left_at level operand p.flags p.left)
+pub IsTail-starts : (level : ℕ) (operand : Reader BuiltTree) (p q : Parsing) (l : BuiltTree) → operand p.flags p.left ≡ Some (l, q.flags, q.left) →
+    IsTail level operand l q (left_at level operand p.flags p.left)
 unfolding left_at
 IsTail-starts level operand p q l h = record { fuel = suc (length q.left); enough = omega arith; so_far = rw h refl }
 
 -- one step, by what the next token stands for
-pub tail_step : (level : ℕ) (operand : Reader BuiltTree) (n : ℕ) (l : BuiltTree) (f : Flags) (rest rest1 : Symbols) (o : Op) → next_operator level rest ≡ (Some o, rest1) → (length rest ≡ suc (length rest1)) × (tail_at level operand (suc n) l f rest ≡ (operand f rest1 >>= λ x. tail_at level operand n (join_tree o l x.0 x.1) (join_flags l x.0 x.1) x.2))
+pub tail_step : (level : ℕ) (operand : Reader BuiltTree) (n : ℕ) (l : BuiltTree) (f : Flags) (rest rest1 : Symbols) (o : Op) →
+    next_operator level rest ≡ (Some o, rest1) →
+    (length rest ≡ suc (length rest1)) ×
+    (tail_at level operand (suc n) l f rest ≡ (operand f rest1 >>= λ x. tail_at level operand n (join_tree o l x.0 x.1) (join_flags l x.0 x.1) x.2))
 unfolding tail_at
 tail_step level operand n l f [] rest1 o h = absurd (cc (ap (λ (p : Option Op × Symbols). p.0) h))
 tail_step level operand n l f (t ∷ ts) rest1 o h = go (of_level level (operator t)) h
   where
-    go : (q : Option Op) → at_operator {A = Option Op × Symbols} q (None, t ∷ ts) (λ o. (Some o, ts)) ≡ (Some o, rest1) → (suc (length ts) ≡ suc (length rest1)) × (at_operator {A = Option (Read BuiltTree)} q (Some (l, f, t ∷ ts)) (λ o. operand f ts >>= λ x. tail_at level operand n (join_tree o l x.0 x.1) (join_flags l x.0 x.1) x.2) ≡ (operand f rest1 >>= λ x. tail_at level operand n (join_tree o l x.0 x.1) (join_flags l x.0 x.1) x.2))
+    go : (q : Option Op) → at_operator {A = Option Op × Symbols} q (None, t ∷ ts) (λ o. (Some o, ts)) ≡ (Some o, rest1) →
+        (suc (length ts) ≡ suc (length rest1)) ×
+        (at_operator {A = Option (Read BuiltTree)} q (Some (l, f, t ∷ ts))
+        (λ o. operand f ts >>= λ x. tail_at level operand n (join_tree o l x.0 x.1) (join_flags l x.0 x.1) x.2) ≡
+        (operand f rest1 >>= λ x. tail_at level operand n (join_tree o l x.0 x.1) (join_flags l x.0 x.1) x.2))
     go None e = absurd (cc (ap (λ (p : Option Op × Symbols). p.0) e))
     go (Some p) e =
         let same : ts ≡ rest1 = ap (λ (p : Option Op × Symbols). p.1) e in
         let the_op : p ≡ o = cc (ap (λ (p : Option Op × Symbols). p.0) e) in
         (ap (λ (x : Symbols). suc (length x)) same, rw (the_op, same) refl)
 
-pub tail_stop : (level : ℕ) (operand : Reader BuiltTree) (n : ℕ) (l : BuiltTree) (f : Flags) (rest rest1 : Symbols) → next_operator level rest ≡ (None, rest1) → tail_at level operand (suc n) l f rest ≡ Some (l, f, rest1)
+pub tail_stop : (level : ℕ) (operand : Reader BuiltTree) (n : ℕ) (l : BuiltTree) (f : Flags) (rest rest1 : Symbols) →
+    next_operator level rest ≡ (None, rest1) → tail_at level operand (suc n) l f rest ≡ Some (l, f, rest1)
 unfolding tail_at
 tail_stop level operand n l f [] rest1 h = ap (λ (p : Option Op × Symbols). Some (l, f, p.1)) h
 tail_stop level operand n l f (t ∷ ts) rest1 h = go (of_level level (operator t)) h
   where
-    go : (q : Option Op) → at_operator {A = Option Op × Symbols} q (None, t ∷ ts) (λ o. (Some o, ts)) ≡ (None, rest1) → at_operator {A = Option (Read BuiltTree)} q (Some (l, f, t ∷ ts)) (λ o. operand f ts >>= λ x. tail_at level operand n (join_tree o l x.0 x.1) (join_flags l x.0 x.1) x.2) ≡ Some (l, f, rest1)
+    go : (q : Option Op) → at_operator {A = Option Op × Symbols} q (None, t ∷ ts) (λ o. (Some o, ts)) ≡ (None, rest1) →
+        at_operator {A = Option (Read BuiltTree)} q (Some (l, f, t ∷ ts))
+        (λ o. operand f ts >>= λ x. tail_at level operand n (join_tree o l x.0 x.1) (join_flags l x.0 x.1) x.2) ≡ Some (l, f, rest1)
     go None e = ap (λ (p : Option Op × Symbols). Some (l, f, p.1)) e
     go (Some p) e = absurd (cc (ap (λ (p : Option Op × Symbols). p.0) e))
 
 -- behind an operation and its right operand `r` stands `t`, where `l2` is the operation on `l` and `r`
-pub IsTail-goes_on : (level : ℕ) (operand : Reader BuiltTree) (l r l2 : BuiltTree) (p q s t : Parsing) (o : Op) (total : Option (Read BuiltTree)) → IsTail level operand l p total → next_operator level p.left ≡ (Some o, q.left) → q.flags ≡ p.flags → operand q.flags q.left ≡ Some (r, s.flags, s.left) → length s.left < length q.left → l2 ≡ join_tree o l r s.flags → t.flags ≡ join_flags l r s.flags → t.left ≡ s.left → IsTail level operand l2 t total
+pub IsTail-goes_on : (level : ℕ) (operand : Reader BuiltTree) (l r l2 : BuiltTree) (p q s t : Parsing) (o : Op) (total : Option (Read BuiltTree)) →
+    IsTail level operand l p total → next_operator level p.left ≡ (Some o, q.left) → q.flags ≡ p.flags →
+    operand q.flags q.left ≡ Some (r, s.flags, s.left) → length s.left < length q.left → l2 ≡ join_tree o l r s.flags →
+    t.flags ≡ join_flags l r s.flags → t.left ≡ s.left → IsTail level operand l2 t total
 IsTail-goes_on level operand l r l2 p q s t o total h next same read shorter is_tree is_flags is_left = go h.fuel h.enough h.so_far
   where
     read_on : operand p.flags q.left ≡ Some (r, s.flags, s.left)
@@ -58,17 +74,21 @@ IsTail-goes_on level operand l r l2 p q s t o total h next same read shorter is_
     go zero lt e = absurd (omega arith)
     go (suc n) lt e =
         let step = tail_step level operand n l p.flags p.left q.left o next in
-        let one : tail_at level operand (suc n) l p.flags p.left ≡ tail_at level operand n (join_tree o l r s.flags) (join_flags l r s.flags) s.left = step.1 ∙ rw read_on refl in
+        let one : tail_at level operand (suc n) l p.flags p.left ≡ tail_at level operand n (join_tree o l r s.flags)
+        (join_flags l r s.flags) s.left = step.1 ∙ rw read_on refl in
         record { fuel = n; enough = omega (arith, step.0, ap length is_left); so_far = rw (is_tree, is_flags, is_left) (sym one ∙ e) }
 
-pub IsTail-ends : (level : ℕ) (operand : Reader BuiltTree) (l : BuiltTree) (p q : Parsing) (total : Option (Read BuiltTree)) → IsTail level operand l p total → next_operator level p.left ≡ (None, q.left) → q.flags ≡ p.flags → total ≡ Some (l, q.flags, q.left)
+pub IsTail-ends : (level : ℕ) (operand : Reader BuiltTree) (l : BuiltTree) (p q : Parsing) (total : Option (Read BuiltTree)) →
+    IsTail level operand l p total → next_operator level p.left ≡ (None, q.left) → q.flags ≡ p.flags → total ≡ Some (l, q.flags, q.left)
 IsTail-ends level operand l p q total h next same = rw same (go h.fuel h.enough h.so_far)
   where
     go : (n : ℕ) → length p.left < n → tail_at level operand n l p.flags p.left ≡ total → total ≡ Some (l, p.flags, q.left)
     go zero lt e = absurd (omega arith)
     go (suc n) lt e = sym e ∙ tail_stop level operand n l p.flags p.left q.left next
 
-pub IsTail-fails : (level : ℕ) (operand : Reader BuiltTree) (l : BuiltTree) (p q : Parsing) (o : Op) (err : ParseErr) (total : Option (Read BuiltTree)) → IsTail level operand l p total → next_operator level p.left ≡ (Some o, q.left) → q.flags ≡ p.flags → Fails err (operand q.flags q.left) → Fails err total
+pub IsTail-fails : (level : ℕ) (operand : Reader BuiltTree) (l : BuiltTree) (p q : Parsing) (o : Op) (err : ParseErr)
+    (total : Option (Read BuiltTree)) → IsTail level operand l p total → next_operator level p.left ≡ (Some o, q.left) → q.flags ≡ p.flags →
+    Fails err (operand q.flags q.left) → Fails err total
 IsTail-fails level operand l p q o Memory total h next same read = tt
 IsTail-fails level operand l p q o (Limit n) total h next same read = read
 IsTail-fails level operand l p q o Syntax total h next same read = go h.fuel h.enough h.so_far
@@ -80,7 +100,8 @@ IsTail-fails level operand l p q o Syntax total h next same read = go h.fuel h.e
     go zero lt e = absurd (omega arith)
     go (suc n) lt e = sym e ∙ (tail_step level operand n l p.flags p.left q.left o next).1 ∙ rw none refl
 
-pub under_nots-goes_on : (operand : Reader BuiltTree) (f : Flags) (n : ℕ) (ts : Symbols) → under_nots n (nots_at operand f (key word.Not ∷ ts)) ≡ under_nots (n + 1) (nots_at operand f ts)
+pub under_nots-goes_on : (operand : Reader BuiltTree) (f : Flags) (n : ℕ) (ts : Symbols) →
+    under_nots n (nots_at operand f (key word.Not ∷ ts)) ≡ under_nots (n + 1) (nots_at operand f ts)
 unfolding nots_at
 under_nots-goes_on operand f n ts = rw add-one (go (nots_at operand f ts))
   where
@@ -103,8 +124,10 @@ after_is t (u ∷ ts) us h = go (is_same u t) refl h
     go true e k = let same : u ≡ t = is_same-true u t e in let others : ts ≡ us = cc k in cc
     go false e k = absurd cc
 
-pub nots_more : (operand : Reader BuiltTree) (f : Flags) (n : ℕ) (total : Option (Read BuiltTree)) (ts us : Symbols) → after (key word.Not) ts ≡ Some us → total ≡ under_nots n (nots_at operand f ts) → total ≡ under_nots (n + 1) (nots_at operand f us)
-nots_more operand f n total ts us h e = e ∙ ap (λ (r : Symbols). under_nots n (nots_at operand f r)) (after_is (key word.Not) ts us h) ∙ under_nots-goes_on operand f n us
+pub nots_more : (operand : Reader BuiltTree) (f : Flags) (n : ℕ) (total : Option (Read BuiltTree)) (ts us : Symbols) →
+    after (key word.Not) ts ≡ Some us → total ≡ under_nots n (nots_at operand f ts) → total ≡ under_nots (n + 1) (nots_at operand f us)
+nots_more operand f n total ts us h e = e ∙ ap (λ (r : Symbols). under_nots n (nots_at operand f r)) (after_is (key word.Not) ts us h)
+    ∙ under_nots-goes_on operand f n us
 
 pub nots_stop : (operand : Reader BuiltTree) (f : Flags) (ts : Symbols) → after (key word.Not) ts ≡ None → nots_at operand f ts ≡ operand f ts
 unfolding nots_at after

@@ -1,5 +1,6 @@
 -- What the bytes spell, by what their symbols spell.
-use Rattle.std.proofs.Common.{◌≡◌, ◌≢◌, ℕ, Bool, true, false, not, ◌&&◌, List, [], ◌∷◌, ◌++◌, Option, Some, None, Result, Ok, Err, refl, sym, ap, subst, ◌∙◌, arith}
+use Rattle.std.proofs.Common.{◌≡◌, ◌≢◌, ℕ, Bool, true, false, not, ◌&&◌, List, [], ◌∷◌, ◌++◌, Option, Some, None, Result, Ok, Err, refl, sym, ap}
+use Rattle.std.proofs.Common.{subst, ◌∙◌, arith}
 use Rattle.std.proofs.lemmas.List.{append-nil}
 use Rattle.std.specs.List.{list_all}
 use Rattle.std.specs.Prelude.{IfOk, is_none}
@@ -108,7 +109,8 @@ module _ {A : Type 0} (m : Marks A) where
       go : (l : Option LimitName) → limit_in f ≡ l → Finds m (Some (a, [])) (tree_or_limit x l)
       go None h =
           let is : x ≡ a = i (none_clear f h) in
-          subst (λ (z : A). (◌≡◌ {A = Option (A × Symbols)} (Some (a, [])) (Some (z, []))) × (option_or (m.passed z) (then_some (m.high z) limit.Depth) ≡ None)) (sym is) (refl, sym same ∙ h)
+          subst (λ (z : A). (◌≡◌ {A = Option (A × Symbols)} (Some (a, [])) (Some (z, []))) ×
+          (option_or (m.passed z) (then_some (m.high z) limit.Depth) ≡ None)) (sym is) (refl, sym same ∙ h)
       go (Some l) h = (a, refl, sym same ∙ h)
 
   pub finds : (r : Option (Read A)) (q : Option (A × Symbols)) → Agrees m AreKept no_flags r q → Finds m q (attempt_of r)
@@ -132,7 +134,8 @@ Settles limit_of Shallow Deep ts (Err Memory) = Unit {0}
 Settles {A} limit_of Shallow Deep ts (Err Syntax) = (x : A) → Deep ts x → ⊥
 Settles {A} limit_of Shallow Deep ts (Err (Limit l)) = (x : A) × Deep ts x × Passes (limit_of x) (Shallow ts x) l
 
-module _ {A : Type 0} (m : Marks A) (Shallow Deep : Symbols → A → Type 0) (up : (ts : Symbols) (x : A) → Shallow ts x → Deep ts x) (p q : Option (A × Symbols)) (ts : Symbols) where
+module _ {A : Type 0} (m : Marks A) (Shallow Deep : Symbols → A → Type 0) (up : (ts : Symbols) (x : A) → Shallow ts x → Deep ts x)
+    (p q : Option (A × Symbols)) (ts : Symbols) where
   abbrev Found : Option (A × Symbols) → (Symbols → A → Type 0) → Type 0
   Found o G = ((x : A) → o ≡ Some (x, []) → G ts x) × ((x : A) → G ts x → o ≡ Some (x, []))
 
@@ -156,7 +159,8 @@ module _ {A : Type 0} (m : Marks A) (Shallow Deep : Symbols → A → Type 0) (u
   answered (Err Syntax) a e h = subst Tells e h
   answered (Err (Limit l)) a e h = subst Tells e h
 
-  pub all : (r : Result A ParseErr) (u v : Option (Read A)) → Found p Shallow → Found q Deep → Agrees m AreKept no_flags u p → Agrees m AreKept no_flags v q → IsAnswer r (settled (attempt_of u) (attempt_of v)) → Tells r
+  pub all : (r : Result A ParseErr) (u v : Option (Read A)) → Found p Shallow → Found q Deep → Agrees m AreKept no_flags u p →
+      Agrees m AreKept no_flags v q → IsAnswer r (settled (attempt_of u) (attempt_of v)) → Tells r
   all r u v f g h k e = answered r (settled (attempt_of u) (attempt_of v)) e (settles (attempt_of u) (attempt_of v) f g (finds m u p h) (finds m v q k))
 
 -- ---- statements
@@ -168,20 +172,28 @@ ends = record { stops = tt; no_where = refl; no_comma = refl }
 whole : {A : Type 0} (G : Symbols → A → Type 0) (ts : Symbols) (x : A) → (front : Symbols) × (ts ≡ front ++ []) × G front x → G ts x
 whole {A} G ts x r = subst (λ (z : Symbols). G z x) (sym (r.1 ∙ append-nil r.0)) r.2
 
-statement_found : (d n : ℕ) (ts : Symbols) → ((x : Statement) → statement_of (within_of d) (within_of n) ts ≡ Some (x, []) → IsStatement (Within d) (Within n) ts x) × ((x : Statement) → IsStatement (Within d) (Within n) ts x → statement_of (within_of d) (within_of n) ts ≡ Some (x, []))
+statement_found : (d n : ℕ) (ts : Symbols) →
+    ((x : Statement) → statement_of (within_of d) (within_of n) ts ≡ Some (x, []) → IsStatement (Within d) (Within n) ts x) ×
+    ((x : Statement) → IsStatement (Within d) (Within n) ts x → statement_of (within_of d) (within_of n) ts ≡ Some (x, []))
 statement_found d n ts = (
-  λ x h. whole (IsStatement (Within d) (Within n)) ts x (statement_sound (Within d) (Within n) (within_of d) (within_sound d) (within_of n) (within_sound n) ts x [] h),
-  λ x h. ap (statement_of (within_of d) (within_of n)) (sym (append-nil ts)) ∙ statement_complete (Within d) (Within n) (within_of d) (within_of n) (within_sound d) (within_sound n) (within_complete d) (within_complete n) ts [] x h ends,
+  λ x h. whole (IsStatement (Within d) (Within n)) ts x
+      (statement_sound (Within d) (Within n) (within_of d) (within_sound d) (within_of n) (within_sound n) ts x [] h),
+  λ x h. ap (statement_of (within_of d) (within_of n)) (sym (append-nil ts))
+      ∙ statement_complete (Within d) (Within n) (within_of d) (within_of n) (within_sound d) (within_sound n) (within_complete d)
+      (within_complete n) ts [] x h ends,
 )
 
-table_found : (d : ℕ) (ts : Symbols) → ((x : TableDef) → table_of (within_of d) ts ≡ Some (x, []) → IsTable (Within d) ts x) × ((x : TableDef) → IsTable (Within d) ts x → table_of (within_of d) ts ≡ Some (x, []))
+table_found : (d : ℕ) (ts : Symbols) →
+    ((x : TableDef) → table_of (within_of d) ts ≡ Some (x, []) → IsTable (Within d) ts x) ×
+    ((x : TableDef) → IsTable (Within d) ts x → table_of (within_of d) ts ≡ Some (x, []))
 table_found d ts = (
   λ x h. whole (IsTable (Within d)) ts x (table_sound (Within d) (within_of d) (within_sound d) ts x [] h),
   λ x h. ap (table_of (within_of d)) (sym (append-nil ts)) ∙ table_complete (Within d) (within_of d) (within_sound d) (within_complete d) ts [] x h,
 )
 
 -- no row spells two trees
-one_of : {A : Type 0} (G : Symbols → A → Type 0) (o : Option (A × Symbols)) (ts : Symbols) → ((x : A) → G ts x → o ≡ Some (x, [])) → (a b : A) → G ts a → G ts b → a ≡ b
+one_of : {A : Type 0} (G : Symbols → A → Type 0) (o : Option (A × Symbols)) (ts : Symbols) → ((x : A) → G ts x → o ≡ Some (x, [])) → (a b : A) →
+    G ts a → G ts b → a ≡ b
 one_of {A} G o ts c a b d k = ap (λ (x : A × Symbols). x.0) (some_is (a, []) (b, []) (sym (c a d) ∙ c b k))
 
 -- the bytes have one row of tokens at most
@@ -198,17 +210,20 @@ module _ {A : Type 0} (one : OneRow) (bytes : List ℕ) where
       let same : symbols_of s.tokens ≡ r = ap symbols_of (one bytes s.tokens h.0 s.lexes h.1) ∙ sym h.2 in
       subst (λ (z : Symbols). G z x) same s.spelled
 
-  one_tree : (G : Symbols → A → Type 0) (find : Symbols → Option (A × Symbols)) → ((ts : Symbols) (x : A) → G ts x → find ts ≡ Some (x, [])) → (a b : A) → Spells G bytes a → Spells G bytes b → a ≡ b
+  one_tree : (G : Symbols → A → Type 0) (find : Symbols → Option (A × Symbols)) → ((ts : Symbols) (x : A) → G ts x → find ts ≡ Some (x, [])) →
+      (a b : A) → Spells G bytes a → Spells G bytes b → a ≡ b
   one_tree G find c a b s t =
       let h : HasSymbols bytes (symbols_of t.tokens) = (t.tokens, t.lexes, refl) in
       one_of G (find (symbols_of t.tokens)) (symbols_of t.tokens) (λ x d. c (symbols_of t.tokens) x d) a b (unspelled G (symbols_of t.tokens) a h s) t.spelled
 
-  passes : (Shallow : Symbols → A → Type 0) (o : Option LimitName) (r : Symbols) (x : A) (l : LimitName) → HasSymbols bytes r → Passes o (Shallow r x) l → Passes o (Spells Shallow bytes x) l
+  passes : (Shallow : Symbols → A → Type 0) (o : Option LimitName) (r : Symbols) (x : A) (l : LimitName) → HasSymbols bytes r →
+      Passes o (Shallow r x) l → Passes o (Spells Shallow bytes x) l
   passes Shallow o r x l h (by_tree e) = by_tree e
   passes Shallow o r x l h (by_parentheses e n) = by_parentheses e (λ s. n (unspelled Shallow r x h s))
 
 pub one_statement : OneRow → (bytes : List ℕ) (a b : Statement) → SpellsStatement bytes a → SpellsStatement bytes b → a ≡ b
-one_statement one bytes a b s t = one_tree one bytes (IsStatement (Within 128) (Within 127)) (statement_of (within_of 128) (within_of 127)) (λ ts x d. (statement_found 128 127 ts).1 x d) a b s t
+one_statement one bytes a b s t = one_tree one bytes (IsStatement (Within 128) (Within 127)) (statement_of (within_of 128) (within_of 127))
+    (λ ts x d. (statement_found 128 127 ts).1 x d) a b s t
 
 pub one_table : OneRow → (bytes : List ℕ) (a b : TableDef) → SpellsTable bytes a → SpellsTable bytes b → a ≡ b
 one_table one bytes a b s t = one_tree one bytes (IsTable (Within 127)) (table_of (within_of 127)) (λ ts x d. (table_found 127 ts).1 x d) a b s t
@@ -221,12 +236,17 @@ ShallowStatement = IsStatement (Within 64) (Within 64)
 abbrev pub DeepStatement : Symbols → Statement → Type 0
 DeepStatement = IsStatement (Within 128) (Within 127)
 
-pub statement_settles : (ts : Symbols) (r : Result Statement ParseErr) → ArePrintable ts → IsAnswer r (answer_for statement_within ts) → Settles statement_limit ShallowStatement DeepStatement ts r
+pub statement_settles : (ts : Symbols) (r : Result Statement ParseErr) → ArePrintable ts → IsAnswer r (answer_for statement_within ts) →
+    Settles statement_limit ShallowStatement DeepStatement ts r
 unfolding statement_limit
 statement_settles ts r p e =
-    all statement_marks ShallowStatement DeepStatement (λ us x d. statement_up (within_up 64 128 (omega arith)) (within_up 64 127 (omega arith)) us x d) (statement_of (within_of 64) (within_of 64) ts) (statement_of (within_of 128) (within_of 127) ts) ts r
-    (statement_at (within_at 64) (within_at 64) no_flags ts) (statement_at (within_at 128) (within_at 127) no_flags ts) (statement_found 64 64 ts) (statement_found 128 127 ts)
-    (statement_agrees (within_at 64) (within_at 64) (within_of 64) (within_of 64) (within_mirrors 64) (within_mirrors 64) no_flags ts p) (statement_agrees (within_at 128) (within_at 127) (within_of 128) (within_of 127) (within_mirrors 128) (within_mirrors 127) no_flags ts p) e
+    all statement_marks ShallowStatement DeepStatement
+    (λ us x d. statement_up (within_up 64 128 (omega arith)) (within_up 64 127 (omega arith)) us x d)
+    (statement_of (within_of 64) (within_of 64) ts) (statement_of (within_of 128) (within_of 127) ts) ts r
+    (statement_at (within_at 64) (within_at 64) no_flags ts) (statement_at (within_at 128) (within_at 127) no_flags ts) (statement_found 64 64 ts)
+    (statement_found 128 127 ts)
+    (statement_agrees (within_at 64) (within_at 64) (within_of 64) (within_of 64) (within_mirrors 64) (within_mirrors 64) no_flags ts p)
+    (statement_agrees (within_at 128) (within_at 127) (within_of 128) (within_of 127) (within_mirrors 128) (within_mirrors 127) no_flags ts p) e
 
 abbrev pub ShallowTable : Symbols → TableDef → Type 0
 ShallowTable = IsTable (Within 64)
@@ -234,15 +254,19 @@ ShallowTable = IsTable (Within 64)
 abbrev pub DeepTable : Symbols → TableDef → Type 0
 DeepTable = IsTable (Within 127)
 
-pub table_settles : (ts : Symbols) (r : Result TableDef ParseErr) → ArePrintable ts → IsAnswer r (answer_for table_within ts) → Settles table_limit ShallowTable DeepTable ts r
+pub table_settles : (ts : Symbols) (r : Result TableDef ParseErr) → ArePrintable ts → IsAnswer r (answer_for table_within ts) →
+    Settles table_limit ShallowTable DeepTable ts r
 unfolding table_limit
 table_settles ts r p e =
-    all table_marks ShallowTable DeepTable (λ us x d. table_up (within_up 64 127 (omega arith)) us x d) (table_of (within_of 64) ts) (table_of (within_of 127) ts) ts r
+    all table_marks ShallowTable DeepTable (λ us x d. table_up (within_up 64 127 (omega arith)) us x d) (table_of (within_of 64) ts)
+    (table_of (within_of 127) ts) ts r
     (table_at (within_at 64) no_flags ts) (table_at (within_at 127) no_flags ts) (table_found 64 ts) (table_found 127 ts)
-    (table_agrees (within_at 64) (within_of 64) (within_mirrors 64) no_flags ts p) (table_agrees (within_at 127) (within_of 127) (within_mirrors 127) no_flags ts p) e
+    (table_agrees (within_at 64) (within_of 64) (within_mirrors 64) no_flags ts p)
+    (table_agrees (within_at 127) (within_of 127) (within_mirrors 127) no_flags ts p) e
 
 -- what an answer for bytes tells of what they spell
-module _ {A : Type 0} (one : OneRow) (law : TextLaw) (bytes : List ℕ) (limit_of : A → Option LimitName) (Shallow Deep : Symbols → A → Type 0) (answer : Symbols → Result A ParseErr)
+module _ {A : Type 0} (one : OneRow) (law : TextLaw) (bytes : List ℕ) (limit_of : A → Option LimitName) (Shallow Deep : Symbols → A → Type 0)
+    (answer : Symbols → Result A ParseErr)
     (settles : (ts : Symbols) (r : Result A ParseErr) → ArePrintable ts → IsAnswer r (answer ts) → Settles limit_of Shallow Deep ts r) where
   pub is_found : (r : Result A ParseErr) → IsAnswerFor answer bytes r → IfOk r (λ x. IsWithinLimits (limit_of x) (Spells Shallow bytes x))
   is_found (Ok x) e =
@@ -250,14 +274,18 @@ module _ {A : Type 0} (one : OneRow) (law : TextLaw) (bytes : List ℕ) (limit_o
       record { tree = k.1; parentheses = spelled one bytes Shallow e.0 x e.1 k.0 }
   is_found (Err e) k = tt
 
-  pub is_limit : (r : Result A ParseErr) (l : LimitName) → IsAnswerFor answer bytes r → r ≡ Err (Limit l) → (x : A) × Spells Deep bytes x × Passes (limit_of x) (Spells Shallow bytes x) l
+  pub is_limit : (r : Result A ParseErr) (l : LimitName) → IsAnswerFor answer bytes r → r ≡ Err (Limit l) →
+      (x : A) × Spells Deep bytes x × Passes (limit_of x) (Spells Shallow bytes x) l
   is_limit (Ok x) l e is = absurd cc
   is_limit (Err Memory) l e is = absurd cc
   is_limit (Err Syntax) l e is = absurd cc
   is_limit (Err (Limit k)) l e is =
       let same : k ≡ l = cc is in
-      let d = settles e.0 (Err (Limit k)) (row_printable law bytes e.0 e.1) e.2 in
-      (d.0, spelled one bytes Deep e.0 d.0 e.1 d.1, subst (λ (z : LimitName). Passes (limit_of d.0) (Spells Shallow bytes d.0) z) same (passes one bytes Shallow (limit_of d.0) e.0 d.0 k e.1 d.2))
+      let d = settles e.0 (Err (Limit k)) (row_printable law bytes e.0 e.1) e.2 in (
+        d.0,
+        spelled one bytes Deep e.0 d.0 e.1 d.1,
+        subst (λ (z : LimitName). Passes (limit_of d.0) (Spells Shallow bytes d.0) z) same (passes one bytes Shallow (limit_of d.0) e.0 d.0 k e.1 d.2),
+      )
 
   pub spells_none : (r : Result A ParseErr) → IsAnswerFor answer bytes r → r ≡ Err Syntax → (x : A) → Spells Deep bytes x → ⊥
   spells_none (Ok x) e is y s = absurd cc
@@ -265,7 +293,8 @@ module _ {A : Type 0} (one : OneRow) (law : TextLaw) (bytes : List ℕ) (limit_o
   spells_none (Err (Limit k)) e is y s = absurd cc
   spells_none (Err Syntax) e is y s =
       let h : HasSymbols bytes (symbols_of s.tokens) = (s.tokens, s.lexes, refl) in
-      settles (symbols_of s.tokens) (Err Syntax) (row_printable law bytes (symbols_of s.tokens) h) (e (symbols_of s.tokens) h) y (unspelled one bytes Deep (symbols_of s.tokens) y h s)
+      settles (symbols_of s.tokens) (Err Syntax) (row_printable law bytes (symbols_of s.tokens) h) (e (symbols_of s.tokens) h) y
+      (unspelled one bytes Deep (symbols_of s.tokens) y h s)
 
 -- ---- from bytes to their row
 
@@ -274,7 +303,8 @@ module _ {A : Type 0} (answer : Symbols → Result A ParseErr) (bytes : List ℕ
   scan_fails scan.Memory nothing = tt
   scan_fails scan.Syntax nothing = λ ts h. absurd (nothing refl ts h)
 
-  pub row_answers : ((ts us : Symbols) → HasSymbols bytes ts → HasSymbols bytes us → ts ≡ us) → (ts : Symbols) → HasSymbols bytes ts → (r : Result A ParseErr) → IsAnswer r (answer ts) → IsAnswerFor answer bytes r
+  pub row_answers : ((ts us : Symbols) → HasSymbols bytes ts → HasSymbols bytes us → ts ≡ us) → (ts : Symbols) → HasSymbols bytes ts →
+      (r : Result A ParseErr) → IsAnswer r (answer ts) → IsAnswerFor answer bytes r
   row_answers one ts h (Ok x) e = (ts, h, e)
   row_answers one ts h (Err Memory) e = tt
   row_answers one ts h (Err Syntax) e = λ us k. subst (λ (vs : Symbols). answer vs ≡ Err Syntax) (one ts us h k) e

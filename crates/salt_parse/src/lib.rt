@@ -2,7 +2,6 @@
 #![tactic(auto)]
 
 mod built;
-mod cursor;
 mod error;
 mod expr;
 mod laws;
@@ -11,6 +10,7 @@ mod quoted;
 mod read;
 mod scan;
 mod statement;
+mod symbols;
 mod table;
 mod token;
 mod tree;

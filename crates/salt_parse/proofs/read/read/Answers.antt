@@ -12,4 +12,5 @@ returns-in_err-tokens g c =
 
 pub returns : goal.returns
 returns g c =
-    row_answers (answer_for g.T.Tree.reading) c.args.bytes.now (c.one_row.ensures.symbols c.args.bytes.now) (symbols_in c.in_ok-tokens.tokens.items) c.in_ok-tokens.ensures.found c.settle.result (rw c.as_slice.ensures.value at c.settle.ensures)
+    row_answers (answer_for g.T.Tree.reading) c.args.bytes.now (c.one_row.ensures.symbols c.args.bytes.now)
+    (symbols_in c.in_ok-tokens.tokens.items) c.in_ok-tokens.ensures.found c.settle.result (rw c.as_slice.ensures.value at c.settle.ensures)

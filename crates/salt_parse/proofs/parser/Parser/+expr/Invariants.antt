@@ -25,7 +25,8 @@ decreases-level_operand l = 12 * l.room + operand_rank l.level
 
 abbrev pub invariant-operation-loop-op : goal.invariant-operation-loop-op
 invariant-operation-loop-op l = record {
-  tail : IsTail (level_precedence l.level) (operand_at l.level (within_at l.room)) (built_of l.left) l.self (level_at l.level (within_at l.room) l.fn.self.flags l.fn.self.left);
+  tail : IsTail (level_precedence l.level) (operand_at l.level (within_at l.room)) (built_of l.left) l.self
+      (level_at l.level (within_at l.room) l.fn.self.flags l.fn.self.left);
   shorter : length l.self.left < length l.fn.self.left;
 }
 
@@ -34,6 +35,7 @@ decreases-operation-loop-op l = length l.self.left
 
 abbrev pub invariant-negation-loop : goal.invariant-negation-loop
 invariant-negation-loop l = record {
-  so_far : negations (l.nots - l.counter) (built_of l.inside, l.self.flags, l.self.left) ≡ negations l.nots (built_of l.initial.inside, l.initial.self.flags, l.initial.self.left);
+  so_far : negations (l.nots - l.counter) (built_of l.inside, l.self.flags, l.self.left) ≡ negations l.nots
+      (built_of l.initial.inside, l.initial.self.flags, l.initial.self.left);
   stays : l.self.left ≡ l.initial.self.left;
 }

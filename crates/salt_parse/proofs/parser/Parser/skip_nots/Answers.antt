@@ -8,14 +8,17 @@ use Rattle.salt_parse.proofs.parser.Parser.skip_nots.Goals as goal
 
 pub loop-nots-preserved : goal.loop-nots-preserved
 loop-nots-preserved c = record {
-  so_far = λ operand f. nots_more operand f c.loop-nots.nots _ c.loop-nots.self.left c.skip_key.new.self.left c.loop-nots-test.ensures.reads (c.loop-nots.invariant.so_far operand f);
+  so_far = λ operand f. nots_more operand f c.loop-nots.nots _ c.loop-nots.self.left c.skip_key.new.self.left c.loop-nots-test.ensures.reads
+      (c.loop-nots.invariant.so_far operand f);
   flags = c.loop-nots-test.ensures.flags ∙ c.loop-nots.invariant.flags;
   taken = omega (arith, c.loop-nots-test.ensures.shrinks, c.loop-nots.invariant.taken);
 }
 
 pub returns-clause-reads : goal.returns-clause-reads
 returns-clause-reads c = λ operand f.
-    c.loop-nots.invariant.so_far operand f ∙ ap (under_nots c.loop-nots.nots) (nots_stop operand f c.loop-nots.self.left c.loop-nots-test.ensures.reads ∙ ap (λ s. operand f s.left) (sym (c.loop-nots-test.ensures.stays refl)))
+    c.loop-nots.invariant.so_far operand f
+    ∙ ap (under_nots c.loop-nots.nots)
+    (nots_stop operand f c.loop-nots.self.left c.loop-nots-test.ensures.reads ∙ ap (λ s. operand f s.left) (sym (c.loop-nots-test.ensures.stays refl)))
 
 pub overflow_add-nots : goal.overflow_add-nots
 overflow_add-nots c =
