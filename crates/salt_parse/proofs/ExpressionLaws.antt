@@ -1,15 +1,18 @@
 -- What is read is spelled so, and what is spelled so is read.
-use Rattle.std.proofs.Common.{◌≡◌, ℕ, zero, suc, ◌<◌, ◌≤◌, Bool, true, false, cond, eqb, [], ◌∷◌, ◌++◌, length, Option, Some, None, refl, sym, ap, subst, ◌∙◌, append_assoc, arith, length-append}
+use Rattle.std.proofs.Common.{◌≡◌, ℕ, zero, suc, ◌<◌, ◌≤◌, Bool, true, false, cond, eqb, [], ◌∷◌, ◌++◌, length, Option, Some, None, refl, sym, ap}
+use Rattle.std.proofs.Common.{subst, ◌∙◌, append_assoc, arith, length-append}
 use Rattle.std.proofs.lemmas.Bool.{eq-eqb, eqb-true}
 use Rattle.std.proofs.lemmas.List.{append-nil}
-use Rattle.salt_ast.specs.Grammar.{Atom, Comparison, Conjunction, Expression, Left, Negation, Nots, Once, Product, Sum, Within, alone, colon, literal, minus_int, more, named, not, one, pair, paren, plain, plus_int}
+use Rattle.salt_ast.specs.Grammar.{Atom, Comparison, Conjunction, Expression, Left, Negation, Nots, Once, Product, Sum, Within, alone, colon, literal}
+use Rattle.salt_ast.specs.Grammar.{minus_int, more, named, not, one, pair, paren, plain, plus_int}
 use Rattle.salt_ast.specs.Operators.{operator, precedence}
 use Rattle.salt_ast.specs.Trees.{negation, operation}
 use Rattle.salt_ast.specs.declared.trees.Expr.{Expr}
 use Rattle.salt_ast.specs.declared.trees.Op.{Op}
 use Rattle.salt_parse.specs.Reading.{after, at_operator, is_same, next_operator, of_level}
 use Rattle.salt_parse.proofs.Loop.{after_is}
-use Rattle.salt_parse.proofs.Trees.{TreeReader, atom_of, colon_of, comparison_of, conjunction_of, expression_of, left_of, minus_of, negation_of, nots_of, once_of, paren_of, product_of, second_of, sum_of, tail_of, within_of}
+use Rattle.salt_parse.proofs.Trees.{TreeReader, atom_of, colon_of, comparison_of, conjunction_of, expression_of, left_of, minus_of, negation_of}
+use Rattle.salt_parse.proofs.Trees.{nots_of, once_of, paren_of, product_of, second_of, sum_of, tail_of, within_of}
 use Rattle.salt_tokens.specs.Scanning.{◌>>=◌}
 use Rattle.salt_tokens.specs.Symbols.{Symbols, Symbol, int, key, name, sign, text}
 use Rattle.salt_tokens.specs.declared.keyword.Keyword.{Keyword}
@@ -17,24 +20,31 @@ use Rattle.salt_tokens.specs.declared.keyword.Keyword.TheVariants as word
 use Rattle.salt_tokens.specs.declared.sign.Sign.TheVariants as mark
 
 -- one step, by what the next token stands for
-pub tail_step : (level : ℕ) (operand : TreeReader Expr) (n : ℕ) (l : Expr) (rest rest1 : Symbols) (o : Op) → next_operator level rest ≡ (Some o, rest1) → (length rest ≡ suc (length rest1)) × (tail_of level operand (suc n) l rest ≡ (operand rest1 >>= λ x. tail_of level operand n (operation o l x.0) x.1))
+pub tail_step : (level : ℕ) (operand : TreeReader Expr) (n : ℕ) (l : Expr) (rest rest1 : Symbols) (o : Op) →
+    next_operator level rest ≡ (Some o, rest1) →
+    (length rest ≡ suc (length rest1)) × (tail_of level operand (suc n) l rest ≡ (operand rest1 >>= λ x. tail_of level operand n (operation o l x.0) x.1))
 unfolding tail_of
 tail_step level operand n l [] rest1 o h = absurd (cc (ap (λ (p : Option Op × Symbols). p.0) h))
 tail_step level operand n l (t ∷ ts) rest1 o h = go (of_level level (operator t)) h
   where
-    go : (q : Option Op) → at_operator {A = Option Op × Symbols} q (None, t ∷ ts) (λ o. (Some o, ts)) ≡ (Some o, rest1) → (suc (length ts) ≡ suc (length rest1)) × (at_operator q (Some (l, t ∷ ts)) (λ o. operand ts >>= λ x. tail_of level operand n (operation o l x.0) x.1) ≡ (operand rest1 >>= λ x. tail_of level operand n (operation o l x.0) x.1))
+    go : (q : Option Op) → at_operator {A = Option Op × Symbols} q (None, t ∷ ts) (λ o. (Some o, ts)) ≡ (Some o, rest1) →
+        (suc (length ts) ≡ suc (length rest1)) ×
+        (at_operator q (Some (l, t ∷ ts)) (λ o. operand ts >>= λ x. tail_of level operand n (operation o l x.0) x.1) ≡
+        (operand rest1 >>= λ x. tail_of level operand n (operation o l x.0) x.1))
     go None e = absurd (cc (ap (λ (p : Option Op × Symbols). p.0) e))
     go (Some p) e =
         let same : ts ≡ rest1 = ap (λ (p : Option Op × Symbols). p.1) e in
         let the_op : p ≡ o = cc (ap (λ (p : Option Op × Symbols). p.0) e) in
         (ap (λ (x : Symbols). suc (length x)) same, rw (the_op, same) refl)
 
-pub tail_stop : (level : ℕ) (operand : TreeReader Expr) (n : ℕ) (l : Expr) (rest rest1 : Symbols) → next_operator level rest ≡ (None, rest1) → tail_of level operand (suc n) l rest ≡ Some (l, rest1)
+pub tail_stop : (level : ℕ) (operand : TreeReader Expr) (n : ℕ) (l : Expr) (rest rest1 : Symbols) → next_operator level rest ≡ (None, rest1) →
+    tail_of level operand (suc n) l rest ≡ Some (l, rest1)
 unfolding tail_of
 tail_stop level operand n l [] rest1 h = ap (λ (p : Option Op × Symbols). Some (l, p.1)) h
 tail_stop level operand n l (t ∷ ts) rest1 h = go (of_level level (operator t)) h
   where
-    go : (q : Option Op) → at_operator {A = Option Op × Symbols} q (None, t ∷ ts) (λ o. (Some o, ts)) ≡ (None, rest1) → at_operator q (Some (l, t ∷ ts)) (λ o. operand ts >>= λ x. tail_of level operand n (operation o l x.0) x.1) ≡ Some (l, rest1)
+    go : (q : Option Op) → at_operator {A = Option Op × Symbols} q (None, t ∷ ts) (λ o. (Some o, ts)) ≡ (None, rest1) →
+        at_operator q (Some (l, t ∷ ts)) (λ o. operand ts >>= λ x. tail_of level operand n (operation o l x.0) x.1) ≡ Some (l, rest1)
     go None e = ap (λ (p : Option Op × Symbols). Some (l, p.1)) e
     go (Some p) e = absurd (cc (ap (λ (p : Option Op × Symbols). p.0) e))
 
@@ -103,7 +113,8 @@ next-at level t ts o e lv =
 
 next-stops : (level : ℕ) (ts : Symbols) → Stops level ts → next_operator level ts ≡ (None, ts)
 next-stops level [] h = refl
-next-stops level (t ∷ ts) h = ap (λ (q : Option Op). at_operator {A = Option Op × Symbols} q (None, t ∷ ts) (λ o. (Some o, ts))) (of_level-below level (operator t) h)
+next-stops level (t ∷ ts) h = ap (λ (q : Option Op). at_operator {A = Option Op × Symbols} q (None, t ∷ ts) (λ o. (Some o, ts)))
+    (of_level-below level (operator t) h)
 
 second_stops : (level : ℕ) (read : TreeReader Expr) (l : Expr) (ts : Symbols) → Stops level ts → second_of level read l ts ≡ Some (l, ts)
 second_stops level read l [] h = refl
@@ -125,12 +136,16 @@ module _ (level : ℕ) (G : Symbols → Expr → Type 0) (read : TreeReader Expr
   tail_enough (suc n) (suc m) l [] a b = refl
   tail_enough (suc n) (suc m) l (t ∷ ts) a b = go (of_level level (operator t)) (read ts) refl (λ l' ts' p q. tail_enough n m l' ts' p q)
     where
-      go : (q : Option Op) (r : Option (Expr × Symbols)) → read ts ≡ r → ((l' : Expr) (ts' : Symbols) → length ts' < n → length ts' < m → tail_of level read n l' ts' ≡ tail_of level read m l' ts') → at_operator q (Some (l, t ∷ ts)) (λ o. r >>= λ x. tail_of level read n (operation o l x.0) x.1) ≡ at_operator q (Some (l, t ∷ ts)) (λ o. r >>= λ x. tail_of level read m (operation o l x.0) x.1)
+      go : (q : Option Op) (r : Option (Expr × Symbols)) → read ts ≡ r →
+          ((l' : Expr) (ts' : Symbols) → length ts' < n → length ts' < m → tail_of level read n l' ts' ≡ tail_of level read m l' ts') →
+          at_operator q (Some (l, t ∷ ts)) (λ o. r >>= λ x. tail_of level read n (operation o l x.0) x.1) ≡ at_operator q (Some (l, t ∷ ts))
+          (λ o. r >>= λ x. tail_of level read m (operation o l x.0) x.1)
       go None r e ih = refl
       go (Some o) None e ih = refl
       go (Some o) (Some x) e ih = let le = shrinks ts x.0 x.1 e in ih (operation o l x.0) x.1 (omega arith) (omega arith)
 
-  left_continues : Complete (suc level) G read → {ts : Symbols} {e : Expr} (rest : Symbols) → Left level G ts e → Stops (suc level) rest → left_of level read (ts ++ rest) ≡ tail_of level read (suc (length rest)) e rest
+  left_continues : Complete (suc level) G read → {ts : Symbols} {e : Expr} (rest : Symbols) → Left level G ts e → Stops (suc level) rest →
+      left_of level read (ts ++ rest) ≡ tail_of level read (suc (length rest)) e rest
   unfolding left_of
   left_continues c {ts} {e} rest (one g) st = rw (c ts rest e g st) refl
   left_continues c rest (more {a = a} {b = b} {o = o} {l = l} {r = r} d t eq lv g) st =
@@ -141,13 +156,15 @@ module _ (level : ℕ) (G : Symbols → Expr → Type 0) (read : TreeReader Expr
       let step = (tail_step level read (length (t ∷ tail)) l (t ∷ tail) tail o (next-at level t tail o eq lv)).1 in
       let operand : read tail ≡ Some (r, rest) = c b rest r g st in
       let long = length-append b rest in
-      ap (left_of level read) regroup ∙ ih ∙ step ∙ rw operand (tail_enough (length (t ∷ tail)) (suc (length rest)) (operation o l r) rest (omega (arith, long)) (omega arith))
+      ap (left_of level read) regroup ∙ ih ∙ step
+      ∙ rw operand (tail_enough (length (t ∷ tail)) (suc (length rest)) (operation o l r) rest (omega (arith, long)) (omega arith))
 
   pub left_complete : Complete (suc level) G read → Complete level (Left level G) (left_of level read)
   left_complete c ts rest e d st =
       left_continues c rest d (Stops-weaker level (suc level) rest (omega arith) st) ∙ tail_stop level read (length rest) e rest rest (next-stops level rest st)
 
-  tail_sound : (n : ℕ) (front : Symbols) (l : Expr) (ts : Symbols) (e : Expr) (rest : Symbols) → Left level G front l → tail_of level read n l ts ≡ Some (e, rest) → (more : Symbols) × (ts ≡ more ++ rest) × Left level G (front ++ more) e
+  tail_sound : (n : ℕ) (front : Symbols) (l : Expr) (ts : Symbols) (e : Expr) (rest : Symbols) → Left level G front l →
+      tail_of level read n l ts ≡ Some (e, rest) → (more : Symbols) × (ts ≡ more ++ rest) × Left level G (front ++ more) e
   unfolding tail_of
   tail_sound zero front l ts e rest d h = absurd cc
   tail_sound (suc n) front l [] e rest d h =
@@ -156,7 +173,11 @@ module _ (level : ℕ) (G : Symbols → Expr → Type 0) (read : TreeReader Expr
       ([], ap (λ (x : Expr × Symbols). x.1) p, rw (append-nil front, ← same) d)
   tail_sound (suc n) front l (t ∷ ts) e rest d h = go (of_level level (operator t)) refl (λ front' l' ts' d' h'. tail_sound n front' l' ts' e rest d' h') h
     where
-      go : (q : Option Op) → of_level level (operator t) ≡ q → ((front' : Symbols) (l' : Expr) (ts' : Symbols) → Left level G front' l' → tail_of level read n l' ts' ≡ Some (e, rest) → (more : Symbols) × (ts' ≡ more ++ rest) × Left level G (front' ++ more) e) → at_operator q (Some (l, t ∷ ts)) (λ o. read ts >>= λ x. tail_of level read n (operation o l x.0) x.1) ≡ Some (e, rest) → (more : Symbols) × (t ∷ ts ≡ more ++ rest) × Left level G (front ++ more) e
+      go : (q : Option Op) → of_level level (operator t) ≡ q →
+          ((front' : Symbols) (l' : Expr) (ts' : Symbols) → Left level G front' l' → tail_of level read n l' ts' ≡ Some (e, rest) →
+          (more : Symbols) × (ts' ≡ more ++ rest) × Left level G (front' ++ more) e) →
+          at_operator q (Some (l, t ∷ ts)) (λ o. read ts >>= λ x. tail_of level read n (operation o l x.0) x.1) ≡ Some (e, rest) →
+          (more : Symbols) × (t ∷ ts ≡ more ++ rest) × Left level G (front ++ more) e
       go None k ih h =
           let p = some_is (l, t ∷ ts) (e, rest) h in
           let same : l ≡ e = ap (λ (x : Expr × Symbols). x.0) p in
@@ -165,8 +186,11 @@ module _ (level : ℕ) (G : Symbols → Expr → Type 0) (read : TreeReader Expr
           let is = of_level-is level (operator t) o k in
           let b = bind_some (read ts) (λ x. tail_of level read n (operation o l x.0) x.1) (e, rest) h in
           let s = sound ts b.0.0 b.0.1 b.1 in
-          let r = ih (front ++ t ∷ s.0) (operation o l b.0.0) b.0.1 (more d t is.0 is.1 s.2) b.2 in
-          (t ∷ (s.0 ++ r.0), ap (λ (x : Symbols). t ∷ x) (s.1 ∙ ap (λ (x : Symbols). s.0 ++ x) r.1 ∙ sym (append_assoc s.0 r.0 rest)), rw (← append_assoc front (t ∷ s.0) r.0) r.2)
+          let r = ih (front ++ t ∷ s.0) (operation o l b.0.0) b.0.1 (more d t is.0 is.1 s.2) b.2 in (
+            t ∷ (s.0 ++ r.0),
+            ap (λ (x : Symbols). t ∷ x) (s.1 ∙ ap (λ (x : Symbols). s.0 ++ x) r.1 ∙ sym (append_assoc s.0 r.0 rest)),
+            rw (← append_assoc front (t ∷ s.0) r.0) r.2,
+          )
 
   pub left_sound : Sound (Left level G) (left_of level read)
   unfolding left_of
@@ -188,13 +212,16 @@ module _ (level : ℕ) (G : Symbols → Expr → Type 0) (read : TreeReader Expr
       s : (front : Symbols) × (ts ≡ front ++ b.0.1) × G front b.0.0
       s = sound ts b.0.0 b.0.1 b.1
 
-      finish : (us : Symbols) (front : Symbols) → ts ≡ front ++ us → G front b.0.0 → second_of level read b.0.0 us ≡ Some (e, rest) → (whole : Symbols) × (ts ≡ whole ++ rest) × Once level G whole e
+      finish : (us : Symbols) (front : Symbols) → ts ≡ front ++ us → G front b.0.0 → second_of level read b.0.0 us ≡ Some (e, rest) →
+          (whole : Symbols) × (ts ≡ whole ++ rest) × Once level G whole e
       finish [] front is g k =
           let p = some_is (b.0.0, []) (e, rest) k in
           (front, is ∙ ap (λ (x : Expr × Symbols). front ++ x.1) p, at_tree (Once level G) _ _ (e, rest) p (alone g))
       finish (t ∷ us) front is g k = go (of_level level (operator t)) refl k
         where
-          go : (q : Option Op) → of_level level (operator t) ≡ q → at_operator {A = Option (Expr × Symbols)} q (Some (b.0.0, t ∷ us)) (λ o. read us >>= λ x. Some (operation o b.0.0 x.0, x.1)) ≡ Some (e, rest) → (whole : Symbols) × (ts ≡ whole ++ rest) × Once level G whole e
+          go : (q : Option Op) → of_level level (operator t) ≡ q →
+              at_operator {A = Option (Expr × Symbols)} q (Some (b.0.0, t ∷ us)) (λ o. read us >>= λ x. Some (operation o b.0.0 x.0, x.1)) ≡ Some
+              (e, rest) → (whole : Symbols) × (ts ≡ whole ++ rest) × Once level G whole e
           go None j k =
               let p = some_is (b.0.0, t ∷ us) (e, rest) k in
               (front, is ∙ ap (λ (x : Expr × Symbols). front ++ x.1) p, at_tree (Once level G) _ _ (e, rest) p (alone g))
@@ -203,7 +230,8 @@ module _ (level : ℕ) (G : Symbols → Expr → Type 0) (read : TreeReader Expr
               let b2 = bind_some (read us) (λ x. Some (operation o b.0.0 x.0, x.1)) (e, rest) k in
               let s2 = sound us b2.0.0 b2.0.1 b2.1 in
               let p = some_is (operation o b.0.0 b2.0.0, b2.0.1) (e, rest) b2.2 in
-              let parts : ts ≡ (front ++ t ∷ s2.0) ++ rest = is ∙ ap (λ (x : Symbols). front ++ t ∷ x) (s2.1 ∙ ap (λ (x : Expr × Symbols). s2.0 ++ x.1) p) ∙ sym (append_assoc front (t ∷ s2.0) rest) in
+              let parts : ts ≡ (front ++ t ∷ s2.0) ++ rest = is
+              ∙ ap (λ (x : Symbols). front ++ t ∷ x) (s2.1 ∙ ap (λ (x : Expr × Symbols). s2.0 ++ x.1) p) ∙ sym (append_assoc front (t ∷ s2.0) rest) in
               (front ++ t ∷ s2.0, parts, at_tree (Once level G) _ _ (e, rest) p (pair g t op.0 op.1 s2.2))
 
   pub once_complete : Complete (suc level) G read → Complete level (Once level G) (once_of level read)
@@ -231,7 +259,8 @@ module _ (G : Symbols → Expr → Type 0) (read : TreeReader Expr) where
   nots_sound s ts e rest h = let r = s ts e rest h in (r.0, r.1, plain r.2)
 
   -- no `not` begins an operand
-  pub nots_complete : (level : ℕ) → ((ts rest : Symbols) (e : Expr) → G ts e → nots_of read (ts ++ rest) ≡ read (ts ++ rest)) → Complete level G read → Complete level (Nots G) (nots_of read)
+  pub nots_complete : (level : ℕ) → ((ts rest : Symbols) (e : Expr) → G ts e → nots_of read (ts ++ rest) ≡ read (ts ++ rest)) →
+      Complete level G read → Complete level (Nots G) (nots_of read)
   unfolding nots_of
   nots_complete level other c ts rest e (plain g) st = other ts rest e g ∙ c ts rest e g st
   nots_complete level other c _ rest _ (not {ts = ts} {e = e} d) st = rw (nots_complete level other c ts rest e d st) refl
@@ -239,22 +268,28 @@ module _ (G : Symbols → Expr → Type 0) (read : TreeReader Expr) where
 -- ---- atoms
 
 module _ (Inner : Symbols → Expr → Type 0) (read : TreeReader Expr) where
-  paren_sound : Sound Inner read → (ts : Symbols) (e : Expr) (rest : Symbols) → paren_of read ts ≡ Some (e, rest) → (front : Symbols) × (sign mark.Open ∷ ts ≡ front ++ rest) × Atom Inner front e
+  paren_sound : Sound Inner read → (ts : Symbols) (e : Expr) (rest : Symbols) → paren_of read ts ≡ Some (e, rest) →
+      (front : Symbols) × (sign mark.Open ∷ ts ≡ front ++ rest) × Atom Inner front e
   paren_sound s ts e rest h =
       let b = bind_some (read ts) (λ x. after (sign mark.Close) x.1 >>= λ us. Some (x.0, us)) (e, rest) h in
       let r = s ts b.0.0 b.0.1 b.1 in
       let k = bind_some (after (sign mark.Close) b.0.1) (λ us. Some (b.0.0, us)) (e, rest) b.2 in
       let p = some_is (b.0.0, k.0) (e, rest) k.2 in
-      let is : b.0.1 ≡ sign mark.Close ∷ rest = after_is (sign mark.Close) b.0.1 k.0 k.1 ∙ ap (λ (x : Expr × Symbols). sign mark.Close ∷ x.1) p in
-      (sign mark.Open ∷ (r.0 ++ sign mark.Close ∷ []), ap (λ (x : Symbols). sign mark.Open ∷ x) (r.1 ∙ ap (λ (x : Symbols). r.0 ++ x) is ∙ sym (append_assoc r.0 (sign mark.Close ∷ []) rest)), at_tree (Atom Inner) _ _ (e, rest) p (paren r.2))
+      let is : b.0.1 ≡ sign mark.Close ∷ rest = after_is (sign mark.Close) b.0.1 k.0 k.1 ∙ ap (λ (x : Expr × Symbols). sign mark.Close ∷ x.1) p in (
+        sign mark.Open ∷ (r.0 ++ sign mark.Close ∷ []),
+        ap (λ (x : Symbols). sign mark.Open ∷ x) (r.1 ∙ ap (λ (x : Symbols). r.0 ++ x) is ∙ sym (append_assoc r.0 (sign mark.Close ∷ []) rest)),
+        at_tree (Atom Inner) _ _ (e, rest) p (paren r.2),
+      )
 
-  minus_sound : (ts : Symbols) (e : Expr) (rest : Symbols) → minus_of ts ≡ Some (e, rest) → (front : Symbols) × (sign mark.Minus ∷ ts ≡ front ++ rest) × Atom Inner front e
+  minus_sound : (ts : Symbols) (e : Expr) (rest : Symbols) → minus_of ts ≡ Some (e, rest) →
+      (front : Symbols) × (sign mark.Minus ∷ ts ≡ front ++ rest) × Atom Inner front e
   minus_sound (int n ∷ ts) e rest h =
       let p = some_is _ (e, rest) h in
       (sign mark.Minus ∷ int n ∷ [], ap (λ (x : Expr × Symbols). sign mark.Minus ∷ int n ∷ x.1) p, at_tree (Atom Inner) _ _ (e, rest) p minus_int)
   minus_sound _ e rest h = absurd cc
 
-  variable_sound : (ts : Symbols) (e : Expr) (rest : Symbols) → colon_of ts ≡ Some (e, rest) → (front : Symbols) × (sign mark.Colon ∷ ts ≡ front ++ rest) × Atom Inner front e
+  variable_sound : (ts : Symbols) (e : Expr) (rest : Symbols) → colon_of ts ≡ Some (e, rest) →
+      (front : Symbols) × (sign mark.Colon ∷ ts ≡ front ++ rest) × Atom Inner front e
   variable_sound (name n ∷ ts) e rest h =
       let p = some_is _ (e, rest) h in
       (sign mark.Colon ∷ name n ∷ [], ap (λ (x : Expr × Symbols). sign mark.Colon ∷ name n ∷ x.1) p, at_tree (Atom Inner) _ _ (e, rest) p colon)
@@ -285,7 +320,8 @@ module _ (Inner : Symbols → Expr → Type 0) (read : TreeReader Expr) where
   atom_complete level c _ rest _ colon st = refl
   atom_complete level c _ rest _ (paren {ts = ts} {e = e} d) st =
       let stops : Stops 1 (sign mark.Close ∷ rest) = λ o h. absurd cc in
-      let inside : read ((ts ++ sign mark.Close ∷ []) ++ rest) ≡ Some (e, sign mark.Close ∷ rest) = ap read (append_assoc ts (sign mark.Close ∷ []) rest) ∙ c ts (sign mark.Close ∷ rest) e d stops in
+      let inside : read ((ts ++ sign mark.Close ∷ []) ++ rest) ≡ Some (e, sign mark.Close ∷ rest) = ap read
+      (append_assoc ts (sign mark.Close ∷ []) rest) ∙ c ts (sign mark.Close ∷ rest) e d stops in
       rw inside refl
 
 -- ---- the keywords that no operand begins with
@@ -314,23 +350,29 @@ atom_begins k named = refl
 atom_begins k colon = refl
 atom_begins k (paren d) = refl
 
-left_begins : (k : Keyword) (level : ℕ) (G : Symbols → Expr → Type 0) → ((ts : Symbols) (e : Expr) → G ts e → Begins k ts) → {ts : Symbols} {e : Expr} → Left level G ts e → Begins k ts
+left_begins : (k : Keyword) (level : ℕ) (G : Symbols → Expr → Type 0) → ((ts : Symbols) (e : Expr) → G ts e → Begins k ts) →
+    {ts : Symbols} {e : Expr} → Left level G ts e → Begins k ts
 left_begins k level G b {ts} {e} (one g) = b ts e g
 left_begins k level G b (more {a = a} {b = rest} d t eq lv g) = Begins-append k a (t ∷ rest) (left_begins k level G b d)
 
-once_begins : (k : Keyword) (level : ℕ) (G : Symbols → Expr → Type 0) → ((ts : Symbols) (e : Expr) → G ts e → Begins k ts) → {ts : Symbols} {e : Expr} → Once level G ts e → Begins k ts
+once_begins : (k : Keyword) (level : ℕ) (G : Symbols → Expr → Type 0) → ((ts : Symbols) (e : Expr) → G ts e → Begins k ts) →
+    {ts : Symbols} {e : Expr} → Once level G ts e → Begins k ts
 once_begins k level G b {ts} {e} (alone g) = b ts e g
 once_begins k level G b (pair {a = a} {b = rest} {l = l} g t eq lv g2) = Begins-append k a (t ∷ rest) (b a l g)
 
-nots_begins : (k : Keyword) (G : Symbols → Expr → Type 0) → is_same (key word.Not) (key k) ≡ false → ((ts : Symbols) (e : Expr) → G ts e → Begins k ts) → {ts : Symbols} {e : Expr} → Nots G ts e → Begins k ts
+nots_begins : (k : Keyword) (G : Symbols → Expr → Type 0) → is_same (key word.Not) (key k) ≡ false →
+    ((ts : Symbols) (e : Expr) → G ts e → Begins k ts) → {ts : Symbols} {e : Expr} → Nots G ts e → Begins k ts
 nots_begins k G n b {ts} {e} (plain g) = b ts e g
 nots_begins k G n b (not d) = n
 
 comparison_begins : (k : Keyword) (Inner : Symbols → Expr → Type 0) (ts : Symbols) (e : Expr) → Comparison Inner ts e → Begins k ts
-comparison_begins k Inner ts e d = once_begins k 3 (Sum Inner) (λ ts e d. left_begins k 4 (Product Inner) (λ ts e d. left_begins k 5 (Atom Inner) (λ ts e d. atom_begins k d) d) d) d
+comparison_begins k Inner ts e d = once_begins k 3 (Sum Inner)
+    (λ ts e d. left_begins k 4 (Product Inner) (λ ts e d. left_begins k 5 (Atom Inner) (λ ts e d. atom_begins k d) d) d) d
 
-pub expression_begins : (k : Keyword) → is_same (key word.Not) (key k) ≡ false → (Inner : Symbols → Expr → Type 0) (ts : Symbols) (e : Expr) → Expression Inner ts e → Begins k ts
-expression_begins k n Inner ts e d = left_begins k 1 (Conjunction Inner) (λ ts e d. left_begins k 2 (Negation Inner) (λ ts e d. nots_begins k (Comparison Inner) n (comparison_begins k Inner) d) d) d
+pub expression_begins : (k : Keyword) → is_same (key word.Not) (key k) ≡ false → (Inner : Symbols → Expr → Type 0) (ts : Symbols) (e : Expr) →
+    Expression Inner ts e → Begins k ts
+expression_begins k n Inner ts e d = left_begins k 1 (Conjunction Inner)
+    (λ ts e d. left_begins k 2 (Negation Inner) (λ ts e d. nots_begins k (Comparison Inner) n (comparison_begins k Inner) d) d) d
 
 -- ---- the levels together
 
@@ -364,7 +406,9 @@ module _ (Inner : Symbols → Expr → Type 0) (read : TreeReader Expr) (s : Sou
     comparison_complete = once_complete 3 (Sum Inner) (sum_of read) sum_sound sum_complete
 
     negation_complete : Complete 3 (Negation Inner) (negation_of read)
-    negation_complete = nots_complete (Comparison Inner) (comparison_of read) 3 (λ ts rest e d. Begins-nots (comparison_of read) (ts ++ rest) (Begins-append word.Not ts rest (comparison_begins word.Not Inner ts e d))) comparison_complete
+    negation_complete = nots_complete (Comparison Inner) (comparison_of read) 3
+        (λ ts rest e d. Begins-nots (comparison_of read) (ts ++ rest) (Begins-append word.Not ts rest (comparison_begins word.Not Inner ts e d)))
+        comparison_complete
 
     pub conjunction_complete : Complete 2 (Conjunction Inner) (conjunction_of read)
     conjunction_complete = left_complete 2 (Negation Inner) (negation_of read) negation_sound negation_complete

@@ -1,4 +1,5 @@
 pub mod ExpressionLaws
+pub mod Levels
 pub mod Listing
 pub mod Loop
 pub mod Mirror

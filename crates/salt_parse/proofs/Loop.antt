@@ -1,11 +1,14 @@
 -- Reading operands and operations one after the other, as a loop does.
-use Rattle.std.proofs.Common.{◌≡◌, ◌≢◌, ℕ, zero, suc, ◌+◌, ◌-◌, ◌<◌, ◌≤◌, Bool, true, false, cond, [], ◌∷◌, length, Option, Some, None, refl, sym, ap, ◌∙◌, arith, add-one, sub-one}
+use Rattle.std.proofs.Common.{◌≡◌, ◌≢◌, ℕ, zero, suc, ◌+◌, ◌-◌, ◌<◌, ◌≤◌, Bool, true, false, cond, [], ◌∷◌, length, Option, Some, None, refl, sym, ap}
+use Rattle.std.proofs.Common.{◌∙◌, arith, add-one, sub-one}
 use denote.Enum.Bare.{same_true}
 use Rattle.salt_ast.specs.Operators.{operator}
 use Rattle.salt_ast.specs.declared.trees.Op.{Op}
 use Rattle.salt_parse.specs.Answers.{Fails}
 use Rattle.salt_parse.specs.Flags.{BuiltTree, Flags, join_flags, join_tree}
-use Rattle.salt_parse.specs.Reading.{Read, Reader, after, at_operator, expression_at, is_same, left_at, negate, negations, next_operator, nots_at, of_level, tail_at, under_nots, within_at}
+use Rattle.salt_parse.specs.Parsing.{Parsing}
+use Rattle.salt_parse.specs.Reading.{Read, Reader, after, at_operator, expression_at, is_same, left_at, negate, negations, next_operator, nots_at}
+use Rattle.salt_parse.specs.Reading.{of_level, tail_at, under_nots, within_at}
 use Rattle.salt_parse.specs.declared.error.ParseErr.{ParseErr}
 use Rattle.salt_parse.specs.declared.error.ParseErr.TheVariants.{Limit, Memory, Syntax}
 use Rattle.salt_tokens.specs.Scanning.{◌>>=◌}
@@ -15,63 +18,90 @@ use Rattle.salt_tokens.specs.contracts.sign.Sign.{the_type as signs}
 use Rattle.salt_tokens.specs.declared.keyword.Keyword.TheVariants as word
 
 -- what was read, with what is still to be read, makes the whole
-pub record IsTail (level : ℕ) (operand : Reader BuiltTree) (left : BuiltTree) (f : Flags) (rest : Symbols) (total : Option (Read BuiltTree)) : Type 0 where
+pub record IsTail (level : ℕ) (operand : Reader BuiltTree) (left : BuiltTree) (p : Parsing) (total : Option (Read BuiltTree)) : Type 0 where
   pub fuel : ℕ
-  pub enough : length rest < fuel
-  pub so_far : tail_at level operand fuel left f rest ≡ total
+  pub enough : length p.left < fuel
+  pub so_far : tail_at level operand fuel left p.flags p.left ≡ total
 
-pub IsTail-starts : (level : ℕ) (operand : Reader BuiltTree) (f : Flags) (ts : Symbols) (l : BuiltTree) (g : Flags) (rest : Symbols) → operand f ts ≡ Some (l, g, rest) → IsTail level operand l g rest (left_at level operand f ts)
+pub IsTail-starts : (level : ℕ) (operand : Reader BuiltTree) (p q : Parsing) (l : BuiltTree) → operand p.flags p.left ≡ Some (l, q.flags, q.left) →
+    IsTail level operand l q (left_at level operand p.flags p.left)
 unfolding left_at
-IsTail-starts level operand f ts l g rest h = record { fuel = suc (length rest); enough = omega arith; so_far = rw h refl }
+IsTail-starts level operand p q l h = record { fuel = suc (length q.left); enough = omega arith; so_far = rw h refl }
 
 -- one step, by what the next token stands for
-pub tail_step : (level : ℕ) (operand : Reader BuiltTree) (n : ℕ) (l : BuiltTree) (f : Flags) (rest rest1 : Symbols) (o : Op) → next_operator level rest ≡ (Some o, rest1) → (length rest ≡ suc (length rest1)) × (tail_at level operand (suc n) l f rest ≡ (operand f rest1 >>= λ x. tail_at level operand n (join_tree o l x.0 x.1) (join_flags l x.0 x.1) x.2))
+pub tail_step : (level : ℕ) (operand : Reader BuiltTree) (n : ℕ) (l : BuiltTree) (f : Flags) (rest rest1 : Symbols) (o : Op) →
+    next_operator level rest ≡ (Some o, rest1) →
+    (length rest ≡ suc (length rest1)) ×
+    (tail_at level operand (suc n) l f rest ≡ (operand f rest1 >>= λ x. tail_at level operand n (join_tree o l x.0 x.1) (join_flags l x.0 x.1) x.2))
 unfolding tail_at
 tail_step level operand n l f [] rest1 o h = absurd (cc (ap (λ (p : Option Op × Symbols). p.0) h))
 tail_step level operand n l f (t ∷ ts) rest1 o h = go (of_level level (operator t)) h
   where
-    go : (q : Option Op) → at_operator {A = Option Op × Symbols} q (None, t ∷ ts) (λ o. (Some o, ts)) ≡ (Some o, rest1) → (suc (length ts) ≡ suc (length rest1)) × (at_operator {A = Option (Read BuiltTree)} q (Some (l, f, t ∷ ts)) (λ o. operand f ts >>= λ x. tail_at level operand n (join_tree o l x.0 x.1) (join_flags l x.0 x.1) x.2) ≡ (operand f rest1 >>= λ x. tail_at level operand n (join_tree o l x.0 x.1) (join_flags l x.0 x.1) x.2))
+    go : (q : Option Op) → at_operator {A = Option Op × Symbols} q (None, t ∷ ts) (λ o. (Some o, ts)) ≡ (Some o, rest1) →
+        (suc (length ts) ≡ suc (length rest1)) ×
+        (at_operator {A = Option (Read BuiltTree)} q (Some (l, f, t ∷ ts))
+        (λ o. operand f ts >>= λ x. tail_at level operand n (join_tree o l x.0 x.1) (join_flags l x.0 x.1) x.2) ≡
+        (operand f rest1 >>= λ x. tail_at level operand n (join_tree o l x.0 x.1) (join_flags l x.0 x.1) x.2))
     go None e = absurd (cc (ap (λ (p : Option Op × Symbols). p.0) e))
     go (Some p) e =
         let same : ts ≡ rest1 = ap (λ (p : Option Op × Symbols). p.1) e in
         let the_op : p ≡ o = cc (ap (λ (p : Option Op × Symbols). p.0) e) in
         (ap (λ (x : Symbols). suc (length x)) same, rw (the_op, same) refl)
 
-pub tail_stop : (level : ℕ) (operand : Reader BuiltTree) (n : ℕ) (l : BuiltTree) (f : Flags) (rest rest1 : Symbols) → next_operator level rest ≡ (None, rest1) → tail_at level operand (suc n) l f rest ≡ Some (l, f, rest1)
+pub tail_stop : (level : ℕ) (operand : Reader BuiltTree) (n : ℕ) (l : BuiltTree) (f : Flags) (rest rest1 : Symbols) →
+    next_operator level rest ≡ (None, rest1) → tail_at level operand (suc n) l f rest ≡ Some (l, f, rest1)
 unfolding tail_at
 tail_stop level operand n l f [] rest1 h = ap (λ (p : Option Op × Symbols). Some (l, f, p.1)) h
 tail_stop level operand n l f (t ∷ ts) rest1 h = go (of_level level (operator t)) h
   where
-    go : (q : Option Op) → at_operator {A = Option Op × Symbols} q (None, t ∷ ts) (λ o. (Some o, ts)) ≡ (None, rest1) → at_operator {A = Option (Read BuiltTree)} q (Some (l, f, t ∷ ts)) (λ o. operand f ts >>= λ x. tail_at level operand n (join_tree o l x.0 x.1) (join_flags l x.0 x.1) x.2) ≡ Some (l, f, rest1)
+    go : (q : Option Op) → at_operator {A = Option Op × Symbols} q (None, t ∷ ts) (λ o. (Some o, ts)) ≡ (None, rest1) →
+        at_operator {A = Option (Read BuiltTree)} q (Some (l, f, t ∷ ts))
+        (λ o. operand f ts >>= λ x. tail_at level operand n (join_tree o l x.0 x.1) (join_flags l x.0 x.1) x.2) ≡ Some (l, f, rest1)
     go None e = ap (λ (p : Option Op × Symbols). Some (l, f, p.1)) e
     go (Some p) e = absurd (cc (ap (λ (p : Option Op × Symbols). p.0) e))
 
-pub IsTail-goes_on : (level : ℕ) (operand : Reader BuiltTree) (l r : BuiltTree) (f g : Flags) (o : Op) (rest rest1 rest2 : Symbols) (total : Option (Read BuiltTree)) → IsTail level operand l f rest total → next_operator level rest ≡ (Some o, rest1) → operand f rest1 ≡ Some (r, g, rest2) → length rest2 ≤ length rest1 → IsTail level operand (join_tree o l r g) (join_flags l r g) rest2 total
-IsTail-goes_on level operand l r f g o rest rest1 rest2 total h next read shorter = go h.fuel h.enough h.so_far
+-- behind an operation and its right operand `r` stands `t`, where `l2` is the operation on `l` and `r`
+pub IsTail-goes_on : (level : ℕ) (operand : Reader BuiltTree) (l r l2 : BuiltTree) (p q s t : Parsing) (o : Op) (total : Option (Read BuiltTree)) →
+    IsTail level operand l p total → next_operator level p.left ≡ (Some o, q.left) → q.flags ≡ p.flags →
+    operand q.flags q.left ≡ Some (r, s.flags, s.left) → length s.left < length q.left → l2 ≡ join_tree o l r s.flags →
+    t.flags ≡ join_flags l r s.flags → t.left ≡ s.left → IsTail level operand l2 t total
+IsTail-goes_on level operand l r l2 p q s t o total h next same read shorter is_tree is_flags is_left = go h.fuel h.enough h.so_far
   where
-    go : (n : ℕ) → length rest < n → tail_at level operand n l f rest ≡ total → IsTail level operand (join_tree o l r g) (join_flags l r g) rest2 total
+    read_on : operand p.flags q.left ≡ Some (r, s.flags, s.left)
+    read_on = rw (← same) read
+
+    go : (n : ℕ) → length p.left < n → tail_at level operand n l p.flags p.left ≡ total → IsTail level operand l2 t total
     go zero lt e = absurd (omega arith)
     go (suc n) lt e =
-        let s = tail_step level operand n l f rest rest1 o next in
-        record { fuel = n; enough = omega (arith, s.0); so_far = (let one : tail_at level operand (suc n) l f rest ≡ tail_at level operand n (join_tree o l r g) (join_flags l r g) rest2 = s.1 ∙ rw read refl in sym one ∙ e) }
+        let step = tail_step level operand n l p.flags p.left q.left o next in
+        let one : tail_at level operand (suc n) l p.flags p.left ≡ tail_at level operand n (join_tree o l r s.flags)
+        (join_flags l r s.flags) s.left = step.1 ∙ rw read_on refl in
+        record { fuel = n; enough = omega (arith, step.0, ap length is_left); so_far = rw (is_tree, is_flags, is_left) (sym one ∙ e) }
 
-pub IsTail-ends : (level : ℕ) (operand : Reader BuiltTree) (l : BuiltTree) (f : Flags) (rest rest1 : Symbols) (total : Option (Read BuiltTree)) → IsTail level operand l f rest total → next_operator level rest ≡ (None, rest1) → total ≡ Some (l, f, rest1)
-IsTail-ends level operand l f rest rest1 total h next = go h.fuel h.enough h.so_far
+pub IsTail-ends : (level : ℕ) (operand : Reader BuiltTree) (l : BuiltTree) (p q : Parsing) (total : Option (Read BuiltTree)) →
+    IsTail level operand l p total → next_operator level p.left ≡ (None, q.left) → q.flags ≡ p.flags → total ≡ Some (l, q.flags, q.left)
+IsTail-ends level operand l p q total h next same = rw same (go h.fuel h.enough h.so_far)
   where
-    go : (n : ℕ) → length rest < n → tail_at level operand n l f rest ≡ total → total ≡ Some (l, f, rest1)
+    go : (n : ℕ) → length p.left < n → tail_at level operand n l p.flags p.left ≡ total → total ≡ Some (l, p.flags, q.left)
     go zero lt e = absurd (omega arith)
-    go (suc n) lt e = sym e ∙ tail_stop level operand n l f rest rest1 next
+    go (suc n) lt e = sym e ∙ tail_stop level operand n l p.flags p.left q.left next
 
-pub IsTail-fails : (level : ℕ) (operand : Reader BuiltTree) (l : BuiltTree) (f : Flags) (o : Op) (rest rest1 : Symbols) (err : ParseErr) (total : Option (Read BuiltTree)) → IsTail level operand l f rest total → next_operator level rest ≡ (Some o, rest1) → Fails err (operand f rest1) → Fails err total
-IsTail-fails level operand l f o rest rest1 Memory total h next read = tt
-IsTail-fails level operand l f o rest rest1 (Limit n) total h next read = read
-IsTail-fails level operand l f o rest rest1 Syntax total h next read = go h.fuel h.enough h.so_far
+pub IsTail-fails : (level : ℕ) (operand : Reader BuiltTree) (l : BuiltTree) (p q : Parsing) (o : Op) (err : ParseErr)
+    (total : Option (Read BuiltTree)) → IsTail level operand l p total → next_operator level p.left ≡ (Some o, q.left) → q.flags ≡ p.flags →
+    Fails err (operand q.flags q.left) → Fails err total
+IsTail-fails level operand l p q o Memory total h next same read = tt
+IsTail-fails level operand l p q o (Limit n) total h next same read = read
+IsTail-fails level operand l p q o Syntax total h next same read = go h.fuel h.enough h.so_far
   where
-    go : (n : ℕ) → length rest < n → tail_at level operand n l f rest ≡ total → total ≡ None
-    go zero lt e = absurd (omega arith)
-    go (suc n) lt e = sym e ∙ (tail_step level operand n l f rest rest1 o next).1 ∙ rw read refl
+    none : operand p.flags q.left ≡ None
+    none = rw (← same) read
 
-pub under_nots-goes_on : (operand : Reader BuiltTree) (f : Flags) (n : ℕ) (ts : Symbols) → under_nots n (nots_at operand f (key word.Not ∷ ts)) ≡ under_nots (n + 1) (nots_at operand f ts)
+    go : (n : ℕ) → length p.left < n → tail_at level operand n l p.flags p.left ≡ total → total ≡ None
+    go zero lt e = absurd (omega arith)
+    go (suc n) lt e = sym e ∙ (tail_step level operand n l p.flags p.left q.left o next).1 ∙ rw none refl
+
+pub under_nots-goes_on : (operand : Reader BuiltTree) (f : Flags) (n : ℕ) (ts : Symbols) →
+    under_nots n (nots_at operand f (key word.Not ∷ ts)) ≡ under_nots (n + 1) (nots_at operand f ts)
 unfolding nots_at
 under_nots-goes_on operand f n ts = rw add-one (go (nots_at operand f ts))
   where
@@ -94,8 +124,10 @@ after_is t (u ∷ ts) us h = go (is_same u t) refl h
     go true e k = let same : u ≡ t = is_same-true u t e in let others : ts ≡ us = cc k in cc
     go false e k = absurd cc
 
-pub nots_more : (operand : Reader BuiltTree) (f : Flags) (n : ℕ) (total : Option (Read BuiltTree)) (ts us : Symbols) → after (key word.Not) ts ≡ Some us → total ≡ under_nots n (nots_at operand f ts) → total ≡ under_nots (n + 1) (nots_at operand f us)
-nots_more operand f n total ts us h e = e ∙ ap (λ (r : Symbols). under_nots n (nots_at operand f r)) (after_is (key word.Not) ts us h) ∙ under_nots-goes_on operand f n us
+pub nots_more : (operand : Reader BuiltTree) (f : Flags) (n : ℕ) (total : Option (Read BuiltTree)) (ts us : Symbols) →
+    after (key word.Not) ts ≡ Some us → total ≡ under_nots n (nots_at operand f ts) → total ≡ under_nots (n + 1) (nots_at operand f us)
+nots_more operand f n total ts us h e = e ∙ ap (λ (r : Symbols). under_nots n (nots_at operand f r)) (after_is (key word.Not) ts us h)
+    ∙ under_nots-goes_on operand f n us
 
 pub nots_stop : (operand : Reader BuiltTree) (f : Flags) (ts : Symbols) → after (key word.Not) ts ≡ None → nots_at operand f ts ≡ operand f ts
 unfolding nots_at after
@@ -126,10 +158,6 @@ pub negations-ends : (n i : ℕ) (x total : Read BuiltTree) → n ≤ i → nega
 negations-ends n i x total le h =
     let k : n - i ≡ 0 = omega arith in
     rw k at h
-
--- the same under other names
-pub IsTail-named : (level : ℕ) (operand : Reader BuiltTree) (l l' : BuiltTree) (f f' : Flags) (rest rest' : Symbols) (total : Option (Read BuiltTree)) → l' ≡ l → f' ≡ f → rest' ≡ rest → IsTail level operand l f rest total → IsTail level operand l' f' rest' total
-IsTail-named level operand l l' f f' rest rest' total p q r h = record { fuel = h.fuel; enough = rw r h.enough; so_far = rw (p, q, r) h.so_far }
 
 pub same_read : (b b' : BuiltTree) (f f' : Flags) (ts ts' : Symbols) → b' ≡ b → f' ≡ f → ts' ≡ ts → ◌≡◌ {A = Read BuiltTree} (b', f', ts') (b, f, ts)
 same_read b b' f f' ts ts' p q r = rw (p, q, r) refl

@@ -1,5 +1,6 @@
 -- Reading with what is passed finds the trees that reading alone finds, notes what they pass, and builds them while nothing is passed.
-use Rattle.std.proofs.Common.{◌≡◌, ℕ, suc, zero, ◌+◌, ◌-◌, ◌^◌, max, min, pos, Bool, true, false, cond, not, ◌&&◌, ◌||◌, ltb, leb, List, [], ◌∷◌, length, Option, Some, None, refl, sym, ap, subst, ◌∙◌, arith}
+use Rattle.std.proofs.Common.{◌≡◌, ℕ, suc, zero, ◌+◌, ◌-◌, ◌^◌, max, min, pos, Bool, true, false, cond, not, ◌&&◌, ◌||◌, ltb, leb, List, [], ◌∷◌}
+use Rattle.std.proofs.Common.{length, Option, Some, None, refl, sym, ap, subst, ◌∙◌, arith}
 use Rattle.std.proofs.lemmas.Bool.Decides.{nat_tests}
 use Rattle.std.specs.List.{list_all}
 use Rattle.std.specs.Prelude.{is_none, neg_ℤ, ℤ}
@@ -12,10 +13,14 @@ use Rattle.salt_ast.specs.declared.limit.LimitName.{LimitName}
 use Rattle.salt_ast.specs.declared.limit.LimitName.TheVariants as limit
 use Rattle.salt_ast.specs.declared.trees.Expr.{Column, Expr, Variable}
 use Rattle.salt_ast.specs.declared.trees.Op.{Op}
-use Rattle.salt_parse.specs.Flags.{BuiltTree, Flags, clear, int_tree, join_flags, join_tree, kept, kept_name, negate_flags, negate_tree, note, signed, stand_in, text_tree}
+use Rattle.salt_parse.specs.Flags.{BuiltTree, Flags, clear, int_tree, join_flags, join_tree, kept, kept_name, negate_flags, negate_tree, note, signed}
+use Rattle.salt_parse.specs.Flags.{stand_in, text_tree}
 use Rattle.salt_parse.specs.Lists.{either}
-use Rattle.salt_parse.specs.Reading.{Read, Reader, after, at_operator, atom_at, colon_at, column_at, comparison_at, conjunction_at, expression_at, int_at, is_same, left_at, minus_at, name_flags, named_at, negate, negation_at, nots_at, of_level, once_at, paren_at, product_at, second_at, sum_at, tail_at, text_at, text_flags, within_at}
-use Rattle.salt_parse.proofs.Trees.{TreeReader, atom_of, colon_of, comparison_of, conjunction_of, expression_of, left_of, minus_of, negation_of, nots_of, once_of, paren_of, product_of, second_of, sum_of, tail_of, within_of}
+use Rattle.salt_parse.specs.Reading.{Read, Reader, after, at_operator, atom_at, colon_at, column_at, comparison_at, conjunction_at, expression_at}
+use Rattle.salt_parse.specs.Reading.{int_at, is_same, left_at, minus_at, name_flags, named_at, negate, negation_at, nots_at, of_level, once_at}
+use Rattle.salt_parse.specs.Reading.{paren_at, product_at, second_at, sum_at, tail_at, text_at, text_flags, within_at}
+use Rattle.salt_parse.proofs.Trees.{TreeReader, atom_of, colon_of, comparison_of, conjunction_of, expression_of, left_of, minus_of, negation_of}
+use Rattle.salt_parse.proofs.Trees.{nots_of, once_of, paren_of, product_of, second_of, sum_of, tail_of, within_of}
 use Rattle.salt_tokens.specs.Scanning.{◌>>=◌}
 use Rattle.salt_tokens.specs.Symbols.{Symbols, Symbol, int, key, name, sign, text}
 use Rattle.salt_tokens.specs.declared.keyword.Keyword.TheVariants as word
@@ -114,13 +119,17 @@ Agrees m Is f None (Some y) = ⊥
 Agrees m Is f (Some x) None = ⊥
 Agrees m Is f (Some x) (Some y) = Agree m Is f x y
 
-pub agrees_bind : {X A Y B : Type 0} (m : Marks A) (Is : Flags → X → A → Type 0) (n : Marks B) (Js : Flags → Y → B → Type 0) (f g : Flags) (r : Option (Read X)) (q : Option (A × Symbols)) (k : Read X → Option (Read Y)) (k' : A × Symbols → Option (B × Symbols)) → Agrees m Is g r q → ((x : X) (a : A) (us : Symbols) → Is (noted m g a) x a → ArePrintable us → Agrees n Js f (k (x, noted m g a, us)) (k' (a, us))) → Agrees n Js f (r >>= k) (q >>= k')
+pub agrees_bind : {X A Y B : Type 0} (m : Marks A) (Is : Flags → X → A → Type 0) (n : Marks B) (Js : Flags → Y → B → Type 0) (f g : Flags)
+    (r : Option (Read X)) (q : Option (A × Symbols)) (k : Read X → Option (Read Y)) (k' : A × Symbols → Option (B × Symbols)) → Agrees m Is g r q →
+    ((x : X) (a : A) (us : Symbols) → Is (noted m g a) x a → ArePrintable us → Agrees n Js f (k (x, noted m g a, us)) (k' (a, us))) →
+    Agrees n Js f (r >>= k) (q >>= k')
 agrees_bind m Is n Js f g None None k k' h c = tt
 agrees_bind m Is n Js f g None (Some y) k k' h c = absurd h
 agrees_bind m Is n Js f g (Some x) None k k' h c = absurd h
 agrees_bind {X} {A} {Y} {B} m Is n Js f g (Some x) (Some y) k k' h c = go x.0 x.1 x.2 y.0 y.1 h.left h.flags h.is h.printable
   where
-    go : (x : X) (e : Flags) (us : Symbols) (a : A) (vs : Symbols) → us ≡ vs → e ≡ noted m g a → Is e x a → ArePrintable vs → Agrees n Js f (k (x, e, us)) (k' (a, vs))
+    go : (x : X) (e : Flags) (us : Symbols) (a : A) (vs : Symbols) → us ≡ vs → e ≡ noted m g a → Is e x a → ArePrintable vs →
+        Agrees n Js f (k (x, e, us)) (k' (a, vs))
     go x e us a vs p q i pr = rw (p, q) (c x a vs (subst (λ (z : Flags). Is z x a) q i) pr)
 
 -- the rest behind what comes next
@@ -133,11 +142,16 @@ after_printable t (u ∷ ts) us p h = go (is_same u t) h
     go true k = let same : ts ≡ us = cc k in subst ArePrintable same p.1
     go false k = absurd cc
 
-pub agrees_after : {Y B : Type 0} (n : Marks B) (Js : Flags → Y → B → Type 0) (f : Flags) (o : Option Symbols) (k : Symbols → Option (Read Y)) (k' : Symbols → Option (B × Symbols)) → ((us : Symbols) → o ≡ Some us → ArePrintable us) → ((us : Symbols) → ArePrintable us → Agrees n Js f (k us) (k' us)) → Agrees n Js f (o >>= k) (o >>= k')
+pub agrees_after : {Y B : Type 0} (n : Marks B) (Js : Flags → Y → B → Type 0) (f : Flags) (o : Option Symbols) (k : Symbols → Option (Read Y))
+    (k' : Symbols → Option (B × Symbols)) → ((us : Symbols) → o ≡ Some us → ArePrintable us) →
+    ((us : Symbols) → ArePrintable us → Agrees n Js f (k us) (k' us)) → Agrees n Js f (o >>= k) (o >>= k')
 agrees_after n Js f None k k' p c = tt
 agrees_after n Js f (Some us) k k' p c = c us (p us refl)
 
-pub agrees_either : {Y B : Type 0} (n : Marks B) (Js : Flags → Y → B → Type 0) (f : Flags) (o : Option Symbols) (a : Option (Read Y)) (a' : Option (B × Symbols)) (k : Symbols → Option (Read Y)) (k' : Symbols → Option (B × Symbols)) → ((us : Symbols) → o ≡ Some us → ArePrintable us) → Agrees n Js f a a' → ((us : Symbols) → ArePrintable us → Agrees n Js f (k us) (k' us)) → Agrees n Js f (either o a k) (either o a' k')
+pub agrees_either : {Y B : Type 0} (n : Marks B) (Js : Flags → Y → B → Type 0) (f : Flags) (o : Option Symbols) (a : Option (Read Y))
+    (a' : Option (B × Symbols)) (k : Symbols → Option (Read Y)) (k' : Symbols → Option (B × Symbols)) →
+    ((us : Symbols) → o ≡ Some us → ArePrintable us) → Agrees n Js f a a' → ((us : Symbols) → ArePrintable us → Agrees n Js f (k us) (k' us)) →
+    Agrees n Js f (either o a k) (either o a' k')
 agrees_either n Js f None a a' k k' p h c = h
 agrees_either n Js f (Some us) a a' k k' p h c = c us (p us refl)
 
@@ -155,7 +169,8 @@ capped l r = omega arith
 capped_suc : (h : ℕ) → min (suc (min h 65)) 65 ≡ min (suc h) 65
 capped_suc h = omega arith
 
-module _ (f : Flags) (o : Op) (l r : Expr) (bl br : BuiltTree) (il : IsBuilt (noted expr_marks f l) bl l) (ir : IsBuilt (noted expr_marks (noted expr_marks f l) r) br r) where
+module _ (f : Flags) (o : Op) (l r : Expr) (bl br : BuiltTree) (il : IsBuilt (noted expr_marks f l) bl l)
+    (ir : IsBuilt (noted expr_marks (noted expr_marks f l) r) br r) where
   abbrev f1 : Flags
   f1 = noted expr_marks f l
 
@@ -214,11 +229,13 @@ AgreesAll m Is read find = (f : Flags) (ts : Symbols) → ArePrintable ts → Ag
 abbrev pub Mirrors : Reader BuiltTree → TreeReader Expr → Type 0
 Mirrors read find = AgreesAll expr_marks IsBuilt read find
 
-one_built : (f : Flags) (b : BuiltTree) (e : Expr) (ts : Symbols) → IsBuilt (noted expr_marks f e) b e → ArePrintable ts → Agree expr_marks IsBuilt f (b, noted expr_marks f e, ts) (e, ts)
+one_built : (f : Flags) (b : BuiltTree) (e : Expr) (ts : Symbols) → IsBuilt (noted expr_marks f e) b e → ArePrintable ts →
+    Agree expr_marks IsBuilt f (b, noted expr_marks f e, ts) (e, ts)
 one_built f b e ts i p = record { left = refl; flags = refl; is = i; printable = p }
 
 module _ (level : ℕ) (read : Reader BuiltTree) (find : TreeReader Expr) (c : Mirrors read find) where
-  tail_mirrors : (n : ℕ) (f : Flags) (b : BuiltTree) (l : Expr) (ts : Symbols) → IsBuilt (noted expr_marks f l) b l → ArePrintable ts → Agrees expr_marks IsBuilt f (tail_at level read n b (noted expr_marks f l) ts) (tail_of level find n l ts)
+  tail_mirrors : (n : ℕ) (f : Flags) (b : BuiltTree) (l : Expr) (ts : Symbols) → IsBuilt (noted expr_marks f l) b l → ArePrintable ts →
+      Agrees expr_marks IsBuilt f (tail_at level read n b (noted expr_marks f l) ts) (tail_of level find n l ts)
   unfolding tail_at tail_of
   tail_mirrors zero f b l ts i p = tt
   tail_mirrors (suc n) f b l [] i p = one_built f b l [] i p
@@ -227,35 +244,54 @@ module _ (level : ℕ) (read : Reader BuiltTree) (find : TreeReader Expr) (c : M
       g : Flags
       g = noted expr_marks f l
 
-      go : (q : Option Op) → ((b' : BuiltTree) (l' : Expr) (ts' : Symbols) → IsBuilt (noted expr_marks f l') b' l' → ArePrintable ts' → Agrees expr_marks IsBuilt f (tail_at level read n b' (noted expr_marks f l') ts') (tail_of level find n l' ts')) → Agrees expr_marks IsBuilt f (at_operator {A = Option (Read BuiltTree)} q (Some (b, g, t ∷ ts)) (λ o. read g ts >>= λ x. tail_at level read n (join_tree o b x.0 x.1) (join_flags b x.0 x.1) x.2)) (at_operator {A = Option (Expr × Symbols)} q (Some (l, t ∷ ts)) (λ o. find ts >>= λ x. tail_of level find n (operation o l x.0) x.1))
+      go : (q : Option Op) → ((b' : BuiltTree) (l' : Expr) (ts' : Symbols) → IsBuilt (noted expr_marks f l') b' l' → ArePrintable ts' →
+          Agrees expr_marks IsBuilt f (tail_at level read n b' (noted expr_marks f l') ts') (tail_of level find n l' ts')) →
+          Agrees expr_marks IsBuilt f (at_operator {A = Option (Read BuiltTree)} q (Some (b, g, t ∷ ts))
+          (λ o. read g ts >>= λ x. tail_at level read n (join_tree o b x.0 x.1) (join_flags b x.0 x.1) x.2))
+          (at_operator {A = Option (Expr × Symbols)} q (Some (l, t ∷ ts)) (λ o. find ts >>= λ x. tail_of level find n (operation o l x.0) x.1))
       go None ih = one_built f b l (t ∷ ts) i p
       go (Some o) ih =
-          agrees_bind expr_marks IsBuilt expr_marks IsBuilt f g (read g ts) (find ts) (λ x. tail_at level read n (join_tree o b x.0 x.1) (join_flags b x.0 x.1) x.2) (λ x. tail_of level find n (operation o l x.0) x.1) (c g ts p.1)
-          (λ x a us ix pu. (let same = joined_flags f o l a b x i ix in rw same (ih (join_tree o b x (noted expr_marks g a)) (operation o l a) us (joined_is f o l a b x i ix) pu)))
+          agrees_bind expr_marks IsBuilt expr_marks IsBuilt f g (read g ts) (find ts)
+          (λ x. tail_at level read n (join_tree o b x.0 x.1) (join_flags b x.0 x.1) x.2) (λ x. tail_of level find n (operation o l x.0) x.1) (c g ts p.1)
+          (λ x a us ix pu. (let same = joined_flags f o l a b x i ix in rw same
+          (ih (join_tree o b x (noted expr_marks g a)) (operation o l a) us (joined_is f o l a b x i ix) pu)))
 
   pub left_mirrors : Mirrors (left_at level read) (left_of level find)
   unfolding left_at left_of
   left_mirrors f ts p =
-      agrees_bind expr_marks IsBuilt expr_marks IsBuilt f f (read f ts) (find ts) (λ x. tail_at level read (suc (length x.2)) x.0 x.1 x.2) (λ x. tail_of level find (suc (length x.1)) x.0 x.1) (c f ts p)
+      agrees_bind expr_marks IsBuilt expr_marks IsBuilt f f (read f ts) (find ts) (λ x. tail_at level read (suc (length x.2)) x.0 x.1 x.2)
+      (λ x. tail_of level find (suc (length x.1)) x.0 x.1) (c f ts p)
       (λ x a us i pu. tail_mirrors (suc (length us)) f x a us i pu)
 
-  second_mirrors : (f : Flags) (b : BuiltTree) (l : Expr) (ts : Symbols) → IsBuilt (noted expr_marks f l) b l → ArePrintable ts → Agrees expr_marks IsBuilt f (second_at level read b (noted expr_marks f l) ts) (second_of level find l ts)
+  second_mirrors : (f : Flags) (b : BuiltTree) (l : Expr) (ts : Symbols) → IsBuilt (noted expr_marks f l) b l → ArePrintable ts →
+      Agrees expr_marks IsBuilt f (second_at level read b (noted expr_marks f l) ts) (second_of level find l ts)
   second_mirrors f b l [] i p = one_built f b l [] i p
   second_mirrors f b l (t ∷ ts) i p = go (of_level level (operator t))
     where
       g : Flags
       g = noted expr_marks f l
 
-      go : (q : Option Op) → Agrees expr_marks IsBuilt f (at_operator {A = Option (Read BuiltTree)} q (Some (b, g, t ∷ ts)) (λ o. read g ts >>= λ x. Some (join_tree o b x.0 x.1, join_flags b x.0 x.1, x.2))) (at_operator {A = Option (Expr × Symbols)} q (Some (l, t ∷ ts)) (λ o. find ts >>= λ x. Some (operation o l x.0, x.1)))
+      go : (q : Option Op) → Agrees expr_marks IsBuilt f
+          (at_operator {A = Option (Read BuiltTree)} q (Some (b, g, t ∷ ts))
+          (λ o. read g ts >>= λ x. Some (join_tree o b x.0 x.1, join_flags b x.0 x.1, x.2)))
+          (at_operator {A = Option (Expr × Symbols)} q (Some (l, t ∷ ts)) (λ o. find ts >>= λ x. Some (operation o l x.0, x.1)))
       go None = one_built f b l (t ∷ ts) i p
       go (Some o) =
-          agrees_bind expr_marks IsBuilt expr_marks IsBuilt f g (read g ts) (find ts) (λ x. Some (join_tree o b x.0 x.1, join_flags b x.0 x.1, x.2)) (λ x. Some (operation o l x.0, x.1)) (c g ts p.1)
-          (λ x a us ix pu. (let same = joined_flags f o l a b x i ix in record { left = refl; flags = same; is = subst (λ (z : Flags). IsBuilt z (join_tree o b x (noted expr_marks g a)) (operation o l a)) (sym same) (joined_is f o l a b x i ix); printable = pu }))
+          agrees_bind expr_marks IsBuilt expr_marks IsBuilt f g (read g ts) (find ts) (λ x. Some (join_tree o b x.0 x.1, join_flags b x.0 x.1, x.2))
+          (λ x. Some (operation o l x.0, x.1)) (c g ts p.1)
+          (λ x a us ix pu. (let same = joined_flags f o l a b x i ix in record {
+            left = refl;
+            flags = same;
+            is = subst (λ (z : Flags). IsBuilt z (join_tree o b x (noted expr_marks g a)) (operation o l a)) (sym same)
+                (joined_is f o l a b x i ix);
+            printable = pu;
+          }))
 
   pub once_mirrors : Mirrors (once_at level read) (once_of level find)
   unfolding once_at once_of
   once_mirrors f ts p =
-      agrees_bind expr_marks IsBuilt expr_marks IsBuilt f f (read f ts) (find ts) (λ x. second_at level read x.0 x.1 x.2) (λ x. second_of level find x.0 x.1) (c f ts p)
+      agrees_bind expr_marks IsBuilt expr_marks IsBuilt f f (read f ts) (find ts) (λ x. second_at level read x.0 x.1 x.2)
+      (λ x. second_of level find x.0 x.1) (c f ts p)
       (λ x a us i pu. second_mirrors f x a us i pu)
 
 module _ (read : Reader BuiltTree) (find : TreeReader Expr) (c : Mirrors read find) where
@@ -263,8 +299,15 @@ module _ (read : Reader BuiltTree) (find : TreeReader Expr) (c : Mirrors read fi
   unfolding nots_at nots_of
   nots_mirrors f [] p = c f [] p
   nots_mirrors f (key word.Not ∷ ts) p =
-      agrees_bind expr_marks IsBuilt expr_marks IsBuilt f f (nots_at read f ts) (nots_of find ts) (λ x. Some (negate x)) (λ x. Some (negation x.0, x.1)) (nots_mirrors f ts p.1)
-      (λ x a us i pu. (let same = negated_flags f a x i in record { left = refl; flags = same; is = subst (λ (z : Flags). IsBuilt z (negate_tree x (noted expr_marks f a)) (negation a)) (sym same) (negated_is f a x i); printable = pu }))
+      agrees_bind expr_marks IsBuilt expr_marks IsBuilt f f (nots_at read f ts) (nots_of find ts) (λ x. Some (negate x))
+      (λ x. Some (negation x.0, x.1)) (nots_mirrors f ts p.1)
+      (λ x a us i pu. (let same = negated_flags f a x i in record {
+        left = refl;
+        flags = same;
+        is = subst (λ (z : Flags). IsBuilt z (negate_tree x (noted expr_marks f a)) (negation a)) (sym same)
+            (negated_is f a x i);
+        printable = pu;
+      }))
   nots_mirrors f (t ∷ ts) p = c f (t ∷ ts) p
 
 -- ---- leaves
@@ -289,7 +332,8 @@ minus_limit : (n : ℕ) → then_some (is_none (signed true n)) limit.Number ≡
 minus_limit zero = refl
 minus_limit (suc n) = go (leb (suc n) (2 ^ 63)) (ltb (2 ^ 63) (n + 1)) refl refl
   where
-    go : (a b : Bool) → leb (suc n) (2 ^ 63) ≡ a → ltb (2 ^ 63) (n + 1) ≡ b → then_some (is_none (cond a (Some (neg_ℤ (pos (suc n)))) None)) limit.Number ≡ then_some b limit.Number
+    go : (a b : Bool) → leb (suc n) (2 ^ 63) ≡ a → ltb (2 ^ 63) (n + 1) ≡ b →
+        then_some (is_none (cond a (Some (neg_ℤ (pos (suc n)))) None)) limit.Number ≡ then_some b limit.Number
     go true false h k = refl
     go false true h k = refl
     go true true h k = absurd (grind (arith, nat_tests))
@@ -298,15 +342,18 @@ minus_limit (suc n) = go (leb (suc n) (2 ^ 63)) (ltb (2 ^ 63) (n + 1)) refl refl
 minus_tree : (n : ℕ) → then_some (is_none (signed true n)) limit.Number ≡ None → int_tree (signed true n) ≡ number (neg_ℤ (pos n))
 minus_tree n h = go (leb n (2 ^ 63)) h
   where
-    go : (a : Bool) → then_some (is_none (cond a (Some (neg_ℤ (pos n))) None)) limit.Number ≡ None → int_tree (cond a (Some (neg_ℤ (pos n))) None) ≡ number (neg_ℤ (pos n))
+    go : (a : Bool) → then_some (is_none (cond a (Some (neg_ℤ (pos n))) None)) limit.Number ≡ None →
+        int_tree (cond a (Some (neg_ℤ (pos n))) None) ≡ number (neg_ℤ (pos n))
     go true h = refl
     go false h = absurd cc
 
 -- a number that is read, beside the one that is found
-int_agrees : (z : Option ℤ) (x : ℤ) (f : Flags) (ts : Symbols) → then_some (is_none z) limit.Number ≡ expr_passed (number x) → (then_some (is_none z) limit.Number ≡ None → int_tree z ≡ number x) → ArePrintable ts → Agrees expr_marks IsBuilt f (int_at z f ts) (Some (number x, ts))
+int_agrees : (z : Option ℤ) (x : ℤ) (f : Flags) (ts : Symbols) → then_some (is_none z) limit.Number ≡ expr_passed (number x) →
+    (then_some (is_none z) limit.Number ≡ None → int_tree z ≡ number x) → ArePrintable ts → Agrees expr_marks IsBuilt f (int_at z f ts) (Some (number x, ts))
 int_agrees z x f ts l t p =
     let same : note f (then_some (is_none z) limit.Number) false ≡ note f (expr_passed (number x)) false = ap (λ (o : Option LimitName). note f o false) l in
-    let built : clear (note f (then_some (is_none z) limit.Number) false) ≡ true → int_tree z ≡ number x = λ c. t (clear_passes f (then_some (is_none z) limit.Number) false c) in
+    let built : clear (note f (then_some (is_none z) limit.Number) false) ≡ true →
+    int_tree z ≡ number x = λ c. t (clear_passes f (then_some (is_none z) limit.Number) false c) in
     record { left = refl; flags = same; is = (refl, built); printable = p }
 
 short_text : (t : List ℕ) → list_all is_printable t ≡ true → then_some (ltb 255 (length t)) limit.Text ≡ None → text_tree t ≡ letters t
@@ -324,18 +371,33 @@ short_text t p h = go (leb (length t) 255) (list_all is_printable t) refl p h
 kept_is : (f : Flags) (x e : Expr) → (clear f ≡ true → x ≡ e) → clear f ≡ true → kept f x ≡ e
 kept_is f x e h c = rw c (h c)
 
-text_agrees : (t : List ℕ) (f : Flags) (ts : Symbols) → list_all is_printable t ≡ true → ArePrintable ts → Agrees expr_marks IsBuilt f (text_at t f ts) (Some (letters t, ts))
+text_agrees : (t : List ℕ) (f : Flags) (ts : Symbols) → list_all is_printable t ≡ true → ArePrintable ts →
+    Agrees expr_marks IsBuilt f (text_at t f ts) (Some (letters t, ts))
+unfolding text_at
 text_agrees t f ts q p =
-    record { left = refl; flags = refl; is = (refl, λ c. kept_is (text_flags t f) (text_tree t) (letters t) (λ k. short_text t q (clear_passes f (expr_passed (letters t)) false k)) c); printable = p }
+    record {
+      left = refl;
+      flags = refl;
+      is =
+          (refl, λ c. kept_is (text_flags t f) (text_tree t) (letters t) (λ k. short_text t q (clear_passes f (expr_passed (letters t)) false k)) c);
+      printable = p;
+    }
 
 pub kept_name_is : (f : Flags) (n : List ℕ) → clear f ≡ true → kept_name f n ≡ n
 kept_name_is f n c = rw c refl
 
 column_agrees : (n : List ℕ) (f : Flags) (ts : Symbols) → ArePrintable ts → Agrees expr_marks IsBuilt f (column_at n f ts) (Some (Column n, ts))
-column_agrees n f ts p = record { left = refl; flags = refl; is = (refl, λ c. ap (λ (x : List ℕ). Column x) (kept_name_is (name_flags n f) n c)); printable = p }
+column_agrees n f ts p = record
+    { left = refl; flags = refl; is = (refl, λ c. ap (λ (x : List ℕ). Column x) (kept_name_is (name_flags n f) n c)); printable = p }
 
 named_agrees : (n : List ℕ) (f : Flags) (ts : Symbols) → ArePrintable ts → Agrees expr_marks IsBuilt f (named_at n f ts) (Some (Variable n, ts))
-named_agrees n f ts p = record { left = refl; flags = refl; is = (refl, λ c. ap (λ (x : List ℕ). Variable x) (kept_name_is (name_flags n f) n c)); printable = p }
+named_agrees n f ts p = record {
+  left = refl;
+  flags = refl;
+  is =
+      (refl, λ c. ap (λ (x : List ℕ). Variable x) (kept_name_is (name_flags n f) n c));
+  printable = p;
+}
 
 minus_agrees : (f : Flags) (ts : Symbols) → ArePrintable ts → Agrees expr_marks IsBuilt f (minus_at f ts) (minus_of ts)
 minus_agrees f (int n ∷ ts) p = int_agrees (signed true n) (neg_ℤ (pos n)) f ts (minus_limit n) (minus_tree n) p.1
@@ -356,8 +418,10 @@ colon_agrees f (sign s ∷ ts) p = tt
 module _ (read : Reader BuiltTree) (find : TreeReader Expr) (c : Mirrors read find) where
   paren_agrees : (f : Flags) (ts : Symbols) → ArePrintable ts → Agrees expr_marks IsBuilt f (paren_at read f ts) (paren_of find ts)
   paren_agrees f ts p =
-      agrees_bind expr_marks IsBuilt expr_marks IsBuilt f f (read f ts) (find ts) (λ x. after (sign mark.Close) x.2 >>= λ us. Some (x.0, x.1, us)) (λ x. after (sign mark.Close) x.1 >>= λ us. Some (x.0, us)) (c f ts p)
-      (λ x a us i pu. agrees_after expr_marks IsBuilt f (after (sign mark.Close) us) (λ vs. Some (x, noted expr_marks f a, vs)) (λ vs. Some (a, vs)) (λ vs e. after_printable (sign mark.Close) us vs pu e) (λ vs pv. one_built f x a vs i pv))
+      agrees_bind expr_marks IsBuilt expr_marks IsBuilt f f (read f ts) (find ts) (λ x. after (sign mark.Close) x.2 >>= λ us. Some (x.0, x.1, us))
+      (λ x. after (sign mark.Close) x.1 >>= λ us. Some (x.0, us)) (c f ts p)
+      (λ x a us i pu. agrees_after expr_marks IsBuilt f (after (sign mark.Close) us) (λ vs. Some (x, noted expr_marks f a, vs)) (λ vs. Some (a, vs))
+      (λ vs e. after_printable (sign mark.Close) us vs pu e) (λ vs pv. one_built f x a vs i pv))
 
   atom_mirrors : Mirrors (atom_at read) (atom_of find)
   unfolding atom_at atom_of

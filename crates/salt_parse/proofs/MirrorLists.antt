@@ -1,5 +1,6 @@
 -- The same of lists of items.
-use Rattle.std.proofs.Common.{◌≡◌, ℕ, suc, zero, ◌-◌, ◌≤◌, ◌<◌, Bool, true, false, ◌||◌, leb, List, [], ◌∷◌, length, Option, Some, None, refl, sym, ap, ◌∙◌, arith}
+use Rattle.std.proofs.Common.{◌≡◌, ℕ, suc, zero, ◌-◌, ◌≤◌, ◌<◌, Bool, true, false, ◌||◌, leb, List, [], ◌∷◌, length, Option, Some, None, refl, sym}
+use Rattle.std.proofs.Common.{ap, ◌∙◌, arith}
 use Rattle.std.proofs.lemmas.Bool.{leb-true}
 use Rattle.std.proofs.lemmas.Bool.Decides.{nat_tests}
 use Rattle.std.specs.List.{list_any}
@@ -11,7 +12,8 @@ use Rattle.salt_ast.specs.declared.limit.LimitName.{LimitName}
 use Rattle.salt_parse.specs.Flags.{Flags, clear, note}
 use Rattle.salt_parse.specs.Lists.{comma, following_at, listed_at, with_front}
 use Rattle.salt_parse.specs.Reading.{Read, Reader}
-use Rattle.salt_parse.proofs.Mirror.{Agree, Agrees, AgreesAll, ArePrintable, AreKept, Marks, after_printable, agrees_bind, agrees_either, clear_before, note_note, noted, option_or_none, or_false}
+use Rattle.salt_parse.proofs.Mirror.{Agree, Agrees, AgreesAll, ArePrintable, AreKept, Marks, after_printable, agrees_bind, agrees_either}
+use Rattle.salt_parse.proofs.Mirror.{clear_before, note_note, noted, option_or_none, or_false}
 use Rattle.salt_parse.proofs.StatementTrees.{ahead, following_of, listed_of}
 use Rattle.salt_parse.proofs.Trees.{TreeReader}
 use Rattle.salt_tokens.specs.Scanning.{◌>>=◌}
@@ -21,7 +23,8 @@ use Rattle.salt_tokens.specs.declared.sign.Sign.TheVariants as mark
 pub note_none : (f : Flags) → note f None false ≡ f
 note_none f = λ i. record { over = option_or_none f.over i; deep = or_false f.deep i }
 
-pub done : {A : Type 0} (m : Marks A) (f : Flags) (x a : A) (g : Flags) (us : Symbols) → g ≡ noted m f a → (clear g ≡ true → x ≡ a) → ArePrintable us → Agree m AreKept f (x, g, us) (a, us)
+pub done : {A : Type 0} (m : Marks A) (f : Flags) (x a : A) (g : Flags) (us : Symbols) → g ≡ noted m f a → (clear g ≡ true → x ≡ a) →
+    ArePrintable us → Agree m AreKept f (x, g, us) (a, us)
 done m f x a g us e i p = record { left = refl; flags = e; is = i; printable = p }
 
 -- the marks of a list, from its first item's number on
@@ -40,22 +43,32 @@ from_marks m n = record { passed = passed_from m n; high = high_from m n }
 abbrev pub Keeps : (Symbols → Option Symbols) → Type 0
 Keeps separator = (ts us : Symbols) → ArePrintable ts → separator ts ≡ Some us → ArePrintable us
 
-module _ {A : Type 0} (separator : Symbols → Option Symbols) (keeps : Keeps separator) (m : ℕ → Marks A) (item : ℕ → Reader A) (find : TreeReader A) (c : (n : ℕ) → AgreesAll (m n) AreKept (item n) find) where
+module _ {A : Type 0} (separator : Symbols → Option Symbols) (keeps : Keeps separator) (m : ℕ → Marks A) (item : ℕ → Reader A) (find : TreeReader A)
+    (c : (n : ℕ) → AgreesAll (m n) AreKept (item n) find) where
   empty : (n : ℕ) (f : Flags) (ts : Symbols) → ArePrintable ts → Agree (from_marks m n) AreKept f ([], f, ts) ([], ts)
   empty n f ts p = done (from_marks m n) f [] [] f ts (sym (note_none f)) (λ c. refl) p
 
   pub following_agrees : (n room : ℕ) → AgreesAll (from_marks m n) AreKept (following_at separator item n room) (following_of separator find room)
   unfolding following_at following_of
   following_agrees n zero f ts p =
-      agrees_either (from_marks m n) AreKept f (separator ts) (Some ([], f, ts)) (Some ([], ts)) (λ us. None) (λ us. None) (λ us e. keeps ts us p e) (empty n f ts p) (λ us pu. tt)
+      agrees_either (from_marks m n) AreKept f (separator ts) (Some ([], f, ts)) (Some ([], ts)) (λ us. None) (λ us. None) (λ us e. keeps ts us p e)
+      (empty n f ts p) (λ us pu. tt)
   following_agrees n (suc room) f ts p =
-      agrees_either (from_marks m n) AreKept f (separator ts) (Some ([], f, ts)) (Some ([], ts)) (λ us. item n f us >>= λ x. with_front (x.0 ∷ []) (following_at separator item (suc n) room x.1 x.2)) (λ us. find us >>= λ x. ahead (x.0 ∷ []) (following_of separator find room x.1)) (λ us e. keeps ts us p e) (empty n f ts p)
+      agrees_either (from_marks m n) AreKept f (separator ts) (Some ([], f, ts)) (Some ([], ts))
+      (λ us. item n f us >>= λ x. with_front (x.0 ∷ []) (following_at separator item (suc n) room x.1 x.2))
+      (λ us. find us >>= λ x. ahead (x.0 ∷ []) (following_of separator find room x.1)) (λ us e. keeps ts us p e) (empty n f ts p)
       (λ us pu.
-      agrees_bind (m n) AreKept (from_marks m n) AreKept f f (item n f us) (find us) (λ x. with_front (x.0 ∷ []) (following_at separator item (suc n) room x.1 x.2)) (λ x. ahead (x.0 ∷ []) (following_of separator find room x.1)) (c n f us pu)
+      agrees_bind (m n) AreKept (from_marks m n) AreKept f f (item n f us) (find us)
+      (λ x. with_front (x.0 ∷ []) (following_at separator item (suc n) room x.1 x.2))
+      (λ x. ahead (x.0 ∷ []) (following_of separator find room x.1)) (c n f us pu)
       (λ x a vs i pv.
-      agrees_bind (from_marks m (suc n)) AreKept (from_marks m n) AreKept f (noted (m n) f a) (following_at separator item (suc n) room (noted (m n) f a) vs) (following_of separator find room vs) (λ y. Some (x ∷ y.0, y.1, y.2)) (λ y. Some (a ∷ y.0, y.1)) (following_agrees (suc n) room (noted (m n) f a) vs pv)
-      (λ y b ws j pw. done (from_marks m n) f (x ∷ y) (a ∷ b) (noted (from_marks m (suc n)) (noted (m n) f a) b) ws (note_note f ((m n).passed a) (passed_from m (suc n) b) ((m n).high a) (high_from m (suc n) b))
-      (λ c2. (let c1 : clear (noted (m n) f a) ≡ true = clear_before (noted (m n) f a) (passed_from m (suc n) b) (high_from m (suc n) b) c2 in let e0 : x ≡ a = i c1 in let e1 : y ≡ b = j c2 in λ t. e0 t ∷ e1 t)) pw)))
+      agrees_bind (from_marks m (suc n)) AreKept (from_marks m n) AreKept f (noted (m n) f a)
+      (following_at separator item (suc n) room (noted (m n) f a) vs) (following_of separator find room vs) (λ y. Some (x ∷ y.0, y.1, y.2))
+      (λ y. Some (a ∷ y.0, y.1)) (following_agrees (suc n) room (noted (m n) f a) vs pv)
+      (λ y b ws j pw. done (from_marks m n) f (x ∷ y) (a ∷ b) (noted (from_marks m (suc n)) (noted (m n) f a) b) ws
+      (note_note f ((m n).passed a) (passed_from m (suc n) b) ((m n).high a) (high_from m (suc n) b))
+      (λ c2. (let c1 : clear (noted (m n) f a) ≡ true = clear_before (noted (m n) f a) (passed_from m (suc n) b)
+      (high_from m (suc n) b) c2 in let e0 : x ≡ a = i c1 in let e1 : y ≡ b = j c2 in λ t. e0 t ∷ e1 t)) pw)))
 
 -- ---- plain lists
 
@@ -73,14 +86,21 @@ plain_high m n (x ∷ xs) = ap (λ (b : Bool). m.high x || b) (plain_high m (suc
 pub comma_keeps : Keeps comma
 comma_keeps ts us p e = after_printable (sign mark.Comma) ts us p e
 
-pub listed_agrees : {A : Type 0} (m : Marks A) (item : Reader A) (find : TreeReader A) → AgreesAll m AreKept item find → AgreesAll (list_marks m) AreKept (listed_at item) (listed_of find)
+pub listed_agrees : {A : Type 0} (m : Marks A) (item : Reader A) (find : TreeReader A) → AgreesAll m AreKept item find →
+    AgreesAll (list_marks m) AreKept (listed_at item) (listed_of find)
 listed_agrees m item find c f ts p =
-    agrees_bind m AreKept (list_marks m) AreKept f f (item f ts) (find ts) (λ x. with_front (x.0 ∷ []) (following_at comma (λ n. item) 1 (length x.2) x.1 x.2)) (λ x. ahead (x.0 ∷ []) (following_of comma find (length x.1) x.1)) (c f ts p)
+    agrees_bind m AreKept (list_marks m) AreKept f f (item f ts) (find ts)
+    (λ x. with_front (x.0 ∷ []) (following_at comma (λ n. item) 1 (length x.2) x.1 x.2))
+    (λ x. ahead (x.0 ∷ []) (following_of comma find (length x.1) x.1)) (c f ts p)
     (λ x a us i pu.
-    agrees_bind (from_marks (λ n. m) 1) AreKept (list_marks m) AreKept f (noted m f a) (following_at comma (λ n. item) 1 (length us) (noted m f a) us) (following_of comma find (length us) us) (λ y. Some (x ∷ y.0, y.1, y.2)) (λ y. Some (a ∷ y.0, y.1)) (following_agrees comma comma_keeps (λ n. m) (λ n. item) find (λ n. c) 1 (length us) (noted m f a) us pu)
+    agrees_bind (from_marks (λ n. m) 1) AreKept (list_marks m) AreKept f (noted m f a) (following_at comma (λ n. item) 1 (length us) (noted m f a) us)
+    (following_of comma find (length us) us) (λ y. Some (x ∷ y.0, y.1, y.2)) (λ y. Some (a ∷ y.0, y.1))
+    (following_agrees comma comma_keeps (λ n. m) (λ n. item) find (λ n. c) 1 (length us) (noted m f a) us pu)
     (λ y b ws j pw. done (list_marks m) f (x ∷ y) (a ∷ b) (noted (from_marks (λ n. m) 1) (noted m f a) b) ws
-    (note_note f (m.passed a) (passed_from (λ n. m) 1 b) (m.high a) (high_from (λ n. m) 1 b) ∙ λ t. note f (option_or (m.passed a) (plain_passed m 1 b t)) (m.high a || plain_high m 1 b t))
-    (λ c2. (let c1 : clear (noted m f a) ≡ true = clear_before (noted m f a) (passed_from (λ n. m) 1 b) (high_from (λ n. m) 1 b) c2 in let e0 : x ≡ a = i c1 in let e1 : y ≡ b = j c2 in λ t. e0 t ∷ e1 t)) pw))
+    (note_note f (m.passed a) (passed_from (λ n. m) 1 b) (m.high a) (high_from (λ n. m) 1 b)
+    ∙ λ t. note f (option_or (m.passed a) (plain_passed m 1 b t)) (m.high a || plain_high m 1 b t))
+    (λ c2. (let c1 : clear (noted m f a) ≡ true = clear_before (noted m f a) (passed_from (λ n. m) 1 b)
+    (high_from (λ n. m) 1 b) c2 in let e0 : x ≡ a = i c1 in let e1 : y ≡ b = j c2 in λ t. e0 t ∷ e1 t)) pw))
 
 -- ---- counted lists
 
@@ -89,7 +109,8 @@ abbrev pub counted_marks : {A : Type 0} → LimitName → Marks A → ℕ → Ma
 counted_marks l m n = record { passed = λ x. option_or (then_some (leb 16 n) l) (m.passed x); high = m.high }
 
 -- the flags are noted before the item
-pub agrees_counted : {A : Type 0} (l : LimitName) (m : Marks A) (n : ℕ) (f : Flags) (r : Option (Read A)) (q : Option (A × Symbols)) → Agrees m AreKept (note f (then_some (leb 16 n) l) false) r q → Agrees (counted_marks l m n) AreKept f r q
+pub agrees_counted : {A : Type 0} (l : LimitName) (m : Marks A) (n : ℕ) (f : Flags) (r : Option (Read A)) (q : Option (A × Symbols)) →
+    Agrees m AreKept (note f (then_some (leb 16 n) l) false) r q → Agrees (counted_marks l m n) AreKept f r q
 agrees_counted l m n f None None h = tt
 agrees_counted l m n f None (Some y) h = h
 agrees_counted l m n f (Some x) None h = h
@@ -100,11 +121,13 @@ pub counted_high : {A : Type 0} (l : LimitName) (m : Marks A) (n : ℕ) (xs : Li
 counted_high l m n [] = refl
 counted_high l m n (x ∷ xs) = ap (λ (b : Bool). m.high x || b) (counted_high l m (suc n) xs)
 
-pub counted_passed : {A : Type 0} (l : LimitName) (m : Marks A) (n : ℕ) (xs : List A) → passed_from (counted_marks l m) n xs ≡ passed_in_list (16 - n) l m.passed xs
+pub counted_passed : {A : Type 0} (l : LimitName) (m : Marks A) (n : ℕ) (xs : List A) →
+    passed_from (counted_marks l m) n xs ≡ passed_in_list (16 - n) l m.passed xs
 counted_passed l m n [] = refl
 counted_passed {A} l m n (x ∷ xs) = go (leb 16 n) refl (counted_passed l m (suc n) xs)
   where
-    go : (b : Bool) → leb 16 n ≡ b → passed_from (counted_marks l m) (suc n) xs ≡ passed_in_list (16 - suc n) l m.passed xs → option_or (option_or (then_some b l) (m.passed x)) (passed_from (counted_marks l m) (suc n) xs) ≡ passed_in_list (16 - n) l m.passed (x ∷ xs)
+    go : (b : Bool) → leb 16 n ≡ b → passed_from (counted_marks l m) (suc n) xs ≡ passed_in_list (16 - suc n) l m.passed xs →
+        option_or (option_or (then_some b l) (m.passed x)) (passed_from (counted_marks l m) (suc n) xs) ≡ passed_in_list (16 - n) l m.passed (x ∷ xs)
     go true e ih = let le : 16 ≤ n = leb-true 16 n e in let none : 16 - n ≡ 0 = omega arith in rw none refl
     go false e ih =
         let less : n < 16 = grind (arith, nat_tests) in

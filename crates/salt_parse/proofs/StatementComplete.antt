@@ -18,8 +18,10 @@ use Rattle.salt_parse.specs.Lists.{comma}
 use Rattle.salt_parse.specs.Reading.{after}
 use Rattle.salt_parse.specs.StatementReading.{is_into}
 use Rattle.salt_parse.specs.TableReading.{field_comma}
-use Rattle.salt_parse.proofs.ExpressionLaws.{Begins-after, Begins-append, Complete, Sound, Stops, Stops-weaker, conjunction_complete, expression_begins, expression_complete, sum_complete}
-use Rattle.salt_parse.proofs.StatementTrees.{and_of, check_of, field_of, following_of, listed_of, name_of, scan_of, set_of, sets_of, statement_of, table_of, values_of, what_of}
+use Rattle.salt_parse.proofs.ExpressionLaws.{Begins-after, Begins-append, Complete, Sound, Stops, Stops-weaker, conjunction_complete}
+use Rattle.salt_parse.proofs.ExpressionLaws.{expression_begins, expression_complete, sum_complete}
+use Rattle.salt_parse.proofs.StatementTrees.{and_of, check_of, field_of, following_of, listed_of, name_of, scan_of, set_of, sets_of, statement_of}
+use Rattle.salt_parse.proofs.StatementTrees.{table_of, values_of, what_of}
 use Rattle.salt_parse.proofs.Trees.{TreeReader, expression_of}
 use Rattle.salt_tokens.specs.Symbols.{Symbols, key, name, sign}
 use Rattle.salt_tokens.specs.declared.keyword.Keyword.TheVariants as word
@@ -50,12 +52,15 @@ following_few (form.one_more {a = u} {b = v} g d) = omega (arith, length-append 
 comma_stops : (us : Symbols) → Stops 1 (sign mark.Comma ∷ us)
 comma_stops us o h = absurd cc
 
-module _ {A : Type 0} (separator : Symbols → Option Symbols) (G : Symbols → A → Type 0) (find : TreeReader A) (Follow : Symbols → Type 0) (c : CompleteFor Follow G find) (goes : (us : Symbols) → Follow (sign mark.Comma ∷ us)) where
+module _ {A : Type 0} (separator : Symbols → Option Symbols) (G : Symbols → A → Type 0) (find : TreeReader A) (Follow : Symbols → Type 0)
+    (c : CompleteFor Follow G find) (goes : (us : Symbols) → Follow (sign mark.Comma ∷ us)) where
   pub follows : {ts : Symbols} {xs : List A} (rest : Symbols) → Following G ts xs → Follow rest → Follow (ts ++ rest)
   follows rest form.no_more f = f
   follows rest (form.one_more {a = u} {b = v} g d) f = goes ((u ++ v) ++ rest)
 
-  pub following_complete : (opens : (u us : Symbols) (x : A) → G u x → separator (sign mark.Comma ∷ (u ++ us)) ≡ Some (u ++ us)) → {ts : Symbols} {xs : List A} (room : ℕ) (rest : Symbols) → Following G ts xs → Follow rest → separator rest ≡ None → length xs ≤ room → following_of separator find room (ts ++ rest) ≡ Some (xs, rest)
+  pub following_complete : (opens : (u us : Symbols) (x : A) → G u x → separator (sign mark.Comma ∷ (u ++ us)) ≡ Some (u ++ us)) →
+      {ts : Symbols} {xs : List A} (room : ℕ) (rest : Symbols) → Following G ts xs → Follow rest → separator rest ≡ None → length xs ≤ room →
+      following_of separator find room (ts ++ rest) ≡ Some (xs, rest)
   unfolding following_of
   following_complete opens zero rest form.no_more f a few = rw a refl
   following_complete opens (suc room) rest form.no_more f a few = rw a refl
@@ -68,7 +73,9 @@ comma_opens : {A : Type 0} (G : Symbols → A → Type 0) (u us : Symbols) (x : 
 unfolding after
 comma_opens G u us x g = refl
 
-listed_complete : {A : Type 0} (G : Symbols → A → Type 0) (find : TreeReader A) (Follow : Symbols → Type 0) (c : CompleteFor Follow G find) (goes : (us : Symbols) → Follow (sign mark.Comma ∷ us)) {ts : Symbols} {xs : List A} (rest : Symbols) → Listed G ts xs → Follow rest → comma rest ≡ None → listed_of find (ts ++ rest) ≡ Some (xs, rest)
+listed_complete : {A : Type 0} (G : Symbols → A → Type 0) (find : TreeReader A) (Follow : Symbols → Type 0) (c : CompleteFor Follow G find)
+    (goes : (us : Symbols) → Follow (sign mark.Comma ∷ us)) {ts : Symbols} {xs : List A} (rest : Symbols) → Listed G ts xs → Follow rest →
+    comma rest ≡ None → listed_of find (ts ++ rest) ≡ Some (xs, rest)
 listed_complete G find Follow c goes rest (form.items {a = u} {b = v} {x = x} {xs = xs} g d) f a =
     let few : length xs ≤ length (v ++ rest) = omega (arith, length-append v rest, following_few d) in
     let others = following_complete comma G find Follow c goes (comma_opens G) {ts = v} {xs = xs} (length (v ++ rest)) rest d f a few in
@@ -84,7 +91,8 @@ what_complete : {ts : Symbols} {x : What} (us : Symbols) → IsWhat ts x → wha
 unfolding after
 what_complete us form.every_column = refl
 what_complete us (form.named_columns (form.items {b = b} {xs = ns} (form.is_name {n = n}) d)) =
-    let names = listed_complete IsName name_of Anything name_complete (λ us. tt) {ts = name n ∷ b} {xs = n ∷ ns} (key word.From ∷ us) (form.items form.is_name d) tt (from_stops us) in
+    let names = listed_complete IsName name_of Anything name_complete (λ us. tt) {ts = name n ∷ b} {xs = n ∷ ns} (key word.From ∷ us)
+    (form.items form.is_name d) tt (from_stops us) in
     rw names refl
 what_complete us form.count_rows = refl
 what_complete us form.sum_of = refl
@@ -125,12 +133,16 @@ module _ (Inner : Symbols → Expr → Type 0) (find : TreeReader Expr) (s : Sou
   unfolding after
   scan_complete _ rest _ form.no_where st = rw st.no_where refl
   scan_complete _ rest _ (form.where_filter {ts = a} {e = f} d) st =
-      rw (Begins-after word.Key (a ++ rest) (Begins-append word.Key a rest (expression_begins word.Key refl Inner a f d)), expression_complete Inner find s c a rest f d st.stops) refl
+      rw (
+        Begins-after word.Key (a ++ rest) (Begins-append word.Key a rest (expression_begins word.Key refl Inner a f d)),
+        expression_complete Inner find s c a rest f d st.stops,
+      ) refl
   scan_complete _ rest _ (form.where_key {a = a} {b = b} {e = e} {f = f} d k) st =
       rw (append_assoc a b rest, sum_complete Inner find s c a (b ++ rest) e d (and_stops rest k st.stops), and_complete b rest f k st.stops) refl
   scan_complete _ rest _ (form.where_between {a = a} {b = b} {c = m} {low = e} {high = g} {f = f} d d2 k) st =
       let stops : Stops 4 (key word.And ∷ ((b ++ m) ++ rest)) = and_below in
-      rw (append_assoc a (key word.And ∷ (b ++ m)) rest, sum_complete Inner find s c a (key word.And ∷ ((b ++ m) ++ rest)) e d stops) (rw (append_assoc b m rest, sum_complete Inner find s c b (m ++ rest) g d2 (and_stops rest k st.stops), and_complete m rest f k st.stops) refl)
+      rw (append_assoc a (key word.And ∷ (b ++ m)) rest, sum_complete Inner find s c a (key word.And ∷ ((b ++ m) ++ rest)) e d stops)
+      (rw (append_assoc b m rest, sum_complete Inner find s c b (m ++ rest) g d2 (and_stops rest k st.stops), and_complete m rest f k st.stops) refl)
 
   -- what follows the columns of an UPDATE
   scan_stops : {ts : Symbols} {x : Scan} (rest : Symbols) → IsScan Inner ts x → Ends rest → Stops 1 (ts ++ rest)
@@ -150,10 +162,12 @@ module _ (Inner : Symbols → Expr → Type 0) (find : TreeReader Expr) (s : Sou
   unfolding after
   set_complete _ rest _ (form.is_set {n = n} {ts = ts} {e = e} d) st = rw (expression_complete Inner find s c ts rest e d st) refl
 
-  sets_complete : {ts : Symbols} {xs : List Set} (rest : Symbols) → Listed (IsSet Inner) ts xs → Stops 1 rest → comma rest ≡ None → sets_of find (ts ++ rest) ≡ Some (xs, rest)
+  sets_complete : {ts : Symbols} {xs : List Set} (rest : Symbols) → Listed (IsSet Inner) ts xs → Stops 1 rest → comma rest ≡ None →
+      sets_of find (ts ++ rest) ≡ Some (xs, rest)
   sets_complete rest d st a = listed_complete (IsSet Inner) (set_of find) (Stops 1) set_complete comma_stops rest d st a
 
-  values_complete : {ts : Symbols} {xs : List Expr} (rest : Symbols) → Listed (Expression Inner) ts xs → Stops 1 rest → comma rest ≡ None → values_of find (ts ++ rest) ≡ Some (xs, rest)
+  values_complete : {ts : Symbols} {xs : List Expr} (rest : Symbols) → Listed (Expression Inner) ts xs → Stops 1 rest → comma rest ≡ None →
+      values_of find (ts ++ rest) ≡ Some (xs, rest)
   values_complete rest d st a = listed_complete (Expression Inner) (expression_of find) (Stops 1) (expression_complete Inner find s c) comma_stops rest d st a
 
 close_stops : (us : Symbols) → Stops 1 (sign mark.Close ∷ us)
@@ -163,18 +177,31 @@ close_no_comma : (us : Symbols) → comma (sign mark.Close ∷ us) ≡ None
 unfolding after
 close_no_comma us = refl
 
-pub statement_complete : (Inner Deeper : Symbols → Expr → Type 0) (find found : TreeReader Expr) → Sound Inner find → Sound Deeper found → Complete 1 Inner find → Complete 1 Deeper found → CompleteFor Ends (IsStatement Inner Deeper) (statement_of find found)
+pub statement_complete : (Inner Deeper : Symbols → Expr → Type 0) (find found : TreeReader Expr) → Sound Inner find → Sound Deeper found →
+    Complete 1 Inner find → Complete 1 Deeper found → CompleteFor Ends (IsStatement Inner Deeper) (statement_of find found)
 unfolding after
 statement_complete Inner Deeper find found s t c d _ rest _ (form.is_insert {ts = ts} {es = es} l) st =
     rw (append_assoc ts (sign mark.Close ∷ []) rest, values_complete Deeper found t d (sign mark.Close ∷ rest) l (close_stops rest) (close_no_comma rest)) refl
 statement_complete Inner Deeper find found s t c d _ rest _ (form.is_select {t = n} {a = a} {b = b} {w = w} {scan = scan} k sc) st =
-    rw (append_assoc a (key word.From ∷ name n ∷ b) rest, not_into (name n ∷ (b ++ rest)) k, what_complete (name n ∷ (b ++ rest)) k, scan_complete Inner find s c b rest scan sc st) refl
+    rw (
+      append_assoc a (key word.From ∷ name n ∷ b) rest,
+      not_into (name n ∷ (b ++ rest)) k,
+      what_complete (name n ∷ (b ++ rest)) k,
+      scan_complete Inner find s c b rest scan sc st,
+    ) refl
 statement_complete Inner Deeper find found s t c d _ rest _ (form.is_select_into {ts = ts} {e = e} k) st =
     rw (sum_complete Inner find s c ts rest e k (Stops-weaker 1 4 rest (omega arith) st.stops)) refl
 statement_complete Inner Deeper find found s t c d _ rest _ (form.is_update {t = n} {a = a} {b = b} {sets = sets} {scan = scan} l sc) st =
-    rw (append_assoc a b rest, sets_complete Inner find s c (b ++ rest) l (scan_stops Inner find s c rest sc st) (scan_no_comma Inner find s c rest sc st), scan_complete Inner find s c b rest scan sc st) refl
-statement_complete Inner Deeper find found s t c d _ rest _ (form.is_delete {ts = ts} {scan = scan} sc) st = rw (scan_complete Inner find s c ts rest scan sc st) refl
-statement_complete Inner Deeper find found s t c d _ rest _ (form.is_ensure {ts = ts} {e = e} k) st = rw (expression_complete Inner find s c ts rest e k st.stops) refl
+    rw (
+      append_assoc a b rest,
+      sets_complete Inner find s c (b ++ rest) l (scan_stops Inner find s c rest sc st)
+          (scan_no_comma Inner find s c rest sc st),
+      scan_complete Inner find s c b rest scan sc st,
+    ) refl
+statement_complete Inner Deeper find found s t c d _ rest _ (form.is_delete {ts = ts} {scan = scan} sc) st = rw
+    (scan_complete Inner find s c ts rest scan sc st) refl
+statement_complete Inner Deeper find found s t c d _ rest _ (form.is_ensure {ts = ts} {e = e} k) st = rw
+    (expression_complete Inner find s c ts rest e k st.stops) refl
 
 -- ---- tables
 
@@ -205,6 +232,15 @@ module _ (Inner : Symbols → Expr → Type 0) (find : TreeReader Expr) (s : Sou
       let behind : Symbols = sign mark.Close ∷ rest in
       let few : length fs ≤ length (b ++ (m ++ behind)) = omega (arith, length-append b (m ++ behind), following_few d) in
       let fewer : length es ≤ length (m ++ behind) = omega (arith, length-append m behind, following_few k) in
-      let fields = following_complete field_comma IsField field_of Anything field_complete (λ us. tt) field_opens {ts = b} {xs = fs} (length (b ++ (m ++ behind))) (m ++ behind) d tt (no_field rest k) few in
-      let checks = following_complete comma (IsCheck Inner) (check_of find) (Stops 1) check_complete comma_stops (comma_opens (IsCheck Inner)) {ts = m} {xs = es} (length (m ++ behind)) behind k (close_stops rest) (close_no_comma rest) fewer in
-      rw (append_assoc a (key word.Key ∷ (b ++ (m ++ sign mark.Close ∷ []))) rest, append_assoc b (m ++ sign mark.Close ∷ []) rest, append_assoc m (sign mark.Close ∷ []) rest, field_complete a (key word.Key ∷ (b ++ (m ++ behind))) f g tt, fields, checks) refl
+      let fields = following_complete field_comma IsField field_of Anything field_complete (λ us. tt) field_opens {ts = b} {xs = fs}
+      (length (b ++ (m ++ behind))) (m ++ behind) d tt (no_field rest k) few in
+      let checks = following_complete comma (IsCheck Inner) (check_of find) (Stops 1) check_complete comma_stops
+      (comma_opens (IsCheck Inner)) {ts = m} {xs = es} (length (m ++ behind)) behind k (close_stops rest) (close_no_comma rest) fewer in
+      rw (
+        append_assoc a (key word.Key ∷ (b ++ (m ++ sign mark.Close ∷ []))) rest,
+        append_assoc b (m ++ sign mark.Close ∷ []) rest,
+        append_assoc m (sign mark.Close ∷ []) rest,
+        field_complete a (key word.Key ∷ (b ++ (m ++ behind))) f g tt,
+        fields,
+        checks,
+      ) refl

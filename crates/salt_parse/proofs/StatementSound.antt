@@ -1,5 +1,6 @@
 -- The statements and tables that are found are spelled so.
-use Rattle.std.proofs.Common.{◌≡◌, ℕ, suc, zero, Bool, true, false, cond, List, [], ◌∷◌, ◌++◌, length, Option, Some, None, refl, sym, ap, subst, ◌∙◌, append_assoc}
+use Rattle.std.proofs.Common.{◌≡◌, ℕ, suc, zero, Bool, true, false, cond, List, [], ◌∷◌, ◌++◌, length, Option, Some, None, refl, sym, ap, subst, ◌∙◌}
+use Rattle.std.proofs.Common.{append_assoc}
 use Rattle.salt_ast.specs.Grammar.{Expression}
 use Rattle.salt_ast.specs.Statements as form
 use Rattle.salt_ast.specs.Statements.{Following, IsAnd, IsName, IsScan, IsSet, IsStatement, IsWhat, Listed}
@@ -18,7 +19,11 @@ use Rattle.salt_parse.specs.StatementReading.{is_into}
 use Rattle.salt_parse.specs.TableReading.{field_comma, kind_at}
 use Rattle.salt_parse.proofs.ExpressionLaws.{Sound, bind_some, conjunction_sound, expression_sound, some_is, sum_sound}
 use Rattle.salt_parse.proofs.Loop.{after_is}
-use Rattle.salt_parse.proofs.StatementTrees.{aggregate_of, ahead, and_of, between_of, bound_of, change_of, check_of, checks_of, columns_of, count_of, definition_of, delete_of, enclosed_of, ensure_of, equal_of, field_of, fields_of, filter_of, following_of, insert_of, into_of, largest_of, least_of, listed_of, name_of, names_of, only_key_of, scan_of, select_into_of, select_of, select_rows_of, set_of, sets_of, statement_of, table_of, total_of, update_of, values_of, what_of, where_of}
+use Rattle.salt_parse.proofs.StatementTrees.{aggregate_of, ahead, and_of, between_of, bound_of, change_of, check_of, checks_of, columns_of, count_of}
+use Rattle.salt_parse.proofs.StatementTrees.{definition_of, delete_of, enclosed_of, ensure_of, equal_of, field_of, fields_of, filter_of, following_of}
+use Rattle.salt_parse.proofs.StatementTrees.{insert_of, into_of, largest_of, least_of, listed_of, name_of, names_of, only_key_of, scan_of}
+use Rattle.salt_parse.proofs.StatementTrees.{select_into_of, select_of, select_rows_of, set_of, sets_of, statement_of, table_of, total_of, update_of}
+use Rattle.salt_parse.proofs.StatementTrees.{values_of, what_of, where_of}
 use Rattle.salt_parse.proofs.Trees.{TreeReader, conjunction_of, expression_of, sum_of}
 use Rattle.salt_tokens.specs.Scanning.{◌>>=◌}
 use Rattle.salt_tokens.specs.Symbols.{Symbols, Symbol, key, name, sign}
@@ -31,16 +36,19 @@ SoundFor {A} G find = (ts : Symbols) (x : A) (rest : Symbols) → find ts ≡ So
 
 -- the same where these symbols were taken before
 abbrev pub SoundBehind : {A : Type 0} → Symbols → (Symbols → A → Type 0) → TreeReader A → Type 0
-SoundBehind {A} before G find = (ts : Symbols) (x : A) (rest : Symbols) → find ts ≡ Some (x, rest) → (front : Symbols) × (before ++ ts ≡ front ++ rest) × G front x
+SoundBehind {A} before G find = (ts : Symbols) (x : A) (rest : Symbols) → find ts ≡ Some (x, rest) →
+    (front : Symbols) × (before ++ ts ≡ front ++ rest) × G front x
 
 -- the same under another name of what was found
-renamed : {A : Type 0} (G : Symbols → A → Type 0) (ts front : Symbols) (x : A) (left : Symbols) (y : A) (rest : Symbols) → ◌≡◌ {A = Option (A × Symbols)} (Some (x, left)) (Some (y, rest)) → ts ≡ front ++ left → G front x → (f : Symbols) × (ts ≡ f ++ rest) × G f y
+renamed : {A : Type 0} (G : Symbols → A → Type 0) (ts front : Symbols) (x : A) (left : Symbols) (y : A) (rest : Symbols) →
+    ◌≡◌ {A = Option (A × Symbols)} (Some (x, left)) (Some (y, rest)) → ts ≡ front ++ left → G front x → (f : Symbols) × (ts ≡ f ++ rest) × G f y
 renamed {A} G ts front x left y rest h e g =
     let p = some_is (x, left) (y, rest) h in
     (front, e ∙ ap (λ (z : A × Symbols). front ++ z.1) p, subst (λ (z : A × Symbols). G front z.0) p g)
 
 -- which of two ways reading went
-either_is : {A : Type 0} (o : Option Symbols) (a : Option A) (f : Symbols → Option A) (y : A) (B : Type 0) → either o a f ≡ Some y → (o ≡ None → a ≡ Some y → B) → ((us : Symbols) → o ≡ Some us → f us ≡ Some y → B) → B
+either_is : {A : Type 0} (o : Option Symbols) (a : Option A) (f : Symbols → Option A) (y : A) (B : Type 0) → either o a f ≡ Some y →
+    (o ≡ None → a ≡ Some y → B) → ((us : Symbols) → o ≡ Some us → f us ≡ Some y → B) → B
 either_is None a f y B h g k = g refl h
 either_is (Some us) a f y B h g k = k us refl h
 
@@ -53,7 +61,8 @@ name_sound ts n rest h = (name n ∷ [], name_is ts n rest h, form.is_name)
 
 -- ---- lists
 
-module _ {A : Type 0} (separator : Symbols → Option Symbols) (separates : (ts us : Symbols) → separator ts ≡ Some us → ts ≡ sign mark.Comma ∷ us) (G : Symbols → A → Type 0) (find : TreeReader A) (s : SoundFor G find) where
+module _ {A : Type 0} (separator : Symbols → Option Symbols) (separates : (ts us : Symbols) → separator ts ≡ Some us → ts ≡ sign mark.Comma ∷ us)
+    (G : Symbols → A → Type 0) (find : TreeReader A) (s : SoundFor G find) where
   pub following_sound : (room : ℕ) → SoundFor (Following G) (following_of separator find room)
   unfolding following_of
   following_sound zero ts xs rest h =
@@ -69,7 +78,8 @@ module _ {A : Type 0} (separator : Symbols → Option Symbols) (separates : (ts 
       let r = s us b.0.0 b.0.1 b.1 in
       let q = following_sound room b.0.1 k.0.0 k.0.1 k.1 in
       let is : us ≡ (r.0 ++ q.0) ++ k.0.1 = r.1 ∙ ap (λ (x : Symbols). r.0 ++ x) q.1 ∙ sym (append_assoc r.0 q.0 k.0.1) in
-      renamed (Following G) ts (sign mark.Comma ∷ (r.0 ++ q.0)) (b.0.0 ∷ k.0.0) k.0.1 xs rest k.2 (separates ts us some ∙ ap (λ (x : Symbols). sign mark.Comma ∷ x) is) (form.one_more r.2 q.2))
+      renamed (Following G) ts (sign mark.Comma ∷ (r.0 ++ q.0)) (b.0.0 ∷ k.0.0) k.0.1 xs rest k.2
+      (separates ts us some ∙ ap (λ (x : Symbols). sign mark.Comma ∷ x) is) (form.one_more r.2 q.2))
 
 comma_is : (ts us : Symbols) → comma ts ≡ Some us → ts ≡ sign mark.Comma ∷ us
 comma_is ts us h = after_is (sign mark.Comma) ts us h
@@ -81,7 +91,8 @@ module _ {A : Type 0} (G : Symbols → A → Type 0) (find : TreeReader A) (s : 
       let k = bind_some (following_of comma find (length b.0.1) b.0.1) (λ y. Some (b.0.0 ∷ y.0, y.1)) (xs, rest) b.2 in
       let r = s ts b.0.0 b.0.1 b.1 in
       let q = following_sound comma comma_is G find s (length b.0.1) b.0.1 k.0.0 k.0.1 k.1 in
-      renamed (Listed G) ts (r.0 ++ q.0) (b.0.0 ∷ k.0.0) k.0.1 xs rest k.2 (r.1 ∙ ap (λ (x : Symbols). r.0 ++ x) q.1 ∙ sym (append_assoc r.0 q.0 k.0.1)) (form.items r.2 q.2)
+      renamed (Listed G) ts (r.0 ++ q.0) (b.0.0 ∷ k.0.0) k.0.1 xs rest k.2
+      (r.1 ∙ ap (λ (x : Symbols). r.0 ++ x) q.1 ∙ sym (append_assoc r.0 q.0 k.0.1)) (form.items r.2 q.2)
 
 names_sound : SoundFor (Listed IsName) names_of
 names_sound ts xs rest h = listed_sound IsName name_of name_sound ts xs rest h
@@ -103,19 +114,22 @@ total_sound : SoundBehind (key word.Sum ∷ []) IsWhat total_of
 total_sound ts x rest h =
     let b = bind_some (enclosed_of ts) (λ n. Some (what.Sum n.0, n.1)) (x, rest) h in
     let front : Symbols = key word.Sum ∷ sign mark.Open ∷ name b.0.0 ∷ sign mark.Close ∷ [] in
-    renamed IsWhat (key word.Sum ∷ ts) front (what.Sum b.0.0) b.0.1 x rest b.2 (ap (λ (z : Symbols). key word.Sum ∷ z) (enclosed_is ts b.0.0 b.0.1 b.1)) form.sum_of
+    renamed IsWhat (key word.Sum ∷ ts) front (what.Sum b.0.0) b.0.1 x rest b.2
+    (ap (λ (z : Symbols). key word.Sum ∷ z) (enclosed_is ts b.0.0 b.0.1 b.1)) form.sum_of
 
 least_sound : SoundBehind (key word.Min ∷ []) IsWhat least_of
 least_sound ts x rest h =
     let b = bind_some (enclosed_of ts) (λ n. Some (what.Min n.0, n.1)) (x, rest) h in
     let front : Symbols = key word.Min ∷ sign mark.Open ∷ name b.0.0 ∷ sign mark.Close ∷ [] in
-    renamed IsWhat (key word.Min ∷ ts) front (what.Min b.0.0) b.0.1 x rest b.2 (ap (λ (z : Symbols). key word.Min ∷ z) (enclosed_is ts b.0.0 b.0.1 b.1)) form.min_of
+    renamed IsWhat (key word.Min ∷ ts) front (what.Min b.0.0) b.0.1 x rest b.2
+    (ap (λ (z : Symbols). key word.Min ∷ z) (enclosed_is ts b.0.0 b.0.1 b.1)) form.min_of
 
 largest_sound : SoundBehind (key word.Max ∷ []) IsWhat largest_of
 largest_sound ts x rest h =
     let b = bind_some (enclosed_of ts) (λ n. Some (what.Max n.0, n.1)) (x, rest) h in
     let front : Symbols = key word.Max ∷ sign mark.Open ∷ name b.0.0 ∷ sign mark.Close ∷ [] in
-    renamed IsWhat (key word.Max ∷ ts) front (what.Max b.0.0) b.0.1 x rest b.2 (ap (λ (z : Symbols). key word.Max ∷ z) (enclosed_is ts b.0.0 b.0.1 b.1)) form.max_of
+    renamed IsWhat (key word.Max ∷ ts) front (what.Max b.0.0) b.0.1 x rest b.2
+    (ap (λ (z : Symbols). key word.Max ∷ z) (enclosed_is ts b.0.0 b.0.1 b.1)) form.max_of
 
 columns_sound : SoundFor IsWhat columns_of
 columns_sound ts x rest h =
@@ -125,39 +139,49 @@ columns_sound ts x rest h =
 
 count_sound : SoundBehind (key word.Count ∷ []) IsWhat count_of
 count_sound ts x rest h =
-    let a = bind_some (after (sign mark.Open) ts) (λ us. after (sign mark.Star) us >>= λ vs. after (sign mark.Close) vs >>= λ ws. Some (what.Count, ws)) (x, rest) h in
+    let a = bind_some (after (sign mark.Open) ts)
+    (λ us. after (sign mark.Star) us >>= λ vs. after (sign mark.Close) vs >>= λ ws. Some (what.Count, ws)) (x, rest) h in
     let b = bind_some (after (sign mark.Star) a.0) (λ vs. after (sign mark.Close) vs >>= λ ws. Some (what.Count, ws)) (x, rest) a.2 in
     let c = bind_some (after (sign mark.Close) b.0) (λ ws. Some (what.Count, ws)) (x, rest) b.2 in
-    let starred : a.0 ≡ sign mark.Star ∷ sign mark.Close ∷ c.0 = after_is (sign mark.Star) a.0 b.0 b.1 ∙ ap (λ (z : Symbols). sign mark.Star ∷ z) (after_is (sign mark.Close) b.0 c.0 c.1) in
-    renamed IsWhat (key word.Count ∷ ts) (key word.Count ∷ sign mark.Open ∷ sign mark.Star ∷ sign mark.Close ∷ []) what.Count c.0 x rest c.2 (ap (λ (z : Symbols). key word.Count ∷ z) (after_is (sign mark.Open) ts a.0 a.1 ∙ ap (λ (z : Symbols). sign mark.Open ∷ z) starred)) form.count_rows
+    let starred : a.0 ≡ sign mark.Star ∷ sign mark.Close ∷ c.0 = after_is (sign mark.Star) a.0 b.0 b.1
+    ∙ ap (λ (z : Symbols). sign mark.Star ∷ z) (after_is (sign mark.Close) b.0 c.0 c.1) in
+    renamed IsWhat (key word.Count ∷ ts) (key word.Count ∷ sign mark.Open ∷ sign mark.Star ∷ sign mark.Close ∷ []) what.Count c.0 x rest c.2
+    (ap (λ (z : Symbols). key word.Count ∷ z) (after_is (sign mark.Open) ts a.0 a.1 ∙ ap (λ (z : Symbols). sign mark.Open ∷ z) starred)) form.count_rows
 
 -- behind a keyword or a sign
-behind : {A : Type 0} (G : Symbols → A → Type 0) (find : TreeReader A) (t : Symbol) → SoundBehind (t ∷ []) G find → (ts us : Symbols) (x : A) (rest : Symbols) → after t ts ≡ Some us → find us ≡ Some (x, rest) → (front : Symbols) × (ts ≡ front ++ rest) × G front x
+behind : {A : Type 0} (G : Symbols → A → Type 0) (find : TreeReader A) (t : Symbol) → SoundBehind (t ∷ []) G find →
+    (ts us : Symbols) (x : A) (rest : Symbols) → after t ts ≡ Some us → find us ≡ Some (x, rest) → (front : Symbols) × (ts ≡ front ++ rest) × G front x
 behind G find t s ts us x rest a h = let r = s us x rest h in (r.0, after_is t ts us a ∙ r.1, r.2)
 
 aggregate_sound : SoundFor IsWhat aggregate_of
 aggregate_sound ts x rest h =
-    either_is (after (key word.Sum) ts) (either (after (key word.Min) ts) (either (after (key word.Max) ts) (columns_of ts) largest_of) least_of) total_of (x, rest) _ h
+    either_is (after (key word.Sum) ts)
+    (either (after (key word.Min) ts) (either (after (key word.Max) ts) (columns_of ts) largest_of) least_of) total_of (x, rest) _ h
     (λ none e. either_is (after (key word.Min) ts) (either (after (key word.Max) ts) (columns_of ts) largest_of) least_of (x, rest) _ e
-    (λ none e. either_is (after (key word.Max) ts) (columns_of ts) largest_of (x, rest) _ e (λ none e. columns_sound ts x rest e) (λ us some e. behind IsWhat largest_of (key word.Max) largest_sound ts us x rest some e))
+    (λ none e. either_is (after (key word.Max) ts) (columns_of ts) largest_of (x, rest) _ e (λ none e. columns_sound ts x rest e)
+    (λ us some e. behind IsWhat largest_of (key word.Max) largest_sound ts us x rest some e))
     (λ us some e. behind IsWhat least_of (key word.Min) least_sound ts us x rest some e))
     (λ us some e. behind IsWhat total_of (key word.Sum) total_sound ts us x rest some e)
 
 what_sound : SoundFor IsWhat what_of
 what_sound ts x rest h =
     either_is (after (sign mark.Star) ts) (either (after (key word.Count) ts) (aggregate_of ts) count_of) (λ us. Some (what.All, us)) (x, rest) _ h
-    (λ none e. either_is (after (key word.Count) ts) (aggregate_of ts) count_of (x, rest) _ e (λ none e. aggregate_sound ts x rest e) (λ us some e. behind IsWhat count_of (key word.Count) count_sound ts us x rest some e))
+    (λ none e. either_is (after (key word.Count) ts) (aggregate_of ts) count_of (x, rest) _ e (λ none e. aggregate_sound ts x rest e)
+    (λ us some e. behind IsWhat count_of (key word.Count) count_sound ts us x rest some e))
     (λ us some e. renamed IsWhat ts (sign mark.Star ∷ []) what.All us x rest e (after_is (sign mark.Star) ts us some) form.every_column)
 
-into_is : (ts : Symbols) (x : List ℕ × List ℕ) (rest : Symbols) → into_of ts ≡ Some (x, rest) → ts ≡ name x.0 ∷ key word.Into ∷ sign mark.Colon ∷ name x.1 ∷ rest
+into_is : (ts : Symbols) (x : List ℕ × List ℕ) (rest : Symbols) → into_of ts ≡ Some (x, rest) →
+    ts ≡ name x.0 ∷ key word.Into ∷ sign mark.Colon ∷ name x.1 ∷ rest
 into_is ts x rest h =
-    let a = bind_some (name_of ts) (λ c. after (key word.Into) c.1 >>= λ us. after (sign mark.Colon) us >>= λ vs. name_of vs >>= λ v. Some ((c.0, v.0), v.1)) (x, rest) h in
+    let a = bind_some (name_of ts) (λ c. after (key word.Into) c.1 >>= λ us. after (sign mark.Colon) us >>= λ vs. name_of vs >>= λ v. Some
+    ((c.0, v.0), v.1)) (x, rest) h in
     let b = bind_some (after (key word.Into) a.0.1) (λ us. after (sign mark.Colon) us >>= λ vs. name_of vs >>= λ v. Some ((a.0.0, v.0), v.1)) (x, rest) a.2 in
     let c = bind_some (after (sign mark.Colon) b.0) (λ vs. name_of vs >>= λ v. Some ((a.0.0, v.0), v.1)) (x, rest) b.2 in
     let d = bind_some (name_of c.0) (λ v. Some ((a.0.0, v.0), v.1)) (x, rest) c.2 in
     let p = some_is ((a.0.0, d.0.0), d.0.1) (x, rest) d.2 in
     let var : c.0 ≡ name x.1 ∷ rest = name_is c.0 d.0.0 d.0.1 d.1 ∙ (λ t. name (p t).0.1 ∷ (p t).1) in
-    let into : a.0.1 ≡ key word.Into ∷ sign mark.Colon ∷ name x.1 ∷ rest = after_is (key word.Into) a.0.1 b.0 b.1 ∙ ap (λ (z : Symbols). key word.Into ∷ z) (after_is (sign mark.Colon) b.0 c.0 c.1 ∙ ap (λ (z : Symbols). sign mark.Colon ∷ z) var) in
+    let into : a.0.1 ≡ key word.Into ∷ sign mark.Colon ∷ name x.1 ∷ rest = after_is (key word.Into) a.0.1 b.0 b.1
+    ∙ ap (λ (z : Symbols). key word.Into ∷ z) (after_is (sign mark.Colon) b.0 c.0 c.1 ∙ ap (λ (z : Symbols). sign mark.Colon ∷ z) var) in
     name_is ts a.0.0 a.0.1 a.1 ∙ (λ t. name (p t).0.0 ∷ into t)
 
 module _ (Inner : Symbols → Expr → Type 0) (find : TreeReader Expr) (s : Sound Inner find) where
@@ -166,7 +190,8 @@ module _ (Inner : Symbols → Expr → Type 0) (find : TreeReader Expr) (s : Sou
       let b0 = bind_some (conjunction_of find ts) (λ v. Some (Some v.0, v.1)) (x, rest) h in
       let s0 = conjunction_sound Inner find s ts b0.0.0 b0.0.1 b0.1 in
       let q0 : ts ≡ (s0.0) ++ b0.0.1 = s0.1 in
-      renamed (IsAnd Inner) (key word.And ∷ ts) (key word.And ∷ (s0.0)) (Some b0.0.0) b0.0.1 x rest b0.2 (ap (λ (z : Symbols). key word.And ∷ z) q0) (form.and s0.2)
+      renamed (IsAnd Inner) (key word.And ∷ ts) (key word.And ∷ (s0.0)) (Some b0.0.0) b0.0.1 x rest b0.2 (ap (λ (z : Symbols). key word.And ∷ z) q0)
+      (form.and s0.2)
 
   and_sound : SoundFor (IsAnd Inner) (and_of find)
   and_sound ts x rest h =
@@ -176,7 +201,8 @@ module _ (Inner : Symbols → Expr → Type 0) (find : TreeReader Expr) (s : Sou
 
   equal_sound : SoundBehind (key word.Where ∷ key word.Key ∷ []) (IsScan Inner) (equal_of find)
   equal_sound ts x rest h =
-      let b0 = bind_some (after (sign mark.Equal) ts) (λ v. sum_of find v >>= λ v1. and_of find v1.1 >>= λ v2. Some (record { bound = bound.Key v1.0; filter = v2.0 }, v2.1)) (x, rest) h in
+      let b0 = bind_some (after (sign mark.Equal) ts)
+      (λ v. sum_of find v >>= λ v1. and_of find v1.1 >>= λ v2. Some (record { bound = bound.Key v1.0; filter = v2.0 }, v2.1)) (x, rest) h in
       let b1 = bind_some (sum_of find b0.0) (λ v. and_of find v.1 >>= λ v2. Some (record { bound = bound.Key v.0; filter = v2.0 }, v2.1)) (x, rest) b0.2 in
       let s1 = sum_sound Inner find s b0.0 b1.0.0 b1.0.1 b1.1 in
       let b2 = bind_some (and_of find b1.0.1) (λ v. Some (record { bound = bound.Key b1.0.0; filter = v.0 }, v.1)) (x, rest) b1.2 in
@@ -184,35 +210,47 @@ module _ (Inner : Symbols → Expr → Type 0) (find : TreeReader Expr) (s : Sou
       let q2 : b1.0.1 ≡ (s2.0) ++ b2.0.1 = s2.1 in
       let q1 : b0.0 ≡ (s1.0 ++ s2.0) ++ b2.0.1 = s1.1 ∙ ap (λ (z : Symbols). s1.0 ++ z) q2 ∙ sym (append_assoc s1.0 (s2.0) b2.0.1) in
       let q0 : ts ≡ (sign mark.Equal ∷ (s1.0 ++ s2.0)) ++ b2.0.1 = after_is (sign mark.Equal) ts b0.0 b0.1 ∙ ap (λ (z : Symbols). sign mark.Equal ∷ z) q1 in
-      renamed (IsScan Inner) (key word.Where ∷ key word.Key ∷ ts) (key word.Where ∷ key word.Key ∷ (sign mark.Equal ∷ (s1.0 ++ s2.0))) (record { bound = bound.Key b1.0.0; filter = b2.0.0 }) b2.0.1 x rest b2.2 (ap (λ (z : Symbols). key word.Where ∷ key word.Key ∷ z) q0) (form.where_key s1.2 s2.2)
+      renamed (IsScan Inner) (key word.Where ∷ key word.Key ∷ ts) (key word.Where ∷ key word.Key ∷ (sign mark.Equal ∷ (s1.0 ++ s2.0)))
+      (record { bound = bound.Key b1.0.0; filter = b2.0.0 }) b2.0.1 x rest b2.2 (ap (λ (z : Symbols). key word.Where ∷ key word.Key ∷ z) q0)
+      (form.where_key s1.2 s2.2)
 
   between_sound : SoundBehind (key word.Where ∷ key word.Key ∷ key word.Between ∷ []) (IsScan Inner) (between_of find)
   between_sound ts x rest h =
-      let b0 = bind_some (sum_of find ts) (λ v. after (key word.And) v.1 >>= λ v1. sum_of find v1 >>= λ v2. and_of find v2.1 >>= λ v3. Some (record { bound = bound.Between v.0 v2.0; filter = v3.0 }, v3.1)) (x, rest) h in
+      let b0 = bind_some (sum_of find ts)
+      (λ v. after (key word.And) v.1 >>= λ v1. sum_of find v1 >>= λ v2. and_of find v2.1 >>= λ v3. Some
+      (record { bound = bound.Between v.0 v2.0; filter = v3.0 }, v3.1)) (x, rest) h in
       let s0 = sum_sound Inner find s ts b0.0.0 b0.0.1 b0.1 in
-      let b1 = bind_some (after (key word.And) b0.0.1) (λ v. sum_of find v >>= λ v2. and_of find v2.1 >>= λ v3. Some (record { bound = bound.Between b0.0.0 v2.0; filter = v3.0 }, v3.1)) (x, rest) b0.2 in
-      let b2 = bind_some (sum_of find b1.0) (λ v. and_of find v.1 >>= λ v3. Some (record { bound = bound.Between b0.0.0 v.0; filter = v3.0 }, v3.1)) (x, rest) b1.2 in
+      let b1 = bind_some (after (key word.And) b0.0.1)
+      (λ v. sum_of find v >>= λ v2. and_of find v2.1 >>= λ v3. Some (record { bound = bound.Between b0.0.0 v2.0; filter = v3.0 }, v3.1)) (x, rest) b0.2 in
+      let b2 = bind_some (sum_of find b1.0) (λ v. and_of find v.1 >>= λ v3. Some (record { bound = bound.Between b0.0.0 v.0; filter = v3.0 }, v3.1))
+      (x, rest) b1.2 in
       let s2 = sum_sound Inner find s b1.0 b2.0.0 b2.0.1 b2.1 in
       let b3 = bind_some (and_of find b2.0.1) (λ v. Some (record { bound = bound.Between b0.0.0 b2.0.0; filter = v.0 }, v.1)) (x, rest) b2.2 in
       let s3 = and_sound b2.0.1 b3.0.0 b3.0.1 b3.1 in
       let q3 : b2.0.1 ≡ (s3.0) ++ b3.0.1 = s3.1 in
       let q2 : b1.0 ≡ (s2.0 ++ s3.0) ++ b3.0.1 = s2.1 ∙ ap (λ (z : Symbols). s2.0 ++ z) q3 ∙ sym (append_assoc s2.0 (s3.0) b3.0.1) in
       let q1 : b0.0.1 ≡ (key word.And ∷ (s2.0 ++ s3.0)) ++ b3.0.1 = after_is (key word.And) b0.0.1 b1.0 b1.1 ∙ ap (λ (z : Symbols). key word.And ∷ z) q2 in
-      let q0 : ts ≡ (s0.0 ++ (key word.And ∷ (s2.0 ++ s3.0))) ++ b3.0.1 = s0.1 ∙ ap (λ (z : Symbols). s0.0 ++ z) q1 ∙ sym (append_assoc s0.0 (key word.And ∷ (s2.0 ++ s3.0)) b3.0.1) in
-      renamed (IsScan Inner) (key word.Where ∷ key word.Key ∷ key word.Between ∷ ts) (key word.Where ∷ key word.Key ∷ key word.Between ∷ (s0.0 ++ (key word.And ∷ (s2.0 ++ s3.0)))) (record { bound = bound.Between b0.0.0 b2.0.0; filter = b3.0.0 }) b3.0.1 x rest b3.2 (ap (λ (z : Symbols). key word.Where ∷ key word.Key ∷ key word.Between ∷ z) q0) (form.where_between s0.2 s2.2 s3.2)
+      let q0 : ts ≡ (s0.0 ++ (key word.And ∷ (s2.0 ++ s3.0))) ++ b3.0.1 = s0.1 ∙ ap (λ (z : Symbols). s0.0 ++ z) q1
+      ∙ sym (append_assoc s0.0 (key word.And ∷ (s2.0 ++ s3.0)) b3.0.1) in
+      renamed (IsScan Inner) (key word.Where ∷ key word.Key ∷ key word.Between ∷ ts)
+      (key word.Where ∷ key word.Key ∷ key word.Between ∷ (s0.0 ++ (key word.And ∷ (s2.0 ++ s3.0))))
+      (record { bound = bound.Between b0.0.0 b2.0.0; filter = b3.0.0 }) b3.0.1 x rest b3.2
+      (ap (λ (z : Symbols). key word.Where ∷ key word.Key ∷ key word.Between ∷ z) q0) (form.where_between s0.2 s2.2 s3.2)
 
   filter_sound : SoundBehind (key word.Where ∷ []) (IsScan Inner) (filter_of find)
   filter_sound ts x rest h =
       let b0 = bind_some (expression_of find ts) (λ v. Some (record { bound = bound.All; filter = Some v.0 }, v.1)) (x, rest) h in
       let s0 = expression_sound Inner find s ts b0.0.0 b0.0.1 b0.1 in
       let q0 : ts ≡ (s0.0) ++ b0.0.1 = s0.1 in
-      renamed (IsScan Inner) (key word.Where ∷ ts) (key word.Where ∷ (s0.0)) (record { bound = bound.All; filter = Some b0.0.0 }) b0.0.1 x rest b0.2 (ap (λ (z : Symbols). key word.Where ∷ z) q0) (form.where_filter s0.2)
+      renamed (IsScan Inner) (key word.Where ∷ ts) (key word.Where ∷ (s0.0)) (record { bound = bound.All; filter = Some b0.0.0 }) b0.0.1 x rest b0.2
+      (ap (λ (z : Symbols). key word.Where ∷ z) q0) (form.where_filter s0.2)
 
   bound_sound : SoundBehind (key word.Where ∷ key word.Key ∷ []) (IsScan Inner) (bound_of find)
   bound_sound ts x rest h =
       either_is (after (key word.Between) ts) (equal_of find ts) (between_of find) (x, rest) _ h
       (λ none e. equal_sound ts x rest e)
-      (λ us some e. let r = between_sound us x rest e in (r.0, ap (λ (z : Symbols). key word.Where ∷ key word.Key ∷ z) (after_is (key word.Between) ts us some) ∙ r.1, r.2))
+      (λ us some e. let r = between_sound us x rest e in
+      (r.0, ap (λ (z : Symbols). key word.Where ∷ key word.Key ∷ z) (after_is (key word.Between) ts us some) ∙ r.1, r.2))
 
   where_sound : SoundBehind (key word.Where ∷ []) (IsScan Inner) (where_of find)
   where_sound ts x rest h =
@@ -231,9 +269,11 @@ module _ (Inner : Symbols → Expr → Type 0) (find : TreeReader Expr) (s : Sou
 
   set_sound : SoundFor (IsSet Inner) (set_of find)
   set_sound ts x rest h =
-      let b0 = bind_some (name_of ts) (λ v. after (sign mark.Equal) v.1 >>= λ v1. expression_of find v1 >>= λ v2. Some (record { column = v.0; value = v2.0 }, v2.1)) (x, rest) h in
+      let b0 = bind_some (name_of ts)
+      (λ v. after (sign mark.Equal) v.1 >>= λ v1. expression_of find v1 >>= λ v2. Some (record { column = v.0; value = v2.0 }, v2.1)) (x, rest) h in
       let s0 = name_is ts b0.0.0 b0.0.1 b0.1 in
-      let b1 = bind_some (after (sign mark.Equal) b0.0.1) (λ v. expression_of find v >>= λ v2. Some (record { column = b0.0.0; value = v2.0 }, v2.1)) (x, rest) b0.2 in
+      let b1 = bind_some (after (sign mark.Equal) b0.0.1) (λ v. expression_of find v >>= λ v2. Some (record { column = b0.0.0; value = v2.0 }, v2.1))
+      (x, rest) b0.2 in
       let b2 = bind_some (expression_of find b1.0) (λ v. Some (record { column = b0.0.0; value = v.0 }, v.1)) (x, rest) b1.2 in
       let s2 = expression_sound Inner find s b1.0 b2.0.0 b2.0.1 b2.1 in
       let q2 : b1.0 ≡ (s2.0) ++ b2.0.1 = s2.1 in
@@ -247,28 +287,45 @@ module _ (Inner : Symbols → Expr → Type 0) (find : TreeReader Expr) (s : Sou
 module _ (Outer : Symbols → Expr → Type 0) (Inner : Symbols → Expr → Type 0) (find : TreeReader Expr) (s : Sound Inner find) where
   insert_sound : SoundBehind (key word.Insert ∷ []) (IsStatement Outer Inner) (insert_of find)
   insert_sound ts x rest h =
-      let b0 = bind_some (after (key word.Into) ts) (λ v. name_of v >>= λ v1. after (key word.Values) v1.1 >>= λ v2. after (sign mark.Open) v2 >>= λ v3. values_of find v3 >>= λ v4. after (sign mark.Close) v4.1 >>= λ v5. Some (statement.Insert v1.0 v4.0, v5)) (x, rest) h in
-      let b1 = bind_some (name_of b0.0) (λ v. after (key word.Values) v.1 >>= λ v2. after (sign mark.Open) v2 >>= λ v3. values_of find v3 >>= λ v4. after (sign mark.Close) v4.1 >>= λ v5. Some (statement.Insert v.0 v4.0, v5)) (x, rest) b0.2 in
+      let b0 = bind_some (after (key word.Into) ts)
+      (λ v. name_of v >>= λ v1. after (key word.Values) v1.1 >>= λ v2. after (sign mark.Open) v2 >>= λ v3. values_of find v3 >>= λ v4. after
+      (sign mark.Close) v4.1 >>= λ v5. Some (statement.Insert v1.0 v4.0, v5)) (x, rest) h in
+      let b1 = bind_some (name_of b0.0)
+      (λ v. after (key word.Values) v.1 >>= λ v2. after (sign mark.Open) v2 >>= λ v3. values_of find v3 >>= λ v4. after
+      (sign mark.Close) v4.1 >>= λ v5. Some (statement.Insert v.0 v4.0, v5)) (x, rest) b0.2 in
       let s1 = name_is b0.0 b1.0.0 b1.0.1 b1.1 in
-      let b2 = bind_some (after (key word.Values) b1.0.1) (λ v. after (sign mark.Open) v >>= λ v3. values_of find v3 >>= λ v4. after (sign mark.Close) v4.1 >>= λ v5. Some (statement.Insert b1.0.0 v4.0, v5)) (x, rest) b1.2 in
-      let b3 = bind_some (after (sign mark.Open) b2.0) (λ v. values_of find v >>= λ v4. after (sign mark.Close) v4.1 >>= λ v5. Some (statement.Insert b1.0.0 v4.0, v5)) (x, rest) b2.2 in
+      let b2 = bind_some (after (key word.Values) b1.0.1)
+      (λ v. after (sign mark.Open) v >>= λ v3. values_of find v3 >>= λ v4. after (sign mark.Close) v4.1 >>= λ v5. Some
+      (statement.Insert b1.0.0 v4.0, v5)) (x, rest) b1.2 in
+      let b3 = bind_some (after (sign mark.Open) b2.0)
+      (λ v. values_of find v >>= λ v4. after (sign mark.Close) v4.1 >>= λ v5. Some (statement.Insert b1.0.0 v4.0, v5)) (x, rest) b2.2 in
       let b4 = bind_some (values_of find b3.0) (λ v. after (sign mark.Close) v.1 >>= λ v5. Some (statement.Insert b1.0.0 v.0, v5)) (x, rest) b3.2 in
       let s4 = values_sound Inner find s b3.0 b4.0.0 b4.0.1 b4.1 in
       let b5 = bind_some (after (sign mark.Close) b4.0.1) (λ v. Some (statement.Insert b1.0.0 b4.0.0, v)) (x, rest) b4.2 in
       let q5 : b4.0.1 ≡ (sign mark.Close ∷ []) ++ b5.0 = after_is (sign mark.Close) b4.0.1 b5.0 b5.1 in
-      let q4 : b3.0 ≡ (s4.0 ++ (sign mark.Close ∷ [])) ++ b5.0 = s4.1 ∙ ap (λ (z : Symbols). s4.0 ++ z) q5 ∙ sym (append_assoc s4.0 (sign mark.Close ∷ []) b5.0) in
-      let q3 : b2.0 ≡ (sign mark.Open ∷ (s4.0 ++ (sign mark.Close ∷ []))) ++ b5.0 = after_is (sign mark.Open) b2.0 b3.0 b3.1 ∙ ap (λ (z : Symbols). sign mark.Open ∷ z) q4 in
-      let q2 : b1.0.1 ≡ (key word.Values ∷ (sign mark.Open ∷ (s4.0 ++ (sign mark.Close ∷ [])))) ++ b5.0 = after_is (key word.Values) b1.0.1 b2.0 b2.1 ∙ ap (λ (z : Symbols). key word.Values ∷ z) q3 in
-      let q1 : b0.0 ≡ (name b1.0.0 ∷ (key word.Values ∷ (sign mark.Open ∷ (s4.0 ++ (sign mark.Close ∷ []))))) ++ b5.0 = s1 ∙ ap (λ (z : Symbols). name b1.0.0 ∷ z) q2 in
-      let q0 : ts ≡ (key word.Into ∷ (name b1.0.0 ∷ (key word.Values ∷ (sign mark.Open ∷ (s4.0 ++ (sign mark.Close ∷ [])))))) ++ b5.0 = after_is (key word.Into) ts b0.0 b0.1 ∙ ap (λ (z : Symbols). key word.Into ∷ z) q1 in
-      renamed (IsStatement Outer Inner) (key word.Insert ∷ ts) (key word.Insert ∷ (key word.Into ∷ (name b1.0.0 ∷ (key word.Values ∷ (sign mark.Open ∷ (s4.0 ++ (sign mark.Close ∷ []))))))) (statement.Insert b1.0.0 b4.0.0) b5.0 x rest b5.2 (ap (λ (z : Symbols). key word.Insert ∷ z) q0) (form.is_insert s4.2)
+      let q4 : b3.0 ≡ (s4.0 ++ (sign mark.Close ∷ [])) ++ b5.0 = s4.1 ∙ ap (λ (z : Symbols). s4.0 ++ z) q5
+      ∙ sym (append_assoc s4.0 (sign mark.Close ∷ []) b5.0) in
+      let q3 : b2.0 ≡ (sign mark.Open ∷ (s4.0 ++ (sign mark.Close ∷ []))) ++ b5.0 = after_is (sign mark.Open) b2.0 b3.0 b3.1
+      ∙ ap (λ (z : Symbols). sign mark.Open ∷ z) q4 in
+      let q2 : b1.0.1 ≡ (key word.Values ∷ (sign mark.Open ∷ (s4.0 ++ (sign mark.Close ∷ [])))) ++ b5.0 = after_is (key word.Values) b1.0.1 b2.0 b2.1
+      ∙ ap (λ (z : Symbols). key word.Values ∷ z) q3 in
+      let q1 : b0.0 ≡ (name b1.0.0 ∷ (key word.Values ∷ (sign mark.Open ∷ (s4.0 ++ (sign mark.Close ∷ []))))) ++ b5.0 = s1
+      ∙ ap (λ (z : Symbols). name b1.0.0 ∷ z) q2 in
+      let q0 : ts ≡ (key word.Into ∷ (name b1.0.0 ∷ (key word.Values ∷ (sign mark.Open ∷ (s4.0 ++ (sign mark.Close ∷ [])))))) ++ b5.0 = after_is
+      (key word.Into) ts b0.0 b0.1 ∙ ap (λ (z : Symbols). key word.Into ∷ z) q1 in
+      renamed (IsStatement Outer Inner) (key word.Insert ∷ ts)
+      (key word.Insert ∷ (key word.Into ∷ (name b1.0.0 ∷ (key word.Values ∷ (sign mark.Open ∷ (s4.0 ++ (sign mark.Close ∷ [])))))))
+      (statement.Insert b1.0.0 b4.0.0) b5.0 x rest b5.2 (ap (λ (z : Symbols). key word.Insert ∷ z) q0) (form.is_insert s4.2)
 
 module _ (Inner Deeper : Symbols → Expr → Type 0) (find : TreeReader Expr) (s : Sound Inner find) where
   update_sound : SoundBehind (key word.Update ∷ []) (IsStatement Inner Deeper) (update_of find)
   update_sound ts x rest h =
-      let b0 = bind_some (name_of ts) (λ v. after (key word.Set) v.1 >>= λ v1. sets_of find v1 >>= λ v2. scan_of find v2.1 >>= λ v3. Some (statement.Update v.0 v2.0 v3.0, v3.1)) (x, rest) h in
+      let b0 = bind_some (name_of ts)
+      (λ v. after (key word.Set) v.1 >>= λ v1. sets_of find v1 >>= λ v2. scan_of find v2.1 >>= λ v3. Some (statement.Update v.0 v2.0 v3.0, v3.1))
+      (x, rest) h in
       let s0 = name_is ts b0.0.0 b0.0.1 b0.1 in
-      let b1 = bind_some (after (key word.Set) b0.0.1) (λ v. sets_of find v >>= λ v2. scan_of find v2.1 >>= λ v3. Some (statement.Update b0.0.0 v2.0 v3.0, v3.1)) (x, rest) b0.2 in
+      let b1 = bind_some (after (key word.Set) b0.0.1)
+      (λ v. sets_of find v >>= λ v2. scan_of find v2.1 >>= λ v3. Some (statement.Update b0.0.0 v2.0 v3.0, v3.1)) (x, rest) b0.2 in
       let b2 = bind_some (sets_of find b1.0) (λ v. scan_of find v.1 >>= λ v3. Some (statement.Update b0.0.0 v.0 v3.0, v3.1)) (x, rest) b1.2 in
       let s2 = sets_sound Inner find s b1.0 b2.0.0 b2.0.1 b2.1 in
       let b3 = bind_some (scan_of find b2.0.1) (λ v. Some (statement.Update b0.0.0 b2.0.0 v.0, v.1)) (x, rest) b2.2 in
@@ -277,11 +334,13 @@ module _ (Inner Deeper : Symbols → Expr → Type 0) (find : TreeReader Expr) (
       let q2 : b1.0 ≡ (s2.0 ++ s3.0) ++ b3.0.1 = s2.1 ∙ ap (λ (z : Symbols). s2.0 ++ z) q3 ∙ sym (append_assoc s2.0 (s3.0) b3.0.1) in
       let q1 : b0.0.1 ≡ (key word.Set ∷ (s2.0 ++ s3.0)) ++ b3.0.1 = after_is (key word.Set) b0.0.1 b1.0 b1.1 ∙ ap (λ (z : Symbols). key word.Set ∷ z) q2 in
       let q0 : ts ≡ (name b0.0.0 ∷ (key word.Set ∷ (s2.0 ++ s3.0))) ++ b3.0.1 = s0 ∙ ap (λ (z : Symbols). name b0.0.0 ∷ z) q1 in
-      renamed (IsStatement Inner Deeper) (key word.Update ∷ ts) (key word.Update ∷ (name b0.0.0 ∷ (key word.Set ∷ (s2.0 ++ s3.0)))) (statement.Update b0.0.0 b2.0.0 b3.0.0) b3.0.1 x rest b3.2 (ap (λ (z : Symbols). key word.Update ∷ z) q0) (form.is_update s2.2 s3.2)
+      renamed (IsStatement Inner Deeper) (key word.Update ∷ ts) (key word.Update ∷ (name b0.0.0 ∷ (key word.Set ∷ (s2.0 ++ s3.0))))
+      (statement.Update b0.0.0 b2.0.0 b3.0.0) b3.0.1 x rest b3.2 (ap (λ (z : Symbols). key word.Update ∷ z) q0) (form.is_update s2.2 s3.2)
 
   delete_sound : SoundBehind (key word.Delete ∷ []) (IsStatement Inner Deeper) (delete_of find)
   delete_sound ts x rest h =
-      let b0 = bind_some (after (key word.From) ts) (λ v. name_of v >>= λ v1. scan_of find v1.1 >>= λ v2. Some (statement.Delete v1.0 v2.0, v2.1)) (x, rest) h in
+      let b0 = bind_some (after (key word.From) ts) (λ v. name_of v >>= λ v1. scan_of find v1.1 >>= λ v2. Some (statement.Delete v1.0 v2.0, v2.1))
+      (x, rest) h in
       let b1 = bind_some (name_of b0.0) (λ v. scan_of find v.1 >>= λ v2. Some (statement.Delete v.0 v2.0, v2.1)) (x, rest) b0.2 in
       let s1 = name_is b0.0 b1.0.0 b1.0.1 b1.1 in
       let b2 = bind_some (scan_of find b1.0.1) (λ v. Some (statement.Delete b1.0.0 v.0, v.1)) (x, rest) b1.2 in
@@ -289,7 +348,8 @@ module _ (Inner Deeper : Symbols → Expr → Type 0) (find : TreeReader Expr) (
       let q2 : b1.0.1 ≡ (s2.0) ++ b2.0.1 = s2.1 in
       let q1 : b0.0 ≡ (name b1.0.0 ∷ s2.0) ++ b2.0.1 = s1 ∙ ap (λ (z : Symbols). name b1.0.0 ∷ z) q2 in
       let q0 : ts ≡ (key word.From ∷ name b1.0.0 ∷ s2.0) ++ b2.0.1 = after_is (key word.From) ts b0.0 b0.1 ∙ ap (λ (z : Symbols). key word.From ∷ z) q1 in
-      renamed (IsStatement Inner Deeper) (key word.Delete ∷ ts) (key word.Delete ∷ (key word.From ∷ name b1.0.0 ∷ s2.0)) (statement.Delete b1.0.0 b2.0.0) b2.0.1 x rest b2.2 (ap (λ (z : Symbols). key word.Delete ∷ z) q0) (form.is_delete s2.2)
+      renamed (IsStatement Inner Deeper) (key word.Delete ∷ ts) (key word.Delete ∷ (key word.From ∷ name b1.0.0 ∷ s2.0))
+      (statement.Delete b1.0.0 b2.0.0) b2.0.1 x rest b2.2 (ap (λ (z : Symbols). key word.Delete ∷ z) q0) (form.is_delete s2.2)
 
   ensure_sound : SoundFor (IsStatement Inner Deeper) (ensure_of find)
   ensure_sound ts x rest h =
@@ -302,56 +362,77 @@ module _ (Inner Deeper : Symbols → Expr → Type 0) (find : TreeReader Expr) (
 
   select_rows_sound : SoundBehind (key word.Select ∷ []) (IsStatement Inner Deeper) (select_rows_of find)
   select_rows_sound ts x rest h =
-      let b0 = bind_some (what_of ts) (λ v. after (key word.From) v.1 >>= λ v1. name_of v1 >>= λ v2. scan_of find v2.1 >>= λ v3. Some (statement.Select v.0 v2.0 v3.0, v3.1)) (x, rest) h in
+      let b0 = bind_some (what_of ts)
+      (λ v. after (key word.From) v.1 >>= λ v1. name_of v1 >>= λ v2. scan_of find v2.1 >>= λ v3. Some (statement.Select v.0 v2.0 v3.0, v3.1)) (x, rest) h in
       let s0 = what_sound ts b0.0.0 b0.0.1 b0.1 in
-      let b1 = bind_some (after (key word.From) b0.0.1) (λ v. name_of v >>= λ v2. scan_of find v2.1 >>= λ v3. Some (statement.Select b0.0.0 v2.0 v3.0, v3.1)) (x, rest) b0.2 in
+      let b1 = bind_some (after (key word.From) b0.0.1)
+      (λ v. name_of v >>= λ v2. scan_of find v2.1 >>= λ v3. Some (statement.Select b0.0.0 v2.0 v3.0, v3.1)) (x, rest) b0.2 in
       let b2 = bind_some (name_of b1.0) (λ v. scan_of find v.1 >>= λ v3. Some (statement.Select b0.0.0 v.0 v3.0, v3.1)) (x, rest) b1.2 in
       let s2 = name_is b1.0 b2.0.0 b2.0.1 b2.1 in
       let b3 = bind_some (scan_of find b2.0.1) (λ v. Some (statement.Select b0.0.0 b2.0.0 v.0, v.1)) (x, rest) b2.2 in
       let s3 = scan_sound Inner find s b2.0.1 b3.0.0 b3.0.1 b3.1 in
       let q3 : b2.0.1 ≡ (s3.0) ++ b3.0.1 = s3.1 in
       let q2 : b1.0 ≡ (name b2.0.0 ∷ s3.0) ++ b3.0.1 = s2 ∙ ap (λ (z : Symbols). name b2.0.0 ∷ z) q3 in
-      let q1 : b0.0.1 ≡ (key word.From ∷ name b2.0.0 ∷ s3.0) ++ b3.0.1 = after_is (key word.From) b0.0.1 b1.0 b1.1 ∙ ap (λ (z : Symbols). key word.From ∷ z) q2 in
-      let q0 : ts ≡ (s0.0 ++ (key word.From ∷ name b2.0.0 ∷ s3.0)) ++ b3.0.1 = s0.1 ∙ ap (λ (z : Symbols). s0.0 ++ z) q1 ∙ sym (append_assoc s0.0 (key word.From ∷ name b2.0.0 ∷ s3.0) b3.0.1) in
-      renamed (IsStatement Inner Deeper) (key word.Select ∷ ts) (key word.Select ∷ (s0.0 ++ (key word.From ∷ name b2.0.0 ∷ s3.0))) (statement.Select b0.0.0 b2.0.0 b3.0.0) b3.0.1 x rest b3.2 (ap (λ (z : Symbols). key word.Select ∷ z) q0) (form.is_select s0.2 s3.2)
+      let q1 : b0.0.1 ≡ (key word.From ∷ name b2.0.0 ∷ s3.0) ++ b3.0.1 = after_is (key word.From) b0.0.1 b1.0 b1.1
+      ∙ ap (λ (z : Symbols). key word.From ∷ z) q2 in
+      let q0 : ts ≡ (s0.0 ++ (key word.From ∷ name b2.0.0 ∷ s3.0)) ++ b3.0.1 = s0.1 ∙ ap (λ (z : Symbols). s0.0 ++ z) q1
+      ∙ sym (append_assoc s0.0 (key word.From ∷ name b2.0.0 ∷ s3.0) b3.0.1) in
+      renamed (IsStatement Inner Deeper) (key word.Select ∷ ts) (key word.Select ∷ (s0.0 ++ (key word.From ∷ name b2.0.0 ∷ s3.0)))
+      (statement.Select b0.0.0 b2.0.0 b3.0.0) b3.0.1 x rest b3.2 (ap (λ (z : Symbols). key word.Select ∷ z) q0) (form.is_select s0.2 s3.2)
 
-  only_key_is : (ts : Symbols) (e : Expr) (rest : Symbols) → only_key_of find ts ≡ Some (e, rest) → (us : Symbols) × (ts ≡ key word.Where ∷ key word.Key ∷ sign mark.Equal ∷ us) × (sum_of find us ≡ Some (e, rest))
+  only_key_is : (ts : Symbols) (e : Expr) (rest : Symbols) → only_key_of find ts ≡ Some (e, rest) →
+      (us : Symbols) × (ts ≡ key word.Where ∷ key word.Key ∷ sign mark.Equal ∷ us) × (sum_of find us ≡ Some (e, rest))
   only_key_is ts e rest h =
       let a = bind_some (after (key word.Where) ts) (λ us. after (key word.Key) us >>= λ vs. after (sign mark.Equal) vs >>= λ ws. sum_of find ws) (e, rest) h in
       let b = bind_some (after (key word.Key) a.0) (λ vs. after (sign mark.Equal) vs >>= λ ws. sum_of find ws) (e, rest) a.2 in
-      let c = bind_some (after (sign mark.Equal) b.0) (λ ws. sum_of find ws) (e, rest) b.2 in
-      (c.0, after_is (key word.Where) ts a.0 a.1 ∙ ap (λ (z : Symbols). key word.Where ∷ z) (after_is (key word.Key) a.0 b.0 b.1 ∙ ap (λ (z : Symbols). key word.Key ∷ z) (after_is (sign mark.Equal) b.0 c.0 c.1)), c.2)
+      let c = bind_some (after (sign mark.Equal) b.0) (λ ws. sum_of find ws) (e, rest) b.2 in (
+        c.0,
+        after_is (key word.Where) ts a.0 a.1
+            ∙ ap (λ (z : Symbols). key word.Where ∷ z)
+            (after_is (key word.Key) a.0 b.0 b.1 ∙ ap (λ (z : Symbols). key word.Key ∷ z) (after_is (sign mark.Equal) b.0 c.0 c.1)),
+        c.2,
+      )
 
   select_into_sound : SoundBehind (key word.Select ∷ []) (IsStatement Inner Deeper) (select_into_of find)
   select_into_sound ts x rest h =
-      let a = bind_some (into_of ts) (λ c. after (key word.From) c.1 >>= λ us. name_of us >>= λ n. only_key_of find n.1 >>= λ e. Some (statement.SelectInto c.0.0 c.0.1 n.0 e.0, e.1)) (x, rest) h in
-      let b = bind_some (after (key word.From) a.0.1) (λ us. name_of us >>= λ n. only_key_of find n.1 >>= λ e. Some (statement.SelectInto a.0.0.0 a.0.0.1 n.0 e.0, e.1)) (x, rest) a.2 in
+      let a = bind_some (into_of ts) (λ c. after (key word.From) c.1 >>= λ us. name_of us >>= λ n. only_key_of find n.1 >>= λ e. Some
+      (statement.SelectInto c.0.0 c.0.1 n.0 e.0, e.1)) (x, rest) h in
+      let b = bind_some (after (key word.From) a.0.1)
+      (λ us. name_of us >>= λ n. only_key_of find n.1 >>= λ e. Some (statement.SelectInto a.0.0.0 a.0.0.1 n.0 e.0, e.1)) (x, rest) a.2 in
       let c = bind_some (name_of b.0) (λ n. only_key_of find n.1 >>= λ e. Some (statement.SelectInto a.0.0.0 a.0.0.1 n.0 e.0, e.1)) (x, rest) b.2 in
       let d = bind_some (only_key_of find c.0.1) (λ e. Some (statement.SelectInto a.0.0.0 a.0.0.1 c.0.0 e.0, e.1)) (x, rest) c.2 in
       let k = only_key_is c.0.1 d.0.0 d.0.1 d.1 in
       let r = sum_sound Inner find s k.0 d.0.0 d.0.1 k.2 in
-      let keyed : c.0.1 ≡ key word.Where ∷ key word.Key ∷ sign mark.Equal ∷ (r.0 ++ d.0.1) = k.1 ∙ ap (λ (z : Symbols). key word.Where ∷ key word.Key ∷ sign mark.Equal ∷ z) r.1 in
-      let from : a.0.1 ≡ key word.From ∷ name c.0.0 ∷ key word.Where ∷ key word.Key ∷ sign mark.Equal ∷ (r.0 ++ d.0.1) = after_is (key word.From) a.0.1 b.0 b.1 ∙ ap (λ (z : Symbols). key word.From ∷ z) (name_is b.0 c.0.0 c.0.1 c.1 ∙ ap (λ (z : Symbols). name c.0.0 ∷ z) keyed) in
-      let front : Symbols = key word.Select ∷ name a.0.0.0 ∷ key word.Into ∷ sign mark.Colon ∷ name a.0.0.1 ∷ key word.From ∷ name c.0.0 ∷ key word.Where ∷ key word.Key ∷ sign mark.Equal ∷ r.0 in
-      renamed (IsStatement Inner Deeper) (key word.Select ∷ ts) front (statement.SelectInto a.0.0.0 a.0.0.1 c.0.0 d.0.0) d.0.1 x rest d.2 (ap (λ (z : Symbols). key word.Select ∷ z) (into_is ts a.0.0 a.0.1 a.1 ∙ ap (λ (z : Symbols). name a.0.0.0 ∷ key word.Into ∷ sign mark.Colon ∷ name a.0.0.1 ∷ z) from)) (form.is_select_into r.2)
+      let keyed : c.0.1 ≡ key word.Where ∷ key word.Key ∷ sign mark.Equal ∷ (r.0 ++ d.0.1) = k.1
+      ∙ ap (λ (z : Symbols). key word.Where ∷ key word.Key ∷ sign mark.Equal ∷ z) r.1 in
+      let from : a.0.1 ≡ key word.From ∷ name c.0.0 ∷ key word.Where ∷ key word.Key ∷ sign mark.Equal ∷ (r.0 ++ d.0.1) = after_is
+      (key word.From) a.0.1 b.0 b.1 ∙ ap (λ (z : Symbols). key word.From ∷ z) (name_is b.0 c.0.0 c.0.1 c.1 ∙ ap (λ (z : Symbols). name c.0.0 ∷ z) keyed) in
+      let front : Symbols = key word.Select ∷ name a.0.0.0 ∷ key word.Into ∷ sign mark.Colon ∷ name a.0.0.1 ∷ key word.From ∷ name c.0.0 ∷ key
+      word.Where ∷ key word.Key ∷ sign mark.Equal ∷ r.0 in
+      renamed (IsStatement Inner Deeper) (key word.Select ∷ ts) front (statement.SelectInto a.0.0.0 a.0.0.1 c.0.0 d.0.0) d.0.1 x rest d.2
+      (ap (λ (z : Symbols). key word.Select ∷ z)
+      (into_is ts a.0.0 a.0.1 a.1 ∙ ap (λ (z : Symbols). name a.0.0.0 ∷ key word.Into ∷ sign mark.Colon ∷ name a.0.0.1 ∷ z) from)) (form.is_select_into r.2)
 
   select_sound : SoundBehind (key word.Select ∷ []) (IsStatement Inner Deeper) (select_of find)
   select_sound ts x rest h = go (is_into ts) h
     where
-      go : (b : Bool) → cond b (select_into_of find ts) (select_rows_of find ts) ≡ Some (x, rest) → (front : Symbols) × (key word.Select ∷ ts ≡ front ++ rest) × IsStatement Inner Deeper front x
+      go : (b : Bool) → cond b (select_into_of find ts) (select_rows_of find ts) ≡ Some (x, rest) →
+          (front : Symbols) × (key word.Select ∷ ts ≡ front ++ rest) × IsStatement Inner Deeper front x
       go true h = select_into_sound ts x rest h
       go false h = select_rows_sound ts x rest h
 
   change_sound : SoundFor (IsStatement Inner Deeper) (change_of find)
   change_sound ts x rest h =
       either_is (after (key word.Update) ts) (either (after (key word.Delete) ts) (ensure_of find ts) (delete_of find)) (update_of find) (x, rest) _ h
-      (λ none e. either_is (after (key word.Delete) ts) (ensure_of find ts) (delete_of find) (x, rest) _ e (λ none e. ensure_sound ts x rest e) (λ us some e. behind (IsStatement Inner Deeper) (delete_of find) (key word.Delete) delete_sound ts us x rest some e))
+      (λ none e. either_is (after (key word.Delete) ts) (ensure_of find ts) (delete_of find) (x, rest) _ e (λ none e. ensure_sound ts x rest e)
+      (λ us some e. behind (IsStatement Inner Deeper) (delete_of find) (key word.Delete) delete_sound ts us x rest some e))
       (λ us some e. behind (IsStatement Inner Deeper) (update_of find) (key word.Update) update_sound ts us x rest some e)
 
   pub statement_sound : (found : TreeReader Expr) → Sound Deeper found → SoundFor (IsStatement Inner Deeper) (statement_of find found)
   statement_sound found t ts x rest h =
       either_is (after (key word.Insert) ts) (either (after (key word.Select) ts) (change_of find ts) (select_of find)) (insert_of found) (x, rest) _ h
-      (λ none e. either_is (after (key word.Select) ts) (change_of find ts) (select_of find) (x, rest) _ e (λ none e. change_sound ts x rest e) (λ us some e. behind (IsStatement Inner Deeper) (select_of find) (key word.Select) select_sound ts us x rest some e))
+      (λ none e. either_is (after (key word.Select) ts) (change_of find ts) (select_of find) (x, rest) _ e (λ none e. change_sound ts x rest e)
+      (λ us some e. behind (IsStatement Inner Deeper) (select_of find) (key word.Select) select_sound ts us x rest some e))
       (λ us some e. behind (IsStatement Inner Deeper) (insert_of found) (key word.Insert) (insert_sound Inner Deeper found t) ts us x rest some e)
 
 -- ---- tables
@@ -364,10 +445,14 @@ field_sound ts x rest h =
     (λ none e.
     let c = bind_some (after (key word.Text) a.0.1) (λ us. Some (kind.Text, us)) b.0 e in
     let p = some_is (kind.Text, c.0) b.0 c.2 in
-    renamed IsField ts (name a.0.0 ∷ key word.Text ∷ []) (record { name = a.0.0; kind = kind.Text }) c.0 x rest (ap (λ (k : ColType × Symbols). let y : Option (Field × Symbols) = Some (record { name = a.0.0; kind = k.0 }, k.1) in y) p ∙ b.2) (name_is ts a.0.0 a.0.1 a.1 ∙ ap (λ (z : Symbols). name a.0.0 ∷ z) (after_is (key word.Text) a.0.1 c.0 c.1)) table.text_field)
+    renamed IsField ts (name a.0.0 ∷ key word.Text ∷ []) (record { name = a.0.0; kind = kind.Text }) c.0 x rest
+    (ap (λ (k : ColType × Symbols). let y : Option (Field × Symbols) = Some (record { name = a.0.0; kind = k.0 }, k.1) in y) p ∙ b.2)
+    (name_is ts a.0.0 a.0.1 a.1 ∙ ap (λ (z : Symbols). name a.0.0 ∷ z) (after_is (key word.Text) a.0.1 c.0 c.1)) table.text_field)
     (λ us some e.
     let p = some_is (kind.Int, us) b.0 e in
-    renamed IsField ts (name a.0.0 ∷ key word.Int ∷ []) (record { name = a.0.0; kind = kind.Int }) us x rest (ap (λ (k : ColType × Symbols). let y : Option (Field × Symbols) = Some (record { name = a.0.0; kind = k.0 }, k.1) in y) p ∙ b.2) (name_is ts a.0.0 a.0.1 a.1 ∙ ap (λ (z : Symbols). name a.0.0 ∷ z) (after_is (key word.Int) a.0.1 us some)) table.int_field)
+    renamed IsField ts (name a.0.0 ∷ key word.Int ∷ []) (record { name = a.0.0; kind = kind.Int }) us x rest
+    (ap (λ (k : ColType × Symbols). let y : Option (Field × Symbols) = Some (record { name = a.0.0; kind = k.0 }, k.1) in y) p ∙ b.2)
+    (name_is ts a.0.0 a.0.1 a.1 ∙ ap (λ (z : Symbols). name a.0.0 ∷ z) (after_is (key word.Int) a.0.1 us some)) table.int_field)
 
 field_comma_is : (ts us : Symbols) → field_comma ts ≡ Some us → ts ≡ sign mark.Comma ∷ us
 field_comma_is ts us h =
@@ -388,7 +473,8 @@ fields_sound ts x rest h =
     let r = field_sound ts a.0.0 a.0.1 a.1 in
     let q = following_sound field_comma field_comma_is IsField field_of field_sound (length b.0) b.0 c.0.0 c.0.1 c.1 in
     let keyed : a.0.1 ≡ (key word.Key ∷ q.0) ++ c.0.1 = after_is (key word.Key) a.0.1 b.0 b.1 ∙ ap (λ (z : Symbols). key word.Key ∷ z) q.1 in
-    renamed IsFields ts (r.0 ++ key word.Key ∷ q.0) (a.0.0 ∷ c.0.0) c.0.1 x rest c.2 (r.1 ∙ ap (λ (z : Symbols). r.0 ++ z) keyed ∙ sym (append_assoc r.0 (key word.Key ∷ q.0) c.0.1)) (is_fields r.2 q.2)
+    renamed IsFields ts (r.0 ++ key word.Key ∷ q.0) (a.0.0 ∷ c.0.0) c.0.1 x rest c.2
+    (r.1 ∙ ap (λ (z : Symbols). r.0 ++ z) keyed ∙ sym (append_assoc r.0 (key word.Key ∷ q.0) c.0.1)) (is_fields r.2 q.2)
 
 module _ (Inner : Symbols → Expr → Type 0) (find : TreeReader Expr) (s : Sound Inner find) where
   check_sound : SoundFor (IsCheck Inner) (check_of find)
@@ -401,25 +487,40 @@ module _ (Inner : Symbols → Expr → Type 0) (find : TreeReader Expr) (s : Sou
   checks_sound ts x rest h = following_sound comma comma_is (IsCheck Inner) (check_of find) check_sound (length ts) ts x rest h
 
   -- a table, by its columns in one
-  is_defined : {t : List ℕ} {a c : Symbols} {fs : List Field} {es : List Expr} → IsFields a fs → Following (IsCheck Inner) c es → IsTable Inner (key word.Create ∷ key word.Table ∷ name t ∷ sign mark.Open ∷ (a ++ (c ++ sign mark.Close ∷ []))) (record { name = t; columns = fs; checks = es })
+  is_defined : {t : List ℕ} {a c : Symbols} {fs : List Field} {es : List Expr} → IsFields a fs → Following (IsCheck Inner) c es →
+      IsTable Inner (key word.Create ∷ key word.Table ∷ name t ∷ sign mark.Open ∷ (a ++ (c ++ sign mark.Close ∷ [])))
+      (record { name = t; columns = fs; checks = es })
   is_defined {c = c} (is_fields {a = a} {b = b} f d) k = rw (append_assoc a (key word.Key ∷ b) (c ++ sign mark.Close ∷ [])) (table.is_table f d k)
 
   definition_sound : SoundBehind (key word.Create ∷ key word.Table ∷ []) (IsTable Inner) (definition_of find)
   definition_sound ts x rest h =
-      let b0 = bind_some (name_of ts) (λ v. after (sign mark.Open) v.1 >>= λ v1. fields_of v1 >>= λ v2. checks_of find v2.1 >>= λ v3. after (sign mark.Close) v3.1 >>= λ v4. Some (record { name = v.0; columns = v2.0; checks = v3.0 }, v4)) (x, rest) h in
+      let b0 = bind_some (name_of ts)
+      (λ v. after (sign mark.Open) v.1 >>= λ v1. fields_of v1 >>= λ v2. checks_of find v2.1 >>= λ v3. after (sign mark.Close) v3.1 >>= λ v4. Some
+      (record { name = v.0; columns = v2.0; checks = v3.0 }, v4)) (x, rest) h in
       let s0 = name_is ts b0.0.0 b0.0.1 b0.1 in
-      let b1 = bind_some (after (sign mark.Open) b0.0.1) (λ v. fields_of v >>= λ v2. checks_of find v2.1 >>= λ v3. after (sign mark.Close) v3.1 >>= λ v4. Some (record { name = b0.0.0; columns = v2.0; checks = v3.0 }, v4)) (x, rest) b0.2 in
-      let b2 = bind_some (fields_of b1.0) (λ v. checks_of find v.1 >>= λ v3. after (sign mark.Close) v3.1 >>= λ v4. Some (record { name = b0.0.0; columns = v.0; checks = v3.0 }, v4)) (x, rest) b1.2 in
+      let b1 = bind_some (after (sign mark.Open) b0.0.1)
+      (λ v. fields_of v >>= λ v2. checks_of find v2.1 >>= λ v3. after (sign mark.Close) v3.1 >>= λ v4. Some
+      (record { name = b0.0.0; columns = v2.0; checks = v3.0 }, v4)) (x, rest) b0.2 in
+      let b2 = bind_some (fields_of b1.0)
+      (λ v. checks_of find v.1 >>= λ v3. after (sign mark.Close) v3.1 >>= λ v4. Some (record { name = b0.0.0; columns = v.0; checks = v3.0 }, v4))
+      (x, rest) b1.2 in
       let s2 = fields_sound b1.0 b2.0.0 b2.0.1 b2.1 in
-      let b3 = bind_some (checks_of find b2.0.1) (λ v. after (sign mark.Close) v.1 >>= λ v4. Some (record { name = b0.0.0; columns = b2.0.0; checks = v.0 }, v4)) (x, rest) b2.2 in
+      let b3 = bind_some (checks_of find b2.0.1)
+      (λ v. after (sign mark.Close) v.1 >>= λ v4. Some (record { name = b0.0.0; columns = b2.0.0; checks = v.0 }, v4)) (x, rest) b2.2 in
       let s3 = checks_sound b2.0.1 b3.0.0 b3.0.1 b3.1 in
       let b4 = bind_some (after (sign mark.Close) b3.0.1) (λ v. Some (record { name = b0.0.0; columns = b2.0.0; checks = b3.0.0 }, v)) (x, rest) b3.2 in
       let q4 : b3.0.1 ≡ (sign mark.Close ∷ []) ++ b4.0 = after_is (sign mark.Close) b3.0.1 b4.0 b4.1 in
-      let q3 : b2.0.1 ≡ (s3.0 ++ (sign mark.Close ∷ [])) ++ b4.0 = s3.1 ∙ ap (λ (z : Symbols). s3.0 ++ z) q4 ∙ sym (append_assoc s3.0 (sign mark.Close ∷ []) b4.0) in
-      let q2 : b1.0 ≡ (s2.0 ++ (s3.0 ++ (sign mark.Close ∷ []))) ++ b4.0 = s2.1 ∙ ap (λ (z : Symbols). s2.0 ++ z) q3 ∙ sym (append_assoc s2.0 (s3.0 ++ (sign mark.Close ∷ [])) b4.0) in
-      let q1 : b0.0.1 ≡ (sign mark.Open ∷ (s2.0 ++ (s3.0 ++ (sign mark.Close ∷ [])))) ++ b4.0 = after_is (sign mark.Open) b0.0.1 b1.0 b1.1 ∙ ap (λ (z : Symbols). sign mark.Open ∷ z) q2 in
+      let q3 : b2.0.1 ≡ (s3.0 ++ (sign mark.Close ∷ [])) ++ b4.0 = s3.1 ∙ ap (λ (z : Symbols). s3.0 ++ z) q4
+      ∙ sym (append_assoc s3.0 (sign mark.Close ∷ []) b4.0) in
+      let q2 : b1.0 ≡ (s2.0 ++ (s3.0 ++ (sign mark.Close ∷ []))) ++ b4.0 = s2.1 ∙ ap (λ (z : Symbols). s2.0 ++ z) q3
+      ∙ sym (append_assoc s2.0 (s3.0 ++ (sign mark.Close ∷ [])) b4.0) in
+      let q1 : b0.0.1 ≡ (sign mark.Open ∷ (s2.0 ++ (s3.0 ++ (sign mark.Close ∷ [])))) ++ b4.0 = after_is (sign mark.Open) b0.0.1 b1.0 b1.1
+      ∙ ap (λ (z : Symbols). sign mark.Open ∷ z) q2 in
       let q0 : ts ≡ (name b0.0.0 ∷ (sign mark.Open ∷ (s2.0 ++ (s3.0 ++ (sign mark.Close ∷ []))))) ++ b4.0 = s0 ∙ ap (λ (z : Symbols). name b0.0.0 ∷ z) q1 in
-      renamed (IsTable Inner) (key word.Create ∷ key word.Table ∷ ts) (key word.Create ∷ key word.Table ∷ (name b0.0.0 ∷ (sign mark.Open ∷ (s2.0 ++ (s3.0 ++ (sign mark.Close ∷ [])))))) (record { name = b0.0.0; columns = b2.0.0; checks = b3.0.0 }) b4.0 x rest b4.2 (ap (λ (z : Symbols). key word.Create ∷ key word.Table ∷ z) q0) (is_defined s2.2 s3.2)
+      renamed (IsTable Inner) (key word.Create ∷ key word.Table ∷ ts)
+      (key word.Create ∷ key word.Table ∷ (name b0.0.0 ∷ (sign mark.Open ∷ (s2.0 ++ (s3.0 ++ (sign mark.Close ∷ []))))))
+      (record { name = b0.0.0; columns = b2.0.0; checks = b3.0.0 }) b4.0 x rest b4.2
+      (ap (λ (z : Symbols). key word.Create ∷ key word.Table ∷ z) q0) (is_defined s2.2 s3.2)
 
   pub table_sound : SoundFor (IsTable Inner) (table_of find)
   table_sound ts x rest h =

@@ -41,7 +41,8 @@ and_of inner ts = either (after (key word.And) ts) (Some (None, ts)) (λ us. con
 
 abbrev pub between_of : TreeReader Expr → TreeReader Scan
 between_of inner ts =
-    sum_of inner ts >>= λ low. after (key word.And) low.1 >>= λ us. sum_of inner us >>= λ high. and_of inner high.1 >>= λ w. Some (record { bound = bound.Between low.0 high.0; filter = w.0 }, w.1)
+    sum_of inner ts >>= λ low. after (key word.And) low.1 >>= λ us. sum_of inner us >>= λ high. and_of inner high.1 >>= λ w. Some
+    (record { bound = bound.Between low.0 high.0; filter = w.0 }, w.1)
 
 abbrev pub equal_of : TreeReader Expr → TreeReader Scan
 equal_of inner ts =
@@ -90,14 +91,16 @@ abbrev pub columns_of : TreeReader What
 columns_of ts = names_of ts >>= λ ns. Some (what.Columns ns.0, ns.1)
 
 abbrev pub aggregate_of : TreeReader What
-aggregate_of ts = either (after (key word.Sum) ts) (either (after (key word.Min) ts) (either (after (key word.Max) ts) (columns_of ts) largest_of) least_of) total_of
+aggregate_of ts = either (after (key word.Sum) ts)
+    (either (after (key word.Min) ts) (either (after (key word.Max) ts) (columns_of ts) largest_of) least_of) total_of
 
 abbrev pub what_of : TreeReader What
 what_of ts = either (after (sign mark.Star) ts) (either (after (key word.Count) ts) (aggregate_of ts) count_of) (λ us. Some (what.All, us))
 
 abbrev pub insert_of : TreeReader Expr → TreeReader Statement
 insert_of deeper ts =
-    after (key word.Into) ts >>= λ us. name_of us >>= λ n. after (key word.Values) n.1 >>= λ vs. after (sign mark.Open) vs >>= λ ws. values_of deeper ws >>= λ es. after (sign mark.Close) es.1 >>= λ xs. Some (statement.Insert n.0 es.0, xs)
+    after (key word.Into) ts >>= λ us. name_of us >>= λ n. after (key word.Values) n.1 >>= λ vs. after
+    (sign mark.Open) vs >>= λ ws. values_of deeper ws >>= λ es. after (sign mark.Close) es.1 >>= λ xs. Some (statement.Insert n.0 es.0, xs)
 
 abbrev pub into_of : TreeReader (List ℕ × List ℕ)
 into_of ts = name_of ts >>= λ c. after (key word.Into) c.1 >>= λ us. after (sign mark.Colon) us >>= λ vs. name_of vs >>= λ v. Some ((c.0, v.0), v.1)
@@ -107,7 +110,8 @@ only_key_of inner ts = after (key word.Where) ts >>= λ us. after (key word.Key)
 
 abbrev pub select_into_of : TreeReader Expr → TreeReader Statement
 select_into_of inner ts =
-    into_of ts >>= λ c. after (key word.From) c.1 >>= λ us. name_of us >>= λ n. only_key_of inner n.1 >>= λ e. Some (statement.SelectInto c.0.0 c.0.1 n.0 e.0, e.1)
+    into_of ts >>= λ c. after (key word.From) c.1 >>= λ us. name_of us >>= λ n. only_key_of inner n.1 >>= λ e. Some
+    (statement.SelectInto c.0.0 c.0.1 n.0 e.0, e.1)
 
 abbrev pub select_rows_of : TreeReader Expr → TreeReader Statement
 select_rows_of inner ts =
@@ -117,7 +121,8 @@ abbrev pub select_of : TreeReader Expr → TreeReader Statement
 select_of inner ts = cond (is_into ts) (select_into_of inner ts) (select_rows_of inner ts)
 
 abbrev pub update_of : TreeReader Expr → TreeReader Statement
-update_of inner ts = name_of ts >>= λ n. after (key word.Set) n.1 >>= λ us. sets_of inner us >>= λ sets. scan_of inner sets.1 >>= λ s. Some (statement.Update n.0 sets.0 s.0, s.1)
+update_of inner ts = name_of ts >>= λ n. after (key word.Set) n.1 >>= λ us. sets_of inner us >>= λ sets. scan_of inner sets.1 >>= λ s. Some
+    (statement.Update n.0 sets.0 s.0, s.1)
 
 abbrev pub delete_of : TreeReader Expr → TreeReader Statement
 delete_of inner ts = after (key word.From) ts >>= λ us. name_of us >>= λ n. scan_of inner n.1 >>= λ s. Some (statement.Delete n.0 s.0, s.1)
@@ -129,7 +134,8 @@ abbrev pub change_of : TreeReader Expr → TreeReader Statement
 change_of inner ts = either (after (key word.Update) ts) (either (after (key word.Delete) ts) (ensure_of inner ts) (delete_of inner)) (update_of inner)
 
 abbrev pub statement_of : TreeReader Expr → TreeReader Expr → TreeReader Statement
-statement_of inner deeper ts = either (after (key word.Insert) ts) (either (after (key word.Select) ts) (change_of inner ts) (select_of inner)) (insert_of deeper)
+statement_of inner deeper ts = either (after (key word.Insert) ts) (either (after (key word.Select) ts) (change_of inner ts) (select_of inner))
+    (insert_of deeper)
 
 -- tables
 
@@ -147,7 +153,8 @@ checks_of inner ts = following_of comma (check_of inner) (length ts) ts
 
 abbrev pub definition_of : TreeReader Expr → TreeReader TableDef
 definition_of inner ts =
-    name_of ts >>= λ n. after (sign mark.Open) n.1 >>= λ us. fields_of us >>= λ cs. checks_of inner cs.1 >>= λ es. after (sign mark.Close) es.1 >>= λ vs. Some (record { name = n.0; columns = cs.0; checks = es.0 }, vs)
+    name_of ts >>= λ n. after (sign mark.Open) n.1 >>= λ us. fields_of us >>= λ cs. checks_of inner cs.1 >>= λ es. after
+    (sign mark.Close) es.1 >>= λ vs. Some (record { name = n.0; columns = cs.0; checks = es.0 }, vs)
 
 abbrev pub table_of : TreeReader Expr → TreeReader TableDef
 table_of inner ts = after (key word.Create) ts >>= λ us. after (key word.Table) us >>= λ vs. definition_of inner vs

@@ -1,6 +1,7 @@
 -- What is spelled with fewer parentheses is spelled with more.
 use Rattle.std.proofs.Common.{ℕ, zero, suc, ◌≤◌, List, Option, arith}
-use Rattle.salt_ast.specs.Grammar.{Atom, Conjunction, Expression, Left, Nots, Once, Sum, Within, alone, colon, literal, minus_int, more, named, not, one, pair, paren, plain, plus_int}
+use Rattle.salt_ast.specs.Grammar.{Atom, Conjunction, Expression, Left, Nots, Once, Sum, Within, alone, colon, literal, minus_int, more, named, not}
+use Rattle.salt_ast.specs.Grammar.{one, pair, paren, plain, plus_int}
 use Rattle.salt_ast.specs.Statements as form
 use Rattle.salt_ast.specs.Statements.{Following, IsAnd, IsScan, IsSet, IsStatement, Listed}
 use Rattle.salt_ast.specs.Tables as table

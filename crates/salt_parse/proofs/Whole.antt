@@ -1,11 +1,12 @@
 -- What the bytes spell, by what their symbols spell.
-use Rattle.std.proofs.Common.{◌≡◌, ◌≢◌, ℕ, Bool, true, false, not, ◌&&◌, List, [], ◌∷◌, ◌++◌, Option, Some, None, Result, Ok, Err, refl, sym, ap, subst, ◌∙◌, arith}
+use Rattle.std.proofs.Common.{◌≡◌, ◌≢◌, ℕ, Bool, true, false, not, ◌&&◌, List, [], ◌∷◌, ◌++◌, Option, Some, None, Result, Ok, Err, refl, sym, ap}
+use Rattle.std.proofs.Common.{subst, ◌∙◌, arith}
 use Rattle.std.proofs.lemmas.List.{append-nil}
 use Rattle.std.specs.List.{list_all}
 use Rattle.std.specs.Prelude.{IfOk, is_none}
 use Rattle.salt_ast.specs.Grammar.{Within}
 use Rattle.salt_ast.specs.Limits.{statement_limit, table_limit}
-use Rattle.salt_ast.specs.Spelling.{IsStatementWithinLimits, IsTableWithinLimits, Passes, Spells, SpellsStatement, SpellsTable, StatementPasses, TablePasses, by_parentheses, by_tree}
+use Rattle.salt_ast.specs.Spelling.{IsWithinLimits, Passes, Spells, SpellsStatement, SpellsTable, by_parentheses, by_tree}
 use Rattle.salt_ast.specs.Statements.{IsStatement}
 use Rattle.salt_ast.specs.Tables.{IsTable}
 use Rattle.std.specs.Bool.{then_some}
@@ -15,11 +16,11 @@ use Rattle.salt_ast.specs.declared.limit.LimitName.TheVariants as limit
 use Rattle.salt_ast.specs.declared.trees.Statement.{Statement}
 use Rattle.salt_ast.specs.declared.trees.TableDef.{TableDef}
 use Rattle.salt_parse.specs.Answers.{parse_err}
-use Rattle.salt_parse.specs.Attempts.{IsAnswer, attempt_of, ended, limit_in, settled, tree_or_limit}
+use Rattle.salt_parse.specs.Attempts.{IsAnswer, IsAnswerFor, answer_for, attempt_of, ended, limit_in, settled, tree_or_limit}
 use Rattle.salt_parse.specs.Flags.{Flags, clear, no_flags}
 use Rattle.salt_parse.specs.Reading.{Read, after, within_at}
-use Rattle.salt_parse.specs.StatementReading.{statement_at}
-use Rattle.salt_parse.specs.TableReading.{table_at}
+use Rattle.salt_parse.specs.StatementReading.{statement_at, statement_within}
+use Rattle.salt_parse.specs.TableReading.{table_at, table_within}
 use Rattle.salt_parse.specs.declared.error.ParseErr.{ParseErr}
 use Rattle.salt_parse.specs.declared.error.ParseErr.TheVariants.{Limit, Memory, Syntax}
 use Rattle.salt_parse.proofs.ExpressionLaws.{some_is, within_complete, within_sound}
@@ -108,7 +109,8 @@ module _ {A : Type 0} (m : Marks A) where
       go : (l : Option LimitName) → limit_in f ≡ l → Finds m (Some (a, [])) (tree_or_limit x l)
       go None h =
           let is : x ≡ a = i (none_clear f h) in
-          subst (λ (z : A). (◌≡◌ {A = Option (A × Symbols)} (Some (a, [])) (Some (z, []))) × (option_or (m.passed z) (then_some (m.high z) limit.Depth) ≡ None)) (sym is) (refl, sym same ∙ h)
+          subst (λ (z : A). (◌≡◌ {A = Option (A × Symbols)} (Some (a, [])) (Some (z, []))) ×
+          (option_or (m.passed z) (then_some (m.high z) limit.Depth) ≡ None)) (sym is) (refl, sym same ∙ h)
       go (Some l) h = (a, refl, sym same ∙ h)
 
   pub finds : (r : Option (Read A)) (q : Option (A × Symbols)) → Agrees m AreKept no_flags r q → Finds m q (attempt_of r)
@@ -125,21 +127,22 @@ module _ {A : Type 0} (m : Marks A) where
 
 -- ---- two attempts
 
-module _ {A : Type 0} (m : Marks A) (Shallow Deep : Symbols → A → Type 0) (up : (ts : Symbols) (x : A) → Shallow ts x → Deep ts x) (p q : Option (A × Symbols)) (ts : Symbols) where
+-- what an answer tells of what the row spells, where a tree passes this limit
+abbrev pub Settles : {A : Type 0} → (A → Option LimitName) → (Symbols → A → Type 0) → (Symbols → A → Type 0) → Symbols → Result A ParseErr → Type 0
+Settles limit_of Shallow Deep ts (Ok x) = Shallow ts x × (limit_of x ≡ None)
+Settles limit_of Shallow Deep ts (Err Memory) = Unit {0}
+Settles {A} limit_of Shallow Deep ts (Err Syntax) = (x : A) → Deep ts x → ⊥
+Settles {A} limit_of Shallow Deep ts (Err (Limit l)) = (x : A) × Deep ts x × Passes (limit_of x) (Shallow ts x) l
+
+module _ {A : Type 0} (m : Marks A) (Shallow Deep : Symbols → A → Type 0) (up : (ts : Symbols) (x : A) → Shallow ts x → Deep ts x)
+    (p q : Option (A × Symbols)) (ts : Symbols) where
   abbrev Found : Option (A × Symbols) → (Symbols → A → Type 0) → Type 0
   Found o G = ((x : A) → o ≡ Some (x, []) → G ts x) × ((x : A) → G ts x → o ≡ Some (x, []))
 
-  abbrev tree_limit : A → Option LimitName
-  tree_limit x = option_or (m.passed x) (then_some (m.high x) limit.Depth)
+  abbrev Tells : Result A ParseErr → Type 0
+  Tells = Settles (λ x. option_or (m.passed x) (then_some (m.high x) limit.Depth)) Shallow Deep ts
 
-  -- what is answered, by what the row spells
-  abbrev pub Settles : Result A ParseErr → Type 0
-  Settles (Ok x) = Shallow ts x × (tree_limit x ≡ None)
-  Settles (Err Memory) = Unit {0}
-  Settles (Err Syntax) = (x : A) → Deep ts x → ⊥
-  Settles (Err (Limit l)) = (x : A) × Deep ts x × Passes (tree_limit x) (Shallow ts x) l
-
-  settles : (r s : Result (Result A LimitName) ParseErr) → Found p Shallow → Found q Deep → Finds m p r → Finds m q s → Settles (settled r s)
+  settles : (r s : Result (Result A LimitName) ParseErr) → Found p Shallow → Found q Deep → Finds m p r → Finds m q s → Tells (settled r s)
   settles (Ok (Ok x)) s f g h k = (f.0 x h.0, h.1)
   settles (Ok (Err l)) s f g h k = (h.0, up ts h.0 (f.0 h.0 h.1), by_tree h.2)
   settles (Err Memory) s f g h k = absurd h
@@ -150,13 +153,14 @@ module _ {A : Type 0} (m : Marks A) (Shallow Deep : Symbols → A → Type 0) (u
   settles (Err Syntax) (Err Memory) f g h k = absurd k
   settles (Err Syntax) (Err (Limit l)) f g h k = absurd k
 
-  pub answered : (r : Result A ParseErr) (a : Result A ParseErr) → IsAnswer r a → Settles a → Settles r
-  answered (Ok x) a e h = subst Settles e h
+  pub answered : (r : Result A ParseErr) (a : Result A ParseErr) → IsAnswer r a → Tells a → Tells r
+  answered (Ok x) a e h = subst Tells e h
   answered (Err Memory) a e h = tt
-  answered (Err Syntax) a e h = subst Settles e h
-  answered (Err (Limit l)) a e h = subst Settles e h
+  answered (Err Syntax) a e h = subst Tells e h
+  answered (Err (Limit l)) a e h = subst Tells e h
 
-  pub all : (r : Result A ParseErr) (u v : Option (Read A)) → Found p Shallow → Found q Deep → Agrees m AreKept no_flags u p → Agrees m AreKept no_flags v q → IsAnswer r (settled (attempt_of u) (attempt_of v)) → Settles r
+  pub all : (r : Result A ParseErr) (u v : Option (Read A)) → Found p Shallow → Found q Deep → Agrees m AreKept no_flags u p →
+      Agrees m AreKept no_flags v q → IsAnswer r (settled (attempt_of u) (attempt_of v)) → Tells r
   all r u v f g h k e = answered r (settled (attempt_of u) (attempt_of v)) e (settles (attempt_of u) (attempt_of v) f g (finds m u p h) (finds m v q k))
 
 -- ---- statements
@@ -168,20 +172,28 @@ ends = record { stops = tt; no_where = refl; no_comma = refl }
 whole : {A : Type 0} (G : Symbols → A → Type 0) (ts : Symbols) (x : A) → (front : Symbols) × (ts ≡ front ++ []) × G front x → G ts x
 whole {A} G ts x r = subst (λ (z : Symbols). G z x) (sym (r.1 ∙ append-nil r.0)) r.2
 
-statement_found : (d n : ℕ) (ts : Symbols) → ((x : Statement) → statement_of (within_of d) (within_of n) ts ≡ Some (x, []) → IsStatement (Within d) (Within n) ts x) × ((x : Statement) → IsStatement (Within d) (Within n) ts x → statement_of (within_of d) (within_of n) ts ≡ Some (x, []))
+statement_found : (d n : ℕ) (ts : Symbols) →
+    ((x : Statement) → statement_of (within_of d) (within_of n) ts ≡ Some (x, []) → IsStatement (Within d) (Within n) ts x) ×
+    ((x : Statement) → IsStatement (Within d) (Within n) ts x → statement_of (within_of d) (within_of n) ts ≡ Some (x, []))
 statement_found d n ts = (
-  λ x h. whole (IsStatement (Within d) (Within n)) ts x (statement_sound (Within d) (Within n) (within_of d) (within_sound d) (within_of n) (within_sound n) ts x [] h),
-  λ x h. ap (statement_of (within_of d) (within_of n)) (sym (append-nil ts)) ∙ statement_complete (Within d) (Within n) (within_of d) (within_of n) (within_sound d) (within_sound n) (within_complete d) (within_complete n) ts [] x h ends,
+  λ x h. whole (IsStatement (Within d) (Within n)) ts x
+      (statement_sound (Within d) (Within n) (within_of d) (within_sound d) (within_of n) (within_sound n) ts x [] h),
+  λ x h. ap (statement_of (within_of d) (within_of n)) (sym (append-nil ts))
+      ∙ statement_complete (Within d) (Within n) (within_of d) (within_of n) (within_sound d) (within_sound n) (within_complete d)
+      (within_complete n) ts [] x h ends,
 )
 
-table_found : (d : ℕ) (ts : Symbols) → ((x : TableDef) → table_of (within_of d) ts ≡ Some (x, []) → IsTable (Within d) ts x) × ((x : TableDef) → IsTable (Within d) ts x → table_of (within_of d) ts ≡ Some (x, []))
+table_found : (d : ℕ) (ts : Symbols) →
+    ((x : TableDef) → table_of (within_of d) ts ≡ Some (x, []) → IsTable (Within d) ts x) ×
+    ((x : TableDef) → IsTable (Within d) ts x → table_of (within_of d) ts ≡ Some (x, []))
 table_found d ts = (
   λ x h. whole (IsTable (Within d)) ts x (table_sound (Within d) (within_of d) (within_sound d) ts x [] h),
   λ x h. ap (table_of (within_of d)) (sym (append-nil ts)) ∙ table_complete (Within d) (within_of d) (within_sound d) (within_complete d) ts [] x h,
 )
 
 -- no row spells two trees
-one_of : {A : Type 0} (G : Symbols → A → Type 0) (o : Option (A × Symbols)) (ts : Symbols) → ((x : A) → G ts x → o ≡ Some (x, [])) → (a b : A) → G ts a → G ts b → a ≡ b
+one_of : {A : Type 0} (G : Symbols → A → Type 0) (o : Option (A × Symbols)) (ts : Symbols) → ((x : A) → G ts x → o ≡ Some (x, [])) → (a b : A) →
+    G ts a → G ts b → a ≡ b
 one_of {A} G o ts c a b d k = ap (λ (x : A × Symbols). x.0) (some_is (a, []) (b, []) (sym (c a d) ∙ c b k))
 
 -- the bytes have one row of tokens at most
@@ -198,95 +210,102 @@ module _ {A : Type 0} (one : OneRow) (bytes : List ℕ) where
       let same : symbols_of s.tokens ≡ r = ap symbols_of (one bytes s.tokens h.0 s.lexes h.1) ∙ sym h.2 in
       subst (λ (z : Symbols). G z x) same s.spelled
 
-  one_tree : (G : Symbols → A → Type 0) (find : Symbols → Option (A × Symbols)) → ((ts : Symbols) (x : A) → G ts x → find ts ≡ Some (x, [])) → (a b : A) → Spells G bytes a → Spells G bytes b → a ≡ b
+  one_tree : (G : Symbols → A → Type 0) (find : Symbols → Option (A × Symbols)) → ((ts : Symbols) (x : A) → G ts x → find ts ≡ Some (x, [])) →
+      (a b : A) → Spells G bytes a → Spells G bytes b → a ≡ b
   one_tree G find c a b s t =
       let h : HasSymbols bytes (symbols_of t.tokens) = (t.tokens, t.lexes, refl) in
       one_of G (find (symbols_of t.tokens)) (symbols_of t.tokens) (λ x d. c (symbols_of t.tokens) x d) a b (unspelled G (symbols_of t.tokens) a h s) t.spelled
 
-  passes : (Shallow : Symbols → A → Type 0) (o : Option LimitName) (r : Symbols) (x : A) (l : LimitName) → HasSymbols bytes r → Passes o (Shallow r x) l → Passes o (Spells Shallow bytes x) l
+  passes : (Shallow : Symbols → A → Type 0) (o : Option LimitName) (r : Symbols) (x : A) (l : LimitName) → HasSymbols bytes r →
+      Passes o (Shallow r x) l → Passes o (Spells Shallow bytes x) l
   passes Shallow o r x l h (by_tree e) = by_tree e
   passes Shallow o r x l h (by_parentheses e n) = by_parentheses e (λ s. n (unspelled Shallow r x h s))
 
 pub one_statement : OneRow → (bytes : List ℕ) (a b : Statement) → SpellsStatement bytes a → SpellsStatement bytes b → a ≡ b
-one_statement one bytes a b s t = one_tree one bytes (IsStatement (Within 128) (Within 127)) (statement_of (within_of 128) (within_of 127)) (λ ts x d. (statement_found 128 127 ts).1 x d) a b s t
+one_statement one bytes a b s t = one_tree one bytes (IsStatement (Within 128) (Within 127)) (statement_of (within_of 128) (within_of 127))
+    (λ ts x d. (statement_found 128 127 ts).1 x d) a b s t
 
 pub one_table : OneRow → (bytes : List ℕ) (a b : TableDef) → SpellsTable bytes a → SpellsTable bytes b → a ≡ b
 one_table one bytes a b s t = one_tree one bytes (IsTable (Within 127)) (table_of (within_of 127)) (λ ts x d. (table_found 127 ts).1 x d) a b s t
 
 -- ---- the answers
 
-abbrev pub StatementAnswer : Symbols → Result Statement ParseErr → Type 0
-StatementAnswer ts r = IsAnswer r (settled (attempt_of (statement_at (within_at 64) (within_at 64) no_flags ts)) (attempt_of (statement_at (within_at 128) (within_at 127) no_flags ts)))
-
-abbrev pub TableAnswer : Symbols → Result TableDef ParseErr → Type 0
-TableAnswer ts r = IsAnswer r (settled (attempt_of (table_at (within_at 64) no_flags ts)) (attempt_of (table_at (within_at 127) no_flags ts)))
-
-abbrev ShallowStatement : Symbols → Statement → Type 0
+abbrev pub ShallowStatement : Symbols → Statement → Type 0
 ShallowStatement = IsStatement (Within 64) (Within 64)
 
-abbrev DeepStatement : Symbols → Statement → Type 0
+abbrev pub DeepStatement : Symbols → Statement → Type 0
 DeepStatement = IsStatement (Within 128) (Within 127)
 
-statement_settles : (ts : Symbols) (r : Result Statement ParseErr) → ArePrintable ts → StatementAnswer ts r → Settles statement_marks ShallowStatement DeepStatement (λ us x d. statement_up (within_up 64 128 (omega arith)) (within_up 64 127 (omega arith)) us x d) (statement_of (within_of 64) (within_of 64) ts) (statement_of (within_of 128) (within_of 127) ts) ts r
+pub statement_settles : (ts : Symbols) (r : Result Statement ParseErr) → ArePrintable ts → IsAnswer r (answer_for statement_within ts) →
+    Settles statement_limit ShallowStatement DeepStatement ts r
+unfolding statement_limit
 statement_settles ts r p e =
-    all statement_marks ShallowStatement DeepStatement (λ us x d. statement_up (within_up 64 128 (omega arith)) (within_up 64 127 (omega arith)) us x d) (statement_of (within_of 64) (within_of 64) ts) (statement_of (within_of 128) (within_of 127) ts) ts r
-    (statement_at (within_at 64) (within_at 64) no_flags ts) (statement_at (within_at 128) (within_at 127) no_flags ts) (statement_found 64 64 ts) (statement_found 128 127 ts)
-    (statement_agrees (within_at 64) (within_at 64) (within_of 64) (within_of 64) (within_mirrors 64) (within_mirrors 64) no_flags ts p) (statement_agrees (within_at 128) (within_at 127) (within_of 128) (within_of 127) (within_mirrors 128) (within_mirrors 127) no_flags ts p) e
+    all statement_marks ShallowStatement DeepStatement
+    (λ us x d. statement_up (within_up 64 128 (omega arith)) (within_up 64 127 (omega arith)) us x d)
+    (statement_of (within_of 64) (within_of 64) ts) (statement_of (within_of 128) (within_of 127) ts) ts r
+    (statement_at (within_at 64) (within_at 64) no_flags ts) (statement_at (within_at 128) (within_at 127) no_flags ts) (statement_found 64 64 ts)
+    (statement_found 128 127 ts)
+    (statement_agrees (within_at 64) (within_at 64) (within_of 64) (within_of 64) (within_mirrors 64) (within_mirrors 64) no_flags ts p)
+    (statement_agrees (within_at 128) (within_at 127) (within_of 128) (within_of 127) (within_mirrors 128) (within_mirrors 127) no_flags ts p) e
 
-table_settles : (ts : Symbols) (r : Result TableDef ParseErr) → ArePrintable ts → TableAnswer ts r → Settles table_marks (IsTable (Within 64)) (IsTable (Within 127)) (λ us x d. table_up (within_up 64 127 (omega arith)) us x d) (table_of (within_of 64) ts) (table_of (within_of 127) ts) ts r
+abbrev pub ShallowTable : Symbols → TableDef → Type 0
+ShallowTable = IsTable (Within 64)
+
+abbrev pub DeepTable : Symbols → TableDef → Type 0
+DeepTable = IsTable (Within 127)
+
+pub table_settles : (ts : Symbols) (r : Result TableDef ParseErr) → ArePrintable ts → IsAnswer r (answer_for table_within ts) →
+    Settles table_limit ShallowTable DeepTable ts r
+unfolding table_limit
 table_settles ts r p e =
-    all table_marks (IsTable (Within 64)) (IsTable (Within 127)) (λ us x d. table_up (within_up 64 127 (omega arith)) us x d) (table_of (within_of 64) ts) (table_of (within_of 127) ts) ts r
+    all table_marks ShallowTable DeepTable (λ us x d. table_up (within_up 64 127 (omega arith)) us x d) (table_of (within_of 64) ts)
+    (table_of (within_of 127) ts) ts r
     (table_at (within_at 64) no_flags ts) (table_at (within_at 127) no_flags ts) (table_found 64 ts) (table_found 127 ts)
-    (table_agrees (within_at 64) (within_of 64) (within_mirrors 64) no_flags ts p) (table_agrees (within_at 127) (within_of 127) (within_mirrors 127) no_flags ts p) e
+    (table_agrees (within_at 64) (within_of 64) (within_mirrors 64) no_flags ts p)
+    (table_agrees (within_at 127) (within_of 127) (within_mirrors 127) no_flags ts p) e
 
-module _ (one : OneRow) (law : TextLaw) (bytes : List ℕ) (ts : Symbols) (h : HasSymbols bytes ts) where
-  pub statement_is : (r : Result Statement ParseErr) → StatementAnswer ts r → IfOk r (λ st. IsStatementWithinLimits bytes st)
-  unfolding statement_limit
-  statement_is (Ok x) e = let k = statement_settles ts (Ok x) (row_printable law bytes ts h) e in record { tree = k.1; parentheses = spelled one bytes ShallowStatement ts x h k.0 }
-  statement_is (Err e) k = tt
+-- what an answer for bytes tells of what they spell
+module _ {A : Type 0} (one : OneRow) (law : TextLaw) (bytes : List ℕ) (limit_of : A → Option LimitName) (Shallow Deep : Symbols → A → Type 0)
+    (answer : Symbols → Result A ParseErr)
+    (settles : (ts : Symbols) (r : Result A ParseErr) → ArePrintable ts → IsAnswer r (answer ts) → Settles limit_of Shallow Deep ts r) where
+  pub is_found : (r : Result A ParseErr) → IsAnswerFor answer bytes r → IfOk r (λ x. IsWithinLimits (limit_of x) (Spells Shallow bytes x))
+  is_found (Ok x) e =
+      let k = settles e.0 (Ok x) (row_printable law bytes e.0 e.1) e.2 in
+      record { tree = k.1; parentheses = spelled one bytes Shallow e.0 x e.1 k.0 }
+  is_found (Err e) k = tt
 
-  pub statement_limit_is : (r : Result Statement ParseErr) (l : LimitName) → StatementAnswer ts r → r ≡ Err (Limit l) → (st : Statement) × SpellsStatement bytes st × StatementPasses bytes st l
-  unfolding statement_limit
-  statement_limit_is (Ok x) l e is = absurd cc
-  statement_limit_is (Err Memory) l e is = absurd cc
-  statement_limit_is (Err Syntax) l e is = absurd cc
-  statement_limit_is (Err (Limit k)) l e is =
+  pub is_limit : (r : Result A ParseErr) (l : LimitName) → IsAnswerFor answer bytes r → r ≡ Err (Limit l) →
+      (x : A) × Spells Deep bytes x × Passes (limit_of x) (Spells Shallow bytes x) l
+  is_limit (Ok x) l e is = absurd cc
+  is_limit (Err Memory) l e is = absurd cc
+  is_limit (Err Syntax) l e is = absurd cc
+  is_limit (Err (Limit k)) l e is =
       let same : k ≡ l = cc is in
-      let d = statement_settles ts (Err (Limit k)) (row_printable law bytes ts h) e in
-      (d.0, spelled one bytes DeepStatement ts d.0 h d.1, subst (λ (z : LimitName). StatementPasses bytes d.0 z) same (passes one bytes ShallowStatement (statement_limit d.0) ts d.0 k h d.2))
+      let d = settles e.0 (Err (Limit k)) (row_printable law bytes e.0 e.1) e.2 in (
+        d.0,
+        spelled one bytes Deep e.0 d.0 e.1 d.1,
+        subst (λ (z : LimitName). Passes (limit_of d.0) (Spells Shallow bytes d.0) z) same (passes one bytes Shallow (limit_of d.0) e.0 d.0 k e.1 d.2),
+      )
 
-  pub no_statement : (r : Result Statement ParseErr) → StatementAnswer ts r → r ≡ Err Syntax → (st : Statement) → SpellsStatement bytes st → ⊥
-  no_statement (Ok x) e is st s = absurd cc
-  no_statement (Err Memory) e is st s = absurd cc
-  no_statement (Err (Limit k)) e is st s = absurd cc
-  no_statement (Err Syntax) e is st s = statement_settles ts (Err Syntax) (row_printable law bytes ts h) e st (unspelled one bytes DeepStatement ts st h s)
+  pub spells_none : (r : Result A ParseErr) → IsAnswerFor answer bytes r → r ≡ Err Syntax → (x : A) → Spells Deep bytes x → ⊥
+  spells_none (Ok x) e is y s = absurd cc
+  spells_none (Err Memory) e is y s = absurd cc
+  spells_none (Err (Limit k)) e is y s = absurd cc
+  spells_none (Err Syntax) e is y s =
+      let h : HasSymbols bytes (symbols_of s.tokens) = (s.tokens, s.lexes, refl) in
+      settles (symbols_of s.tokens) (Err Syntax) (row_printable law bytes (symbols_of s.tokens) h) (e (symbols_of s.tokens) h) y
+      (unspelled one bytes Deep (symbols_of s.tokens) y h s)
 
-  pub table_is : (r : Result TableDef ParseErr) → TableAnswer ts r → IfOk r (λ d. IsTableWithinLimits bytes d)
-  unfolding table_limit
-  table_is (Ok x) e = let k = table_settles ts (Ok x) (row_printable law bytes ts h) e in record { tree = k.1; parentheses = spelled one bytes (IsTable (Within 64)) ts x h k.0 }
-  table_is (Err e) k = tt
+-- ---- from bytes to their row
 
-  pub table_limit_is : (r : Result TableDef ParseErr) (l : LimitName) → TableAnswer ts r → r ≡ Err (Limit l) → (d : TableDef) × SpellsTable bytes d × TablePasses bytes d l
-  unfolding table_limit
-  table_limit_is (Ok x) l e is = absurd cc
-  table_limit_is (Err Memory) l e is = absurd cc
-  table_limit_is (Err Syntax) l e is = absurd cc
-  table_limit_is (Err (Limit k)) l e is =
-      let same : k ≡ l = cc is in
-      let d = table_settles ts (Err (Limit k)) (row_printable law bytes ts h) e in
-      (d.0, spelled one bytes (IsTable (Within 127)) ts d.0 h d.1, subst (λ (z : LimitName). TablePasses bytes d.0 z) same (passes one bytes (IsTable (Within 64)) (table_limit d.0) ts d.0 k h d.2))
+module _ {A : Type 0} (answer : Symbols → Result A ParseErr) (bytes : List ℕ) where
+  pub scan_fails : (e : ScanErr) → (e ≡ scan.Syntax → (ts : Symbols) → HasSymbols bytes ts → ⊥) → IsAnswerFor answer bytes (Err (parse_err e))
+  scan_fails scan.Memory nothing = tt
+  scan_fails scan.Syntax nothing = λ ts h. absurd (nothing refl ts h)
 
-  pub no_table : (r : Result TableDef ParseErr) → TableAnswer ts r → r ≡ Err Syntax → (d : TableDef) → SpellsTable bytes d → ⊥
-  no_table (Ok x) e is st s = absurd cc
-  no_table (Err Memory) e is st s = absurd cc
-  no_table (Err (Limit k)) e is st s = absurd cc
-  no_table (Err Syntax) e is st s = table_settles ts (Err Syntax) (row_printable law bytes ts h) e st (unspelled one bytes (IsTable (Within 127)) ts st h s)
-
--- a scan that failed for its bytes
-pub scan_syntax : (e : ScanErr) → parse_err e ≡ Syntax → e ≡ scan.Syntax
-scan_syntax scan.Memory h = absurd cc
-scan_syntax scan.Syntax h = refl
-
-pub scan_no_limit : (e : ScanErr) (l : LimitName) → parse_err e ≡ Limit l → ⊥
-scan_no_limit scan.Memory l h = cc
-scan_no_limit scan.Syntax l h = cc
+  pub row_answers : ((ts us : Symbols) → HasSymbols bytes ts → HasSymbols bytes us → ts ≡ us) → (ts : Symbols) → HasSymbols bytes ts →
+      (r : Result A ParseErr) → IsAnswer r (answer ts) → IsAnswerFor answer bytes r
+  row_answers one ts h (Ok x) e = (ts, h, e)
+  row_answers one ts h (Err Memory) e = tt
+  row_answers one ts h (Err Syntax) e = λ us k. subst (λ (vs : Symbols). answer vs ≡ Err Syntax) (one ts us h k) e
+  row_answers one ts h (Err (Limit l)) e = (ts, h, e)

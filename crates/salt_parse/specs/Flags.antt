@@ -6,7 +6,9 @@ use Rattle.salt_ast.specs.declared.trees.Expr.{Expr}
 use Rattle.salt_ast.specs.declared.trees.Op.{Op}
 use Rattle.salt_parse.specs.declared.built.Built.{Built}
 use Rattle.salt_values.specs.Text.{is_text}
-use Rattle.std.specs.Prelude.{Bool, List, None, Option, Some, [], false, if◌then◌else◌, is_none, max, min, nat_le, nat_lt, neg_ℤ, not, pos, suc, true, ℕ, ℤ, ◌&&◌, ◌^◌, ◌||◌}
+use Rattle.salt_values.specs.declared.limits.TheConstants.{DEPTH_MOST}
+use Rattle.std.specs.Prelude.{Bool, List, None, Option, Some, [], false, if◌then◌else◌, is_none, not, true, ◌&&◌, ◌||◌}
+use Rattle.std.specs.Prelude.{max, min, nat_le, nat_lt, neg_ℤ, pos, suc, ℕ, ℤ, ◌^◌}
 
 -- the first limit that was passed, and whether some expression was too high
 pub record Flags : Type 0 where
@@ -27,11 +29,11 @@ clear f = is_none f.over && not f.deep
 abbrev pub note : Flags → Option LimitName → Bool → Flags
 note f l high = record { over = option_or f.over l; deep = f.deep || high }
 
--- a height of more than 64 is noted
+-- a height that passes the limit is noted
 abbrev pub note_height : Flags → ℕ → Flags
-note_height f h = note f None (nat_lt 64 h)
+note_height f h = note f None (nat_lt DEPTH_MOST h)
 
--- An expression while it is read: its tree while nothing is passed, and its height, where 65 is all above 64.
+-- An expression while it is read: its tree while nothing is passed, and its height, where one above the limit is all above it.
 pub record BuiltTree : Type 0 where
   pub tree : Expr
   pub height : ℕ
@@ -60,14 +62,14 @@ abbrev pub join_flags : BuiltTree → BuiltTree → Flags → Flags
 join_flags l r f = note_height f (both_height l r)
 
 abbrev pub join_tree : Op → BuiltTree → BuiltTree → Flags → BuiltTree
-join_tree o l r f = record { tree = kept (join_flags l r f) (operation o l.tree r.tree); height = min (both_height l r) 65 }
+join_tree o l r f = record { tree = kept (join_flags l r f) (operation o l.tree r.tree); height = min (both_height l r) (suc DEPTH_MOST) }
 
 -- `not` around what was built
 abbrev pub negate_flags : BuiltTree → Flags → Flags
 negate_flags b f = note_height f (suc b.height)
 
 abbrev pub negate_tree : BuiltTree → Flags → BuiltTree
-negate_tree b f = record { tree = kept (negate_flags b f) (negation b.tree); height = min (suc b.height) 65 }
+negate_tree b f = record { tree = kept (negate_flags b f) (negation b.tree); height = min (suc b.height) (suc DEPTH_MOST) }
 
 -- a number of 64 bits, by whether a minus sign stands before it
 abbrev pub signed : Bool → ℕ → Option ℤ

@@ -22,7 +22,8 @@ comma ts = after (sign mark.Comma) ts
 unfoldable pub following_at : {A : Type 0} → (Symbols → Option Symbols) → (ℕ → Reader A) → ℕ → ℕ → Reader (List A)
 following_at separator item count zero f ts = either (separator ts) (Some ([], f, ts)) (λ us. None)
 following_at separator item count (suc room) f ts =
-    either (separator ts) (Some ([], f, ts)) (λ us. item count f us >>= λ x. with_front (x.0 ∷ []) (following_at separator item (suc count) room x.1 x.2))
+    either (separator ts) (Some ([], f, ts)) (λ us. item count f us >>= λ x.
+    with_front (x.0 ∷ []) (following_at separator item (suc count) room x.1 x.2))
 
 -- a first item and further ones with commas between them
 abbrev pub listed_at : {A : Type 0} → Reader A → Reader (List A)

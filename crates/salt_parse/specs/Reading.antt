@@ -7,17 +7,17 @@ use Rattle.salt_ast.specs.declared.limit.LimitName.TheVariants as limit
 use Rattle.salt_ast.specs.declared.trees.Expr.{Column, Variable}
 use Rattle.salt_ast.specs.declared.trees.Op.{Op}
 use Rattle.salt_ast.specs.Limits.{above}
-use Rattle.salt_parse.specs.Answers.{Fails}
-use Rattle.salt_parse.specs.Flags.{BuiltTree, Flags, built_of, int_tree, join_flags, join_tree, kept, kept_name, leaf, negate_flags, negate_tree, note, signed, text_tree}
-use Rattle.salt_parse.specs.declared.built.Built.{Built}
-use Rattle.salt_parse.specs.declared.error.ParseErr.{ParseErr}
+use Rattle.salt_parse.specs.Flags.{BuiltTree, Flags, int_tree, join_flags, join_tree, kept, kept_name, leaf, negate_flags, negate_tree, note, signed, text_tree}
+use Rattle.salt_parse.specs.declared.expr.Level.{Level}
+use Rattle.salt_parse.specs.declared.expr.Level.TheVariants as level
 use Rattle.salt_tokens.specs.Scanning.{◌>>=◌}
 use Rattle.salt_tokens.specs.Symbols.{Symbols, Symbol, int, key, name, sign, text}
 use Rattle.salt_tokens.specs.contracts.keyword.Keyword.{the_type as keywords}
 use Rattle.salt_tokens.specs.contracts.sign.Sign.{the_type as signs}
 use Rattle.salt_tokens.specs.declared.keyword.Keyword.TheVariants as word
 use Rattle.salt_tokens.specs.declared.sign.Sign.TheVariants as mark
-use Rattle.std.specs.Prelude.{Bool, Err, List, None, Ok, Option, Result, Some, [], false, if◌then◌else◌, is_none, length, suc, true, zero, ℕ, ℤ, ◌==◌, ◌≡◌, ◌∷◌}
+use Rattle.salt_values.specs.declared.limits.TheConstants.{TEXT_MOST}
+use Rattle.std.specs.Prelude.{Bool, List, None, Option, Some, [], false, if◌then◌else◌, is_none, length, suc, true, zero, ℕ, ℤ, ◌==◌, ◌∷◌}
 
 -- what was read, the flags after it and the symbols that are left
 abbrev pub Read : Type 0 → Type 0
@@ -25,25 +25,6 @@ Read X = X × Flags × Symbols
 
 abbrev pub Reader : Type 0 → Type 0
 Reader X = Flags → Symbols → Option (Read X)
-
--- what a function returned, with what it left, is what reading gives
-abbrev pub Gives : {X : Type 0} → Result X ParseErr → Flags → Symbols → Option (Read X) → Type 0
-Gives (Ok x) f left read = read ≡ Some (x, f, left)
-Gives (Err err) f left read = Fails err read
-
-abbrev pub GivesBuilt : Result Built ParseErr → Flags → Symbols → Option (Read BuiltTree) → Type 0
-GivesBuilt (Ok b) f left read = read ≡ Some (built_of b, f, left)
-GivesBuilt (Err err) f left read = Fails err read
-
--- the same of what passes nothing
-abbrev pub GivesAs : {X : Type 0} → Result X ParseErr → Symbols → Option (X × Symbols) → Type 0
-GivesAs (Ok x) left read = read ≡ Some (x, left)
-GivesAs (Err err) left read = Fails err read
-
--- the symbols that are left are those behind what was taken
-abbrev pub Leaves : Result (Unit {0}) ParseErr → Symbols → Option Symbols → Type 0
-Leaves (Ok _) left read = read ≡ Some left
-Leaves (Err err) left read = Fails err read
 
 -- two keywords or two signs that are one
 abbrev pub is_same : Symbol → Symbol → Bool
@@ -76,7 +57,8 @@ unfoldable pub tail_at : ℕ → Reader BuiltTree → ℕ → BuiltTree → Read
 tail_at level operand zero l f ts = None
 tail_at level operand (suc n) l f [] = Some (l, f, [])
 tail_at level operand (suc n) l f (t ∷ ts) =
-    at_operator (of_level level (operator t)) (Some (l, f, t ∷ ts)) (λ o. operand f ts >>= λ x. tail_at level operand n (join_tree o l x.0 x.1) (join_flags l x.0 x.1) x.2)
+    at_operator (of_level level (operator t)) (Some (l, f, t ∷ ts)) (λ o. operand f ts >>= λ x.
+    tail_at level operand n (join_tree o l x.0 x.1) (join_flags l x.0 x.1) x.2)
 
 unfoldable pub left_at : ℕ → Reader BuiltTree → Reader BuiltTree
 left_at level operand f ts = operand f ts >>= λ x. tail_at level operand (suc (length x.2)) x.0 x.1 x.2
@@ -84,7 +66,8 @@ left_at level operand f ts = operand f ts >>= λ x. tail_at level operand (suc (
 abbrev pub second_at : ℕ → Reader BuiltTree → BuiltTree → Reader BuiltTree
 second_at level operand l f [] = Some (l, f, [])
 second_at level operand l f (t ∷ ts) =
-    at_operator (of_level level (operator t)) (Some (l, f, t ∷ ts)) (λ o. operand f ts >>= λ x. Some (join_tree o l x.0 x.1, join_flags l x.0 x.1, x.2))
+    at_operator (of_level level (operator t)) (Some (l, f, t ∷ ts)) (λ o. operand f ts >>= λ x.
+    Some (join_tree o l x.0 x.1, join_flags l x.0 x.1, x.2))
 
 unfoldable pub once_at : ℕ → Reader BuiltTree → Reader BuiltTree
 once_at level operand f ts = operand f ts >>= λ x. second_at level operand x.0 x.1 x.2
@@ -110,9 +93,9 @@ abbrev pub int_at : Option ℤ → Reader BuiltTree
 int_at z f ts = Some (leaf (int_tree z), note f (then_some (is_none z) limit.Number) false, ts)
 
 abbrev pub text_flags : List ℕ → Flags → Flags
-text_flags t f = note f (above 255 limit.Text (length t)) false
+text_flags t f = note f (above TEXT_MOST limit.Text (length t)) false
 
-abbrev pub text_at : List ℕ → Reader BuiltTree
+unfoldable pub text_at : List ℕ → Reader BuiltTree
 text_at t f ts = Some (leaf (kept (text_flags t f) (text_tree t)), text_flags t f, ts)
 
 abbrev pub name_flags : List ℕ → Flags → Flags
@@ -147,11 +130,18 @@ atom_at inner f (sign mark.Colon ∷ ts) = colon_at f ts
 atom_at inner f (sign mark.Open ∷ ts) = paren_at inner f ts
 atom_at inner f _ = None
 
+-- how tightly the operations of each level bind
+abbrev pub level_precedence : Level → ℕ
+level_precedence level.Disjunction = 1
+level_precedence level.Conjunction = 2
+level_precedence level.Sum = 4
+level_precedence level.Product = 5
+
 abbrev pub product_at : Reader BuiltTree → Reader BuiltTree
-product_at inner = left_at 5 (atom_at inner)
+product_at inner = left_at (level_precedence level.Product) (atom_at inner)
 
 abbrev pub sum_at : Reader BuiltTree → Reader BuiltTree
-sum_at inner = left_at 4 (product_at inner)
+sum_at inner = left_at (level_precedence level.Sum) (product_at inner)
 
 abbrev pub comparison_at : Reader BuiltTree → Reader BuiltTree
 comparison_at inner = once_at 3 (sum_at inner)
@@ -160,10 +150,20 @@ abbrev pub negation_at : Reader BuiltTree → Reader BuiltTree
 negation_at inner = nots_at (comparison_at inner)
 
 abbrev pub conjunction_at : Reader BuiltTree → Reader BuiltTree
-conjunction_at inner = left_at 2 (negation_at inner)
+conjunction_at inner = left_at (level_precedence level.Conjunction) (negation_at inner)
 
 abbrev pub expression_at : Reader BuiltTree → Reader BuiltTree
-expression_at inner = left_at 1 (conjunction_at inner)
+expression_at inner = left_at (level_precedence level.Disjunction) (conjunction_at inner)
+
+-- what operations of each level stand between
+abbrev pub operand_at : Level → Reader BuiltTree → Reader BuiltTree
+operand_at level.Disjunction inner = conjunction_at inner
+operand_at level.Conjunction inner = negation_at inner
+operand_at level.Sum inner = product_at inner
+operand_at level.Product inner = atom_at inner
+
+abbrev pub level_at : Level → Reader BuiltTree → Reader BuiltTree
+level_at l inner = left_at (level_precedence l) (operand_at l inner)
 
 -- an expression whose symbols stand within fewer than `depth` parentheses
 unfoldable pub within_at : ℕ → Reader BuiltTree

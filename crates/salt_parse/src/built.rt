@@ -1,13 +1,14 @@
 //! What reading an expression builds.
 
-ghost use Rattle.std.specs.Prelude.{◌≤◌};
+ghost use Rattle.salt_values.specs.declared.limits.TheConstants.{DEPTH_MOST};
+ghost use Rattle.std.specs.Prelude.{◌+◌, ◌≤◌};
 
 use salt_ast::Expr;
 
-/// An expression while it is read: its tree while no limit is passed, and its height, where 65 is all above 64.
+/// An expression while it is read: its tree while no limit is passed, and its height, where one above the limit is all above it.
 #[derive(Drop)]
 pub struct Built {
     pub tree: Expr,
     pub height: u32,
-    ghost low: { height ≤ 65 },
+    ghost low: { height ≤ DEPTH_MOST + 1 },
 }

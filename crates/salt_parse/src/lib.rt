@@ -2,7 +2,6 @@
 #![tactic(auto)]
 
 mod built;
-mod cursor;
 mod error;
 mod expr;
 mod laws;
@@ -11,8 +10,10 @@ mod quoted;
 mod read;
 mod scan;
 mod statement;
+mod symbols;
 mod table;
 mod token;
+mod tree;
 
 pub use error::ParseErr;
 pub use laws::{one_statement, one_table};

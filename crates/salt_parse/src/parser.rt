@@ -1,14 +1,15 @@
 //! What reads a row, and what it builds of the smallest parts.
 
-ghost use Rattle.std.specs.Prelude.{◌≡◌, IfOk, None, Some, false, if◌then◌else◌, nat_lt};
+ghost use Rattle.std.specs.Prelude.{◌≡◌, IfOk, None, Some, false, if◌then◌else◌};
 ghost use Rattle.salt_ast.specs.Trees.{negation, operation};
 ghost use Rattle.std.specs.Bool.{then_some};
-ghost use Rattle.salt_parse.specs.Flags.{built_of, clear, flags, int_tree, join_flags, join_tree, kept_name, negate_flags, negate_tree, note, signed, stand_in, text_tree};
+ghost use Rattle.salt_parse.specs.Attempts.{limit_in};
+ghost use Rattle.salt_parse.specs.Flags.{built_of, clear, join_flags, negate_flags, no_flags, note, note_height};
+ghost use Rattle.salt_parse.specs.Flags.{int_tree, join_tree, kept_name, negate_tree, signed, stand_in, text_tree};
 ghost use Rattle.salt_parse.specs.Reading.{column_at, int_at, name_flags, named_at, text_at};
 ghost use Rattle.salt_tokens.specs.Symbols.{symbols_in, undoubled};
 
 use crate::built::Built;
-use crate::cursor::Cursor;
 use crate::quoted::{content, content_len};
 use salt_ast::{Expr, LimitName, Op};
 use salt_tokens::Lexeme;
@@ -16,6 +17,7 @@ use salt_values::limits::{DEPTH_MOST, NAME_MOST, TEXT_MOST};
 use salt_values::{Name, Text, TextErr, Value};
 use sqlite_items::{Boxed, Items};
 use std::alloc::{AllocError, Global};
+use std::marker::Model;
 
 /// What is built where a limit is passed, so that nothing grows from there on.
 fn stand_in() -> Expr
@@ -79,41 +81,65 @@ fn negation(alloc: Global, is_clear: bool, operand: Expr) -> Result<Expr, AllocE
     Ok(Expr::Not(Boxed::new(alloc, operand)?))
 }
 
-/// What reads the tokens, and what they passed so far.
+/// What reads tokens one after the other: those that are left, and what the others passed.
 #[derive(Drop)]
 pub struct Parser<'a> {
-    pub alloc: Global,
-    pub cursor: Cursor<'a>,
-    pub over: Option<LimitName>,
-    pub deep: bool,
+    alloc: Global,
+    pub rest: &'a [Lexeme<'a>],
+    over: Option<LimitName>,
+    deep: bool,
+}
+
+impl<'a> Model for Parser<'a> {
+    ghost use Rattle.salt_parse.specs.Flags.{flags};
+    ghost use Rattle.salt_parse.specs.Parsing.{Parsing};
+    ghost use Rattle.salt_tokens.specs.Symbols.{symbols_in};
+
+    ghost Value = { Parsing };
+
+    ghost view = { λ p. record { flags = flags p.over p.deep; left = symbols_in p.rest.now } };
 }
 
 impl<'a> Parser<'a> {
     /// A reader of these tokens, which have passed nothing yet.
     pub fn new(alloc: Global, rest: &'a [Lexeme<'a>]) -> Self
-        ensures over { result.over ≡ None }
-        ensures deep { result.deep ≡ false }
-        ensures rest { result.cursor.rest.now ≡ rest.now }
+        ensures flags { result.flags ≡ no_flags }
+        ensures left { result.left ≡ symbols_in rest.now }
     {
         Parser {
             alloc,
-            cursor: Cursor { rest },
+            rest,
             over: None,
             deep: false,
         }
     }
 
+    /// What the trees are built with.
+    pub fn alloc(&self) -> Global {
+        self.alloc
+    }
+
+    /// The first limit that was passed, the depth last.
+    pub fn limit(&self) -> Option<LimitName>
+        ensures { result ≡ limit_in self.now.flags }
+    {
+        if self.over.is_none() && self.deep {
+            return Some(LimitName::Depth);
+        }
+        self.over
+    }
+
     /// Whether nothing was passed yet.
     pub fn is_clear(&self) -> bool
-        ensures { result ≡ clear (flags self.now.over self.now.deep) }
+        ensures { result ≡ clear self.now.flags }
     {
         self.over.is_none() && !self.deep
     }
 
     /// Notes that a limit is passed, if this is so and none was before.
     pub fn note(&mut self, passed: bool, name: LimitName)
-        ensures flags { flags self.new.over self.new.deep ≡ note (flags self.old.over self.old.deep) (then_some passed name) false }
-        ensures rest { self.new.cursor ≡ self.old.cursor }
+        ensures flags { self.new.flags ≡ note self.old.flags (then_some passed name) false }
+        ensures left { self.new.left ≡ self.old.left }
     {
         if passed && self.over.is_none() {
             self.over = Some(name);
@@ -122,17 +148,17 @@ impl<'a> Parser<'a> {
 
     /// Notes that an expression is too high, if it is.
     fn note_height(&mut self, height: u32)
-        ensures flags { flags self.new.over self.new.deep ≡ note (flags self.old.over self.old.deep) None (nat_lt 64 height) }
-        ensures rest { self.new.cursor ≡ self.old.cursor }
+        ensures flags { self.new.flags ≡ note_height self.old.flags height }
+        ensures left { self.new.left ≡ self.old.left }
     {
         self.deep = self.deep || DEPTH_MOST < height;
     }
 
     /// A name, while no limit is passed.
     pub fn name_of(&mut self, bytes: &[u8]) -> Result<Name, AllocError>
-        ensures name { IfOk result (λ n. n ≡ kept_name (flags self.new.over self.new.deep) bytes.now) }
-        ensures flags { flags self.new.over self.new.deep ≡ name_flags bytes.now (flags self.old.over self.old.deep) }
-        ensures rest { self.new.cursor ≡ self.old.cursor }
+        ensures name { IfOk result (λ n. n ≡ kept_name self.new.flags bytes.now) }
+        ensures flags { self.new.flags ≡ name_flags bytes.now self.old.flags }
+        ensures left { self.new.left ≡ self.old.left }
     {
         self.note(NAME_MOST < bytes.len(), LimitName::Name);
         if self.is_clear() {
@@ -144,8 +170,8 @@ impl<'a> Parser<'a> {
 
     /// A column's name.
     pub fn column(&mut self, name: &[u8]) -> Result<Built, AllocError>
-        ensures leaf { IfOk result (λ b. column_at name.now (flags self.old.over self.old.deep) (symbols_in self.old.cursor.rest.now) ≡ Some (built_of b, flags self.new.over self.new.deep, symbols_in self.new.cursor.rest.now)) }
-        ensures rest { self.new.cursor ≡ self.old.cursor }
+        ensures leaf { IfOk result (λ b. column_at name.now self.old.flags self.old.left ≡ Some (built_of b, self.new.flags, self.new.left)) }
+        ensures left { self.new.left ≡ self.old.left }
     {
         let name = self.name_of(name)?;
         Ok(Built {
@@ -156,8 +182,8 @@ impl<'a> Parser<'a> {
 
     /// The name of a parameter or a variable.
     pub fn variable(&mut self, name: &[u8]) -> Result<Built, AllocError>
-        ensures leaf { IfOk result (λ b. named_at name.now (flags self.old.over self.old.deep) (symbols_in self.old.cursor.rest.now) ≡ Some (built_of b, flags self.new.over self.new.deep, symbols_in self.new.cursor.rest.now)) }
-        ensures rest { self.new.cursor ≡ self.old.cursor }
+        ensures leaf { IfOk result (λ b. named_at name.now self.old.flags self.old.left ≡ Some (built_of b, self.new.flags, self.new.left)) }
+        ensures left { self.new.left ≡ self.old.left }
     {
         let name = self.name_of(name)?;
         Ok(Built {
@@ -168,8 +194,8 @@ impl<'a> Parser<'a> {
 
     /// A number, where it has 64 bits.
     pub fn number(&mut self, number: Option<i64>) -> Built
-        ensures leaf { int_at number (flags self.old.over self.old.deep) (symbols_in self.old.cursor.rest.now) ≡ Some (built_of result, flags self.new.over self.new.deep, symbols_in self.new.cursor.rest.now) }
-        ensures rest { self.new.cursor ≡ self.old.cursor }
+        ensures leaf { int_at number self.old.flags self.old.left ≡ Some (built_of result, self.new.flags, self.new.left) }
+        ensures left { self.new.left ≡ self.old.left }
     {
         self.note(number.is_none(), LimitName::Number);
         Built {
@@ -179,9 +205,10 @@ impl<'a> Parser<'a> {
     }
 
     /// The text between these quotes.
+    #[tactic(auto, unfolding(crate::specs::Reading::text_at))]
     pub fn text(&mut self, quoted: &[u8]) -> Result<Built, AllocError>
-        ensures leaf { IfOk result (λ b. text_at (undoubled quoted.now) (flags self.old.over self.old.deep) (symbols_in self.old.cursor.rest.now) ≡ Some (built_of b, flags self.new.over self.new.deep, symbols_in self.new.cursor.rest.now)) }
-        ensures rest { self.new.cursor ≡ self.old.cursor }
+        ensures leaf { IfOk result (λ b. text_at (undoubled quoted.now) self.old.flags self.old.left ≡ Some (built_of b, self.new.flags, self.new.left)) }
+        ensures left { self.new.left ≡ self.old.left }
     {
         self.note(TEXT_MOST < content_len(quoted), LimitName::Text);
         let tree = if self.is_clear() {
@@ -195,9 +222,9 @@ impl<'a> Parser<'a> {
 
     /// An operation on what was built.
     pub fn join(&mut self, op: Op, left: Built, right: Built) -> Result<Built, AllocError>
-        ensures built { IfOk result (λ b. built_of b ≡ join_tree op (built_of left) (built_of right) (flags self.old.over self.old.deep)) }
-        ensures flags { flags self.new.over self.new.deep ≡ join_flags (built_of left) (built_of right) (flags self.old.over self.old.deep) }
-        ensures rest { self.new.cursor ≡ self.old.cursor }
+        ensures built { IfOk result (λ b. built_of b ≡ join_tree op (built_of left) (built_of right) self.old.flags) }
+        ensures flags { self.new.flags ≡ join_flags (built_of left) (built_of right) self.old.flags }
+        ensures left { self.new.left ≡ self.old.left }
     {
         let Built {
             tree: left,
@@ -218,9 +245,9 @@ impl<'a> Parser<'a> {
 
     /// `not` around what was built.
     pub fn negate(&mut self, inside: Built) -> Result<Built, AllocError>
-        ensures built { IfOk result (λ b. built_of b ≡ negate_tree (built_of inside) (flags self.old.over self.old.deep)) }
-        ensures flags { flags self.new.over self.new.deep ≡ negate_flags (built_of inside) (flags self.old.over self.old.deep) }
-        ensures rest { self.new.cursor ≡ self.old.cursor }
+        ensures built { IfOk result (λ b. built_of b ≡ negate_tree (built_of inside) self.old.flags) }
+        ensures flags { self.new.flags ≡ negate_flags (built_of inside) self.old.flags }
+        ensures left { self.new.left ≡ self.old.left }
     {
         let Built { tree, height } = inside;
         let height = height + 1;

@@ -5,16 +5,14 @@ ghost use Rattle.salt_ast.specs.Spelling.{IsStatementWithinLimits, IsTableWithin
 ghost use Rattle.salt_ast.specs.declared.limit.LimitName.{LimitName};
 ghost use Rattle.salt_ast.specs.declared.trees.Statement.{Statement};
 ghost use Rattle.salt_ast.specs.declared.trees.TableDef.{TableDef};
-ghost use Rattle.salt_parse.specs.Attempts.{IsAnswer, attempt_of, settled, too_deep};
-ghost use Rattle.salt_parse.specs.Flags.{flags, no_flags};
-ghost use Rattle.salt_parse.specs.Reading.{within_at};
-ghost use Rattle.salt_parse.specs.StatementReading.{statement_at};
-ghost use Rattle.salt_parse.specs.TableReading.{table_at};
+ghost use Rattle.salt_parse.specs.Attempts.{IsAnswer, IsAnswerFor, answer_for, attempt_of, too_deep};
+ghost use Rattle.salt_parse.specs.Flags.{no_flags};
 ghost use Rattle.salt_parse.specs.declared.error.ParseErr.TheVariants.{Limit, Syntax};
 ghost use Rattle.salt_tokens.specs.Symbols.{symbols_in};
 
 use crate::error::ParseErr;
 use crate::parser::Parser;
+use crate::tree::Tree;
 use salt_ast::{LimitName, Statement, TableDef};
 use salt_tokens::{Lexeme, lexemes, one_row, quoted_text};
 use salt_values::limits::{DEPTH_MOST, PARENTHESES_MOST};
@@ -22,18 +20,15 @@ use std::alloc::Global;
 
 /// What was found, where nothing is left.
 fn finish<T: Drop>(parser: Parser<'_>, tree: T) -> Result<Result<T, LimitName>, ParseErr>
-    ensures { result ≡ attempt_of (Some (tree, flags parser.entry.over parser.entry.deep, symbols_in parser.entry.cursor.rest.now)) }
+    ensures { result ≡ attempt_of (Some (tree, parser.entry.flags, parser.entry.left)) }
 {
-    if !parser.cursor.rest.is_empty() {
+    if !parser.rest.is_empty() {
         return Err(ParseErr::Syntax);
     }
-    if let Some(limit) = parser.over {
-        return Ok(Err(limit));
+    match parser.limit() {
+        None => Ok(Ok(tree)),
+        Some(limit) => Ok(Err(limit)),
     }
-    if parser.deep {
-        return Ok(Err(LimitName::Depth));
-    }
-    Ok(Ok(tree))
 }
 
 /// The error where only more parentheses than 64 let a row be read.
@@ -47,32 +42,42 @@ fn too_deep<T: Drop>(attempt: Result<Result<T, LimitName>, ParseErr>) -> ParseEr
     }
 }
 
-/// The statement of a whole row, with room for so many parentheses in its expressions, and in those of INSERT.
-fn try_statement<'a>(
+/// The tree of a whole row, with room for so many parentheses in its expressions, and for so many in those that stand in parentheses of its own.
+fn attempt<'a, T: Tree>(
     alloc: Global,
     rest: &'a [Lexeme<'a>],
     room: u32,
-    deeper: u32,
-) -> Result<Result<Statement, LimitName>, ParseErr>
-    ensures { IsAnswer result (attempt_of (statement_at (within_at room) (within_at deeper) no_flags (symbols_in rest.now))) }
+    inside: u32,
+) -> Result<Result<T, LimitName>, ParseErr>
+    ensures { IsAnswer result (attempt_of (T.reading room inside no_flags (symbols_in rest.now))) }
 {
     let mut parser = Parser::new(alloc, rest);
-    let statement = parser.statement(room, deeper)?;
-    finish(parser, statement)
+    let tree = T::read(&mut parser, room, inside)?;
+    finish(parser, tree)
 }
 
-fn settle_statement<'a>(alloc: Global, rest: &'a [Lexeme<'a>]) -> Result<Statement, ParseErr>
-    ensures { IsAnswer result (settled (attempt_of (statement_at (within_at 64) (within_at 64) no_flags (symbols_in rest.now))) (attempt_of (statement_at (within_at 128) (within_at 127) no_flags (symbols_in rest.now)))) }
+/// The tree of a whole row, or why there is none: only where a shallow one is not found, a deep one is looked for.
+fn settle<'a, T: Tree>(alloc: Global, rest: &'a [Lexeme<'a>]) -> Result<T, ParseErr>
+    ensures { IsAnswer result (answer_for T.reading (symbols_in rest.now)) }
 {
-    match try_statement(alloc, rest, DEPTH_MOST, DEPTH_MOST) {
-        Ok(Ok(statement)) => Ok(statement),
+    match attempt(alloc, rest, DEPTH_MOST, DEPTH_MOST) {
+        Ok(Ok(tree)) => Ok(tree),
         Ok(Err(limit)) => Err(ParseErr::Limit(limit)),
         Err(ParseErr::Syntax) => {
-            let attempt = try_statement(alloc, rest, PARENTHESES_MOST, PARENTHESES_MOST - 1);
-            Err(too_deep(attempt))
+            let deep = attempt::<T>(alloc, rest, PARENTHESES_MOST, PARENTHESES_MOST - 1);
+            Err(too_deep(deep))
         }
         Err(e) => Err(e),
     }
+}
+
+/// The tree that the bytes spell, or why there is none.
+fn read<T: Tree>(alloc: Global, bytes: &[u8]) -> Result<T, ParseErr>
+    ensures { IsAnswerFor (answer_for T.reading) bytes.now result }
+{
+    one_row();
+    let tokens = lexemes(alloc, bytes)?;
+    settle(alloc, tokens.as_slice())
 }
 
 /// The statement that the bytes spell.
@@ -89,35 +94,7 @@ pub fn read_statement(alloc: Global, bytes: &[u8]) -> Result<Statement, ParseErr
 {
     one_row();
     quoted_text();
-    let tokens = lexemes(alloc, bytes)?;
-    settle_statement(alloc, tokens.as_slice())
-}
-
-/// The table of a whole row, with room for so many parentheses in its checks.
-fn try_table<'a>(
-    alloc: Global,
-    rest: &'a [Lexeme<'a>],
-    room: u32,
-) -> Result<Result<TableDef, LimitName>, ParseErr>
-    ensures { IsAnswer result (attempt_of (table_at (within_at room) no_flags (symbols_in rest.now))) }
-{
-    let mut parser = Parser::new(alloc, rest);
-    let table = parser.table(room)?;
-    finish(parser, table)
-}
-
-fn settle_table<'a>(alloc: Global, rest: &'a [Lexeme<'a>]) -> Result<TableDef, ParseErr>
-    ensures { IsAnswer result (settled (attempt_of (table_at (within_at 64) no_flags (symbols_in rest.now))) (attempt_of (table_at (within_at 127) no_flags (symbols_in rest.now)))) }
-{
-    match try_table(alloc, rest, DEPTH_MOST) {
-        Ok(Ok(table)) => Ok(table),
-        Ok(Err(limit)) => Err(ParseErr::Limit(limit)),
-        Err(ParseErr::Syntax) => {
-            let attempt = try_table(alloc, rest, PARENTHESES_MOST - 1);
-            Err(too_deep(attempt))
-        }
-        Err(e) => Err(e),
-    }
+    read(alloc, bytes)
 }
 
 /// The table that the bytes spell.
@@ -134,6 +111,5 @@ pub fn read_table(alloc: Global, bytes: &[u8]) -> Result<TableDef, ParseErr>
 {
     one_row();
     quoted_text();
-    let tokens = lexemes(alloc, bytes)?;
-    settle_table(alloc, tokens.as_slice())
+    read(alloc, bytes)
 }

@@ -1,10 +1,10 @@
 //! Statements.
 
 ghost use Rattle.std.specs.Prelude.{◌≡◌, ◌<◌, OnOk, length};
-ghost use Rattle.salt_parse.specs.Flags.{flags};
-ghost use Rattle.salt_parse.specs.Reading.{Gives, within_at};
-ghost use Rattle.salt_parse.specs.StatementReading.{change_at, count_at, delete_at, enclosed_at, insert_at, into_at, is_into, names_at, only_key_at, select_at, select_into_at, select_rows_at, set_at, sets_at, statement_at, update_at, values_at, what_at};
-ghost use Rattle.salt_tokens.specs.Symbols.{symbols_in};
+ghost use Rattle.salt_parse.specs.Parsing.{Reads};
+ghost use Rattle.salt_parse.specs.Reading.{within_at};
+ghost use Rattle.salt_parse.specs.StatementReading.{change_at, count_at, delete_at, enclosed_at, insert_at, into_at, is_into, names_at, only_key_at};
+ghost use Rattle.salt_parse.specs.StatementReading.{select_at, select_into_at, select_rows_at, set_at, sets_at, statement_at, update_at, values_at, what_at};
 
 use crate::error::ParseErr;
 use crate::parser::Parser;
@@ -16,11 +16,11 @@ use sqlite_items::Items;
 impl<'a> Parser<'a> {
     /// Expressions with commas between them.
     fn values(&mut self, room: u32) -> Result<Exprs, ParseErr>
-        ensures { Gives result (flags self.new.over self.new.deep) (symbols_in self.new.cursor.rest.now) (values_at (within_at room) (flags self.old.over self.old.deep) (symbols_in self.old.cursor.rest.now)) }
+        ensures { Reads result (values_at (within_at room)) self.old self.new }
     {
-        let mut values = Items::new(self.alloc);
+        let mut values = Items::new(self.alloc());
         values.push(self.whole(room)?)?;
-        while self.cursor.skip_sign(Sign::Comma) {
+        while self.skip_sign(Sign::Comma) {
             values.push(self.whole(room)?)?;
         }
         Ok(values)
@@ -28,11 +28,11 @@ impl<'a> Parser<'a> {
 
     /// Names with commas between them.
     fn names(&mut self) -> Result<Names, ParseErr>
-        ensures { Gives result (flags self.new.over self.new.deep) (symbols_in self.new.cursor.rest.now) (names_at (flags self.old.over self.old.deep) (symbols_in self.old.cursor.rest.now)) }
+        ensures { Reads result names_at self.old self.new }
     {
-        let mut names = Items::new(self.alloc);
+        let mut names = Items::new(self.alloc());
         names.push(self.name()?)?;
-        while self.cursor.skip_sign(Sign::Comma) {
+        while self.skip_sign(Sign::Comma) {
             names.push(self.name()?)?;
         }
         Ok(names)
@@ -40,22 +40,22 @@ impl<'a> Parser<'a> {
 
     /// A column and the value that it takes.
     fn set(&mut self, room: u32) -> Result<Set, ParseErr>
-        ensures reads { Gives result (flags self.new.over self.new.deep) (symbols_in self.new.cursor.rest.now) (set_at (within_at room) (flags self.old.over self.old.deep) (symbols_in self.old.cursor.rest.now)) }
-        ensures shrinks { OnOk result (length self.new.cursor.rest.now < length self.old.cursor.rest.now) }
+        ensures reads { Reads result (set_at (within_at room)) self.old self.new }
+        ensures shrinks { OnOk result (length self.new.left < length self.old.left) }
     {
         let column = self.name()?;
-        self.cursor.take_sign(Sign::Equal)?;
+        self.take_sign(Sign::Equal)?;
         let value = self.whole(room)?;
         Ok(Set { column, value })
     }
 
     /// Columns and their values, with commas between them.
     fn sets(&mut self, room: u32) -> Result<Sets, ParseErr>
-        ensures { Gives result (flags self.new.over self.new.deep) (symbols_in self.new.cursor.rest.now) (sets_at (within_at room) (flags self.old.over self.old.deep) (symbols_in self.old.cursor.rest.now)) }
+        ensures { Reads result (sets_at (within_at room)) self.old self.new }
     {
-        let mut sets = Items::new(self.alloc);
+        let mut sets = Items::new(self.alloc());
         sets.push(self.set(room)?)?;
-        while self.cursor.skip_sign(Sign::Comma) {
+        while self.skip_sign(Sign::Comma) {
             sets.push(self.set(room)?)?;
         }
         Ok(sets)
@@ -63,41 +63,41 @@ impl<'a> Parser<'a> {
 
     /// A name in parentheses.
     fn enclosed(&mut self) -> Result<Name, ParseErr>
-        ensures { Gives result (flags self.new.over self.new.deep) (symbols_in self.new.cursor.rest.now) (enclosed_at (flags self.old.over self.old.deep) (symbols_in self.old.cursor.rest.now)) }
+        ensures { Reads result enclosed_at self.old self.new }
     {
-        self.cursor.take_sign(Sign::Open)?;
+        self.take_sign(Sign::Open)?;
         let name = self.name()?;
-        self.cursor.take_sign(Sign::Close)?;
+        self.take_sign(Sign::Close)?;
         Ok(name)
     }
 
     /// What stands behind `count`.
     fn count(&mut self) -> Result<What, ParseErr>
-        ensures { Gives result (flags self.new.over self.new.deep) (symbols_in self.new.cursor.rest.now) (count_at (flags self.old.over self.old.deep) (symbols_in self.old.cursor.rest.now)) }
+        ensures { Reads result count_at self.old self.new }
     {
-        self.cursor.take_sign(Sign::Open)?;
-        self.cursor.take_sign(Sign::Star)?;
-        self.cursor.take_sign(Sign::Close)?;
+        self.take_sign(Sign::Open)?;
+        self.take_sign(Sign::Star)?;
+        self.take_sign(Sign::Close)?;
         Ok(What::Count)
     }
 
     /// What a SELECT shows.
     fn what(&mut self) -> Result<What, ParseErr>
-        ensures { Gives result (flags self.new.over self.new.deep) (symbols_in self.new.cursor.rest.now) (what_at (flags self.old.over self.old.deep) (symbols_in self.old.cursor.rest.now)) }
+        ensures { Reads result what_at self.old self.new }
     {
-        if self.cursor.skip_sign(Sign::Star) {
+        if self.skip_sign(Sign::Star) {
             return Ok(What::All);
         }
-        if self.cursor.skip_key(Keyword::Count) {
+        if self.skip_key(Keyword::Count) {
             return self.count();
         }
-        if self.cursor.skip_key(Keyword::Sum) {
+        if self.skip_key(Keyword::Sum) {
             return Ok(What::Sum(self.enclosed()?));
         }
-        if self.cursor.skip_key(Keyword::Min) {
+        if self.skip_key(Keyword::Min) {
             return Ok(What::Min(self.enclosed()?));
         }
-        if self.cursor.skip_key(Keyword::Max) {
+        if self.skip_key(Keyword::Max) {
             return Ok(What::Max(self.enclosed()?));
         }
         Ok(What::Columns(self.names()?))
@@ -105,53 +105,50 @@ impl<'a> Parser<'a> {
 
     /// What stands behind `insert`.
     fn insert(&mut self, room: u32) -> Result<Statement, ParseErr>
-        ensures { Gives result (flags self.new.over self.new.deep) (symbols_in self.new.cursor.rest.now) (insert_at (within_at room) (flags self.old.over self.old.deep) (symbols_in self.old.cursor.rest.now)) }
+        ensures { Reads result (insert_at (within_at room)) self.old self.new }
     {
-        self.cursor.take_key(Keyword::Into)?;
+        self.take_key(Keyword::Into)?;
         let table = self.name()?;
-        self.cursor.take_key(Keyword::Values)?;
-        self.cursor.take_sign(Sign::Open)?;
+        self.take_key(Keyword::Values)?;
+        self.take_sign(Sign::Open)?;
         let values = self.values(room)?;
-        self.cursor.take_sign(Sign::Close)?;
+        self.take_sign(Sign::Close)?;
         Ok(Statement::Insert { table, values })
     }
 
     /// Whether a name and `into` come next.
     fn is_into(&self) -> bool
-        ensures { result ≡ is_into (symbols_in self.now.cursor.rest.now) }
+        ensures { result ≡ is_into self.now.left }
     {
-        matches!(
-            self.cursor.rest,
-            [Lexeme::Name(_), Lexeme::Key(Keyword::Into), ..]
-        )
+        matches!(self.rest, [Lexeme::Name(_), Lexeme::Key(Keyword::Into), ..])
     }
 
     /// The names behind `select` up to `from`, where `into` stands between them.
     fn into_names(&mut self) -> Result<(Name, Name), ParseErr>
-        ensures { Gives result (flags self.new.over self.new.deep) (symbols_in self.new.cursor.rest.now) (into_at (flags self.old.over self.old.deep) (symbols_in self.old.cursor.rest.now)) }
+        ensures { Reads result into_at self.old self.new }
     {
         let column = self.name()?;
-        self.cursor.take_key(Keyword::Into)?;
-        self.cursor.take_sign(Sign::Colon)?;
+        self.take_key(Keyword::Into)?;
+        self.take_sign(Sign::Colon)?;
         let var = self.name()?;
         Ok((column, var))
     }
 
     /// A key alone, behind a table's name.
     fn only_key(&mut self, room: u32) -> Result<Expr, ParseErr>
-        ensures { Gives result (flags self.new.over self.new.deep) (symbols_in self.new.cursor.rest.now) (only_key_at (within_at room) (flags self.old.over self.old.deep) (symbols_in self.old.cursor.rest.now)) }
+        ensures { Reads result (only_key_at (within_at room)) self.old self.new }
     {
-        self.cursor.take_key(Keyword::Where)?;
-        self.cursor.take_key(Keyword::Key)?;
-        self.cursor.take_sign(Sign::Equal)?;
+        self.take_key(Keyword::Where)?;
+        self.take_key(Keyword::Key)?;
+        self.take_sign(Sign::Equal)?;
         self.operand(room)
     }
 
     fn select_into(&mut self, room: u32) -> Result<Statement, ParseErr>
-        ensures { Gives result (flags self.new.over self.new.deep) (symbols_in self.new.cursor.rest.now) (select_into_at (within_at room) (flags self.old.over self.old.deep) (symbols_in self.old.cursor.rest.now)) }
+        ensures { Reads result (select_into_at (within_at room)) self.old self.new }
     {
         let (column, var) = self.into_names()?;
-        self.cursor.take_key(Keyword::From)?;
+        self.take_key(Keyword::From)?;
         let table = self.name()?;
         let key = self.only_key(room)?;
         Ok(Statement::SelectInto {
@@ -163,10 +160,10 @@ impl<'a> Parser<'a> {
     }
 
     fn select_rows(&mut self, room: u32) -> Result<Statement, ParseErr>
-        ensures { Gives result (flags self.new.over self.new.deep) (symbols_in self.new.cursor.rest.now) (select_rows_at (within_at room) (flags self.old.over self.old.deep) (symbols_in self.old.cursor.rest.now)) }
+        ensures { Reads result (select_rows_at (within_at room)) self.old self.new }
     {
         let what = self.what()?;
-        self.cursor.take_key(Keyword::From)?;
+        self.take_key(Keyword::From)?;
         let table = self.name()?;
         let scan = self.scan(room)?;
         Ok(Statement::Select { what, table, scan })
@@ -174,7 +171,7 @@ impl<'a> Parser<'a> {
 
     /// What stands behind `select`.
     fn select(&mut self, room: u32) -> Result<Statement, ParseErr>
-        ensures { Gives result (flags self.new.over self.new.deep) (symbols_in self.new.cursor.rest.now) (select_at (within_at room) (flags self.old.over self.old.deep) (symbols_in self.old.cursor.rest.now)) }
+        ensures { Reads result (select_at (within_at room)) self.old self.new }
     {
         if self.is_into() {
             self.select_into(room)
@@ -185,10 +182,10 @@ impl<'a> Parser<'a> {
 
     /// What stands behind `update`.
     fn update(&mut self, room: u32) -> Result<Statement, ParseErr>
-        ensures { Gives result (flags self.new.over self.new.deep) (symbols_in self.new.cursor.rest.now) (update_at (within_at room) (flags self.old.over self.old.deep) (symbols_in self.old.cursor.rest.now)) }
+        ensures { Reads result (update_at (within_at room)) self.old self.new }
     {
         let table = self.name()?;
-        self.cursor.take_key(Keyword::Set)?;
+        self.take_key(Keyword::Set)?;
         let sets = self.sets(room)?;
         let scan = self.scan(room)?;
         Ok(Statement::Update { table, sets, scan })
@@ -196,9 +193,9 @@ impl<'a> Parser<'a> {
 
     /// What stands behind `delete`.
     fn delete(&mut self, room: u32) -> Result<Statement, ParseErr>
-        ensures { Gives result (flags self.new.over self.new.deep) (symbols_in self.new.cursor.rest.now) (delete_at (within_at room) (flags self.old.over self.old.deep) (symbols_in self.old.cursor.rest.now)) }
+        ensures { Reads result (delete_at (within_at room)) self.old self.new }
     {
-        self.cursor.take_key(Keyword::From)?;
+        self.take_key(Keyword::From)?;
         let table = self.name()?;
         let scan = self.scan(room)?;
         Ok(Statement::Delete { table, scan })
@@ -206,27 +203,27 @@ impl<'a> Parser<'a> {
 
     /// UPDATE, DELETE or ENSURE.
     fn change(&mut self, room: u32) -> Result<Statement, ParseErr>
-        ensures { Gives result (flags self.new.over self.new.deep) (symbols_in self.new.cursor.rest.now) (change_at (within_at room) (flags self.old.over self.old.deep) (symbols_in self.old.cursor.rest.now)) }
+        ensures { Reads result (change_at (within_at room)) self.old self.new }
     {
-        if self.cursor.skip_key(Keyword::Update) {
+        if self.skip_key(Keyword::Update) {
             return self.update(room);
         }
-        if self.cursor.skip_key(Keyword::Delete) {
+        if self.skip_key(Keyword::Delete) {
             return self.delete(room);
         }
-        self.cursor.take_key(Keyword::Ensure)?;
+        self.take_key(Keyword::Ensure)?;
         Ok(Statement::Ensure(self.whole(room)?))
     }
 
     /// A statement, with room for so many parentheses in its expressions, and for so many in those of INSERT.
     #[tactic(auto, unfolding(crate::specs::StatementReading::statement_at))]
     pub fn statement(&mut self, room: u32, deeper: u32) -> Result<Statement, ParseErr>
-        ensures { Gives result (flags self.new.over self.new.deep) (symbols_in self.new.cursor.rest.now) (statement_at (within_at room) (within_at deeper) (flags self.old.over self.old.deep) (symbols_in self.old.cursor.rest.now)) }
+        ensures { Reads result (statement_at (within_at room) (within_at deeper)) self.old self.new }
     {
-        if self.cursor.skip_key(Keyword::Insert) {
+        if self.skip_key(Keyword::Insert) {
             return self.insert(deeper);
         }
-        if self.cursor.skip_key(Keyword::Select) {
+        if self.skip_key(Keyword::Select) {
             return self.select(room);
         }
         self.change(room)

@@ -1,12 +1,10 @@
 //! Tables.
 
 ghost use Rattle.std.specs.Prelude.{◌≡◌, ◌<◌, IsTrue, None, OnOk, Some, false, if◌then◌else◌, length};
-ghost use Rattle.salt_parse.specs.Flags.{flags};
-ghost use Rattle.salt_parse.specs.Reading.{Gives, GivesAs, within_at};
+ghost use Rattle.salt_parse.specs.Parsing.{GivesAs, Reads};
+ghost use Rattle.salt_parse.specs.Reading.{within_at};
 ghost use Rattle.salt_parse.specs.TableReading.{check_at, checks_at, definition_at, field_at, field_comma, fields_at, further_field_at, kind_at, table_at};
-ghost use Rattle.salt_tokens.specs.Symbols.{symbols_in};
 
-use crate::cursor::Cursor;
 use crate::error::ParseErr;
 use crate::parser::Parser;
 use salt_ast::{ColType, Expr, Exprs, Field, Fields, LimitName, TableDef};
@@ -14,11 +12,12 @@ use salt_tokens::{Keyword, Lexeme, Sign};
 use salt_values::limits::{CHECKS_MOST, COLUMNS_MOST};
 use sqlite_items::Items;
 
-impl<'a> Cursor<'a> {
+impl<'a> Parser<'a> {
     /// Takes a column's type.
     fn take_kind(&mut self) -> Result<ColType, ParseErr>
-        ensures reads { GivesAs result (symbols_in self.new.rest.now) (kind_at (symbols_in self.old.rest.now)) }
-        ensures shrinks { OnOk result (length self.new.rest.now < length self.old.rest.now) }
+        ensures reads { GivesAs result self.new.left (kind_at self.old.left) }
+        ensures flags { self.new.flags ≡ self.old.flags }
+        ensures shrinks { OnOk result (length self.new.left < length self.old.left) }
     {
         if self.skip_key(Keyword::Int) {
             return Ok(ColType::Int);
@@ -30,8 +29,9 @@ impl<'a> Cursor<'a> {
     /// Takes the comma that comes next, if no check stands behind it.
     #[tactic(auto, unfolding(crate::specs::Reading::after))]
     fn skip_field_comma(&mut self) -> bool
-        ensures reads { field_comma (symbols_in self.old.rest.now) ≡ (if result then Some (symbols_in self.new.rest.now) else None) }
-        ensures shrinks { IsTrue result → length self.new.rest.now < length self.old.rest.now }
+        ensures reads { field_comma self.old.left ≡ (if result then Some self.new.left else None) }
+        ensures flags { self.new.flags ≡ self.old.flags }
+        ensures shrinks { IsTrue result → length self.new.left < length self.old.left }
         ensures stays { result ≡ false → self.new ≡ self.old }
     {
         match self.rest {
@@ -43,23 +43,21 @@ impl<'a> Cursor<'a> {
             _ => false,
         }
     }
-}
 
-impl<'a> Parser<'a> {
     /// A column's name and type.
     fn field(&mut self) -> Result<Field, ParseErr>
-        ensures reads { Gives result (flags self.new.over self.new.deep) (symbols_in self.new.cursor.rest.now) (field_at (flags self.old.over self.old.deep) (symbols_in self.old.cursor.rest.now)) }
-        ensures shrinks { OnOk result (length self.new.cursor.rest.now < length self.old.cursor.rest.now) }
+        ensures reads { Reads result field_at self.old self.new }
+        ensures shrinks { OnOk result (length self.new.left < length self.old.left) }
     {
         let name = self.name()?;
-        let kind = self.cursor.take_kind()?;
+        let kind = self.take_kind()?;
         Ok(Field { name, kind })
     }
 
     /// The column that stands behind so many others.
     fn further_field(&mut self, count: usize) -> Result<Field, ParseErr>
-        ensures reads { Gives result (flags self.new.over self.new.deep) (symbols_in self.new.cursor.rest.now) (further_field_at count (flags self.old.over self.old.deep) (symbols_in self.old.cursor.rest.now)) }
-        ensures shrinks { OnOk result (length self.new.cursor.rest.now < length self.old.cursor.rest.now) }
+        ensures reads { Reads result (further_field_at count) self.old self.new }
+        ensures shrinks { OnOk result (length self.new.left < length self.old.left) }
     {
         self.note(COLUMNS_MOST <= count, LimitName::Columns);
         self.field()
@@ -67,13 +65,13 @@ impl<'a> Parser<'a> {
 
     /// The key's column and further ones.
     fn fields(&mut self) -> Result<Fields, ParseErr>
-        ensures { Gives result (flags self.new.over self.new.deep) (symbols_in self.new.cursor.rest.now) (fields_at (flags self.old.over self.old.deep) (symbols_in self.old.cursor.rest.now)) }
+        ensures { Reads result fields_at self.old self.new }
     {
-        let mut fields = Items::new(self.alloc);
+        let mut fields = Items::new(self.alloc());
         let key = self.field()?;
-        self.cursor.take_key(Keyword::Key)?;
+        self.take_key(Keyword::Key)?;
         fields.push(key)?;
-        while self.cursor.skip_field_comma() {
+        while self.skip_field_comma() {
             let field = self.further_field(fields.len())?;
             fields.push(field)?;
         }
@@ -82,20 +80,20 @@ impl<'a> Parser<'a> {
 
     /// The check that stands behind so many others.
     fn check(&mut self, room: u32, count: usize) -> Result<Expr, ParseErr>
-        ensures reads { Gives result (flags self.new.over self.new.deep) (symbols_in self.new.cursor.rest.now) (check_at (within_at room) count (flags self.old.over self.old.deep) (symbols_in self.old.cursor.rest.now)) }
-        ensures shrinks { OnOk result (length self.new.cursor.rest.now < length self.old.cursor.rest.now) }
+        ensures reads { Reads result (check_at (within_at room) count) self.old self.new }
+        ensures shrinks { OnOk result (length self.new.left < length self.old.left) }
     {
-        self.cursor.take_key(Keyword::Check)?;
+        self.take_key(Keyword::Check)?;
         self.note(CHECKS_MOST <= count, LimitName::Checks);
         self.whole(room)
     }
 
     /// The checks, each behind a comma.
     fn checks(&mut self, room: u32) -> Result<Exprs, ParseErr>
-        ensures { Gives result (flags self.new.over self.new.deep) (symbols_in self.new.cursor.rest.now) (checks_at (within_at room) (flags self.old.over self.old.deep) (symbols_in self.old.cursor.rest.now)) }
+        ensures { Reads result (checks_at (within_at room)) self.old self.new }
     {
-        let mut checks = Items::new(self.alloc);
-        while self.cursor.skip_sign(Sign::Comma) {
+        let mut checks = Items::new(self.alloc());
+        while self.skip_sign(Sign::Comma) {
             let check = self.check(room, checks.len())?;
             checks.push(check)?;
         }
@@ -104,13 +102,13 @@ impl<'a> Parser<'a> {
 
     /// What stands behind `create table`.
     fn definition(&mut self, room: u32) -> Result<TableDef, ParseErr>
-        ensures { Gives result (flags self.new.over self.new.deep) (symbols_in self.new.cursor.rest.now) (definition_at (within_at room) (flags self.old.over self.old.deep) (symbols_in self.old.cursor.rest.now)) }
+        ensures { Reads result (definition_at (within_at room)) self.old self.new }
     {
         let name = self.name()?;
-        self.cursor.take_sign(Sign::Open)?;
+        self.take_sign(Sign::Open)?;
         let columns = self.fields()?;
         let checks = self.checks(room)?;
-        self.cursor.take_sign(Sign::Close)?;
+        self.take_sign(Sign::Close)?;
         Ok(TableDef {
             name,
             columns,
@@ -121,10 +119,10 @@ impl<'a> Parser<'a> {
     /// A table, with room for so many parentheses in its checks.
     #[tactic(auto, unfolding(crate::specs::TableReading::table_at))]
     pub fn table(&mut self, room: u32) -> Result<TableDef, ParseErr>
-        ensures { Gives result (flags self.new.over self.new.deep) (symbols_in self.new.cursor.rest.now) (table_at (within_at room) (flags self.old.over self.old.deep) (symbols_in self.old.cursor.rest.now)) }
+        ensures { Reads result (table_at (within_at room)) self.old self.new }
     {
-        self.cursor.take_key(Keyword::Create)?;
-        self.cursor.take_key(Keyword::Table)?;
+        self.take_key(Keyword::Create)?;
+        self.take_key(Keyword::Table)?;
         self.definition(room)
     }
 }

@@ -1,23 +1,24 @@
-use Rattle.std.proofs.Common.{◌≡◌, ◌≤◌, ◌++◌, ◌∷◌, [], length, refl, arith}
-use Rattle.std.proofs.lemmas.List.{length-map}
+use Rattle.std.proofs.Common.{◌≡◌, ◌++◌, ◌∷◌, [], length, refl}
 use Rattle.std.proofs.lemmas.Result.{err_from_is_err_and}
-use Rattle.salt_parse.specs.Flags.{flags}
 use Rattle.salt_parse.specs.Lists.{comma}
 use Rattle.salt_parse.specs.StatementReading.{name_at}
-use Rattle.salt_tokens.specs.Symbols.{symbols_in, symbol}
 use Rattle.salt_parse.proofs.Listing.{IsListing-ends, IsListing-fails, IsListing-goes_on, comma_shortens}
 use Rattle.salt_parse.proofs.parser.Parser.names.Goals as goal
 
 pub returns-in_err-name-2 : goal.returns-in_err-name-2
 returns-in_err-name-2 c =
     let p = err_from_is_err_and c.from_residual-in_err-name-2.result c.from_residual-in_err-name-2.ensures.1 in
-    rw (p.1, p.2) (IsListing-fails comma (λ n. name_at) comma_shortens c.loop-names.names (flags c.loop-names.self.over c.loop-names.self.deep) (symbols_in c.loop-names.self.cursor.rest.now) (symbols_in c.skip_sign.new.self.rest.now) _ _ c.loop-names.invariant c.loop-names-test.ensures.reads c.in_err-name-2.ensures.reads)
+    rw (p.1, p.2) (IsListing-fails comma (λ n. name_at) comma_shortens c.loop-names.names
+    (length c.loop-names.names) c.loop-names.self c.skip_sign.new.self _ _ refl c.loop-names.invariant c.loop-names-test.ensures.reads
+    c.loop-names-test.ensures.flags c.in_err-name-2.ensures.reads)
 
 pub loop-names-preserved : goal.loop-names-preserved
 loop-names-preserved c =
     let more : c.push-in-loop-names.new.self ≡ c.loop-names.names ++ c.in_ok-name-2.field-0 ∷ [] = c.in_ok-push-2.ensures.ok in
-    let shorter : length (symbols_in c.name-in-loop-names.new.self.cursor.rest.now) ≤ length (symbols_in c.skip_sign.new.self.rest.now) = omega (arith, length-map c.name-in-loop-names.new.self.cursor.rest.now symbol, length-map c.skip_sign.new.self.rest.now symbol, c.in_ok-name-2.ensures.shrinks) in
-    rw more (IsListing-goes_on comma (λ n. name_at) comma_shortens c.loop-names.names (flags c.loop-names.self.over c.loop-names.self.deep) (flags c.name-in-loop-names.new.self.over c.name-in-loop-names.new.self.deep) (symbols_in c.loop-names.self.cursor.rest.now) (symbols_in c.skip_sign.new.self.rest.now) (symbols_in c.name-in-loop-names.new.self.cursor.rest.now) c.in_ok-name-2.field-0 _ c.loop-names.invariant c.loop-names-test.ensures.reads c.in_ok-name-2.ensures.reads shorter)
+    rw more (IsListing-goes_on comma (λ n. name_at) comma_shortens c.loop-names.names
+    (length c.loop-names.names) c.loop-names.self c.skip_sign.new.self c.name-in-loop-names.new.self c.in_ok-name-2.field-0 _ refl
+    c.loop-names.invariant c.loop-names-test.ensures.reads c.loop-names-test.ensures.flags c.in_ok-name-2.ensures.reads c.in_ok-name-2.ensures.shrinks)
 
 pub returns : goal.returns
-returns c = rw (c.loop-names-test.ensures.stays refl) (IsListing-ends comma (λ n. name_at) comma_shortens c.loop-names.names (flags c.loop-names.self.over c.loop-names.self.deep) (symbols_in c.loop-names.self.cursor.rest.now) _ c.loop-names.invariant c.loop-names-test.ensures.reads)
+returns c = rw (c.loop-names-test.ensures.stays refl)
+    (IsListing-ends comma (λ n. name_at) comma_shortens c.loop-names.names c.loop-names.self _ c.loop-names.invariant c.loop-names-test.ensures.reads)

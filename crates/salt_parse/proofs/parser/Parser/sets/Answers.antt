@@ -1,24 +1,26 @@
-use Rattle.std.proofs.Common.{◌≡◌, ◌≤◌, ◌++◌, ◌∷◌, [], length, refl, arith}
-use Rattle.std.proofs.lemmas.List.{length-map}
+use Rattle.std.proofs.Common.{◌≡◌, ◌++◌, ◌∷◌, [], length, refl}
 use Rattle.std.proofs.lemmas.Result.{err_from_is_err_and}
-use Rattle.salt_parse.specs.Flags.{flags}
 use Rattle.salt_parse.specs.Lists.{comma}
 use Rattle.salt_parse.specs.Reading.{within_at}
 use Rattle.salt_parse.specs.StatementReading.{set_at}
-use Rattle.salt_tokens.specs.Symbols.{symbols_in, symbol}
 use Rattle.salt_parse.proofs.Listing.{IsListing-ends, IsListing-fails, IsListing-goes_on, comma_shortens}
 use Rattle.salt_parse.proofs.parser.Parser.sets.Goals as goal
 
 pub returns-in_err-set-2 : goal.returns-in_err-set-2
 returns-in_err-set-2 c =
     let p = err_from_is_err_and c.from_residual-in_err-set-2.result c.from_residual-in_err-set-2.ensures.1 in
-    rw (p.1, p.2) (IsListing-fails comma (λ n. set_at (within_at c.args.room)) comma_shortens c.loop-sets.sets (flags c.loop-sets.self.over c.loop-sets.self.deep) (symbols_in c.loop-sets.self.cursor.rest.now) (symbols_in c.skip_sign.new.self.rest.now) _ _ c.loop-sets.invariant c.loop-sets-test.ensures.reads c.in_err-set-2.ensures.reads)
+    rw (p.1, p.2) (IsListing-fails comma (λ n. set_at (within_at c.args.room)) comma_shortens c.loop-sets.sets
+    (length c.loop-sets.sets) c.loop-sets.self c.skip_sign.new.self _ _ refl c.loop-sets.invariant c.loop-sets-test.ensures.reads
+    c.loop-sets-test.ensures.flags c.in_err-set-2.ensures.reads)
 
 pub loop-sets-preserved : goal.loop-sets-preserved
 loop-sets-preserved c =
     let more : c.push-in-loop-sets.new.self ≡ c.loop-sets.sets ++ c.in_ok-set-2.field-0 ∷ [] = c.in_ok-push-2.ensures.ok in
-    let shorter : length (symbols_in c.set-in-loop-sets.new.self.cursor.rest.now) ≤ length (symbols_in c.skip_sign.new.self.rest.now) = omega (arith, length-map c.set-in-loop-sets.new.self.cursor.rest.now symbol, length-map c.skip_sign.new.self.rest.now symbol, c.in_ok-set-2.ensures.shrinks) in
-    rw more (IsListing-goes_on comma (λ n. set_at (within_at c.args.room)) comma_shortens c.loop-sets.sets (flags c.loop-sets.self.over c.loop-sets.self.deep) (flags c.set-in-loop-sets.new.self.over c.set-in-loop-sets.new.self.deep) (symbols_in c.loop-sets.self.cursor.rest.now) (symbols_in c.skip_sign.new.self.rest.now) (symbols_in c.set-in-loop-sets.new.self.cursor.rest.now) c.in_ok-set-2.field-0 _ c.loop-sets.invariant c.loop-sets-test.ensures.reads c.in_ok-set-2.ensures.reads shorter)
+    rw more (IsListing-goes_on comma (λ n. set_at (within_at c.args.room)) comma_shortens c.loop-sets.sets
+    (length c.loop-sets.sets) c.loop-sets.self c.skip_sign.new.self c.set-in-loop-sets.new.self c.in_ok-set-2.field-0 _ refl c.loop-sets.invariant
+    c.loop-sets-test.ensures.reads c.loop-sets-test.ensures.flags c.in_ok-set-2.ensures.reads c.in_ok-set-2.ensures.shrinks)
 
 pub returns : goal.returns
-returns c = rw (c.loop-sets-test.ensures.stays refl) (IsListing-ends comma (λ n. set_at (within_at c.args.room)) comma_shortens c.loop-sets.sets (flags c.loop-sets.self.over c.loop-sets.self.deep) (symbols_in c.loop-sets.self.cursor.rest.now) _ c.loop-sets.invariant c.loop-sets-test.ensures.reads)
+returns c = rw (c.loop-sets-test.ensures.stays refl)
+    (IsListing-ends comma (λ n. set_at (within_at c.args.room)) comma_shortens c.loop-sets.sets c.loop-sets.self _ c.loop-sets.invariant
+    c.loop-sets-test.ensures.reads)

@@ -1,24 +1,26 @@
-use Rattle.std.proofs.Common.{◌≡◌, ◌≤◌, ◌++◌, ◌∷◌, [], length, refl, arith}
-use Rattle.std.proofs.lemmas.List.{length-map}
+use Rattle.std.proofs.Common.{◌≡◌, ◌++◌, ◌∷◌, [], length, refl}
 use Rattle.std.proofs.lemmas.Result.{err_from_is_err_and}
-use Rattle.salt_parse.specs.Flags.{flags}
 use Rattle.salt_parse.specs.Lists.{comma}
 use Rattle.salt_parse.specs.Reading.{expression_at, within_at}
 use Rattle.salt_parse.specs.StatementReading.{tree_at}
-use Rattle.salt_tokens.specs.Symbols.{symbols_in, symbol}
 use Rattle.salt_parse.proofs.Listing.{IsListing-ends, IsListing-fails, IsListing-goes_on, comma_shortens}
 use Rattle.salt_parse.proofs.parser.Parser.values.Goals as goal
 
 pub returns-in_err-whole-2 : goal.returns-in_err-whole-2
 returns-in_err-whole-2 c =
     let p = err_from_is_err_and c.from_residual-in_err-whole-2.result c.from_residual-in_err-whole-2.ensures.1 in
-    rw (p.1, p.2) (IsListing-fails comma (λ n. tree_at (expression_at (within_at c.args.room))) comma_shortens c.loop-values.values (flags c.loop-values.self.over c.loop-values.self.deep) (symbols_in c.loop-values.self.cursor.rest.now) (symbols_in c.skip_sign.new.self.rest.now) _ _ c.loop-values.invariant c.loop-values-test.ensures.reads c.in_err-whole-2.ensures.reads)
+    rw (p.1, p.2) (IsListing-fails comma (λ n. tree_at (expression_at (within_at c.args.room))) comma_shortens c.loop-values.values
+    (length c.loop-values.values) c.loop-values.self c.skip_sign.new.self _ _ refl c.loop-values.invariant c.loop-values-test.ensures.reads
+    c.loop-values-test.ensures.flags c.in_err-whole-2.ensures.reads)
 
 pub loop-values-preserved : goal.loop-values-preserved
 loop-values-preserved c =
     let more : c.push-in-loop-values.new.self ≡ c.loop-values.values ++ c.in_ok-whole-2.field-0 ∷ [] = c.in_ok-push-2.ensures.ok in
-    let shorter : length (symbols_in c.whole-in-loop-values.new.self.cursor.rest.now) ≤ length (symbols_in c.skip_sign.new.self.rest.now) = omega (arith, length-map c.whole-in-loop-values.new.self.cursor.rest.now symbol, length-map c.skip_sign.new.self.rest.now symbol, c.in_ok-whole-2.ensures.shrinks) in
-    rw more (IsListing-goes_on comma (λ n. tree_at (expression_at (within_at c.args.room))) comma_shortens c.loop-values.values (flags c.loop-values.self.over c.loop-values.self.deep) (flags c.whole-in-loop-values.new.self.over c.whole-in-loop-values.new.self.deep) (symbols_in c.loop-values.self.cursor.rest.now) (symbols_in c.skip_sign.new.self.rest.now) (symbols_in c.whole-in-loop-values.new.self.cursor.rest.now) c.in_ok-whole-2.field-0 _ c.loop-values.invariant c.loop-values-test.ensures.reads c.in_ok-whole-2.ensures.reads shorter)
+    rw more (IsListing-goes_on comma (λ n. tree_at (expression_at (within_at c.args.room))) comma_shortens c.loop-values.values
+    (length c.loop-values.values) c.loop-values.self c.skip_sign.new.self c.whole-in-loop-values.new.self c.in_ok-whole-2.field-0 _ refl
+    c.loop-values.invariant c.loop-values-test.ensures.reads c.loop-values-test.ensures.flags c.in_ok-whole-2.ensures.reads c.in_ok-whole-2.ensures.shrinks)
 
 pub returns : goal.returns
-returns c = rw (c.loop-values-test.ensures.stays refl) (IsListing-ends comma (λ n. tree_at (expression_at (within_at c.args.room))) comma_shortens c.loop-values.values (flags c.loop-values.self.over c.loop-values.self.deep) (symbols_in c.loop-values.self.cursor.rest.now) _ c.loop-values.invariant c.loop-values-test.ensures.reads)
+returns c = rw (c.loop-values-test.ensures.stays refl)
+    (IsListing-ends comma (λ n. tree_at (expression_at (within_at c.args.room))) comma_shortens c.loop-values.values c.loop-values.self _
+    c.loop-values.invariant c.loop-values-test.ensures.reads)

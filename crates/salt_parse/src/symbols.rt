@@ -1,12 +1,14 @@
-//! The symbols that are left of a row, taken one after the other.
+//! Taking the symbols that are left, one after the other.
 
 ghost use Rattle.std.specs.Prelude.{◌≡◌, ◌<◌, ◌≤◌, IfNone, IsTrue, OnOk, OnSome, None, Some, false, if◌then◌else◌, length};
 ghost use Rattle.salt_ast.specs.Operators.{precedence};
 ghost use Rattle.salt_parse.specs.Flags.{BuiltTree, Flags};
-ghost use Rattle.salt_parse.specs.Reading.{Leaves, Reader, after, next_operator, nots_at, under_nots};
-ghost use Rattle.salt_tokens.specs.Symbols.{key, symbols_in, sign};
+ghost use Rattle.salt_parse.specs.Parsing.{Leaves};
+ghost use Rattle.salt_parse.specs.Reading.{Reader, after, next_operator, nots_at, under_nots};
+ghost use Rattle.salt_tokens.specs.Symbols.{key, sign};
 
 use crate::error::ParseErr;
+use crate::parser::Parser;
 use salt_ast::Op;
 use salt_tokens::{Keyword, Lexeme, Sign};
 
@@ -23,17 +25,12 @@ fn precedence(op: Op) -> u8
     }
 }
 
-/// The tokens that are still to be read.
-#[derive(Drop)]
-pub struct Cursor<'a> {
-    pub rest: &'a [Lexeme<'a>],
-}
-
-impl<'a> Cursor<'a> {
+impl<'a> Parser<'a> {
     /// Takes the operation that comes next, if it is one of this precedence.
     pub fn take_operator(&mut self, level: u8) -> Option<Op>
-        ensures takes { (result, symbols_in self.new.rest.now) ≡ next_operator level (symbols_in self.old.rest.now) }
-        ensures shrinks { OnSome result (length self.new.rest.now < length self.old.rest.now) }
+        ensures takes { (result, self.new.left) ≡ next_operator level self.old.left }
+        ensures flags { self.new.flags ≡ self.old.flags }
+        ensures shrinks { OnSome result (length self.new.left < length self.old.left) }
         ensures stays { IfNone result (self.new ≡ self.old) }
     {
         let [first, rest @ ..] = self.rest else {
@@ -64,8 +61,9 @@ impl<'a> Cursor<'a> {
     /// Takes this keyword, if it comes next.
     #[tactic(auto, unfolding(crate::specs::Reading::after))]
     pub fn skip_key(&mut self, wanted: Keyword) -> bool
-        ensures reads { after (key wanted) (symbols_in self.old.rest.now) ≡ (if result then Some (symbols_in self.new.rest.now) else None) }
-        ensures shrinks { IsTrue result → length self.new.rest.now < length self.old.rest.now }
+        ensures reads { after (key wanted) self.old.left ≡ (if result then Some self.new.left else None) }
+        ensures flags { self.new.flags ≡ self.old.flags }
+        ensures shrinks { IsTrue result → length self.new.left < length self.old.left }
         ensures stays { result ≡ false → self.new ≡ self.old }
     {
         match self.rest {
@@ -80,8 +78,9 @@ impl<'a> Cursor<'a> {
     /// Takes this sign, if it comes next.
     #[tactic(auto, unfolding(crate::specs::Reading::after))]
     pub fn skip_sign(&mut self, wanted: Sign) -> bool
-        ensures reads { after (sign wanted) (symbols_in self.old.rest.now) ≡ (if result then Some (symbols_in self.new.rest.now) else None) }
-        ensures shrinks { IsTrue result → length self.new.rest.now < length self.old.rest.now }
+        ensures reads { after (sign wanted) self.old.left ≡ (if result then Some self.new.left else None) }
+        ensures flags { self.new.flags ≡ self.old.flags }
+        ensures shrinks { IsTrue result → length self.new.left < length self.old.left }
         ensures stays { result ≡ false → self.new ≡ self.old }
     {
         match self.rest {
@@ -95,8 +94,9 @@ impl<'a> Cursor<'a> {
 
     /// Takes this keyword, which has to come next.
     pub fn take_key(&mut self, wanted: Keyword) -> Result<(), ParseErr>
-        ensures reads { Leaves result (symbols_in self.new.rest.now) (after (key wanted) (symbols_in self.old.rest.now)) }
-        ensures shrinks { OnOk result (length self.new.rest.now < length self.old.rest.now) }
+        ensures reads { Leaves result self.new.left (after (key wanted) self.old.left) }
+        ensures flags { self.new.flags ≡ self.old.flags }
+        ensures shrinks { OnOk result (length self.new.left < length self.old.left) }
     {
         if self.skip_key(wanted) {
             Ok(())
@@ -107,8 +107,9 @@ impl<'a> Cursor<'a> {
 
     /// Takes this sign, which has to come next.
     pub fn take_sign(&mut self, wanted: Sign) -> Result<(), ParseErr>
-        ensures reads { Leaves result (symbols_in self.new.rest.now) (after (sign wanted) (symbols_in self.old.rest.now)) }
-        ensures shrinks { OnOk result (length self.new.rest.now < length self.old.rest.now) }
+        ensures reads { Leaves result self.new.left (after (sign wanted) self.old.left) }
+        ensures flags { self.new.flags ≡ self.old.flags }
+        ensures shrinks { OnOk result (length self.new.left < length self.old.left) }
     {
         if self.skip_sign(wanted) {
             Ok(())
@@ -119,9 +120,12 @@ impl<'a> Cursor<'a> {
 
     /// Takes the `not`s that come next, and counts them.
     pub fn skip_nots(&mut self) -> usize
-        ensures reads { (operand : Reader BuiltTree) (f : Flags) → nots_at operand f (symbols_in self.old.rest.now) ≡ under_nots result (operand f (symbols_in self.new.rest.now)) }
-        ensures shrinks { length self.new.rest.now ≤ length self.old.rest.now }
+        ensures reads { (operand : Reader BuiltTree) (f : Flags) → nots_at operand f self.old.left ≡ under_nots result (operand f self.new.left) }
+        ensures flags { self.new.flags ≡ self.old.flags }
+        ensures shrinks { length self.new.left ≤ length self.old.left }
     {
+        // No more symbols are left than a slice can hold.
+        let _left = self.rest;
         let mut nots: usize = 0;
         while self.skip_key(Keyword::Not) {
             nots += 1;
