@@ -140,6 +140,7 @@ IsRequestDone old story (request.Do s st t) new told = (es : Tables) → old.row
 
 -- the story where memory ran out in the line
 abbrev pub IsLeft : Engine → List Event → Request → List Event → Type 0
-IsLeft old story (request.Do s st t) told = (es : Tables) → old.rows.entries ≡ es.list → IsCutShort story (unit_events old s st.now (done_by old es st.now).answer) told
+IsLeft old story (request.Do s st t) told = (es : Tables) → old.rows.entries ≡ es.list
+    → IsCutShort story (unit_events old s st.now (done_by old es st.now).answer) told
 IsLeft old story request.Nothing told = told ≡ story
 IsLeft old story (request.Define d) told = told ≡ story

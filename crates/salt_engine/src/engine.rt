@@ -68,7 +68,8 @@ fn text_of(alloc: Global, def: &TableDef) -> Result<Bytes, AllocError>
 }
 
 impl Engine {
-    ghost use Rattle.salt_engine.specs.Engine.{BreaksOff, GoesOn, HasRun, IsCutShort, IsIdle, IsLeft, IsRequestDone, NeverDown, NumbersRise, Serves, decisions_after, defined_by, done_by, end_by, next_unit, rows_by, unit_events};
+    ghost use Rattle.salt_engine.specs.Engine.{BreaksOff, GoesOn, HasRun, IsCutShort, IsIdle, IsLeft, IsRequestDone, NeverDown};
+    ghost use Rattle.salt_engine.specs.Engine.{NumbersRise, Serves, decisions_after, defined_by, done_by, end_by, next_unit, rows_by, unit_events};
 
     /// An engine of no tables, in the boot that a story's opening tells.
     pub fn new(alloc: Global, boot: u64) -> Engine
@@ -177,7 +178,8 @@ impl Engine {
         requires units { self.old.units < 2 ^ 64 - 1 }
         requires decisions { self.old.decisions < 2 ^ 64 - 1 }
         ensures ok { OnOk result ((es : Tables) → self.old.rows.entries ≡ es.list → HasRun self.old story.old session st.now es self.new story.new) }
-        ensures err { OnErr result ((es : Tables) → self.old.rows.entries ≡ es.list → IsCutShort story.old (unit_events self.old session st.now (done_by self.old es st.now).answer) story.new) }
+        ensures err { OnErr result ((es : Tables) → self.old.rows.entries ≡ es.list
+            → IsCutShort story.old (unit_events self.old session st.now (done_by self.old es st.now).answer) story.new) }
         ensures rise { OnOk result (NumbersRise self.old self.new) }
     {
         let unit = self.begin(session, story)?;

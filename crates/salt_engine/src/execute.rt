@@ -118,7 +118,8 @@ pub fn execute(
 ) -> Result<Outcome, AllocError>
     requires few { length schema.now ≤ 64 }
     requires plain { list_all is_plain_table schema.now ≡ true }
-    ensures { (es : Tables) (st : Statement) → rows.now.entries ≡ es.list → IsTaskOf st (Some task.now) → IfOk result (λ done. IsOutcome done (outcome_of schema.now es [] st)) }
+    ensures { (es : Tables) (st : Statement) → rows.now.entries ≡ es.list → IsTaskOf st (Some task.now)
+        → IfOk result (λ done. IsOutcome done (outcome_of schema.now es [] st)) }
 {
     let Some(Known { number, .. }) = table_named(schema, table_of(task).as_slice()) else {
         return Ok(Outcome {

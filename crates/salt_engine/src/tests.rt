@@ -230,7 +230,11 @@ fn a_table_too_many_is_refused(rt: HostRuntime) -> Result<(), Fail> {
     engine.step(&table(alloc, b"A", ColType::Int)?, &mut story)?;
     assert_eq!(rt;
         told_from(alloc, &story, 63)?.as_slice(),
-        [Told::Defined(64, Some(b'A' + 63)), Told::Limit(LimitName::Tables),].as_slice()
+        [
+            Told::Defined(64, Some(b'A' + 63)),
+            Told::Limit(LimitName::Tables),
+        ]
+        .as_slice()
     );
     Ok(())
 }

@@ -2,7 +2,8 @@
 ghost use Rattle.std.specs.Prelude.{◌≡◌, ◌+◌, ◌^◌, ◌<◌, ◌≤◌, IsTrue, false, length, IfOk, OnOk, OnErr};
 ghost use Rattle.std.specs.Result.{result_err};
 ghost use Rattle.salt_io.specs.Streams.{Rose};
-ghost use Rattle.salt_io.specs.Disks.{View, IsSettled, Shrinks, AreUnchanged, KeepsOthers, KeepsAll, IfNothingDone, IsUnchanged, HasCause, FullExactly, NeverFull, OnlyFails, written, Tears, IsRead, IsRestarted};
+ghost use Rattle.salt_io.specs.Disks.{View, IsSettled, Shrinks, AreUnchanged, KeepsOthers, KeepsAll, IfNothingDone, IsUnchanged};
+ghost use Rattle.salt_io.specs.Disks.{HasCause, FullExactly, NeverFull, OnlyFails, written, Tears, IsRead, IsRestarted};
 ghost use Rattle.salt_io.specs.declared.disks.DiskErr.TheVariants.{Stopped, Memory};
 
 use std::alloc::{AllocError, AllocFailed};

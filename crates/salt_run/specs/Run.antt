@@ -109,4 +109,5 @@ IsWritten Usage before first text now = Gains before text now
 
 -- the text of a trace's story, under each schema: none of its events shows locks, which alone name tables by number
 abbrev pub IsTold : Status → Option (List ℕ) → Trace → Option (List ℕ) → Type 0
-IsTold status before trace now = (schema : List TableDef) → IsWritten status before (story_text schema (story_before trace)) (story_text schema (story_of trace)) now
+IsTold status before trace now = (schema : List TableDef)
+    → IsWritten status before (story_text schema (story_before trace)) (story_text schema (story_of trace)) now

@@ -4,7 +4,8 @@ ghost use Rattle.std.specs.Prelude.{◌≡◌, ◌≢◌, ◌+◌, ◌-◌, ◌<
 ghost use Rattle.std.specs.Option.{option_copied};
 ghost use Rattle.salt_io.specs.Lines.{IsReadingOf};
 ghost use Rattle.salt_io.specs.Streams.{Gains, IsAtEnd, Rose};
-ghost use Rattle.salt_run.specs.Serving.{HasNumbers, IsAfterLine, IsDone, IsEnded, IsLeftIn, IsServing, StopsOpening, StopsTelling, added_text, opening, status_of, stop_of, told_text};
+ghost use Rattle.salt_run.specs.Serving.{HasNumbers, IsAfterLine, IsDone, IsEnded, IsLeftIn, IsServing};
+ghost use Rattle.salt_run.specs.Serving.{StopsOpening, StopsTelling, added_text, opening, status_of, stop_of, told_text};
 ghost use Rattle.salt_run.specs.declared.serving.Stop.TheVariants.{Memory, WriteFault};
 
 use crate::status::Status;

@@ -17,7 +17,8 @@ use Rattle.salt_tokens.specs.contracts.sign.Sign.{the_type as signs}
 use Rattle.salt_tokens.specs.declared.keyword.Keyword.TheVariants as word
 use Rattle.salt_tokens.specs.declared.sign.Sign.TheVariants as mark
 use Rattle.salt_values.specs.declared.value.Value.TheVariants.{Int}
-use Rattle.std.specs.Prelude.{Bool, List, None, Option, Some, [], false, if◌then◌else◌, length, nat_le, nat_lt, neg_ℤ, pos, suc, true, zero, ℕ, ℤ, ◌&&◌, ◌++◌, ◌^◌, ◌∷◌}
+use Rattle.std.specs.Prelude.{Bool, List, None, Option, Some, [], false, if◌then◌else◌, length, nat_le, nat_lt}
+use Rattle.std.specs.Prelude.{neg_ℤ, pos, suc, true, zero, ℕ, ℤ, ◌&&◌, ◌++◌, ◌^◌, ◌∷◌}
 
 -- something, and the symbols behind it
 abbrev pub Reader : Type 0 → Type 0
@@ -94,12 +95,15 @@ columns_at ts = key_column_at ts >>= λ c. with_front (c.0 ∷ []) (more_at colu
 -- what stands behind `insert`
 abbrev pub insert_at : Reader Statement
 insert_at ts =
-    after (key word.Into) ts >>= λ us. name_at us >>= λ n. after (key word.Values) n.1 >>= λ vs. after (sign mark.Open) vs >>= λ ws. values_at ws >>= λ es. after (sign mark.Close) es.1 >>= λ xs. Some (Insert n.0 es.0, xs)
+    after (key word.Into) ts >>= λ us. name_at us >>= λ n. after (key word.Values) n.1 >>= λ vs. after (sign mark.Open) vs >>= λ ws. values_at ws
+    >>= λ es. after (sign mark.Close) es.1 >>= λ xs. Some (Insert n.0 es.0, xs)
 
 -- what stands behind `select`
 abbrev pub select_at : Reader Statement
 select_at ts =
-    after (sign mark.Star) ts >>= λ us. after (key word.From) us >>= λ vs. name_at vs >>= λ n. after (key word.Where) n.1 >>= λ ws. after (key word.Key) ws >>= λ xs. after (sign mark.Equal) xs >>= λ ys. value_at ys >>= λ e. Some (Select All n.0 (record { bound = Key e.0; filter = None }), e.1)
+    after (sign mark.Star) ts >>= λ us. after (key word.From) us >>= λ vs. name_at vs >>= λ n. after (key word.Where) n.1
+    >>= λ ws. after (key word.Key) ws >>= λ xs. after (sign mark.Equal) xs >>= λ ys. value_at ys
+    >>= λ e. Some (Select All n.0 (record { bound = Key e.0; filter = None }), e.1)
 
 abbrev pub statement_at : Reader Statement
 statement_at ts = either (after (key word.Insert) ts) (after (key word.Select) ts >>= select_at) insert_at
@@ -107,7 +111,8 @@ statement_at ts = either (after (key word.Insert) ts) (after (key word.Select) t
 -- what stands behind `create`
 abbrev pub table_at : Reader Line
 table_at ts =
-    after (key word.Table) ts >>= λ us. name_at us >>= λ n. after (sign mark.Open) n.1 >>= λ vs. columns_at vs >>= λ cs. after (sign mark.Close) cs.1 >>= λ ws. Some (Table (record { name = n.0; columns = cs.0; checks = [] }), ws)
+    after (key word.Table) ts >>= λ us. name_at us >>= λ n. after (sign mark.Open) n.1 >>= λ vs. columns_at vs >>= λ cs. after (sign mark.Close) cs.1
+    >>= λ ws. Some (Table (record { name = n.0; columns = cs.0; checks = [] }), ws)
 
 -- what stands behind `@`
 abbrev pub act_at : Reader Line

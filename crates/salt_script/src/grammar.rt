@@ -2,7 +2,8 @@
 
 ghost use Rattle.std.specs.Prelude.{◌≡◌, ◌<◌, ◌≤◌, OnOk, length};
 ghost use Rattle.salt_script.specs.Answers.{GivesAll, Gives};
-ghost use Rattle.salt_script.specs.Reading.{act_at, begun_at, column_at, columns_at, insert_at, key_column_at, line_at, literal_at, select_at, signed, statement_at, table_at, value_at, values_at};
+ghost use Rattle.salt_script.specs.Reading.{act_at, begun_at, column_at, columns_at, insert_at, key_column_at, line_at};
+ghost use Rattle.salt_script.specs.Reading.{literal_at, select_at, signed, statement_at, table_at, value_at, values_at};
 ghost use Rattle.salt_tokens.specs.Symbols.{symbols_in};
 
 use crate::cursor::Cursor;

@@ -53,4 +53,5 @@ Ends Sign text rest = NotNext (λ b. is_some (sign_of (text ++ b ∷ []))) rest
 pub data Lexes : List ℕ → List Piece → Type 0 where
   ended : Lexes [] []
   blank : {b : ℕ} {bs : List ℕ} {ps : List Piece} → is_blank b ≡ true → Lexes bs ps → Lexes (b ∷ bs) ps
-  token : {rest : List ℕ} {ps : List Piece} (kind : TokenKind) (text : List ℕ) → IsToken kind text → Ends kind text rest → Lexes rest ps → Lexes (text ++ rest) (record { kind = kind; text = text } ∷ ps)
+  token : {rest : List ℕ} {ps : List Piece} (kind : TokenKind) (text : List ℕ)
+      → IsToken kind text → Ends kind text rest → Lexes rest ps → Lexes (text ++ rest) (record { kind = kind; text = text } ∷ ps)

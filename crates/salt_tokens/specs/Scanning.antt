@@ -1,5 +1,6 @@
 -- The row of tokens of some bytes, taken from left to right.
-use Rattle.std.specs.Prelude.{is_some, ◌≡◌, ℕ, zero, suc, ◌+◌, ◌-◌, Bool, true, false, List, [], ◌∷◌, take, Option, Some, None, Result, Ok, Err, ◌==◌, if◌then◌else◌}
+use Rattle.std.specs.Prelude.{is_some, ◌≡◌, ℕ, zero, suc, ◌+◌, ◌-◌, Bool, true, false, List}
+use Rattle.std.specs.Prelude.{[], ◌∷◌, take, Option, Some, None, Result, Ok, Err, ◌==◌, if◌then◌else◌}
 use Rattle.std.specs.List.{prefix_len}
 use Rattle.salt_tokens.specs.Bytes.{is_blank, is_digit, is_letter, is_word, is_printable}
 use Rattle.salt_tokens.specs.Spelling.{sign_of}

@@ -78,10 +78,16 @@ sign_spelling mark.Greater = codes ">"
 sign_spelling mark.AtLeast = codes ">="
 
 abbrev pub all_keywords : List Keyword
-all_keywords = word.Create ∷ word.Table ∷ word.Int ∷ word.Text ∷ word.Key ∷ word.Check ∷ word.Insert ∷ word.Into ∷ word.Values ∷ word.Select ∷ word.From ∷ word.Where ∷ word.And ∷ word.Or ∷ word.Not ∷ word.Between ∷ word.Update ∷ word.Set ∷ word.Delete ∷ word.Ensure ∷ word.Count ∷ word.Sum ∷ word.Min ∷ word.Max ∷ word.Program ∷ word.Var ∷ word.Acid ∷ word.Base ∷ word.Part ∷ word.Then ∷ word.On ∷ word.Failure ∷ word.Go ∷ word.End ∷ word.Begin ∷ word.Commit ∷ word.Rollback ∷ word.Step ∷ word.Call ∷ word.Show ∷ word.Locks ∷ word.Bases ∷ word.Crash ∷ word.All ∷ word.Null ∷ word.Is ∷ word.Retry ∷ []
+all_keywords =
+    word.Create ∷ word.Table ∷ word.Int ∷ word.Text ∷ word.Key ∷ word.Check ∷ word.Insert ∷ word.Into ∷ word.Values ∷ word.Select ∷ word.From ∷ word.Where
+    ∷ word.And ∷ word.Or ∷ word.Not ∷ word.Between ∷ word.Update ∷ word.Set ∷ word.Delete ∷ word.Ensure ∷ word.Count ∷ word.Sum ∷ word.Min ∷ word.Max
+    ∷ word.Program ∷ word.Var ∷ word.Acid ∷ word.Base ∷ word.Part ∷ word.Then ∷ word.On ∷ word.Failure ∷ word.Go ∷ word.End ∷ word.Begin ∷ word.Commit
+    ∷ word.Rollback ∷ word.Step ∷ word.Call ∷ word.Show ∷ word.Locks ∷ word.Bases ∷ word.Crash ∷ word.All ∷ word.Null ∷ word.Is ∷ word.Retry ∷ []
 
 abbrev pub all_signs : List Sign
-all_signs = mark.Open ∷ mark.Close ∷ mark.OpenBrace ∷ mark.CloseBrace ∷ mark.Comma ∷ mark.Semicolon ∷ mark.Colon ∷ mark.At ∷ mark.Dot ∷ mark.Star ∷ mark.Plus ∷ mark.Minus ∷ mark.Bars ∷ mark.Equal ∷ mark.Unequal ∷ mark.Less ∷ mark.AtMost ∷ mark.Greater ∷ mark.AtLeast ∷ []
+all_signs =
+    mark.Open ∷ mark.Close ∷ mark.OpenBrace ∷ mark.CloseBrace ∷ mark.Comma ∷ mark.Semicolon ∷ mark.Colon ∷ mark.At ∷ mark.Dot ∷ mark.Star ∷ mark.Plus
+    ∷ mark.Minus ∷ mark.Bars ∷ mark.Equal ∷ mark.Unequal ∷ mark.Less ∷ mark.AtMost ∷ mark.Greater ∷ mark.AtLeast ∷ []
 
 -- whether two rows of bytes are one
 abbrev pub same_bytes : List ℕ → List ℕ → Bool

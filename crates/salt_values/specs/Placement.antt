@@ -34,4 +34,5 @@ TakesEachKey pre = (kind : PlaceKind) (key : Bor Value) (parts : ℕ) → IsValu
 
 -- and by what its calls ensure, gives `place_of` there
 abbrev pub GivesPlaceOf : (PlaceKind → Bor Value → ℕ → ℕ → Type 0) → Type 0
-GivesPlaceOf post = (kind : PlaceKind) (key : Bor Value) (parts part : ℕ) → IsValue key.now → IsParts parts → post kind key parts part → part ≡ place_of kind key.now parts
+GivesPlaceOf post = (kind : PlaceKind) (key : Bor Value) (parts part : ℕ) → IsValue key.now → IsParts parts
+    → post kind key parts part → part ≡ place_of kind key.now parts
