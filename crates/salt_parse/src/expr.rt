@@ -53,6 +53,7 @@ impl<'a> Parser<'a> {
     }
 
     /// What operations of the level stand between.
+    #[inline(always)]
     #[cycle(expr)]
     fn level_operand(&mut self, level: Level, room: u32) -> Result<Built, ParseErr>
         ensures reads { ReadsBuilt result (operand_at level (within_at room)) self.old self.new }

@@ -27,6 +27,7 @@ fn precedence(op: Op) -> u8
 
 impl<'a> Parser<'a> {
     /// Takes the operation that comes next, if it is one of this precedence.
+    #[inline]
     pub fn take_operator(&mut self, level: u8) -> Option<Op>
         ensures takes { (result, self.new.left) ≡ next_operator level self.old.left }
         ensures flags { self.new.flags ≡ self.old.flags }
