@@ -104,15 +104,18 @@ fn lines_at_the_bound(rt: HostRuntime) -> Result<(), Fail> {
 
 #[test]
 fn a_read_that_fails(rt: HostRuntime) -> Result<(), Fail> {
-    let cases: [(u64, &[u8]); 5] = [
-        (1, b"R"),
-        (2, b"R"),
-        (4, b"ab|R"),
-        (7, b"ab|cd|R"),
-        (9, b"ab|cd|"),
+    let cases: [(&[u8], u64, &[u8]); 7] = [
+        (b"ab\ncd\n", 1, b"R"),
+        (b"ab\ncd\n", 2, b"R"),
+        (b"ab\ncd\n", 4, b"ab|R"),
+        (b"ab\ncd\n", 7, b"ab|cd|R"),
+        (b"ab\ncd\n", 9, b"ab|cd|"),
+        (b"ab", 3, b"R"),
+        // The source told its end behind an unended line, and is not asked again.
+        (b"ab", 4, b"ab|"),
     ];
-    for (call, want) in cases {
-        let mut source = MemSource::new(rt.alloc(), b"ab\ncd\n")?;
+    for (script, call, want) in cases {
+        let mut source = MemSource::new(rt.alloc(), script)?;
         source.give_at_most(1);
         source.fail_call(call)?;
         let told = transcript(rt.alloc(), &mut source)?;

@@ -3,6 +3,7 @@
 ghost use Rattle.std.specs.Prelude.{◌≡◌, ◌<◌, ◌≤◌, length, sum};
 ghost use Rattle.salt_values.specs.Placement.{GivesPlaceOf, IsParts, TakesEachKey, band_of, place_of, remainder};
 
+use crate::limits::TEXT_MOST;
 use crate::value::{Key, Value};
 
 /// How rows are spread over partitions, by their keys.
@@ -74,7 +75,7 @@ fn remainder(number: i64, parts: u32) -> u32
 }
 
 fn byte_sum(bytes: &[u8]) -> u32
-    requires { length bytes.now ≤ 255 }
+    requires { length bytes.now ≤ TEXT_MOST }
     ensures { result ≡ sum bytes.now }
 {
     bytes.iter().map(|b| u32::from(*b)).sum()
