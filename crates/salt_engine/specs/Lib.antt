@@ -2,3 +2,4 @@ pub mod Supported
 pub mod Schema
 pub mod Execute
 pub mod Engine
+pub mod FallRows
