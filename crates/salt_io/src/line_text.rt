@@ -55,6 +55,7 @@ impl LineText {
     }
 
     /// Keeps the bytes of the tail too, since no LF came next.
+    #[inline(always)]
     fn keep_tail(&mut self, line: &mut Vec<u8>) -> Result<(), AllocError>
         ensures text { OnOk result ((text : List ℕ) → KeepsFront line.old.items self.old.is_long text
             → KeepsFront line.new.items self.new.is_long (text ++ tail_bytes self.old.tail)) }
