@@ -77,7 +77,7 @@ acct_symbols = refl
 
 acct_spelled : IsTable (Within 0) acct_row acct_def
 acct_spelled =
-    table.is_table table.int_field (form.one_more table.int_field form.no_more)
+    table.is_table table.int_field (form.one_more (table.is_plain table.int_field) form.no_more)
     (form.one_more
     (table.is_check (one (grammar.more (one (plain (pair (one (one named)) (sign mark.AtLeast) refl refl (one (one plus_int)))))
     (key word.And) refl refl (plain (pair (one (one named)) (sign mark.AtMost) refl refl (one (one plus_int)))))))

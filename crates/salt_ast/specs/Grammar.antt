@@ -1,12 +1,12 @@
 -- Which rows of symbols spell which expression.
 use Rattle.salt_ast.specs.Operators.{operator, precedence}
-use Rattle.salt_ast.specs.Trees.{letters, negation, number, operation}
+use Rattle.salt_ast.specs.Trees.{letters, negation, null_test, number, operation}
 use Rattle.salt_ast.specs.declared.trees.Expr.{Column, Expr, Variable}
 use Rattle.salt_ast.specs.declared.trees.Op.{Op}
 use Rattle.salt_tokens.specs.Symbols.{Symbols, Symbol, int, key, name, sign, text}
 use Rattle.salt_tokens.specs.declared.keyword.Keyword.TheVariants as word
 use Rattle.salt_tokens.specs.declared.sign.Sign.TheVariants as mark
-use Rattle.std.specs.Prelude.{List, Some, [], neg_ℤ, pos, suc, zero, ℕ, ◌++◌, ◌∷◌, ◌≡◌}
+use Rattle.std.specs.Prelude.{List, Some, [], false, neg_ℤ, pos, suc, true, zero, ℕ, ◌++◌, ◌∷◌, ◌≡◌}
 
 -- what spells what
 abbrev pub Spells : Type 1
@@ -18,11 +18,14 @@ pub data Left (level : ℕ) (Operand : Symbols → Expr → Type 0) : Symbols �
   more : {a b : Symbols} {o : Op} {l r : Expr} → Left level Operand a l → (t : Symbol) → operator t ≡ Some o → precedence o ≡ level → Operand b r →
       Left level Operand (a ++ t ∷ b) (operation o l r)
 
--- Operand [ operation Operand ]
+-- Operand [ operation Operand | "is" ["not"] "null" ]
 pub data Once (level : ℕ) (Operand : Symbols → Expr → Type 0) : Symbols → Expr → Type 0 where
   alone : {ts : Symbols} {e : Expr} → Operand ts e → Once level Operand ts e
   pair : {a b : Symbols} {o : Op} {l r : Expr} → Operand a l → (t : Symbol) → operator t ≡ Some o → precedence o ≡ level → Operand b r →
       Once level Operand (a ++ t ∷ b) (operation o l r)
+  is_null : {ts : Symbols} {e : Expr} → Operand ts e → Once level Operand (ts ++ key word.Is ∷ key word.Null ∷ []) (null_test false e)
+  is_not_null : {ts : Symbols} {e : Expr} → Operand ts e →
+      Once level Operand (ts ++ key word.Is ∷ key word.Not ∷ key word.Null ∷ []) (null_test true e)
 
 -- {"not"} Operand
 pub data Nots (Operand : Symbols → Expr → Type 0) : Symbols → Expr → Type 0 where

@@ -10,7 +10,7 @@ use Rattle.salt_ast.specs.declared.limit.LimitName.{LimitName}
 use Rattle.salt_ast.specs.declared.limit.LimitName.TheVariants as limit
 use Rattle.salt_ast.specs.declared.trees.ColType.{ColType}
 use Rattle.salt_ast.specs.declared.trees.ColType.TheVariants as kind
-use Rattle.salt_ast.specs.declared.trees.Expr.{Binary', Column, Expr, Lit, Not', Variable, end_of-Expr, more_of-Expr}
+use Rattle.salt_ast.specs.declared.trees.Expr.{Binary', Column, Expr, IsNull', Lit, Not', Variable, end_of-Expr, more_of-Expr}
 use Rattle.salt_ast.specs.declared.trees.Field.{Field}
 use Rattle.salt_ast.specs.declared.trees.Op.{Op}
 use Rattle.salt_ast.specs.declared.trees.Op.TheVariants as op
@@ -22,11 +22,12 @@ use Rattle.salt_ast.specs.declared.trees.Statement.TheVariants as statement
 use Rattle.salt_ast.specs.declared.trees.TableDef.{TableDef}
 use Rattle.salt_ast.specs.declared.trees.What.{What}
 use Rattle.salt_ast.specs.declared.trees.What.TheVariants as what
+use Rattle.salt_values.specs.Value.{is_null}
 use Rattle.salt_values.specs.declared.value.Value.{Value}
 use Rattle.salt_values.specs.declared.value.Value.TheVariants as value
 use Rattle.std.specs.List.{list_all}
 use Rattle.std.specs.Prelude.{Bool, List, None, Option, Some, [], false, if◌then◌else◌, length, map, nat_le, not, true}
-use Rattle.std.specs.Prelude.{option_and_then, option_map, ℕ, ◌&&◌, ◌++◌, ◌∷◌}
+use Rattle.std.specs.Prelude.{option_and_then, option_map, ℕ, ◌&&◌, ◌++◌, ◌||◌, ◌∷◌}
 
 -- A schema is the list of the tables defined before.
 
@@ -60,6 +61,7 @@ unknown_in_expr columns variables (Lit v) = None
 unknown_in_expr columns variables (Column n) = unknown_name columns n
 unknown_in_expr columns variables (Variable n) = unknown_name variables n
 unknown_in_expr columns variables (Not' _ (more_of-Expr e end_of-Expr)) = unknown_in_expr columns variables e
+unknown_in_expr columns variables (IsNull' _ (more_of-Expr e end_of-Expr) negated) = unknown_in_expr columns variables e
 unknown_in_expr columns variables (Binary' o _ (more_of-Expr l end_of-Expr) _ (more_of-Expr r end_of-Expr)) =
     option_or (unknown_in_expr columns variables l) (unknown_in_expr columns variables r)
 
@@ -144,9 +146,18 @@ abbrev pub is_of_kind : Kind → Option Kind → Bool
 is_of_kind k None = false
 is_of_kind k (Some j) = is_same_kind k j
 
+-- a value, and no truth value
+abbrev pub is_value : Option Kind → Bool
+is_value (Some (values t)) = true
+is_value (Some truths) = false
+is_value None = false
+
+abbrev pub field_named : List Field → List ℕ → Option Field
+field_named [] n = None
+field_named (f ∷ fs) n = if same_bytes n f.name then Some f else field_named fs n
+
 abbrev pub type_named : List Field → List ℕ → Option ColType
-type_named [] n = None
-type_named (f ∷ fs) n = if same_bytes n f.name then Some f.kind else type_named fs n
+type_named fields n = option_map (λ f. f.kind) (field_named fields n)
 
 -- which two operands an operation takes, and what it gives
 
@@ -174,17 +185,24 @@ operation_kind op.Sub l r = closed_kind (values kind.Int) l r
 operation_kind op.Join l r = closed_kind (values kind.Text) l r
 operation_kind op.Mul l r = closed_kind (values kind.Int) l r
 
-abbrev pub value_kind : Value → Kind
-value_kind (value.Int z) = values kind.Int
-value_kind (value.Text t) = values kind.Text
+-- NULL has no type of its own
+abbrev pub value_type : Value → Option ColType
+value_type (value.Int z) = Some kind.Int
+value_type (value.Text t) = Some kind.Text
+value_type value.Null = None
+
+abbrev pub value_kind : Value → Option Kind
+value_kind v = option_map values (value_type v)
 
 -- what an expression gives over these columns, and these parameters and variables: nothing where its types are wrong
 abbrev pub expr_kind : (columns variables : List Field) → Expr → Option Kind
-expr_kind columns variables (Lit v) = Some (value_kind v)
+expr_kind columns variables (Lit v) = value_kind v
 expr_kind columns variables (Column n) = option_map values (type_named columns n)
 expr_kind columns variables (Variable n) = option_map values (type_named variables n)
 expr_kind columns variables (Not' _ (more_of-Expr e end_of-Expr)) =
     then_some (is_of_kind truths (expr_kind columns variables e)) truths
+expr_kind columns variables (IsNull' _ (more_of-Expr e end_of-Expr) negated) =
+    then_some (is_value (expr_kind columns variables e)) truths
 expr_kind columns variables (Binary' o _ (more_of-Expr l end_of-Expr) _ (more_of-Expr r end_of-Expr)) =
     option_and_then (λ k. option_and_then (operation_kind o k) (expr_kind columns variables r)) (expr_kind columns variables l)
 
@@ -205,10 +223,36 @@ abbrev pub is_key : List Field → List ℕ → Bool
 is_key [] n = false
 is_key (f ∷ fs) n = same_bytes n f.name
 
--- one value of its type for each column
+-- NULLABLE: a column that is not declared so takes neither `null` nor an expression that names one that is.
+
+abbrev pub is_nullable : List Field → List ℕ → Bool
+is_nullable columns n = elim (field_named columns n) [ None ↦ false | Some f ↦ f.nullable ]
+
+abbrev pub may_be_null : (columns : List Field) → Expr → Bool
+may_be_null columns (Lit v) = is_null v
+may_be_null columns (Column n) = is_nullable columns n
+may_be_null columns (Variable n) = false
+may_be_null columns (Not' _ (more_of-Expr e end_of-Expr)) = may_be_null columns e
+may_be_null columns (IsNull' _ (more_of-Expr e end_of-Expr) negated) = may_be_null columns e
+may_be_null columns (Binary' o _ (more_of-Expr l end_of-Expr) _ (more_of-Expr r end_of-Expr)) = may_be_null columns l || may_be_null columns r
+
+abbrev pub is_null_literal : Expr → Bool
+is_null_literal (Lit v) = is_null v
+is_null_literal e = false
+
+-- what the column takes: a value of its type, or NULL where it may hold it
+abbrev pub takes : (columns variables : List Field) → Field → Expr → Bool
+takes columns variables f e =
+    (f.nullable || not (may_be_null columns e)) && (is_null_literal e || gives_type columns variables (Some f.kind) e)
+
+abbrev pub takes_in : (columns variables : List Field) → Option Field → Expr → Bool
+takes_in columns variables None e = false
+takes_in columns variables (Some f) e = takes columns variables f e
+
+-- what each column takes
 abbrev pub are_row : (columns variables : List Field) → List Expr → Bool
 are_row [] variables [] = true
-are_row (f ∷ fs) variables (e ∷ es) = gives_type [] variables (Some f.kind) e && are_row fs variables es
+are_row (f ∷ fs) variables (e ∷ es) = takes [] variables f e && are_row fs variables es
 are_row [] variables (e ∷ es) = false
 are_row (f ∷ fs) variables [] = false
 
@@ -232,7 +276,7 @@ is_typed_scan columns variables scan =
 -- no set is of the key
 abbrev pub is_typed_set : (columns variables : List Field) → Set → Bool
 is_typed_set columns variables set =
-    not (is_key columns set.column) && gives_type columns variables (type_named columns set.column) set.value
+    not (is_key columns set.column) && takes_in columns variables (field_named columns set.column) set.value
 
 abbrev pub same_types : Option ColType → Option ColType → Bool
 same_types (Some a) (Some b) = is_same_type a b
@@ -245,6 +289,7 @@ is_typed_statement schema scope (statement.Select w table scan) =
     is_typed_what (columns_of schema table) w && is_typed_scan (columns_of schema table) (bindings scope) scan
 is_typed_statement schema scope (statement.SelectInto column var table key) =
     same_types (type_named (columns_of schema table) column) (type_named scope.vars var)
+    && not (is_nullable (columns_of schema table) column)
     && gives_type [] (bindings scope) (key_type (columns_of schema table)) key
 is_typed_statement schema scope (statement.Update table sets scan) =
     list_all (is_typed_set (columns_of schema table) (bindings scope)) sets

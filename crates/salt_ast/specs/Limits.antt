@@ -8,7 +8,7 @@ use Rattle.salt_ast.specs.declared.limit.LimitName.{LimitName}
 use Rattle.salt_ast.specs.declared.limit.LimitName.TheVariants as limit
 use Rattle.salt_ast.specs.declared.trees.Bound.{Bound}
 use Rattle.salt_ast.specs.declared.trees.Bound.TheVariants as bound
-use Rattle.salt_ast.specs.declared.trees.Expr.{Binary', Column, Expr, Lit, Not', Variable, end_of-Expr, more_of-Expr}
+use Rattle.salt_ast.specs.declared.trees.Expr.{Binary', Column, Expr, IsNull', Lit, Not', Variable, end_of-Expr, more_of-Expr}
 use Rattle.salt_ast.specs.declared.trees.Field.{Field}
 use Rattle.salt_ast.specs.declared.trees.Scan.{Scan}
 use Rattle.salt_ast.specs.declared.trees.Set.{Set}
@@ -32,6 +32,7 @@ limit_word limit.Columns = codes "columns"
 limit_word limit.Checks = codes "checks"
 limit_word limit.Programs = codes "programs"
 limit_word limit.Parts = codes "parts"
+limit_word limit.Retry = codes "retry"
 limit_word limit.Statements = codes "statements"
 limit_word limit.Parameters = codes "parameters"
 limit_word limit.Variables = codes "variables"
@@ -64,12 +65,14 @@ int_passed (negsuc n) = above (2 ^ 63) limit.Number (n + 1)
 abbrev pub value_passed : Value → Option LimitName
 value_passed (value.Int z) = int_passed z
 value_passed (value.Text t) = above TEXT_MOST limit.Text (length t)
+value_passed value.Null = None
 
 abbrev pub expr_passed : Expr → Option LimitName
 expr_passed (Lit v) = value_passed v
 expr_passed (Column n) = name_passed n
 expr_passed (Variable n) = name_passed n
 expr_passed (Not' _ (more_of-Expr e end_of-Expr)) = expr_passed e
+expr_passed (IsNull' _ (more_of-Expr e end_of-Expr) negated) = expr_passed e
 expr_passed (Binary' o _ (more_of-Expr l end_of-Expr) _ (more_of-Expr r end_of-Expr)) =
     option_or (expr_passed l) (expr_passed r)
 
@@ -117,6 +120,7 @@ height (Lit v) = 1
 height (Column n) = 1
 height (Variable n) = 1
 height (Not' _ (more_of-Expr e end_of-Expr)) = suc (height e)
+height (IsNull' _ (more_of-Expr e end_of-Expr) negated) = suc (height e)
 height (Binary' o _ (more_of-Expr l end_of-Expr) _ (more_of-Expr r end_of-Expr)) = suc (max (height l) (height r))
 
 abbrev pub is_high : Expr → Bool

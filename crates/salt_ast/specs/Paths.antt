@@ -6,7 +6,8 @@ use Rattle.salt_ast.specs.declared.programs.Next.{Next}
 use Rattle.salt_ast.specs.declared.programs.Next.TheVariants as next
 use Rattle.salt_ast.specs.declared.programs.PartDef.{PartDef}
 use Rattle.salt_ast.specs.declared.trees.Statement.{Statement}
-use Rattle.std.specs.Prelude.{List, None, Option, Some, [], if◌then◌else◌, length, map, max, nat_lt, suc, zero, ℕ, ◌+◌, ◌++◌, ◌==◌, ◌∷◌, option_and_then}
+use Rattle.std.specs.Prelude.{List, None, Option, Some, [], if◌then◌else◌, length, map, max, nat_lt, option_and_then, option_map}
+use Rattle.std.specs.Prelude.{suc, unwrap_or, zero, ℕ, ◌+◌, ◌++◌, ◌==◌, ◌∷◌}
 
 -- Parts are numbered from 1. The block of a part is what its unit does; the whole of an ACID program is one unit.
 
@@ -32,7 +33,19 @@ at_number zero (x ∷ xs) = None
 at_number (suc zero) (x ∷ xs) = Some x
 at_number (suc (suc k)) (x ∷ xs) = at_number (suc k) xs
 
--- WAYS. A way leads to a part, or to the end, which is no part.
+-- WAYS. A way leads to a part, or to the end, which is no part. A program stands at a part, with tries of it left.
+
+pub record Position : Type 0 where
+  pub part : ℕ
+  pub tries : ℕ
+
+-- how often a part is tried again: never, where it isn't said
+abbrev pub retries : Option PartDef → ℕ
+retries p = unwrap_or (option_and_then (λ part. part.retry) p) 0
+
+-- where a program is that comes to this part by a way
+abbrev pub position_at : List PartDef → ℕ → Position
+position_at parts k = record { part = k; tries = retries (at_number k parts) }
 
 abbrev pub part_of_next : Next → Option ℕ
 part_of_next (next.Part k) = Some k
@@ -48,12 +61,18 @@ abbrev pub way_on_failure : Option Next → Option ℕ
 way_on_failure way = option_and_then part_of_next way
 
 -- where a program of these parts goes on behind the commit of part `k`: none is the end
-abbrev pub next_on_commit : List PartDef → ℕ → Option ℕ
-next_on_commit parts k = option_and_then (λ p. way_on_commit (length parts) k p.then) (at_number k parts)
+abbrev pub next_on_commit : List PartDef → ℕ → Option Position
+next_on_commit parts k =
+    option_map (position_at parts) (option_and_then (λ p. way_on_commit (length parts) k p.then) (at_number k parts))
 
--- where it goes on behind the failure of part `k`, which is above 1: none is the end
-abbrev pub next_on_failure : List PartDef → ℕ → Option ℕ
-next_on_failure parts k = option_and_then (λ p. way_on_failure p.on_failure) (at_number k parts)
+-- where it goes on by the branch of part `k`, which is above 1: none is the end
+abbrev pub next_on_branch : List PartDef → ℕ → Option Position
+next_on_branch parts k = option_map (position_at parts) (option_and_then (λ p. way_on_failure p.on_failure) (at_number k parts))
+
+-- where it goes on behind a failure of part `k` with so many tries left: at the same part with one fewer, or else by its branch
+abbrev pub next_on_failure : List PartDef → (k tries : ℕ) → Option Position
+next_on_failure parts k zero = next_on_branch parts k
+next_on_failure parts k (suc tries) = Some (record { part = k; tries = tries })
 
 -- REST: how many statements may still run from a way on, at most.
 
@@ -68,19 +87,28 @@ rest_among rs None = 0
 rest_among [] (Some k) = 0
 rest_among (r ∷ rs) (Some k) = if r.part == k then r.statements else rest_among rs (Some k)
 
--- the statements of part `k`, and the greater rest of its two ways
-abbrev pub part_rest : (count k : ℕ) → PartDef → List Rest → ℕ
-part_rest count k p behind =
+-- the statements of part `k` with so many tries left, and the greater rest behind its commit and its failure
+abbrev pub part_rest : (count k : ℕ) → PartDef → (tries : ℕ) → List Rest → ℕ
+part_rest count k p zero behind =
     length p.block + max (rest_among behind (way_on_commit count k p.then)) (rest_among behind (way_on_failure p.on_failure))
+part_rest count k p (suc tries) behind =
+    length p.block + max (rest_among behind (way_on_commit count k p.then)) (part_rest count k p tries behind)
 
 abbrev pub with_rest : (count k : ℕ) → PartDef → List Rest → List Rest
-with_rest count k p behind = record { part = k; statements = part_rest count k p behind } ∷ behind
+with_rest count k p behind = record { part = k; statements = part_rest count k p (retries (Some p)) behind } ∷ behind
 
 -- the rests of these parts, the first of which is part `k`
 abbrev pub rests : (count k : ℕ) → List PartDef → List Rest
 rests count k [] = []
 rests count k (p ∷ ps) = with_rest count k p (rests count (suc k) ps)
 
--- from part `k` on, or from the end
-abbrev pub rest_of : List PartDef → Option ℕ → ℕ
-rest_of parts way = rest_among (rests (length parts) 1 parts) way
+-- from this position on, among these of `count` parts, the first of which is part `k`
+abbrev pub rest_from : (count k : ℕ) → List PartDef → Position → ℕ
+rest_from count k [] at = 0
+rest_from count k (p ∷ ps) at =
+    if at.part == k then part_rest count k p at.tries (rests count (suc k) ps) else rest_from count (suc k) ps at
+
+-- from a position on, or from the end
+abbrev pub rest_of : List PartDef → Option Position → ℕ
+rest_of parts None = 0
+rest_of parts (Some at) = rest_from (length parts) 1 parts at

@@ -1,6 +1,6 @@
 -- Examples of programs and lines, computed from the definitions.
 use Rattle.salt_ast.specs.Judgement.{exists, mistyped, statement_fault, table_fault, unknown}
-use Rattle.salt_ast.specs.Paths.{blocks, next_on_commit, next_on_failure, rest_of}
+use Rattle.salt_ast.specs.Paths.{Position, blocks, next_on_commit, next_on_failure, rest_of}
 use Rattle.salt_ast.specs.ProgramJudgement.{Known, LineFault, ProgramFault, backward, branch, call_fault, fits, faulty, in_branches, in_text, kept}
 use Rattle.salt_ast.specs.ProgramJudgement.{line_fault, no_branch, program_fault, program_kept_limit}
 use Rattle.salt_ast.specs.ProgramLimits.{line_limit, program_limit}
@@ -118,17 +118,21 @@ table_line_text = refl
 
 -- The transfer's path.
 
+abbrev at : (part tries : ℕ) → Position
+at k t = record { part = k; tries = t }
+
 next_parts :
     (next_on_commit transfer_parts 1 ∷ next_on_commit transfer_parts 2 ∷ next_on_commit transfer_parts 3 ∷ [])
-    ≡ (Some 2 ∷ None ∷ None ∷ [])
+    ≡ (Some (at 2 0) ∷ None ∷ None ∷ [])
 next_parts = refl
 
-branches_of_parts : (next_on_failure transfer_parts 2 ∷ next_on_failure transfer_parts 3 ∷ []) ≡ (Some 3 ∷ None ∷ [])
+branches_of_parts : (next_on_failure transfer_parts 2 0 ∷ next_on_failure transfer_parts 3 0 ∷ []) ≡ (Some (at 3 0) ∷ None ∷ [])
 branches_of_parts = refl
 
 -- behind its first part two statements may still run: the second part's, and then the third's
 rests_of_parts :
-    (rest_of transfer_parts (Some 1) ∷ rest_of transfer_parts (Some 2) ∷ rest_of transfer_parts (Some 3) ∷ rest_of transfer_parts None ∷ [])
+    (rest_of transfer_parts (Some (at 1 0)) ∷ rest_of transfer_parts (Some (at 2 0)) ∷ rest_of transfer_parts (Some (at 3 0)) ∷
+    rest_of transfer_parts None ∷ [])
     ≡ (3 ∷ 2 ∷ 1 ∷ 0 ∷ [])
 rests_of_parts = refl
 
@@ -140,7 +144,7 @@ skipping =
     part (replicate 2 (statement.Ensure true_sum)) (Some next.End) (Some (next.Part 4)) ∷
     part (replicate 5 (statement.Ensure true_sum)) None (Some next.End) ∷ []
 
-rests_that_skip : (rest_of skipping (Some 1) ∷ rest_of skipping (Some 2) ∷ rest_of skipping (Some 3) ∷ []) ≡ (8 ∷ 17 ∷ 7 ∷ [])
+rests_that_skip : (rest_of skipping (Some (at 1 0)) ∷ rest_of skipping (Some (at 2 0)) ∷ rest_of skipping (Some (at 3 0)) ∷ []) ≡ (8 ∷ 17 ∷ 7 ∷ [])
 rests_that_skip = refl
 
 blocks_of_spare : blocks spare.body ≡ spare_block ∷ []

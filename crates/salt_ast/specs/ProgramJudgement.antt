@@ -1,8 +1,8 @@
 -- What is refused of programs, calls and lines under what is defined before: limits of what is kept, names that are not
 -- known, names that come twice, types, and branches.
 use Rattle.salt_values.specs.declared.limits.TheConstants.{BASES_MOST, PROGRAMS_MOST}
-use Rattle.salt_ast.specs.Judgement.{Fault, doubled_in_statement, doubled_name, field_names, first_fault, is_same_type, is_typed_statement}
-use Rattle.salt_ast.specs.Judgement.{kept_limit, statement_fault, table_fault, unknown, unknown_in_statement}
+use Rattle.salt_ast.specs.Judgement.{Fault, doubled_in_statement, doubled_name, field_names, first_fault, is_typed_statement}
+use Rattle.salt_ast.specs.Judgement.{kept_limit, same_types, statement_fault, table_fault, unknown, unknown_in_statement, value_type}
 use Rattle.salt_ast.specs.Paths.{body_statements}
 use Rattle.salt_ast.specs.ProgramTexts.{base_text}
 use Rattle.salt_ast.specs.Words.{first_in}
@@ -21,15 +21,12 @@ use Rattle.salt_ast.specs.declared.programs.Next.{Next}
 use Rattle.salt_ast.specs.declared.programs.Next.TheVariants as next
 use Rattle.salt_ast.specs.declared.programs.PartDef.{PartDef}
 use Rattle.salt_ast.specs.declared.programs.ProgramDef.{ProgramDef}
-use Rattle.salt_ast.specs.declared.trees.ColType.{ColType}
-use Rattle.salt_ast.specs.declared.trees.ColType.TheVariants as kind
 use Rattle.salt_ast.specs.declared.trees.Field.{Field}
 use Rattle.salt_ast.specs.declared.trees.Scope.{Scope}
 use Rattle.salt_ast.specs.declared.trees.TableDef.{TableDef}
 use Rattle.salt_values.specs.Id.{is_same_id}
 use Rattle.salt_values.specs.declared.id.Id.{Id}
 use Rattle.salt_values.specs.declared.value.Value.{Value}
-use Rattle.salt_values.specs.declared.value.Value.TheVariants as value
 use Rattle.std.specs.List.{list_all, list_any}
 use Rattle.std.specs.Prelude.{Bool, List, None, Option, Some, [], false, if◌then◌else◌, is_some, length, nat_le, nat_lt, not, suc, true}
 use Rattle.std.specs.Prelude.{option_and_then, option_map, ℕ, ◌&&◌, ◌++◌, ◌==◌, ◌∷◌, ◌||◌}
@@ -114,14 +111,10 @@ program_kept_limit catalogue = then_some (nat_le PROGRAMS_MOST (length catalogue
 
 -- Of a call.
 
-abbrev pub value_type : Value → ColType
-value_type (value.Int z) = kind.Int
-value_type (value.Text t) = kind.Text
-
 -- as many arguments as parameters, each of its parameter's type
 abbrev pub are_arguments : List Field → List Value → Bool
 are_arguments [] [] = true
-are_arguments (f ∷ fs) (v ∷ vs) = is_same_type f.kind (value_type v) && are_arguments fs vs
+are_arguments (f ∷ fs) (v ∷ vs) = same_types (Some f.kind) (value_type v) && are_arguments fs vs
 are_arguments [] (v ∷ vs) = false
 are_arguments (f ∷ fs) [] = false
 

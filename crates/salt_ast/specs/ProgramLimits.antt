@@ -1,6 +1,6 @@
 -- Limits of programs and lines, and the first that a tree's text passes.
 use Rattle.salt_values.specs.declared.limits.TheConstants.{CRASH_MOST, PAIRS_MOST, PARAMETERS_MOST, PARTS_MOST}
-use Rattle.salt_values.specs.declared.limits.TheConstants.{PICK_MOST, SESSION_MOST, STATEMENTS_MOST, VARIABLES_MOST}
+use Rattle.salt_values.specs.declared.limits.TheConstants.{PICK_MOST, RETRY_MOST, SESSION_MOST, STATEMENTS_MOST, VARIABLES_MOST}
 use Rattle.salt_ast.specs.Limits.{above, field_passed, height_passed, name_passed, passed_in_list, statement_passed, table_passed, value_passed}
 use Rattle.salt_ast.specs.Paths.{body_statements}
 use Rattle.salt_ast.specs.Trees.{statement_exprs}
@@ -40,8 +40,14 @@ abbrev pub next_passed : Next → Option LimitName
 next_passed (next.Part k) = number_passed k
 next_passed next.End = None
 
+abbrev pub retry_passed : ℕ → Option LimitName
+retry_passed n = outside 1 RETRY_MOST limit.Retry n
+
 abbrev pub part_passed : PartDef → Option LimitName
-part_passed p = option_or (block_passed p.block) (option_or (option_and_then next_passed p.then) (option_and_then next_passed p.on_failure))
+part_passed p =
+    option_or (block_passed p.block)
+    (option_or (option_and_then next_passed p.then)
+    (option_or (option_and_then retry_passed p.retry) (option_and_then next_passed p.on_failure)))
 
 abbrev pub body_passed : Body → Option LimitName
 body_passed (body.Acid block) = block_passed block

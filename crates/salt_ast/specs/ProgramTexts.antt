@@ -25,14 +25,23 @@ abbrev pub next_text : Next → List ℕ
 next_text (next.Part k) = codes "go " ++ decimal k
 next_text next.End = codes "end"
 
--- where the program goes on, if it is said, behind this word
-abbrev pub way_text : List ℕ → Option Next → List ℕ
-way_text word None = []
-way_text word (Some n) = word ++ next_text n
+-- where the program goes on behind a commit, if it is said
+abbrev pub then_text : Option Next → List ℕ
+then_text None = []
+then_text (Some n) = codes " then " ++ next_text n
+
+-- how often a part is tried again, if it is said
+abbrev pub retry_text : Option ℕ → List ℕ
+retry_text None = []
+retry_text (Some n) = codes "retry " ++ (decimal n ++ codes " then ")
+
+-- where the program goes on behind a failure, if it is said
+abbrev pub failure_text : Option ℕ → Option Next → List ℕ
+failure_text retry None = []
+failure_text retry (Some n) = codes " on failure " ++ (retry_text retry ++ next_text n)
 
 abbrev pub program_part_text : PartDef → List ℕ
-program_part_text p =
-    codes "part " ++ (block_text p.block ++ (way_text (codes " then ") p.then ++ way_text (codes " on failure ") p.on_failure))
+program_part_text p = codes "part " ++ (block_text p.block ++ (then_text p.then ++ failure_text p.retry p.on_failure))
 
 abbrev pub body_text : Body → List ℕ
 body_text (body.Acid block) = codes "acid " ++ block_text block

@@ -18,7 +18,7 @@ use Rattle.salt_ast.specs.declared.trees.Set.{Set}
 use Rattle.salt_ast.specs.declared.trees.Statement.{Statement}
 use Rattle.salt_ast.specs.declared.trees.Statement.TheVariants as statement
 use Rattle.salt_ast.specs.declared.trees.TableDef.{TableDef}
-use Rattle.std.specs.Prelude.{List, None, Option, Some, [], codes, pos, suc, zero, ℕ, ◌∷◌}
+use Rattle.std.specs.Prelude.{List, None, Option, Some, [], codes, false, pos, suc, zero, ℕ, ◌∷◌}
 
 abbrev pub id : List ℕ
 id = codes "id"
@@ -30,7 +30,7 @@ abbrev pub acct : List ℕ
 acct = codes "acct"
 
 abbrev pub field : List ℕ → ColType → Field
-field n k = record { name = n; kind = k }
+field n k = record { name = n; kind = k; nullable = false }
 
 abbrev pub in_range : Expr
 in_range = operation op.And (operation op.AtLeast (Column bal) (number (pos 0))) (operation op.AtMost (Column bal) (number (pos 1000)))
@@ -67,7 +67,7 @@ move o key =
     statement.Update acct (set bal (operation o (Column bal) (Variable (codes "amt"))) ∷ []) (scan (bound.Key (Variable key)) None)
 
 abbrev pub part : List Statement → Option Next → Option Next → PartDef
-part b commit failure = record { block = b; then = commit; on_failure = failure }
+part b commit failure = record { block = b; then = commit; retry = None; on_failure = failure }
 
 abbrev pub amounts : List Field
 amounts = field (codes "a") kind.Int ∷ field (codes "b") kind.Int ∷ field (codes "amt") kind.Int ∷ []
@@ -80,6 +80,17 @@ transfer_parts =
 
 abbrev pub transfer : ProgramDef
 transfer = record { name = codes "transfer"; params = amounts; vars = []; body = body.Base transfer_parts }
+
+-- The same, whose second part is tried once more before the third.
+
+abbrev pub pay_parts : List PartDef
+pay_parts =
+    part (move op.Sub (codes "a") ∷ []) None None ∷
+    record (part (move op.Add (codes "b") ∷ []) (Some next.End) (Some (next.Part 3))) { retry = Some 1 } ∷
+    part (move op.Add (codes "a") ∷ []) None (Some next.End) ∷ []
+
+abbrev pub pay : ProgramDef
+pay = record { name = codes "pay"; params = amounts; vars = []; body = body.Base pay_parts }
 
 -- A program of one unit, with a variable and two statements.
 

@@ -1,5 +1,6 @@
 -- Which rows of symbols spell which statement.
 use Rattle.salt_ast.specs.Grammar.{Conjunction, Expression, Sum}
+use Rattle.salt_ast.specs.Trees.{null}
 use Rattle.salt_ast.specs.declared.trees.Bound.TheVariants as bound
 use Rattle.salt_ast.specs.declared.trees.Expr.{Expr}
 use Rattle.salt_ast.specs.declared.trees.Scan.{Scan}
@@ -10,26 +11,40 @@ use Rattle.salt_ast.specs.declared.trees.What.{What}
 use Rattle.salt_ast.specs.declared.trees.What.TheVariants as what
 use Rattle.salt_tokens.specs.Symbols.{Symbols, key, name, sign}
 use Rattle.salt_tokens.specs.declared.keyword.Keyword.TheVariants as word
+use Rattle.salt_tokens.specs.declared.sign.Sign.{Sign}
 use Rattle.salt_tokens.specs.declared.sign.Sign.TheVariants as mark
 use Rattle.std.specs.Prelude.{List, None, Option, Some, [], ℕ, ◌++◌, ◌∷◌}
 
+-- {separator Item}
+pub data FollowingBy (separator : Sign) {A : Type 0} (Item : Symbols → A → Type 0) : Symbols → List A → Type 0 where
+  no_more : FollowingBy separator Item [] []
+  one_more : {a b : Symbols} {x : A} {xs : List A} → Item a x → FollowingBy separator Item b xs →
+      FollowingBy separator Item (sign separator ∷ (a ++ b)) (x ∷ xs)
+
+-- Item {separator Item}
+pub data ListedBy (separator : Sign) {A : Type 0} (Item : Symbols → A → Type 0) : Symbols → List A → Type 0 where
+  items : {a b : Symbols} {x : A} {xs : List A} → Item a x → FollowingBy separator Item b xs →
+      ListedBy separator Item (a ++ b) (x ∷ xs)
+
 -- {"," Item}
-pub data Following {A : Type 0} (Item : Symbols → A → Type 0) : Symbols → List A → Type 0 where
-  no_more : Following Item [] []
-  one_more : {a b : Symbols} {x : A} {xs : List A} → Item a x → Following Item b xs →
-      Following Item (sign mark.Comma ∷ (a ++ b)) (x ∷ xs)
+abbrev pub Following : {A : Type 0} → (Symbols → A → Type 0) → Symbols → List A → Type 0
+Following Item = FollowingBy mark.Comma Item
 
 -- Item {"," Item}
-pub data Listed {A : Type 0} (Item : Symbols → A → Type 0) : Symbols → List A → Type 0 where
-  items : {a b : Symbols} {x : A} {xs : List A} → Item a x → Following Item b xs →
-      Listed Item (a ++ b) (x ∷ xs)
+abbrev pub Listed : {A : Type 0} → (Symbols → A → Type 0) → Symbols → List A → Type 0
+Listed Item = ListedBy mark.Comma Item
 
 pub data IsName : Symbols → List ℕ → Type 0 where
   is_name : {n : List ℕ} → IsName (name n ∷ []) n
 
--- NAME "=" expression
+-- what a column takes: an expression, or "null"
+pub data ColumnValue (Inner : Symbols → Expr → Type 0) : Symbols → Expr → Type 0 where
+  is_expression : {ts : Symbols} {e : Expr} → Expression Inner ts e → ColumnValue Inner ts e
+  is_null : ColumnValue Inner (key word.Null ∷ []) null
+
+-- NAME "=" what it takes
 pub data IsSet (Inner : Symbols → Expr → Type 0) : Symbols → Set → Type 0 where
-  is_set : {n : List ℕ} {ts : Symbols} {e : Expr} → Expression Inner ts e →
+  is_set : {n : List ℕ} {ts : Symbols} {e : Expr} → ColumnValue Inner ts e →
       IsSet Inner (name n ∷ sign mark.Equal ∷ ts) (record { column = n; value = e })
 
 -- "*", names, "count(*)", or "sum", "min" or "max" of a name in parentheses
@@ -64,7 +79,7 @@ pub data IsScan (Inner : Symbols → Expr → Type 0) : Symbols → Scan → Typ
 -- a statement, where `Inner` stands in the parentheses of its expressions, and `Deeper` in those of expressions that
 -- stand in a parenthesis of the statement
 pub data IsStatement (Inner Deeper : Symbols → Expr → Type 0) : Symbols → Statement → Type 0 where
-  is_insert : {t : List ℕ} {ts : Symbols} {es : List Expr} → Listed (Expression Deeper) ts es →
+  is_insert : {t : List ℕ} {ts : Symbols} {es : List Expr} → Listed (ColumnValue Deeper) ts es →
       IsStatement Inner Deeper (key word.Insert ∷ key word.Into ∷ name t ∷ key word.Values ∷ sign mark.Open ∷ (ts ++ sign mark.Close ∷ []))
       (statement.Insert t es)
   is_select : {t : List ℕ} {a b : Symbols} {w : What} {scan : Scan} → IsWhat a w → IsScan Inner b scan →

@@ -4,7 +4,7 @@ use Rattle.salt_ast.specs.declared.trees.Bound.{Bound}
 use Rattle.salt_ast.specs.declared.trees.Bound.TheVariants as bound
 use Rattle.salt_ast.specs.declared.trees.ColType.{ColType}
 use Rattle.salt_ast.specs.declared.trees.ColType.TheVariants as kind
-use Rattle.salt_ast.specs.declared.trees.Expr.{Binary', Column, Expr, Lit, Not', Variable, end_of-Expr, more_of-Expr}
+use Rattle.salt_ast.specs.declared.trees.Expr.{Binary', Column, Expr, IsNull', Lit, Not', Variable, end_of-Expr, more_of-Expr}
 use Rattle.salt_ast.specs.declared.trees.Field.{Field}
 use Rattle.salt_ast.specs.declared.trees.Scan.{Scan}
 use Rattle.salt_ast.specs.declared.trees.Set.{Set}
@@ -17,7 +17,7 @@ use Rattle.salt_tokens.specs.Pieces.{quoted}
 use Rattle.salt_values.specs.declared.value.Value.{Value}
 use Rattle.salt_values.specs.declared.value.Value.TheVariants as value
 use Rattle.std.specs.Fmt.{signed_decimal}
-use Rattle.std.specs.Prelude.{List, None, Option, Some, [], codes, ℕ, ◌++◌, ◌∷◌}
+use Rattle.std.specs.Prelude.{Bool, List, None, Option, Some, [], codes, false, true, ℕ, ◌++◌, ◌∷◌}
 
 -- each with these bytes before it
 abbrev pub preceded : {A : Type 0} → List ℕ → (A → List ℕ) → List A → List ℕ
@@ -33,6 +33,12 @@ between_commas text (x ∷ xs) = text x ++ preceded (codes ", ") text xs
 abbrev pub value_text : Value → List ℕ
 value_text (value.Int z) = signed_decimal z
 value_text (value.Text t) = quoted t
+value_text value.Null = codes "null"
+
+-- what stands behind the operand of a test for NULL
+abbrev pub null_test_text : (negated : Bool) → List ℕ
+null_test_text false = codes " is null"
+null_test_text true = codes " is not null"
 
 -- each operation in parentheses
 abbrev pub expr_text : Expr → List ℕ
@@ -40,6 +46,7 @@ expr_text (Lit v) = value_text v
 expr_text (Column n) = n
 expr_text (Variable n) = codes ":" ++ n
 expr_text (Not' _ (more_of-Expr e end_of-Expr)) = codes "(not " ++ (expr_text e ++ codes ")")
+expr_text (IsNull' _ (more_of-Expr e end_of-Expr) negated) = codes "(" ++ (expr_text e ++ (null_test_text negated ++ codes ")"))
 expr_text (Binary' o _ (more_of-Expr l end_of-Expr) _ (more_of-Expr r end_of-Expr)) =
     codes "(" ++ (expr_text l ++ (codes " " ++ (op_text o ++ (codes " " ++ (expr_text r ++ codes ")")))))
 
@@ -88,8 +95,13 @@ abbrev pub type_text : ColType → List ℕ
 type_text kind.Int = codes "int"
 type_text kind.Text = codes "text"
 
+-- what stands behind the type of a column that may hold NULL
+abbrev pub null_text : (nullable : Bool) → List ℕ
+null_text false = []
+null_text true = codes " null"
+
 abbrev pub field_text : Field → List ℕ
-field_text f = f.name ++ (codes " " ++ type_text f.kind)
+field_text f = f.name ++ (codes " " ++ (type_text f.kind ++ null_text f.nullable))
 
 -- the first column is the key
 abbrev pub columns_text : List Field → List ℕ

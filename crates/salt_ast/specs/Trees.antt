@@ -1,14 +1,14 @@
 -- Trees in definitions, built and taken apart.
 use Rattle.salt_ast.specs.declared.trees.Bound.{Bound}
 use Rattle.salt_ast.specs.declared.trees.Bound.TheVariants as bound
-use Rattle.salt_ast.specs.declared.trees.Expr.{Binary', Expr, Lit, Not', end_of-Expr, more_of-Expr}
+use Rattle.salt_ast.specs.declared.trees.Expr.{Binary', Expr, IsNull', Lit, Not', end_of-Expr, more_of-Expr}
 use Rattle.salt_ast.specs.declared.trees.Op.{Op}
 use Rattle.salt_ast.specs.declared.trees.Scan.{Scan}
 use Rattle.salt_ast.specs.declared.trees.Set.{Set}
 use Rattle.salt_ast.specs.declared.trees.Statement.{Statement}
 use Rattle.salt_ast.specs.declared.trees.Statement.TheVariants as statement
 use Rattle.salt_values.specs.declared.value.Value.TheVariants as value
-use Rattle.std.specs.Prelude.{List, None, Option, Some, [], map, ℕ, ℤ, ◌++◌, ◌∷◌}
+use Rattle.std.specs.Prelude.{Bool, List, None, Option, Some, [], map, ℕ, ℤ, ◌++◌, ◌∷◌}
 
 abbrev pub number : ℤ → Expr
 number z = Lit (value.Int z)
@@ -16,8 +16,15 @@ number z = Lit (value.Int z)
 abbrev pub letters : List ℕ → Expr
 letters t = Lit (value.Text t)
 
+abbrev pub null : Expr
+null = Lit value.Null
+
 abbrev pub negation : Expr → Expr
 negation e = Not' tt (more_of-Expr e end_of-Expr)
+
+-- whether an expression is NULL, or, negated, is not
+abbrev pub null_test : Bool → Expr → Expr
+null_test negated e = IsNull' tt (more_of-Expr e end_of-Expr) negated
 
 abbrev pub operation : Op → Expr → Expr → Expr
 operation o l r = Binary' o tt (more_of-Expr l end_of-Expr) tt (more_of-Expr r end_of-Expr)

@@ -2,7 +2,7 @@
 
 ghost use Rattle.std.specs.Prelude.{◌++◌, ◌≡◌, codes};
 ghost use Rattle.salt_ast.specs.Prints.{Prints};
-ghost use Rattle.salt_ast.specs.Texts.{columns_text, field_text, filter_text, scan_text, set_text, type_text, what_text};
+ghost use Rattle.salt_ast.specs.Texts.{columns_text, field_text, filter_text, null_text, scan_text, set_text, type_text, what_text};
 
 use crate::printer::{Canonical, Printer};
 use crate::trees::{Bound, ColType, Expr, Field, Scan, Set, What};
@@ -19,6 +19,13 @@ impl ColType {
             ColType::Text => b"text",
         }
     }
+}
+
+/// What stands behind the type of a column that may hold NULL.
+fn null_word(nullable: bool) -> &'static [u8]
+    ensures { result.now ≡ null_text nullable }
+{
+    if nullable { b" null" } else { b"" }
 }
 
 impl<K: Sink> Printer<'_, K> {
@@ -60,6 +67,7 @@ impl Canonical for Field {
         out.kept(&self.name);
         out.bytes(b" ");
         out.bytes(self.kind.word());
+        out.bytes(null_word(self.nullable));
     }
 }
 

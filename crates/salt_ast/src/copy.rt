@@ -10,6 +10,7 @@ impl TryCopy for Field {
         Ok(Field {
             name: self.name.copy(alloc)?,
             kind: self.kind,
+            nullable: self.nullable,
         })
     }
 }
@@ -23,6 +24,13 @@ impl TryCopy for Expr {
             Expr::Not(operand) => {
                 let operand = operand.get().copy(alloc)?;
                 Ok(Expr::Not(Boxed::new(alloc, operand)?))
+            }
+            Expr::IsNull { of, negated } => {
+                let of = of.get().copy(alloc)?;
+                Ok(Expr::IsNull {
+                    of: Boxed::new(alloc, of)?,
+                    negated: *negated,
+                })
             }
             Expr::Binary { op, left, right } => {
                 let left = left.get().copy(alloc)?;

@@ -3,7 +3,7 @@
 ghost use Rattle.std.specs.Prelude.{◌≡◌};
 ghost use Rattle.salt_ast.specs.Operators.{op_text};
 ghost use Rattle.salt_ast.specs.Prints.{Prints};
-ghost use Rattle.salt_ast.specs.Texts.{expr_text};
+ghost use Rattle.salt_ast.specs.Texts.{expr_text, null_test_text};
 
 use crate::printer::{Canonical, Printer};
 use crate::trees::{Expr, Op};
@@ -31,6 +31,13 @@ impl Op {
     }
 }
 
+/// What stands behind the operand of a test for NULL.
+fn null_test(negated: bool) -> &'static [u8]
+    ensures { result.now ≡ null_test_text negated }
+{
+    if negated { b" is not null" } else { b" is null" }
+}
+
 impl<K: Sink> Printer<'_, K> {
     /// Prints an expression, each operation in parentheses.
     fn expr(&mut self, expr: &Expr)
@@ -46,6 +53,12 @@ impl<K: Sink> Printer<'_, K> {
             Expr::Not(operand) => {
                 self.bytes(b"(not ");
                 self.expr(operand.get());
+                self.bytes(b")");
+            }
+            Expr::IsNull { of, negated } => {
+                self.bytes(b"(");
+                self.expr(of.get());
+                self.bytes(null_test(*negated));
                 self.bytes(b")");
             }
             Expr::Binary { op, left, right } => {

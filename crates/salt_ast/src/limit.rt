@@ -24,6 +24,8 @@ pub enum LimitName {
     Programs,
     /// A program has at most 32 parts.
     Parts,
+    /// A part is tried again 1 to 9 times.
+    Retry,
     /// A part, or an ACID program, has at most 64 statements.
     Statements,
     /// A program has at most 16 parameters.
@@ -57,6 +59,7 @@ impl LimitName {
             LimitName::Checks => b"checks",
             LimitName::Programs => b"programs",
             LimitName::Parts => b"parts",
+            LimitName::Retry => b"retry",
             LimitName::Statements => b"statements",
             LimitName::Parameters => b"parameters",
             LimitName::Variables => b"variables",

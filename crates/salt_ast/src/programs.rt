@@ -19,6 +19,9 @@ pub struct PartDef {
     /// Behind the part's commit; where nothing is said, at the part that follows, or at the end
     /// behind the last.
     pub then: Option<Next>,
+    /// How often the part is tried again where it fails, 1 to 9, before the program goes on at its
+    /// branch. Where nothing is written it is not.
+    pub retry: Option<u8>,
     /// Behind the part's failure. Each part but the first has one.
     pub on_failure: Option<Next>,
 }
@@ -28,6 +31,7 @@ impl Drop for PartDef {
         let PartDef {
             block: _block,
             then: _then,
+            retry: _retry,
             on_failure: _on_failure,
         } = self;
     }

@@ -10,11 +10,13 @@ pub enum ColType {
     Text,
 }
 
-/// A column's name and type.
+/// The name and type of a column, a parameter or a variable.
 #[derive(Drop)]
 pub struct Field {
     pub name: Name,
     pub kind: ColType,
+    /// Whether it may hold NULL: a column that is declared so. Keys, parameters and variables may not.
+    pub nullable: bool,
 }
 
 /// Columns, parameters or variables, in the order of the text.
@@ -46,6 +48,11 @@ pub enum Expr {
     /// `:x`, a parameter or a variable of a program.
     Variable(Name),
     Not(Boxed<Expr>),
+    /// Whether the operand is NULL, or, where it is negated, whether it is not.
+    IsNull {
+        of: Boxed<Expr>,
+        negated: bool,
+    },
     Binary {
         op: Op,
         left: Boxed<Expr>,

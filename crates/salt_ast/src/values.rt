@@ -55,7 +55,7 @@ impl Canonical for Name {
     }
 }
 
-/// A number's digits, or a text in quotes.
+/// A number's digits, a text in quotes, or `null`.
 impl Canonical for Value {
     ghost text = { value_text };
 
@@ -63,6 +63,7 @@ impl Canonical for Value {
         match self {
             Value::Int(number) => out.number(*number),
             Value::Text(text) => out.quoted(text.as_bytes()),
+            Value::Null => out.bytes(b"null"),
         }
     }
 }

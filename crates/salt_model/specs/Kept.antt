@@ -1,6 +1,6 @@
 -- What is kept at a place of a run: what a start has, and what devices stand for. And what is read off it: tables, programs, parts and ways.
 use Rattle.salt_model.specs.Words.{Every}
-use Rattle.salt_ast.specs.Paths.{at_number, next_on_commit, next_on_failure}
+use Rattle.salt_ast.specs.Paths.{Position, at_number, next_on_commit, next_on_failure}
 use Rattle.salt_ast.specs.ProgramJudgement.{program_named}
 use Rattle.salt_ast.specs.declared.programs.Body.TheVariants.{Acid, Base}
 use Rattle.salt_ast.specs.declared.programs.PartDef.{PartDef}
@@ -78,12 +78,12 @@ abbrev pub parts_of : ProgramDef → List PartDef
 parts_of p = elim p.body [ Acid block ↦ [] | Base parts ↦ parts ]
 
 -- where part n goes on after a commit: its way, else the next part; none is the end
-abbrev pub then_of : ProgramDef → ℕ → Option ℕ
+abbrev pub then_of : ProgramDef → ℕ → Option Position
 then_of p n = next_on_commit (parts_of p) n
 
--- where it goes on after a failure
-abbrev pub branch_of : ProgramDef → ℕ → Option ℕ
-branch_of p n = next_on_failure (parts_of p) n
+-- where it goes on after a failure, with so many tries left: at the part itself, or by its branch
+abbrev pub branch_of : ProgramDef → (n tries : ℕ) → Option Position
+branch_of p n tries = next_on_failure (parts_of p) n tries
 
 abbrev pub zero_of : ColType → Value
 zero_of ColType.Int = Int (pos 0)
@@ -133,16 +133,16 @@ abbrev pub change_cont : Id → (Cont → Cont) → List Cont → List Cont
 change_cont b f [] = []
 change_cont b f (c ∷ cs) = if is_same_id b c.base then f c ∷ cs else c ∷ change_cont b f cs
 
--- a continuation that goes on at a part, with these variables, or ends
-abbrev pub moved : Id → Option ℕ → (Cont → Cont) → List Cont → List Cont
+-- a continuation that goes on at a position, with these variables, or ends
+abbrev pub moved : Id → Option Position → (Cont → Cont) → List Cont → List Cont
 moved b None f cs = without_cont b cs
-moved b (Some part) f cs = change_cont b (λ c. record (f c) { next = part }) cs
+moved b (Some at) f cs = change_cont b (λ c. record (f c) { next = at.part; tries = at.tries }) cs
 
 -- part 1 was committed by decision n: the continuation begins, unless the way is the end
-abbrev pub begun_cont : Id → ℕ → ProgramDef → List Value → List Binding → Option ℕ → List Cont → List Cont
+abbrev pub begun_cont : Id → ℕ → ProgramDef → List Value → List Binding → Option Position → List Cont → List Cont
 begun_cont b n p args vars None cs = cs
-begun_cont b n p args vars (Some part) cs =
-    cs ++ record { base = b; accepted = n; program = p.name; args = args; vars = values_kept p vars; next = part } ∷ []
+begun_cont b n p args vars (Some at) cs =
+    cs ++ record { base = b; accepted = n; program = p.name; args = args; vars = values_kept p vars; next = at.part; tries = at.tries } ∷ []
 
 -- the continuations after a commit
 abbrev pub conts_committed : Kept → ℕ → UnitKind → List Binding → List Cont
@@ -153,9 +153,13 @@ conts_committed k n (Later b part) vars =
     elim (option_and_then (λ c. kept_program c.program k) (cont_of b k))
     [ None ↦ k.conts | Some p ↦ moved b (then_of p part) (λ c. record c { vars = values_kept p vars }) k.conts ]
 
+-- how often the part at which a program stands may still fail and be tried again
+abbrev pub tries_left : Id → Kept → ℕ
+tries_left b k = elim (cont_of b k) [ None ↦ 0 | Some c ↦ c.tries ]
+
 -- the continuations after a branch
 abbrev pub conts_branched : Kept → UnitKind → List Cont
 conts_branched k (Later b part) =
     elim (option_and_then (λ c. kept_program c.program k) (cont_of b k))
-    [ None ↦ k.conts | Some p ↦ moved b (branch_of p part) (λ c. c) k.conts ]
+    [ None ↦ k.conts | Some p ↦ moved b (branch_of p part (tries_left b k)) (λ c. c) k.conts ]
 conts_branched k kind = k.conts

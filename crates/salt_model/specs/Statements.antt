@@ -9,7 +9,7 @@ use Rattle.salt_ast.specs.declared.trees.Statement.{Statement}
 use Rattle.salt_ast.specs.declared.trees.TableDef.{TableDef}
 use Rattle.salt_ast.specs.declared.trees.What.TheVariants.{All, Columns, Count, Max, Min, Sum}
 use Rattle.salt_ast.specs.declared.trees.What.{What}
-use Rattle.salt_model.specs.Eval.{Visible, is_int64, named_values, passes, truth_of, value_named, value_of, values_of}
+use Rattle.salt_model.specs.Eval.{Visible, holds, is_int64, is_no, named_values, passes, truth_of, value_named, value_of, values_of}
 use Rattle.salt_model.specs.Tables.{Edits, Entry, Tables, key_of, no_edits, place, put_changes, rows_in, with_changes}
 use Rattle.salt_model.specs.Words.{and_then}
 use Rattle.salt_model.specs.declared.events.Answer.TheVariants.{Cell, Count, Failed, Rows, Stored}
@@ -20,13 +20,13 @@ use Rattle.salt_model.specs.declared.events.End.TheVariants.{Failed}
 use Rattle.salt_model.specs.declared.locks.Reach.{Reach}
 use Rattle.salt_model.specs.declared.places.Place.{Place}
 use Rattle.salt_model.specs.declared.vars.Binding.{Binding}
-use Rattle.salt_values.specs.Value.{int_in, is_value_below}
+use Rattle.salt_values.specs.Value.{int_in, is_null, is_value_below}
 use Rattle.salt_values.specs.declared.change.Change.{Change}
 use Rattle.salt_values.specs.declared.value.Value.TheVariants.{Int}
 use Rattle.salt_values.specs.declared.value.Value.{Value}
 use Rattle.std.specs.List.{cons_option, filter}
 use Rattle.std.specs.Prelude.{Bool, Err, List, None, Ok, Option, Result, Some, [], false, if◌then◌else◌}
-use Rattle.std.specs.Prelude.{length, map, option_to_list, pos, true, unwrap_or, ℕ, ℤ, ◌++◌, ◌+ℤ◌, ◌∷◌}
+use Rattle.std.specs.Prelude.{length, map, not, option_to_list, pos, true, unwrap_or, ℕ, ℤ, ◌++◌, ◌+ℤ◌, ◌∷◌}
 use Rattle.salt_model.specs.Reaches.{in_row, no_row, range_of, reach, table_for}
 
 -- the answer, the changes, and the variables after
@@ -46,10 +46,10 @@ done vars (Err c) = failing vars c
 abbrev pub answering : List Binding → Answer → Done
 answering vars a = record { answer = a; changes = []; vars = vars }
 
--- the checks of a table on a row: the first that is false or has a cause
+-- the checks of a table on a row: the first that is false or has a cause; one that is unknown passes
 abbrev pub checked : Visible → List Expr → Result Bool Cause
 checked s [] = Ok true
-checked s (e ∷ es) = and_then (truth_of s e) (λ b. if b then checked s es else Err Check)
+checked s (e ∷ es) = and_then (truth_of s e) (λ t. if is_no t then Err Check else checked s es)
 
 abbrev pub change_to : Place → Option (List Value) → Change
 change_to p row = record { table = p.table; key = p.key; row = row }
@@ -68,7 +68,7 @@ set_field [] c v vs = vs
 set_field (f ∷ fs) c v [] = []
 set_field (f ∷ fs) c v (w ∷ ws) = (if same_bytes c f.name then v else w) ∷ set_field fs c v ws
 
--- each set's expression on the old row, in the order written
+-- each set's value on the old row, in the order written
 abbrev pub with_sets : TableDef → Visible → List Set → List Value → Result (List Value) Cause
 with_sets def old [] row = Ok row
 with_sets def old (s ∷ sets) row = and_then (value_of old s.value) (λ v. with_sets def old sets (set_field def.columns s.column v row))
@@ -99,13 +99,17 @@ abbrev pub most_value : List Value → Option Value
 most_value [] = None
 most_value (v ∷ vs) = elim (most_value vs) [ None ↦ Some v | Some w ↦ Some (if is_value_below v w then w else v) ]
 
+-- the values of a column, without NULLs
+abbrev pub values_in : TableDef → List ℕ → List (List Value) → List Value
+values_in def c rows = filter (λ v. not (is_null v)) (map (column_of def c) rows)
+
 abbrev pub shown : TableDef → What → List (List Value) → Result Answer Cause
 shown def All rows = Ok (Rows rows)
 shown def (Columns names) rows = Ok (Rows (map (λ row. map (λ c. column_of def c row) names) rows))
 shown def Count rows = Ok (Cell (Some (Int (pos (length rows)))))
-shown def (Sum c) rows = let t = total (map (column_of def c) rows) in (if is_int64 t then Ok (Cell (Some (Int t))) else Err Overflow)
-shown def (Min c) rows = Ok (Cell (least (map (column_of def c) rows)))
-shown def (Max c) rows = Ok (Cell (most_value (map (column_of def c) rows)))
+shown def (Sum c) rows = let t = total (values_in def c rows) in (if is_int64 t then Ok (Cell (Some (Int t))) else Err Overflow)
+shown def (Min c) rows = Ok (Cell (least (values_in def c rows)))
+shown def (Max c) rows = Ok (Cell (most_value (values_in def c rows)))
 
 abbrev pub set_var : List ℕ → Value → List Binding → List Binding
 set_var n v [] = []
@@ -136,7 +140,7 @@ do_in t def vars (Update name sets scan) rows =
     and_then (collect (on_match def vars scan.filter (updated def vars sets)) rows) (λ changes. Ok (changing vars changes)))
 do_in t def vars (Delete name scan) rows =
     and_then (range_of vars scan.bound) (λ r. and_then (collect (on_match def vars scan.filter removed) rows) (λ changes. Ok (changing vars changes)))
-do_in t def vars (Ensure e) rows = and_then (truth_of (no_row vars) e) (λ b. if b then Ok (answering vars Answer.Held) else Err Cause.Ensure)
+do_in t def vars (Ensure e) rows = and_then (holds (no_row vars) e) (λ b. if b then Ok (answering vars Answer.Held) else Err Cause.Ensure)
 
 abbrev pub do_at : List Binding → Statement → Option (ℕ × TableDef) → List Entry → Done
 do_at vars (Ensure e) d rows = done vars (do_in 0 (record { name = []; columns = []; checks = [] }) vars (Ensure e) rows)

@@ -5,7 +5,7 @@ use Rattle.salt_values.specs.Value.{IsValue}
 use Rattle.salt_values.specs.declared.placement.PlaceKind.{PlaceKind}
 use Rattle.salt_values.specs.declared.placement.PlaceKind.TheVariants.{Bands, Remainder}
 use Rattle.salt_values.specs.declared.value.Value.{Value}
-use Rattle.salt_values.specs.declared.value.Value.TheVariants.{Int, Text}
+use Rattle.salt_values.specs.declared.value.Value.TheVariants.{Int, Null, Text}
 use Rattle.std.proofs.Common.{arith, refl, ◌*◌, ◌-◌, ◌/◌, ◌<◌, ◌∷◌, ◌≡◌, ◌≤◌, ℕ, ℤ, pos, negsuc, List, [], true, false, Bool, ◌&&◌}
 use Rattle.std.proofs.Math.Nat.{mul-le-mul_left}
 use Rattle.std.proofs.lemmas.Bool.Decides.{nat_tests}
@@ -34,6 +34,8 @@ band-below [] n h p = omega (arith, p.0)
 band-below (b ∷ bs) n h p = times (b - 32) n (omega (arith, printable-above b (first_printable b bs h))) p.0 p.1
 
 pub place_of-below : (kind : PlaceKind) (key : Value) (n : ℕ) → IsValue key → IsParts n → place_of kind key n < n
+place_of-below Remainder Null n h p = omega (arith, p.0)
+place_of-below Bands Null n h p = omega (arith, p.0)
 place_of-below Remainder (Int z) n h p = remainder-below z n p.0
 place_of-below Remainder (Text t) n h p = omega (arith, p.0)
 place_of-below Bands (Int z) n h p = remainder-below (int_div_euclid z (pos 1024)) n p.0

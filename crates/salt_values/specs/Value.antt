@@ -1,31 +1,43 @@
 -- Values and their order.
 use Rattle.salt_values.specs.Text.{is_text}
 use Rattle.salt_values.specs.declared.value.Value.{Value}
-use Rattle.salt_values.specs.declared.value.Value.TheVariants.{Int, Text}
+use Rattle.salt_values.specs.declared.value.Value.TheVariants.{Int, Null, Text}
 use Rattle.std.specs.Cmp.{IsTotalOrder, int_cmp_total, nat_cmp_total, on_total, then_total}
 use Rattle.std.specs.Cmp.Lexicographic.{nat_list_cmp_total, slice_cmp}
 use Rattle.std.specs.Int.{w64}
 use Rattle.std.specs.Ordering.{int_cmp, is_eq, is_gt, is_lt, nat_cmp, on, then_cmp}
-use Rattle.std.specs.Prelude.{Bool, FitsSigned, List, [], not, pos, true, ℕ, ℤ, ◌≡◌}
+use Rattle.std.specs.Prelude.{Bool, FitsSigned, List, [], false, not, pos, true, ℕ, ℤ, ⊤, ◌≡◌}
 use Rattle.std.specs.declared.cmp.Ordering.{Ordering}
 
--- a number of 64 bits, or a text
+-- a number of 64 bits, a text, or NULL
 abbrev pub IsValue : Value → Type 0
 IsValue (Int z) = FitsSigned w64 z
 IsValue (Text t) = is_text t ≡ true
+IsValue Null = ⊤
 
--- a number before a text
+abbrev pub is_null : Value → Bool
+is_null Null = true
+is_null v = false
+
+-- a key is never NULL
+abbrev pub IsKey : Value → Type 0
+IsKey v = IsValue v × (is_null v ≡ false)
+
+-- a number before a text, and NULL last
 abbrev pub kind_number : Value → ℕ
 kind_number (Int z) = 0
 kind_number (Text t) = 1
+kind_number Null = 2
 
 abbrev pub int_in : Value → ℤ
 int_in (Int z) = z
 int_in (Text t) = pos 0
+int_in Null = pos 0
 
 abbrev pub text_in : Value → List ℕ
 text_in (Int z) = []
 text_in (Text t) = t
+text_in Null = []
 
 -- numbers by number, texts by their bytes
 abbrev pub value_cmp : Value → Value → Ordering

@@ -16,6 +16,8 @@ pub struct Cont {
     pub vars: Row,
     /// The part that comes next, where the first is 1.
     pub next: u32,
+    /// How often that part may still fail and be tried again.
+    pub tries: u8,
 }
 
 /// Continuations, in the order of acceptance.

@@ -30,6 +30,9 @@ pub const PROGRAMS_MOST: usize = 256;
 /// The parts of a BASE program.
 pub const PARTS_MOST: usize = 32;
 
+/// The tries of a part behind its first one; the least that is written is 1.
+pub const RETRY_MOST: u64 = 9;
+
 /// The statements of a part, or of an ACID program.
 pub const STATEMENTS_MOST: usize = 64;
 

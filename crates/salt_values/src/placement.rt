@@ -1,6 +1,7 @@
 //! Which partition a row stands in.
 
 ghost use Rattle.std.specs.Prelude.{◌≡◌, ◌<◌, ◌≤◌, length, sum};
+ghost use Rattle.salt_values.specs.Value.{IsKey};
 ghost use Rattle.salt_values.specs.Placement.{GivesPlaceOf, IsParts, TakesEachKey, band_of, place_of, remainder};
 
 use crate::limits::TEXT_MOST;
@@ -43,16 +44,16 @@ impl<F: Fn(PlaceKind, &Key, u32) -> u32> Placement<F> {
     pub fn of(&self, shape: Shape, key: &Key) -> u32
         requires callable { TakesEachKey (F.pre self.now.place) }
         requires answers { GivesPlaceOf (F.post self.now.place) }
+        requires key { IsKey key.now }
         requires parts { IsParts shape.parts }
         ensures place { result ≡ place_of shape.kind key.now shape.parts }
         ensures below { result < shape.parts }
     {
-        key.told();
         (self.place)(shape.kind, key, u32::from(shape.parts))
     }
 }
 
-/// The partition below `parts` in which a key's row stands.
+/// The partition below `parts` in which a key's row stands. A key is never NULL.
 pub fn place_of(kind: PlaceKind, key: &Key, parts: u32) -> u32
     requires { IsParts parts }
     ensures place { result ≡ place_of kind key.now parts }
@@ -64,6 +65,7 @@ pub fn place_of(kind: PlaceKind, key: &Key, parts: u32) -> u32
         (PlaceKind::Remainder, Value::Text(text)) => byte_sum(text.as_bytes()) % parts,
         (PlaceKind::Bands, Value::Int(number)) => remainder(number.div_euclid(1024), parts),
         (PlaceKind::Bands, Value::Text(text)) => band(text.as_bytes(), parts),
+        (_, Value::Null) => 0,
     }
 }
 

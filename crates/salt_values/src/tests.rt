@@ -40,6 +40,7 @@ fn values_stand_in_order(rt: HostRuntime) -> Result<(), Fail> {
     for bytes in [&b""[..], b"A", b"AB", b"B", b"a"] {
         row.push(text(rt.alloc(), bytes)?)?;
     }
+    row.push(Value::Null)?;
     let copied: Row = row.copy(rt.alloc())?;
     for (i, a) in row.as_slice().iter().enumerate() {
         for (j, b) in copied.as_slice().iter().enumerate() {

@@ -21,14 +21,16 @@ pub type Name = Items<u8>;
 /// Names, in the order of the text.
 pub type Names = Items<Name>;
 
-/// A number or a text. Numbers are ordered as numbers, texts by their bytes, and a number stands before a text.
+/// A number, a text, or NULL. Numbers are ordered as numbers, texts by their bytes; a number stands before a text, and NULL
+/// behind both.
 #[derive(Debug, Drop)]
 pub enum Value {
     Int(i64),
     Text(Text),
+    Null,
 }
 
-/// A row's key is its first value.
+/// A row's key is its first value, which is never NULL.
 pub type Key = Value;
 
 /// A row: a value for each column, the key first.
@@ -38,7 +40,7 @@ pub type Row = Items<Value>;
 pub type Rows = Items<Row>;
 
 impl Value {
-    /// Each value in hand is a number of 64 bits, or at most 255 bytes from 32 to 126.
+    /// Each value in hand is a number of 64 bits, at most 255 bytes from 32 to 126, or NULL.
     pub fn told(&self)
         ensures { IsValue self.now }
     {
@@ -49,6 +51,7 @@ impl Value {
             Value::Text(text) => {
                 let _bytes = text.as_bytes();
             }
+            Value::Null => {}
         }
     }
 }
@@ -58,6 +61,7 @@ impl TryCopy for Value {
         match self {
             Value::Int(number) => Ok(Value::Int(*number)),
             Value::Text(text) => Ok(Value::Text(text.copy(alloc)?)),
+            Value::Null => Ok(Value::Null),
         }
     }
 }
@@ -98,9 +102,12 @@ impl Ord for Value {
     fn cmp(&self, other: &Value) -> Ordering {
         match (self, other) {
             (Value::Int(a), Value::Int(b)) => a.cmp(b),
-            (Value::Int(_), Value::Text(_)) => Ordering::Less,
-            (Value::Text(_), Value::Int(_)) => Ordering::Greater,
             (Value::Text(a), Value::Text(b)) => a.as_bytes().cmp(b.as_bytes()),
+            (Value::Null, Value::Null) => Ordering::Equal,
+            (Value::Int(_), _) => Ordering::Less,
+            (_, Value::Int(_)) => Ordering::Greater,
+            (Value::Text(_), Value::Null) => Ordering::Less,
+            (Value::Null, Value::Text(_)) => Ordering::Greater,
         }
     }
 }

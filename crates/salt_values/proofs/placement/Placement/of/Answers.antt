@@ -6,5 +6,5 @@ use Rattle.std.proofs.Common.{subst, sym, ◌<◌}
 pub returns-clause-below : goal.returns-clause-below
 returns-clause-below g c =
     let parts = subst IsParts (sym c.from.ensures) c.requires.parts in
-    let is = c.requires.answers c.args.shape.kind c.args.key c.from.result c.place.result c.told.ensures parts c.place.ensures in
-    subst (λ n. c.place.result < n) c.from.ensures (subst (λ p. p < c.from.result) (sym is) (place_of-below c.args.shape.kind c.args.key.now c.from.result c.told.ensures parts))
+    let is = c.requires.answers c.args.shape.kind c.args.key c.from.result c.place.result c.requires.key parts c.place.ensures in
+    subst (λ n. c.place.result < n) c.from.ensures (subst (λ p. p < c.from.result) (sym is) (place_of-below c.args.shape.kind c.args.key.now c.from.result c.requires.key.0 parts))
