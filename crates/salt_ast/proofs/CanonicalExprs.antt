@@ -1,13 +1,13 @@
 -- Canonical texts of expressions are read as their trees.
 use Rattle.salt_ast.proofs.Each.{Each, each_of_append}
-use Rattle.salt_ast.proofs.Fragments.{IsFragment, IsNameWord, IsReadAs, Stops, TokenLaws, behind_space, closed, colon_before, minus_before, name_fragment, number_fragment, open_before, regrouped, spaced_sign, spaced_word, text_fragment}
+use Rattle.salt_ast.proofs.Fragments.{IsFragment, IsNameWord, IsReadAs, Stops, TokenLaws, behind, behind_space, closed, colon_before, minus_before, name_fragment, number_fragment, open_before, regrouped, space_before, space_stops, spaced_sign, spaced_word, text_fragment, word_fragment}
 use Rattle.salt_ast.proofs.TokenRows.{HasToken}
-use Rattle.salt_ast.specs.Grammar.{Atom, Conjunction, Expression, Left, Negation, Nots, Once, Product, Spells, Sum, Within, alone, colon as colon_name, literal, minus_int, more, named, not, one, pair, paren, plain, plus_int}
+use Rattle.salt_ast.specs.Grammar.{Atom, Conjunction, Expression, Left, Negation, Nots, Once, Product, Spells, Sum, Within, alone, colon as colon_name, is_not_null, is_null, literal, minus_int, more, named, not, one, pair, paren, plain, plus_int}
 use Rattle.salt_ast.specs.Limits.{height}
 use Rattle.salt_ast.specs.Operators.{op_text}
-use Rattle.salt_ast.specs.Texts.{expr_text}
-use Rattle.salt_ast.specs.Trees.{letters, negation, number, operation}
-use Rattle.salt_ast.specs.declared.trees.Expr.{Binary', Column, Expr, Lit, Not', Variable, end_of-Expr, more_of-Expr}
+use Rattle.salt_ast.specs.Texts.{expr_text, null_test_text}
+use Rattle.salt_ast.specs.Trees.{letters, negation, null_test, number, operation}
+use Rattle.salt_ast.specs.declared.trees.Expr.{Binary', Column, Expr, IsNull', Lit, Not', Variable, end_of-Expr, more_of-Expr}
 use Rattle.salt_ast.specs.declared.trees.Op.{Op}
 use Rattle.salt_ast.specs.declared.trees.Op.TheVariants as op
 use Rattle.salt_tokens.specs.Bytes.{is_printable}
@@ -15,7 +15,7 @@ use Rattle.salt_tokens.specs.Pieces.{Run}
 use Rattle.salt_tokens.specs.Symbols.{Symbols, Symbol, int, key, name, sign, text}
 use Rattle.salt_tokens.specs.declared.keyword.Keyword.TheVariants as word
 use Rattle.salt_tokens.specs.declared.sign.Sign.TheVariants as mark
-use Rattle.std.proofs.Common.{List, [], append_assoc, arith, codes, neg_ℤ, pos, refl, suc, sym, zero, ℕ, ◌++◌, ◌<◌, ◌^◌, ◌∷◌, ◌≤◌}
+use Rattle.std.proofs.Common.{Bool, List, [], append_assoc, arith, codes, false, neg_ℤ, pos, refl, suc, sym, true, zero, ℕ, ◌++◌, ◌<◌, ◌^◌, ◌∷◌, ◌≤◌}
 
 -- the canonical text is read as the expression, wherever one open parenthesis less than it is high is allowed
 abbrev pub IsReadExpr : Expr → Type 0
@@ -73,14 +73,29 @@ joined x y op.Sub = one (one (plain (alone (more (as_sum x) _ refl refl (as_prod
 joined x y op.Join = one (one (plain (alone (more (as_sum x) _ refl refl (as_product y)))))
 joined x y op.Mul = one (one (plain (alone (one (more (as_product x) _ refl refl y)))))
 
+-- the words of a test for NULL
+null_symbols : (negated : Bool) → Symbols
+null_symbols false = key word.Is ∷ key word.Null ∷ []
+null_symbols true = key word.Is ∷ key word.Not ∷ key word.Null ∷ []
+
+tested : {Inner : Spells} {ts : Symbols} {e : Expr} → Atom Inner ts e → (negated : Bool) → Expression Inner (ts ++ null_symbols negated) (null_test negated e)
+unfolding null_symbols
+tested x false = one (one (plain (is_null (as_sum x))))
+tested x true = one (one (plain (is_not_null (as_sum x))))
+
 height_positive : (e : Expr) → 0 < height e
 height_positive (Lit v) = omega arith
 height_positive (Column n) = omega arith
 height_positive (Variable n) = omega arith
 height_positive (Not' _ (more_of-Expr e end_of-Expr)) = omega arith
+height_positive (IsNull' _ (more_of-Expr e end_of-Expr) negated) = omega arith
 height_positive (Binary' o _ (more_of-Expr l end_of-Expr) _ (more_of-Expr r end_of-Expr)) = omega arith
 
 -- ---- texts of expressions
+
+null_test_stops : (negated : Bool) (rest : List ℕ) → Stops rest → Stops ((null_test_text negated ++ codes ")") ++ rest)
+null_test_stops false rest next = space_stops _
+null_test_stops true rest next = space_stops _
 
 module _ (laws : TokenLaws) where
   op_fragment : (o : Op) {b : List ℕ} {us : Symbols} → IsFragment Stops b us → IsFragment Stops (op_text o ++ (codes " " ++ b)) (op_symbol o ∷ us)
@@ -134,6 +149,25 @@ module _ (laws : TokenLaws) where
   negation_read e x zero le = absurd (omega (arith, height_positive e))
   negation_read e x (suc depth) le = negation_at depth e (x depth (omega arith))
 
+  null_fragment : (negated : Bool) → IsFragment Stops (null_test_text negated) (null_symbols negated)
+  unfolding null_symbols
+  null_fragment false = space_before (spaced_word laws word.Is (word_fragment laws word.Null))
+  null_fragment true = space_before (spaced_word laws word.Is (spaced_word laws word.Not (word_fragment laws word.Null)))
+
+  null_test_at : (depth : ℕ) (negated : Bool) (e : Expr) → IsReadAs (Atom (Within depth)) (expr_text e) e → IsReadAs (Atom (Within (suc depth))) (expr_text (null_test negated e)) (null_test negated e)
+  unfolding Within
+  null_test_at depth negated e x =
+      let test = behind x.fragment (null_test_stops negated) (closed laws (null_fragment negated)) in
+      record {
+        symbols = sign mark.Open ∷ ((x.symbols ++ null_symbols negated) ++ sign mark.Close ∷ []);
+        fragment = open_before laws (regrouped (sym (append_assoc x.symbols (null_symbols negated) (sign mark.Close ∷ []))) test);
+        spelled = paren (tested x.spelled negated);
+      }
+
+  null_test_read : (negated : Bool) (e : Expr) → IsReadExpr e → IsReadExpr (null_test negated e)
+  null_test_read negated e x zero le = absurd (omega (arith, height_positive e))
+  null_test_read negated e x (suc depth) le = null_test_at depth negated e (x depth (omega arith))
+
   operation_at : (depth : ℕ) (o : Op) (l r : Expr) → IsReadAs (Atom (Within depth)) (expr_text l) l → IsReadAs (Atom (Within depth)) (expr_text r) r → IsReadAs (Atom (Within (suc depth))) (expr_text (operation o l r)) (operation o l r)
   unfolding Within
   operation_at depth o l r x y =
@@ -162,6 +196,8 @@ module _ (laws : TokenLaws) where
   once_read level f _ _ (pair {a = a} {b = b} {o = o} {l = l} {r = r} d t is at k) h =
       let parts = each_of_append HasToken a (t ∷ b) h in
       operation_read o l r (f a l d parts.0) (f b r k parts.1.1)
+  once_read level f _ _ (is_null {ts = ts} {e = e} d) h = null_test_read false e (f ts e d (each_of_append HasToken ts (key word.Is ∷ key word.Null ∷ []) h).0)
+  once_read level f _ _ (is_not_null {ts = ts} {e = e} d) h = null_test_read true e (f ts e d (each_of_append HasToken ts (key word.Is ∷ key word.Not ∷ key word.Null ∷ []) h).0)
 
   nots_read : {Operand : Spells} → AreRead Operand → AreRead (Nots Operand)
   nots_read f ts e (plain d) h = f ts e d h

@@ -35,11 +35,17 @@ end_stops = record { words = tt; digits = tt; quotes = tt }
 pub space_stops : (rest : List ℕ) → Stops (32 ∷ rest)
 space_stops rest = record { words = refl; digits = refl; quotes = refl }
 
+pub open_stops : (rest : List ℕ) → Stops (40 ∷ rest)
+open_stops rest = record { words = refl; digits = refl; quotes = refl }
+
 pub close_stops : (rest : List ℕ) → Stops (41 ∷ rest)
 close_stops rest = record { words = refl; digits = refl; quotes = refl }
 
 pub comma_stops : (rest : List ℕ) → Stops (44 ∷ rest)
 comma_stops rest = record { words = refl; digits = refl; quotes = refl }
+
+pub semicolon_stops : (rest : List ℕ) → Stops (59 ∷ rest)
+semicolon_stops rest = record { words = refl; digits = refl; quotes = refl }
 
 -- the bytes are these symbols, in front of each text for which `Next` holds
 pub record IsFragment (Next : List ℕ → Type 0) (bytes : List ℕ) (symbols : Symbols) : Type 0 where
@@ -51,6 +57,11 @@ pub record IsReadAs {Tree : Type 0} (IsTree : Symbols → Tree → Type 0) (byte
   pub fragment : IsFragment Stops bytes symbols
   pub spelled : IsTree symbols tree
 
+-- what is read as one tree is read as another that the same symbols spell
+pub respelled : {Tree Other : Type 0} {IsTree : Symbols → Tree → Type 0} {IsOther : Symbols → Other → Type 0} {bytes : List ℕ} {tree : Tree} {other : Other} →
+    ((ts : Symbols) → IsTree ts tree → IsOther ts other) → IsReadAs IsTree bytes tree → IsReadAs IsOther bytes other
+respelled f x = record { symbols = x.symbols; fragment = x.fragment; spelled = f x.symbols x.spelled }
+
 module _ {Next : List ℕ → Type 0} where
   pub nothing : IsFragment Next [] []
   nothing = record { reads = λ rest r next has. has }
@@ -61,6 +72,9 @@ module _ {Next : List ℕ → Type 0} where
 
   pub regrouped : {bytes : List ℕ} {s t : Symbols} → s ≡ t → IsFragment Next bytes s → IsFragment Next bytes t
   regrouped {bytes} e f = subst (λ (x : Symbols). IsFragment Next bytes x) e f
+
+  pub same_bytes_read : {a b : List ℕ} {symbols : Symbols} → a ≡ b → IsFragment Next a symbols → IsFragment Next b symbols
+  same_bytes_read {symbols = symbols} e f = subst (λ (x : List ℕ). IsFragment Next x symbols) e f
 
   pub space_before : {b : List ℕ} {us : Symbols} → IsFragment Next b us → IsFragment Next (32 ∷ b) us
   space_before f = record { reads = λ rest r next has. let t = f.reads rest r next has in (t.0, blank refl t.1, t.2) }
@@ -121,9 +135,9 @@ module _ (laws : TokenLaws) {Next : List ℕ → Type 0} where
   unfolding sign_of
   close_before f = lone_before mark.Close (λ b. refl) f
 
-  pub comma_before : {b : List ℕ} {us : Symbols} → IsFragment Next b us → IsFragment Next (codes "," ++ b) (sign mark.Comma ∷ us)
+  pub close_brace_before : {b : List ℕ} {us : Symbols} → IsFragment Next b us → IsFragment Next (codes "}" ++ b) (sign mark.CloseBrace ∷ us)
   unfolding sign_of
-  comma_before f = lone_before mark.Comma (λ b. refl) f
+  close_brace_before f = lone_before mark.CloseBrace (λ b. refl) f
 
   pub colon_before : {b : List ℕ} {us : Symbols} → IsFragment Next b us → IsFragment Next (codes ":" ++ b) (sign mark.Colon ∷ us)
   unfolding sign_of
@@ -141,7 +155,7 @@ module _ (laws : TokenLaws) {Next : List ℕ → Type 0} where
 pub closed : TokenLaws → {a : List ℕ} {ts : Symbols} → IsFragment Stops a ts → IsFragment Stops (a ++ codes ")") (ts ++ sign mark.Close ∷ [])
 closed laws f = behind f (λ rest next. close_stops rest) (close_before laws nothing)
 
--- ---- names, texts and numbers
+-- ---- words, names, texts and numbers
 
 -- bytes that are a word, and no keyword
 abbrev pub IsNameWord : List ℕ → Type 0
@@ -154,11 +168,22 @@ pub spaced_name : (n : List ℕ) → IsNameWord n → {Next : List ℕ → Type 
 spaced_name n h f = behind_space (name_fragment n h) f
 
 module _ (laws : TokenLaws) where
+  pub word_fragment : (k : Keyword) → IsFragment Stops (keyword_spelling k) (key k ∷ [])
+  word_fragment k = whole (word_before laws k (λ rest next. next.words) nothing)
+
   pub text_fragment : (t : List ℕ) → Run is_printable t → IsFragment Stops (quoted t) (text t ∷ [])
   text_fragment t h = whole (token_before kind.Text (quoted t) (text t) (t, h, refl) (laws.texts t) (λ rest next. next.quotes) nothing)
 
   pub number_fragment : (n : ℕ) → n < 2 ^ 64 → IsFragment Stops (decimal n) (int n ∷ [])
   number_fragment n h = whole (token_before kind.Int (decimal n) (int n) (laws.numbers n h) (laws.values n h) (λ rest next. next.digits) nothing)
+
+  -- a word in front of what is read
+  pub word_first : (k : Keyword) {Tree Other : Type 0} {IsTree : Symbols → Tree → Type 0} {IsOther : Symbols → Other → Type 0} {bytes : List ℕ} {tree : Tree} {other : Other} →
+      ((ts : Symbols) → IsTree ts tree → IsOther (key k ∷ ts) other) → IsReadAs IsTree bytes tree → IsReadAs IsOther (keyword_spelling k ++ 32 ∷ bytes) other
+  word_first k f x = record { symbols = key k ∷ x.symbols; fragment = spaced_word laws k x.fragment; spelled = f x.symbols x.spelled }
+
+pub space_first : {Tree : Type 0} {IsTree : Symbols → Tree → Type 0} {bytes : List ℕ} {tree : Tree} → IsReadAs IsTree bytes tree → IsReadAs IsTree (32 ∷ bytes) tree
+space_first x = record { symbols = x.symbols; fragment = space_before x.fragment; spelled = x.spelled }
 
 -- ---- a whole text
 

@@ -1,10 +1,12 @@
 -- Expressions within the limit on depth.
-use Rattle.salt_ast.proofs.CanonicalExprs.{IsReadExpr, as_conjunction, as_expression, as_sum}
+use Rattle.salt_ast.proofs.CanonicalExprs.{AreRead, IsReadExpr, as_conjunction, as_expression, as_sum, conjunction_read, expression_read, sum_read}
 use Rattle.salt_ast.proofs.Each.{Each}
-use Rattle.salt_ast.proofs.Fragments.{IsReadAs}
-use Rattle.salt_ast.specs.Grammar.{Atom, Conjunction, Expression, Sum, Within}
+use Rattle.salt_ast.proofs.Fragments.{IsReadAs, TokenLaws, respelled}
+use Rattle.salt_ast.proofs.TokenRows.{AreReadAs}
+use Rattle.salt_ast.specs.Grammar.{Atom, Conjunction, Expression, Spells, Sum, Within}
 use Rattle.salt_ast.specs.Limits.{height, height_passed, is_high}
 use Rattle.salt_ast.specs.Texts.{expr_text}
+use Rattle.salt_values.specs.declared.limits.TheConstants.{DEPTH_MOST}
 use Rattle.std.specs.Bool.{then_some}
 use Rattle.std.specs.Option.{option_or}
 use Rattle.salt_ast.specs.declared.limit.LimitName.TheVariants as limit
@@ -15,23 +17,24 @@ use Rattle.std.specs.List.{list_any}
 
 -- no higher than the limit on depth
 abbrev pub IsLow : Expr → Type 0
-IsLow e = height e ≤ 64
+IsLow e = height e ≤ DEPTH_MOST
 
-low_atom : (e : Expr) → IsReadExpr e → IsLow e → IsReadAs (Atom (Within 64)) (expr_text e) e
-low_atom e x low = x 64 (omega arith)
+-- an expression with no more parentheses around a token
+abbrev pub Shallow : Spells
+Shallow = Within DEPTH_MOST
 
-pub low_sum : (e : Expr) → IsReadExpr e → IsLow e → IsReadAs (Sum (Within 64)) (expr_text e) e
-low_sum e x low = let a = low_atom e x low in record { symbols = a.symbols; fragment = a.fragment; spelled = as_sum a.spelled }
+low_atom : (e : Expr) → IsReadExpr e → IsLow e → IsReadAs (Atom Shallow) (expr_text e) e
+low_atom e x low = x DEPTH_MOST (omega arith)
 
-pub low_conjunction : (e : Expr) → IsReadExpr e → IsLow e → IsReadAs (Conjunction (Within 64)) (expr_text e) e
-low_conjunction e x low = let a = low_atom e x low in record { symbols = a.symbols; fragment = a.fragment; spelled = as_conjunction a.spelled }
+module _ (laws : TokenLaws) {Inner : Spells} (inner : AreRead Inner) where
+  pub low_sum : AreReadAs (Sum Inner) (Sum Shallow) expr_text IsLow
+  low_sum ts e d h low = respelled (λ _ d. as_sum d) (low_atom e (sum_read laws inner ts e d h) low)
 
-pub low_expression : (e : Expr) → IsReadExpr e → IsLow e → IsReadAs (Expression (Within 64)) (expr_text e) e
-low_expression e x low = let a = low_atom e x low in record { symbols = a.symbols; fragment = a.fragment; spelled = as_expression a.spelled }
+  pub low_conjunction : AreReadAs (Conjunction Inner) (Conjunction Shallow) expr_text IsLow
+  low_conjunction ts e d h low = respelled (λ _ d. as_conjunction d) (low_atom e (conjunction_read laws inner ts e d h) low)
 
-pub low_expressions : (es : List Expr) → Each IsReadExpr es → Each IsLow es → Each (λ e. IsReadAs (Expression (Within 64)) (expr_text e) e) es
-low_expressions [] reads low = tt
-low_expressions (e ∷ es) (read, reads) (low, lows) = (low_expression e read low, low_expressions es reads lows)
+  pub low_expression : AreReadAs (Expression Inner) (Expression Shallow) expr_text IsLow
+  low_expression ts e d h low = respelled (λ _ d. as_expression d) (low_atom e (expression_read laws inner ts e d h) low)
 
 -- where no height passes the limit on depth
 pub all_low : (es : List Expr) → height_passed es ≡ None → Each IsLow es

@@ -1,10 +1,11 @@
 -- What the symbols of a row of tokens hold.
 use Rattle.salt_ast.proofs.Each.{Each}
-use Rattle.salt_ast.proofs.Fragments.{IsNameWord, TokenLaws}
+use Rattle.salt_ast.proofs.Fragments.{IsNameWord, IsReadAs, TokenLaws, text_spells}
+use Rattle.salt_ast.specs.Spelling.{Spells}
 use Rattle.salt_tokens.specs.Bytes.{is_printable}
 use Rattle.salt_tokens.specs.Pieces.{IsToken, Lexes, Piece, Run, blank, ended, token}
 use Rattle.salt_tokens.specs.Spelling.{keyword_of, sign_of}
-use Rattle.salt_tokens.specs.Symbols.{Symbol, int, key, largest_int, name, symbols_of, sign, sign_symbol, symbol_by, text, word_symbol}
+use Rattle.salt_tokens.specs.Symbols.{Symbol, Symbols, int, key, largest_int, name, symbols_of, sign, sign_symbol, symbol_by, text, word_symbol}
 use Rattle.salt_tokens.specs.declared.keyword.Keyword.{Keyword}
 use Rattle.salt_tokens.specs.declared.sign.Sign.{Sign}
 use Rattle.salt_tokens.specs.declared.token.TokenKind.{TokenKind}
@@ -19,6 +20,10 @@ HasToken (name n) = IsNameWord n
 HasToken (int n) = n < 2 ^ 64
 HasToken (text t) = Run is_printable t
 HasToken (sign s) = Unit {0}
+
+-- each tree that tokens spell in one form, and that is low, is read from its canonical text in another form
+abbrev pub AreReadAs : {A : Type 0} → (Form Item : Symbols → A → Type 0) → (A → List ℕ) → (A → Type 0) → Type 0
+AreReadAs {A = A} Form Item shown Low = (ts : Symbols) (x : A) → Form ts x → Each HasToken ts → Low x → IsReadAs Item (shown x) x
 
 word_has_token : (bs : List ℕ) → IsToken kind.Word bs → (found : Option Keyword) → keyword_of bs ≡ found → HasToken (word_symbol bs found)
 word_has_token bs h None e = (h, e)
@@ -42,3 +47,8 @@ module _ (laws : TokenLaws) where
   row_has_tokens ended = tt
   row_has_tokens (blank h d) = row_has_tokens d
   row_has_tokens (token k bytes h e d) = (symbol_has_token k bytes h, row_has_tokens d)
+
+  -- so a tree that some bytes spell is spelled by its canonical text too
+  pub canonical_spells : {A : Type 0} {Form Item : Symbols → A → Type 0} {shown : A → List ℕ} {Low : A → Type 0} → AreReadAs Form Item shown Low →
+      (bytes : List ℕ) (x : A) → Spells Form bytes x → Low x → Spells Item (shown x) x
+  canonical_spells read bytes x spells low = text_spells (read (symbols_of spells.tokens) x spells.spelled (row_has_tokens spells.lexes) low)

@@ -187,7 +187,9 @@ rests_of_pay = refl
 
 abbrev retrying : ℕ → Option ℕ → ProgramDef
 retrying k tries = record {
-  name = n; params = []; vars = [];
+  name = n;
+  params = [];
+  vars = [];
   body = body.Base (part (is_not_null ∷ []) None None ∷ record (part (is_not_null ∷ []) None (Some (next.Part k))) { retry = tries } ∷ []);
 }
 
@@ -222,7 +224,9 @@ short_row =
 
 abbrev short : ProgramDef
 short = record {
-  name = n; params = field id kind.Int ∷ []; vars = [];
+  name = n;
+  params = field id kind.Int ∷ [];
+  vars = [];
   body = body.Base (part (is_not_null ∷ []) (Some next.End) None ∷ record (part (is_not_null ∷ []) None (Some (next.Part 3))) { retry = Some 2 } ∷ []);
 }
 

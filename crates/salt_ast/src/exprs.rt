@@ -35,7 +35,11 @@ impl Op {
 fn null_test(negated: bool) -> &'static [u8]
     ensures { result.now ≡ null_test_text negated }
 {
-    if negated { b" is not null" } else { b" is null" }
+    if negated {
+        b" is not null"
+    } else {
+        b" is null"
+    }
 }
 
 impl<K: Sink> Printer<'_, K> {
