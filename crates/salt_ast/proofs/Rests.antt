@@ -1,107 +1,86 @@
 -- From each part on as many statements may run as its block has and as behind its greater way.
-use Rattle.salt_ast.proofs.LowExprs.{other_is_none}
-use Rattle.salt_ast.specs.Paths.{Rest, at_number, next_on_commit, next_on_failure, part_rest, rest_among, rest_of, rests, way_on_commit, way_on_failure}
-use Rattle.salt_ast.specs.ProgramJudgement.{fault_in_parts, is_backward, part_fault}
-use Rattle.std.specs.Bool.{then_some}
-use Rattle.std.specs.Option.{option_or}
-use Rattle.salt_ast.specs.declared.programs.Next.{Next}
-use Rattle.salt_ast.specs.declared.programs.Next.TheVariants as next
+use Rattle.salt_ast.proofs.Ways.{AreFrom, LeadsOn, StandsAt, no_part_zero, other_branch, part_stands, ways_on, without_first}
+use Rattle.salt_ast.specs.Paths.{Position, Rest, at_number, next_on_commit, next_on_failure, part_rest, position_at, rest_among, rest_from, rest_of, retries, rests, way_on_commit, way_on_failure}
+use Rattle.salt_ast.specs.ProgramJudgement.{fault_in_parts}
 use Rattle.salt_ast.specs.declared.programs.PartDef.{PartDef}
-use Rattle.std.proofs.Common.{Bool, List, None, Option, Some, [], ap, arith, false, refl, subst, suc, sym, true, zero, ℕ, ◌+◌, ◌∙◌, ◌||◌, ◌∷◌, ◌≡◌, ◌≤◌}
+use Rattle.std.proofs.Common.{List, None, Option, Some, [], ap, arith, if◌then◌else◌, refl, subst, suc, sym, zero, ℕ, ◌+◌, ◌-◌, ◌<◌, ◌∙◌, ◌∷◌, ◌≡◌, ◌≤◌}
 use Rattle.std.proofs.lemmas.Bool.Decides.{nat_tests}
-use Rattle.std.specs.Prelude.{length, max, nat_lt, ⊤, option_and_then}
+use Rattle.std.specs.Prelude.{◌==◌, length, max, option_and_then, option_map}
 
--- what is told of the parts from part `k` on is what is told of all
-abbrev Agrees : (count k : ℕ) → List PartDef → List Rest → Type 0
-Agrees count k ps whole = (j : ℕ) → k ≤ j → rest_among whole (Some j) ≡ rest_among (rests count k ps) (Some j)
+same_branch : {A : Type 0} (n k : ℕ) (x y : A) → n ≡ k → (if n == k then x else y) ≡ x
+same_branch n k x y e = grind (arith, nat_tests)
 
-here : (r : Rest) (rs : List Rest) (j : ℕ) → r.part ≡ j → rest_among (r ∷ rs) (Some j) ≡ r.statements
-here r rs j e = grind (arith, nat_tests)
-
-skipped : (r : Rest) (rs : List Rest) (j : ℕ) → suc r.part ≤ j → rest_among (r ∷ rs) (Some j) ≡ rest_among rs (Some j)
-skipped r rs j lt = grind (arith, nat_tests)
-
-later : (count k : ℕ) (q : PartDef) (qs : List PartDef) (whole : List Rest) → Agrees count k (q ∷ qs) whole → Agrees count (suc k) qs whole
-later count k q qs whole same j lt =
-    same j (omega arith) ∙ skipped (record { part = k; statements = part_rest count k q (rests count (suc k) qs) }) (rests count (suc k) qs) j lt
-
--- a way that leads on
-abbrev IsLater : ℕ → Option ℕ → Type 0
-IsLater k None = ⊤
-IsLater k (Some j) = suc k ≤ j
-
-same_way : (count k : ℕ) (q : PartDef) (qs : List PartDef) (whole : List Rest) → Agrees count k (q ∷ qs) whole →
-    (w : Option ℕ) → IsLater k w → rest_among (rests count (suc k) qs) w ≡ rest_among whole w
-same_way count k q qs whole same None on = refl
-same_way count k q qs whole same (Some j) on = sym (later count k q qs whole same j on)
-
-told_later : (count k : ℕ) (n : Next) → is_backward count k (Some n) ≡ false → IsLater k (way_on_failure (Some n))
-told_later count k (next.Part j) h = grind (arith, nat_tests)
-told_later count k next.End h = tt
-
-commit_later : (count k : ℕ) (w : Option Next) → is_backward count k w ≡ false → IsLater k (way_on_commit count k w)
-commit_later count k None h = go (nat_lt k count)
-  where
-    go : (t : Bool) → IsLater k (then_some t (suc k))
-    go true = omega arith
-    go false = tt
-commit_later count k (Some (next.Part j)) h = told_later count k (next.Part j) h
-commit_later count k (Some next.End) h = tt
-
-failure_later : (count k : ℕ) (w : Option Next) → is_backward count k w ≡ false → IsLater k (way_on_failure w)
-failure_later count k None h = tt
-failure_later count k (Some n) h = told_later count k n h
-
-pub first_is_none : {A : Type 0} (x y : Option A) → option_or x y ≡ None → x ≡ None
-first_is_none None y h = refl
-first_is_none (Some x) y h = absurd (cc h)
-
-not_told : {A : Type 0} (b : Bool) (x : A) → then_some b x ≡ None → b ≡ false
-not_told true x h = absurd (cc h)
-not_told false x h = refl
-
-neither : (a b c : Bool) → (a || b || c) ≡ false → (a ≡ false) × (b ≡ false)
-neither true b c h = absurd (cc h)
-neither false true c h = absurd (cc h)
-neither false false c h = (refl, refl)
-
-pub both_forward : (count k : ℕ) (p : PartDef) → part_fault count k p ≡ None → (is_backward count k p.then ≡ false) × (is_backward count k p.on_failure ≡ false)
-both_forward count k p sound = neither _ _ _ (not_told _ _ (other_is_none _ _ sound))
-
-first_rest : (count k : ℕ) (q : PartDef) (qs : List PartDef) (whole : List Rest) → Agrees count k (q ∷ qs) whole → part_fault count k q ≡ None →
-    rest_among whole (Some k) ≡ part_rest count k q whole
-first_rest count k q qs whole same sound =
-    let ways = both_forward count k q sound in
+-- what is told of a part is its rest where a program comes to it
+told_rest : (count k : ℕ) (ps : List PartDef) (i : ℕ) →
+    rest_among (rests count k ps) (Some (k + i)) ≡ rest_from count k ps (record { part = k + i; tries = retries (at_number (suc i) ps) })
+told_rest count k [] i = refl
+told_rest count k (q ∷ qs) zero =
     let behind : List Rest = rests count (suc k) qs in
-    let commit = same_way count k q qs whole same (way_on_commit count k q.then) (commit_later count k q.then ways.0) in
-    let failure = same_way count k q qs whole same (way_on_failure q.on_failure) (failure_later count k q.on_failure ways.1) in
-    same k (omega arith) ∙ here (record { part = k; statements = part_rest count k q behind }) behind k refl
-    ∙ ap (λ m. length q.block + max m (rest_among behind (way_on_failure q.on_failure))) commit
-    ∙ ap (λ m. length q.block + max (rest_among whole (way_on_commit count k q.then)) m) failure
+    let rest : ℕ = part_rest count k q (retries (Some q)) behind in
+    same_branch k (k + zero) rest (rest_among behind (Some (k + zero))) (omega arith)
+    ∙ sym (same_branch (k + zero) k rest (rest_from count (suc k) qs (record { part = k + zero; tries = retries (Some q) })) (omega arith))
+told_rest count k (q ∷ qs) (suc i) =
+    let behind : List Rest = rests count (suc k) qs in
+    let tries : ℕ = retries (at_number (suc i) qs) in
+    let rest : ℕ = part_rest count k q (retries (Some q)) behind in
+    let e : suc k + i ≡ k + suc i = omega arith in
+    let others : rest_among behind (Some (k + suc i)) ≡ rest_from count (suc k) qs (record { part = k + suc i; tries = tries }) =
+    subst (λ (n : ℕ). rest_among behind (Some n) ≡ rest_from count (suc k) qs (record { part = n; tries = tries })) e (told_rest count (suc k) qs i) in
+    other_branch k (k + suc i) rest (rest_among behind (Some (k + suc i))) (λ f. omega arith) ∙ others
+    ∙ sym (other_branch (k + suc i) k (part_rest count k q tries behind) (rest_from count (suc k) qs (record { part = k + suc i; tries = tries })) (λ f. omega arith))
 
-rest_at : (count k : ℕ) (ps : List PartDef) (whole : List Rest) → Agrees count k ps whole → fault_in_parts count k ps ≡ None →
-    (i : ℕ) (p : PartDef) → at_number (suc i) ps ≡ Some p → rest_among whole (Some (k + i)) ≡ part_rest count (k + i) p whole
-rest_at count k [] whole same sound i p is = absurd (cc is)
-rest_at count k (q ∷ qs) whole same sound zero p is =
-    let e : k + zero ≡ k = omega arith in
-    let same_part : q ≡ p = cc is in
-    subst (λ n. rest_among whole (Some n) ≡ part_rest count n p whole) (sym e)
-    (subst (λ r. rest_among whole (Some k) ≡ part_rest count k r whole) same_part
-    (first_rest count k q qs whole same (first_is_none (part_fault count k q) (fault_in_parts count (suc k) qs) sound)))
-rest_at count k (q ∷ qs) whole same sound (suc i) p is =
-    let e : k + suc i ≡ suc k + i = omega arith in
-    subst (λ n. rest_among whole (Some n) ≡ part_rest count n p whole) (sym e)
-    (rest_at count (suc k) qs whole (later count k q qs whole same) (other_is_none (part_fault count k q) (fault_in_parts count (suc k) qs) sound) i p is)
+told_where_it_leads : (parts : List PartDef) (count k : ℕ) (ps : List PartDef) → AreFrom parts count k ps → (i : ℕ) →
+    rest_among (rests count k ps) (Some (k + i)) ≡ rest_from count 1 parts (position_at parts (k + i))
+told_where_it_leads parts count k ps all i =
+    told_rest count k ps i
+    ∙ ap (λ (o : Option PartDef). rest_from count k ps (record { part = k + i; tries = retries o })) (sym (all.numbered i))
+    ∙ sym (all.rest (position_at parts (k + i)) (omega arith))
 
-pub rest_of_part : (parts : List PartDef) (k : ℕ) (p : PartDef) → fault_in_parts (length parts) 1 parts ≡ None → at_number k parts ≡ Some p →
-    rest_of parts (Some k) ≡ length p.block + max (rest_of parts (next_on_commit parts k)) (rest_of parts (next_on_failure parts k))
-rest_of_part [] zero p sound is = absurd (cc is)
-rest_of_part (q ∷ qs) zero p sound is = absurd (cc is)
-rest_of_part parts (suc i) p sound is =
-    let e : 1 + i ≡ suc i = omega arith in
-    let at_part : rest_of parts (Some (suc i)) ≡ part_rest (length parts) (suc i) p (rests (length parts) 1 parts) =
-    subst (λ n. rest_among (rests (length parts) 1 parts) (Some n) ≡ part_rest (length parts) n p (rests (length parts) 1 parts)) e
-    (rest_at (length parts) 1 parts (rests (length parts) 1 parts) (λ j le. refl) sound i p is) in
-    subst (λ o. rest_of parts (Some (suc i)) ≡ length p.block
-    + max (rest_of parts (option_and_then (λ r. way_on_commit (length parts) (suc i) r.then) o)) (rest_of parts (option_and_then (λ r. way_on_failure r.on_failure) o)))
-    (sym is) at_part
+-- what is told of a later way is the rest where the way leads
+way_rest : (parts : List PartDef) (k : ℕ) (qs : List PartDef) → AreFrom parts (length parts) (suc k) qs → (w : Option ℕ) → LeadsOn (length parts) k w →
+    rest_among (rests (length parts) (suc k) qs) w ≡ rest_of parts (option_map (position_at parts) w)
+way_rest parts k qs all None on = refl
+way_rest parts k qs all (Some j) (later, _) =
+    let e : suc k + (j - suc k) ≡ j = omega arith in
+    subst (λ (n : ℕ). rest_among (rests (length parts) (suc k) qs) (Some n) ≡ rest_from (length parts) 1 parts (position_at parts n)) e
+    (told_where_it_leads parts (length parts) (suc k) qs all (j - suc k))
+
+module _ (parts : List PartDef) (k : ℕ) (p : PartDef) (at : StandsAt parts (length parts) k p) where
+  -- the rest at the part itself, among the rests of those behind it
+  own_rest : (tries : ℕ) → rest_of parts (Some (record { part = k; tries = tries })) ≡ part_rest (length parts) k p tries (rests (length parts) (suc k) at.behind)
+  own_rest tries =
+      let here : Position = record { part = k; tries = tries } in
+      at.from_it.rest here (omega arith)
+      ∙ same_branch k k (part_rest (length parts) k p tries (rests (length parts) (suc k) at.behind)) (rest_from (length parts) (suc k) at.behind here) refl
+
+  told_on : (w : Option ℕ) → LeadsOn (length parts) k w → rest_among (rests (length parts) (suc k) at.behind) w ≡ rest_of parts (option_map (position_at parts) w)
+  told_on = way_rest parts k at.behind (without_first parts (length parts) k p at.behind at.from_it)
+
+  -- where the program goes on behind a failure with so many tries left
+  abbrev goes_on : ℕ → Option Position
+  goes_on zero = option_map (position_at parts) (way_on_failure p.on_failure)
+  goes_on (suc tries) = Some (record { part = k; tries = tries })
+
+  rest_of_standing : (tries : ℕ) → rest_of parts (Some (record { part = k; tries = tries }))
+      ≡ length p.block + max (rest_of parts (option_map (position_at parts) (way_on_commit (length parts) k p.then))) (rest_of parts (goes_on tries))
+  rest_of_standing zero =
+      let ways = ways_on parts (length parts) k p at in
+      own_rest zero
+      ∙ ap (λ (m : ℕ). length p.block + max m (rest_among (rests (length parts) (suc k) at.behind) (way_on_failure p.on_failure)))
+      (told_on (way_on_commit (length parts) k p.then) ways.commit)
+      ∙ ap (λ (m : ℕ). length p.block + max (rest_of parts (option_map (position_at parts) (way_on_commit (length parts) k p.then))) m)
+      (told_on (way_on_failure p.on_failure) ways.failure)
+  rest_of_standing (suc tries) =
+      let ways = ways_on parts (length parts) k p at in
+      own_rest (suc tries)
+      ∙ ap (λ (m : ℕ). length p.block + max m (part_rest (length parts) k p tries (rests (length parts) (suc k) at.behind)))
+      (told_on (way_on_commit (length parts) k p.then) ways.commit)
+      ∙ ap (λ (m : ℕ). length p.block + max (rest_of parts (option_map (position_at parts) (way_on_commit (length parts) k p.then))) m)
+      (sym (own_rest tries))
+
+pub rest_of_part : (parts : List PartDef) (k tries : ℕ) (p : PartDef) → fault_in_parts (length parts) 1 parts ≡ None → at_number k parts ≡ Some p →
+    rest_of parts (Some (record { part = k; tries = tries }))
+    ≡ length p.block + max (rest_of parts (next_on_commit parts k)) (rest_of parts (next_on_failure parts k tries))
+rest_of_part parts zero tries p sound is = absurd (no_part_zero parts p is)
+rest_of_part parts (suc i) zero p sound is = rw is (rest_of_standing parts (suc i) p (part_stands parts sound i p is) zero)
+rest_of_part parts (suc i) (suc tries) p sound is = rw is (rest_of_standing parts (suc i) p (part_stands parts sound i p is) (suc tries))
