@@ -10,5 +10,6 @@ pub mod CanonicalLists
 pub mod LowExprs
 pub mod CanonicalStatements
 pub mod CanonicalTables
+pub mod CanonicalPrograms
 pub mod Rests
 pub mod Ways

@@ -2,8 +2,11 @@
 
 ghost use Rattle.std.specs.Prelude.{◌≡◌, List, None, ℕ};
 ghost use Rattle.salt_ast.specs.Limits.{statement_limit, table_limit};
-ghost use Rattle.salt_ast.specs.Spelling.{SpellsShallowStatement, SpellsShallowTable, SpellsStatement, SpellsTable};
+ghost use Rattle.salt_ast.specs.ProgramLimits.{program_limit};
+ghost use Rattle.salt_ast.specs.ProgramTexts.{program_text};
+ghost use Rattle.salt_ast.specs.Spelling.{SpellsProgram, SpellsShallowProgram, SpellsShallowStatement, SpellsShallowTable, SpellsStatement, SpellsTable};
 ghost use Rattle.salt_ast.specs.Texts.{statement_text, table_text};
+ghost use Rattle.salt_ast.specs.declared.programs.ProgramDef.{ProgramDef};
 ghost use Rattle.salt_ast.specs.declared.trees.Statement.{Statement};
 ghost use Rattle.salt_ast.specs.declared.trees.TableDef.{TableDef};
 
@@ -24,6 +27,17 @@ pub fn canonical_statement()
 /// spells this table, with no more parentheses than the limit on depth.
 pub fn canonical_table()
     ensures { (bytes : List ℕ) (d : TableDef) → SpellsTable bytes d → table_limit d ≡ None → SpellsShallowTable (table_text d) d }
+{
+    keyword_spellings();
+    sign_spellings();
+    quoted_text();
+    written_number();
+}
+
+/// The canonical text of a program that some bytes spell, and that passes no limit by its tree,
+/// spells this program, with no more parentheses than the limit on depth.
+pub fn canonical_program()
+    ensures { (bytes : List ℕ) (p : ProgramDef) → SpellsProgram bytes p → program_limit p ≡ None → SpellsShallowProgram (program_text p) p }
 {
     keyword_spellings();
     sign_spellings();

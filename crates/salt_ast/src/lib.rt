@@ -12,6 +12,7 @@ mod lines;
 mod path_laws;
 mod print;
 mod printer;
+mod program_texts;
 mod programs;
 mod rows;
 #[cfg(test)]
@@ -19,11 +20,11 @@ mod tests;
 mod trees;
 mod values;
 
-pub use laws::{canonical_statement, canonical_table};
+pub use laws::{canonical_program, canonical_statement, canonical_table};
 pub use limit::LimitName;
 pub use lines::{Act, Line, Pairs};
 pub use path_laws::{rest_of_a_part, ways_lead_on};
-pub use print::{print_statement, print_table, send_statement, send_value};
+pub use print::{print_program, print_statement, print_table, send_statement, send_value};
 pub use printer::{Canonical, Printer};
 pub use programs::{Body, Next, PartDef, Parts, ProgramDef};
 pub use trees::{

@@ -1,12 +1,14 @@
-//! Canonical texts of statements, tables and values.
+//! Canonical texts of statements, tables, programs and values.
 
 ghost use Rattle.std.specs.Prelude.{◌≡◌, ◌++◌, OnErr, OnOk, codes};
 ghost use Rattle.salt_ast.specs.Prints.{Prints};
+ghost use Rattle.salt_ast.specs.ProgramTexts.{program_text};
 ghost use Rattle.salt_ast.specs.Texts.{expr_text, statement_text, table_text, value_text};
 ghost use Rattle.salt_io.specs.Sends.{Sends};
 
 use crate::appender::Appender;
 use crate::printer::{Canonical, Printer};
+use crate::programs::ProgramDef;
 use crate::trees::{Expr, Statement, TableDef};
 use salt_io::{IoFailed, Sink};
 use salt_values::{Name, Value};
@@ -133,6 +135,15 @@ pub fn print_statement(out: &mut Vec<u8>, st: &Statement) -> Result<(), AllocErr
 /// are as they were.
 pub fn print_table(out: &mut Vec<u8>, def: &TableDef) -> Result<(), AllocError>
     ensures ok { OnOk result (out.new.items ≡ out.old.items ++ table_text def.now) }
+    ensures err { OnErr result (out.new.items ≡ out.old.items) }
+{
+    append(out, def)
+}
+
+/// Appends the canonical text of a program. `AllocError` where there is no memory for it: the bytes
+/// are as they were.
+pub fn print_program(out: &mut Vec<u8>, def: &ProgramDef) -> Result<(), AllocError>
+    ensures ok { OnOk result (out.new.items ≡ out.old.items ++ program_text def.now) }
     ensures err { OnErr result (out.new.items ≡ out.old.items) }
 {
     append(out, def)

@@ -1,0 +1,5 @@
+use Rattle.salt_ast.proofs.Joins.{◌⨾◌}
+use Rattle.salt_ast.proofs.printer.Printer.then.Goals as goal
+
+pub returns-in-Some : goal.returns-in-Some
+returns-in-Some g c = rw c.in-Some.is (c.bytes.ensures ⨾ c.print.ensures)
