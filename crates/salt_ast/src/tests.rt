@@ -39,6 +39,21 @@ fn binary(alloc: Global, left: Expr, op: Op, right: Expr) -> Result<Expr, AllocE
     })
 }
 
+fn null_test(alloc: Global, of: Expr, negated: bool) -> Result<Expr, AllocError> {
+    Ok(Expr::IsNull {
+        of: Boxed::new(alloc, of)?,
+        negated,
+    })
+}
+
+fn field(alloc: Global, bytes: &[u8], kind: ColType, nullable: bool) -> Result<Field, AllocError> {
+    Ok(Field {
+        name: name(alloc, bytes)?,
+        kind,
+        nullable,
+    })
+}
+
 fn insert(alloc: Global) -> Result<Statement, Fail> {
     let mut values = Exprs::new(alloc);
     values.push(number(5))?;
@@ -147,6 +162,33 @@ fn ensure(alloc: Global) -> Result<Statement, Fail> {
     Ok(Statement::Ensure(binary(alloc, number(1), Op::Equal, number(2))?))
 }
 
+fn insert_null(alloc: Global) -> Result<Statement, Fail> {
+    let mut values = Exprs::new(alloc);
+    values.push(Expr::Lit(Value::Null))?;
+    values.push(null_test(alloc, column(alloc, b"a")?, false)?)?;
+    Ok(Statement::Insert {
+        table: name(alloc, b"t")?,
+        values,
+    })
+}
+
+fn update_to_null(alloc: Global) -> Result<Statement, Fail> {
+    let sum = binary(alloc, column(alloc, b"a")?, Op::Add, number(1))?;
+    let mut sets = Sets::new(alloc);
+    sets.push(Set {
+        column: name(alloc, b"b")?,
+        value: Expr::Lit(Value::Null),
+    })?;
+    Ok(Statement::Update {
+        table: name(alloc, b"t")?,
+        sets,
+        scan: Scan {
+            bound: Bound::Key(number(1)),
+            filter: Some(null_test(alloc, sum, true)?),
+        },
+    })
+}
+
 /// The text of a copy.
 fn printed(alloc: Global, statement: Statement) -> Result<Vec<u8>, AllocError> {
     let mut out = Vec::new(alloc);
@@ -157,7 +199,7 @@ fn printed(alloc: Global, statement: Statement) -> Result<Vec<u8>, AllocError> {
 #[test]
 fn statements_and_their_texts(rt: HostRuntime) -> Result<(), Fail> {
     let alloc = rt.alloc();
-    let cases: [(Vec<u8>, &[u8]); 8] = [
+    let cases: [(Vec<u8>, &[u8]); 10] = [
         (
             printed(alloc, insert(alloc)?)?,
             b"insert into t values (5, -3, 'it''s')",
@@ -187,6 +229,14 @@ fn statements_and_their_texts(rt: HostRuntime) -> Result<(), Fail> {
             b"delete from t where key = 1 and flag",
         ),
         (printed(alloc, ensure(alloc)?)?, b"ensure (1 = 2)"),
+        (
+            printed(alloc, insert_null(alloc)?)?,
+            b"insert into t values (null, (a is null))",
+        ),
+        (
+            printed(alloc, update_to_null(alloc)?)?,
+            b"update t set b = null where key = 1 and ((a + 1) is not null)",
+        ),
     ];
     for (text, want) in &cases {
         assert_eq!(rt; text.as_slice(), *want);
@@ -198,17 +248,13 @@ fn statements_and_their_texts(rt: HostRuntime) -> Result<(), Fail> {
 fn a_table_and_its_text(rt: HostRuntime) -> Result<(), Fail> {
     let alloc = rt.alloc();
     let mut columns = Fields::new(alloc);
-    columns.push(Field {
-        name: name(alloc, b"id")?,
-        kind: ColType::Int,
-    })?;
-    columns.push(Field {
-        name: name(alloc, b"n")?,
-        kind: ColType::Text,
-    })?;
+    columns.push(field(alloc, b"id", ColType::Int, false)?)?;
+    columns.push(field(alloc, b"n", ColType::Text, false)?)?;
+    columns.push(field(alloc, b"k", ColType::Int, true)?)?;
     let mut checks = Exprs::new(alloc);
     checks.push(binary(alloc, column(alloc, b"id")?, Op::AtLeast, number(0))?)?;
     checks.push(binary(alloc, column(alloc, b"n")?, Op::Less, letters(alloc, b"m")?)?)?;
+    checks.push(null_test(alloc, column(alloc, b"k")?, false)?)?;
     let def = TableDef {
         name: name(alloc, b"w")?,
         columns,
@@ -218,7 +264,7 @@ fn a_table_and_its_text(rt: HostRuntime) -> Result<(), Fail> {
     print_table(&mut out, &def.copy(alloc)?)?;
     assert_eq!(rt;
         out.as_slice(),
-        b"1 create table w (id int key, n text, check (id >= 0), check (n < 'm'))".as_slice()
+        b"1 create table w (id int key, n text, k int null, check (id >= 0), check (n < 'm'), check (k is null))".as_slice()
     );
     Ok(())
 }
@@ -275,6 +321,113 @@ fn a_sink_that_fails(rt: HostRuntime) -> Result<(), Fail> {
         assert_eq!(rt; sink.bytes(), want);
     }
     Ok(())
+}
+
+fn block(alloc: Global, statement: Statement) -> Result<Statements, AllocError> {
+    let mut block = Statements::new(alloc);
+    block.push(statement)?;
+    Ok(block)
+}
+
+/// An ACID program with neither parameters nor variables, of two statements.
+fn two_steps(alloc: Global) -> Result<ProgramDef, Fail> {
+    let mut steps = block(alloc, ensure(alloc)?)?;
+    steps.push(delete(alloc)?)?;
+    Ok(ProgramDef {
+        name: name(alloc, b"steps")?,
+        params: Fields::new(alloc),
+        vars: Fields::new(alloc),
+        body: Body::Acid(steps),
+    })
+}
+
+/// Parts that go on at the next one, at a later one and at the end.
+fn parts(alloc: Global) -> Result<Parts, Fail> {
+    let mut parts = Parts::new(alloc);
+    parts.push(PartDef {
+        block: block(alloc, select_into(alloc)?)?,
+        then: None,
+        retry: None,
+        on_failure: None,
+    })?;
+    parts.push(PartDef {
+        block: block(alloc, update(alloc)?)?,
+        then: Some(Next::Part(4)),
+        retry: Some(9),
+        on_failure: Some(Next::Part(3)),
+    })?;
+    parts.push(PartDef {
+        block: block(alloc, greatest(alloc)?)?,
+        then: Some(Next::End),
+        retry: Some(1),
+        on_failure: Some(Next::End),
+    })?;
+    parts.push(PartDef {
+        block: Statements::new(alloc),
+        then: None,
+        retry: None,
+        on_failure: Some(Next::End),
+    })?;
+    Ok(parts)
+}
+
+/// A BASE program.
+fn transfer(alloc: Global) -> Result<ProgramDef, Fail> {
+    let mut params = Fields::new(alloc);
+    params.push(field(alloc, b"a", ColType::Int, false)?)?;
+    params.push(field(alloc, b"amt", ColType::Int, false)?)?;
+    let mut vars = Fields::new(alloc);
+    vars.push(field(alloc, b"x", ColType::Int, false)?)?;
+    vars.push(field(alloc, b"y", ColType::Text, false)?)?;
+    Ok(ProgramDef {
+        name: name(alloc, b"transfer")?,
+        params,
+        vars,
+        body: Body::Base(parts(alloc)?),
+    })
+}
+
+const TRANSFER: &[u8] = b"program transfer(a int, amt int) var x int, y text base \
+part { select bal into :x from acct where key = (1 * 2) } \
+part { update acct set bal = (bal - :amt), n = (n || '') where key = :a } then go 4 on failure retry 9 then go 3 \
+part { select max(bal) from acct } then end on failure retry 1 then end \
+part { } on failure end end";
+
+#[test]
+fn programs_and_their_texts(rt: HostRuntime) -> Result<(), Fail> {
+    let alloc = rt.alloc();
+    let mut out = Vec::from_slice(alloc, b"1 ")?;
+    print_program(&mut out, &two_steps(alloc)?.copy(alloc)?)?;
+    assert_eq!(rt;
+        out.as_slice(),
+        b"1 program steps() acid { ensure (1 = 2); delete from t where key = 1 and flag } end".as_slice()
+    );
+    out.clear();
+    print_program(&mut out, &transfer(alloc)?.copy(alloc)?)?;
+    assert_eq!(rt; out.as_slice(), TRANSFER);
+    Ok(())
+}
+
+#[test]
+fn a_program_that_is_cut_short(rt: HostRuntime) -> Result<(), Fail> {
+    let alloc = rt.alloc();
+    let program = transfer(alloc)?;
+    for call in 1..200 {
+        let mut sink = MemSink::new(alloc, 999)?;
+        sink.fail_call(call)?;
+        let mut out = Printer {
+            sink: &mut sink,
+            outcome: Ok(()),
+        };
+        program.print(&mut out);
+        if out.outcome.is_ok() {
+            assert_eq!(rt; sink.bytes(), TRANSFER);
+            return Ok(());
+        }
+        assert!(rt; sink.bytes().len() < TRANSFER.len());
+        assert!(rt; TRANSFER.starts_with(sink.bytes()));
+    }
+    panic!(rt; "no write of them all is the last")
 }
 
 #[test]
