@@ -1,7 +1,8 @@
 -- Canonical texts of expressions are read as their trees.
 use Rattle.salt_ast.proofs.Each.{Each, each_of_append}
-use Rattle.salt_ast.proofs.Fragments.{IsFragment, IsNameWord, IsReadAs, Stops, TokenLaws, behind, behind_space, closed, colon_before, minus_before, name_fragment, number_fragment, open_before, regrouped, space_before, space_stops, spaced_sign, spaced_word, text_fragment, word_fragment}
+use Rattle.salt_ast.proofs.Fragments.{IsFragment, IsNameWord, IsReadAs, Stops, behind, behind_space, closed, colon_before, minus_before, name_fragment, number_fragment, open_before, regrouped, space_before, space_stops, spaced_sign, spaced_word, text_fragment, word_fragment}
 use Rattle.salt_ast.proofs.TokenRows.{HasToken}
+use Rattle.salt_ast.specs.TokenLaws.{TokenLaws}
 use Rattle.salt_ast.specs.Grammar.{Atom, Conjunction, Expression, Left, Negation, Nots, Once, Product, Spells, Sum, Within, alone, colon as colon_name, is_not_null, is_null, literal, minus_int, more, named, not, one, pair, paren, plain, plus_int}
 use Rattle.salt_ast.specs.Limits.{height}
 use Rattle.salt_ast.specs.Operators.{op_text}

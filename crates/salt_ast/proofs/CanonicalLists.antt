@@ -1,7 +1,8 @@
 -- Canonical texts of lists are read as their items.
 use Rattle.salt_ast.proofs.Each.{Each, each_of_append}
-use Rattle.salt_ast.proofs.Fragments.{Stops, TokenLaws, behind, comma_stops, nothing, respelled, same_bytes_read, space_before, space_stops, spaced_sign}
+use Rattle.salt_ast.proofs.Fragments.{Stops, behind, comma_stops, nothing, respelled, same_bytes_read, space_before, space_stops, spaced_sign}
 use Rattle.salt_ast.proofs.TokenRows.{AreReadAs, HasToken}
+use Rattle.salt_ast.specs.TokenLaws.{TokenLaws}
 use Rattle.salt_ast.specs.Programs.{AnyListed, Several, and_more, last_one, no_items, some_items}
 use Rattle.salt_ast.specs.Statements.{Following, FollowingBy, Listed, ListedBy, items, no_more, one_more}
 use Rattle.salt_ast.specs.Texts.{between_commas, preceded}

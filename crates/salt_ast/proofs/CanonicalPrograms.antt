@@ -4,9 +4,10 @@ use Rattle.salt_ast.proofs.CanonicalLists.{any_listed_read, following_stops, lis
 use Rattle.salt_ast.proofs.CanonicalStatements.{IsLowStatement, statement_read}
 use Rattle.salt_ast.proofs.CanonicalTables.{field_read}
 use Rattle.salt_ast.proofs.Each.{Anything, Each, each_is_anything, each_of_append, each_of_flat_map}
-use Rattle.salt_ast.proofs.Fragments.{IsFragment, IsReadAs, Stops, TokenLaws, behind, behind_space, close_brace_before, close_stops, nothing, number_fragment, open_before, open_stops, regrouped, respelled, same_bytes_read, semicolon_stops, space_before, space_first, space_stops, spaced_name, spaced_sign, spaced_word, name_fragment, word_before, word_first, word_fragment}
+use Rattle.salt_ast.proofs.Fragments.{IsFragment, IsReadAs, Stops, behind, behind_space, close_brace_before, close_stops, nothing, number_fragment, open_before, open_stops, regrouped, respelled, same_bytes_read, semicolon_stops, space_before, space_first, space_stops, spaced_name, spaced_sign, spaced_word, name_fragment, word_before, word_first, word_fragment}
 use Rattle.salt_ast.proofs.LowExprs.{IsLow, Shallow, all_low, other_is_none}
 use Rattle.salt_ast.proofs.TokenRows.{AreReadAs, HasToken, canonical_spells}
+use Rattle.salt_ast.specs.TokenLaws.{TokenLaws}
 use Rattle.salt_ast.specs.Grammar.{Spells}
 use Rattle.salt_ast.specs.Limits.{height_passed}
 use Rattle.salt_ast.specs.Paths.{body_statements, part_block, statements_in}

@@ -2,9 +2,10 @@
 use Rattle.salt_ast.proofs.CanonicalExprs.{AreRead, within_read}
 use Rattle.salt_ast.proofs.CanonicalLists.{listed_read}
 use Rattle.salt_ast.proofs.Each.{Anything, Each, each_is_anything, each_of_append, each_of_map}
-use Rattle.salt_ast.proofs.Fragments.{IsFragment, IsNameWord, IsReadAs, Stops, TokenLaws, behind, behind_space, close_before, closed, colon_before, name_fragment, nothing, open_before, respelled, space_before, space_first, space_stops, spaced_name, spaced_sign, spaced_word, star_before, word_before, word_first, word_fragment}
+use Rattle.salt_ast.proofs.Fragments.{IsFragment, IsNameWord, IsReadAs, Stops, behind, behind_space, close_before, closed, colon_before, name_fragment, nothing, open_before, respelled, space_before, space_first, space_stops, spaced_name, spaced_sign, spaced_word, star_before, word_before, word_first, word_fragment}
 use Rattle.salt_ast.proofs.LowExprs.{IsLow, Shallow, all_low, low_conjunction, low_expression, low_sum, other_is_none}
 use Rattle.salt_ast.proofs.TokenRows.{AreReadAs, HasToken, canonical_spells}
+use Rattle.salt_ast.specs.TokenLaws.{TokenLaws}
 use Rattle.salt_ast.specs.Grammar.{Spells}
 use Rattle.salt_ast.specs.Limits.{height_passed, statement_limit, statement_passed}
 use Rattle.salt_ast.specs.Spelling.{SpellsShallowStatement, SpellsStatement}

@@ -2,9 +2,10 @@
 use Rattle.salt_ast.proofs.CanonicalExprs.{AreRead, within_read}
 use Rattle.salt_ast.proofs.CanonicalLists.{following_read, following_stops}
 use Rattle.salt_ast.proofs.Each.{Anything, Each, each_is_anything, each_of_append}
-use Rattle.salt_ast.proofs.Fragments.{IsReadAs, Stops, TokenLaws, behind, behind_space, close_stops, closed, comma_stops, nothing, open_before, regrouped, respelled, spaced_name, spaced_word, word_before, word_first, word_fragment}
+use Rattle.salt_ast.proofs.Fragments.{IsReadAs, Stops, behind, behind_space, close_stops, closed, comma_stops, nothing, open_before, regrouped, respelled, spaced_name, spaced_word, word_before, word_first, word_fragment}
 use Rattle.salt_ast.proofs.LowExprs.{IsLow, Shallow, all_low, low_expression, other_is_none}
 use Rattle.salt_ast.proofs.TokenRows.{AreReadAs, HasToken, canonical_spells}
+use Rattle.salt_ast.specs.TokenLaws.{TokenLaws}
 use Rattle.salt_ast.specs.Grammar.{Spells}
 use Rattle.salt_ast.specs.Limits.{height_passed, table_limit, table_passed}
 use Rattle.salt_ast.specs.Spelling.{SpellsShallowTable, SpellsTable}

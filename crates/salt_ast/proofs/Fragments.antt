@@ -1,5 +1,6 @@
 -- Bytes that are read as the same symbols, whatever comes behind them.
 use Rattle.salt_ast.specs.Spelling.{Spells}
+use Rattle.salt_ast.specs.TokenLaws.{TokenLaws}
 use Rattle.salt_tokens.specs.Bytes.{is_digit, is_printable, is_word}
 use Rattle.salt_tokens.specs.Pieces.{Ends, IsToken, Lexes, NotNext, Run, blank, ended, quoted, token}
 use Rattle.salt_tokens.specs.Spelling.{keyword_of, keyword_spelling, sign_of, sign_spelling}
@@ -13,15 +14,6 @@ use Rattle.std.proofs.Common.{List, None, Some, [], ap, append_assoc, codes, fal
 use Rattle.std.proofs.lemmas.List.{append-nil}
 use Rattle.std.specs.Fmt.{decimal}
 use Rattle.std.specs.Prelude.{◌==◌}
-
--- what the tokens' crate says of how keywords, signs, texts and numbers are written
-pub record TokenLaws : Type 0 where
-  pub words : (k : Keyword) → IsToken kind.Word (keyword_spelling k)
-  pub keywords : (k : Keyword) → keyword_of (keyword_spelling k) ≡ Some k
-  pub signs : (s : Sign) → sign_of (sign_spelling s) ≡ Some s
-  pub texts : (content : List ℕ) → symbol_by kind.Text (quoted content) ≡ text content
-  pub numbers : (n : ℕ) → n < 2 ^ 64 → IsToken kind.Int (decimal n)
-  pub values : (n : ℕ) → n < 2 ^ 64 → symbol_by kind.Int (decimal n) ≡ int n
 
 -- what ends a word, a number and a text
 pub record Stops (rest : List ℕ) : Type 0 where

@@ -1,8 +1,9 @@
 -- Expressions within the limit on depth.
 use Rattle.salt_ast.proofs.CanonicalExprs.{AreRead, IsReadExpr, as_conjunction, as_expression, as_sum, conjunction_read, expression_read, sum_read}
 use Rattle.salt_ast.proofs.Each.{Each}
-use Rattle.salt_ast.proofs.Fragments.{IsReadAs, TokenLaws, respelled}
+use Rattle.salt_ast.proofs.Fragments.{IsReadAs, respelled}
 use Rattle.salt_ast.proofs.TokenRows.{AreReadAs}
+use Rattle.salt_ast.specs.TokenLaws.{TokenLaws}
 use Rattle.salt_ast.specs.Grammar.{Atom, Conjunction, Expression, Spells, Sum, Within}
 use Rattle.salt_ast.specs.Limits.{height, height_passed, is_high}
 use Rattle.salt_ast.specs.Texts.{expr_text}

@@ -1,6 +1,7 @@
 -- What the symbols of a row of tokens hold.
 use Rattle.salt_ast.proofs.Each.{Each}
-use Rattle.salt_ast.proofs.Fragments.{IsNameWord, IsReadAs, TokenLaws, text_spells}
+use Rattle.salt_ast.proofs.Fragments.{IsNameWord, IsReadAs, text_spells}
+use Rattle.salt_ast.specs.TokenLaws.{TokenLaws}
 use Rattle.salt_ast.specs.Spelling.{Spells}
 use Rattle.salt_tokens.specs.Bytes.{is_printable}
 use Rattle.salt_tokens.specs.Pieces.{IsToken, Lexes, Piece, Run, blank, ended, token}

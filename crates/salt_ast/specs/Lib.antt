@@ -9,6 +9,7 @@ pub mod Texts
 pub mod Limits
 pub mod Judgement
 pub mod Prints
+pub mod TokenLaws
 pub mod ProgramTexts
 pub mod Paths
 pub mod Programs

@@ -1,8 +1,10 @@
 //! Copies of trees, where there is memory for them.
 
-use crate::programs::{Body, PartDef, ProgramDef};
-use crate::trees::{Bound, Expr, Field, Scan, Set, Statement, TableDef, What};
-use salt_values::TryCopy;
+ghost use Rattle.std.specs.Prelude.{◌≡◌, IfOk};
+ghost use Rattle.salt_ast.specs.declared.trees.Statement.TheVariants.{Delete, Insert, Select, SelectInto, Update};
+
+use crate::trees::{Bound, Expr, Exprs, Field, Scan, Set, Sets, Statement, TableDef, What};
+use salt_values::{Name, TryCopy};
 use sqlite_items::Boxed;
 use std::alloc::{AllocError, Global};
 
@@ -102,70 +104,77 @@ impl TryCopy for Scan {
     }
 }
 
+// Statements of copied parts, each in a function of its own: in one the prover would go over the parts that are let go in each.
+
+fn insert(alloc: Global, table: &Name, values: &Exprs) -> Result<Statement, AllocError>
+    ensures { IfOk result (λ made. made ≡ Insert table.now values.now) }
+{
+    let table = table.copy(alloc)?;
+    let values = values.copy(alloc)?;
+    Ok(Statement::Insert { table, values })
+}
+
+fn select(alloc: Global, what: &What, table: &Name, scan: &Scan) -> Result<Statement, AllocError>
+    ensures { IfOk result (λ made. made ≡ Select what.now table.now scan.now) }
+{
+    let what = what.copy(alloc)?;
+    let table = table.copy(alloc)?;
+    let scan = scan.copy(alloc)?;
+    Ok(Statement::Select { what, table, scan })
+}
+
+fn select_into(
+    alloc: Global,
+    column: &Name,
+    var: &Name,
+    table: &Name,
+    key: &Expr,
+) -> Result<Statement, AllocError>
+    ensures { IfOk result (λ made. made ≡ SelectInto column.now var.now table.now key.now) }
+{
+    let column = column.copy(alloc)?;
+    let var = var.copy(alloc)?;
+    let table = table.copy(alloc)?;
+    let key = key.copy(alloc)?;
+    Ok(Statement::SelectInto {
+        column,
+        var,
+        table,
+        key,
+    })
+}
+
+fn update(alloc: Global, table: &Name, sets: &Sets, scan: &Scan) -> Result<Statement, AllocError>
+    ensures { IfOk result (λ made. made ≡ Update table.now sets.now scan.now) }
+{
+    let table = table.copy(alloc)?;
+    let sets = sets.copy(alloc)?;
+    let scan = scan.copy(alloc)?;
+    Ok(Statement::Update { table, sets, scan })
+}
+
+fn delete(alloc: Global, table: &Name, scan: &Scan) -> Result<Statement, AllocError>
+    ensures { IfOk result (λ made. made ≡ Delete table.now scan.now) }
+{
+    let table = table.copy(alloc)?;
+    let scan = scan.copy(alloc)?;
+    Ok(Statement::Delete { table, scan })
+}
+
 impl TryCopy for Statement {
     fn copy(&self, alloc: Global) -> Result<Statement, AllocError> {
         match self {
-            Statement::Insert { table, values } => Ok(Statement::Insert {
-                table: table.copy(alloc)?,
-                values: values.copy(alloc)?,
-            }),
-            Statement::Select { what, table, scan } => Ok(Statement::Select {
-                what: what.copy(alloc)?,
-                table: table.copy(alloc)?,
-                scan: scan.copy(alloc)?,
-            }),
+            Statement::Insert { table, values } => insert(alloc, table, values),
+            Statement::Select { what, table, scan } => select(alloc, what, table, scan),
             Statement::SelectInto {
                 column,
                 var,
                 table,
                 key,
-            } => Ok(Statement::SelectInto {
-                column: column.copy(alloc)?,
-                var: var.copy(alloc)?,
-                table: table.copy(alloc)?,
-                key: key.copy(alloc)?,
-            }),
-            Statement::Update { table, sets, scan } => Ok(Statement::Update {
-                table: table.copy(alloc)?,
-                sets: sets.copy(alloc)?,
-                scan: scan.copy(alloc)?,
-            }),
-            Statement::Delete { table, scan } => Ok(Statement::Delete {
-                table: table.copy(alloc)?,
-                scan: scan.copy(alloc)?,
-            }),
+            } => select_into(alloc, column, var, table, key),
+            Statement::Update { table, sets, scan } => update(alloc, table, sets, scan),
+            Statement::Delete { table, scan } => delete(alloc, table, scan),
             Statement::Ensure(condition) => Ok(Statement::Ensure(condition.copy(alloc)?)),
         }
-    }
-}
-
-impl TryCopy for PartDef {
-    fn copy(&self, alloc: Global) -> Result<PartDef, AllocError> {
-        Ok(PartDef {
-            block: self.block.copy(alloc)?,
-            then: self.then,
-            retry: self.retry,
-            on_failure: self.on_failure,
-        })
-    }
-}
-
-impl TryCopy for Body {
-    fn copy(&self, alloc: Global) -> Result<Body, AllocError> {
-        match self {
-            Body::Acid(block) => Ok(Body::Acid(block.copy(alloc)?)),
-            Body::Base(parts) => Ok(Body::Base(parts.copy(alloc)?)),
-        }
-    }
-}
-
-impl TryCopy for ProgramDef {
-    fn copy(&self, alloc: Global) -> Result<ProgramDef, AllocError> {
-        Ok(ProgramDef {
-            name: self.name.copy(alloc)?,
-            params: self.params.copy(alloc)?,
-            vars: self.vars.copy(alloc)?,
-            body: self.body.copy(alloc)?,
-        })
     }
 }

@@ -12,6 +12,7 @@ mod lines;
 mod path_laws;
 mod print;
 mod printer;
+mod program_copies;
 mod program_texts;
 mod programs;
 mod rows;

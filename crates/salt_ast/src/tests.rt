@@ -1,52 +1,171 @@
 //! Texts of trees that were built by hand, printed to memory and to sinks that fail.
+//!
+//! What builds a tree takes its parts as they were made, and fails where one of them did: so there is
+//! one place where each part may have to be let go.
 
 use super::*;
 use salt_io::{IoFailed, MemSink};
-use salt_values::{Id, Name, Names, Row, Text, TextErr, TryCopy, Value};
+use salt_values::{Id, Name, Names, Row, Text, TryCopy, Value};
 use sqlite_items::{Boxed, Items};
 use std::alloc::{AllocError, Global};
-use std::test::Fail;
+use std::process::Abort;
 
-fn name(alloc: Global, bytes: &[u8]) -> Result<Name, AllocError> {
+type Made<T> = Result<T, AllocError>;
+
+fn none<T>(alloc: Global) -> Made<Items<T>> {
+    Ok(Items::new(alloc))
+}
+
+/// A list with one more item.
+fn with<T: Drop>(items: Made<Items<T>>, item: Made<T>) -> Made<Items<T>> {
+    let mut items = items?;
+    items.push(item?)?;
+    Ok(items)
+}
+
+fn name(alloc: Global, bytes: &[u8]) -> Made<Name> {
     Items::from_slice(alloc, bytes)
 }
 
-fn number(n: i64) -> Expr {
-    Expr::Lit(Value::Int(n))
+// ---- expressions
+
+fn number(n: i64) -> Made<Expr> {
+    Ok(Expr::Lit(Value::Int(n)))
 }
 
-fn letters(alloc: Global, bytes: &[u8]) -> Result<Expr, TextErr> {
-    Ok(Expr::Lit(Value::Text(Text::new(alloc, bytes)?)))
+fn text(alloc: Global, bytes: &[u8]) -> Made<Value> {
+    match Text::new(alloc, bytes) {
+        Ok(text) => Ok(Value::Text(text)),
+        Err(_) => Err(AllocError),
+    }
 }
 
-fn column(alloc: Global, bytes: &[u8]) -> Result<Expr, AllocError> {
+fn letters(alloc: Global, bytes: &[u8]) -> Made<Expr> {
+    Ok(Expr::Lit(text(alloc, bytes)?))
+}
+
+fn column(alloc: Global, bytes: &[u8]) -> Made<Expr> {
     Ok(Expr::Column(name(alloc, bytes)?))
 }
 
-fn variable(alloc: Global, bytes: &[u8]) -> Result<Expr, AllocError> {
+fn variable(alloc: Global, bytes: &[u8]) -> Made<Expr> {
     Ok(Expr::Variable(name(alloc, bytes)?))
 }
 
-fn not(alloc: Global, operand: Expr) -> Result<Expr, AllocError> {
-    Ok(Expr::Not(Boxed::new(alloc, operand)?))
+fn not(alloc: Global, operand: Made<Expr>) -> Made<Expr> {
+    Ok(Expr::Not(Boxed::new(alloc, operand?)?))
 }
 
-fn binary(alloc: Global, left: Expr, op: Op, right: Expr) -> Result<Expr, AllocError> {
-    Ok(Expr::Binary {
-        op,
-        left: Boxed::new(alloc, left)?,
-        right: Boxed::new(alloc, right)?,
-    })
-}
-
-fn null_test(alloc: Global, of: Expr, negated: bool) -> Result<Expr, AllocError> {
+fn null_test(alloc: Global, of: Made<Expr>, negated: bool) -> Made<Expr> {
     Ok(Expr::IsNull {
-        of: Boxed::new(alloc, of)?,
+        of: Boxed::new(alloc, of?)?,
         negated,
     })
 }
 
-fn field(alloc: Global, bytes: &[u8], kind: ColType, nullable: bool) -> Result<Field, AllocError> {
+fn binary(alloc: Global, left: Made<Expr>, op: Op, right: Made<Expr>) -> Made<Expr> {
+    let left = Boxed::new(alloc, left?)?;
+    let right = Boxed::new(alloc, right?)?;
+    Ok(Expr::Binary { op, left, right })
+}
+
+// ---- statements
+
+fn at_key(key: Made<Expr>) -> Made<Bound> {
+    Ok(Bound::Key(key?))
+}
+
+fn between(low: Made<Expr>, high: Made<Expr>) -> Made<Bound> {
+    let low = low?;
+    Ok(Bound::Between(low, high?))
+}
+
+fn every_row(bound: Made<Bound>) -> Made<Scan> {
+    Ok(Scan {
+        bound: bound?,
+        filter: None,
+    })
+}
+
+fn filtered(bound: Made<Bound>, filter: Made<Expr>) -> Made<Scan> {
+    let bound = bound?;
+    Ok(Scan {
+        bound,
+        filter: Some(filter?),
+    })
+}
+
+fn insert(alloc: Global, values: Made<Exprs>) -> Made<Statement> {
+    let values = values?;
+    Ok(Statement::Insert {
+        table: name(alloc, b"t")?,
+        values,
+    })
+}
+
+fn select(alloc: Global, what: Made<What>, scan: Made<Scan>) -> Made<Statement> {
+    let what = what?;
+    let scan = scan?;
+    Ok(Statement::Select {
+        what,
+        table: name(alloc, b"w")?,
+        scan,
+    })
+}
+
+fn select_into(alloc: Global, key: Made<Expr>) -> Made<Statement> {
+    let key = key?;
+    let column = name(alloc, b"bal")?;
+    let var = name(alloc, b"x")?;
+    Ok(Statement::SelectInto {
+        column,
+        var,
+        table: name(alloc, b"acct")?,
+        key,
+    })
+}
+
+fn set(alloc: Global, column: &[u8], value: Made<Expr>) -> Made<Set> {
+    let value = value?;
+    Ok(Set {
+        column: name(alloc, column)?,
+        value,
+    })
+}
+
+fn update(alloc: Global, sets: Made<Sets>, scan: Made<Scan>) -> Made<Statement> {
+    let sets = sets?;
+    let scan = scan?;
+    Ok(Statement::Update {
+        table: name(alloc, b"acct")?,
+        sets,
+        scan,
+    })
+}
+
+fn delete(alloc: Global, scan: Made<Scan>) -> Made<Statement> {
+    let scan = scan?;
+    Ok(Statement::Delete {
+        table: name(alloc, b"t")?,
+        scan,
+    })
+}
+
+fn ensure(condition: Made<Expr>) -> Made<Statement> {
+    Ok(Statement::Ensure(condition?))
+}
+
+fn columns(names: Made<Names>) -> Made<What> {
+    Ok(What::Columns(names?))
+}
+
+fn greatest(alloc: Global) -> Made<What> {
+    Ok(What::Max(name(alloc, b"bal")?))
+}
+
+// ---- tables and programs
+
+fn field(alloc: Global, bytes: &[u8], kind: ColType, nullable: bool) -> Made<Field> {
     Ok(Field {
         name: name(alloc, bytes)?,
         kind,
@@ -54,223 +173,121 @@ fn field(alloc: Global, bytes: &[u8], kind: ColType, nullable: bool) -> Result<F
     })
 }
 
-fn insert(alloc: Global) -> Result<Statement, Fail> {
-    let mut values = Exprs::new(alloc);
-    values.push(number(5))?;
-    values.push(number(-3))?;
-    values.push(letters(alloc, b"it's")?)?;
-    Ok(Statement::Insert {
-        table: name(alloc, b"t")?,
-        values,
+fn table(alloc: Global, columns: Made<Fields>, checks: Made<Exprs>) -> Made<TableDef> {
+    let columns = columns?;
+    let checks = checks?;
+    Ok(TableDef {
+        name: name(alloc, b"w")?,
+        columns,
+        checks,
     })
 }
 
-fn select(alloc: Global) -> Result<Statement, Fail> {
-    let mut columns = Names::new(alloc);
-    columns.push(name(alloc, b"n")?)?;
-    columns.push(name(alloc, b"id")?)?;
-    let equal = binary(
-        alloc,
-        column(alloc, b"n")?,
-        Op::Equal,
-        letters(alloc, b"x")?,
-    )?;
-    Ok(Statement::Select {
-        what: What::Columns(columns),
-        table: name(alloc, b"w")?,
-        scan: Scan {
-            bound: Bound::Between(number(0), number(3)),
-            filter: Some(not(alloc, equal)?),
-        },
+fn part(
+    block: Made<Statements>,
+    then: Option<Next>,
+    retry: Option<u8>,
+    on_failure: Option<Next>,
+) -> Made<PartDef> {
+    Ok(PartDef {
+        block: block?,
+        then,
+        retry,
+        on_failure,
     })
 }
 
-fn count(alloc: Global) -> Result<Statement, Fail> {
-    let low = binary(alloc, column(alloc, b"a")?, Op::AtMost, number(1))?;
-    let other = binary(
-        alloc,
-        column(alloc, b"b")?,
-        Op::Unequal,
-        variable(alloc, b"x")?,
-    )?;
-    Ok(Statement::Select {
-        what: What::Count,
-        table: name(alloc, b"t")?,
-        scan: Scan {
-            bound: Bound::All,
-            filter: Some(binary(alloc, low, Op::Or, other)?),
-        },
+fn acid(block: Made<Statements>) -> Made<Body> {
+    Ok(Body::Acid(block?))
+}
+
+fn base(parts: Made<Parts>) -> Made<Body> {
+    Ok(Body::Base(parts?))
+}
+
+fn program(
+    alloc: Global,
+    params: Made<Fields>,
+    vars: Made<Fields>,
+    body: Made<Body>,
+) -> Made<ProgramDef> {
+    let params = params?;
+    let vars = vars?;
+    let body = body?;
+    Ok(ProgramDef {
+        name: name(alloc, b"p")?,
+        params,
+        vars,
+        body,
     })
 }
 
-fn greatest(alloc: Global) -> Result<Statement, Fail> {
-    Ok(Statement::Select {
-        what: What::Max(name(alloc, b"bal")?),
-        table: name(alloc, b"acct")?,
-        scan: Scan {
-            bound: Bound::All,
-            filter: None,
-        },
-    })
+/// The parts go on at the next one, at a later one and at the end.
+fn four_parts(alloc: Global) -> Made<Parts> {
+    let read = select_into(alloc, number(2));
+    let read = part(with(none(alloc), read), None, None, None);
+    let remove = delete(alloc, every_row(at_key(variable(alloc, b"x"))));
+    let check = ensure(variable(alloc, b"a"));
+    let remove = part(
+        with(with(none(alloc), remove), check),
+        Some(Next::Part(4)),
+        Some(9),
+        Some(Next::Part(3)),
+    );
+    let show = select(alloc, greatest(alloc), every_row(Ok(Bound::All)));
+    let show = part(
+        with(none(alloc), show),
+        Some(Next::End),
+        Some(1),
+        Some(Next::End),
+    );
+    let last = part(none(alloc), None, None, Some(Next::End));
+    with(with(with(with(none(alloc), read), remove), show), last)
 }
 
-fn select_into(alloc: Global) -> Result<Statement, Fail> {
-    Ok(Statement::SelectInto {
-        column: name(alloc, b"bal")?,
-        var: name(alloc, b"x")?,
-        table: name(alloc, b"acct")?,
-        key: binary(alloc, number(1), Op::Mul, number(2))?,
-    })
+fn transfer(alloc: Global) -> Made<ProgramDef> {
+    let params = with(none(alloc), field(alloc, b"a", ColType::Int, false));
+    let params = with(params, field(alloc, b"b", ColType::Text, false));
+    let vars = with(none(alloc), field(alloc, b"x", ColType::Int, false));
+    let vars = with(vars, field(alloc, b"y", ColType::Text, false));
+    program(alloc, params, vars, base(four_parts(alloc)))
 }
 
-fn update(alloc: Global) -> Result<Statement, Fail> {
-    let mut sets = Sets::new(alloc);
-    sets.push(Set {
-        column: name(alloc, b"bal")?,
-        value: binary(
-            alloc,
-            column(alloc, b"bal")?,
-            Op::Sub,
-            variable(alloc, b"amt")?,
-        )?,
-    })?;
-    sets.push(Set {
-        column: name(alloc, b"n")?,
-        value: binary(alloc, column(alloc, b"n")?, Op::Join, letters(alloc, b"")?)?,
-    })?;
-    Ok(Statement::Update {
-        table: name(alloc, b"acct")?,
-        sets,
-        scan: Scan {
-            bound: Bound::Key(variable(alloc, b"a")?),
-            filter: None,
-        },
-    })
-}
+const TRANSFER: &[u8] = b"program p(a int, b text) var x int, y text base \
+part { select bal into :x from acct where key = 2 } \
+part { delete from t where key = :x; ensure :a } then go 4 on failure retry 9 then go 3 \
+part { select max(bal) from w } then end on failure retry 1 then end \
+part { } on failure end end";
 
-fn delete(alloc: Global) -> Result<Statement, Fail> {
-    Ok(Statement::Delete {
-        table: name(alloc, b"t")?,
-        scan: Scan {
-            bound: Bound::Key(number(1)),
-            filter: Some(column(alloc, b"flag")?),
-        },
-    })
-}
-
-fn ensure(alloc: Global) -> Result<Statement, Fail> {
-    Ok(Statement::Ensure(binary(alloc, number(1), Op::Equal, number(2))?))
-}
-
-fn insert_null(alloc: Global) -> Result<Statement, Fail> {
-    let mut values = Exprs::new(alloc);
-    values.push(Expr::Lit(Value::Null))?;
-    values.push(null_test(alloc, column(alloc, b"a")?, false)?)?;
-    Ok(Statement::Insert {
-        table: name(alloc, b"t")?,
-        values,
-    })
-}
-
-fn update_to_null(alloc: Global) -> Result<Statement, Fail> {
-    let sum = binary(alloc, column(alloc, b"a")?, Op::Add, number(1))?;
-    let mut sets = Sets::new(alloc);
-    sets.push(Set {
-        column: name(alloc, b"b")?,
-        value: Expr::Lit(Value::Null),
-    })?;
-    Ok(Statement::Update {
-        table: name(alloc, b"t")?,
-        sets,
-        scan: Scan {
-            bound: Bound::Key(number(1)),
-            filter: Some(null_test(alloc, sum, true)?),
-        },
-    })
-}
+// ---- texts
 
 /// The text of a copy.
-fn printed(alloc: Global, statement: Statement) -> Result<Vec<u8>, AllocError> {
+fn printed(alloc: Global, statement: Made<Statement>) -> Made<Vec<u8>> {
+    let statement = statement?;
     let mut out = Vec::new(alloc);
     print_statement(&mut out, &statement.copy(alloc)?)?;
     Ok(out)
 }
 
-#[test]
-fn statements_and_their_texts(rt: HostRuntime) -> Result<(), Fail> {
-    let alloc = rt.alloc();
-    let cases: [(Vec<u8>, &[u8]); 10] = [
-        (
-            printed(alloc, insert(alloc)?)?,
-            b"insert into t values (5, -3, 'it''s')",
-        ),
-        (
-            printed(alloc, select(alloc)?)?,
-            b"select n, id from w where key between 0 and 3 and (not (n = 'x'))",
-        ),
-        (
-            printed(alloc, count(alloc)?)?,
-            b"select count(*) from t where ((a <= 1) or (b <> :x))",
-        ),
-        (
-            printed(alloc, greatest(alloc)?)?,
-            b"select max(bal) from acct",
-        ),
-        (
-            printed(alloc, select_into(alloc)?)?,
-            b"select bal into :x from acct where key = (1 * 2)",
-        ),
-        (
-            printed(alloc, update(alloc)?)?,
-            b"update acct set bal = (bal - :amt), n = (n || '') where key = :a",
-        ),
-        (
-            printed(alloc, delete(alloc)?)?,
-            b"delete from t where key = 1 and flag",
-        ),
-        (printed(alloc, ensure(alloc)?)?, b"ensure (1 = 2)"),
-        (
-            printed(alloc, insert_null(alloc)?)?,
-            b"insert into t values (null, (a is null))",
-        ),
-        (
-            printed(alloc, update_to_null(alloc)?)?,
-            b"update t set b = null where key = 1 and ((a + 1) is not null)",
-        ),
-    ];
-    for (text, want) in &cases {
-        assert_eq!(rt; text.as_slice(), *want);
-    }
-    Ok(())
-}
-
-#[test]
-fn a_table_and_its_text(rt: HostRuntime) -> Result<(), Fail> {
-    let alloc = rt.alloc();
-    let mut columns = Fields::new(alloc);
-    columns.push(field(alloc, b"id", ColType::Int, false)?)?;
-    columns.push(field(alloc, b"n", ColType::Text, false)?)?;
-    columns.push(field(alloc, b"k", ColType::Int, true)?)?;
-    let mut checks = Exprs::new(alloc);
-    checks.push(binary(alloc, column(alloc, b"id")?, Op::AtLeast, number(0))?)?;
-    checks.push(binary(alloc, column(alloc, b"n")?, Op::Less, letters(alloc, b"m")?)?)?;
-    checks.push(null_test(alloc, column(alloc, b"k")?, false)?)?;
-    let def = TableDef {
-        name: name(alloc, b"w")?,
-        columns,
-        checks,
-    };
+/// The text of a copy, behind other bytes.
+fn printed_table(alloc: Global, def: Made<TableDef>) -> Made<Vec<u8>> {
+    let def = def?;
     let mut out = Vec::from_slice(alloc, b"1 ")?;
     print_table(&mut out, &def.copy(alloc)?)?;
-    assert_eq!(rt;
-        out.as_slice(),
-        b"1 create table w (id int key, n text, k int null, check (id >= 0), check (n < 'm'), check (k is null))".as_slice()
-    );
-    Ok(())
+    Ok(out)
+}
+
+/// The text of a copy.
+fn printed_program(alloc: Global, def: Made<ProgramDef>) -> Made<Vec<u8>> {
+    let def = def?;
+    let mut out = Vec::new(alloc);
+    print_program(&mut out, &def.copy(alloc)?)?;
+    Ok(out)
 }
 
 /// What the printer puts into a sink.
-fn sent<T: Canonical>(alloc: Global, tree: &T) -> Result<Vec<u8>, AllocError> {
+fn sent<T: Canonical + Drop>(alloc: Global, tree: Made<T>) -> Made<Vec<u8>> {
+    let tree = tree?;
     let mut sink = MemSink::new(alloc, 99)?;
     let mut out = Printer {
         sink: &mut sink,
@@ -280,154 +297,222 @@ fn sent<T: Canonical>(alloc: Global, tree: &T) -> Result<Vec<u8>, AllocError> {
     Vec::from_slice(alloc, sink.bytes())
 }
 
+fn expect(rt: &impl Abort, text: Made<Vec<u8>>, want: &[u8]) -> Made<()> {
+    assert_eq!(rt; text?.as_slice(), want);
+    Ok(())
+}
+
 #[test]
-fn rows_names_and_stops(rt: HostRuntime) -> Result<(), Fail> {
+fn statements_and_their_texts(rt: HostRuntime) -> Made<()> {
     let alloc = rt.alloc();
-    let mut row = Row::new(alloc);
-    let empty = sent(alloc, &row)?;
-    row.push(Value::Int(i64::MIN))?;
-    row.push(Value::Text(Text::new(alloc, b"'a'")?))?;
+    let values = with(with(none(alloc), number(5)), number(-3));
+    let values = insert(alloc, with(values, letters(alloc, b"it's")));
+    expect(
+        &rt,
+        printed(alloc, values),
+        b"insert into t values (5, -3, 'it''s')",
+    )?;
+
+    let names = with(with(none(alloc), name(alloc, b"n")), name(alloc, b"id"));
+    let unequal = not(
+        alloc,
+        binary(alloc, column(alloc, b"n"), Op::Equal, number(7)),
+    );
+    let scan = filtered(between(number(0), number(3)), unequal);
+    expect(
+        &rt,
+        printed(alloc, select(alloc, columns(names), scan)),
+        b"select n, id from w where key between 0 and 3 and (not (n = 7))",
+    )?;
+
+    let low = binary(alloc, column(alloc, b"a"), Op::AtMost, number(1));
+    let other = binary(
+        alloc,
+        column(alloc, b"b"),
+        Op::Unequal,
+        variable(alloc, b"x"),
+    );
+    let scan = filtered(Ok(Bound::All), binary(alloc, low, Op::Or, other));
+    expect(
+        &rt,
+        printed(alloc, select(alloc, Ok(What::Count), scan)),
+        b"select count(*) from w where ((a <= 1) or (b <> :x))",
+    )?;
+
+    let key = binary(alloc, number(1), Op::Mul, number(2));
+    expect(
+        &rt,
+        printed(alloc, select_into(alloc, key)),
+        b"select bal into :x from acct where key = (1 * 2)",
+    )?;
+
+    let left = binary(alloc, column(alloc, b"n"), Op::Join, letters(alloc, b""));
+    let sets = with(
+        with(none(alloc), set(alloc, b"bal", number(1))),
+        set(alloc, b"n", left),
+    );
+    let scan = every_row(at_key(variable(alloc, b"a")));
+    expect(
+        &rt,
+        printed(alloc, update(alloc, sets, scan)),
+        b"update acct set bal = 1, n = (n || '') where key = :a",
+    )?;
+
+    let scan = filtered(at_key(number(1)), column(alloc, b"flag"));
+    expect(
+        &rt,
+        printed(alloc, delete(alloc, scan)),
+        b"delete from t where key = 1 and flag",
+    )?;
+    let unequal = binary(alloc, number(1), Op::Equal, number(2));
+    expect(&rt, printed(alloc, ensure(unequal)), b"ensure (1 = 2)")
+}
+
+#[test]
+fn null_in_statements(rt: HostRuntime) -> Made<()> {
+    let alloc = rt.alloc();
+    let values = with(none(alloc), Ok(Expr::Lit(Value::Null)));
+    let values = with(values, null_test(alloc, column(alloc, b"a"), false));
+    expect(
+        &rt,
+        printed(alloc, insert(alloc, values)),
+        b"insert into t values (null, (a is null))",
+    )?;
+
+    let sets = with(none(alloc), set(alloc, b"b", Ok(Expr::Lit(Value::Null))));
+    let sum = binary(alloc, column(alloc, b"a"), Op::Add, number(1));
+    let scan = filtered(at_key(number(1)), null_test(alloc, sum, true));
+    expect(
+        &rt,
+        printed(alloc, update(alloc, sets, scan)),
+        b"update acct set b = null where key = 1 and ((a + 1) is not null)",
+    )
+}
+
+#[test]
+fn a_table_and_its_text(rt: HostRuntime) -> Made<()> {
+    let alloc = rt.alloc();
+    let columns = with(none(alloc), field(alloc, b"id", ColType::Int, false));
+    let columns = with(columns, field(alloc, b"n", ColType::Text, false));
+    let columns = with(columns, field(alloc, b"k", ColType::Int, true));
+    let least = binary(alloc, column(alloc, b"id"), Op::AtLeast, number(0));
+    let checks = with(none(alloc), least);
+    let checks = with(checks, null_test(alloc, column(alloc, b"k"), false));
+    expect(
+        &rt,
+        printed_table(alloc, table(alloc, columns, checks)),
+        b"1 create table w (id int key, n text, k int null, check (id >= 0), check (k is null))",
+    )
+}
+
+#[test]
+fn programs_and_their_texts(rt: HostRuntime) -> Made<()> {
+    let alloc = rt.alloc();
+    let steps = with(
+        none(alloc),
+        ensure(null_test(alloc, variable(alloc, b"x"), true)),
+    );
+    let steps = with(steps, delete(alloc, every_row(Ok(Bound::All))));
+    expect(
+        &rt,
+        printed_program(alloc, program(alloc, none(alloc), none(alloc), acid(steps))),
+        b"program p() acid { ensure (:x is not null); delete from t } end",
+    )?;
+    expect(&rt, printed_program(alloc, transfer(alloc)), TRANSFER)
+}
+
+#[test]
+fn rows_names_and_stops(rt: HostRuntime) -> Made<()> {
+    let alloc = rt.alloc();
+    let row: Made<Row> = with(none(alloc), Ok(Value::Int(i64::MIN)));
+    let row = with(row, text(alloc, b"'a'"));
     let base = Id {
         boot: 2,
         seq: u64::MAX,
     };
-    let cases: [(Vec<u8>, &[u8]); 5] = [
-        (empty, b"()"),
-        (sent(alloc, &row)?, b"(-9223372036854775808, '''a''')"),
-        (sent(alloc, &name(alloc, b"acct")?)?, b"acct"),
-        (sent(alloc, &base)?, b"b2.18446744073709551615"),
-        (sent(alloc, &(1_000_000, 4))?, b"1000000 4"),
-    ];
-    for (text, want) in &cases {
-        assert_eq!(rt; text.as_slice(), *want);
-    }
-    Ok(())
+    expect(&rt, sent(alloc, none::<Value>(alloc)), b"()")?;
+    expect(&rt, sent(alloc, row), b"(-9223372036854775808, '''a''')")?;
+    expect(&rt, sent(alloc, name(alloc, b"acct")), b"acct")?;
+    expect(&rt, sent(alloc, Ok(base)), b"b2.18446744073709551615")?;
+    expect(&rt, sent(alloc, Ok((1_000_000, 4))), b"1000000 4")
+}
+
+/// A statement is sent to a sink with so much room, one of whose calls is to fail.
+fn expect_sent(
+    rt: &impl Abort,
+    statement: &Statement,
+    mut sink: MemSink,
+    outcome: Result<(), IoFailed>,
+    want: &[u8],
+) {
+    assert_eq!(rt; send_statement(&mut sink, statement), outcome);
+    assert_eq!(rt; sink.bytes(), want);
+}
+
+fn failing_sink(alloc: Global, room: usize, call: u64) -> Made<MemSink> {
+    let mut sink = MemSink::new(alloc, room)?;
+    sink.fail_call(call)?;
+    Ok(sink)
 }
 
 #[test]
-fn a_sink_that_fails(rt: HostRuntime) -> Result<(), Fail> {
+fn a_sink_that_fails(rt: HostRuntime) -> Made<()> {
     let alloc = rt.alloc();
-    let statement = insert(alloc)?;
-    let cases: [(usize, u64, Result<(), IoFailed>, &[u8]); 4] = [
-        (99, 99, Ok(()), b"insert into t values (5, -3, 'it''s')"),
-        (99, 1, Err(IoFailed), b""),
-        (99, 5, Err(IoFailed), b"insert into t values (5"),
-        (22, 99, Err(IoFailed), b"insert into t values ("),
-    ];
-    for (room, call, outcome, want) in cases {
-        let mut sink = MemSink::new(alloc, room)?;
-        sink.fail_call(call)?;
-        assert_eq!(rt; send_statement(&mut sink, &statement), outcome);
-        assert_eq!(rt; sink.bytes(), want);
-    }
-    Ok(())
-}
-
-fn block(alloc: Global, statement: Statement) -> Result<Statements, AllocError> {
-    let mut block = Statements::new(alloc);
-    block.push(statement)?;
-    Ok(block)
-}
-
-/// An ACID program with neither parameters nor variables, of two statements.
-fn two_steps(alloc: Global) -> Result<ProgramDef, Fail> {
-    let mut steps = block(alloc, ensure(alloc)?)?;
-    steps.push(delete(alloc)?)?;
-    Ok(ProgramDef {
-        name: name(alloc, b"steps")?,
-        params: Fields::new(alloc),
-        vars: Fields::new(alloc),
-        body: Body::Acid(steps),
-    })
-}
-
-/// Parts that go on at the next one, at a later one and at the end.
-fn parts(alloc: Global) -> Result<Parts, Fail> {
-    let mut parts = Parts::new(alloc);
-    parts.push(PartDef {
-        block: block(alloc, select_into(alloc)?)?,
-        then: None,
-        retry: None,
-        on_failure: None,
-    })?;
-    parts.push(PartDef {
-        block: block(alloc, update(alloc)?)?,
-        then: Some(Next::Part(4)),
-        retry: Some(9),
-        on_failure: Some(Next::Part(3)),
-    })?;
-    parts.push(PartDef {
-        block: block(alloc, greatest(alloc)?)?,
-        then: Some(Next::End),
-        retry: Some(1),
-        on_failure: Some(Next::End),
-    })?;
-    parts.push(PartDef {
-        block: Statements::new(alloc),
-        then: None,
-        retry: None,
-        on_failure: Some(Next::End),
-    })?;
-    Ok(parts)
-}
-
-/// A BASE program.
-fn transfer(alloc: Global) -> Result<ProgramDef, Fail> {
-    let mut params = Fields::new(alloc);
-    params.push(field(alloc, b"a", ColType::Int, false)?)?;
-    params.push(field(alloc, b"amt", ColType::Int, false)?)?;
-    let mut vars = Fields::new(alloc);
-    vars.push(field(alloc, b"x", ColType::Int, false)?)?;
-    vars.push(field(alloc, b"y", ColType::Text, false)?)?;
-    Ok(ProgramDef {
-        name: name(alloc, b"transfer")?,
-        params,
-        vars,
-        body: Body::Base(parts(alloc)?),
-    })
-}
-
-const TRANSFER: &[u8] = b"program transfer(a int, amt int) var x int, y text base \
-part { select bal into :x from acct where key = (1 * 2) } \
-part { update acct set bal = (bal - :amt), n = (n || '') where key = :a } then go 4 on failure retry 9 then go 3 \
-part { select max(bal) from acct } then end on failure retry 1 then end \
-part { } on failure end end";
-
-#[test]
-fn programs_and_their_texts(rt: HostRuntime) -> Result<(), Fail> {
-    let alloc = rt.alloc();
-    let mut out = Vec::from_slice(alloc, b"1 ")?;
-    print_program(&mut out, &two_steps(alloc)?.copy(alloc)?)?;
-    assert_eq!(rt;
-        out.as_slice(),
-        b"1 program steps() acid { ensure (1 = 2); delete from t where key = 1 and flag } end".as_slice()
+    let statement = insert(alloc, with(with(none(alloc), number(5)), number(-3)))?;
+    let whole = b"insert into t values (5, -3)";
+    expect_sent(&rt, &statement, failing_sink(alloc, 99, 99)?, Ok(()), whole);
+    expect_sent(
+        &rt,
+        &statement,
+        failing_sink(alloc, 99, 1)?,
+        Err(IoFailed),
+        b"",
     );
-    out.clear();
-    print_program(&mut out, &transfer(alloc)?.copy(alloc)?)?;
-    assert_eq!(rt; out.as_slice(), TRANSFER);
+    let front = b"insert into t values (5";
+    expect_sent(
+        &rt,
+        &statement,
+        failing_sink(alloc, 99, 5)?,
+        Err(IoFailed),
+        front,
+    );
+    let front = b"insert into t values (";
+    expect_sent(
+        &rt,
+        &statement,
+        failing_sink(alloc, 22, 99)?,
+        Err(IoFailed),
+        front,
+    );
     Ok(())
 }
 
+/// Whether all of a program is printed to the sink; if not, a front of it.
+fn is_whole(rt: &impl Abort, program: &ProgramDef, mut sink: MemSink) -> bool {
+    let mut out = Printer {
+        sink: &mut sink,
+        outcome: Ok(()),
+    };
+    program.print(&mut out);
+    let whole = out.outcome.is_ok();
+    assert_eq!(rt; whole, sink.bytes().len() == TRANSFER.len());
+    assert!(rt; TRANSFER.starts_with(sink.bytes()));
+    whole
+}
+
 #[test]
-fn a_program_that_is_cut_short(rt: HostRuntime) -> Result<(), Fail> {
+fn a_program_that_is_cut_short(rt: HostRuntime) -> Made<()> {
     let alloc = rt.alloc();
     let program = transfer(alloc)?;
+    let mut cut = 0;
     for call in 1..200 {
-        let mut sink = MemSink::new(alloc, 999)?;
-        sink.fail_call(call)?;
-        let mut out = Printer {
-            sink: &mut sink,
-            outcome: Ok(()),
-        };
-        program.print(&mut out);
-        if out.outcome.is_ok() {
-            assert_eq!(rt; sink.bytes(), TRANSFER);
-            return Ok(());
+        if is_whole(&rt, &program, failing_sink(alloc, 999, call)?) {
+            cut = call;
+            break;
         }
-        assert!(rt; sink.bytes().len() < TRANSFER.len());
-        assert!(rt; TRANSFER.starts_with(sink.bytes()));
     }
-    panic!(rt; "no write of them all is the last")
+    assert!(rt; cut > 60);
+    Ok(())
 }
 
 #[test]

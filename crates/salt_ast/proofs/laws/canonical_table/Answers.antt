@@ -2,11 +2,4 @@ use Rattle.salt_ast.proofs.CanonicalTables.{canonical_table}
 use Rattle.salt_ast.proofs.laws.canonical_table.Goals as goal
 
 pub returns : goal.returns
-returns c = canonical_table (record {
-  words = c.keyword_spellings.ensures.words;
-  keywords = c.keyword_spellings.ensures.read;
-  signs = c.sign_spellings.ensures;
-  texts = c.quoted_text.ensures;
-  numbers = c.written_number.ensures.tokens;
-  values = c.written_number.ensures.read;
-})
+returns c = canonical_table c.written_tokens.ensures
