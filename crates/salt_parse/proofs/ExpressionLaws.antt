@@ -4,15 +4,15 @@ use Rattle.std.proofs.Common.{subst, ◌∙◌, append_assoc, arith, length-appe
 use Rattle.std.proofs.lemmas.Bool.{eq-eqb, eqb-true}
 use Rattle.std.proofs.lemmas.List.{append-nil}
 use Rattle.salt_ast.specs.Grammar.{Atom, Comparison, Conjunction, Expression, Left, Negation, Nots, Once, Product, Sum, Within, alone, colon, literal}
-use Rattle.salt_ast.specs.Grammar.{minus_int, more, named, not, one, pair, paren, plain, plus_int}
+use Rattle.salt_ast.specs.Grammar.{is_not_null, is_null, minus_int, more, named, not, one, pair, paren, plain, plus_int}
 use Rattle.salt_ast.specs.Operators.{operator, precedence}
-use Rattle.salt_ast.specs.Trees.{negation, operation}
+use Rattle.salt_ast.specs.Trees.{negation, null_test, operation}
 use Rattle.salt_ast.specs.declared.trees.Expr.{Expr}
 use Rattle.salt_ast.specs.declared.trees.Op.{Op}
-use Rattle.salt_parse.specs.Reading.{after, at_operator, is_same, next_operator, of_level}
+use Rattle.salt_parse.specs.Reading.{after, at_operator, either, is_same, next_operator, of_level}
 use Rattle.salt_parse.proofs.Loop.{after_is}
 use Rattle.salt_parse.proofs.Trees.{TreeReader, atom_of, colon_of, comparison_of, conjunction_of, expression_of, left_of, minus_of, negation_of}
-use Rattle.salt_parse.proofs.Trees.{nots_of, once_of, paren_of, product_of, second_of, sum_of, tail_of, within_of}
+use Rattle.salt_parse.proofs.Trees.{is_of, nots_of, null_test_of, once_of, paren_of, product_of, second_of, sum_of, tail_of, tested_of, within_of}
 use Rattle.salt_tokens.specs.Scanning.{◌>>=◌}
 use Rattle.salt_tokens.specs.Symbols.{Symbols, Symbol, int, key, name, sign, text}
 use Rattle.salt_tokens.specs.declared.keyword.Keyword.{Keyword}
@@ -65,6 +65,12 @@ found x = Some x
 pub some_is : {A : Type 0} (x y : A) → found x ≡ found y → x ≡ y
 some_is x y e = cc
 
+-- which of two ways reading went
+pub either_is : {A : Type 0} (o : Option Symbols) (a : Option A) (f : Symbols → Option A) (y : A) (B : Type 0) → either o a f ≡ Some y →
+    (o ≡ None → a ≡ Some y → B) → ((us : Symbols) → o ≡ Some us → f us ≡ Some y → B) → B
+either_is None a f y B h g k = g refl h
+either_is (Some us) a f y B h g k = k us refl h
+
 -- the same tree under another name
 at_tree : (G : Symbols → Expr → Type 0) (front : Symbols) (x y : Expr × Symbols) → x ≡ y → G front x.0 → G front y.0
 at_tree G front x y e g = subst (λ (z : Expr × Symbols). G front z.0) e g
@@ -73,10 +79,16 @@ at_tree G front x y e g = subst (λ (z : Expr × Symbols). G front z.0) e g
 abbrev pub Sound : (Symbols → Expr → Type 0) → TreeReader Expr → Type 0
 Sound G read = (ts : Symbols) (e : Expr) (rest : Symbols) → read ts ≡ Some (e, rest) → (front : Symbols) × (ts ≡ front ++ rest) × G front e
 
--- no operation that binds as tightly as this comes next
+-- how tightly what a symbol begins binds to the operand before it, a test for NULL as tightly as a comparison, or 0
+abbrev pub tightness : Option Op → Symbol → ℕ
+tightness (Some o) t = precedence o
+tightness None (key word.Is) = 3
+tightness None t = 0
+
+-- nothing that binds as tightly as this comes next
 abbrev pub Stops : ℕ → Symbols → Type 0
 Stops level [] = Unit {0}
-Stops level (t ∷ ts) = (o : Op) → operator t ≡ Some o → precedence o < level
+Stops level (t ∷ ts) = tightness (operator t) t < level
 
 -- what is spelled so is read
 abbrev pub Complete : ℕ → (Symbols → Expr → Type 0) → TreeReader Expr → Type 0
@@ -84,18 +96,18 @@ Complete level G read = (ts rest : Symbols) (e : Expr) → G ts e → Stops leve
 
 pub Stops-weaker : (k n : ℕ) (ts : Symbols) → k ≤ n → Stops k ts → Stops n ts
 Stops-weaker k n [] le h = tt
-Stops-weaker k n (t ∷ ts) le h = λ o e. omega (arith, h o e)
+Stops-weaker k n (t ∷ ts) le h = omega arith
 
 -- a token of this level
 of_level-at : (level : ℕ) (o : Op) → precedence o ≡ level → of_level level (Some o) ≡ Some o
 of_level-at level o e = let b : eqb (precedence o) level ≡ true = eq-eqb (precedence o) level e in rw b refl
 
-of_level-below : (level : ℕ) (q : Option Op) → ((o : Op) → q ≡ Some o → precedence o < level) → of_level level q ≡ None
-of_level-below level None h = refl
-of_level-below level (Some o) h = go (eqb (precedence o) level) refl
+of_level-below : (level : ℕ) (q : Option Op) (t : Symbol) → tightness q t < level → of_level level q ≡ None
+of_level-below level None t h = refl
+of_level-below level (Some o) t h = go (eqb (precedence o) level) refl
   where
     go : (b : Bool) → eqb (precedence o) level ≡ b → cond b (Some o) None ≡ None
-    go true e = let k : precedence o ≡ level = eqb-true (precedence o) level e in absurd (omega (arith, h o refl))
+    go true e = let k : precedence o ≡ level = eqb-true (precedence o) level e in absurd (omega arith)
     go false e = refl
 
 of_level-is : (level : ℕ) (q : Option Op) (o : Op) → of_level level q ≡ Some o → (q ≡ Some o) × (precedence o ≡ level)
@@ -114,11 +126,49 @@ next-at level t ts o e lv =
 next-stops : (level : ℕ) (ts : Symbols) → Stops level ts → next_operator level ts ≡ (None, ts)
 next-stops level [] h = refl
 next-stops level (t ∷ ts) h = ap (λ (q : Option Op). at_operator {A = Option Op × Symbols} q (None, t ∷ ts) (λ o. (Some o, ts)))
-    (of_level-below level (operator t) h)
+    (of_level-below level (operator t) t h)
 
-second_stops : (level : ℕ) (read : TreeReader Expr) (l : Expr) (ts : Symbols) → Stops level ts → second_of level read l ts ≡ Some (l, ts)
-second_stops level read l [] h = refl
-second_stops level read l (t ∷ ts) h = rw (of_level-below level (operator t) h) refl
+no_test : (t : Symbol) (ts : Symbols) → Stops 3 (t ∷ ts) → after (key word.Is) (t ∷ ts) ≡ None
+unfolding after
+no_test (key word.Is) ts h = absurd (omega arith)
+no_test _ ts h = refl
+
+second_stops : (read : TreeReader Expr) (l : Expr) (ts : Symbols) → Stops 3 ts → second_of 3 read l ts ≡ Some (l, ts)
+second_stops read l [] h = refl
+second_stops read l (t ∷ ts) h = rw (of_level-below 3 (operator t) t h, no_test t ts h) refl
+
+-- ---- tests for NULL
+
+module _ (level : ℕ) (G : Symbols → Expr → Type 0) (l e : Expr) (rest ts front : Symbols) where
+  abbrev IsRead : Type 0
+  IsRead = (whole : Symbols) × (ts ≡ whole ++ rest) × Once level G whole e
+
+  alone_sound : (us : Symbols) → ts ≡ front ++ us → G front l → ◌≡◌ {A = Option (Expr × Symbols)} (Some (l, us)) (Some (e, rest)) → IsRead
+  alone_sound us is g k =
+      let p = some_is (l, us) (e, rest) k in
+      (front, is ∙ ap (λ (x : Expr × Symbols). front ++ x.1) p, at_tree (Once level G) _ _ (e, rest) p (alone g))
+
+  tested_sound : (negated : Bool) (mid us : Symbols) → ts ≡ front ++ (mid ++ us) → Once level G (front ++ (mid ++ key word.Null ∷ [])) (null_test negated l) →
+      tested_of negated l us ≡ Some (e, rest) → IsRead
+  tested_sound negated mid us is g k =
+      let b = bind_some (after (key word.Null) us) (λ vs. Some (null_test negated l, vs)) (e, rest) k in
+      let p = some_is (null_test negated l, b.0) (e, rest) b.2 in
+      let last : Symbols = key word.Null ∷ [] in
+      let read : us ≡ key word.Null ∷ rest = after_is (key word.Null) us b.0 b.1 ∙ ap (λ (x : Expr × Symbols). key word.Null ∷ x.1) p in
+      let regroup : front ++ (mid ++ key word.Null ∷ rest) ≡ (front ++ (mid ++ last)) ++ rest = ap (λ (x : Symbols). front ++ x)
+      (sym (append_assoc mid last rest)) ∙ sym (append_assoc front (mid ++ last) rest) in
+      (front ++ (mid ++ last), is ∙ ap (λ (x : Symbols). front ++ (mid ++ x)) read ∙ regroup, at_tree (Once level G) _ _ (e, rest) p g)
+
+  null_test_sound : (us : Symbols) → ts ≡ front ++ us → G front l → null_test_of l us ≡ Some (e, rest) → IsRead
+  null_test_sound us is g k =
+      either_is (after (key word.Is) us) (Some (l, us)) (is_of l) (e, rest) IsRead k
+      (λ none j. alone_sound us is g j)
+      (λ vs some j.
+      let tested : ts ≡ front ++ key word.Is ∷ vs = is ∙ ap (λ (x : Symbols). front ++ x) (after_is (key word.Is) us vs some) in
+      either_is (after (key word.Not) vs) (tested_of false l vs) (tested_of true l) (e, rest) IsRead j
+      (λ none m. tested_sound false (key word.Is ∷ []) vs tested (is_null g) m)
+      (λ ws any m. tested_sound true (key word.Is ∷ key word.Not ∷ []) ws
+      (tested ∙ ap (λ (x : Symbols). front ++ key word.Is ∷ x) (after_is (key word.Not) vs ws any)) (is_not_null g) m))
 
 -- ---- operands grouped to the left
 
@@ -151,7 +201,7 @@ module _ (level : ℕ) (G : Symbols → Expr → Type 0) (read : TreeReader Expr
   left_continues c rest (more {a = a} {b = b} {o = o} {l = l} {r = r} d t eq lv g) st =
       let tail = b ++ rest in
       let regroup : (a ++ t ∷ b) ++ rest ≡ a ++ t ∷ tail = append_assoc a (t ∷ b) rest in
-      let stops : Stops (suc level) (t ∷ tail) = λ p h. (let same : p ≡ o = cc (h, eq) in rw (same, lv) (omega arith)) in
+      let stops : Stops (suc level) (t ∷ tail) = rw (eq, lv) (omega arith) in
       let ih = left_continues c (t ∷ tail) d stops in
       let step = (tail_step level read (length (t ∷ tail)) l (t ∷ tail) tail o (next-at level t tail o eq lv)).1 in
       let operand : read tail ≡ Some (r, rest) = c b rest r g st in
@@ -214,17 +264,13 @@ module _ (level : ℕ) (G : Symbols → Expr → Type 0) (read : TreeReader Expr
 
       finish : (us : Symbols) (front : Symbols) → ts ≡ front ++ us → G front b.0.0 → second_of level read b.0.0 us ≡ Some (e, rest) →
           (whole : Symbols) × (ts ≡ whole ++ rest) × Once level G whole e
-      finish [] front is g k =
-          let p = some_is (b.0.0, []) (e, rest) k in
-          (front, is ∙ ap (λ (x : Expr × Symbols). front ++ x.1) p, at_tree (Once level G) _ _ (e, rest) p (alone g))
+      finish [] front is g k = alone_sound level G b.0.0 e rest ts front [] is g k
       finish (t ∷ us) front is g k = go (of_level level (operator t)) refl k
         where
           go : (q : Option Op) → of_level level (operator t) ≡ q →
-              at_operator {A = Option (Expr × Symbols)} q (Some (b.0.0, t ∷ us)) (λ o. read us >>= λ x. Some (operation o b.0.0 x.0, x.1)) ≡ Some
+              at_operator {A = Option (Expr × Symbols)} q (null_test_of b.0.0 (t ∷ us)) (λ o. read us >>= λ x. Some (operation o b.0.0 x.0, x.1)) ≡ Some
               (e, rest) → (whole : Symbols) × (ts ≡ whole ++ rest) × Once level G whole e
-          go None j k =
-              let p = some_is (b.0.0, t ∷ us) (e, rest) k in
-              (front, is ∙ ap (λ (x : Expr × Symbols). front ++ x.1) p, at_tree (Once level G) _ _ (e, rest) p (alone g))
+          go None j k = null_test_sound level G b.0.0 e rest ts front (t ∷ us) is g k
           go (Some o) j k =
               let op = of_level-is level (operator t) o j in
               let b2 = bind_some (read us) (λ x. Some (operation o b.0.0 x.0, x.1)) (e, rest) k in
@@ -234,16 +280,27 @@ module _ (level : ℕ) (G : Symbols → Expr → Type 0) (read : TreeReader Expr
               ∙ ap (λ (x : Symbols). front ++ t ∷ x) (s2.1 ∙ ap (λ (x : Expr × Symbols). s2.0 ++ x.1) p) ∙ sym (append_assoc front (t ∷ s2.0) rest) in
               (front ++ t ∷ s2.0, parts, at_tree (Once level G) _ _ (e, rest) p (pair g t op.0 op.1 s2.2))
 
-  pub once_complete : Complete (suc level) G read → Complete level (Once level G) (once_of level read)
-  unfolding once_of
-  once_complete c ts rest e (alone g) st =
-      rw (c ts rest e g (Stops-weaker level (suc level) rest (omega arith) st)) (second_stops level read e rest st)
+-- a test for NULL binds as tightly as a comparison
+module _ (G : Symbols → Expr → Type 0) (read : TreeReader Expr) where
+  pub once_complete : Complete 4 G read → Complete 3 (Once 3 G) (once_of 3 read)
+  unfolding once_of after
+  once_complete c ts rest e (alone g) st = rw (c ts rest e g (Stops-weaker 3 4 rest (omega arith) st)) (second_stops read e rest st)
+  once_complete c _ rest _ (is_null {ts = ts} {e = e} g) st =
+      let behind : Symbols = key word.Is ∷ key word.Null ∷ rest in
+      let first : read ((ts ++ key word.Is ∷ key word.Null ∷ []) ++ rest) ≡ Some (e, behind) = ap read
+      (append_assoc ts (key word.Is ∷ key word.Null ∷ []) rest) ∙ c ts behind e g (omega arith) in
+      rw first refl
+  once_complete c _ rest _ (is_not_null {ts = ts} {e = e} g) st =
+      let behind : Symbols = key word.Is ∷ key word.Not ∷ key word.Null ∷ rest in
+      let first : read ((ts ++ key word.Is ∷ key word.Not ∷ key word.Null ∷ []) ++ rest) ≡ Some (e, behind) = ap read
+      (append_assoc ts (key word.Is ∷ key word.Not ∷ key word.Null ∷ []) rest) ∙ c ts behind e g (omega arith) in
+      rw first refl
   once_complete c _ rest _ (pair {a = a} {b = b} {o = o} {l = l} {r = r} g t eq lv g2) st =
       let tail = b ++ rest in
-      let stops : Stops (suc level) (t ∷ tail) = λ p h. (let same : p ≡ o = cc (h, eq) in rw (same, lv) (omega arith)) in
+      let stops : Stops 4 (t ∷ tail) = rw (eq, lv) (omega arith) in
       let first : read ((a ++ t ∷ b) ++ rest) ≡ Some (l, t ∷ tail) = ap read (append_assoc a (t ∷ b) rest) ∙ c a (t ∷ tail) l g stops in
-      let second : read tail ≡ Some (r, rest) = c b rest r g2 (Stops-weaker level (suc level) rest (omega arith) st) in
-      let at : of_level level (operator t) ≡ Some o = ap (of_level level) eq ∙ of_level-at level o lv in
+      let second : read tail ≡ Some (r, rest) = c b rest r g2 (Stops-weaker 3 4 rest (omega arith) st) in
+      let at : of_level 3 (operator t) ≡ Some o = ap (of_level 3) eq ∙ of_level-at 3 o lv in
       rw (first, at, second) refl
 
 -- ---- rows of `not`
@@ -319,7 +376,7 @@ module _ (Inner : Symbols → Expr → Type 0) (read : TreeReader Expr) where
   atom_complete level c _ rest _ named st = refl
   atom_complete level c _ rest _ colon st = refl
   atom_complete level c _ rest _ (paren {ts = ts} {e = e} d) st =
-      let stops : Stops 1 (sign mark.Close ∷ rest) = λ o h. absurd cc in
+      let stops : Stops 1 (sign mark.Close ∷ rest) = omega arith in
       let inside : read ((ts ++ sign mark.Close ∷ []) ++ rest) ≡ Some (e, sign mark.Close ∷ rest) = ap read
       (append_assoc ts (sign mark.Close ∷ []) rest) ∙ c ts (sign mark.Close ∷ rest) e d stops in
       rw inside refl
@@ -359,6 +416,8 @@ once_begins : (k : Keyword) (level : ℕ) (G : Symbols → Expr → Type 0) → 
     {ts : Symbols} {e : Expr} → Once level G ts e → Begins k ts
 once_begins k level G b {ts} {e} (alone g) = b ts e g
 once_begins k level G b (pair {a = a} {b = rest} {l = l} g t eq lv g2) = Begins-append k a (t ∷ rest) (b a l g)
+once_begins k level G b (is_null {ts = ts} {e = e} g) = Begins-append k ts (key word.Is ∷ key word.Null ∷ []) (b ts e g)
+once_begins k level G b (is_not_null {ts = ts} {e = e} g) = Begins-append k ts (key word.Is ∷ key word.Not ∷ key word.Null ∷ []) (b ts e g)
 
 nots_begins : (k : Keyword) (G : Symbols → Expr → Type 0) → is_same (key word.Not) (key k) ≡ false →
     ((ts : Symbols) (e : Expr) → G ts e → Begins k ts) → {ts : Symbols} {e : Expr} → Nots G ts e → Begins k ts
@@ -403,7 +462,7 @@ module _ (Inner : Symbols → Expr → Type 0) (read : TreeReader Expr) (s : Sou
     sum_complete = left_complete 4 (Product Inner) (product_of read) product_sound product_complete
 
     comparison_complete : Complete 3 (Comparison Inner) (comparison_of read)
-    comparison_complete = once_complete 3 (Sum Inner) (sum_of read) sum_sound sum_complete
+    comparison_complete = once_complete (Sum Inner) (sum_of read) sum_complete
 
     negation_complete : Complete 3 (Negation Inner) (negation_of read)
     negation_complete = nots_complete (Comparison Inner) (comparison_of read) 3

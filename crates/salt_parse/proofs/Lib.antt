@@ -1,5 +1,6 @@
 pub mod ExpressionLaws
 pub mod Levels
+pub mod ListLaws
 pub mod Listing
 pub mod Loop
 pub mod Mirror

@@ -6,10 +6,10 @@ use Rattle.salt_parse.specs.Answers.{Fails}
 use Rattle.salt_ast.specs.declared.trees.Expr.{Expr}
 use Rattle.salt_ast.specs.declared.trees.Field.{Field}
 use Rattle.salt_parse.specs.Flags.{BuiltTree, Flags}
-use Rattle.salt_parse.specs.Lists.{comma, either, following_at, listed_at, with_front}
+use Rattle.salt_parse.specs.Lists.{comma, following_at, listed_at, with_front}
 use Rattle.salt_parse.specs.Parsing.{Parsing}
-use Rattle.salt_parse.specs.Reading.{Read, Reader, after, is_same}
-use Rattle.salt_parse.specs.TableReading.{check_at, checks_at, field_at, field_comma, fields_at, further_field_at}
+use Rattle.salt_parse.specs.Reading.{Read, Reader, after, either, is_same}
+use Rattle.salt_parse.specs.TableReading.{check_at, checks_at, field_at, field_comma, fields_at, further_column_at}
 use Rattle.salt_parse.specs.declared.error.ParseErr.{ParseErr}
 use Rattle.salt_parse.specs.declared.error.ParseErr.TheVariants.{Limit, Memory, Syntax}
 use Rattle.salt_tokens.specs.Scanning.{◌>>=◌}
@@ -98,9 +98,9 @@ module _ {A : Type 0} (separator : Symbols → Option Symbols) (item : ℕ → R
       sym h.so_far ∙ ap (λ (n : ℕ). with_front front (following_at separator item (length front) n p.flags p.left)) k.1
       ∙ fails front (length front) k.0 p.flags p.left q.left a none
 
-pub IsListing-starts : {A : Type 0} (item : Reader A) (p q : Parsing) (x : A) → item p.flags p.left ≡ Some (x, q.flags, q.left) →
-    IsListing comma (λ n. item) (x ∷ []) q (listed_at item p.flags p.left)
-IsListing-starts item p q x h = record { room = length q.left; enough = omega arith; so_far = rw h refl }
+pub IsListing-starts : {A : Type 0} (separator : Symbols → Option Symbols) (item : ℕ → Reader A) (p q : Parsing) (x : A) →
+    item 0 p.flags p.left ≡ Some (x, q.flags, q.left) → IsListing separator item (x ∷ []) q (listed_at separator item p.flags p.left)
+IsListing-starts separator item p q x h = record { room = length q.left; enough = omega arith; so_far = rw h refl }
 
 pub comma_shortens : Shortens comma
 comma_shortens = after_shortens (sign mark.Comma)
@@ -119,7 +119,7 @@ field_comma_shortens ts us h = go (comma ts) refl h
         go2 (Some ws) k = absurd cc
 
 pub fields_start : (p q r : Parsing) (x : Field) → field_at p.flags p.left ≡ Some (x, q.flags, q.left) → after (key word.Key) q.left ≡ Some r.left →
-    r.flags ≡ q.flags → IsListing field_comma further_field_at (x ∷ []) r (fields_at p.flags p.left)
+    r.flags ≡ q.flags → IsListing field_comma further_column_at (x ∷ []) r (fields_at p.flags p.left)
 fields_start p q r x h a same = record { room = length r.left; enough = omega arith; so_far = rw (h, a, same) refl }
 
 pub checks_start : (inner : Reader BuiltTree) (p : Parsing) → IsListing comma (check_at inner) [] p (checks_at inner p.flags p.left)

@@ -1,14 +1,16 @@
 -- Reading operands and operations one after the other, as a loop does.
-use Rattle.std.proofs.Common.{◌≡◌, ◌≢◌, ℕ, zero, suc, ◌+◌, ◌-◌, ◌<◌, ◌≤◌, Bool, true, false, cond, [], ◌∷◌, length, Option, Some, None, refl, sym, ap}
-use Rattle.std.proofs.Common.{◌∙◌, arith, add-one, sub-one}
+use Rattle.std.proofs.Common.{◌≡◌, ◌≢◌, ℕ, zero, suc, ◌+◌, ◌-◌, ◌<◌, ◌≤◌, Bool, true, false, cond, [], ◌∷◌, length, Option, Some, None, Result, Ok, Err, refl, sym, ap}
+use Rattle.std.proofs.Common.{subst, ◌∙◌, arith, add-one, sub-one}
 use denote.Enum.Bare.{same_true}
 use Rattle.salt_ast.specs.Operators.{operator}
 use Rattle.salt_ast.specs.declared.trees.Op.{Op}
 use Rattle.salt_parse.specs.Answers.{Fails}
 use Rattle.salt_parse.specs.Flags.{BuiltTree, Flags, join_flags, join_tree}
-use Rattle.salt_parse.specs.Parsing.{Parsing}
+use Rattle.salt_parse.specs.Parsing.{Parsing, ReadsBuilt}
 use Rattle.salt_parse.specs.Reading.{Read, Reader, after, at_operator, expression_at, is_same, left_at, negate, negations, next_operator, nots_at}
+use Rattle.salt_parse.specs.Reading.{null_test_at, once_at, second_at}
 use Rattle.salt_parse.specs.Reading.{of_level, tail_at, under_nots, within_at}
+use Rattle.salt_parse.specs.declared.built.Built.{Built}
 use Rattle.salt_parse.specs.declared.error.ParseErr.{ParseErr}
 use Rattle.salt_parse.specs.declared.error.ParseErr.TheVariants.{Limit, Memory, Syntax}
 use Rattle.salt_tokens.specs.Scanning.{◌>>=◌}
@@ -161,3 +163,31 @@ negations-ends n i x total le h =
 
 pub same_read : (b b' : BuiltTree) (f f' : Flags) (ts ts' : Symbols) → b' ≡ b → f' ≡ f → ts' ≡ ts → ◌≡◌ {A = Read BuiltTree} (b', f', ts') (b, f, ts)
 same_read b b' f f' ts ts' p q r = rw (p, q, r) refl
+
+-- where no operation stands behind an operand, a test for NULL may
+second_alone : (operand : Reader BuiltTree) (l : BuiltTree) (f : Flags) (ts us : Symbols) → next_operator 3 ts ≡ (None, us) →
+    second_at 3 operand l f ts ≡ null_test_at l f ts
+unfolding after
+second_alone operand l f [] us h = refl
+second_alone operand l f (t ∷ ts) us h = go (of_level 3 (operator t)) h
+  where
+    go : (q : Option Op) → at_operator {A = Option Op × Symbols} q (None, t ∷ ts) (λ o. (Some o, ts)) ≡ (None, us) →
+        at_operator {A = Option (Read BuiltTree)} q (null_test_at l f (t ∷ ts))
+        (λ o. operand f ts >>= λ x. Some (join_tree o l x.0 x.1, join_flags l x.0 x.1, x.2)) ≡ null_test_at l f (t ∷ ts)
+    go None e = refl
+    go (Some p) e = absurd (cc (ap (λ (p : Option Op × Symbols). p.0) e))
+
+pub once_alone : (operand : Reader BuiltTree) (l : BuiltTree) (p q r s : Parsing) (result : Result Built ParseErr) →
+    operand p.flags p.left ≡ Some (l, q.flags, q.left) → next_operator 3 q.left ≡ (None, r.left) → r ≡ q →
+    ReadsBuilt result (null_test_at l) r s → ReadsBuilt result (once_at 3 operand) p s
+unfolding once_at
+once_alone operand l p q r s result read next stays h = go result (subst (λ (z : Parsing). ReadsBuilt result (null_test_at l) z s) stays h)
+  where
+    whole : once_at 3 operand p.flags p.left ≡ null_test_at l q.flags q.left
+    whole = rw read (second_alone operand l q.flags q.left r.left next)
+
+    go : (result : Result Built ParseErr) → ReadsBuilt result (null_test_at l) q s → ReadsBuilt result (once_at 3 operand) p s
+    go (Ok b) h = whole ∙ h
+    go (Err Memory) h = tt
+    go (Err Syntax) h = whole ∙ h
+    go (Err (Limit n)) h = h

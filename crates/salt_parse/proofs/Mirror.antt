@@ -6,39 +6,26 @@ use Rattle.std.specs.List.{list_all}
 use Rattle.std.specs.Prelude.{is_none, neg_ℤ, ℤ}
 use Rattle.salt_ast.specs.Limits.{expr_passed, height, is_high, name_passed}
 use Rattle.salt_ast.specs.Operators.{operator}
-use Rattle.salt_ast.specs.Trees.{letters, negation, number, operation}
+use Rattle.salt_ast.specs.Trees.{letters, negation, null_test, number, operation}
 use Rattle.std.specs.Bool.{then_some}
 use Rattle.std.specs.Option.{option_or}
 use Rattle.salt_ast.specs.declared.limit.LimitName.{LimitName}
 use Rattle.salt_ast.specs.declared.limit.LimitName.TheVariants as limit
 use Rattle.salt_ast.specs.declared.trees.Expr.{Column, Expr, Variable}
 use Rattle.salt_ast.specs.declared.trees.Op.{Op}
-use Rattle.salt_parse.specs.Flags.{BuiltTree, Flags, clear, int_tree, join_flags, join_tree, kept, kept_name, negate_flags, negate_tree, note, signed}
+use Rattle.salt_parse.specs.Flags.{BuiltTree, Flags, around_flags, around_tree, clear, int_tree, join_flags, join_tree, kept, kept_name, note, signed}
 use Rattle.salt_parse.specs.Flags.{stand_in, text_tree}
-use Rattle.salt_parse.specs.Lists.{either}
-use Rattle.salt_parse.specs.Reading.{Read, Reader, after, at_operator, atom_at, colon_at, column_at, comparison_at, conjunction_at, expression_at}
-use Rattle.salt_parse.specs.Reading.{int_at, is_same, left_at, minus_at, name_flags, named_at, negate, negation_at, nots_at, of_level, once_at}
-use Rattle.salt_parse.specs.Reading.{paren_at, product_at, second_at, sum_at, tail_at, text_at, text_flags, within_at}
+use Rattle.salt_parse.specs.Reading.{Read, Reader, after, at_operator, atom_at, colon_at, column_at, comparison_at, conjunction_at, either, expression_at}
+use Rattle.salt_parse.specs.Reading.{int_at, is_at, is_same, left_at, minus_at, name_flags, named_at, negate, negation_at, nots_at, null_test_at, of_level, once_at}
+use Rattle.salt_parse.specs.Reading.{paren_at, product_at, second_at, sum_at, tail_at, tested, text_at, text_flags, within_at}
+use Rattle.salt_parse.specs.Settling.{ArePrintable}
 use Rattle.salt_parse.proofs.Trees.{TreeReader, atom_of, colon_of, comparison_of, conjunction_of, expression_of, left_of, minus_of, negation_of}
-use Rattle.salt_parse.proofs.Trees.{nots_of, once_of, paren_of, product_of, second_of, sum_of, tail_of, within_of}
+use Rattle.salt_parse.proofs.Trees.{is_of, nots_of, null_test_of, once_of, paren_of, product_of, second_of, sum_of, tail_of, tested_of, within_of}
 use Rattle.salt_tokens.specs.Scanning.{◌>>=◌}
 use Rattle.salt_tokens.specs.Symbols.{Symbols, Symbol, int, key, name, sign, text}
 use Rattle.salt_tokens.specs.declared.keyword.Keyword.TheVariants as word
 use Rattle.salt_tokens.specs.declared.sign.Sign.TheVariants as mark
 use Rattle.salt_values.specs.Text.{is_printable}
-
--- ---- texts of printable bytes
-
-abbrev pub IsPrintable : Symbol → Type 0
-IsPrintable (text t) = list_all is_printable t ≡ true
-IsPrintable (key k) = Unit {0}
-IsPrintable (name n) = Unit {0}
-IsPrintable (int n) = Unit {0}
-IsPrintable (sign s) = Unit {0}
-
-abbrev pub ArePrintable : Symbols → Type 0
-ArePrintable [] = Unit {0}
-ArePrintable (t ∷ ts) = IsPrintable t × ArePrintable ts
 
 -- ---- flags
 
@@ -198,28 +185,32 @@ module _ (f : Flags) (o : Op) (l r : Expr) (bl br : BuiltTree) (il : IsBuilt (no
   pub joined_is : IsBuilt (noted expr_marks f (operation o l r)) (join_tree o bl br f2) (operation o l r)
   joined_is = (joined_height, λ c. joined_tree (clear (join_flags bl br f2)) refl (ap clear joined_flags ∙ c))
 
-module _ (f : Flags) (e : Expr) (b : BuiltTree) (is : IsBuilt (noted expr_marks f e) b e) where
+-- an operation on one operand, which passes what the operand passes and is one higher
+module _ (node : Expr → Expr) (f : Flags) (e : Expr) (b : BuiltTree) (is : IsBuilt (noted expr_marks f e) b e) where
   abbrev g1 : Flags
   g1 = noted expr_marks f e
 
-  negated_deep : (g1.deep || ltb 64 (suc b.height)) ≡ (f.deep || ltb 64 (suc (height e)))
-  negated_deep = (λ i. g1.deep || ltb 64 (suc (is.0 i))) ∙ deep_negates (height e) f.deep
+  abbrev around_noted : Flags
+  around_noted = note f (expr_passed e) (ltb 64 (suc (height e)))
 
-  pub negated_flags : negate_flags b g1 ≡ noted expr_marks f (negation e)
-  negated_flags = λ i. record { over = option_or_none g1.over i; deep = negated_deep i }
+  around_deep : (g1.deep || ltb 64 (suc b.height)) ≡ (f.deep || ltb 64 (suc (height e)))
+  around_deep = (λ i. g1.deep || ltb 64 (suc (is.0 i))) ∙ deep_negates (height e) f.deep
 
-  negated_tree : (t : Bool) → clear (negate_flags b g1) ≡ t → t ≡ true → cond t (negation b.tree) stand_in ≡ negation e
-  negated_tree true h k =
+  pub around_flags_are : around_flags b g1 ≡ around_noted
+  around_flags_are = λ i. record { over = option_or_none g1.over i; deep = around_deep i }
+
+  around_is : (t : Bool) → clear (around_flags b g1) ≡ t → t ≡ true → cond t (node b.tree) stand_in ≡ node e
+  around_is true h k =
       let c1 : clear g1 ≡ true = clear_before g1 None (ltb 64 (suc b.height)) h in
       let te : b.tree ≡ e = is.1 c1 in
-      λ i. negation (te i)
-  negated_tree false h k = absurd cc
+      λ i. node (te i)
+  around_is false h k = absurd cc
 
-  negated_height : min (suc b.height) 65 ≡ min (suc (height e)) 65
-  negated_height = (λ i. min (suc (is.0 i)) 65) ∙ capped_suc (height e)
+  around_height : min (suc b.height) 65 ≡ min (suc (height e)) 65
+  around_height = (λ i. min (suc (is.0 i)) 65) ∙ capped_suc (height e)
 
-  pub negated_is : IsBuilt (noted expr_marks f (negation e)) (negate_tree b g1) (negation e)
-  negated_is = (negated_height, λ c. negated_tree (clear (negate_flags b g1)) refl (ap clear negated_flags ∙ c))
+  pub around_built : ((around_tree node b g1).height ≡ min (suc (height e)) 65) × (clear around_noted ≡ true → (around_tree node b g1).tree ≡ node e)
+  around_built = (around_height, λ c. around_is (clear (around_flags b g1)) refl (ap clear around_flags_are ∙ c))
 
 -- ---- levels
 
@@ -232,6 +223,31 @@ Mirrors read find = AgreesAll expr_marks IsBuilt read find
 one_built : (f : Flags) (b : BuiltTree) (e : Expr) (ts : Symbols) → IsBuilt (noted expr_marks f e) b e → ArePrintable ts →
     Agree expr_marks IsBuilt f (b, noted expr_marks f e, ts) (e, ts)
 one_built f b e ts i p = record { left = refl; flags = refl; is = i; printable = p }
+
+module _ (f : Flags) (b : BuiltTree) (l : Expr) (i : IsBuilt (noted expr_marks f l) b l) where
+  abbrev f0 : Flags
+  f0 = noted expr_marks f l
+
+  tested_mirrors : (negated : Bool) (ts : Symbols) → ArePrintable ts → Agrees expr_marks IsBuilt f (tested negated b f0 ts) (tested_of negated l ts)
+  tested_mirrors negated ts p =
+      let same = around_flags_are (null_test negated) f l b i in
+      agrees_after expr_marks IsBuilt f (after (key word.Null) ts) (λ us. Some (around_tree (null_test negated) b f0, around_flags b f0, us))
+      (λ us. Some (null_test negated l, us)) (λ us e. after_printable (key word.Null) ts us p e)
+      (λ us pu. record {
+        left = refl;
+        flags = same;
+        is = subst (λ (z : Flags). IsBuilt z (around_tree (null_test negated) b f0) (null_test negated l)) (sym same)
+            (around_built (null_test negated) f l b i);
+        printable = pu;
+      })
+
+  null_test_mirrors : (ts : Symbols) → ArePrintable ts → Agrees expr_marks IsBuilt f (null_test_at b f0 ts) (null_test_of l ts)
+  null_test_mirrors ts p =
+      agrees_either expr_marks IsBuilt f (after (key word.Is) ts) (Some (b, f0, ts)) (Some (l, ts)) (is_at b f0) (is_of l)
+      (λ us e. after_printable (key word.Is) ts us p e) (one_built f b l ts i p)
+      (λ us pu.
+      agrees_either expr_marks IsBuilt f (after (key word.Not) us) (tested false b f0 us) (tested_of false l us) (tested true b f0) (tested_of true l)
+      (λ vs e. after_printable (key word.Not) us vs pu e) (tested_mirrors false us pu) (λ vs pv. tested_mirrors true vs pv))
 
 module _ (level : ℕ) (read : Reader BuiltTree) (find : TreeReader Expr) (c : Mirrors read find) where
   tail_mirrors : (n : ℕ) (f : Flags) (b : BuiltTree) (l : Expr) (ts : Symbols) → IsBuilt (noted expr_marks f l) b l → ArePrintable ts →
@@ -272,10 +288,10 @@ module _ (level : ℕ) (read : Reader BuiltTree) (find : TreeReader Expr) (c : M
       g = noted expr_marks f l
 
       go : (q : Option Op) → Agrees expr_marks IsBuilt f
-          (at_operator {A = Option (Read BuiltTree)} q (Some (b, g, t ∷ ts))
+          (at_operator {A = Option (Read BuiltTree)} q (null_test_at b g (t ∷ ts))
           (λ o. read g ts >>= λ x. Some (join_tree o b x.0 x.1, join_flags b x.0 x.1, x.2)))
-          (at_operator {A = Option (Expr × Symbols)} q (Some (l, t ∷ ts)) (λ o. find ts >>= λ x. Some (operation o l x.0, x.1)))
-      go None = one_built f b l (t ∷ ts) i p
+          (at_operator {A = Option (Expr × Symbols)} q (null_test_of l (t ∷ ts)) (λ o. find ts >>= λ x. Some (operation o l x.0, x.1)))
+      go None = null_test_mirrors f b l i (t ∷ ts) p
       go (Some o) =
           agrees_bind expr_marks IsBuilt expr_marks IsBuilt f g (read g ts) (find ts) (λ x. Some (join_tree o b x.0 x.1, join_flags b x.0 x.1, x.2))
           (λ x. Some (operation o l x.0, x.1)) (c g ts p.1)
@@ -301,11 +317,11 @@ module _ (read : Reader BuiltTree) (find : TreeReader Expr) (c : Mirrors read fi
   nots_mirrors f (key word.Not ∷ ts) p =
       agrees_bind expr_marks IsBuilt expr_marks IsBuilt f f (nots_at read f ts) (nots_of find ts) (λ x. Some (negate x))
       (λ x. Some (negation x.0, x.1)) (nots_mirrors f ts p.1)
-      (λ x a us i pu. (let same = negated_flags f a x i in record {
+      (λ x a us i pu. (let same = around_flags_are negation f a x i in record {
         left = refl;
         flags = same;
-        is = subst (λ (z : Flags). IsBuilt z (negate_tree x (noted expr_marks f a)) (negation a)) (sym same)
-            (negated_is f a x i);
+        is = subst (λ (z : Flags). IsBuilt z (around_tree negation x (noted expr_marks f a)) (negation a)) (sym same)
+            (around_built negation f a x i);
         printable = pu;
       }))
   nots_mirrors f (t ∷ ts) p = c f (t ∷ ts) p

@@ -3,7 +3,7 @@ use Rattle.std.proofs.Common.{◌≡◌, ℕ, Bool, true, false, cond, ◌||◌,
 use Rattle.std.specs.List.{list_any}
 use Rattle.salt_ast.specs.Limits.{expr_passed, field_passed, is_high, name_passed, passed_in_list, scan_passed, set_passed, statement_passed}
 use Rattle.salt_ast.specs.Limits.{table_passed, what_passed}
-use Rattle.salt_ast.specs.Trees.{filter_exprs, scan_exprs, set_value, statement_exprs}
+use Rattle.salt_ast.specs.Trees.{filter_exprs, null, scan_exprs, set_value, statement_exprs}
 use Rattle.salt_ast.specs.Words.{first_in}
 use Rattle.std.specs.Prelude.{option_and_then}
 use Rattle.std.specs.Option.{option_or}
@@ -22,22 +22,24 @@ use Rattle.salt_ast.specs.declared.trees.TableDef.{TableDef}
 use Rattle.salt_ast.specs.declared.trees.What.{What}
 use Rattle.salt_ast.specs.declared.trees.What.TheVariants as what
 use Rattle.salt_parse.specs.Flags.{BuiltTree, Flags, clear, note}
-use Rattle.salt_parse.specs.Lists.{comma, either, following_at, with_front}
-use Rattle.salt_parse.specs.Reading.{Read, Reader, after, conjunction_at, expression_at, name_flags, sum_at}
+use Rattle.salt_parse.specs.Lists.{comma, counted, following_at, with_front}
+use Rattle.salt_parse.specs.Reading.{Read, Reader, after, conjunction_at, either, expression_at, name_flags, sum_at}
 use Rattle.salt_parse.specs.StatementReading.{aggregate_at, and_at, between_at, bound_at, change_at, columns_at, count_at, delete_at, ensure_at}
 use Rattle.salt_parse.specs.StatementReading.{enclosed_at, equal_at, filter_at, insert_at, into_at, is_into, max_of_at, min_of_at, name_at, names_at}
 use Rattle.salt_parse.specs.StatementReading.{only_key_at, scan_at, select_at, select_into_at, select_rows_at, set_at, sets_at, statement_at}
-use Rattle.salt_parse.specs.StatementReading.{sum_of_at, tree_at, update_at, values_at, what_at, where_at}
-use Rattle.salt_parse.specs.TableReading.{check_at, checks_at, counted, definition_at, field_at, field_comma, fields_at, further_field_at, kind_at, table_at}
-use Rattle.salt_parse.proofs.Mirror.{Agrees, AgreesAll, ArePrintable, IsBuilt, AreKept, Marks, Mirrors, after_printable, agrees_after, agrees_bind}
+use Rattle.salt_parse.specs.StatementReading.{sum_of_at, tree_at, update_at, value_at, values_at, what_at, where_at}
+use Rattle.salt_parse.specs.TableReading.{check_at, checks_at, definition_at, field_at, field_comma, fields_at, further_column_at, kind_at, nullable_at}
+use Rattle.salt_parse.specs.TableReading.{plain_column_at, table_at}
+use Rattle.salt_parse.specs.Settling.{ArePrintable}
+use Rattle.salt_parse.proofs.Mirror.{Agrees, AgreesAll, IsBuilt, AreKept, Marks, Mirrors, after_printable, agrees_after, agrees_bind}
 use Rattle.salt_parse.proofs.Mirror.{agrees_either, clear_before, conjunction_mirrors, expr_marks, expression_mirrors, kept_name_is, name_marks}
 use Rattle.salt_parse.proofs.Mirror.{note_note, noted, or_assoc, option_or_assoc, or_false, sum_mirrors}
-use Rattle.salt_parse.proofs.MirrorLists.{Keeps, agrees_counted, comma_keeps, counted_high, counted_marks, counted_passed, done, following_agrees}
-use Rattle.salt_parse.proofs.MirrorLists.{from_marks, list_marks, listed_agrees, note_none}
-use Rattle.salt_parse.proofs.StatementTrees.{aggregate_of, ahead, and_of, between_of, bound_of, change_of, check_of, checks_of, columns_of, count_of}
+use Rattle.salt_parse.proofs.MirrorLists.{Keeps, after_keeps, agrees_counted, agrees_named, commas_agree, counted_agrees, counted_marks, counted_note, done}
+use Rattle.salt_parse.proofs.MirrorLists.{following_agrees, from_marks, list_marks, note_none}
+use Rattle.salt_parse.proofs.StatementTrees.{aggregate_of, ahead, and_of, between_of, bound_of, change_of, check_of, checks_of, column_of, columns_of, count_of}
 use Rattle.salt_parse.proofs.StatementTrees.{definition_of, delete_of, enclosed_of, ensure_of, equal_of, field_of, fields_of, filter_of, following_of}
-use Rattle.salt_parse.proofs.StatementTrees.{insert_of, into_of, largest_of, least_of, name_of, names_of, only_key_of, scan_of, select_into_of}
-use Rattle.salt_parse.proofs.StatementTrees.{select_of, select_rows_of, set_of, sets_of, statement_of, table_of, total_of, update_of, values_of}
+use Rattle.salt_parse.proofs.StatementTrees.{insert_of, into_of, largest_of, least_of, name_of, names_of, nullable_of, only_key_of, scan_of, select_into_of}
+use Rattle.salt_parse.proofs.StatementTrees.{select_of, select_rows_of, set_of, sets_of, statement_of, table_of, total_of, update_of, value_of, values_of}
 use Rattle.salt_parse.proofs.StatementTrees.{what_of, where_of}
 use Rattle.salt_parse.proofs.Trees.{TreeReader, conjunction_of, expression_of, sum_of}
 use Rattle.salt_tokens.specs.Scanning.{◌>>=◌}
@@ -118,7 +120,7 @@ name_agrees f (text t ∷ ts) p = tt
 name_agrees f (sign s ∷ ts) p = tt
 
 names_agrees : AgreesAll (list_marks name_marks) AreKept names_at names_of
-names_agrees f ts p = listed_agrees name_marks name_at name_of name_agrees f ts p
+names_agrees f ts p = commas_agree name_marks name_at name_of name_agrees f ts p
 
 tree_agrees : (f : Flags) (r : Option (Read BuiltTree)) (q : Option (Expr × Symbols)) → Agrees expr_marks IsBuilt f r q →
     Agrees expr_marks AreKept f (r >>= λ x. Some (x.0.tree, x.1, x.2)) q
@@ -330,23 +332,29 @@ module _ (read : Reader BuiltTree) (find : TreeReader Expr) (c : Mirrors read fi
       (done scan_marks f (record { bound = bound.All; filter = None }) (record { bound = bound.All; filter = None }) f ts (sym (note_none f))
       (λ c. refl) p) (λ us pu. where_agrees f us pu)
 
+  value_agrees : AgreesAll expr_marks AreKept (value_at read) (value_of find)
+  value_agrees f ts p =
+      agrees_either expr_marks AreKept f (after (key word.Null) ts) (tree_at (expression_at read) f ts) (expression_of find ts)
+      (λ us. Some (null, f, us)) (λ us. Some (null, us)) (λ us e. after_printable (key word.Null) ts us p e) (expression_agrees f ts p)
+      (λ us pu. done expr_marks f null null f us (sym (note_none f)) (λ c. refl) pu)
+
   values_agrees : AgreesAll (list_marks expr_marks) AreKept (values_at read) (values_of find)
-  values_agrees f ts p = listed_agrees expr_marks (tree_at (expression_at read)) (expression_of find) expression_agrees f ts p
+  values_agrees f ts p = commas_agree expr_marks (value_at read) (value_of find) value_agrees f ts p
 
   set_agrees : AgreesAll set_marks AreKept (set_at read) (set_of find)
   set_agrees f ts p =
       agrees_bind name_marks AreKept set_marks AreKept f f (name_at f ts) (name_of ts)
-      (λ v. after (sign mark.Equal) v.2 >>= λ v1. tree_at (expression_at read) v.1 v1 >>= λ v2. Some
+      (λ v. after (sign mark.Equal) v.2 >>= λ v1. value_at read v.1 v1 >>= λ v2. Some
       (record { column = v.0; value = v2.0 }, v2.1, v2.2))
-      (λ v. after (sign mark.Equal) v.1 >>= λ v1. expression_of find v1 >>= λ v2. Some (record { column = v.0; value = v2.0 }, v2.1)) (name_agrees f ts p)
+      (λ v. after (sign mark.Equal) v.1 >>= λ v1. value_of find v1 >>= λ v2. Some (record { column = v.0; value = v2.0 }, v2.1)) (name_agrees f ts p)
       (λ x0 a0 u0 i0 p0.
       agrees_after set_marks AreKept f (after (sign mark.Equal) u0)
-      (λ v. tree_at (expression_at read) (noted name_marks f a0) v >>= λ v2. Some (record { column = x0; value = v2.0 }, v2.1, v2.2))
-      (λ v. expression_of find v >>= λ v2. Some (record { column = a0; value = v2.0 }, v2.1)) (λ us e. after_printable (sign mark.Equal) u0 us p0 e)
+      (λ v. value_at read (noted name_marks f a0) v >>= λ v2. Some (record { column = x0; value = v2.0 }, v2.1, v2.2))
+      (λ v. value_of find v >>= λ v2. Some (record { column = a0; value = v2.0 }, v2.1)) (λ us e. after_printable (sign mark.Equal) u0 us p0 e)
       (λ u1 p1.
-      agrees_bind expr_marks AreKept set_marks AreKept f (noted name_marks f a0) (tree_at (expression_at read) (noted name_marks f a0) u1)
-      (expression_of find u1) (λ v. Some (record { column = x0; value = v.0 }, v.1, v.2)) (λ v. Some (record { column = a0; value = v.0 }, v.1))
-      (expression_agrees (noted name_marks f a0) u1 p1)
+      agrees_bind expr_marks AreKept set_marks AreKept f (noted name_marks f a0) (value_at read (noted name_marks f a0) u1)
+      (value_of find u1) (λ v. Some (record { column = x0; value = v.0 }, v.1, v.2)) (λ v. Some (record { column = a0; value = v.0 }, v.1))
+      (value_agrees (noted name_marks f a0) u1 p1)
       (λ x2 a2 u2 i2 p2.
       done set_marks f (record { column = x0; value = x2 }) (record { column = a0; value = a2 }) (noted expr_marks (noted name_marks f a0) a2) u2
       (note_note f (name_passed a0) (expr_passed a2) false (is_high a2))
@@ -354,7 +362,7 @@ module _ (read : Reader BuiltTree) (find : TreeReader Expr) (c : Mirrors read fi
       (expr_marks.high a2) c2 in let e0 : x0 ≡ a0 = i0 c1 in let e1 : x2 ≡ a2 = i2 c2 in λ t. record { column = (e0 t); value = (e1 t) })) p2)))
 
   sets_agrees : AgreesAll (list_marks set_marks) AreKept (sets_at read) (sets_of find)
-  sets_agrees f ts p = listed_agrees set_marks (set_at read) (set_of find) set_agrees f ts p
+  sets_agrees f ts p = commas_agree set_marks (set_at read) (set_of find) set_agrees f ts p
 
   insert_agrees : AgreesAll statement_marks AreKept (insert_at read) (insert_of find)
   insert_agrees f ts p =
@@ -575,22 +583,31 @@ kind_printable ts k p h = go (after (key word.Int) ts) refl h
 -- where a column's type comes next
 agrees_kind : (f g : Flags) (n m : List ℕ) (o : Option (ColType × Symbols)) → ((k : ColType × Symbols) → o ≡ Some k → ArePrintable k.1) →
     g ≡ note f (name_passed m) false → (clear g ≡ true → n ≡ m) →
-    Agrees field_marks AreKept f (o >>= λ k. Some (record { name = n; kind = k.0 }, g, k.1)) (o >>= λ k. Some (record { name = m; kind = k.0 }, k.1))
+    Agrees field_marks AreKept f (o >>= λ k. Some (record { name = n; kind = k.0; nullable = false }, g, k.1))
+    (o >>= λ k. Some (record { name = m; kind = k.0; nullable = false }, k.1))
 agrees_kind f g n m None p e i = tt
 agrees_kind f g n m (Some k) p e i =
-    done field_marks f (record { name = n; kind = k.0 }) (record { name = m; kind = k.0 }) g k.1 e
-    (λ c. (let same : n ≡ m = i c in λ t. record { name = same t; kind = k.0 })) (p k refl)
+    done field_marks f (record { name = n; kind = k.0; nullable = false }) (record { name = m; kind = k.0; nullable = false }) g k.1 e
+    (λ c. (let same : n ≡ m = i c in λ t. record { name = same t; kind = k.0; nullable = false })) (p k refl)
 
-field_agrees : AgreesAll field_marks AreKept field_at field_of
+pub field_agrees : AgreesAll field_marks AreKept field_at field_of
 field_agrees f ts p =
     agrees_bind name_marks AreKept field_marks AreKept f f (name_at f ts) (name_of ts)
-    (λ v. kind_at v.2 >>= λ k. Some (record { name = v.0; kind = k.0 }, v.1, k.1))
-    (λ v. kind_at v.1 >>= λ k. Some (record { name = v.0; kind = k.0 }, k.1)) (name_agrees f ts p)
+    (λ v. kind_at v.2 >>= λ k. Some (record { name = v.0; kind = k.0; nullable = false }, v.1, k.1))
+    (λ v. kind_at v.1 >>= λ k. Some (record { name = v.0; kind = k.0; nullable = false }, k.1)) (name_agrees f ts p)
     (λ x a us i pu. agrees_kind f (noted name_marks f a) x a (kind_at us) (λ k e. kind_printable us k pu e) refl i)
 
-further_agrees : (n : ℕ) → AgreesAll (counted_marks limit.Columns field_marks n) AreKept (further_field_at n) field_of
-further_agrees n f ts p = agrees_counted limit.Columns field_marks n f (further_field_at n f ts) (field_of ts)
-    (field_agrees (counted 16 limit.Columns n f) ts p)
+column_agrees : AgreesAll field_marks AreKept plain_column_at column_of
+column_agrees f ts p =
+    agrees_bind field_marks AreKept field_marks AreKept f f (field_at f ts) (field_of ts) (λ c. nullable_at c.0 c.1 c.2) (λ c. nullable_of c.0 c.1)
+    (field_agrees f ts p)
+    (λ x a us i pu.
+    let g = noted field_marks f a in
+    agrees_either field_marks AreKept f (after (key word.Null) us) (Some (x, g, us)) (Some (a, us))
+    (λ vs. Some (record x { nullable = true }, g, vs)) (λ vs. Some (record a { nullable = true }, vs))
+    (λ vs e. after_printable (key word.Null) us vs pu e) (done field_marks f x a g us refl i pu)
+    (λ vs pv. done field_marks f (record x { nullable = true }) (record a { nullable = true }) g vs refl
+    (λ c. (let same : x ≡ a = i c in λ t. record (same t) { nullable = true })) pv))
 
 field_comma_keeps : Keeps field_comma
 field_comma_keeps ts us p h = go (comma ts) refl h
@@ -601,59 +618,56 @@ field_comma_keeps ts us p h = go (comma ts) refl h
 
     go : (o : Option Symbols) → comma ts ≡ o → (o >>= λ vs. either (after (key word.Check) vs) (Some vs) (λ ws. None)) ≡ Some us → ArePrintable us
     go None e k = absurd cc
-    go (Some vs) e k = go2 vs (after (key word.Check) vs) (comma_keeps ts vs p e) k
+    go (Some vs) e k = go2 vs (after (key word.Check) vs) (after_printable (sign mark.Comma) ts vs p e) k
+
+-- the marks of further columns
+abbrev further_marks : Marks (List Field)
+further_marks = from_marks (counted_marks 16 limit.Columns field_marks) 1
 
 -- the marks of all columns, by those of the further ones
-fields_note : (f : Flags) (a : Field) (b : List Field) →
-    noted (from_marks (counted_marks limit.Columns field_marks) 1) (noted field_marks f a) b ≡ noted fields_marks f (a ∷ b)
+fields_note : (f : Flags) (a : Field) (b : List Field) → noted further_marks (noted field_marks f a) b ≡ noted fields_marks f (a ∷ b)
 fields_note f a b =
-    note_note f (field_passed a) ((from_marks (counted_marks limit.Columns field_marks) 1).passed b) false
-    ((from_marks (counted_marks limit.Columns field_marks) 1).high b)
-    ∙ (λ t. note f (option_or (field_passed a) (counted_passed limit.Columns field_marks 1 b t)) ((counted_high limit.Columns field_marks 1 b ∙ none_high b) t))
+    let g = noted field_marks f a in
+    counted_note 16 limit.Columns field_marks 1 15 refl g b ∙ note_note f (field_passed a) (passed_in_list 15 limit.Columns field_passed b) false
+    (list_any field_marks.high b)
+    ∙ (λ t. note f (option_or (field_passed a) (passed_in_list 15 limit.Columns field_passed b)) (none_high b t))
 
 fields_agrees : AgreesAll fields_marks AreKept fields_at fields_of
 fields_agrees f ts p =
     agrees_bind field_marks AreKept fields_marks AreKept f f (field_at f ts) (field_of ts)
-    (λ c. after (key word.Key) c.2 >>= λ us. with_front (c.0 ∷ []) (following_at field_comma further_field_at 1 (length us) c.1 us))
-    (λ c. after (key word.Key) c.1 >>= λ us. ahead (c.0 ∷ []) (following_of field_comma field_of (length us) us)) (field_agrees f ts p)
+    (λ c. after (key word.Key) c.2 >>= λ us. with_front (c.0 ∷ []) (following_at field_comma further_column_at 1 (length us) c.1 us))
+    (λ c. after (key word.Key) c.1 >>= λ us. ahead (c.0 ∷ []) (following_of field_comma column_of (length us) us)) (field_agrees f ts p)
     (λ x a us i pu.
     agrees_after fields_marks AreKept f (after (key word.Key) us)
-    (λ vs. with_front (x ∷ []) (following_at field_comma further_field_at 1 (length vs) (noted field_marks f a) vs))
-    (λ vs. ahead (a ∷ []) (following_of field_comma field_of (length vs) vs)) (λ vs e. after_printable (key word.Key) us vs pu e)
+    (λ vs. with_front (x ∷ []) (following_at field_comma further_column_at 1 (length vs) (noted field_marks f a) vs))
+    (λ vs. ahead (a ∷ []) (following_of field_comma column_of (length vs) vs)) (λ vs e. after_printable (key word.Key) us vs pu e)
     (λ vs pv.
-    agrees_bind (from_marks (counted_marks limit.Columns field_marks) 1) AreKept fields_marks AreKept f (noted field_marks f a)
-    (following_at field_comma further_field_at 1 (length vs) (noted field_marks f a) vs) (following_of field_comma field_of (length vs) vs)
+    agrees_bind further_marks AreKept fields_marks AreKept f (noted field_marks f a)
+    (following_at field_comma further_column_at 1 (length vs) (noted field_marks f a) vs) (following_of field_comma column_of (length vs) vs)
     (λ y. Some (x ∷ y.0, y.1, y.2)) (λ y. Some (a ∷ y.0, y.1))
-    (following_agrees field_comma field_comma_keeps (counted_marks limit.Columns field_marks) further_field_at field_of further_agrees 1
+    (following_agrees field_comma field_comma_keeps (counted_marks 16 limit.Columns field_marks) further_column_at column_of
+    (counted_agrees 16 limit.Columns field_marks plain_column_at column_of column_agrees) 1
     (length vs) (noted field_marks f a) vs pv)
-    (λ y b ws j pw. done fields_marks f (x ∷ y) (a ∷ b) (noted (from_marks (counted_marks limit.Columns field_marks) 1) (noted field_marks f a) b) ws
+    (λ y b ws j pw. done fields_marks f (x ∷ y) (a ∷ b) (noted further_marks (noted field_marks f a) b) ws
     (fields_note f a b)
     (λ c2. (let c1 : clear (noted field_marks f a) ≡ true = clear_before (noted field_marks f a)
-    ((from_marks (counted_marks limit.Columns field_marks) 1).passed b)
-    ((from_marks (counted_marks limit.Columns field_marks) 1).high b) c2 in let e0 : x ≡ a = i c1 in let e1 : y ≡ b = j c2 in λ t. e0 t ∷ e1 t)) pw)))
-
--- the same under other marks
-agrees_named : {A : Type 0} (m n : Marks A) (f : Flags) (r : Option (Read A)) (q : Option (A × Symbols)) → ((a : A) → noted m f a ≡ noted n f a) →
-    Agrees m AreKept f r q → Agrees n AreKept f r q
-agrees_named m n f None None e h = tt
-agrees_named m n f None (Some y) e h = h
-agrees_named m n f (Some x) None e h = h
-agrees_named m n f (Some x) (Some y) e h = record { left = h.left; flags = h.flags ∙ e y.0; is = h.is; printable = h.printable }
+    (further_marks.passed b)
+    (further_marks.high b) c2 in let e0 : x ≡ a = i c1 in let e1 : y ≡ b = j c2 in λ t. e0 t ∷ e1 t)) pw)))
 
 module _ (read : Reader BuiltTree) (find : TreeReader Expr) (c : Mirrors read find) where
-  check_agrees : (n : ℕ) → AgreesAll (counted_marks limit.Checks expr_marks n) AreKept (check_at read n) (check_of find)
+  check_agrees : (n : ℕ) → AgreesAll (counted_marks 16 limit.Checks expr_marks n) AreKept (check_at read n) (check_of find)
   check_agrees n f ts p =
-      agrees_after (counted_marks limit.Checks expr_marks n) AreKept f (after (key word.Check) ts)
+      agrees_after (counted_marks 16 limit.Checks expr_marks n) AreKept f (after (key word.Check) ts)
       (λ us. tree_at (expression_at read) (counted 16 limit.Checks n f) us) (λ us. expression_of find us)
       (λ us e. after_printable (key word.Check) ts us p e)
-      (λ us pu. agrees_counted limit.Checks expr_marks n f (tree_at (expression_at read) (counted 16 limit.Checks n f) us) (expression_of find us)
+      (λ us pu. agrees_counted 16 limit.Checks expr_marks n f (tree_at (expression_at read) (counted 16 limit.Checks n f) us) (expression_of find us)
       (expression_agrees read find c (counted 16 limit.Checks n f) us pu))
 
   checks_agrees : AgreesAll checks_marks AreKept (checks_at read) (checks_of find)
   checks_agrees f ts p =
-      agrees_named (from_marks (counted_marks limit.Checks expr_marks) 0) checks_marks f (checks_at read f ts) (checks_of find ts)
-      (λ b t. note f (counted_passed limit.Checks expr_marks 0 b t) (counted_high limit.Checks expr_marks 0 b t))
-      (following_agrees comma comma_keeps (counted_marks limit.Checks expr_marks) (check_at read) (check_of find) check_agrees 0 (length ts) f ts p)
+      agrees_named (from_marks (counted_marks 16 limit.Checks expr_marks) 0) checks_marks f (checks_at read f ts) (checks_of find ts)
+      (counted_note 16 limit.Checks expr_marks 0 16 refl f)
+      (following_agrees comma (after_keeps (sign mark.Comma)) (counted_marks 16 limit.Checks expr_marks) (check_at read) (check_of find) check_agrees 0 (length ts) f ts p)
 
   definition_agrees : AgreesAll table_marks AreKept (definition_at read) (definition_of find)
   definition_agrees f ts p =

@@ -3,9 +3,9 @@ use Rattle.std.proofs.Common.{◌≡◌, ℕ, suc, zero, false, List, [], ◌∷
 use Rattle.salt_ast.specs.Grammar.{Expression}
 use Rattle.salt_ast.specs.Operators.{operator, precedence}
 use Rattle.salt_ast.specs.Statements as form
-use Rattle.salt_ast.specs.Statements.{Following, IsAnd, IsName, IsScan, IsSet, IsStatement, IsWhat, Listed}
+use Rattle.salt_ast.specs.Statements.{ColumnValue, Following, IsAnd, IsName, IsScan, IsSet, IsStatement, IsWhat, Listed}
 use Rattle.salt_ast.specs.Tables as table
-use Rattle.salt_ast.specs.Tables.{IsCheck, IsField, IsTable}
+use Rattle.salt_ast.specs.Tables.{IsCheck, IsColumn, IsField, IsTable}
 use Rattle.salt_ast.specs.declared.trees.Expr.{Expr}
 use Rattle.salt_ast.specs.declared.trees.Field.{Field}
 use Rattle.salt_ast.specs.declared.trees.Op.{Op}
@@ -19,17 +19,14 @@ use Rattle.salt_parse.specs.Reading.{after}
 use Rattle.salt_parse.specs.StatementReading.{is_into}
 use Rattle.salt_parse.specs.TableReading.{field_comma}
 use Rattle.salt_parse.proofs.ExpressionLaws.{Begins-after, Begins-append, Complete, Sound, Stops, Stops-weaker, conjunction_complete}
+use Rattle.salt_parse.proofs.ListLaws.{CompleteFor, following_complete, listed_complete, listed_of_sign, of_sign}
 use Rattle.salt_parse.proofs.ExpressionLaws.{expression_begins, expression_complete, sum_complete}
-use Rattle.salt_parse.proofs.StatementTrees.{and_of, check_of, field_of, following_of, listed_of, name_of, scan_of, set_of, sets_of, statement_of}
-use Rattle.salt_parse.proofs.StatementTrees.{table_of, values_of, what_of}
+use Rattle.salt_parse.proofs.StatementTrees.{and_of, check_of, column_of, field_of, listed_of, name_of, scan_of, set_of, sets_of, statement_of}
+use Rattle.salt_parse.proofs.StatementTrees.{table_of, value_of, values_of, what_of}
 use Rattle.salt_parse.proofs.Trees.{TreeReader, expression_of}
 use Rattle.salt_tokens.specs.Symbols.{Symbols, key, name, sign}
 use Rattle.salt_tokens.specs.declared.keyword.Keyword.TheVariants as word
 use Rattle.salt_tokens.specs.declared.sign.Sign.TheVariants as mark
-
--- what is spelled so is found, where `Follow` holds of what follows
-abbrev pub CompleteFor : {A : Type 0} → (Symbols → Type 0) → (Symbols → A → Type 0) → TreeReader A → Type 0
-CompleteFor {A} Follow G find = (ts rest : Symbols) (x : A) → G ts x → Follow rest → find (ts ++ rest) ≡ Some (x, rest)
 
 -- what may follow a statement: no operation, no `where` and no comma
 pub record Ends (rest : Symbols) : Type 0 where
@@ -45,41 +42,18 @@ name_complete _ rest _ form.is_name f = refl
 
 -- ---- lists
 
-following_few : {A : Type 0} {G : Symbols → A → Type 0} {ts : Symbols} {xs : List A} → Following G ts xs → length xs ≤ length ts
-following_few form.no_more = omega arith
-following_few (form.one_more {a = u} {b = v} g d) = omega (arith, length-append u v, following_few d)
-
 comma_stops : (us : Symbols) → Stops 1 (sign mark.Comma ∷ us)
-comma_stops us o h = absurd cc
-
-module _ {A : Type 0} (separator : Symbols → Option Symbols) (G : Symbols → A → Type 0) (find : TreeReader A) (Follow : Symbols → Type 0)
-    (c : CompleteFor Follow G find) (goes : (us : Symbols) → Follow (sign mark.Comma ∷ us)) where
-  pub follows : {ts : Symbols} {xs : List A} (rest : Symbols) → Following G ts xs → Follow rest → Follow (ts ++ rest)
-  follows rest form.no_more f = f
-  follows rest (form.one_more {a = u} {b = v} g d) f = goes ((u ++ v) ++ rest)
-
-  pub following_complete : (opens : (u us : Symbols) (x : A) → G u x → separator (sign mark.Comma ∷ (u ++ us)) ≡ Some (u ++ us)) →
-      {ts : Symbols} {xs : List A} (room : ℕ) (rest : Symbols) → Following G ts xs → Follow rest → separator rest ≡ None → length xs ≤ room →
-      following_of separator find room (ts ++ rest) ≡ Some (xs, rest)
-  unfolding following_of
-  following_complete opens zero rest form.no_more f a few = rw a refl
-  following_complete opens (suc room) rest form.no_more f a few = rw a refl
-  following_complete opens zero rest (form.one_more g d) f a few = absurd (omega arith)
-  following_complete opens (suc room) rest (form.one_more {a = u} {b = v} {x = x} {xs = xs} g d) f a few =
-      let ih = following_complete opens {ts = v} {xs = xs} room rest d f a (omega arith) in
-      rw (append_assoc u v rest, opens u (v ++ rest) x g, c u (v ++ rest) x g (follows rest d f), ih) refl
+comma_stops us = omega arith
 
 comma_opens : {A : Type 0} (G : Symbols → A → Type 0) (u us : Symbols) (x : A) → G u x → comma (sign mark.Comma ∷ (u ++ us)) ≡ Some (u ++ us)
 unfolding after
 comma_opens G u us x g = refl
 
-listed_complete : {A : Type 0} (G : Symbols → A → Type 0) (find : TreeReader A) (Follow : Symbols → Type 0) (c : CompleteFor Follow G find)
+commas_complete : {A : Type 0} (G : Symbols → A → Type 0) (find : TreeReader A) (Follow : Symbols → Type 0) (c : CompleteFor Follow G find)
     (goes : (us : Symbols) → Follow (sign mark.Comma ∷ us)) {ts : Symbols} {xs : List A} (rest : Symbols) → Listed G ts xs → Follow rest →
-    comma rest ≡ None → listed_of find (ts ++ rest) ≡ Some (xs, rest)
-listed_complete G find Follow c goes rest (form.items {a = u} {b = v} {x = x} {xs = xs} g d) f a =
-    let few : length xs ≤ length (v ++ rest) = omega (arith, length-append v rest, following_few d) in
-    let others = following_complete comma G find Follow c goes (comma_opens G) {ts = v} {xs = xs} (length (v ++ rest)) rest d f a few in
-    rw (append_assoc u v rest, c u (v ++ rest) x g (follows comma G find Follow c goes rest d f), others) refl
+    comma rest ≡ None → listed_of comma find (ts ++ rest) ≡ Some (xs, rest)
+commas_complete G find Follow c goes rest d f a =
+    listed_complete (sign mark.Comma) comma G find Follow c goes (comma_opens G) rest (listed_of_sign d) f a
 
 -- ---- what a SELECT shows
 
@@ -91,7 +65,7 @@ what_complete : {ts : Symbols} {x : What} (us : Symbols) → IsWhat ts x → wha
 unfolding after
 what_complete us form.every_column = refl
 what_complete us (form.named_columns (form.items {b = b} {xs = ns} (form.is_name {n = n}) d)) =
-    let names = listed_complete IsName name_of Anything name_complete (λ us. tt) {ts = name n ∷ b} {xs = n ∷ ns} (key word.From ∷ us)
+    let names = commas_complete IsName name_of Anything name_complete (λ us. tt) {ts = name n ∷ b} {xs = n ∷ ns} (key word.From ∷ us)
     (form.items form.is_name d) tt (from_stops us) in
     rw names refl
 what_complete us form.count_rows = refl
@@ -110,10 +84,6 @@ not_into us form.max_of = refl
 
 -- ---- `where`
 
--- an `and` ends a sum
-and_below : (o : Op) → operator (key word.And) ≡ Some o → precedence o < 4
-and_below o h = let same : op.And ≡ o = cc h in rw (← same) (omega arith)
-
 module _ (Inner : Symbols → Expr → Type 0) (find : TreeReader Expr) (s : Sound Inner find) (c : Complete 1 Inner find) where
   and_complete : CompleteFor (Stops 1) (IsAnd Inner) (and_of find)
   unfolding after
@@ -121,13 +91,13 @@ module _ (Inner : Symbols → Expr → Type 0) (find : TreeReader Expr) (s : Sou
     where
       no_and_next : (rest : Symbols) → Stops 1 rest → after (key word.And) rest ≡ None
       no_and_next [] st = refl
-      no_and_next (key word.And ∷ us) st = absurd (omega (arith, st _ refl))
+      no_and_next (key word.And ∷ us) st = absurd (omega arith)
       no_and_next _ st = refl
   and_complete _ rest _ (form.and {ts = ts} {e = e} d) st = rw (conjunction_complete Inner find s c ts rest e d (Stops-weaker 1 2 rest (omega arith) st)) refl
 
   and_stops : {b : Symbols} {f : Option Expr} (rest : Symbols) → IsAnd Inner b f → Stops 1 rest → Stops 4 (b ++ rest)
   and_stops rest form.no_and st = Stops-weaker 1 4 rest (omega arith) st
-  and_stops rest (form.and d) st = and_below
+  and_stops rest (form.and d) st = omega arith
 
   scan_complete : CompleteFor Ends (IsScan Inner) (scan_of find)
   unfolding after
@@ -140,16 +110,16 @@ module _ (Inner : Symbols → Expr → Type 0) (find : TreeReader Expr) (s : Sou
   scan_complete _ rest _ (form.where_key {a = a} {b = b} {e = e} {f = f} d k) st =
       rw (append_assoc a b rest, sum_complete Inner find s c a (b ++ rest) e d (and_stops rest k st.stops), and_complete b rest f k st.stops) refl
   scan_complete _ rest _ (form.where_between {a = a} {b = b} {c = m} {low = e} {high = g} {f = f} d d2 k) st =
-      let stops : Stops 4 (key word.And ∷ ((b ++ m) ++ rest)) = and_below in
+      let stops : Stops 4 (key word.And ∷ ((b ++ m) ++ rest)) = omega arith in
       rw (append_assoc a (key word.And ∷ (b ++ m)) rest, sum_complete Inner find s c a (key word.And ∷ ((b ++ m) ++ rest)) e d stops)
       (rw (append_assoc b m rest, sum_complete Inner find s c b (m ++ rest) g d2 (and_stops rest k st.stops), and_complete m rest f k st.stops) refl)
 
   -- what follows the columns of an UPDATE
   scan_stops : {ts : Symbols} {x : Scan} (rest : Symbols) → IsScan Inner ts x → Ends rest → Stops 1 (ts ++ rest)
   scan_stops rest form.no_where st = st.stops
-  scan_stops rest (form.where_filter d) st = λ o h. absurd cc
-  scan_stops rest (form.where_key d k) st = λ o h. absurd cc
-  scan_stops rest (form.where_between d d2 k) st = λ o h. absurd cc
+  scan_stops rest (form.where_filter d) st = omega arith
+  scan_stops rest (form.where_key d k) st = omega arith
+  scan_stops rest (form.where_between d d2 k) st = omega arith
 
   scan_no_comma : {ts : Symbols} {x : Scan} (rest : Symbols) → IsScan Inner ts x → Ends rest → comma (ts ++ rest) ≡ None
   unfolding after
@@ -158,20 +128,29 @@ module _ (Inner : Symbols → Expr → Type 0) (find : TreeReader Expr) (s : Sou
   scan_no_comma rest (form.where_key d k) st = refl
   scan_no_comma rest (form.where_between d d2 k) st = refl
 
+  value_complete : CompleteFor (Stops 1) (ColumnValue Inner) (value_of find)
+  unfolding after
+  value_complete _ rest _ (form.is_expression {ts = ts} {e = e} d) st =
+      rw (
+        Begins-after word.Null (ts ++ rest) (Begins-append word.Null ts rest (expression_begins word.Null refl Inner ts e d)),
+        expression_complete Inner find s c ts rest e d st,
+      ) refl
+  value_complete _ rest _ form.is_null st = refl
+
   set_complete : CompleteFor (Stops 1) (IsSet Inner) (set_of find)
   unfolding after
-  set_complete _ rest _ (form.is_set {n = n} {ts = ts} {e = e} d) st = rw (expression_complete Inner find s c ts rest e d st) refl
+  set_complete _ rest _ (form.is_set {n = n} {ts = ts} {e = e} d) st = rw (value_complete ts rest e d st) refl
 
   sets_complete : {ts : Symbols} {xs : List Set} (rest : Symbols) → Listed (IsSet Inner) ts xs → Stops 1 rest → comma rest ≡ None →
       sets_of find (ts ++ rest) ≡ Some (xs, rest)
-  sets_complete rest d st a = listed_complete (IsSet Inner) (set_of find) (Stops 1) set_complete comma_stops rest d st a
+  sets_complete rest d st a = commas_complete (IsSet Inner) (set_of find) (Stops 1) set_complete comma_stops rest d st a
 
-  values_complete : {ts : Symbols} {xs : List Expr} (rest : Symbols) → Listed (Expression Inner) ts xs → Stops 1 rest → comma rest ≡ None →
+  values_complete : {ts : Symbols} {xs : List Expr} (rest : Symbols) → Listed (ColumnValue Inner) ts xs → Stops 1 rest → comma rest ≡ None →
       values_of find (ts ++ rest) ≡ Some (xs, rest)
-  values_complete rest d st a = listed_complete (Expression Inner) (expression_of find) (Stops 1) (expression_complete Inner find s c) comma_stops rest d st a
+  values_complete rest d st a = commas_complete (ColumnValue Inner) (value_of find) (Stops 1) value_complete comma_stops rest d st a
 
 close_stops : (us : Symbols) → Stops 1 (sign mark.Close ∷ us)
-close_stops us o h = absurd cc
+close_stops us = omega arith
 
 close_no_comma : (us : Symbols) → comma (sign mark.Close ∷ us) ≡ None
 unfolding after
@@ -210,10 +189,18 @@ unfolding after
 field_complete _ rest _ table.int_field f = refl
 field_complete _ rest _ table.text_field f = refl
 
-field_opens : (u us : Symbols) (x : Field) → IsField u x → field_comma (sign mark.Comma ∷ (u ++ us)) ≡ Some (u ++ us)
+column_complete : CompleteFor (λ rest. after (key word.Null) rest ≡ None) IsColumn column_of
 unfolding after
-field_opens _ us _ table.int_field = refl
-field_opens _ us _ table.text_field = refl
+column_complete ts rest x (table.is_plain g) f = rw (field_complete ts rest x g tt, f) refl
+column_complete _ rest _ (table.is_nullable {ts = ts} {f = c} g) f =
+    rw (append_assoc ts (key word.Null ∷ []) rest, field_complete ts (key word.Null ∷ rest) c g tt) refl
+
+column_opens : (u us : Symbols) (x : Field) → IsColumn u x → field_comma (sign mark.Comma ∷ (u ++ us)) ≡ Some (u ++ us)
+unfolding after
+column_opens _ us _ (table.is_plain table.int_field) = refl
+column_opens _ us _ (table.is_plain table.text_field) = refl
+column_opens _ us _ (table.is_nullable table.int_field) = refl
+column_opens _ us _ (table.is_nullable table.text_field) = refl
 
 module _ (Inner : Symbols → Expr → Type 0) (find : TreeReader Expr) (s : Sound Inner find) (c : Complete 1 Inner find) where
   check_complete : CompleteFor (Stops 1) (IsCheck Inner) (check_of find)
@@ -226,16 +213,20 @@ module _ (Inner : Symbols → Expr → Type 0) (find : TreeReader Expr) (s : Sou
   no_field rest form.no_more = refl
   no_field rest (form.one_more (table.is_check d) k) = refl
 
+  -- nor does `null` begin what stands behind the columns
+  no_null : {ts : Symbols} {es : List Expr} (rest : Symbols) → Following (IsCheck Inner) ts es → after (key word.Null) (ts ++ sign mark.Close ∷ rest) ≡ None
+  unfolding after
+  no_null rest form.no_more = refl
+  no_null rest (form.one_more d k) = refl
+
   pub table_complete : (ts rest : Symbols) (x : TableDef) → IsTable Inner ts x → table_of find (ts ++ rest) ≡ Some (x, rest)
   unfolding after
   table_complete _ rest _ (table.is_table {t = t} {a = a} {b = b} {c = m} {f = f} {fs = fs} {es = es} g d k) =
       let behind : Symbols = sign mark.Close ∷ rest in
-      let few : length fs ≤ length (b ++ (m ++ behind)) = omega (arith, length-append b (m ++ behind), following_few d) in
-      let fewer : length es ≤ length (m ++ behind) = omega (arith, length-append m behind, following_few k) in
-      let fields = following_complete field_comma IsField field_of Anything field_complete (λ us. tt) field_opens {ts = b} {xs = fs}
-      (length (b ++ (m ++ behind))) (m ++ behind) d tt (no_field rest k) few in
-      let checks = following_complete comma (IsCheck Inner) (check_of find) (Stops 1) check_complete comma_stops
-      (comma_opens (IsCheck Inner)) {ts = m} {xs = es} (length (m ++ behind)) behind k (close_stops rest) (close_no_comma rest) fewer in
+      let fields = following_complete (sign mark.Comma) field_comma IsColumn column_of (λ us. after (key word.Null) us ≡ None) column_complete
+      (λ us. refl) column_opens {ts = b} {xs = fs} (m ++ behind) (of_sign d) (no_null rest k) (no_field rest k) in
+      let checks = following_complete (sign mark.Comma) comma (IsCheck Inner) (check_of find) (Stops 1) check_complete comma_stops
+      (comma_opens (IsCheck Inner)) {ts = m} {xs = es} behind (of_sign k) (close_stops rest) (close_no_comma rest) in
       rw (
         append_assoc a (key word.Key ∷ (b ++ (m ++ sign mark.Close ∷ []))) rest,
         append_assoc b (m ++ sign mark.Close ∷ []) rest,

@@ -3,9 +3,10 @@ use Rattle.std.proofs.Common.{◌≡◌, ℕ, suc, zero, Bool, true, false, cond
 use Rattle.std.proofs.Common.{append_assoc}
 use Rattle.salt_ast.specs.Grammar.{Expression}
 use Rattle.salt_ast.specs.Statements as form
-use Rattle.salt_ast.specs.Statements.{Following, IsAnd, IsName, IsScan, IsSet, IsStatement, IsWhat, Listed}
+use Rattle.salt_ast.specs.Statements.{ColumnValue, Following, IsAnd, IsName, IsScan, IsSet, IsStatement, IsWhat, Listed}
 use Rattle.salt_ast.specs.Tables as table
-use Rattle.salt_ast.specs.Tables.{IsCheck, IsField, IsTable}
+use Rattle.salt_ast.specs.Tables.{IsCheck, IsColumn, IsField, IsTable}
+use Rattle.salt_ast.specs.Trees.{null}
 use Rattle.salt_ast.specs.declared.trees.Bound.TheVariants as bound
 use Rattle.salt_ast.specs.declared.trees.ColType.{ColType}
 use Rattle.salt_ast.specs.declared.trees.ColType.TheVariants as kind
@@ -13,44 +14,28 @@ use Rattle.salt_ast.specs.declared.trees.Expr.{Expr}
 use Rattle.salt_ast.specs.declared.trees.Field.{Field}
 use Rattle.salt_ast.specs.declared.trees.Statement.TheVariants as statement
 use Rattle.salt_ast.specs.declared.trees.What.TheVariants as what
-use Rattle.salt_parse.specs.Lists.{comma, either}
-use Rattle.salt_parse.specs.Reading.{after}
+use Rattle.salt_parse.specs.Lists.{comma}
+use Rattle.salt_parse.specs.Reading.{after, either}
 use Rattle.salt_parse.specs.StatementReading.{is_into}
 use Rattle.salt_parse.specs.TableReading.{field_comma, kind_at}
-use Rattle.salt_parse.proofs.ExpressionLaws.{Sound, bind_some, conjunction_sound, expression_sound, some_is, sum_sound}
+use Rattle.salt_parse.proofs.ExpressionLaws.{Sound, bind_some, conjunction_sound, either_is, expression_sound, some_is, sum_sound}
+use Rattle.salt_parse.proofs.ListLaws.{SoundFor, by_sign, following_sound, listed_by_sign, listed_sound, renamed}
 use Rattle.salt_parse.proofs.Loop.{after_is}
-use Rattle.salt_parse.proofs.StatementTrees.{aggregate_of, ahead, and_of, between_of, bound_of, change_of, check_of, checks_of, columns_of, count_of}
+use Rattle.salt_parse.proofs.StatementTrees.{aggregate_of, ahead, and_of, between_of, bound_of, change_of, check_of, checks_of, column_of, columns_of, count_of}
 use Rattle.salt_parse.proofs.StatementTrees.{definition_of, delete_of, enclosed_of, ensure_of, equal_of, field_of, fields_of, filter_of, following_of}
-use Rattle.salt_parse.proofs.StatementTrees.{insert_of, into_of, largest_of, least_of, listed_of, name_of, names_of, only_key_of, scan_of}
+use Rattle.salt_parse.proofs.StatementTrees.{insert_of, into_of, largest_of, least_of, listed_of, name_of, names_of, nullable_of, only_key_of, scan_of}
 use Rattle.salt_parse.proofs.StatementTrees.{select_into_of, select_of, select_rows_of, set_of, sets_of, statement_of, table_of, total_of, update_of}
-use Rattle.salt_parse.proofs.StatementTrees.{values_of, what_of, where_of}
+use Rattle.salt_parse.proofs.StatementTrees.{value_of, values_of, what_of, where_of}
 use Rattle.salt_parse.proofs.Trees.{TreeReader, conjunction_of, expression_of, sum_of}
 use Rattle.salt_tokens.specs.Scanning.{◌>>=◌}
 use Rattle.salt_tokens.specs.Symbols.{Symbols, Symbol, key, name, sign}
 use Rattle.salt_tokens.specs.declared.keyword.Keyword.TheVariants as word
 use Rattle.salt_tokens.specs.declared.sign.Sign.TheVariants as mark
 
--- what is found is spelled by the symbols that were taken
-abbrev pub SoundFor : {A : Type 0} → (Symbols → A → Type 0) → TreeReader A → Type 0
-SoundFor {A} G find = (ts : Symbols) (x : A) (rest : Symbols) → find ts ≡ Some (x, rest) → (front : Symbols) × (ts ≡ front ++ rest) × G front x
-
--- the same where these symbols were taken before
+-- what is found is spelled by the symbols that were taken, where these symbols were taken before
 abbrev pub SoundBehind : {A : Type 0} → Symbols → (Symbols → A → Type 0) → TreeReader A → Type 0
 SoundBehind {A} before G find = (ts : Symbols) (x : A) (rest : Symbols) → find ts ≡ Some (x, rest) →
     (front : Symbols) × (before ++ ts ≡ front ++ rest) × G front x
-
--- the same under another name of what was found
-renamed : {A : Type 0} (G : Symbols → A → Type 0) (ts front : Symbols) (x : A) (left : Symbols) (y : A) (rest : Symbols) →
-    ◌≡◌ {A = Option (A × Symbols)} (Some (x, left)) (Some (y, rest)) → ts ≡ front ++ left → G front x → (f : Symbols) × (ts ≡ f ++ rest) × G f y
-renamed {A} G ts front x left y rest h e g =
-    let p = some_is (x, left) (y, rest) h in
-    (front, e ∙ ap (λ (z : A × Symbols). front ++ z.1) p, subst (λ (z : A × Symbols). G front z.0) p g)
-
--- which of two ways reading went
-either_is : {A : Type 0} (o : Option Symbols) (a : Option A) (f : Symbols → Option A) (y : A) (B : Type 0) → either o a f ≡ Some y →
-    (o ≡ None → a ≡ Some y → B) → ((us : Symbols) → o ≡ Some us → f us ≡ Some y → B) → B
-either_is None a f y B h g k = g refl h
-either_is (Some us) a f y B h g k = k us refl h
 
 name_is : (ts : Symbols) (n : List ℕ) (rest : Symbols) → name_of ts ≡ Some (n, rest) → ts ≡ name n ∷ rest
 name_is (name m ∷ ts) n rest h = let p = some_is (m, ts) (n, rest) h in rw (ap (λ (x : List ℕ × Symbols). x.0) p, ap (λ (x : List ℕ × Symbols). x.1) p) refl
@@ -61,41 +46,17 @@ name_sound ts n rest h = (name n ∷ [], name_is ts n rest h, form.is_name)
 
 -- ---- lists
 
-module _ {A : Type 0} (separator : Symbols → Option Symbols) (separates : (ts us : Symbols) → separator ts ≡ Some us → ts ≡ sign mark.Comma ∷ us)
-    (G : Symbols → A → Type 0) (find : TreeReader A) (s : SoundFor G find) where
-  pub following_sound : (room : ℕ) → SoundFor (Following G) (following_of separator find room)
-  unfolding following_of
-  following_sound zero ts xs rest h =
-      either_is (separator ts) (Some ([], ts)) (λ us. None) (xs, rest) _ h
-      (λ none e. renamed (Following G) ts [] [] ts xs rest e refl form.no_more)
-      (λ us some e. absurd cc)
-  following_sound (suc room) ts xs rest h =
-      either_is (separator ts) (Some ([], ts)) (λ us. find us >>= λ x. ahead (x.0 ∷ []) (following_of separator find room x.1)) (xs, rest) _ h
-      (λ none e. renamed (Following G) ts [] [] ts xs rest e refl form.no_more)
-      (λ us some e.
-      let b = bind_some (find us) (λ x. ahead (x.0 ∷ []) (following_of separator find room x.1)) (xs, rest) e in
-      let k = bind_some (following_of separator find room b.0.1) (λ y. Some (b.0.0 ∷ y.0, y.1)) (xs, rest) b.2 in
-      let r = s us b.0.0 b.0.1 b.1 in
-      let q = following_sound room b.0.1 k.0.0 k.0.1 k.1 in
-      let is : us ≡ (r.0 ++ q.0) ++ k.0.1 = r.1 ∙ ap (λ (x : Symbols). r.0 ++ x) q.1 ∙ sym (append_assoc r.0 q.0 k.0.1) in
-      renamed (Following G) ts (sign mark.Comma ∷ (r.0 ++ q.0)) (b.0.0 ∷ k.0.0) k.0.1 xs rest k.2
-      (separates ts us some ∙ ap (λ (x : Symbols). sign mark.Comma ∷ x) is) (form.one_more r.2 q.2))
-
 comma_is : (ts us : Symbols) → comma ts ≡ Some us → ts ≡ sign mark.Comma ∷ us
 comma_is ts us h = after_is (sign mark.Comma) ts us h
 
 module _ {A : Type 0} (G : Symbols → A → Type 0) (find : TreeReader A) (s : SoundFor G find) where
-  listed_sound : SoundFor (Listed G) (listed_of find)
-  listed_sound ts xs rest h =
-      let b = bind_some (find ts) (λ x. ahead (x.0 ∷ []) (following_of comma find (length x.1) x.1)) (xs, rest) h in
-      let k = bind_some (following_of comma find (length b.0.1) b.0.1) (λ y. Some (b.0.0 ∷ y.0, y.1)) (xs, rest) b.2 in
-      let r = s ts b.0.0 b.0.1 b.1 in
-      let q = following_sound comma comma_is G find s (length b.0.1) b.0.1 k.0.0 k.0.1 k.1 in
-      renamed (Listed G) ts (r.0 ++ q.0) (b.0.0 ∷ k.0.0) k.0.1 xs rest k.2
-      (r.1 ∙ ap (λ (x : Symbols). r.0 ++ x) q.1 ∙ sym (append_assoc r.0 q.0 k.0.1)) (form.items r.2 q.2)
+  commas_sound : SoundFor (Listed G) (listed_of comma find)
+  commas_sound ts xs rest h =
+      let r = listed_sound (sign mark.Comma) comma comma_is G find s ts xs rest h in
+      (r.0, r.1, listed_by_sign r.2)
 
 names_sound : SoundFor (Listed IsName) names_of
-names_sound ts xs rest h = listed_sound IsName name_of name_sound ts xs rest h
+names_sound ts xs rest h = commas_sound IsName name_of name_sound ts xs rest h
 
 -- ---- what a SELECT shows
 
@@ -264,25 +225,31 @@ module _ (Inner : Symbols → Expr → Type 0) (find : TreeReader Expr) (s : Sou
       (λ none e. renamed (IsScan Inner) ts [] (record { bound = bound.All; filter = None }) ts x rest e refl form.no_where)
       (λ us some e. behind (IsScan Inner) (where_of find) (key word.Where) where_sound ts us x rest some e)
 
-  values_sound : SoundFor (Listed (Expression Inner)) (values_of find)
-  values_sound ts x rest h = listed_sound (Expression Inner) (expression_of find) (expression_sound Inner find s) ts x rest h
+  value_sound : SoundFor (ColumnValue Inner) (value_of find)
+  value_sound ts x rest h =
+      either_is (after (key word.Null) ts) (expression_of find ts) (λ us. Some (null, us)) (x, rest) _ h
+      (λ none e. let r = expression_sound Inner find s ts x rest e in (r.0, r.1, form.is_expression r.2))
+      (λ us some e. renamed (ColumnValue Inner) ts (key word.Null ∷ []) null us x rest e (after_is (key word.Null) ts us some) form.is_null)
+
+  values_sound : SoundFor (Listed (ColumnValue Inner)) (values_of find)
+  values_sound ts x rest h = commas_sound (ColumnValue Inner) (value_of find) value_sound ts x rest h
 
   set_sound : SoundFor (IsSet Inner) (set_of find)
   set_sound ts x rest h =
       let b0 = bind_some (name_of ts)
-      (λ v. after (sign mark.Equal) v.1 >>= λ v1. expression_of find v1 >>= λ v2. Some (record { column = v.0; value = v2.0 }, v2.1)) (x, rest) h in
+      (λ v. after (sign mark.Equal) v.1 >>= λ v1. value_of find v1 >>= λ v2. Some (record { column = v.0; value = v2.0 }, v2.1)) (x, rest) h in
       let s0 = name_is ts b0.0.0 b0.0.1 b0.1 in
-      let b1 = bind_some (after (sign mark.Equal) b0.0.1) (λ v. expression_of find v >>= λ v2. Some (record { column = b0.0.0; value = v2.0 }, v2.1))
+      let b1 = bind_some (after (sign mark.Equal) b0.0.1) (λ v. value_of find v >>= λ v2. Some (record { column = b0.0.0; value = v2.0 }, v2.1))
       (x, rest) b0.2 in
-      let b2 = bind_some (expression_of find b1.0) (λ v. Some (record { column = b0.0.0; value = v.0 }, v.1)) (x, rest) b1.2 in
-      let s2 = expression_sound Inner find s b1.0 b2.0.0 b2.0.1 b2.1 in
+      let b2 = bind_some (value_of find b1.0) (λ v. Some (record { column = b0.0.0; value = v.0 }, v.1)) (x, rest) b1.2 in
+      let s2 = value_sound b1.0 b2.0.0 b2.0.1 b2.1 in
       let q2 : b1.0 ≡ (s2.0) ++ b2.0.1 = s2.1 in
       let q1 : b0.0.1 ≡ (sign mark.Equal ∷ s2.0) ++ b2.0.1 = after_is (sign mark.Equal) b0.0.1 b1.0 b1.1 ∙ ap (λ (z : Symbols). sign mark.Equal ∷ z) q2 in
       let q0 : ts ≡ (name b0.0.0 ∷ sign mark.Equal ∷ s2.0) ++ b2.0.1 = s0 ∙ ap (λ (z : Symbols). name b0.0.0 ∷ z) q1 in
       renamed (IsSet Inner) (ts) (name b0.0.0 ∷ sign mark.Equal ∷ s2.0) (record { column = b0.0.0; value = b2.0.0 }) b2.0.1 x rest b2.2 q0 (form.is_set s2.2)
 
   sets_sound : SoundFor (Listed (IsSet Inner)) (sets_of find)
-  sets_sound ts x rest h = listed_sound (IsSet Inner) (set_of find) set_sound ts x rest h
+  sets_sound ts x rest h = commas_sound (IsSet Inner) (set_of find) set_sound ts x rest h
 
 module _ (Outer : Symbols → Expr → Type 0) (Inner : Symbols → Expr → Type 0) (find : TreeReader Expr) (s : Sound Inner find) where
   insert_sound : SoundBehind (key word.Insert ∷ []) (IsStatement Outer Inner) (insert_of find)
@@ -437,22 +404,33 @@ module _ (Inner Deeper : Symbols → Expr → Type 0) (find : TreeReader Expr) (
 
 -- ---- tables
 
-field_sound : SoundFor IsField field_of
+pub field_sound : SoundFor IsField field_of
 field_sound ts x rest h =
-    let a = bind_some (name_of ts) (λ n. kind_at n.1 >>= λ k. Some (record { name = n.0; kind = k.0 }, k.1)) (x, rest) h in
-    let b = bind_some (kind_at a.0.1) (λ k. Some (record { name = a.0.0; kind = k.0 }, k.1)) (x, rest) a.2 in
+    let a = bind_some (name_of ts) (λ n. kind_at n.1 >>= λ k. Some (record { name = n.0; kind = k.0; nullable = false }, k.1)) (x, rest) h in
+    let b = bind_some (kind_at a.0.1) (λ k. Some (record { name = a.0.0; kind = k.0; nullable = false }, k.1)) (x, rest) a.2 in
     either_is (after (key word.Int) a.0.1) (after (key word.Text) a.0.1 >>= λ us. Some (kind.Text, us)) (λ us. Some (kind.Int, us)) b.0 _ b.1
     (λ none e.
     let c = bind_some (after (key word.Text) a.0.1) (λ us. Some (kind.Text, us)) b.0 e in
     let p = some_is (kind.Text, c.0) b.0 c.2 in
-    renamed IsField ts (name a.0.0 ∷ key word.Text ∷ []) (record { name = a.0.0; kind = kind.Text }) c.0 x rest
-    (ap (λ (k : ColType × Symbols). let y : Option (Field × Symbols) = Some (record { name = a.0.0; kind = k.0 }, k.1) in y) p ∙ b.2)
+    renamed IsField ts (name a.0.0 ∷ key word.Text ∷ []) (record { name = a.0.0; kind = kind.Text; nullable = false }) c.0 x rest
+    (ap (λ (k : ColType × Symbols). let y : Option (Field × Symbols) = Some (record { name = a.0.0; kind = k.0; nullable = false }, k.1) in y) p ∙ b.2)
     (name_is ts a.0.0 a.0.1 a.1 ∙ ap (λ (z : Symbols). name a.0.0 ∷ z) (after_is (key word.Text) a.0.1 c.0 c.1)) table.text_field)
     (λ us some e.
     let p = some_is (kind.Int, us) b.0 e in
-    renamed IsField ts (name a.0.0 ∷ key word.Int ∷ []) (record { name = a.0.0; kind = kind.Int }) us x rest
-    (ap (λ (k : ColType × Symbols). let y : Option (Field × Symbols) = Some (record { name = a.0.0; kind = k.0 }, k.1) in y) p ∙ b.2)
+    renamed IsField ts (name a.0.0 ∷ key word.Int ∷ []) (record { name = a.0.0; kind = kind.Int; nullable = false }) us x rest
+    (ap (λ (k : ColType × Symbols). let y : Option (Field × Symbols) = Some (record { name = a.0.0; kind = k.0; nullable = false }, k.1) in y) p ∙ b.2)
     (name_is ts a.0.0 a.0.1 a.1 ∙ ap (λ (z : Symbols). name a.0.0 ∷ z) (after_is (key word.Int) a.0.1 us some)) table.int_field)
+
+column_sound : SoundFor IsColumn column_of
+column_sound ts x rest h =
+    let a = bind_some (field_of ts) (λ c. nullable_of c.0 c.1) (x, rest) h in
+    let r = field_sound ts a.0.0 a.0.1 a.1 in
+    either_is (after (key word.Null) a.0.1) (Some (a.0.0, a.0.1)) (λ us. Some (record a.0.0 { nullable = true }, us)) (x, rest) _ a.2
+    (λ none e. renamed IsColumn ts r.0 a.0.0 a.0.1 x rest e r.1 (table.is_plain r.2))
+    (λ us some e.
+    let whole : ts ≡ (r.0 ++ key word.Null ∷ []) ++ us = r.1 ∙ ap (λ (z : Symbols). r.0 ++ z) (after_is (key word.Null) a.0.1 us some)
+    ∙ sym (append_assoc r.0 (key word.Null ∷ []) us) in
+    renamed IsColumn ts (r.0 ++ key word.Null ∷ []) (record a.0.0 { nullable = true }) us x rest e whole (table.is_nullable r.2))
 
 field_comma_is : (ts us : Symbols) → field_comma ts ≡ Some us → ts ≡ sign mark.Comma ∷ us
 field_comma_is ts us h =
@@ -463,18 +441,18 @@ field_comma_is ts us h =
 
 -- the columns, with `key` behind the first
 pub data IsFields : Symbols → List Field → Type 0 where
-  is_fields : {a b : Symbols} {f : Field} {fs : List Field} → IsField a f → Following IsField b fs → IsFields (a ++ key word.Key ∷ b) (f ∷ fs)
+  is_fields : {a b : Symbols} {f : Field} {fs : List Field} → IsField a f → Following IsColumn b fs → IsFields (a ++ key word.Key ∷ b) (f ∷ fs)
 
 fields_sound : SoundFor IsFields fields_of
 fields_sound ts x rest h =
-    let a = bind_some (field_of ts) (λ c. after (key word.Key) c.1 >>= λ us. ahead (c.0 ∷ []) (following_of field_comma field_of (length us) us)) (x, rest) h in
-    let b = bind_some (after (key word.Key) a.0.1) (λ us. ahead (a.0.0 ∷ []) (following_of field_comma field_of (length us) us)) (x, rest) a.2 in
-    let c = bind_some (following_of field_comma field_of (length b.0) b.0) (λ y. Some (a.0.0 ∷ y.0, y.1)) (x, rest) b.2 in
+    let a = bind_some (field_of ts) (λ c. after (key word.Key) c.1 >>= λ us. ahead (c.0 ∷ []) (following_of field_comma column_of (length us) us)) (x, rest) h in
+    let b = bind_some (after (key word.Key) a.0.1) (λ us. ahead (a.0.0 ∷ []) (following_of field_comma column_of (length us) us)) (x, rest) a.2 in
+    let c = bind_some (following_of field_comma column_of (length b.0) b.0) (λ y. Some (a.0.0 ∷ y.0, y.1)) (x, rest) b.2 in
     let r = field_sound ts a.0.0 a.0.1 a.1 in
-    let q = following_sound field_comma field_comma_is IsField field_of field_sound (length b.0) b.0 c.0.0 c.0.1 c.1 in
+    let q = following_sound (sign mark.Comma) field_comma field_comma_is IsColumn column_of column_sound (length b.0) b.0 c.0.0 c.0.1 c.1 in
     let keyed : a.0.1 ≡ (key word.Key ∷ q.0) ++ c.0.1 = after_is (key word.Key) a.0.1 b.0 b.1 ∙ ap (λ (z : Symbols). key word.Key ∷ z) q.1 in
     renamed IsFields ts (r.0 ++ key word.Key ∷ q.0) (a.0.0 ∷ c.0.0) c.0.1 x rest c.2
-    (r.1 ∙ ap (λ (z : Symbols). r.0 ++ z) keyed ∙ sym (append_assoc r.0 (key word.Key ∷ q.0) c.0.1)) (is_fields r.2 q.2)
+    (r.1 ∙ ap (λ (z : Symbols). r.0 ++ z) keyed ∙ sym (append_assoc r.0 (key word.Key ∷ q.0) c.0.1)) (is_fields r.2 (by_sign q.2))
 
 module _ (Inner : Symbols → Expr → Type 0) (find : TreeReader Expr) (s : Sound Inner find) where
   check_sound : SoundFor (IsCheck Inner) (check_of find)
@@ -484,7 +462,9 @@ module _ (Inner : Symbols → Expr → Type 0) (find : TreeReader Expr) (s : Sou
       (key word.Check ∷ r.0, after_is (key word.Check) ts a.0 a.1 ∙ ap (λ (z : Symbols). key word.Check ∷ z) r.1, table.is_check r.2)
 
   checks_sound : SoundFor (Following (IsCheck Inner)) (checks_of find)
-  checks_sound ts x rest h = following_sound comma comma_is (IsCheck Inner) (check_of find) check_sound (length ts) ts x rest h
+  checks_sound ts x rest h =
+      let r = following_sound (sign mark.Comma) comma comma_is (IsCheck Inner) (check_of find) check_sound (length ts) ts x rest h in
+      (r.0, r.1, by_sign r.2)
 
   -- a table, by its columns in one
   is_defined : {t : List ℕ} {a c : Symbols} {fs : List Field} {es : List Expr} → IsFields a fs → Following (IsCheck Inner) c es →

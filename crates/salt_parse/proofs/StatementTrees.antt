@@ -1,4 +1,5 @@
 -- The statements and tables that reading from left to right finds, whatever they pass.
+use Rattle.salt_ast.specs.Trees.{null}
 use Rattle.salt_ast.specs.declared.trees.Bound.TheVariants as bound
 use Rattle.salt_ast.specs.declared.trees.Expr.{Expr}
 use Rattle.salt_ast.specs.declared.trees.Field.{Field}
@@ -9,8 +10,8 @@ use Rattle.salt_ast.specs.declared.trees.Statement.TheVariants as statement
 use Rattle.salt_ast.specs.declared.trees.TableDef.{TableDef}
 use Rattle.salt_ast.specs.declared.trees.What.{What}
 use Rattle.salt_ast.specs.declared.trees.What.TheVariants as what
-use Rattle.salt_parse.specs.Lists.{comma, either}
-use Rattle.salt_parse.specs.Reading.{after}
+use Rattle.salt_parse.specs.Lists.{comma}
+use Rattle.salt_parse.specs.Reading.{after, either}
 use Rattle.salt_parse.specs.StatementReading.{is_into}
 use Rattle.salt_parse.specs.TableReading.{field_comma, kind_at}
 use Rattle.salt_parse.proofs.Trees.{TreeReader, conjunction_of, expression_of, sum_of}
@@ -18,7 +19,7 @@ use Rattle.salt_tokens.specs.Scanning.{◌>>=◌}
 use Rattle.salt_tokens.specs.Symbols.{Symbols, key, name, sign}
 use Rattle.salt_tokens.specs.declared.keyword.Keyword.TheVariants as word
 use Rattle.salt_tokens.specs.declared.sign.Sign.TheVariants as mark
-use Rattle.std.proofs.Common.{List, None, Option, Some, [], cond, length, suc, zero, ℕ, ◌++◌, ◌∷◌}
+use Rattle.std.proofs.Common.{List, None, Option, Some, [], cond, false, length, suc, true, zero, ℕ, ◌++◌, ◌∷◌}
 
 abbrev pub name_of : TreeReader (List ℕ)
 name_of (name n ∷ ts) = Some (n, ts)
@@ -33,8 +34,8 @@ following_of separator item zero ts = either (separator ts) (Some ([], ts)) (λ 
 following_of separator item (suc room) ts =
     either (separator ts) (Some ([], ts)) (λ us. item us >>= λ x. ahead (x.0 ∷ []) (following_of separator item room x.1))
 
-abbrev pub listed_of : {A : Type 0} → TreeReader A → TreeReader (List A)
-listed_of item ts = item ts >>= λ x. ahead (x.0 ∷ []) (following_of comma item (length x.1) x.1)
+abbrev pub listed_of : {A : Type 0} → (Symbols → Option Symbols) → TreeReader A → TreeReader (List A)
+listed_of separator item ts = item ts >>= λ x. ahead (x.0 ∷ []) (following_of separator item (length x.1) x.1)
 
 abbrev pub and_of : TreeReader Expr → TreeReader (Option Expr)
 and_of inner ts = either (after (key word.And) ts) (Some (None, ts)) (λ us. conjunction_of inner us >>= λ x. Some (Some x.0, x.1))
@@ -60,17 +61,20 @@ where_of inner ts = either (after (key word.Key) ts) (filter_of inner ts) (bound
 abbrev pub scan_of : TreeReader Expr → TreeReader Scan
 scan_of inner ts = either (after (key word.Where) ts) (Some (record { bound = bound.All; filter = None }, ts)) (where_of inner)
 
+abbrev pub value_of : TreeReader Expr → TreeReader Expr
+value_of inner ts = either (after (key word.Null) ts) (expression_of inner ts) (λ us. Some (null, us))
+
 abbrev pub values_of : TreeReader Expr → TreeReader (List Expr)
-values_of inner = listed_of (expression_of inner)
+values_of inner = listed_of comma (value_of inner)
 
 abbrev pub names_of : TreeReader (List (List ℕ))
-names_of = listed_of name_of
+names_of = listed_of comma name_of
 
 abbrev pub set_of : TreeReader Expr → TreeReader Set
-set_of inner ts = name_of ts >>= λ n. after (sign mark.Equal) n.1 >>= λ us. expression_of inner us >>= λ e. Some (record { column = n.0; value = e.0 }, e.1)
+set_of inner ts = name_of ts >>= λ n. after (sign mark.Equal) n.1 >>= λ us. value_of inner us >>= λ e. Some (record { column = n.0; value = e.0 }, e.1)
 
 abbrev pub sets_of : TreeReader Expr → TreeReader (List Set)
-sets_of inner = listed_of (set_of inner)
+sets_of inner = listed_of comma (set_of inner)
 
 abbrev pub enclosed_of : TreeReader (List ℕ)
 enclosed_of ts = after (sign mark.Open) ts >>= λ us. name_of us >>= λ n. after (sign mark.Close) n.1 >>= λ vs. Some (n.0, vs)
@@ -140,10 +144,16 @@ statement_of inner deeper ts = either (after (key word.Insert) ts) (either (afte
 -- tables
 
 abbrev pub field_of : TreeReader Field
-field_of ts = name_of ts >>= λ n. kind_at n.1 >>= λ k. Some (record { name = n.0; kind = k.0 }, k.1)
+field_of ts = name_of ts >>= λ n. kind_at n.1 >>= λ k. Some (record { name = n.0; kind = k.0; nullable = false }, k.1)
+
+abbrev pub nullable_of : Field → TreeReader Field
+nullable_of c ts = either (after (key word.Null) ts) (Some (c, ts)) (λ us. Some (record c { nullable = true }, us))
+
+abbrev pub column_of : TreeReader Field
+column_of ts = field_of ts >>= λ c. nullable_of c.0 c.1
 
 abbrev pub fields_of : TreeReader (List Field)
-fields_of ts = field_of ts >>= λ c. after (key word.Key) c.1 >>= λ us. ahead (c.0 ∷ []) (following_of field_comma field_of (length us) us)
+fields_of ts = field_of ts >>= λ c. after (key word.Key) c.1 >>= λ us. ahead (c.0 ∷ []) (following_of field_comma column_of (length us) us)
 
 abbrev pub check_of : TreeReader Expr → TreeReader Expr
 check_of inner ts = after (key word.Check) ts >>= λ us. expression_of inner us

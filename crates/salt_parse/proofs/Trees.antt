@@ -1,13 +1,13 @@
 -- The trees that reading from left to right finds, whatever they pass.
 use Rattle.salt_ast.specs.Operators.{operator}
-use Rattle.salt_ast.specs.Trees.{letters, negation, number, operation}
+use Rattle.salt_ast.specs.Trees.{letters, negation, null_test, number, operation}
 use Rattle.salt_ast.specs.declared.trees.Expr.{Column, Expr, Variable}
-use Rattle.salt_parse.specs.Reading.{after, at_operator, of_level}
+use Rattle.salt_parse.specs.Reading.{after, at_operator, either, of_level}
 use Rattle.salt_tokens.specs.Scanning.{◌>>=◌}
 use Rattle.salt_tokens.specs.Symbols.{Symbols, int, key, name, sign, text}
 use Rattle.salt_tokens.specs.declared.keyword.Keyword.TheVariants as word
 use Rattle.salt_tokens.specs.declared.sign.Sign.TheVariants as mark
-use Rattle.std.proofs.Common.{None, Option, Some, [], length, pos, suc, zero, ℕ, ◌∷◌}
+use Rattle.std.proofs.Common.{Bool, None, Option, Some, [], false, length, pos, suc, true, zero, ℕ, ◌∷◌}
 use Rattle.std.specs.Prelude.{neg_ℤ}
 
 -- a tree, and the symbols behind it
@@ -25,10 +25,19 @@ left_of level operand ts = do
   x ← operand ts
   tail_of level operand (suc (length x.1)) x.0 x.1
 
+abbrev pub tested_of : Bool → Expr → TreeReader Expr
+tested_of negated l ts = after (key word.Null) ts >>= λ us. Some (null_test negated l, us)
+
+abbrev pub is_of : Expr → TreeReader Expr
+is_of l ts = either (after (key word.Not) ts) (tested_of false l ts) (tested_of true l)
+
+abbrev pub null_test_of : Expr → TreeReader Expr
+null_test_of l ts = either (after (key word.Is) ts) (Some (l, ts)) (is_of l)
+
 abbrev pub second_of : ℕ → TreeReader Expr → Expr → TreeReader Expr
 second_of level operand l [] = Some (l, [])
 second_of level operand l (t ∷ ts) =
-    at_operator (of_level level (operator t)) (Some (l, t ∷ ts)) (λ o. operand ts >>= λ x. Some (operation o l x.0, x.1))
+    at_operator (of_level level (operator t)) (null_test_of l (t ∷ ts)) (λ o. operand ts >>= λ x. Some (operation o l x.0, x.1))
 
 unfoldable pub once_of : ℕ → TreeReader Expr → TreeReader Expr
 once_of level operand ts = do

@@ -6,7 +6,7 @@ use Rattle.std.specs.List.{list_all}
 use Rattle.std.specs.Prelude.{IfOk, is_none}
 use Rattle.salt_ast.specs.Grammar.{Within}
 use Rattle.salt_ast.specs.Limits.{statement_limit, table_limit}
-use Rattle.salt_ast.specs.Spelling.{IsWithinLimits, Passes, Spells, SpellsStatement, SpellsTable, by_parentheses, by_tree}
+use Rattle.salt_ast.specs.Spelling.{IsWithinLimits, Passes, Spells, by_parentheses, by_tree}
 use Rattle.salt_ast.specs.Statements.{IsStatement}
 use Rattle.salt_ast.specs.Tables.{IsTable}
 use Rattle.std.specs.Bool.{then_some}
@@ -16,15 +16,16 @@ use Rattle.salt_ast.specs.declared.limit.LimitName.TheVariants as limit
 use Rattle.salt_ast.specs.declared.trees.Statement.{Statement}
 use Rattle.salt_ast.specs.declared.trees.TableDef.{TableDef}
 use Rattle.salt_parse.specs.Answers.{parse_err}
-use Rattle.salt_parse.specs.Attempts.{IsAnswer, IsAnswerFor, answer_for, attempt_of, ended, limit_in, settled, tree_or_limit}
+use Rattle.salt_parse.specs.Attempts.{IsAnswer, answer_for, attempt_of, ended, limit_in, settled, tree_or_limit}
 use Rattle.salt_parse.specs.Flags.{Flags, clear, no_flags}
 use Rattle.salt_parse.specs.Reading.{Read, after, within_at}
+use Rattle.salt_parse.specs.Settling.{ArePrintable, DeepStatement, DeepTable, IsPrintable, Settles, ShallowStatement, ShallowTable}
 use Rattle.salt_parse.specs.StatementReading.{statement_at, statement_within}
 use Rattle.salt_parse.specs.TableReading.{table_at, table_within}
 use Rattle.salt_parse.specs.declared.error.ParseErr.{ParseErr}
 use Rattle.salt_parse.specs.declared.error.ParseErr.TheVariants.{Limit, Memory, Syntax}
 use Rattle.salt_parse.proofs.ExpressionLaws.{some_is, within_complete, within_sound}
-use Rattle.salt_parse.proofs.Mirror.{Agrees, ArePrintable, AreKept, IsPrintable, Marks, noted, within_mirrors}
+use Rattle.salt_parse.proofs.Mirror.{Agrees, AreKept, Marks, noted, within_mirrors}
 use Rattle.salt_parse.proofs.MirrorStatements.{statement_agrees, statement_marks, table_agrees, table_marks}
 use Rattle.salt_parse.proofs.StatementComplete.{Ends, statement_complete, table_complete}
 use Rattle.salt_parse.proofs.StatementSound.{statement_sound, table_sound}
@@ -127,13 +128,6 @@ module _ {A : Type 0} (m : Marks A) where
 
 -- ---- two attempts
 
--- what an answer tells of what the row spells, where a tree passes this limit
-abbrev pub Settles : {A : Type 0} → (A → Option LimitName) → (Symbols → A → Type 0) → (Symbols → A → Type 0) → Symbols → Result A ParseErr → Type 0
-Settles limit_of Shallow Deep ts (Ok x) = Shallow ts x × (limit_of x ≡ None)
-Settles limit_of Shallow Deep ts (Err Memory) = Unit {0}
-Settles {A} limit_of Shallow Deep ts (Err Syntax) = (x : A) → Deep ts x → ⊥
-Settles {A} limit_of Shallow Deep ts (Err (Limit l)) = (x : A) × Deep ts x × Passes (limit_of x) (Shallow ts x) l
-
 module _ {A : Type 0} (m : Marks A) (Shallow Deep : Symbols → A → Type 0) (up : (ts : Symbols) (x : A) → Shallow ts x → Deep ts x)
     (p q : Option (A × Symbols)) (ts : Symbols) where
   abbrev Found : Option (A × Symbols) → (Symbols → A → Type 0) → Type 0
@@ -210,102 +204,83 @@ module _ {A : Type 0} (one : OneRow) (bytes : List ℕ) where
       let same : symbols_of s.tokens ≡ r = ap symbols_of (one bytes s.tokens h.0 s.lexes h.1) ∙ sym h.2 in
       subst (λ (z : Symbols). G z x) same s.spelled
 
-  one_tree : (G : Symbols → A → Type 0) (find : Symbols → Option (A × Symbols)) → ((ts : Symbols) (x : A) → G ts x → find ts ≡ Some (x, [])) →
-      (a b : A) → Spells G bytes a → Spells G bytes b → a ≡ b
-  one_tree G find c a b s t =
+  pub one_tree : (G : Symbols → A → Type 0) → ((ts : Symbols) (a b : A) → G ts a → G ts b → a ≡ b) → (a b : A) → Spells G bytes a → Spells G bytes b → a ≡ b
+  one_tree G same a b s t =
       let h : HasSymbols bytes (symbols_of t.tokens) = (t.tokens, t.lexes, refl) in
-      one_of G (find (symbols_of t.tokens)) (symbols_of t.tokens) (λ x d. c (symbols_of t.tokens) x d) a b (unspelled G (symbols_of t.tokens) a h s) t.spelled
+      same (symbols_of t.tokens) a b (unspelled G (symbols_of t.tokens) a h s) t.spelled
 
   passes : (Shallow : Symbols → A → Type 0) (o : Option LimitName) (r : Symbols) (x : A) (l : LimitName) → HasSymbols bytes r →
       Passes o (Shallow r x) l → Passes o (Spells Shallow bytes x) l
   passes Shallow o r x l h (by_tree e) = by_tree e
   passes Shallow o r x l h (by_parentheses e n) = by_parentheses e (λ s. n (unspelled Shallow r x h s))
 
-pub one_statement : OneRow → (bytes : List ℕ) (a b : Statement) → SpellsStatement bytes a → SpellsStatement bytes b → a ≡ b
-one_statement one bytes a b s t = one_tree one bytes (IsStatement (Within 128) (Within 127)) (statement_of (within_of 128) (within_of 127))
-    (λ ts x d. (statement_found 128 127 ts).1 x d) a b s t
+pub row_statement : (ts : Symbols) (a b : Statement) → DeepStatement ts a → DeepStatement ts b → a ≡ b
+row_statement ts a b = one_of DeepStatement (statement_of (within_of 128) (within_of 127) ts) ts (statement_found 128 127 ts).1 a b
 
-pub one_table : OneRow → (bytes : List ℕ) (a b : TableDef) → SpellsTable bytes a → SpellsTable bytes b → a ≡ b
-one_table one bytes a b s t = one_tree one bytes (IsTable (Within 127)) (table_of (within_of 127)) (λ ts x d. (table_found 127 ts).1 x d) a b s t
+pub row_table : (ts : Symbols) (a b : TableDef) → DeepTable ts a → DeepTable ts b → a ≡ b
+row_table ts a b = one_of DeepTable (table_of (within_of 127) ts) ts (table_found 127 ts).1 a b
 
 -- ---- the answers
 
-abbrev pub ShallowStatement : Symbols → Statement → Type 0
-ShallowStatement = IsStatement (Within 64) (Within 64)
-
-abbrev pub DeepStatement : Symbols → Statement → Type 0
-DeepStatement = IsStatement (Within 128) (Within 127)
+pub statement_deepens : (ts : Symbols) (x : Statement) → ShallowStatement ts x → DeepStatement ts x
+statement_deepens ts x d = statement_up (within_up 64 128 (omega arith)) (within_up 64 127 (omega arith)) ts x d
 
 pub statement_settles : (ts : Symbols) (r : Result Statement ParseErr) → ArePrintable ts → IsAnswer r (answer_for statement_within ts) →
     Settles statement_limit ShallowStatement DeepStatement ts r
 unfolding statement_limit
 statement_settles ts r p e =
-    all statement_marks ShallowStatement DeepStatement
-    (λ us x d. statement_up (within_up 64 128 (omega arith)) (within_up 64 127 (omega arith)) us x d)
+    all statement_marks ShallowStatement DeepStatement (λ us x d. statement_deepens us x d)
     (statement_of (within_of 64) (within_of 64) ts) (statement_of (within_of 128) (within_of 127) ts) ts r
     (statement_at (within_at 64) (within_at 64) no_flags ts) (statement_at (within_at 128) (within_at 127) no_flags ts) (statement_found 64 64 ts)
     (statement_found 128 127 ts)
     (statement_agrees (within_at 64) (within_at 64) (within_of 64) (within_of 64) (within_mirrors 64) (within_mirrors 64) no_flags ts p)
     (statement_agrees (within_at 128) (within_at 127) (within_of 128) (within_of 127) (within_mirrors 128) (within_mirrors 127) no_flags ts p) e
 
-abbrev pub ShallowTable : Symbols → TableDef → Type 0
-ShallowTable = IsTable (Within 64)
-
-abbrev pub DeepTable : Symbols → TableDef → Type 0
-DeepTable = IsTable (Within 127)
+pub table_deepens : (ts : Symbols) (x : TableDef) → ShallowTable ts x → DeepTable ts x
+table_deepens ts x d = table_up (within_up 64 127 (omega arith)) ts x d
 
 pub table_settles : (ts : Symbols) (r : Result TableDef ParseErr) → ArePrintable ts → IsAnswer r (answer_for table_within ts) →
     Settles table_limit ShallowTable DeepTable ts r
 unfolding table_limit
 table_settles ts r p e =
-    all table_marks ShallowTable DeepTable (λ us x d. table_up (within_up 64 127 (omega arith)) us x d) (table_of (within_of 64) ts)
+    all table_marks ShallowTable DeepTable (λ us x d. table_deepens us x d) (table_of (within_of 64) ts)
     (table_of (within_of 127) ts) ts r
     (table_at (within_at 64) no_flags ts) (table_at (within_at 127) no_flags ts) (table_found 64 ts) (table_found 127 ts)
     (table_agrees (within_at 64) (within_of 64) (within_mirrors 64) no_flags ts p)
     (table_agrees (within_at 127) (within_of 127) (within_mirrors 127) no_flags ts p) e
 
--- what an answer for bytes tells of what they spell
-module _ {A : Type 0} (one : OneRow) (law : TextLaw) (bytes : List ℕ) (limit_of : A → Option LimitName) (Shallow Deep : Symbols → A → Type 0)
-    (answer : Symbols → Result A ParseErr)
-    (settles : (ts : Symbols) (r : Result A ParseErr) → ArePrintable ts → IsAnswer r (answer ts) → Settles limit_of Shallow Deep ts r) where
-  pub is_found : (r : Result A ParseErr) → IsAnswerFor answer bytes r → IfOk r (λ x. IsWithinLimits (limit_of x) (Spells Shallow bytes x))
-  is_found (Ok x) e =
-      let k = settles e.0 (Ok x) (row_printable law bytes e.0 e.1) e.2 in
-      record { tree = k.1; parentheses = spelled one bytes Shallow e.0 x e.1 k.0 }
+-- what an answer for the row of the bytes tells of what they spell
+module _ {A : Type 0} (one : OneRow) (bytes : List ℕ) (limit_of : A → Option LimitName) (Shallow Deep : Symbols → A → Type 0) (ts : Symbols)
+    (h : HasSymbols bytes ts) where
+  pub is_found : (r : Result A ParseErr) → Settles limit_of Shallow Deep ts r → IfOk r (λ x. IsWithinLimits (limit_of x) (Spells Shallow bytes x))
+  is_found (Ok x) k = record { tree = k.1; parentheses = spelled one bytes Shallow ts x h k.0 }
   is_found (Err e) k = tt
 
-  pub is_limit : (r : Result A ParseErr) (l : LimitName) → IsAnswerFor answer bytes r → r ≡ Err (Limit l) →
+  pub is_limit : (r : Result A ParseErr) → Settles limit_of Shallow Deep ts r → (l : LimitName) → r ≡ Err (Limit l) →
       (x : A) × Spells Deep bytes x × Passes (limit_of x) (Spells Shallow bytes x) l
-  is_limit (Ok x) l e is = absurd cc
-  is_limit (Err Memory) l e is = absurd cc
-  is_limit (Err Syntax) l e is = absurd cc
-  is_limit (Err (Limit k)) l e is =
-      let same : k ≡ l = cc is in
-      let d = settles e.0 (Err (Limit k)) (row_printable law bytes e.0 e.1) e.2 in (
-        d.0,
-        spelled one bytes Deep e.0 d.0 e.1 d.1,
-        subst (λ (z : LimitName). Passes (limit_of d.0) (Spells Shallow bytes d.0) z) same (passes one bytes Shallow (limit_of d.0) e.0 d.0 k e.1 d.2),
+  is_limit (Ok x) k l is = absurd cc
+  is_limit (Err Memory) k l is = absurd cc
+  is_limit (Err Syntax) k l is = absurd cc
+  is_limit (Err (Limit m)) k l is =
+      let same : m ≡ l = cc is in (
+        k.0,
+        spelled one bytes Deep ts k.0 h k.1,
+        subst (λ (z : LimitName). Passes (limit_of k.0) (Spells Shallow bytes k.0) z) same (passes one bytes Shallow (limit_of k.0) ts k.0 m h k.2),
       )
 
-  pub spells_none : (r : Result A ParseErr) → IsAnswerFor answer bytes r → r ≡ Err Syntax → (x : A) → Spells Deep bytes x → ⊥
-  spells_none (Ok x) e is y s = absurd cc
-  spells_none (Err Memory) e is y s = absurd cc
-  spells_none (Err (Limit k)) e is y s = absurd cc
-  spells_none (Err Syntax) e is y s =
-      let h : HasSymbols bytes (symbols_of s.tokens) = (s.tokens, s.lexes, refl) in
-      settles (symbols_of s.tokens) (Err Syntax) (row_printable law bytes (symbols_of s.tokens) h) (e (symbols_of s.tokens) h) y
-      (unspelled one bytes Deep (symbols_of s.tokens) y h s)
+  pub spells_none : (r : Result A ParseErr) → Settles limit_of Shallow Deep ts r → r ≡ Err Syntax → (x : A) → Spells Deep bytes x → ⊥
+  spells_none (Ok x) k is y s = absurd cc
+  spells_none (Err Memory) k is y s = absurd cc
+  spells_none (Err (Limit m)) k is y s = absurd cc
+  spells_none (Err Syntax) k is y s = k y (unspelled one bytes Deep ts y h s)
 
--- ---- from bytes to their row
+-- where the bytes are no tokens
+pub scan_limit : {A : Type 0} (B : Type 0) (e : ScanErr) (l : LimitName) → ◌≡◌ {A = Result A ParseErr} (Err (parse_err e)) (Err (Limit l)) → B
+scan_limit B scan.Memory l is = absurd cc
+scan_limit B scan.Syntax l is = absurd cc
 
-module _ {A : Type 0} (answer : Symbols → Result A ParseErr) (bytes : List ℕ) where
-  pub scan_fails : (e : ScanErr) → (e ≡ scan.Syntax → (ts : Symbols) → HasSymbols bytes ts → ⊥) → IsAnswerFor answer bytes (Err (parse_err e))
-  scan_fails scan.Memory nothing = tt
-  scan_fails scan.Syntax nothing = λ ts h. absurd (nothing refl ts h)
-
-  pub row_answers : ((ts us : Symbols) → HasSymbols bytes ts → HasSymbols bytes us → ts ≡ us) → (ts : Symbols) → HasSymbols bytes ts →
-      (r : Result A ParseErr) → IsAnswer r (answer ts) → IsAnswerFor answer bytes r
-  row_answers one ts h (Ok x) e = (ts, h, e)
-  row_answers one ts h (Err Memory) e = tt
-  row_answers one ts h (Err Syntax) e = λ us k. subst (λ (vs : Symbols). answer vs ≡ Err Syntax) (one ts us h k) e
-  row_answers one ts h (Err (Limit l)) e = (ts, h, e)
+pub scan_none : {A : Type 0} (bytes : List ℕ) (Deep : Symbols → A → Type 0) (e : ScanErr) →
+    (e ≡ scan.Syntax → (ts : Symbols) → HasSymbols bytes ts → ⊥) → ◌≡◌ {A = Result A ParseErr} (Err (parse_err e)) (Err Syntax) →
+    (x : A) → Spells Deep bytes x → ⊥
+scan_none bytes Deep scan.Memory nothing is x s = absurd cc
+scan_none bytes Deep scan.Syntax nothing is x s = nothing refl (symbols_of s.tokens) (s.tokens, s.lexes, refl)

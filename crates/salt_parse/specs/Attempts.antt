@@ -8,8 +8,8 @@ use Rattle.salt_parse.specs.Flags.{Flags, no_flags}
 use Rattle.salt_parse.specs.Reading.{Read, Reader}
 use Rattle.salt_parse.specs.declared.error.ParseErr.{ParseErr}
 use Rattle.salt_parse.specs.declared.error.ParseErr.TheVariants.{Limit, Memory, Syntax}
-use Rattle.salt_tokens.specs.Symbols.{HasSymbols, Symbols}
-use Rattle.std.specs.Prelude.{Err, List, None, Ok, Option, Result, Some, [], ℕ, ◌-◌, ◌∷◌, ◌≡◌}
+use Rattle.salt_tokens.specs.Symbols.{Symbols}
+use Rattle.std.specs.Prelude.{Err, None, Ok, Option, Result, Some, [], ℕ, ◌-◌, ◌∷◌, ◌≡◌}
 
 -- the first limit that was passed, the depth last
 abbrev pub limit_in : Flags → Option LimitName
@@ -53,10 +53,3 @@ settled (Err e) deeper = Err (too_deep deeper)
 abbrev pub answer_for : {X : Type 0} → (ℕ → ℕ → Reader X) → Symbols → Result X ParseErr
 answer_for reading ts =
     settled (attempt_of (reading DEPTH_MOST DEPTH_MOST no_flags ts)) (attempt_of (reading PARENTHESES_MOST (PARENTHESES_MOST - 1) no_flags ts))
-
--- what is answered for bytes is the answer for their row; where they have none, nothing is spelled
-abbrev pub IsAnswerFor : {X : Type 0} → (Symbols → Result X ParseErr) → List ℕ → Result X ParseErr → Type 0
-IsAnswerFor answer bytes (Ok x) = (ts : Symbols) × HasSymbols bytes ts × (answer ts ≡ Ok x)
-IsAnswerFor answer bytes (Err Memory) = Unit {0}
-IsAnswerFor answer bytes (Err Syntax) = (ts : Symbols) → HasSymbols bytes ts → answer ts ≡ Err Syntax
-IsAnswerFor answer bytes (Err (Limit l)) = (ts : Symbols) × HasSymbols bytes ts × (answer ts ≡ Err (Limit l))

@@ -1,10 +1,12 @@
 -- What a text was seen to pass so far, and what is built meanwhile.
-use Rattle.salt_ast.specs.Trees.{letters, negation, number, operation}
+use Rattle.salt_ast.specs.Trees.{letters, negation, null_test, number, operation}
 use Rattle.std.specs.Option.{option_or}
 use Rattle.salt_ast.specs.declared.limit.LimitName.{LimitName}
 use Rattle.salt_ast.specs.declared.trees.Expr.{Expr}
 use Rattle.salt_ast.specs.declared.trees.Op.{Op}
 use Rattle.salt_parse.specs.declared.built.Built.{Built}
+use Rattle.salt_parse.specs.declared.built.Unary.{Unary}
+use Rattle.salt_parse.specs.declared.built.Unary.TheVariants as unary
 use Rattle.salt_values.specs.Text.{is_text}
 use Rattle.salt_values.specs.declared.limits.TheConstants.{DEPTH_MOST}
 use Rattle.std.specs.Prelude.{Bool, List, None, Option, Some, [], false, if◌then◌else◌, is_none, not, true, ◌&&◌, ◌||◌}
@@ -64,12 +66,18 @@ join_flags l r f = note_height f (both_height l r)
 abbrev pub join_tree : Op → BuiltTree → BuiltTree → Flags → BuiltTree
 join_tree o l r f = record { tree = kept (join_flags l r f) (operation o l.tree r.tree); height = min (both_height l r) (suc DEPTH_MOST) }
 
--- `not` around what was built
-abbrev pub negate_flags : BuiltTree → Flags → Flags
-negate_flags b f = note_height f (suc b.height)
+-- an operation on one operand that was built
+abbrev pub around_flags : BuiltTree → Flags → Flags
+around_flags b f = note_height f (suc b.height)
 
-abbrev pub negate_tree : BuiltTree → Flags → BuiltTree
-negate_tree b f = record { tree = kept (negate_flags b f) (negation b.tree); height = min (suc b.height) (suc DEPTH_MOST) }
+abbrev pub around_tree : (Expr → Expr) → BuiltTree → Flags → BuiltTree
+around_tree node b f = record { tree = kept (around_flags b f) (node b.tree); height = min (suc b.height) (suc DEPTH_MOST) }
+
+-- the operation that a program's form of it stands for
+abbrev pub node_of : Unary → Expr → Expr
+node_of unary.Not = negation
+node_of unary.IsNull = null_test false
+node_of unary.IsNotNull = null_test true
 
 -- a number of 64 bits, by whether a minus sign stands before it
 abbrev pub signed : Bool → ℕ → Option ℤ

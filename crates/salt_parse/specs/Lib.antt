@@ -4,5 +4,6 @@ pub mod Flags
 pub mod Lists
 pub mod Parsing
 pub mod Reading
+pub mod Settling
 pub mod StatementReading
 pub mod TableReading

@@ -1,14 +1,12 @@
 -- Reading lists of items from left to right.
-use Rattle.salt_parse.specs.Reading.{Read, Reader, after}
+use Rattle.salt_ast.specs.declared.limit.LimitName.{LimitName}
+use Rattle.salt_parse.specs.Flags.{Flags, note}
+use Rattle.salt_parse.specs.Reading.{Read, Reader, after, either}
 use Rattle.salt_tokens.specs.Scanning.{◌>>=◌}
 use Rattle.salt_tokens.specs.Symbols.{Symbols, sign}
 use Rattle.salt_tokens.specs.declared.sign.Sign.TheVariants as mark
-use Rattle.std.specs.Prelude.{List, None, Option, Some, [], length, suc, zero, ℕ, ◌++◌, ◌∷◌}
-
--- one way where something comes next, another where it does not
-abbrev pub either : {A : Type 0} → Option Symbols → A → (Symbols → A) → A
-either None without behind = without
-either (Some ts) without behind = behind ts
+use Rattle.std.specs.Bool.{then_some}
+use Rattle.std.specs.Prelude.{List, None, Option, Some, [], false, length, nat_le, suc, zero, ℕ, ◌++◌, ◌∷◌}
 
 -- items before those that are read next
 abbrev pub with_front : {A : Type 0} → List A → Option (Read (List A)) → Option (Read (List A))
@@ -25,6 +23,14 @@ following_at separator item count (suc room) f ts =
     either (separator ts) (Some ([], f, ts)) (λ us. item count f us >>= λ x.
     with_front (x.0 ∷ []) (following_at separator item (suc count) room x.1 x.2))
 
--- a first item and further ones with commas between them
-abbrev pub listed_at : {A : Type 0} → Reader A → Reader (List A)
-listed_at item f ts = item f ts >>= λ x. with_front (x.0 ∷ []) (following_at comma (λ n. item) 1 (length x.2) x.1 x.2)
+-- a first item and further ones by their numbers, each behind a separator
+abbrev pub listed_at : {A : Type 0} → (Symbols → Option Symbols) → (ℕ → Reader A) → Reader (List A)
+listed_at separator item f ts = item 0 f ts >>= λ x. with_front (x.0 ∷ []) (following_at separator item 1 (length x.2) x.1 x.2)
+
+-- the flags before an item behind so many others, where there may be `most` in all
+abbrev pub counted : ℕ → LimitName → ℕ → Flags → Flags
+counted most l n f = note f (then_some (nat_le most n) l) false
+
+-- an item that stands behind so many others, where there may be `most` in all
+abbrev pub counted_at : {A : Type 0} → ℕ → LimitName → Reader A → ℕ → Reader A
+counted_at most l item n f ts = item (counted most l n f) ts

@@ -2,12 +2,13 @@
 use denote.Enum.Bare.{sameb}
 use Rattle.salt_ast.specs.Limits.{name_passed}
 use Rattle.salt_ast.specs.Operators.{operator, precedence}
+use Rattle.salt_ast.specs.Trees.{negation, null_test}
 use Rattle.std.specs.Bool.{then_some}
 use Rattle.salt_ast.specs.declared.limit.LimitName.TheVariants as limit
 use Rattle.salt_ast.specs.declared.trees.Expr.{Column, Variable}
 use Rattle.salt_ast.specs.declared.trees.Op.{Op}
 use Rattle.salt_ast.specs.Limits.{above}
-use Rattle.salt_parse.specs.Flags.{BuiltTree, Flags, int_tree, join_flags, join_tree, kept, kept_name, leaf, negate_flags, negate_tree, note, signed, text_tree}
+use Rattle.salt_parse.specs.Flags.{BuiltTree, Flags, around_flags, around_tree, int_tree, join_flags, join_tree, kept, kept_name, leaf, note, signed, text_tree}
 use Rattle.salt_parse.specs.declared.expr.Level.{Level}
 use Rattle.salt_parse.specs.declared.expr.Level.TheVariants as level
 use Rattle.salt_tokens.specs.Scanning.{◌>>=◌}
@@ -37,6 +38,11 @@ unfoldable pub after : Symbol → Symbols → Option Symbols
 after t [] = None
 after t (u ∷ us) = if is_same u t then Some us else None
 
+-- one way where something comes next, another where it does not
+abbrev pub either : {A : Type 0} → Option Symbols → A → (Symbols → A) → A
+either None without behind = without
+either (Some ts) without behind = behind ts
+
 -- the operation of this precedence
 abbrev pub of_level : ℕ → Option Op → Option Op
 of_level level None = None
@@ -63,17 +69,29 @@ tail_at level operand (suc n) l f (t ∷ ts) =
 unfoldable pub left_at : ℕ → Reader BuiltTree → Reader BuiltTree
 left_at level operand f ts = operand f ts >>= λ x. tail_at level operand (suc (length x.2)) x.0 x.1 x.2
 
+-- the test of an operand for NULL, or for none
+abbrev pub tested : Bool → BuiltTree → Reader BuiltTree
+tested negated l f ts = after (key word.Null) ts >>= λ us. Some (around_tree (null_test negated) l f, around_flags l f, us)
+
+-- what stands behind `is`
+abbrev pub is_at : BuiltTree → Reader BuiltTree
+is_at l f ts = either (after (key word.Not) ts) (tested false l f ts) (tested true l f)
+
+-- a test for NULL behind an operand, or the operand alone
+abbrev pub null_test_at : BuiltTree → Reader BuiltTree
+null_test_at l f ts = either (after (key word.Is) ts) (Some (l, f, ts)) (is_at l f)
+
 abbrev pub second_at : ℕ → Reader BuiltTree → BuiltTree → Reader BuiltTree
 second_at level operand l f [] = Some (l, f, [])
 second_at level operand l f (t ∷ ts) =
-    at_operator (of_level level (operator t)) (Some (l, f, t ∷ ts)) (λ o. operand f ts >>= λ x.
+    at_operator (of_level level (operator t)) (null_test_at l f (t ∷ ts)) (λ o. operand f ts >>= λ x.
     Some (join_tree o l x.0 x.1, join_flags l x.0 x.1, x.2))
 
 unfoldable pub once_at : ℕ → Reader BuiltTree → Reader BuiltTree
 once_at level operand f ts = operand f ts >>= λ x. second_at level operand x.0 x.1 x.2
 
 abbrev pub negate : Read BuiltTree → Read BuiltTree
-negate x = (negate_tree x.0 x.1, negate_flags x.0 x.1, x.2)
+negate x = (around_tree negation x.0 x.1, around_flags x.0 x.1, x.2)
 
 -- as many `not`s around what was built
 abbrev pub negations : ℕ → Read BuiltTree → Read BuiltTree

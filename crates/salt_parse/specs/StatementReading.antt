@@ -1,4 +1,5 @@
 -- Reading statements from left to right, with what they pass.
+use Rattle.salt_ast.specs.Trees.{null}
 use Rattle.salt_ast.specs.declared.trees.Bound.TheVariants as bound
 use Rattle.salt_ast.specs.declared.trees.Expr.{Expr}
 use Rattle.salt_ast.specs.declared.trees.Scan.{Scan}
@@ -8,8 +9,8 @@ use Rattle.salt_ast.specs.declared.trees.Statement.TheVariants as statement
 use Rattle.salt_ast.specs.declared.trees.What.{What}
 use Rattle.salt_ast.specs.declared.trees.What.TheVariants as what
 use Rattle.salt_parse.specs.Flags.{BuiltTree, kept_name}
-use Rattle.salt_parse.specs.Lists.{either, listed_at}
-use Rattle.salt_parse.specs.Reading.{Reader, after, conjunction_at, expression_at, is_same, name_flags, sum_at, within_at}
+use Rattle.salt_parse.specs.Lists.{comma, listed_at}
+use Rattle.salt_parse.specs.Reading.{Reader, after, conjunction_at, either, expression_at, is_same, name_flags, sum_at, within_at}
 use Rattle.salt_tokens.specs.Scanning.{◌>>=◌}
 use Rattle.salt_tokens.specs.Symbols.{Symbols, key, name, sign}
 use Rattle.salt_tokens.specs.declared.keyword.Keyword.TheVariants as word
@@ -57,19 +58,23 @@ where_at inner f ts = either (after (key word.Key) ts) (filter_at inner f ts) (b
 abbrev pub scan_at : Reader BuiltTree → Reader Scan
 scan_at inner f ts = either (after (key word.Where) ts) (Some (record { bound = bound.All; filter = None }, f, ts)) (where_at inner f)
 
+-- what a column takes: an expression, or `null`
+abbrev pub value_at : Reader BuiltTree → Reader Expr
+value_at inner f ts = either (after (key word.Null) ts) (tree_at (expression_at inner) f ts) (λ us. Some (null, f, us))
+
 abbrev pub values_at : Reader BuiltTree → Reader (List Expr)
-values_at inner = listed_at (tree_at (expression_at inner))
+values_at inner = listed_at comma (λ n. value_at inner)
 
 abbrev pub names_at : Reader (List (List ℕ))
-names_at = listed_at name_at
+names_at = listed_at comma (λ n. name_at)
 
 abbrev pub set_at : Reader BuiltTree → Reader Set
 set_at inner f ts =
-    name_at f ts >>= λ n. after (sign mark.Equal) n.2 >>= λ us. tree_at (expression_at inner) n.1 us >>= λ e.
+    name_at f ts >>= λ n. after (sign mark.Equal) n.2 >>= λ us. value_at inner n.1 us >>= λ e.
     Some (record { column = n.0; value = e.0 }, e.1, e.2)
 
 abbrev pub sets_at : Reader BuiltTree → Reader (List Set)
-sets_at inner = listed_at (set_at inner)
+sets_at inner = listed_at comma (λ n. set_at inner)
 
 -- a name in parentheses
 abbrev pub enclosed_at : Reader (List ℕ)

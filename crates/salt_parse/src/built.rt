@@ -12,3 +12,11 @@ pub struct Built {
     pub height: u32,
     ghost low: { height ≤ DEPTH_MOST + 1 },
 }
+
+/// An operation on one operand.
+#[derive(Clone, Copy)]
+pub enum Unary {
+    Not,
+    IsNull,
+    IsNotNull,
+}

@@ -4,7 +4,7 @@ ghost use Rattle.std.specs.Prelude.{◌≡◌, ◌<◌, OnOk, length};
 ghost use Rattle.salt_parse.specs.Parsing.{ReadsBuilt};
 ghost use Rattle.salt_parse.specs.Reading.{atom_at, comparison_at, level_at, level_precedence, negation_at, operand_at, paren_at, within_at};
 
-use crate::built::Built;
+use crate::built::{Built, Unary};
 use crate::error::ParseErr;
 use crate::parser::{Parser, signed};
 use salt_tokens::{Lexeme, Sign};
@@ -76,12 +76,12 @@ impl<'a> Parser<'a> {
         let nots = self.skip_nots();
         let mut inside = self.comparison(room)?;
         for _ in 0..nots {
-            inside = self.negate(inside)?;
+            inside = self.surround(Unary::Not, inside)?;
         }
         Ok(inside)
     }
 
-    /// A sum, or two that are compared.
+    /// A sum, two that are compared, or one that is tested for NULL.
     #[cycle(expr)]
     #[tactic(auto, unfolding(crate::specs::Reading::once_at))]
     fn comparison(&mut self, room: u32) -> Result<Built, ParseErr>
@@ -90,7 +90,7 @@ impl<'a> Parser<'a> {
     {
         let left = self.operation(Level::Sum, room)?;
         match self.take_operator(3) {
-            None => Ok(left),
+            None => self.null_test(left),
             Some(op) => {
                 let right = self.operation(Level::Sum, room)?;
                 Ok(self.join(op, left, right)?)

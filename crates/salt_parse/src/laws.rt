@@ -4,8 +4,33 @@ ghost use Rattle.std.specs.Prelude.{◌≡◌, List, ℕ};
 ghost use Rattle.salt_ast.specs.Spelling.{SpellsStatement, SpellsTable};
 ghost use Rattle.salt_ast.specs.declared.trees.Statement.{Statement};
 ghost use Rattle.salt_ast.specs.declared.trees.TableDef.{TableDef};
+ghost use Rattle.salt_parse.specs.Settling.{ArePrintable, DeepStatement, DeepTable, ShallowStatement, ShallowTable};
+ghost use Rattle.salt_tokens.specs.Symbols.{HasSymbols, Symbols};
 
-use salt_tokens::one_row;
+use salt_tokens::{one_row, quoted_text};
+
+/// The texts among the tokens of bytes have printable bytes alone.
+pub fn printable_symbols()
+    ensures { (bytes : List ℕ) (ts : Symbols) → HasSymbols bytes ts → ArePrintable ts }
+{
+    quoted_text();
+}
+
+/// What holds of the rows that spell statements.
+pub fn row_statement()
+    // No row spells two.
+    ensures one { (ts : Symbols) (a b : Statement) → DeepStatement ts a → DeepStatement ts b → a ≡ b }
+    // What is spelled within the limit on parentheses is spelled.
+    ensures deepens { (ts : Symbols) (x : Statement) → ShallowStatement ts x → DeepStatement ts x }
+{}
+
+/// What holds of the rows that spell tables.
+pub fn row_table()
+    // No row spells two.
+    ensures one { (ts : Symbols) (a b : TableDef) → DeepTable ts a → DeepTable ts b → a ≡ b }
+    // What is spelled within the limit on parentheses is spelled.
+    ensures deepens { (ts : Symbols) (x : TableDef) → ShallowTable ts x → DeepTable ts x }
+{}
 
 /// No bytes spell two statements.
 pub fn one_statement()

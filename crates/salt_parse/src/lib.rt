@@ -5,6 +5,7 @@ mod built;
 mod error;
 mod expr;
 mod laws;
+mod null;
 mod parser;
 mod quoted;
 mod read;
@@ -16,8 +17,8 @@ mod token;
 mod tree;
 
 pub use error::ParseErr;
-pub use laws::{one_statement, one_table};
-pub use read::{read_statement, read_table};
+pub use laws::{one_statement, one_table, printable_symbols, row_statement, row_table};
+pub use read::{read_statement, read_table, statement_in, table_in};
 pub use token::tokens;
 
 #[cfg(test)]

@@ -1,15 +1,15 @@
 //! What reads a row, and what it builds of the smallest parts.
 
 ghost use Rattle.std.specs.Prelude.{◌≡◌, IfOk, None, Some, false, if◌then◌else◌};
-ghost use Rattle.salt_ast.specs.Trees.{negation, operation};
+ghost use Rattle.salt_ast.specs.Trees.{operation};
 ghost use Rattle.std.specs.Bool.{then_some};
 ghost use Rattle.salt_parse.specs.Attempts.{limit_in};
-ghost use Rattle.salt_parse.specs.Flags.{built_of, clear, join_flags, negate_flags, no_flags, note, note_height};
-ghost use Rattle.salt_parse.specs.Flags.{int_tree, join_tree, kept_name, negate_tree, signed, stand_in, text_tree};
+ghost use Rattle.salt_parse.specs.Flags.{around_flags, around_tree, built_of, clear, join_flags, no_flags, node_of, note, note_height};
+ghost use Rattle.salt_parse.specs.Flags.{int_tree, join_tree, kept_name, signed, stand_in, text_tree};
 ghost use Rattle.salt_parse.specs.Reading.{column_at, int_at, name_flags, named_at, text_at};
 ghost use Rattle.salt_tokens.specs.Symbols.{symbols_in, undoubled};
 
-use crate::built::Built;
+use crate::built::{Built, Unary};
 use crate::quoted::{content, content_len};
 use salt_ast::{Expr, LimitName, Op};
 use salt_tokens::Lexeme;
@@ -71,14 +71,31 @@ fn binary(
     Ok(Expr::Binary { op, left, right })
 }
 
-/// A `not`, while nothing is passed.
-fn negation(alloc: Global, is_clear: bool, operand: Expr) -> Result<Expr, AllocError>
-    ensures { IfOk result (λ e. e ≡ (if is_clear then negation operand else stand_in)) }
+/// The operation around its operand.
+fn node(op: Unary, operand: Boxed<Expr>) -> Expr
+    ensures { result ≡ node_of op operand }
+{
+    match op {
+        Unary::Not => Expr::Not(operand),
+        Unary::IsNull => Expr::IsNull {
+            of: operand,
+            negated: false,
+        },
+        Unary::IsNotNull => Expr::IsNull {
+            of: operand,
+            negated: true,
+        },
+    }
+}
+
+/// An operation on one operand, while nothing is passed.
+fn unary(alloc: Global, is_clear: bool, op: Unary, operand: Expr) -> Result<Expr, AllocError>
+    ensures { IfOk result (λ e. e ≡ (if is_clear then node_of op operand else stand_in)) }
 {
     if !is_clear {
         return Ok(stand_in());
     }
-    Ok(Expr::Not(Boxed::new(alloc, operand)?))
+    Ok(node(op, Boxed::new(alloc, operand)?))
 }
 
 /// What reads tokens one after the other: those that are left, and what the others passed.
@@ -243,16 +260,16 @@ impl<'a> Parser<'a> {
         })
     }
 
-    /// `not` around what was built.
-    pub fn negate(&mut self, inside: Built) -> Result<Built, AllocError>
-        ensures built { IfOk result (λ b. built_of b ≡ negate_tree (built_of inside) self.old.flags) }
-        ensures flags { self.new.flags ≡ negate_flags (built_of inside) self.old.flags }
+    /// An operation around what was built.
+    pub fn surround(&mut self, op: Unary, inside: Built) -> Result<Built, AllocError>
+        ensures built { IfOk result (λ b. built_of b ≡ around_tree (node_of op) (built_of inside) self.old.flags) }
+        ensures flags { self.new.flags ≡ around_flags (built_of inside) self.old.flags }
         ensures left { self.new.left ≡ self.old.left }
     {
         let Built { tree, height } = inside;
         let height = height + 1;
         self.note_height(height);
-        let tree = negation(self.alloc, self.is_clear(), tree)?;
+        let tree = unary(self.alloc, self.is_clear(), op, tree)?;
         Ok(Built {
             tree,
             height: height.min(DEPTH_MOST + 1),

@@ -1,20 +1,23 @@
-//! Statements and tables from bytes.
+//! Statements and tables from tokens, and from bytes.
 
 ghost use Rattle.std.specs.Prelude.{◌≡◌, Err, IfOk, Some};
+ghost use Rattle.salt_ast.specs.Limits.{statement_limit, table_limit};
 ghost use Rattle.salt_ast.specs.Spelling.{IsStatementWithinLimits, IsTableWithinLimits, SpellsStatement, SpellsTable, StatementPasses, TablePasses};
 ghost use Rattle.salt_ast.specs.declared.limit.LimitName.{LimitName};
 ghost use Rattle.salt_ast.specs.declared.trees.Statement.{Statement};
 ghost use Rattle.salt_ast.specs.declared.trees.TableDef.{TableDef};
-ghost use Rattle.salt_parse.specs.Attempts.{IsAnswer, IsAnswerFor, answer_for, attempt_of, too_deep};
+ghost use Rattle.salt_parse.specs.Attempts.{IsAnswer, answer_for, attempt_of, too_deep};
 ghost use Rattle.salt_parse.specs.Flags.{no_flags};
+ghost use Rattle.salt_parse.specs.Settling.{ArePrintable, DeepStatement, DeepTable, Settles, ShallowStatement, ShallowTable};
 ghost use Rattle.salt_parse.specs.declared.error.ParseErr.TheVariants.{Limit, Syntax};
 ghost use Rattle.salt_tokens.specs.Symbols.{symbols_in};
 
 use crate::error::ParseErr;
+use crate::laws::printable_symbols;
 use crate::parser::Parser;
 use crate::tree::Tree;
 use salt_ast::{LimitName, Statement, TableDef};
-use salt_tokens::{Lexeme, lexemes, one_row, quoted_text};
+use salt_tokens::{Lexeme, lexemes, one_row};
 use salt_values::limits::{DEPTH_MOST, PARENTHESES_MOST};
 use std::alloc::Global;
 
@@ -71,13 +74,23 @@ fn settle<'a, T: Tree>(alloc: Global, rest: &'a [Lexeme<'a>]) -> Result<T, Parse
     }
 }
 
-/// The tree that the bytes spell, or why there is none.
-fn read<T: Tree>(alloc: Global, bytes: &[u8]) -> Result<T, ParseErr>
-    ensures { IsAnswerFor (answer_for T.reading) bytes.now result }
+/// The statement that the tokens spell.
+///
+/// `Limit` exactly where they spell one that passes a limit, with the first; `Syntax` exactly where they spell none,
+/// as where more than 128 parentheses are open; else `Memory` where memory runs out.
+pub fn statement_in(alloc: Global, tokens: &[Lexeme<'_>]) -> Result<Statement, ParseErr>
+    requires { ArePrintable (symbols_in tokens.now) }
+    ensures { Settles statement_limit ShallowStatement DeepStatement (symbols_in tokens.now) result }
 {
-    one_row();
-    let tokens = lexemes(alloc, bytes)?;
-    settle(alloc, tokens.as_slice())
+    settle(alloc, tokens)
+}
+
+/// The table that the tokens spell, or why there is none, as of statements.
+pub fn table_in(alloc: Global, tokens: &[Lexeme<'_>]) -> Result<TableDef, ParseErr>
+    requires { ArePrintable (symbols_in tokens.now) }
+    ensures { Settles table_limit ShallowTable DeepTable (symbols_in tokens.now) result }
+{
+    settle(alloc, tokens)
 }
 
 /// The statement that the bytes spell.
@@ -93,8 +106,9 @@ pub fn read_statement(alloc: Global, bytes: &[u8]) -> Result<Statement, ParseErr
     ensures syntax { result ≡ Err Syntax → (st : Statement) → ¬ (SpellsStatement bytes.now st) }
 {
     one_row();
-    quoted_text();
-    read(alloc, bytes)
+    printable_symbols();
+    let tokens = lexemes(alloc, bytes)?;
+    statement_in(alloc, tokens.as_slice())
 }
 
 /// The table that the bytes spell.
@@ -110,6 +124,7 @@ pub fn read_table(alloc: Global, bytes: &[u8]) -> Result<TableDef, ParseErr>
     ensures syntax { result ≡ Err Syntax → (d : TableDef) → ¬ (SpellsTable bytes.now d) }
 {
     one_row();
-    quoted_text();
-    read(alloc, bytes)
+    printable_symbols();
+    let tokens = lexemes(alloc, bytes)?;
+    table_in(alloc, tokens.as_slice())
 }

@@ -14,14 +14,14 @@ use salt_values::{Name, Names};
 use sqlite_items::Items;
 
 impl<'a> Parser<'a> {
-    /// Expressions with commas between them.
+    /// What columns take, with commas between them.
     fn values(&mut self, room: u32) -> Result<Exprs, ParseErr>
         ensures { Reads result (values_at (within_at room)) self.old self.new }
     {
         let mut values = Items::new(self.alloc());
-        values.push(self.whole(room)?)?;
+        values.push(self.value(room)?)?;
         while self.skip_sign(Sign::Comma) {
-            values.push(self.whole(room)?)?;
+            values.push(self.value(room)?)?;
         }
         Ok(values)
     }
@@ -45,7 +45,7 @@ impl<'a> Parser<'a> {
     {
         let column = self.name()?;
         self.take_sign(Sign::Equal)?;
-        let value = self.whole(room)?;
+        let value = self.value(room)?;
         Ok(Set { column, value })
     }
 

@@ -3,7 +3,7 @@
 ghost use Rattle.std.specs.Prelude.{◌≡◌, ◌<◌, IsTrue, None, OnOk, Some, false, if◌then◌else◌, length};
 ghost use Rattle.salt_parse.specs.Parsing.{GivesAs, Reads};
 ghost use Rattle.salt_parse.specs.Reading.{within_at};
-ghost use Rattle.salt_parse.specs.TableReading.{check_at, checks_at, definition_at, field_at, field_comma, fields_at, further_field_at, kind_at, table_at};
+ghost use Rattle.salt_parse.specs.TableReading.{check_at, checks_at, definition_at, field_at, field_comma, fields_at, further_column_at, kind_at, plain_column_at, table_at};
 
 use crate::error::ParseErr;
 use crate::parser::Parser;
@@ -44,23 +44,39 @@ impl<'a> Parser<'a> {
         }
     }
 
-    /// A column's name and type.
-    fn field(&mut self) -> Result<Field, ParseErr>
+    /// A name and a type.
+    pub fn field(&mut self) -> Result<Field, ParseErr>
         ensures reads { Reads result field_at self.old self.new }
         ensures shrinks { OnOk result (length self.new.left < length self.old.left) }
     {
         let name = self.name()?;
         let kind = self.take_kind()?;
-        Ok(Field { name, kind })
+        Ok(Field {
+            name,
+            kind,
+            nullable: false,
+        })
+    }
+
+    /// A column that is no key.
+    fn plain_column(&mut self) -> Result<Field, ParseErr>
+        ensures reads { Reads result plain_column_at self.old self.new }
+        ensures shrinks { OnOk result (length self.new.left < length self.old.left) }
+    {
+        let mut field = self.field()?;
+        if self.skip_key(Keyword::Null) {
+            field.nullable = true;
+        }
+        Ok(field)
     }
 
     /// The column that stands behind so many others.
-    fn further_field(&mut self, count: usize) -> Result<Field, ParseErr>
-        ensures reads { Reads result (further_field_at count) self.old self.new }
+    fn further_column(&mut self, count: usize) -> Result<Field, ParseErr>
+        ensures reads { Reads result (further_column_at count) self.old self.new }
         ensures shrinks { OnOk result (length self.new.left < length self.old.left) }
     {
         self.note(COLUMNS_MOST <= count, LimitName::Columns);
-        self.field()
+        self.plain_column()
     }
 
     /// The key's column and further ones.
@@ -72,7 +88,7 @@ impl<'a> Parser<'a> {
         self.take_key(Keyword::Key)?;
         fields.push(key)?;
         while self.skip_field_comma() {
-            let field = self.further_field(fields.len())?;
+            let field = self.further_column(fields.len())?;
             fields.push(field)?;
         }
         Ok(fields)

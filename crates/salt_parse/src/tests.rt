@@ -36,7 +36,7 @@ const PASSES_CHECKS: Option<ParseErr> = Some(ParseErr::Limit(LimitName::Checks))
 const PASSES_DEPTH: Option<ParseErr> = Some(ParseErr::Limit(LimitName::Depth));
 
 // Statements, and the canonical texts of their trees.
-const STATEMENTS: [(&[u8], &[u8]); 31] = [
+const STATEMENTS: [(&[u8], &[u8]); 43] = [
     (b"insert into t values (1)", b"insert into t values (1)"),
     (
         b"INSERT Into t VALUES(1,-2 ,'it''s',:x,a+b)",
@@ -107,10 +107,34 @@ const STATEMENTS: [(&[u8], &[u8]); 31] = [
         b"ensure -9223372036854775808 < 9223372036854775807",
         b"ensure (-9223372036854775808 < 9223372036854775807)",
     ),
+    (b"ensure v is null", b"ensure (v is null)"),
+    (b"ensure v IS  Not\tnull", b"ensure (v is not null)"),
+    (b"ensure not v is null", b"ensure (not (v is null))"),
+    (b"ensure not v is not null", b"ensure (not (v is not null))"),
+    (b"ensure a + b is null", b"ensure ((a + b) is null)"),
+    (b"ensure (a = b) is null", b"ensure ((a = b) is null)"),
+    (b"ensure (v is null) = 1", b"ensure ((v is null) = 1)"),
+    (
+        b"ensure a is null and b is not null or 'x' is null",
+        b"ensure (((a is null) and (b is not null)) or ('x' is null))",
+    ),
+    (
+        b"select a from t where key = 1 and v is null",
+        b"select a from t where key = 1 and (v is null)",
+    ),
+    (
+        b"insert into t values (null, NULL ,1,v is null)",
+        b"insert into t values (null, null, 1, (v is null))",
+    ),
+    (
+        b"update t set v = null, w=1 where v is not null",
+        b"update t set v = null, w = 1 where (v is not null)",
+    ),
+    (b"update t set v = null", b"update t set v = null"),
 ];
 
 // Texts that spell no statement.
-const NO_STATEMENTS: [&[u8]; 30] = [
+const NO_STATEMENTS: [&[u8]; 55] = [
     b"",
     b";",
     b"a",
@@ -141,10 +165,35 @@ const NO_STATEMENTS: [&[u8]; 30] = [
     b"ensure 1 2",
     b"ensure (a",
     b"ensure 'a\x7f'",
+    b"ensure null",
+    b"ensure v is",
+    b"ensure is null",
+    b"ensure v is not",
+    b"ensure v not null",
+    b"ensure v is null null",
+    b"ensure v is null is null",
+    b"ensure v is not not null",
+    b"ensure null is null",
+    b"ensure v is 1",
+    b"ensure v is null = 1",
+    b"ensure a = b is null",
+    b"ensure v isnull",
+    b"ensure (v is) null",
+    b"ensure v = null",
+    b"delete from t where v = null",
+    b"delete from t where null",
+    b"delete from t where key = null",
+    b"delete from t where key = 1 is null",
+    b"select null from t",
+    b"insert into t values ((null))",
+    b"insert into t values (null + 1)",
+    b"insert into t values (null is null)",
+    b"update t set v = null + 1",
+    b"update t set v = (null)",
 ];
 
 // Tables, and the canonical texts of their trees.
-const TABLES: [(&[u8], &[u8]); 3] = [
+const TABLES: [(&[u8], &[u8]); 5] = [
     (
         b"create table t (id int key)",
         b"create table t (id int key)",
@@ -157,10 +206,18 @@ const TABLES: [(&[u8], &[u8]); 3] = [
         b"create table T (Id text key)",
         b"create table T (Id text key)",
     ),
+    (
+        b"create table t (id int key, v int NULL, w text, x text null)",
+        b"create table t (id int key, v int null, w text, x text null)",
+    ),
+    (
+        b"create table t (id int key, v int null, check v is null or v > 0)",
+        b"create table t (id int key, v int null, check ((v is null) or (v > 0)))",
+    ),
 ];
 
 // Texts that spell no table.
-const NO_TABLES: [&[u8]; 9] = [
+const NO_TABLES: [&[u8]; 16] = [
     b"create table t (id key)",
     b"create table t (id int)",
     b"create table t (id int key, check a, b int)",
@@ -170,6 +227,13 @@ const NO_TABLES: [&[u8]; 9] = [
     b"create table t (a int key) b",
     b"create table int (a int key)",
     b"delete from t",
+    b"create table t (id int null key)",
+    b"create table t (id int key null)",
+    b"create table t (id int key, check null)",
+    b"create table t (id int key, v null)",
+    b"create table t (id int key, v null int)",
+    b"create table t (id int key, v int not null)",
+    b"create table t (id int key, v int null null)",
 ];
 
 #[test]
@@ -229,7 +293,7 @@ fn enclosed(
 #[test]
 fn limits_of_statements(rt: HostRuntime) -> Result<(), Fail> {
     let alloc = rt.alloc();
-    let cases: [(&[u8], usize, &[u8], &[u8], Option<ParseErr>); 18] = [
+    let cases: [(&[u8], usize, &[u8], &[u8], Option<ParseErr>); 23] = [
         (b"delete from ", 32, b"a", b"", None),
         (b"delete from ", 33, b"a", b"", PASSES_NAME),
         (b"ensure :", 33, b"_", b"", PASSES_NAME),
@@ -266,6 +330,11 @@ fn limits_of_statements(rt: HostRuntime) -> Result<(), Fail> {
             b"9223372036854775808",
             PASSES_NUMBER,
         ),
+        (b"ensure 1", 62, b"+1", b" is null", None),
+        (b"ensure 1", 63, b"+1", b" is null", PASSES_DEPTH),
+        (b"ensure 1", 63, b"+1", b" is not null", PASSES_DEPTH),
+        (b"ensure 1", 64, b"+1", b" is null and a", PASSES_DEPTH),
+        (b"ensure ", 33, b"a", b" is not null", PASSES_NAME),
     ];
     for (before, times, piece, behind, error) in cases {
         let bytes = repeated(alloc, before, times, piece, behind)?;

@@ -1,8 +1,8 @@
 use Rattle.std.proofs.Common.{◌+◌, ◌-◌, length, sym, ap, ◌∙◌, arith}
 use Rattle.std.proofs.lemmas.Result.{err_from_is_err_and}
 use Rattle.salt_parse.specs.Flags.{built_of}
-use Rattle.salt_parse.specs.Reading.{level_precedence, negations, operand_at, within_at}
-use Rattle.salt_parse.proofs.Loop.{IsTail-ends, IsTail-fails, IsTail-goes_on, negations-goes_on, same_read}
+use Rattle.salt_parse.specs.Reading.{level_precedence, negations, operand_at, sum_at, within_at}
+use Rattle.salt_parse.proofs.Loop.{IsTail-ends, IsTail-fails, IsTail-goes_on, negations-goes_on, once_alone, same_read}
 use Rattle.salt_parse.proofs.parser.Parser.+expr.Goals as goal
 
 pub operation-returns-in_err-right-clause-reads : goal.operation-returns-in_err-right-clause-reads
@@ -36,10 +36,15 @@ negation-loop-preserved t c =
     let one = c.in_ok-inside-2.ensures in
     let n = c.skip_nots-nots.result in
     let i = c.loop.counter in
-    let renamed = same_read _ (built_of c.in_ok-inside-2.inside) _ c.negate.new.self.flags c.loop.self.left c.negate.new.self.left one.built one.flags
+    let renamed = same_read _ (built_of c.in_ok-inside-2.inside) _ c.surround.new.self.flags c.loop.self.left c.surround.new.self.left one.built one.flags
     one.left in
     record {
       so_far = ap (negations (n - (i + 1))) renamed
           ∙ negations-goes_on n i (built_of c.loop.inside, c.loop.self.flags, c.loop.self.left) _ c.loop-test.true c.loop.invariant.so_far;
       stays = one.left ∙ c.loop.invariant.stays;
     }
+
+pub comparison-returns-in-None-clause-reads : goal.comparison-returns-in-None-clause-reads
+comparison-returns-in-None-clause-reads t c =
+    once_alone (sum_at (within_at c.args.room)) (built_of c.in_ok-left.left) c.args.self.now c.operation.new.self c.take_operator.new.self
+    c.null_test.new.self c.null_test.result c.in_ok-left.ensures.reads (sym c.in-None.ensures.takes) c.in-None.ensures.stays c.null_test.ensures.reads
