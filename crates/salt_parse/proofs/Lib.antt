@@ -1,3 +1,4 @@
+pub mod Combined
 pub mod ExpressionLaws
 pub mod Levels
 pub mod ListLaws
@@ -5,8 +6,11 @@ pub mod Listing
 pub mod Loop
 pub mod Mirror
 pub mod MirrorLists
+pub mod MirrorPrograms
 pub mod MirrorStatements
 pub mod Nodes
+pub mod ProgramLaws
+pub mod ProgramTrees
 pub mod StatementComplete
 pub mod StatementSound
 pub mod StatementTrees

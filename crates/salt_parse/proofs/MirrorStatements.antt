@@ -87,7 +87,7 @@ into_marks = record { passed = λ c. option_or (name_passed c.0) (name_passed c.
 abbrev pub statement_marks : Marks Statement
 statement_marks = record { passed = statement_passed; high = λ s. list_any is_high (statement_exprs s) }
 
-abbrev field_marks : Marks Field
+abbrev pub field_marks : Marks Field
 field_marks = record { passed = field_passed; high = λ c. false }
 
 abbrev fields_marks : Marks (List Field)
@@ -99,7 +99,7 @@ checks_marks = record { passed = passed_in_list 16 limit.Checks expr_passed; hig
 abbrev pub table_marks : Marks TableDef
 table_marks = record { passed = table_passed; high = λ d. list_any is_high d.checks }
 
-none_high : {A : Type 0} (xs : List A) → list_any (λ x. false) xs ≡ false
+pub none_high : {A : Type 0} (xs : List A) → list_any (λ x. false) xs ≡ false
 none_high [] = refl
 none_high (x ∷ xs) = none_high xs
 
@@ -111,7 +111,7 @@ sets_high (x ∷ xs) es = or_assoc (is_high x.value) (list_any set_marks.high xs
 
 -- ---- statements
 
-name_agrees : AgreesAll name_marks AreKept name_at name_of
+pub name_agrees : AgreesAll name_marks AreKept name_at name_of
 name_agrees f (name n ∷ ts) p = record { left = refl; flags = refl; is = λ c. kept_name_is (name_flags n f) n c; printable = p.1 }
 name_agrees f [] p = tt
 name_agrees f (key k ∷ ts) p = tt

@@ -37,7 +37,7 @@ pub record Ends (rest : Symbols) : Type 0 where
 abbrev Anything : Symbols → Type 0
 Anything rest = Unit {0}
 
-name_complete : CompleteFor Anything IsName name_of
+pub name_complete : CompleteFor Anything IsName name_of
 name_complete _ rest _ form.is_name f = refl
 
 -- ---- lists
@@ -45,7 +45,7 @@ name_complete _ rest _ form.is_name f = refl
 comma_stops : (us : Symbols) → Stops 1 (sign mark.Comma ∷ us)
 comma_stops us = omega arith
 
-comma_opens : {A : Type 0} (G : Symbols → A → Type 0) (u us : Symbols) (x : A) → G u x → comma (sign mark.Comma ∷ (u ++ us)) ≡ Some (u ++ us)
+pub comma_opens : {A : Type 0} (G : Symbols → A → Type 0) (u us : Symbols) (x : A) → G u x → comma (sign mark.Comma ∷ (u ++ us)) ≡ Some (u ++ us)
 unfolding after
 comma_opens G u us x g = refl
 
@@ -184,7 +184,7 @@ statement_complete Inner Deeper find found s t c d _ rest _ (form.is_ensure {ts 
 
 -- ---- tables
 
-field_complete : CompleteFor Anything IsField field_of
+pub field_complete : CompleteFor Anything IsField field_of
 unfolding after
 field_complete _ rest _ table.int_field f = refl
 field_complete _ rest _ table.text_field f = refl

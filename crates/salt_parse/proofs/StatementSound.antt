@@ -41,12 +41,12 @@ name_is : (ts : Symbols) (n : List ℕ) (rest : Symbols) → name_of ts ≡ Some
 name_is (name m ∷ ts) n rest h = let p = some_is (m, ts) (n, rest) h in rw (ap (λ (x : List ℕ × Symbols). x.0) p, ap (λ (x : List ℕ × Symbols). x.1) p) refl
 name_is _ n rest h = absurd cc
 
-name_sound : SoundFor IsName name_of
+pub name_sound : SoundFor IsName name_of
 name_sound ts n rest h = (name n ∷ [], name_is ts n rest h, form.is_name)
 
 -- ---- lists
 
-comma_is : (ts us : Symbols) → comma ts ≡ Some us → ts ≡ sign mark.Comma ∷ us
+pub comma_is : (ts us : Symbols) → comma ts ≡ Some us → ts ≡ sign mark.Comma ∷ us
 comma_is ts us h = after_is (sign mark.Comma) ts us h
 
 module _ {A : Type 0} (G : Symbols → A → Type 0) (find : TreeReader A) (s : SoundFor G find) where

@@ -6,6 +6,8 @@ use Rattle.std.specs.List.{list_all}
 use Rattle.std.specs.Prelude.{IfOk, is_none}
 use Rattle.salt_ast.specs.Grammar.{Within}
 use Rattle.salt_ast.specs.Limits.{statement_limit, table_limit}
+use Rattle.salt_ast.specs.ProgramLimits.{program_limit}
+use Rattle.salt_ast.specs.Programs.{IsProgram}
 use Rattle.salt_ast.specs.Spelling.{IsWithinLimits, Passes, Spells, by_parentheses, by_tree}
 use Rattle.salt_ast.specs.Statements.{IsStatement}
 use Rattle.salt_ast.specs.Tables.{IsTable}
@@ -13,24 +15,30 @@ use Rattle.std.specs.Bool.{then_some}
 use Rattle.std.specs.Option.{option_or}
 use Rattle.salt_ast.specs.declared.limit.LimitName.{LimitName}
 use Rattle.salt_ast.specs.declared.limit.LimitName.TheVariants as limit
+use Rattle.salt_ast.specs.declared.programs.ProgramDef.{ProgramDef}
 use Rattle.salt_ast.specs.declared.trees.Statement.{Statement}
 use Rattle.salt_ast.specs.declared.trees.TableDef.{TableDef}
 use Rattle.salt_parse.specs.Answers.{parse_err}
 use Rattle.salt_parse.specs.Attempts.{IsAnswer, answer_for, attempt_of, ended, limit_in, settled, tree_or_limit}
 use Rattle.salt_parse.specs.Flags.{Flags, clear, no_flags}
+use Rattle.salt_parse.specs.ProgramReading.{program_at, program_within}
 use Rattle.salt_parse.specs.Reading.{Read, after, within_at}
-use Rattle.salt_parse.specs.Settling.{ArePrintable, DeepStatement, DeepTable, IsPrintable, Settles, ShallowStatement, ShallowTable}
+use Rattle.salt_parse.specs.Settling.{ArePrintable, DeepProgram, DeepStatement, DeepTable, IsPrintable, Settles, ShallowProgram, ShallowStatement}
+use Rattle.salt_parse.specs.Settling.{ShallowTable}
 use Rattle.salt_parse.specs.StatementReading.{statement_at, statement_within}
 use Rattle.salt_parse.specs.TableReading.{table_at, table_within}
 use Rattle.salt_parse.specs.declared.error.ParseErr.{ParseErr}
 use Rattle.salt_parse.specs.declared.error.ParseErr.TheVariants.{Limit, Memory, Syntax}
 use Rattle.salt_parse.proofs.ExpressionLaws.{some_is, within_complete, within_sound}
 use Rattle.salt_parse.proofs.Mirror.{Agrees, AreKept, Marks, noted, within_mirrors}
+use Rattle.salt_parse.proofs.MirrorPrograms.{program_agrees, program_marks}
 use Rattle.salt_parse.proofs.MirrorStatements.{statement_agrees, statement_marks, table_agrees, table_marks}
 use Rattle.salt_parse.proofs.StatementComplete.{Ends, statement_complete, table_complete}
 use Rattle.salt_parse.proofs.StatementSound.{statement_sound, table_sound}
 use Rattle.salt_parse.proofs.StatementTrees.{statement_of, table_of}
 use Rattle.salt_parse.proofs.Trees.{within_of}
+use Rattle.salt_parse.proofs.ProgramLaws.{program_complete, program_sound, program_up}
+use Rattle.salt_parse.proofs.ProgramTrees.{program_of}
 use Rattle.salt_parse.proofs.Up.{statement_up, table_up, within_up}
 use Rattle.salt_tokens.specs.Bytes.{is_printable}
 use Rattle.salt_tokens.specs.Pieces.{IsToken, Lexes, Piece, Run, blank, ended as no_more, quoted, token}
@@ -185,6 +193,17 @@ table_found d ts = (
   λ x h. ap (table_of (within_of d)) (sym (append-nil ts)) ∙ table_complete (Within d) (within_of d) (within_sound d) (within_complete d) ts [] x h,
 )
 
+program_found : (d n : ℕ) (ts : Symbols) →
+    ((x : ProgramDef) → program_of (within_of d) (within_of n) ts ≡ Some (x, []) → IsProgram (Within d) (Within n) ts x) ×
+    ((x : ProgramDef) → IsProgram (Within d) (Within n) ts x → program_of (within_of d) (within_of n) ts ≡ Some (x, []))
+program_found d n ts = (
+  λ x h. whole (IsProgram (Within d) (Within n)) ts x
+      (program_sound (Within d) (Within n) (within_of d) (within_of n) (within_sound d) (within_sound n) ts x [] h),
+  λ x h. ap (program_of (within_of d) (within_of n)) (sym (append-nil ts))
+      ∙ program_complete (Within d) (Within n) (within_of d) (within_of n) (within_sound d) (within_sound n) (within_complete d)
+      (within_complete n) ts [] x h tt,
+)
+
 -- no row spells two trees
 one_of : {A : Type 0} (G : Symbols → A → Type 0) (o : Option (A × Symbols)) (ts : Symbols) → ((x : A) → G ts x → o ≡ Some (x, [])) → (a b : A) →
     G ts a → G ts b → a ≡ b
@@ -220,6 +239,9 @@ row_statement ts a b = one_of DeepStatement (statement_of (within_of 128) (withi
 pub row_table : (ts : Symbols) (a b : TableDef) → DeepTable ts a → DeepTable ts b → a ≡ b
 row_table ts a b = one_of DeepTable (table_of (within_of 127) ts) ts (table_found 127 ts).1 a b
 
+pub row_program : (ts : Symbols) (a b : ProgramDef) → DeepProgram ts a → DeepProgram ts b → a ≡ b
+row_program ts a b = one_of DeepProgram (program_of (within_of 128) (within_of 127) ts) ts (program_found 128 127 ts).1 a b
+
 -- ---- the answers
 
 pub statement_deepens : (ts : Symbols) (x : Statement) → ShallowStatement ts x → DeepStatement ts x
@@ -248,6 +270,20 @@ table_settles ts r p e =
     (table_at (within_at 64) no_flags ts) (table_at (within_at 127) no_flags ts) (table_found 64 ts) (table_found 127 ts)
     (table_agrees (within_at 64) (within_of 64) (within_mirrors 64) no_flags ts p)
     (table_agrees (within_at 127) (within_of 127) (within_mirrors 127) no_flags ts p) e
+
+pub program_deepens : (ts : Symbols) (x : ProgramDef) → ShallowProgram ts x → DeepProgram ts x
+program_deepens ts x d = program_up (within_up 64 128 (omega arith)) (within_up 64 127 (omega arith)) ts x d
+
+pub program_settles : (ts : Symbols) (r : Result ProgramDef ParseErr) → ArePrintable ts → IsAnswer r (answer_for program_within ts) →
+    Settles program_limit ShallowProgram DeepProgram ts r
+unfolding program_limit
+program_settles ts r p e =
+    all program_marks ShallowProgram DeepProgram (λ us x d. program_deepens us x d)
+    (program_of (within_of 64) (within_of 64) ts) (program_of (within_of 128) (within_of 127) ts) ts r
+    (program_at (within_at 64) (within_at 64) no_flags ts) (program_at (within_at 128) (within_at 127) no_flags ts) (program_found 64 64 ts)
+    (program_found 128 127 ts)
+    (program_agrees (within_at 64) (within_at 64) (within_of 64) (within_of 64) (within_mirrors 64) (within_mirrors 64) no_flags ts p)
+    (program_agrees (within_at 128) (within_at 127) (within_of 128) (within_of 127) (within_mirrors 128) (within_mirrors 127) no_flags ts p) e
 
 -- what an answer for the row of the bytes tells of what they spell
 module _ {A : Type 0} (one : OneRow) (bytes : List ℕ) (limit_of : A → Option LimitName) (Shallow Deep : Symbols → A → Type 0) (ts : Symbols)

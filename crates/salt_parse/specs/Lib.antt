@@ -1,8 +1,10 @@
 pub mod Answers
 pub mod Attempts
+pub mod Combining
 pub mod Flags
 pub mod Lists
 pub mod Parsing
+pub mod ProgramReading
 pub mod Reading
 pub mod Settling
 pub mod StatementReading

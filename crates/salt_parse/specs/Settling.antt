@@ -1,9 +1,11 @@
 -- What an answer for a row tells of what the row spells.
 use Rattle.salt_ast.specs.Grammar.{Within}
 use Rattle.salt_ast.specs.Spelling.{Passes}
+use Rattle.salt_ast.specs.Programs.{IsProgram}
 use Rattle.salt_ast.specs.Statements.{IsStatement}
 use Rattle.salt_ast.specs.Tables.{IsTable}
 use Rattle.salt_ast.specs.declared.limit.LimitName.{LimitName}
+use Rattle.salt_ast.specs.declared.programs.ProgramDef.{ProgramDef}
 use Rattle.salt_ast.specs.declared.trees.Statement.{Statement}
 use Rattle.salt_ast.specs.declared.trees.TableDef.{TableDef}
 use Rattle.salt_parse.specs.declared.error.ParseErr.{ParseErr}
@@ -46,3 +48,9 @@ ShallowTable = IsTable (Within DEPTH_MOST)
 
 abbrev pub DeepTable : Symbols → TableDef → Type 0
 DeepTable = IsTable (Within (PARENTHESES_MOST - 1))
+
+abbrev pub ShallowProgram : Symbols → ProgramDef → Type 0
+ShallowProgram = IsProgram (Within DEPTH_MOST) (Within DEPTH_MOST)
+
+abbrev pub DeepProgram : Symbols → ProgramDef → Type 0
+DeepProgram = IsProgram (Within PARENTHESES_MOST) (Within (PARENTHESES_MOST - 1))

@@ -1,4 +1,4 @@
-//! From bytes to the trees of statements and tables.
+//! From bytes to the trees of statements, tables and programs.
 #![tactic(auto)]
 
 mod built;
@@ -7,6 +7,7 @@ mod expr;
 mod laws;
 mod null;
 mod parser;
+mod program;
 mod quoted;
 mod read;
 mod scan;
@@ -17,8 +18,10 @@ mod token;
 mod tree;
 
 pub use error::ParseErr;
-pub use laws::{one_statement, one_table, printable_symbols, row_statement, row_table};
-pub use read::{read_statement, read_table, statement_in, table_in};
+pub use laws::{
+    one_program, one_statement, one_table, printable_symbols, row_program, row_statement, row_table,
+};
+pub use read::{program_in, read_program, read_statement, read_table, statement_in, table_in};
 pub use token::tokens;
 
 #[cfg(test)]

@@ -1,14 +1,17 @@
-//! Statements and tables from tokens, and from bytes.
+//! Statements, tables and programs from tokens, and from bytes.
 
 ghost use Rattle.std.specs.Prelude.{◌≡◌, Err, IfOk, Some};
 ghost use Rattle.salt_ast.specs.Limits.{statement_limit, table_limit};
+ghost use Rattle.salt_ast.specs.ProgramLimits.{program_limit};
+ghost use Rattle.salt_ast.specs.Spelling.{IsProgramWithinLimits, ProgramPasses, SpellsProgram};
 ghost use Rattle.salt_ast.specs.Spelling.{IsStatementWithinLimits, IsTableWithinLimits, SpellsStatement, SpellsTable, StatementPasses, TablePasses};
 ghost use Rattle.salt_ast.specs.declared.limit.LimitName.{LimitName};
+ghost use Rattle.salt_ast.specs.declared.programs.ProgramDef.{ProgramDef};
 ghost use Rattle.salt_ast.specs.declared.trees.Statement.{Statement};
 ghost use Rattle.salt_ast.specs.declared.trees.TableDef.{TableDef};
 ghost use Rattle.salt_parse.specs.Attempts.{IsAnswer, answer_for, attempt_of, too_deep};
 ghost use Rattle.salt_parse.specs.Flags.{no_flags};
-ghost use Rattle.salt_parse.specs.Settling.{ArePrintable, DeepStatement, DeepTable, Settles, ShallowStatement, ShallowTable};
+ghost use Rattle.salt_parse.specs.Settling.{ArePrintable, DeepProgram, DeepStatement, DeepTable, Settles, ShallowProgram, ShallowStatement, ShallowTable};
 ghost use Rattle.salt_parse.specs.declared.error.ParseErr.TheVariants.{Limit, Syntax};
 ghost use Rattle.salt_tokens.specs.Symbols.{symbols_in};
 
@@ -16,7 +19,7 @@ use crate::error::ParseErr;
 use crate::laws::printable_symbols;
 use crate::parser::Parser;
 use crate::tree::Tree;
-use salt_ast::{LimitName, Statement, TableDef};
+use salt_ast::{LimitName, ProgramDef, Statement, TableDef};
 use salt_tokens::{Lexeme, lexemes, one_row};
 use salt_values::limits::{DEPTH_MOST, PARENTHESES_MOST};
 use std::alloc::Global;
@@ -93,6 +96,14 @@ pub fn table_in(alloc: Global, tokens: &[Lexeme<'_>]) -> Result<TableDef, ParseE
     settle(alloc, tokens)
 }
 
+/// The program that the tokens spell, or why there is none, as of statements.
+pub fn program_in(alloc: Global, tokens: &[Lexeme<'_>]) -> Result<ProgramDef, ParseErr>
+    requires { ArePrintable (symbols_in tokens.now) }
+    ensures { Settles program_limit ShallowProgram DeepProgram (symbols_in tokens.now) result }
+{
+    settle(alloc, tokens)
+}
+
 /// The statement that the bytes spell.
 ///
 /// `Limit` exactly where they spell one that passes a limit, with the first; `Syntax` exactly where they spell none,
@@ -127,4 +138,22 @@ pub fn read_table(alloc: Global, bytes: &[u8]) -> Result<TableDef, ParseErr>
     printable_symbols();
     let tokens = lexemes(alloc, bytes)?;
     table_in(alloc, tokens.as_slice())
+}
+
+/// The program that the bytes spell.
+///
+/// `Limit` exactly where they spell one that passes a limit, with the first; `Syntax` exactly where they spell none,
+/// as where more than 128 parentheses are open; else `Memory` where memory runs out.
+pub fn read_program(alloc: Global, bytes: &[u8]) -> Result<ProgramDef, ParseErr>
+    // What is read is spelled so, and passes no limit.
+    ensures found { IfOk result (λ p. IsProgramWithinLimits bytes.now p) }
+    // A limit is answered only for what is spelled, and is the first that it passes.
+    ensures limit { (l : LimitName) → result ≡ Err (Limit l) → (p : ProgramDef) × SpellsProgram bytes.now p × ProgramPasses bytes.now p l }
+    // Nothing is spelled.
+    ensures syntax { result ≡ Err Syntax → (p : ProgramDef) → ¬ (SpellsProgram bytes.now p) }
+{
+    one_row();
+    printable_symbols();
+    let tokens = lexemes(alloc, bytes)?;
+    program_in(alloc, tokens.as_slice())
 }

@@ -1,6 +1,6 @@
 //! Which rows a statement is for.
 
-ghost use Rattle.std.specs.Prelude.{◌<◌, OnOk, length};
+ghost use Rattle.std.specs.Prelude.{◌<◌, ◌≤◌, OnOk, length};
 ghost use Rattle.salt_parse.specs.Parsing.{Reads};
 ghost use Rattle.salt_parse.specs.Reading.{conjunction_at, expression_at, sum_at, within_at};
 ghost use Rattle.salt_parse.specs.StatementReading.{and_at, bound_at, name_at, scan_at, tree_at};
@@ -55,7 +55,8 @@ impl<'a> Parser<'a> {
 
     /// `and` and a filter, or nothing.
     fn and_filter(&mut self, room: u32) -> Result<Option<Expr>, ParseErr>
-        ensures { Reads result (and_at (within_at room)) self.old self.new }
+        ensures reads { Reads result (and_at (within_at room)) self.old self.new }
+        ensures shrinks { OnOk result (length self.new.left ≤ length self.old.left) }
     {
         if !self.skip_key(Keyword::And) {
             return Ok(None);
@@ -65,7 +66,8 @@ impl<'a> Parser<'a> {
 
     /// What stands behind `where key`.
     fn bounded(&mut self, room: u32) -> Result<Scan, ParseErr>
-        ensures { Reads result (bound_at (within_at room)) self.old self.new }
+        ensures reads { Reads result (bound_at (within_at room)) self.old self.new }
+        ensures shrinks { OnOk result (length self.new.left < length self.old.left) }
     {
         if self.skip_key(Keyword::Between) {
             let low = self.operand(room)?;
@@ -88,7 +90,8 @@ impl<'a> Parser<'a> {
 
     /// Which rows: `where` and what stands behind it, or all rows.
     pub fn scan(&mut self, room: u32) -> Result<Scan, ParseErr>
-        ensures { Reads result (scan_at (within_at room)) self.old self.new }
+        ensures reads { Reads result (scan_at (within_at room)) self.old self.new }
+        ensures shrinks { OnOk result (length self.new.left ≤ length self.old.left) }
     {
         if !self.skip_key(Keyword::Where) {
             return Ok(Scan {

@@ -16,7 +16,8 @@ use sqlite_items::Items;
 impl<'a> Parser<'a> {
     /// What columns take, with commas between them.
     fn values(&mut self, room: u32) -> Result<Exprs, ParseErr>
-        ensures { Reads result (values_at (within_at room)) self.old self.new }
+        ensures reads { Reads result (values_at (within_at room)) self.old self.new }
+        ensures shrinks { OnOk result (length self.new.left < length self.old.left) }
     {
         let mut values = Items::new(self.alloc());
         values.push(self.value(room)?)?;
@@ -28,7 +29,8 @@ impl<'a> Parser<'a> {
 
     /// Names with commas between them.
     fn names(&mut self) -> Result<Names, ParseErr>
-        ensures { Reads result names_at self.old self.new }
+        ensures reads { Reads result names_at self.old self.new }
+        ensures shrinks { OnOk result (length self.new.left < length self.old.left) }
     {
         let mut names = Items::new(self.alloc());
         names.push(self.name()?)?;
@@ -51,7 +53,8 @@ impl<'a> Parser<'a> {
 
     /// Columns and their values, with commas between them.
     fn sets(&mut self, room: u32) -> Result<Sets, ParseErr>
-        ensures { Reads result (sets_at (within_at room)) self.old self.new }
+        ensures reads { Reads result (sets_at (within_at room)) self.old self.new }
+        ensures shrinks { OnOk result (length self.new.left < length self.old.left) }
     {
         let mut sets = Items::new(self.alloc());
         sets.push(self.set(room)?)?;
@@ -63,7 +66,8 @@ impl<'a> Parser<'a> {
 
     /// A name in parentheses.
     fn enclosed(&mut self) -> Result<Name, ParseErr>
-        ensures { Reads result enclosed_at self.old self.new }
+        ensures reads { Reads result enclosed_at self.old self.new }
+        ensures shrinks { OnOk result (length self.new.left < length self.old.left) }
     {
         self.take_sign(Sign::Open)?;
         let name = self.name()?;
@@ -73,7 +77,8 @@ impl<'a> Parser<'a> {
 
     /// What stands behind `count`.
     fn count(&mut self) -> Result<What, ParseErr>
-        ensures { Reads result count_at self.old self.new }
+        ensures reads { Reads result count_at self.old self.new }
+        ensures shrinks { OnOk result (length self.new.left < length self.old.left) }
     {
         self.take_sign(Sign::Open)?;
         self.take_sign(Sign::Star)?;
@@ -83,7 +88,8 @@ impl<'a> Parser<'a> {
 
     /// What a SELECT shows.
     fn what(&mut self) -> Result<What, ParseErr>
-        ensures { Reads result what_at self.old self.new }
+        ensures reads { Reads result what_at self.old self.new }
+        ensures shrinks { OnOk result (length self.new.left < length self.old.left) }
     {
         if self.skip_sign(Sign::Star) {
             return Ok(What::All);
@@ -105,7 +111,8 @@ impl<'a> Parser<'a> {
 
     /// What stands behind `insert`.
     fn insert(&mut self, room: u32) -> Result<Statement, ParseErr>
-        ensures { Reads result (insert_at (within_at room)) self.old self.new }
+        ensures reads { Reads result (insert_at (within_at room)) self.old self.new }
+        ensures shrinks { OnOk result (length self.new.left < length self.old.left) }
     {
         self.take_key(Keyword::Into)?;
         let table = self.name()?;
@@ -125,7 +132,8 @@ impl<'a> Parser<'a> {
 
     /// The names behind `select` up to `from`, where `into` stands between them.
     fn into_names(&mut self) -> Result<(Name, Name), ParseErr>
-        ensures { Reads result into_at self.old self.new }
+        ensures reads { Reads result into_at self.old self.new }
+        ensures shrinks { OnOk result (length self.new.left < length self.old.left) }
     {
         let column = self.name()?;
         self.take_key(Keyword::Into)?;
@@ -136,7 +144,8 @@ impl<'a> Parser<'a> {
 
     /// A key alone, behind a table's name.
     fn only_key(&mut self, room: u32) -> Result<Expr, ParseErr>
-        ensures { Reads result (only_key_at (within_at room)) self.old self.new }
+        ensures reads { Reads result (only_key_at (within_at room)) self.old self.new }
+        ensures shrinks { OnOk result (length self.new.left < length self.old.left) }
     {
         self.take_key(Keyword::Where)?;
         self.take_key(Keyword::Key)?;
@@ -145,7 +154,8 @@ impl<'a> Parser<'a> {
     }
 
     fn select_into(&mut self, room: u32) -> Result<Statement, ParseErr>
-        ensures { Reads result (select_into_at (within_at room)) self.old self.new }
+        ensures reads { Reads result (select_into_at (within_at room)) self.old self.new }
+        ensures shrinks { OnOk result (length self.new.left < length self.old.left) }
     {
         let (column, var) = self.into_names()?;
         self.take_key(Keyword::From)?;
@@ -160,7 +170,8 @@ impl<'a> Parser<'a> {
     }
 
     fn select_rows(&mut self, room: u32) -> Result<Statement, ParseErr>
-        ensures { Reads result (select_rows_at (within_at room)) self.old self.new }
+        ensures reads { Reads result (select_rows_at (within_at room)) self.old self.new }
+        ensures shrinks { OnOk result (length self.new.left < length self.old.left) }
     {
         let what = self.what()?;
         self.take_key(Keyword::From)?;
@@ -171,7 +182,8 @@ impl<'a> Parser<'a> {
 
     /// What stands behind `select`.
     fn select(&mut self, room: u32) -> Result<Statement, ParseErr>
-        ensures { Reads result (select_at (within_at room)) self.old self.new }
+        ensures reads { Reads result (select_at (within_at room)) self.old self.new }
+        ensures shrinks { OnOk result (length self.new.left < length self.old.left) }
     {
         if self.is_into() {
             self.select_into(room)
@@ -182,7 +194,8 @@ impl<'a> Parser<'a> {
 
     /// What stands behind `update`.
     fn update(&mut self, room: u32) -> Result<Statement, ParseErr>
-        ensures { Reads result (update_at (within_at room)) self.old self.new }
+        ensures reads { Reads result (update_at (within_at room)) self.old self.new }
+        ensures shrinks { OnOk result (length self.new.left < length self.old.left) }
     {
         let table = self.name()?;
         self.take_key(Keyword::Set)?;
@@ -193,7 +206,8 @@ impl<'a> Parser<'a> {
 
     /// What stands behind `delete`.
     fn delete(&mut self, room: u32) -> Result<Statement, ParseErr>
-        ensures { Reads result (delete_at (within_at room)) self.old self.new }
+        ensures reads { Reads result (delete_at (within_at room)) self.old self.new }
+        ensures shrinks { OnOk result (length self.new.left < length self.old.left) }
     {
         self.take_key(Keyword::From)?;
         let table = self.name()?;
@@ -203,7 +217,8 @@ impl<'a> Parser<'a> {
 
     /// UPDATE, DELETE or ENSURE.
     fn change(&mut self, room: u32) -> Result<Statement, ParseErr>
-        ensures { Reads result (change_at (within_at room)) self.old self.new }
+        ensures reads { Reads result (change_at (within_at room)) self.old self.new }
+        ensures shrinks { OnOk result (length self.new.left < length self.old.left) }
     {
         if self.skip_key(Keyword::Update) {
             return self.update(room);
@@ -218,7 +233,8 @@ impl<'a> Parser<'a> {
     /// A statement, with room for so many parentheses in its expressions, and for so many in those of INSERT.
     #[tactic(auto, unfolding(crate::specs::StatementReading::statement_at))]
     pub fn statement(&mut self, room: u32, deeper: u32) -> Result<Statement, ParseErr>
-        ensures { Reads result (statement_at (within_at room) (within_at deeper)) self.old self.new }
+        ensures reads { Reads result (statement_at (within_at room) (within_at deeper)) self.old self.new }
+        ensures shrinks { OnOk result (length self.new.left < length self.old.left) }
     {
         if self.skip_key(Keyword::Insert) {
             return self.insert(deeper);

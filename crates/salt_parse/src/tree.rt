@@ -2,13 +2,14 @@
 
 ghost use Rattle.std.specs.Prelude.{ℕ};
 ghost use Rattle.salt_parse.specs.Parsing.{Reads};
+ghost use Rattle.salt_parse.specs.ProgramReading.{program_within};
 ghost use Rattle.salt_parse.specs.Reading.{Reader};
 ghost use Rattle.salt_parse.specs.StatementReading.{statement_within};
 ghost use Rattle.salt_parse.specs.TableReading.{table_within};
 
 use crate::error::ParseErr;
 use crate::parser::Parser;
-use salt_ast::{Statement, TableDef};
+use salt_ast::{ProgramDef, Statement, TableDef};
 
 /// A tree that a whole text may spell.
 pub trait Tree: Drop {
@@ -33,5 +34,13 @@ impl Tree for TableDef {
 
     fn read(parser: &mut Parser<'_>, _room: u32, inside: u32) -> Result<Self, ParseErr> {
         parser.table(inside)
+    }
+}
+
+impl Tree for ProgramDef {
+    ghost reading = { program_within };
+
+    fn read(parser: &mut Parser<'_>, room: u32, inside: u32) -> Result<Self, ParseErr> {
+        parser.program(room, inside)
     }
 }

@@ -1,4 +1,4 @@
-use Rattle.std.proofs.Common.{length}
+use Rattle.std.proofs.Common.{◌<◌, length}
 use Rattle.salt_parse.specs.Lists.{comma}
 use Rattle.salt_parse.specs.Reading.{within_at}
 use Rattle.salt_parse.specs.StatementReading.{set_at, sets_at}
@@ -6,8 +6,10 @@ use Rattle.salt_parse.proofs.Listing.{IsListing}
 use Rattle.salt_parse.proofs.parser.Parser.sets.Given as goal
 
 abbrev pub invariant-loop-sets : goal.invariant-loop-sets
-invariant-loop-sets l =
-    IsListing comma (λ n. set_at (within_at l.room)) l.sets l.self (sets_at (within_at l.room) l.fn.self.flags l.fn.self.left)
+invariant-loop-sets l = record {
+  listing : IsListing comma (λ n. set_at (within_at l.room)) l.sets l.self (sets_at (within_at l.room) l.fn.self.flags l.fn.self.left);
+  shorter : length l.self.left < length l.fn.self.left;
+}
 
 abbrev pub decreases-loop-sets : goal.decreases-loop-sets
 decreases-loop-sets l = length l.self.left
