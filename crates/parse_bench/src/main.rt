@@ -1,15 +1,25 @@
-//! Reads a statement from each line of standard input, and tells how many there were: what the measure of the parser times.
+//! Reads a statement or a program from each line of standard input, and tells how many there were: what the measure of the parser times.
 #![tactic(auto)]
 
 use salt_io::{LineErr, Lines, Next, Source, StdSource};
-use salt_parse::{ParseErr, read_statement};
+use salt_parse::{ParseErr, read_program, read_statement};
 use std::alloc::Global;
 use std::process::ExitCode;
 
 /// The most lines of a script: each takes a byte.
 const LINES_MOST: u32 = 16_777_216;
 
-/// How many lines are a statement, pass a limit, or spell nothing.
+/// Reads a program where the line begins so, and else a statement.
+fn read(alloc: Global, line: &[u8]) -> Result<(), ParseErr> {
+    if line.starts_with(b"program ") {
+        let _program = read_program(alloc, line)?;
+    } else {
+        let _statement = read_statement(alloc, line)?;
+    }
+    Ok(())
+}
+
+/// How many lines are a statement or a program, pass a limit, or spell nothing.
 #[derive(Clone, Copy, Debug, PartialEq, Eq)]
 struct Counts {
     read: u64,
@@ -20,8 +30,8 @@ struct Counts {
 impl Counts {
     /// Counts a line.
     fn add(&mut self, alloc: Global, line: &[u8]) -> Result<(), LineErr> {
-        let count = match read_statement(alloc, line) {
-            Ok(_statement) => &mut self.read,
+        let count = match read(alloc, line) {
+            Ok(()) => &mut self.read,
             Err(ParseErr::Limit(_)) => &mut self.limited,
             Err(ParseErr::Syntax) => &mut self.refused,
             Err(ParseErr::Memory) => return Err(LineErr::Memory),
