@@ -13,7 +13,7 @@ use Rattle.salt_laws.proofs.Salted.{OfBoots, holds}
 use Rattle.salt_laws.proofs.Sound.{Sound, base-begun, base-kept-begun, base-moved, bases_in, conts-kept, due-in}
 use Rattle.salt_model.specs.After.{branched, conts_at, kept, run_of}
 use Rattle.salt_model.specs.Continuing.{AcceptsDue, FinishesDue, GoesAlong, accepted_after, finished_after, if_ended, is_unfinished, last_said, program_continued}
-use Rattle.salt_model.specs.Kept.{begun_cont, branch_of, cont_of, kept_program, moved, then_of, values_kept}
+use Rattle.salt_model.specs.Kept.{begun_cont, branch_of, cont_of, kept_program, moved, then_of, tries_left, values_kept}
 use Rattle.salt_model.specs.Trace.{Trace, from, start_of, ◌asks◌, ◌says◌, ◌turns◌}
 use Rattle.salt_model.specs.Units.{kind_of, program_begun, program_of_kind}
 use Rattle.salt_model.specs.Played.{IsPlayed}
@@ -109,9 +109,9 @@ bases-back trace u (Committed n) b i = by (kind_of u trace) refl i
     by (Some (Later c part)) e h = inl (on c part _ h)
 bases-back trace u (Branched n cause) b i = inl (by (kind_of u trace) i)
   where
-    on : (c : Id) (part : ℕ) (o : Option ProgramDef) → In b (bases (elim o [ None ↦ (kept trace).conts | Some p ↦ moved c (branch_of p part) (λ x. x) (kept trace).conts ])) → In b (bases_in trace)
+    on : (c : Id) (part : ℕ) (o : Option ProgramDef) → In b (bases (elim o [ None ↦ (kept trace).conts | Some p ↦ moved c (branch_of p part (tries_left c (kept trace))) (λ x. x) (kept trace).conts ])) → In b (bases_in trace)
     on c part None h = h
-    on c part (Some p) h = base-moved b c (branch_of p part) _ (λ x. refl) (kept trace).conts h
+    on c part (Some p) h = base-moved b c (branch_of p part (tries_left c (kept trace))) _ (λ x. refl) (kept trace).conts h
 
     by : (o : Option UnitKind) → In b (bases (branched (kept trace) n o).conts) → In b (bases_in trace)
     by None h = h

@@ -1,11 +1,12 @@
 -- The programs that go on are defined: definitions stay, and a continuation is of a program that is kept.
 use Rattle.salt_ast.specs.ProgramJudgement.{program_named}
+use Rattle.salt_ast.specs.Paths.{Position}
 use Rattle.salt_ast.specs.declared.programs.ProgramDef.{ProgramDef}
 use Rattle.salt_laws.proofs.Every.{every-append, every-map}
 use Rattle.salt_laws.proofs.Rising.{every-without}
 use Rattle.salt_model.specs.After.{branched, conts_at, defined_by, keep, kept, run_of, stage}
 use Rattle.salt_model.specs.Ends.{kept_with}
-use Rattle.salt_model.specs.Kept.{Definition, Kept, OfProgram, OfTable, begun_cont, branch_of, change_cont, cont_of, kept_program, moved, program_of_definition, programs_of, then_of, values_kept}
+use Rattle.salt_model.specs.Kept.{Definition, Kept, OfProgram, OfTable, begun_cont, branch_of, change_cont, cont_of, kept_program, moved, program_of_definition, programs_of, then_of, tries_left, values_kept}
 use Rattle.salt_model.specs.Trace.{Trace, from, line_of, start_of, ◌asks◌, ◌says◌, ◌turns◌}
 use Rattle.salt_model.specs.Units.{kind_of}
 use Rattle.salt_model.specs.Words.{Every}
@@ -74,13 +75,13 @@ defined-change k b f same (c ∷ cs) h = by (is_same_id b c.base) (defined-chang
     by true more = (subst (IsKeptProgram k) (sym (same c)) h.0, h.1)
     by false more = (h.0, more)
 
-defined-moved : (k : Kept) (b : Id) (o : Option ℕ) (f : Cont → Cont) → ((c : Cont) → (f c).program ≡ c.program) → (cs : List Cont) → AreDefined k cs → AreDefined k (moved b o f cs)
+defined-moved : (k : Kept) (b : Id) (o : Option Position) (f : Cont → Cont) → ((c : Cont) → (f c).program ≡ c.program) → (cs : List Cont) → AreDefined k cs → AreDefined k (moved b o f cs)
 defined-moved k b None f same cs h = every-without (λ (c : Cont). IsKeptProgram k c.program) b cs h
-defined-moved k b (Some part) f same cs h = defined-change k b (λ c. record (f c) { next = part }) (λ c. same c) cs h
+defined-moved k b (Some at) f same cs h = defined-change k b (λ c. record (f c) { next = at.part; tries = at.tries }) (λ c. same c) cs h
 
-defined-begun : (k : Kept) (b : Id) (n : ℕ) (p : ProgramDef) (args : List Value) (vars : List Binding) (o : Option ℕ) (cs : List Cont) → IsKeptProgram k p.name → AreDefined k cs → AreDefined k (begun_cont b n p args vars o cs)
+defined-begun : (k : Kept) (b : Id) (n : ℕ) (p : ProgramDef) (args : List Value) (vars : List Binding) (o : Option Position) (cs : List Cont) → IsKeptProgram k p.name → AreDefined k cs → AreDefined k (begun_cont b n p args vars o cs)
 defined-begun k b n p args vars None cs d h = h
-defined-begun k b n p args vars (Some part) cs d h = every-append (λ (c : Cont). IsKeptProgram k c.program) cs _ h (d, tt)
+defined-begun k b n p args vars (Some at) cs d h = every-append (λ (c : Cont). IsKeptProgram k c.program) cs _ h (d, tt)
 
 defined-committed : (k : Kept) (n : ℕ) (o : Option UnitKind) (vars : List Binding) → AreDefined k k.conts → AreDefined k (conts_at k n o vars)
 defined-committed k n None vars h = h
@@ -104,9 +105,9 @@ defined-branched k n (Some (Call s name args)) h = h
 defined-branched k n (Some (First s c name args)) h = h
 defined-branched k n (Some (Later c part)) h = go (option_and_then (λ c. kept_program c.program k) (cont_of c k))
   where
-    go : (o : Option ProgramDef) → AreDefined k (elim o [ None ↦ k.conts | Some p ↦ moved c (branch_of p part) (λ x. x) k.conts ])
+    go : (o : Option ProgramDef) → AreDefined k (elim o [ None ↦ k.conts | Some p ↦ moved c (branch_of p part (tries_left c k)) (λ x. x) k.conts ])
     go None = h
-    go (Some p) = defined-moved k c (branch_of p part) _ (λ x. refl) k.conts h
+    go (Some p) = defined-moved k c (branch_of p part (tries_left c k)) _ (λ x. refl) k.conts h
 
 defined-says : (trace : Trace) (e : Event) → AreDefined (kept trace) (kept trace).conts → AreDefined (keep trace e (stage trace)) (keep trace e (stage trace)).conts
 defined-says trace (Ended u (Committed n)) h = defined-committed (kept trace) n (kind_of u trace) (run_of u trace).vars h

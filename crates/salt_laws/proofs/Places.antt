@@ -11,7 +11,7 @@ use Rattle.salt_ranges.specs.Ranges.{ends_meet, has_key, is_above_low, is_below_
 use Rattle.salt_ranges.specs.declared.range.KeyRange.{KeyRange}
 use Rattle.salt_values.specs.Value.{value_cmp, value_total}
 use Rattle.salt_values.specs.declared.change.Change.{Change}
-use Rattle.salt_values.specs.declared.value.Value.TheVariants.{Int, Text}
+use Rattle.salt_values.specs.declared.value.Value.TheVariants.{Int, Null, Text}
 use Rattle.salt_values.specs.declared.value.Value.{Value}
 use Rattle.std.proofs.Common.{ap, sym, ◌∙◌}
 use Rattle.std.proofs.lemmas.Bool.{eq-eqb, eqb-true}
@@ -36,8 +36,13 @@ then_second Greater b e = cc
 value_same : (v w : Value) → value_cmp v w ≡ Equal → v ≡ w
 value_same (Int x) (Int y) e = ap Value.Int (int_cmp-IsAntisymmetric x y (then_first (int_cmp x y) Equal e))
 value_same (Text s) (Text t) e = ap Value.Text (slice_cmp-IsAntisymmetric nat_cmp-IsAntisymmetric s t e)
+value_same Null Null e = refl
 value_same (Int x) (Text t) e = cc
+value_same (Int x) Null e = cc
 value_same (Text s) (Int y) e = cc
+value_same (Text s) Null e = cc
+value_same Null (Int y) e = cc
+value_same Null (Text t) e = cc
 
 pub place_same : (p q : Place) → place_cmp p q ≡ Equal → p ≡ q
 place_same p q e = λ i. record {

@@ -2,6 +2,7 @@
 use Rattle.salt_model.specs.Ends.{kept_with}
 use Rattle.std.proofs.Common.{ap, arith, subst, sym, ◌∙◌}
 use Rattle.std.specs.Prelude.{Bool, List, None, Option, Some, [], cond, false, map, option_and_then, refl, true, ℕ, ◌++◌, ◌+◌, ◌<◌, ◌∷◌, ◌≡◌, ◌≤◌}
+use Rattle.salt_ast.specs.Paths.{Position}
 use Rattle.salt_ast.specs.declared.programs.ProgramDef.{ProgramDef}
 use Rattle.salt_laws.proofs.Every.{every-append, every-map}
 use Rattle.salt_laws.proofs.Fresh.{IfComes}
@@ -10,7 +11,7 @@ use Rattle.salt_laws.proofs.NextFits.{Fits, Flies}
 use Rattle.salt_laws.proofs.Salted.{OfBoots, holds, may-fit}
 use Rattle.salt_model.specs.After.{branched, conts_at, kept, run_of}
 use Rattle.salt_model.specs.Continuing.{IsFirstAccepted}
-use Rattle.salt_model.specs.Kept.{Kept, Rise, begun_cont, branch_of, change_cont, cont_in, cont_of, kept_program, moved, then_of, values_kept, without_cont}
+use Rattle.salt_model.specs.Kept.{Kept, Rise, begun_cont, branch_of, change_cont, cont_in, cont_of, kept_program, moved, then_of, tries_left, values_kept, without_cont}
 use Rattle.salt_model.specs.Trace.{Trace, from, start_of, ◌asks◌, ◌says◌, ◌turns◌}
 use Rattle.salt_model.specs.Units.{kind_of}
 use Rattle.salt_model.specs.Played.{IsPlayed}
@@ -74,13 +75,13 @@ module _ (b : Id) (f : Cont → Cont) (same : (c : Cont) → (f c).accepted ≡ 
       by true more = (subst (λ m. Every (λ (d : Cont). m < d.accepted) cs) (sym (same c)) h.0, subst (λ m. m ≤ n) (sym (same c)) h.1, h.2)
       by false more = (every-change c cs h.0, h.1, more)
 
-rise-moved : (n : ℕ) (b : Id) (o : Option ℕ) (f : Cont → Cont) → ((c : Cont) → (f c).accepted ≡ c.accepted) → (cs : List Cont) → Rise n cs → Rise n (moved b o f cs)
+rise-moved : (n : ℕ) (b : Id) (o : Option Position) (f : Cont → Cont) → ((c : Cont) → (f c).accepted ≡ c.accepted) → (cs : List Cont) → Rise n cs → Rise n (moved b o f cs)
 rise-moved n b None f same cs h = rise-without n b cs h
-rise-moved n b (Some part) f same cs h = rise-change b _ (λ c. same c) n cs h
+rise-moved n b (Some at) f same cs h = rise-change b _ (λ c. same c) n cs h
 
-rise-begun : (n : ℕ) (b : Id) (p : ProgramDef) (args : List Value) (vars : List Binding) (o : Option ℕ) (cs : List Cont) → Rise n cs → Rise (n + 1) (begun_cont b (n + 1) p args vars o cs)
+rise-begun : (n : ℕ) (b : Id) (p : ProgramDef) (args : List Value) (vars : List Binding) (o : Option Position) (cs : List Cont) → Rise n cs → Rise (n + 1) (begun_cont b (n + 1) p args vars o cs)
 rise-begun n b p args vars None cs h = rise-up n cs h
-rise-begun n b p args vars (Some part) cs h = rise-more n _ refl cs h
+rise-begun n b p args vars (Some at) cs h = rise-more n _ refl cs h
 
 rise-committed : (k : Kept) (o : Option UnitKind) (vars : List Binding) → Rise k.decisions k.conts → Rise (k.decisions + 1) (conts_at k (k.decisions + 1) o vars)
 rise-committed k None vars h = rise-up k.decisions k.conts h
@@ -107,9 +108,9 @@ rise-branched k (Some (Call s name args)) h = rise-up k.decisions k.conts h
 rise-branched k (Some (First s c name args)) h = rise-up k.decisions k.conts h
 rise-branched k (Some (Later c part)) h = rise-up k.decisions _ (go (option_and_then (λ c. kept_program c.program k) (cont_of c k)))
   where
-    go : (o : Option ProgramDef) → Rise k.decisions (elim o [ None ↦ k.conts | Some p ↦ moved c (branch_of p part) (λ x. x) k.conts ])
+    go : (o : Option ProgramDef) → Rise k.decisions (elim o [ None ↦ k.conts | Some p ↦ moved c (branch_of p part (tries_left c k)) (λ x. x) k.conts ])
     go None = h
-    go (Some p) = rise-moved k.decisions c (branch_of p part) _ (λ x. refl) k.conts h
+    go (Some p) = rise-moved k.decisions c (branch_of p part (tries_left c k)) _ (λ x. refl) k.conts h
 
 ends-rise : (trace : Trace) (u : Id) (n : ℕ) → n ≡ (kept trace).decisions + 1 → Rises (kept trace) → Rises (kept (trace says Ended u (Committed n)))
 ends-rise trace u n e h = subst (λ m. Rise m (conts_at (kept trace) m (kind_of u trace) (run_of u trace).vars)) (sym e) (rise-committed (kept trace) (kind_of u trace) (run_of u trace).vars h)

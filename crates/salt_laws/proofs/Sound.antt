@@ -3,6 +3,7 @@ use Rattle.std.specs.Bool.{then_some}
 use Rattle.std.specs.Option.{option_or}
 use Rattle.salt_ast.specs.declared.lines.Act.TheVariants.{Call}
 use Rattle.salt_ast.specs.declared.programs.Body.TheVariants.{Acid}
+use Rattle.salt_ast.specs.Paths.{Position}
 use Rattle.salt_ast.specs.declared.programs.ProgramDef.{ProgramDef}
 use Rattle.salt_laws.proofs.Fresh.{or_left, or_right, standing-new}
 use Rattle.salt_laws.proofs.HeldLocks.{boot-branched}
@@ -13,7 +14,7 @@ use Rattle.salt_laws.specs.Names.{is_named, is_unit_of}
 use Rattle.salt_model.specs.After.{branched, conts_at, kept, run_of}
 use Rattle.salt_model.specs.Continuing.{last_said, part_due, program_continued}
 use Rattle.salt_model.specs.Isolation.{is_committed_standing}
-use Rattle.salt_model.specs.Kept.{Kept, begun_cont, branch_of, change_cont, cont_in, cont_of, conts_branched, conts_committed, kept_program, moved, then_of, values_kept, without_cont}
+use Rattle.salt_model.specs.Kept.{Kept, begun_cont, branch_of, change_cont, cont_in, cont_of, conts_branched, conts_committed, kept_program, moved, then_of, tries_left, values_kept, without_cont}
 use Rattle.salt_model.specs.Trace.{Trace, from, ◌asks◌, ◌says◌, ◌turns◌}
 use Rattle.salt_model.specs.Programs.{finished_in, programs_in, released_in}
 use Rattle.salt_model.specs.Units.{Never, Over, Running, Waiting, base_count, is_of_program, is_open, is_open_standing, kind_begun, kind_of, open_units, program_of, program_of_kind, program_unit, standing, unit_count, units_begun}
@@ -308,16 +309,16 @@ base-change b c f same (x ∷ cs) h = go (base-change b c f same cs) (is_same_id
     go more false (inl e) = inl e
     go more false (inr g) = inr (more g)
 
-pub base-moved : (b c : Id) (o : Option ℕ) (f : Cont → Cont) → ((x : Cont) → (f x).base ≡ x.base) → (cs : List Cont) → In b (map (λ (x : Cont). x.base) (moved c o f cs)) → In b (map (λ (x : Cont). x.base) cs)
+pub base-moved : (b c : Id) (o : Option Position) (f : Cont → Cont) → ((x : Cont) → (f x).base ≡ x.base) → (cs : List Cont) → In b (map (λ (x : Cont). x.base) (moved c o f cs)) → In b (map (λ (x : Cont). x.base) cs)
 base-moved b c None f same cs h = base-without b c cs h
-base-moved b c (Some part) f same cs h = base-change b c _ (λ x. same x) cs h
+base-moved b c (Some at) f same cs h = base-change b c _ (λ x. same x) cs h
 
-pub base-begun : (b c : Id) (n : ℕ) (p : ProgramDef) (args : List Value) (vars : List Binding) (o : Option ℕ) (cs : List Cont) → In b (map (λ (x : Cont). x.base) (begun_cont c n p args vars o cs)) → In b (map (λ (x : Cont). x.base) cs) ⊎ (c ≡ b)
+pub base-begun : (b c : Id) (n : ℕ) (p : ProgramDef) (args : List Value) (vars : List Binding) (o : Option Position) (cs : List Cont) → In b (map (λ (x : Cont). x.base) (begun_cont c n p args vars o cs)) → In b (map (λ (x : Cont). x.base) cs) ⊎ (c ≡ b)
 base-begun b c n p args vars None cs h = inl h
-base-begun b c n p args vars (Some part) [] (inl e) = inr e
-base-begun b c n p args vars (Some part) [] (inr e) = absurd e
-base-begun b c n p args vars (Some part) (x ∷ cs) (inl e) = inl (inl e)
-base-begun b c n p args vars (Some part) (x ∷ cs) (inr h) = either (λ g. inl (inr g)) (λ e. inr e) (base-begun b c n p args vars (Some part) cs h)
+base-begun b c n p args vars (Some at) [] (inl e) = inr e
+base-begun b c n p args vars (Some at) [] (inr e) = absurd e
+base-begun b c n p args vars (Some at) (x ∷ cs) (inl e) = inl (inl e)
+base-begun b c n p args vars (Some at) (x ∷ cs) (inr h) = either (λ g. inl (inr g)) (λ e. inr e) (base-begun b c n p args vars (Some at) cs h)
 
 base-committed : (b : Id) (k : Kept) (n : ℕ) (kind : UnitKind) (vars : List Binding) → In b (map (λ (x : Cont). x.base) (conts_committed k n kind vars)) → In b (map (λ (x : Cont). x.base) k.conts) ⊎ (program_of_kind kind ≡ Some b)
 base-committed b k n (Acid s) vars h = inl h
@@ -336,9 +337,9 @@ base-committed b k n (Later c part) vars h = inl (go (option_and_then (λ c. kep
 base-branched : (b : Id) (k : Kept) (kind : UnitKind) → In b (map (λ (x : Cont). x.base) (conts_branched k kind)) → In b (map (λ (x : Cont). x.base) k.conts)
 base-branched b k (Later c part) h = go (option_and_then (λ c. kept_program c.program k) (cont_of c k)) h
   where
-    go : (o : Option ProgramDef) → In b (map (λ (x : Cont). x.base) (elim o [ None ↦ k.conts | Some p ↦ moved c (branch_of p part) (λ c. c) k.conts ])) → In b (map (λ (x : Cont). x.base) k.conts)
+    go : (o : Option ProgramDef) → In b (map (λ (x : Cont). x.base) (elim o [ None ↦ k.conts | Some p ↦ moved c (branch_of p part (tries_left c k)) (λ c. c) k.conts ])) → In b (map (λ (x : Cont). x.base) k.conts)
     go None g = g
-    go (Some p) g = base-moved b c (branch_of p part) _ (λ x. refl) k.conts g
+    go (Some p) g = base-moved b c (branch_of p part (tries_left c k)) _ (λ x. refl) k.conts g
 base-branched b k kind h = h
 
 committed-bases : (b : Id) (k : Kept) (n : ℕ) (o : Option UnitKind) (vars : List Binding) → In b (map (λ (x : Cont). x.base) (conts_at k n o vars)) → In b (map (λ (x : Cont). x.base) k.conts) ⊎ (option_and_then program_of_kind o ≡ Some b)
@@ -530,15 +531,15 @@ base-kept-change b c f same (x ∷ cs) h = go (base-kept-change b c f same cs) (
     go more false (inl e) = inl e
     go more false (inr g) = inr (more g)
 
-base-kept-moved : (b c : Id) → (c ≡ b → ⊥) → (o : Option ℕ) (f : Cont → Cont) → ((x : Cont) → (f x).base ≡ x.base) → (cs : List Cont) → In b (map (λ (x : Cont). x.base) cs) → In b (map (λ (x : Cont). x.base) (moved c o f cs))
+base-kept-moved : (b c : Id) → (c ≡ b → ⊥) → (o : Option Position) (f : Cont → Cont) → ((x : Cont) → (f x).base ≡ x.base) → (cs : List Cont) → In b (map (λ (x : Cont). x.base) cs) → In b (map (λ (x : Cont). x.base) (moved c o f cs))
 base-kept-moved b c n None f same cs h = base-kept-without b c n cs h
-base-kept-moved b c n (Some part) f same cs h = base-kept-change b c _ (λ x. same x) cs h
+base-kept-moved b c n (Some at) f same cs h = base-kept-change b c _ (λ x. same x) cs h
 
-pub base-kept-begun : (b c : Id) (n : ℕ) (p : ProgramDef) (args : List Value) (vars : List Binding) (o : Option ℕ) (cs : List Cont) → In b (map (λ (x : Cont). x.base) cs) → In b (map (λ (x : Cont). x.base) (begun_cont c n p args vars o cs))
+pub base-kept-begun : (b c : Id) (n : ℕ) (p : ProgramDef) (args : List Value) (vars : List Binding) (o : Option Position) (cs : List Cont) → In b (map (λ (x : Cont). x.base) cs) → In b (map (λ (x : Cont). x.base) (begun_cont c n p args vars o cs))
 base-kept-begun b c n p args vars None cs h = h
-base-kept-begun b c n p args vars (Some part) [] h = absurd h
-base-kept-begun b c n p args vars (Some part) (x ∷ cs) (inl e) = inl e
-base-kept-begun b c n p args vars (Some part) (x ∷ cs) (inr h) = inr (base-kept-begun b c n p args vars (Some part) cs h)
+base-kept-begun b c n p args vars (Some at) [] h = absurd h
+base-kept-begun b c n p args vars (Some at) (x ∷ cs) (inl e) = inl e
+base-kept-begun b c n p args vars (Some at) (x ∷ cs) (inr h) = inr (base-kept-begun b c n p args vars (Some at) cs h)
 
 base-kept-committed : (b : Id) (k : Kept) (n : ℕ) (kind : UnitKind) (vars : List Binding) → (program_of_kind kind ≡ Some b → ⊥) → In b (map (λ (x : Cont). x.base) k.conts) → In b (map (λ (x : Cont). x.base) (conts_committed k n kind vars))
 base-kept-committed b k n (Acid s) vars x h = h
@@ -557,9 +558,9 @@ base-kept-committed b k n (Later c part) vars x h = go (option_and_then (λ c. k
 base-kept-branched : (b : Id) (k : Kept) (kind : UnitKind) → (program_of_kind kind ≡ Some b → ⊥) → In b (map (λ (x : Cont). x.base) k.conts) → In b (map (λ (x : Cont). x.base) (conts_branched k kind))
 base-kept-branched b k (Later c part) x h = go (option_and_then (λ c. kept_program c.program k) (cont_of c k))
   where
-    go : (o : Option ProgramDef) → In b (map (λ (x : Cont). x.base) (elim o [ None ↦ k.conts | Some p ↦ moved c (branch_of p part) (λ c. c) k.conts ]))
+    go : (o : Option ProgramDef) → In b (map (λ (x : Cont). x.base) (elim o [ None ↦ k.conts | Some p ↦ moved c (branch_of p part (tries_left c k)) (λ c. c) k.conts ]))
     go None = h
-    go (Some p) = base-kept-moved b c (λ e. x (ap Some e)) (branch_of p part) _ (λ x. refl) k.conts h
+    go (Some p) = base-kept-moved b c (λ e. x (ap Some e)) (branch_of p part (tries_left c k)) _ (λ x. refl) k.conts h
 base-kept-branched b k kind x h = h
 
 pub conts-kept : (trace : Trace) (u : Id) (end : End) (b : Id) → (program_of u trace ≡ Some b → ⊥) → In b (bases_in trace) → In b (bases_in (trace says Ended u end))

@@ -8,7 +8,7 @@ use Rattle.salt_ast.specs.declared.trees.TableDef.{TableDef}
 use Rattle.salt_ast.specs.declared.trees.What.TheVariants.{Count}
 use Rattle.salt_laws.proofs.Every.{IfOk, IfSome, every-collect, every-passes, ok-all, ok-bind, ok-map}
 use Rattle.salt_laws.proofs.Places.{has-itself}
-use Rattle.salt_model.specs.Eval.{passes, truth_of, value_of, values_of}
+use Rattle.salt_model.specs.Eval.{holds, passes, value_of, values_of}
 use Rattle.salt_model.specs.Statements.{Done, answering, change_to, changing, checked, collect, do_at, do_in, done, inserted, on_match, outcome_of, removed, seen, shown, stored, updated, with_sets}
 use Rattle.salt_model.specs.Reaches.{first_value, in_row, key_reached, no_row, range_of, reach, reach_at, reach_in, reached, table_for}
 use Rattle.salt_model.specs.Tables.{Entry, Tables, changed_at, is_within, key_of, place, rows_in}
@@ -104,7 +104,7 @@ in-writes t def vars (Select what name scan) rows h =
 in-writes t def vars (SelectInto c v name key) rows h = ok-bind _ (value_of (no_row vars) key) (λ k. stored def vars c v rows) (ok-all _ (value_of (no_row vars) key) (λ k. stored-none _ def vars c v rows))
 in-writes t def vars (Update name sets scan) rows h = scan-writes t def vars scan (updated def vars sets) (updated-own def vars sets) rows h
 in-writes t def vars (Delete name scan) rows h = scan-writes t def vars scan removed (λ e. refl) rows h
-in-writes t def vars (Ensure e) rows h = ok-bind _ (truth_of (no_row vars) e) (λ b. if b then Ok (answering vars Answer.Held) else Err Cause.Ensure) (ok-all _ (truth_of (no_row vars) e) by)
+in-writes t def vars (Ensure e) rows h = ok-bind _ (holds (no_row vars) e) (λ b. if b then Ok (answering vars Answer.Held) else Err Cause.Ensure) (ok-all _ (holds (no_row vars) e) by)
   where
     by : (b : Bool) → IfOk (λ d. Every (Writes None) d.changes) (cond b (Ok (answering vars Answer.Held)) (Err Cause.Ensure))
     by true = tt
@@ -115,7 +115,7 @@ done-writes o vars (Ok d) h = h
 done-writes o vars (Err c) h = tt
 
 at-writes : (vars : List Binding) (st : Statement) (d : Option (ℕ × TableDef)) (rows : List Entry) → Every (λ e. In (reach_at vars st d) e.0) rows → Every (Writes (reach_at vars st d)) (do_at vars st d rows).changes
-at-writes vars (Ensure e) d rows h = ensure-none (truth_of (no_row vars) e)
+at-writes vars (Ensure e) d rows h = ensure-none (holds (no_row vars) e)
   where
     ensure-none : (r : Result Bool Cause) → Every (Writes (reach_at vars (Ensure e) d)) (done vars (and_then r (λ b. if b then Ok (answering vars Answer.Held) else Err Cause.Ensure))).changes
     ensure-none (Err c) = tt
