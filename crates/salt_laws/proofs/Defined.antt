@@ -3,6 +3,7 @@ use Rattle.salt_ast.specs.ProgramJudgement.{program_named}
 use Rattle.salt_ast.specs.Paths.{Position}
 use Rattle.salt_ast.specs.declared.programs.ProgramDef.{ProgramDef}
 use Rattle.salt_laws.proofs.Every.{every-append, every-map}
+use Rattle.salt_laws.proofs.Ids.{and_left, and_right}
 use Rattle.salt_laws.proofs.Rising.{every-without}
 use Rattle.salt_model.specs.After.{branched, conts_at, defined_by, keep, kept, run_of, stage}
 use Rattle.salt_model.specs.Ends.{kept_with}
@@ -21,10 +22,10 @@ use Rattle.salt_values.specs.Id.{is_same_id}
 use Rattle.salt_values.specs.declared.cont.Cont.{Cont}
 use Rattle.salt_values.specs.declared.id.Id.{Id}
 use Rattle.salt_values.specs.declared.value.Value.{Value}
-use Rattle.std.proofs.Common.{subst, sym}
-use Rattle.std.proofs.lemmas.Bool.{eq-eqb}
+use Rattle.std.proofs.Common.{ap, subst, sym, ◌∙◌}
+use Rattle.std.proofs.lemmas.Bool.{eqb-true}
 use Rattle.std.specs.List.{filter_map}
-use Rattle.std.specs.Prelude.{Bool, List, None, Option, Some, [], cond, false, is_some, option_and_then, refl, true, ℕ, ◌++◌, ◌∷◌, ◌≡◌}
+use Rattle.std.specs.Prelude.{Bool, List, None, Option, Some, [], cond, false, is_some, option_and_then, refl, true, ℕ, ◌++◌, ◌==◌, ◌∷◌, ◌≡◌}
 
 -- a program of this name is kept
 abbrev pub IsKeptProgram : Kept → List ℕ → Type 0
@@ -33,37 +34,44 @@ IsKeptProgram k n = is_some (kept_program n k) ≡ true
 abbrev pub AreDefined : Kept → List Cont → Type 0
 AreDefined k cs = Every (λ (c : Cont). IsKeptProgram k c.program) cs
 
-same-self : (n : List ℕ) → same_bytes n n ≡ true
-same-self [] = refl
-same-self (x ∷ xs) = rw (eq-eqb x x refl) (same-self xs)
+same-bytes-true : (n m : List ℕ) → same_bytes n m ≡ true → n ≡ m
+same-bytes-true [] [] h = refl
+same-bytes-true [] (y ∷ ys) h = cc
+same-bytes-true (x ∷ xs) [] h = cc
+same-bytes-true (x ∷ xs) (y ∷ ys) h =
+    λ i. eqb-true x y (and_left (x == y) _ h) i ∷ same-bytes-true xs ys (and_right (x == y) _ h) i
 
--- the program that a name finds is found by its own name
-named-self : (ps : List ProgramDef) (n : List ℕ) (p : ProgramDef) → program_named ps n ≡ Some p → is_some (program_named ps p.name) ≡ true
-named-self [] n p h = cc
-named-self (q ∷ ps) n p h = by (same_bytes n q.name) h (named-self ps n p)
+-- a program is found by its own name
+pub named-own : (ps : List ProgramDef) (n : List ℕ) (p : ProgramDef) → program_named ps n ≡ Some p → n ≡ p.name
+named-own [] n p h = cc
+named-own (q ∷ ps) n p h = by (same_bytes n q.name) refl h (named-own ps n p)
   where
-    own : q ≡ p → is_some (program_named (q ∷ ps) p.name) ≡ true
-    own e = subst (λ x. is_some (program_named (q ∷ ps) x.name) ≡ true) e (rw (same-self q.name) refl)
+    by : (b : Bool) → same_bytes n q.name ≡ b → cond b (Some q) (program_named ps n) ≡ Some p → (program_named ps n ≡ Some p → n ≡ p.name) → n ≡ p.name
+    by true e g more = let same : q ≡ p = cc in same-bytes-true n q.name e ∙ ap (λ x. x.name) same
+    by false e g more = more g
 
-    later : (b : Bool) → is_some (program_named ps p.name) ≡ true → is_some (cond b (Some q) (program_named ps p.name)) ≡ true
-    later true g = refl
-    later false g = g
-
-    by : (b : Bool) → cond b (Some q) (program_named ps n) ≡ Some p → (program_named ps n ≡ Some p → is_some (program_named ps p.name) ≡ true) → is_some (program_named (q ∷ ps) p.name) ≡ true
-    by true g more = own (cc)
-    by false g more = later (same_bytes p.name q.name) (more g)
-
--- definitions stay
-stays-defined : (ds more : List Definition) (n : List ℕ) → is_some (program_named (filter_map program_of_definition ds) n) ≡ true → is_some (program_named (filter_map program_of_definition (ds ++ more)) n) ≡ true
-stays-defined [] more n h = cc
-stays-defined (OfTable d ∷ ds) more n h = stays-defined ds more n h
-stays-defined (OfProgram p ∷ ds) more n h = by (same_bytes n p.name) h (stays-defined ds more n)
+-- definitions stay, and the program that a name finds
+pub named-stays : (ds more : List Definition) (n : List ℕ) (p : ProgramDef) → program_named (filter_map program_of_definition ds) n ≡ Some p → program_named (filter_map program_of_definition (ds ++ more)) n ≡ Some p
+named-stays [] more n p h = cc
+named-stays (OfTable d ∷ ds) more n p h = named-stays ds more n p h
+named-stays (OfProgram q ∷ ds) more n p h = by (same_bytes n q.name) h (named-stays ds more n p)
   where
-    by : (b : Bool) → is_some (cond b (Some p) (program_named (filter_map program_of_definition ds) n)) ≡ true →
-        (is_some (program_named (filter_map program_of_definition ds) n) ≡ true → is_some (program_named (filter_map program_of_definition (ds ++ more)) n) ≡ true) →
-        is_some (cond b (Some p) (program_named (filter_map program_of_definition (ds ++ more)) n)) ≡ true
-    by true g f = refl
+    before : Option ProgramDef
+    before = program_named (filter_map program_of_definition ds) n
+
+    after : Option ProgramDef
+    after = program_named (filter_map program_of_definition (ds ++ more)) n
+
+    by : (b : Bool) → cond b (Some q) before ≡ Some p → (before ≡ Some p → after ≡ Some p) → cond b (Some q) after ≡ Some p
+    by true g f = g
     by false g f = f g
+
+stays-defined : (ds more : List Definition) (n : List ℕ) → is_some (program_named (filter_map program_of_definition ds) n) ≡ true → is_some (program_named (filter_map program_of_definition (ds ++ more)) n) ≡ true
+stays-defined ds more n h = by (program_named (filter_map program_of_definition ds) n) refl h
+  where
+    by : (o : Option ProgramDef) → program_named (filter_map program_of_definition ds) n ≡ o → is_some o ≡ true → is_some (program_named (filter_map program_of_definition (ds ++ more)) n) ≡ true
+    by None e g = cc
+    by (Some p) e g = ap is_some (named-stays ds more n p e)
 
 -- continuations
 
@@ -83,6 +91,9 @@ defined-begun : (k : Kept) (b : Id) (n : ℕ) (p : ProgramDef) (args : List Valu
 defined-begun k b n p args vars None cs d h = h
 defined-begun k b n p args vars (Some at) cs d h = every-append (λ (c : Cont). IsKeptProgram k c.program) cs _ h (d, tt)
 
+kept-own : (k : Kept) (name : List ℕ) (p : ProgramDef) → kept_program name k ≡ Some p → IsKeptProgram k p.name
+kept-own k name p e = subst (IsKeptProgram k) (named-own (programs_of k) name p e) (ap is_some e)
+
 defined-committed : (k : Kept) (n : ℕ) (o : Option UnitKind) (vars : List Binding) → AreDefined k k.conts → AreDefined k (conts_at k n o vars)
 defined-committed k n None vars h = h
 defined-committed k n (Some (Acid s)) vars h = h
@@ -91,7 +102,7 @@ defined-committed k n (Some (First s c name args)) vars h = go (kept_program nam
   where
     go : (o : Option ProgramDef) → kept_program name k ≡ o → AreDefined k (elim o [ None ↦ k.conts | Some p ↦ begun_cont c n p args vars (then_of p 1) k.conts ])
     go None e = h
-    go (Some p) e = defined-begun k c n p args vars (then_of p 1) k.conts (named-self (programs_of k) name p e) h
+    go (Some p) e = defined-begun k c n p args vars (then_of p 1) k.conts (kept-own k name p e) h
 defined-committed k n (Some (Later c part)) vars h = go (option_and_then (λ c. kept_program c.program k) (cont_of c k))
   where
     go : (o : Option ProgramDef) → AreDefined k (elim o [ None ↦ k.conts | Some p ↦ moved c (then_of p part) (λ x. record x { vars = values_kept p vars }) k.conts ])

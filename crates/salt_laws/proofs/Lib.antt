@@ -36,3 +36,4 @@ pub mod LastWriters
 pub mod Victims
 pub mod Asking
 pub mod Declares
+pub mod Tries

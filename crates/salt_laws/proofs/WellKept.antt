@@ -5,6 +5,7 @@ use Rattle.salt_laws.proofs.Rising.{rises, rises-with}
 use Rattle.salt_laws.proofs.Lists.{In, either}
 use Rattle.salt_laws.proofs.NextFits.{Flies}
 use Rattle.salt_laws.proofs.Salted.{Upheld, OfBoots, holds}
+use Rattle.salt_laws.proofs.Tries.{tries-with, tries-within}
 use Rattle.salt_laws.proofs.Sound.{Old, boot-ended, conts-back, old-fallen}
 use Rattle.salt_model.specs.Kept.{Kept, WellKept}
 use Rattle.salt_model.specs.After.{kept}
@@ -64,7 +65,12 @@ of-boots-flight trace p w = its (flight trace) h.flies
 well-kept : (trace : Trace) → IsPlayed trace → WellKept (start_of trace).kept → WellKept (kept trace)
 well-kept trace p k =
     let w : OfBoots (start_of trace).kept = of-start (start_of trace).kept k in
-    record { boots = base-each (kept trace).boot (kept trace).conts (of-boots trace p w); accepted = rises trace p w k.accepted; defined = defined-kept trace k.defined }
+    record {
+      boots = base-each (kept trace).boot (kept trace).conts (of-boots trace p w);
+      accepted = rises trace p w k.accepted;
+      defined = defined-kept trace k.defined;
+      tries = tries-within trace p w k.tries;
+    }
 
 well-kept-flight : (trace : Trace) → IsPlayed trace → WellKept (start_of trace).kept → WellKept (kept_with trace (flight trace))
 well-kept-flight trace p k =
@@ -74,6 +80,7 @@ well-kept-flight trace p k =
       boots = base-each f.boot f.conts (of-boots-flight trace p w);
       accepted = rises-with trace (flight trace) (holds trace p w).flies (rises trace p w k.accepted);
       defined = defined-with trace (flight trace) (defined-kept trace k.defined);
+      tries = tries-with trace p w (tries-within trace p w k.tries);
     }
 
 pub kept-well : (trace : Trace) → IsPlayed trace → WellKept (start_of trace).kept → WellKept (kept trace) × WellKept (kept_with trace (flight trace))

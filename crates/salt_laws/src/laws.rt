@@ -8,7 +8,7 @@ ghost use Rattle.salt_model.specs.Decided.{IsKept};
 ghost use Rattle.salt_model.specs.Ends.{kept_with};
 ghost use Rattle.salt_model.specs.Honest.{IsHonest};
 ghost use Rattle.salt_model.specs.Isolation.{IsSalted, IsWhole};
-ghost use Rattle.salt_model.specs.Kept.{WellKept};
+ghost use Rattle.salt_model.specs.Kept.{AreTriesWithin, WellKept};
 ghost use Rattle.salt_model.specs.Locks.{NoneConflict, held};
 ghost use Rattle.salt_model.specs.Trace.{Trace, start_of};
 ghost use Rattle.salt_model.specs.Next.{flight};
@@ -63,6 +63,11 @@ pub fn played_is_kept()
 /// What is kept after a trace, with the flight or without, is as a start has to be: a next run may begin with it.
 pub fn kept_stays_well_kept()
     ensures { (trace : Trace) → IsPlayed trace → WellKept (start_of trace).kept → WellKept (kept trace) × WellKept (kept_with trace (flight trace)) }
+{}
+
+/// At every place, each accepted BASE program has no more tries left than the part at which it stands is tried again.
+pub fn tries_are_counted()
+    ensures { (trace : Trace) → IsPlayed trace → WellKept (start_of trace).kept → Always (λ t. AreTriesWithin (kept t)) trace }
 {}
 
 /// The keys that a committed unit wrote, each as its statement was done, are those that its changes name

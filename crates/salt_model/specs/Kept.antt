@@ -1,6 +1,6 @@
 -- What is kept at a place of a run: what a start has, and what devices stand for. And what is read off it: tables, programs, parts and ways.
 use Rattle.salt_model.specs.Words.{Every}
-use Rattle.salt_ast.specs.Paths.{Position, at_number, next_on_commit, next_on_failure}
+use Rattle.salt_ast.specs.Paths.{Position, at_number, next_on_commit, next_on_failure, retries}
 use Rattle.salt_ast.specs.ProgramJudgement.{program_named}
 use Rattle.salt_ast.specs.declared.programs.Body.TheVariants.{Acid, Base}
 use Rattle.salt_ast.specs.declared.programs.PartDef.{PartDef}
@@ -60,12 +60,6 @@ programs_of k = filter_map program_of_definition k.definitions
 abbrev pub kept_program : List ℕ → Kept → Option ProgramDef
 kept_program n k = program_named (programs_of k) n
 
--- what may be kept: its programs are of its boots, were accepted by its decisions, in this order, and are defined
-pub record WellKept (k : Kept) : Type 0 where
-  pub boots : Every (λ (c : Cont). c.base.boot ≤ k.boot) k.conts
-  pub accepted : Rise k.decisions k.conts
-  pub defined : Every (λ (c : Cont). IsSome (kept_program c.program k)) k.conts
-
 abbrev pub cont_in : Id → List Cont → Option Cont
 cont_in b [] = None
 cont_in b (c ∷ cs) = if is_same_id b c.base then Some c else cont_in b cs
@@ -76,6 +70,25 @@ cont_of b k = cont_in b k.conts
 
 abbrev pub parts_of : ProgramDef → List PartDef
 parts_of p = elim p.body [ Acid block ↦ [] | Base parts ↦ parts ]
+
+-- how often a part of a program is tried again; never, where there is no such part
+abbrev pub retries_of : Option ProgramDef → (part : ℕ) → ℕ
+retries_of None part = 0
+retries_of (Some p) part = retries (at_number part (parts_of p))
+
+-- a program has no more tries left than the part at which it stands is tried again
+abbrev pub IsWithinTries : Kept → Cont → Type 0
+IsWithinTries k c = c.tries ≤ retries_of (kept_program c.program k) c.next
+
+abbrev pub AreTriesWithin : Kept → Type 0
+AreTriesWithin k = Every (IsWithinTries k) k.conts
+
+-- what may be kept: its programs are of its boots, were accepted by its decisions, in this order, are defined, and have tries that these definitions give
+pub record WellKept (k : Kept) : Type 0 where
+  pub boots : Every (λ (c : Cont). c.base.boot ≤ k.boot) k.conts
+  pub accepted : Rise k.decisions k.conts
+  pub defined : Every (λ (c : Cont). IsSome (kept_program c.program k)) k.conts
+  pub tries : AreTriesWithin k
 
 -- where part n goes on after a commit: its way, else the next part; none is the end
 abbrev pub then_of : ProgramDef → ℕ → Option Position
