@@ -40,3 +40,4 @@ pub mod ProgramRows
 pub mod WaitRows
 pub mod StopRows
 pub mod RefusalRows
+pub mod NullRows
