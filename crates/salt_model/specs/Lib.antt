@@ -41,3 +41,5 @@ pub mod WaitRows
 pub mod StopRows
 pub mod RefusalRows
 pub mod NullRows
+pub mod RetryRows
+pub mod LineRows

@@ -23,7 +23,7 @@ use Rattle.salt_model.specs.declared.events.Answer.TheVariants as answer
 use Rattle.salt_model.specs.declared.events.Cause.TheVariants as cause
 use Rattle.salt_model.specs.declared.events.Cause.{Cause}
 use Rattle.salt_values.specs.declared.value.Value.TheVariants as value
-use Rattle.std.specs.Prelude.{Bool, Err, List, None, Ok, Option, Result, Some, [], codes, drop, false, map, negsuc, pos, refl, true, ℕ, ℤ, ◌++◌, ◌∷◌, ◌≡◌}
+use Rattle.std.specs.Prelude.{Err, List, None, Ok, Option, Result, Some, [], codes, drop, false, map, negsuc, pos, refl, true, ℕ, ℤ, ◌++◌, ◌∷◌, ◌≡◌}
 
 -- Expressions, where the column v is NULL.
 
