@@ -1,6 +1,5 @@
 -- The pruned list of the programs to release is that of the releasable ones.
 use Rattle.salt_laws.proofs.Lists.{In, PassesSelf, all-in, either, has-in, in-has, in-order, in-shrink, in-without, into-all, into-filter, into-order, into-shrink, or_cases, or_left_true, or_right_true, shrink-ends}
-use Rattle.salt_laws.proofs.Ids.{is_same_id-true}
 use Rattle.salt_laws.proofs.Sound.{to_release-finished}
 use Rattle.salt_model.specs.Trace.{Trace}
 use Rattle.salt_model.specs.Programs.{finished_in, released_in}

@@ -1,7 +1,5 @@
 -- No program has more tries left than the part at which it stands is tried again.
-use Rattle.salt_ast.specs.Paths.{Position, at_number, next_on_branch, position_at, retries}
-use Rattle.salt_ast.specs.ProgramJudgement.{program_named}
-use Rattle.salt_ast.specs.declared.programs.PartDef.{PartDef}
+use Rattle.salt_ast.specs.Paths.{Position, at_number, position_at, retries}
 use Rattle.salt_ast.specs.declared.programs.ProgramDef.{ProgramDef}
 use Rattle.salt_laws.proofs.Defined.{named-own, named-stays}
 use Rattle.salt_laws.proofs.Every.{every-append, every-map}
@@ -16,7 +14,7 @@ use Rattle.salt_model.specs.After.{branched, conts_at, defined_by, kept, run_of}
 use Rattle.salt_model.specs.Continuing.{part_due}
 use Rattle.salt_model.specs.Ends.{kept_with}
 use Rattle.salt_model.specs.Everywhere.{Always}
-use Rattle.salt_model.specs.Kept.{AreTriesWithin, IsWithinTries, Kept, begun_cont, branch_of, change_cont, cont_in, cont_of, kept_program, moved, parts_of, program_of_definition, programs_of, retries_of, then_of, values_kept}
+use Rattle.salt_model.specs.Kept.{AreTriesWithin, IsWithinTries, Kept, begun_cont, branch_of, change_cont, cont_in, cont_of, kept_program, moved, parts_of, programs_of, retries_of, then_of, values_kept}
 use Rattle.salt_model.specs.Next.{flight}
 use Rattle.salt_model.specs.Played.{IsPlayed}
 use Rattle.salt_model.specs.Trace.{Trace, from, line_of, start_of, ◌asks◌, ◌says◌, ◌turns◌}
@@ -35,9 +33,8 @@ use Rattle.salt_values.specs.declared.id.Id.{Id}
 use Rattle.salt_values.specs.declared.value.Value.{Value}
 use Rattle.std.proofs.Common.{ap, arith, subst, sym, ◌∙◌}
 use Rattle.std.specs.Bool.{then_some}
-use Rattle.std.specs.List.{filter_map}
 use Rattle.std.specs.Option.{option_or}
-use Rattle.std.specs.Prelude.{Bool, List, None, Option, Some, [], cond, false, option_and_then, option_map, refl, suc, true, zero, ℕ, ⊤, ◌++◌, ◌∷◌, ◌≡◌, ◌≤◌}
+use Rattle.std.specs.Prelude.{Bool, List, None, Option, Some, [], cond, false, option_and_then, option_map, refl, suc, true, zero, ℕ, ⊤, ◌∷◌, ◌≡◌, ◌≤◌}
 
 -- AN OPEN PART is that at which its program stands.
 
