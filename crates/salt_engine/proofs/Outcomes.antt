@@ -6,7 +6,7 @@ use Rattle.salt_ast.specs.declared.trees.TableDef.{TableDef}
 use Rattle.salt_ast.specs.declared.trees.What.TheVariants.{All}
 use Rattle.salt_engine.proofs.Entries.{rows-found}
 use Rattle.salt_engine.specs.Execute.{IsInserted, IsOutcome, IsSelected, entries_at, literals_in, put_in}
-use Rattle.salt_engine.specs.Supported.{is_int, is_number, is_plain_table, literal_in, statement_of}
+use Rattle.salt_engine.specs.Served.{is_int, is_number, is_plain_table, literal_in, statement_of}
 use Rattle.salt_engine.specs.Schema.{table_of}
 use Rattle.salt_engine.specs.declared.request.Task.TheVariants as task
 use Rattle.salt_engine.specs.declared.request.Task.{Task}

@@ -15,7 +15,7 @@ use Rattle.salt_ast.specs.declared.trees.TableDef.{TableDef}
 use Rattle.salt_engine.proofs.Lookups.{found, not-found}
 use Rattle.salt_engine.proofs.Outcomes.{no-checks}
 use Rattle.salt_engine.specs.Schema.{IsKnown, is_fitting, is_key_value, request_refusal, table_of, table_refusal, task_refusal}
-use Rattle.salt_engine.specs.Supported.{IsNumeric, IsWellFormed, is_int, is_number, line_of, statement_of}
+use Rattle.salt_engine.specs.Served.{IsNumeric, IsWellFormed, is_int, is_number, line_of, statement_of}
 use Rattle.salt_engine.specs.declared.request.Request.TheVariants as request
 use Rattle.salt_engine.specs.declared.request.Request.{Request}
 use Rattle.salt_engine.specs.declared.request.Task.TheVariants as task
@@ -29,7 +29,7 @@ use Rattle.salt_values.specs.declared.value.Value.{Value}
 use Rattle.std.proofs.Common.{arith, subst, sym}
 use Rattle.std.proofs.lemmas.Bool.Decides.{nat_tests}
 use Rattle.std.specs.List.{list_all}
-use Rattle.std.specs.Prelude.{Bool, List, None, Option, Some, [], false, is_some, length, nat_le, not, option_map, refl, suc, true, ℕ, ◌&&◌, ◌<◌, ◌==◌, ◌∷◌, ◌≡◌}
+use Rattle.std.specs.Prelude.{Bool, List, None, Option, Some, [], false, is_some, length, nat_le, not, option_map, refl, suc, true, ℕ, ◌&&◌, ◌<◌, ◌==◌, ◌∷◌, ◌≡◌, ◌||◌}
 
 room : (n : ℕ) → n < 64 → nat_le 64 n ≡ false
 room n h = grind (arith, nat_tests)
@@ -78,11 +78,15 @@ more n = grind (arith, nat_tests)
 both-more : (n m : ℕ) → (suc n == suc m) ≡ (n == m)
 both-more n m = grind (arith, nat_tests)
 
+or-true : (b : Bool) → (b || true) ≡ true
+or-true true = refl
+or-true false = refl
+
 numbers-row : (fields : List Field) (es : List Expr) → list_all is_number es ≡ true → are_row fields [] es ≡ ((length fields == length es) && list_all is_int fields)
 numbers-row [] [] h = refl
 numbers-row (f ∷ fs) [] h = rw (fewer (length fs)) refl
 numbers-row [] (Lit (value.Int z) ∷ es) h = rw (more (length es)) refl
-numbers-row (f ∷ fs) (Lit (value.Int z) ∷ es) h = rw (numbers-row fs es h, both-more (length fs) (length es)) (by (is_same_type f.kind Int) (length fs == length es) (list_all is_int fs))
+numbers-row (f ∷ fs) (Lit (value.Int z) ∷ es) h = rw (or-true f.nullable, numbers-row fs es h, both-more (length fs) (length es)) (by (is_same_type f.kind Int) (length fs == length es) (list_all is_int fs))
   where
     by : (a b c : Bool) → (a && (b && c)) ≡ (b && (a && c))
     by true true c = refl
@@ -91,7 +95,7 @@ numbers-row (f ∷ fs) (Lit (value.Int z) ∷ es) h = rw (numbers-row fs es h, b
     by false false c = refl
 numbers-row fields (e ∷ es) h = absurd cc
 
-key-fits : (o : Option ColType) (k : Value) → gives_type [] [] o (Lit k) ≡ elim o [ None ↦ false | Some t ↦ is_of_kind (values t) (Some (value_kind k)) ]
+key-fits : (o : Option ColType) (k : Value) → gives_type [] [] o (Lit k) ≡ elim o [ None ↦ false | Some t ↦ is_of_kind (values t) (value_kind k) ]
 key-fits None k = refl
 key-fits (Some t) k = refl
 

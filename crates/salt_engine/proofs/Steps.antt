@@ -12,7 +12,7 @@ use Rattle.salt_engine.proofs.Refused.{request-judged}
 use Rattle.salt_engine.proofs.Segments.{GoesOnIn, boot-by, decisions-by, defined-complete, ended, front-played, front-up, refused-complete, rows-by, says-before, says_all, says_all-lines, says_all-start, says_all-story, schema-by, unit-complete, unit-idle, unit-played}
 use Rattle.salt_engine.specs.Engine.{Breaks, BreaksOff, Goes, GoesOn, HasRun, IsCutShort, IsIdle, IsLeft, IsRequestDone, NeverDown, Serves, decisions_after, defined_by, done_by, end_by, next_unit, rows_by, unit_events}
 use Rattle.salt_engine.specs.Schema.{request_refusal}
-use Rattle.salt_engine.specs.Supported.{IsTaskOf, IsWellFormed, asked_of, is_supported, is_supported_statement, line_of}
+use Rattle.salt_engine.specs.Served.{IsTaskOf, IsWellFormed, asked_of, is_served, is_served_statement, line_of}
 use Rattle.salt_engine.specs.declared.engine.Engine.{Engine}
 use Rattle.salt_engine.specs.declared.request.Request.TheVariants as request
 use Rattle.salt_engine.specs.declared.request.Request.{Request}
@@ -246,9 +246,9 @@ done-breaks old story told request.Nothing h is = asked-breaks old story told (T
 done-breaks old story told (request.Define d) h is = asked-breaks old story told (Tree (Table d.now)) is
 done-breaks old story told (request.Do s st t) h is = λ trace serves. unit-breaks old story s st.now h trace serves told (is (tables_after trace) serves.rows)
 
-supported-task : (st : Statement) (t : Task) → IsTaskOf st (Some t) → is_supported_statement st ≡ true
-supported-task st (task.Insert n es) h = ap is_supported_statement h.0 ∙ h.1
-supported-task st (task.Select n k) h = ap is_supported_statement h.0
+served-task : (st : Statement) (t : Task) → IsTaskOf st (Some t) → is_served_statement st ≡ true
+served-task st (task.Insert n es) h = ap is_served_statement h.0 ∙ h.1
+served-task st (task.Select n k) h = ap is_served_statement h.0
 
 -- what a line asks, by its request
 pub asked-request : (line : Line) (r : Request) → line ≡ line_of r → IsWellFormed r → asked_of line ≡ Tree (line_of r)
@@ -257,7 +257,7 @@ asked-request line r is h = ap asked_of is ∙ by r h
     by : (r : Request) → IsWellFormed r → asked_of (line_of r) ≡ Tree (line_of r)
     by request.Nothing h = refl
     by (request.Define d) h = rw h refl
-    by (request.Do s st t) h = rw (supported-task st.now t h) refl
+    by (request.Do s st t) h = rw (served-task st.now t h) refl
 
-pub asked-other : (line : Line) → is_supported line ≡ false → asked_of line ≡ Rejected Syntax
+pub asked-other : (line : Line) → is_served line ≡ false → asked_of line ≡ Rejected Syntax
 asked-other line h = rw h refl

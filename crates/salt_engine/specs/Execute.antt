@@ -1,6 +1,6 @@
 -- What the engine's outcome of a statement stands for.
 use Rattle.salt_ast.specs.declared.trees.Expr.{Expr}
-use Rattle.salt_engine.specs.Supported.{literal_in}
+use Rattle.salt_engine.specs.Served.{literal_in}
 use Rattle.salt_engine.specs.declared.execute.Added.{Added}
 use Rattle.salt_engine.specs.declared.execute.Outcome.{Outcome}
 use Rattle.salt_model.specs.Statements.{Done, answering, change_to, failing}

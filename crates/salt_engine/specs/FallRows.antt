@@ -10,10 +10,10 @@ use Rattle.salt_model.specs.Trace.{Trace, Tree, from, ◌asks◌, ◌says◌}
 use Rattle.salt_model.specs.declared.events.Event.TheVariants.{Down, Opened, Ready}
 use Rattle.salt_model.specs.declared.events.Why.TheVariants.{Fault}
 use Rattle.std.proofs.Common.{inl, lit<, lit≤}
-use Rattle.std.specs.Prelude.{[], codes, refl, ◌∷◌}
+use Rattle.std.specs.Prelude.{[], codes, false, refl, ◌∷◌}
 
 abbrev numbers : TableDef
-numbers = record { name = codes "t"; columns = record { name = codes "id"; kind = ColType.Int } ∷ []; checks = [] }
+numbers = record { name = codes "t"; columns = record { name = codes "id"; kind = ColType.Int; nullable = false } ∷ []; checks = [] }
 
 abbrev asked : Trace
 asked = from empty_start says Opened 1 0 says Ready asks Tree (Table numbers)

@@ -1,4 +1,4 @@
-pub mod Supported
+pub mod Served
 pub mod Schema
 pub mod Execute
 pub mod Engine

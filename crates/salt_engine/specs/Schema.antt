@@ -5,7 +5,7 @@ use Rattle.std.specs.Bool.{then_some}
 use Rattle.std.specs.Option.{option_or}
 use Rattle.salt_ast.specs.declared.trees.Field.{Field}
 use Rattle.salt_ast.specs.declared.trees.TableDef.{TableDef}
-use Rattle.salt_engine.specs.Supported.{is_int}
+use Rattle.salt_engine.specs.Served.{is_int}
 use Rattle.salt_engine.specs.declared.request.Request.TheVariants as request
 use Rattle.salt_engine.specs.declared.request.Request.{Request}
 use Rattle.salt_engine.specs.declared.request.Task.TheVariants as task
@@ -37,7 +37,7 @@ table_of (task.Select t k) = t.now
 
 -- the key is of the type of the first column
 abbrev pub is_key_value : List Field → Value → Bool
-is_key_value columns k = elim (key_type columns) [ None ↦ false | Some t ↦ is_of_kind (values t) (Some (value_kind k)) ]
+is_key_value columns k = elim (key_type columns) [ None ↦ false | Some t ↦ is_of_kind (values t) (value_kind k) ]
 
 -- one number for each column, or a key of the key's type
 abbrev pub is_fitting : List Field → Task → Bool

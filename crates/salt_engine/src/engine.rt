@@ -14,7 +14,7 @@ ghost use Rattle.salt_model.specs.Tables.{Tables, with_changes};
 ghost use Rattle.salt_model.specs.declared.events.Event.{Event};
 ghost use Rattle.salt_engine.specs.Execute.{changes_of};
 ghost use Rattle.salt_engine.specs.Schema.{request_refusal};
-ghost use Rattle.salt_engine.specs.Supported.{IsTaskOf, IsWellFormed, asked_of, is_plain_table};
+ghost use Rattle.salt_engine.specs.Served.{IsTaskOf, IsWellFormed, asked_of, is_plain_table};
 
 use crate::execute::{Added, Outcome, PlacedRows, execute};
 use crate::request::{Request, Task, request_in};
@@ -243,7 +243,7 @@ impl Engine {
         ensures rise { OnOk result (NumbersRise self.old self.new) }
     {
         let Some(request) = request_in(line) else {
-            return self.refuse(story);
+            return self.refuse(Refusal::Syntax, story);
         };
         match refusal_of(self.alloc, self.schema.tables(), &request)? {
             Some(refusal) => story.push(Event::Refused(refusal)),
@@ -251,12 +251,12 @@ impl Engine {
         }
     }
 
-    /// Appends the refusal of a line whose text spells nothing. Where memory runs out, the story is as it was.
-    pub fn refuse(&self, story: &mut Story) -> Result<(), AllocError>
-        ensures segment { OnOk result (GoesOn self.now story.old (Rejected Refusal.Syntax) self.now story.new) }
-        ensures broken_off { OnErr result (BreaksOff self.now story.old (Rejected Refusal.Syntax) story.new) }
+    /// Appends the refusal of a line's text. Where memory runs out, the story is as it was.
+    pub fn refuse(&self, refusal: Refusal, story: &mut Story) -> Result<(), AllocError>
+        ensures segment { OnOk result (GoesOn self.now story.old (Rejected refusal) self.now story.new) }
+        ensures broken_off { OnErr result (BreaksOff self.now story.old (Rejected refusal) story.new) }
         ensures unchanged { OnErr result (story.new ≡ story.old) }
     {
-        story.push(Event::Refused(Refusal::Syntax))
+        story.push(Event::Refused(refusal))
     }
 }

@@ -7,7 +7,7 @@ ghost use Rattle.salt_ast.specs.declared.trees.Statement.{Statement};
 ghost use Rattle.salt_model.specs.Statements.{outcome_of};
 ghost use Rattle.salt_model.specs.Tables.{Tables, key_of};
 ghost use Rattle.salt_engine.specs.Execute.{IsInserted, IsOutcome, IsSelected, literals_in};
-ghost use Rattle.salt_engine.specs.Supported.{IsTaskOf, is_plain_table};
+ghost use Rattle.salt_engine.specs.Served.{IsTaskOf, is_plain_table};
 
 use crate::request::{Task, literal_in};
 use crate::schema::{Known, table_named, table_of};

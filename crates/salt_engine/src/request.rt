@@ -3,7 +3,7 @@
 ghost use Rattle.std.specs.Prelude.{◌≡◌};
 ghost use Rattle.std.specs.List.{list_all};
 ghost use Rattle.std.specs.Option.{option_copied};
-ghost use Rattle.salt_engine.specs.Supported.{IsRequestOf, IsTaskOf, is_int, is_number, is_plain_table, key_in, literal_in};
+ghost use Rattle.salt_engine.specs.Served.{IsRequestOf, IsTaskOf, is_int, is_number, is_plain_table, key_in, literal_in};
 
 use salt_ast::{Act, Bound, ColType, Expr, Field, Line, Scan, Statement, TableDef, What};
 use salt_values::{Name, Value};
@@ -38,6 +38,7 @@ pub fn literal_in(expr: &Expr) -> Option<&Value>
         Expr::Column(_) => None,
         Expr::Variable(_) => None,
         Expr::Not(_) => None,
+        Expr::IsNull { .. } => None,
         Expr::Binary { .. } => None,
     }
 }
@@ -48,6 +49,7 @@ fn is_number(expr: &Expr) -> bool
     match literal_in(expr) {
         Some(Value::Int(_)) => true,
         Some(Value::Text(_)) => false,
+        Some(Value::Null) => false,
         None => false,
     }
 }

@@ -7,7 +7,7 @@ ghost use Rattle.salt_ast.specs.Judgement.{doubled_name, field_names};
 ghost use Rattle.salt_tokens.specs.Spelling.{same_bytes};
 ghost use Rattle.salt_ast.specs.declared.trees.TableDef.{TableDef};
 ghost use Rattle.salt_engine.specs.Schema.{IsKnown, has_name, is_fitting, is_key_value, request_refusal, table_of, table_refusal, task_refusal};
-ghost use Rattle.salt_engine.specs.Supported.{is_plain_table};
+ghost use Rattle.salt_engine.specs.Served.{is_plain_table};
 
 use crate::request::{Request, Task, are_ints};
 use salt_ast::{ColType, Field, LimitName, TableDef};
@@ -30,7 +30,7 @@ impl Model for Schema {
     ghost use Rattle.salt_ast.specs.declared.trees.TableDef.{TableDef};
     ghost use Rattle.std.specs.Coded.{codes};
     ghost use Rattle.salt_ast.specs.contracts.trees.Expr as expr;
-    ghost use Rattle.salt_engine.specs.Supported.{is_plain_table};
+    ghost use Rattle.salt_engine.specs.Served.{is_plain_table};
     ghost use Rattle.salt_values.specs.declared.limits.TheConstants.{TABLES_MOST};
 
     ghost Value = { List TableDef };
@@ -157,6 +157,7 @@ fn is_key_value(columns: &[Field], key: &Value) -> bool
         (ColType::Text, Value::Text(_)) => true,
         (ColType::Int, Value::Text(_)) => false,
         (ColType::Text, Value::Int(_)) => false,
+        (_, Value::Null) => false,
     }
 }
 

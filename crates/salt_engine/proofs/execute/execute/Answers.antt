@@ -3,7 +3,7 @@ use Rattle.salt_engine.proofs.Outcomes.{does-insert, does-select, does-unknown, 
 use Rattle.salt_engine.proofs.execute.execute.Goals as goal
 use Rattle.salt_engine.specs.Execute.{IsOutcome}
 use Rattle.salt_engine.specs.Schema.{table_of}
-use Rattle.salt_engine.specs.Supported.{IsNumeric, is_plain_table, statement_of}
+use Rattle.salt_engine.specs.Served.{IsNumeric, is_plain_table, statement_of}
 use Rattle.salt_model.specs.Statements.{outcome_of}
 use Rattle.salt_model.specs.Reaches.{table_named}
 use Rattle.std.proofs.Common.{IfOk, Some, [], ap, arith, subst, sym, ◌∙◌, ◌≡◌}

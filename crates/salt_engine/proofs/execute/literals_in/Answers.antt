@@ -2,7 +2,7 @@ use Rattle.salt_engine.proofs.Outcomes.{literals-more}
 use Rattle.salt_engine.proofs.execute.literals_in.Goals as goal
 use Rattle.salt_engine.proofs.execute.literals_in.Goals.{in-Some+in_ok-copy+in_ok-push, in_default}
 use Rattle.salt_engine.specs.Execute.{literals_in}
-use Rattle.salt_engine.specs.Supported.{literal_in}
+use Rattle.salt_engine.specs.Served.{literal_in}
 use Rattle.std.proofs.Common.{None, Some, [], ap, append-nil, option_to_list, sym, take, ◌++◌, ◌∙◌, ◌∷◌, ◌≡◌}
 use Rattle.std.specs.Option.{option_copied}
 

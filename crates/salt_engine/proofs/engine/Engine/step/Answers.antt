@@ -3,7 +3,7 @@ use Rattle.salt_engine.proofs.Steps.{asked-breaks, asked-request, refused-goes, 
 use Rattle.salt_engine.proofs.engine.Engine.step.Goals as goal
 use Rattle.salt_engine.specs.Engine.{BreaksOff, GoesOn}
 use Rattle.salt_engine.specs.Schema.{request_refusal}
-use Rattle.salt_engine.specs.Supported.{asked_of, line_of}
+use Rattle.salt_engine.specs.Served.{asked_of, line_of}
 use Rattle.salt_model.specs.Trace.{Tree}
 use Rattle.std.proofs.Common.{OnErr, OnOk, ap, refl, subst, sym, ◌∙◌}
 use Rattle.std.proofs.lemmas.Result.{on_err_weaker, on_ok_weaker}

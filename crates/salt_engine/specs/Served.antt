@@ -1,4 +1,4 @@
--- The lines that the engine serves, and what a line asks of a trace.
+-- What is asked of the engine, and what it takes that for: a form of line that is not served is refused as a text that spells nothing.
 use Rattle.salt_ast.specs.Judgement.{is_same_type}
 use Rattle.salt_ast.specs.declared.lines.Act.TheVariants.{Do}
 use Rattle.salt_ast.specs.declared.lines.Line.TheVariants.{Nothing, Session, Table}
@@ -49,20 +49,25 @@ abbrev pub key_in : Scan → Option Value
 key_in scan = key_by scan.bound scan.filter
 
 -- an insert of numbers, or a select of the row of one key
-abbrev pub is_supported_statement : Statement → Bool
-is_supported_statement (Insert t es) = list_all is_number es
-is_supported_statement (Select All t scan) = is_some (key_in scan)
-is_supported_statement st = false
+abbrev pub is_served_statement : Statement → Bool
+is_served_statement (Insert t es) = list_all is_number es
+is_served_statement (Select All t scan) = is_some (key_in scan)
+is_served_statement st = false
 
-abbrev pub is_supported : Line → Bool
-is_supported Nothing = true
-is_supported (Table d) = is_plain_table d
-is_supported (Session s (Do st)) = is_supported_statement st
-is_supported line = false
+abbrev pub is_served : Line → Bool
+is_served Nothing = true
+is_served (Table d) = is_plain_table d
+is_served (Session s (Do st)) = is_served_statement st
+is_served line = false
 
 -- a line of another form is refused as one that spells nothing
 abbrev pub asked_of : Line → Asked
-asked_of line = if is_supported line then Tree line else Rejected Syntax
+asked_of line = if is_served line then Tree line else Rejected Syntax
+
+-- what is told of what is asked: a refusal as it is
+abbrev pub served : Asked → Asked
+served (Tree line) = asked_of line
+served (Rejected r) = Rejected r
 
 -- the statement of a task
 abbrev pub statement_of : Task → Statement
@@ -76,7 +81,7 @@ IsNumeric (task.Select t k) = ⊤
 
 -- the task of a statement, where it is served
 abbrev pub IsTaskOf : Statement → Option Task → Type 0
-IsTaskOf st None = is_supported_statement st ≡ false
+IsTaskOf st None = is_served_statement st ≡ false
 IsTaskOf st (Some t) = (st ≡ statement_of t) × IsNumeric t
 
 abbrev pub line_of : Request → Line
@@ -91,5 +96,5 @@ IsWellFormed (request.Do s st t) = IsTaskOf st.now (Some t)
 
 -- the request of a line, where it is served
 abbrev pub IsRequestOf : Line → Option Request → Type 0
-IsRequestOf line None = is_supported line ≡ false
+IsRequestOf line None = is_served line ≡ false
 IsRequestOf line (Some r) = (line ≡ line_of r) × IsWellFormed r
