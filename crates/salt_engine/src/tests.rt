@@ -93,10 +93,12 @@ fn table(alloc: Global, bytes: &[u8], kind: ColType) -> Result<Line, Fail> {
     columns.push(Field {
         name: name(alloc, b"id")?,
         kind: ColType::Int,
+        nullable: false,
     })?;
     columns.push(Field {
         name: name(alloc, b"v")?,
         kind,
+        nullable: false,
     })?;
     Ok(Line::Table(TableDef {
         name: name(alloc, bytes)?,
@@ -183,7 +185,7 @@ fn faulty_lines_are_refused(rt: HostRuntime) -> Result<(), Fail> {
     engine.step(&insert(alloc, b"t", &[1])?, &mut story)?;
     let text = Value::Text(Text::new(alloc, b"a")?);
     engine.step(&select(alloc, What::All, text)?, &mut story)?;
-    engine.refuse(&mut story)?;
+    engine.refuse(Refusal::Syntax, &mut story)?;
     assert_eq!(rt;
         told_from(alloc, &story, 0)?.as_slice(),
         [
