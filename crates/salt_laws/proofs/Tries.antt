@@ -1,7 +1,7 @@
--- No program has more tries left than the part at which it stands is tried again.
+-- No program has more tries left than the part at which it stands is tried again, and each failure uses one.
 use Rattle.salt_ast.specs.Paths.{Position, at_number, position_at, retries}
 use Rattle.salt_ast.specs.declared.programs.ProgramDef.{ProgramDef}
-use Rattle.salt_laws.proofs.Defined.{named-own, named-stays}
+use Rattle.salt_laws.proofs.Defined.{AreDefined, IsKeptProgram, defined-kept, named-own, named-stays}
 use Rattle.salt_laws.proofs.Every.{every-append, every-map}
 use Rattle.salt_laws.proofs.Fresh.{IfComes}
 use Rattle.salt_laws.proofs.Ids.{is_same_id-refl}
@@ -11,9 +11,9 @@ use Rattle.salt_laws.proofs.Rising.{every-without}
 use Rattle.salt_laws.proofs.Salted.{OfBoots, holds, may-fit}
 use Rattle.salt_laws.proofs.Sound.{Sound, cont-stays, of-program, open-back}
 use Rattle.salt_model.specs.After.{branched, conts_at, defined_by, kept, run_of}
-use Rattle.salt_model.specs.Continuing.{part_due}
+use Rattle.salt_model.specs.Continuing.{UsesTry, part_due}
 use Rattle.salt_model.specs.Ends.{kept_with}
-use Rattle.salt_model.specs.Everywhere.{Always}
+use Rattle.salt_model.specs.Everywhere.{Always, Each}
 use Rattle.salt_model.specs.Kept.{AreTriesWithin, IsWithinTries, Kept, begun_cont, branch_of, change_cont, cont_in, cont_of, kept_program, moved, parts_of, programs_of, retries_of, then_of, values_kept}
 use Rattle.salt_model.specs.Next.{flight}
 use Rattle.salt_model.specs.Played.{IsPlayed}
@@ -34,7 +34,7 @@ use Rattle.salt_values.specs.declared.value.Value.{Value}
 use Rattle.std.proofs.Common.{ap, arith, subst, sym, ◌∙◌}
 use Rattle.std.specs.Bool.{then_some}
 use Rattle.std.specs.Option.{option_or}
-use Rattle.std.specs.Prelude.{Bool, List, None, Option, Some, [], cond, false, option_and_then, option_map, refl, suc, true, zero, ℕ, ⊤, ◌∷◌, ◌≡◌, ◌≤◌}
+use Rattle.std.specs.Prelude.{Bool, List, None, Option, Some, [], cond, false, is_some, option_and_then, option_map, refl, suc, true, zero, ℕ, ⊤, ◌∷◌, ◌≡◌, ◌≤◌}
 
 -- AN OPEN PART is that at which its program stands.
 
@@ -98,17 +98,18 @@ branch-within p part (suc tries) l at h =
 
 -- CONTINUATIONS
 
+-- a fact of each continuation is one of b's
+found-in : (P : Cont → Type 0) (b : Id) (c : Cont) (cs : List Cont) → Every P cs → cont_in b cs ≡ Some c → P c
+found-in P b c [] h e = cc
+found-in P b c (x ∷ cs) h e = by (is_same_id b x.base) e (found-in P b c cs h.1)
+  where
+    by : (t : Bool) → cond t (Some x) (cont_in b cs) ≡ Some c → (cont_in b cs ≡ Some c → P c) → P c
+    by true g more = let same : x ≡ c = cc in subst P same h.0
+    by false g more = more g
+
 module _ (k : Kept) where
   abbrev P : Cont → Type 0
   P c = IsWithinTries k c
-
-  every-found : (b : Id) (c : Cont) (cs : List Cont) → Every P cs → cont_in b cs ≡ Some c → P c
-  every-found b c [] h e = cc
-  every-found b c (x ∷ cs) h e = by (is_same_id b x.base) e (every-found b c cs h.1)
-    where
-      by : (t : Bool) → cond t (Some x) (cont_in b cs) ≡ Some c → (cont_in b cs ≡ Some c → P c) → P c
-      by true g more = let same : x ≡ c = cc in subst P same h.0
-      by false g more = more g
 
   within-change : (b : Id) (c : Cont) (f : Cont → Cont) (cs : List Cont) → cont_in b cs ≡ Some c → P (f c) → Every P cs → Every P (change_cont b f cs)
   within-change b c f [] e g h = tt
@@ -162,7 +163,7 @@ module _ (k : Kept) where
       within c p e g =
           let due : option_map (λ (c : Cont). c.next) (Some c) ≡ Some part = subst (λ o. option_map (λ (c : Cont). c.next) o ≡ Some part) e (d b part refl) in
           let at : c.next ≡ part = cc in
-          subst (λ m. c.tries ≤ retries (at_number m (parts_of p))) at (subst (λ q. c.tries ≤ retries_of q c.next) g (every-found b c k.conts h e))
+          subst (λ m. c.tries ≤ retries (at_number m (parts_of p))) at (subst (λ q. c.tries ≤ retries_of q c.next) g (found-in P b c k.conts h e))
 
       go : (c : Cont) → cont_of b k ≡ Some c → (o : Option ProgramDef) → kept_program c.program k ≡ o → Every P (elim o [ None ↦ k.conts | Some p ↦ moved b (branch_of p part c.tries) (λ x. x) k.conts ])
       go c e None g = h
@@ -223,3 +224,39 @@ tries-always (from k) p w h = h
 tries-always (trace asks asked) p w h = (tries-always trace p.0 w h, tries-within (trace asks asked) p w h)
 tries-always (trace turns b) p w h = (tries-always trace p.0 w h, tries-within (trace turns b) p w h)
 tries-always (trace says e) p w h = (tries-always trace p.0 w h, tries-within (trace says e) p w h)
+
+-- A FAILURE uses a try.
+
+found-change : (b : Id) (f : Cont → Cont) → ((x : Cont) → (f x).base ≡ x.base) → (cs : List Cont) (c : Cont) → cont_in b cs ≡ Some c → cont_in b (change_cont b f cs) ≡ Some (f c)
+found-change b f same [] c h = cc
+found-change b f same (x ∷ cs) c h = by (is_same_id b x.base) refl h (found-change b f same cs c)
+  where
+    by : (t : Bool) → is_same_id b x.base ≡ t → cond t (Some x) (cont_in b cs) ≡ Some c → (cont_in b cs ≡ Some c → cont_in b (change_cont b f cs) ≡ Some (f c)) → cont_in b (cond t (f x ∷ cs) (x ∷ change_cont b f cs)) ≡ Some (f c)
+    by true e g more = ap (λ z. cond (is_same_id b z) (Some (f x)) (cont_in b cs)) (same x) ∙ rw e (let own : x ≡ c = cc in ap (λ y. Some (f y)) own)
+    by false e g more = rw e (more g)
+
+failed-uses : (k : Kept) (n : ℕ) (o : Option UnitKind) (b : Id) (part : ℕ) (c : Cont) (tries : ℕ) → o ≡ Some (Later b part) → cont_of b k ≡ Some c → c.next ≡ part → c.tries ≡ suc tries → IsKeptProgram k c.program →
+    cont_of b (branched k n o) ≡ Some (record c { tries = tries })
+failed-uses k n o b part c tries kind e at left d = subst (λ q. cont_of b (branched k n q) ≡ Some (record c { tries = tries })) (sym kind) (subst (λ m. cont_of b (branched k n (Some (Later b m))) ≡ Some (record c { tries = tries })) at (by (cont_of b k) e))
+  where
+    go : (q : Option ProgramDef) → is_some q ≡ true → cont_in b (elim q [ None ↦ k.conts | Some p ↦ moved b (branch_of p c.next c.tries) (λ x. x) k.conts ]) ≡ Some (record c { tries = tries })
+    go None h = cc
+    go (Some p) h = subst (λ m. cont_in b (moved b (branch_of p c.next m) (λ x. x) k.conts) ≡ Some (record c { tries = tries })) (sym left) (found-change b (λ x. record x { next = c.next; tries = tries }) (λ x. refl) k.conts c e)
+
+    left_of : Option Cont → List Cont
+    left_of q = elim (option_and_then (λ (x : Cont). kept_program x.program k) q) [ None ↦ k.conts | Some p ↦ moved b (branch_of p c.next (elim q [ None ↦ 0 | Some x ↦ x.tries ])) (λ x. x) k.conts ]
+
+    by : (q : Option Cont) → q ≡ Some c → cont_in b (left_of q) ≡ Some (record c { tries = tries })
+    by q same = subst (λ q. cont_in b (left_of q) ≡ Some (record c { tries = tries })) (sym same) (go (kept_program c.program k) d)
+
+uses-try : (trace : Trace) (e : Event) → IsOfOpen trace e → Stand trace → AreDefined (kept trace) (kept trace).conts → UsesTry trace e
+uses-try trace (Ended u (Branched n x)) o s d = λ b part c tries kind e left.
+    let due : option_map (λ (c : Cont). c.next) (Some c) ≡ Some part = subst (λ q. option_map (λ (c : Cont). c.next) q ≡ Some part) e (s u b part o kind) in
+    failed-uses (kept trace) n (kind_of u trace) b part c tries kind e (cc) left (found-in (λ c. IsKeptProgram (kept trace) c.program) b c (kept trace).conts d e)
+uses-try trace e o s d = tt
+
+pub tries-used : (trace : Trace) → IsPlayed trace → OfBoots (start_of trace).kept → AreDefined (start_of trace).kept (start_of trace).kept.conts → Each UsesTry trace
+tries-used (from k) p w h = tt
+tries-used (trace asks asked) p w h = tries-used trace p.0 w h
+tries-used (trace turns b) p w h = tries-used trace p.0 w h
+tries-used (trace says e) p w h = (tries-used trace p.0 w h, uses-try trace e (fits-open trace e (may-fit trace e (holds trace p.0 w).comes p.1)) (stand trace p.0 w) (defined-kept trace h))

@@ -3,7 +3,7 @@
 
 ghost use Rattle.salt_model.specs.After.{kept};
 ghost use Rattle.salt_model.specs.AsDeclared.{IsDeclared};
-ghost use Rattle.salt_model.specs.Continuing.{IsContinued};
+ghost use Rattle.salt_model.specs.Continuing.{IsContinued, UsesTry};
 ghost use Rattle.salt_model.specs.Decided.{IsKept};
 ghost use Rattle.salt_model.specs.Ends.{kept_with};
 ghost use Rattle.salt_model.specs.Honest.{IsHonest};
@@ -65,9 +65,11 @@ pub fn kept_stays_well_kept()
     ensures { (trace : Trace) → IsPlayed trace → WellKept (start_of trace).kept → WellKept (kept trace) × WellKept (kept_with trace (flight trace)) }
 {}
 
-/// At every place, each accepted BASE program has no more tries left than the part at which it stands is tried again.
+/// At every place, each accepted BASE program has no more tries left than the part at which it stands is tried again, and each
+/// failure uses one: while there are some, the program stays at its part.
 pub fn tries_are_counted()
-    ensures { (trace : Trace) → IsPlayed trace → WellKept (start_of trace).kept → Always (λ t. AreTriesWithin (kept t)) trace }
+    ensures within { (trace : Trace) → IsPlayed trace → WellKept (start_of trace).kept → Always (λ t. AreTriesWithin (kept t)) trace }
+    ensures used { (trace : Trace) → IsPlayed trace → WellKept (start_of trace).kept → Each UsesTry trace }
 {}
 
 /// The keys that a committed unit wrote, each as its statement was done, are those that its changes name

@@ -15,7 +15,7 @@ use Rattle.salt_model.specs.declared.events.Event.{Event}
 use Rattle.salt_model.specs.declared.events.UnitKind.TheVariants.{Acid, Call, First, Later}
 use Rattle.salt_model.specs.declared.events.UnitKind.{UnitKind}
 use Rattle.salt_values.specs.declared.id.Id.{Id}
-use Rattle.std.specs.Prelude.{Bool, IsTrue, None, Option, Some, [], false, is_none, not, option_and_then, option_map, ℕ, ⊤, ◌&&◌, ◌≡◌, ◌≤◌}
+use Rattle.std.specs.Prelude.{Bool, IsTrue, None, Option, Some, [], false, is_none, not, option_and_then, option_map, suc, ℕ, ⊤, ◌&&◌, ◌≡◌, ◌≤◌}
 
 -- the last event of a trace
 abbrev pub last_said : Trace → Option Event
@@ -77,6 +77,14 @@ abbrev pub GoesAlong : Trace → Event → Type 0
 GoesAlong trace (Began u (Later b part)) = (part_due trace b ≡ Some part) × IsTrue (is_unfinished trace b)
 GoesAlong trace Ready = (b : Id) → is_unfinished trace b ≡ false
 GoesAlong trace e = ⊤
+
+-- A FAILURE with tries left leaves the program at its part, with one fewer, and changes no more of it.
+
+abbrev pub UsesTry : Trace → Event → Type 0
+UsesTry trace (Ended u (Branched n x)) =
+    (b : Id) (part : ℕ) (c : Cont) (tries : ℕ) → kind_of u trace ≡ Some (Later b part) → cont_of b (kept trace) ≡ Some c → c.tries ≡ suc tries →
+    cont_of b (kept (trace says Ended u (Branched n x))) ≡ Some (record c { tries = tries })
+UsesTry trace e = ⊤
 
 -- IN AN OPENING programs run one after another, in the order of the decisions that accepted them.
 
