@@ -41,11 +41,6 @@ taken_in (trace turns b) = taken_in trace
 taken_in (trace says Did u st answer) = taken_in trace ++ taken_by u (reach_now u trace st)
 taken_in (trace says e) = taken_in trace
 
-abbrev pub is_subtransaction : UnitKind → Bool
-is_subtransaction (First s b n args) = true
-is_subtransaction (Later b part) = true
-is_subtransaction kind = false
-
 abbrev pub family_of : Option UnitKind → Family
 family_of (Some (First s b n args)) = Alkaline
 family_of (Some (Later b part)) = Alkaline

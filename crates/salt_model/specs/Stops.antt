@@ -6,7 +6,7 @@ use Rattle.salt_model.specs.Trace.{Trace, from, ◌asks◌, ◌says◌, ◌turns
 use Rattle.salt_model.specs.Turns.{next_number}
 use Rattle.salt_model.specs.declared.events.Event.TheVariants.{Did, Opened}
 use Rattle.salt_model.specs.declared.events.Event.{Event}
-use Rattle.salt_model.specs.declared.events.Why.TheVariants.{Fault, Stopped}
+use Rattle.salt_model.specs.declared.events.Why.TheVariants.{Stopped}
 use Rattle.salt_model.specs.declared.events.Why.{Why}
 use Rattle.std.specs.Prelude.{Bool, IsSome, IsTrue, None, Option, Some, false, if◌then◌else◌, is_some, not, true, ℕ, ◌&&◌, ◌+◌, ◌<◌, ◌≡◌, ◌≤◌, ◌⊎◌}
 
@@ -18,10 +18,6 @@ is_at_devices trace e = is_decision e
 abbrev pub is_device_next : Trace → Option Event → Bool
 is_device_next trace None = false
 is_device_next trace (Some e) = is_at_devices trace e
-
-abbrev pub is_stopped : Why → Bool
-is_stopped Stopped = true
-is_stopped Fault = false
 
 -- the trace ends with an Opened: what may come next is the flight's decision, which is at the devices already
 abbrev pub is_just_opened : Trace → Bool
