@@ -46,12 +46,14 @@ pub named-own : (ps : List ProgramDef) (n : List ℕ) (p : ProgramDef) → progr
 named-own [] n p h = cc
 named-own (q ∷ ps) n p h = by (same_bytes n q.name) refl h (named-own ps n p)
   where
-    by : (b : Bool) → same_bytes n q.name ≡ b → cond b (Some q) (program_named ps n) ≡ Some p → (program_named ps n ≡ Some p → n ≡ p.name) → n ≡ p.name
+    by : (b : Bool) → same_bytes n q.name ≡ b → cond b (Some q) (program_named ps n) ≡ Some p → (program_named ps n ≡ Some p → n ≡ p.name) →
+        n ≡ p.name
     by true e g more = let same : q ≡ p = cc in same-bytes-true n q.name e ∙ ap (λ x. x.name) same
     by false e g more = more g
 
 -- definitions stay, and the program that a name finds
-pub named-stays : (ds more : List Definition) (n : List ℕ) (p : ProgramDef) → program_named (filter_map program_of_definition ds) n ≡ Some p → program_named (filter_map program_of_definition (ds ++ more)) n ≡ Some p
+pub named-stays : (ds more : List Definition) (n : List ℕ) (p : ProgramDef) → program_named (filter_map program_of_definition ds) n ≡ Some p →
+    program_named (filter_map program_of_definition (ds ++ more)) n ≡ Some p
 named-stays [] more n p h = cc
 named-stays (OfTable d ∷ ds) more n p h = named-stays ds more n p h
 named-stays (OfProgram q ∷ ds) more n p h = by (same_bytes n q.name) h (named-stays ds more n p)
@@ -66,16 +68,19 @@ named-stays (OfProgram q ∷ ds) more n p h = by (same_bytes n q.name) h (named-
     by true g f = g
     by false g f = f g
 
-stays-defined : (ds more : List Definition) (n : List ℕ) → is_some (program_named (filter_map program_of_definition ds) n) ≡ true → is_some (program_named (filter_map program_of_definition (ds ++ more)) n) ≡ true
+stays-defined : (ds more : List Definition) (n : List ℕ) → is_some (program_named (filter_map program_of_definition ds) n) ≡ true →
+    is_some (program_named (filter_map program_of_definition (ds ++ more)) n) ≡ true
 stays-defined ds more n h = by (program_named (filter_map program_of_definition ds) n) refl h
   where
-    by : (o : Option ProgramDef) → program_named (filter_map program_of_definition ds) n ≡ o → is_some o ≡ true → is_some (program_named (filter_map program_of_definition (ds ++ more)) n) ≡ true
+    by : (o : Option ProgramDef) → program_named (filter_map program_of_definition ds) n ≡ o → is_some o ≡ true →
+        is_some (program_named (filter_map program_of_definition (ds ++ more)) n) ≡ true
     by None e g = cc
     by (Some p) e g = ap is_some (named-stays ds more n p e)
 
 -- continuations
 
-defined-change : (k : Kept) (b : Id) (f : Cont → Cont) → ((c : Cont) → (f c).program ≡ c.program) → (cs : List Cont) → AreDefined k cs → AreDefined k (change_cont b f cs)
+defined-change : (k : Kept) (b : Id) (f : Cont → Cont) → ((c : Cont) → (f c).program ≡ c.program) → (cs : List Cont) → AreDefined k cs →
+    AreDefined k (change_cont b f cs)
 defined-change k b f same [] h = tt
 defined-change k b f same (c ∷ cs) h = by (is_same_id b c.base) (defined-change k b f same cs h.1)
   where
@@ -83,11 +88,13 @@ defined-change k b f same (c ∷ cs) h = by (is_same_id b c.base) (defined-chang
     by true more = (subst (IsKeptProgram k) (sym (same c)) h.0, h.1)
     by false more = (h.0, more)
 
-defined-moved : (k : Kept) (b : Id) (o : Option Position) (f : Cont → Cont) → ((c : Cont) → (f c).program ≡ c.program) → (cs : List Cont) → AreDefined k cs → AreDefined k (moved b o f cs)
+defined-moved : (k : Kept) (b : Id) (o : Option Position) (f : Cont → Cont) → ((c : Cont) → (f c).program ≡ c.program) → (cs : List Cont) →
+    AreDefined k cs → AreDefined k (moved b o f cs)
 defined-moved k b None f same cs h = every-without (λ (c : Cont). IsKeptProgram k c.program) b cs h
 defined-moved k b (Some at) f same cs h = defined-change k b (λ c. record (f c) { next = at.part; tries = at.tries }) (λ c. same c) cs h
 
-defined-begun : (k : Kept) (b : Id) (n : ℕ) (p : ProgramDef) (args : List Value) (vars : List Binding) (o : Option Position) (cs : List Cont) → IsKeptProgram k p.name → AreDefined k cs → AreDefined k (begun_cont b n p args vars o cs)
+defined-begun : (k : Kept) (b : Id) (n : ℕ) (p : ProgramDef) (args : List Value) (vars : List Binding) (o : Option Position) (cs : List Cont) →
+    IsKeptProgram k p.name → AreDefined k cs → AreDefined k (begun_cont b n p args vars o cs)
 defined-begun k b n p args vars None cs d h = h
 defined-begun k b n p args vars (Some at) cs d h = every-append (λ (c : Cont). IsKeptProgram k c.program) cs _ h (d, tt)
 

@@ -530,19 +530,23 @@ stays-without : (b c : Id) → (c ≡ b → ⊥) → (cs : List Cont) → cont_i
 stays-without b c n [] = refl
 stays-without b c n (x ∷ cs) = go (is_same_id c x.base) refl (stays-without b c n cs)
   where
-    go : (t : Bool) → is_same_id c x.base ≡ t → cont_in b (without_cont c cs) ≡ cont_in b cs → cont_in b (cond t cs (x ∷ without_cont c cs)) ≡ cont_in b (x ∷ cs)
+    go : (t : Bool) → is_same_id c x.base ≡ t → cont_in b (without_cont c cs) ≡ cont_in b cs →
+        cont_in b (cond t cs (x ∷ without_cont c cs)) ≡ cont_in b (x ∷ cs)
     go true e more = rw (off b c x n e) refl
     go false e more = ap (cond (is_same_id b x.base) (Some x)) more
 
-stays-change : (b c : Id) → (c ≡ b → ⊥) → (f : Cont → Cont) → ((x : Cont) → (f x).base ≡ x.base) → (cs : List Cont) → cont_in b (change_cont c f cs) ≡ cont_in b cs
+stays-change : (b c : Id) → (c ≡ b → ⊥) → (f : Cont → Cont) → ((x : Cont) → (f x).base ≡ x.base) → (cs : List Cont) →
+    cont_in b (change_cont c f cs) ≡ cont_in b cs
 stays-change b c n f same [] = refl
 stays-change b c n f same (x ∷ cs) = go (is_same_id c x.base) refl (stays-change b c n f same cs)
   where
-    go : (t : Bool) → is_same_id c x.base ≡ t → cont_in b (change_cont c f cs) ≡ cont_in b cs → cont_in b (cond t (f x ∷ cs) (x ∷ change_cont c f cs)) ≡ cont_in b (x ∷ cs)
+    go : (t : Bool) → is_same_id c x.base ≡ t → cont_in b (change_cont c f cs) ≡ cont_in b cs →
+        cont_in b (cond t (f x ∷ cs) (x ∷ change_cont c f cs)) ≡ cont_in b (x ∷ cs)
     go true e more = rw (same x, off b c x n e) refl
     go false e more = ap (cond (is_same_id b x.base) (Some x)) more
 
-stays-moved : (b c : Id) → (c ≡ b → ⊥) → (o : Option Position) (f : Cont → Cont) → ((x : Cont) → (f x).base ≡ x.base) → (cs : List Cont) → cont_in b (moved c o f cs) ≡ cont_in b cs
+stays-moved : (b c : Id) → (c ≡ b → ⊥) → (o : Option Position) (f : Cont → Cont) → ((x : Cont) → (f x).base ≡ x.base) → (cs : List Cont) →
+    cont_in b (moved c o f cs) ≡ cont_in b cs
 stays-moved b c n None f same cs = stays-without b c n cs
 stays-moved b c n (Some at) f same cs = stays-change b c n _ (λ x. same x) cs
 
@@ -551,49 +555,58 @@ stays-begun b c x n p args vars None cs = refl
 stays-begun b c x n p args vars (Some at) [] = rw (off b c (record { base = c; accepted = n; program = p.name; args = args; vars = values_kept p vars; next = at.part; tries = at.tries }) x (is_same_id-refl c)) refl
 stays-begun b c x n p args vars (Some at) (y ∷ cs) = ap (cond (is_same_id b y.base) (Some y)) (stays-begun b c x n p args vars (Some at) cs)
 
-stays-committed : (b : Id) (k : Kept) (n : ℕ) (kind : UnitKind) (vars : List Binding) → (program_of_kind kind ≡ Some b → ⊥) → cont_in b (conts_committed k n kind vars) ≡ cont_in b k.conts
+stays-committed : (b : Id) (k : Kept) (n : ℕ) (kind : UnitKind) (vars : List Binding) → (program_of_kind kind ≡ Some b → ⊥) →
+    cont_in b (conts_committed k n kind vars) ≡ cont_in b k.conts
 stays-committed b k n (Acid s) vars x = refl
 stays-committed b k n (Call s name args) vars x = refl
 stays-committed b k n (First s c name args) vars x = go (kept_program name k)
   where
-    go : (o : Option ProgramDef) → cont_in b (elim o [ None ↦ k.conts | Some p ↦ begun_cont c n p args vars (then_of p 1) k.conts ]) ≡ cont_in b k.conts
+    go : (o : Option ProgramDef) →
+        cont_in b (elim o [ None ↦ k.conts | Some p ↦ begun_cont c n p args vars (then_of p 1) k.conts ]) ≡ cont_in b k.conts
     go None = refl
     go (Some p) = stays-begun b c (λ e. x (ap Some e)) n p args vars (then_of p 1) k.conts
 stays-committed b k n (Later c part) vars x = go (option_and_then (λ c. kept_program c.program k) (cont_of c k))
   where
-    go : (o : Option ProgramDef) → cont_in b (elim o [ None ↦ k.conts | Some p ↦ moved c (then_of p part) (λ c. record c { vars = values_kept p vars }) k.conts ]) ≡ cont_in b k.conts
+    go : (o : Option ProgramDef) →
+        cont_in b (elim o [ None ↦ k.conts | Some p ↦ moved c (then_of p part) (λ c. record c { vars = values_kept p vars }) k.conts ]) ≡ cont_in b k.conts
     go None = refl
     go (Some p) = stays-moved b c (λ e. x (ap Some e)) (then_of p part) _ (λ x. refl) k.conts
 
 stays-branched : (b : Id) (k : Kept) (kind : UnitKind) → (program_of_kind kind ≡ Some b → ⊥) → cont_in b (conts_branched k kind) ≡ cont_in b k.conts
 stays-branched b k (Later c part) x = go (option_and_then (λ c. kept_program c.program k) (cont_of c k))
   where
-    go : (o : Option ProgramDef) → cont_in b (elim o [ None ↦ k.conts | Some p ↦ moved c (branch_of p part (tries_left c k)) (λ c. c) k.conts ]) ≡ cont_in b k.conts
+    go : (o : Option ProgramDef) →
+        cont_in b (elim o [ None ↦ k.conts | Some p ↦ moved c (branch_of p part (tries_left c k)) (λ c. c) k.conts ]) ≡ cont_in b k.conts
     go None = refl
     go (Some p) = stays-moved b c (λ e. x (ap Some e)) (branch_of p part (tries_left c k)) _ (λ x. refl) k.conts
 stays-branched b k kind x = refl
 
-pub cont-stays : (trace : Trace) (u : Id) (end : End) (b : Id) → (program_of u trace ≡ Some b → ⊥) → cont_of b (kept (trace says Ended u end)) ≡ cont_of b (kept trace)
+pub cont-stays : (trace : Trace) (u : Id) (end : End) (b : Id) → (program_of u trace ≡ Some b → ⊥) →
+    cont_of b (kept (trace says Ended u end)) ≡ cont_of b (kept trace)
 cont-stays trace u (Committed n) b x = go (kind_of u trace) x
   where
-    go : (o : Option UnitKind) → (option_and_then program_of_kind o ≡ Some b → ⊥) → cont_in b (conts_at (kept trace) n o (run_of u trace).vars) ≡ cont_of b (kept trace)
+    go : (o : Option UnitKind) → (option_and_then program_of_kind o ≡ Some b → ⊥) →
+        cont_in b (conts_at (kept trace) n o (run_of u trace).vars) ≡ cont_of b (kept trace)
     go None y = refl
     go (Some kind) y = stays-committed b (kept trace) n kind _ y
 cont-stays trace u (Branched n c) b x = go (kind_of u trace) x
   where
-    go : (o : Option UnitKind) → (option_and_then program_of_kind o ≡ Some b → ⊥) → cont_in b (branched (kept trace) n o).conts ≡ cont_of b (kept trace)
+    go : (o : Option UnitKind) → (option_and_then program_of_kind o ≡ Some b → ⊥) →
+        cont_in b (branched (kept trace) n o).conts ≡ cont_of b (kept trace)
     go None y = refl
     go (Some kind) y = stays-branched b (kept trace) kind y
 cont-stays trace u end b x = refl
 
-pub conts-kept : (trace : Trace) (u : Id) (end : End) (b : Id) → (program_of u trace ≡ Some b → ⊥) → In b (bases_in trace) → In b (bases_in (trace says Ended u end))
+pub conts-kept : (trace : Trace) (u : Id) (end : End) (b : Id) → (program_of u trace ≡ Some b → ⊥) → In b (bases_in trace) →
+    In b (bases_in (trace says Ended u end))
 conts-kept trace u end b x h = go (cont_of b (kept (trace says Ended u end))) refl
   where
     go : (o : Option Cont) → cont_of b (kept (trace says Ended u end)) ≡ o → In b (bases_in (trace says Ended u end))
     go None e = absurd (in-due b (kept trace).conts h (ap (option_map (λ c. c.next)) (sym (cont-stays trace u end b x) ∙ e)))
     go (Some c) e = due-in b c.next (kept (trace says Ended u end)).conts (ap (option_map (λ c. c.next)) e)
 
-drained-step : (trace : Trace) (e : Event) → Sound trace → Fits trace e → phase (trace says e) ≡ Opening → (v : Id) → is_open (trace says e) v ≡ true → Drained (trace says e) v
+drained-step : (trace : Trace) (e : Event) → Sound trace → Fits trace e → phase (trace says e) ≡ Opening → (v : Id) →
+    is_open (trace says e) v ≡ true → Drained (trace says e) v
 drained-step trace (Opened boot n) s f p v o = inl (let l : v.boot ≤ (kept trace).boot = old-fallen (phase trace) v (fresh_unit trace) (s.older v (open-named trace v o)) in let g : (kept trace).boot < boot = f.1 in omega arith)
 drained-step trace (Down why) s f p v o = cc
 drained-step trace Ready s f p v o = cc
