@@ -9,7 +9,7 @@ use Rattle.salt_ast.specs.declared.trees.Statement.TheVariants as statement
 use Rattle.salt_model.specs.After.{kept}
 use Rattle.salt_model.specs.Computing.{computing}
 use Rattle.salt_model.specs.Scripts.{at, begin, call, go, insert_acct, int, key_is, set_bal}
-use Rattle.salt_model.specs.Trace.{Trace, ◌says◌}
+use Rattle.salt_model.specs.Trace.{Trace, Tree, ◌asks◌, ◌says◌}
 use Rattle.salt_model.specs.Walk.{completed, printed, printed_of, walk}
 use Rattle.salt_model.specs.declared.events.Event.TheVariants as event
 use Rattle.salt_model.specs.declared.events.Why.TheVariants as why
@@ -131,3 +131,21 @@ drained_printed : drop 14 (printed_of (completed 40 stopped)) ≡
     codes "ready" ∷ []
 unfolding computing
 drained_printed = refl
+
+-- A stop at the decision of a failure: the opening finds it undone, and no try is used, or done.
+
+abbrev at_failure : Trace
+at_failure = completed 2 (walk accepted asks Tree (go 1)) says event.Down why.Stopped
+
+failure_undone : standing (completed 1 (at_failure says event.Opened 2 5)) ≡ (2, 1) ∷ []
+unfolding computing
+failure_undone = refl
+
+failure_done : standing (completed 1 (at_failure says event.Opened 2 6)) ≡ (2, 0) ∷ []
+unfolding computing
+failure_done = refl
+
+failure_done_printed : drop 16 (printed_of (completed 2 (at_failure says event.Opened 2 6))) ≡
+    codes "down stopped" ∷ codes "opened 2 6" ∷ codes "u1.4 branched 6 check" ∷ codes "u2.1 began b1.1 part 2" ∷ []
+unfolding computing
+failure_done_printed = refl
