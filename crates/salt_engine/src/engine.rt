@@ -6,7 +6,7 @@ ghost use Rattle.salt_ast.specs.declared.trees.Statement.{Statement};
 ghost use Rattle.salt_model.specs.After.{kept};
 ghost use Rattle.salt_model.specs.Honest.{cause_in};
 ghost use Rattle.salt_model.specs.Kept.{nothing_kept};
-ghost use Rattle.salt_model.specs.Trace.{Trace, Rejected};
+ghost use Rattle.salt_model.specs.Trace.{Rejected, Trace, Tree};
 ghost use Rattle.salt_model.specs.Units.{unit_count};
 ghost use Rattle.salt_model.specs.Played.{Tells, empty_start};
 ghost use Rattle.salt_model.specs.Segments.{IsComplete};
@@ -14,7 +14,7 @@ ghost use Rattle.salt_model.specs.Tables.{Tables, with_changes};
 ghost use Rattle.salt_model.specs.declared.events.Event.{Event};
 ghost use Rattle.salt_engine.specs.Execute.{changes_of};
 ghost use Rattle.salt_engine.specs.Schema.{request_refusal};
-ghost use Rattle.salt_engine.specs.Served.{IsTaskOf, IsWellFormed, asked_of, is_plain_table};
+ghost use Rattle.salt_engine.specs.Served.{IsTaskOf, IsWellFormed, is_plain_table, served};
 
 use crate::execute::{Added, Outcome, PlacedRows, execute};
 use crate::request::{Request, Task, request_in};
@@ -238,8 +238,8 @@ impl Engine {
     pub fn step(&mut self, line: &Line, story: &mut Story) -> Result<(), AllocError>
         requires units { self.old.units < 2 ^ 64 - 1 }
         requires decisions { self.old.decisions < 2 ^ 64 - 1 }
-        ensures segment { OnOk result (GoesOn self.old story.old (asked_of line.now) self.new story.new) }
-        ensures broken_off { OnErr result (BreaksOff self.old story.old (asked_of line.now) story.new) }
+        ensures segment { OnOk result (GoesOn self.old story.old (served (Tree line.now)) self.new story.new) }
+        ensures broken_off { OnErr result (BreaksOff self.old story.old (served (Tree line.now)) story.new) }
         ensures rise { OnOk result (NumbersRise self.old self.new) }
     {
         let Some(request) = request_in(line) else {
@@ -253,8 +253,8 @@ impl Engine {
 
     /// Appends the refusal of a line's text. Where memory runs out, the story is as it was.
     pub fn refuse(&self, refusal: Refusal, story: &mut Story) -> Result<(), AllocError>
-        ensures segment { OnOk result (GoesOn self.now story.old (Rejected refusal) self.now story.new) }
-        ensures broken_off { OnErr result (BreaksOff self.now story.old (Rejected refusal) story.new) }
+        ensures segment { OnOk result (GoesOn self.now story.old (served (Rejected refusal)) self.now story.new) }
+        ensures broken_off { OnErr result (BreaksOff self.now story.old (served (Rejected refusal)) story.new) }
         ensures unchanged { OnErr result (story.new ≡ story.old) }
     {
         story.push(Event::Refused(refusal))
