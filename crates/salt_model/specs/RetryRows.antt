@@ -8,12 +8,15 @@ use Rattle.salt_ast.specs.declared.trees.Op.TheVariants as op
 use Rattle.salt_ast.specs.declared.trees.Statement.TheVariants as statement
 use Rattle.salt_model.specs.After.{kept}
 use Rattle.salt_model.specs.Computing.{computing}
-use Rattle.salt_model.specs.Scripts.{at, begin, call, go, insert_acct, int, key_is, set_bal}
+use Rattle.salt_model.specs.Kept.{IsWithinTries, WellKept}
+use Rattle.salt_model.specs.Scripts.{at, base, begin, call, go, insert_acct, int, key_is, set_bal}
 use Rattle.salt_model.specs.Trace.{Trace, Tree, ◌asks◌, ◌says◌}
 use Rattle.salt_model.specs.Walk.{completed, printed, printed_of, walk}
 use Rattle.salt_model.specs.declared.events.Event.TheVariants as event
 use Rattle.salt_model.specs.declared.events.Why.TheVariants as why
 use Rattle.salt_values.specs.declared.cont.Cont.{Cont}
+use Rattle.std.proofs.Common.{lit≤}
+use Rattle.std.proofs.Math.Nat.{not-suc-le_self}
 use Rattle.std.specs.Prelude.{List, [], codes, drop, map, pos, refl, ℕ, ◌++◌, ◌∷◌, ◌≡◌}
 
 -- An account that is nearly full, and a payment into it: its second part fails, and is to be tried once more.
@@ -53,6 +56,16 @@ standing trace = map (λ (c : Cont). (c.next, c.tries)) (kept trace).conts
 accepted_standing : standing (walk accepted) ≡ (2, 1) ∷ []
 unfolding computing
 accepted_standing = refl
+
+-- what is kept here is as a start has to be
+accepted_well_kept : WellKept (kept (walk accepted))
+unfolding computing
+accepted_well_kept = record { boots = (lit≤ tt, tt); accepted = (tt, lit≤ tt, tt); defined = (refl, tt); tries = (lit≤ tt, tt) }
+
+-- more tries than the part's are not
+too_many : IsWithinTries (kept (walk accepted)) (record { base = base 1; accepted = 5; program = codes "pay"; args = []; vars = []; next = 2; tries = 2 }) → ⊥
+unfolding computing
+too_many h = not-suc-le_self 1 h
 
 failed_once_standing : standing (walk failed_once) ≡ (2, 0) ∷ []
 unfolding computing
