@@ -180,7 +180,7 @@ module _ (k : Kept) where
           c.tries ≤ retries (at_number part (parts_of p))
       within c p e g =
           let due : option_map (λ (c : Cont). c.next) (Some c) ≡ Some part =
-              subst (λ o. option_map (λ (c : Cont). c.next) o ≡ Some part) e (d b part refl) in
+          subst (λ o. option_map (λ (c : Cont). c.next) o ≡ Some part) e (d b part refl) in
           let at : c.next ≡ part = cc in
           subst (λ m. c.tries ≤ retries (at_number m (parts_of p))) at (subst (λ q. c.tries ≤ retries_of q c.next) g (found-in P b c k.conts h e))
 
@@ -290,9 +290,9 @@ failed-uses k n o b part c tries kind e at left d = subst (λ q. cont_of b (bran
 uses-try : (trace : Trace) (e : Event) → IsOfOpen trace e → Stand trace → AreDefined (kept trace) (kept trace).conts → UsesTry trace e
 uses-try trace (Ended u (Branched n x)) o s d = λ b part c tries kind e left.
     let due : option_map (λ (c : Cont). c.next) (Some c) ≡ Some part =
-        subst (λ q. option_map (λ (c : Cont). c.next) q ≡ Some part) e (s u b part o kind) in
+    subst (λ q. option_map (λ (c : Cont). c.next) q ≡ Some part) e (s u b part o kind) in
     failed-uses (kept trace) n (kind_of u trace) b part c tries kind e (cc) left
-        (found-in (λ c. IsKeptProgram (kept trace) c.program) b c (kept trace).conts d e)
+    (found-in (λ c. IsKeptProgram (kept trace) c.program) b c (kept trace).conts d e)
 uses-try trace e o s d = tt
 
 pub tries-used : (trace : Trace) → IsPlayed trace → OfBoots (start_of trace).kept → AreDefined (start_of trace).kept (start_of trace).kept.conts →
@@ -300,5 +300,8 @@ pub tries-used : (trace : Trace) → IsPlayed trace → OfBoots (start_of trace)
 tries-used (from k) p w h = tt
 tries-used (trace asks asked) p w h = tries-used trace p.0 w h
 tries-used (trace turns b) p w h = tries-used trace p.0 w h
-tries-used (trace says e) p w h = (tries-used trace p.0 w h, uses-try trace e (fits-open trace e (may-fit trace e (holds trace p.0 w).comes p.1))
-    (stand trace p.0 w) (defined-kept trace h))
+tries-used (trace says e) p w h = (
+  tries-used trace p.0 w h,
+  uses-try trace e (fits-open trace e (may-fit trace e (holds trace p.0 w).comes p.1))
+      (stand trace p.0 w) (defined-kept trace h),
+)
