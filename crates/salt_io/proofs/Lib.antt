@@ -1,3 +1,4 @@
+pub mod Collecting
 pub mod Ends
 pub mod HowFar
 pub mod LineTexts

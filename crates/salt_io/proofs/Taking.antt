@@ -1,5 +1,5 @@
 -- Bytes that are taken from a source, and a reader's array.
-use Rattle.std.proofs.Common.{◌≡◌, ℕ, ◌+◌, ◌-◌, ◌<◌, ◌≤◌, List, [], ◌∷◌, ◌++◌, length, take, drop, Option, Some, None, refl, sym, ◌∙◌, ap, append_assoc, add-one, arith, drop-cons, slice_index_or, suc}
+use Rattle.std.proofs.Common.{◌≡◌, append-nil, ℕ, ◌+◌, ◌-◌, ◌<◌, ◌≤◌, List, [], ◌∷◌, ◌++◌, length, take, drop, Option, Some, None, refl, sym, ◌∙◌, ap, append_assoc, add-one, arith, drop-cons, slice_index_or, suc}
 use Rattle.std.proofs.Math.Seq.{take-add, take-append_seam, take-length}
 use Rattle.std.proofs.lemmas.List.{take-append-drop, drop-drop, length-drop, length-take-le}
 use Rattle.salt_io.specs.Streams.{bytes_before, Takes, Gains, GainsShort}
@@ -46,7 +46,11 @@ all-left bytes at = rw (← long) (take-length (drop at bytes)) where
   long : length (drop at bytes) ≡ length bytes - at
   long = length-drop at bytes
 
-gains-append : (a b c : Option (List ℕ)) (first second : List ℕ) → Gains a first b → Gains b second c → Gains a (first ++ second) c
+pub gains-none : (held : Option (List ℕ)) → Gains held [] held
+gains-none None = refl
+gains-none (Some bytes) = ap Some (sym (append-nil bytes))
+
+pub gains-append : (a b c : Option (List ℕ)) (first second : List ℕ) → Gains a first b → Gains b second c → Gains a (first ++ second) c
 gains-append None b c first second p q = rw (q, p) refl
 gains-append (Some held) b c first second p q = rw (q, p) (ap Some (append_assoc held first second))
 

@@ -1,6 +1,7 @@
 //! Where bytes come from and go to: sources, sinks, the lines of a script, and the devices.
 #![tactic(auto)]
 
+mod buffer;
 mod calls;
 mod disks;
 mod line_text;
@@ -10,6 +11,7 @@ mod no_disks;
 mod std_streams;
 mod streams;
 
+pub use buffer::Buffer;
 pub use disks::{DiskErr, Disks};
 pub use lines::{LineErr, Lines, Next, lines_join};
 pub use memory::{MemSink, MemSource};
