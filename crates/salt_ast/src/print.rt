@@ -10,7 +10,7 @@ use crate::appender::Appender;
 use crate::printer::{Canonical, Printer};
 use crate::programs::ProgramDef;
 use crate::trees::{Expr, Statement, TableDef};
-use salt_io::{IoFailed, Sink};
+use salt_io::{IoFailed, Sink, WriteBuffer};
 use salt_values::{Name, Value};
 use std::alloc::AllocError;
 use std::mem;
@@ -98,9 +98,11 @@ fn send<T: Canonical, K: Sink>(sink: &mut K, tree: &T) -> Result<(), IoFailed>
 {
     let mut out = Printer {
         sink,
+        waiting: WriteBuffer::new(),
         outcome: Ok(()),
     };
     tree.print(&mut out);
+    out.flush();
     out.outcome
 }
 

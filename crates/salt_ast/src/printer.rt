@@ -1,18 +1,19 @@
 //! A sink that is written to until a write fails, and what has a text that is written to it.
 
-ghost use Rattle.std.specs.Prelude.{List, ℕ};
+ghost use Rattle.std.specs.Prelude.{◌≡◌, [], List, OnOk, ℕ};
 ghost use Rattle.salt_ast.specs.Prints.{Prints};
 ghost use Rattle.salt_ast.specs.Texts.{between_commas, preceded};
 
 use itoa::{Buffer, Integer};
-use salt_io::{IoFailed, Sink, write_whole};
+use salt_io::{IoFailed, Sink, WriteBuffer};
 use salt_values::Bytes;
 
-/// A sink, and the outcome of the writes to it so far. After one that failed no more are made.
-/// Nothing that is printed takes memory.
+/// A sink, the bytes that wait to be written to it, and the outcome of the writes so far. After one
+/// that failed no more are made. Nothing that is printed takes memory.
 #[derive(Drop)]
 pub struct Printer<'a, K> {
     pub sink: &'a mut K,
+    pub waiting: WriteBuffer,
     pub outcome: Result<(), IoFailed>,
 }
 
@@ -26,12 +27,22 @@ pub trait Canonical {
 }
 
 impl<K: Sink> Printer<'_, K> {
+    /// Writes what waits.
+    pub fn flush(&mut self)
+        ensures prints { Prints K.held K.faults self.old self.new [] }
+        ensures empty { OnOk self.new.outcome (self.new.waiting ≡ []) }
+    {
+        if self.outcome.is_ok() {
+            self.outcome = self.waiting.flush(self.sink);
+        }
+    }
+
     /// Prints the bytes as they are.
     pub fn bytes(&mut self, bytes: &[u8])
         ensures { Prints K.held K.faults self.old self.new bytes.now }
     {
         if self.outcome.is_ok() {
-            self.outcome = write_whole(self.sink, bytes);
+            self.outcome = self.waiting.put(self.sink, bytes);
         }
     }
 

@@ -13,12 +13,12 @@ const ROOM: usize = 4096;
 /// Bytes that wait to be written to a sink, in an array of their own: no call takes memory. Contracts see these bytes. Each call is
 /// given the sink, which is the one of the calls before while bytes wait.
 #[derive(Drop)]
-pub struct Buffer {
+pub struct WriteBuffer {
     bytes: [u8; ROOM],
     end: usize,
 }
 
-impl Model for Buffer {
+impl Model for WriteBuffer {
     ghost use Rattle.std.specs.Prelude.{List, ℕ, ◌≤◌, take};
     ghost use Rattle.salt_io.specs.declared.buffer.TheConstants.{ROOM};
 
@@ -29,12 +29,12 @@ impl Model for Buffer {
     ghost invariant = { λ b. b.end ≤ ROOM };
 }
 
-impl Buffer {
+impl WriteBuffer {
     /// No byte waits.
     pub fn new() -> Self
         ensures { result ≡ [] }
     {
-        Buffer {
+        WriteBuffer {
             bytes: [0; ROOM],
             end: 0,
         }

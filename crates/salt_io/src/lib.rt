@@ -11,7 +11,7 @@ mod no_disks;
 mod std_streams;
 mod streams;
 
-pub use buffer::Buffer;
+pub use buffer::WriteBuffer;
 pub use disks::{DiskErr, Disks};
 pub use lines::{LineErr, Lines, Next, lines_join};
 pub use memory::{MemSink, MemSource};
