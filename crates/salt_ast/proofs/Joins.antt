@@ -107,10 +107,15 @@ pub ◌⨾◌ : {K : Type 0} {held : K → Option (List ℕ)} {faults : K → �
       first.printed second.printed;
 }
 
--- nothing waited, a text was printed and what waits was written: the text was sent
-pub all_sent : {K : Type 0} {held : K → Option (List ℕ)} {faults : K → ℕ} {text v w : List ℕ} {s t : K} (r : Result (Unit {0}) IoFailed) → v ≡ [] →
-    OnOk r (w ≡ []) → Collects held faults s v t w r (text ++ []) → Sends held faults s t r text
-all_sent {held = held} {text = text} {v = v} {w = w} {s = s} {t = t} (Ok d) none left c = record {
+-- what holds anyway holds where a call succeeded
+pub on_ok : (r : Result (Unit {0}) IoFailed) (P : Type 0) → P → OnOk r P
+on_ok (Ok d) P h = h
+on_ok (Err e) P h = tt
+
+-- nothing waited, a text was printed, and nothing waits: the text was sent
+pub all_sent : {K : Type 0} {held : K → Option (List ℕ)} {faults : K → ℕ} {text printed v w : List ℕ} {s t : K} (r : Result (Unit {0}) IoFailed) →
+    v ≡ [] → OnOk r (w ≡ []) → printed ≡ text → Collects held faults s v t w r printed → Sends held faults s t r text
+all_sent {held = held} {text = text} {printed = printed} {s = s} {t = t} (Ok d) none left is c = record {
   ok = subst (λ x. Gains (held s) x (held t)) (sym whole) c.ok.gained;
   same = c.same;
   err = tt;
@@ -119,11 +124,11 @@ all_sent {held = held} {text = text} {v = v} {w = w} {s = s} {t = t} (Ok d) none
 }
   where
     whole : text ≡ c.ok.part
-    whole = sym (append-nil text) ∙ ap (λ x. x ++ (text ++ [])) (sym none) ∙ c.ok.all ∙ ap (λ x. c.ok.part ++ x) left ∙ append-nil c.ok.part
-all_sent {held = held} {text = text} {v = v} {s = s} {t = t} (Err e) none left c = record {
+    whole = sym is ∙ ap (λ x. x ++ printed) (sym none) ∙ c.ok.all ∙ ap (λ x. c.ok.part ++ x) left ∙ append-nil c.ok.part
+all_sent {held = held} {printed = printed} {s = s} {t = t} (Err e) none left is c = record {
   ok = tt;
   same = tt;
-  err = subst (λ x. GainsShort (held s) x (held t)) (ap (λ x. x ++ (text ++ [])) none ∙ append-nil text) c.err;
+  err = subst (λ x. GainsShort (held s) x (held t)) (ap (λ x. x ++ printed) none ∙ is) c.err;
   failed = c.failed;
   later = c.later;
 }

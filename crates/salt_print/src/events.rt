@@ -1,6 +1,6 @@
 //! Events and stories.
 
-ghost use Rattle.std.specs.Prelude.{◌++◌, codes};
+ghost use Rattle.std.specs.Prelude.{◌++◌, ◌≡◌, [], OnOk, codes};
 ghost use Rattle.salt_ast.specs.Prints.{Prints};
 ghost use Rattle.salt_ast.specs.ProgramTexts.{base_text};
 ghost use Rattle.salt_ast.specs.Texts.{preceded, statement_text};
@@ -12,7 +12,7 @@ use crate::names::{print_owners, print_unit};
 use crate::parts::{print_answer, print_end, print_kind, print_refusal, print_why};
 use crate::shown::print_shown;
 use salt_ast::{Canonical, Printer, Statement, TableDef};
-use salt_io::{IoFailed, Sink};
+use salt_io::{IoFailed, Sink, WriteBuffer};
 use salt_model::{Answer, Event};
 use salt_values::{Bytes, Id};
 
@@ -107,39 +107,44 @@ fn print_event_line<K: Sink>(out: &mut Printer<'_, K>, schema: &[TableDef], even
     }
 }
 
-/// Prints an event's text.
+/// Prints an event's text, and writes what waits: who reads the sink sees an event when it is told.
 fn print_event<K: Sink>(out: &mut Printer<'_, K>, schema: &[TableDef], event: &Event)
-    ensures { Prints K.held K.faults out.old out.new (event_text schema.now event.now) }
+    ensures prints { Prints K.held K.faults out.old out.new (event_text schema.now event.now) }
+    ensures empty { OnOk out.new.outcome (out.new.waiting ≡ []) }
 {
     print_event_line(out, schema, event);
     out.bytes(b"\n");
+    out.flush();
 }
 
 /// Prints the texts of events, one after another.
 fn print_events<K: Sink>(out: &mut Printer<'_, K>, schema: &[TableDef], events: &[Event])
-    ensures { Prints K.held K.faults out.old out.new (story_text schema.now events.now) }
+    requires { out.old.waiting ≡ [] }
+    ensures prints { Prints K.held K.faults out.old out.new (story_text schema.now events.now) }
+    ensures empty { OnOk out.new.outcome (out.new.waiting ≡ []) }
 {
     for event in events {
         print_event(out, schema, event);
     }
 }
 
-/// Appends an event's text to what the sink holds; the schema names the tables of locks. It takes no
-/// memory. `IoFailed` where a write failed: the sink has counted the fault, and some first part of
+/// Appends an event's text to what the sink holds, in one write for each 4,096 bytes where each takes
+/// all that it is given; the schema names the tables of locks. It takes no memory. `IoFailed` where a write failed: the sink has counted the fault, and some first part of
 /// the text was written, with at least one byte left out.
 pub fn print<K: Sink>(sink: &mut K, event: &Event, schema: &[TableDef]) -> Result<(), IoFailed>
     ensures { Sends K.held K.faults sink.old sink.new result (event_text schema.now event.now) }
 {
     let mut out = Printer {
         sink,
+        waiting: WriteBuffer::new(),
         outcome: Ok(()),
     };
     print_event(&mut out, schema, event);
     out.outcome
 }
 
-/// Appends the texts of events, one after another, to what the sink holds; the schema names the
-/// tables of locks. It takes no memory. `IoFailed` where a write failed: the sink has counted the
+/// Appends the texts of events, one after another, to what the sink holds, each written by its end;
+/// the schema names the tables of locks. It takes no memory. `IoFailed` where a write failed: the sink has counted the
 /// fault, and some first part of the texts was written, with at least one byte left out.
 pub fn print_story<K: Sink>(
     sink: &mut K,
@@ -150,6 +155,7 @@ pub fn print_story<K: Sink>(
 {
     let mut out = Printer {
         sink,
+        waiting: WriteBuffer::new(),
         outcome: Ok(()),
     };
     print_events(&mut out, schema, events);

@@ -468,12 +468,26 @@ fn what_is_shown(rt: HostRuntime) -> Result<(), Fail> {
     compare(&rt, rt.alloc(), &events, &lines)
 }
 
-// A sink that takes a byte at a time, so many of them, and then fails.
+// A sink that takes so many bytes at a time, as many as it has room for, and then fails. It counts its writes.
 #[derive(Drop)]
 struct Narrow {
     bytes: Vec<u8>,
+    most: usize,
     room: usize,
+    writes: usize,
     faults: u64,
+}
+
+impl Narrow {
+    fn new(alloc: Global, most: usize, room: usize) -> Narrow {
+        Narrow {
+            bytes: Vec::new(alloc),
+            most,
+            room,
+            writes: 0,
+            faults: 0,
+        }
+    }
 }
 
 impl Sink for Narrow {
@@ -482,14 +496,15 @@ impl Sink for Narrow {
     ghost faults = { λ sink. sink.faults };
 
     fn write(&mut self, bytes: &[u8]) -> Result<usize, IoFailed> {
-        let Some(first) = bytes.first() else {
-            return Ok(0);
-        };
-        if self.bytes.len() >= self.room || self.bytes.push(*first).is_err() {
+        let left = self.room.saturating_sub(self.bytes.len());
+        let taken = bytes.len().min(self.most).min(left);
+        let is_stuck = taken == 0 && !bytes.is_empty();
+        if is_stuck || self.bytes.extend_from_slice(&bytes[..taken]).is_err() {
             self.faults = self.faults.saturating_add(1);
             return Err(IoFailed);
         }
-        Ok(1)
+        self.writes = self.writes.saturating_add(1);
+        Ok(taken)
     }
 }
 
@@ -502,16 +517,37 @@ fn a_write_that_fails(rt: HostRuntime) -> Result<(), Fail> {
     events.push(Event::Armed(pairs(alloc)?))?;
     let said = b"u1.2 did insert into acct values (-5, 'it''s') -> count 1\narmed 1 0 1000000 4\n";
     for room in 0..=said.len() {
-        let mut sink = Narrow {
-            bytes: Vec::new(alloc),
-            room,
-            faults: 0,
-        };
+        let most = 1 + room % 7;
+        let mut sink = Narrow::new(alloc, most, room);
         let printed = print_story(&mut sink, events.as_slice(), &[]);
         let fails = room < said.len();
         assert_eq!(rt; printed.is_err(), fails);
         assert_eq!(rt; sink.bytes.as_slice(), &said[..room]);
         assert_eq!(rt; sink.faults, u64::from(fails));
+    }
+    Ok(())
+}
+
+// Each event is one write where it has no more than 4,096 bytes, and else one for each 4,096 of them.
+#[test]
+fn writes_of_events(rt: HostRuntime) -> Result<(), Fail> {
+    let alloc = rt.alloc();
+    for (length, writes) in [(4085, 3), (4086, 4), (12_277, 5), (12_278, 6)] {
+        let mut story = Story::new(alloc);
+        story.push(did(insert(alloc)?, Answer::Count(1)))?;
+        story.push(Event::Armed(pairs(alloc)?))?;
+        story.push(Event::Defined {
+            number: 1,
+            text: Items::from_vec(vec![in alloc; b'x'; length]?),
+        })?;
+        let mut sink = Narrow::new(alloc, usize::MAX, usize::MAX);
+        assert!(rt; print_story(&mut sink, story.as_slice(), &[]).is_ok());
+        assert_eq!(rt; sink.writes, writes);
+        let mut sink = Narrow::new(alloc, usize::MAX, usize::MAX);
+        for event in story.as_slice() {
+            assert!(rt; print(&mut sink, event, &[]).is_ok());
+        }
+        assert_eq!(rt; sink.writes, writes);
     }
     Ok(())
 }

@@ -1,7 +1,11 @@
-use Rattle.std.proofs.Common.{take}
+use Rattle.std.proofs.Common.{[], take, ◌≡◌}
+use Rattle.std.specs.Prelude.{OnOk}
 use Rattle.salt_model.specs.EventTexts.{story_text}
 use Rattle.salt_ast.specs.Prints.{Prints}
 use Rattle.salt_print.proofs.events.print_events.Given as goal
 
 abbrev pub invariant-loop-event : goal.invariant-loop-event
-invariant-loop-event g l = Prints g.K.Sink.held g.K.Sink.faults l.fn.out l.out (story_text l.fn.schema (take l.event-index l.events))
+invariant-loop-event g l = record {
+  prints : Prints g.K.Sink.held g.K.Sink.faults l.fn.out l.out (story_text l.fn.schema (take l.event-index l.events));
+  empty : OnOk l.out.outcome (l.out.waiting ≡ []);
+}
