@@ -1,0 +1,52 @@
+-- Where a statement's text ends, and which statement it is of.
+use Rattle.salt_ast.specs.Limits.{statement_limit, table_limit}
+use Rattle.salt_ast.specs.Spelling.{SpellsShallowStatement, SpellsShallowTable, SpellsStatement, SpellsTable}
+use Rattle.salt_ast.specs.Texts.{statement_text, table_text}
+use Rattle.salt_ast.specs.declared.trees.Statement.{Statement}
+use Rattle.salt_ast.specs.declared.trees.TableDef.{TableDef}
+use Rattle.salt_model.specs.Printable.{IsSpelled}
+use Rattle.salt_parse.proofs.Up.{statement_up, within_up}
+use Rattle.salt_texts.proofs.Arrows.{lexed_after}
+use Rattle.salt_texts.specs.Arrow.{after, open_place}
+use Rattle.salt_texts.proofs.Quiet.{Quiet, statement_calm, within_firm}
+use Rattle.salt_tokens.specs.Spelling.{sign_of, sign_spelling}
+use Rattle.salt_tokens.specs.Symbols.{symbols_of}
+use Rattle.salt_tokens.specs.declared.sign.Sign.{Sign}
+use Rattle.std.proofs.Common.{List, None, Some, [], ap, append-nil, arith, false, subst, sym, ℕ, ◌++◌, ◌∙◌, ◌∷◌, ◌≡◌}
+use Rattle.std.proofs.lemmas.List.{append_cancel_right}
+
+-- what the crates below say of tokens and of the texts of statements and tables
+pub record Laws : Type 0 where
+  pub signs : (s : Sign) → sign_of (sign_spelling s) ≡ Some s
+  pub statement : (bytes : List ℕ) (st : Statement) → SpellsStatement bytes st → statement_limit st ≡ None → SpellsShallowStatement (statement_text st) st
+  pub table : (bytes : List ℕ) (d : TableDef) → SpellsTable bytes d → table_limit d ≡ None → SpellsShallowTable (table_text d) d
+  pub one : (bytes : List ℕ) (a b : Statement) → SpellsStatement bytes a → SpellsStatement bytes b → a ≡ b
+
+module _ (laws : Laws) where
+  pub shallow : (st : Statement) → IsSpelled st → SpellsShallowStatement (statement_text st) st
+  shallow st h = laws.statement h.text st h.spells h.within
+
+  spelled : (st : Statement) → IsSpelled st → SpellsStatement (statement_text st) st
+  spelled st h =
+      let s = shallow st h in
+      record {
+        tokens = s.tokens;
+        lexes = s.lexes;
+        spelled = statement_up (within_up 64 128 (omega arith)) (within_up 64 127 (omega arith)) (symbols_of s.tokens) st s.spelled;
+      }
+
+  quiet : (st : Statement) (h : IsSpelled st) → Quiet false (symbols_of (shallow st h).tokens)
+  quiet st h =
+      let s = shallow st h in
+      subst (Quiet false) (append-nil (symbols_of s.tokens)) (statement_calm (within_firm 64) (within_firm 64) (symbols_of s.tokens) st s.spelled [] tt)
+
+  -- what stands behind the first arrow outside quotes stands behind the statement
+  pub arrow_found : (st : Statement) (x : List ℕ) → IsSpelled st → after open_place (statement_text st ++ (32 ∷ 45 ∷ 62 ∷ x)) ≡ x
+  arrow_found st x h = let s = shallow st h in lexed_after laws.signs s.lexes false (quiet st h) (45 ∷ 62 ∷ x)
+
+  pub statement_one : (a b : Statement) (x y : List ℕ) → IsSpelled a → IsSpelled b → statement_text a ++ (32 ∷ 45 ∷ 62 ∷ x) ≡ statement_text b ++ (32 ∷ 45 ∷ 62 ∷ y) → (a ≡ b) × (x ≡ y)
+  statement_one a b x y g h e =
+      let rest = sym (arrow_found a x g) ∙ ap (after open_place) e ∙ arrow_found b y h in
+      let aligned = e ∙ ap (λ (z : List ℕ). statement_text b ++ (32 ∷ 45 ∷ 62 ∷ z)) (sym rest) in
+      let same = append_cancel_right (statement_text a) (statement_text b) (32 ∷ 45 ∷ 62 ∷ x) aligned in
+      (laws.one (statement_text a) a b (spelled a g) (subst (λ (l : List ℕ). SpellsStatement l b) (sym same) (spelled b h)), rest)
