@@ -30,6 +30,8 @@ pub mod Decided
 pub mod Releasing
 pub mod AsDeclared
 pub mod Ends
+pub mod Naming
+pub mod Sized
 pub mod Printable
 pub mod Summary
 pub mod Walk

@@ -1,7 +1,7 @@
--- Which events print as what they are: their names are names, their statements and definitions are spelled and pass no limit,
--- and their lists are as printed forms have them.
+-- Which stories print as what they are: the schema names its tables, the names of events are names, their statements and definitions are
+-- spelled and pass no limit, their lists are as printed forms have them, their numbers are below 2^64, and their values are values.
 use Rattle.salt_values.specs.declared.limits.TheConstants.{PARTS_MOST}
-use Rattle.salt_ast.specs.Limits.{name_passed, statement_limit, table_limit}
+use Rattle.salt_ast.specs.Limits.{statement_limit, table_limit}
 use Rattle.salt_ast.specs.Paths.{blocks}
 use Rattle.salt_ast.specs.ProgramLimits.{program_limit}
 use Rattle.salt_ast.specs.ProgramTexts.{base_text, program_text}
@@ -11,6 +11,8 @@ use Rattle.salt_ast.specs.declared.programs.ProgramDef.{ProgramDef}
 use Rattle.salt_ast.specs.declared.trees.Field.{Field}
 use Rattle.salt_ast.specs.declared.trees.Statement.{Statement}
 use Rattle.salt_ast.specs.declared.trees.TableDef.{TableDef}
+use Rattle.salt_model.specs.Naming.{IsName, IsNaming}
+use Rattle.salt_model.specs.Sized.{IsSizedEvent}
 use Rattle.salt_model.specs.Words.{Every, is_empty}
 use Rattle.salt_model.specs.declared.events.Event.TheVariants as event
 use Rattle.salt_model.specs.declared.events.Event.{Event}
@@ -21,14 +23,8 @@ use Rattle.salt_model.specs.declared.events.UnitKind.{UnitKind}
 use Rattle.salt_model.specs.declared.shown.Item.TheVariants as item
 use Rattle.salt_model.specs.declared.shown.Item.{Item}
 use Rattle.salt_ranges.specs.declared.range.KeyRange.{KeyRange}
-use Rattle.salt_tokens.specs.Symbols.{HasSymbols, name}
 use Rattle.salt_values.specs.declared.id.Id.{Id}
 use Rattle.std.specs.Prelude.{List, None, [], false, is_none, length, ℕ, ⊤, ◌<◌, ◌∷◌, ◌≡◌, ◌≤◌, ◌⊎◌}
-
--- the bytes are a name, and not too long
-pub record IsName (n : List ℕ) : Type 0 where
-  pub token : HasSymbols n (name n ∷ [])
-  pub short : name_passed n ≡ None
 
 -- some text spells the statement, and no limit is passed
 pub record IsSpelled (st : Statement) : Type 0 where
@@ -83,16 +79,22 @@ abbrev pub IsPrintableItem : List TableDef → Item → Type 0
 IsPrintableItem schema (item.Lock l) = (l.table < length schema) × IsPrintableRange l.range
 IsPrintableItem schema (item.Base b n at) = IsName n
 
-abbrev pub IsPrintable : List TableDef → Event → Type 0
-IsPrintable schema (event.Began u k) = IsPrintableKind k
-IsPrintable schema (event.Did u st answer) = IsSpelled st
-IsPrintable schema (event.Waits u owners) = is_empty owners ≡ false
-IsPrintable schema (event.Released bs) = is_empty bs ≡ false
-IsPrintable schema (event.Defined n text) = IsDefinition text
-IsPrintable schema (event.Refused r) = IsPrintableRefusal r
-IsPrintable schema (event.Armed pairs) = is_empty pairs ≡ false
-IsPrintable schema (event.Shown items) = Every (IsPrintableItem schema) items
-IsPrintable schema e = ⊤
+-- the event is of a form that is printed, whatever its numbers and values
+abbrev pub HasPrintedForm : List TableDef → Event → Type 0
+HasPrintedForm schema (event.Began u k) = IsPrintableKind k
+HasPrintedForm schema (event.Did u st answer) = IsSpelled st
+HasPrintedForm schema (event.Waits u owners) = is_empty owners ≡ false
+HasPrintedForm schema (event.Released bs) = is_empty bs ≡ false
+HasPrintedForm schema (event.Defined n text) = IsDefinition text
+HasPrintedForm schema (event.Refused r) = IsPrintableRefusal r
+HasPrintedForm schema (event.Armed pairs) = is_empty pairs ≡ false
+HasPrintedForm schema (event.Shown items) = Every (IsPrintableItem schema) items
+HasPrintedForm schema e = ⊤
 
-abbrev pub IsPrintableStory : List TableDef → List Event → Type 0
-IsPrintableStory schema story = Every (IsPrintable schema) story
+pub record IsPrintable (schema : List TableDef) (e : Event) : Type 0 where
+  pub form : HasPrintedForm schema e
+  pub sizes : IsSizedEvent e
+
+pub record IsPrintableStory (schema : List TableDef) (story : List Event) : Type 0 where
+  pub naming : IsNaming schema
+  pub events : Every (IsPrintable schema) story

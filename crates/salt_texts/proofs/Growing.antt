@@ -6,11 +6,11 @@ use Rattle.salt_ast.specs.Tables as table
 use Rattle.salt_ast.specs.Words.{is_among}
 use Rattle.salt_ast.specs.declared.trees.Expr.{Expr}
 use Rattle.salt_ast.specs.declared.trees.TableDef.{TableDef}
-use Rattle.salt_model.specs.Printable.{IsName, IsSpelledTable}
+use Rattle.salt_model.specs.Printable.{IsSpelledTable}
 use Rattle.salt_model.specs.Words.{Every}
 use Rattle.salt_texts.proofs.Names.{no_sign, word_is}
 use Rattle.salt_texts.proofs.Numbering.{first_fresh}
-use Rattle.salt_texts.specs.Naming.{IsNaming, table_names}
+use Rattle.salt_model.specs.Naming.{IsName, IsNaming, table_names}
 use Rattle.salt_tokens.specs.Pieces.{IsToken, Lexes, Piece, blank, ended, token}
 use Rattle.salt_tokens.specs.Spelling.{keyword_of, same_bytes, sign_of}
 use Rattle.std.specs.Option.{option_or}

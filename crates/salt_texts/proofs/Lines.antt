@@ -6,7 +6,7 @@ use Rattle.salt_ast.specs.declared.limit.LimitName.TheVariants as limit
 use Rattle.salt_ast.specs.declared.limit.LimitName.{LimitName}
 use Rattle.salt_ast.specs.declared.trees.TableDef.{TableDef}
 use Rattle.salt_model.specs.EventTexts.{answer_text, cause_text, cell_text, end_text, event_line, event_text, family_text, item_text, kind_text, mode_text, owner_text, place_text, range_text, refusal_text, table_name, unit_text, why_text}
-use Rattle.salt_model.specs.Printable.{IsName, IsPrintable, IsPrintableItem, IsPrintableKind, IsPrintableRefusal}
+use Rattle.salt_model.specs.Printable.{HasPrintedForm, IsPrintable, IsPrintableItem, IsPrintableKind, IsPrintableRefusal}
 use Rattle.salt_model.specs.Words.{Every}
 use Rattle.salt_model.specs.declared.events.Answer.TheVariants as answer
 use Rattle.salt_model.specs.declared.events.Answer.{Answer}
@@ -37,8 +37,8 @@ use Rattle.salt_texts.proofs.Parts.{unknown_inline}
 use Rattle.salt_texts.proofs.Numbering.{table_is_name}
 use Rattle.salt_texts.proofs.Statements.{Laws}
 use Rattle.salt_texts.specs.EventLines.{Inline, ended, event_lines, is_inline, item_line, lines_text}
-use Rattle.salt_texts.specs.Naming.{IsNaming}
-use Rattle.salt_texts.specs.Sized.{IsSizedAnswer, IsSizedEvent, IsSizedItem, IsSizedKind, IsSizedRow, IsValueIn}
+use Rattle.salt_model.specs.Naming.{IsName, IsNaming}
+use Rattle.salt_model.specs.Sized.{IsSizedAnswer, IsSizedEvent, IsSizedItem, IsSizedKind, IsSizedRow, IsValueIn}
 use Rattle.salt_tokens.specs.Bytes.{is_printable}
 use Rattle.salt_tokens.specs.Pieces.{Run, doubled}
 use Rattle.salt_values.specs.Text.{is_text}
@@ -245,8 +245,7 @@ module _ (laws : Laws) (schema : List TableDef) (naming : IsNaming schema) where
   items_inline [] g h = tt
   items_inline (i ∷ items) g h = (item_inline i g.0 h.0, items_inline items g.1 h.1)
 
-  -- no byte within a line of an event ends it
-  pub event_inline : (e : Event) → IsPrintable schema e → IsSizedEvent e → Every Inline (event_lines schema e)
+  event_inline : (e : Event) → HasPrintedForm schema e → IsSizedEvent e → Every Inline (event_lines schema e)
   event_inline (event.Began u k) g h = (run_append is_inline (unit_text u) (kind_text k) (unit_inline u) (kind_inline k g h.1), tt)
   event_inline (event.Did u st a) g h = (
     run_append is_inline (unit_text u) (codes " did " ++ (statement_text st ++ (codes " -> " ++ answer_text a))) (unit_inline u)
@@ -273,3 +272,7 @@ module _ (laws : Laws) (schema : List TableDef) (naming : IsNaming schema) where
   event_inline (event.Armed pairs) g h = (lead (codes "armed") (preceded (codes " ") stop_text pairs) refl (preceded_inline (λ o. Unit {0}) stop_text (λ o t. pair_inline o) (codes " ") pairs refl (always pairs)), tt)
   event_inline (event.Shown items) g h =
       every_append (map (item_line schema) items) ((codes "shown " ++ decimal (length items)) ∷ []) (items_inline items g h) (lead (codes "shown ") (decimal (length items)) refl (decimal_inline (length items)), tt)
+
+  -- no byte within a line of an event ends it
+  pub lines_inline : (e : Event) → IsPrintable schema e → Every Inline (event_lines schema e)
+  lines_inline e g = event_inline e g.form g.sizes

@@ -1,5 +1,5 @@
 -- Names.
-use Rattle.salt_model.specs.Printable.{IsName}
+use Rattle.salt_model.specs.Naming.{IsName}
 use Rattle.salt_texts.proofs.Clear.{Clear, Stops, run_one}
 use Rattle.salt_tokens.specs.Bytes.{is_letter, is_word}
 use Rattle.salt_tokens.specs.Pieces.{First, IsToken, Lexes, NotNext, Piece, Run, blank, ended, token}

@@ -3,9 +3,8 @@ use Rattle.salt_ast.specs.Judgement.{doubled_name}
 use Rattle.salt_ast.specs.Words.{is_among}
 use Rattle.salt_ast.specs.declared.trees.TableDef.{TableDef}
 use Rattle.salt_model.specs.EventTexts.{table_name}
-use Rattle.salt_model.specs.Printable.{IsName}
 use Rattle.salt_model.specs.Words.{Every}
-use Rattle.salt_texts.specs.Naming.{IsNaming, table_names}
+use Rattle.salt_model.specs.Naming.{IsName, IsNaming, table_names}
 use Rattle.salt_tokens.specs.Spelling.{same_bytes}
 use Rattle.std.proofs.Common.{Bool, List, None, Option, Some, [], ap, arith, cond, eq-eqb, false, length, refl, suc, sym, true, true≢false, zero, ℕ, ◌<◌, ◌∙◌, ◌∷◌, ◌≡◌, ◌||◌}
 

@@ -3,7 +3,7 @@ use Rattle.salt_ast.specs.Texts.{between_commas, value_text}
 use Rattle.salt_ast.specs.ProgramTexts.{row_text}
 use Rattle.salt_texts.proofs.Clear.{Clear, Stops, differ, listed_one}
 use Rattle.salt_texts.proofs.Numbers.{decimal_begins, decimal_clear, not_quote}
-use Rattle.salt_texts.specs.Sized.{IsSizedRow}
+use Rattle.salt_model.specs.Sized.{IsSizedRow}
 use Rattle.salt_tokens.specs.Pieces.{NotNext, doubled}
 use Rattle.salt_tokens.specs.Bytes.{is_digit}
 use Rattle.salt_values.specs.Value.{IsValue}
