@@ -2,13 +2,11 @@
 -- spelled and pass no limit, their lists are as printed forms have them, their numbers are below 2^64, and their values are values.
 use Rattle.salt_values.specs.declared.limits.TheConstants.{PARTS_MOST}
 use Rattle.salt_ast.specs.Limits.{statement_limit, table_limit}
-use Rattle.salt_ast.specs.Paths.{blocks}
 use Rattle.salt_ast.specs.ProgramLimits.{program_limit}
 use Rattle.salt_ast.specs.ProgramTexts.{base_text, program_text}
-use Rattle.salt_ast.specs.Spelling.{SpellsStatement, SpellsTable}
+use Rattle.salt_ast.specs.Spelling.{SpellsProgram, SpellsStatement, SpellsTable}
 use Rattle.salt_ast.specs.Texts.{table_text}
 use Rattle.salt_ast.specs.declared.programs.ProgramDef.{ProgramDef}
-use Rattle.salt_ast.specs.declared.trees.Field.{Field}
 use Rattle.salt_ast.specs.declared.trees.Statement.{Statement}
 use Rattle.salt_ast.specs.declared.trees.TableDef.{TableDef}
 use Rattle.salt_model.specs.Naming.{IsName, IsNaming}
@@ -37,19 +35,9 @@ pub record IsSpelledTable (d : TableDef) : Type 0 where
   pub spells : SpellsTable text d
   pub within : table_limit d ≡ None
 
-abbrev pub HasName : Field → Type 0
-HasName f = IsName f.name
-
--- a block has a statement, and each of its statements is spelled
-abbrev pub IsSpelledBlock : List Statement → Type 0
-IsSpelledBlock block = (is_empty block ≡ false) × Every IsSpelled block
-
 pub record IsSpelledProgram (p : ProgramDef) : Type 0 where
-  pub name : IsName p.name
-  pub params : Every HasName p.params
-  pub vars : Every HasName p.vars
-  pub parts : is_empty (blocks p.body) ≡ false
-  pub body : Every IsSpelledBlock (blocks p.body)
+  pub text : List ℕ
+  pub spells : SpellsProgram text p
   pub within : program_limit p ≡ None
 
 -- the canonical text of a table or a program

@@ -82,6 +82,7 @@ value_inline (value.Int (negsuc n)) h = (refl, decimal_inline (suc n))
 value_inline (value.Text t) h =
     let r = test_parts (nat_le (length t) 255) (list_all text.is_printable t) h in
     (refl, run_append is_inline (doubled t) (39 ∷ []) (doubled_inline t (printable_run t r.1)) (refl, tt))
+value_inline value.Null h = known (codes "null") refl
 
 values_inline : (vs : List Value) → IsSizedRow vs → Inline (between_commas value_text vs)
 values_inline [] h = tt

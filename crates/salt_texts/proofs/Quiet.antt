@@ -1,12 +1,13 @@
 -- In the tokens of a statement no `>` and no `>=` comes behind a minus sign.
-use Rattle.salt_ast.specs.Grammar.{Atom, Conjunction, Expression, Left, Nots, Once, Sum, Within, alone, colon, literal, minus_int, more, named, not as not_of, one, pair, paren, plain, plus_int}
+use Rattle.salt_ast.specs.Grammar.{Atom, Conjunction, Expression, Left, Nots, Once, Sum, Within, alone, colon, is_not_null, is_null, literal, minus_int, more, named, not as not_of, one, pair, paren, plain, plus_int}
 use Rattle.salt_ast.specs.Statements as form
-use Rattle.salt_ast.specs.Statements.{Following, IsAnd, IsName, IsScan, IsSet, IsStatement, IsWhat, Listed}
+use Rattle.salt_ast.specs.Statements.{ColumnValue, FollowingBy, IsAnd, IsName, IsScan, IsSet, IsStatement, IsWhat, ListedBy}
 use Rattle.salt_ast.specs.declared.trees.Expr.{Expr}
 use Rattle.salt_ast.specs.declared.trees.Scan.{Scan}
 use Rattle.salt_ast.specs.declared.trees.Statement.{Statement}
 use Rattle.salt_tokens.specs.Symbols.{Symbols, Symbol, sign}
 use Rattle.salt_tokens.specs.declared.sign.Sign.TheVariants as mark
+use Rattle.salt_tokens.specs.declared.sign.Sign.{Sign}
 use Rattle.std.proofs.Common.{Bool, List, Option, [], append_assoc, false, refl, suc, true, zero, ℕ, ◌&&◌, ◌++◌, ◌∷◌, ◌≡◌}
 
 abbrev pub is_minus : Symbol → Bool
@@ -59,6 +60,8 @@ module _ {I : Symbols → Expr → Type 0} (firm : AreFirm I) where
   once_firm : (level : ℕ) → AreFirm (Once level I)
   once_firm level ts e (alone d) = firm ts e d
   once_firm level _ _ (pair {a = a} {b = b} {l = l} {r = r} d t is at k) = joined a b t (firm a l d) (firm b r k)
+  once_firm level _ _ (is_null {ts = ts} {e = e} d) = behind ts _ (firm ts e d) (λ more h. (refl, (refl, h)))
+  once_firm level _ _ (is_not_null {ts = ts} {e = e} d) = behind ts _ (firm ts e d) (λ more h. (refl, (refl, (refl, h))))
 
   nots_firm : AreFirm (Nots I)
   nots_firm ts e (plain d) = firm ts e d
@@ -89,12 +92,12 @@ within_firm (suc depth) ts e d = expression_firm (within_firm depth) ts e d
 
 -- ---- lists
 
-module _ {A : Type 0} {Form : Symbols → A → Type 0} (firm : AreFirm Form) where
-  following_calm : (ts : Symbols) (xs : List A) → Following Form ts xs → Calm ts
+module _ {A : Type 0} {m : Sign} {Form : Symbols → A → Type 0} (firm : AreFirm Form) where
+  following_calm : (ts : Symbols) (xs : List A) → FollowingBy m Form ts xs → Calm ts
   following_calm _ _ form.no_more = λ rest h. h
-  following_calm _ _ (form.one_more {a = a} {b = b} {x = x} {xs = xs} d k) = λ rest h. (refl, calm_behind a b (firm a x d) (following_calm b xs k) rest h)
+  following_calm _ _ (form.one_more {a = a} {b = b} {x = x} {xs = xs} d k) = λ rest h. (refl, quieter (is_minus (sign m)) ((a ++ b) ++ rest) (behind a b (firm a x d) (following_calm b xs k) rest h))
 
-  listed_firm : (ts : Symbols) (xs : List A) → Listed Form ts xs → Firm ts
+  listed_firm : (ts : Symbols) (xs : List A) → ListedBy m Form ts xs → Firm ts
   listed_firm _ _ (form.items {a = a} {b = b} {x = x} {xs = xs} d k) = behind a b (firm a x d) (following_calm b xs k)
 
 -- ---- statements
@@ -111,8 +114,12 @@ what_firm _ _ form.min_of = λ rest h. (refl, (refl, (refl, (refl, h))))
 what_firm _ _ form.max_of = λ rest h. (refl, (refl, (refl, (refl, h))))
 
 module _ {I : Symbols → Expr → Type 0} (firm : AreFirm I) where
+  value_firm : AreFirm (ColumnValue I)
+  value_firm _ _ (form.is_expression {ts = ts} {e = e} d) = expression_firm firm ts e d
+  value_firm _ _ form.is_null = λ rest h. (refl, h)
+
   set_firm : AreFirm (IsSet I)
-  set_firm _ _ (form.is_set {ts = ts} {e = e} d) = λ rest h. (refl, (refl, firm_calm ts (expression_firm firm ts e d) rest h))
+  set_firm _ _ (form.is_set {ts = ts} {e = e} d) = λ rest h. (refl, (refl, firm_calm ts (value_firm ts e d) rest h))
 
   and_calm : (ts : Symbols) (w : Option Expr) → IsAnd I ts w → Calm ts
   and_calm _ _ form.no_and = λ rest h. h
@@ -125,7 +132,7 @@ module _ {I : Symbols → Expr → Type 0} (firm : AreFirm I) where
   scan_calm _ _ (form.where_filter {ts = ts} {e = e} d) = λ rest h. (refl, firm_calm ts (expression_firm firm ts e d) rest h)
 
 pub statement_calm : {I J : Symbols → Expr → Type 0} → AreFirm I → AreFirm J → (ts : Symbols) (st : Statement) → IsStatement I J ts st → Calm ts
-statement_calm f g _ _ (form.is_insert {ts = ts} {es = es} d) = λ rest h. (refl, (refl, (refl, (refl, (refl, calm_behind ts (sign mark.Close ∷ []) (listed_firm (expression_firm g) ts es d) (λ more k. (refl, k)) rest h)))))
+statement_calm f g _ _ (form.is_insert {ts = ts} {es = es} d) = λ rest h. (refl, (refl, (refl, (refl, (refl, calm_behind ts (sign mark.Close ∷ []) (listed_firm (value_firm g) ts es d) (λ more k. (refl, k)) rest h)))))
 statement_calm f g _ _ (form.is_select {t = t} {a = a} {b = b} {w = w} {scan = scan} d k) = λ rest h. (refl, calm_behind a _ (what_firm a w d) (λ more m. (refl, (refl, scan_calm f b scan k more m))) rest h)
 statement_calm f g _ _ (form.is_select_into {ts = ts} {e = e} d) = λ rest h. (refl, (refl, (refl, (refl, (refl, (refl, (refl, (refl, (refl, (refl, firm_calm ts (sum_firm f ts e d) rest h))))))))))
 statement_calm f g _ _ (form.is_update {a = a} {b = b} {sets = sets} {scan = scan} d k) = λ rest h. (refl, (refl, (refl, calm_behind a b (listed_firm (set_firm f) a sets d) (scan_calm f b scan k) rest h)))

@@ -1,7 +1,10 @@
 -- Where a statement's text ends, and which statement it is of.
 use Rattle.salt_ast.specs.Limits.{statement_limit, table_limit}
-use Rattle.salt_ast.specs.Spelling.{SpellsShallowStatement, SpellsShallowTable, SpellsStatement, SpellsTable}
+use Rattle.salt_ast.specs.ProgramLimits.{program_limit}
+use Rattle.salt_ast.specs.ProgramTexts.{program_text}
+use Rattle.salt_ast.specs.Spelling.{SpellsProgram, SpellsShallowProgram, SpellsShallowStatement, SpellsShallowTable, SpellsStatement, SpellsTable}
 use Rattle.salt_ast.specs.Texts.{statement_text, table_text}
+use Rattle.salt_ast.specs.declared.programs.ProgramDef.{ProgramDef}
 use Rattle.salt_ast.specs.declared.trees.Statement.{Statement}
 use Rattle.salt_ast.specs.declared.trees.TableDef.{TableDef}
 use Rattle.salt_model.specs.Printable.{IsSpelled}
@@ -20,6 +23,7 @@ pub record Laws : Type 0 where
   pub signs : (s : Sign) → sign_of (sign_spelling s) ≡ Some s
   pub statement : (bytes : List ℕ) (st : Statement) → SpellsStatement bytes st → statement_limit st ≡ None → SpellsShallowStatement (statement_text st) st
   pub table : (bytes : List ℕ) (d : TableDef) → SpellsTable bytes d → table_limit d ≡ None → SpellsShallowTable (table_text d) d
+  pub program : (bytes : List ℕ) (p : ProgramDef) → SpellsProgram bytes p → program_limit p ≡ None → SpellsShallowProgram (program_text p) p
   pub one : (bytes : List ℕ) (a b : Statement) → SpellsStatement bytes a → SpellsStatement bytes b → a ≡ b
 
 module _ (laws : Laws) where

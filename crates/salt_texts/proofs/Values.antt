@@ -9,7 +9,7 @@ use Rattle.salt_tokens.specs.Bytes.{is_digit}
 use Rattle.salt_values.specs.Value.{IsValue}
 use Rattle.salt_values.specs.declared.value.Value.TheVariants as value
 use Rattle.salt_values.specs.declared.value.Value.{Value}
-use Rattle.std.proofs.Common.{Bool, FitsSigned, List, [], ap, append_assoc, arith, cond, eqb, false, negsuc, pos, refl, suc, subst, sym, true, true≢false, ℕ, ◌++◌, ◌<◌, ◌==◌, ◌^◌, ◌∙◌, ◌∷◌, ◌≡◌, ◌≢◌, w64}
+use Rattle.std.proofs.Common.{Bool, FitsSigned, List, [], ap, append_assoc, arith, cond, drop, eqb, false, negsuc, pos, refl, suc, subst, sym, true, true≢false, ℕ, ◌++◌, ◌<◌, ◌==◌, ◌^◌, ◌∙◌, ◌∷◌, ◌≡◌, ◌≢◌, w64}
 use Rattle.std.proofs.lemmas.Bool.{eqb-true}
 use Rattle.std.specs.Fmt.{decimal}
 
@@ -56,7 +56,7 @@ quoted_one (a ∷ t) (b ∷ u) x y nx ny e = go (eqb a 39) refl (eqb b 39) refl 
 
 -- ---- values
 
-pos_sized : (n : ℕ) → FitsSigned w64 (pos n) → n < 2 ^ 64
+pub pos_sized : (n : ℕ) → FitsSigned w64 (pos n) → n < 2 ^ 64
 pos_sized n h = omega arith
 
 neg_sized : (n : ℕ) → FitsSigned w64 (negsuc n) → suc n < 2 ^ 64
@@ -92,15 +92,23 @@ value_clear = record { one = one }
         let bare : (doubled u ++ 39 ∷ []) ++ x ≡ (doubled v ++ 39 ∷ []) ++ y = cc in
         let r = quoted_one u v x y (not_quote x s) (not_quote y t) bare in
         (ap value.Text r.0, r.1)
+    one value.Null value.Null x y g h s t e = (refl, ap (drop 4) e)
+    one value.Null (value.Int (pos n)) x y g h s t e = absurd (number_begins n 110 y (117 ∷ 108 ∷ 108 ∷ x) (pos_sized n h) refl (sym e))
+    one value.Null (value.Int (negsuc n)) x y g h s t e = absurd (differ _ _ e refl)
+    one value.Null (value.Text u) x y g h s t e = absurd (differ _ _ e refl)
+    one (value.Int (pos n)) value.Null x y g h s t e = absurd (number_begins n 110 x (117 ∷ 108 ∷ 108 ∷ y) (pos_sized n g) refl e)
+    one (value.Int (negsuc n)) value.Null x y g h s t e = absurd (differ _ _ e refl)
+    one (value.Text u) value.Null x y g h s t e = absurd (differ _ _ e refl)
 
--- a value begins with a digit, a minus sign or a quote
-pub value_begins : (v : Value) (c : ℕ) (x y : List ℕ) → IsValue v → is_digit c ≡ false → 45 ≢ c → 39 ≢ c → value_text v ++ x ≡ c ∷ y → ⊥
-value_begins (value.Int (pos n)) c x y g d m q e = number_begins n c x y (pos_sized n g) d e
-value_begins (value.Int (negsuc n)) c x y g d m q e = let z : 45 ≡ c = cc in m z
-value_begins (value.Text u) c x y g d m q e = let z : 39 ≡ c = cc in q z
+-- a value begins with a digit, a minus sign, a quote or the first letter of `null`
+pub value_begins : (v : Value) (c : ℕ) (x y : List ℕ) → IsValue v → is_digit c ≡ false → 45 ≢ c → 39 ≢ c → 110 ≢ c → value_text v ++ x ≡ c ∷ y → ⊥
+value_begins (value.Int (pos n)) c x y g d m q k e = number_begins n c x y (pos_sized n g) d e
+value_begins (value.Int (negsuc n)) c x y g d m q k e = let z : 45 ≡ c = cc in m z
+value_begins (value.Text u) c x y g d m q k e = let z : 39 ≡ c = cc in q z
+value_begins value.Null c x y g d m q k e = let z : 110 ≡ c = cc in k z
 
 pub values_one : (xs ys : List Value) (x y : List ℕ) → IsSizedRow xs → IsSizedRow ys → between_commas value_text xs ++ (41 ∷ x) ≡ between_commas value_text ys ++ (41 ∷ y) → (xs ≡ ys) × (x ≡ y)
-values_one = listed_one value_clear (λ v x y g e. value_begins v 41 x y g refl (λ z. omega arith) (λ z. omega arith) e)
+values_one = listed_one value_clear (λ v x y g e. value_begins v 41 x y g refl (λ z. omega arith) (λ z. omega arith) (λ z. omega arith) e)
 
 pub row_clear : Clear IsSizedRow row_text
 row_clear = record { one = one }
