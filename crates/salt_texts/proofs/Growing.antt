@@ -18,11 +18,13 @@ use Rattle.salt_tokens.specs.Symbols.{HasSymbols, Symbols, Symbol, key, name, sy
 use Rattle.salt_tokens.specs.declared.keyword.Keyword.TheVariants as word
 use Rattle.salt_tokens.specs.declared.token.TokenKind.TheVariants as kind
 use Rattle.salt_tokens.specs.declared.token.TokenKind.{TokenKind}
-use Rattle.std.proofs.Common.{Bool, List, None, Option, Some, [], append-nil, cond, false, inl, inr, refl, subst, sym, true, true≢false, ℕ, ◌++◌, ◌∷◌, ◌≡◌, ◌⊎◌, ◌||◌}
+use Rattle.std.proofs.Common.{Bool, List, None, Option, Some, [], append-nil, cond, false, inl, inr, refl, subst, sym, true, true≢false, ℕ, ◌++◌, ◌∷◌}
+use Rattle.std.proofs.Common.{◌≡◌, ◌⊎◌, ◌||◌}
 
 -- ---- the name of a spelled table is a name
 
-name_at : {I : Symbols → Expr → Type 0} (r : Symbols) (d : TableDef) → IsTable I r d → (rest : Symbols) × (r ≡ key word.Create ∷ key word.Table ∷ name d.name ∷ rest)
+name_at : {I : Symbols → Expr → Type 0} (r : Symbols) (d : TableDef) → IsTable I r d →
+    (rest : Symbols) × (r ≡ key word.Create ∷ key word.Table ∷ name d.name ∷ rest)
 name_at _ _ (table.is_table f fs es) = (_, refl)
 
 abbrev Stands : Symbol → Symbols → Type 0
@@ -30,7 +32,12 @@ Stands s [] = ⊥
 Stands s (t ∷ ts) = (t ≡ s) ⊎ Stands s ts
 
 word_row : (n : List ℕ) → IsToken kind.Word n → word_symbol n (keyword_of n) ≡ name n → HasSymbols n (name n ∷ [])
-word_row n is e = (record { kind = kind.Word; text = n } ∷ [], subst (λ (bs : List ℕ). Lexes bs (record { kind = kind.Word; text = n } ∷ [])) (append-nil n) (token kind.Word n is tt ended), (λ i. sym e i ∷ []))
+word_row n is e = (
+  record { kind = kind.Word; text = n } ∷ [],
+  subst (λ (bs : List ℕ). Lexes bs (record { kind = kind.Word; text = n } ∷ []))
+      (append-nil n) (token kind.Word n is tt ended),
+  (λ i. sym e i ∷ []),
+)
 
 by_kind : (k : TokenKind) (text n : List ℕ) → IsToken k text → symbol_by k text ≡ name n → HasSymbols n (name n ∷ [])
 by_kind kind.Word text n is e =
@@ -61,7 +68,8 @@ table_named d h =
 
 -- ---- one more table
 
-more_names : (schema : List TableDef) (d : TableDef) → Every IsName (table_names schema) → IsName d.name → Every IsName (table_names (schema ++ d ∷ []))
+more_names : (schema : List TableDef) (d : TableDef) → Every IsName (table_names schema) → IsName d.name →
+    Every IsName (table_names (schema ++ d ∷ []))
 more_names [] d g h = (h, tt)
 more_names (e ∷ ds) d g h = (g.0, more_names ds d g.1 h)
 
@@ -72,14 +80,16 @@ test_parts true u h = absurd (true≢false h)
 neither : (a b : Bool) → a ≡ false → b ≡ false → (a || b) ≡ false
 neither a b g h = rw (g, h) refl
 
-more_apart : (before : List (List ℕ)) (schema : List TableDef) (d : TableDef) → doubled_name before (table_names schema) ≡ None → is_among d.name before ≡ false → is_table schema d.name ≡ false → doubled_name before (table_names (schema ++ d ∷ [])) ≡ None
+more_apart : (before : List (List ℕ)) (schema : List TableDef) (d : TableDef) → doubled_name before (table_names schema) ≡ None →
+    is_among d.name before ≡ false → is_table schema d.name ≡ false → doubled_name before (table_names (schema ++ d ∷ [])) ≡ None
 more_apart before [] d g h k = rw h refl
 more_apart before (e ∷ ds) d g h k =
     let fresh = first_fresh e.name (is_among e.name before) (doubled_name (e.name ∷ before) (table_names ds)) g in
     let new = test_parts (same_bytes d.name e.name) (is_table ds d.name) k in
     rw fresh.0 (more_apart (e.name ∷ before) ds d fresh.1 (neither (same_bytes d.name e.name) (is_among d.name before) new.0 h) new.1)
 
-pub naming_grows : (schema : List TableDef) (d : TableDef) → IsNaming schema → IsSpelledTable d → is_table schema d.name ≡ false → IsNaming (schema ++ d ∷ [])
+pub naming_grows : (schema : List TableDef) (d : TableDef) → IsNaming schema → IsSpelledTable d → is_table schema d.name ≡ false →
+    IsNaming (schema ++ d ∷ [])
 naming_grows schema d g h k = record {
   names = more_names schema d g.names (table_named d h);
   apart = more_apart [] schema d g.apart refl k;

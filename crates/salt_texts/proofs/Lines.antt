@@ -5,7 +5,8 @@ use Rattle.salt_ast.specs.Texts.{between_commas, preceded, statement_text, value
 use Rattle.salt_ast.specs.declared.limit.LimitName.TheVariants as limit
 use Rattle.salt_ast.specs.declared.limit.LimitName.{LimitName}
 use Rattle.salt_ast.specs.declared.trees.TableDef.{TableDef}
-use Rattle.salt_model.specs.EventTexts.{answer_text, cause_text, cell_text, end_text, event_line, event_text, family_text, item_text, kind_text, mode_text, owner_text, place_text, range_text, refusal_text, table_name, unit_text, why_text}
+use Rattle.salt_model.specs.EventTexts.{answer_text, cause_text, cell_text, end_text, event_line, event_text, family_text, item_text, kind_text}
+use Rattle.salt_model.specs.EventTexts.{mode_text, owner_text, place_text, range_text, refusal_text, table_name, unit_text, why_text}
 use Rattle.salt_model.specs.Printable.{HasPrintedForm, IsPrintable, IsPrintableItem, IsPrintableKind, IsPrintableRefusal}
 use Rattle.salt_model.specs.Words.{Every}
 use Rattle.salt_model.specs.declared.events.Answer.TheVariants as answer
@@ -32,7 +33,8 @@ use Rattle.salt_model.specs.declared.shown.BaseAt.TheVariants as place
 use Rattle.salt_model.specs.declared.shown.BaseAt.{BaseAt}
 use Rattle.salt_model.specs.declared.shown.Item.TheVariants as item
 use Rattle.salt_model.specs.declared.shown.Item.{Item}
-use Rattle.salt_texts.proofs.Inline.{all_inline, base_inline, decimal_inline, definition_inline, doubled_inline, known, lead, line_one, name_inline, preceded_inline, run_append, statement_inline}
+use Rattle.salt_texts.proofs.Inline.{all_inline, base_inline, decimal_inline, definition_inline, doubled_inline, known, lead, line_one, name_inline}
+use Rattle.salt_texts.proofs.Inline.{preceded_inline, run_append, statement_inline}
 use Rattle.salt_texts.proofs.Parts.{unknown_inline}
 use Rattle.salt_texts.proofs.Numbering.{table_is_name}
 use Rattle.salt_texts.proofs.Statements.{Laws}
@@ -47,7 +49,8 @@ use Rattle.salt_values.specs.Value.{IsValue}
 use Rattle.salt_values.specs.declared.id.Id.{Id}
 use Rattle.salt_values.specs.declared.value.Value.TheVariants as value
 use Rattle.salt_values.specs.declared.value.Value.{Value}
-use Rattle.std.proofs.Common.{Bool, List, None, Option, Some, [], ap, append_assoc, append-nil, codes, decimal, false, flat_map, length, map, nat_le, negsuc, pos, refl, suc, sym, true, ℕ, ◌&&◌, ◌++◌, ◌∙◌, ◌∷◌, ◌≡◌}
+use Rattle.std.proofs.Common.{Bool, List, None, Option, Some, [], ap, append_assoc, append-nil, codes, decimal, false, flat_map, length, map, nat_le}
+use Rattle.std.proofs.Common.{negsuc, pos, refl, suc, sym, true, ℕ, ◌&&◌, ◌++◌, ◌∙◌, ◌∷◌, ◌≡◌}
 use Rattle.std.specs.List.{list_all}
 
 -- ---- one way to cut a text into lines
@@ -61,7 +64,8 @@ lines_one [] [] g h e = refl
 lines_one [] (m ∷ ms) g h e = absurd (no_line m (lines_text ms) e)
 lines_one (l ∷ ls) [] g h e = absurd (no_line l (lines_text ls) (sym e))
 lines_one (l ∷ ls) (m ∷ ms) g h e =
-    let r = line_one l m (lines_text ls) (lines_text ms) g.0 h.0 (sym (append_assoc l (10 ∷ []) (lines_text ls)) ∙ e ∙ append_assoc m (10 ∷ []) (lines_text ms)) in
+    let r = line_one l m (lines_text ls) (lines_text ms) g.0 h.0
+    (sym (append_assoc l (10 ∷ []) (lines_text ls)) ∙ e ∙ append_assoc m (10 ∷ []) (lines_text ms)) in
     let rest = lines_one ls ms g.1 h.1 r.1 in
     (λ i. r.0 i ∷ rest i)
 
@@ -86,7 +90,8 @@ value_inline value.Null h = known (codes "null") refl
 
 values_inline : (vs : List Value) → IsSizedRow vs → Inline (between_commas value_text vs)
 values_inline [] h = tt
-values_inline (v ∷ vs) h = run_append is_inline (value_text v) (preceded (codes ", ") value_text vs) (value_inline v h.0) (preceded_inline IsValue value_text value_inline (codes ", ") vs refl h.1)
+values_inline (v ∷ vs) h = run_append is_inline (value_text v) (preceded (codes ", ") value_text vs) (value_inline v h.0)
+    (preceded_inline IsValue value_text value_inline (codes ", ") vs refl h.1)
 
 closed_inline : (vs : List Value) → IsSizedRow vs → Inline (between_commas value_text vs ++ codes ")")
 closed_inline vs h = run_append is_inline (between_commas value_text vs) (codes ")") (values_inline vs h) (known (codes ")") refl)
@@ -95,7 +100,8 @@ row_inline : (vs : List Value) → IsSizedRow vs → Inline (row_text vs)
 row_inline vs h = (refl, closed_inline vs h)
 
 call_inline : (n : List ℕ) (args : List Value) → IsName n → IsSizedRow args → Inline (call_text n args)
-call_inline n args h k = run_append is_inline n (codes "(" ++ (between_commas value_text args ++ codes ")")) (name_inline n h) (refl, closed_inline args k)
+call_inline n args h k =
+    run_append is_inline n (codes "(" ++ (between_commas value_text args ++ codes ")")) (name_inline n h) (refl, closed_inline args k)
 
 -- ---- words
 
@@ -146,7 +152,8 @@ kind_inline (kind.First s b n args) g h =
     ))
 kind_inline (kind.Later b part) g h =
     lead (codes " began ") (base_text b ++ (codes " part " ++ decimal part)) refl
-    (run_append is_inline (base_text b) (codes " part " ++ decimal part) (base_inline b) (lead (codes " part ") (decimal part) refl (decimal_inline part)))
+    (run_append is_inline (base_text b) (codes " part " ++ decimal part) (base_inline b)
+    (lead (codes " part ") (decimal part) refl (decimal_inline part)))
 
 cell_inline : (v : Option Value) → IsValueIn v → Inline (cell_text v)
 cell_inline None h = known (codes "none") refl
@@ -154,7 +161,8 @@ cell_inline (Some v) h = value_inline v h
 
 answer_inline : (a : Answer) → IsSizedAnswer a → Inline (answer_text a)
 answer_inline (answer.Count n) h = lead (codes "count ") (decimal n) refl (decimal_inline n)
-answer_inline (answer.Rows rows) h = lead (codes "rows") (preceded (codes " ") row_text rows) refl (preceded_inline IsSizedRow row_text row_inline (codes " ") rows refl h)
+answer_inline (answer.Rows rows) h =
+    lead (codes "rows") (preceded (codes " ") row_text rows) refl (preceded_inline IsSizedRow row_text row_inline (codes " ") rows refl h)
 answer_inline (answer.Cell v) h = lead (codes "value ") (cell_text v) refl (cell_inline v h)
 answer_inline (answer.Stored v) h = lead (codes "stored ") (value_text v) refl (value_inline v h)
 answer_inline answer.Held h = known (codes "true") refl
@@ -190,11 +198,13 @@ place_inline place.Finished = known (codes "finished") refl
 range_inline : (lo hi : Option Value) → IsValueIn lo → IsValueIn hi → Inline (range_text lo hi)
 range_inline None hi g h = known (codes "all") refl
 range_inline (Some v) None g h = known (codes "all") refl
-range_inline (Some v) (Some w) g h = run_append is_inline (value_text v) (codes ".." ++ value_text w) (value_inline v g) (lead (codes "..") (value_text w) refl (value_inline w h))
+range_inline (Some v) (Some w) g h =
+    run_append is_inline (value_text v) (codes ".." ++ value_text w) (value_inline v g) (lead (codes "..") (value_text w) refl (value_inline w h))
 
 -- ---- events
 
-shown_lines : (schema : List TableDef) (items : List Item) (last : List ℕ) → flat_map (item_text schema) items ++ (last ++ 10 ∷ []) ≡ lines_text (map (item_line schema) items ++ last ∷ [])
+shown_lines : (schema : List TableDef) (items : List Item) (last : List ℕ) →
+    flat_map (item_text schema) items ++ (last ++ 10 ∷ []) ≡ lines_text (map (item_line schema) items ++ last ∷ [])
 shown_lines schema [] last = sym (append-nil (last ++ 10 ∷ []))
 shown_lines schema (i ∷ items) last =
     append_assoc (item_text schema i) (flat_map (item_text schema) items) (last ++ 10 ∷ [])
@@ -210,7 +220,8 @@ one_line line = sym (append-nil (line ++ 10 ∷ []))
 
 -- an event's text is its lines
 pub event_is_lines : (schema : List TableDef) (e : Event) → event_text schema e ≡ lines_text (event_lines schema e)
-event_is_lines schema (event.Shown items) = append_assoc (flat_map (item_text schema) items) (codes "shown " ++ decimal (length items)) (10 ∷ []) ∙ shown_lines schema items (codes "shown " ++ decimal (length items))
+event_is_lines schema (event.Shown items) = append_assoc (flat_map (item_text schema) items) (codes "shown " ++ decimal (length items)) (10 ∷ [])
+    ∙ shown_lines schema items (codes "shown " ++ decimal (length items))
 event_is_lines schema e = one_line (event_line schema e)
 
 every_append : (xs ys : List (List ℕ)) → Every Inline xs → Every Inline ys → Every Inline (xs ++ ys)
@@ -225,17 +236,27 @@ always (x ∷ xs) = (tt, always xs)
 module _ (laws : Laws) (schema : List TableDef) (naming : IsNaming schema) where
   item_inline : (i : Item) → IsPrintableItem schema i → IsSizedItem i → Inline (item_line schema i)
   item_inline (item.Lock l) g h =
-      lead (codes "lock ") (owner_text l.owner ++ (codes " " ++ (family_text l.family ++ (codes " " ++ (mode_text l.mode ++ (codes " " ++ (table_name schema l.table ++ (codes " " ++ range_text l.range.lo l.range.hi)))))))) refl
-      (run_append is_inline (owner_text l.owner) (codes " " ++ (family_text l.family ++ (codes " " ++ (mode_text l.mode ++ (codes " " ++ (table_name schema l.table ++ (codes " " ++ range_text l.range.lo l.range.hi))))))) (owner_inline l.owner) (
+      lead (codes "lock ")
+      (owner_text l.owner ++
+      (codes " " ++ (family_text l.family ++
+      (codes " " ++ (mode_text l.mode ++ (codes " " ++ (table_name schema l.table ++ (codes " " ++ range_text l.range.lo l.range.hi)))))))) refl
+      (run_append is_inline (owner_text l.owner)
+      (codes " " ++ (family_text l.family ++
+      (codes " " ++ (mode_text l.mode ++ (codes " " ++ (table_name schema l.table ++ (codes " " ++ range_text l.range.lo l.range.hi)))))))
+      (owner_inline l.owner) (
         refl,
-        run_append is_inline (family_text l.family) (codes " " ++ (mode_text l.mode ++ (codes " " ++ (table_name schema l.table ++ (codes " " ++ range_text l.range.lo l.range.hi))))) (known (family_text l.family) (family_inline l.family)) (
-          refl,
-          run_append is_inline (mode_text l.mode) (codes " " ++ (table_name schema l.table ++ (codes " " ++ range_text l.range.lo l.range.hi))) (known (mode_text l.mode) (mode_inline l.mode)) (
-            refl,
-            run_append is_inline (table_name schema l.table) (codes " " ++ range_text l.range.lo l.range.hi) (name_inline (table_name schema l.table) (table_is_name schema naming l.table g.0))
-                (refl, range_inline l.range.lo l.range.hi h.1 h.2),
-          ),
-        ),
+        run_append is_inline (family_text l.family)
+            (codes " " ++ (mode_text l.mode ++ (codes " " ++ (table_name schema l.table ++ (codes " " ++ range_text l.range.lo l.range.hi)))))
+            (known (family_text l.family) (family_inline l.family)) (
+              refl,
+              run_append is_inline (mode_text l.mode) (codes " " ++ (table_name schema l.table ++ (codes " " ++ range_text l.range.lo l.range.hi)))
+                  (known (mode_text l.mode) (mode_inline l.mode)) (
+                    refl,
+                    run_append is_inline (table_name schema l.table) (codes " " ++ range_text l.range.lo l.range.hi)
+                        (name_inline (table_name schema l.table) (table_is_name schema naming l.table g.0))
+                        (refl, range_inline l.range.lo l.range.hi h.1 h.2),
+                  ),
+            ),
       ))
   item_inline (item.Base b n at) g h =
       lead (codes "base ") (base_text b ++ (codes " " ++ (n ++ (codes " " ++ place_text at)))) refl
@@ -251,28 +272,45 @@ module _ (laws : Laws) (schema : List TableDef) (naming : IsNaming schema) where
   event_inline (event.Did u st a) g h = (
     run_append is_inline (unit_text u) (codes " did " ++ (statement_text st ++ (codes " -> " ++ answer_text a))) (unit_inline u)
         (lead (codes " did ") (statement_text st ++ (codes " -> " ++ answer_text a)) refl
-        (run_append is_inline (statement_text st) (codes " -> " ++ answer_text a) (statement_inline laws st g) (lead (codes " -> ") (answer_text a) refl (answer_inline a h.1)))),
+        (run_append is_inline (statement_text st) (codes " -> " ++ answer_text a) (statement_inline laws st g)
+        (lead (codes " -> ") (answer_text a) refl (answer_inline a h.1)))),
     tt,
   )
   event_inline (event.Waits u owners) g h = (
     run_append is_inline (unit_text u) (codes " waits" ++ preceded (codes " ") owner_text owners) (unit_inline u)
-        (lead (codes " waits") (preceded (codes " ") owner_text owners) refl (preceded_inline (λ o. Unit {0}) owner_text (λ o t. owner_inline o) (codes " ") owners refl (always owners))),
+        (lead (codes " waits") (preceded (codes " ") owner_text owners) refl
+        (preceded_inline (λ o. Unit {0}) owner_text (λ o t. owner_inline o) (codes " ") owners refl (always owners))),
     tt,
   )
   event_inline (event.Ended u e) g h = (run_append is_inline (unit_text u) (end_text e) (unit_inline u) (end_inline e), tt)
   event_inline (event.Accepted b) g h = (run_append is_inline (base_text b) (codes " accepted") (base_inline b) (known (codes " accepted") refl), tt)
   event_inline (event.Finished b) g h = (run_append is_inline (base_text b) (codes " finished") (base_inline b) (known (codes " finished") refl), tt)
-  event_inline (event.Released bs) g h = (lead (codes "released") (preceded (codes " ") base_text bs) refl (preceded_inline (λ o. Unit {0}) base_text (λ o t. base_inline o) (codes " ") bs refl (always bs)), tt)
+  event_inline (event.Released bs) g h = (
+    lead (codes "released") (preceded (codes " ") base_text bs) refl
+        (preceded_inline (λ o. Unit {0}) base_text (λ o t. base_inline o) (codes " ") bs refl (always bs)),
+    tt,
+  )
   event_inline (event.Down w) g h = (lead (codes "down ") (why_text w) refl (known (why_text w) (why_inline w)), tt)
-  event_inline (event.Opened boot n) g h =
-      (lead (codes "opened ") (decimal boot ++ (codes " " ++ decimal n)) refl (run_append is_inline (decimal boot) (codes " " ++ decimal n) (decimal_inline boot) (refl, decimal_inline n)), tt)
+  event_inline (event.Opened boot n) g h = (
+    lead (codes "opened ") (decimal boot ++ (codes " " ++ decimal n)) refl
+        (run_append is_inline (decimal boot) (codes " " ++ decimal n) (decimal_inline boot) (refl, decimal_inline n)),
+    tt,
+  )
   event_inline event.Ready g h = (known (codes "ready") refl, tt)
-  event_inline (event.Defined n text) g h =
-      (lead (codes "defined ") (decimal n ++ (codes " " ++ text)) refl (run_append is_inline (decimal n) (codes " " ++ text) (decimal_inline n) (refl, definition_inline laws text g)), tt)
+  event_inline (event.Defined n text) g h = (
+    lead (codes "defined ") (decimal n ++ (codes " " ++ text)) refl
+        (run_append is_inline (decimal n) (codes " " ++ text) (decimal_inline n) (refl, definition_inline laws text g)),
+    tt,
+  )
   event_inline (event.Refused r) g h = (lead (codes "refused ") (refusal_text r) refl (refusal_inline r g), tt)
-  event_inline (event.Armed pairs) g h = (lead (codes "armed") (preceded (codes " ") stop_text pairs) refl (preceded_inline (λ o. Unit {0}) stop_text (λ o t. pair_inline o) (codes " ") pairs refl (always pairs)), tt)
+  event_inline (event.Armed pairs) g h = (
+    lead (codes "armed") (preceded (codes " ") stop_text pairs) refl
+        (preceded_inline (λ o. Unit {0}) stop_text (λ o t. pair_inline o) (codes " ") pairs refl (always pairs)),
+    tt,
+  )
   event_inline (event.Shown items) g h =
-      every_append (map (item_line schema) items) ((codes "shown " ++ decimal (length items)) ∷ []) (items_inline items g h) (lead (codes "shown ") (decimal (length items)) refl (decimal_inline (length items)), tt)
+      every_append (map (item_line schema) items) ((codes "shown " ++ decimal (length items)) ∷ []) (items_inline items g h)
+      (lead (codes "shown ") (decimal (length items)) refl (decimal_inline (length items)), tt)
 
   -- no byte within a line of an event ends it
   pub lines_inline : (e : Event) → IsPrintable schema e → Every Inline (event_lines schema e)

@@ -83,11 +83,16 @@ select_spelled = record {
 pub nulls_print : IsPrintableStory schema null_story
 nulls_print = record {
   naming = naming;
-  events =
-    (record { form = tt; sizes = ((omega arith, omega arith), omega arith) },
-    (record { form = insert_spelled; sizes = ((omega arith, omega arith), omega arith) },
-    (record { form = select_spelled; sizes = ((omega arith, omega arith), ((omega arith, (tt, tt)), tt)) },
-    (record { form = tt; sizes = ((omega arith, omega arith), omega arith) }, tt))));
+  events = (
+    record { form = tt; sizes = ((omega arith, omega arith), omega arith) },
+    (
+      record { form = insert_spelled; sizes = ((omega arith, omega arith), omega arith) },
+      (
+        record { form = select_spelled; sizes = ((omega arith, omega arith), ((omega arith, (tt, tt)), tt)) },
+        (record { form = tt; sizes = ((omega arith, omega arith), omega arith) }, tt),
+      ),
+    ),
+  );
 }
 
 abbrev created_text : List ℕ
@@ -126,8 +131,8 @@ program_spelled = record {
     tokens = programmed_tokens;
     lexes = lexed programmed_text programmed_tokens refl;
     spelled =
-      program_form.is_program program_form.no_items program_form.no_variables
-      (program_form.is_acid (program_form.is_block (form.items (form.is_ensure (one (one (plain (not_null (one (one plus_int))))))) form.no_more)));
+        program_form.is_program program_form.no_items program_form.no_variables
+        (program_form.is_acid (program_form.is_block (form.items (form.is_ensure (one (one (plain (not_null (one (one plus_int))))))) form.no_more)));
   };
   within = refl;
 }
@@ -135,7 +140,8 @@ program_spelled = record {
 pub definitions_print : IsPrintableStory schema definition_story
 definitions_print = record {
   naming = naming;
-  events =
-    (record { form = inl (table, table_spelled, refl); sizes = omega arith },
-    (record { form = inr (program, program_spelled, refl); sizes = omega arith }, tt));
+  events = (
+    record { form = inl (table, table_spelled, refl); sizes = omega arith },
+    (record { form = inr (program, program_spelled, refl); sizes = omega arith }, tt),
+  );
 }

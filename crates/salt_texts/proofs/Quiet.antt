@@ -1,5 +1,6 @@
 -- In the tokens of a statement no `>` and no `>=` comes behind a minus sign.
-use Rattle.salt_ast.specs.Grammar.{Atom, Conjunction, Expression, Left, Nots, Once, Sum, Within, alone, colon, is_not_null, is_null, literal, minus_int, more, named, not as not_of, one, pair, paren, plain, plus_int}
+use Rattle.salt_ast.specs.Grammar.{Atom, Conjunction, Expression, Left, Nots, Once, Sum, Within, alone, colon, is_not_null, is_null, literal}
+use Rattle.salt_ast.specs.Grammar.{minus_int, more, named, not as not_of, one, pair, paren, plain, plus_int}
 use Rattle.salt_ast.specs.Statements as form
 use Rattle.salt_ast.specs.Statements.{ColumnValue, FollowingBy, IsAnd, IsName, IsScan, IsSet, IsStatement, IsWhat, ListedBy}
 use Rattle.salt_ast.specs.declared.trees.Expr.{Expr}
@@ -95,7 +96,8 @@ within_firm (suc depth) ts e d = expression_firm (within_firm depth) ts e d
 module _ {A : Type 0} {m : Sign} {Form : Symbols → A → Type 0} (firm : AreFirm Form) where
   following_calm : (ts : Symbols) (xs : List A) → FollowingBy m Form ts xs → Calm ts
   following_calm _ _ form.no_more = λ rest h. h
-  following_calm _ _ (form.one_more {a = a} {b = b} {x = x} {xs = xs} d k) = λ rest h. (refl, quieter (is_minus (sign m)) ((a ++ b) ++ rest) (behind a b (firm a x d) (following_calm b xs k) rest h))
+  following_calm _ _ (form.one_more {a = a} {b = b} {x = x} {xs = xs} d k) =
+      λ rest h. (refl, quieter (is_minus (sign m)) ((a ++ b) ++ rest) (behind a b (firm a x d) (following_calm b xs k) rest h))
 
   listed_firm : (ts : Symbols) (xs : List A) → ListedBy m Form ts xs → Firm ts
   listed_firm _ _ (form.items {a = a} {b = b} {x = x} {xs = xs} d k) = behind a b (firm a x d) (following_calm b xs k)
@@ -127,14 +129,29 @@ module _ {I : Symbols → Expr → Type 0} (firm : AreFirm I) where
 
   scan_calm : (ts : Symbols) (s : Scan) → IsScan I ts s → Calm ts
   scan_calm _ _ form.no_where = λ rest h. h
-  scan_calm _ _ (form.where_key {a = a} {b = b} {e = e} {f = f} d k) = λ rest h. (refl, (refl, (refl, calm_behind a b (sum_firm firm a e d) (and_calm b f k) rest h)))
-  scan_calm _ _ (form.where_between {a = a} {b = b} {c = c} {low = low} {high = high} {f = f} d k w) = λ rest h. (refl, (refl, (refl, calm_behind a _ (sum_firm firm a low d) (λ more m. (refl, calm_behind b c (sum_firm firm b high k) (and_calm c f w) more m)) rest h)))
+  scan_calm _ _ (form.where_key {a = a} {b = b} {e = e} {f = f} d k) =
+      λ rest h. (refl, (refl, (refl, calm_behind a b (sum_firm firm a e d) (and_calm b f k) rest h)))
+  scan_calm _ _ (form.where_between {a = a} {b = b} {c = c} {low = low} {high = high} {f = f} d k w) = λ rest h. (
+    refl,
+    (
+      refl,
+      (
+        refl,
+        calm_behind a _ (sum_firm firm a low d)
+            (λ more m. (refl, calm_behind b c (sum_firm firm b high k) (and_calm c f w) more m)) rest h,
+      ),
+    ),
+  )
   scan_calm _ _ (form.where_filter {ts = ts} {e = e} d) = λ rest h. (refl, firm_calm ts (expression_firm firm ts e d) rest h)
 
 pub statement_calm : {I J : Symbols → Expr → Type 0} → AreFirm I → AreFirm J → (ts : Symbols) (st : Statement) → IsStatement I J ts st → Calm ts
-statement_calm f g _ _ (form.is_insert {ts = ts} {es = es} d) = λ rest h. (refl, (refl, (refl, (refl, (refl, calm_behind ts (sign mark.Close ∷ []) (listed_firm (value_firm g) ts es d) (λ more k. (refl, k)) rest h)))))
-statement_calm f g _ _ (form.is_select {t = t} {a = a} {b = b} {w = w} {scan = scan} d k) = λ rest h. (refl, calm_behind a _ (what_firm a w d) (λ more m. (refl, (refl, scan_calm f b scan k more m))) rest h)
-statement_calm f g _ _ (form.is_select_into {ts = ts} {e = e} d) = λ rest h. (refl, (refl, (refl, (refl, (refl, (refl, (refl, (refl, (refl, (refl, firm_calm ts (sum_firm f ts e d) rest h))))))))))
-statement_calm f g _ _ (form.is_update {a = a} {b = b} {sets = sets} {scan = scan} d k) = λ rest h. (refl, (refl, (refl, calm_behind a b (listed_firm (set_firm f) a sets d) (scan_calm f b scan k) rest h)))
+statement_calm f g _ _ (form.is_insert {ts = ts} {es = es} d) = λ rest h.
+    (refl, (refl, (refl, (refl, (refl, calm_behind ts (sign mark.Close ∷ []) (listed_firm (value_firm g) ts es d) (λ more k. (refl, k)) rest h)))))
+statement_calm f g _ _ (form.is_select {t = t} {a = a} {b = b} {w = w} {scan = scan} d k) =
+    λ rest h. (refl, calm_behind a _ (what_firm a w d) (λ more m. (refl, (refl, scan_calm f b scan k more m))) rest h)
+statement_calm f g _ _ (form.is_select_into {ts = ts} {e = e} d) =
+    λ rest h. (refl, (refl, (refl, (refl, (refl, (refl, (refl, (refl, (refl, (refl, firm_calm ts (sum_firm f ts e d) rest h))))))))))
+statement_calm f g _ _ (form.is_update {a = a} {b = b} {sets = sets} {scan = scan} d k) =
+    λ rest h. (refl, (refl, (refl, calm_behind a b (listed_firm (set_firm f) a sets d) (scan_calm f b scan k) rest h)))
 statement_calm f g _ _ (form.is_delete {ts = ts} {scan = scan} d) = λ rest h. (refl, (refl, (refl, scan_calm f ts scan d rest h)))
 statement_calm f g _ _ (form.is_ensure {ts = ts} {e = e} d) = λ rest h. (refl, firm_calm ts (expression_firm f ts e d) rest h)

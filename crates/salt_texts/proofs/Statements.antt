@@ -21,7 +21,8 @@ use Rattle.std.proofs.lemmas.List.{append_cancel_right}
 -- what the crates below say of tokens and of the texts of statements and tables
 pub record Laws : Type 0 where
   pub signs : (s : Sign) → sign_of (sign_spelling s) ≡ Some s
-  pub statement : (bytes : List ℕ) (st : Statement) → SpellsStatement bytes st → statement_limit st ≡ None → SpellsShallowStatement (statement_text st) st
+  pub statement : (bytes : List ℕ) (st : Statement) → SpellsStatement bytes st → statement_limit st ≡ None →
+      SpellsShallowStatement (statement_text st) st
   pub table : (bytes : List ℕ) (d : TableDef) → SpellsTable bytes d → table_limit d ≡ None → SpellsShallowTable (table_text d) d
   pub program : (bytes : List ℕ) (p : ProgramDef) → SpellsProgram bytes p → program_limit p ≡ None → SpellsShallowProgram (program_text p) p
   pub one : (bytes : List ℕ) (a b : Statement) → SpellsStatement bytes a → SpellsStatement bytes b → a ≡ b
@@ -42,13 +43,15 @@ module _ (laws : Laws) where
   quiet : (st : Statement) (h : IsSpelled st) → Quiet false (symbols_of (shallow st h).tokens)
   quiet st h =
       let s = shallow st h in
-      subst (Quiet false) (append-nil (symbols_of s.tokens)) (statement_calm (within_firm 64) (within_firm 64) (symbols_of s.tokens) st s.spelled [] tt)
+      subst (Quiet false) (append-nil (symbols_of s.tokens))
+      (statement_calm (within_firm 64) (within_firm 64) (symbols_of s.tokens) st s.spelled [] tt)
 
   -- what stands behind the first arrow outside quotes stands behind the statement
   pub arrow_found : (st : Statement) (x : List ℕ) → IsSpelled st → after open_place (statement_text st ++ (32 ∷ 45 ∷ 62 ∷ x)) ≡ x
   arrow_found st x h = let s = shallow st h in lexed_after laws.signs s.lexes false (quiet st h) (45 ∷ 62 ∷ x)
 
-  pub statement_one : (a b : Statement) (x y : List ℕ) → IsSpelled a → IsSpelled b → statement_text a ++ (32 ∷ 45 ∷ 62 ∷ x) ≡ statement_text b ++ (32 ∷ 45 ∷ 62 ∷ y) → (a ≡ b) × (x ≡ y)
+  pub statement_one : (a b : Statement) (x y : List ℕ) → IsSpelled a → IsSpelled b →
+      statement_text a ++ (32 ∷ 45 ∷ 62 ∷ x) ≡ statement_text b ++ (32 ∷ 45 ∷ 62 ∷ y) → (a ≡ b) × (x ≡ y)
   statement_one a b x y g h e =
       let rest = sym (arrow_found a x g) ∙ ap (after open_place) e ∙ arrow_found b y h in
       let aligned = e ∙ ap (λ (z : List ℕ). statement_text b ++ (32 ∷ 45 ∷ 62 ∷ z)) (sym rest) in

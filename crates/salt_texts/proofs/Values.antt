@@ -1,7 +1,7 @@
 -- Values and rows of values.
 use Rattle.salt_ast.specs.Texts.{between_commas, value_text}
 use Rattle.salt_ast.specs.ProgramTexts.{row_text}
-use Rattle.salt_texts.proofs.Clear.{Clear, Stops, differ, listed_one}
+use Rattle.salt_texts.proofs.Clear.{Clear, Stops, Tells, differ, listed_one}
 use Rattle.salt_texts.proofs.Numbers.{decimal_begins, decimal_clear, not_quote}
 use Rattle.salt_model.specs.Sized.{IsSizedRow}
 use Rattle.salt_tokens.specs.Pieces.{NotNext, doubled}
@@ -9,7 +9,8 @@ use Rattle.salt_tokens.specs.Bytes.{is_digit}
 use Rattle.salt_values.specs.Value.{IsValue}
 use Rattle.salt_values.specs.declared.value.Value.TheVariants as value
 use Rattle.salt_values.specs.declared.value.Value.{Value}
-use Rattle.std.proofs.Common.{Bool, FitsSigned, List, [], ap, append_assoc, arith, cond, drop, eqb, false, negsuc, pos, refl, suc, subst, sym, true, true≢false, ℕ, ◌++◌, ◌<◌, ◌==◌, ◌^◌, ◌∙◌, ◌∷◌, ◌≡◌, ◌≢◌, w64}
+use Rattle.std.proofs.Common.{Bool, FitsSigned, List, [], ap, append_assoc, arith, cond, drop, eqb, false, negsuc, pos, refl, suc, subst, sym, true}
+use Rattle.std.proofs.Common.{true≢false, ℕ, ◌++◌, ◌<◌, ◌==◌, ◌^◌, ◌∙◌, ◌∷◌, ◌≡◌, ◌≢◌, w64}
 use Rattle.std.proofs.lemmas.Bool.{eqb-true}
 use Rattle.std.specs.Fmt.{decimal}
 
@@ -21,7 +22,8 @@ no_quote x z n e = true≢false (subst (NotNext (λ b. b == 39)) e n)
 not_is : (b : ℕ) → eqb b 39 ≡ false → 39 ≡ b → ⊥
 not_is b e is = true≢false (subst (λ (n : ℕ). eqb n 39 ≡ false) (sym is) e)
 
-pub quoted_one : (t u x y : List ℕ) → NotNext (λ b. b == 39) x → NotNext (λ b. b == 39) y → (doubled t ++ 39 ∷ []) ++ x ≡ (doubled u ++ 39 ∷ []) ++ y → (t ≡ u) × (x ≡ y)
+pub quoted_one : (t u x y : List ℕ) → NotNext (λ b. b == 39) x → NotNext (λ b. b == 39) y →
+    (doubled t ++ 39 ∷ []) ++ x ≡ (doubled u ++ 39 ∷ []) ++ y → (t ≡ u) × (x ≡ y)
 quoted_one [] [] x y nx ny e = let rest : x ≡ y = cc in (refl, rest)
 quoted_one [] (b ∷ u) x y nx ny e = absurd (go (eqb b 39) refl e)
   where
@@ -35,7 +37,9 @@ quoted_one (a ∷ t) [] x y nx ny e = absurd (go (eqb a 39) refl (sym e))
     go false is f = let z : 39 ≡ a = cc in not_is a is z
 quoted_one (a ∷ t) (b ∷ u) x y nx ny e = go (eqb a 39) refl (eqb b 39) refl (λ f. quoted_one t u x y nx ny f) e
   where
-    go : (k : Bool) → eqb a 39 ≡ k → (l : Bool) → eqb b 39 ≡ l → ((doubled t ++ 39 ∷ []) ++ x ≡ (doubled u ++ 39 ∷ []) ++ y → (t ≡ u) × (x ≡ y)) → (cond k (39 ∷ 39 ∷ doubled t) (a ∷ doubled t) ++ 39 ∷ []) ++ x ≡ (cond l (39 ∷ 39 ∷ doubled u) (b ∷ doubled u) ++ 39 ∷ []) ++ y → (a ∷ t ≡ b ∷ u) × (x ≡ y)
+    go : (k : Bool) → eqb a 39 ≡ k → (l : Bool) → eqb b 39 ≡ l → ((doubled t ++ 39 ∷ []) ++ x ≡ (doubled u ++ 39 ∷ []) ++ y → (t ≡ u) × (x ≡ y)) →
+        (cond k (39 ∷ 39 ∷ doubled t) (a ∷ doubled t) ++ 39 ∷ []) ++ x ≡ (cond l (39 ∷ 39 ∷ doubled u) (b ∷ doubled u) ++ 39 ∷ []) ++ y →
+        (a ∷ t ≡ b ∷ u) × (x ≡ y)
     go true is true js ih f =
         let rest : (doubled t ++ 39 ∷ []) ++ x ≡ (doubled u ++ 39 ∷ []) ++ y = cc in
         let r = ih rest in
@@ -75,8 +79,9 @@ number_begins n c x y h other e =
 pub value_clear : Clear IsValue value_text
 value_clear = record { one = one }
   where
-    one : (a b : Value) (x y : List ℕ) → IsValue a → IsValue b → Stops x → Stops y → value_text a ++ x ≡ value_text b ++ y → (a ≡ b) × (x ≡ y)
-    one (value.Int (pos m)) (value.Int (pos n)) x y g h s t e = let r = decimal_clear.one m n x y (pos_sized m g) (pos_sized n h) s t e in (ap (λ (k : ℕ). value.Int (pos k)) r.0, r.1)
+    one : Tells IsValue value_text
+    one (value.Int (pos m)) (value.Int (pos n)) x y g h s t e = let r =
+        decimal_clear.one m n x y (pos_sized m g) (pos_sized n h) s t e in (ap (λ (k : ℕ). value.Int (pos k)) r.0, r.1)
     one (value.Int (pos m)) (value.Int (negsuc n)) x y g h s t e = absurd (number_begins m 45 x (decimal (suc n) ++ y) (pos_sized m g) refl e)
     one (value.Int (negsuc m)) (value.Int (pos n)) x y g h s t e = absurd (number_begins n 45 y (decimal (suc m) ++ x) (pos_sized n h) refl (sym e))
     one (value.Int (negsuc m)) (value.Int (negsuc n)) x y g h s t e =
@@ -107,13 +112,15 @@ value_begins (value.Int (negsuc n)) c x y g d m q k e = let z : 45 ≡ c = cc in
 value_begins (value.Text u) c x y g d m q k e = let z : 39 ≡ c = cc in q z
 value_begins value.Null c x y g d m q k e = let z : 110 ≡ c = cc in k z
 
-pub values_one : (xs ys : List Value) (x y : List ℕ) → IsSizedRow xs → IsSizedRow ys → between_commas value_text xs ++ (41 ∷ x) ≡ between_commas value_text ys ++ (41 ∷ y) → (xs ≡ ys) × (x ≡ y)
+pub values_one : (xs ys : List Value) (x y : List ℕ) → IsSizedRow xs → IsSizedRow ys →
+    between_commas value_text xs ++ (41 ∷ x) ≡ between_commas value_text ys ++ (41 ∷ y) → (xs ≡ ys) × (x ≡ y)
 values_one = listed_one value_clear (λ v x y g e. value_begins v 41 x y g refl (λ z. omega arith) (λ z. omega arith) (λ z. omega arith) e)
 
 pub row_clear : Clear IsSizedRow row_text
 row_clear = record { one = one }
   where
-    one : (a b : List Value) (x y : List ℕ) → IsSizedRow a → IsSizedRow b → Stops x → Stops y → row_text a ++ x ≡ row_text b ++ y → (a ≡ b) × (x ≡ y)
+    one : Tells IsSizedRow row_text
     one a b x y g h s t e =
         let bare : (between_commas value_text a ++ 41 ∷ []) ++ x ≡ (between_commas value_text b ++ 41 ∷ []) ++ y = cc in
-        values_one a b x y g h (sym (append_assoc (between_commas value_text a) (41 ∷ []) x) ∙ bare ∙ append_assoc (between_commas value_text b) (41 ∷ []) y)
+        values_one a b x y g h
+        (sym (append_assoc (between_commas value_text a) (41 ∷ []) x) ∙ bare ∙ append_assoc (between_commas value_text b) (41 ∷ []) y)
