@@ -35,6 +35,7 @@ use Rattle.salt_model.specs.declared.shown.Item.TheVariants as item
 use Rattle.salt_model.specs.declared.shown.Item.{Item}
 use Rattle.salt_texts.proofs.Inline.{all_inline, base_inline, decimal_inline, definition_inline, doubled_inline, known, lead, line_one, name_inline}
 use Rattle.salt_texts.proofs.Inline.{preceded_inline, run_append, statement_inline}
+use Rattle.salt_texts.proofs.Items.{family_part, mode_part, range_part, table_part}
 use Rattle.salt_texts.proofs.Parts.{unknown_inline}
 use Rattle.salt_texts.proofs.Numbering.{table_is_name}
 use Rattle.salt_texts.proofs.Statements.{Laws}
@@ -236,28 +237,16 @@ always (x ∷ xs) = (tt, always xs)
 module _ (laws : Laws) (schema : List TableDef) (naming : IsNaming schema) where
   item_inline : (i : Item) → IsPrintableItem schema i → IsSizedItem i → Inline (item_line schema i)
   item_inline (item.Lock l) g h =
-      lead (codes "lock ")
-      (owner_text l.owner ++
-      (codes " " ++ (family_text l.family ++
-      (codes " " ++ (mode_text l.mode ++ (codes " " ++ (table_name schema l.table ++ (codes " " ++ range_text l.range.lo l.range.hi)))))))) refl
-      (run_append is_inline (owner_text l.owner)
-      (codes " " ++ (family_text l.family ++
-      (codes " " ++ (mode_text l.mode ++ (codes " " ++ (table_name schema l.table ++ (codes " " ++ range_text l.range.lo l.range.hi)))))))
-      (owner_inline l.owner) (
-        refl,
-        run_append is_inline (family_text l.family)
-            (codes " " ++ (mode_text l.mode ++ (codes " " ++ (table_name schema l.table ++ (codes " " ++ range_text l.range.lo l.range.hi)))))
-            (known (family_text l.family) (family_inline l.family)) (
-              refl,
-              run_append is_inline (mode_text l.mode) (codes " " ++ (table_name schema l.table ++ (codes " " ++ range_text l.range.lo l.range.hi)))
-                  (known (mode_text l.mode) (mode_inline l.mode)) (
-                    refl,
-                    run_append is_inline (table_name schema l.table) (codes " " ++ range_text l.range.lo l.range.hi)
-                        (name_inline (table_name schema l.table) (table_is_name schema naming l.table g.0))
-                        (refl, range_inline l.range.lo l.range.hi h.1 h.2),
-                  ),
-            ),
-      ))
+      lead (codes "lock ") (owner_text l.owner ++ family_part schema l) refl
+      (run_append is_inline (owner_text l.owner) (family_part schema l) (owner_inline l.owner)
+      (lead (codes " ") (family_text l.family ++ mode_part schema l) refl
+      (run_append is_inline (family_text l.family) (mode_part schema l) (known (family_text l.family) (family_inline l.family))
+      (lead (codes " ") (mode_text l.mode ++ table_part schema l) refl
+      (run_append is_inline (mode_text l.mode) (table_part schema l) (known (mode_text l.mode) (mode_inline l.mode))
+      (lead (codes " ") (table_name schema l.table ++ range_part schema l) refl
+      (run_append is_inline (table_name schema l.table) (range_part schema l)
+      (name_inline (table_name schema l.table) (table_is_name schema naming l.table g.0))
+      (lead (codes " ") (range_text l.range.lo l.range.hi) refl (range_inline l.range.lo l.range.hi h.1 h.2)))))))))
   item_inline (item.Base b n at) g h =
       lead (codes "base ") (base_text b ++ (codes " " ++ (n ++ (codes " " ++ place_text at)))) refl
       (run_append is_inline (base_text b) (codes " " ++ (n ++ (codes " " ++ place_text at))) (base_inline b)

@@ -10,14 +10,15 @@ use Rattle.salt_ast.specs.Trees.{number}
 use Rattle.salt_ast.specs.declared.trees.Expr.{Expr}
 use Rattle.salt_model.specs.Naming.{IsName, IsNaming}
 use Rattle.salt_model.specs.Printable.{IsPrintableStory, IsSpelled, IsSpelledProgram, IsSpelledTable}
-use Rattle.salt_texts.specs.Samples.{definition_story, insert_null, null_story, one_is_there, program, schema, select_all, t, table}
+use Rattle.salt_texts.specs.Samples.{definition_story, insert_null, null_story, program, schema, select_all, t, table}
 use Rattle.salt_tokens.proofs.TokenLaws.{lex_sound}
 use Rattle.salt_tokens.specs.Pieces.{Lexes, Piece}
-use Rattle.salt_tokens.specs.Scanning.{first_at, lex, quoted_at}
+use Rattle.salt_tokens.specs.Scanning.{first_at, lex}
 use Rattle.salt_tokens.specs.Spelling.{keyword_of, sign_of}
 use Rattle.salt_tokens.specs.Symbols.{Symbols, int}
 use Rattle.salt_tokens.specs.declared.token.TokenKind.TheVariants as kind
-use Rattle.std.proofs.Common.{List, Some, [], arith, codes, inl, inr, pos, refl, ℕ, ◌∷◌, ◌≡◌}
+use Rattle.salt_values.specs.declared.limits.TheConstants.{PARENTHESES_MOST}
+use Rattle.std.proofs.Common.{List, Some, [], arith, codes, inl, inr, pos, refl, ℕ, ◌-◌, ◌∷◌, ◌≡◌}
 
 lexed : (bs : List ℕ) (ps : List Piece) → lex 0 bs ≡ Some ps → Lexes bs ps
 lexed bs ps h = lex_sound 0 bs ps (omega arith) h
@@ -57,7 +58,7 @@ insert_spelled = record {
   spells = record {
     tokens = insert_tokens;
     lexes = lexed insert_text insert_tokens refl;
-    spelled = form.is_insert (form.items (form.is_expression (one_spelled (Within 127))) (form.one_more form.is_null form.no_more));
+    spelled = form.is_insert (form.items (form.is_expression (one_spelled (Within (PARENTHESES_MOST - 1)))) (form.one_more form.is_null form.no_more));
   };
   within = refl;
 }

@@ -15,7 +15,8 @@ use Rattle.salt_texts.proofs.Quiet.{Quiet, statement_calm, within_firm}
 use Rattle.salt_tokens.specs.Spelling.{sign_of, sign_spelling}
 use Rattle.salt_tokens.specs.Symbols.{symbols_of}
 use Rattle.salt_tokens.specs.declared.sign.Sign.{Sign}
-use Rattle.std.proofs.Common.{List, None, Some, [], ap, append-nil, arith, false, subst, sym, ℕ, ◌++◌, ◌∙◌, ◌∷◌, ◌≡◌}
+use Rattle.salt_values.specs.declared.limits.TheConstants.{DEPTH_MOST, PARENTHESES_MOST}
+use Rattle.std.proofs.Common.{List, None, Some, [], ap, append-nil, arith, false, subst, sym, ℕ, ◌++◌, ◌-◌, ◌∙◌, ◌∷◌, ◌≡◌}
 use Rattle.std.proofs.lemmas.List.{append_cancel_right}
 
 -- what the crates below say of tokens and of the texts of statements and tables
@@ -37,14 +38,15 @@ module _ (laws : Laws) where
       record {
         tokens = s.tokens;
         lexes = s.lexes;
-        spelled = statement_up (within_up 64 128 (omega arith)) (within_up 64 127 (omega arith)) (symbols_of s.tokens) st s.spelled;
+        spelled = statement_up (within_up DEPTH_MOST PARENTHESES_MOST (omega arith)) (within_up DEPTH_MOST (PARENTHESES_MOST - 1) (omega arith))
+            (symbols_of s.tokens) st s.spelled;
       }
 
   quiet : (st : Statement) (h : IsSpelled st) → Quiet false (symbols_of (shallow st h).tokens)
   quiet st h =
       let s = shallow st h in
       subst (Quiet false) (append-nil (symbols_of s.tokens))
-      (statement_calm (within_firm 64) (within_firm 64) (symbols_of s.tokens) st s.spelled [] tt)
+      (statement_calm (within_firm DEPTH_MOST) (within_firm DEPTH_MOST) (symbols_of s.tokens) st s.spelled [] tt)
 
   -- what stands behind the first arrow outside quotes stands behind the statement
   pub arrow_found : (st : Statement) (x : List ℕ) → IsSpelled st → after open_place (statement_text st ++ (32 ∷ 45 ∷ 62 ∷ x)) ≡ x

@@ -1,7 +1,7 @@
 -- Values and rows of values.
 use Rattle.salt_ast.specs.Texts.{between_commas, value_text}
 use Rattle.salt_ast.specs.ProgramTexts.{row_text}
-use Rattle.salt_texts.proofs.Clear.{Clear, Stops, Tells, differ, listed_one}
+use Rattle.salt_texts.proofs.Clear.{Clear, Tells, differ, listed_one}
 use Rattle.salt_texts.proofs.Numbers.{decimal_begins, decimal_clear, not_quote}
 use Rattle.salt_model.specs.Sized.{IsSizedRow}
 use Rattle.salt_tokens.specs.Pieces.{NotNext, doubled}
