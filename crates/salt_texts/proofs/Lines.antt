@@ -7,7 +7,7 @@ use Rattle.salt_ast.specs.declared.limit.LimitName.{LimitName}
 use Rattle.salt_ast.specs.declared.trees.TableDef.{TableDef}
 use Rattle.salt_model.specs.EventTexts.{answer_text, cause_text, cell_text, end_text, event_line, event_text, family_text, item_text, kind_text}
 use Rattle.salt_model.specs.EventTexts.{mode_text, owner_text, place_text, range_text, refusal_text, table_name, unit_text, why_text}
-use Rattle.salt_model.specs.Printable.{HasPrintedForm, IsPrintable, IsPrintableItem, IsPrintableKind, IsPrintableRefusal}
+use Rattle.salt_model.specs.Printable.{HasPrintedForm, IsPrintableItem, IsPrintableKind, IsPrintableRefusal, IsPrintableStory}
 use Rattle.salt_model.specs.Words.{Every}
 use Rattle.salt_model.specs.declared.events.Answer.TheVariants as answer
 use Rattle.salt_model.specs.declared.events.Answer.{Answer}
@@ -301,6 +301,7 @@ module _ (laws : Laws) (schema : List TableDef) (naming : IsNaming schema) where
       every_append (map (item_line schema) items) ((codes "shown " ++ decimal (length items)) ∷ []) (items_inline items g h)
       (lead (codes "shown ") (decimal (length items)) refl (decimal_inline (length items)), tt)
 
+module _ (laws : Laws) (schema : List TableDef) where
   -- no byte within a line of an event ends it
-  pub lines_inline : (e : Event) → IsPrintable schema e → Every Inline (event_lines schema e)
-  lines_inline e g = event_inline e g.form g.sizes
+  pub lines_inline : (e : Event) → IsPrintableStory schema (e ∷ []) → Every Inline (event_lines schema e)
+  lines_inline e g = event_inline laws schema g.naming e g.events.0.form g.events.0.sizes

@@ -58,7 +58,8 @@ insert_spelled = record {
   spells = record {
     tokens = insert_tokens;
     lexes = lexed insert_text insert_tokens refl;
-    spelled = form.is_insert (form.items (form.is_expression (one_spelled (Within (PARENTHESES_MOST - 1)))) (form.one_more form.is_null form.no_more));
+    spelled = form.is_insert
+        (form.items (form.is_expression (one_spelled (Within (PARENTHESES_MOST - 1)))) (form.one_more form.is_null form.no_more));
   };
   within = refl;
 }
