@@ -79,7 +79,8 @@ null_symbols : (negated : Bool) → Symbols
 null_symbols false = key word.Is ∷ key word.Null ∷ []
 null_symbols true = key word.Is ∷ key word.Not ∷ key word.Null ∷ []
 
-tested : {Inner : Spells} {ts : Symbols} {e : Expr} → Atom Inner ts e → (negated : Bool) → Expression Inner (ts ++ null_symbols negated) (null_test negated e)
+tested : {Inner : Spells} {ts : Symbols} {e : Expr} → Atom Inner ts e → (negated : Bool) →
+    Expression Inner (ts ++ null_symbols negated) (null_test negated e)
 unfolding null_symbols
 tested x false = one (one (plain (is_null (as_sum x))))
 tested x true = one (one (plain (is_not_null (as_sum x))))
@@ -155,7 +156,8 @@ module _ (laws : TokenLaws) where
   null_fragment false = space_before (spaced_word laws word.Is (word_fragment laws word.Null))
   null_fragment true = space_before (spaced_word laws word.Is (spaced_word laws word.Not (word_fragment laws word.Null)))
 
-  null_test_at : (depth : ℕ) (negated : Bool) (e : Expr) → IsReadAs (Atom (Within depth)) (expr_text e) e → IsReadAs (Atom (Within (suc depth))) (expr_text (null_test negated e)) (null_test negated e)
+  null_test_at : (depth : ℕ) (negated : Bool) (e : Expr) → IsReadAs (Atom (Within depth)) (expr_text e) e →
+      IsReadAs (Atom (Within (suc depth))) (expr_text (null_test negated e)) (null_test negated e)
   unfolding Within
   null_test_at depth negated e x =
       let test = behind x.fragment (null_test_stops negated) (closed laws (null_fragment negated)) in

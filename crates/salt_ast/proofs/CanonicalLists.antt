@@ -30,7 +30,8 @@ abbrev pub listed_text : {A : Type 0} → Sign → (A → List ℕ) → List A �
 listed_text separator text [] = []
 listed_text separator text (x ∷ xs) = text x ++ preceded (between separator) text xs
 
-module _ (laws : TokenLaws) {A : Type 0} {Form Item : Symbols → A → Type 0} {text : A → List ℕ} {Low : A → Type 0} (read : AreReadAs Form Item text Low) where
+module _ (laws : TokenLaws) {A : Type 0} {Form Item : Symbols → A → Type 0} {text : A → List ℕ} {Low : A → Type 0}
+    (read : AreReadAs Form Item text Low) where
   module _ (separator : Sign) (stops : (rest : List ℕ) → Stops (between separator ++ rest)) where
     pub following_by_read : AreReadAs (FollowingBy separator Form) (FollowingBy separator Item) (preceded (between separator) text) (Each Low)
     following_by_read _ _ no_more h low = record { symbols = []; fragment = nothing; spelled = no_more }
@@ -41,7 +42,8 @@ module _ (laws : TokenLaws) {A : Type 0} {Form Item : Symbols → A → Type 0} 
         let item = behind first.fragment (preceded_stops (between separator) stops text xs) others.fragment in
         record {
           symbols = sign separator ∷ (first.symbols ++ others.symbols);
-          fragment = same_bytes_read (sym (append_assoc (sign_spelling separator) (codes " ") (text x ++ preceded (between separator) text xs))) (spaced_sign laws separator item);
+          fragment = same_bytes_read (sym (append_assoc (sign_spelling separator) (codes " ") (text x ++ preceded (between separator) text xs)))
+              (spaced_sign laws separator item);
           spelled = one_more first.spelled others.spelled;
         }
 
@@ -70,7 +72,11 @@ module _ (laws : TokenLaws) {A : Type 0} {Form Item : Symbols → A → Type 0} 
   pub several_read : AreReadAs (Several Form) (Several Item) (preceded (codes " ") text) (Each Low)
   several_read _ _ (last_one {ts = ts} {x = x} d) h (low, _) =
       let item = read ts x d h low in
-      record { symbols = item.symbols; fragment = space_before (same_bytes_read (sym (append-nil (text x))) item.fragment); spelled = last_one item.spelled }
+      record {
+        symbols = item.symbols;
+        fragment = space_before (same_bytes_read (sym (append-nil (text x))) item.fragment);
+        spelled = last_one item.spelled;
+      }
   several_read _ _ (and_more {a = a} {b = b} {x = x} {xs = xs} d k) h (low, lows) =
       let rows = each_of_append HasToken a b h in
       let first = read a x d rows.0 low in

@@ -42,6 +42,11 @@ failure_stops : (tries : Option ℕ) (n : Option Next) (rest : List ℕ) → Sto
 failure_stops tries None rest h = h
 failure_stops tries (Some n) rest h = space_stops _
 
+ways_stop : (commit : Option Next) (tries : Option ℕ) (failure : Option Next) (rest : List ℕ) → Stops rest →
+    Stops ((then_text commit ++ failure_text tries failure) ++ rest)
+ways_stop commit tries failure rest h =
+    rw (append_assoc (then_text commit) (failure_text tries failure) rest) (then_stops commit _ (failure_stops tries failure rest h))
+
 -- where the program goes on behind a failure, behind so many tries
 abbrev failure_of : Option ℕ × Option Next → List ℕ
 failure_of told = failure_text told.0 told.1
@@ -108,7 +113,8 @@ module _ (laws : TokenLaws) {Inner Deeper : Spells} (inner : AreRead Inner) (dee
   block_read : AreReadAs (IsBlock Inner Deeper) (IsBlock Shallow Shallow) block_text IsLowBlock
   block_read _ _ (is_block (items {a = a} {b = b} {x = st} {xs = sts} d k)) (_, row) low =
       let rows = each_of_append HasToken (a ++ b) (sign mark.CloseBrace ∷ []) row in
-      let x = listed_by_read laws (statement_read laws inner deeper) mark.Semicolon (λ rest. semicolon_stops _) (a ++ b) (st ∷ sts) (items d k) rows.0 low in
+      let statements = listed_by_read laws (statement_read laws inner deeper) mark.Semicolon (λ rest. semicolon_stops _) in
+      let x = statements (a ++ b) (st ∷ sts) (items d k) rows.0 low in
       let last = space_before (close_brace_before laws nothing) in
       let within = behind x.fragment (λ rest next. space_stops _) last in
       record {
@@ -126,7 +132,7 @@ module _ (laws : TokenLaws) {Inner Deeper : Spells} (inner : AreRead Inner) (dee
       let y = then_read laws b commit k others.0 tt in
       let z = on_failure_read laws c (tries, failure) g others.1 tt in
       let ways = behind y.fragment (failure_stops tries failure) z.fragment in
-      let all = behind x.fragment (λ rest next. rw (append_assoc (then_text commit) (failure_text tries failure) rest) (then_stops commit _ (failure_stops tries failure rest next))) ways in
+      let all = behind x.fragment (ways_stop commit tries failure) ways in
       record {
         symbols = key word.Part ∷ (x.symbols ++ (y.symbols ++ z.symbols));
         fragment = spaced_word laws word.Part all;
@@ -146,7 +152,8 @@ module _ (laws : TokenLaws) {Inner Deeper : Spells} (inner : AreRead Inner) (dee
       let x = several_read laws part_read ts parts d row (lows_of_parts parts low) in
       record {
         symbols = key word.Base ∷ x.symbols;
-        fragment = word_before laws word.Base (λ rest next. (preceded_stops (codes " ") (λ r. space_stops _) program_part_text parts rest next).words) x.fragment;
+        fragment = word_before laws word.Base
+            (λ rest next. (preceded_stops (codes " ") (λ r. space_stops _) program_part_text parts rest next).words) x.fragment;
         spelled = is_base x.spelled;
       }
 
@@ -166,7 +173,8 @@ module _ (laws : TokenLaws) {Inner Deeper : Spells} (inner : AreRead Inner) (dee
         spelled = is_program x.spelled y.spelled z.spelled;
       }
 
-pub canonical_program : TokenLaws → (bytes : List ℕ) (p : ProgramDef) → SpellsProgram bytes p → program_limit p ≡ None → SpellsShallowProgram (program_text p) p
+pub canonical_program : TokenLaws → (bytes : List ℕ) (p : ProgramDef) → SpellsProgram bytes p → program_limit p ≡ None →
+    SpellsShallowProgram (program_text p) p
 unfolding program_limit
 canonical_program laws bytes p spells limit =
     canonical_spells laws (program_read laws (within_read laws _) (within_read laws _)) bytes p spells

@@ -27,7 +27,8 @@ told_rest count k (q ∷ qs) (suc i) =
     let others : rest_among behind (Some (k + suc i)) ≡ rest_from count (suc k) qs (record { part = k + suc i; tries = tries }) =
     subst (λ (n : ℕ). rest_among behind (Some n) ≡ rest_from count (suc k) qs (record { part = n; tries = tries })) e (told_rest count (suc k) qs i) in
     other_branch k (k + suc i) rest (rest_among behind (Some (k + suc i))) (λ f. omega arith) ∙ others
-    ∙ sym (other_branch (k + suc i) k (part_rest count k q tries behind) (rest_from count (suc k) qs (record { part = k + suc i; tries = tries })) (λ f. omega arith))
+    ∙ sym (other_branch (k + suc i) k (part_rest count k q tries behind)
+    (rest_from count (suc k) qs (record { part = k + suc i; tries = tries })) (λ f. omega arith))
 
 told_where_it_leads : (parts : List PartDef) (count k : ℕ) (ps : List PartDef) → AreFrom parts count k ps → (i : ℕ) →
     rest_among (rests count k ps) (Some (k + i)) ≡ rest_from count 1 parts (position_at parts (k + i))
@@ -47,13 +48,16 @@ way_rest parts k qs all (Some j) (later, _) =
 
 module _ (parts : List PartDef) (k : ℕ) (p : PartDef) (at : StandsAt parts (length parts) k p) where
   -- the rest at the part itself, among the rests of those behind it
-  own_rest : (tries : ℕ) → rest_of parts (Some (record { part = k; tries = tries })) ≡ part_rest (length parts) k p tries (rests (length parts) (suc k) at.behind)
+  own_rest : (tries : ℕ) →
+      rest_of parts (Some (record { part = k; tries = tries })) ≡ part_rest (length parts) k p tries (rests (length parts) (suc k) at.behind)
   own_rest tries =
       let here : Position = record { part = k; tries = tries } in
       at.from_it.rest here (omega arith)
-      ∙ same_branch k k (part_rest (length parts) k p tries (rests (length parts) (suc k) at.behind)) (rest_from (length parts) (suc k) at.behind here) refl
+      ∙ same_branch k k (part_rest (length parts) k p tries (rests (length parts) (suc k) at.behind))
+      (rest_from (length parts) (suc k) at.behind here) refl
 
-  told_on : (w : Option ℕ) → LeadsOn (length parts) k w → rest_among (rests (length parts) (suc k) at.behind) w ≡ rest_of parts (option_map (position_at parts) w)
+  told_on : (w : Option ℕ) → LeadsOn (length parts) k w →
+      rest_among (rests (length parts) (suc k) at.behind) w ≡ rest_of parts (option_map (position_at parts) w)
   told_on = way_rest parts k at.behind (without_first parts (length parts) k p at.behind at.from_it)
 
   -- where the program goes on behind a failure with so many tries left

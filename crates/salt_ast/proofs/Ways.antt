@@ -71,11 +71,13 @@ all_from_first parts sound = record {
 pub other_branch : {A : Type 0} (n k : ℕ) (x y : A) → (n ≡ k → ⊥) → (if n == k then x else y) ≡ y
 other_branch n k x y ne = grind (arith, nat_tests)
 
-pub without_first : (parts : List PartDef) (count k : ℕ) (q : PartDef) (qs : List PartDef) → AreFrom parts count k (q ∷ qs) → AreFrom parts count (suc k) qs
+pub without_first : (parts : List PartDef) (count k : ℕ) (q : PartDef) (qs : List PartDef) → AreFrom parts count k (q ∷ qs) →
+    AreFrom parts count (suc k) qs
 without_first parts count k q qs all = record {
   sound = other_is_none (part_fault count k q) (fault_in_parts count (suc k) qs) all.sound;
   numbered = λ i. let e : suc k + i ≡ k + suc i = omega arith in ap (λ (n : ℕ). at_number n parts) e ∙ all.numbered (suc i);
-  rest = λ at lt. all.rest at (omega arith) ∙ other_branch at.part k (part_rest count k q at.tries (rests count (suc k) qs)) (rest_from count (suc k) qs at) (λ e. omega arith);
+  rest = λ at lt. all.rest at (omega arith)
+      ∙ other_branch at.part k (part_rest count k q at.tries (rests count (suc k) qs)) (rest_from count (suc k) qs at) (λ e. omega arith);
 }
 
 -- the part of this number, and those behind it

@@ -2,7 +2,8 @@
 
 ghost use Rattle.std.specs.Prelude.{◌≡◌};
 ghost use Rattle.salt_ast.specs.Prints.{Prints};
-ghost use Rattle.salt_ast.specs.ProgramTexts.{block_text, body_text, failure_text, next_text, program_part_text, program_text, retry_text, then_text, variables_text};
+ghost use Rattle.salt_ast.specs.ProgramTexts.{block_text, body_text, failure_text, next_text, program_part_text};
+ghost use Rattle.salt_ast.specs.ProgramTexts.{program_text, retry_text, then_text, variables_text};
 
 use crate::printer::{Canonical, Printer};
 use crate::programs::{Body, Next, PartDef, ProgramDef};
