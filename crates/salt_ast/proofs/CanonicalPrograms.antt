@@ -1,10 +1,10 @@
 -- Canonical texts of programs are read as their trees.
 use Rattle.salt_ast.proofs.CanonicalExprs.{AreRead, within_read}
-use Rattle.salt_ast.proofs.CanonicalLists.{any_listed_read, following_stops, listed_by_read, listed_read, listed_text, preceded_stops, several_read}
+use Rattle.salt_ast.proofs.CanonicalLists.{any_listed_read, listed_by_read, listed_read, preceded_stops, several_read}
 use Rattle.salt_ast.proofs.CanonicalStatements.{IsLowStatement, statement_read}
 use Rattle.salt_ast.proofs.CanonicalTables.{field_read}
 use Rattle.salt_ast.proofs.Each.{Anything, Each, each_is_anything, each_of_append, each_of_flat_map}
-use Rattle.salt_ast.proofs.Fragments.{IsFragment, IsReadAs, Stops, behind, behind_space, close_brace_before, close_stops, nothing, number_fragment, open_before, open_stops, regrouped, respelled, same_bytes_read, semicolon_stops, space_before, space_first, space_stops, spaced_name, spaced_sign, spaced_word, name_fragment, word_before, word_first, word_fragment}
+use Rattle.salt_ast.proofs.Fragments.{IsFragment, Stops, behind, behind_space, close_brace_before, close_stops, nothing, number_fragment, open_before, open_stops, regrouped, same_bytes_read, semicolon_stops, space_before, space_first, space_stops, spaced_sign, spaced_word, name_fragment, word_before, word_first, word_fragment}
 use Rattle.salt_ast.proofs.LowExprs.{IsLow, Shallow, all_low, other_is_none}
 use Rattle.salt_ast.proofs.TokenRows.{AreReadAs, HasToken, canonical_spells}
 use Rattle.salt_ast.specs.TokenLaws.{TokenLaws}
@@ -12,15 +12,12 @@ use Rattle.salt_ast.specs.Grammar.{Spells}
 use Rattle.salt_ast.specs.Limits.{height_passed}
 use Rattle.salt_ast.specs.Paths.{body_statements, part_block, statements_in}
 use Rattle.salt_ast.specs.ProgramLimits.{program_exprs, program_limit, program_passed}
-use Rattle.salt_ast.specs.ProgramTexts.{block_text, body_text, failure_text, next_text, program_part_text, program_text, retry_text, then_text, variables_text}
-use Rattle.salt_ast.specs.Programs.{AnyListed, AreVariables, IsBlock, IsBody, IsOnFailure, IsPart, IsProgram, IsThen, IsWay, Several, branch, is_acid, is_base, is_block, is_part, is_program, no_branch, no_then, no_variables, retried, then_way, to_end, to_part, variables}
+use Rattle.salt_ast.specs.ProgramTexts.{block_text, body_text, failure_text, next_text, program_part_text, program_text, then_text, variables_text}
+use Rattle.salt_ast.specs.Programs.{AreVariables, IsBlock, IsBody, IsOnFailure, IsPart, IsProgram, IsThen, IsWay, branch, is_acid, is_base, is_block, is_part, is_program, no_branch, no_then, no_variables, retried, then_way, to_end, to_part, variables}
 use Rattle.salt_ast.specs.Spelling.{SpellsProgram, SpellsShallowProgram}
-use Rattle.salt_ast.specs.Statements.{IsStatement, ListedBy, items}
-use Rattle.salt_ast.specs.Tables.{IsField}
+use Rattle.salt_ast.specs.Statements.{items}
 use Rattle.salt_ast.specs.Texts.{field_text, preceded, statement_text}
 use Rattle.salt_ast.specs.Trees.{statement_exprs}
-use Rattle.salt_ast.specs.declared.programs.Body.{Body}
-use Rattle.salt_ast.specs.declared.programs.Body.TheVariants as body
 use Rattle.salt_ast.specs.declared.programs.Next.{Next}
 use Rattle.salt_ast.specs.declared.programs.PartDef.{PartDef}
 use Rattle.salt_ast.specs.declared.programs.ProgramDef.{ProgramDef}
@@ -29,7 +26,7 @@ use Rattle.salt_ast.specs.declared.trees.Statement.{Statement}
 use Rattle.salt_tokens.specs.Symbols.{Symbols, int, key, name, sign}
 use Rattle.salt_tokens.specs.declared.keyword.Keyword.TheVariants as word
 use Rattle.salt_tokens.specs.declared.sign.Sign.TheVariants as mark
-use Rattle.std.proofs.Common.{List, None, Option, Some, [], append-nil, append_assoc, codes, map, refl, sym, ℕ, ◌++◌, ◌∷◌, ◌≡◌}
+use Rattle.std.proofs.Common.{List, None, Option, Some, [], append-nil, append_assoc, codes, map, sym, ℕ, ◌++◌, ◌∷◌, ◌≡◌}
 use Rattle.std.specs.Fmt.{decimal}
 
 -- ---- ways

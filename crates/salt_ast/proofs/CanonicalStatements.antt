@@ -2,25 +2,23 @@
 use Rattle.salt_ast.proofs.CanonicalExprs.{AreRead, within_read}
 use Rattle.salt_ast.proofs.CanonicalLists.{listed_read}
 use Rattle.salt_ast.proofs.Each.{Anything, Each, each_is_anything, each_of_append, each_of_map}
-use Rattle.salt_ast.proofs.Fragments.{IsFragment, IsNameWord, IsReadAs, Stops, behind, behind_space, close_before, closed, colon_before, name_fragment, nothing, open_before, respelled, space_before, space_first, space_stops, spaced_name, spaced_sign, spaced_word, star_before, word_before, word_first, word_fragment}
+use Rattle.salt_ast.proofs.Fragments.{IsFragment, IsNameWord, Stops, behind, behind_space, close_before, closed, colon_before, name_fragment, nothing, open_before, respelled, space_before, space_first, space_stops, spaced_name, spaced_sign, spaced_word, star_before, word_before, word_first, word_fragment}
 use Rattle.salt_ast.proofs.LowExprs.{IsLow, Shallow, all_low, low_conjunction, low_expression, low_sum, other_is_none}
 use Rattle.salt_ast.proofs.TokenRows.{AreReadAs, HasToken, canonical_spells}
 use Rattle.salt_ast.specs.TokenLaws.{TokenLaws}
 use Rattle.salt_ast.specs.Grammar.{Spells}
 use Rattle.salt_ast.specs.Limits.{height_passed, statement_limit, statement_passed}
 use Rattle.salt_ast.specs.Spelling.{SpellsShallowStatement, SpellsStatement}
-use Rattle.salt_ast.specs.Statements.{ColumnValue, IsAnd, IsName, IsScan, IsSet, IsStatement, IsWhat, Listed, and, count_rows, every_column, is_delete, is_ensure, is_expression, is_insert, is_name, is_null, is_select, is_select_into, is_set, is_update, max_of, min_of, named_columns, no_and, no_where, sum_of, where_between, where_filter, where_key}
-use Rattle.salt_ast.specs.Texts.{between_commas, bound_text, expr_text, filter_text, name_text, scan_text, set_text, statement_text, what_text}
+use Rattle.salt_ast.specs.Statements.{ColumnValue, IsAnd, IsName, IsScan, IsSet, IsStatement, IsWhat, and, count_rows, every_column, is_delete, is_ensure, is_expression, is_insert, is_name, is_null, is_select, is_select_into, is_set, is_update, max_of, min_of, named_columns, no_and, no_where, sum_of, where_between, where_filter, where_key}
+use Rattle.salt_ast.specs.Texts.{bound_text, expr_text, filter_text, name_text, scan_text, set_text, statement_text, what_text}
 use Rattle.salt_ast.specs.Trees.{filter_exprs, scan_exprs, set_value, statement_exprs}
 use Rattle.salt_ast.specs.declared.trees.Bound.{Bound}
 use Rattle.salt_ast.specs.declared.trees.Bound.TheVariants as bound
 use Rattle.salt_ast.specs.declared.trees.Expr.{Expr}
 use Rattle.salt_ast.specs.declared.trees.Scan.{Scan}
-use Rattle.salt_ast.specs.declared.trees.Set.{Set}
 use Rattle.salt_ast.specs.declared.trees.Statement.{Statement}
-use Rattle.salt_ast.specs.declared.trees.What.{What}
 use Rattle.salt_tokens.specs.Spelling.{keyword_spelling}
-use Rattle.salt_tokens.specs.Symbols.{Symbols, key, name, sign}
+use Rattle.salt_tokens.specs.Symbols.{key, name, sign}
 use Rattle.salt_tokens.specs.declared.keyword.Keyword.{Keyword}
 use Rattle.salt_tokens.specs.declared.keyword.Keyword.TheVariants as word
 use Rattle.salt_tokens.specs.declared.sign.Sign.TheVariants as mark

@@ -2,7 +2,7 @@
 use Rattle.salt_ast.proofs.CanonicalExprs.{AreRead, within_read}
 use Rattle.salt_ast.proofs.CanonicalLists.{following_read, following_stops}
 use Rattle.salt_ast.proofs.Each.{Anything, Each, each_is_anything, each_of_append}
-use Rattle.salt_ast.proofs.Fragments.{IsReadAs, Stops, behind, behind_space, close_stops, closed, comma_stops, nothing, open_before, regrouped, respelled, spaced_name, spaced_word, word_before, word_first, word_fragment}
+use Rattle.salt_ast.proofs.Fragments.{IsReadAs, Stops, behind, behind_space, close_stops, closed, comma_stops, open_before, regrouped, respelled, spaced_name, spaced_word, word_before, word_first, word_fragment}
 use Rattle.salt_ast.proofs.LowExprs.{IsLow, Shallow, all_low, low_expression, other_is_none}
 use Rattle.salt_ast.proofs.TokenRows.{AreReadAs, HasToken, canonical_spells}
 use Rattle.salt_ast.specs.TokenLaws.{TokenLaws}
@@ -13,7 +13,6 @@ use Rattle.salt_ast.specs.Statements.{Following}
 use Rattle.salt_ast.specs.Tables.{IsCheck, IsColumn, IsField, IsTable, int_field, is_check, is_nullable, is_plain, is_table, text_field}
 use Rattle.salt_ast.specs.Texts.{expr_text, field_text, preceded, table_text}
 use Rattle.salt_ast.specs.declared.trees.Expr.{Expr}
-use Rattle.salt_ast.specs.declared.trees.Field.{Field}
 use Rattle.salt_ast.specs.declared.trees.TableDef.{TableDef}
 use Rattle.salt_tokens.specs.Symbols.{Symbols, key, name, sign}
 use Rattle.salt_tokens.specs.declared.keyword.Keyword.TheVariants as word

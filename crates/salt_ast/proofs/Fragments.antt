@@ -10,7 +10,7 @@ use Rattle.salt_tokens.specs.declared.sign.Sign.{Sign}
 use Rattle.salt_tokens.specs.declared.sign.Sign.TheVariants as mark
 use Rattle.salt_tokens.specs.declared.token.TokenKind.{TokenKind}
 use Rattle.salt_tokens.specs.declared.token.TokenKind.TheVariants as kind
-use Rattle.std.proofs.Common.{List, None, Some, [], ap, append_assoc, codes, false, is_some, refl, rules, subst, sym, ℕ, ◌++◌, ◌<◌, ◌^◌, ◌∙◌, ◌∷◌, ◌≡◌}
+use Rattle.std.proofs.Common.{List, None, [], ap, append_assoc, codes, false, is_some, refl, rules, subst, sym, ℕ, ◌++◌, ◌<◌, ◌^◌, ◌∙◌, ◌∷◌, ◌≡◌}
 use Rattle.std.proofs.lemmas.List.{append-nil}
 use Rattle.std.specs.Fmt.{decimal}
 use Rattle.std.specs.Prelude.{◌==◌}

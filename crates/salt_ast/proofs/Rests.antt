@@ -3,9 +3,9 @@ use Rattle.salt_ast.proofs.Ways.{AreFrom, LeadsOn, StandsAt, no_part_zero, other
 use Rattle.salt_ast.specs.Paths.{Position, Rest, at_number, next_on_commit, next_on_failure, part_rest, position_at, rest_among, rest_from, rest_of, retries, rests, way_on_commit, way_on_failure}
 use Rattle.salt_ast.specs.ProgramJudgement.{fault_in_parts}
 use Rattle.salt_ast.specs.declared.programs.PartDef.{PartDef}
-use Rattle.std.proofs.Common.{List, None, Option, Some, [], ap, arith, if◌then◌else◌, refl, subst, suc, sym, zero, ℕ, ◌+◌, ◌-◌, ◌<◌, ◌∙◌, ◌∷◌, ◌≡◌, ◌≤◌}
+use Rattle.std.proofs.Common.{List, None, Option, Some, [], ap, arith, if◌then◌else◌, refl, subst, suc, sym, zero, ℕ, ◌+◌, ◌-◌, ◌∙◌, ◌∷◌, ◌≡◌}
 use Rattle.std.proofs.lemmas.Bool.Decides.{nat_tests}
-use Rattle.std.specs.Prelude.{◌==◌, length, max, option_and_then, option_map}
+use Rattle.std.specs.Prelude.{◌==◌, length, max, option_map}
 
 same_branch : {A : Type 0} (n k : ℕ) (x y : A) → n ≡ k → (if n == k then x else y) ≡ x
 same_branch n k x y e = grind (arith, nat_tests)

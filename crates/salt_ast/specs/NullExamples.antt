@@ -2,7 +2,6 @@
 use Rattle.salt_ast.specs.Grammar.{Within, alone, named, one, plain, plus_int}
 use Rattle.salt_ast.specs.Grammar as grammar
 use Rattle.salt_ast.specs.Judgement.{Fault, mistyped, statement_fault, table_fault}
-use Rattle.salt_ast.specs.Limits.{statement_limit}
 use Rattle.salt_ast.specs.Lines as lines
 use Rattle.salt_ast.specs.Lines.{IsLine}
 use Rattle.salt_ast.specs.Paths.{Position, next_on_branch, next_on_commit, next_on_failure, rest_of}
@@ -29,7 +28,6 @@ use Rattle.salt_ast.specs.declared.trees.ColType.TheVariants as kind
 use Rattle.salt_ast.specs.declared.trees.Expr.{Column, Expr, Variable}
 use Rattle.salt_ast.specs.declared.trees.Field.{Field}
 use Rattle.salt_ast.specs.declared.trees.Op.TheVariants as op
-use Rattle.salt_ast.specs.declared.trees.Scope.{Scope}
 use Rattle.salt_ast.specs.declared.trees.Statement.{Statement}
 use Rattle.salt_ast.specs.declared.trees.Statement.TheVariants as statement
 use Rattle.salt_ast.specs.declared.trees.TableDef.{TableDef}
