@@ -1,9 +1,12 @@
 #!/usr/bin/env python3
-"""Times the proved parser of statements: 100,000 statements of mixed kinds, and one expression of 16, 32 and 64 terms.
+"""Times the proved parser: 100,000 statements of mixed kinds and 20,000 programs, one expression of 16, 32 and 64 terms, and lines of
+up to 65,536 bytes with one list each.
 
-The program `parse_bench` reads a statement from each line. Beside it stands `explain` of the same statements in sqlite3, which
-parses and plans them (`key` is the column `id` there, ENSURE a SELECT, and INTO is left out). Ends with 1 where the time for
-a term grew by more than 1.3 from 16 terms to 64.
+The program `parse_bench` reads a statement or a program from each line. Beside it stands `explain` of the same statements in sqlite3,
+which parses and plans them (`key` is the column `id` there, ENSURE a SELECT, and INTO is left out). Ends with 1 where the time for
+a term grew by more than 1.1 from 16 terms to 64, or that for a byte by more than 1.3 from a quarter of the longest line to the whole.
+
+    bench/parse.py [OTHER]     with the parse_bench of another commit, the same statements by both, in turns
 """
 import random, shutil, subprocess, sys
 from pathlib import Path
@@ -13,7 +16,12 @@ from timing import seconds
 STATEMENTS = 100_000
 EXPRESSIONS = 20_000
 TERMS = [16, 32, 64]
-GROWTH = 1.3
+GROWTH = 1.1
+PROGRAMS = 20_000
+LINE = 65_536
+LINES = 40
+BYTE_GROWTH = 1.3
+TURNS = 3
 CRATE = Path(__file__).resolve().parent.parent / "crates/parse_bench"
 PROGRAM = CRATE / "out/parse_bench"
 
@@ -27,6 +35,37 @@ FORMS = [
     "delete from t where a = {0} * (a + {1})",
     "ensure {0} <= {1} or {0} > {1}",
 ]
+
+
+# before a list's items, an item, and behind them; the last two spell nothing, so that each item is read twice
+LISTS = [
+    ("values", "insert into t values (1", ",1", ")"),
+    ("null values", "insert into t values (null", ",null", ")"),
+    ("sets", "update t set a=1", ",a=1", ""),
+    ("names", "select a", ",a", " from t"),
+    ("terms", "ensure 1", "+1", ""),
+    ("nots", "ensure ", "not ", "a"),
+    ("parameters", "program p(a int", ",a int", ")acid{ensure 1}end"),
+    ("variables", "program p()var a int", ",a int", " acid{ensure 1}end"),
+    ("statements", "program p()acid{ensure 1", ";ensure 1", "}end"),
+    ("parts", "program p()base ", "part{ensure 1} ", "end"),
+    ("statements, unended", "program p()acid{ensure 1", ";ensure 1", "}"),
+    ("parts, unended", "program p()base ", "part{ensure 1} ", "part"),
+]
+
+
+def programs():
+    numbers = random.Random(2)
+    found = []
+    for n in range(PROGRAMS):
+        block = "; ".join(FORMS[(n + k) % len(FORMS)].format(numbers.randrange(2**40), k) for k in range(3))
+        part = f"part {{ {block} }} then end on failure retry 3 then go 1"
+        found.append(f"program p{n}(a int, b text) var x int base {part} {part} end")
+    return found
+
+
+def listed(before, item, behind, size):
+    return before + item * ((size - len(before) - len(behind)) // len(item)) + behind
 
 
 def statements():
@@ -47,6 +86,24 @@ def script(lines):
     return "".join(line + "\n" for line in lines).encode()
 
 
+def long_lines():
+    """Times lines with one list each, and tells whether each kind takes time in proportion."""
+    linear = True
+    for name, before, item, behind in LISTS:
+        costs = [seconds([PROGRAM], script([listed(before, item, behind, size)] * LINES)) / size / LINES for size in [LINE // 4, LINE]]
+        growth = costs[1] / costs[0]
+        linear = linear and growth <= BYTE_GROWTH
+        print(f"salt     {name:20} {costs[1] * 1e9:6.1f} ns a byte, {growth:.2f} of that at a quarter (allowed: {BYTE_GROWTH})", flush=True)
+    return linear
+
+
+def beside(other, lines):
+    """Times the same lines by this program and another, in turns."""
+    text = script(lines)
+    ours, theirs = zip(*((seconds([PROGRAM], text), seconds([other], text)) for _ in range(TURNS)))
+    print(f"here {min(ours):.3f} s, by {other} {min(theirs):.3f} s: {min(ours) / min(theirs):.2f} of that", flush=True)
+
+
 def main():
     with (CRATE / "stdin").open("rb") as example:
         subprocess.run(["rt", "run"], cwd=CRATE, stdin=example, stdout=subprocess.DEVNULL, stderr=subprocess.DEVNULL, check=True)
@@ -59,6 +116,10 @@ def main():
         print(f"sqlite3  {STATEMENTS} statements {took:8.3f} s {STATEMENTS / took:10.0f} statements/s (explain)", flush=True)
     else:
         print("sqlite3 is not installed: nothing to compare with (apt-get install sqlite3)")
+    if len(sys.argv) > 1:
+        beside(sys.argv[1], mixed)
+    took = seconds([PROGRAM], script(programs()))
+    print(f"salt     {PROGRAMS} programs   {took:8.3f} s {PROGRAMS / took:10.0f} programs/s of six statements", flush=True)
     costs = []
     for terms in TERMS:
         took = seconds([PROGRAM], script(expressions(terms)))
@@ -66,7 +127,8 @@ def main():
         print(f"salt     {terms:3} terms {took:8.3f} s {costs[-1] * 1e9:8.0f} ns a term", flush=True)
     growth = costs[-1] / costs[0]
     print(f"a term's cost at {TERMS[-1]} terms is {growth:.2f} of that at {TERMS[0]} (allowed: {GROWTH})")
-    return 0 if growth <= GROWTH else 1
+    linear = long_lines()
+    return 0 if growth <= GROWTH and linear else 1
 
 
 if __name__ == "__main__":
