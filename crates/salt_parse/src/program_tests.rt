@@ -5,10 +5,21 @@ use std::test::Fail;
 
 const SYNTAX: Option<ParseErr> = Some(ParseErr::Syntax);
 
-// A limit that is passed first.
-fn passes(limit: LimitName) -> Option<ParseErr> {
-    Some(ParseErr::Limit(limit))
-}
+const PASSES_DEPTH: Option<ParseErr> = Some(ParseErr::Limit(LimitName::Depth));
+
+const PASSES_NAME: Option<ParseErr> = Some(ParseErr::Limit(LimitName::Name));
+
+const PASSES_NUMBER: Option<ParseErr> = Some(ParseErr::Limit(LimitName::Number));
+
+const PASSES_PARAMETERS: Option<ParseErr> = Some(ParseErr::Limit(LimitName::Parameters));
+
+const PASSES_PARTS: Option<ParseErr> = Some(ParseErr::Limit(LimitName::Parts));
+
+const PASSES_RETRY: Option<ParseErr> = Some(ParseErr::Limit(LimitName::Retry));
+
+const PASSES_STATEMENTS: Option<ParseErr> = Some(ParseErr::Limit(LimitName::Statements));
+
+const PASSES_VARIABLES: Option<ParseErr> = Some(ParseErr::Limit(LimitName::Variables));
 
 // Names and types with commas between them.
 fn add_fields(text: &mut Vec<u8>, fields: &Fields) -> Result<(), AllocError> {
@@ -347,244 +358,246 @@ fn repeated(
     Ok(text)
 }
 
+// What stands before a piece, how often it stands there, what stands behind it, and what is told of it all.
+const LIMITS: [(&[u8], usize, &[u8], &[u8], Option<ParseErr>); 34] = [
+    (
+        b"program p(a int",
+        14,
+        b", b int",
+        b") acid { ensure 1 } end",
+        None,
+    ),
+    (
+        b"program p(a int",
+        15,
+        b", b int",
+        b") acid { ensure 1 } end",
+        None,
+    ),
+    (
+        b"program p(a int",
+        16,
+        b", b int",
+        b") acid { ensure 1 } end",
+        PASSES_PARAMETERS,
+    ),
+    (
+        b"program p(a int",
+        16,
+        b", b int",
+        b") acid { ensure 1 }",
+        SYNTAX,
+    ),
+    (
+        b"program p() var a int",
+        15,
+        b", b int",
+        b" acid { ensure 1 } end",
+        None,
+    ),
+    (
+        b"program p() var a int",
+        16,
+        b", b int",
+        b" acid { ensure 1 } end",
+        PASSES_VARIABLES,
+    ),
+    (
+        b"program p() acid { ensure 1",
+        62,
+        b"; ensure 1",
+        b" } end",
+        None,
+    ),
+    (
+        b"program p() acid { ensure 1",
+        63,
+        b"; ensure 1",
+        b" } end",
+        None,
+    ),
+    (
+        b"program p() acid { ensure 1",
+        64,
+        b"; ensure 1",
+        b" } end",
+        PASSES_STATEMENTS,
+    ),
+    (
+        b"program p() base",
+        31,
+        b" part { ensure 1 }",
+        b" end",
+        None,
+    ),
+    (
+        b"program p() base",
+        32,
+        b" part { ensure 1 }",
+        b" end",
+        None,
+    ),
+    (
+        b"program p() base",
+        33,
+        b" part { ensure 1 }",
+        b" end",
+        PASSES_PARTS,
+    ),
+    (
+        b"program p() base part { ensure 1 } then go 9223372036854775807",
+        0,
+        b"",
+        b" end",
+        None,
+    ),
+    (
+        b"program p() base part { ensure 1 } then go 9223372036854775808",
+        0,
+        b"",
+        b" end",
+        PASSES_NUMBER,
+    ),
+    (
+        b"program p() base part { ensure 1 } then go 18446744073709551617",
+        0,
+        b"",
+        b" end",
+        PASSES_NUMBER,
+    ),
+    (
+        b"program p() base part { ensure 1 } on failure go 9223372036854775808",
+        0,
+        b"",
+        b" end",
+        PASSES_NUMBER,
+    ),
+    (
+        b"program p() base part { ensure 1 } on failure retry 1 then end",
+        0,
+        b"",
+        b" end",
+        None,
+    ),
+    (
+        b"program p() base part { ensure 1 } on failure retry 9 then end",
+        0,
+        b"",
+        b" end",
+        None,
+    ),
+    (
+        b"program p() base part { ensure 1 } on failure retry 0 then end",
+        0,
+        b"",
+        b" end",
+        PASSES_RETRY,
+    ),
+    (
+        b"program p() base part { ensure 1 } on failure retry 10 then end",
+        0,
+        b"",
+        b" end",
+        PASSES_RETRY,
+    ),
+    (
+        b"program p() base part { ensure 1 } on failure retry 265 then end",
+        0,
+        b"",
+        b" end",
+        PASSES_RETRY,
+    ),
+    (
+        b"program p() base part { ensure 1 } on failure retry 18446744073709551617 then end",
+        0,
+        b"",
+        b" end",
+        PASSES_RETRY,
+    ),
+    (
+        b"program p() base part { ensure 1 } on failure retry 0 then go 9223372036854775808",
+        0,
+        b"",
+        b" end",
+        PASSES_RETRY,
+    ),
+    (
+        b"program p() base part { ensure 1 } then go 9223372036854775808 on failure retry 0 then end",
+        0,
+        b"",
+        b" end",
+        PASSES_NUMBER,
+    ),
+    (
+        b"program ",
+        33,
+        b"a",
+        b"() acid { ensure 9223372036854775808 } end",
+        PASSES_NAME,
+    ),
+    (b"program p() acid { ensure 1", 63, b"+1", b" } end", None),
+    (
+        b"program p() acid { ensure 1",
+        64,
+        b"+1",
+        b" } end",
+        PASSES_DEPTH,
+    ),
+    (
+        b"program p() acid { ensure 1",
+        64,
+        b"+1",
+        b"; ensure 9223372036854775808 } end",
+        PASSES_NUMBER,
+    ),
+    (
+        b"program p() acid { ensure 1",
+        64,
+        b"; ensure 9223372036854775808",
+        b" } end",
+        PASSES_NUMBER,
+    ),
+    (
+        b"program p() base part { ensure 1 }",
+        32,
+        b" part { ensure 9223372036854775808 }",
+        b" end",
+        PASSES_NUMBER,
+    ),
+    (
+        b"program p() base part { ensure 1",
+        64,
+        b"; ensure 1",
+        b" } then go 9223372036854775808 end",
+        PASSES_STATEMENTS,
+    ),
+    (
+        b"program p(a int",
+        16,
+        b", b int",
+        b") var a23456789_123456789_123456789_123 int acid { ensure 1 } end",
+        PASSES_PARAMETERS,
+    ),
+    (
+        b"program p() base",
+        32,
+        b" part { ensure 1 }",
+        b" part { ensure 9223372036854775808 } end",
+        PASSES_PARTS,
+    ),
+    (
+        b"program p() base",
+        32,
+        b" part { ensure 1 }",
+        b" part { } end",
+        SYNTAX,
+    ),
+];
+
 #[test]
 fn limits_of_programs(rt: HostRuntime) -> Result<(), Fail> {
     let alloc = rt.alloc();
-    let cases: [(&[u8], usize, &[u8], &[u8], Option<ParseErr>); 34] = [
-        (
-            b"program p(a int",
-            14,
-            b", b int",
-            b") acid { ensure 1 } end",
-            None,
-        ),
-        (
-            b"program p(a int",
-            15,
-            b", b int",
-            b") acid { ensure 1 } end",
-            None,
-        ),
-        (
-            b"program p(a int",
-            16,
-            b", b int",
-            b") acid { ensure 1 } end",
-            passes(LimitName::Parameters),
-        ),
-        (
-            b"program p(a int",
-            16,
-            b", b int",
-            b") acid { ensure 1 }",
-            SYNTAX,
-        ),
-        (
-            b"program p() var a int",
-            15,
-            b", b int",
-            b" acid { ensure 1 } end",
-            None,
-        ),
-        (
-            b"program p() var a int",
-            16,
-            b", b int",
-            b" acid { ensure 1 } end",
-            passes(LimitName::Variables),
-        ),
-        (
-            b"program p() acid { ensure 1",
-            62,
-            b"; ensure 1",
-            b" } end",
-            None,
-        ),
-        (
-            b"program p() acid { ensure 1",
-            63,
-            b"; ensure 1",
-            b" } end",
-            None,
-        ),
-        (
-            b"program p() acid { ensure 1",
-            64,
-            b"; ensure 1",
-            b" } end",
-            passes(LimitName::Statements),
-        ),
-        (
-            b"program p() base",
-            31,
-            b" part { ensure 1 }",
-            b" end",
-            None,
-        ),
-        (
-            b"program p() base",
-            32,
-            b" part { ensure 1 }",
-            b" end",
-            None,
-        ),
-        (
-            b"program p() base",
-            33,
-            b" part { ensure 1 }",
-            b" end",
-            passes(LimitName::Parts),
-        ),
-        (
-            b"program p() base part { ensure 1 } then go 9223372036854775807",
-            0,
-            b"",
-            b" end",
-            None,
-        ),
-        (
-            b"program p() base part { ensure 1 } then go 9223372036854775808",
-            0,
-            b"",
-            b" end",
-            passes(LimitName::Number),
-        ),
-        (
-            b"program p() base part { ensure 1 } then go 18446744073709551617",
-            0,
-            b"",
-            b" end",
-            passes(LimitName::Number),
-        ),
-        (
-            b"program p() base part { ensure 1 } on failure go 9223372036854775808",
-            0,
-            b"",
-            b" end",
-            passes(LimitName::Number),
-        ),
-        (
-            b"program p() base part { ensure 1 } on failure retry 1 then end",
-            0,
-            b"",
-            b" end",
-            None,
-        ),
-        (
-            b"program p() base part { ensure 1 } on failure retry 9 then end",
-            0,
-            b"",
-            b" end",
-            None,
-        ),
-        (
-            b"program p() base part { ensure 1 } on failure retry 0 then end",
-            0,
-            b"",
-            b" end",
-            passes(LimitName::Retry),
-        ),
-        (
-            b"program p() base part { ensure 1 } on failure retry 10 then end",
-            0,
-            b"",
-            b" end",
-            passes(LimitName::Retry),
-        ),
-        (
-            b"program p() base part { ensure 1 } on failure retry 265 then end",
-            0,
-            b"",
-            b" end",
-            passes(LimitName::Retry),
-        ),
-        (
-            b"program p() base part { ensure 1 } on failure retry 18446744073709551617 then end",
-            0,
-            b"",
-            b" end",
-            passes(LimitName::Retry),
-        ),
-        (
-            b"program p() base part { ensure 1 } on failure retry 0 then go 9223372036854775808",
-            0,
-            b"",
-            b" end",
-            passes(LimitName::Retry),
-        ),
-        (
-            b"program p() base part { ensure 1 } then go 9223372036854775808 on failure retry 0 then end",
-            0,
-            b"",
-            b" end",
-            passes(LimitName::Number),
-        ),
-        (
-            b"program ",
-            33,
-            b"a",
-            b"() acid { ensure 9223372036854775808 } end",
-            passes(LimitName::Name),
-        ),
-        (b"program p() acid { ensure 1", 63, b"+1", b" } end", None),
-        (
-            b"program p() acid { ensure 1",
-            64,
-            b"+1",
-            b" } end",
-            passes(LimitName::Depth),
-        ),
-        (
-            b"program p() acid { ensure 1",
-            64,
-            b"+1",
-            b"; ensure 9223372036854775808 } end",
-            passes(LimitName::Number),
-        ),
-        (
-            b"program p() acid { ensure 1",
-            64,
-            b"; ensure 9223372036854775808",
-            b" } end",
-            passes(LimitName::Number),
-        ),
-        (
-            b"program p() base part { ensure 1 }",
-            32,
-            b" part { ensure 9223372036854775808 }",
-            b" end",
-            passes(LimitName::Number),
-        ),
-        (
-            b"program p() base part { ensure 1",
-            64,
-            b"; ensure 1",
-            b" } then go 9223372036854775808 end",
-            passes(LimitName::Statements),
-        ),
-        (
-            b"program p(a int",
-            16,
-            b", b int",
-            b") var a23456789_123456789_123456789_123 int acid { ensure 1 } end",
-            passes(LimitName::Parameters),
-        ),
-        (
-            b"program p() base",
-            32,
-            b" part { ensure 1 }",
-            b" part { ensure 9223372036854775808 } end",
-            passes(LimitName::Parts),
-        ),
-        (
-            b"program p() base",
-            32,
-            b" part { ensure 1 }",
-            b" part { } end",
-            SYNTAX,
-        ),
-    ];
-    for (before, times, piece, behind, error) in cases {
+    for (before, times, piece, behind, error) in LIMITS {
         let bytes = repeated(alloc, before, times, piece, behind)?;
         assert_eq!(rt; read_program(alloc, &bytes).err(), error);
     }
@@ -597,16 +610,11 @@ fn parentheses_of_programs(rt: HostRuntime) -> Result<(), Fail> {
     let alloc = rt.alloc();
     let cases: [(&[u8], usize, &[u8], Option<ParseErr>); 7] = [
         (b"ensure ", 64, b" } end", None),
-        (b"ensure ", 65, b" } end", passes(LimitName::Depth)),
-        (b"ensure ", 128, b" } end", passes(LimitName::Depth)),
+        (b"ensure ", 65, b" } end", PASSES_DEPTH),
+        (b"ensure ", 128, b" } end", PASSES_DEPTH),
         (b"ensure ", 129, b" } end", SYNTAX),
         (b"insert into t values (", 64, b") } end", None),
-        (
-            b"insert into t values (",
-            127,
-            b") } end",
-            passes(LimitName::Depth),
-        ),
+        (b"insert into t values (", 127, b") } end", PASSES_DEPTH),
         (b"insert into t values (", 128, b") } end", SYNTAX),
     ];
     for (before, count, behind, error) in cases {
@@ -652,28 +660,28 @@ fn long_programs(rt: HostRuntime) -> Result<(), Fail> {
             10_917,
             b",a int",
             b")acid{ensure 1}end",
-            passes(LimitName::Parameters),
+            PASSES_PARAMETERS,
         ),
         (
             b"program p()var a int",
             10_917,
             b",a int",
             b" acid{ensure 1}end",
-            passes(LimitName::Variables),
+            PASSES_VARIABLES,
         ),
         (
             b"program p()acid{ensure 1",
             7_278,
             b";ensure 1",
             b"}end",
-            passes(LimitName::Statements),
+            PASSES_STATEMENTS,
         ),
         (
             b"program p()base ",
             4_367,
             b"part{ensure 1} ",
             b"end",
-            passes(LimitName::Parts),
+            PASSES_PARTS,
         ),
         (
             b"program p()base ",
