@@ -8,18 +8,18 @@ use Rattle.salt_ast.specs.declared.programs.ProgramDef.{ProgramDef}
 use Rattle.salt_ast.specs.declared.trees.Statement.{Statement}
 use Rattle.salt_ast.specs.declared.trees.TableDef.{TableDef}
 use Rattle.salt_model.specs.Printable.{IsSpelled}
-use Rattle.salt_parse.proofs.Up.{statement_up, within_up}
+use Rattle.salt_parse.specs.Settling.{DeepStatement, ShallowStatement}
 use Rattle.salt_texts.proofs.Arrows.{lexed_after}
 use Rattle.salt_texts.specs.Arrow.{after, open_place}
 use Rattle.salt_texts.proofs.Quiet.{Quiet, statement_calm, within_firm}
 use Rattle.salt_tokens.specs.Spelling.{sign_of, sign_spelling}
-use Rattle.salt_tokens.specs.Symbols.{symbols_of}
+use Rattle.salt_tokens.specs.Symbols.{Symbols, symbols_of}
 use Rattle.salt_tokens.specs.declared.sign.Sign.{Sign}
-use Rattle.salt_values.specs.declared.limits.TheConstants.{DEPTH_MOST, PARENTHESES_MOST}
-use Rattle.std.proofs.Common.{List, None, Some, [], ap, append-nil, arith, false, subst, sym, ℕ, ◌++◌, ◌-◌, ◌∙◌, ◌∷◌, ◌≡◌}
+use Rattle.salt_values.specs.declared.limits.TheConstants.{DEPTH_MOST}
+use Rattle.std.proofs.Common.{List, None, Some, [], ap, append-nil, false, subst, sym, ℕ, ◌++◌, ◌∙◌, ◌∷◌, ◌≡◌}
 use Rattle.std.proofs.lemmas.List.{append_cancel_right}
 
--- what the crates below say of tokens and of the texts of statements and tables
+-- what the crates below say of tokens and of the texts of statements, tables and programs
 pub record Laws : Type 0 where
   pub signs : (s : Sign) → sign_of (sign_spelling s) ≡ Some s
   pub statement : (bytes : List ℕ) (st : Statement) → SpellsStatement bytes st → statement_limit st ≡ None →
@@ -27,6 +27,7 @@ pub record Laws : Type 0 where
   pub table : (bytes : List ℕ) (d : TableDef) → SpellsTable bytes d → table_limit d ≡ None → SpellsShallowTable (table_text d) d
   pub program : (bytes : List ℕ) (p : ProgramDef) → SpellsProgram bytes p → program_limit p ≡ None → SpellsShallowProgram (program_text p) p
   pub one : (bytes : List ℕ) (a b : Statement) → SpellsStatement bytes a → SpellsStatement bytes b → a ≡ b
+  pub deepens : (ts : Symbols) (st : Statement) → ShallowStatement ts st → DeepStatement ts st
 
 module _ (laws : Laws) where
   pub shallow : (st : Statement) → IsSpelled st → SpellsShallowStatement (statement_text st) st
@@ -34,13 +35,7 @@ module _ (laws : Laws) where
 
   spelled : (st : Statement) → IsSpelled st → SpellsStatement (statement_text st) st
   spelled st h =
-      let s = shallow st h in
-      record {
-        tokens = s.tokens;
-        lexes = s.lexes;
-        spelled = statement_up (within_up DEPTH_MOST PARENTHESES_MOST (omega arith)) (within_up DEPTH_MOST (PARENTHESES_MOST - 1) (omega arith))
-            (symbols_of s.tokens) st s.spelled;
-      }
+      let s = shallow st h in record { tokens = s.tokens; lexes = s.lexes; spelled = laws.deepens (symbols_of s.tokens) st s.spelled }
 
   quiet : (st : Statement) (h : IsSpelled st) → Quiet false (symbols_of (shallow st h).tokens)
   quiet st h =
