@@ -38,7 +38,7 @@ use Rattle.salt_texts.proofs.Inline.{preceded_inline, run_append, statement_inli
 use Rattle.salt_texts.proofs.Items.{family_part, mode_part, range_part, table_part}
 use Rattle.salt_texts.proofs.Parts.{unknown_inline}
 use Rattle.salt_texts.proofs.Numbering.{table_is_name}
-use Rattle.salt_texts.proofs.Statements.{Laws}
+use Rattle.salt_texts.specs.Below.{LawsBelow}
 use Rattle.salt_texts.specs.EventLines.{Inline, ended, event_lines, is_inline, item_line, lines_text}
 use Rattle.salt_model.specs.Naming.{IsName, IsNaming}
 use Rattle.salt_model.specs.Sized.{IsSizedAnswer, IsSizedEvent, IsSizedItem, IsSizedKind, IsSizedRow, IsValueIn}
@@ -234,7 +234,7 @@ always : {A : Type 0} (xs : List A) → Every (λ x. Unit {0}) xs
 always [] = tt
 always (x ∷ xs) = (tt, always xs)
 
-module _ (laws : Laws) (schema : List TableDef) (naming : IsNaming schema) where
+module _ (laws : LawsBelow) (schema : List TableDef) (naming : IsNaming schema) where
   item_inline : (i : Item) → IsPrintableItem schema i → IsSizedItem i → Inline (item_line schema i)
   item_inline (item.Lock l) g h =
       lead (codes "lock ") (owner_text l.owner ++ family_part schema l) refl
@@ -301,7 +301,7 @@ module _ (laws : Laws) (schema : List TableDef) (naming : IsNaming schema) where
       every_append (map (item_line schema) items) ((codes "shown " ++ decimal (length items)) ∷ []) (items_inline items g h)
       (lead (codes "shown ") (decimal (length items)) refl (decimal_inline (length items)), tt)
 
-module _ (laws : Laws) (schema : List TableDef) where
+module _ (laws : LawsBelow) (schema : List TableDef) where
   -- no byte within a line of an event ends it
   pub lines_inline : (e : Event) → IsPrintableStory schema (e ∷ []) → Every Inline (event_lines schema e)
   lines_inline e g = event_inline laws schema g.naming e g.events.0.form g.events.0.sizes

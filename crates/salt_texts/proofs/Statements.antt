@@ -1,35 +1,18 @@
 -- Where a statement's text ends, and which statement it is of.
-use Rattle.salt_ast.specs.Limits.{statement_limit, table_limit}
-use Rattle.salt_ast.specs.ProgramLimits.{program_limit}
-use Rattle.salt_ast.specs.ProgramTexts.{program_text}
-use Rattle.salt_ast.specs.Spelling.{SpellsProgram, SpellsShallowProgram, SpellsShallowStatement, SpellsShallowTable, SpellsStatement, SpellsTable}
-use Rattle.salt_ast.specs.Texts.{statement_text, table_text}
-use Rattle.salt_ast.specs.declared.programs.ProgramDef.{ProgramDef}
+use Rattle.salt_ast.specs.Spelling.{SpellsShallowStatement, SpellsStatement}
+use Rattle.salt_ast.specs.Texts.{statement_text}
 use Rattle.salt_ast.specs.declared.trees.Statement.{Statement}
-use Rattle.salt_ast.specs.declared.trees.TableDef.{TableDef}
 use Rattle.salt_model.specs.Printable.{IsSpelled}
-use Rattle.salt_parse.specs.Settling.{DeepStatement, ShallowStatement}
 use Rattle.salt_texts.proofs.Arrows.{lexed_after}
 use Rattle.salt_texts.specs.Arrow.{after, open_place}
 use Rattle.salt_texts.proofs.Quiet.{Quiet, statement_calm, within_firm}
-use Rattle.salt_tokens.specs.Spelling.{sign_of, sign_spelling}
-use Rattle.salt_tokens.specs.Symbols.{Symbols, symbols_of}
-use Rattle.salt_tokens.specs.declared.sign.Sign.{Sign}
+use Rattle.salt_texts.specs.Below.{LawsBelow}
+use Rattle.salt_tokens.specs.Symbols.{symbols_of}
 use Rattle.salt_values.specs.declared.limits.TheConstants.{DEPTH_MOST}
-use Rattle.std.proofs.Common.{List, None, Some, [], ap, append-nil, false, subst, sym, ℕ, ◌++◌, ◌∙◌, ◌∷◌, ◌≡◌}
+use Rattle.std.proofs.Common.{List, [], ap, append-nil, false, subst, sym, ℕ, ◌++◌, ◌∙◌, ◌∷◌, ◌≡◌}
 use Rattle.std.proofs.lemmas.List.{append_cancel_right}
 
--- what the crates below say of tokens and of the texts of statements, tables and programs
-pub record Laws : Type 0 where
-  pub signs : (s : Sign) → sign_of (sign_spelling s) ≡ Some s
-  pub statement : (bytes : List ℕ) (st : Statement) → SpellsStatement bytes st → statement_limit st ≡ None →
-      SpellsShallowStatement (statement_text st) st
-  pub table : (bytes : List ℕ) (d : TableDef) → SpellsTable bytes d → table_limit d ≡ None → SpellsShallowTable (table_text d) d
-  pub program : (bytes : List ℕ) (p : ProgramDef) → SpellsProgram bytes p → program_limit p ≡ None → SpellsShallowProgram (program_text p) p
-  pub one : (bytes : List ℕ) (a b : Statement) → SpellsStatement bytes a → SpellsStatement bytes b → a ≡ b
-  pub deepens : (ts : Symbols) (st : Statement) → ShallowStatement ts st → DeepStatement ts st
-
-module _ (laws : Laws) where
+module _ (laws : LawsBelow) where
   pub shallow : (st : Statement) → IsSpelled st → SpellsShallowStatement (statement_text st) st
   shallow st h = laws.statement h.text st h.spells h.within
 
