@@ -21,6 +21,7 @@ pub use error::ParseErr;
 pub use laws::{
     one_program, one_statement, one_table, printable_symbols, row_program, row_statement, row_table,
 };
+pub use quoted::{content, content_len};
 pub use read::{program_in, read_program, read_statement, read_table, statement_in, table_in};
 pub use token::tokens;
 

@@ -1,5 +1,6 @@
-pub mod Complete
-pub mod Listing
-pub mod Sound
-pub mod Spelled
-pub mod Steps
+pub mod Keeping
+pub mod Reading
+pub mod Calls
+pub mod Acts
+pub mod Lines
+pub mod Asking

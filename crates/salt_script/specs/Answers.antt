@@ -1,38 +1,34 @@
--- What the answers of the reader mean.
-use Rattle.salt_model.specs.Trace.{Asked, Tree, Rejected}
-use Rattle.salt_model.specs.declared.events.Refusal.TheVariants as refusal
-use Rattle.salt_ast.specs.declared.lines.Line.{Line}
+-- What the answers of the readers mean.
+use Rattle.salt_ast.specs.declared.limit.LimitName.{LimitName}
+use Rattle.salt_script.specs.Literals.{IsValueOf}
+use Rattle.salt_parse.specs.declared.error.ParseErr.{ParseErr}
+use Rattle.salt_parse.specs.declared.error.ParseErr.TheVariants.{Limit, Memory, Syntax}
+use Rattle.salt_model.specs.declared.events.Refusal.TheVariants as refused
 use Rattle.salt_script.specs.declared.error.ReadErr.{ReadErr}
-use Rattle.salt_script.specs.declared.error.ReadErr.TheVariants.{Memory, Syntax}
-use Rattle.salt_model.specs.Lines.{IsLine}
-use Rattle.salt_tokens.specs.Symbols.{HasSymbols, Symbols}
-use Rattle.std.specs.Prelude.{Err, List, None, Ok, Option, Result, Some, ℕ, ◌≡◌}
+use Rattle.salt_script.specs.declared.error.ReadErr.TheVariants as read_is
+use Rattle.salt_tokens.specs.Symbols.{Symbols}
+use Rattle.salt_values.specs.declared.value.Value.{Value}
+use Rattle.std.specs.Prelude.{Err, None, Ok, Option, Result, Some, ⊤, ◌≡◌}
 
--- a line that was found asks its tree; where none was, a refusal
-abbrev pub asked_of : Option Line → Asked
-asked_of None = Rejected refusal.Syntax
-asked_of (Some line) = Tree line
+-- an error tells that nothing is read, unless memory ran out; a limit is no error here
+abbrev pub FailsToRead : {A : Type 0} → ParseErr → Option A → Type 0
+FailsToRead Memory read = ⊤
+FailsToRead Syntax read = read ≡ None
+FailsToRead (Limit l) read = ⊥
 
--- an error tells that reading gives nothing, unless memory ran out
-abbrev pub Fails : {T : Type 0} → ReadErr → Option T → Type 0
-Fails Memory read = Unit {0}
-Fails Syntax read = read ≡ None
+-- a literal's value or limit, where these symbols stand behind it
+abbrev pub GivesLiteral : Result (Result Value LimitName) ParseErr → Symbols → Option (Value × Symbols) → Type 0
+GivesLiteral (Ok x) behind read = (w : Value) × (read ≡ Some (w, behind)) × IsValueOf x w
+GivesLiteral (Err e) behind read = FailsToRead e read
 
--- what was read, and the tokens that are left, are what reading gives
-abbrev pub Gives : {T : Type 0} → Result T ReadErr → Symbols → Option (T × Symbols) → Type 0
-Gives (Ok x) left read = read ≡ Some (x, left)
-Gives (Err err) left read = Fails err read
+-- why a line is refused for its text, or is not read
+abbrev pub read_err : ParseErr → ReadErr
+read_err Syntax = read_is.Refused refused.Syntax
+read_err (Limit l) = read_is.Refused (refused.Limit l)
+read_err Memory = read_is.Memory
 
--- the tokens that are left are those behind what was taken
-abbrev pub Leaves : Result (Unit {0}) ReadErr → Symbols → Option Symbols → Type 0
-Leaves (Ok _) left read = read ≡ Some left
-Leaves (Err err) left read = Fails err read
-
--- what was read is what reading gives
-abbrev pub GivesAll : {T : Type 0} → Result T ReadErr → Option T → Type 0
-GivesAll (Ok x) read = read ≡ Some x
-GivesAll (Err err) read = Fails err read
-
--- the bytes are tokens that spell the line
-abbrev pub HasLine : List ℕ → Line → Type 0
-HasLine text line = (r : Symbols) × HasSymbols text r × IsLine r line
+-- what was read, or the first limit that it passes
+abbrev pub GivesOrLimit : {A : Type 0} → (A → Option LimitName) → Result (Result A LimitName) ParseErr → Option A → Type 0
+GivesOrLimit passed (Ok (Ok x)) read = (read ≡ Some x) × (passed x ≡ None)
+GivesOrLimit {A} passed (Ok (Err l)) read = (x : A) × (read ≡ Some x) × (passed x ≡ Some l)
+GivesOrLimit passed (Err e) read = FailsToRead e read

@@ -1,3 +1,4 @@
+pub mod Forms
+pub mod Literals
 pub mod Answers
-pub mod Errors
-pub mod Reading
+pub mod Spelled

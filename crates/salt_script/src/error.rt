@@ -1,44 +1,35 @@
-//! Why a row of tokens gives no tree.
+//! Why bytes give no line.
 
 ghost use Rattle.std.specs.Prelude.{◌≡◌};
-ghost use Rattle.salt_script.specs.declared.error.ReadErr.TheVariants.{Memory, Syntax};
-ghost use Rattle.salt_script.specs.Errors.{read_err};
+ghost use Rattle.salt_script.specs.Answers.{read_err};
 
-use salt_tokens::ScanErr;
-use std::alloc::{AllocError, AllocFailed};
+use salt_model::Refusal;
+use salt_parse::ParseErr;
 
-/// Why tokens give no tree.
-#[derive(Clone, Copy, Debug, PartialEq, Eq)]
+/// Why bytes give no line.
 pub enum ReadErr {
+    /// The line is refused for its text.
+    Refused(Refusal),
     /// Memory ran out.
     Memory,
-    /// The tokens spell nothing of the grammar.
-    Syntax,
 }
 
-impl From<AllocError> for ReadErr {
-    ghost from_gives = { λ _ e. e ≡ Memory };
-
-    fn from(_e: AllocError) -> ReadErr {
-        ReadErr::Memory
-    }
-}
-
-impl<T: Drop> From<AllocFailed<T>> for ReadErr {
-    ghost from_gives = { λ _ e. e ≡ Memory };
-
-    fn from(_e: AllocFailed<T>) -> ReadErr {
-        ReadErr::Memory
-    }
-}
-
-impl From<ScanErr> for ReadErr {
-    ghost from_gives = { λ s e. e ≡ read_err s };
-
-    fn from(e: ScanErr) -> ReadErr {
-        match e {
-            ScanErr::Memory => ReadErr::Memory,
-            ScanErr::Syntax => ReadErr::Syntax,
+impl Drop for ReadErr {
+    fn drop(self) {
+        match self {
+            ReadErr::Refused(_refusal) => {}
+            ReadErr::Memory => {}
         }
+    }
+}
+
+/// Why a line gives none that has no tree.
+pub fn read_err(e: ParseErr) -> ReadErr
+    ensures { result ≡ read_err e }
+{
+    match e {
+        ParseErr::Syntax => ReadErr::Refused(Refusal::Syntax),
+        ParseErr::Limit(limit) => ReadErr::Refused(Refusal::Limit(limit)),
+        ParseErr::Memory => ReadErr::Memory,
     }
 }

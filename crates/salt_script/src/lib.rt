@@ -1,14 +1,12 @@
 //! Which line of a script some bytes spell.
 #![tactic(auto)]
 
-mod cursor;
+mod act;
+mod args;
 mod error;
-mod grammar;
-mod laws;
+mod form;
 mod line;
+mod stops;
 
-pub use laws::one_tree;
+pub use error::ReadErr;
 pub use line::read_line;
-
-#[cfg(test)]
-mod tests;

@@ -1,19 +1,144 @@
 //! From the bytes of a line to its tree.
 
-ghost use Rattle.std.specs.Prelude.{◌≡◌, IfOk, Err};
+ghost use Rattle.std.specs.Prelude.{◌≡◌, Err, IfOk};
 ghost use Rattle.std.specs.List.{list_all};
-ghost use Rattle.salt_model.specs.Lines.{Asks, begins_comment, does_nothing};
+ghost use Rattle.salt_ast.specs.ProgramLimits.{line_limit, number_passed, outside};
+ghost use Rattle.salt_values.specs.declared.limits.TheConstants.{SESSION_MOST};
+ghost use Rattle.salt_ast.specs.Spelling.{IsLineWithinLimits, LinePasses, SpellsLine};
+ghost use Rattle.salt_ast.specs.declared.limit.LimitName.{LimitName};
 ghost use Rattle.salt_ast.specs.declared.lines.Line.{Line};
-ghost use Rattle.salt_script.specs.Answers.{HasLine, asked_of};
-ghost use Rattle.salt_script.specs.declared.error.ReadErr.TheVariants.{Syntax};
+ghost use Rattle.salt_model.specs.Lines.{Asks, begins_comment, does_nothing, is_line_byte};
+ghost use Rattle.salt_model.specs.Trace.{Rejected, Tree};
+ghost use Rattle.salt_model.specs.declared.events.Refusal.{Refusal};
+ghost use Rattle.salt_parse.specs.Settling.{ArePrintable, Settles};
+ghost use Rattle.salt_parse.specs.declared.error.ParseErr.TheVariants.{Limit, Syntax};
+ghost use Rattle.salt_script.specs.Forms.{a_turn, an_act, line_begins, stops as begins_stops};
+ghost use Rattle.salt_script.specs.Spelled.{DeepLine, ShallowLine};
+ghost use Rattle.salt_script.specs.declared.error.ReadErr.TheVariants.{Refused};
 ghost use Rattle.salt_tokens.specs.Bytes.{is_blank};
+ghost use Rattle.salt_tokens.specs.Symbols.{Symbols, symbols_in};
 
-use crate::error::ReadErr;
-use crate::grammar::whole_line;
-use salt_ast::Line;
-use salt_tokens::{lexemes, one_row};
-use salt_values::limits::LINE_MOST;
-use std::alloc::{AllocError, Global};
+use crate::act::act_in;
+use crate::error::{ReadErr, read_err};
+use crate::form::{Form, line_form};
+use crate::stops::armed_stops;
+use salt_ast::{Line, LimitName};
+use salt_model::Refusal;
+use salt_parse::{ParseErr, printable_symbols, program_in, table_in};
+use salt_tokens::{Lexeme, lexemes, one_row};
+use salt_values::Id;
+use salt_values::limits::{LINE_MOST, SESSION_MOST};
+use std::alloc::Global;
+
+/// The limit that a session's number passes.
+fn session_limit(session: u64) -> Option<LimitName>
+    ensures { result ≡ outside 1 SESSION_MOST LimitName.Session session }
+{
+    if session < 1 || SESSION_MOST < session {
+        Some(LimitName::Session)
+    } else {
+        None
+    }
+}
+
+/// The line of a session's act.
+fn session_line<'a>(
+    alloc: Global,
+    session: u64,
+    tokens: &'a [Lexeme<'a>],
+) -> Result<Line, ParseErr>
+    requires { ArePrintable (symbols_in tokens.now) }
+    ensures { (ts : Symbols) → line_begins ts ≡ an_act session (symbols_in tokens.now) → Settles line_limit ShallowLine DeepLine ts result }
+{
+    match session_limit(session) {
+        None => match act_in(alloc, tokens) {
+            Ok(act) => Ok(Line::Session {
+                session: session as u8,
+                act,
+            }),
+            Err(e) => Err(e),
+        },
+        Some(limit) => match act_in(alloc, tokens) {
+            Ok(_act) => Err(ParseErr::Limit(limit)),
+            Err(ParseErr::Limit(_later)) => Err(ParseErr::Limit(limit)),
+            Err(ParseErr::Syntax) => Err(ParseErr::Syntax),
+            Err(ParseErr::Memory) => Err(ParseErr::Memory),
+        },
+    }
+}
+
+/// The limit that a number passes that has no limit of its own.
+fn number_limit(number: u64) -> Option<LimitName>
+    ensures { result ≡ number_passed number }
+{
+    match i64::try_from(number) {
+        Ok(_fits) => None,
+        Err(_outside) => Some(LimitName::Number),
+    }
+}
+
+/// The line of one turn of a program.
+fn turn_line(base: Id) -> Result<Line, ParseErr>
+    ensures { (ts : Symbols) → line_begins ts ≡ a_turn base.boot base.seq → Settles line_limit ShallowLine DeepLine ts result }
+{
+    match number_limit(base.boot).or(number_limit(base.seq)) {
+        None => Ok(Line::Go(base)),
+        Some(limit) => Err(ParseErr::Limit(limit)),
+    }
+}
+
+/// The line that arms stops.
+fn stops_line<'a>(alloc: Global, tokens: &'a [Lexeme<'a>]) -> Result<Line, ParseErr>
+    ensures { (ts : Symbols) → line_begins ts ≡ begins_stops (symbols_in tokens.now) → Settles line_limit ShallowLine DeepLine ts result }
+{
+    if tokens.is_empty() {
+        return Err(ParseErr::Syntax);
+    }
+    match armed_stops(alloc, tokens) {
+        Ok(Ok(pairs)) => Ok(Line::Crash(pairs)),
+        Ok(Err(limit)) => Err(ParseErr::Limit(limit)),
+        Err(e) => Err(e),
+    }
+}
+
+/// The line that the tokens spell.
+///
+/// `Limit` exactly where they spell one that passes a limit, with the first; `Syntax` exactly where they spell none; else `Memory`
+/// where memory runs out.
+fn line_in<'a>(alloc: Global, tokens: &'a [Lexeme<'a>]) -> Result<Line, ParseErr>
+    requires { ArePrintable (symbols_in tokens.now) }
+    ensures { Settles line_limit ShallowLine DeepLine (symbols_in tokens.now) result }
+{
+    match line_form(tokens) {
+        Form::Table => match table_in(alloc, tokens) {
+            Ok(def) => Ok(Line::Table(def)),
+            Err(e) => Err(e),
+        },
+        Form::Program => match program_in(alloc, tokens) {
+            Ok(def) => Ok(Line::Program(def)),
+            Err(e) => Err(e),
+        },
+        Form::Session(session, rest) => session_line(alloc, session, rest),
+        Form::Go(base) => turn_line(base),
+        Form::GoAll => Ok(Line::GoAll),
+        Form::ShowLocks => Ok(Line::ShowLocks),
+        Form::ShowBases => Ok(Line::ShowBases),
+        Form::Crash(rest) => stops_line(alloc, rest),
+        Form::Other => Err(ParseErr::Syntax),
+    }
+}
+
+/// The line that the tokens of the bytes spell.
+fn read_tokens(alloc: Global, text: &[u8]) -> Result<Line, ParseErr>
+    ensures found { IfOk result (λ line. IsLineWithinLimits text.now line) }
+    ensures limit { (l : LimitName) → result ≡ Err (Limit l) → (line : Line) × SpellsLine text.now line × LinePasses text.now line l }
+    ensures syntax { result ≡ Err Syntax → (line : Line) → ¬ (SpellsLine text.now line) }
+{
+    one_row();
+    printable_symbols();
+    let tokens = lexemes(alloc, text)?;
+    line_in(alloc, tokens.as_slice())
+}
 
 fn is_blank(b: u8) -> bool
     ensures { result ≡ is_blank b }
@@ -43,32 +168,37 @@ fn does_nothing(text: &[u8]) -> bool
     are_blank(text) || begins_comment(text)
 }
 
-/// The line that the tokens of the bytes spell.
-fn read_tokens(alloc: Global, text: &[u8]) -> Result<Line, ReadErr>
-    ensures found { IfOk result (λ line. HasLine text.now line) }
-    ensures syntax { result ≡ Err Syntax → (line : Line) → ¬ (HasLine text.now line) }
+fn is_line_byte(b: u8) -> bool
+    ensures { result ≡ is_line_byte b }
 {
-    // For the proof alone: the bytes are one row of tokens, and no other.
-    one_row();
-    let tokens = lexemes(alloc, text)?;
-    whole_line(alloc, tokens.as_slice())
+    b == b'\t' || 32 <= b && b <= 126
+}
+
+fn are_line_bytes(bytes: &[u8]) -> bool
+    ensures { result ≡ list_all is_line_byte bytes.now }
+{
+    bytes.iter().all(|b| is_line_byte(*b))
 }
 
 /// The line that the bytes spell; the time is linear in the bytes.
 ///
-/// `None` where they spell none, or are more than 65,536. `AllocError` where memory runs out.
-pub fn read_line(alloc: Global, text: &[u8]) -> Result<Option<Line>, AllocError>
-    ensures { IfOk result (λ found. Asks text.now (asked_of found)) }
+/// `Refused` where the text alone refuses the line: it has more than 65,536 bytes, or a byte that no line holds, is outside the grammar,
+/// or passes a limit, in this order (`docs/SCRIPT.md`). `Memory` where memory runs out.
+pub fn read_line(alloc: Global, text: &[u8]) -> Result<Line, ReadErr>
+    ensures line { IfOk result (λ line. Asks text.now (Tree line)) }
+    ensures refused { (r : Refusal) → result ≡ Err (Refused r) → Asks text.now (Rejected r) }
 {
-    if text.len() > LINE_MOST {
-        return Ok(None);
+    if LINE_MOST < text.len() {
+        return Err(ReadErr::Refused(Refusal::Long));
     }
     if does_nothing(text) {
-        return Ok(Some(Line::Nothing));
+        return Ok(Line::Nothing);
+    }
+    if !are_line_bytes(text) {
+        return Err(ReadErr::Refused(Refusal::Byte));
     }
     match read_tokens(alloc, text) {
-        Ok(line) => Ok(Some(line)),
-        Err(ReadErr::Syntax) => Ok(None),
-        Err(ReadErr::Memory) => Err(AllocError),
+        Ok(line) => Ok(line),
+        Err(e) => Err(read_err(e)),
     }
 }

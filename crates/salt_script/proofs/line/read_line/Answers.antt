@@ -1,13 +1,31 @@
-use Rattle.std.proofs.Common.{Err, ap, arith, inr, sym}
-use Rattle.salt_model.specs.Lines.{idle}
-use Rattle.salt_script.proofs.Spelled.{not_spelled, spelled}
+use Rattle.std.proofs.Common.{ap, sym, true, ◌∙◌, ◌≡◌}
+use Rattle.std.specs.Prelude.{Err, Ok, false, not}
+use Rattle.salt_model.specs.Lines.{IsReadable, has_other_byte, is_idle, is_line, is_long}
+use Rattle.salt_model.specs.declared.events.Refusal.TheVariants as refused
+use Rattle.salt_script.proofs.Asking.{told, told_of}
 use Rattle.salt_script.proofs.line.read_line.Goals as goal
 
-pub returns-then-does_nothing : goal.returns-then-does_nothing
-returns-then-does_nothing c = (omega arith, idle (sym c.if-does_nothing.ensures))
+pub returns-then-text-gt-LINE_MOST-clause-refused : goal.returns-then-text-gt-LINE_MOST-clause-refused
+returns-then-text-gt-LINE_MOST-clause-refused c = told c.args.text.now refused.Long (is_long c.if-text-gt-LINE_MOST.true)
 
-pub returns-in-Ok : goal.returns-in-Ok
-returns-in-Ok c = (omega arith, spelled c.args.text.now c.in-Ok.line (sym c.if-does_nothing.ensures) c.in-Ok.ensures.found)
+pub returns-then-does_nothing-clause-line : goal.returns-then-does_nothing-clause-line
+returns-then-does_nothing-clause-line c = is_idle c.if-text-gt-LINE_MOST.false (sym c.does_nothing.ensures ∙ c.if-does_nothing.true)
 
-pub returns-in-Err-Syntax : goal.returns-in-Err-Syntax
-returns-in-Err-Syntax c = inr (λ line. not_spelled c.args.text.now line (sym c.if-does_nothing.ensures) (c.in-Err-Syntax.ensures.syntax (ap (λ e. Err e) c.in-Err-Syntax.field-0-is)))
+pub returns-then-not-are_line_bytes-clause-refused : goal.returns-then-not-are_line_bytes-clause-refused
+returns-then-not-are_line_bytes-clause-refused c = told c.args.text.now refused.Byte
+    (has_other_byte c.if-text-gt-LINE_MOST.false (sym c.does_nothing.ensures ∙ c.if-does_nothing.false)
+    (sym c.are_line_bytes.ensures ∙ c.if-not-are_line_bytes.true))
+
+pub returns-in-Ok-clause-line : goal.returns-in-Ok-clause-line
+returns-in-Ok-clause-line c = is_line (record {
+  within = c.if-text-gt-LINE_MOST.false;
+  does_something = sym c.does_nothing.ensures ∙ c.if-does_nothing.false;
+  bytes = sym c.are_line_bytes.ensures ∙ c.if-not-are_line_bytes.false;
+}) c.in-Ok.ensures.found
+
+pub returns-in-Err-clause-refused : goal.returns-in-Err-clause-refused
+returns-in-Err-clause-refused c = rw c.read_err.ensures (told_of c.args.text.now c.in-Err.e (record {
+  within = c.if-text-gt-LINE_MOST.false;
+  does_something = sym c.does_nothing.ensures ∙ c.if-does_nothing.false;
+  bytes = sym c.are_line_bytes.ensures ∙ c.if-not-are_line_bytes.false;
+}) (λ e. c.in-Err.ensures.syntax (ap Err e)) (λ l e. c.in-Err.ensures.limit l (ap Err e)))

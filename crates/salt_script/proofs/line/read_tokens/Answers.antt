@@ -1,19 +1,29 @@
-use Rattle.std.proofs.Common.{◌≡◌, Err, ap}
+use Rattle.std.proofs.Common.{Err, ap}
 use Rattle.std.proofs.lemmas.Result.{err_from_is_err_and}
-use Rattle.salt_script.specs.Errors.{read_err}
-use Rattle.salt_script.specs.declared.error.ReadErr.TheVariants.{Syntax}
-use Rattle.salt_script.proofs.Spelled.{is_found, is_none, scan_syntax}
-use Rattle.salt_tokens.specs.Symbols.{symbols_in}
+use Rattle.salt_ast.specs.ProgramLimits.{line_limit}
+use Rattle.salt_script.specs.Spelled.{DeepLine, ShallowLine}
+use Rattle.salt_parse.proofs.Whole.{is_found, is_limit, scan_limit, scan_none, spells_none}
 use Rattle.salt_script.proofs.line.read_tokens.Goals as goal
+use Rattle.salt_tokens.specs.Symbols.{symbols_in}
+
+pub returns-in_err-tokens-clause-limit : goal.returns-in_err-tokens-clause-limit
+returns-in_err-tokens-clause-limit c =
+    let p = err_from_is_err_and c.from_residual.result c.from_residual.ensures.1 in
+    rw (p.1, p.2) (λ l is. scan_limit _ c.in_err-tokens.field-0.0 l is)
 
 pub returns-in_err-tokens-clause-syntax : goal.returns-in_err-tokens-clause-syntax
-returns-in_err-tokens-clause-syntax c = λ is line d.
+returns-in_err-tokens-clause-syntax c =
     let p = err_from_is_err_and c.from_residual.result c.from_residual.ensures.1 in
-    let failed : read_err c.in_err-tokens.field-0.0 ≡ Syntax = cc (p.1, p.2, is) in
-    c.in_err-tokens.ensures.syntax (ap (λ e. Err e) (scan_syntax c.in_err-tokens.field-0.0 failed)) d.0 d.1
+    rw (p.1, p.2) (λ is x s. scan_none c.args.text.now DeepLine c.in_err-tokens.field-0.0 (λ k. c.in_err-tokens.ensures.syntax (ap Err k)) is x s)
 
 pub returns-clause-found : goal.returns-clause-found
-returns-clause-found c = is_found c.args.text.now (symbols_in c.in_ok-tokens.tokens.items) c.whole_line.result c.in_ok-tokens.ensures.found (rw c.as_slice.ensures.value at c.whole_line.ensures)
+returns-clause-found c = is_found c.one_row.ensures.pieces c.args.text.now line_limit ShallowLine DeepLine (symbols_in c.in_ok-tokens.tokens.items) c.in_ok-tokens.ensures.found c.line_in.result (rw c.as_slice.ensures.value at c.line_in.ensures)
+
+pub returns-clause-limit : goal.returns-clause-limit
+returns-clause-limit c = is_limit c.one_row.ensures.pieces c.args.text.now line_limit ShallowLine DeepLine (symbols_in c.in_ok-tokens.tokens.items) c.in_ok-tokens.ensures.found c.line_in.result (rw c.as_slice.ensures.value at c.line_in.ensures)
 
 pub returns-clause-syntax : goal.returns-clause-syntax
-returns-clause-syntax c = is_none c.one_row.ensures.symbols c.args.text.now (symbols_in c.in_ok-tokens.tokens.items) c.whole_line.result c.in_ok-tokens.ensures.found (rw c.as_slice.ensures.value at c.whole_line.ensures)
+returns-clause-syntax c = spells_none c.one_row.ensures.pieces c.args.text.now line_limit ShallowLine DeepLine (symbols_in c.in_ok-tokens.tokens.items) c.in_ok-tokens.ensures.found c.line_in.result (rw c.as_slice.ensures.value at c.line_in.ensures)
+
+pub line_in-requires : goal.line_in-requires
+line_in-requires c = rw c.as_slice.ensures.value (c.printable_symbols.ensures c.args.text.now _ c.in_ok-tokens.ensures.found)
