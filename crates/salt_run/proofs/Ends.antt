@@ -7,12 +7,13 @@ use Rattle.salt_io.specs.Lines.{IsCutOff, IsReadingOf, Reading, TakesLine, Takes
 use Rattle.salt_io.specs.declared.lines.LineErr.{LineErr}
 use Rattle.salt_io.specs.Streams.{Gains, GainsShort, GainsSome, IsAtEnd, bytes_before}
 use Rattle.salt_model.specs.EventTexts.{ShowsNothing, event_text}
-use Rattle.salt_model.specs.Lines.{AskInOrder, Asks}
+use Rattle.salt_engine.specs.Served.{served}
+use Rattle.salt_model.specs.Lines.{AskInOrder, Asks, is_long}
 use Rattle.salt_model.specs.Trace as trace_words
 use Rattle.salt_model.specs.Trace.{Asked, Trace, story_before}
 use Rattle.salt_model.specs.Played.{Tells, empty_start}
 use Rattle.salt_model.specs.declared.events.Event.{Event}
-use Rattle.salt_ast.proofs.Joins.{Gains-append}
+use Rattle.salt_io.proofs.Taking.{gains-append}
 use Rattle.salt_run.proofs.Places.{end-place, fault-place, long-place, memory-place, next-place, over-before, write-place}
 use Rattle.salt_run.proofs.Stories.{text-begins, told_text-append}
 use Rattle.salt_run.specs.Run.{GainsFrom, GainsShortFrom, IsFrontOf}
@@ -22,13 +23,18 @@ use Rattle.salt_run.specs.declared.serving.Stop.TheVariants as stop
 use Rattle.salt_run.specs.declared.status.Status.TheVariants.{Done, Memory, ReadFault, ScriptTooLong, WriteFault}
 use Rattle.std.proofs.Common.{ap, append-nil, append_assoc, arith, inl, inr, subst, sym, ◌∙◌}
 use Rattle.std.specs.Result.{IfErr, IsErrAnd}
-use Rattle.std.specs.Prelude.{Bool, Err, List, None, Ok, Option, Result, Some, [], drop, false, length, refl, true, ℕ, ◌++◌, ◌-◌, ◌∷◌, ◌≡◌}
+use Rattle.std.specs.Prelude.{Bool, Err, List, None, Ok, Option, Result, Some, [], drop, false, length, map, refl, true, ℕ, ◌++◌, ◌-◌, ◌∷◌, ◌≡◌}
 
 ask-one : (texts : List (List ℕ)) (lines : List Asked) (text : List ℕ) (line : Asked) → AskInOrder texts lines → Asks text line → AskInOrder (texts ++ text ∷ []) (lines ++ line ∷ [])
 ask-one [] [] text line h a = (a, tt)
 ask-one [] (l ∷ lines) text line h a = absurd h
 ask-one (t ∷ texts) [] text line h a = absurd h
 ask-one (t ∷ texts) (l ∷ lines) text line h a = (h.0, ask-one texts lines text line h.1 a)
+
+-- what is served of one more line
+serve-one : (lines : List Asked) (line : Asked) → map served (lines ++ line ∷ []) ≡ map served lines ++ served line ∷ []
+serve-one [] line = refl
+serve-one (l ∷ lines) line = ap (λ ls. served l ∷ ls) (serve-one lines line)
 
 drop-front : {A : Type 0} (xs ys : List A) → drop (length xs) (xs ++ ys) ≡ ys
 drop-front [] ys = refl
@@ -63,7 +69,7 @@ gains-then-short a b before mid held g s = record {
     missing = s.missing;
     whole = ap (λ t. a ++ t) s.whole ∙ sym (append_assoc a s.part s.missing);
     some = s.some;
-    gained = Gains-append a s.part before mid held g s.gained;
+    gained = gains-append before mid held a s.part g s.gained;
   };
   from = (s.part, refl);
 }
@@ -83,8 +89,12 @@ module _ (script before : Option (List ℕ)) (old new : Engine) (reading : Readi
     here : IsAt script reading_after (rest_of reading_after left_after) (serving.texts ++ taken.line ∷ [])
     here = next-place reading reading_after left (rest_of reading_after left_after) serving.texts taken.line serving.of taken.takes script serving.place
 
-    asked-here : (asked : Asked) (after : Trace) → trace_words.lines_of after ≡ trace_words.lines_of serving.trace ++ asked ∷ [] → TextAsks text asked → AskInOrder (serving.texts ++ taken.line ∷ []) (trace_words.lines_of after)
-    asked-here asked after lines asks = subst (AskInOrder (serving.texts ++ taken.line ∷ [])) (sym lines) (ask-one serving.texts (trace_words.lines_of serving.trace) taken.line asked serving.asked (taken.asks asked asks))
+    reads-here : (asked : Asked) → TextAsks text asked → AskInOrder (serving.texts ++ taken.line ∷ []) (serving.asked ++ asked ∷ [])
+    reads-here asked asks = ask-one serving.texts serving.asked taken.line asked serving.reads (taken.asks asked asks)
+
+    served-here : (asked : Asked) (after : Trace) → trace_words.lines_of after ≡ trace_words.lines_of serving.trace ++ served asked ∷ [] →
+        trace_words.lines_of after ≡ map served (serving.asked ++ asked ∷ [])
+    served-here asked after lines = lines ∙ ap (λ ls. ls ++ served asked ∷ []) serving.served ∙ sym (serve-one serving.asked asked)
 
     pub line-done : (held_after : Option (List ℕ)) → IsDone text old story new told → Gains held (added_text story told) held_after → IsServing script before new reading_after left_after told held_after
     line-done held_after done written =
@@ -93,10 +103,12 @@ module _ (script before : Option (List ℕ)) (old new : Engine) (reading : Readi
           trace = goes.after;
           texts = serving.texts ++ taken.line ∷ [];
           serves = goes.serves;
-          asked = asked-here done.0 goes.after goes.asks done.1;
+          asked = serving.asked ++ done.0 ∷ [];
+          reads = reads-here done.0 done.1;
+          served = served-here done.0 goes.after goes.asks;
           of = of;
           place = here;
-          written = subst (λ t. Gains before t held_after) (sym (grown-text story told goes.grows)) (Gains-append (told_text story) (added_text story told) before held held_after serving.written written);
+          written = subst (λ t. Gains before t held_after) (sym (grown-text story told goes.grows)) (gains-append before held held_after (told_text story) (added_text story told) serving.written written);
           unshown = grown-unshown story told goes.grows serving.unshown;
           numbers = record {
             units = omega (arith, serving.numbers.units, goes.rise.units, taken.takes.some, taken.takes.counted);
@@ -113,6 +125,8 @@ module _ (script before : Option (List ℕ)) (old new : Engine) (reading : Readi
         tells = subst (λ t. Tells empty_start serving.trace t) (sym is) serving.serves.tells;
         up = serving.serves.up;
         asked = serving.asked;
+        reads = serving.reads;
+        served = serving.served;
         lines = memory-place script reading (rest_of reading left) left_end serving.texts serving.place over serving.within;
         leaves = tt;
       };
@@ -129,7 +143,9 @@ module _ (script before : Option (List ℕ)) (old new : Engine) (reading : Readi
             texts = serving.texts ++ taken.line ∷ [];
             tells = breaks.tells;
             up = breaks.up;
-            asked = asked-here broken.0 breaks.after breaks.asks broken.1;
+            asked = serving.asked ++ broken.0 ∷ [];
+            reads = reads-here broken.0 broken.1;
+            served = served-here broken.0 breaks.after breaks.asks;
             lines = memory-place script reading_after (rest_of reading_after left_after) left_end (serving.texts ++ taken.line ∷ []) here (over-before reading_after left_after of) taken.takes.within;
             leaves = tt;
           };
@@ -149,7 +165,9 @@ module _ (script before : Option (List ℕ)) (old new : Engine) (reading : Readi
             texts = serving.texts ++ taken.line ∷ [];
             tells = goes.serves.tells;
             up = goes.serves.up;
-            asked = asked-here done.0 goes.after goes.asks done.1;
+            asked = serving.asked ++ done.0 ∷ [];
+            reads = reads-here done.0 done.1;
+            served = served-here done.0 goes.after goes.asks;
             lines = write-place script reading_after (rest_of reading_after left_after) left_end (serving.texts ++ taken.line ∷ []) here (over-before reading_after left_after of) taken.takes.within;
             leaves = goes.serves.complete;
           };
@@ -175,6 +193,8 @@ module _ (script before : Option (List ℕ)) (old new : Engine) (reading : Readi
       tells = serving.serves.tells;
       up = serving.serves.up;
       asked = serving.asked;
+      reads = serving.reads;
+      served = serving.served;
       lines = end-place script reading (rest_of reading left) left_end serving.texts serving.place end serving.within;
       leaves = serving.serves.complete;
     };
@@ -190,6 +210,8 @@ module _ (script before : Option (List ℕ)) (old new : Engine) (reading : Readi
       tells = serving.serves.tells;
       up = serving.serves.up;
       asked = serving.asked;
+      reads = serving.reads;
+      served = serving.served;
       lines = fault-place script reading (rest_of reading left) left_end serving.texts serving.place unended cut serving.within;
       leaves = serving.serves.complete;
     };
@@ -205,6 +227,8 @@ module _ (script before : Option (List ℕ)) (old new : Engine) (reading : Readi
       tells = serving.serves.tells;
       up = serving.serves.up;
       asked = serving.asked;
+      reads = serving.reads;
+      served = serving.served;
       lines = long-place script reading (rest_of reading left) left_end serving.texts serving.place over cut serving.within;
       leaves = serving.serves.complete;
     };
@@ -220,6 +244,8 @@ module _ (script before : Option (List ℕ)) (old new : Engine) (reading : Readi
       tells = serving.serves.tells;
       up = serving.serves.up;
       asked = serving.asked;
+      reads = serving.reads;
+      served = serving.served;
       lines = memory-place script reading (rest_of reading left) left_end serving.texts serving.place over serving.within;
       leaves = tt;
     };
@@ -246,4 +272,4 @@ line-taken line before after taken now text is takes =
 -- a line that is too long
 pub long-taken : (before after : Option (List ℕ)) (taken : ℕ) (now : Reading) (text : Option (List ℕ)) → text ≡ None → TakesLong LINE_MOST SCRIPT_MOST before after taken now → HasTaken text before after taken now
 long-taken before after taken now text is long =
-    subst (λ t. HasTaken t before after taken now) (sym is) (record { line = long.text; takes = long.taken; asks = λ asked h. subst (Asks long.text) (sym h) (inl long.long) })
+    subst (λ t. HasTaken t before after taken now) (sym is) (record { line = long.text; takes = long.taken; asks = λ asked h. subst (Asks long.text) (sym h) (is_long long.long) })

@@ -3,4 +3,3 @@ pub mod Stories
 pub mod Ends
 pub mod Openings
 pub mod RunWord
-pub mod Read

@@ -14,7 +14,7 @@ use Rattle.salt_model.specs.Played.{Tells, empty_start}
 use Rattle.salt_model.specs.Segments.{IsComplete}
 use Rattle.salt_model.specs.declared.events.Event.{Event}
 use Rattle.salt_model.specs.declared.events.Event.TheVariants.{Opened, Ready, Shown}
-use Rattle.salt_ast.proofs.Joins.{Gains-nil}
+use Rattle.salt_io.proofs.Taking.{gains-none}
 use Rattle.salt_run.proofs.Stories.{story-begins}
 use Rattle.salt_run.specs.Run.{AreFirstLines, AreLinesOf, GainsFrom, GainsShortFrom, IsPlayedRun, IsTold, IsWritten}
 use Rattle.salt_run.specs.Serving.{IsAt, IsEnded, IsServing, StopsOpening, opening, status_of, told_text}
@@ -60,7 +60,9 @@ serving-opened e reading left before held story serves is units decisions told w
       trace = opened;
       texts = [];
       serves = serves opened opening opened-tells opened-complete opened-up opened-idle refl refl;
-      asked = tt;
+      asked = [];
+      reads = tt;
+      served = refl;
       of = λ ended. absurd (unended ended);
       place = no-lines left;
       written = written;
@@ -85,21 +87,27 @@ usage-before None left = tt
 usage-before (Some script) left = refl
 
 nothing-gained : (before held : Option (List ℕ)) (text : List ℕ) → held ≡ before → GainsFrom before [] text held
-nothing-gained before held text same = subst (GainsFrom before [] text) (sym same) (record { some = record { part = []; others = text; whole = refl; gained = Gains-nil before }; from = ([], refl) })
+nothing-gained before held text same = subst (GainsFrom before [] text) (sym same) (record { some = record { part = []; others = text; whole = refl; gained = gains-none before }; from = ([], refl) })
 
 pub opening-stops : (script left before : Option (List ℕ)) (told : List Event) (held : Option (List ℕ)) (s : Stop) → StopsOpening told before held s → IsEnded (status_of s) script left before told held
 opening-stops script left before told held stop.Memory (inl is, same) = record {
-  played = record { trace = from empty_start; texts = []; tells = record { begins = refl; told = sym is; played = tt }; up = tt; asked = tt; lines = memory-before script left; leaves = tt };
+  played = record { trace = from empty_start; texts = []; tells = record { begins = refl; told = sym is; played = tt }; up = tt; asked = [];
+ reads = tt;
+ served = refl; lines = memory-before script left; leaves = tt };
   written = nothing-gained before held (told_text told) same;
   unshown = subst (Every ShowsNothing) (sym is) tt;
 }
 opening-stops script left before told held stop.Memory (inr is, same) = record {
-  played = record { trace = from empty_start says Opened 1 0; texts = []; tells = record { begins = refl; told = sym is; played = (tt, (omega arith, omega arith, inl refl)) }; up = (tt, tt); asked = tt; lines = memory-before script left; leaves = tt };
+  played = record { trace = from empty_start says Opened 1 0; texts = []; tells = record { begins = refl; told = sym is; played = (tt, (omega arith, omega arith, inl refl)) }; up = (tt, tt); asked = [];
+ reads = tt;
+ served = refl; lines = memory-before script left; leaves = tt };
   written = nothing-gained before held (told_text told) same;
   unshown = subst (Every ShowsNothing) (sym is) (tt, tt);
 }
 opening-stops script left before told held stop.WriteFault h = record {
-  played = record { trace = opened; texts = []; tells = subst (Tells empty_start opened) (sym h.0) opened-tells; up = opened-up; asked = tt; lines = write-before script left; leaves = opened-complete };
+  played = record { trace = opened; texts = []; tells = subst (Tells empty_start opened) (sym h.0) opened-tells; up = opened-up; asked = [];
+ reads = tt;
+ served = refl; lines = write-before script left; leaves = opened-complete };
   written = subst (λ t. GainsShortFrom before [] (told_text t) held) (sym h.0) (record { short = h.1; from = (h.1.part, refl) });
   unshown = subst (Every ShowsNothing) (sym h.0) (tt, (tt, tt));
 }
@@ -108,7 +116,9 @@ opening-stops script left before told held stop.ScriptTooLong h = absurd h
 
 -- a run of wrong words
 abbrev usage-played : (script left : Option (List ℕ)) → IsPlayedRun Usage script left []
-usage-played script left = record { trace = from empty_start; texts = []; tells = record { begins = refl; told = refl; played = tt }; up = tt; asked = tt; lines = usage-before script left; leaves = refl }
+usage-played script left = record { trace = from empty_start; texts = []; tells = record { begins = refl; told = refl; played = tt }; up = tt; asked = [];
+ reads = tt;
+ served = refl; lines = usage-before script left; leaves = refl }
 
 -- an event that shows nothing reads the same under each schema
 same-text : (schema : List TableDef) (e : Event) → ShowsNothing e → event_text schema e ≡ event_text [] e
@@ -155,4 +165,4 @@ run-at script before status now left left_now story told held held_now a b c d r
     (subst (λ s. HasRun script before status left s held_now) (sym c) (subst (HasRun script before status left story) (sym d) run)))
 
 pub usage-run : (script before left : Option (List ℕ)) → HasRun script before Usage left [] before
-usage-run script before left = (usage-played script left, λ schema. Gains-nil before)
+usage-run script before left = (usage-played script left, λ schema. gains-none before)

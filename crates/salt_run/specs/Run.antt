@@ -2,10 +2,11 @@
 use Rattle.salt_values.specs.declared.limits.TheConstants.{SCRIPT_MOST}
 use Rattle.salt_io.specs.Lines.{lines_of, script_of}
 use Rattle.salt_engine.specs.Engine.{NeverDown}
+use Rattle.salt_engine.specs.Served.{served}
 use Rattle.salt_io.specs.Streams.{Gains, GainsShort, GainsSome, bytes_before}
 use Rattle.salt_model.specs.Lines.{AskInOrder}
 use Rattle.salt_model.specs.Trace as trace_words
-use Rattle.salt_model.specs.Trace.{Trace, story_before, story_of}
+use Rattle.salt_model.specs.Trace.{Asked, Trace, story_before, story_of}
 use Rattle.salt_model.specs.Ends.{AnyPlace, AtLineEnd, Leave, MayLeave, NotBegun}
 use Rattle.salt_model.specs.Played.{Tells, empty_start}
 use Rattle.salt_model.specs.Continuing.{IsContinued}
@@ -21,7 +22,7 @@ use Rattle.salt_ast.specs.declared.trees.TableDef.{TableDef}
 use Rattle.salt_model.specs.declared.events.Event.{Event}
 use Rattle.salt_run.specs.declared.status.Status.{Status}
 use Rattle.salt_run.specs.declared.status.Status.TheVariants.{Done, Memory, ReadFault, ScriptTooLong, Usage, WriteFault}
-use Rattle.std.specs.Prelude.{List, None, Option, Some, [], length, take, ℕ, ⊤, ◌++◌, ◌<◌, ◌≡◌, ◌≤◌}
+use Rattle.std.specs.Prelude.{List, None, Option, Some, [], length, map, take, ℕ, ⊤, ◌++◌, ◌<◌, ◌≡◌, ◌≤◌}
 
 -- these come first
 abbrev pub IsFrontOf : {A : Type 0} → List A → List A → Type 0
@@ -66,13 +67,16 @@ leave_of ReadFault = AtLineEnd
 leave_of WriteFault = AtLineEnd
 leave_of ScriptTooLong = AtLineEnd
 
--- the story is that of a trace which is played, and whose lines are those that were done of the script
+-- The story is that of a trace which is played, and whose lines are what the lines that were done of the script ask, as far as it is
+-- served.
 pub record IsPlayedRun (status : Status) (script left : Option (List ℕ)) (story : List Event) : Type 0 where
   pub trace : Trace
   pub texts : List (List ℕ)
   pub tells : Tells empty_start trace story
   pub up : NeverDown trace
-  pub asked : AskInOrder texts (trace_words.lines_of trace)
+  pub asked : List Asked
+  pub reads : AskInOrder texts asked
+  pub served : trace_words.lines_of trace ≡ map served asked
   pub lines : AreLinesOf status script left texts
   pub leaves : MayLeave (leave_of status) trace
 

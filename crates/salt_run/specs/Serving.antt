@@ -1,6 +1,7 @@
 -- What holds of a run between its lines, and what a line adds.
 use Rattle.salt_values.specs.declared.limits.TheConstants.{SCRIPT_MOST}
 use Rattle.salt_engine.specs.Engine.{BreaksOff, GoesOn, Serves}
+use Rattle.salt_engine.specs.Served.{served}
 use Rattle.salt_engine.specs.declared.engine.Engine.{Engine}
 use Rattle.salt_io.specs.Lines.{IsReadingOf, Reading, lines_of, script_of}
 use Rattle.salt_io.specs.Streams.{Gains, GainsShort, IsAtEnd, bytes_before}
@@ -12,13 +13,13 @@ use Rattle.salt_model.specs.Trace.{Asked, Rejected, Trace, story_before}
 use Rattle.salt_io.specs.declared.lines.LineErr.{LineErr}
 use Rattle.salt_model.specs.declared.events.Event.{Event}
 use Rattle.salt_model.specs.declared.events.Event.TheVariants.{Opened, Ready}
-use Rattle.salt_model.specs.declared.events.Refusal.TheVariants.{Syntax}
+use Rattle.salt_model.specs.declared.events.Refusal.TheVariants.{Long}
 use Rattle.salt_run.specs.Run.{IsPlayedRun, IsWritten}
 use Rattle.salt_run.specs.declared.serving.Stop.{Stop}
 use Rattle.salt_run.specs.declared.serving.Stop.TheVariants.{Memory, ReadFault, ScriptTooLong, WriteFault}
 use Rattle.salt_run.specs.declared.status.Status.{Status}
 use Rattle.salt_run.specs.declared.status.Status.TheVariants as status
-use Rattle.std.specs.Prelude.{Bool, List, None, Option, Some, [], drop, false, length, true, ℕ, ⊤, ◌∷◌, ◌≡◌, ◌≤◌, ◌⊎◌}
+use Rattle.std.specs.Prelude.{Bool, List, None, Option, Some, [], drop, false, length, map, true, ℕ, ⊤, ◌∷◌, ◌≡◌, ◌≤◌, ◌⊎◌}
 
 -- The texts are the lines of the bytes that were given of a script, and the rest of it begins a line, or the source has told its end.
 pub record IsAtLine (script : List ℕ) (reading : Reading) (rest : Option (List ℕ)) (texts : List (List ℕ)) : Type 0 where
@@ -52,7 +53,9 @@ pub record IsServing (script before : Option (List ℕ)) (e : Engine) (reading :
   pub trace : Trace
   pub texts : List (List ℕ)
   pub serves : Serves e story trace
-  pub asked : AskInOrder texts (trace_words.lines_of trace)
+  pub asked : List Asked
+  pub reads : AskInOrder texts asked
+  pub served : trace_words.lines_of trace ≡ map served asked
   pub of : IsReadingOf reading left
   pub place : IsAt script reading (rest_of reading left) texts
   pub written : Gains before (told_text story) held
@@ -60,18 +63,18 @@ pub record IsServing (script before : Option (List ℕ)) (e : Engine) (reading :
   pub numbers : HasNumbers e reading.taken
   pub within : reading.taken ≤ SCRIPT_MOST
 
--- a line's text asks; one that is too long has none here
+-- a line's text asks; one that is too long has none here, and is told so
 abbrev pub TextAsks : Option (List ℕ) → Asked → Type 0
 TextAsks (Some text) asked = Asks text asked
-TextAsks None asked = asked ≡ Rejected Syntax
+TextAsks None asked = asked ≡ Rejected Long
 
 -- a line that was done
 abbrev pub IsDone : Option (List ℕ) → Engine → List Event → Engine → List Event → Type 0
-IsDone text old story new told = (asked : Asked) × TextAsks text asked × GoesOn old story asked new told
+IsDone text old story new told = (asked : Asked) × TextAsks text asked × GoesOn old story (served asked) new told
 
 -- a line in which memory ran out: before it was read, or in its segment
 abbrev pub IsLeftIn : Option (List ℕ) → Engine → List Event → List Event → Type 0
-IsLeftIn text old story told = (told ≡ story) ⊎ ((asked : Asked) × TextAsks text asked × BreaksOff old story asked told)
+IsLeftIn text old story told = (told ≡ story) ⊎ ((asked : Asked) × TextAsks text asked × BreaksOff old story (served asked) told)
 
 -- the text of the events that a line has added
 abbrev pub added_text : List Event → List Event → List ℕ

@@ -11,9 +11,9 @@ ghost use Rattle.salt_run.specs.declared.serving.Stop.TheVariants.{Memory, Write
 use crate::status::Status;
 use salt_engine::Engine;
 use salt_io::{IoFailed, LineErr, Lines, Next, Sink, Source};
-use salt_model::{Event, Story};
+use salt_model::{Event, Refusal, Story};
 use salt_print::print_story;
-use salt_script::read_line;
+use salt_script::{ReadErr, read_line};
 use salt_values::limits::SCRIPT_MOST;
 use std::alloc::{AllocError, Global};
 
@@ -79,11 +79,12 @@ fn do_line(
     ensures err { OnErr result (IsLeftIn (option_copied text.entry) engine.old story.old story.new) }
 {
     let Some(text) = text else {
-        return engine.refuse(story);
+        return engine.refuse(Refusal::Long, story);
     };
-    match read_line(alloc, text)? {
-        Some(line) => engine.step(&line, story),
-        None => engine.refuse(story),
+    match read_line(alloc, text) {
+        Ok(line) => engine.step(&line, story),
+        Err(ReadErr::Refused(refusal)) => engine.refuse(refusal, story),
+        Err(ReadErr::Memory) => Err(AllocError),
     }
 }
 

@@ -7,20 +7,12 @@ use salt_model::Refusal;
 use salt_parse::ParseErr;
 
 /// Why bytes give no line.
+#[derive(Drop)]
 pub enum ReadErr {
     /// The line is refused for its text.
     Refused(Refusal),
     /// Memory ran out.
     Memory,
-}
-
-impl Drop for ReadErr {
-    fn drop(self) {
-        match self {
-            ReadErr::Refused(_refusal) => {}
-            ReadErr::Memory => {}
-        }
-    }
 }
 
 /// Why a line gives none that has no tree.
