@@ -153,6 +153,9 @@ pub fn print_story<K: Sink>(
 ) -> Result<(), IoFailed>
     ensures { Sends K.held K.faults sink.old sink.new result (story_text schema.now events.now) }
 {
+    if events.is_empty() {
+        return Ok(());
+    }
     let mut out = Printer {
         sink,
         waiting: WriteBuffer::new(),

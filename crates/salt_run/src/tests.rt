@@ -12,6 +12,12 @@ const OPENING: &[u8] = b"opened 1 0\nready\n";
 
 const SYNTAX: &[u8] = b"refused 3 syntax\n";
 
+const LONG: &[u8] = b"refused 1 long\n";
+
+const SESSION: &[u8] = b"refused 4 limit session\n";
+
+const NUMBER: &[u8] = b"refused 4 limit number\n";
+
 const ROOM: usize = 16_384;
 
 // The lines of the first row, and what each tells.
@@ -211,7 +217,7 @@ const TABLE: &[u8] = b"create table t (id int key)\n";
 const DEFINED: &[u8] = b"defined 1 create table t (id int key)\n";
 
 // Lines behind a table of one column, and what they tell.
-const LINES: [(&[u8], &[u8]); 26] = [
+const LINES: [(&[u8], &[u8]); 30] = [
     (b"", b""),
     (b"\n  \n\t\n-- a comment\n--\x00\xff\n\n", b""),
     (
@@ -241,12 +247,12 @@ const LINES: [(&[u8], &[u8]); 26] = [
         b"@64 SELECT * From t\tWHERE KEY=007",
         b"u1.1 began @64\nu1.1 did select * from t where key = 7 -> rows\nu1.1 committed 2\n",
     ),
-    (b"@0 select * from t where key = 1", SYNTAX),
-    (b"@65 select * from t where key = 1", SYNTAX),
-    (b"@257 select * from t where key = 1", SYNTAX),
+    (b"@0 select * from t where key = 1", SESSION),
+    (b"@65 select * from t where key = 1", SESSION),
+    (b"@257 select * from t where key = 1", SESSION),
     (
         b"@18446744073709551617 select * from t where key = 1",
-        SYNTAX,
+        SESSION,
     ),
     (
         b"@1 insert into t values (9223372036854775807)",
@@ -260,17 +266,33 @@ const LINES: [(&[u8], &[u8]); 26] = [
         b"@1 insert into t values (-0)",
         b"u1.1 began @1\nu1.1 did insert into t values (0) -> count 1\nu1.1 committed 2\n",
     ),
-    (b"@1 insert into t values (9223372036854775808)", SYNTAX),
-    (b"@1 insert into t values (-9223372036854775809)", SYNTAX),
-    (b"@1 insert into t values (18446744073709551617)", SYNTAX),
+    (b"@1 insert into t values (9223372036854775808)", NUMBER),
+    (b"@1 insert into t values (-9223372036854775809)", NUMBER),
+    (b"@1 insert into t values (18446744073709551617)", NUMBER),
     (b"@1 insert into t values (--1)", SYNTAX),
     (b"@1 select * from t where id = 1", SYNTAX),
     (
         b"\x00\n\x7f\n\x80\n\xff\n",
-        b"refused 3 syntax\nrefused 3 syntax\nrefused 3 syntax\nrefused 3 syntax\n",
+        b"refused 2 byte\nrefused 2 byte\nrefused 2 byte\nrefused 2 byte\n",
     ),
     (b"create table key (id int key)", SYNTAX),
     (b"@1 select * from t where key = 1 2", SYNTAX),
+    (
+        b"create table u (id int key, v int null)\n@1 insert into u values (1, 2)\n@1 insert into u values (2, null)",
+        b"defined 2 create table u (id int key, v int null)\nu1.1 began @1\nu1.1 did insert into u values (1, 2) -> count 1\nu1.1 committed 3\nrefused 3 syntax\n",
+    ),
+    (
+        b"create table a23456789_123456789_123456789_123 (id int key)",
+        b"refused 4 limit name\n",
+    ),
+    (
+        b"@1 begin\ngo 1.1\ngo all\nshow locks\ncrash 5 0\nprogram p() acid { ensure 1 = 1 } end",
+        b"refused 3 syntax\nrefused 3 syntax\nrefused 3 syntax\nrefused 3 syntax\nrefused 3 syntax\nrefused 3 syntax\n",
+    ),
+    (
+        b"crash 0 9\ngo 9223372036854775808.1\nprogram p() base part { ensure 1 = 1 } on failure retry 10 then end end",
+        b"refused 4 limit crash\nrefused 4 limit number\nrefused 4 limit retry\n",
+    ),
 ];
 
 #[test]
@@ -308,9 +330,9 @@ fn long_scripts(rt: HostRuntime) -> Result<(), Fail> {
     let cases: [(&[u8], usize, &[u8], &[u8], &[u8]); 8] = [
         (b"", 100_000, b"\n", b"", b""),
         (b"--", 65_534, b"x", b"\n", b""),
-        (b"--", 65_535, b"x", b"\n\n", SYNTAX),
+        (b"--", 65_535, b"x", b"\n\n", LONG),
         (b"create table t (id int key", 65_509, b" ", b")\n", DEFINED),
-        (b"create table t (id int key", 65_510, b" ", b")\n", SYNTAX),
+        (b"create table t (id int key", 65_510, b" ", b")\n", LONG),
         (
             b"create table t (id int key",
             1_000,
