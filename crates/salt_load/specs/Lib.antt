@@ -1,0 +1,3 @@
+pub mod Workload
+pub mod Places
+pub mod WorkloadRows

@@ -1,0 +1,29 @@
+//! Where the lines of a workload stand.
+
+ghost use Rattle.std.specs.Prelude.{◌≡◌, ◌+◌, ◌*◌, ◌<◌, ◌≤◌};
+ghost use Rattle.salt_load.specs.Places.{lines_through};
+
+/// How many lines the calls up to this one are, with what follows them.
+pub fn lines_through(call: u64) -> u64
+    requires { call ≤ 30_000 }
+    ensures { result ≡ lines_through call }
+{
+    call + call / 8 + 3 * (call / 50)
+}
+
+/// How many calls are over, with what follows them, before this line behind the opening.
+///
+/// 200 calls have 237 lines. Where fewer have the same share of lines, up to four more may be over.
+pub fn calls_over(at: u64) -> u64
+    requires { at ≤ 25_000 }
+    ensures over { lines_through result ≤ at }
+    ensures not_over { at < lines_through (result + 1) }
+{
+    let mut calls = at * 200 / 237;
+    for _ in 0..4u64 {
+        if lines_through(calls + 1) <= at {
+            calls += 1;
+        }
+    }
+    calls
+}
