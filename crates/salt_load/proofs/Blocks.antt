@@ -1,10 +1,9 @@
 -- Where the calls of a workload stand.
-use Rattle.std.proofs.Common.{Bool, List, Some, [], ap, arith, cond, eqb, false, length, map, refl, suc, true, zero, ℕ, ◌%◌, ◌*◌, ◌+◌, ◌++◌, ◌-◌, ◌/◌, ◌<◌, ◌≤◌, ◌∙◌, ◌∷◌, ◌≡◌, length-append}
+use Rattle.std.proofs.Common.{Bool, Some, [], ap, arith, cond, eqb, false, length, map, refl, suc, true, zero, ℕ, ◌%◌, ◌*◌, ◌+◌, ◌++◌, ◌-◌, ◌/◌, ◌<◌, ◌≤◌, ◌∙◌, ◌∷◌, ◌≡◌, length-append}
 use Rattle.std.proofs.lemmas.Bool.{eqb-false, eqb-true}
 use Rattle.std.proofs.lemmas.List.FromFn.{get_or-map-range_with_len, length-map-range_with_len}
 use Rattle.std.proofs.lemmas.Option.{slice_get-get_or}
 use Rattle.std.specs.List.{flat_map, range_with_len, slice_get}
-use Rattle.salt_ast.specs.declared.lines.Line.{Line}
 use Rattle.salt_load.proofs.Elements.{slice_get-append_left, slice_get-append_right, slice_get-blocks}
 use Rattle.salt_load.specs.Places.{lines_through}
 use Rattle.salt_load.specs.Workload.{account_table, balance, behind_eighth, behind_fiftieth, call_lines, calls, closing, deposit, load_lines}
@@ -63,6 +62,10 @@ slice_get-opening k h =
     let accounts = map deposit (range_with_len 0 100) in
     slice_get-get_or accounts k (deposit k) (omega (arith, length-map-range_with_len deposit 0 100))
     ∙ ap Some (get_or-map-range_with_len deposit 0 100 k k (deposit k) h (omega arith))
+
+pub length_load : (n : ℕ) → length (load_lines n) ≡ 102 + lines_through n + 3
+length_load n =
+    omega (arith, length-append opening (calls n ++ closing), length-append (calls n) closing, length-opening, length-calls n)
 
 pub load_table : (n : ℕ) → slice_get (load_lines n) 0 ≡ Some account_table
 unfolding opening

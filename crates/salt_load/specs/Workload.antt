@@ -8,7 +8,6 @@ use Rattle.salt_ast.specs.declared.lines.Line.TheVariants as line
 use Rattle.salt_ast.specs.declared.trees.ColType.TheVariants as kind
 use Rattle.salt_ast.specs.declared.trees.Expr.{Column}
 use Rattle.salt_ast.specs.declared.trees.Op.TheVariants as op
-use Rattle.salt_ast.specs.declared.trees.Statement.{Statement}
 use Rattle.salt_ast.specs.declared.trees.Statement.TheVariants as statement
 use Rattle.salt_ast.specs.declared.trees.TableDef.{TableDef}
 use Rattle.salt_ast.specs.declared.trees.What.TheVariants as what

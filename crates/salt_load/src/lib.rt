@@ -1,9 +1,13 @@
 //! The lines of a workload, each found by its number.
 #![tactic(auto)]
 
+mod limits;
 mod lines;
 mod places;
+#[cfg(test)]
+mod tests;
 mod trees;
 mod workload;
 
-pub use workload::{CALLS_MOST, load_line};
+pub use limits::CALLS_MOST;
+pub use workload::{line_count, load_line};

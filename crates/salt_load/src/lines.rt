@@ -2,9 +2,10 @@
 
 ghost use Rattle.std.specs.Prelude.{◌≡◌, ◌<◌, ◌≤◌, IfOk};
 ghost use Rattle.salt_ast.specs.Sample.{amounts, transfer_parts};
+ghost use Rattle.salt_load.specs.declared.limits.TheConstants.{CALLS_MOST};
 ghost use Rattle.salt_load.specs.Workload.{account_table, balance, deposit, transfer, transfer_args, transfer_program};
 
-use crate::trees::{balances, int_field, move_amount, name, number, one, operation, part};
+use crate::trees::{balance_column, int_field, move_amount, name, number, one, operation, part};
 use salt_ast::{
     Act, Body, Bound, Fields, Line, Next, Op, Parts, ProgramDef, Scan, Statement, TableDef, What,
 };
@@ -19,7 +20,7 @@ pub fn account_table(alloc: Global) -> Result<Line, AllocError>
 {
     let mut columns = one(alloc, int_field(alloc, b"id")?)?;
     columns.push(int_field(alloc, b"bal")?)?;
-    let balance = balances(alloc)?;
+    let balance = balance_column(alloc)?;
     let check = operation(alloc, Op::AtLeast, balance, number(0))?;
     let checks = one(alloc, check)?;
     Ok(Line::Table(TableDef {
@@ -84,7 +85,7 @@ pub fn deposit(alloc: Global, account: u64) -> Result<Line, AllocError>
 
 /// The arguments of a call: the account to take from, the account to bring to, and the amount.
 fn transfer_args(alloc: Global, call: u64) -> Result<Row, AllocError>
-    requires { call ≤ 20_000 }
+    requires { call ≤ CALLS_MOST }
     ensures { IfOk result (λ made. made ≡ transfer_args call) }
 {
     let from = 7 * call % 100;
@@ -98,7 +99,7 @@ fn transfer_args(alloc: Global, call: u64) -> Result<Row, AllocError>
 
 /// The line of a call.
 pub fn transfer(alloc: Global, call: u64) -> Result<Line, AllocError>
-    requires { call ≤ 20_000 }
+    requires { call ≤ CALLS_MOST }
     ensures { IfOk result (λ made. made ≡ transfer call) }
 {
     let args = transfer_args(alloc, call)?;

@@ -1,11 +1,12 @@
 //! Where the lines of a workload stand.
 
 ghost use Rattle.std.specs.Prelude.{◌≡◌, ◌+◌, ◌*◌, ◌<◌, ◌≤◌};
+ghost use Rattle.salt_load.specs.declared.limits.TheConstants.{CALLS_MOST};
 ghost use Rattle.salt_load.specs.Places.{lines_through};
 
 /// How many lines the calls up to this one are, with what follows them.
 pub fn lines_through(call: u64) -> u64
-    requires { call ≤ 30_000 }
+    requires { call ≤ 2 * CALLS_MOST }
     ensures { result ≡ lines_through call }
 {
     call + call / 8 + 3 * (call / 50)
@@ -15,7 +16,7 @@ pub fn lines_through(call: u64) -> u64
 ///
 /// 200 calls have 237 lines. Where fewer have the same share of lines, up to four more may be over.
 pub fn calls_over(at: u64) -> u64
-    requires { at ≤ 25_000 }
+    requires { at < 2 * CALLS_MOST }
     ensures over { lines_through result ≤ at }
     ensures not_over { at < lines_through (result + 1) }
 {

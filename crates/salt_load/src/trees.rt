@@ -45,8 +45,8 @@ pub fn number(n: i64) -> Expr
     Expr::Lit(Value::Int(n))
 }
 
-/// The column of the balances.
-pub fn balances(alloc: Global) -> Result<Expr, AllocError>
+/// The column of the balance_column.
+pub fn balance_column(alloc: Global) -> Result<Expr, AllocError>
     ensures { IfOk result (λ made. made ≡ Column bal) }
 {
     Ok(Expr::Column(name(alloc, b"bal")?))
@@ -73,7 +73,7 @@ pub fn move_amount(alloc: Global, op: Op, key: &[u8]) -> Result<Statement, Alloc
     ensures { IfOk result (λ made. made ≡ move op key.now) }
 {
     let column = name(alloc, b"bal")?;
-    let old = balances(alloc)?;
+    let old = balance_column(alloc)?;
     let amount = variable(alloc, b"amt")?;
     let value = operation(alloc, op, old, amount)?;
     let sets = one(alloc, Set { column, value })?;

@@ -1,17 +1,17 @@
 //! The lines of a workload, each found by its number.
 
-ghost use Rattle.std.specs.Prelude.{◌≡◌, ◌<◌, ◌≤◌, ◌++◌, IfOk, slice_get};
+ghost use Rattle.std.specs.Prelude.{◌≡◌, ◌<◌, ◌≤◌, ◌++◌, IfOk, length, slice_get};
 ghost use Rattle.salt_load.specs.Workload.{behind, behind_eighth, behind_fiftieth, call_lines, calls, closing, load_lines};
 ghost use Rattle.salt_load.specs.Places.{lines_through};
-ghost use Rattle.salt_load.specs.declared.workload.TheConstants.{CALLS_MOST};
+ghost use Rattle.salt_load.specs.declared.limits.TheConstants.{CALLS_MOST};
 
 use crate::lines::{account_table, balance, deposit, transfer, transfer_program};
 use crate::places::{calls_over, lines_through};
 use salt_ast::Line;
 use std::alloc::{AllocError, Global};
 
-/// The calls of a workload; the least is 1.
-pub const CALLS_MOST: u64 = 20_000;
+/// The lines before the first call: the table, the program and the accounts.
+const OPENING_LINES: u64 = 102;
 
 /// A line of what follows a fiftieth call.
 fn behind_fiftieth(alloc: Global, call: u64, at: u64) -> Result<Option<Line>, AllocError>
@@ -96,7 +96,16 @@ pub fn load_line(alloc: Global, n: u64, i: u64) -> Result<Option<Line>, AllocErr
     match i {
         0 => Ok(Some(account_table(alloc)?)),
         1 => Ok(Some(transfer_program(alloc)?)),
-        2..=101 => Ok(Some(deposit(alloc, i - 2)?)),
-        _ => line_behind_opening(alloc, n, i - 102),
+        _ if i < OPENING_LINES => Ok(Some(deposit(alloc, i - 2)?)),
+        _ => line_behind_opening(alloc, n, i - OPENING_LINES),
     }
+}
+
+/// How many lines the workload with n calls has.
+#[tactic(auto, using(crate::proofs::Blocks::length_load))]
+pub fn line_count(n: u64) -> u64
+    requires { n ≤ CALLS_MOST }
+    ensures { result ≡ length (load_lines n) }
+{
+    OPENING_LINES + lines_through(n) + 3
 }

@@ -8,9 +8,9 @@ returns-in_ok-account_table-in-0 c = rw c.in-0.is (ap Some c.in_ok-account_table
 pub returns-in_ok-transfer_program-in-1 : goal.returns-in_ok-transfer_program-in-1
 returns-in_ok-transfer_program-in-1 c = rw c.in-1.is (ap Some c.in_ok-transfer_program-in-1.ensures ∙ sym (load_program c.args.n))
 
-pub returns-in_ok-deposit-in-2-to-101 : goal.returns-in_ok-deposit-in-2-to-101
-returns-in_ok-deposit-in-2-to-101 c =
-    ap Some c.in_ok-deposit-in-2-to-101.ensures ∙ sym (load_deposit c.args.n c.args.i (omega arith) (omega arith))
+pub returns-in_ok-deposit-in_default : goal.returns-in_ok-deposit-in_default
+returns-in_ok-deposit-in_default c =
+    ap Some c.in_ok-deposit-in_default.ensures ∙ sym (load_deposit c.args.n c.args.i (omega arith) (omega arith))
 
-pub returns-in_default : goal.returns-in_default
-returns-in_default c = rw (load_behind_opening c.args.n c.args.i (omega arith)) c.line_behind_opening.ensures
+pub returns-in_default-2 : goal.returns-in_default-2
+returns-in_default-2 c = rw (load_behind_opening c.args.n c.args.i (omega arith)) c.line_behind_opening.ensures
