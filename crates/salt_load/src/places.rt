@@ -14,7 +14,8 @@ pub fn lines_through(call: u64) -> u64
 
 /// How many calls are over, with what follows them, before this line behind the opening.
 ///
-/// 200 calls have 237 lines. Where fewer have the same share of lines, up to four more may be over.
+/// Any 200 calls in a row have 237 lines. By this share the calls are counted, and at most four too few, since the first of
+/// them have less than their share of what follows calls.
 pub fn calls_over(at: u64) -> u64
     requires { at < 2 * CALLS_MOST }
     ensures over { lines_through result ≤ at }

@@ -86,8 +86,8 @@ fn line_behind_opening(alloc: Global, n: u64, at: u64) -> Result<Option<Line>, A
     }
 }
 
-/// Line i, from 0, of the workload with n calls; `None` exactly where the workload is over. It takes
-/// as long for each line: nothing is counted from the first line on.
+/// Line i, from 0, of the workload with n calls; `None` exactly where the workload is over. A later
+/// line takes no longer, since arithmetic finds it.
 pub fn load_line(alloc: Global, n: u64, i: u64) -> Result<Option<Line>, AllocError>
     requires least { 1 ≤ n }
     requires most { n ≤ CALLS_MOST }
