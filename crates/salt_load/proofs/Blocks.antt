@@ -1,5 +1,6 @@
 -- Where the calls of a workload stand.
-use Rattle.std.proofs.Common.{Bool, Some, [], ap, arith, cond, eqb, false, length, map, refl, suc, true, zero, ℕ, ◌%◌, ◌*◌, ◌+◌, ◌++◌, ◌-◌, ◌/◌, ◌<◌, ◌≤◌, ◌∙◌, ◌∷◌, ◌≡◌, length-append}
+use Rattle.std.proofs.Common.{Bool, Some, [], ap, arith, cond, eqb, false, length, map, refl, suc, true, zero, ℕ, length-append}
+use Rattle.std.proofs.Common.{◌%◌, ◌*◌, ◌+◌, ◌++◌, ◌-◌, ◌/◌, ◌<◌, ◌≤◌, ◌∙◌, ◌∷◌, ◌≡◌}
 use Rattle.std.proofs.lemmas.Bool.{eqb-false, eqb-true}
 use Rattle.std.proofs.lemmas.List.FromFn.{get_or-map-range_with_len, length-map-range_with_len}
 use Rattle.std.proofs.lemmas.Option.{slice_get-get_or}

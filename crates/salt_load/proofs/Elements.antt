@@ -10,7 +10,9 @@ slice_get-append_left (x ∷ xs) ys (suc i) h = slice_get-append_left xs ys i (o
 pub slice_get-append_right : {X : Type 0} (xs ys : List X) (n i : ℕ) → n ≡ length xs → slice_get (xs ++ ys) (n + i) ≡ slice_get ys i
 slice_get-append_right [] ys n i e = ap (slice_get ys) (omega arith)
 slice_get-append_right (x ∷ xs) ys zero i e = absurd (omega arith)
-slice_get-append_right (x ∷ xs) ys (suc n) i e = rw (let s : suc n + i ≡ suc (n + i) = omega arith in s) (slice_get-append_right xs ys n i (omega arith))
+slice_get-append_right (x ∷ xs) ys (suc n) i e =
+    let next : suc n + i ≡ suc (n + i) = omega arith in
+    rw next (slice_get-append_right xs ys n i (omega arith))
 
 -- element j of the i-th block stands behind the blocks before it
 pub slice_get-blocks : {X : Type 0} (f : ℕ → List X) (a n i j : ℕ) → i < n → j < length (f (a + i))

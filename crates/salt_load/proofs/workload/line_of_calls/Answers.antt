@@ -4,5 +4,7 @@ use Rattle.salt_load.proofs.workload.line_of_calls.Goals as goal
 
 pub returns : goal.returns
 returns c =
-    let there = slice_get-calls c.args.n c.calls_over-over.result c.lines_through.result c.args.at (omega arith) (omega arith) (omega arith) (omega arith) in
+    let over = c.calls_over-over.result in
+    let before = c.lines_through.result in
+    let there = slice_get-calls c.args.n over before c.args.at (omega arith) (omega arith) (omega arith) (omega arith) in
     rw there c.call_line.ensures
