@@ -10,3 +10,8 @@ mod stops;
 
 pub use error::ReadErr;
 pub use line::read_line;
+
+#[cfg(test)]
+mod tests;
+#[cfg(test)]
+mod tests_of_programs;
