@@ -54,6 +54,10 @@ pub args_complete : {ts : Symbols} {vs : List Value} → AnyListed IsLiteral ts 
 args_complete no_items = refl
 args_complete (some_items d) = not_closed d ∙ listed_complete d
 
+pub call_complete : (p : List ℕ) (ts : Symbols) (vs : List Value) → AnyListed IsLiteral ts vs →
+    call_at (name p ∷ sign mark.Open ∷ (ts ++ sign mark.Close ∷ [])) ≡ Some (p, vs)
+call_complete p ts vs d = ap (option_map (λ ws. (p, ws))) (args_complete d)
+
 -- ---- what is read the grammar spells
 
 -- up to the parenthesis the symbols are of this form
@@ -73,9 +77,11 @@ with_item {ts} {v} us vs g behind h = go (items_at behind_item us) behind h
     go None f e = absurd cc
     go (Some ws) f e =
         let r = f ws refl in
-        let same : v ∷ ws ≡ vs = cc e in
-        (ts ++ r.0, ap (λ (x : Symbols). ts ++ x) r.1 ∙ sym (append_assoc ts r.0 (sign mark.Close ∷ [])),
-        subst (Listed IsLiteral (ts ++ r.0)) same (items g r.2))
+        let same : v ∷ ws ≡ vs = cc e in (
+          ts ++ r.0,
+          ap (λ (x : Symbols). ts ++ x) r.1 ∙ sym (append_assoc ts r.0 (sign mark.Close ∷ [])),
+          subst (Listed IsLiteral (ts ++ r.0)) same (items g r.2),
+        )
 
 following_of : {ts : Symbols} {vs : List Value} → Listed IsLiteral ts vs → Following IsLiteral (sign mark.Comma ∷ ts) vs
 following_of (items g d) = one_more g d
@@ -85,6 +91,7 @@ further r = (sign mark.Comma ∷ r.0, ap (λ (x : Symbols). sign mark.Comma ∷ 
 
 mutual
   unfolding items_at
+
   item_sound : (us : Symbols) (vs : List Value) → items_at at_item us ≡ Some vs → Front (Listed IsLiteral) us vs
   item_sound (int n ∷ us) vs h = with_item us vs form.plus_int (behind_sound us) h
   item_sound (text t ∷ us) vs h = with_item us vs form.literal (behind_sound us) h

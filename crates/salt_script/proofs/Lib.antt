@@ -4,3 +4,4 @@ pub mod Calls
 pub mod Acts
 pub mod Lines
 pub mod Asking
+pub mod Unique

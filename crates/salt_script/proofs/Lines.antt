@@ -191,9 +191,10 @@ at_turn ts boot seq e = go (begun ts (a_turn boot seq) e)
 pub turn_within : (ts : Symbols) (boot seq : ℕ) → line_begins ts ≡ a_turn boot seq → turn_limit boot seq ≡ None →
     IsLineSettled ts (Ok (line.Go (record { boot = boot; seq = seq })))
 unfolding line_limit
-turn_within ts boot seq e h =
-    (subst (λ (x : Symbols). ShallowLine x (line.Go (record { boot = boot; seq = seq }))) (sym (at_turn ts boot seq e)) form.of_go,
-    or_none (turn_limit boot seq) ∙ h)
+turn_within ts boot seq e h = (
+  subst (λ (x : Symbols). ShallowLine x (line.Go (record { boot = boot; seq = seq }))) (sym (at_turn ts boot seq e)) form.of_go,
+  or_none (turn_limit boot seq) ∙ h,
+)
 
 pub turn_passes : (ts : Symbols) (boot seq : ℕ) (l : LimitName) → line_begins ts ≡ a_turn boot seq → turn_limit boot seq ≡ Some l →
     IsLineSettled ts (Err (Limit l))
@@ -281,10 +282,9 @@ session_fails ts us s (Limit l) e w h = (line.Session s h.0, of_act ts us s h.0 
 pub session_is_no_line : (ts us : Symbols) (s : ℕ) → line_begins ts ≡ an_act s us → IsSettled us (Err Syntax) → IsLineSettled ts (Err Syntax)
 session_is_no_line ts us s e h = no_session ts us s e h
 
-
 -- ---- stops
 
-stops_complete : {ts : Symbols} {xs : List (ℕ × ℕ)} → Several IsStop ts xs → stops_at ts ≡ Some xs
+pub stops_complete : {ts : Symbols} {xs : List (ℕ × ℕ)} → Several IsStop ts xs → stops_at ts ≡ Some xs
 unfolding stops_at
 stops_complete (last_one form.is_stop) = refl
 stops_complete (and_more (form.is_stop {n = n} {pick = pick}) d) = ap (option_map (λ stops. (n, pick) ∷ stops)) (stops_complete d)

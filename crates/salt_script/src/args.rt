@@ -12,9 +12,8 @@ ghost use Rattle.salt_values.specs.Text.{is_printable};
 ghost use Rattle.salt_values.specs.declared.value.Value.TheVariants as value;
 ghost use Rattle.salt_values.specs.declared.value.Value.{Value};
 
-use salt_parse::ParseErr;
-use salt_parse::{content, content_len};
 use salt_ast::LimitName;
+use salt_parse::{ParseErr, content, content_len};
 use salt_tokens::{Lexeme, Sign};
 use salt_values::limits::TEXT_MOST;
 use salt_values::{Row, Text, TextErr, Value};
@@ -139,10 +138,7 @@ impl<'a> Args<'a> {
 }
 
 /// Literals with commas between them, up to the parenthesis that ends the row.
-fn items<'a>(
-    alloc: Global,
-    tokens: &'a [Lexeme<'a>],
-) -> Result<Result<Row, LimitName>, ParseErr>
+fn items<'a>(alloc: Global, tokens: &'a [Lexeme<'a>]) -> Result<Result<Row, LimitName>, ParseErr>
     requires { ArePrintable (symbols_in tokens.now) }
     ensures { GivesOrLimit (first_in value_passed) result (items_at at_item (symbols_in tokens.now)) }
 {

@@ -5,10 +5,12 @@ mod act;
 mod args;
 mod error;
 mod form;
+mod laws;
 mod line;
 mod stops;
 
 pub use error::ReadErr;
+pub use laws::one_line;
 pub use line::read_line;
 
 #[cfg(test)]

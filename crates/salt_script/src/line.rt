@@ -22,7 +22,7 @@ use crate::act::act_in;
 use crate::error::{ReadErr, read_err};
 use crate::form::{Form, line_form};
 use crate::stops::armed_stops;
-use salt_ast::{Line, LimitName};
+use salt_ast::{LimitName, Line};
 use salt_model::Refusal;
 use salt_parse::{ParseErr, printable_symbols, program_in, table_in};
 use salt_tokens::{Lexeme, lexemes, one_row};
@@ -42,11 +42,7 @@ fn session_limit(session: u64) -> Option<LimitName>
 }
 
 /// The line of a session's act.
-fn session_line<'a>(
-    alloc: Global,
-    session: u64,
-    tokens: &'a [Lexeme<'a>],
-) -> Result<Line, ParseErr>
+fn session_line<'a>(alloc: Global, session: u64, tokens: &'a [Lexeme<'a>]) -> Result<Line, ParseErr>
     requires { ArePrintable (symbols_in tokens.now) }
     ensures { (ts : Symbols) → line_begins ts ≡ an_act session (symbols_in tokens.now) → Settles line_limit ShallowLine DeepLine ts result }
 {

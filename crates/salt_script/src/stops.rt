@@ -6,8 +6,8 @@ ghost use Rattle.salt_script.specs.Literals.{HoldsStops, IsStopTaken, ended_at, 
 ghost use Rattle.salt_ast.specs.ProgramLimits.{stop_passed};
 ghost use Rattle.salt_tokens.specs.Symbols.{symbols_in};
 
-use salt_parse::ParseErr;
 use salt_ast::{LimitName, Pairs};
+use salt_parse::ParseErr;
 use salt_tokens::Lexeme;
 use salt_values::limits::{CRASH_MOST, PAIRS_MOST, PICK_MOST};
 use sqlite_items::Items;
@@ -89,7 +89,11 @@ impl<'a> Stops<'a> {
     fn close(self) -> Result<Result<Pairs, LimitName>, ParseErr>
         ensures { (stops : List (ℕ × ℕ)) → HoldsStops self.entry stops → GivesOrLimit stops_passed result (ended_at stops (symbols_in self.entry.rest.now)) }
     {
-        let Stops { rest, pairs, passed } = self;
+        let Stops {
+            rest,
+            pairs,
+            passed,
+        } = self;
         match (rest, passed) {
             ([], None) => Ok(Ok(pairs)),
             ([], Some(limit)) => Ok(Err(limit)),

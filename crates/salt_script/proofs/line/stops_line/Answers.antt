@@ -12,12 +12,12 @@ returns-then-is_empty c = λ ts e. no_stop_settles ts (e ∙ ap begins_stops (no
 
 pub returns-in-Ok-Ok : goal.returns-in-Ok-Ok
 returns-in-Ok-Ok c = λ ts e. stops_settle ts (symbols_in c.args.tokens.now) (Ok (Ok c.in-Ok-Ok.pairs)) e
-    (some_left c.args.tokens.now (sym c.is_empty.ensures ∙ c.if-is_empty.false)) 
+    (some_left c.args.tokens.now (sym c.is_empty.ensures ∙ c.if-is_empty.false))
     (subst (λ r. GivesOrLimit stops_passed (Ok r) (stops_at (symbols_in c.args.tokens.now))) c.in-Ok-Ok.field-0-is c.in-Ok-Ok.ensures)
 
 pub returns-in-Ok-Err : goal.returns-in-Ok-Err
 returns-in-Ok-Err c = λ ts e. stops_settle ts (symbols_in c.args.tokens.now) (Ok (Err c.in-Ok-Err.limit)) e
-    (some_left c.args.tokens.now (sym c.is_empty.ensures ∙ c.if-is_empty.false)) 
+    (some_left c.args.tokens.now (sym c.is_empty.ensures ∙ c.if-is_empty.false))
     (subst (λ r. GivesOrLimit stops_passed (Ok r) (stops_at (symbols_in c.args.tokens.now))) c.in-Ok-Err.field-0-is c.in-Ok-Err.ensures)
 
 pub returns-in-Err : goal.returns-in-Err

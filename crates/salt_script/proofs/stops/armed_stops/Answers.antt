@@ -13,10 +13,12 @@ stops-init c = ([], holds_whole stops_passed None c.new.result [] refl refl c.ne
 pub stops-preserved : goal.stops-preserved
 stops-preserved c =
     let next = c.in_ok-take.ensures.taken (ap Ok c.if-branch.true) in
-    let read = c.stops.invariant.0 in
-    (read ++ next.stop ∷ [], next.holds read c.stops.invariant.1,
-    c.stops.invariant.2 ∙ ap (with_front read) (stop_read (symbols_in c.stops.stops.rest.now) next.stop (symbols_in c.take.new.self.rest.now) next.read)
-    ∙ front_more read next.stop (stops_at (symbols_in c.take.new.self.rest.now)))
+    let read = c.stops.invariant.0 in (
+      read ++ next.stop ∷ [],
+      next.holds read c.stops.invariant.1,
+      c.stops.invariant.2 ∙ ap (with_front read) (stop_read (symbols_in c.stops.stops.rest.now) next.stop (symbols_in c.take.new.self.rest.now) next.read)
+          ∙ front_more read next.stop (stops_at (symbols_in c.take.new.self.rest.now)),
+    )
 
 pub returns : goal.returns
 returns c =
