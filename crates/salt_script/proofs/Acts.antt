@@ -1,11 +1,10 @@
 -- What a session is to do: the answer for a row is that of what the row begins.
-use Rattle.std.proofs.Common.{List, None, Option, Some, [], ap, cond, refl, subst, sym, ℕ, ◌++◌, ◌∙◌, ◌∷◌, ◌≡◌}
+use Rattle.std.proofs.Common.{List, None, Option, Some, [], ap, refl, subst, sym, ℕ, ◌++◌, ◌∙◌, ◌∷◌, ◌≡◌}
 use Rattle.std.specs.Option.{option_or}
 use Rattle.std.specs.Prelude.{Bool, Err, Ok, Result, false, option_map, true}
 use Rattle.salt_ast.specs.Limits.{statement_limit}
 use Rattle.salt_ast.specs.Lines as form
 use Rattle.salt_ast.specs.Lines.{IsAct, IsLiteral}
-use Rattle.salt_ast.specs.Programs.{AnyListed}
 use Rattle.salt_ast.specs.Spelling.{Passes, by_parentheses, by_tree}
 use Rattle.salt_ast.specs.Statements as statement_form
 use Rattle.salt_ast.specs.Statements.{IsStatement}
@@ -22,8 +21,7 @@ use Rattle.salt_script.specs.Answers.{GivesOrLimit}
 use Rattle.salt_script.specs.Forms.{a_call, a_statement, a_word, act_begins, alone}
 use Rattle.salt_script.specs.Literals.{args_at}
 use Rattle.salt_script.specs.Spelled.{DeepAct, ShallowAct, act_limit, call_at, call_passed}
-use Rattle.salt_tokens.specs.Symbols.{Symbols, int, key, name, sign, text}
-use Rattle.salt_tokens.specs.declared.keyword.Keyword.{Keyword}
+use Rattle.salt_tokens.specs.Symbols.{Symbols, key, name, sign}
 use Rattle.salt_tokens.specs.declared.keyword.Keyword.TheVariants as word
 use Rattle.salt_tokens.specs.declared.sign.Sign.TheVariants as mark
 use Rattle.salt_values.specs.declared.value.Value.{Value}

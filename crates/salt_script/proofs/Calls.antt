@@ -8,18 +8,16 @@ use Rattle.salt_ast.specs.Limits.{name_passed, value_passed}
 use Rattle.salt_ast.specs.Lines as form
 use Rattle.salt_ast.specs.Lines.{IsLiteral}
 use Rattle.salt_ast.specs.Programs.{AnyListed, no_items, some_items}
-use Rattle.salt_ast.specs.Statements.{Following, FollowingBy, Listed, ListedBy, items, no_more, one_more}
+use Rattle.salt_ast.specs.Statements.{Following, Listed, items, no_more, one_more}
 use Rattle.salt_ast.specs.Words.{first_in}
 use Rattle.salt_ast.specs.declared.limit.LimitName.{LimitName}
 use Rattle.salt_parse.specs.declared.error.ParseErr.{ParseErr}
-use Rattle.salt_parse.specs.declared.error.ParseErr.TheVariants.{Limit, Memory, Syntax}
 use Rattle.salt_script.specs.Answers.{GivesOrLimit}
-use Rattle.salt_script.specs.Literals.{args_at, at_item, at_number, behind_item, items_at}
+use Rattle.salt_script.specs.Literals.{args_at, at_item, behind_item, items_at}
 use Rattle.salt_script.specs.Spelled.{call_at, call_passed}
-use Rattle.salt_tokens.specs.Symbols.{Symbols, int, key, name, sign, text}
+use Rattle.salt_tokens.specs.Symbols.{Symbols, int, name, sign, text}
 use Rattle.salt_tokens.specs.declared.sign.Sign.TheVariants as mark
 use Rattle.salt_values.specs.declared.value.Value.{Value}
-use Rattle.salt_values.specs.declared.value.Value.TheVariants as value
 
 -- the parenthesis that ends a call
 abbrev closed : Symbols → Symbols

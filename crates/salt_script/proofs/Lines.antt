@@ -1,17 +1,17 @@
 -- Lines: the answer for a row is that of what the row begins.
-use Rattle.std.proofs.Common.{List, None, Option, Some, [], ap, arith, length, refl, subst, sym, ℕ, ◌++◌, ◌∙◌, ◌∷◌, ◌≡◌}
+use Rattle.std.proofs.Common.{List, None, Option, Some, [], ap, arith, length, refl, subst, sym, ℕ, ◌∙◌, ◌∷◌, ◌≡◌}
 use Rattle.std.proofs.lemmas.Bool.Decides.{nat_tests}
 use Rattle.std.specs.Option.{option_or}
 use Rattle.salt_model.specs.Words.{is_empty}
 use Rattle.salt_tokens.specs.declared.lexeme.Lexeme.{Lexeme}
-use Rattle.std.specs.Prelude.{Bool, Err, Ok, Result, false, option_map, true, ◌==◌}
+use Rattle.std.specs.Prelude.{Err, Ok, Result, false, option_map, true, ◌==◌}
 use Rattle.salt_ast.specs.Limits.{height_passed, table_limit}
 use Rattle.salt_ast.specs.Lines as form
 use Rattle.salt_ast.specs.Lines.{IsAct, IsLine, IsStop}
 use Rattle.salt_ast.specs.ProgramLimits.{act_exprs, act_passed, line_limit, number_passed, outside, program_limit}
-use Rattle.salt_ast.specs.Programs.{IsProgram, Several, and_more, is_program, last_one}
+use Rattle.salt_ast.specs.Programs.{Several, and_more, is_program, last_one}
 use Rattle.salt_ast.specs.Spelling.{Passes, by_parentheses, by_tree}
-use Rattle.salt_ast.specs.Tables.{IsTable, is_table}
+use Rattle.salt_ast.specs.Tables.{is_table}
 use Rattle.salt_ast.specs.declared.limit.LimitName.{LimitName}
 use Rattle.salt_ast.specs.declared.limit.LimitName.TheVariants as limit
 use Rattle.salt_ast.specs.declared.lines.Act.{Act}
@@ -31,7 +31,7 @@ use Rattle.salt_script.specs.Forms.{showing_locks, stops as begins_stops}
 use Rattle.salt_script.specs.Literals.{stops_at, stops_passed}
 use Rattle.salt_script.specs.Spelled.{DeepAct, DeepLine, ShallowAct, ShallowLine, act_limit}
 use Rattle.salt_values.specs.declared.limits.TheConstants.{SESSION_MOST}
-use Rattle.salt_tokens.specs.Symbols.{Symbol, Symbols, int, key, name, sign, symbols_in, text}
+use Rattle.salt_tokens.specs.Symbols.{Symbol, Symbols, int, key, sign, symbols_in}
 use Rattle.salt_tokens.specs.declared.keyword.Keyword.TheVariants as word
 use Rattle.salt_tokens.specs.declared.sign.Sign.TheVariants as mark
 

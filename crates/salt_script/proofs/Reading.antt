@@ -1,12 +1,12 @@
 -- Lists that are read item by item.
-use Rattle.std.proofs.Common.{List, None, Option, Some, [], ap, append-nil, append_assoc, refl, sym, ℕ, ◌++◌, ◌∙◌, ◌∷◌, ◌≡◌}
-use Rattle.std.specs.Prelude.{Err, Ok, Result, option_map}
+use Rattle.std.proofs.Common.{List, None, Option, Some, [], ap, append-nil, append_assoc, refl, sym, ℕ, ◌++◌, ◌∷◌, ◌≡◌}
+use Rattle.std.specs.Prelude.{Err, option_map}
 use Rattle.salt_ast.specs.declared.limit.LimitName.{LimitName}
 use Rattle.salt_script.specs.Answers.{FailsToRead, GivesOrLimit}
 use Rattle.salt_script.specs.Literals.{at_item, behind_item, closed_at, comma_at, ended_at, items_at, literal_at, stop_at, stops_at}
 use Rattle.salt_parse.specs.declared.error.ParseErr.{ParseErr}
 use Rattle.salt_parse.specs.declared.error.ParseErr.TheVariants.{Limit, Memory, Syntax}
-use Rattle.salt_tokens.specs.Symbols.{Symbols, int, key, name, sign, text}
+use Rattle.salt_tokens.specs.Symbols.{Symbols, int, sign, text}
 use Rattle.salt_tokens.specs.declared.sign.Sign.TheVariants as mark
 use Rattle.salt_values.specs.declared.value.Value.{Value}
 

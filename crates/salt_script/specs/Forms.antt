@@ -7,11 +7,11 @@ use Rattle.salt_script.specs.declared.form.ActForm.{ActForm}
 use Rattle.salt_script.specs.declared.form.ActForm.TheVariants as act_form_is
 use Rattle.salt_script.specs.declared.form.Form.{Form}
 use Rattle.salt_script.specs.declared.form.Form.TheVariants as form_is
-use Rattle.salt_tokens.specs.Symbols.{Symbols, int, key, name, sign, symbols_in}
+use Rattle.salt_tokens.specs.Symbols.{Symbols, int, key, sign, symbols_in}
 use Rattle.salt_tokens.specs.declared.keyword.Keyword.{Keyword}
 use Rattle.salt_tokens.specs.declared.keyword.Keyword.TheVariants as word
 use Rattle.salt_tokens.specs.declared.sign.Sign.TheVariants as mark
-use Rattle.std.specs.Prelude.{Err, List, Ok, Result, [], ℕ, ◌∷◌}
+use Rattle.std.specs.Prelude.{Err, Ok, Result, [], ℕ, ◌∷◌}
 
 -- a line: by the keyword, or a session's act
 pub data Begins : Type 0 where

@@ -1,6 +1,5 @@
-use Rattle.std.proofs.Common.{ap, subst, sym, ◌∙◌}
+use Rattle.std.proofs.Common.{subst, sym}
 use Rattle.std.specs.Prelude.{Err, Ok}
-use Rattle.salt_parse.specs.Settling.{Settles}
 use Rattle.salt_script.proofs.Acts.{IsSettled, statement_settles, word_settles}
 use Rattle.salt_script.proofs.act.act_in.Goals as goal
 use Rattle.salt_tokens.specs.Symbols.{symbols_in}

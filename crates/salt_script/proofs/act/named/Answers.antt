@@ -1,6 +1,6 @@
-use Rattle.std.proofs.Common.{None, Some, arith, subst, ◌≡◌}
-use Rattle.std.specs.Prelude.{Err, Ok, Result}
-use Rattle.salt_ast.specs.Limits.{name_passed, value_passed}
+use Rattle.std.proofs.Common.{subst}
+use Rattle.std.specs.Prelude.{Err, Ok}
+use Rattle.salt_ast.specs.Limits.{value_passed}
 use Rattle.salt_ast.specs.Words.{first_in}
 use Rattle.salt_ast.specs.declared.limit.LimitName.TheVariants as limit
 use Rattle.salt_script.proofs.Calls.{named_args, named_limit, short_name, long_name}

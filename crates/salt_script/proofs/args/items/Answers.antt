@@ -1,4 +1,4 @@
-use Rattle.std.proofs.Common.{None, Some, [], ap, refl, rules, subst, sym, ◌++◌, ◌∙◌, ◌∷◌, ◌≡◌}
+use Rattle.std.proofs.Common.{None, [], ap, refl, rules, subst, sym, ◌++◌, ◌∙◌, ◌∷◌, ◌≡◌}
 use Rattle.salt_ast.specs.Limits.{value_passed}
 use Rattle.salt_ast.specs.Words.{first_in}
 use Rattle.salt_script.proofs.Keeping.{holds_whole}

@@ -1,6 +1,6 @@
-use Rattle.std.proofs.Common.{ap, sym, true, ◌∙◌, ◌≡◌}
-use Rattle.std.specs.Prelude.{Err, Ok, false, not}
-use Rattle.salt_model.specs.Lines.{IsReadable, has_other_byte, is_idle, is_line, is_long}
+use Rattle.std.proofs.Common.{ap, sym, ◌∙◌}
+use Rattle.std.specs.Prelude.{Err}
+use Rattle.salt_model.specs.Lines.{has_other_byte, is_idle, is_line, is_long}
 use Rattle.salt_model.specs.declared.events.Refusal.TheVariants as refused
 use Rattle.salt_script.proofs.Asking.{told, told_of}
 use Rattle.salt_script.proofs.line.read_line.Goals as goal

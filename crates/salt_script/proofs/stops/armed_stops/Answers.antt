@@ -1,4 +1,4 @@
-use Rattle.std.proofs.Common.{None, [], ap, refl, rules, subst, sym, ◌++◌, ◌∙◌, ◌∷◌, ◌≡◌}
+use Rattle.std.proofs.Common.{None, [], ap, refl, subst, sym, ◌++◌, ◌∙◌, ◌∷◌, ◌≡◌}
 use Rattle.salt_script.proofs.Keeping.{holds_whole}
 use Rattle.salt_script.proofs.Reading.{front_more, front_none, no_stop, stop_read, with_front}
 use Rattle.salt_script.proofs.stops.armed_stops.Goals as goal

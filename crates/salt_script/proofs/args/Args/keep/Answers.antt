@@ -1,11 +1,11 @@
-use Rattle.std.proofs.Common.{List, None, Option, Some, [], ap, subst, sym, ◌++◌, ◌∙◌, ◌∷◌, ◌≡◌}
+use Rattle.std.proofs.Common.{List, Option, [], ap, subst, sym, ◌++◌, ◌∙◌, ◌∷◌, ◌≡◌}
 use Rattle.std.specs.Option.{option_or}
 use Rattle.salt_ast.specs.Limits.{value_passed}
 use Rattle.salt_ast.specs.Words.{first_in}
 use Rattle.salt_ast.specs.declared.limit.LimitName.{LimitName}
 use Rattle.salt_script.proofs.Keeping.{first_behind, holds_limit, holds_whole, limit_is, on_ok, whole_is}
 use Rattle.salt_script.proofs.args.Args.keep.Goals as goal
-use Rattle.salt_script.specs.Literals.{Holds, HoldsArgs, IsValueOf}
+use Rattle.salt_script.specs.Literals.{Holds, IsValueOf}
 use Rattle.salt_values.specs.declared.value.Value.{Value}
 
 -- the limits of those that were read, and of one more

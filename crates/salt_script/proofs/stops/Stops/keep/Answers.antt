@@ -1,10 +1,10 @@
-use Rattle.std.proofs.Common.{None, Option, Some, [], ap, arith, length, subst, sym, ℕ, ◌++◌, ◌<◌, ◌∙◌, ◌∷◌, ◌≡◌}
+use Rattle.std.proofs.Common.{None, Option, Some, [], ap, arith, length, subst, sym, ◌++◌, ◌<◌, ◌∙◌, ◌∷◌, ◌≡◌}
 use Rattle.salt_ast.specs.ProgramLimits.{stop_passed}
 use Rattle.salt_ast.specs.declared.limit.LimitName.{LimitName}
 use Rattle.salt_ast.specs.declared.limit.LimitName.TheVariants as limit
 use Rattle.salt_script.proofs.Keeping.{full_passes, holds_limit, holds_whole, limit_is, on_ok, room_passes, still_passed, whole_is, within_room}
 use Rattle.salt_script.proofs.stops.Stops.keep.Goals as goal
-use Rattle.salt_script.specs.Literals.{Holds, HoldsStops, stops_passed}
+use Rattle.salt_script.specs.Literals.{Holds, stops_passed}
 use Rattle.std.specs.Prelude.{false, is_some, true}
 
 some_is : (o : Option LimitName) → is_some o ≡ true → (l : LimitName) × (o ≡ Some l)
