@@ -91,23 +91,47 @@ nothing-gained before held text same = subst (GainsFrom before [] text) (sym sam
 
 pub opening-stops : (script left before : Option (List ℕ)) (told : List Event) (held : Option (List ℕ)) (s : Stop) → StopsOpening told before held s → IsEnded (status_of s) script left before told held
 opening-stops script left before told held stop.Memory (inl is, same) = record {
-  played = record { trace = from empty_start; texts = []; tells = record { begins = refl; told = sym is; played = tt }; up = tt; asked = [];
- reads = tt;
- served = refl; lines = memory-before script left; leaves = tt };
+  played = record {
+    trace = from empty_start;
+    texts = [];
+    tells = record { begins = refl; told = sym is; played = tt };
+    up = tt;
+    asked = [];
+    reads = tt;
+    served = refl;
+    lines = memory-before script left;
+    leaves = tt;
+  };
   written = nothing-gained before held (told_text told) same;
   unshown = subst (Every ShowsNothing) (sym is) tt;
 }
 opening-stops script left before told held stop.Memory (inr is, same) = record {
-  played = record { trace = from empty_start says Opened 1 0; texts = []; tells = record { begins = refl; told = sym is; played = (tt, (omega arith, omega arith, inl refl)) }; up = (tt, tt); asked = [];
- reads = tt;
- served = refl; lines = memory-before script left; leaves = tt };
+  played = record {
+    trace = from empty_start says Opened 1 0;
+    texts = [];
+    tells = record { begins = refl; told = sym is; played = (tt, (omega arith, omega arith, inl refl)) };
+    up = (tt, tt);
+    asked = [];
+    reads = tt;
+    served = refl;
+    lines = memory-before script left;
+    leaves = tt;
+  };
   written = nothing-gained before held (told_text told) same;
   unshown = subst (Every ShowsNothing) (sym is) (tt, tt);
 }
 opening-stops script left before told held stop.WriteFault h = record {
-  played = record { trace = opened; texts = []; tells = subst (Tells empty_start opened) (sym h.0) opened-tells; up = opened-up; asked = [];
- reads = tt;
- served = refl; lines = write-before script left; leaves = opened-complete };
+  played = record {
+    trace = opened;
+    texts = [];
+    tells = subst (Tells empty_start opened) (sym h.0) opened-tells;
+    up = opened-up;
+    asked = [];
+    reads = tt;
+    served = refl;
+    lines = write-before script left;
+    leaves = opened-complete;
+  };
   written = subst (λ t. GainsShortFrom before [] (told_text t) held) (sym h.0) (record { short = h.1; from = (h.1.part, refl) });
   unshown = subst (Every ShowsNothing) (sym h.0) (tt, (tt, tt));
 }
@@ -116,9 +140,17 @@ opening-stops script left before told held stop.ScriptTooLong h = absurd h
 
 -- a run of wrong words
 abbrev usage-played : (script left : Option (List ℕ)) → IsPlayedRun Usage script left []
-usage-played script left = record { trace = from empty_start; texts = []; tells = record { begins = refl; told = refl; played = tt }; up = tt; asked = [];
- reads = tt;
- served = refl; lines = usage-before script left; leaves = refl }
+usage-played script left = record {
+  trace = from empty_start;
+  texts = [];
+  tells = record { begins = refl; told = refl; played = tt };
+  up = tt;
+  asked = [];
+  reads = tt;
+  served = refl;
+  lines = usage-before script left;
+  leaves = refl;
+}
 
 -- an event that shows nothing reads the same under each schema
 same-text : (schema : List TableDef) (e : Event) → ShowsNothing e → event_text schema e ≡ event_text [] e
