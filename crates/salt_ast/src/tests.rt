@@ -40,33 +40,8 @@ fn text(alloc: Global, bytes: &[u8]) -> Made<Value> {
     }
 }
 
-fn letters(alloc: Global, bytes: &[u8]) -> Made<Expr> {
-    Ok(Expr::Lit(text(alloc, bytes)?))
-}
-
-fn column(alloc: Global, bytes: &[u8]) -> Made<Expr> {
-    Ok(Expr::Column(name(alloc, bytes)?))
-}
-
 fn variable(alloc: Global, bytes: &[u8]) -> Made<Expr> {
     Ok(Expr::Variable(name(alloc, bytes)?))
-}
-
-fn not(alloc: Global, operand: Made<Expr>) -> Made<Expr> {
-    Ok(Expr::Not(Boxed::new(alloc, operand?)?))
-}
-
-fn null_test(alloc: Global, of: Made<Expr>, negated: bool) -> Made<Expr> {
-    Ok(Expr::IsNull {
-        of: Boxed::new(alloc, of?)?,
-        negated,
-    })
-}
-
-fn binary(alloc: Global, left: Made<Expr>, op: Op, right: Made<Expr>) -> Made<Expr> {
-    let left = Boxed::new(alloc, left?)?;
-    let right = Boxed::new(alloc, right?)?;
-    Ok(Expr::Binary { op, left, right })
 }
 
 // ---- statements
@@ -75,23 +50,10 @@ fn at_key(key: Made<Expr>) -> Made<Bound> {
     Ok(Bound::Key(key?))
 }
 
-fn between(low: Made<Expr>, high: Made<Expr>) -> Made<Bound> {
-    let low = low?;
-    Ok(Bound::Between(low, high?))
-}
-
 fn every_row(bound: Made<Bound>) -> Made<Scan> {
     Ok(Scan {
         bound: bound?,
         filter: None,
-    })
-}
-
-fn filtered(bound: Made<Bound>, filter: Made<Expr>) -> Made<Scan> {
-    let bound = bound?;
-    Ok(Scan {
-        bound,
-        filter: Some(filter?),
     })
 }
 
@@ -125,24 +87,6 @@ fn select_into(alloc: Global, key: Made<Expr>) -> Made<Statement> {
     })
 }
 
-fn set(alloc: Global, column: &[u8], value: Made<Expr>) -> Made<Set> {
-    let value = value?;
-    Ok(Set {
-        column: name(alloc, column)?,
-        value,
-    })
-}
-
-fn update(alloc: Global, sets: Made<Sets>, scan: Made<Scan>) -> Made<Statement> {
-    let sets = sets?;
-    let scan = scan?;
-    Ok(Statement::Update {
-        table: name(alloc, b"acct")?,
-        sets,
-        scan,
-    })
-}
-
 fn delete(alloc: Global, scan: Made<Scan>) -> Made<Statement> {
     let scan = scan?;
     Ok(Statement::Delete {
@@ -153,10 +97,6 @@ fn delete(alloc: Global, scan: Made<Scan>) -> Made<Statement> {
 
 fn ensure(condition: Made<Expr>) -> Made<Statement> {
     Ok(Statement::Ensure(condition?))
-}
-
-fn columns(names: Made<Names>) -> Made<What> {
-    Ok(What::Columns(names?))
 }
 
 fn greatest(alloc: Global) -> Made<What> {
@@ -173,16 +113,6 @@ fn field(alloc: Global, bytes: &[u8], kind: ColType, nullable: bool) -> Made<Fie
     })
 }
 
-fn table(alloc: Global, columns: Made<Fields>, checks: Made<Exprs>) -> Made<TableDef> {
-    let columns = columns?;
-    let checks = checks?;
-    Ok(TableDef {
-        name: name(alloc, b"w")?,
-        columns,
-        checks,
-    })
-}
-
 fn part(
     block: Made<Statements>,
     then: Option<Next>,
@@ -195,10 +125,6 @@ fn part(
         retry,
         on_failure,
     })
-}
-
-fn acid(block: Made<Statements>) -> Made<Body> {
-    Ok(Body::Acid(block?))
 }
 
 fn base(parts: Made<Parts>) -> Made<Body> {
@@ -261,30 +187,6 @@ part { } on failure end end";
 
 // ---- texts
 
-/// The text of a copy.
-fn printed(alloc: Global, statement: Made<Statement>) -> Made<Vec<u8>> {
-    let statement = statement?;
-    let mut out = Vec::new(alloc);
-    print_statement(&mut out, &statement.copy(alloc)?)?;
-    Ok(out)
-}
-
-/// The text of a copy, behind other bytes.
-fn printed_table(alloc: Global, def: Made<TableDef>) -> Made<Vec<u8>> {
-    let def = def?;
-    let mut out = Vec::from_slice(alloc, b"1 ")?;
-    print_table(&mut out, &def.copy(alloc)?)?;
-    Ok(out)
-}
-
-/// The text of a copy.
-fn printed_program(alloc: Global, def: Made<ProgramDef>) -> Made<Vec<u8>> {
-    let def = def?;
-    let mut out = Vec::new(alloc);
-    print_program(&mut out, &def.copy(alloc)?)?;
-    Ok(out)
-}
-
 /// What the printer puts into a sink.
 fn sent<T: Canonical + Drop>(alloc: Global, tree: Made<T>) -> Made<Vec<u8>> {
     let tree = tree?;
@@ -302,125 +204,6 @@ fn sent<T: Canonical + Drop>(alloc: Global, tree: Made<T>) -> Made<Vec<u8>> {
 fn expect(rt: &impl Abort, text: Made<Vec<u8>>, want: &[u8]) -> Made<()> {
     assert_eq!(rt; text?.as_slice(), want);
     Ok(())
-}
-
-#[test]
-fn statements_and_their_texts(rt: HostRuntime) -> Made<()> {
-    let alloc = rt.alloc();
-    let values = with(with(none(alloc), number(5)), number(-3));
-    let values = insert(alloc, with(values, letters(alloc, b"it's")));
-    expect(
-        &rt,
-        printed(alloc, values),
-        b"insert into t values (5, -3, 'it''s')",
-    )?;
-
-    let names = with(with(none(alloc), name(alloc, b"n")), name(alloc, b"id"));
-    let unequal = not(
-        alloc,
-        binary(alloc, column(alloc, b"n"), Op::Equal, number(7)),
-    );
-    let scan = filtered(between(number(0), number(3)), unequal);
-    expect(
-        &rt,
-        printed(alloc, select(alloc, columns(names), scan)),
-        b"select n, id from w where key between 0 and 3 and (not (n = 7))",
-    )?;
-
-    let low = binary(alloc, column(alloc, b"a"), Op::AtMost, number(1));
-    let other = binary(
-        alloc,
-        column(alloc, b"b"),
-        Op::Unequal,
-        variable(alloc, b"x"),
-    );
-    let scan = filtered(Ok(Bound::All), binary(alloc, low, Op::Or, other));
-    expect(
-        &rt,
-        printed(alloc, select(alloc, Ok(What::Count), scan)),
-        b"select count(*) from w where ((a <= 1) or (b <> :x))",
-    )?;
-
-    let key = binary(alloc, number(1), Op::Mul, number(2));
-    expect(
-        &rt,
-        printed(alloc, select_into(alloc, key)),
-        b"select bal into :x from acct where key = (1 * 2)",
-    )?;
-
-    let left = binary(alloc, column(alloc, b"n"), Op::Join, letters(alloc, b""));
-    let sets = with(
-        with(none(alloc), set(alloc, b"bal", number(1))),
-        set(alloc, b"n", left),
-    );
-    let scan = every_row(at_key(variable(alloc, b"a")));
-    expect(
-        &rt,
-        printed(alloc, update(alloc, sets, scan)),
-        b"update acct set bal = 1, n = (n || '') where key = :a",
-    )?;
-
-    let scan = filtered(at_key(number(1)), column(alloc, b"flag"));
-    expect(
-        &rt,
-        printed(alloc, delete(alloc, scan)),
-        b"delete from t where key = 1 and flag",
-    )?;
-    let unequal = binary(alloc, number(1), Op::Equal, number(2));
-    expect(&rt, printed(alloc, ensure(unequal)), b"ensure (1 = 2)")
-}
-
-#[test]
-fn null_in_statements(rt: HostRuntime) -> Made<()> {
-    let alloc = rt.alloc();
-    let values = with(none(alloc), Ok(Expr::Lit(Value::Null)));
-    let values = with(values, null_test(alloc, column(alloc, b"a"), false));
-    expect(
-        &rt,
-        printed(alloc, insert(alloc, values)),
-        b"insert into t values (null, (a is null))",
-    )?;
-
-    let sets = with(none(alloc), set(alloc, b"b", Ok(Expr::Lit(Value::Null))));
-    let sum = binary(alloc, column(alloc, b"a"), Op::Add, number(1));
-    let scan = filtered(at_key(number(1)), null_test(alloc, sum, true));
-    expect(
-        &rt,
-        printed(alloc, update(alloc, sets, scan)),
-        b"update acct set b = null where key = 1 and ((a + 1) is not null)",
-    )
-}
-
-#[test]
-fn a_table_and_its_text(rt: HostRuntime) -> Made<()> {
-    let alloc = rt.alloc();
-    let columns = with(none(alloc), field(alloc, b"id", ColType::Int, false));
-    let columns = with(columns, field(alloc, b"n", ColType::Text, false));
-    let columns = with(columns, field(alloc, b"k", ColType::Int, true));
-    let least = binary(alloc, column(alloc, b"id"), Op::AtLeast, number(0));
-    let checks = with(none(alloc), least);
-    let checks = with(checks, null_test(alloc, column(alloc, b"k"), false));
-    expect(
-        &rt,
-        printed_table(alloc, table(alloc, columns, checks)),
-        b"1 create table w (id int key, n text, k int null, check (id >= 0), check (k is null))",
-    )
-}
-
-#[test]
-fn programs_and_their_texts(rt: HostRuntime) -> Made<()> {
-    let alloc = rt.alloc();
-    let steps = with(
-        none(alloc),
-        ensure(null_test(alloc, variable(alloc, b"x"), true)),
-    );
-    let steps = with(steps, delete(alloc, every_row(Ok(Bound::All))));
-    expect(
-        &rt,
-        printed_program(alloc, program(alloc, none(alloc), none(alloc), acid(steps))),
-        b"program p() acid { ensure (:x is not null); delete from t } end",
-    )?;
-    expect(&rt, printed_program(alloc, transfer(alloc)), TRANSFER)
 }
 
 #[test]

@@ -26,6 +26,4 @@ pub use read::{program_in, read_program, read_statement, read_table, statement_i
 pub use token::tokens;
 
 #[cfg(test)]
-mod program_tests;
-#[cfg(test)]
 mod tests;

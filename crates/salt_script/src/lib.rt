@@ -15,5 +15,3 @@ pub use line::read_line;
 
 #[cfg(test)]
 mod tests;
-#[cfg(test)]
-mod tests_of_programs;
