@@ -27,7 +27,10 @@ fn readers_of_other_trees(rt: HostRuntime) -> Result<(), Fail> {
         assert_eq!(rt; read_program(alloc, bytes).err(), syntax);
     }
     let number = Some(ParseErr::Limit(LimitName::Number));
-    assert_eq!(rt; read_statement(alloc, b"ensure 9223372036854775808").err(), number);
+    assert_eq!(rt;
+        read_statement(alloc, b"ensure 9223372036854775808").err(),
+        number
+    );
     Ok(())
 }
 
