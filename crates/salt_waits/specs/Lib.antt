@@ -1,0 +1,4 @@
+pub mod Best
+pub mod Graphs
+pub mod Victims
+pub mod Walks
