@@ -9,7 +9,7 @@ use Rattle.salt_model.specs.Eval as eval
 use Rattle.salt_model.specs.declared.events.Cause as cause
 use Rattle.salt_ast.specs.declared.trees.Op.TheVariants.{And, Or}
 use Rattle.salt_ast.specs.declared.trees.Op.{Op}
-use Rattle.std.specs.Prelude.{Bool, Err, Ok, Result, false, ⊤, ◌≡◌}
+use Rattle.std.specs.Prelude.{Bool, Err, Ok, Result, false, true, ⊤, ◌≡◌}
 
 -- the truth value that is meant
 abbrev pub truth_meant : Truth → eval.Truth
@@ -46,3 +46,7 @@ is_decided op d = false
 abbrev pub operated : Op → eval.Datum → eval.Datum → Result eval.Datum cause.Cause
 operated op (eval.Gives v) d = eval.with_value op v d
 operated op (eval.Holds t) d = eval.joined op t d
+
+-- what a test that is met tells
+abbrev pub passing : {A : Type 0} → A → Bool
+passing x = true

@@ -3,7 +3,8 @@ use Rattle.salt_ast.specs.declared.trees.Expr.{Expr}
 use Rattle.salt_ast.specs.declared.trees.Field.{Field}
 use Rattle.salt_ast.specs.declared.trees.Op.{Op}
 use Rattle.salt_exprs.specs.declared.resolved.Resolved.{Binary', Column, Given, IsNull', Not', Resolved, Unknown, end_of-Resolved, more_of-Resolved}
-use Rattle.salt_model.specs.Eval.{Datum, Gives, Truth, Visible, eval, is_no, is_yes, known, mistyped, named_values, negated, null_tested, operate, truth_in, value_in}
+use Rattle.salt_model.specs.Eval.{Datum, Gives, Truth, Visible, eval, is_no, is_yes, known, mistyped, named_values, negated, null_tested, operate, passes, truth_in, value_in}
+use Rattle.salt_model.specs.Statements.{checked}
 use Rattle.salt_model.specs.Words.{and_then}
 use Rattle.salt_model.specs.declared.events.Cause.TheVariants.{Check}
 use Rattle.salt_model.specs.declared.events.Cause.{Cause}
@@ -56,3 +57,11 @@ resolved_passes row (Some r) = resolved_holds row r
 abbrev pub resolved_checked : List Value → List Resolved → Result Bool Cause
 resolved_checked row [] = Ok true
 resolved_checked row (r ∷ rs) = and_then (resolved_truth row r) (λ t. if is_no t then Err Check else resolved_checked row rs)
+
+-- of each row it is what the filter is
+abbrev pub ResolvesFilter : Option Resolved → List Field → List Binding → Option Expr → Type 0
+ResolvesFilter r columns vars filter = (row : List Value) → resolved_passes row r ≡ passes (visible columns row vars) filter
+
+-- of each row they tell what the checks tell
+abbrev pub ResolvesChecks : List Resolved → List Field → List Binding → List Expr → Type 0
+ResolvesChecks rs columns vars checks = (row : List Value) → resolved_checked row rs ≡ checked (visible columns row vars) checks

@@ -1,6 +1,6 @@
 //! Names of columns and variables, found.
 
-ghost use Rattle.std.specs.Prelude.{◌≡◌, find};
+ghost use Rattle.std.specs.Prelude.{◌≡◌, IfOk, find, map, option_and_then, slice_get};
 ghost use Rattle.std.specs.List.{position_from};
 ghost use Rattle.std.specs.Option.{option_copied};
 ghost use Rattle.salt_model.specs.Eval.{value_named};
@@ -10,6 +10,8 @@ ghost use Rattle.salt_exprs.specs.Names.{IsNumberOf, has_name, is_named};
 use salt_ast::Field;
 use salt_model::Binding;
 use salt_values::Value;
+use sqlite_items::{Items, at};
+use std::alloc::{AllocError, Global};
 
 fn same_bytes(a: &[u8], b: &[u8]) -> bool
     ensures { result ≡ same_bytes a.now b.now }
@@ -45,6 +47,28 @@ pub fn variable_value<'a>(vars: &'a [Binding], name: &[u8]) -> Option<&'a Value>
 {
     match binding_of(vars, name) {
         Some(binding) => Some(&binding.value),
+        None => None,
+    }
+}
+
+/// Of each column, whether it has this name.
+pub fn takers(alloc: Global, columns: &[Field], name: &[u8]) -> Result<Items<bool>, AllocError>
+    ensures { IfOk result (λ ts. ts ≡ map (has_name name.now) columns.now) }
+{
+    let mut takers = Items::new(alloc);
+    for column in columns {
+        takers.push(same_bytes(name, column.name.as_slice()))?;
+    }
+    Ok(takers)
+}
+
+/// The value in the column of this number: none where there is no such column, or the row ends before it. The definitions
+/// count none as the number 0.
+pub fn cell(row: &[Value], number: Option<usize>) -> Option<&Value>
+    ensures { option_copied result ≡ option_and_then (slice_get row.now) number }
+{
+    match number {
+        Some(number) => at(row, number),
         None => None,
     }
 }
