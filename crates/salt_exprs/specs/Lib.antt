@@ -1,0 +1,5 @@
+pub mod Operands
+pub mod Resolving
+pub mod Names
+pub mod Pairs
+pub mod Sets

@@ -1,0 +1,20 @@
+//! Expressions whose names are found once, and what they give of each row.
+#![tactic(auto)]
+
+mod conditions;
+mod error;
+mod names;
+mod operand;
+mod operations;
+mod outside;
+mod resolved;
+mod sets;
+mod truth;
+
+pub use conditions::{check, passes, resolve_checks, resolve_filter};
+pub use error::EvalErr;
+pub use names::{cell, column_number};
+pub use outside::{condition_outside, value_outside, values_outside};
+pub use resolved::{Resolved, resolve};
+pub use sets::{ResolvedSet, resolve_sets, row_after};
+pub use truth::Truth;
