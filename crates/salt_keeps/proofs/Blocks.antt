@@ -1,7 +1,6 @@
 -- What an open unit asks for stays through the events of others: its block, its statements done, and its line.
 use Rattle.salt_ast.specs.ProgramJudgement.{program_named}
 use Rattle.salt_ast.specs.declared.lines.Line.{Line}
-use Rattle.salt_ast.specs.declared.programs.ProgramDef.{ProgramDef}
 use Rattle.salt_ast.specs.declared.trees.Statement.{Statement}
 use Rattle.salt_keeps.specs.Members.{In}
 use Rattle.salt_laws.proofs.Coming.{Good}
@@ -13,7 +12,7 @@ use Rattle.salt_laws.proofs.Replays.{Ground, others}
 use Rattle.salt_laws.proofs.Sound.{Sound, kind-in, kind-stays, of-program, stays-branched as conts-stay-branched, stays-committed as conts-stay-committed}
 use Rattle.salt_laws.specs.Names.{is_unit_of}
 use Rattle.salt_model.specs.After.{branched, conts_at, kept, reach_now, run_of}
-use Rattle.salt_model.specs.Kept.{Kept, begun_cont, block_of_call, block_of_kind, block_of_part, branch_of, change_cont, cont_in, cont_of, conts_branched, kept_program, moved, program_of_definition, table_of_definition, then_of, values_kept, without_cont}
+use Rattle.salt_model.specs.Kept.{Kept, block_of_call, block_of_kind, block_of_part, cont_in, cont_of, conts_branched, program_of_definition, table_of_definition}
 use Rattle.salt_model.specs.Reaches.{reach}
 use Rattle.salt_model.specs.Statements.{Run}
 use Rattle.salt_model.specs.Trace.{Trace, ◌says◌}
@@ -28,9 +27,8 @@ use Rattle.salt_model.specs.declared.vars.Binding.{Binding}
 use Rattle.salt_values.specs.Id.{is_same_id}
 use Rattle.salt_values.specs.declared.cont.Cont.{Cont}
 use Rattle.salt_values.specs.declared.id.Id.{Id}
-use Rattle.salt_values.specs.declared.value.Value.{Value}
 use Rattle.std.proofs.Common.{ap, filter_map, subst, sym, ◌∙◌}
-use Rattle.std.specs.Prelude.{Bool, List, None, Option, Some, [], cond, false, length, option_and_then, option_map, refl, slice_get, true, ℕ, ◌∷◌, ◌≡◌}
+use Rattle.std.specs.Prelude.{Bool, List, None, Option, Some, false, length, option_and_then, option_map, refl, slice_get, true, ℕ, ◌≡◌}
 
 -- the two units are not of one program
 abbrev Another : Id → Option UnitKind → Type 0

@@ -23,11 +23,11 @@ use Rattle.salt_model.specs.Releasing.{ReadsThrough, itself, through}
 use Rattle.salt_model.specs.Trace.{Trace, start_of}
 use Rattle.salt_model.specs.Units.{is_of_program, wait_list}
 use Rattle.salt_model.specs.Waiting.{waiting_of}
-use Rattle.salt_model.specs.Words.{Every, has_id, in_order, shrink, widened, without}
+use Rattle.salt_model.specs.Words.{Every, has_id, in_order, shrink, without}
 use Rattle.salt_values.specs.declared.id.Id.{Id}
 use Rattle.std.proofs.Common.{inl, inr, subst, sym}
 use Rattle.std.specs.List.{filter, list_all, list_any}
-use Rattle.std.specs.Prelude.{Bool, IsTrue, List, [], cond, false, length, not, refl, suc, true, zero, ℕ, ◌&&◌, ◌||◌, ◌↔◌, ◌∷◌, ◌≡◌, ◌⊎◌}
+use Rattle.std.specs.Prelude.{Bool, IsTrue, List, [], cond, false, not, refl, suc, true, zero, ℕ, ◌&&◌, ◌||◌, ◌↔◌, ◌∷◌, ◌≡◌}
 
 -- kept pairs are reads
 kept-reads : (trace : Trace) (d : Dependencies) → KeepsDependencies d trace → (b c : Id) → Through d.reads b c → ReadsThrough trace b c

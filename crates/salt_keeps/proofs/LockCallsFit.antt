@@ -1,5 +1,6 @@
 -- The calls on a table of numbered locks make of it what the events do.
 use Rattle.salt_ast.specs.declared.trees.Statement.{Statement}
+use Rattle.salt_keeps.specs.DependencyCalls.{IsCommitted}
 use Rattle.salt_keeps.specs.KeptLocks.{Numbered, is_base_among, is_owned_by, lock_committed, lock_taken, on_lock, saline_of}
 use Rattle.salt_keeps.specs.LockCalls.{HasDropped, HasDroppedAll, HasSalted, HasTaken}
 use Rattle.salt_keeps.specs.Members.{In, SameMembers}
@@ -81,9 +82,13 @@ take-fits facts u st a k r old new e h n = (
     was n i = let m = in-fate (λ l. Some l) n old i in subst (λ x. In x old) (same-numbered m.0 n (some-same m.0.lock n.lock m.2) m.3) m.1
 
 -- a unit's locks are dropped where it ends otherwise than by a commit
-pub drop-fits : (facts : UnitFacts) (u : Id) (end : End) (k : ℕ) (old new : List Numbered) → fate_by facts (Ended u end) ≡ (λ l. then_some (not (is_owned_by (Unit u) l)) l) → HasDropped (Unit u) old new → SameMembers new (table_by facts k (Ended u end) old)
+fate-of-end : (facts : UnitFacts) (u : Id) (end : End) → (IsCommitted end → ⊥) → fate_by facts (Ended u end) ≡ (λ l. then_some (not (is_owned_by (Unit u) l)) l)
+fate-of-end facts u (Committed n) h = absurd (h tt)
+fate-of-end facts u end h = refl
+
+pub drop-fits : (facts : UnitFacts) (u : Id) (end : End) (k : ℕ) (old new : List Numbered) → (IsCommitted end → ⊥) → HasDropped (Unit u) old new → SameMembers new (table_by facts k (Ended u end) old)
 drop-fits facts u end k old new e h n =
-    through (h n) (both (none-more n (filter_map (on_lock (fate_by facts (Ended u end))) old)) (subst (λ g. In n (filter_map (on_lock g) old) ↔ (In n old × (is_owned_by (Unit u) n.lock ≡ false))) (sym e) (kept-by (is_owned_by (Unit u)) old n)))
+    through (h n) (both (none-more n (filter_map (on_lock (fate_by facts (Ended u end))) old)) (subst (λ g. In n (filter_map (on_lock g) old) ↔ (In n old × (is_owned_by (Unit u) n.lock ≡ false))) (sym (fate-of-end facts u end e)) (kept-by (is_owned_by (Unit u)) old n)))
 
 -- so are those of an ACID unit that commits
 pub acid-fits : (facts : UnitFacts) (u : Id) (n k : ℕ) (old new : List Numbered) → base_by facts ≡ None → HasDropped (Unit u) old new → SameMembers new (table_by facts k (Ended u (Committed n)) old)

@@ -9,7 +9,8 @@ use Rattle.salt_keeps.specs.Keeps.{KeepsUnit, KeepsUnits}
 use Rattle.salt_keeps.specs.Laws.{is_of_run}
 use Rattle.salt_keeps.specs.OpenUnits.{OpenUnit, UnitState, unit_named}
 use Rattle.salt_keeps.specs.Steps.{units_after, units_asked, units_turned}
-use Rattle.salt_keeps.specs.Told.{Beside, at_devices_in, cut_in, cuts_or_drains_in, follow_in, follow_opening_in, go_in, line_in, opened_in, said_in, serving_in, settle_in, settles_in, stands_in, unit_of}
+use Rattle.salt_keeps.specs.Follows.{cut_in, cuts_or_drains_in, follow_in, follow_opening_in, opened_in, said_in, serving_in, settles_in, stands_in, unit_of}
+use Rattle.salt_keeps.specs.Told.{Beside, at_devices_in, go_in, line_in, settle_in}
 use Rattle.salt_laws.proofs.Coming.{Good}
 use Rattle.salt_laws.proofs.Every.{IfSome}
 use Rattle.salt_laws.proofs.Ids.{is_same_id-refl}

@@ -7,13 +7,13 @@ use Rattle.salt_keeps.specs.PairClosures.{Leads, LeadsBack, Pair, all_sources, d
 use Rattle.salt_laws.proofs.Ids.{and_left, and_right, is_same_id-refl, is_same_id-true}
 use Rattle.salt_laws.proofs.Lists.{all-in, either, has-in, in-filter, in-has, in-map, into-all, into-filter}
 use Rattle.salt_model.specs.Waiting.{WaitUnit, edges_in, is_on_cycle, names_of}
-use Rattle.salt_model.specs.Words.{has_id, in_order, widened}
+use Rattle.salt_model.specs.Words.{has_id, widened}
 use Rattle.salt_model.specs.declared.places.Place.{Place}
 use Rattle.salt_values.specs.Id.{is_same_id}
 use Rattle.salt_values.specs.declared.id.Id.{Id}
 use Rattle.std.proofs.Common.{ap, inl, inr, subst, sym}
-use Rattle.std.specs.List.{filter, flat_map, list_all}
-use Rattle.std.specs.Prelude.{Bool, IsTrue, List, Option, [], cond, false, length, map, refl, suc, true, zero, ℕ, ◌&&◌, ◌++◌, ◌↔◌, ◌∷◌, ◌≡◌, ◌⊎◌}
+use Rattle.std.specs.List.{filter, list_all}
+use Rattle.std.specs.Prelude.{Bool, IsTrue, List, Option, [], cond, false, length, map, refl, suc, true, ◌&&◌, ◌↔◌, ◌∷◌, ◌≡◌, ◌⊎◌}
 
 -- pairs as steps
 pair-step : (pairs : List Pair) (x y : Id) → has_pair pairs x y ≡ true → In y (sources_of pairs x)

@@ -10,7 +10,8 @@ use Rattle.salt_keeps.specs.Points.{Ask, Asks, IsIdle, KeepsPoint, Move, Moves, 
 use Rattle.salt_keeps.specs.Readings.{Reading, beside_by, under_way_of}
 use Rattle.salt_keeps.specs.States.{After, Keeps, State, asked_of, turned_to}
 use Rattle.salt_keeps.specs.Steps.{units_asked}
-use Rattle.salt_keeps.specs.Told.{line_in, said_in, unit_of}
+use Rattle.salt_keeps.specs.Follows.{said_in, unit_of}
+use Rattle.salt_keeps.specs.Told.{line_in}
 use Rattle.salt_model.specs.Kept.{WellKept}
 use Rattle.salt_model.specs.Next.{decision_in, flight, next}
 use Rattle.salt_model.specs.Phases.{phase}

@@ -14,11 +14,10 @@ use Rattle.salt_model.specs.Locks.{clash_locks, clashes, clashing, family_of, ow
 use Rattle.salt_model.specs.Next.{next, said_event}
 use Rattle.salt_model.specs.Phases.{Serving, phase}
 use Rattle.salt_model.specs.Played.{IsPlayed}
-use Rattle.salt_model.specs.Programs.{accepted_in}
 use Rattle.salt_model.specs.Trace.{Asked, Trace, from, start_of, ◌asks◌, ◌says◌, ◌turns◌}
 use Rattle.salt_model.specs.Turns.{does, does_next, follow, settle, settle_by}
 use Rattle.salt_model.specs.Units.{is_open, kind_of, wait_list}
-use Rattle.salt_model.specs.Waiting.{WaitUnit, asked_by, clashing_now, edges_to, is_acid, is_on_cycle, names_of, next_unblocked, victim, victim_of, wait_graph, wait_unit, waiting_of}
+use Rattle.salt_model.specs.Waiting.{WaitUnit, asked_by, clashing_now, edges_to, is_acid, is_on_cycle, names_of, next_unblocked, victim, victim_of, wait_graph, wait_unit}
 use Rattle.salt_model.specs.Words.{Every, greatest, is_empty}
 use Rattle.salt_model.specs.declared.events.Event.TheVariants.{Down, Opened, Ready}
 use Rattle.salt_model.specs.declared.events.Owner.{Owner}
@@ -29,7 +28,7 @@ use Rattle.salt_values.specs.Id.{is_older}
 use Rattle.salt_values.specs.declared.id.Id.{Id}
 use Rattle.std.proofs.Common.{ap, inl, inr, subst, sym, ◌∙◌}
 use Rattle.std.specs.List.{filter, find, flat_map}
-use Rattle.std.specs.Prelude.{Bool, List, None, Option, Some, [], cond, false, is_some, length, map, option_map, refl, suc, true, zero, ℕ, ◌++◌, ◌∷◌, ◌≡◌}
+use Rattle.std.specs.Prelude.{Bool, List, None, Option, Some, [], cond, false, is_some, map, option_map, refl, true, ◌++◌, ◌∷◌, ◌≡◌}
 
 find-same : {A : Type 0} (p q : A → Bool) (xs : List A) → ((x : A) → In x xs → p x ≡ q x) → find p xs ≡ find q xs
 find-same p q [] h = refl

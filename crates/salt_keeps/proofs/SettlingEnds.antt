@@ -13,7 +13,8 @@ use Rattle.salt_keeps.specs.OpenUnits.{OpenUnit, UnitState, asks_next, unit_name
 use Rattle.salt_keeps.specs.Readings.{Reading, beside_by, locks_in}
 use Rattle.salt_keeps.specs.Settling.{stage, to_come, waiters, waiters_after}
 use Rattle.salt_keeps.specs.States.{After, State}
-use Rattle.salt_keeps.specs.Told.{Beside, Clashes, after_began_in, after_did_in, after_end_in, asks_in, commits_in, does_in, fails_in, finishes_in, follow_in, is_at_end_in, said_in, serving_in, settle_in, settles_in, turn_in, unit_of}
+use Rattle.salt_keeps.specs.Follows.{follow_in, said_in, serving_in, settles_in, unit_of}
+use Rattle.salt_keeps.specs.Told.{Beside, Clashes, after_began_in, after_did_in, after_end_in, asks_in, commits_in, does_in, fails_in, finishes_in, is_at_end_in, settle_in, turn_in}
 use Rattle.salt_keeps.specs.UnitFacts.{UnitFacts, facts_in, facts_of, unit_before}
 use Rattle.salt_keeps.specs.WatchSteps.{waits_by}
 use Rattle.salt_laws.proofs.Fresh.{IfComes}

@@ -12,7 +12,8 @@ use Rattle.salt_keeps.proofs.Doing.{answer-kept}
 use Rattle.salt_keeps.proofs.LookUps.{asked-kept, base-name-kept, block-kept, number-kept, program-kept, session-kept, unit-name-kept}
 use Rattle.salt_keeps.specs.Keeps.{KeepsUnit, KeepsUnits}
 use Rattle.salt_keeps.specs.OpenUnits.{OpenUnit, UnitState, counted, names_in, unit_of_program, unit_of_session}
-use Rattle.salt_keeps.specs.Told.{Clashes, Items, act_in, after_began_in, after_did_in, after_end_in, asks_in, begins_in, calls_in, can_go_in, commits_in, cut_in, cuts_or_drains_in, does_in, drains_in, fails_in, finishes_in, go_in, goes_on_in, is_at_end_in, is_not_waiting, kind_called_in, line_in, next_turn_in, serve_in, settle_in, turn_in, turn_of_in}
+use Rattle.salt_keeps.specs.Follows.{cut_in, cuts_or_drains_in, drains_in}
+use Rattle.salt_keeps.specs.Told.{Clashes, Items, act_in, after_began_in, after_did_in, after_end_in, asks_in, begins_in, calls_in, can_go_in, commits_in, does_in, fails_in, finishes_in, go_in, goes_on_in, is_at_end_in, is_not_waiting, kind_called_in, line_in, next_turn_in, serve_in, settle_in, turn_in, turn_of_in}
 use Rattle.salt_laws.proofs.Every.{IfSome}
 use Rattle.salt_model.specs.Kept.{block_of_kind, cont_of, kept_program}
 use Rattle.salt_model.specs.Locks.{clashing}

@@ -28,7 +28,8 @@ pub record LooksUp (s : UnitState) (trace : Trace) : Type 0 where
   pub sessions : (t : ℕ) → session_unit t trace ≡ option_map (λ (o : OpenUnit). o.unit) (unit_of_session t s)
   pub programs : (b : Id) → program_unit b trace ≡ option_map (λ (o : OpenUnit). o.unit) (unit_of_program b s)
   pub statements : (o : OpenUnit) → KeepsUnit trace o → asked_by o.unit trace ≡ asks_next s o
-  pub within : (o : OpenUnit) (block : List Statement) (st : Statement) → block_of_kind s.kept o.kind ≡ Some block → asks_next s o ≡ Some st → o.done < length block
+  pub within : (o : OpenUnit) (block : List Statement) (st : Statement) → block_of_kind s.kept o.kind ≡ Some block → asks_next s o ≡ Some st →
+      o.done < length block
 
 -- what a statement of an open unit reaches, answers and changes
 pub record DoesUnder (trace : Trace) (k : Kept) (o : OpenUnit) (st : Statement) : Type 0 where
@@ -38,9 +39,12 @@ pub record DoesUnder (trace : Trace) (k : Kept) (o : OpenUnit) (st : Statement) 
 
 -- it does the same over each view of the rows in its reach, on these rows with the edits there made, and on a list of them
 pub record DoesAlike (k : Kept) (o : OpenUnit) (st : Statement) : Type 0 where
-  pub in_views : (view : Tables) → Views (reach (schema_of k) o.vars st) o.changes k.tables view → outcome_of (schema_of k) view o.vars st ≡ outcome_under k o st
-  pub on_reach : do_at o.vars st (table_for (schema_of k) st) (rows_edited (reach (schema_of k) o.vars st) o.changes k.tables) ≡ outcome_under k o st
-  pub on_rows : (rows : List Entry) → AreRows (reach (schema_of k) o.vars st) o.changes k.tables rows → do_at o.vars st (table_for (schema_of k) st) rows ≡ outcome_under k o st
+  pub in_views : (view : Tables) → Views (reach (schema_of k) o.vars st) o.changes k.tables view →
+      outcome_of (schema_of k) view o.vars st ≡ outcome_under k o st
+  pub on_reach :
+      do_at o.vars st (table_for (schema_of k) st) (rows_edited (reach (schema_of k) o.vars st) o.changes k.tables) ≡ outcome_under k o st
+  pub on_rows : (rows : List Entry) → AreRows (reach (schema_of k) o.vars st) o.changes k.tables rows →
+      do_at o.vars st (table_for (schema_of k) st) rows ≡ outcome_under k o st
 
 -- a unit of the list
 abbrev pub IsListed : Trace → UnitState → Id → Type 0

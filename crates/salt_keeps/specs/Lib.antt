@@ -14,6 +14,7 @@ pub mod Steps
 pub mod Keeps
 pub mod Rising
 pub mod Told
+pub mod Follows
 pub mod Refused
 pub mod Laws
 pub mod StateRows

@@ -24,4 +24,5 @@ HasDroppedAll (b ∷ bs) old new = (mid : List Numbered) × HasDropped (Base b) 
 abbrev pub HasSalted : Id → Id → List Numbered → List Numbered → Type 0
 HasSalted u b old new =
     (n : Numbered) → In n new ↔
-    ((In n old × (is_owned_by (Unit u) n.lock ≡ false)) ⊎ ((m : Numbered) × In m old × (is_owned_by (Unit u) m.lock ≡ true) × (n ≡ record { number = m.number; lock = saline_of b m.lock })))
+    ((In n old × (is_owned_by (Unit u) n.lock ≡ false)) ⊎
+    ((m : Numbered) × In m old × (is_owned_by (Unit u) m.lock ≡ true) × (n ≡ record { number = m.number; lock = saline_of b m.lock })))

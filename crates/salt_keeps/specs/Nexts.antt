@@ -2,7 +2,8 @@
 use Rattle.salt_keeps.specs.Readings.{Reading, beside_by, under_way_of}
 use Rattle.salt_keeps.specs.Refused.{refusal_in}
 use Rattle.salt_keeps.specs.States.{State, asked_of, turned_to}
-use Rattle.salt_keeps.specs.Told.{go_in, line_in, next_turn_in, opened_in, said_in, unit_of}
+use Rattle.salt_keeps.specs.Follows.{opened_in, said_in, unit_of}
+use Rattle.salt_keeps.specs.Told.{go_in, line_in, next_turn_in}
 use Rattle.salt_model.specs.Next.{decision_in}
 use Rattle.salt_model.specs.Trace.{Asked, line_asked}
 use Rattle.salt_model.specs.declared.events.Event.{Event}

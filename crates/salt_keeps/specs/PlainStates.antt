@@ -41,7 +41,13 @@ abbrev pub writer_in : List (Place × Id) → Place → Option Id
 writer_in ws p = find place_cmp p ws
 
 abbrev pub watch_of : PlainWatch → Watch
-watch_of w = record { table = w.table; taken = w.taken; waits = w.waits; programs = w.programs; dependencies = dependencies_of (writer_in w.writers) w.pairs w.finished }
+watch_of w = record {
+  table = w.table;
+  taken = w.taken;
+  waits = w.waits;
+  programs = w.programs;
+  dependencies = dependencies_of (writer_in w.writers) w.pairs w.finished;
+}
 
 abbrev pub written_by : Option Id → List Edit → List (Place × Id)
 written_by None ds = []
@@ -99,7 +105,12 @@ as_state p = record { units = p.units; watch = watch_of p.watch; names = p.names
 
 -- the state after an event, computed
 abbrev pub state_after : Event → PlainState → PlainState
-state_after e p = record { units = units_after e p.units; watch = watch_after (facts_in p.units e) e p.watch; names = named_by e p.names; can_stop = p.can_stop }
+state_after e p = record {
+  units = units_after e p.units;
+  watch = watch_after (facts_in p.units e) e p.watch;
+  names = named_by e p.names;
+  can_stop = p.can_stop;
+}
 
 -- after a line, and after a turn of `go all`
 abbrev pub state_asked : Asked → PlainState → PlainState
@@ -112,7 +123,15 @@ state_turned b p = record p { units = units_turned b p.units }
 abbrev pub state_at : Start → PlainState
 state_at k = record {
   units = units_at k.kept;
-  watch = record { table = []; taken = 0; waits = []; programs = in_order (map (λ (c : Cont). c.base) k.kept.conts); writers = []; pairs = []; finished = [] };
+  watch = record {
+    table = [];
+    taken = 0;
+    waits = [];
+    programs = in_order (map (λ (c : Cont). c.base) k.kept.conts);
+    writers = [];
+    pairs = [];
+    finished = [];
+  };
   names = name_at k;
   can_stop = k.can_stop;
 }

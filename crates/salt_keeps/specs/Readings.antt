@@ -24,7 +24,8 @@ use Rattle.salt_values.specs.declared.id.Id.{Id}
 use Rattle.std.specs.List.{filter_map, flat_map}
 use Rattle.std.specs.Prelude.{List, None, Some, if◌then◌else◌, length, map, not, true, ◌++◌, ◌↔◌, ◌≡◌}
 
--- what is computed of a watch, in whatever way: the programs that each comes to by kept pairs, those that are due, and each owner's locks in the order taken
+-- what is computed of a watch, in whatever way: the programs that each comes to by kept pairs, those that are due, and each owner's
+-- locks in the order taken
 pub record Reading (w : Watch) : Type 0 where
   pub sources : Id → List Id
   pub due : List Id
@@ -60,7 +61,9 @@ base_item_by s b = Item.Base b (s.names b) (place_by s b)
 
 abbrev pub items_by : (s : State) → Reading s.watch → Items
 items_by s x = record {
-  locks = map Item.Lock (flat_map (λ b. locks_by x (Base b)) s.watch.programs) ++ map Item.Lock (flat_map (λ u. locks_by x (Unit u)) (in_order (names_in s.units.units)));
+  locks =
+      map Item.Lock (flat_map (λ b. locks_by x (Base b)) s.watch.programs) ++
+      map Item.Lock (flat_map (λ u. locks_by x (Unit u)) (in_order (names_in s.units.units)));
   bases = map (base_item_by s) (under_way_by s);
 }
 

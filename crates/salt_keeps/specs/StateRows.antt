@@ -1,7 +1,6 @@
 -- Worked rows: the state after a script, computed event by event, tells what the trace of the script tells.
 use Rattle.salt_ast.specs.Sample.{acct_def, pay}
 use Rattle.salt_ast.specs.declared.lines.Line.TheVariants as line
-use Rattle.salt_ast.specs.declared.trees.Statement.{Statement}
 use Rattle.salt_keeps.specs.KeptWaits.{Asker, served_in, victim_in}
 use Rattle.salt_keeps.specs.OpenUnits.{OpenUnit, names_in}
 use Rattle.salt_keeps.specs.PairClosures.{all_sources, due_in}

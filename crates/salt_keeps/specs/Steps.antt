@@ -60,7 +60,11 @@ kept_ended k (Branched n c) (Some o) = kept_branched k n o
 kept_ended k end o = k
 
 abbrev pub units_after : Event → UnitState → UnitState
-units_after (Began u kind) s = record s { units = s.units ++ begun s u kind ∷ []; unit_count = s.unit_count + 1; base_count = if is_some (program_begun kind) then s.base_count + 1 else s.base_count }
+units_after (Began u kind) s = record s {
+  units = s.units ++ begun s u kind ∷ [];
+  unit_count = s.unit_count + 1;
+  base_count = if is_some (program_begun kind) then s.base_count + 1 else s.base_count;
+}
 units_after (Did u st answer) s = record s { units = change_unit u (doing_one s.kept st) s.units }
 units_after (Waits u owners) s = record s { units = change_unit u (waiting_by s.line) s.units }
 units_after (Ended u end) s = record s { kept = kept_ended s.kept end (unit_named u s.units); units = without_unit u s.units }
