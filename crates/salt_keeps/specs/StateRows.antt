@@ -6,22 +6,27 @@ use Rattle.salt_keeps.specs.OpenUnits.{OpenUnit, names_in}
 use Rattle.salt_keeps.specs.PairClosures.{all_sources, due_in}
 use Rattle.salt_keeps.specs.PlainStates.{PlainState, as_state, state_of, watch_of}
 use Rattle.salt_keeps.specs.Readings.{locks_in, under_way_by}
+use Rattle.salt_keeps.specs.Told.{next_turn_in}
 use Rattle.salt_model.specs.After.{kept}
 use Rattle.salt_model.specs.Computing.{computing}
 use Rattle.salt_model.specs.Kept.{Kept}
 use Rattle.salt_model.specs.Locks.{held, lock_of}
+use Rattle.salt_model.specs.Phases.{Opening, Phase, Serving, phase}
 use Rattle.salt_model.specs.Programs.{under_way, unreleased}
 use Rattle.salt_model.specs.Reads.{to_release}
 use Rattle.salt_model.specs.Scripts.{accounts, at, bal_at, base, begin, call, call_transfer, go, insert_acct, numbers, unit}
 use Rattle.salt_model.specs.Tables.{place}
-use Rattle.salt_model.specs.Trace.{Trace, Tree, ◌asks◌}
+use Rattle.salt_model.specs.Trace.{Trace, Tree, ◌asks◌, ◌says◌}
+use Rattle.salt_model.specs.Turns.{next_turn}
 use Rattle.salt_model.specs.Units.{base_count, is_waiting, open_units, unit_count, wait_list}
 use Rattle.salt_model.specs.Waiting.{next_unblocked, victim}
 use Rattle.salt_model.specs.Walk.{completed, walk}
 use Rattle.salt_model.specs.Words.{in_order}
+use Rattle.salt_model.specs.declared.events.Event.TheVariants.{Down, Opened}
 use Rattle.salt_model.specs.declared.events.Owner.TheVariants.{Base, Unit}
 use Rattle.salt_model.specs.declared.events.Owner.{Owner}
-use Rattle.salt_model.specs.declared.locks.Family.TheVariants.{Acid, Saline}
+use Rattle.salt_model.specs.declared.events.Why.TheVariants.{Stopped}
+use Rattle.salt_model.specs.declared.locks.Family.TheVariants.{Acid, Alkaline, Saline}
 use Rattle.salt_model.specs.declared.locks.Family.{Family}
 use Rattle.salt_model.specs.declared.locks.Lock.{Lock}
 use Rattle.salt_model.specs.declared.locks.Mode.TheVariants.{Read, Write}
@@ -35,6 +40,8 @@ use Rattle.std.specs.Prelude.{Bool, List, None, Option, Some, [], codes, false, 
 
 -- what is told of a place in a run: the rows, the last decision, where programs stand and the tries that they have left, and so on
 pub record Sight : Type 0 where
+  pub phase : Phase
+  pub boot : ℕ
   pub rows : List (List Value)
   pub decisions : ℕ
   pub parts : List ℕ
@@ -50,12 +57,15 @@ pub record Sight : Type 0 where
   pub victim : Option Id
   pub served : Option Id
   pub due : List Id
+  pub turn : Option Id
 
 abbrev pub rows_of : Kept → List (List Value)
 rows_of k = map (λ e. e.1) k.tables.list
 
 abbrev pub by_trace : Trace → Sight
 by_trace trace = record {
+  phase = phase trace;
+  boot = (kept trace).boot;
   rows = rows_of (kept trace);
   decisions = (kept trace).decisions;
   parts = map (λ (c : Cont). c.next) (kept trace).conts;
@@ -71,10 +81,13 @@ by_trace trace = record {
   victim = victim trace;
   served = next_unblocked trace;
   due = to_release trace;
+  turn = next_turn trace;
 }
 
 abbrev pub by_state : PlainState → Sight
 by_state s = let w = watch_of s.watch in record {
+  phase = s.units.phase;
+  boot = s.units.kept.boot;
   rows = rows_of s.units.kept;
   decisions = s.units.kept.decisions;
   parts = map (λ (c : Cont). c.next) s.units.kept.conts;
@@ -90,6 +103,7 @@ by_state s = let w = watch_of s.watch in record {
   victim = victim_in w.dependencies (locks_in w) w.waits (all_sources s.watch.pairs);
   served = served_in (locks_in w) w.waits;
   due = in_order (due_in s.watch.pairs s.watch.finished);
+  turn = next_turn_in s.units;
 }
 
 -- a lock on one account
@@ -106,6 +120,8 @@ two_open = walk (accounts ++ begin 1 ∷ at 1 (insert_acct 3 7) ∷ begin 2 ∷ 
 
 abbrev two_open_sight : Sight
 two_open_sight = record {
+  phase = Serving;
+  boot = 1;
   rows = account 1 100 ∷ account 2 50 ∷ [];
   decisions = 4;
   parts = [];
@@ -121,6 +137,7 @@ two_open_sight = record {
   victim = None;
   served = None;
   due = [];
+  turn = None;
 }
 
 two_open_by_state : by_state (state_of two_open) ≡ two_open_sight
@@ -143,6 +160,8 @@ reader_waits = walk (accounts ++ call_transfer 1 1 2 30 ∷ at 2 (bal_at 1) ∷ 
 
 abbrev reader_waits_sight : Sight
 reader_waits_sight = record {
+  phase = Serving;
+  boot = 1;
   rows = account 1 70 ∷ account 2 50 ∷ [];
   decisions = 5;
   parts = 2 ∷ [];
@@ -158,6 +177,7 @@ reader_waits_sight = record {
   victim = None;
   served = None;
   due = [];
+  turn = None;
 }
 
 reader_waits_by_state : by_state (state_of reader_waits) ≡ reader_waits_sight
@@ -179,6 +199,8 @@ reads_unfinished = walk (accounts ++ at 1 (insert_acct 3 0) ∷ call_transfer 1 
 
 abbrev reads_unfinished_sight : Sight
 reads_unfinished_sight = record {
+  phase = Serving;
+  boot = 1;
   rows = account 1 60 ∷ account 2 50 ∷ account 3 10 ∷ [];
   decisions = 8;
   parts = 2 ∷ [];
@@ -194,6 +216,7 @@ reads_unfinished_sight = record {
   victim = None;
   served = None;
   due = [];
+  turn = None;
 }
 
 reads_unfinished_by_state : by_state (state_of reads_unfinished) ≡ reads_unfinished_sight
@@ -219,6 +242,8 @@ on_cycle = completed 1 (walk (accounts ++ call_transfer 1 1 2 30 ∷ begin 2 ∷
 
 abbrev on_cycle_sight : Sight
 on_cycle_sight = record {
+  phase = Serving;
+  boot = 1;
   rows = account 1 70 ∷ account 2 50 ∷ [];
   decisions = 5;
   parts = 2 ∷ [];
@@ -234,6 +259,7 @@ on_cycle_sight = record {
   victim = Some (unit 4);
   served = None;
   due = [];
+  turn = None;
 }
 
 on_cycle_by_state : by_state (state_of on_cycle) ≡ on_cycle_sight
@@ -253,6 +279,8 @@ failed_once =
 
 abbrev failed_once_sight : Sight
 failed_once_sight = record {
+  phase = Serving;
+  boot = 1;
   rows = account 1 70 ∷ account 3 990 ∷ [];
   decisions = 6;
   parts = 2 ∷ [];
@@ -268,6 +296,7 @@ failed_once_sight = record {
   victim = None;
   served = None;
   due = [];
+  turn = None;
 }
 
 failed_once_by_state : by_state (state_of failed_once) ≡ failed_once_sight
@@ -277,3 +306,109 @@ failed_once_by_state = refl
 failed_once_by_trace : by_trace failed_once ≡ failed_once_sight
 unfolding computing
 failed_once_by_trace = refl
+
+-- `go all` is asked, and turns to the first of two programs.
+
+abbrev all_go : Trace
+all_go = walk (accounts ++ call_transfer 1 1 2 30 ∷ call_transfer 2 2 1 10 ∷ []) asks Tree line.GoAll
+
+abbrev all_go_sight : Sight
+all_go_sight = record {
+  phase = Serving;
+  boot = 1;
+  rows = account 1 70 ∷ account 2 40 ∷ [];
+  decisions = 6;
+  parts = 2 ∷ 2 ∷ [];
+  tries = 0 ∷ 0 ∷ [];
+  units = [];
+  waiting = [];
+  locks = on_account (Base (base 1)) Saline Write 1 ∷ on_account (Base (base 2)) Saline Write 2 ∷ [];
+  waits = [];
+  unreleased = base 1 ∷ base 2 ∷ [];
+  under_way = base 1 ∷ base 2 ∷ [];
+  unit_count = 4;
+  base_count = 2;
+  victim = None;
+  served = None;
+  due = [];
+  turn = Some (base 1);
+}
+
+all_go_by_state : by_state (state_of all_go) ≡ all_go_sight
+unfolding computing
+all_go_by_state = refl
+
+all_go_by_trace : by_trace all_go ≡ all_go_sight
+unfolding computing
+all_go_by_trace = refl
+
+-- A stop cuts a unit, and the opening has begun the part of a program; then a second stop, and an opening that goes to its end.
+
+abbrev before_stop : Trace
+before_stop = completed 2 (walk (accounts ++ call_transfer 1 1 2 30 ∷ line.Crash ((1, 0) ∷ []) ∷ []) asks Tree (at 2 (insert_acct 7 1)))
+
+abbrev in_opening : Trace
+in_opening = completed 3 (before_stop says Down Stopped says Opened 2 5)
+
+abbrev in_opening_sight : Sight
+in_opening_sight = record {
+  phase = Opening;
+  boot = 2;
+  rows = account 1 70 ∷ account 2 50 ∷ [];
+  decisions = 5;
+  parts = 2 ∷ [];
+  tries = 0 ∷ [];
+  units = record { boot = 2; seq = 1 } ∷ [];
+  waiting = false ∷ [];
+  locks = on_account (Base (base 1)) Saline Write 1 ∷ on_account (Unit (record { boot = 2; seq = 1 })) Alkaline Write 2 ∷ [];
+  waits = [];
+  unreleased = base 1 ∷ [];
+  under_way = base 1 ∷ [];
+  unit_count = 1;
+  base_count = 0;
+  victim = None;
+  served = None;
+  due = [];
+  turn = None;
+}
+
+in_opening_by_state : by_state (state_of in_opening) ≡ in_opening_sight
+unfolding computing
+in_opening_by_state = refl
+
+in_opening_by_trace : by_trace in_opening ≡ in_opening_sight
+unfolding computing
+in_opening_by_trace = refl
+
+abbrev drained : Trace
+drained = completed 40 (in_opening says Down Stopped says Opened 3 5)
+
+abbrev drained_sight : Sight
+drained_sight = record {
+  phase = Serving;
+  boot = 3;
+  rows = account 1 70 ∷ account 2 80 ∷ [];
+  decisions = 6;
+  parts = [];
+  tries = [];
+  units = [];
+  waiting = [];
+  locks = [];
+  waits = [];
+  unreleased = [];
+  under_way = [];
+  unit_count = 1;
+  base_count = 0;
+  victim = None;
+  served = None;
+  due = [];
+  turn = None;
+}
+
+drained_by_state : by_state (state_of drained) ≡ drained_sight
+unfolding computing
+drained_by_state = refl
+
+drained_by_trace : by_trace drained ≡ drained_sight
+unfolding computing
+drained_by_trace = refl
