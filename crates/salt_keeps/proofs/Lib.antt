@@ -41,3 +41,4 @@ pub mod PlainGoesOn
 pub mod PointsFall
 pub mod EachTrace
 pub mod TriesLeft
+pub mod EachPoint

@@ -1,6 +1,7 @@
 -- Where a run stands: its state, what comes next, and what is in flight; and how a line, a turn and an event move it on.
 use Rattle.salt_keeps.specs.Laws.{is_of_run}
 use Rattle.salt_keeps.specs.Nexts.{asked_next, flight_next, next_turn_of, said_next, turned_next}
+use Rattle.salt_keeps.specs.PlainStates.{as_state, state_of}
 use Rattle.salt_keeps.specs.Readings.{Reading}
 use Rattle.salt_keeps.specs.States.{After, Keeps, State, asked_of, turned_to}
 use Rattle.salt_keeps.specs.Told.{at_devices_in}
@@ -23,6 +24,10 @@ pub record KeepsPoint (p : Point) (trace : Trace) : Type 0 where
   pub state : Keeps p.state trace
   pub next : next trace ≡ p.next
   pub flight : flight trace ≡ p.flight
+
+-- that of a trace, with its state by lists
+abbrev pub point_of : Trace → Point
+point_of trace = record { state = as_state (state_of trace); next = next trace; flight = flight trace }
 
 -- nothing is missing of the segment
 pub record IsIdle (p : Point) : Type 0 where

@@ -19,7 +19,7 @@ ghost use Rattle.salt_keeps.specs.OpenUnits.{OpenUnit, UnitState, change_unit, n
 ghost use Rattle.salt_keeps.specs.Overlays.{AreInOrder, AreRows, Edit, entry_at, row_edited, with_edits};
 ghost use Rattle.salt_keeps.specs.PairClosures.{LeadsBack, Pair, all_sources, dependencies_of, due_in, has_pair};
 ghost use Rattle.salt_keeps.specs.PlainStates.{IsInTurn, PlainState, PlainWatch, as_state, state_after, state_of, watch_after, watch_of};
-ghost use Rattle.salt_keeps.specs.Points.{Falls, IsIdle, KeepsPoint, Move, Moves, Point, Runs, told_by, trace_on};
+ghost use Rattle.salt_keeps.specs.Points.{Ask, Falls, IsIdle, KeepsPoint, Move, Moves, Point, Runs, Say, Turn, point_of, told_by, trace_on};
 ghost use Rattle.salt_keeps.specs.Readings.{Reading, beside_by, clash_by, items_by, under_way_by};
 ghost use Rattle.salt_keeps.specs.Rising.{Rising};
 ghost use Rattle.salt_keeps.specs.Settling.{to_come, waiters};
@@ -376,6 +376,18 @@ pub fn points_go_on()
         Runs old (ms ++ m ∷ []) new }
     ensures story { (ms : List Move) (trace : Trace) → story_of (trace_on trace ms) ≡ story_of trace ++ told_by ms }
     ensures start { (ms : List Move) (trace : Trace) → start_of (trace_on trace ms) ≡ start_of trace }
+{}
+
+/// Each trace that is played moves its own point: each line, turn of `go all` and event that may stand is a move. So the
+/// moves of points leave none out.
+pub fn traces_move_their_points()
+    ensures keeps { (trace : Trace) → IsSound trace → KeepsPoint (point_of trace) trace }
+    ensures says { (trace : Trace) (e : Event) → IsSound (trace says e) → is_of_run e ≡ false →
+        Moves (Say e) (point_of trace) (point_of (trace says e)) }
+    ensures asks { (trace : Trace) (asked : Asked) → IsSound (trace asks asked) →
+        Moves (Ask asked) (point_of trace) (point_of (trace asks asked)) }
+    ensures turns { (trace : Trace) (b : Id) → IsSound (trace turns b) →
+        Moves (Turn b) (point_of trace) (point_of (trace turns b)) }
 {}
 
 /// While serving, what is still to come falls with each event.

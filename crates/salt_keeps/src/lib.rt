@@ -1,4 +1,8 @@
 //! What an engine keeps, how it goes on with each event of a played trace, and that it tells what comes next.
+//!
+//! The definitions are read in this order: OpenUnits, Steps, Keeps (units and tables) · KeptLocks, KeptWaits, KeptSources, KeptPrograms, Watches (the rest) · UnitFacts,
+//! WatchSteps, States (the whole, and what an event makes of it) · Told, Follows, Refused, Readings, Nexts (what it tells) · Points, Settling (moves of a run, and why
+//! settling ends) · PlainStates, StateRows (the state by lists, computed) · Overlays, LockCalls, DependencyCalls (for the crates that keep the parts).
 #![tactic(auto)]
 
 mod laws;
@@ -12,7 +16,7 @@ pub use laws::{
     programs_finish_once_and_first_parts_are_unseen, releases_come_from_what_is_kept,
     rounds_find_cycles, service_comes_from_what_is_kept, settling_ends, settling_ends_settled,
     statements_are_done_under_edits, states_go_on, states_tell_what_comes_next,
-    states_tell_what_stands_beside, tables_keep_locks, tables_tell_locks, units_are_looked_up,
-    units_go_on, units_wait_once, unreleased_programs_change, victim_comes_from_what_is_kept,
-    waits_change, watches_go_on,
+    states_tell_what_stands_beside, tables_keep_locks, tables_tell_locks, traces_move_their_points,
+    units_are_looked_up, units_go_on, units_wait_once, unreleased_programs_change,
+    victim_comes_from_what_is_kept, waits_change, watches_go_on,
 };
