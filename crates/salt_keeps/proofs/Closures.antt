@@ -84,9 +84,6 @@ due-of trace d z s f g k b = (
         or-first (has_id c (finished_in trace)) _ (in-has c (finished_in trace) ((k.finished c).0 (all c (reads-kept trace d z s f k b c known e r))).finished)
 
 -- what is left of an ascending list ascends
-every-left-in : (R : Id → Id → Type 0) (p : Id → Bool) (u : Id) (us : List Id) → Every (R u) us → Every (R u) (filter p us)
-every-left-in R p u us h = every-filter (R u) p us h
-
 pub filter-ascends : (p : Id → Bool) (us : List Id) → Ascends Older us → Ascends Older (filter p us)
 filter-ascends p [] h = tt
 filter-ascends p (u ∷ us) h = by (p u) (filter-ascends p us h.1)

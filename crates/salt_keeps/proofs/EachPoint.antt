@@ -1,21 +1,26 @@
 -- Each trace that is played moves its point as its lines, turns and events go.
 use Rattle.salt_keeps.proofs.EachTrace.{always-in-turn, each-kept}
 use Rattle.salt_keeps.proofs.PlainGoesOn.{plain-reading, plain-says}
+use Rattle.salt_keeps.proofs.NextTold.{devices-told, may-stand}
 use Rattle.salt_keeps.proofs.PointsGoOn.{asked-kept, flight-kept, said-kept, turn-kept, turned-kept}
 use Rattle.salt_keeps.specs.Laws.{is_of_run}
 use Rattle.salt_keeps.specs.PlainStates.{as_state, state_of, watch_of}
-use Rattle.salt_keeps.specs.Points.{Asks, KeepsPoint, Says, Turns, point_of}
+use Rattle.salt_keeps.specs.Points.{Asks, Falls, KeepsPoint, Says, Turns, point_of}
 use Rattle.salt_keeps.specs.Readings.{Reading}
+use Rattle.salt_laws.proofs.Replays.{good-event, replays}
 use Rattle.salt_model.specs.Kept.{WellKept}
 use Rattle.salt_model.specs.Next.{next}
+use Rattle.salt_model.specs.Phases.{Serving, phase}
 use Rattle.salt_model.specs.Played.{IsPlayed}
 use Rattle.salt_model.specs.Segments.{May}
+use Rattle.salt_model.specs.Stops.{MayFall, is_at_devices, is_device_next}
 use Rattle.salt_model.specs.Trace.{Asked, Trace, start_of, ◌asks◌, ◌says◌, ◌turns◌}
 use Rattle.salt_model.specs.declared.events.Event.{Event}
 use Rattle.salt_model.specs.declared.events.Event.TheVariants.{Down, Opened}
+use Rattle.salt_model.specs.declared.events.Why.{Why}
 use Rattle.salt_values.specs.declared.id.Id.{Id}
-use Rattle.std.proofs.Common.{sym, ◌∙◌}
-use Rattle.std.specs.Prelude.{Some, false, refl, ◌≡◌}
+use Rattle.std.proofs.Common.{subst, sym, ◌∙◌}
+use Rattle.std.specs.Prelude.{None, Option, Some, false, refl, true, ◌≡◌}
 
 reading-of : (trace : Trace) → Reading (watch_of (state_of trace).watch)
 reading-of trace = plain-reading (state_of trace).watch (always-in-turn trace)
@@ -57,3 +62,31 @@ trace-turns trace b p w = let keeps = each-kept trace p.0 w in record {
   next = turned-kept (as_state (state_of trace)) trace b (reading-of trace) keeps p w;
   flight = refl;
 }
+
+-- what is at the devices is no stop and no opening
+is-of-units : (trace : Trace) (e : Event) → is_at_devices trace e ≡ true → is_of_run e ≡ false
+is-of-units trace (Down why) h = cc
+is-of-units trace (Opened boot n) h = cc
+is-of-units trace e h = refl
+
+pub trace-falls : (trace : Trace) (why : Why) → IsPlayed (trace says Down why) → WellKept (start_of trace).kept → phase trace ≡ Serving → Falls why (point_of trace) (point_of (trace says Down why))
+trace-falls trace why p w serves = by (next trace) refl
+  where
+    device : is_device_next trace (next trace) ≡ true
+    device = subst (λ x. MayFall x trace why) serves p.1
+
+    by : (o : Option Event) → next trace ≡ o → Falls why (point_of trace) (point_of (trace says Down why))
+    by None e = let d : is_device_next trace None ≡ true = subst (λ o. is_device_next trace o ≡ true) e device in cc
+    by (Some event) e =
+        let keeps = each-kept trace p.0 w in
+        let d : is_at_devices trace event ≡ true = subst (λ o. is_device_next trace o ≡ true) e device in
+        let good = good-event trace event (replays trace p.0) (may-stand trace event (is-of-units trace event d) e) in
+        record {
+          serves = sym keeps.units.phase ∙ serves;
+          event = event;
+          comes = e;
+          devices = sym (devices-told (state_of trace).units trace event keeps.units p.0 good) ∙ d;
+          after = plain-says (Down why) (state_of trace);
+          next = refl;
+          flight = refl;
+        }

@@ -61,10 +61,6 @@ module _ (trace : Trace) where
   asks-serve : (u : Id) → IfComes P (does_next trace u)
   asks-serve u = comes-map P _ (asked_by u trace) (λ st. tt)
 
-  asks-turn_of : (o : Option Id) → ((u : Id) → o ≡ Some u → is_waiting trace u ≡ false) → IfComes P (turn_of trace o)
-  asks-turn_of None h = tt
-  asks-turn_of (Some u) h = asks-turn u (h u refl)
-
   asks-goes_on : (b : Id) (o : Option Id) → ((u : Id) → o ≡ Some u → is_waiting trace u ≡ false) → IfComes P (goes_on trace b o)
   asks-goes_on b (Some u) h = asks-turn u (h u refl)
   asks-goes_on b None h = comes-map P _ (cont_of b (kept trace)) (λ c. tt)

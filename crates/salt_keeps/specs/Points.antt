@@ -97,7 +97,6 @@ pub record Falls (why : Why) (old new : Point) : Type 0 where
   pub serves : old.state.units.phase ≡ Serving
   pub event : Event
   pub comes : old.next ≡ Some event
-  pub said : is_of_run event ≡ false
   pub devices : at_devices_in old.state.units event ≡ true
   pub after : After (Down why) old.state new.state
   pub next : new.next ≡ None

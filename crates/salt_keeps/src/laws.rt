@@ -16,7 +16,7 @@ ghost use Rattle.salt_keeps.specs.Members.{Ascends, In, SameMembers};
 ghost use Rattle.salt_keeps.specs.Nexts.{asked_next, flight_next, next_turn_of, refusal_of, said_next, turned_next};
 ghost use Rattle.salt_keeps.specs.NoneDue.{NoneDue};
 ghost use Rattle.salt_keeps.specs.OpenUnits.{OpenUnit, UnitState, change_unit, names_in, unit_named, without_unit};
-ghost use Rattle.salt_keeps.specs.Overlays.{AreInOrder, AreRows, Edit, entry_at, row_edited, with_edits};
+ghost use Rattle.salt_keeps.specs.Overlays.{AreInOrder, AreRows, Edit, Views, entry_at, row_edited, with_edits};
 ghost use Rattle.salt_keeps.specs.PairClosures.{LeadsBack, Pair, all_sources, dependencies_of, due_in, has_pair};
 ghost use Rattle.salt_keeps.specs.PlainStates.{IsInTurn, PlainState, PlainWatch, as_state, state_after, state_of, watch_after, watch_of};
 ghost use Rattle.salt_keeps.specs.Points.{Ask, Falls, IsIdle, KeepsPoint, Move, Moves, Point, Runs, Say, Turn, point_of, told_by, trace_on};
@@ -38,7 +38,7 @@ ghost use Rattle.salt_model.specs.Reads.{sources, to_release};
 ghost use Rattle.salt_model.specs.Refusals.{is_busy, refusal};
 ghost use Rattle.salt_model.specs.Releasing.{ReadsThrough};
 ghost use Rattle.salt_model.specs.Segments.{IsComplete};
-ghost use Rattle.salt_model.specs.Tables.{Tables, place, row_at};
+ghost use Rattle.salt_model.specs.Tables.{Tables, is_within, place, row_at};
 ghost use Rattle.salt_model.specs.Trace.{Asked, Start, Trace, from, start_of, story_of, ◌asks◌, ◌says◌, ◌turns◌};
 ghost use Rattle.salt_model.specs.Turns.{next_turn};
 ghost use Rattle.salt_model.specs.Units.{is_open, kind_of, open_units, wait_list};
@@ -120,11 +120,14 @@ pub fn units_are_looked_up()
 {}
 
 /// What a statement of an open unit does, it does on the committed tables under its edits; and the same over
-/// each view that has their rows in its reach, and on a list of these; for a reach of one key that is one look-up.
+/// each view that has their rows in its reach, and on a list of these. Rows of a reach, from wherever they come, with the
+/// unit's edits made in them, are such a view; for a reach of one key that is one look-up.
 pub fn statements_are_done_under_edits()
     ensures under { (s : UnitState) (trace : Trace) (o : OpenUnit) (st : Statement) → KeepsUnits s trace →
         KeepsUnit trace o → DoesUnder trace s.kept o st }
     ensures alike { (k : Kept) (o : OpenUnit) (st : Statement) → AreInOrder o.changes → DoesAlike k o st }
+    ensures stored { (r : Reach) (ds : List Edit) (es rows : Tables) → AreInOrder ds →
+        ((q : Place) → is_within r q ≡ true → row_at q rows ≡ row_at q es) → Views (Some r) ds es (with_edits ds rows) }
     ensures of_one_key { (t : ℕ) (mode : Mode) (k : Value) (ds : List Edit) (es : Tables) →
         AreRows (Some (record { table = t; range = one_key k; mode = mode })) ds es (entry_at (place t k) (row_edited ds es (place t k))) }
 {}
@@ -378,8 +381,8 @@ pub fn points_go_on()
     ensures start { (ms : List Move) (trace : Trace) → start_of (trace_on trace ms) ≡ start_of trace }
 {}
 
-/// Each trace that is played moves its own point: each line, turn of `go all` and event that may stand is a move. So the
-/// moves of points leave none out.
+/// Each trace that is played moves its own point: each line, turn of `go all`, event and stop of a run that serves is a
+/// move. So the moves of points leave none out.
 pub fn traces_move_their_points()
     ensures keeps { (trace : Trace) → IsSound trace → KeepsPoint (point_of trace) trace }
     ensures says { (trace : Trace) (e : Event) → IsSound (trace says e) → is_of_run e ≡ false →
@@ -388,6 +391,8 @@ pub fn traces_move_their_points()
         Moves (Ask asked) (point_of trace) (point_of (trace asks asked)) }
     ensures turns { (trace : Trace) (b : Id) → IsSound (trace turns b) →
         Moves (Turn b) (point_of trace) (point_of (trace turns b)) }
+    ensures falls { (trace : Trace) (why : Why) → IsSound (trace says Event.Down why) → phase trace ≡ Serving →
+        Falls why (point_of trace) (point_of (trace says Event.Down why)) }
 {}
 
 /// While serving, what is still to come falls with each event.
