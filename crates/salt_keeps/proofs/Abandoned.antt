@@ -52,7 +52,8 @@ not-both Waiting o c = cc
 not-both (Over end) o c = cc
 
 -- a first part that has just committed
-pub just-committed : (trace : Trace) (b : Id) → IsAcceptance b trace (last_said trace) → (u : Id) × (is_committed_standing (standing u trace) ≡ true) × (first_of u trace ≡ Some b)
+pub just-committed : (trace : Trace) (b : Id) → IsAcceptance b trace (last_said trace) →
+    (u : Id) × (is_committed_standing (standing u trace) ≡ true) × (first_of u trace ≡ Some b)
 just-committed (from k) b h = absurd h
 just-committed (trace asks asked) b h = just-committed trace b (before (last_said trace) h)
   where
@@ -92,7 +93,8 @@ given-first end None b i = absurd i
 given-first end (Some c) b i = ap Some (one-of b c i)
 
 -- a program given up by this event, or before
-abandoned-back : (trace : Trace) (e : Event) (b : Id) → In b (abandoned_in (trace says e)) → In b (abandoned_in trace) ⊎ ((u : Id) × (end : End) × (e ≡ Ended u end) × In b (given_up end (first_of u trace)))
+abandoned-back : (trace : Trace) (e : Event) (b : Id) → In b (abandoned_in (trace says e)) →
+    In b (abandoned_in trace) ⊎ ((u : Id) × (end : End) × (e ≡ Ended u end) × In b (given_up end (first_of u trace)))
 abandoned-back trace (Ended u end) b h = either (λ i. inl i) (λ i. inr (u, end, refl, i)) (in-cases b (abandoned_in trace) _ h)
 abandoned-back trace e b h = inl h
 
@@ -100,7 +102,8 @@ accepted-back : (trace : Trace) (e : Event) (b : Id) → In b (accepted_in (trac
 accepted-back trace (Accepted c) b h = either (λ i. inl i) (λ i. inr (ap Accepted (one-of b c i))) (in-cases b (accepted_in trace) (c ∷ []) h)
 accepted-back trace e b h = inl h
 
-firsts-accepted : (trace : Trace) (e : Event) → Fits trace e → Firsts trace → (b : Id) → In b (accepted_in (trace says e)) → In b (programs_in (trace says e))
+firsts-accepted : (trace : Trace) (e : Event) → Fits trace e → Firsts trace → (b : Id) → In b (accepted_in (trace says e)) →
+    In b (programs_in (trace says e))
 firsts-accepted trace e f h b i = either (λ j. programs-say trace e b (h.accepted_known b j)) (λ q. by q) (accepted-back trace e b i)
   where
     by : e ≡ Accepted b → In b (programs_in (trace says e))
@@ -117,20 +120,25 @@ first-fresh trace x (Acid s) b f k o = cc
 first-fresh trace x (Call s n args) b f k o = cc
 first-fresh trace x (Later c part) b f k o = cc
 
-alone-step : (trace : Trace) (e : Event) → Sound trace → Fits trace e → Firsts trace → (b u v : Id) → is_open (trace says e) u ≡ true → first_of u (trace says e) ≡ Some b → program_of v (trace says e) ≡ Some b → v ≡ u
+alone-step : (trace : Trace) (e : Event) → Sound trace → Fits trace e → Firsts trace → (b u v : Id) → is_open (trace says e) u ≡ true →
+    first_of u (trace says e) ≡ Some b → program_of v (trace says e) ≡ Some b → v ≡ u
 alone-step trace (Began x kind) s f h b u v o k p = by (is_same_id u x) refl (is_same_id v x) refl o k p
   where
-    by : (t : Bool) → is_same_id u x ≡ t → (r : Bool) → is_same_id v x ≡ r → is_open_standing (cond t Running (standing u trace)) ≡ true → option_and_then program_begun (option_or (then_some t kind) (kind_of u trace)) ≡ Some b → option_and_then program_of_kind (option_or (then_some r kind) (kind_of v trace)) ≡ Some b → v ≡ u
+    by : (t : Bool) → is_same_id u x ≡ t → (r : Bool) → is_same_id v x ≡ r → is_open_standing (cond t Running (standing u trace)) ≡ true →
+        option_and_then program_begun (option_or (then_some t kind) (kind_of u trace)) ≡ Some b →
+        option_and_then program_of_kind (option_or (then_some r kind) (kind_of v trace)) ≡ Some b → v ≡ u
     by true e true g o k p = is_same_id-true v x g ∙ sym (is_same_id-true u x e)
     by true e false g o k p = absurd (first-fresh trace x kind b f k (s.old_units b v (of-program trace v b p)))
     by false e true g o k p = absurd ((begins-new trace x kind b s f p).2 u o (of-program trace u b (first-program (kind_of u trace) b k)))
     by false e false g o k p = h.alone b u v o k p
 alone-step trace e s f h b u v o k p = h.alone b u v (either (λ g. g) (λ i. absurd i) (open-back trace e u f o)) k p
 
-new-step : (trace : Trace) (e : Event) → Sound trace → Fits trace e → Firsts trace → (b u : Id) → is_open (trace says e) u ≡ true → first_of u (trace says e) ≡ Some b → In b (accepted_in (trace says e)) → ⊥
+new-step : (trace : Trace) (e : Event) → Sound trace → Fits trace e → Firsts trace → (b u : Id) → is_open (trace says e) u ≡ true →
+    first_of u (trace says e) ≡ Some b → In b (accepted_in (trace says e)) → ⊥
 new-step trace (Began x kind) s f h b u o k a = by (is_same_id u x) o k
   where
-    by : (t : Bool) → is_open_standing (cond t Running (standing u trace)) ≡ true → option_and_then program_begun (option_or (then_some t kind) (kind_of u trace)) ≡ Some b → ⊥
+    by : (t : Bool) → is_open_standing (cond t Running (standing u trace)) ≡ true →
+        option_and_then program_begun (option_or (then_some t kind) (kind_of u trace)) ≡ Some b → ⊥
     by true o k = first-fresh trace x kind b f k (s.old_programs b (h.accepted_known b a))
     by false o k = h.new b u o k a
 new-step trace (Accepted c) s f h b u o k a = either (λ i. h.new b u o k i) (λ i. by (one-of b c i)) (in-cases b (accepted_in trace) (c ∷ []) a)
@@ -142,17 +150,21 @@ new-step trace (Accepted c) s f h b u o k a = either (λ i. h.new b u o k i) (λ
         not-both (standing u trace) o (subst (λ x. is_committed_standing (standing x trace) ≡ true) same j.1)
 new-step trace e s f h b u o k a = h.new b u (either (λ g. g) (λ i. absurd i) (open-back trace e u f o)) k a
 
-open-step : (trace : Trace) (e : Event) → Sound trace → Fits trace e → Firsts trace → ((u c : Id) (part : ℕ) → kind_of u (trace says e) ≡ Some (Later c part) → In c (accepted_in (trace says e))) →
+open-step : (trace : Trace) (e : Event) → Sound trace → Fits trace e → Firsts trace →
+    ((u c : Id) (part : ℕ) → kind_of u (trace says e) ≡ Some (Later c part) → In c (accepted_in (trace says e))) →
     (b u : Id) → is_open (trace says e) u ≡ true → program_of u (trace says e) ≡ Some b → In b (abandoned_in (trace says e)) → ⊥
 open-step trace (Began x kind) s f h later b u o p a = by (is_same_id u x) refl o p
   where
-    begun : (kind : UnitKind) → Fits trace (Began x kind) → kind_of u (trace says Began x kind) ≡ Some kind → ((c : Id) (part : ℕ) → kind_of u (trace says Began x kind) ≡ Some (Later c part) → In c (accepted_in trace)) → program_of_kind kind ≡ Some b → ⊥
+    begun : (kind : UnitKind) → Fits trace (Began x kind) → kind_of u (trace says Began x kind) ≡ Some kind →
+        ((c : Id) (part : ℕ) → kind_of u (trace says Began x kind) ≡ Some (Later c part) → In c (accepted_in trace)) → program_of_kind kind ≡ Some b →
+        ⊥
     begun (First z c n args) f q l p = first-fresh trace x (First z c n args) b f p (s.old_programs b (h.abandoned_known b a))
     begun (Later c part) f q l p = let g : c ≡ b = cc in h.accepted_kept b (subst (λ y. In y (accepted_in trace)) g (l c part q)) a
     begun (Acid z) f q l p = cc
     begun (Call z n args) f q l p = cc
 
-    by : (t : Bool) → is_same_id u x ≡ t → is_open_standing (cond t Running (standing u trace)) ≡ true → option_and_then program_of_kind (option_or (then_some t kind) (kind_of u trace)) ≡ Some b → ⊥
+    by : (t : Bool) → is_same_id u x ≡ t → is_open_standing (cond t Running (standing u trace)) ≡ true →
+        option_and_then program_of_kind (option_or (then_some t kind) (kind_of u trace)) ≡ Some b → ⊥
     by true e o p = begun kind f (rw e refl) (λ c part q. later u c part q) p
     by false e o p = h.open_kept b u o p a
 open-step trace (Ended v end) s f h later b u o p a = by (is_same_id u v) refl o
@@ -168,7 +180,8 @@ open-step trace e s f h later b u o p a = h.open_kept b u (either (λ g. g) (λ 
 ended-open : (trace : Trace) (e : Event) (v : Id) (end : End) → Fits trace e → e ≡ Ended v end → is_open trace v ≡ true
 ended-open trace e v end f q = (subst (Fits trace) q f).0
 
-committed-step : (trace : Trace) (e : Event) → Fits trace e → Firsts trace → (b u : Id) → is_committed_standing (standing u (trace says e)) ≡ true → program_of u (trace says e) ≡ Some b → In b (abandoned_in (trace says e)) → ⊥
+committed-step : (trace : Trace) (e : Event) → Fits trace e → Firsts trace → (b u : Id) → is_committed_standing (standing u (trace says e)) ≡ true →
+    program_of u (trace says e) ≡ Some b → In b (abandoned_in (trace says e)) → ⊥
 committed-step trace e f h b u c p a = either was now (committed-back trace e u c)
   where
     before : program_of u trace ≡ Some b
@@ -194,7 +207,8 @@ committed-step trace e f h b u c p a = either was now (committed-back trace e u 
     now : (n : ℕ) × (e ≡ Ended u (Committed n)) → ⊥
     now r = either (λ i. h.open_kept b u (ended-open trace e u (Committed r.0) f r.1) before i) (λ x. none-given x.0 x.1 r.0 (sym x.2 ∙ r.1) x.3) (abandoned-back trace e b a)
 
-accepted-step : (trace : Trace) (e : Event) → Fits trace e → Firsts trace → (b : Id) → In b (accepted_in (trace says e)) → In b (abandoned_in (trace says e)) → ⊥
+accepted-step : (trace : Trace) (e : Event) → Fits trace e → Firsts trace → (b : Id) → In b (accepted_in (trace says e)) →
+    In b (abandoned_in (trace says e)) → ⊥
 accepted-step trace e f h b i a =
     either
     (λ j. either (λ k. h.accepted_kept b j k) (λ r. h.new b r.0 (ended-open trace e r.0 r.1 f r.2) (given-first r.1 (first_of r.0 trace) b r.3) j) (abandoned-back trace e b a))
@@ -249,7 +263,8 @@ finish-accepted trace b s h = by (last_said trace) refl h
     by (Some (Accepted c)) q g = last-accepted trace b (q ∙ ap (λ x. Some (Accepted x)) g.0)
     by o q g = absurd g
 
-pub finished-accepted : (trace : Trace) → IsPlayed trace → OfBoots (start_of trace).kept → (b : Id) → In b (finished_in trace) → In b (accepted_in trace)
+pub finished-accepted : (trace : Trace) → IsPlayed trace → OfBoots (start_of trace).kept → (b : Id) → In b (finished_in trace) →
+    In b (accepted_in trace)
 finished-accepted (from k) p w b i = absurd i
 finished-accepted (trace asks asked) p w b i = finished-accepted trace p.0 w b i
 finished-accepted (trace turns c) p w b i = finished-accepted trace p.0 w b i

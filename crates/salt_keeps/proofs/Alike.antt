@@ -28,7 +28,8 @@ alike trace (Waits v owners) u h = record { kind = refl; begun = refl; waiting =
 alike trace (Ended v end) u h = record { kind = refl; begun = refl; waiting = rw h refl; asks = rw h refl; done = refl }
 alike trace e u h = record { kind = refl; begun = refl; waiting = refl; asks = refl; done = refl }
 
-pub keeps-other : (trace : Trace) (e : Event) (o : OpenUnit) → Ground trace → Good trace e → Open trace o.unit → is_unit_of o.unit e ≡ false → KeepsUnit trace o → KeepsUnit (trace says e) o
+pub keeps-other : (trace : Trace) (e : Event) (o : OpenUnit) → Ground trace → Good trace e → Open trace o.unit → is_unit_of o.unit e ≡ false →
+    KeepsUnit trace o → KeepsUnit (trace says e) o
 keeps-other trace e o ground good open_before other k =
     let a = alike trace e o.unit other in
     let run = others trace e o.unit ground good open_before other in

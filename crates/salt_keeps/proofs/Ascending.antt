@@ -19,7 +19,8 @@ pub record Strict {A : Type 0} (R : A → A → Type 0) : Type 0 where
   pub not_self : (x : A) → R x x → ⊥
   pub through : (x y z : A) → R x y → R y z → R x z
 
-pub same-ascending : {A : Type 0} (R : A → A → Type 0) → Strict R → (xs ys : List A) → Ascends R xs → Ascends R ys → ((x : A) → In x xs → In x ys) → ((x : A) → In x ys → In x xs) → xs ≡ ys
+pub same-ascending : {A : Type 0} (R : A → A → Type 0) → Strict R → (xs ys : List A) → Ascends R xs → Ascends R ys → ((x : A) → In x xs → In x ys) →
+    ((x : A) → In x ys → In x xs) → xs ≡ ys
 same-ascending R s [] [] a b f g = refl
 same-ascending R s [] (y ∷ ys) a b f g = absurd (g y (inl refl))
 same-ascending R s (x ∷ xs) [] a b f g = absurd (f x (inl refl))
@@ -66,7 +67,8 @@ insert-ascends : (u : Id) (us : List Id) → Ascends Older us → Ascends Older 
 insert-ascends u [] h = (tt, tt)
 insert-ascends u (v ∷ us) h = by (is_older u v) refl (is_same_id u v) refl (insert-ascends u us h.1)
   where
-    by : (a : Bool) → is_older u v ≡ a → (b : Bool) → is_same_id u v ≡ b → Ascends Older (insert_id u us) → Ascends Older (cond a (u ∷ v ∷ us) (cond b (v ∷ us) (v ∷ insert_id u us)))
+    by : (a : Bool) → is_older u v ≡ a → (b : Bool) → is_same_id u v ≡ b → Ascends Older (insert_id u us) →
+        Ascends Older (cond a (u ∷ v ∷ us) (cond b (v ∷ us) (v ∷ insert_id u us)))
     by true e b f more = ((e, every-older u v us e h.0), h)
     by false e true f more = h
     by false e false f more = (every-put v u us (older-total u v e f) h.0, more)

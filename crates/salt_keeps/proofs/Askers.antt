@@ -30,7 +30,8 @@ use Rattle.salt_values.specs.declared.id.Id.{Id}
 use Rattle.std.proofs.Common.{ap, filter, inl, inr, subst, sym, ◌∙◌}
 use Rattle.std.specs.Prelude.{Bool, List, None, Option, Some, [], cond, false, is_some, map, not, option_and_then, refl, true, ◌++◌, ◌||◌, ◌∷◌, ◌≡◌}
 
-fresh-other : (trace : Trace) (v : Id) (kind : UnitKind) (u : Id) → Sound trace → Fits trace (Began v kind) → is_open trace u ≡ true → is_same_id u v ≡ false
+fresh-other : (trace : Trace) (v : Id) (kind : UnitKind) (u : Id) → Sound trace → Fits trace (Began v kind) → is_open trace u ≡ true →
+    is_same_id u v ≡ false
 fresh-other trace v kind u s f o = subst (λ x. is_same_id u x ≡ false) (sym f.0) (not-fresh trace u s f.1 (open-named trace u o))
 
 -- a unit in the list of the waiting ones waits
@@ -55,7 +56,8 @@ known-at : (trace : Trace) (e : Event) → IsPlayed (trace says e) → OfBoots (
 known-at trace e p w = let k = holds trace p.0 w in record { sound = k.sound; fits = may-fit trace e k.comes p.1; good = good-event trace e (replays trace p.0) p.1; ground = (replays trace p.0).base }
 
 -- a waiting unit through an event of another
-asker-stays : (trace : Trace) (e : Event) (u : Id) → At trace e → standing u trace ≡ Waiting → is_unit_of u e ≡ false → asker (trace says e) u ≡ asker trace u
+asker-stays : (trace : Trace) (e : Event) (u : Id) → At trace e → standing u trace ≡ Waiting → is_unit_of u e ≡ false →
+    asker (trace says e) u ≡ asker trace u
 asker-stays trace e u a w d = λ i. record { unit = u; base = option_and_then program_of_kind (kind i); family = family_of (kind i); asked = asked i; reach = reaches i }
   where
     o : is_open trace u ≡ true
@@ -94,11 +96,13 @@ map-same : (f g : Id → Asker) (us : List Id) → ((x : Id) → In x us → f x
 map-same f g [] h = refl
 map-same f g (u ∷ us) h = λ i. h u (inl refl) i ∷ map-same f g us (λ x m. h x (inr m)) i
 
-drop-map : (f : Id → Asker) (trace : Trace) (u : Id) (us : List Id) → ((x : Id) → In x us → is_same_id x u ≡ false → f x ≡ asker trace x) → map f (without (u ∷ []) us) ≡ drop_asker u (map (asker trace) us)
+drop-map : (f : Id → Asker) (trace : Trace) (u : Id) (us : List Id) → ((x : Id) → In x us → is_same_id x u ≡ false → f x ≡ asker trace x) →
+    map f (without (u ∷ []) us) ≡ drop_asker u (map (asker trace) us)
 drop-map f trace u [] h = refl
 drop-map f trace u (x ∷ us) h = by (is_same_id x u) refl (drop-map f trace u us (λ y m. h y (inr m)))
   where
-    by : (t : Bool) → is_same_id x u ≡ t → map f (without (u ∷ []) us) ≡ drop_asker u (map (asker trace) us) → map f (cond (not (t || false)) (x ∷ without (u ∷ []) us) (without (u ∷ []) us)) ≡ cond (not (t || false)) (asker trace x ∷ drop_asker u (map (asker trace) us)) (drop_asker u (map (asker trace) us))
+    by : (t : Bool) → is_same_id x u ≡ t → map f (without (u ∷ []) us) ≡ drop_asker u (map (asker trace) us) →
+        map f (cond (not (t || false)) (x ∷ without (u ∷ []) us) (without (u ∷ []) us)) ≡ cond (not (t || false)) (asker trace x ∷ drop_asker u (map (asker trace) us)) (drop_asker u (map (asker trace) us))
     by true e more = more
     by false e more = λ i. h x (inl refl) e i ∷ more i
 
@@ -111,7 +115,8 @@ asks-at : (trace : Trace) (e : Event) → IsPlayed (trace says e) → OfBoots (s
 asks-at trace (Waits u owners) p w = subst (IfComes (Asks trace)) p.1 (asks-next trace p.0 w)
 asks-at trace e p w = tt
 
-pub waiting-says : (trace : Trace) (e : Event) → IsPlayed (trace says e) → OfBoots (start_of trace).kept → waiting (trace says e) ≡ waiting_after trace e (waiting trace)
+pub waiting-says : (trace : Trace) (e : Event) → IsPlayed (trace says e) → OfBoots (start_of trace).kept →
+    waiting (trace says e) ≡ waiting_after trace e (waiting trace)
 waiting-says trace (Waits u owners) p w =
     let here = trace says Waits u owners in
     let a = known-at trace (Waits u owners) p w in
@@ -148,7 +153,8 @@ all-ask (trace asks asked) p w = subst (Every (λ w. is_some w.asked ≡ true)) 
 all-ask (trace turns b) p w = subst (Every (λ w. is_some w.asked ≡ true)) (sym (waiting-turns trace b p.0 w)) (all-ask trace p.0 w)
 all-ask (trace says e) p w = subst (Every (λ w. is_some w.asked ≡ true)) (sym (waiting-says trace e p w)) (by e (asks-at trace e p w) (all-ask trace p.0 w))
   where
-    by : (e : Event) → Asks trace e → Every (λ w. is_some w.asked ≡ true) (waiting trace) → Every (λ w. is_some w.asked ≡ true) (waiting_after trace e (waiting trace))
+    by : (e : Event) → Asks trace e → Every (λ w. is_some w.asked ≡ true) (waiting trace) →
+        Every (λ w. is_some w.asked ≡ true) (waiting_after trace e (waiting trace))
     by (Waits u owners) a h = every-append (λ (w : Asker). is_some w.asked ≡ true) (drop_asker u (waiting trace)) (asker trace u ∷ []) (every-drop u (waiting trace) h) (ap is_some a.1.1, tt)
     by (Did u st x) a h = every-drop u (waiting trace) h
     by (Ended u end) a h = every-drop u (waiting trace) h

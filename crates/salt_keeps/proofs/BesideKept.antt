@@ -44,7 +44,8 @@ map-in : {A B : Type 0} (f g : A → B) (xs : List A) → ((x : A) → In x xs �
 map-in f g [] h = refl
 map-in f g (x ∷ xs) h = λ i. h x (inl refl) i ∷ map-in f g xs (λ y m. h y (inr m)) i
 
-parts-told : (trace : Trace) (os : List OpenUnit) → Every (KeepsUnit trace) os → filter_map (λ u. option_and_then program_begun (kind_of u trace)) (names_in os) ≡ first_parts os
+parts-told : (trace : Trace) (os : List OpenUnit) → Every (KeepsUnit trace) os →
+    filter_map (λ u. option_and_then program_begun (kind_of u trace)) (names_in os) ≡ first_parts os
 parts-told trace [] h = refl
 parts-told trace (o ∷ os) h = let k = h.0 in λ i. cons_option (option_and_then program_begun (k.kind i)) (parts-told trace os h.1 i)
 

@@ -37,14 +37,16 @@ Another b o = (c : Id) → option_and_then program_of_kind o ≡ Some c → is_s
 not-its-own : (b : Id) (o : Option UnitKind) → Another b o → option_and_then program_of_kind o ≡ Some b → ⊥
 not-its-own b o a e = let x : true ≡ false = sym (is_same_id-refl b) ∙ a b e in cc
 
-cont-committed : (b : Id) (k : Kept) (n : ℕ) (o : Option UnitKind) (vars : List Binding) → Another b o → cont_in b (conts_at k n o vars) ≡ cont_in b k.conts
+cont-committed : (b : Id) (k : Kept) (n : ℕ) (o : Option UnitKind) (vars : List Binding) → Another b o →
+    cont_in b (conts_at k n o vars) ≡ cont_in b k.conts
 cont-committed b k n None vars a = refl
 cont-committed b k n (Some kind) vars a = conts-stay-committed b k n kind vars (not-its-own b (Some kind) a)
 
 cont-branched : (b : Id) (k : Kept) (kind : UnitKind) → Another b (Some kind) → cont_in b (conts_branched k kind) ≡ cont_in b k.conts
 cont-branched b k kind a = conts-stay-branched b k kind (not-its-own b (Some kind) a)
 
-another : (trace : Trace) (u v : Id) → Sound trace → is_open trace u ≡ true → is_open trace v ≡ true → is_same_id u v ≡ false → (b : Id) → program_of u trace ≡ Some b → (c : Id) → program_of v trace ≡ Some c → is_same_id b c ≡ false
+another : (trace : Trace) (u v : Id) → Sound trace → is_open trace u ≡ true → is_open trace v ≡ true → is_same_id u v ≡ false → (b : Id) →
+    program_of u trace ≡ Some b → (c : Id) → program_of v trace ≡ Some c → is_same_id b c ≡ false
 another trace u v s o p d b e c q = by (is_same_id b c) refl
   where
     by : (t : Bool) → is_same_id b c ≡ t → t ≡ false
@@ -62,13 +64,15 @@ stays-branched : (k : Kept) (n : ℕ) (v : Option UnitKind) (p : Option Id) → 
 stays-branched k n None p a = record { definitions = refl; conts = λ b e. refl }
 stays-branched k n (Some kind) p a = record { definitions = refl; conts = λ b e. cont-branched b k kind (a b e) }
 
-kept-stays : (trace : Trace) (e : Event) (u : Id) → Sound trace → Fits trace e → Good trace e → is_open trace u ≡ true → is_unit_of u e ≡ false → StaysFor (kept trace) (kept (trace says e)) (program_of u trace)
+kept-stays : (trace : Trace) (e : Event) (u : Id) → Sound trace → Fits trace e → Good trace e → is_open trace u ≡ true → is_unit_of u e ≡ false →
+    StaysFor (kept trace) (kept (trace says e)) (program_of u trace)
 kept-stays trace (Ended v (Committed n)) u s f g o d = record { definitions = refl; conts = λ b e. cont-committed b (kept trace) n (kind_of v trace) (run_of v trace).vars (another trace u v s o f.0 d b e) }
 kept-stays trace (Ended v (Branched n c)) u s f g o d = stays-branched (kept trace) n (kind_of v trace) (program_of u trace) (λ b e. another trace u v s o f.0 d b e)
 kept-stays trace (Defined n t) u s f g o d = absurd (subst (In u) g (into-filter (is_open trace) u (units_begun trace) (kind-in trace u (s.known u o)) o))
 kept-stays trace e u s f g o d = record { definitions = refl; conts = λ b e. refl }
 
-block-stays : (old new : Kept) (o : Option UnitKind) → StaysFor old new (option_and_then program_of_kind o) → option_and_then (block_of_kind new) o ≡ option_and_then (block_of_kind old) o
+block-stays : (old new : Kept) (o : Option UnitKind) → StaysFor old new (option_and_then program_of_kind o) →
+    option_and_then (block_of_kind new) o ≡ option_and_then (block_of_kind old) o
 block-stays old new None s = refl
 block-stays old new (Some (Acid z)) s = refl
 block-stays old new (Some (Call z n args)) s = ap (λ ds. option_map block_of_call (program_named (filter_map program_of_definition ds) n)) s.definitions
@@ -89,14 +93,16 @@ abbrev pub waits_to : Option (List Statement) → List Statement → Line → Op
 waits_to (Some block) done line = slice_get block (length done)
 waits_to None done line = statement_of_line line
 
-pub asked-waiting : (trace : Trace) (u : Id) → standing u trace ≡ Waiting → asked_by u trace ≡ waits_to (block_of u trace) (done_of u trace) (line_waited u trace)
+pub asked-waiting : (trace : Trace) (u : Id) → standing u trace ≡ Waiting →
+    asked_by u trace ≡ waits_to (block_of u trace) (done_of u trace) (line_waited u trace)
 asked-waiting trace u w = by (block_of u trace)
   where
     by : (o : Option (List Statement)) → statement_in u trace o ≡ waits_to o (done_of u trace) (line_waited u trace)
     by (Some block) = refl
     by None = rw w refl
 
-pub asked-stays : (trace : Trace) (e : Event) (u : Id) → Sound trace → Fits trace e → Good trace e → standing u trace ≡ Waiting → is_unit_of u e ≡ false → asked_by u (trace says e) ≡ asked_by u trace
+pub asked-stays : (trace : Trace) (e : Event) (u : Id) → Sound trace → Fits trace e → Good trace e → standing u trace ≡ Waiting →
+    is_unit_of u e ≡ false → asked_by u (trace says e) ≡ asked_by u trace
 asked-stays trace e u s f g w d =
     asked-waiting (trace says e) u (standing-other u e (standing u trace) d ∙ w)
     ∙ (λ i. waits_to (block i) (done-other trace e u d i) (waited-other trace e u d i))
@@ -109,7 +115,8 @@ asked-stays trace e u s f g w d =
     block = ap (option_and_then (block_of_kind (kept (trace says e)))) (kind-stays trace e u s f (s.known u o)) ∙ block-stays (kept trace) (kept (trace says e)) (kind_of u trace) (kept-stays trace e u s f g o d)
 
 -- and what its statement would reach
-pub reach-stays : (trace : Trace) (e : Event) (u : Id) → Sound trace → Fits trace e → Good trace e → Ground trace → is_open trace u ≡ true → is_unit_of u e ≡ false → (st : Statement) → reach_now u (trace says e) st ≡ reach_now u trace st
+pub reach-stays : (trace : Trace) (e : Event) (u : Id) → Sound trace → Fits trace e → Good trace e → Ground trace → is_open trace u ≡ true →
+    is_unit_of u e ≡ false → (st : Statement) → reach_now u (trace says e) st ≡ reach_now u trace st
 reach-stays trace e u s f g ground o d st =
     (λ i. reach (filter_map table_of_definition ((kept-stays trace e u s f g o d).definitions i)) (vars i) st)
   where

@@ -25,7 +25,8 @@ use Rattle.std.specs.Ordering.{is_eq}
 use Rattle.std.specs.Prelude.{Bool, IsTrue, List, None, Option, Some, [], cond, false, map, not, refl, true, ℕ, ◌||◌, ◌↔◌, ◌∷◌, ◌≡◌, ◌⊎◌}
 
 -- keys written one after another
-wrote-writer : (base : Option Id) (ps : List Place) (old new : Dependencies) → WroteAll base ps old new → (q : Place) → new.writer q ≡ cond (list_any (λ p. is_eq (place_cmp q p)) ps) base (old.writer q)
+wrote-writer : (base : Option Id) (ps : List Place) (old new : Dependencies) → WroteAll base ps old new → (q : Place) →
+    new.writer q ≡ cond (list_any (λ p. is_eq (place_cmp q p)) ps) base (old.writer q)
 wrote-writer base [] old new w q = w.writer q
 wrote-writer base (p ∷ ps) old new w q = wrote-writer base ps w.0 new w.2 q ∙ ap (cond (list_any (λ p. is_eq (place_cmp q p)) ps) base) (w.1.writer q) ∙ by (list_any (λ p. is_eq (place_cmp q p)) ps) (is_eq (place_cmp q p))
   where
@@ -38,16 +39,19 @@ wrote-writer base (p ∷ ps) old new w q = wrote-writer base ps w.0 new w.2 q �
 both : {A B C : Type 0} → A ↔ B → B ↔ C → A ↔ C
 both f g = ((λ a. g.0 (f.0 a)), (λ c. f.1 (g.1 c)))
 
-pub wrote-reads : (base : Option Id) (ps : List Place) (old new : Dependencies) → WroteAll base ps old new → (x y : Id) → IsTrue (new.reads x y) ↔ IsTrue (old.reads x y)
+pub wrote-reads : (base : Option Id) (ps : List Place) (old new : Dependencies) → WroteAll base ps old new → (x y : Id) →
+    IsTrue (new.reads x y) ↔ IsTrue (old.reads x y)
 wrote-reads base [] old new w x y = w.reads x y
 wrote-reads base (p ∷ ps) old new w x y = both (wrote-reads base ps w.0 new w.2 x y) (w.1.reads x y)
 
-pub wrote-finished : (base : Option Id) (ps : List Place) (old new : Dependencies) → WroteAll base ps old new → (b : Id) → IsTrue (new.finished b) ↔ IsTrue (old.finished b)
+pub wrote-finished : (base : Option Id) (ps : List Place) (old new : Dependencies) → WroteAll base ps old new → (b : Id) →
+    IsTrue (new.finished b) ↔ IsTrue (old.finished b)
 wrote-finished base [] old new w b = w.finished b
 wrote-finished base (p ∷ ps) old new w b = both (wrote-finished base ps w.0 new w.2 b) (w.1.finished b)
 
 -- a commit: each key that the unit's changes name is written by its program
-pub commit-fits : (facts : UnitFacts) (u : Id) (n : ℕ) (old new : Dependencies) → WroteAll (base_by facts) (map (λ e. e.0) facts.changes) old new → DependenciesBy facts (Ended u (Committed n)) old new
+pub commit-fits : (facts : UnitFacts) (u : Id) (n : ℕ) (old new : Dependencies) → WroteAll (base_by facts) (map (λ e. e.0) facts.changes) old new →
+    DependenciesBy facts (Ended u (Committed n)) old new
 commit-fits facts u n old new w = record {
   writer = λ q. wrote-writer (base_by facts) (map (λ e. e.0) facts.changes) old new w q ∙ ap (λ t. cond t (base_by facts) (old.writer q)) (sym (is_some-find place_cmp q facts.changes));
   reads = λ x y. let r = wrote-reads (base_by facts) (map (λ e. e.0) facts.changes) old new w x y in ((λ t. (r.0 t, refl)), (λ t. r.1 t.0));
@@ -55,7 +59,8 @@ commit-fits facts u n old new w = record {
 }
 
 -- a statement of a subtransaction
-pub read-fits : (facts : UnitFacts) (u b : Id) (st : Statement) (a : Answer) (r : Reach) (old new : Dependencies) → base_by facts ≡ Some b → facts.reach ≡ Some r → HasRead b r old new → DependenciesBy facts (Did u st a) old new
+pub read-fits : (facts : UnitFacts) (u b : Id) (st : Statement) (a : Answer) (r : Reach) (old new : Dependencies) → base_by facts ≡ Some b →
+    facts.reach ≡ Some r → HasRead b r old new → DependenciesBy facts (Did u st a) old new
 read-fits facts u b st a r old new p h d = record {
   writer = d.writer;
   reads = λ x y. let q = d.reads x y in (
@@ -69,22 +74,27 @@ read-fits facts u b st a r old new p h d = record {
     some-same b x e = cc
 
 -- a statement of an ACID unit, or one that reaches nothing, changes nothing
-pub unread-fits : (facts : UnitFacts) (u : Id) (st : Statement) (a : Answer) (old : Dependencies) → (base_by facts ≡ None) ⊎ (facts.reach ≡ None) → DependenciesBy facts (Did u st a) old old
+pub unread-fits : (facts : UnitFacts) (u : Id) (st : Statement) (a : Answer) (old : Dependencies) → (base_by facts ≡ None) ⊎ (facts.reach ≡ None) →
+    DependenciesBy facts (Did u st a) old old
 unread-fits facts u st a old n = record {
   writer = λ q. refl;
   reads = λ x y. ((λ t. inl t), (λ t. either (λ o. o) (λ m. absurd (none x y m n)) t));
   finished = λ b. ((λ t. t), (λ t. t));
 }
   where
-    none : (x y : Id) → (base_by facts ≡ Some x) × (is_same_id y x ≡ false) × WritesIn old.writer (facts.reach) y → (base_by facts ≡ None) ⊎ (facts.reach ≡ None) → ⊥
+    none : (x y : Id) → (base_by facts ≡ Some x) × (is_same_id y x ≡ false) × WritesIn old.writer (facts.reach) y →
+        (base_by facts ≡ None) ⊎ (facts.reach ≡ None) → ⊥
     none x y m (inl e) = let q : None ≡ Some x = sym e ∙ m.0 in cc
     none x y m (inr e) = subst (λ o. WritesIn old.writer o y) e m.2
 
 -- a first part that ends without a commit
-abandon-given : (facts : UnitFacts) (u b : Id) (end : End) (old new : Dependencies) → (o : Option Id) → o ≡ Some b → ((x : Id) → has_id x (given_up end o) ≡ is_same_id x b) → HasAbandoned b old new → (x y : Id) → IsTrue (new.reads x y) ↔ (IsTrue (old.reads x y) × (has_id x (given_up end o) ≡ false))
+abandon-given : (facts : UnitFacts) (u b : Id) (end : End) (old new : Dependencies) → (o : Option Id) → o ≡ Some b →
+    ((x : Id) → has_id x (given_up end o) ≡ is_same_id x b) → HasAbandoned b old new → (x y : Id) →
+    IsTrue (new.reads x y) ↔ (IsTrue (old.reads x y) × (has_id x (given_up end o) ≡ false))
 abandon-given facts u b end old new o e g d x y = let q = d.reads x y in ((λ t. let r = q.0 t in (r.0, g x ∙ r.1)), (λ t. q.1 (t.0, sym (g x) ∙ t.1)))
 
-pub abandon-fits : (facts : UnitFacts) (u b : Id) (end : End) (old new : Dependencies) → (IsCommitted end → ⊥) → first_by facts ≡ Some b → HasAbandoned b old new → DependenciesBy facts (Ended u end) old new
+pub abandon-fits : (facts : UnitFacts) (u b : Id) (end : End) (old new : Dependencies) → (IsCommitted end → ⊥) → first_by facts ≡ Some b →
+    HasAbandoned b old new → DependenciesBy facts (Ended u end) old new
 abandon-fits facts u b end old new c e d = record {
   writer = λ q. d.writer q ∙ kept end c q;
   reads = abandon-given facts u b end old new (first_by facts) e (given end c) d;
@@ -134,7 +144,8 @@ has-order : (b : Id) (bs : List Id) → has_id b (in_order bs) ≡ has_id b bs
 has-order b bs = same-bool _ _ (λ e. in-has b bs (in-order b bs (has-in b (in_order bs) e))) (λ e. in-has b (in_order bs) (into-order b bs (has-in b bs e)))
 
 -- what is kept after the release that follows
-pub finish-leaves : (facts : UnitFacts) (c : Id) (bs : List Id) (old new : Dependencies) → HasFinished c bs old new → DependenciesBy facts (Released (in_order bs)) (marked c old) new
+pub finish-leaves : (facts : UnitFacts) (c : Id) (bs : List Id) (old new : Dependencies) → HasFinished c bs old new →
+    DependenciesBy facts (Released (in_order bs)) (marked c old) new
 finish-leaves facts c bs old new h = record {
   writer = λ q. h.writer q ∙ among (old.writer q);
   reads = λ x y. (

@@ -35,7 +35,8 @@ kept-reads trace d k b c kept-itself = itself
 kept-reads trace d k b c (kept-through {c = x} h r) = through (in-has x (read_directly b trace) ((k.reads b x).0 h).reads) (kept-reads trace d k x c r)
 
 -- by kept pairs one comes only to programs that are not released
-kept-unreleased : (trace : Trace) (d : Dependencies) → KeepsDependencies d trace → (b c : Id) → Through d.reads b c → has_id b (released_in trace) ≡ false → has_id c (released_in trace) ≡ false
+kept-unreleased : (trace : Trace) (d : Dependencies) → KeepsDependencies d trace → (b c : Id) → Through d.reads b c →
+    has_id b (released_in trace) ≡ false → has_id c (released_in trace) ≡ false
 kept-unreleased trace d k b c kept-itself n = n
 kept-unreleased trace d k b c (kept-through {c = x} h r) n = kept-unreleased trace d k x c r ((k.reads b x).0 h).source
 
@@ -49,7 +50,8 @@ or-false-first true e h = cc
 or-false-first false e h = cc
 
 -- reads between programs that are not released are kept
-reads-kept : (trace : Trace) (d : Dependencies) → Salty trace → Sources trace → Firsts trace → KeepsDependencies d trace → (b c : Id) → IsKnown trace b → has_id c (released_in trace) ≡ false → ReadsThrough trace b c → Through d.reads b c
+reads-kept : (trace : Trace) (d : Dependencies) → Salty trace → Sources trace → Firsts trace → KeepsDependencies d trace → (b c : Id) →
+    IsKnown trace b → has_id c (released_in trace) ≡ false → ReadsThrough trace b c → Through d.reads b c
 reads-kept trace d z s f k b c known n itself = kept-itself
 reads-kept trace d z s f k b c known n (through {c = x} i r) = kept-through ((k.reads b x).1 (record { reads = read; reader = record { unreleased = known.unreleased; kept = known.kept }; source = live })) (reads-kept trace d z s f k x c (accepted-known trace x f (s.read b x read) live) n r)
   where
@@ -61,7 +63,9 @@ reads-kept trace d z s f k b c known n (through {c = x} i r) = kept-through ((k.
 
 -- RELEASES
 
-due-of : (trace : Trace) (d : Dependencies) → Salty trace → Sources trace → Firsts trace → ((b : Id) → In b (finished_in trace) → In b (accepted_in trace)) → KeepsDependencies d trace → (b : Id) → IsTrue (has_id b (to_release trace)) ↔ IsDue d b
+due-of : (trace : Trace) (d : Dependencies) → Salty trace → Sources trace → Firsts trace →
+    ((b : Id) → In b (finished_in trace) → In b (accepted_in trace)) → KeepsDependencies d trace → (b : Id) →
+    IsTrue (has_id b (to_release trace)) ↔ IsDue d b
 due-of trace d z s f g k b = (
   (λ h. let r = (to_release-exact trace z.closed b).0 h in record {
     finished = live b r.0 (r.1 b itself);
@@ -70,14 +74,16 @@ due-of trace d z s f g k b = (
   (λ h. let own = (k.finished b).0 h.finished in (to_release-exact trace z.closed b).1 (own.unreleased, λ c r. may-go own c r h.sources (has_id c (released_in trace)) refl)),
 )
   where
-    live : (c : Id) → has_id c (released_in trace) ≡ false → (has_id c (finished_in trace) || has_id c (released_in trace)) ≡ true → IsTrue (d.finished c)
+    live : (c : Id) → has_id c (released_in trace) ≡ false → (has_id c (finished_in trace) || has_id c (released_in trace)) ≡ true →
+        IsTrue (d.finished c)
     live c n h = (k.finished c).1 (record { finished = has-in c (finished_in trace) (either (λ e. e) (λ e. absurd (or-false-first (has_id c (released_in trace)) n (sym e))) (or_cases (has_id c (finished_in trace)) _ h)); unreleased = n })
 
     or-first : (p q : Bool) → p ≡ true → (p || q) ≡ true
     or-first true q h = refl
     or-first false q h = cc
 
-    may-go : FinishedLive trace b → (c : Id) → ReadsThrough trace b c → ((c : Id) → Through d.reads b c → IsTrue (d.finished c)) → (t : Bool) → has_id c (released_in trace) ≡ t → (has_id c (finished_in trace) || has_id c (released_in trace)) ≡ true
+    may-go : FinishedLive trace b → (c : Id) → ReadsThrough trace b c → ((c : Id) → Through d.reads b c → IsTrue (d.finished c)) → (t : Bool) →
+        has_id c (released_in trace) ≡ t → (has_id c (finished_in trace) || has_id c (released_in trace)) ≡ true
     may-go own c r all true e = or_right_true (has_id c (finished_in trace)) _ e
     may-go own c r all false e =
         let known = accepted-known trace b f (g b own.finished) own.unreleased in
@@ -96,12 +102,14 @@ shrink-ascends : (test : List Id → Id → Bool) (n : ℕ) (us : List Id) → A
 shrink-ascends test zero us h = h
 shrink-ascends test (suc n) us h = by (list_all (test us) us) (shrink-ascends test n (filter (test us) us) (filter-ascends (test us) us h))
   where
-    by : (b : Bool) → Ascends Older (shrink test n (filter (test us) us)) → Ascends Older (elim b [ true ↦ us | false ↦ shrink test n (filter (test us) us) ])
+    by : (b : Bool) → Ascends Older (shrink test n (filter (test us) us)) →
+        Ascends Older (elim b [ true ↦ us | false ↦ shrink test n (filter (test us) us) ])
     by true more = h
     by false more = more
 
 -- the programs to release are those that are due by what is kept, in order of names
-pub release-from : (trace : Trace) (d : Dependencies) → IsPlayed trace → WellKept (start_of trace).kept → KeepsDependencies d trace → (bs : List Id) → ((b : Id) → In b bs ↔ IsDue d b) → to_release trace ≡ in_order bs
+pub release-from : (trace : Trace) (d : Dependencies) → IsPlayed trace → WellKept (start_of trace).kept → KeepsDependencies d trace → (bs : List Id) →
+    ((b : Id) → In b bs ↔ IsDue d b) → to_release trace ≡ in_order bs
 release-from trace d p w k bs h =
     order-of-ascending (to_release trace) bs (shrink-ascends (reads_within trace) _ _ (order-ascends (without (released_in trace) (finished_in trace))))
     (λ b i. (h b).1 ((due b).0 (in-has b (to_release trace) i))) (λ b i. has-in b (to_release trace) ((due b).1 ((h b).0 i)))
@@ -137,21 +145,25 @@ same-bool true false f g = sym (f refl)
 same-bool false true f g = g refl
 same-bool false false f g = refl
 
-waiting-same : (trace : Trace) (d : Dependencies) → Sound trace → Salty trace → Sources trace → Firsts trace → KeepsDependencies d trace → (c : Id) → IsKnown trace c → (bs : List Id) → ((b : Id) → In b bs ↔ Through d.reads c b) → waiting_of trace (sources trace c) ≡ waiting_of trace bs
+waiting-same : (trace : Trace) (d : Dependencies) → Sound trace → Salty trace → Sources trace → Firsts trace → KeepsDependencies d trace → (c : Id) →
+    IsKnown trace c → (bs : List Id) → ((b : Id) → In b bs ↔ Through d.reads c b) → waiting_of trace (sources trace c) ≡ waiting_of trace bs
 waiting-same trace d s z r f k c known bs h = filter-same _ _ (wait_list trace) (λ u i. same-bool _ _ (forth u i) (back u))
   where
-    forth : (u : Id) → In u (wait_list trace) → list_any (λ b. not (is_finished trace b) && is_of_program b trace u) (sources trace c) ≡ true → list_any (λ b. not (is_finished trace b) && is_of_program b trace u) bs ≡ true
+    forth : (u : Id) → In u (wait_list trace) → list_any (λ b. not (is_finished trace b) && is_of_program b trace u) (sources trace c) ≡ true →
+        list_any (λ b. not (is_finished trace b) && is_of_program b trace u) bs ≡ true
     forth u i e =
         let m = any-in (λ b. not (is_finished trace b) && is_of_program b trace u) (sources trace c) e in
         let live : has_id m.0 (released_in trace) ≡ false = not-in m.0 (released_in trace) (λ j. s.alive m.0 u (wait-open trace u i) (and_right (not (is_finished trace m.0)) _ m.2) (inr j)) in
         into-any (λ b. not (is_finished trace b) && is_of_program b trace u) m.0 bs ((h m.0).1 (reads-kept trace d z r f k c m.0 known live ((sources-exact trace r c m.0).0 m.1))) m.2
 
-    back : (u : Id) → list_any (λ b. not (is_finished trace b) && is_of_program b trace u) bs ≡ true → list_any (λ b. not (is_finished trace b) && is_of_program b trace u) (sources trace c) ≡ true
+    back : (u : Id) → list_any (λ b. not (is_finished trace b) && is_of_program b trace u) bs ≡ true →
+        list_any (λ b. not (is_finished trace b) && is_of_program b trace u) (sources trace c) ≡ true
     back u e =
         let m = any-in (λ b. not (is_finished trace b) && is_of_program b trace u) bs e in
         into-any (λ b. not (is_finished trace b) && is_of_program b trace u) m.0 (sources trace c) ((sources-exact trace r c m.0).1 (kept-reads trace d k c m.0 ((h m.0).0 m.1))) m.2
 
-pub waiting-from : (trace : Trace) (d : Dependencies) → IsPlayed trace → WellKept (start_of trace).kept → KeepsDependencies d trace → (c : Id) → IsKnown trace c → (bs : List Id) → ((b : Id) → In b bs ↔ Through d.reads c b) → waiting_of trace (sources trace c) ≡ waiting_of trace bs
+pub waiting-from : (trace : Trace) (d : Dependencies) → IsPlayed trace → WellKept (start_of trace).kept → KeepsDependencies d trace → (c : Id) →
+    IsKnown trace c → (bs : List Id) → ((b : Id) → In b bs ↔ Through d.reads c b) → waiting_of trace (sources trace c) ≡ waiting_of trace bs
 waiting-from trace d p w k c known bs h =
     let o : OfBoots (start_of trace).kept = of-start (start_of trace).kept w in
     waiting-same trace d (holds trace p o).sound (holds trace p o).salty (source-facts trace p o) (firsts trace p o) k c known bs h

@@ -34,7 +34,8 @@ stands-next trace (Down why) h m = cc
 stands-next trace (Opened boot n) h m = cc
 stands-next trace e h m = m
 
-pub trace-says : (trace : Trace) (e : Event) → IsPlayed (trace says e) → WellKept (start_of trace).kept → is_of_run e ≡ false → Says e (point_of trace) (point_of (trace says e))
+pub trace-says : (trace : Trace) (e : Event) → IsPlayed (trace says e) → WellKept (start_of trace).kept → is_of_run e ≡ false →
+    Says e (point_of trace) (point_of (trace says e))
 trace-says trace e p w h = record {
   comes = stands-next trace e h p.1;
   after = plain-says e (state_of trace);
@@ -43,7 +44,8 @@ trace-says trace e p w h = record {
   flight = flight-kept trace e (next (trace says e)) refl;
 }
 
-pub trace-asks : (trace : Trace) (asked : Asked) → IsPlayed (trace asks asked) → WellKept (start_of trace).kept → Asks asked (point_of trace) (point_of (trace asks asked))
+pub trace-asks : (trace : Trace) (asked : Asked) → IsPlayed (trace asks asked) → WellKept (start_of trace).kept →
+    Asks asked (point_of trace) (point_of (trace asks asked))
 trace-asks trace asked p w = let keeps = each-kept trace p.0 w in record {
   idle = record { serves = sym keeps.units.phase ∙ p.1.0; next = p.1.1; turn = sym (turn-kept (as_state (state_of trace)) trace keeps) ∙ p.1.2 };
   state = refl;
@@ -52,7 +54,8 @@ trace-asks trace asked p w = let keeps = each-kept trace p.0 w in record {
   flight = refl;
 }
 
-pub trace-turns : (trace : Trace) (b : Id) → IsPlayed (trace turns b) → WellKept (start_of trace).kept → Turns b (point_of trace) (point_of (trace turns b))
+pub trace-turns : (trace : Trace) (b : Id) → IsPlayed (trace turns b) → WellKept (start_of trace).kept →
+    Turns b (point_of trace) (point_of (trace turns b))
 trace-turns trace b p w = let keeps = each-kept trace p.0 w in record {
   serves = sym keeps.units.phase ∙ p.1;
   none = p.2;
@@ -69,7 +72,8 @@ is-of-units trace (Down why) h = cc
 is-of-units trace (Opened boot n) h = cc
 is-of-units trace e h = refl
 
-pub trace-falls : (trace : Trace) (why : Why) → IsPlayed (trace says Down why) → WellKept (start_of trace).kept → phase trace ≡ Serving → Falls why (point_of trace) (point_of (trace says Down why))
+pub trace-falls : (trace : Trace) (why : Why) → IsPlayed (trace says Down why) → WellKept (start_of trace).kept → phase trace ≡ Serving →
+    Falls why (point_of trace) (point_of (trace says Down why))
 trace-falls trace why p w serves = by (next trace) refl
   where
     device : is_device_next trace (next trace) ≡ true

@@ -18,7 +18,8 @@ pub insert-put : {X : Type 0} (p : Place) (row : X) (es : List (Place × X)) →
 insert-put p row [] = refl
 insert-put p row (e ∷ es) = by (place_cmp p e.0) (insert-put p row es)
   where
-    by : (r : Ordering) → insert_entry place_cmp es p row ≡ put place_cmp p row es → match_ordering r ((p, row) ∷ e ∷ es) ((e.0, row) ∷ es) (e ∷ insert_entry place_cmp es p row) ≡ by_order r ((p, row) ∷ e ∷ es) ((e.0, row) ∷ es) (e ∷ put place_cmp p row es)
+    by : (r : Ordering) → insert_entry place_cmp es p row ≡ put place_cmp p row es →
+        match_ordering r ((p, row) ∷ e ∷ es) ((e.0, row) ∷ es) (e ∷ insert_entry place_cmp es p row) ≡ by_order r ((p, row) ∷ e ∷ es) ((e.0, row) ∷ es) (e ∷ put place_cmp p row es)
     by Less same = refl
     by Equal same = refl
     by Greater same = ap (λ more. e ∷ more) same
@@ -44,11 +45,13 @@ none-there p q tie (e ∷ es) h =
     let apart : is_eq (place_cmp p e.0) ≡ false = ap is_eq (place_total.congr p q e.0 tie) ∙ below-apart (place_cmp q e.0) (first _ _ h) in
     λ i. cond (not (apart i)) (e ∷ rest i) (rest i)
 
-pub remove-where : (p : Place) (es : List Entry) → T (is_sorted place_cmp es) → remove_entry (is_at (place_cmp p)) es ≡ where_key place_cmp (is_other p) es
+pub remove-where : (p : Place) (es : List Entry) → T (is_sorted place_cmp es) →
+    remove_entry (is_at (place_cmp p)) es ≡ where_key place_cmp (is_other p) es
 remove-where p [] h = refl
 remove-where p (e ∷ es) h = by (place_cmp p e.0) refl (remove-where p es (second (below_all place_cmp e.0 es) _ h))
   where
-    by : (r : Ordering) → place_cmp p e.0 ≡ r → remove_entry (is_at (place_cmp p)) es ≡ where_key place_cmp (is_other p) es → cond (is_eq r) es (e ∷ remove_entry (is_at (place_cmp p)) es) ≡ cond (not (is_eq r)) (e ∷ where_key place_cmp (is_other p) es) (where_key place_cmp (is_other p) es)
+    by : (r : Ordering) → place_cmp p e.0 ≡ r → remove_entry (is_at (place_cmp p)) es ≡ where_key place_cmp (is_other p) es →
+        cond (is_eq r) es (e ∷ remove_entry (is_at (place_cmp p)) es) ≡ cond (not (is_eq r)) (e ∷ where_key place_cmp (is_other p) es) (where_key place_cmp (is_other p) es)
     by Equal tie more = sym (none-there p e.0 tie es (first _ _ h))
     by Less tie more = ap (λ xs. e ∷ xs) more
     by Greater tie more = ap (λ xs. e ∷ xs) more
@@ -57,10 +60,12 @@ pub one-more : (ds : List Edit) (d : Edit) (es : Tables) → with_edits (ds ++ d
 one-more [] d es = refl
 one-more (x ∷ ds) d es = one-more ds d (set_row x.0 x.1 es)
 
-pub row-put : (ds : List Edit) (p : Place) (row : List Value) (es : Tables) (rows : List Entry) → rows ≡ (with_edits ds es).list → insert_entry place_cmp rows p row ≡ (with_edits (ds ++ (p, Some row) ∷ []) es).list
+pub row-put : (ds : List Edit) (p : Place) (row : List Value) (es : Tables) (rows : List Entry) → rows ≡ (with_edits ds es).list →
+    insert_entry place_cmp rows p row ≡ (with_edits (ds ++ (p, Some row) ∷ []) es).list
 row-put ds p row es rows same = ap (λ l. insert_entry place_cmp l p row) same ∙ insert-put p row (with_edits ds es).list ∙ sym (ap (λ (t : Tables). t.list) (one-more ds (p, Some row) es))
 
-pub row-removed : (ds : List Edit) (p : Place) (es : Tables) (rows : List Entry) → rows ≡ (with_edits ds es).list → remove_entry (is_at (place_cmp p)) rows ≡ (with_edits (ds ++ (p, None) ∷ []) es).list
+pub row-removed : (ds : List Edit) (p : Place) (es : Tables) (rows : List Entry) → rows ≡ (with_edits ds es).list →
+    remove_entry (is_at (place_cmp p)) rows ≡ (with_edits (ds ++ (p, None) ∷ []) es).list
 row-removed ds p es rows same = ap (remove_entry (is_at (place_cmp p))) same ∙ remove-where p (with_edits ds es).list (with_edits ds es).sorted ∙ sym (ap (λ (t : Tables). t.list) (one-more ds (p, None) es))
 
 -- one change more, put on edits
@@ -68,5 +73,6 @@ pub one-put : (cs : List Change) (c : Change) (ds : List Edit) → put_all (cs +
 one-put [] c ds = refl
 one-put (x ∷ cs) c ds = one-put cs c (put place_cmp (changed_at x) x.row ds)
 
-pub change-put : (cs : List Change) (c : Change) (ds edits : List Edit) → edits ≡ put_all cs ds → insert_entry place_cmp edits (changed_at c) c.row ≡ put_all (cs ++ c ∷ []) ds
+pub change-put : (cs : List Change) (c : Change) (ds edits : List Edit) → edits ≡ put_all cs ds →
+    insert_entry place_cmp edits (changed_at c) c.row ≡ put_all (cs ++ c ∷ []) ds
 change-put cs c ds edits same = ap (λ (l : List Edit). insert_entry place_cmp l (changed_at c) c.row) same ∙ insert-put (changed_at c) c.row (put_all cs ds) ∙ sym (one-put cs c ds)

@@ -62,7 +62,8 @@ same-waits trace u v o = by (is_same_id v u) refl
     by true e = sym (subst (λ w. is_open trace w ≡ true) (sym (is_same_id-true v u e)) o)
     by false e = refl
 
-open-began : (trace : Trace) (e : Event) → Fresh trace e → Good trace e → (s : UnitState) → open_units trace ≡ names_in s.units → open_units (trace says e) ≡ names_in (units_after e s).units
+open-began : (trace : Trace) (e : Event) → Fresh trace e → Good trace e → (s : UnitState) → open_units trace ≡ names_in s.units →
+    open_units (trace says e) ≡ names_in (units_after e s).units
 open-began trace (Began u kind) fresh good s h =
     filter-append (is_open (trace says Began u kind)) (units_begun trace) (u ∷ [])
     ∙ (λ i. before i ++ last i)
@@ -97,7 +98,8 @@ each-kept s trace keeps =
     every-pair (KeepsUnit trace) (λ o. Open trace o.unit) s.units keeps.each
     (every-unmapped (Open trace) (λ (o : OpenUnit). o.unit) s.units (subst (Every (Open trace)) keeps.units (every-passes (is_open trace) (units_begun trace))))
 
-each-says : (s : UnitState) (trace : Trace) (e : Event) → Inv trace → Good trace e → May trace e → Fresh trace e → KeepsUnits s trace → Every (IsKept trace) s.units → Every (KeepsUnit (trace says e)) (units_after e s).units
+each-says : (s : UnitState) (trace : Trace) (e : Event) → Inv trace → Good trace e → May trace e → Fresh trace e → KeepsUnits s trace →
+    Every (IsKept trace) s.units → Every (KeepsUnit (trace says e)) (units_after e s).units
 each-says s trace (Began u kind) inv good m fresh keeps each =
     every-append (KeepsUnit (trace says Began u kind)) s.units (begun s u kind ∷ [])
     (every-map (IsKept trace) (KeepsUnit (trace says Began u kind)) (λ o k. keeps-other trace (Began u kind) o inv.base good k.1 (fresh o.unit (open-named trace o.unit k.1)) k.0) s.units each)
@@ -152,7 +154,8 @@ to-go-asks trace (Tree GoAll) k h = ap (λ (x : Kept). in_order (map (λ (c : Co
 to-go-asks trace asked k h = refl
 
 -- after an event of a played trace
-pub keeps-says : (s : UnitState) (trace : Trace) (e : Event) → KeepsUnits s trace → IsPlayed (trace says e) → WellKept (start_of trace).kept → KeepsUnits (units_after e s) (trace says e)
+pub keeps-says : (s : UnitState) (trace : Trace) (e : Event) → KeepsUnits s trace → IsPlayed (trace says e) → WellKept (start_of trace).kept →
+    KeepsUnits (units_after e s) (trace says e)
 keeps-says s trace e keeps p w =
     let inv = replays trace p.0 in
     let good = good-event trace e inv p.1 in
@@ -169,7 +172,8 @@ keeps-says s trace e keeps p w =
       base_count = bases-says s trace e keeps.base_count;
     }
 
-same-units : (trace now : Trace) → ((o : OpenUnit) → KeepsUnit trace o → KeepsUnit now o) → (os : List OpenUnit) → Every (KeepsUnit trace) os → Every (KeepsUnit now) os
+same-units : (trace now : Trace) → ((o : OpenUnit) → KeepsUnit trace o → KeepsUnit now o) → (os : List OpenUnit) → Every (KeepsUnit trace) os →
+    Every (KeepsUnit now) os
 same-units trace now f os h = every-map (KeepsUnit trace) (KeepsUnit now) f os h
 
 -- a line changes no more than the line

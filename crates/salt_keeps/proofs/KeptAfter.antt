@@ -21,19 +21,23 @@ use Rattle.std.proofs.Common.{ap, subst, sym, ◌∙◌}
 use Rattle.std.specs.Prelude.{Some, ℕ, ◌++◌, ◌≡◌}
 
 -- an open unit is in the list
-pub open-listed : (s : UnitState) (trace : Trace) (u : Id) → Ground trace → KeepsUnits s trace → Open trace u → (o : OpenUnit) × (unit_named u s.units ≡ Some o) × (o.unit ≡ u) × KeepsUnit trace o
+pub open-listed : (s : UnitState) (trace : Trace) (u : Id) → Ground trace → KeepsUnits s trace → Open trace u →
+    (o : OpenUnit) × (unit_named u s.units ≡ Some o) × (o.unit ≡ u) × KeepsUnit trace o
 open-listed s trace u ground keeps now_open =
     named-in (KeepsUnit trace) u s.units (subst (In u) keeps.units (into-filter (is_open trace) u (units_begun trace) (has-in u (units_begun trace) (ground.each u now_open).begun) now_open)) keeps.each
 
-committed-kept : (trace : Trace) (k : Kept) (n : ℕ) (o : OpenUnit) → kept trace ≡ k → KeepsUnit trace o → kept (trace says Ended o.unit (Committed n)) ≡ kept_committed k n o
+committed-kept : (trace : Trace) (k : Kept) (n : ℕ) (o : OpenUnit) → kept trace ≡ k → KeepsUnit trace o →
+    kept (trace says Ended o.unit (Committed n)) ≡ kept_committed k n o
 committed-kept trace k n o same keeps =
     let tables = tables-kept trace k o same keeps in
     λ i. record (same i) { decisions = n; tables = tables i; conts = conts_at (same i) n (keeps.kind i) (keeps.vars i) }
 
-branched-kept : (trace : Trace) (k : Kept) (n : ℕ) (c : Cause) (o : OpenUnit) → kept trace ≡ k → KeepsUnit trace o → kept (trace says Ended o.unit (Branched n c)) ≡ kept_branched k n o
+branched-kept : (trace : Trace) (k : Kept) (n : ℕ) (c : Cause) (o : OpenUnit) → kept trace ≡ k → KeepsUnit trace o →
+    kept (trace says Ended o.unit (Branched n c)) ≡ kept_branched k n o
 branched-kept trace k n c o same keeps = λ i. branched (same i) n (keeps.kind i)
 
-pub kept-says : (s : UnitState) (trace : Trace) (e : Event) → Ground trace → Good trace e → KeepsUnits s trace → kept (trace says e) ≡ (units_after e s).kept
+pub kept-says : (s : UnitState) (trace : Trace) (e : Event) → Ground trace → Good trace e → KeepsUnits s trace →
+    kept (trace says e) ≡ (units_after e s).kept
 kept-says s trace (Ended u (Committed n)) ground good keeps =
     let r = open-listed s trace u ground keeps good.0 in
     subst (λ v. kept (trace says Ended v (Committed n)) ≡ kept_committed s.kept n r.0) r.2 (committed-kept trace s.kept n r.0 keeps.kept r.3)

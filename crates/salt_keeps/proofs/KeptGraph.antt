@@ -53,7 +53,8 @@ served-kept trace ls h = go (wait_list trace)
     go [] = refl
     go (u ∷ us) = ap (λ os. cond (is_empty os) (Some u) (find (λ u. is_empty (clashing_now trace u)) us)) (clash-kept trace ls h u) ∙ by (is_empty (clash_owners ls (asker trace u))) (go us)
       where
-        by : (b : Bool) → find (λ u. is_empty (clashing_now trace u)) us ≡ option_map (λ w. w.unit) (find (λ w. is_empty (clash_owners ls w)) (map (asker trace) us)) → cond b (Some u) (find (λ u. is_empty (clashing_now trace u)) us) ≡ option_map (λ w. w.unit) (cond b (Some (asker trace u)) (find (λ w. is_empty (clash_owners ls w)) (map (asker trace) us)))
+        by : (b : Bool) → find (λ u. is_empty (clashing_now trace u)) us ≡ option_map (λ w. w.unit) (find (λ w. is_empty (clash_owners ls w)) (map (asker trace) us)) →
+            cond b (Some u) (find (λ u. is_empty (clashing_now trace u)) us) ≡ option_map (λ w. w.unit) (cond b (Some (asker trace u)) (find (λ w. is_empty (clash_owners ls w)) (map (asker trace) us)))
         by true e = refl
         by false e = e
 
@@ -62,7 +63,8 @@ and-false-right true = refl
 and-false-right false = refl
 
 -- the waiting units of unfinished programs, by what is kept
-pub waiting-kept : (trace : Trace) (d : Dependencies) → Sound trace → KeepsDependencies d trace → (bs : List Id) → waiting_of trace bs ≡ waiting_for d (waiting trace) bs
+pub waiting-kept : (trace : Trace) (d : Dependencies) → Sound trace → KeepsDependencies d trace → (bs : List Id) →
+    waiting_of trace bs ≡ waiting_for d (waiting trace) bs
 waiting-kept trace d s k bs = go (wait_list trace) (λ u i. wait-open trace u i)
   where
     of-base : (o : Option Id) (b : Id) → elim o [ None ↦ false | Some c ↦ is_same_id b c ] ≡ is_base_of o b
@@ -72,18 +74,21 @@ waiting-kept trace d s k bs = go (wait_list trace) (λ u i. wait-open trace u i)
     finished : (b : Id) → has_id b (released_in trace) ≡ false → is_finished trace b ≡ d.finished b
     finished b n = same-bool (is_finished trace b) (d.finished b) (λ e. (k.finished b).1 (record { finished = has-in b (finished_in trace) e; unreleased = n })) (λ e. in-has b (finished_in trace) ((k.finished b).0 e).finished)
 
-    one : (u b : Id) → is_open trace u ≡ true → (not (is_finished trace b) && is_of_program b trace u) ≡ (not (d.finished b) && is_base_of (program_of u trace) b)
+    one : (u b : Id) → is_open trace u ≡ true →
+        (not (is_finished trace b) && is_of_program b trace u) ≡ (not (d.finished b) && is_base_of (program_of u trace) b)
     one u b o = by (is_of_program b trace u) refl
       where
         by : (t : Bool) → is_of_program b trace u ≡ t → (not (is_finished trace b) && t) ≡ (not (d.finished b) && is_base_of (program_of u trace) b)
         by true e = λ i. not (finished b (not-in b (released_in trace) (λ j. s.alive b u o e (inr j))) i) && (sym e ∙ of-base (program_of u trace) b) i
         by false e = and-false-right (not (is_finished trace b)) ∙ sym (ap (λ t. not (d.finished b) && t) (sym (of-base (program_of u trace) b) ∙ e) ∙ and-false-right (not (d.finished b)))
 
-    any-same : (u : Id) → is_open trace u ≡ true → (bs : List Id) → list_any (λ b. not (is_finished trace b) && is_of_program b trace u) bs ≡ list_any (λ b. not (d.finished b) && is_base_of (program_of u trace) b) bs
+    any-same : (u : Id) → is_open trace u ≡ true → (bs : List Id) →
+        list_any (λ b. not (is_finished trace b) && is_of_program b trace u) bs ≡ list_any (λ b. not (d.finished b) && is_base_of (program_of u trace) b) bs
     any-same u o [] = refl
     any-same u o (b ∷ bs) = λ i. one u b o i || any-same u o bs i
 
-    go : (us : List Id) → ((u : Id) → In u us → is_open trace u ≡ true) → filter (λ u. list_any (λ b. not (is_finished trace b) && is_of_program b trace u) bs) us ≡ map (λ w. w.unit) (filter (λ w. list_any (λ b. not (d.finished b) && is_base_of w.base b) bs) (map (asker trace) us))
+    go : (us : List Id) → ((u : Id) → In u us → is_open trace u ≡ true) →
+        filter (λ u. list_any (λ b. not (is_finished trace b) && is_of_program b trace u) bs) us ≡ map (λ w. w.unit) (filter (λ w. list_any (λ b. not (d.finished b) && is_base_of w.base b) bs) (map (asker trace) us))
     go [] o = refl
     go (u ∷ us) o = ap (λ t. cond t (u ∷ filter (λ u. list_any (λ b. not (is_finished trace b) && is_of_program b trace u) bs) us) (filter (λ u. list_any (λ b. not (is_finished trace b) && is_of_program b trace u) bs) us)) (any-same u (o u (inl refl)) bs) ∙ by (list_any (λ b. not (d.finished b) && is_base_of (program_of u trace) b) bs) (go us (λ x m. o x (inr m)))
       where
@@ -96,7 +101,8 @@ waiting-kept trace d s k bs = go (wait_list trace) (λ u i. wait-open trace u i)
 holder-known : (trace : Trace) → Firsts trace → (l : Lock) (c : Id) → In l (held trace) → l.owner ≡ Base c → IsKnown trace c
 holder-known trace f l c i e = let t = in-filter_map (as_held trace) l (taken_in trace) i in by t.0 (standing t.0.unit trace) refl t.2
   where
-    saline : (u : Id) (p : Option Id) (r : Reach) → program_of u trace ≡ p → is_committed_standing (standing u trace) ≡ true → saline_lock trace p r ≡ Some l → IsKnown trace c
+    saline : (u : Id) (p : Option Id) (r : Reach) → program_of u trace ≡ p → is_committed_standing (standing u trace) ≡ true →
+        saline_lock trace p r ≡ Some l → IsKnown trace c
     saline u None r q k h = cc
     saline u (Some b) r q k h = its (has_id b (released_in trace)) refl h
       where
@@ -149,13 +155,15 @@ clash-known trace f u c h = by (asked_by u trace) h
     by (Some st) i = in-locks (reach_now u trace st) i
 
 -- the victim is the one of the kept graph
-pub victim-kept : (trace : Trace) (d : Dependencies) (ls : List Lock) (behind : Id → List Id) → IsPlayed trace → WellKept (start_of trace).kept → KeepsDependencies d trace → SameMembers ls (held trace) → AreSources trace d behind → victim trace ≡ victim_in d ls (waiting trace) behind
+pub victim-kept : (trace : Trace) (d : Dependencies) (ls : List Lock) (behind : Id → List Id) → IsPlayed trace → WellKept (start_of trace).kept →
+    KeepsDependencies d trace → SameMembers ls (held trace) → AreSources trace d behind → victim trace ≡ victim_in d ls (waiting trace) behind
 victim-kept trace d ls behind p w k h a = ap victim_of (go (wait_list trace))
   where
     o : OfBoots (start_of trace).kept
     o = of-start (start_of trace).kept w
 
-    edges : (u : Id) (os : List Owner) → ((c : Id) → In (Base c) os → IsKnown trace c) → flat_map (edges_to trace) os ≡ flat_map (edges_of d (waiting trace) behind) os
+    edges : (u : Id) (os : List Owner) → ((c : Id) → In (Base c) os → IsKnown trace c) →
+        flat_map (edges_to trace) os ≡ flat_map (edges_of d (waiting trace) behind) os
     edges u [] n = refl
     edges u (Unit v ∷ os) n = ap (λ l. v ∷ l) (edges u os (λ c i. n c (inr i)))
     edges u (Base c ∷ os) n =

@@ -60,10 +60,12 @@ ready-empty trace p w =
 pub unreleased-in : (trace : Trace) (b : Id) → In b (unreleased trace) → In b (accepted_in trace) × (has_id b (released_in trace) ≡ false)
 unreleased-in trace b i = in-without b (released_in trace) (accepted_in trace) (in-order b _ i)
 
-into-unreleased : (trace : Trace) (b : Id) → In b (accepted_in trace) → has_id b (released_in trace) ≡ false → In b (without (released_in trace) (accepted_in trace))
+into-unreleased : (trace : Trace) (b : Id) → In b (accepted_in trace) → has_id b (released_in trace) ≡ false →
+    In b (without (released_in trace) (accepted_in trace))
 into-unreleased trace b i n = into-filter (λ u. not (has_id u (released_in trace))) b (accepted_in trace) i (ap not n)
 
-unreleased-accepted : (trace : Trace) (b : Id) → has_id b (released_in trace) ≡ false → unreleased (trace says Accepted b) ≡ insert_id b (unreleased trace)
+unreleased-accepted : (trace : Trace) (b : Id) → has_id b (released_in trace) ≡ false →
+    unreleased (trace says Accepted b) ≡ insert_id b (unreleased trace)
 unreleased-accepted trace b n = in_order-same (without (released_in trace) (accepted_in trace ++ b ∷ [])) (b ∷ without (released_in trace) (accepted_in trace)) forth back
   where
     forth : (x : Id) → In x (without (released_in trace) (accepted_in trace ++ b ∷ [])) → In x (b ∷ without (released_in trace) (accepted_in trace))
@@ -85,7 +87,8 @@ unreleased-released trace bs = sym (order-of-ascending (without bs (unreleased t
         let n = sym (has-append x (released_in trace) bs) ∙ r.1 in
         into-filter (λ u. not (has_id u bs)) x (unreleased trace) (into-order x _ (into-unreleased trace x r.0 (or_left _ _ n))) (ap not (or_right (has_id x (released_in trace)) _ n))
 
-pub unreleased-says : (trace : Trace) (e : Event) → IsPlayed (trace says e) → OfBoots (start_of trace).kept → unreleased (trace says e) ≡ unreleased_after e (unreleased trace)
+pub unreleased-says : (trace : Trace) (e : Event) → IsPlayed (trace says e) → OfBoots (start_of trace).kept →
+    unreleased (trace says e) ≡ unreleased_after e (unreleased trace)
 unreleased-says trace (Accepted b) p w = unreleased-accepted trace b (not-in b (released_in trace) (λ i. acceptance-alive trace p.0 w b (may-fit trace (Accepted b) (holds trace p.0 w).comes p.1) (inr i)))
 unreleased-says trace (Released bs) p w = unreleased-released trace bs
 unreleased-says trace Ready p w = (ready-empty trace p w).programs
@@ -105,7 +108,8 @@ holds-by trace = same-bool _ _ forth back
     back : not (is_empty (unreleased trace)) ≡ true → list_any (is_holding trace) (accepted_in trace) ≡ true
     back h = by (unreleased trace) (λ b i. unreleased-in trace b i) h
       where
-        by : (us : List Id) → ((b : Id) → In b us → In b (accepted_in trace) × (has_id b (released_in trace) ≡ false)) → not (is_empty us) ≡ true → list_any (is_holding trace) (accepted_in trace) ≡ true
+        by : (us : List Id) → ((b : Id) → In b us → In b (accepted_in trace) × (has_id b (released_in trace) ≡ false)) → not (is_empty us) ≡ true →
+            list_any (is_holding trace) (accepted_in trace) ≡ true
         by [] f e = cc
         by (u ∷ us) f e = let r = f u (inl refl) in into-any (is_holding trace) u (accepted_in trace) r.0 (ap not r.1)
 
@@ -117,13 +121,15 @@ pub finishes-once : (trace : Trace) (b : Id) → IsPlayed (trace says Finished b
 finishes-once trace b p w h = ends-alive trace p.0 w b (may-fit trace (Finished b) (holds trace p.0 w).comes p.1) (inl h.finished)
 
 -- a program whose first part is open wrote no key last, and none reads from it
-pub first-unseen : (trace : Trace) (u b : Id) → IsPlayed trace → OfBoots (start_of trace).kept → is_open trace u ≡ true → first_of u trace ≡ Some b → ((p : Place) → live_writer trace p ≡ Some b → ⊥) × ((x : Id) → ReadsLive trace x b → ⊥)
+pub first-unseen : (trace : Trace) (u b : Id) → IsPlayed trace → OfBoots (start_of trace).kept → is_open trace u ≡ true → first_of u trace ≡ Some b →
+    ((p : Place) → live_writer trace p ≡ Some b → ⊥) × ((x : Id) → ReadsLive trace x b → ⊥)
 first-unseen trace u b p w o f = ((λ q e. writer q (find (is_written_at q) (written_in trace)) refl e), (λ x r. h.new b u o f ((sources-played trace p w).read x b r.reads)))
   where
     h : Firsts trace
     h = firsts trace p w
 
-    writer : (q : Place) (m : Option Written) → find (is_written_at q) (written_in trace) ≡ m → option_and_then (live_program trace) (option_map (λ w. w.unit) m) ≡ Some b → ⊥
+    writer : (q : Place) (m : Option Written) → find (is_written_at q) (written_in trace) ≡ m →
+        option_and_then (live_program trace) (option_map (λ w. w.unit) m) ≡ Some b → ⊥
     writer q None e g = cc
     writer q (Some x) e g =
         let c = (holds trace p w).salty.written x (find-in (is_written_at q) x (written_in trace) e).0 in

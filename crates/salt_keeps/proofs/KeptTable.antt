@@ -24,7 +24,8 @@ use Rattle.std.specs.Prelude.{Bool, List, None, Option, Some, [], cond, false, m
 pub owners-same : (ls ms : List Lock) → SameMembers ls ms → owners_of ls ≡ owners_of ms
 owners-same ls ms h = λ i. map Owner.Unit (units i) ++ map Owner.Base (bases i)
   where
-    through : {B : Type 0} (f : Lock → Option B) (xs ys : List Lock) → ((l : Lock) → In l xs → In l ys) → (y : B) → In y (filter_map f xs) → In y (filter_map f ys)
+    through : {B : Type 0} (f : Lock → Option B) (xs ys : List Lock) → ((l : Lock) → In l xs → In l ys) → (y : B) → In y (filter_map f xs) →
+        In y (filter_map f ys)
     through f xs ys g y i = let m = in-filter_map f y xs i in into-filter_map f m.0 y ys (g m.0 m.1) m.2
 
     units : in_order (filter_map unit_owner ls) ≡ in_order (filter_map unit_owner ms)
@@ -37,7 +38,8 @@ same-filter : (p : Lock → Bool) (ls ms : List Lock) → SameMembers ls ms → 
 same-filter p ls ms h l = ((λ i. let m = in-filter p l ls i in into-filter p l ms ((h l).0 m.0) m.1), (λ i. let m = in-filter p l ms i in into-filter p l ls ((h l).1 m.0) m.1))
 
 -- clashes from any list with the held locks as members
-pub clashing-from : (trace : Trace) (ls : List Lock) → SameMembers ls (held trace) → (u : Id) (st : Statement) → clashing trace u st ≡ owners_of (clash_in (Owner.Unit u) (family_of (kind_of u trace)) (reach_now u trace st) ls)
+pub clashing-from : (trace : Trace) (ls : List Lock) → SameMembers ls (held trace) → (u : Id) (st : Statement) →
+    clashing trace u st ≡ owners_of (clash_in (Owner.Unit u) (family_of (kind_of u trace)) (reach_now u trace st) ls)
 clashing-from trace ls h u st = by (reach_now u trace st)
   where
     by : (r : Option Reach) → owners_of (clash_locks trace u (kind_of u trace) r) ≡ owners_of (clash_in (Owner.Unit u) (family_of (kind_of u trace)) r ls)
@@ -60,11 +62,13 @@ sooner-strict : Strict Sooner
 sooner-strict = record { not_self = λ n h. absurd (omega arith); through = λ a b c h g. omega arith }
 
 -- fates leave the numbers, and so the order
-fate-sooner : (g : Lock → Option Lock) (m : Numbered) (ns : List Numbered) (o : Option Lock) (l : Lock) → Every (Sooner m) ns → Every (Sooner (record { number = m.number; lock = l })) (filter_map (on_lock g) ns)
+fate-sooner : (g : Lock → Option Lock) (m : Numbered) (ns : List Numbered) (o : Option Lock) (l : Lock) → Every (Sooner m) ns →
+    Every (Sooner (record { number = m.number; lock = l })) (filter_map (on_lock g) ns)
 fate-sooner g m [] o l h = tt
 fate-sooner g m (n ∷ ns) o l h = by (g n.lock) (fate-sooner g m ns o l h.1)
   where
-    by : (p : Option Lock) → Every (Sooner (record { number = m.number; lock = l })) (filter_map (on_lock g) ns) → Every (Sooner (record { number = m.number; lock = l })) (cons_option (option_map (λ l. record { number = n.number; lock = l }) p) (filter_map (on_lock g) ns))
+    by : (p : Option Lock) → Every (Sooner (record { number = m.number; lock = l })) (filter_map (on_lock g) ns) →
+        Every (Sooner (record { number = m.number; lock = l })) (cons_option (option_map (λ l. record { number = n.number; lock = l }) p) (filter_map (on_lock g) ns))
     by None more = more
     by (Some x) more = (h.0, more)
 
@@ -72,7 +76,8 @@ pub fate-rises : (g : Lock → Option Lock) (ns : List Numbered) → Ascends Soo
 fate-rises g [] h = tt
 fate-rises g (n ∷ ns) h = by (g n.lock) (fate-rises g ns h.1)
   where
-    by : (p : Option Lock) → Ascends Sooner (filter_map (on_lock g) ns) → Ascends Sooner (cons_option (option_map (λ l. record { number = n.number; lock = l }) p) (filter_map (on_lock g) ns))
+    by : (p : Option Lock) → Ascends Sooner (filter_map (on_lock g) ns) →
+        Ascends Sooner (cons_option (option_map (λ l. record { number = n.number; lock = l }) p) (filter_map (on_lock g) ns))
     by None more = more
     by (Some l) more = (fate-sooner g n ns (Some l) l h.0, more)
 
@@ -80,7 +85,8 @@ pub fate-locks : (g : Lock → Option Lock) (ns : List Numbered) → map (λ n. 
 fate-locks g [] = refl
 fate-locks g (n ∷ ns) = by (g n.lock) (fate-locks g ns)
   where
-    by : (p : Option Lock) → map (λ n. n.lock) (filter_map (on_lock g) ns) ≡ filter_map g (map (λ n. n.lock) ns) → map (λ n. n.lock) (cons_option (option_map (λ l. record { number = n.number; lock = l }) p) (filter_map (on_lock g) ns)) ≡ cons_option p (filter_map g (map (λ n. n.lock) ns))
+    by : (p : Option Lock) → map (λ n. n.lock) (filter_map (on_lock g) ns) ≡ filter_map g (map (λ n. n.lock) ns) →
+        map (λ n. n.lock) (cons_option (option_map (λ l. record { number = n.number; lock = l }) p) (filter_map (on_lock g) ns)) ≡ cons_option p (filter_map g (map (λ n. n.lock) ns))
     by None e = e
     by (Some l) e = ap (λ x. l ∷ x) e
 
@@ -88,7 +94,8 @@ map-append : {A B : Type 0} (f : A → B) (xs ys : List A) → map f (xs ++ ys) 
 map-append f [] ys = refl
 map-append f (x ∷ xs) ys = ap (λ l. f x ∷ l) (map-append f xs ys)
 
-pub append-rises : (ns : List Numbered) (ls : List Lock) (k : ℕ) → length ls ≤ 1 → Ascends Sooner ns → AreBelow k ns → Ascends Sooner (ns ++ map (λ l. record { number = k; lock = l }) ls)
+pub append-rises : (ns : List Numbered) (ls : List Lock) (k : ℕ) → length ls ≤ 1 → Ascends Sooner ns → AreBelow k ns →
+    Ascends Sooner (ns ++ map (λ l. record { number = k; lock = l }) ls)
 append-rises [] [] k s h b = tt
 append-rises [] (l ∷ []) k s h b = (tt, tt)
 append-rises [] (l ∷ m ∷ ls) k s h b = absurd (omega arith)
@@ -114,7 +121,8 @@ fate-below g k ns b n i = let m = in-filter_map (on_lock g) n ns i in by m.0 (g 
     by m (Some l) h e = let s : m.number ≡ n.number = cc in subst (λ x. x < k) s h
 
 -- a table that has the members of the table after an event keeps the locks after it
-pub keeps-after : (k : ℕ) (trace : Trace) (e : Event) (table new : List Numbered) (ls : List Lock) → KeepsLocks table ls → AreBelow k table → SameMembers new (table_after k trace e table) → KeepsLocks new (locks_after trace e ls)
+pub keeps-after : (k : ℕ) (trace : Trace) (e : Event) (table new : List Numbered) (ls : List Lock) → KeepsLocks table ls → AreBelow k table →
+    SameMembers new (table_after k trace e table) → KeepsLocks new (locks_after trace e ls)
 keeps-after k trace e table new ls h b s = record {
   in_turn = table_after k trace e h.in_turn;
   rises = append-rises (filter_map (on_lock g) h.in_turn) (lock_won trace e) k (won-one trace e) (fate-rises g h.in_turn h.rises) (fate-below g k h.in_turn (λ n i. b n ((h.same n).1 i)));
@@ -129,14 +137,16 @@ keeps-after k trace e table new ls h b s = record {
     own [] = refl
     own (l ∷ ls) = ap (λ x. l ∷ x) (own ls)
 
-    over : (ms ns : List Numbered) → ((m : Numbered) → In m ms → In m ns) → (n : Numbered) → In n (table_after k trace e ms) → In n (table_after k trace e ns)
+    over : (ms ns : List Numbered) → ((m : Numbered) → In m ms → In m ns) → (n : Numbered) → In n (table_after k trace e ms) →
+        In n (table_after k trace e ns)
     over ms ns f n i = either
         (λ j. let m = in-filter_map (on_lock (lock_fate trace e)) n ms j in in-left n _ _ (into-filter_map (on_lock (lock_fate trace e)) m.0 n ns (f m.0 m.1) m.2))
         (λ j. in-right n (filter_map (on_lock (lock_fate trace e)) ns) _ j)
         (in-cases n (filter_map (on_lock (lock_fate trace e)) ms) _ i)
 
 -- the locks of an owner, by their numbers, are its held ones in the order done
-pub keeps-shown : (table part : List Numbered) (ls : List Lock) (o : Owner) → KeepsLocks table ls → Ascends Sooner part → ((n : Numbered) → In n part ↔ (In n table × (is_owned_by o n.lock ≡ true))) → map (λ n. n.lock) part ≡ filter (is_owned_by o) ls
+pub keeps-shown : (table part : List Numbered) (ls : List Lock) (o : Owner) → KeepsLocks table ls → Ascends Sooner part →
+    ((n : Numbered) → In n part ↔ (In n table × (is_owned_by o n.lock ≡ true))) → map (λ n. n.lock) part ≡ filter (is_owned_by o) ls
 keeps-shown table part ls o k a s =
     ap (map (λ n. n.lock)) (same-ascending Sooner sooner-strict part (filter mine k.in_turn) a (filter-rises k.in_turn k.rises)
     (λ n i. let m = (s n).0 i in into-filter mine n k.in_turn ((k.same n).0 m.0) m.1) (λ n i. let m = in-filter mine n k.in_turn i in (s n).1 ((k.same n).1 m.0, m.1)))
@@ -149,7 +159,8 @@ keeps-shown table part ls o k a s =
     filter-rises [] h = tt
     filter-rises (n ∷ ns) h = by (is_owned_by o n.lock) (filter-rises ns h.1)
       where
-        by : (b : Bool) → Ascends Sooner (filter (λ n. is_owned_by o n.lock) ns) → Ascends Sooner (cond b (n ∷ filter (λ n. is_owned_by o n.lock) ns) (filter (λ n. is_owned_by o n.lock) ns))
+        by : (b : Bool) → Ascends Sooner (filter (λ n. is_owned_by o n.lock) ns) →
+            Ascends Sooner (cond b (n ∷ filter (λ n. is_owned_by o n.lock) ns) (filter (λ n. is_owned_by o n.lock) ns))
         by true more = (every-filter (Sooner n) (λ n. is_owned_by o n.lock) ns h.0, more)
         by false more = more
 
@@ -157,6 +168,7 @@ keeps-shown table part ls o k a s =
     mapped [] = refl
     mapped (n ∷ ns) = by (is_owned_by o n.lock) (mapped ns)
       where
-        by : (b : Bool) → map (λ n. n.lock) (filter (λ n. is_owned_by o n.lock) ns) ≡ filter (is_owned_by o) (map (λ n. n.lock) ns) → map (λ n. n.lock) (cond b (n ∷ filter (λ n. is_owned_by o n.lock) ns) (filter (λ n. is_owned_by o n.lock) ns)) ≡ cond b (n.lock ∷ filter (is_owned_by o) (map (λ n. n.lock) ns)) (filter (is_owned_by o) (map (λ n. n.lock) ns))
+        by : (b : Bool) → map (λ n. n.lock) (filter (λ n. is_owned_by o n.lock) ns) ≡ filter (is_owned_by o) (map (λ n. n.lock) ns) →
+            map (λ n. n.lock) (cond b (n ∷ filter (λ n. is_owned_by o n.lock) ns) (filter (λ n. is_owned_by o n.lock) ns)) ≡ cond b (n.lock ∷ filter (is_owned_by o) (map (λ n. n.lock) ns)) (filter (is_owned_by o) (map (λ n. n.lock) ns))
         by true e = ap (λ x. n.lock ∷ x) e
         by false e = e

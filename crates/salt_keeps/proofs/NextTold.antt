@@ -52,7 +52,8 @@ pub record IsBeside (trace : Trace) (x : Beside) : Type 0 where
   pub served : next_unblocked trace ≡ x.served
   pub due : to_release trace ≡ x.due
 
-served-listed : (s : UnitState) (trace : Trace) → Ground trace → KeepsUnits s trace → (o : Option Id) → ((u : Id) → o ≡ Some u → Open trace u) → (x : Option OpenUnit) × (option_and_then (λ u. unit_named u s.units) o ≡ x) × (o ≡ name_of x) × IfSome (KeepsUnit trace) x
+served-listed : (s : UnitState) (trace : Trace) → Ground trace → KeepsUnits s trace → (o : Option Id) → ((u : Id) → o ≡ Some u → Open trace u) →
+    (x : Option OpenUnit) × (option_and_then (λ u. unit_named u s.units) o ≡ x) × (o ≡ name_of x) × IfSome (KeepsUnit trace) x
 served-listed s trace ground keeps None f = (None, refl, refl, tt)
 served-listed s trace ground keeps (Some u) f = let r = open-listed s trace u ground keeps (f u refl) in (Some r.0, r.1, ap Some (sym r.2), r.3)
 
@@ -96,7 +97,8 @@ module _ (s : UnitState) (trace : Trace) (keeps : KeepsUnits s trace) (ground : 
   follow-told (Finished b) is base good after = ap releases is.due
   follow-told e is base good after = refl
 
-  serving-told : (e : Event) → IsBeside (trace says e) x → Ground (trace says e) → Good trace e → KeepsUnits (units_after e s) (trace says e) → serving_event (trace says e) e ≡ serving_in (units_after e s) x e (unit_of e s (units_after e s))
+  serving-told : (e : Event) → IsBeside (trace says e) x → Ground (trace says e) → Good trace e → KeepsUnits (units_after e s) (trace says e) →
+      serving_event (trace says e) e ≡ serving_in (units_after e s) x e (unit_of e s (units_after e s))
   serving-told Ready is base good after = refl
   serving-told e is base good after =
       let f = follow-told e is base good after in
@@ -132,7 +134,8 @@ module _ (s : UnitState) (trace : Trace) (keeps : KeepsUnits s trace) (ground : 
 drained-told : (s : UnitState) (trace : Trace) → KeepsUnits s trace → cuts_or_drains trace (to_cut trace) ≡ cuts_or_drains_in s (cut_in s)
 drained-told s trace keeps = ap (cuts_or_drains trace) (to-cut-told s trace keeps) ∙ cuts-told s trace keeps (cut_in s)
 
-pub opened-told : (s : UnitState) (trace : Trace) → KeepsUnits s trace → (n : ℕ) (pending : Option Event) → after_opened trace n pending ≡ opened_in s n pending
+pub opened-told : (s : UnitState) (trace : Trace) → KeepsUnits s trace → (n : ℕ) (pending : Option Event) →
+    after_opened trace n pending ≡ opened_in s n pending
 opened-told s trace keeps n pending = let d = drained-told s trace keeps in λ i. option_or (stands pending i) (d i)
   where
     stands : (o : Option Event) → stands_now trace n o ≡ stands_in s n o
@@ -140,7 +143,9 @@ opened-told s trace keeps n pending = let d = drained-told s trace keeps in λ i
     stands (Some decision) = ap (λ m. then_some (n == m) decision) (number-kept s trace keeps)
 
 -- what comes after an event of a played trace
-pub said-told : (s : UnitState) (trace : Trace) (e : Event) (p : Phase) (x : Beside) → IsBeside (trace says e) x → KeepsUnits s trace → IsPlayed (trace says e) → WellKept (start_of trace).kept → said_event p (trace says e) e ≡ said_in p (units_after e s) x e (unit_of e s (units_after e s))
+pub said-told : (s : UnitState) (trace : Trace) (e : Event) (p : Phase) (x : Beside) → IsBeside (trace says e) x → KeepsUnits s trace →
+    IsPlayed (trace says e) → WellKept (start_of trace).kept →
+    said_event p (trace says e) e ≡ said_in p (units_after e s) x e (unit_of e s (units_after e s))
 said-told s trace e p x is keeps played w =
     by p
   where
@@ -165,10 +170,12 @@ said-told s trace e p x is keeps played w =
     by Fallen = refl
 
 -- what a line brings, unless it is refused, and a turn of `go all`
-pub asked-told : (s : UnitState) (trace : Trace) (asked : Asked) (x : Beside) → IsBeside (trace asks asked) x → KeepsUnits s trace → next (trace asks asked) ≡ option_or (option_map Refused (refusal trace asked)) (line_in (units_asked asked s) x.clash x.items (line_asked asked))
+pub asked-told : (s : UnitState) (trace : Trace) (asked : Asked) (x : Beside) → IsBeside (trace asks asked) x → KeepsUnits s trace →
+    next (trace asks asked) ≡ option_or (option_map Refused (refusal trace asked)) (line_in (units_asked asked s) x.clash x.items (line_asked asked))
 asked-told s trace asked x is keeps = ap (option_or (option_map Refused (refusal trace asked))) (line-told (units_asked asked s) (trace asks asked) (keeps-asks s trace asked keeps) x.clash is.clash x.items is.items (line_asked asked))
 
-pub turned-told : (s : UnitState) (trace : Trace) (b : Id) (x : Beside) → IsBeside (trace turns b) x → KeepsUnits s trace → next (trace turns b) ≡ go_in (units_turned b s) x.clash b
+pub turned-told : (s : UnitState) (trace : Trace) (b : Id) (x : Beside) → IsBeside (trace turns b) x → KeepsUnits s trace →
+    next (trace turns b) ≡ go_in (units_turned b s) x.clash b
 turned-told s trace b x is keeps = go-told (units_turned b s) (trace turns b) (keeps-turns s trace b keeps) x.clash is.clash b
 
 -- what is told to come next may stand there
@@ -181,7 +188,8 @@ abbrev at_devices_by : UnitState → Statement → Option OpenUnit → Bool
 at_devices_by s st x = elim x [ None ↦ false | Some o ↦ is_some (reach (schema_of s.kept) o.vars st) ]
 
 -- whether an open unit's statement, or another event, is at the devices
-pub devices-told : (s : UnitState) (trace : Trace) (e : Event) → KeepsUnits s trace → IsPlayed trace → Good trace e → is_at_devices trace e ≡ at_devices_in s e
+pub devices-told : (s : UnitState) (trace : Trace) (e : Event) → KeepsUnits s trace → IsPlayed trace → Good trace e →
+    is_at_devices trace e ≡ at_devices_in s e
 devices-told s trace (Did u st answer) keeps p good =
     let r = open-listed s trace u (replays trace p).base keeps good.0 in
     ap (λ v. is_some (reach_now v trace st)) (sym r.2) ∙ ap is_some (reach-kept trace s.kept r.0 st keeps.kept r.3) ∙ ap (at_devices_by s st) (sym r.1)

@@ -19,7 +19,8 @@ through-more f g h b c itself = itself
 through-more f g h b c (through {c = x} i r) = through (h b x i) (through-more f g h x c r)
 
 -- fewer finished, or more pairs, make none due
-fewer-due : (old new : Dependencies) → ((x y : Id) → IsTrue (old.reads x y) → IsTrue (new.reads x y)) → ((b : Id) → IsTrue (new.finished b) → IsTrue (old.finished b)) → NoneDue old → NoneDue new
+fewer-due : (old new : Dependencies) → ((x y : Id) → IsTrue (old.reads x y) → IsTrue (new.reads x y)) →
+    ((b : Id) → IsTrue (new.finished b) → IsTrue (old.finished b)) → NoneDue old → NoneDue new
 fewer-due old new r f n b d = n b (record { finished = f b d.finished; sources = λ c t. f c (d.sources c (through-more old.reads new.reads r b c t)) })
 
 pub wrote-none : (base : Option Id) (ps : List Place) (old new : Dependencies) → WroteAll base ps old new → NoneDue old → NoneDue new
@@ -29,7 +30,8 @@ pub read-none : (base : Id) (r : Reach) (old new : Dependencies) → HasRead bas
 read-none base r old new h n = fewer-due old new (λ x y t. (h.reads x y).1 (inl t)) (λ b t. (h.finished b).0 t) n
 
 -- one that no other reads from, and that is not finished, is given up
-pub abandon-none : (base : Id) (old new : Dependencies) → HasAbandoned base old new → ((x : Id) → IsTrue (old.reads x base) → ⊥) → (IsTrue (old.finished base) → ⊥) → NoneDue old → NoneDue new
+pub abandon-none : (base : Id) (old new : Dependencies) → HasAbandoned base old new → ((x : Id) → IsTrue (old.reads x base) → ⊥) →
+    (IsTrue (old.finished base) → ⊥) → NoneDue old → NoneDue new
 abandon-none base old new h source unfinished n b d = n b (record { finished = (h.finished b).0 d.finished; sources = λ c t. (h.finished c).0 (d.sources c (kept b c t (apart b (λ e. unfinished (subst (λ x. IsTrue (old.finished x)) e ((h.finished b).0 d.finished)))))) })
   where
     apart : (x : Id) → (x ≡ base → ⊥) → is_same_id x base ≡ false
@@ -48,11 +50,14 @@ pub finish-leaves-none : (base : Id) (bs : List Id) (old new : Dependencies) →
 finish-leaves-none base bs old new h b d = out ((h.finished b).0 d.finished)
   where
     -- what is not given is not due; a way from it goes on among those kept, or reaches one that is given
-    goes : (x c : Id) → IsTrue ((marked base old).finished x) → ((z : Id) → Through new.reads x z → IsTrue (new.finished z)) → Through old.reads x c → has_id x bs ≡ false → IsTrue ((marked base old).finished c)
+    goes : (x c : Id) → IsTrue ((marked base old).finished x) → ((z : Id) → Through new.reads x z → IsTrue (new.finished z)) → Through old.reads x c →
+        has_id x bs ≡ false → IsTrue ((marked base old).finished c)
     goes x c f all itself n = f
     goes x c f all (through {c = y} i r) n = by (has_id y bs) refl (λ e g more. goes y c g more r e)
       where
-        by : (t : Bool) → has_id y bs ≡ t → (has_id y bs ≡ false → IsTrue ((marked base old).finished y) → ((z : Id) → Through new.reads y z → IsTrue (new.finished z)) → IsTrue ((marked base old).finished c)) → IsTrue ((marked base old).finished c)
+        by : (t : Bool) → has_id y bs ≡ t →
+            (has_id y bs ≡ false → IsTrue ((marked base old).finished y) → ((z : Id) → Through new.reads y z → IsTrue (new.finished z)) → IsTrue ((marked base old).finished c)) →
+            IsTrue ((marked base old).finished c)
         by true e go = ((h.due y).0 (has-in y bs e)).sources c r
         by false e go =
             let step : IsTrue (new.reads x y) = (h.reads x y).1 (i, n, e) in

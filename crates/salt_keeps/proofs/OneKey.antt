@@ -26,28 +26,33 @@ between Greater r e = ap (λ x. not (is_gt Greater) && not (is_gt x)) e
 one-key : (k x : Value) → has_key (one_key k) x ≡ is_eq (value_cmp k x)
 one-key k x = between (value_cmp k x) (value_cmp x k) (value_total.antisymm x k)
 
-pub within-one : (t : ℕ) (mode : Mode) (k : Value) (q : Place) → is_within (record { table = t; range = one_key k; mode = mode }) q ≡ is_eq (place_cmp (place t k) q)
+pub within-one : (t : ℕ) (mode : Mode) (k : Value) (q : Place) →
+    is_within (record { table = t; range = one_key k; mode = mode }) q ≡ is_eq (place_cmp (place t k) q)
 within-one t mode k q =
     ap (λ b. b && has_key (one_key k) q.key) (unsigned_ties t q.table)
     ∙ ap (λ b. is_eq (nat_cmp t q.table) && b) (one-key k q.key)
     ∙ tied_then (nat_cmp t q.table) (value_cmp k q.key)
 
 -- for a reach of one key, the row at its place is enough
-pub one-key-rows : (t : ℕ) (mode : Mode) (k : Value) (ds : List Edit) (es : Tables) → AreRows (Some (record { table = t; range = one_key k; mode = mode })) ds es (entry_at (place t k) (row_edited ds es (place t k)))
+pub one-key-rows : (t : ℕ) (mode : Mode) (k : Value) (ds : List Edit) (es : Tables) →
+    AreRows (Some (record { table = t; range = one_key k; mode = mode })) ds es (entry_at (place t k) (row_edited ds es (place t k)))
 one-key-rows t mode k ds es = by (row_edited ds es (place t k)) refl
   where
     here : (q : Place) → is_eq (place_cmp (place t k) q) ≡ true → place t k ≡ q
     here q e = place_same (place t k) q (equal-is (place_cmp (place t k) q) e)
 
-    none : row_edited ds es (place t k) ≡ None → (q : Place) (b : Bool) → is_eq (place_cmp (place t k) q) ≡ b → None ≡ cond b (row_edited ds es q) None
+    none : row_edited ds es (place t k) ≡ None → (q : Place) (b : Bool) → is_eq (place_cmp (place t k) q) ≡ b →
+        None ≡ cond b (row_edited ds es q) None
     none n q true e = sym n ∙ ap (row_edited ds es) (here q e)
     none n q false e = refl
 
-    one : (row : List Value) → row_edited ds es (place t k) ≡ Some row → (q : Place) (b : Bool) → is_eq (place_cmp (place t k) q) ≡ b → cond b (Some row) None ≡ cond b (row_edited ds es q) None
+    one : (row : List Value) → row_edited ds es (place t k) ≡ Some row → (q : Place) (b : Bool) → is_eq (place_cmp (place t k) q) ≡ b →
+        cond b (Some row) None ≡ cond b (row_edited ds es q) None
     one row s q true e = sym s ∙ ap (row_edited ds es) (here q e)
     one row s q false e = refl
 
-    by : (o : Option (List Value)) → row_edited ds es (place t k) ≡ o → AreRowsIn (record { table = t; range = one_key k; mode = mode }) ds es (entry_at (place t k) o)
+    by : (o : Option (List Value)) → row_edited ds es (place t k) ≡ o →
+        AreRowsIn (record { table = t; range = one_key k; mode = mode }) ds es (entry_at (place t k) o)
     by None n = record { sorted = tt; found = λ q. none n q (is_eq (place_cmp (place t k) q)) refl ∙ ap (λ b. cond b (row_edited ds es q) None) (sym (within-one t mode k q)) }
     by (Some row) s = record {
       sorted = tt;

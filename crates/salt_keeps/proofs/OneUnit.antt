@@ -34,11 +34,13 @@ run-tables trace u =
 pub edits-in-order : (trace : Trace) (o : OpenUnit) → KeepsUnit trace o → AreInOrder o.changes
 edits-in-order trace o keeps = subst AreInOrder keeps.changes (run_of o.unit trace).changes.sorted
 
-pub tables-kept : (trace : Trace) (k : Kept) (o : OpenUnit) → kept trace ≡ k → KeepsUnit trace o → (run_of o.unit trace).tables ≡ with_edits o.changes k.tables
+pub tables-kept : (trace : Trace) (k : Kept) (o : OpenUnit) → kept trace ≡ k → KeepsUnit trace o →
+    (run_of o.unit trace).tables ≡ with_edits o.changes k.tables
 tables-kept trace k o same keeps = run-tables trace o.unit ∙ (λ i. with_edits (keeps.changes i) (same i).tables)
 
 -- doing a statement needs no more than what is kept
-pub done-kept : (trace : Trace) (k : Kept) (o : OpenUnit) (st : Statement) → kept trace ≡ k → KeepsUnit trace o → doing (schema_of (kept trace)) (run_of o.unit trace) st ≡ outcome_under k o st
+pub done-kept : (trace : Trace) (k : Kept) (o : OpenUnit) (st : Statement) → kept trace ≡ k → KeepsUnit trace o →
+    doing (schema_of (kept trace)) (run_of o.unit trace) st ≡ outcome_under k o st
 done-kept trace k o st same keeps =
     let tables = tables-kept trace k o same keeps in
     λ i. outcome_of (schema_of (same i)) (tables i) (keeps.vars i) st
@@ -51,7 +53,8 @@ one-done : (kind : UnitKind) (n : ℕ) → counted kind (n + 1) ≡ count_on kin
 one-done (Acid s) n = refl
 one-done kind n = refl
 
-pub keeps-began : (trace : Trace) (s : UnitState) (u : Id) (kind : UnitKind) → kept trace ≡ s.kept → line_of trace ≡ s.line → KeepsUnit (trace says Began u kind) (begun s u kind)
+pub keeps-began : (trace : Trace) (s : UnitState) (u : Id) (kind : UnitKind) → kept trace ≡ s.kept → line_of trace ≡ s.line →
+    KeepsUnit (trace says Began u kind) (begun s u kind)
 keeps-began trace s u kind same line = record {
   kind = rw (is_same_id-refl u) refl;
   single = rw (is_same_id-refl u) (ap is_statement_line line);
@@ -62,7 +65,9 @@ keeps-began trace s u kind same line = record {
   changes = rw (is_same_id-refl u) refl;
 }
 
-pub keeps-did : (trace : Trace) (k : Kept) (o : OpenUnit) (st : Statement) (a : Answer) → kept trace ≡ k → KeepsUnit trace o → run_of o.unit (trace says Did o.unit st a) ≡ with_done (schema_of (kept trace)) (run_of o.unit trace) st → KeepsUnit (trace says Did o.unit st a) (doing_one k st o)
+pub keeps-did : (trace : Trace) (k : Kept) (o : OpenUnit) (st : Statement) (a : Answer) → kept trace ≡ k → KeepsUnit trace o →
+    run_of o.unit (trace says Did o.unit st a) ≡ with_done (schema_of (kept trace)) (run_of o.unit trace) st →
+    KeepsUnit (trace says Did o.unit st a) (doing_one k st o)
 keeps-did trace k o st a same keeps run =
     let now = done-kept trace k o st same keeps in
     record {
@@ -75,7 +80,8 @@ keeps-did trace k o st a same keeps run =
       changes = ap (λ r. r.changes.list) run ∙ put-all (doing (schema_of (kept trace)) (run_of o.unit trace) st).changes (run_of o.unit trace).changes ∙ (λ i. put_all (now i).changes (keeps.changes i));
     }
 
-pub keeps-waits : (trace : Trace) (line : Line) (o : OpenUnit) (owners : List Owner) → line_of trace ≡ line → KeepsUnit trace o → KeepsUnit (trace says Waits o.unit owners) (waiting_by line o)
+pub keeps-waits : (trace : Trace) (line : Line) (o : OpenUnit) (owners : List Owner) → line_of trace ≡ line → KeepsUnit trace o →
+    KeepsUnit (trace says Waits o.unit owners) (waiting_by line o)
 keeps-waits trace line o owners same keeps = record {
   kind = keeps.kind;
   single = keeps.single;

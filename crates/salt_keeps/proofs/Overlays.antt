@@ -48,7 +48,8 @@ edited-row (d ∷ ds) es q h =
     ∙ ap (over (find place_cmp q ds)) (row_at-set q d.0 d.1 es)
     ∙ by (is_eq (place_cmp q d.0)) refl
   where
-    by : (b : Bool) → is_eq (place_cmp q d.0) ≡ b → over (find place_cmp q ds) (cond b d.1 (row_at q es)) ≡ over (cond b (Some d.1) (find place_cmp q ds)) (row_at q es)
+    by : (b : Bool) → is_eq (place_cmp q d.0) ≡ b →
+        over (find place_cmp q ds) (cond b d.1 (row_at q es)) ≡ over (cond b (Some d.1) (find place_cmp q ds)) (row_at q es)
     by true e =
         let s : q ≡ d.0 = place_same q d.0 (equal-is _ e) in
         let n : find place_cmp q ds ≡ None = subst (λ p. find place_cmp p ds ≡ None) (sym s) (below-none d.0 ds (first _ _ h)) in
@@ -72,11 +73,13 @@ pub is-edited : (ds : List Edit) (es now : Tables) → AreInOrder ds → ((q : P
 is-edited ds es now h same = tables-same now (with_edits ds es) (λ q. same q ∙ sym (edited-row ds es q h))
 
 -- a view gives the entries of its reach
-pub view-rows : (o : Option Reach) (ds : List Edit) (es view : Tables) → AreInOrder ds → Views o ds es view → rows_in o view ≡ rows_in o (with_edits ds es)
+pub view-rows : (o : Option Reach) (ds : List Edit) (es view : Tables) → AreInOrder ds → Views o ds es view →
+    rows_in o view ≡ rows_in o (with_edits ds es)
 view-rows None ds es view s h = refl
 view-rows (Some r) ds es view s h = agree-rows r view (with_edits ds es) (λ q w. h q w ∙ sym (edited-row ds es q s))
 
-pub listed-rows : (o : Option Reach) (ds : List Edit) (es : Tables) (rows : List Entry) → AreInOrder ds → AreRows o ds es rows → rows ≡ rows_in o (with_edits ds es)
+pub listed-rows : (o : Option Reach) (ds : List Edit) (es : Tables) (rows : List Entry) → AreInOrder ds → AreRows o ds es rows →
+    rows ≡ rows_in o (with_edits ds es)
 listed-rows None ds es rows s h = h
 listed-rows (Some r) ds es rows s h =
     same_entries place_cmp place_total place_same rows (where_key place_cmp (is_within r) (with_edits ds es).list) h.sorted (is_sorted-where_key place_cmp (is_within r) (with_edits ds es).list (with_edits ds es).sorted)
@@ -86,7 +89,8 @@ listed-rows (Some r) ds es rows s h =
 pub small-views : (r : Reach) (ds : List Edit) (es small : Tables) → AreInOrder ds → Agree r small es → Views (Some r) ds es (with_edits ds small)
 small-views r ds es small s same q w = edited-row ds small q s ∙ ap (over (find place_cmp q ds)) (same q w)
 
-find-within : {X : Type 0} (r : Reach) (q : Place) (es : List (Place × X)) → find place_cmp q (where_key place_cmp (is_within r) es) ≡ cond (is_within r q) (find place_cmp q es) None
+find-within : {X : Type 0} (r : Reach) (q : Place) (es : List (Place × X)) →
+    find place_cmp q (where_key place_cmp (is_within r) es) ≡ cond (is_within r q) (find place_cmp q es) None
 find-within r q es = find-where_key place_cmp (is_within r) q (λ x e. ap (is_within r) (sym (place_same q x e))) es
 
 -- a reach's rows alone, with its edits alone

@@ -77,7 +77,8 @@ all_sources-exact pairs b c = (
         (last-named pairs b c r)
 
 -- and the due ones those that are due
-pub due_in-exact : (writer : Place → Option Id) (pairs : List Pair) (finished : List Id) (b : Id) → In b (due_in pairs finished) ↔ IsDue (dependencies_of writer pairs finished) b
+pub due_in-exact : (writer : Place → Option Id) (pairs : List Pair) (finished : List Id) (b : Id) →
+    In b (due_in pairs finished) ↔ IsDue (dependencies_of writer pairs finished) b
 due_in-exact writer pairs finished b = (
   (λ h. let m = in-filter test b finished h in record { finished = in-has b finished m.0; sources = λ c r. all-in (λ c. has_id c finished) c (all_sources pairs b) m.1 ((all_sources-exact pairs b c).1 r) }),
   (λ d. into-filter test b finished (has-in b finished d.finished) (into-all (λ c. has_id c finished) (all_sources pairs b) (λ c i. d.sources c ((all_sources-exact pairs b c).0 i)))),
@@ -93,7 +94,8 @@ edge-named : (graph : List WaitUnit) (x y : Id) → In y (edges_in graph x) → 
 edge-named [] x y h = absurd h
 edge-named (w ∷ ws) x y h = by (is_same_id x w.unit) refl (edge-named ws x y) h
   where
-    by : (t : Bool) → is_same_id x w.unit ≡ t → (In y (edges_in ws x) → In x (names_of ws)) → In y (cond t w.edges (edges_in ws x)) → In x (w.unit ∷ names_of ws)
+    by : (t : Bool) → is_same_id x w.unit ≡ t → (In y (edges_in ws x) → In x (names_of ws)) → In y (cond t w.edges (edges_in ws x)) →
+        In x (w.unit ∷ names_of ws)
     by true e more i = inl (sym (is_same_id-true x w.unit e))
     by false e more i = inr (more i)
 

@@ -58,7 +58,9 @@ pub accepted-known : (trace : Trace) (b : Id) → Firsts trace → In b (accepte
 accepted-known trace b h a n = record { unreleased = n; kept = not-in b (abandoned_in trace) (h.accepted_kept b a) }
 
 -- the same reads, where nothing is released or given up
-same-reads : (trace : Trace) (e : Event) (old : Dependencies) → KeepsDependencies old trace → ((x : Id) → read_directly x (trace says e) ≡ read_directly x trace) → released_in (trace says e) ≡ released_in trace → abandoned_in (trace says e) ≡ abandoned_in trace → (x y : Id) → IsTrue (old.reads x y) ↔ ReadsLive (trace says e) x y
+same-reads : (trace : Trace) (e : Event) (old : Dependencies) → KeepsDependencies old trace →
+    ((x : Id) → read_directly x (trace says e) ≡ read_directly x trace) → released_in (trace says e) ≡ released_in trace →
+    abandoned_in (trace says e) ≡ abandoned_in trace → (x y : Id) → IsTrue (old.reads x y) ↔ ReadsLive (trace says e) x y
 same-reads trace e old k rs fs gs x y = (
   (λ h. let r = (k.reads x y).0 h in record {
     reads = subst (In y) (sym (rs x)) r.reads;
@@ -76,7 +78,8 @@ through-writers : (f g : (p : Place) → Option Id) → ((p : Place) → f p ≡
 through-writers f g e None y h = absurd h
 through-writers f g e (Some r) y h = (h.0, h.1, sym (e (place r.table h.0)) ∙ h.2)
 
-reads-did : (trace : Trace) (u : Id) (st : Statement) (a : Answer) (old : Dependencies) → Sound trace → Firsts trace → is_open trace u ≡ true → KeepsDependencies old trace → (x y : Id) → ReadsAfter trace (Did u st a) old x y ↔ ReadsLive (trace says Did u st a) x y
+reads-did : (trace : Trace) (u : Id) (st : Statement) (a : Answer) (old : Dependencies) → Sound trace → Firsts trace → is_open trace u ≡ true →
+    KeepsDependencies old trace → (x y : Id) → ReadsAfter trace (Did u st a) old x y ↔ ReadsLive (trace says Did u st a) x y
 reads-did trace u st a old s h o k x y = (forth, back)
   where
     added : List Id
@@ -107,14 +110,17 @@ reads-did trace u st a old s h o k x y = (forth, back)
         was : In y (read_directly x trace) → ReadsAfter trace (Did u st a) old x y
         was i = inl ((k.reads x y).1 (record { reads = i; reader = record { unreleased = r.reader.unreleased; kept = r.reader.kept }; source = r.source }))
 
-        by : (t : Bool) → is_of_program x trace u ≡ t → In y (cond t (without (x ∷ []) (programs_among trace (writers_in trace (reach_now u trace st))) ++ read_directly x trace) (read_directly x trace)) → ReadsAfter trace (Did u st a) old x y
+        by : (t : Bool) → is_of_program x trace u ≡ t →
+            In y (cond t (without (x ∷ []) (programs_among trace (writers_in trace (reach_now u trace st))) ++ read_directly x trace) (read_directly x trace)) →
+            ReadsAfter trace (Did u st a) old x y
         by true e i = either
             (λ j. let m = in-without y (x ∷ []) (programs_among trace (writers_in trace (reach_now u trace st))) j in
             inr (program-of trace u x e, or_left (is_same_id y x) false m.1, through-writers (live_writer trace) old.writer (λ p. sym (k.writer p)) (reach_now u trace st) y (writes-in trace (reach_now u trace st) y m.0 r.source)))
             was (in-cases y _ (read_directly x trace) i)
         by false e i = was i
 
-reads-ended : (trace : Trace) (u : Id) (end : End) (old : Dependencies) → KeepsDependencies old trace → (x y : Id) → ReadsAfter trace (Ended u end) old x y ↔ ReadsLive (trace says Ended u end) x y
+reads-ended : (trace : Trace) (u : Id) (end : End) (old : Dependencies) → KeepsDependencies old trace → (x y : Id) →
+    ReadsAfter trace (Ended u end) old x y ↔ ReadsLive (trace says Ended u end) x y
 reads-ended trace u end old k x y = (
   (λ h. let r = (k.reads x y).0 h.0 in record {
     reads = r.reads;
@@ -125,7 +131,8 @@ reads-ended trace u end old k x y = (
       ((k.reads x y).1 (record { reads = r.reads; reader = record { unreleased = r.reader.unreleased; kept = or_left _ _ n }; source = r.source }), or_right (has_id x (abandoned_in trace)) _ n)),
 )
 
-reads-released : (trace : Trace) (bs : List Id) (old : Dependencies) → KeepsDependencies old trace → (x y : Id) → ReadsAfter trace (Released bs) old x y ↔ ReadsLive (trace says Released bs) x y
+reads-released : (trace : Trace) (bs : List Id) (old : Dependencies) → KeepsDependencies old trace → (x y : Id) →
+    ReadsAfter trace (Released bs) old x y ↔ ReadsLive (trace says Released bs) x y
 reads-released trace bs old k x y = (
   (λ h. let r = (k.reads x y).0 h.0 in record {
     reads = r.reads;
@@ -137,7 +144,8 @@ reads-released trace bs old k x y = (
       ((k.reads x y).1 (record { reads = r.reads; reader = record { unreleased = or_left _ _ n; kept = r.reader.kept }; source = or_left _ _ m }), or_right (has_id x (released_in trace)) _ n, or_right (has_id y (released_in trace)) _ m)),
 )
 
-reads-says : (trace : Trace) (e : Event) (old : Dependencies) → Sound trace → Salty trace → Firsts trace → Fits trace e → KeepsDependencies old trace → (x y : Id) → ReadsAfter trace e old x y ↔ ReadsLive (trace says e) x y
+reads-says : (trace : Trace) (e : Event) (old : Dependencies) → Sound trace → Salty trace → Firsts trace → Fits trace e →
+    KeepsDependencies old trace → (x y : Id) → ReadsAfter trace e old x y ↔ ReadsLive (trace says e) x y
 reads-says trace (Did u st a) old s z h f k x y = reads-did trace u st a old s h f.0 k x y
 reads-says trace (Ended u end) old s z h f k x y = reads-ended trace u end old k x y
 reads-says trace (Released bs) old s z h f k x y = reads-released trace bs old k x y
@@ -148,7 +156,9 @@ reads-says trace Ready old s z h f k x y = (
 reads-says trace e old s z h f k x y = same-reads trace e old k (λ x. refl) refl refl x y
 
 -- finished programs
-finished-says : (trace : Trace) (e : Event) (old : Dependencies) → ((b : Id) → In b (finished_in trace) → In b (programs_in trace)) → (Dead : (b : Id) → e ≡ Finished b → has_id b (released_in trace) ≡ false) → KeepsDependencies old trace → (b : Id) → FinishedAfter e old b ↔ FinishedLive (trace says e) b
+finished-says : (trace : Trace) (e : Event) (old : Dependencies) → ((b : Id) → In b (finished_in trace) → In b (programs_in trace)) →
+    (Dead : (b : Id) → e ≡ Finished b → has_id b (released_in trace) ≡ false) → KeepsDependencies old trace → (b : Id) →
+    FinishedAfter e old b ↔ FinishedLive (trace says e) b
 finished-says trace (Finished c) old g d k b = (
   (λ h. either (λ e. record { finished = in-right b (finished_in trace) (c ∷ []) (inl e); unreleased = d b (ap Finished e) }) (λ t. let r = (k.finished b).0 t in record { finished = in-left b (finished_in trace) (c ∷ []) r.finished; unreleased = r.unreleased }) h),
   (λ r. either (λ i. inr ((k.finished b).1 (record { finished = i; unreleased = r.unreleased }))) (λ i. either (λ e. inl e) (λ x. absurd x) i) (in-cases b (finished_in trace) (c ∷ []) r.finished)),
@@ -189,7 +199,8 @@ ends-alive (trace says Accepted c) p w b h d = acceptance-alive trace p.0 w c (m
 ends-alive (trace says e) p w b h d = absurd h
 
 -- what is kept after an event is what the event makes of what was kept
-pub deps-after : (trace : Trace) (e : Event) (old new : Dependencies) → IsPlayed (trace says e) → WellKept (start_of trace).kept → KeepsDependencies old trace → DependenciesAfter trace e old new → KeepsDependencies new (trace says e)
+pub deps-after : (trace : Trace) (e : Event) (old new : Dependencies) → IsPlayed (trace says e) → WellKept (start_of trace).kept →
+    KeepsDependencies old trace → DependenciesAfter trace e old new → KeepsDependencies new (trace says e)
 deps-after trace e old new p w k d =
     let o : OfBoots (start_of trace).kept = of-start (start_of trace).kept w in
     let h = holds trace p.0 o in

@@ -44,23 +44,28 @@ find-both : (p : Place) (xs ys : List (Place × Id)) → find place_cmp p (xs ++
 find-both p [] ys = refl
 find-both p (x ∷ xs) ys = by (is_eq (place_cmp p x.0)) (find-both p xs ys)
   where
-    by : (t : Bool) → find place_cmp p (xs ++ ys) ≡ or_find (find place_cmp p xs) (find place_cmp p ys) → cond t (Some x.1) (find place_cmp p (xs ++ ys)) ≡ or_find (cond t (Some x.1) (find place_cmp p xs)) (find place_cmp p ys)
+    by : (t : Bool) → find place_cmp p (xs ++ ys) ≡ or_find (find place_cmp p xs) (find place_cmp p ys) →
+        cond t (Some x.1) (find place_cmp p (xs ++ ys)) ≡ or_find (cond t (Some x.1) (find place_cmp p xs)) (find place_cmp p ys)
     by true e = refl
     by false e = e
 
-find-given : (p : Place) (b : Id) (ds : List Edit) → find place_cmp p (map (λ (d : Edit). (d.0, b)) ds) ≡ cond (is_some (find place_cmp p ds)) (Some b) None
+find-given : (p : Place) (b : Id) (ds : List Edit) →
+    find place_cmp p (map (λ (d : Edit). (d.0, b)) ds) ≡ cond (is_some (find place_cmp p ds)) (Some b) None
 find-given p b [] = refl
 find-given p b (d ∷ ds) = by (is_eq (place_cmp p d.0)) (find-given p b ds)
   where
-    by : (t : Bool) → find place_cmp p (map (λ (d : Edit). (d.0, b)) ds) ≡ cond (is_some (find place_cmp p ds)) (Some b) None → cond t (Some b) (find place_cmp p (map (λ (d : Edit). (d.0, b)) ds)) ≡ cond (is_some (cond t (Some d.1) (find place_cmp p ds))) (Some b) None
+    by : (t : Bool) → find place_cmp p (map (λ (d : Edit). (d.0, b)) ds) ≡ cond (is_some (find place_cmp p ds)) (Some b) None →
+        cond t (Some b) (find place_cmp p (map (λ (d : Edit). (d.0, b)) ds)) ≡ cond (is_some (cond t (Some d.1) (find place_cmp p ds))) (Some b) None
     by true e = refl
     by false e = e
 
 -- a test on places is one on those that compare alike
-kept-at : (test : Place → Bool) (p : Place) (ws : List (Place × Id)) → find place_cmp p (where_key place_cmp test ws) ≡ cond (test p) (find place_cmp p ws) None
+kept-at : (test : Place → Bool) (p : Place) (ws : List (Place × Id)) →
+    find place_cmp p (where_key place_cmp test ws) ≡ cond (test p) (find place_cmp p ws) None
 kept-at test p ws = find-where_key place_cmp test p (λ x e. ap test (sym (place_same p x e))) ws
 
-committed-writer : (o : Option Id) (ds : List Edit) (ws : List (Place × Id)) (p : Place) → writer_in (written_by o ds ++ where_key place_cmp (λ q. not (is_some (find place_cmp q ds))) ws) p ≡ cond (is_some (find place_cmp p ds)) o (writer_in ws p)
+committed-writer : (o : Option Id) (ds : List Edit) (ws : List (Place × Id)) (p : Place) →
+    writer_in (written_by o ds ++ where_key place_cmp (λ q. not (is_some (find place_cmp q ds))) ws) p ≡ cond (is_some (find place_cmp p ds)) o (writer_in ws p)
 committed-writer None ds ws p = kept-at (λ q. not (is_some (find place_cmp q ds))) p ws ∙ by (is_some (find place_cmp p ds))
   where
     by : (t : Bool) → cond (not t) (find place_cmp p ws) None ≡ cond t None (writer_in ws p)
@@ -75,7 +80,8 @@ committed-writer (Some b) ds ws p =
     by true = refl
     by false = refl
 
-released-writer : (bs : List Id) (ws : List (Place × Id)) (p : Place) → writer_in (where_key place_cmp (λ q. is_some (unless_among bs (writer_in ws q))) ws) p ≡ unless_among bs (writer_in ws p)
+released-writer : (bs : List Id) (ws : List (Place × Id)) (p : Place) →
+    writer_in (where_key place_cmp (λ q. is_some (unless_among bs (writer_in ws q))) ws) p ≡ unless_among bs (writer_in ws p)
 released-writer bs ws p = kept-at (λ q. is_some (unless_among bs (writer_in ws q))) p ws ∙ by (writer_in ws p)
   where
     but : (b : Id) (t : Bool) → cond (is_some (then_some (not t) b)) (Some b) None ≡ then_some (not t) b
@@ -114,7 +120,8 @@ found-place : (p : Place) (ws : List (Place × Id)) (y : Id) → writer_in ws p 
 found-place p [] y h = cc
 found-place p (w ∷ ws) y h = by (is_eq (place_cmp p w.0)) refl h (found-place p ws y)
   where
-    by : (t : Bool) → is_eq (place_cmp p w.0) ≡ t → cond t (Some w.1) (find place_cmp p ws) ≡ Some y → (writer_in ws p ≡ Some y → (v : Place × Id) × In v ws × (p ≡ v.0)) → (v : Place × Id) × In v (w ∷ ws) × (p ≡ v.0)
+    by : (t : Bool) → is_eq (place_cmp p w.0) ≡ t → cond t (Some w.1) (find place_cmp p ws) ≡ Some y →
+        (writer_in ws p ≡ Some y → (v : Place × Id) × In v ws × (p ≡ v.0)) → (v : Place × Id) × In v (w ∷ ws) × (p ≡ v.0)
     by true e q more = (w, inl refl, place_same p w.0 (equal-is _ e))
     by false e q more = let m = more q in (m.0, inr m.1, m.2)
 
@@ -128,17 +135,21 @@ Path-of p q = p ≡ q
 some-pair : (b y x z : Id) → pair_with b y ≡ Some (record { reader = x; source = z }) → (b ≡ x) × (y ≡ z) × (is_same_id y b ≡ false)
 some-pair b y x z h = by (is_same_id y b) refl h
   where
-    by : (t : Bool) → is_same_id y b ≡ t → then_some {T = Pair} (not t) (record { reader = b; source = y }) ≡ Some (record { reader = x; source = z }) → (b ≡ x) × (y ≡ z) × (is_same_id y b ≡ false)
+    by : (t : Bool) → is_same_id y b ≡ t → then_some {T = Pair} (not t) (record { reader = b; source = y }) ≡ Some (record { reader = x; source = z }) →
+        (b ≡ x) × (y ≡ z) × (is_same_id y b ≡ false)
     by true e q = cc
     by false e q = let s : Path-of (record { reader = b; source = y }) (record { reader = x; source = z }) = cc in (ap (λ (p : Pair). p.reader) s, ap (λ (p : Pair). p.source) s, e)
 
-read-in : (b : Id) (r : Reach) (ws : List (Place × Id)) (x y : Id) → In (record { reader = x; source = y }) (filter_map (pair_at b r ws) ws) → (b ≡ x) × (is_same_id y x ≡ false) × WritesIn (writer_in ws) (Some r) y
+read-in : (b : Id) (r : Reach) (ws : List (Place × Id)) (x y : Id) → In (record { reader = x; source = y }) (filter_map (pair_at b r ws) ws) →
+    (b ≡ x) × (is_same_id y x ≡ false) × WritesIn (writer_in ws) (Some r) y
 read-in b r ws x y i = let m = in-filter_map (pair_at b r ws) (record { reader = x; source = y }) ws i in by m.0 (is_within r m.0.0) refl (writer_in ws m.0.0) refl m.2
   where
     at : (w : Place × Id) → is_within r w.0 ≡ true → place r.table w.0.key ≡ w.0
     at w e = λ j. record { table = eqb-true r.table w.0.table (and_left (r.table == w.0.table) _ e) j; key = w.0.key }
 
-    by : (w : Place × Id) (t : Bool) → is_within r w.0 ≡ t → (o : Option Id) → writer_in ws w.0 ≡ o → cond t (option_and_then (pair_with b) o) None ≡ Some (record { reader = x; source = y }) → (b ≡ x) × (is_same_id y x ≡ false) × WritesIn (writer_in ws) (Some r) y
+    by : (w : Place × Id) (t : Bool) → is_within r w.0 ≡ t → (o : Option Id) → writer_in ws w.0 ≡ o →
+        cond t (option_and_then (pair_with b) o) None ≡ Some (record { reader = x; source = y }) →
+        (b ≡ x) × (is_same_id y x ≡ false) × WritesIn (writer_in ws) (Some r) y
     by w false e o q h = cc
     by w true e None q h = cc
     by w true e (Some z) q h =
@@ -148,36 +159,42 @@ read-in b r ws x y i = let m = in-filter_map (pair_at b r ws) (record { reader =
           (w.0.key, and_right (r.table == w.0.table) _ e, ap (writer_in ws) (at w e) ∙ q ∙ ap Some s.1),
         )
 
-into-read : (r : Reach) (ws : List (Place × Id)) (x y : Id) → is_same_id y x ≡ false → WritesIn (writer_in ws) (Some r) y → In (record { reader = x; source = y }) (filter_map (pair_at x r ws) ws)
+into-read : (r : Reach) (ws : List (Place × Id)) (x y : Id) → is_same_id y x ≡ false → WritesIn (writer_in ws) (Some r) y →
+    In (record { reader = x; source = y }) (filter_map (pair_at x r ws) ws)
 into-read r ws x y n w =
     let m = found-place (place r.table w.0) ws y w.2 in
     into-filter_map (pair_at x r ws) m.0 (record { reader = x; source = y }) ws m.1
     (subst (λ (p : Place). cond (is_within r p) (option_and_then (pair_with x) (writer_in ws p)) None ≡ Some (record { reader = x; source = y })) m.2
     ((λ i. cond (both-true (r.table == r.table) _ (eq-eqb r.table r.table refl) w.1 i) (option_and_then (pair_with x) (w.2 i)) None) ∙ ap (λ t. then_some {T = Pair} (not t) (record { reader = x; source = y })) n))
 
-reads-did : (o : Option Id) (q : Option Reach) (ws : List (Place × Id)) (ps : List Pair) (x y : Id) → (has_pair (pairs_read o q ws ++ ps) x y ≡ true) ↔ ((has_pair ps x y ≡ true) ⊎ ((o ≡ Some x) × (is_same_id y x ≡ false) × WritesIn (writer_in ws) q y))
+reads-did : (o : Option Id) (q : Option Reach) (ws : List (Place × Id)) (ps : List Pair) (x y : Id) →
+    (has_pair (pairs_read o q ws ++ ps) x y ≡ true) ↔ ((has_pair ps x y ≡ true) ⊎ ((o ≡ Some x) × (is_same_id y x ≡ false) × WritesIn (writer_in ws) q y))
 reads-did o q ws ps x y = (
   (λ h. either (λ i. inr (new o q i)) (λ i. inl (of-pair ps x y i)) (in-cases (record { reader = x; source = y }) (pairs_read o q ws) ps (pair-of (pairs_read o q ws ++ ps) x y h))),
   (λ h. of-pair (pairs_read o q ws ++ ps) x y (either (λ e. in-right _ (pairs_read o q ws) ps (pair-of ps x y e)) (λ m. in-left _ (pairs_read o q ws) ps (old o q m.0 m.1 m.2)) h)),
 )
   where
-    new : (o : Option Id) (q : Option Reach) → In (record { reader = x; source = y }) (pairs_read o q ws) → (o ≡ Some x) × (is_same_id y x ≡ false) × WritesIn (writer_in ws) q y
+    new : (o : Option Id) (q : Option Reach) → In (record { reader = x; source = y }) (pairs_read o q ws) →
+        (o ≡ Some x) × (is_same_id y x ≡ false) × WritesIn (writer_in ws) q y
     new None q i = absurd i
     new (Some b) None i = absurd i
     new (Some b) (Some r) i = let m = read-in b r ws x y i in (ap Some m.0, m.1, m.2)
 
-    old : (o : Option Id) (q : Option Reach) → o ≡ Some x → is_same_id y x ≡ false → WritesIn (writer_in ws) q y → In (record { reader = x; source = y }) (pairs_read o q ws)
+    old : (o : Option Id) (q : Option Reach) → o ≡ Some x → is_same_id y x ≡ false → WritesIn (writer_in ws) q y →
+        In (record { reader = x; source = y }) (pairs_read o q ws)
     old None q e n w = cc
     old (Some b) None e n w = absurd w
     old (Some b) (Some r) e n w = let s : b ≡ x = cc in subst (λ c. In (record { reader = x; source = y }) (filter_map (pair_at c r ws) ws)) (sym s) (into-read r ws x y n w)
 
-reads-filter : (test : Pair → Bool) (ps : List Pair) (x y : Id) → (has_pair (filter test ps) x y ≡ true) ↔ ((has_pair ps x y ≡ true) × (test (record { reader = x; source = y }) ≡ true))
+reads-filter : (test : Pair → Bool) (ps : List Pair) (x y : Id) →
+    (has_pair (filter test ps) x y ≡ true) ↔ ((has_pair ps x y ≡ true) × (test (record { reader = x; source = y }) ≡ true))
 reads-filter test ps x y = (
   (λ h. let m = in-filter test (record { reader = x; source = y }) ps (pair-of (filter test ps) x y h) in (of-pair ps x y m.0, m.1)),
   (λ h. of-pair (filter test ps) x y (into-filter test (record { reader = x; source = y }) ps (pair-of ps x y h.0) h.1)),
 )
 
-reads-on : (f : UnitFacts) (e : Event) (w : PlainWatch) (x y : Id) → IsTrue (has_pair (pairs_after f e w.writers w.pairs) x y) ↔ ReadsBy f e (watch_of w).dependencies x y
+reads-on : (f : UnitFacts) (e : Event) (w : PlainWatch) (x y : Id) →
+    IsTrue (has_pair (pairs_after f e w.writers w.pairs) x y) ↔ ReadsBy f e (watch_of w).dependencies x y
 reads-on f (Did u st a) w x y = reads-did (base_by f) f.reach w.writers w.pairs x y
 reads-on f (Ended u end) w x y =
     let r = reads-filter (λ p. not (has_id p.reader (given_up end (first_by f)))) w.pairs x y in

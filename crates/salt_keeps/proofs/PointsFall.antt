@@ -23,7 +23,8 @@ is-of-units s (Down why) h = cc
 is-of-units s (Opened boot n) h = cc
 is-of-units s e h = refl
 
-pub falls-point : (why : Why) (old new : Point) (trace : Trace) → KeepsPoint old trace → IsSound trace → Falls why old new → KeepsPoint new (trace says Down why) × IsSound (trace says Down why)
+pub falls-point : (why : Why) (old new : Point) (trace : Trace) → KeepsPoint old trace → IsSound trace → Falls why old new →
+    KeepsPoint new (trace says Down why) × IsSound (trace says Down why)
 falls-point why old new trace k sound f =
     let comes : next trace ≡ Some f.event = k.next ∙ f.comes in
     let good = good-event trace f.event (replays trace sound.played) (may-stand trace f.event (is-of-units old.state.units f.event f.devices) comes) in

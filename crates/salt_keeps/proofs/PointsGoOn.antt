@@ -27,16 +27,19 @@ use Rattle.std.proofs.Common.{ap, subst, sym, ◌∙◌}
 use Rattle.std.specs.Option.{option_or}
 use Rattle.std.specs.Prelude.{List, Option, [], false, option_map, refl, ◌++◌, ◌∷◌, ◌≡◌}
 
-pub refusal-kept : (s : State) (trace : Trace) (asked : Asked) → Keeps s trace → IsPlayed trace → WellKept (start_of trace).kept → refusal trace asked ≡ refusal_of s asked
+pub refusal-kept : (s : State) (trace : Trace) (asked : Asked) → Keeps s trace → IsPlayed trace → WellKept (start_of trace).kept →
+    refusal trace asked ≡ refusal_of s asked
 refusal-kept s trace asked keeps p w = refusal-told s.units trace keeps.units (under_way_of s) (under-way-kept s trace keeps p w) asked
 
-pub asked-kept : (s : State) (trace : Trace) (asked : Asked) (x : Reading s.watch) → Keeps s trace → IsPlayed (trace asks asked) → WellKept (start_of trace).kept → next (trace asks asked) ≡ asked_next s x asked
+pub asked-kept : (s : State) (trace : Trace) (asked : Asked) (x : Reading s.watch) → Keeps s trace → IsPlayed (trace asks asked) →
+    WellKept (start_of trace).kept → next (trace asks asked) ≡ asked_next s x asked
 asked-kept s trace asked x keeps p w =
     let now = asked_of asked s in
     asked-told s.units trace asked (beside_by now x) (beside-kept now (trace asks asked) (states-ask s trace asked keeps p.0 w) p w x) keeps.units
     ∙ ap (λ r. option_or (option_map Refused r) (line_in (units_asked asked s.units) (beside_by now x).clash (beside_by now x).items (line_asked asked))) (refusal-kept s trace asked keeps p.0 w)
 
-pub turned-kept : (s : State) (trace : Trace) (b : Id) (x : Reading s.watch) → Keeps s trace → IsPlayed (trace turns b) → WellKept (start_of trace).kept → next (trace turns b) ≡ turned_next s x b
+pub turned-kept : (s : State) (trace : Trace) (b : Id) (x : Reading s.watch) → Keeps s trace → IsPlayed (trace turns b) →
+    WellKept (start_of trace).kept → next (trace turns b) ≡ turned_next s x b
 turned-kept s trace b x keeps p w =
     let now = turned_to b s in
     turned-told s.units trace b (beside_by now x) (beside-kept now (trace turns b) (states-turn s trace b keeps p.0 w) p w x) keeps.units
@@ -44,7 +47,8 @@ turned-kept s trace b x keeps p w =
 pub turn-kept : (s : State) (trace : Trace) → Keeps s trace → next_turn trace ≡ next_turn_of s
 turn-kept s trace keeps = next-turn-told s.units trace keeps.units
 
-pub said-kept : (old new : State) (trace : Trace) (e : Event) (x : Reading new.watch) → Keeps old trace → IsPlayed (trace says e) → WellKept (start_of trace).kept → After e old new → next (trace says e) ≡ said_next e old new x (flight trace)
+pub said-kept : (old new : State) (trace : Trace) (e : Event) (x : Reading new.watch) → Keeps old trace → IsPlayed (trace says e) →
+    WellKept (start_of trace).kept → After e old new → next (trace says e) ≡ said_next e old new x (flight trace)
 said-kept old new trace (Down why) x keeps p w a = refl
 said-kept old new trace (Opened boot n) x keeps p w a =
     opened-told new.units (trace says Opened boot n) (states-say old new trace (Opened boot n) keeps p w a).units n (flight trace)
@@ -53,7 +57,8 @@ said-kept old new trace e x keeps p w a =
     said-told old.units trace e (phase (trace says e)) (beside_by new x) (beside-kept new (trace says e) after p w x) keeps.units p w
     ∙ (λ i. said_in (after.units.phase i) (sym a.units i) (beside_by new x) e (unit_of e old.units (sym a.units i)))
 
-pub flight-kept : (trace : Trace) (e : Event) (now : Option Event) → next (trace says e) ≡ now → flight (trace says e) ≡ flight_next e (flight trace) now
+pub flight-kept : (trace : Trace) (e : Event) (now : Option Event) → next (trace says e) ≡ now →
+    flight (trace says e) ≡ flight_next e (flight trace) now
 flight-kept trace (Down why) now h = refl
 flight-kept trace (Opened boot n) now h = ap decision_in h
 flight-kept trace e now h = ap decision_in h
@@ -63,7 +68,8 @@ flight-kept trace e now h = ap decision_in h
 pub idle-complete : (p : Point) (trace : Trace) → KeepsPoint p trace → IsIdle p → IsComplete trace
 idle-complete p trace k idle = (k.state.units.phase ∙ idle.serves, k.next ∙ idle.next, turn-kept p.state trace k.state ∙ idle.turn)
 
-pub asks-point : (asked : Asked) (old new : Point) (trace : Trace) → KeepsPoint old trace → IsSound trace → Asks asked old new → KeepsPoint new (trace asks asked) × IsSound (trace asks asked)
+pub asks-point : (asked : Asked) (old new : Point) (trace : Trace) → KeepsPoint old trace → IsSound trace → Asks asked old new →
+    KeepsPoint new (trace asks asked) × IsSound (trace asks asked)
 asks-point asked old new trace k sound a =
     let p : IsPlayed (trace asks asked) = (sound.played, idle-complete old trace k a.idle) in
     let n = asked-kept old.state trace asked a.read k.state p sound.well ∙ sym a.next in (
@@ -75,7 +81,8 @@ asks-point asked old new trace k sound a =
       record { played = p; well = sound.well },
     )
 
-pub turns-point : (b : Id) (old new : Point) (trace : Trace) → KeepsPoint old trace → IsSound trace → Turns b old new → KeepsPoint new (trace turns b) × IsSound (trace turns b)
+pub turns-point : (b : Id) (old new : Point) (trace : Trace) → KeepsPoint old trace → IsSound trace → Turns b old new →
+    KeepsPoint new (trace turns b) × IsSound (trace turns b)
 turns-point b old new trace k sound a =
     let p : IsPlayed (trace turns b) = (sound.played, k.state.units.phase ∙ a.serves, k.next ∙ a.none, turn-kept old.state trace k.state ∙ a.turn) in
     let n = turned-kept old.state trace b a.read k.state p sound.well ∙ sym a.next in (
@@ -87,7 +94,8 @@ turns-point b old new trace k sound a =
       record { played = p; well = sound.well },
     )
 
-pub says-point : (e : Event) (old new : Point) (trace : Trace) → KeepsPoint old trace → IsSound trace → Says e old new → is_of_run e ≡ false → KeepsPoint new (trace says e) × IsSound (trace says e)
+pub says-point : (e : Event) (old new : Point) (trace : Trace) → KeepsPoint old trace → IsSound trace → Says e old new → is_of_run e ≡ false →
+    KeepsPoint new (trace says e) × IsSound (trace says e)
 says-point e old new trace k sound a r =
     let p : IsPlayed (trace says e) = (sound.played, may-stand trace e r (k.next ∙ a.comes)) in
     let n = said-kept old.state new.state trace e a.read k.state p sound.well a.after ∙ ap (said_next e old.state new.state a.read) k.flight ∙ sym a.next in (
@@ -99,12 +107,14 @@ says-point e old new trace k sound a r =
       record { played = p; well = sound.well },
     )
 
-pub moves-point : (m : Move) (old new : Point) (trace : Trace) → KeepsPoint old trace → IsSound trace → Moves m old new → KeepsPoint new (moved trace m) × IsSound (moved trace m)
+pub moves-point : (m : Move) (old new : Point) (trace : Trace) → KeepsPoint old trace → IsSound trace → Moves m old new →
+    KeepsPoint new (moved trace m) × IsSound (moved trace m)
 moves-point (Ask asked) old new trace k sound a = asks-point asked old new trace k sound a
 moves-point (Turn b) old new trace k sound a = turns-point b old new trace k sound a
 moves-point (Say e) old new trace k sound a = says-point e old new trace k sound a.0 a.1
 
-pub runs-point : (ms : List Move) (old new : Point) (trace : Trace) → KeepsPoint old trace → IsSound trace → Runs old ms new → KeepsPoint new (trace_on trace ms) × IsSound (trace_on trace ms)
+pub runs-point : (ms : List Move) (old new : Point) (trace : Trace) → KeepsPoint old trace → IsSound trace → Runs old ms new →
+    KeepsPoint new (trace_on trace ms) × IsSound (trace_on trace ms)
 runs-point [] old new trace k sound r = (subst (λ p. KeepsPoint p trace) r k, sound)
 runs-point (m ∷ ms) old new trace k sound r = let n = moves-point m old r.0 trace k sound r.1 in runs-point ms r.0 new (moved trace m) n.0 n.1 r.2
 

@@ -89,21 +89,24 @@ older-at u [] n d h l = absurd (omega arith)
 older-at u (o ∷ os) zero d h l = h.0
 older-at u (o ∷ os) (suc n) d h l = older-at u os n d h.1 (omega arith)
 
-pub change-at : (os : List OpenUnit) (n : ℕ) (d : OpenUnit) (f : OpenUnit → OpenUnit) → Rising (names_in os) → n < length os → change_unit (get_or os n d).unit f os ≡ set os n (f (get_or os n d))
+pub change-at : (os : List OpenUnit) (n : ℕ) (d : OpenUnit) (f : OpenUnit → OpenUnit) → Rising (names_in os) → n < length os →
+    change_unit (get_or os n d).unit f os ≡ set os n (f (get_or os n d))
 change-at [] n d f h l = absurd (omega arith)
 change-at (o ∷ os) zero d f h l = let rest = change-none o.unit f os h.0 in λ i. cond (is_same_id-refl o.unit i) (f o) o ∷ rest i
 change-at (o ∷ os) (suc n) d f h l =
     let rest = change-at os n d f h.1 (omega arith) in
     λ i. cond (older-away o.unit (get_or os n d).unit (older-at o.unit os n d h.0 (omega arith)) i) (f o) o ∷ rest i
 
-pub without-at : (os : List OpenUnit) (n : ℕ) (d : OpenUnit) → Rising (names_in os) → n < length os → without_unit (get_or os n d).unit os ≡ remove os n
+pub without-at : (os : List OpenUnit) (n : ℕ) (d : OpenUnit) → Rising (names_in os) → n < length os →
+    without_unit (get_or os n d).unit os ≡ remove os n
 without-at [] n d h l = absurd (omega arith)
 without-at (o ∷ os) zero d h l = let rest = without-none o.unit os h.0 in λ i. cond (not (is_same_id-refl o.unit i)) (o ∷ rest i) (rest i)
 without-at (o ∷ os) (suc n) d h l =
     let rest = without-at os n d h.1 (omega arith) in
     λ i. cond (not (older-away o.unit (get_or os n d).unit (older-at o.unit os n d h.0 (omega arith)) i)) (o ∷ rest i) (rest i)
 
-pub named-at : (os : List OpenUnit) (n : ℕ) (d : OpenUnit) → Rising (names_in os) → n < length os → unit_named (get_or os n d).unit os ≡ Some (get_or os n d)
+pub named-at : (os : List OpenUnit) (n : ℕ) (d : OpenUnit) → Rising (names_in os) → n < length os →
+    unit_named (get_or os n d).unit os ≡ Some (get_or os n d)
 named-at [] n d h l = absurd (omega arith)
 named-at (o ∷ os) zero d h l = rw (is_same_id-refl o.unit) refl
 named-at (o ∷ os) (suc n) d h l = rw (older-away o.unit (get_or os n d).unit (older-at o.unit os n d h.0 (omega arith))) (named-at os n d h.1 (omega arith))

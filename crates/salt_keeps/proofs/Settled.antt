@@ -55,7 +55,8 @@ alike-victim here trace a = ap victim_of (ap (map (wait_unit here)) a.0 ∙ map-
 alike-served : (here trace : Trace) → Alike here trace → next_unblocked here ≡ next_unblocked trace
 alike-served here trace a = ap (find (λ u. is_empty (clashing_now here u))) a.0 ∙ find-same _ _ (wait_list trace) (λ u m. ap is_empty (a.1 u m))
 
-now-same : (here trace : Trace) (u : Id) → asked_by u here ≡ asked_by u trace → ((st : Statement) → clashing here u st ≡ clashing trace u st) → clashing_now here u ≡ clashing_now trace u
+now-same : (here trace : Trace) (u : Id) → asked_by u here ≡ asked_by u trace → ((st : Statement) → clashing here u st ≡ clashing trace u st) →
+    clashing_now here u ≡ clashing_now trace u
 now-same here trace u e h = ap (λ (o : Option Statement). elim o [ None ↦ [] | Some st ↦ clashing here u st ]) e ∙ by (asked_by u trace)
   where
     by : (o : Option Statement) → ◌≡◌ {A = List Owner} (elim o [ None ↦ [] | Some st ↦ clashing here u st ]) (elim o [ None ↦ [] | Some st ↦ clashing trace u st ])
@@ -85,7 +86,8 @@ alike-turns trace b p w = (refl, (λ u m. now-same (trace turns b) trace u (aske
     edges (Base c) = refl
 
 -- what settling leaves
-settles : (trace : Trace) → Every (λ w. is_some w.asked ≡ true) (waiting trace) → settle trace ≡ None → (victim trace ≡ None) × (next_unblocked trace ≡ None)
+settles : (trace : Trace) → Every (λ w. is_some w.asked ≡ true) (waiting trace) → settle trace ≡ None →
+    (victim trace ≡ None) × (next_unblocked trace ≡ None)
 settles trace h e = by (victim trace) (next_unblocked trace) refl refl e
   where
     asks-some : (us : List Id) (u : Id) → Every (λ w. is_some w.asked ≡ true) (map (asker trace) us) → In u us → is_some (asked_by u trace) ≡ true
@@ -100,16 +102,19 @@ settles trace h e = by (victim trace) (next_unblocked trace) refl refl e
         go None i q = cc
         go (Some st) i q = cc
 
-    by : (v s : Option Id) → victim trace ≡ v → next_unblocked trace ≡ s → settle_by trace v s ≡ None → (victim trace ≡ None) × (next_unblocked trace ≡ None)
+    by : (v s : Option Id) → victim trace ≡ v → next_unblocked trace ≡ s → settle_by trace v s ≡ None →
+        (victim trace ≡ None) × (next_unblocked trace ≡ None)
     by (Some u) s p q e = cc
     by None (Some u) p q e = absurd (served u q e)
     by None None p q e = (p, q)
 
-none-waits : (trace : Trace) → ((u : Id) → is_open trace u ≡ true → ⊥) → (us : List Id) → wait_list trace ≡ us → (victim trace ≡ None) × (next_unblocked trace ≡ None)
+none-waits : (trace : Trace) → ((u : Id) → is_open trace u ≡ true → ⊥) → (us : List Id) → wait_list trace ≡ us →
+    (victim trace ≡ None) × (next_unblocked trace ≡ None)
 none-waits trace n [] e = (ap (λ us. victim_of (map (wait_unit trace) us)) e, ap (find (λ u. is_empty (clashing_now trace u))) e)
 none-waits trace n (u ∷ us) e = absurd (n u (wait-open trace u (subst (In u) (sym e) (inl refl))))
 
-none-next : (trace : Trace) → IsPlayed trace → OfBoots (start_of trace).kept → phase trace ≡ Serving → next trace ≡ None → (victim trace ≡ None) × (next_unblocked trace ≡ None)
+none-next : (trace : Trace) → IsPlayed trace → OfBoots (start_of trace).kept → phase trace ≡ Serving → next trace ≡ None →
+    (victim trace ≡ None) × (next_unblocked trace ≡ None)
 none-next (from k) p w s n = cc
 none-next (trace asks asked) p w s n = let h = none-next trace p.0 w p.1.0 p.1.1 in let a = alike-asks trace asked p.0 w in (alike-victim (trace asks asked) trace a ∙ h.0, alike-served (trace asks asked) trace a ∙ h.1)
 none-next (trace turns b) p w s n = let h = none-next trace p.0 w p.1 p.2 in let a = alike-turns trace b p.0 w in (alike-victim (trace turns b) trace a ∙ h.0, alike-served (trace turns b) trace a ∙ h.1)
@@ -142,7 +147,8 @@ find-none : {A : Type 0} (p : A → Bool) (xs : List A) → find p xs ≡ None �
 find-none p [] h x m = absurd m
 find-none {A = A} p (y ∷ ys) h x m = by (p y) refl h m (find-none p ys)
   where
-    by : (b : Bool) → p y ≡ b → cond b (Some y) (find p ys) ≡ None → In x (y ∷ ys) → (find p ys ≡ None → (x : A) → In x ys → p x ≡ false) → p x ≡ false
+    by : (b : Bool) → p y ≡ b → cond b (Some y) (find p ys) ≡ None → In x (y ∷ ys) → (find p ys ≡ None → (x : A) → In x ys → p x ≡ false) →
+        p x ≡ false
     by true e g m more = cc
     by false e g (inl s) more = subst (λ z. p z ≡ false) s e
     by false e g (inr m) more = more g x m

@@ -148,17 +148,20 @@ victim-named graph u h = either
     from : (ws : List WaitUnit) → ((w : WaitUnit) → In w ws → In w graph) → In u (names_of ws) → In u (names_of graph)
     from ws f i = let m = in-map (λ (w : WaitUnit). w.unit) u ws i in subst (λ v. In v (names_of graph)) m.2 (mapped (λ (w : WaitUnit). w.unit) m.0 graph (f m.0 m.1))
 
-graph-names : (d : Dependencies) (ls : List Lock) (all : List Asker) (sources : Id → List Id) (ws : List Asker) → names_of (map (graph_unit d ls all sources) ws) ≡ map (λ w. w.unit) ws
+graph-names : (d : Dependencies) (ls : List Lock) (all : List Asker) (sources : Id → List Id) (ws : List Asker) →
+    names_of (map (graph_unit d ls all sources) ws) ≡ map (λ w. w.unit) ws
 graph-names d ls all sources [] = refl
 graph-names d ls all sources (w ∷ ws) = ap (λ us. w.unit ∷ us) (graph-names d ls all sources ws)
 
-victim-waits : (d : Dependencies) (ls : List Lock) (ws : List Asker) (sources : Id → List Id) (u : Id) → victim_in d ls ws sources ≡ Some u → In u (map (λ w. w.unit) ws)
+victim-waits : (d : Dependencies) (ls : List Lock) (ws : List Asker) (sources : Id → List Id) (u : Id) → victim_in d ls ws sources ≡ Some u →
+    In u (map (λ w. w.unit) ws)
 victim-waits d ls ws sources u h = subst (In u) (graph-names d ls ws sources ws) (victim-named (map (graph_unit d ls ws sources) ws) u h)
 
 served-waits : (ls : List Lock) (ws : List Asker) (u : Id) → served_in ls ws ≡ Some u → In u (map (λ w. w.unit) ws)
 served-waits ls ws u h = by (find (λ w. is_empty (clash_owners ls w)) ws) refl h
   where
-    by : (o : Option Asker) → find (λ w. is_empty (clash_owners ls w)) ws ≡ o → option_map (λ (w : Asker). w.unit) o ≡ Some u → In u (map (λ w. w.unit) ws)
+    by : (o : Option Asker) → find (λ w. is_empty (clash_owners ls w)) ws ≡ o → option_map (λ (w : Asker). w.unit) o ≡ Some u →
+        In u (map (λ w. w.unit) ws)
     by None e q = cc
     by (Some w) e q = let same : w.unit ≡ u = cc in subst (λ v. In v (map (λ w. w.unit) ws)) same (mapped (λ (w : Asker). w.unit) w ws (find-in (λ w. is_empty (clash_owners ls w)) w ws e).0)
 
@@ -166,7 +169,8 @@ served-waits ls ws u h = by (find (λ w. is_empty (clash_owners ls w)) ws) refl 
 abbrev Falls : List Id → ℕ → Event → Type 0
 Falls us n f = 6 * length (waiters_after f us) + stage f < n
 
-settle-falls : (s : UnitState) (us : List Id) (v w : Option Id) → ((u : Id) → v ≡ Some u → In u us) → ((u : Id) → w ≡ Some u → In u us) → IfComes (Falls us (6 * length us + 1)) (settle_in s v (option_and_then (λ u. unit_named u s.units) w))
+settle-falls : (s : UnitState) (us : List Id) (v w : Option Id) → ((u : Id) → v ≡ Some u → In u us) → ((u : Id) → w ≡ Some u → In u us) →
+    IfComes (Falls us (6 * length us + 1)) (settle_in s v (option_and_then (λ u. unit_named u s.units) w))
 settle-falls s us (Some u) w f g = let h = less-without u us (f u refl) in omega arith
 settle-falls s us None None f g = tt
 settle-falls s us None (Some u) f g = by (unit_named u s.units) refl
@@ -204,7 +208,8 @@ comes-else : (P : Event → Type 0) (o p : Option Event) → IfComes P o → IfC
 comes-else P None p f g = g
 comes-else P (Some e) p f g = f
 
-serving-falls : (s : State) (x : Reading s.watch) (e : Event) (o : Option OpenUnit) → IfComes (Falls (waiters s) (6 * length (waiters s) + stage e)) (serving_in s.units (beside_by s x) e o)
+serving-falls : (s : State) (x : Reading s.watch) (e : Event) (o : Option OpenUnit) →
+    IfComes (Falls (waiters s) (6 * length (waiters s) + stage e)) (serving_in s.units (beside_by s x) e o)
 serving-falls s x Ready o = tt
 serving-falls s x e o =
     comes-else (Falls (waiters s) (6 * length (waiters s) + stage e)) (follow_in s.units (beside_by s x) e o) (settles_in s.units (beside_by s x))
@@ -221,7 +226,8 @@ asks-one s (Did u st answer) (Some o) = omega arith
 asks-one s (Ended u end) (Some o) = omega arith
 asks-one s e o = omega arith
 
-waits-length : (f : UnitFacts) (e : Event) (ws : List Asker) → length f.asks ≤ 1 → length (waits_by f e ws) ≤ length (waiters_after e (map (λ w. w.unit) ws))
+waits-length : (f : UnitFacts) (e : Event) (ws : List Asker) → length f.asks ≤ 1 →
+    length (waits_by f e ws) ≤ length (waiters_after e (map (λ w. w.unit) ws))
 waits-length f (Waits u owners) ws h =
     let a = length-append (drop_asker u ws) f.asks in
     let b = length-append (without (u ∷ []) (map (λ w. w.unit) ws)) (u ∷ []) in
@@ -247,7 +253,8 @@ to-come-less us n None h f = h
 to-come-less us n (Some e) h f = f
 
 -- while serving, what is still to come falls with each event
-pub to-come-falls : (e : Event) (old new : State) (x : Reading new.watch) (flight : Option Event) → is_of_run e ≡ false → new.units.phase ≡ Serving → After e old new → to_come (waiters new) (said_next e old new x flight) < to_come (waiters old) (Some e)
+pub to-come-falls : (e : Event) (old new : State) (x : Reading new.watch) (flight : Option Event) → is_of_run e ≡ false → new.units.phase ≡ Serving →
+    After e old new → to_come (waiters new) (said_next e old new x flight) < to_come (waiters old) (Some e)
 to-come-falls (Down why) old new x flight r serves a = cc
 to-come-falls (Opened boot n) old new x flight r serves a = cc
 to-come-falls e old new x flight r serves a =

@@ -34,7 +34,8 @@ use Rattle.std.specs.Prelude.{List, None, Some, [], cond, map, refl, ℕ, ◌++�
 no-lock : (table : List Numbered) (n : Numbered) → In n (filter_map (on_lock (λ (l : Lock). None)) table ++ []) → In n []
 no-lock table n i = either (λ j. let m = in-filter_map (on_lock (λ (l : Lock). None)) n table j in let e : None ≡ Some n = m.2 in cc) (λ j. j) (in-cases n (filter_map (on_lock (λ (l : Lock). None)) table) [] i)
 
-ready-watched : (trace : Trace) (s : UnitState) (old new : Watch) → KeepsNothing (trace says Ready) → WatchChange s Ready old new → Watches new (trace says Ready)
+ready-watched : (trace : Trace) (s : UnitState) (old new : Watch) → KeepsNothing (trace says Ready) → WatchChange s Ready old new →
+    Watches new (trace says Ready)
 ready-watched trace s old new r w = record {
   locks = record { in_turn = []; rises = tt; locks = sym r.locks; same = λ n. ((λ i. no-lock old.table n ((w.locks n).0 i)), (λ i. absurd i)) };
   numbers = λ n i. absurd (no-lock old.table n ((w.locks n).0 i));
@@ -47,19 +48,22 @@ ready-watched trace s old new r w = record {
   };
 }
 
-watch-says : (old new : State) (trace : Trace) (e : Event) → Keeps old trace → IsPlayed (trace says e) → WellKept (start_of trace).kept → WatchChange old.units e old.watch new.watch → Watches new.watch (trace says e)
+watch-says : (old new : State) (trace : Trace) (e : Event) → Keeps old trace → IsPlayed (trace says e) → WellKept (start_of trace).kept →
+    WatchChange old.units e old.watch new.watch → Watches new.watch (trace says e)
 watch-says old new trace Ready keeps p w a = ready-watched trace old.units old.watch new.watch (ready-empty trace p (of-start (start_of trace).kept w)) a
 watch-says old new trace e keeps p w a =
     watches-say trace e old.watch new.watch p w keeps.watch
     (watch-by-facts trace e old.watch new.watch tt (subst (λ f. WatchBy f e old.watch new.watch) (sym (facts-kept old.units trace keeps.units e (replays trace p.0).base (good-event trace e (replays trace p.0) p.1))) a))
 
-names-says : (old : Id → List ℕ) (trace : Trace) (e : Event) → ((b : Id) → name_of_base b trace ≡ old b) → (b : Id) → name_of_base b (trace says e) ≡ named_by e old b
+names-says : (old : Id → List ℕ) (trace : Trace) (e : Event) → ((b : Id) → name_of_base b trace ≡ old b) → (b : Id) →
+    name_of_base b (trace says e) ≡ named_by e old b
 names-says old trace (Began u (First t c n args)) h b = ap (cond (is_same_id b c) n) (h b)
 names-says old trace (Began u kind) h b = h b
 names-says old trace e h b = h b
 
 -- an event
-pub states-say : (old new : State) (trace : Trace) (e : Event) → Keeps old trace → IsPlayed (trace says e) → WellKept (start_of trace).kept → After e old new → Keeps new (trace says e)
+pub states-say : (old new : State) (trace : Trace) (e : Event) → Keeps old trace → IsPlayed (trace says e) → WellKept (start_of trace).kept →
+    After e old new → Keeps new (trace says e)
 states-say old new trace e keeps p w a = record {
   units = subst (λ s. KeepsUnits s (trace says e)) (sym a.units) (keeps-says old.units trace e keeps.units p w);
   watch = watch-says old new trace e keeps p w a.watch;
@@ -68,7 +72,8 @@ states-say old new trace e keeps p w a = record {
 }
 
 -- a line, a turn
-pub states-ask : (s : State) (trace : Trace) (asked : Asked) → Keeps s trace → IsPlayed trace → WellKept (start_of trace).kept → Keeps (asked_of asked s) (trace asks asked)
+pub states-ask : (s : State) (trace : Trace) (asked : Asked) → Keeps s trace → IsPlayed trace → WellKept (start_of trace).kept →
+    Keeps (asked_of asked s) (trace asks asked)
 states-ask s trace asked keeps p w = record {
   units = keeps-asks s.units trace asked keeps.units;
   watch = watches-ask trace asked s.watch p w keeps.watch;
@@ -76,7 +81,8 @@ states-ask s trace asked keeps p w = record {
   can_stop = keeps.can_stop;
 }
 
-pub states-turn : (s : State) (trace : Trace) (b : Id) → Keeps s trace → IsPlayed trace → WellKept (start_of trace).kept → Keeps (turned_to b s) (trace turns b)
+pub states-turn : (s : State) (trace : Trace) (b : Id) → Keeps s trace → IsPlayed trace → WellKept (start_of trace).kept →
+    Keeps (turned_to b s) (trace turns b)
 states-turn s trace b keeps p w = record {
   units = keeps-turns s.units trace b keeps.units;
   watch = watches-turn trace b s.watch p w keeps.watch;

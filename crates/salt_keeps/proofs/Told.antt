@@ -72,7 +72,8 @@ module _ (s : UnitState) (trace : Trace) (keeps : KeepsUnits s trace) where
   abbrev pub AreClashes : Clashes → Type 0
   AreClashes c = (o : OpenUnit) (st : Statement) → KeepsUnit trace o → clashing trace o.unit st ≡ c o st
 
-  asks-clash : (c : Clashes) → AreClashes c → (o : OpenUnit) → KeepsUnit trace o → (st : Statement) → asks_for trace o.unit st (clashing trace o.unit st) ≡ asks_in s o st (c o st)
+  asks-clash : (c : Clashes) → AreClashes c → (o : OpenUnit) → KeepsUnit trace o → (st : Statement) →
+      asks_for trace o.unit st (clashing trace o.unit st) ≡ asks_in s o st (c o st)
   asks-clash c f o k st = asks-told o st k (clashing trace o.unit st) ∙ ap (asks_in s o st) (f o st k)
 
   pub turn-told : (c : Clashes) → AreClashes c → (o : OpenUnit) → KeepsUnit trace o → turn trace o.unit ≡ turn_in s c o
@@ -98,7 +99,8 @@ module _ (s : UnitState) (trace : Trace) (keeps : KeepsUnits s trace) where
   pub commits-told : (o : OpenUnit) → commits trace o.unit ≡ commits_in s o
   commits-told o = ap (λ n. Ended o.unit (Committed n)) (number-kept s trace keeps)
 
-  act-told : (c : Clashes) → AreClashes c → (t : ℕ) (act : Act) (o : Option OpenUnit) → IfSome (KeepsUnit trace) o → act_event trace t act (name_of o) ≡ act_in s c t act o
+  act-told : (c : Clashes) → AreClashes c → (t : ℕ) (act : Act) (o : Option OpenUnit) → IfSome (KeepsUnit trace) o →
+      act_event trace t act (name_of o) ≡ act_in s c t act o
   act-told c f t Begin o k = ap Some (begins-told (Acid t))
   act-told c f t (Do st) None k = ap Some (begins-told (Acid t))
   act-told c f t (Do st) (Some o) k = turn-told c f o k
@@ -109,7 +111,8 @@ module _ (s : UnitState) (trace : Trace) (keeps : KeepsUnits s trace) where
   act-told c f t Rollback None k = refl
   act-told c f t Rollback (Some o) k = refl
 
-  goes-on-told : (c : Clashes) → AreClashes c → (b : Id) (o : Option OpenUnit) → IfSome (KeepsUnit trace) o → goes_on trace b (name_of o) ≡ goes_on_in s c b o
+  goes-on-told : (c : Clashes) → AreClashes c → (b : Id) (o : Option OpenUnit) → IfSome (KeepsUnit trace) o →
+      goes_on trace b (name_of o) ≡ goes_on_in s c b o
   goes-on-told c f b None k = λ i. option_map (λ (c : Cont). begins-told (Later b c.next) i) (cont_of b (keeps.kept i))
   goes-on-told c f b (Some o) k = turn-told c f o k
 
@@ -118,7 +121,8 @@ module _ (s : UnitState) (trace : Trace) (keeps : KeepsUnits s trace) where
   go-told c f b = ap (goes_on trace b) (program-kept s trace b keeps) ∙ goes-on-told c f b (unit_of_program b s) (every-found (KeepsUnit trace) _ s.units keeps.each)
 
   -- the first event of a line
-  pub line-told : (c : Clashes) → AreClashes c → (items : Items) → record { locks = lock_items trace; bases = base_items trace } ≡ items → (line : Line) → line_event trace line ≡ line_in s c items line
+  pub line-told : (c : Clashes) → AreClashes c → (items : Items) → record { locks = lock_items trace; bases = base_items trace } ≡ items →
+      (line : Line) → line_event trace line ≡ line_in s c items line
   line-told c f items shown (Session t act) = ap (act_event trace t act) (session-kept s trace t keeps) ∙ act-told c f t act (unit_of_session t s) (every-found (KeepsUnit trace) _ s.units keeps.each)
   line-told c f items shown (Go b) = go-told c f b
   line-told c f items shown ShowLocks = ap (λ (x : Items). Some (Shown x.locks)) shown
@@ -128,7 +132,8 @@ module _ (s : UnitState) (trace : Trace) (keeps : KeepsUnits s trace) where
   line-told c f items shown line = refl
 
   -- what follows a Began, a Did
-  pub after-began-told : (c : Clashes) → AreClashes c → (o : OpenUnit) → KeepsUnit trace o → (line : Line) → after_began trace o.unit line ≡ after_began_in s c o line
+  pub after-began-told : (c : Clashes) → AreClashes c → (o : OpenUnit) → KeepsUnit trace o → (line : Line) →
+      after_began trace o.unit line ≡ after_began_in s c o line
   after-began-told c f o k (Session t Begin) = refl
   after-began-told c f o k line = turn-told c f o k
 
@@ -136,15 +141,18 @@ module _ (s : UnitState) (trace : Trace) (keeps : KeepsUnits s trace) where
   fails-told o c (Later b part) = ap (λ n. Ended o.unit (Branched n c)) (number-kept s trace keeps)
   fails-told o c kind = refl
 
-  ends-told : (o : OpenUnit) → KeepsUnit trace o → (b : Option (List Statement)) → length (done_of o.unit trace) ≡ o.done → is_at_end trace o.unit b ≡ is_at_end_in o b
+  ends-told : (o : OpenUnit) → KeepsUnit trace o → (b : Option (List Statement)) → length (done_of o.unit trace) ≡ o.done →
+      is_at_end trace o.unit b ≡ is_at_end_in o b
   ends-told o k (Some block) e = ap (λ n. n == length block) e
   ends-told o k None e = k.single
 
-  ends-by-kind : (o : OpenUnit) → KeepsUnit trace o → (kind : UnitKind) → counted kind (length (done_of o.unit trace)) ≡ o.done → is_at_end trace o.unit (block_of_kind s.kept kind) ≡ is_at_end_in o (block_of_kind s.kept kind)
+  ends-by-kind : (o : OpenUnit) → KeepsUnit trace o → (kind : UnitKind) → counted kind (length (done_of o.unit trace)) ≡ o.done →
+      is_at_end trace o.unit (block_of_kind s.kept kind) ≡ is_at_end_in o (block_of_kind s.kept kind)
   ends-by-kind o k (Acid t) e = k.single
   ends-by-kind o k kind e = ends-told o k (block_of_kind s.kept kind) e
 
-  at-end-told : (o : OpenUnit) → KeepsUnit trace o → then_some (is_at_end trace o.unit (block_of o.unit trace)) (commits trace o.unit) ≡ then_some (is_at_end_in o (block_of_kind s.kept o.kind)) (commits_in s o)
+  at-end-told : (o : OpenUnit) → KeepsUnit trace o →
+      then_some (is_at_end trace o.unit (block_of o.unit trace)) (commits trace o.unit) ≡ then_some (is_at_end_in o (block_of_kind s.kept o.kind)) (commits_in s o)
   at-end-told o k =
       ap (λ b. then_some (is_at_end trace o.unit b) (commits trace o.unit)) (block-kept s trace o keeps k)
       ∙ (λ i. then_some (ends-by-kind o k o.kind k.done i) (commits-told o i))
@@ -182,7 +190,8 @@ module _ (s : UnitState) (trace : Trace) (keeps : KeepsUnits s trace) where
       ∙ (λ i. then_some (is_empty (keeps.units i)) (drains-told s.kept.conts i))
       ∙ ap (λ b. then_some b (drains_in s s.kept.conts)) (empty-names s.units)
 
-  still-runs : (o : Option OpenUnit) → IfSome (KeepsUnit trace) o → elim (name_of o) [ None ↦ true | Some u ↦ not (is_waiting trace u) ] ≡ is_not_waiting o
+  still-runs : (o : Option OpenUnit) → IfSome (KeepsUnit trace) o →
+      elim (name_of o) [ None ↦ true | Some u ↦ not (is_waiting trace u) ] ≡ is_not_waiting o
   still-runs None k = refl
   still-runs (Some o) k = ap not k.waiting
 

@@ -17,7 +17,8 @@ use Rattle.salt_values.specs.declared.id.Id.{Id}
 use Rattle.std.proofs.Common.{ap, subst, sym, ◌∙◌}
 use Rattle.std.specs.Prelude.{Some, suc, ℕ, ◌≡◌}
 
-pub tries-left : (s : UnitState) (trace : Trace) (o : OpenUnit) (b : Id) (part n tries : ℕ) (x : Cause) (c : Cont) → KeepsUnits s trace → KeepsUnit trace o → IsPlayed (trace says Ended o.unit (Branched n x)) → WellKept (start_of trace).kept →
+pub tries-left : (s : UnitState) (trace : Trace) (o : OpenUnit) (b : Id) (part n tries : ℕ) (x : Cause) (c : Cont) → KeepsUnits s trace →
+    KeepsUnit trace o → IsPlayed (trace says Ended o.unit (Branched n x)) → WellKept (start_of trace).kept →
     o.kind ≡ Later b part → cont_of b s.kept ≡ Some c → c.tries ≡ suc tries → cont_of b (units_after (Ended o.unit (Branched n x)) s).kept ≡ Some (record c { tries = tries })
 tries-left s trace o b part n tries x c keeps k p w kind here left =
     let used = (tries-used (trace says Ended o.unit (Branched n x)) p (of-start (start_of trace).kept w) w.defined).1 in

@@ -22,10 +22,12 @@ pub filter-both : {A : Type 0} (p q r : A → Bool) → ((x : A) → r x ≡ (q 
 filter-both p q r h [] = refl
 filter-both {A = A} p q r h (x ∷ xs) = ap (λ b. cond b (x ∷ filter r xs) (filter r xs)) (h x) ∙ by (p x) (q x) (filter-both p q r h xs)
   where
-    by : (a b : Bool) → filter r xs ≡ filter q (filter p xs) → cond (q x && a) (x ∷ filter r xs) (filter r xs) ≡ filter q (cond a (x ∷ filter p xs) (filter p xs))
+    by : (a b : Bool) → filter r xs ≡ filter q (filter p xs) →
+        cond (q x && a) (x ∷ filter r xs) (filter r xs) ≡ filter q (cond a (x ∷ filter p xs) (filter p xs))
     by true b e = on (q x) e
       where
-        on : (c : Bool) → filter r xs ≡ filter q (filter p xs) → cond (c && true) (x ∷ filter r xs) (filter r xs) ≡ cond c (x ∷ filter q (filter p xs)) (filter q (filter p xs))
+        on : (c : Bool) → filter r xs ≡ filter q (filter p xs) →
+            cond (c && true) (x ∷ filter r xs) (filter r xs) ≡ cond c (x ∷ filter q (filter p xs)) (filter q (filter p xs))
         on true g = ap (λ ys. x ∷ ys) g
         on false g = g
     by false b e = off (q x) e
@@ -38,11 +40,13 @@ pub map-filter : {A B : Type 0} (f : A → B) (q : B → Bool) (xs : List A) →
 map-filter f q [] = refl
 map-filter f q (x ∷ xs) = by (q (f x)) (map-filter f q xs)
   where
-    by : (b : Bool) → map f (filter (λ x. q (f x)) xs) ≡ filter q (map f xs) → map f (cond b (x ∷ filter (λ x. q (f x)) xs) (filter (λ x. q (f x)) xs)) ≡ cond b (f x ∷ filter q (map f xs)) (filter q (map f xs))
+    by : (b : Bool) → map f (filter (λ x. q (f x)) xs) ≡ filter q (map f xs) →
+        map f (cond b (x ∷ filter (λ x. q (f x)) xs) (filter (λ x. q (f x)) xs)) ≡ cond b (f x ∷ filter q (map f xs)) (filter q (map f xs))
     by true e = ap (λ ys. f x ∷ ys) e
     by false e = e
 
-pub every-kept : {A : Type 0} (P Q : A → Type 0) (p : A → Bool) → ((x : A) → p x ≡ true → P x → Q x) → (xs : List A) → Every P xs → Every Q (filter p xs)
+pub every-kept : {A : Type 0} (P Q : A → Type 0) (p : A → Bool) → ((x : A) → p x ≡ true → P x → Q x) → (xs : List A) → Every P xs →
+    Every Q (filter p xs)
 every-kept P Q p f [] h = tt
 every-kept P Q p f (x ∷ xs) h = by (p x) refl (every-kept P Q p f xs h.1)
   where
@@ -58,7 +62,8 @@ pub every-pair : {A : Type 0} (P Q : A → Type 0) (xs : List A) → Every P xs 
 every-pair P Q [] h g = tt
 every-pair P Q (x ∷ xs) h g = ((h.0, g.0), every-pair P Q xs h.1 g.1)
 
-pub every-change : (P Q : OpenUnit → Type 0) (u : Id) (f : OpenUnit → OpenUnit) → ((o : OpenUnit) → is_same_id o.unit u ≡ true → P o → Q (f o)) → ((o : OpenUnit) → is_same_id o.unit u ≡ false → P o → Q o) → (os : List OpenUnit) → Every P os → Every Q (change_unit u f os)
+pub every-change : (P Q : OpenUnit → Type 0) (u : Id) (f : OpenUnit → OpenUnit) → ((o : OpenUnit) → is_same_id o.unit u ≡ true → P o → Q (f o)) →
+    ((o : OpenUnit) → is_same_id o.unit u ≡ false → P o → Q o) → (os : List OpenUnit) → Every P os → Every Q (change_unit u f os)
 every-change P Q u f own other [] h = tt
 every-change P Q u f own other (o ∷ os) h = (by (is_same_id o.unit u) refl, every-change P Q u f own other os h.1)
   where
@@ -66,7 +71,8 @@ every-change P Q u f own other (o ∷ os) h = (by (is_same_id o.unit u) refl, ev
     by true e = own o e h.0
     by false e = other o e h.0
 
-pub names-change : (u : Id) (f : OpenUnit → OpenUnit) → ((o : OpenUnit) → (f o).unit ≡ o.unit) → (os : List OpenUnit) → names_in (change_unit u f os) ≡ names_in os
+pub names-change : (u : Id) (f : OpenUnit → OpenUnit) → ((o : OpenUnit) → (f o).unit ≡ o.unit) → (os : List OpenUnit) →
+    names_in (change_unit u f os) ≡ names_in os
 names-change u f same [] = refl
 names-change u f same (o ∷ os) = let rest = names-change u f same os in λ i. by (is_same_id o.unit u) i ∷ rest i
   where
@@ -75,11 +81,14 @@ names-change u f same (o ∷ os) = let rest = names-change u f same os in λ i. 
     by false = refl
 
 -- a unit of the list is found by its name
-pub named-in : (P : OpenUnit → Type 0) (u : Id) (os : List OpenUnit) → In u (names_in os) → Every P os → (o : OpenUnit) × (unit_named u os ≡ Some o) × (o.unit ≡ u) × P o
+pub named-in : (P : OpenUnit → Type 0) (u : Id) (os : List OpenUnit) → In u (names_in os) → Every P os →
+    (o : OpenUnit) × (unit_named u os ≡ Some o) × (o.unit ≡ u) × P o
 named-in P u [] i h = absurd i
 named-in P u (o ∷ os) i h = by (is_same_id o.unit u) refl i (λ j. named-in P u os j h.1)
   where
-    by : (b : Bool) → is_same_id o.unit u ≡ b → In u (names_in (o ∷ os)) → (In u (names_in os) → (p : OpenUnit) × (unit_named u os ≡ Some p) × (p.unit ≡ u) × P p) → (p : OpenUnit) × (cond b (Some o) (unit_named u os) ≡ Some p) × (p.unit ≡ u) × P p
+    by : (b : Bool) → is_same_id o.unit u ≡ b → In u (names_in (o ∷ os)) →
+        (In u (names_in os) → (p : OpenUnit) × (unit_named u os ≡ Some p) × (p.unit ≡ u) × P p) →
+        (p : OpenUnit) × (cond b (Some o) (unit_named u os) ≡ Some p) × (p.unit ≡ u) × P p
     by true e j more = (o, refl, is_same_id-true o.unit u e, h.0)
     by false e (inl j) more = let t : is_same_id o.unit u ≡ true = subst (λ v. is_same_id v u ≡ true) (sym j) (is_same_id-refl u) in cc
     by false e (inr j) more = more j

@@ -51,7 +51,8 @@ module _ (trace : Trace) where
   abbrev P : Event → Type 0
   P = Asks trace
 
-  asks-for : (u : Id) (st : Statement) (owners : List Owner) → is_waiting trace u ≡ false → asked_by u trace ≡ Some st → clashing trace u st ≡ owners → P (asks_for trace u st owners)
+  asks-for : (u : Id) (st : Statement) (owners : List Owner) → is_waiting trace u ≡ false → asked_by u trace ≡ Some st →
+      clashing trace u st ≡ owners → P (asks_for trace u st owners)
   asks-for u st [] w a c = tt
   asks-for u st (owner ∷ owners) w a c = (w, (st, a, c, refl))
 
@@ -159,7 +160,8 @@ none-when : {A : Type 0} (b : Bool) (x : A) → then_some b x ≡ None → b ≡
 none-when true x h = cc
 none-when false x h = refl
 
-asks-asked : (trace : Trace) (asked : Asked) (o : Option Refusal) → refusal trace asked ≡ o → IfComes (Asks (trace asks asked)) (option_or (option_map Refused o) (line_event (trace asks asked) (line_asked asked)))
+asks-asked : (trace : Trace) (asked : Asked) (o : Option Refusal) → refusal trace asked ≡ o →
+    IfComes (Asks (trace asks asked)) (option_or (option_map Refused o) (line_event (trace asks asked) (line_asked asked)))
 asks-asked trace asked (Some r) e = tt
 asks-asked trace (Rejected r) None e = cc
 asks-asked trace (Tree line) None e = asks-line (trace asks Tree line) line (none-when (is_state_wrong trace line) State (neither (then_some (is_state_wrong trace line) State) _ (neither (judged trace line) _ e).1).0)

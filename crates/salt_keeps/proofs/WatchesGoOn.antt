@@ -24,13 +24,15 @@ use Rattle.std.specs.List.{filter_map}
 use Rattle.std.specs.Prelude.{List, None, Option, Some, [], length, option_map, ℕ, ◌+◌, ◌<◌, ◌∷◌, ◌≡◌}
 
 -- numbers stay below the count
-numbers-after : (trace : Trace) (e : Event) (k : ℕ) (table : List Numbered) → AreBelow k table → (n : Numbered) → In n (table_after k trace e table) → n.number < k + length (lock_won trace e)
+numbers-after : (trace : Trace) (e : Event) (k : ℕ) (table : List Numbered) → AreBelow k table → (n : Numbered) → In n (table_after k trace e table) →
+    n.number < k + length (lock_won trace e)
 numbers-after trace e k table b n i = either
     (λ j. let m = in-filter_map (on_lock (lock_fate trace e)) n table j in old m.0 (lock_fate trace e m.0.lock) (b m.0 m.1) m.2)
     (λ j. let m = in-map (λ (l : Lock). record { number = k; lock = l }) n (lock_won trace e) j in new m.0 (lock_won trace e) m.1 m.2)
     (in-cases n (filter_map (on_lock (lock_fate trace e)) table) _ i)
   where
-    old : (m : Numbered) (o : Option Lock) → m.number < k → option_map (λ l. record { number = m.number; lock = l }) o ≡ Some n → n.number < k + length (lock_won trace e)
+    old : (m : Numbered) (o : Option Lock) → m.number < k → option_map (λ l. record { number = m.number; lock = l }) o ≡ Some n →
+        n.number < k + length (lock_won trace e)
     old m None h q = cc
     old m (Some l) h q = let s : m.number ≡ n.number = cc in subst (λ x. x < k + length (lock_won trace e)) s (omega arith)
 
@@ -38,7 +40,8 @@ numbers-after trace e k table b n i = either
     new l [] j q = absurd j
     new l (x ∷ ls) j q = subst (λ (y : Numbered). y.number < k + length (x ∷ ls)) q (omega arith)
 
-pub watches-say : (trace : Trace) (e : Event) (old new : Watch) → IsPlayed (trace says e) → WellKept (start_of trace).kept → Watches old trace → WatchAfter trace e old new → Watches new (trace says e)
+pub watches-say : (trace : Trace) (e : Event) (old new : Watch) → IsPlayed (trace says e) → WellKept (start_of trace).kept → Watches old trace →
+    WatchAfter trace e old new → Watches new (trace says e)
 watches-say trace e old new p w h a = record {
   locks = subst (KeepsLocks new.table) (sym (held-says trace e p w)) (keeps-after old.taken trace e old.table new.table (held trace) h.locks h.numbers a.locks);
   numbers = λ n i. subst (λ k. n.number < k) (sym a.taken) (numbers-after trace e old.taken old.table h.numbers n ((a.locks n).0 i));
@@ -47,7 +50,8 @@ watches-say trace e old new p w h a = record {
   dependencies = deps-after trace e old.dependencies new.dependencies p w h.dependencies a.dependencies;
 }
 
-pub watches-ask : (trace : Trace) (asked : Asked) (w : Watch) → IsPlayed trace → WellKept (start_of trace).kept → Watches w trace → Watches w (trace asks asked)
+pub watches-ask : (trace : Trace) (asked : Asked) (w : Watch) → IsPlayed trace → WellKept (start_of trace).kept → Watches w trace →
+    Watches w (trace asks asked)
 watches-ask trace asked w p k h = record {
   locks = subst (KeepsLocks w.table) (sym (held-asks trace asked)) h.locks;
   numbers = h.numbers;
@@ -56,7 +60,8 @@ watches-ask trace asked w p k h = record {
   dependencies = deps-asks trace asked w.dependencies h.dependencies;
 }
 
-pub watches-turn : (trace : Trace) (b : Id) (w : Watch) → IsPlayed trace → WellKept (start_of trace).kept → Watches w trace → Watches w (trace turns b)
+pub watches-turn : (trace : Trace) (b : Id) (w : Watch) → IsPlayed trace → WellKept (start_of trace).kept → Watches w trace →
+    Watches w (trace turns b)
 watches-turn trace b w p k h = record {
   locks = subst (KeepsLocks w.table) (sym (held-turns trace b)) h.locks;
   numbers = h.numbers;
@@ -65,7 +70,8 @@ watches-turn trace b w p k h = record {
   dependencies = deps-turns trace b w.dependencies h.dependencies;
 }
 
-pub watches-begin : (trace : Trace) (n : ℕ) → IsPlayed (trace says Ready) → WellKept (start_of trace).kept → Watches (empty_watch n) (trace says Ready)
+pub watches-begin : (trace : Trace) (n : ℕ) → IsPlayed (trace says Ready) → WellKept (start_of trace).kept →
+    Watches (empty_watch n) (trace says Ready)
 watches-begin trace n p w =
     let r = ready-empty trace p (of-start (start_of trace).kept w) in
     record {

@@ -45,7 +45,8 @@ find-append : {A : Type 0} (p : A → Bool) (xs ys : List A) → find p (xs ++ y
 find-append p [] ys = refl
 find-append p (x ∷ xs) ys = by (p x) (find-append p xs ys)
   where
-    by : (b : Bool) → find p (xs ++ ys) ≡ elim (find p xs) [ None ↦ find p ys | Some x ↦ Some x ] → cond b (Some x) (find p (xs ++ ys)) ≡ elim (cond b (Some x) (find p xs)) [ None ↦ find p ys | Some x ↦ Some x ]
+    by : (b : Bool) → find p (xs ++ ys) ≡ elim (find p xs) [ None ↦ find p ys | Some x ↦ Some x ] →
+        cond b (Some x) (find p (xs ++ ys)) ≡ elim (cond b (Some x) (find p xs)) [ None ↦ find p ys | Some x ↦ Some x ]
     by true e = refl
     by false e = e
 
@@ -75,7 +76,8 @@ found-last : (p : Place) (w : Written) (ws : List Written) → find (is_written_
 found-last p w [] h = cc
 found-last p w (v ∷ ws) h = by (is_written_at p v) refl (found-last p w ws) h
   where
-    by : (b : Bool) → is_written_at p v ≡ b → (find (is_written_at p) ws ≡ Some w → In w (last_of_each ws)) → cond b (Some v) (find (is_written_at p) ws) ≡ Some w → In w (v ∷ filter (λ x. not (is_written_at (written_at v) x)) (last_of_each ws))
+    by : (b : Bool) → is_written_at p v ≡ b → (find (is_written_at p) ws ≡ Some w → In w (last_of_each ws)) →
+        cond b (Some v) (find (is_written_at p) ws) ≡ Some w → In w (v ∷ filter (λ x. not (is_written_at (written_at v) x)) (last_of_each ws))
     by true e more g = let s : v ≡ w = cc in inl s
     by false e more g =
         let q : p ≡ written_at w = tie-same p (written_at w) (find-in (is_written_at p) w ws g).1 in
@@ -85,11 +87,13 @@ found-last p w (v ∷ ws) h = by (is_written_at p v) refl (found-last p w ws) h
 pub live-some : (trace : Trace) (u c : Id) → live_program trace u ≡ Some c → (program_of u trace ≡ Some c) × (has_id c (released_in trace) ≡ false)
 live-some trace u c h = by (program_of u trace) h
   where
-    when-some : (b : Id) (t : Bool) → has_id b (released_in trace) ≡ t → then_some (not t) b ≡ Some c → (Some b ≡ Some c) × (has_id c (released_in trace) ≡ false)
+    when-some : (b : Id) (t : Bool) → has_id b (released_in trace) ≡ t → then_some (not t) b ≡ Some c →
+        (Some b ≡ Some c) × (has_id c (released_in trace) ≡ false)
     when-some b true e g = cc
     when-some b false e g = let s : b ≡ c = cc in (ap Some s, subst (λ x. has_id x (released_in trace) ≡ false) s e)
 
-    by : (o : Option Id) → option_and_then (λ b. then_some (not (has_id b (released_in trace))) b) o ≡ Some c → (o ≡ Some c) × (has_id c (released_in trace) ≡ false)
+    by : (o : Option Id) → option_and_then (λ b. then_some (not (has_id b (released_in trace))) b) o ≡ Some c →
+        (o ≡ Some c) × (has_id c (released_in trace) ≡ false)
     by None g = cc
     by (Some b) g = when-some b (has_id b (released_in trace)) refl g
 
@@ -97,7 +101,8 @@ some-live : (trace : Trace) (u c : Id) → program_of u trace ≡ Some c → has
 some-live trace u c p n = ap (option_and_then (λ b. then_some (not (has_id b (released_in trace))) b)) p ∙ ap (λ t. then_some (not t) c) n
 
 -- the unreleased programs that wrote a key of the reach last
-pub writes-in : (trace : Trace) (r : Option Reach) (y : Id) → In y (programs_among trace (writers_in trace r)) → has_id y (released_in trace) ≡ false → WritesIn (live_writer trace) r y
+pub writes-in : (trace : Trace) (r : Option Reach) (y : Id) → In y (programs_among trace (writers_in trace r)) →
+    has_id y (released_in trace) ≡ false → WritesIn (live_writer trace) r y
 writes-in trace None y h n = absurd (in-filter_map (λ u. program_of u trace) y [] h).1
 writes-in trace (Some r) y h n =
     let u = in-filter_map (λ u. program_of u trace) y (writers_in trace (Some r)) h in
@@ -107,7 +112,8 @@ writes-in trace (Some r) y h n =
     let found : find (is_written_at (place r.table w.0.key)) (written_in trace) ≡ Some w.0 = subst (λ t. find (is_written_at (place t w.0.key)) (written_in trace) ≡ Some w.0) table (last-found w.0 (written_in trace) i.0) in
     (w.0.key, and_right (r.table == w.0.table) _ i.1, ap (λ o. option_and_then (live_program trace) (option_map (λ (w : Written). w.unit) o)) found ∙ ap (live_program trace) w.2 ∙ some-live trace u.0 y u.2 n)
 
-pub in-writes : (trace : Trace) (r : Option Reach) (y : Id) → WritesIn (live_writer trace) r y → In y (programs_among trace (writers_in trace r)) × (has_id y (released_in trace) ≡ false)
+pub in-writes : (trace : Trace) (r : Option Reach) (y : Id) → WritesIn (live_writer trace) r y →
+    In y (programs_among trace (writers_in trace r)) × (has_id y (released_in trace) ≡ false)
 in-writes trace None y h = absurd h
 in-writes trace (Some r) y h = by (find (is_written_at (place r.table h.0)) (written_in trace)) refl h.2
   where
@@ -116,7 +122,9 @@ in-writes trace (Some r) y h = by (find (is_written_at (place r.table h.0)) (wri
     mapped w (v ∷ ws) (inl e) = inl (ap (λ (x : Written). x.unit) e)
     mapped w (v ∷ ws) (inr i) = inr (mapped w ws i)
 
-    by : (o : Option Written) → find (is_written_at (place r.table h.0)) (written_in trace) ≡ o → option_and_then (live_program trace) (option_map (λ w. w.unit) o) ≡ Some y → In y (programs_among trace (writers_in trace (Some r))) × (has_id y (released_in trace) ≡ false)
+    by : (o : Option Written) → find (is_written_at (place r.table h.0)) (written_in trace) ≡ o →
+        option_and_then (live_program trace) (option_map (λ w. w.unit) o) ≡ Some y →
+        In y (programs_among trace (writers_in trace (Some r))) × (has_id y (released_in trace) ≡ false)
     by None e g = cc
     by (Some w) e g =
         let l = live-some trace w.unit y g in
@@ -128,7 +136,8 @@ in-writes trace (Some r) y h = by (find (is_written_at (place r.table h.0)) (wri
         (into-filter_map (λ u. program_of u trace) w.unit y (writers_in trace (Some r)) (mapped w _ i) l.0, l.1)
 
 -- an event that neither commits nor releases
-live-stays : (trace : Trace) (e : Event) → Sound trace → Salty trace → Fits trace e → written_in (trace says e) ≡ written_in trace → (more : Id → Bool) → ((b : Id) → has_id b (released_in (trace says e)) ≡ (has_id b (released_in trace) || more b)) →
+live-stays : (trace : Trace) (e : Event) → Sound trace → Salty trace → Fits trace e → written_in (trace says e) ≡ written_in trace →
+    (more : Id → Bool) → ((b : Id) → has_id b (released_in (trace says e)) ≡ (has_id b (released_in trace) || more b)) →
     (p : Place) → live_writer (trace says e) p ≡ option_and_then (λ b. then_some (not (more b)) b) (live_writer trace p)
 live-stays trace e s z f same more rel p = ap (λ ws. option_and_then (live_program (trace says e)) (option_map (λ (w : Written). w.unit) (find (is_written_at p) ws))) same ∙ by (find (is_written_at p) (written_in trace)) refl
   where
@@ -140,7 +149,8 @@ live-stays trace e s z f same more rel p = ap (λ ws. option_and_then (live_prog
         two true y q = refl
         two false y q = ap (λ t. then_some (not t) b) (sym q)
 
-    by : (o : Option Written) → find (is_written_at p) (written_in trace) ≡ o → option_and_then (live_program (trace says e)) (option_map (λ w. w.unit) o) ≡ option_and_then (λ b. then_some (not (more b)) b) (option_and_then (live_program trace) (option_map (λ w. w.unit) o))
+    by : (o : Option Written) → find (is_written_at p) (written_in trace) ≡ o →
+        option_and_then (live_program (trace says e)) (option_map (λ w. w.unit) o) ≡ option_and_then (λ b. then_some (not (more b)) b) (option_and_then (live_program trace) (option_map (λ w. w.unit) o))
     by None q = refl
     by (Some w) q =
         let k : kind_of w.unit (trace says e) ≡ kind_of w.unit trace = kind-stays trace e w.unit s f (z.written w (find-in (is_written_at p) w (written_in trace) q).0).kind_known in
@@ -154,11 +164,13 @@ or-false : (x : Bool) → x ≡ (x || false)
 or-false true = refl
 or-false false = refl
 
-plain : (trace : Trace) (e : Event) → Sound trace → Salty trace → Fits trace e → written_in (trace says e) ≡ written_in trace → released_in (trace says e) ≡ released_in trace → (p : Place) → live_writer (trace says e) p ≡ live_writer trace p
+plain : (trace : Trace) (e : Event) → Sound trace → Salty trace → Fits trace e → written_in (trace says e) ≡ written_in trace →
+    released_in (trace says e) ≡ released_in trace → (p : Place) → live_writer (trace says e) p ≡ live_writer trace p
 plain trace e s z f ws rs p = live-stays trace e s z f ws (λ b. false) (λ b. ap (has_id b) rs ∙ or-false (has_id b (released_in trace))) p ∙ all-keep (live_writer trace p)
 
 -- a commit
-committed-live : (trace : Trace) (u : Id) (n : ℕ) → Sound trace → is_open trace u ≡ true → live_program (trace says Ended u (Committed n)) u ≡ program_of u trace
+committed-live : (trace : Trace) (u : Id) (n : ℕ) → Sound trace → is_open trace u ≡ true →
+    live_program (trace says Ended u (Committed n)) u ≡ program_of u trace
 committed-live trace u n s o = by (program_of u trace) refl
   where
     by : (p : Option Id) → program_of u trace ≡ p → option_and_then (λ b. then_some (not (has_id b (released_in trace))) b) p ≡ p
@@ -175,7 +187,8 @@ wrote-unit (trace asks asked) u w h = wrote-unit trace u w h
 wrote-unit (trace turns b) u w h = wrote-unit trace u w h
 wrote-unit (trace says Did v st a) u w h = go (wrote-unit trace u w) (is_same_id u v) refl h
   where
-    go : (In w (wrote_of u trace) → w.unit ≡ u) → (t : Bool) → is_same_id u v ≡ t → In w (cond t (written_by u (changes_now v trace st) ++ wrote_of u trace) (wrote_of u trace)) → w.unit ≡ u
+    go : (In w (wrote_of u trace) → w.unit ≡ u) → (t : Bool) → is_same_id u v ≡ t →
+        In w (cond t (written_by u (changes_now v trace st) ++ wrote_of u trace) (wrote_of u trace)) → w.unit ≡ u
     go more true e i = either (λ j. let m = in-map _ w (changes_now v trace st) j in ap (λ (x : Written). x.unit) (sym m.2)) (λ j. more j) (in-cases w _ (wrote_of u trace) i)
     go more false e i = more i
 wrote-unit (trace says e) u w h = wrote-unit trace u w h
@@ -188,7 +201,9 @@ any-found p (x ∷ xs) t h = by (p x) h (any-found p xs t)
     by true g more = g
     by false g more = more g
 
-writer-committed : (trace : Trace) (u : Id) (n : ℕ) → Sound trace → Salty trace → Fits trace (Ended u (Committed n)) → WritesAtEnd trace (Ended u (Committed n)) → (p : Place) → live_writer (trace says Ended u (Committed n)) p ≡ writer_after trace (Ended u (Committed n)) (live_writer trace) p
+writer-committed : (trace : Trace) (u : Id) (n : ℕ) → Sound trace → Salty trace → Fits trace (Ended u (Committed n)) →
+    WritesAtEnd trace (Ended u (Committed n)) → (p : Place) →
+    live_writer (trace says Ended u (Committed n)) p ≡ writer_after trace (Ended u (Committed n)) (live_writer trace) p
 writer-committed trace u n s z f same p =
     ap (λ o. option_and_then (live_program here) (option_map (λ (w : Written). w.unit) o)) (find-append (is_written_at p) (wrote_of u trace) (written_in trace))
     ∙ by (find (is_written_at p) (wrote_of u trace)) refl
@@ -205,7 +220,8 @@ writer-committed trace u n s z f same p =
 pub writer-ready : (trace : Trace) (p : Place) → live_writer (trace says Ready) p ≡ None
 writer-ready trace p = by (last_writer trace p)
   where
-    of-unit : (u : Id) (o : Option Id) → program_of u trace ≡ o → option_and_then (λ b. then_some (not (has_id b (released_in trace ++ programs_in trace))) b) o ≡ None
+    of-unit : (u : Id) (o : Option Id) → program_of u trace ≡ o →
+        option_and_then (λ b. then_some (not (has_id b (released_in trace ++ programs_in trace))) b) o ≡ None
     of-unit u None e = refl
     of-unit u (Some b) e = ap (λ t. then_some (not t) b) (in-has b (released_in trace ++ programs_in trace) (in-right b (released_in trace) (programs_in trace) (program-in trace u b e)))
 
@@ -213,7 +229,8 @@ writer-ready trace p = by (last_writer trace p)
     by None = refl
     by (Some u) = of-unit u (program_of u trace) refl
 
-pub writer-says : (trace : Trace) (e : Event) → Sound trace → Salty trace → Fits trace e → WritesAtEnd trace e → (p : Place) → live_writer (trace says e) p ≡ writer_after trace e (live_writer trace) p
+pub writer-says : (trace : Trace) (e : Event) → Sound trace → Salty trace → Fits trace e → WritesAtEnd trace e → (p : Place) →
+    live_writer (trace says e) p ≡ writer_after trace e (live_writer trace) p
 writer-says trace (Ended u (Committed n)) s z f w p = writer-committed trace u n s z f w p
 writer-says trace (Released bs) s z f w p = live-stays trace (Released bs) s z f refl (λ b. has_id b bs) (λ b. has-append b (released_in trace) bs) p
 writer-says trace Ready s z f w p = writer-ready trace p
