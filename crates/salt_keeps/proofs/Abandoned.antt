@@ -107,7 +107,9 @@ firsts-accepted : (trace : Trace) (e : Event) → Fits trace e → Firsts trace 
 firsts-accepted trace e f h b i = either (λ j. programs-say trace e b (h.accepted_known b j)) (λ q. by q) (accepted-back trace e b i)
   where
     by : e ≡ Accepted b → In b (programs_in (trace says e))
-    by q = let u = just-committed trace b (subst (Fits trace) q f) in programs-say trace e b (program-in trace u.0 b (first-program (kind_of u.0 trace) b u.2))
+    by q =
+        let u = just-committed trace b (subst (Fits trace) q f) in
+        programs-say trace e b (program-in trace u.0 b (first-program (kind_of u.0 trace) b u.2))
 
 firsts-abandoned : (trace : Trace) (e : Event) → Firsts trace → (b : Id) → In b (abandoned_in (trace says e)) → In b (programs_in (trace says e))
 firsts-abandoned trace e h b i =
@@ -115,7 +117,8 @@ firsts-abandoned trace e h b i =
 
 -- a first part begins a program that has no event yet
 first-fresh : (trace : Trace) (x : Id) (kind : UnitKind) (b : Id) → Fits trace (Began x kind) → program_begun kind ≡ Some b → Old trace b → ⊥
-first-fresh trace x (First s c n args) b f k o = old-not (phase trace) b f.1 (subst (OldAt (phase trace) b) (sym (let g : c ≡ b = cc in sym g ∙ f.2.1)) o)
+first-fresh trace x (First s c n args) b f k o =
+    old-not (phase trace) b f.1 (subst (OldAt (phase trace) b) (sym (let g : c ≡ b = cc in sym g ∙ f.2.1)) o)
 first-fresh trace x (Acid s) b f k o = cc
 first-fresh trace x (Call s n args) b f k o = cc
 first-fresh trace x (Later c part) b f k o = cc
@@ -171,7 +174,9 @@ open-step trace (Ended v end) s f h later b u o p a = by (is_same_id u v) refl o
   where
     by : (t : Bool) → is_same_id u v ≡ t → is_open_standing (cond t (Over end) (standing u trace)) ≡ true → ⊥
     by true e o = cc
-    by false e o = either (λ i. h.open_kept b u o p i) (λ i. apart (h.alone b v u f.0 (given-first end (first_of v trace) b i) p)) (in-cases b (abandoned_in trace) _ a)
+    by false e o =
+        either (λ i. h.open_kept b u o p i) (λ i. apart (h.alone b v u f.0 (given-first end (first_of v trace) b i) p))
+        (in-cases b (abandoned_in trace) _ a)
       where
         apart : u ≡ v → ⊥
         apart q = let x : true ≡ false = sym (is_same_id-refl v) ∙ subst (λ y. is_same_id y v ≡ false) q e in cc
@@ -205,7 +210,9 @@ committed-step trace e f h b u c p a = either was now (committed-back trace e u 
     none-given v Cut n q i = cc
 
     now : (n : ℕ) × (e ≡ Ended u (Committed n)) → ⊥
-    now r = either (λ i. h.open_kept b u (ended-open trace e u (Committed r.0) f r.1) before i) (λ x. none-given x.0 x.1 r.0 (sym x.2 ∙ r.1) x.3) (abandoned-back trace e b a)
+    now r =
+        either (λ i. h.open_kept b u (ended-open trace e u (Committed r.0) f r.1) before i) (λ x. none-given x.0 x.1 r.0 (sym x.2 ∙ r.1) x.3)
+        (abandoned-back trace e b a)
 
 accepted-step : (trace : Trace) (e : Event) → Fits trace e → Firsts trace → (b : Id) → In b (accepted_in (trace says e)) →
     In b (abandoned_in (trace says e)) → ⊥
@@ -222,9 +229,37 @@ accepted-step trace e f h b i a =
     two v end q = cc
 
 pub firsts : (trace : Trace) → IsPlayed trace → OfBoots (start_of trace).kept → Firsts trace
-firsts (from k) p w = record { accepted_known = λ b i. i; abandoned_known = λ b i. absurd i; alone = λ b u v o. cc; new = λ b u o. cc; open_kept = λ b u o. cc; committed_kept = λ b u o. cc; accepted_kept = λ b i a. a }
-firsts (trace asks asked) p w = let h = firsts trace p.0 w in record { accepted_known = h.accepted_known; abandoned_known = h.abandoned_known; alone = h.alone; new = h.new; open_kept = h.open_kept; committed_kept = h.committed_kept; accepted_kept = h.accepted_kept }
-firsts (trace turns c) p w = let h = firsts trace p.0 w in record { accepted_known = h.accepted_known; abandoned_known = h.abandoned_known; alone = h.alone; new = h.new; open_kept = h.open_kept; committed_kept = h.committed_kept; accepted_kept = h.accepted_kept }
+firsts (from k) p w = record {
+  accepted_known = λ b i. i;
+  abandoned_known = λ b i. absurd i;
+  alone = λ b u v o. cc;
+  new = λ b u o. cc;
+  open_kept = λ b u o. cc;
+  committed_kept = λ b u o. cc;
+  accepted_kept = λ b i a. a;
+}
+firsts (trace asks asked) p w =
+    let h = firsts trace p.0 w in
+    record {
+      accepted_known = h.accepted_known;
+      abandoned_known = h.abandoned_known;
+      alone = h.alone;
+      new = h.new;
+      open_kept = h.open_kept;
+      committed_kept = h.committed_kept;
+      accepted_kept = h.accepted_kept;
+    }
+firsts (trace turns c) p w =
+    let h = firsts trace p.0 w in
+    record {
+      accepted_known = h.accepted_known;
+      abandoned_known = h.abandoned_known;
+      alone = h.alone;
+      new = h.new;
+      open_kept = h.open_kept;
+      committed_kept = h.committed_kept;
+      accepted_kept = h.accepted_kept;
+    }
 firsts (trace says e) p w =
     let h = firsts trace p.0 w in
     let k = holds trace p.0 w in

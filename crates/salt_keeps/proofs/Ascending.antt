@@ -24,10 +24,12 @@ pub same-ascending : {A : Type 0} (R : A → A → Type 0) → Strict R → (xs 
 same-ascending R s [] [] a b f g = refl
 same-ascending R s [] (y ∷ ys) a b f g = absurd (g y (inl refl))
 same-ascending R s (x ∷ xs) [] a b f g = absurd (f x (inl refl))
-same-ascending {A} R s (x ∷ xs) (y ∷ ys) a b f g = λ i. head i ∷ same-ascending R s xs ys a.1 b.1 (λ z h. over z h (f z (inr h))) (λ z h. back z h (g z (inr h))) i
+same-ascending {A} R s (x ∷ xs) (y ∷ ys) a b f g =
+    λ i. head i ∷ same-ascending R s xs ys a.1 b.1 (λ z h. over z h (f z (inr h))) (λ z h. back z h (g z (inr h))) i
   where
     head : x ≡ y
-    head = either (λ e. sym e) (λ i. either (λ e. e) (λ j. absurd (s.not_self x (s.through x y x (every-in (R x) y xs a.0 j) (every-in (R y) x ys b.0 i)))) (g y (inl refl))) (f x (inl refl))
+    head =
+        either (λ e. sym e) (λ i. either (λ e. e) (λ j. absurd (s.not_self x (s.through x y x (every-in (R x) y xs a.0 j) (every-in (R y) x ys b.0 i)))) (g y (inl refl))) (f x (inl refl))
 
     over : (z : A) → In z xs → In z (y ∷ ys) → In z ys
     over z h (inl e) = absurd (s.not_self x (subst (R x) (sym (head ∙ e)) (every-in (R x) z xs a.0 h)))
@@ -85,7 +87,8 @@ in_order-same us vs f g =
 
 -- a list that ascends is in order already
 pub order-of-ascending : (us vs : List Id) → Ascends Older us → ((x : Id) → In x us → In x vs) → ((x : Id) → In x vs → In x us) → us ≡ in_order vs
-order-of-ascending us vs a f g = same-ascending Older older-strict us (in_order vs) a (order-ascends vs) (λ x i. into-order x vs (f x i)) (λ x i. g x (in-order x vs i))
+order-of-ascending us vs a f g =
+    same-ascending Older older-strict us (in_order vs) a (order-ascends vs) (λ x i. into-order x vs (f x i)) (λ x i. g x (in-order x vs i))
 
 pub has-append : (b : Id) (us vs : List Id) → has_id b (us ++ vs) ≡ (has_id b us || has_id b vs)
 has-append b [] vs = refl

@@ -39,10 +39,17 @@ pub wait-waiting : (trace : Trace) → IsPlayed trace → OfBoots (start_of trac
 wait-waiting (from k) p w u h = absurd h
 wait-waiting (trace asks asked) p w u h = wait-waiting trace p.0 w u h
 wait-waiting (trace turns b) p w u h = wait-waiting trace p.0 w u h
-wait-waiting (trace says Waits v owners) p w u h = either (λ g. let r = in-without u (v ∷ []) (wait_list trace) g in rw (or_left (is_same_id u v) false r.1) (wait-waiting trace p.0 w u r.0)) (either (λ e. let s : is_same_id u v ≡ true = subst (λ x. is_same_id x v ≡ true) e (is_same_id-refl v) in rw s refl) (λ f. absurd f)) (in-cases u (without (v ∷ []) (wait_list trace)) (v ∷ []) h)
-wait-waiting (trace says Did v st a) p w u h = let r = in-without u (v ∷ []) (wait_list trace) h in rw (or_left (is_same_id u v) false r.1) (wait-waiting trace p.0 w u r.0)
-wait-waiting (trace says Ended v end) p w u h = let r = in-without u (v ∷ []) (wait_list trace) h in rw (or_left (is_same_id u v) false r.1) (wait-waiting trace p.0 w u r.0)
-wait-waiting (trace says Began v kind) p w u h = let k = holds trace p.0 w in rw (fresh-other trace v kind u k.sound (may-fit trace (Began v kind) k.comes p.1) (wait-open trace u h)) (wait-waiting trace p.0 w u h)
+wait-waiting (trace says Waits v owners) p w u h =
+    either (λ g. let r = in-without u (v ∷ []) (wait_list trace) g in rw (or_left (is_same_id u v) false r.1) (wait-waiting trace p.0 w u r.0))
+    (either (λ e. let s : is_same_id u v ≡ true = subst (λ x. is_same_id x v ≡ true) e (is_same_id-refl v) in rw s refl) (λ f. absurd f))
+    (in-cases u (without (v ∷ []) (wait_list trace)) (v ∷ []) h)
+wait-waiting (trace says Did v st a) p w u h =
+    let r = in-without u (v ∷ []) (wait_list trace) h in rw (or_left (is_same_id u v) false r.1) (wait-waiting trace p.0 w u r.0)
+wait-waiting (trace says Ended v end) p w u h =
+    let r = in-without u (v ∷ []) (wait_list trace) h in rw (or_left (is_same_id u v) false r.1) (wait-waiting trace p.0 w u r.0)
+wait-waiting (trace says Began v kind) p w u h =
+    let k = holds trace p.0 w in
+    rw (fresh-other trace v kind u k.sound (may-fit trace (Began v kind) k.comes p.1) (wait-open trace u h)) (wait-waiting trace p.0 w u h)
 wait-waiting (trace says e) p w u h = wait-waiting trace p.0 w u h
 
 -- what is known at an event
@@ -53,12 +60,20 @@ record At (trace : Trace) (e : Event) : Type 0 where
   ground : Ground trace
 
 known-at : (trace : Trace) (e : Event) → IsPlayed (trace says e) → OfBoots (start_of trace).kept → At trace e
-known-at trace e p w = let k = holds trace p.0 w in record { sound = k.sound; fits = may-fit trace e k.comes p.1; good = good-event trace e (replays trace p.0) p.1; ground = (replays trace p.0).base }
+known-at trace e p w =
+    let k = holds trace p.0 w in
+    record {
+      sound = k.sound;
+      fits = may-fit trace e k.comes p.1;
+      good = good-event trace e (replays trace p.0) p.1;
+      ground = (replays trace p.0).base;
+    }
 
 -- a waiting unit through an event of another
 asker-stays : (trace : Trace) (e : Event) (u : Id) → At trace e → standing u trace ≡ Waiting → is_unit_of u e ≡ false →
     asker (trace says e) u ≡ asker trace u
-asker-stays trace e u a w d = λ i. record { unit = u; base = option_and_then program_of_kind (kind i); family = family_of (kind i); asked = asked i; reach = reaches i }
+asker-stays trace e u a w d =
+    λ i. record { unit = u; base = option_and_then program_of_kind (kind i); family = family_of (kind i); asked = asked i; reach = reaches i }
   where
     o : is_open trace u ≡ true
     o = rw w refl
@@ -78,7 +93,8 @@ asker-stays trace e u a w d = λ i. record { unit = u; base = option_and_then pr
 
 -- and where it begins to wait
 asked-begins : (trace : Trace) (u : Id) (owners : List Owner) → is_waiting trace u ≡ false → asked_by u (trace says Waits u owners) ≡ asked_by u trace
-asked-begins trace u owners n = asked-waiting (trace says Waits u owners) u (rw (is_same_id-refl u) refl) ∙ rw (is_same_id-refl u) (by (block_of u trace))
+asked-begins trace u owners n =
+    asked-waiting (trace says Waits u owners) u (rw (is_same_id-refl u) refl) ∙ rw (is_same_id-refl u) (by (block_of u trace))
   where
     line : (s : Standing) → is_waiting_standing s ≡ false → asking_line u trace s ≡ line_of trace
     line Waiting h = cc
@@ -89,7 +105,8 @@ asked-begins trace u owners n = asked-waiting (trace says Waits u owners) u (rw 
     by None = ap statement_of_line (sym (line (standing u trace) n))
 
 asker-begins : (trace : Trace) (u : Id) (owners : List Owner) → is_waiting trace u ≡ false → asker (trace says Waits u owners) u ≡ asker trace u
-asker-begins trace u owners n = λ i. record { unit = u; base = program_of u trace; family = family_of (kind_of u trace); asked = asked-begins trace u owners n i; reach = option_and_then (reach_now u trace) (asked-begins trace u owners n i) }
+asker-begins trace u owners n =
+    λ i. record { unit = u; base = program_of u trace; family = family_of (kind_of u trace); asked = asked-begins trace u owners n i; reach = option_and_then (reach_now u trace) (asked-begins trace u owners n i) }
 
 -- a list of askers without one
 map-same : (f g : Id → Asker) (us : List Id) → ((x : Id) → In x us → f x ≡ g x) → map f us ≡ map g us
@@ -123,12 +140,18 @@ waiting-says trace (Waits u owners) p w =
     let known = asks-at trace (Waits u owners) p w in
     map-append (asker here) (without (u ∷ []) (wait_list trace)) (u ∷ [])
     ∙ (λ i. drop-map (asker here) trace u (wait_list trace) (λ x m d. asker-stays trace (Waits u owners) x a (wait-waiting trace p.0 w x m) d) i ++ asker-begins trace u owners known.0 i ∷ [])
-waiting-says trace (Did u st x) p w = let a = known-at trace (Did u st x) p w in drop-map (asker (trace says Did u st x)) trace u (wait_list trace) (λ x m d. asker-stays trace _ x a (wait-waiting trace p.0 w x m) d)
-waiting-says trace (Ended u end) p w = let a = known-at trace (Ended u end) p w in drop-map (asker (trace says Ended u end)) trace u (wait_list trace) (λ x m d. asker-stays trace _ x a (wait-waiting trace p.0 w x m) d)
+waiting-says trace (Did u st x) p w =
+    let a = known-at trace (Did u st x) p w in
+    drop-map (asker (trace says Did u st x)) trace u (wait_list trace) (λ x m d. asker-stays trace _ x a (wait-waiting trace p.0 w x m) d)
+waiting-says trace (Ended u end) p w =
+    let a = known-at trace (Ended u end) p w in
+    drop-map (asker (trace says Ended u end)) trace u (wait_list trace) (λ x m d. asker-stays trace _ x a (wait-waiting trace p.0 w x m) d)
 waiting-says trace (Began v kind) p w =
     let a = known-at trace (Began v kind) p w in
     map-same (asker (trace says Began v kind)) (asker trace) (wait_list trace) (λ x m. asker-stays trace _ x a (wait-waiting trace p.0 w x m) (fresh-other trace v kind x a.sound a.fits (wait-open trace x m)))
-waiting-says trace e p w = let a = known-at trace e p w in map-same (asker (trace says e)) (asker trace) (wait_list trace) (λ x m. asker-stays trace _ x a (wait-waiting trace p.0 w x m) refl)
+waiting-says trace e p w =
+    let a = known-at trace e p w in
+    map-same (asker (trace says e)) (asker trace) (wait_list trace) (λ x m. asker-stays trace _ x a (wait-waiting trace p.0 w x m) refl)
 
 -- a line and a turn change none
 pub asked-asks : (trace : Trace) (asked : Asked) (u : Id) → standing u trace ≡ Waiting → asked_by u (trace asks asked) ≡ asked_by u trace
@@ -138,10 +161,14 @@ pub asked-turns : (trace : Trace) (b : Id) (u : Id) → standing u trace ≡ Wai
 asked-turns trace b u w = asked-waiting (trace turns b) u w ∙ sym (asked-waiting trace u w)
 
 pub waiting-asks : (trace : Trace) (asked : Asked) → IsPlayed trace → OfBoots (start_of trace).kept → waiting (trace asks asked) ≡ waiting trace
-waiting-asks trace asked p w = map-same (asker (trace asks asked)) (asker trace) (wait_list trace) (λ u m. λ i. let a = asked-asks trace asked u (wait-waiting trace p w u m) in record { unit = u; base = program_of u trace; family = family_of (kind_of u trace); asked = a i; reach = option_and_then (reach_now u trace) (a i) })
+waiting-asks trace asked p w =
+    map-same (asker (trace asks asked)) (asker trace) (wait_list trace)
+    (λ u m. λ i. let a = asked-asks trace asked u (wait-waiting trace p w u m) in record { unit = u; base = program_of u trace; family = family_of (kind_of u trace); asked = a i; reach = option_and_then (reach_now u trace) (a i) })
 
 pub waiting-turns : (trace : Trace) (b : Id) → IsPlayed trace → OfBoots (start_of trace).kept → waiting (trace turns b) ≡ waiting trace
-waiting-turns trace b p w = map-same (asker (trace turns b)) (asker trace) (wait_list trace) (λ u m. λ i. let a = asked-turns trace b u (wait-waiting trace p w u m) in record { unit = u; base = program_of u trace; family = family_of (kind_of u trace); asked = a i; reach = option_and_then (reach_now u trace) (a i) })
+waiting-turns trace b p w =
+    map-same (asker (trace turns b)) (asker trace) (wait_list trace)
+    (λ u m. λ i. let a = asked-turns trace b u (wait-waiting trace p w u m) in record { unit = u; base = program_of u trace; family = family_of (kind_of u trace); asked = a i; reach = option_and_then (reach_now u trace) (a i) })
 
 -- each waiting unit asks for a statement
 every-drop : (u : Id) (ws : List Asker) → Every (λ w. is_some w.asked ≡ true) ws → Every (λ w. is_some w.asked ≡ true) (drop_asker u ws)
@@ -151,11 +178,14 @@ pub all-ask : (trace : Trace) → IsPlayed trace → OfBoots (start_of trace).ke
 all-ask (from k) p w = tt
 all-ask (trace asks asked) p w = subst (Every (λ w. is_some w.asked ≡ true)) (sym (waiting-asks trace asked p.0 w)) (all-ask trace p.0 w)
 all-ask (trace turns b) p w = subst (Every (λ w. is_some w.asked ≡ true)) (sym (waiting-turns trace b p.0 w)) (all-ask trace p.0 w)
-all-ask (trace says e) p w = subst (Every (λ w. is_some w.asked ≡ true)) (sym (waiting-says trace e p w)) (by e (asks-at trace e p w) (all-ask trace p.0 w))
+all-ask (trace says e) p w =
+    subst (Every (λ w. is_some w.asked ≡ true)) (sym (waiting-says trace e p w)) (by e (asks-at trace e p w) (all-ask trace p.0 w))
   where
     by : (e : Event) → Asks trace e → Every (λ w. is_some w.asked ≡ true) (waiting trace) →
         Every (λ w. is_some w.asked ≡ true) (waiting_after trace e (waiting trace))
-    by (Waits u owners) a h = every-append (λ (w : Asker). is_some w.asked ≡ true) (drop_asker u (waiting trace)) (asker trace u ∷ []) (every-drop u (waiting trace) h) (ap is_some a.1.1, tt)
+    by (Waits u owners) a h =
+        every-append (λ (w : Asker). is_some w.asked ≡ true) (drop_asker u (waiting trace)) (asker trace u ∷ []) (every-drop u (waiting trace) h)
+        (ap is_some a.1.1, tt)
     by (Did u st x) a h = every-drop u (waiting trace) h
     by (Ended u end) a h = every-drop u (waiting trace) h
     by e a h = h
@@ -171,13 +201,16 @@ distinct-filter p (u ∷ us) h = by (p u) (distinct-filter p us h.1)
 
 distinct-end : (u : Id) (us : List Id) → AreDistinct us → (In u us → ⊥) → AreDistinct (us ++ u ∷ [])
 distinct-end u [] h n = ((λ i. i), tt)
-distinct-end u (v ∷ us) h n = ((λ i. either (λ j. h.0 j) (λ j. either (λ e. n (inl (sym e))) (λ z. z) j) (in-cases v us (u ∷ []) i)), distinct-end u us h.1 (λ i. n (inr i)))
+distinct-end u (v ∷ us) h n =
+    ((λ i. either (λ j. h.0 j) (λ j. either (λ e. n (inl (sym e))) (λ z. z) j) (in-cases v us (u ∷ []) i)), distinct-end u us h.1 (λ i. n (inr i)))
 
 pub waits-once : (trace : Trace) → AreDistinct (wait_list trace)
 waits-once (from k) = tt
 waits-once (trace asks asked) = waits-once trace
 waits-once (trace turns b) = waits-once trace
-waits-once (trace says Waits u owners) = distinct-end u (without (u ∷ []) (wait_list trace)) (distinct-filter _ (wait_list trace) (waits-once trace)) (λ i. let r = in-without u (u ∷ []) (wait_list trace) i in let x : true ≡ false = sym (is_same_id-refl u) ∙ or_left (is_same_id u u) false r.1 in cc)
+waits-once (trace says Waits u owners) =
+    distinct-end u (without (u ∷ []) (wait_list trace)) (distinct-filter _ (wait_list trace) (waits-once trace))
+    (λ i. let r = in-without u (u ∷ []) (wait_list trace) i in let x : true ≡ false = sym (is_same_id-refl u) ∙ or_left (is_same_id u u) false r.1 in cc)
 waits-once (trace says Did u st a) = distinct-filter _ (wait_list trace) (waits-once trace)
 waits-once (trace says Ended u end) = distinct-filter _ (wait_list trace) (waits-once trace)
 waits-once (trace says e) = waits-once trace

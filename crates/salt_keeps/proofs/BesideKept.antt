@@ -71,7 +71,9 @@ module _ (s : State) (trace : Trace) (keeps : Keeps s trace) (p : IsPlayed trace
 
   -- a program that is under way is not released
   alive : (b : Id) → In b (under_way trace) → has_id b (released_in trace) ≡ false
-  alive b i = either (λ j. (unreleased-in trace b j).1) (λ j. part b j) (in-cases b (unreleased trace) (in_part_1 trace) (in-order b (unreleased trace ++ in_part_1 trace) i))
+  alive b i =
+      either (λ j. (unreleased-in trace b j).1) (λ j. part b j)
+      (in-cases b (unreleased trace) (in_part_1 trace) (in-order b (unreleased trace ++ in_part_1 trace) i))
     where
       part : (b : Id) → In b (in_part_1 trace) → has_id b (released_in trace) ≡ false
       part b j =

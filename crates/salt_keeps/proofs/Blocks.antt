@@ -66,18 +66,26 @@ stays-branched k n (Some kind) p a = record { definitions = refl; conts = λ b e
 
 kept-stays : (trace : Trace) (e : Event) (u : Id) → Sound trace → Fits trace e → Good trace e → is_open trace u ≡ true → is_unit_of u e ≡ false →
     StaysFor (kept trace) (kept (trace says e)) (program_of u trace)
-kept-stays trace (Ended v (Committed n)) u s f g o d = record { definitions = refl; conts = λ b e. cont-committed b (kept trace) n (kind_of v trace) (run_of v trace).vars (another trace u v s o f.0 d b e) }
-kept-stays trace (Ended v (Branched n c)) u s f g o d = stays-branched (kept trace) n (kind_of v trace) (program_of u trace) (λ b e. another trace u v s o f.0 d b e)
-kept-stays trace (Defined n t) u s f g o d = absurd (subst (In u) g (into-filter (is_open trace) u (units_begun trace) (kind-in trace u (s.known u o)) o))
+kept-stays trace (Ended v (Committed n)) u s f g o d = record {
+  definitions = refl;
+  conts = λ b e. cont-committed b (kept trace) n (kind_of v trace) (run_of v trace).vars (another trace u v s o f.0 d b e);
+}
+kept-stays trace (Ended v (Branched n c)) u s f g o d =
+    stays-branched (kept trace) n (kind_of v trace) (program_of u trace) (λ b e. another trace u v s o f.0 d b e)
+kept-stays trace (Defined n t) u s f g o d =
+    absurd (subst (In u) g (into-filter (is_open trace) u (units_begun trace) (kind-in trace u (s.known u o)) o))
 kept-stays trace e u s f g o d = record { definitions = refl; conts = λ b e. refl }
 
 block-stays : (old new : Kept) (o : Option UnitKind) → StaysFor old new (option_and_then program_of_kind o) →
     option_and_then (block_of_kind new) o ≡ option_and_then (block_of_kind old) o
 block-stays old new None s = refl
 block-stays old new (Some (Acid z)) s = refl
-block-stays old new (Some (Call z n args)) s = ap (λ ds. option_map block_of_call (program_named (filter_map program_of_definition ds) n)) s.definitions
-block-stays old new (Some (First z b n args)) s = ap (λ ds. option_map (λ p. block_of_part p 1) (program_named (filter_map program_of_definition ds) n)) s.definitions
-block-stays old new (Some (Later b part)) s = λ i. option_and_then (λ (c : Cont). option_map (λ p. block_of_part p part) (program_named (filter_map program_of_definition (s.definitions i)) c.program)) (s.conts b refl i)
+block-stays old new (Some (Call z n args)) s =
+    ap (λ ds. option_map block_of_call (program_named (filter_map program_of_definition ds) n)) s.definitions
+block-stays old new (Some (First z b n args)) s =
+    ap (λ ds. option_map (λ p. block_of_part p 1) (program_named (filter_map program_of_definition ds) n)) s.definitions
+block-stays old new (Some (Later b part)) s =
+    λ i. option_and_then (λ (c : Cont). option_map (λ p. block_of_part p part) (program_named (filter_map program_of_definition (s.definitions i)) c.program)) (s.conts b refl i)
 
 done-other : (trace : Trace) (e : Event) (u : Id) → is_unit_of u e ≡ false → done_of u (trace says e) ≡ done_of u trace
 done-other trace (Began v kind) u n = rw n refl
@@ -112,7 +120,9 @@ asked-stays trace e u s f g w d =
     o = rw w refl
 
     block : block_of u (trace says e) ≡ block_of u trace
-    block = ap (option_and_then (block_of_kind (kept (trace says e)))) (kind-stays trace e u s f (s.known u o)) ∙ block-stays (kept trace) (kept (trace says e)) (kind_of u trace) (kept-stays trace e u s f g o d)
+    block =
+        ap (option_and_then (block_of_kind (kept (trace says e)))) (kind-stays trace e u s f (s.known u o))
+        ∙ block-stays (kept trace) (kept (trace says e)) (kind_of u trace) (kept-stays trace e u s f g o d)
 
 -- and what its statement would reach
 pub reach-stays : (trace : Trace) (e : Event) (u : Id) → Sound trace → Fits trace e → Good trace e → Ground trace → is_open trace u ≡ true →

@@ -28,7 +28,9 @@ use Rattle.std.specs.Prelude.{Bool, IsTrue, List, None, Option, Some, [], cond, 
 wrote-writer : (base : Option Id) (ps : List Place) (old new : Dependencies) → WroteAll base ps old new → (q : Place) →
     new.writer q ≡ cond (list_any (λ p. is_eq (place_cmp q p)) ps) base (old.writer q)
 wrote-writer base [] old new w q = w.writer q
-wrote-writer base (p ∷ ps) old new w q = wrote-writer base ps w.0 new w.2 q ∙ ap (cond (list_any (λ p. is_eq (place_cmp q p)) ps) base) (w.1.writer q) ∙ by (list_any (λ p. is_eq (place_cmp q p)) ps) (is_eq (place_cmp q p))
+wrote-writer base (p ∷ ps) old new w q =
+    wrote-writer base ps w.0 new w.2 q ∙ ap (cond (list_any (λ p. is_eq (place_cmp q p)) ps) base) (w.1.writer q)
+    ∙ by (list_any (λ p. is_eq (place_cmp q p)) ps) (is_eq (place_cmp q p))
   where
     by : (more first : Bool) → cond more base (cond first base (old.writer q)) ≡ cond (first || more) base (old.writer q)
     by true true = refl
@@ -141,7 +143,8 @@ pub finish-marks : (facts : UnitFacts) (c : Id) (old : Dependencies) → Depende
 finish-marks facts c old = mark-fits facts c old
 
 has-order : (b : Id) (bs : List Id) → has_id b (in_order bs) ≡ has_id b bs
-has-order b bs = same-bool _ _ (λ e. in-has b bs (in-order b bs (has-in b (in_order bs) e))) (λ e. in-has b (in_order bs) (into-order b bs (has-in b bs e)))
+has-order b bs =
+    same-bool _ _ (λ e. in-has b bs (in-order b bs (has-in b (in_order bs) e))) (λ e. in-has b (in_order bs) (into-order b bs (has-in b bs e)))
 
 -- what is kept after the release that follows
 pub finish-leaves : (facts : UnitFacts) (c : Id) (bs : List Id) (old new : Dependencies) → HasFinished c bs old new →

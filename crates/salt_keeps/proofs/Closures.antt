@@ -23,7 +23,7 @@ use Rattle.salt_model.specs.Releasing.{ReadsThrough, itself, through}
 use Rattle.salt_model.specs.Trace.{Trace, start_of}
 use Rattle.salt_model.specs.Units.{is_of_program, wait_list}
 use Rattle.salt_model.specs.Waiting.{waiting_of}
-use Rattle.salt_model.specs.Words.{Every, has_id, in_order, shrink, without}
+use Rattle.salt_model.specs.Words.{has_id, in_order, shrink, without}
 use Rattle.salt_values.specs.declared.id.Id.{Id}
 use Rattle.std.proofs.Common.{inl, inr, subst, sym}
 use Rattle.std.specs.List.{filter, list_all, list_any}
@@ -32,7 +32,8 @@ use Rattle.std.specs.Prelude.{Bool, IsTrue, List, [], cond, false, not, refl, su
 -- kept pairs are reads
 kept-reads : (trace : Trace) (d : Dependencies) → KeepsDependencies d trace → (b c : Id) → Through d.reads b c → ReadsThrough trace b c
 kept-reads trace d k b c kept-itself = itself
-kept-reads trace d k b c (kept-through {c = x} h r) = through (in-has x (read_directly b trace) ((k.reads b x).0 h).reads) (kept-reads trace d k x c r)
+kept-reads trace d k b c (kept-through {c = x} h r) =
+    through (in-has x (read_directly b trace) ((k.reads b x).0 h).reads) (kept-reads trace d k x c r)
 
 -- by kept pairs one comes only to programs that are not released
 kept-unreleased : (trace : Trace) (d : Dependencies) → KeepsDependencies d trace → (b c : Id) → Through d.reads b c →
@@ -53,13 +54,16 @@ or-false-first false e h = cc
 reads-kept : (trace : Trace) (d : Dependencies) → Salty trace → Sources trace → Firsts trace → KeepsDependencies d trace → (b c : Id) →
     IsKnown trace b → has_id c (released_in trace) ≡ false → ReadsThrough trace b c → Through d.reads b c
 reads-kept trace d z s f k b c known n itself = kept-itself
-reads-kept trace d z s f k b c known n (through {c = x} i r) = kept-through ((k.reads b x).1 (record { reads = read; reader = record { unreleased = known.unreleased; kept = known.kept }; source = live })) (reads-kept trace d z s f k x c (accepted-known trace x f (s.read b x read) live) n r)
+reads-kept trace d z s f k b c known n (through {c = x} i r) =
+    kept-through ((k.reads b x).1 (record { reads = read; reader = record { unreleased = known.unreleased; kept = known.kept }; source = live }))
+    (reads-kept trace d z s f k x c (accepted-known trace x f (s.read b x read) live) n r)
   where
     read : In x (read_directly b trace)
     read = has-in x (read_directly b trace) i
 
     live : has_id x (released_in trace) ≡ false
-    live = not-in x (released_in trace) (λ h. or-false-first (has_id c (released_in trace)) n (sym (in-has c (released_in trace) (released-through trace z x c r h))))
+    live =
+        not-in x (released_in trace) (λ h. or-false-first (has_id c (released_in trace)) n (sym (in-has c (released_in trace) (released-through trace z x c r h))))
 
 -- RELEASES
 
@@ -76,7 +80,8 @@ due-of trace d z s f g k b = (
   where
     live : (c : Id) → has_id c (released_in trace) ≡ false → (has_id c (finished_in trace) || has_id c (released_in trace)) ≡ true →
         IsTrue (d.finished c)
-    live c n h = (k.finished c).1 (record { finished = has-in c (finished_in trace) (either (λ e. e) (λ e. absurd (or-false-first (has_id c (released_in trace)) n (sym e))) (or_cases (has_id c (finished_in trace)) _ h)); unreleased = n })
+    live c n h =
+        (k.finished c).1 (record { finished = has-in c (finished_in trace) (either (λ e. e) (λ e. absurd (or-false-first (has_id c (released_in trace)) n (sym e))) (or_cases (has_id c (finished_in trace)) _ h)); unreleased = n })
 
     or-first : (p q : Bool) → p ≡ true → (p || q) ≡ true
     or-first true q h = refl
@@ -122,7 +127,8 @@ release-from trace d p w k bs h =
 
 -- SOURCES: b and all that it reads from, directly or through programs
 pub sources-exact : (trace : Trace) → Sources trace → (b c : Id) → In c (sources trace b) ↔ ReadsThrough trace b c
-sources-exact trace s b c = let exact = sources-through trace s b c in ((λ h. exact.0 (in-has c (sources trace b) h)), (λ r. has-in c (sources trace b) (exact.1 r)))
+sources-exact trace s b c =
+    let exact = sources-through trace s b c in ((λ h. exact.0 (in-has c (sources trace b) h)), (λ r. has-in c (sources trace b) (exact.1 r)))
 
 -- WAITS: the waiting subtransactions of unfinished programs among the sources of a program that is not forgotten
 

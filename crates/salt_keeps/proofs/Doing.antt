@@ -34,7 +34,9 @@ changes-kept trace k o st same keeps = ap (λ d. d.changes) (done-kept trace k o
 -- over a view
 pub done-in-view : (k : Kept) (o : OpenUnit) (st : Statement) (view : Tables) → AreInOrder o.changes →
     Views (reach (schema_of k) o.vars st) o.changes k.tables view → outcome_of (schema_of k) view o.vars st ≡ outcome_under k o st
-done-in-view k o st view s h = statement-frame (schema_of k) view (with_edits o.changes k.tables) o.vars st (view-rows (reach (schema_of k) o.vars st) o.changes k.tables view s h)
+done-in-view k o st view s h =
+    statement-frame (schema_of k) view (with_edits o.changes k.tables) o.vars st
+    (view-rows (reach (schema_of k) o.vars st) o.changes k.tables view s h)
 
 outcome-is : (schema : List TableDef) (tables : Tables) (vars : List Binding) (st : Statement) →
     do_at vars st (table_for schema st) (rows_in (reach schema vars st) tables) ≡ outcome_of schema tables vars st

@@ -19,4 +19,5 @@ pub each-kept : (trace : Trace) → IsPlayed trace → WellKept (start_of trace)
 each-kept (from k) p w = states-start k
 each-kept (trace asks asked) p w = states-ask (as_state (state_of trace)) trace asked (each-kept trace p.0 w) p.0 w
 each-kept (trace turns b) p w = states-turn (as_state (state_of trace)) trace b (each-kept trace p.0 w) p.0 w
-each-kept (trace says e) p w = states-say (as_state (state_of trace)) (as_state (state_of (trace says e))) trace e (each-kept trace p.0 w) p w (plain-says e (state_of trace))
+each-kept (trace says e) p w =
+    states-say (as_state (state_of trace)) (as_state (state_of (trace says e))) trace e (each-kept trace p.0 w) p w (plain-says e (state_of trace))

@@ -62,11 +62,15 @@ one-more (x ∷ ds) d es = one-more ds d (set_row x.0 x.1 es)
 
 pub row-put : (ds : List Edit) (p : Place) (row : List Value) (es : Tables) (rows : List Entry) → rows ≡ (with_edits ds es).list →
     insert_entry place_cmp rows p row ≡ (with_edits (ds ++ (p, Some row) ∷ []) es).list
-row-put ds p row es rows same = ap (λ l. insert_entry place_cmp l p row) same ∙ insert-put p row (with_edits ds es).list ∙ sym (ap (λ (t : Tables). t.list) (one-more ds (p, Some row) es))
+row-put ds p row es rows same =
+    ap (λ l. insert_entry place_cmp l p row) same ∙ insert-put p row (with_edits ds es).list
+    ∙ sym (ap (λ (t : Tables). t.list) (one-more ds (p, Some row) es))
 
 pub row-removed : (ds : List Edit) (p : Place) (es : Tables) (rows : List Entry) → rows ≡ (with_edits ds es).list →
     remove_entry (is_at (place_cmp p)) rows ≡ (with_edits (ds ++ (p, None) ∷ []) es).list
-row-removed ds p es rows same = ap (remove_entry (is_at (place_cmp p))) same ∙ remove-where p (with_edits ds es).list (with_edits ds es).sorted ∙ sym (ap (λ (t : Tables). t.list) (one-more ds (p, None) es))
+row-removed ds p es rows same =
+    ap (remove_entry (is_at (place_cmp p))) same ∙ remove-where p (with_edits ds es).list (with_edits ds es).sorted
+    ∙ sym (ap (λ (t : Tables). t.list) (one-more ds (p, None) es))
 
 -- one change more, put on edits
 pub one-put : (cs : List Change) (c : Change) (ds : List Edit) → put_all (cs ++ c ∷ []) ds ≡ put place_cmp (changed_at c) c.row (put_all cs ds)
@@ -75,4 +79,6 @@ one-put (x ∷ cs) c ds = one-put cs c (put place_cmp (changed_at x) x.row ds)
 
 pub change-put : (cs : List Change) (c : Change) (ds edits : List Edit) → edits ≡ put_all cs ds →
     insert_entry place_cmp edits (changed_at c) c.row ≡ put_all (cs ++ c ∷ []) ds
-change-put cs c ds edits same = ap (λ (l : List Edit). insert_entry place_cmp l (changed_at c) c.row) same ∙ insert-put (changed_at c) c.row (put_all cs ds) ∙ sym (one-put cs c ds)
+change-put cs c ds edits same =
+    ap (λ (l : List Edit). insert_entry place_cmp l (changed_at c) c.row) same ∙ insert-put (changed_at c) c.row (put_all cs ds)
+    ∙ sym (one-put cs c ds)

@@ -54,8 +54,38 @@ IsNoReady e = ⊤
 
 pub watch-by-facts : (trace : Trace) (e : Event) (old new : Watch) → IsNoReady e → WatchBy (facts_at trace e) e old new → WatchAfter trace e old new
 watch-by-facts trace Ready old new n w = absurd n
-watch-by-facts trace (Ended u (Committed m)) old new n w = record { locks = w.locks; taken = w.taken; waits = w.waits; programs = w.programs; dependencies = record { writer = w.dependencies.writer; reads = w.dependencies.reads; finished = w.dependencies.finished } }
-watch-by-facts trace (Ended u (Failed c)) old new n w = record { locks = w.locks; taken = w.taken; waits = w.waits; programs = w.programs; dependencies = record { writer = w.dependencies.writer; reads = w.dependencies.reads; finished = w.dependencies.finished } }
-watch-by-facts trace (Ended u (Branched m c)) old new n w = record { locks = w.locks; taken = w.taken; waits = w.waits; programs = w.programs; dependencies = record { writer = w.dependencies.writer; reads = w.dependencies.reads; finished = w.dependencies.finished } }
-watch-by-facts trace (Ended u end) old new n w = record { locks = w.locks; taken = w.taken; waits = w.waits; programs = w.programs; dependencies = record { writer = w.dependencies.writer; reads = w.dependencies.reads; finished = w.dependencies.finished } }
-watch-by-facts trace e old new n w = record { locks = w.locks; taken = w.taken; waits = w.waits; programs = w.programs; dependencies = record { writer = w.dependencies.writer; reads = w.dependencies.reads; finished = w.dependencies.finished } }
+watch-by-facts trace (Ended u (Committed m)) old new n w = record {
+  locks = w.locks;
+  taken = w.taken;
+  waits = w.waits;
+  programs = w.programs;
+  dependencies = record { writer = w.dependencies.writer; reads = w.dependencies.reads; finished = w.dependencies.finished };
+}
+watch-by-facts trace (Ended u (Failed c)) old new n w = record {
+  locks = w.locks;
+  taken = w.taken;
+  waits = w.waits;
+  programs = w.programs;
+  dependencies = record { writer = w.dependencies.writer; reads = w.dependencies.reads; finished = w.dependencies.finished };
+}
+watch-by-facts trace (Ended u (Branched m c)) old new n w = record {
+  locks = w.locks;
+  taken = w.taken;
+  waits = w.waits;
+  programs = w.programs;
+  dependencies = record { writer = w.dependencies.writer; reads = w.dependencies.reads; finished = w.dependencies.finished };
+}
+watch-by-facts trace (Ended u end) old new n w = record {
+  locks = w.locks;
+  taken = w.taken;
+  waits = w.waits;
+  programs = w.programs;
+  dependencies = record { writer = w.dependencies.writer; reads = w.dependencies.reads; finished = w.dependencies.finished };
+}
+watch-by-facts trace e old new n w = record {
+  locks = w.locks;
+  taken = w.taken;
+  waits = w.waits;
+  programs = w.programs;
+  dependencies = record { writer = w.dependencies.writer; reads = w.dependencies.reads; finished = w.dependencies.finished };
+}

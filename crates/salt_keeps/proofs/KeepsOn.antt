@@ -70,7 +70,8 @@ open-began trace (Began u kind) fresh good s h =
     ∙ sym (map-append (λ (o : OpenUnit). o.unit) s.units (begun s u kind ∷ []))
   where
     before : filter (is_open (trace says Began u kind)) (units_begun trace) ≡ names_in s.units
-    before = filter-same (is_open (trace says Began u kind)) (is_open trace) (units_begun trace) (λ v i. rw (fresh v (begun-named trace v i)) refl) ∙ h
+    before =
+        filter-same (is_open (trace says Began u kind)) (is_open trace) (units_begun trace) (λ v i. rw (fresh v (begun-named trace v i)) refl) ∙ h
 
     last : filter (is_open (trace says Began u kind)) (u ∷ []) ≡ u ∷ []
     last = rw (is_same_id-refl u) refl
@@ -115,7 +116,9 @@ each-says s trace (Waits u owners) inv good m fresh keeps each =
     every-change (IsKept trace) (KeepsUnit (trace says Waits u owners)) u (waiting_by s.line) own (λ o other k. keeps-other trace (Waits u owners) o inv.base good k.1 other k.0) s.units each
   where
     own : (o : OpenUnit) → is_same_id o.unit u ≡ true → IsKept trace o → KeepsUnit (trace says Waits u owners) (waiting_by s.line o)
-    own o same k = subst (λ v. KeepsUnit (trace says Waits v owners) (waiting_by s.line o)) (is_same_id-true o.unit u same) (keeps-waits trace s.line o owners keeps.line k.0)
+    own o same k =
+        subst (λ v. KeepsUnit (trace says Waits v owners) (waiting_by s.line o)) (is_same_id-true o.unit u same)
+        (keeps-waits trace s.line o owners keeps.line k.0)
 each-says s trace (Ended u end) inv good m fresh keeps each =
     every-kept (IsKept trace) (KeepsUnit (trace says Ended u end)) (λ (o : OpenUnit). not (is_same_id o.unit u)) (λ o other k. keeps-other trace (Ended u end) o inv.base good k.1 (un (is_same_id o.unit u) other) k.0) s.units each
   where

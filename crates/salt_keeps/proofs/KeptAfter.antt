@@ -46,6 +46,7 @@ kept-says s trace (Ended u (Branched n c)) ground good keeps =
     let r = open-listed s trace u ground keeps good.0 in
     subst (λ v. kept (trace says Ended v (Branched n c)) ≡ kept_branched s.kept n r.0) r.2 (branched-kept trace s.kept n c r.0 keeps.kept r.3)
     ∙ ap (kept_ended s.kept (Branched n c)) (sym r.1)
-kept-says s trace (Defined n text) ground good keeps = λ i. record (keeps.kept i) { decisions = n; definitions = (keeps.kept i).definitions ++ defined_by (keeps.line i) }
+kept-says s trace (Defined n text) ground good keeps =
+    λ i. record (keeps.kept i) { decisions = n; definitions = (keeps.kept i).definitions ++ defined_by (keeps.line i) }
 kept-says s trace (Opened boot n) ground good keeps = λ i. record (keeps.kept i) { boot = boot }
 kept-says s trace e ground good keeps = keeps.kept

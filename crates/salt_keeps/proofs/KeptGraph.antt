@@ -51,7 +51,9 @@ served-kept trace ls h = go (wait_list trace)
   where
     go : (us : List Id) → find (λ u. is_empty (clashing_now trace u)) us ≡ option_map (λ w. w.unit) (find (λ w. is_empty (clash_owners ls w)) (map (asker trace) us))
     go [] = refl
-    go (u ∷ us) = ap (λ os. cond (is_empty os) (Some u) (find (λ u. is_empty (clashing_now trace u)) us)) (clash-kept trace ls h u) ∙ by (is_empty (clash_owners ls (asker trace u))) (go us)
+    go (u ∷ us) =
+        ap (λ os. cond (is_empty os) (Some u) (find (λ u. is_empty (clashing_now trace u)) us)) (clash-kept trace ls h u)
+        ∙ by (is_empty (clash_owners ls (asker trace u))) (go us)
       where
         by : (b : Bool) → find (λ u. is_empty (clashing_now trace u)) us ≡ option_map (λ w. w.unit) (find (λ w. is_empty (clash_owners ls w)) (map (asker trace) us)) →
             cond b (Some u) (find (λ u. is_empty (clashing_now trace u)) us) ≡ option_map (λ w. w.unit) (cond b (Some (asker trace u)) (find (λ w. is_empty (clash_owners ls w)) (map (asker trace) us)))
@@ -72,15 +74,20 @@ waiting-kept trace d s k bs = go (wait_list trace) (λ u i. wait-open trace u i)
     of-base (Some c) b = refl
 
     finished : (b : Id) → has_id b (released_in trace) ≡ false → is_finished trace b ≡ d.finished b
-    finished b n = same-bool (is_finished trace b) (d.finished b) (λ e. (k.finished b).1 (record { finished = has-in b (finished_in trace) e; unreleased = n })) (λ e. in-has b (finished_in trace) ((k.finished b).0 e).finished)
+    finished b n =
+        same-bool (is_finished trace b) (d.finished b) (λ e. (k.finished b).1 (record { finished = has-in b (finished_in trace) e; unreleased = n }))
+        (λ e. in-has b (finished_in trace) ((k.finished b).0 e).finished)
 
     one : (u b : Id) → is_open trace u ≡ true →
         (not (is_finished trace b) && is_of_program b trace u) ≡ (not (d.finished b) && is_base_of (program_of u trace) b)
     one u b o = by (is_of_program b trace u) refl
       where
         by : (t : Bool) → is_of_program b trace u ≡ t → (not (is_finished trace b) && t) ≡ (not (d.finished b) && is_base_of (program_of u trace) b)
-        by true e = λ i. not (finished b (not-in b (released_in trace) (λ j. s.alive b u o e (inr j))) i) && (sym e ∙ of-base (program_of u trace) b) i
-        by false e = and-false-right (not (is_finished trace b)) ∙ sym (ap (λ t. not (d.finished b) && t) (sym (of-base (program_of u trace) b) ∙ e) ∙ and-false-right (not (d.finished b)))
+        by true e =
+            λ i. not (finished b (not-in b (released_in trace) (λ j. s.alive b u o e (inr j))) i) && (sym e ∙ of-base (program_of u trace) b) i
+        by false e =
+            and-false-right (not (is_finished trace b))
+            ∙ sym (ap (λ t. not (d.finished b) && t) (sym (of-base (program_of u trace) b) ∙ e) ∙ and-false-right (not (d.finished b)))
 
     any-same : (u : Id) → is_open trace u ≡ true → (bs : List Id) →
         list_any (λ b. not (is_finished trace b) && is_of_program b trace u) bs ≡ list_any (λ b. not (d.finished b) && is_base_of (program_of u trace) b) bs
@@ -90,7 +97,9 @@ waiting-kept trace d s k bs = go (wait_list trace) (λ u i. wait-open trace u i)
     go : (us : List Id) → ((u : Id) → In u us → is_open trace u ≡ true) →
         filter (λ u. list_any (λ b. not (is_finished trace b) && is_of_program b trace u) bs) us ≡ map (λ w. w.unit) (filter (λ w. list_any (λ b. not (d.finished b) && is_base_of w.base b) bs) (map (asker trace) us))
     go [] o = refl
-    go (u ∷ us) o = ap (λ t. cond t (u ∷ filter (λ u. list_any (λ b. not (is_finished trace b) && is_of_program b trace u) bs) us) (filter (λ u. list_any (λ b. not (is_finished trace b) && is_of_program b trace u) bs) us)) (any-same u (o u (inl refl)) bs) ∙ by (list_any (λ b. not (d.finished b) && is_base_of (program_of u trace) b) bs) (go us (λ x m. o x (inr m)))
+    go (u ∷ us) o =
+        ap (λ t. cond t (u ∷ filter (λ u. list_any (λ b. not (is_finished trace b) && is_of_program b trace u) bs) us) (filter (λ u. list_any (λ b. not (is_finished trace b) && is_of_program b trace u) bs) us)) (any-same u (o u (inl refl)) bs)
+        ∙ by (list_any (λ b. not (d.finished b) && is_base_of (program_of u trace) b) bs) (go us (λ x m. o x (inr m)))
       where
         by : (t : Bool) → filter (λ u. list_any (λ b. not (is_finished trace b) && is_of_program b trace u) bs) us ≡ map (λ w. w.unit) (filter (λ w. list_any (λ b. not (d.finished b) && is_base_of w.base b) bs) (map (asker trace) us)) →
             cond t (u ∷ filter (λ u. list_any (λ b. not (is_finished trace b) && is_of_program b trace u) bs) us) (filter (λ u. list_any (λ b. not (is_finished trace b) && is_of_program b trace u) bs) us) ≡ map (λ w. w.unit) (cond t (asker trace u ∷ filter (λ w. list_any (λ b. not (d.finished b) && is_base_of w.base b) bs) (map (asker trace) us)) (filter (λ w. list_any (λ b. not (d.finished b) && is_base_of w.base b) bs) (map (asker trace) us)))
@@ -128,7 +137,10 @@ holder-known trace f l c i e = let t = in-filter_map (as_held trace) l (taken_in
 
 -- so are the programs that a unit clashes with
 owner-base : (ls : List Lock) (c : Id) → In (Base c) (owners_of ls) → (l : Lock) × In l ls × (l.owner ≡ Base c)
-owner-base ls c h = either (λ i. let m = in-map Owner.Unit (Base c) _ i in absurd (no m.0 m.2)) (λ i. let m = in-map Owner.Base (Base c) _ i in its m.0 m.2 (in-filter_map base_owner m.0 ls (in-order m.0 _ m.1))) (in-cases (Base c) (map Owner.Unit (in_order (filter_map unit_owner ls))) _ h)
+owner-base ls c h =
+    either (λ i. let m = in-map Owner.Unit (Base c) _ i in absurd (no m.0 m.2))
+    (λ i. let m = in-map Owner.Base (Base c) _ i in its m.0 m.2 (in-filter_map base_owner m.0 ls (in-order m.0 _ m.1)))
+    (in-cases (Base c) (map Owner.Unit (in_order (filter_map unit_owner ls))) _ h)
   where
     no : (u : Id) → Owner.Unit u ≡ Base c → ⊥
     no u e = cc
@@ -148,7 +160,9 @@ clash-known trace f u c h = by (asked_by u trace) h
   where
     in-locks : (r : Option Reach) → In (Base c) (owners_of (clash_locks trace u (kind_of u trace) r)) → IsKnown trace c
     in-locks None i = absurd i
-    in-locks (Some r) i = let m = owner-base (clash_locks trace u (kind_of u trace) (Some r)) c i in holder-known trace f m.0 c (in-filter (clashes (Unit u) (family_of (kind_of u trace)) r) m.0 (held trace) m.1).0 m.2
+    in-locks (Some r) i =
+        let m = owner-base (clash_locks trace u (kind_of u trace) (Some r)) c i in
+        holder-known trace f m.0 c (in-filter (clashes (Unit u) (family_of (kind_of u trace)) r) m.0 (held trace) m.1).0 m.2
 
     by : (o : Option Statement) → In (Base c) (elim o [ None ↦ [] | Some st ↦ clashing trace u st ]) → IsKnown trace c
     by None i = absurd i
@@ -171,7 +185,8 @@ victim-kept trace d ls behind p w k h a = ap victim_of (go (wait_list trace))
         λ i. (waiting-from trace d p w k c known (behind c) (a c known) ∙ waiting-kept trace d (holds trace p o).sound k (behind c)) i ++ edges u os (λ c i. n c (inr i)) i
 
     unit : (u : Id) → wait_unit trace u ≡ graph_unit d ls (waiting trace) behind (asker trace u)
-    unit u = λ i. record { unit = u; acid = is_acid trace u; edges = (edges u (clashing_now trace u) (clash-known trace (firsts trace p o) u) ∙ ap (flat_map (edges_of d (waiting trace) behind)) (clash-kept trace ls h u)) i }
+    unit u =
+        λ i. record { unit = u; acid = is_acid trace u; edges = (edges u (clashing_now trace u) (clash-known trace (firsts trace p o) u) ∙ ap (flat_map (edges_of d (waiting trace) behind)) (clash-kept trace ls h u)) i }
 
     go : (us : List Id) → map (wait_unit trace) us ≡ map (graph_unit d ls (waiting trace) behind) (map (asker trace) us)
     go [] = refl

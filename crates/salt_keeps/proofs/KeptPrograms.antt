@@ -33,7 +33,8 @@ use Rattle.std.specs.List.{find, list_any}
 use Rattle.std.specs.Prelude.{List, None, Option, Some, [], false, map, not, option_and_then, option_map, refl, true, ◌++◌, ◌||◌, ◌∷◌, ◌≡◌}
 
 not-released : (trace : Trace) (b : Id) → In b (programs_in trace) → has_id b (released_in (trace says Ready)) ≡ false → ⊥
-not-released trace b i n = let t : true ≡ false = sym (in-has b (released_in trace ++ programs_in trace) (in-right b (released_in trace) (programs_in trace) i)) ∙ n in cc
+not-released trace b i n =
+    let t : true ≡ false = sym (in-has b (released_in trace ++ programs_in trace) (in-right b (released_in trace) (programs_in trace) i)) ∙ n in cc
 
 none-in : (us : List Id) → ((u : Id) → In u us → ⊥) → us ≡ []
 none-in [] h = refl
@@ -66,20 +67,32 @@ into-unreleased trace b i n = into-filter (λ u. not (has_id u (released_in trac
 
 unreleased-accepted : (trace : Trace) (b : Id) → has_id b (released_in trace) ≡ false →
     unreleased (trace says Accepted b) ≡ insert_id b (unreleased trace)
-unreleased-accepted trace b n = in_order-same (without (released_in trace) (accepted_in trace ++ b ∷ [])) (b ∷ without (released_in trace) (accepted_in trace)) forth back
+unreleased-accepted trace b n =
+    in_order-same (without (released_in trace) (accepted_in trace ++ b ∷ [])) (b ∷ without (released_in trace) (accepted_in trace)) forth back
   where
     forth : (x : Id) → In x (without (released_in trace) (accepted_in trace ++ b ∷ [])) → In x (b ∷ without (released_in trace) (accepted_in trace))
-    forth x i = let r = in-without x (released_in trace) (accepted_in trace ++ b ∷ []) i in either (λ j. inr (into-unreleased trace x j r.1)) (λ j. either (λ e. inl e) (λ z. absurd z) j) (in-cases x (accepted_in trace) (b ∷ []) r.0)
+    forth x i =
+        let r = in-without x (released_in trace) (accepted_in trace ++ b ∷ []) i in
+        either (λ j. inr (into-unreleased trace x j r.1)) (λ j. either (λ e. inl e) (λ z. absurd z) j) (in-cases x (accepted_in trace) (b ∷ []) r.0)
 
     back : (x : Id) → In x (b ∷ without (released_in trace) (accepted_in trace)) → In x (without (released_in trace) (accepted_in trace ++ b ∷ []))
-    back x (inl e) = into-filter (λ u. not (has_id u (released_in trace))) x _ (in-right x (accepted_in trace) (b ∷ []) (inl e)) (ap not (subst (λ y. has_id y (released_in trace) ≡ false) e n))
-    back x (inr i) = let r = in-without x (released_in trace) (accepted_in trace) i in into-filter (λ u. not (has_id u (released_in trace))) x _ (in-left x (accepted_in trace) (b ∷ []) r.0) (ap not r.1)
+    back x (inl e) =
+        into-filter (λ u. not (has_id u (released_in trace))) x _ (in-right x (accepted_in trace) (b ∷ []) (inl e))
+        (ap not (subst (λ y. has_id y (released_in trace) ≡ false) e n))
+    back x (inr i) =
+        let r = in-without x (released_in trace) (accepted_in trace) i in
+        into-filter (λ u. not (has_id u (released_in trace))) x _ (in-left x (accepted_in trace) (b ∷ []) r.0) (ap not r.1)
 
 unreleased-released : (trace : Trace) (bs : List Id) → unreleased (trace says Released bs) ≡ without bs (unreleased trace)
-unreleased-released trace bs = sym (order-of-ascending (without bs (unreleased trace)) (without (released_in trace ++ bs) (accepted_in trace)) (filter-ascends (λ u. not (has_id u bs)) (unreleased trace) (order-ascends (without (released_in trace) (accepted_in trace)))) forth back)
+unreleased-released trace bs =
+    sym (order-of-ascending (without bs (unreleased trace)) (without (released_in trace ++ bs) (accepted_in trace)) (filter-ascends (λ u. not (has_id u bs)) (unreleased trace) (order-ascends (without (released_in trace) (accepted_in trace)))) forth back)
   where
     forth : (x : Id) → In x (without bs (unreleased trace)) → In x (without (released_in trace ++ bs) (accepted_in trace))
-    forth x i = let r = in-without x bs (unreleased trace) i in let q = unreleased-in trace x r.0 in into-filter (λ u. not (has_id u (released_in trace ++ bs))) x (accepted_in trace) q.0 (ap not (has-append x (released_in trace) bs ∙ neither-false _ _ q.1 r.1))
+    forth x i =
+        let r = in-without x bs (unreleased trace) i in
+        let q = unreleased-in trace x r.0 in
+        into-filter (λ u. not (has_id u (released_in trace ++ bs))) x (accepted_in trace) q.0
+        (ap not (has-append x (released_in trace) bs ∙ neither-false _ _ q.1 r.1))
 
     back : (x : Id) → In x (without (released_in trace ++ bs) (accepted_in trace)) → In x (without bs (unreleased trace))
     back x i =
@@ -89,7 +102,8 @@ unreleased-released trace bs = sym (order-of-ascending (without bs (unreleased t
 
 pub unreleased-says : (trace : Trace) (e : Event) → IsPlayed (trace says e) → OfBoots (start_of trace).kept →
     unreleased (trace says e) ≡ unreleased_after e (unreleased trace)
-unreleased-says trace (Accepted b) p w = unreleased-accepted trace b (not-in b (released_in trace) (λ i. acceptance-alive trace p.0 w b (may-fit trace (Accepted b) (holds trace p.0 w).comes p.1) (inr i)))
+unreleased-says trace (Accepted b) p w =
+    unreleased-accepted trace b (not-in b (released_in trace) (λ i. acceptance-alive trace p.0 w b (may-fit trace (Accepted b) (holds trace p.0 w).comes p.1) (inr i)))
 unreleased-says trace (Released bs) p w = unreleased-released trace bs
 unreleased-says trace Ready p w = (ready-empty trace p w).programs
 unreleased-says trace e p w = refl
@@ -99,7 +113,9 @@ pub holds-by : (trace : Trace) → list_any (is_holding trace) (accepted_in trac
 holds-by trace = same-bool _ _ forth back
   where
     forth : list_any (is_holding trace) (accepted_in trace) ≡ true → not (is_empty (unreleased trace)) ≡ true
-    forth h = let m = any-in (is_holding trace) (accepted_in trace) h in some m.0 (unreleased trace) (into-order m.0 _ (into-filter (λ u. not (has_id u (released_in trace))) m.0 (accepted_in trace) m.1 m.2))
+    forth h =
+        let m = any-in (is_holding trace) (accepted_in trace) h in
+        some m.0 (unreleased trace) (into-order m.0 _ (into-filter (λ u. not (has_id u (released_in trace))) m.0 (accepted_in trace) m.1 m.2))
       where
         some : (x : Id) (us : List Id) → In x us → not (is_empty us) ≡ true
         some x [] i = absurd i
@@ -123,7 +139,8 @@ finishes-once trace b p w h = ends-alive trace p.0 w b (may-fit trace (Finished 
 -- a program whose first part is open wrote no key last, and none reads from it
 pub first-unseen : (trace : Trace) (u b : Id) → IsPlayed trace → OfBoots (start_of trace).kept → is_open trace u ≡ true → first_of u trace ≡ Some b →
     ((p : Place) → live_writer trace p ≡ Some b → ⊥) × ((x : Id) → ReadsLive trace x b → ⊥)
-first-unseen trace u b p w o f = ((λ q e. writer q (find (is_written_at q) (written_in trace)) refl e), (λ x r. h.new b u o f ((sources-played trace p w).read x b r.reads)))
+first-unseen trace u b p w o f =
+    ((λ q e. writer q (find (is_written_at q) (written_in trace)) refl e), (λ x r. h.new b u o f ((sources-played trace p w).read x b r.reads)))
   where
     h : Firsts trace
     h = firsts trace p w

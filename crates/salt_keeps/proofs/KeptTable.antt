@@ -35,7 +35,8 @@ owners-same ls ms h = λ i. map Owner.Unit (units i) ++ map Owner.Base (bases i)
     bases = in_order-same _ _ (through base_owner ls ms (λ l. (h l).0)) (through base_owner ms ls (λ l. (h l).1))
 
 same-filter : (p : Lock → Bool) (ls ms : List Lock) → SameMembers ls ms → SameMembers (filter p ls) (filter p ms)
-same-filter p ls ms h l = ((λ i. let m = in-filter p l ls i in into-filter p l ms ((h l).0 m.0) m.1), (λ i. let m = in-filter p l ms i in into-filter p l ls ((h l).1 m.0) m.1))
+same-filter p ls ms h l =
+    ((λ i. let m = in-filter p l ls i in into-filter p l ms ((h l).0 m.0) m.1), (λ i. let m = in-filter p l ms i in into-filter p l ls ((h l).1 m.0) m.1))
 
 -- clashes from any list with the held locks as members
 pub clashing-from : (trace : Trace) (ls : List Lock) → SameMembers ls (held trace) → (u : Id) (st : Statement) →

@@ -40,7 +40,9 @@ in-fate g n table i = let m = in-filter_map (on_lock g) n table i in by m.0 (g m
 
 into-fate : (g : Lock → Option Lock) (m n : Numbered) (table : List Numbered) → In m table → g m.lock ≡ Some n.lock → m.number ≡ n.number →
     In n (filter_map (on_lock g) table)
-into-fate g m n table i e q = into-filter_map (on_lock g) m n table i (ap (option_map (λ l. record { number = m.number; lock = l })) e ∙ (λ j. Some (record { number = q j; lock = n.lock })))
+into-fate g m n table i e q =
+    into-filter_map (on_lock g) m n table i
+    (ap (option_map (λ l. record { number = m.number; lock = l })) e ∙ (λ j. Some (record { number = q j; lock = n.lock })))
 
 same-numbered : (m n : Numbered) → m.lock ≡ n.lock → m.number ≡ n.number → m ≡ n
 same-numbered m n e q = λ j. record { number = q j; lock = e j }
@@ -59,7 +61,8 @@ kept-by p table n = (
     by : (m : Numbered) (t : Bool) → p m.lock ≡ t → In m table → then_some (not t) m.lock ≡ Some n.lock → m.number ≡ n.number →
         In n table × (p n.lock ≡ false)
     by m true e i q r = cc
-    by m false e i q r = let s = same-numbered m n (some-same m.lock n.lock q) r in (subst (λ x. In x table) s i, subst (λ (x : Numbered). p x.lock ≡ false) s e)
+    by m false e i q r =
+        let s = same-numbered m n (some-same m.lock n.lock q) r in (subst (λ x. In x table) s i, subst (λ (x : Numbered). p x.lock ≡ false) s e)
 
 none-more : (n : Numbered) (xs : List Numbered) → In n (xs ++ []) ↔ In n xs
 none-more n xs = ((λ i. subst (In n) (append-nil xs) i), (λ i. subst (In n) (sym (append-nil xs)) i))
@@ -124,7 +127,8 @@ salt-fits facts u b n k old new e h x = (
 
     by : (m : Numbered) (t : Bool) → is_owned_by (Unit u) m.lock ≡ t → In m old → lock_committed u (base_by facts) m.lock ≡ Some x.lock →
         m.number ≡ x.number → (In x old × (is_owned_by (Unit u) x.lock ≡ false)) ⊎ ((m : Numbered) × In m old × (is_owned_by (Unit u) m.lock ≡ true) × (x ≡ record { number = m.number; lock = saline_of b m.lock }))
-    by m true q i f r = inr (m, i, q, sym (same-numbered (record { number = m.number; lock = saline_of b m.lock }) x (some-same (saline_of b m.lock) x.lock (sym (salted m q) ∙ f)) r))
+    by m true q i f r =
+        inr (m, i, q, sym (same-numbered (record { number = m.number; lock = saline_of b m.lock }) x (some-same (saline_of b m.lock) x.lock (sym (salted m q) ∙ f)) r))
     by m false q i f r =
         let stays : lock_committed u (base_by facts) m.lock ≡ Some m.lock = rw q refl in
         let s = same-numbered m x (some-same m.lock x.lock (sym stays ∙ f)) r in
@@ -157,4 +161,6 @@ dropped-all (b ∷ bs) old new h n = (
 
 pub release-fits : (facts : UnitFacts) (bs : List Id) (k : ℕ) (old new : List Numbered) → HasDroppedAll bs old new →
     SameMembers new (table_by facts k (Released bs) old)
-release-fits facts bs k old new h n = through (dropped-all bs old new h n) (both (none-more n (filter_map (on_lock (fate_by facts (Released bs))) old)) (kept-by (λ l. is_base_among bs l.owner) old n))
+release-fits facts bs k old new h n =
+    through (dropped-all bs old new h n)
+    (both (none-more n (filter_map (on_lock (fate_by facts (Released bs))) old)) (kept-by (λ l. is_base_among bs l.owner) old n))

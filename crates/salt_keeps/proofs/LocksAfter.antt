@@ -101,7 +101,9 @@ goes-on trace u t now o w = by (is_same_id t.unit u) refl
   where
     by : (b : Bool) → is_same_id t.unit u ≡ b → lock_by trace t (cond b now (standing t.unit trace)) (kind_of t.unit trace) ≡ as_held trace t
     by false e = refl
-    by true e = lock_by-open trace t now (kind_of t.unit trace) w ∙ sym (lock_by-open trace t (standing t.unit trace) (kind_of t.unit trace) (ap (is_open trace) (is_same_id-true t.unit u e) ∙ o))
+    by true e =
+        lock_by-open trace t now (kind_of t.unit trace) w
+        ∙ sym (lock_by-open trace t (standing t.unit trace) (kind_of t.unit trace) (ap (is_open trace) (is_same_id-true t.unit u e) ∙ o))
 
 held-began : (trace : Trace) (u : Id) (kind : UnitKind) → HeldFacts trace → Good trace (Began u kind) → held (trace says Began u kind) ≡ held trace
 held-began trace u kind h g = unmoved trace (Began u kind) refl refl (λ t i. its t (new t (takers t i)))
@@ -118,13 +120,16 @@ held-began trace u kind h g = unmoved trace (Began u kind) refl refl (λ t i. it
 
 held-did : (trace : Trace) (u : Id) (st : Statement) (a : Answer) → is_open trace u ≡ true →
     held (trace says Did u st a) ≡ held trace ++ lock_taken u (kind_of u trace) (reach_now u trace st)
-held-did trace u st a o = filter_map-append (as_held here) (taken_in trace) (taken_by u (reach_now u trace st)) ∙ (λ i. old i ++ new (reach_now u trace st) i)
+held-did trace u st a o =
+    filter_map-append (as_held here) (taken_in trace) (taken_by u (reach_now u trace st)) ∙ (λ i. old i ++ new (reach_now u trace st) i)
   where
     here : Trace
     here = trace says Did u st a
 
     old : filter_map (as_held (trace says Did u st a)) (taken_in trace) ≡ held trace
-    old = filter_map-same (as_held here) (as_held trace) (taken_in trace) (λ t i. same-locks trace here refl t (standing t.unit here) (kind_of t.unit here) ∙ goes-on trace u t Running o refl)
+    old =
+        filter_map-same (as_held here) (as_held trace) (taken_in trace)
+        (λ t i. same-locks trace here refl t (standing t.unit here) (kind_of t.unit here) ∙ goes-on trace u t Running o refl)
 
     new : (r : Option Reach) → filter_map (as_held (trace says Did u st a)) (taken_by u r) ≡ lock_taken u (kind_of u trace) r
     new None = refl
@@ -140,7 +145,8 @@ taken-from trace u t n s k g f = by s
 
     saline : (p : Option Id) → saline_lock trace p t.reach ≡ option_and_then g (saline_lock trace p t.reach)
     saline None = refl
-    saline (Some b) = elim (is_holding trace b) as (λ x. then_some x (lock_of (Base b) Saline t.reach) ≡ option_and_then g (then_some x (lock_of (Base b) Saline t.reach))) [ true ↦ sym (f (lock_of (Base b) Saline t.reach) refl) | false ↦ refl ]
+    saline (Some b) =
+        elim (is_holding trace b) as (λ x. then_some x (lock_of (Base b) Saline t.reach) ≡ option_and_then g (then_some x (lock_of (Base b) Saline t.reach))) [ true ↦ sym (f (lock_of (Base b) Saline t.reach) refl) | false ↦ refl ]
 
     by : (s : Standing) → lock_by trace t s k ≡ option_and_then g (lock_by trace t s k)
     by Never = refl
@@ -161,7 +167,9 @@ held-ended trace u end g o others own =
     its : (t : Taken) (b : Bool) → is_same_id t.unit u ≡ b →
         lock_by trace t (cond b (Over end) (standing t.unit trace)) (kind_of t.unit trace) ≡ option_and_then g (as_held trace t)
     its t false e = taken-from trace u t e (standing t.unit trace) (kind_of t.unit trace) g others
-    its t true e = own t e ∙ sym (ap (option_and_then g) (lock_by-open trace t (standing t.unit trace) (kind_of t.unit trace) (ap (is_open trace) (is_same_id-true t.unit u e) ∙ o)))
+    its t true e =
+        own t e
+        ∙ sym (ap (option_and_then g) (lock_by-open trace t (standing t.unit trace) (kind_of t.unit trace) (ap (is_open trace) (is_same_id-true t.unit u e) ∙ o)))
 
 held-committed : (trace : Trace) (u : Id) (n : ℕ) → Sound trace → is_open trace u ≡ true →
     held (trace says Ended u (Committed n)) ≡ filter_map (lock_committed u (program_of u trace)) (held trace)
@@ -182,7 +190,8 @@ held-committed trace u n s o = held-ended trace u (Committed n) (lock_committed 
 held-dropped : (trace : Trace) (u : Id) (end : End) → is_open trace u ≡ true →
     ((t : Taken) → lock_by trace t (Over end) (kind_of t.unit trace) ≡ None) →
     held (trace says Ended u end) ≡ filter_map (λ l. then_some (not (is_owned_by (Unit u) l)) l) (held trace)
-held-dropped trace u end o none = held-ended trace u end (λ l. then_some (not (is_owned_by (Unit u) l)) l) o (λ l e. rw e refl) (λ t e. none t ∙ own t e)
+held-dropped trace u end o none =
+    held-ended trace u end (λ l. then_some (not (is_owned_by (Unit u) l)) l) o (λ l e. rw e refl) (λ t e. none t ∙ own t e)
   where
     own : (t : Taken) → is_same_id t.unit u ≡ true →
         None ≡ then_some (not (is_owned_by (Unit u) (lock_of (Unit t.unit) (family_of (kind_of t.unit trace)) t.reach))) (lock_of (Unit t.unit) (family_of (kind_of t.unit trace)) t.reach)
@@ -200,7 +209,8 @@ held-released trace bs =
     salines : (p : Option Id) (r : Reach) →
         saline_lock (trace says Released bs) p r ≡ option_and_then (λ l. then_some (not (is_base_among bs l.owner)) l) (saline_lock trace p r)
     salines None r = refl
-    salines (Some b) r = ap (λ x. then_some (not x) (lock_of (Base b) Saline r)) (has-append b (released_in trace) bs) ∙ by (has_id b (released_in trace))
+    salines (Some b) r =
+        ap (λ x. then_some (not x) (lock_of (Base b) Saline r)) (has-append b (released_in trace) bs) ∙ by (has_id b (released_in trace))
       where
         by : (x : Bool) → then_some (not (x || has_id b bs)) (lock_of (Base b) Saline r) ≡ option_and_then (λ l. then_some (not (is_base_among bs l.owner)) l) (then_some (not x) (lock_of (Base b) Saline r))
         by true = refl
@@ -220,7 +230,9 @@ held-ready trace s f = filter_map-none (as_held (trace says Ready)) (taken_in tr
   where
     salines : (u : Id) (p : Option Id) (r : Reach) → program_of u trace ≡ p → saline_lock (trace says Ready) p r ≡ None
     salines u None r e = refl
-    salines u (Some b) r e = ap (λ x. then_some (not x) (lock_of (Base b) Saline r)) (in-has b (released_in trace ++ programs_in trace) (in-right b (released_in trace) (programs_in trace) (program-in trace u b e)))
+    salines u (Some b) r e =
+        ap (λ x. then_some (not x) (lock_of (Base b) Saline r))
+        (in-has b (released_in trace ++ programs_in trace) (in-right b (released_in trace) (programs_in trace) (program-in trace u b e)))
 
     its : (t : Taken) (x : Standing) → standing t.unit trace ≡ x → lock_by (trace says Ready) t x (kind_of t.unit trace) ≡ None
     its t (Over (Committed n)) e = salines t.unit (program_of t.unit trace) t.reach refl
@@ -236,26 +248,37 @@ filter_map-all (x ∷ xs) = ap (λ l. x ∷ l) (filter_map-all xs)
 -- no lock is taken: each has its fate
 by-fate : (trace : Trace) (e : Event) (ls : List Lock) → lock_won trace e ≡ [] → ls ≡ filter_map (lock_fate trace e) (held trace) →
     ls ≡ locks_after trace e (held trace)
-by-fate trace e ls w h = h ∙ sym (append-nil (filter_map (lock_fate trace e) (held trace))) ∙ ap (λ l. filter_map (lock_fate trace e) (held trace) ++ l) (sym w)
+by-fate trace e ls w h =
+    h ∙ sym (append-nil (filter_map (lock_fate trace e) (held trace))) ∙ ap (λ l. filter_map (lock_fate trace e) (held trace) ++ l) (sym w)
 
 held-event : (trace : Trace) (e : Event) → HeldFacts trace → Good trace e → Sound trace → Fits trace e →
     held (trace says e) ≡ locks_after trace e (held trace)
 held-event trace (Began u kind) h g s f = by-fate trace (Began u kind) _ refl (held-began trace u kind h g ∙ sym (filter_map-all (held trace)))
-held-event trace (Did u st a) h g s f = held-did trace u st a f.0 ∙ ap (λ l. l ++ lock_taken u (kind_of u trace) (reach_now u trace st)) (sym (filter_map-all (held trace)))
-held-event trace (Waits u owners) h g s f = by-fate trace (Waits u owners) _ refl (unmoved trace (Waits u owners) refl refl (λ t i. goes-on trace u t Waiting f refl) ∙ sym (filter_map-all (held trace)))
+held-event trace (Did u st a) h g s f =
+    held-did trace u st a f.0 ∙ ap (λ l. l ++ lock_taken u (kind_of u trace) (reach_now u trace st)) (sym (filter_map-all (held trace)))
+held-event trace (Waits u owners) h g s f =
+    by-fate trace (Waits u owners) _ refl
+    (unmoved trace (Waits u owners) refl refl (λ t i. goes-on trace u t Waiting f refl) ∙ sym (filter_map-all (held trace)))
 held-event trace (Ended u (Committed n)) h g s f = by-fate trace (Ended u (Committed n)) _ refl (held-committed trace u n s f.0)
 held-event trace (Ended u end) h g s f = by-fate trace (Ended u end) _ refl (held-dropped trace u end f.0 (λ t. refl))
 held-event trace (Released bs) h g s f = by-fate trace (Released bs) _ refl (held-released trace bs)
-held-event trace Ready h g s f = by-fate trace Ready _ refl (held-ready trace s f ∙ sym (filter_map-none (lock_fate trace Ready) (held trace) (λ l. refl)))
+held-event trace Ready h g s f =
+    by-fate trace Ready _ refl (held-ready trace s f ∙ sym (filter_map-none (lock_fate trace Ready) (held trace) (λ l. refl)))
 held-event trace e h g s f = by-fate trace e _ refl (unmoved trace e refl refl (λ t i. refl) ∙ sym (filter_map-all (held trace)))
 
 pub held-says : (trace : Trace) (e : Event) → IsPlayed (trace says e) → WellKept (start_of trace).kept →
     held (trace says e) ≡ locks_after trace e (held trace)
-held-says trace e p w = let k = holds trace p.0 (of-start (start_of trace).kept w) in held-event trace e (no-clash trace p.0) (good-event trace e (replays trace p.0) p.1) k.sound (may-fit trace e k.comes p.1)
+held-says trace e p w =
+    let k = holds trace p.0 (of-start (start_of trace).kept w) in
+    held-event trace e (no-clash trace p.0) (good-event trace e (replays trace p.0) p.1) k.sound (may-fit trace e k.comes p.1)
 
 -- a line and a turn of `go all` move no lock
 pub held-asks : (trace : Trace) (asked : Asked) → held (trace asks asked) ≡ held trace
-held-asks trace asked = filter_map-same (as_held (trace asks asked)) (as_held trace) (taken_in trace) (λ t i. same-locks trace (trace asks asked) refl t (standing t.unit trace) (kind_of t.unit trace))
+held-asks trace asked =
+    filter_map-same (as_held (trace asks asked)) (as_held trace) (taken_in trace)
+    (λ t i. same-locks trace (trace asks asked) refl t (standing t.unit trace) (kind_of t.unit trace))
 
 pub held-turns : (trace : Trace) (b : Id) → held (trace turns b) ≡ held trace
-held-turns trace b = filter_map-same (as_held (trace turns b)) (as_held trace) (taken_in trace) (λ t i. same-locks trace (trace turns b) refl t (standing t.unit trace) (kind_of t.unit trace))
+held-turns trace b =
+    filter_map-same (as_held (trace turns b)) (as_held trace) (taken_in trace)
+    (λ t i. same-locks trace (trace turns b) refl t (standing t.unit trace) (kind_of t.unit trace))

@@ -22,7 +22,8 @@ use Rattle.std.specs.Prelude.{Bool, List, None, Option, Some, [], cond, false, l
 first-named : (p : Id → Bool) (q : OpenUnit → Bool) (os : List OpenUnit) → Every (λ o. p o.unit ≡ q o) os →
     first_of_list (filter p (names_in os)) ≡ option_map (λ (o : OpenUnit). o.unit) (find q os)
 first-named p q [] h = refl
-first-named p q (o ∷ os) h = ap (λ b. first_of_list (cond b (o.unit ∷ filter p (names_in os)) (filter p (names_in os)))) h.0 ∙ by (q o) (first-named p q os h.1)
+first-named p q (o ∷ os) h =
+    ap (λ b. first_of_list (cond b (o.unit ∷ filter p (names_in os)) (filter p (names_in os)))) h.0 ∙ by (q o) (first-named p q os h.1)
   where
     by : (b : Bool) → first_of_list (filter p (names_in os)) ≡ option_map (λ (o : OpenUnit). o.unit) (find q os) →
         first_of_list (cond b (o.unit ∷ filter p (names_in os)) (filter p (names_in os))) ≡ option_map (λ (o : OpenUnit). o.unit) (cond b (Some o) (find q os))
@@ -95,4 +96,9 @@ pub asked-within : (st : UnitState) (o : OpenUnit) (block : List Statement) (x :
 asked-within st o block x b h = slice_get_within block o.done x (sym (ap (asking st.line o) b) ∙ h)
 
 pub looks-up : (s : UnitState) (trace : Trace) → KeepsUnits s trace → LooksUp s trace
-looks-up s trace keeps = record { sessions = λ t. session-kept s trace t keeps; programs = λ b. program-kept s trace b keeps; statements = λ o k. asked-kept s trace o keeps k; within = asked-within s }
+looks-up s trace keeps = record {
+  sessions = λ t. session-kept s trace t keeps;
+  programs = λ b. program-kept s trace b keeps;
+  statements = λ o k. asked-kept s trace o keeps k;
+  within = asked-within s;
+}

@@ -66,7 +66,9 @@ settles-told s trace x is ground keeps =
 -- an event of a played trace, and the state before and after it
 module _ (s : UnitState) (trace : Trace) (keeps : KeepsUnits s trace) (ground : Ground trace) (x : Beside) where
   abbrev Follows : Event → Type 0
-  Follows e = IsBeside (trace says e) x → Ground (trace says e) → Good trace e → KeepsUnits (units_after e s) (trace says e) → follow (trace says e) e ≡ follow_in (units_after e s) x e (unit_of e s (units_after e s))
+  Follows e =
+      IsBeside (trace says e) x → Ground (trace says e) → Good trace e → KeepsUnits (units_after e s) (trace says e) → follow
+      (trace says e) e ≡ follow_in (units_after e s) x e (unit_of e s (units_after e s))
 
   ended-follows : (u : Id) (end : End) → Follows (Ended u end)
   ended-follows u end is base good after =
@@ -106,7 +108,9 @@ module _ (s : UnitState) (trace : Trace) (keeps : KeepsUnits s trace) (ground : 
       λ i. option_or (f i) (g i)
 
   abbrev FollowsOpening : Event → Type 0
-  FollowsOpening e = Ground (trace says e) → Good trace e → KeepsUnits (units_after e s) (trace says e) → follow_opening (trace says e) e ≡ follow_opening_in (units_after e s) e (unit_of e s (units_after e s))
+  FollowsOpening e =
+      Ground (trace says e) → Good trace e → KeepsUnits (units_after e s) (trace says e) → follow_opening (trace says e) e ≡ follow_opening_in
+      (units_after e s) e (unit_of e s (units_after e s))
 
   follow-opening-told : (e : Event) → FollowsOpening e
   follow-opening-told (Began u kind) base good after =
@@ -172,7 +176,9 @@ said-told s trace e p x is keeps played w =
 -- what a line brings, unless it is refused, and a turn of `go all`
 pub asked-told : (s : UnitState) (trace : Trace) (asked : Asked) (x : Beside) → IsBeside (trace asks asked) x → KeepsUnits s trace →
     next (trace asks asked) ≡ option_or (option_map Refused (refusal trace asked)) (line_in (units_asked asked s) x.clash x.items (line_asked asked))
-asked-told s trace asked x is keeps = ap (option_or (option_map Refused (refusal trace asked))) (line-told (units_asked asked s) (trace asks asked) (keeps-asks s trace asked keeps) x.clash is.clash x.items is.items (line_asked asked))
+asked-told s trace asked x is keeps =
+    ap (option_or (option_map Refused (refusal trace asked)))
+    (line-told (units_asked asked s) (trace asks asked) (keeps-asks s trace asked keeps) x.clash is.clash x.items is.items (line_asked asked))
 
 pub turned-told : (s : UnitState) (trace : Trace) (b : Id) (x : Beside) → IsBeside (trace turns b) x → KeepsUnits s trace →
     next (trace turns b) ≡ go_in (units_turned b s) x.clash b

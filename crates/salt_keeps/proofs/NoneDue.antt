@@ -21,10 +21,12 @@ through-more f g h b c (through {c = x} i r) = through (h b x i) (through-more f
 -- fewer finished, or more pairs, make none due
 fewer-due : (old new : Dependencies) → ((x y : Id) → IsTrue (old.reads x y) → IsTrue (new.reads x y)) →
     ((b : Id) → IsTrue (new.finished b) → IsTrue (old.finished b)) → NoneDue old → NoneDue new
-fewer-due old new r f n b d = n b (record { finished = f b d.finished; sources = λ c t. f c (d.sources c (through-more old.reads new.reads r b c t)) })
+fewer-due old new r f n b d =
+    n b (record { finished = f b d.finished; sources = λ c t. f c (d.sources c (through-more old.reads new.reads r b c t)) })
 
 pub wrote-none : (base : Option Id) (ps : List Place) (old new : Dependencies) → WroteAll base ps old new → NoneDue old → NoneDue new
-wrote-none base ps old new w n = fewer-due old new (λ x y t. (wrote-reads base ps old new w x y).1 t) (λ b t. (wrote-finished base ps old new w b).0 t) n
+wrote-none base ps old new w n =
+    fewer-due old new (λ x y t. (wrote-reads base ps old new w x y).1 t) (λ b t. (wrote-finished base ps old new w b).0 t) n
 
 pub read-none : (base : Id) (r : Reach) (old new : Dependencies) → HasRead base r old new → NoneDue old → NoneDue new
 read-none base r old new h n = fewer-due old new (λ x y t. (h.reads x y).1 (inl t)) (λ b t. (h.finished b).0 t) n
@@ -32,7 +34,8 @@ read-none base r old new h n = fewer-due old new (λ x y t. (h.reads x y).1 (inl
 -- one that no other reads from, and that is not finished, is given up
 pub abandon-none : (base : Id) (old new : Dependencies) → HasAbandoned base old new → ((x : Id) → IsTrue (old.reads x base) → ⊥) →
     (IsTrue (old.finished base) → ⊥) → NoneDue old → NoneDue new
-abandon-none base old new h source unfinished n b d = n b (record { finished = (h.finished b).0 d.finished; sources = λ c t. (h.finished c).0 (d.sources c (kept b c t (apart b (λ e. unfinished (subst (λ x. IsTrue (old.finished x)) e ((h.finished b).0 d.finished)))))) })
+abandon-none base old new h source unfinished n b d =
+    n b (record { finished = (h.finished b).0 d.finished; sources = λ c t. (h.finished c).0 (d.sources c (kept b c t (apart b (λ e. unfinished (subst (λ x. IsTrue (old.finished x)) e ((h.finished b).0 d.finished)))))) })
   where
     apart : (x : Id) → (x ≡ base → ⊥) → is_same_id x base ≡ false
     apart x n = by (is_same_id x base) refl
@@ -43,7 +46,8 @@ abandon-none base old new h source unfinished n b d = n b (record { finished = (
 
     kept : (b c : Id) → Through old.reads b c → is_same_id b base ≡ false → Through new.reads b c
     kept b c itself a = itself
-    kept b c (through {c = x} i r) a = through ((h.reads b x).1 (i, a)) (kept x c r (apart x (λ e. source b (subst (λ y. IsTrue (old.reads b y)) e i))))
+    kept b c (through {c = x} i r) a =
+        through ((h.reads b x).1 (i, a)) (kept x c r (apart x (λ e. source b (subst (λ y. IsTrue (old.reads b y)) e i))))
 
 -- after a finish none is due
 pub finish-leaves-none : (base : Id) (bs : List Id) (old new : Dependencies) → HasFinished base bs old new → NoneDue new
@@ -64,14 +68,17 @@ finish-leaves-none base bs old new h b d = out ((h.finished b).0 d.finished)
             go e ((h.finished y).0 (all y (through step itself))).0 (λ z t. all z (through step t))
 
     out : IsTrue (is_same_id b base || old.finished b) × (has_id b bs ≡ false) → ⊥
-    out m = let t : true ≡ false = sym (in-has b bs ((h.due b).1 (record { finished = m.0; sources = λ c r. goes b c m.0 d.sources r m.1 }))) ∙ m.1 in cc
+    out m =
+        let t : true ≡ false = sym (in-has b bs ((h.due b).1 (record { finished = m.0; sources = λ c r. goes b c m.0 d.sources r m.1 }))) ∙ m.1 in cc
 
 -- and what a finish makes due comes to the program that is finished
 pub due-comes-to : (base : Id) (old : Dependencies) → NoneDue old → (b : Id) → IsDue (marked base old) b → (Through old.reads b base → ⊥) → ⊥
 due-comes-to base old n b d none = n b (record { finished = was b itself; sources = λ c r. was c r })
   where
     was : (c : Id) → Through old.reads b c → IsTrue (old.finished c)
-    was c r = either (λ e. absurd (none (subst (Through old.reads b) (is_same_id-true c base e) r))) (λ t. t) (or_cases (is_same_id c base) (old.finished c) (at c r))
+    was c r =
+        either (λ e. absurd (none (subst (Through old.reads b) (is_same_id-true c base e) r))) (λ t. t)
+        (or_cases (is_same_id c base) (old.finished c) (at c r))
       where
         at : (c : Id) → Through old.reads b c → (is_same_id c base || old.finished c) ≡ true
         at c itself = d.finished

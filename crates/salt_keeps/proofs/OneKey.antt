@@ -53,7 +53,10 @@ one-key-rows t mode k ds es = by (row_edited ds es (place t k)) refl
 
     by : (o : Option (List Value)) → row_edited ds es (place t k) ≡ o →
         AreRowsIn (record { table = t; range = one_key k; mode = mode }) ds es (entry_at (place t k) o)
-    by None n = record { sorted = tt; found = λ q. none n q (is_eq (place_cmp (place t k) q)) refl ∙ ap (λ b. cond b (row_edited ds es q) None) (sym (within-one t mode k q)) }
+    by None n = record {
+      sorted = tt;
+      found = λ q. none n q (is_eq (place_cmp (place t k) q)) refl ∙ ap (λ b. cond b (row_edited ds es q) None) (sym (within-one t mode k q));
+    }
     by (Some row) s = record {
       sorted = tt;
       found = λ q.

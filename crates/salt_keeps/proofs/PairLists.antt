@@ -33,7 +33,10 @@ step-pair pairs x y h =
     (m.0, i.0, i.1, m.2)
 
 pair-test : (pairs : List Pair) (x y : Id) → In y (sources_of pairs x) → has_pair pairs x y ≡ true
-pair-test pairs x y h = let m = step-pair pairs x y h in into-any (λ (p : Pair). is_same_id x p.reader && is_same_id y p.source) m.0 pairs m.1 (rw m.2 (subst (λ z. is_same_id y z ≡ true) (sym m.3) (is_same_id-refl y)))
+pair-test pairs x y h =
+    let m = step-pair pairs x y h in
+    into-any (λ (p : Pair). is_same_id x p.reader && is_same_id y p.source) m.0 pairs m.1
+    (rw m.2 (subst (λ z. is_same_id y z ≡ true) (sym m.3) (is_same_id-refl y)))
 
 pairs-lead : (pairs : List Pair) (b c : Id) → Through (has_pair pairs) b c → Leads (sources_of pairs) b c
 pairs-lead pairs b c itself = here
@@ -61,7 +64,8 @@ length-map f (x ∷ xs) = ap suc (length-map f xs)
 
 last-named : (pairs : List Pair) (b c : Id) → Leads (sources_of pairs) b c → (b ≡ c) ⊎ In c (map (λ p. p.source) pairs)
 last-named pairs b c here = inl refl
-last-named pairs b c (on {b = x} i r) = either (λ e. inr (subst (λ y. In y (map (λ p. p.source) pairs)) e (step-named pairs b x i))) (λ n. inr n) (last-named pairs x c r)
+last-named pairs b c (on {b = x} i r) =
+    either (λ e. inr (subst (λ y. In y (map (λ p. p.source) pairs)) e (step-named pairs b x i))) (λ n. inr n) (last-named pairs x c r)
 
 -- the computed sources are those that one comes to
 pub all_sources-exact : (pairs : List Pair) (b c : Id) → In c (all_sources pairs b) ↔ Through (has_pair pairs) b c

@@ -51,7 +51,10 @@ not-in b us n = by (has_id b us) refl
 
 -- the program of an open unit is known
 pub open-known : (trace : Trace) (u b : Id) → Sound trace → Firsts trace → is_open trace u ≡ true → program_of u trace ≡ Some b → IsKnown trace b
-open-known trace u b s h o p = record { unreleased = not-in b (released_in trace) (λ i. s.alive b u o (of-program trace u b p) (inr i)); kept = not-in b (abandoned_in trace) (h.open_kept b u o p) }
+open-known trace u b s h o p = record {
+  unreleased = not-in b (released_in trace) (λ i. s.alive b u o (of-program trace u b p) (inr i));
+  kept = not-in b (abandoned_in trace) (h.open_kept b u o p);
+}
 
 -- an accepted program that is not released is known
 pub accepted-known : (trace : Trace) (b : Id) → Firsts trace → In b (accepted_in trace) → has_id b (released_in trace) ≡ false → IsKnown trace b
@@ -93,7 +96,9 @@ reads-did trace u st a old s h o k x y = (forth, back)
         by false = i
 
     forth : ReadsAfter trace (Did u st a) old x y → ReadsLive (trace says Did u st a) x y
-    forth (inl t) = let r = (k.reads x y).0 t in record { reads = older r.reads; reader = record { unreleased = r.reader.unreleased; kept = r.reader.kept }; source = r.source }
+    forth (inl t) =
+        let r = (k.reads x y).0 t in
+        record { reads = older r.reads; reader = record { unreleased = r.reader.unreleased; kept = r.reader.kept }; source = r.source }
     forth (inr n) =
         let w = in-writes trace (reach_now u trace st) y (through-writers old.writer (live_writer trace) k.writer (reach_now u trace st) y n.2) in
         let known = open-known trace u x s h o n.0 in
@@ -108,7 +113,8 @@ reads-did trace u st a old s h o k x y = (forth, back)
     back r = by (is_of_program x trace u) refl r.reads
       where
         was : In y (read_directly x trace) → ReadsAfter trace (Did u st a) old x y
-        was i = inl ((k.reads x y).1 (record { reads = i; reader = record { unreleased = r.reader.unreleased; kept = r.reader.kept }; source = r.source }))
+        was i =
+            inl ((k.reads x y).1 (record { reads = i; reader = record { unreleased = r.reader.unreleased; kept = r.reader.kept }; source = r.source }))
 
         by : (t : Bool) → is_of_program x trace u ≡ t →
             In y (cond t (without (x ∷ []) (programs_among trace (writers_in trace (reach_now u trace st))) ++ read_directly x trace) (read_directly x trace)) →
@@ -193,9 +199,14 @@ ends-alive (trace turns x) p w b h d = ends-alive trace p.0 w b (before (last_sa
     before (Some (Ended u (Branched n c))) g = g
     before (Some (Accepted c)) g = g
     before o g = absurd g
-ends-alive (trace says Ended u (Committed n)) p w b h d = let k = holds trace p.0 w in k.sound.alive b u (may-fit trace (Ended u (Committed n)) k.comes p.1).0 (of-program trace u b (continued-of (kind_of u trace) b h.0)) d
-ends-alive (trace says Ended u (Branched n c)) p w b h d = let k = holds trace p.0 w in k.sound.alive b u (may-fit trace (Ended u (Branched n c)) k.comes p.1).0 (of-program trace u b (continued-of (kind_of u trace) b h.0)) d
-ends-alive (trace says Accepted c) p w b h d = acceptance-alive trace p.0 w c (may-fit trace (Accepted c) (holds trace p.0 w).comes p.1) (subst (Dead trace) (sym h.0) d)
+ends-alive (trace says Ended u (Committed n)) p w b h d =
+    let k = holds trace p.0 w in
+    k.sound.alive b u (may-fit trace (Ended u (Committed n)) k.comes p.1).0 (of-program trace u b (continued-of (kind_of u trace) b h.0)) d
+ends-alive (trace says Ended u (Branched n c)) p w b h d =
+    let k = holds trace p.0 w in
+    k.sound.alive b u (may-fit trace (Ended u (Branched n c)) k.comes p.1).0 (of-program trace u b (continued-of (kind_of u trace) b h.0)) d
+ends-alive (trace says Accepted c) p w b h d =
+    acceptance-alive trace p.0 w c (may-fit trace (Accepted c) (holds trace p.0 w).comes p.1) (subst (Dead trace) (sym h.0) d)
 ends-alive (trace says e) p w b h d = absurd h
 
 -- what is kept after an event is what the event makes of what was kept

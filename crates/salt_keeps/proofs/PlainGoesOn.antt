@@ -113,7 +113,9 @@ pair-of ps x y h =
     subst (λ (p : Pair). In p ps) (λ i. record { reader = sym a i; source = sym b i }) m.1
 
 of-pair : (ps : List Pair) (x y : Id) → In (record { reader = x; source = y }) ps → has_pair ps x y ≡ true
-of-pair ps x y i = into-any (λ (p : Pair). is_same_id x p.reader && is_same_id y p.source) (record { reader = x; source = y }) ps i (both-true _ _ (is_same_id-refl x) (is_same_id-refl y))
+of-pair ps x y i =
+    into-any (λ (p : Pair). is_same_id x p.reader && is_same_id y p.source) (record { reader = x; source = y }) ps i
+    (both-true _ _ (is_same_id-refl x) (is_same_id-refl y))
 
 -- a key that one wrote last
 found-place : (p : Place) (ws : List (Place × Id)) (y : Id) → writer_in ws p ≡ Some y → (w : Place × Id) × In w ws × (p ≡ w.0)
@@ -138,11 +140,14 @@ some-pair b y x z h = by (is_same_id y b) refl h
     by : (t : Bool) → is_same_id y b ≡ t → then_some {T = Pair} (not t) (record { reader = b; source = y }) ≡ Some (record { reader = x; source = z }) →
         (b ≡ x) × (y ≡ z) × (is_same_id y b ≡ false)
     by true e q = cc
-    by false e q = let s : Path-of (record { reader = b; source = y }) (record { reader = x; source = z }) = cc in (ap (λ (p : Pair). p.reader) s, ap (λ (p : Pair). p.source) s, e)
+    by false e q =
+        let s : Path-of (record { reader = b; source = y }) (record { reader = x; source = z }) = cc in
+        (ap (λ (p : Pair). p.reader) s, ap (λ (p : Pair). p.source) s, e)
 
 read-in : (b : Id) (r : Reach) (ws : List (Place × Id)) (x y : Id) → In (record { reader = x; source = y }) (filter_map (pair_at b r ws) ws) →
     (b ≡ x) × (is_same_id y x ≡ false) × WritesIn (writer_in ws) (Some r) y
-read-in b r ws x y i = let m = in-filter_map (pair_at b r ws) (record { reader = x; source = y }) ws i in by m.0 (is_within r m.0.0) refl (writer_in ws m.0.0) refl m.2
+read-in b r ws x y i =
+    let m = in-filter_map (pair_at b r ws) (record { reader = x; source = y }) ws i in by m.0 (is_within r m.0.0) refl (writer_in ws m.0.0) refl m.2
   where
     at : (w : Place × Id) → is_within r w.0 ≡ true → place r.table w.0.key ≡ w.0
     at w e = λ j. record { table = eqb-true r.table w.0.table (and_left (r.table == w.0.table) _ e) j; key = w.0.key }
@@ -184,7 +189,8 @@ reads-did o q ws ps x y = (
         In (record { reader = x; source = y }) (pairs_read o q ws)
     old None q e n w = cc
     old (Some b) None e n w = absurd w
-    old (Some b) (Some r) e n w = let s : b ≡ x = cc in subst (λ c. In (record { reader = x; source = y }) (filter_map (pair_at c r ws) ws)) (sym s) (into-read r ws x y n w)
+    old (Some b) (Some r) e n w =
+        let s : b ≡ x = cc in subst (λ c. In (record { reader = x; source = y }) (filter_map (pair_at c r ws) ws)) (sym s) (into-read r ws x y n w)
 
 reads-filter : (test : Pair → Bool) (ps : List Pair) (x y : Id) →
     (has_pair (filter test ps) x y ≡ true) ↔ ((has_pair ps x y ≡ true) × (test (record { reader = x; source = y }) ≡ true))

@@ -57,8 +57,12 @@ module _ (s : UnitState) (trace : Trace) (keeps : KeepsUnits s trace) (way : Und
   waits-told (Some o) k = k.waiting
 
   wrong-told : (line : Line) → is_state_wrong trace line ≡ wrong_in s way line
-  wrong-told (Session t act) = ap (λ o. state_wrong trace o act) (session-kept s trace t keeps) ∙ act-wrong-told act (unit_of_session t s) (every-found (KeepsUnit trace) _ s.units keeps.each)
-  wrong-told (Go b) = ap (is_waiting_unit trace) (program-kept s trace b keeps) ∙ waits-told (unit_of_program b s) (every-found (KeepsUnit trace) _ s.units keeps.each)
+  wrong-told (Session t act) =
+      ap (λ o. state_wrong trace o act) (session-kept s trace t keeps)
+      ∙ act-wrong-told act (unit_of_session t s) (every-found (KeepsUnit trace) _ s.units keeps.each)
+  wrong-told (Go b) =
+      ap (is_waiting_unit trace) (program-kept s trace b keeps)
+      ∙ waits-told (unit_of_program b s) (every-found (KeepsUnit trace) _ s.units keeps.each)
   wrong-told (Crash pairs) = ap not ways.can_stop
   wrong-told line = refl
 

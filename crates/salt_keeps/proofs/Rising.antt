@@ -51,7 +51,9 @@ units-rise : (trace : Trace) → IsPlayed trace → WellKept (start_of trace).ke
 units-rise (from k) p w = tt
 units-rise (trace asks asked) p w = units-rise trace p.0 w
 units-rise (trace turns b) p w = units-rise trace p.0 w
-units-rise (trace says e) p w = let held = holds trace p.0 (of-start (start_of trace).kept w) in begun-rise trace e held.sound (may-fit trace e held.comes p.1) (units-rise trace p.0 w)
+units-rise (trace says e) p w =
+    let held = holds trace p.0 (of-start (start_of trace).kept w) in
+    begun-rise trace e held.sound (may-fit trace e held.comes p.1) (units-rise trace p.0 w)
 
 pub names-rise : (s : UnitState) (trace : Trace) → KeepsUnits s trace → IsPlayed trace → WellKept (start_of trace).kept → Rising (names_in s.units)
 names-rise s trace keeps p w = subst Rising keeps.units (rising-filter (is_open trace) (units_begun trace) (units-rise trace p w))
@@ -109,4 +111,5 @@ pub named-at : (os : List OpenUnit) (n : ℕ) (d : OpenUnit) → Rising (names_i
     unit_named (get_or os n d).unit os ≡ Some (get_or os n d)
 named-at [] n d h l = absurd (omega arith)
 named-at (o ∷ os) zero d h l = rw (is_same_id-refl o.unit) refl
-named-at (o ∷ os) (suc n) d h l = rw (older-away o.unit (get_or os n d).unit (older-at o.unit os n d h.0 (omega arith))) (named-at os n d h.1 (omega arith))
+named-at (o ∷ os) (suc n) d h l =
+    rw (older-away o.unit (get_or os n d).unit (older-at o.unit os n d h.0 (omega arith))) (named-at os n d h.1 (omega arith))

@@ -47,10 +47,13 @@ flat-same f g h xs ys e = one xs ∙ ap (flat_map g) e
 
 -- a line and a turn of `go all` leave who waits for whom
 abbrev Alike : Trace → Trace → Type 0
-Alike here trace = (wait_list here ≡ wait_list trace) × ((u : Id) → In u (wait_list trace) → clashing_now here u ≡ clashing_now trace u) × ((o : Owner) → edges_to here o ≡ edges_to trace o) × ((u : Id) → is_acid here u ≡ is_acid trace u)
+Alike here trace =
+    (wait_list here ≡ wait_list trace) × ((u : Id) → In u (wait_list trace) → clashing_now here u ≡ clashing_now trace u) ×
+    ((o : Owner) → edges_to here o ≡ edges_to trace o) × ((u : Id) → is_acid here u ≡ is_acid trace u)
 
 alike-victim : (here trace : Trace) → Alike here trace → victim here ≡ victim trace
-alike-victim here trace a = ap victim_of (ap (map (wait_unit here)) a.0 ∙ map-same (wait_unit here) (wait_unit trace) (wait_list trace) (λ u m. λ i. record { unit = u; acid = a.3 u i; edges = flat-same (edges_to here) (edges_to trace) a.2 (clashing_now here u) (clashing_now trace u) (a.1 u m) i }))
+alike-victim here trace a =
+    ap victim_of (ap (map (wait_unit here)) a.0 ∙ map-same (wait_unit here) (wait_unit trace) (wait_list trace) (λ u m. λ i. record { unit = u; acid = a.3 u i; edges = flat-same (edges_to here) (edges_to trace) a.2 (clashing_now here u) (clashing_now trace u) (a.1 u m) i }))
 
 alike-served : (here trace : Trace) → Alike here trace → next_unblocked here ≡ next_unblocked trace
 alike-served here trace a = ap (find (λ u. is_empty (clashing_now here u))) a.0 ∙ find-same _ _ (wait_list trace) (λ u m. ap is_empty (a.1 u m))
@@ -64,7 +67,8 @@ now-same here trace u e h = ap (λ (o : Option Statement). elim o [ None ↦ [] 
     by (Some st) = h st
 
 alike-asks : (trace : Trace) (asked : Asked) → IsPlayed trace → OfBoots (start_of trace).kept → Alike (trace asks asked) trace
-alike-asks trace asked p w = (refl, (λ u m. now-same (trace asks asked) trace u (asked-asks trace asked u (wait-waiting trace p w u m)) (λ st. clash u (reach_now u trace st))), edges, (λ u. refl))
+alike-asks trace asked p w =
+    (refl, (λ u m. now-same (trace asks asked) trace u (asked-asks trace asked u (wait-waiting trace p w u m)) (λ st. clash u (reach_now u trace st))), edges, (λ u. refl))
   where
     clash : (u : Id) (r : Option Reach) → owners_of (clash_locks (trace asks asked) u (kind_of u trace) r) ≡ owners_of (clash_locks trace u (kind_of u trace) r)
     clash u None = refl
@@ -75,7 +79,8 @@ alike-asks trace asked p w = (refl, (λ u m. now-same (trace asks asked) trace u
     edges (Base c) = refl
 
 alike-turns : (trace : Trace) (b : Id) → IsPlayed trace → OfBoots (start_of trace).kept → Alike (trace turns b) trace
-alike-turns trace b p w = (refl, (λ u m. now-same (trace turns b) trace u (asked-turns trace b u (wait-waiting trace p w u m)) (λ st. clash u (reach_now u trace st))), edges, (λ u. refl))
+alike-turns trace b p w =
+    (refl, (λ u m. now-same (trace turns b) trace u (asked-turns trace b u (wait-waiting trace p w u m)) (λ st. clash u (reach_now u trace st))), edges, (λ u. refl))
   where
     clash : (u : Id) (r : Option Reach) → owners_of (clash_locks (trace turns b) u (kind_of u trace) r) ≡ owners_of (clash_locks trace u (kind_of u trace) r)
     clash u None = refl
@@ -116,12 +121,21 @@ none-waits trace n (u ∷ us) e = absurd (n u (wait-open trace u (subst (In u) (
 none-next : (trace : Trace) → IsPlayed trace → OfBoots (start_of trace).kept → phase trace ≡ Serving → next trace ≡ None →
     (victim trace ≡ None) × (next_unblocked trace ≡ None)
 none-next (from k) p w s n = cc
-none-next (trace asks asked) p w s n = let h = none-next trace p.0 w p.1.0 p.1.1 in let a = alike-asks trace asked p.0 w in (alike-victim (trace asks asked) trace a ∙ h.0, alike-served (trace asks asked) trace a ∙ h.1)
-none-next (trace turns b) p w s n = let h = none-next trace p.0 w p.1 p.2 in let a = alike-turns trace b p.0 w in (alike-victim (trace turns b) trace a ∙ h.0, alike-served (trace turns b) trace a ∙ h.1)
+none-next (trace asks asked) p w s n =
+    let h = none-next trace p.0 w p.1.0 p.1.1 in
+    let a = alike-asks trace asked p.0 w in
+    (alike-victim (trace asks asked) trace a ∙ h.0, alike-served (trace asks asked) trace a ∙ h.1)
+none-next (trace turns b) p w s n =
+    let h = none-next trace p.0 w p.1 p.2 in
+    let a = alike-turns trace b p.0 w in
+    (alike-victim (trace turns b) trace a ∙ h.0, alike-served (trace turns b) trace a ∙ h.1)
 none-next (trace says Down why) p w s n = cc
 none-next (trace says Opened boot m) p w s n = cc
-none-next (trace says Ready) p w s n = let k = holds trace p.0 w in none-waits (trace says Ready) (none-open trace k.sound (may-fit trace Ready k.comes p.1)) (wait_list trace) refl
-none-next (trace says e) p w s n = settles (trace says e) (all-ask (trace says e) p w) (neither (follow (trace says e) e) (settle (trace says e)) (subst (λ q. said_event q (trace says e) e ≡ None) s n)).1
+none-next (trace says Ready) p w s n =
+    let k = holds trace p.0 w in none-waits (trace says Ready) (none-open trace k.sound (may-fit trace Ready k.comes p.1)) (wait_list trace) refl
+none-next (trace says e) p w s n =
+    settles (trace says e) (all-ask (trace says e) p w)
+    (neither (follow (trace says e) e) (settle (trace says e)) (subst (λ q. said_event q (trace says e) e ≡ None) s n)).1
 
 -- no victim: no unit on a cycle
 greatest-none : (us : List Id) → greatest us ≡ None → us ≡ []
@@ -141,7 +155,8 @@ no-cycle graph h w i = by (is_on_cycle graph w) refl
 
     by : (b : Bool) → is_on_cycle graph w ≡ b → b ≡ false
     by false e = refl
-    by true e = absurd (names-none (filter (is_on_cycle graph) graph) (greatest-none _ (neither (greatest (names_of (filter (λ w. w.acid) (filter (is_on_cycle graph) graph)))) _ h).1) (into-filter (is_on_cycle graph) w graph i e))
+    by true e =
+        absurd (names-none (filter (is_on_cycle graph) graph) (greatest-none _ (neither (greatest (names_of (filter (λ w. w.acid) (filter (is_on_cycle graph) graph)))) _ h).1) (into-filter (is_on_cycle graph) w graph i e))
 
 find-none : {A : Type 0} (p : A → Bool) (xs : List A) → find p xs ≡ None → (x : A) → In x xs → p x ≡ false
 find-none p [] h x m = absurd m

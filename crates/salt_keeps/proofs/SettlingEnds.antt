@@ -146,7 +146,9 @@ victim-named graph u h = either
     on-in w i = (in-filter (is_on_cycle graph) w graph i).0
 
     from : (ws : List WaitUnit) → ((w : WaitUnit) → In w ws → In w graph) → In u (names_of ws) → In u (names_of graph)
-    from ws f i = let m = in-map (λ (w : WaitUnit). w.unit) u ws i in subst (λ v. In v (names_of graph)) m.2 (mapped (λ (w : WaitUnit). w.unit) m.0 graph (f m.0 m.1))
+    from ws f i =
+        let m = in-map (λ (w : WaitUnit). w.unit) u ws i in
+        subst (λ v. In v (names_of graph)) m.2 (mapped (λ (w : WaitUnit). w.unit) m.0 graph (f m.0 m.1))
 
 graph-names : (d : Dependencies) (ls : List Lock) (all : List Asker) (sources : Id → List Id) (ws : List Asker) →
     names_of (map (graph_unit d ls all sources) ws) ≡ map (λ w. w.unit) ws
@@ -163,7 +165,9 @@ served-waits ls ws u h = by (find (λ w. is_empty (clash_owners ls w)) ws) refl 
     by : (o : Option Asker) → find (λ w. is_empty (clash_owners ls w)) ws ≡ o → option_map (λ (w : Asker). w.unit) o ≡ Some u →
         In u (map (λ w. w.unit) ws)
     by None e q = cc
-    by (Some w) e q = let same : w.unit ≡ u = cc in subst (λ v. In v (map (λ w. w.unit) ws)) same (mapped (λ (w : Asker). w.unit) w ws (find-in (λ w. is_empty (clash_owners ls w)) w ws e).0)
+    by (Some w) e q =
+        let same : w.unit ≡ u = cc in
+        subst (λ v. In v (map (λ w. w.unit) ws)) same (mapped (λ (w : Asker). w.unit) w ws (find-in (λ w. is_empty (clash_owners ls w)) w ws e).0)
 
 -- settling takes one of them away
 abbrev Falls : List Id → ℕ → Event → Type 0
@@ -218,7 +222,8 @@ serving-falls s x e o =
 
 -- the waiting units after an event are no more than their names tell
 drop-length : (u : Id) (ws : List Asker) → length (drop_asker u ws) ≡ length (without (u ∷ []) (map (λ w. w.unit) ws))
-drop-length u ws = sym (length-map (drop_asker u ws) (λ (w : Asker). w.unit)) ∙ ap length (map-filter (λ (w : Asker). w.unit) (λ v. not (has_id v (u ∷ []))) ws)
+drop-length u ws =
+    sym (length-map (drop_asker u ws) (λ (w : Asker). w.unit)) ∙ ap length (map-filter (λ (w : Asker). w.unit) (λ v. not (has_id v (u ∷ []))) ws)
 
 asks-one : (s : UnitState) (e : Event) (o : Option OpenUnit) → length (facts_of s e o).asks ≤ 1
 asks-one s (Waits u owners) (Some o) = omega arith

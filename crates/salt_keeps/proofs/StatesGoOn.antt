@@ -32,7 +32,9 @@ use Rattle.std.specs.Prelude.{List, None, Some, [], cond, map, refl, ℕ, ◌++�
 
 -- at a Ready nothing is left, whatever was watched in the opening
 no-lock : (table : List Numbered) (n : Numbered) → In n (filter_map (on_lock (λ (l : Lock). None)) table ++ []) → In n []
-no-lock table n i = either (λ j. let m = in-filter_map (on_lock (λ (l : Lock). None)) n table j in let e : None ≡ Some n = m.2 in cc) (λ j. j) (in-cases n (filter_map (on_lock (λ (l : Lock). None)) table) [] i)
+no-lock table n i =
+    either (λ j. let m = in-filter_map (on_lock (λ (l : Lock). None)) n table j in let e : None ≡ Some n = m.2 in cc) (λ j. j)
+    (in-cases n (filter_map (on_lock (λ (l : Lock). None)) table) [] i)
 
 ready-watched : (trace : Trace) (s : UnitState) (old new : Watch) → KeepsNothing (trace says Ready) → WatchChange s Ready old new →
     Watches new (trace says Ready)
@@ -50,7 +52,8 @@ ready-watched trace s old new r w = record {
 
 watch-says : (old new : State) (trace : Trace) (e : Event) → Keeps old trace → IsPlayed (trace says e) → WellKept (start_of trace).kept →
     WatchChange old.units e old.watch new.watch → Watches new.watch (trace says e)
-watch-says old new trace Ready keeps p w a = ready-watched trace old.units old.watch new.watch (ready-empty trace p (of-start (start_of trace).kept w)) a
+watch-says old new trace Ready keeps p w a =
+    ready-watched trace old.units old.watch new.watch (ready-empty trace p (of-start (start_of trace).kept w)) a
 watch-says old new trace e keeps p w a =
     watches-say trace e old.watch new.watch p w keeps.watch
     (watch-by-facts trace e old.watch new.watch tt (subst (λ f. WatchBy f e old.watch new.watch) (sym (facts-kept old.units trace keeps.units e (replays trace p.0).base (good-event trace e (replays trace p.0) p.1))) a))

@@ -118,12 +118,16 @@ module _ (s : UnitState) (trace : Trace) (keeps : KeepsUnits s trace) where
 
   -- `go`, and a turn of `go all`
   pub go-told : (c : Clashes) → AreClashes c → (b : Id) → go trace b ≡ go_in s c b
-  go-told c f b = ap (goes_on trace b) (program-kept s trace b keeps) ∙ goes-on-told c f b (unit_of_program b s) (every-found (KeepsUnit trace) _ s.units keeps.each)
+  go-told c f b =
+      ap (goes_on trace b) (program-kept s trace b keeps)
+      ∙ goes-on-told c f b (unit_of_program b s) (every-found (KeepsUnit trace) _ s.units keeps.each)
 
   -- the first event of a line
   pub line-told : (c : Clashes) → AreClashes c → (items : Items) → record { locks = lock_items trace; bases = base_items trace } ≡ items →
       (line : Line) → line_event trace line ≡ line_in s c items line
-  line-told c f items shown (Session t act) = ap (act_event trace t act) (session-kept s trace t keeps) ∙ act-told c f t act (unit_of_session t s) (every-found (KeepsUnit trace) _ s.units keeps.each)
+  line-told c f items shown (Session t act) =
+      ap (act_event trace t act) (session-kept s trace t keeps)
+      ∙ act-told c f t act (unit_of_session t s) (every-found (KeepsUnit trace) _ s.units keeps.each)
   line-told c f items shown (Go b) = go-told c f b
   line-told c f items shown ShowLocks = ap (λ (x : Items). Some (Shown x.locks)) shown
   line-told c f items shown ShowBases = ap (λ (x : Items). Some (Shown x.bases)) shown

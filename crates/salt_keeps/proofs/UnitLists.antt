@@ -97,5 +97,8 @@ pub begun-named : (trace : Trace) (v : Id) → In v (units_begun trace) → is_n
 begun-named (from k) v h = absurd h
 begun-named (trace asks asked) v h = begun-named trace v h
 begun-named (trace turns b) v h = begun-named trace v h
-begun-named (trace says Began u kind) v h = either (λ i. or_right_true (is_same_id v u) (is_named v trace) (begun-named trace v i)) (either (λ e. rw (subst (λ w. is_same_id v w ≡ true) (sym e) (is_same_id-refl v)) refl) (λ x. absurd x)) (in-cases v (units_begun trace) (u ∷ []) h)
+begun-named (trace says Began u kind) v h =
+    either (λ i. or_right_true (is_same_id v u) (is_named v trace) (begun-named trace v i))
+    (either (λ e. rw (subst (λ w. is_same_id v w ≡ true) (sym e) (is_same_id-refl v)) refl) (λ x. absurd x))
+    (in-cases v (units_begun trace) (u ∷ []) h)
 begun-named (trace says e) v h = or_right_true (is_unit_of v e) (is_named v trace) (begun-named trace v h)

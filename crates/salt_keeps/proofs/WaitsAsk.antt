@@ -19,7 +19,7 @@ use Rattle.salt_model.specs.Played.{IsPlayed}
 use Rattle.salt_model.specs.Reads.{to_release}
 use Rattle.salt_model.specs.Refusals.{is_state_wrong, is_waiting_unit, judged, refusal, state_wrong}
 use Rattle.salt_model.specs.Trace.{Asked, Rejected, Trace, Tree, from, line_asked, line_of, start_of, ◌asks◌, ◌says◌, ◌turns◌}
-use Rattle.salt_model.specs.Turns.{act_event, after_began, after_did, after_end, asks_for, can_go, commits, does_next, fails, finishes, follow, go, goes_on, is_at_end, line_event, next_turn, releases, settle, settle_by, still_to_go, turn, turn_of}
+use Rattle.salt_model.specs.Turns.{act_event, after_began, after_did, after_end, asks_for, can_go, commits, does_next, fails, finishes, follow, go, goes_on, is_at_end, line_event, next_turn, releases, settle, settle_by, still_to_go, turn}
 use Rattle.salt_model.specs.Units.{is_waiting, kind_of, open_units, program_unit, session_unit}
 use Rattle.salt_model.specs.Waiting.{asked_by, block_of, next_unblocked, victim}
 use Rattle.salt_model.specs.Words.{is_empty}
@@ -44,7 +44,8 @@ use Rattle.std.specs.Prelude.{Bool, List, None, Option, Some, [], false, is_none
 
 -- what is known of a Waits that comes
 abbrev pub Asks : Trace → Event → Type 0
-Asks trace (Waits u owners) = (is_waiting trace u ≡ false) × ((st : Statement) × (asked_by u trace ≡ Some st) × (clashing trace u st ≡ owners) × (is_empty owners ≡ false))
+Asks trace (Waits u owners) =
+    (is_waiting trace u ≡ false) × ((st : Statement) × (asked_by u trace ≡ Some st) × (clashing trace u st ≡ owners) × (is_empty owners ≡ false))
 Asks trace e = ⊤
 
 module _ (trace : Trace) where
@@ -142,18 +143,24 @@ asks-follow trace e = tt
 
 asks-serving : (trace : Trace) (e : Event) → IfComes (Asks (trace says e)) (serving_event (trace says e) e)
 asks-serving trace Ready = tt
-asks-serving trace e = comes-option_or (Asks (trace says e)) (follow (trace says e) e) (settle (trace says e)) (asks-follow trace e) (asks-settle (trace says e) (victim (trace says e)) (next_unblocked (trace says e)))
+asks-serving trace e =
+    comes-option_or (Asks (trace says e)) (follow (trace says e) e) (settle (trace says e)) (asks-follow trace e)
+    (asks-settle (trace says e) (victim (trace says e)) (next_unblocked (trace says e)))
 
 asks-opens : (trace : Trace) (e : Event) → IfComes (Asks (trace says e)) (follow_opening (trace says e) e)
 asks-opens trace (Began u kind) = asks-serve (trace says Began u kind) u
-asks-opens trace (Did u st a) = comes-option_or (Asks (trace says Did u st a)) (after_did (trace says Did u st a) u a) (does_next (trace says Did u st a) u) (asks-did (trace says Did u st a) u a) (asks-serve (trace says Did u st a) u)
+asks-opens trace (Did u st a) =
+    comes-option_or (Asks (trace says Did u st a)) (after_did (trace says Did u st a) u a) (does_next (trace says Did u st a) u)
+    (asks-did (trace says Did u st a) u a) (asks-serve (trace says Did u st a) u)
 asks-opens trace (Ended u end) = asks-end (trace says Ended u end) end (kind_of u trace)
 asks-opens trace (Accepted b) = asks-finishes (trace says Accepted b) b
 asks-opens trace e = tt
 
 asks-said : (trace : Trace) (e : Event) (p : Phase) → IfComes (Asks (trace says e)) (said_event p (trace says e) e)
 asks-said trace e Serving = asks-serving trace e
-asks-said trace e Opening = comes-option_or (Asks (trace says e)) (follow_opening (trace says e) e) (cuts_or_drains (trace says e) (to_cut (trace says e))) (asks-opens trace e) (asks-cuts (trace says e) (to_cut (trace says e)))
+asks-said trace e Opening =
+    comes-option_or (Asks (trace says e)) (follow_opening (trace says e) e) (cuts_or_drains (trace says e) (to_cut (trace says e)))
+    (asks-opens trace e) (asks-cuts (trace says e) (to_cut (trace says e)))
 asks-said trace e Fallen = tt
 
 none-when : {A : Type 0} (b : Bool) (x : A) → then_some b x ≡ None → b ≡ false
@@ -164,11 +171,14 @@ asks-asked : (trace : Trace) (asked : Asked) (o : Option Refusal) → refusal tr
     IfComes (Asks (trace asks asked)) (option_or (option_map Refused o) (line_event (trace asks asked) (line_asked asked)))
 asks-asked trace asked (Some r) e = tt
 asks-asked trace (Rejected r) None e = cc
-asks-asked trace (Tree line) None e = asks-line (trace asks Tree line) line (none-when (is_state_wrong trace line) State (neither (then_some (is_state_wrong trace line) State) _ (neither (judged trace line) _ e).1).0)
+asks-asked trace (Tree line) None e =
+    asks-line (trace asks Tree line) line
+    (none-when (is_state_wrong trace line) State (neither (then_some (is_state_wrong trace line) State) _ (neither (judged trace line) _ e).1).0)
 
 -- a program to which `go all` turns does not wait
 turns-run : (trace : Trace) (b : Id) → next_turn trace ≡ Some b → (u : Id) → program_unit b trace ≡ Some u → is_waiting trace u ≡ false
-turns-run trace b h u e = not-so (is_waiting trace u) (go (program_unit b trace) e (and_right (is_some (cont_of b (kept trace))) _ (find-in (can_go trace) b (still_to_go trace) h).1))
+turns-run trace b h u e =
+    not-so (is_waiting trace u) (go (program_unit b trace) e (and_right (is_some (cont_of b (kept trace))) _ (find-in (can_go trace) b (still_to_go trace) h).1))
   where
     go : (o : Option Id) → o ≡ Some u → elim o [ None ↦ true | Some v ↦ not (is_waiting trace v) ] ≡ true → not (is_waiting trace u) ≡ true
     go None q g = cc

@@ -39,4 +39,5 @@ module _ (steps : Id → List Id) (names : List Id) where
 
   -- as many rounds as there are names bring each name that steps lead to
   pub come-all : AreInner → (seen : List Id) (b c : Id) → In b seen → Leads steps b c → In c names → In c (widened steps (length names) seen)
-  come-all inner seen b c h r n = all-come steps names (inner-or-last inner) (length names) seen (filter-short (λ u. not (has_id u seen)) names) b c h (leads-path b c r) n
+  come-all inner seen b c h r n =
+      all-come steps names (inner-or-last inner) (length names) seen (filter-short (λ u. not (has_id u seen)) names) b c h (leads-path b c r) n

@@ -139,7 +139,9 @@ in-writes trace (Some r) y h = by (find (is_written_at (place r.table h.0)) (wri
 live-stays : (trace : Trace) (e : Event) → Sound trace → Salty trace → Fits trace e → written_in (trace says e) ≡ written_in trace →
     (more : Id → Bool) → ((b : Id) → has_id b (released_in (trace says e)) ≡ (has_id b (released_in trace) || more b)) →
     (p : Place) → live_writer (trace says e) p ≡ option_and_then (λ b. then_some (not (more b)) b) (live_writer trace p)
-live-stays trace e s z f same more rel p = ap (λ ws. option_and_then (live_program (trace says e)) (option_map (λ (w : Written). w.unit) (find (is_written_at p) ws))) same ∙ by (find (is_written_at p) (written_in trace)) refl
+live-stays trace e s z f same more rel p =
+    ap (λ ws. option_and_then (live_program (trace says e)) (option_map (λ (w : Written). w.unit) (find (is_written_at p) ws))) same
+    ∙ by (find (is_written_at p) (written_in trace)) refl
   where
     of-unit : (o : Option Id) → option_and_then (λ b. then_some (not (has_id b (released_in (trace says e)))) b) o ≡ option_and_then (λ b. then_some (not (more b)) b) (option_and_then (λ b. then_some (not (has_id b (released_in trace))) b) o)
     of-unit None = refl
@@ -166,7 +168,8 @@ or-false false = refl
 
 plain : (trace : Trace) (e : Event) → Sound trace → Salty trace → Fits trace e → written_in (trace says e) ≡ written_in trace →
     released_in (trace says e) ≡ released_in trace → (p : Place) → live_writer (trace says e) p ≡ live_writer trace p
-plain trace e s z f ws rs p = live-stays trace e s z f ws (λ b. false) (λ b. ap (has_id b) rs ∙ or-false (has_id b (released_in trace))) p ∙ all-keep (live_writer trace p)
+plain trace e s z f ws rs p =
+    live-stays trace e s z f ws (λ b. false) (λ b. ap (has_id b) rs ∙ or-false (has_id b (released_in trace))) p ∙ all-keep (live_writer trace p)
 
 -- a commit
 committed-live : (trace : Trace) (u : Id) (n : ℕ) → Sound trace → is_open trace u ≡ true →
@@ -189,7 +192,9 @@ wrote-unit (trace says Did v st a) u w h = go (wrote-unit trace u w) (is_same_id
   where
     go : (In w (wrote_of u trace) → w.unit ≡ u) → (t : Bool) → is_same_id u v ≡ t →
         In w (cond t (written_by u (changes_now v trace st) ++ wrote_of u trace) (wrote_of u trace)) → w.unit ≡ u
-    go more true e i = either (λ j. let m = in-map _ w (changes_now v trace st) j in ap (λ (x : Written). x.unit) (sym m.2)) (λ j. more j) (in-cases w _ (wrote_of u trace) i)
+    go more true e i =
+        either (λ j. let m = in-map _ w (changes_now v trace st) j in ap (λ (x : Written). x.unit) (sym m.2)) (λ j. more j)
+        (in-cases w _ (wrote_of u trace) i)
     go more false e i = more i
 wrote-unit (trace says e) u w h = wrote-unit trace u w h
 
@@ -215,7 +220,8 @@ writer-committed trace u n s z f same p =
     by : (o : Option Written) → find (is_written_at p) (wrote_of u trace) ≡ o →
         option_and_then (live_program (trace says Ended u (Committed n))) (option_map (λ w. w.unit) (elim o [ None ↦ find (is_written_at p) (written_in trace) | Some x ↦ Some x ])) ≡ cond (is_some o) (program_of u trace) (live_writer trace p)
     by None e = refl
-    by (Some w) e = ap (live_program here) (wrote-unit trace u w (find-in (is_written_at p) w (wrote_of u trace) e).0) ∙ committed-live trace u n s f.0
+    by (Some w) e =
+        ap (live_program here) (wrote-unit trace u w (find-in (is_written_at p) w (wrote_of u trace) e).0) ∙ committed-live trace u n s f.0
 
 pub writer-ready : (trace : Trace) (p : Place) → live_writer (trace says Ready) p ≡ None
 writer-ready trace p = by (last_writer trace p)
@@ -223,7 +229,8 @@ writer-ready trace p = by (last_writer trace p)
     of-unit : (u : Id) (o : Option Id) → program_of u trace ≡ o →
         option_and_then (λ b. then_some (not (has_id b (released_in trace ++ programs_in trace))) b) o ≡ None
     of-unit u None e = refl
-    of-unit u (Some b) e = ap (λ t. then_some (not t) b) (in-has b (released_in trace ++ programs_in trace) (in-right b (released_in trace) (programs_in trace) (program-in trace u b e)))
+    of-unit u (Some b) e =
+        ap (λ t. then_some (not t) b) (in-has b (released_in trace ++ programs_in trace) (in-right b (released_in trace) (programs_in trace) (program-in trace u b e)))
 
     by : (o : Option Id) → option_and_then (live_program (trace says Ready)) o ≡ None
     by None = refl

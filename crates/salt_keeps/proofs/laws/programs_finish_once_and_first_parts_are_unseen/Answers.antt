@@ -4,4 +4,7 @@ use Rattle.salt_model.specs.Trace.{start_of}
 use Rattle.salt_keeps.proofs.laws.programs_finish_once_and_first_parts_are_unseen.Goals as goal
 
 pub returns : goal.returns
-returns c = record { once = (λ trace b h f. finishes-once trace b h.played (of-start (start_of trace).kept h.well) f); unseen = (λ trace u b h o f. first-unseen trace u b h.played (of-start (start_of trace).kept h.well) o f) }
+returns c = record {
+  once = (λ trace b h f. finishes-once trace b h.played (of-start (start_of trace).kept h.well) f);
+  unseen = (λ trace u b h o f. first-unseen trace u b h.played (of-start (start_of trace).kept h.well) o f);
+}

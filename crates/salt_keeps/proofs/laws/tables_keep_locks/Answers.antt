@@ -6,4 +6,5 @@ use Rattle.std.proofs.Common.{subst, sym}
 use Rattle.salt_keeps.proofs.laws.tables_keep_locks.Goals as goal
 
 pub returns : goal.returns
-returns c = (λ trace e k table new h was b s. subst (KeepsLocks new) (sym (held-says trace e h.played h.well)) (keeps-after k trace e table new (held trace) was b s))
+returns c =
+    (λ trace e k table new h was b s. subst (KeepsLocks new) (sym (held-says trace e h.played h.well)) (keeps-after k trace e table new (held trace) was b s))
