@@ -1,8 +1,10 @@
 -- The waiting units after each event: those left ask for what they asked for, and each asks for something.
+use Rattle.salt_keeps.specs.WatchSteps.{waiting_after}
 use Rattle.salt_ast.specs.declared.trees.Statement.{Statement}
 use Rattle.salt_keeps.proofs.Blocks.{asked-stays, asked-waiting, reach-stays, waits_to}
+use Rattle.salt_keeps.proofs.KeptPrograms.{ready-empty}
 use Rattle.salt_keeps.proofs.WaitsAsk.{Asks, asks-next}
-use Rattle.salt_keeps.specs.KeptWaits.{AreDistinct, Asker, asker, drop_asker, waiting, waiting_after}
+use Rattle.salt_keeps.specs.KeptWaits.{AreDistinct, Asker, asker, drop_asker, waiting}
 use Rattle.salt_keeps.specs.Members.{In}
 use Rattle.salt_laws.proofs.Coming.{Good}
 use Rattle.salt_laws.proofs.Every.{every-append, every-filter}
@@ -22,7 +24,7 @@ use Rattle.salt_model.specs.Units.{Standing, Waiting, done_of, is_open, is_waiti
 use Rattle.salt_model.specs.Waiting.{asked_by, asking_line, block_of, statement_in, statement_of_line}
 use Rattle.salt_model.specs.Words.{Every, has_id, without}
 use Rattle.salt_model.specs.declared.events.Event.{Event}
-use Rattle.salt_model.specs.declared.events.Event.TheVariants.{Began, Did, Ended, Waits}
+use Rattle.salt_model.specs.declared.events.Event.TheVariants.{Began, Did, Ended, Ready, Waits}
 use Rattle.salt_model.specs.declared.events.Owner.{Owner}
 use Rattle.salt_model.specs.declared.events.UnitKind.{UnitKind}
 use Rattle.salt_values.specs.Id.{is_same_id}
@@ -149,6 +151,7 @@ waiting-says trace (Ended u end) p w =
 waiting-says trace (Began v kind) p w =
     let a = known-at trace (Began v kind) p w in
     map-same (asker (trace says Began v kind)) (asker trace) (wait_list trace) (λ x m. asker-stays trace _ x a (wait-waiting trace p.0 w x m) (fresh-other trace v kind x a.sound a.fits (wait-open trace x m)))
+waiting-says trace Ready p w = (ready-empty trace p w).waits
 waiting-says trace e p w =
     let a = known-at trace e p w in
     map-same (asker (trace says e)) (asker trace) (wait_list trace) (λ x m. asker-stays trace _ x a (wait-waiting trace p.0 w x m) refl)
@@ -188,6 +191,7 @@ all-ask (trace says e) p w =
         (ap is_some a.1.1, tt)
     by (Did u st x) a h = every-drop u (waiting trace) h
     by (Ended u end) a h = every-drop u (waiting trace) h
+    by Ready a h = tt
     by e a h = h
 
 -- no unit waits twice

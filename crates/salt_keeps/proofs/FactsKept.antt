@@ -6,18 +6,15 @@ use Rattle.salt_keeps.specs.Keeps.{KeepsUnit, KeepsUnits}
 use Rattle.salt_keeps.specs.KeptWaits.{asker}
 use Rattle.salt_keeps.specs.OpenUnits.{OpenUnit, UnitState}
 use Rattle.salt_keeps.specs.UnitFacts.{asker_in, facts_at, facts_in, facts_of}
-use Rattle.salt_keeps.specs.WatchSteps.{WatchBy}
-use Rattle.salt_keeps.specs.Watches.{Watch, WatchAfter}
 use Rattle.salt_laws.proofs.Coming.{Good}
 use Rattle.salt_laws.proofs.Replays.{Ground}
 use Rattle.salt_model.specs.Locks.{family_of}
 use Rattle.salt_model.specs.Trace.{Trace}
 use Rattle.salt_model.specs.Units.{program_of_kind}
-use Rattle.salt_model.specs.declared.events.End.TheVariants.{Branched, Committed, Failed}
 use Rattle.salt_model.specs.declared.events.Event.{Event}
-use Rattle.salt_model.specs.declared.events.Event.TheVariants.{Did, Ended, Ready, Waits}
+use Rattle.salt_model.specs.declared.events.Event.TheVariants.{Did, Ended, Waits}
 use Rattle.std.proofs.Common.{ap, sym, ◌∙◌}
-use Rattle.std.specs.Prelude.{None, [], option_and_then, refl, ⊤, ◌∷◌, ◌≡◌}
+use Rattle.std.specs.Prelude.{None, [], option_and_then, refl, ◌∷◌, ◌≡◌}
 
 module _ (s : UnitState) (trace : Trace) (keeps : KeepsUnits s trace) where
   asked-reach : (o : OpenUnit) → KeepsUnit trace o → asker trace o.unit ≡ asker_in s o
@@ -46,46 +43,3 @@ module _ (s : UnitState) (trace : Trace) (keeps : KeepsUnits s trace) where
       ∙ (λ i. record { kind = r.3.kind i; reach = None; changes = []; asks = asked-reach r.0 r.3 i ∷ [] })
       ∙ ap (facts_of s (Waits u owners)) (sym r.1)
   facts-kept e ground good = refl
-
--- every event but a Ready, whose state has nothing
-abbrev pub IsNoReady : Event → Type 0
-IsNoReady Ready = ⊥
-IsNoReady e = ⊤
-
-pub watch-by-facts : (trace : Trace) (e : Event) (old new : Watch) → IsNoReady e → WatchBy (facts_at trace e) e old new → WatchAfter trace e old new
-watch-by-facts trace Ready old new n w = absurd n
-watch-by-facts trace (Ended u (Committed m)) old new n w = record {
-  locks = w.locks;
-  taken = w.taken;
-  waits = w.waits;
-  programs = w.programs;
-  dependencies = record { writer = w.dependencies.writer; reads = w.dependencies.reads; finished = w.dependencies.finished };
-}
-watch-by-facts trace (Ended u (Failed c)) old new n w = record {
-  locks = w.locks;
-  taken = w.taken;
-  waits = w.waits;
-  programs = w.programs;
-  dependencies = record { writer = w.dependencies.writer; reads = w.dependencies.reads; finished = w.dependencies.finished };
-}
-watch-by-facts trace (Ended u (Branched m c)) old new n w = record {
-  locks = w.locks;
-  taken = w.taken;
-  waits = w.waits;
-  programs = w.programs;
-  dependencies = record { writer = w.dependencies.writer; reads = w.dependencies.reads; finished = w.dependencies.finished };
-}
-watch-by-facts trace (Ended u end) old new n w = record {
-  locks = w.locks;
-  taken = w.taken;
-  waits = w.waits;
-  programs = w.programs;
-  dependencies = record { writer = w.dependencies.writer; reads = w.dependencies.reads; finished = w.dependencies.finished };
-}
-watch-by-facts trace e old new n w = record {
-  locks = w.locks;
-  taken = w.taken;
-  waits = w.waits;
-  programs = w.programs;
-  dependencies = record { writer = w.dependencies.writer; reads = w.dependencies.reads; finished = w.dependencies.finished };
-}

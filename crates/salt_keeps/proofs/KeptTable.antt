@@ -1,7 +1,8 @@
 -- A table of numbered locks stands for the held ones: clashes, and the locks of each owner in the order done, come from it.
+use Rattle.salt_keeps.specs.WatchSteps.{lock_fate, lock_won, locks_after, table_after}
 use Rattle.salt_ast.specs.declared.trees.Statement.{Statement}
 use Rattle.salt_keeps.proofs.Ascending.{Strict, in_order-same, same-ascending}
-use Rattle.salt_keeps.specs.KeptLocks.{AreBelow, KeepsLocks, Numbered, Sooner, clash_in, is_owned_by, lock_fate, lock_taken, lock_won, locks_after, on_lock, table_after}
+use Rattle.salt_keeps.specs.KeptLocks.{AreBelow, KeepsLocks, Numbered, Sooner, clash_in, is_owned_by, lock_taken, on_lock}
 use Rattle.salt_keeps.specs.Members.{Ascends, In, SameMembers}
 use Rattle.salt_laws.proofs.Every.{every-append, every-filter}
 use Rattle.salt_laws.proofs.Lists.{either, in-cases, in-filter, in-filter_map, in-left, in-map, in-right, into-filter, into-filter_map}

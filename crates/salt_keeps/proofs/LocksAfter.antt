@@ -1,7 +1,8 @@
 -- What each event makes of the held locks.
+use Rattle.salt_keeps.specs.WatchSteps.{lock_fate, lock_won, locks_after}
 use Rattle.salt_ast.specs.declared.trees.Statement.{Statement}
 use Rattle.salt_keeps.proofs.Ascending.{every-in, has-append}
-use Rattle.salt_keeps.specs.KeptLocks.{is_base_among, is_owned_by, lock_committed, lock_fate, lock_taken, lock_won, locks_after}
+use Rattle.salt_keeps.specs.KeptLocks.{is_base_among, is_owned_by, lock_committed, lock_taken}
 use Rattle.salt_keeps.specs.Members.{In}
 use Rattle.salt_laws.proofs.Coming.{Good}
 use Rattle.salt_laws.proofs.HeldLocks.{HeldFacts, OldIn, lock_by-open, no-clash, old-new}

@@ -1,9 +1,10 @@
 -- Direct reads and finished programs after each event.
+use Rattle.salt_keeps.specs.WatchSteps.{DependenciesAfter, ReadsAfter, writer_after}
 use Rattle.salt_ast.specs.declared.trees.Statement.{Statement}
 use Rattle.salt_keeps.proofs.Abandoned.{Firsts, finished-accepted, firsts}
 use Rattle.salt_keeps.proofs.Ascending.{has-append}
 use Rattle.salt_keeps.proofs.Writers.{in-writes, writer-says, writes-in}
-use Rattle.salt_keeps.specs.KeptSources.{Dependencies, DependenciesAfter, FinishedAfter, FinishedLive, IsKnown, KeepsDependencies, ReadsAfter, ReadsLive, WritesIn, abandoned_in, first_of, given_up, live_writer, unless_among, writer_after}
+use Rattle.salt_keeps.specs.KeptSources.{Dependencies, FinishedAfter, FinishedLive, IsKnown, KeepsDependencies, ReadsLive, WritesIn, abandoned_in, first_of, given_up, live_writer, unless_among}
 use Rattle.salt_keeps.specs.Members.{In}
 use Rattle.salt_laws.proofs.FinishedSources.{acceptance-alive}
 use Rattle.salt_laws.proofs.Fresh.{or_left, or_right}

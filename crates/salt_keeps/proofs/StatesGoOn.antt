@@ -1,62 +1,32 @@
 -- The state of a trace goes on with each event, line and turn, and begins at a start.
-use Rattle.salt_keeps.proofs.FactsKept.{facts-kept, watch-by-facts}
+use Rattle.salt_keeps.proofs.FactsKept.{facts-kept}
 use Rattle.salt_keeps.proofs.KeepsOn.{keeps-asks, keeps-says, keeps-start, keeps-turns}
-use Rattle.salt_keeps.proofs.KeptPrograms.{ready-empty}
 use Rattle.salt_keeps.proofs.WatchesGoOn.{watches-ask, watches-say, watches-turn}
 use Rattle.salt_keeps.specs.Keeps.{KeepsUnits}
-use Rattle.salt_keeps.specs.KeptLocks.{Numbered, on_lock}
-use Rattle.salt_keeps.specs.KeptPrograms.{KeepsNothing}
-use Rattle.salt_keeps.specs.Members.{In}
-use Rattle.salt_keeps.specs.OpenUnits.{UnitState}
 use Rattle.salt_keeps.specs.States.{After, Keeps, State, asked_of, named_by, started, turned_to}
 use Rattle.salt_keeps.specs.WatchSteps.{WatchBy, WatchChange}
-use Rattle.salt_keeps.specs.Watches.{Watch, Watches}
-use Rattle.salt_laws.proofs.Lists.{either, in-cases, in-filter_map}
+use Rattle.salt_keeps.specs.Watches.{Watches}
 use Rattle.salt_laws.proofs.Replays.{good-event, replays}
-use Rattle.salt_laws.proofs.WellKept.{of-start}
 use Rattle.salt_model.specs.Kept.{WellKept}
 use Rattle.salt_model.specs.Played.{IsPlayed}
 use Rattle.salt_model.specs.Shown.{name_of_base}
 use Rattle.salt_model.specs.Trace.{Asked, Start, Trace, from, start_of, ◌asks◌, ◌says◌, ◌turns◌}
 use Rattle.salt_model.specs.Words.{in_order, without}
 use Rattle.salt_model.specs.declared.events.Event.{Event}
-use Rattle.salt_model.specs.declared.events.Event.TheVariants.{Began, Ready}
+use Rattle.salt_model.specs.declared.events.Event.TheVariants.{Began}
 use Rattle.salt_model.specs.declared.events.UnitKind.TheVariants.{First}
-use Rattle.salt_model.specs.declared.locks.Lock.{Lock}
 use Rattle.salt_values.specs.Id.{is_same_id}
 use Rattle.salt_values.specs.declared.cont.Cont.{Cont}
 use Rattle.salt_values.specs.declared.id.Id.{Id}
 use Rattle.std.proofs.Common.{ap, subst, sym, ◌∙◌}
-use Rattle.std.specs.List.{filter_map}
-use Rattle.std.specs.Prelude.{List, None, Some, [], cond, map, refl, ℕ, ◌++◌, ◌∷◌, ◌≡◌}
-
--- at a Ready nothing is left, whatever was watched in the opening
-no-lock : (table : List Numbered) (n : Numbered) → In n (filter_map (on_lock (λ (l : Lock). None)) table ++ []) → In n []
-no-lock table n i =
-    either (λ j. let m = in-filter_map (on_lock (λ (l : Lock). None)) n table j in let e : None ≡ Some n = m.2 in cc) (λ j. j)
-    (in-cases n (filter_map (on_lock (λ (l : Lock). None)) table) [] i)
-
-ready-watched : (trace : Trace) (s : UnitState) (old new : Watch) → KeepsNothing (trace says Ready) → WatchChange s Ready old new →
-    Watches new (trace says Ready)
-ready-watched trace s old new r w = record {
-  locks = record { in_turn = []; rises = tt; locks = sym r.locks; same = λ n. ((λ i. no-lock old.table n ((w.locks n).0 i)), (λ i. absurd i)) };
-  numbers = λ n i. absurd (no-lock old.table n ((w.locks n).0 i));
-  waits = r.waits ∙ sym w.waits;
-  programs = r.programs ∙ sym w.programs;
-  dependencies = record {
-    writer = λ p. w.dependencies.writer p ∙ r.dependencies.writer p;
-    reads = λ x y. ((λ t. absurd ((w.dependencies.reads x y).0 t)), (λ t. let q = (r.dependencies.reads x y).1 t in cc));
-    finished = λ b. ((λ t. absurd ((w.dependencies.finished b).0 t)), (λ t. let q = (r.dependencies.finished b).1 t in cc));
-  };
-}
+use Rattle.std.specs.Prelude.{List, [], cond, map, refl, ℕ, ◌∷◌, ◌≡◌}
 
 watch-says : (old new : State) (trace : Trace) (e : Event) → Keeps old trace → IsPlayed (trace says e) → WellKept (start_of trace).kept →
     WatchChange old.units e old.watch new.watch → Watches new.watch (trace says e)
-watch-says old new trace Ready keeps p w a =
-    ready-watched trace old.units old.watch new.watch (ready-empty trace p (of-start (start_of trace).kept w)) a
 watch-says old new trace e keeps p w a =
+    let good = good-event trace e (replays trace p.0) p.1 in
     watches-say trace e old.watch new.watch p w keeps.watch
-    (watch-by-facts trace e old.watch new.watch tt (subst (λ f. WatchBy f e old.watch new.watch) (sym (facts-kept old.units trace keeps.units e (replays trace p.0).base (good-event trace e (replays trace p.0) p.1))) a))
+    (subst (λ f. WatchBy f e old.watch new.watch) (sym (facts-kept old.units trace keeps.units e (replays trace p.0).base good)) a)
 
 names-says : (old : Id → List ℕ) (trace : Trace) (e : Event) → ((b : Id) → name_of_base b trace ≡ old b) → (b : Id) →
     name_of_base b (trace says e) ≡ named_by e old b

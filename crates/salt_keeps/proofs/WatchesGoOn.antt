@@ -1,14 +1,14 @@
 -- What an engine keeps goes on with each event, line and turn, and begins with nothing at a Ready.
+use Rattle.salt_keeps.specs.WatchSteps.{WatchAfter, lock_fate, lock_won, table_after, waiting_after}
 use Rattle.salt_keeps.proofs.Askers.{waiting-asks, waiting-says, waiting-turns}
 use Rattle.salt_keeps.proofs.KeptPrograms.{deps-asks, deps-turns, ready-empty, unreleased-says}
 use Rattle.salt_keeps.proofs.KeptTable.{keeps-after}
 use Rattle.salt_keeps.proofs.LocksAfter.{held-asks, held-says, held-turns}
 use Rattle.salt_keeps.proofs.Pairs.{deps-after}
-use Rattle.salt_keeps.specs.KeptLocks.{AreBelow, KeepsLocks, Numbered, lock_fate, lock_won, on_lock, table_after}
+use Rattle.salt_keeps.specs.KeptLocks.{AreBelow, KeepsLocks, Numbered, on_lock}
 use Rattle.salt_keeps.specs.KeptPrograms.{unreleased_after}
-use Rattle.salt_keeps.specs.KeptWaits.{waiting_after}
 use Rattle.salt_keeps.specs.Members.{In}
-use Rattle.salt_keeps.specs.Watches.{Watch, WatchAfter, Watches, empty_watch}
+use Rattle.salt_keeps.specs.Watches.{Watch, Watches, empty_watch}
 use Rattle.salt_laws.proofs.Lists.{either, in-cases, in-filter_map, in-map}
 use Rattle.salt_laws.proofs.WellKept.{of-start}
 use Rattle.salt_model.specs.Kept.{WellKept}

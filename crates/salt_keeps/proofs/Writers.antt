@@ -1,6 +1,7 @@
 -- The live last writer of a key after each event; and the programs that write in a reach are those of its live last writers.
+use Rattle.salt_keeps.specs.WatchSteps.{writer_after}
 use Rattle.salt_keeps.proofs.Ascending.{has-append}
-use Rattle.salt_keeps.specs.KeptSources.{WritesIn, live_program, live_writer, writer_after}
+use Rattle.salt_keeps.specs.KeptSources.{WritesIn, live_program, live_writer}
 use Rattle.salt_keeps.specs.Members.{In}
 use Rattle.salt_laws.proofs.Ids.{and_left, and_right}
 use Rattle.salt_laws.proofs.Lists.{either, has-in, in-cases, in-filter, in-filter_map, in-has, in-map, in-right, into-filter, into-filter_map}

@@ -1,13 +1,7 @@
--- What an event makes of the list of the held locks, in the order in which their statements were done.
+-- Locks as an engine keeps them: each with the number of its statement; and what becomes of one.
 use Rattle.salt_keeps.specs.Members.{Ascends, In, SameMembers}
-use Rattle.salt_model.specs.After.{reach_now}
 use Rattle.salt_model.specs.Locks.{clashes, family_of, is_same_owner, lock_of}
-use Rattle.salt_model.specs.Trace.{Trace}
-use Rattle.salt_model.specs.Units.{kind_of, program_of}
 use Rattle.salt_model.specs.Words.{has_id}
-use Rattle.salt_model.specs.declared.events.End.TheVariants.{Committed}
-use Rattle.salt_model.specs.declared.events.Event.{Event}
-use Rattle.salt_model.specs.declared.events.Event.TheVariants.{Did, Ended, Ready, Released}
 use Rattle.salt_model.specs.declared.events.Owner.{Owner}
 use Rattle.salt_model.specs.declared.events.Owner.TheVariants.{Base, Unit}
 use Rattle.salt_model.specs.declared.events.UnitKind.{UnitKind}
@@ -16,9 +10,8 @@ use Rattle.salt_model.specs.declared.locks.Family.TheVariants.{Saline}
 use Rattle.salt_model.specs.declared.locks.Lock.{Lock}
 use Rattle.salt_model.specs.declared.locks.Reach.{Reach}
 use Rattle.salt_values.specs.declared.id.Id.{Id}
-use Rattle.std.specs.Bool.{then_some}
-use Rattle.std.specs.List.{filter, filter_map}
-use Rattle.std.specs.Prelude.{Bool, List, None, Option, Some, [], false, if◌then◌else◌, map, not, option_map, ℕ, ◌++◌, ◌<◌, ◌∷◌, ◌≡◌}
+use Rattle.std.specs.List.{filter}
+use Rattle.std.specs.Prelude.{Bool, List, None, Option, Some, [], false, if◌then◌else◌, map, option_map, ℕ, ◌<◌, ◌∷◌, ◌≡◌}
 
 -- the lock on what a unit's statement reaches
 abbrev pub lock_taken : Id → Option UnitKind → Option Reach → List Lock
@@ -39,23 +32,6 @@ lock_committed u p l = if is_owned_by (Unit u) l then option_map (λ b. saline_o
 abbrev pub is_base_among : List Id → Owner → Bool
 is_base_among bs (Unit u) = false
 is_base_among bs (Base b) = has_id b bs
-
--- what an event makes of a lock that is held
-abbrev pub lock_fate : Trace → Event → Lock → Option Lock
-lock_fate trace (Ended u (Committed n)) l = lock_committed u (program_of u trace) l
-lock_fate trace (Ended u end) l = then_some (not (is_owned_by (Unit u) l)) l
-lock_fate trace (Released bs) l = then_some (not (is_base_among bs l.owner)) l
-lock_fate trace Ready l = None
-lock_fate trace e l = Some l
-
--- the lock that an event takes
-abbrev pub lock_won : Trace → Event → List Lock
-lock_won trace (Did u st a) = lock_taken u (kind_of u trace) (reach_now u trace st)
-lock_won trace e = []
-
--- what an event makes of a list of locks
-abbrev pub locks_after : Trace → Event → List Lock → List Lock
-locks_after trace e ls = filter_map (lock_fate trace e) ls ++ lock_won trace e
 
 -- those of a list that clash with what an owner asks
 abbrev pub clash_in : Owner → Family → Option Reach → List Lock → List Lock
@@ -80,10 +56,6 @@ pub record KeepsLocks (table : List Numbered) (ls : List Lock) : Type 0 where
 -- a fate of locks, on numbered ones
 abbrev pub on_lock : (Lock → Option Lock) → Numbered → Option Numbered
 on_lock g n = option_map (λ l. record { number = n.number; lock = l }) (g n.lock)
-
--- the table after an event whose lock, if it takes one, has this number
-abbrev pub table_after : ℕ → Trace → Event → List Numbered → List Numbered
-table_after k trace e table = filter_map (on_lock (lock_fate trace e)) table ++ map (λ l. record { number = k; lock = l }) (lock_won trace e)
 
 -- the numbers given so far are below this one
 abbrev pub AreBelow : ℕ → List Numbered → Type 0

@@ -1,7 +1,5 @@
 -- What is kept of writers, readers and finished programs: of the programs that are neither released nor given up, and no others.
 use Rattle.salt_keeps.specs.Members.{In}
-use Rattle.salt_laws.specs.Rewordings.{is_changed}
-use Rattle.salt_model.specs.After.{reach_now, run_of}
 use Rattle.salt_model.specs.Programs.{finished_in, released_in}
 use Rattle.salt_model.specs.Reads.{last_writer, read_directly}
 use Rattle.salt_model.specs.Tables.{place}
@@ -11,15 +9,14 @@ use Rattle.salt_model.specs.Words.{has_id}
 use Rattle.salt_model.specs.declared.events.End.{End}
 use Rattle.salt_model.specs.declared.events.End.TheVariants.{Committed}
 use Rattle.salt_model.specs.declared.events.Event.{Event}
-use Rattle.salt_model.specs.declared.events.Event.TheVariants.{Did, Ended, Finished, Ready, Released}
+use Rattle.salt_model.specs.declared.events.Event.TheVariants.{Ended, Finished, Ready, Released}
 use Rattle.salt_model.specs.declared.locks.Reach.{Reach}
 use Rattle.salt_model.specs.declared.places.Place.{Place}
 use Rattle.salt_ranges.specs.Ranges.{has_key}
-use Rattle.salt_values.specs.Id.{is_same_id}
 use Rattle.salt_values.specs.declared.id.Id.{Id}
 use Rattle.salt_values.specs.declared.value.Value.{Value}
 use Rattle.std.specs.Bool.{then_some}
-use Rattle.std.specs.Prelude.{Bool, IsTrue, List, None, Option, Some, [], false, if◌then◌else◌, not, option_and_then, true, ◌++◌, ◌↔◌, ◌∷◌, ◌≡◌, ◌⊎◌}
+use Rattle.std.specs.Prelude.{Bool, IsTrue, List, None, Option, Some, [], false, not, option_and_then, true, ◌++◌, ◌↔◌, ◌∷◌, ◌≡◌, ◌⊎◌}
 
 -- the program that an end gives up: that of a first part which does not commit
 abbrev pub given_up : End → Option Id → List Id
@@ -80,26 +77,10 @@ no_dependencies = record { writer = λ p. None; reads = λ x y. false; finished 
 abbrev pub unless_among : List Id → Option Id → Option Id
 unless_among bs o = option_and_then (λ b. then_some (not (has_id b bs)) b) o
 
--- the last writers after an event: a commit is its program's, and an ACID unit's is forgotten
-abbrev pub writer_after : Trace → Event → (Place → Option Id) → Place → Option Id
-writer_after trace (Ended u (Committed n)) old p = if is_changed p (run_of u trace).changes then program_of u trace else old p
-writer_after trace (Released bs) old p = unless_among bs (old p)
-writer_after trace Ready old p = None
-writer_after trace e old p = old p
-
 -- y is the last writer of a key in the reach
 abbrev pub WritesIn : (Place → Option Id) → Option Reach → Id → Type 0
 WritesIn writer None y = ⊥
 WritesIn writer (Some r) y = (k : Value) × (has_key r.range k ≡ true) × (writer (place r.table k) ≡ Some y)
-
--- direct reads after an event
-abbrev pub ReadsAfter : Trace → Event → Dependencies → Id → Id → Type 0
-ReadsAfter trace (Did u st a) old x y =
-    IsTrue (old.reads x y) ⊎ ((program_of u trace ≡ Some x) × (is_same_id y x ≡ false) × WritesIn old.writer (reach_now u trace st) y)
-ReadsAfter trace (Ended u end) old x y = IsTrue (old.reads x y) × (has_id x (given_up end (first_of u trace)) ≡ false)
-ReadsAfter trace (Released bs) old x y = IsTrue (old.reads x y) × (has_id x bs ≡ false) × (has_id y bs ≡ false)
-ReadsAfter trace Ready old x y = ⊥
-ReadsAfter trace e old x y = IsTrue (old.reads x y)
 
 -- finished programs after an event
 abbrev pub FinishedAfter : Event → Dependencies → Id → Type 0
@@ -107,12 +88,6 @@ FinishedAfter (Finished c) old b = (c ≡ b) ⊎ IsTrue (old.finished b)
 FinishedAfter (Released bs) old b = IsTrue (old.finished b) × (has_id b bs ≡ false)
 FinishedAfter Ready old b = ⊥
 FinishedAfter e old b = IsTrue (old.finished b)
-
--- what an event makes of what is kept
-pub record DependenciesAfter (trace : Trace) (e : Event) (old new : Dependencies) : Type 0 where
-  pub writer : (p : Place) → new.writer p ≡ writer_after trace e old.writer p
-  pub reads : (x y : Id) → IsTrue (new.reads x y) ↔ ReadsAfter trace e old x y
-  pub finished : (b : Id) → IsTrue (new.finished b) ↔ FinishedAfter e old b
 
 -- b is c, or reads from it by kept pairs
 pub data Through (reads : Id → Id → Bool) : Id → Id → Type 0 where

@@ -9,8 +9,6 @@ use Rattle.salt_model.specs.Trace.{Trace}
 use Rattle.salt_model.specs.Units.{kind_of, program_of, wait_list}
 use Rattle.salt_model.specs.Waiting.{WaitUnit, asked_by, clashing_now, is_on_cycle, victim_of, wait_graph}
 use Rattle.salt_model.specs.Words.{has_id, is_empty}
-use Rattle.salt_model.specs.declared.events.Event.{Event}
-use Rattle.salt_model.specs.declared.events.Event.TheVariants.{Did, Ended, Waits}
 use Rattle.salt_model.specs.declared.events.Owner.{Owner}
 use Rattle.salt_model.specs.declared.events.Owner.TheVariants.{Base, Unit}
 use Rattle.salt_model.specs.declared.locks.Family.{Family}
@@ -19,7 +17,7 @@ use Rattle.salt_model.specs.declared.locks.Reach.{Reach}
 use Rattle.salt_values.specs.Id.{is_same_id}
 use Rattle.salt_values.specs.declared.id.Id.{Id}
 use Rattle.std.specs.List.{filter, find, flat_map, list_any}
-use Rattle.std.specs.Prelude.{Bool, List, None, Option, Some, [], false, is_none, is_some, map, not, option_and_then, option_map, true, ⊤, ◌&&◌, ◌++◌, ◌↔◌, ◌∷◌, ◌≡◌}
+use Rattle.std.specs.Prelude.{Bool, List, None, Option, Some, [], false, is_none, is_some, map, not, option_and_then, option_map, true, ⊤, ◌&&◌, ◌↔◌, ◌∷◌, ◌≡◌}
 
 -- a unit that asks: whose it is, its statement, and what that would reach
 pub record Asker : Type 0 where
@@ -45,13 +43,6 @@ waiting trace = map (asker trace) (wait_list trace)
 
 abbrev pub drop_asker : Id → List Asker → List Asker
 drop_asker u ws = filter (λ w. not (has_id w.unit (u ∷ []))) ws
-
--- the waiting units after an event
-abbrev pub waiting_after : Trace → Event → List Asker → List Asker
-waiting_after trace (Waits u owners) ws = drop_asker u ws ++ asker trace u ∷ []
-waiting_after trace (Did u st a) ws = drop_asker u ws
-waiting_after trace (Ended u end) ws = drop_asker u ws
-waiting_after trace e ws = ws
 
 -- whom a waiting unit clashes with, by a list of locks
 abbrev pub clash_owners : List Lock → Asker → List Owner

@@ -5,9 +5,10 @@ use Rattle.salt_keeps.specs.KeptSources.{Dependencies, FinishedAfter, WritesIn, 
 use Rattle.salt_keeps.specs.KeptWaits.{Asker, drop_asker}
 use Rattle.salt_keeps.specs.Members.{SameMembers}
 use Rattle.salt_keeps.specs.OpenUnits.{UnitState}
-use Rattle.salt_keeps.specs.UnitFacts.{UnitFacts, facts_in}
+use Rattle.salt_keeps.specs.UnitFacts.{UnitFacts, facts_at, facts_in}
 use Rattle.salt_keeps.specs.Watches.{Watch}
 use Rattle.salt_model.specs.Tables.{place_cmp}
+use Rattle.salt_model.specs.Trace.{Trace}
 use Rattle.salt_model.specs.Units.{program_begun, program_of_kind}
 use Rattle.salt_model.specs.Words.{has_id}
 use Rattle.salt_model.specs.declared.events.End.TheVariants.{Committed}
@@ -55,7 +56,7 @@ waits_by f (Ended u end) ws = drop_asker u ws
 waits_by f Ready ws = []
 waits_by f e ws = ws
 
--- writers, pairs and finished programs
+-- last writers: a commit is its program's, and an ACID unit's is forgotten; direct reads; finished programs
 
 abbrev pub writer_by : UnitFacts → Event → (Place → Option Id) → Place → Option Id
 writer_by f (Ended u (Committed n)) old p = if is_some (find place_cmp p f.changes) then base_by f else old p
@@ -86,3 +87,32 @@ pub record WatchBy (f : UnitFacts) (e : Event) (old new : Watch) : Type 0 where
 -- what an event makes of a watch, by the state of units before it
 abbrev pub WatchChange : UnitState → Event → Watch → Watch → Type 0
 WatchChange s e old new = WatchBy (facts_in s e) e old new
+
+-- the same, by the trace before the event
+
+abbrev pub lock_fate : Trace → Event → Lock → Option Lock
+lock_fate trace e l = fate_by (facts_at trace e) e l
+
+abbrev pub lock_won : Trace → Event → List Lock
+lock_won trace e = won_by (facts_at trace e) e
+
+abbrev pub locks_after : Trace → Event → List Lock → List Lock
+locks_after trace e ls = filter_map (lock_fate trace e) ls ++ lock_won trace e
+
+abbrev pub table_after : ℕ → Trace → Event → List Numbered → List Numbered
+table_after k trace e table = table_by (facts_at trace e) k e table
+
+abbrev pub waiting_after : Trace → Event → List Asker → List Asker
+waiting_after trace e ws = waits_by (facts_at trace e) e ws
+
+abbrev pub writer_after : Trace → Event → (Place → Option Id) → Place → Option Id
+writer_after trace e old p = writer_by (facts_at trace e) e old p
+
+abbrev pub ReadsAfter : Trace → Event → Dependencies → Id → Id → Type 0
+ReadsAfter trace e old x y = ReadsBy (facts_at trace e) e old x y
+
+abbrev pub DependenciesAfter : Trace → Event → Dependencies → Dependencies → Type 0
+DependenciesAfter trace e old new = DependenciesBy (facts_at trace e) e old new
+
+abbrev pub WatchAfter : Trace → Event → Watch → Watch → Type 0
+WatchAfter trace e old new = WatchBy (facts_at trace e) e old new
