@@ -31,7 +31,8 @@ WroteAll base (p ∷ ps) old new = (mid : Dependencies) × Wrote base p old mid 
 -- a program reads a range: pairs with the last writers in it, other than itself; all else stays
 pub record HasRead (base : Id) (r : Reach) (old new : Dependencies) : Type 0 where
   pub writer : (q : Place) → new.writer q ≡ old.writer q
-  pub reads : (x y : Id) → IsTrue (new.reads x y) ↔ (IsTrue (old.reads x y) ⊎ ((base ≡ x) × (is_same_id y x ≡ false) × WritesIn old.writer (Some r) y))
+  pub reads : (x y : Id) →
+      IsTrue (new.reads x y) ↔ (IsTrue (old.reads x y) ⊎ ((base ≡ x) × (is_same_id y x ≡ false) × WritesIn old.writer (Some r) y))
   pub finished : (b : Id) → IsTrue (new.finished b) ↔ IsTrue (old.finished b)
 
 -- a program is taken away as a reader; all else stays

@@ -15,6 +15,7 @@ use Rattle.std.specs.Prelude.{None, Option, Some, if◌then◌else◌, length, �
 abbrev pub waited_for : Id → Trace → Option Statement
 waited_for u trace = if is_waiting trace u then statement_of_line (line_waited u trace) else None
 
+-- an open unit is as the trace has it
 pub record KeepsUnit (trace : Trace) (o : OpenUnit) : Type 0 where
   pub kind : kind_of o.unit trace ≡ Some o.kind
   pub single : is_statement_line (line_begun o.unit trace) ≡ o.single
@@ -24,6 +25,7 @@ pub record KeepsUnit (trace : Trace) (o : OpenUnit) : Type 0 where
   pub vars : (run_of o.unit trace).vars ≡ o.vars
   pub changes : (run_of o.unit trace).changes.list ≡ o.changes
 
+-- and so are all of them, and what stands beside them
 pub record KeepsUnits (s : UnitState) (trace : Trace) : Type 0 where
   pub kept : kept trace ≡ s.kept
   pub phase : phase trace ≡ s.phase

@@ -14,6 +14,7 @@ use Rattle.salt_values.specs.declared.id.Id.{Id}
 use Rattle.std.specs.List.{filter, find}
 use Rattle.std.specs.Prelude.{Bool, List, None, Option, Some, false, if◌then◌else◌, map, not, slice_get, ℕ, ◌+◌, ◌==◌}
 
+-- a unit that runs or waits
 pub record OpenUnit : Type 0 where
   pub unit : Id
   pub kind : UnitKind
@@ -27,7 +28,9 @@ pub record OpenUnit : Type 0 where
   pub vars : List Binding
   pub changes : List Edit
 
+-- the state of units and tables
 pub record UnitState : Type 0 where
+  -- tables, definitions, continuations, the boot and the last decision
   pub kept : Kept
   pub phase : Phase
   -- the line in whose segment the trace ends
@@ -36,14 +39,16 @@ pub record UnitState : Type 0 where
   pub to_go : List Id
   -- the open units, in order of names
   pub units : List OpenUnit
+  -- units and programs that have begun in this boot
   pub unit_count : ℕ
   pub base_count : ℕ
 
+-- how many of so many statements done count
 abbrev pub counted : UnitKind → ℕ → ℕ
 counted (Acid s) n = 0
 counted kind n = n
 
--- one more
+-- the count with one more
 abbrev pub count_on : UnitKind → ℕ → ℕ
 count_on (Acid s) n = n
 count_on kind n = n + 1
@@ -73,6 +78,7 @@ unit_of_session s st = find (belongs_to_session s) st.units
 abbrev pub unit_of_program : Id → UnitState → Option OpenUnit
 unit_of_program b st = find (belongs_to_program b) st.units
 
+-- what a unit asks for: the next statement of its block; without one, that of the line, or of the one in which it began to wait
 abbrev pub asking : Line → OpenUnit → Option (List Statement) → Option Statement
 asking line o (Some block) = slice_get block o.done
 asking line o None = if o.waiting then o.asks else statement_of_line line

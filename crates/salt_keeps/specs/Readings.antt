@@ -53,11 +53,12 @@ first_parts os = filter_map (λ (o : OpenUnit). program_begun o.kind) os
 abbrev pub under_way_by : State → List Id
 under_way_by s = in_order (s.watch.programs ++ first_parts s.units.units)
 
-abbrev pub place_by : State → Id → BaseAt
-place_by s b = elim (cont_of b s.units.kept) [ Some c ↦ Next c.next | None ↦ (if s.watch.dependencies.finished b then Finished else First) ]
+-- where a program stands
+abbrev pub base_at_by : State → Id → BaseAt
+base_at_by s b = elim (cont_of b s.units.kept) [ Some c ↦ Next c.next | None ↦ (if s.watch.dependencies.finished b then Finished else First) ]
 
 abbrev pub base_item_by : State → Id → Item
-base_item_by s b = Item.Base b (s.names b) (place_by s b)
+base_item_by s b = Item.Base b (s.names b) (base_at_by s b)
 
 abbrev pub items_by : (s : State) → Reading s.watch → Items
 items_by s x = record {

@@ -30,6 +30,7 @@ known_in s w = record {
   unreleased = w.count;
 }
 
+-- whether an act does not fit how its session's unit stands
 abbrev pub wrong_for : Option OpenUnit → Act → Bool
 wrong_for (Some o) Begin = true
 wrong_for (Some o) (Call p args) = true
@@ -42,6 +43,7 @@ wrong_for None Commit = true
 wrong_for None Rollback = true
 wrong_for None act = false
 
+-- whether there is a unit, and it waits
 abbrev pub waits : Option OpenUnit → Bool
 waits None = false
 waits (Some o) = o.waiting
@@ -52,6 +54,7 @@ wrong_in s w (Go b) = waits (unit_of_program b s)
 wrong_in s w (Crash pairs) = not w.can_stop
 wrong_in s w line = false
 
+-- whether a unit is open or a program holds locks: then nothing is defined
 abbrev pub busy_in : UnitState → UnderWay → Bool
 busy_in s w = not (is_empty s.units) || w.holds
 

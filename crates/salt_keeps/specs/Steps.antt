@@ -1,4 +1,4 @@
--- The state after an event.
+-- What an event, a line and a turn of `go all` make of the state of units and tables.
 use Rattle.salt_ast.specs.declared.lines.Line.{Line}
 use Rattle.salt_ast.specs.declared.lines.Line.TheVariants.{GoAll, Nothing}
 use Rattle.salt_ast.specs.declared.trees.Statement.{Statement}
@@ -26,6 +26,7 @@ use Rattle.std.specs.Prelude.{List, None, Option, Some, [], false, if◌then◌e
 abbrev pub outcome_under : Kept → OpenUnit → Statement → Done
 outcome_under k o st = outcome_of (schema_of k) (with_edits o.changes k.tables) o.vars st
 
+-- a unit as it begins
 abbrev pub begun : UnitState → Id → UnitKind → OpenUnit
 begun s u kind = record {
   unit = u;
@@ -38,12 +39,14 @@ begun s u kind = record {
   changes = [];
 }
 
+-- a unit after what a statement of its did
 abbrev pub having_done : Done → OpenUnit → OpenUnit
 having_done d o = record o { waiting = false; asks = None; done = count_on o.kind o.done; vars = d.vars; changes = put_all d.changes o.changes }
 
 abbrev pub doing_one : Kept → Statement → OpenUnit → OpenUnit
 doing_one k st o = having_done (outcome_under k o st) o
 
+-- a unit that waits from this line on
 abbrev pub waiting_by : Line → OpenUnit → OpenUnit
 waiting_by line o = record o { waiting = true; asks = statement_of_line line }
 
@@ -51,6 +54,7 @@ waiting_by line o = record o { waiting = true; asks = statement_of_line line }
 abbrev pub kept_committed : Kept → ℕ → OpenUnit → Kept
 kept_committed k n o = record k { decisions = n; tables = with_edits o.changes k.tables; conts = conts_committed k n o.kind o.vars }
 
+-- a failure of a later part moves its program on, or uses one of its tries
 abbrev pub kept_branched : Kept → ℕ → OpenUnit → Kept
 kept_branched k n o = record k { decisions = n; conts = conts_branched k o.kind }
 
@@ -74,6 +78,7 @@ units_after (Opened boot n) s = record s { kept = record s.kept { boot = boot };
 units_after Ready s = record s { phase = Serving }
 units_after e s = s
 
+-- `go all` goes to each program that goes on, in order of names
 abbrev pub to_go_by : Asked → Kept → List Id
 to_go_by (Tree GoAll) k = in_order (map (λ (c : Cont). c.base) k.conts)
 to_go_by asked k = []
@@ -84,6 +89,7 @@ units_asked asked s = record s { line = line_asked asked; to_go = to_go_by asked
 abbrev pub units_turned : Id → UnitState → UnitState
 units_turned b s = record s { to_go = ids_after b s.to_go }
 
+-- at a start
 abbrev pub units_at : Kept → UnitState
 units_at k = record { kept = k; phase = Fallen; line = Nothing; to_go = []; units = []; unit_count = 0; base_count = 0 }
 

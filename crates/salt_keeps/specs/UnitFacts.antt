@@ -25,6 +25,7 @@ pub record UnitFacts : Type 0 where
 abbrev pub no_facts : UnitFacts
 no_facts = record { kind = None; reach = None; changes = []; asks = [] }
 
+-- the facts of an event, by the trace before it
 abbrev pub facts_at : Trace → Event → UnitFacts
 facts_at trace (Did u st a) = record { kind = kind_of u trace; reach = reach_now u trace st; changes = []; asks = [] }
 facts_at trace (Ended u end) = record { kind = kind_of u trace; reach = None; changes = (run_of u trace).changes.list; asks = [] }
@@ -45,6 +46,7 @@ asker_in s o = record {
   reach = option_and_then (reach_under s.kept o) (asks_next s o);
 }
 
+-- what an event takes of its unit, if that is open
 abbrev pub facts_of : UnitState → Event → Option OpenUnit → UnitFacts
 facts_of s (Did u st a) (Some o) = record { kind = Some o.kind; reach = reach_under s.kept o st; changes = []; asks = [] }
 facts_of s (Ended u end) (Some o) = record { kind = Some o.kind; reach = None; changes = o.changes; asks = [] }
@@ -58,5 +60,6 @@ unit_before s (Ended u end) = unit_named u s.units
 unit_before s (Waits u owners) = unit_named u s.units
 unit_before s e = None
 
+-- the facts of an event, by the state before it
 abbrev pub facts_in : UnitState → Event → UnitFacts
 facts_in s e = facts_of s e (unit_before s e)

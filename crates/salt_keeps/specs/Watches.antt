@@ -16,7 +16,7 @@ pub record Watch : Type 0 where
   pub programs : List Id
   pub dependencies : Dependencies
 
--- it stands for a trace
+-- it is that of a trace
 pub record Watches (w : Watch) (trace : Trace) : Type 0 where
   pub locks : KeepsLocks w.table (held trace)
   pub numbers : AreBelow w.taken w.table

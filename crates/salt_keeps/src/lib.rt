@@ -1,8 +1,13 @@
 //! What an engine keeps, how it goes on with each event of a played trace, and that it tells what comes next.
 //!
-//! The definitions are read in this order: OpenUnits, Steps, Keeps (units and tables) · KeptLocks, KeptWaits, KeptSources, KeptPrograms, Watches (the rest) · UnitFacts,
-//! WatchSteps, States (the whole, and what an event makes of it) · Told, Follows, Refused, Readings, Nexts (what it tells) · Points, Settling (moves of a run, and why
-//! settling ends) · PlainStates, StateRows (the state by lists, computed) · Overlays, LockCalls, DependencyCalls (for the crates that keep the parts).
+//! The definitions are read in this order:
+//! - OpenUnits, Steps, Keeps: units and tables, what an event makes of them, and of which trace they are;
+//! - KeptLocks, KeptWaits, KeptSources, KeptPrograms, Watches: locks, waits, writers, pairs and programs;
+//! - UnitFacts, WatchSteps, States: what an event makes of these, and the whole;
+//! - Told, Follows, Refused, Readings, Nexts: what a state tells of what comes next;
+//! - Points, Settling: moves of a run, and why settling ends;
+//! - PlainStates, StateRows: the state by lists, computed, and worked rows of it;
+//! - Overlays, LockCalls, DependencyCalls: for the crates that keep the parts.
 #![tactic(auto)]
 
 mod laws;
