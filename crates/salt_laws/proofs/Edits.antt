@@ -28,10 +28,10 @@ edits-row (c ∷ cs) ds es now q h =
     by true = refl
     by false = h
 
-abbrev Told : Tables → Run → Type 0
+abbrev pub Told : Tables → Run → Type 0
 Told es r = (q : Place) → row_at q r.tables ≡ row_under r.changes es q
 
-run-told : (schema : List TableDef) (sts : List Statement) (es : Tables) (r : Run) → Told es r → Told es (run_on schema sts r)
+pub run-told : (schema : List TableDef) (sts : List Statement) (es : Tables) (r : Run) → Told es r → Told es (run_on schema sts r)
 run-told schema [] es r h = h
 run-told schema (st ∷ sts) es r h = by (has_failed (doing schema r st).answer) step (run-told schema sts es (with_done schema r st) step)
   where

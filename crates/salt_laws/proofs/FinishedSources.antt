@@ -61,7 +61,7 @@ later-step trace (Began v kind) s g u c part k = by (is_same_id u v) kind g k
 later-step trace e s g u c part k = accepted-says trace e c (s.later u c part k)
 
 -- a unit that is committed was so before, or commits now
-committed-back : (trace : Trace) (e : Event) (u : Id) → is_committed_standing (standing u (trace says e)) ≡ true → (is_committed_standing (standing u trace) ≡ true) ⊎ ((n : ℕ) × (e ≡ Ended u (Committed n)))
+pub committed-back : (trace : Trace) (e : Event) (u : Id) → is_committed_standing (standing u (trace says e)) ≡ true → (is_committed_standing (standing u trace) ≡ true) ⊎ ((n : ℕ) × (e ≡ Ended u (Committed n)))
 committed-back trace (Began v kind) u h = by (is_same_id u v) h
   where
     by : (t : Bool) → is_committed_standing (cond t Running (standing u trace)) ≡ true → (is_committed_standing (standing u trace) ≡ true) ⊎ ((n : ℕ) × (Began v kind ≡ Ended u (Committed n)))
@@ -86,7 +86,7 @@ committed-back trace (Ended v end) u h = by (is_same_id u v) refl end h
 committed-back trace e u h = inl h
 
 -- a committed unit's kind stays; only a Began gives one
-kind-back : (trace : Trace) (e : Event) (u : Id) → is_committed_standing (standing u (trace says e)) ≡ true → kind_of u (trace says e) ≡ kind_of u trace
+pub kind-back : (trace : Trace) (e : Event) (u : Id) → is_committed_standing (standing u (trace says e)) ≡ true → kind_of u (trace says e) ≡ kind_of u trace
 kind-back trace (Began v kind) u h = by (is_same_id u v) h
   where
     by : (t : Bool) → is_committed_standing (cond t Running (standing u trace)) ≡ true → option_or (then_some t kind) (kind_of u trace) ≡ kind_of u trace
@@ -119,7 +119,7 @@ committed-step trace e s a u c h k = either (λ was. inl (old was)) (λ now. new
     new n i = subst (λ x. In c (accepted_in (trace says x)) ⊎ (accepted_after (trace says x) (Some x) ≡ Some c)) (sym i) (ends n (kind_of u trace) refl here)
 
 -- a program that is about to be accepted is not over
-acceptance-alive : (trace : Trace) → IsPlayed trace → OfBoots (start_of trace).kept → (c : Id) → IsAcceptance c trace (last_said trace) → Dead trace c → ⊥
+pub acceptance-alive : (trace : Trace) → IsPlayed trace → OfBoots (start_of trace).kept → (c : Id) → IsAcceptance c trace (last_said trace) → Dead trace c → ⊥
 acceptance-alive (from k) p w c a d = absurd a
 acceptance-alive (trace asks asked) p w c a d = acceptance-alive trace p.0 w c (before (last_said trace) a) d
   where

@@ -83,7 +83,7 @@ fades-beside o p new next (inl a) (inl b) h = rw (a, b) h
 fades-beside o p new next (inr a) b h = rw a refl
 fades-beside o p new next (inl a) (inr b) h = rw b (beside-none new)
 
-lock_by-open : (trace : Trace) (t : Taken) (s : Standing) (k : Option UnitKind) → is_open_standing s ≡ true → lock_by trace t s k ≡ Some (lock_of (Unit t.unit) (family_of k) t.reach)
+pub lock_by-open : (trace : Trace) (t : Taken) (s : Standing) (k : Option UnitKind) → is_open_standing s ≡ true → lock_by trace t s k ≡ Some (lock_of (Unit t.unit) (family_of k) t.reach)
 lock_by-open trace t Running k h = refl
 lock_by-open trace t Waiting k h = refl
 lock_by-open trace t Never k h = cc

@@ -163,7 +163,7 @@ filter-short p (x ∷ xs) = go (filter-short p xs) (p x)
     go h true = omega arith
     go h false = omega arith
 
-filter-less : {A : Type 0} (p : A → Bool) (xs : List A) → list_all p xs ≡ false → length (filter p xs) < length xs
+pub filter-less : {A : Type 0} (p : A → Bool) (xs : List A) → list_all p xs ≡ false → length (filter p xs) < length xs
 filter-less p [] h = cc
 filter-less p (x ∷ xs) h = go (filter-less p xs) (p x) h
   where

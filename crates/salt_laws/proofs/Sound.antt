@@ -74,12 +74,12 @@ old-next Fallen u b n h = h
 old-next Opening u b n h = older-next u b n h
 old-next Serving u b n h = older-next u b n h
 
-old-now : (p : Phase) (u f : Id) → (p ≡ Fallen → ⊥) → is_older u f ≡ true → OldAt p u f
+pub old-now : (p : Phase) (u f : Id) → (p ≡ Fallen → ⊥) → is_older u f ≡ true → OldAt p u f
 old-now Fallen u f n h = absurd (n refl)
 old-now Opening u f n h = h
 old-now Serving u f n h = h
 
-old-not : (p : Phase) (u : Id) → (p ≡ Fallen → ⊥) → OldAt p u u → ⊥
+pub old-not : (p : Phase) (u : Id) → (p ≡ Fallen → ⊥) → OldAt p u u → ⊥
 old-not Fallen u n h = n refl
 old-not Opening u n h = older-not u h
 old-not Serving u n h = older-not u h
@@ -106,7 +106,7 @@ kind-new u (trace asks line) h = kind-new u trace h
 kind-new u (trace turns b) h = kind-new u trace h
 kind-new u (trace says e) h = rw (begun-other u e (or_left _ _ h)) (kind-new u trace (or_right (is_unit_of u e) _ h))
 
-kind-named : (trace : Trace) (u : Id) → is_some (kind_of u trace) ≡ true → is_named u trace ≡ true
+pub kind-named : (trace : Trace) (u : Id) → is_some (kind_of u trace) ≡ true → is_named u trace ≡ true
 kind-named trace u h = named-by (is_named u trace) (λ e. let f : false ≡ true = ap is_some (sym (kind-new u trace e)) ∙ h in cc)
 
 pub kind-in : (trace : Trace) (u : Id) → is_some (kind_of u trace) ≡ true → In u (units_begun trace)
@@ -227,7 +227,7 @@ older-says trace (Opened boot n) v f h = let l : v.boot ≤ (kept trace).boot = 
 older-says trace Ready v f h = subst (λ p. OldAt p v (fresh_unit trace)) f.0 h
 older-says trace e v f h = h
 
-old-says : (trace : Trace) (e : Event) (b : Id) → Fits trace e → Old trace b → Old (trace says e) b
+pub old-says : (trace : Trace) (e : Event) (b : Id) → Fits trace e → Old trace b → Old (trace says e) b
 old-says trace (Began u (First s c n args)) b f h = old-next (phase trace) b (kept trace).boot (base_count trace) h
 old-says trace (Began u kind) b f h = h
 old-says trace (Ended u end) b f h = subst (λ x. OldAt (phase trace) b (record { boot = x; seq = base_count trace + 1 })) (sym (boot-ended trace u end)) h
@@ -361,7 +361,7 @@ conts-back trace u end b h = inl h
 pub to_release-finished : (trace : Trace) (b : Id) → In b (to_release trace) → In b (finished_in trace)
 to_release-finished trace b h = (in-without b (released_in trace) (finished_in trace) (in-order b _ (in-shrink (reads_within trace) _ b _ h))).0
 
-continued-of : (o : Option UnitKind) (b : Id) → option_and_then program_continued o ≡ Some b → option_and_then program_of_kind o ≡ Some b
+pub continued-of : (o : Option UnitKind) (b : Id) → option_and_then program_continued o ≡ Some b → option_and_then program_of_kind o ≡ Some b
 continued-of (Some (Later c part)) b h = h
 continued-of None b h = cc
 continued-of (Some (Acid s)) b h = cc
@@ -399,7 +399,7 @@ none-in-unit trace b h v o p = none (filter (is_of_program b trace) (open_units 
     some None e = e
     some (Some k) e = refl
 
-begins-new : (trace : Trace) (u : Id) (kind : UnitKind) (b : Id) → Sound trace → Fits trace (Began u kind) → program_of_kind kind ≡ Some b → Old (trace says Began u kind) b × (Dead trace b → ⊥) × NoneOpen trace b
+pub begins-new : (trace : Trace) (u : Id) (kind : UnitKind) (b : Id) → Sound trace → Fits trace (Began u kind) → program_of_kind kind ≡ Some b → Old (trace says Began u kind) b × (Dead trace b → ⊥) × NoneOpen trace b
 begins-new trace u (First s c n args) b k f h =
     let e : b ≡ fresh_base trace = let g : c ≡ b = cc in sym g ∙ f.2.1 in
     let bad : Old trace b → ⊥ = λ o. old-not (phase trace) b f.1 (subst (OldAt (phase trace) b) (sym e) o) in
@@ -555,7 +555,7 @@ stays-begun b c x n p args vars None cs = refl
 stays-begun b c x n p args vars (Some at) [] = rw (off b c (record { base = c; accepted = n; program = p.name; args = args; vars = values_kept p vars; next = at.part; tries = at.tries }) x (is_same_id-refl c)) refl
 stays-begun b c x n p args vars (Some at) (y ∷ cs) = ap (cond (is_same_id b y.base) (Some y)) (stays-begun b c x n p args vars (Some at) cs)
 
-stays-committed : (b : Id) (k : Kept) (n : ℕ) (kind : UnitKind) (vars : List Binding) → (program_of_kind kind ≡ Some b → ⊥) →
+pub stays-committed : (b : Id) (k : Kept) (n : ℕ) (kind : UnitKind) (vars : List Binding) → (program_of_kind kind ≡ Some b → ⊥) →
     cont_in b (conts_committed k n kind vars) ≡ cont_in b k.conts
 stays-committed b k n (Acid s) vars x = refl
 stays-committed b k n (Call s name args) vars x = refl
@@ -572,7 +572,7 @@ stays-committed b k n (Later c part) vars x = go (option_and_then (λ c. kept_pr
     go None = refl
     go (Some p) = stays-moved b c (λ e. x (ap Some e)) (then_of p part) _ (λ x. refl) k.conts
 
-stays-branched : (b : Id) (k : Kept) (kind : UnitKind) → (program_of_kind kind ≡ Some b → ⊥) → cont_in b (conts_branched k kind) ≡ cont_in b k.conts
+pub stays-branched : (b : Id) (k : Kept) (kind : UnitKind) → (program_of_kind kind ≡ Some b → ⊥) → cont_in b (conts_branched k kind) ≡ cont_in b k.conts
 stays-branched b k (Later c part) x = go (option_and_then (λ c. kept_program c.program k) (cont_of c k))
   where
     go : (o : Option ProgramDef) →
