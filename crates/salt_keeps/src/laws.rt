@@ -67,7 +67,7 @@ ghost use Rattle.std.specs.List.{filter, remove};
 ghost use Rattle.std.specs.Prelude.{IsTrue, List, None, Option, Some, [], false, get_or, length, map, not, set, suc, true, ℕ};
 ghost use Rattle.std.specs.Prelude.{◌++◌, ◌<◌, ◌||◌, ◌↔◌, ◌∷◌, ◌≡◌, ◌⊎◌};
 
-/// What the state of a trace becomes by an event, a line and a turn of `go all`.
+/// What the state of units and tables becomes by an event, a line and a turn of `go all`, and what it is at a start.
 pub fn units_go_on()
     ensures says { (s : UnitState) (trace : Trace) (e : Event) → KeepsUnits s trace → IsSound (trace says e) →
         KeepsUnits (units_after e s) (trace says e) }
@@ -189,6 +189,7 @@ pub fn units_wait_once()
     ensures { (trace : Trace) → AreDistinct (wait_list trace) }
 {}
 
+/// Lines and turns move no wait.
 pub fn lines_move_no_wait()
     ensures asks { (trace : Trace) (asked : Asked) → IsSound trace → waiting (trace asks asked) ≡ waiting trace }
     ensures turns { (trace : Trace) (b : Id) → IsSound trace → waiting (trace turns b) ≡ waiting trace }
@@ -220,6 +221,7 @@ pub fn dependencies_change()
         DependenciesAfter trace e old new → KeepsDependencies new (trace says e) }
 {}
 
+/// Lines and turns move no writer, pair or finished program.
 pub fn lines_move_no_dependency()
     ensures asks { (trace : Trace) (asked : Asked) (d : Dependencies) → KeepsDependencies d trace →
         KeepsDependencies d (trace asks asked) }
@@ -248,7 +250,7 @@ pub fn unreleased_programs_change()
         ≡ (not (is_empty (open_units trace)) || not (is_empty (unreleased trace))) }
 {}
 
-/// At a Ready nothing is held, waits, is unreleased or is kept: an engine begins with nothing.
+/// At a Ready no unit is open, and nothing is held, waits, is unreleased or is kept: an engine begins with nothing.
 pub fn nothing_is_kept_at_ready()
     ensures { (trace : Trace) → IsSound (trace says Ready) → KeepsNothing (trace says Ready) }
 {}
