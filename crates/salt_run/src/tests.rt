@@ -14,10 +14,6 @@ const SYNTAX: &[u8] = b"refused 3 syntax\n";
 
 const LONG: &[u8] = b"refused 1 long\n";
 
-const SESSION: &[u8] = b"refused 4 limit session\n";
-
-const NUMBER: &[u8] = b"refused 4 limit number\n";
-
 const ROOM: usize = 16_384;
 
 // The lines of the first row, and what each tells.
@@ -216,98 +212,6 @@ const TABLE: &[u8] = b"create table t (id int key)\n";
 
 const DEFINED: &[u8] = b"defined 1 create table t (id int key)\n";
 
-// Lines behind a table of one column, and what they tell.
-const LINES: [(&[u8], &[u8]); 30] = [
-    (b"", b""),
-    (b"\n  \n\t\n-- a comment\n--\x00\xff\n\n", b""),
-    (
-        b"create table t (a int key, b int, b int)",
-        b"refused 6 exists t\n",
-    ),
-    (b"create table t (a int key", SYNTAX),
-    (
-        b"create table u (a int key, b int, c int, b int, a int)",
-        b"refused 6 exists b\n",
-    ),
-    (
-        b"create table T (a int key)\r\ncreate table u (a int key, A int)",
-        b"defined 2 create table T (a int key)\ndefined 3 create table u (a int key, A int)\n",
-    ),
-    (
-        b"@1 insert into T values (1, 2)\n@1 insert into t values (1)",
-        b"refused 5 unknown T\nu1.1 began @1\nu1.1 did insert into t values (1) -> count 1\nu1.1 committed 2\n",
-    ),
-    (
-        b"@1 select * from tt where key = 1",
-        b"refused 5 unknown tt\n",
-    ),
-    (b"@1 insert into t values (1, 2)", b"refused 7 type\n"),
-    (b"@1 insert into u values (1", SYNTAX),
-    (
-        b"@64 SELECT * From t\tWHERE KEY=007",
-        b"u1.1 began @64\nu1.1 did select * from t where key = 7 -> rows\nu1.1 committed 2\n",
-    ),
-    (b"@0 select * from t where key = 1", SESSION),
-    (b"@65 select * from t where key = 1", SESSION),
-    (b"@257 select * from t where key = 1", SESSION),
-    (
-        b"@18446744073709551617 select * from t where key = 1",
-        SESSION,
-    ),
-    (
-        b"@1 insert into t values (9223372036854775807)",
-        b"u1.1 began @1\nu1.1 did insert into t values (9223372036854775807) -> count 1\nu1.1 committed 2\n",
-    ),
-    (
-        b"@1 insert into t values (-9223372036854775808)",
-        b"u1.1 began @1\nu1.1 did insert into t values (-9223372036854775808) -> count 1\nu1.1 committed 2\n",
-    ),
-    (
-        b"@1 insert into t values (-0)",
-        b"u1.1 began @1\nu1.1 did insert into t values (0) -> count 1\nu1.1 committed 2\n",
-    ),
-    (b"@1 insert into t values (9223372036854775808)", NUMBER),
-    (b"@1 insert into t values (-9223372036854775809)", NUMBER),
-    (b"@1 insert into t values (18446744073709551617)", NUMBER),
-    (b"@1 insert into t values (--1)", SYNTAX),
-    (b"@1 select * from t where id = 1", SYNTAX),
-    (
-        b"\x00\n\x7f\n\x80\n\xff\n",
-        b"refused 2 byte\nrefused 2 byte\nrefused 2 byte\nrefused 2 byte\n",
-    ),
-    (b"create table key (id int key)", SYNTAX),
-    (b"@1 select * from t where key = 1 2", SYNTAX),
-    (
-        b"create table u (id int key, v int null)\n@1 insert into u values (1, 2)\n@1 insert into u values (2, null)",
-        b"defined 2 create table u (id int key, v int null)\nu1.1 began @1\nu1.1 did insert into u values (1, 2) -> count 1\nu1.1 committed 3\nrefused 3 syntax\n",
-    ),
-    (
-        b"create table a23456789_123456789_123456789_123 (id int key)",
-        b"refused 4 limit name\n",
-    ),
-    (
-        b"@1 begin\ngo 1.1\ngo all\nshow locks\ncrash 5 0\nprogram p() acid { ensure 1 = 1 } end",
-        b"refused 3 syntax\nrefused 3 syntax\nrefused 3 syntax\nrefused 3 syntax\nrefused 3 syntax\nrefused 3 syntax\n",
-    ),
-    (
-        b"crash 0 9\ngo 9223372036854775808.1\nprogram p() base part { ensure 1 = 1 } on failure retry 10 then end end",
-        b"refused 4 limit crash\nrefused 4 limit number\nrefused 4 limit retry\n",
-    ),
-];
-
-#[test]
-fn lines_and_what_they_tell(rt: HostRuntime) -> Result<(), Fail> {
-    let alloc = rt.alloc();
-    for (lines, told) in LINES {
-        let mut script = Vec::from_slice(alloc, TABLE)?;
-        script.extend_from_slice(lines)?;
-        let mut text = Vec::from_slice(alloc, DEFINED)?;
-        text.extend_from_slice(told)?;
-        tells(&rt, alloc, &script, &text)?;
-    }
-    Ok(())
-}
-
 // A script of a piece, so many times, between two others.
 fn repeated(
     alloc: Global,
@@ -327,7 +231,15 @@ fn repeated(
 #[test]
 fn long_scripts(rt: HostRuntime) -> Result<(), Fail> {
     let alloc = rt.alloc();
-    let cases: [(&[u8], usize, &[u8], &[u8], &[u8]); 8] = [
+    let cases: [(&[u8], usize, &[u8], &[u8], &[u8]); 10] = [
+        (b"", 0, b"", b"", b""),
+        (
+            b"create table t (id int key)\r",
+            3,
+            b"\n",
+            b"\r",
+            b"defined 1 create table t (id int key)\nrefused 2 byte\n",
+        ),
         (b"", 100_000, b"\n", b"", b""),
         (b"--", 65_534, b"x", b"\n", b""),
         (b"--", 65_535, b"x", b"\n\n", LONG),
@@ -352,21 +264,6 @@ fn long_scripts(rt: HostRuntime) -> Result<(), Fail> {
         )?;
     }
     Ok(())
-}
-
-#[test]
-fn the_most_tables(rt: HostRuntime) -> Result<(), Fail> {
-    let alloc = rt.alloc();
-    let mut script = Vec::new(alloc);
-    let mut told = Vec::new(alloc);
-    for number in 1..65 {
-        let table = format!(in alloc; "create table t{number} (id int key)\n")?;
-        script.extend_from_slice(table.as_bytes())?;
-        told.extend_from_slice(format!(in alloc; "defined {number} {table}")?.as_bytes())?;
-    }
-    script.extend_from_slice(b"create table t65 (id int key)\ncreate table t1 (id int key)\n")?;
-    told.extend_from_slice(b"refused 4 limit tables\nrefused 4 limit tables\n")?;
-    tells(&rt, alloc, &script, &told)
 }
 
 // A table, and behind it lines that do nothing, of so many bytes in all.

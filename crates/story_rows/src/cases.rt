@@ -1,0 +1,120 @@
+//! Scripts and their stories, and what became of them.
+
+use crate::runs::story_of;
+use std::alloc::{AllocError, Global};
+
+/// A script, and the story that it is to tell.
+#[derive(Drop)]
+struct Case {
+    script: Vec<u8>,
+    story: Vec<u8>,
+}
+
+impl Case {
+    /// A script without lines.
+    fn new(alloc: Global) -> Case {
+        Case {
+            script: Vec::new(alloc),
+            story: Vec::new(alloc),
+        }
+    }
+
+    /// Adds the lines of another case.
+    fn add(&mut self, other: &Case) -> Result<(), AllocError> {
+        self.script.extend_from_slice(&other.script)?;
+        self.story.extend_from_slice(&other.story)
+    }
+}
+
+/// The scripts run so far.
+#[derive(Drop)]
+pub struct Cases {
+    alloc: Global,
+    /// What each script begins with.
+    start: Case,
+    /// The lines of the one that is read.
+    case: Case,
+    /// How many scripts told their stories.
+    told: u64,
+    /// What the others told.
+    others: Vec<u8>,
+}
+
+/// Adds a line, without the blank in front of it.
+fn add_line(text: &mut Vec<u8>, line: &[u8]) -> Result<(), AllocError> {
+    let line = match line {
+        [b' ', rest @ ..] => rest,
+        _ => line,
+    };
+    text.extend_from_slice(line)?;
+    text.push(b'\n')?;
+    Ok(())
+}
+
+impl Cases {
+    /// No scripts.
+    pub fn new(alloc: Global) -> Cases {
+        Cases {
+            alloc,
+            start: Case::new(alloc),
+            case: Case::new(alloc),
+            told: 0,
+            others: Vec::new(alloc),
+        }
+    }
+
+    /// What the scripts told that told another story, and how many told theirs.
+    pub fn text(self) -> Result<Vec<u8>, AllocError> {
+        let told = self.told;
+        let count = format!(in self.alloc; "{told} scripts tell their stories\n")?;
+        let mut text = self.others;
+        text.extend_from_slice(count.as_bytes())?;
+        Ok(text)
+    }
+
+    /// Reads a row. One that is none of a script does nothing.
+    pub fn row(&mut self, row: &[u8]) -> Result<(), AllocError> {
+        match row {
+            [b'>', line @ ..] => add_line(&mut self.case.script, line),
+            [b'<', line @ ..] => add_line(&mut self.case.story, line),
+            [] => self.end(),
+            [b'='] => {
+                let whole = self.whole()?;
+                self.end()?;
+                self.start = whole;
+                Ok(())
+            }
+            [b'/'] => {
+                self.end()?;
+                self.start = Case::new(self.alloc);
+                Ok(())
+            }
+            _ => Ok(()),
+        }
+    }
+
+    /// The script that is read, from its start on.
+    fn whole(&self) -> Result<Case, AllocError> {
+        let mut whole = Case::new(self.alloc);
+        whole.add(&self.start)?;
+        whole.add(&self.case)?;
+        Ok(whole)
+    }
+
+    /// Runs the script that was read, if it has lines.
+    pub fn end(&mut self) -> Result<(), AllocError> {
+        if self.case.script.is_empty() && self.case.story.is_empty() {
+            return Ok(());
+        }
+        let whole = self.whole()?;
+        self.case = Case::new(self.alloc);
+        let story = story_of(self.alloc, &whole.script)?;
+        if story == whole.story {
+            self.told = self.told.saturating_add(1);
+            return Ok(());
+        }
+        self.others.extend_from_slice(&whole.script)?;
+        self.others.extend_from_slice(b"tells\n")?;
+        self.others.extend_from_slice(&story)
+    }
+}
