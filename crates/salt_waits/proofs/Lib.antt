@@ -1,6 +1,9 @@
 pub mod Best
 pub mod Circles
+pub mod Fits
 pub mod Followed
+pub mod Greatest
 pub mod Marks
 pub mod Orders
 pub mod Targets
+pub mod Ways

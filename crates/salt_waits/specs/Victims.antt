@@ -1,9 +1,10 @@
 -- Which of the units that wait is to be given up.
 use Rattle.std.specs.List.{Contains, list_any}
+use Rattle.salt_model.specs.Waiting as waiting
 use Rattle.salt_values.specs.Id.{is_older, is_same_id}
 use Rattle.salt_values.specs.declared.id.Id.{Id}
 use Rattle.salt_waits.specs.declared.units.WaitUnit.{WaitUnit}
-use Rattle.std.specs.Prelude.{Bool, IsTrue, List, None, Option, Some, false, true, ◌≡◌, ◌⊎◌}
+use Rattle.std.specs.Prelude.{Bool, IsTrue, List, map, None, Option, Some, false, true, ◌≡◌, ◌⊎◌}
 
 -- a unit's edges name another one
 abbrev pub names : WaitUnit → WaitUnit → Bool
@@ -44,3 +45,10 @@ gives_way first second = gives_way_by first.acid second.acid (is_older second.un
 abbrev pub gives_way_to : WaitUnit → Option WaitUnit → Bool
 gives_way_to first None = true
 gives_way_to first (Some second) = gives_way first second
+
+-- a unit as the definitions of the story have it
+abbrev pub in_story : WaitUnit → waiting.WaitUnit
+in_story u = record { unit = u.unit; acid = u.acid; edges = u.edges }
+
+abbrev pub graph_of : List WaitUnit → List waiting.WaitUnit
+graph_of list = map in_story list

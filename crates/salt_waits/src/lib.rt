@@ -2,9 +2,11 @@
 #![tactic(auto)]
 
 mod graph;
+mod laws;
 mod units;
 mod walk;
 
+pub use laws::victims_fit;
 pub use units::{WaitUnit, victim};
 
 #[cfg(test)]
