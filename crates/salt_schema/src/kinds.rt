@@ -11,10 +11,12 @@ use crate::names::{Bindings, field_named, variable_named};
 use salt_ast::{ColType, Expr, Field, Op};
 use salt_values::{Name, Value};
 
-/// What an expression gives: a value of a type, or a truth value.
+/// What an expression gives.
 #[derive(Clone, Copy, Debug, PartialEq, Eq)]
 pub enum Kind {
+    /// A value of this type.
     Value(ColType),
+    /// A truth value.
     Truth,
 }
 
@@ -167,7 +169,8 @@ fn truth_if(holds: bool) -> Option<Kind>
 
 /// What an operation gives on what its operands give.
 fn kind_of_both(op: Op, left: Option<Kind>, right: Option<Kind>) -> Option<Kind>
-    ensures { option_map kind_meant result ≡ option_and_then (λ k. option_and_then (judged.operation_kind op k) (option_map kind_meant right)) (option_map kind_meant left) }
+    ensures { option_map kind_meant result
+        ≡ option_and_then (λ k. option_and_then (judged.operation_kind op k) (option_map kind_meant right)) (option_map kind_meant left) }
 {
     match (left, right) {
         (Some(left), Some(right)) => operation_kind(op, left, right),

@@ -14,7 +14,9 @@ use salt_values::Name;
 /// The parameters and variables that expressions may name.
 #[derive(Clone, Copy)]
 pub struct Bindings<'a> {
+    /// The parameters, which stand before the variables.
     pub params: &'a [Field],
+    /// The variables.
     pub vars: &'a [Field],
 }
 

@@ -21,8 +21,11 @@ use std::alloc::Global;
 /// What is refused, with its name as it stands in what is judged.
 #[derive(Clone, Copy)]
 pub enum Fault<'a> {
+    /// Nothing of this name is known there.
     Unknown(&'a Name),
+    /// The name stands there, or is kept, already.
     Exists(&'a Name),
+    /// A type is wrong.
     Mistyped,
 }
 
