@@ -1,0 +1,9 @@
+use Rattle.std.proofs.Common.{ap, ◌∙◌}
+use Rattle.salt_schema.specs.Definitions.{definition_named}
+use Rattle.salt_schema.proofs.Keyed.{lookup-AreKeyed}
+use Rattle.salt_schema.proofs.definitions.Definitions.named.Goals as goal
+
+pub returns : goal.returns
+returns g c =
+    c.get.ensures.value
+    ∙ rw c.as_slice.ensures (lookup-AreKeyed (λ k. k.items) g.T.Named.name c.args.name.now c.self.inside.entries.entries c.self.invariant.0 ∙ ap (definition_named g.T.Named.name c.args.name.now) c.self.view_is)
