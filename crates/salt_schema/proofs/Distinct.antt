@@ -3,7 +3,8 @@ use Rattle.salt_ast.specs.Judgement.{doubled_name}
 use Rattle.salt_ast.specs.Words.{is_among}
 use Rattle.salt_schema.specs.Definitions.{AreDistinct, is_named, number_named}
 use Rattle.salt_tokens.specs.Spelling.{same_bytes}
-use Rattle.std.proofs.Common.{Bool, List, None, Option, Some, [], ap, arith, cond, false, map, refl, subst, sym, true, ℕ, ◌+◌, ◌++◌, ◌||◌, ◌==◌, ◌∙◌, ◌∷◌, ◌≡◌, slice_get, suc, zero}
+use Rattle.std.proofs.Common.{Bool, List, None, Option, Some, [], ap, arith, cond, false, map, refl, subst, sym, true, ℕ, ◌+◌, ◌++◌, ◌||◌, ◌==◌, ◌∙◌, ◌∷◌, ◌≡◌, ◌<◌, drop, drop-cons, get_or, length, slice_get, suc, take, zero}
+use Rattle.std.proofs.lemmas.List.{map-append, take_more}
 use Rattle.std.proofs.lemmas.Bool.Decides.{nat_tests}
 use Rattle.std.specs.Borrow.{Bor}
 use Rattle.std.specs.List.{position_from}
@@ -75,3 +76,54 @@ module _ {T : Type 0} (name : T → List ℕ) where
       IfSome lent (λ x. number_named name (name x.now) xs ≡ Some i)
   lent-own xs i None distinct at = tt
   lent-own xs i (Some x) distinct at = number_named-own xs i x.now distinct (sym at)
+
+or-false : (b : Bool) → (b || false) ≡ b
+or-false true = refl
+or-false false = refl
+
+or_comm : (a b : Bool) → (a || b) ≡ (b || a)
+or_comm true true = refl
+or_comm true false = refl
+or_comm false true = refl
+or_comm false false = refl
+
+or_rotate : (a b c : Bool) → (c || (a || b)) ≡ (a || (b || c))
+or_rotate true b true = refl
+or_rotate true b false = refl
+or_rotate false b c = or_comm c b
+
+is_among-push : (n m : List ℕ) (ms : List (List ℕ)) → is_among n (ms ++ m ∷ []) ≡ (is_among n ms || same_bytes n m)
+is_among-push n m [] = or-false (same_bytes n m)
+is_among-push n m (k ∷ ms) = by (same_bytes n k) (is_among-push n m ms)
+  where
+    by : (b : Bool) → is_among n (ms ++ m ∷ []) ≡ (is_among n ms || same_bytes n m) → (b || is_among n (ms ++ m ∷ [])) ≡ ((b || is_among n ms) || same_bytes n m)
+    by true rest = refl
+    by false rest = rest
+
+-- the names that are seen are those before these, and those of the first so many of them
+pub record IsSeen {T : Type 0} (name : T → List ℕ) (before : List (List ℕ)) (xs : List T) (i : ℕ) (seen : List (List ℕ)) : Type 0 where
+  pub rest : doubled_name before (map name xs) ≡ doubled_name seen (map name (drop i xs))
+  pub same : (n : List ℕ) → is_among n seen ≡ (is_among n before || is_among n (map name (take i xs)))
+
+module _ {T : Type 0} (name : T → List ℕ) (before : List (List ℕ)) (xs : List T) where
+  pub IsSeen-first : IsSeen name before xs 0 before
+  IsSeen-first = record { rest = refl; same = λ n. sym (or-false (is_among n before)) }
+
+  module _ (i : ℕ) (x : T) (seen : List (List ℕ)) (so_far : IsSeen name before xs i seen) (within : i < length xs) (is : x ≡ get_or xs i x) where
+    split : drop i xs ≡ x ∷ drop (i + 1) xs
+    split = let one : suc i ≡ i + 1 = omega arith in drop-cons xs i x within ∙ ap (λ y. y ∷ drop (suc i) xs) (sym is) ∙ ap (λ k. x ∷ drop k xs) one
+
+    -- one that is seen comes twice
+    pub IsSeen-doubled : (is_among (name x) before || is_among (name x) (map name (take i xs))) ≡ true → doubled_name before (map name xs) ≡ Some (name x)
+    IsSeen-doubled h = so_far.rest ∙ rw (split, so_far.same (name x), h) refl
+
+    -- any other is seen from here on
+    pub IsSeen-more : (is_among (name x) before || is_among (name x) (map name (take i xs))) ≡ false → IsSeen name before xs (i + 1) (name x ∷ seen)
+    IsSeen-more h = record {
+      rest = so_far.rest ∙ rw (split, so_far.same (name x), h) refl;
+      same = λ n.
+          let taken : map name (take (i + 1) xs) ≡ map name (take i xs) ++ name x ∷ [] =
+          ap (map name) (take_more xs i x within ∙ ap (λ y. take i xs ++ y ∷ []) (sym is)) ∙ map-append name (take i xs) (x ∷ []) in
+          rw (so_far.same n, taken, is_among-push n (name x) (map name (take i xs)))
+          (or_rotate (is_among n before) (is_among n (map name (take i xs))) (same_bytes n (name x)));
+    }

@@ -1,2 +1,6 @@
 pub mod Distinct
 pub mod Keyed
+pub mod FieldNames
+pub mod Tables
+pub mod Rows
+pub mod Accepted

@@ -1,2 +1,5 @@
 pub mod Definitions
 pub mod Schemas
+pub mod Names
+pub mod Kinds
+pub mod Refusals

@@ -1,11 +1,13 @@
 //! The tables defined.
 
-ghost use Rattle.std.specs.Prelude.{◌≡◌, ◌≤◌, [], IfSome, length, slice_get, Some};
+ghost use Rattle.std.specs.Prelude.{◌≡◌, ◌≤◌, ◌++◌, ◌∷◌, [], IfOk, IfSome, OnErr, OnOk, Some, length, slice_get};
 ghost use Rattle.std.specs.Option.{option_copied};
 ghost use Rattle.salt_values.specs.declared.limits.TheConstants.{TABLES_MOST};
+ghost use Rattle.salt_schema.specs.Refusals.{IsAnswer, table_refusal};
 ghost use Rattle.salt_schema.specs.Schemas.{table_named, table_number};
 
 use crate::definitions::Definitions;
+use crate::error::SchemaErr;
 use salt_ast::TableDef;
 use salt_values::Name;
 use salt_values::limits::TABLES_MOST;
@@ -44,6 +46,11 @@ impl Schema {
         }
     }
 
+    /// The allocator of the tables.
+    pub fn allocator(&self) -> Global {
+        self.tables.allocator()
+    }
+
     /// How many tables there are.
     pub fn count(&self) -> usize
         ensures count { result ≡ length self.now }
@@ -76,5 +83,17 @@ impl Schema {
         ensures { option_copied result ≡ table_named self.now name.now }
     {
         self.tables.named(name)
+    }
+    /// Adds a table, which takes the next number. It is refused as `judge` tells; any `Err` changes nothing.
+    pub fn add(&mut self, def: TableDef) -> Result<u16, SchemaErr>
+        ensures answer { IsAnswer (table_refusal self.old def) result }
+        ensures number { IfOk result (λ number. number ≡ length self.old) }
+        ensures ok { OnOk result (self.new ≡ self.old ++ def ∷ []) }
+        ensures err { OnErr result (self.new ≡ self.old) }
+    {
+        self.judge(&def)?;
+        let number = self.tables.len();
+        self.tables.add(def)?;
+        Ok(number as u16)
     }
 }
