@@ -1,0 +1,4 @@
+pub mod InOrder
+pub mod Nexts
+pub mod Points
+pub mod Scanning
