@@ -1,4 +1,5 @@
 pub mod InOrder
 pub mod Nexts
+pub mod Numbers
 pub mod Points
 pub mod Scanning

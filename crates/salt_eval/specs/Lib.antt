@@ -1,3 +1,5 @@
+pub mod Cells
 pub mod MapViews
 pub mod Scans
+pub mod Shown
 pub mod Views

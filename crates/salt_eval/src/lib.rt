@@ -1,9 +1,12 @@
 //! Statements, done over a view of the rows that they reach.
 #![tactic(auto)]
 
+mod cells;
+mod changed;
 mod error;
 mod map_view;
 mod scan;
+mod shown;
 mod view;
 
 pub use error::StatementErr;
