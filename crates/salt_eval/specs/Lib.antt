@@ -1,4 +1,5 @@
 pub mod Cells
+pub mod Filtered
 pub mod MapViews
 pub mod Scans
 pub mod Shown

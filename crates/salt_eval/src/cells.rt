@@ -60,11 +60,7 @@ pub fn cell(alloc: Global, row: &[Value], number: Option<usize>) -> Result<Value
 }
 
 /// The values of columns in a row.
-pub fn cells(
-    alloc: Global,
-    row: &[Value],
-    numbers: &[Option<usize>],
-) -> Result<Row, AllocError>
+pub fn cells(alloc: Global, row: &[Value], numbers: &[Option<usize>]) -> Result<Row, AllocError>
     ensures { IfOk result (λ values. values ≡ cells_at row.now numbers.now) }
 {
     let mut values = Items::new(alloc);

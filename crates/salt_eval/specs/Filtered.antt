@@ -1,0 +1,9 @@
+-- Rows that a filter keeps.
+use Rattle.salt_model.specs.Words.{and_then}
+use Rattle.salt_model.specs.declared.events.Cause.{Cause}
+use Rattle.salt_values.specs.declared.value.Value.{Value}
+use Rattle.std.specs.Prelude.{Bool, List, Ok, Result, if◌then◌else◌}
+
+-- a row that passes is taken, and one that does not is passed over
+abbrev pub filtered : {S : Type 0} → (List Value → Result Bool Cause) → (S → List Value → Result S Cause) → S → List Value → Result S Cause
+filtered passes take s row = and_then (passes row) (λ b. if b then take s row else Ok s)
