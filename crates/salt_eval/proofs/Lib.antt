@@ -4,4 +4,5 @@ pub mod Nexts
 pub mod Numbers
 pub mod Points
 pub mod Scanning
+pub mod Selecting
 pub mod Showing

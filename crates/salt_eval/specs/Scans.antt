@@ -20,6 +20,12 @@ abbrev pub statement_err : EvalErr → StatementErr
 statement_err (eval.Cause c) = Cause c
 statement_err eval.Memory = View Memory
 
+-- an answer tells what is meant, or its cause; want of memory tells nothing
+abbrev pub Tells : {A : Type 0} → Result A cause.Cause → Result A EvalErr → Type 0
+Tells meant (Ok x) = meant ≡ Ok x
+Tells meant (Err (eval.Cause c)) = meant ≡ Err c
+Tells meant (Err eval.Memory) = ⊤
+
 -- what takes a row is then what is meant, or its cause is the one that is meant; want of memory tells nothing
 abbrev pub Takes : {S A : Type 0} → Result S cause.Cause → S → Result A EvalErr → Type 0
 Takes meant left (Ok x) = meant ≡ Ok left
@@ -31,6 +37,12 @@ abbrev pub Leaves : {S A : Type 0} → Result S cause.Cause → S → Result A S
 Leaves meant left (Ok x) = meant ≡ Ok left
 Leaves meant left (Err (Cause c)) = meant ≡ Err c
 Leaves meant left (Err (View e)) = ⊤
+
+-- an answer gives what is meant, or its cause; a fault and want of memory tell nothing
+abbrev pub Gives : {A : Type 0} → Result A cause.Cause → Result A StatementErr → Type 0
+Gives meant (Ok x) = meant ≡ Ok x
+Gives meant (Err (Cause c)) = meant ≡ Err c
+Gives meant (Err (View e)) = ⊤
 
 -- a fault where the count rose, and nowhere else
 abbrev pub CountsFaultsOf : {A : Type 0} → (before now : ℕ) → Result A StatementErr → Type 0

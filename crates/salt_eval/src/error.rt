@@ -3,7 +3,7 @@
 ghost use Rattle.std.specs.Prelude.{◌≡◌};
 ghost use Rattle.salt_eval.specs.Scans.{statement_err};
 ghost use Rattle.salt_eval.specs.declared.error.EvalErr.TheVariants as eval;
-ghost use Rattle.salt_eval.specs.declared.error.StatementErr.TheVariants.{View};
+ghost use Rattle.salt_eval.specs.declared.error.StatementErr.TheVariants.{Cause, View};
 ghost use Rattle.salt_eval.specs.declared.view.ViewErr.TheVariants.{Memory};
 
 use crate::view::ViewErr;
@@ -34,6 +34,14 @@ pub enum StatementErr {
     Cause(Cause),
     /// The rows are not shown, or memory ran out.
     View(ViewErr),
+}
+
+impl From<Cause> for StatementErr {
+    ghost from_gives = { λ c e. e ≡ Cause c };
+
+    fn from(cause: Cause) -> Self {
+        StatementErr::Cause(cause)
+    }
 }
 
 impl From<ViewErr> for StatementErr {

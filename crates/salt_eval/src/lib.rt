@@ -6,6 +6,7 @@ mod changed;
 mod error;
 mod map_view;
 mod scan;
+mod select;
 mod shown;
 mod view;
 

@@ -1,12 +1,13 @@
 //! Rows of a range, one after another.
 
-ghost use Rattle.std.specs.Prelude.{◌≡◌, IfOk, Ok, Option, Result, List, Some};
+ghost use Rattle.std.specs.Prelude.{◌≡◌, Bool, IfOk, Ok, Option, Result, List, Some};
 ghost use Rattle.std.specs.Option.{option_copied};
 ghost use Rattle.salt_model.specs.Tables.{key_of, place, row_at};
 ghost use Rattle.salt_model.specs.declared.events.Cause.{Cause};
 ghost use Rattle.salt_ranges.specs.declared.range.KeyRange.{KeyRange};
 ghost use Rattle.salt_values.specs.declared.value.Value.{Value};
-ghost use Rattle.salt_eval.specs.Scans.{CountsFaultsOf, IsKeyed, Leaves, Takes, gathered, point_of, range_rows, row_list};
+ghost use Rattle.salt_eval.specs.Filtered.{filtered};
+ghost use Rattle.salt_eval.specs.Scans.{CountsFaultsOf, IsKeyed, Leaves, Takes, Tells, gathered, point_of, range_rows, row_list};
 
 use crate::error::{EvalErr, StatementErr};
 use crate::view::RowView;
@@ -22,6 +23,32 @@ pub trait Gather {
     /// Takes one more row. After an error it is not used again.
     fn take(&mut self, alloc: Global, row: Row) -> Result<(), EvalErr>
         ensures { Takes (with_row self.old row) self.new result };
+}
+
+/// Which rows a statement is for.
+pub trait Filter {
+    /// Whether a row is kept, or the cause for which the statement fails.
+    ghost passes: { Self → List Value → Result Bool Cause };
+
+    /// Whether the row is kept.
+    fn passes(&self, alloc: Global, row: &[Value]) -> Result<bool, EvalErr>
+        ensures { Tells (passes self.now row.now) result };
+}
+
+/// Takes a row that the filter keeps.
+fn take_kept<F: Filter, G: Gather>(
+    alloc: Global,
+    filter: &F,
+    gather: &mut G,
+    row: Row,
+) -> Result<(), EvalErr>
+    ensures { Takes (filtered (F.passes filter.now) G.with_row gather.old row) gather.new result }
+{
+    if filter.passes(alloc, row.as_slice())? {
+        gather.take(alloc, row)
+    } else {
+        Ok(())
+    }
 }
 
 /// A row's first value.
@@ -45,20 +72,21 @@ fn point_of(range: &KeyRange) -> Option<&Key>
 }
 
 /// Gathers the row of a key, if there is one.
-fn gather_one<V: RowView, G: Gather>(
+fn gather_one<V: RowView, F: Filter, G: Gather>(
     alloc: Global,
     view: &mut V,
     table: u16,
     key: &Key,
+    filter: &F,
     gather: &mut G,
 ) -> Result<(), StatementErr>
-    ensures gathered { Leaves (gathered G.with_row gather.old (row_list (row_at (place table key.now) (V.tables view.old)))) gather.new result }
+    ensures gathered { Leaves (gathered (filtered (F.passes filter.now) G.with_row) gather.old (row_list (row_at (place table key.now) (V.tables view.old)))) gather.new result }
     ensures kept { V.tables view.new ≡ V.tables view.old }
     ensures faults { CountsFaultsOf (V.faults view.old) (V.faults view.new) result }
 {
     match view.get(table, key)? {
         Some(row) => {
-            gather.take(alloc, row)?;
+            take_kept(alloc, filter, gather, row)?;
             Ok(())
         }
         None => Ok(()),
@@ -66,41 +94,43 @@ fn gather_one<V: RowView, G: Gather>(
 }
 
 /// Gathers the rows of a range, in order of their keys.
-fn gather_all<V: RowView, G: Gather>(
+fn gather_all<V: RowView, F: Filter, G: Gather>(
     alloc: Global,
     view: &mut V,
     table: u16,
     range: &KeyRange,
+    filter: &F,
     gather: &mut G,
 ) -> Result<(), StatementErr>
     requires { IsKeyed (V.tables view.old) }
-    ensures gathered { Leaves (gathered G.with_row gather.old (range_rows table range.now (V.tables view.old))) gather.new result }
+    ensures gathered { Leaves (gathered (filtered (F.passes filter.now) G.with_row) gather.old (range_rows table range.now (V.tables view.old))) gather.new result }
     ensures kept { V.tables view.new ≡ V.tables view.old }
     ensures faults { CountsFaultsOf (V.faults view.old) (V.faults view.new) result }
 {
     let mut after: Option<Key> = None;
     while let Some(row) = view.next_in(table, range, after.as_ref())? {
         after = Some(key_of(alloc, row.as_slice())?);
-        gather.take(alloc, row)?;
+        take_kept(alloc, filter, gather, row)?;
     }
     Ok(())
 }
 
 /// Gathers the rows of a range, in order of their keys; of one key by one look at the view.
-pub fn scan<V: RowView, G: Gather>(
+pub fn scan<V: RowView, F: Filter, G: Gather>(
     alloc: Global,
     view: &mut V,
     table: u16,
     range: &KeyRange,
+    filter: &F,
     gather: &mut G,
 ) -> Result<(), StatementErr>
     requires { IsKeyed (V.tables view.old) }
-    ensures gathered { Leaves (gathered G.with_row gather.old (range_rows table range.now (V.tables view.old))) gather.new result }
+    ensures gathered { Leaves (gathered (filtered (F.passes filter.now) G.with_row) gather.old (range_rows table range.now (V.tables view.old))) gather.new result }
     ensures kept { V.tables view.new ≡ V.tables view.old }
     ensures faults { CountsFaultsOf (V.faults view.old) (V.faults view.new) result }
 {
     match point_of(range) {
-        Some(key) => gather_one(alloc, view, table, key, gather),
-        None => gather_all(alloc, view, table, range, gather),
+        Some(key) => gather_one(alloc, view, table, key, filter, gather),
+        None => gather_all(alloc, view, table, range, filter, gather),
     }
 }
