@@ -1,7 +1,6 @@
 pub mod Collected
 pub mod InOrder
 pub mod Nexts
-pub mod Numbers
 pub mod Points
 pub mod Scanning
 pub mod Selecting

@@ -1,12 +1,13 @@
 -- What a SELECT gathers is what it shows.
 use Rattle.salt_ast.specs.declared.trees.TableDef.{TableDef}
-use Rattle.salt_eval.specs.Cells.{AreNumbersOf, IsNumberOf, cell_at, cells_at}
+use Rattle.salt_eval.specs.Cells.{AreNumbersOf, cell_at, cells_at}
 use Rattle.salt_eval.specs.Shown.{best_with, better_of, is_better}
 use Rattle.salt_eval.specs.declared.shown.ColumnBest.{ColumnBest}
 use Rattle.salt_eval.specs.declared.shown.ColumnRows.{ColumnRows}
 use Rattle.salt_eval.specs.declared.shown.ColumnSum.{ColumnSum}
 use Rattle.salt_eval.specs.declared.shown.RowCount.{RowCount}
 use Rattle.salt_eval.specs.declared.shown.WholeRows.{WholeRows}
+use Rattle.salt_exprs.specs.Names.{IsNumberOf}
 use Rattle.salt_model.specs.Statements.{column_of, least, most_value, total, values_in}
 use Rattle.salt_values.specs.Value.{int_in, is_null, is_value_below, value_cmp, value_total}
 use Rattle.salt_values.specs.declared.value.Value.TheVariants.{Int, Null, Text}

@@ -1,17 +1,9 @@
 -- The values of columns in a row, by the columns' numbers.
 use Rattle.salt_ast.specs.declared.trees.Field.{Field}
-use Rattle.salt_tokens.specs.Spelling.{same_bytes}
 use Rattle.salt_model.specs.Eval.{named_values, value_named}
 use Rattle.salt_values.specs.declared.value.Value.TheVariants.{Int}
 use Rattle.salt_values.specs.declared.value.Value.{Value}
-use Rattle.std.specs.Prelude.{Bool, List, Option, map, option_and_then, pos, slice_get, unwrap_or, ℕ, ◌≡◌}
-
-abbrev pub has_name : List ℕ → Field → Bool
-has_name name f = same_bytes name f.name
-
--- in each row the value of that number is the one named so
-abbrev pub IsNumberOf : List Field → List ℕ → Option ℕ → Type 0
-IsNumberOf columns name found = (row : List Value) → value_named name (named_values columns row) ≡ option_and_then (slice_get row) found
+use Rattle.std.specs.Prelude.{List, Option, map, option_and_then, pos, slice_get, unwrap_or, ℕ, ◌≡◌}
 
 -- the value of a number, or 0
 abbrev pub cell_at : List Value → Option ℕ → Value

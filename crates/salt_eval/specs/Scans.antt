@@ -1,7 +1,7 @@
 -- Rows of a range, gathered one after another.
 use Rattle.salt_eval.specs.Views.{CountsFaults, rows_after}
-use Rattle.salt_eval.specs.declared.error.EvalErr.TheVariants as eval
-use Rattle.salt_eval.specs.declared.error.EvalErr.{EvalErr}
+use Rattle.salt_exprs.specs.declared.error.EvalErr.TheVariants as eval
+use Rattle.salt_exprs.specs.declared.error.EvalErr.{EvalErr}
 use Rattle.salt_eval.specs.declared.error.StatementErr.TheVariants.{Cause, View}
 use Rattle.salt_eval.specs.declared.error.StatementErr.{StatementErr}
 use Rattle.salt_eval.specs.declared.view.ViewErr.TheVariants.{Fault, Memory}

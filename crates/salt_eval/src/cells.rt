@@ -1,35 +1,13 @@
 //! The values of columns in a row.
 
 ghost use Rattle.std.specs.Prelude.{◌≡◌, IfOk};
-ghost use Rattle.std.specs.List.{position_from};
-ghost use Rattle.salt_tokens.specs.Spelling.{same_bytes};
-ghost use Rattle.salt_eval.specs.Cells.{AreNumbersOf, IsNumberOf, cell_at, cells_at, has_name};
+ghost use Rattle.salt_eval.specs.Cells.{AreNumbersOf, cell_at, cells_at};
 
 use salt_ast::Field;
+use salt_exprs::column_number;
 use salt_values::{Name, Row, TryCopy, Value};
 use sqlite_items::{Items, at};
 use std::alloc::{AllocError, Global};
-
-fn same_bytes(a: &[u8], b: &[u8]) -> bool
-    ensures { result ≡ same_bytes a.now b.now }
-{
-    a == b
-}
-
-fn position_of(columns: &[Field], name: &[u8]) -> Option<usize>
-    ensures { result ≡ position_from (has_name name.now) 0 columns.now }
-{
-    columns
-        .iter()
-        .position(|column| same_bytes(name, column.name.as_slice()))
-}
-
-/// The number, from 0, of the column of this name: none where there is no such column.
-pub fn column_number(columns: &[Field], name: &[u8]) -> Option<usize>
-    ensures { IsNumberOf columns.now name.now result }
-{
-    position_of(columns, name)
-}
 
 /// The numbers of columns, in the order of their names.
 pub fn column_numbers(

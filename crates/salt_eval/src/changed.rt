@@ -4,8 +4,8 @@ ghost use Rattle.std.specs.Prelude.{◌≡◌, ◌++◌, ◌∷◌, [], None, Ok
 ghost use Rattle.salt_model.specs.Statements.{change_to};
 ghost use Rattle.salt_model.specs.Tables.{key_of, place};
 
-use crate::error::EvalErr;
 use crate::scan::{Gather, key_of};
+use salt_exprs::EvalErr;
 use salt_values::{Change, Changes, Row};
 use std::alloc::Global;
 

@@ -2,30 +2,13 @@
 
 ghost use Rattle.std.specs.Prelude.{◌≡◌};
 ghost use Rattle.salt_eval.specs.Scans.{statement_err};
-ghost use Rattle.salt_eval.specs.declared.error.EvalErr.TheVariants as eval;
 ghost use Rattle.salt_eval.specs.declared.error.StatementErr.TheVariants.{Cause, View};
 ghost use Rattle.salt_eval.specs.declared.view.ViewErr.TheVariants.{Memory};
 
 use crate::view::ViewErr;
+use salt_exprs::EvalErr;
 use salt_model::Cause;
 use std::alloc::AllocError;
-
-/// Why an expression gives nothing.
-#[derive(Clone, Copy, Debug, PartialEq, Eq)]
-pub enum EvalErr {
-    /// The first cause met, from left to right.
-    Cause(Cause),
-    /// Memory ran out.
-    Memory,
-}
-
-impl From<AllocError> for EvalErr {
-    ghost from_gives = { λ _ e. e ≡ eval.Memory };
-
-    fn from(_e: AllocError) -> EvalErr {
-        EvalErr::Memory
-    }
-}
 
 /// Why a statement is not done.
 #[derive(Clone, Copy, Debug, PartialEq, Eq)]

@@ -1,16 +1,17 @@
 //! Rows of a range, one after another.
 
-ghost use Rattle.std.specs.Prelude.{◌≡◌, Bool, IfOk, Ok, Option, Result, List, Some};
+ghost use Rattle.std.specs.Prelude.{◌≡◌, IfOk, Ok, Option, Result, List, Some};
 ghost use Rattle.std.specs.Option.{option_copied};
 ghost use Rattle.salt_model.specs.Tables.{key_of, place, row_at};
 ghost use Rattle.salt_model.specs.declared.events.Cause.{Cause};
 ghost use Rattle.salt_ranges.specs.declared.range.KeyRange.{KeyRange};
 ghost use Rattle.salt_values.specs.declared.value.Value.{Value};
-ghost use Rattle.salt_eval.specs.Filtered.{filtered};
+ghost use Rattle.salt_eval.specs.Filtered.{filtered, kept_by};
 ghost use Rattle.salt_eval.specs.Scans.{CountsFaultsOf, IsKeyed, Leaves, Takes, Tells, gathered, point_of, range_rows, row_list};
 
-use crate::error::{EvalErr, StatementErr};
+use crate::error::StatementErr;
 use crate::view::RowView;
+use salt_exprs::{EvalErr, Resolved};
 use salt_ranges::KeyRange;
 use salt_values::{Key, Row, TryCopy, Value};
 use std::alloc::{AllocError, Global};
@@ -25,26 +26,26 @@ pub trait Gather {
         ensures { Takes (with_row self.old row) self.new result };
 }
 
-/// Which rows a statement is for.
-pub trait Filter {
-    /// Whether a row is kept, or the cause for which the statement fails.
-    ghost passes: { Self → List Value → Result Bool Cause };
-
-    /// Whether the row is kept.
-    fn passes(&self, alloc: Global, row: &[Value]) -> Result<bool, EvalErr>
-        ensures { Tells (passes self.now row.now) result };
+/// Whether a filter keeps a row; where there is none, it does.
+fn is_kept(alloc: Global, filter: &Option<Resolved<'_>>, row: &[Value]) -> Result<bool, EvalErr>
+    ensures { Tells (kept_by filter.now row.now) result }
+{
+    match filter {
+        Some(filter) => filter.holds(alloc, row),
+        None => Ok(true),
+    }
 }
 
 /// Takes a row that the filter keeps.
-fn take_kept<F: Filter, G: Gather>(
+fn take_kept<G: Gather>(
     alloc: Global,
-    filter: &F,
+    filter: &Option<Resolved<'_>>,
     gather: &mut G,
     row: Row,
 ) -> Result<(), EvalErr>
-    ensures { Takes (filtered (F.passes filter.now) G.with_row gather.old row) gather.new result }
+    ensures { Takes (filtered (kept_by filter.now) G.with_row gather.old row) gather.new result }
 {
-    if filter.passes(alloc, row.as_slice())? {
+    if is_kept(alloc, filter, row.as_slice())? {
         gather.take(alloc, row)
     } else {
         Ok(())
@@ -72,15 +73,15 @@ fn point_of(range: &KeyRange) -> Option<&Key>
 }
 
 /// Gathers the row of a key, if there is one.
-fn gather_one<V: RowView, F: Filter, G: Gather>(
+fn gather_one<V: RowView, G: Gather>(
     alloc: Global,
     view: &mut V,
     table: u16,
     key: &Key,
-    filter: &F,
+    filter: &Option<Resolved<'_>>,
     gather: &mut G,
 ) -> Result<(), StatementErr>
-    ensures gathered { Leaves (gathered (filtered (F.passes filter.now) G.with_row) gather.old (row_list (row_at (place table key.now) (V.tables view.old)))) gather.new result }
+    ensures gathered { Leaves (gathered (filtered (kept_by filter.now) G.with_row) gather.old (row_list (row_at (place table key.now) (V.tables view.old)))) gather.new result }
     ensures kept { V.tables view.new ≡ V.tables view.old }
     ensures faults { CountsFaultsOf (V.faults view.old) (V.faults view.new) result }
 {
@@ -94,16 +95,16 @@ fn gather_one<V: RowView, F: Filter, G: Gather>(
 }
 
 /// Gathers the rows of a range, in order of their keys.
-fn gather_all<V: RowView, F: Filter, G: Gather>(
+fn gather_all<V: RowView, G: Gather>(
     alloc: Global,
     view: &mut V,
     table: u16,
     range: &KeyRange,
-    filter: &F,
+    filter: &Option<Resolved<'_>>,
     gather: &mut G,
 ) -> Result<(), StatementErr>
     requires { IsKeyed (V.tables view.old) }
-    ensures gathered { Leaves (gathered (filtered (F.passes filter.now) G.with_row) gather.old (range_rows table range.now (V.tables view.old))) gather.new result }
+    ensures gathered { Leaves (gathered (filtered (kept_by filter.now) G.with_row) gather.old (range_rows table range.now (V.tables view.old))) gather.new result }
     ensures kept { V.tables view.new ≡ V.tables view.old }
     ensures faults { CountsFaultsOf (V.faults view.old) (V.faults view.new) result }
 {
@@ -116,16 +117,16 @@ fn gather_all<V: RowView, F: Filter, G: Gather>(
 }
 
 /// Gathers the rows of a range, in order of their keys; of one key by one look at the view.
-pub fn scan<V: RowView, F: Filter, G: Gather>(
+pub fn scan<V: RowView, G: Gather>(
     alloc: Global,
     view: &mut V,
     table: u16,
     range: &KeyRange,
-    filter: &F,
+    filter: &Option<Resolved<'_>>,
     gather: &mut G,
 ) -> Result<(), StatementErr>
     requires { IsKeyed (V.tables view.old) }
-    ensures gathered { Leaves (gathered (filtered (F.passes filter.now) G.with_row) gather.old (range_rows table range.now (V.tables view.old))) gather.new result }
+    ensures gathered { Leaves (gathered (filtered (kept_by filter.now) G.with_row) gather.old (range_rows table range.now (V.tables view.old))) gather.new result }
     ensures kept { V.tables view.new ≡ V.tables view.old }
     ensures faults { CountsFaultsOf (V.faults view.old) (V.faults view.new) result }
 {

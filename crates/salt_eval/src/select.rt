@@ -4,32 +4,34 @@ ghost use Rattle.std.specs.Prelude.{◌≡◌, List, Option};
 ghost use Rattle.salt_ast.specs.declared.trees.Expr.{Expr};
 ghost use Rattle.salt_ast.specs.declared.trees.What.TheVariants.{All, Columns, Count, Sum};
 ghost use Rattle.salt_model.specs.declared.vars.Binding.{Binding};
+ghost use Rattle.salt_eval.specs.Filtered.{kept_by};
 ghost use Rattle.salt_eval.specs.Scans.{CountsFaultsOf, Gives, IsKeyed};
-ghost use Rattle.salt_eval.specs.Selects.{Filters, best_what, shown_of, sum_cell};
+ghost use Rattle.salt_eval.specs.Selects.{Filters, best_what, shown_of};
 
-use crate::cells::{column_number, column_numbers};
+use crate::cells::column_numbers;
 use crate::error::StatementErr;
-use crate::scan::{Filter, scan};
+use crate::scan::scan;
 use crate::shown::{ColumnBest, ColumnRows, ColumnSum, RowCount, WholeRows};
 use crate::view::RowView;
 use salt_ast::{TableDef, What};
-use salt_model::{Answer, Cause};
+use salt_exprs::{Resolved, column_number};
+use salt_model::Answer;
 use salt_ranges::KeyRange;
-use salt_values::{Name, Names, Value};
+use salt_values::{Name, Names};
 use sqlite_items::Items;
 use std::alloc::Global;
 
 /// All columns of each row.
-fn whole_rows<V: RowView, F: Filter>(
+fn whole_rows<V: RowView>(
     alloc: Global,
     view: &mut V,
     table: u16,
     def: &TableDef,
     range: &KeyRange,
-    filter: &F,
+    filter: &Option<Resolved<'_>>,
 ) -> Result<Answer, StatementErr>
     requires { IsKeyed (V.tables view.old) }
-    ensures answer { (vars : List Binding) (by : Option Expr) → Filters (F.passes filter.now) def.now vars by
+    ensures answer { (vars : List Binding) (by : Option Expr) → Filters (kept_by filter.now) def.now vars by
         → Gives (shown_of table range.now def.now vars by All (V.tables view.old)) result }
     ensures kept { V.tables view.new ≡ V.tables view.old }
     ensures faults { CountsFaultsOf (V.faults view.old) (V.faults view.new) result }
@@ -43,17 +45,17 @@ fn whole_rows<V: RowView, F: Filter>(
 }
 
 /// Columns of each row.
-fn column_rows<V: RowView, F: Filter>(
+fn column_rows<V: RowView>(
     alloc: Global,
     view: &mut V,
     table: u16,
     def: &TableDef,
     range: &KeyRange,
-    filter: &F,
+    filter: &Option<Resolved<'_>>,
     names: &Names,
 ) -> Result<Answer, StatementErr>
     requires { IsKeyed (V.tables view.old) }
-    ensures answer { (vars : List Binding) (by : Option Expr) → Filters (F.passes filter.now) def.now vars by
+    ensures answer { (vars : List Binding) (by : Option Expr) → Filters (kept_by filter.now) def.now vars by
         → Gives (shown_of table range.now def.now vars by (Columns names.now) (V.tables view.old)) result }
     ensures kept { V.tables view.new ≡ V.tables view.old }
     ensures faults { CountsFaultsOf (V.faults view.old) (V.faults view.new) result }
@@ -69,48 +71,37 @@ fn column_rows<V: RowView, F: Filter>(
 }
 
 /// The number of rows.
-fn row_count<V: RowView, F: Filter>(
+fn row_count<V: RowView>(
     alloc: Global,
     view: &mut V,
     table: u16,
     def: &TableDef,
     range: &KeyRange,
-    filter: &F,
+    filter: &Option<Resolved<'_>>,
 ) -> Result<Answer, StatementErr>
     requires { IsKeyed (V.tables view.old) }
-    ensures answer { (vars : List Binding) (by : Option Expr) → Filters (F.passes filter.now) def.now vars by
+    ensures answer { (vars : List Binding) (by : Option Expr) → Filters (kept_by filter.now) def.now vars by
         → Gives (shown_of table range.now def.now vars by Count (V.tables view.old)) result }
     ensures kept { V.tables view.new ≡ V.tables view.old }
     ensures faults { CountsFaultsOf (V.faults view.old) (V.faults view.new) result }
 {
     let mut shown = RowCount { count: 0 };
     scan(alloc, view, table, range, filter, &mut shown)?;
-    let RowCount { count } = shown;
-    Ok(Answer::Cell(Some(Value::Int(count))))
-}
-
-/// A sum, unless it is outside 64 bits.
-fn sum_told(sum: i128) -> Result<Answer, Cause>
-    ensures { result ≡ sum_cell sum }
-{
-    match i64::try_from(sum) {
-        Ok(sum) => Ok(Answer::Cell(Some(Value::Int(sum)))),
-        Err(_) => Err(Cause::Overflow),
-    }
+    Ok(shown.answer())
 }
 
 /// The sum of a column.
-fn column_sum<V: RowView, F: Filter>(
+fn column_sum<V: RowView>(
     alloc: Global,
     view: &mut V,
     table: u16,
     def: &TableDef,
     range: &KeyRange,
-    filter: &F,
+    filter: &Option<Resolved<'_>>,
     name: &Name,
 ) -> Result<Answer, StatementErr>
     requires { IsKeyed (V.tables view.old) }
-    ensures answer { (vars : List Binding) (by : Option Expr) → Filters (F.passes filter.now) def.now vars by
+    ensures answer { (vars : List Binding) (by : Option Expr) → Filters (kept_by filter.now) def.now vars by
         → Gives (shown_of table range.now def.now vars by (Sum name.now) (V.tables view.old)) result }
     ensures kept { V.tables view.new ≡ V.tables view.old }
     ensures faults { CountsFaultsOf (V.faults view.old) (V.faults view.new) result }
@@ -120,23 +111,22 @@ fn column_sum<V: RowView, F: Filter>(
         sum: 0,
     };
     scan(alloc, view, table, range, filter, &mut shown)?;
-    let ColumnSum { sum, .. } = shown;
-    Ok(sum_told(sum)?)
+    Ok(shown.answer()?)
 }
 
 /// The least value of a column, or the greatest.
-fn best_cell<V: RowView, F: Filter>(
+fn best_cell<V: RowView>(
     alloc: Global,
     view: &mut V,
     table: u16,
     def: &TableDef,
     range: &KeyRange,
-    filter: &F,
+    filter: &Option<Resolved<'_>>,
     name: &Name,
     is_greatest: bool,
 ) -> Result<Answer, StatementErr>
     requires { IsKeyed (V.tables view.old) }
-    ensures answer { (vars : List Binding) (by : Option Expr) → Filters (F.passes filter.now) def.now vars by
+    ensures answer { (vars : List Binding) (by : Option Expr) → Filters (kept_by filter.now) def.now vars by
         → Gives (shown_of table range.now def.now vars by (best_what is_greatest name.now) (V.tables view.old)) result }
     ensures kept { V.tables view.new ≡ V.tables view.old }
     ensures faults { CountsFaultsOf (V.faults view.old) (V.faults view.new) result }
@@ -152,17 +142,17 @@ fn best_cell<V: RowView, F: Filter>(
 }
 
 /// What a SELECT shows of the rows that the filter keeps.
-pub fn show<V: RowView, F: Filter>(
+pub fn show<V: RowView>(
     alloc: Global,
     view: &mut V,
     table: u16,
     def: &TableDef,
     range: &KeyRange,
-    filter: &F,
+    filter: &Option<Resolved<'_>>,
     what: &What,
 ) -> Result<Answer, StatementErr>
     requires { IsKeyed (V.tables view.old) }
-    ensures answer { (vars : List Binding) (by : Option Expr) → Filters (F.passes filter.now) def.now vars by
+    ensures answer { (vars : List Binding) (by : Option Expr) → Filters (kept_by filter.now) def.now vars by
         → Gives (shown_of table range.now def.now vars by what.now (V.tables view.old)) result }
     ensures kept { V.tables view.new ≡ V.tables view.old }
     ensures faults { CountsFaultsOf (V.faults view.old) (V.faults view.new) result }

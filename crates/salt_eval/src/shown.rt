@@ -1,13 +1,17 @@
 //! What a SELECT gathers.
 
-ghost use Rattle.std.specs.Prelude.{◌≡◌, ◌++◌, ◌∷◌, ◌+ℤ◌, [], Ok, pos};
+ghost use Rattle.std.specs.Prelude.{◌≡◌, ◌++◌, ◌∷◌, ◌+ℤ◌, [], Ok, Some, pos};
+ghost use Rattle.salt_model.specs.declared.events.Answer.TheVariants.{Cell};
+ghost use Rattle.salt_values.specs.declared.value.Value.TheVariants.{Int};
 ghost use Rattle.salt_values.specs.Value.{int_in};
 ghost use Rattle.salt_eval.specs.Cells.{cell_at, cells_at};
+ghost use Rattle.salt_eval.specs.Selects.{sum_cell};
 ghost use Rattle.salt_eval.specs.Shown.{best_with, is_better};
 
 use crate::cells::{cell, cells};
-use crate::error::EvalErr;
 use crate::scan::Gather;
+use salt_exprs::EvalErr;
+use salt_model::{Answer, Cause};
 use salt_values::{Row, Rows, Value};
 use sqlite_items::Items;
 use std::alloc::Global;
@@ -50,6 +54,15 @@ pub struct RowCount {
     pub count: i64,
 }
 
+impl RowCount {
+    /// The number of rows.
+    pub fn answer(&self) -> Answer
+        ensures { result ≡ Cell (Some (Int self.now.count)) }
+    {
+        Answer::Cell(Some(Value::Int(self.count)))
+    }
+}
+
 impl Gather for RowCount {
     ghost with_row = { λ s row. Ok (record { count = s.count +ℤ pos 1 }) };
 
@@ -69,6 +82,18 @@ impl Gather for RowCount {
 pub struct ColumnSum {
     pub number: Option<usize>,
     pub sum: i128,
+}
+
+impl ColumnSum {
+    /// The sum. `Overflow` exactly where it is outside 64 bits.
+    pub fn answer(&self) -> Result<Answer, Cause>
+        ensures { result ≡ sum_cell self.now.sum }
+    {
+        match i64::try_from(self.sum) {
+            Ok(sum) => Ok(Answer::Cell(Some(Value::Int(sum)))),
+            Err(_) => Err(Cause::Overflow),
+        }
+    }
 }
 
 fn int_in(value: &Value) -> i64

@@ -1,6 +1,6 @@
 use Rattle.salt_eval.proofs.Scanning.{fewer, gathered-next}
 use Rattle.salt_eval.proofs.scan.gather_all.Goals as goal
-use Rattle.salt_eval.specs.Filtered.{filtered}
+use Rattle.salt_eval.specs.Filtered.{filtered, kept_by}
 use Rattle.salt_eval.specs.Scans.{IsKeyed}
 use Rattle.salt_eval.specs.Views.{next_row}
 use Rattle.salt_model.specs.Tables.{key_of}
@@ -23,7 +23,7 @@ loop-after-preserved g c =
       kept = c.in_ok-row.ensures.kept ∙ c.loop-after.invariant.kept;
       faults = c.in_ok-row.ensures.faults ∙ c.loop-after.invariant.faults;
       rest =
-          gathered-next c.args.table c.args.range.now c.loop-after.after es (filtered (g.F.Filter.passes c.args.filter.now) g.G.Gather.with_row) c.loop-after.gather c.take_kept.new.gather c.in-Some.row c.in_ok-key_of.field-0 next c.requires
+          gathered-next c.args.table c.args.range.now c.loop-after.after es (filtered (kept_by c.args.filter.now) g.G.Gather.with_row) c.loop-after.gather c.take_kept.new.gather c.in-Some.row c.in_ok-key_of.field-0 next c.requires
           (c.in_ok-key_of.ensures ∙ ap key_of c.as_slice.ensures) c.in_ok-take_kept.ensures
           ∙ c.loop-after.invariant.rest;
     }
