@@ -1,7 +1,10 @@
+pub mod Attempts
 pub mod Collected
+pub mod Effecting
 pub mod InOrder
 pub mod Nexts
 pub mod Points
 pub mod Scanning
 pub mod Selecting
 pub mod Showing
+pub mod Tabled

@@ -39,7 +39,7 @@ between-equal a b k tied = ap (λ o. not (is_gt (value_cmp a k)) && not (is_gt o
     by Equal = refl
     by Greater = refl
 
-filter-alike : {A : Type 0} (p q : A → Bool) → ((x : A) → p x ≡ q x) → (xs : List A) → filter p xs ≡ filter q xs
+pub filter-alike : {A : Type 0} (p q : A → Bool) → ((x : A) → p x ≡ q x) → (xs : List A) → filter p xs ≡ filter q xs
 filter-alike p q h [] = refl
 filter-alike p q h (x ∷ xs) = ap (λ b. cond b (x ∷ filter p xs) (filter p xs)) (h x) ∙ ap (λ more. cond (q x) (x ∷ more) more) (filter-alike p q h xs)
 

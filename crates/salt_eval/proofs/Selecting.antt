@@ -34,27 +34,32 @@ use Rattle.std.proofs.Common.{ap, arith, subst, sym, ◌∙◌}
 use Rattle.std.proofs.lemmas.Int.{ints}
 use Rattle.std.specs.Prelude.{Bool, Err, List, None, Ok, Option, Result, Some, [], cond, false, fold, length, map, pos, refl, true, ℕ, ℤ, ⊤, ◌++◌, ◌+ℤ◌, ◌∷◌, ◌≡◌}
 
--- what is shown is what is gathered, finished
-pub record ShownBy {S : Type 0} (meant : Result Answer Cause) (got : Result S Cause) (finish : S → Result Answer Cause) : Type 0 where
+-- what is shown, or done, is what is gathered, finished
+pub record ShownBy {S A : Type 0} (meant : Result A Cause) (got : Result S Cause) (finish : S → Result A Cause) : Type 0 where
   pub is : meant ≡ and_then got finish
 
-pub when_ok : {S : Type 0} {meant : Result Answer Cause} {got : Result S Cause} {finish : S → Result Answer Cause} → ShownBy meant got finish → (left : S) → got ≡ Ok left → meant ≡ finish left
+pub when_ok : {S A : Type 0} {meant : Result A Cause} {got : Result S Cause} {finish : S → Result A Cause} → ShownBy meant got finish → (left : S) → got ≡ Ok left → meant ≡ finish left
 when_ok {finish = finish} by left h = by.is ∙ ap (λ r. and_then r finish) h
 
-failed : {S : Type 0} (meant : Result Answer Cause) (got : Result S Cause) (finish : S → Result Answer Cause) (left : S) (e : StatementErr) → meant ≡ and_then got finish → Leaves {A = Unit {0}} got left (Err e) → Gives {A = Answer} meant (Err e)
+failed : {S A : Type 0} (meant : Result A Cause) (got : Result S Cause) (finish : S → Result A Cause) (left : S) (e : StatementErr) → meant ≡ and_then got finish → Leaves {A = Unit {0}} got left (Err e) → Gives {A = A} meant (Err e)
 failed meant got finish left (Failing c) is h = is ∙ ap (λ r. and_then r finish) h
 failed meant got finish left (View v) is h = tt
 
-pub when_err : {S : Type 0} {meant : Result Answer Cause} {got : Result S Cause} {finish : S → Result Answer Cause} → ShownBy meant got finish → (left : S) (e d : StatementErr) (r : Result Answer StatementErr) → Leaves {A = Unit {0}} got left (Err e) → r ≡ Err d → d ≡ e → Gives meant r
-when_err {meant = meant} {got = got} {finish = finish} by left e d r h is same = subst (λ (x : Result Answer StatementErr). Gives meant x) (sym (is ∙ ap Err same)) (failed meant got finish left e by.is h)
+pub when_err : {S A : Type 0} {meant : Result A Cause} {got : Result S Cause} {finish : S → Result A Cause} → ShownBy meant got finish → (left : S) (e d : StatementErr) (r : Result A StatementErr) → Leaves {A = Unit {0}} got left (Err e) → r ≡ Err d → d ≡ e → Gives meant r
+when_err {A = A} {meant = meant} {got = got} {finish = finish} by left e d r h is same = subst (λ (x : Result A StatementErr). Gives meant x) (sym (is ∙ ap Err same)) (failed meant got finish left e by.is h)
 
-pub when_fails : {meant : Result Answer Cause} → (c : Cause) → meant ≡ Err c → (d : StatementErr) (r : Result Answer StatementErr) → r ≡ Err d → d ≡ Failing c → Gives meant r
-when_fails {meant = meant} c h d r is same = subst (λ (x : Result Answer StatementErr). Gives meant x) (sym (is ∙ ap Err same)) h
+pub when_fails : {A : Type 0} {meant : Result A Cause} → (c : Cause) → meant ≡ Err c → (d : StatementErr) (r : Result A StatementErr) → r ≡ Err d → d ≡ Failing c → Gives meant r
+when_fails {A = A} {meant = meant} c h d r is same = subst (λ (x : Result A StatementErr). Gives meant x) (sym (is ∙ ap Err same)) h
+
+-- what is asked for first fails, and so does what is done with it
+pub then-fails : {A B : Type 0} (meant : Result B Cause) (first : Result A Cause) (f : A → Result B Cause) (e d : StatementErr) (r : Result B StatementErr) → meant ≡ and_then first f → Gives {A = A} first (Err e) → r ≡ Err d → d ≡ e → Gives meant r
+then-fails {B = B} meant first f (Failing c) d r is h got same = subst (λ (x : Result B StatementErr). Gives meant x) (sym (got ∙ ap Err same)) (is ∙ ap (λ x. and_then x f) h)
+then-fails {B = B} meant first f (View v) d r is h got same = subst (λ (x : Result B StatementErr). Gives meant x) (sym (got ∙ ap Err same)) tt
 
 zero-plus : (a : ℤ) → a ≡ pos 0 +ℤ a
 zero-plus a = omega (arith, ints)
 
-then-then : {A B C E : Type 0} (r : Result A E) (f : A → B) (g : B → Result C E) → and_then (and_then r (λ x. Ok (f x))) g ≡ and_then r (λ x. g (f x))
+pub then-then : {A B C E : Type 0} (r : Result A E) (f : A → B) (g : B → Result C E) → and_then (and_then r (λ x. Ok (f x))) g ≡ and_then r (λ x. g (f x))
 then-then (Ok x) f g = refl
 then-then (Err c) f g = refl
 

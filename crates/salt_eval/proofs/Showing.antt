@@ -46,7 +46,7 @@ pub count-shown : (count : ℤ) (found : List (List Value)) → fold (λ (s : Ro
 count-shown count [] = λ i. record { count = plus-zero count i }
 count-shown count (row ∷ found) = count-shown (count +ℤ pos 1) found ∙ λ i. record { count = (plus-assoc count (pos 1) (pos (length found)) ∙ ap (λ z. count +ℤ z) (one-more (length found))) i }
 
-cell-named : (def : TableDef) (c : List ℕ) (number : Option ℕ) → IsNumberOf def.columns c number → (row : List Value) → cell_at row number ≡ column_of def c row
+pub cell-named : (def : TableDef) (c : List ℕ) (number : Option ℕ) → IsNumberOf def.columns c number → (row : List Value) → cell_at row number ≡ column_of def c row
 cell-named def c number is row = ap (λ o. unwrap_or o (Int (pos 0))) (sym (is row))
 
 total-more : (v : Value) (vs : List Value) → total (cond (not (is_null v)) (v ∷ vs) vs) ≡ int_in v +ℤ total vs

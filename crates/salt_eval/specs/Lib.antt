@@ -1,7 +1,9 @@
 pub mod Cells
+pub mod Effects
 pub mod Filtered
 pub mod MapViews
 pub mod Scans
 pub mod Selects
 pub mod Shown
+pub mod Updating
 pub mod Views

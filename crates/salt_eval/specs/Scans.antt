@@ -6,6 +6,7 @@ use Rattle.salt_eval.specs.declared.error.StatementErr.TheVariants.{Cause, View}
 use Rattle.salt_eval.specs.declared.error.StatementErr.{StatementErr}
 use Rattle.salt_eval.specs.declared.view.ViewErr.TheVariants.{Fault, Memory}
 use Rattle.salt_eval.specs.declared.view.ViewErr.{ViewErr}
+use Rattle.salt_exprs.specs.Operands as exprs
 use Rattle.salt_io.specs.Streams.{Rose}
 use Rattle.salt_model.specs.Tables.{Tables, key_of, row_at}
 use Rattle.salt_model.specs.Words.{and_then}
@@ -22,9 +23,7 @@ statement_err eval.Memory = View Memory
 
 -- an answer tells what is meant, or its cause; want of memory tells nothing
 abbrev pub Tells : {A : Type 0} → Result A cause.Cause → Result A EvalErr → Type 0
-Tells meant (Ok x) = meant ≡ Ok x
-Tells meant (Err (eval.Cause c)) = meant ≡ Err c
-Tells meant (Err eval.Memory) = ⊤
+Tells meant result = exprs.Tells exprs.same meant result
 
 -- what takes a row is then what is meant, or its cause is the one that is meant; want of memory tells nothing
 abbrev pub Takes : {S A : Type 0} → Result S cause.Cause → S → Result A EvalErr → Type 0

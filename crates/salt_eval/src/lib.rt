@@ -5,11 +5,15 @@ mod cells;
 mod changed;
 mod error;
 mod map_view;
+mod reaches;
 mod scan;
 mod select;
 mod shown;
+mod statements;
 mod view;
 
 pub use error::StatementErr;
 pub use map_view::{MapView, Tables};
+pub use reaches::reach;
+pub use statements::execute;
 pub use view::{RowView, ViewErr};

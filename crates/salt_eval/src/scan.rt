@@ -7,11 +7,11 @@ ghost use Rattle.salt_model.specs.declared.events.Cause.{Cause};
 ghost use Rattle.salt_ranges.specs.declared.range.KeyRange.{KeyRange};
 ghost use Rattle.salt_values.specs.declared.value.Value.{Value};
 ghost use Rattle.salt_eval.specs.Filtered.{filtered, kept_by};
-ghost use Rattle.salt_eval.specs.Scans.{CountsFaultsOf, IsKeyed, Leaves, Takes, Tells, gathered, point_of, range_rows, row_list};
+ghost use Rattle.salt_eval.specs.Scans.{CountsFaultsOf, IsKeyed, Leaves, Takes, gathered, point_of, range_rows, row_list};
 
 use crate::error::StatementErr;
 use crate::view::RowView;
-use salt_exprs::{EvalErr, Resolved};
+use salt_exprs::{EvalErr, Resolved, passes};
 use salt_ranges::KeyRange;
 use salt_values::{Key, Row, TryCopy, Value};
 use std::alloc::{AllocError, Global};
@@ -26,16 +26,6 @@ pub trait Gather {
         ensures { Takes (with_row self.old row) self.new result };
 }
 
-/// Whether a filter keeps a row; where there is none, it does.
-fn is_kept(alloc: Global, filter: &Option<Resolved<'_>>, row: &[Value]) -> Result<bool, EvalErr>
-    ensures { Tells (kept_by filter.now row.now) result }
-{
-    match filter {
-        Some(filter) => filter.holds(alloc, row),
-        None => Ok(true),
-    }
-}
-
 /// Takes a row that the filter keeps.
 fn take_kept<G: Gather>(
     alloc: Global,
@@ -45,7 +35,7 @@ fn take_kept<G: Gather>(
 ) -> Result<(), EvalErr>
     ensures { Takes (filtered (kept_by filter.now) G.with_row gather.old row) gather.new result }
 {
-    if is_kept(alloc, filter, row.as_slice())? {
+    if passes(alloc, filter, row.as_slice())? {
         gather.take(alloc, row)
     } else {
         Ok(())
