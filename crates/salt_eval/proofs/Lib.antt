@@ -1,6 +1,7 @@
 pub mod Attempts
 pub mod Collected
 pub mod Effecting
+pub mod Framing
 pub mod InOrder
 pub mod Nexts
 pub mod Points

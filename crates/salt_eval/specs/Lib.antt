@@ -1,6 +1,7 @@
 pub mod Cells
 pub mod Effects
 pub mod Filtered
+pub mod Frames
 pub mod MapViews
 pub mod Scans
 pub mod Selects

@@ -4,6 +4,7 @@
 mod cells;
 mod changed;
 mod error;
+mod laws;
 mod map_view;
 mod reaches;
 mod scan;
@@ -13,6 +14,7 @@ mod statements;
 mod view;
 
 pub use error::StatementErr;
+pub use laws::statements_see_their_reach;
 pub use map_view::{MapView, Tables};
 pub use reaches::reach;
 pub use statements::execute;
