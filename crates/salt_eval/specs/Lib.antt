@@ -3,6 +3,7 @@ pub mod Effects
 pub mod Filtered
 pub mod Frames
 pub mod MapViews
+pub mod Meets
 pub mod Scans
 pub mod Selects
 pub mod Shown
