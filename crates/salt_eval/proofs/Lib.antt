@@ -1,0 +1,11 @@
+pub mod Attempts
+pub mod Collected
+pub mod Effecting
+pub mod Framing
+pub mod InOrder
+pub mod Nexts
+pub mod Points
+pub mod Scanning
+pub mod Selecting
+pub mod Showing
+pub mod Tabled

@@ -1,0 +1,11 @@
+pub mod Cells
+pub mod Effects
+pub mod Filtered
+pub mod Frames
+pub mod MapViews
+pub mod Meets
+pub mod Scans
+pub mod Selects
+pub mod Shown
+pub mod Updating
+pub mod Views

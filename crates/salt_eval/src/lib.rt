@@ -1,0 +1,26 @@
+//! Statements, done over a view of the rows that they reach.
+#![tactic(auto)]
+
+mod cells;
+mod changed;
+mod error;
+mod laws;
+mod map_view;
+mod meets;
+mod reaches;
+mod scan;
+mod select;
+mod shown;
+mod statements;
+mod view;
+
+pub use error::StatementErr;
+pub use laws::statements_see_their_reach;
+pub use map_view::{MapView, Tables};
+pub use meets::meets_table;
+pub use reaches::reach;
+pub use statements::execute;
+pub use view::{RowView, ViewErr};
+
+#[cfg(test)]
+mod tests;
