@@ -1,6 +1,6 @@
 //! The lock table.
 
-ghost use Rattle.salt_keeps.specs.KeptLocks.{Numbered, is_owned_by};
+ghost use Rattle.salt_keeps.specs.KeptLocks.{Numbered};
 ghost use Rattle.salt_locks.specs.Places.{AreInOrder, is_near};
 ghost use Rattle.salt_locks.specs.Tables.{Answers, is_of_another, locks_in, numbered, numbers_in, owners_against, put, salted, salted_lock};
 ghost use Rattle.salt_locks.specs.declared.table.TakeErr.TheVariants.{Memory};
