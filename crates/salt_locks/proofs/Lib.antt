@@ -1,0 +1,6 @@
+pub mod Fits
+pub mod Moved
+pub mod Near
+pub mod OneByOne
+pub mod Orders
+pub mod Puts

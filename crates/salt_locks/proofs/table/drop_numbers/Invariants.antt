@@ -1,0 +1,16 @@
+use Rattle.salt_locks.proofs.table.drop_numbers.Given as goal
+use Rattle.salt_locks.specs.Tables.{is_of_another, numbered}
+use Rattle.std.proofs.Common.{length, map, ◌-◌, ◌++◌, ◌≡◌, ◌≤◌}
+use Rattle.std.specs.List.{filter}
+use Rattle.std.specs.Prelude.{drop, take}
+
+abbrev pub invariant-loop-at : goal.invariant-loop-at
+invariant-loop-at l =
+    (l.kept ≤ l.at)
+    × (l.at ≤ length l.locks)
+    × (length l.numbers.items ≡ length l.locks)
+    × (take l.kept l.numbers.items ++ map (λ n. n.number) (filter (is_of_another l.owner) (numbered (drop l.at l.numbers.items) (drop l.at l.locks)))
+    ≡ map (λ n. n.number) (filter (is_of_another l.owner) (numbered l.initial.numbers.items l.locks)))
+
+abbrev pub decreases-loop-at : goal.decreases-loop-at
+decreases-loop-at l = length l.locks - l.at

@@ -1,0 +1,63 @@
+//! Which held locks clash with what is asked.
+
+ghost use Rattle.salt_locks.specs.Tables.{owners_against};
+ghost use Rattle.salt_model.specs.Locks.{clashes, is_clash, is_read};
+ghost use Rattle.std.specs.Prelude.{IfOk, ◌≡◌};
+
+use crate::owners::{insert_id, is_same_owner, joined};
+use salt_model::{Family, Lock, Mode, Owner, Owners, Reach};
+use std::alloc::{AllocError, Global};
+
+fn is_read(mode: Mode) -> bool
+    ensures { result ≡ is_read mode }
+{
+    match mode {
+        Mode::Read => true,
+        Mode::Write => false,
+    }
+}
+
+fn is_clash(held: Family, mode: Mode, asked: Family, other: Mode) -> bool
+    ensures { result ≡ is_clash held mode asked other }
+{
+    match (held, asked) {
+        (Family::Saline, Family::Alkaline) => false,
+        _ => !(is_read(mode) && is_read(other)),
+    }
+}
+
+/// Whether a held lock clashes with what an owner asks.
+fn clashes(owner: Owner, family: Family, reach: &Reach, lock: &Lock) -> bool
+    ensures { result ≡ clashes owner family reach.now lock.now }
+{
+    !is_same_owner(owner, lock.owner)
+        && lock.table == reach.table
+        && lock.range.meets(&reach.range)
+        && is_clash(lock.family, lock.mode, family, reach.mode)
+}
+
+/// The owners of those of the locks that clash with what an owner asks.
+pub fn owners_against(
+    alloc: Global,
+    locks: &[Lock],
+    owner: Owner,
+    family: Family,
+    reach: &Reach,
+) -> Result<Owners, AllocError>
+    ensures { IfOk result (λ owners. owners ≡ owners_against owner family reach.now locks.now) }
+{
+    let mut units = Vec::new(alloc);
+    let mut bases = Vec::new(alloc);
+    let mut left = locks.len();
+    while left > 0 {
+        left -= 1;
+        let lock = &locks[left];
+        if clashes(owner, family, reach, lock) {
+            match lock.owner {
+                Owner::Unit(unit) => insert_id(&mut units, unit)?,
+                Owner::Base(base) => insert_id(&mut bases, base)?,
+            }
+        }
+    }
+    joined(alloc, &units, &bases)
+}

@@ -1,0 +1,79 @@
+//! Where locks stand.
+
+ghost use Rattle.salt_locks.specs.Places.{AreInOrder, is_low_at_most, is_near, is_up_to};
+ghost use Rattle.salt_model.specs.declared.locks.Lock.{Lock};
+ghost use Rattle.salt_ranges.specs.Ranges.{ends_meet};
+ghost use Rattle.std.specs.List.{filter, prefix_len};
+ghost use Rattle.std.specs.Prelude.{false, length, ◌≡◌, ◌≤◌};
+
+use salt_model::Lock;
+use salt_ranges::KeyRange;
+use salt_values::Key;
+
+fn is_low_at_most(lo: &Option<Key>, other: &Option<Key>) -> bool
+    ensures { result ≡ is_low_at_most lo.now other.now }
+{
+    match (lo, other) {
+        (Some(lo), Some(other)) => lo <= other,
+        (Some(_), None) => false,
+        (None, _) => true,
+    }
+}
+
+fn ends_meet(lo: &Option<Key>, hi: &Option<Key>) -> bool
+    ensures { result ≡ ends_meet lo.now hi.now }
+{
+    match (lo, hi) {
+        (Some(lo), Some(hi)) => lo <= hi,
+        _ => true,
+    }
+}
+
+/// How many of the locks are on lesser tables.
+fn count_before(locks: &[Lock], table: u16) -> usize
+    requires { AreInOrder locks.now }
+    ensures value { result ≡ prefix_len (is_up_to table (λ lo. false)) locks.now }
+    ensures bound { result ≤ length locks.now }
+{
+    locks.partition_point(
+        |lock: &Lock| -> bool
+            ensures { result ≡ is_up_to table (λ lo. false) lock.now }
+        { lock.table < table },
+    )
+}
+
+/// How many of the locks are on lesser tables, or on this one with a lower end that is not above an upper end.
+fn count_to(locks: &[Lock], table: u16, hi: &Option<Key>) -> usize
+    requires { AreInOrder locks.now }
+    ensures value { result ≡ prefix_len (is_up_to table (λ lo. ends_meet lo hi.now)) locks.now }
+    ensures bound { result ≤ length locks.now }
+{
+    locks.partition_point(
+        |lock: &Lock| -> bool
+            ensures { result ≡ is_up_to table (λ lo. ends_meet lo hi.entry.now) lock.now }
+        { lock.table < table || (lock.table == table && ends_meet(&lock.range.lo, hi)) },
+    )
+}
+
+/// How many of the locks stand no later than one on this table with this lower end.
+pub fn count_no_later(locks: &[Lock], table: u16, low: &Option<Key>) -> usize
+    requires { AreInOrder locks.now }
+    ensures value { result ≡ prefix_len (is_up_to table (λ lo. is_low_at_most lo low.now)) locks.now }
+    ensures bound { result ≤ length locks.now }
+{
+    locks.partition_point(
+        |lock: &Lock| -> bool
+            ensures { result ≡ is_up_to table (λ lo. is_low_at_most lo low.entry.now) lock.now }
+        { lock.table < table || (lock.table == table && is_low_at_most(&lock.range.lo, low)) },
+    )
+}
+
+/// The locks of a table whose lower end is not above a range's upper end.
+pub fn near<'a>(locks: &'a [Lock], table: u16, range: &KeyRange) -> &'a [Lock]
+    requires { AreInOrder locks.now }
+    ensures { result.now ≡ filter (is_near table range.now) locks.now }
+{
+    let before = count_before(locks, table);
+    let to = count_to(locks, table, &range.hi);
+    &locks[before..to]
+}

@@ -1,0 +1,216 @@
+//! The lock table.
+
+ghost use Rattle.salt_keeps.specs.KeptLocks.{Numbered};
+ghost use Rattle.salt_locks.specs.Places.{AreInOrder, is_near};
+ghost use Rattle.salt_locks.specs.Tables.{Answers, is_of_another, locks_in, numbered, numbers_in, owners_against, put, salted, salted_lock};
+ghost use Rattle.salt_locks.specs.declared.table.TakeErr.TheVariants.{Memory};
+ghost use Rattle.salt_model.specs.Locks.{lock_of};
+ghost use Rattle.std.specs.List.{filter};
+ghost use Rattle.std.specs.Prelude.{IfOk, OnErr, OnOk, [], length, map, ◌≡◌};
+
+use crate::clash::owners_against;
+use crate::owners::is_same_owner;
+use crate::places::{count_no_later, near};
+use salt_model::{Family, Lock, Owner, Owners, Reach};
+use salt_ranges::KeyRange;
+use salt_values::{Id, Key, TryCopy};
+use std::alloc::{AllocError, Global};
+use std::marker::Model;
+
+/// Why no lock is taken.
+#[derive(Drop)]
+pub enum TakeErr {
+    /// Those whose locks clash with it, units before programs, each in order of their names.
+    Conflict(Owners),
+    /// Memory ran out.
+    Memory,
+}
+
+impl From<AllocError> for TakeErr {
+    ghost from_gives = { λ _ e. e ≡ Memory };
+
+    fn from(_e: AllocError) -> TakeErr {
+        TakeErr::Memory
+    }
+}
+
+/// The held locks, by table and then by lower end, those without one first, and of each the number of its statement.
+/// Contracts see a list of locks with their numbers.
+#[derive(Drop)]
+pub struct LockTable {
+    numbers: Vec<u64>,
+    locks: Vec<Lock>,
+}
+
+impl Model for LockTable {
+    ghost use Rattle.salt_keeps.specs.KeptLocks.{Numbered};
+    ghost use Rattle.salt_locks.specs.Places.{AreInOrder};
+    ghost use Rattle.salt_locks.specs.Tables.{numbered};
+    ghost use Rattle.std.specs.Prelude.{List, length, ◌≡◌};
+
+    ghost Value = { List Numbered };
+
+    ghost view = { λ t. numbered t.numbers.items t.locks.items };
+
+    ghost invariant = { λ t. (length t.numbers.items ≡ length t.locks.items) × AreInOrder t.locks.items };
+}
+
+fn copy_end(alloc: Global, end: &Option<Key>) -> Result<Option<Key>, AllocError>
+    ensures { IfOk result (λ made. made ≡ end.now) }
+{
+    match end {
+        Some(key) => Ok(Some(key.copy(alloc)?)),
+        None => Ok(None),
+    }
+}
+
+fn lock_of(alloc: Global, owner: Owner, family: Family, reach: &Reach) -> Result<Lock, AllocError>
+    ensures { IfOk result (λ lock. lock ≡ lock_of owner family reach.now) }
+{
+    Ok(Lock {
+        owner,
+        family,
+        mode: reach.mode,
+        table: reach.table,
+        range: KeyRange {
+            lo: copy_end(alloc, &reach.range.lo)?,
+            hi: copy_end(alloc, &reach.range.hi)?,
+        },
+    })
+}
+
+fn salt_lock(unit: Id, base: Id, lock: &mut Lock)
+    ensures { lock.new ≡ salted_lock unit base lock.old }
+{
+    if is_same_owner(Owner::Unit(unit), lock.owner) {
+        lock.owner = Owner::Base(base);
+        lock.family = Family::Saline;
+    }
+}
+
+fn salt_all(unit: Id, base: Id, locks: &mut Vec<Lock>)
+    ensures { locks.new.items ≡ map (salted_lock unit base) locks.old.items }
+{
+    let mut at = 0;
+    while at < locks.len() {
+        salt_lock(unit, base, &mut locks[at]);
+        at += 1;
+    }
+}
+
+/// Leaves the numbers of the locks of others.
+fn drop_numbers(owner: Owner, numbers: &mut Vec<u64>, locks: &[Lock])
+    requires { length numbers.old.items ≡ length locks.now }
+    ensures { numbers.new.items ≡ map (λ n. n.number) (filter (is_of_another owner) (numbered numbers.old.items locks.now)) }
+{
+    let mut kept = 0;
+    let mut at = 0;
+    while at < locks.len() {
+        if !is_same_owner(owner, locks[at].owner) {
+            numbers[kept] = numbers[at];
+            kept += 1;
+        }
+        at += 1;
+    }
+    numbers.truncate(kept);
+}
+
+impl LockTable {
+    /// No lock is held.
+    pub fn new(alloc: Global) -> LockTable
+        ensures { result ≡ [] }
+    {
+        LockTable {
+            numbers: Vec::new(alloc),
+            locks: Vec::new(alloc),
+        }
+    }
+
+    /// The held locks, by table and then by lower end, those without one first.
+    pub fn held(&self) -> &[Lock]
+        ensures locks { result.now ≡ locks_in self.now }
+        ensures order { AreInOrder result.now }
+    {
+        &self.locks
+    }
+
+    /// Of each held lock the number of its statement.
+    pub fn numbers(&self) -> &[u64]
+        ensures { result.now ≡ numbers_in self.now }
+    {
+        &self.numbers
+    }
+
+    /// Those of the held locks that are on this table and whose lower end is not above the range's upper end.
+    pub fn near(&self, table: u16, range: &KeyRange) -> &[Lock]
+        ensures { result.now ≡ filter (is_near table range.now) (locks_in self.now) }
+    {
+        near(&self.locks, table, range)
+    }
+
+    /// The owners whose locks clash with what is asked, units before programs, each in order of their names. Takes no lock.
+    pub fn clashing(
+        &self,
+        alloc: Global,
+        owner: Owner,
+        family: Family,
+        reach: &Reach,
+    ) -> Result<Owners, AllocError>
+        ensures { IfOk result (λ owners. owners ≡ owners_against owner family reach.now (locks_in self.now)) }
+    {
+        owners_against(
+            alloc,
+            self.near(reach.table, &reach.range),
+            owner,
+            family,
+            reach,
+        )
+    }
+
+    /// Puts a lock in its place; without memory all stays.
+    fn put(&mut self, number: u64, lock: Lock) -> Result<(), AllocError>
+        ensures ok { OnOk result (self.new ≡ put (record { number = number; lock = lock }) self.old) }
+        ensures err { OnErr result (self.new ≡ self.old) }
+    {
+        self.numbers.reserve(1)?;
+        let place = count_no_later(&self.locks, lock.table, &lock.range.lo);
+        self.locks.insert(place, lock)?;
+        self.numbers.insert(place, number)?;
+        Ok(())
+    }
+
+    /// Takes a lock on what is reached, for the statement of this number. Conflict, with all owners whose locks clash with it, where
+    /// there are some; then, and without memory, nothing is taken.
+    pub fn take(
+        &mut self,
+        alloc: Global,
+        number: u64,
+        owner: Owner,
+        family: Family,
+        reach: &Reach,
+    ) -> Result<(), TakeErr>
+        ensures { Answers number owner family reach.now self.old self.new result }
+    {
+        let owners = self.clashing(alloc, owner, family, reach)?;
+        if !owners.is_empty() {
+            return Err(TakeErr::Conflict(owners));
+        }
+        self.put(number, lock_of(alloc, owner, family, reach)?)?;
+        Ok(())
+    }
+
+    /// A unit's locks become saline ones of its program.
+    pub fn to_saline(&mut self, unit: Id, base: Id)
+        ensures { self.new ≡ map (salted unit base) self.old }
+    {
+        salt_all(unit, base, &mut self.locks);
+    }
+
+    /// An owner's locks go.
+    pub fn drop_owner(&mut self, owner: Owner)
+        ensures { self.new ≡ filter (is_of_another owner) self.old }
+    {
+        drop_numbers(owner, &mut self.numbers, &self.locks);
+        self.locks.retain(|lock| !is_same_owner(owner, lock.owner));
+    }
+}
