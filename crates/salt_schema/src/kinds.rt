@@ -17,10 +17,6 @@ pub enum Kind {
     /// A value of this type.
     Value(ColType),
     /// A truth value.
-/// What an expression gives: a value of a type, or a truth value.
-#[derive(Clone, Copy, Debug, PartialEq, Eq)]
-pub enum Kind {
-    Value(ColType),
     Truth,
 }
 
@@ -175,7 +171,6 @@ fn truth_if(holds: bool) -> Option<Kind>
 fn kind_of_both(op: Op, left: Option<Kind>, right: Option<Kind>) -> Option<Kind>
     ensures { option_map kind_meant result
         ≡ option_and_then (λ k. option_and_then (judged.operation_kind op k) (option_map kind_meant right)) (option_map kind_meant left) }
-    ensures { option_map kind_meant result ≡ option_and_then (λ k. option_and_then (judged.operation_kind op k) (option_map kind_meant right)) (option_map kind_meant left) }
 {
     match (left, right) {
         (Some(left), Some(right)) => operation_kind(op, left, right),

@@ -17,7 +17,6 @@ pub struct Bindings<'a> {
     /// The parameters, which stand before the variables.
     pub params: &'a [Field],
     /// The variables.
-    pub params: &'a [Field],
     pub vars: &'a [Field],
 }
 

@@ -26,8 +26,6 @@ pub enum Fault<'a> {
     /// The name stands there, or is kept, already.
     Exists(&'a Name),
     /// A type is wrong.
-    Unknown(&'a Name),
-    Exists(&'a Name),
     Mistyped,
 }
 

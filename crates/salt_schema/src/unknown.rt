@@ -126,7 +126,6 @@ fn unknown_in_insert<'a>(
 ) -> Option<&'a Name>
     ensures { option_copied result ≡ option_or (judged.unknown_table schema.now table.now)
         (first_in (judged.unknown_in_expr [] (variables bindings.now)) values.now) }
-    ensures { option_copied result ≡ option_or (judged.unknown_table schema.now table.now) (first_in (judged.unknown_in_expr [] (variables bindings.now)) values.now) }
 {
     let table = unknown_table(schema, table);
     let values = unknown_among(&[], bindings, values);
@@ -143,7 +142,6 @@ fn unknown_in_select<'a>(
     ensures { option_copied result ≡ option_or (judged.unknown_in_what (judged.columns_of schema.now table.now) what.now)
         (option_or (judged.unknown_table schema.now table.now)
         (judged.unknown_in_scan (judged.columns_of schema.now table.now) (variables bindings.now) scan.now)) }
-        (option_or (judged.unknown_table schema.now table.now) (judged.unknown_in_scan (judged.columns_of schema.now table.now) (variables bindings.now) scan.now)) }
 {
     let columns = columns_of(schema, table);
     let what = unknown_in_what(columns, what);
@@ -197,7 +195,6 @@ fn unknown_in_delete<'a>(
 ) -> Option<&'a Name>
     ensures { option_copied result ≡ option_or (judged.unknown_table schema.now table.now)
         (judged.unknown_in_scan (judged.columns_of schema.now table.now) (variables bindings.now) scan.now) }
-    ensures { option_copied result ≡ option_or (judged.unknown_table schema.now table.now) (judged.unknown_in_scan (judged.columns_of schema.now table.now) (variables bindings.now) scan.now) }
 {
     let scan = unknown_in_scan(columns_of(schema, table), bindings, scan);
     let table = unknown_table(schema, table);
