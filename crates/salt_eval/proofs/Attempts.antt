@@ -1,5 +1,4 @@
 -- A statement attempted is the statement done, or its cause.
-use Rattle.salt_ast.specs.declared.trees.Expr.{Expr}
 use Rattle.salt_ast.specs.declared.trees.Statement.TheVariants.{Delete, Ensure, Insert, Select, SelectInto, Update}
 use Rattle.salt_ast.specs.declared.trees.Statement.{Statement}
 use Rattle.salt_ast.specs.declared.trees.TableDef.{TableDef}
@@ -17,7 +16,7 @@ use Rattle.salt_model.specs.declared.events.Cause.{Cause}
 use Rattle.salt_model.specs.declared.vars.Binding.{Binding}
 use Rattle.salt_schema.specs.Schemas.{table_number}
 use Rattle.salt_values.specs.declared.change.Change.{Change}
-use Rattle.std.proofs.Common.{ap, subst, sym, ◌∙◌}
+use Rattle.std.proofs.Common.{ap, subst, ◌∙◌}
 use Rattle.std.specs.Prelude.{Bool, Err, List, None, Ok, Option, Result, Some, [], cond, false, option_and_then, refl, slice_get, true, ℕ, ◌≡◌}
 
 -- what is told of a statement by what was attempted

@@ -2,9 +2,9 @@
 use Rattle.salt_ast.specs.declared.trees.Expr.{Expr}
 use Rattle.salt_ast.specs.declared.trees.TableDef.{TableDef}
 use Rattle.salt_eval.proofs.InOrder.{less_is, parted}
-use Rattle.salt_eval.proofs.Nexts.{and_true, both_true}
+use Rattle.salt_eval.proofs.Nexts.{both_true}
 use Rattle.salt_eval.specs.Filtered.{filtered}
-use Rattle.salt_eval.specs.Scans.{IsKeyed, gathered, range_rows}
+use Rattle.salt_eval.specs.Scans.{IsKeyed, gathered}
 use Rattle.salt_eval.specs.Views.{is_next, rows_after}
 use Rattle.salt_model.specs.Eval as eval
 use Rattle.salt_model.specs.Reaches.{in_row}
@@ -22,7 +22,7 @@ use Rattle.std.proofs.lemmas.Bool.{eqb-true}
 use Rattle.std.proofs.lemmas.Cmp.{tied_itself}
 use Rattle.std.specs.FinMap.Entries.{below_all, find, is_sorted}
 use Rattle.std.specs.List.{cons_option, filter}
-use Rattle.std.specs.Ordering.{eq_by_cmp, is_eq}
+use Rattle.std.specs.Ordering.{is_eq}
 use Rattle.std.specs.Prelude.{Bool, Err, IfSome, List, None, Ok, Option, Result, Some, [], cond, false, fold, map, refl, true, ℕ, ◌&&◌, ◌==◌, ◌∷◌, ◌≡◌}
 use Rattle.std.specs.declared.cmp.Ordering.TheVariants.{Equal, Greater, Less}
 use Rattle.std.specs.declared.cmp.Ordering.{Ordering}

@@ -3,7 +3,6 @@ use Rattle.salt_ast.specs.declared.trees.Expr.{Expr}
 use Rattle.salt_ast.specs.declared.trees.Scan.{Scan}
 use Rattle.salt_ast.specs.declared.trees.Set.{Set}
 use Rattle.salt_ast.specs.declared.trees.Statement.TheVariants.{Delete, Ensure, Insert, Select, SelectInto, Update}
-use Rattle.salt_ast.specs.declared.trees.Statement.{Statement}
 use Rattle.salt_ast.specs.declared.trees.TableDef.{TableDef}
 use Rattle.salt_ast.specs.declared.trees.What.{What}
 use Rattle.salt_eval.proofs.Collected.{gathered-collected, rows-at_keys}
@@ -28,7 +27,7 @@ use Rattle.salt_exprs.specs.declared.resolved.Resolved.{Resolved}
 use Rattle.salt_exprs.specs.declared.sets.ResolvedSet.{ResolvedSet}
 use Rattle.salt_model.specs.Eval.{holds, value_of, values_of}
 use Rattle.salt_model.specs.Reaches.{first_value, in_row, key_reached, no_row, range_of, reach_in, reached}
-use Rattle.salt_model.specs.Statements.{Done, answering, change_to, changing, checked, collect, column_of, do_in, inserted, on_match, removed, seen, set_var, shown, stored, updated, with_sets}
+use Rattle.salt_model.specs.Statements.{answering, change_to, changing, checked, collect, column_of, inserted, on_match, removed, seen, shown, stored, updated, with_sets}
 use Rattle.salt_model.specs.Tables.{Entry, Tables, is_within, key_of, place, row_at, rows_in}
 use Rattle.salt_model.specs.Words.{and_then}
 use Rattle.salt_model.specs.declared.events.Answer.TheVariants.{Count, Held, Stored}
@@ -47,7 +46,7 @@ use Rattle.std.proofs.Common.{ap, append-nil, append_assoc, subst, sym, ◌∙�
 use Rattle.std.proofs.lemmas.Cmp.{tied_itself, upto}
 use Rattle.std.specs.List.{filter}
 use Rattle.std.specs.Ordering.{is_eq, is_gt}
-use Rattle.std.specs.Prelude.{Bool, Err, List, None, Ok, Option, Result, Some, [], cond, false, fold, is_some, length, map, not, refl, true, ℕ, ⊤, ◌&&◌, ◌++◌, ◌==◌, ◌∷◌, ◌≡◌}
+use Rattle.std.specs.Prelude.{Bool, Err, List, None, Ok, Option, Result, Some, [], cond, false, fold, is_some, length, map, not, refl, true, ℕ, ◌&&◌, ◌++◌, ◌==◌, ◌∷◌, ◌≡◌}
 
 low-high : (lo hi : Option Value) (k : Value) → is_above_low lo k ≡ true → is_below_high hi k ≡ true → ends_meet lo hi ≡ true
 low-high None hi k a b = refl

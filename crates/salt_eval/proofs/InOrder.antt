@@ -11,9 +11,8 @@ use Rattle.std.specs.Prelude.{Bool, List, None, Option, Some, [], cond, false, r
 use Rattle.std.specs.declared.cmp.Ordering.TheVariants.{Equal, Greater, Less}
 use Rattle.std.specs.declared.cmp.Ordering.{Ordering}
 use Rattle.salt_eval.specs.Views.{tables_of}
-use Rattle.salt_model.specs.Tables.{Entry, Tables, place_cmp, place_total, row_at}
+use Rattle.salt_model.specs.Tables.{Entry, place_cmp, place_total, row_at}
 use Rattle.salt_model.specs.declared.places.Place.{Place}
-use Rattle.salt_values.specs.declared.value.Value.{Value}
 use lib.Dec.{T}
 
 pub joined : (a b : Bool) → T a → T b → T (a && b)

@@ -1,9 +1,9 @@
 -- A view asked for one row after another shows the rows of a range.
 use Rattle.salt_eval.proofs.InOrder.{less_is, parted}
-use Rattle.salt_eval.proofs.Nexts.{and_true, both_true, not_above, same_table}
-use Rattle.salt_eval.specs.Scans.{IsKeyed, gathered, range_rows, row_list}
+use Rattle.salt_eval.proofs.Nexts.{and_true, both_true, same_table}
+use Rattle.salt_eval.specs.Scans.{IsKeyed, gathered}
 use Rattle.salt_eval.specs.Views.{is_behind, is_next, next_row, rows_after}
-use Rattle.salt_model.specs.Tables.{Entry, Tables, key_of, place, place_cmp, place_total, row_at}
+use Rattle.salt_model.specs.Tables.{Entry, Tables, key_of, place, place_cmp, place_total}
 use Rattle.salt_model.specs.Words.{and_then, first_of_list}
 use Rattle.salt_model.specs.declared.events.Cause.{Cause}
 use Rattle.salt_model.specs.declared.places.Place.{Place}
@@ -15,7 +15,7 @@ use Rattle.std.proofs.Common.{ap, arith, subst, sym, ◌∙◌}
 use Rattle.std.proofs.lemmas.Bool.{eqb-true}
 use Rattle.std.proofs.lemmas.Cmp.{tied_itself}
 use Rattle.std.specs.FinMap.Entries.{below_all, find, is_sorted, where_key}
-use Rattle.std.specs.Ordering.{eq_by_cmp, is_eq, is_gt, is_lt, ordering_reverse}
+use Rattle.std.specs.Ordering.{eq_by_cmp, is_eq, is_lt, ordering_reverse}
 use Rattle.std.specs.Prelude.{Bool, Err, IfSome, List, None, Ok, Option, Result, Some, [], cond, false, length, map, option_map, refl, true, ℕ, ◌&&◌, ◌==◌, ◌<◌, ◌∷◌, ◌≡◌}
 use Rattle.std.specs.declared.cmp.Ordering.TheVariants.{Equal, Greater, Less}
 use Rattle.std.specs.declared.cmp.Ordering.{Ordering}

@@ -1,7 +1,7 @@
 -- What is gathered of a range by a filter is what a SELECT shows.
 use Rattle.salt_ast.specs.declared.trees.Expr.{Expr}
 use Rattle.salt_ast.specs.declared.trees.TableDef.{TableDef}
-use Rattle.salt_ast.specs.declared.trees.What.TheVariants.{All, Columns, Count, Max, Min, Sum}
+use Rattle.salt_ast.specs.declared.trees.What.TheVariants.{All, Columns, Count, Sum}
 use Rattle.salt_ast.specs.declared.trees.What.{What}
 use Rattle.salt_eval.proofs.Collected.{gathered-collected, rows-at_keys}
 use Rattle.salt_eval.proofs.Showing.{best-shown, best_in, columns-shown, count-shown, rows-shown, sum-shown}
@@ -20,7 +20,7 @@ use Rattle.salt_eval.specs.declared.shown.RowCount.{RowCount}
 use Rattle.salt_eval.specs.declared.shown.WholeRows.{WholeRows}
 use Rattle.salt_exprs.specs.Names.{IsNumberOf}
 use Rattle.salt_model.specs.Statements.{collect, column_of, on_match, seen, shown, total, values_in}
-use Rattle.salt_model.specs.Tables.{Entry, Tables, key_of, place}
+use Rattle.salt_model.specs.Tables.{Tables}
 use Rattle.salt_model.specs.Words.{and_then}
 use Rattle.salt_model.specs.declared.events.Answer.TheVariants.{Cell, Rows}
 use Rattle.salt_model.specs.declared.events.Answer.{Answer}
@@ -32,7 +32,7 @@ use Rattle.salt_values.specs.declared.value.Value.TheVariants.{Int}
 use Rattle.salt_values.specs.declared.value.Value.{Value}
 use Rattle.std.proofs.Common.{ap, arith, subst, sym, ◌∙◌}
 use Rattle.std.proofs.lemmas.Int.{ints}
-use Rattle.std.specs.Prelude.{Bool, Err, List, None, Ok, Option, Result, Some, [], cond, false, fold, length, map, pos, refl, true, ℕ, ℤ, ⊤, ◌++◌, ◌+ℤ◌, ◌∷◌, ◌≡◌}
+use Rattle.std.specs.Prelude.{Bool, Err, List, None, Ok, Option, Result, Some, [], false, fold, length, map, pos, refl, true, ℕ, ℤ, ⊤, ◌++◌, ◌+ℤ◌, ◌∷◌, ◌≡◌}
 
 -- what is shown, or done, is what is gathered, finished
 pub record ShownBy {S A : Type 0} (meant : Result A Cause) (got : Result S Cause) (finish : S → Result A Cause) : Type 0 where

@@ -16,7 +16,6 @@ use Rattle.std.proofs.Common.{append-nil, append_assoc, ap, arith, sym, ◌∙�
 use Rattle.std.proofs.lemmas.Int.{ints}
 use Rattle.std.proofs.lemmas.Cmp.{upto}
 use Rattle.std.specs.Ordering.{is_gt, is_lt, ordering_reverse}
-use Rattle.std.specs.List.{filter}
 use Rattle.std.specs.Prelude.{Bool, List, None, Option, Some, [], cond, false, fold, length, map, not, pos, refl, suc, true, unwrap_or, ℕ, ℤ, ◌++◌, ◌+ℤ◌, ◌∷◌, ◌≡◌}
 use Rattle.std.specs.declared.cmp.Ordering.TheVariants.{Equal, Greater, Less}
 use Rattle.std.specs.declared.cmp.Ordering.{Ordering}

@@ -1,15 +1,14 @@
 -- The table that a statement names, by its number.
 use Rattle.salt_ast.specs.declared.trees.Statement.{Statement}
 use Rattle.salt_ast.specs.declared.trees.TableDef.{TableDef}
-use Rattle.salt_model.specs.Reaches.{reach, reach_at, reach_in, table_for, table_from, table_in, table_named}
-use Rattle.salt_model.specs.declared.locks.Reach.{Reach}
+use Rattle.salt_model.specs.Reaches.{reach, reach_at, reach_in, table_from, table_in, table_named}
 use Rattle.salt_model.specs.declared.vars.Binding.{Binding}
 use Rattle.salt_schema.specs.Definitions.{is_named}
 use Rattle.salt_schema.specs.Schemas.{table_number}
 use Rattle.salt_tokens.specs.Spelling.{same_bytes}
 use Rattle.std.proofs.Common.{ap, arith, sym, ◌∙◌}
 use Rattle.std.specs.List.{position_from}
-use Rattle.std.specs.Prelude.{Bool, List, None, Option, Some, [], cond, false, option_and_then, option_map, refl, slice_get, suc, true, ℕ, ◌+◌, ◌∷◌, ◌≡◌, ◌≤◌, ◌-◌}
+use Rattle.std.specs.Prelude.{Bool, List, None, Option, Some, [], cond, false, option_and_then, option_map, refl, slice_get, suc, true, ℕ, ◌+◌, ◌∷◌, ◌≡◌, ◌-◌}
 
 numbered : (n : ℕ) (name : List ℕ) (schema : List TableDef) → option_map (λ (d : ℕ × TableDef). d.0) (table_from n name schema) ≡ position_from (is_named (λ (d : TableDef). d.name) name) n schema
 numbered n name [] = refl

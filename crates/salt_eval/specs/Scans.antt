@@ -1,11 +1,10 @@
 -- Rows of a range, gathered one after another.
-use Rattle.salt_eval.specs.Views.{CountsFaults, rows_after}
+use Rattle.salt_eval.specs.Views.{rows_after}
 use Rattle.salt_exprs.specs.declared.error.EvalErr.TheVariants as eval
 use Rattle.salt_exprs.specs.declared.error.EvalErr.{EvalErr}
 use Rattle.salt_eval.specs.declared.error.StatementErr.TheVariants.{Cause, View}
 use Rattle.salt_eval.specs.declared.error.StatementErr.{StatementErr}
 use Rattle.salt_eval.specs.declared.view.ViewErr.TheVariants.{Fault, Memory}
-use Rattle.salt_eval.specs.declared.view.ViewErr.{ViewErr}
 use Rattle.salt_exprs.specs.Operands as exprs
 use Rattle.salt_io.specs.Streams.{Rose}
 use Rattle.salt_model.specs.Tables.{Tables, key_of, row_at}
@@ -15,7 +14,7 @@ use Rattle.salt_model.specs.declared.places.Place.{Place}
 use Rattle.salt_ranges.specs.declared.range.KeyRange.{KeyRange}
 use Rattle.salt_values.specs.Value.{is_same_value}
 use Rattle.salt_values.specs.declared.value.Value.{Value}
-use Rattle.std.specs.Prelude.{Bool, Err, IfSome, List, None, Ok, Option, Result, Some, [], if◌then◌else◌, map, ℕ, ⊤, ◌∷◌, ◌≡◌}
+use Rattle.std.specs.Prelude.{Err, IfSome, List, None, Ok, Option, Result, Some, [], if◌then◌else◌, map, ℕ, ⊤, ◌∷◌, ◌≡◌}
 
 abbrev pub statement_err : EvalErr → StatementErr
 statement_err (eval.Cause c) = Cause c

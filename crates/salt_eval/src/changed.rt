@@ -1,6 +1,6 @@
 //! The changes that an UPDATE and a DELETE gather.
 
-ghost use Rattle.std.specs.Prelude.{◌≡◌, ◌++◌, ◌∷◌, [], None, Ok};
+ghost use Rattle.std.specs.Prelude.{◌++◌, ◌∷◌, [], None, Ok};
 ghost use Rattle.salt_model.specs.Statements.{change_to};
 ghost use Rattle.salt_model.specs.Tables.{key_of, place};
 
