@@ -1,0 +1,4 @@
+pub mod Names
+pub mod Pairs
+pub mod Due
+pub mod Kept
