@@ -1,0 +1,4 @@
+pub mod Showing
+pub mod WithinSchema
+pub mod ShownWithin
+pub mod Stays
