@@ -103,6 +103,7 @@ pub trait Disks {
     fn reject(&mut self)
         requires { (view self.old).told ≡ false }
         ensures faults { Rose (view self.old).faults (view self.new).faults }
+        ensures later { (view self.old).faults ≤ (view self.new).faults }
         ensures stops { (view self.new).stops_left ≡ (view self.old).stops_left }
         ensures kept { AreUnchanged (view self.old) (view self.new) };
 }
