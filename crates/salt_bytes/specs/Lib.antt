@@ -1,0 +1,14 @@
+pub mod Taking
+pub mod Numbers
+pub mod Values
+pub mod Log
+pub mod Ids
+pub mod Formats
+pub mod Conts
+pub mod Coordinator
+pub mod Changes
+pub mod Partition
+pub mod Page
+pub mod Generations
+pub mod Spellable
+pub mod Examples

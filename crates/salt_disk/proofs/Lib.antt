@@ -1,0 +1,5 @@
+pub mod CallAfterCall
+mod DeviceLists
+mod MarksMade
+mod Left
+mod Seen

@@ -1,0 +1,8 @@
+pub mod Bytes
+pub mod Steps
+pub mod Appends
+pub mod Creates
+pub mod Frame
+pub mod Opens
+pub mod Entries
+mod Opening

@@ -1,0 +1,10 @@
+//! A log of entries on one device. Each entry stands behind a gate: one byte, that is closed on the disk before the entry is
+//! written and is opened by a write of its own. So a stop leaves the entries from before, with the new one or without it.
+#![tactic(auto)]
+
+mod entry;
+mod log;
+mod open;
+
+pub use log::{GateLog, create};
+pub use open::{LogErr, open_log};

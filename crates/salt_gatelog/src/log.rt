@@ -1,0 +1,99 @@
+//! The log, and what is added to it.
+ghost use Rattle.std.specs.Prelude.{◌≡◌, ◌⊎◌, ℕ, ◌+◌, ◌<◌, ◌++◌, [], ◌∷◌, IsTrue, List, length, IfOk, OnErr, OnOk};
+ghost use Rattle.std.specs.Result.{result_err};
+ghost use Rattle.salt_disk.specs.Disks.{EachImage, FullExactly, FullOnly, HasCause, IsSettled, KeepsAll, KeepsOthers, OnlyFails};
+ghost use Rattle.salt_bytes.specs.Log.{framed, entries_in};
+ghost use Rattle.salt_gatelog.specs.Log.{HasClosedGate, IsBeforeOrWith, IsLog, count_of, device_of, gate_of};
+
+use salt_disk::{DiskErr, Disks, write_and_sync};
+use std::alloc::{AllocError, Global};
+
+/// The log of one device: where its closed gate stands, how many entries it has, and which was found last.
+#[derive(Debug, Drop)]
+pub struct GateLog {
+    pub(crate) dev: u32,
+    pub(crate) end: u64,
+    pub(crate) count: u64,
+    // the gate of the entry of this number stands at `place`; with no such entry, it is the closed gate
+    pub(crate) next: u64,
+    pub(crate) place: u64,
+}
+
+/// Leaves an empty log on a device on which nothing is pending. A first byte that is there and is not 1 is a closed gate, and
+/// then no byte is written. Whatever it answers, each image of the device is blank or has the bytes that it had.
+pub fn create<D: Disks>(disks: &mut D, dev: u32) -> Result<GateLog, DiskErr>
+    requires known { dev < (D.view disks.old).count }
+    requires settled { IsSettled (D.view disks.old) dev }
+
+    ensures log { IfOk result (λ log. (device_of log ≡ dev) × IsLog (D.view disks.new) log []) }
+    ensures images { EachImage (D.view disks.new) dev (λ c. (entries_in c ≡ Some []) ⊎ (c ≡ (D.view disks.old).bytes dev)) }
+
+    ensures closed { IsTrue (D.view disks.old).told → HasClosedGate ((D.view disks.old).bytes dev) → KeepsAll (D.view disks.old) (D.view disks.new) (result_err result) }
+    ensures unwritten { IsTrue (D.view disks.old).told → HasClosedGate ((D.view disks.old).bytes dev) → OnlyFails (result_err result) }
+
+    ensures others { KeepsOthers dev (D.view disks.old) (D.view disks.new) (result_err result) }
+    ensures cause { HasCause (D.view disks.old) (D.view disks.new) (result_err result) }
+    ensures full { FullOnly dev ((D.view disks.old).limit dev) 1 (result_err result) }
+{
+    let mut first = [1; 1];
+    let count = disks.read(dev, 0, &mut first)?;
+    if count == 0 || first[0] == 1 {
+        write_and_sync(disks, dev, 0, &[0])?;
+    }
+    Ok(GateLog {
+        dev,
+        end: 0,
+        count: 0,
+        next: 0,
+        place: 0,
+    })
+}
+
+impl GateLog {
+    /// How many entries there are.
+    pub fn count(&self) -> u64
+        ensures { result ≡ count_of self.now }
+    {
+        self.count
+    }
+
+    /// Adds an entry. After Ok each image of the device has it. Whatever the call answers, each image stands for the entries from
+    /// before, with the new one or without it. `Full` comes where the entry and the next closed gate would pass the limit.
+    /// After an error the log is the same value, and is opened again before it is used.
+    pub fn append<D: Disks>(
+        &mut self,
+        alloc: Global,
+        disks: &mut D,
+        payload: &[u8],
+    ) -> Result<(), DiskErr>
+        requires { (entries : List (List ℕ)) × IsLog (D.view disks.old) self.old entries }
+
+        ensures ok { (entries : List (List ℕ)) → IsLog (D.view disks.old) self.old entries → OnOk result (IsLog (D.view disks.new) self.new (entries ++ payload.now ∷ [])) }
+        ensures images { (entries : List (List ℕ)) → IsLog (D.view disks.old) self.old entries → EachImage (D.view disks.new) (device_of self.old) (IsBeforeOrWith entries payload.now) }
+
+        ensures others { KeepsOthers (device_of self.old) (D.view disks.old) (D.view disks.new) (result_err result) }
+        ensures cause { HasCause (D.view disks.old) (D.view disks.new) (result_err result) }
+        ensures full { FullExactly (device_of self.old) ((D.view disks.old).limit (device_of self.old)) (gate_of self.old + 10 + length payload.now) (result_err result) }
+        ensures device { device_of self.new ≡ device_of self.old }
+        ensures err { OnErr result (self.new ≡ self.old) }
+    {
+        let frame = frame_of(alloc, payload)?;
+        write_and_sync(disks, self.dev, self.end + 1, &frame)?;
+        write_and_sync(disks, self.dev, self.end, &[1])?;
+        self.end += 9 + payload.len() as u64;
+        self.count += 1;
+        Ok(())
+    }
+}
+
+// What is written behind the closed gate: the length, the payload, and the next closed gate.
+fn frame_of(alloc: Global, payload: &[u8]) -> Result<Vec<u8>, AllocError>
+    ensures { IfOk result (λ frame. frame.items ≡ framed payload.now ++ 0 ∷ []) }
+{
+    let mut frame = Vec::new(alloc);
+    let len = payload.len() as u64;
+    frame.extend_from_slice(&len.to_be_bytes())?;
+    frame.extend_from_slice(payload)?;
+    frame.push(0)?;
+    Ok(frame)
+}
