@@ -5,8 +5,8 @@ use Rattle.salt_ast.specs.declared.programs.Next.{Next}
 use Rattle.salt_ast.specs.declared.programs.PartDef.{PartDef}
 use Rattle.salt_ast.specs.declared.programs.ProgramDef.{ProgramDef}
 use Rattle.salt_cont.specs.Moves.{move_on}
-use Rattle.salt_cont.specs.declared.moves.Move.TheVariants as move
-use Rattle.salt_cont.specs.declared.moves.Move.{Move}
+use Rattle.salt_bytes.specs.declared.moves.Move.TheVariants as move
+use Rattle.salt_bytes.specs.declared.moves.Move.{Move}
 use Rattle.salt_values.specs.declared.cont.Cont.{Cont}
 use Rattle.salt_values.specs.declared.value.Value.{Value}
 use Rattle.salt_values.specs.declared.value.Value.TheVariants as value

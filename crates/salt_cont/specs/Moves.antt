@@ -5,8 +5,8 @@ use Rattle.salt_ast.specs.declared.programs.Body.TheVariants as body
 use Rattle.salt_ast.specs.declared.programs.PartDef.{PartDef}
 use Rattle.salt_ast.specs.declared.programs.ProgramDef.{ProgramDef}
 use Rattle.salt_cont.specs.declared.places.Place.{Place}
-use Rattle.salt_cont.specs.declared.moves.Move.TheVariants as move
-use Rattle.salt_cont.specs.declared.moves.Move.{Move}
+use Rattle.salt_bytes.specs.declared.moves.Move.TheVariants as move
+use Rattle.salt_bytes.specs.declared.moves.Move.{Move}
 use Rattle.salt_program.specs.Refusals.{parts_in}
 use Rattle.salt_values.specs.declared.cont.Cont.{Cont}
 use Rattle.salt_values.specs.declared.value.Value.{Value}

@@ -4,9 +4,9 @@ ghost use Rattle.std.specs.Prelude.{◌≡◌, ◌<◌, ◌^◌, IfOk, IfSome, o
 ghost use Rattle.salt_ast.specs.Paths as paths;
 ghost use Rattle.salt_cont.specs.Moves.{LeadOn, move_on, next_from, parts_named, position_meant, with_place};
 
-use crate::moves::Move;
 use crate::ways::{at_number, parts_named, retries, way_on_commit, way_on_failure};
 use salt_ast::PartDef;
+use salt_bytes::Move;
 use salt_program::Catalogue;
 use salt_values::{Cont, Row, TryCopy};
 use std::alloc::{AllocError, Global};

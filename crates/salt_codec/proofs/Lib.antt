@@ -1,0 +1,4 @@
+mod Bytes
+mod Fronts
+mod Puts
+mod Values

@@ -1,0 +1,9 @@
+pub mod Known
+pub mod Generations
+pub mod Definitions
+pub mod Units
+pub mod Continuations
+pub mod Moves
+pub mod Entries
+pub mod Runs
+pub mod Witness

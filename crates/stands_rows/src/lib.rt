@@ -1,0 +1,2 @@
+//! Images of devices, each with what it stands for.
+#![tactic(auto)]
