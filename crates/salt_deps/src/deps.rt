@@ -119,6 +119,13 @@ impl Deps {
         Ok(Items::from_vec(released))
     }
 
+    /// Whether the program is finished and not yet released.
+    pub fn is_finished(&self, base: Id) -> bool
+        ensures { result ≡ (dependencies self.now).finished base }
+    {
+        has(&self.finished, base)
+    }
+
     /// The program and all that it reads from, directly or through programs, in order of names.
     pub fn sources(&self, base: Id) -> Result<Ids, AllocError>
         ensures all { IfOk result (λ sources. (c : Id) → In c sources ↔ Through (dependencies self.now).reads base c) }

@@ -179,6 +179,22 @@ impl LockTable {
         Ok(())
     }
 
+    /// Takes a lock on what is reached, for the statement of this number, where the caller knows of no clash. Without memory nothing
+    /// is taken.
+    pub fn grant(
+        &mut self,
+        alloc: Global,
+        number: u64,
+        owner: Owner,
+        family: Family,
+        reach: &Reach,
+    ) -> Result<(), AllocError>
+        ensures ok { OnOk result (self.new ≡ put (record { number = number; lock = lock_of owner family reach.now }) self.old) }
+        ensures err { OnErr result (self.new ≡ self.old) }
+    {
+        self.put(number, lock_of(alloc, owner, family, reach)?)
+    }
+
     /// Takes a lock on what is reached, for the statement of this number. Conflict, with all owners whose locks clash with it, where
     /// there are some; then, and without memory, nothing is taken.
     pub fn take(
@@ -195,7 +211,7 @@ impl LockTable {
         if !owners.is_empty() {
             return Err(TakeErr::Conflict(owners));
         }
-        self.put(number, lock_of(alloc, owner, family, reach)?)?;
+        self.grant(alloc, number, owner, family, reach)?;
         Ok(())
     }
 

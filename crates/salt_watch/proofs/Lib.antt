@@ -1,0 +1,8 @@
+pub mod Same
+pub mod Goes
+pub mod Told
+pub mod Awaiting
+pub mod Steps
+pub mod Finishing
+pub mod Readable
+pub mod Others

@@ -1,0 +1,4 @@
+pub mod Waiters
+pub mod Shown
+pub mod Calls
+pub mod Watched
