@@ -1,6 +1,5 @@
 -- Tables and programs after one definition more.
-use Rattle.salt_ast.specs.Judgement.{Fault}
-use Rattle.salt_ast.specs.ProgramJudgement.{BranchFault, ProgramFault, branch_fault, in_branches, in_text, program_fault, program_named}
+use Rattle.salt_ast.specs.ProgramJudgement.{branch_fault, in_branches, program_fault, program_named}
 use Rattle.salt_ast.specs.declared.programs.Body.TheVariants.{Acid, Base}
 use Rattle.salt_ast.specs.declared.programs.Body.{Body}
 use Rattle.salt_ast.specs.declared.programs.ProgramDef.{ProgramDef}
@@ -8,9 +7,8 @@ use Rattle.salt_ast.specs.declared.trees.TableDef.{TableDef}
 use Rattle.salt_cont.specs.Moves.{LeadOn, parts_if_defined, parts_named}
 use Rattle.salt_model.specs.Kept.{Definition, OfProgram, OfTable, program_of_definition, table_of_definition}
 use Rattle.salt_program.specs.Refusals.{parts_in, program_refusal}
-use Rattle.salt_program.specs.declared.error.DefineErr.{DefineErr}
 use Rattle.salt_tokens.specs.Spelling.{same_bytes}
-use Rattle.std.proofs.Common.{ap, arith, subst, sym}
+use Rattle.std.proofs.Common.{ap}
 use Rattle.std.specs.List.{filter_map}
 use Rattle.std.specs.Option.{option_or}
 use Rattle.std.specs.Prelude.{Bool, List, None, Option, Some, [], cond, false, length, option_map, refl, true, ℕ, ◌++◌, ◌<◌, ◌^◌, ◌∷◌, ◌≡◌}

@@ -1,15 +1,12 @@
 -- What a move of a continuation makes of the list of them, and what the definitions say of it.
 use Rattle.salt_ast.specs.Paths.{Position, next_on_commit, next_on_failure}
-use Rattle.salt_ast.specs.ProgramJudgement.{program_named}
 use Rattle.salt_ast.specs.declared.programs.Body.TheVariants.{Acid, Base}
 use Rattle.salt_ast.specs.declared.programs.Body.{Body}
 use Rattle.salt_ast.specs.declared.programs.PartDef.{PartDef}
 use Rattle.salt_ast.specs.declared.programs.ProgramDef.{ProgramDef}
-use Rattle.salt_cont.specs.Moves.{move_on, move_to, next_from, parts_if_defined, parts_named, vars_behind, with_place}
-use Rattle.salt_cont.specs.declared.moves.Move.TheVariants.{Continue, Finish, Plain}
-use Rattle.salt_cont.specs.declared.moves.Move.{Move}
+use Rattle.salt_cont.specs.Moves.{move_on, move_to, parts_if_defined, parts_named, with_place}
 use Rattle.salt_laws.proofs.Defined.{named-own}
-use Rattle.salt_model.specs.Kept.{Kept, begun_cont, branch_of, change_cont, cont_in, cont_of, kept_program, moved, parts_of, programs_of, then_of, tries_left, values_kept, without_cont}
+use Rattle.salt_model.specs.Kept.{Kept, begun_cont, branch_of, cont_of, kept_program, moved, parts_of, programs_of, then_of, tries_left, values_kept}
 use Rattle.salt_model.specs.declared.events.UnitKind.TheVariants.{Later}
 use Rattle.salt_model.specs.declared.vars.Binding.{Binding}
 use Rattle.salt_store.proofs.FirstCont.{IsFirst, changed-first, found-first, left-first}
@@ -18,8 +15,7 @@ use Rattle.salt_values.specs.declared.cont.Cont.{Cont}
 use Rattle.salt_values.specs.declared.id.Id.{Id}
 use Rattle.salt_values.specs.declared.value.Value.{Value}
 use Rattle.std.proofs.Common.{ap, subst, sym, ◌∙◌}
-use Rattle.std.specs.List.{remove}
-use Rattle.std.specs.Prelude.{Bool, List, None, Option, Some, [], false, get_or, option_and_then, refl, set, true, ℕ, ◌++◌, ◌∷◌, ◌≡◌}
+use Rattle.std.specs.Prelude.{Bool, List, None, Option, Some, false, get_or, option_and_then, refl, set, true, ℕ, ◌≡◌}
 
 parts-of : (p : ProgramDef) → parts_if_defined (Some p) ≡ parts_of p
 parts-of p = by p.body

@@ -1,7 +1,7 @@
 use Rattle.salt_ast.specs.ProgramJudgement.{program_named}
 use Rattle.salt_ast.specs.declared.programs.ProgramDef.{ProgramDef}
 use Rattle.salt_cont.specs.Moves.{move_on}
-use Rattle.salt_model.specs.Kept.{begun_cont, kept_program, programs_of, then_of}
+use Rattle.salt_model.specs.Kept.{begun_cont, kept_program, then_of}
 use Rattle.salt_store.proofs.Going.{at_first, begins, found-own}
 use Rattle.salt_store.proofs.conts.begin.Goals as goal
 use Rattle.salt_store.specs.Stores.{conts_begun}

@@ -1,7 +1,6 @@
 use Rattle.salt_ast.specs.ProgramJudgement.{program_named}
 use Rattle.salt_ast.specs.declared.programs.ProgramDef.{ProgramDef}
 use Rattle.salt_cont.specs.Moves.{move_on}
-use Rattle.salt_cont.specs.declared.moves.Move.{Move}
 use Rattle.salt_model.specs.Kept.{cont_of, kept_program, programs_of, values_kept}
 use Rattle.salt_store.proofs.FirstCont.{first-found, found-first, no-cont}
 use Rattle.salt_store.proofs.Going.{goes, stays-undefined, stays-unknown}

@@ -1,5 +1,5 @@
 use Rattle.salt_store.proofs.store.Store.branch.Goals as goal
-use Rattle.std.proofs.Common.{List, ap, subst, sym, ◌+◌, ◌∙◌, ℕ}
+use Rattle.std.proofs.Common.{ap, ◌+◌, ◌∙◌}
 
 pub returns-clause-kept : goal.returns-clause-kept
 returns-clause-kept c = λ k same part.

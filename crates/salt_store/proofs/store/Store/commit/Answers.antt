@@ -1,6 +1,6 @@
 use Rattle.salt_model.specs.Kept.{conts_committed}
 use Rattle.salt_store.proofs.store.Store.commit.Goals as goal
-use Rattle.std.proofs.Common.{List, ap, subst, sym, ◌+◌, ◌∙◌, ℕ}
+use Rattle.std.proofs.Common.{ap, ◌+◌, ◌∙◌}
 
 pub returns-clause-kept : goal.returns-clause-kept
 returns-clause-kept c = λ k same part.

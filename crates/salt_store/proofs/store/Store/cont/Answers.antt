@@ -1,4 +1,3 @@
-use Rattle.salt_model.specs.Kept.{cont_in}
 use Rattle.salt_store.proofs.FirstCont.{cont_in-find}
 use Rattle.salt_store.proofs.store.Store.cont.Goals as goal
 use Rattle.salt_values.specs.Id.{is_same_id}

@@ -4,7 +4,7 @@ use Rattle.salt_model.specs.Kept.{programs_of}
 use Rattle.salt_program.specs.Refusals.{parts_in}
 use Rattle.salt_store.proofs.Defining.{all-lead-on, leads-on, programs-with-program, tables-with-program}
 use Rattle.salt_store.proofs.store.Store.define_program.Goals as goal
-use Rattle.std.proofs.Common.{[], List, ap, length, subst, sym, ◌+◌, ◌++◌, ◌<◌, ◌^◌, ◌∙◌, ◌∷◌, ℕ}
+use Rattle.std.proofs.Common.{[], ap, length, subst, sym, ◌+◌, ◌++◌, ◌<◌, ◌^◌, ◌∙◌, ◌∷◌}
 
 pub define-requires : goal.define-requires
 define-requires c = record { parts = subst (λ (p : ProgramDef). length (parts_in p.body) < 2 ^ 32) (sym c.in_ok-def.ensures) c.requires.parts }

@@ -1,9 +1,7 @@
-use Rattle.salt_ast.specs.declared.trees.TableDef.{TableDef}
-use Rattle.salt_schema.specs.Refusals.{table_refusal}
 use Rattle.salt_store.proofs.Defining.{programs-with-table, tables-with-table}
 use Rattle.salt_store.proofs.store.Store.define_table.Goals as goal
 use Rattle.salt_store.specs.Stores.{AllLeadOn}
-use Rattle.std.proofs.Common.{[], List, ap, subst, sym, ◌+◌, ◌++◌, ◌∙◌, ◌∷◌, ℕ}
+use Rattle.std.proofs.Common.{[], ap, subst, sym, ◌+◌, ◌++◌, ◌∙◌, ◌∷◌}
 
 pub returns-in-Ok-clause-kept : goal.returns-in-Ok-clause-kept
 returns-in-Ok-clause-kept c = λ k same.
