@@ -1,0 +1,4 @@
+pub mod FirstCont
+pub mod Going
+pub mod Defining
+pub mod Making
