@@ -7,9 +7,8 @@ The program `eval_bench` makes the rows and goes over them so often; the time of
     bench/exprs.py [OTHER]     with the eval_bench of another commit, the same filters by both, in turns
 """
 import subprocess, sys
-from pathlib import Path
 
-from timing import seconds
+from timing import compared, seconds
 
 ROWS = 100_000
 TIMES = 20
@@ -22,8 +21,6 @@ KINDS = [
     ("texts", ["s >= 'item'", "s < 'j'", "s <> 'x'", "s > 'a'"]),
     ("NULL", ["b is null or b >= 0", "b <> -1 or b is null", "b is null or k >= 0", "b >= 0 or b is null"]),
 ]
-CRATE = Path(__file__).resolve().parent.parent / "crates/eval_bench"
-PROGRAM = CRATE / "out/eval_bench"
 
 
 def filtered(terms, count):
@@ -45,11 +42,7 @@ def measured(program, terms, count):
 
 
 def main():
-    with (CRATE / "stdin").open("rb") as example:
-        subprocess.run(["rt", "run"], cwd=CRATE, stdin=example, stdout=subprocess.DEVNULL, stderr=subprocess.DEVNULL, check=True)
-    programs = [("this", PROGRAM)]
-    if len(sys.argv) > 1:
-        programs.append(("other", Path(sys.argv[1])))
+    programs = compared("eval_bench")
     grew = False
     for kind, terms in KINDS:
         for name, program in programs:

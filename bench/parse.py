@@ -9,9 +9,8 @@ a term grew by more than 1.1 from 16 terms to 64, or that for a byte by more tha
     bench/parse.py [OTHER]     with the parse_bench of another commit, the same statements by both, in turns
 """
 import random, shutil, subprocess, sys
-from pathlib import Path
 
-from timing import seconds
+from timing import CRATES, made, seconds
 
 STATEMENTS = 100_000
 EXPRESSIONS = 20_000
@@ -22,8 +21,7 @@ LINE = 65_536
 LINES = 40
 BYTE_GROWTH = 1.3
 TURNS = 3
-CRATE = Path(__file__).resolve().parent.parent / "crates/parse_bench"
-PROGRAM = CRATE / "out/parse_bench"
+PROGRAM = CRATES / "parse_bench/out/parse_bench"
 
 FORMS = [
     "insert into t values ({0}, 'it''s', {1} + 2 * {0})",
@@ -105,8 +103,7 @@ def beside(other, lines):
 
 
 def main():
-    with (CRATE / "stdin").open("rb") as example:
-        subprocess.run(["rt", "run"], cwd=CRATE, stdin=example, stdout=subprocess.DEVNULL, stderr=subprocess.DEVNULL, check=True)
+    made("parse_bench")
     mixed = statements()
     took = seconds([PROGRAM], script(mixed))
     print(f"salt     {STATEMENTS} statements {took:8.3f} s {STATEMENTS / took:10.0f} statements/s", flush=True)

@@ -1,7 +1,25 @@
 """How the measures time a program."""
-import subprocess, time
+import subprocess, sys, time
+from pathlib import Path
 
 ROUNDS = 3
+CRATES = Path(__file__).resolve().parent.parent / "crates"
+
+
+def made(name):
+    """The program of a crate, proved and built."""
+    crate = CRATES / name
+    with (crate / "stdin").open("rb") as example:
+        subprocess.run(["rt", "run"], cwd=crate, stdin=example, stdout=subprocess.DEVNULL, stderr=subprocess.DEVNULL, check=True)
+    return crate / "out" / name
+
+
+def compared(name):
+    """The program of a crate, and beside it the one that the command line names."""
+    programs = [("this", made(name))]
+    if len(sys.argv) > 1:
+        programs.append(("other", Path(sys.argv[1])))
+    return programs
 
 
 def seconds(command, script):

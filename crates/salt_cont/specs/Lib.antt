@@ -1,3 +1,5 @@
 pub mod Moves
 pub mod MoveRows
 pub mod Rests
+pub mod Catalogues
+pub mod Continued

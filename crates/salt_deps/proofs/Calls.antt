@@ -1,17 +1,15 @@
 -- What calls make of what is kept, by its tests.
-use Rattle.salt_deps.proofs.Forgetting.{is-reader, is-source, names-kept, pairs-kept}
 use Rattle.salt_deps.proofs.Reading.{are-writers}
-use Rattle.salt_deps.specs.Due.{AreDue}
-use Rattle.salt_deps.specs.Kept.{dependencies}
-use Rattle.salt_deps.specs.Pairs.{AreRead, has_pair, is_pair, reads_entry}
-use Rattle.salt_deps.specs.declared.deps.Deps.{Deps}
-use Rattle.salt_deps.specs.declared.pairs.Pair.{Pair}
-use Rattle.salt_keeps.specs.DependencyCalls.{HasFinished, Wrote, marked}
-use Rattle.salt_keeps.specs.KeptSources.{IsDue, WritesIn, itself, unless_among}
-use Rattle.salt_keeps.specs.Members.{In}
-use Rattle.salt_laws.proofs.Lists.{either, has-in, in-has, in-order, into-order, not-true, or_cases, or_left_true, or_right_true}
+use Rattle.salt_deps.specs.Due.{AreSettled}
+use Rattle.salt_deps.specs.Kept.{kept_of}
+use Rattle.salt_deps.specs.Maps.{is_source}
+use Rattle.salt_deps.specs.Reads.{AreFresh, reads_entry}
+use Rattle.salt_keeps.specs.DependencyCalls.{HasFinished}
+use Rattle.salt_keeps.specs.KeptSources.{WritesIn, itself, unless_among}
+use Rattle.salt_laws.proofs.Ids.{and_left, and_right, is_same_id-refl, is_same_id-sym, is_same_id-true}
+use Rattle.salt_laws.proofs.Lists.{either, or_cases, or_left_true}
 use Rattle.salt_model.specs.Tables.{place, place_cmp, place_total}
-use Rattle.salt_model.specs.Words.{has_id, in_order}
+use Rattle.salt_model.specs.Words.{has_id}
 use Rattle.salt_model.specs.declared.locks.Mode.{Mode}
 use Rattle.salt_model.specs.declared.places.Place.{Place}
 use Rattle.salt_ranges.specs.declared.range.KeyRange.{KeyRange}
@@ -19,11 +17,11 @@ use Rattle.salt_values.specs.Id.{is_same_id}
 use Rattle.salt_values.specs.declared.id.Id.{Id}
 use Rattle.salt_values.specs.declared.value.Value.{Value}
 use Rattle.std.proofs.Common.{ap, inl, inr, subst, sym, ◌∙◌, ◌↔◌, ◌⊎◌}
-use Rattle.std.proofs.lemmas.List.Folds.{list_any-append}
+use Rattle.std.specs.BTreeSet.{BTreeSet}
 use Rattle.std.specs.BTreeMap.{BTreeMap, IsOrdered, Updates, get}
-use Rattle.std.specs.List.{filter, list_any}
+use Rattle.std.specs.List.{list_any}
 use Rattle.std.specs.Ordering.{is_eq, ordering_reverse}
-use Rattle.std.specs.Prelude.{Bool, IsTrue, List, Option, Some, cond, false, if◌then◌else◌, not, refl, true, ℕ, ◌++◌, ◌||◌, ◌∷◌, ◌≡◌}
+use Rattle.std.specs.Prelude.{Bool, IsTrue, List, Option, Some, cond, false, if◌then◌else◌, not, refl, true, ℕ, ◌&&◌, ◌||◌, ◌∷◌, ◌≡◌}
 use Rattle.std.specs.declared.cmp.Ordering.TheVariants.{Equal, Greater, Less}
 use Rattle.std.specs.declared.cmp.Ordering.{Ordering}
 
@@ -39,72 +37,82 @@ written : (base : Option Id) (p : Place) (old new : BTreeMap Place Id) → Updat
     get place_cmp new q ≡ (if is_eq (place_cmp q p) then base else get place_cmp old q)
 written base p old new u q = u.0 q ∙ ap (λ t. cond t base (get place_cmp old q)) (swapped p q)
 
-pub wrote : (base made : Option Id) (t : ℕ) (key copied : Value) (old : Deps) (new : BTreeMap Place Id) → base ≡ made → copied ≡ key →
-    Updates place_cmp old.writers new (place t copied) made →
-    Wrote base (place t key) (dependencies old) (dependencies (record old { writers = new }))
-wrote base made t key copied old new is same u = record {
-  writer = λ q. subst (λ b. get place_cmp new q ≡ (if is_eq (place_cmp q (place t key)) then b else get place_cmp old.writers q)) (sym is)
-      (subst (λ k. get place_cmp new q ≡ (if is_eq (place_cmp q (place t k)) then made else get place_cmp old.writers q)) same (written made (place t copied) old.writers new u q));
-  reads = λ x y. (λ h. h, λ h. h);
-  finished = λ b. (λ h. h, λ h. h);
-}
+-- the last writers, where one is written or taken out
+pub wrote : (base made : Option Id) (t : ℕ) (key copied : Value) (old new : BTreeMap Place Id) → base ≡ made → copied ≡ key →
+    Updates place_cmp old new (place t copied) made → (q : Place) → get place_cmp new q ≡ (if is_eq (place_cmp q (place t key)) then base else get place_cmp old q)
+wrote base made t key copied old new is same u q =
+    subst (λ b. get place_cmp new q ≡ (if is_eq (place_cmp q (place t key)) then b else get place_cmp old q)) (sym is)
+    (subst (λ k. get place_cmp new q ≡ (if is_eq (place_cmp q (place t k)) then made else get place_cmp old q)) same (written made (place t copied) old new u q))
 
-pub read-pairs : (base : Id) (t : ℕ) (range : KeyRange) (mode : Mode) (m : BTreeMap Place Id) (old more new : List Pair) → IsOrdered place_cmp m →
-    AreRead base t range m.entries old more → new ≡ old ++ more → (x y : Id) →
-    IsTrue (has_pair new x y) ↔ (IsTrue (has_pair old x y) ⊎ ((base ≡ x) × (is_same_id y x ≡ false) × WritesIn (get place_cmp m) (Some (record { table = t; range = range; mode = mode })) y))
-read-pairs base t range mode m old more new ordered read is x y = (
-  (λ h. either (λ e. inl e) (λ e. inr ((are-writers base t range mode m ordered x y).0 e)) (or_cases (has_pair old x y) _ (sym told ∙ h))),
-  (λ h. told ∙ either (λ e. or_left_true (has_pair old x y) _ e) (λ e. or_right_true (has_pair old x y) _ ((are-writers base t range mode m ordered x y).1 e)) h),
+-- a read adds what was written last in its range
+pub read-more : (base : Id) (t : ℕ) (range : KeyRange) (mode : Mode) (m : BTreeMap Place Id) (old new : Id → Id → Bool) (fresh : List Id) → IsOrdered place_cmp m →
+    AreFresh base t range m.entries old fresh → ((x y : Id) → new x y ≡ (old x y || (is_same_id x base && has_id y fresh))) → (x y : Id) →
+    IsTrue (new x y) ↔ (IsTrue (old x y) ⊎ ((base ≡ x) × (is_same_id y x ≡ false) × WritesIn (get place_cmp m) (Some (record { table = t; range = range; mode = mode })) y))
+read-more base t range mode m old new fresh ordered read is x y = (
+  (λ h. either (λ e. inl e) (λ e. inr (forth e)) (or_cases (old x y) _ (sym (is x y) ∙ h))),
+  (λ h. is x y ∙ either (λ e. or_left_true (old x y) _ e) (λ e. back e (old x y) refl) h),
 )
   where
-    told : has_pair new x y ≡ (has_pair old x y || list_any (reads_entry base t range x y) m.entries)
-    told = ap (λ ps. has_pair ps x y) is ∙ (list_any-append (is_pair x y) old more ∙ read x y)
+    written-there : (list_any (reads_entry base t range y) m.entries ≡ true) ↔ ((is_same_id y base ≡ false) × WritesIn (get place_cmp m) (Some (record { table = t; range = range; mode = mode })) y)
+    written-there = are-writers base t range mode m ordered y
 
-pub abandoned : (base : Id) (old new : List Pair) → new ≡ filter (λ p. not (is_same_id p.reader base)) old → (x y : Id) →
-    IsTrue (has_pair new x y) ↔ (IsTrue (has_pair old x y) × (is_same_id x base ≡ false))
-abandoned base old new is x y =
-    let kept = pairs-kept (λ p. not (is_same_id p.reader base)) (not (is_same_id x base)) old x y (λ p h. ap (λ z. not (is_same_id z base)) (sym (is-reader x y p h))) in
-    let same = ap (λ ps. has_pair ps x y) is in
-    ((λ h. let k = kept.0 (sym same ∙ h) in (k.0, not-true (is_same_id x base) k.1)), (λ h. same ∙ kept.1 (h.0, rw h.1 refl)))
+    forth : (is_same_id x base && has_id y fresh) ≡ true → (base ≡ x) × (is_same_id y x ≡ false) × WritesIn (get place_cmp m) (Some (record { table = t; range = range; mode = mode })) y
+    forth h =
+        let same = is_same_id-true x base (and_left (is_same_id x base) (has_id y fresh) h) in
+        let w = written-there.0 (and_left (list_any (reads_entry base t range y) m.entries) (not (old base y)) (sym (read y) ∙ and_right (is_same_id x base) (has_id y fresh) h)) in
+        (sym same, subst (λ z. is_same_id y z ≡ false) (sym same) w.0, w.1)
 
-neither : (a b : Bool) → not (a || b) ≡ true → (a ≡ false) × (b ≡ false)
+    back : (base ≡ x) × (is_same_id y x ≡ false) × WritesIn (get place_cmp m) (Some (record { table = t; range = range; mode = mode })) y → (b : Bool) → old x y ≡ b → (b || (is_same_id x base && has_id y fresh)) ≡ true
+    back h true e = refl
+    back h false e =
+        let there = written-there.1 (subst (λ z. is_same_id y z ≡ false) (sym h.0) h.1, h.2) in
+        let before : old base y ≡ false = subst (λ z. old z y ≡ false) (sym h.0) e in
+        let now : has_id y fresh ≡ true = read y ∙ rw (there, before) refl in
+        rw (sym h.0, is_same_id-refl base, now) refl
+
+pub left : (a b : Bool) → IsTrue (a && not b) ↔ (IsTrue a × (b ≡ false))
+left true true = ((λ h. absurd cc), (λ h. let no : true ≡ false = h.1 in absurd cc))
+left true false = ((λ h. (refl, refl)), (λ h. refl))
+left false b = ((λ h. absurd cc), (λ h. let no : false ≡ true = h.0 in absurd cc))
+
+pub abandoned : (base : Id) (old new : Id → Id → Bool) → ((x y : Id) → new x y ≡ (old x y && not (is_same_id x base))) → (x y : Id) →
+    IsTrue (new x y) ↔ (IsTrue (old x y) × (is_same_id x base ≡ false))
+abandoned base old new is x y = ((λ h. (left (old x y) (is_same_id x base)).0 (sym (is x y) ∙ h)), (λ h. is x y ∙ (left (old x y) (is_same_id x base)).1 h))
+
+neither : (a b : Bool) → (a || b) ≡ false → (a ≡ false) × (b ≡ false)
 neither true b h = cc
-neither false b h = (refl, not-true b h)
+neither false b h = (refl, h)
 
-pub pairs-left : (dropped : List Id) (old new : List Pair) → new ≡ filter (λ p. not (has_id p.reader dropped || has_id p.source dropped)) old → (x y : Id) →
-    IsTrue (has_pair new x y) ↔ (IsTrue (has_pair old x y) × (has_id x dropped ≡ false) × (has_id y dropped ≡ false))
-pairs-left dropped old new is x y =
-    let kept = pairs-kept (λ p. not (has_id p.reader dropped || has_id p.source dropped)) (not (has_id x dropped || has_id y dropped)) old x y
-    (λ p h. λ i. not (has_id (sym (is-reader x y p h) i) dropped || has_id (sym (is-source x y p h) i) dropped)) in
-    let same = ap (λ ps. has_pair ps x y) is in
-    ((λ h. let k = kept.0 (sym same ∙ h) in let n = neither (has_id x dropped) (has_id y dropped) k.1 in (k.0, n.0, n.1)), (λ h. same ∙ kept.1 (h.0, rw (h.1, h.2) refl)))
-
--- the due ones in order are those that are due
-pub due-in-order : (base : Id) (d : Deps) (due released : List Id) → AreDue d.pairs.items (base ∷ d.finished.items) due → released ≡ in_order due → (b : Id) →
-    In b released ↔ IsDue (marked base (dependencies d)) b
-due-in-order base d due released are is b = (
-  (λ i. let all = (are b).0 (in-order b due (subst (In b) is i)) in record {
-    finished = in-has b (base ∷ d.finished.items) (all b itself);
-    sources = λ c r. in-has c (base ∷ d.finished.items) (all c r);
-  }),
-  (λ h. subst (In b) (sym is) (into-order b due ((are b).1 (λ c r. has-in c (base ∷ d.finished.items) (h.sources c r))))),
-)
-
-pub finished-left : (base : Id) (dropped finished new : List Id) → new ≡ filter (λ b. not (has_id b dropped)) (base ∷ finished) → (b : Id) →
-    IsTrue (has_id b new) ↔ (IsTrue (is_same_id b base || has_id b finished) × (has_id b dropped ≡ false))
-finished-left base dropped finished new is b =
-    let kept = names-kept dropped (base ∷ finished) b in
-    let same = ap (has_id b) is in
-    ((λ h. kept.0 (sym same ∙ h)), (λ h. same ∙ kept.1 h))
-
-pub finishes : (base : Id) (old new : Deps) (due released : List Id) → AreDue old.pairs.items (base ∷ old.finished.items) due → released ≡ in_order due →
-    new.finished.items ≡ filter (λ b. not (has_id b released)) (base ∷ old.finished.items) →
-    new.pairs.items ≡ filter (λ p. not (has_id p.reader released || has_id p.source released)) old.pairs.items →
-    ((q : Place) → get place_cmp new.writers q ≡ unless_among released (get place_cmp old.writers q)) →
-    HasFinished base released (dependencies old) (dependencies new)
-finishes base old new due released are is names pairs writers = record {
-  due = due-in-order base old due released are is;
-  writer = writers;
-  reads = pairs-left released old.pairs.items new.pairs.items pairs;
-  finished = finished-left base released old.finished.items new.finished.items names;
+pub finishes : (base : Id) (due released forgotten taken : List Id) (writers writers' : BTreeMap Place Id) (sources sources' : BTreeMap Id (BTreeSet Id)) (finished marked_names finished' : List Id) →
+    AreSettled (is_source sources) (base ∷ finished) due → released ≡ due → forgotten ≡ released → taken ≡ released →
+    ((q : Place) → get place_cmp writers' q ≡ unless_among due (get place_cmp writers q)) →
+    ((x y : Id) → is_source sources' x y ≡ (is_source sources x y && not (has_id x forgotten || has_id y forgotten))) →
+    ((b : Id) → has_id b marked_names ≡ (is_same_id base b || has_id b finished)) →
+    ((b : Id) → has_id b finished' ≡ (has_id b marked_names && not (has_id b taken))) →
+    HasFinished base released (kept_of writers sources finished) (kept_of writers' sources' finished')
+finishes base due released forgotten taken writers writers' sources sources' finished marked_names finished' settled list forgets takes dropped cut marks out = record {
+  due = λ b. (
+    (λ i. let s = (are b).0 i in record { finished = s b itself; sources = s }),
+    (λ d. (are b).1 d.sources),
+  );
+  writer = subst (λ bs. (q : Place) → get place_cmp writers' q ≡ unless_among bs (get place_cmp writers q)) (sym list) dropped;
+  reads = λ x y. (
+    (λ h. let k = (left (is_source sources x y) (has_id x released || has_id y released)).0 (sym (reads x y) ∙ h) in
+        let n = neither (has_id x released) (has_id y released) k.1 in (k.0, n.0, n.1)),
+    (λ h. reads x y ∙ rw (h.0, h.1, h.2) refl),
+  );
+  finished = λ b. (
+    (λ h. let k = (left (is_same_id base b || has_id b finished) (has_id b released)).0 (sym (names b) ∙ h) in
+        (ap (λ t. t || has_id b finished) (is_same_id-sym b base) ∙ k.0, k.1)),
+    (λ h. names b ∙ (left (is_same_id base b || has_id b finished) (has_id b released)).1 (ap (λ t. t || has_id b finished) (is_same_id-sym base b) ∙ h.0, h.1)),
+  );
 }
+  where
+    are : AreSettled (is_source sources) (base ∷ finished) released
+    are = subst (AreSettled (is_source sources) (base ∷ finished)) (sym list) settled
+
+    reads : (x y : Id) → is_source sources' x y ≡ (is_source sources x y && not (has_id x released || has_id y released))
+    reads = subst (λ (l : List Id). (x y : Id) → is_source sources' x y ≡ (is_source sources x y && not (has_id x l || has_id y l))) forgets cut
+
+    names : (b : Id) → has_id b finished' ≡ ((is_same_id base b || has_id b finished) && not (has_id b released))
+    names b = out b ∙ (ap (λ t. t && not (has_id b taken)) (marks b) ∙ ap (λ (l : List Id). (is_same_id base b || has_id b finished) && not (has_id b l)) takes)

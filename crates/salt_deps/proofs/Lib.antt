@@ -1,6 +1,11 @@
-pub mod Striking
-pub mod Reaching
-pub mod Placing
+pub mod Names
+pub mod Errs
+pub mod Linking
+pub mod Seeing
+pub mod Walking
+pub mod Leaving
 pub mod Reading
+pub mod Spanning
 pub mod Forgetting
+pub mod Settling
 pub mod Calls

@@ -1,13 +1,13 @@
 -- The pairs that a read adds are those with the last writers in its range.
-use Rattle.salt_deps.specs.Pairs.{AreRead, IsAdded, has_pair, is_read, reads_entry}
-use Rattle.salt_deps.specs.declared.pairs.Pair.{Pair}
+use Rattle.salt_deps.specs.Reads.{AreFresh, AreRead, is_read, reads_entry}
 use Rattle.salt_keeps.proofs.Closures.{any-in, into-any}
 use Rattle.salt_keeps.specs.KeptSources.{WritesIn}
 use Rattle.salt_keeps.specs.Members.{In}
-use Rattle.salt_laws.proofs.Ids.{and_left, and_right, is_same_id-refl, is_same_id-true}
+use Rattle.salt_laws.proofs.Ids.{and_left, and_right, is_same_id-refl, is_same_id-sym, is_same_id-true}
 use Rattle.salt_laws.proofs.Lists.{not-true}
 use Rattle.salt_laws.proofs.Places.{place_same}
 use Rattle.salt_model.specs.Tables.{place, place_cmp, place_total}
+use Rattle.salt_model.specs.Words.{has_id}
 use Rattle.salt_model.specs.declared.locks.Mode.{Mode}
 use Rattle.salt_model.specs.declared.places.Place.{Place}
 use Rattle.salt_ranges.specs.Ranges.{has_key}
@@ -18,20 +18,16 @@ use Rattle.std.proofs.Common.{ap, arith, inl, inr, slice_get, suc, subst, sym, z
 use Rattle.std.proofs.lemmas.Bool.Decides.{nat_tests}
 use Rattle.std.proofs.lemmas.Map.Entries.{btree_map_get_place}
 use Rattle.std.specs.BTreeMap.{BTreeMap, IsOrdered, get, is_at}
-use Rattle.std.specs.List.{list_any}
+use Rattle.std.specs.List.{filter, list_any}
 use Rattle.std.specs.Map.{lookup}
 use Rattle.std.specs.Ordering.{is_eq}
 use Rattle.std.specs.Prelude.{Bool, List, Some, [], cond, false, not, refl, true, ℕ, ◌&&◌, ◌==◌, ◌||◌, ◌∷◌, ◌≡◌}
 use Rattle.std.specs.declared.cmp.Ordering.TheVariants.{Equal, Greater, Less}
 use Rattle.std.specs.declared.cmp.Ordering.{Ordering}
 
--- what is listed, and what the writers to come add, is what it comes to
-pub record IsReading (reader : Id) (table : ℕ) (range : KeyRange) (writers : List (Place × Id)) (pairs more : List Pair) (rest : List (Place × Id)) : Type 0 where
-  pub same : (x y : Id) → ((has_pair pairs x y || has_pair more x y) || list_any (reads_entry reader table range x y) rest) ≡ (has_pair pairs x y || list_any (reads_entry reader table range x y) writers)
-
-or-none : (a b : Bool) → ((a || false) || b) ≡ (a || b)
-or-none true b = refl
-or-none false b = refl
+-- what is found, and what the writers to come add, is what it comes to
+pub record IsReading (reader : Id) (table : ℕ) (range : KeyRange) (writers : List (Place × Id)) (found : List Id) (rest : List (Place × Id)) : Type 0 where
+  pub same : (y : Id) → (has_id y found || list_any (reads_entry reader table range y) rest) ≡ list_any (reads_entry reader table range y) writers
 
 or-end : (a : Bool) → (a || false) ≡ a
 or-end true = refl
@@ -41,27 +37,37 @@ or-move : (a b c : Bool) → ((a || b) || c) ≡ (a || (b || c))
 or-move true b c = refl
 or-move false b c = refl
 
-pub begins : (reader : Id) (table : ℕ) (range : KeyRange) (writers : List (Place × Id)) (pairs : List Pair) → IsReading reader table range writers pairs [] writers
-begins reader table range writers pairs = record { same = λ x y. or-none (has_pair pairs x y) (list_any (reads_entry reader table range x y) writers) }
+pub begins : (reader : Id) (table : ℕ) (range : KeyRange) (writers : List (Place × Id)) → IsReading reader table range writers [] writers
+begins reader table range writers = record { same = λ y. refl }
 
-pub adds : (reader : Id) (table : ℕ) (range : KeyRange) (writers : List (Place × Id)) (pairs old new : List Pair) (p : Place) (source : Id) (rest : List (Place × Id)) →
-    is_read reader table range p source ≡ true → IsReading reader table range writers pairs old ((p, source) ∷ rest) → IsAdded pairs reader source old new →
-    IsReading reader table range writers pairs new rest
-adds reader table range writers pairs old new p source rest read so added = record {
-  same = λ x y. ap (λ b. b || list_any (reads_entry reader table range x y) rest) (added x y)
-      ∙ (or-move (has_pair pairs x y || has_pair old x y) (is_same_id x reader && is_same_id y source) (list_any (reads_entry reader table range x y) rest)
-      ∙ (ap (λ t. (has_pair pairs x y || has_pair old x y) || ((t && (is_same_id x reader && is_same_id y source)) || list_any (reads_entry reader table range x y) rest)) (sym read) ∙ so.same x y));
+pub goes-on : (reader : Id) (table : ℕ) (range : KeyRange) (writers : List (Place × Id)) (old new : List Id) (e : Place × Id) (from rest : List (Place × Id)) → from ≡ e ∷ rest →
+    IsReading reader table range writers old from → ((y : Id) → has_id y new ≡ (has_id y old || reads_entry reader table range y e)) → IsReading reader table range writers new rest
+goes-on reader table range writers old new e from rest is so found = record {
+  same = λ y. ap (λ b. b || list_any (reads_entry reader table range y) rest) (found y)
+      ∙ (or-move (has_id y old) (reads_entry reader table range y e) (list_any (reads_entry reader table range y) rest)
+      ∙ (ap (λ (l : List (Place × Id)). has_id y old || list_any (reads_entry reader table range y) l) (sym is) ∙ so.same y));
 }
 
-pub passes : (reader : Id) (table : ℕ) (range : KeyRange) (writers : List (Place × Id)) (pairs more : List Pair) (p : Place) (source : Id) (rest : List (Place × Id)) →
-    is_read reader table range p source ≡ false → IsReading reader table range writers pairs more ((p, source) ∷ rest) →
-    IsReading reader table range writers pairs more rest
-passes reader table range writers pairs more p source rest unread so = record {
-  same = λ x y. ap (λ t. (has_pair pairs x y || has_pair more x y) || ((t && (is_same_id x reader && is_same_id y source)) || list_any (reads_entry reader table range x y) rest)) (sym unread) ∙ so.same x y;
-}
+pub ends : (reader : Id) (table : ℕ) (range : KeyRange) (writers : List (Place × Id)) (found : List Id) (rest : List (Place × Id)) → rest ≡ [] → IsReading reader table range writers found rest →
+    AreRead reader table range writers found
+ends reader table range writers found rest done so y =
+    sym (or-end (has_id y found)) ∙ (ap (λ (l : List (Place × Id)). has_id y found || list_any (reads_entry reader table range y) l) (sym done) ∙ so.same y)
 
-pub ends : (reader : Id) (table : ℕ) (range : KeyRange) (writers : List (Place × Id)) (pairs more : List Pair) → IsReading reader table range writers pairs more [] → AreRead reader table range writers pairs more
-ends reader table range writers pairs more so x y = sym (or-end (has_pair pairs x y || has_pair more x y)) ∙ so.same x y
+-- an entry that is read adds its writer, and another adds none
+pub finds : (reader : Id) (table : ℕ) (range : KeyRange) (p : Place) (source : Id) (old new : List Id) → is_read reader table range p source ≡ true →
+    ((q : Id) → has_id q new ≡ (is_same_id source q || has_id q old)) → (y : Id) → has_id y new ≡ (has_id y old || reads_entry reader table range y (p, source))
+finds reader table range p source old new read put y =
+    put y ∙ (turned (is_same_id source y) (has_id y old) ∙ (ap (λ b. has_id y old || b) (is_same_id-sym source y) ∙ ap (λ b. has_id y old || (b && is_same_id y source)) (sym read)))
+  where
+    turned : (a b : Bool) → (a || b) ≡ (b || a)
+    turned true true = refl
+    turned true false = refl
+    turned false true = refl
+    turned false false = refl
+
+pub finds-none : (reader : Id) (table : ℕ) (range : KeyRange) (p : Place) (source : Id) (old : List Id) → is_read reader table range p source ≡ false → (y : Id) →
+    has_id y old ≡ (has_id y old || reads_entry reader table range y (p, source))
+finds-none reader table range p source old unread y = sym (ap (λ b. has_id y old || (b && is_same_id y source)) unread ∙ or-end (has_id y old))
 
 eq-of : (r : Ordering) → is_eq r ≡ true → r ≡ Equal
 eq-of Equal h = refl
@@ -93,11 +99,11 @@ number-same m n h = grind (arith, nat_tests)
 number-refl : (n : ℕ) → (n == n) ≡ true
 number-refl n = grind (arith, nat_tests)
 
--- a pair is added exactly where its source is the last writer of a key in the range
-pub are-writers : (reader : Id) (table : ℕ) (range : KeyRange) (mode : Mode) (m : BTreeMap Place Id) → IsOrdered place_cmp m → (x y : Id) →
-    (list_any (reads_entry reader table range x y) m.entries ≡ true) ↔
-    ((reader ≡ x) × (is_same_id y x ≡ false) × WritesIn (get place_cmp m) (Some (record { table = table; range = range; mode = mode })) y)
-are-writers reader table range mode m ordered x y = (forth, back)
+-- it reads from exactly the last writers of keys in the range
+pub are-writers : (reader : Id) (table : ℕ) (range : KeyRange) (mode : Mode) (m : BTreeMap Place Id) → IsOrdered place_cmp m → (y : Id) →
+    (list_any (reads_entry reader table range y) m.entries ≡ true) ↔
+    ((is_same_id y reader ≡ false) × WritesIn (get place_cmp m) (Some (record { table = table; range = range; mode = mode })) y)
+are-writers reader table range mode m ordered y = (forth, back)
   where
     parts : (p : Place) (source : Id) → is_read reader table range p source ≡ true → (p.table ≡ table) × (has_key range p.key ≡ true) × (is_same_id source reader ≡ false)
     parts p source h =
@@ -107,23 +113,41 @@ are-writers reader table range mode m ordered x y = (forth, back)
           not-true (is_same_id source reader) (and_right (has_key range p.key) (not (is_same_id source reader)) inside),
         )
 
-    forth : list_any (reads_entry reader table range x y) m.entries ≡ true → (reader ≡ x) × (is_same_id y x ≡ false) × WritesIn (get place_cmp m) (Some (record { table = table; range = range; mode = mode })) y
+    forth : list_any (reads_entry reader table range y) m.entries ≡ true → (is_same_id y reader ≡ false) × WritesIn (get place_cmp m) (Some (record { table = table; range = range; mode = mode })) y
     forth h =
-        let e = any-in (reads_entry reader table range x y) m.entries h in
-        let names = and_right (is_read reader table range e.0.0 e.0.1) (is_same_id x reader && is_same_id y e.0.1) e.2 in
-        let own = is_same_id-true x reader (and_left (is_same_id x reader) (is_same_id y e.0.1) names) in
-        let source = is_same_id-true y e.0.1 (and_right (is_same_id x reader) (is_same_id y e.0.1) names) in
-        let read = parts e.0.0 e.0.1 (and_left (is_read reader table range e.0.0 e.0.1) (is_same_id x reader && is_same_id y e.0.1) e.2) in
+        let e = any-in (reads_entry reader table range y) m.entries h in
+        let source = is_same_id-true y e.0.1 (and_right (is_read reader table range e.0.0 e.0.1) (is_same_id y e.0.1) e.2) in
+        let read = parts e.0.0 e.0.1 (and_left (is_read reader table range e.0.0 e.0.1) (is_same_id y e.0.1) e.2) in
         let number = read.0 in
-        let other = read.2 in
         let entry : In (place table e.0.0.key, y) m.entries = subst (λ z. In z m.entries) (λ i. (record { table = number i; key = e.0.0.key }, sym source i)) e.1 in (
-          sym own,
-          subst (λ z. is_same_id z x ≡ false) (sym source) (subst (λ z. is_same_id e.0.1 z ≡ false) (sym own) other),
+          subst (λ z. is_same_id z reader ≡ false) (sym source) read.2,
           (e.0.0.key, read.1, in-found (place table e.0.0.key) y m ordered entry),
         )
 
-    back : (reader ≡ x) × (is_same_id y x ≡ false) × WritesIn (get place_cmp m) (Some (record { table = table; range = range; mode = mode })) y → list_any (reads_entry reader table range x y) m.entries ≡ true
+    back : (is_same_id y reader ≡ false) × WritesIn (get place_cmp m) (Some (record { table = table; range = range; mode = mode })) y → list_any (reads_entry reader table range y) m.entries ≡ true
     back h =
-        let w = h.2 in
-        into-any (reads_entry reader table range x y) (place table w.0, y) m.entries (found-in (place table w.0) y m.entries w.2)
-        (rw (number-refl table, w.1, h.0, h.1, is_same_id-refl x, is_same_id-refl y) refl)
+        let w = h.1 in
+        into-any (reads_entry reader table range y) (place table w.0, y) m.entries (found-in (place table w.0) y m.entries w.2)
+        (rw (number-refl table, w.1, h.0, is_same_id-refl y) refl)
+
+-- of what is found, the sources that were not read from before
+pub are-fresh : (reader : Id) (table : ℕ) (range : KeyRange) (writers : List (Place × Id)) (reads : Id → Id → Bool) (found fresh : List Id) → AreRead reader table range writers found →
+    fresh ≡ filter (λ y. not (reads reader y)) found → AreFresh reader table range writers reads fresh
+are-fresh reader table range writers reads found fresh read is y = ap (has_id y) is ∙ (has-filter (λ z. not (reads reader z)) y found ∙ ap (λ b. b && not (reads reader y)) (read y))
+  where
+    has-filter : (test : Id → Bool) (q : Id) (names : List Id) → has_id q (filter test names) ≡ (has_id q names && test q)
+    has-filter test q [] = refl
+    has-filter test q (x ∷ xs) = by (is_same_id q x) (test x) refl refl (has-filter test q xs)
+      where
+        by : (s t : Bool) → is_same_id q x ≡ s → test x ≡ t → has_id q (filter test xs) ≡ (has_id q xs && test q) → has_id q (cond t (x ∷ filter test xs) (filter test xs)) ≡ ((s || has_id q xs) && test q)
+        by true true e f more = ap (λ b. b || has_id q (filter test xs)) e ∙ sym (subst (λ z. test z ≡ true) (sym (is_same_id-true q x e)) f)
+        by true false e f more = more ∙ (ap (λ b. has_id q xs && b) no ∙ (none (has_id q xs) ∙ sym no))
+          where
+            no : test q ≡ false
+            no = subst (λ z. test z ≡ false) (sym (is_same_id-true q x e)) f
+
+            none : (a : Bool) → (a && false) ≡ false
+            none true = refl
+            none false = refl
+        by false true e f more = ap (λ b. b || has_id q (filter test xs)) e ∙ more
+        by false false e f more = more

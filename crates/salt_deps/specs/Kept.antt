@@ -1,14 +1,21 @@
 -- What is kept, seen by its tests.
-use Rattle.salt_deps.specs.Pairs.{has_pair}
+use Rattle.salt_deps.specs.Maps.{is_source}
 use Rattle.salt_deps.specs.declared.deps.Deps.{Deps}
 use Rattle.salt_keeps.specs.KeptSources.{Dependencies}
 use Rattle.salt_model.specs.Tables.{place_cmp}
 use Rattle.salt_model.specs.Words.{has_id}
-use Rattle.std.specs.BTreeMap.{get}
+use Rattle.salt_model.specs.declared.places.Place.{Place}
+use Rattle.salt_values.specs.declared.id.Id.{Id}
+use Rattle.std.specs.BTreeMap.{BTreeMap, get}
+use Rattle.std.specs.BTreeSet.{BTreeSet}
+use Rattle.std.specs.Prelude.{List}
+
+abbrev pub kept_of : BTreeMap Place Id → BTreeMap Id (BTreeSet Id) → List Id → Dependencies
+kept_of writers sources finished = record {
+  writer = get place_cmp writers;
+  reads = is_source sources;
+  finished = λ b. has_id b finished;
+}
 
 abbrev pub dependencies : Deps → Dependencies
-dependencies d = record {
-  writer = get place_cmp d.writers;
-  reads = has_pair d.pairs.items;
-  finished = λ b. has_id b d.finished.items;
-}
+dependencies d = kept_of d.writers d.links.sources d.finished.keys

@@ -1,4 +1,7 @@
-pub mod Names
-pub mod Pairs
+pub mod Order
+pub mod Maps
+pub mod Walks
+pub mod Ends
+pub mod Reads
 pub mod Due
 pub mod Kept

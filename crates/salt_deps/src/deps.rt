@@ -1,28 +1,20 @@
 //! What is kept of writers, readers and finished programs.
 
-ghost use Rattle.salt_deps.specs.Kept.{dependencies};
-ghost use Rattle.salt_keeps.specs.DependencyCalls.{AreSame, HasAbandoned, HasFinished, HasRead, Wrote};
-ghost use Rattle.salt_keeps.specs.KeptSources.{Through, no_dependencies, unless_among};
-ghost use Rattle.salt_keeps.specs.Members.{In};
-ghost use Rattle.salt_keeps.specs.Rising.{Rising};
-ghost use Rattle.salt_model.specs.Tables.{place, place_cmp};
-ghost use Rattle.salt_model.specs.declared.locks.Mode.{Mode};
-ghost use Rattle.salt_model.specs.declared.places.Place.{Place};
-ghost use Rattle.salt_values.specs.declared.id.Id.{Id};
-ghost use Rattle.std.specs.BTreeMap.{get};
-ghost use Rattle.salt_model.specs.declared.locks.Reach.{Reach};
-ghost use Rattle.std.specs.Prelude.{◌≡◌, ◌↔◌, ◌∷◌, IfOk, OnOk, OnErr};
+ghost use Rattle.salt_deps.specs.Due.{NoneSettled};
+ghost use Rattle.salt_deps.specs.Maps.{is_source};
+ghost use Rattle.std.specs.Prelude.{IsTrue};
 
-use crate::due::due;
-use crate::names::{drop_names, has, in_order};
-use crate::pairs::{Pair, drop_pairs, drop_reader, pairs_read};
-use crate::reach::reached;
+use crate::due::{due, is_still_known};
+use crate::links::Links;
+use crate::sets::{listed, take_out};
+use crate::walks::reached;
+use crate::writers::{drop_writers, fresh_sources};
 use salt_model::Place;
 use salt_ranges::KeyRange;
 use salt_values::{Id, Ids, Key, TryCopy};
 use sqlite_items::Items;
 use std::alloc::{AllocError, Global};
-use std::collections::BTreeMap;
+use std::collections::{BTreeMap, BTreeSet};
 
 /// Of the programs that are neither released nor given up: which wrote a key last, which read from which, and which are
 /// finished.
@@ -30,28 +22,25 @@ use std::collections::BTreeMap;
 pub struct Deps {
     alloc: Global,
     writers: BTreeMap<Place, Id>,
-    pairs: Vec<Pair>,
-    finished: Vec<Id>,
-}
-
-/// The finished programs, and one more.
-fn marked(alloc: Global, finished: &[Id], base: Id) -> Result<Vec<Id>, AllocError>
-    ensures { IfOk result (λ marked. marked.items ≡ base ∷ finished.now) }
-{
-    let mut marked = Vec::new(alloc);
-    marked.push(base)?;
-    marked.extend_from_slice(finished)?;
-    Ok(marked)
-}
-
-/// Forgets the last writers that are among these programs.
-fn drop_writers(writers: &mut BTreeMap<Place, Id>, dropped: &[Id])
-    ensures { (q : Place) → get place_cmp writers.new q ≡ unless_among dropped.now (get place_cmp writers.old q) }
-{
-    writers.retain(|_, writer| !has(dropped, *writer));
+    links: Links,
+    finished: BTreeSet<Id>,
+    /// Whether it is known that no finished program is to be released.
+    none_due: bool,
+    ghost known: { IsTrue none_due → NoneSettled (is_source links.sources) finished.keys },
 }
 
 impl Deps {
+    ghost use Rattle.salt_deps.specs.Kept.{dependencies};
+    ghost use Rattle.salt_keeps.specs.DependencyCalls.{AreSame, HasAbandoned, HasFinished, HasRead, Wrote};
+    ghost use Rattle.salt_keeps.specs.KeptSources.{Through, no_dependencies};
+    ghost use Rattle.salt_keeps.specs.Members.{In};
+    ghost use Rattle.salt_keeps.specs.Rising.{Rising};
+    ghost use Rattle.salt_model.specs.Tables.{place};
+    ghost use Rattle.salt_model.specs.declared.locks.Mode.{Mode};
+    ghost use Rattle.salt_values.specs.declared.id.Id.{Id};
+    ghost use Rattle.salt_model.specs.declared.locks.Reach.{Reach};
+    ghost use Rattle.std.specs.Prelude.{◌≡◌, ◌↔◌, IfOk, OnOk, OnErr};
+
     /// Nothing is kept.
     pub fn new(alloc: Global) -> Deps
         ensures { dependencies result ≡ no_dependencies }
@@ -59,8 +48,9 @@ impl Deps {
         Deps {
             alloc,
             writers: BTreeMap::new(alloc),
-            pairs: Vec::new(alloc),
-            finished: Vec::new(alloc),
+            links: Links::new(alloc),
+            finished: BTreeSet::new(alloc),
+            none_due: true,
         }
     }
 
@@ -91,8 +81,11 @@ impl Deps {
         ensures ok { OnOk result ((mode : Mode) → HasRead base (record { table = table; range = range.now; mode = mode }) (dependencies self.old) (dependencies self.new)) }
         ensures err { OnErr result (AreSame (dependencies self.old) (dependencies self.new)) }
     {
-        let mut more = pairs_read(self.alloc, &self.pairs, &self.writers, base, table, range)?;
-        self.pairs.append(&mut more)?;
+        if range.is_empty() {
+            return Ok(());
+        }
+        let fresh = fresh_sources(self.alloc, &self.links, &self.writers, base, table, range)?;
+        self.links.add(base, &fresh)?;
         Ok(())
     }
 
@@ -100,7 +93,8 @@ impl Deps {
     pub fn abandon(&mut self, base: Id)
         ensures { HasAbandoned base (dependencies self.old) (dependencies self.new) }
     {
-        drop_reader(&mut self.pairs, base);
+        self.none_due = is_still_known(self.none_due, &self.finished, base);
+        self.links.drop_reader(base);
     }
 
     /// The program is finished: those that are released by this are given, in order of names, and forgotten. They are the
@@ -110,12 +104,13 @@ impl Deps {
         ensures order { IfOk result Rising }
         ensures err { OnErr result (AreSame (dependencies self.old) (dependencies self.new)) }
     {
-        let mut marked = marked(self.alloc, &self.finished, base)?;
-        let released = in_order(self.alloc, due(self.alloc, &self.pairs, &marked)?)?;
-        drop_names(&mut marked, &released);
-        self.finished = marked;
-        drop_pairs(&mut self.pairs, &released);
-        drop_writers(&mut self.writers, &released);
+        let due = due(self.alloc, &self.links, &self.finished, base, self.none_due)?;
+        let released = listed(self.alloc, &due)?;
+        self.finished.insert(base)?;
+        drop_writers(&mut self.writers, &due);
+        self.links.forget_all(&released);
+        take_out(&mut self.finished, &released);
+        self.none_due = true;
         Ok(Items::from_vec(released))
     }
 
@@ -131,7 +126,8 @@ impl Deps {
         ensures all { IfOk result (λ sources. (c : Id) → In c sources ↔ Through (dependencies self.now).reads base c) }
         ensures order { IfOk result Rising }
     {
-        let sources = in_order(self.alloc, reached(self.alloc, &self.pairs, base)?)?;
-        Ok(Items::from_vec(sources))
+        let sources = reached(self.alloc, &self.links, base)?;
+        let names = listed(self.alloc, &sources)?;
+        Ok(Items::from_vec(names))
     }
 }

@@ -3,9 +3,11 @@
 
 mod deps;
 mod due;
-mod names;
-mod pairs;
-mod reach;
+mod ends;
+mod links;
+mod sets;
+mod walks;
+mod writers;
 
 pub use deps::Deps;
 

@@ -1,4 +1,5 @@
 pub mod Fits
+pub mod InTurn
 pub mod Moved
 pub mod Near
 pub mod OneByOne

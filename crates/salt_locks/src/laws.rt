@@ -1,9 +1,10 @@
 //! The calls on a table are those that the definitions of what is kept ask for.
 
-ghost use Rattle.salt_keeps.specs.KeptLocks.{Numbered};
+ghost use Rattle.salt_keeps.specs.KeptLocks.{KeepsLocks, Numbered, is_owned_by};
 ghost use Rattle.salt_keeps.specs.KeptWaits.{Asker, clash_owners};
 ghost use Rattle.salt_keeps.specs.LockCalls.{HasDropped, HasSalted, HasTaken};
 ghost use Rattle.salt_locks.specs.Tables.{is_of_another, owners_against, put, salted};
+ghost use Rattle.salt_locks.specs.Turns.{locks_in_turn};
 ghost use Rattle.salt_model.specs.declared.events.Owner.{Owner};
 ghost use Rattle.salt_model.specs.declared.locks.Lock.{Lock};
 ghost use Rattle.salt_model.specs.declared.locks.Reach.{Reach};
@@ -30,4 +31,10 @@ pub fn to_saline_fits()
 /// An owner's locks are gone.
 pub fn drops_fit()
     ensures { (o : Owner) (old : List Numbered) → HasDropped o old (filter (is_of_another o) old) }
+{}
+
+/// An owner's locks by their numbers are its held ones in the order in which they were taken.
+pub fn turns_fit()
+    ensures { (table : List Numbered) (ls : List Lock) (o : Owner) → KeepsLocks table ls →
+        map (λ n. n.lock) (locks_in_turn o table) ≡ filter (is_owned_by o) ls }
 {}

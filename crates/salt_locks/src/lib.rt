@@ -2,13 +2,16 @@
 #![tactic(auto)]
 
 mod clash;
+mod copies;
 mod laws;
 mod owners;
 mod places;
 mod table;
+mod turns;
 
-pub use laws::{clashes_fit, drops_fit, takes_fit, to_saline_fits};
+pub use laws::{clashes_fit, drops_fit, takes_fit, to_saline_fits, turns_fit};
 pub use table::{LockTable, TakeErr};
+pub use turns::TakenLock;
 
 #[cfg(test)]
 mod tests;

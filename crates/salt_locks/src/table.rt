@@ -3,17 +3,20 @@
 ghost use Rattle.salt_keeps.specs.KeptLocks.{Numbered};
 ghost use Rattle.salt_locks.specs.Places.{AreInOrder, is_near};
 ghost use Rattle.salt_locks.specs.Tables.{Answers, is_of_another, locks_in, numbered, numbers_in, owners_against, put, salted, salted_lock};
+ghost use Rattle.salt_locks.specs.Turns.{locks_in_turn, numbered_of};
 ghost use Rattle.salt_locks.specs.declared.table.TakeErr.TheVariants.{Memory};
 ghost use Rattle.salt_model.specs.Locks.{lock_of};
 ghost use Rattle.std.specs.List.{filter};
 ghost use Rattle.std.specs.Prelude.{IfOk, OnErr, OnOk, [], length, map, ◌≡◌};
 
 use crate::clash::owners_against;
+use crate::copies::copy_range;
 use crate::owners::is_same_owner;
 use crate::places::{count_no_later, near};
+use crate::turns::{TakenLock, locks_in_turn};
 use salt_model::{Family, Lock, Owner, Owners, Reach};
 use salt_ranges::KeyRange;
-use salt_values::{Id, Key, TryCopy};
+use salt_values::Id;
 use std::alloc::{AllocError, Global};
 use std::marker::Model;
 
@@ -55,15 +58,6 @@ impl Model for LockTable {
     ghost invariant = { λ t. (length t.numbers.items ≡ length t.locks.items) × AreInOrder t.locks.items };
 }
 
-fn copy_end(alloc: Global, end: &Option<Key>) -> Result<Option<Key>, AllocError>
-    ensures { IfOk result (λ made. made ≡ end.now) }
-{
-    match end {
-        Some(key) => Ok(Some(key.copy(alloc)?)),
-        None => Ok(None),
-    }
-}
-
 fn lock_of(alloc: Global, owner: Owner, family: Family, reach: &Reach) -> Result<Lock, AllocError>
     ensures { IfOk result (λ lock. lock ≡ lock_of owner family reach.now) }
 {
@@ -72,10 +66,7 @@ fn lock_of(alloc: Global, owner: Owner, family: Family, reach: &Reach) -> Result
         family,
         mode: reach.mode,
         table: reach.table,
-        range: KeyRange {
-            lo: copy_end(alloc, &reach.range.lo)?,
-            hi: copy_end(alloc, &reach.range.hi)?,
-        },
+        range: copy_range(alloc, &reach.range)?,
     })
 }
 
@@ -146,6 +137,14 @@ impl LockTable {
         ensures { result.now ≡ filter (is_near table range.now) (locks_in self.now) }
     {
         near(&self.locks, table, range)
+    }
+
+    /// An owner's locks with the numbers of their statements, which ascend; where a number is there twice, the last of the two in
+    /// the table.
+    pub fn of_owner(&self, alloc: Global, owner: Owner) -> Result<Vec<TakenLock>, AllocError>
+        ensures { IfOk result (λ taken. map numbered_of taken.items ≡ locks_in_turn owner self.now) }
+    {
+        locks_in_turn(alloc, owner, &self.numbers, &self.locks)
     }
 
     /// The owners whose locks clash with what is asked, units before programs, each in order of their names. Takes no lock.

@@ -121,3 +121,31 @@ fn near_of_many(rt: HostRuntime) -> Result<(), Fail> {
     );
     Ok(())
 }
+
+// Locks on keys from 9 down, one for each number from 4 up, of two units in turn: each one's are told by their numbers.
+#[test]
+fn locks_of_one_owner(rt: HostRuntime) -> Result<(), Fail> {
+    let alloc = rt.alloc();
+    let mut table = LockTable::new(alloc);
+    for (number, key) in [(4, 9), (5, 8), (6, 7), (7, 6)] {
+        let owner = unit(number % 2);
+        let reach = reach(1, Mode::Write, key, key);
+        assert!(rt;
+            table
+                .take(alloc, number, owner, Family::Acid, &reach)
+                .is_ok()
+        );
+    }
+    let mut numbers = Vec::new(alloc);
+    let mut keys = Vec::new(alloc);
+    for TakenLock { number, lock } in &table.of_owner(alloc, unit(1))? {
+        numbers.push(*number)?;
+        if let Some(Value::Int(key)) = lock.range.lo {
+            keys.push(key)?;
+        }
+    }
+    assert_eq!(rt; numbers.as_slice(), &[5, 7][..]);
+    assert_eq!(rt; keys.as_slice(), &[8, 6][..]);
+    assert!(rt; table.of_owner(alloc, program(1))?.is_empty());
+    Ok(())
+}

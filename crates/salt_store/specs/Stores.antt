@@ -1,8 +1,8 @@
 -- What a store has, told by the definitions' record of what is kept.
 use Rattle.salt_ast.specs.declared.programs.ProgramDef.{ProgramDef}
 use Rattle.salt_cont.specs.Moves.{LeadOn, parts_named}
-use Rattle.salt_cont.specs.declared.moves.Move.TheVariants.{Continue, Finish, Plain}
-use Rattle.salt_cont.specs.declared.moves.Move.{Move}
+use Rattle.salt_bytes.specs.declared.moves.Move.TheVariants.{Continue, Finish, Plain}
+use Rattle.salt_bytes.specs.declared.moves.Move.{Move}
 use Rattle.salt_model.specs.Kept.{Kept, cont_of, conts_branched, conts_committed, programs_of, schema_of}
 use Rattle.salt_model.specs.declared.events.UnitKind.TheVariants.{Later}
 use Rattle.salt_model.specs.declared.events.UnitKind.{UnitKind}

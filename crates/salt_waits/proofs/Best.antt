@@ -1,15 +1,20 @@
 -- The best unit on a cycle, place by place.
 use Rattle.salt_values.specs.Id.{is_older}
-use Rattle.salt_waits.proofs.Circles.{place_of}
+use Rattle.salt_waits.proofs.Circles.{place_of, same_item}
 use Rattle.salt_waits.proofs.Orders.{before_both, none_before_itself, not_younger}
-use Rattle.salt_waits.specs.Best.{IsBestBelow}
 use Rattle.salt_waits.specs.Victims.{IsOnCycle, IsRightVictim, gives_way, gives_way_by, gives_way_to}
 use Rattle.salt_waits.specs.declared.units.WaitUnit.{WaitUnit}
 use Rattle.std.proofs.Common.{⊎_elim, Bool, IsTrue, List, None, Option, Some, ap, arith, eq-or-lt_of_le, false, length, option_map, refl, slice_get, subst, sym, true, ℕ, ◌+◌, ◌<◌, ◌≡◌, ◌∙◌, ◌≤◌, ◌⊎◌}
 use Rattle.std.proofs.lemmas.Option.{slice_get_within}
 
-same_item : {X : Type 0} (x y : X) → Some x ≡ Some y → x ≡ y
-same_item x y e = cc e
+-- no unit below the bound that is on a cycle gives way before it
+pub record IsBest (bound : ℕ) (list : List WaitUnit) (u : WaitUnit) : Type 0 where
+  pub on_cycle : IsOnCycle list u
+  pub first : (at : ℕ) (v : WaitUnit) → at < bound → slice_get list at ≡ Some v → IsOnCycle list v → gives_way v u ≡ false
+
+abbrev pub IsBestBelow : ℕ → List WaitUnit → Option WaitUnit → Type 0
+IsBestBelow bound list (Some u) = IsBest bound list u
+IsBestBelow bound list None = (at : ℕ) (v : WaitUnit) → at < bound → slice_get list at ≡ Some v → IsOnCycle list v → ⊥
 
 -- a fact of the units below a bound and of the one at it
 bounded : (P : WaitUnit → Type 0) (bound : ℕ) (list : List WaitUnit) (u : WaitUnit) → slice_get list bound ≡ Some u → ((at : ℕ) (v : WaitUnit) → at < bound → slice_get list at ≡ Some v → P v) → P u

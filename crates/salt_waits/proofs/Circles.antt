@@ -20,7 +20,7 @@ item_at [] at below = absurd (omega (arith, below))
 item_at (x ∷ xs) zero below = (x, refl)
 item_at (x ∷ xs) (suc at) below = item_at xs at (omega (arith, below))
 
-same_item : {X : Type 0} (x y : X) → Some x ≡ Some y → x ≡ y
+pub same_item : {X : Type 0} (x y : X) → Some x ≡ Some y → x ≡ y
 same_item x y e = cc e
 
 -- an edge of a place leads to a unit that the one at this place names

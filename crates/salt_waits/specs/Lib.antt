@@ -1,4 +1,3 @@
-pub mod Best
 pub mod Graphs
 pub mod Victims
 pub mod Walks

@@ -1,26 +1,17 @@
-use Rattle.salt_deps.proofs.Striking.{IsStruck, are-due, begins, strikes}
+use Rattle.salt_deps.proofs.Leaving.{all-come, none-settled}
 use Rattle.salt_deps.proofs.due.due.Goals as goal
-use Rattle.salt_deps.specs.Pairs.{is_held}
+use Rattle.salt_deps.specs.Due.{IsOpen}
+use Rattle.salt_deps.specs.Maps.{is_source}
 use Rattle.salt_values.specs.declared.id.Id.{Id}
-use Rattle.std.proofs.Common.{List, ap, arith, filter, length, not, subst, sym, ◌≡◌}
+use Rattle.std.proofs.Common.{List, [], ap, subst, ◌++◌, ◌∙◌, ◌∷◌}
 
-pub loop-alloc-init : goal.loop-alloc-init
-loop-alloc-init c = (
-  subst (IsStruck c.args.pairs.now c.args.finished.now) (sym {A = List Id} c.in_ok-left.ensures.items) (begins c.args.pairs.now c.args.finished.now),
-  subst (λ l. c.in_ok-next.next.items ≡ filter (λ b. not (is_held c.args.pairs.now l b)) l) c.deref.ensures.value c.in_ok-next.ensures,
-)
+pub settled_from-requires : goal.settled_from-requires
+settled_from-requires c =
+    all-come (is_source c.args.links.now.sources) c.args.base c.args.finished.now.keys c.deref.result.now
+    (c.deref.ensures.value ∙ (c.in_ok-push.ensures.items ∙ ap (λ (l : List Id). l ++ c.args.base ∷ []) c.in_ok-names.ensures.items))
 
-pub loop-alloc-preserved : goal.loop-alloc-preserved
-loop-alloc-preserved c =
-    let left = c.loop-alloc.left.items in
-    let invariant = c.loop-alloc.invariant in (
-      subst (IsStruck c.args.pairs.now c.args.finished.now) (sym {A = List Id} invariant.1) (strikes c.args.pairs.now c.args.finished.now left invariant.0),
-      subst (λ l. c.in_ok-next-2.next.items ≡ filter (λ b. not (is_held c.args.pairs.now l b)) l) c.deref-in-loop-alloc.ensures.value c.in_ok-next-2.ensures,
-    )
-
-pub returns : goal.returns
-returns c =
-    let invariant = c.loop-alloc.invariant in
-    let same = ap (λ (l : List Id). length l) invariant.1 in
-    are-due c.args.pairs.now c.args.finished.now c.loop-alloc.left.items invariant.0
-    (λ less. omega (arith, less, same, c.loop-alloc-test.false, c.len.ensures, c.len-in-loop-alloc.ensures))
+pub returns-then-branch : goal.returns-then-branch
+returns-then-branch c =
+    let reads = is_source c.args.links.now.sources in
+    let finished = c.args.base ∷ c.args.finished.now.keys in
+    none-settled reads c.args.base finished c.new.result.keys c.new.ensures.empty (c.requires c.if-not-known.false) (subst (IsOpen reads finished c.args.base) c.if-branch.true c.in_ok-is_open.ensures)

@@ -1,8 +1,7 @@
-use Rattle.salt_waits.proofs.Best.{best_of_all, better, no_better}
+use Rattle.salt_waits.proofs.Best.{IsBestBelow, best_of_all, better, no_better}
 use Rattle.salt_waits.proofs.Circles.{circles, in_range}
 use Rattle.salt_waits.proofs.units.victim.Goals as goal
 use Rattle.salt_waits.proofs.units.victim.Goals.{then-is_better+in_ok-is_on_cycle+then-branch, else-is_better, else-is_better-via-then-is_better+in_ok-is_on_cycle+else-branch, else-is_better-via-else-is_better}
-use Rattle.salt_waits.specs.Best.{IsBestBelow}
 use Rattle.salt_waits.specs.Graphs.{InRange, Leads}
 use Rattle.salt_waits.specs.Victims.{IsRightVictim}
 use Rattle.std.proofs.Common.{le_antisymm, ◌+◌, ◌∙◌, length, option_copied, refl, subst, sym}

@@ -1,5 +1,5 @@
 use Rattle.salt_waits.proofs.units.victim.Given as goal
-use Rattle.salt_waits.specs.Best.{IsBestBelow}
+use Rattle.salt_waits.proofs.Best.{IsBestBelow}
 use Rattle.std.proofs.Common.{option_copied}
 
 abbrev pub invariant-loop-at : goal.invariant-loop-at

@@ -1,14 +1,30 @@
-use Rattle.salt_deps.proofs.Calls.{read-pairs}
+use Rattle.salt_deps.proofs.Calls.{read-more}
+use Rattle.salt_deps.proofs.Settling.{more-read}
+use Rattle.salt_deps.proofs.Spanning.{none-inside}
 use Rattle.salt_deps.proofs.deps.Deps.read.Goals as goal
-use Rattle.salt_deps.specs.Pairs.{AreRead}
-use Rattle.std.proofs.Common.{refl, subst}
+use Rattle.salt_deps.specs.Maps.{is_source}
+use Rattle.salt_model.specs.Words.{has_id}
+use Rattle.salt_values.specs.Id.{is_same_id}
+use Rattle.salt_values.specs.declared.id.Id.{Id}
+use Rattle.std.proofs.Common.{⊎_elim, inl, refl, subst, sym, ◌&&◌, ◌||◌, ◌∙◌, ◌≡◌}
 
 pub returns-clause-ok : goal.returns-clause-ok
 returns-clause-ok c mode = record {
   writer = λ q. refl;
-  reads = read-pairs c.args.base c.args.table c.args.range.now mode c.args.self.now.writers c.args.self.now.pairs.items c.in_ok-more.more.items c.append.new.self.items
-      c.in_ok-more.ensures.ordered
-      (subst (λ ps. AreRead c.args.base c.args.table c.args.range.now c.args.self.now.writers.entries ps c.in_ok-more.more.items) c.deref.ensures.value c.in_ok-more.ensures.read)
-      c.in_ok-append.ensures.items;
+  reads = read-more c.args.base c.args.table c.args.range.now mode c.args.self.now.writers (is_source c.args.self.now.links.sources) (is_source c.add.new.self.sources) c.in_ok-fresh.fresh.items
+      c.in_ok-fresh.ensures.ordered c.in_ok-fresh.ensures.fresh
+      (subst (λ l. (x y : Id) → is_source c.add.new.self.sources x y ≡ (is_source c.args.self.now.links.sources x y || (is_same_id x c.args.base && has_id y l))) c.deref.ensures.value c.in_ok-add.ensures.ok);
   finished = λ b. (λ h. h, λ h. h);
+}
+
+pub returns-then-is_empty-clause-ok : goal.returns-then-is_empty-clause-ok
+returns-then-is_empty-clause-ok c mode = record {
+  writer = λ q. refl;
+  reads = λ x y. ((λ h. inl h), (λ h. ⊎_elim (λ old. old) (λ read. absurd (none-inside c.args.range.now read.2.0 (sym c.is_empty.ensures ∙ c.if-is_empty.true) read.2.1)) h));
+  finished = λ b. (λ h. h, λ h. h);
+}
+
+pub invariant_of-self-2 : goal.invariant_of-self-2
+invariant_of-self-2 c = record {
+  known = λ t. more-read (is_source c.args.self.now.links.sources) (is_source c.add.new.self.sources) c.args.self.now.finished.keys c.add.ensures.kept (c.args.self.now.known t);
 }

@@ -1,0 +1,60 @@
+#!/usr/bin/env python3
+"""Times what is kept of locks, programs and waits.
+
+- locks: taking a lock and dropping its owner's beside 10 to 10,000 locks on other keys, on the least key and on the greatest
+- programs: 10 to 1,000 that read from each other in a chain, or all from one, from the first reading to the end of the last
+- waits: the victim of 63 units that wait each for the next, each for all later ones, and in one circle
+
+The program `keeps_bench` makes them and asks so often; for locks and waits the time of a run that asks never is taken off. Ends with 1
+where an answer is wrong.
+
+    bench/keeps.py [OTHER]     with the keeps_bench of another commit, the same by both, in turns
+"""
+import subprocess, sys
+
+from timing import compared, seconds
+
+LOCKS = [10, 100, 1_000, 10_000]
+LOCK_TIMES = {10: 200_000, 100: 100_000, 1_000: 20_000, 10_000: 2_000}
+PROGRAMS = [10, 100, 1_000]
+PROGRAM_TIMES = {10: 10_000, 100: 1_000, 1_000: 100}
+UNITS = 63
+WAIT_TIMES = 1_000
+
+
+def answered(program, kind, many, times, answer):
+    """The line that asks; its answer is looked at."""
+    line = f"{kind} {many} {times}\n".encode()
+    told = subprocess.run([program], input=line, capture_output=True, check=True).stdout
+    if told != f"{answer}\n".encode():
+        sys.exit(f"bench/keeps.py: {line} gives {told}")
+    return line
+
+
+def measured(program, kind, many, times, answer, nothing):
+    """The time of one call, where `nothing` is the answer of a run that makes all and asks never."""
+    asked = answered(program, kind, many, times, answer)
+    return (seconds([program], asked) - seconds([program], answered(program, kind, many, 0, nothing))) / times
+
+
+def rows():
+    for kind in ["least", "greatest"]:
+        for many in LOCKS:
+            yield kind, many, LOCK_TIMES[many], many, many
+    for kind in ["chain", "star"]:
+        for many in PROGRAMS:
+            yield kind, many, PROGRAM_TIMES[many], many * PROGRAM_TIMES[many], 0
+    for kind, found in [("one", 0), ("all", 0), ("circle", WAIT_TIMES)]:
+        yield kind, UNITS, WAIT_TIMES, found, 0
+
+
+def main():
+    programs = compared("keeps_bench")
+    for kind, many, times, answer, nothing in rows():
+        for name, program in programs:
+            print(f"{kind:8} {many:6}, {name}: {measured(program, kind, many, times, answer, nothing) * 1e6:14.3f} µs", flush=True)
+    return 0
+
+
+if __name__ == "__main__":
+    sys.exit(main())

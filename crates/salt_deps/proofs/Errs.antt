@@ -1,0 +1,6 @@
+-- What holds, where an error comes.
+use Rattle.std.specs.Prelude.{Err, Ok, OnErr, Result}
+
+pub on_err : {T E : Type 0} (r : Result T E) (P : Type 0) → P → OnErr r P
+on_err (Ok x) P p = tt
+on_err (Err e) P p = p

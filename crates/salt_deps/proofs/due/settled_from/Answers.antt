@@ -1,0 +1,19 @@
+use Rattle.salt_deps.proofs.Leaving.{are-settled}
+use Rattle.salt_deps.proofs.due.settled_from.Goals as goal
+use Rattle.salt_deps.specs.Due.{AreComers, AreHeld, AreSettled}
+use Rattle.salt_deps.specs.Maps.{is_source}
+use Rattle.salt_model.specs.Words.{has_id}
+use Rattle.std.proofs.Common.{not, rules, subst, sym, ◌∙◌, ◌∷◌}
+use Rattle.std.proofs.lemmas.Fn.{filter_same}
+
+pub returns : goal.returns
+returns c =
+    let reads = is_source c.args.links.now.sources in
+    let finished = c.args.base ∷ c.args.finished.now.keys in
+    let found = c.in_ok-found.found.keys in
+    let held = c.in_ok-held.held.items in
+    let struck = c.in_ok-struck.struck.keys in
+    subst (AreSettled reads finished) (sym (filter_same _ (λ b. not (has_id b struck)) _ (λ x b f' k. search rules) _ _ c.retain.ensures.filtered))
+    (are-settled reads finished c.args.starts.now found held struck c.requires c.in_ok-found.ensures
+    (subst (λ l. AreHeld reads finished found l held) (c.deref.ensures.value ∙ c.in_ok-names.ensures.items) c.in_ok-held.ensures)
+    (subst (λ l. AreComers reads l struck) c.deref-2.ensures.value c.in_ok-struck.ensures))

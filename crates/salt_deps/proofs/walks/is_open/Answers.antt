@@ -1,0 +1,44 @@
+use Rattle.salt_deps.proofs.Walking.{IsPassing, IsWalk, all_sources, closed, nil-from, opens, passes-on, passes-one, sources-less, starts-one, walks-on}
+use Rattle.salt_deps.proofs.walks.is_open.Goals as goal
+use Rattle.salt_deps.specs.Maps.{is_source}
+use Rattle.salt_deps.specs.Walks.{unseen}
+use Rattle.salt_model.specs.Words.{has_id}
+use Rattle.salt_values.specs.declared.id.Id.{Id}
+use Rattle.std.proofs.Common.{List, [], ap, arith, length, subst, sym, ◌+◌, ◌<◌, ◌∙◌, ◌∷◌}
+
+pub loop-next-init : goal.loop-next-init
+loop-next-init c = (
+  starts-one (is_source c.args.links.now.sources) c.args.base c.new-seen.result.keys c.new-ahead.result.items c.see.new.seen.keys c.see.new.ahead.items
+      c.new-seen.ensures.empty c.new-ahead.ensures.items c.in_ok-see.ensures,
+  passes-one (c.args.base ∷ c.args.finished.now.keys) c.args.base c.new-seen.result.keys c.new-ahead.result.items c.see.new.seen.keys c.see.new.ahead.items
+      c.new-seen.ensures.empty c.in_ok-see.ensures,
+)
+
+pub loop-next-smaller : goal.loop-next-smaller
+loop-next-smaller c =
+    let all = all_sources c.args.links.now.sources.entries in
+    subst (λ (l : List Id). unseen all c.see_all.new.seen.keys + length c.see_all.new.ahead.items < unseen all c.loop-next.seen.keys + length l) (sym {A = List Id} c.in-Some.ensures.items)
+    (sources-less c.args.links.now.sources c.in-Some.next c.deref.result.now c.loop-next.seen.keys c.pop.new.self.items c.see_all.new.seen.keys c.see_all.new.ahead.items
+    (λ y. ap (has_id y) c.deref.ensures.value ∙ c.in_ok-sources.ensures y) c.in_ok-see_all.ensures)
+
+pub loop-next-preserved : goal.loop-next-preserved
+loop-next-preserved c =
+    let step = is_source c.args.links.now.sources in (
+      walks-on step (c.args.base ∷ []) c.loop-next.seen.keys c.pop.new.self.items c.see_all.new.seen.keys c.see_all.new.ahead.items c.deref.result.now c.in-Some.next
+          (subst (IsWalk step (c.args.base ∷ []) c.loop-next.seen.keys) c.in-Some.ensures.items c.loop-next.invariant.0)
+          (λ y. ap (has_id y) c.deref.ensures.value ∙ c.in_ok-sources.ensures y) c.in_ok-see_all.ensures,
+      passes-on (c.args.base ∷ c.args.finished.now.keys) c.loop-next.seen.keys c.pop.new.self.items c.see_all.new.seen.keys c.see_all.new.ahead.items c.deref.result.now c.in-Some.next
+          (subst (IsPassing (c.args.base ∷ c.args.finished.now.keys) c.loop-next.seen.keys) c.in-Some.ensures.items c.loop-next.invariant.1)
+          (sym c.is_done.ensures ∙ c.if-not-is_done.false) c.in_ok-see_all.ensures,
+    )
+
+pub returns : goal.returns
+returns c =
+    closed (is_source c.args.links.now.sources) (c.args.base ∷ c.args.finished.now.keys) c.args.base c.loop-next.seen.keys c.loop-next.ahead.items c.loop-next.invariant.0 c.loop-next.invariant.1
+    (nil-from c.loop-next.ahead.items (omega (arith, c.in_default.ensures.cases.0)))
+
+pub returns-then-not-is_done : goal.returns-then-not-is_done
+returns-then-not-is_done c =
+    let step = is_source c.args.links.now.sources in
+    opens step (c.args.base ∷ c.args.finished.now.keys) c.args.base c.loop-next.seen.keys c.pop.new.self.items c.in-Some.next
+    (subst (IsWalk step (c.args.base ∷ []) c.loop-next.seen.keys) c.in-Some.ensures.items c.loop-next.invariant.0) (sym c.is_done.ensures ∙ c.if-not-is_done.true)

@@ -1,0 +1,163 @@
+-- An owner's locks by their numbers ascend, and are all that it holds.
+use Rattle.salt_keeps.proofs.Ascending.{every-in}
+use Rattle.salt_keeps.proofs.KeptTable.{keeps-shown}
+use Rattle.salt_keeps.specs.KeptLocks.{KeepsLocks, Numbered, Sooner, is_owned_by}
+use Rattle.salt_keeps.specs.Members.{Ascends, In}
+use Rattle.salt_laws.proofs.Lists.{either, in-filter, into-filter}
+use Rattle.salt_locks.specs.Tables.{numbered}
+use Rattle.salt_locks.specs.Turns.{in_turn, is_of, locks_in_turn, numbered_of, put_in_turn}
+use Rattle.salt_locks.specs.declared.turns.TakenLock.{TakenLock}
+use Rattle.salt_model.specs.Words.{Every}
+use Rattle.salt_model.specs.declared.events.Owner.{Owner}
+use Rattle.salt_model.specs.declared.locks.Lock.{Lock}
+use Rattle.std.proofs.Common.{ap, arith, inl, inr, refl, sym, ◌∙◌}
+use Rattle.std.proofs.lemmas.Bool.{eqb-true, ltb-true}
+use Rattle.std.proofs.lemmas.Bool.Decides.{nat_tests}
+use Rattle.std.specs.List.{filter}
+use Rattle.std.specs.Prelude.{Bool, List, [], cond, drop, false, get_or, length, map, nat_lt, suc, true, zero, ℕ, ◌-◌, ◌<◌, ◌==◌, ◌∷◌, ◌≡◌, ◌≤◌}
+
+abbrev put : Numbered → List Numbered → List Numbered
+put n ns = put_in_turn (λ m. m.number) n ns
+
+abbrev ordered : List Numbered → List Numbered
+ordered ns = in_turn (λ m. m.number) ns
+
+in-put : (n m : Numbered) (ns : List Numbered) → In n (put m ns) → In n (m ∷ ns)
+in-put n m [] h = h
+in-put n m (x ∷ xs) h = by (in-put n m xs) (nat_lt m.number x.number) (m.number == x.number) h
+  where
+    by : (In n (put m xs) → In n (m ∷ xs)) → (a b : Bool) → In n (cond a (m ∷ x ∷ xs) (cond b (x ∷ xs) (x ∷ put m xs))) → In n (m ∷ x ∷ xs)
+    by more true b g = g
+    by more false true g = inr g
+    by more false false (inl e) = inr (inl e)
+    by more false false (inr g) = either (λ e. inl e) (λ i. inr (inr i)) (more g)
+
+-- where a number has one lock
+abbrev IsNamed : Numbered → List Numbered → Type 0
+IsNamed m ns = (x : Numbered) → In x ns → m.number ≡ x.number → m ≡ x
+
+into-put : (n m : Numbered) (ns : List Numbered) → IsNamed m ns → In n (m ∷ ns) → In n (put m ns)
+into-put n m [] one h = h
+into-put n m (x ∷ xs) one h = by (into-put n m xs (λ y i. one y (inr i))) (nat_lt m.number x.number) (m.number == x.number) refl h
+  where
+    by : (In n (m ∷ xs) → In n (put m xs)) → (a b : Bool) → (m.number == x.number) ≡ b → In n (m ∷ x ∷ xs) → In n (cond a (m ∷ x ∷ xs) (cond b (x ∷ xs) (x ∷ put m xs)))
+    by more true b e g = g
+    by more false true e (inl s) = inl (sym (one x (inl refl) (eqb-true m.number x.number e)) ∙ s)
+    by more false true e (inr g) = g
+    by more false false e (inl s) = inr (more (inl s))
+    by more false false e (inr (inl s)) = inl s
+    by more false false e (inr (inr g)) = inr (more (inr g))
+
+every-put : (m n : Numbered) (ns : List Numbered) → Sooner m n → Every (Sooner m) ns → Every (Sooner m) (put n ns)
+every-put m n [] s all = (s, tt)
+every-put m n (x ∷ xs) s all = by (every-put m n xs s all.1) (nat_lt n.number x.number) (n.number == x.number)
+  where
+    by : Every (Sooner m) (put n xs) → (a b : Bool) → Every (Sooner m) (cond a (n ∷ x ∷ xs) (cond b (x ∷ xs) (x ∷ put n xs)))
+    by more true b = (s, all)
+    by more false true = all
+    by more false false = (all.0, more)
+
+every-sooner : (m n : Numbered) (ns : List Numbered) → Sooner m n → Every (Sooner n) ns → Every (Sooner m) ns
+every-sooner m n [] s all = tt
+every-sooner m n (x ∷ xs) s all = let a = all.0 in (omega (arith, s, a), every-sooner m n xs s all.1)
+
+later : (a b : ℕ) → nat_lt a b ≡ false → (a == b) ≡ false → b < a
+later a b e f = grind (arith, nat_tests)
+
+put-ascends : (n : Numbered) (ns : List Numbered) → Ascends Sooner ns → Ascends Sooner (put n ns)
+put-ascends n [] h = (tt, tt)
+put-ascends n (x ∷ xs) h = by (put-ascends n xs h.1) (nat_lt n.number x.number) refl (n.number == x.number) refl
+  where
+    by : Ascends Sooner (put n xs) → (a : Bool) → nat_lt n.number x.number ≡ a → (b : Bool) → (n.number == x.number) ≡ b →
+        Ascends Sooner (cond a (n ∷ x ∷ xs) (cond b (x ∷ xs) (x ∷ put n xs)))
+    by more true e b f = let s = ltb-true n.number x.number e in ((s, every-sooner n x xs s h.0), h)
+    by more false e true f = h
+    by more false e false f = (every-put x n xs (later n.number x.number e f) h.0, more)
+
+in-turn-ascends : (ns : List Numbered) → Ascends Sooner (ordered ns)
+in-turn-ascends [] = tt
+in-turn-ascends (n ∷ ns) = put-ascends n (ordered ns) (in-turn-ascends ns)
+
+in-turn : (n : Numbered) (ns : List Numbered) → In n (ordered ns) → In n ns
+in-turn n [] h = h
+in-turn n (m ∷ ms) h = either (λ e. inl e) (λ i. inr (in-turn n ms i)) (in-put n m (ordered ms) h)
+
+abbrev AreNamed : List Numbered → Type 0
+AreNamed ns = (m x : Numbered) → In m ns → In x ns → m.number ≡ x.number → m ≡ x
+
+into-turn : (n : Numbered) (ns : List Numbered) → AreNamed ns → In n ns → In n (ordered ns)
+into-turn n [] one h = h
+into-turn n (m ∷ ms) one h = into-put n m (ordered ms) (λ x i. one m x (inl refl) (inr (in-turn x ms i)))
+    (either (λ e. inl e) (λ i. inr (into-turn n ms (λ y z j k. one y z (inr j) (inr k)) i)) h)
+
+-- of locks that ascend each number has one
+ascending-named : (ns : List Numbered) → Ascends Sooner ns → AreNamed ns
+ascending-named [] a m x i j e = absurd i
+ascending-named (n ∷ ns) a m x (inl e) (inl f) g = sym e ∙ f
+ascending-named (n ∷ ns) a m x (inl e) (inr j) g = let s = every-in (Sooner n) x ns a.0 j in let t = ap (λ (y : Numbered). y.number) e in absurd (omega (arith, s, t, g))
+ascending-named (n ∷ ns) a m x (inr i) (inl f) g = let s = every-in (Sooner n) m ns a.0 i in let t = ap (λ (y : Numbered). y.number) f in absurd (omega (arith, s, t, g))
+ascending-named (n ∷ ns) a m x (inr i) (inr j) g = ascending-named ns a.1 m x i j g
+
+pub turns : (table : List Numbered) (ls : List Lock) (o : Owner) → KeepsLocks table ls → map (λ n. n.lock) (locks_in_turn o table) ≡ filter (is_owned_by o) ls
+turns table ls o k =
+    let mine = filter (is_of o) table in
+    keeps-shown table (ordered mine) ls o k (in-turn-ascends mine) (λ n. (
+      (λ i. in-filter (is_of o) n table (in-turn n mine i)),
+      (λ h. into-turn n mine (λ m x i j. ascending-named k.in_turn k.rises m x ((k.same m).0 (in-filter (is_of o) m table i).0) ((k.same x).0 (in-filter (is_of o) x table j).0)) (into-filter (is_of o) n table h.0 h.1)),
+    ))
+
+-- locks with their numbers, as the code lists them
+
+pub put-numbered : (t : TakenLock) (ts : List TakenLock) → map numbered_of (put_in_turn (λ s. s.number) t ts) ≡ put (numbered_of t) (map numbered_of ts)
+put-numbered t [] = refl
+put-numbered t (x ∷ xs) = by (put-numbered t xs) (nat_lt t.number x.number) (t.number == x.number)
+  where
+    by : map numbered_of (put_in_turn (λ s. s.number) t xs) ≡ put (numbered_of t) (map numbered_of xs) → (a b : Bool) →
+        map numbered_of (cond a (t ∷ x ∷ xs) (cond b (x ∷ xs) (x ∷ put_in_turn (λ s. s.number) t xs)))
+        ≡ cond a (numbered_of t ∷ numbered_of x ∷ map numbered_of xs) (cond b (numbered_of x ∷ map numbered_of xs) (numbered_of x ∷ put (numbered_of t) (map numbered_of xs)))
+    by ih true b = refl
+    by ih false true = refl
+    by ih false false = ap (λ ns. numbered_of x ∷ ns) ih
+
+numbered_at : (k : ℕ) (ns : List ℕ) (ls : List Lock) (n : ℕ) (l : Lock) → k < length ls → length ns ≡ length ls →
+    numbered (drop k ns) (drop k ls) ≡ record { number = get_or ns k n; lock = get_or ls k l } ∷ numbered (drop (suc k) ns) (drop (suc k) ls)
+numbered_at k [] ls n l h same = absurd (omega (arith, h, same))
+numbered_at k (m ∷ ns) [] n l h same = absurd (omega (arith, h))
+numbered_at zero (m ∷ ns) (x ∷ ls) n l h same = refl
+numbered_at (suc k) (m ∷ ns) (x ∷ ls) n l h same = numbered_at k ns ls n l (omega (arith, h)) (omega (arith, same))
+
+one_own : (o : Owner) (m : Numbered) (ms : List Numbered) → is_of o m ≡ true → locks_in_turn o (m ∷ ms) ≡ put m (locks_in_turn o ms)
+one_own o m ms e = rw e refl
+
+one_other : (o : Owner) (m : Numbered) (ms : List Numbered) → is_of o m ≡ false → locks_in_turn o (m ∷ ms) ≡ locks_in_turn o ms
+one_other o m ms e = rw e refl
+
+one_before : (o : Owner) (ns : List ℕ) (ls : List Lock) (left n : ℕ) (l : Lock) → 0 < left → left ≤ length ls → length ns ≡ length ls →
+    locks_in_turn o (numbered (drop (left - 1) ns) (drop (left - 1) ls))
+    ≡ locks_in_turn o (record { number = get_or ns (left - 1) n; lock = get_or ls (left - 1) l } ∷ numbered (drop left ns) (drop left ls))
+one_before o ns ls left n l some h same =
+    let back : suc (left - 1) ≡ left = omega (arith, some) in
+    ap (locks_in_turn o) (numbered_at (left - 1) ns ls n l (omega (arith, some, h)) same)
+    ∙ ap (λ k. locks_in_turn o (record { number = get_or ns (left - 1) n; lock = get_or ls (left - 1) l } ∷ numbered (drop k ns) (drop k ls))) back
+
+-- what the loop keeps, where the lock is the owner's
+pub owned_step : (o : Owner) (ns : List ℕ) (ls : List Lock) (left n : ℕ) (l copy : Lock) (ts new : List TakenLock) → 0 < left → left ≤ length ls → length ns ≡ length ls →
+    l ≡ get_or ls (left - 1) l → copy ≡ l → is_owned_by o l ≡ true → map numbered_of ts ≡ locks_in_turn o (numbered (drop left ns) (drop left ls)) →
+    new ≡ put_in_turn (λ s. s.number) (record { number = get_or ns (left - 1) n; lock = copy }) ts →
+    map numbered_of new ≡ locks_in_turn o (numbered (drop (left - 1) ns) (drop (left - 1) ls))
+owned_step o ns ls left n l copy ts new some h same at is own before e =
+    let k = get_or ns (left - 1) n in
+    let m : Numbered = record { number = k; lock = get_or ls (left - 1) l } in
+    let rest = numbered (drop left ns) (drop left ls) in
+    ap (map numbered_of) e
+    ∙ (put-numbered (record { number = k; lock = copy }) ts
+    ∙ (ap (λ x. put (record { number = k; lock = x }) (map numbered_of ts)) (is ∙ at)
+    ∙ (ap (put m) before ∙ (sym (one_own o m rest (ap (is_owned_by o) (sym at) ∙ own)) ∙ sym (one_before o ns ls left n l some h same)))))
+
+-- and where it is another's
+pub other_step : (o : Owner) (ns : List ℕ) (ls : List Lock) (left : ℕ) (l : Lock) (ts : List TakenLock) → 0 < left → left ≤ length ls → length ns ≡ length ls →
+    l ≡ get_or ls (left - 1) l → is_owned_by o l ≡ false → map numbered_of ts ≡ locks_in_turn o (numbered (drop left ns) (drop left ls)) →
+    map numbered_of ts ≡ locks_in_turn o (numbered (drop (left - 1) ns) (drop (left - 1) ls))
+other_step o ns ls left l ts some h same at other before =
+    let m : Numbered = record { number = get_or ns (left - 1) 0; lock = get_or ls (left - 1) l } in
+    before ∙ (sym (one_other o m (numbered (drop left ns) (drop left ls)) (ap (is_owned_by o) (sym at) ∙ other)) ∙ sym (one_before o ns ls left 0 l some h same))
