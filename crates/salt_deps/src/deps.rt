@@ -118,7 +118,7 @@ impl Deps {
     pub fn is_finished(&self, base: Id) -> bool
         ensures { result ≡ (dependencies self.now).finished base }
     {
-        has(&self.finished, base)
+        self.finished.contains(&base)
     }
 
     /// The program and all that it reads from, directly or through programs, in order of names.
