@@ -19,3 +19,6 @@ pub use laws::{
 };
 pub use waiters::Waiter;
 pub use watching::Watching;
+
+#[cfg(test)]
+mod tests;
