@@ -37,10 +37,10 @@ none-found q k tied [] h = refl
 none-found q k tied (e ∷ es) h =
     ap (λ o. cond (is_eq o) (Some e.1) (find place_cmp q es)) (place_total.congr q k e.0 tied ∙ less_is _ (parted _ _ h).0) ∙ none-found q k tied es (parted _ _ h).1
 
-abbrev HasKeys : List Entry → Type 0
+abbrev pub HasKeys : List Entry → Type 0
 HasKeys es = (p : Place) → IfSome (find place_cmp p es) (λ row. key_of row ≡ p.key)
 
-tail-keys : (e : Entry) (es : List Entry) → T (below_all place_cmp e.0 es) → HasKeys (e ∷ es) → HasKeys es
+pub tail-keys : (e : Entry) (es : List Entry) → T (below_all place_cmp e.0 es) → HasKeys (e ∷ es) → HasKeys es
 tail-keys e es below keys p = by (place_cmp p e.0) refl (keys p)
   where
     by : (o : Ordering) → place_cmp p e.0 ≡ o → IfSome (cond (is_eq o) (Some e.1) (find place_cmp p es)) (λ row. key_of row ≡ p.key) → IfSome (find place_cmp p es) (λ row. key_of row ≡ p.key)
@@ -48,7 +48,7 @@ tail-keys e es below keys p = by (place_cmp p e.0) refl (keys p)
     by Greater is h = h
     by Equal is h = subst (λ o. IfSome o (λ row. key_of row ≡ p.key)) (sym (none-found p e.0 is es below)) tt
 
-head-key : (e : Entry) (es : List Entry) → HasKeys (e ∷ es) → key_of e.1 ≡ e.0.key
+pub head-key : (e : Entry) (es : List Entry) → HasKeys (e ∷ es) → key_of e.1 ≡ e.0.key
 head-key e es keys = subst (λ o. IfSome (cond (is_eq o) (Some e.1) (find place_cmp e.0 es)) (λ row. key_of row ≡ e.0.key)) (tied_itself place_total e.0) (keys e.0)
 
 next-keys : (t : ℕ) (range : KeyRange) (es : List Entry) → T (is_sorted place_cmp es) → HasKeys es → AtKeys t (filter (λ e. is_next t range None e.0) es)

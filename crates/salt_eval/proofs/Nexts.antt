@@ -45,7 +45,7 @@ at_most Less h = refl
 at_most Equal h = absurd cc
 at_most Greater h = absurd cc
 
-un : (b : Bool) → not b ≡ true → b ≡ false
+pub un : (b : Bool) → not b ≡ true → b ≡ false
 un true h = absurd cc
 un false h = refl
 
@@ -53,7 +53,7 @@ pub same_table : (t : ℕ) (k : Value) (x : Place) → (t == x.table) ≡ true �
 same_table t k x h = ap (λ o. ordering_then o (value_cmp k x.key)) (ap (nat_cmp t) (sym (eqb-true t x.table h)) ∙ tied_itself nat_cmp_total t)
 
 -- what is at or behind a place is in its table or a later one
-not_before : (t u : ℕ) (o : Ordering) → is_le (ordering_then (nat_cmp t u) o) ≡ true → t ≤ u
+pub not_before : (t u : ℕ) (o : Ordering) → is_le (ordering_then (nat_cmp t u) o) ≡ true → t ≤ u
 not_before t u o h = by (nat_cmp t u) (ranked t u (nat_cmp t u) refl) h
   where
     by : (r : Ordering) → MatchOrdering r (t < u) (t ≡ u) (u < t) → is_le (ordering_then r o) ≡ true → t ≤ u
@@ -156,7 +156,7 @@ module _ (t : ℕ) (range : KeyRange) (after : Option Value) where
   from_start : (x : Place) → from x ≡ true → is_from_start place_cmp (start_of t range.lo after) x ≡ true
   from_start x h = sym (and_true _) ∙ h
 
-  below_end : (hi : Option Value) (k l : Value) → value_cmp k l ≡ Less → is_below_high hi l ≡ true → is_below_high hi k ≡ true
+  pub below_end : (hi : Option Value) (k l : Value) → value_cmp k l ≡ Less → is_below_high hi l ≡ true → is_below_high hi k ≡ true
   below_end None k l less h = refl
   below_end (Some high) k l less h = ap not (upto value_total k l high (not_above _ (ap is_lt less)) (un _ h))
 

@@ -87,7 +87,7 @@ module _ (p : Place → Bool) where
             ap (λ b. cond b (f ∷ where_key place_cmp q es) (where_key place_cmp q es)) out ∙ later is
 
 -- behind a key that itself is behind another
-behind : (after : Option Value) (k l : Value) → is_behind after k ≡ true → is_lt (value_cmp k l) ≡ true → is_behind after l ≡ true
+pub behind : (after : Option Value) (k l : Value) → is_behind after k ≡ true → is_lt (value_cmp k l) ≡ true → is_behind after l ≡ true
 behind None k l h less = refl
 behind (Some after) k l h less = ap is_lt (value_total.trans after k l (is_less _ h) (is_less _ less))
   where
@@ -96,7 +96,7 @@ behind (Some after) k l h less = ap is_lt (value_total.trans after k l (is_less 
     is_less Equal h = absurd cc
     is_less Greater h = absurd cc
 
-next-behind : (t : ℕ) (range : KeyRange) (after : Option Value) (k : Value) → is_behind after k ≡ true → (x : Place) → is_next t range (Some k) x ≡ (is_next t range after x && is_lt (place_cmp (place t k) x))
+pub next-behind : (t : ℕ) (range : KeyRange) (after : Option Value) (k : Value) → is_behind after k ≡ true → (x : Place) → is_next t range (Some k) x ≡ (is_next t range after x && is_lt (place_cmp (place t k) x))
 next-behind t range after k h x = by (t == x.table) refl (is_lt (value_cmp k x.key)) refl
   where
     by : (b : Bool) → (t == x.table) ≡ b → (c : Bool) → is_lt (value_cmp k x.key) ≡ c → ((b && has_key range x.key) && is_lt (value_cmp k x.key)) ≡ (((b && has_key range x.key) && is_behind after x.key) && is_lt (place_cmp (place t k) x))

@@ -107,6 +107,10 @@ impl<'a> RowView for MapView<'a> {
 
     ghost tables = { shown_by };
 
+    ghost Source = { Unit {0} };
+
+    ghost shown_from = { λ _. tt };
+
     ghost faults = { λ _. 0 };
 
     fn get(&mut self, table: u16, key: &Key) -> Result<Option<Row>, ViewErr> {

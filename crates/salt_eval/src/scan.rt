@@ -73,6 +73,7 @@ fn gather_one<V: RowView, G: Gather>(
 ) -> Result<(), StatementErr>
     ensures gathered { Leaves (gathered (filtered (kept_by filter.now) G.with_row) gather.old (row_list (row_at (place table key.now) (V.tables view.old)))) gather.new result }
     ensures kept { V.tables view.new ≡ V.tables view.old }
+    ensures source { V.shown_from view.new ≡ V.shown_from view.old }
     ensures faults { CountsFaultsOf (V.faults view.old) (V.faults view.new) result }
 {
     match view.get(table, key)? {
@@ -96,6 +97,7 @@ fn gather_all<V: RowView, G: Gather>(
     requires { IsKeyed (V.tables view.old) }
     ensures gathered { Leaves (gathered (filtered (kept_by filter.now) G.with_row) gather.old (range_rows table range.now (V.tables view.old))) gather.new result }
     ensures kept { V.tables view.new ≡ V.tables view.old }
+    ensures source { V.shown_from view.new ≡ V.shown_from view.old }
     ensures faults { CountsFaultsOf (V.faults view.old) (V.faults view.new) result }
 {
     let mut after: Option<Key> = None;
@@ -118,6 +120,7 @@ pub fn scan<V: RowView, G: Gather>(
     requires { IsKeyed (V.tables view.old) }
     ensures gathered { Leaves (gathered (filtered (kept_by filter.now) G.with_row) gather.old (range_rows table range.now (V.tables view.old))) gather.new result }
     ensures kept { V.tables view.new ≡ V.tables view.old }
+    ensures source { V.shown_from view.new ≡ V.shown_from view.old }
     ensures faults { CountsFaultsOf (V.faults view.old) (V.faults view.new) result }
 {
     match point_of(range) {

@@ -34,6 +34,7 @@ fn whole_rows<V: RowView>(
     ensures answer { (vars : List Binding) (by : Option Expr) → Filters (kept_by filter.now) def.now vars by
         → Gives (shown_of table range.now def.now vars by All (V.tables view.old)) result }
     ensures kept { V.tables view.new ≡ V.tables view.old }
+    ensures source { V.shown_from view.new ≡ V.shown_from view.old }
     ensures faults { CountsFaultsOf (V.faults view.old) (V.faults view.new) result }
 {
     let mut shown = WholeRows {
@@ -58,6 +59,7 @@ fn column_rows<V: RowView>(
     ensures answer { (vars : List Binding) (by : Option Expr) → Filters (kept_by filter.now) def.now vars by
         → Gives (shown_of table range.now def.now vars by (Columns names.now) (V.tables view.old)) result }
     ensures kept { V.tables view.new ≡ V.tables view.old }
+    ensures source { V.shown_from view.new ≡ V.shown_from view.old }
     ensures faults { CountsFaultsOf (V.faults view.old) (V.faults view.new) result }
 {
     let numbers = column_numbers(alloc, def.columns.as_slice(), names.as_slice())?;
@@ -83,6 +85,7 @@ fn row_count<V: RowView>(
     ensures answer { (vars : List Binding) (by : Option Expr) → Filters (kept_by filter.now) def.now vars by
         → Gives (shown_of table range.now def.now vars by Count (V.tables view.old)) result }
     ensures kept { V.tables view.new ≡ V.tables view.old }
+    ensures source { V.shown_from view.new ≡ V.shown_from view.old }
     ensures faults { CountsFaultsOf (V.faults view.old) (V.faults view.new) result }
 {
     let mut shown = RowCount { count: 0 };
@@ -104,6 +107,7 @@ fn column_sum<V: RowView>(
     ensures answer { (vars : List Binding) (by : Option Expr) → Filters (kept_by filter.now) def.now vars by
         → Gives (shown_of table range.now def.now vars by (Sum name.now) (V.tables view.old)) result }
     ensures kept { V.tables view.new ≡ V.tables view.old }
+    ensures source { V.shown_from view.new ≡ V.shown_from view.old }
     ensures faults { CountsFaultsOf (V.faults view.old) (V.faults view.new) result }
 {
     let mut shown = ColumnSum {
@@ -129,6 +133,7 @@ fn best_cell<V: RowView>(
     ensures answer { (vars : List Binding) (by : Option Expr) → Filters (kept_by filter.now) def.now vars by
         → Gives (shown_of table range.now def.now vars by (best_what is_greatest name.now) (V.tables view.old)) result }
     ensures kept { V.tables view.new ≡ V.tables view.old }
+    ensures source { V.shown_from view.new ≡ V.shown_from view.old }
     ensures faults { CountsFaultsOf (V.faults view.old) (V.faults view.new) result }
 {
     let mut shown = ColumnBest {
@@ -155,6 +160,7 @@ pub fn show<V: RowView>(
     ensures answer { (vars : List Binding) (by : Option Expr) → Filters (kept_by filter.now) def.now vars by
         → Gives (shown_of table range.now def.now vars by what.now (V.tables view.old)) result }
     ensures kept { V.tables view.new ≡ V.tables view.old }
+    ensures source { V.shown_from view.new ≡ V.shown_from view.old }
     ensures faults { CountsFaultsOf (V.faults view.old) (V.faults view.new) result }
 {
     match what {

@@ -39,6 +39,7 @@ fn insert<V: RowView>(
 ) -> Result<Effect, StatementErr>
     ensures done { (name : List ℕ) → Gives (table_effect table def.now vars.now (Insert name values.now) (V.tables view.old)) result }
     ensures kept { V.tables view.new ≡ V.tables view.old }
+    ensures source { V.shown_from view.new ≡ V.shown_from view.old }
     ensures faults { CountsFaultsOf (V.faults view.old) (V.faults view.new) result }
 {
     let row = values_outside(alloc, vars, values)?;
@@ -69,6 +70,7 @@ fn select_into<V: RowView>(
 ) -> Result<Effect, StatementErr>
     ensures done { (name var : List ℕ) → Gives (table_effect table def.now vars.now (SelectInto column.now var name key.now) (V.tables view.old)) result }
     ensures kept { V.tables view.new ≡ V.tables view.old }
+    ensures source { V.shown_from view.new ≡ V.shown_from view.old }
     ensures faults { CountsFaultsOf (V.faults view.old) (V.faults view.new) result }
 {
     let key = value_outside(alloc, vars, key)?;
@@ -93,6 +95,7 @@ fn select<V: RowView>(
     requires { IsKeyed (V.tables view.old) }
     ensures done { (name : List ℕ) → Gives (table_effect table def.now vars.now (Select what.now name rows.now) (V.tables view.old)) result }
     ensures kept { V.tables view.new ≡ V.tables view.old }
+    ensures source { V.shown_from view.new ≡ V.shown_from view.old }
     ensures faults { CountsFaultsOf (V.faults view.old) (V.faults view.new) result }
 {
     let range = range_of(alloc, vars, &rows.bound)?;
@@ -114,6 +117,7 @@ fn update<V: RowView>(
     requires { IsKeyed (V.tables view.old) }
     ensures done { (name : List ℕ) → Gives (table_effect table def.now vars.now (Update name sets.now rows.now) (V.tables view.old)) result }
     ensures kept { V.tables view.new ≡ V.tables view.old }
+    ensures source { V.shown_from view.new ≡ V.shown_from view.old }
     ensures faults { CountsFaultsOf (V.faults view.old) (V.faults view.new) result }
 {
     let range = range_of(alloc, vars, &rows.bound)?;
@@ -141,6 +145,7 @@ fn delete<V: RowView>(
     requires { IsKeyed (V.tables view.old) }
     ensures done { (name : List ℕ) → Gives (table_effect table def.now vars.now (Delete name rows.now) (V.tables view.old)) result }
     ensures kept { V.tables view.new ≡ V.tables view.old }
+    ensures source { V.shown_from view.new ≡ V.shown_from view.old }
     ensures faults { CountsFaultsOf (V.faults view.old) (V.faults view.new) result }
 {
     let range = range_of(alloc, vars, &rows.bound)?;
@@ -178,6 +183,7 @@ fn attempt_in<V: RowView>(
     requires { IsKeyed (V.tables view.old) }
     ensures done { Gives (table_effect table def.now vars.now statement.now (V.tables view.old)) result }
     ensures kept { V.tables view.new ≡ V.tables view.old }
+    ensures source { V.shown_from view.new ≡ V.shown_from view.old }
     ensures faults { CountsFaultsOf (V.faults view.old) (V.faults view.new) result }
 {
     match statement {
@@ -207,6 +213,7 @@ fn attempt<V: RowView>(
     requires { IsKeyed (V.tables view.old) }
     ensures done { Gives (attempted schema.now vars.now statement.now (V.tables view.old)) result }
     ensures kept { V.tables view.new ≡ V.tables view.old }
+    ensures source { V.shown_from view.new ≡ V.shown_from view.old }
     ensures faults { CountsFaultsOf (V.faults view.old) (V.faults view.new) result }
 {
     if let Statement::Ensure(condition) = statement {
@@ -236,6 +243,7 @@ pub fn execute<V: RowView>(
     requires { IsKeyed (V.tables view.old) }
     ensures done { IfOk result (λ effect. IsEffect effect (outcome_of schema.now (V.tables view.old) vars.now statement.now)) }
     ensures kept { V.tables view.new ≡ V.tables view.old }
+    ensures source { V.shown_from view.new ≡ V.shown_from view.old }
     ensures faults { CountsFaults (V.faults view.old) (V.faults view.new) result }
 {
     match attempt(alloc, view, schema, vars.as_slice(), statement) {

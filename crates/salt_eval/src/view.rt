@@ -32,6 +32,12 @@ pub trait RowView {
     /// The tables that it shows, which no call changes.
     ghost tables: { Self → Tables };
 
+    /// What each view says of where its rows come from.
+    ghost Source: { Type 0 };
+
+    /// Where its rows come from, which no call changes: over another view the reference to it, and what that one shows.
+    ghost shown_from: { Self → Self.Source };
+
     /// The count of faults, which a call that answers `Fault` raises unless it stands at 2^64 - 1, and no other call changes.
     ghost faults: { Self → ℕ };
 
@@ -39,6 +45,7 @@ pub trait RowView {
     fn get(&mut self, table: u16, key: &Key) -> Result<Option<Row>, ViewErr>
         ensures row { IfOk result (λ row. row ≡ row_at (place table key.now) (tables self.old)) }
         ensures kept { tables self.new ≡ tables self.old }
+        ensures source { shown_from self.new ≡ shown_from self.old }
         ensures faults { CountsFaults (faults self.old) (faults self.new) result };
 
     /// The row of the least key in the range that is above `after`, where one is given; `None` exactly where there is none.
@@ -50,5 +57,6 @@ pub trait RowView {
     ) -> Result<Option<Row>, ViewErr>
         ensures row { IfOk result (λ row. row ≡ next_row table range.now (option_copied after.entry) (tables self.old)) }
         ensures kept { tables self.new ≡ tables self.old }
+        ensures source { shown_from self.new ≡ shown_from self.old }
         ensures faults { CountsFaults (faults self.old) (faults self.new) result };
 }

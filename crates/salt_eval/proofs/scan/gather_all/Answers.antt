@@ -21,6 +21,7 @@ loop-after-preserved g c =
     ∙ ap (next_row c.args.table c.args.range.now c.loop-after.after) c.loop-after.invariant.kept in
     record {
       kept = c.in_ok-row.ensures.kept ∙ c.loop-after.invariant.kept;
+      source = c.in_ok-row.ensures.source ∙ c.loop-after.invariant.source;
       faults = c.in_ok-row.ensures.faults ∙ c.loop-after.invariant.faults;
       rest =
           gathered-next c.args.table c.args.range.now c.loop-after.after es (filtered (kept_by c.args.filter.now) g.G.Gather.with_row) c.loop-after.gather c.take_kept.new.gather c.in-Some.row c.in_ok-key_of.field-0 next c.requires

@@ -15,6 +15,7 @@ returns-in_default-number g c =
     record {
       done = attempted-unknown c.args.vars.now (g.V.RowView.tables c.args.view.now) c.args.schema.now c.args.statement.now c.in-Some.name.now names (sym c.number.ensures ∙ c.in_default-number.is);
       kept = refl;
+      source = refl;
       faults = refl;
     }
 
@@ -32,5 +33,6 @@ returns g c =
     record {
       done = subst (λ meant. Gives meant c.attempt_in.result) (sym known) c.attempt_in.ensures.done;
       kept = c.attempt_in.ensures.kept;
+      source = c.attempt_in.ensures.source;
       faults = c.attempt_in.ensures.faults;
     }

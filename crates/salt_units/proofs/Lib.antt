@@ -1,0 +1,12 @@
+pub mod Changed
+pub mod Cuts
+pub mod Fewer
+pub mod Firsts
+pub mod Keeping
+pub mod Keyed
+pub mod Maps
+pub mod Overlaid
+pub mod Places
+pub mod Searches
+pub mod Variables
+pub mod Turning

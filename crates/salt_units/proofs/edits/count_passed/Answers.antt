@@ -1,0 +1,13 @@
+use Rattle.salt_model.specs.Tables.{changed_at}
+use Rattle.salt_units.proofs.Cuts.{parted-by}
+use Rattle.salt_units.proofs.Searches.{passed-ends}
+use Rattle.salt_units.proofs.edits.count_passed.Goals as goal
+use Rattle.salt_units.specs.Edited.{is_passed}
+use Rattle.std.proofs.Common.{rules}
+use Rattle.std.proofs.lemmas.List.Sorted.{IsPartitionPoint-from_clause}
+use Rattle.std.specs.Option.{option_copied}
+
+pub returns-clause-counted : goal.returns-clause-counted
+returns-clause-counted c =
+    let p = is_passed c.args.table c.args.range.now (option_copied c.args.after) in
+    IsPartitionPoint-from_clause (λ x. p (changed_at x)) _ _ c.partition_point.ensures.partitioned (parted-by p (passed-ends c.args.table c.args.range.now (option_copied c.args.after)) c.args.changes.now c.requires) (λ a r f k. search rules)

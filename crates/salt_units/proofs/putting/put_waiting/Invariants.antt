@@ -1,0 +1,15 @@
+use Rattle.salt_keeps.specs.Overlays.{AreInOrder}
+use Rattle.salt_units.proofs.putting.put_waiting.Given as goal
+use Rattle.salt_units.specs.Edited.{edits_of}
+use Rattle.salt_units.specs.Putting.{put_each}
+use Rattle.std.proofs.Common.{reverse, vec_capacity, vec_len, ◌+◌, ◌≡◌, ◌≤◌}
+
+abbrev pub invariant-loop-change : goal.invariant-loop-change
+invariant-loop-change l = record {
+  in_order : AreInOrder (edits_of l.changes.items);
+  room : vec_len l.changes + vec_len l.waiting ≤ vec_capacity l.changes;
+  rest : put_each (reverse l.waiting.items) l.changes.items ≡ put_each (reverse l.initial.waiting.items) l.initial.changes.items;
+}
+
+abbrev pub decreases-loop-change : goal.decreases-loop-change
+decreases-loop-change l = vec_len l.waiting

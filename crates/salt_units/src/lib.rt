@@ -1,0 +1,17 @@
+//! An open unit: its variables, its changes, and the view of the tables under its changes.
+#![tactic(auto)]
+
+mod acting;
+mod edits;
+mod laws;
+mod merging;
+mod overlay;
+mod putting;
+mod storing;
+mod unit;
+
+pub use acting::execute_under;
+pub use laws::rows_stay_at_their_keys;
+pub use overlay::Overlay;
+pub use putting::put_changes;
+pub use unit::OpenUnit;

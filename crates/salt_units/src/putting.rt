@@ -1,0 +1,66 @@
+//! Changes put into changes that are in order of their places.
+
+ghost use Rattle.std.specs.Prelude.{◌≡◌, ◌<◌, ◌≤◌, ◌+◌, IfOk, IsOk, OnErr, OnOk, reverse, vec_capacity, vec_len};
+ghost use Rattle.salt_keeps.specs.Overlays.{AreInOrder, put_all};
+ghost use Rattle.salt_units.specs.Edited.{edits_of};
+ghost use Rattle.salt_units.specs.Putting.{put_change, put_each};
+
+use crate::edits::{count_before, is_change_at};
+use salt_values::{Change, Changes};
+use std::alloc::{AllocError, Global};
+
+/// Puts a change in its place, and in the place of one that is there. With room it succeeds; an error leaves the changes.
+fn put_change(changes: &mut Vec<Change>, change: Change) -> Result<(), AllocError>
+    requires { AreInOrder (edits_of changes.old.items) }
+    ensures put { OnOk result (changes.new.items ≡ put_change change changes.old.items) }
+    ensures in_order { OnOk result (AreInOrder (edits_of changes.new.items)) }
+    ensures err { OnErr result (changes.new.items ≡ changes.old.items) }
+    ensures room { vec_len changes.old < vec_capacity changes.old → IsOk result }
+    ensures capacity { vec_capacity changes.old ≤ vec_capacity changes.new }
+    ensures len { vec_len changes.new ≤ vec_len changes.old + 1 }
+{
+    let at = count_before(changes, change.table, &change.key);
+    if at < changes.len() && is_change_at(&changes[at], change.table, &change.key) {
+        changes[at] = change;
+        return Ok(());
+    }
+    changes.insert(at, change)?;
+    Ok(())
+}
+
+/// The changes from the last to the first.
+fn reversed(alloc: Global, mut changes: Changes) -> Result<Vec<Change>, AllocError>
+    ensures { IfOk result (λ turned. turned.items ≡ reverse changes) }
+{
+    let mut turned = Vec::new(alloc);
+    while let Some(change) = changes.pop() {
+        turned.push(change)?;
+    }
+    Ok(turned)
+}
+
+/// Puts changes that wait from the last to the first. There has to be room for each.
+fn put_waiting(changes: &mut Vec<Change>, mut waiting: Vec<Change>)
+    requires in_order { AreInOrder (edits_of changes.old.items) }
+    requires room { vec_len changes.old + vec_len waiting ≤ vec_capacity changes.old }
+    ensures { changes.new.items ≡ put_each (reverse waiting.items) changes.old.items }
+{
+    while let Some(change) = waiting.pop() {
+        if put_change(changes, change).is_err() {
+            unreachable!();
+        }
+    }
+}
+
+/// Puts changes into changes in order, one after another; those put may be in any order, and repeat places. An error leaves
+/// those that there are.
+pub fn put_changes(alloc: Global, changes: &mut Vec<Change>, new: Changes) -> Result<(), AllocError>
+    requires { AreInOrder (edits_of changes.old.items) }
+    ensures put { OnOk result (edits_of changes.new.items ≡ put_all new (edits_of changes.old.items)) }
+    ensures err { OnErr result (changes.new.items ≡ changes.old.items) }
+{
+    let waiting = reversed(alloc, new)?;
+    changes.reserve(waiting.len())?;
+    put_waiting(changes, waiting);
+    Ok(())
+}
