@@ -38,11 +38,11 @@ programs-with-program (OfTable e ∷ ds) p = programs-with-program ds p
 programs-with-program (OfProgram q ∷ ds) p = ap (λ l. q ∷ l) (programs-with-program ds p)
 
 -- the first of two is none where either is
-first-none : {A : Type 0} (x y : Option A) → option_or x y ≡ None → (x ≡ None) × (y ≡ None)
+pub first-none : {A : Type 0} (x y : Option A) → option_or x y ≡ None → (x ≡ None) × (y ≡ None)
 first-none None y h = (refl, h)
 first-none (Some x) y h = absurd (cc)
 
-unmapped : {A B : Type 0} (f : A → B) (o : Option A) → option_map f o ≡ None → o ≡ None
+pub unmapped : {A B : Type 0} (f : A → B) (o : Option A) → option_map f o ≡ None → o ≡ None
 unmapped f None h = refl
 unmapped f (Some x) h = absurd (cc)
 

@@ -1,0 +1,57 @@
+-- Units that are looked up among those that are held.
+use Rattle.salt_books.specs.Books.{seen}
+use Rattle.salt_books.specs.declared.held.Held.{Held}
+use Rattle.salt_keeps.specs.OpenUnits.{OpenUnit, names_in, unit_named}
+use Rattle.salt_keeps.specs.Readings.{first_parts}
+use Rattle.salt_laws.proofs.Ids.{is_same_id-true}
+use Rattle.salt_model.specs.Units.{program_begun}
+use Rattle.salt_store.proofs.FirstCont.{none-found}
+use Rattle.salt_values.specs.Id.{is_same_id}
+use Rattle.salt_values.specs.declared.id.Id.{Id}
+use Rattle.std.proofs.Common.{ap, arith, subst, sym, ◌∙◌}
+use Rattle.std.proofs.lemmas.Bool.Decides.{nat_tests}
+use Rattle.std.proofs.lemmas.List.Quantifiers.{position-Some}
+use Rattle.std.specs.List.{cons_option, filter_map, find, position, position_or_len}
+use Rattle.std.specs.Prelude.{Bool, IsSome, List, None, Option, Some, [], cond, get_or, length, map, nat_lt, option_map, refl, true, false, ℕ, ◌<◌, ◌∷◌, ◌≡◌}
+
+pub find-seen : (p : OpenUnit → Bool) (hs : List Held) → option_map seen (find (λ (h : Held). p (seen h)) hs) ≡ find p (map seen hs)
+find-seen p [] = refl
+find-seen p (h ∷ hs) = by (p (seen h)) (find-seen p hs)
+  where
+    by : (b : Bool) → option_map seen (find (λ (h : Held). p (seen h)) hs) ≡ find p (map seen hs) →
+        option_map seen (cond b (Some h) (find (λ (h : Held). p (seen h)) hs)) ≡ cond b (Some (seen h)) (find p (map seen hs))
+    by true more = refl
+    by false more = more
+
+-- where a search has come to
+pub found-within : {A : Type 0} (p : A → Bool) (xs : List A) (at : ℕ) → position p xs ≡ Some at → at < length xs
+found-within p xs at h = by (nat_lt (position_or_len p xs) (length xs)) refl h
+  where
+    by : (t : Bool) → nat_lt (position_or_len p xs) (length xs) ≡ t → cond t (Some (position_or_len p xs)) None ≡ Some at → at < length xs
+    by true e g = let same : position_or_len p xs ≡ at = cc in grind (arith, nat_tests)
+    by false e g = absurd cc
+
+-- a search by name
+module _ (u : Id) (hs : List Held) where
+  abbrev is_it : Held → Bool
+  is_it h = is_same_id (seen h).unit u
+
+  pub within : (at : ℕ) → position (λ (h : Held). is_same_id (seen h).unit u) hs ≡ Some at → at < length hs
+  within at e = found-within is_it hs at e
+
+  pub named : (at : ℕ) (d : Held) → position (λ (h : Held). is_same_id (seen h).unit u) hs ≡ Some at → (get_or hs at d).open.unit ≡ u
+  named at d e = is_same_id-true (get_or hs at d).open.unit u (position-Some is_it hs at d e).1
+
+  pub not-there : (os : List OpenUnit) → map seen hs ≡ os → IsSome (unit_named u os) → position (λ (h : Held). is_same_id (seen h).unit u) hs ≡ None → ⊥
+  not-there os same there e =
+      let none : unit_named u os ≡ None =
+      sym (ap (unit_named u) same) ∙ sym (find-seen (λ (o : OpenUnit). is_same_id o.unit u) hs) ∙ ap (option_map seen) (none-found is_it hs e) in
+      let none_is = subst IsSome none there in cc
+
+pub names-seen : (hs : List Held) → map (λ (h : Held). (seen h).unit) hs ≡ names_in (map seen hs)
+names-seen [] = refl
+names-seen (h ∷ hs) = ap (λ l. h.open.unit ∷ l) (names-seen hs)
+
+pub parts-seen : (hs : List Held) → filter_map (λ (h : Held). program_begun (seen h).kind) hs ≡ first_parts (map seen hs)
+parts-seen [] = refl
+parts-seen (h ∷ hs) = ap (λ l. cons_option (program_begun h.kind) l) (parts-seen hs)

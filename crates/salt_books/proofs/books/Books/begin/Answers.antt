@@ -1,0 +1,46 @@
+use Rattle.salt_books.proofs.books.Books.begin.Goals as goal
+use Rattle.salt_books.specs.Books.{seen}
+use Rattle.salt_books.specs.declared.held.Held.{Held}
+use Rattle.salt_keeps.specs.OpenUnits.{OpenUnit}
+use Rattle.salt_keeps.specs.Steps.{begun}
+use Rattle.salt_keeps.specs.Told.{next_unit}
+use Rattle.salt_laws.proofs.Every.{every-append}
+use Rattle.salt_model.specs.Units.{program_begun}
+use Rattle.salt_units.specs.Edited.{edits_of}
+use Rattle.salt_values.specs.declared.id.Id.{Id}
+use Rattle.std.proofs.Common.{None, [], ap, false, sym, ◌+◌, ◌++◌, ◌∙◌, ◌∷◌, ◌≡◌}
+use Rattle.std.proofs.lemmas.List.{map-append}
+use Rattle.std.specs.Prelude.{if◌then◌else◌, is_some, map}
+
+pub returns-clause-name : goal.returns-clause-name
+returns-clause-name c = λ s h. λ i. record {
+  boot = (c.boot-boot.ensures ∙ h.store.boot) i;
+  seq = (c.in_ok-seq.ensures ∙ ap (λ n. n + 1) h.unit_count) i;
+}
+
+pub returns-clause-state : goal.returns-clause-state
+returns-clause-state c = λ s h single.
+    let seq = c.in_ok-seq.ensures ∙ ap (λ n. n + 1) h.unit_count in
+    let name : ◌≡◌ {A = Id} (record { boot = c.boot-boot.result; seq = c.in_ok-seq.seq }) (next_unit s) =
+    λ i. record { boot = (c.boot-boot.ensures ∙ h.store.boot) i; seq = seq i } in
+    let vars = c.in_ok-vars.ensures s.kept h.store in
+    record {
+      store = h.store;
+      units = ap (map seen) c.in_ok-push.ensures.items ∙ map-append seen c.args.self.now.units.items _
+          ∙ (λ i. h.units i ++ record {
+            unit = (c.new.ensures.unit ∙ name) i;
+            kind = c.args.kind;
+            single = single i;
+            waiting = false;
+            asks = None;
+            done = 0;
+            vars = (c.new.ensures.vars ∙ vars) i;
+            changes = ap edits_of c.new.ensures.changes i;
+          } ∷ []);
+      unit_count = seq;
+      base_count = c.in_ok-base_count.ensures ∙ ap (λ n. if is_some (program_begun c.args.kind) then n + 1 else n) h.base_count;
+      to_go = h.to_go;
+      keyed = h.keyed;
+      programs = h.programs;
+      asks = every-append _ s.units _ h.asks (tt, tt);
+    }

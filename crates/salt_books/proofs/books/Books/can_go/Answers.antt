@@ -1,0 +1,7 @@
+use Rattle.salt_books.proofs.books.Books.can_go.Goals as goal
+use Rattle.salt_keeps.specs.Told.{is_not_waiting}
+use Rattle.std.proofs.Common.{◌∙◌}
+use Rattle.std.specs.Prelude.{is_some, ◌&&◌}
+
+pub returns : goal.returns
+returns c = λ s h. c.is_left_to_go.ensures ∙ (λ i. is_some (c.cont-cont.ensures s.kept h.store i) && is_not_waiting (c.unit_of_program.ensures s h i))

@@ -1,0 +1,8 @@
+use Rattle.salt_books.proofs.books.Books.next_base.Goals as goal
+use Rattle.std.proofs.Common.{ap, ◌+◌, ◌∙◌}
+
+pub returns : goal.returns
+returns c = λ s h i. record {
+  boot = (c.boot.ensures ∙ h.store.boot) i;
+  seq = (c.in_ok-next_number.ensures ∙ ap (λ n. n + 1) h.base_count) i;
+}

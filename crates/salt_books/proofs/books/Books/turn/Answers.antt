@@ -1,0 +1,15 @@
+use Rattle.salt_books.proofs.books.Books.turn.Goals as goal
+use Rattle.salt_model.specs.Turns.{ids_after}
+use Rattle.std.proofs.Common.{ap, ◌∙◌}
+
+pub returns : goal.returns
+returns c = λ s h. record {
+  store = h.store;
+  units = h.units;
+  unit_count = h.unit_count;
+  base_count = h.base_count;
+  to_go = c.in_ok-left.ensures ∙ ap (ids_after c.args.base) (c.as_slice.ensures.value ∙ h.to_go);
+  keyed = h.keyed;
+  programs = h.programs;
+  asks = h.asks;
+}

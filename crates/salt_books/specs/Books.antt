@@ -1,0 +1,67 @@
+-- What the books tell: the half of an engine's state that is of units and tables.
+use Rattle.salt_ast.specs.declared.trees.Statement.{Statement}
+use Rattle.salt_ast.specs.declared.trees.TableDef.{TableDef}
+use Rattle.salt_books.specs.LeavingKeys.{AllLeaveKeys, LeavesKeys}
+use Rattle.salt_books.specs.declared.books.Books.{Books}
+use Rattle.salt_books.specs.declared.held.Held.{Held}
+use Rattle.salt_eval.specs.Scans.{IsKeyed}
+use Rattle.salt_keeps.specs.OpenUnits.{OpenUnit, UnitState, belongs_to_program, belongs_to_session, unit_named}
+use Rattle.salt_keeps.specs.Steps.{doing_one, outcome_under}
+use Rattle.salt_model.specs.Kept.{Kept, programs_of, schema_of}
+use Rattle.salt_model.specs.Words.{Every}
+use Rattle.salt_model.specs.declared.events.Answer.{Answer}
+use Rattle.salt_store.specs.Stores.{IsAtPart, IsStore}
+use Rattle.salt_units.specs.Edited.{edits_of}
+use Rattle.salt_values.specs.declared.id.Id.{Id}
+use Rattle.std.specs.Prelude.{Bool, IfSome, IsSome, List, Some, map, ℕ, ◌≡◌}
+
+-- a unit that is held, as an open unit
+abbrev pub seen : Held → OpenUnit
+seen h = record {
+  unit = h.open.unit;
+  kind = h.kind;
+  single = h.single;
+  waiting = h.waiting;
+  asks = h.asks;
+  done = h.done;
+  vars = h.open.vars;
+  changes = edits_of h.open.changes.items;
+}
+
+-- whether a unit that is held is a session's, and a program's
+unfoldable pub is_of_session : ℕ → Held → Bool
+is_of_session session h = belongs_to_session session (seen h)
+
+unfoldable pub is_of_program : Id → Held → Bool
+is_of_program base h = belongs_to_program base (seen h)
+
+-- a unit has done a statement on what is kept, under its changes
+pub record HasActed (k : Kept) (st : Statement) (old : OpenUnit) (told : Answer) (new : OpenUnit) : Type 0 where
+  pub answer : told ≡ (outcome_under k old st).answer
+  pub unit : new ≡ doing_one k st old
+
+-- what waiting units ask for leaves keys
+abbrev pub AsksLeaveKeys : List TableDef → List OpenUnit → Type 0
+AsksLeaveKeys schema os = Every (λ (o : OpenUnit). IfSome o.asks (LeavesKeys schema)) os
+
+-- the books have the state's units, numbers and store; each row stands at the place of its key, and no statement of a program, or that a
+-- waiting unit asks for, changes that
+pub record AreBooks (x : Books) (s : UnitState) : Type 0 where
+  pub store : IsStore x.store s.kept
+  pub units : map seen x.units.items ≡ s.units
+  pub unit_count : x.unit_count ≡ s.unit_count
+  pub base_count : x.base_count ≡ s.base_count
+  pub to_go : x.to_go.items ≡ s.to_go
+  pub keyed : IsKeyed s.kept.tables
+  pub programs : AllLeaveKeys (schema_of s.kept) (programs_of s.kept)
+  pub asks : AsksLeaveKeys (schema_of s.kept) s.units
+
+-- the books have an open unit of this name
+pub record HaveUnit (x : Books) (u : Id) : Type 0 where
+  pub state : UnitState
+  pub books : AreBooks x state
+  pub named : IsSome (unit_named u state.units)
+
+-- the part of the unit of this name is the one at which its program stands
+abbrev pub IsUnitAtPart : UnitState → Id → Type 0
+IsUnitAtPart s u = (o : OpenUnit) → unit_named u s.units ≡ Some o → IsAtPart s.kept o.kind

@@ -1,0 +1,4 @@
+pub mod Books
+pub mod Called
+pub mod Ends
+pub mod LeavingKeys

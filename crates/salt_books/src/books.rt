@@ -1,0 +1,119 @@
+//! The books, and how units begin and wait.
+
+ghost use Rattle.salt_books.specs.Books.{AreBooks, HaveUnit, seen};
+ghost use Rattle.salt_books.specs.LeavingKeys.{LeavesKeys};
+ghost use Rattle.salt_keeps.specs.OpenUnits.{UnitState, names_in};
+ghost use Rattle.salt_keeps.specs.Rising.{Rising};
+ghost use Rattle.salt_keeps.specs.Steps.{units_after};
+ghost use Rattle.salt_keeps.specs.Told.{next_unit};
+ghost use Rattle.salt_model.specs.Kept.{nothing_kept};
+ghost use Rattle.salt_model.specs.Turns.{is_statement_line};
+ghost use Rattle.salt_model.specs.Phases.{Phase};
+ghost use Rattle.salt_model.specs.Waiting.{statement_of_line};
+ghost use Rattle.salt_model.specs.declared.events.Event.{Event};
+ghost use Rattle.salt_model.specs.declared.events.Owner.{Owner};
+ghost use Rattle.salt_ast.specs.declared.lines.Line.{Line};
+ghost use Rattle.salt_books.specs.declared.held.Held.{Held};
+ghost use Rattle.salt_values.specs.Id.{is_same_id};
+ghost use Rattle.std.specs.List.{position};
+ghost use Rattle.salt_values.specs.declared.id.Id.{Id};
+ghost use Rattle.std.specs.Prelude.{IfOk, IfSome, List, OnOk, [], get_or, length, ◌<◌, ◌≡◌};
+
+use crate::held::{Held, count_bases};
+use salt_ast::Statement;
+use salt_model::UnitKind;
+use salt_store::{Store, next_number};
+use salt_units::OpenUnit;
+use salt_values::Id;
+use std::alloc::{AllocError, Global};
+
+/// The open units in order of their names, how many units and programs have begun in this boot, the programs to which `go all`
+/// has still to turn, and the store. An `AllocError` leaves them in no state that is told.
+#[derive(Drop)]
+pub struct Books {
+    pub(crate) alloc: Global,
+    pub(crate) store: Store,
+    pub(crate) units: Vec<Held>,
+    pub(crate) unit_count: u64,
+    pub(crate) base_count: u64,
+    pub(crate) to_go: Vec<Id>,
+}
+
+fn place_in(units: &[Held], unit: Id) -> Option<usize>
+    ensures { result ≡ position (λ (h : Held). is_same_id (seen h).unit unit) units.now }
+{
+    units.iter().position(|held| held.is_named(unit))
+}
+
+impl Books {
+    /// No units, and nothing kept but a boot.
+    pub fn new(alloc: Global, boot: u64) -> Books
+        ensures { (phase : Phase) (line : Line) → AreBooks result (record {
+          kept = record nothing_kept { boot = boot };
+          phase = phase;
+          line = line;
+          to_go = [];
+          units = [];
+          unit_count = 0;
+          base_count = 0;
+        }) }
+    {
+        Books {
+            alloc,
+            store: Store::new(alloc, boot),
+            units: Vec::new(alloc),
+            unit_count: 0,
+            base_count: 0,
+            to_go: Vec::new(alloc),
+        }
+    }
+
+    /// Where the unit of a name stands.
+    pub(crate) fn place(&self, unit: Id) -> usize
+        requires { HaveUnit self.now unit }
+        ensures within { result < length self.now.units.items }
+        ensures named { (d : Held) → (get_or self.now.units.items result d).open.unit ≡ unit }
+    {
+        match place_in(self.units.as_slice(), unit) {
+            Some(at) => at,
+            None => unreachable!(),
+        }
+    }
+
+    /// A unit begins, with the next name.
+    pub fn begin(&mut self, kind: UnitKind, single: bool) -> Result<Id, AllocError>
+        ensures name { IfOk result (λ unit. (s : UnitState) → AreBooks self.old s → unit ≡ next_unit s) }
+        ensures state { OnOk result ((s : UnitState) → AreBooks self.old s → single ≡ is_statement_line s.line
+            → AreBooks self.new (units_after (Event.Began (next_unit s) kind) s)) }
+    {
+        let vars = self.store.vars_of_kind(&kind)?;
+        let seq = next_number(self.unit_count)?;
+        let base_count = count_bases(&kind, self.base_count)?;
+        let boot = self.store.boot();
+        let unit = Id { boot, seq };
+        self.units.push(Held {
+            open: OpenUnit::new(self.alloc, unit, vars),
+            kind,
+            single,
+            waiting: false,
+            asks: None,
+            done: 0,
+        })?;
+        self.unit_count = seq;
+        self.base_count = base_count;
+        Ok(unit)
+    }
+
+    /// A unit waits, and asks for what the line asks for in which it begins to, which is not refused. That names rise is the law
+    /// `names_rise`.
+    pub fn wait(&mut self, unit: Id, asks: Option<Statement>)
+        requires { HaveUnit self.old unit }
+        ensures { (s : UnitState) (owners : List Owner) → AreBooks self.old s → Rising (names_in s.units) → asks ≡ statement_of_line s.line
+            → IfSome asks (LeavesKeys self.old.store.schema) → AreBooks self.new (units_after (Event.Waits unit owners) s) }
+    {
+        let at = self.place(unit);
+        let held = &mut self.units[at];
+        held.waiting = true;
+        held.asks = asks;
+    }
+}

@@ -1,0 +1,79 @@
+//! The names by which programs were called.
+
+ghost use Rattle.salt_model.specs.Words.{has_id};
+ghost use Rattle.salt_values.specs.Id.{is_same_id};
+ghost use Rattle.std.specs.List.{filter};
+ghost use Rattle.std.specs.Option.{option_copied};
+ghost use Rattle.std.specs.Prelude.{None, OnOk, Some, if◌then◌else◌, not, ◌≡◌};
+
+use salt_store::is_same_id;
+use salt_values::{Id, Name, TryCopy};
+use std::alloc::{AllocError, Global};
+
+/// A program under way, and the name by which it was called.
+#[derive(Drop)]
+struct Called {
+    base: Id,
+    name: Name,
+}
+
+/// The names by which BASE programs under way were called. Contracts see what is told of each.
+#[derive(Drop)]
+pub struct CalledNames {
+    alloc: Global,
+    calls: Vec<Called>,
+}
+
+fn drop_base(calls: &mut Vec<Called>, base: Id)
+    ensures { calls.new.items ≡ filter (λ c. not (is_same_id base c.base)) calls.old.items }
+{
+    calls.retain(|call| !is_same_id(base, call.base));
+}
+
+impl CalledNames {
+    ghost use Rattle.salt_books.specs.Called.{name_told};
+
+    /// No names.
+    pub fn new(alloc: Global) -> CalledNames
+        ensures { (b : Id) → name_told result b ≡ None }
+    {
+        CalledNames {
+            alloc,
+            calls: Vec::new(alloc),
+        }
+    }
+
+    /// The name by which a program was called.
+    pub fn name(&self, base: Id) -> Option<&Name>
+        ensures { option_copied result ≡ name_told self.now base }
+    {
+        let call = self.calls.iter().find(|call| is_same_id(base, call.base))?;
+        Some(&call.name)
+    }
+
+    /// A program is called by a name. An `AllocError` leaves the names in no state that is told.
+    pub fn call(&mut self, base: Id, name: &Name) -> Result<(), AllocError>
+        ensures ok { OnOk result ((b : Id) → name_told self.new b ≡ (if is_same_id b base then Some name.now else name_told self.old b)) }
+    {
+        let name = name.copy(self.alloc)?;
+        drop_base(&mut self.calls, base);
+        self.calls.push(Called { base, name })?;
+        Ok(())
+    }
+
+    /// A program is no longer under way.
+    pub fn forget(&mut self, base: Id)
+        ensures { (b : Id) → name_told self.new b ≡ (if is_same_id b base then None else name_told self.old b) }
+    {
+        drop_base(&mut self.calls, base);
+    }
+
+    /// Programs are no longer under way.
+    pub fn forget_all(&mut self, bases: &[Id])
+        ensures { (b : Id) → name_told self.new b ≡ (if has_id b bases.now then None else name_told self.old b) }
+    {
+        for base in bases {
+            self.forget(*base);
+        }
+    }
+}

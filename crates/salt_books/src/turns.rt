@@ -1,0 +1,125 @@
+//! Lines, definitions and turns of `go all`.
+
+ghost use Rattle.salt_ast.specs.ProgramTexts.{program_text};
+ghost use Rattle.salt_ast.specs.Texts.{table_text};
+ghost use Rattle.salt_ast.specs.declared.lines.Line.TheVariants.{Program, Table};
+ghost use Rattle.salt_books.specs.Books.{AreBooks, seen};
+ghost use Rattle.salt_keeps.specs.OpenUnits.{UnitState};
+ghost use Rattle.salt_keeps.specs.Steps.{to_go_by, units_after, units_asked, units_turned};
+ghost use Rattle.salt_keeps.specs.Told.{can_go_in, is_not_waiting, next_decision, next_turn_in};
+ghost use Rattle.salt_model.specs.Trace.{Tree};
+ghost use Rattle.salt_model.specs.Turns.{ids_after};
+ghost use Rattle.salt_model.specs.declared.events.Event.{Event};
+ghost use Rattle.salt_program.specs.Refusals.{parts_in, program_refusal};
+ghost use Rattle.salt_schema.specs.Refusals.{table_refusal};
+ghost use Rattle.std.specs.Option.{option_copied};
+ghost use Rattle.std.specs.Prelude.{IfOk, None, OnOk, is_some, length, option_map, ◌&&◌, ◌<◌, ◌^◌, ◌≡◌};
+
+use crate::books::Books;
+use crate::held::Held;
+use salt_ast::{Line, ProgramDef, TableDef};
+use salt_store::{Defined, is_same_id};
+use salt_values::{Cont, Id};
+use std::alloc::{AllocError, Global};
+
+/// The names behind the first that is this one.
+fn ids_after(alloc: Global, base: Id, ids: &[Id]) -> Result<Vec<Id>, AllocError>
+    ensures { IfOk result (λ left. left.items ≡ ids_after base ids.now) }
+{
+    let mut at = 0;
+    while at < ids.len() && !is_same_id(base, ids[at]) {
+        at += 1;
+    }
+    if at < ids.len() {
+        Vec::from_slice(alloc, &ids[at + 1..])
+    } else {
+        Ok(Vec::new(alloc))
+    }
+}
+
+fn is_left_to_go(cont: Option<&Cont>, held: Option<&Held>) -> bool
+    ensures { result ≡ (is_some (option_copied cont.entry) && is_not_waiting (option_map seen (option_copied held.entry))) }
+{
+    match (cont, held) {
+        (None, _) => false,
+        (Some(_), None) => true,
+        (Some(_), Some(held)) => !held.waiting,
+    }
+}
+
+impl Books {
+    fn to_go_by(&self, line: &Line) -> Result<Vec<Id>, AllocError>
+        ensures { IfOk result (λ bases. (s : UnitState) → AreBooks self.now s → bases.items ≡ to_go_by (Tree line.now) s.kept) }
+    {
+        match line {
+            Line::GoAll => {
+                let bases = self.store.bases()?;
+                Ok(bases)
+            }
+            _ => Ok(Vec::new(self.alloc)),
+        }
+    }
+
+    /// A line is asked: `go all` goes to each program that goes on, and any other line to none.
+    pub fn ask(&mut self, line: &Line) -> Result<(), AllocError>
+        ensures { OnOk result ((s : UnitState) → AreBooks self.old s → AreBooks self.new (units_asked (Tree line.now) s)) }
+    {
+        let bases = self.to_go_by(line)?;
+        self.to_go = bases;
+        Ok(())
+    }
+
+    /// `go all` turns to a program.
+    pub fn turn(&mut self, base: Id) -> Result<(), AllocError>
+        ensures { OnOk result ((s : UnitState) → AreBooks self.old s → AreBooks self.new (units_turned base s)) }
+    {
+        let left = ids_after(self.alloc, base, self.to_go.as_slice())?;
+        self.to_go = left;
+        Ok(())
+    }
+
+    /// Whether `go all` does not leave a program out: it goes on, and its unit, if one is open, does not wait.
+    fn can_go(&self, base: Id) -> bool
+        ensures { (s : UnitState) → AreBooks self.now s → result ≡ can_go_in s base }
+    {
+        let cont = self.store.cont(base);
+        is_left_to_go(cont, self.unit_of_program(base))
+    }
+
+    /// The program to which `go all` turns next.
+    pub fn next_turn(&self) -> Option<Id>
+        ensures { (s : UnitState) → AreBooks self.now s → result ≡ next_turn_in s }
+    {
+        for base in self.to_go.as_slice() {
+            if self.can_go(*base) {
+                return Some(*base);
+            }
+        }
+        None
+    }
+
+    /// Defines a table that is not refused, by the line that is its tree. The number of the decision and the canonical text.
+    pub fn define_table(&mut self, def: &TableDef) -> Result<Defined, AllocError>
+        requires { table_refusal self.old.store.schema def.now ≡ None }
+        ensures told { IfOk result (λ defined. (s : UnitState) → AreBooks self.old s
+            → (defined.0 ≡ next_decision s) × (defined.1 ≡ table_text def.now)) }
+        ensures state { OnOk result ((s : UnitState) → AreBooks self.old s → s.line ≡ Table def.now
+            → AreBooks self.new (units_after (Event.Defined (next_decision s) (table_text def.now)) s)) }
+    {
+        let defined = self.store.define_table(def)?;
+        Ok(defined)
+    }
+
+    /// Defines a program that is not refused, by the line that is its tree. The number of the decision and the canonical text.
+    pub fn define_program(&mut self, def: &ProgramDef) -> Result<Defined, AllocError>
+        requires parts { length (parts_in def.now.body) < 2 ^ 32 }
+        requires allowed { program_refusal self.old.store.schema self.old.store.catalogue def.now ≡ None }
+        ensures told { IfOk result (λ defined. (s : UnitState) → AreBooks self.old s
+            → (defined.0 ≡ next_decision s) × (defined.1 ≡ program_text def.now)) }
+        ensures state { OnOk result ((s : UnitState) → AreBooks self.old s → s.line ≡ Program def.now
+            → AreBooks self.new (units_after (Event.Defined (next_decision s) (program_text def.now)) s)) }
+    {
+        let defined = self.store.define_program(def)?;
+        Ok(defined)
+    }
+}
