@@ -14,7 +14,7 @@ use Rattle.salt_model.specs.Continuing.{part_due}
 use Rattle.salt_model.specs.Kept.{Kept, cont_of}
 use Rattle.salt_model.specs.Played.{IsPlayed}
 use Rattle.salt_model.specs.Trace.{Trace, from, start_of, ◌asks◌, ◌says◌, ◌turns◌}
-use Rattle.salt_model.specs.Units.{Over, Running, is_open, is_open_standing, kind_of, open_units, program_of, program_of_kind, standing, units_begun}
+use Rattle.salt_model.specs.Units.{Over, Running, is_open, is_open_standing, kind_of, program_of, program_of_kind, standing, units_begun}
 use Rattle.salt_model.specs.Words.{Every}
 use Rattle.salt_model.specs.declared.events.Event.TheVariants.{Began, Ended}
 use Rattle.salt_model.specs.declared.events.Event.{Event}
@@ -27,7 +27,7 @@ use Rattle.salt_values.specs.declared.id.Id.{Id}
 use Rattle.std.proofs.Common.{ap, inl, inr, subst, sym, ◌∙◌}
 use Rattle.std.specs.Bool.{then_some}
 use Rattle.std.specs.Option.{option_or}
-use Rattle.std.specs.Prelude.{Bool, List, None, Option, Some, [], cond, false, option_and_then, option_map, refl, true, ℕ, ◌∷◌, ◌≡◌}
+use Rattle.std.specs.Prelude.{Bool, List, Some, [], cond, false, option_and_then, option_map, refl, true, ℕ, ◌∷◌, ◌≡◌}
 
 abbrev StandsDue : Trace → Type 0
 StandsDue trace = (u b : Id) (part : ℕ) → is_open trace u ≡ true → kind_of u trace ≡ Some (Later b part) → part_due trace b ≡ Some part

@@ -1,7 +1,5 @@
 -- What the end of a unit leaves kept.
-use Rattle.salt_books.specs.Books.{seen}
 use Rattle.salt_books.specs.Ends.{IsUndecided}
-use Rattle.salt_books.specs.declared.held.Held.{Held}
 use Rattle.salt_keeps.specs.OpenUnits.{OpenUnit}
 use Rattle.salt_keeps.specs.Overlays.{with_edits}
 use Rattle.salt_keeps.specs.Steps.{kept_ended}
@@ -11,7 +9,7 @@ use Rattle.salt_model.specs.declared.events.End.TheVariants.{Branched, Committed
 use Rattle.salt_model.specs.declared.events.End.{End}
 use Rattle.salt_units.specs.Edited.{edits_of}
 use Rattle.salt_values.specs.declared.change.Change.{Change}
-use Rattle.std.specs.Prelude.{List, None, Option, Some, [], refl, ◌∷◌, ◌≡◌}
+use Rattle.std.specs.Prelude.{List, Option, [], refl, ◌∷◌, ◌≡◌}
 
 -- changes made one after another are made as edits
 pub made-as-edits : (cs : List Change) (es : Tables) → with_changes cs es ≡ with_edits (edits_of cs) es

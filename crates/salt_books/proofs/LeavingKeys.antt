@@ -1,5 +1,5 @@
 -- Statements that are not refused leave keys, and go on to as tables are defined; so do the blocks of programs.
-use Rattle.salt_ast.specs.Judgement.{bindings, columns_of, doubled_in_statement, first_fault, is_key, is_table, is_typed_scan, is_typed_set, is_typed_statement, statement_fault, takes_in, field_named, unknown_in_scan, unknown_in_set, unknown_in_statement, unknown_table}
+use Rattle.salt_ast.specs.Judgement.{bindings, columns_of, doubled_in_statement, first_fault, is_key, is_table, is_typed_set, is_typed_statement, statement_fault, unknown_in_statement}
 use Rattle.salt_ast.specs.Paths.{at_number, body_statements, part_block, statements_in}
 use Rattle.salt_ast.specs.ProgramJudgement.{doubled_in_program, is_typed_program, program_fault, program_named, program_scope, unknown_in_program}
 use Rattle.salt_ast.specs.Words.{first_in}
@@ -16,10 +16,10 @@ use Rattle.salt_ast.specs.declared.trees.Statement.{Statement}
 use Rattle.salt_ast.specs.declared.trees.TableDef.{TableDef}
 use Rattle.salt_books.specs.Books.{AsksLeaveKeys}
 use Rattle.salt_books.specs.LeavingKeys.{AllLeaveKeys, LeavesKeys}
-use Rattle.salt_laws.proofs.Every.{every-append, every-left, every-map, every-right}
+use Rattle.salt_laws.proofs.Every.{every-left, every-map, every-right}
 use Rattle.salt_laws.proofs.Ids.{and_left, and_right}
 use Rattle.salt_keeps.specs.OpenUnits.{OpenUnit, asking}
-use Rattle.salt_model.specs.Kept.{Definition, program_of_definition, table_of_definition, Kept, block_of_call, block_of_kind, block_of_part, cont_of, kept_program, parts_of, programs_of, schema_of}
+use Rattle.salt_model.specs.Kept.{Definition, program_of_definition, table_of_definition, Kept, block_of_call, block_of_kind, block_of_part, cont_of, kept_program, programs_of}
 use Rattle.salt_model.specs.Waiting.{statement_of_line}
 use Rattle.salt_model.specs.Words.{Every}
 use Rattle.salt_model.specs.declared.events.UnitKind.TheVariants as kind
@@ -29,11 +29,11 @@ use Rattle.salt_store.proofs.Defining.{first-none, unmapped}
 use Rattle.salt_tokens.specs.Spelling.{same_bytes}
 use Rattle.salt_units.specs.Acting.{leaves_keys}
 use Rattle.salt_values.specs.declared.cont.Cont.{Cont}
-use Rattle.std.proofs.Common.{Bor, ap, subst, sym, ◌∙◌}
+use Rattle.std.proofs.Common.{Bor, ap, subst, ◌∙◌}
 use Rattle.std.specs.Bool.{then_some}
 use Rattle.std.specs.List.{filter_map, list_all}
-use Rattle.std.specs.Option.{option_copied, option_or}
-use Rattle.std.specs.Prelude.{Bool, IfSome, List, None, Option, Some, [], cond, false, if◌then◌else◌, not, option_and_then, map, option_map, refl, slice_get, suc, true, zero, ℕ, ⊤, ◌&&◌, ◌++◌, ◌∷◌, ◌≡◌}
+use Rattle.std.specs.Option.{option_copied}
+use Rattle.std.specs.Prelude.{Bool, IfSome, List, None, Option, Some, [], cond, false, if◌then◌else◌, not, option_and_then, map, option_map, refl, slice_get, suc, true, zero, ℕ, ◌++◌, ◌∷◌, ◌≡◌}
 
 pub tested : (schema : List TableDef) (st : Statement) → LeavesKeys schema st → leaves_keys schema st ≡ true
 tested schema (Update table sets scan) h = h.1

@@ -12,7 +12,7 @@ use Rattle.std.proofs.Common.{ap, arith, subst, sym, ◌∙◌}
 use Rattle.std.proofs.lemmas.Bool.Decides.{nat_tests}
 use Rattle.std.proofs.lemmas.List.Quantifiers.{position-Some}
 use Rattle.std.specs.List.{cons_option, filter_map, find, position, position_or_len}
-use Rattle.std.specs.Prelude.{Bool, IsSome, List, None, Option, Some, [], cond, get_or, length, map, nat_lt, option_map, refl, true, false, ℕ, ◌<◌, ◌∷◌, ◌≡◌}
+use Rattle.std.specs.Prelude.{Bool, IsSome, List, None, Some, [], cond, get_or, length, map, nat_lt, option_map, refl, true, false, ℕ, ◌<◌, ◌∷◌, ◌≡◌}
 
 pub find-seen : (p : OpenUnit → Bool) (hs : List Held) → option_map seen (find (λ (h : Held). p (seen h)) hs) ≡ find p (map seen hs)
 find-seen p [] = refl

@@ -14,7 +14,7 @@ use Rattle.std.proofs.Common.{subst, sym}
 use Rattle.std.specs.FinMap.Entries.{by_order, find, is_sorted-put, put}
 use Rattle.std.specs.Option.{ForSome}
 use Rattle.std.specs.Ordering.{is_eq}
-use Rattle.std.specs.Prelude.{Bool, IfSome, List, None, Option, Some, [], cond, false, refl, suc, true, zero, ℕ, ◌∷◌, ◌≡◌}
+use Rattle.std.specs.Prelude.{Bool, IfSome, List, None, Option, Some, [], cond, false, refl, suc, true, zero, ◌∷◌, ◌≡◌}
 use Rattle.std.specs.declared.cmp.Ordering.TheVariants.{Equal, Greater, Less}
 use Rattle.std.specs.declared.cmp.Ordering.{Ordering}
 

@@ -1,4 +1,4 @@
-use Rattle.salt_model.specs.Tables.{changed_at, place}
+use Rattle.salt_model.specs.Tables.{place}
 use Rattle.salt_units.proofs.Cuts.{found-here, found-none, found-past}
 use Rattle.salt_units.proofs.Searches.{before-apart, before-over, is_there}
 use Rattle.salt_units.proofs.edits.change_at.Goals as goal

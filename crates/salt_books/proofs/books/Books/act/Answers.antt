@@ -9,8 +9,7 @@ use Rattle.salt_keeps.specs.OpenUnits.{OpenUnit}
 use Rattle.salt_keeps.specs.Steps.{doing_one, outcome_under}
 use Rattle.salt_model.specs.Kept.{schema_of}
 use Rattle.std.proofs.Common.{Some, ap, subst, sym, ◌∙◌, ◌≡◌}
-use Rattle.salt_units.specs.Acting.{leaves_keys}
-use Rattle.std.specs.Prelude.{IfSome, true}
+use Rattle.std.specs.Prelude.{IfSome}
 
 pub act-requires-clause-keyed : goal.act-requires-clause-keyed
 act-requires-clause-keyed c =

@@ -9,7 +9,7 @@ use Rattle.salt_keeps.specs.Steps.{kept_branched, kept_ended}
 use Rattle.salt_keeps.specs.Told.{next_decision}
 use Rattle.salt_model.specs.Kept.{Kept, programs_of, schema_of}
 use Rattle.salt_model.specs.declared.events.End.TheVariants.{Branched}
-use Rattle.salt_store.specs.Stores.{AllLeadOn, IsAtPart, IsStore}
+use Rattle.salt_store.specs.Stores.{AllLeadOn, IsStore}
 use Rattle.std.proofs.Common.{Some, ap, subst, sym, ◌+◌, ◌∙◌, ◌≡◌}
 use Rattle.salt_values.specs.Id.{is_same_id}
 use Rattle.std.specs.Prelude.{map, not}

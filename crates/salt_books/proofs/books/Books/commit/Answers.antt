@@ -10,7 +10,7 @@ use Rattle.salt_keeps.specs.Steps.{kept_committed, kept_ended}
 use Rattle.salt_keeps.specs.Told.{next_decision}
 use Rattle.salt_model.specs.Kept.{Kept, programs_of, schema_of}
 use Rattle.salt_model.specs.declared.events.End.TheVariants.{Committed}
-use Rattle.salt_store.specs.Stores.{AllLeadOn, IsAtPart, IsStore}
+use Rattle.salt_store.specs.Stores.{AllLeadOn, IsStore}
 use Rattle.salt_units.specs.Edited.{edits_of}
 use Rattle.std.proofs.Common.{Some, ap, subst, sym, ◌+◌, ◌∙◌, ◌≡◌}
 use Rattle.salt_values.specs.Id.{is_same_id}

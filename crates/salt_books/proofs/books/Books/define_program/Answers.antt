@@ -2,7 +2,7 @@ use Rattle.salt_books.proofs.books.Books.define_program.Goals as goal
 use Rattle.salt_model.specs.After.{defined_by}
 use Rattle.salt_ast.specs.Paths.{body_statements}
 use Rattle.salt_laws.proofs.Every.{every-append}
-use Rattle.salt_model.specs.Kept.{Definition, Kept, OfProgram, programs_of, schema_of}
+use Rattle.salt_model.specs.Kept.{Definition, OfProgram, programs_of, schema_of}
 use Rattle.salt_model.specs.Words.{Every}
 use Rattle.salt_store.proofs.Defining.{programs-with-program, tables-with-program}
 use Rattle.salt_books.proofs.LeavingKeys.{program-judged, programs_in, tables_in}

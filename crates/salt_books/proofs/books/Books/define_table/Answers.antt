@@ -1,6 +1,6 @@
 use Rattle.salt_books.proofs.books.Books.define_table.Goals as goal
 use Rattle.salt_model.specs.After.{defined_by}
-use Rattle.salt_model.specs.Kept.{Definition, Kept, OfTable, programs_of, schema_of}
+use Rattle.salt_model.specs.Kept.{Definition, OfTable, programs_of, schema_of}
 use Rattle.salt_store.proofs.Defining.{programs-with-table, tables-with-table}
 use Rattle.salt_books.proofs.LeavingKeys.{all-still, asks-still, programs_in, tables_in}
 use Rattle.salt_books.specs.Books.{AsksLeaveKeys}

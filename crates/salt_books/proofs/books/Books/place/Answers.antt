@@ -3,7 +3,7 @@ use Rattle.salt_books.proofs.books.Books.place.Goals as goal
 use Rattle.salt_books.specs.Books.{seen}
 use Rattle.salt_books.specs.declared.held.Held.{Held}
 use Rattle.salt_values.specs.Id.{is_same_id}
-use Rattle.std.proofs.Common.{List, None, Some, ap, sym, ◌∙◌, ◌≡◌}
+use Rattle.std.proofs.Common.{List, None, ap, sym, ◌∙◌, ◌≡◌}
 use Rattle.std.specs.List.{position}
 
 pub unreachable-requires : goal.unreachable-requires

@@ -4,7 +4,7 @@ use Rattle.salt_books.proofs.books.Books.to_go_by.Goals as goal
 use Rattle.salt_keeps.specs.Steps.{to_go_by}
 use Rattle.salt_model.specs.Kept.{Kept}
 use Rattle.salt_model.specs.Trace.{Tree}
-use Rattle.std.proofs.Common.{[], ap, refl, sym, ◌∙◌, ◌≡◌}
+use Rattle.std.proofs.Common.{[], refl, ◌∙◌, ◌≡◌}
 
 -- other lines go to no program
 to-none : (line : Line) (k : Kept) → (line ≡ GoAll → ⊥) → [] ≡ to_go_by (Tree line) k

@@ -1,16 +1,12 @@
-use Rattle.salt_ast.specs.declared.trees.TableDef.{TableDef}
 use Rattle.salt_books.proofs.Views.{rows-shown}
 use Rattle.salt_books.proofs.held.Held.act.Goals as goal
 use Rattle.salt_books.specs.Books.{seen}
 use Rattle.salt_eval.specs.Scans.{IsKeyed}
 use Rattle.salt_keeps.specs.OpenUnits.{OpenUnit}
 use Rattle.salt_keeps.specs.Overlays.{put_all, with_edits}
-use Rattle.salt_keeps.specs.Steps.{doing_one, outcome_under}
-use Rattle.salt_model.specs.Kept.{schema_of}
+use Rattle.salt_keeps.specs.Steps.{outcome_under}
 use Rattle.salt_model.specs.Statements.{Done, outcome_of}
-use Rattle.salt_model.specs.Tables.{Tables}
-use Rattle.salt_units.specs.Edited.{edits_of}
-use Rattle.std.proofs.Common.{List, None, ap, false, subst, sym, ◌∙◌, ◌≡◌}
+use Rattle.std.proofs.Common.{None, ap, false, subst, sym, ◌∙◌, ◌≡◌}
 
 pub act-requires-clause-keyed : goal.act-requires-clause-keyed
 act-requires-clause-keyed c = subst IsKeyed (sym c.new-view.ensures) c.requires.keyed
