@@ -29,11 +29,11 @@ use Rattle.salt_store.proofs.Defining.{first-none, unmapped}
 use Rattle.salt_tokens.specs.Spelling.{same_bytes}
 use Rattle.salt_units.specs.Acting.{leaves_keys}
 use Rattle.salt_values.specs.declared.cont.Cont.{Cont}
-use Rattle.std.proofs.Common.{Bor, ap, subst, ◌∙◌}
+use Rattle.std.proofs.Common.{Bor, ap, inl, inr, subst, ◌∙◌}
 use Rattle.std.specs.Bool.{then_some}
 use Rattle.std.specs.List.{filter_map, list_all}
 use Rattle.std.specs.Option.{option_copied}
-use Rattle.std.specs.Prelude.{Bool, IfSome, List, None, Option, Some, [], cond, false, if◌then◌else◌, not, option_and_then, map, option_map, refl, slice_get, suc, true, zero, ℕ, ◌++◌, ◌∷◌, ◌≡◌}
+use Rattle.std.specs.Prelude.{Bool, IfSome, List, None, Option, Some, [], cond, false, if◌then◌else◌, not, option_and_then, map, option_map, refl, slice_get, suc, true, zero, ℕ, ◌++◌, ◌∷◌, ◌≡◌, ◌⊎◌}
 
 pub tested : (schema : List TableDef) (st : Statement) → LeavesKeys schema st → leaves_keys schema st ≡ true
 tested schema (Update table sets scan) h = h.1
@@ -217,17 +217,18 @@ of-kind-if Q k u h = by (block_of_kind k u) refl
 
 -- what a unit asks for leaves keys
 pub asking-leaves : (Q : Statement → Type 0) (line : Line) (o : OpenUnit) (block : Option (List Statement)) → IfSome block (Every Q) → IfSome o.asks Q →
-    IfSome (statement_of_line line) Q → IfSome (asking line o block) Q
+    (o.waiting ≡ true) ⊎ IfSome (statement_of_line line) Q → IfSome (asking line o block) Q
 asking-leaves Q line o (Some block) each own stated = by (slice_get block o.done) refl
   where
     by : (x : Option Statement) → slice_get block o.done ≡ x → IfSome x Q
     by None e = tt
     by (Some st) e = in-block Q block o.done st each e
-asking-leaves Q line o None each own stated = by o.waiting
+asking-leaves Q line o None each own stated = by o.waiting stated
   where
-    by : (t : Bool) → IfSome (if t then o.asks else statement_of_line line) Q
-    by true = own
-    by false = stated
+    by : (t : Bool) → (t ≡ true) ⊎ IfSome (statement_of_line line) Q → IfSome (if t then o.asks else statement_of_line line) Q
+    by true why = own
+    by false (inl never) = absurd cc
+    by false (inr asked) = asked
 
 pub lent-leaves : (schema : List TableDef) (r : Option (Bor Statement)) → IfSome (option_copied r) (LeavesKeys schema) →
     IfSome r (λ st. leaves_keys schema st.now ≡ true)

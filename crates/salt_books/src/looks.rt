@@ -15,7 +15,7 @@ ghost use Rattle.salt_values.specs.Id.{is_same_id};
 ghost use Rattle.std.specs.List.{filter_map, find};
 ghost use Rattle.std.specs.Option.{option_copied};
 ghost use Rattle.salt_units.specs.Acting.{leaves_keys};
-ghost use Rattle.std.specs.Prelude.{IfOk, IfSome, None, Some, length, map, option_map, true, ◌≡◌};
+ghost use Rattle.std.specs.Prelude.{IfOk, IfSome, None, Some, length, map, option_map, true, ◌≡◌, ◌⊎◌};
 
 use crate::books::Books;
 use crate::held::{Held, program_begun};
@@ -142,11 +142,11 @@ impl Books {
     }
 
     /// The statement that a unit asks for in a line: the next of its block; without a block that of the line, or of the one in
-    /// which it began to wait. It sets no key where the line's does not.
+    /// which it began to wait. It sets no key where the unit waits or the line's statement sets none.
     pub fn asks_next<'a>(&'a self, held: &'a Held, line: &'a Line) -> Option<&'a Statement>
         ensures statement { (s : UnitState) → AreBooks self.now s → line.now ≡ s.line → option_copied result ≡ asks_next s (seen held.now) }
         ensures leaves_keys { (s : UnitState) → AreBooks self.now s → unit_named held.now.open.unit s.units ≡ Some (seen held.now)
-            → IfSome (statement_of_line line.now) (LeavesKeys self.now.store.schema)
+            → (held.now.waiting ≡ true) ⊎ IfSome (statement_of_line line.now) (LeavesKeys self.now.store.schema)
             → IfSome result (λ statement. leaves_keys self.now.store.schema statement.now ≡ true) }
     {
         let block = self.store.block_of_kind(&held.kind);

@@ -110,6 +110,13 @@ impl Store {
         cont_in(self.conts.as_slice(), base)
     }
 
+    /// Where the programs go on that are accepted and not finished, in the order in which they were accepted.
+    pub fn conts(&self) -> &[Cont]
+        ensures { result.now ≡ self.now.conts.items }
+    {
+        self.conts.as_slice()
+    }
+
     /// The programs that go on, in order of their names.
     pub fn bases(&self) -> Result<Vec<Id>, AllocError>
         ensures { IfOk result (λ ids. (k : Kept) → IsStore self.now k → ids.items ≡ in_order (map (λ (c : Cont). c.base) k.conts)) }

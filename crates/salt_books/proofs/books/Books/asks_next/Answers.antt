@@ -8,7 +8,7 @@ use Rattle.salt_model.specs.Kept.{block_of_kind, schema_of}
 use Rattle.salt_model.specs.Waiting.{statement_of_line}
 use Rattle.std.proofs.Common.{ap, subst, sym, ◌∙◌}
 use Rattle.std.specs.Option.{option_copied}
-use Rattle.std.specs.Prelude.{IfSome}
+use Rattle.std.specs.Prelude.{IfSome, true, ◌≡◌, ◌⊎◌}
 
 pub returns-clause-statement : goal.returns-clause-statement
 returns-clause-statement c = λ s h line.
@@ -19,7 +19,7 @@ returns-clause-leaves_keys c = λ s h named leaves.
     let o : OpenUnit = seen c.args.held.now in
     let Q = LeavesKeys (schema_of s.kept) in
     let own = (found (λ (x : OpenUnit). IfSome x.asks Q) o.unit s.units o h.asks named).0 in
-    let stated = subst (λ schema. IfSome (statement_of_line c.args.line.now) (LeavesKeys schema)) h.store.schema leaves in
+    let stated = subst (λ schema. (c.args.held.now.waiting ≡ true) ⊎ IfSome (statement_of_line c.args.line.now) (LeavesKeys schema)) h.store.schema leaves in
     let whole = c.asked.ensures ∙ ap (asking c.args.line.now o) (c.block_of_kind-block.ensures s.kept h.store) in
     lent-leaves c.args.self.now.store.schema c.asked.result
     (subst (λ schema. IfSome (option_copied c.asked.result) (LeavesKeys schema)) (sym h.store.schema)
