@@ -1,0 +1,14 @@
+mod Appended
+mod Begun
+mod Bytes
+mod Contents
+mod Each
+mod Hearing
+mod Keeping
+mod Moving
+mod Pairing
+mod Places
+mod Puts
+mod Saids
+mod Snapshots
+mod Values

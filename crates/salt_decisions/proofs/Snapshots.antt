@@ -1,0 +1,161 @@
+-- The other log, begun with all that is kept.
+use Rattle.salt_bytes.proofs.Logs.{reads_header}
+use Rattle.salt_bytes.specs.Coordinator.{CoordinatorHeader, header_in, spell_header}
+use Rattle.salt_bytes.specs.Generations.{Counts, IsRead, LogA, LogB, WhichLog, chosen, content_of, follows, next_generation, pair_of, read_or_outside}
+use Rattle.salt_bytes.specs.Log.{entries_in}
+use Rattle.salt_bytes.specs.Spellable.{IsSpellableHeader}
+use Rattle.salt_decisions.proofs.Appended.{other_dev}
+use Rattle.salt_decisions.proofs.Contents.{log_bytes}
+use Rattle.salt_decisions.specs.Decisions.{AreOpen, HasSameEntries, IsCounting, IsDecisions, IsSnapshotImage, next_header, snapshotted}
+use Rattle.salt_decisions.specs.HeaderPayload.{header_with}
+use Rattle.salt_decisions.specs.declared.decisions.Decisions.{Decisions}
+use Rattle.salt_disk.specs.Disks.{EachImage, FullExactly, FullOnly, IsSettled, IsUnchanged, KeepsOthers, Shrinks, View}
+use Rattle.salt_disk.specs.declared.disks.DiskErr.TheVariants.{Failed, Full, Memory, Stopped}
+use Rattle.salt_disk.specs.declared.disks.DiskErr.{DiskErr}
+use Rattle.salt_gatelog.specs.Log as gates
+use Rattle.salt_gatelog.specs.Log.{IsLog}
+use Rattle.salt_gatelog.specs.declared.log.GateLog.{GateLog}
+use Rattle.salt_stands.proofs.Pairs.{is_read_a, is_read_b}
+use Rattle.salt_stands.specs.Coordinator.{Logs, device_of}
+use Rattle.salt_stands.specs.CoordinatorLog.{CoordinatorLog, coordinator_generation, coordinator_in, told_by_header, with_told}
+use Rattle.salt_stands.specs.Pieces.{IsSameAt, other_log}
+use Rattle.salt_stands.specs.Stands.{logs_of}
+use Rattle.salt_stands.specs.Words.{and_then}
+use Rattle.salt_values.specs.declared.cont.Cont.{Cont}
+use Rattle.std.proofs.Common.{List, None, Option, Some, [], ap, arith, false, inl, inr, refl, subst, sym, true, ℕ, ◌<◌, ◌≡◌, ◌≤◌, ◌⊎◌, ◌∙◌, ◌∷◌}
+use Rattle.std.proofs.lemmas.Bool.Decides.{Decides-eqb, nat_tests}
+use Rattle.std.specs.Prelude.{nat_le}
+
+-- THE NEXT GENERATION COUNTS
+
+next_follows : (n : ℕ) → follows n (next_generation n) ≡ true
+next_follows n = (Decides-eqb (next_generation n) (next_generation n)).1 refl
+
+-- no generation is the next after its next
+not_back : (n : ℕ) → follows (next_generation n) n ≡ false
+not_back n = grind (arith, nat_tests)
+
+pub next_is_some : (n : ℕ) → nat_le 1 (next_generation n) ≡ true
+next_is_some n = grind (arith, nat_tests)
+
+module _ {L : Type 0} (generation : L → ℕ) (read : List (List ℕ) → Option L) (log next : L) (payload : List ℕ) (reads : read (payload ∷ []) ≡ Some next) (g : generation next ≡ next_generation (generation log)) where
+  next_b : pair_of generation (IsRead log) (IsRead next) ≡ Counts LogB next
+  next_b = ap (λ b. chosen b (follows (generation next) (generation log)) log next) (ap (λ n. follows (generation log) n) g ∙ next_follows (generation log))
+
+  next_a : pair_of generation (IsRead next) (IsRead log) ≡ Counts LogA next
+  next_a =
+      ap (λ b. chosen b (follows (generation log) (generation next)) next log) (ap (λ n. follows n (generation log)) g ∙ not_back (generation log))
+      ∙ ap (λ b. chosen false b next log) (ap (λ n. follows (generation log) n) g ∙ next_follows (generation log))
+
+  -- the other log holds the next generation's header alone
+  pair_next : (old new : Logs) (which : WhichLog) → pair_of generation (content_of read (old 0)) (content_of read (old 1)) ≡ Counts which log
+      → new (device_of 0 (other_log which)) ≡ Some (payload ∷ []) → IsSameAt (device_of 0 which) old new
+      → pair_of generation (content_of read (new 0)) (content_of read (new 1)) ≡ Counts (other_log which) next
+  pair_next old new LogA counts is same =
+      let was : content_of read (new 0) ≡ IsRead log = ap (content_of read) same ∙ is_read_a generation (content_of read (old 0)) (content_of read (old 1)) log counts in
+      let now : content_of read (new 1) ≡ IsRead next = ap (content_of read) is ∙ ap read_or_outside reads in
+      ap (λ x. pair_of generation x (content_of read (new 1))) was ∙ ap (λ x. pair_of generation (IsRead log) x) now ∙ next_b
+  pair_next old new LogB counts is same =
+      let was : content_of read (new 1) ≡ IsRead log = ap (content_of read) same ∙ is_read_b generation (content_of read (old 0)) (content_of read (old 1)) log counts in
+      let now : content_of read (new 0) ≡ IsRead next = ap (content_of read) is ∙ ap read_or_outside reads in
+      ap (λ x. pair_of generation x (content_of read (new 1))) now ∙ ap (λ x. pair_of generation (IsRead next) x) was ∙ next_a
+
+settled_kept : (d e : View) (dev : ℕ) → IsUnchanged d e dev → IsSettled d dev → IsSettled e dev
+settled_kept d e dev same settled c left = settled c (same.images c left) ∙ sym same.bytes
+
+twice : (d : View) (which : WhichLog) → IsSettled d (device_of 0 which) → IsSettled d (device_of 0 (other_log (other_log which)))
+twice d LogA h = h
+twice d LogB h = h
+
+pub other_known : (which : WhichLog) (n : ℕ) → 1 < n → device_of 0 (other_log which) < n
+other_known LogA n h = h
+other_known LogB n h = omega (arith, h)
+
+pub apart_from : (which : WhichLog) → ¬ (device_of 0 which ≡ device_of 0 (other_log which))
+apart_from which e = other_dev which (sym e)
+
+module _ (d0 : View) (x : Decisions) (which : WhichLog) (log : CoordinatorLog) (h : IsDecisions d0 x which log) where
+  apart : ¬ (device_of 0 which ≡ device_of 0 (other_log which))
+  apart e = apart_from which e
+
+  settled : IsSettled d0 (device_of 0 which)
+  settled = subst (λ dev. IsSettled d0 dev) h.counting.device h.counting.is_log.settled
+
+  same_header : (conts : List Cont) → conts ≡ x.conts → header_with (next_generation x.generation) x.shape x.boot x.decisions x.definitions conts ≡ next_header log conts
+  same_header conts going = λ i. record {
+    format = 3;
+    generation = next_generation (h.holds.generation i);
+    shape = h.holds.shape i;
+    boot = h.holds.boot i;
+    decisions = h.holds.decisions i;
+    definitions = h.holds.definitions i;
+    conts = conts;
+  }
+
+  -- what it leaves of the log that counted
+  pub counting_images : (e : View) → Shrinks d0 e (device_of 0 which) → EachImage e (device_of 0 which) (HasSameEntries (d0.bytes (device_of 0 which)))
+  counting_images e shrinks told c left = ap entries_in (settled c (shrinks c left))
+
+  module _ (d1 d2 : View) (gate gate' : GateLog) (payload : List ℕ) (conts : List Cont) (going : conts ≡ x.conts)
+      (is : payload ≡ spell_header (header_with (next_generation x.generation) x.shape x.boot x.decisions x.definitions conts))
+      (good : IsSpellableHeader (header_with (next_generation x.generation) x.shape x.boot x.decisions x.definitions conts))
+      (device : gates.device_of gate ≡ device_of 0 (other_log which)) (first : KeepsOthers (device_of 0 (other_log which)) d0 d1 None) (second : KeepsOthers (device_of 0 (other_log which)) d1 d2 None)
+      (same : gates.device_of gate' ≡ gates.device_of gate) (is_log : IsLog d2 gate' (payload ∷ [])) where
+    reads : header_in payload ≡ Some (next_header log conts)
+    reads = ap header_in is ∙ reads_header (header_with (next_generation x.generation) x.shape x.boot x.decisions x.definitions conts) good ∙ ap (λ (k : CoordinatorHeader). Some k) (same_header conts going)
+
+    pub snapshot_counts : IsCounting d2 gate' (other_log which) (snapshotted log conts)
+    snapshot_counts = record {
+      entries = payload ∷ [];
+      is_log = is_log;
+      device = same ∙ device;
+      known = omega (arith, h.counting.known, first.shape.count, second.shape.count);
+      other = twice d2 which (settled_kept d1 d2 (device_of 0 which) (second.kept (device_of 0 which) apart) (settled_kept d0 d1 (device_of 0 which) (first.kept (device_of 0 which) apart) settled));
+      counts = λ told.
+          pair_next coordinator_generation coordinator_in log (snapshotted log conts) payload (ap (and_then (λ k. with_told k (Some (told_by_header k)))) reads) refl (logs_of d0.bytes) (logs_of d2.bytes) which
+          (h.counting.counts (sym first.shape.told ∙ sym second.shape.told ∙ told))
+          (ap (λ dev. entries_in (d2.bytes dev)) (sym device ∙ sym same) ∙ log_bytes d2 gate' (payload ∷ []) told is_log)
+          (ap entries_in ((second.kept (device_of 0 which) apart).bytes ∙ (first.kept (device_of 0 which) apart).bytes));
+    }
+
+-- where these are open, no move stands behind the header
+pub snapshot_open : (conts : List Cont) (log : CoordinatorLog) (now : List Cont) → now ≡ conts → AreOpen now (snapshotted log conts)
+snapshot_open conts log now same rise cs e = same ∙ is
+  where
+    is : conts ≡ cs
+    is = cc
+
+-- WHAT IT LEAVES of the other log's device
+
+pub still_there : (e : View) (dev : ℕ) (payload : List ℕ) → IsSettled e dev → EachImage e dev (IsSnapshotImage (e.bytes dev) payload)
+still_there e dev payload settled told c left = inl (settled c left)
+
+pub being_blanked : (e : View) (dev : ℕ) (before payload : List ℕ) → EachImage e dev (λ c. (entries_in c ≡ Some []) ⊎ (c ≡ before)) → EachImage e dev (IsSnapshotImage before payload)
+being_blanked e dev before payload each told c left = by (each told c left)
+  where
+    by : (entries_in c ≡ Some []) ⊎ (c ≡ before) → IsSnapshotImage before payload c
+    by (inl blank) = inr (inl blank)
+    by (inr same) = inl same
+
+pub being_begun : (e : View) (gate : GateLog) (dev : ℕ) (before payload spelled : List ℕ) → gates.device_of gate ≡ dev → payload ≡ spelled → EachImage e (gates.device_of gate) (gates.IsBeforeOrWith [] payload) → EachImage e dev (IsSnapshotImage before spelled)
+being_begun e gate dev before payload spelled device same each = subst (λ k. EachImage e k (IsSnapshotImage before spelled)) device (subst (λ p. EachImage e (gates.device_of gate) (IsSnapshotImage before p)) same (λ told c left. by c (each told c left)))
+  where
+    by : (c : List ℕ) → gates.IsBeforeOrWith [] payload c → IsSnapshotImage before payload c
+    by c (inl blank) = inr (inl blank)
+    by c (inr begun) = inr (inr begun)
+
+-- WHERE IT IS FULL
+
+pub full_made : (dev limit end : ℕ) (answer : Option DiskErr) → 1 ≤ end → FullOnly dev limit 1 answer → FullOnly dev limit end answer
+full_made dev limit end None low h = tt
+full_made dev limit end (Some Failed) low h = tt
+full_made dev limit end (Some Stopped) low h = tt
+full_made dev limit end (Some (Full n)) low h = (h.0, omega (arith, low, h.1))
+full_made dev limit end (Some Memory) low h = tt
+
+pub full_appended : (dev limit limit' end end' : ℕ) (answer : Option DiskErr) → limit' ≡ limit → end' ≡ end → FullExactly dev limit' end' answer → FullOnly dev limit end answer
+full_appended dev limit limit' end end' None l e h = tt
+full_appended dev limit limit' end end' (Some Failed) l e h = tt
+full_appended dev limit limit' end end' (Some Stopped) l e h = tt
+full_appended dev limit limit' end end' (Some (Full n)) l e h = (h.0, omega (arith, l, e, h.1))
+full_appended dev limit limit' end end' (Some Memory) l e h = tt

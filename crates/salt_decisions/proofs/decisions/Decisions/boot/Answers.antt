@@ -1,0 +1,39 @@
+use Rattle.salt_bytes.specs.Coordinator.{Boots, CoordinatorEntry, spell_entry}
+use Rattle.salt_bytes.specs.Spellable.{IsSpellableEntry}
+use Rattle.salt_decisions.proofs.Appended.{next_told, read_so, spelled_so}
+use Rattle.salt_decisions.proofs.decisions.Decisions.boot.Goals as goal
+use Rattle.salt_decisions.specs.Decisions.{booted}
+use Rattle.salt_stands.specs.Coordinator.{device_of}
+use Rattle.salt_stands.specs.CoordinatorLog.{tell}
+use Rattle.std.proofs.Common.{Some, ap, arith, ◌+◌, ◌≡◌, ◌∙◌}
+
+pub returns-in_err-append_entry-clause-images : goal.returns-in_err-append_entry-clause-images
+returns-in_err-append_entry-clause-images g c which log h =
+    spelled_so (g.D.Disks.view c.append_entry.new.disks) (device_of 0 which) ((g.D.Disks.view c.args.disks.now).bytes (device_of 0 which)) c.deref.result.now (spell_entry (Boots (c.args.self.now.boot + 1))) (c.deref.ensures.value ∙ c.in_ok-payload.ensures)
+    (c.in_err-append_entry.ensures.images which log h.counting)
+
+pub returns-clause-images : goal.returns-clause-images
+returns-clause-images g c which log h =
+    spelled_so (g.D.Disks.view c.append_entry.new.disks) (device_of 0 which) ((g.D.Disks.view c.args.disks.now).bytes (device_of 0 which)) c.deref.result.now (spell_entry (Boots (c.args.self.now.boot + 1))) (c.deref.ensures.value ∙ c.in_ok-payload.ensures)
+    (c.in_ok-append_entry.ensures.images which log h.counting)
+
+pub returns-clause-ok : goal.returns-clause-ok
+returns-clause-ok g c which log h =
+    let x = c.args.self.now in
+    let entry : CoordinatorEntry = Boots (x.boot + 1) in
+    let good : IsSpellableEntry log.header.shape.parts entry = omega (arith, c.requires.below) in
+    let tells : tell log.told entry ≡ Some (booted log).told = next_told x.boot log.told.boot _ h.holds.boot ∙ ap (λ n. Some (record log.told { boot = n + 1 })) h.holds.boot in
+    record {
+      own = h.own;
+      holds = record {
+        format = h.holds.format;
+        generation = h.holds.generation;
+        shape = h.holds.shape;
+        boot = ap (λ n. n + 1) h.holds.boot;
+        decisions = h.holds.decisions;
+        definitions = h.holds.definitions;
+        conts = h.holds.conts;
+        parts = h.holds.parts;
+      };
+      counting = c.in_ok-append_entry.ensures.ok which log entry (booted log).told h.counting (read_so log.header.shape.parts entry c.deref.result.now c.in_ok-payload.payload.items c.deref.ensures.value c.in_ok-payload.ensures good) tells;
+    }

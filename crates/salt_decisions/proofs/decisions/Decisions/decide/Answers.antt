@@ -1,0 +1,42 @@
+use Rattle.salt_bytes.specs.Coordinator.{Decides, Decision, spell_entry}
+use Rattle.salt_bytes.specs.Spellable.{IsSpellableEntry}
+use Rattle.salt_decisions.proofs.Appended.{next_told, open_next, read_so, spelled_so}
+use Rattle.salt_decisions.proofs.decisions.Decisions.decide.Goals as goal
+use Rattle.salt_decisions.specs.Decisions.{decided, next_decision}
+use Rattle.salt_stands.specs.Coordinator.{device_of}
+use Rattle.std.proofs.Common.{ap, arith, refl, sym, true, ◌^◌, ◌≡◌, ◌∙◌}
+use Rattle.std.specs.Prelude.{nat_lt}
+
+pub returns-in_err-append_entry-clause-images : goal.returns-in_err-append_entry-clause-images
+returns-in_err-append_entry-clause-images g c which log h =
+    let d : Decision = next_decision c.args.self.now c.args.unit c.args.parts c.args.mv.now in
+    spelled_so (g.D.Disks.view c.append_entry.new.disks) (device_of 0 which) ((g.D.Disks.view c.args.disks.now).bytes (device_of 0 which)) c.deref.result.now (spell_entry (Decides d)) (c.deref.ensures.value ∙ c.in_ok-payload.ensures)
+    (c.in_err-append_entry.ensures.images which log h.counting)
+
+pub returns-clause-images : goal.returns-clause-images
+returns-clause-images g c which log h =
+    let d : Decision = next_decision c.args.self.now c.args.unit c.args.parts c.args.mv.now in
+    spelled_so (g.D.Disks.view c.append_entry.new.disks) (device_of 0 which) ((g.D.Disks.view c.args.disks.now).bytes (device_of 0 which)) c.deref.result.now (spell_entry (Decides d)) (c.deref.ensures.value ∙ c.in_ok-payload.ensures)
+    (c.in_ok-append_entry.ensures.images which log h.counting)
+
+pub returns-clause-ok : goal.returns-clause-ok
+returns-clause-ok g c which log h =
+    let x = c.args.self.now in
+    let d : Decision = next_decision x c.args.unit c.args.parts c.args.mv.now in
+    let bits : nat_lt c.args.parts (2 ^ log.header.shape.parts) ≡ true = ap (λ s. nat_lt c.args.parts (2 ^ s.parts)) (sym h.holds.shape) ∙ c.requires.bits in
+    let good : IsSpellableEntry log.header.shape.parts (Decides d) = record { number = omega (arith, c.requires.below); unit = record { boot = omega arith; seq = omega arith }; mask = bits; move = omega arith } in
+    record {
+      own = h.own;
+      holds = record {
+        format = h.holds.format;
+        generation = h.holds.generation;
+        shape = h.holds.shape;
+        boot = h.holds.boot;
+        decisions = refl;
+        definitions = h.holds.definitions;
+        conts = open_next x.conts c.make_move.new.conts log d x.format h.holds.format h.holds.conts c.in_ok-make_move.ensures;
+        parts = h.holds.parts;
+      };
+      counting = c.in_ok-append_entry.ensures.ok which log (Decides d) (decided log d).told h.counting (read_so log.header.shape.parts (Decides d) c.deref.result.now c.in_ok-payload.payload.items c.deref.ensures.value c.in_ok-payload.ensures good)
+          (next_told x.decisions log.told.decisions (decided log d).told h.holds.decisions);
+    }

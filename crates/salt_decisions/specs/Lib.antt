@@ -1,0 +1,13 @@
+pub mod Taking
+pub mod Header
+pub mod Entry
+pub mod Which
+pub mod Said
+pub mod Kept
+pub mod Read
+pub mod Pair
+pub mod Moves
+pub mod Decisions
+pub mod Errors
+pub mod Opened
+pub mod HeaderPayload

@@ -1,0 +1,237 @@
+//! The coordinator's log that counts, and what is added to it.
+
+ghost use Rattle.salt_bytes.specs.Coordinator.{Boots, CoordinatorEntry, Decides, Defines, entry_in, spell_entry};
+ghost use Rattle.salt_bytes.specs.Generations.{WhichLog};
+ghost use Rattle.salt_decisions.specs.Decisions.{HasSameEntries, IsBeforeOrWith, IsCounting, IsDecisions, IsSnapshotImage, booted, count_in, decided, defined, device_in, format_of, gate_in, last_boot, last_decision, log_with, next_decision, next_definition, open_conts, shape_of, snapshot_payload, snapshotted};
+ghost use Rattle.salt_disk.specs.Disks.{EachImage, FullExactly, FullOnly, HasCause, KeepsOthers};
+ghost use Rattle.salt_gatelog.specs.Log as gates;
+ghost use Rattle.salt_gatelog.specs.Log.{gate_of};
+ghost use Rattle.salt_stands.specs.Coordinator.{device_of};
+ghost use Rattle.salt_stands.specs.CoordinatorLog.{CoordinatorLog, Told, tell};
+ghost use Rattle.salt_stands.specs.Pieces.{other_log};
+ghost use Rattle.std.specs.Prelude.{IfOk, OnOk, Some, length, nat_lt, true, ◌+◌, ◌-◌, ◌<◌, ◌^◌, ◌≡◌};
+ghost use Rattle.std.specs.Result.{result_err};
+
+use crate::header::{Definition, Definitions};
+use crate::header_payload::{FORMAT, header_payload};
+use crate::moves::make_move;
+use crate::pair::next_generation;
+use crate::payload::{boot_payload, decision_payload, definition_payload};
+use crate::which::Which;
+use salt_disk::{DiskErr, Disks};
+use salt_gatelog::{GateLog, create};
+use salt_values::{Cont, Conts, Id, Shape};
+use sqlite_items::Items;
+use std::alloc::Global;
+
+/// The log of the coordinator that counts. Each call appends one entry. After an error it is opened again before it is used.
+#[derive(Drop)]
+pub struct Decisions {
+    pub(crate) which: Which,
+    pub(crate) gate: GateLog,
+    pub(crate) format: u8,
+    pub(crate) generation: u64,
+    pub(crate) shape: Shape,
+    pub(crate) boot: u64,
+    pub(crate) decisions: u64,
+    pub(crate) definitions: Definitions,
+    // the open continuations
+    pub(crate) conts: Conts,
+}
+
+/// Appends an entry to the log that counts. After Ok the log says what the entry tells. Whatever it answers, each image of the
+/// device has the entries from before, with this one or without it.
+fn append_entry<D: Disks>(
+    alloc: Global,
+    disks: &mut D,
+    gate: &mut GateLog,
+    payload: &[u8],
+) -> Result<(), DiskErr>
+    requires { (which : WhichLog) × ((log : CoordinatorLog) × IsCounting (D.view disks.old) gate.old which log) }
+    ensures ok { (which : WhichLog) (log : CoordinatorLog) (entry : CoordinatorEntry) (now : Told) → IsCounting (D.view disks.old) gate.old which log
+        → entry_in log.header.shape.parts payload.now ≡ Some entry → tell log.told entry ≡ Some now → OnOk result (IsCounting (D.view disks.new) gate.new which (log_with log now)) }
+    ensures images { (which : WhichLog) (log : CoordinatorLog) → IsCounting (D.view disks.old) gate.old which log
+        → EachImage (D.view disks.new) (device_of 0 which) (IsBeforeOrWith ((D.view disks.old).bytes (device_of 0 which)) payload.now) }
+    ensures others { KeepsOthers (gates.device_of gate.old) (D.view disks.old) (D.view disks.new) (result_err result) }
+    ensures cause { HasCause (D.view disks.old) (D.view disks.new) (result_err result) }
+    ensures full { FullExactly (gates.device_of gate.old) ((D.view disks.old).limit (gates.device_of gate.old)) (gate_of gate.old + 10 + length payload.now) (result_err result) }
+{
+    gate.append(alloc, disks, payload)
+}
+
+impl Decisions {
+    /// The last boot, 0 before the first.
+    pub fn last_boot(&self) -> u64
+        ensures { result ≡ last_boot self.now }
+    {
+        self.boot
+    }
+
+    /// The number of the last decision or definition.
+    pub fn last_decision(&self) -> u64
+        ensures { result ≡ last_decision self.now }
+    {
+        self.decisions
+    }
+
+    /// How many partitions there are, and how rows are spread over them.
+    pub fn shape(&self) -> Shape
+        ensures { result ≡ shape_of self.now }
+    {
+        self.shape
+    }
+
+    /// The format of the log's header.
+    pub fn format(&self) -> u8
+        ensures { result ≡ format_of self.now }
+    {
+        self.format
+    }
+
+    /// How many entries the log has, its header among them.
+    pub fn entries(&self) -> u64
+        ensures { result ≡ count_in self.now }
+    {
+        self.gate.count()
+    }
+
+    /// The continuations that are open, in order of acceptance.
+    pub fn conts(&self) -> &[Cont]
+        ensures { result.now ≡ open_conts self.now }
+    {
+        self.conts.as_slice()
+    }
+
+    /// Appends the next boot's entry, and gives its number. Each image of the log's device has the entry more, or not.
+    pub fn boot<D: Disks>(&mut self, alloc: Global, disks: &mut D) -> Result<u64, DiskErr>
+        requires log { (which : WhichLog) × ((log : CoordinatorLog) × IsDecisions (D.view disks.old) self.old which log) }
+        requires below { last_boot self.old < 2 ^ 64 - 1 }
+
+        ensures ok { (which : WhichLog) (log : CoordinatorLog) → IsDecisions (D.view disks.old) self.old which log → OnOk result (IsDecisions (D.view disks.new) self.new which (booted log)) }
+        ensures number { IfOk result (λ boot. boot ≡ last_boot self.old + 1) }
+        ensures images { (which : WhichLog) (log : CoordinatorLog) → IsDecisions (D.view disks.old) self.old which log
+            → EachImage (D.view disks.new) (device_of 0 which) (IsBeforeOrWith ((D.view disks.old).bytes (device_of 0 which)) (spell_entry (Boots (last_boot self.old + 1)))) }
+
+        ensures others { KeepsOthers (device_in self.old) (D.view disks.old) (D.view disks.new) (result_err result) }
+        ensures cause { HasCause (D.view disks.old) (D.view disks.new) (result_err result) }
+        ensures full { FullExactly (device_in self.old) ((D.view disks.old).limit (device_in self.old)) (gate_in self.old + 10 + length (spell_entry (Boots (last_boot self.old + 1)))) (result_err result) }
+    {
+        let boot = self.boot + 1;
+        let payload = boot_payload(alloc, boot)?;
+        append_entry(alloc, disks, &mut self.gate, &payload)?;
+        self.boot = boot;
+        Ok(boot)
+    }
+
+    /// Appends a definition's entry, under the next number of a decision, and gives that number. Each image of the log's
+    /// device has the entry more, or not.
+    pub fn define<D: Disks>(
+        &mut self,
+        alloc: Global,
+        disks: &mut D,
+        text: &[u8],
+    ) -> Result<u64, DiskErr>
+        requires log { (which : WhichLog) × ((log : CoordinatorLog) × IsDecisions (D.view disks.old) self.old which log) }
+        requires below { last_decision self.old < 2 ^ 64 - 1 }
+
+        ensures ok { (which : WhichLog) (log : CoordinatorLog) → IsDecisions (D.view disks.old) self.old which log
+            → OnOk result (IsDecisions (D.view disks.new) self.new which (defined log (next_definition self.old text.now))) }
+        ensures number { IfOk result (λ number. number ≡ last_decision self.old + 1) }
+        ensures images { (which : WhichLog) (log : CoordinatorLog) → IsDecisions (D.view disks.old) self.old which log
+            → EachImage (D.view disks.new) (device_of 0 which) (IsBeforeOrWith ((D.view disks.old).bytes (device_of 0 which)) (spell_entry (Defines (next_definition self.old text.now)))) }
+
+        ensures others { KeepsOthers (device_in self.old) (D.view disks.old) (D.view disks.new) (result_err result) }
+        ensures cause { HasCause (D.view disks.old) (D.view disks.new) (result_err result) }
+        ensures full { FullExactly (device_in self.old) ((D.view disks.old).limit (device_in self.old)) (gate_in self.old + 10 + length (spell_entry (Defines (next_definition self.old text.now)))) (result_err result) }
+    {
+        let number = self.decisions + 1;
+        let definition = Definition {
+            number,
+            text: Items::from_slice(alloc, text)?,
+        };
+        self.definitions.push(definition)?;
+        let payload = definition_payload(alloc, number, text)?;
+        append_entry(alloc, disks, &mut self.gate, &payload)?;
+        self.decisions = number;
+        Ok(number)
+    }
+
+    /// Appends the entry that decides a unit, under the next number of a decision, and gives that number: `parts` are the
+    /// bits of the partitions that have its changes, and `mv` is its move as it is spelled. Each image of the log's device has
+    /// the entry more, or not.
+    pub fn decide<D: Disks>(
+        &mut self,
+        alloc: Global,
+        disks: &mut D,
+        unit: Id,
+        parts: u8,
+        mv: &[u8],
+    ) -> Result<u64, DiskErr>
+        requires log { (which : WhichLog) × ((log : CoordinatorLog) × IsDecisions (D.view disks.old) self.old which log) }
+        requires below { last_decision self.old < 2 ^ 64 - 1 }
+        requires bits { nat_lt parts (2 ^ (shape_of self.old).parts) ≡ true }
+
+        ensures ok { (which : WhichLog) (log : CoordinatorLog) → IsDecisions (D.view disks.old) self.old which log
+            → OnOk result (IsDecisions (D.view disks.new) self.new which (decided log (next_decision self.old unit parts mv.now))) }
+        ensures number { IfOk result (λ number. number ≡ last_decision self.old + 1) }
+        ensures images { (which : WhichLog) (log : CoordinatorLog) → IsDecisions (D.view disks.old) self.old which log
+            → EachImage (D.view disks.new) (device_of 0 which) (IsBeforeOrWith ((D.view disks.old).bytes (device_of 0 which)) (spell_entry (Decides (next_decision self.old unit parts mv.now)))) }
+
+        ensures others { KeepsOthers (device_in self.old) (D.view disks.old) (D.view disks.new) (result_err result) }
+        ensures cause { HasCause (D.view disks.old) (D.view disks.new) (result_err result) }
+        ensures full { FullExactly (device_in self.old) ((D.view disks.old).limit (device_in self.old)) (gate_in self.old + 10 + length (spell_entry (Decides (next_decision self.old unit parts mv.now)))) (result_err result) }
+    {
+        let number = self.decisions + 1;
+        make_move(alloc, self.format, &mut self.conts, mv)?;
+        let payload = decision_payload(alloc, number, unit, parts, mv)?;
+        append_entry(alloc, disks, &mut self.gate, &payload)?;
+        self.decisions = number;
+        Ok(number)
+    }
+
+    /// Begins the pair's other log with the next generation's header: the boot, the number of the last decision, the
+    /// definitions, and the open continuations, which `conts` are. The header's format is 3. From then on that log counts.
+    /// Until the header stands there its device has what it had, or is blank.
+    pub fn snapshot<D: Disks>(
+        &mut self,
+        alloc: Global,
+        disks: &mut D,
+        conts: &[Cont],
+    ) -> Result<(), DiskErr>
+        requires log { (which : WhichLog) × ((log : CoordinatorLog) × IsDecisions (D.view disks.old) self.old which log) }
+        requires going { conts.now ≡ open_conts self.old }
+
+        ensures ok { (which : WhichLog) (log : CoordinatorLog) → IsDecisions (D.view disks.old) self.old which log
+            → OnOk result (IsDecisions (D.view disks.new) self.new (other_log which) (snapshotted log conts.now)) }
+        ensures counting { (which : WhichLog) (log : CoordinatorLog) → IsDecisions (D.view disks.old) self.old which log
+            → EachImage (D.view disks.new) (device_of 0 which) (HasSameEntries ((D.view disks.old).bytes (device_of 0 which))) }
+        ensures images { (which : WhichLog) (log : CoordinatorLog) → IsDecisions (D.view disks.old) self.old which log
+            → EachImage (D.view disks.new) (device_of 0 (other_log which)) (IsSnapshotImage ((D.view disks.old).bytes (device_of 0 (other_log which))) (snapshot_payload self.old)) }
+
+        ensures others { (which : WhichLog) (log : CoordinatorLog) → IsDecisions (D.view disks.old) self.old which log
+            → KeepsOthers (device_of 0 (other_log which)) (D.view disks.old) (D.view disks.new) (result_err result) }
+        ensures cause { HasCause (D.view disks.old) (D.view disks.new) (result_err result) }
+        ensures full { (which : WhichLog) (log : CoordinatorLog) → IsDecisions (D.view disks.old) self.old which log
+            → FullOnly (device_of 0 (other_log which)) ((D.view disks.old).limit (device_of 0 (other_log which))) (10 + length (snapshot_payload self.old)) (result_err result) }
+    {
+        let generation = next_generation(self.generation);
+        let definitions = self.definitions.as_slice();
+        let payload = header_payload(
+            alloc,
+            generation,
+            self.shape,
+            self.boot,
+            self.decisions,
+            definitions,
+            conts,
+        )?;
+        let which = self.which.other();
+        let mut gate = create(disks, which.device())?;
+        gate.append(alloc, disks, &payload)?;
+        self.which = which;
+        self.gate = gate;
+        self.format = FORMAT;
+        self.generation = generation;
+        Ok(())
+    }
+}

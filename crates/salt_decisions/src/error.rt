@@ -1,0 +1,79 @@
+//! Why nothing is opened or read.
+
+ghost use Rattle.salt_decisions.specs.Errors.{open_err_of};
+ghost use Rattle.salt_decisions.specs.Taking.{take_err_of};
+ghost use Rattle.salt_decisions.specs.declared.error.OpenErr.TheVariants as opening;
+ghost use Rattle.salt_decisions.specs.declared.error.TakeErr.TheVariants as taking;
+ghost use Rattle.std.specs.Prelude.{◌≡◌};
+
+use salt_disk::DiskErr;
+use salt_values::{Shape, TextErr};
+use std::alloc::AllocError;
+
+/// Why devices are not opened.
+#[derive(Clone, Copy, Debug, PartialEq, Eq)]
+pub enum OpenErr {
+    /// What stands on the device of this number, or on the pair that its fault counts against, is nothing that was written here.
+    NotSalt(u32),
+    /// The devices stand for another shape than was asked for.
+    OtherShape { kept: Shape, asked: Shape },
+    /// The boots or the decisions have come to 2^63.
+    NumbersSpent { boot: u64, decisions: u64 },
+    /// The disks have failed.
+    Failed,
+    /// A stop that was armed came.
+    Stopped,
+    /// A write would pass the limit of the device of this number.
+    Full(u32),
+    /// Memory ran out.
+    Memory,
+}
+
+impl From<DiskErr> for OpenErr {
+    ghost from_gives = { λ e f. f ≡ open_err_of e };
+
+    fn from(e: DiskErr) -> OpenErr {
+        match e {
+            DiskErr::Failed => OpenErr::Failed,
+            DiskErr::Stopped => OpenErr::Stopped,
+            DiskErr::Full(dev) => OpenErr::Full(dev),
+            DiskErr::Memory => OpenErr::Memory,
+        }
+    }
+}
+
+impl From<AllocError> for OpenErr {
+    ghost from_gives = { λ _ e. e ≡ opening.Memory };
+
+    fn from(_e: AllocError) -> OpenErr {
+        OpenErr::Memory
+    }
+}
+
+/// Why a thing is not taken from the front of bytes.
+#[derive(Clone, Copy, Debug, PartialEq, Eq)]
+pub enum TakeErr {
+    /// No such thing is spelled there.
+    Misspelled,
+    /// Memory ran out.
+    Memory,
+}
+
+impl From<AllocError> for TakeErr {
+    ghost from_gives = { λ _ e. e ≡ taking.Memory };
+
+    fn from(_e: AllocError) -> TakeErr {
+        TakeErr::Memory
+    }
+}
+
+impl From<TextErr> for TakeErr {
+    ghost from_gives = { λ e f. f ≡ take_err_of e };
+
+    fn from(e: TextErr) -> TakeErr {
+        match e {
+            TextErr::NotText => TakeErr::Misspelled,
+            TextErr::Memory => TakeErr::Memory,
+        }
+    }
+}

@@ -1,0 +1,25 @@
+//! The coordinator's log: which boots, definitions and decided units there were, and where BASE programs go on. It stands on two
+//! devices, of which one counts; a snapshot begins the other one anew.
+#![tactic(auto)]
+
+mod conts;
+mod decisions;
+mod entry;
+mod error;
+mod header;
+mod header_payload;
+mod kept;
+mod moves;
+mod open;
+mod pair;
+mod payload;
+mod put;
+mod read;
+mod said;
+mod take;
+mod which;
+
+pub use decisions::Decisions;
+pub use error::OpenErr;
+pub use kept::{Kept, Texts};
+pub use open::{open_decisions, peek};

@@ -1,0 +1,110 @@
+//! What decided moves make of the open continuations.
+
+ghost use Rattle.salt_bytes.specs.Conts.{move_in};
+ghost use Rattle.salt_bytes.specs.declared.moves.Move.TheVariants.{Continue, Finish};
+ghost use Rattle.salt_decisions.specs.Moves.{moved_by};
+ghost use Rattle.salt_stands.specs.OpenConts.{do_rise, make_move};
+ghost use Rattle.salt_stands.specs.Words.{and_then};
+ghost use Rattle.salt_values.specs.Id.{is_same_id};
+ghost use Rattle.salt_values.specs.declared.cont.Cont.{Cont};
+ghost use Rattle.std.specs.List.{position};
+ghost use Rattle.std.specs.Prelude.{IfOk, List, OnOk, Some, true, ◌≡◌};
+
+use salt_bytes::Move;
+use salt_codec::take_move;
+use salt_values::{Bytes, Cont, Conts, Id, TryCopy};
+use sqlite_items::Items;
+use std::alloc::{AllocError, Global};
+
+fn is_same_id(left: Id, right: Id) -> bool
+    ensures { result ≡ is_same_id left right }
+{
+    left.boot == right.boot && left.seq == right.seq
+}
+
+/// Where the continuation of a program stands.
+fn place_of(conts: &[Cont], base: Id) -> Option<usize>
+    ensures { result ≡ position (λ (c : Cont). is_same_id base c.base) conts.now }
+{
+    conts.iter().position(|cont| is_same_id(base, cont.base))
+}
+
+/// Puts a continuation in the place of its program's, or behind the others.
+fn go_to(conts: &mut Conts, cont: Cont) -> Result<(), AllocError>
+    ensures { do_rise conts.old ≡ true → (cs : List Cont) → make_move conts.old (Continue cont) ≡ Some cs → OnOk result (conts.new ≡ cs) }
+{
+    match place_of(conts.as_slice(), cont.base) {
+        Some(at) => {
+            conts.set(at, cont);
+            Ok(())
+        }
+        None => conts.push(cont),
+    }
+}
+
+/// Takes out the continuation of a program.
+fn finish(conts: &mut Conts, base: Id)
+    ensures { do_rise conts.old ≡ true → (cs : List Cont) → make_move conts.old (Finish base) ≡ Some cs → conts.new ≡ cs }
+{
+    match place_of(conts.as_slice(), base) {
+        Some(at) => {
+            conts.remove(at);
+        }
+        None => {}
+    }
+}
+
+/// Makes the move that these bytes are, under the format of the header that it stands behind. Bytes that are no move change
+/// nothing. After an error the continuations are as before.
+pub fn make_move(alloc: Global, format: u8, conts: &mut Conts, mv: &[u8]) -> Result<(), AllocError>
+    ensures { do_rise conts.old ≡ true → (cs : List Cont) → and_then (make_move conts.old) (move_in format mv.now) ≡ Some cs → OnOk result (conts.new ≡ cs) }
+{
+    match take_move(alloc, format, mv)? {
+        Some(Move::Continue(cont)) => go_to(conts, cont),
+        Some(Move::Finish(base)) => {
+            finish(conts, base);
+            Ok(())
+        }
+        Some(Move::Plain) | None => Ok(()),
+    }
+}
+
+fn copy_cont(alloc: Global, cont: &Cont) -> Result<Cont, AllocError>
+    ensures { IfOk result (λ made. made ≡ cont.now) }
+{
+    Ok(Cont {
+        base: cont.base,
+        accepted: cont.accepted,
+        program: cont.program.copy(alloc)?,
+        args: cont.args.copy(alloc)?,
+        vars: cont.vars.copy(alloc)?,
+        next: cont.next,
+        tries: cont.tries,
+    })
+}
+
+fn copy_conts(alloc: Global, conts: &[Cont]) -> Result<Conts, AllocError>
+    ensures { IfOk result (λ made. made ≡ conts.now) }
+{
+    let mut made = Items::new(alloc);
+    for cont in conts {
+        made.push(copy_cont(alloc, cont)?)?;
+    }
+    Ok(made)
+}
+
+/// The continuations that a header and the moves behind it leave open.
+pub fn open_conts(
+    alloc: Global,
+    format: u8,
+    conts: &[Cont],
+    moves: &[Bytes],
+) -> Result<Conts, AllocError>
+    ensures { do_rise conts.now ≡ true → (cs : List Cont) → moved_by format (Some conts.now) moves.now ≡ Some cs → IfOk result (λ made. made ≡ cs) }
+{
+    let mut made = copy_conts(alloc, conts)?;
+    for mv in moves {
+        make_move(alloc, format, &mut made, mv.as_slice())?;
+    }
+    Ok(made)
+}

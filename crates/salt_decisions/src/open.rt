@@ -1,0 +1,245 @@
+//! The coordinator's log is opened, or begun.
+
+ghost use Rattle.salt_bytes.specs.Generations.{BothBlank, LogA};
+ghost use Rattle.salt_bytes.specs.Log.{entries_in};
+ghost use Rattle.salt_decisions.specs.Decisions.{HoldsLog, IsDecisions};
+ghost use Rattle.salt_decisions.specs.Errors.{open_err};
+ghost use Rattle.salt_decisions.specs.Kept.{IsKept};
+ghost use Rattle.salt_decisions.specs.Opened.{FullAtFirst, IsBlankImage, IsFirstImage, IsOfCoordinator, IsOpened, OpenFails, Peeks, begun, first_payload};
+ghost use Rattle.salt_decisions.specs.Read.{IsOf};
+ghost use Rattle.salt_disk.specs.Disks.{EachImage, HasCause, IsSettled, KeepsAll, KeepsBut};
+ghost use Rattle.salt_stands.specs.Coordinator.{coordinator_pair};
+ghost use Rattle.salt_stands.specs.CoordinatorLog.{CoordinatorLog};
+ghost use Rattle.salt_stands.specs.Stands.{are_spent, is_same_kind, is_same_shape, logs_of};
+ghost use Rattle.salt_values.specs.Placement.{IsParts};
+ghost use Rattle.salt_values.specs.declared.placement.Shape.{Shape};
+ghost use Rattle.std.specs.Prelude.{IfErr, IfOk, IsTrue, Some, [], ◌<◌, ◌≡◌};
+ghost use Rattle.std.specs.Result.{result_err};
+
+use crate::decisions::Decisions;
+use crate::error::OpenErr;
+use crate::header_payload::{FORMAT, header_payload};
+use crate::kept::{Kept, texts_of};
+use crate::moves::open_conts;
+use crate::pair::{LogPair, read_pair};
+use crate::read::ReadLog;
+use crate::said::Said;
+use crate::which::Which;
+use salt_disk::{DiskErr, Disks};
+use salt_gatelog::create;
+use salt_values::{PlaceKind, Shape};
+use sqlite_items::Items;
+use std::alloc::{AllocError, Global};
+
+/// What a log that was read keeps.
+fn kept_of(alloc: Global, log: ReadLog) -> Result<Kept, AllocError>
+    ensures { (l : CoordinatorLog) → IsOf log l → IfOk result (λ kept. IsKept kept l) }
+{
+    let ReadLog {
+        gate: _gate,
+        format,
+        generation: _,
+        shape: _,
+        conts,
+        said,
+    } = log;
+    let Said {
+        boot,
+        decisions,
+        definitions,
+        decided,
+        masks,
+        moves,
+    } = said;
+    Ok(Kept {
+        boot,
+        decisions,
+        definitions: texts_of(alloc, definitions.as_slice())?,
+        decided,
+        masks,
+        moves,
+        conts,
+        format,
+    })
+}
+
+/// What the coordinator's log keeps, and its shape; nothing exactly where both of its devices are blank. `NotSalt` exactly where
+/// the pair is neither blank nor has a log that counts. It writes nothing. Nothing is pending on the two devices.
+pub fn peek<D: Disks>(alloc: Global, disks: &mut D) -> Result<Option<(Shape, Kept)>, OpenErr>
+    requires known { 1 < (D.view disks.old).count }
+    requires settled_a { IsSettled (D.view disks.old) 0 }
+    requires settled_b { IsSettled (D.view disks.old) 1 }
+    ensures answer { IsTrue (D.view disks.old).told → Peeks result (coordinator_pair (logs_of (D.view disks.old).bytes)) }
+    ensures kept { KeepsAll (D.view disks.old) (D.view disks.new) (open_err result) }
+    ensures cause { HasCause (D.view disks.old) (D.view disks.new) (open_err result) }
+{
+    match read_pair(alloc, disks)? {
+        LogPair::BothBlank => Ok(None),
+        LogPair::Counts(_which, log) => {
+            let shape = log.shape;
+            Ok(Some((shape, kept_of(alloc, log)?)))
+        }
+        LogPair::Faulty(which) => Err(OpenErr::NotSalt(which.device())),
+    }
+}
+
+/// What a log that was read keeps, and the log itself with the continuations that it leaves open.
+fn opened(alloc: Global, which: Which, log: ReadLog) -> Result<(Decisions, Kept), AllocError>
+    ensures holds { (l : CoordinatorLog) → IsOf log l → IfOk result (λ made. HoldsLog made.0 l × IsKept made.1 l) }
+    ensures same { IfOk result (λ made. (made.0.which ≡ which) × (made.0.gate ≡ log.gate)) }
+{
+    let ReadLog {
+        gate,
+        format,
+        generation,
+        shape,
+        conts,
+        said,
+    } = log;
+    let Said {
+        boot,
+        decisions,
+        definitions,
+        decided,
+        masks,
+        moves,
+    } = said;
+    let going = open_conts(alloc, format, conts.as_slice(), moves.as_slice())?;
+    let texts = texts_of(alloc, definitions.as_slice())?;
+    let counting = Decisions {
+        which,
+        gate,
+        format,
+        generation,
+        shape,
+        boot,
+        decisions,
+        definitions,
+        conts: going,
+    };
+    let kept = Kept {
+        boot,
+        decisions,
+        definitions: texts,
+        decided,
+        masks,
+        moves,
+        conts,
+        format,
+    };
+    Ok((counting, kept))
+}
+
+/// What a new log keeps.
+fn nothing_kept(alloc: Global) -> Kept
+    ensures { (shape : Shape) → IsKept result (begun shape) }
+{
+    Kept {
+        boot: 0,
+        decisions: 0,
+        definitions: Items::new(alloc),
+        decided: Items::new(alloc),
+        masks: Items::new(alloc),
+        moves: Items::new(alloc),
+        conts: Items::new(alloc),
+        format: FORMAT,
+    }
+}
+
+/// Begins the coordinator's log on its blank devices: log B is made blank, then log A, and the first header is appended there.
+fn begin<D: Disks>(alloc: Global, disks: &mut D, shape: Shape) -> Result<Decisions, DiskErr>
+    requires known { 1 < (D.view disks.old).count }
+    requires settled_a { IsSettled (D.view disks.old) 0 }
+    requires settled_b { IsSettled (D.view disks.old) 1 }
+    requires blank { IsTrue (D.view disks.old).told → coordinator_pair (logs_of (D.view disks.old).bytes) ≡ BothBlank }
+    requires parts { IsParts shape.parts }
+    ensures ok { IfOk result (λ made. IsDecisions (D.view disks.new) made LogA (begun shape)) }
+    ensures images_a { EachImage (D.view disks.new) 0 (IsFirstImage shape) }
+    ensures images_b { EachImage (D.view disks.new) 1 IsBlankImage }
+    ensures others { KeepsBut IsOfCoordinator (D.view disks.old) (D.view disks.new) (result_err result) }
+    ensures cause { HasCause (D.view disks.old) (D.view disks.new) (result_err result) }
+    ensures full { FullAtFirst (D.view disks.old).limit (first_payload shape) (result_err result) }
+{
+    let payload = header_payload(alloc, 1, shape, 0, 0, &[], &[])?;
+    let _other = create(disks, 1)?;
+    let mut gate = create(disks, 0)?;
+    gate.append(alloc, disks, &payload)?;
+    Ok(Decisions {
+        which: Which::A,
+        gate,
+        format: FORMAT,
+        generation: 1,
+        shape,
+        boot: 0,
+        decisions: 0,
+        definitions: Items::new(alloc),
+        conts: Items::new(alloc),
+    })
+}
+
+fn is_same_kind(left: PlaceKind, right: PlaceKind) -> bool
+    ensures { result ≡ is_same_kind left right }
+{
+    match (left, right) {
+        (PlaceKind::Remainder, PlaceKind::Remainder) => true,
+        (PlaceKind::Bands, PlaceKind::Bands) => true,
+        (PlaceKind::Remainder, PlaceKind::Bands) => false,
+        (PlaceKind::Bands, PlaceKind::Remainder) => false,
+    }
+}
+
+fn is_same_shape(left: Shape, right: Shape) -> bool
+    ensures { result ≡ is_same_shape left right }
+{
+    left.parts == right.parts && is_same_kind(left.kind, right.kind)
+}
+
+/// Whether boots or decisions have come to 2^63.
+fn are_spent(boot: u64, decisions: u64) -> bool
+    ensures { result ≡ are_spent boot decisions }
+{
+    1 << 63 <= boot || 1 << 63 <= decisions
+}
+
+/// Opens the log of the coordinator that counts, and gives what it keeps. Blank devices are made a new one's, of the shape that
+/// is asked for, up to its header. `NotSalt`, `OtherShape` and `NumbersSpent` come in this order, each exactly where it is so.
+/// On devices that are not blank it writes nothing. Nothing is pending on the two devices.
+pub fn open_decisions<D: Disks>(
+    alloc: Global,
+    disks: &mut D,
+    shape: Shape,
+) -> Result<(Decisions, Kept), OpenErr>
+    requires known { 1 < (D.view disks.old).count }
+    requires settled_a { IsSettled (D.view disks.old) 0 }
+    requires settled_b { IsSettled (D.view disks.old) 1 }
+    requires parts { IsParts shape.parts }
+    ensures ok { IfOk result (λ made. IsOpened (D.view disks.old) (D.view disks.new) shape made.0 made.1) }
+    ensures err { IsTrue (D.view disks.old).told → IfErr result (OpenFails shape (coordinator_pair (logs_of (D.view disks.old).bytes))) }
+    ensures kept { IsTrue (D.view disks.old).told → ¬ (coordinator_pair (logs_of (D.view disks.old).bytes) ≡ BothBlank) → KeepsAll (D.view disks.old) (D.view disks.new) (open_err result) }
+    ensures images_a { coordinator_pair (logs_of (D.view disks.old).bytes) ≡ BothBlank → EachImage (D.view disks.new) 0 (IsFirstImage shape) }
+    ensures images_b { coordinator_pair (logs_of (D.view disks.old).bytes) ≡ BothBlank → EachImage (D.view disks.new) 1 IsBlankImage }
+    ensures others { KeepsBut IsOfCoordinator (D.view disks.old) (D.view disks.new) (open_err result) }
+    ensures cause { HasCause (D.view disks.old) (D.view disks.new) (open_err result) }
+    ensures full { IsTrue (D.view disks.old).told → FullAtFirst (D.view disks.old).limit (first_payload shape) (open_err result) }
+{
+    match read_pair(alloc, disks)? {
+        LogPair::BothBlank => {
+            let made = begin(alloc, disks, shape)?;
+            Ok((made, nothing_kept(alloc)))
+        }
+        LogPair::Counts(which, log) => {
+            if !is_same_shape(log.shape, shape) {
+                return Err(OpenErr::OtherShape {
+                    kept: log.shape,
+                    asked: shape,
+                });
+            }
+            let (boot, decisions) = (log.said.boot, log.said.decisions);
+            if are_spent(boot, decisions) {
+                return Err(OpenErr::NumbersSpent { boot, decisions });
+            }
+            Ok(opened(alloc, which, log)?)
+        }
+        LogPair::Faulty(which) => Err(OpenErr::NotSalt(which.device())),
+    }
+}
