@@ -120,7 +120,7 @@ first_is_spellable asked parts = record {
   conts = tt;
 }
 
-first_log : (asked : Shape) (payload : List ℕ) → IsParts asked.parts → payload ≡ first_payload asked → coordinator_in (payload ∷ []) ≡ Some (begun asked)
+pub first_log : (asked : Shape) (payload : List ℕ) → IsParts asked.parts → payload ≡ first_payload asked → coordinator_in (payload ∷ []) ≡ Some (begun asked)
 first_log asked payload parts is =
     ap (and_then (λ h. with_told h (heard h.shape.parts (Some (told_by_header h)) []))) (ap header_in is ∙ reads_header (first_header asked 3) (first_is_spellable asked parts))
 

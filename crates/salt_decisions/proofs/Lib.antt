@@ -12,3 +12,4 @@ mod Puts
 mod Saids
 mod Snapshots
 mod Values
+mod Witness
