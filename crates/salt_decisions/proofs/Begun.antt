@@ -106,7 +106,7 @@ keeps_of_b d e answer keeps = keeps_wider (λ dev. dev ≡ 1) IsOfCoordinator d 
 pub are_parts : (asked : Shape) → IsParts asked.parts → is_number_of_parts asked.parts ≡ true
 are_parts asked parts = grind (arith, nat_tests)
 
-first_is_spellable : (asked : Shape) → IsParts asked.parts → IsSpellableHeader (first_header asked 3)
+pub first_is_spellable : (asked : Shape) → IsParts asked.parts → IsSpellableHeader (first_header asked 3)
 first_is_spellable asked parts = record {
   format = refl;
   generation = omega arith;

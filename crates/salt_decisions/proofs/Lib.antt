@@ -1,7 +1,7 @@
-mod Appended
-mod Begun
+pub mod Appended
+pub mod Begun
 mod Bytes
-mod Contents
+pub mod Contents
 mod Each
 mod Hearing
 mod Keeping
@@ -10,6 +10,6 @@ mod Pairing
 mod Places
 mod Puts
 mod Saids
-mod Snapshots
+pub mod Snapshots
 mod Values
-mod Witness
+pub mod Witness

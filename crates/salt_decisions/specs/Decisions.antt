@@ -6,6 +6,7 @@ use Rattle.salt_decisions.specs.Header.{numbered_of}
 use Rattle.salt_decisions.specs.HeaderPayload.{header_with}
 use Rattle.salt_decisions.specs.Which.{which_in}
 use Rattle.salt_decisions.specs.declared.decisions.Decisions.{Decisions}
+use Rattle.salt_decisions.specs.declared.header.Definition.{Definition}
 use Rattle.salt_decisions.specs.declared.header_payload.TheConstants.{FORMAT}
 use Rattle.salt_disk.specs.Disks.{IsSettled, View}
 use Rattle.salt_gatelog.specs.Log as gates
@@ -37,6 +38,9 @@ last_boot x = x.boot
 abbrev pub last_decision : Decisions → ℕ
 last_decision x = x.decisions
 
+abbrev pub definitions_in : Decisions → List Definition
+definitions_in x = x.definitions
+
 abbrev pub open_conts : Decisions → List Cont
 open_conts x = x.conts
 
@@ -51,7 +55,7 @@ pub record HoldsLog (x : Decisions) (log : CoordinatorLog) : Type 0 where
   pub shape : x.shape ≡ log.header.shape
   pub boot : last_boot x ≡ log.told.boot
   pub decisions : last_decision x ≡ log.told.decisions
-  pub definitions : map numbered_of x.definitions ≡ log.told.definitions
+  pub definitions : map numbered_of (definitions_in x) ≡ log.told.definitions
   pub conts : AreOpen (open_conts x) log
   pub parts : is_number_of_parts x.shape.parts ≡ true
 

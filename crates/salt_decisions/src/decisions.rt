@@ -2,7 +2,7 @@
 
 ghost use Rattle.salt_bytes.specs.Coordinator.{Boots, CoordinatorEntry, Decides, Defines, entry_in, spell_entry};
 ghost use Rattle.salt_bytes.specs.Generations.{WhichLog};
-ghost use Rattle.salt_decisions.specs.Decisions.{HasSameEntries, IsBeforeOrWith, IsCounting, IsDecisions, IsSnapshotImage, booted, count_in, decided, defined, device_in, format_of, gate_in, last_boot, last_decision, log_with, next_decision, next_definition, open_conts, shape_of, snapshot_payload, snapshotted};
+ghost use Rattle.salt_decisions.specs.Decisions.{HasSameEntries, IsBeforeOrWith, IsCounting, IsDecisions, IsSnapshotImage, booted, count_in, decided, defined, definitions_in, device_in, format_of, gate_in, last_boot, last_decision, log_with, next_decision, next_definition, open_conts, shape_of, snapshot_payload, snapshotted};
 ghost use Rattle.salt_disk.specs.Disks.{EachImage, FullExactly, FullOnly, HasCause, KeepsOthers};
 ghost use Rattle.salt_gatelog.specs.Log as gates;
 ghost use Rattle.salt_gatelog.specs.Log.{gate_of};
@@ -24,7 +24,8 @@ use salt_values::{Cont, Conts, Id, Shape};
 use sqlite_items::Items;
 use std::alloc::Global;
 
-/// The log of the coordinator that counts. Each call appends one entry. After an error it is opened again before it is used.
+/// The log of the coordinator that counts. `boot`, `define` and `decide` append one entry each, and `snapshot` begins the pair's
+/// other log. After an error of theirs the log is opened again before it is used.
 #[derive(Drop)]
 pub struct Decisions {
     pub(crate) which: Which,
@@ -72,6 +73,13 @@ impl Decisions {
         ensures { result ≡ last_decision self.now }
     {
         self.decisions
+    }
+
+    /// The definitions, in the order of their numbers.
+    pub fn definitions(&self) -> &[Definition]
+        ensures { result.now ≡ definitions_in self.now }
+    {
+        self.definitions.as_slice()
     }
 
     /// How many partitions there are, and how rows are spread over them.

@@ -21,5 +21,6 @@ mod which;
 
 pub use decisions::Decisions;
 pub use error::OpenErr;
+pub use header::Definition;
 pub use kept::{Kept, Texts};
 pub use open::{open_decisions, peek};
