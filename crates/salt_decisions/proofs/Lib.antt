@@ -11,5 +11,6 @@ mod Places
 mod Puts
 mod Saids
 pub mod Snapshots
+mod Unspent
 mod Values
 pub mod Witness

@@ -24,3 +24,6 @@ pub use error::OpenErr;
 pub use header::Definition;
 pub use kept::{Kept, Texts};
 pub use open::{open_decisions, peek};
+
+#[cfg(test)]
+mod tests;
