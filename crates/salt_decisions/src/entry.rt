@@ -1,6 +1,6 @@
 //! The entries of a coordinator's log behind its header, taken from their bytes.
 
-ghost use Rattle.salt_bytes.specs.Coordinator.{entry_in, take_decision, take_entry, take_entry_of};
+ghost use Rattle.salt_bytes.specs.Coordinator.{entry_in, take_decision, take_entry};
 ghost use Rattle.salt_decisions.specs.Entry.{decision_of, entry_of};
 ghost use Rattle.salt_decisions.specs.Taking.{TakesAs};
 ghost use Rattle.std.specs.Prelude.{IfOk, nat_lt, option_map, ◌<◌, ◌^◌, ◌≡◌, ◌≤◌};

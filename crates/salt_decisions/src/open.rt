@@ -1,7 +1,6 @@
 //! The coordinator's log is opened, or begun.
 
 ghost use Rattle.salt_bytes.specs.Generations.{BothBlank, LogA};
-ghost use Rattle.salt_bytes.specs.Log.{entries_in};
 ghost use Rattle.salt_decisions.specs.Decisions.{HoldsLog, IsDecisions};
 ghost use Rattle.salt_decisions.specs.Errors.{open_err};
 ghost use Rattle.salt_decisions.specs.Kept.{IsKept};

@@ -5,7 +5,6 @@ ghost use Rattle.salt_bytes.specs.Numbers.{take_32, take_64};
 ghost use Rattle.salt_bytes.specs.Taking.{take_byte, take_bytes, take_each};
 ghost use Rattle.salt_bytes.specs.Values.{take_value};
 ghost use Rattle.salt_decisions.specs.Taking.{Takes, TakesBytes, take_value_text};
-ghost use Rattle.std.specs.Prelude.{◌≡◌};
 
 use crate::error::TakeErr;
 use byteorder::{BigEndian, ByteOrder};
