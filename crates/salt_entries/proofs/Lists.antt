@@ -1,6 +1,9 @@
 -- Things put, and taken, one behind the other.
 use Rattle.salt_bytes.specs.Taking.{Take, give, go_on, spell_each, take_each, then_take}
-use Rattle.std.proofs.Common.{List, None, Option, Some, [], ap, append_assoc, arith, drop, get_or, length, refl, suc, sym, zero, ℕ, ◌+◌, ◌++◌, ◌-◌, ◌<◌, ◌≡◌, ◌≤◌, ◌∙◌, ◌∷◌}
+use Rattle.salt_entries.specs.Taking.{Takes, TakesVec}
+use Rattle.salt_entries.specs.declared.error.TakeErr.TheVariants.{Memory, Misspelled}
+use Rattle.salt_entries.specs.declared.error.TakeErr.{TakeErr}
+use Rattle.std.proofs.Common.{Err, List, None, Option, Some, [], ap, append_assoc, arith, drop, get_or, length, refl, suc, sym, zero, ℕ, ◌+◌, ◌++◌, ◌-◌, ◌<◌, ◌≡◌, ◌≤◌, ◌∙◌, ◌∷◌}
 use Rattle.std.proofs.lemmas.List.{append-nil}
 
 -- ONE BEHIND THE OTHER
@@ -77,3 +80,9 @@ module _ {A : Type 0} (take : Take A) (n : ℕ) (bytes : List ℕ) where
   took_all xs i rest end h =
       let none : n - i ≡ 0 = omega (arith, end) in
       h.so_far ∙ ap (λ k. behind xs (take_each take k rest)) none ∙ ap (λ l. Some (l, rest)) (append-nil xs)
+
+-- where one is not taken, they are not
+pub each_fails : {A : Type 0} (take : Take A) (n : ℕ) (bytes : List ℕ) (xs : List A) (i : ℕ) (rest : List ℕ) (e : TakeErr) → i < n
+    → Takes {A = A} (Err e) (take rest) → Took take n bytes xs i rest → TakesVec {A = A} (Err e) (take_each take n bytes)
+each_fails take n bytes xs i rest Misspelled low is h = took_fails take n bytes xs i rest low is h
+each_fails take n bytes xs i rest Memory low is h = tt

@@ -8,8 +8,7 @@ use Rattle.salt_values.specs.Value.{IsValue, is_null}
 use Rattle.salt_values.specs.declared.change.Change.{Change}
 use Rattle.salt_values.specs.declared.value.Value.TheVariants.{Int, Null, Text}
 use Rattle.salt_values.specs.declared.value.Value.{Value}
-use Rattle.std.proofs.Common.{Bool, Err, List, None, Ok, Option, Result, Some, [], ap, false, length, true, ℕ, ◌<◌, ◌^◌, ◌≡◌, ◌∙◌, ◌∷◌}
-use Rattle.std.specs.Prelude.{IfOk}
+use Rattle.std.proofs.Common.{Bool, List, None, Option, Some, [], false, length, true, ◌<◌, ◌^◌, ◌≡◌, ◌∷◌}
 
 spellable_value : (nulls : Bool) (v : Value) → IsValue v → MayStand nulls v → IsSpellableValue nulls v
 spellable_value nulls (Int z) told may = told
@@ -33,12 +32,9 @@ spellable_changes : (nulls : Bool) (cs : List Change) → Every IsTold cs → Ev
 spellable_changes nulls [] told put = tt
 spellable_changes nulls (c ∷ cs) told put = (record { table = told.0.table; to = spellable_to nulls c.key c.row told.0.key told.0.row put.0 }, spellable_changes nulls cs told.1 put.1)
 
-pub read_again : {A E : Type 0} (r : Result A E) (items : A → List ℕ) (x : Prepared) → IsSpellableId x.unit → length x.changes < 2 ^ 64 → Every IsTold x.changes
-    → IfOk r (λ made. items made ≡ spell_prepared x)
-    → IfOk r (λ made. (nulls : Bool) → Every (IsPut nulls) x.changes → are_in_order x.changes ≡ true → prepared_in nulls (items made) ≡ Some x)
-read_again (Err e) items x unit count told bytes = tt
-read_again (Ok made) items x unit count told bytes = λ nulls put ordered.
-    ap (prepared_in nulls) bytes ∙ reads_prepared nulls x (record { unit = unit; count = count; changes = spellable_changes nulls x.changes told put; ordered = ordered })
+pub read_again : (x : Prepared) → IsSpellableId x.unit → length x.changes < 2 ^ 64 → Every IsTold x.changes
+    → (nulls : Bool) → Every (IsPut nulls) x.changes → are_in_order x.changes ≡ true → prepared_in nulls (spell_prepared x) ≡ Some x
+read_again x unit count told nulls put ordered = reads_prepared nulls x (record { unit = unit; count = count; changes = spellable_changes nulls x.changes told put; ordered = ordered })
 
 row_put : (nulls : Bool) (key : Value) (row : Option (List Value)) → IsPutTo nulls key row → HasRowTo row
 row_put nulls key None put = tt

@@ -17,7 +17,7 @@ abbrev pub header_of : Header → PartitionHeader
 header_of h = record { format = h.format; generation = h.generation; part = h.part; sides = h.sides }
 
 abbrev pub prepared_of : PreparedUnit → Prepared
-prepared_of x = record { unit = x.unit; changes = x.changes }
+prepared_of x = record { unit = x.unit; changes = x.changes.items }
 
 -- what stands behind the generation of a header
 abbrev pub take_pages_named : (format generation : ℕ) → Take PartitionHeader

@@ -10,7 +10,8 @@ use Rattle.salt_values.specs.declared.text.TextErr.{TextErr}
 use Rattle.salt_values.specs.declared.value.Value.TheVariants.{Text}
 use Rattle.salt_values.specs.declared.value.Value.{Value}
 use Rattle.std.specs.Borrow.{Bor}
-use Rattle.std.specs.Prelude.{Err, codes, List, None, Ok, Option, Result, Some, ℕ, ⊤, ◌≡◌}
+use Rattle.std.specs.Global.{Global}
+use Rattle.std.specs.Prelude.{Err, Vec, codes, List, None, Ok, Option, Result, Some, ℕ, ⊤, ◌≡◌}
 
 -- the thing, as it is seen, and what is left; nothing where none is spelled there; or that memory ran out
 abbrev pub TakesAs : {A B : Type 0} → (A → B) → Result (A × Bor (List ℕ)) TakeErr → Option (B × List ℕ) → Type 0
@@ -22,6 +23,12 @@ abbrev pub Takes : {A : Type 0} → Result (A × Bor (List ℕ)) TakeErr → Opt
 Takes (Ok found) taken = taken ≡ Some (found.0, found.1.now)
 Takes (Err Misspelled) taken = taken ≡ None
 Takes (Err Memory) taken = ⊤
+
+-- likewise, of things in a vector
+abbrev pub TakesVec : {A : Type 0} → Result (Vec A Global × Bor (List ℕ)) TakeErr → Option (List A × List ℕ) → Type 0
+TakesVec (Ok found) taken = taken ≡ Some (found.0.items, found.1.now)
+TakesVec (Err Misspelled) taken = taken ≡ None
+TakesVec (Err Memory) taken = ⊤
 
 -- likewise, of bytes
 abbrev pub TakesBytes : Result (Bor (List ℕ) × Bor (List ℕ)) TakeErr → Option (List ℕ × List ℕ) → Type 0

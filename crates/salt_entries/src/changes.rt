@@ -6,14 +6,13 @@ ghost use Rattle.salt_bytes.specs.Spellable.{Every};
 ghost use Rattle.salt_bytes.specs.Taking.{spell_each, take_each};
 ghost use Rattle.salt_bytes.specs.Values.{key_of};
 ghost use Rattle.salt_entries.specs.Entries.{HasRow};
-ghost use Rattle.salt_entries.specs.Taking.{Takes};
+ghost use Rattle.salt_entries.specs.Taking.{Takes, TakesVec};
 ghost use Rattle.std.specs.Prelude.{IfOk, ◌++◌, ◌≡◌};
 
 use crate::error::TakeErr;
 use crate::put::{with_byte, with_key, with_row, with_u16, with_u64};
 use crate::take::{take_byte, take_key, take_row_from, take_u16, take_u64};
-use salt_values::{Change, Changes, Key, Row, TryCopy, Value};
-use sqlite_items::Items;
+use salt_values::{Change, Key, Row, TryCopy, Value};
 use std::alloc::{AllocError, Global};
 
 fn with_change(out: Vec<u8>, change: &Change) -> Result<Vec<u8>, AllocError>
@@ -88,10 +87,10 @@ fn take_each_change(
     nulls: bool,
     count: u64,
     bytes: &[u8],
-) -> Result<(Changes, &[u8]), TakeErr>
-    ensures { Takes result (take_each (take_change nulls) count bytes.now) }
+) -> Result<(Vec<Change>, &[u8]), TakeErr>
+    ensures { TakesVec result (take_each (take_change nulls) count bytes.now) }
 {
-    let mut changes = Items::new(alloc);
+    let mut changes = Vec::new(alloc);
     let mut rest = bytes;
     for _taken in 0..count {
         let (change, behind) = take_change(alloc, nulls, rest)?;
@@ -102,8 +101,12 @@ fn take_each_change(
 }
 
 /// Changes behind their number.
-pub fn take_changes(alloc: Global, nulls: bool, bytes: &[u8]) -> Result<(Changes, &[u8]), TakeErr>
-    ensures { Takes result (take_counted (take_change nulls) bytes.now) }
+pub fn take_changes(
+    alloc: Global,
+    nulls: bool,
+    bytes: &[u8],
+) -> Result<(Vec<Change>, &[u8]), TakeErr>
+    ensures { TakesVec result (take_counted (take_change nulls) bytes.now) }
 {
     let (count, rest) = take_u64(bytes)?;
     take_each_change(alloc, nulls, count, rest)

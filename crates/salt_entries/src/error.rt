@@ -6,7 +6,7 @@ ghost use Rattle.std.specs.Prelude.{◌≡◌};
 
 use salt_codec::RowErr;
 use salt_values::TextErr;
-use std::alloc::AllocError;
+use std::alloc::{AllocError, AllocFailed};
 
 /// Why a thing is not taken from the front of bytes.
 #[derive(Clone, Copy, Debug, PartialEq, Eq)]
@@ -21,6 +21,14 @@ impl From<AllocError> for TakeErr {
     ghost from_gives = { λ _ e. e ≡ Memory };
 
     fn from(_e: AllocError) -> TakeErr {
+        TakeErr::Memory
+    }
+}
+
+impl<T: Drop> From<AllocFailed<T>> for TakeErr {
+    ghost from_gives = { λ _ e. e ≡ Memory };
+
+    fn from(_e: AllocFailed<T>) -> TakeErr {
         TakeErr::Memory
     }
 }

@@ -13,14 +13,14 @@ use crate::order::are_in_order;
 use crate::put::{with_byte, with_id};
 use crate::take::{take_byte, take_id};
 use crate::told::told_changes;
-use salt_values::{Change, Changes, Id};
+use salt_values::{Change, Id};
 use std::alloc::{AllocError, Global};
 
 /// A unit that is prepared: its changes in this partition, in order of table and key, each key once.
 #[derive(Drop)]
 pub struct PreparedUnit {
     pub unit: Id,
-    pub changes: Changes,
+    pub changes: Vec<Change>,
 }
 
 fn spelled(alloc: Global, unit: Id, changes: &[Change]) -> Result<Vec<u8>, AllocError>
@@ -37,8 +37,8 @@ fn spelled(alloc: Global, unit: Id, changes: &[Change]) -> Result<Vec<u8>, Alloc
 pub fn spell_prepared(alloc: Global, unit: Id, changes: &[Change]) -> Result<Vec<u8>, AllocError>
     requires { Every HasRow changes.now }
     ensures bytes { IfOk result (λ made. made.items ≡ spell_prepared (record { unit = unit; changes = changes.now })) }
-    ensures read { IfOk result (λ made. (nulls : Bool) → Every (IsPut nulls) changes.now → are_in_order changes.now ≡ true
-        → prepared_in nulls made.items ≡ Some (record { unit = unit; changes = changes.now })) }
+    ensures read { (nulls : Bool) → Every (IsPut nulls) changes.now → are_in_order changes.now ≡ true
+        → prepared_in nulls (spell_prepared (record { unit = unit; changes = changes.now })) ≡ Some (record { unit = unit; changes = changes.now }) }
 {
     told_changes(changes);
     spelled(alloc, unit, changes)

@@ -3,4 +3,4 @@ use Rattle.salt_entries.proofs.Lists.{Took}
 use Rattle.salt_entries.proofs.changes.take_each_change.Given as goal
 
 abbrev pub invariant-loop-taken : goal.invariant-loop-taken
-invariant-loop-taken l = Took (take_change l.nulls) l.count l.bytes l.changes l._taken l.rest
+invariant-loop-taken l = Took (take_change l.nulls) l.count l.bytes l.changes.items l._taken l.rest

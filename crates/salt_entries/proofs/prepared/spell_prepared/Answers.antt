@@ -4,4 +4,4 @@ use Rattle.std.proofs.Common.{arith}
 
 pub returns-clause-read : goal.returns-clause-read
 returns-clause-read c =
-    read_again c.spelled.result (λ made. made.items) (record { unit = c.args.unit; changes = c.args.changes.now }) (record { boot = omega arith; seq = omega arith }) (omega arith) c.told_changes.ensures c.spelled.ensures
+    read_again (record { unit = c.args.unit; changes = c.args.changes.now }) (record { boot = omega arith; seq = omega arith }) (omega arith) c.told_changes.ensures
