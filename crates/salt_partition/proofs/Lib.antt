@@ -1,0 +1,10 @@
+mod Created
+mod Entries
+mod Gathered
+mod Logged
+mod Making
+mod Seeing
+mod Seen
+mod Standing
+mod Opened
+mod Steps
