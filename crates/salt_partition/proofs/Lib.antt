@@ -6,5 +6,7 @@ mod Making
 mod Seeing
 mod Seen
 mod Standing
+pub mod Framed
+mod Witnesses
 mod Opened
 mod Steps

@@ -15,3 +15,6 @@ mod units;
 pub use create::create_partition;
 pub use open::{OpenErr, open_partition};
 pub use partition::Partition;
+
+#[cfg(test)]
+mod tests;
