@@ -5,3 +5,6 @@ mod part;
 
 pub use part::one_part;
 pub use salt_values::{PlaceKind, Placement, Shape};
+
+#[cfg(test)]
+mod tests;
