@@ -1,3 +1,4 @@
+mod Names
 mod Created
 mod Entries
 mod Gathered

@@ -6,12 +6,15 @@ ghost use Rattle.salt_stands.specs.OpenedPart.{is_known_log, is_of_boot};
 ghost use Rattle.salt_stands.specs.Partition.{are_there};
 ghost use Rattle.salt_stands.specs.Pieces.{is_prepared_in};
 ghost use Rattle.salt_values.specs.Id.{is_same_id};
-ghost use Rattle.std.specs.List.{list_all, list_any};
-ghost use Rattle.std.specs.Prelude.{nat_le, ◌≡◌};
+ghost use Rattle.std.specs.List.{list_all};
+ghost use Rattle.std.specs.Prelude.{IfOk, nat_le, ◌≡◌};
 
 use crate::contents::ReadLog;
+use crate::sets::{is_in, prepared_set};
 use salt_entries::PreparedUnit;
 use salt_values::Id;
+use std::alloc::{AllocError, Global};
+use std::collections::BTreeSet;
 
 /// Whether two names are one.
 pub fn is_same(a: Id, b: Id) -> bool
@@ -20,35 +23,17 @@ pub fn is_same(a: Id, b: Id) -> bool
     a == b
 }
 
-/// Whether a unit is among these.
-pub fn has_id(id: Id, ids: &[Id]) -> bool
-    ensures { result ≡ has_id id ids.now }
+fn all_in(set: &BTreeSet<Id>, ids: &[Id]) -> bool
+    ensures { result ≡ list_all (λ id. has_id id set.now.keys) ids.now }
 {
-    ids.iter().any(|other| *other == id)
+    ids.iter().all(|id| is_in(set, *id))
 }
 
-fn is_unit(id: Id, prepared: &PreparedUnit) -> bool
-    ensures { result ≡ is_same_id id prepared.now.unit }
+fn are_prepared(alloc: Global, ids: &[Id], units: &[PreparedUnit]) -> Result<bool, AllocError>
+    ensures { IfOk result (λ all. all ≡ list_all (λ id. is_prepared_in id (units_of units.now)) ids.now) }
 {
-    prepared.unit == id
-}
-
-fn any_is_unit(id: Id, units: &[PreparedUnit]) -> bool
-    ensures { result ≡ list_any (λ prepared. is_same_id id prepared.unit) units.now }
-{
-    units.iter().any(|prepared| is_unit(id, prepared))
-}
-
-fn is_prepared(id: Id, units: &[PreparedUnit]) -> bool
-    ensures { result ≡ is_prepared_in id (units_of units.now) }
-{
-    any_is_unit(id, units)
-}
-
-fn are_prepared(ids: &[Id], units: &[PreparedUnit]) -> bool
-    ensures { result ≡ list_all (λ id. is_prepared_in id (units_of units.now)) ids.now }
-{
-    ids.iter().all(|id| is_prepared(*id, units))
+    let set = prepared_set(alloc, units)?;
+    Ok(all_in(&set, ids))
 }
 
 fn all_of_boot(boot: u64, units: &[PreparedUnit]) -> bool
@@ -64,15 +49,24 @@ fn are_of_boot(boot: u64, units: &[PreparedUnit]) -> bool
 }
 
 /// Whether each decided unit is prepared, or may have been taken into pages by a checkpoint.
-fn are_there(decided: &[Id], log: &ReadLog) -> bool
-    ensures { result ≡ are_there decided.now (log_of log.now) }
+fn are_there(alloc: Global, decided: &[Id], log: &ReadLog) -> Result<bool, AllocError>
+    ensures { IfOk result (λ there. there ≡ are_there decided.now (log_of log.now)) }
 {
-    1 < log.header.generation || are_prepared(decided, log.units.as_slice())
+    if 1 < log.header.generation {
+        return Ok(true);
+    }
+    are_prepared(alloc, decided, log.units.as_slice())
 }
 
 /// Whether a log can be the partition's under a coordinator of this boot that has decided these units.
-pub fn is_known_log(boot: u64, decided: &[Id], log: &ReadLog) -> bool
-    ensures { result ≡ is_known_log boot decided.now (log_of log.now) }
+pub fn is_known_log(
+    alloc: Global,
+    boot: u64,
+    decided: &[Id],
+    log: &ReadLog,
+) -> Result<bool, AllocError>
+    ensures { IfOk result (λ known. known ≡ is_known_log boot decided.now (log_of log.now)) }
 {
-    are_there(decided, log) && are_of_boot(boot, log.units.as_slice())
+    let there = are_there(alloc, decided, log)?;
+    Ok(there && are_of_boot(boot, log.units.as_slice()))
 }

@@ -10,6 +10,7 @@ mod known;
 mod open;
 mod partition;
 mod rows;
+mod sets;
 mod units;
 
 pub use create::create_partition;

@@ -89,7 +89,8 @@ pub fn open_partition<D: Disks>(
     ensures cause { HasCause (D.view disks.old) (D.view disks.new) (disk_err result) }
 {
     let (side, found) = chosen_log(alloc, disks, part)?;
-    if !is_known_log(boot, decided.as_slice(), &found) {
+    let known = is_known_log(alloc, boot, decided.as_slice(), &found)?;
+    if !known {
         return Err(OpenErr::NotSalt(log_of(part, side)));
     }
     if has_pages(&found) {

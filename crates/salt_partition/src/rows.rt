@@ -5,7 +5,7 @@ ghost use Rattle.salt_partition.specs.Contents.{units_of};
 ghost use Rattle.salt_stands.specs.Partition.{decided_changes};
 ghost use Rattle.std.specs.Prelude.{IfOk, OnOk, ◌≡◌};
 
-use crate::known::has_id;
+use crate::sets::{is_in, set_of};
 use salt_entries::PreparedUnit;
 use salt_eval::Tables;
 use salt_model::Place;
@@ -40,10 +40,11 @@ pub fn rows_of(
 ) -> Result<Tables, AllocError>
     ensures { IfOk result (λ rows. rows.entries ≡ (with_changes (decided_changes decided.now (units_of units.items)) no_rows).list) }
 {
+    let applied = set_of(alloc, decided)?;
     let mut rows = BTreeMap::new(alloc);
     for prepared in units {
         let PreparedUnit { unit, changes } = prepared;
-        if has_id(unit, decided) {
+        if is_in(&applied, unit) {
             make_changes(&mut rows, changes)?;
         }
     }

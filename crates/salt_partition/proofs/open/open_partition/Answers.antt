@@ -18,6 +18,6 @@ returns-clause-opens g c =
     let found = c.in_ok-side.found in
     opens_as (g.D.Disks.view c.args.disks.now) (g.D.Disks.view c.chosen_log.new.disks) _ c.args.boot c.args.decided.now c.args.part c.in_ok-side.side found
     c.in_ok-side.ensures.kept c.requires.known c.requires.settled_a c.requires.settled_b c.in_ok-side.ensures.chosen
-    (ap (λ (us : List Id). is_known_log c.args.boot us (log_of found)) (sym c.as_slice.ensures) ∙ sym c.is_known_log.ensures ∙ c.if-not-is_known_log.false)
+    (ap (λ (us : List Id). is_known_log c.args.boot us (log_of found)) (sym c.as_slice.ensures) ∙ sym c.in_ok-known.ensures ∙ c.if-not-known.false)
     (sym c.has_pages.ensures ∙ c.if-has_pages.false) refl refl c.has_nulls.ensures
     (c.in_ok-rows.ensures ∙ ap (λ (us : List Id). (with_changes (decided_changes us (units_of found.units.items)) no_rows).list) c.as_slice-2.ensures)

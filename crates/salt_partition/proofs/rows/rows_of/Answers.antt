@@ -7,10 +7,10 @@ pub loop-prepared-init : goal.loop-prepared-init
 unfolding with_changes
 loop-prepared-init c = c.new-rows.ensures.empty
 
-pub loop-prepared-preserved-in-Continue-1 : goal.loop-prepared-preserved-in-Continue-1
-loop-prepared-preserved-in-Continue-1 c =
-    decided_next c.args.decided.now c.loop-prepared.yielded c.in-Some.prepared c.loop-prepared.rows.entries c.make_changes.new.rows.entries (sym c.has_id.ensures ∙ c.if-has_id.true) c.loop-prepared.invariant c.in_ok-make_changes.ensures
+pub loop-prepared-preserved-in-Continue-branch-2 : goal.loop-prepared-preserved-in-Continue-branch-2
+loop-prepared-preserved-in-Continue-branch-2 c =
+    decided_next c.args.decided.now c.loop-prepared.yielded c.in-Some.prepared c.loop-prepared.rows.entries c.make_changes.new.rows.entries (sym (c.in_ok-applied.ensures c.in-Some.prepared.unit) ∙ sym c.is_in.ensures ∙ c.if-is_in.true) c.loop-prepared.invariant c.in_ok-make_changes.ensures
 
 pub loop-prepared-preserved : goal.loop-prepared-preserved
 loop-prepared-preserved c =
-    undecided_next c.args.decided.now c.loop-prepared.yielded c.in-Some.prepared c.loop-prepared.rows.entries (sym c.has_id.ensures ∙ c.if-has_id.false) c.loop-prepared.invariant
+    undecided_next c.args.decided.now c.loop-prepared.yielded c.in-Some.prepared c.loop-prepared.rows.entries (sym (c.in_ok-applied.ensures c.in-Some.prepared.unit) ∙ sym c.is_in.ensures ∙ c.if-is_in.false) c.loop-prepared.invariant

@@ -3,7 +3,7 @@ use Rattle.salt_disk.proofs.CallAfterCall.{cause_on}
 use Rattle.salt_entries.specs.Entries.{prepared_of}
 use Rattle.salt_gatelog.proofs.Entries.{keeps_then, keeps_without_memory}
 use Rattle.salt_partition.proofs.Gathered.{gathered_fails, gathered_next}
-use Rattle.salt_partition.proofs.Seeing.{units_push}
+use Rattle.salt_partition.proofs.Seeing.{units_pushed}
 use Rattle.salt_partition.proofs.units.read_units.Goals as goal
 use Rattle.salt_partition.specs.Contents.{units_of}
 use Rattle.salt_stands.specs.PartitionLog.{gathered}
@@ -54,7 +54,7 @@ loop-i-preserved g c =
           let nulls = c.args.nulls in
           let x = prepared_of c.in-Some.unit in
           let read : Some x ≡ and_then (prepared_in nulls) (slice_get entries l.i) = ap (option_map prepared_of) (sym c.in-Some.is) ∙ c.in_ok-unit.ensures.unit entries (l.invariant.is_log entries first) told' in
-          ap (λ us. gathered nulls (Some us) (drop (l.i + 1) entries)) (ap units_of c.in_ok-push-in-Some.ensures.items ∙ units_push l.units.items c.in-Some.unit)
+          ap (λ us. gathered nulls (Some us) (drop (l.i + 1) entries)) (units_pushed l.units.items c.push.new.self.items c.in-Some.unit c.in_ok-push-in-Some.ensures.items)
           ∙ sym (gathered_next nulls (units_of l.units.items) entries l.i x (omega (arith, c.loop-i-test.true, c.count-i-end.ensures, first.count)) read)
           ∙ l.invariant.so_far entries first told;
     }
