@@ -79,3 +79,42 @@ fn a_unit_is_prepared_applied_and_opened(rt: HostRuntime) -> Result<(), Fail> {
     assert!(rt; has_row(alloc, &mut disks, &decided)?);
     Ok(())
 }
+
+/// The device that an opening names, if it opens no partition from logs of these bytes.
+fn fault_of(alloc: Global, a: &[u8], b: &[u8], boot: u64) -> Result<Option<u32>, AllocError> {
+    let mut disks = MemDisks::new(alloc, 5, 1000)?;
+    disks.set_bytes(2, a)?;
+    disks.set_bytes(3, b)?;
+    let decided = Items::new(alloc);
+    match open_partition(alloc, &mut disks, 0, boot, &decided) {
+        Ok(_part) => Ok(None),
+        Err(OpenErr::NotSalt(dev)) => Ok(Some(dev)),
+        Err(OpenErr::Disk(_)) => Err(AllocError),
+    }
+}
+
+#[test]
+fn foreign_bytes_are_named_by_their_device(rt: HostRuntime) -> Result<(), Fail> {
+    let first = &b"\x01\0\0\0\0\0\0\0\x13SALTP\x02\0\0\0\0\0\0\0\x01\0\0\0\0\0\0"[..];
+    let second = &b"\x01\0\0\0\0\0\0\0\x13SALTP\x02\0\0\0\0\0\0\0\x02\0\0\0\0\0\0"[..];
+    let other = &b"\x01\0\0\0\0\0\0\0\x13SALTP\x02\0\0\0\0\0\0\0\x01\x01\0\0\0\0\0"[..];
+    let strange = &b"\x01\0\0\0\0\0\0\0\x13SALTC\x02\0\0\0\0\0\0\0\x01\0\0\0\0\0\0"[..];
+    let paged = &b"\x01\0\0\0\0\0\0\0\x14SALTP\x02\0\0\0\0\0\0\0\x01\0\0\0\0\x01\0\0"[..];
+    let cases = [
+        (first, &b""[..], 1, None),
+        (b"\x02", first, 1, None),
+        (first, second, 1, None),
+        (LOG, b"", 1, None),
+        (b"", b"", 1, Some(3)),
+        (first, first, 1, Some(3)),
+        (first, b"\x01\0", 1, Some(3)),
+        (strange, second, 1, Some(2)),
+        (other, b"", 1, Some(2)),
+        (paged, b"", 1, Some(4)),
+        (LOG, b"", 0, Some(2)),
+    ];
+    for (a, b, boot, want) in cases {
+        assert_eq!(rt; fault_of(rt.alloc(), a, b, boot)?, want);
+    }
+    Ok(())
+}
