@@ -1,0 +1,5 @@
+mod Bytes
+mod Lists
+mod Orders
+mod Words
+pub mod Puttable

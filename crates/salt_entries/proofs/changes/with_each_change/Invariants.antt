@@ -1,0 +1,6 @@
+use Rattle.salt_bytes.specs.Changes.{spell_change}
+use Rattle.salt_entries.proofs.Lists.{Puts}
+use Rattle.salt_entries.proofs.changes.with_each_change.Given as goal
+
+abbrev pub invariant-loop-change : goal.invariant-loop-change
+invariant-loop-change l = Puts spell_change l.changes l.fn.out.items l.out.items l.change-index

@@ -1,0 +1,56 @@
+//! Why nothing is taken.
+
+ghost use Rattle.salt_entries.specs.Taking.{take_err_of, take_err_of_row};
+ghost use Rattle.salt_entries.specs.declared.error.TakeErr.TheVariants.{Memory};
+ghost use Rattle.std.specs.Prelude.{◌≡◌};
+
+use salt_codec::RowErr;
+use salt_values::TextErr;
+use std::alloc::{AllocError, AllocFailed};
+
+/// Why a thing is not taken from the front of bytes.
+#[derive(Clone, Copy, Debug, PartialEq, Eq)]
+pub enum TakeErr {
+    /// No such thing is spelled there.
+    Misspelled,
+    /// Memory ran out.
+    Memory,
+}
+
+impl From<AllocError> for TakeErr {
+    ghost from_gives = { λ _ e. e ≡ Memory };
+
+    fn from(_e: AllocError) -> TakeErr {
+        TakeErr::Memory
+    }
+}
+
+impl<T: Drop> From<AllocFailed<T>> for TakeErr {
+    ghost from_gives = { λ _ e. e ≡ Memory };
+
+    fn from(_e: AllocFailed<T>) -> TakeErr {
+        TakeErr::Memory
+    }
+}
+
+impl From<TextErr> for TakeErr {
+    ghost from_gives = { λ e f. f ≡ take_err_of e };
+
+    fn from(e: TextErr) -> TakeErr {
+        match e {
+            TextErr::NotText => TakeErr::Misspelled,
+            TextErr::Memory => TakeErr::Memory,
+        }
+    }
+}
+
+impl From<RowErr> for TakeErr {
+    ghost from_gives = { λ e f. f ≡ take_err_of_row e };
+
+    fn from(e: RowErr) -> TakeErr {
+        match e {
+            RowErr::NotRow => TakeErr::Misspelled,
+            RowErr::Memory => TakeErr::Memory,
+        }
+    }
+}

@@ -1,0 +1,15 @@
+//! The entries of a partition's log as bytes: its header and its prepared units, written and read.
+#![tactic(auto)]
+
+mod changes;
+mod error;
+mod header;
+mod order;
+mod prepared;
+mod put;
+mod take;
+mod told;
+
+pub use header::{Header, read_header, spell_header};
+pub use order::is_before;
+pub use prepared::{PreparedUnit, read_prepared, spell_prepared};

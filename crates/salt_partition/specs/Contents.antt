@@ -1,0 +1,62 @@
+-- What the code keeps of a log that it read, and of what a device holds, as the definitions of what stands see it.
+use Rattle.salt_bytes.specs.Generations.{Blank, Content, IsRead, Outside, content_of}
+use Rattle.salt_bytes.specs.Log.{entries_in}
+use Rattle.salt_bytes.specs.Partition.{Prepared, prepared_in}
+use Rattle.salt_disk.specs.Disks.{View}
+use Rattle.salt_entries.specs.Entries.{header_of, prepared_of}
+use Rattle.salt_entries.specs.declared.prepared.PreparedUnit.{PreparedUnit}
+use Rattle.salt_gatelog.specs.Log.{IsLog}
+use Rattle.salt_gatelog.specs.declared.log.GateLog.{GateLog}
+use Rattle.salt_partition.specs.declared.contents.LogContent.TheVariants as found
+use Rattle.salt_partition.specs.declared.contents.LogContent.{LogContent}
+use Rattle.salt_partition.specs.declared.contents.ReadLog.{ReadLog}
+use Rattle.salt_stands.specs.PartitionLog.{PartitionLog, partition_in}
+use Rattle.salt_stands.specs.Words.{and_then}
+use Rattle.std.specs.Prelude.{Bool, IsTrue, List, Some, length, map, slice_get, ℕ, ⊤, ◌<◌, ◌≡◌}
+
+abbrev pub units_of : List PreparedUnit → List Prepared
+units_of units = map prepared_of units
+
+abbrev pub log_of : ReadLog → PartitionLog
+log_of r = record { header = header_of r.header; prepared = units_of r.units.items }
+
+abbrev pub content_seen : LogContent → Content PartitionLog
+content_seen found.Blank = Blank
+content_seen (found.Read r) = IsRead (log_of r)
+content_seen found.Outside = Outside
+
+-- a log that was read is that of the device, and has these entries
+abbrev pub KeepsEntries : View → (dev : ℕ) → List (List ℕ) → LogContent → Type 0
+KeepsEntries d dev entries found.Blank = ⊤
+KeepsEntries d dev entries (found.Read r) = IsLog d r.log entries × (r.log.dev ≡ dev)
+KeepsEntries d dev entries found.Outside = ⊤
+
+-- what was found on a device that has these entries, of which there is one
+pub record HasContent (d : View) (part dev : ℕ) (entries : List (List ℕ)) (c : LogContent) : Type 0 where
+  pub seen : IsTrue d.told → content_seen c ≡ content_of (partition_in part) (Some entries)
+  pub log : KeepsEntries d dev entries c
+
+-- a log that was read is that of the device; where the disks tell, its entries are those that were read
+pub record IsKept (d : View) (part dev : ℕ) (r : ReadLog) : Type 0 where
+  pub entries : List (List ℕ)
+  pub is_log : IsLog d r.log entries
+  pub device : r.log.dev ≡ dev
+  pub some : 0 < length entries
+  pub reads : IsTrue d.told → partition_in part entries ≡ Some (log_of r)
+
+abbrev pub IsKeptIn : View → (part dev : ℕ) → LogContent → Type 0
+IsKeptIn d part dev found.Blank = ⊤
+IsKeptIn d part dev (found.Read r) = IsKept d part dev r
+IsKeptIn d part dev found.Outside = ⊤
+
+-- entry i of the log spells a prepared unit
+pub record SpellsUnit (d : View) (log : GateLog) (nulls : Bool) (i : ℕ) : Type 0 where
+  pub entries : List (List ℕ)
+  pub is_log : IsLog d log entries
+  pub unit : Prepared
+  pub spells : Some unit ≡ and_then (prepared_in nulls) (slice_get entries i)
+
+-- what was found on a device
+pub record IsContent (old new : View) (part dev : ℕ) (c : LogContent) : Type 0 where
+  pub seen : IsTrue old.told → content_seen c ≡ content_of (partition_in part) (entries_in (old.bytes dev))
+  pub log : IsKeptIn new part dev c

@@ -1,0 +1,4 @@
+pub mod Contents
+pub mod Choices
+pub mod Partitions
+pub mod Openings

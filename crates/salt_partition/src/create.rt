@@ -1,0 +1,65 @@
+//! A partition of a new database.
+
+ghost use Rattle.salt_bytes.specs.Log.{entries_in};
+ghost use Rattle.salt_bytes.specs.Partition.{spell_partition_header};
+ghost use Rattle.salt_disk.specs.Disks.{EachImage, HasCause, IsSettled, KeepsBut};
+ghost use Rattle.salt_gatelog.specs.Log.{IsBeforeOrWith};
+ghost use Rattle.salt_partition.specs.Openings.{FullAtLogs, IsLogDevice};
+ghost use Rattle.salt_partition.specs.Partitions.{IsPartition};
+ghost use Rattle.salt_stands.specs.FirstOpening.{first_part_header, first_view};
+ghost use Rattle.salt_stands.specs.Partition.{pages_device, part_device};
+ghost use Rattle.std.specs.Prelude.{IfOk, Some, [], length, ◌+◌, ◌<◌, ◌≡◌, ◌⊎◌};
+ghost use Rattle.std.specs.Result.{result_err};
+
+use crate::devices::log_a;
+use crate::partition::Partition;
+use salt_disk::{DiskErr, Disks};
+use salt_entries::{Header, spell_header};
+use salt_gatelog::create;
+use sqlite_items::Items;
+use std::alloc::{AllocError, Global};
+use std::collections::BTreeMap;
+
+/// The header of a new partition's log A.
+fn first_header(alloc: Global, part: u8) -> Result<Vec<u8>, AllocError>
+    ensures { IfOk result (λ made. made.items ≡ spell_partition_header (first_part_header 2 part)) }
+{
+    let header = Header {
+        format: 2,
+        generation: 1,
+        part,
+        sides: Items::new(alloc),
+    };
+    spell_header(alloc, &header)
+}
+
+/// Makes a partition without rows, whatever its logs hold, on which nothing is pending: log B is made blank, and log A gets a
+/// header alone. Whatever the call answers, each image of log B is blank or has the bytes that it had, and each image of log A is
+/// that, or has the header alone.
+pub fn create_partition<D: Disks>(
+    alloc: Global,
+    disks: &mut D,
+    part: u8,
+) -> Result<Partition, DiskErr>
+    requires known { pages_device part < (D.view disks.old).count }
+    requires settled_a { IsSettled (D.view disks.old) (part_device part) }
+    requires settled_b { IsSettled (D.view disks.old) (part_device part + 1) }
+    ensures made { IfOk result (λ x. IsPartition (D.view disks.new) x part (first_view 2 part) []) }
+    ensures image_a { EachImage (D.view disks.new) (part_device part) (λ c. (c ≡ (D.view disks.old).bytes (part_device part)) ⊎ IsBeforeOrWith [] (spell_partition_header (first_part_header 2 part)) c) }
+    ensures image_b { EachImage (D.view disks.new) (part_device part + 1) (λ c. (entries_in c ≡ Some []) ⊎ (c ≡ (D.view disks.old).bytes (part_device part + 1))) }
+    ensures others { KeepsBut (IsLogDevice part) (D.view disks.old) (D.view disks.new) (result_err result) }
+    ensures cause { HasCause (D.view disks.old) (D.view disks.new) (result_err result) }
+    ensures full { FullAtLogs (D.view disks.old).limit (part_device part) (10 + length (spell_partition_header (first_part_header 2 part))) 1 (result_err result) }
+{
+    let header = first_header(alloc, part)?;
+    create(disks, log_a(part) + 1)?;
+    let mut log = create(disks, log_a(part))?;
+    log.append(alloc, disks, &header)?;
+    Ok(Partition {
+        alloc,
+        part,
+        nulls: true,
+        log,
+        rows: BTreeMap::new(alloc),
+    })
+}

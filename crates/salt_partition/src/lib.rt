@@ -1,0 +1,21 @@
+//! One partition: its rows, and the units that are prepared in its log. The rows stand in memory, in one ordered map; no page is
+//! read or written yet.
+#![tactic(auto)]
+
+mod contents;
+mod create;
+mod devices;
+mod generations;
+mod known;
+mod open;
+mod partition;
+mod rows;
+mod sets;
+mod units;
+
+pub use create::create_partition;
+pub use open::{OpenErr, open_partition};
+pub use partition::Partition;
+
+#[cfg(test)]
+mod tests;

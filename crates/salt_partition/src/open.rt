@@ -1,0 +1,108 @@
+//! A partition is opened from the bytes of its devices.
+
+ghost use Rattle.salt_disk.specs.Disks.{HasCause, IsSettled, KeepsAll};
+ghost use Rattle.salt_partition.specs.Openings.{HasChosen, IsWhy, OpensAs, disk_err, has_pages};
+ghost use Rattle.salt_partition.specs.Contents.{log_of};
+ghost use Rattle.salt_partition.specs.declared.open.OpenErr.TheVariants.{Disk};
+ghost use Rattle.salt_disk.specs.declared.disks.DiskErr.TheVariants.{Memory};
+ghost use Rattle.salt_stands.specs.Partition.{pages_device, part_device};
+ghost use Rattle.salt_values.specs.declared.id.Id.{Id};
+ghost use Rattle.std.specs.Prelude.{IfErr, IfOk, IsTrue, List, ℕ, ◌+◌, ◌<◌, ◌≡◌};
+
+use crate::contents::{ReadLog, content_of, has_nulls};
+use crate::devices::{log_a, log_of, pages_of};
+use crate::generations::{Side, counting_log};
+use crate::known::is_known_log;
+use crate::partition::Partition;
+use crate::rows::rows_of;
+use salt_disk::{DiskErr, Disks};
+use salt_values::{Id, Ids};
+use std::alloc::{AllocError, Global};
+
+/// Why no partition is opened.
+#[derive(Clone, Copy, Debug, PartialEq, Eq)]
+pub enum OpenErr {
+    /// The bytes of this device are not a partition's.
+    NotSalt(u32),
+    /// A device call has not done what it was asked to, or memory ran out.
+    Disk(DiskErr),
+}
+
+impl From<DiskErr> for OpenErr {
+    ghost from_gives = { λ e r. r ≡ Disk e };
+
+    fn from(e: DiskErr) -> Self {
+        OpenErr::Disk(e)
+    }
+}
+
+impl From<AllocError> for OpenErr {
+    ghost from_gives = { λ _ r. r ≡ Disk Memory };
+
+    fn from(_: AllocError) -> Self {
+        OpenErr::Disk(DiskErr::Memory)
+    }
+}
+
+/// The log of the partition's pair that counts.
+fn chosen_log<D: Disks>(alloc: Global, disks: &mut D, part: u8) -> Result<(Side, ReadLog), OpenErr>
+    requires known { pages_device part < (D.view disks.old).count }
+    requires settled_a { IsSettled (D.view disks.old) (part_device part) }
+    requires settled_b { IsSettled (D.view disks.old) (part_device part + 1) }
+    ensures chosen { IfOk result (λ chosen. HasChosen (D.view disks.old) (D.view disks.new) part chosen.0 chosen.1) }
+    ensures why { IsTrue (D.view disks.old).told → IfErr result (λ e. (boot : ℕ) (decided : List Id) → IsWhy (D.view disks.old).bytes boot decided part e) }
+    ensures kept { KeepsAll (D.view disks.old) (D.view disks.new) (disk_err result) }
+    ensures cause { HasCause (D.view disks.old) (D.view disks.new) (disk_err result) }
+{
+    let a = content_of(alloc, disks, log_a(part), part)?;
+    let b = content_of(alloc, disks, log_a(part) + 1, part)?;
+    match counting_log(a, b) {
+        Ok(chosen) => Ok(chosen),
+        Err(side) => Err(OpenErr::NotSalt(log_of(part, side))),
+    }
+}
+
+fn has_pages(log: &ReadLog) -> bool
+    ensures { result ≡ has_pages (log_of log.now) }
+{
+    !log.header.sides.is_empty()
+}
+
+/// Opens a partition on whose logs nothing is pending, under a coordinator of this boot that has decided these units with the
+/// partition's bit: their changes are its rows, and units that are not decided leave nothing in them. It writes nothing.
+///
+/// `NotSalt` exactly of the device that a fault counts against: of the pair of logs, of a log that names a later boot or lacks
+/// a decided unit, or of the pages where a log names some, which are not read yet.
+pub fn open_partition<D: Disks>(
+    alloc: Global,
+    disks: &mut D,
+    part: u8,
+    boot: u64,
+    decided: &Ids,
+) -> Result<Partition, OpenErr>
+    requires known { pages_device part < (D.view disks.old).count }
+    requires settled_a { IsSettled (D.view disks.old) (part_device part) }
+    requires settled_b { IsSettled (D.view disks.old) (part_device part + 1) }
+    ensures opens { IfOk result (λ x. OpensAs (D.view disks.old) (D.view disks.new) x boot decided.now part) }
+    ensures why { IsTrue (D.view disks.old).told → IfErr result (IsWhy (D.view disks.old).bytes boot decided.now part) }
+    ensures kept { KeepsAll (D.view disks.old) (D.view disks.new) (disk_err result) }
+    ensures cause { HasCause (D.view disks.old) (D.view disks.new) (disk_err result) }
+{
+    let (side, found) = chosen_log(alloc, disks, part)?;
+    let known = is_known_log(alloc, boot, decided.as_slice(), &found)?;
+    if !known {
+        return Err(OpenErr::NotSalt(log_of(part, side)));
+    }
+    if has_pages(&found) {
+        return Err(OpenErr::NotSalt(pages_of(part)));
+    }
+    let ReadLog { log, header, units } = found;
+    let rows = rows_of(alloc, decided.as_slice(), units)?;
+    Ok(Partition {
+        alloc,
+        part,
+        nulls: has_nulls(header.format),
+        log,
+        rows,
+    })
+}

@@ -1,0 +1,149 @@
+//! The partition, and what is done in it.
+
+ghost use Rattle.salt_bytes.specs.Log.{entries_in};
+ghost use Rattle.salt_bytes.specs.Partition.{prepared_in, spell_prepared};
+ghost use Rattle.salt_disk.specs.Disks.{EachImage, FullExactly, HasCause, KeepsAll, KeepsOthers, OnlyFails, UnlessDown};
+ghost use Rattle.salt_eval.specs.Views.{next_row};
+ghost use Rattle.salt_gatelog.specs.Log.{IsBeforeOrWith};
+ghost use Rattle.salt_model.specs.Tables.{place, row_at};
+ghost use Rattle.salt_partition.specs.Partitions.{IsPartition, IsPreparedLast, MayPrepare, Stands, StandsFor, StandsWith, changes_in, log_device, log_gate, prepared};
+ghost use Rattle.salt_stands.specs.Partition.{part_tables};
+ghost use Rattle.salt_stands.specs.Pieces.{PartView, with_prepared_unit};
+ghost use Rattle.salt_values.specs.declared.id.Id.{Id};
+ghost use Rattle.std.specs.Option.{option_copied};
+ghost use Rattle.std.specs.Prelude.{IfOk, IsTrue, List, OnOk, Some, [], length, option_map, slice_get, ℕ, ◌+◌, ◌++◌, ◌∷◌, ◌≡◌};
+ghost use Rattle.std.specs.Result.{result_err};
+
+use crate::known::is_same;
+use crate::rows::make_changes;
+use crate::units::{rejected, unit_told};
+use salt_disk::{DiskErr, Disks};
+use salt_entries::spell_prepared;
+use salt_eval::{MapView, RowView, Tables};
+use salt_gatelog::GateLog;
+use salt_ranges::KeyRange;
+use salt_values::{Changes, Id, Key, Row};
+use sqlite_items::Items;
+use std::alloc::Global;
+
+/// One partition of the rows, as its log and the units that were applied make them.
+#[derive(Drop)]
+pub struct Partition {
+    pub(crate) alloc: Global,
+    pub(crate) part: u8,
+    // whether NULL is spelled in its log
+    pub(crate) nulls: bool,
+    pub(crate) log: GateLog,
+    pub(crate) rows: Tables,
+}
+
+impl Partition {
+    /// Prepares a unit: its changes become the last entry of the log, and the rows stay. Whatever the call answers, each image of
+    /// the log's device has the entries from before, with the new one or without it. `Full` comes where the entry and the next
+    /// closed gate would pass the device's limit. After an error the partition is opened again before it is used.
+    pub fn prepare<D: Disks>(
+        &mut self,
+        disks: &mut D,
+        unit: Id,
+        changes: &Changes,
+    ) -> Result<(), DiskErr>
+        requires { StandsFor (D.view disks.old) self.old unit changes.now }
+
+        ensures ok { (p : ℕ) (v : PartView) (applied : List Id) → IsPartition (D.view disks.old) self.old p v applied → MayPrepare v applied unit changes.now
+            → OnOk result (IsPartition (D.view disks.new) self.new p (with_prepared_unit v (prepared unit changes.now)) applied) }
+        ensures images { (entries : List (List ℕ)) → IsTrue (D.view disks.old).told → entries_in ((D.view disks.old).bytes (log_device self.old)) ≡ Some entries
+            → EachImage (D.view disks.new) (log_device self.old) (IsBeforeOrWith entries (spell_prepared (prepared unit changes.now))) }
+        ensures others { KeepsOthers (log_device self.old) (D.view disks.old) (D.view disks.new) (result_err result) }
+        ensures cause { HasCause (D.view disks.old) (D.view disks.new) (result_err result) }
+        ensures full { FullExactly (log_device self.old) ((D.view disks.old).limit (log_device self.old)) (log_gate self.old + 10 + length (spell_prepared (prepared unit changes.now))) (result_err result) }
+    {
+        let entry = spell_prepared(self.alloc, unit, changes.as_slice())?;
+        self.log.append(self.alloc, disks, &entry)
+    }
+
+    /// Applies the unit that was prepared last: its changes are made in the rows. No byte is written. After an error the partition
+    /// is opened again before it is used.
+    pub fn apply<D: Disks>(&mut self, disks: &mut D, unit: Id) -> Result<(), DiskErr>
+        requires { StandsWith (D.view disks.old) self.old unit }
+        ensures ok { (p : ℕ) (v : PartView) (applied : List Id) → IsPartition (D.view disks.old) self.old p v applied → IsPreparedLast v applied unit
+            → OnOk result (IsPartition (D.view disks.new) self.new p v (applied ++ unit ∷ [])) }
+        ensures kept { KeepsAll (D.view disks.old) (D.view disks.new) (result_err result) }
+        ensures cause { HasCause (D.view disks.old) (D.view disks.new) (result_err result) }
+        ensures answers { OnlyFails (result_err result) }
+    {
+        let last = self.log.count() - 1;
+        let prepared = unit_told(self.alloc, disks, &mut self.log, self.nulls, last)?;
+        if !is_same(prepared.unit, unit) {
+            return Err(rejected(disks));
+        }
+        make_changes(&mut self.rows, prepared.changes)?;
+        Ok(())
+    }
+
+    /// The row of a key, `None` exactly where there is none.
+    pub fn get<D: Disks>(
+        &mut self,
+        disks: &mut D,
+        table: u16,
+        key: &Key,
+    ) -> Result<Option<Row>, DiskErr>
+        requires { Stands (D.view disks.old) self.old }
+        ensures row { (p : ℕ) (v : PartView) (applied : List Id) → IsPartition (D.view disks.old) self.old p v applied → IsTrue (D.view disks.old).told
+            → IfOk result (λ row. row ≡ row_at (place table key.now) (part_tables applied v.log v.rows)) }
+        ensures stands { (p : ℕ) (v : PartView) (applied : List Id) → IsPartition (D.view disks.old) self.old p v applied
+            → UnlessDown (result_err result) (IsPartition (D.view disks.new) self.new p v applied) }
+        ensures kept { KeepsAll (D.view disks.old) (D.view disks.new) (result_err result) }
+        ensures cause { HasCause (D.view disks.old) (D.view disks.new) (result_err result) }
+        ensures answers { OnlyFails (result_err result) }
+    {
+        let _ = disks;
+        // a map has no faults
+        match MapView::new(self.alloc, &self.rows).get(table, key) {
+            Ok(row) => Ok(row),
+            Err(_) => Err(DiskErr::Memory),
+        }
+    }
+
+    /// The row of the least key in the range that is above `after`, where one is given; `None` exactly where there is none.
+    pub fn next_in<D: Disks>(
+        &mut self,
+        disks: &mut D,
+        table: u16,
+        range: &KeyRange,
+        after: Option<&Key>,
+    ) -> Result<Option<Row>, DiskErr>
+        requires { Stands (D.view disks.old) self.old }
+        ensures row { (p : ℕ) (v : PartView) (applied : List Id) → IsPartition (D.view disks.old) self.old p v applied → IsTrue (D.view disks.old).told
+            → IfOk result (λ row. row ≡ next_row table range.now (option_copied after.entry) (part_tables applied v.log v.rows)) }
+        ensures stands { (p : ℕ) (v : PartView) (applied : List Id) → IsPartition (D.view disks.old) self.old p v applied
+            → UnlessDown (result_err result) (IsPartition (D.view disks.new) self.new p v applied) }
+        ensures kept { KeepsAll (D.view disks.old) (D.view disks.new) (result_err result) }
+        ensures cause { HasCause (D.view disks.old) (D.view disks.new) (result_err result) }
+        ensures answers { OnlyFails (result_err result) }
+    {
+        let _ = disks;
+        // a map has no faults
+        match MapView::new(self.alloc, &self.rows).next_in(table, range, after) {
+            Ok(row) => Ok(row),
+            Err(_) => Err(DiskErr::Memory),
+        }
+    }
+
+    /// The changes of prepared entry `i` of the log, counted from 0, `None` exactly past the last one.
+    pub fn logged<D: Disks>(&mut self, disks: &mut D, i: u64) -> Result<Option<Changes>, DiskErr>
+        requires { Stands (D.view disks.old) self.old }
+        ensures changes { (p : ℕ) (v : PartView) (applied : List Id) → IsPartition (D.view disks.old) self.old p v applied → IsTrue (D.view disks.old).told
+            → IfOk result (λ found. found ≡ option_map changes_in (slice_get v.log.prepared i)) }
+        ensures stands { (p : ℕ) (v : PartView) (applied : List Id) → IsPartition (D.view disks.old) self.old p v applied
+            → UnlessDown (result_err result) (IsPartition (D.view disks.new) self.new p v applied) }
+        ensures kept { KeepsAll (D.view disks.old) (D.view disks.new) (result_err result) }
+        ensures cause { HasCause (D.view disks.old) (D.view disks.new) (result_err result) }
+        ensures answers { OnlyFails (result_err result) }
+    {
+        if self.log.count() - 1 <= i {
+            return Ok(None);
+        }
+        let prepared = unit_told(self.alloc, disks, &mut self.log, self.nulls, i + 1)?;
+        Ok(Some(Items::from_vec(prepared.changes)))
+    }
+}
