@@ -5,6 +5,7 @@ ghost use Rattle.salt_ast.specs.declared.lines.Line.{Line};
 ghost use Rattle.salt_keeps.specs.Nexts.{next_turn_of};
 ghost use Rattle.salt_keeps.specs.Points.{Ask, Moves, Point, Say, Turn};
 ghost use Rattle.salt_keeps.specs.States.{State};
+ghost use Rattle.salt_model.specs.Kept.{schema_of};
 ghost use Rattle.salt_model.specs.Trace.{Rejected, Tree};
 ghost use Rattle.salt_model.specs.declared.events.Event.{Event};
 ghost use Rattle.salt_steps.specs.Standing.{IsAt, IsIdleAt, IsSoundPoint, waiters_behind};
@@ -13,6 +14,7 @@ ghost use Rattle.std.specs.Prelude.{[], IfOk, List, None, OnErr, OnOk, Option, S
 
 use salt_ast::Line;
 use salt_model::{Event, Refusal, Story};
+use salt_schema::Schema;
 use salt_values::Id;
 use std::alloc::AllocError;
 
@@ -68,6 +70,10 @@ pub trait Steps {
         ensures tells { OnOk result (story.new ≡ story.old ++ event ∷ []) }
         ensures breaks { OnErr result ((story.new ≡ story.old) ⊎ ((story.new ≡ story.old ++ event ∷ []) ×
             ((p : Point) → IsSoundPoint p → IsAt sees line.now self.old (Some event) p → (q : Point) × Moves (Say event) p q))) };
+
+    /// The tables that are defined.
+    fn schema(&self) -> &Schema
+        ensures { (p : Point) → IsSoundPoint p → sees self.now None p.state → result.now ≡ schema_of p.state.units.kept };
 
     ghost waits: { (line : Line) (e : Self) (next : Option Event) (p : Point) → IsSoundPoint p → IsAt sees line e next p →
         waiting e ≡ waiters_behind next p.state };
