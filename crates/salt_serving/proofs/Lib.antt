@@ -1,0 +1,9 @@
+pub mod Places
+pub mod Extends
+pub mod Stories
+pub mod FewParts
+pub mod Tables
+pub mod AddedTexts
+pub mod Ends
+pub mod Openings
+pub mod Loads

@@ -1,0 +1,5 @@
+pub mod Status
+pub mod Telling
+pub mod Run
+pub mod Serving
+pub mod Loading

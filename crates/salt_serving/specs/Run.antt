@@ -1,0 +1,103 @@
+-- What a run has to be: its story, its lines, and how far it came.
+use Rattle.salt_values.specs.declared.limits.TheConstants.{SCRIPT_MOST}
+use Rattle.salt_io.specs.Lines.{lines_of, script_of}
+use Rattle.salt_io.specs.Streams.{Gains, GainsShort, GainsSome, bytes_before}
+use Rattle.salt_model.specs.After.{kept}
+use Rattle.salt_model.specs.Ends.{AnyPlace, AtLineEnd, Leave, MayLeave, NotBegun}
+use Rattle.salt_model.specs.EventTexts.{story_text}
+use Rattle.salt_model.specs.Kept.{schema_of}
+use Rattle.salt_model.specs.Lines.{AskInOrder}
+use Rattle.salt_model.specs.Played.{Tells, empty_start}
+use Rattle.salt_model.specs.Trace as trace_words
+use Rattle.salt_model.specs.Trace.{Trace, story_before, story_of}
+use Rattle.salt_model.specs.declared.events.Event.{Event}
+use Rattle.salt_serving.specs.declared.status.Status.{Status}
+use Rattle.salt_serving.specs.declared.status.Status.TheVariants.{Done, Memory, ReadFault, ScriptTooLong, Usage, WriteFault}
+use Rattle.salt_steps.specs.Serving.{NeverDown}
+use Rattle.std.specs.Prelude.{List, None, Option, Some, [], length, take, ℕ, ⊤, ◌++◌, ◌<◌, ◌≡◌, ◌≤◌}
+
+-- these come first
+abbrev pub IsFrontOf : {A : Type 0} → List A → List A → Type 0
+IsFrontOf {A} xs all = (more : List A) × (all ≡ xs ++ more)
+
+-- The source gave these bytes of the script, and no more than a script may have; an LF ends each of the lines, and what stands behind
+-- them is given up.
+pub record AreLinesRead (script : List ℕ) (left : Option (List ℕ)) (texts : List (List ℕ)) : Type 0 where
+  pub got : List ℕ
+  pub given : Some script ≡ bytes_before got left
+  pub within : length got ≤ SCRIPT_MOST
+  pub lines : texts ≡ (script_of got).ended
+
+-- They are the first lines of the script, and those of its first bytes, of which there are no more than a script may have.
+pub record AreFirstLines (script : List ℕ) (texts : List (List ℕ)) : Type 0 where
+  pub got : List ℕ
+  pub front : IsFrontOf got script
+  pub within : length got ≤ SCRIPT_MOST
+  pub lines : texts ≡ lines_of got
+  pub first : IsFrontOf texts (lines_of script)
+
+-- the lines that a run does of a script of these bytes, of which these are left at the run's end
+abbrev pub AreLinesDone : Status → List ℕ → Option (List ℕ) → List (List ℕ) → Type 0
+AreLinesDone Done script left texts = (texts ≡ lines_of script) × (length script ≤ SCRIPT_MOST)
+AreLinesDone ScriptTooLong script left texts = (texts ≡ (script_of (take SCRIPT_MOST script)).ended) × (SCRIPT_MOST < length script)
+AreLinesDone ReadFault script left texts = AreLinesRead script left texts
+AreLinesDone Memory script left texts = AreFirstLines script texts
+AreLinesDone WriteFault script left texts = AreFirstLines script texts
+AreLinesDone Usage script left texts = texts ≡ []
+
+-- where the source tells its bytes
+abbrev pub AreLinesOf : Status → Option (List ℕ) → Option (List ℕ) → List (List ℕ) → Type 0
+AreLinesOf status None left texts = ⊤
+AreLinesOf status (Some script) left texts = AreLinesDone status script left texts
+
+-- a run ends between lines; where memory ran out anywhere, and with wrong words before it begins
+abbrev pub leave_of : Status → Leave
+leave_of Memory = AnyPlace
+leave_of Usage = NotBegun
+leave_of Done = AtLineEnd
+leave_of ReadFault = AtLineEnd
+leave_of WriteFault = AtLineEnd
+leave_of ScriptTooLong = AtLineEnd
+
+-- The story is that of a trace which is played, and whose lines are what the lines that were done of the script ask.
+pub record IsPlayedRun (status : Status) (script left : Option (List ℕ)) (story : List Event) : Type 0 where
+  pub trace : Trace
+  pub texts : List (List ℕ)
+  pub tells : Tells empty_start trace story
+  pub up : NeverDown trace
+  pub reads : AskInOrder texts (trace_words.lines_of trace)
+  pub lines : AreLinesOf status script left texts
+  pub leaves : MayLeave (leave_of status) trace
+
+-- some first part of a text was gained, and with it all of this one
+pub record GainsFrom (before : Option (List ℕ)) (first text : List ℕ) (now : Option (List ℕ)) : Type 0 where
+  pub some : GainsSome before text now
+  pub from : IsFrontOf first some.part
+
+-- some first part of a text was gained, but not all of it, and with it all of this one
+pub record GainsShortFrom (before : Option (List ℕ)) (first text : List ℕ) (now : Option (List ℕ)) : Type 0 where
+  pub short : GainsShort before text now
+  pub from : IsFrontOf first short.part
+
+-- What the sink gained of a story's text: all of it. Where memory ran out or the sink failed, what it gained begins with the text of the
+-- story before the last segment; and where the sink failed, a byte is missing.
+abbrev pub IsWritten : Status → Option (List ℕ) → List ℕ → List ℕ → Option (List ℕ) → Type 0
+IsWritten Memory before first text now = GainsFrom before first text now
+IsWritten WriteFault before first text now = GainsShortFrom before first text now
+IsWritten Done before first text now = Gains before text now
+IsWritten ReadFault before first text now = Gains before text now
+IsWritten ScriptTooLong before first text now = Gains before text now
+IsWritten Usage before first text now = Gains before text now
+
+-- the text of events under the tables that are defined at the trace's end
+abbrev pub text_under : Trace → List Event → List ℕ
+text_under trace events = story_text (schema_of (kept trace)) events
+
+-- the text of a trace's story, under the tables that are defined at its end
+abbrev pub IsTold : Status → Option (List ℕ) → Trace → Option (List ℕ) → Type 0
+IsTold status before trace now = IsWritten status before (text_under trace (story_before trace)) (text_under trace (story_of trace)) now
+
+-- the run of a script that has ended
+pub record IsEnded (status : Status) (script left before : Option (List ℕ)) (story : List Event) (held : Option (List ℕ)) : Type 0 where
+  pub played : IsPlayedRun status script left story
+  pub told : IsTold status before played.trace held
