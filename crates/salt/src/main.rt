@@ -1,4 +1,4 @@
-//! Salt's program: `salt run` reads a script from standard input and prints its story.
+//! Salt's program: `salt run` reads a script from standard input and prints its story; `salt load N` does a workload and prints its summary.
 #![tactic(auto)]
 
 ghost use Rattle.std.specs.Prelude.{◌≡◌};

@@ -1,8 +1,24 @@
-pub mod Lookups
-pub mod Refused
-pub mod Entries
-pub mod Outcomes
-pub mod CutShort
-pub mod Idle
-pub mod Segments
-pub mod Steps
+mod Following
+mod InTurn
+mod Soundness
+mod Found
+mod Facts
+mod Moving
+mod Beginning
+mod Counts
+mod Allowing
+mod Done
+mod Serving
+mod SoundFacts
+mod BeginDone
+mod ActDone
+mod EndsDone
+mod BasesDone
+mod SettleDone
+mod UnderWay
+mod FirstLine
+mod ShownDone
+mod Refusing
+mod Judged
+mod LinesDone
+mod StepsDone

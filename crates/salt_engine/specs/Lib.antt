@@ -1,5 +1,8 @@
-pub mod Served
-pub mod Schema
-pub mod Execute
-pub mod Engine
-pub mod FallRows
+pub mod Follows
+pub mod Serving
+pub mod Sound
+pub mod Asking
+pub mod Calling
+pub mod Standing
+pub mod Refused
+pub mod StillToCome

@@ -1,5 +1,2 @@
-pub mod Places
-pub mod Stories
-pub mod Ends
-pub mod Openings
-pub mod RunWord
+pub mod CallCounts
+pub mod EndedRuns

@@ -1,4 +1,3 @@
 pub mod Words
-pub mod Run
-pub mod Serving
-pub mod Status
+pub mod Promises
+pub mod Summing

@@ -2,13 +2,14 @@
 #![tactic(auto)]
 
 mod command;
+mod ended;
 mod promises;
-mod serving;
-mod status;
+mod runs;
 mod words;
 
 pub use command::run;
-pub use status::{Ended, Status};
+pub use ended::Ended;
+pub use salt_serving::Status;
 
 #[cfg(test)]
 mod tests;

@@ -4,7 +4,7 @@ ghost use Rattle.std.specs.Prelude.{List};
 ghost use Rattle.salt_model.specs.Trace.{Trace};
 ghost use Rattle.salt_model.specs.Played.{Tells, empty_start};
 ghost use Rattle.salt_model.specs.declared.events.Event.{Event};
-ghost use Rattle.salt_run.specs.Run.{Promises};
+ghost use Rattle.salt_run.specs.Promises.{Promises};
 
 use salt_laws::{
     held_locks_stand_together, played_is_continued, played_is_declared, played_is_honest,

@@ -12,6 +12,11 @@ const OPENING: &[u8] = b"opened 1 0\nready\n";
 
 const SYNTAX: &[u8] = b"refused 3 syntax\n";
 
+const WHOLE_TABLE: &[u8] = b"@1 select * from t";
+
+const ALL_ROWS: &[u8] =
+    b"u1.2 began @1\nu1.2 did select * from t -> rows (5, -3)\nu1.2 committed 3\n";
+
 const LONG: &[u8] = b"refused 1 long\n";
 
 const ROOM: usize = 16_384;
@@ -59,7 +64,7 @@ fn ended_text(alloc: Global, count: usize) -> Result<Vec<u8>, AllocError> {
 }
 
 // What a script tells of so many bytes of the first row. A line is whole without its LF too; of less than that it is no
-// line of the grammar.
+// line of the grammar, but for a select of the whole table.
 fn front_text(alloc: Global, count: usize) -> Result<Vec<u8>, AllocError> {
     let mut text = Vec::from_slice(alloc, OPENING)?;
     let mut left = count;
@@ -68,7 +73,9 @@ fn front_text(alloc: Global, count: usize) -> Result<Vec<u8>, AllocError> {
             return Ok(text);
         }
         if left.saturating_add(1) < line.len() {
-            text.extend_from_slice(SYNTAX)?;
+            let front = line.get(..left).unwrap_or_default();
+            let is_whole_table = front.trim_ascii_end() == WHOLE_TABLE;
+            text.extend_from_slice(if is_whole_table { ALL_ROWS } else { SYNTAX })?;
             return Ok(text);
         }
         text.extend_from_slice(told)?;
@@ -208,6 +215,15 @@ fn a_write_that_fails(rt: HostRuntime) -> Result<(), Fail> {
     Ok(())
 }
 
+const LOAD_1: &[u8] =
+    b"load 1 lines 106 units 103 committed 103 accepted 1 released 1 waits 0 victims 0 total 100000\n";
+
+const LOAD_8: &[u8] =
+    b"load 8 lines 114 units 117 committed 117 accepted 8 released 8 waits 0 victims 0 total 100000\n";
+
+const LOAD_50: &[u8] =
+    b"load 50 lines 164 units 202 committed 202 accepted 50 released 50 waits 1 victims 0 total 100000\n";
+
 const TABLE: &[u8] = b"create table t (id int key)\n";
 
 const DEFINED: &[u8] = b"defined 1 create table t (id int key)\n";
@@ -289,14 +305,23 @@ fn wrong_words(rt: HostRuntime) -> Result<(), Fail> {
     let alloc = rt.alloc();
     let mut source = MemSource::new(alloc, &first_row(alloc)?)?;
     let mut sink = MemSink::new(alloc, ROOM)?;
-    let cases: [&[&str]; 7] = [
+    let cases: [&[&str]; 16] = [
         &[],
         &["run", "run"],
-        &["run", "--parts", "2"],
+        &["run", "--parts", "9"],
+        &["run", "--parts", "2", "--parts", "2"],
+        &["run", "--"],
         &["Run"],
         &[""],
         &["run "],
-        &["load", "1"],
+        &["load"],
+        &["load", ""],
+        &["load", "0"],
+        &["load", "20001"],
+        &["load", "18446744073709551617"],
+        &["load", "+1"],
+        &["load", "1 "],
+        &["load", "1", "1"],
     ];
     for words in cases {
         assert_eq!(rt;
@@ -310,6 +335,42 @@ fn wrong_words(rt: HostRuntime) -> Result<(), Fail> {
         Status::Done
     );
     assert_eq!(rt; sink.bytes(), ended_text(alloc, 132)?.as_slice());
+    Ok(())
+}
+
+// The workload reads nothing: what the source gives is told afterwards.
+#[test]
+fn the_workload_and_its_summary(rt: HostRuntime) -> Result<(), Fail> {
+    let alloc = rt.alloc();
+    let cases: [(&str, &[u8]); 3] = [("1", LOAD_1), ("008", LOAD_8), ("50", LOAD_50)];
+    for (calls, told) in cases {
+        let mut source = MemSource::new(alloc, &first_row(alloc)?)?;
+        let mut sink = MemSink::new(alloc, ROOM)?;
+        assert_eq!(rt;
+            status_of(alloc, &["load", calls], &mut source, &mut sink)?,
+            Status::Done
+        );
+        assert_eq!(rt; sink.bytes(), told);
+        let mut sink = MemSink::new(alloc, ROOM)?;
+        assert_eq!(rt;
+            status_of(alloc, &["run"], &mut source, &mut sink)?,
+            Status::Done
+        );
+        assert_eq!(rt; sink.bytes(), ended_text(alloc, 132)?.as_slice());
+    }
+    Ok(())
+}
+
+#[test]
+fn a_summary_that_is_not_written(rt: HostRuntime) -> Result<(), Fail> {
+    let alloc = rt.alloc();
+    let mut source = MemSource::new(alloc, b"")?;
+    let mut sink = MemSink::new(alloc, 8)?;
+    assert_eq!(rt;
+        status_of(alloc, &["load", "1"], &mut source, &mut sink)?,
+        Status::WriteFault
+    );
+    assert!(rt; sink.bytes().is_empty());
     Ok(())
 }
 

@@ -1,0 +1,29 @@
+-- What an open unit asks for.
+use Rattle.salt_ast.specs.declared.lines.Line.{Line}
+use Rattle.salt_ast.specs.declared.lines.Act.TheVariants.{Begin}
+use Rattle.salt_ast.specs.declared.lines.Line.TheVariants.{Session}
+use Rattle.salt_engine.specs.declared.asking.Asking.{Asking}
+use Rattle.salt_keeps.specs.OpenUnits.{OpenUnit, UnitState, asks_next, unit_named}
+use Rattle.salt_keeps.specs.UnitFacts.{reach_under}
+use Rattle.salt_model.specs.Locks.{family_of}
+use Rattle.salt_model.specs.Units.{program_of_kind}
+use Rattle.salt_values.specs.declared.id.Id.{Id}
+use Rattle.std.specs.Prelude.{Bool, None, Option, Some, false, option_and_then, true, ◌≡◌}
+
+-- the line lets a unit begin without a turn
+abbrev pub opens_alone : Line → Bool
+opens_alone (Session t Begin) = true
+opens_alone line = false
+
+-- what this open unit asks for, its statement and what that would reach
+pub record IsAskedBy (a : Asking) (s : UnitState) (o : OpenUnit) : Type 0 where
+  pub named : unit_named a.unit s.units ≡ Some o
+  pub asks : asks_next s o ≡ Some a.statement
+  pub base : a.base ≡ program_of_kind o.kind
+  pub family : a.family ≡ family_of (Some o.kind)
+  pub reach : a.reach ≡ reach_under s.kept o a.statement
+
+-- what the unit of this name asks for, if it is open and asks
+abbrev pub IsAsked : UnitState → Id → Option Asking → Type 0
+IsAsked s u None = option_and_then (asks_next s) (unit_named u s.units) ≡ None
+IsAsked s u (Some a) = (a.unit ≡ u) × ((o : OpenUnit) × IsAskedBy a s o)

@@ -1,0 +1,12 @@
+//! What a run leaves.
+
+use salt_model::{Flight, Story};
+use salt_serving::Status;
+
+/// How a run ended, the story that it told, and the decision that was in flight (none, until there are devices).
+#[derive(Drop)]
+pub struct Ended {
+    pub status: Status,
+    pub story: Story,
+    pub flight: Option<Flight>,
+}
