@@ -6,11 +6,11 @@ ROUNDS = 3
 CRATES = Path(__file__).resolve().parent.parent / "crates"
 
 
-def made(name):
-    """The program of a crate, proved and built."""
+def made(name, *words):
+    """The program of a crate, proved and built; the words are those of a run that ends well."""
     crate = CRATES / name
     with (crate / "stdin").open("rb") as example:
-        subprocess.run(["rt", "run"], cwd=crate, stdin=example, stdout=subprocess.DEVNULL, stderr=subprocess.DEVNULL, check=True)
+        subprocess.run(["rt", "run", "--", *words] if words else ["rt", "run"], cwd=crate, stdin=example, stdout=subprocess.DEVNULL, stderr=subprocess.DEVNULL, check=True)
     return crate / "out" / name
 
 
