@@ -1,0 +1,21 @@
+opened 1 0
+ready
+defined 1 create table account (id int key, balance int)
+u1.1 began @1
+u1.1 did insert into account values (1, 100) -> count 1
+u1.1 committed 2
+u1.2 began @1
+u1.2 did insert into account values (2, 100) -> count 1
+u1.2 committed 3
+u1.3 began @1
+u1.4 began @2
+u1.3 did update account set balance = (balance - 10) where key = 1 -> count 1
+u1.4 did update account set balance = (balance - 20) where key = 2 -> count 1
+u1.3 waits u1.4
+u1.4 waits u1.3
+u1.4 victim
+u1.3 did update account set balance = (balance + 10) where key = 2 -> count 1
+u1.3 committed 4
+u1.5 began @2
+u1.5 did select sum(balance) from account -> value 200
+u1.5 committed 5
