@@ -12,10 +12,15 @@ const OPENING: &[u8] = b"opened 1 0\nready\n";
 
 const SYNTAX: &[u8] = b"refused 3 syntax\n";
 
-const WHOLE_TABLE: &[u8] = b"@1 select * from t";
-
-const ALL_ROWS: &[u8] =
-    b"u1.2 began @1\nu1.2 did select * from t -> rows (5, -3)\nu1.2 committed 3\n";
+// Fronts of the first row's lines that are lines of the grammar, and what each tells.
+const FRONTS: [(&[u8], &[u8]); 3] = [
+    (
+        b"@1 select * from t",
+        b"u1.2 began @1\nu1.2 did select * from t -> rows (5, -3)\nu1.2 committed 3\n",
+    ),
+    (b"@1 select * from t where k", b"refused 5 unknown k\n"),
+    (b"@1 select * from t where ke", b"refused 5 unknown ke\n"),
+];
 
 const LONG: &[u8] = b"refused 1 long\n";
 
@@ -63,8 +68,16 @@ fn ended_text(alloc: Global, count: usize) -> Result<Vec<u8>, AllocError> {
     Ok(text)
 }
 
-// What a script tells of so many bytes of the first row. A line is whole without its LF too; of less than that it is no
-// line of the grammar, but for a select of the whole table.
+fn told_of_front(front: &[u8]) -> &'static [u8] {
+    for (line, told) in FRONTS {
+        if front.trim_ascii_end() == line {
+            return told;
+        }
+    }
+    SYNTAX
+}
+
+// What a script tells of so many bytes of the first row. A line is whole without its LF too.
 fn front_text(alloc: Global, count: usize) -> Result<Vec<u8>, AllocError> {
     let mut text = Vec::from_slice(alloc, OPENING)?;
     let mut left = count;
@@ -73,9 +86,7 @@ fn front_text(alloc: Global, count: usize) -> Result<Vec<u8>, AllocError> {
             return Ok(text);
         }
         if left.saturating_add(1) < line.len() {
-            let front = line.get(..left).unwrap_or_default();
-            let is_whole_table = front.trim_ascii_end() == WHOLE_TABLE;
-            text.extend_from_slice(if is_whole_table { ALL_ROWS } else { SYNTAX })?;
+            text.extend_from_slice(told_of_front(line.get(..left).unwrap_or_default()))?;
             return Ok(text);
         }
         text.extend_from_slice(told)?;
