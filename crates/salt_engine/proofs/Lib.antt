@@ -5,7 +5,6 @@ mod Found
 mod Facts
 mod Moving
 mod Beginning
-mod Counts
 mod Allowing
 mod Done
 mod Serving
@@ -22,3 +21,4 @@ mod Refusing
 mod Judged
 mod LinesDone
 mod StepsDone
+mod Counting

@@ -6,14 +6,9 @@ use Rattle.salt_keeps.specs.States.{State}
 use Rattle.salt_model.specs.Refusals.{defines}
 use Rattle.salt_model.specs.declared.events.Refusal.{Refusal}
 use Rattle.salt_model.specs.declared.events.Refusal.TheVariants as refused
-use Rattle.salt_values.specs.declared.limits.TheConstants.{BASES_MOST}
 use Rattle.std.specs.Bool.{then_some}
 use Rattle.std.specs.Option.{option_or}
-use Rattle.std.specs.Prelude.{Option, nat_le, ℕ, ◌&&◌, ◌≡◌}
-
--- by both as many programs as there may be are under way, or by neither
-abbrev pub IsManyAlike : ℕ → ℕ → Type 0
-IsManyAlike m n = nat_le BASES_MOST m ≡ nat_le BASES_MOST n
+use Rattle.std.specs.Prelude.{Option, ◌&&◌}
 
 -- what is refused of a line without a fault
 abbrev pub refusal_by_state : State → Line → Option Refusal

@@ -1,8 +1,10 @@
 //! Names in order.
 
-ghost use Rattle.std.specs.Prelude.{◌≡◌, ◌++◌, IfOk, OnOk};
-ghost use Rattle.salt_model.specs.Words.{in_order, insert_id};
+ghost use Rattle.std.specs.Prelude.{◌≡◌, ◌++◌, IfOk, OnOk, length};
+ghost use Rattle.salt_keeps.specs.KeptWaits.{AreDistinct};
+ghost use Rattle.salt_model.specs.Words.{in_order, insert_id, without};
 
+use crate::called::has;
 use salt_values::Id;
 use std::alloc::{AllocError, Global};
 
@@ -49,4 +51,21 @@ pub fn both_in_order(alloc: Global, first: &[Id], second: &[Id]) -> Result<Vec<I
         insert_id(&mut ordered, first[left])?;
     }
     Ok(ordered)
+}
+
+/// Drops the names that are among these.
+fn drop_names(names: &mut Vec<Id>, dropped: &[Id])
+    ensures { names.new.items ≡ without dropped.now names.old.items }
+{
+    names.retain(|name| !has(dropped, *name));
+}
+
+/// How many names two lists have together, where the first has none twice.
+pub fn count_both(alloc: Global, first: &[Id], second: &[Id]) -> Result<usize, AllocError>
+    ensures { IfOk result (λ count. AreDistinct first.now → count ≡ length (in_order (first.now ++ second.now))) }
+{
+    let others = in_order(alloc, second)?;
+    let mut apart = Vec::from_slice(alloc, first)?;
+    drop_names(&mut apart, second);
+    Ok(apart.len() + others.len())
 }

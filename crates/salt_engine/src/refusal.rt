@@ -3,8 +3,9 @@
 ghost use Rattle.std.specs.Prelude.{◌≡◌, IfOk};
 ghost use Rattle.salt_ast.specs.ProgramJudgement.{line_fault};
 ghost use Rattle.salt_books.specs.Books.{seen};
-ghost use Rattle.salt_engine.specs.Refused.{IsManyAlike, refusal_by_state};
+ghost use Rattle.salt_engine.specs.Refused.{refusal_by_state};
 ghost use Rattle.salt_judge.specs.Refusals.{HasFewParts, told};
+ghost use Rattle.salt_keeps.specs.KeptWaits.{AreDistinct};
 ghost use Rattle.salt_keeps.specs.Nexts.{refusal_of};
 ghost use Rattle.salt_keeps.specs.Readings.{under_way_of};
 ghost use Rattle.salt_keeps.specs.Refused.{busy_in, known_in, wrong_for, wrong_in};
@@ -13,11 +14,11 @@ ghost use Rattle.salt_model.specs.Refusals.{defines, has_block};
 ghost use Rattle.salt_model.specs.Trace.{Tree};
 
 use crate::engine::Engine;
+use crate::names::count_both;
 use salt_ast::{Act, Line};
 use salt_books::Held;
 use salt_judge::line_refusal;
 use salt_model::{Refusal, UnitKind};
-use salt_values::limits::BASES_MOST;
 use std::alloc::AllocError;
 
 /// Whether a unit of this kind has the statements of a program or part.
@@ -99,23 +100,18 @@ impl Engine {
         self.books.count() > 0 || !self.watch.programs().is_empty()
     }
 
-    /// How many programs are under way; a number that may be greater, where both are below the most that there may be.
+    /// How many programs are under way. That no program is unreleased twice comes of the order of the unreleased ones.
     fn count_under_way(&self) -> Result<usize, AllocError>
-        ensures { IfOk result (λ count. (s : State) → Stands self.now s → IsManyAlike count (under_way_of s).count) }
+        ensures { IfOk result (λ count. (s : State) → Stands self.now s → AreDistinct s.watch.programs → count ≡ (under_way_of s).count) }
     {
         let beginning = self.books.first_parts()?;
-        let most = self.watch.programs().len().saturating_add(beginning.len());
-        if most < BASES_MOST {
-            Ok(most)
-        } else {
-            Ok(self.under_way()?.len())
-        }
+        count_both(self.alloc, self.watch.programs(), beginning.as_slice())
     }
 
     /// What is refused of a line by what is defined and how many programs are under way.
     fn fault(&self, line: &Line) -> Result<Option<Refusal>, AllocError>
         requires { HasFewParts line.now }
-        ensures { IfOk result (λ refusal. (s : State) → Stands self.now s →
+        ensures { IfOk result (λ refusal. (s : State) → Stands self.now s → AreDistinct s.watch.programs →
             refusal ≡ told (line_fault (known_in s.units (under_way_of s)) line.now)) }
     {
         let store = self.books.store();
@@ -146,7 +142,7 @@ impl Engine {
     /// What is refused of a line that passes no limit of its text.
     pub(crate) fn refusal(&self, line: &Line) -> Result<Option<Refusal>, AllocError>
         requires { HasFewParts line.now }
-        ensures { IfOk result (λ refusal. (s : State) → Stands self.now s → refusal ≡ refusal_of s (Tree line.now)) }
+        ensures { IfOk result (λ refusal. (s : State) → Stands self.now s → AreDistinct s.watch.programs → refusal ≡ refusal_of s (Tree line.now)) }
     {
         match self.fault(line)? {
             Some(refusal) => Ok(Some(refusal)),

@@ -1,9 +1,12 @@
-use Rattle.salt_engine.proofs.Refusing.{count-alike}
 use Rattle.salt_engine.proofs.engine.Engine.count_under_way.Goals as goal
-use Rattle.std.proofs.Common.{arith}
+use Rattle.salt_keeps.specs.KeptWaits.{AreDistinct}
+use Rattle.salt_model.specs.Words.{in_order}
+use Rattle.std.proofs.Common.{subst, sym, ◌++◌, ◌∙◌}
+use Rattle.std.proofs.lemmas.Result.{IfOk-weaker}
+use Rattle.std.specs.Prelude.{length}
 
-pub returns-then-most-lt-BASES_MOST : goal.returns-then-most-lt-BASES_MOST
-returns-then-most-lt-BASES_MOST c = λ s stands.
-    count-alike s c.programs.result.now c.in_ok-beginning.beginning.items c.len.result c.saturating_add-most.result _
-    (c.programs.ensures s.watch stands.watch) (c.in_ok-beginning.ensures s.units stands.books) (omega (arith, c.in_ok-beginning.beginning.ok.0))
-    c.saturating_add-most.ensures (omega arith) c.if-most-lt-BASES_MOST.true
+pub returns : goal.returns
+returns c = IfOk-weaker c.count_both.result _ _ (λ count counts s stands distinct.
+    let programs = c.programs.ensures s.watch stands.watch in
+    counts (subst AreDistinct (sym programs) distinct)
+    ∙ (λ i. length (in_order (programs i ++ (c.as_slice.ensures.value ∙ c.in_ok-beginning.ensures s.units stands.books) i)))) c.count_both.ensures
