@@ -1,3 +1,6 @@
-mod Lists
-mod Standing
+mod Applying
 mod Entered
+mod Lists
+mod Shared
+mod Sharing
+mod Standing

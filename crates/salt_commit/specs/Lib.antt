@@ -1,2 +1,4 @@
 pub mod Errors
 pub mod Stores
+pub mod Shares
+pub mod Prepares

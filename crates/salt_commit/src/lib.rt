@@ -3,7 +3,10 @@
 #![tactic(auto)]
 
 mod error;
+mod prepare;
+mod shares;
 mod store;
+mod told;
 
 pub use error::StoreErr;
 pub use salt_decisions::{Kept, OpenErr, peek};
