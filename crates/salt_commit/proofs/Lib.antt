@@ -1,6 +1,9 @@
 mod Applying
+mod Committed
+mod Decided
 mod Entered
 mod Lists
 mod Shared
 mod Sharing
 mod Standing
+mod Undecided

@@ -5,10 +5,11 @@ use Rattle.salt_stands.specs.Placed.{changes_at}
 use Rattle.salt_stands.specs.Words.{has_bit}
 use Rattle.salt_values.specs.declared.change.Change.{Change}
 use Rattle.salt_values.specs.declared.placement.Shape.{Shape}
-use Rattle.std.proofs.Common.{List, [], ap, arith, length, refl, sym, ℕ, ◌*◌, ◌+◌, ◌++◌, ◌<◌, ◌≡◌, ◌∙◌, ◌∷◌}
+use Rattle.std.proofs.Common.{List, [], ap, arith, length, refl, subst, sym, ℕ, ◌*◌, ◌+◌, ◌++◌, ◌<◌, ◌≡◌, ◌∙◌, ◌∷◌, ◌≤◌}
 use Rattle.std.proofs.Math.Nat.{div-div-eq-div-mul, div-one, zero-div}
 use native.Mathlib.Numerals.{unary_clauses}
-use Rattle.std.specs.Prelude.{Bool, false, suc, true, zero, ◌/◌, ◌%◌, ◌==◌, ◌^◌}
+use Rattle.std.proofs.lemmas.Bool.Decides.{nat_tests}
+use Rattle.std.specs.Prelude.{nat_lt, Bool, false, suc, true, zero, ◌/◌, ◌%◌, ◌==◌, ◌^◌}
 
 -- the list of one more
 pub listed_push : {A : Type 0} (f : ℕ → A) (p n : ℕ) → listed f p (suc n) ≡ listed f p n ++ f (p + n) ∷ []
@@ -27,6 +28,15 @@ listed_at f p (suc n) (suc k) low = let e : suc p + k ≡ p + suc k = omega arit
 -- the share of a partition is its changes
 pub share_is : (shape : Shape) (cs : List Change) (p : ℕ) → p < shape.parts → share_at (shares_of shape cs) p ≡ changes_at shape p cs
 share_is shape cs p low = let e : 0 + p ≡ p = omega arith in listed_at (λ k. changes_at shape k cs) 0 shape.parts p low ∙ ap (λ k. changes_at shape k cs) e
+
+-- past the last there is none
+pub share_past : (shape : Shape) (cs : List Change) (p : ℕ) → shape.parts ≤ p → share_at (shares_of shape cs) p ≡ []
+share_past shape cs p high = none (λ k. changes_at shape k cs) 0 shape.parts p high
+  where
+    none : (f : ℕ → List Change) (p n k : ℕ) → n ≤ k → share_at (listed f p n) k ≡ []
+    none f p zero k h = refl
+    none f p (suc n) zero h = absurd (omega (arith, h))
+    none f p (suc n) (suc k) h = none f (suc p) n k (omega (arith, h))
 
 -- the shares before one more partition, and its own
 pub shares_next : (shape : Shape) (cs : List Change) (p : ℕ) (before after : List (List Change)) → before ≡ listed (λ k. changes_at shape k cs) 0 p → after ≡ before ++ changes_at shape p cs ∷ []
@@ -63,3 +73,18 @@ mask_bit (s ∷ ss) (suc p) =
   where
     up : mask_of (s ∷ ss) / 2 ^ suc p ≡ mask_of (s ∷ ss) / (2 * 2 ^ p)
     up = let e : 2 ^ suc p ≡ 2 * 2 ^ p = double p in ap (λ k. mask_of (s ∷ ss) / k) e
+
+-- and it has no bit at or above their count
+pub below_bits : (ss : List (List Change)) → mask_of ss < 2 ^ length ss
+below_bits [] = omega arith
+below_bits (s ∷ ss) = let e = double (length ss) in by (has_changes s) (below_bits ss) e
+  where
+    by : (b : Bool) → mask_of ss < 2 ^ length ss → 2 ^ suc (length ss) ≡ 2 * 2 ^ length ss → bit_of b + 2 * mask_of ss < 2 ^ suc (length ss)
+    by true h e = omega (arith, h, e)
+    by false h e = omega (arith, h, e)
+
+pub mask_small : (shape : Shape) (cs : List Change) → nat_lt (mask_of (shares_of shape cs)) (2 ^ shape.parts) ≡ true
+mask_small shape cs = by (mask_of (shares_of shape cs)) (2 ^ shape.parts) (subst (λ n. mask_of (shares_of shape cs) < 2 ^ n) (length-listed (λ p. changes_at shape p cs) 0 shape.parts) (below_bits (shares_of shape cs)))
+  where
+    by : (a b : ℕ) → a < b → nat_lt a b ≡ true
+    by a b h = grind (arith, nat_tests)

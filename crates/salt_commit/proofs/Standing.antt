@@ -4,10 +4,11 @@ use Rattle.salt_bytes.specs.Formats.{has_nulls}
 use Rattle.salt_bytes.specs.Generations.{LogA, LogB, WhichLog}
 use Rattle.salt_bytes.specs.Log.{entries_in}
 use Rattle.salt_commit.proofs.Lists.{some_at}
-use Rattle.salt_commit.specs.Stores.{ArePartitions, IsStore, StandForEither, decided_by}
+use Rattle.salt_commit.specs.Stores.{ArePartitions, IsSound, IsStore, StandForEither, decided_by}
 use Rattle.salt_commit.specs.declared.store.Store.{Store}
 use Rattle.salt_decisions.proofs.Contents.{log_bytes}
 use Rattle.salt_decisions.specs.Decisions.{HasMore, IsBeforeOrWith, IsDecisions, device_in}
+use Rattle.salt_disk.proofs.CallAfterCall.{same_shape}
 use Rattle.salt_disk.specs.Disks.{EachImage, IsImage, IsSettled, IsUnchanged, KeepsOthers, SameShape, View}
 use Rattle.salt_disk.specs.declared.disks.DiskErr.{DiskErr}
 use Rattle.salt_partition.proofs.Framed.{logs_settled, part_stands, partition_kept}
@@ -21,6 +22,7 @@ use Rattle.salt_stands.specs.Pieces.{Grows, HasOneMore, IsSameAt, PartView, othe
 use Rattle.salt_stands.specs.Reading.{Reading}
 use Rattle.salt_stands.specs.Stands.{judged, logs_of}
 use Rattle.salt_values.specs.declared.id.Id.{Id}
+use Rattle.salt_values.specs.declared.placement.Shape.{Shape}
 use Rattle.std.proofs.Common.{IsTrue, List, None, Ok, Option, Some, [], ap, arith, inl, inr, refl, subst, sym, ℕ, ◌*◌, ◌+◌, ◌++◌, ◌<◌, ◌≡◌, ◌≢◌, ◌⊎◌, ◌∙◌, ◌∷◌, slice_get, length}
 use Rattle.std.proofs.lemmas.Bool.Decides.{Decides-eqb}
 use Rattle.std.specs.Prelude.{Bool, IfSome, false, if◌then◌else◌, true, ◌==◌}
@@ -58,6 +60,22 @@ apart_from_other LogB e = omega (arith, e)
 other_below : (which : WhichLog) (n : ℕ) → 1 < n → device_of 0 (other_log which) < n
 other_below LogA n h = h
 other_below LogB n h = omega (arith, h)
+
+-- logs, of which one has these entries
+pub pushed : Logs → ℕ → List (List ℕ) → Logs
+pushed logs dev es k = if k == dev then Some es else logs k
+
+pub pushed_here : (logs : Logs) (dev : ℕ) (es : List (List ℕ)) → pushed logs dev es dev ≡ Some es
+unfolding pushed
+pushed_here logs dev es = ap (λ b. if b then Some es else logs dev) ((Decides-eqb dev dev).1 refl)
+
+pub pushed_there : (logs : Logs) (dev : ℕ) (es : List (List ℕ)) (k : ℕ) → k ≢ dev → pushed logs dev es k ≡ logs k
+unfolding pushed
+pushed_there logs dev es k apart = ap (λ b. if b then Some es else logs k) (no (k == dev) refl)
+  where
+    no : (b : Bool) → (k == dev) ≡ b → b ≡ false
+    no true e = absurd (apart ((Decides-eqb k dev).0 e))
+    no false e = refl
 
 -- all logs but the coordinator's that counts are as they were
 pub record KeepsOtherLogs (which : WhichLog) (n : ℕ) (old new : ℕ → List ℕ) : Type 0 where
@@ -142,58 +160,71 @@ module _ {D : Type 0} (r : Reading D) (d : View) (x : Store) (which : WhichLog) 
         by (inl same) = inl (stood_stands r (logs_of image) image asked which c v (without told image kept same))
         by (inr more) = inr (stood_stands r (logs_of image) image asked which c' v (with_entry told image kept payload c' (pages image) makes more))
 
-  -- AFTER OK: the log's entries with one more, whatever the bytes are
+  -- THE LOG'S ENTRIES with one more, whatever the bytes are
   logs_with : List ℕ → Logs
-  logs_with payload dev = if dev == device_of 0 which then Some (is.decisions.counting.entries ++ payload ∷ []) else logs_of d.bytes dev
+  logs_with payload = pushed (logs_of d.bytes) (device_of 0 which) (is.decisions.counting.entries ++ payload ∷ [])
 
-  pub after_entry : (e : View) (y : Store) (payload : List ℕ) (c' : Coordinator D) → parts_of c' ≡ parts_of c → ((p : ℕ) → decided_by c' p ≡ decided_by c p)
-      → (IsTrue d.told → (logs : Logs) → HasOneMore (logs_of d.bytes) logs (device_of 0 which) payload → IsSameAt (device_of 0 (other_log which)) (logs_of d.bytes) logs → ((p : ℕ) → p < parts_of c → PartSame (logs_of d.bytes) logs p) → Stood r logs d.bytes which c' v)
-      → KeepsOthers (device_in x.decisions) d e None → y.parts ≡ x.parts → IsDecisions e y.decisions which c'.log → IsStore r e y which c' v
+  stood_with : (payload : List ℕ) (c' : Coordinator D) → IsTrue d.told
+      → ((logs : Logs) → HasOneMore (logs_of d.bytes) logs (device_of 0 which) payload → IsSameAt (device_of 0 (other_log which)) (logs_of d.bytes) logs → ((p : ℕ) → p < parts_of c → PartSame (logs_of d.bytes) logs p) → Stood r logs d.bytes which c' v)
+      → Stood r (logs_with payload) d.bytes which c' v
   unfolding logs_with
-  after_entry e y payload c' same_parts same_units makes keeps parts decisions = record {
-    decisions = decisions;
-    size = ap (λ ps. length ps.items) parts ∙ is.size ∙ sym same_parts;
-    parts = subst (λ ps. ArePartitions e ps.items v (decided_by c')) (sym parts) kept;
-    sound = λ told. let s = now (sym keeps.shape.told ∙ told) in record { coordinator = s.coordinator.is; part = λ p low. (s.part p low).sound };
-  }
+  stood_with payload c' told makes = makes (logs_with payload) one other parts_there
+    where
+      there : (dev : ℕ) → dev ≢ device_of 0 which → logs_with payload dev ≡ logs_of d.bytes dev
+      there dev apart = pushed_there (logs_of d.bytes) (device_of 0 which) (is.decisions.counting.entries ++ payload ∷ []) dev apart
+
+      one : HasOneMore (logs_of d.bytes) (logs_with payload) (device_of 0 which) payload
+      one = record {
+        entries = is.decisions.counting.entries;
+        before = ap (λ dev. entries_in (d.bytes dev)) (sym is.decisions.counting.device) ∙ log_bytes d x.decisions.gate is.decisions.counting.entries told is.decisions.counting.is_log;
+        after = pushed_here (logs_of d.bytes) (device_of 0 which) (is.decisions.counting.entries ++ payload ∷ []);
+      }
+
+      other : IsSameAt (device_of 0 (other_log which)) (logs_of d.bytes) (logs_with payload)
+      other = there (device_of 0 (other_log which)) (apart_from_other which)
+
+      parts_there : (p : ℕ) → p < parts_of c → PartSame (logs_of d.bytes) (logs_with payload) p
+      parts_there p low = record { a = there (part_device p) (λ same. apart_from_part which p 0 (omega (arith, same))); b = there (part_device p + 1) (λ same. apart_from_part which p 1 (omega (arith, same))) }
+
+  pub sound_with : (payload : List ℕ) (c' : Coordinator D) → parts_of c' ≡ parts_of c → IsTrue d.told
+      → ((logs : Logs) → HasOneMore (logs_of d.bytes) logs (device_of 0 which) payload → IsSameAt (device_of 0 (other_log which)) (logs_of d.bytes) logs → ((p : ℕ) → p < parts_of c → PartSame (logs_of d.bytes) logs p) → Stood r logs d.bytes which c' v)
+      → IsSound r c' v
+  sound_with payload c' same_parts told makes = let s = stood_with payload c' told makes in record { coordinator = s.coordinator.is; part = λ p low. (s.part p low).sound }
+
+  -- partitions are as they were after a call that writes the coordinator's log alone
+  pub partitions_stay : (e : View) → KeepsOthers (device_in x.decisions) d e None → ArePartitions e x.parts.items v (decided_by c)
+  partitions_stay e keeps = partitions_kept d e x.parts.items v (decided_by c) keeps.shape (λ q. subst (IsUnchanged d e) (omega arith) (unchanged q 0)) (λ q. unchanged q 1) is.parts
     where
       unchanged : (p k : ℕ) → IsUnchanged d e (2 + 3 * p + k)
       unchanged p k = keeps.kept (2 + 3 * p + k) (λ same. apart_from_part which p k (same ∙ is.decisions.counting.device))
 
+  -- AFTER OK
+  pub after_entry : (e : View) (y : Store) (payload : List ℕ) (c' : Coordinator D) → parts_of c' ≡ parts_of c → ((p : ℕ) → decided_by c' p ≡ decided_by c p)
+      → (IsTrue d.told → (logs : Logs) → HasOneMore (logs_of d.bytes) logs (device_of 0 which) payload → IsSameAt (device_of 0 (other_log which)) (logs_of d.bytes) logs → ((p : ℕ) → p < parts_of c → PartSame (logs_of d.bytes) logs p) → Stood r logs d.bytes which c' v)
+      → KeepsOthers (device_in x.decisions) d e None → y.parts ≡ x.parts → IsDecisions e y.decisions which c'.log → IsStore r e y which c' v
+  after_entry e y payload c' same_parts same_units makes keeps parts decisions = record {
+    decisions = decisions;
+    size = ap (λ ps. length ps.items) parts ∙ is.size ∙ sym same_parts;
+    parts = subst (λ ps. ArePartitions e ps.items v (decided_by c')) (sym parts) kept;
+    sound = λ told. let before = sym keeps.shape.told ∙ told in sound_with payload c' same_parts before (makes before);
+  }
+    where
       kept : ArePartitions e x.parts.items v (decided_by c')
-      kept = record {
-        each = λ p. subst (λ us. IfSome (slice_get x.parts.items p) (λ q. IsPartition e q p (v p) us)) (sym (same_units p))
-            ((partitions_kept d e x.parts.items v (decided_by c) keeps.shape (λ q. subst (IsUnchanged d e) (omega arith) (unchanged q 0)) (λ q. unchanged q 1) is.parts).each p);
-      }
+      kept = record { each = λ p. subst (λ us. IfSome (slice_get x.parts.items p) (λ q. IsPartition e q p (v p) us)) (sym (same_units p)) ((partitions_stay e keeps).each p) }
 
-      now : IsTrue d.told → Stood r (logs_with payload) d.bytes which c' v
-      now told = makes told (logs_with payload) one other parts_there
-        where
-          here : logs_with payload (device_of 0 which) ≡ Some (is.decisions.counting.entries ++ payload ∷ [])
-          here = at (device_of 0 which) refl
-            where
-              at : (dev : ℕ) → dev ≡ device_of 0 which → logs_with payload dev ≡ Some (is.decisions.counting.entries ++ payload ∷ [])
-              at dev e = ap (λ b. if b then Some (is.decisions.counting.entries ++ payload ∷ []) else logs_of d.bytes dev) ((Decides-eqb dev (device_of 0 which)).1 e)
+  -- NOTHING IS WRITTEN
+  pub unchanged_images : IsTrue d.told → (asked : Shape) (image : ℕ → List ℕ) → IsImage d image → judged r image asked ≡ Ok (found_of c v)
+  unchanged_images told asked image left = stood_stands r (logs_of image) image asked which c v (without told image kept (ap entries_in own))
+    where
+      kept : KeepsOtherLogs which (parts_of c) d.bytes image
+      kept = others_there d None (record { shape = same_shape d; kept = λ dev other. record { bytes = refl; images = λ c' left'. left' }; images = λ dev other c' left'. left' }) told image left
 
-          there : (dev : ℕ) → dev ≢ device_of 0 which → logs_with payload dev ≡ logs_of d.bytes dev
-          there dev apart = ap (λ b. if b then Some (is.decisions.counting.entries ++ payload ∷ []) else logs_of d.bytes dev) (no (dev == device_of 0 which) refl)
-            where
-              no : (b : Bool) → (dev == device_of 0 which) ≡ b → b ≡ false
-              no true e = absurd (apart ((Decides-eqb dev (device_of 0 which)).0 e))
-              no false e = refl
+      counted : (w : WhichLog) → 1 < d.count → device_of 0 w < d.count
+      counted LogA low = omega (arith, low)
+      counted LogB low = low
 
-          one : HasOneMore (logs_of d.bytes) (logs_with payload) (device_of 0 which) payload
-          one = record {
-            entries = is.decisions.counting.entries;
-            before = ap (λ dev. entries_in (d.bytes dev)) (sym is.decisions.counting.device) ∙ log_bytes d x.decisions.gate is.decisions.counting.entries told is.decisions.counting.is_log;
-            after = here;
-          }
-
-          other : IsSameAt (device_of 0 (other_log which)) (logs_of d.bytes) (logs_with payload)
-          other = there (device_of 0 (other_log which)) (apart_from_other which)
-
-          parts_there : (p : ℕ) → p < parts_of c → PartSame (logs_of d.bytes) (logs_with payload) p
-          parts_there p low = record { a = there (part_device p) (λ same. apart_from_part which p 0 (omega (arith, same))); b = there (part_device p + 1) (λ same. apart_from_part which p 1 (omega (arith, same))) }
+      own : image (device_of 0 which) ≡ d.bytes (device_of 0 which)
+      own = subst (λ dev. (c' : List ℕ) → d.image dev c' → c' ≡ d.bytes dev) is.decisions.counting.device is.decisions.counting.is_log.settled (image (device_of 0 which)) (left (device_of 0 which) (counted which is.decisions.counting.known))
 
   -- WHAT A BOOT AND A DEFINITION MAKE
   pub makes_boot : IsTrue d.told → (payload : List ℕ) → entry_in (parts_of c) payload ≡ Some (Boots (c.log.told.boot + 1))

@@ -2,3 +2,4 @@ pub mod Errors
 pub mod Stores
 pub mod Shares
 pub mod Prepares
+pub mod Commits

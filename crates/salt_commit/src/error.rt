@@ -1,9 +1,11 @@
 //! Why a call on a store has not done what it was asked to.
 
 ghost use Rattle.salt_commit.specs.Errors.{store_err_of};
+ghost use Rattle.salt_commit.specs.declared.error.StoreErr.TheVariants.{Memory};
 ghost use Rattle.std.specs.Prelude.{◌≡◌};
 
 use salt_disk::DiskErr;
+use std::alloc::AllocError;
 use thiserror::Error;
 
 /// Why a call on a store has not done what it was asked to. After any of these the store is opened again before it is used.
@@ -33,5 +35,13 @@ impl From<DiskErr> for StoreErr {
             DiskErr::Full(dev) => StoreErr::Full(dev),
             DiskErr::Memory => StoreErr::Memory,
         }
+    }
+}
+
+impl From<AllocError> for StoreErr {
+    ghost from_gives = { λ _ e. e ≡ Memory };
+
+    fn from(_: AllocError) -> StoreErr {
+        StoreErr::Memory
     }
 }

@@ -2,6 +2,7 @@
 //! then decided, and then applied; a stop at any moment leaves what stood before it, or what stands with it.
 #![tactic(auto)]
 
+mod commit;
 mod error;
 mod prepare;
 mod shares;
