@@ -3,6 +3,7 @@ mod Committed
 mod Decided
 mod Entered
 mod Lists
+mod Reading
 mod Shared
 mod Sharing
 mod Standing

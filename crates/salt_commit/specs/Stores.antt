@@ -8,6 +8,7 @@ use Rattle.salt_decisions.specs.Decisions.{IsDecisions}
 use Rattle.salt_definitions.specs.Fitting.{definitions_reading}
 use Rattle.salt_disk.specs.Disks.{IsImage, View}
 use Rattle.salt_model.specs.Kept.{Definition}
+use Rattle.salt_model.specs.Tables.{place, row_at}
 use Rattle.salt_partition.specs.Partitions.{IsPartition}
 use Rattle.salt_partition.specs.declared.partition.Partition.{Partition}
 use Rattle.salt_stands.specs.Commits.{parts_of}
@@ -18,7 +19,8 @@ use Rattle.salt_stands.specs.Reading.{Reading}
 use Rattle.salt_stands.specs.Stands.{Found, judged}
 use Rattle.salt_values.specs.declared.id.Id.{Id}
 use Rattle.salt_values.specs.declared.placement.Shape.{Shape}
-use Rattle.std.specs.Prelude.{IfSome, IsTrue, List, Ok, Some, false, length, slice_get, true, ℕ, ◌+◌, ◌<◌, ◌≡◌, ◌⊎◌}
+use Rattle.salt_values.specs.declared.value.Value.{Value}
+use Rattle.std.specs.Prelude.{Option, IfSome, IsTrue, List, Ok, Some, false, length, slice_get, true, ℕ, ◌+◌, ◌<◌, ◌≡◌, ◌⊎◌}
 
 -- definitions are read from their canonical texts
 abbrev pub reading : Reading Definition
@@ -87,3 +89,7 @@ pub record StandsToDefine (d : View) (x : Store) (text : List ℕ) : Type 0 wher
 -- what the coordinator keeps of it
 abbrev pub next_text : {D : Type 0} → Coordinator D → List ℕ → NumberedText
 next_text c text = record { number = c.log.told.decisions + 1; text = text }
+
+-- the row of a key, in what is found
+abbrev pub row_in : {D : Type 0} → Found D → (table : ℕ) → Value → Option (List Value)
+row_in found table key = row_at (place table key) found.kept.tables

@@ -5,6 +5,7 @@
 mod commit;
 mod error;
 mod prepare;
+mod reads;
 mod shares;
 mod store;
 mod told;

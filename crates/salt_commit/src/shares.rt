@@ -20,7 +20,8 @@ pub fn part_of<F: Fn(PlaceKind, &Key, u32) -> u32>(
     requires callable { TakesEachKey (F.pre place.now.place) }
     requires answers { GivesPlaceOf (F.post place.now.place) }
     requires parts { IsParts shape.parts }
-    ensures { result ≡ part_of_key shape key.now }
+    ensures part { result ≡ part_of_key shape key.now }
+    ensures below { result < shape.parts }
 {
     key.told();
     match key {
