@@ -1,0 +1,160 @@
+-- A commit, by what its calls say one after another.
+use Rattle.salt_bytes.specs.Coordinator.{Decides, is_number_of_parts, spell_entry}
+use Rattle.salt_bytes.specs.Generations.{WhichLog}
+use Rattle.salt_bytes.specs.Partition.{spell_prepared}
+use Rattle.salt_bytes.specs.declared.moves.Move.{Move}
+use Rattle.salt_commit.proofs.Decided.{decision_images, shares_last, store_after, store_prepared}
+use Rattle.salt_commit.proofs.Shared.{length-listed, mask_small}
+use Rattle.salt_commit.proofs.Standing.{partitions_stay}
+use Rattle.salt_commit.proofs.Undecided.{IsInHand, before_decision, decisions_kept, may_prepare}
+use Rattle.salt_commit.specs.Commits.{IsCommitLog, MayCommitUnit, shares_in}
+use Rattle.salt_commit.specs.Errors.{disk_err_of, store_err, store_err_of}
+use Rattle.salt_commit.specs.Prepares.{AreSharesLast, IsLogOfShares, MayPrepareEach, StandForShares, StandWithShares, applied_with_shares, with_shares}
+use Rattle.salt_commit.specs.Shares.{mask_of, next_decision, share_at, shares_of}
+use Rattle.salt_commit.specs.Stores.{ArePartitions, IsStore, StandForEither, decided_by, last_decision}
+use Rattle.salt_commit.specs.declared.error.StoreErr.{StoreErr}
+use Rattle.salt_commit.specs.declared.store.Store.{Store}
+use Rattle.salt_decisions.proofs.Appended.{spelled_so}
+use Rattle.salt_decisions.specs.Decisions as decisions
+use Rattle.salt_decisions.specs.Decisions.{IsBeforeOrWith, IsDecisions, decided, device_in}
+use Rattle.salt_disk.proofs.CallAfterCall.{keeps_on, keeps_wider}
+use Rattle.salt_disk.specs.Disks.{EachImage, IsImage, KeepsAll, KeepsBut, KeepsOthers, View}
+use Rattle.salt_disk.specs.declared.disks.DiskErr.TheVariants.{Failed, Full, Memory, Stopped}
+use Rattle.salt_disk.specs.declared.disks.DiskErr.{DiskErr}
+use Rattle.salt_partition.specs.Partitions.{prepared}
+use Rattle.salt_stands.specs.Commits.{found_after, found_of, parts_of, view_after}
+use Rattle.salt_stands.specs.Coordinator.{Coordinator, device_of}
+use Rattle.salt_stands.specs.Partition.{part_device}
+use Rattle.salt_stands.specs.Pieces.{PartView, with_decision}
+use Rattle.salt_stands.specs.Placed.{changes_at}
+use Rattle.salt_stands.specs.Reading.{Reading}
+use Rattle.salt_stands.specs.Stands.{judged}
+use Rattle.salt_values.specs.Placement.{IsParts}
+use Rattle.salt_values.specs.declared.change.Change.{Change}
+use Rattle.salt_values.specs.declared.cont.Cont.{Cont}
+use Rattle.salt_values.specs.declared.id.Id.{Id}
+use Rattle.salt_values.specs.declared.placement.Shape.{Shape}
+use Rattle.std.proofs.Common.{Err, IsTrue, List, None, Ok, Option, Result, Some, ap, arith, inl, inr, length, refl, subst, sym, true, ℕ, ◌+◌, ◌<◌, ◌^◌, ◌≡◌, ◌≤◌, ◌∙◌}
+use Rattle.std.proofs.lemmas.Bool.Decides.{nat_tests}
+use Rattle.std.specs.Prelude.{nat_lt}
+
+parts_known : (n : ℕ) → is_number_of_parts n ≡ true → IsParts n
+parts_known n h = (low, high)
+  where
+    low : 1 ≤ n
+    low = grind (arith, nat_tests)
+
+    high : n ≤ 8
+    high = grind (arith, nat_tests)
+
+same_err : (e : DiskErr) → disk_err_of (store_err_of e) ≡ e
+same_err Failed = refl
+same_err Stopped = refl
+same_err (Full dev) = refl
+same_err Memory = refl
+
+-- the disks' answer goes on as the store's
+pub answer_is : {T : Type 0} (result : Result T StoreErr) (s : StoreErr) (e : DiskErr) → result ≡ Err s → s ≡ store_err_of e → store_err result ≡ Some e
+answer_is result s e is from = ap store_err is ∙ ap (λ k. Some (disk_err_of k)) from ∙ ap Some (same_err e)
+
+module _ {D : Type 0} (r : Reading D) (d : View) (x : Store) (which : WhichLog) (c : Coordinator D) (v : ℕ → PartView) (is : IsStore r d x which c v)
+    (u : Id) (cs : List Change) (mv : List ℕ) (m : Move) (conts : List Cont) (may : MayCommitUnit r c v u cs mv m conts)
+    (ss : List (List Change)) (shared : ss ≡ shares_in x cs) where
+  parts : IsParts (parts_of c)
+  parts = parts_known (parts_of c) (ap (λ (s : Shape). is_number_of_parts s.parts) (sym is.decisions.holds.shape) ∙ is.decisions.holds.parts)
+
+  same : ss ≡ shares_of c.log.header.shape cs
+  same = shared ∙ ap (λ s. shares_of s cs) is.decisions.holds.shape
+
+  pub few_shares : length ss ≤ 8
+  few_shares = omega (arith, ap (λ (l : List (List Change)). length l) same, length-listed (λ p. changes_at c.log.header.shape p cs) 0 c.log.header.shape.parts, parts.1)
+
+  pub share_each : length ss ≡ length x.parts.items
+  share_each = ap (λ (l : List (List Change)). length l) same ∙ length-listed (λ p. changes_at c.log.header.shape p cs) 0 c.log.header.shape.parts ∙ sym is.size
+
+  pub mask_within : nat_lt (mask_of ss) (2 ^ (decisions.shape_of x.decisions).parts) ≡ true
+  mask_within = ap (λ l. nat_lt (mask_of l) (2 ^ (decisions.shape_of x.decisions).parts)) shared ∙ mask_small (decisions.shape_of x.decisions) cs
+
+  each_may : MayPrepareEach v (decided_by c) u ss
+  each_may = subst (MayPrepareEach v (decided_by c) u) (sym same) (may_prepare r d x which c v is u cs mv m conts may parts)
+
+  pub may_begin : StandForShares d x.parts.items u ss
+  may_begin = record { v = v; applied = decided_by c; are = is.parts; may = each_may }
+
+  module _ (hand : IsInHand u cs mv) (below : last_decision x + 1 < 2 ^ 64) where
+    room : c.log.told.decisions + 1 < 2 ^ 64
+    room = omega (arith, below, is.decisions.holds.decisions)
+
+    -- each image while the shares are prepared
+    pub undecided_image : IsTrue d.told → (b : View) (answer : Option DiskErr) → KeepsBut (IsLogOfShares x.parts.items ss (length x.parts.items)) d b answer
+        → ((w : ℕ → PartView) (applied : ℕ → List Id) → ArePartitions d x.parts.items w applied → (p : ℕ) → p < length x.parts.items
+        → EachImage b (device_of (part_device p) (w p).which) (IsBeforeOrWith (d.bytes (device_of (part_device p) (w p).which)) (spell_prepared (prepared u (share_at ss p)))))
+        → (asked : Shape) (image : ℕ → List ℕ) → IsImage b image → judged r image asked ≡ Ok (found_of c v)
+    undecided_image told b answer others images asked image left =
+        before_decision r d x which c v is u cs mv m conts may parts hand room told b answer
+        (subst (λ l. KeepsBut (IsLogOfShares x.parts.items l (length x.parts.items)) d b answer) same others)
+        (subst (λ l. (p : ℕ) → p < length x.parts.items → EachImage b (device_of (part_device p) (v p).which) (IsBeforeOrWith (d.bytes (device_of (part_device p) (v p).which)) (spell_prepared (prepared u (share_at l p))))) same
+        (images v (decided_by c) is.parts))
+        image left asked
+
+    -- AFTER THE SHARES ARE PREPARED
+    module _ (b : View) (y : Store) (kept : y.decisions ≡ x.decisions) (size : length y.parts.items ≡ length x.parts.items)
+        (others : KeepsBut (IsLogOfShares x.parts.items ss (length x.parts.items)) d b None)
+        (ok : (w : ℕ → PartView) (applied : ℕ → List Id) → ArePartitions d x.parts.items w applied → MayPrepareEach w applied u ss → ArePartitions b y.parts.items (with_shares u ss w) applied) where
+      pub between : IsStore r b y which c (with_shares u (shares_of c.log.header.shape cs) v)
+      between = store_prepared r d x which c v is u cs mv m conts may parts hand room b y kept size
+          (subst (λ l. KeepsBut (IsLogOfShares x.parts.items l (length x.parts.items)) d b None) same others)
+          (subst (λ l. ArePartitions b y.parts.items (with_shares u l v) (decided_by c)) same (ok v (decided_by c) is.parts each_may))
+
+      next_is : decisions.next_decision x.decisions u (mask_of ss) mv ≡ next_decision c u cs mv
+      next_is = ap (λ n. record { number = n + 1; unit = u; mask = mask_of ss; move = mv }) is.decisions.holds.decisions ∙ ap (λ l. record { number = c.log.told.decisions + 1; unit = u; mask = mask_of l; move = mv }) same
+
+      -- each image once the decision is begun
+      pub decided_image : IsTrue d.told → (e : View) (answer : Option DiskErr) → KeepsOthers (device_in y.decisions) b e answer
+          → EachImage e (device_of 0 which) (IsBeforeOrWith (b.bytes (device_of 0 which)) (spell_entry (Decides (decisions.next_decision x.decisions u (mask_of ss) mv))))
+          → StandForEither r e (found_of c v) (found_after c v cs (next_decision c u cs mv) conts)
+      decided_image told e answer keeps images =
+          decision_images r d x which c v is u cs mv m conts may parts hand room b y between e answer keeps told (others.shape.told ∙ told)
+          (spelled_so e (device_of 0 which) (b.bytes (device_of 0 which)) (spell_entry (Decides (decisions.next_decision x.decisions u (mask_of ss) mv))) (spell_entry (Decides (next_decision c u cs mv))) (ap (λ k. spell_entry (Decides k)) next_is) images)
+
+      -- AFTER THE DECISION
+      module _ (e : View) (keeps : KeepsOthers (device_in y.decisions) b e None) where
+        pub may_apply_all : StandWithShares e y.parts.items u ss
+        may_apply_all = record {
+          v = with_shares u (shares_of c.log.header.shape cs) v;
+          applied = decided_by c;
+          are = partitions_stay r b y which c (with_shares u (shares_of c.log.header.shape cs) v) between e keeps;
+          last = subst (λ l. AreSharesLast (with_shares u (shares_of c.log.header.shape cs) v) (decided_by c) u l) (sym same)
+              (shares_last r d x which c v is u cs mv m conts may parts hand room (may_prepare r d x which c v is u cs mv m conts may parts));
+        }
+
+        pub committed : (f : View) (z : Store) (w : Store) → KeepsAll e f None → z.decisions ≡ w.decisions → IsDecisions e w.decisions which (decided c.log (decisions.next_decision x.decisions u (mask_of ss) mv))
+            → length z.parts.items ≡ length y.parts.items
+            → ((w : ℕ → PartView) (applied : ℕ → List Id) → ArePartitions e y.parts.items w applied → AreSharesLast w applied u ss → ArePartitions f z.parts.items w (applied_with_shares u ss applied))
+            → IsStore r f z which (with_decision c (next_decision c u cs mv) conts) (view_after c v cs (next_decision c u cs mv))
+        unfolding may_apply_all
+        committed f z w all own log sized applied =
+            let h = may_apply_all in
+            store_after r d x which c v is u cs mv m conts may parts hand room b y between f z (λ told. sym keeps.shape.told ∙ (sym all.shape.told ∙ told))
+            (decisions_kept e f z.decisions which (decided c.log (next_decision c u cs mv)) all.shape (all.kept 0 (λ none. none)) (all.kept 1 (λ none. none))
+            (subst (λ k. IsDecisions e k which (decided c.log (next_decision c u cs mv))) (sym own) (subst (λ k. IsDecisions e w.decisions which (decided c.log k)) next_is log)))
+            sized
+            (subst (λ l. ArePartitions f z.parts.items (with_shares u (shares_of c.log.header.shape cs) v) (applied_with_shares u l (decided_by c))) same
+            (applied (with_shares u (shares_of c.log.header.shape cs) v) (decided_by c) h.are h.last))
+
+-- WHAT A COMMIT TOUCHES
+module _ (x : Store) (cs : List Change) (ss : List (List Change)) (shared : ss ≡ shares_in x cs) (d b : View) where
+  pub wider_shares : (answer : Option DiskErr) → KeepsBut (IsLogOfShares x.parts.items ss (length x.parts.items)) d b answer → KeepsBut (IsCommitLog x cs) d b answer
+  wider_shares answer keeps = keeps_wider (IsLogOfShares x.parts.items ss (length x.parts.items)) (IsCommitLog x cs) d b answer
+      (λ dev t. inr (subst (λ l. IsLogOfShares x.parts.items l (length x.parts.items) dev) shared t)) keeps
+
+  pub wider_decision : (e : View) (answer : Option DiskErr) → KeepsBut (IsLogOfShares x.parts.items ss (length x.parts.items)) d b None → KeepsOthers (device_in x.decisions) b e answer → KeepsBut (IsCommitLog x cs) d e answer
+  wider_decision e answer first keeps = keeps_on (IsCommitLog x cs) d b e answer (wider_shares None first)
+      (keeps_wider (λ dev. dev ≡ device_in x.decisions) (IsCommitLog x cs) b e answer (λ dev is. inl is) keeps)
+
+  pub wider_apply : (e f : View) (answer : Option DiskErr) → KeepsBut (IsLogOfShares x.parts.items ss (length x.parts.items)) d b None → KeepsOthers (device_in x.decisions) b e None → KeepsAll e f answer → KeepsBut (IsCommitLog x cs) d f answer
+  wider_apply e f answer first second keeps = keeps_on (IsCommitLog x cs) d e f answer (wider_decision e None first second) (keeps_wider (λ _. ⊥) (IsCommitLog x cs) e f answer (λ dev none. absurd none) keeps)
+
+-- images that were there before a call that writes nothing
+pub still_stand : {D : Type 0} (r : Reading D) (e f : View) (answer : Option DiskErr) (before after : Rattle.salt_stands.specs.Stands.Found D) → KeepsAll e f answer → StandForEither r e before after → StandForEither r f before after
+still_stand r e f answer before after keeps stand asked image left = stand asked image (λ dev low. keeps.images dev (λ none. none) (image dev) (left dev (omega (arith, low, keeps.shape.count))))

@@ -1,0 +1,12 @@
+mod Applying
+mod Committed
+mod Decided
+mod Entered
+mod Firsts
+mod Lists
+mod Reading
+mod Shared
+mod Sharing
+mod Standing
+mod Undecided
+mod Witness

@@ -1,0 +1,171 @@
+-- The conditions can be met: a new store of one partition stands on disks that tell their bytes, and a unit without changes may be
+-- committed to it.
+use Rattle.salt_bytes.proofs.Logs.{reads_partition_header}
+use Rattle.salt_bytes.specs.Generations.{Counts, IsRead, LogA, content_of, pair_of, read_or_outside}
+use Rattle.salt_bytes.specs.Log.{entries_in, framed, spelled}
+use Rattle.salt_bytes.specs.Partition.{spell_partition_header}
+use Rattle.salt_bytes.specs.declared.moves.Move.TheVariants.{Plain}
+use Rattle.salt_commit.proofs.Firsts.{first_store}
+use Rattle.salt_commit.specs.Commits.{MayCommitUnit}
+use Rattle.salt_commit.specs.Stores.{ArePartitions, Stands, reading}
+use Rattle.salt_commit.specs.declared.store.Store.{Store}
+use Rattle.salt_decisions.proofs.Begun.{first_log, nothing_open}
+use Rattle.salt_decisions.proofs.Contents.{log_bytes}
+use Rattle.salt_decisions.specs.Decisions.{IsDecisions}
+use Rattle.salt_decisions.specs.Opened.{begun, first_payload}
+use Rattle.salt_decisions.specs.declared.decisions.Decisions.{Decisions}
+use Rattle.salt_decisions.specs.declared.which.Which.TheVariants.{A}
+use Rattle.salt_disk.specs.Disks.{View}
+use Rattle.salt_gatelog.specs.Log.{IsLog}
+use Rattle.salt_gatelog.specs.declared.log.GateLog.{GateLog}
+use Rattle.salt_partition.specs.Partitions.{IsPartition}
+use Rattle.salt_partition.specs.declared.partition.Partition.{Partition}
+use Rattle.salt_stands.specs.CoordinatorLog.{coordinator_generation, coordinator_in}
+use Rattle.salt_stands.specs.FirstOpening.{first_coordinator, first_part_header, first_view}
+use Rattle.salt_stands.specs.Partition.{part_tables}
+use Rattle.salt_stands.specs.PartitionLog.{own_log, partition_generation, partition_in}
+use Rattle.salt_stands.specs.Words.{and_then}
+use Rattle.salt_values.specs.declared.placement.PlaceKind.TheVariants.{Remainder}
+use Rattle.salt_values.specs.declared.placement.Shape.{Shape}
+use Rattle.std.proofs.Common.{List, Some, [], ap, arith, false, refl, suc, true, zero, ℕ, ◌++◌, ◌≡◌, ◌∙◌, ◌∷◌}
+use Rattle.salt_model.specs.Tables.{with_changes}
+use Rattle.std.proofs.Common.{subst, sym}
+use Rattle.std.specs.Prelude.{IfSome, length, slice_get}
+
+abbrev shape : Shape
+shape = record { parts = 1; kind = Remainder }
+
+abbrev header : List ℕ
+header = spell_partition_header (first_part_header 2 0)
+
+abbrev bytes : ℕ → List ℕ
+bytes zero = spelled (first_payload shape ∷ []) ++ 0 ∷ []
+bytes (suc zero) = []
+bytes (suc (suc zero)) = spelled (header ∷ []) ++ 0 ∷ []
+bytes (suc (suc (suc dev))) = []
+
+abbrev view : View
+view = record { count = 5; limit = λ dev. 1000; can_stop = false; told = true; bytes = bytes; image = λ dev c. c ≡ bytes dev; faults = 0; stops_left = 0 }
+
+abbrev gate : GateLog
+gate = record { dev = 0; end = 57; count = 1; next = 0; place = 0 }
+
+abbrev counting : Decisions
+counting = record { which = A; gate = gate; format = 3; generation = 1; shape = shape; boot = 0; decisions = 0; definitions = []; conts = [] }
+
+end_is : 57 ≡ length (spelled (first_payload shape ∷ []))
+unfolding framed
+end_is = refl
+
+is_log : IsLog view gate (first_payload shape ∷ [])
+is_log = record {
+  known = omega arith;
+  end = end_is;
+  room = omega arith;
+  count = refl;
+  file = λ told. record { gate = 0; rest = []; is_closed = λ e. omega (arith, e); bytes_are = refl };
+  settled = λ c left. left;
+  next = omega arith;
+  within = omega arith;
+  place = λ told. refl;
+}
+
+blank_behind : pair_of coordinator_generation (IsRead (begun shape)) (content_of coordinator_in (entries_in [])) ≡ Counts LogA (begun shape)
+unfolding entries_in
+blank_behind = refl
+
+decisions_stand : IsDecisions view counting LogA (begun shape)
+decisions_stand = record {
+  own = refl;
+  holds = record { format = refl; generation = refl; shape = refl; boot = refl; decisions = refl; definitions = refl; conts = nothing_open [] shape refl; parts = refl };
+  counting = record {
+    entries = first_payload shape ∷ [];
+    is_log = is_log;
+    device = refl;
+    known = omega arith;
+    other = λ c left. left;
+    counts = λ told.
+        ap (λ o. pair_of coordinator_generation (content_of coordinator_in o) (content_of coordinator_in (entries_in []))) (log_bytes view gate (first_payload shape ∷ []) refl is_log)
+        ∙ ap (λ x. pair_of coordinator_generation (read_or_outside x) (content_of coordinator_in (entries_in []))) (first_log shape (first_payload shape) (omega arith, omega arith) refl)
+        ∙ blank_behind;
+  };
+}
+
+abbrev part_gate : GateLog
+part_gate = record { dev = 2; end = 28; count = 1; next = 0; place = 0 }
+
+part_end : 28 ≡ length (spelled (header ∷ []))
+unfolding framed
+part_end = refl
+
+part_log : IsLog view part_gate (header ∷ [])
+part_log = record {
+  known = omega arith;
+  end = part_end;
+  room = omega arith;
+  count = refl;
+  file = λ told. record { gate = 0; rest = []; is_closed = λ e. omega (arith, e); bytes_are = refl };
+  settled = λ c left. left;
+  next = omega arith;
+  within = omega arith;
+  place = λ told. refl;
+}
+
+part_reads : partition_in 0 (header ∷ []) ≡ Some (first_view 2 0).log
+part_reads = ap (and_then (λ h. own_log 0 h [])) (reads_partition_header (first_part_header 2 0) (record { format = refl; generation = omega arith; first = refl; count = omega arith; sides = refl }))
+
+part_behind : pair_of partition_generation (IsRead (first_view 2 0).log) (content_of (partition_in 0) (entries_in [])) ≡ Counts LogA (first_view 2 0).log
+unfolding entries_in
+part_behind = refl
+
+no_rows_yet : (part_tables [] (first_view 2 0).log []).list ≡ []
+unfolding with_changes
+no_rows_yet = refl
+
+part_stands : (x : Partition) → x.part ≡ 0 → x.nulls ≡ true → x.log ≡ part_gate → x.rows.entries ≡ [] → IsPartition view x 0 (first_view 2 0) []
+part_stands x part nulls log rows = record {
+  part = part;
+  entries = header ∷ [];
+  is_log = subst (λ l. IsLog view l (header ∷ [])) (sym log) part_log;
+  some = omega arith;
+  device = ap (λ (l : GateLog). l.dev) log;
+  known = omega arith;
+  other = λ c left. left;
+  told = λ told. record {
+    reads = part_reads;
+    counts =
+        ap (λ o. pair_of partition_generation (content_of (partition_in 0) o) (content_of (partition_in 0) (entries_in []))) (log_bytes view part_gate (header ∷ []) refl part_log)
+        ∙ ap (λ o. pair_of partition_generation (read_or_outside o) (content_of (partition_in 0) (entries_in []))) part_reads ∙ part_behind;
+    nulls = nulls;
+    pages = refl;
+    none = refl;
+    rows = rows ∙ sym no_rows_yet;
+  };
+}
+
+pub store_stands : (x : Store) (q : Partition) → x.decisions ≡ counting → x.parts.items ≡ q ∷ [] → q.part ≡ 0 → q.nulls ≡ true → q.log ≡ part_gate → q.rows.entries ≡ [] → Stands view x
+store_stands x q decisions parts part nulls log rows = record {
+  which = LogA;
+  c = first_coordinator shape 3;
+  v = first_view 2;
+  is = first_store reading view x shape (subst (λ z. IsDecisions view z LogA (begun shape)) (sym decisions) decisions_stand) (ap (λ (l : List Partition). length l) parts)
+      (subst (λ (l : List Partition). ArePartitions view l (first_view 2) (λ p. [])) (sym parts) (record { each = each }));
+}
+  where
+    each : (p : ℕ) → IfSome (slice_get (q ∷ []) p) (λ z. IsPartition view z p (first_view 2 p) [])
+    each zero = part_stands q part nulls log rows
+    each (suc p) = tt
+
+-- a unit without changes
+pub may_commit_nothing : MayCommitUnit reading (first_coordinator shape 3) (first_view 2) (record { boot = 0; seq = 1 }) [] (0 ∷ []) Plain []
+may_commit_nothing = record {
+  boot = omega arith;
+  fresh = λ p low. refl;
+  new = λ p low. refl;
+  ordered = λ p low. refl;
+  sound = λ p low. refl;
+  put = λ p low. tt;
+  spells = refl;
+  moves = refl;
+  named = refl;
+}

@@ -1,0 +1,70 @@
+-- What a unit needs to be committed, and what its commit touches.
+use Rattle.salt_bytes.specs.Changes.{are_in_order}
+use Rattle.salt_bytes.specs.Conts.{move_in}
+use Rattle.salt_bytes.specs.Coordinator.{Decides, spell_entry}
+use Rattle.salt_bytes.specs.Formats.{has_nulls}
+use Rattle.salt_bytes.specs.Generations.{WhichLog}
+use Rattle.salt_bytes.specs.Spellable.{Every}
+use Rattle.salt_bytes.specs.declared.moves.Move.{Move}
+use Rattle.salt_commit.specs.Prepares.{IsLogOfShares, OnePassesLimit}
+use Rattle.salt_commit.specs.Shares.{mask_of, next_decision, shares_of}
+use Rattle.salt_commit.specs.Stores.{IsStore, coordinator_device, coordinator_gate, decided_by, reading}
+use Rattle.salt_commit.specs.declared.store.Store.{Store}
+use Rattle.salt_decisions.specs.Decisions as decisions
+use Rattle.salt_disk.specs.Disks.{View}
+use Rattle.salt_entries.specs.Entries.{IsPut}
+use Rattle.salt_model.specs.Kept.{Definition}
+use Rattle.salt_model.specs.Words.{has_id}
+use Rattle.salt_stands.specs.Commits.{parts_of, share}
+use Rattle.salt_stands.specs.Coordinator.{Coordinator, is_sound_cont}
+use Rattle.salt_stands.specs.OpenConts.{conts_of_move, make_move}
+use Rattle.salt_stands.specs.Partition.{is_sound_prepared}
+use Rattle.salt_stands.specs.Pieces.{PartView, is_prepared_in, with_decision}
+use Rattle.salt_stands.specs.Placed.{changes_at}
+use Rattle.salt_stands.specs.Reading.{Reading}
+use Rattle.salt_values.specs.declared.change.Change.{Change}
+use Rattle.salt_values.specs.declared.cont.Cont.{Cont}
+use Rattle.salt_values.specs.declared.id.Id.{Id}
+use Rattle.std.specs.List.{list_all}
+use Rattle.std.specs.Prelude.{List, Some, false, length, true, ℕ, ◌+◌, ◌<◌, ◌≡◌, ◌≤◌, ◌⊎◌}
+
+-- A unit that may be committed with these changes and this move, which leaves these continuations open.
+pub record MayCommitUnit {D : Type 0} (r : Reading D) (c : Coordinator D) (v : ℕ → PartView) (u : Id) (cs : List Change) (mv : List ℕ) (m : Move) (conts : List Cont) : Type 0 where
+  pub boot : u.boot ≤ c.log.told.boot
+  -- no entry and no decision names it
+  pub fresh : (p : ℕ) → p < parts_of c → is_prepared_in u (v p).log.prepared ≡ false
+  pub new : (p : ℕ) → p < parts_of c → has_id u (decided_by c p) ≡ false
+  -- in each partition its changes are in order, each key once; they fit the definitions, and can be put
+  pub ordered : (p : ℕ) → p < parts_of c → are_in_order (changes_at c.log.header.shape p cs) ≡ true
+  pub sound : (p : ℕ) → p < parts_of c → is_sound_prepared r c p (share c u cs p) ≡ true
+  pub put : (p : ℕ) → p < parts_of c → Every (IsPut (has_nulls (v p).log.header.format)) (changes_at c.log.header.shape p cs)
+  -- the move goes on from the open continuations
+  pub spells : move_in c.log.header.format mv ≡ Some m
+  pub moves : make_move c.conts m ≡ Some conts
+  pub named : list_all (is_sound_cont r c.definitions (with_decision c (next_decision c u cs mv) conts).log.told) (conts_of_move (Some m)) ≡ true
+
+-- a store stands, and the unit may be committed
+pub record StandsToCommit (d : View) (x : Store) (u : Id) (cs : List Change) (mv : List ℕ) : Type 0 where
+  pub which : WhichLog
+  pub c : Coordinator Definition
+  pub v : ℕ → PartView
+  pub m : Move
+  pub conts : List Cont
+  pub is : IsStore reading d x which c v
+  pub may : MayCommitUnit reading c v u cs mv m conts
+
+-- the shares of a unit's changes in a store
+abbrev pub shares_in : Store → List Change → List (List Change)
+shares_in x cs = shares_of (decisions.shape_of x.decisions) cs
+
+-- the device is the coordinator's log, or that of a partition which the unit changes
+abbrev pub IsCommitLog : Store → List Change → ℕ → Type 0
+IsCommitLog x cs dev = (dev ≡ coordinator_device x) ⊎ IsLogOfShares x.parts.items (shares_in x cs) (length x.parts.items) dev
+
+-- the decision's entry would pass the limit of the coordinator's log
+pub record DecisionPassesLimit (limit : ℕ → ℕ) (x : Store) (u : Id) (cs : List Change) (mv : List ℕ) (dev : ℕ) : Type 0 where
+  pub device : dev ≡ coordinator_device x
+  pub over : limit dev < coordinator_gate x + 10 + length (spell_entry (Decides (decisions.next_decision x.decisions u (mask_of (shares_in x cs)) mv)))
+
+abbrev pub CommitPassesLimit : (limit : ℕ → ℕ) → Store → Id → List Change → List ℕ → ℕ → Type 0
+CommitPassesLimit limit x u cs mv dev = DecisionPassesLimit limit x u cs mv dev ⊎ OnePassesLimit limit x.parts.items u (shares_in x cs) dev

@@ -1,0 +1,5 @@
+pub mod Errors
+pub mod Stores
+pub mod Shares
+pub mod Prepares
+pub mod Commits

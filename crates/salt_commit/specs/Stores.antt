@@ -1,0 +1,95 @@
+-- When a value is a store that stands on the devices, and what a definition needs to be added to it.
+use Rattle.salt_bytes.specs.Coordinator.{NumberedText}
+use Rattle.salt_bytes.specs.Generations.{WhichLog}
+use Rattle.salt_canonical.specs.Texts.{definition_in}
+use Rattle.salt_commit.specs.declared.store.Store.{Store}
+use Rattle.salt_decisions.specs.Decisions as decisions
+use Rattle.salt_decisions.specs.Decisions.{IsDecisions}
+use Rattle.salt_definitions.specs.Fitting.{definitions_reading}
+use Rattle.salt_disk.specs.Disks.{IsImage, View}
+use Rattle.salt_model.specs.Kept.{Definition}
+use Rattle.salt_model.specs.Tables.{place, row_at}
+use Rattle.salt_partition.specs.Partitions.{IsPartition}
+use Rattle.salt_partition.specs.declared.partition.Partition.{Partition}
+use Rattle.salt_stands.specs.Commits.{parts_of}
+use Rattle.salt_stands.specs.Coordinator.{Coordinator, decided_for}
+use Rattle.salt_stands.specs.Partition.{is_sound_log}
+use Rattle.salt_stands.specs.Pieces.{IsCoordinator, PartView}
+use Rattle.salt_stands.specs.Reading.{Reading}
+use Rattle.salt_stands.specs.Stands.{Found, judged}
+use Rattle.salt_values.specs.declared.id.Id.{Id}
+use Rattle.salt_values.specs.declared.placement.Shape.{Shape}
+use Rattle.salt_values.specs.declared.value.Value.{Value}
+use Rattle.std.specs.Prelude.{Option, IfSome, IsTrue, List, Ok, Some, false, length, slice_get, true, ℕ, ◌+◌, ◌<◌, ◌≡◌, ◌⊎◌}
+
+-- definitions are read from their canonical texts
+abbrev pub reading : Reading Definition
+reading = definitions_reading definition_in
+
+-- the number of the last boot, and that of the last decision or definition
+abbrev pub last_boot : Store → ℕ
+last_boot x = decisions.last_boot x.decisions
+
+abbrev pub last_decision : Store → ℕ
+last_decision x = decisions.last_decision x.decisions
+
+-- the device of the coordinator's log that counts, and where its closed gate stands
+abbrev pub coordinator_device : Store → ℕ
+coordinator_device x = decisions.device_in x.decisions
+
+abbrev pub coordinator_gate : Store → ℕ
+coordinator_gate x = decisions.gate_in x.decisions
+
+-- the units that are decided with a partition's bit
+abbrev pub decided_by : {D : Type 0} → Coordinator D → ℕ → List Id
+decided_by c p = decided_for p c.log.told.decided
+
+-- What holds where the disks tell their bytes: definitions and continuations are those of the coordinator's log, and each
+-- partition's log fits them.
+pub record IsSound {D : Type 0} (r : Reading D) (c : Coordinator D) (v : ℕ → PartView) : Type 0 where
+  pub coordinator : IsCoordinator r c
+  pub part : (p : ℕ) → p < parts_of c → is_sound_log r c p (v p).log ≡ true
+
+-- each is the partition of its place, and these units are applied in it
+pub record ArePartitions (d : View) (parts : List Partition) (v : ℕ → PartView) (applied : ℕ → List Id) : Type 0 where
+  pub each : (p : ℕ) → IfSome (slice_get parts p) (λ x. IsPartition d x p (v p) (applied p))
+
+-- The value is a store that stands so on the devices: the coordinator's log, and in each partition the units that are decided.
+pub record IsStore {D : Type 0} (r : Reading D) (d : View) (x : Store) (which : WhichLog) (c : Coordinator D) (v : ℕ → PartView) : Type 0 where
+  pub decisions : IsDecisions d x.decisions which c.log
+  pub size : length x.parts.items ≡ parts_of c
+  pub parts : ArePartitions d x.parts.items v (decided_by c)
+  pub sound : IsTrue d.told → IsSound r c v
+
+-- a store stands
+pub record Stands (d : View) (x : Store) : Type 0 where
+  pub which : WhichLog
+  pub c : Coordinator Definition
+  pub v : ℕ → PartView
+  pub is : IsStore reading d x which c v
+
+-- each image that a stop may leave of the devices stands for the one or for the other
+abbrev pub StandForEither : {D : Type 0} → Reading D → View → (before after : Found D) → Type 0
+StandForEither r d before after = (asked : Shape) (image : ℕ → List ℕ) → IsImage d image → (judged r image asked ≡ Ok before) ⊎ (judged r image asked ≡ Ok after)
+
+-- A definition that may be added: it is the one of this text, and the definitions before it do not refuse it.
+pub record MayDefine {D : Type 0} (r : Reading D) (c : Coordinator D) (text : List ℕ) (def : D) : Type 0 where
+  pub reads : r.read text ≡ Some def
+  pub accepted : r.is_refused c.definitions def ≡ false
+
+-- a store stands, and a definition with this text may be added
+pub record StandsToDefine (d : View) (x : Store) (text : List ℕ) : Type 0 where
+  pub which : WhichLog
+  pub c : Coordinator Definition
+  pub v : ℕ → PartView
+  pub def : Definition
+  pub is : IsStore reading d x which c v
+  pub may : MayDefine reading c text def
+
+-- what the coordinator keeps of it
+abbrev pub next_text : {D : Type 0} → Coordinator D → List ℕ → NumberedText
+next_text c text = record { number = c.log.told.decisions + 1; text = text }
+
+-- the row of a key, in what is found
+abbrev pub row_in : {D : Type 0} → Found D → (table : ℕ) → Value → Option (List Value)
+row_in found table key = row_at (place table key) found.kept.tables

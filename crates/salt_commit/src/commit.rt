@@ -1,0 +1,67 @@
+//! Two-phase commit.
+
+ghost use Rattle.salt_bytes.specs.Generations.{WhichLog};
+ghost use Rattle.salt_bytes.specs.declared.moves.Move.{Move};
+ghost use Rattle.salt_commit.specs.Commits.{CommitPassesLimit, IsCommitLog, MayCommitUnit, StandsToCommit};
+ghost use Rattle.salt_commit.specs.Errors.{store_err};
+ghost use Rattle.salt_commit.specs.Prepares.{FullWhere};
+ghost use Rattle.salt_commit.specs.Shares.{next_decision};
+ghost use Rattle.salt_commit.specs.Stores.{IsStore, StandForEither, last_decision, reading};
+ghost use Rattle.salt_disk.specs.Disks.{HasCause, KeepsBut};
+ghost use Rattle.salt_model.specs.Kept.{Definition};
+ghost use Rattle.salt_stands.specs.Commits.{found_after, found_of, view_after};
+ghost use Rattle.salt_stands.specs.Coordinator.{Coordinator};
+ghost use Rattle.salt_stands.specs.Pieces.{PartView, with_decision};
+ghost use Rattle.salt_values.specs.Placement.{GivesPlaceOf, TakesEachKey};
+ghost use Rattle.salt_values.specs.declared.cont.Cont.{Cont};
+ghost use Rattle.std.specs.Prelude.{IfOk, IsTrue, List, OnOk, ℕ, ◌+◌, ◌-◌, ◌<◌, ◌^◌, ◌≡◌};
+
+use crate::error::StoreErr;
+use crate::prepare::{apply_all, prepare_all};
+use crate::shares::{mask_of, shares_of};
+use crate::store::Store;
+use crate::told::told_changes;
+use salt_disk::Disks;
+use salt_place::{PlaceKind, Placement};
+use salt_values::{Changes, Id, Key};
+
+impl Store {
+    /// Commits a unit, and gives the number of its decision: its changes are prepared in each partition that has some, in order
+    /// of numbers, then it is decided with its move, and then applied. After Ok the unit is kept. Whatever the call answers,
+    /// each image of the devices stands for what stood before, or for that with the unit: its changes in the rows, one decision
+    /// more, and the continuations that its move leaves open.
+    pub fn commit<D: Disks, F: Fn(PlaceKind, &Key, u32) -> u32>(
+        &mut self,
+        disks: &mut D,
+        place: &Placement<F>,
+        unit: Id,
+        changes: &Changes,
+        mv: &[u8],
+    ) -> Result<u64, StoreErr>
+        requires callable { TakesEachKey (F.pre place.now.place) }
+        requires answers { GivesPlaceOf (F.post place.now.place) }
+        requires stands { StandsToCommit (D.view disks.old) self.old unit changes.now mv.now }
+        requires below { last_decision self.old < 2 ^ 64 - 1 }
+
+        ensures ok { (which : WhichLog) (c : Coordinator Definition) (v : ℕ → PartView) (m : Move) (conts : List Cont) → IsStore reading (D.view disks.old) self.old which c v
+            → MayCommitUnit reading c v unit changes.now mv.now m conts
+            → OnOk result (IsStore reading (D.view disks.new) self.new which (with_decision c (next_decision c unit changes.now mv.now) conts) (view_after c v changes.now (next_decision c unit changes.now mv.now))) }
+        ensures number { IfOk result (λ number. number ≡ last_decision self.old + 1) }
+        ensures images { (which : WhichLog) (c : Coordinator Definition) (v : ℕ → PartView) (m : Move) (conts : List Cont) → IsStore reading (D.view disks.old) self.old which c v
+            → MayCommitUnit reading c v unit changes.now mv.now m conts → IsTrue (D.view disks.old).told
+            → StandForEither reading (D.view disks.new) (found_of c v) (found_after c v changes.now (next_decision c unit changes.now mv.now) conts) }
+
+        ensures others { KeepsBut (IsCommitLog self.old changes.now) (D.view disks.old) (D.view disks.new) (store_err result) }
+        ensures cause { HasCause (D.view disks.old) (D.view disks.new) (store_err result) }
+        ensures full { FullWhere (CommitPassesLimit (D.view disks.old).limit self.old unit changes.now mv.now) (store_err result) }
+    {
+        told_changes(changes.as_slice());
+        let shape = self.decisions.shape();
+        let shares = shares_of(self.alloc, place, shape, changes.as_slice())?;
+        let mask = mask_of(&shares);
+        prepare_all(disks, &mut self.parts, unit, &shares)?;
+        let number = self.decisions.decide(self.alloc, disks, unit, mask, mv)?;
+        apply_all(disks, &mut self.parts, unit, &shares)?;
+        Ok(number)
+    }
+}

@@ -1,0 +1,15 @@
+//! A store over devices: the coordinator's log and the partitions, as one. A unit is prepared in each partition that it changes,
+//! then decided, and then applied; a stop at any moment leaves what stood before it, or what stands with it.
+#![tactic(auto)]
+
+mod commit;
+mod error;
+mod prepare;
+mod reads;
+mod shares;
+mod store;
+mod told;
+
+pub use error::StoreErr;
+pub use salt_decisions::{Kept, OpenErr, peek};
+pub use store::Store;

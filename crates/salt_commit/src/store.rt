@@ -1,0 +1,87 @@
+//! The store, and what is done in it.
+
+ghost use Rattle.salt_bytes.specs.Coordinator.{Boots, Defines, spell_entry};
+ghost use Rattle.salt_bytes.specs.Generations.{WhichLog};
+ghost use Rattle.salt_commit.specs.Errors.{store_err};
+ghost use Rattle.salt_commit.specs.Stores.{IsStore, MayDefine, StandForEither, Stands, StandsToDefine, coordinator_device, coordinator_gate, last_boot, last_decision, next_text, reading};
+ghost use Rattle.salt_decisions.specs.Decisions.{next_definition};
+ghost use Rattle.salt_disk.specs.Disks.{FullExactly, HasCause, KeepsOthers};
+ghost use Rattle.salt_model.specs.Kept.{Definition};
+ghost use Rattle.salt_stands.specs.Commits.{found_of};
+ghost use Rattle.salt_stands.specs.Coordinator.{Coordinator};
+ghost use Rattle.salt_stands.specs.Pieces.{PartView, with_boot, with_definition};
+ghost use Rattle.std.specs.Prelude.{IfOk, IsTrue, OnOk, length, ℕ, ◌+◌, ◌-◌, ◌<◌, ◌^◌, ◌≡◌};
+
+use crate::error::StoreErr;
+use salt_decisions::Decisions;
+use salt_definitions::what_fits_still_fits;
+use salt_disk::Disks;
+use salt_partition::Partition;
+use std::alloc::Global;
+
+/// A database on its devices: the coordinator's log, and the partitions in order of their numbers. After an error of a call on
+/// it that goes to the devices it is opened again before it is used.
+#[derive(Drop)]
+pub struct Store {
+    pub(crate) alloc: Global,
+    pub(crate) decisions: Decisions,
+    pub(crate) parts: Vec<Partition>,
+}
+
+impl Store {
+    /// The number of the last boot, 0 before the first.
+    pub fn last_boot(&self) -> u64
+        ensures { result ≡ last_boot self.now }
+    {
+        self.decisions.last_boot()
+    }
+
+    /// The number of the last decision or definition, 0 before the first.
+    pub fn decisions(&self) -> u64
+        ensures { result ≡ last_decision self.now }
+    {
+        self.decisions.last_decision()
+    }
+
+    /// Begins the next boot, and gives its number. After Ok it is kept. Whatever the call answers, each image of the devices
+    /// stands for what stood before, or for that with one boot more.
+    pub fn boot<D: Disks>(&mut self, disks: &mut D) -> Result<u64, StoreErr>
+        requires stands { Stands (D.view disks.old) self.old }
+        requires below { last_boot self.old < 2 ^ 64 - 1 }
+
+        ensures ok { (which : WhichLog) (c : Coordinator Definition) (v : ℕ → PartView) → IsStore reading (D.view disks.old) self.old which c v
+            → OnOk result (IsStore reading (D.view disks.new) self.new which (with_boot c) v) }
+        ensures number { IfOk result (λ boot. boot ≡ last_boot self.old + 1) }
+        ensures images { (which : WhichLog) (c : Coordinator Definition) (v : ℕ → PartView) → IsStore reading (D.view disks.old) self.old which c v → IsTrue (D.view disks.old).told
+            → StandForEither reading (D.view disks.new) (found_of c v) (found_of (with_boot c) v) }
+
+        ensures others { KeepsOthers (coordinator_device self.old) (D.view disks.old) (D.view disks.new) (store_err result) }
+        ensures cause { HasCause (D.view disks.old) (D.view disks.new) (store_err result) }
+        ensures full { FullExactly (coordinator_device self.old) ((D.view disks.old).limit (coordinator_device self.old)) (coordinator_gate self.old + 10 + length (spell_entry (Boots (last_boot self.old + 1)))) (store_err result) }
+    {
+        let boot = self.decisions.boot(self.alloc, disks)?;
+        Ok(boot)
+    }
+
+    /// Adds a definition by its canonical text, which the definitions before it do not refuse, and gives the number of its
+    /// decision. After Ok it is kept. Whatever the call answers, each image of the devices stands for what stood before, or
+    /// for that with the definition.
+    pub fn define<D: Disks>(&mut self, disks: &mut D, text: &[u8]) -> Result<u64, StoreErr>
+        requires stands { StandsToDefine (D.view disks.old) self.old text.now }
+        requires below { last_decision self.old < 2 ^ 64 - 1 }
+
+        ensures ok { (which : WhichLog) (c : Coordinator Definition) (v : ℕ → PartView) (def : Definition) → IsStore reading (D.view disks.old) self.old which c v → MayDefine reading c text.now def
+            → OnOk result (IsStore reading (D.view disks.new) self.new which (with_definition c (next_text c text.now) def) v) }
+        ensures number { IfOk result (λ number. number ≡ last_decision self.old + 1) }
+        ensures images { (which : WhichLog) (c : Coordinator Definition) (v : ℕ → PartView) (def : Definition) → IsStore reading (D.view disks.old) self.old which c v → MayDefine reading c text.now def → IsTrue (D.view disks.old).told
+            → StandForEither reading (D.view disks.new) (found_of c v) (found_of (with_definition c (next_text c text.now) def) v) }
+
+        ensures others { KeepsOthers (coordinator_device self.old) (D.view disks.old) (D.view disks.new) (store_err result) }
+        ensures cause { HasCause (D.view disks.old) (D.view disks.new) (store_err result) }
+        ensures full { FullExactly (coordinator_device self.old) ((D.view disks.old).limit (coordinator_device self.old)) (coordinator_gate self.old + 10 + length (spell_entry (Defines (next_definition self.old.decisions text.now)))) (store_err result) }
+    {
+        what_fits_still_fits();
+        let number = self.decisions.define(self.alloc, disks, text)?;
+        Ok(number)
+    }
+}
