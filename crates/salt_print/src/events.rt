@@ -11,9 +11,10 @@ ghost use Rattle.std.specs.Fmt.{decimal};
 use crate::names::{print_owners, print_unit};
 use crate::parts::{print_answer, print_end, print_kind, print_refusal, print_why};
 use crate::shown::print_shown;
-use salt_ast::{Canonical, Printer, Statement, TableDef};
+use salt_ast::{Canonical, Printer, Statement};
 use salt_io::{IoFailed, Sink, WriteBuffer};
 use salt_model::{Answer, Event};
+use salt_schema::Schema;
 use salt_values::{Bytes, Id};
 
 /// Prints what a unit did, behind its name.
@@ -63,7 +64,7 @@ fn print_defined<K: Sink>(out: &mut Printer<'_, K>, number: u64, text: &Bytes)
 }
 
 /// Prints an event's text without the LF that ends it.
-fn print_event_line<K: Sink>(out: &mut Printer<'_, K>, schema: &[TableDef], event: &Event)
+fn print_event_line<K: Sink>(out: &mut Printer<'_, K>, schema: &Schema, event: &Event)
     ensures { Prints K.held K.faults out.old out.new (event_line schema.now event.now) }
 {
     match event {
@@ -108,7 +109,7 @@ fn print_event_line<K: Sink>(out: &mut Printer<'_, K>, schema: &[TableDef], even
 }
 
 /// Prints an event's text, and writes what waits: who reads the sink sees an event when it is told.
-fn print_event<K: Sink>(out: &mut Printer<'_, K>, schema: &[TableDef], event: &Event)
+fn print_event<K: Sink>(out: &mut Printer<'_, K>, schema: &Schema, event: &Event)
     ensures prints { Prints K.held K.faults out.old out.new (event_text schema.now event.now) }
     ensures empty { OnOk out.new.outcome (out.new.waiting ≡ []) }
 {
@@ -118,7 +119,7 @@ fn print_event<K: Sink>(out: &mut Printer<'_, K>, schema: &[TableDef], event: &E
 }
 
 /// Prints the texts of events, one after another.
-fn print_events<K: Sink>(out: &mut Printer<'_, K>, schema: &[TableDef], events: &[Event])
+fn print_events<K: Sink>(out: &mut Printer<'_, K>, schema: &Schema, events: &[Event])
     requires { out.old.waiting ≡ [] }
     ensures prints { Prints K.held K.faults out.old out.new (story_text schema.now events.now) }
     ensures empty { OnOk out.new.outcome (out.new.waiting ≡ []) }
@@ -131,7 +132,7 @@ fn print_events<K: Sink>(out: &mut Printer<'_, K>, schema: &[TableDef], events: 
 /// Appends an event's text to what the sink holds, in one write for each 4,096 bytes where each takes
 /// all that it is given; the schema names the tables of locks. It takes no memory. `IoFailed` where a write failed: the sink has counted the fault, and some first part of
 /// the text was written, with at least one byte left out.
-pub fn print<K: Sink>(sink: &mut K, event: &Event, schema: &[TableDef]) -> Result<(), IoFailed>
+pub fn print<K: Sink>(sink: &mut K, event: &Event, schema: &Schema) -> Result<(), IoFailed>
     ensures { Sends K.held K.faults sink.old sink.new result (event_text schema.now event.now) }
 {
     let mut out = Printer {
@@ -146,11 +147,7 @@ pub fn print<K: Sink>(sink: &mut K, event: &Event, schema: &[TableDef]) -> Resul
 /// Appends the texts of events, one after another, to what the sink holds, each written by its end;
 /// the schema names the tables of locks. It takes no memory. `IoFailed` where a write failed: the sink has counted the
 /// fault, and some first part of the texts was written, with at least one byte left out.
-pub fn print_story<K: Sink>(
-    sink: &mut K,
-    events: &[Event],
-    schema: &[TableDef],
-) -> Result<(), IoFailed>
+pub fn print_story<K: Sink>(sink: &mut K, events: &[Event], schema: &Schema) -> Result<(), IoFailed>
     ensures { Sends K.held K.faults sink.old sink.new result (story_text schema.now events.now) }
 {
     if events.is_empty() {

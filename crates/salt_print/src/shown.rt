@@ -6,10 +6,11 @@ ghost use Rattle.salt_ast.specs.Prints.{Prints};
 ghost use Rattle.std.specs.Fmt.{decimal};
 
 use crate::names::print_owner;
-use salt_ast::{Canonical, Printer, TableDef};
+use salt_ast::{Canonical, Printer};
 use salt_io::Sink;
 use salt_model::{BaseAt, Family, Item, Items, Lock, Mode};
 use salt_ranges::KeyRange;
+use salt_schema::Schema;
 
 /// Prints the family of a lock.
 fn print_family<K: Sink>(out: &mut Printer<'_, K>, family: Family)
@@ -33,10 +34,10 @@ fn print_mode<K: Sink>(out: &mut Printer<'_, K>, mode: Mode)
 }
 
 /// Prints the name of the table with the number, or nothing where there is none.
-fn print_table_name<K: Sink>(out: &mut Printer<'_, K>, schema: &[TableDef], table: u16)
+fn print_table_name<K: Sink>(out: &mut Printer<'_, K>, schema: &Schema, table: u16)
     ensures { Prints K.held K.faults out.old out.new (table_name schema.now table) }
 {
-    if let Some(def) = schema.get(usize::from(table)) {
+    if let Some(def) = schema.table(table) {
         out.kept(&def.name);
     }
 }
@@ -56,7 +57,7 @@ fn print_range<K: Sink>(out: &mut Printer<'_, K>, range: &KeyRange)
 }
 
 /// Prints a lock, without the LF that ends its line.
-fn print_lock<K: Sink>(out: &mut Printer<'_, K>, schema: &[TableDef], lock: &Lock)
+fn print_lock<K: Sink>(out: &mut Printer<'_, K>, schema: &Schema, lock: &Lock)
     ensures { Prints K.held K.faults out.old out.new (lock_text schema.now lock.now) }
 {
     out.bytes(b"lock ");
@@ -86,7 +87,7 @@ fn print_place<K: Sink>(out: &mut Printer<'_, K>, place: BaseAt)
 }
 
 /// Prints an item's line.
-fn print_item<K: Sink>(out: &mut Printer<'_, K>, schema: &[TableDef], item: &Item)
+fn print_item<K: Sink>(out: &mut Printer<'_, K>, schema: &Schema, item: &Item)
     ensures { Prints K.held K.faults out.old out.new (item_text schema.now item.now) }
 {
     match item {
@@ -107,7 +108,7 @@ fn print_item<K: Sink>(out: &mut Printer<'_, K>, schema: &[TableDef], item: &Ite
 }
 
 /// Prints a line for each item.
-fn print_items<K: Sink>(out: &mut Printer<'_, K>, schema: &[TableDef], items: &[Item])
+fn print_items<K: Sink>(out: &mut Printer<'_, K>, schema: &Schema, items: &[Item])
     ensures { Prints K.held K.faults out.old out.new (flat_map (item_text schema.now) items.now) }
 {
     for item in items {
@@ -116,7 +117,7 @@ fn print_items<K: Sink>(out: &mut Printer<'_, K>, schema: &[TableDef], items: &[
 }
 
 /// Prints a line for each item, and how many there are.
-pub fn print_shown<K: Sink>(out: &mut Printer<'_, K>, schema: &[TableDef], items: &Items)
+pub fn print_shown<K: Sink>(out: &mut Printer<'_, K>, schema: &Schema, items: &Items)
     ensures { Prints K.held K.faults out.old out.new (flat_map (item_text schema.now) items.now ++ (codes "shown " ++ decimal (length items.now))) }
 {
     print_items(out, schema, items.as_slice());

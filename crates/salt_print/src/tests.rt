@@ -10,9 +10,10 @@ use salt_model::{
     Refusal, Story, UnitKind, Why,
 };
 use salt_ranges::KeyRange;
+use salt_schema::Schema;
 use salt_values::{Id, Ids, Key, Name, Row, Rows, Text, Value};
 use sqlite_items::{Boxed, Items};
-use std::alloc::Global;
+use std::alloc::{AllocError, Global};
 use std::process::Abort;
 use std::test::Fail;
 
@@ -43,15 +44,18 @@ fn row(alloc: Global, key: i64, bytes: &[u8]) -> Result<Row, Fail> {
 }
 
 // Tables `acct` and `w`, with no columns: only their names are printed.
-fn schema(alloc: Global) -> Result<Items<TableDef>, Fail> {
-    let mut tables = Items::new(alloc);
+fn schema(alloc: Global) -> Result<Schema, Fail> {
+    let mut tables = Schema::new(alloc);
     let names: [&[u8]; 2] = [b"acct", b"w"];
     for table in names {
-        tables.push(TableDef {
+        let added = tables.add(TableDef {
             name: name(alloc, table)?,
             columns: Fields::new(alloc),
             checks: Exprs::new(alloc),
-        })?;
+        });
+        if added.is_err() {
+            return Err(Fail::from(AllocError));
+        }
     }
     Ok(tables)
 }
@@ -64,14 +68,11 @@ fn compare(rt: &impl Abort, alloc: Global, events: &Story, lines: &[&str]) -> Re
     assert_eq!(rt; events.len(), lines.len());
     for (event, line) in events.as_slice().iter().zip(lines) {
         let mut sink = MemSink::new(alloc, ROOM)?;
-        assert_eq!(rt; print(&mut sink, event, tables.as_slice()), Ok(()));
+        assert_eq!(rt; print(&mut sink, event, &tables), Ok(()));
         assert_eq!(rt; sink.bytes(), line.as_bytes());
         said.extend_from_slice(line.as_bytes())?;
     }
-    assert_eq!(rt;
-        print_story(&mut whole, events.as_slice(), tables.as_slice()),
-        Ok(())
-    );
+    assert_eq!(rt; print_story(&mut whole, events.as_slice(), &tables), Ok(()));
     assert_eq!(rt; whole.bytes(), said.as_slice());
     Ok(())
 }
@@ -358,7 +359,7 @@ fn limits_that_are_passed(rt: HostRuntime) -> Result<(), Fail> {
     for (limit, line) in cases {
         let mut sink = MemSink::new(rt.alloc(), ROOM)?;
         let event = Event::Refused(Refusal::Limit(limit));
-        assert_eq!(rt; print(&mut sink, &event, &[]), Ok(()));
+        assert_eq!(rt; print(&mut sink, &event, &Schema::new(rt.alloc())), Ok(()));
         assert_eq!(rt; sink.bytes(), line.as_bytes());
     }
     Ok(())
@@ -519,7 +520,7 @@ fn a_write_that_fails(rt: HostRuntime) -> Result<(), Fail> {
     for room in 0..=said.len() {
         let most = 1 + room % 7;
         let mut sink = Narrow::new(alloc, most, room);
-        let printed = print_story(&mut sink, events.as_slice(), &[]);
+        let printed = print_story(&mut sink, events.as_slice(), &Schema::new(alloc));
         let fails = room < said.len();
         assert_eq!(rt; printed.is_err(), fails);
         assert_eq!(rt; sink.bytes.as_slice(), &said[..room]);
@@ -541,11 +542,11 @@ fn writes_of_events(rt: HostRuntime) -> Result<(), Fail> {
             text: Items::from_vec(vec![in alloc; b'x'; length]?),
         })?;
         let mut sink = Narrow::new(alloc, usize::MAX, usize::MAX);
-        assert!(rt; print_story(&mut sink, story.as_slice(), &[]).is_ok());
+        assert!(rt; print_story(&mut sink, story.as_slice(), &Schema::new(alloc)).is_ok());
         assert_eq!(rt; sink.writes, writes);
         let mut sink = Narrow::new(alloc, usize::MAX, usize::MAX);
         for event in story.as_slice() {
-            assert!(rt; print(&mut sink, event, &[]).is_ok());
+            assert!(rt; print(&mut sink, event, &Schema::new(alloc)).is_ok());
         }
         assert_eq!(rt; sink.writes, writes);
     }

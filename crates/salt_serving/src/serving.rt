@@ -20,6 +20,7 @@ use crate::telling::{events_behind, write_events};
 use salt_io::{Lines, Next, Sink, Source};
 use salt_model::{Event, Refusal, Story};
 use salt_print::print_story;
+use salt_schema::Schema;
 use salt_script::{ReadErr, read_line};
 use salt_steps::Steps;
 use salt_values::limits::SCRIPT_MOST;
@@ -67,7 +68,7 @@ fn tell_line<E: Steps, K: Sink>(
 {
     let told = story.len();
     do_line(alloc, engine, text, story)?;
-    write_events(alloc, sink, events_behind(story, told), engine.schema())
+    write_events(sink, events_behind(story, told), engine.schema())
 }
 
 /// The text of a line that was taken; none where it is too long.
@@ -140,7 +141,7 @@ pub fn open(story: &mut Story) -> Result<(), AllocError>
 }
 
 /// Tells the opening, and writes it.
-fn tell_opening<K: Sink>(sink: &mut K, story: &mut Story) -> Result<(), Stop>
+fn tell_opening<K: Sink>(alloc: Global, sink: &mut K, story: &mut Story) -> Result<(), Stop>
     requires { story.old ≡ [] }
     ensures ok { OnOk result (story.new ≡ opening) }
     ensures written { OnOk result (Gains (K.held sink.old) (text_under opened opening) (K.held sink.new)) }
@@ -150,7 +151,7 @@ fn tell_opening<K: Sink>(sink: &mut K, story: &mut Story) -> Result<(), Stop>
     ensures later { K.faults sink.old ≤ K.faults sink.new }
 {
     open(story)?;
-    print_story(sink, story.as_slice(), &[])?;
+    print_story(sink, story.as_slice(), &Schema::new(alloc))?;
     Ok(())
 }
 
@@ -176,7 +177,7 @@ pub fn serve<E: Steps + Drop, S: Source, K: Sink>(
     ensures reads_later { S.faults source.old ≤ S.faults source.new }
     ensures writes_later { K.faults sink.old ≤ K.faults sink.new }
 {
-    tell_opening(sink, story)?;
+    tell_opening(alloc, sink, story)?;
     let mut serving = Serving {
         alloc,
         engine,
