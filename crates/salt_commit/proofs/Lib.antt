@@ -1,9 +1,11 @@
 mod Applying
+mod Beginning
 mod Committed
 mod Decided
 mod Entered
 mod Firsts
 mod Lists
+mod Making
 mod Reading
 mod Shared
 mod Sharing

@@ -3,3 +3,4 @@ pub mod Stores
 pub mod Shares
 pub mod Prepares
 pub mod Commits
+pub mod Openings

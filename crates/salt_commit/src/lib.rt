@@ -4,6 +4,7 @@
 
 mod commit;
 mod error;
+mod open;
 mod prepare;
 mod reads;
 mod shares;
