@@ -6,6 +6,7 @@ mod Entered
 mod Firsts
 mod Lists
 mod Making
+mod Ordered
 mod Reading
 mod Shared
 mod Sharing
