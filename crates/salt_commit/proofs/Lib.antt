@@ -4,6 +4,7 @@ mod Committed
 mod Decided
 mod Entered
 mod Firsts
+mod Keyed
 mod Lists
 mod Making
 mod Ordered
