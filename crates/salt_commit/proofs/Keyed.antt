@@ -178,7 +178,7 @@ unfolding with_changes
 changes_keyed [] t h keyed = keyed
 changes_keyed (c ∷ cs) t h keyed = changes_keyed cs (make_change c t) h.1 (one_keyed c t h.0 keyed)
 
-part_keyed : (d : View) (x : Partition) (p : ℕ) (v : PartView) (applied : List Id) → IsPartition d x p v applied → IsTrue d.told → IsKeyed (part_tables applied v.log v.rows)
+pub part_keyed : (d : View) (x : Partition) (p : ℕ) (v : PartView) (applied : List Id) → IsPartition d x p v applied → IsTrue d.told → IsKeyed (part_tables applied v.log v.rows)
 part_keyed d x p v applied is told =
     let t = is.told told in
     changes_keyed (v.rows ++ decided_changes applied v.log.prepared) no_rows

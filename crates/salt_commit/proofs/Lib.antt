@@ -7,8 +7,10 @@ mod Firsts
 mod Keyed
 mod Lists
 mod Making
+mod Merged
 mod Ordered
 mod Reading
+mod Scanned
 mod Shared
 mod Sharing
 mod Standing

@@ -4,3 +4,4 @@ pub mod Shares
 pub mod Prepares
 pub mod Commits
 pub mod Openings
+pub mod Reads

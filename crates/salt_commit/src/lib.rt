@@ -4,6 +4,7 @@
 
 mod commit;
 mod error;
+mod nexts;
 mod open;
 mod prepare;
 mod reads;
