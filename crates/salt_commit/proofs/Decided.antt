@@ -6,7 +6,7 @@ use Rattle.salt_bytes.specs.Partition.{spell_prepared}
 use Rattle.salt_bytes.specs.declared.moves.Move.{Move}
 use Rattle.salt_commit.proofs.Shared.{mask_bit, share_is}
 use Rattle.salt_commit.proofs.Standing.{apart_from_part, each_image, if_some, make_some, pages_same, part_at, pushed, pushed_here, pushed_there, sound_with, stood}
-use Rattle.salt_commit.proofs.Undecided.{IsInHand, decision_reads, decisions_kept, may_commit, share_reads, spelled}
+use Rattle.salt_commit.proofs.Undecided.{IsInHand, decision_reads, decisions_kept, may_commit, share_reads, sound_of, spelled}
 use Rattle.salt_commit.specs.Commits.{MayCommitUnit}
 use Rattle.salt_commit.specs.Prepares.{AreSharesLast, IsLogOfShares, MayPrepareEach, applied_with_shares, with_shares}
 use Rattle.salt_commit.specs.Shares.{applied_with, has_changes, mask_of, next_decision, share_at, shares_of, with_share}
@@ -108,7 +108,7 @@ module _ {D : Type 0} (r : Reading D) (d : View) (x : Store) (which : WhichLog) 
             after = pushed_here (logs_of d.bytes) dev (q.1.entries ++ payload ∷ []);
           })
           (pushed_there (logs_of d.bytes) dev (q.1.entries ++ payload ∷ []) (device_of (part_device p) (other_log (v p).which)) (apart (v p).which (part_device p)))
-          (share_reads r d x which c v is u cs mv m conts may parts hand p low) (may.sound p low) in
+          (share_reads r d x which c v is u cs mv m conts may parts hand p low) (sound_of r d x which c v is u cs mv m conts may parts p) in
           subst (λ z. is_sound_log r c p (with_prepared_unit (v p) z).log ≡ true) same stands.sound
         where
           apart : (w : WhichLog) (a : ℕ) → device_of a (other_log w) ≢ device_of a w

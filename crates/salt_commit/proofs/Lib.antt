@@ -1,10 +1,16 @@
 mod Applying
+mod Beginning
 mod Committed
 mod Decided
 mod Entered
 mod Firsts
+mod Keyed
 mod Lists
+mod Making
+mod Merged
+mod Ordered
 mod Reading
+mod Scanned
 mod Shared
 mod Sharing
 mod Standing

@@ -7,6 +7,7 @@ use Rattle.salt_bytes.specs.Log.{entries_in}
 use Rattle.salt_bytes.specs.Partition.{prepared_in, spell_prepared}
 use Rattle.salt_bytes.specs.Spellable.{Every, IsSpellableId}
 use Rattle.salt_bytes.specs.declared.moves.Move.{Move}
+use Rattle.salt_commit.proofs.Ordered.{in_order_filter, share_fits}
 use Rattle.salt_commit.proofs.Shared.{mask_bit, mask_small, share_is, share_past}
 use Rattle.salt_commit.proofs.Sharing.{one_device}
 use Rattle.salt_commit.proofs.Standing.{apart_from_part, if_some, pages_same, part_at, stood}
@@ -24,12 +25,13 @@ use Rattle.salt_entries.specs.Entries.{IsTold}
 use Rattle.salt_gatelog.proofs.Frame.{log_kept}
 use Rattle.salt_partition.specs.Partitions.{IsPartition, MayPrepare, prepared}
 use Rattle.salt_partition.specs.declared.partition.Partition.{Partition}
+use Rattle.salt_stands.proofs.Booleans.{join}
 use Rattle.salt_stands.proofs.Commits.{undecided}
 use Rattle.salt_stands.proofs.Pairs.{pair_same}
 use Rattle.salt_stands.specs.Commits.{MayCommit, PartMore, PartSame, Spelled, found_of, parts_of, share}
 use Rattle.salt_stands.specs.Coordinator.{Coordinator, device_of}
 use Rattle.salt_stands.specs.CoordinatorLog.{CoordinatorLog, coordinator_generation, coordinator_in}
-use Rattle.salt_stands.specs.Partition.{part_device}
+use Rattle.salt_stands.specs.Partition.{is_sound_change, is_sound_prepared, part_device}
 use Rattle.salt_stands.specs.Pieces.{IsSameAt, PartView, other_log}
 use Rattle.salt_stands.specs.Placed.{AreOfParts, changes_at, is_of_part}
 use Rattle.salt_stands.specs.Reading.{Reading}
@@ -41,8 +43,9 @@ use Rattle.salt_values.specs.declared.cont.Cont.{Cont}
 use Rattle.salt_values.specs.declared.id.Id.{Id}
 use Rattle.salt_values.specs.declared.placement.Shape.{Shape}
 use Rattle.std.proofs.Common.{IsTrue, List, Ok, Option, Some, [], ap, arith, false, inl, inr, length, refl, subst, sym, true, ℕ, ◌*◌, ◌+◌, ◌<◌, ◌^◌, ◌≡◌, ◌≢◌, ◌≤◌, ◌⊎◌, ◌∙◌, ◌∷◌}
-use Rattle.std.specs.List.{filter}
-use Rattle.std.specs.Prelude.{Bool, if◌then◌else◌, slice_get}
+use Rattle.std.proofs.lemmas.Bool.Decides.{nat_tests}
+use Rattle.std.specs.List.{filter, list_all}
+use Rattle.std.specs.Prelude.{Bool, if◌then◌else◌, slice_get, nat_le}
 
 -- the coordinator's log is as it was where its devices are
 pub decisions_kept : (d e : View) (x : Decisions) (which : WhichLog) (log : CoordinatorLog) → SameShape d e → IsUnchanged d e 0 → IsUnchanged d e 1 → IsDecisions d x which log → IsDecisions e x which log
@@ -107,12 +110,19 @@ module _ {D : Type 0} (r : Reading D) (d : View) (x : Store) (which : WhichLog) 
 
       by : (p : ℕ) → (p < parts_of c) ⊎ (parts_of c ≤ p) → has_changes (share_at (shares_of c.log.header.shape cs) p) ≡ true → MayPrepare (v p) (decided_by c p) u (share_at (shares_of c.log.header.shape cs) p)
       by p (inl low) changed = subst (MayPrepare (v p) (decided_by c p) u) (sym (share_is c.log.header.shape cs p low))
-          (record { fresh = may.fresh p low; new = may.new p low; ordered = may.ordered p low; each = may.put p low })
+          (record { fresh = may.fresh p low; new = may.new p low; ordered = in_order_filter (is_of_part c.log.header.shape p) cs may.ordered; each = may.put p low })
       by p (inr high) changed = absurd (none (share_at (shares_of c.log.header.shape cs) p) (share_past c.log.header.shape cs p high) changed)
         where
           none : (s : List Change) → s ≡ [] → has_changes s ≡ true → ⊥
           none [] e h = cc
           none (s ∷ ss) e h = cc
+
+  -- each share is sound
+  pub sound_of : (p : ℕ) → is_sound_prepared r c p (share c u cs p) ≡ true
+  sound_of p = join (nat_le u.boot c.log.told.boot) (list_all (is_sound_change r c p) (changes_at c.log.header.shape p cs)) (at_most u.boot c.log.told.boot may.boot) (share_fits r c p cs may.fits)
+    where
+      at_most : (a b : ℕ) → a ≤ b → nat_le a b ≡ true
+      at_most a b h = grind (arith, nat_tests)
 
   module _ (hand : IsInHand u cs mv) where
     pub may_commit : MayCommit r c v cs (next_decision c u cs mv) m conts
@@ -123,7 +133,7 @@ module _ {D : Type 0} (r : Reading D) (d : View) (x : Store) (which : WhichLog) 
       new = may.new;
       below = of_parts c.log.header.shape cs parts hand.changes;
       bits = λ p low bit. no_changes (changes_at c.log.header.shape p cs) (ap has_changes (sym (share_is c.log.header.shape cs p low)) ∙ sym (mask_bit (shares_of c.log.header.shape cs) p) ∙ bit);
-      sound = may.sound;
+      sound = λ p low. sound_of p;
       spells = may.spells;
       moves = may.moves;
       named = may.named;
@@ -134,7 +144,7 @@ module _ {D : Type 0} (r : Reading D) (d : View) (x : Store) (which : WhichLog) 
     share_reads p low =
         let own = changes_at c.log.header.shape p cs in
         ap (λ s. prepared_in (has_nulls (v p).log.header.format) (spell_prepared (prepared u s))) (share_is c.log.header.shape cs p low)
-        ∙ read_again (prepared u own) hand.unit (omega (arith, shorter_filter (is_of_part c.log.header.shape p) cs, hand.count)) (every_filter IsTold (is_of_part c.log.header.shape p) cs hand.changes) (has_nulls (v p).log.header.format) (may.put p low) (may.ordered p low)
+        ∙ read_again (prepared u own) hand.unit (omega (arith, shorter_filter (is_of_part c.log.header.shape p) cs, hand.count)) (every_filter IsTold (is_of_part c.log.header.shape p) cs hand.changes) (has_nulls (v p).log.header.format) (may.put p low) (in_order_filter (is_of_part c.log.header.shape p) cs may.ordered)
 
     pub decision_reads : c.log.told.decisions + 1 < 2 ^ 64 → entry_in (parts_of c) (spell_entry (Decides (next_decision c u cs mv))) ≡ Some (Decides (next_decision c u cs mv))
     decision_reads room = reads_entry (parts_of c) (Decides (next_decision c u cs mv)) (record { number = room; unit = hand.unit; mask = mask_small c.log.header.shape cs; move = hand.move })

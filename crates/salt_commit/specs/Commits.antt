@@ -15,10 +15,10 @@ use Rattle.salt_disk.specs.Disks.{View}
 use Rattle.salt_entries.specs.Entries.{IsPut}
 use Rattle.salt_model.specs.Kept.{Definition}
 use Rattle.salt_model.specs.Words.{has_id}
-use Rattle.salt_stands.specs.Commits.{parts_of, share}
+use Rattle.salt_stands.specs.Commits.{parts_of}
 use Rattle.salt_stands.specs.Coordinator.{Coordinator, is_sound_cont}
 use Rattle.salt_stands.specs.OpenConts.{conts_of_move, make_move}
-use Rattle.salt_stands.specs.Partition.{is_sound_prepared}
+use Rattle.salt_stands.specs.Partition.{is_sound_change, part_of_key}
 use Rattle.salt_stands.specs.Pieces.{PartView, is_prepared_in, with_decision}
 use Rattle.salt_stands.specs.Placed.{changes_at}
 use Rattle.salt_stands.specs.Reading.{Reading}
@@ -26,7 +26,11 @@ use Rattle.salt_values.specs.declared.change.Change.{Change}
 use Rattle.salt_values.specs.declared.cont.Cont.{Cont}
 use Rattle.salt_values.specs.declared.id.Id.{Id}
 use Rattle.std.specs.List.{list_all}
-use Rattle.std.specs.Prelude.{List, Some, false, length, true, ℕ, ◌+◌, ◌<◌, ◌≡◌, ◌≤◌, ◌⊎◌}
+use Rattle.std.specs.Prelude.{Bool, List, Some, false, length, true, ℕ, ◌+◌, ◌<◌, ◌≡◌, ◌≤◌, ◌⊎◌}
+
+-- the change is sound in the partition of its key
+abbrev pub fits_its_part : {D : Type 0} → Reading D → Coordinator D → Change → Bool
+fits_its_part r c ch = is_sound_change r c (part_of_key c.log.header.shape ch.key) ch
 
 -- A unit that may be committed with these changes and this move, which leaves these continuations open.
 pub record MayCommitUnit {D : Type 0} (r : Reading D) (c : Coordinator D) (v : ℕ → PartView) (u : Id) (cs : List Change) (mv : List ℕ) (m : Move) (conts : List Cont) : Type 0 where
@@ -34,9 +38,9 @@ pub record MayCommitUnit {D : Type 0} (r : Reading D) (c : Coordinator D) (v : �
   -- no entry and no decision names it
   pub fresh : (p : ℕ) → p < parts_of c → is_prepared_in u (v p).log.prepared ≡ false
   pub new : (p : ℕ) → p < parts_of c → has_id u (decided_by c p) ≡ false
-  -- in each partition its changes are in order, each key once; they fit the definitions, and can be put
-  pub ordered : (p : ℕ) → p < parts_of c → are_in_order (changes_at c.log.header.shape p cs) ≡ true
-  pub sound : (p : ℕ) → p < parts_of c → is_sound_prepared r c p (share c u cs p) ≡ true
+  -- the changes are in order, each key once; each is of a table that is defined, and fits it; and each can be put
+  pub ordered : are_in_order cs ≡ true
+  pub fits : list_all (fits_its_part r c) cs ≡ true
   pub put : (p : ℕ) → p < parts_of c → Every (IsPut (has_nulls (v p).log.header.format)) (changes_at c.log.header.shape p cs)
   -- the move goes on from the open continuations
   pub spells : move_in c.log.header.format mv ≡ Some m

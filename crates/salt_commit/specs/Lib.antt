@@ -3,3 +3,5 @@ pub mod Stores
 pub mod Shares
 pub mod Prepares
 pub mod Commits
+pub mod Openings
+pub mod Reads

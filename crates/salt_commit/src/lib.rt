@@ -4,6 +4,8 @@
 
 mod commit;
 mod error;
+mod nexts;
+mod open;
 mod prepare;
 mod reads;
 mod shares;

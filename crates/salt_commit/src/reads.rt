@@ -4,18 +4,22 @@ ghost use Rattle.salt_bytes.specs.Generations.{WhichLog};
 ghost use Rattle.salt_commit.specs.Errors.{store_err};
 ghost use Rattle.salt_commit.specs.Stores.{IsStore, Stands, reading, row_in};
 ghost use Rattle.salt_disk.specs.Disks.{HasCause, KeepsAll, OnlyFails, UnlessDown};
+ghost use Rattle.salt_eval.specs.Views.{next_row};
 ghost use Rattle.salt_model.specs.Kept.{Definition};
 ghost use Rattle.salt_stands.specs.Commits.{found_of};
 ghost use Rattle.salt_stands.specs.Coordinator.{Coordinator};
 ghost use Rattle.salt_stands.specs.Pieces.{PartView};
 ghost use Rattle.salt_values.specs.Placement.{GivesPlaceOf, TakesEachKey};
+ghost use Rattle.std.specs.Option.{option_copied};
 ghost use Rattle.std.specs.Prelude.{IfOk, IsTrue, ℕ, ◌≡◌};
 
 use crate::error::StoreErr;
+use crate::nexts::next_of_all;
 use crate::shares::part_of;
 use crate::store::Store;
 use salt_disk::Disks;
 use salt_place::{PlaceKind, Placement};
+use salt_ranges::KeyRange;
 use salt_values::{Key, Row};
 
 impl Store {
@@ -41,6 +45,28 @@ impl Store {
         let number = part_of(place, self.decisions.shape(), key);
         let part = &mut self.parts[number as usize];
         let row = part.get(disks, table, key)?;
+        Ok(row)
+    }
+
+    /// The row of the least key in the range that is above `after`, where one is given; `None` exactly where there is none.
+    /// Where memory runs out the store stands as before.
+    pub fn next_in<D: Disks>(
+        &mut self,
+        disks: &mut D,
+        table: u16,
+        range: &KeyRange,
+        after: Option<&Key>,
+    ) -> Result<Option<Row>, StoreErr>
+        requires stands { Stands (D.view disks.old) self.old }
+        ensures row { (which : WhichLog) (c : Coordinator Definition) (v : ℕ → PartView) → IsStore reading (D.view disks.old) self.old which c v → IsTrue (D.view disks.old).told
+            → IfOk result (λ row. row ≡ next_row table range.now (option_copied after.entry) (found_of c v).kept.tables) }
+        ensures stands { (which : WhichLog) (c : Coordinator Definition) (v : ℕ → PartView) → IsStore reading (D.view disks.old) self.old which c v
+            → UnlessDown (store_err result) (IsStore reading (D.view disks.new) self.new which c v) }
+        ensures kept { KeepsAll (D.view disks.old) (D.view disks.new) (store_err result) }
+        ensures cause { HasCause (D.view disks.old) (D.view disks.new) (store_err result) }
+        ensures answers { OnlyFails (store_err result) }
+    {
+        let row = next_of_all(disks, &mut self.parts, table, range, after)?;
         Ok(row)
     }
 }
