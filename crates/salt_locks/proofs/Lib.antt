@@ -1,5 +1,8 @@
+pub mod Clearing
+pub mod Dropping
 pub mod Fits
 pub mod InTurn
+pub mod Meeting
 pub mod Moved
 pub mod Near
 pub mod OneByOne

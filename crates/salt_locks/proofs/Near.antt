@@ -1,19 +1,15 @@
 -- The part of an ordered list that passes one test on its way and no longer another.
 use Rattle.salt_laws.proofs.Lists.{either}
-use Rattle.salt_locks.proofs.Orders.{IsClosedBack, every_at, every_map, less_up_to, low_meets, up_to_cases, up_to_earlier}
+use Rattle.salt_locks.proofs.Orders.{IsClosedBack, every_at, every_map, less_up_to, low_chain, low_meets, up_to_cases, up_to_earlier}
 use Rattle.salt_locks.proofs.Puts.{one_more}
 use Rattle.salt_locks.specs.Places.{AreInOrder, NoLater, is_low_at_most, is_near, is_up_to}
-use Rattle.salt_model.specs.Locks.{clashes, is_clash, is_same_owner}
 use Rattle.salt_model.specs.Words.{Every}
-use Rattle.salt_model.specs.declared.events.Owner.{Owner}
-use Rattle.salt_model.specs.declared.locks.Family.{Family}
 use Rattle.salt_model.specs.declared.locks.Lock.{Lock}
-use Rattle.salt_model.specs.declared.locks.Reach.{Reach}
-use Rattle.salt_ranges.specs.Ranges.{ends_meet, meets}
+use Rattle.salt_ranges.specs.Ranges.{ends_meet}
 use Rattle.salt_ranges.specs.declared.range.KeyRange.{KeyRange}
 use Rattle.salt_values.specs.declared.value.Value.{Value}
 use Rattle.std.proofs.Common.{ap, arith, refl, sym, ◌∙◌}
-use Rattle.std.proofs.lemmas.Bool.{and_from, and_parts, ltb-true, ne_eqb}
+use Rattle.std.proofs.lemmas.Bool.{ltb-true, ne_eqb}
 use Rattle.std.proofs.lemmas.List.Sums.{prefix_len_is}
 use Rattle.std.specs.List.{filter, prefix_len}
 use Rattle.std.specs.List.Sorted.{IsPartitionPoint, IsPartitionedBy}
@@ -84,6 +80,9 @@ before_table t = is_up_to t (λ lo. false)
 abbrev pub up_to_end : ℕ → Option Value → Lock → Bool
 up_to_end t hi = is_up_to t (λ lo. ends_meet lo hi)
 
+abbrev pub up_to_below : ℕ → Option Value → Lock → Bool
+up_to_below t low = is_up_to t (λ lo. not (is_low_at_most low lo))
+
 abbrev pub up_to_low : ℕ → Option Value → Lock → Bool
 up_to_low t low = is_up_to t (λ lo. is_low_at_most lo low)
 
@@ -95,6 +94,13 @@ none_closed t = up_to_earlier t (λ lo. false) (λ a b p q. q)
 
 pub end_closed : (t : ℕ) (hi : Option Value) → IsClosedBack (up_to_end t hi)
 end_closed t hi = up_to_earlier t (λ lo. ends_meet lo hi) (λ a b p q. low_meets a b hi p q)
+
+pub below_closed : (t : ℕ) (low : Option Value) → IsClosedBack (up_to_below t low)
+below_closed t low = up_to_earlier t (λ lo. not (is_low_at_most low lo)) (λ a b p q. still (is_low_at_most low a) (λ h. low_chain low a b h p) q)
+  where
+    still : {b : Bool} (a : Bool) → (a ≡ true → b ≡ true) → not b ≡ true → not a ≡ true
+    still true f q = absurd (cc (f refl, q))
+    still false f q = refl
 
 before_is_stricter : (t : ℕ) (hi : Option Value) (l : Lock) → before_table t l ≡ true → up_to_end t hi l ≡ true
 before_is_stricter t hi l h = either (λ a. less_up_to t (λ lo. ends_meet lo hi) l a) (λ b. absurd (cc (b.1))) (up_to_cases t (λ lo. false) l h)
@@ -116,7 +122,7 @@ pub near_part : (t : ℕ) (range : KeyRange) (ls : List Lock) → AreInOrder ls 
 near_part t range ls o = ap (λ f. filter f ls) (λ i l. near_same t range l i)
     ∙ part_between (before_table t) (up_to_end t range.hi) (none_closed t) (end_closed t range.hi) (before_is_stricter t range.hi) ls o
 
-filter_twice : {X : Type 0} (p q : X → Bool) → ((x : X) → p x ≡ true → q x ≡ true) → (xs : List X) → filter p (filter q xs) ≡ filter p xs
+pub filter_twice : {X : Type 0} (p q : X → Bool) → ((x : X) → p x ≡ true → q x ≡ true) → (xs : List X) → filter p (filter q xs) ≡ filter p xs
 filter_twice p q h [] = refl
 filter_twice {X} p q h (x ∷ xs) = by (filter_twice p q h xs) (p x) (q x) refl refl
   where
@@ -125,20 +131,3 @@ filter_twice {X} p q h (x ∷ xs) = by (filter_twice p q h xs) (p x) (q x) refl 
     by ih true false e f = absurd (cc (h x e, f))
     by ih false true e f = rw (f, e) ih
     by ih false false e f = rw (f, e) ih
-
-clash_is_near : (o : Owner) (f : Family) (r : Reach) (l : Lock) → clashes o f r l ≡ true → is_near r.table r.range l ≡ true
-clash_is_near o f r l h =
-    let other = not (is_same_owner o l.owner) in
-    let same = l.table == r.table in
-    let full = ends_meet l.range.lo l.range.hi in
-    let asked = ends_meet r.range.lo r.range.hi in
-    let below = ends_meet l.range.lo r.range.hi in
-    let above = ends_meet r.range.lo l.range.hi in
-    let a = and_parts (other && same && meets l.range r.range) (is_clash l.family l.mode f r.mode) h in
-    let b = and_parts (other && same) (meets l.range r.range) a.0 in
-    let c = and_parts (full && asked && below) above b.1 in
-    and_from same below (and_parts other same b.0).1 (and_parts (full && asked) below c.0).1
-
--- what clashes is near
-pub clash_near : (o : Owner) (f : Family) (r : Reach) (ls : List Lock) → filter (clashes o f r) (filter (is_near r.table r.range) ls) ≡ filter (clashes o f r) ls
-clash_near o f r ls = filter_twice (clashes o f r) (is_near r.table r.range) (clash_is_near o f r) ls

@@ -14,7 +14,7 @@ use Rattle.std.specs.Prelude.{Bool, List, None, Option, Some, [], false, get_or,
 use Rattle.std.specs.declared.cmp.Ordering.{Ordering}
 use Rattle.std.specs.declared.cmp.Ordering.TheVariants.{Equal, Greater, Less}
 
-value_chain : (a b c : Value) → is_value_at_most a b ≡ true → is_value_at_most b c ≡ true → is_value_at_most a c ≡ true
+pub value_chain : (a b c : Value) → is_value_at_most a b ≡ true → is_value_at_most b c ≡ true → is_value_at_most a c ≡ true
 value_chain a b c p q = ap not (upto value_total a b c (not-true (is_gt (value_cmp a b)) p) (not-true (is_gt (value_cmp b c)) q))
 
 turned : (r : Ordering) → not (is_gt r) ≡ false → not (is_gt (ordering_reverse r)) ≡ true
@@ -22,7 +22,7 @@ turned Less h = cc
 turned Equal h = cc
 turned Greater h = refl
 
-value_other : (a b : Value) → is_value_at_most a b ≡ false → is_value_at_most b a ≡ true
+pub value_other : (a b : Value) → is_value_at_most a b ≡ false → is_value_at_most b a ≡ true
 value_other a b h = ap (λ r. not (is_gt r)) (value_total.antisymm b a) ∙ turned (value_cmp a b) h
 
 pub low_chain : (a b c : Option Value) → is_low_at_most a b ≡ true → is_low_at_most b c ≡ true → is_low_at_most a c ≡ true

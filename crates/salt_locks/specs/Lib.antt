@@ -1,3 +1,4 @@
+pub mod Clear
 pub mod Places
 pub mod Tables
 pub mod Turns

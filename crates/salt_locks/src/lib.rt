@@ -2,7 +2,9 @@
 #![tactic(auto)]
 
 mod clash;
+mod clear;
 mod copies;
+mod drops;
 mod laws;
 mod owners;
 mod places;

@@ -4,7 +4,7 @@ ghost use Rattle.salt_locks.specs.Places.{AreInOrder, is_low_at_most, is_near, i
 ghost use Rattle.salt_model.specs.declared.locks.Lock.{Lock};
 ghost use Rattle.salt_ranges.specs.Ranges.{ends_meet};
 ghost use Rattle.std.specs.List.{filter, prefix_len};
-ghost use Rattle.std.specs.Prelude.{false, length, ◌≡◌, ◌≤◌};
+ghost use Rattle.std.specs.Prelude.{false, length, not, ◌≡◌, ◌≤◌};
 
 use salt_model::Lock;
 use salt_ranges::KeyRange;
@@ -43,7 +43,7 @@ fn count_before(locks: &[Lock], table: u16) -> usize
 }
 
 /// How many of the locks are on lesser tables, or on this one with a lower end that is not above an upper end.
-fn count_to(locks: &[Lock], table: u16, hi: &Option<Key>) -> usize
+pub fn count_to(locks: &[Lock], table: u16, hi: &Option<Key>) -> usize
     requires { AreInOrder locks.now }
     ensures value { result ≡ prefix_len (is_up_to table (λ lo. ends_meet lo hi.now)) locks.now }
     ensures bound { result ≤ length locks.now }
@@ -65,6 +65,19 @@ pub fn count_no_later(locks: &[Lock], table: u16, low: &Option<Key>) -> usize
         |lock: &Lock| -> bool
             ensures { result ≡ is_up_to table (λ lo. is_low_at_most lo low.entry.now) lock.now }
         { lock.table < table || (lock.table == table && is_low_at_most(&lock.range.lo, low)) },
+    )
+}
+
+/// How many of the locks are on lesser tables, or on this one with a lower end below this one.
+pub fn count_below(locks: &[Lock], table: u16, low: &Option<Key>) -> usize
+    requires { AreInOrder locks.now }
+    ensures value { result ≡ prefix_len (is_up_to table (λ lo. not (is_low_at_most low.now lo))) locks.now }
+    ensures bound { result ≤ length locks.now }
+{
+    locks.partition_point(
+        |lock: &Lock| -> bool
+            ensures { result ≡ is_up_to table (λ lo. not (is_low_at_most low.entry.now lo)) lock.now }
+        { lock.table < table || (lock.table == table && !is_low_at_most(low, &lock.range.lo)) },
     )
 }
 

@@ -10,7 +10,9 @@ ghost use Rattle.std.specs.List.{filter};
 ghost use Rattle.std.specs.Prelude.{IfOk, OnErr, OnOk, [], length, map, ◌≡◌};
 
 use crate::clash::owners_against;
+use crate::clear::{cover, is_clear, met};
 use crate::copies::copy_range;
+use crate::drops::{drop_all, drop_few};
 use crate::owners::is_same_owner;
 use crate::places::{count_no_later, near};
 use crate::turns::{TakenLock, locks_in_turn};
@@ -37,16 +39,18 @@ impl From<AllocError> for TakeErr {
     }
 }
 
-/// The held locks, by table and then by lower end, those without one first, and of each the number of its statement.
-/// Contracts see a list of locks with their numbers.
+/// The held locks, by table and then by lower end, those without one first, of each the number of its statement, and whether it
+/// is clear, so that a search need not look before it. Contracts see a list of locks with their numbers.
 #[derive(Drop)]
 pub struct LockTable {
     numbers: Vec<u64>,
+    clear: Vec<bool>,
     locks: Vec<Lock>,
 }
 
 impl Model for LockTable {
     ghost use Rattle.salt_keeps.specs.KeptLocks.{Numbered};
+    ghost use Rattle.salt_locks.specs.Clear.{IsMarked};
     ghost use Rattle.salt_locks.specs.Places.{AreInOrder};
     ghost use Rattle.salt_locks.specs.Tables.{numbered};
     ghost use Rattle.std.specs.Prelude.{List, length, ◌≡◌};
@@ -55,7 +59,7 @@ impl Model for LockTable {
 
     ghost view = { λ t. numbered t.numbers.items t.locks.items };
 
-    ghost invariant = { λ t. (length t.numbers.items ≡ length t.locks.items) × AreInOrder t.locks.items };
+    ghost invariant = { λ t. (length t.numbers.items ≡ length t.locks.items) × AreInOrder t.locks.items × IsMarked t.clear.items t.locks.items };
 }
 
 fn lock_of(alloc: Global, owner: Owner, family: Family, reach: &Reach) -> Result<Lock, AllocError>
@@ -89,23 +93,6 @@ fn salt_all(unit: Id, base: Id, locks: &mut Vec<Lock>)
     }
 }
 
-/// Leaves the numbers of the locks of others.
-fn drop_numbers(owner: Owner, numbers: &mut Vec<u64>, locks: &[Lock])
-    requires { length numbers.old.items ≡ length locks.now }
-    ensures { numbers.new.items ≡ map (λ n. n.number) (filter (is_of_another owner) (numbered numbers.old.items locks.now)) }
-{
-    let mut kept = 0;
-    let mut at = 0;
-    while at < locks.len() {
-        if !is_same_owner(owner, locks[at].owner) {
-            numbers[kept] = numbers[at];
-            kept += 1;
-        }
-        at += 1;
-    }
-    numbers.truncate(kept);
-}
-
 impl LockTable {
     /// No lock is held.
     pub fn new(alloc: Global) -> LockTable
@@ -113,6 +100,7 @@ impl LockTable {
     {
         LockTable {
             numbers: Vec::new(alloc),
+            clear: Vec::new(alloc),
             locks: Vec::new(alloc),
         }
     }
@@ -157,13 +145,8 @@ impl LockTable {
     ) -> Result<Owners, AllocError>
         ensures { IfOk result (λ owners. owners ≡ owners_against owner family reach.now (locks_in self.now)) }
     {
-        owners_against(
-            alloc,
-            self.near(reach.table, &reach.range),
-            owner,
-            family,
-            reach,
-        )
+        let locks = met(&self.locks, &self.clear, reach.table, &reach.range);
+        owners_against(alloc, locks, owner, family, reach)
     }
 
     /// Puts a lock in its place; without memory all stays.
@@ -171,9 +154,13 @@ impl LockTable {
         ensures ok { OnOk result (self.new ≡ put (record { number = number; lock = lock }) self.old) }
         ensures err { OnErr result (self.new ≡ self.old) }
     {
-        self.numbers.reserve(1)?;
         let place = count_no_later(&self.locks, lock.table, &lock.range.lo);
+        let is_clear = is_clear(&self.locks, &self.clear, place, &lock);
+        cover(&mut self.clear, &self.locks, place, &lock);
+        self.numbers.reserve(1)?;
+        self.clear.reserve(1)?;
         self.locks.insert(place, lock)?;
+        self.clear.insert(place, is_clear)?;
         self.numbers.insert(place, number)?;
         Ok(())
     }
@@ -225,7 +212,9 @@ impl LockTable {
     pub fn drop_owner(&mut self, owner: Owner)
         ensures { self.new ≡ filter (is_of_another owner) self.old }
     {
-        drop_numbers(owner, &mut self.numbers, &self.locks);
-        self.locks.retain(|lock| !is_same_owner(owner, lock.owner));
+        if drop_few(owner, &mut self.numbers, &mut self.clear, &mut self.locks) == 0 {
+            return;
+        }
+        drop_all(owner, &mut self.numbers, &mut self.clear, &mut self.locks);
     }
 }

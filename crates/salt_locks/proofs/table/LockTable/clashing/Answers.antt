@@ -1,8 +1,10 @@
-use Rattle.salt_locks.proofs.Near.{clash_near}
+use Rattle.salt_locks.proofs.Meeting.{clash_met}
+use Rattle.salt_locks.proofs.Puts.{locks_beside}
 use Rattle.salt_locks.proofs.table.LockTable.clashing.Goals as goal
+use Rattle.salt_locks.specs.Clear.{is_met}
 use Rattle.salt_locks.specs.Tables.{locks_in}
 use Rattle.salt_model.specs.Locks.{clashes, owners_of}
-use Rattle.std.proofs.Common.{ap, subst, ◌≡◌, ◌∙◌}
+use Rattle.std.proofs.Common.{ap, subst, sym, ◌≡◌, ◌∙◌}
 use Rattle.std.specs.List.{filter}
 use Rattle.std.specs.Prelude.{IfOk}
 
@@ -11,4 +13,9 @@ returns c =
     let o = c.args.owner in
     let f = c.args.family in
     let r = c.args.reach.now in
-    subst (λ all. IfOk c.owners_against.result (λ owners. owners ≡ all)) (ap owners_of (ap (filter (clashes o f r)) c.near.ensures ∙ clash_near o f r (locks_in c.args.self.now))) c.owners_against.ensures
+    let ls = c.self.inside.locks.items in
+    let here : c.deref.result.now ≡ locks_in c.args.self.now = c.deref.ensures.value ∙ (sym (locks_beside c.self.inside.numbers.items ls c.self.invariant.0) ∙ ap locks_in c.self.view_is) in
+    subst (λ all. IfOk c.owners_against.result (λ owners. owners ≡ all))
+    (ap owners_of (sym (clash_met o f r c.met-locks.result.now)
+    ∙ (ap (filter (clashes o f r)) (c.met-locks.ensures ∙ ap (filter (is_met r.table r.range)) here) ∙ clash_met o f r (locks_in c.args.self.now))))
+    c.owners_against.ensures

@@ -1,7 +1,7 @@
 use Rattle.salt_locks.proofs.Moved.{else_step, then_step}
 use Rattle.salt_locks.proofs.Puts.{numbers_left}
-use Rattle.salt_locks.proofs.table.drop_numbers.Goals as goal
-use Rattle.salt_locks.proofs.table.drop_numbers.Goals.{then-not-is_same_owner, else-not-is_same_owner}
+use Rattle.salt_locks.proofs.drops.drop_numbers.Goals as goal
+use Rattle.salt_locks.proofs.drops.drop_numbers.Goals.{then-not-is_same_owner, else-not-is_same_owner}
 use Rattle.std.proofs.Common.{ap, sym}
 
 pub loop-at-preserved : goal.loop-at-preserved

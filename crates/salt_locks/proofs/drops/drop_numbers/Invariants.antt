@@ -1,4 +1,4 @@
-use Rattle.salt_locks.proofs.table.drop_numbers.Given as goal
+use Rattle.salt_locks.proofs.drops.drop_numbers.Given as goal
 use Rattle.salt_locks.specs.Tables.{is_of_another, numbered}
 use Rattle.std.proofs.Common.{length, map, ◌-◌, ◌++◌, ◌≡◌, ◌≤◌}
 use Rattle.std.specs.List.{filter}

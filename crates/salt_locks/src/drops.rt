@@ -1,0 +1,99 @@
+//! An owner's locks go, with what stands beside them.
+
+ghost use Rattle.salt_locks.specs.Clear.{IsMarked};
+ghost use Rattle.salt_locks.specs.Places.{AreInOrder};
+ghost use Rattle.salt_locks.specs.Tables.{is_of_another, numbered};
+ghost use Rattle.std.specs.List.{filter, remove};
+ghost use Rattle.std.specs.Prelude.{length, map, ◌<◌, ◌≡◌};
+
+use crate::clear::{ends_by, mark};
+use crate::owners::is_same_owner;
+use salt_model::{Lock, Owner};
+
+/// So many locks go one after another; where there are more, all are moved at once.
+const FEW: usize = 8;
+
+/// The lock at a place goes. Whether it was on more than one key.
+fn remove_at(
+    at: usize,
+    numbers: &mut Vec<u64>,
+    clear: &mut Vec<bool>,
+    locks: &mut Vec<Lock>,
+) -> bool
+    requires below { at < length locks.old.items }
+    requires numbers { length numbers.old.items ≡ length locks.old.items }
+    requires clear { length clear.old.items ≡ length locks.old.items }
+    ensures numbers { numbers.new.items ≡ remove numbers.old.items at }
+    ensures clear { clear.new.items ≡ remove clear.old.items at }
+    ensures locks { locks.new.items ≡ remove locks.old.items at }
+{
+    numbers.remove(at);
+    clear.remove(at);
+    let lock = locks.remove(at);
+    !ends_by(&lock, &lock)
+}
+
+/// An owner's locks go, from the last one on, until a few have. How many locks it has not looked at.
+pub fn drop_few(
+    owner: Owner,
+    numbers: &mut Vec<u64>,
+    clear: &mut Vec<bool>,
+    locks: &mut Vec<Lock>,
+) -> usize
+    requires numbers { length numbers.old.items ≡ length locks.old.items }
+    requires order { AreInOrder locks.old.items }
+    requires marked { IsMarked clear.old.items locks.old.items }
+    ensures numbers { length numbers.new.items ≡ length locks.new.items }
+    ensures order { AreInOrder locks.new.items }
+    ensures marked { IsMarked clear.new.items locks.new.items }
+    ensures others { filter (is_of_another owner) (numbered numbers.new.items locks.new.items) ≡ filter (is_of_another owner) (numbered numbers.old.items locks.old.items) }
+    ensures all { result ≡ 0 → numbered numbers.new.items locks.new.items ≡ filter (is_of_another owner) (numbered numbers.old.items locks.old.items) }
+{
+    let mut is_long = false;
+    let mut gone = 0;
+    let mut left = locks.len();
+    while left > 0 && gone < FEW {
+        left -= 1;
+        if is_same_owner(owner, locks[left].owner) {
+            is_long = remove_at(left, numbers, clear, locks) || is_long;
+            gone += 1;
+        }
+    }
+    if is_long {
+        mark(clear, locks);
+    }
+    left
+}
+
+/// Leaves the numbers of the locks of others.
+fn drop_numbers(owner: Owner, numbers: &mut Vec<u64>, locks: &[Lock])
+    requires { length numbers.old.items ≡ length locks.now }
+    ensures { numbers.new.items ≡ map (λ n. n.number) (filter (is_of_another owner) (numbered numbers.old.items locks.now)) }
+{
+    let mut kept = 0;
+    let mut at = 0;
+    while at < locks.len() {
+        if !is_same_owner(owner, locks[at].owner) {
+            numbers[kept] = numbers[at];
+            kept += 1;
+        }
+        at += 1;
+    }
+    numbers.truncate(kept);
+}
+
+/// An owner's locks go, all at once.
+pub fn drop_all(owner: Owner, numbers: &mut Vec<u64>, clear: &mut Vec<bool>, locks: &mut Vec<Lock>)
+    requires numbers { length numbers.old.items ≡ length locks.old.items }
+    requires order { AreInOrder locks.old.items }
+    requires clear { length clear.old.items ≡ length locks.old.items }
+    ensures numbers { length numbers.new.items ≡ length locks.new.items }
+    ensures order { AreInOrder locks.new.items }
+    ensures marked { IsMarked clear.new.items locks.new.items }
+    ensures all { numbered numbers.new.items locks.new.items ≡ filter (is_of_another owner) (numbered numbers.old.items locks.old.items) }
+{
+    drop_numbers(owner, numbers, locks);
+    locks.retain(|lock| !is_same_owner(owner, lock.owner));
+    clear.truncate(locks.len());
+    mark(clear, locks);
+}
