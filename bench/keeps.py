@@ -1,7 +1,9 @@
 #!/usr/bin/env python3
 """Times what is kept of locks, programs and waits.
 
-- locks: taking a lock and dropping its owner's beside 10 to 10,000 locks on other keys, on the least key and on the greatest
+- locks: `take`, and `drop_owner` of an owner with one lock, beside 10 to 10,000 locks on other keys, on the least key
+  and on the greatest. There is no clock to ask, so a `take` is told by rounds that take a tenth as many locks as there are, at least ten,
+  and drop them together (what that drop costs is in it); and a drop by rounds of one of each, less a `take`
 - programs: 10 to 1,000 that read from each other in a chain, or all from one, from the first reading to the end of the last
 - waits: the victim of 63 units that wait each for the next, each for all later ones, and in one circle
 
@@ -15,7 +17,7 @@ import subprocess, sys
 from timing import compared, seconds
 
 LOCKS = [10, 100, 1_000, 10_000]
-LOCK_TIMES = {10: 200_000, 100: 100_000, 1_000: 20_000, 10_000: 2_000}
+LOCK_TIMES = {10: 1_000_000, 100: 1_000_000, 1_000: 200_000, 10_000: 20_000}
 PROGRAMS = [10, 100, 1_000]
 PROGRAM_TIMES = {10: 10_000, 100: 1_000, 1_000: 100}
 UNITS = 63
@@ -38,21 +40,34 @@ def measured(program, kind, many, times, answer, nothing):
 
 
 def rows():
-    for kind in ["least", "greatest"]:
-        for many in LOCKS:
-            yield kind, many, LOCK_TIMES[many], many, many
     for kind in ["chain", "star"]:
         for many in PROGRAMS:
             yield kind, many, PROGRAM_TIMES[many], many * PROGRAM_TIMES[many], 0
-    for kind, found in [("one", 0), ("all", 0), ("circle", WAIT_TIMES)]:
+    for kind, found in [("next", 0), ("later", 0), ("circle", WAIT_TIMES)]:
         yield kind, UNITS, WAIT_TIMES, found, 0
+
+
+def shown(kind, many, name, took):
+    print(f"{kind:14} {many:6}, {name}: {took * 1e6:14.3f} µs", flush=True)
+
+
+def locks(programs, key, many):
+    """The times of a `take`, and of the drop of one lock."""
+    taken = max(many // 10, 10)
+    for name, program in programs:
+        take = measured(program, f"many {key}", many, LOCK_TIMES[many] // taken, many, many) / taken
+        shown(f"take {key}", many, name, take)
+        shown(f"drop {key}", many, name, measured(program, f"one {key}", many, LOCK_TIMES[many], many, many) - take)
 
 
 def main():
     programs = compared("keeps_bench")
+    for key in ["least", "greatest"]:
+        for many in LOCKS:
+            locks(programs, key, many)
     for kind, many, times, answer, nothing in rows():
         for name, program in programs:
-            print(f"{kind:8} {many:6}, {name}: {measured(program, kind, many, times, answer, nothing) * 1e6:14.3f} µs", flush=True)
+            shown(kind, many, name, measured(program, kind, many, times, answer, nothing))
     return 0
 
 

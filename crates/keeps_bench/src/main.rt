@@ -53,11 +53,18 @@ fn numbers(line: &[u8]) -> (u32, u32) {
 /// Does what a line says; how many locks there are after all, programs were released, or victims found.
 fn done(alloc: Global, line: &[u8]) -> Result<u64, BenchErr> {
     let (many, times) = numbers(line);
-    if line.starts_with(b"least ") {
-        return Ok(locks::taken(alloc, many, times, 0)?);
+    let greater = i64::from(many).saturating_add(1);
+    if line.starts_with(b"one least ") {
+        return Ok(locks::taken_one(alloc, many, times, 0)?);
     }
-    if line.starts_with(b"greatest ") {
-        return Ok(locks::taken(alloc, many, times, i64::from(many).saturating_add(1))?);
+    if line.starts_with(b"one greatest ") {
+        return Ok(locks::taken_one(alloc, many, times, greater)?);
+    }
+    if line.starts_with(b"many least ") {
+        return Ok(locks::taken_many(alloc, many, times, 0, -1)?);
+    }
+    if line.starts_with(b"many greatest ") {
+        return Ok(locks::taken_many(alloc, many, times, greater, 1)?);
     }
     if line.starts_with(b"chain ") {
         return Ok(programs::released(alloc, many, times, programs::Shape::Chain)?);
@@ -65,10 +72,10 @@ fn done(alloc: Global, line: &[u8]) -> Result<u64, BenchErr> {
     if line.starts_with(b"star ") {
         return Ok(programs::released(alloc, many, times, programs::Shape::Star)?);
     }
-    if line.starts_with(b"one ") {
+    if line.starts_with(b"next ") {
         return Ok(waits::found(alloc, many, times, waits::Edges::Next)?);
     }
-    if line.starts_with(b"all ") {
+    if line.starts_with(b"later ") {
         return Ok(waits::found(alloc, many, times, waits::Edges::Later)?);
     }
     if line.starts_with(b"circle ") {
