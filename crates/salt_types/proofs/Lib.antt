@@ -1,0 +1,12 @@
+mod Arguments
+mod Blocks
+mod Conts
+mod Defining
+mod Fields
+mod Judged
+mod Rows
+mod Runs
+mod Statements
+mod Told
+mod Values
+mod Words

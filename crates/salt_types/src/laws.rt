@@ -1,0 +1,89 @@
+//! The laws, each on a function that does nothing.
+
+ghost use Rattle.salt_ast.specs.Judgement.{Kind, bindings, expr_kind, may_be_null, statement_fault, table_fault, takes};
+ghost use Rattle.salt_ast.specs.ProgramJudgement.{program_fault, session_scope};
+ghost use Rattle.salt_ast.specs.Spelling.{SpellsTable};
+ghost use Rattle.salt_ast.specs.declared.programs.ProgramDef.{ProgramDef};
+ghost use Rattle.salt_ast.specs.declared.trees.Expr.{Expr};
+ghost use Rattle.salt_ast.specs.declared.trees.Field.{Field};
+ghost use Rattle.salt_ast.specs.declared.trees.Scope.{Scope};
+ghost use Rattle.salt_ast.specs.declared.trees.Statement.{Statement};
+ghost use Rattle.salt_ast.specs.declared.trees.TableDef.{TableDef};
+ghost use Rattle.salt_definitions.specs.Fitting.{are_of_columns, is_of_column};
+ghost use Rattle.salt_model.specs.After.{branched, committed};
+ghost use Rattle.salt_model.specs.Eval.{eval, named_values, value_of};
+ghost use Rattle.salt_model.specs.Kept.{Kept, OfProgram, OfTable, block_of_kind, nothing_kept, programs_of, schema_of, vars_of_kind};
+ghost use Rattle.salt_model.specs.Statements.{Run, outcome_of, serial};
+ghost use Rattle.salt_model.specs.Tables.{Edits, Tables, put_changes, with_changes};
+ghost use Rattle.salt_model.specs.Words.{Every};
+ghost use Rattle.salt_model.specs.declared.events.UnitKind.{UnitKind};
+ghost use Rattle.salt_model.specs.declared.vars.Binding.{Binding};
+ghost use Rattle.salt_types.specs.Typed.{AreApart, AreChangesOf, AreEditsOf, AreRowsOf, AreVariables, IsJudgedFor, IsKindFor};
+ghost use Rattle.salt_types.specs.Typed.{IsProperProgram, IsProperTable, IsTyped, IsTypedDone, IsTypedRun, has_key, is_datum_of, scope_of_kind};
+ghost use Rattle.salt_values.specs.declared.change.Change.{Change};
+ghost use Rattle.salt_values.specs.declared.value.Value.{Value};
+ghost use Rattle.std.specs.Prelude.{IfOk, IfSome, List, None, Some, [], true, ℕ, ◌++◌, ◌∷◌, ◌≡◌};
+
+/// An expression that is judged to be of a kind gives a value or a truth value of this kind, or a cause; NULL only where it may.
+/// What a column takes gives a value of the column, or a cause.
+pub fn expressions_give_their_kinds()
+    ensures kinds { (columns variables : List Field) (row : List Value) (vars : List Binding) (e : Expr) (k : Kind) →
+        are_of_columns columns row ≡ true → AreVariables variables vars → expr_kind columns variables e ≡ Some k →
+        IfOk (eval (record { columns = named_values columns row; vars = vars }) e) (λ d. is_datum_of (may_be_null columns e) k d ≡ true) }
+    ensures columns { (columns variables : List Field) (row : List Value) (vars : List Binding) (f : Field) (e : Expr) →
+        are_of_columns columns row ≡ true → AreVariables variables vars → takes columns variables f e ≡ true →
+        IfOk (value_of (record { columns = named_values columns row; vars = vars }) e) (λ v. is_of_column f v ≡ true) }
+{}
+
+/// A statement that is not refused, done on rows that fit and with variables of its scope, makes changes that fit and leaves
+/// variables of its scope; so do statements one after another, and their changes fit the tables that they make.
+pub fn statements_keep_types()
+    ensures one { (schema : List TableDef) (scope : Scope) (es : Tables) (vars : List Binding) (st : Statement) →
+        Every IsProperTable schema → AreApart (bindings scope) → statement_fault schema scope st ≡ None →
+        AreRowsOf schema es → AreVariables (bindings scope) vars → IsTypedDone schema (bindings scope) (outcome_of schema es vars st) }
+    ensures all { (schema : List TableDef) (scope : Scope) (es : Tables) (vars : List Binding) (sts : List Statement) →
+        Every IsProperTable schema → AreApart (bindings scope) → Every (λ (st : Statement). statement_fault schema scope st ≡ None) sts →
+        AreRowsOf schema es → AreVariables (bindings scope) vars → IsTypedRun schema (bindings scope) (serial schema es vars sts) }
+{}
+
+/// Tables with changes that fit have rows that fit, and edits with them still fit.
+pub fn changes_keep_rows()
+    ensures rows { (schema : List TableDef) (cs : List Change) (es : Tables) → AreChangesOf schema cs → AreRowsOf schema es →
+        AreRowsOf schema (with_changes cs es) }
+    ensures edits { (schema : List TableDef) (cs : List Change) (ds : Edits) → AreChangesOf schema cs → AreEditsOf schema ds.list →
+        AreEditsOf schema (put_changes cs ds).list }
+{}
+
+/// A statement that is not refused is not refused when one table more is defined.
+pub fn judged_statements_stay_judged()
+    ensures { (schema : List TableDef) (scope : Scope) (d : TableDef) (st : Statement) → statement_fault schema scope st ≡ None →
+        statement_fault (schema ++ d ∷ []) scope st ≡ None }
+{}
+
+/// The key of a table that bytes spell may not be NULL.
+pub fn spelled_tables_have_keys()
+    ensures { (bytes : List ℕ) (d : TableDef) → SpellsTable bytes d → has_key d.columns ≡ true }
+{}
+
+/// What is kept fits its definitions with one more that is not refused; nothing kept does.
+pub fn definitions_keep_types()
+    ensures nothing { IsTyped nothing_kept }
+    ensures table { (k : Kept) (d : TableDef) → IsTyped k → table_fault (schema_of k) d ≡ None → has_key d.columns ≡ true →
+        IsTyped (record k { definitions = k.definitions ++ OfTable d ∷ [] }) }
+    ensures program { (k : Kept) (p : ProgramDef) → IsTyped k → program_fault (schema_of k) (programs_of k) p ≡ None →
+        IsTyped (record k { definitions = k.definitions ++ OfProgram p ∷ [] }) }
+{}
+
+/// A unit begins with variables of its program, and none of its program's or part's statements is refused.
+pub fn units_begin_typed()
+    ensures vars { (k : Kept) (u : UnitKind) → IsTyped k → IsKindFor k u → AreVariables (bindings (scope_of_kind k u)) (vars_of_kind k u) }
+    ensures apart { (k : Kept) (u : UnitKind) → IsTyped k → AreApart (bindings (scope_of_kind k u)) }
+    ensures judged { (k : Kept) (u : UnitKind) → IsTyped k → IfSome (block_of_kind k u) (Every (IsJudgedFor k u)) }
+{}
+
+/// What is kept behind the commit of a unit, whose statements were of their types, or behind its branch fits its definitions.
+pub fn ends_keep_types()
+    ensures commit { (k : Kept) (n : ℕ) (u : UnitKind) (run : Run) → IsTyped k → IsKindFor k u →
+        IsTypedRun (schema_of k) (bindings (scope_of_kind k u)) run → IsTyped (committed k n (Some u) run) }
+    ensures branch { (k : Kept) (n : ℕ) (u : UnitKind) → IsTyped k → IsKindFor k u → IsTyped (branched k n (Some u)) }
+{}
