@@ -20,11 +20,11 @@ use Rattle.std.specs.List.{list_all}
 use Rattle.std.specs.Option.{option_or}
 use Rattle.std.specs.Prelude.{Bool, List, None, Option, Some, [], cond, false, not, option_map, refl, true, ℕ, ◌&&◌, ◌++◌, ◌∷◌, ◌≡◌}
 
-one-is-none : {A : Type 0} (x y : Option A) → option_or x y ≡ None → x ≡ None
+pub one-is-none : {A : Type 0} (x y : Option A) → option_or x y ≡ None → x ≡ None
 one-is-none None y h = refl
 one-is-none (Some x) y h = absurd cc
 
-unmapped : {A B : Type 0} (f : A → B) (o : Option A) → option_map f o ≡ None → o ≡ None
+pub unmapped : {A B : Type 0} (f : A → B) (o : Option A) → option_map f o ≡ None → o ≡ None
 unmapped f None h = refl
 unmapped f (Some x) h = absurd cc
 

@@ -1,12 +1,16 @@
+mod AllTyped
 mod Arguments
 mod Blocks
+mod Coming
 mod Conts
 mod Defining
 mod Fields
 mod Judged
 mod Rows
 mod Runs
+mod Sound
 mod Statements
+mod States
 mod Told
 mod Values
 mod Words

@@ -1,21 +1,27 @@
--- The laws of expressions, of variables as they are held.
+-- What the laws tell of expressions, of variables as they are held, and of texts.
 use Rattle.salt_ast.specs.Judgement.{Kind, expr_kind, may_be_null, takes}
+use Rattle.salt_ast.specs.Lines.{IsLine, of_crash, of_go, of_go_all, of_program, of_session, of_show_bases, of_show_locks, of_table}
 use Rattle.salt_ast.specs.Tables.{IsField, IsTable, int_field, is_table, text_field}
 use Rattle.salt_ast.specs.Grammar.{Spells}
+use Rattle.salt_ast.specs.declared.lines.Line.{Line}
 use Rattle.salt_ast.specs.declared.trees.Expr.{Expr}
 use Rattle.salt_ast.specs.declared.trees.Field.{Field}
 use Rattle.salt_ast.specs.declared.trees.TableDef.{TableDef}
 use Rattle.salt_definitions.specs.Fitting.{are_of_columns, is_of_column}
 use Rattle.salt_laws.proofs.Every as each
 use Rattle.salt_model.specs.Eval.{eval, named_values, value_of}
+use Rattle.salt_model.specs.Lines.{AskInOrder, Asks, has_other_byte, is_idle, is_line, is_long, is_no_line, passes}
+use Rattle.salt_model.specs.Trace.{Asked, Tree}
+use Rattle.salt_model.specs.Words.{Every}
 use Rattle.salt_model.specs.declared.events.Cause.{Cause}
 use Rattle.salt_model.specs.declared.vars.Binding.{Binding}
 use Rattle.salt_tokens.specs.Symbols.{Symbols}
 use Rattle.salt_types.proofs.Values.{expression-given, taken}
+use Rattle.salt_types.specs.Played.{HasKey}
 use Rattle.salt_types.specs.Typed.{AreVariables, has_key, is_datum_of}
 use Rattle.salt_values.specs.declared.value.Value.{Value}
 use Rattle.std.proofs.Common.{subst, sym}
-use Rattle.std.specs.Prelude.{Err, IfOk, List, Ok, Result, Some, not, refl, true, ◌≡◌}
+use Rattle.std.specs.Prelude.{Err, IfOk, List, Ok, Result, Some, not, refl, true, ◌≡◌, [], ℕ, ◌∷◌}
 
 told : {A : Type 0} (P : A → Type 0) (r : Result A Cause) → each.IfOk P r → IfOk r P
 told P (Err c) h = h
@@ -42,3 +48,29 @@ field-key _ _ text_field = refl
 
 pub table-key : (Inner : Spells) (ts : Symbols) (d : TableDef) → IsTable Inner ts d → has_key d.columns ≡ true
 table-key Inner _ _ (is_table f fs es) = field-key _ _ f
+
+-- LINES
+
+line-key : (Inner Deeper : Spells) (ts : Symbols) (l : Line) → IsLine Inner Deeper ts l → HasKey (Tree l)
+line-key Inner Deeper _ _ (of_table t) = table-key Deeper _ _ t
+line-key Inner Deeper _ _ (of_program p) = tt
+line-key Inner Deeper _ _ (of_session a) = tt
+line-key Inner Deeper _ _ of_go = tt
+line-key Inner Deeper _ _ of_go_all = tt
+line-key Inner Deeper _ _ of_show_locks = tt
+line-key Inner Deeper _ _ of_show_bases = tt
+line-key Inner Deeper _ _ (of_crash s) = tt
+
+asked-key : (text : List ℕ) (asked : Asked) → Asks text asked → HasKey asked
+asked-key text _ (is_long h) = tt
+asked-key text _ (is_idle h g) = tt
+asked-key text _ (has_other_byte h g b) = tt
+asked-key text _ (is_no_line r n) = tt
+asked-key text _ (passes r s l) = tt
+asked-key text _ (is_line r within) = line-key _ _ _ _ within.parentheses.spelled
+
+pub asked-keys : (texts : List (List ℕ)) (lines : List Asked) → AskInOrder texts lines → Every HasKey lines
+asked-keys [] [] h = tt
+asked-keys (text ∷ texts) (line ∷ lines) h = (asked-key text line h.0, asked-keys texts lines h.1)
+asked-keys [] (line ∷ lines) h = absurd h
+asked-keys (text ∷ texts) [] h = absurd h

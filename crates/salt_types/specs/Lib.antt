@@ -1,2 +1,4 @@
 pub mod Typed
 pub mod Examples
+pub mod Played
+pub mod States

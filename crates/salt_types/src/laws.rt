@@ -9,20 +9,33 @@ ghost use Rattle.salt_ast.specs.declared.trees.Field.{Field};
 ghost use Rattle.salt_ast.specs.declared.trees.Scope.{Scope};
 ghost use Rattle.salt_ast.specs.declared.trees.Statement.{Statement};
 ghost use Rattle.salt_ast.specs.declared.trees.TableDef.{TableDef};
-ghost use Rattle.salt_definitions.specs.Fitting.{are_of_columns, is_of_column};
+ghost use Rattle.salt_definitions.specs.Fitting.{are_of_columns, definitions_reading, is_of_column, tables_of};
+ghost use Rattle.salt_keeps.specs.Keeps.{KeepsUnits};
+ghost use Rattle.salt_keeps.specs.Laws.{IsSound};
+ghost use Rattle.salt_keeps.specs.OpenUnits.{UnitState};
 ghost use Rattle.salt_model.specs.After.{branched, committed};
+ghost use Rattle.salt_model.specs.Ends.{kept_with};
+ghost use Rattle.salt_model.specs.Everywhere.{Each};
+ghost use Rattle.salt_model.specs.Lines.{AskInOrder};
+ghost use Rattle.salt_model.specs.Next.{flight};
+ghost use Rattle.salt_model.specs.Played.{IsPlayed};
+ghost use Rattle.salt_model.specs.Trace.{Asked, Trace, lines_of, start_of};
 ghost use Rattle.salt_model.specs.Eval.{eval, named_values, value_of};
-ghost use Rattle.salt_model.specs.Kept.{Kept, OfProgram, OfTable, block_of_kind, nothing_kept, programs_of, schema_of, vars_of_kind};
+ghost use Rattle.salt_model.specs.Kept.{Definition, Kept, OfProgram, OfTable, WellKept, block_of_kind, nothing_kept, programs_of, schema_of, vars_of_kind};
 ghost use Rattle.salt_model.specs.Statements.{Run, outcome_of, serial};
-ghost use Rattle.salt_model.specs.Tables.{Edits, Tables, put_changes, with_changes};
+ghost use Rattle.salt_model.specs.Tables.{Edits, Tables, changed_at, put_changes, with_changes};
 ghost use Rattle.salt_model.specs.Words.{Every};
 ghost use Rattle.salt_model.specs.declared.events.UnitKind.{UnitKind};
 ghost use Rattle.salt_model.specs.declared.vars.Binding.{Binding};
-ghost use Rattle.salt_types.specs.Typed.{AreApart, AreChangesOf, AreEditsOf, AreRowsOf, AreVariables, IsJudgedFor, IsKindFor};
+ghost use Rattle.salt_stands.specs.Coordinator.{Coordinator};
+ghost use Rattle.salt_stands.specs.Partition.{is_sound_change, part_of_key};
+ghost use Rattle.salt_types.specs.Played.{HasKey, IsJudgedEvent, IsTypedAt};
+ghost use Rattle.salt_types.specs.States.{AreOfTheirTypes};
+ghost use Rattle.salt_types.specs.Typed.{AreApart, AreChangesOf, AreEditsOf, AreRowsOf, AreVariables, FitsAt, IsJudgedFor, IsKindFor};
 ghost use Rattle.salt_types.specs.Typed.{IsProperProgram, IsProperTable, IsTyped, IsTypedDone, IsTypedRun, has_key, is_datum_of, scope_of_kind};
 ghost use Rattle.salt_values.specs.declared.change.Change.{Change};
 ghost use Rattle.salt_values.specs.declared.value.Value.{Value};
-ghost use Rattle.std.specs.Prelude.{IfOk, IfSome, List, None, Some, [], true, ℕ, ◌++◌, ◌∷◌, ◌≡◌};
+ghost use Rattle.std.specs.Prelude.{IfOk, IfSome, List, None, Option, Some, [], true, ℕ, ◌++◌, ◌∷◌, ◌≡◌};
 
 /// An expression that is judged to be of a kind gives a value or a truth value of this kind, or a cause; NULL only where it may.
 /// What a column takes gives a value of the column, or a cause.
@@ -86,4 +99,33 @@ pub fn ends_keep_types()
     ensures commit { (k : Kept) (n : ℕ) (u : UnitKind) (run : Run) → IsTyped k → IsKindFor k u →
         IsTypedRun (schema_of k) (bindings (scope_of_kind k u)) run → IsTyped (committed k n (Some u) run) }
     ensures branch { (k : Kept) (n : ℕ) (u : UnitKind) → IsTyped k → IsKindFor k u → IsTyped (branched k n (Some u)) }
+{}
+
+/// What lines of bytes ask for has keys.
+pub fn read_lines_have_keys()
+    ensures { (texts : List (List ℕ)) (lines : List Asked) → AskInOrder texts lines → Every HasKey lines }
+{}
+
+/// At each place of a played trace, from a start that fits its definitions and over lines whose tables have keys, what is kept fits
+/// its definitions, with the decision in flight too, and open units are of their types. What they do is not refused.
+pub fn played_is_typed()
+    ensures here { (trace : Trace) → IsPlayed trace → WellKept (start_of trace).kept → IsTyped (start_of trace).kept →
+        Every HasKey (lines_of trace) → IsTypedAt trace }
+    ensures flight { (trace : Trace) → IsPlayed trace → WellKept (start_of trace).kept → IsTyped (start_of trace).kept →
+        Every HasKey (lines_of trace) → IsTyped (kept_with trace (flight trace)) }
+    ensures judged { (trace : Trace) → IsPlayed trace → WellKept (start_of trace).kept → IsTyped (start_of trace).kept →
+        Every HasKey (lines_of trace) → Each IsJudgedEvent trace }
+{}
+
+/// So the state that goes along with such a trace is of its types.
+pub fn states_are_of_their_types()
+    ensures { (s : UnitState) (trace : Trace) → KeepsUnits s trace → IsSound trace → IsTyped (start_of trace).kept →
+        Every HasKey (lines_of trace) → AreOfTheirTypes s }
+{}
+
+/// A change that fits a coordinator's definitions is sound in the partition of its key, whatever reads their texts.
+pub fn typed_changes_are_sound()
+    ensures { (read : List ℕ → Option Definition) (c : Coordinator Definition) (ch : Change) →
+        FitsAt (tables_of c.definitions) (changed_at ch) ch.row →
+        is_sound_change (definitions_reading read) c (part_of_key c.log.header.shape ch.key) ch ≡ true }
 {}
