@@ -5,12 +5,15 @@ use std::io::{self, ErrorKind};
 use std::rt::Files;
 
 /// Opens the file of a device, and makes it and the folder where they are missing. What was left in it without a sync, by this
-/// program or another, is stable then, and so is its name.
+/// program or another, is stable then, and so is its name. A folder has a name: the empty one is none.
 pub(crate) fn open_device<R: Files + AllocGlobal>(
     rt: &R,
     folder: &str,
     dev: u32,
 ) -> Result<R::File, FileErr> {
+    if folder.is_empty() {
+        return Err(FileErr::Failed);
+    }
     let path = format!(in rt.alloc(); "{folder}/{dev}")?;
     let mut file = open_or_make(rt, folder, path.as_str())?;
     sync_file(&mut file)?;

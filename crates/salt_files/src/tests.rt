@@ -14,19 +14,28 @@ fn disks_under(alloc: Global, plan: Plan) -> Result<FileDisks<FakeFiles>, AllocE
 }
 
 #[test]
-fn bytes_are_read_back_up_to_the_end(rt: HostRuntime) -> Result<(), AllocError> {
+fn bytes_are_read_back(rt: HostRuntime) -> Result<(), AllocError> {
     let mut disks = disks_under(rt.alloc(), PLAN)?;
     assert_eq!(rt; disks.write_at(25, 3, b"abcdefg"), Ok(()));
     assert_eq!(rt; disks.write_at(0, 0, b"z"), Ok(()));
     assert_eq!(rt; disks.sync(25), Ok(()));
-    let mut buf = [7; 12];
-    assert_eq!(rt; disks.read(25, 2, &mut buf), Ok(8));
-    assert_eq!(rt; buf, *b"\0abcdefg\x07\x07\x07\x07");
-    assert_eq!(rt; disks.read(25, 4, &mut buf[..3]), Ok(3));
-    assert_eq!(rt; buf[..3], *b"bcd".as_slice());
-    assert_eq!(rt; disks.read(25, 100, &mut buf), Ok(0));
-    assert_eq!(rt; disks.read(25, 1 << 40, &mut buf), Ok(0));
-    assert_eq!(rt; disks.read(25, u64::MAX, &mut buf), Ok(0));
+    let mut few = [7; 3];
+    assert_eq!(rt; disks.read(25, 4, &mut few), Ok(3));
+    assert_eq!(rt; few, *b"bcd");
+    let mut all = [7; 12];
+    assert_eq!(rt; disks.read(25, 2, &mut all), Ok(8));
+    assert_eq!(rt; all, *b"\0abcdefg\x07\x07\x07\x07");
+    assert_eq!(rt; disks.faults, 0);
+    Ok(())
+}
+
+#[test]
+fn nothing_is_read_past_the_end(rt: HostRuntime) -> Result<(), AllocError> {
+    let mut disks = disks_under(rt.alloc(), PLAN)?;
+    assert_eq!(rt; disks.write_at(2, 0, b"abc"), Ok(()));
+    for at in [3, 100, 1 << 40, u64::MAX] {
+        assert_eq!(rt; disks.read(2, at, &mut [0; 2]), Ok(0));
+    }
     assert_eq!(rt; disks.faults, 0);
     Ok(())
 }
