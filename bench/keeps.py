@@ -1,5 +1,5 @@
 #!/usr/bin/env python3
-"""Times what is kept of locks, programs and waits.
+"""Times what is kept of locks, programs and waits, in processor time.
 
 - locks: `take`, and `drop_owner` of an owner with one lock, beside 10 to 10,000 locks on other keys, on the least key
   and on the greatest. There is no clock to ask, so a `take` is told by rounds that take a tenth as many locks as there are, at least ten,
@@ -14,10 +14,10 @@ where an answer is wrong.
 """
 import subprocess, sys
 
-from timing import compared, seconds
+from timing import compared, processor_seconds
 
 LOCKS = [10, 100, 1_000, 10_000]
-LOCK_TIMES = {10: 1_000_000, 100: 1_000_000, 1_000: 200_000, 10_000: 20_000}
+LOCK_TIMES = {10: 400_000, 100: 200_000, 1_000: 40_000, 10_000: 4_000}
 PROGRAMS = [10, 100, 1_000]
 PROGRAM_TIMES = {10: 10_000, 100: 1_000, 1_000: 100}
 UNITS = 63
@@ -34,9 +34,9 @@ def answered(program, kind, many, times, answer):
 
 
 def measured(program, kind, many, times, answer, nothing):
-    """The time of one call, where `nothing` is the answer of a run that makes all and asks never."""
+    """The processor time of one call, where `nothing` is the answer of a run that makes all and asks never."""
     asked = answered(program, kind, many, times, answer)
-    return (seconds([program], asked) - seconds([program], answered(program, kind, many, 0, nothing))) / times
+    return (processor_seconds([program], asked) - processor_seconds([program], answered(program, kind, many, 0, nothing))) / times
 
 
 def rows():

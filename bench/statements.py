@@ -11,10 +11,10 @@ twice as much at the last size as at the first.
 
     bench/statements.py [PROGRAM]     with the program of another commit
 """
-import os, random, subprocess, sys, tempfile
+import random, sys
 from pathlib import Path
 
-from timing import made
+from timing import made, processor_seconds
 
 ROUNDS = 5
 SIZES = [1_000, 10_000, 100_000]
@@ -33,22 +33,6 @@ KINDS = {
     "range of 100": (lambda rows: RANGES, lambda key: f"select * from t where key between {key} and {key + WIDTH - 1} and n < 500"),
     "sum of all": (lambda rows: SUMMED // rows, lambda key: "select sum(n) from t"),
 }
-
-
-def processor_seconds(command, script):
-    """The least time of the processor that a command takes on a script, of a few rounds; one that fails ends the measure."""
-    best = None
-    with tempfile.TemporaryFile() as file:
-        file.write(script)
-        for _ in range(ROUNDS):
-            file.seek(0)
-            running = subprocess.Popen(command, stdin=file, stdout=subprocess.DEVNULL)
-            _, status, usage = os.wait4(running.pid, 0)
-            if status != 0:
-                sys.exit(f"bench/statements.py: {command} ends with {status}")
-            took = usage.ru_utime + usage.ru_stime
-            best = took if best is None else min(best, took)
-    return best
 
 
 def inserts(rows):
@@ -84,7 +68,7 @@ class Measured:
         self.command, self.script_of, self.costs = command, script_of, {}
 
     def seconds(self, statements):
-        return processor_seconds(self.command, self.script_of(statements))
+        return processor_seconds(self.command, self.script_of(statements), ROUNDS)
 
     def growth(self, kind, cost):
         """How much the cost of a statement grew from the size before."""
