@@ -131,21 +131,37 @@ module _ (k : Kept) (typed : IsTyped k) where
   own-part : (p : ProgramDef) (c : Cont) → Fits p c → stands_at_part p c.next c.tries ≡ true
   own-part p c h = and_right (are_arguments p.vars c.vars) _ (and_right (are_arguments p.params c.args) _ h)
 
+  -- the continuation with which a program begins
+  pub begun-fits : (b : Id) (n : ℕ) (name : List ℕ) (args : List Value) (vars : List Binding) (p : ProgramDef) (at : Position) → kept_program name k ≡ Some p → are_arguments p.params args ≡ true →
+      AreVariables (bindings (program_scope p)) vars → then_of p 1 ≡ Some at →
+      IsContOf k (record { base = b; accepted = n; program = p.name; args = args; vars = values_kept p vars; next = at.part; tries = at.tries })
+  begun-fits b n name args vars p at e fit held way =
+      cont-fits _ p (subst (λ (m : List ℕ). kept_program m k ≡ Some p) (named-own (programs_of k) name p e) e)
+      (both _ _ fit (both _ _ (kept-behind p.params p.vars vars held) (behind-commit p (proper name p e).branches 1 at (omega arith) way)))
+
+  -- where a program goes on behind the commit of its part
+  pub on-commit : (b : Id) (c : Cont) (p : ProgramDef) (vars : List Binding) (at : Position) → cont_of b k ≡ Some c → kept_program c.program k ≡ Some p →
+      AreVariables (bindings (program_scope p)) vars → then_of p c.next ≡ Some at → IsContOf k (record c { vars = values_kept p vars; next = at.part; tries = at.tries })
+  on-commit b c p vars at here e held way =
+      let own = own-fits b c p here e in
+      let sound = (proper c.program p e).branches in
+      let l = late p sound c.next c.tries (own-part p c own) in
+      cont-fits (record c { vars = values_kept p vars; next = at.part; tries = at.tries }) p e
+      (both _ _ (and_left _ _ own) (both _ _ (kept-behind p.params p.vars vars held) (behind-commit p sound c.next at (omega arith) way)))
+
+  -- and behind its failure
+  pub on-failure : (b : Id) (c : Cont) (p : ProgramDef) (at : Position) → cont_of b k ≡ Some c → kept_program c.program k ≡ Some p → branch_of p c.next c.tries ≡ Some at →
+      IsContOf k (record c { next = at.part; tries = at.tries })
+  on-failure b c p at here e way =
+      let own = own-fits b c p here e in
+      cont-fits (record c { next = at.part; tries = at.tries }) p e
+      (both _ _ (and_left _ _ own) (both _ _ (and_left _ _ (and_right (are_arguments p.params c.args) _ own))
+      (behind-failure p (proper c.program p e).branches c.next c.tries at (own-part p c own) way)))
+
   begun : (b : Id) (n : ℕ) (name : List ℕ) (args : List Value) (vars : List Binding) (p : ProgramDef) → kept_program name k ≡ Some p → are_arguments p.params args ≡ true →
       AreVariables (bindings (program_scope p)) vars → (o : Option Position) → then_of p 1 ≡ o → Every (IsContOf k) (begun_cont b n p args vars o k.conts)
   begun b n name args vars p e fit held None way = typed.conts
-  begun b n name args vars p e fit held (Some at) way =
-      every-append (IsContOf k) k.conts _ typed.conts
-      (ap (λ (o : Option ProgramDef). is_cont_of o c) own ∙ fits-it, tt)
-    where
-      c : Cont
-      c = record { base = b; accepted = n; program = p.name; args = args; vars = values_kept p vars; next = at.part; tries = at.tries }
-
-      own : kept_program p.name k ≡ Some p
-      own = subst (λ (m : List ℕ). kept_program m k ≡ Some p) (named-own (programs_of k) name p e) e
-
-      fits-it : is_cont_of (Some p) c ≡ true
-      fits-it = both _ _ fit (both _ _ (kept-behind p.params p.vars vars held) (behind-commit p (proper name p e).branches 1 at (omega arith) way))
+  begun b n name args vars p e fit held (Some at) way = every-append (IsContOf k) k.conts _ typed.conts (begun-fits b n name args vars p at e fit held way, tt)
 
   pub conts-committed : (n : ℕ) (u : UnitKind) (vars : List Binding) → IsKindFor k u → AreVariables (bindings (scope_of_kind k u)) vars → Every (IsContOf k) (conts_committed k n u vars)
   conts-committed n (kind.Acid s) vars is held = typed.conts
@@ -163,9 +179,7 @@ module _ (k : Kept) (typed : IsTyped k) where
       of-program c None at e there h = typed.conts
       of-program c (Some p) at e there h =
           every-moved (IsContOf k) b c (then_of p part) (λ x. record x { vars = values_kept p vars }) k.conts at
-          (λ to way. cont-fits (record c { vars = values_kept p vars; next = to.part; tries = to.tries }) p e
-          (both _ _ (and_left _ _ (own-fits b c p at e)) (both _ _ (kept-behind p.params p.vars vars h)
-          (behind-commit p (proper c.program p e).branches part to (let l = late p (proper c.program p e).branches c.next c.tries (own-part p c (own-fits b c p at e)) in omega arith) way))))
+          (λ to way. on-commit b c p vars to at e h (ap (then_of p) there ∙ way))
           typed.conts
 
       of-cont : (o : Option Cont) → cont_of b k ≡ o → option_map (λ (c : Cont). c.next) o ≡ Some part →
@@ -185,9 +199,7 @@ module _ (k : Kept) (typed : IsTyped k) where
       of-program c None at e there = typed.conts
       of-program c (Some p) at e there =
           every-moved (IsContOf k) b c (branch_of p part c.tries) (λ x. x) k.conts at
-          (λ to way. cont-fits (record c { next = to.part; tries = to.tries }) p e
-          (both _ _ (and_left _ _ (own-fits b c p at e)) (both _ _ (and_left _ _ (and_right (are_arguments p.params c.args) _ (own-fits b c p at e)))
-          (behind-failure p (proper c.program p e).branches part c.tries to (subst (λ (n : ℕ). stands_at_part p n c.tries ≡ true) there (own-part p c (own-fits b c p at e))) way))))
+          (λ to way. on-failure b c p to at e (ap (λ (n : ℕ). branch_of p n c.tries) there ∙ way))
           typed.conts
 
       of-cont : (o : Option Cont) → cont_of b k ≡ o → option_map (λ (c : Cont). c.next) o ≡ Some part →

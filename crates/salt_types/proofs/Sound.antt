@@ -6,12 +6,13 @@ use Rattle.salt_model.specs.Tables.{changed_at}
 use Rattle.salt_stands.specs.Coordinator.{Coordinator}
 use Rattle.salt_stands.specs.Partition.{is_sound_change, is_sound_to, part_of_key}
 use Rattle.salt_types.proofs.Words.{both}
-use Rattle.salt_types.specs.Typed.{FitsAt}
+use Rattle.salt_types.specs.Typed.{AreChangesOf, FitsAt}
 use Rattle.salt_values.specs.declared.change.Change.{Change}
 use Rattle.salt_values.specs.declared.value.Value.{Value}
 use Rattle.std.proofs.Common.{arith}
 use Rattle.std.proofs.lemmas.Bool.Decides.{nat_tests}
 use Rattle.std.proofs.lemmas.Bool.{eq-eqb}
+use Rattle.std.specs.List.{list_all}
 use Rattle.std.specs.Prelude.{List, None, Option, Some, [], length, nat_lt, refl, suc, true, zero, ℕ, ◌&&◌, ◌<◌, ◌∷◌, ◌≡◌}
 
 below : (schema : List TableDef) (n : ℕ) (d : TableDef) → at_place schema n ≡ Some d → n < length schema
@@ -43,3 +44,8 @@ change-sound read c ch h = by ch.row h
     by (Some row) g =
         both _ _ (of-row (tables_of c.definitions) ch.table row g.fits)
         (both _ _ g.fits (eq-eqb (part_of_key c.log.header.shape ch.key) (part_of_key c.log.header.shape ch.key) refl))
+
+pub all-sound : (read : List ℕ → Option Definition) (c : Coordinator Definition) (cs : List Change) → AreChangesOf (tables_of c.definitions) cs →
+    list_all (λ (ch : Change). is_sound_change (definitions_reading read) c (part_of_key c.log.header.shape ch.key) ch) cs ≡ true
+all-sound read c [] h = refl
+all-sound read c (ch ∷ cs) h = both _ _ (change-sound read c ch h.0) (all-sound read c cs h.1)

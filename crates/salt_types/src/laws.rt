@@ -1,7 +1,8 @@
 //! The laws, each on a function that does nothing.
 
 ghost use Rattle.salt_ast.specs.Judgement.{Kind, bindings, expr_kind, may_be_null, statement_fault, table_fault, takes};
-ghost use Rattle.salt_ast.specs.ProgramJudgement.{program_fault, session_scope};
+ghost use Rattle.salt_ast.specs.Paths.{Position};
+ghost use Rattle.salt_ast.specs.ProgramJudgement.{are_arguments, program_fault, program_scope};
 ghost use Rattle.salt_ast.specs.Spelling.{SpellsTable};
 ghost use Rattle.salt_ast.specs.declared.programs.ProgramDef.{ProgramDef};
 ghost use Rattle.salt_ast.specs.declared.trees.Expr.{Expr};
@@ -13,29 +14,37 @@ ghost use Rattle.salt_definitions.specs.Fitting.{are_of_columns, definitions_rea
 ghost use Rattle.salt_keeps.specs.Keeps.{KeepsUnits};
 ghost use Rattle.salt_keeps.specs.Laws.{IsSound};
 ghost use Rattle.salt_keeps.specs.OpenUnits.{UnitState};
+ghost use Rattle.salt_keeps.specs.Steps.{units_after};
 ghost use Rattle.salt_model.specs.After.{branched, committed};
 ghost use Rattle.salt_model.specs.Ends.{kept_with};
 ghost use Rattle.salt_model.specs.Everywhere.{Each};
 ghost use Rattle.salt_model.specs.Lines.{AskInOrder};
 ghost use Rattle.salt_model.specs.Next.{flight};
 ghost use Rattle.salt_model.specs.Played.{IsPlayed};
-ghost use Rattle.salt_model.specs.Trace.{Asked, Trace, lines_of, start_of};
+ghost use Rattle.salt_model.specs.Trace.{Asked, Trace, lines_of, start_of, ◌says◌};
 ghost use Rattle.salt_model.specs.Eval.{eval, named_values, value_of};
-ghost use Rattle.salt_model.specs.Kept.{Definition, Kept, OfProgram, OfTable, WellKept, block_of_kind, nothing_kept, programs_of, schema_of, vars_of_kind};
+ghost use Rattle.salt_model.specs.Kept.{Definition, Kept, OfProgram, OfTable, WellKept, block_of_kind, branch_of, cont_of};
+ghost use Rattle.salt_model.specs.Kept.{kept_program, nothing_kept, programs_of, schema_of, then_of, values_kept, vars_of_kind};
 ghost use Rattle.salt_model.specs.Statements.{Run, outcome_of, serial};
 ghost use Rattle.salt_model.specs.Tables.{Edits, Tables, changed_at, put_changes, with_changes};
 ghost use Rattle.salt_model.specs.Words.{Every};
+ghost use Rattle.salt_model.specs.declared.events.Event.{Event};
 ghost use Rattle.salt_model.specs.declared.events.UnitKind.{UnitKind};
 ghost use Rattle.salt_model.specs.declared.vars.Binding.{Binding};
 ghost use Rattle.salt_stands.specs.Coordinator.{Coordinator};
 ghost use Rattle.salt_stands.specs.Partition.{is_sound_change, part_of_key};
 ghost use Rattle.salt_types.specs.Played.{HasKey, IsJudgedEvent, IsTypedAt};
 ghost use Rattle.salt_types.specs.States.{AreOfTheirTypes};
-ghost use Rattle.salt_types.specs.Typed.{AreApart, AreChangesOf, AreEditsOf, AreRowsOf, AreVariables, FitsAt, IsJudgedFor, IsKindFor};
+ghost use Rattle.salt_types.specs.Typed.{AreApart, AreChangesOf, AreEditsOf, AreRowsOf, AreVariables, FitsAt, IsContOf, IsJudgedFor, IsKindFor};
 ghost use Rattle.salt_types.specs.Typed.{IsProperProgram, IsProperTable, IsTyped, IsTypedDone, IsTypedRun, has_key, is_datum_of, scope_of_kind};
 ghost use Rattle.salt_values.specs.declared.change.Change.{Change};
 ghost use Rattle.salt_values.specs.declared.value.Value.{Value};
+ghost use Rattle.salt_values.specs.declared.cont.Cont.{Cont};
+ghost use Rattle.salt_values.specs.declared.id.Id.{Id};
+ghost use Rattle.std.specs.List.{list_all};
 ghost use Rattle.std.specs.Prelude.{IfOk, IfSome, List, None, Option, Some, [], true, ℕ, ◌++◌, ◌∷◌, ◌≡◌};
+
+use salt_keeps::units_go_on;
 
 /// An expression that is judged to be of a kind gives a value or a truth value of this kind, or a cause; NULL only where it may.
 /// What a column takes gives a value of the column, or a cause.
@@ -101,6 +110,20 @@ pub fn ends_keep_types()
     ensures branch { (k : Kept) (n : ℕ) (u : UnitKind) → IsTyped k → IsKindFor k u → IsTyped (branched k n (Some u)) }
 {}
 
+/// The continuation to which a unit's end leads fits its program: that which begins, and that which goes on behind a commit or a
+/// failure.
+pub fn moves_keep_types()
+    ensures begun { (k : Kept) (b : Id) (n : ℕ) (name : List ℕ) (args : List Value) (vars : List Binding) (p : ProgramDef) (at : Position) →
+        IsTyped k → kept_program name k ≡ Some p → are_arguments p.params args ≡ true → AreVariables (bindings (program_scope p)) vars → then_of p 1 ≡ Some at →
+        IsContOf k (record { base = b; accepted = n; program = p.name; args = args; vars = values_kept p vars; next = at.part; tries = at.tries }) }
+    ensures commit { (k : Kept) (b : Id) (c : Cont) (p : ProgramDef) (vars : List Binding) (at : Position) →
+        IsTyped k → cont_of b k ≡ Some c → kept_program c.program k ≡ Some p → AreVariables (bindings (program_scope p)) vars → then_of p c.next ≡ Some at →
+        IsContOf k (record c { vars = values_kept p vars; next = at.part; tries = at.tries }) }
+    ensures failure { (k : Kept) (b : Id) (c : Cont) (p : ProgramDef) (at : Position) →
+        IsTyped k → cont_of b k ≡ Some c → kept_program c.program k ≡ Some p → branch_of p c.next c.tries ≡ Some at →
+        IsContOf k (record c { next = at.part; tries = at.tries }) }
+{}
+
 /// What lines of bytes ask for has keys.
 pub fn read_lines_have_keys()
     ensures { (texts : List (List ℕ)) (lines : List Asked) → AskInOrder texts lines → Every HasKey lines }
@@ -117,15 +140,24 @@ pub fn played_is_typed()
         Every HasKey (lines_of trace) → Each IsJudgedEvent trace }
 {}
 
-/// So the state that goes along with such a trace is of its types.
+/// So the state that goes along with such a trace is of its types, and so is what each event that may stand makes of it.
 pub fn states_are_of_their_types()
-    ensures { (s : UnitState) (trace : Trace) → KeepsUnits s trace → IsSound trace → IsTyped (start_of trace).kept →
+    ensures here { (s : UnitState) (trace : Trace) → KeepsUnits s trace → IsSound trace → IsTyped (start_of trace).kept →
         Every HasKey (lines_of trace) → AreOfTheirTypes s }
-{}
+    ensures says { (s : UnitState) (trace : Trace) (e : Event) → KeepsUnits s trace → IsSound (trace says e) →
+        IsTyped (start_of trace).kept → Every HasKey (lines_of trace) → AreOfTheirTypes (units_after e s) }
+{
+    units_go_on();
+}
 
-/// A change that fits a coordinator's definitions is sound in the partition of its key, whatever reads their texts.
+/// A change that fits a coordinator's definitions is sound in the partition of its key, whatever reads their texts; so are all of a
+/// unit's. A continuation that fits is one that its program may have.
 pub fn typed_changes_are_sound()
-    ensures { (read : List ℕ → Option Definition) (c : Coordinator Definition) (ch : Change) →
+    ensures one { (read : List ℕ → Option Definition) (c : Coordinator Definition) (ch : Change) →
         FitsAt (tables_of c.definitions) (changed_at ch) ch.row →
         is_sound_change (definitions_reading read) c (part_of_key c.log.header.shape ch.key) ch ≡ true }
+    ensures all { (read : List ℕ → Option Definition) (c : Coordinator Definition) (cs : List Change) → AreChangesOf (tables_of c.definitions) cs →
+        list_all (λ (ch : Change). is_sound_change (definitions_reading read) c (part_of_key c.log.header.shape ch.key) ch) cs ≡ true }
+    ensures conts { (read : List ℕ → Option Definition) (k : Kept) (c : Cont) → IsContOf k c →
+        (definitions_reading read).fits_cont k.definitions c ≡ true }
 {}
