@@ -1,5 +1,5 @@
 -- Known bytes that are written and read part by part.
-use Rattle.std.proofs.Common.{List, Option, Some, None, arith, ap, drop, drop_at, length, length-take-le, slice_range, subst, sym, take, ℕ, ◌+◌, ◌++◌, ◌-◌, ◌<◌, ◌∙◌, ◌≡◌, ◌≤◌, le_refl}
+use Rattle.std.proofs.Common.{List, Option, arith, ap, drop, drop_at, length, length-take-le, slice_range, subst, sym, take, ℕ, ◌+◌, ◌++◌, ◌-◌, ◌∙◌, ◌≡◌, ◌≤◌, le_refl}
 use Rattle.std.proofs.KnownBytes.{Appends-trans, Consumes-trans}
 use Rattle.std.proofs.lemmas.List.{take_rest}
 use Rattle.std.proofs.lemmas.Slice.{take-put_mid_below}

@@ -31,13 +31,14 @@ pub struct FileDisks<R: Files + AllocGlobal + Drop> {
     pub(crate) faults: u64,
 }
 
-// Contracts see the count of faults.
+// Contracts see the folder's name and the count of faults.
 impl<R: Files + AllocGlobal + Drop> Model for FileDisks<R> {
-    ghost use Rattle.std.specs.Prelude.{◌≡◌, ℕ, length};
+    ghost use Rattle.std.specs.Prelude.{◌≡◌, length, string_bytes};
+    ghost use Rattle.salt_files.specs.FileDisks.{Folder};
 
-    ghost Value = { ℕ };
+    ghost Value = { Folder };
 
-    ghost view = { λ disks. disks.faults };
+    ghost view = { λ disks. record { name = string_bytes disks.folder; faults = disks.faults } };
 
     ghost invariant = { λ disks. length disks.files.items ≡ 26 };
 }
@@ -45,7 +46,7 @@ impl<R: Files + AllocGlobal + Drop> Model for FileDisks<R> {
 impl<R: Files + AllocGlobal + Drop> FileDisks<R> {
     /// The files of this folder, with no fault and none opened yet.
     pub fn new(rt: R, folder: &str) -> Result<FileDisks<R>, AllocError>
-        ensures { IfOk result (λ faults. faults ≡ 0) }
+        ensures { IfOk result (λ disks. disks ≡ record { name = folder.now; faults = 0 }) }
     {
         let folder = folder.to_string(rt.alloc())?;
         let mut files = Vec::new(rt.alloc());
