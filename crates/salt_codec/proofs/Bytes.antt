@@ -1,10 +1,10 @@
 -- Bytes and numbers at the front of bytes.
 use Rattle.byteorder.specs.Endian.{big_number}
 use Rattle.salt_bytes.proofs.Only.{bytes_only}
-use Rattle.salt_bytes.specs.Numbers.{take_32, take_64}
+use Rattle.salt_bytes.specs.Numbers.{take_16, take_32, take_64}
 use Rattle.salt_bytes.specs.Taking.{give, go_on, take_bytes}
 use Rattle.std.proofs.Common.{List, None, Some, [], ap, arith, drop, length, length-drop, refl, suc, sym, take, zero, ℕ, ◌-◌, ◌<◌, ◌≡◌, ◌≤◌, ◌∙◌, ◌∷◌}
-use Rattle.std.specs.Int.{from_be_bytes, w32, w64}
+use Rattle.std.specs.Int.{from_be_bytes, w16, w32, w64}
 
 pub few : (n : ℕ) (bytes : List ℕ) → length bytes < n → take_bytes n bytes ≡ None
 few zero bytes less = absurd (omega (arith, less))
@@ -31,6 +31,12 @@ number_64 bytes front rest n e is = ap (go_on (λ bs. give (from_be_bytes w64 bs
 
 pub number_32 : (bytes front rest : List ℕ) (n : ℕ) → take_bytes 4 bytes ≡ Some (front, rest) → n ≡ big_number 4 front → take_32 bytes ≡ Some (n, rest)
 number_32 bytes front rest n e is = ap (go_on (λ bs. give (from_be_bytes w32 bs))) e ∙ ap (λ (m : ℕ). Some (m, rest)) (big_is_32 front) ∙ rw is refl
+
+big_is_16 : (bytes : List ℕ) → from_be_bytes w16 bytes ≡ big_number 2 bytes
+big_is_16 bytes = omega arith
+
+pub number_16 : (bytes front rest : List ℕ) (n : ℕ) → take_bytes 2 bytes ≡ Some (front, rest) → n ≡ big_number 2 front → take_16 bytes ≡ Some (n, rest)
+number_16 bytes front rest n e is = ap (go_on (λ bs. give (from_be_bytes w16 bs))) e ∙ ap (λ (m : ℕ). Some (m, rest)) (big_is_16 front) ∙ rw is refl
 
 all_taken : (n : ℕ) (xs : List ℕ) → length xs ≤ n → take n xs ≡ xs
 all_taken zero [] h = refl

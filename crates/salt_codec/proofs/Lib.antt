@@ -1,4 +1,4 @@
 mod Bytes
 mod Fronts
-mod Puts
-mod Values
+pub mod Puts
+pub mod Values

@@ -1,7 +1,9 @@
 -- Things put, and taken, one behind the other.
+use Rattle.salt_bytes.specs.Spellable.{Every}
 use Rattle.salt_bytes.specs.Taking.{Take, give, go_on, spell_each, take_each, then_take}
-use Rattle.std.proofs.Common.{List, None, Option, Some, [], ap, append_assoc, arith, drop, get_or, length, refl, suc, sym, zero, ℕ, ◌+◌, ◌++◌, ◌-◌, ◌<◌, ◌≡◌, ◌≤◌, ◌∙◌, ◌∷◌}
-use Rattle.std.proofs.lemmas.List.{append-nil}
+use Rattle.std.proofs.Common.{List, None, Option, Some, [], ap, append_assoc, arith, drop, get_or, length, refl, subst, suc, sym, take, zero, ℕ, ◌+◌, ◌++◌, ◌-◌, ◌<◌, ◌≡◌, ◌≤◌, ◌∙◌, ◌∷◌}
+use Rattle.std.proofs.lemmas.List.{append-nil, take_all, take_more}
+use Rattle.std.specs.Prelude.{map}
 
 -- ONE BEHIND THE OTHER
 
@@ -77,3 +79,31 @@ module _ {A : Type 0} (take : Take A) (n : ℕ) (bytes : List ℕ) where
   took_all xs i rest end h =
       let none : n - i ≡ 0 = omega (arith, end) in
       h.so_far ∙ ap (λ k. behind xs (take_each take k rest)) none ∙ ap (λ l. Some (l, rest)) (append-nil xs)
+
+-- a fact of each, with one more
+pub every_next : {A : Type 0} (P : A → Type 0) (xs : List A) (i : ℕ) (x : A) → i < length xs → x ≡ get_or xs i x → P x → Every P (take i xs) → Every P (take (i + 1) xs)
+every_next {A = A} P xs i x low is p h = subst (λ l. Every P l) (sym (take_more xs i x low)) (push (take i xs) (get_or xs i x) (subst P is p) h)
+  where
+    push : (ys : List A) (y : A) → P y → Every P ys → Every P (ys ++ y ∷ [])
+    push [] y p h = (p, tt)
+    push (z ∷ ys) y p h = (h.0, push ys y p h.1)
+
+pub every_all : {A : Type 0} (P : A → Type 0) (xs : List A) (i : ℕ) → length xs ≤ i → Every P (take i xs) → Every P xs
+every_all P xs i end h = subst (λ l. Every P l) (take_all i xs end) h
+
+-- of things that stand for others
+pub every_as : {A B : Type 0} (f : B → A) (P : A → Type 0) (xs : List B) → Every (λ x. P (f x)) xs → Every P (map f xs)
+every_as f P [] h = tt
+every_as f P (x ∷ xs) h = (h.0, every_as f P xs h.1)
+
+-- so many are put, and each of them is as it has to be
+pub record PutSo {A : Type 0} (spell : A → List ℕ) (P : A → Type 0) (xs : List A) (start out : List ℕ) (i : ℕ) : Type 0 where
+  pub puts : Puts spell xs start out i
+  pub every : Every P (take i xs)
+
+pub put_none : {A : Type 0} (spell : A → List ℕ) (P : A → Type 0) (xs : List A) (start : List ℕ) → PutSo spell P xs start start 0
+put_none spell P xs start = record { puts = refl; every = tt }
+
+pub put_next : {A : Type 0} (spell : A → List ℕ) (P : A → Type 0) (xs : List A) (start out more : List ℕ) (i : ℕ) (x : A) → i < length xs → x ≡ get_or xs i x → more ≡ out ++ spell x → P x
+    → PutSo spell P xs start out i → PutSo spell P xs start more (i + 1)
+put_next spell P xs start out more i x low is put p h = record { puts = puts_next spell xs start out more i x low is put h.puts; every = every_next P xs i x low is p h.every }

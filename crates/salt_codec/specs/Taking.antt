@@ -11,7 +11,13 @@ use Rattle.salt_values.specs.declared.value.Value.{Value}
 use Rattle.std.specs.Borrow.{Bor}
 use Rattle.std.specs.Prelude.{Bool, Err, List, None, Ok, Option, Result, Some, drop, length, ℕ, ⊤, ◌≡◌, ◌≤◌}
 
--- the thing and what is left, nothing where none is spelled there, or that memory ran out
+-- the thing, which stands for what `f` gives, and what is left; nothing where none is spelled there, or that memory ran out
+abbrev pub TakesAs : {A B : Type 0} → (A → B) → Result (A × Bor (List ℕ)) TakeErr → Option (B × List ℕ) → Type 0
+TakesAs f (Ok found) taken = taken ≡ Some (f found.0, found.1.now)
+TakesAs f (Err Misspelled) taken = taken ≡ None
+TakesAs f (Err Memory) taken = ⊤
+
+-- likewise, of a thing that stands for itself
 abbrev pub Takes : {A : Type 0} → Result (A × Bor (List ℕ)) TakeErr → Option (A × List ℕ) → Type 0
 Takes (Ok found) taken = taken ≡ Some (found.0, found.1.now)
 Takes (Err Misspelled) taken = taken ≡ None
@@ -27,7 +33,7 @@ abbrev pub take_err_of : TextErr → TakeErr
 take_err_of text.NotText = Misspelled
 take_err_of text.Memory = Memory
 
--- a text behind its length
+-- a value's text, behind its length
 abbrev pub take_text : Take Value
 take_text = then_take take_byte (λ n. then_take (take_bytes n) (λ t. only_if (is_text t) (give (Text t))))
 

@@ -5,7 +5,7 @@ ghost use Rattle.salt_codec.specs.Taking.{take_err_of};
 ghost use Rattle.std.specs.Prelude.{◌≡◌};
 
 use salt_values::TextErr;
-use std::alloc::AllocError;
+use std::alloc::{AllocError, AllocFailed};
 
 /// Why bytes give no row.
 #[derive(Clone, Copy, Debug, PartialEq, Eq)]
@@ -29,6 +29,14 @@ impl From<AllocError> for TakeErr {
     ghost from_gives = { λ _ e. e ≡ Memory };
 
     fn from(_e: AllocError) -> TakeErr {
+        TakeErr::Memory
+    }
+}
+
+impl<T: Drop> From<AllocFailed<T>> for TakeErr {
+    ghost from_gives = { λ _ e. e ≡ Memory };
+
+    fn from(_e: AllocFailed<T>) -> TakeErr {
         TakeErr::Memory
     }
 }

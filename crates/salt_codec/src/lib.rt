@@ -3,12 +3,12 @@
 
 mod error;
 mod moves;
-mod put;
+pub mod put;
 mod rows;
-mod take;
+pub mod take;
 
-pub use error::RowErr;
-pub use moves::{put_move, take_move};
+pub use error::{RowErr, TakeErr};
+pub use moves::{put_move, take_cont, take_move};
 pub use rows::{put_row, take_row};
 
 #[cfg(test)]

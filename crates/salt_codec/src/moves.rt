@@ -161,7 +161,8 @@ fn take_standing(
     take_place(format, base, accepted, program, args, vars, rest)
 }
 
-fn take_cont(alloc: Global, format: u8, bytes: &[u8]) -> Result<(Cont, &[u8]), TakeErr>
+/// The continuation at the front of bytes, under the format of the header that it stands behind.
+pub fn take_cont(alloc: Global, format: u8, bytes: &[u8]) -> Result<(Cont, &[u8]), TakeErr>
     ensures { Takes result (take_cont format bytes.now) }
 {
     let (base, rest) = take_id(bytes)?;

@@ -1,15 +1,18 @@
 //! Bytes with a spelling appended. Each call takes the bytes and hands them back; they are given up where memory runs out.
 
+ghost use Rattle.salt_bytes.specs.Coordinator.{spell_text};
 ghost use Rattle.salt_bytes.specs.Ids.{spell_id};
-ghost use Rattle.salt_bytes.specs.Numbers.{spell_32, spell_64};
+ghost use Rattle.salt_bytes.specs.Numbers.{spell_16, spell_32, spell_64};
+ghost use Rattle.salt_bytes.specs.Spellable.{AreSpellableValues, IsSpellableId, IsSpellableValue};
 ghost use Rattle.salt_bytes.specs.Taking.{spell_each};
-ghost use Rattle.salt_bytes.specs.Values.{spell_value};
+ghost use Rattle.salt_bytes.specs.Values.{is_row_length, spell_row, spell_value};
 ghost use Rattle.std.specs.Int.{cast_unsigned, w64};
-ghost use Rattle.std.specs.Prelude.{IfOk, [], length, ◌++◌, ◌∷◌, ◌≡◌};
+ghost use Rattle.std.specs.Prelude.{IfOk, OnOk, [], length, true, ◌++◌, ◌∷◌, ◌≡◌};
 
 use salt_values::{Id, Text, Value};
 use std::alloc::AllocError;
 
+/// These bytes.
 pub fn with_bytes(mut out: Vec<u8>, bytes: &[u8]) -> Result<Vec<u8>, AllocError>
     ensures { IfOk result (λ made. made.items ≡ out.items ++ bytes.now) }
 {
@@ -17,6 +20,7 @@ pub fn with_bytes(mut out: Vec<u8>, bytes: &[u8]) -> Result<Vec<u8>, AllocError>
     Ok(out)
 }
 
+/// One byte.
 pub fn with_byte(mut out: Vec<u8>, byte: u8) -> Result<Vec<u8>, AllocError>
     ensures { IfOk result (λ made. made.items ≡ out.items ++ byte ∷ []) }
 {
@@ -24,23 +28,42 @@ pub fn with_byte(mut out: Vec<u8>, byte: u8) -> Result<Vec<u8>, AllocError>
     Ok(out)
 }
 
-pub fn with_u64(out: Vec<u8>, number: u64) -> Result<Vec<u8>, AllocError>
-    ensures { IfOk result (λ made. made.items ≡ out.items ++ spell_64 number) }
+/// A number in two bytes.
+pub fn with_u16(out: Vec<u8>, number: u16) -> Result<Vec<u8>, AllocError>
+    ensures { IfOk result (λ made. made.items ≡ out.items ++ spell_16 number) }
 {
     with_bytes(out, &number.to_be_bytes())
 }
 
+/// A number in four bytes.
 pub fn with_u32(out: Vec<u8>, number: u32) -> Result<Vec<u8>, AllocError>
     ensures { IfOk result (λ made. made.items ≡ out.items ++ spell_32 number) }
 {
     with_bytes(out, &number.to_be_bytes())
 }
 
+/// A number in eight bytes.
+pub fn with_u64(out: Vec<u8>, number: u64) -> Result<Vec<u8>, AllocError>
+    ensures { IfOk result (λ made. made.items ≡ out.items ++ spell_64 number) }
+{
+    with_bytes(out, &number.to_be_bytes())
+}
+
+/// A unit's or a program's name.
 pub fn with_id(out: Vec<u8>, id: Id) -> Result<Vec<u8>, AllocError>
-    ensures { IfOk result (λ made. made.items ≡ out.items ++ spell_id id) }
+    ensures put { IfOk result (λ made. made.items ≡ out.items ++ spell_id id) }
+    ensures spellable { IsSpellableId id }
 {
     let out = with_u64(out, id.boot)?;
     with_u64(out, id.seq)
+}
+
+/// Bytes behind their length.
+pub fn with_text(out: Vec<u8>, text: &[u8]) -> Result<Vec<u8>, AllocError>
+    ensures { IfOk result (λ made. made.items ≡ out.items ++ spell_text text.now) }
+{
+    let out = with_u64(out, text.len() as u64)?;
+    with_bytes(out, text)
 }
 
 /// A number, behind the byte of its kind.
@@ -52,7 +75,7 @@ fn with_int(out: Vec<u8>, number: i64) -> Result<Vec<u8>, AllocError>
 }
 
 /// A text, behind the byte of its kind and its length.
-fn with_text(out: Vec<u8>, text: &Text) -> Result<Vec<u8>, AllocError>
+fn with_value_text(out: Vec<u8>, text: &Text) -> Result<Vec<u8>, AllocError>
     ensures { IfOk result (λ made. made.items ≡ out.items ++ 2 ∷ length text.now ∷ text.now) }
 {
     let out = with_byte(out, 2)?;
@@ -60,21 +83,35 @@ fn with_text(out: Vec<u8>, text: &Text) -> Result<Vec<u8>, AllocError>
     with_bytes(out, text.as_bytes())
 }
 
+/// A value.
 pub fn with_value(out: Vec<u8>, value: &Value) -> Result<Vec<u8>, AllocError>
-    ensures { IfOk result (λ made. made.items ≡ out.items ++ spell_value value.now) }
+    ensures put { IfOk result (λ made. made.items ≡ out.items ++ spell_value value.now) }
+    ensures spellable { IsSpellableValue true value.now }
 {
+    value.told();
     match value {
         Value::Int(number) => with_int(out, *number),
-        Value::Text(text) => with_text(out, text),
+        Value::Text(text) => with_value_text(out, text),
         Value::Null => with_byte(out, 0),
     }
 }
 
+/// Values, one behind the other.
 pub fn with_values(mut out: Vec<u8>, values: &[Value]) -> Result<Vec<u8>, AllocError>
-    ensures { IfOk result (λ made. made.items ≡ out.items ++ spell_each spell_value values.now) }
+    ensures put { IfOk result (λ made. made.items ≡ out.items ++ spell_each spell_value values.now) }
+    ensures spellable { OnOk result (AreSpellableValues true values.now) }
 {
     for value in values {
         out = with_value(out, value)?;
     }
     Ok(out)
+}
+
+/// A row, which has 1 to 16 values: their number, and then each.
+pub fn with_row(out: Vec<u8>, row: &[Value]) -> Result<Vec<u8>, AllocError>
+    requires { is_row_length (length row.now) ≡ true }
+    ensures { IfOk result (λ made. made.items ≡ out.items ++ spell_row row.now) }
+{
+    let out = with_byte(out, row.len() as u8)?;
+    with_values(out, row)
 }

@@ -1,9 +1,9 @@
 //! What stands at the front of bytes, and the bytes behind it.
 
 ghost use Rattle.salt_bytes.specs.Ids.{take_id};
-ghost use Rattle.salt_bytes.specs.Numbers.{take_32, take_64};
+ghost use Rattle.salt_bytes.specs.Numbers.{take_16, take_32, take_64};
 ghost use Rattle.salt_bytes.specs.Taking.{take_byte, take_bytes, take_each};
-ghost use Rattle.salt_bytes.specs.Values.{take_value};
+ghost use Rattle.salt_bytes.specs.Values.{take_row, take_value};
 ghost use Rattle.salt_codec.specs.Taking.{Takes, TakesBytes, take_text};
 ghost use Rattle.std.specs.Prelude.{◌≡◌};
 
@@ -13,6 +13,7 @@ use salt_values::{Id, Row, Text, Value};
 use sqlite_items::Items;
 use std::alloc::Global;
 
+/// The first byte.
 pub fn take_byte(bytes: &[u8]) -> Result<(u8, &[u8]), TakeErr>
     ensures { Takes result (take_byte bytes.now) }
 {
@@ -22,6 +23,8 @@ pub fn take_byte(bytes: &[u8]) -> Result<(u8, &[u8]), TakeErr>
     }
 }
 
+/// The first byte.
+/// So many bytes.
 pub fn take_bytes(bytes: &[u8], count: usize) -> Result<(&[u8], &[u8]), TakeErr>
     ensures { TakesBytes result (take_bytes count bytes.now) }
 {
@@ -31,6 +34,7 @@ pub fn take_bytes(bytes: &[u8], count: usize) -> Result<(&[u8], &[u8]), TakeErr>
     Ok((&bytes[..count], &bytes[count..]))
 }
 
+/// A number in eight bytes.
 pub fn take_u64(bytes: &[u8]) -> Result<(u64, &[u8]), TakeErr>
     ensures { Takes result (take_64 bytes.now) }
 {
@@ -38,6 +42,7 @@ pub fn take_u64(bytes: &[u8]) -> Result<(u64, &[u8]), TakeErr>
     Ok((BigEndian::read_u64(number), rest))
 }
 
+/// A number in four bytes.
 pub fn take_u32(bytes: &[u8]) -> Result<(u32, &[u8]), TakeErr>
     ensures { Takes result (take_32 bytes.now) }
 {
@@ -45,6 +50,15 @@ pub fn take_u32(bytes: &[u8]) -> Result<(u32, &[u8]), TakeErr>
     Ok((BigEndian::read_u32(number), rest))
 }
 
+/// A number in two bytes.
+pub fn take_u16(bytes: &[u8]) -> Result<(u16, &[u8]), TakeErr>
+    ensures { Takes result (take_16 bytes.now) }
+{
+    let (number, rest) = take_bytes(bytes, 2)?;
+    Ok((BigEndian::read_u16(number), rest))
+}
+
+/// A unit's or a program's name.
 pub fn take_id(bytes: &[u8]) -> Result<(Id, &[u8]), TakeErr>
     ensures { Takes result (take_id bytes.now) }
 {
@@ -94,4 +108,15 @@ pub fn take_values(
         rest = behind;
     }
     Ok((values, rest))
+}
+
+/// A row; NULL only where it is spelled.
+pub fn take_row_from(alloc: Global, nulls: bool, bytes: &[u8]) -> Result<(Row, &[u8]), TakeErr>
+    ensures { Takes result (take_row nulls bytes.now) }
+{
+    let (count, rest) = take_byte(bytes)?;
+    if count < 1 || 16 < count {
+        return Err(TakeErr::Misspelled);
+    }
+    take_values(alloc, nulls, count, rest)
 }

@@ -1,4 +1,3 @@
-mod Bytes
 mod Lists
 mod Orders
 mod Words

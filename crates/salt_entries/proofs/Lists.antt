@@ -1,85 +1,11 @@
--- Things put, and taken, one behind the other.
-use Rattle.salt_bytes.specs.Taking.{Take, give, go_on, spell_each, take_each, then_take}
-use Rattle.salt_entries.specs.Taking.{Takes, TakesVec}
-use Rattle.salt_entries.specs.declared.error.TakeErr.TheVariants.{Memory, Misspelled}
-use Rattle.salt_entries.specs.declared.error.TakeErr.{TakeErr}
-use Rattle.std.proofs.Common.{Err, List, None, Option, Some, [], ap, append_assoc, arith, drop, get_or, length, refl, suc, sym, zero, ℕ, ◌+◌, ◌++◌, ◌-◌, ◌<◌, ◌≡◌, ◌≤◌, ◌∙◌, ◌∷◌}
-use Rattle.std.proofs.lemmas.List.{append-nil}
-
--- ONE BEHIND THE OTHER
-
-drop_next : {A : Type 0} (xs : List A) (i : ℕ) (x : A) → i < length xs → x ≡ get_or xs i x → drop i xs ≡ x ∷ drop (i + 1) xs
-drop_next [] i x low is = absurd (omega (arith, low))
-drop_next (y ∷ xs) zero x low is = ap (λ z. z ∷ xs) (sym is)
-drop_next (y ∷ xs) (suc i) x low is =
-    let same : suc (i + 1) ≡ suc i + 1 = omega arith in
-    drop_next xs i x (omega (arith, low)) is ∙ ap (λ k. x ∷ drop k (y ∷ xs)) same
-
-drop_all : {A : Type 0} (xs : List A) (i : ℕ) → length xs ≤ i → drop i xs ≡ []
-drop_all [] zero h = refl
-drop_all [] (suc i) h = refl
-drop_all (x ∷ xs) zero h = absurd (omega (arith, h))
-drop_all (x ∷ xs) (suc i) h = drop_all xs i (omega (arith, h))
-
-module _ {A : Type 0} (spell : A → List ℕ) (xs : List A) (start : List ℕ) where
-  -- what is put so far, and what is still to be put
-  abbrev pub Puts : List ℕ → ℕ → Type 0
-  Puts out i = out ++ spell_each spell (drop i xs) ≡ start ++ spell_each spell xs
-
-  pub puts_next : (out more : List ℕ) (i : ℕ) (x : A) → i < length xs → x ≡ get_or xs i x → more ≡ out ++ spell x → Puts out i → Puts more (i + 1)
-  puts_next out more i x low is put so_far =
-      ap (λ l. l ++ spell_each spell (drop (i + 1) xs)) put
-      ∙ append_assoc out (spell x) (spell_each spell (drop (i + 1) xs))
-      ∙ ap (λ l. out ++ spell_each spell l) (sym (drop_next xs i x low is))
-      ∙ so_far
-
-  pub puts_all : (out : List ℕ) (i : ℕ) → length xs ≤ i → Puts out i → out ≡ start ++ spell_each spell xs
-  puts_all out i end so_far = sym (append-nil out) ∙ ap (λ l. out ++ spell_each spell l) (sym (drop_all xs i end)) ∙ so_far
-
--- these stand before what is taken
-abbrev pub behind : {A : Type 0} → List A → Option (List A × List ℕ) → Option (List A × List ℕ)
-behind xs None = None
-behind xs (Some taken) = Some (xs ++ taken.0, taken.1)
-
-module _ {A : Type 0} (take : Take A) (n : ℕ) (bytes : List ℕ) where
-  -- some are taken, and others are to be taken of the rest
-  pub record Took (xs : List A) (i : ℕ) (rest : List ℕ) : Type 0 where
-    pub within : i ≤ n
-    pub so_far : take_each take n bytes ≡ behind xs (take_each take (n - i) rest)
-
-  pub took_none : Took [] 0 bytes
-  took_none = record { within = omega arith; so_far = sym (nothing (take_each take n bytes)) ∙ ap (λ k. behind [] (take_each take k bytes)) all }
-    where
-      all : n ≡ n - 0
-      all = omega arith
-
-      nothing : (o : Option (List A × List ℕ)) → behind [] o ≡ o
-      nothing None = refl
-      nothing (Some taken) = refl
-
-  next : (xs : List A) (x : A) (o : Option (List A × List ℕ)) → behind xs (go_on (λ ys. give (x ∷ ys)) o) ≡ behind (xs ++ x ∷ []) o
-  next xs x None = refl
-  next xs x (Some taken) = ap (λ l. Some (l, taken.1)) (sym (append_assoc xs (x ∷ []) taken.0))
-
-  left : (i : ℕ) → i < n → n - i ≡ suc (n - (i + 1))
-  left i low = omega (arith, low)
-
-  pub took_next : (xs more : List A) (i : ℕ) (rest back : List ℕ) (x : A) → i < n → take rest ≡ Some (x, back) → more ≡ xs ++ x ∷ [] → Took xs i rest → Took more (i + 1) back
-  took_next xs more i rest back x low is made h = record {
-    within = omega (arith, low);
-    so_far = h.so_far ∙ ap (λ k. behind xs (take_each take k rest)) (left i low)
-        ∙ ap (λ o. behind xs (go_on (λ x. then_take (take_each take (n - (i + 1))) (λ ys. give (x ∷ ys))) o)) is
-        ∙ next xs x (take_each take (n - (i + 1)) back) ∙ ap (λ l. behind l (take_each take (n - (i + 1)) back)) (sym made);
-  }
-
-  pub took_fails : (xs : List A) (i : ℕ) (rest : List ℕ) → i < n → take rest ≡ None → Took xs i rest → take_each take n bytes ≡ None
-  took_fails xs i rest low is h =
-      h.so_far ∙ ap (λ k. behind xs (take_each take k rest)) (left i low) ∙ ap (λ o. behind xs (go_on (λ x. then_take (take_each take (n - (i + 1))) (λ ys. give (x ∷ ys))) o)) is
-
-  pub took_all : (xs : List A) (i : ℕ) (rest : List ℕ) → n ≤ i → Took xs i rest → take_each take n bytes ≡ Some (xs, rest)
-  took_all xs i rest end h =
-      let none : n - i ≡ 0 = omega (arith, end) in
-      h.so_far ∙ ap (λ k. behind xs (take_each take k rest)) none ∙ ap (λ l. Some (l, rest)) (append-nil xs)
+-- Changes taken one behind the other.
+use Rattle.salt_bytes.specs.Taking.{Take, take_each}
+use Rattle.salt_codec.proofs.Values.{Took, took_fails}
+use Rattle.salt_codec.specs.Taking.{Takes}
+use Rattle.salt_codec.specs.declared.error.TakeErr.TheVariants.{Memory, Misspelled}
+use Rattle.salt_codec.specs.declared.error.TakeErr.{TakeErr}
+use Rattle.salt_entries.specs.Taking.{TakesVec}
+use Rattle.std.proofs.Common.{Err, List, ℕ, ◌<◌}
 
 -- where one is not taken, they are not
 pub each_fails : {A : Type 0} (take : Take A) (n : ℕ) (bytes : List ℕ) (xs : List A) (i : ℕ) (rest : List ℕ) (e : TakeErr) → i < n

@@ -1,13 +1,8 @@
--- Things put one behind the other, and bytes that are known taken.
+-- Bytes that are known, taken.
 use Rattle.salt_bytes.specs.Coordinator.{take_word}
 use Rattle.salt_bytes.specs.Taking.{give, go_on, only_if, take_bytes, then_take}
-use Rattle.std.proofs.Common.{Bool, Err, List, None, Ok, Option, Result, Some, [], ap, append_assoc, false, length, refl, true, ℕ, ◌++◌, ◌≡◌, ◌∙◌, ◌∷◌}
-use Rattle.std.specs.Prelude.{IfOk, ◌==◌}
-
-pub both_put : {A E : Type 0} (r : Result A E) (items : A → List ℕ) (start middle x y written : List ℕ) → middle ≡ start ++ x → written ≡ y
-    → IfOk r (λ made. items made ≡ middle ++ written) → IfOk r (λ made. items made ≡ start ++ (x ++ y))
-both_put (Ok made) items start middle x y written e f h = h ∙ ap (λ l. l ++ written) e ∙ append_assoc start x written ∙ ap (λ l. start ++ (x ++ l)) f
-both_put (Err err) items start middle x y written e f h = tt
+use Rattle.std.proofs.Common.{Bool, List, None, Option, Some, [], ap, false, length, refl, true, ℕ, ◌≡◌, ◌∷◌}
+use Rattle.std.specs.Prelude.{◌==◌}
 
 -- the word stands at the front exactly where as many bytes are taken there and are the word
 pub word_short : (word bytes : List ℕ) → take_bytes (length word) bytes ≡ None → take_word word bytes ≡ None

@@ -6,12 +6,13 @@ ghost use Rattle.salt_bytes.specs.Spellable.{Every};
 ghost use Rattle.salt_bytes.specs.Taking.{spell_each, take_each};
 ghost use Rattle.salt_bytes.specs.Values.{key_of};
 ghost use Rattle.salt_entries.specs.Entries.{HasRow};
-ghost use Rattle.salt_entries.specs.Taking.{Takes, TakesVec};
+ghost use Rattle.salt_codec.specs.Taking.{Takes};
+ghost use Rattle.salt_entries.specs.Taking.{TakesVec};
 ghost use Rattle.std.specs.Prelude.{IfOk, ◌++◌, ◌≡◌};
 
-use crate::error::TakeErr;
-use crate::put::{with_byte, with_key, with_row, with_u16, with_u64};
-use crate::take::{take_byte, take_key, take_row_from, take_u16, take_u64};
+use salt_codec::TakeErr;
+use salt_codec::put::{with_byte, with_row, with_u16, with_u64, with_value};
+use salt_codec::take::{take_byte, take_row_from, take_u16, take_u64, take_value};
 use salt_values::{Change, Key, Row, TryCopy, Value};
 use std::alloc::{AllocError, Global};
 
@@ -23,11 +24,11 @@ fn with_change(out: Vec<u8>, change: &Change) -> Result<Vec<u8>, AllocError>
     match &change.row {
         None => {
             let out = with_byte(out, 0)?;
-            with_key(out, &change.key)
+            with_value(out, &change.key)
         }
         Some(row) => {
             let out = with_byte(out, 1)?;
-            with_row(out, row)
+            with_row(out, row.as_slice())
         }
     }
 }
@@ -68,7 +69,7 @@ fn take_change(alloc: Global, nulls: bool, bytes: &[u8]) -> Result<(Change, &[u8
     let (kind, rest) = take_byte(rest)?;
     match kind {
         0 => {
-            let (key, rest) = take_key(alloc, rest)?;
+            let (key, rest) = take_value(alloc, false, rest)?;
             let row = None;
             Ok((Change { table, key, row }, rest))
         }

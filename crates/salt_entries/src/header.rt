@@ -5,13 +5,14 @@ ghost use Rattle.salt_bytes.specs.Numbers.{take_32};
 ghost use Rattle.salt_bytes.specs.Partition.{is_side, partition_header_in, spell_partition_header, take_partition_header};
 ghost use Rattle.salt_bytes.specs.Taking.{take_bytes, then_take};
 ghost use Rattle.salt_entries.specs.Entries.{header_of, take_pages_named};
-ghost use Rattle.salt_entries.specs.Taking.{TakesAs, TakesBytes, TakesWord};
+ghost use Rattle.salt_codec.specs.Taking.{TakesAs, TakesBytes};
+ghost use Rattle.salt_entries.specs.Taking.{TakesWord};
 ghost use Rattle.std.specs.List.{list_all};
 ghost use Rattle.std.specs.Prelude.{IfOk, codes, length, option_map, ◌<◌, ◌^◌, ◌≡◌};
 
-use crate::error::TakeErr;
-use crate::put::{with_byte, with_bytes, with_u32, with_u64};
-use crate::take::{take_byte, take_bytes, take_u32, take_u64};
+use salt_codec::TakeErr;
+use salt_codec::put::{with_byte, with_bytes, with_u32, with_u64};
+use salt_codec::take::{take_byte, take_bytes, take_u32, take_u64};
 use sqlite_items::Items;
 use std::alloc::{AllocError, Global};
 

@@ -2,12 +2,9 @@
 #![tactic(auto)]
 
 mod changes;
-mod error;
 mod header;
 mod order;
 mod prepared;
-mod put;
-mod take;
 mod told;
 
 pub use header::{Header, read_header, spell_header};

@@ -4,15 +4,15 @@ ghost use Rattle.salt_bytes.specs.Changes.{are_in_order};
 ghost use Rattle.salt_bytes.specs.Partition.{prepared_in, spell_prepared, take_prepared};
 ghost use Rattle.salt_bytes.specs.Spellable.{Every};
 ghost use Rattle.salt_entries.specs.Entries.{HasRow, IsPut, prepared_of};
-ghost use Rattle.salt_entries.specs.Taking.{TakesAs};
+ghost use Rattle.salt_codec.specs.Taking.{TakesAs};
 ghost use Rattle.std.specs.Prelude.{Bool, IfOk, Some, option_map, true, ◌≡◌};
 
 use crate::changes::{take_changes, with_changes};
-use crate::error::TakeErr;
 use crate::order::are_in_order;
-use crate::put::{with_byte, with_id};
-use crate::take::{take_byte, take_id};
 use crate::told::told_changes;
+use salt_codec::TakeErr;
+use salt_codec::put::{with_byte, with_id};
+use salt_codec::take::{take_byte, take_id};
 use salt_values::{Change, Id};
 use std::alloc::{AllocError, Global};
 

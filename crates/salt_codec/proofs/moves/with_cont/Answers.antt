@@ -17,7 +17,7 @@ returns c =
     let program : List ℕ = (length cont.program ∷ cont.program) ++ args in
     let accepted : List ℕ = spell_64 cont.accepted ++ program in
     let items = c.with_tries.result in
-    both_put items (λ made. made.items) c.args.out.items c.in_ok-out.out.items (spell_id cont.base) accepted accepted c.in_ok-out.ensures refl
+    both_put items (λ made. made.items) c.args.out.items c.in_ok-out.out.items (spell_id cont.base) accepted accepted c.in_ok-out.ensures.put refl
     (both_put items (λ made. made.items) c.in_ok-out.out.items c.in_ok-out-2.out.items (spell_64 cont.accepted) program program c.in_ok-out-2.ensures refl
     (both_put items (λ made. made.items) c.in_ok-out-2.out.items c.in_ok-out-3.out.items (length cont.program ∷ cont.program) args args c.in_ok-out-3.ensures refl
     (both_put items (λ made. made.items) c.in_ok-out-3.out.items c.in_ok-out-4.out.items (spell_values cont.args) vars vars c.in_ok-out-4.ensures refl

@@ -1,5 +1,6 @@
 use Rattle.salt_bytes.specs.Changes.{take_change}
-use Rattle.salt_entries.proofs.Lists.{each_fails, took_next}
+use Rattle.salt_codec.proofs.Values.{took_next}
+use Rattle.salt_entries.proofs.Lists.{each_fails}
 use Rattle.salt_entries.proofs.changes.take_each_change.Goals as goal
 use Rattle.std.proofs.lemmas.Result.{err_from_is_err_and}
 

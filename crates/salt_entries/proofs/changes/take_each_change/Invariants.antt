@@ -1,5 +1,5 @@
 use Rattle.salt_bytes.specs.Changes.{take_change}
-use Rattle.salt_entries.proofs.Lists.{Took}
+use Rattle.salt_codec.proofs.Values.{Took}
 use Rattle.salt_entries.proofs.changes.take_each_change.Given as goal
 
 abbrev pub invariant-loop-taken : goal.invariant-loop-taken

@@ -1,5 +1,5 @@
 use Rattle.salt_bytes.specs.Changes.{spell_change}
-use Rattle.salt_entries.proofs.Lists.{Puts}
+use Rattle.salt_codec.proofs.Values.{Puts}
 use Rattle.salt_entries.proofs.changes.with_each_change.Given as goal
 
 abbrev pub invariant-loop-change : goal.invariant-loop-change

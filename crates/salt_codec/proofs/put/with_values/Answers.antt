@@ -1,7 +1,7 @@
 use Rattle.salt_bytes.specs.Spellable.{IsSpellableValue}
 use Rattle.salt_bytes.specs.Values.{spell_value}
-use Rattle.salt_decisions.proofs.Values.{every_all, put_next, put_none, puts_all}
-use Rattle.salt_decisions.proofs.put.with_values.Goals as goal
+use Rattle.salt_codec.proofs.Values.{every_all, put_next, put_none, puts_all}
+use Rattle.salt_codec.proofs.put.with_values.Goals as goal
 use Rattle.std.proofs.Common.{arith}
 use Rattle.std.specs.Prelude.{true}
 
