@@ -1,9 +1,9 @@
 -- Things taken one behind the other: with one more, and where the next is misspelled.
 use Rattle.salt_bytes.specs.Taking.{Take, spell_each, take_each}
-use Rattle.salt_decisions.proofs.Values.{Took, took_fails, took_next}
-use Rattle.salt_decisions.specs.Taking.{Takes, TakesAs}
-use Rattle.salt_decisions.specs.declared.error.TakeErr.TheVariants.{Memory, Misspelled}
-use Rattle.salt_decisions.specs.declared.error.TakeErr.{TakeErr}
+use Rattle.salt_codec.proofs.Values.{Took, took_fails, took_next}
+use Rattle.salt_codec.specs.Taking.{Takes, TakesAs}
+use Rattle.salt_codec.specs.declared.error.TakeErr.TheVariants.{Memory, Misspelled}
+use Rattle.salt_codec.specs.declared.error.TakeErr.{TakeErr}
 use Rattle.std.proofs.Common.{Err, List, Some, [], ap, refl, ℕ, ◌++◌, ◌+◌, ◌<◌, ◌≡◌, ◌∙◌, ◌∷◌}
 use Rattle.std.specs.Prelude.{map}
 

@@ -1,6 +1,5 @@
 pub mod Appended
 pub mod Begun
-mod Bytes
 pub mod Contents
 mod Each
 mod Hearing
@@ -8,9 +7,7 @@ mod Keeping
 mod Moving
 mod Pairing
 mod Places
-mod Puts
 mod Saids
 pub mod Snapshots
 mod Unspent
-mod Values
 pub mod Witness

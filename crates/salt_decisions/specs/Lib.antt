@@ -1,4 +1,3 @@
-pub mod Taking
 pub mod Header
 pub mod Entry
 pub mod Which

@@ -2,12 +2,12 @@
 
 ghost use Rattle.salt_bytes.specs.Coordinator.{entry_in, take_decision, take_entry};
 ghost use Rattle.salt_decisions.specs.Entry.{decision_of, entry_of};
-ghost use Rattle.salt_decisions.specs.Taking.{TakesAs};
+ghost use Rattle.salt_codec.specs.Taking.{TakesAs};
 ghost use Rattle.std.specs.Prelude.{IfOk, nat_lt, option_map, ◌<◌, ◌^◌, ◌≡◌, ◌≤◌};
 
-use crate::error::TakeErr;
 use crate::header::{Definition, take_definition, take_text};
-use crate::take::{take_byte, take_id, take_u64};
+use salt_codec::TakeErr;
+use salt_codec::take::{take_byte, take_id, take_u64};
 use salt_values::{Bytes, Id};
 use std::alloc::{AllocError, Global};
 

@@ -1,13 +1,11 @@
-//! Why nothing is opened or read.
+//! Why nothing is opened.
 
 ghost use Rattle.salt_decisions.specs.Errors.{open_err_of};
-ghost use Rattle.salt_decisions.specs.Taking.{take_err_of};
-ghost use Rattle.salt_decisions.specs.declared.error.OpenErr.TheVariants as opening;
-ghost use Rattle.salt_decisions.specs.declared.error.TakeErr.TheVariants as taking;
+ghost use Rattle.salt_decisions.specs.declared.error.OpenErr.TheVariants.{Memory};
 ghost use Rattle.std.specs.Prelude.{◌≡◌};
 
 use salt_disk::DiskErr;
-use salt_values::{Shape, TextErr};
+use salt_values::Shape;
 use std::alloc::AllocError;
 
 /// Why devices are not opened.
@@ -43,37 +41,9 @@ impl From<DiskErr> for OpenErr {
 }
 
 impl From<AllocError> for OpenErr {
-    ghost from_gives = { λ _ e. e ≡ opening.Memory };
+    ghost from_gives = { λ _ e. e ≡ Memory };
 
     fn from(_e: AllocError) -> OpenErr {
         OpenErr::Memory
-    }
-}
-
-/// Why a thing is not taken from the front of bytes.
-#[derive(Clone, Copy, Debug, PartialEq, Eq)]
-pub enum TakeErr {
-    /// No such thing is spelled there.
-    Misspelled,
-    /// Memory ran out.
-    Memory,
-}
-
-impl From<AllocError> for TakeErr {
-    ghost from_gives = { λ _ e. e ≡ taking.Memory };
-
-    fn from(_e: AllocError) -> TakeErr {
-        TakeErr::Memory
-    }
-}
-
-impl From<TextErr> for TakeErr {
-    ghost from_gives = { λ e f. f ≡ take_err_of e };
-
-    fn from(e: TextErr) -> TakeErr {
-        match e {
-            TextErr::NotText => TakeErr::Misspelled,
-            TextErr::Memory => TakeErr::Memory,
-        }
     }
 }

@@ -13,7 +13,7 @@ ghost use Rattle.salt_values.specs.declared.placement.PlaceKind.{PlaceKind};
 ghost use Rattle.std.specs.Prelude.{IfOk, OnOk, [], length, map, nat_le, true, ◌++◌, ◌∷◌, ◌≡◌};
 
 use crate::header::{Definition, MARK};
-use crate::put::{with_byte, with_bytes, with_id, with_text, with_u32, with_u64, with_values};
+use salt_codec::put::{with_byte, with_bytes, with_id, with_text, with_u32, with_u64, with_values};
 use salt_values::{Cont, Name, PlaceKind, Row, Shape};
 use std::alloc::{AllocError, Global};
 

@@ -13,10 +13,8 @@ mod moves;
 mod open;
 mod pair;
 mod payload;
-mod put;
 mod read;
 mod said;
-mod take;
 mod which;
 
 pub use decisions::Decisions;

@@ -3,7 +3,7 @@
 ghost use Rattle.salt_bytes.specs.Coordinator.{Boots, Decides, Defines, spell_entry};
 ghost use Rattle.std.specs.Prelude.{IfOk, ◌≡◌};
 
-use crate::put::{with_byte, with_id, with_text, with_u64};
+use salt_codec::put::{with_byte, with_id, with_text, with_u64};
 use salt_values::Id;
 use std::alloc::{AllocError, Global};
 

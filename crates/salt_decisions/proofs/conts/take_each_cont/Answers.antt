@@ -1,6 +1,6 @@
 use Rattle.salt_bytes.specs.Conts.{take_cont}
 use Rattle.salt_decisions.proofs.Each.{each_fails}
-use Rattle.salt_decisions.proofs.Values.{took_next}
+use Rattle.salt_codec.proofs.Values.{took_next}
 use Rattle.salt_decisions.proofs.conts.take_each_cont.Goals as goal
 use Rattle.std.proofs.lemmas.Result.{err_from_is_err_and}
 

@@ -1,6 +1,6 @@
 use Rattle.salt_bytes.specs.Coordinator.{take_numbered}
 use Rattle.salt_decisions.specs.Header.{numbered_of}
-use Rattle.salt_decisions.proofs.Values.{Took}
+use Rattle.salt_codec.proofs.Values.{Took}
 use Rattle.salt_decisions.proofs.header.take_each_definition.Given as goal
 use Rattle.std.specs.Prelude.{map}
 

@@ -1,7 +1,7 @@
 use Rattle.salt_bytes.specs.Ids.{spell_id}
 use Rattle.salt_bytes.specs.Numbers.{spell_32, spell_64}
 use Rattle.salt_bytes.specs.Values.{spell_values}
-use Rattle.salt_decisions.proofs.Puts.{always, both_put}
+use Rattle.salt_codec.proofs.Puts.{always, both_put}
 use Rattle.salt_decisions.proofs.header_payload.with_cont.Goals as goal
 use Rattle.std.proofs.Common.{List, [], arith, length, refl, ℕ, ◌++◌, ◌∷◌}
 

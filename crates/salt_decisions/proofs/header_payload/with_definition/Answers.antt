@@ -1,6 +1,6 @@
 use Rattle.salt_bytes.specs.Coordinator.{spell_text}
 use Rattle.salt_bytes.specs.Numbers.{spell_64}
-use Rattle.salt_decisions.proofs.Puts.{both_put}
+use Rattle.salt_codec.proofs.Puts.{both_put}
 use Rattle.salt_decisions.proofs.header_payload.with_definition.Goals as goal
 use Rattle.std.proofs.Common.{ap}
 

@@ -1,6 +1,6 @@
 use Rattle.salt_bytes.specs.Conts.{spell_cont}
 use Rattle.salt_bytes.specs.Spellable.{IsSpellableCont}
-use Rattle.salt_decisions.proofs.Values.{every_all, put_next, put_none, puts_all}
+use Rattle.salt_codec.proofs.Values.{every_all, put_next, put_none, puts_all}
 use Rattle.salt_decisions.proofs.header_payload.with_each_cont.Goals as goal
 use Rattle.std.proofs.Common.{arith}
 

@@ -1,7 +1,7 @@
 use Rattle.salt_bytes.specs.Coordinator.{spell_numbered}
 use Rattle.salt_bytes.specs.Spellable.{IsSpellableNumbered}
 use Rattle.salt_decisions.proofs.Each.{spell_each_as}
-use Rattle.salt_decisions.proofs.Values.{every_all, every_as, put_next, put_none, puts_all}
+use Rattle.salt_codec.proofs.Values.{every_all, every_as, put_next, put_none, puts_all}
 use Rattle.salt_decisions.proofs.header_payload.with_each_definition.Goals as goal
 use Rattle.salt_decisions.specs.Header.{numbered_of}
 use Rattle.std.proofs.Common.{ap, arith, ◌++◌, ◌∙◌}

@@ -1,6 +1,6 @@
 use Rattle.salt_bytes.specs.Coordinator.{spell_numbered}
 use Rattle.salt_bytes.specs.Spellable.{IsSpellableNumbered}
-use Rattle.salt_decisions.proofs.Values.{PutSo}
+use Rattle.salt_codec.proofs.Values.{PutSo}
 use Rattle.salt_decisions.proofs.header_payload.with_each_definition.Given as goal
 use Rattle.salt_decisions.specs.Header.{numbered_of}
 
