@@ -1,5 +1,6 @@
 pub mod CallAfterCall
 mod DeviceLists
+mod Marked
 mod MarksMade
 mod Left
 mod Seen

@@ -2,6 +2,7 @@
 use Rattle.std.specs.Prelude.{◌≡◌, ◌≢◌, ℕ, ◌+◌, ◌≤◌, true, List, [], length, Option, Some, None, slice_get}
 use Rattle.salt_disk.specs.Disks.{View, written}
 use Rattle.salt_disk.specs.Device.{IsLeft, IsSynced, IsWritten}
+use Rattle.salt_disk.specs.Picks.{HasPicked, left_length}
 use Rattle.salt_disk.specs.declared.device.Device.{Device}
 
 -- One device has changed so, and each other is as it was.
@@ -27,9 +28,11 @@ pub record Syncs (old new : Device) : Type 0 where
   pub now : new.now.items ≡ old.now.items
   pub limit : new.limit ≡ old.limit
 
--- nothing is pending, and the bytes are one of the images
-pub record Stops (old new : Device) : Type 0 where
+-- nothing is pending, and the bytes are the image of the pick
+pub record Stops (pick : ℕ) (old new : Device) : Type 0 where
   pub left : IsLeft old new.now.items
+  pub size : length new.now.items ≡ left_length pick old
+  pub picked : HasPicked pick old.from old.marks.items old.now.items new.now.items
   pub synced : IsSynced new
   pub limit : new.limit ≡ old.limit
 

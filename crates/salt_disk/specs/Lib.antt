@@ -4,3 +4,4 @@ pub mod Devices
 pub mod Disks
 pub mod Marks
 pub mod MemDisks
+pub mod Picks

@@ -1,8 +1,9 @@
 -- What contracts see of disks in memory, and what is done to them beside the calls of the trait.
 use Rattle.std.specs.Prelude.{IsTrue, List, None, Option, Some, [], if◌then◌else◌, length, nat_le, ℕ, ◌<◌, ◌≡◌, ◌≢◌, ◌∷◌}
 use Rattle.salt_disk.specs.Calls.{one_more}
-use Rattle.salt_disk.specs.Devices.{view_of}
+use Rattle.salt_disk.specs.Devices.{ChangesAt, ChangesEach, Stops, Writes, view_of}
 use Rattle.salt_disk.specs.Disks.{IsSettled, IsUnchanged, SameShape, View}
+use Rattle.salt_disk.specs.declared.device.Device.{Device}
 use Rattle.salt_disk.specs.declared.memory.MemDisks.{MemDisks}
 use Rattle.salt_disk.specs.declared.memory.Stop.{Stop}
 
@@ -48,3 +49,17 @@ pub record HasBytes (old new : View) (dev : ℕ) (bytes : List ℕ) : Type 0 whe
 abbrev pub due_pick : List Stop → ℕ → Option ℕ
 due_pick [] since = None
 due_pick (stop ∷ stops) since = if nat_le stop.calls (one_more since) then Some stop.pick else None
+
+-- A stop has come at a write, the first in the list: the write is issued, and then each device is left as the pick says.
+pub record IsStoppedWrite (old new : MemDisks) (dev at : ℕ) (bytes : List ℕ) : Type 0 where
+  pub pick : ℕ
+  pub due : due_pick old.stops.items old.since_first ≡ Some pick
+  pub issued : List Device
+  pub writes : ChangesAt old.devices.items issued dev (λ d e. Writes d e at bytes)
+  pub stops : ChangesEach issued new.devices.items (Stops pick)
+
+-- likewise at a sync, which is not done
+pub record IsStoppedSync (old new : MemDisks) : Type 0 where
+  pub pick : ℕ
+  pub due : due_pick old.stops.items old.since_first ≡ Some pick
+  pub stops : ChangesEach old.devices.items new.devices.items (Stops pick)

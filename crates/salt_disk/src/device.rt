@@ -21,6 +21,7 @@ impl Device {
     ghost use Rattle.std.specs.Prelude.{ℕ, ◌<◌, ◌^◌, OnOk, OnErr};
     ghost use Rattle.salt_disk.specs.Disks.{written};
     ghost use Rattle.salt_disk.specs.Device.{IsLeft, IsNew, IsSame, IsSynced, IsWritten};
+    ghost use Rattle.salt_disk.specs.Picks.{HasPicked, left_length};
 
     /// A device without a byte.
     pub fn new(alloc: Global, limit: u64) -> Device
@@ -92,9 +93,11 @@ impl Device {
         self.synced_len = self.now.len();
     }
 
-    /// Leaves one of the images, with nothing pending.
+    /// Leaves the image of the pick, with nothing pending.
     pub fn stop(&mut self, pick: u8)
         ensures left { IsLeft self.old self.new.now.items }
+        ensures length { length self.new.now.items ≡ left_length pick self.old }
+        ensures picked { HasPicked pick self.old.from self.old.marks.items self.old.now.items self.new.now.items }
         ensures synced { IsSynced self.new }
         ensures limit { self.new.limit ≡ self.old.limit }
     {

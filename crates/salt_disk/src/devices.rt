@@ -80,7 +80,7 @@ pub fn sync_all(devices: &mut Vec<Device>)
 }
 
 pub fn stop_all(devices: &mut Vec<Device>, pick: u8)
-    ensures { ChangesEach devices.old.items devices.new.items Stops }
+    ensures { ChangesEach devices.old.items devices.new.items (Stops pick) }
 {
     for dev in 0..devices.len() {
         let device = &mut devices[dev];

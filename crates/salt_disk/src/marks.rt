@@ -1,7 +1,8 @@
 //! The places of a device that a write has covered since the last sync.
-ghost use Rattle.std.specs.Prelude.{◌≡◌, ℕ, ◌+◌, ◌-◌, ◌<◌, ◌≤◌, length, IfOk, IsNone, slice_index, slice_index_or, None};
+ghost use Rattle.std.specs.Prelude.{◌≡◌, ◌⊎◌, ℕ, ◌+◌, ◌-◌, ◌<◌, ◌≤◌, length, IfOk, IsNone, IsSome, Some, slice_index, slice_index_or, None, unwrap_or};
 ghost use Rattle.salt_disk.specs.Disks.{written};
 ghost use Rattle.salt_disk.specs.Marks.{place_mark, mark_after};
+ghost use Rattle.salt_disk.specs.Picks.{HasPicked, mark_at};
 
 use std::alloc::{AllocError, Global};
 
@@ -66,7 +67,9 @@ fn put_marked(
 )
     requires within { from + length marks.now ≤ length now.old }
     requires end { end ≤ length marks.now }
-    ensures { (i : ℕ) → IsNone (place_mark from marks.now i) → slice_index now.new i ≡ slice_index now.old i }
+    ensures unmarked { (i : ℕ) → IsNone (place_mark from marks.now i) → slice_index now.new i ≡ slice_index now.old i }
+    ensures outside { (i : ℕ) → (i < from + start) ⊎ (from + end ≤ i) → slice_index now.new i ≡ slice_index now.old i }
+    ensures marked { (k byte : ℕ) → start ≤ k → k < end → mark_at marks.now k ≡ Some byte → slice_index now.new (from + k) ≡ unwrap_or value byte }
 {
     for k in start..end {
         if let Some(byte) = marks[k] {
@@ -80,6 +83,8 @@ fn run_end(marks: &[Option<u8>], start: usize) -> usize
     requires { start ≤ length marks.now }
     ensures after { start ≤ result }
     ensures within { result ≤ length marks.now }
+    ensures marked { (k : ℕ) → start ≤ k → k < result → IsSome (mark_at marks.now k) }
+    ensures behind { IsNone (mark_at marks.now result) }
 {
     let mut end = start;
     while end < marks.len() && marks[end].is_some() {
@@ -91,7 +96,8 @@ fn run_end(marks: &[Option<u8>], start: usize) -> usize
 /// Makes of the pending bytes what a stop with this pick leaves.
 pub fn settle(now: &mut [u8], from: usize, marks: &[Option<u8>], pick: u8)
     requires { from + length marks.now ≤ length now.old }
-    ensures { (i : ℕ) → IsNone (place_mark from marks.now i) → slice_index now.new i ≡ slice_index now.old i }
+    ensures unmarked { (i : ℕ) → IsNone (place_mark from marks.now i) → slice_index now.new i ≡ slice_index now.old i }
+    ensures picked { HasPicked pick from marks.now now.old now.new }
 {
     match pick {
         0 => put_marked(now, from, marks, 0, marks.len(), None),
@@ -105,6 +111,6 @@ pub fn settle(now: &mut [u8], from: usize, marks: &[Option<u8>], pick: u8)
             }
         }
         3 => put_marked(now, from, marks, 0, marks.len(), Some(1)),
-        _ => put_marked(now, from, marks, 0, marks.len(), Some(255)),
+        4.. => put_marked(now, from, marks, 0, marks.len(), Some(255)),
     }
 }

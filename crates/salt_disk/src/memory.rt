@@ -1,8 +1,11 @@
 //! Disks in memory, that stop and fail where they are told to.
-ghost use Rattle.std.specs.Prelude.{◌≡◌, ◌+◌, ◌<◌, IfOk, OnErr, OnOk, length, slice_get};
+ghost use Rattle.std.specs.Prelude.{◌≡◌, ◌+◌, ◌^◌, ◌<◌, ◌≤◌, IfOk, IsTrue, OnErr, OnOk, length, slice_get};
+ghost use Rattle.std.specs.Result.{result_err};
 ghost use Rattle.salt_disk.specs.Calls.{after_call, with_failing, with_failing_from};
 ghost use Rattle.salt_disk.specs.Devices.{ChangesEach, Stops};
-ghost use Rattle.salt_disk.specs.MemDisks.{AreNew, HasBytes, HasLimit, due_pick, seen};
+ghost use Rattle.salt_disk.specs.Disks.{FullExactly, HasCause, IfNothingDone, IsSettled, IsUnchanged, KeepsOthers, NeverFull, Shrinks, Tears, written};
+ghost use Rattle.salt_disk.specs.MemDisks.{AreNew, HasBytes, HasLimit, IsStoppedSync, IsStoppedWrite, due_pick, seen};
+ghost use Rattle.salt_disk.specs.declared.disks.DiskErr.TheVariants.{Stopped};
 
 use crate::calls::Calls;
 use crate::device::Device;
@@ -137,7 +140,7 @@ impl MemDisks {
     // Leaves each device as the pick says. The next stop is then the first.
     fn stop(&mut self, pick: u8)
         requires { 0 < length self.old.stops.items }
-        ensures devices { ChangesEach self.old.devices.items self.new.devices.items Stops }
+        ensures devices { ChangesEach self.old.devices.items self.new.devices.items (Stops pick) }
         ensures stops { length self.new.stops.items + 1 ≡ length self.old.stops.items }
         ensures faults { self.new.faults ≡ self.old.faults }
         ensures since { self.new.since_first ≡ 0 }
@@ -164,7 +167,19 @@ impl Disks for MemDisks {
         Ok(copy_from(&device.now, at, buf))
     }
 
-    fn write_at(&mut self, dev: u32, at: u64, bytes: &[u8]) -> Result<(), DiskErr> {
+    fn write_at(&mut self, dev: u32, at: u64, bytes: &[u8]) -> Result<(), DiskErr>
+        requires known { dev < (seen self.old).count }
+        requires place { IsTrue (seen self.old).told → at ≤ length ((seen self.old).bytes dev) }
+        ensures ok { OnOk result (IsTrue (seen self.old).told → (seen self.new).bytes dev ≡ written ((seen self.old).bytes dev) at bytes.now) }
+        ensures nothing { IfNothingDone (result_err result) (IsUnchanged (seen self.old) (seen self.new) dev) }
+        ensures images { Tears (seen self.old) (seen self.new) dev at (length bytes.now) }
+        ensures others { KeepsOthers dev (seen self.old) (seen self.new) (result_err result) }
+        ensures stopped { result ≡ Err Stopped → (d : _) → d < (seen self.old).count → IsSettled (seen self.new) d }
+        ensures cause { HasCause (seen self.old) (seen self.new) (result_err result) }
+        ensures full { FullExactly dev ((seen self.old).limit dev) (at + length bytes.now) (result_err result) }
+        ensures limit { (seen self.old).limit dev < 2 ^ 64 }
+        ensures picked { result ≡ Err Stopped → IsStoppedWrite self.old self.new dev at bytes.now }
+    {
         if !has_room(&self.devices, dev as usize, at, bytes.len()) {
             return Err(DiskErr::Full(dev));
         }
@@ -189,7 +204,18 @@ impl Disks for MemDisks {
         Err(DiskErr::Stopped)
     }
 
-    fn sync(&mut self, dev: u32) -> Result<(), DiskErr> {
+    fn sync(&mut self, dev: u32) -> Result<(), DiskErr>
+        requires { dev < (seen self.old).count }
+        ensures ok { OnOk result (IsSettled (seen self.new) dev) }
+        ensures bytes { OnOk result ((seen self.new).bytes dev ≡ (seen self.old).bytes dev) }
+        ensures nothing { IfNothingDone (result_err result) (IsUnchanged (seen self.old) (seen self.new) dev) }
+        ensures images { Shrinks (seen self.old) (seen self.new) dev }
+        ensures others { KeepsOthers dev (seen self.old) (seen self.new) (result_err result) }
+        ensures stopped { result ≡ Err Stopped → (d : _) → d < (seen self.old).count → IsSettled (seen self.new) d }
+        ensures cause { HasCause (seen self.old) (seen self.new) (result_err result) }
+        ensures answers { NeverFull (result_err result) }
+        ensures picked { result ≡ Err Stopped → IsStoppedSync self.old self.new }
+    {
         let pick = self.due_pick();
         let fails = self.writes.fails_next();
         self.count_write();
