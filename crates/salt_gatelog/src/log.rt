@@ -50,6 +50,13 @@ pub fn create<D: Disks>(disks: &mut D, dev: u32) -> Result<GateLog, DiskErr>
 }
 
 impl GateLog {
+    /// The device that it stands on.
+    pub fn device(&self) -> u32
+        ensures { result ≡ device_of self.now }
+    {
+        self.dev
+    }
+
     /// How many entries there are.
     pub fn count(&self) -> u64
         ensures { result ≡ count_of self.now }

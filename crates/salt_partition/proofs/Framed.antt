@@ -3,8 +3,9 @@ use Rattle.salt_bytes.specs.Generations.{Counts, LogA, LogB, WhichLog}
 use Rattle.salt_bytes.specs.Log.{entries_in}
 use Rattle.salt_disk.specs.Disks.{IsSettled, IsUnchanged, SameShape, View}
 use Rattle.salt_gatelog.proofs.Frame.{log_kept}
+use Rattle.salt_partition.proofs.Logged.{count_of_units}
 use Rattle.salt_partition.proofs.Standing.{settled_kept}
-use Rattle.salt_partition.specs.Partitions.{IsPartition, IsPreparedLast, MayPrepare, prepared}
+use Rattle.salt_partition.specs.Partitions.{IsPartition, IsPreparedLast, MayPrepare, prepared, unit_count}
 use Rattle.salt_partition.specs.declared.partition.Partition.{Partition}
 use Rattle.salt_stands.proofs.Pairs.{pair_same}
 use Rattle.salt_bytes.specs.Formats.{has_nulls}
@@ -21,7 +22,7 @@ use Rattle.salt_stands.specs.Stands.{logs_of}
 use Rattle.salt_values.specs.declared.change.Change.{Change}
 use Rattle.salt_values.specs.declared.id.Id.{Id}
 use Rattle.std.specs.Prelude.{if◌then◌else◌, map}
-use Rattle.std.proofs.Common.{Bool, IsTrue, List, None, Some, ap, arith, false, refl, subst, sym, true, ℕ, ◌+◌, ◌≡◌, ◌∙◌}
+use Rattle.std.proofs.Common.{Bool, IsTrue, List, None, Some, ap, arith, false, length, refl, subst, sym, true, ℕ, ◌+◌, ◌≡◌, ◌∙◌}
 
 -- what holds of both logs holds of each
 at_log : (P : ℕ → Type 0) (a : ℕ) (which : WhichLog) → P a → P (a + 1) → P (device_of a which)
@@ -62,6 +63,10 @@ partition_kept d e x p v applied shape first second is =
 -- nothing is pending on its logs
 pub logs_settled : (d : View) (x : Partition) (p : ℕ) (v : PartView) (applied : List Id) → IsPartition d x p v applied → IsSettled d (part_device p) × IsSettled d (part_device p + 1)
 logs_settled d x p v applied is = both_logs (IsSettled d) (part_device p) v.which (subst (λ (k : ℕ). IsSettled d k) is.device is.is_log.settled) is.other
+
+-- its units are those that its log says
+pub units_counted : (d : View) (x : Partition) (p : ℕ) (v : PartView) (applied : List Id) → IsPartition d x p v applied → IsTrue d.told → unit_count x ≡ length v.log.prepared
+units_counted d x p v applied is told = let units = count_of_units d x p v applied is told in omega (arith, units, is.is_log.count)
 
 -- a unit that was prepared may be applied
 pub may_apply : (v : PartView) (applied : List Id) (u : Id) (cs : List Change) → MayPrepare v applied u cs → IsPreparedLast (with_prepared_unit v (prepared u cs)) applied u

@@ -16,7 +16,7 @@ use Rattle.salt_stands.specs.Pieces.{PartView, is_prepared_in, other_log}
 use Rattle.salt_stands.specs.Stands.{logs_of}
 use Rattle.salt_values.specs.declared.change.Change.{Change}
 use Rattle.salt_values.specs.declared.id.Id.{Id}
-use Rattle.std.specs.Prelude.{IsTrue, List, Some, [], false, length, true, ℕ, ◌++◌, ◌<◌, ◌≡◌, ◌∷◌}
+use Rattle.std.specs.Prelude.{Bool, IsTrue, List, Some, [], false, length, true, ℕ, ◌++◌, ◌-◌, ◌<◌, ◌≡◌, ◌∷◌}
 
 -- the device of the log that counts
 abbrev pub log_device : Partition → ℕ
@@ -25,6 +25,14 @@ log_device x = x.log.dev
 -- where its closed gate stands
 abbrev pub log_gate : Partition → ℕ
 log_gate x = x.log.end
+
+-- whether NULL is spelled in it
+abbrev pub spells_nulls : Partition → Bool
+spells_nulls x = x.nulls
+
+-- how many entries it has behind its header
+abbrev pub unit_count : Partition → ℕ
+unit_count x = x.log.count - 1
 
 -- What holds where the disks tell their bytes: the log that counts and its pair say what the view has, no page is named, and the
 -- rows are those of the units that were applied.

@@ -6,7 +6,7 @@ ghost use Rattle.salt_disk.specs.Disks.{EachImage, FullExactly, HasCause, KeepsA
 ghost use Rattle.salt_eval.specs.Views.{next_row};
 ghost use Rattle.salt_gatelog.specs.Log.{IsBeforeOrWith};
 ghost use Rattle.salt_model.specs.Tables.{place, row_at};
-ghost use Rattle.salt_partition.specs.Partitions.{IsPartition, IsPreparedLast, MayPrepare, Stands, StandsFor, StandsWith, changes_in, log_device, log_gate, prepared};
+ghost use Rattle.salt_partition.specs.Partitions.{IsPartition, IsPreparedLast, MayPrepare, Stands, StandsFor, StandsWith, changes_in, log_device, log_gate, prepared, spells_nulls, unit_count};
 ghost use Rattle.salt_stands.specs.Partition.{part_tables};
 ghost use Rattle.salt_stands.specs.Pieces.{PartView, with_prepared_unit};
 ghost use Rattle.salt_values.specs.declared.id.Id.{Id};
@@ -38,6 +38,27 @@ pub struct Partition {
 }
 
 impl Partition {
+    /// The device of the log that counts.
+    pub fn device(&self) -> u32
+        ensures { result ≡ log_device self.now }
+    {
+        self.log.device()
+    }
+
+    /// Whether NULL is spelled in its log, as the log's format tells.
+    pub fn nulls(&self) -> bool
+        ensures { result ≡ spells_nulls self.now }
+    {
+        self.nulls
+    }
+
+    /// How many units are prepared in its log.
+    pub fn prepared_count(&self) -> u64
+        ensures { result ≡ unit_count self.now }
+    {
+        self.log.count().saturating_sub(1)
+    }
+
     /// Prepares a unit: its changes become the last entry of the log, and the rows stay. Whatever the call answers, each image of
     /// the log's device has the entries from before, with the new one or without it. `Full` comes where the entry and the next
     /// closed gate would pass the device's limit. After an error the partition is opened again before it is used.
