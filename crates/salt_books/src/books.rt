@@ -21,8 +21,9 @@ ghost use Rattle.std.specs.Prelude.{IfOk, IfSome, List, OnOk, [], get_or, length
 
 use crate::held::{Held, count_bases};
 use salt_ast::Statement;
+use salt_ids::next_number;
 use salt_model::UnitKind;
-use salt_store::{Store, next_number};
+use salt_store::Store;
 use salt_units::OpenUnit;
 use salt_values::Id;
 use std::alloc::{AllocError, Global};

@@ -6,7 +6,7 @@ ghost use Rattle.std.specs.List.{filter};
 ghost use Rattle.std.specs.Option.{option_copied};
 ghost use Rattle.std.specs.Prelude.{None, OnOk, Some, if◌then◌else◌, not, ◌≡◌};
 
-use salt_store::is_same_id;
+use salt_ids::is_same_id;
 use salt_values::{Id, Name, TryCopy};
 use std::alloc::{AllocError, Global};
 

@@ -11,9 +11,10 @@ ghost use Rattle.std.specs.Prelude.{IfOk, if◌then◌else◌, is_some, true, �
 
 use salt_ast::Statement;
 use salt_eval::{MapView, ViewErr};
+use salt_ids::{is_same_id, next_number};
 use salt_model::{Answer, UnitKind};
 use salt_schema::Schema;
-use salt_store::{Tables, is_same_id, next_number};
+use salt_store::Tables;
 use salt_units::OpenUnit;
 use salt_values::Id;
 use std::alloc::{AllocError, Global};

@@ -20,8 +20,9 @@ ghost use Rattle.std.specs.Prelude.{IfOk, IfSome, None, Some, length, map, optio
 use crate::books::Books;
 use crate::held::{Held, program_begun};
 use salt_ast::{Act, Line, Statement};
+use salt_ids::next_number;
 use salt_model::Reach;
-use salt_store::{Store, next_number};
+use salt_store::Store;
 use salt_values::Id;
 use std::alloc::{AllocError, Global};
 

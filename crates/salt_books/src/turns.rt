@@ -18,7 +18,8 @@ ghost use Rattle.std.specs.Prelude.{IfOk, None, OnOk, is_some, length, option_ma
 use crate::books::Books;
 use crate::held::Held;
 use salt_ast::{Line, ProgramDef, TableDef};
-use salt_store::{Defined, is_same_id};
+use salt_ids::is_same_id;
+use salt_store::Defined;
 use salt_values::{Cont, Id};
 use std::alloc::{AllocError, Global};
 

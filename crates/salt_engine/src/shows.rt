@@ -9,8 +9,8 @@ ghost use Rattle.salt_model.specs.declared.events.Event.{Event};
 
 use crate::engine::Engine;
 use crate::follow::Follow;
-use crate::names::{both_in_order, in_order};
 use salt_ast::Line;
+use salt_ids::{both_in_order, in_order};
 use salt_model::{BaseAt, Event, Item, Items};
 use salt_values::{Id, TryCopy};
 use std::alloc::AllocError;

@@ -11,5 +11,4 @@ mod store;
 mod texts;
 
 pub use changes::Tables;
-pub use ids::{is_same_id, next_number};
 pub use store::{Defined, Store};

@@ -6,7 +6,7 @@ ghost use Rattle.std.specs.List.{find, position};
 ghost use Rattle.std.specs.Option.{option_copied};
 ghost use Rattle.std.specs.Prelude.{◌≡◌};
 
-use crate::ids::is_same_id;
+use salt_ids::is_same_id;
 use salt_values::{Cont, Id};
 
 /// Where the continuation of a program stands.

@@ -10,10 +10,10 @@ ghost use Rattle.salt_watch.specs.Watched.{AreSourcesOf};
 ghost use Rattle.std.specs.List.{flat_map, list_any};
 ghost use Rattle.std.specs.Prelude.{IfOk, List, OnOk, map, not, ◌&&◌, ◌++◌, ◌≡◌};
 
-use crate::names::has;
 use crate::served::against;
 use crate::waiters::Waiter;
 use salt_deps::Deps;
+use salt_ids::has_id;
 use salt_locks::LockTable;
 use salt_model::Owner;
 use salt_values::{Id, Ids};
@@ -25,7 +25,7 @@ fn is_awaited(deps: &Deps, base: Option<Id>, among: &[Id]) -> bool
     ensures { result ≡ list_any (λ b. not ((dependencies deps.now).finished b) && is_base_of base b) among.now }
 {
     match base {
-        Some(base) => has(among, base) && !deps.is_finished(base),
+        Some(base) => has_id(among, base) && !deps.is_finished(base),
         None => false,
     }
 }

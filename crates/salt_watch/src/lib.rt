@@ -6,8 +6,6 @@
 
 mod graph;
 mod laws;
-mod names;
-mod numbers;
 mod served;
 mod shown;
 mod waiters;

@@ -26,12 +26,11 @@ ghost use Rattle.std.specs.Option.{option_copied};
 ghost use Rattle.std.specs.Prelude.{IfOk, List, OnOk, [], map, ℕ, ◌++◌, ◌∷◌, ◌≡◌};
 
 use crate::graph::wait_graph;
-use crate::names::{drop_names, insert_id};
-use crate::numbers::next_number;
 use crate::served::{clashing, served};
 use crate::shown::lock_items;
 use crate::waiters::{Waiter, leave};
 use salt_deps::Deps;
+use salt_ids::{drop_ids, insert_id, next_number};
 use salt_locks::LockTable;
 use salt_model::{Family, Items, Owner, Owners, Reach};
 use salt_values::{Change, Id, Ids};
@@ -202,7 +201,7 @@ impl Watching {
     {
         let due = self.deps.finished(base)?;
         release(&mut self.locks, due.as_slice());
-        drop_names(&mut self.programs, due.as_slice());
+        drop_ids(&mut self.programs, due.as_slice());
         Ok(due)
     }
 

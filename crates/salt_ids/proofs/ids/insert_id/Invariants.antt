@@ -1,7 +1,6 @@
-use Rattle.salt_store.proofs.ids.insert_id.Given as goal
 use Rattle.salt_model.specs.Words.{insert_id}
-use Rattle.std.proofs.Common.{length, ◌-◌, ◌++◌, ◌≡◌, ◌≤◌}
-use Rattle.std.specs.Prelude.{drop, take}
+use Rattle.salt_ids.proofs.ids.insert_id.Given as goal
+use Rattle.std.proofs.Common.{drop, length, take, ◌++◌, ◌-◌, ◌≡◌, ◌≤◌}
 
 abbrev pub invariant-loop-at : goal.invariant-loop-at
 invariant-loop-at l = (l.at ≤ length l.ids.items) × (insert_id l.id l.ids.items ≡ take l.at l.ids.items ++ insert_id l.id (drop l.at l.ids.items))

@@ -1,4 +1,4 @@
-use Rattle.salt_engine.proofs.names.both_in_order.Given as goal
+use Rattle.salt_ids.proofs.ids.both_in_order.Given as goal
 use Rattle.salt_model.specs.Words.{in_order}
 use Rattle.std.proofs.Common.{drop, length, ◌++◌, ◌≡◌, ◌≤◌}
 

@@ -1,4 +1,4 @@
-use Rattle.salt_engine.proofs.names.drop_names.Goals as goal
+use Rattle.salt_ids.proofs.ids.drop_ids.Goals as goal
 use Rattle.std.proofs.Common.{rules}
 use Rattle.std.proofs.lemmas.Fn.{filter_same}
 
