@@ -1,12 +1,10 @@
 //! The names by which programs under way were called.
 
-ghost use Rattle.std.specs.Prelude.{◌≡◌, ◌||◌, OnOk, true};
-ghost use Rattle.salt_books.specs.Called.{name_told};
-ghost use Rattle.salt_engine.specs.Calling.{Forgets, IsCalled};
-ghost use Rattle.salt_model.specs.Words.{has_id};
-ghost use Rattle.salt_values.specs.declared.id.Id.{Id};
+ghost use Rattle.std.specs.Prelude.{◌≡◌, OnOk};
+ghost use Rattle.salt_engine.specs.Calling.{Forgets, ForgetsIdle, IsCalled, is_under_way, listed};
 
 use salt_books::{Books, CalledNames};
+use salt_ids::has_id;
 use salt_model::UnitKind;
 use salt_values::Id;
 use salt_watch::Watching;
@@ -22,23 +20,16 @@ pub fn note_call(called: &mut CalledNames, kind: &UnitKind) -> Result<(), AllocE
     }
 }
 
-/// Whether the name is among these.
-pub fn has(names: &[Id], name: Id) -> bool
-    ensures { result ≡ has_id name names.now }
-{
-    names.iter().any(|other| name == *other)
-}
-
 /// Whether a program is accepted or in its first part.
 fn is_under_way(base: Id, accepted: &[Id], beginning: &[Id]) -> bool
-    ensures { result ≡ (has_id base accepted.now || has_id base beginning.now) }
+    ensures { result ≡ is_under_way accepted.now beginning.now base }
 {
-    has(accepted, base) || has(beginning, base)
+    has_id(accepted, base) || has_id(beginning, base)
 }
 
 /// The names of these programs are forgotten, but of those that are accepted or in their first part.
 fn forget_idle(called: &mut CalledNames, gone: &[Id], accepted: &[Id], beginning: &[Id])
-    ensures { (b : Id) → (has_id b accepted.now || has_id b beginning.now) ≡ true → name_told called.new b ≡ name_told called.old b }
+    ensures { Forgets accepted.now beginning.now gone.now called.old called.new }
 {
     for base in gone {
         if !is_under_way(*base, accepted, beginning) {
@@ -54,7 +45,7 @@ pub fn forget(
     watch: &Watching,
     gone: &[Id],
 ) -> Result<(), AllocError>
-    ensures { OnOk result (Forgets books.now watch.now called.old called.new) }
+    ensures { OnOk result (ForgetsIdle books.now watch.now gone.now called.old called.new) }
 {
     let beginning = books.first_parts()?;
     forget_idle(called, gone, watch.programs(), beginning.as_slice());
@@ -68,7 +59,7 @@ pub fn forget_first(
     watch: &Watching,
     first: Option<Id>,
 ) -> Result<(), AllocError>
-    ensures { OnOk result (Forgets books.now watch.now called.old called.new) }
+    ensures { OnOk result (ForgetsIdle books.now watch.now (listed first) called.old called.new) }
 {
     match first {
         Some(base) => forget(called, books, watch, &[base]),

@@ -1,9 +1,9 @@
-use Rattle.salt_engine.proofs.UnderWay.{under-way-at}
 use Rattle.salt_engine.proofs.called.forget.Goals as goal
-use Rattle.salt_keeps.specs.Readings.{first_parts}
-use Rattle.std.proofs.Common.{◌∙◌}
+use Rattle.salt_engine.specs.Calling.{Forgets}
+use Rattle.std.proofs.Common.{subst, sym, ◌∙◌}
 
 pub returns : goal.returns
-returns c = λ s w b books watch i.
-    c.forget_idle.ensures b (under-way-at b c.programs.result.now c.as_slice.result.now w.programs (first_parts s.units)
-    (c.programs.ensures w watch) (c.as_slice.ensures.value ∙ c.in_ok-beginning.ensures s books) i)
+returns c = λ s w books watch.
+    subst (λ ps. Forgets ps _ c.args.gone.now c.args.called.old c.forget_idle.new.called) (sym (c.programs.ensures w watch))
+    (subst (λ bs. Forgets c.programs.result.now bs c.args.gone.now c.args.called.old c.forget_idle.new.called)
+    (c.as_slice.ensures.value ∙ c.in_ok-beginning.ensures s books) c.forget_idle.ensures)
