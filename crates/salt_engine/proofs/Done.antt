@@ -3,6 +3,7 @@ use Rattle.salt_books.specs.Books.{AreBooks}
 use Rattle.salt_books.specs.Called.{name_told}
 use Rattle.salt_engine.specs.Follows.{FollowsOn}
 use Rattle.salt_engine.specs.Serving.{is_served}
+use Rattle.salt_engine.specs.StillToCome.{to-go-stays}
 use Rattle.salt_engine.specs.Standing.{Gives, HasDone, IsTurning, LineFor, Sees, Stands, StandsWith, accepting, bases_called, watched_by}
 use Rattle.salt_engine.specs.declared.engine.Engine.{Engine}
 use Rattle.salt_engine.specs.declared.follow.Follow.TheVariants.{Nothing}
@@ -44,17 +45,6 @@ abbrev pub state_by : Event → State → Watch → State
 state_by e s w = record { units = units_after e s.units; watch = w; names = named_by e s.names; can_stop = s.can_stop }
 
 -- an event leaves the programs that have still to turn
-to-go-stays : (e : Event) (s : UnitState) → is_served e ≡ true → (units_after e s).to_go ≡ s.to_go
-to-go-stays (Began u kind) s h = refl
-to-go-stays (Did u st answer) s h = refl
-to-go-stays (Waits u owners) s h = refl
-to-go-stays (Ended u end) s h = refl
-to-go-stays (Defined n text) s h = refl
-to-go-stays (Down why) s h = cc
-to-go-stays (Opened boot n) s h = cc
-to-go-stays Ready s h = cc
-to-go-stays e s h = refl
-
 pub line-stays : (e : Event) (s : UnitState) → (units_after e s).line ≡ s.line
 line-stays (Began u kind) s = refl
 line-stays (Did u st answer) s = refl

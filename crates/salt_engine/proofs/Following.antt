@@ -3,7 +3,6 @@ use Rattle.salt_engine.specs.Follows.{FollowsOn, event_of}
 use Rattle.salt_engine.specs.Serving.{is_served}
 use Rattle.salt_engine.specs.declared.follow.Follow.{Follow}
 use Rattle.salt_keeps.specs.Follows.{settles_in}
-use Rattle.salt_keeps.specs.Laws.{is_of_run}
 use Rattle.salt_keeps.specs.Nexts.{said_next}
 use Rattle.salt_keeps.specs.Readings.{Reading, beside_by}
 use Rattle.salt_keeps.specs.States.{State}
@@ -13,12 +12,7 @@ use Rattle.salt_model.specs.declared.events.Event.{Event}
 use Rattle.salt_model.specs.declared.events.Event.TheVariants.{Down, Opened, Ready}
 use Rattle.std.proofs.Common.{ap, ◌∙◌}
 use Rattle.std.specs.Option.{option_or}
-use Rattle.std.specs.Prelude.{Option, false, refl, true, ◌≡◌}
-
-pub not-of-run : (e : Event) → is_served e ≡ true → is_of_run e ≡ false
-not-of-run (Down why) h = cc
-not-of-run (Opened boot n) h = cc
-not-of-run e h = refl
+use Rattle.std.specs.Prelude.{Option, true, ◌≡◌}
 
 pub goes-on : (e : Event) (f : Follow) (old new : State) (x : Reading new.watch) (flight : Option Event) → is_served e ≡ true →
     new.units.phase ≡ Serving → FollowsOn f e old.units new.units →

@@ -1,8 +1,10 @@
 -- What an engine gives and has done is a move of its point.
-use Rattle.salt_engine.proofs.Following.{goes-on, not-of-run}
+use Rattle.salt_engine.proofs.Done.{line-stays}
+use Rattle.salt_engine.proofs.Following.{goes-on}
 use Rattle.salt_engine.proofs.Soundness.{sound-behind}
 use Rattle.salt_engine.specs.Serving.{is_served}
 use Rattle.salt_engine.specs.Standing.{Gives, Sees, ServesLine, behind_in}
+use Rattle.salt_engine.specs.StillToCome.{not-of-run}
 use Rattle.salt_steps.specs.Standing.{IsAt, IsSoundPoint}
 use Rattle.salt_engine.specs.declared.engine.Engine.{Engine}
 use Rattle.salt_ast.specs.declared.lines.Line.{Line}
@@ -27,17 +29,6 @@ phase-stays (Down why) s h p = cc
 phase-stays (Opened boot n) s h p = cc
 phase-stays Ready s h p = cc
 phase-stays e s h p = p
-
-line-stays : (e : Event) (s : UnitState) → (units_after e s).line ≡ s.line
-line-stays (Began u kind) s = refl
-line-stays (Did u st answer) s = refl
-line-stays (Waits u owners) s = refl
-line-stays (Ended u end) s = refl
-line-stays (Defined n text) s = refl
-line-stays (Down why) s = refl
-line-stays (Opened boot n) s = refl
-line-stays Ready s = refl
-line-stays e s = refl
 
 -- the state behind the event at hand
 pub behind-serves : (line : Line) (x : Engine) (e : Event) (p : Point) (sound : IsSoundPoint p) (at : IsAt Sees line x (Some e) p) →

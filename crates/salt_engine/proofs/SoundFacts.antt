@@ -36,9 +36,5 @@ waits-served s u o h served named = served-waits s h.trace (locks_in s.watch) u 
 pub named-unit : (u : Id) (os : List OpenUnit) (o : OpenUnit) → unit_named u os ≡ Some o → o.unit ≡ u
 named-unit u os o h = is_same_id-true o.unit u (find-in (λ (o : OpenUnit). is_same_id o.unit u) o os h).1
 
-pub none-of : {A : Type 0} (o : Option A) → ((x : A) → o ≡ Some x → ⊥) → o ≡ None
-none-of None h = refl
-none-of (Some x) h = absurd (h x refl)
-
 pub never-true : false ≡ true → ⊥
 never-true h = cc

@@ -28,7 +28,7 @@ use Rattle.salt_watch.specs.declared.watching.Watching.{Watching}
 use Rattle.std.proofs.Common.{ap, sym, ◌∙◌}
 use Rattle.std.specs.Prelude.{List, None, Option, Some, [], false, map, refl, true, ◌∷◌, ◌≡◌}
 
-to-go-stays : (e : Event) (s : UnitState) → is_served e ≡ true → (units_after e s).to_go ≡ s.to_go
+pub to-go-stays : (e : Event) (s : UnitState) → is_served e ≡ true → (units_after e s).to_go ≡ s.to_go
 to-go-stays (Began u kind) s h = refl
 to-go-stays (Did u st answer) s h = refl
 to-go-stays (Waits u owners) s h = refl
@@ -72,7 +72,7 @@ watched-waits f x w h = h.waits
 waiters-watched : (x : Watching) (s : State) → map waiter_of s.watch.waits ≡ x.waits.items → map (λ (w : Waiter). w.unit) x.waits.items ≡ waiters s
 waiters-watched x s h = sym (ap (map (λ (w : Waiter). w.unit)) h) ∙ waiters-told s.watch.waits
 
-not-of-run : (e : Event) → is_served e ≡ true → is_of_run e ≡ false
+pub not-of-run : (e : Event) → is_served e ≡ true → is_of_run e ≡ false
 not-of-run (Down why) h = cc
 not-of-run (Opened boot n) h = cc
 not-of-run e h = refl

@@ -1,6 +1,7 @@
 use Rattle.salt_engine.proofs.engine.Engine.settle.Goals as goal
 use Rattle.std.specs.Prelude.{refl}
-use Rattle.salt_engine.proofs.SoundFacts.{none-of, waits-apart}
+use Rattle.salt_engine.proofs.SoundFacts.{waits-apart}
+use Rattle.salt_steps.proofs.Advancing.{none-of}
 use Rattle.salt_keeps.specs.Readings.{beside_by}
 use Rattle.salt_engine.proofs.Done.{gives-none, gives-same}
 use Rattle.salt_engine.proofs.SettleDone.{settles-nothing, settles-serves, settles-victim}
