@@ -1,10 +1,10 @@
 -- Why what is marked as clear is so.
 use Rattle.salt_keeps.specs.KeptLocks.{is_owned_by}
 use Rattle.salt_laws.proofs.Lists.{either}
-use Rattle.salt_locks.proofs.Near.{parted, up_to_below, up_to_low, below_closed}
-use Rattle.salt_locks.proofs.Orders.{IsClosedBack, every_at, low_chain, low_closed, no_later-other, up_to_cases, up_to_earlier, value_chain, value_other}
-use Rattle.salt_locks.specs.Clear.{AreClear, IsMarked, ends_by, ends_no_later, is_high_at_most, is_reaching}
-use Rattle.salt_locks.specs.Places.{AreInOrder, NoLater, is_low_at_most, is_no_later, is_up_to}
+use Rattle.salt_locks.proofs.Near.{parted, up_to_below, up_to_low}
+use Rattle.salt_locks.proofs.Orders.{IsClosedBack, every_at, low_closed, no_later-other, up_to_cases, up_to_earlier, value_chain, value_other}
+use Rattle.salt_locks.specs.Clear.{IsMarked, ends_by, ends_no_later, is_high_at_most, is_reaching}
+use Rattle.salt_locks.specs.Places.{AreInOrder, NoLater, is_low_at_most, is_no_later}
 use Rattle.salt_locks.specs.Tables.{salted_lock}
 use Rattle.salt_model.specs.declared.events.Owner.{Owner}
 use Rattle.salt_model.specs.declared.locks.Lock.{Lock}
@@ -18,7 +18,7 @@ use Rattle.std.proofs.lemmas.List.{get_or-map, get_or-set_other, get_or-set_same
 use Rattle.std.proofs.lemmas.List.Edits.{get_or-insert_above, get_or-insert_at, get_or-insert_below, length-insert}
 use Rattle.std.proofs.lemmas.List.Sums.{prefix_len-le-length, prefix_len_passes, prefix_len_stops}
 use Rattle.std.specs.List.{insert, prefix_len}
-use Rattle.std.specs.Prelude.{Bool, List, None, Option, Some, [], false, get_or, length, map, nat_lt, not, set, suc, true, zero, ℕ, ◌&&◌, ◌+◌, ◌-◌, ◌<◌, ◌==◌, ◌||◌, ◌∷◌, ◌≡◌, ◌≤◌, ◌⊎◌}
+use Rattle.std.specs.Prelude.{Bool, List, None, Option, Some, [], false, get_or, length, map, not, set, suc, true, zero, ℕ, ◌&&◌, ◌+◌, ◌-◌, ◌<◌, ◌==◌, ◌||◌, ◌∷◌, ◌≡◌, ◌≤◌, ◌⊎◌}
 
 -- locks in order, by their places
 pub order_at : (ls : List Lock) → AreInOrder ls → (i k : ℕ) (d : Lock) → i < k → k < length ls → NoLater (get_or ls i d) (get_or ls k d)

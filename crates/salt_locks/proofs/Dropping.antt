@@ -13,7 +13,7 @@ use Rattle.std.proofs.lemmas.Bool.Decides.{nat_tests}
 use Rattle.std.proofs.lemmas.List.{drop_all, drop_more}
 use Rattle.std.proofs.lemmas.List.Edits.{get_or-remove_above, get_or-remove_below, length-remove}
 use Rattle.std.specs.List.{filter, remove}
-use Rattle.std.specs.Prelude.{Bool, List, [], cond, drop, false, get_or, length, nat_lt, not, suc, take, true, zero, ℕ, ◌+◌, ◌-◌, ◌<◌, ◌∷◌, ◌≡◌, ◌≤◌}
+use Rattle.std.specs.Prelude.{Bool, List, [], cond, drop, false, get_or, length, nat_lt, not, suc, true, zero, ℕ, ◌+◌, ◌-◌, ◌<◌, ◌∷◌, ◌≡◌, ◌≤◌}
 
 every_removed : {X : Type 0} (P : X → Type 0) (xs : List X) (k : ℕ) → Every P xs → Every P (remove xs k)
 every_removed P [] zero all = all

@@ -1,5 +1,5 @@
 -- A part of a list in which all stand that pass a test.
-use Rattle.salt_laws.proofs.Lists.{either, or_right_true}
+use Rattle.salt_laws.proofs.Lists.{or_right_true}
 use Rattle.salt_locks.proofs.Near.{end_closed, filter_twice, parted, up_to_end}
 use Rattle.salt_locks.specs.Clear.{is_met, is_reaching}
 use Rattle.salt_locks.specs.Places.{AreInOrder, is_near}
@@ -10,7 +10,7 @@ use Rattle.salt_model.specs.declared.locks.Lock.{Lock}
 use Rattle.salt_model.specs.declared.locks.Reach.{Reach}
 use Rattle.salt_ranges.specs.Ranges.{ends_meet, meets}
 use Rattle.salt_ranges.specs.declared.range.KeyRange.{KeyRange}
-use Rattle.std.proofs.Common.{ap, arith, refl, sym, ◌∙◌}
+use Rattle.std.proofs.Common.{ap, arith, refl, ◌∙◌}
 use Rattle.std.proofs.lemmas.Bool.{and_from, and_parts, both_ways}
 use Rattle.std.proofs.lemmas.List.{get_or-drop, length-drop}
 use Rattle.std.proofs.lemmas.List.Sums.{prefix_len_stops}

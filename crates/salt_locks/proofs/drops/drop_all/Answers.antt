@@ -1,7 +1,7 @@
 use Rattle.salt_locks.proofs.Puts.{is_left, left_invariant, left_view, numbers_left}
 use Rattle.salt_locks.proofs.drops.drop_all.Goals as goal
 use Rattle.salt_locks.specs.Places.{AreInOrder}
-use Rattle.std.proofs.Common.{ap, length, rules, subst, sym, ◌≡◌, ◌∙◌}
+use Rattle.std.proofs.Common.{ap, rules, subst, sym, ◌≡◌, ◌∙◌}
 use Rattle.std.proofs.lemmas.Fn.{filter_same}
 use Rattle.std.specs.List.{filter}
 
