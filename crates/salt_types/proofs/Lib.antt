@@ -5,12 +5,14 @@ mod Coming
 mod Conts
 mod Defining
 mod Fields
+mod Found
 mod Judged
 mod Rows
 mod Runs
 mod Sound
 mod Statements
 mod States
+mod Taken
 mod Told
 mod Values
 mod Words

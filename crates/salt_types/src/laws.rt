@@ -10,37 +10,39 @@ ghost use Rattle.salt_ast.specs.declared.trees.Field.{Field};
 ghost use Rattle.salt_ast.specs.declared.trees.Scope.{Scope};
 ghost use Rattle.salt_ast.specs.declared.trees.Statement.{Statement};
 ghost use Rattle.salt_ast.specs.declared.trees.TableDef.{TableDef};
-ghost use Rattle.salt_definitions.specs.Fitting.{are_of_columns, definitions_reading, is_of_column, tables_of};
+ghost use Rattle.salt_definitions.specs.Fitting.{are_of_columns, definitions_reading, is_of_column, kept_in, tables_of};
 ghost use Rattle.salt_keeps.specs.Keeps.{KeepsUnits};
 ghost use Rattle.salt_keeps.specs.Laws.{IsSound};
 ghost use Rattle.salt_keeps.specs.OpenUnits.{UnitState};
 ghost use Rattle.salt_keeps.specs.Steps.{units_after};
 ghost use Rattle.salt_model.specs.After.{branched, committed};
 ghost use Rattle.salt_model.specs.Ends.{kept_with};
+ghost use Rattle.salt_model.specs.Eval.{eval, named_values, value_of};
 ghost use Rattle.salt_model.specs.Everywhere.{Each};
+ghost use Rattle.salt_model.specs.Kept.{Definition, Kept, OfProgram, OfTable, WellKept, block_of_kind, branch_of, cont_of};
+ghost use Rattle.salt_model.specs.Kept.{kept_program, nothing_kept, programs_of, schema_of, then_of, values_kept, vars_of_kind};
 ghost use Rattle.salt_model.specs.Lines.{AskInOrder};
 ghost use Rattle.salt_model.specs.Next.{flight};
 ghost use Rattle.salt_model.specs.Played.{IsPlayed};
-ghost use Rattle.salt_model.specs.Trace.{Asked, Trace, lines_of, start_of, ◌says◌};
-ghost use Rattle.salt_model.specs.Eval.{eval, named_values, value_of};
-ghost use Rattle.salt_model.specs.Kept.{Definition, Kept, OfProgram, OfTable, WellKept, block_of_kind, branch_of, cont_of};
-ghost use Rattle.salt_model.specs.Kept.{kept_program, nothing_kept, programs_of, schema_of, then_of, values_kept, vars_of_kind};
 ghost use Rattle.salt_model.specs.Statements.{Run, outcome_of, serial};
 ghost use Rattle.salt_model.specs.Tables.{Edits, Tables, changed_at, put_changes, with_changes};
+ghost use Rattle.salt_model.specs.Trace.{Asked, Trace, lines_of, start_of, ◌says◌};
 ghost use Rattle.salt_model.specs.Words.{Every};
 ghost use Rattle.salt_model.specs.declared.events.Event.{Event};
 ghost use Rattle.salt_model.specs.declared.events.UnitKind.{UnitKind};
 ghost use Rattle.salt_model.specs.declared.vars.Binding.{Binding};
 ghost use Rattle.salt_stands.specs.Coordinator.{Coordinator};
 ghost use Rattle.salt_stands.specs.Partition.{is_sound_change, part_of_key};
+ghost use Rattle.salt_stands.specs.Stands.{Found, stands_of};
 ghost use Rattle.salt_types.specs.Played.{HasKey, IsJudgedEvent, IsTypedAt};
 ghost use Rattle.salt_types.specs.States.{AreOfTheirTypes};
 ghost use Rattle.salt_types.specs.Typed.{AreApart, AreChangesOf, AreEditsOf, AreRowsOf, AreVariables, FitsAt, IsContOf, IsJudgedFor, IsKindFor};
 ghost use Rattle.salt_types.specs.Typed.{IsProperProgram, IsProperTable, IsTyped, IsTypedDone, IsTypedRun, has_key, is_datum_of, scope_of_kind};
 ghost use Rattle.salt_values.specs.declared.change.Change.{Change};
-ghost use Rattle.salt_values.specs.declared.value.Value.{Value};
 ghost use Rattle.salt_values.specs.declared.cont.Cont.{Cont};
 ghost use Rattle.salt_values.specs.declared.id.Id.{Id};
+ghost use Rattle.salt_values.specs.declared.placement.Shape.{Shape};
+ghost use Rattle.salt_values.specs.declared.value.Value.{Value};
 ghost use Rattle.std.specs.List.{list_all};
 ghost use Rattle.std.specs.Prelude.{IfOk, IfSome, List, None, Option, Some, [], true, ℕ, ◌++◌, ◌∷◌, ◌≡◌};
 
@@ -149,6 +151,14 @@ pub fn states_are_of_their_types()
 {
     units_go_on();
 }
+
+/// What devices stand for fits its definitions, where what reads their texts gives tables whose keys may not be NULL.
+pub fn found_is_typed()
+    ensures { (read : List ℕ → Option Definition) →
+        ((text : List ℕ) (d : TableDef) → read text ≡ Some (OfTable d) → has_key d.columns ≡ true) →
+        (devices : ℕ → List ℕ) (asked : Shape) (f : Found Definition) → stands_of (definitions_reading read) devices asked ≡ Some f →
+        IsTyped (kept_in f) }
+{}
 
 /// A change that fits a coordinator's definitions is sound in the partition of its key, whatever reads their texts; so are all of a
 /// unit's. A continuation that fits is one that its program may have.
