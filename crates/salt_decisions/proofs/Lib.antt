@@ -9,5 +9,5 @@ mod Pairing
 mod Places
 mod Saids
 pub mod Snapshots
-mod Unspent
+pub mod Unspent
 pub mod Witness
