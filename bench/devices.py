@@ -1,10 +1,10 @@
 #!/usr/bin/env python3
-"""Times logs and a partition on devices in memory: 20,000 appends, openings of logs of 1,000 to 100,000 entries, and a partition of 1,000
-to 100,000 rows that is opened and read by key.
+"""Times logs and a partition on devices in memory: a million appends to logs of 1,000 to 1,000,000 entries, openings of logs of 1,000 to
+100,000, and a partition of 1,000 to 100,000 rows that is opened and read by key.
 
-The program `device_bench` does each so often that a run takes long enough; the time of a run that does it not at all is taken off. Ends
-with 1 where the last 1,000 appends of 20,000, an entry of the longest log, or a row of the largest partition cost more than so many
-times the first or the smallest.
+The program `device_bench` does each so often that a run takes long enough; of openings and reads the time of a run that does none is taken
+off. Ends with 1 where an append to the longest log, an entry of it, or a row of the largest partition costs more than so many times one of
+the smallest.
 
     bench/devices.py [OTHER]     with the device_bench of another commit, the same by both, in turns
 """
@@ -12,9 +12,7 @@ import subprocess, sys
 
 from timing import compared, seconds
 
-APPENDS = 20_000
-PART = 1_000
-ROUNDS = 50
+APPENDS = [1_000, 20_000, 1_000_000]
 WORK = 1_000_000
 SIZES = [1_000, 10_000, 100_000]
 APPEND_GROWTH = 1.5
@@ -33,11 +31,13 @@ def done(program, what, count, times):
 
 
 def appends(name, program):
-    """Whether the last appends of a long log cost as much as the first."""
-    first = done(program, "append", PART, ROUNDS)
-    last = done(program, "append", APPENDS, ROUNDS) - done(program, "append", APPENDS - PART, ROUNDS)
-    print(f"append, {name}: the first {PART} {first / ROUNDS * 1e6:.0f} us, the last of {APPENDS} {last / ROUNDS * 1e6:.0f} us", flush=True)
-    return last <= APPEND_GROWTH * first
+    """Whether an append to a long log costs as much as one to a short log. As many are made of each length."""
+    costs = []
+    for size in APPENDS:
+        cost = done(program, "append", size, WORK // size) / WORK
+        costs.append(cost)
+        print(f"append, {name}: to {size:7} entries, each {cost * 1e9:6.0f} ns", flush=True)
+    return costs[-1] <= APPEND_GROWTH * costs[0]
 
 
 def each_of(name, program, what, thing, growth):
