@@ -4,10 +4,15 @@ mod Committed
 mod Decided
 mod Entered
 mod Firsts
+mod Fit
+mod Fitted
+mod Formats
 mod Keyed
 mod Lists
 mod Making
 mod Merged
+mod Opened
+mod Opening
 mod Ordered
 mod Reading
 mod Scanned
@@ -15,4 +20,5 @@ mod Shared
 mod Sharing
 mod Standing
 mod Undecided
+mod Units
 mod Witness

@@ -15,7 +15,7 @@ use Rattle.std.proofs.Common.{List, None, Option, Some, [], ap, arith, inl, inr,
 use Rattle.std.specs.Prelude.{IfSome, slice_get, suc, zero}
 
 -- what holds of each holds with one more
-each_push : {X : Type 0} (P : ℕ → X → Type 0) (xs : List X) (n k : ℕ) (y : X) → length xs + k ≡ n → ((p : ℕ) → IfSome (slice_get xs p) (P (k + p))) → P n y → (p : ℕ) → IfSome (slice_get (xs ++ y ∷ []) p) (P (k + p))
+pub each_push : {X : Type 0} (P : ℕ → X → Type 0) (xs : List X) (n k : ℕ) (y : X) → length xs + k ≡ n → ((p : ℕ) → IfSome (slice_get xs p) (P (k + p))) → P n y → (p : ℕ) → IfSome (slice_get (xs ++ y ∷ []) p) (P (k + p))
 each_push P [] n k y e each one zero = let at : n ≡ k + 0 = omega (arith, e) in subst (λ m. P m y) at one
 each_push P [] n k y e each one (suc p) = tt
 each_push P (x ∷ xs) n k y e each one zero = each 0

@@ -4,8 +4,11 @@
 
 mod commit;
 mod error;
+mod fits;
+mod named;
 mod nexts;
 mod open;
+mod parts;
 mod prepare;
 mod reads;
 mod shares;
@@ -13,5 +16,6 @@ mod store;
 mod told;
 
 pub use error::StoreErr;
+pub use open::open_store;
 pub use salt_decisions::{Kept, OpenErr, peek};
 pub use store::Store;

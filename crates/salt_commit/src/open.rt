@@ -1,22 +1,26 @@
 //! A store is opened, or begun.
 
 ghost use Rattle.salt_bytes.specs.Generations.{BothBlank};
-ghost use Rattle.salt_commit.specs.Openings.{HasRoom, IsPartLog, IsStoreLog, OpensStore};
+ghost use Rattle.salt_commit.specs.Openings.{HasRoom, IsNoRefusal, IsPartLog, IsSchemaWhere, IsStoreLog, OpeningFails, OpensStore, PartPassesLimit, StorePassesLimit};
+ghost use Rattle.salt_commit.specs.Prepares.{FullWhere};
 ghost use Rattle.salt_commit.specs.Stores.{ArePartitions, reading};
 ghost use Rattle.salt_decisions.specs.Errors.{open_err};
-ghost use Rattle.salt_disk.specs.Disks.{HasCause, IsImage, KeepsBut};
+ghost use Rattle.salt_disk.specs.Disks.{HasCause, IsImage, KeepsAll, KeepsBut};
 ghost use Rattle.salt_stands.specs.Coordinator.{coordinator_pair};
 ghost use Rattle.salt_stands.specs.FirstOpening.{first_view};
 ghost use Rattle.salt_stands.specs.Stands.{judged, logs_of, nothing_found};
-ghost use Rattle.salt_values.specs.Placement.{IsParts};
-ghost use Rattle.std.specs.Prelude.{IfOk, IsTrue, List, Ok, [], length, ℕ, ◌≡◌};
+ghost use Rattle.salt_values.specs.Placement.{GivesPlaceOf, IsParts, TakesEachKey};
+ghost use Rattle.std.specs.Prelude.{IfErr, IfOk, IsTrue, List, Ok, [], length, ℕ, ◌≡◌};
 ghost use Rattle.std.specs.Result.{result_err};
 
+use crate::parts::open_all;
 use crate::store::Store;
-use salt_decisions::{Kept, OpenErr, open_decisions};
+use salt_decisions::{Kept, OpenErr, open_decisions, peek};
 use salt_disk::{DiskErr, Disks};
 use salt_partition::{Partition, create_partition};
-use salt_place::Shape;
+use salt_place::{PlaceKind, Placement, Shape};
+use salt_schema::Schema;
+use salt_values::Key;
 use std::alloc::Global;
 
 /// Makes the partitions of a new store, in order of their numbers.
@@ -25,6 +29,7 @@ fn create_all<D: Disks>(alloc: Global, disks: &mut D, parts: u8) -> Result<Vec<P
     ensures made { IfOk result (λ made. (length made.items ≡ parts) × ArePartitions (D.view disks.new) made.items (first_view 2) (λ p. [])) }
     ensures others { KeepsBut (IsPartLog parts) (D.view disks.old) (D.view disks.new) (result_err result) }
     ensures cause { HasCause (D.view disks.old) (D.view disks.new) (result_err result) }
+    ensures full { FullWhere (PartPassesLimit (D.view disks.old).limit parts) (result_err result) }
 {
     let mut made = Vec::new(alloc);
     for part in 0..parts {
@@ -36,7 +41,7 @@ fn create_all<D: Disks>(alloc: Global, disks: &mut D, parts: u8) -> Result<Vec<P
 
 /// Begins a store where both devices of the coordinator are blank: first its partitions, and then the coordinator's log up to
 /// its header. Whatever it answers, each image of the devices stands for a new database.
-pub fn begin_store<D: Disks>(
+fn begin_store<D: Disks>(
     alloc: Global,
     disks: &mut D,
     shape: Shape,
@@ -45,9 +50,11 @@ pub fn begin_store<D: Disks>(
     requires blank { IsTrue (D.view disks.old).told → coordinator_pair (logs_of (D.view disks.old).bytes) ≡ BothBlank }
     requires parts { IsParts shape.parts }
     ensures ok { IfOk result (λ made. OpensStore (D.view disks.old) (D.view disks.new) shape made.0 made.1) }
+    ensures err { IsTrue (D.view disks.old).told → IfErr result IsNoRefusal }
     ensures images { IsTrue (D.view disks.old).told → (image : ℕ → List ℕ) → IsImage (D.view disks.new) image → judged reading image shape ≡ Ok (nothing_found shape) }
     ensures others { KeepsBut (IsStoreLog shape.parts) (D.view disks.old) (D.view disks.new) (open_err result) }
     ensures cause { HasCause (D.view disks.old) (D.view disks.new) (open_err result) }
+    ensures full { IsTrue (D.view disks.old).told → FullWhere (StorePassesLimit (D.view disks.old).limit shape) (open_err result) }
 {
     let parts = create_all(alloc, disks, shape.parts)?;
     let (decisions, kept) = open_decisions(alloc, disks, shape)?;
@@ -59,4 +66,72 @@ pub fn begin_store<D: Disks>(
         },
         kept,
     ))
+}
+
+/// Opens a store whose log counts; as `open_store`.
+fn open_counting<D: Disks, F: Fn(PlaceKind, &Key, u32) -> u32>(
+    alloc: Global,
+    disks: &mut D,
+    place: &Placement<F>,
+    shape: Shape,
+    schema: &Schema,
+) -> Result<(Store, Kept), OpenErr>
+    requires callable { TakesEachKey (F.pre place.now.place) }
+    requires answers { GivesPlaceOf (F.post place.now.place) }
+    requires parts { IsParts shape.parts }
+    requires room { HasRoom (D.view disks.old) shape.parts }
+    requires schema { IsTrue (D.view disks.old).told → IsSchemaWhere schema.now (coordinator_pair (logs_of (D.view disks.old).bytes)) }
+    requires counts { IsTrue (D.view disks.old).told → ¬ (coordinator_pair (logs_of (D.view disks.old).bytes) ≡ BothBlank) }
+    ensures ok { IfOk result (λ made. OpensStore (D.view disks.old) (D.view disks.new) shape made.0 made.1) }
+    ensures err { IsTrue (D.view disks.old).told → IfErr result (OpeningFails shape (D.view disks.old).bytes) }
+    ensures kept { IsTrue (D.view disks.old).told → KeepsAll (D.view disks.old) (D.view disks.new) (open_err result) }
+    ensures others { KeepsBut (IsStoreLog shape.parts) (D.view disks.old) (D.view disks.new) (open_err result) }
+    ensures cause { HasCause (D.view disks.old) (D.view disks.new) (open_err result) }
+{
+    let (decisions, kept) = open_decisions(alloc, disks, shape)?;
+    let parts = open_all(alloc, disks, place, shape, schema, &kept)?;
+    Ok((
+        Store {
+            alloc,
+            decisions,
+            parts,
+        },
+        kept,
+    ))
+}
+
+/// Opens the store of the devices, of the shape that is asked for: what it stands for is what stood on them. Blank devices are
+/// made a new one's, and then each image of them, whatever is answered, stands for a new database. Else nothing is written.
+///
+/// The schema has the tables of the definitions in the coordinator's log, as who opens has read and judged them. The refusals
+/// come in this order, each exactly where it is so: the coordinator's `NotSalt`, `OtherShape`, `NumbersSpent`, and `NotSalt` of
+/// the first partition that does not stand, or that names pages, which are not read yet. Nothing is pending on the devices.
+pub fn open_store<D: Disks, F: Fn(PlaceKind, &Key, u32) -> u32>(
+    alloc: Global,
+    disks: &mut D,
+    place: &Placement<F>,
+    shape: Shape,
+    schema: &Schema,
+) -> Result<(Store, Kept), OpenErr>
+    requires callable { TakesEachKey (F.pre place.now.place) }
+    requires answers { GivesPlaceOf (F.post place.now.place) }
+    requires parts { IsParts shape.parts }
+    requires room { HasRoom (D.view disks.old) shape.parts }
+    requires schema { IsTrue (D.view disks.old).told → IsSchemaWhere schema.now (coordinator_pair (logs_of (D.view disks.old).bytes)) }
+
+    ensures ok { IfOk result (λ made. OpensStore (D.view disks.old) (D.view disks.new) shape made.0 made.1) }
+    ensures err { IsTrue (D.view disks.old).told → IfErr result (OpeningFails shape (D.view disks.old).bytes) }
+
+    ensures kept { IsTrue (D.view disks.old).told → ¬ (coordinator_pair (logs_of (D.view disks.old).bytes) ≡ BothBlank) → KeepsAll (D.view disks.old) (D.view disks.new) (open_err result) }
+    ensures images { IsTrue (D.view disks.old).told → coordinator_pair (logs_of (D.view disks.old).bytes) ≡ BothBlank
+        → (image : ℕ → List ℕ) → IsImage (D.view disks.new) image → judged reading image shape ≡ Ok (nothing_found shape) }
+
+    ensures others { KeepsBut (IsStoreLog shape.parts) (D.view disks.old) (D.view disks.new) (open_err result) }
+    ensures cause { HasCause (D.view disks.old) (D.view disks.new) (open_err result) }
+    ensures full { IsTrue (D.view disks.old).told → FullWhere (StorePassesLimit (D.view disks.old).limit shape) (open_err result) }
+{
+    if peek(alloc, disks)?.is_none() {
+        return begin_store(alloc, disks, shape);
+    }
+    open_counting(alloc, disks, place, shape, schema)
 }

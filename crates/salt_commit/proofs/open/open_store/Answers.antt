@@ -1,0 +1,31 @@
+use Rattle.salt_commit.proofs.Beginning.{blank_image}
+use Rattle.salt_commit.proofs.Opened.{same_bytes}
+use Rattle.salt_commit.proofs.Opening.{map_ok, nothing, opens_at}
+use Rattle.salt_commit.proofs.open.open_store.Goals as goal
+use Rattle.salt_commit.specs.Openings.{IsPartLog, OpeningFails}
+use Rattle.salt_commit.specs.Stores.{reading}
+use Rattle.salt_decisions.specs.Errors.{open_err}
+use Rattle.salt_disk.proofs.CallAfterCall.{keeps_on}
+use Rattle.std.proofs.Common.{List, arith, subst, ℕ, ◌<◌, ◌∙◌}
+use Rattle.std.specs.Prelude.{IfErr}
+
+pub returns-in_err-peek-clause-images : goal.returns-in_err-peek-clause-images
+returns-in_err-peek-clause-images g c told blank image left =
+    let d = g.D.Disks.view c.args.disks.now in
+    let a = g.D.Disks.view c.peek.new.disks in
+    let known : 1 < d.count = omega (arith, c.requires.room.known 0 (omega (arith, c.requires.parts.0))) in
+    blank_image reading c.args.shape d a 0 _ (nothing (IsPartLog 0) d a _ c.in_err-peek.ensures.kept) known (c.requires.room.settled 0 (omega (arith, known))) (c.requires.room.settled 1 known) blank image left
+
+pub returns-clause-ok : goal.returns-clause-ok
+returns-clause-ok g c =
+    map_ok c.open_counting.result _ _ (λ made. opens_at c.args.shape (g.D.Disks.view c.args.disks.now) (g.D.Disks.view c.peek.new.disks) (g.D.Disks.view c.open_counting.new.disks) made.0 made.1 c.in_ok-peek.ensures.kept) c.open_counting.ensures.ok
+
+pub returns-clause-err : goal.returns-clause-err
+returns-clause-err g c told =
+    let keeps = c.in_ok-peek.ensures.kept in
+    subst (λ (bytes : ℕ → List ℕ). IfErr c.open_counting.result (OpeningFails c.args.shape bytes)) (same_bytes (g.D.Disks.view c.args.disks.now) (g.D.Disks.view c.peek.new.disks) keeps) (c.open_counting.ensures.err (keeps.shape.told ∙ told))
+
+pub returns-clause-kept : goal.returns-clause-kept
+returns-clause-kept g c told some =
+    let keeps = c.in_ok-peek.ensures.kept in
+    keeps_on (λ _. ⊥) (g.D.Disks.view c.args.disks.now) (g.D.Disks.view c.peek.new.disks) (g.D.Disks.view c.open_counting.new.disks) (open_err c.open_counting.result) keeps (c.open_counting.ensures.kept (keeps.shape.told ∙ told))
