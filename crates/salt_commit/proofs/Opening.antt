@@ -93,12 +93,12 @@ judged_as which log c e = ap (λ o. or_fault (device_of 0 which) (option_map Som
 
 asked_as : (c : Coordinator Definition) (asked : Shape) (same spent : Bool) → Result (List Tables) ℕ → Opening Definition
 asked_as c asked same spent parts = elim same [
-    | false ↦ opening.OtherShape c.log.header.shape asked
-    | true ↦ elim spent [
-      | true ↦ opening.NumbersSpent c.log.told.boot c.log.told.decisions
-      | false ↦ of_parts c parts
-    ]
+  | false ↦ opening.OtherShape c.log.header.shape asked
+  | true ↦ elim spent [
+    | true ↦ opening.NumbersSpent c.log.told.boot c.log.told.decisions
+    | false ↦ of_parts c parts
   ]
+]
 
 module _ (bytes : ℕ → List ℕ) (asked : Shape) (c : Coordinator Definition) (at : coordinator_at reading (logs_of bytes) ≡ Ok (Some c)) where
   answered : opening_of reading bytes asked ≡ asked_as c asked (is_same_shape c.log.header.shape asked) (are_spent c.log.told.boot c.log.told.decisions) (parts_at reading c (logs_of bytes) bytes)
@@ -140,7 +140,7 @@ first_err {A = A} f p (suc n) (suc k) dev low before is =
     let first = before 0 (omega arith) in
     ap (if_sound (λ x. if_sound (λ xs. Ok (x ∷ xs)) (each_from f (suc p) n))) (subst (λ q. f q ≡ Ok first.0) here first.1)
     ∙ ap (if_sound (λ xs. Ok (first.0 ∷ xs))) (first_err f (suc p) n k dev (omega (arith, low))
-      (λ q lower. let b = before (suc q) (omega (arith, lower)) in (b.0, subst (λ j. f j ≡ Ok b.0) (on q) b.1)) (subst (λ j. f j ≡ Err dev) (on k) is))
+    (λ q lower. let b = before (suc q) (omega (arith, lower)) in (b.0, subst (λ j. f j ≡ Ok b.0) (on q) b.1)) (subst (λ j. f j ≡ Err dev) (on k) is))
 
 -- THE STORE
 
@@ -198,7 +198,7 @@ module _ (schema : List TableDef) (asked : Shape) (d b : View) (some : IsTrue d.
             at (inl err) = inl (parts_answer d.bytes asked own.c (own_at told) own_shape own_unspent (Err dev)
                 (ap (λ (s : Shape). each_from (part_at reading own.c (logs_of d.bytes) d.bytes) 0 s.parts) (own_has told).is_shape
                 ∙ first_err (part_at reading own.c (logs_of d.bytes) d.bytes) 0 asked.parts f.p dev f.low (λ q low. let at' : 0 + q ≡ q = omega arith in let t = f.before q low in (t.0, ap (part_at reading own.c (logs_of d.bytes) d.bytes) at' ∙ t.1))
-                  (let at' : 0 + f.p ≡ f.p = omega arith in ap (part_at reading own.c (logs_of d.bytes) d.bytes) at' ∙ err)))
+                (let at' : 0 + f.p ≡ f.p = omega arith in ap (part_at reading own.c (logs_of d.bytes) d.bytes) at' ∙ err)))
             at (inr names) = inr (record { c = own.c; found = own_at told; is_shape = (own_has told).is_shape; p = f.p; low = f.low; before = f.before; names = names })
     refused told (OtherShape kept' wanted) h = absurd h
     refused told (NumbersSpent boot decisions) h = absurd h

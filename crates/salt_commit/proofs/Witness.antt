@@ -7,6 +7,7 @@ use Rattle.salt_bytes.specs.Partition.{spell_partition_header}
 use Rattle.salt_bytes.specs.declared.moves.Move.TheVariants.{Plain}
 use Rattle.salt_commit.proofs.Firsts.{first_store}
 use Rattle.salt_commit.specs.Commits.{MayCommitUnit}
+use Rattle.salt_commit.specs.Openings.{HasRoom, IsSchemaWhere}
 use Rattle.salt_commit.specs.Stores.{ArePartitions, Stands, reading}
 use Rattle.salt_commit.specs.declared.store.Store.{Store}
 use Rattle.salt_decisions.proofs.Begun.{first_log, nothing_open}
@@ -20,10 +21,12 @@ use Rattle.salt_gatelog.specs.Log.{IsLog}
 use Rattle.salt_gatelog.specs.declared.log.GateLog.{GateLog}
 use Rattle.salt_partition.specs.Partitions.{IsPartition}
 use Rattle.salt_partition.specs.declared.partition.Partition.{Partition}
+use Rattle.salt_stands.specs.Coordinator.{coordinator_pair}
 use Rattle.salt_stands.specs.CoordinatorLog.{coordinator_generation, coordinator_in}
 use Rattle.salt_stands.specs.FirstOpening.{first_coordinator, first_part_header, first_view}
 use Rattle.salt_stands.specs.Partition.{part_tables}
 use Rattle.salt_stands.specs.PartitionLog.{own_log, partition_generation, partition_in}
+use Rattle.salt_stands.specs.Stands.{logs_of}
 use Rattle.salt_stands.specs.Words.{and_then}
 use Rattle.salt_values.specs.declared.placement.PlaceKind.TheVariants.{Remainder}
 use Rattle.salt_values.specs.declared.placement.Shape.{Shape}
@@ -169,3 +172,10 @@ may_commit_nothing = record {
   moves = refl;
   named = refl;
 }
+
+-- it may be opened again, under the schema of its log, which defines nothing
+pub has_room : HasRoom view 1
+has_room = record { known = λ p low. omega (arith, low); settled = λ dev low c left. left }
+
+pub is_known : IsSchemaWhere [] (coordinator_pair (logs_of bytes))
+is_known = subst (IsSchemaWhere []) (sym (decisions_stand.counting.counts refl)) (record { c = first_coordinator shape 3; reads = refl; tables = refl })

@@ -120,7 +120,14 @@ pub fn entries_fit<D: Disks, F: Fn(PlaceKind, &Key, u32) -> u32>(
         let Some(changes) = partition.logged(disks, number)? else {
             return Ok(true);
         };
-        if !changes_fit(alloc, place, shape, schema, u32::from(part), changes.as_slice())? {
+        if !changes_fit(
+            alloc,
+            place,
+            shape,
+            schema,
+            u32::from(part),
+            changes.as_slice(),
+        )? {
             return Ok(false);
         }
     }
