@@ -49,9 +49,7 @@ fn is_as_before(disks: &Recorder, a: u32, b: u32, pair: &Pair) -> bool
     requires a { a < (seen disks.now.disks).count }
     requires b { b < (seen disks.now.disks).count }
 {
-    disks.lines() == Some("")
-        && disks.disks.bytes(a) == pair.a
-        && disks.disks.bytes(b) == pair.b
+    disks.lines() == Some("") && disks.disks.bytes(a) == pair.a && disks.disks.bytes(b) == pair.b
 }
 
 /// What the coordinator's pair is taken for.

@@ -14,7 +14,7 @@ use Rattle.salt_laws.proofs.NextFits.{find-in}
 use Rattle.salt_values.specs.Id.{is_same_id}
 use Rattle.salt_values.specs.declared.id.Id.{Id}
 use Rattle.salt_watch.proofs.Readable.{distinct, readable}
-use Rattle.std.specs.Prelude.{List, None, Option, Some, false, map, refl, true, ◌≡◌}
+use Rattle.std.specs.Prelude.{List, Some, false, map, true, ◌≡◌}
 
 pub rising : (s : State) → IsSoundState s → Rising (names_in s.units.units)
 rising s h = names-rise s.units h.trace h.keeps.units h.sound.played h.sound.well

@@ -1,5 +1,5 @@
 -- States behind a line, a turn and an event are those of sound traces.
-use Rattle.salt_engine.proofs.Following.{not-of-run}
+use Rattle.salt_engine.specs.StillToCome.{not-of-run}
 use Rattle.salt_engine.specs.Serving.{is_served}
 use Rattle.salt_engine.specs.Sound.{IsSoundState}
 use Rattle.salt_keeps.proofs.NextTold.{may-stand}

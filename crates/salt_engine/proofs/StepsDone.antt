@@ -4,7 +4,7 @@ use Rattle.salt_ast.specs.declared.lines.Line.TheVariants.{Crash, Go, GoAll, Not
 use Rattle.salt_books.specs.Books.{AreBooks}
 use Rattle.salt_books.specs.declared.books.Books.{Books}
 use Rattle.salt_engine.proofs.Done.{gives-same}
-use Rattle.salt_engine.proofs.Following.{not-of-run}
+use Rattle.salt_engine.specs.StillToCome.{not-of-run}
 use Rattle.salt_engine.proofs.Judged.{turn-judged, turns-all}
 use Rattle.salt_engine.proofs.Moving.{ask-moves, behind-serves, say-moves, turn-moves}
 use Rattle.salt_engine.proofs.Soundness.{sound-asked}

@@ -34,37 +34,38 @@ left-same : {A : Type 0} (t : Bool) (o : Option A) → t ≡ true → (if t then
 left-same true o e = refl
 left-same false o e = cc
 
-pub none-forgotten : (accepted beginning : List Id) (x : CalledNames) → Forgets accepted beginning [] x x
-none-forgotten accepted beginning x = record { kept = λ b under. refl; others = λ b out. refl; forgotten = λ b i idle. absurd i }
-
 -- one program more, that is not under way
 pub one-forgotten : (accepted beginning gone : List Id) (base : Id) (old mid new : CalledNames) → Forgets accepted beginning gone old mid →
     is_under_way accepted beginning base ≡ false → ((b : Id) → name_told new b ≡ (if is_same_id b base then None else name_told mid b)) →
     Forgets accepted beginning (gone ++ base ∷ []) old new
 one-forgotten accepted beginning gone base old mid new f idle told = record {
-    kept = λ b under. stays mid new accepted beginning base b idle under (told b) ∙ f.kept b under;
-    others = λ b out. other b (is_same_id b base) refl out;
-    forgotten = λ b i off. by b off (in-cases b gone (base ∷ []) i);
-  }
+  kept = λ b under. stays mid new accepted beginning base b idle under (told b) ∙ f.kept b under;
+  others = λ b out. other b (is_same_id b base) refl out;
+  forgotten = λ b i off. by b off (in-cases b gone (base ∷ []) i);
+}
   where
     other : (b : Id) (t : Bool) → is_same_id b base ≡ t → (In b (gone ++ base ∷ []) → ⊥) → name_told new b ≡ name_told old b
     other b true e out = absurd (out (in-right b gone (base ∷ []) (inl (sym (is_same_id-true b base e)))))
     other b false e out = told b ∙ ap (λ t. if t then None else name_told mid b) e ∙ f.others b (λ i. out (in-left b gone (base ∷ []) i))
+
     by : (b : Id) → is_under_way accepted beginning b ≡ false → In b gone ⊎ In b (base ∷ []) → name_told new b ≡ None
     by b off (inl i) = told b ∙ left-none (is_same_id b base) (name_told mid b) (f.forgotten b i off)
     by b off (inr (inl e)) = told b ∙ left-same (is_same_id b base) (name_told mid b) (subst (λ c. is_same_id b c ≡ true) (sym e) (is_same_id-refl b))
     by b off (inr (inr i)) = absurd i
 
--- or one that is
-pub one-left : (accepted beginning gone : List Id) (base : Id) (old new : CalledNames) → Forgets accepted beginning gone old new →
-    is_under_way accepted beginning base ≡ true → Forgets accepted beginning (gone ++ base ∷ []) old new
-one-left accepted beginning gone base old new f under = record {
-    kept = f.kept;
-    others = λ b out. f.others b (λ i. out (in-left b gone (base ∷ []) i));
-    forgotten = λ b i off. by b off (in-cases b gone (base ∷ []) i);
-  }
+-- or one that is, and then nothing changes
+pub one-left : (accepted beginning gone : List Id) (base : Id) (old mid new : CalledNames) → Forgets accepted beginning gone old mid →
+    is_under_way accepted beginning base ≡ true → new ≡ mid → Forgets accepted beginning (gone ++ base ∷ []) old new
+one-left accepted beginning gone base old mid new f under same = record {
+  kept = λ b on. told b ∙ f.kept b on;
+  others = λ b out. told b ∙ f.others b (λ i. out (in-left b gone (base ∷ []) i));
+  forgotten = λ b i off. told b ∙ by b off (in-cases b gone (base ∷ []) i);
+}
   where
-    by : (b : Id) → is_under_way accepted beginning b ≡ false → In b gone ⊎ In b (base ∷ []) → name_told new b ≡ None
+    told : (b : Id) → name_told new b ≡ name_told mid b
+    told b = ap (λ (x : CalledNames). name_told x b) same
+
+    by : (b : Id) → is_under_way accepted beginning b ≡ false → In b gone ⊎ In b (base ∷ []) → name_told mid b ≡ None
     by b off (inl i) = f.forgotten b i off
     by b off (inr (inl e)) = let other = subst (λ c. is_under_way accepted beginning c ≡ true) e under in cc
     by b off (inr (inr i)) = absurd i

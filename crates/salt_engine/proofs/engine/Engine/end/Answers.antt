@@ -6,6 +6,8 @@ use Rattle.salt_engine.proofs.SoundFacts.{rising}
 use Rattle.salt_keeps.specs.Steps.{units_after}
 use Rattle.salt_model.specs.declared.events.Event.TheVariants.{Ended}
 use Rattle.salt_engine.proofs.Done.{state_by, under-way-at}
+use Rattle.salt_engine.proofs.UnderWay.{under-way}
+use Rattle.salt_keeps.specs.Readings.{first_parts}
 use Rattle.std.proofs.Common.{sym, ◌∙◌}
 use Rattle.salt_engine.proofs.EndsDone.{books-unended, end-gives, ended-first, ended-first-none, have-named, undecided-free}
 
@@ -33,5 +35,6 @@ returns c = λ s r stands serves.
     books
     (c.end-2.ensures s.watch (facts_in s.units e) c.args.end stands.watch (undecided-free c.args.end c.requires.undecided)
     (ended-first s.units c.args.unit c.args.end (seen c.in-Some.held.now) named ∙ sym c.program_begun-first.ensures))
-    (λ w b watched i. c.in_ok-forget_first.ensures (units_after e s.units) w b books watched (under-way-at (state_by e s w) b i))
+    (λ w b watched i. (c.in_ok-forget_first.ensures (units_after e s.units) w books watched).kept b
+    (under-way b w.programs (first_parts (units_after e s.units).units) (under-way-at (state_by e s w) b i)))
     refl

@@ -5,6 +5,8 @@ use Rattle.salt_engine.proofs.BasesDone.{release-gives}
 use Rattle.salt_model.specs.declared.events.Event.TheVariants.{Released}
 use Rattle.salt_keeps.specs.UnitFacts.{facts_in}
 use Rattle.salt_engine.proofs.Done.{state_by, under-way-at}
+use Rattle.salt_engine.proofs.UnderWay.{under-way}
+use Rattle.salt_keeps.specs.Readings.{first_parts}
 use Rattle.salt_engine.specs.declared.follow.Follow.TheVariants.{Release}
 use Rattle.salt_engine.proofs.SettleDone.{behind-at}
 
@@ -17,5 +19,6 @@ returns c = λ s r behind serves.
     refl
     (c.in_ok-due.ensures.released s.watch (facts_in s.units (Released c.in_ok-due.due)) stands.watch)
     refl
-    (λ w b watched i. c.in_ok-forget.ensures s.units w b stands.books watched (under-way-at (state_by (Released c.in_ok-due.due) s w) b i))
+    (λ w b watched i. (c.in_ok-forget.ensures s.units w stands.books watched).kept b
+    (under-way b w.programs (first_parts s.units.units) (under-way-at (state_by (Released c.in_ok-due.due) s w) b i)))
     refl
