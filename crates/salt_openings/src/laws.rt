@@ -1,0 +1,46 @@
+//! The laws, each on a function that does nothing.
+
+ghost use Rattle.salt_keeps.specs.Follows.{opened_in, opening_in, unit_of};
+ghost use Rattle.salt_keeps.specs.Keeps.{KeepsUnits};
+ghost use Rattle.salt_keeps.specs.Laws.{IsSound, is_of_run};
+ghost use Rattle.salt_keeps.specs.Nexts.{said_next};
+ghost use Rattle.salt_keeps.specs.OpenUnits.{UnitState};
+ghost use Rattle.salt_keeps.specs.Points.{IsIdle, KeepsPoint, Point, Says};
+ghost use Rattle.salt_keeps.specs.Readings.{Reading};
+ghost use Rattle.salt_keeps.specs.States.{State, started};
+ghost use Rattle.salt_model.specs.Kept.{WellKept};
+ghost use Rattle.salt_model.specs.Phases.{Fallen, Opening};
+ghost use Rattle.salt_model.specs.Stops.{MayOpen};
+ghost use Rattle.salt_model.specs.Trace.{Start, Trace, from, ◌says◌};
+ghost use Rattle.salt_model.specs.declared.events.Event.{Event};
+ghost use Rattle.salt_model.specs.declared.events.Event.TheVariants.{Down, Opened, Ready};
+ghost use Rattle.salt_model.specs.declared.events.Why.TheVariants.{Stopped};
+ghost use Rattle.salt_openings.specs.Openings.{FallsAgain, FallsInOpening, Opens};
+ghost use Rattle.std.specs.Prelude.{None, Option, [], false, ℕ, ◌≡◌, ◌⊎◌};
+
+/// A run begins at its start, falls in an opening and while it is down, is opened, and is idle behind its Ready; until
+/// then `go all` has nothing left to turn to.
+pub fn openings_go_on()
+    ensures start { (k : Start) → WellKept k.kept →
+        KeepsPoint (record { state = started k; next = None; flight = None }) (from k) × IsSound (from k) }
+    ensures falls { (old new : Point) (trace : Trace) (e : Event) → KeepsPoint old (trace says e) → IsSound (trace says e) →
+        is_of_run e ≡ false → FallsInOpening old new →
+        KeepsPoint new (trace says e says Event.Down Stopped) × IsSound (trace says e says Event.Down Stopped) }
+    ensures falls_again { (old new : Point) (trace : Trace) → KeepsPoint old trace → IsSound trace → FallsAgain old new →
+        KeepsPoint new (trace says Event.Down Stopped) × IsSound (trace says Event.Down Stopped) }
+    ensures opens { (boot n : ℕ) (old new : Point) (trace : Trace) → KeepsPoint old trace → IsSound trace →
+        MayOpen Fallen trace boot n → Opens boot n old new →
+        KeepsPoint new (trace says Opened boot n) × IsSound (trace says Opened boot n) }
+    ensures ready { (old new : Point) (trace : Trace) → KeepsPoint old trace → IsSound trace → Says Ready old new → IsIdle new }
+    ensures none_to_go { (s : UnitState) (trace : Trace) → KeepsUnits s trace → IsSound trace →
+        (s.phase ≡ Fallen) ⊎ (s.phase ≡ Opening) → s.to_go ≡ [] }
+{}
+
+/// What follows an event of an opening is told by the states of units alone.
+pub fn openings_tell_what_follows()
+    ensures said { (e : Event) (old new : State) (x : Reading new.watch) (flight : Option Event) → is_of_run e ≡ false →
+        new.units.phase ≡ Opening →
+        said_next e old new x flight ≡ opening_in new.units e (unit_of e old.units new.units) }
+    ensures opened { (boot n : ℕ) (old new : State) (x : Reading new.watch) (flight : Option Event) →
+        said_next (Opened boot n) old new x flight ≡ opened_in new.units n flight }
+{}

@@ -1,0 +1,10 @@
+//! How a run is opened again after a stop, as moves of its point; and that an opening goes on until it is ready, and ends.
+//!
+//! The definitions are read in this order:
+//! - Openings: a stop in an opening and while the run is down, and the opening of a run;
+//! - Draining: what an opening can carry to its end, and how much is left of it.
+#![tactic(auto)]
+
+mod laws;
+
+pub use laws::{openings_go_on, openings_tell_what_follows};
