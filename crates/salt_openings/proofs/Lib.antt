@@ -1,1 +1,6 @@
 pub mod Opening
+pub mod OneState
+pub mod Draining
+pub mod Standing
+pub mod Resting
+pub mod Ending

@@ -98,10 +98,10 @@ start-point k w = (record { state = states-start k; next = refl; flight = refl }
 
 -- while the run is down or is opened, `go all` has nothing left to turn to
 
-abbrev IsNotServing : Phase → Type 0
+abbrev pub IsNotServing : Phase → Type 0
 IsNotServing p = (p ≡ Fallen) ⊎ (p ≡ Opening)
 
-serves-not : (p : Phase) → p ≡ Serving → IsNotServing p → ⊥
+pub serves-not : (p : Phase) → p ≡ Serving → IsNotServing p → ⊥
 serves-not p s (inl h) = cc
 serves-not p s (inr h) = cc
 

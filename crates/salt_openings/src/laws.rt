@@ -7,7 +7,7 @@ ghost use Rattle.salt_keeps.specs.Nexts.{said_next};
 ghost use Rattle.salt_keeps.specs.OpenUnits.{UnitState};
 ghost use Rattle.salt_keeps.specs.Points.{IsIdle, KeepsPoint, Point, Says};
 ghost use Rattle.salt_keeps.specs.Readings.{Reading};
-ghost use Rattle.salt_keeps.specs.States.{State, started};
+ghost use Rattle.salt_keeps.specs.States.{After, Keeps, State, started};
 ghost use Rattle.salt_model.specs.Kept.{WellKept};
 ghost use Rattle.salt_model.specs.Phases.{Fallen, Opening};
 ghost use Rattle.salt_model.specs.Stops.{MayOpen};
@@ -15,8 +15,9 @@ ghost use Rattle.salt_model.specs.Trace.{Start, Trace, from, ◌says◌};
 ghost use Rattle.salt_model.specs.declared.events.Event.{Event};
 ghost use Rattle.salt_model.specs.declared.events.Event.TheVariants.{Down, Opened, Ready};
 ghost use Rattle.salt_model.specs.declared.events.Why.TheVariants.{Stopped};
+ghost use Rattle.salt_openings.specs.Draining.{CanDrain, left_to_open};
 ghost use Rattle.salt_openings.specs.Openings.{FallsAgain, FallsInOpening, Opens};
-ghost use Rattle.std.specs.Prelude.{None, Option, [], false, ℕ, ◌≡◌, ◌⊎◌};
+ghost use Rattle.std.specs.Prelude.{IsSome, None, Option, Some, [], false, ℕ, ◌<◌, ◌≡◌, ◌⊎◌};
 
 /// A run begins at its start, falls in an opening and while it is down, is opened, and is idle behind its Ready; until
 /// then `go all` has nothing left to turn to.
@@ -43,4 +44,18 @@ pub fn openings_tell_what_follows()
         said_next e old new x flight ≡ opening_in new.units e (unit_of e old.units new.units) }
     ensures opened { (boot n : ℕ) (old new : State) (x : Reading new.watch) (flight : Option Event) →
         said_next (Opened boot n) old new x flight ≡ opened_in new.units n flight }
+{}
+
+/// In an opening something comes next, until it is ready.
+pub fn drains_never_rest()
+    ensures { (p : Point) (trace : Trace) → KeepsPoint p trace → IsSound trace → p.state.units.phase ≡ Opening →
+        CanDrain p.state.units.kept → IsSome p.next }
+{}
+
+/// What is left of an opening falls with each event, so it comes to its end.
+pub fn openings_end()
+    ensures { (e : Event) (old new : State) (x : Reading new.watch) (flight : Option Event) (trace : Trace) →
+        is_of_run e ≡ false → old.units.phase ≡ Opening → Keeps old trace → IsSound (trace says e) →
+        CanDrain new.units.kept → After e old new →
+        left_to_open new.units (said_next e old new x flight) < left_to_open old.units (Some e) }
 {}

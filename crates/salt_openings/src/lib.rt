@@ -7,4 +7,6 @@
 
 mod laws;
 
-pub use laws::{openings_go_on, openings_tell_what_follows};
+pub use laws::{
+    drains_never_rest, openings_end, openings_go_on, openings_tell_what_follows,
+};
