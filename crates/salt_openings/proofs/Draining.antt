@@ -26,7 +26,7 @@ use Rattle.salt_model.specs.declared.events.Cause.{Cause}
 use Rattle.salt_model.specs.declared.events.End.{End}
 use Rattle.salt_model.specs.declared.events.End.TheVariants.{Branched, Committed, Cut}
 use Rattle.salt_model.specs.declared.events.Event.{Event}
-use Rattle.salt_model.specs.declared.events.Event.TheVariants.{Accepted, Began, Did, Down, Ended, Finished, Opened, Ready}
+use Rattle.salt_model.specs.declared.events.Event.TheVariants.{Accepted, Began, Defined, Did, Down, Ended, Finished, Opened, Ready}
 use Rattle.salt_model.specs.declared.events.UnitKind.{UnitKind}
 use Rattle.salt_model.specs.declared.events.UnitKind.TheVariants.{First, Later}
 use Rattle.salt_model.specs.declared.vars.Binding.{Binding}
@@ -66,12 +66,18 @@ Stands s (Began u kind) = (d : DrainsAt s u) × (d.unit.done ≡ 0)
 Stands s (Did u st a) = DrainsAt s u
 Stands s e = AreEarlier s
 
+-- a definition
+abbrev pub is_defined : Event → Bool
+is_defined (Defined n text) = true
+is_defined e = false
+
 -- what follows f in s leads to t
 pub record GoesTo (f : Event) (s t : UnitState) (e : Event) : Type 0 where
   pub stands : Stands t e
   pub statements : CanDrain s.kept → statements_left t + statements_in e ≤ statements_left s
   pub cuts : units_to_cut t + cuts_in e ≤ units_to_cut s
   pub stage : opening_stage e < opening_stage f + 8 * (statements_in e + cuts_in e)
+  pub defines : is_defined e ≡ false
 
 abbrev pub Goes : Event → UnitState → Event → Type 0
 Goes f s e = GoesTo f s (units_after e s) e
@@ -113,7 +119,7 @@ fewer u o os i e = by (list_all p os) refl
     by true h = let t : true ≡ false = sym (all-in p o os h i) ∙ self in cc
     by false h = filter-less p os h
 
-named-program : (P : ProgramDef → Type 0) (ps : List ProgramDef) (n : List ℕ) (p : ProgramDef) → Every P ps → program_named ps n ≡ Some p → P p
+pub named-program : (P : ProgramDef → Type 0) (ps : List ProgramDef) (n : List ℕ) (p : ProgramDef) → Every P ps → program_named ps n ≡ Some p → P p
 named-program P [] n p h e = cc
 named-program P (q ∷ qs) n p h e = by (same_bytes n q.name) e (named-program P qs n p h.1)
   where
@@ -123,7 +129,7 @@ named-program P (q ∷ qs) n p h e = by (same_bytes n q.name) e (named-program P
 
 -- THE REST of a program at its part.
 
-ways-of : (b : Body) → branch_fault b ≡ None → (parts : List PartDef) → elim b [ Acid block ↦ [] | Base ps ↦ ps ] ≡ parts → fault_in_parts (length parts) 1 parts ≡ None
+pub ways-of : (b : Body) → branch_fault b ≡ None → (parts : List PartDef) → elim b [ Acid block ↦ [] | Base ps ↦ ps ] ≡ parts → fault_in_parts (length parts) 1 parts ≡ None
 ways-of (Acid block) h parts e = subst (λ ps. fault_in_parts (length ps) 1 ps ≡ None) e refl
 ways-of (Base ps) h parts e = subst (λ ps. fault_in_parts (length ps) 1 ps ≡ None) e h
 
@@ -222,6 +228,7 @@ module _ (s : UnitState) (o : OpenUnit) (c : Cont) (cs : List Cont) (boot : o.un
          omega arith);
     cuts = rw (is_same_id-refl o.unit) (rw this-boot (omega arith));
     stage = omega arith;
+    defines = refl;
   }
 
   serve-goes : (f : Event) → IfComes (Goes f State) (serve_in State Unit)
@@ -277,6 +284,7 @@ module _ (s : UnitState) (o : OpenUnit) (c : Cont) (cs : List Cont) (boot : o.un
         statements = λ can. commit-left (next_decision State) can w;
         cuts = omega arith;
         stage = omega arith;
+        defines = refl;
       })
 
   fails-goes : (u : Id) (st : Statement) (a : Answer) (x : Cause) → IsWithin → Goes (Did u st a) State (fails_in State Unit x Unit.kind)
@@ -287,6 +295,7 @@ module _ (s : UnitState) (o : OpenUnit) (c : Cont) (cs : List Cont) (boot : o.un
         statements = λ can. branch-left can w;
         cuts = omega arith;
         stage = omega arith;
+        defines = refl;
       })
 
   did-goes : (u : Id) (st : Statement) (a b : Answer) → IsWithin → IfComes (Goes (Did u st a) State) (after_did_in State Unit b)
@@ -326,8 +335,9 @@ drained-within s u d =
 
 -- UNITS OF EARLIER BOOTS.
 
-stays : (f e : Event) (s : UnitState) → Stands s e → statements_in e ≡ 0 → cuts_in e ≡ 0 → opening_stage e < opening_stage f → GoesTo f s s e
-stays f e s h d c l = record { stands = h; statements = λ can. omega arith; cuts = omega arith; stage = omega arith }
+stays : (f e : Event) (s : UnitState) → Stands s e → statements_in e ≡ 0 → cuts_in e ≡ 0 → opening_stage e < opening_stage f → is_defined e ≡ false →
+    GoesTo f s s e
+stays f e s h d c l n = record { stands = h; statements = λ can. omega arith; cuts = omega arith; stage = omega arith; defines = n }
 
 module _ (s : UnitState) (all : AreEarlier s) where
   cut-goes : (f : Event) (u : Id) → In u (cut_in s) → opening_stage f ≤ 4 → Goes f s (Ended u Cut)
@@ -341,13 +351,13 @@ module _ (s : UnitState) (all : AreEarlier s) where
       let were = all-earlier boot s.units all in
       let are = all-earlier boot (without_unit u s.units) left in
       let less = fewer u o.0 s.units o.1 o.2 in
-      record { stands = left; statements = λ can. omega arith; cuts = omega arith; stage = omega arith }
+      record { stands = left; statements = λ can. omega arith; cuts = omega arith; stage = omega arith; defines = refl }
 
   finishes-goes : (f : Event) (b : Id) → 2 < opening_stage f → IfComes (Goes f s) (finishes_in s b)
-  finishes-goes f b l = comes-then_some (Goes f s) (is_none (cont_of b s.kept)) (Finished b) (stays f (Finished b) s all refl refl l)
+  finishes-goes f b l = comes-then_some (Goes f s) (is_none (cont_of b s.kept)) (Finished b) (stays f (Finished b) s all refl refl l refl)
 
   end-goes : (u : Id) (end : End) (kind : UnitKind) → IfComes (Goes (Ended u end) s) (after_end_in s end kind)
-  end-goes u (Committed n) (First t b name args) = stays (Ended u (Committed n)) (Accepted b) s all refl refl (omega arith)
+  end-goes u (Committed n) (First t b name args) = stays (Ended u (Committed n)) (Accepted b) s all refl refl (omega arith) refl
   end-goes u (Committed n) (Later b part) = finishes-goes (Ended u (Committed n)) b (omega arith)
   end-goes u (Branched n x) (Later b part) = finishes-goes (Ended u (Branched n x)) b (omega arith)
   end-goes u end kind = tt
@@ -371,6 +381,7 @@ begins-at f s c cs l =
       statements = λ can. omega arith;
       cuts = rw own (omega arith);
       stage = omega arith;
+      defines = refl;
     }
 
 begins-goes : (f : Event) (s : UnitState) (c : Cont) (cs : List Cont) → s.units ≡ [] → s.kept.conts ≡ c ∷ cs → 1 < opening_stage f →
@@ -380,7 +391,7 @@ begins-goes f s c cs none first l =
     (λ i. record s { units = sym none i; kept = record s.kept { conts = sym first i } }) (begins-at f s c cs l)
 
 drain-goes : (f : Event) (s : UnitState) → AreEarlier s → s.units ≡ [] → 1 < opening_stage f → (cs : List Cont) → s.kept.conts ≡ cs → Goes f s (drains_in s cs)
-drain-goes f s all none l [] e = record { stands = all; statements = λ can. omega arith; cuts = omega arith; stage = omega arith }
+drain-goes f s all none l [] e = record { stands = all; statements = λ can. omega arith; cuts = omega arith; stage = omega arith; defines = refl }
 drain-goes f s all none l (c ∷ cs) e = begins-goes f s c cs none e l
 
 -- the next is cut, or the drain goes on

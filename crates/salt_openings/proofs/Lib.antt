@@ -4,3 +4,5 @@ pub mod Draining
 pub mod Standing
 pub mod Resting
 pub mod Ending
+pub mod Staying
+pub mod Doing

@@ -39,7 +39,8 @@ said-in-opening (Down why) old new x flight r h = cc
 said-in-opening (Opened boot n) old new x flight r h = cc
 said-in-opening e old new x flight r h = ap (λ (p : Phase). said_in p new.units (beside_by new x) e (unit_of e old.units new.units)) h
 
-said-last : (trace : Trace) (e : Event) → is_of_run e ≡ false → is_just_opened (trace says e) ≡ false
+-- an event that isn't an Opened
+pub said-last : (trace : Trace) (e : Event) → is_of_run e ≡ false → is_just_opened (trace says e) ≡ false
 said-last trace (Opened boot n) r = cc
 said-last trace e r = refl
 

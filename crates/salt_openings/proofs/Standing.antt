@@ -85,7 +85,7 @@ decision-earlier s (Ended u (Committed n)) d all = ended-earlier s u (Committed 
 decision-earlier s (Ended u (Branched n x)) d all = ended-earlier s u (Branched n x) all
 decision-earlier s e d all = cc
 
-comes-weaker : (P Q : Event → Type 0) → ((e : Event) → P e → Q e) → (o : Option Event) → IfComes P o → IfComes Q o
+pub comes-weaker : (P Q : Event → Type 0) → ((e : Event) → P e → Q e) → (o : Option Event) → IfComes P o → IfComes Q o
 comes-weaker P Q f None h = tt
 comes-weaker P Q f (Some e) h = f e h
 
@@ -133,7 +133,7 @@ pub told-opened : (trace : Trace) (boot n : ℕ) → IsPlayed (trace says Opened
     next (trace says Opened boot n) ≡ opened_in (units_of (trace says Opened boot n)) n (flight trace)
 told-opened trace boot n p w = opened-told (units_of (trace says Opened boot n)) (trace says Opened boot n) (state-kept (trace says Opened boot n) p w) n (flight trace)
 
-decided : (P : Event → Type 0) (o : Option Event) → IfSome (λ e. P e × (is_decision e ≡ true)) o → IfSome (λ e. is_decision e ≡ true) o
+pub decided : (P : Event → Type 0) (o : Option Event) → IfSome (λ e. P e × (is_decision e ≡ true)) o → IfSome (λ e. is_decision e ≡ true) o
 decided P None h = tt
 decided P (Some e) h = h.1
 

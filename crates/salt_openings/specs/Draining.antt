@@ -5,14 +5,18 @@ use Rattle.salt_ast.specs.declared.programs.PartDef.{PartDef}
 use Rattle.salt_ast.specs.declared.programs.ProgramDef.{ProgramDef}
 use Rattle.salt_keeps.specs.OpenUnits.{OpenUnit, UnitState}
 use Rattle.salt_keeps.specs.Steps.{units_after}
-use Rattle.salt_model.specs.Kept.{Kept, kept_program, parts_of, programs_of}
+use Rattle.salt_model.specs.After.{defined_by}
+use Rattle.salt_model.specs.Kept.{Kept, kept_program, parts_of, program_of_definition, programs_of}
+use Rattle.salt_model.specs.Next.{decision_in}
+use Rattle.salt_model.specs.Stops.{is_just_opened}
+use Rattle.salt_model.specs.Trace.{Trace}
 use Rattle.salt_model.specs.Words.{Every}
 use Rattle.salt_model.specs.declared.events.End.TheVariants.{Cut}
 use Rattle.salt_model.specs.declared.events.Event.{Event}
-use Rattle.salt_model.specs.declared.events.Event.TheVariants.{Accepted, Began, Did, Ended, Finished, Ready}
+use Rattle.salt_model.specs.declared.events.Event.TheVariants.{Accepted, Began, Defined, Did, Ended, Finished, Ready}
 use Rattle.salt_values.specs.declared.cont.Cont.{Cont}
-use Rattle.std.specs.List.{filter}
-use Rattle.std.specs.Prelude.{Bool, List, None, Option, Some, [], if◌then◌else◌, length, nat_lt, ℕ, ◌*◌, ◌+◌, ◌-◌, ◌<◌, ◌∷◌, ◌≡◌}
+use Rattle.std.specs.List.{filter, filter_map}
+use Rattle.std.specs.Prelude.{Bool, List, None, Option, Some, [], false, if◌then◌else◌, length, nat_lt, ℕ, ◌*◌, ◌+◌, ◌-◌, ◌<◌, ◌∷◌, ◌≡◌, ◌⊎◌}
 
 -- a program's ways lead on, and each of its parts has a statement
 pub record LeadsOn (p : ProgramDef) : Type 0 where
@@ -77,3 +81,16 @@ statements_in e = 0
 abbrev pub cuts_in : Event → ℕ
 cuts_in (Ended u Cut) = 1
 cuts_in e = 0
+
+abbrev pub statements_told : List Event → ℕ
+statements_told [] = 0
+statements_told (e ∷ es) = statements_in e + statements_told es
+
+-- the programs that an event defines
+abbrev pub defined_in : UnitState → Event → List ProgramDef
+defined_in s (Defined n text) = filter_map program_of_definition (defined_by s.line)
+defined_in s e = []
+
+-- the decision in flight, which may follow an Opened, isn't what comes next
+abbrev pub IsBehindFlight : Trace → Option Event → Type 0
+IsBehindFlight trace next = (is_just_opened trace ≡ false) ⊎ (decision_in next ≡ None)

@@ -5,19 +5,22 @@ ghost use Rattle.salt_keeps.specs.Keeps.{KeepsUnits};
 ghost use Rattle.salt_keeps.specs.Laws.{IsSound, is_of_run};
 ghost use Rattle.salt_keeps.specs.Nexts.{said_next};
 ghost use Rattle.salt_keeps.specs.OpenUnits.{UnitState};
-ghost use Rattle.salt_keeps.specs.Points.{IsIdle, KeepsPoint, Point, Says};
+ghost use Rattle.salt_keeps.specs.Points.{IsIdle, KeepsPoint, Move, Point, Runs, Says, told_by};
 ghost use Rattle.salt_keeps.specs.Readings.{Reading};
 ghost use Rattle.salt_keeps.specs.States.{After, Keeps, State, started};
-ghost use Rattle.salt_model.specs.Kept.{WellKept};
+ghost use Rattle.salt_keeps.specs.Steps.{units_after};
+ghost use Rattle.salt_model.specs.Kept.{WellKept, programs_of};
 ghost use Rattle.salt_model.specs.Phases.{Fallen, Opening};
 ghost use Rattle.salt_model.specs.Stops.{MayOpen};
 ghost use Rattle.salt_model.specs.Trace.{Start, Trace, from, ◌says◌};
 ghost use Rattle.salt_model.specs.declared.events.Event.{Event};
 ghost use Rattle.salt_model.specs.declared.events.Event.TheVariants.{Down, Opened, Ready};
 ghost use Rattle.salt_model.specs.declared.events.Why.TheVariants.{Stopped};
-ghost use Rattle.salt_openings.specs.Draining.{CanDrain, left_to_open};
+ghost use Rattle.salt_model.specs.Words.{Every};
+ghost use Rattle.salt_openings.specs.Draining.{CanDrain, IsBehindFlight, LeadsOn, defined_in, left_to_open, rests_of};
+ghost use Rattle.salt_openings.specs.Draining.{statements_in, statements_left, statements_told};
 ghost use Rattle.salt_openings.specs.Openings.{FallsAgain, FallsInOpening, Opens};
-ghost use Rattle.std.specs.Prelude.{IsSome, None, Option, Some, [], false, ℕ, ◌<◌, ◌≡◌, ◌⊎◌};
+ghost use Rattle.std.specs.Prelude.{IsSome, List, None, Option, Some, [], false, ℕ, ◌+◌, ◌<◌, ◌≡◌, ◌≤◌, ◌⊎◌};
 
 /// A run begins at its start, falls in an opening and while it is down, is opened, and is idle behind its Ready; until
 /// then `go all` has nothing left to turn to.
@@ -58,4 +61,22 @@ pub fn openings_end()
         is_of_run e ≡ false → old.units.phase ≡ Opening → Keeps old trace → IsSound (trace says e) →
         CanDrain new.units.kept → After e old new →
         left_to_open new.units (said_next e old new x flight) < left_to_open old.units (Some e) }
+{}
+
+/// Behind the decision in flight an opening does no more statements than the rests of its continuations tell.
+pub fn drains_do_their_rests()
+    ensures one { (e : Event) (s : UnitState) (trace : Trace) → KeepsUnits s trace → IsSound (trace says e) → is_of_run e ≡ false →
+        s.phase ≡ Opening → IsBehindFlight trace (Some e) → CanDrain s.kept →
+        statements_left (units_after e s) + statements_in e ≤ statements_left s }
+    ensures all { (ms : List Move) (old new : Point) (trace : Trace) → KeepsPoint old trace → IsSound trace →
+        CanDrain old.state.units.kept → old.state.units.phase ≡ Opening → IsBehindFlight trace old.next → Runs old ms new →
+        new.state.units.phase ≡ Opening →
+        statements_left new.state.units + statements_told (told_by ms) ≤ statements_left old.state.units }
+    ensures most { (s : UnitState) → statements_left s ≤ rests_of (programs_of s.kept) s.kept.conts }
+{}
+
+/// What can be drained stays so with each event of a run, where the programs that it defines lead on.
+pub fn what_can_be_drained_stays()
+    ensures { (s : UnitState) (trace : Trace) (e : Event) → KeepsUnits s trace → IsSound (trace says e) → CanDrain s.kept →
+        Every LeadsOn (defined_in s e) → CanDrain (units_after e s).kept }
 {}

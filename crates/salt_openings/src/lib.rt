@@ -8,5 +8,6 @@
 mod laws;
 
 pub use laws::{
-    drains_never_rest, openings_end, openings_go_on, openings_tell_what_follows,
+    drains_do_their_rests, drains_never_rest, openings_end, openings_go_on,
+    openings_tell_what_follows, what_can_be_drained_stays,
 };
