@@ -1,7 +1,7 @@
 -- A drain does no more statements than the rests of its programs tell.
 use Rattle.salt_keeps.proofs.KeepsOn.{state-kept}
 use Rattle.salt_keeps.proofs.PointsGoOn.{says-point}
-use Rattle.salt_keeps.specs.Follows.{cut_in, cuts_or_drains_in, opened_in, opening_in, stands_in, unit_of}
+use Rattle.salt_keeps.specs.Follows.{cut_in, cuts_or_drains_in, opened_in, stands_in}
 use Rattle.salt_keeps.specs.Keeps.{KeepsUnits}
 use Rattle.salt_keeps.specs.Laws.{IsSound, is_of_run}
 use Rattle.salt_keeps.specs.OpenUnits.{UnitState}
@@ -22,7 +22,7 @@ use Rattle.salt_model.specs.Trace.{Trace, from, start_of, ◌asks◌, ◌says◌
 use Rattle.salt_model.specs.Words.{Every}
 use Rattle.salt_model.specs.declared.events.Event.{Event}
 use Rattle.salt_model.specs.declared.events.Event.TheVariants.{Defined, Down, Opened, Ready}
-use Rattle.salt_openings.proofs.Draining.{Goes, Stands, cuts-follow, is_defined, is_within, opening-follows}
+use Rattle.salt_openings.proofs.Draining.{Goes, Stands, cuts-follow, is_defined, opening-follows}
 use Rattle.salt_openings.proofs.OneState.{one-state}
 use Rattle.salt_openings.proofs.Opening.{said-last, serves-not}
 use Rattle.salt_openings.proofs.Standing.{comes-weaker, decided, stands-at, told-opened, told-within}

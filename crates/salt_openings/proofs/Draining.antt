@@ -1,7 +1,7 @@
 -- How the units of an opening go on: each event's state, and what is left of it.
 
 use Rattle.salt_ast.proofs.Rests.{rest_of_part}
-use Rattle.salt_ast.specs.Paths.{Position, at_number, next_on_commit, next_on_failure, rest_of}
+use Rattle.salt_ast.specs.Paths.{Position, at_number, rest_of}
 use Rattle.salt_ast.specs.ProgramJudgement.{branch_fault, fault_in_parts, program_named}
 use Rattle.salt_ast.specs.declared.programs.Body.{Body}
 use Rattle.salt_ast.specs.declared.programs.Body.TheVariants.{Acid, Base}
@@ -11,7 +11,7 @@ use Rattle.salt_ast.specs.declared.trees.Statement.{Statement}
 use Rattle.salt_keeps.proofs.LookUps.{asked-within}
 use Rattle.salt_keeps.specs.Follows.{cut_in, cuts_or_drains_in, drains_in, follow_opening_in, opening_in, unit_of}
 use Rattle.salt_keeps.specs.OpenUnits.{OpenUnit, UnitState, asks_next, names_in, unit_named, without_unit}
-use Rattle.salt_keeps.specs.Steps.{begun, doing_one, kept_branched, kept_committed, kept_ended, units_after}
+use Rattle.salt_keeps.specs.Steps.{begun, doing_one, kept_ended, units_after}
 use Rattle.salt_keeps.specs.Told.{after_did_in, after_end_in, begins_in, commits_in, does_in, fails_in, finishes_in, is_at_end_in, next_decision, next_unit, serve_in}
 use Rattle.salt_laws.proofs.Every.{every-filter}
 use Rattle.salt_laws.proofs.Fresh.{IfComes, comes-option_or, comes-then_some}
@@ -29,7 +29,6 @@ use Rattle.salt_model.specs.declared.events.Event.{Event}
 use Rattle.salt_model.specs.declared.events.Event.TheVariants.{Accepted, Began, Defined, Did, Down, Ended, Finished, Opened, Ready}
 use Rattle.salt_model.specs.declared.events.UnitKind.{UnitKind}
 use Rattle.salt_model.specs.declared.events.UnitKind.TheVariants.{First, Later}
-use Rattle.salt_model.specs.declared.vars.Binding.{Binding}
 use Rattle.salt_openings.specs.Draining.{CanDrain, LeadsOn, StandsAtPart, cuts_in, done_now, is_earlier, opening_stage, rest_of_cont, rests_of, statements_in, statements_left, units_to_cut}
 use Rattle.salt_tokens.specs.Spelling.{same_bytes}
 use Rattle.salt_values.specs.Id.{is_same_id}
@@ -38,7 +37,6 @@ use Rattle.salt_values.specs.declared.id.Id.{Id}
 use Rattle.std.proofs.Common.{ap, arith, inl, subst, sym, ◌∙◌}
 use Rattle.std.proofs.lemmas.Bool.Decides.{nat_tests}
 use Rattle.std.proofs.lemmas.Option.{same_Some}
-use Rattle.std.specs.Bool.{then_some}
 use Rattle.std.specs.List.{filter, list_all}
 use Rattle.std.specs.Option.{option_or}
 use Rattle.std.specs.Prelude.{Bool, List, None, Option, Some, [], cond, false, is_none, length, max, nat_lt, not, option_and_then, option_map, refl, suc, true, zero, ℕ, ◌*◌, ◌+◌, ◌-◌, ◌<◌, ◌∷◌, ◌≡◌, ◌≤◌}
@@ -223,9 +221,9 @@ module _ (s : UnitState) (o : OpenUnit) (c : Cont) (cs : List Cont) (boot : o.un
     };
     statements = λ can. left-one (rests_of (programs_of State.kept) (c ∷ cs)) (done_now s.kept.boot State.units) (done_now s.kept.boot (units_after (does_in State Unit st) State).units) o.done done-is (rw (is_same_id-refl o.unit) (rw this-boot (omega arith)))
         (let at : StandsAtPart State.kept c = can.conts.0 in
-         let l = asked-within State Unit at.part.block st (block-found at) asks in
-         let r = rest-block State.kept can c at in
-         omega arith);
+        let l = asked-within State Unit at.part.block st (block-found at) asks in
+        let r = rest-block State.kept can c at in
+        omega arith);
     cuts = rw (is_same_id-refl o.unit) (rw this-boot (omega arith));
     stage = omega arith;
     defines = refl;
@@ -368,16 +366,19 @@ begins-at f s c cs l =
     let t : UnitState = record s { units = []; kept = record s.kept { conts = c ∷ cs } } in
     let own : nat_lt s.kept.boot s.kept.boot ≡ false = not-below s.kept.boot s.kept.boot refl in
     record {
-      stands = (record {
-        unit = begun t (next_unit t) (Later c.base c.next);
-        cont = c;
-        others = cs;
-        only = refl;
-        conts = refl;
-        name = refl;
-        boot = refl;
-        within = λ block h. omega arith;
-      }, refl);
+      stands = (
+        record {
+          unit = begun t (next_unit t) (Later c.base c.next);
+          cont = c;
+          others = cs;
+          only = refl;
+          conts = refl;
+          name = refl;
+          boot = refl;
+          within = λ block h. omega arith;
+        },
+        refl,
+      );
       statements = λ can. omega arith;
       cuts = rw own (omega arith);
       stage = omega arith;

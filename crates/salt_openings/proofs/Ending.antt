@@ -11,14 +11,14 @@ use Rattle.salt_laws.proofs.Fresh.{IfComes}
 use Rattle.salt_model.specs.Phases.{Opening, Phase, phase}
 use Rattle.salt_model.specs.Trace.{Trace, ◌says◌}
 use Rattle.salt_model.specs.declared.events.Event.{Event}
-use Rattle.salt_model.specs.declared.events.Event.TheVariants.{Accepted, Began, Did, Down, Ended, Finished, Opened, Ready}
+use Rattle.salt_model.specs.declared.events.Event.TheVariants.{Accepted, Began, Did, Down, Finished, Opened, Ready}
 use Rattle.salt_openings.proofs.Draining.{Goes, Stands, is_within, opening-follows}
 use Rattle.salt_openings.proofs.OneState.{one-state}
 use Rattle.salt_openings.proofs.Opening.{said-in-opening}
 use Rattle.salt_openings.proofs.Standing.{stands-at}
-use Rattle.salt_openings.specs.Draining.{CanDrain, cuts_in, left_to_open, opening_stage, statements_in, statements_left, units_to_cut}
+use Rattle.salt_openings.specs.Draining.{CanDrain, left_to_open, opening_stage, statements_left, units_to_cut}
 use Rattle.std.proofs.Common.{ap, arith, subst, sym, ◌∙◌}
-use Rattle.std.specs.Prelude.{None, Option, Some, false, refl, true, ℕ, ◌*◌, ◌+◌, ◌<◌, ◌≡◌, ◌≤◌}
+use Rattle.std.specs.Prelude.{None, Option, Some, false, refl, true, ◌*◌, ◌+◌, ◌<◌, ◌≡◌, ◌≤◌}
 
 stage-counts : (e : Event) → 1 ≤ opening_stage e
 stage-counts (Began u kind) = omega arith

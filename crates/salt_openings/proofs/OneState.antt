@@ -7,7 +7,6 @@ use Rattle.salt_model.specs.Turns.{is_statement_line}
 use Rattle.salt_model.specs.Units.{done_of, is_waiting, kind_of, line_begun}
 use Rattle.salt_model.specs.Words.{Every}
 use Rattle.salt_model.specs.declared.events.UnitKind.{UnitKind}
-use Rattle.salt_values.specs.declared.id.Id.{Id}
 use Rattle.std.proofs.Common.{ap, sym, ◌∙◌}
 use Rattle.std.proofs.lemmas.Option.{same_Some}
 use Rattle.std.specs.Prelude.{List, [], length, refl, ◌∷◌, ◌≡◌}
@@ -22,7 +21,14 @@ one-unit trace o p k l e =
     let vars : o.vars ≡ p.vars = sym k.vars ∙ ap (λ u. (run_of u trace).vars) e ∙ l.vars in
     let changes : o.changes ≡ p.changes = sym k.changes ∙ ap (λ u. (run_of u trace).changes.list) e ∙ l.changes in
     λ i. record {
-      unit = e i; kind = kind i; single = single i; waiting = waiting i; asks = asks i; done = done i; vars = vars i; changes = changes i;
+      unit = e i;
+      kind = kind i;
+      single = single i;
+      waiting = waiting i;
+      asks = asks i;
+      done = done i;
+      vars = vars i;
+      changes = changes i;
     }
 
 one-list : (trace : Trace) (os ps : List OpenUnit) → Every (KeepsUnit trace) os → Every (KeepsUnit trace) ps → names_in os ≡ names_in ps → os ≡ ps
@@ -46,5 +52,11 @@ one-state trace s t k l =
     let unit_count = sym k.unit_count ∙ l.unit_count in
     let base_count = sym k.base_count ∙ l.base_count in
     λ i. record {
-      kept = kept i; phase = phase i; line = line i; to_go = to_go i; units = units i; unit_count = unit_count i; base_count = base_count i;
+      kept = kept i;
+      phase = phase i;
+      line = line i;
+      to_go = to_go i;
+      units = units i;
+      unit_count = unit_count i;
+      base_count = base_count i;
     }

@@ -9,10 +9,8 @@ use Rattle.salt_keeps.specs.Nexts.{flight_next, said_next}
 use Rattle.salt_keeps.specs.OpenUnits.{UnitState}
 use Rattle.salt_keeps.specs.Points.{IsIdle, KeepsPoint, Point, Says}
 use Rattle.salt_keeps.specs.Readings.{Reading, beside_by}
-use Rattle.salt_keeps.specs.States.{After, State, started}
+use Rattle.salt_keeps.specs.States.{State, started}
 use Rattle.salt_keeps.specs.Told.{at_devices_in, can_go_in}
-use Rattle.salt_laws.proofs.Lists.{either}
-use Rattle.salt_laws.proofs.NextFits.{Fits}
 use Rattle.salt_laws.proofs.Replays.{good-event, replays}
 use Rattle.salt_laws.proofs.Salted.{holds, may-fit}
 use Rattle.salt_laws.proofs.WellKept.{of-start}
@@ -27,10 +25,9 @@ use Rattle.salt_model.specs.declared.events.Event.{Event}
 use Rattle.salt_model.specs.declared.events.Event.TheVariants.{Down, Opened, Ready}
 use Rattle.salt_model.specs.declared.events.Why.TheVariants.{Stopped}
 use Rattle.salt_openings.specs.Openings.{FallsAgain, FallsInOpening, Opens}
-use Rattle.salt_values.specs.declared.id.Id.{Id}
 use Rattle.std.proofs.Common.{ap, inl, inr, subst, sym, ◌∙◌}
 use Rattle.std.specs.List.{find}
-use Rattle.std.specs.Prelude.{Bool, List, None, Option, Some, [], false, not, refl, true, ℕ, ◌&&◌, ◌≡◌, ◌⊎◌}
+use Rattle.std.specs.Prelude.{None, Option, Some, [], false, not, refl, true, ℕ, ◌&&◌, ◌≡◌, ◌⊎◌}
 
 -- what follows an event of an opening is told by the states alone
 pub said-in-opening : (e : Event) (old new : State) (x : Reading new.watch) (flight : Option Event) → is_of_run e ≡ false →

@@ -1,27 +1,26 @@
 -- An opening never rests: something comes next until it is ready.
 use Rattle.salt_ast.specs.declared.trees.Statement.{Statement}
-use Rattle.salt_keeps.specs.Follows.{cut_in, cuts_or_drains_in, drains_in, follow_opening_in, opened_in, opening_in, stands_in, unit_of}
-use Rattle.salt_keeps.specs.Keeps.{KeepsUnits}
+use Rattle.salt_keeps.specs.Follows.{cut_in, cuts_or_drains_in, drains_in, follow_opening_in, opening_in, stands_in, unit_of}
 use Rattle.salt_keeps.specs.Laws.{IsSound}
 use Rattle.salt_keeps.specs.OpenUnits.{OpenUnit, UnitState, asking, asks_next, names_in, unit_named}
 use Rattle.salt_keeps.specs.Points.{KeepsPoint, Point}
-use Rattle.salt_keeps.specs.Steps.{units_after, units_of}
+use Rattle.salt_keeps.specs.Steps.{units_of}
 use Rattle.salt_keeps.specs.Told.{after_did_in, commits_in, does_in, is_at_end_in, serve_in}
 use Rattle.salt_keeps.proofs.KeepsOn.{state-kept}
 use Rattle.salt_laws.proofs.Lists.{order-none}
-use Rattle.salt_model.specs.Kept.{Kept, WellKept, block_of_kind}
+use Rattle.salt_model.specs.Kept.{WellKept, block_of_kind}
 use Rattle.salt_model.specs.Next.{flight, next}
 use Rattle.salt_model.specs.Phases.{Opening, phase}
 use Rattle.salt_model.specs.Played.{IsPlayed}
 use Rattle.salt_model.specs.Trace.{Trace, from, start_of, ◌asks◌, ◌says◌, ◌turns◌}
-use Rattle.salt_model.specs.Words.{Every, in_order, is_empty}
+use Rattle.salt_model.specs.Words.{Every, is_empty}
 use Rattle.salt_model.specs.declared.events.Answer.{Answer}
 use Rattle.salt_model.specs.declared.events.Answer.TheVariants.{Failed}
 use Rattle.salt_model.specs.declared.events.Event.{Event}
 use Rattle.salt_model.specs.declared.events.Event.TheVariants.{Began, Did, Down, Opened, Ready}
 use Rattle.salt_model.specs.declared.events.UnitKind.{UnitKind}
 use Rattle.salt_model.specs.declared.events.UnitKind.TheVariants.{Later}
-use Rattle.salt_openings.proofs.Draining.{AreEarlier, DrainsAt, IsWithin, State, Stands, Unit, block-counts, block-found, drained, drained-within, found, is_within, nothing}
+use Rattle.salt_openings.proofs.Draining.{AreEarlier, IsWithin, State, Stands, Unit, block-counts, block-found, drained, drained-within, found, is_within}
 use Rattle.salt_openings.proofs.OneState.{one-state}
 use Rattle.salt_openings.proofs.Opening.{serves-not}
 use Rattle.salt_openings.proofs.Standing.{stands-at, told-opened, told-within}
@@ -34,7 +33,7 @@ use Rattle.std.proofs.lemmas.Option.{slice_get-get_or}
 use Rattle.std.specs.Bool.{then_some}
 use Rattle.std.specs.List.{filter}
 use Rattle.std.specs.Option.{option_or}
-use Rattle.std.specs.Prelude.{Bool, IsSome, List, None, Option, Some, [], cond, false, get_or, is_some, length, nat_lt, option_map, refl, slice_get, true, ℕ, ◌<◌, ◌==◌, ◌∷◌, ◌≡◌, ◌≤◌}
+use Rattle.std.specs.Prelude.{Bool, IsSome, List, None, Option, Some, [], cond, false, is_some, length, nat_lt, option_map, refl, slice_get, true, ℕ, ◌<◌, ◌==◌, ◌∷◌, ◌≡◌, ◌≤◌}
 
 abbrev Comes : Option Event → Type 0
 Comes o = is_some o ≡ true

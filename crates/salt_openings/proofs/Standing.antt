@@ -2,8 +2,7 @@
 use Rattle.salt_keeps.proofs.KeepsOn.{state-kept}
 use Rattle.salt_keeps.proofs.NextTold.{IsBeside, opened-told, said-told}
 use Rattle.salt_keeps.specs.Follows.{cut_in, cuts_or_drains_in, opened_in, opening_in, stands_in, unit_of}
-use Rattle.salt_keeps.specs.Keeps.{KeepsUnits}
-use Rattle.salt_keeps.specs.OpenUnits.{OpenUnit, UnitState, names_in, unit_named, without_unit}
+use Rattle.salt_keeps.specs.OpenUnits.{OpenUnit, UnitState, unit_named, without_unit}
 use Rattle.salt_keeps.specs.Steps.{kept_ended, units_after, units_of}
 use Rattle.salt_keeps.specs.Told.{Beside, next_decision}
 use Rattle.salt_keeps.proofs.UnitLists.{every-unmapped}
@@ -18,7 +17,7 @@ use Rattle.salt_model.specs.After.{kept}
 use Rattle.salt_model.specs.Kept.{Kept, WellKept}
 use Rattle.salt_model.specs.Locks.{clashing}
 use Rattle.salt_model.specs.Next.{flight, is_decision, next, said_event}
-use Rattle.salt_model.specs.Phases.{Opening, Phase, Serving, phase}
+use Rattle.salt_model.specs.Phases.{Opening, Phase, phase}
 use Rattle.salt_model.specs.Played.{IsPlayed}
 use Rattle.salt_model.specs.Reads.{to_release}
 use Rattle.salt_model.specs.Shown.{base_items, lock_items}
@@ -38,9 +37,7 @@ use Rattle.salt_values.specs.Id.{is_same_id}
 use Rattle.salt_values.specs.declared.id.Id.{Id}
 use Rattle.std.proofs.Common.{ap, arith, inr, subst, sym, ◌∙◌}
 use Rattle.std.proofs.lemmas.Bool.Decides.{nat_tests}
-use Rattle.std.specs.List.{filter}
-use Rattle.std.specs.Option.{option_or}
-use Rattle.std.specs.Prelude.{Bool, List, None, Option, Some, [], false, nat_lt, not, refl, true, ℕ, ◌<◌, ◌==◌, ◌∷◌, ◌≡◌, ◌≤◌}
+use Rattle.std.specs.Prelude.{None, Option, Some, nat_lt, not, refl, true, ℕ, ◌<◌, ◌==◌, ◌≡◌, ◌≤◌}
 
 -- DIRECTLY BEHIND AN OPENED.
 

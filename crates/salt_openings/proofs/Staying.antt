@@ -1,6 +1,6 @@
 -- What can be drained stays so with each event of a played trace, if the programs that it defines lead on.
 use Rattle.salt_ast.proofs.Ways.{branch_leads_on, commit_leads_on}
-use Rattle.salt_ast.specs.Paths.{Position, at_number, next_on_branch, next_on_commit}
+use Rattle.salt_ast.specs.Paths.{Position, at_number}
 use Rattle.salt_ast.specs.ProgramJudgement.{fault_in_parts, program_named}
 use Rattle.salt_ast.specs.declared.programs.PartDef.{PartDef}
 use Rattle.salt_ast.specs.declared.programs.ProgramDef.{ProgramDef}
@@ -19,7 +19,6 @@ use Rattle.salt_model.specs.Kept.{Definition, Kept, OfProgram, OfTable, begun_co
 use Rattle.salt_model.specs.Trace.{Trace, ◌says◌}
 use Rattle.salt_model.specs.Words.{Every}
 use Rattle.salt_model.specs.declared.events.Cause.{Cause}
-use Rattle.salt_model.specs.declared.events.End.{End}
 use Rattle.salt_model.specs.declared.events.End.TheVariants.{Branched, Committed}
 use Rattle.salt_model.specs.declared.events.Event.{Event}
 use Rattle.salt_model.specs.declared.events.Event.TheVariants.{Defined, Ended, Opened}

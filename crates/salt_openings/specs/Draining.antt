@@ -1,5 +1,5 @@
 -- What an opening can carry to its end, and how much is left of it: the units still to cut, and the statements of the programs that go on.
-use Rattle.salt_ast.specs.Paths.{Position, at_number, rest_of}
+use Rattle.salt_ast.specs.Paths.{at_number, rest_of}
 use Rattle.salt_ast.specs.ProgramJudgement.{branch_fault, program_named}
 use Rattle.salt_ast.specs.declared.programs.PartDef.{PartDef}
 use Rattle.salt_ast.specs.declared.programs.ProgramDef.{ProgramDef}

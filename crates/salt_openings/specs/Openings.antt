@@ -8,7 +8,7 @@ use Rattle.salt_model.specs.Phases.{Fallen, Opening}
 use Rattle.salt_model.specs.declared.events.Event.{Event}
 use Rattle.salt_model.specs.declared.events.Event.TheVariants.{Down, Opened}
 use Rattle.salt_model.specs.declared.events.Why.TheVariants.{Stopped}
-use Rattle.std.specs.Prelude.{None, Option, Some, true, ℕ, ◌≡◌}
+use Rattle.std.specs.Prelude.{None, Some, true, ℕ, ◌≡◌}
 
 -- a stop in an opening, where what comes next is at the devices
 pub record FallsInOpening (old new : Point) : Type 0 where
