@@ -22,12 +22,12 @@ use Rattle.salt_model.specs.Trace.{Trace, from, start_of, ◌asks◌, ◌says◌
 use Rattle.salt_model.specs.Words.{Every}
 use Rattle.salt_model.specs.declared.events.Event.{Event}
 use Rattle.salt_model.specs.declared.events.Event.TheVariants.{Defined, Down, Opened, Ready}
-use Rattle.salt_openings.proofs.Draining.{Goes, Stands, cuts-follow, is_defined, opening-follows}
+use Rattle.salt_openings.proofs.Draining.{Goes, cuts-follow, is_defined, opening-follows}
 use Rattle.salt_openings.proofs.OneState.{one-state}
 use Rattle.salt_openings.proofs.Opening.{said-last, serves-not}
 use Rattle.salt_openings.proofs.Standing.{comes-weaker, decided, stands-at, told-opened, told-within}
 use Rattle.salt_openings.proofs.Staying.{can-stay}
-use Rattle.salt_openings.specs.Draining.{CanDrain, IsBehindFlight, LeadsOn, defined_in, rests_of, statements_in, statements_left, statements_told}
+use Rattle.salt_openings.specs.Draining.{CanDrain, IsBehindFlight, LeadsOn, Stands, defined_in, rests_of, statements_in, statements_left, statements_told}
 use Rattle.std.proofs.Common.{ap, arith, inl, inr, subst, sym, ◌∙◌}
 use Rattle.std.specs.Bool.{then_some}
 use Rattle.std.specs.Prelude.{Bool, List, None, Option, Some, [], false, refl, true, ℕ, ◌+◌, ◌==◌, ◌∷◌, ◌≡◌, ◌≤◌, ◌⊎◌}

@@ -1,5 +1,4 @@
 -- How the units of an opening go on: each event's state, and what is left of it.
-
 use Rattle.salt_ast.proofs.Rests.{rest_of_part}
 use Rattle.salt_ast.specs.Paths.{Position, at_number, rest_of}
 use Rattle.salt_ast.specs.ProgramJudgement.{branch_fault, fault_in_parts, program_named}
@@ -13,6 +12,7 @@ use Rattle.salt_keeps.specs.Follows.{cut_in, cuts_or_drains_in, drains_in, follo
 use Rattle.salt_keeps.specs.OpenUnits.{OpenUnit, UnitState, asks_next, names_in, unit_named, without_unit}
 use Rattle.salt_keeps.specs.Steps.{begun, doing_one, kept_ended, units_after}
 use Rattle.salt_keeps.specs.Told.{after_did_in, after_end_in, begins_in, commits_in, does_in, fails_in, finishes_in, is_at_end_in, next_decision, next_unit, serve_in}
+use Rattle.salt_laws.proofs.Coming.{nothing}
 use Rattle.salt_laws.proofs.Every.{every-filter}
 use Rattle.salt_laws.proofs.Fresh.{IfComes, comes-option_or, comes-then_some}
 use Rattle.salt_laws.proofs.Ids.{is_same_id-refl}
@@ -29,7 +29,7 @@ use Rattle.salt_model.specs.declared.events.Event.{Event}
 use Rattle.salt_model.specs.declared.events.Event.TheVariants.{Accepted, Began, Defined, Did, Down, Ended, Finished, Opened, Ready}
 use Rattle.salt_model.specs.declared.events.UnitKind.{UnitKind}
 use Rattle.salt_model.specs.declared.events.UnitKind.TheVariants.{First, Later}
-use Rattle.salt_openings.specs.Draining.{CanDrain, LeadsOn, StandsAtPart, cuts_in, done_now, is_earlier, opening_stage, rest_of_cont, rests_of, statements_in, statements_left, units_to_cut}
+use Rattle.salt_openings.specs.Draining.{AreEarlier, CanDrain, DrainsAt, LeadsOn, Stands, StandsAtPart, cuts_in, done_now, is_earlier, is_within, opening_stage, rest_of_cont, rests_of, statements_in, statements_left, units_to_cut}
 use Rattle.salt_tokens.specs.Spelling.{same_bytes}
 use Rattle.salt_values.specs.Id.{is_same_id}
 use Rattle.salt_values.specs.declared.cont.Cont.{Cont}
@@ -41,28 +41,7 @@ use Rattle.std.specs.List.{filter, list_all}
 use Rattle.std.specs.Option.{option_or}
 use Rattle.std.specs.Prelude.{Bool, List, None, Option, Some, [], cond, false, is_none, length, max, nat_lt, not, option_and_then, option_map, refl, suc, true, zero, ℕ, ◌*◌, ◌+◌, ◌-◌, ◌<◌, ◌∷◌, ◌≡◌, ◌≤◌}
 
--- THE STATE between two events of an opening.
-
--- a unit of the drain is open: alone, of this boot, and of the program that was accepted first, at its part
-pub record DrainsAt (s : UnitState) (u : Id) : Type 0 where
-  pub unit : OpenUnit
-  pub cont : Cont
-  pub others : List Cont
-  pub only : s.units ≡ record unit { kind = Later cont.base cont.next } ∷ []
-  pub conts : s.kept.conts ≡ cont ∷ others
-  pub name : unit.unit ≡ u
-  pub boot : unit.unit.boot ≡ s.kept.boot
-  pub within : (block : List Statement) → block_of_kind s.kept (Later cont.base cont.next) ≡ Some block → unit.done ≤ length block
-
--- each open unit is of an earlier boot
-abbrev pub AreEarlier : UnitState → Type 0
-AreEarlier s = Every (λ o. is_earlier s.kept.boot o ≡ true) s.units
-
--- by the event that came last
-abbrev pub Stands : UnitState → Event → Type 0
-Stands s (Began u kind) = (d : DrainsAt s u) × (d.unit.done ≡ 0)
-Stands s (Did u st a) = DrainsAt s u
-Stands s e = AreEarlier s
+-- WHAT FOLLOWS.
 
 -- a definition
 abbrev pub is_defined : Event → Bool
@@ -80,21 +59,10 @@ pub record GoesTo (f : Event) (s t : UnitState) (e : Event) : Type 0 where
 abbrev pub Goes : Event → UnitState → Event → Type 0
 Goes f s e = GoesTo f s (units_after e s) e
 
--- what follows within an opening
-abbrev pub is_within : Event → Bool
-is_within (Down why) = false
-is_within (Opened boot n) = false
-is_within Ready = false
-is_within e = true
-
 -- SMALL FACTS.
 
 not-below : (a b : ℕ) → a ≡ b → nat_lt a b ≡ false
 not-below a b h = grind (arith, nat_tests)
-
-pub nothing : {A : Type 0} (xs : List A) → is_empty xs ≡ true → xs ≡ []
-nothing [] h = refl
-nothing (x ∷ xs) h = cc
 
 done-earlier : (boot : ℕ) (os : List OpenUnit) → Every (λ o. is_earlier boot o ≡ true) os → done_now boot os ≡ 0
 done-earlier boot [] h = refl

@@ -12,11 +12,11 @@ use Rattle.salt_model.specs.Phases.{Opening, Phase, phase}
 use Rattle.salt_model.specs.Trace.{Trace, ◌says◌}
 use Rattle.salt_model.specs.declared.events.Event.{Event}
 use Rattle.salt_model.specs.declared.events.Event.TheVariants.{Accepted, Began, Did, Down, Finished, Opened, Ready}
-use Rattle.salt_openings.proofs.Draining.{Goes, Stands, is_within, opening-follows}
+use Rattle.salt_openings.proofs.Draining.{Goes, opening-follows}
 use Rattle.salt_openings.proofs.OneState.{one-state}
 use Rattle.salt_openings.proofs.Opening.{said-in-opening}
 use Rattle.salt_openings.proofs.Standing.{stands-at}
-use Rattle.salt_openings.specs.Draining.{CanDrain, left_to_open, opening_stage, statements_left, units_to_cut}
+use Rattle.salt_openings.specs.Draining.{CanDrain, Stands, is_within, left_to_open, opening_stage, statements_left, units_to_cut}
 use Rattle.std.proofs.Common.{ap, arith, subst, sym, ◌∙◌}
 use Rattle.std.specs.Prelude.{None, Option, Some, false, refl, true, ◌*◌, ◌+◌, ◌<◌, ◌≡◌, ◌≤◌}
 
@@ -28,7 +28,7 @@ stage-counts (Finished b) = omega arith
 stage-counts Ready = omega arith
 stage-counts e = omega arith
 
-left-falls : (f : Event) (s : UnitState) → CanDrain s.kept → (o : Option Event) → IfComes (Goes f s) o →
+pub left-falls : (f : Event) (s : UnitState) → CanDrain s.kept → (o : Option Event) → IfComes (Goes f s) o →
     left_to_open s o < 8 * (units_to_cut s + statements_left s) + opening_stage f
 left-falls f s can None h = let l = stage-counts f in omega arith
 left-falls f s can (Some e) h = let a = h.statements can in let b = h.cuts in let c = h.stage in omega arith

@@ -6,3 +6,5 @@ pub mod Resting
 pub mod Ending
 pub mod Staying
 pub mod Doing
+pub mod Moving
+pub mod EachOpening

@@ -20,11 +20,11 @@ use Rattle.salt_model.specs.declared.events.Event.{Event}
 use Rattle.salt_model.specs.declared.events.Event.TheVariants.{Began, Did, Down, Opened, Ready}
 use Rattle.salt_model.specs.declared.events.UnitKind.{UnitKind}
 use Rattle.salt_model.specs.declared.events.UnitKind.TheVariants.{Later}
-use Rattle.salt_openings.proofs.Draining.{AreEarlier, IsWithin, State, Stands, Unit, block-counts, block-found, drained, drained-within, found, is_within}
+use Rattle.salt_openings.proofs.Draining.{IsWithin, State, Unit, block-counts, block-found, drained, drained-within, found}
 use Rattle.salt_openings.proofs.OneState.{one-state}
 use Rattle.salt_openings.proofs.Opening.{serves-not}
 use Rattle.salt_openings.proofs.Standing.{stands-at, told-opened, told-within}
-use Rattle.salt_openings.specs.Draining.{CanDrain, StandsAtPart, is_earlier}
+use Rattle.salt_openings.specs.Draining.{AreEarlier, CanDrain, Stands, StandsAtPart, is_earlier, is_within}
 use Rattle.salt_values.specs.declared.cont.Cont.{Cont}
 use Rattle.salt_values.specs.declared.id.Id.{Id}
 use Rattle.std.proofs.Common.{ap, arith, inr, subst, sym, ◌∙◌}

@@ -30,9 +30,9 @@ use Rattle.salt_model.specs.declared.events.End.{End}
 use Rattle.salt_model.specs.declared.events.End.TheVariants.{Branched, Committed}
 use Rattle.salt_model.specs.declared.events.Event.{Event}
 use Rattle.salt_model.specs.declared.events.Event.TheVariants.{Defined, Down, Ended, Opened, Ready}
-use Rattle.salt_openings.proofs.Draining.{AreEarlier, Goes, Stands, cuts-follow, is_within, opening-follows}
+use Rattle.salt_openings.proofs.Draining.{Goes, cuts-follow, opening-follows}
 use Rattle.salt_openings.proofs.Opening.{serves-not}
-use Rattle.salt_openings.specs.Draining.{is_earlier}
+use Rattle.salt_openings.specs.Draining.{AreEarlier, Stands, is_earlier, is_within}
 use Rattle.salt_values.specs.Id.{is_same_id}
 use Rattle.salt_values.specs.declared.id.Id.{Id}
 use Rattle.std.proofs.Common.{ap, arith, inr, subst, sym, ◌∙◌}
@@ -86,10 +86,10 @@ pub comes-weaker : (P Q : Event → Type 0) → ((e : Event) → P e → Q e) �
 comes-weaker P Q f None h = tt
 comes-weaker P Q f (Some e) h = f e h
 
-abbrev StandsOn : UnitState → Event → Type 0
+abbrev pub StandsOn : UnitState → Event → Type 0
 StandsOn s e = Stands (units_after e s) e
 
-opened-follows : (s : UnitState) (boot n : ℕ) (pending : Option Event) → AreEarlier s → IfSome (λ e. is_decision e ≡ true) pending →
+pub opened-follows : (s : UnitState) (boot n : ℕ) (pending : Option Event) → AreEarlier s → IfSome (λ e. is_decision e ≡ true) pending →
     IfComes (StandsOn s) (opened_in s n pending)
 opened-follows s boot n pending all decided =
     comes-option_or (StandsOn s) (stands_in s n pending) (cuts_or_drains_in s (cut_in s)) (flies pending decided)

@@ -3,20 +3,23 @@ use Rattle.salt_ast.specs.Paths.{at_number, rest_of}
 use Rattle.salt_ast.specs.ProgramJudgement.{branch_fault, program_named}
 use Rattle.salt_ast.specs.declared.programs.PartDef.{PartDef}
 use Rattle.salt_ast.specs.declared.programs.ProgramDef.{ProgramDef}
+use Rattle.salt_ast.specs.declared.trees.Statement.{Statement}
 use Rattle.salt_keeps.specs.OpenUnits.{OpenUnit, UnitState}
 use Rattle.salt_keeps.specs.Steps.{units_after}
 use Rattle.salt_model.specs.After.{defined_by}
-use Rattle.salt_model.specs.Kept.{Kept, kept_program, parts_of, program_of_definition, programs_of}
+use Rattle.salt_model.specs.Kept.{Kept, block_of_kind, kept_program, parts_of, program_of_definition, programs_of}
 use Rattle.salt_model.specs.Next.{decision_in}
 use Rattle.salt_model.specs.Stops.{is_just_opened}
 use Rattle.salt_model.specs.Trace.{Trace}
 use Rattle.salt_model.specs.Words.{Every}
 use Rattle.salt_model.specs.declared.events.End.TheVariants.{Cut}
 use Rattle.salt_model.specs.declared.events.Event.{Event}
-use Rattle.salt_model.specs.declared.events.Event.TheVariants.{Accepted, Began, Defined, Did, Ended, Finished, Ready}
+use Rattle.salt_model.specs.declared.events.Event.TheVariants.{Accepted, Began, Defined, Did, Down, Ended, Finished, Opened, Ready}
+use Rattle.salt_model.specs.declared.events.UnitKind.TheVariants.{Later}
 use Rattle.salt_values.specs.declared.cont.Cont.{Cont}
+use Rattle.salt_values.specs.declared.id.Id.{Id}
 use Rattle.std.specs.List.{filter, filter_map}
-use Rattle.std.specs.Prelude.{Bool, List, None, Option, Some, [], false, if◌then◌else◌, length, nat_lt, ℕ, ◌*◌, ◌+◌, ◌-◌, ◌<◌, ◌∷◌, ◌≡◌, ◌⊎◌}
+use Rattle.std.specs.Prelude.{Bool, List, None, Option, Some, [], false, if◌then◌else◌, length, nat_lt, true, ℕ, ◌*◌, ◌+◌, ◌-◌, ◌<◌, ◌∷◌, ◌≡◌, ◌≤◌, ◌⊎◌}
 
 -- a program's ways lead on, and each of its parts has a statement
 pub record LeadsOn (p : ProgramDef) : Type 0 where
@@ -94,3 +97,33 @@ defined_in s e = []
 -- the decision in flight, which may follow an Opened, isn't what comes next
 abbrev pub IsBehindFlight : Trace → Option Event → Type 0
 IsBehindFlight trace next = (is_just_opened trace ≡ false) ⊎ (decision_in next ≡ None)
+
+-- THE UNITS between two events of an opening.
+
+-- a unit of the drain is open: alone, of this boot, and of the program that was accepted first, at its part
+pub record DrainsAt (s : UnitState) (u : Id) : Type 0 where
+  pub unit : OpenUnit
+  pub cont : Cont
+  pub others : List Cont
+  pub only : s.units ≡ record unit { kind = Later cont.base cont.next } ∷ []
+  pub conts : s.kept.conts ≡ cont ∷ others
+  pub name : unit.unit ≡ u
+  pub boot : unit.unit.boot ≡ s.kept.boot
+  pub within : (block : List Statement) → block_of_kind s.kept (Later cont.base cont.next) ≡ Some block → unit.done ≤ length block
+
+-- each open unit is of an earlier boot
+abbrev pub AreEarlier : UnitState → Type 0
+AreEarlier s = Every (λ o. is_earlier s.kept.boot o ≡ true) s.units
+
+-- by the event that came last
+abbrev pub Stands : UnitState → Event → Type 0
+Stands s (Began u kind) = (d : DrainsAt s u) × (d.unit.done ≡ 0)
+Stands s (Did u st a) = DrainsAt s u
+Stands s e = AreEarlier s
+
+-- an event behind which an opening goes on, its Opened aside
+abbrev pub is_within : Event → Bool
+is_within (Down why) = false
+is_within (Opened boot n) = false
+is_within Ready = false
+is_within e = true

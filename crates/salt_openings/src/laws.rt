@@ -5,19 +5,21 @@ ghost use Rattle.salt_keeps.specs.Keeps.{KeepsUnits};
 ghost use Rattle.salt_keeps.specs.Laws.{IsSound, is_of_run};
 ghost use Rattle.salt_keeps.specs.Nexts.{said_next};
 ghost use Rattle.salt_keeps.specs.OpenUnits.{UnitState};
-ghost use Rattle.salt_keeps.specs.Points.{IsIdle, KeepsPoint, Move, Point, Runs, Says, told_by};
+ghost use Rattle.salt_keeps.specs.Points.{IsIdle, KeepsPoint, Move, Point, Runs, Says, point_of, told_by};
 ghost use Rattle.salt_keeps.specs.Readings.{Reading};
 ghost use Rattle.salt_keeps.specs.States.{After, Keeps, State, started};
 ghost use Rattle.salt_keeps.specs.Steps.{units_after};
 ghost use Rattle.salt_model.specs.Kept.{WellKept, programs_of};
-ghost use Rattle.salt_model.specs.Phases.{Fallen, Opening};
+ghost use Rattle.salt_model.specs.Next.{decision_in};
+ghost use Rattle.salt_model.specs.Phases.{Fallen, Opening, Serving, phase};
 ghost use Rattle.salt_model.specs.Stops.{MayOpen};
 ghost use Rattle.salt_model.specs.Trace.{Start, Trace, from, ◌says◌};
 ghost use Rattle.salt_model.specs.declared.events.Event.{Event};
 ghost use Rattle.salt_model.specs.declared.events.Event.TheVariants.{Down, Opened, Ready};
 ghost use Rattle.salt_model.specs.declared.events.Why.TheVariants.{Stopped};
+ghost use Rattle.salt_model.specs.declared.events.Why.{Why};
 ghost use Rattle.salt_model.specs.Words.{Every};
-ghost use Rattle.salt_openings.specs.Draining.{CanDrain, IsBehindFlight, LeadsOn, defined_in, left_to_open, rests_of};
+ghost use Rattle.salt_openings.specs.Draining.{CanDrain, IsBehindFlight, LeadsOn, Stands, defined_in, left_to_open, rests_of};
 ghost use Rattle.salt_openings.specs.Draining.{statements_in, statements_left, statements_told};
 ghost use Rattle.salt_openings.specs.Openings.{FallsAgain, FallsInOpening, Opens};
 ghost use Rattle.std.specs.Prelude.{IsSome, List, None, Option, Some, [], false, ℕ, ◌+◌, ◌<◌, ◌≡◌, ◌≤◌, ◌⊎◌};
@@ -38,6 +40,18 @@ pub fn openings_go_on()
     ensures ready { (old new : Point) (trace : Trace) → KeepsPoint old trace → IsSound trace → Says Ready old new → IsIdle new }
     ensures none_to_go { (s : UnitState) (trace : Trace) → KeepsUnits s trace → IsSound trace →
         (s.phase ≡ Fallen) ⊎ (s.phase ≡ Opening) → s.to_go ≡ [] }
+{}
+
+/// Each trace that is played moves its own point: each fall outside serving is a stop and one of these, and so is each
+/// Opened. So the moves of openings leave none out.
+pub fn traces_open_their_points()
+    ensures stops { (trace : Trace) (why : Why) → IsSound (trace says Event.Down why) → (phase trace ≡ Serving → ⊥) → why ≡ Stopped }
+    ensures falls { (trace : Trace) → IsSound (trace says Event.Down Stopped) → phase trace ≡ Opening →
+        FallsInOpening (point_of trace) (point_of (trace says Event.Down Stopped)) }
+    ensures falls_again { (trace : Trace) → IsSound (trace says Event.Down Stopped) → phase trace ≡ Fallen →
+        FallsAgain (point_of trace) (point_of (trace says Event.Down Stopped)) }
+    ensures opens { (trace : Trace) (boot n : ℕ) → IsSound (trace says Opened boot n) →
+        MayOpen Fallen trace boot n × Opens boot n (point_of trace) (point_of (trace says Opened boot n)) }
 {}
 
 /// What follows an event of an opening is told by the states of units alone.
@@ -61,6 +75,24 @@ pub fn openings_end()
         is_of_run e ≡ false → old.units.phase ≡ Opening → Keeps old trace → IsSound (trace says e) →
         CanDrain new.units.kept → After e old new →
         left_to_open new.units (said_next e old new x flight) < left_to_open old.units (Some e) }
+{}
+
+/// The same from point to point, without a trace, by how the units stand behind the event that came last. In a played
+/// trace they stand so.
+pub fn drains_go_on()
+    ensures stands { (s : UnitState) (trace : Trace) (e : Event) → KeepsUnits s (trace says e) → IsSound (trace says e) →
+        s.phase ≡ Opening → Stands s e }
+    ensures opens { (boot n : ℕ) (f : Event) (old new : Point) → Opens boot n old new → Stands new.state.units (Opened boot n) →
+        decision_in old.flight ≡ old.flight → new.next ≡ Some f → Stands (units_after f new.state.units) f }
+    ensures says { (e f : Event) (old new : Point) → Says e old new → is_of_run e ≡ false → new.state.units.phase ≡ Opening →
+        Stands new.state.units e → new.next ≡ Some f → Stands (units_after f new.state.units) f }
+    ensures comes { (e : Event) (old new : Point) → Says e old new → is_of_run e ≡ false → new.state.units.phase ≡ Opening →
+        Stands new.state.units e → CanDrain new.state.units.kept → IsSome new.next }
+    ensures falls { (e : Event) (old new : Point) → Says e old new → is_of_run e ≡ false → new.state.units.phase ≡ Opening →
+        Stands new.state.units e → CanDrain new.state.units.kept →
+        left_to_open new.state.units new.next < left_to_open old.state.units old.next }
+    ensures ready { (old new : Point) → Says Ready old new →
+        left_to_open new.state.units new.next < left_to_open old.state.units old.next }
 {}
 
 /// Behind the decision in flight an opening does no more statements than the rests of its continuations tell.
