@@ -13,9 +13,9 @@ texts_are : (ds : List Definition) → map (λ d. text_of (numbered_of d)) ds �
 texts_are [] = refl
 texts_are (d ∷ ds) = ap (λ l. d.text ∷ l) (texts_are ds)
 
-pub keeps_so : (r : ReadLog) (l : CoordinatorLog) → IsOf r l → (texts : List (List ℕ)) → texts ≡ map (λ d. text_of (numbered_of d)) r.said.definitions
-    → IsKept (record { boot = r.said.boot; decisions = r.said.decisions; definitions = texts; decided = r.said.decided; masks = r.said.masks; moves = r.said.moves; conts = r.conts; format = r.format }) l
-keeps_so r l h texts is = record {
+pub keeps_so : (r : ReadLog) (l : CoordinatorLog) (device : ℕ) → IsOf r l → (texts : List (List ℕ)) → texts ≡ map (λ d. text_of (numbered_of d)) r.said.definitions
+    → IsKept (record { boot = r.said.boot; decisions = r.said.decisions; definitions = texts; decided = r.said.decided; masks = r.said.masks; moves = r.said.moves; conts = r.conts; format = r.format; device = device }) l
+keeps_so r l device h texts is = record {
   boot = h.says.boot;
   decisions = h.says.decisions;
   definitions = is ∙ texts_are r.said.definitions ∙ ap (map text_of) h.says.definitions;

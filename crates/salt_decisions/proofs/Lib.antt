@@ -4,7 +4,7 @@ pub mod Contents
 mod Each
 mod Hearing
 mod Keeping
-mod Moving
+pub mod Moving
 mod Pairing
 mod Places
 mod Saids

@@ -25,13 +25,14 @@ pub record IsFaulty (dev : ℕ) (pair : Pair CoordinatorLog) : Type 0 where
   pub is : pair ≡ Faulty which
   pub device : dev ≡ device_of 0 which
 
--- a log counts, which has this shape and keeps this
+-- a log counts, which has this shape and keeps this on its device
 pub record IsPeeked (shape : Shape) (kept : Kept) (pair : Pair CoordinatorLog) : Type 0 where
   pub which : WhichLog
   pub log : CoordinatorLog
   pub counts : pair ≡ Counts which log
   pub has_shape : shape ≡ log.header.shape
   pub keeps : IsKept kept log
+  pub device : kept.device ≡ device_of 0 which
 
 -- of the refusals only a fault comes; else the disks or memory failed
 abbrev pub PeekFails : OpenErr → Pair CoordinatorLog → Type 0
@@ -64,6 +65,7 @@ pub record IsOpened (d e : View) (asked : Shape) (x : Decisions) (kept : Kept) :
   pub log : CoordinatorLog
   pub is : IsDecisions e x which log
   pub keeps : IsKept kept log
+  pub device : kept.device ≡ device_of 0 which
   pub has_shape : is_same_shape log.header.shape asked ≡ true
   pub unspent : are_spent log.told.boot log.told.decisions ≡ false
   pub stood : IsTrue d.told → IsStood (coordinator_pair (logs_of d.bytes)) asked which log

@@ -31,6 +31,8 @@ pub struct Kept {
     pub conts: Conts,
     /// The format of the header.
     pub format: u8,
+    /// The device of the log, 0 or 1.
+    pub device: u32,
 }
 
 /// Copies of the texts of definitions.

@@ -21,6 +21,7 @@ pub use decisions::Decisions;
 pub use error::OpenErr;
 pub use header::Definition;
 pub use kept::{Kept, Texts};
+pub use moves::{apply_move, copy_conts};
 pub use open::{open_decisions, peek};
 
 #[cfg(test)]

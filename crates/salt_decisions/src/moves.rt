@@ -54,18 +54,28 @@ fn finish(conts: &mut Conts, base: Id)
     }
 }
 
+/// Makes a move that may be made. After an error the continuations are as before.
+pub fn apply_move(conts: &mut Conts, made: Move) -> Result<(), AllocError>
+    ensures { do_rise conts.old ≡ true → (cs : List Cont) → make_move conts.old made ≡ Some cs → OnOk result (conts.new ≡ cs) }
+{
+    match made {
+        Move::Plain => Ok(()),
+        Move::Continue(cont) => go_to(conts, cont),
+        Move::Finish(base) => {
+            finish(conts, base);
+            Ok(())
+        }
+    }
+}
+
 /// Makes the move that these bytes are, under the format of the header that it stands behind. Bytes that are no move change
 /// nothing. After an error the continuations are as before.
 pub fn make_move(alloc: Global, format: u8, conts: &mut Conts, mv: &[u8]) -> Result<(), AllocError>
     ensures { do_rise conts.old ≡ true → (cs : List Cont) → and_then (make_move conts.old) (move_in format mv.now) ≡ Some cs → OnOk result (conts.new ≡ cs) }
 {
     match take_move(alloc, format, mv)? {
-        Some(Move::Continue(cont)) => go_to(conts, cont),
-        Some(Move::Finish(base)) => {
-            finish(conts, base);
-            Ok(())
-        }
-        Some(Move::Plain) | None => Ok(()),
+        Some(made) => apply_move(conts, made),
+        None => Ok(()),
     }
 }
 
@@ -83,7 +93,8 @@ fn copy_cont(alloc: Global, cont: &Cont) -> Result<Cont, AllocError>
     })
 }
 
-fn copy_conts(alloc: Global, conts: &[Cont]) -> Result<Conts, AllocError>
+/// Copies of continuations.
+pub fn copy_conts(alloc: Global, conts: &[Cont]) -> Result<Conts, AllocError>
     ensures { IfOk result (λ made. made ≡ conts.now) }
 {
     let mut made = Items::new(alloc);

@@ -6,8 +6,9 @@ ghost use Rattle.salt_decisions.specs.Errors.{open_err};
 ghost use Rattle.salt_decisions.specs.Kept.{IsKept};
 ghost use Rattle.salt_decisions.specs.Opened.{FullAtFirst, IsBlankImage, IsFirstImage, IsOfCoordinator, IsOpened, OpenFails, Peeks, begun, first_payload};
 ghost use Rattle.salt_decisions.specs.Read.{IsOf};
+ghost use Rattle.salt_decisions.specs.Which.{which_in};
 ghost use Rattle.salt_disk.specs.Disks.{EachImage, HasCause, IsSettled, KeepsAll, KeepsBut};
-ghost use Rattle.salt_stands.specs.Coordinator.{coordinator_pair};
+ghost use Rattle.salt_stands.specs.Coordinator.{coordinator_pair, device_of};
 ghost use Rattle.salt_stands.specs.CoordinatorLog.{CoordinatorLog};
 ghost use Rattle.salt_stands.specs.Stands.{are_spent, is_same_kind, is_same_shape, logs_of};
 ghost use Rattle.salt_values.specs.Placement.{IsParts};
@@ -31,8 +32,9 @@ use sqlite_items::Items;
 use std::alloc::{AllocError, Global};
 
 /// What a log that was read keeps.
-fn kept_of(alloc: Global, log: ReadLog) -> Result<Kept, AllocError>
-    ensures { (l : CoordinatorLog) → IsOf log l → IfOk result (λ kept. IsKept kept l) }
+fn kept_of(alloc: Global, which: Which, log: ReadLog) -> Result<Kept, AllocError>
+    ensures keeps { (l : CoordinatorLog) → IsOf log l → IfOk result (λ kept. IsKept kept l) }
+    ensures device { IfOk result (λ kept. kept.device ≡ device_of 0 (which_in which)) }
 {
     let ReadLog {
         gate: _gate,
@@ -59,6 +61,7 @@ fn kept_of(alloc: Global, log: ReadLog) -> Result<Kept, AllocError>
         moves,
         conts,
         format,
+        device: which.device(),
     })
 }
 
@@ -74,9 +77,9 @@ pub fn peek<D: Disks>(alloc: Global, disks: &mut D) -> Result<Option<(Shape, Kep
 {
     match read_pair(alloc, disks)? {
         LogPair::BothBlank => Ok(None),
-        LogPair::Counts(_which, log) => {
+        LogPair::Counts(which, log) => {
             let shape = log.shape;
-            Ok(Some((shape, kept_of(alloc, log)?)))
+            Ok(Some((shape, kept_of(alloc, which, log)?)))
         }
         LogPair::Faulty(which) => Err(OpenErr::NotSalt(which.device())),
     }
@@ -86,6 +89,7 @@ pub fn peek<D: Disks>(alloc: Global, disks: &mut D) -> Result<Option<(Shape, Kep
 fn opened(alloc: Global, which: Which, log: ReadLog) -> Result<(Decisions, Kept), AllocError>
     ensures holds { (l : CoordinatorLog) → IsOf log l → IfOk result (λ made. HoldsLog made.0 l × IsKept made.1 l) }
     ensures same { IfOk result (λ made. (made.0.which ≡ which) × (made.0.gate ≡ log.gate)) }
+    ensures device { IfOk result (λ made. made.1.device ≡ device_of 0 (which_in which)) }
 {
     let ReadLog {
         gate,
@@ -125,13 +129,15 @@ fn opened(alloc: Global, which: Which, log: ReadLog) -> Result<(Decisions, Kept)
         moves,
         conts,
         format,
+        device: which.device(),
     };
     Ok((counting, kept))
 }
 
 /// What a new log keeps.
 fn nothing_kept(alloc: Global) -> Kept
-    ensures { (shape : Shape) → IsKept result (begun shape) }
+    ensures keeps { (shape : Shape) → IsKept result (begun shape) }
+    ensures device { result.device ≡ 0 }
 {
     Kept {
         boot: 0,
@@ -142,6 +148,7 @@ fn nothing_kept(alloc: Global) -> Kept
         moves: Items::new(alloc),
         conts: Items::new(alloc),
         format: FORMAT,
+        device: 0,
     }
 }
 

@@ -5,5 +5,5 @@ use Rattle.salt_decisions.specs.Said.{text_of}
 use Rattle.std.proofs.Common.{ap, ◌∙◌}
 use Rattle.std.specs.Prelude.{map}
 
-pub returns : goal.returns
-returns c l h = keeps_so c.args.log l h c.in_ok-texts_of.field-0 (c.in_ok-texts_of.ensures ∙ ap (map (λ d. text_of (numbered_of d))) c.as_slice.ensures)
+pub returns-clause-keeps : goal.returns-clause-keeps
+returns-clause-keeps c l h = keeps_so c.args.log l c.device.result h c.in_ok-texts_of.field-0 (c.in_ok-texts_of.ensures ∙ ap (map (λ d. text_of (numbered_of d))) c.as_slice.ensures)

@@ -19,5 +19,5 @@ returns-clause-holds c l h =
         conts = open_so r l h c.in_ok-going.going c.as_slice.result.now c.as_slice-2.result.now c.as_slice.ensures c.as_slice-2.ensures c.in_ok-going.ensures;
         parts = h.parts;
       },
-      keeps_so r l h c.in_ok-texts.texts (c.in_ok-texts.ensures ∙ ap (map (λ d. text_of (numbered_of d))) c.as_slice-3.ensures),
+      keeps_so r l c.device.result h c.in_ok-texts.texts (c.in_ok-texts.ensures ∙ ap (map (λ d. text_of (numbered_of d))) c.as_slice-3.ensures),
     )

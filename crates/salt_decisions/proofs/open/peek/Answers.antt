@@ -9,11 +9,12 @@ returns-in_ok-kept_of-in-Counts-clause-answer g c told =
     let d = g.D.Disks.view c.args.disks.now in
     let e = g.D.Disks.view c.read_pair.new.disks in
     let keeps = c.in_ok-read_pair.ensures.kept in
-    let h : IsCounted e (which_in c.in-Counts._which) c.in-Counts.log = subst (λ p. HasPair e (pair_in p)) c.in-Counts.is c.in_ok-read_pair.ensures.pair in
+    let h : IsCounted e (which_in c.in-Counts.which) c.in-Counts.log = subst (λ p. HasPair e (pair_in p)) c.in-Counts.is c.in_ok-read_pair.ensures.pair in
     record {
-      which = which_in c.in-Counts._which;
+      which = which_in c.in-Counts.which;
       log = h.read.log;
       counts = sym (pair_kept d e keeps) ∙ h.counts (keeps.shape.told ∙ told);
       has_shape = h.read.is_of.shape;
-      keeps = c.in_ok-kept_of-in-Counts.ensures h.read.log h.read.is_of;
+      keeps = c.in_ok-kept_of-in-Counts.ensures.keeps h.read.log h.read.is_of;
+      device = c.in_ok-kept_of-in-Counts.ensures.device;
     }
