@@ -8,6 +8,7 @@ use Rattle.salt_disk.specs.Disks.{IsSettled, IsUnchanged, KeepsBut, KeepsOthers,
 use Rattle.salt_gatelog.specs.Log.{IsLog}
 use Rattle.salt_gatelog.specs.declared.log.GateLog.{GateLog}
 use Rattle.salt_model.specs.Tables.{no_rows, with_changes}
+use Rattle.salt_partition.proofs.Lasts.{no_last}
 use Rattle.salt_partition.proofs.Standing.{entries_stand, settled_kept}
 use Rattle.salt_partition.specs.Openings.{IsLogDevice}
 use Rattle.salt_partition.specs.Partitions.{IsPartition}
@@ -55,6 +56,12 @@ module _ (d0 d1 d2 e : View) (part : ℕ) (first : KeepsOthers (part_device part
         device = log_is;
         known = omega (arith, known, first.shape.count, second.shape.count, third.shape.count);
         other = settled_kept d1 e (a + 1) kept settled;
+        nulls = nulls;
+        pages = refl;
+        none = refl;
+        keyed = tt;
+        last = no_last [] x.last;
+        rows = rows ∙ no_changes;
         told = λ now.
             let told1 = sym second.shape.told ∙ sym third.shape.told ∙ now in
             let reads : partition_in part (header ∷ []) ≡ Some (first_view 2 part).log = ap (λ (bytes : List ℕ). partition_in part (bytes ∷ [])) spelled ∙ reads_first part in
@@ -65,9 +72,5 @@ module _ (d0 d1 d2 e : View) (part : ℕ) (first : KeepsOthers (part_device part
               counts = ap (λ o. pair_of partition_generation (content_of (partition_in part) o) (content_of (partition_in part) (entries_in (e.bytes (a + 1))))) here
                   ∙ ap (λ o. pair_of partition_generation (read_or_outside (partition_in part (header ∷ []))) (content_of (partition_in part) o)) there
                   ∙ ap (λ o. pair_of partition_generation (read_or_outside o) (content_of (partition_in part) (Some []))) reads;
-              nulls = nulls;
-              pages = refl;
-              none = refl;
-              rows = rows ∙ no_changes;
             };
       }

@@ -48,15 +48,17 @@ partition_kept d e x p v applied shape first second is =
       device = is.device;
       known = omega (arith, is.known, shape.count);
       other = settled_kept d e (device_of a (other_log v.which)) (kept (other_log v.which)) is.other;
+      nulls = is.nulls;
+      pages = is.pages;
+      none = is.none;
+      keyed = is.keyed;
+      last = is.last;
+      rows = is.rows;
       told = λ now.
           let t = is.told (sym shape.told ∙ now) in
           record {
             reads = t.reads;
             counts = pair_same partition_generation (partition_in p) a (logs_of d.bytes) (logs_of e.bytes) (ap entries_in first.bytes) (ap entries_in second.bytes) ∙ t.counts;
-            nulls = t.nulls;
-            pages = t.pages;
-            none = t.none;
-            rows = t.rows;
           };
     }
 
@@ -89,6 +91,6 @@ part_stands r c d x p v applied is told sound =
     record {
       counts = t.counts;
       sound = sound;
-      rows = ap (λ sides. and_then (λ rows. given (are_sound_rows r c p (map change_of_row rows)) (map change_of_row rows)) (rows_from (has_nulls v.log.header.format) (d.bytes (pages_device p)) 0 sides)) t.pages
-          ∙ ap Some (sym t.none);
+      rows = ap (λ sides. and_then (λ rows. given (are_sound_rows r c p (map change_of_row rows)) (map change_of_row rows)) (rows_from (has_nulls v.log.header.format) (d.bytes (pages_device p)) 0 sides)) is.pages
+          ∙ ap Some (sym is.none);
     }

@@ -2,11 +2,13 @@ mod Names
 mod Created
 mod Entries
 mod Gathered
+pub mod Keyed
+pub mod Lasts
 mod Logged
 mod Making
 mod Seeing
 mod Seen
-mod Standing
+pub mod Standing
 pub mod Framed
 mod Witnesses
 mod Opened

@@ -12,6 +12,7 @@ use Rattle.salt_partition.specs.Contents.{HasContent, IsContent, IsKept, IsKeptI
 use Rattle.salt_partition.proofs.Standing.{settled_kept}
 use Rattle.salt_partition.proofs.Steps.{unchanged}
 use Rattle.salt_partition.specs.Openings.{HasChosen, OpensAs, are_some, fault_of, has_pages}
+use Rattle.salt_partition.specs.Partitions.{IsLastKept}
 use Rattle.salt_partition.specs.declared.contents.LogContent.TheVariants as found
 use Rattle.salt_partition.specs.declared.contents.LogContent.{LogContent}
 use Rattle.salt_partition.specs.declared.contents.ReadLog.{ReadLog}
@@ -33,7 +34,7 @@ use Rattle.std.specs.Prelude.{IfOk}
 
 kept_in : (d : View) (part dev : ℕ) (entries : List (List ℕ)) (c : LogContent) → 0 < length entries → (IsTrue d.told → content_seen c ≡ content_of (partition_in part) (Some entries)) → KeepsEntries d dev entries c → IsKeptIn d part dev c
 kept_in d part dev entries found.Blank some seen log = tt
-kept_in d part dev entries (found.Read r) some seen log = record { entries = entries; is_log = log.0; device = log.1; some = some; reads = λ told. was_read part entries (log_of r) some (seen told) }
+kept_in d part dev entries (found.Read r) some seen log = record { entries = entries; is_log = log.0; device = log.1; some = some; keyed = log.2; reads = λ told. was_read part entries (log_of r) some (seen told) }
 kept_in d part dev entries found.Outside some seen log = tt
 
 pub content_found : (d0 d1 d : View) (part dev : ℕ) (log : GateLog) (entries : List (List ℕ)) (r : Result LogContent DiskErr) → SameShape d0 d → IsLog d1 log entries → 0 < length entries → log.dev ≡ dev
@@ -54,6 +55,7 @@ still_kept d e part dev r shape same is = record {
   is_log = log_kept d e r.log is.entries shape (same r.log.dev) is.is_log;
   device = is.device;
   some = is.some;
+  keyed = is.keyed;
   reads = λ told. is.reads (sym shape.told ∙ told);
 }
 
@@ -92,8 +94,9 @@ pub opens_as : (d0 d1 : View) (x : Partition) (boot : ℕ) (decided : List Id) (
     → KeepsAll d0 d1 None → pages_device part < d0.count → IsSettled d0 (part_device part) → IsSettled d0 (part_device part + 1)
     → HasChosen d0 d1 part side r → is_known_log boot decided (log_of r) ≡ true → has_pages (log_of r) ≡ false
     → x.part ≡ part → x.log ≡ r.log → x.nulls ≡ has_nulls r.header.format → x.rows.entries ≡ (with_changes (decided_changes decided (units_of r.units.items)) no_rows).list
+    → IsLastKept decided (units_of r.units.items) x.last
     → OpensAs d0 d1 x boot decided part
-opens_as d0 d1 x boot decided part side r keeps known first second h is_known pages own log nulls rows =
+opens_as d0 d1 x boot decided part side r keeps known first second h is_known pages own log nulls rows last =
     let a = part_device part in
     let same : (dev : ℕ) → IsUnchanged d0 d1 dev = unchanged d0 d1 keeps in
     record {
@@ -106,13 +109,15 @@ opens_as d0 d1 x boot decided part side r keeps known first second h is_known pa
         device = ap (λ (l : GateLog). l.dev) log ∙ h.kept.device;
         known = omega (arith, known, keeps.shape.count);
         other = settled_kept d0 d1 (device_of a (other_log (which_of side))) (same (device_of a (other_log (which_of side)))) (settled_other d0 a side first second);
+        nulls = nulls;
+        pages = none_some r.header.sides pages;
+        none = refl;
+        keyed = h.kept.keyed;
+        last = last;
+        rows = rows;
         told = λ now. record {
           reads = h.kept.reads now;
           counts = pair_same partition_generation (partition_in part) a (logs_of d0.bytes) (logs_of d1.bytes) (ap entries_in (same a).bytes) (ap entries_in (same (a + 1)).bytes) ∙ h.counts (sym keeps.shape.told ∙ now);
-          nulls = nulls;
-          pages = none_some r.header.sides pages;
-          none = refl;
-          rows = rows;
         };
       };
       sound = λ told. ap (fault_of boot decided part) (h.counts told) ∙ rw (is_known, pages) refl;

@@ -5,7 +5,8 @@ use Rattle.salt_bytes.specs.Log.{entries_in}
 use Rattle.salt_bytes.specs.Partition.{Prepared, prepared_in, spell_prepared}
 use Rattle.salt_bytes.specs.Spellable.{Every}
 use Rattle.salt_disk.specs.Disks.{IsSettled, IsUnchanged, KeepsOthers, SameShape, View}
-use Rattle.salt_entries.specs.Entries.{IsPut}
+use Rattle.salt_entries.specs.Entries.{IsPut, prepared_of}
+use Rattle.salt_entries.specs.declared.prepared.PreparedUnit.{PreparedUnit}
 use Rattle.salt_eval.proofs.InOrder.{tables_of-list}
 use Rattle.salt_eval.specs.Views.{tables_of}
 use Rattle.salt_gatelog.proofs.Bytes.{entries_in-closed}
@@ -13,7 +14,10 @@ use Rattle.salt_gatelog.specs.Log.{IsLog}
 use Rattle.salt_gatelog.specs.declared.log.GateLog.{GateLog}
 use Rattle.salt_model.specs.Tables.{Entry, Tables, no_rows, place_cmp, with_changes}
 use Rattle.salt_model.specs.Words.{has_id}
-use Rattle.salt_partition.specs.Partitions.{IsPartition, IsPreparedLast, MayPrepare, prepared}
+use Rattle.salt_partition.proofs.Keyed.{all_put_keyed, every_push}
+use Rattle.salt_partition.proofs.Lasts.{applied_last, last_put}
+use Rattle.salt_partition.specs.Contents.{AreKeyed}
+use Rattle.salt_partition.specs.Partitions.{IsLastKept, IsPartition, IsPreparedLast, MayPrepare, prepared}
 use Rattle.salt_partition.specs.declared.partition.Partition.{Partition}
 use Rattle.salt_stands.proofs.Decided.{changes_other, changes_push, has_last, with_changes_append}
 use Rattle.salt_stands.proofs.Pairs.{pair_push, pair_same}
@@ -72,8 +76,8 @@ decided_rows us v u last =
 
 module _ (d e : View) (x y : Partition) (p : ℕ) (v : PartView) (applied : List Id) (is : IsPartition d x p v applied) where
   -- AFTER CALLS THAT WRITE NOTHING
-  pub moved : SameShape d e → ((dev : ℕ) → IsUnchanged d e dev) → y.part ≡ x.part → y.nulls ≡ x.nulls → y.rows ≡ x.rows → y.log.dev ≡ x.log.dev → IsLog e y.log is.entries → IsPartition e y p v applied
-  moved shape kept part nulls rows device is_log = record {
+  pub moved : SameShape d e → ((dev : ℕ) → IsUnchanged d e dev) → y.part ≡ x.part → y.nulls ≡ x.nulls → y.rows ≡ x.rows → y.last ≡ x.last → y.log.dev ≡ x.log.dev → IsLog e y.log is.entries → IsPartition e y p v applied
+  moved shape kept part nulls rows last device is_log = record {
     part = part ∙ is.part;
     entries = is.entries;
     is_log = is_log;
@@ -81,25 +85,27 @@ module _ (d e : View) (x y : Partition) (p : ℕ) (v : PartView) (applied : List
     device = device ∙ is.device;
     known = omega (arith, is.known, shape.count);
     other = settled_kept d e (device_of (part_device p) (other_log v.which)) (kept (device_of (part_device p) (other_log v.which))) is.other;
+    nulls = nulls ∙ is.nulls;
+    pages = is.pages;
+    none = is.none;
+    keyed = is.keyed;
+    last = subst (IsLastKept applied v.log.prepared) (sym last) is.last;
+    rows = ap (λ r. r.entries) rows ∙ is.rows;
     told = λ now.
         let t = is.told (sym shape.told ∙ now) in
         let a = part_device p in
         record {
           reads = t.reads;
           counts = pair_same partition_generation (partition_in p) a (logs_of d.bytes) (logs_of e.bytes) (ap entries_in (kept a).bytes) (ap entries_in (kept (a + 1)).bytes) ∙ t.counts;
-          nulls = nulls ∙ t.nulls;
-          pages = t.pages;
-          none = t.none;
-          rows = ap (λ r. r.entries) rows ∙ t.rows;
         };
   }
 
   -- AFTER A UNIT IS PREPARED
   pub with_unit : (u : Id) (cs : List Change) → MayPrepare v applied u cs
       → ((nulls : Bool) → Every (IsPut nulls) cs → are_in_order cs ≡ true → prepared_in nulls (spell_prepared (prepared u cs)) ≡ Some (prepared u cs))
-      → KeepsOthers x.log.dev d e None → y.part ≡ x.part → y.nulls ≡ x.nulls → y.rows ≡ x.rows → y.log.dev ≡ x.log.dev
+      → KeepsOthers x.log.dev d e None → y.part ≡ x.part → y.nulls ≡ x.nulls → y.rows ≡ x.rows → (kept : PreparedUnit) → y.last ≡ Some kept → prepared_of kept ≡ prepared u cs → y.log.dev ≡ x.log.dev
       → IsLog e y.log (is.entries ++ spell_prepared (prepared u cs) ∷ []) → IsPartition e y p (with_prepared_unit v (prepared u cs)) applied
-  with_unit u cs may read others part nulls rows device is_log =
+  with_unit u cs may read others part nulls rows kept_unit last same device is_log =
       let unit = prepared u cs in
       let payload = spell_prepared unit in
       let dev = device_of (part_device p) v.which in
@@ -113,6 +119,12 @@ module _ (d e : View) (x y : Partition) (p : ℕ) (v : PartView) (applied : List
         device = device ∙ is.device;
         known = omega (arith, is.known, others.shape.count);
         other = settled_kept d e other kept is.other;
+        nulls = nulls ∙ is.nulls;
+        pages = is.pages;
+        none = is.none;
+        keyed = every_push AreKeyed v.log.prepared unit is.keyed (all_put_keyed (has_nulls v.log.header.format) cs may.each);
+        last = subst (IsLastKept applied (with_prepared_unit v unit).log.prepared) (sym last) (last_put applied v.log.prepared unit kept_unit same);
+        rows = ap (λ r. r.entries) rows ∙ is.rows ∙ ap (λ (s : Tables). s.list) (sym (undecided_rows applied v unit may.new));
         told = λ now.
             let before = sym others.shape.told ∙ now in
             let t = is.told before in
@@ -126,17 +138,13 @@ module _ (d e : View) (x y : Partition) (p : ℕ) (v : PartView) (applied : List
                     after = subst (λ (k : ℕ). entries_in (e.bytes k) ≡ Some (is.entries ++ payload ∷ [])) (device ∙ is.device) (entries_stand e y.log (is.entries ++ payload ∷ []) is_log now);
                   })
                   (ap entries_in kept.bytes) refl (λ es log. partition_push payload unit p es v.log log reads);
-              nulls = nulls ∙ t.nulls;
-              pages = t.pages;
-              none = t.none;
-              rows = ap (λ r. r.entries) rows ∙ t.rows ∙ ap (λ (s : Tables). s.list) (sym (undecided_rows applied v unit may.new));
             };
       }
 
 -- AFTER A UNIT IS APPLIED
 pub with_applied : (d : View) (x y : Partition) (p : ℕ) (v : PartView) (applied : List Id) (u : Id) → IsPartition d x p v applied → (last : IsPreparedLast v applied u)
     → y.part ≡ x.part → y.nulls ≡ x.nulls → y.log ≡ x.log
-    → (IsTrue d.told → y.rows.entries ≡ (with_changes last.changes (part_tables applied v.log v.rows)).list)
+    → y.rows.entries ≡ (with_changes last.changes (part_tables applied v.log v.rows)).list
     → IsPartition d y p v (applied ++ u ∷ [])
 with_applied d x y p v applied u is last part nulls log rows = record {
   part = part ∙ is.part;
@@ -146,14 +154,11 @@ with_applied d x y p v applied u is last part nulls log rows = record {
   device = ap (λ (l : GateLog). l.dev) log ∙ is.device;
   known = is.known;
   other = is.other;
-  told = λ now.
-      let t = is.told now in
-      record {
-        reads = t.reads;
-        counts = t.counts;
-        nulls = nulls ∙ t.nulls;
-        pages = t.pages;
-        none = t.none;
-        rows = rows now ∙ ap (λ (s : Tables). s.list) (sym (decided_rows applied v u last));
-      };
+  nulls = nulls ∙ is.nulls;
+  pages = is.pages;
+  none = is.none;
+  keyed = is.keyed;
+  last = applied_last v applied u last y.last;
+  rows = rows ∙ ap (λ (s : Tables). s.list) (sym (decided_rows applied v u last));
+  told = is.told;
 }

@@ -2,6 +2,8 @@
 use Rattle.salt_bytes.specs.Generations.{Blank, Content, IsRead, Outside, content_of}
 use Rattle.salt_bytes.specs.Log.{entries_in}
 use Rattle.salt_bytes.specs.Partition.{Prepared, prepared_in}
+use Rattle.salt_bytes.specs.Spellable.{Every}
+use Rattle.salt_bytes.specs.Values.{key_of}
 use Rattle.salt_disk.specs.Disks.{View}
 use Rattle.salt_entries.specs.Entries.{header_of, prepared_of}
 use Rattle.salt_entries.specs.declared.prepared.PreparedUnit.{PreparedUnit}
@@ -12,10 +14,23 @@ use Rattle.salt_partition.specs.declared.contents.LogContent.{LogContent}
 use Rattle.salt_partition.specs.declared.contents.ReadLog.{ReadLog}
 use Rattle.salt_stands.specs.PartitionLog.{PartitionLog, partition_in}
 use Rattle.salt_stands.specs.Words.{and_then}
-use Rattle.std.specs.Prelude.{Bool, IsTrue, List, Some, length, map, slice_get, ℕ, ⊤, ◌<◌, ◌≡◌}
+use Rattle.salt_values.specs.declared.change.Change.{Change}
+use Rattle.salt_values.specs.declared.value.Value.{Value}
+use Rattle.std.specs.Prelude.{Bool, IsTrue, List, None, Option, Some, length, map, slice_get, ℕ, ⊤, ◌<◌, ◌≡◌}
 
 abbrev pub units_of : List PreparedUnit → List Prepared
 units_of units = map prepared_of units
+
+-- a row that a change puts has the change's key
+abbrev pub HasKeyTo : Value → Option (List Value) → Type 0
+HasKeyTo key None = ⊤
+HasKeyTo key (Some row) = key_of row ≡ key
+
+abbrev pub HasKey : Change → Type 0
+HasKey c = HasKeyTo c.key c.row
+
+abbrev pub AreKeyed : Prepared → Type 0
+AreKeyed x = Every HasKey x.changes
 
 abbrev pub log_of : ReadLog → PartitionLog
 log_of r = record { header = header_of r.header; prepared = units_of r.units.items }
@@ -25,10 +40,10 @@ content_seen found.Blank = Blank
 content_seen (found.Read r) = IsRead (log_of r)
 content_seen found.Outside = Outside
 
--- a log that was read is that of the device, and has these entries
+-- a log that was read is that of the device, and has these entries; the rows of its units have their keys
 abbrev pub KeepsEntries : View → (dev : ℕ) → List (List ℕ) → LogContent → Type 0
 KeepsEntries d dev entries found.Blank = ⊤
-KeepsEntries d dev entries (found.Read r) = IsLog d r.log entries × (r.log.dev ≡ dev)
+KeepsEntries d dev entries (found.Read r) = IsLog d r.log entries × (r.log.dev ≡ dev) × Every AreKeyed (units_of r.units.items)
 KeepsEntries d dev entries found.Outside = ⊤
 
 -- what was found on a device that has these entries, of which there is one
@@ -42,6 +57,7 @@ pub record IsKept (d : View) (part dev : ℕ) (r : ReadLog) : Type 0 where
   pub is_log : IsLog d r.log entries
   pub device : r.log.dev ≡ dev
   pub some : 0 < length entries
+  pub keyed : Every AreKeyed (units_of r.units.items)
   pub reads : IsTrue d.told → partition_in part entries ≡ Some (log_of r)
 
 abbrev pub IsKeptIn : View → (part dev : ℕ) → LogContent → Type 0

@@ -5,9 +5,11 @@ use Rattle.salt_bytes.specs.Generations.{Counts}
 use Rattle.salt_bytes.specs.Partition.{Prepared}
 use Rattle.salt_bytes.specs.Spellable.{Every}
 use Rattle.salt_disk.specs.Disks.{IsSettled, View}
-use Rattle.salt_entries.specs.Entries.{IsPut}
+use Rattle.salt_entries.specs.Entries.{IsPut, prepared_of}
+use Rattle.salt_entries.specs.declared.prepared.PreparedUnit.{PreparedUnit}
 use Rattle.salt_gatelog.specs.Log.{IsLog}
 use Rattle.salt_model.specs.Words.{has_id}
+use Rattle.salt_partition.specs.Contents.{AreKeyed}
 use Rattle.salt_partition.specs.declared.partition.Partition.{Partition}
 use Rattle.salt_stands.specs.Coordinator.{device_of}
 use Rattle.salt_stands.specs.Partition.{pages_device, part_device, part_pair, part_tables}
@@ -16,7 +18,7 @@ use Rattle.salt_stands.specs.Pieces.{PartView, is_prepared_in, other_log}
 use Rattle.salt_stands.specs.Stands.{logs_of}
 use Rattle.salt_values.specs.declared.change.Change.{Change}
 use Rattle.salt_values.specs.declared.id.Id.{Id}
-use Rattle.std.specs.Prelude.{Bool, IsTrue, List, Some, [], false, length, true, ℕ, ◌++◌, ◌-◌, ◌<◌, ◌≡◌, ◌∷◌}
+use Rattle.std.specs.Prelude.{Bool, IsTrue, List, Option, Some, [], false, length, option_map, true, ℕ, ◌++◌, ◌-◌, ◌<◌, ◌≡◌, ◌∷◌}
 
 -- the device of the log that counts
 abbrev pub log_device : Partition → ℕ
@@ -34,17 +36,17 @@ spells_nulls x = x.nulls
 abbrev pub unit_count : Partition → ℕ
 unit_count x = x.log.count - 1
 
--- What holds where the disks tell their bytes: the log that counts and its pair say what the view has, no page is named, and the
--- rows are those of the units that were applied.
-pub record IsTold (d : View) (x : Partition) (p : ℕ) (v : PartView) (applied : List Id) (entries : List (List ℕ)) : Type 0 where
+-- What holds where the disks tell their bytes: the log that counts and its pair say what the view has.
+pub record IsTold (d : View) (p : ℕ) (v : PartView) (entries : List (List ℕ)) : Type 0 where
   pub reads : partition_in p entries ≡ Some v.log
   pub counts : part_pair p (logs_of d.bytes) ≡ Counts v.which v.log
-  pub nulls : x.nulls ≡ has_nulls v.log.header.format
-  pub pages : v.log.header.sides ≡ []
-  pub none : v.rows ≡ []
-  pub rows : x.rows.entries ≡ (part_tables applied v.log v.rows).list
 
--- The value is partition p, which stands so on the devices, with these units applied. Nothing is pending on its logs.
+-- the unit that was prepared last is kept, unless it was applied
+abbrev pub IsLastKept : (applied : List Id) → List Prepared → Option PreparedUnit → Type 0
+IsLastKept applied ps last = (before : List Prepared) (x : Prepared) → ps ≡ before ++ x ∷ [] → has_id x.unit applied ≡ false → option_map prepared_of last ≡ Some x
+
+-- The value is partition p, which stands so on the devices, with these units applied. Nothing is pending on its logs. Where the
+-- disks don't tell their bytes, its view is what was read and what was prepared since. No page is named.
 pub record IsPartition (d : View) (x : Partition) (p : ℕ) (v : PartView) (applied : List Id) : Type 0 where
   pub part : x.part ≡ p
   pub entries : List (List ℕ)
@@ -53,7 +55,13 @@ pub record IsPartition (d : View) (x : Partition) (p : ℕ) (v : PartView) (appl
   pub device : log_device x ≡ device_of (part_device p) v.which
   pub known : pages_device p < d.count
   pub other : IsSettled d (device_of (part_device p) (other_log v.which))
-  pub told : IsTrue d.told → IsTold d x p v applied entries
+  pub nulls : x.nulls ≡ has_nulls v.log.header.format
+  pub pages : v.log.header.sides ≡ []
+  pub none : v.rows ≡ []
+  pub keyed : Every AreKeyed v.log.prepared
+  pub last : IsLastKept applied v.log.prepared x.last
+  pub rows : x.rows.entries ≡ (part_tables applied v.log v.rows).list
+  pub told : IsTrue d.told → IsTold d p v entries
 
 abbrev pub prepared : Id → List Change → Prepared
 prepared u cs = record { unit = u; changes = cs }

@@ -60,6 +60,7 @@ pub fn create_partition<D: Disks>(
         part,
         nulls: true,
         log,
+        last: None,
         rows: BTreeMap::new(alloc),
     })
 }

@@ -3,6 +3,7 @@
 #![tactic(auto)]
 
 mod contents;
+mod copies;
 mod create;
 mod devices;
 mod generations;
@@ -13,9 +14,11 @@ mod rows;
 mod sets;
 mod units;
 
+pub use copies::change_copied;
 pub use create::create_partition;
 pub use open::{OpenErr, open_partition};
 pub use partition::Partition;
+pub use units::rejected;
 
 #[cfg(test)]
 mod tests;

@@ -97,12 +97,13 @@ pub fn open_partition<D: Disks>(
         return Err(OpenErr::NotSalt(pages_of(part)));
     }
     let ReadLog { log, header, units } = found;
-    let rows = rows_of(alloc, decided.as_slice(), units)?;
+    let (rows, last) = rows_of(alloc, decided.as_slice(), units)?;
     Ok(Partition {
         alloc,
         part,
         nulls: has_nulls(header.format),
         log,
+        last,
         rows,
     })
 }

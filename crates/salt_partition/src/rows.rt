@@ -2,6 +2,7 @@
 
 ghost use Rattle.salt_model.specs.Tables.{Tables, no_rows, with_changes};
 ghost use Rattle.salt_partition.specs.Contents.{units_of};
+ghost use Rattle.salt_partition.specs.Partitions.{IsLastKept};
 ghost use Rattle.salt_stands.specs.Partition.{decided_changes};
 ghost use Rattle.std.specs.Prelude.{IfOk, OnOk, ◌≡◌};
 
@@ -32,21 +33,25 @@ pub fn make_changes(rows: &mut Tables, changes: Vec<Change>) -> Result<(), Alloc
     Ok(())
 }
 
-/// The rows that the decided ones of these units make, in order of entries.
+/// The rows that the decided ones of these units make, in order of entries; and the last unit, where it is not decided.
 pub fn rows_of(
     alloc: Global,
     decided: &[Id],
     units: Vec<PreparedUnit>,
-) -> Result<Tables, AllocError>
-    ensures { IfOk result (λ rows. rows.entries ≡ (with_changes (decided_changes decided.now (units_of units.items)) no_rows).list) }
+) -> Result<(Tables, Option<PreparedUnit>), AllocError>
+    ensures rows { IfOk result (λ made. made.0.entries ≡ (with_changes (decided_changes decided.now (units_of units.items)) no_rows).list) }
+    ensures last { IfOk result (λ made. IsLastKept decided.now (units_of units.items) made.1) }
 {
     let applied = set_of(alloc, decided)?;
     let mut rows = BTreeMap::new(alloc);
+    let mut last = None;
     for prepared in units {
-        let PreparedUnit { unit, changes } = prepared;
-        if is_in(&applied, unit) {
-            make_changes(&mut rows, changes)?;
+        if is_in(&applied, prepared.unit) {
+            make_changes(&mut rows, prepared.changes)?;
+            last = None;
+        } else {
+            last = Some(prepared);
         }
     }
-    Ok(rows)
+    Ok((rows, last))
 }

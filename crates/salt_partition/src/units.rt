@@ -1,15 +1,16 @@
 //! The entries of a partition's log, read from its device.
 
 ghost use Rattle.salt_bytes.specs.Partition.{partition_header_in, prepared_in};
+ghost use Rattle.salt_bytes.specs.Spellable.{Every};
 ghost use Rattle.salt_disk.specs.Disks.{HasCause, KeepsAll, OnlyFails, UnlessDown};
 ghost use Rattle.salt_entries.specs.Entries.{header_of, prepared_of};
 ghost use Rattle.salt_gatelog.specs.Entry.{HasMoved};
 ghost use Rattle.salt_gatelog.specs.Log.{IsLog, count_of};
 ghost use Rattle.salt_disk.specs.declared.disks.DiskErr.TheVariants.{Failed};
-ghost use Rattle.salt_partition.specs.Contents.{SpellsUnit, units_of};
+ghost use Rattle.salt_partition.specs.Contents.{AreKeyed, SpellsUnit, units_of};
 ghost use Rattle.salt_stands.specs.PartitionLog.{gathered};
 ghost use Rattle.salt_stands.specs.Words.{and_then};
-ghost use Rattle.std.specs.Prelude.{IfOk, IsTrue, List, Some, [], drop, false, option_map, slice_get, ℕ, ◌<◌, ◌≡◌};
+ghost use Rattle.std.specs.Prelude.{IfOk, IfSome, IsTrue, List, Some, [], drop, false, option_map, slice_get, ℕ, ◌<◌, ◌≡◌};
 ghost use Rattle.std.specs.Result.{result_err};
 
 use salt_disk::{DiskErr, Disks};
@@ -50,6 +51,7 @@ pub fn unit_at<D: Disks>(
     requires below { i < count_of log.old }
     ensures unit { IfOk result (λ found. (entries : List (List ℕ)) → IsLog (D.view disks.old) log.old entries → IsTrue (D.view disks.old).told
         → option_map prepared_of found ≡ and_then (prepared_in nulls) (slice_get entries i)) }
+    ensures keyed { IfOk result (λ found. IfSome found (λ unit. AreKeyed (prepared_of unit))) }
     ensures log { (entries : List (List ℕ)) → IsLog (D.view disks.old) log.old entries → UnlessDown (result_err result) (IsLog (D.view disks.new) log.new entries) }
     ensures same { HasMoved log.old log.new }
     ensures kept { KeepsAll (D.view disks.old) (D.view disks.new) (result_err result) }
@@ -107,6 +109,7 @@ pub fn read_units<D: Disks>(
     requires { (entries : List (List ℕ)) × IsLog (D.view disks.old) log.old entries }
     ensures units { IfOk result (λ found. (entries : List (List ℕ)) → IsLog (D.view disks.old) log.old entries → IsTrue (D.view disks.old).told
         → option_map (λ units. units_of units.items) found ≡ gathered nulls (Some []) (drop 1 entries)) }
+    ensures keyed { IfOk result (λ found. IfSome found (λ units. Every AreKeyed (units_of units.items))) }
     ensures log { (entries : List (List ℕ)) → IsLog (D.view disks.old) log.old entries → UnlessDown (result_err result) (IsLog (D.view disks.new) log.new entries) }
     ensures same { HasMoved log.old log.new }
     ensures kept { KeepsAll (D.view disks.old) (D.view disks.new) (result_err result) }

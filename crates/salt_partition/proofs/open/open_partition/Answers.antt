@@ -5,7 +5,8 @@ use Rattle.salt_partition.specs.Contents.{log_of, units_of}
 use Rattle.salt_stands.specs.OpenedPart.{is_known_log}
 use Rattle.salt_stands.specs.Partition.{decided_changes}
 use Rattle.salt_values.specs.declared.id.Id.{Id}
-use Rattle.std.proofs.Common.{List, ap, refl, sym, ◌∙◌}
+use Rattle.salt_partition.specs.Partitions.{IsLastKept}
+use Rattle.std.proofs.Common.{List, ap, refl, subst, sym, ◌∙◌}
 use Rattle.std.proofs.lemmas.Result.{err_from_is_err_and}
 
 pub returns-in_err-side-clause-why : goal.returns-in_err-side-clause-why
@@ -20,4 +21,5 @@ returns-clause-opens g c =
     c.in_ok-side.ensures.kept c.requires.known c.requires.settled_a c.requires.settled_b c.in_ok-side.ensures.chosen
     (ap (λ (us : List Id). is_known_log c.args.boot us (log_of found)) (sym c.as_slice.ensures) ∙ sym c.in_ok-known.ensures ∙ c.if-not-known.false)
     (sym c.has_pages.ensures ∙ c.if-has_pages.false) refl refl c.has_nulls.ensures
-    (c.in_ok-rows.ensures ∙ ap (λ (us : List Id). (with_changes (decided_changes us (units_of found.units.items)) no_rows).list) c.as_slice-2.ensures)
+    (c.in_ok-rows.ensures.rows ∙ ap (λ (us : List Id). (with_changes (decided_changes us (units_of found.units.items)) no_rows).list) c.as_slice-2.ensures)
+    (subst (λ (us : List Id). IsLastKept us (units_of found.units.items) c.in_ok-rows.last) c.as_slice-2.ensures c.in_ok-rows.ensures.last)

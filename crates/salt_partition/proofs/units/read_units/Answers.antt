@@ -3,12 +3,14 @@ use Rattle.salt_disk.proofs.CallAfterCall.{cause_on}
 use Rattle.salt_entries.specs.Entries.{prepared_of}
 use Rattle.salt_gatelog.proofs.Entries.{keeps_then, keeps_without_memory}
 use Rattle.salt_partition.proofs.Gathered.{gathered_fails, gathered_next}
+use Rattle.salt_bytes.specs.Spellable.{Every}
+use Rattle.salt_partition.proofs.Keyed.{every_push, if_some}
 use Rattle.salt_partition.proofs.Seeing.{units_pushed}
 use Rattle.salt_partition.proofs.units.read_units.Goals as goal
-use Rattle.salt_partition.specs.Contents.{units_of}
+use Rattle.salt_partition.specs.Contents.{AreKeyed, units_of}
 use Rattle.salt_stands.specs.PartitionLog.{gathered}
 use Rattle.salt_stands.specs.Words.{and_then}
-use Rattle.std.proofs.Common.{None, Some, ap, arith, drop, slice_get, sym, ◌+◌, ◌≡◌, ◌∙◌}
+use Rattle.std.proofs.Common.{None, Some, ap, arith, drop, slice_get, subst, sym, ◌+◌, ◌≡◌, ◌∙◌}
 use Rattle.std.proofs.lemmas.Result.{err_from_is_err_and}
 use Rattle.std.specs.Prelude.{option_map}
 
@@ -49,6 +51,8 @@ loop-i-preserved g c =
       };
       keeps = keeps_then d0 d e None l.invariant.keeps c.in_ok-unit.ensures.kept;
       cause = cause_on d0 d e None l.invariant.cause c.in_ok-unit.ensures.cause;
+      keyed = subst (Every AreKeyed) (sym (units_pushed l.units.items c.push.new.self.items c.in-Some.unit c.in_ok-push-in-Some.ensures.items))
+          (every_push AreKeyed (units_of l.units.items) (prepared_of c.in-Some.unit) l.invariant.keyed (if_some c.in_ok-unit.field-0 c.in-Some.unit (λ unit. AreKeyed (prepared_of unit)) c.in-Some.is c.in_ok-unit.ensures.keyed));
       so_far = λ entries first told.
           let told' = l.invariant.keeps.shape.told ∙ told in
           let nulls = c.args.nulls in
@@ -58,3 +62,6 @@ loop-i-preserved g c =
           ∙ sym (gathered_next nulls (units_of l.units.items) entries l.i x (omega (arith, c.loop-i-test.true, c.count-i-end.ensures, first.count)) read)
           ∙ l.invariant.so_far entries first told;
     }
+
+pub returns-clause-keyed : goal.returns-clause-keyed
+returns-clause-keyed g c = c.loop-i.invariant.keyed

@@ -6,6 +6,6 @@ use Rattle.std.proofs.Common.{ap, ◌∙◌}
 use Rattle.std.specs.FinMap.Entries.{find}
 
 pub returns-in-Ok-clause-row : goal.returns-in-Ok-clause-row
-returns-in-Ok-clause-row g c p v applied is told =
+returns-in-Ok-clause-row g c p v applied is =
     let q = place c.args.table c.args.key.now in
-    c.in-Ok.ensures.row ∙ ap (row_at q) c.new.ensures ∙ ap (find place_cmp q) (rows_shown c.args.self.now.rows.entries (part_tables applied v.log v.rows) (is.told told).rows)
+    c.in-Ok.ensures.row ∙ ap (row_at q) c.new.ensures ∙ ap (find place_cmp q) (rows_shown c.args.self.now.rows.entries (part_tables applied v.log v.rows) is.rows)

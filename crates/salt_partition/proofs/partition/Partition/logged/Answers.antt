@@ -24,7 +24,7 @@ returns-in_err-prepared-clause-stands g c p v applied is =
     let y = record x { log = c.unit_told.new.log } in
     let q = err_from_is_err_and c.from_residual.result c.from_residual.ensures.1 in
     rw (q.1, q.2) (unless d e (Some c.in_err-prepared.field-0.0) (IsLog e c.unit_told.new.log is.entries) (IsPartition e y p v applied) c.in_err-prepared.ensures.kept (c.in_err-prepared.ensures.log is.entries is.is_log)
-    (λ same is_log. moved d e x y p v applied is c.in_err-prepared.ensures.kept.shape same refl refl refl c.in_err-prepared.ensures.same.device is_log))
+    (λ same is_log. moved d e x y p v applied is c.in_err-prepared.ensures.kept.shape same refl refl refl refl c.in_err-prepared.ensures.same.device is_log))
 
 pub returns-clause-changes : goal.returns-clause-changes
 returns-clause-changes g c p v applied is told =
@@ -36,4 +36,4 @@ returns-clause-stands g c p v applied is =
     let d = g.D.Disks.view c.args.disks.now in
     let e = g.D.Disks.view c.unit_told.new.disks in
     let kept = c.in_ok-prepared.ensures.kept in
-    moved d e c.args.self.now _ p v applied is kept.shape (unchanged d e kept) refl refl refl c.in_ok-prepared.ensures.same.device (c.in_ok-prepared.ensures.log is.entries is.is_log)
+    moved d e c.args.self.now _ p v applied is kept.shape (unchanged d e kept) refl refl refl refl c.in_ok-prepared.ensures.same.device (c.in_ok-prepared.ensures.log is.entries is.is_log)

@@ -10,7 +10,7 @@ use Rattle.std.specs.Option.{option_copied}
 use Rattle.std.specs.Prelude.{option_map}
 
 pub returns-in-Ok-clause-row : goal.returns-in-Ok-clause-row
-returns-in-Ok-clause-row g c p v applied is told =
+returns-in-Ok-clause-row g c p v applied is =
     let after = option_copied c.args.after in
     c.in-Ok.ensures.row ∙ ap (next_row c.args.table c.args.range.now after) c.new.ensures
-    ∙ ap (λ es. option_map (λ e. e.1) (first_of_list (where_key place_cmp (is_next c.args.table c.args.range.now after) es))) (rows_shown c.args.self.now.rows.entries (part_tables applied v.log v.rows) (is.told told).rows)
+    ∙ ap (λ es. option_map (λ e. e.1) (first_of_list (where_key place_cmp (is_next c.args.table c.args.range.now after) es))) (rows_shown c.args.self.now.rows.entries (part_tables applied v.log v.rows) is.rows)

@@ -20,7 +20,7 @@ returns-clause-ok g c p v applied is may =
     let spelled : c.deref.result.now ≡ spell_prepared (prepared u c.args.changes.now) = c.deref.ensures.value ∙ c.in_ok-entry.ensures.bytes ∙ ap (λ (cs : List Change). spell_prepared (prepared u cs)) c.as_slice.ensures in
     let reads = subst (λ (cs : List Change). (nulls : Bool) → Every (IsPut nulls) cs → are_in_order cs ≡ true → prepared_in nulls (spell_prepared (prepared u cs)) ≡ Some (prepared u cs)) c.as_slice.ensures c.spell_prepared.ensures.read in
     on_ok (λ dev. dev ≡ x.log.dev) d e c.append.result (IsLog e c.append.new.self (is.entries ++ c.deref.result.now ∷ [])) _ (c.append.ensures.ok is.entries is.is_log) c.append.ensures.others
-    (λ is_log others. with_unit d e x _ p v applied is u c.args.changes.now may reads others refl refl refl c.append.ensures.device
+    (λ is_log others. with_unit d e x _ p v applied is u c.args.changes.now may reads others refl refl refl (record { unit = u; changes = c.in_ok-changes.changes }) refl (ap (λ (cs : List Change). prepared u cs) (c.in_ok-changes.ensures ∙ c.as_slice-2.ensures)) c.append.ensures.device
     (subst (λ (bytes : List ℕ). IsLog e c.append.new.self (is.entries ++ bytes ∷ [])) spelled is_log))
 
 pub returns-clause-images : goal.returns-clause-images
