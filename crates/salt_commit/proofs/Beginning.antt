@@ -15,6 +15,7 @@ use Rattle.salt_disk.specs.Disks.{EachImage, IsImage, IsSettled, KeepsBut, View}
 use Rattle.salt_disk.specs.declared.disks.DiskErr.TheVariants.{Failed, Full, Memory, Stopped}
 use Rattle.salt_disk.specs.declared.disks.DiskErr.{DiskErr}
 use Rattle.salt_model.specs.Kept.{Definition}
+use Rattle.salt_partition.proofs.Lasts.{no_last}
 use Rattle.salt_partition.proofs.Framed.{logs_settled, part_stands, partition_kept}
 use Rattle.salt_partition.specs.Partitions.{IsPartition}
 use Rattle.salt_partition.specs.declared.partition.Partition.{Partition}
@@ -115,9 +116,9 @@ module _ {D : Type 0} (r : Reading D) (asked : Shape) (parts : IsParts asked.par
       by (inl a) = blank_stands r (logs_of image) image asked (record { a = a; b = b })
       by (inr a) = stood_stands r (logs_of image) image asked LogA (first_coordinator asked 3) (first_view 2) (stands a) ∙ ap Ok (made_found r asked 2)
 
--- the units that are applied matter only where the disks tell
-applied_as : (d : View) (x : Partition) (p : ℕ) (v : PartView) (applied us : List Id) → (IsTrue d.told → us ≡ applied) → IsPartition d x p v applied → IsPartition d x p v us
-applied_as d x p v applied us same is = record {
+-- where nothing was prepared, it does not matter which units are applied
+applied_any : (d : View) (x : Partition) (p q : ℕ) (applied us : List Id) → IsPartition d x p (first_view 2 q) applied → IsPartition d x p (first_view 2 q) us
+applied_any d x p q applied us is = record {
   part = is.part;
   entries = is.entries;
   is_log = is.is_log;
@@ -125,7 +126,13 @@ applied_as d x p v applied us same is = record {
   device = is.device;
   known = is.known;
   other = is.other;
-  told = λ t. subst (λ z. Rattle.salt_partition.specs.Partitions.IsTold d x p v z is.entries) (sym (same t)) (is.told t);
+  nulls = is.nulls;
+  pages = is.pages;
+  none = is.none;
+  keyed = is.keyed;
+  last = no_last us x.last;
+  rows = is.rows;
+  told = is.told;
 }
 
 same_parts : (s t : Shape) → is_same_shape s t ≡ true → s.parts ≡ t.parts
@@ -173,7 +180,7 @@ begins asked d b e x kept first second blank size are opened = record {
     each : (p : ℕ) (q : Partition) → slice_get x.parts.items p ≡ Some q → IsPartition e q p (first_view 2 p) (decided_by own p)
     each p q is =
         let here = if_some (slice_get x.parts.items p) q (λ z. IsPartition b z p (first_view 2 p) []) is (are.each p) in
-        applied_as e q p (first_view 2 p) [] (decided_by own p) (λ told. ap (λ (c : Coordinator Definition). decided_by c p) (is_first (before told)))
+        applied_any e q p p [] (decided_by own p)
         (partition_kept b e q p (first_view 2 p) [] second.shape (second.kept (part_device p) (no_coordinator (part_device p) (omega arith))) (second.kept (part_device p + 1) (no_coordinator (part_device p + 1) (omega arith))) here)
       where
         no_coordinator : (dev : ℕ) → 1 < dev → IsOfCoordinator dev → ⊥

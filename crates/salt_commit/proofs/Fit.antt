@@ -30,7 +30,7 @@ pub nor : (b : Bool) → (b && false) ≡ false
 nor true = refl
 nor false = refl
 
-also : (b : Bool) → (b && true) ≡ b
+pub also : (b : Bool) → (b && true) ≡ b
 also true = refl
 also false = refl
 
@@ -51,6 +51,10 @@ of_columns (f ∷ fs) (v ∷ vs) = ap (λ b. b && are_of_columns fs vs) (of_type
 row_of : (o : Option TableDef) (row : List Value) → is_row_of o row ≡ meets_found o row
 row_of None row = refl
 row_of (Some d) row = ap (λ b. b && passes_checks d row) (of_columns d.columns row)
+
+-- what meets its table is a row of it
+pub is_row_at : (schema : List TableDef) (table : ℕ) (row : List Value) → meets_table schema table row ≡ true → is_row_of (at_place schema table) row ≡ true
+is_row_at schema table row meets = ap (λ o. is_row_of o row) (at_place_is schema table) ∙ row_of (slice_get schema table) row ∙ meets
 
 lower : (a b : ℕ) → a < b → nat_lt a b ≡ true
 lower a b h = grind (arith, nat_tests)

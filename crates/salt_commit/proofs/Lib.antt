@@ -22,3 +22,6 @@ mod Standing
 mod Undecided
 mod Units
 mod Witness
+mod Loaded
+mod Shown
+mod Sound

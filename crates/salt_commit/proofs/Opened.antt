@@ -101,7 +101,7 @@ module _ (c : Coordinator Definition) (d e : View) (x : Partition) (p : ℕ) (ke
 
   -- its format, and its entries
   pub nulls_are : spells_nulls x ≡ has_nulls opens.view.log.header.format
-  nulls_are = (opens.is.told now).nulls
+  nulls_are = opens.is.nulls
 
   pub low_format : opens.view.log.header.format < 3
   low_format = log_format p opens.is.entries opens.view.log (opens.is.told now).reads

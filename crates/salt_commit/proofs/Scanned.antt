@@ -1,5 +1,5 @@
 -- The next row of the first n partitions.
-use Rattle.salt_commit.proofs.Keyed.{part_keyed}
+use Rattle.salt_commit.proofs.Keyed.{joined_keyed}
 use Rattle.salt_commit.proofs.Lists.{set_other, set_same}
 use Rattle.salt_commit.proofs.Merged.{next_merged}
 use Rattle.salt_commit.proofs.Shared.{listed_push}
@@ -21,6 +21,7 @@ use Rattle.salt_eval.specs.Views.{next_row}
 use Rattle.salt_model.specs.Tables.{Tables, row_at}
 use Rattle.salt_model.specs.declared.places.Place.{Place}
 use Rattle.salt_partition.proofs.Framed.{partition_kept}
+use Rattle.salt_partition.proofs.Keyed.{part_keyed}
 use Rattle.salt_partition.specs.Partitions.{IsPartition}
 use Rattle.salt_partition.specs.declared.partition.Partition.{Partition}
 use Rattle.salt_ranges.specs.declared.range.KeyRange.{KeyRange}
@@ -51,16 +52,6 @@ row_push q (s ∷ ts) t =
     row_at_entries q s.list (joined (ts ++ t ∷ [])) ∙ ap (or_row (row_at q s)) (row_push q ts t) ∙ or_or (row_at q s) (row_at q (joined ts)) (row_at q t)
     ∙ ap (λ o. or_row o (row_at q t)) (sym (row_at_entries q s.list (joined ts)))
 
-keyed_or : (a b : Option (List Value)) (key : Value) → IfSome a (λ row. Rattle.salt_model.specs.Tables.key_of row ≡ key) → IfSome b (λ row. Rattle.salt_model.specs.Tables.key_of row ≡ key) → IfSome (or_row a b) (λ row. Rattle.salt_model.specs.Tables.key_of row ≡ key)
-keyed_or None b key h k = k
-keyed_or (Some x) b key h k = h
-
-joined_keyed : (T : ℕ → Tables) (p n : ℕ) → ((k : ℕ) → k < p + n → IsKeyed (T k)) → IsKeyed (joined (listed T p n))
-unfolding joined
-joined_keyed T p zero h q = tt
-joined_keyed T p (suc n) h q = subst (λ o. IfSome o (λ row. Rattle.salt_model.specs.Tables.key_of row ≡ q.key)) (sym (row_at_entries q (T p).list (joined (listed T (suc p) n))))
-    (keyed_or (row_at q (T p)) (row_at q (joined (listed T (suc p) n))) q.key (h p (omega arith) q) (joined_keyed T (suc p) n (λ k low. h k (omega (arith, low))) q))
-
 next_push : (t : ℕ) (range : KeyRange) (after : Option Value) (T : ℕ → Tables) (n : ℕ) → ((k : ℕ) → k < n + 1 → IsKeyed (T k))
     → lesser_row (next_row t range after (joined (listed T 0 n))) (next_row t range after (T n)) ≡ next_row t range after (joined (listed T 0 (n + 1)))
 next_push t range after T n keyed =
@@ -74,7 +65,7 @@ pub record ScannedSoFar (d0 d : View) (parts0 parts : List Partition) (t : ℕ) 
   pub are : (v : ℕ → PartView) (applied : ℕ → List Id) → ArePartitions d0 parts0 v applied → ArePartitions d parts v applied
   pub keeps : KeepsAll d0 d None
   pub cause : HasCause d0 d None
-  pub least_is : (v : ℕ → PartView) (applied : ℕ → List Id) → ArePartitions d0 parts0 v applied → IsTrue d0.told → least ≡ next_row t range after (tables_of_all v applied n)
+  pub least_is : (v : ℕ → PartView) (applied : ℕ → List Id) → ArePartitions d0 parts0 v applied → least ≡ next_row t range after (tables_of_all v applied n)
 
 pub none_scanned : (d : View) (parts : List Partition) (t : ℕ) (range : KeyRange) (after : Option Value) → ScannedSoFar d d parts parts t range after 0 None
 unfolding joined
@@ -83,7 +74,7 @@ none_scanned d parts t range after = record {
   are = λ v applied h. h;
   keeps = record { shape = same_shape d; kept = λ dev other. record { bytes = refl; images = λ c left. left }; images = λ dev other c left. left };
   cause = record { later = omega arith; failed = λ is. cc; stops = omega arith };
-  least_is = λ v applied h told. refl;
+  least_is = λ v applied h. refl;
 }
 
 module _ (d0 d : View) (parts0 parts : List Partition) (t : ℕ) (range : KeyRange) (after : Option Value) (n : ℕ) (least : Option (List Value)) (so_far : ScannedSoFar d0 d parts0 parts t range after n least)
@@ -112,18 +103,17 @@ module _ (d0 d : View) (parts0 parts : List Partition) (t : ℕ) (range : KeyRan
 
     pub one_scanned : (found now : Option (List Value)) → KeepsAll d e None → HasCause d e None
         → ((p : ℕ) (v : PartView) (applied : List Id) → IsPartition d x p v applied → IsPartition e x' p v applied)
-        → ((p : ℕ) (v : PartView) (applied : List Id) → IsPartition d x p v applied → IsTrue d.told → found ≡ next_row t range after (part_tables applied v.log v.rows))
+        → ((p : ℕ) (v : PartView) (applied : List Id) → IsPartition d x p v applied → found ≡ next_row t range after (part_tables applied v.log v.rows))
         → now ≡ lesser_row least found → ScannedSoFar d0 e parts0 (slice_set parts n x') t range after (n + 1) now
     one_scanned found now keeps cause stands row is = record {
       size = length-set parts n x' ∙ so_far.size;
       are = λ v applied h. put_back v applied h keeps.shape (λ dev. keeps.kept dev (λ none. none)) (stands n (v n) (applied n) (this_one v applied h));
       keeps = keeps_on (λ _. ⊥) d0 d e None so_far.keeps keeps;
       cause = cause_on d0 d e None so_far.cause cause;
-      least_is = λ v applied h told.
-          let told' = so_far.keeps.shape.told ∙ told in
+      least_is = λ v applied h.
           let T : ℕ → Tables = λ p. part_tables (applied p) (v p).log (v p).rows in
-          is ∙ ap (λ o. lesser_row o found) (so_far.least_is v applied h told) ∙ ap (lesser_row (next_row t range after (tables_of_all v applied n))) (row n (v n) (applied n) (this_one v applied h) told')
-          ∙ next_push t range after T n (λ k low. let q = part_at d parts v applied (so_far.are v applied h) k (omega (arith, low, within)) in part_keyed d q.0 k (v k) (applied k) q.1 told');
+          is ∙ ap (λ o. lesser_row o found) (so_far.least_is v applied h) ∙ ap (lesser_row (next_row t range after (tables_of_all v applied n))) (row n (v n) (applied n) (this_one v applied h))
+          ∙ next_push t range after T n (λ k low. let q = part_at d parts v applied (so_far.are v applied h) k (omega (arith, low, within)) in part_keyed d q.0 k (v k) (applied k) q.1);
     }
 
 -- A STORE whose partitions stand after they were read

@@ -97,14 +97,14 @@ module _ {D : Type 0} (r : Reading D) (d : View) (x : Store) (which : WhichLog) 
     part = λ p low. let q = partition p low in part_stands r c d q.0 p (v p) (decided_by c p) q.1 told ((is.sound told).part p low);
   }
 
-  no_pages : IsTrue d.told → (p : ℕ) → p < parts_of c → (v p).log.header.sides ≡ []
-  no_pages told p low = ((partition p low).1.told told).pages
+  no_pages : (p : ℕ) → p < parts_of c → (v p).log.header.sides ≡ []
+  no_pages p low = (partition p low).1.pages
 
   -- no page is read, so that all are read as before
   pub pages_same : IsTrue d.told → (new : ℕ → List ℕ) → PagesSame c v d.bytes new
   pages_same told new p low =
       let nulls = has_nulls (v p).log.header.format in
-      ap (λ sides. rows_from nulls (new (pages_device p)) 0 sides) (no_pages told p low) ∙ sym (ap (λ sides. rows_from nulls (d.bytes (pages_device p)) 0 sides) (no_pages told p low))
+      ap (λ sides. rows_from nulls (new (pages_device p)) 0 sides) (no_pages p low) ∙ sym (ap (λ sides. rows_from nulls (d.bytes (pages_device p)) 0 sides) (no_pages p low))
 
   -- WHERE ONLY THE COORDINATOR'S LOG IS WRITTEN
   module _ (told : IsTrue d.told) (new : ℕ → List ℕ) (keeps : KeepsOtherLogs which (parts_of c) d.bytes new) where

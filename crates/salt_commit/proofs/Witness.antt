@@ -19,6 +19,7 @@ use Rattle.salt_decisions.specs.declared.which.Which.TheVariants.{A}
 use Rattle.salt_disk.specs.Disks.{View}
 use Rattle.salt_gatelog.specs.Log.{IsLog}
 use Rattle.salt_gatelog.specs.declared.log.GateLog.{GateLog}
+use Rattle.salt_partition.proofs.Lasts.{no_last}
 use Rattle.salt_partition.specs.Partitions.{IsPartition}
 use Rattle.salt_partition.specs.declared.partition.Partition.{Partition}
 use Rattle.salt_stands.specs.Coordinator.{coordinator_pair}
@@ -134,15 +135,17 @@ part_stands x part nulls log rows = record {
   device = ap (λ (l : GateLog). l.dev) log;
   known = omega arith;
   other = λ c left. left;
+  nulls = nulls;
+  pages = refl;
+  none = refl;
+  keyed = tt;
+  last = no_last [] x.last;
+  rows = rows ∙ sym no_rows_yet;
   told = λ told. record {
     reads = part_reads;
     counts =
         ap (λ o. pair_of partition_generation (content_of (partition_in 0) o) (content_of (partition_in 0) (entries_in []))) (log_bytes view part_gate (header ∷ []) refl part_log)
         ∙ ap (λ o. pair_of partition_generation (read_or_outside o) (content_of (partition_in 0) (entries_in []))) part_reads ∙ part_behind;
-    nulls = nulls;
-    pages = refl;
-    none = refl;
-    rows = rows ∙ sym no_rows_yet;
   };
 }
 

@@ -5,6 +5,7 @@
 mod commit;
 mod error;
 mod fits;
+mod load;
 mod named;
 mod nexts;
 mod open;

@@ -7,7 +7,7 @@ ghost use Rattle.salt_eval.specs.Views.{next_row};
 ghost use Rattle.salt_stands.specs.Pieces.{PartView};
 ghost use Rattle.salt_values.specs.declared.id.Id.{Id};
 ghost use Rattle.std.specs.Option.{option_copied};
-ghost use Rattle.std.specs.Prelude.{IfOk, IsTrue, List, length, ℕ, ◌≡◌};
+ghost use Rattle.std.specs.Prelude.{IfOk, List, length, ℕ, ◌≡◌};
 ghost use Rattle.std.specs.Result.{result_err};
 
 use salt_disk::{DiskErr, Disks};
@@ -53,7 +53,7 @@ pub fn next_of_all<D: Disks>(
     after: Option<&Key>,
 ) -> Result<Option<Row>, DiskErr>
     requires { StandAll (D.view disks.old) parts.old.items }
-    ensures row { (v : ℕ → PartView) (applied : ℕ → List Id) → ArePartitions (D.view disks.old) parts.old.items v applied → IsTrue (D.view disks.old).told
+    ensures row { (v : ℕ → PartView) (applied : ℕ → List Id) → ArePartitions (D.view disks.old) parts.old.items v applied
         → IfOk result (λ row. row ≡ next_row table range.now (option_copied after.entry) (tables_of_all v applied (length parts.old.items))) }
     ensures stands { (v : ℕ → PartView) (applied : ℕ → List Id) → ArePartitions (D.view disks.old) parts.old.items v applied
         → UnlessDown (result_err result) (ArePartitions (D.view disks.new) parts.new.items v applied) }

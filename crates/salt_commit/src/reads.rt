@@ -58,7 +58,7 @@ impl Store {
         after: Option<&Key>,
     ) -> Result<Option<Row>, StoreErr>
         requires stands { Stands (D.view disks.old) self.old }
-        ensures row { (which : WhichLog) (c : Coordinator Definition) (v : ℕ → PartView) → IsStore reading (D.view disks.old) self.old which c v → IsTrue (D.view disks.old).told
+        ensures row { (which : WhichLog) (c : Coordinator Definition) (v : ℕ → PartView) → IsStore reading (D.view disks.old) self.old which c v
             → IfOk result (λ row. row ≡ next_row table range.now (option_copied after.entry) (found_of c v).kept.tables) }
         ensures stands { (which : WhichLog) (c : Coordinator Definition) (v : ℕ → PartView) → IsStore reading (D.view disks.old) self.old which c v
             → UnlessDown (store_err result) (IsStore reading (D.view disks.new) self.new which c v) }

@@ -6,8 +6,9 @@ ghost use Rattle.salt_stands.specs.Placed.{changes_at};
 ghost use Rattle.salt_values.specs.Placement.{GivesPlaceOf, IsParts, TakesEachKey};
 ghost use Rattle.std.specs.Prelude.{IfOk, length, ◌<◌, ◌^◌, ◌≡◌, ◌≤◌};
 
+use salt_partition::change_copied;
 use salt_place::{PlaceKind, Placement, Shape};
-use salt_values::{Change, Changes, Key, TryCopy, Value};
+use salt_values::{Change, Changes, Key, Value};
 use sqlite_items::Items;
 use std::alloc::{AllocError, Global};
 
@@ -30,25 +31,6 @@ pub fn part_of<F: Fn(PlaceKind, &Key, u32) -> u32>(
     }
 }
 
-fn copy_of(alloc: Global, change: &Change) -> Result<Change, AllocError>
-    ensures { IfOk result (λ made. made ≡ change.now) }
-{
-    let table = change.table;
-    let key = change.key.copy(alloc)?;
-    match &change.row {
-        Some(row) => Ok(Change {
-            table,
-            key,
-            row: Some(row.copy(alloc)?),
-        }),
-        None => Ok(Change {
-            table,
-            key,
-            row: None,
-        }),
-    }
-}
-
 /// The changes of one partition, in order.
 fn share<F: Fn(PlaceKind, &Key, u32) -> u32>(
     alloc: Global,
@@ -65,7 +47,7 @@ fn share<F: Fn(PlaceKind, &Key, u32) -> u32>(
     let mut own = Items::new(alloc);
     for change in changes {
         if part_of(place, shape, &change.key) == part {
-            own.push(copy_of(alloc, change)?)?;
+            own.push(change_copied(alloc, change)?)?;
         }
     }
     Ok(own)

@@ -15,8 +15,8 @@ returns-in_err-row-clause-stands g c which co v is =
     (store_after_reads reading (g.D.Disks.view c.args.disks.now) (g.D.Disks.view c.next_of_all.new.disks) c.args.self.now _ which co v (Some c.in_err-row.field-0.0) is c.in_err-row.ensures.kept refl c.in_err-row.ensures.size (c.in_err-row.ensures.stands v (decided_by co) is.parts))
 
 pub returns-clause-row : goal.returns-clause-row
-returns-clause-row g c which co v is told =
-    c.in_ok-row.ensures.row v (decided_by co) is.parts told ∙ ap (λ n. next_row c.args.table c.args.range.now (option_copied c.args.after) (tables_of_all v (decided_by co) n)) is.size
+returns-clause-row g c which co v is =
+    c.in_ok-row.ensures.row v (decided_by co) is.parts ∙ ap (λ n. next_row c.args.table c.args.range.now (option_copied c.args.after) (tables_of_all v (decided_by co) n)) is.size
 
 pub returns-clause-stands : goal.returns-clause-stands
 returns-clause-stands g c which co v is =

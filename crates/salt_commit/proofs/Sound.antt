@@ -1,0 +1,105 @@
+-- The rows of a store that stands on disks that tell their bytes meet their tables.
+use Rattle.salt_ast.specs.declared.trees.TableDef.{TableDef}
+use Rattle.salt_bytes.specs.Generations.{WhichLog}
+use Rattle.salt_bytes.specs.Partition.{Prepared}
+use Rattle.salt_commit.proofs.Fit.{row_fits}
+use Rattle.salt_commit.proofs.Keyed.{store_keyed}
+use Rattle.salt_commit.proofs.Standing.{part_at}
+use Rattle.salt_commit.specs.Stores.{IsStore, decided_by, reading}
+use Rattle.salt_commit.specs.declared.store.Store.{Store}
+use Rattle.salt_definitions.specs.Fitting.{tables_of}
+use Rattle.salt_disk.specs.Disks.{View}
+use Rattle.salt_eval.proofs.Scanning.{first-found, rows_after-next}
+use Rattle.salt_eval.specs.Meets.{meets_table}
+use Rattle.salt_eval.specs.Views.{is_next, next_row, rows_after}
+use Rattle.salt_model.specs.Kept.{Definition}
+use Rattle.salt_model.specs.Tables.{Tables, changed_at, key_of, make_change, no_rows, place, place_cmp, row_at, with_changes}
+use Rattle.salt_model.specs.Words.{has_id}
+use Rattle.salt_model.specs.declared.places.Place.{Place}
+use Rattle.salt_ranges.specs.declared.range.KeyRange.{KeyRange}
+use Rattle.salt_stands.proofs.Booleans.{left, right}
+use Rattle.salt_stands.proofs.Decided.{with_changes_append}
+use Rattle.salt_stands.proofs.Places.{equal_is, or_row, place_same, row_at_entries, row_at_set}
+use Rattle.salt_stands.proofs.Prepared.{sound_units}
+use Rattle.salt_stands.specs.Commits.{each_tables, found_of, parts_of}
+use Rattle.salt_stands.specs.Coordinator.{Coordinator}
+use Rattle.salt_stands.specs.Partition.{changes_if, decided_changes, is_sound_change, is_sound_prepared, is_sound_to, part_of_key}
+use Rattle.salt_stands.specs.Pieces.{PartView, listed}
+use Rattle.salt_stands.specs.Reading.{Reading}
+use Rattle.salt_stands.specs.Tables.{joined}
+use Rattle.salt_values.specs.declared.change.Change.{Change}
+use Rattle.salt_values.specs.declared.id.Id.{Id}
+use Rattle.salt_values.specs.declared.value.Value.{Value}
+use Rattle.std.proofs.Common.{Bool, IsTrue, List, None, Option, Some, [], ap, arith, false, refl, subst, sym, true, ℕ, ◌+◌, ◌++◌, ◌<◌, ◌≡◌, ◌∙◌, ◌∷◌}
+use Rattle.std.specs.List.{list_all}
+use Rattle.std.specs.Ordering.{is_eq}
+use Rattle.std.specs.Prelude.{cond, nat_le, nat_lt, suc, zero, ◌==◌}
+
+-- each row fits the table of its place
+abbrev AreFit : {D : Type 0} → Reading D → Coordinator D → Tables → Type 0
+AreFit r c t = (q : Place) (row : List Value) → row_at q t ≡ Some row → r.fits_row c.definitions q.table row ≡ true
+
+module _ {D : Type 0} (r : Reading D) (c : Coordinator D) (p : ℕ) where
+  changes_are_fit : (cs : List Change) (t : Tables) → list_all (is_sound_change r c p) cs ≡ true → AreFit r c t → AreFit r c (with_changes cs t)
+  unfolding with_changes
+  changes_are_fit [] t sound fit = fit
+  changes_are_fit (ch ∷ cs) t sound fit = changes_are_fit cs (make_change ch t) (right (is_sound_change r c p ch) (list_all (is_sound_change r c p) cs) sound) made
+    where
+      to : (row : Option (List Value)) → is_sound_to r c p (changed_at ch) row ≡ true → (found : List Value) → row ≡ Some found → r.fits_row c.definitions ch.table found ≡ true
+      to None s found e = cc
+      to (Some x) s found e = subst (λ y. r.fits_row c.definitions ch.table y ≡ true) same (left (r.fits_row c.definitions ch.table x) (part_of_key c.log.header.shape ch.key == p) s)
+        where
+          same : x ≡ found
+          same = cc
+
+      here : is_sound_to r c p (changed_at ch) ch.row ≡ true
+      here = right (nat_lt ch.table (r.count_tables c.definitions)) (is_sound_to r c p (changed_at ch) ch.row) (left (is_sound_change r c p ch) (list_all (is_sound_change r c p) cs) sound)
+
+      made : AreFit r c (make_change ch t)
+      made q row is = one (is_eq (place_cmp q (changed_at ch))) refl (sym (row_at_set q (changed_at ch) ch.row t) ∙ is)
+        where
+          one : (b : Bool) → is_eq (place_cmp q (changed_at ch)) ≡ b → cond b ch.row (row_at q t) ≡ Some row → r.fits_row c.definitions q.table row ≡ true
+          one true f g = ap (λ (x : Place). r.fits_row c.definitions x.table row) (place_same q (changed_at ch) (equal_is _ f)) ∙ to ch.row here row g
+          one false f g = fit q row g
+
+  units_are_fit : (us : List Id) (ps : List Prepared) (t : Tables) → list_all (is_sound_prepared r c p) ps ≡ true → AreFit r c t → AreFit r c (with_changes (decided_changes us ps) t)
+  unfolding with_changes
+  units_are_fit us [] t sound fit = fit
+  units_are_fit us (x ∷ ps) t sound fit =
+      subst (AreFit r c) (sym (with_changes_append (changes_if (has_id x.unit us) x.changes) (decided_changes us ps) t))
+      (units_are_fit us ps (with_changes (changes_if (has_id x.unit us) x.changes) t) (right (is_sound_prepared r c p x) (list_all (is_sound_prepared r c p) ps) sound) (own (has_id x.unit us)))
+    where
+      own : (b : Bool) → AreFit r c (with_changes (changes_if b x.changes) t)
+      own true = changes_are_fit x.changes t (right (nat_le x.unit.boot c.log.told.boot) (list_all (is_sound_change r c p) x.changes) (left (is_sound_prepared r c p x) (list_all (is_sound_prepared r c p) ps) sound)) fit
+      own false = fit
+
+joined_are_fit : {D : Type 0} (r : Reading D) (c : Coordinator D) (T : ℕ → Tables) (p n : ℕ) → ((k : ℕ) → k < p + n → AreFit r c (T k)) → AreFit r c (joined (listed T p n))
+unfolding joined
+joined_are_fit r c T p zero h q row e = cc
+joined_are_fit r c T p (suc n) h q row e = by (row_at q (T p)) refl (joined_are_fit r c T (suc p) n (λ k low. h k (omega (arith, low))) q row) (sym (row_at_entries q (T p).list (joined (listed T (suc p) n))) ∙ e)
+  where
+    by : (o : Option (List Value)) → row_at q (T p) ≡ o → (row_at q (joined (listed T (suc p) n)) ≡ Some row → r.fits_row c.definitions q.table row ≡ true) → or_row o (row_at q (joined (listed T (suc p) n))) ≡ Some row → r.fits_row c.definitions q.table row ≡ true
+    by None is more found = more found
+    by (Some x) is more found = h p (omega arith) q row (is ∙ found)
+
+store_is_fit : {D : Type 0} (r : Reading D) (d : View) (x : Store) (which : WhichLog) (c : Coordinator D) (v : ℕ → PartView) → IsStore r d x which c v → IsTrue d.told → AreFit r c (found_of c v).kept.tables
+store_is_fit r d x which c v is told = joined_are_fit r c (each_tables c v) 0 (parts_of c) each
+  where
+    no_row : AreFit r c no_rows
+    no_row q row e = cc
+
+    each : (k : ℕ) → k < 0 + parts_of c → AreFit r c (each_tables c v k)
+    each k low =
+        let one = part_at d x.parts.items v (decided_by c) is.parts k (omega (arith, low, is.size)) in
+        let sound = sound_units r c k (v k).log ((is.sound told).part k (omega (arith, low))) in
+        subst (λ rows. AreFit r c (with_changes (rows ++ decided_changes (decided_by c k) (v k).log.prepared) no_rows)) (sym one.1.none)
+        (units_are_fit r c k (decided_by c k) (v k).log.prepared no_rows sound no_row)
+
+-- the next row of a range meets the range's table
+pub next_meets : (d : View) (x : Store) (which : WhichLog) (c : Coordinator Definition) (v : ℕ → PartView) → IsStore reading d x which c v → IsTrue d.told → (schema : List TableDef) → schema ≡ tables_of c.definitions
+    → (t : ℕ) (range : KeyRange) (after : Option Value) (row : List Value) → Some row ≡ next_row t range after (found_of c v).kept.tables → meets_table schema t row ≡ true
+next_meets d x which c v is told schema same t range after row next =
+    let es = (found_of c v).kept.tables in
+    let all = rows_after-next t range after es row next (store_keyed reading d x which c v is) in
+    let found : row_at (place t (key_of row)) es ≡ Some row = first-found (is_next t range after) es.list es.sorted (place t (key_of row), row) (rows_after t range (Some (key_of row)) es) all in
+    row_fits schema c.log.header.shape c (record { tables = sym same; is_shape = refl }) t row ∙ store_is_fit reading d x which c v is told (place t (key_of row)) row found

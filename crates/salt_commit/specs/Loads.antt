@@ -1,0 +1,30 @@
+-- Rows that are loaded.
+use Rattle.salt_ast.specs.declared.trees.TableDef.{TableDef}
+use Rattle.salt_definitions.specs.Fitting.{at_place, is_row_of}
+use Rattle.salt_eval.specs.Views.{tables_of}
+use Rattle.salt_model.specs.Tables.{Entry, Tables, is_within, key_of, row_at}
+use Rattle.salt_model.specs.Words.{Every}
+use Rattle.salt_model.specs.declared.locks.Reach.{Reach}
+use Rattle.salt_model.specs.declared.places.Place.{Place}
+use Rattle.salt_partition.specs.declared.partition.Partition.{Partition}
+use Rattle.salt_stands.specs.Tables.{joined}
+use Rattle.salt_values.specs.declared.value.Value.{Value}
+use Rattle.std.specs.Prelude.{List, None, if◌then◌else◌, map, true, ◌≡◌}
+
+-- these are the rows of a reach, and no others
+abbrev pub IsPartOf : Reach → (part whole : Tables) → Type 0
+IsPartOf r part whole = (q : Place) → row_at q part ≡ (if is_within r q then row_at q whole else None)
+
+-- the row fits its table, and stands at the place of its key
+abbrev pub IsRowAt : List TableDef → Place → List Value → Type 0
+IsRowAt schema p row = (is_row_of (at_place schema p.table) row ≡ true) × (p.key ≡ key_of row)
+
+abbrev pub AreRowsOf : List TableDef → Tables → Type 0
+AreRowsOf schema es = Every (λ (e : Entry). IsRowAt schema e.0 e.1) es.list
+
+-- the rows that partitions have in their maps
+abbrev pub shown_in : Partition → Tables
+shown_in x = tables_of x.rows.entries
+
+abbrev pub shown_in_all : List Partition → Tables
+shown_in_all xs = joined (map shown_in xs)
