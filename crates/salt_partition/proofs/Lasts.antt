@@ -10,7 +10,7 @@ use Rattle.salt_stands.proofs.Decided.{has_last}
 use Rattle.salt_stands.specs.Pieces.{PartView}
 use Rattle.salt_values.specs.declared.id.Id.{Id}
 use Rattle.std.proofs.Common.{List, None, Option, Some, [], ap, arith, false, length, length-append, refl, subst, sym, true, ◌++◌, ◌≡◌, ◌∙◌, ◌∷◌}
-use Rattle.std.specs.Prelude.{option_map, suc, zero}
+use Rattle.std.specs.Prelude.{option_map}
 
 -- lists with one more at their ends
 last_same : {A : Type 0} (xs ys : List A) (x y : A) → xs ++ x ∷ [] ≡ ys ++ y ∷ [] → x ≡ y

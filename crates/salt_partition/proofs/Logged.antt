@@ -1,16 +1,16 @@
 -- The units that a partition's log spells.
-use Rattle.salt_bytes.specs.Partition.{Prepared, prepared_in}
+use Rattle.salt_bytes.specs.Partition.{prepared_in}
 use Rattle.salt_disk.specs.Disks.{View}
 use Rattle.salt_entries.specs.Entries.{prepared_of}
 use Rattle.salt_entries.specs.declared.prepared.PreparedUnit.{PreparedUnit}
-use Rattle.salt_partition.proofs.Gathered.{got_at, got_last, logged_at, logged_count, past}
+use Rattle.salt_partition.proofs.Gathered.{got_at, logged_at, logged_count, past}
 use Rattle.salt_partition.specs.Contents.{SpellsUnit}
-use Rattle.salt_partition.specs.Partitions.{IsPartition, IsPreparedLast, changes_in, prepared}
+use Rattle.salt_partition.specs.Partitions.{IsPartition, changes_in}
 use Rattle.salt_partition.specs.declared.partition.Partition.{Partition}
 use Rattle.salt_stands.specs.Pieces.{PartView}
 use Rattle.salt_stands.specs.Words.{and_then}
 use Rattle.salt_values.specs.declared.id.Id.{Id}
-use Rattle.std.proofs.Common.{Bool, IsTrue, List, None, Some, [], ap, arith, length, length-append, slice_get, suc, sym, ℕ, ◌+◌, ◌-◌, ◌<◌, ◌≡◌, ◌≤◌, ◌∙◌, ◌∷◌}
+use Rattle.std.proofs.Common.{Bool, IsTrue, List, None, Some, ap, arith, length, slice_get, suc, sym, ℕ, ◌+◌, ◌-◌, ◌<◌, ◌≡◌, ◌≤◌, ◌∙◌}
 use Rattle.std.specs.Prelude.{option_map}
 
 module _ (d : View) (x : Partition) (p : ℕ) (v : PartView) (applied : List Id) (is : IsPartition d x p v applied) (told : IsTrue d.told) where
