@@ -6,7 +6,7 @@ use Rattle.salt_canonical.specs.Texts.{IsTextOf, definition_in, program_in, tabl
 use Rattle.salt_decisions.specs.Said.{text_of}
 use Rattle.salt_definitions.specs.Fitting.{is_refused, programs_of, tables_of}
 use Rattle.salt_drain.proofs.Refusals.{program_refused, table_refused}
-use Rattle.salt_drain.specs.Definitions.{AreOf, AreOfSome, Defines, FailsToDefine, IsJudged, IsProgramIn, IsTableIn, OpensDefinitions, define_text, defined_by_texts, is_of_table, reading}
+use Rattle.salt_drain.specs.Definitions.{AreOf, AreOfSome, Defines, FailsToDefine, IsJudged, IsProgramIn, IsTableIn, define_text, defined_by_texts, is_of_table, reading}
 use Rattle.salt_drain.specs.declared.error.DefinitionErr.TheVariants.{Memory, Refused}
 use Rattle.salt_drain.specs.declared.error.DefinitionErr.{DefinitionErr}
 use Rattle.salt_model.specs.Kept.{Definition, OfProgram, OfTable, program_of_definition, table_of_definition}
@@ -15,10 +15,10 @@ use Rattle.salt_schema.specs.Refusals.{table_refusal}
 use Rattle.salt_stands.specs.Coordinator.{define, defined_by}
 use Rattle.salt_stands.specs.Reading.{Reading}
 use Rattle.salt_stands.specs.Words.{and_then, given}
-use Rattle.std.proofs.Common.{Bool, Err, List, None, Ok, Option, Result, Some, [], ap, cond, drop, false, get_or, is_ok, is_some, length, not, refl, subst, sym, true, ℕ, ◌+◌, ◌++◌, ◌<◌, ◌≡◌, ◌≤◌, ◌∙◌, ◌∷◌}
+use Rattle.std.proofs.Common.{Err, List, None, Ok, Option, Result, Some, [], ap, cond, drop, false, get_or, is_ok, is_some, length, not, refl, subst, sym, true, ℕ, ◌+◌, ◌++◌, ◌<◌, ◌≡◌, ◌≤◌, ◌∙◌, ◌∷◌}
 use Rattle.std.proofs.lemmas.List.{drop_all, drop_more}
 use Rattle.std.specs.List.{cons_option, filter_map}
-use Rattle.std.specs.Prelude.{OnOk, map, option_map, ◌==◌, ◌↔◌}
+use Rattle.std.specs.Prelude.{OnOk, map, option_map, ◌↔◌}
 
 -- numbers of texts say nothing of what is defined
 pub defined_by_its_texts : {D : Type 0} (r : Reading D) (o : Option (List D)) (ts : List NumberedText) → defined_by r o ts ≡ defined_by_texts r o (map text_of ts)

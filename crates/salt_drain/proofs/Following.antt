@@ -6,7 +6,7 @@ use Rattle.salt_bytes.specs.Coordinator.{Decision}
 use Rattle.salt_bytes.specs.declared.moves.Move.{Move}
 use Rattle.salt_decisions.proofs.Moving.{moved_by_moves, then_rises}
 use Rattle.salt_decisions.specs.Kept.{IsKept}
-use Rattle.salt_decisions.specs.Moves.{moved_by, then_moved}
+use Rattle.salt_decisions.specs.Moves.{moved_by}
 use Rattle.salt_decisions.specs.Said.{move_of}
 use Rattle.salt_decisions.specs.declared.kept.Kept.{Kept}
 use Rattle.salt_definitions.specs.Fitting.{is_cont_of, programs_of}

@@ -1,9 +1,6 @@
 -- A recovery of definitions and then of continuations.
-use Rattle.salt_ast.specs.declared.programs.ProgramDef.{ProgramDef}
-use Rattle.salt_ast.specs.declared.trees.TableDef.{TableDef}
 use Rattle.salt_decisions.specs.Kept.{IsKept}
 use Rattle.salt_decisions.specs.declared.kept.Kept.{Kept}
-use Rattle.salt_definitions.specs.Fitting.{programs_of}
 use Rattle.salt_drain.proofs.Defining.{defined_by_its_texts}
 use Rattle.salt_drain.specs.Conts.{OpensConts, open_conts_of}
 use Rattle.salt_drain.specs.Definitions.{AreOfSome, FailsToDefine, defined_by_texts, reading}

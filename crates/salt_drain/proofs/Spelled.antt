@@ -3,7 +3,7 @@ use Rattle.salt_ast.specs.Spelling.{Passes, Spells, by_parentheses, by_tree}
 use Rattle.salt_ast.specs.declared.limit.LimitName.{LimitName}
 use Rattle.salt_tokens.specs.Spelling.{same_bytes}
 use Rattle.salt_tokens.specs.Symbols.{Symbols, symbols_of}
-use Rattle.std.proofs.Common.{Bool, List, None, Option, Some, [], ap, arith, eqb, false, refl, subst, sym, true, ℕ, ◌&&◌, ◌≡◌, ◌∙◌, ◌∷◌}
+use Rattle.std.proofs.Common.{Bool, List, None, Option, [], ap, arith, eqb, false, refl, subst, sym, true, ℕ, ◌&&◌, ◌≡◌, ◌∙◌, ◌∷◌}
 use Rattle.std.proofs.lemmas.Bool.{eqb-true}
 
 pub same_is : (xs ys : List ℕ) → same_bytes xs ys ≡ true → xs ≡ ys

@@ -1,5 +1,5 @@
 use super::*;
-use salt_decisions::{Kept, Texts};
+use salt_decisions::Kept;
 use salt_values::{Cont, Id, Value};
 use sqlite_items::Items;
 use std::alloc::{AllocError, Global};
@@ -78,7 +78,10 @@ fn logs_are_judged(rt: HostRuntime) -> Result<(), Fail> {
     let both: [&[u8]; 2] = [TABLE, PROGRAM];
     let finish = [2, 0, 0, 0, 0, 0, 0, 0, 1, 0, 0, 0, 0, 0, 0, 0, 1];
     assert_eq!(rt; answer(alloc, 3, &both, 1, 2, &[0])?, Told::Open(1, 1, 1));
-    assert_eq!(rt; answer(alloc, 3, &both, 1, 2, &finish)?, Told::Open(1, 1, 0));
+    assert_eq!(rt;
+        answer(alloc, 3, &both, 1, 2, &finish)?,
+        Told::Open(1, 1, 0)
+    );
     assert_eq!(rt; answer(alloc, 3, &both, 1, 3, &[0])?, Told::NotSalt);
     assert_eq!(rt; answer(alloc, 3, &both, 2, 2, &[0])?, Told::NotSalt);
     assert_eq!(rt; answer(alloc, 3, &both, 0, 2, &finish)?, Told::NotSalt);
@@ -90,7 +93,10 @@ fn logs_are_judged(rt: HostRuntime) -> Result<(), Fail> {
         1, 0, 0, 0, 0, 0, 0, 0, 1, 0, 0, 0, 0, 0, 0, 0, 1, 0, 0, 0, 0, 0, 0, 0, 3, 1, 112, 1, 1, 0,
         0, 0, 0, 0, 0, 0, 5, 0, 0, 0, 0, 2, 1,
     ];
-    assert_eq!(rt; answer(alloc, 3, &both, 0, 0, &goes_on)?, Told::Open(1, 1, 1));
+    assert_eq!(rt;
+        answer(alloc, 3, &both, 0, 0, &goes_on)?,
+        Told::Open(1, 1, 1)
+    );
     assert_eq!(rt; answer(alloc, 2, &both, 0, 0, &goes_on)?, Told::NotSalt);
     assert_eq!(rt;
         answer(alloc, 2, &both, 0, 0, &goes_on[..42])?,

@@ -1,6 +1,6 @@
 use Rattle.salt_drain.proofs.Following.{goes_new}
 use Rattle.salt_drain.proofs.moves.may_go_to.Goals as goal
-use Rattle.std.proofs.Common.{ap, sym, ◌∙◌}
+use Rattle.std.proofs.Common.{ap}
 use Rattle.std.specs.Option.{option_copied}
 
 pub returns-in-None : goal.returns-in-None
