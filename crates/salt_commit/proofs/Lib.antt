@@ -25,3 +25,4 @@ mod Witness
 mod Loaded
 mod Shown
 mod Sound
+mod Reopened

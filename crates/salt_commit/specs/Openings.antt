@@ -61,15 +61,19 @@ named_units p [] ms = []
 named_units p (u ∷ us) [] = []
 named_units p (u ∷ us) (m ∷ ms) = if has_bit m p then u ∷ named_units p us ms else named_units p us ms
 
--- NotSalt exactly of the device that a fault counts against; else the disks or memory failed
+-- NotSalt exactly of a device for which this is so; else the disks or memory failed, and nothing else is answered
+abbrev pub RefusesWhere : (ℕ → Type 0) → OpenErr → Type 0
+RefusesWhere is_fault (NotSalt dev) = is_fault dev
+RefusesWhere is_fault (OtherShape kept asked) = ⊥
+RefusesWhere is_fault (NumbersSpent last decisions) = ⊥
+RefusesWhere is_fault Failed = ⊤
+RefusesWhere is_fault Stopped = ⊥
+RefusesWhere is_fault (Full dev) = ⊥
+RefusesWhere is_fault Memory = ⊤
+
+-- of a partition by itself: the device that its fault counts against
 abbrev pub PartFails : (bytes : ℕ → List ℕ) → (boot : ℕ) → List Id → (p : ℕ) → OpenErr → Type 0
-PartFails bytes boot decided p (NotSalt dev) = part_fault boot decided p bytes ≡ Some dev
-PartFails bytes boot decided p (OtherShape kept asked) = ⊥
-PartFails bytes boot decided p (NumbersSpent last decisions) = ⊥
-PartFails bytes boot decided p Failed = ⊤
-PartFails bytes boot decided p Stopped = ⊥
-PartFails bytes boot decided p (Full dev) = ⊥
-PartFails bytes boot decided p Memory = ⊤
+PartFails bytes boot decided p e = RefusesWhere (λ dev. part_fault boot decided p bytes ≡ Some dev) e
 
 -- WHAT A FIRST OPENING WRITES passes the limit of a device
 
@@ -138,13 +142,7 @@ abbrev pub IsPartFault : Coordinator Definition → (bytes : ℕ → List ℕ) �
 IsPartFault c bytes p dev = (part_at reading c (logs_of bytes) bytes p ≡ Err dev) ⊎ NamesPages bytes p dev
 
 abbrev pub PartRefuses : Coordinator Definition → (bytes : ℕ → List ℕ) → (p : ℕ) → OpenErr → Type 0
-PartRefuses c bytes p (NotSalt dev) = IsPartFault c bytes p dev
-PartRefuses c bytes p (OtherShape kept asked) = ⊥
-PartRefuses c bytes p (NumbersSpent boot decisions) = ⊥
-PartRefuses c bytes p Failed = ⊤
-PartRefuses c bytes p Stopped = ⊥
-PartRefuses c bytes p (Full dev) = ⊥
-PartRefuses c bytes p Memory = ⊤
+PartRefuses c bytes p e = RefusesWhere (IsPartFault c bytes p) e
 
 -- of n partitions this is the first that is refused, and those before it stand
 pub record IsFirstFault (c : Coordinator Definition) (bytes : ℕ → List ℕ) (n dev : ℕ) : Type 0 where
@@ -154,13 +152,7 @@ pub record IsFirstFault (c : Coordinator Definition) (bytes : ℕ → List ℕ) 
   pub fault : IsPartFault c bytes p dev
 
 abbrev pub PartsRefuse : Coordinator Definition → (bytes : ℕ → List ℕ) → (n : ℕ) → OpenErr → Type 0
-PartsRefuse c bytes n (NotSalt dev) = IsFirstFault c bytes n dev
-PartsRefuse c bytes n (OtherShape kept asked) = ⊥
-PartsRefuse c bytes n (NumbersSpent boot decisions) = ⊥
-PartsRefuse c bytes n Failed = ⊤
-PartsRefuse c bytes n Stopped = ⊥
-PartsRefuse c bytes n (Full dev) = ⊥
-PartsRefuse c bytes n Memory = ⊤
+PartsRefuse c bytes n e = RefusesWhere (IsFirstFault c bytes n) e
 
 -- the coordinator stands in the shape that is asked for, and so do the partitions before one that names pages
 pub record LeavesPages (asked : Shape) (bytes : ℕ → List ℕ) (dev : ℕ) : Type 0 where
