@@ -30,7 +30,7 @@ use Rattle.salt_stands.specs.Coordinator.{Coordinator, coordinator_pair, judge_c
 use Rattle.salt_stands.specs.CoordinatorLog.{CoordinatorLog, coordinator_generation, coordinator_in}
 use Rattle.salt_stands.specs.FirstOpening.{first_coordinator, first_view}
 use Rattle.salt_stands.specs.Partition.{part_device}
-use Rattle.salt_stands.specs.Pieces.{PartStands, PartView}
+use Rattle.salt_stands.specs.Pieces.{PartStands}
 use Rattle.salt_stands.specs.Reading.{Reading}
 use Rattle.salt_stands.specs.Stands.{Stands, is_same_kind, is_same_shape, judged, logs_of, nothing_found, of_coordinator}
 use Rattle.salt_values.specs.Placement.{IsParts}

@@ -25,7 +25,7 @@ use Rattle.salt_tokens.specs.Scanning.{first_at, lex, quoted_at}
 use Rattle.salt_tokens.specs.Spelling.{keyword_of, sign_of}
 use Rattle.salt_values.specs.declared.placement.PlaceKind.TheVariants.{Remainder}
 use Rattle.salt_values.specs.declared.placement.Shape.{Shape}
-use Rattle.std.proofs.Common.{IsTrue, List, None, Some, [], ap, false, refl, subst, sym, ℕ, ◌++◌, ◌≡◌, ◌∙◌, ◌∷◌}
+use Rattle.std.proofs.Common.{IsTrue, List, Some, [], ap, false, refl, subst, sym, ℕ, ◌++◌, ◌≡◌, ◌∙◌, ◌∷◌}
 use Rattle.std.specs.Prelude.{codes, not}
 
 pub opens_again : (d : View) (x : Store) (which : WhichLog) (c : Coordinator Definition) (v : ℕ → PartView) → IsStore reading d x which c v → IsTrue d.told → IsSchemaWhere (tables_of c.definitions) (coordinator_pair (logs_of d.bytes))

@@ -31,11 +31,11 @@ use Rattle.salt_stands.specs.Pieces.{PartView, listed}
 use Rattle.salt_stands.specs.Tables.{joined}
 use Rattle.salt_values.specs.declared.id.Id.{Id}
 use Rattle.salt_values.specs.declared.value.Value.{Value}
-use Rattle.std.proofs.Common.{IsTrue, List, None, Option, Some, [], ap, arith, get_or, inl, inr, length, refl, slice_set, subst, sym, ℕ, ◌+◌, ◌++◌, ◌<◌, ◌≡◌, ◌≢◌, ◌⊎◌, ◌∙◌, ◌∷◌}
+use Rattle.std.proofs.Common.{List, None, Option, Some, [], ap, arith, get_or, inl, inr, length, refl, slice_set, subst, sym, ℕ, ◌+◌, ◌++◌, ◌<◌, ◌≡◌, ◌≢◌, ◌⊎◌, ◌∙◌, ◌∷◌}
 use Rattle.std.proofs.lemmas.Bool.{cases_eq}
 use Rattle.std.proofs.lemmas.List.{length-set}
 use Rattle.std.proofs.lemmas.Option.{slice_get_read}
-use Rattle.std.specs.Prelude.{IfSome, slice_get, suc, zero}
+use Rattle.std.specs.Prelude.{IfSome, slice_get, suc}
 
 or_or : (a b c : Option (List Value)) → or_row a (or_row b c) ≡ or_row (or_row a b) c
 or_or None b c = refl

@@ -10,14 +10,14 @@ use Rattle.salt_partition.proofs.Standing.{rows_shown}
 use Rattle.salt_partition.specs.Partitions.{IsPartition}
 use Rattle.salt_partition.specs.declared.partition.Partition.{Partition}
 use Rattle.salt_stands.proofs.Places.{same_tables}
-use Rattle.salt_stands.specs.Commits.{each_tables, found_of, parts_of}
+use Rattle.salt_stands.specs.Commits.{each_tables, found_of}
 use Rattle.salt_stands.specs.Coordinator.{Coordinator}
 use Rattle.salt_stands.specs.Partition.{part_tables}
 use Rattle.salt_stands.specs.Pieces.{PartView, listed}
 use Rattle.salt_stands.specs.Reading.{Reading}
 use Rattle.salt_stands.specs.Tables.{joined}
 use Rattle.salt_values.specs.declared.id.Id.{Id}
-use Rattle.std.proofs.Common.{List, Some, [], ap, arith, length, refl, slice_get, subst, ℕ, ◌+◌, ◌≡◌, ◌∙◌, ◌∷◌}
+use Rattle.std.proofs.Common.{List, [], ap, arith, length, refl, slice_get, subst, ℕ, ◌+◌, ◌≡◌, ◌∙◌, ◌∷◌}
 use Rattle.std.specs.FinMap.Entries.{find}
 use Rattle.std.specs.Prelude.{IfSome, map, suc}
 

@@ -41,12 +41,7 @@ fn key_of(alloc: Global, row: &[Value]) -> Result<Key, AllocError>
 }
 
 /// Puts a row at the place of its key, and gives the key.
-fn put_row(
-    alloc: Global,
-    rows: &mut Tables,
-    table: u16,
-    row: Row,
-) -> Result<Key, AllocError>
+fn put_row(alloc: Global, rows: &mut Tables, table: u16, row: Row) -> Result<Key, AllocError>
     ensures key { IfOk result (λ key. key ≡ key_of row) }
     ensures entries { OnOk result (rows.new.entries ≡ insert_entry place_cmp rows.old.entries (place table (key_of row)) row) }
 {

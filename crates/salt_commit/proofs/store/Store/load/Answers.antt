@@ -2,13 +2,9 @@ use Rattle.salt_commit.proofs.Committed.{answer_is}
 use Rattle.salt_commit.proofs.Loaded.{all_loaded, fewer_left, none_left, one_loaded, rows_of, still_stands, store_unless, typed_rows, whole_part}
 use Rattle.salt_commit.proofs.Sound.{next_meets}
 use Rattle.salt_commit.proofs.store.Store.load.Goals as goal
-use Rattle.salt_commit.specs.Errors.{disk_err_of, store_err}
-use Rattle.salt_commit.specs.Stores.{IsStore, reading}
-use Rattle.salt_disk.proofs.CallAfterCall.{cause_on, keeps_on}
-use Rattle.salt_eval.specs.Meets.{meets_table}
 use Rattle.salt_eval.specs.Views.{next_row}
 use Rattle.salt_gatelog.proofs.Entries.{not_told}
-use Rattle.std.proofs.Common.{None, Some, ap, refl, sym, ◌≡◌, ◌∙◌}
+use Rattle.std.proofs.Common.{None, Some, ap, refl, sym, ◌∙◌}
 use Rattle.std.proofs.lemmas.Result.{err_from_is_err_and}
 
 pub next_in-requires : goal.next_in-requires
