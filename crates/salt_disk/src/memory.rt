@@ -64,18 +64,21 @@ impl MemDisks {
         })
     }
 
-    /// Gives a device another limit. Bytes past it stay.
+    /// Gives a device another limit. Bytes past it stay, and so do the stops and failing calls that are to come.
     pub fn set_limit(&mut self, dev: u32, limit: u64)
         requires { dev < (seen self.old).count }
-        ensures { HasLimit (seen self.old) (seen self.new) dev limit }
+        ensures limit { HasLimit (seen self.old) (seen self.new) dev limit }
+        ensures rest { self.new ≡ record self.old { devices = self.new.devices } }
     {
         limit_at(&mut self.devices, dev as usize, limit);
     }
 
-    /// Gives a device these bytes, whatever its limit, with nothing pending on it. Without memory nothing changes.
+    /// Gives a device these bytes, whatever its limit, with nothing pending on it. The stops and failing calls that are to come stay.
+    /// Without memory nothing changes.
     pub fn set_bytes(&mut self, dev: u32, bytes: &[u8]) -> Result<(), AllocError>
         requires { dev < (seen self.old).count }
         ensures ok { OnOk result (HasBytes (seen self.old) (seen self.new) dev bytes.now) }
+        ensures rest { OnOk result (self.new ≡ record self.old { devices = self.new.devices }) }
         ensures err { OnErr result (self.new ≡ self.old) }
     {
         let held = Vec::from_slice(self.alloc, bytes)?;
