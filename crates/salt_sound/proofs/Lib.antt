@@ -1,0 +1,10 @@
+mod Changes
+mod Defining
+mod Ending
+mod Flying
+mod Keyed
+mod Moving
+mod Naming
+mod Owning
+mod Reading
+mod Starting

@@ -1,0 +1,5 @@
+pub mod Ending
+pub mod Defining
+pub mod Spelled
+pub mod Naming
+pub mod Examples

@@ -1,0 +1,28 @@
+//! Why a line or an opening is broken off.
+
+ghost use Rattle.std.specs.Prelude.{◌≡◌};
+ghost use Rattle.salt_storage.specs.declared.halt.Halt.TheVariants.{Memory};
+
+use std::alloc::AllocError;
+use thiserror::Error;
+
+/// Why a line or an opening is broken off. Behind each of them the storage is opened anew before it is used, or the run ends.
+#[derive(Clone, Copy, Debug, PartialEq, Eq, Error)]
+pub enum Halt {
+    #[error("the devices were stopped")]
+    Stopped,
+    #[error("a device failed")]
+    DiskFault,
+    #[error("device {0} is full")]
+    DeviceFull(u32),
+    #[error("memory ran out")]
+    Memory,
+}
+
+impl From<AllocError> for Halt {
+    ghost from_gives = { λ _ e. e ≡ Memory };
+
+    fn from(_: AllocError) -> Self {
+        Halt::Memory
+    }
+}

@@ -1,0 +1,12 @@
+//! What a database stands on: its rows are read there, and its decisions are made stable there.
+#![tactic(auto)]
+
+mod found;
+mod halt;
+mod open;
+mod storage;
+
+pub use found::{Found, Numbers};
+pub use halt::Halt;
+pub use open::OpenErr;
+pub use storage::Storage;

@@ -1,0 +1,182 @@
+//! The storage of a database.
+
+ghost use Rattle.salt_bytes.specs.declared.moves.Move.{Move};
+ghost use Rattle.salt_canonical.specs.Texts.{definition_in};
+ghost use Rattle.salt_disk.specs.Disks.{HasCause, SameShape, View};
+ghost use Rattle.salt_eval.specs.Views.{tables_of};
+ghost use Rattle.salt_model.specs.Kept.{Definition, Kept, schema_of};
+ghost use Rattle.salt_model.specs.Tables.{Tables};
+ghost use Rattle.salt_storage.specs.Answers.{IsLater, MayFail, disk_err, open_disk_err};
+ghost use Rattle.salt_storage.specs.Storing.{IsFound, IsPartOf, IsSoundKept, MayDecide, MayDefine, Reopens, booted, decided, defined};
+ghost use Rattle.salt_storage.specs.Writing.{FindsNoMore, OfBoot, OfDefinition, OfOpening, OfUnit, Written};
+ghost use Rattle.salt_storage.specs.declared.halt.Halt.TheVariants.{DeviceFull, Stopped};
+ghost use Rattle.salt_storage.specs.declared.open.OpenErr.{OpenErr};
+ghost use Rattle.salt_stands.specs.Stands.{are_spent};
+ghost use Rattle.salt_values.specs.Id.{is_same_id};
+ghost use Rattle.salt_values.specs.declared.cont.Cont.{Cont};
+ghost use Rattle.salt_values.specs.declared.id.Id.{Id};
+ghost use Rattle.std.specs.Prelude.{Err, IfErr, IfOk, IsTrue, List, OnErr, OnOk, Some, false, length, ℕ, ◌+◌, ◌<◌, ◌≡◌, ◌≤◌, ◌⊎◌};
+
+use crate::found::{Found, Numbers};
+use crate::halt::Halt;
+use crate::open::OpenErr;
+use salt_bytes::Move;
+use salt_disk::Disks;
+use salt_eval::Tables;
+use salt_model::Reach;
+use salt_schema::Schema;
+use salt_values::{Changes, Id};
+use std::alloc::AllocError;
+
+/// What a database stands on. After an error of a call it is opened anew before it is used. Contracts see the devices by their
+/// view alone, and what is kept on them by the definitions' record of it.
+pub trait Storage {
+    /// It stands on the devices, and holds what is kept.
+    ghost holds: { View → Self → Kept → Type 0 };
+
+    /// Whatever a stop leaves of the devices, an opening finds the one or the other kept there.
+    ghost leaves: { View → Self → Kept → Kept → Type 0 };
+
+    /// Its devices are there, and nothing is pending on them.
+    ghost settled: { View → Self → Type 0 };
+
+    /// It was not opened yet.
+    ghost unopened: { Self → Type 0 };
+
+    /// An opening of it was broken off by a stop, so what is there may be opened.
+    ghost tried: { View → Self → Type 0 };
+
+    /// Its devices are there, and can be started again.
+    ghost able: { View → Self → Type 0 };
+
+    /// No entry and no decision names the unit.
+    ghost is_new: { View → Self → Id → Type 0 };
+
+    /// An opening of what a stop may leave of the devices answers so.
+    ghost refuses: { View → Self → OpenErr → Type 0 };
+
+    /// An opening of what a stop may leave of the devices finds this.
+    ghost finds: { View → Self → Kept → Type 0 };
+
+    /// What is written next would pass the limit of this device.
+    ghost fills: { View → Self → Written → ℕ → Type 0 };
+
+    /// Opens it at first, and gives what it has found.
+    fn open<D: Disks>(&mut self, disks: &mut D) -> Result<Found, OpenErr>
+        requires settled { settled (D.view disks.old) self.old }
+        requires unopened { unopened self.old }
+        ensures holds { IfOk result (λ found. (k : Kept) × holds (D.view disks.new) self.new k × IsFound found k × finds (D.view disks.old) self.old k) }
+        ensures numbers { IfOk result (λ found. are_spent found.boot found.decisions ≡ false) }
+        ensures refuses { IfErr result (refuses (D.view disks.old) self.old) }
+        ensures still { OnErr result (FindsNoMore (refuses (D.view disks.old) self.old) (finds (D.view disks.old) self.old) (refuses (D.view disks.new) self.new) (finds (D.view disks.new) self.new)) }
+        ensures unopened { OnErr result (unopened self.new) }
+        ensures tried { result ≡ Err (OpenErr.Halted Stopped) → tried (D.view disks.new) self.new }
+        ensures later { tried (D.view disks.old) self.old → IfErr result IsLater }
+        ensures able { OnErr result (able (D.view disks.new) self.new) }
+        ensures full { (dev : ℕ) → result ≡ Err (OpenErr.Halted (DeviceFull dev)) → fills (D.view disks.new) self.new OfOpening dev }
+        ensures shape { SameShape (D.view disks.old) (D.view disks.new) }
+        ensures cause { HasCause (D.view disks.old) (D.view disks.new) (open_disk_err result) };
+
+    /// Opens it anew, after a restart, and gives the numbers that it has found.
+    fn reopen<D: Disks>(&mut self, disks: &mut D) -> Result<Numbers, OpenErr>
+        requires settled { settled (D.view disks.old) self.old }
+        requires left { (a b : Kept) × leaves (D.view disks.old) self.old a b }
+        ensures holds { IfOk result (λ found. (a b : Kept) → leaves (D.view disks.old) self.old a b →
+            Reopens (holds (D.view disks.new) self.new) found a ⊎ Reopens (holds (D.view disks.new) self.new) found b) }
+        ensures numbers { IfOk result (λ found. are_spent found.boot found.decisions ≡ false) }
+        ensures leaves { OnErr result ((a b : Kept) → leaves (D.view disks.old) self.old a b → leaves (D.view disks.new) self.new a b) }
+        ensures known { IfErr result (λ e. (a b : Kept) → leaves (D.view disks.old) self.old a b → MayFail a b e) }
+        ensures full { (dev : ℕ) → result ≡ Err (OpenErr.Halted (DeviceFull dev)) → ⊥ }
+        ensures shape { SameShape (D.view disks.old) (D.view disks.new) }
+        ensures cause { HasCause (D.view disks.old) (D.view disks.new) (open_disk_err result) };
+
+    /// Begins the next boot, and gives its number. Each unit of this boot is new.
+    fn boot<D: Disks>(&mut self, disks: &mut D) -> Result<u64, Halt>
+        requires { (k : Kept) × holds (D.view disks.old) self.old k × (are_spent k.boot k.decisions ≡ false) }
+        ensures number { IfOk result (λ boot. (k : Kept) → holds (D.view disks.old) self.old k → boot ≡ k.boot + 1) }
+        ensures holds { OnOk result ((k : Kept) → holds (D.view disks.old) self.old k → holds (D.view disks.new) self.new (booted k)) }
+        ensures is_new { IfOk result (λ boot. (u : Id) → u.boot ≡ boot → is_new (D.view disks.new) self.new u) }
+        ensures leaves { OnErr result ((k : Kept) → holds (D.view disks.old) self.old k → leaves (D.view disks.new) self.new k (booted k)) }
+        ensures full { (dev : ℕ) → result ≡ Err (DeviceFull dev) → fills (D.view disks.new) self.new OfBoot dev }
+        ensures shape { SameShape (D.view disks.old) (D.view disks.new) }
+        ensures cause { HasCause (D.view disks.old) (D.view disks.new) (disk_err result) };
+
+    /// The rows of a reach, whose table is defined.
+    fn load<D: Disks>(
+        &mut self,
+        disks: &mut D,
+        schema: &Schema,
+        reach: &Reach,
+    ) -> Result<Tables, Halt>
+        requires { (k : Kept) × holds (D.view disks.old) self.old k × (schema.now ≡ schema_of k) × (reach.now.table < length (schema_of k)) }
+        ensures rows { IfOk result (λ rows. (k : Kept) → holds (D.view disks.old) self.old k → (es : Tables) → rows.entries ≡ es.list → IsPartOf reach.now es k.tables) }
+        ensures holds { OnOk result ((k : Kept) → holds (D.view disks.old) self.old k → holds (D.view disks.new) self.new k) }
+        ensures is_new { OnOk result ((u : Id) → is_new (D.view disks.old) self.old u → is_new (D.view disks.new) self.new u) }
+        ensures leaves { OnErr result ((k : Kept) → holds (D.view disks.old) self.old k → leaves (D.view disks.new) self.new k k) }
+        ensures full { (dev : ℕ) → result ≡ Err (DeviceFull dev) → ⊥ }
+        ensures shape { SameShape (D.view disks.old) (D.view disks.new) }
+        ensures cause { HasCause (D.view disks.old) (D.view disks.new) (disk_err result) };
+
+    /// Decides a unit with its changes and its program's move, and gives the number of the decision.
+    fn commit<D: Disks>(
+        &mut self,
+        disks: &mut D,
+        unit: Id,
+        changes: &Changes,
+        made: &Move,
+    ) -> Result<u64, Halt>
+        requires may { (k : Kept) × holds (D.view disks.old) self.old k × ((conts : List Cont) × MayDecide k unit changes.now made.now conts) }
+        requires new { is_new (D.view disks.old) self.old unit }
+        ensures number { IfOk result (λ number. (k : Kept) → holds (D.view disks.old) self.old k → number ≡ k.decisions + 1) }
+        ensures holds { OnOk result ((k : Kept) (conts : List Cont) → holds (D.view disks.old) self.old k → MayDecide k unit changes.now made.now conts
+            → holds (D.view disks.new) self.new (decided k changes.now conts)) }
+        ensures is_new { OnOk result ((u : Id) → is_same_id u unit ≡ false → is_new (D.view disks.old) self.old u → is_new (D.view disks.new) self.new u) }
+        ensures leaves { OnErr result ((k : Kept) (conts : List Cont) → holds (D.view disks.old) self.old k → MayDecide k unit changes.now made.now conts
+            → leaves (D.view disks.new) self.new k (decided k changes.now conts)) }
+        ensures full { (dev : ℕ) → result ≡ Err (DeviceFull dev) → fills (D.view disks.new) self.new (OfUnit unit changes.now made.now) dev }
+        ensures shape { SameShape (D.view disks.old) (D.view disks.new) }
+        ensures cause { HasCause (D.view disks.old) (D.view disks.new) (disk_err result) };
+
+    /// Decides a definition by its canonical text, and gives the number of the decision.
+    fn define<D: Disks>(&mut self, disks: &mut D, text: &[u8]) -> Result<u64, Halt>
+        requires { (k : Kept) × holds (D.view disks.old) self.old k × ((d : Definition) × (definition_in text.now ≡ Some d) × MayDefine k d) }
+        ensures number { IfOk result (λ number. (k : Kept) → holds (D.view disks.old) self.old k → number ≡ k.decisions + 1) }
+        ensures holds { OnOk result ((k : Kept) (d : Definition) → holds (D.view disks.old) self.old k → definition_in text.now ≡ Some d → MayDefine k d
+            → holds (D.view disks.new) self.new (defined k d)) }
+        ensures is_new { OnOk result ((u : Id) → is_new (D.view disks.old) self.old u → is_new (D.view disks.new) self.new u) }
+        ensures leaves { OnErr result ((k : Kept) (d : Definition) → holds (D.view disks.old) self.old k → definition_in text.now ≡ Some d → MayDefine k d
+            → leaves (D.view disks.new) self.new k (defined k d)) }
+        ensures full { (dev : ℕ) → result ≡ Err (DeviceFull dev) → fills (D.view disks.new) self.new (OfDefinition text.now) dev }
+        ensures shape { SameShape (D.view disks.old) (D.view disks.new) }
+        ensures cause { HasCause (D.view disks.old) (D.view disks.new) (disk_err result) };
+
+    /// Arms a stop at the n-th write or sync from when its turn comes; `pick` chooses the image that it leaves.
+    fn arm<D: Disks>(&mut self, disks: &mut D, calls: u64, pick: u8) -> Result<(), AllocError>
+        requires able { IsTrue (D.view disks.old).can_stop }
+        requires pick { pick ≤ 4 }
+        ensures ok { OnOk result ((D.view disks.new).stops_left ≡ (D.view disks.old).stops_left + 1) }
+        ensures err { OnErr result ((D.view disks.new).stops_left ≡ (D.view disks.old).stops_left) }
+        ensures faults { (D.view disks.new).faults ≡ (D.view disks.old).faults }
+        ensures shape { SameShape (D.view disks.old) (D.view disks.new) }
+        ensures holds { (k : Kept) → holds (D.view disks.old) self.old k → holds (D.view disks.new) self.new k }
+        ensures is_new { (u : Id) → is_new (D.view disks.old) self.old u → is_new (D.view disks.new) self.new u };
+
+    /// Starts the devices again, after a fault or a stop.
+    fn restart<D: Disks>(&mut self, disks: &mut D)
+        requires { able (D.view disks.old) self.old }
+        ensures settled { settled (D.view disks.new) self.new }
+        ensures still { FindsNoMore (refuses (D.view disks.old) self.old) (finds (D.view disks.old) self.old) (refuses (D.view disks.new) self.new) (finds (D.view disks.new) self.new) }
+        ensures unopened { unopened self.old → unopened self.new }
+        ensures tried { tried (D.view disks.old) self.old → tried (D.view disks.new) self.new }
+        ensures leaves { (a b : Kept) → leaves (D.view disks.old) self.old a b → leaves (D.view disks.new) self.new a b }
+        ensures faults { (D.view disks.new).faults ≡ (D.view disks.old).faults }
+        ensures stops { (D.view disks.new).stops_left ≡ (D.view disks.old).stops_left }
+        ensures shape { SameShape (D.view disks.old) (D.view disks.new) };
+
+    /// A law: what it holds may be kept, and a stop leaves it; and what is left can be started again.
+    fn stands<D: Disks>(&self, disks: &D)
+        ensures sound { (k : Kept) → holds (D.view disks.now) self.now k → IsSoundKept k }
+        ensures stays { (k : Kept) → holds (D.view disks.now) self.now k → leaves (D.view disks.now) self.now k k }
+        ensures able { (a b : Kept) → leaves (D.view disks.now) self.now a b → able (D.view disks.now) self.now }
+        ensures settled { settled (D.view disks.now) self.now → able (D.view disks.now) self.now };
+}
