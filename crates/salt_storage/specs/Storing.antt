@@ -15,7 +15,7 @@ use Rattle.salt_types.specs.Typed.{AreChangesOf, IsTyped}
 use Rattle.salt_values.specs.declared.change.Change.{Change}
 use Rattle.salt_values.specs.declared.cont.Cont.{Cont}
 use Rattle.salt_values.specs.declared.id.Id.{Id}
-use Rattle.std.specs.Prelude.{List, None, Option, Some, [], false, if◌then◌else◌, true, ℕ, ⊤, ◌+◌, ◌++◌, ◌∷◌, ◌≡◌, ◌≤◌}
+use Rattle.std.specs.Prelude.{List, None, Some, [], false, if◌then◌else◌, true, ◌+◌, ◌++◌, ◌∷◌, ◌≡◌, ◌≤◌}
 
 -- some text spells the definition, and no limit is passed
 abbrev pub IsSpelledDefinition : Definition → Type 0

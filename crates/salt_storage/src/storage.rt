@@ -3,7 +3,6 @@
 ghost use Rattle.salt_bytes.specs.declared.moves.Move.{Move};
 ghost use Rattle.salt_canonical.specs.Texts.{definition_in};
 ghost use Rattle.salt_disk.specs.Disks.{HasCause, SameShape, View};
-ghost use Rattle.salt_eval.specs.Views.{tables_of};
 ghost use Rattle.salt_model.specs.Kept.{Definition, Kept, schema_of};
 ghost use Rattle.salt_model.specs.Tables.{Tables};
 ghost use Rattle.salt_storage.specs.Answers.{IsLater, MayFail, disk_err, open_disk_err};
