@@ -1,6 +1,7 @@
 pub mod Ascending
 pub mod LocksAfter
 pub mod KeptTable
+pub mod Numbering
 pub mod Abandoned
 pub mod Writers
 pub mod Pairs

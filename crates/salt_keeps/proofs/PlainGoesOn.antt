@@ -1,6 +1,7 @@
 -- The state by lists goes on as states do, and is read by closures in rounds.
 use Rattle.salt_keeps.proofs.Closures.{any-in, into-any}
 use Rattle.salt_keeps.proofs.KeptTable.{append-rises, fate-below, fate-rises}
+use Rattle.salt_keeps.proofs.Numbering.{below-counted}
 use Rattle.salt_keeps.proofs.PairLists.{all_sources-exact, due_in-exact}
 use Rattle.salt_keeps.specs.KeptLocks.{AreBelow, Numbered, Sooner, is_owned_by, lock_taken, on_lock}
 use Rattle.salt_keeps.specs.KeptSources.{FinishedAfter, WritesIn, given_up, unless_among}
@@ -254,17 +255,10 @@ won-one f e = omega arith
 
 pub turn-stays : (f : UnitFacts) (e : Event) (w : PlainWatch) → IsInTurn w → IsInTurn (watch_after f e w)
 turn-stays f e w h = record {
-  rises = append-rises (filter_map (on_lock (fate_by f e)) w.table) (won_by f e) w.taken (won-one f e) (fate-rises (fate_by f e) w.table h.rises) below;
-  below = λ n i. either (λ j. let b = below n j in omega arith) (λ j. new n (won_by f e) j) (in-cases n (filter_map (on_lock (fate_by f e)) w.table) _ i);
+  rises = append-rises (filter_map (on_lock (fate_by f e)) w.table) (won_by f e) w.taken (won-one f e)
+      (fate-rises (fate_by f e) w.table h.rises) (fate-below (fate_by f e) w.taken w.table h.below);
+  below = below-counted f e w.taken w.table h.below;
 }
-  where
-    below : AreBelow w.taken (filter_map (on_lock (fate_by f e)) w.table)
-    below = fate-below (fate_by f e) w.taken w.table h.below
-
-    new : (n : Numbered) (ls : List Lock) → In n (map (λ l. record { number = w.taken; lock = l }) ls) → n.number < w.taken + length ls
-    new n [] j = absurd j
-    new n (l ∷ ls) (inl q) = subst (λ (y : Numbered). y.number < w.taken + length (l ∷ ls)) q (omega arith)
-    new n (l ∷ ls) (inr j) = let b = new n ls j in omega arith
 
 -- and what is computed of them is a reading
 filter-rises : (test : Numbered → Bool) (ns : List Numbered) → Ascends Sooner ns → Ascends Sooner (filter test ns)

@@ -10,7 +10,7 @@ use Rattle.salt_keeps.specs.PairClosures.{Pair, dependencies_of}
 use Rattle.salt_keeps.specs.States.{State, name_at, named_by}
 use Rattle.salt_keeps.specs.Steps.{units_after, units_asked, units_at, units_turned}
 use Rattle.salt_keeps.specs.UnitFacts.{UnitFacts, facts_in}
-use Rattle.salt_keeps.specs.WatchSteps.{base_by, first_by, table_by, waits_by, won_by}
+use Rattle.salt_keeps.specs.WatchSteps.{base_by, counted_by, first_by, table_by, waits_by}
 use Rattle.salt_keeps.specs.Watches.{Watch}
 use Rattle.salt_model.specs.Tables.{is_within, place_cmp}
 use Rattle.salt_model.specs.Trace.{Asked, Start, Trace, from, ◌asks◌, ◌says◌, ◌turns◌}
@@ -26,7 +26,7 @@ use Rattle.salt_values.specs.declared.id.Id.{Id}
 use Rattle.std.specs.Bool.{then_some}
 use Rattle.std.specs.FinMap.Entries.{find, where_key}
 use Rattle.std.specs.List.{filter, filter_map}
-use Rattle.std.specs.Prelude.{Bool, List, None, Option, Some, [], if◌then◌else◌, is_some, length, map, not, option_and_then, ℕ, ◌&&◌, ◌++◌, ◌+◌, ◌∷◌}
+use Rattle.std.specs.Prelude.{Bool, List, None, Option, Some, [], if◌then◌else◌, is_some, map, not, option_and_then, ℕ, ◌&&◌, ◌++◌, ◌∷◌}
 
 pub record PlainWatch : Type 0 where
   pub table : List Numbered
@@ -87,7 +87,7 @@ finished_after e bs = bs
 abbrev pub watch_after : UnitFacts → Event → PlainWatch → PlainWatch
 watch_after f e w = record {
   table = table_by f w.taken e w.table;
-  taken = w.taken + length (won_by f e);
+  taken = counted_by f e w.taken;
   waits = waits_by f e w.waits;
   programs = unreleased_after e w.programs;
   writers = writers_after f e w.writers;

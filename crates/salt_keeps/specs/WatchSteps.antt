@@ -47,6 +47,11 @@ won_by f e = []
 abbrev pub table_by : UnitFacts → ℕ → Event → List Numbered → List Numbered
 table_by f k e table = filter_map (on_lock (fate_by f e)) table ++ map (λ l. record { number = k; lock = l }) (won_by f e)
 
+-- how many locks were taken since the last opening
+abbrev pub counted_by : UnitFacts → Event → ℕ → ℕ
+counted_by f Ready n = 0
+counted_by f e n = n + length (won_by f e)
+
 -- waits
 
 abbrev pub waits_by : UnitFacts → Event → List Asker → List Asker
@@ -79,7 +84,7 @@ pub record DependenciesBy (f : UnitFacts) (e : Event) (old new : Dependencies) :
 -- the whole
 pub record WatchBy (f : UnitFacts) (e : Event) (old new : Watch) : Type 0 where
   pub locks : SameMembers new.table (table_by f old.taken e old.table)
-  pub taken : new.taken ≡ old.taken + length (won_by f e)
+  pub taken : new.taken ≡ counted_by f e old.taken
   pub waits : new.waits ≡ waits_by f e old.waits
   pub programs : new.programs ≡ unreleased_after e old.programs
   pub dependencies : DependenciesBy f e old.dependencies new.dependencies

@@ -9,7 +9,7 @@ use Rattle.salt_keeps.specs.LockCalls.{HasDropped, HasSalted, HasTaken}
 use Rattle.salt_keeps.specs.KeptWaits.{Asker, drop_asker}
 use Rattle.salt_keeps.specs.Members.{SameMembers}
 use Rattle.salt_keeps.specs.UnitFacts.{UnitFacts}
-use Rattle.salt_keeps.specs.WatchSteps.{DependenciesBy, WatchBy, base_by, first_by, table_by, waits_by, won_by, writer_by}
+use Rattle.salt_keeps.specs.WatchSteps.{DependenciesBy, WatchBy, base_by, counted_by, first_by, table_by, waits_by, won_by, writer_by}
 use Rattle.salt_keeps.specs.KeptPrograms.{unreleased_after}
 use Rattle.salt_keeps.specs.Watches.{Watch}
 use Rattle.salt_ast.specs.declared.trees.Statement.{Statement}
@@ -42,7 +42,7 @@ use Rattle.std.specs.Prelude.{Bool, List, None, Option, Some, [], cond, false, l
 
 -- of any call: what it makes of each part
 pub goes : (d : Dependencies) (old x : Watching) (w : Watch) (f : UnitFacts) (e : Event) → IsWatchBeside d old w →
-    SameMembers x.locks (table_by f old.taken e old.locks) → x.taken ≡ old.taken + length (won_by f e) →
+    SameMembers x.locks (table_by f old.taken e old.locks) → x.taken ≡ counted_by f e old.taken →
     map waiter_of (waits_by f e w.waits) ≡ x.waits.items → x.programs.items ≡ unreleased_after e old.programs.items →
     DependenciesBy f e d (dependencies x.deps) → GoesBy f e w x
 goes d old x w f e s table taken waits programs deps =
