@@ -1,13 +1,12 @@
 -- What the end of a unit leaves kept.
 use Rattle.salt_books.specs.Ends.{IsUndecided}
 use Rattle.salt_keeps.specs.OpenUnits.{OpenUnit}
-use Rattle.salt_keeps.specs.Overlays.{with_edits}
+use Rattle.salt_keeps.specs.Overlays.{edits_of, with_edits}
 use Rattle.salt_keeps.specs.Steps.{kept_ended}
 use Rattle.salt_model.specs.Kept.{Kept}
 use Rattle.salt_model.specs.Tables.{Tables, make_change, with_changes}
 use Rattle.salt_model.specs.declared.events.End.TheVariants.{Branched, Committed, Cut, Failed, RolledBack, Victim}
 use Rattle.salt_model.specs.declared.events.End.{End}
-use Rattle.salt_units.specs.Edited.{edits_of}
 use Rattle.salt_values.specs.declared.change.Change.{Change}
 use Rattle.std.specs.Prelude.{List, Option, [], refl, ◌∷◌, ◌≡◌}
 

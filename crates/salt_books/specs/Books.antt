@@ -6,12 +6,12 @@ use Rattle.salt_books.specs.declared.books.Books.{Books}
 use Rattle.salt_books.specs.declared.held.Held.{Held}
 use Rattle.salt_eval.specs.Scans.{IsKeyed}
 use Rattle.salt_keeps.specs.OpenUnits.{OpenUnit, UnitState, belongs_to_program, belongs_to_session, unit_named}
+use Rattle.salt_keeps.specs.Overlays.{edits_of}
 use Rattle.salt_keeps.specs.Steps.{doing_one, outcome_under}
 use Rattle.salt_model.specs.Kept.{Kept, programs_of, schema_of}
 use Rattle.salt_model.specs.Words.{Every}
 use Rattle.salt_model.specs.declared.events.Answer.{Answer}
 use Rattle.salt_store.specs.Stores.{IsAtPart, IsStore}
-use Rattle.salt_units.specs.Edited.{edits_of}
 use Rattle.salt_values.specs.declared.id.Id.{Id}
 use Rattle.std.specs.Prelude.{Bool, IfSome, IsSome, List, Some, map, ℕ, ◌≡◌}
 

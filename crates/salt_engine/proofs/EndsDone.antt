@@ -19,7 +19,7 @@ use Rattle.salt_engine.specs.declared.follow.Follow.TheVariants.{Finish, Nothing
 use Rattle.salt_keeps.specs.DependencyCalls.{IsCommitted}
 use Rattle.salt_keeps.specs.Members.{In}
 use Rattle.salt_keeps.specs.OpenUnits.{OpenUnit, UnitState, unit_named}
-use Rattle.salt_keeps.specs.Overlays.{Edit}
+use Rattle.salt_keeps.specs.Overlays.{Edit, edits_of}
 use Rattle.salt_keeps.specs.Readings.{first_parts}
 use Rattle.salt_keeps.specs.States.{State}
 use Rattle.salt_keeps.specs.Steps.{units_after}
@@ -36,7 +36,6 @@ use Rattle.salt_model.specs.declared.events.Event.TheVariants.{Ended}
 use Rattle.salt_model.specs.declared.events.Event.{Event}
 use Rattle.salt_model.specs.declared.events.UnitKind.TheVariants.{Acid, Call, First, Later}
 use Rattle.salt_model.specs.declared.events.UnitKind.{UnitKind}
-use Rattle.salt_units.specs.Edited.{edits_of}
 use Rattle.salt_values.specs.declared.change.Change.{Change}
 use Rattle.salt_values.specs.declared.id.Id.{Id}
 use Rattle.salt_watch.specs.Watched.{GoesBy, IsWatch, place_of}

@@ -1,9 +1,8 @@
 -- Changes and the edits that they are.
 use Rattle.salt_ast.specs.declared.trees.TableDef.{TableDef}
 use Rattle.salt_bytes.specs.Changes.{are_in_order, change_cmp}
-use Rattle.salt_keeps.specs.Overlays.{AreInOrder, with_edits}
+use Rattle.salt_keeps.specs.Overlays.{AreInOrder, edits_of, with_edits}
 use Rattle.salt_model.specs.Tables.{Tables, changed_at, make_change, place_cmp, with_changes}
-use Rattle.salt_sound.specs.Ending.{edits_of}
 use Rattle.salt_types.specs.Typed.{AreChangesOf, AreEditsOf}
 use Rattle.salt_values.specs.declared.change.Change.{Change}
 use Rattle.std.specs.FinMap.Entries.{below_all, is_sorted}

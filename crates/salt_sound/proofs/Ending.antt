@@ -2,7 +2,7 @@
 use Rattle.salt_keeps.specs.Keeps.{KeepsUnit, KeepsUnits}
 use Rattle.salt_keeps.specs.Laws.{IsSound}
 use Rattle.salt_keeps.specs.OpenUnits.{OpenUnit, UnitState, unit_named}
-use Rattle.salt_keeps.specs.Overlays.{AreInOrder, Edit, with_edits}
+use Rattle.salt_keeps.specs.Overlays.{AreInOrder, Edit, edits_of, with_edits}
 use Rattle.salt_keeps.specs.Steps.{kept_ended, units_after}
 use Rattle.salt_keeps.specs.Told.{next_decision}
 use Rattle.salt_bytes.specs.declared.moves.Move.{Move}
@@ -17,7 +17,7 @@ use Rattle.salt_model.specs.declared.events.End.{End}
 use Rattle.salt_model.specs.declared.events.Event.TheVariants.{Ended}
 use Rattle.salt_sound.proofs.Changes.{changes-fit, changes-made, changes-ordered}
 use Rattle.salt_sound.proofs.Moving.{move-rises}
-use Rattle.salt_sound.specs.Ending.{EndsNext, MayEnd, edits_of}
+use Rattle.salt_sound.specs.Ending.{EndsNext, MayEnd}
 use Rattle.salt_storage.specs.Storing.{decided}
 use Rattle.salt_stands.specs.OpenConts.{make_move}
 use Rattle.salt_types.specs.States.{AreOfTheirTypes, IsTypedOpen}

@@ -3,10 +3,8 @@ use Rattle.salt_bytes.specs.declared.moves.Move.{Move}
 use Rattle.salt_keeps.specs.Keeps.{KeepsUnits}
 use Rattle.salt_keeps.specs.Laws.{IsSound}
 use Rattle.salt_keeps.specs.OpenUnits.{OpenUnit, UnitState, unit_named}
-use Rattle.salt_keeps.specs.Overlays.{Edit}
 use Rattle.salt_keeps.specs.Steps.{units_after}
 use Rattle.salt_model.specs.Next.{next}
-use Rattle.salt_model.specs.Tables.{changed_at}
 use Rattle.salt_model.specs.Trace.{Trace, lines_of, start_of}
 use Rattle.salt_model.specs.Words.{Every}
 use Rattle.salt_model.specs.declared.events.End.{End}
@@ -16,7 +14,7 @@ use Rattle.salt_types.specs.Played.{HasKey}
 use Rattle.salt_types.specs.Typed.{IsTyped}
 use Rattle.salt_values.specs.declared.change.Change.{Change}
 use Rattle.salt_values.specs.declared.cont.Cont.{Cont}
-use Rattle.std.specs.Prelude.{List, Some, map, ◌≡◌}
+use Rattle.std.specs.Prelude.{List, Some, ◌≡◌}
 
 -- The state of a trace that is played, from a start that fits its definitions and over lines whose tables have keys; and what is
 -- kept there may be kept.
@@ -32,10 +30,6 @@ pub record EndsNext (s : UnitState) (trace : Trace) (o : OpenUnit) (end : End) :
   pub state : IsSoundState s trace
   pub is_open : unit_named o.unit s.units ≡ Some o
   pub comes : next trace ≡ Some (Ended o.unit end)
-
--- changes as edits of tables
-abbrev pub edits_of : List Change → List Edit
-edits_of cs = map (λ (c : Change). (changed_at c, c.row)) cs
 
 -- the end may be decided with these changes and this move, and what is kept behind the decision is what the event leaves
 pub record MayEnd (s : UnitState) (o : OpenUnit) (end : End) (cs : List Change) (m : Move) (conts : List Cont) : Type 0 where

@@ -1,12 +1,12 @@
 -- Edits of changes: what is at a place, and the first at a place that passes a test.
 use Rattle.salt_eval.proofs.InOrder.{joined, less_is, parted}
-use Rattle.salt_keeps.specs.Overlays.{AreInOrder}
+use Rattle.salt_keeps.specs.Overlays.{AreInOrder, edits_of}
 use Rattle.salt_laws.proofs.Places.{equal-is, place_same}
 use Rattle.salt_model.specs.Tables.{changed_at, place_cmp, place_total}
 use Rattle.salt_model.specs.declared.places.Place.{Place}
 use Rattle.salt_units.proofs.Firsts.{below-less, below-none}
 use Rattle.salt_units.proofs.Searches.{at-place}
-use Rattle.salt_units.specs.Edited.{edits_of, is_change_at}
+use Rattle.salt_units.specs.Edited.{is_change_at}
 use Rattle.salt_values.specs.declared.change.Change.{Change}
 use Rattle.std.proofs.Common.{ap, subst, sym, ◌∙◌}
 use Rattle.std.proofs.lemmas.Cmp.{tied_itself}

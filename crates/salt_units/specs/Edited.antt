@@ -1,6 +1,5 @@
 -- A unit's changes as edits of tables, and the next of them in a range.
 use Rattle.salt_eval.specs.Views.{is_behind, is_next}
-use Rattle.salt_keeps.specs.Overlays.{Edit}
 use Rattle.salt_model.specs.Tables.{changed_at, key_of}
 use Rattle.salt_model.specs.declared.places.Place.{Place}
 use Rattle.salt_ranges.specs.Ranges.{is_above_low}
@@ -8,13 +7,7 @@ use Rattle.salt_ranges.specs.declared.range.KeyRange.{KeyRange}
 use Rattle.salt_values.specs.Value.{is_same_value, is_value_below}
 use Rattle.salt_values.specs.declared.change.Change.{Change}
 use Rattle.salt_values.specs.declared.value.Value.{Value}
-use Rattle.std.specs.Prelude.{Bool, IfSome, List, None, Option, Some, false, if◌then◌else◌, map, nat_lt, not, ℕ, ◌&&◌, ◌==◌, ◌≡◌}
-
-abbrev pub edit_of : Change → Edit
-edit_of c = (changed_at c, c.row)
-
-abbrev pub edits_of : List Change → List Edit
-edits_of cs = map edit_of cs
+use Rattle.std.specs.Prelude.{Bool, IfSome, List, None, Option, Some, false, if◌then◌else◌, nat_lt, not, ℕ, ◌&&◌, ◌==◌, ◌≡◌}
 
 abbrev pub is_change_at : Place → Change → Bool
 is_change_at p c = (p.table == c.table) && is_same_value p.key c.key

@@ -4,10 +4,9 @@ ghost use Rattle.std.specs.Prelude.{◌≡◌, IfOk};
 ghost use Rattle.salt_eval.specs.Effects.{IsEffect};
 ghost use Rattle.salt_eval.specs.Scans.{IsKeyed};
 ghost use Rattle.salt_eval.specs.Views.{CountsFaults};
-ghost use Rattle.salt_keeps.specs.Overlays.{AreInOrder, with_edits};
+ghost use Rattle.salt_keeps.specs.Overlays.{AreInOrder, edits_of, with_edits};
 ghost use Rattle.salt_model.specs.Statements.{outcome_of};
 ghost use Rattle.salt_units.specs.Acting.{HaveTheirKeys};
-ghost use Rattle.salt_units.specs.Edited.{edits_of};
 
 use crate::overlay::Overlay;
 use salt_ast::Statement;

@@ -3,10 +3,10 @@
 ghost use Rattle.std.specs.Prelude.{◌≡◌, ◌≤◌, IfOk, find, length};
 ghost use Rattle.std.specs.Option.{option_copied};
 ghost use Rattle.salt_eval.specs.Views.{is_behind};
-ghost use Rattle.salt_keeps.specs.Overlays.{AreInOrder};
+ghost use Rattle.salt_keeps.specs.Overlays.{AreInOrder, edits_of};
 ghost use Rattle.salt_model.specs.Tables.{changed_at, place, place_cmp};
 ghost use Rattle.salt_ranges.specs.Ranges.{is_above_low};
-ghost use Rattle.salt_units.specs.Edited.{edits_of, is_change_at, is_next_change, is_passed, is_sooner};
+ghost use Rattle.salt_units.specs.Edited.{is_change_at, is_next_change, is_passed, is_sooner};
 ghost use Rattle.salt_units.specs.Putting.{ArePassed, is_before};
 
 use salt_ranges::KeyRange;

@@ -1,7 +1,7 @@
+use Rattle.salt_keeps.specs.Overlays.{edits_of}
 use Rattle.salt_units.proofs.Keyed.{keyed-under}
 use Rattle.salt_units.proofs.Overlaid.{rows-keyed}
 use Rattle.salt_units.proofs.acting.execute_under.Goals as goal
-use Rattle.salt_units.specs.Edited.{edits_of}
 
 pub invariant_of-overlay-clause-keyed : goal.invariant_of-overlay-clause-keyed
 invariant_of-overlay-clause-keyed g c = rows-keyed (g.V.RowView.tables c.args.view.now) c.requires.keyed

@@ -1,9 +1,9 @@
 use Rattle.salt_eval.specs.Views.{next_row}
-use Rattle.salt_keeps.specs.Overlays.{with_edits}
+use Rattle.salt_keeps.specs.Overlays.{edits_of, with_edits}
 use Rattle.salt_units.proofs.Fewer.{fewer-behind}
 use Rattle.salt_units.proofs.Overlaid.{next-below, next-put, next-skipped, sooner-next}
 use Rattle.salt_units.proofs.merging.next_under.Goals as goal
-use Rattle.salt_units.specs.Edited.{edits_of, is_next_change, is_sooner}
+use Rattle.salt_units.specs.Edited.{is_next_change, is_sooner}
 use Rattle.std.proofs.Common.{IfOk, None, Some, ap, false, find, length, subst, sym, true, ◌<◌, ◌∙◌, ◌≡◌}
 use Rattle.std.specs.List.{filter}
 use Rattle.std.specs.Option.{option_copied}

@@ -1,7 +1,7 @@
 use Rattle.salt_eval.specs.Views.{next_row}
-use Rattle.salt_keeps.specs.Overlays.{with_edits}
+use Rattle.salt_keeps.specs.Overlays.{edits_of, with_edits}
 use Rattle.salt_units.proofs.merging.next_under.Given as goal
-use Rattle.salt_units.specs.Edited.{edits_of, is_next_change}
+use Rattle.salt_units.specs.Edited.{is_next_change}
 use Rattle.std.proofs.Common.{length, ◌≡◌}
 use Rattle.std.specs.List.{filter}
 

@@ -1,9 +1,8 @@
-use Rattle.salt_keeps.specs.Overlays.{AreInOrder}
+use Rattle.salt_keeps.specs.Overlays.{AreInOrder, edits_of}
 use Rattle.salt_model.specs.Tables.{changed_at}
 use Rattle.salt_units.proofs.Places.{before, behind, in-order-put, placed-at, set-parts, there}
 use Rattle.salt_units.proofs.putting.put_change.Goals as goal
 use Rattle.salt_units.proofs.putting.put_change.Goals.{else-at-len-via-else-at-len, else-at-len-via-then-at-len+else-is_change_at}
-use Rattle.salt_units.specs.Edited.{edits_of}
 use Rattle.salt_units.specs.Putting.{ArePassed, is_before, put_change}
 use Rattle.salt_values.specs.declared.change.Change.{Change}
 use Rattle.std.proofs.Common.{List, ap, arith, drop, length, subst, sym, take, ◌++◌, ◌<◌, ◌∙◌, ◌≡◌, ◌≤◌}

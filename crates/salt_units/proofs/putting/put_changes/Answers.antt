@@ -1,6 +1,6 @@
+use Rattle.salt_keeps.specs.Overlays.{edits_of}
 use Rattle.salt_units.proofs.Places.{each-edits}
 use Rattle.salt_units.proofs.putting.put_changes.Goals as goal
-use Rattle.salt_units.specs.Edited.{edits_of}
 use Rattle.salt_units.specs.Putting.{put_each}
 use Rattle.std.proofs.Common.{ap, reverse, ◌∙◌}
 use Rattle.std.proofs.lemmas.List.{reverse-reverse}

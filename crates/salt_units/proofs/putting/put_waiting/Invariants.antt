@@ -1,6 +1,5 @@
-use Rattle.salt_keeps.specs.Overlays.{AreInOrder}
+use Rattle.salt_keeps.specs.Overlays.{AreInOrder, edits_of}
 use Rattle.salt_units.proofs.putting.put_waiting.Given as goal
-use Rattle.salt_units.specs.Edited.{edits_of}
 use Rattle.salt_units.specs.Putting.{put_each}
 use Rattle.std.proofs.Common.{reverse, vec_capacity, vec_len, ◌+◌, ◌≡◌, ◌≤◌}
 

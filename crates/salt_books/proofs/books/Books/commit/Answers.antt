@@ -5,13 +5,13 @@ use Rattle.salt_books.specs.Books.{AsksLeaveKeys, seen}
 use Rattle.salt_books.specs.LeavingKeys.{AllLeaveKeys}
 use Rattle.salt_eval.specs.Scans.{IsKeyed}
 use Rattle.salt_keeps.specs.OpenUnits.{OpenUnit, unit_named, without_unit}
+use Rattle.salt_keeps.specs.Overlays.{edits_of}
 use Rattle.salt_laws.proofs.Every.{every-filter}
 use Rattle.salt_keeps.specs.Steps.{kept_committed, kept_ended}
 use Rattle.salt_keeps.specs.Told.{next_decision}
 use Rattle.salt_model.specs.Kept.{Kept, programs_of, schema_of}
 use Rattle.salt_model.specs.declared.events.End.TheVariants.{Committed}
 use Rattle.salt_store.specs.Stores.{AllLeadOn, IsStore}
-use Rattle.salt_units.specs.Edited.{edits_of}
 use Rattle.std.proofs.Common.{Some, ap, subst, sym, ◌+◌, ◌∙◌, ◌≡◌}
 use Rattle.salt_values.specs.Id.{is_same_id}
 use Rattle.std.specs.Prelude.{map, not}

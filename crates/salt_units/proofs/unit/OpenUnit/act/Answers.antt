@@ -1,5 +1,5 @@
 use Rattle.salt_eval.specs.Effects.{IsEffect}
-use Rattle.salt_keeps.specs.Overlays.{AreInOrder, Edit, put_all, with_edits}
+use Rattle.salt_keeps.specs.Overlays.{AreInOrder, Edit, edits_of, put_all, with_edits}
 use Rattle.salt_model.specs.Statements.{outcome_of}
 use Rattle.salt_model.specs.Words.{Every}
 use Rattle.salt_model.specs.declared.vars.Binding.{Binding}
@@ -8,7 +8,7 @@ use Rattle.salt_units.proofs.Keyed.{in-order-put-all, keyed-under, keys-put-all}
 use Rattle.salt_units.proofs.Variables.{outcome-stores}
 use Rattle.salt_units.proofs.unit.OpenUnit.act.Goals as goal
 use Rattle.salt_units.specs.Acting.{HaveTheirKeys, stored_by, vars_with}
-use Rattle.salt_units.specs.Edited.{HasItsKey, edits_of}
+use Rattle.salt_units.specs.Edited.{HasItsKey}
 use Rattle.salt_values.specs.declared.change.Change.{Change}
 use Rattle.std.proofs.Common.{List, Option, ap, subst, sym, ◌∙◌}
 
