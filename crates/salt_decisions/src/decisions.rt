@@ -3,13 +3,14 @@
 ghost use Rattle.salt_bytes.specs.Coordinator.{Boots, CoordinatorEntry, Decides, Defines, entry_in, spell_entry};
 ghost use Rattle.salt_bytes.specs.Generations.{WhichLog};
 ghost use Rattle.salt_decisions.specs.Decisions.{HasSameEntries, IsBeforeOrWith, IsCounting, IsDecisions, IsSnapshotImage, booted, count_in, decided, defined, definitions_in, device_in, format_of, gate_in, last_boot, last_decision, log_with, next_decision, next_definition, open_conts, shape_of, snapshot_payload, snapshotted};
-ghost use Rattle.salt_disk.specs.Disks.{EachImage, FullExactly, FullOnly, HasCause, KeepsOthers};
+ghost use Rattle.salt_disk.specs.Disks.{EachImage, FullExactly, FullOnly, HasCause, IsUnchanged, KeepsOthers};
+ghost use Rattle.salt_disk.specs.declared.disks.DiskErr.TheVariants.{Full};
 ghost use Rattle.salt_gatelog.specs.Log as gates;
 ghost use Rattle.salt_gatelog.specs.Log.{gate_of};
 ghost use Rattle.salt_stands.specs.Coordinator.{device_of};
 ghost use Rattle.salt_stands.specs.CoordinatorLog.{CoordinatorLog, Told, tell};
 ghost use Rattle.salt_stands.specs.Pieces.{other_log};
-ghost use Rattle.std.specs.Prelude.{IfOk, OnOk, Some, length, nat_lt, true, ◌+◌, ◌-◌, ◌<◌, ◌^◌, ◌≡◌};
+ghost use Rattle.std.specs.Prelude.{Err, IfOk, OnOk, Some, length, nat_lt, true, ℕ, ◌+◌, ◌-◌, ◌<◌, ◌^◌, ◌≡◌};
 ghost use Rattle.std.specs.Result.{result_err};
 
 use crate::header::{Definition, Definitions};
@@ -56,6 +57,7 @@ fn append_entry<D: Disks>(
     ensures others { KeepsOthers (gates.device_of gate.old) (D.view disks.old) (D.view disks.new) (result_err result) }
     ensures cause { HasCause (D.view disks.old) (D.view disks.new) (result_err result) }
     ensures full { FullExactly (gates.device_of gate.old) ((D.view disks.old).limit (gates.device_of gate.old)) (gate_of gate.old + 10 + length payload.now) (result_err result) }
+    ensures untouched { (n : ℕ) → result ≡ Err (Full n) → IsUnchanged (D.view disks.old) (D.view disks.new) (gates.device_of gate.old) }
 {
     gate.append(alloc, disks, payload)
 }
@@ -123,6 +125,7 @@ impl Decisions {
         ensures others { KeepsOthers (device_in self.old) (D.view disks.old) (D.view disks.new) (result_err result) }
         ensures cause { HasCause (D.view disks.old) (D.view disks.new) (result_err result) }
         ensures full { FullExactly (device_in self.old) ((D.view disks.old).limit (device_in self.old)) (gate_in self.old + 10 + length (spell_entry (Boots (last_boot self.old + 1)))) (result_err result) }
+        ensures untouched { (n : ℕ) → result ≡ Err (Full n) → IsUnchanged (D.view disks.old) (D.view disks.new) (device_in self.old) }
     {
         let boot = self.boot + 1;
         let payload = boot_payload(alloc, boot)?;
@@ -151,6 +154,7 @@ impl Decisions {
         ensures others { KeepsOthers (device_in self.old) (D.view disks.old) (D.view disks.new) (result_err result) }
         ensures cause { HasCause (D.view disks.old) (D.view disks.new) (result_err result) }
         ensures full { FullExactly (device_in self.old) ((D.view disks.old).limit (device_in self.old)) (gate_in self.old + 10 + length (spell_entry (Defines (next_definition self.old text.now)))) (result_err result) }
+        ensures untouched { (n : ℕ) → result ≡ Err (Full n) → IsUnchanged (D.view disks.old) (D.view disks.new) (device_in self.old) }
     {
         let number = self.decisions + 1;
         let definition = Definition {
@@ -188,6 +192,7 @@ impl Decisions {
         ensures others { KeepsOthers (device_in self.old) (D.view disks.old) (D.view disks.new) (result_err result) }
         ensures cause { HasCause (D.view disks.old) (D.view disks.new) (result_err result) }
         ensures full { FullExactly (device_in self.old) ((D.view disks.old).limit (device_in self.old)) (gate_in self.old + 10 + length (spell_entry (Decides (next_decision self.old unit parts mv.now)))) (result_err result) }
+        ensures untouched { (n : ℕ) → result ≡ Err (Full n) → IsUnchanged (D.view disks.old) (D.view disks.new) (device_in self.old) }
     {
         let number = self.decisions + 1;
         make_move(alloc, self.format, &mut self.conts, mv)?;

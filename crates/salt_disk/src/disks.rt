@@ -1,9 +1,9 @@
 //! What every layer above sees of the devices.
-ghost use Rattle.std.specs.Prelude.{◌≡◌, ◌+◌, ◌^◌, ◌<◌, ◌≤◌, IsTrue, false, length, IfOk, OnOk, OnErr};
+ghost use Rattle.std.specs.Prelude.{Err, ◌≡◌, ℕ, ◌+◌, ◌^◌, ◌<◌, ◌≤◌, IsTrue, false, length, IfOk, OnOk, OnErr};
 ghost use Rattle.std.specs.Result.{result_err};
 ghost use Rattle.salt_disk.specs.Disks.{View, IsSettled, Shrinks, AreUnchanged, KeepsOthers, KeepsAll, IfNothingDone, IsUnchanged};
 ghost use Rattle.salt_disk.specs.Disks.{HasCause, FullExactly, NeverFull, OnlyFails, Rose, written, Tears, IsRead, IsRestarted};
-ghost use Rattle.salt_disk.specs.declared.disks.DiskErr.TheVariants.{Stopped, Memory};
+ghost use Rattle.salt_disk.specs.declared.disks.DiskErr.TheVariants.{Full, Memory, Stopped};
 
 use std::alloc::{AllocError, AllocFailed};
 
@@ -124,6 +124,7 @@ pub fn write_and_sync<D: Disks>(
     ensures others { KeepsOthers dev (D.view disks.old) (D.view disks.new) (result_err result) }
     ensures cause { HasCause (D.view disks.old) (D.view disks.new) (result_err result) }
     ensures full { FullExactly dev ((D.view disks.old).limit dev) (at + length bytes.now) (result_err result) }
+    ensures untouched { (n : ℕ) → result ≡ Err (Full n) → IsUnchanged (D.view disks.old) (D.view disks.new) dev }
     ensures limit { (D.view disks.old).limit dev < 2 ^ 64 }
 {
     disks.write_at(dev, at, bytes)?;

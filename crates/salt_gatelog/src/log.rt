@@ -1,7 +1,8 @@
 //! The log, and what is added to it.
-ghost use Rattle.std.specs.Prelude.{◌≡◌, ◌⊎◌, ℕ, ◌+◌, ◌<◌, ◌++◌, [], ◌∷◌, IsTrue, List, length, IfOk, OnErr, OnOk};
+ghost use Rattle.std.specs.Prelude.{Err, ◌≡◌, ◌⊎◌, ℕ, ◌+◌, ◌<◌, ◌++◌, [], ◌∷◌, IsTrue, List, length, IfOk, OnErr, OnOk};
 ghost use Rattle.std.specs.Result.{result_err};
-ghost use Rattle.salt_disk.specs.Disks.{EachImage, FullExactly, FullOnly, HasCause, IsSettled, KeepsAll, KeepsOthers, OnlyFails};
+ghost use Rattle.salt_disk.specs.Disks.{EachImage, FullExactly, FullOnly, HasCause, IsSettled, IsUnchanged, KeepsAll, KeepsOthers, OnlyFails};
+ghost use Rattle.salt_disk.specs.declared.disks.DiskErr.TheVariants.{Full};
 ghost use Rattle.salt_bytes.specs.Log.{framed, entries_in};
 ghost use Rattle.salt_gatelog.specs.Log.{HasClosedGate, IsBeforeOrWith, IsLog, count_of, device_of, gate_of};
 
@@ -65,7 +66,8 @@ impl GateLog {
     }
 
     /// Adds an entry. After Ok each image of the device has it. Whatever the call answers, each image stands for the entries from
-    /// before, with the new one or without it. `Full` comes where the entry and the next closed gate would pass the limit.
+    /// before, with the new one or without it. `Full` comes where the entry and the next closed gate would pass the limit, and
+    /// leaves the device as it was.
     /// After an error the log is the same value, and is opened again before it is used.
     pub fn append<D: Disks>(
         &mut self,
@@ -81,6 +83,7 @@ impl GateLog {
         ensures others { KeepsOthers (device_of self.old) (D.view disks.old) (D.view disks.new) (result_err result) }
         ensures cause { HasCause (D.view disks.old) (D.view disks.new) (result_err result) }
         ensures full { FullExactly (device_of self.old) ((D.view disks.old).limit (device_of self.old)) (gate_of self.old + 10 + length payload.now) (result_err result) }
+        ensures untouched { (n : ℕ) → result ≡ Err (Full n) → IsUnchanged (D.view disks.old) (D.view disks.new) (device_of self.old) }
         ensures device { device_of self.new ≡ device_of self.old }
         ensures err { OnErr result (self.new ≡ self.old) }
     {
