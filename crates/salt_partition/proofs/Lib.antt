@@ -1,4 +1,5 @@
 mod Names
+pub mod Copied
 mod Created
 mod Entries
 mod Gathered

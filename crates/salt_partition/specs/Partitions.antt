@@ -8,6 +8,7 @@ use Rattle.salt_disk.specs.Disks.{IsSettled, View}
 use Rattle.salt_entries.specs.Entries.{IsPut, prepared_of}
 use Rattle.salt_entries.specs.declared.prepared.PreparedUnit.{PreparedUnit}
 use Rattle.salt_gatelog.specs.Log.{IsLog}
+use Rattle.salt_model.specs.Tables.{Entry}
 use Rattle.salt_model.specs.Words.{has_id}
 use Rattle.salt_partition.specs.Contents.{AreKeyed}
 use Rattle.salt_partition.specs.declared.partition.Partition.{Partition}
@@ -31,6 +32,10 @@ log_gate x = x.log.end
 -- whether NULL is spelled in it
 abbrev pub spells_nulls : Partition → Bool
 spells_nulls x = x.nulls
+
+-- its rows, in order of their places
+abbrev pub rows_in : Partition → List Entry
+rows_in x = x.rows.entries
 
 -- how many entries it has behind its header
 abbrev pub unit_count : Partition → ℕ

@@ -2,6 +2,7 @@
 //! read or written yet.
 #![tactic(auto)]
 
+mod compared;
 mod contents;
 mod copies;
 mod create;

@@ -2,18 +2,21 @@
 
 ghost use Rattle.salt_bytes.specs.Log.{entries_in};
 ghost use Rattle.salt_bytes.specs.Partition.{prepared_in, spell_prepared};
-ghost use Rattle.salt_disk.specs.Disks.{EachImage, FullExactly, HasCause, KeepsAll, KeepsOthers, OnlyFails, UnlessDown};
+ghost use Rattle.salt_disk.specs.Disks.{EachImage, FullExactly, HasCause, IsUnchanged, KeepsAll, KeepsOthers, OnlyFails, UnlessDown};
+ghost use Rattle.salt_disk.specs.declared.disks.DiskErr.TheVariants.{Full, Memory};
+ghost use Rattle.salt_disk.specs.declared.disks.DiskErr.{DiskErr};
 ghost use Rattle.salt_eval.specs.Views.{next_row};
 ghost use Rattle.salt_gatelog.specs.Log.{IsBeforeOrWith};
-ghost use Rattle.salt_model.specs.Tables.{place, row_at};
-ghost use Rattle.salt_partition.specs.Partitions.{IsPartition, IsPreparedLast, MayPrepare, Stands, StandsFor, StandsWith, changes_in, log_device, log_gate, prepared, spells_nulls, unit_count};
+ghost use Rattle.salt_model.specs.Tables.{Tables, place, row_at, with_changes};
+ghost use Rattle.salt_partition.specs.Partitions.{IsPartition, IsPreparedLast, MayPrepare, Stands, StandsFor, StandsWith, changes_in, log_device, log_gate, prepared, rows_in, spells_nulls, unit_count};
 ghost use Rattle.salt_stands.specs.Partition.{part_tables};
 ghost use Rattle.salt_stands.specs.Pieces.{PartView, with_prepared_unit};
 ghost use Rattle.salt_values.specs.declared.id.Id.{Id};
 ghost use Rattle.std.specs.Option.{option_copied};
-ghost use Rattle.std.specs.Prelude.{IfOk, IsTrue, List, OnOk, Some, [], length, option_map, slice_get, ℕ, ◌+◌, ◌++◌, ◌∷◌, ◌≡◌};
+ghost use Rattle.std.specs.Prelude.{Err, IfOk, IsTrue, List, OnOk, Some, [], length, option_map, slice_get, ℕ, ◌+◌, ◌++◌, ◌∷◌, ◌↔◌, ◌≡◌};
 ghost use Rattle.std.specs.Result.{result_err};
 
+use crate::compared::are_rows_with;
 use crate::copies::changes_copied;
 use crate::rows::make_changes;
 use crate::units::unit_told;
@@ -24,7 +27,7 @@ use salt_gatelog::GateLog;
 use salt_ranges::KeyRange;
 use salt_values::{Changes, Id, Key, Row};
 use sqlite_items::Items;
-use std::alloc::Global;
+use std::alloc::{AllocError, Global};
 
 /// One partition of the rows, as its log and the units that were applied make them.
 #[derive(Drop)]
@@ -54,6 +57,20 @@ impl Partition {
         self.nulls
     }
 
+    /// Its rows.
+    pub fn rows(&self) -> &Tables
+        ensures { result.now.entries ≡ rows_in self.now }
+    {
+        &self.rows
+    }
+
+    /// Whether its rows are those that changes make of another's. Both are as they were.
+    pub fn has_rows_with(&self, other: &Partition, changes: &Changes) -> Result<bool, AllocError>
+        ensures { IfOk result (λ has. (t : Tables) → rows_in other.now ≡ t.list → IsTrue has ↔ (rows_in self.now ≡ (with_changes changes.now t).list)) }
+    {
+        are_rows_with(self.alloc, &self.rows, &other.rows, changes.as_slice())
+    }
+
     /// How many units are prepared in its log.
     pub fn prepared_count(&self) -> u64
         ensures { result ≡ unit_count self.now }
@@ -76,9 +93,11 @@ impl Partition {
             → OnOk result (IsPartition (D.view disks.new) self.new p (with_prepared_unit v (prepared unit changes.now)) applied) }
         ensures images { (entries : List (List ℕ)) → IsTrue (D.view disks.old).told → entries_in ((D.view disks.old).bytes (log_device self.old)) ≡ Some entries
             → EachImage (D.view disks.new) (log_device self.old) (IsBeforeOrWith entries (spell_prepared (prepared unit changes.now))) }
+        ensures stay { rows_in self.new ≡ rows_in self.old }
         ensures others { KeepsOthers (log_device self.old) (D.view disks.old) (D.view disks.new) (result_err result) }
         ensures cause { HasCause (D.view disks.old) (D.view disks.new) (result_err result) }
         ensures full { FullExactly (log_device self.old) ((D.view disks.old).limit (log_device self.old)) (log_gate self.old + 10 + length (spell_prepared (prepared unit changes.now))) (result_err result) }
+        ensures untouched { (n : ℕ) → result ≡ Err (Full n) → IsUnchanged (D.view disks.old) (D.view disks.new) (log_device self.old) }
     {
         let entry = spell_prepared(self.alloc, unit, changes.as_slice())?;
         let changes = changes_copied(self.alloc, changes.as_slice())?;
@@ -95,6 +114,7 @@ impl Partition {
         ensures kept { KeepsAll (D.view disks.old) (D.view disks.new) (result_err result) }
         ensures cause { HasCause (D.view disks.old) (D.view disks.new) (result_err result) }
         ensures answers { OnlyFails (result_err result) }
+        ensures lacks { (e : DiskErr) → result ≡ Err e → e ≡ Memory }
     {
         let _ = disks;
         let _ = unit;
@@ -117,6 +137,7 @@ impl Partition {
             → IfOk result (λ row. row ≡ row_at (place table key.now) (part_tables applied v.log v.rows)) }
         ensures stands { (p : ℕ) (v : PartView) (applied : List Id) → IsPartition (D.view disks.old) self.old p v applied
             → UnlessDown (result_err result) (IsPartition (D.view disks.new) self.new p v applied) }
+        ensures stay { rows_in self.new ≡ rows_in self.old }
         ensures kept { KeepsAll (D.view disks.old) (D.view disks.new) (result_err result) }
         ensures cause { HasCause (D.view disks.old) (D.view disks.new) (result_err result) }
         ensures answers { OnlyFails (result_err result) }
@@ -142,6 +163,7 @@ impl Partition {
             → IfOk result (λ row. row ≡ next_row table range.now (option_copied after.entry) (part_tables applied v.log v.rows)) }
         ensures stands { (p : ℕ) (v : PartView) (applied : List Id) → IsPartition (D.view disks.old) self.old p v applied
             → UnlessDown (result_err result) (IsPartition (D.view disks.new) self.new p v applied) }
+        ensures stay { rows_in self.new ≡ rows_in self.old }
         ensures kept { KeepsAll (D.view disks.old) (D.view disks.new) (result_err result) }
         ensures cause { HasCause (D.view disks.old) (D.view disks.new) (result_err result) }
         ensures answers { OnlyFails (result_err result) }
