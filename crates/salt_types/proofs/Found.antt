@@ -188,7 +188,7 @@ module _ (read : List ℕ → Option Definition) (c : Coordinator Definition) wh
 -- DEFINITIONS
 
 -- what is kept of these definitions alone
-abbrev defined : List Definition → Kept
+abbrev pub defined : List Definition → Kept
 defined ds = record nothing_kept { definitions = ds }
 
 not-some : {A : Type 0} (o : Option A) → not (is_some o) ≡ true → o ≡ None
@@ -270,14 +270,14 @@ module _ (read : List ℕ → Option Definition) (keys : (text : List ℕ) (d : 
 
   -- THE COORDINATOR, and the whole
 
-  record IsFoundTyped (c : Coordinator Definition) : Type 0 where
-    definitions : IsTyped (defined c.definitions)
-    conts : Every (λ (x : Cont). is_cont_of (program_named (programs_of c.definitions) x.program) x ≡ true) c.conts
+  pub record IsFoundTyped (c : Coordinator Definition) : Type 0 where
+    pub definitions : IsTyped (defined c.definitions)
+    pub conts : Every (λ (x : Cont). is_cont_of (program_named (programs_of c.definitions) x.program) x ≡ true) c.conts
 
   abbrev with_conts : CoordinatorLog → List Definition → List Cont → Option (Coordinator Definition)
   with_conts log ds cs = given (are_sound (definitions_reading read) log ds) (record { log = log; definitions = ds; conts = cs })
 
-  coordinator-typed : (log : CoordinatorLog) (c : Coordinator Definition) → coordinator_of (definitions_reading read) log ≡ Some c → IsFoundTyped c
+  pub coordinator-typed : (log : CoordinatorLog) (c : Coordinator Definition) → coordinator_of (definitions_reading read) log ≡ Some c → IsFoundTyped c
   coordinator-typed log c h =
       let a = then-some (λ (ds : List Definition). and_then (with_conts log ds) (moved log.header.format (Some log.header.conts) log.told.decided)) (defined_by (definitions_reading read) (Some []) log.told.definitions) c h in
       let b = then-some (with_conts log a.0) (moved log.header.format (Some log.header.conts) log.told.decided) c a.2 in

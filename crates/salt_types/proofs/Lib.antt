@@ -1,11 +1,11 @@
-mod AllTyped
+pub mod AllTyped
 mod Arguments
 mod Blocks
 mod Coming
 mod Conts
 mod Defining
 mod Fields
-mod Found
+pub mod Found
 mod Judged
 mod Rows
 mod Runs
