@@ -1,8 +1,10 @@
 -- A store is begun: each image stands for a new database, and so does the store.
 use Rattle.salt_bytes.specs.Generations.{BothBlank, Counts, IsRead, LogA, LogB, WhichLog, content_of, pair_of, read_or_outside}
 use Rattle.salt_bytes.specs.Log.{entries_in}
+use Rattle.salt_commit.proofs.Opening.{same_shape_is}
+use Rattle.salt_commit.proofs.Pageless.{no_names}
 use Rattle.salt_commit.proofs.Standing.{if_some, make_some, part_at}
-use Rattle.salt_commit.specs.Openings.{IsPartLog, IsStoreLog, OpensStore}
+use Rattle.salt_commit.specs.Openings.{IsPartLog, IsStoreLog, LeavesPages, OpensStore}
 use Rattle.salt_commit.specs.Stores.{ArePartitions, IsSound, decided_by, reading}
 use Rattle.salt_commit.specs.declared.store.Store.{Store}
 use Rattle.salt_decisions.proofs.Begun.{blank_a, blank_b, first_log}
@@ -26,7 +28,7 @@ use Rattle.salt_stands.proofs.Pairs.{pair_same}
 use Rattle.salt_stands.proofs.Prepared.{sound_log}
 use Rattle.salt_stands.proofs.Stores.{stood_stands}
 use Rattle.salt_stands.specs.Commits.{PartSame, Stood, found_of}
-use Rattle.salt_stands.specs.Coordinator.{Coordinator, coordinator_pair, judge_coordinator}
+use Rattle.salt_stands.specs.Coordinator.{Coordinator, Logs, coordinator_pair, judge_coordinator}
 use Rattle.salt_stands.specs.CoordinatorLog.{CoordinatorLog, coordinator_generation, coordinator_in}
 use Rattle.salt_stands.specs.FirstOpening.{first_coordinator, first_view}
 use Rattle.salt_stands.specs.Partition.{part_device}
@@ -38,7 +40,7 @@ use Rattle.salt_values.specs.declared.id.Id.{Id}
 use Rattle.salt_values.specs.declared.placement.Shape.{Shape}
 use Rattle.std.proofs.Common.{Err, IsTrue, List, None, Ok, Option, Result, Some, [], ap, arith, inl, inr, length, refl, subst, sym, true, ℕ, ◌+◌, ◌<◌, ◌≡◌, ◌⊎◌, ◌∙◌, ◌∷◌}
 use Rattle.std.proofs.lemmas.Bool.Decides.{Decides-eqb}
-use Rattle.std.specs.Prelude.{slice_get, ◌==◌}
+use Rattle.std.specs.Prelude.{Bool, false, nat_lt, slice_get, ◌==◌, ◌||◌}
 
 same_err : (e : DiskErr) → disk_err_in (open_err_of e) ≡ Some e
 same_err Failed = refl
@@ -56,7 +58,30 @@ no_part_log n dev low t = by t.is
     by (inl e) = omega (arith, low, e)
     by (inr e) = omega (arith, low, e)
 
+or_true : (b : Bool) → (b || true) ≡ true
+or_true true = refl
+or_true false = refl
+
+both_blank : (logs : Logs) → logs 0 ≡ Some [] → logs 1 ≡ Some [] → coordinator_pair logs ≡ BothBlank
+both_blank logs a b =
+    ap (λ o. pair_of coordinator_generation (content_of coordinator_in o) (content_of coordinator_in (logs 1))) a
+    ∙ ap (λ o. pair_of coordinator_generation (content_of coordinator_in (Some [])) (content_of coordinator_in o)) b
+
+-- blank devices of the coordinator leave no pages
+pub blank_unnamed : (asked : Shape) (image : ℕ → List ℕ) (dev : ℕ) → coordinator_pair (logs_of image) ≡ BothBlank → LeavesPages asked image dev → ⊥
+blank_unnamed asked image dev blank leaves =
+    let none : judge_coordinator reading (coordinator_pair (logs_of image)) ≡ Ok None = ap (judge_coordinator reading) blank in
+    let some : judge_coordinator reading (coordinator_pair (logs_of image)) ≡ Ok (Some leaves.c) = leaves.found in
+    absurd (cc (none, some))
+
 -- the coordinator's devices are blank yet
+pub still_blank_image : (d e : View) (n : ℕ) (answer : Option DiskErr) → KeepsBut (IsPartLog n) d e answer → 1 < d.count → IsSettled d 0 → IsSettled d 1
+    → coordinator_pair (logs_of d.bytes) ≡ BothBlank → (image : ℕ → List ℕ) → IsImage e image → coordinator_pair (logs_of image) ≡ BothBlank
+still_blank_image d e n answer keeps known first second blank image left =
+    both_blank (logs_of image)
+    (ap entries_in (first (image 0) (keeps.images 0 (no_part_log n 0 (omega arith)) (image 0) (left 0 (omega (arith, known, keeps.shape.count))))) ∙ blank_a d.bytes blank)
+    (ap entries_in (second (image 1) (keeps.images 1 (no_part_log n 1 (omega arith)) (image 1) (left 1 (omega (arith, known, keeps.shape.count))))) ∙ blank_b d.bytes blank)
+
 pub blank_image : {D : Type 0} (r : Reading D) (asked : Shape) (d e : View) (n : ℕ) (answer : Option DiskErr) → KeepsBut (IsPartLog n) d e answer → 1 < d.count → IsSettled d 0 → IsSettled d 1
     → coordinator_pair (logs_of d.bytes) ≡ BothBlank → (image : ℕ → List ℕ) → IsImage e image → judged r image asked ≡ Ok (nothing_found asked)
 blank_image r asked d e n answer keeps known first second blank image left = blank_stands r (logs_of image) image asked (record {
@@ -72,34 +97,35 @@ still_blank d b n keeps blank = pair_same coordinator_generation coordinator_in 
 -- the coordinator's devices are blank, or log A has its header
 module _ {D : Type 0} (r : Reading D) (asked : Shape) (parts : IsParts asked.parts) (d e : View) (answer : Option DiskErr) (keeps : KeepsBut IsOfCoordinator d e answer) (ps : List Partition) (size : length ps ≡ asked.parts)
     (are : ArePartitions d ps (first_view 2) (λ p. [])) (told : IsTrue d.told) (known : 1 < d.count) where
-  pub begun_image : EachImage e 0 (IsFirstImage asked) → EachImage e 1 IsBlankImage → (image : ℕ → List ℕ) → IsImage e image → judged r image asked ≡ Ok (nothing_found asked)
-  begun_image first second image left = by (first now (image 0) (left 0 (omega (arith, known, keeps.shape.count))))
+  -- the partitions stand as they were made
+  part_left : (image : ℕ → List ℕ) → IsImage e image → (p : ℕ) → p < asked.parts → PartStands r (first_coordinator asked 3) (logs_of image) image p (first_view 2 p)
+  part_left image left p low =
+      let q = one in
+      let settled = logs_settled d q.0 p (first_view 2 p) [] q.1 in
+      let was = part_stands r (first_coordinator asked 3) d q.0 p (first_view 2 p) [] q.1 told (sound_log r (first_coordinator asked 3) p (first_view 2 p).log refl refl refl) in
+      let same : PartSame (logs_of d.bytes) (logs_of image) p =
+      record { a = ap entries_in (there (part_device p) (omega arith) (omega (arith, q.1.known)) settled.0); b = ap entries_in (there (part_device p + 1) (omega arith) (omega (arith, q.1.known)) settled.1) } in
+      let is = part_same r (first_coordinator asked 3) (logs_of d.bytes) (logs_of image) d.bytes p (first_view 2 p) was same in
+      record { counts = is.counts; sound = is.sound; rows = refl }
     where
-      now : IsTrue e.told
-      now = keeps.shape.told ∙ told
-
-      b : logs_of image 1 ≡ Some []
-      b = second now (image 1) (left 1 (omega (arith, known, keeps.shape.count)))
-
-      one : (p : ℕ) → p < asked.parts → (q : Partition) × IsPartition d q p (first_view 2 p) []
-      one p low = part_at d ps (first_view 2) (λ p. []) are p (omega (arith, low, size))
+      one : (q : Partition) × IsPartition d q p (first_view 2 p) []
+      one = part_at d ps (first_view 2) (λ p. []) are p (omega (arith, low, size))
 
       no_coordinator : (dev : ℕ) → 1 < dev → IsOfCoordinator dev → ⊥
       no_coordinator dev h (inl is) = omega (arith, h, is)
       no_coordinator dev h (inr is) = omega (arith, h, is)
 
       there : (dev : ℕ) → 1 < dev → dev < d.count → IsSettled d dev → image dev ≡ d.bytes dev
-      there dev h low settled = settled (image dev) (keeps.images dev (no_coordinator dev h) (image dev) (left dev (omega (arith, low, keeps.shape.count))))
+      there dev h low' settled = settled (image dev) (keeps.images dev (no_coordinator dev h) (image dev) (left dev (omega (arith, low', keeps.shape.count))))
 
-      part : (p : ℕ) → p < asked.parts → PartStands r (first_coordinator asked 3) (logs_of image) image p (first_view 2 p)
-      part p low =
-          let q = one p low in
-          let settled = logs_settled d q.0 p (first_view 2 p) [] q.1 in
-          let was = part_stands r (first_coordinator asked 3) d q.0 p (first_view 2 p) [] q.1 told (sound_log r (first_coordinator asked 3) p (first_view 2 p).log refl refl refl) in
-          let same : PartSame (logs_of d.bytes) (logs_of image) p =
-          record { a = ap entries_in (there (part_device p) (omega arith) (omega (arith, q.1.known)) settled.0); b = ap entries_in (there (part_device p + 1) (omega arith) (omega (arith, q.1.known)) settled.1) } in
-          let is = part_same r (first_coordinator asked 3) (logs_of d.bytes) (logs_of image) d.bytes p (first_view 2 p) was same in
-          record { counts = is.counts; sound = is.sound; rows = refl }
+  now : IsTrue e.told
+  now = keeps.shape.told ∙ told
+
+  pub begun_image : EachImage e 0 (IsFirstImage asked) → EachImage e 1 IsBlankImage → (image : ℕ → List ℕ) → IsImage e image → judged r image asked ≡ Ok (nothing_found asked)
+  begun_image first second image left = by (first now (image 0) (left 0 (omega (arith, known, keeps.shape.count))))
+    where
+      b : logs_of image 1 ≡ Some []
+      b = second now (image 1) (left 1 (omega (arith, known, keeps.shape.count)))
 
       stands : logs_of image 0 ≡ Some (first_payload asked ∷ []) → Stood r (logs_of image) image LogA (first_coordinator asked 3) (first_view 2)
       stands a = record {
@@ -109,12 +135,20 @@ module _ {D : Type 0} (r : Reading D) (asked : Shape) (parts : IsParts asked.par
               ∙ ap (λ o. pair_of coordinator_generation (IsRead (begun asked)) (content_of coordinator_in o)) b;
           is = record { defined = refl; moves = refl; rise = refl; named = refl; decided = refl };
         };
-        part = part;
+        part = part_left image left;
       }
 
       by : IsFirstImage asked (image 0) → judged r image asked ≡ Ok (nothing_found asked)
       by (inl a) = blank_stands r (logs_of image) image asked (record { a = a; b = b })
       by (inr a) = stood_stands r (logs_of image) image asked LogA (first_coordinator asked 3) (first_view 2) (stands a) ∙ ap Ok (made_found r asked 2)
+
+  -- and name no pages, where the coordinator's devices are not blank yet
+  pub begun_unnamed : EachImage e 0 (IsFirstImage asked) → EachImage e 1 IsBlankImage → (image : ℕ → List ℕ) → IsImage e image → (dev : ℕ) → LeavesPages asked image dev → ⊥
+  begun_unnamed first second image left dev leaves = by (first now (image 0) (left 0 (omega (arith, known, keeps.shape.count))))
+    where
+      by : IsFirstImage asked (image 0) → ⊥
+      by (inl a) = blank_unnamed asked image dev (both_blank (logs_of image) a (second now (image 1) (left 1 (omega (arith, known, keeps.shape.count))))) leaves
+      by (inr a) = no_names image leaves.p dev LogA (first_view 2 leaves.p).log (part_left image left leaves.p leaves.low).counts refl leaves.names
 
 -- where nothing was prepared, it does not matter which units are applied
 applied_any : (d : View) (x : Partition) (p q : ℕ) (applied us : List Id) → IsPartition d x p (first_view 2 q) applied → IsPartition d x p (first_view 2 q) us
@@ -155,7 +189,11 @@ begins asked d b e x kept first second blank size are opened = record {
     });
   };
   keeps = opened.keeps;
+  has_shape = same_shape_is opened.log.header.shape asked opened.has_shape;
+  unspent = opened.unspent;
+  nulls = λ p low. or_true (nat_lt opened.log.header.format 2);
   finds = λ told. ap (λ pr. of_coordinator reading d.bytes asked (judge_coordinator reading pr)) (blank told) ∙ ap Stands (sym (ap (λ c. found_of c (first_view 2)) (is_first told) ∙ made_found reading asked 2));
+  no_pages = λ told dev. blank_unnamed asked d.bytes dev (blank told);
 }
   where
     own : Coordinator Definition

@@ -1,27 +1,30 @@
 -- A commit, by what its calls say one after another.
 use Rattle.salt_bytes.specs.Coordinator.{Decides, is_number_of_parts, spell_entry}
-use Rattle.salt_bytes.specs.Generations.{WhichLog}
+use Rattle.salt_bytes.specs.Generations.{LogA, LogB, WhichLog}
 use Rattle.salt_bytes.specs.Partition.{spell_prepared}
 use Rattle.salt_bytes.specs.declared.moves.Move.{Move}
 use Rattle.salt_commit.proofs.Decided.{decision_images, shares_last, store_after, store_prepared}
 use Rattle.salt_commit.proofs.Shared.{length-listed, mask_small}
-use Rattle.salt_commit.proofs.Standing.{partitions_stay}
+use Rattle.salt_commit.proofs.Pageless.{prepared_unnamed}
+use Rattle.salt_commit.proofs.Standing.{apart_from_part, if_some, partitions_stay}
 use Rattle.salt_commit.proofs.Undecided.{IsInHand, before_decision, decisions_kept, may_prepare}
 use Rattle.salt_commit.specs.Commits.{IsCommitLog, MayCommitUnit, shares_in}
 use Rattle.salt_commit.specs.Errors.{disk_err_of, store_err, store_err_of}
+use Rattle.salt_commit.specs.Openings.{NamesPages}
 use Rattle.salt_commit.specs.Prepares.{AreSharesLast, IsLogOfShares, MayPrepareEach, StandForShares, StandWithShares, applied_with_shares, with_shares}
 use Rattle.salt_commit.specs.Shares.{mask_of, next_decision, share_at, shares_of}
 use Rattle.salt_commit.specs.Stores.{ArePartitions, IsStore, StandForEither, decided_by, last_decision}
+use Rattle.salt_commit.specs.declared.error.StoreErr.TheVariants as store
 use Rattle.salt_commit.specs.declared.error.StoreErr.{StoreErr}
 use Rattle.salt_commit.specs.declared.store.Store.{Store}
 use Rattle.salt_decisions.proofs.Appended.{spelled_so}
 use Rattle.salt_decisions.specs.Decisions as decisions
 use Rattle.salt_decisions.specs.Decisions.{IsBeforeOrWith, IsDecisions, decided, device_in}
-use Rattle.salt_disk.proofs.CallAfterCall.{keeps_on, keeps_wider}
-use Rattle.salt_disk.specs.Disks.{EachImage, IsImage, KeepsAll, KeepsBut, KeepsOthers, View}
+use Rattle.salt_disk.proofs.CallAfterCall.{keeps_on, keeps_wider, kept_on}
+use Rattle.salt_disk.specs.Disks.{EachImage, IsImage, IsUnchanged, KeepsAll, KeepsBut, KeepsOthers, Shrinks, View}
 use Rattle.salt_disk.specs.declared.disks.DiskErr.TheVariants.{Failed, Full, Memory, Stopped}
 use Rattle.salt_disk.specs.declared.disks.DiskErr.{DiskErr}
-use Rattle.salt_partition.specs.Partitions.{prepared}
+use Rattle.salt_partition.specs.Partitions.{IsPartition, prepared}
 use Rattle.salt_stands.specs.Commits.{found_after, found_of, parts_of, view_after}
 use Rattle.salt_stands.specs.Coordinator.{Coordinator, device_of}
 use Rattle.salt_stands.specs.Partition.{part_device}
@@ -34,9 +37,9 @@ use Rattle.salt_values.specs.declared.change.Change.{Change}
 use Rattle.salt_values.specs.declared.cont.Cont.{Cont}
 use Rattle.salt_values.specs.declared.id.Id.{Id}
 use Rattle.salt_values.specs.declared.placement.Shape.{Shape}
-use Rattle.std.proofs.Common.{Err, IsTrue, List, None, Ok, Option, Result, Some, ap, arith, inl, inr, length, refl, subst, sym, true, ℕ, ◌+◌, ◌<◌, ◌^◌, ◌≡◌, ◌≤◌, ◌∙◌}
+use Rattle.std.proofs.Common.{Err, IsTrue, List, None, Ok, Option, Result, Some, ap, arith, inl, inr, length, refl, subst, sym, true, ℕ, ◌*◌, ◌+◌, ◌<◌, ◌^◌, ◌≡◌, ◌≤◌, ◌∙◌}
 use Rattle.std.proofs.lemmas.Bool.Decides.{nat_tests}
-use Rattle.std.specs.Prelude.{nat_lt}
+use Rattle.std.specs.Prelude.{nat_lt, slice_get}
 
 parts_known : (n : ℕ) → is_number_of_parts n ≡ true → IsParts n
 parts_known n h = (low, high)
@@ -97,6 +100,18 @@ module _ {D : Type 0} (r : Reading D) (d : View) (x : Store) (which : WhichLog) 
         (images v (decided_by c) is.parts))
         image left asked
 
+    -- no image names pages, while the shares are prepared or behind it
+    pub unnamed : IsTrue d.told → (b e : View) (answer : Option DiskErr) → KeepsBut (IsLogOfShares x.parts.items ss (length x.parts.items)) d b answer
+        → ((w : ℕ → PartView) (applied : ℕ → List Id) → ArePartitions d x.parts.items w applied → (p : ℕ) → p < length x.parts.items
+        → EachImage b (device_of (part_device p) (w p).which) (IsBeforeOrWith (d.bytes (device_of (part_device p) (w p).which)) (spell_prepared (prepared u (share_at ss p)))))
+        → e.count ≡ d.count → ((dev : ℕ) → 1 < dev → Shrinks b e dev) → (image : ℕ → List ℕ) → IsImage e image → (p dev : ℕ) → p < parts_of c → NamesPages image p dev → ⊥
+    unnamed told b e answer others images count there image left =
+        prepared_unnamed r d x which c v is told u cs mv m conts may parts hand b e answer
+        (subst (λ l. KeepsBut (IsLogOfShares x.parts.items l (length x.parts.items)) d b answer) same others)
+        (subst (λ l. (p : ℕ) → p < length x.parts.items → EachImage b (device_of (part_device p) (v p).which) (IsBeforeOrWith (d.bytes (device_of (part_device p) (v p).which)) (spell_prepared (prepared u (share_at l p))))) same
+        (images v (decided_by c) is.parts))
+        count there image left
+
     -- AFTER THE SHARES ARE PREPARED
     module _ (b : View) (y : Store) (kept : y.decisions ≡ x.decisions) (size : length y.parts.items ≡ length x.parts.items)
         (others : KeepsBut (IsLogOfShares x.parts.items ss (length x.parts.items)) d b None)
@@ -141,6 +156,30 @@ module _ {D : Type 0} (r : Reading D) (d : View) (x : Store) (which : WhichLog) 
             sized
             (subst (λ l. ArePartitions f z.parts.items (with_shares u (shares_of c.log.header.shape cs) v) (applied_with_shares u l (decided_by c))) same
             (applied (with_shares u (shares_of c.log.header.shape cs) v) (decided_by c) h.are h.last))
+
+-- A FULL DEVICE is as it was before all calls
+
+-- the store's answer goes back to the disks'
+pub full_back : (e : DiskErr) (n : ℕ) → store_err_of e ≡ store.Full n → e ≡ Full n
+full_back Failed n h = absurd cc
+full_back Stopped n h = absurd cc
+full_back (Full dev) n h = cc
+full_back Memory n h = absurd cc
+
+-- the coordinator's log is none of those of the shares
+pub decision_untouched : {D : Type 0} (r : Reading D) (d b e : View) (x : Store) (which : WhichLog) (c : Coordinator D) (v : ℕ → PartView) → IsStore r d x which c v → (ss : List (List Change))
+    → KeepsBut (IsLogOfShares x.parts.items ss (length x.parts.items)) d b None → (k : ℕ) → k ≡ device_in x.decisions → IsUnchanged b e (device_in x.decisions) → IsUnchanged d e k
+decision_untouched r d b e x which c v is ss others k at same =
+    subst (IsUnchanged d e) (sym at) (kept_on d b e (device_in x.decisions) (others.kept (device_in x.decisions) apart) same)
+  where
+    not_of : (p : ℕ) (w : WhichLog) → device_of 0 which ≡ device_of (part_device p) w → ⊥
+    not_of p LogA equal = apart_from_part which p 0 (let z : 2 + 3 * p + 0 ≡ part_device p = omega arith in z ∙ sym equal)
+    not_of p LogB equal = apart_from_part which p 1 (sym equal)
+
+    apart : IsLogOfShares x.parts.items ss (length x.parts.items) (device_in x.decisions) → ⊥
+    apart t =
+        let y = if_some (slice_get x.parts.items t.p) t.x (λ z. IsPartition d z t.p (v t.p) (decided_by c t.p)) t.at (is.parts.each t.p) in
+        not_of t.p (v t.p).which (sym is.decisions.counting.device ∙ t.log.device ∙ y.device)
 
 -- WHAT A COMMIT TOUCHES
 module _ (x : Store) (cs : List Change) (ss : List (List Change)) (shared : ss ≡ shares_in x cs) (d b : View) where

@@ -1,24 +1,27 @@
 mod Applying
-mod Beginning
+pub mod Beginning
 mod Committed
 mod Decided
 mod Entered
 mod Firsts
 mod Fit
 mod Fitted
-mod Formats
+pub mod Formats
 mod Keyed
 mod Lists
 mod Making
 mod Merged
-mod Opened
-mod Opening
+pub mod Opened
+pub mod Opening
 mod Ordered
+mod Pageless
+mod Placed
 mod Reading
+mod Compared
 mod Scanned
-mod Shared
+pub mod Shared
 mod Sharing
-mod Standing
+pub mod Standing
 mod Undecided
 mod Units
 mod Witness

@@ -6,18 +6,17 @@ use Rattle.salt_commit.proofs.Fit.{nor}
 use Rattle.salt_commit.proofs.Formats.{log_format}
 use Rattle.salt_commit.proofs.Making.{each_push}
 use Rattle.salt_commit.proofs.Standing.{if_some, make_some}
-use Rattle.salt_commit.specs.Openings.{HasTables, IsFirstFault, IsPartFault, NamesPages, OpensAll, OpensIn, PartFails, PartRefuses, PartsRefuse}
+use Rattle.salt_commit.specs.Openings.{HasTables, IsPartFault, OpensAll, OpensIn, PartFails, PartRefuses, PartsRefuse, spells_under}
 use Rattle.salt_commit.specs.Stores.{decided_by, reading}
 use Rattle.salt_decisions.specs.Kept.{IsKept}
 use Rattle.salt_decisions.specs.declared.error.OpenErr.TheVariants.{Failed, Full, Memory, NotSalt, NumbersSpent, OtherShape, Stopped}
 use Rattle.salt_decisions.specs.declared.error.OpenErr.{OpenErr}
 use Rattle.salt_decisions.specs.declared.kept.Kept.{Kept}
 use Rattle.salt_disk.proofs.CallAfterCall.{cause_on, keeps_on, same_shape}
-use Rattle.salt_disk.specs.Disks.{HasCause, IsUnchanged, KeepsAll, View}
+use Rattle.salt_disk.specs.Disks.{HasCause, KeepsAll, View}
 use Rattle.salt_model.specs.Kept.{Definition}
-use Rattle.salt_model.specs.Tables.{Tables}
 use Rattle.salt_partition.proofs.Framed.{part_stands, partition_kept, sound_log}
-use Rattle.salt_partition.specs.Openings.{OpensAs, fault_of, has_pages, part_fault}
+use Rattle.salt_partition.specs.Openings.{OpensAs, fault_of, has_pages}
 use Rattle.salt_partition.specs.Partitions.{IsPartition, spells_nulls}
 use Rattle.salt_partition.specs.declared.partition.Partition.{Partition}
 use Rattle.salt_stands.proofs.Assembled.{part_is_at}
@@ -31,9 +30,8 @@ use Rattle.salt_stands.specs.PartitionLog.{PartitionLog}
 use Rattle.salt_stands.specs.Pieces.{PartStands, PartView, tables_of}
 use Rattle.salt_stands.specs.Stands.{logs_of}
 use Rattle.salt_stands.specs.Words.{given, if_sound, or_fault}
-use Rattle.salt_values.specs.declared.id.Id.{Id}
 use Rattle.salt_values.specs.declared.placement.Shape.{Shape}
-use Rattle.std.proofs.Common.{Bool, Err, IsTrue, List, None, Ok, Option, Some, [], ap, arith, false, inl, inr, length, refl, slice_get, subst, sym, true, ℕ, ◌+◌, ◌++◌, ◌<◌, ◌≡◌, ◌≢◌, ◌⊎◌, ◌∙◌, ◌∷◌}
+use Rattle.std.proofs.Common.{Bool, Err, IsTrue, List, None, Some, [], ap, arith, false, inl, inr, length, refl, slice_get, subst, sym, true, ℕ, ◌+◌, ◌++◌, ◌<◌, ◌≡◌, ◌≢◌, ◌⊎◌, ◌∙◌, ◌∷◌}
 use Rattle.std.proofs.Math.Path.{fun_ext}
 use Rattle.std.proofs.lemmas.Bool.Decides.{Decides-eqb}
 use Rattle.std.proofs.lemmas.Bool.{cases_eq}
@@ -136,7 +134,7 @@ pub none_opened : (d : View) (schema : List TableDef) (shape : Shape) (kept : Ke
 none_opened d schema shape kept some = record {
   keeps = record { shape = same_shape d; kept = λ dev other. record { bytes = refl; images = λ c left. left }; images = λ dev other c left. left };
   cause = record { later = omega arith; failed = λ is. cc; stops = omega arith };
-  all = λ c k. record { size = refl; view = some; are = record { each = λ p. tt }; stand = λ told has p low. absurd (omega (arith, low)) };
+  all = λ c k. record { size = refl; view = some; are = record { each = λ p. tt }; nulls = λ p low. absurd (omega (arith, low)); stand = λ told has p low. absurd (omega (arith, low)) };
 }
 
 module _ (d0 d : View) (schema : List TableDef) (shape : Shape) (kept : Kept) (opened : List Partition) (n : ℕ) (so_far : OpenedSoFar d0 d schema shape kept opened n) where
@@ -205,9 +203,16 @@ module _ (d0 d : View) (schema : List TableDef) (shape : Shape) (kept : Kept) (o
               (subst (λ (bytes : ℕ → List ℕ). PartStands reading c (logs_of bytes) bytes n own.view) (same_bytes d0 d so_far.keeps) (own.stands (so_far.keeps.shape.told ∙ told) has)))
           by (inr other) = subst (λ v. PartStands reading c (logs_of d0.bytes) d0.bytes p v) (sym (with_view_there n own.view before.view p other)) (before.stand told has p (omega (arith, low, other)))
 
+      nulls : (p : ℕ) → p < n + 1 → spells_under c.log.header.format (with_view n own.view before.view p) ≡ true
+      nulls p low = by (cases_eq p n)
+        where
+          by : (p ≡ n) ⊎ (p ≢ n) → spells_under c.log.header.format (with_view n own.view before.view p) ≡ true
+          by (inl same) = ap (λ q. spells_under c.log.header.format (with_view n own.view before.view q)) same ∙ ap (spells_under c.log.header.format) (with_view_here n own.view before.view) ∙ own.nulls
+          by (inr other) = ap (spells_under c.log.header.format) (with_view_there n own.view before.view p other) ∙ before.nulls p (omega (arith, low, other))
+
       with_one : OpensAll schema shape (n + 1) d0 e c (opened ++ x ∷ [])
       unfolding Is
-      with_one = record { size = longer opened x ∙ ap (λ j. j + 1) before.size; view = with_view n own.view before.view; are = record { each = each }; stand = stand }
+      with_one = record { size = longer opened x ∙ ap (λ j. j + 1) before.size; view = with_view n own.view before.view; are = record { each = each }; nulls = nulls; stand = stand }
 
     pub one_opened : OpenedSoFar d0 e schema shape kept (opened ++ x ∷ []) (n + 1)
     one_opened = record {

@@ -1,20 +1,22 @@
 -- A store is opened where a log counts.
 use Rattle.salt_ast.specs.declared.trees.TableDef.{TableDef}
-use Rattle.salt_bytes.specs.Generations.{BothBlank, Counts, Faulty, LogA, LogB, Pair, WhichLog}
+use Rattle.salt_bytes.specs.Generations.{BothBlank, Counts, LogA, LogB, Pair, WhichLog}
 use Rattle.salt_commit.proofs.Making.{settled_on}
 use Rattle.salt_commit.proofs.Opened.{same_bytes}
+use Rattle.salt_commit.proofs.Pageless.{no_names}
+use Rattle.salt_commit.proofs.Standing as standing
 use Rattle.salt_commit.proofs.Undecided.{decisions_kept}
-use Rattle.salt_commit.specs.Openings.{HasRoom, HasTables, IsFirstFault, IsNoRefusal, IsPartFault, IsPartLog, IsSchemaOf, IsSchemaWhere, IsStoreLog, LeavesPages, NamesPages, OpeningFails, OpensAll, OpensStore, PartsRefuse}
-use Rattle.salt_commit.specs.Stores.{IsSound, IsStore, decided_by, reading}
+use Rattle.salt_commit.specs.Openings.{HasRoom, HasTables, IsFirstFault, IsPartFault, IsSchemaOf, IsSchemaWhere, IsStoreLog, LeavesPages, OpeningFails, OpensAll, OpensStore, PartsRefuse}
+use Rattle.salt_commit.specs.Stores.{decided_by, reading}
 use Rattle.salt_commit.specs.declared.store.Store.{Store}
 use Rattle.salt_decisions.specs.Decisions.{IsDecisions}
 use Rattle.salt_decisions.specs.Kept.{IsKept}
 use Rattle.salt_decisions.specs.declared.decisions.Decisions.{Decisions}
-use Rattle.salt_decisions.specs.Opened.{IsOfCoordinator, IsOpened, IsStood, OpenFails, begun}
+use Rattle.salt_decisions.specs.Opened.{IsOfCoordinator, IsOpened, IsStood, OpenFails}
 use Rattle.salt_decisions.specs.declared.error.OpenErr.TheVariants.{Failed, Full, Memory, NotSalt, NumbersSpent, OtherShape, Stopped}
 use Rattle.salt_decisions.specs.declared.error.OpenErr.{OpenErr}
 use Rattle.salt_decisions.specs.declared.kept.Kept.{Kept}
-use Rattle.salt_disk.proofs.CallAfterCall.{keeps_on, keeps_wider}
+use Rattle.salt_disk.proofs.CallAfterCall.{keeps_wider}
 use Rattle.salt_disk.specs.Disks.{IsSettled, KeepsAll, KeepsBut, View}
 use Rattle.salt_disk.specs.declared.disks.DiskErr.{DiskErr}
 use Rattle.salt_model.specs.Kept.{Definition}
@@ -25,8 +27,8 @@ use Rattle.salt_stands.specs.Commits.{found_of, parts_of}
 use Rattle.salt_stands.specs.Coordinator.{Coordinator, are_sound, coordinator_at, coordinator_of, coordinator_pair, defined_by, device_of, is_sound_cont, is_sound_decision, judge_coordinator}
 use Rattle.salt_stands.specs.CoordinatorLog.{CoordinatorLog}
 use Rattle.salt_stands.specs.OpenConts.{do_rise, moved}
-use Rattle.salt_stands.specs.Partition.{part_at}
-use Rattle.salt_stands.specs.Pieces.{IsCoordinator, PartStands, PartView, listed, other_log, tables_of}
+use Rattle.salt_stands.specs.Partition.{part_at, part_pair}
+use Rattle.salt_stands.specs.Pieces.{IsCoordinator, PartStands, listed, other_log, tables_of}
 use Rattle.salt_stands.specs.Stands as opening
 use Rattle.salt_stands.specs.Stands.{Opening, Stands, are_spent, is_same_kind, is_same_shape, logs_of, of_coordinator, of_parts, opening_of, parts_at}
 use Rattle.salt_stands.specs.Words.{and_then, each_from, given, if_sound, or_fault}
@@ -34,7 +36,7 @@ use Rattle.salt_values.specs.declared.cont.Cont.{Cont}
 use Rattle.salt_values.specs.declared.placement.PlaceKind.TheVariants.{Bands, Remainder}
 use Rattle.salt_values.specs.declared.placement.PlaceKind.{PlaceKind}
 use Rattle.salt_values.specs.declared.placement.Shape.{Shape}
-use Rattle.std.proofs.Common.{Bool, Err, IsTrue, List, None, Ok, Option, Result, Some, [], ap, arith, false, inl, inr, length, refl, subst, sym, true, ℕ, ◌+◌, ◌<◌, ◌≡◌, ◌⊎◌, ◌∙◌, ◌∷◌}
+use Rattle.std.proofs.Common.{Bool, Err, IsTrue, List, None, Ok, Option, Result, Some, [], ap, arith, false, inl, inr, refl, subst, sym, true, ℕ, ◌+◌, ◌<◌, ◌≡◌, ◌∙◌, ◌∷◌}
 use Rattle.std.proofs.lemmas.Bool.Decides.{Decides-eqb}
 use Rattle.std.specs.List.{list_all}
 use Rattle.std.specs.Prelude.{IfOk, option_map, suc, zero, ◌&&◌, ◌==◌}
@@ -227,9 +229,17 @@ module _ (schema : List TableDef) (asked : Shape) (d b : View) (some : IsTrue d.
             };
       };
       keeps = own_kept;
+      has_shape = same_shape_is own.c.log.header.shape asked own_shape;
+      unspent = own_unspent;
+      nulls = λ p low. all.nulls p (within p low);
       finds = λ told. parts_answer d.bytes asked own.c (own_at told) own_shape own_unspent (Ok (listed (λ p. tables_of own.c p (all.view p)) 0 (parts_of own.c)))
           (each_listed (part_at reading own.c (logs_of d.bytes) d.bytes) (λ p. tables_of own.c p (all.view p)) 0 (parts_of own.c) (λ p low. part_is_at reading own.c (logs_of d.bytes) d.bytes (0 + p) (all.view (0 + p))
           (subst (λ (bytes : ℕ → List ℕ). PartStands reading own.c (logs_of bytes) bytes (0 + p) (all.view (0 + p))) (bytes_stay told) (all.stand (same_told ∙ told) (own_has told) (0 + p) (within (0 + p) (omega (arith, low)))))));
+      no_pages = λ told dev leaves.
+          let x' = standing.part_at e s.parts.items all.view (decided_by own.c) all.are leaves.p (omega (arith, leaves.low, all.size)) in
+          no_names d.bytes leaves.p dev (all.view leaves.p).which (all.view leaves.p).log
+          (subst (λ (bytes : ℕ → List ℕ). part_pair leaves.p (logs_of bytes) ≡ Counts (all.view leaves.p).which (all.view leaves.p).log) (bytes_stay told) (all.stand (same_told ∙ told) (own_has told) leaves.p leaves.low).counts)
+          x'.1.pages leaves.names;
     }
       where
         before : IsTrue e.told → IsTrue d.told
@@ -298,7 +308,11 @@ opens_at asked d a e x kept keeps o = record {
   v = o.v;
   is = o.is;
   keeps = o.keeps;
+  has_shape = o.has_shape;
+  unspent = o.unspent;
+  nulls = o.nulls;
   finds = λ told. subst (λ (bytes : ℕ → List ℕ). opening_of reading bytes asked ≡ Stands (found_of o.c o.v)) (same_bytes d a keeps) (o.finds (keeps.shape.told ∙ told));
+  no_pages = λ told. subst (λ (bytes : ℕ → List ℕ). (dev : ℕ) → LeavesPages asked bytes dev → ⊥) (same_bytes d a keeps) (o.no_pages (keeps.shape.told ∙ told));
 }
 
 pub map_ok : {A E : Type 0} (r : Result A E) (P Q : A → Type 0) → ((x : A) → P x → Q x) → IfOk r P → IfOk r Q

@@ -1,6 +1,6 @@
 -- The next row of the first n partitions.
 use Rattle.salt_commit.proofs.Keyed.{joined_keyed}
-use Rattle.salt_commit.proofs.Lists.{set_other, set_same}
+use Rattle.salt_commit.proofs.Lists.{map_set, set_other, set_same}
 use Rattle.salt_commit.proofs.Merged.{next_merged}
 use Rattle.salt_commit.proofs.Shared.{listed_push}
 use Rattle.salt_commit.proofs.Standing.{if_some, make_some, part_at}
@@ -22,7 +22,7 @@ use Rattle.salt_model.specs.Tables.{Tables, row_at}
 use Rattle.salt_model.specs.declared.places.Place.{Place}
 use Rattle.salt_partition.proofs.Framed.{partition_kept}
 use Rattle.salt_partition.proofs.Keyed.{part_keyed}
-use Rattle.salt_partition.specs.Partitions.{IsPartition}
+use Rattle.salt_partition.specs.Partitions.{IsPartition, rows_in}
 use Rattle.salt_partition.specs.declared.partition.Partition.{Partition}
 use Rattle.salt_ranges.specs.declared.range.KeyRange.{KeyRange}
 use Rattle.salt_stands.proofs.Places.{or_row, row_at_entries}
@@ -35,7 +35,7 @@ use Rattle.std.proofs.Common.{List, None, Option, Some, [], ap, arith, get_or, i
 use Rattle.std.proofs.lemmas.Bool.{cases_eq}
 use Rattle.std.proofs.lemmas.List.{length-set}
 use Rattle.std.proofs.lemmas.Option.{slice_get_read}
-use Rattle.std.specs.Prelude.{IfSome, slice_get, suc}
+use Rattle.std.specs.Prelude.{map, IfSome, slice_get, suc}
 
 or_or : (a b c : Option (List Value)) → or_row a (or_row b c) ≡ or_row (or_row a b) c
 or_or None b c = refl
@@ -65,6 +65,7 @@ pub record ScannedSoFar (d0 d : View) (parts0 parts : List Partition) (t : ℕ) 
   pub are : (v : ℕ → PartView) (applied : ℕ → List Id) → ArePartitions d0 parts0 v applied → ArePartitions d parts v applied
   pub keeps : KeepsAll d0 d None
   pub cause : HasCause d0 d None
+  pub stay : map rows_in parts ≡ map rows_in parts0
   pub least_is : (v : ℕ → PartView) (applied : ℕ → List Id) → ArePartitions d0 parts0 v applied → least ≡ next_row t range after (tables_of_all v applied n)
 
 pub none_scanned : (d : View) (parts : List Partition) (t : ℕ) (range : KeyRange) (after : Option Value) → ScannedSoFar d d parts parts t range after 0 None
@@ -74,6 +75,7 @@ none_scanned d parts t range after = record {
   are = λ v applied h. h;
   keeps = record { shape = same_shape d; kept = λ dev other. record { bytes = refl; images = λ c left. left }; images = λ dev other c left. left };
   cause = record { later = omega arith; failed = λ is. cc; stops = omega arith };
+  stay = refl;
   least_is = λ v applied h. refl;
 }
 
@@ -81,6 +83,9 @@ module _ (d0 d : View) (parts0 parts : List Partition) (t : ℕ) (range : KeyRan
     (x : Partition) (within : n < length parts) (read : x ≡ get_or parts n x) where
   pub this_one : (v : ℕ → PartView) (applied : ℕ → List Id) → ArePartitions d0 parts0 v applied → IsPartition d x n (v n) (applied n)
   this_one v applied h = if_some (slice_get parts n) x (λ y. IsPartition d y n (v n) (applied n)) (slice_get_read parts (length parts) n x refl within read) ((so_far.are v applied h).each n)
+
+  pub still_rows : (x' : Partition) → rows_in x' ≡ rows_in x → map rows_in (slice_set parts n x') ≡ map rows_in parts0
+  still_rows x' rows = map_set rows_in parts n x x' (slice_get_read parts (length parts) n x refl within read) rows ∙ so_far.stay
 
   module _ (e : View) (x' : Partition) where
     put_back : (v : ℕ → PartView) (applied : ℕ → List Id) → ArePartitions d0 parts0 v applied → SameShape d e → ((dev : ℕ) → IsUnchanged d e dev) → IsPartition e x' n (v n) (applied n) → ArePartitions e (slice_set parts n x') v applied
@@ -104,12 +109,13 @@ module _ (d0 d : View) (parts0 parts : List Partition) (t : ℕ) (range : KeyRan
     pub one_scanned : (found now : Option (List Value)) → KeepsAll d e None → HasCause d e None
         → ((p : ℕ) (v : PartView) (applied : List Id) → IsPartition d x p v applied → IsPartition e x' p v applied)
         → ((p : ℕ) (v : PartView) (applied : List Id) → IsPartition d x p v applied → found ≡ next_row t range after (part_tables applied v.log v.rows))
-        → now ≡ lesser_row least found → ScannedSoFar d0 e parts0 (slice_set parts n x') t range after (n + 1) now
-    one_scanned found now keeps cause stands row is = record {
+        → now ≡ lesser_row least found → rows_in x' ≡ rows_in x → ScannedSoFar d0 e parts0 (slice_set parts n x') t range after (n + 1) now
+    one_scanned found now keeps cause stands row is rows = record {
       size = length-set parts n x' ∙ so_far.size;
       are = λ v applied h. put_back v applied h keeps.shape (λ dev. keeps.kept dev (λ none. none)) (stands n (v n) (applied n) (this_one v applied h));
       keeps = keeps_on (λ _. ⊥) d0 d e None so_far.keeps keeps;
       cause = cause_on d0 d e None so_far.cause cause;
+      stay = still_rows x' rows;
       least_is = λ v applied h.
           let T : ℕ → Tables = λ p. part_tables (applied p) (v p).log (v p).rows in
           is ∙ ap (λ o. lesser_row o found) (so_far.least_is v applied h) ∙ ap (lesser_row (next_row t range after (tables_of_all v applied n))) (row n (v n) (applied n) (this_one v applied h))

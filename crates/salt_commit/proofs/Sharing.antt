@@ -2,20 +2,20 @@
 use Rattle.salt_bytes.specs.Log.{entries_in}
 use Rattle.salt_bytes.specs.Partition.{spell_prepared}
 use Rattle.salt_bytes.specs.Generations.{LogA, LogB, WhichLog}
-use Rattle.salt_commit.proofs.Lists.{set_other, set_same, some_at}
+use Rattle.salt_commit.proofs.Lists.{map_set, set_other, set_same, some_at}
 use Rattle.salt_commit.proofs.Standing.{if_some, make_some}
 use Rattle.salt_commit.specs.Prepares.{FullWhere, IsLogOfShares, IsShareLog, MayPrepareEach, OnePassesLimit, PassesLimit, with_shares}
 use Rattle.salt_commit.specs.Shares.{MayPrepareShare, share_at, with_share}
 use Rattle.salt_commit.specs.Stores.{ArePartitions}
 use Rattle.salt_decisions.proofs.Contents.{log_bytes}
 use Rattle.salt_decisions.specs.Decisions.{IsBeforeOrWith}
-use Rattle.salt_disk.proofs.CallAfterCall.{cause_on, each_shrinks, keeps_on, keeps_wider, same_shape}
-use Rattle.salt_disk.specs.Disks.{EachImage, HasCause, KeepsBut, View}
+use Rattle.salt_disk.proofs.CallAfterCall.{cause_on, each_shrinks, kept_on, keeps_on, keeps_wider, same_shape}
+use Rattle.salt_disk.specs.Disks.{EachImage, HasCause, IsUnchanged, KeepsBut, View}
 use Rattle.salt_disk.specs.declared.disks.DiskErr.TheVariants.{Failed, Full, Memory, Stopped}
 use Rattle.salt_disk.specs.declared.disks.DiskErr.{DiskErr}
 use Rattle.salt_gatelog.specs.Log as gates
 use Rattle.salt_partition.proofs.Framed.{partition_kept}
-use Rattle.salt_partition.specs.Partitions.{IsPartition, log_device, prepared}
+use Rattle.salt_partition.specs.Partitions.{IsPartition, log_device, prepared, rows_in}
 use Rattle.salt_partition.specs.declared.partition.Partition.{Partition}
 use Rattle.salt_stands.specs.Coordinator.{device_of}
 use Rattle.salt_stands.specs.Partition.{part_device}
@@ -26,7 +26,7 @@ use Rattle.std.proofs.Common.{IsTrue, List, None, Option, Some, ap, arith, get_o
 use Rattle.std.proofs.lemmas.Bool.{cases_eq}
 use Rattle.std.proofs.lemmas.List.{length-set}
 use Rattle.std.proofs.lemmas.Option.{slice_get_past, slice_get_read}
-use Rattle.std.specs.Prelude.{IfSome, slice_get, suc, zero}
+use Rattle.std.specs.Prelude.{IfSome, map, slice_get, suc, zero}
 
 share_some : (ss : List (List Change)) (k : ℕ) (s : List Change) → slice_get ss k ≡ Some s → share_at ss k ≡ s
 share_some [] k s e = cc
@@ -79,6 +79,7 @@ pub record SoFar (d0 d : View) (parts0 parts : List Partition) (u : Id) (shares 
       → EachImage d (device_of (part_device p) (v p).which) (IsBeforeOrWith (d0.bytes (device_of (part_device p) (v p).which)) (spell_prepared (prepared u (share_at shares p))))
   pub others : KeepsBut (IsLogOfShares parts0 shares n) d0 d None
   pub cause : HasCause d0 d None
+  pub stay : map rows_in parts ≡ map rows_in parts0
 
 pub at_first : (d : View) (parts : List Partition) (u : Id) (shares : List (List Change)) → SoFar d d parts parts u shares 0
 at_first d parts u shares = record {
@@ -92,6 +93,7 @@ at_first d parts u shares = record {
       inl (ap entries_in (is.is_log.settled c (subst (λ dev. d.image dev c) (sym is.device) left) ∙ ap d.bytes is.device));
   others = record { shape = same_shape d; kept = λ dev other. record { bytes = refl; images = λ c left. left }; images = λ dev other c left. left };
   cause = record { later = omega arith; failed = λ is. cc; stops = omega arith };
+  stay = refl;
 }
 
 module _ (d0 d : View) (parts0 parts : List Partition) (u : Id) (shares : List (List Change)) (n : ℕ) (so_far : SoFar d0 d parts0 parts u shares n) (x : Partition) (within : n < length parts) (read : x ≡ get_or parts n x) where
@@ -110,6 +112,16 @@ module _ (d0 d : View) (parts0 parts : List Partition) (u : Id) (shares : List (
       let y = if_some (slice_get parts0 t.p) t.x (λ y. IsPartition d0 y t.p (v t.p) (applied t.p)) t.at (are.each t.p) in
       let same : n ≡ t.p = one_device n t.p (v n).which (v t.p).which (t.log.device ∙ y.device) in
       omega (arith, same, t.low)
+
+  pub stay_next : (x' : Partition) → rows_in x' ≡ rows_in x → map rows_in (slice_set parts n x') ≡ map rows_in parts0
+  stay_next x' rows = map_set rows_in parts n x x' here rows ∙ so_far.stay
+
+  -- a full device is as it was before all of them
+  pub full_untouched : (e : View) (v : ℕ → PartView) (applied : ℕ → List Id) → ArePartitions d0 parts0 v applied → (k : ℕ) → k ≡ log_device x → IsUnchanged d e (log_device x) → IsUnchanged d0 e k
+  full_untouched e v applied are k at same =
+      let own = this v applied are in
+      let first = so_far.others.kept (device_of (part_device n) (v n).which) (untouched v applied are) in
+      subst (IsUnchanged d0 e) (sym at) (kept_on d0 d e (log_device x) (subst (IsUnchanged d0 d) (sym own.device) first) same)
 
   -- AFTER THE NEXT ONE, whatever it answers
   module _ (e : View) (answer : Option DiskErr) (others : KeepsBut (IsShareLog x (share_at shares n)) d e answer)
@@ -154,8 +166,8 @@ module _ (d0 d : View) (parts0 parts : List Partition) (u : Id) (shares : List (
   pub one_more : (e : View) (x' : Partition) (others : KeepsBut (IsShareLog x (share_at shares n)) d e None) → HasCause d e None
       → (images : (p : ℕ) (v : PartView) (applied : List Id) → IsPartition d x p v applied → EachImage e (log_device x) (IsBeforeOrWith (d.bytes (log_device x)) (spell_prepared (prepared u (share_at shares n)))))
       → ((p : ℕ) (v : PartView) (applied : List Id) → IsPartition d x p v applied → MayPrepareShare v applied u (share_at shares n) → IsPartition e x' p (with_share u (share_at shares n) v) applied)
-      → SoFar d0 e parts0 (slice_set parts n x') u shares (n + 1)
-  one_more e x' others cause images goes = record {
+      → rows_in x' ≡ rows_in x → SoFar d0 e parts0 (slice_set parts n x') u shares (n + 1)
+  one_more e x' others cause images goes rows = record {
     size = length-set parts n x' ∙ so_far.size;
     same = λ p h. let other : p ≢ n = λ is. omega (arith, h, is) in set_other parts n p x' other ∙ so_far.same p (omega (arith, h));
     done = λ v applied are may p h. done_next v applied are may p h (cases_eq p n);
@@ -166,6 +178,7 @@ module _ (d0 d : View) (parts0 parts : List Partition) (u : Id) (shares : List (
     images = images_next e None others images;
     others = others_next e None others images;
     cause = cause_on d0 d e None so_far.cause cause;
+    stay = stay_next x' rows;
   }
     where
       kept : (v : ℕ → PartView) (applied : ℕ → List Id) → ArePartitions d0 parts0 v applied → (p : ℕ) (w : PartView) (us : List Id) → p ≢ n
@@ -210,3 +223,4 @@ pub record Prepares (d e : View) (x : Partition) (u : Id) (cs : List Change) (an
 pub record HasPrepared (d e : View) (x x' : Partition) (u : Id) (cs : List Change) : Type 0 where
   pub cause : HasCause d e None
   pub goes : (p : ℕ) (v : PartView) (applied : List Id) → IsPartition d x p v applied → MayPrepareShare v applied u cs → IsPartition e x' p (with_share u cs v) applied
+  pub rows : rows_in x' ≡ rows_in x

@@ -36,7 +36,7 @@ use Rattle.std.specs.Ordering.{is_eq}
 use Rattle.std.specs.Prelude.{cond, nat_le, nat_lt, suc, zero, ◌==◌}
 
 -- each row fits the table of its place
-abbrev AreFit : {D : Type 0} → Reading D → Coordinator D → Tables → Type 0
+abbrev pub AreFit : {D : Type 0} → Reading D → Coordinator D → Tables → Type 0
 AreFit r c t = (q : Place) (row : List Value) → row_at q t ≡ Some row → r.fits_row c.definitions q.table row ≡ true
 
 module _ {D : Type 0} (r : Reading D) (c : Coordinator D) (p : ℕ) where
@@ -82,18 +82,19 @@ joined_are_fit r c T p (suc n) h q row e = by (row_at q (T p)) refl (joined_are_
     by None is more found = more found
     by (Some x) is more found = h p (omega arith) q row (is ∙ found)
 
-store_is_fit : {D : Type 0} (r : Reading D) (d : View) (x : Store) (which : WhichLog) (c : Coordinator D) (v : ℕ → PartView) → IsStore r d x which c v → IsTrue d.told → AreFit r c (found_of c v).kept.tables
-store_is_fit r d x which c v is told = joined_are_fit r c (each_tables c v) 0 (parts_of c) each
+-- the tables of a partition
+pub part_is_fit : {D : Type 0} (r : Reading D) (d : View) (x : Store) (which : WhichLog) (c : Coordinator D) (v : ℕ → PartView) → IsStore r d x which c v → IsTrue d.told → (k : ℕ) → k < parts_of c → AreFit r c (each_tables c v k)
+part_is_fit r d x which c v is told k low =
+    let one = part_at d x.parts.items v (decided_by c) is.parts k (omega (arith, low, is.size)) in
+    let sound = sound_units r c k (v k).log ((is.sound told).part k low) in
+    subst (λ rows. AreFit r c (with_changes (rows ++ decided_changes (decided_by c k) (v k).log.prepared) no_rows)) (sym one.1.none)
+    (units_are_fit r c k (decided_by c k) (v k).log.prepared no_rows sound no_row)
   where
     no_row : AreFit r c no_rows
     no_row q row e = cc
 
-    each : (k : ℕ) → k < 0 + parts_of c → AreFit r c (each_tables c v k)
-    each k low =
-        let one = part_at d x.parts.items v (decided_by c) is.parts k (omega (arith, low, is.size)) in
-        let sound = sound_units r c k (v k).log ((is.sound told).part k (omega (arith, low))) in
-        subst (λ rows. AreFit r c (with_changes (rows ++ decided_changes (decided_by c k) (v k).log.prepared) no_rows)) (sym one.1.none)
-        (units_are_fit r c k (decided_by c k) (v k).log.prepared no_rows sound no_row)
+store_is_fit : {D : Type 0} (r : Reading D) (d : View) (x : Store) (which : WhichLog) (c : Coordinator D) (v : ℕ → PartView) → IsStore r d x which c v → IsTrue d.told → AreFit r c (found_of c v).kept.tables
+store_is_fit r d x which c v is told = joined_are_fit r c (each_tables c v) 0 (parts_of c) (λ k low. part_is_fit r d x which c v is told k (omega (arith, low)))
 
 -- the next row of a range meets the range's table
 pub next_meets : (d : View) (x : Store) (which : WhichLog) (c : Coordinator Definition) (v : ℕ → PartView) → IsStore reading d x which c v → IsTrue d.told → (schema : List TableDef) → schema ≡ tables_of c.definitions

@@ -97,7 +97,7 @@ module _ {D : Type 0} (r : Reading D) (d : View) (x : Store) (which : WhichLog) 
     part = λ p low. let q = partition p low in part_stands r c d q.0 p (v p) (decided_by c p) q.1 told ((is.sound told).part p low);
   }
 
-  no_pages : (p : ℕ) → p < parts_of c → (v p).log.header.sides ≡ []
+  pub no_pages : (p : ℕ) → p < parts_of c → (v p).log.header.sides ≡ []
   no_pages p low = (partition p low).1.pages
 
   -- no page is read, so that all are read as before

@@ -1,5 +1,6 @@
 -- How a store is begun and opened.
 use Rattle.salt_ast.specs.declared.trees.TableDef.{TableDef}
+use Rattle.salt_bytes.specs.Formats.{has_nulls}
 use Rattle.salt_bytes.specs.Generations.{BothBlank, Counts, Faulty, Pair, WhichLog}
 use Rattle.salt_bytes.specs.Partition.{spell_partition_header}
 use Rattle.salt_commit.specs.Stores.{ArePartitions, IsStore, decided_by, reading}
@@ -17,7 +18,7 @@ use Rattle.salt_model.specs.Tables.{Tables}
 use Rattle.salt_partition.specs.Openings.{IsLogDevice, has_pages, part_fault}
 use Rattle.salt_partition.specs.Partitions.{IsPartition}
 use Rattle.salt_partition.specs.declared.partition.Partition.{Partition}
-use Rattle.salt_stands.specs.Commits.{found_of}
+use Rattle.salt_stands.specs.Commits.{found_of, parts_of}
 use Rattle.salt_stands.specs.Coordinator.{Coordinator, coordinator_at, coordinator_of, coordinator_pair}
 use Rattle.salt_stands.specs.CoordinatorLog.{CoordinatorLog}
 use Rattle.salt_stands.specs.FirstOpening.{first_part_header}
@@ -25,11 +26,11 @@ use Rattle.salt_stands.specs.Partition.{pages_device, part_at, part_device, part
 use Rattle.salt_stands.specs.PartitionLog.{PartitionLog}
 use Rattle.salt_stands.specs.Pieces.{PartStands, PartView}
 use Rattle.salt_stands.specs.Stands as opening
-use Rattle.salt_stands.specs.Stands.{Stands, logs_of, opening_of}
+use Rattle.salt_stands.specs.Stands.{Stands, are_spent, logs_of, opening_of}
 use Rattle.salt_stands.specs.Words.{has_bit}
 use Rattle.salt_values.specs.declared.id.Id.{Id}
 use Rattle.salt_values.specs.declared.placement.Shape.{Shape}
-use Rattle.std.specs.Prelude.{Err, IsTrue, List, Ok, Some, [], if◌then◌else◌, length, true, ℕ, ⊤, ◌+◌, ◌<◌, ◌≡◌, ◌⊎◌, ◌∷◌}
+use Rattle.std.specs.Prelude.{Bool, Err, IsTrue, List, Ok, Some, [], false, if◌then◌else◌, length, nat_lt, true, ℕ, ⊤, ◌+◌, ◌<◌, ◌≡◌, ◌⊎◌, ◌∷◌, ◌||◌}
 
 -- there are devices for n partitions, and nothing is pending on any device
 pub record HasRoom (d : View) (n : ℕ) : Type 0 where
@@ -46,14 +47,9 @@ pub record IsPartLog (n dev : ℕ) : Type 0 where
 abbrev pub IsStoreLog : ℕ → ℕ → Type 0
 IsStoreLog n dev = IsOfCoordinator dev ⊎ IsPartLog n dev
 
--- it opens: the store stands, and what it stands for is what an opening finds
-pub record OpensStore (d e : View) (asked : Shape) (x : Store) (kept : Kept) : Type 0 where
-  pub which : WhichLog
-  pub c : Coordinator Definition
-  pub v : ℕ → PartView
-  pub is : IsStore reading e x which c v
-  pub keeps : IsKept kept c.log
-  pub finds : IsTrue d.told → opening_of reading d.bytes asked ≡ Stands (found_of c v)
+-- a partition under a coordinator whose format is not the first spells NULL
+abbrev pub spells_under : (format : ℕ) → PartView → Bool
+spells_under format v = nat_lt format 2 || has_nulls v.log.header.format
 
 -- of these units, each with a mask, those whose mask has bit p
 abbrev pub named_units : ℕ → List Id → List ℕ → List Id
@@ -120,6 +116,7 @@ IsSchemaWhere schema (Counts which log) = IsSchemaOf schema log
 pub record OpensIn (schema : List TableDef) (shape : Shape) (d e : View) (c : Coordinator Definition) (p : ℕ) (x : Partition) : Type 0 where
   pub view : PartView
   pub is : IsPartition e x p view (decided_by c p)
+  pub nulls : spells_under c.log.header.format view ≡ true
   pub stands : IsTrue d.told → HasTables schema shape c → PartStands reading c (logs_of d.bytes) d.bytes p view
 
 -- the first n of them do
@@ -127,6 +124,7 @@ pub record OpensAll (schema : List TableDef) (shape : Shape) (n : ℕ) (d e : Vi
   pub size : length parts ≡ n
   pub view : ℕ → PartView
   pub are : ArePartitions e parts view (decided_by c)
+  pub nulls : (p : ℕ) → p < n → spells_under c.log.header.format (view p) ≡ true
   pub stand : IsTrue d.told → HasTables schema shape c → (p : ℕ) → p < n → PartStands reading c (logs_of d.bytes) d.bytes p (view p)
 
 -- the partition's log that counts names pages, which are not read yet
@@ -174,3 +172,17 @@ OpeningFails asked bytes Failed = ⊤
 OpeningFails asked bytes Stopped = coordinator_pair (logs_of bytes) ≡ BothBlank
 OpeningFails asked bytes (Full dev) = coordinator_pair (logs_of bytes) ≡ BothBlank
 OpeningFails asked bytes Memory = ⊤
+
+-- It opens: the store stands, in the shape that is asked for, and its numbers are not spent. What it stands for is what an opening
+-- finds, and no pages are named there.
+pub record OpensStore (d e : View) (asked : Shape) (x : Store) (kept : Kept) : Type 0 where
+  pub which : WhichLog
+  pub c : Coordinator Definition
+  pub v : ℕ → PartView
+  pub is : IsStore reading e x which c v
+  pub keeps : IsKept kept c.log
+  pub has_shape : c.log.header.shape ≡ asked
+  pub unspent : are_spent c.log.told.boot c.log.told.decisions ≡ false
+  pub nulls : (p : ℕ) → p < parts_of c → spells_under c.log.header.format (v p) ≡ true
+  pub finds : IsTrue d.told → opening_of reading d.bytes asked ≡ Stands (found_of c v)
+  pub no_pages : IsTrue d.told → (dev : ℕ) → LeavesPages asked d.bytes dev → ⊥

@@ -8,19 +8,21 @@ use Rattle.salt_decisions.specs.Decisions.{IsDecisions}
 use Rattle.salt_definitions.specs.Fitting.{definitions_reading}
 use Rattle.salt_disk.specs.Disks.{IsImage, View}
 use Rattle.salt_model.specs.Kept.{Definition}
-use Rattle.salt_model.specs.Tables.{place, row_at}
-use Rattle.salt_partition.specs.Partitions.{IsPartition}
+use Rattle.salt_model.specs.Tables.{Entry, Tables, place, row_at, with_changes}
+use Rattle.salt_partition.specs.Partitions.{IsPartition, rows_in}
 use Rattle.salt_partition.specs.declared.partition.Partition.{Partition}
 use Rattle.salt_stands.specs.Commits.{parts_of}
 use Rattle.salt_stands.specs.Coordinator.{Coordinator, decided_for}
 use Rattle.salt_stands.specs.Partition.{is_sound_log}
-use Rattle.salt_stands.specs.Pieces.{IsCoordinator, PartView}
+use Rattle.salt_stands.specs.Pieces.{IsCoordinator, PartView, listed}
+use Rattle.salt_stands.specs.Placed.{changes_at}
 use Rattle.salt_stands.specs.Reading.{Reading}
 use Rattle.salt_stands.specs.Stands.{Found, judged}
+use Rattle.salt_values.specs.declared.change.Change.{Change}
 use Rattle.salt_values.specs.declared.id.Id.{Id}
 use Rattle.salt_values.specs.declared.placement.Shape.{Shape}
 use Rattle.salt_values.specs.declared.value.Value.{Value}
-use Rattle.std.specs.Prelude.{Option, IfSome, IsTrue, List, Ok, Some, false, length, slice_get, true, ℕ, ◌+◌, ◌<◌, ◌≡◌, ◌⊎◌}
+use Rattle.std.specs.Prelude.{Option, IfSome, IsTrue, List, Ok, Some, false, length, map, slice_get, true, ℕ, ◌+◌, ◌<◌, ◌≡◌, ◌⊎◌}
 
 -- definitions are read from their canonical texts
 abbrev pub reading : Reading Definition
@@ -39,6 +41,18 @@ coordinator_device x = decisions.device_in x.decisions
 
 abbrev pub coordinator_gate : Store → ℕ
 coordinator_gate x = decisions.gate_in x.decisions
+
+-- the rows in memory, partition by partition
+abbrev pub rows_of_store : Store → List (List Entry)
+rows_of_store x = map rows_in x.parts.items
+
+-- the rows of n tables, one after another
+abbrev pub rows_of_all : (ℕ → Tables) → ℕ → List (List Entry)
+rows_of_all tables n = listed (λ p. (tables p).list) 0 n
+
+-- each with the changes of its part made
+abbrev pub each_changed : Shape → List Change → (ℕ → Tables) → ℕ → Tables
+each_changed shape cs tables p = with_changes (changes_at shape p cs) (tables p)
 
 -- the units that are decided with a partition's bit
 abbrev pub decided_by : {D : Type 0} → Coordinator D → ℕ → List Id

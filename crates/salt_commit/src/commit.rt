@@ -4,17 +4,19 @@ ghost use Rattle.salt_bytes.specs.Generations.{WhichLog};
 ghost use Rattle.salt_bytes.specs.declared.moves.Move.{Move};
 ghost use Rattle.salt_commit.specs.Commits.{CommitPassesLimit, IsCommitLog, MayCommitUnit, StandsToCommit};
 ghost use Rattle.salt_commit.specs.Errors.{store_err};
+ghost use Rattle.salt_commit.specs.Openings.{NamesPages};
 ghost use Rattle.salt_commit.specs.Prepares.{FullWhere};
 ghost use Rattle.salt_commit.specs.Shares.{next_decision};
-ghost use Rattle.salt_commit.specs.Stores.{IsStore, StandForEither, last_decision, reading};
-ghost use Rattle.salt_disk.specs.Disks.{HasCause, KeepsBut};
+ghost use Rattle.salt_commit.specs.Stores.{IsStore, StandForEither, last_decision, reading, rows_of_store};
+ghost use Rattle.salt_commit.specs.declared.error.StoreErr.{StoreErr};
+ghost use Rattle.salt_disk.specs.Disks.{HasCause, IsImage, IsUnchanged, KeepsBut};
 ghost use Rattle.salt_model.specs.Kept.{Definition};
-ghost use Rattle.salt_stands.specs.Commits.{found_after, found_of, view_after};
+ghost use Rattle.salt_stands.specs.Commits.{found_after, found_of, parts_of, view_after};
 ghost use Rattle.salt_stands.specs.Coordinator.{Coordinator};
 ghost use Rattle.salt_stands.specs.Pieces.{PartView, with_decision};
 ghost use Rattle.salt_values.specs.Placement.{GivesPlaceOf, TakesEachKey};
 ghost use Rattle.salt_values.specs.declared.cont.Cont.{Cont};
-ghost use Rattle.std.specs.Prelude.{IfOk, IsTrue, List, OnOk, ℕ, ◌+◌, ◌-◌, ◌<◌, ◌^◌, ◌≡◌};
+ghost use Rattle.std.specs.Prelude.{Err, IfOk, IsTrue, List, OnOk, ℕ, ◌+◌, ◌-◌, ◌<◌, ◌^◌, ◌≡◌, ◌≢◌};
 
 use crate::error::StoreErr;
 use crate::prepare::{apply_all, prepare_all};
@@ -29,7 +31,7 @@ impl Store {
     /// Commits a unit, and gives the number of its decision: its changes are prepared in each partition that has some, in order
     /// of numbers, then it is decided with its move, and then applied. After Ok the unit is kept. Whatever the call answers,
     /// each image of the devices stands for what stood before, or for that with the unit: its changes in the rows, one decision
-    /// more, and the continuations that its move leaves open.
+    /// more, and the continuations that its move leaves open. No image names pages.
     pub fn commit<D: Disks, F: Fn(PlaceKind, &Key, u32) -> u32>(
         &mut self,
         disks: &mut D,
@@ -50,10 +52,15 @@ impl Store {
         ensures images { (which : WhichLog) (c : Coordinator Definition) (v : ℕ → PartView) (m : Move) (conts : List Cont) → IsStore reading (D.view disks.old) self.old which c v
             → MayCommitUnit reading c v unit changes.now mv.now m conts → IsTrue (D.view disks.old).told
             → StandForEither reading (D.view disks.new) (found_of c v) (found_after c v changes.now (next_decision c unit changes.now mv.now) conts) }
+        ensures pages { (which : WhichLog) (c : Coordinator Definition) (v : ℕ → PartView) (m : Move) (conts : List Cont) → IsStore reading (D.view disks.old) self.old which c v
+            → MayCommitUnit reading c v unit changes.now mv.now m conts → IsTrue (D.view disks.old).told
+            → (image : ℕ → List ℕ) → IsImage (D.view disks.new) image → (p dev : ℕ) → p < parts_of c → NamesPages image p dev → ⊥ }
 
+        ensures stay { (e : StoreErr) → result ≡ Err e → e ≢ StoreErr.Memory → rows_of_store self.new ≡ rows_of_store self.old }
         ensures others { KeepsBut (IsCommitLog self.old changes.now) (D.view disks.old) (D.view disks.new) (store_err result) }
         ensures cause { HasCause (D.view disks.old) (D.view disks.new) (store_err result) }
         ensures full { FullWhere (CommitPassesLimit (D.view disks.old).limit self.old unit changes.now mv.now) (store_err result) }
+        ensures untouched { (n : ℕ) → result ≡ Err (StoreErr.Full n) → IsUnchanged (D.view disks.old) (D.view disks.new) n }
     {
         told_changes(changes.as_slice());
         let shape = self.decisions.shape();

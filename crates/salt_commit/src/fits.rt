@@ -14,7 +14,7 @@ ghost use Rattle.salt_stands.specs.Pieces.{PartView};
 ghost use Rattle.salt_values.specs.Placement.{GivesPlaceOf, IsParts, TakesEachKey};
 ghost use Rattle.salt_values.specs.declared.id.Id.{Id};
 ghost use Rattle.std.specs.List.{list_all};
-ghost use Rattle.std.specs.Prelude.{IfOk, IsTrue, List, slice_get, ℕ, ◌<◌, ◌≡◌};
+ghost use Rattle.std.specs.Prelude.{IfOk, IsTrue, List, nat_lt, slice_get, ℕ, ◌<◌, ◌≡◌, ◌||◌};
 ghost use Rattle.std.specs.Result.{result_err};
 
 use crate::shares::part_of;
@@ -89,7 +89,8 @@ fn changes_fit<F: Fn(PlaceKind, &Key, u32) -> u32>(
 
 /// Whether a partition's log may stand under a coordinator's of this format: where that is not the first, NULL is spelled in it.
 pub fn is_format_under(format: u8, nulls: bool) -> bool
-    ensures { (own : ℕ) → nulls ≡ has_nulls own → own < 3 → result ≡ is_format_under format own }
+    ensures is { result ≡ (nat_lt format 2 || nulls) }
+    ensures told { (own : ℕ) → nulls ≡ has_nulls own → own < 3 → result ≡ is_format_under format own }
 {
     format < 2 || nulls
 }

@@ -12,6 +12,8 @@ mod open;
 mod parts;
 mod prepare;
 mod reads;
+mod rows;
+mod same;
 mod shares;
 mod store;
 mod told;

@@ -3,7 +3,7 @@
 ghost use Rattle.salt_bytes.specs.Generations.{WhichLog};
 ghost use Rattle.salt_commit.specs.Errors.{store_err};
 ghost use Rattle.salt_commit.specs.Loads.{AreRowsOf, IsPartOf};
-ghost use Rattle.salt_commit.specs.Stores.{IsStore, Stands, reading};
+ghost use Rattle.salt_commit.specs.Stores.{IsStore, Stands, reading, rows_of_store};
 ghost use Rattle.salt_definitions.specs.Fitting.{tables_of};
 ghost use Rattle.salt_disk.specs.Disks.{HasCause, KeepsAll, OnlyFails, UnlessDown};
 ghost use Rattle.salt_eval.specs.Meets.{meets_table};
@@ -94,6 +94,7 @@ impl Store {
         ensures typed { IfOk result (λ rows. AreRowsOf schema.now (view.tables_of rows.entries)) }
         ensures stands { (which : WhichLog) (c : Coordinator Definition) (v : ℕ → PartView) → IsStore reading (D.view disks.old) self.old which c v
             → UnlessDown (store_err result) (IsStore reading (D.view disks.new) self.new which c v) }
+        ensures stay { rows_of_store self.new ≡ rows_of_store self.old }
         ensures kept { KeepsAll (D.view disks.old) (D.view disks.new) (store_err result) }
         ensures cause { HasCause (D.view disks.old) (D.view disks.new) (store_err result) }
         ensures answers { OnlyFails (store_err result) }

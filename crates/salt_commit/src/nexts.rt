@@ -4,10 +4,11 @@ ghost use Rattle.salt_commit.specs.Reads.{StandAll, is_row_below, lesser_row, ta
 ghost use Rattle.salt_commit.specs.Stores.{ArePartitions};
 ghost use Rattle.salt_disk.specs.Disks.{HasCause, KeepsAll, OnlyFails, UnlessDown};
 ghost use Rattle.salt_eval.specs.Views.{next_row};
+ghost use Rattle.salt_partition.specs.Partitions.{rows_in};
 ghost use Rattle.salt_stands.specs.Pieces.{PartView};
 ghost use Rattle.salt_values.specs.declared.id.Id.{Id};
 ghost use Rattle.std.specs.Option.{option_copied};
-ghost use Rattle.std.specs.Prelude.{IfOk, List, length, ℕ, ◌≡◌};
+ghost use Rattle.std.specs.Prelude.{IfOk, List, length, map, ℕ, ◌≡◌};
 ghost use Rattle.std.specs.Result.{result_err};
 
 use salt_disk::{DiskErr, Disks};
@@ -61,6 +62,7 @@ pub fn next_of_all<D: Disks>(
     ensures cause { HasCause (D.view disks.old) (D.view disks.new) (result_err result) }
     ensures answers { OnlyFails (result_err result) }
     ensures size { length parts.new.items ≡ length parts.old.items }
+    ensures stay { map rows_in parts.new.items ≡ map rows_in parts.old.items }
 {
     let mut least = None;
     for number in 0..parts.len() {

@@ -1,7 +1,7 @@
 //! A store is opened, or begun.
 
 ghost use Rattle.salt_bytes.specs.Generations.{BothBlank};
-ghost use Rattle.salt_commit.specs.Openings.{HasRoom, IsNoRefusal, IsPartLog, IsSchemaWhere, IsStoreLog, OpeningFails, OpensStore, PartPassesLimit, StorePassesLimit};
+ghost use Rattle.salt_commit.specs.Openings.{HasRoom, IsNoRefusal, IsPartLog, IsSchemaWhere, IsStoreLog, LeavesPages, OpeningFails, OpensStore, PartPassesLimit, StorePassesLimit};
 ghost use Rattle.salt_commit.specs.Prepares.{FullWhere};
 ghost use Rattle.salt_commit.specs.Stores.{ArePartitions, reading};
 ghost use Rattle.salt_decisions.specs.Errors.{open_err};
@@ -40,7 +40,7 @@ fn create_all<D: Disks>(alloc: Global, disks: &mut D, parts: u8) -> Result<Vec<P
 }
 
 /// Begins a store where both devices of the coordinator are blank: first its partitions, and then the coordinator's log up to
-/// its header. Whatever it answers, each image of the devices stands for a new database.
+/// its header. Whatever it answers, each image of the devices stands for a new database, and names no pages.
 fn begin_store<D: Disks>(
     alloc: Global,
     disks: &mut D,
@@ -52,6 +52,7 @@ fn begin_store<D: Disks>(
     ensures ok { IfOk result (λ made. OpensStore (D.view disks.old) (D.view disks.new) shape made.0 made.1) }
     ensures err { IsTrue (D.view disks.old).told → IfErr result IsNoRefusal }
     ensures images { IsTrue (D.view disks.old).told → (image : ℕ → List ℕ) → IsImage (D.view disks.new) image → judged reading image shape ≡ Ok (nothing_found shape) }
+    ensures pages { IsTrue (D.view disks.old).told → (image : ℕ → List ℕ) → IsImage (D.view disks.new) image → (dev : ℕ) → LeavesPages shape image dev → ⊥ }
     ensures others { KeepsBut (IsStoreLog shape.parts) (D.view disks.old) (D.view disks.new) (open_err result) }
     ensures cause { HasCause (D.view disks.old) (D.view disks.new) (open_err result) }
     ensures full { IsTrue (D.view disks.old).told → FullWhere (StorePassesLimit (D.view disks.old).limit shape) (open_err result) }
@@ -101,7 +102,8 @@ fn open_counting<D: Disks, F: Fn(PlaceKind, &Key, u32) -> u32>(
 }
 
 /// Opens the store of the devices, of the shape that is asked for: what it stands for is what stood on them. Blank devices are
-/// made a new one's, and then each image of them, whatever is answered, stands for a new database. Else nothing is written.
+/// made a new one's, and then each image of them, whatever is answered, stands for a new database and names no pages. Else
+/// nothing is written.
 ///
 /// The schema has the tables of the definitions in the coordinator's log, as who opens has read and judged them. The refusals
 /// come in this order, each exactly where it is so: the coordinator's `NotSalt`, `OtherShape`, `NumbersSpent`, and `NotSalt` of
@@ -125,6 +127,8 @@ pub fn open_store<D: Disks, F: Fn(PlaceKind, &Key, u32) -> u32>(
     ensures kept { IsTrue (D.view disks.old).told → ¬ (coordinator_pair (logs_of (D.view disks.old).bytes) ≡ BothBlank) → KeepsAll (D.view disks.old) (D.view disks.new) (open_err result) }
     ensures images { IsTrue (D.view disks.old).told → coordinator_pair (logs_of (D.view disks.old).bytes) ≡ BothBlank
         → (image : ℕ → List ℕ) → IsImage (D.view disks.new) image → judged reading image shape ≡ Ok (nothing_found shape) }
+    ensures pages { IsTrue (D.view disks.old).told → coordinator_pair (logs_of (D.view disks.old).bytes) ≡ BothBlank
+        → (image : ℕ → List ℕ) → IsImage (D.view disks.new) image → (dev : ℕ) → LeavesPages shape image dev → ⊥ }
 
     ensures others { KeepsBut (IsStoreLog shape.parts) (D.view disks.old) (D.view disks.new) (open_err result) }
     ensures cause { HasCause (D.view disks.old) (D.view disks.new) (open_err result) }

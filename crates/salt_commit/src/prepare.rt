@@ -5,13 +5,15 @@ ghost use Rattle.salt_commit.specs.Prepares.{AreSharesLast, FullWhere, IsLogOfSh
 ghost use Rattle.salt_commit.specs.Shares.{MayPrepareShare, applied_with, share_at, with_share};
 ghost use Rattle.salt_commit.specs.Stores.{ArePartitions};
 ghost use Rattle.salt_decisions.specs.Decisions.{IsBeforeOrWith};
-ghost use Rattle.salt_disk.specs.Disks.{EachImage, HasCause, KeepsAll, KeepsBut, OnlyFails};
-ghost use Rattle.salt_partition.specs.Partitions.{IsPartition, log_device, prepared};
+ghost use Rattle.salt_disk.specs.Disks.{EachImage, HasCause, IsUnchanged, KeepsAll, KeepsBut, OnlyFails};
+ghost use Rattle.salt_disk.specs.declared.disks.DiskErr.TheVariants.{Full, Memory};
+ghost use Rattle.salt_disk.specs.declared.disks.DiskErr.{DiskErr};
+ghost use Rattle.salt_partition.specs.Partitions.{IsPartition, log_device, prepared, rows_in};
 ghost use Rattle.salt_stands.specs.Coordinator.{device_of};
 ghost use Rattle.salt_stands.specs.Partition.{part_device};
 ghost use Rattle.salt_stands.specs.Pieces.{PartView};
 ghost use Rattle.salt_values.specs.declared.id.Id.{Id};
-ghost use Rattle.std.specs.Prelude.{IsTrue, List, OnOk, length, ℕ, ◌<◌, ◌≡◌};
+ghost use Rattle.std.specs.Prelude.{Err, IsTrue, List, OnOk, length, map, ℕ, ◌<◌, ◌≡◌};
 ghost use Rattle.std.specs.Result.{result_err};
 
 use salt_disk::{DiskErr, Disks};
@@ -31,9 +33,11 @@ fn prepare_share<D: Disks>(
         → OnOk result (IsPartition (D.view disks.new) part.new p (with_share unit share.now v) applied) }
     ensures images { (p : ℕ) (v : PartView) (applied : List Id) → IsPartition (D.view disks.old) part.old p v applied
         → EachImage (D.view disks.new) (log_device part.old) (IsBeforeOrWith ((D.view disks.old).bytes (log_device part.old)) (spell_prepared (prepared unit share.now))) }
+    ensures stay { rows_in part.new ≡ rows_in part.old }
     ensures others { KeepsBut (IsShareLog part.old share.now) (D.view disks.old) (D.view disks.new) (result_err result) }
     ensures cause { HasCause (D.view disks.old) (D.view disks.new) (result_err result) }
     ensures full { FullWhere (PassesLimit (D.view disks.old).limit part.old unit share.now) (result_err result) }
+    ensures untouched { (n : ℕ) → result ≡ Err (Full n) → IsUnchanged (D.view disks.old) (D.view disks.new) (log_device part.old) }
 {
     if share.is_empty() {
         return Ok(());
@@ -55,9 +59,11 @@ pub fn prepare_all<D: Disks>(
         → OnOk result (ArePartitions (D.view disks.new) parts.new.items (with_shares unit shares.now v) applied) }
     ensures images { (v : ℕ → PartView) (applied : ℕ → List Id) → ArePartitions (D.view disks.old) parts.old.items v applied → (p : ℕ) → p < length parts.old.items
         → EachImage (D.view disks.new) (device_of (part_device p) (v p).which) (IsBeforeOrWith ((D.view disks.old).bytes (device_of (part_device p) (v p).which)) (spell_prepared (prepared unit (share_at shares.now p)))) }
+    ensures stay { map rows_in parts.new.items ≡ map rows_in parts.old.items }
     ensures others { KeepsBut (IsLogOfShares parts.old.items shares.now (length parts.old.items)) (D.view disks.old) (D.view disks.new) (result_err result) }
     ensures cause { HasCause (D.view disks.old) (D.view disks.new) (result_err result) }
     ensures full { FullWhere (OnePassesLimit (D.view disks.old).limit parts.old.items unit shares.now) (result_err result) }
+    ensures untouched { (n : ℕ) → result ≡ Err (Full n) → IsUnchanged (D.view disks.old) (D.view disks.new) n }
     ensures size { length parts.new.items ≡ length parts.old.items }
 {
     for number in 0..parts.len() {
@@ -81,6 +87,7 @@ fn apply_share<D: Disks>(
     ensures kept { KeepsAll (D.view disks.old) (D.view disks.new) (result_err result) }
     ensures cause { HasCause (D.view disks.old) (D.view disks.new) (result_err result) }
     ensures answers { OnlyFails (result_err result) }
+    ensures lacks { (e : DiskErr) → result ≡ Err e → e ≡ Memory }
 {
     if share.is_empty() {
         return Ok(());
@@ -102,6 +109,7 @@ pub fn apply_all<D: Disks>(
     ensures kept { KeepsAll (D.view disks.old) (D.view disks.new) (result_err result) }
     ensures cause { HasCause (D.view disks.old) (D.view disks.new) (result_err result) }
     ensures answers { OnlyFails (result_err result) }
+    ensures lacks { (e : DiskErr) → result ≡ Err e → e ≡ Memory }
     ensures size { length parts.new.items ≡ length parts.old.items }
 {
     for number in 0..parts.len() {

@@ -2,7 +2,7 @@
 
 ghost use Rattle.salt_bytes.specs.Generations.{WhichLog};
 ghost use Rattle.salt_commit.specs.Errors.{store_err};
-ghost use Rattle.salt_commit.specs.Stores.{IsStore, Stands, reading, row_in};
+ghost use Rattle.salt_commit.specs.Stores.{IsStore, Stands, reading, row_in, rows_of_store};
 ghost use Rattle.salt_disk.specs.Disks.{HasCause, KeepsAll, OnlyFails, UnlessDown};
 ghost use Rattle.salt_eval.specs.Views.{next_row};
 ghost use Rattle.salt_model.specs.Kept.{Definition};
@@ -62,6 +62,7 @@ impl Store {
             → IfOk result (λ row. row ≡ next_row table range.now (option_copied after.entry) (found_of c v).kept.tables) }
         ensures stands { (which : WhichLog) (c : Coordinator Definition) (v : ℕ → PartView) → IsStore reading (D.view disks.old) self.old which c v
             → UnlessDown (store_err result) (IsStore reading (D.view disks.new) self.new which c v) }
+        ensures stay { rows_of_store self.new ≡ rows_of_store self.old }
         ensures kept { KeepsAll (D.view disks.old) (D.view disks.new) (store_err result) }
         ensures cause { HasCause (D.view disks.old) (D.view disks.new) (store_err result) }
         ensures answers { OnlyFails (store_err result) }

@@ -1,6 +1,6 @@
 use Rattle.salt_commit.proofs.Fit.{put_fits}
 use Rattle.salt_commit.proofs.fits.change_fits.Goals as goal
-use Rattle.std.proofs.Common.{arith, false, length, refl, sym, true, ◌<◌, ◌≡◌, ◌∙◌}
+use Rattle.std.proofs.Common.{arith, false, refl, sym, true, ◌∙◌}
 
 pub returns-then-meets : goal.returns-then-meets
 returns-then-meets g c c' has =

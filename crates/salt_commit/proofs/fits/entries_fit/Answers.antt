@@ -3,7 +3,7 @@ use Rattle.salt_commit.proofs.fits.entries_fit.Goals as goal
 use Rattle.salt_commit.specs.Stores.{reading}
 use Rattle.salt_partition.proofs.Framed.{units_counted}
 use Rattle.salt_stands.specs.Partition.{is_sound_change}
-use Rattle.std.proofs.Common.{ap, arith, length, ◌<◌, ◌≡◌, ◌≤◌, ◌∙◌}
+use Rattle.std.proofs.Common.{ap, arith, length, ◌<◌, ◌≤◌, ◌∙◌}
 use Rattle.std.specs.List.{list_all}
 
 pub returns-in_default-clause-fit : goal.returns-in_default-clause-fit

@@ -1,4 +1,4 @@
-use Rattle.salt_commit.proofs.Scanned.{none_scanned, one_scanned, still_are, this_one}
+use Rattle.salt_commit.proofs.Scanned.{none_scanned, one_scanned, still_are, still_rows, this_one}
 use Rattle.salt_commit.proofs.nexts.next_of_all.Goals as goal
 use Rattle.std.proofs.Common.{Some, arith, length, ◌<◌}
 use Rattle.std.proofs.lemmas.Result.{err_from_is_err_and}
@@ -36,4 +36,11 @@ loop-number-preserved g c =
     let d = g.D.Disks.view l.disks in
     let within : l.number < length l.parts.items = omega (arith, l.invariant.size) in
     one_scanned (g.D.Disks.view c.args.disks.now) d c.args.parts.now.items l.parts.items c.args.table c.args.range.now (option_copied c.args.after) l.number l.least l.invariant c.index_mut-part.result.now within c.index_mut-part.ensures.value
-    (g.D.Disks.view c.next_in.new.disks) c.next_in.new.self c.in_ok-found.found _ c.in_ok-found.ensures.kept c.in_ok-found.ensures.cause c.in_ok-found.ensures.stands c.in_ok-found.ensures.row c.lesser_row-least.ensures
+    (g.D.Disks.view c.next_in.new.disks) c.next_in.new.self c.in_ok-found.found _ c.in_ok-found.ensures.kept c.in_ok-found.ensures.cause c.in_ok-found.ensures.stands c.in_ok-found.ensures.row c.lesser_row-least.ensures c.in_ok-found.ensures.stay
+
+pub returns-in_err-found-clause-stay : goal.returns-in_err-found-clause-stay
+returns-in_err-found-clause-stay g c =
+    let l = c.loop-number in
+    let within : l.number < length l.parts.items = omega (arith, l.invariant.size) in
+    still_rows (g.D.Disks.view c.args.disks.now) (g.D.Disks.view l.disks) c.args.parts.now.items l.parts.items c.args.table c.args.range.now (option_copied c.args.after) l.number l.least l.invariant c.index_mut-part.result.now within c.index_mut-part.ensures.value
+    c.next_in.new.self c.next_in.ensures.stay

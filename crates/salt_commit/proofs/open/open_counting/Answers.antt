@@ -2,7 +2,7 @@ use Rattle.salt_commit.proofs.Opened.{same_bytes}
 use Rattle.salt_commit.proofs.Opening.{opens_store, own, own_has, own_kept, refused, room_on}
 use Rattle.salt_commit.proofs.open.open_counting.Goals as goal
 use Rattle.salt_disk.proofs.CallAfterCall.{keeps_on}
-use Rattle.std.proofs.Common.{None, refl, sym, ◌∙◌}
+use Rattle.std.proofs.Common.{None, refl, ◌∙◌}
 use Rattle.std.proofs.lemmas.Result.{err_from_is_err_and}
 
 pub returns-in_err-decisions-clause-kept : goal.returns-in_err-decisions-clause-kept

@@ -1,4 +1,4 @@
-use Rattle.salt_commit.proofs.Beginning.{blank_image}
+use Rattle.salt_commit.proofs.Beginning.{blank_image, blank_unnamed, still_blank_image}
 use Rattle.salt_commit.proofs.Opened.{same_bytes}
 use Rattle.salt_commit.proofs.Opening.{map_ok, nothing, opens_at}
 use Rattle.salt_commit.proofs.open.open_store.Goals as goal
@@ -15,6 +15,17 @@ returns-in_err-peek-clause-images g c told blank image left =
     let a = g.D.Disks.view c.peek.new.disks in
     let known : 1 < d.count = omega (arith, c.requires.room.known 0 (omega (arith, c.requires.parts.0))) in
     blank_image reading c.args.shape d a 0 _ (nothing (IsPartLog 0) d a _ c.in_err-peek.ensures.kept) known (c.requires.room.settled 0 (omega (arith, known))) (c.requires.room.settled 1 known) blank image left
+
+pub returns-in_err-peek-clause-pages : goal.returns-in_err-peek-clause-pages
+returns-in_err-peek-clause-pages g c told blank image left dev leaves =
+    let d = g.D.Disks.view c.args.disks.now in
+    let a = g.D.Disks.view c.peek.new.disks in
+    let known : 1 < d.count = omega (arith, c.requires.room.known 0 (omega (arith, c.requires.parts.0))) in
+    blank_unnamed c.args.shape image dev
+    (still_blank_image d a 0 _ (nothing (IsPartLog 0) d a _ c.in_err-peek.ensures.kept) known (c.requires.room.settled 0 (omega (arith, known))) (c.requires.room.settled 1 known) blank image left) leaves
+
+pub returns-then-is_none-clause-pages : goal.returns-then-is_none-clause-pages
+returns-then-is_none-clause-pages g c told blank image left dev leaves = c.begin_store.ensures.pages (c.in_ok-peek.ensures.kept.shape.told ∙ told) image left dev leaves
 
 pub returns-clause-ok : goal.returns-clause-ok
 returns-clause-ok g c =

@@ -4,7 +4,7 @@ use Rattle.salt_commit.proofs.parts.open_all.Goals as goal
 use Rattle.salt_commit.specs.Openings.{OpensAll}
 use Rattle.salt_disk.proofs.CallAfterCall.{keeps_on}
 use Rattle.salt_stands.specs.FirstOpening.{first_view}
-use Rattle.std.proofs.Common.{None, Some, [], arith, subst, sym, ℕ, ◌+◌, ◌<◌, ◌≡◌, ◌∙◌}
+use Rattle.std.proofs.Common.{None, arith, subst, sym, ◌+◌, ◌≡◌, ◌∙◌}
 use Rattle.std.proofs.lemmas.Result.{err_from_is_err_and}
 
 pub loop-part-init : goal.loop-part-init

@@ -1,9 +1,11 @@
+use Rattle.salt_bytes.specs.Formats.{has_nulls}
 use Rattle.salt_commit.proofs.Opened.{both_stand, entries_not, fails_as, low_format, not_under, nulls_are}
 use Rattle.salt_commit.proofs.parts.open_fitting.Goals as goal
 use Rattle.salt_commit.specs.Stores.{decided_by}
 use Rattle.salt_stands.specs.Partition.{is_format_under}
-use Rattle.std.proofs.Common.{ap, sym, ◌≡◌, ◌∙◌}
+use Rattle.std.proofs.Common.{ap, sym, ◌∙◌}
 use Rattle.std.proofs.lemmas.Result.{err_from_is_err_and}
+use Rattle.std.specs.Prelude.{nat_lt, ◌||◌}
 
 pub returns-in_err-partition-clause-why : goal.returns-in_err-partition-clause-why
 returns-in_err-partition-clause-why g c c' k has told =
@@ -19,7 +21,7 @@ returns-then-not-is_format_under-clause-why g c c' k has told =
     let opens = c.in_ok-partition.ensures.opens c'.log k in
     let own = opens.view.log.header.format in
     not_under c' d e x c.args.part keeps opens told c.device.result (c.device.ensures ∙ opens.is.device)
-    (ap (λ f. is_format_under f own) (sym k.format) ∙ sym (c.is_format_under.ensures own (c.nulls.ensures ∙ nulls_are c' d e x c.args.part keeps opens told) (low_format c' d e x c.args.part keeps opens told)) ∙ c.if-not-is_format_under.true)
+    (ap (λ f. is_format_under f own) (sym k.format) ∙ sym (c.is_format_under.ensures.told own (c.nulls.ensures ∙ nulls_are c' d e x c.args.part keeps opens told) (low_format c' d e x c.args.part keeps opens told)) ∙ c.if-not-is_format_under.true)
 
 pub returns-then-not-branch-clause-why : goal.returns-then-not-branch-clause-why
 returns-then-not-branch-clause-why g c c' k has told =
@@ -42,7 +44,8 @@ returns-clause-opens g c c' k =
     record {
       view = opens.view;
       is = c.in_ok-entries_fit.ensures.stands c.args.part opens.view (decided_by c' c.args.part) opens.is;
+      nulls = ap (λ f. nat_lt f 2 || has_nulls own) (sym k.format) ∙ ap (λ b. nat_lt c.args.kept.now.format 2 || b) (sym (c.nulls.ensures ∙ opens.is.nulls)) ∙ sym c.is_format_under.ensures.is ∙ c.if-not-is_format_under.false;
       stands = λ told has. both_stand c' d e x c.args.part keeps opens told
-          (ap (λ f. is_format_under f own) (sym k.format) ∙ sym (c.is_format_under.ensures own (c.nulls.ensures ∙ nulls_are c' d e x c.args.part keeps opens told) (low_format c' d e x c.args.part keeps opens told)) ∙ c.if-not-is_format_under.false)
+          (ap (λ f. is_format_under f own) (sym k.format) ∙ sym (c.is_format_under.ensures.told own (c.nulls.ensures ∙ nulls_are c' d e x c.args.part keeps opens told) (low_format c' d e x c.args.part keeps opens told)) ∙ c.if-not-is_format_under.false)
           (sym (c.in_ok-entries_fit.ensures.fit opens.view (decided_by c' c.args.part) opens.is (keeps.shape.told ∙ told) c' has) ∙ c.if-not-branch.false);
     }

@@ -1,4 +1,5 @@
-use Rattle.salt_commit.proofs.Committed.{answer_is, committed, between, decided_image, few_shares, mask_within, may_apply_all, may_begin, share_each, still_stand, undecided_image, wider_apply, wider_decision, wider_shares}
+use Rattle.salt_commit.proofs.Committed.{answer_is, committed, decision_untouched, full_back, between, decided_image, few_shares, mask_within, may_apply_all, may_begin, share_each, still_stand, undecided_image, unnamed, wider_apply, wider_decision, wider_shares}
+use Rattle.salt_commit.proofs.Pageless.{past_decisions, unwritten_unnamed}
 use Rattle.salt_commit.proofs.Standing.{unchanged_images}
 use Rattle.salt_commit.proofs.Undecided.{IsInHand}
 use Rattle.salt_commit.proofs.store.Store.commit.Goals as goal
@@ -13,12 +14,15 @@ use Rattle.salt_values.specs.declared.id.Id.{Id}
 use Rattle.salt_commit.specs.declared.store.Store.{Store}
 use Rattle.salt_decisions.specs.Decisions as decisions
 use Rattle.salt_decisions.specs.Decisions.{IsBeforeOrWith, IsDecisions, decided}
-use Rattle.salt_disk.specs.Disks.{EachImage}
+use Rattle.salt_commit.specs.Errors.{store_err_of}
+use Rattle.salt_commit.specs.declared.error.StoreErr.TheVariants as StoreErr
+use Rattle.salt_disk.specs.Disks.{EachImage, FullExactly, OnlyFails}
+use Rattle.salt_disk.specs.declared.disks.DiskErr.TheVariants.{Full}
 use Rattle.salt_entries.specs.Entries.{IsTold}
 use Rattle.salt_stands.specs.Commits.{found_after, found_of}
 use Rattle.salt_stands.specs.Coordinator.{device_of}
 use Rattle.salt_values.specs.declared.change.Change.{Change}
-use Rattle.std.proofs.Common.{List, Some, ap, arith, inl, length, refl, subst, sym, ℕ, ◌+◌, ◌<◌, ◌^◌, ◌≡◌, ◌∙◌}
+use Rattle.std.proofs.Common.{Err, List, Some, ap, arith, inl, length, refl, subst, sym, ℕ, ◌+◌, ◌<◌, ◌^◌, ◌≡◌, ◌∙◌}
 use Rattle.std.proofs.lemmas.Result.{err_from_is_err_and}
 use Rattle.std.specs.Result.{result_err}
 
@@ -217,3 +221,90 @@ returns-clause-images g c which co v m conts is may told asked image left =
     let either = decided_image reading d x which co v is c.args.unit cs c.args.mv.now m conts may c.deref-2.result.now shared hand below b y refl c.in_ok-prepare_all.ensures.size c.in_ok-prepare_all.ensures.others c.in_ok-prepare_all.ensures.ok told e (result_err c.decide.result) c.decide.ensures.others images in
     let f = g.D.Disks.view c.apply_all.new.disks in
     still_stand reading e f (result_err c.apply_all.result) (found_of co v) (found_after co v cs (next_decision co c.args.unit cs c.args.mv.now) conts) c.apply_all.ensures.kept either asked image left
+
+pub returns-in_err-shares-clause-pages : goal.returns-in_err-shares-clause-pages
+returns-in_err-shares-clause-pages g c which co v m conts is may told image left p dev low names =
+    unwritten_unnamed reading (g.D.Disks.view c.args.disks.now) c.args.self.now which co v is told image left p dev low names
+
+pub returns-in_err-prepare_all-clause-pages : goal.returns-in_err-prepare_all-clause-pages
+returns-in_err-prepare_all-clause-pages g c which co v m conts is may told image left p dev low names =
+    let x = c.args.self.now in
+    let d = g.D.Disks.view c.args.disks.now in
+    let cs = c.args.changes.now in
+    let shared : c.deref-2.result.now ≡ shares_in x cs = c.deref-2.ensures.value ∙ c.in_ok-shares.ensures ∙ ap (λ s. shares_of s c.as_slice-2.result.now) c.shape-shape.ensures ∙ ap (shares_of (decisions.shape_of x.decisions)) c.as_slice-2.ensures in
+    let hand : IsInHand c.args.unit cs c.args.mv.now = record { unit = record { boot = omega arith; seq = omega arith }; count = omega (arith, ap (λ (l : List Change). length l) c.as_slice.ensures); move = omega arith; changes = subst (Every IsTold) c.as_slice.ensures c.told_changes.ensures } in
+    let below : last_decision x + 1 < 2 ^ 64 = omega (arith, c.requires.below) in
+    unnamed reading d x which co v is c.args.unit cs c.args.mv.now m conts may c.deref-2.result.now shared hand below told (g.D.Disks.view c.prepare_all.new.disks) (g.D.Disks.view c.prepare_all.new.disks) (result_err c.prepare_all.result) c.prepare_all.ensures.others c.prepare_all.ensures.images
+    c.prepare_all.ensures.others.shape.count (λ k past b there. there) image left p dev low names
+
+pub returns-in_err-number-clause-pages : goal.returns-in_err-number-clause-pages
+returns-in_err-number-clause-pages g c which co v m conts is may told image left p dev low names =
+    let x = c.args.self.now in
+    let d = g.D.Disks.view c.args.disks.now in
+    let cs = c.args.changes.now in
+    let shared : c.deref-2.result.now ≡ shares_in x cs = c.deref-2.ensures.value ∙ c.in_ok-shares.ensures ∙ ap (λ s. shares_of s c.as_slice-2.result.now) c.shape-shape.ensures ∙ ap (shares_of (decisions.shape_of x.decisions)) c.as_slice-2.ensures in
+    let hand : IsInHand c.args.unit cs c.args.mv.now = record { unit = record { boot = omega arith; seq = omega arith }; count = omega (arith, ap (λ (l : List Change). length l) c.as_slice.ensures); move = omega arith; changes = subst (Every IsTold) c.as_slice.ensures c.told_changes.ensures } in
+    let below : last_decision x + 1 < 2 ^ 64 = omega (arith, c.requires.below) in
+    unnamed reading d x which co v is c.args.unit cs c.args.mv.now m conts may c.deref-2.result.now shared hand below told (g.D.Disks.view c.prepare_all.new.disks) (g.D.Disks.view c.decide.new.disks) (result_err c.prepare_all.result) c.prepare_all.ensures.others c.prepare_all.ensures.images
+    (c.decide.ensures.others.shape.count ∙ c.prepare_all.ensures.others.shape.count) (λ k past. c.decide.ensures.others.images k (past_decisions which k _ is.decisions.counting.device past)) image left p dev low names
+
+pub returns-in_err-apply_all-clause-pages : goal.returns-in_err-apply_all-clause-pages
+returns-in_err-apply_all-clause-pages g c which co v m conts is may told image left p dev low names =
+    let x = c.args.self.now in
+    let d = g.D.Disks.view c.args.disks.now in
+    let cs = c.args.changes.now in
+    let shared : c.deref-2.result.now ≡ shares_in x cs = c.deref-2.ensures.value ∙ c.in_ok-shares.ensures ∙ ap (λ s. shares_of s c.as_slice-2.result.now) c.shape-shape.ensures ∙ ap (shares_of (decisions.shape_of x.decisions)) c.as_slice-2.ensures in
+    let hand : IsInHand c.args.unit cs c.args.mv.now = record { unit = record { boot = omega arith; seq = omega arith }; count = omega (arith, ap (λ (l : List Change). length l) c.as_slice.ensures); move = omega arith; changes = subst (Every IsTold) c.as_slice.ensures c.told_changes.ensures } in
+    let below : last_decision x + 1 < 2 ^ 64 = omega (arith, c.requires.below) in
+    unnamed reading d x which co v is c.args.unit cs c.args.mv.now m conts may c.deref-2.result.now shared hand below told (g.D.Disks.view c.prepare_all.new.disks) (g.D.Disks.view c.apply_all.new.disks) (result_err c.prepare_all.result) c.prepare_all.ensures.others c.prepare_all.ensures.images
+    (c.apply_all.ensures.kept.shape.count ∙ c.decide.ensures.others.shape.count ∙ c.prepare_all.ensures.others.shape.count) (λ k past b there. c.decide.ensures.others.images k (past_decisions which k _ is.decisions.counting.device past) b (c.apply_all.ensures.kept.images k (λ none. none) b there)) image left p dev low names
+
+pub returns-clause-pages : goal.returns-clause-pages
+returns-clause-pages g c which co v m conts is may told image left p dev low names =
+    let x = c.args.self.now in
+    let d = g.D.Disks.view c.args.disks.now in
+    let cs = c.args.changes.now in
+    let shared : c.deref-2.result.now ≡ shares_in x cs = c.deref-2.ensures.value ∙ c.in_ok-shares.ensures ∙ ap (λ s. shares_of s c.as_slice-2.result.now) c.shape-shape.ensures ∙ ap (shares_of (decisions.shape_of x.decisions)) c.as_slice-2.ensures in
+    let hand : IsInHand c.args.unit cs c.args.mv.now = record { unit = record { boot = omega arith; seq = omega arith }; count = omega (arith, ap (λ (l : List Change). length l) c.as_slice.ensures); move = omega arith; changes = subst (Every IsTold) c.as_slice.ensures c.told_changes.ensures } in
+    let below : last_decision x + 1 < 2 ^ 64 = omega (arith, c.requires.below) in
+    unnamed reading d x which co v is c.args.unit cs c.args.mv.now m conts may c.deref-2.result.now shared hand below told (g.D.Disks.view c.prepare_all.new.disks) (g.D.Disks.view c.apply_all.new.disks) (result_err c.prepare_all.result) c.prepare_all.ensures.others c.prepare_all.ensures.images
+    (c.apply_all.ensures.kept.shape.count ∙ c.decide.ensures.others.shape.count ∙ c.prepare_all.ensures.others.shape.count) (λ k past b there. c.decide.ensures.others.images k (past_decisions which k _ is.decisions.counting.device past) b (c.apply_all.ensures.kept.images k (λ none. none) b there)) image left p dev low names
+
+pub returns-in_err-prepare_all-clause-untouched : goal.returns-in_err-prepare_all-clause-untouched
+returns-in_err-prepare_all-clause-untouched g c n res =
+    let p = err_from_is_err_and c.from_residual-in_err-prepare_all.result c.from_residual-in_err-prepare_all.ensures.1 in
+    let same : p.0 ≡ StoreErr.Full n = cc (p.1, res) in
+    c.in_err-prepare_all.ensures.untouched n (ap Err (full_back c.in_err-prepare_all.field-0.0 n (sym p.2 ∙ same)))
+
+pub returns-in_err-number-clause-untouched : goal.returns-in_err-number-clause-untouched
+returns-in_err-number-clause-untouched g c n res =
+    let p = err_from_is_err_and c.from_residual-in_err-number.result c.from_residual-in_err-number.ensures.1 in
+    let s = c.requires.stands in
+    let same : p.0 ≡ StoreErr.Full n = cc (p.1, res) in
+    let full : c.in_err-number.field-0.0 ≡ Full n = full_back c.in_err-number.field-0.0 n (sym p.2 ∙ same) in
+    let x = c.args.self.now.decisions in
+    let dev = decisions.device_in x in
+    let end = decisions.gate_in x + 10 + length (spell_entry (Decides (decisions.next_decision x c.args.unit c.mask_of-mask.result c.args.mv.now))) in
+    let at = subst (λ e. FullExactly dev ((g.D.Disks.view c.prepare_all.new.disks).limit dev) end (Some e)) full c.in_err-number.ensures.full in
+    decision_untouched reading (g.D.Disks.view c.args.disks.now) (g.D.Disks.view c.prepare_all.new.disks) (g.D.Disks.view c.decide.new.disks) c.args.self.now s.which s.c s.v s.is c.deref-2.result.now c.in_ok-prepare_all.ensures.others n at.0
+    (c.in_err-number.ensures.untouched n (ap Err full))
+
+pub returns-in_err-apply_all-clause-untouched : goal.returns-in_err-apply_all-clause-untouched
+returns-in_err-apply_all-clause-untouched g c n res =
+    let p = err_from_is_err_and c.from_residual-in_err-apply_all.result c.from_residual-in_err-apply_all.ensures.1 in
+    let same : p.0 ≡ StoreErr.Full n = cc (p.1, res) in
+    let full : c.in_err-apply_all.field-0.0 ≡ Full n = full_back c.in_err-apply_all.field-0.0 n (sym p.2 ∙ same) in
+    absurd (subst (λ e. OnlyFails (Some e)) full c.in_err-apply_all.ensures.answers)
+
+pub returns-in_err-prepare_all-clause-stay : goal.returns-in_err-prepare_all-clause-stay
+returns-in_err-prepare_all-clause-stay g c e is not = c.prepare_all.ensures.stay
+
+pub returns-in_err-number-clause-stay : goal.returns-in_err-number-clause-stay
+returns-in_err-number-clause-stay g c e is not = c.prepare_all.ensures.stay
+
+pub returns-in_err-apply_all-clause-stay : goal.returns-in_err-apply_all-clause-stay
+returns-in_err-apply_all-clause-stay g c e is not =
+    let p = err_from_is_err_and c.from_residual-in_err-apply_all.result c.from_residual-in_err-apply_all.ensures.1 in
+    let lacks = c.in_err-apply_all.ensures.lacks c.in_err-apply_all.field-0.0 refl in
+    let memory : p.0 ≡ StoreErr.Memory = p.2 ∙ ap store_err_of lacks in
+    absurd (not (cc (is, p.1, memory)))

@@ -41,7 +41,7 @@ loop-after-preserved g c =
     c.in-Some.row (λ which co v is. sym c.in-Some.is ∙ c.in_ok-row.ensures.row which co v is ∙ ap (λ o. next_row c.args.reach.now.table c.args.reach.now.range o (rows_of co v)) c.as_ref.ensures.value)
     (g.D.Disks.view c.next_in.new.disks) (g.D.Disks.view c.judge.new.disks) c.next_in.new.self c.in_ok-put_row.field-0 c.put_row.new.rows.entries
     c.in_ok-row.ensures.kept c.in_ok-row.ensures.cause c.in_ok-row.ensures.stands c.in_ok-judge.ensures.kept c.in_ok-judge.ensures.cause c.in_ok-judge.ensures.meets
-    c.in_ok-put_row.ensures.key c.in_ok-put_row.ensures.entries
+    c.in_ok-put_row.ensures.key c.in_ok-put_row.ensures.entries c.in_ok-row.ensures.stay
 
 pub returns-in_err-judge-clause-stands : goal.returns-in_err-judge-clause-stands
 returns-in_err-judge-clause-stands g c which co v is =
@@ -76,3 +76,15 @@ returns-clause-typed g c =
 
 pub returns-clause-stands : goal.returns-clause-stands
 returns-clause-stands g c which co v is = c.in_ok-row.ensures.stands which co v (c.loop-after.invariant.is which co v is)
+
+pub returns-in_err-row-clause-stay : goal.returns-in_err-row-clause-stay
+returns-in_err-row-clause-stay g c = c.next_in.ensures.stay ∙ c.loop-after.invariant.stay
+
+pub returns-in_err-judge-clause-stay : goal.returns-in_err-judge-clause-stay
+returns-in_err-judge-clause-stay g c = c.next_in.ensures.stay ∙ c.loop-after.invariant.stay
+
+pub returns-in_err-put_row-clause-stay : goal.returns-in_err-put_row-clause-stay
+returns-in_err-put_row-clause-stay g c = c.next_in.ensures.stay ∙ c.loop-after.invariant.stay
+
+pub returns-clause-stay : goal.returns-clause-stay
+returns-clause-stay g c = c.next_in.ensures.stay ∙ c.loop-after.invariant.stay
