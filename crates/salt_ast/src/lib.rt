@@ -16,8 +16,6 @@ mod program_copies;
 mod program_texts;
 mod programs;
 mod rows;
-#[cfg(test)]
-mod tests;
 mod trees;
 mod values;
 

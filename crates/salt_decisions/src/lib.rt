@@ -23,6 +23,3 @@ pub use header::Definition;
 pub use kept::{Kept, Texts};
 pub use moves::{apply_move, copy_conts};
 pub use open::{open_decisions, peek};
-
-#[cfg(test)]
-mod tests;

@@ -10,6 +10,3 @@ mod walks;
 mod writers;
 
 pub use deps::Deps;
-
-#[cfg(test)]
-mod tests;

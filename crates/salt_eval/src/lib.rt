@@ -21,6 +21,3 @@ pub use meets::meets_table;
 pub use reaches::reach;
 pub use statements::execute;
 pub use view::{RowView, ViewErr};
-
-#[cfg(test)]
-mod tests;

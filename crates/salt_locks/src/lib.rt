@@ -14,6 +14,3 @@ mod turns;
 pub use laws::{clashes_fit, drops_fit, takes_fit, to_saline_fits, turns_fit};
 pub use table::{LockTable, TakeErr};
 pub use turns::TakenLock;
-
-#[cfg(test)]
-mod tests;

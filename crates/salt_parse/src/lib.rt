@@ -24,6 +24,3 @@ pub use laws::{
 pub use quoted::{content, content_len};
 pub use read::{program_in, read_program, read_statement, read_table, statement_in, table_in};
 pub use token::tokens;
-
-#[cfg(test)]
-mod tests;

@@ -20,6 +20,3 @@ pub use create::create_partition;
 pub use open::{OpenErr, open_partition};
 pub use partition::Partition;
 pub use units::rejected;
-
-#[cfg(test)]
-mod tests;

@@ -8,8 +8,6 @@ mod named;
 mod names;
 mod refusal;
 mod schema;
-#[cfg(test)]
-mod tests;
 mod types;
 mod unknown;
 

@@ -12,6 +12,3 @@ mod stops;
 pub use error::ReadErr;
 pub use laws::one_line;
 pub use line::read_line;
-
-#[cfg(test)]
-mod tests;

@@ -17,6 +17,3 @@ pub use laws::{
 };
 pub use waiters::Waiter;
 pub use watching::Watching;
-
-#[cfg(test)]
-mod tests;

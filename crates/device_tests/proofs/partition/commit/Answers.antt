@@ -1,5 +1,5 @@
 use Rattle.salt_partition.proofs.Framed.{may_apply}
-use Rattle.salt_partition.proofs.tests.commit.Goals as goal
+use Rattle.device_tests.proofs.partition.commit.Goals as goal
 use Rattle.salt_partition.specs.Partitions.{prepared}
 use Rattle.salt_stands.specs.Pieces.{with_prepared_unit}
 

@@ -1,7 +1,7 @@
-use super::*;
 use salt_model::{Family, Mode, Owner, Reach};
 use salt_ranges::KeyRange;
 use salt_values::{Change, Id, Value};
+use salt_watch::{Waiter, Watching};
 use std::alloc::{AllocError, Global};
 use std::test::Fail;
 

@@ -6,8 +6,8 @@ ghost use Rattle.salt_values.specs.declared.id.Id.{Id};
 ghost use Rattle.salt_values.specs.declared.value.Value.TheVariants.{Int};
 ghost use Rattle.std.specs.Prelude.{IfOk, List, None, OnOk, Some, [], pos, ℕ, ◌++◌, ◌<◌, ◌∷◌, ◌≡◌};
 
-use super::*;
 use salt_disk::{DiskErr, MemDisks};
+use salt_partition::{OpenErr, Partition, create_partition, open_partition};
 use salt_values::{Change, Changes, Id, Ids, Value};
 use sqlite_items::Items;
 use std::alloc::{AllocError, Global};

@@ -1,6 +1,6 @@
-use super::*;
 use salt_ast::Line;
 use salt_model::Refusal;
+use salt_script::{ReadErr, read_line};
 use salt_values::limits::LINE_MOST;
 use std::alloc::{AllocError, Global};
 use std::test::Fail;

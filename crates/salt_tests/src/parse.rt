@@ -1,5 +1,5 @@
-use super::*;
 use salt_ast::LimitName;
+use salt_parse::{ParseErr, read_program, read_statement, read_table, tokens};
 use salt_tokens::TokenKind;
 use std::test::Fail;
 

@@ -3,7 +3,10 @@
 //! What builds a tree takes its parts as they were made, and fails where one of them did: so there is
 //! one place where each part may have to be let go.
 
-use super::*;
+use salt_ast::{
+    Body, Bound, Canonical, ColType, Expr, Exprs, Field, Fields, LimitName, Next, PartDef, Parts,
+    Printer, ProgramDef, Scan, Statement, Statements, What, send_statement,
+};
 use salt_io::{IoFailed, MemSink, WriteBuffer};
 use salt_values::{Id, Name, Names, Row, Text, TryCopy, Value};
 use sqlite_items::{Boxed, Items};

@@ -1,7 +1,7 @@
 ghost use Rattle.salt_disk.specs.Disks.{IsSettled};
 ghost use Rattle.std.specs.Prelude.{◌<◌};
 
-use super::*;
+use salt_decisions::{OpenErr, open_decisions};
 use salt_disk::{Disks, MemDisks};
 use salt_values::{Id, PlaceKind, Shape};
 use std::alloc::Global;

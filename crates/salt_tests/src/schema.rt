@@ -1,7 +1,7 @@
-use super::*;
 use salt_ast::{
     Bound, ColType, Expr, Exprs, Field, Fields, Op, Scan, Scope, Set, Statement, TableDef,
 };
+use salt_schema::{Schema, SchemaErr};
 use salt_values::{Name, Value};
 use sqlite_items::{Boxed, Items};
 use std::alloc::{AllocError, Global};

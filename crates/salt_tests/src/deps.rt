@@ -1,4 +1,4 @@
-use super::*;
+use salt_deps::Deps;
 use salt_ranges::KeyRange;
 use salt_values::{Id, Key};
 use std::alloc::Global;

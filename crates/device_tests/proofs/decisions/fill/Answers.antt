@@ -1,6 +1,6 @@
 use Rattle.salt_bytes.specs.Coordinator.{NumberedText}
 use Rattle.salt_decisions.proofs.Unspent.{few_decisions, three_of_two}
-use Rattle.salt_decisions.proofs.tests.fill.Goals as goal
+use Rattle.device_tests.proofs.decisions.fill.Goals as goal
 use Rattle.salt_decisions.specs.Decisions.{booted, defined, next_definition}
 use Rattle.std.proofs.Common.{arith}
 

@@ -1,4 +1,4 @@
-use super::*;
+use salt_locks::{LockTable, TakeErr, TakenLock};
 use salt_model::{Family, Lock, Mode, Owner, Owners, Reach};
 use salt_ranges::KeyRange;
 use salt_values::{Id, Value};

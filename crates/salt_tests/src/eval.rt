@@ -1,5 +1,5 @@
-use super::*;
 use salt_ast::{ColType, Expr, Field, Statement, TableDef};
+use salt_eval::{MapView, RowView, Tables, execute, meets_table, reach};
 use salt_model::{Answer, Place, Vars};
 use salt_ranges::KeyRange;
 use salt_schema::Schema;
