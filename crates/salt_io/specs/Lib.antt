@@ -1,6 +1,5 @@
 pub mod Calls
 pub mod Collects
-pub mod Disks
 pub mod LineText
 pub mod Lines
 pub mod MemStreams

@@ -1,12 +1,11 @@
 -- The relation between the lines done and the story.
-use Rattle.salt_model.specs.Kept.{nothing_kept}
 use Rattle.salt_model.specs.Next.{next}
 use Rattle.salt_model.specs.Phases.{Serving, phase}
 use Rattle.salt_model.specs.Segments.{IsComplete, May}
 use Rattle.salt_model.specs.Trace.{Start, Trace, from, start_of, story_of, ◌asks◌, ◌says◌, ◌turns◌}
 use Rattle.salt_model.specs.Turns.{next_turn}
 use Rattle.salt_model.specs.declared.events.Event.{Event}
-use Rattle.std.specs.Prelude.{List, None, Some, false, ⊤, ◌≡◌}
+use Rattle.std.specs.Prelude.{List, None, Some, ⊤, ◌≡◌}
 
 -- each event may stand where it stands, and each segment is complete when the next line is asked
 abbrev pub IsPlayed : Trace → Type 0
@@ -20,7 +19,3 @@ pub record Tells (start : Start) (trace : Trace) (story : List Event) : Type 0 w
   pub begins : start_of trace ≡ start
   pub told : story_of trace ≡ story
   pub played : IsPlayed trace
-
--- nothing is kept, over disks that can't be stopped
-abbrev pub empty_start : Start
-empty_start = record { kept = nothing_kept; can_stop = false }

@@ -12,6 +12,3 @@ pub use locks::{Family, Lock, Mode, Reach};
 pub use places::Place;
 pub use shown::{BaseAt, Item, Items};
 pub use vars::{Binding, Vars};
-
-#[cfg(test)]
-mod tests;
