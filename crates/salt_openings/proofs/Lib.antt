@@ -7,4 +7,5 @@ pub mod Ending
 pub mod Staying
 pub mod Doing
 pub mod Moving
+pub mod Leaving
 pub mod EachOpening

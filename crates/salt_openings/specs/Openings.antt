@@ -2,8 +2,10 @@
 use Rattle.salt_keeps.specs.Nexts.{flight_next, said_next}
 use Rattle.salt_keeps.specs.Points.{Point}
 use Rattle.salt_keeps.specs.Readings.{Reading}
-use Rattle.salt_keeps.specs.States.{After}
+use Rattle.salt_keeps.specs.States.{After, State, named_by}
+use Rattle.salt_keeps.specs.Steps.{units_after}
 use Rattle.salt_keeps.specs.Told.{at_devices_in}
+use Rattle.salt_keeps.specs.Watches.{Watch}
 use Rattle.salt_model.specs.Phases.{Fallen, Opening}
 use Rattle.salt_model.specs.declared.events.Event.{Event}
 use Rattle.salt_model.specs.declared.events.Event.TheVariants.{Down, Opened}
@@ -34,3 +36,8 @@ pub record Opens (boot n : ℕ) (old new : Point) : Type 0 where
   pub read : Reading new.state.watch
   pub next : new.next ≡ said_next (Opened boot n) old.state new.state read old.flight
   pub flight : new.flight ≡ flight_next (Opened boot n) old.flight new.next
+
+-- an event leaves a state behind it, in which this is watched
+pub record Leaves (e : Event) (old : State) : Type 0 where
+  pub watch : Watch
+  pub after : After e old (record { units = units_after e old.units; watch = watch; names = named_by e old.names; can_stop = old.can_stop })

@@ -21,7 +21,7 @@ ghost use Rattle.salt_model.specs.declared.events.Why.{Why};
 ghost use Rattle.salt_model.specs.Words.{Every};
 ghost use Rattle.salt_openings.specs.Draining.{CanDrain, IsBehindFlight, LeadsOn, Stands, defined_in, left_to_open, rests_of};
 ghost use Rattle.salt_openings.specs.Draining.{statements_in, statements_left, statements_told};
-ghost use Rattle.salt_openings.specs.Openings.{FallsAgain, FallsInOpening, Opens};
+ghost use Rattle.salt_openings.specs.Openings.{FallsAgain, FallsInOpening, Leaves, Opens};
 ghost use Rattle.std.specs.Prelude.{IsSome, List, None, Option, Some, [], false, ℕ, ◌+◌, ◌<◌, ◌≡◌, ◌≤◌, ◌⊎◌};
 
 /// A run begins at its start, falls in an opening and while it is down, is opened, and is idle behind its Ready; until
@@ -111,4 +111,10 @@ pub fn drains_do_their_rests()
 pub fn what_can_be_drained_stays()
     ensures { (s : UnitState) (trace : Trace) (e : Event) → KeepsUnits s trace → IsSound (trace says e) → CanDrain s.kept →
         Every LeadsOn (defined_in s e) → CanDrain (units_after e s).kept }
+{}
+
+/// Behind each event of a played trace there is a state, whatever the event is: the units compute, and what is watched is
+/// there. An engine that keeps no watch in an opening tells its units by it.
+pub fn events_leave_a_state()
+    ensures { (s : State) (trace : Trace) (e : Event) → Keeps s trace → IsSound trace → Leaves e s }
 {}

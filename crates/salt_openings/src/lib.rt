@@ -9,6 +9,7 @@
 mod laws;
 
 pub use laws::{
-    drains_do_their_rests, drains_go_on, drains_never_rest, openings_end, openings_go_on,
-    openings_tell_what_follows, traces_open_their_points, what_can_be_drained_stays,
+    drains_do_their_rests, drains_go_on, drains_never_rest, events_leave_a_state, openings_end,
+    openings_go_on, openings_tell_what_follows, traces_open_their_points,
+    what_can_be_drained_stays,
 };
