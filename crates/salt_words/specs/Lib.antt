@@ -1,0 +1,4 @@
+pub mod Words
+pub mod WordRows
+pub mod Spelling
+pub mod Meanings

@@ -1,0 +1,28 @@
+-- What the values of the program mean.
+use Rattle.salt_words.specs.Words as words
+use Rattle.salt_words.specs.Words.{folder_said, parts_said, settings_of, values_of}
+use Rattle.salt_words.specs.declared.settings.First.{First}
+use Rattle.salt_words.specs.declared.settings.Given.{Given}
+use Rattle.salt_words.specs.declared.settings.Said.{Said}
+use Rattle.salt_words.specs.declared.settings.Setting.TheVariants.{Folder, Parts}
+use Rattle.salt_words.specs.declared.settings.Settings.{Settings}
+use Rattle.std.specs.Option.{option_copied}
+use Rattle.std.specs.Prelude.{List, Option, option_to_list, ◌++◌}
+
+-- what is given, by the bytes of its value
+abbrev pub given_meant : Given → words.Given
+given_meant g = words.given g.setting g.value.now
+
+abbrev pub first_meant : First → words.Given
+first_meant first = words.given first.setting first.value.now
+
+-- the settings of a run, by the bytes of its folder
+abbrev pub settings_meant : Settings → words.Settings
+settings_meant s = record { parts = s.parts; folder = option_copied s.folder }
+
+-- the settings where more is given behind what was said
+abbrev pub settings_behind : Said → List words.Given → Option words.Settings
+settings_behind said gs =
+    settings_of
+    (parts_said (option_to_list (option_copied said.parts) ++ values_of Parts gs))
+    (folder_said (option_to_list (option_copied said.folder) ++ values_of Folder gs))

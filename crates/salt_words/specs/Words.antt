@@ -1,0 +1,147 @@
+-- The words that a program was called with, and the command that they say.
+use Rattle.salt_load.specs.declared.limits.TheConstants.{CALLS_MOST}
+use Rattle.salt_values.specs.declared.limits.TheConstants.{PARTITIONS_MOST}
+use Rattle.salt_words.specs.declared.command.Command.TheVariants.{Load, Run}
+use Rattle.salt_words.specs.declared.command.Command.{Command}
+use Rattle.salt_words.specs.declared.settings.Setting.TheVariants.{Folder, Parts}
+use Rattle.salt_words.specs.declared.settings.Setting.{Setting}
+use Rattle.std.specs.Bool.{then_some}
+use Rattle.std.specs.Char.{is_ascii_digit}
+use Rattle.std.specs.Global.{Global}
+use Rattle.std.specs.List.{list_all, position}
+use Rattle.std.specs.Prelude.{Bool, List, None, Option, Some, [], codes, drop, false, if◌then◌else◌, map, nat_le, nat_lt, option_and_then, option_map, string_bytes, take, true, ℕ, ◌&&◌, ◌+◌, ◌==◌, ◌∷◌}
+use Rattle.std.specs.Str.Parse.{digits_value}
+use Rattle.std.specs.Str.{byte, bytes_eq}
+use Rattle.std.specs.declared.string.String.{String}
+
+-- ---- numbers
+
+-- a number from 1 to `most`
+abbrev pub is_count : ℕ → ℕ → Bool
+is_count most n = nat_lt 0 n && nat_le n most
+
+-- the number from 1 to `most` that decimal digits say
+abbrev pub count_said : ℕ → List ℕ → Option ℕ
+count_said most word = then_some (list_all is_ascii_digit word && is_count most (digits_value 10 word)) (digits_value 10 word)
+
+-- ---- the settings of a run
+
+-- a setting, and the value that the words give it
+pub record Given : Type 0 where
+  pub setting : Setting
+  pub value : List ℕ
+
+abbrev pub given : Setting → List ℕ → Given
+given setting value = record { setting = setting; value = value }
+
+abbrev pub name_of : Setting → List ℕ
+name_of Parts = codes "--parts"
+name_of Folder = codes "--dir"
+
+abbrev pub setting_named : List ℕ → Option Setting
+setting_named name =
+    if bytes_eq name (name_of Parts) then Some Parts else if bytes_eq name (name_of Folder) then Some Folder else None
+
+abbrev pub given_to : List ℕ → List ℕ → Option Given
+given_to name value = option_map (λ setting. given setting value) (setting_named name)
+
+abbrev pub is_equals_sign : ℕ → Bool
+is_equals_sign b = b == byte "="
+
+-- in one word, as `--parts=2`: what stands before the first `=` is the name, and what stands behind it the value
+abbrev pub given_in : List ℕ → Option Given
+given_in word = option_and_then (λ at. given_to (take at word) (drop (at + 1) word)) (position is_equals_sign word)
+
+abbrev pub begins_with_dash : List ℕ → Bool
+begins_with_dash [] = false
+begins_with_dash (b ∷ word) = b == byte "-"
+
+-- in two words, as `--parts 2`, where the second does not begin as a name does
+abbrev pub given_by : List ℕ → List ℕ → Option Given
+given_by name value = if begins_with_dash value then None else given_to name value
+
+-- what is given first, with what is given behind its one word or behind its two
+abbrev pub with_first : Option Given → Option (List Given) → Option Given → Option (List Given) → Option (List Given)
+with_first (Some g) behind_one by_two behind_two = option_map (λ gs. g ∷ gs) behind_one
+with_first None behind_one (Some g) behind_two = option_map (λ gs. g ∷ gs) behind_two
+with_first None behind_one None behind_two = None
+
+-- all that words give, each setting in one word or in two, if they say nothing else
+unfoldable pub all_given : List (List ℕ) → Option (List Given)
+all_given [] = Some []
+all_given (word ∷ []) = with_first (given_in word) (Some []) None None
+all_given (word ∷ next ∷ words) = with_first (given_in word) (all_given (next ∷ words)) (given_by word next) (all_given words)
+
+abbrev pub is_setting : Setting → Setting → Bool
+is_setting Parts Parts = true
+is_setting Folder Folder = true
+is_setting _ _ = false
+
+-- each value that a setting is given
+abbrev pub values_of : Setting → List Given → List (List ℕ)
+values_of setting [] = []
+values_of setting (g ∷ gs) = if is_setting setting g.setting then g.value ∷ values_of setting gs else values_of setting gs
+
+-- ---- a run
+
+-- how many partitions, and the folder of their files, where one is named
+pub record Settings : Type 0 where
+  pub parts : ℕ
+  pub folder : Option (List ℕ)
+
+-- a run has two partitions, or as many as it is told once
+abbrev pub parts_said : List (List ℕ) → Option ℕ
+parts_said [] = Some 2
+parts_said (count ∷ []) = count_said PARTITIONS_MOST count
+parts_said (count ∷ another ∷ counts) = None
+
+-- no folder has an empty name
+abbrev pub folder_called : List ℕ → Option (Option (List ℕ))
+folder_called [] = None
+folder_called (b ∷ path) = Some (Some (b ∷ path))
+
+-- no folder, or the one that it is told once
+abbrev pub folder_said : List (List ℕ) → Option (Option (List ℕ))
+folder_said [] = Some None
+folder_said (path ∷ []) = folder_called path
+folder_said (path ∷ another ∷ paths) = None
+
+abbrev pub settings_of : Option ℕ → Option (Option (List ℕ)) → Option Settings
+settings_of (Some parts) (Some folder) = Some (record { parts = parts; folder = folder })
+settings_of (Some parts) None = None
+settings_of None folder = None
+
+abbrev pub settings_given : List Given → Option Settings
+settings_given gs = settings_of (parts_said (values_of Parts gs)) (folder_said (values_of Folder gs))
+
+-- the settings of a run that is called with these words behind `run`
+abbrev pub settings_said : List (List ℕ) → Option Settings
+settings_said words = option_and_then settings_given (all_given words)
+
+-- ---- commands
+
+abbrev pub run_said : List (List ℕ) → Option Command
+run_said words = option_map (λ (settings : Settings). Run settings.parts) (settings_said words)
+
+abbrev pub load_said : List (List ℕ) → Option Command
+load_said [] = None
+load_said (calls ∷ []) = option_map Load (count_said CALLS_MOST calls)
+load_said (calls ∷ another ∷ words) = None
+
+-- `run` and its settings, or `load` and how many calls
+abbrev pub command_said : List (List ℕ) → Option Command
+command_said [] = None
+command_said (word ∷ words) =
+    if bytes_eq word (codes "run") then run_said words else if bytes_eq word (codes "load") then load_said words else None
+
+-- the folder that a run is told
+abbrev pub folder_named : List (List ℕ) → Option (List ℕ)
+folder_named [] = None
+folder_named (word ∷ words) =
+    if bytes_eq word (codes "run") then option_and_then (λ (settings : Settings). settings.folder) (settings_said words) else None
+
+abbrev pub command_of : List (String Global) → Option Command
+command_of words = command_said (map string_bytes words)
+
+abbrev pub folder_of : List (String Global) → Option (List ℕ)
+folder_of words = folder_named (map string_bytes words)

@@ -1,0 +1,48 @@
+//! The command that words say.
+
+ghost use Rattle.salt_words.specs.Words.{command_of, folder_of};
+ghost use Rattle.std.specs.Option.{option_copied};
+ghost use Rattle.std.specs.Prelude.{◌≡◌};
+
+use crate::counts::count_in;
+use crate::settings::settings_in;
+use salt_load::CALLS_MOST;
+
+/// What the program is to do.
+#[derive(Clone, Copy, Debug, PartialEq, Eq)]
+pub enum Command {
+    /// `run`: the lines of a script, over so many partitions.
+    Run { parts: u8 },
+    /// `load N`: the lines of the workload with so many calls.
+    Load(u64),
+}
+
+/// The command that the words say, if they say one: `run` and its settings, or `load` and a number of calls. It takes no memory.
+pub fn command_in(words: &[String]) -> Option<Command>
+    ensures { result ≡ command_of words.now }
+{
+    match words {
+        [word, settings @ ..] if word.as_bytes() == b"run".as_slice() => {
+            let settings = settings_in(settings)?;
+            Some(Command::Run {
+                parts: settings.parts,
+            })
+        }
+        [word, calls] if word.as_bytes() == b"load".as_slice() => {
+            Some(Command::Load(count_in(CALLS_MOST, calls.as_str())?))
+        }
+        _ => None,
+    }
+}
+
+/// The folder that a run is told by the words, if they say a run and name a folder. It takes no memory.
+pub fn folder_of(words: &[String]) -> Option<&str>
+    ensures { option_copied result ≡ folder_of words.now }
+{
+    match words {
+        [word, settings @ ..] if word.as_bytes() == b"run".as_slice() => {
+            settings_in(settings)?.folder
+        }
+        _ => None,
+    }
+}

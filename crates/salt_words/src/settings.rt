@@ -1,0 +1,202 @@
+//! The settings of a run.
+
+ghost use Rattle.salt_words.specs.Words.{all_given, begins_with_dash, given_by, given_in, given_to, parts_said, setting_named, settings_said};
+ghost use Rattle.salt_words.specs.Words as words;
+ghost use Rattle.salt_words.specs.Meanings.{first_meant, given_meant, settings_behind, settings_meant};
+ghost use Rattle.std.specs.Option.{option_copied};
+ghost use Rattle.std.specs.Prelude.{◌<◌, ◌≡◌, ◌∷◌, IfSome, List, MatchOption, None, Some, [], length, map, option_map, option_to_list, string_bytes};
+
+use crate::counts::count_in;
+use salt_values::limits::PARTITIONS_MOST;
+
+/// What may be set, each by a name of its own.
+#[derive(Clone, Copy, Debug, PartialEq, Eq)]
+pub enum Setting {
+    /// `--parts`: how many partitions there are.
+    Parts,
+    /// `--dir`: the folder of their files.
+    Folder,
+}
+
+fn setting_named(name: &str) -> Option<Setting>
+    ensures { result ≡ setting_named name.now }
+{
+    if name.as_bytes() == b"--parts".as_slice() {
+        Some(Setting::Parts)
+    } else if name.as_bytes() == b"--dir".as_slice() {
+        Some(Setting::Folder)
+    } else {
+        None
+    }
+}
+
+/// A setting, and the value that words give it.
+#[derive(Clone, Copy)]
+pub struct Given<'a> {
+    pub setting: Setting,
+    pub value: &'a str,
+}
+
+/// A value that is given to a setting of this name.
+fn given_to<'a>(name: &str, value: &'a str) -> Option<Given<'a>>
+    ensures { option_map given_meant result ≡ given_to name.now value.now }
+{
+    match setting_named(name) {
+        Some(setting) => Some(Given { setting, value }),
+        None => None,
+    }
+}
+
+/// What one word gives.
+fn given_in(word: &str) -> Option<Given<'_>>
+    ensures { option_map given_meant result ≡ given_in word.now }
+{
+    match word.split_once('=') {
+        Some((name, value)) => given_to(name, value),
+        None => None,
+    }
+}
+
+fn begins_with_dash(word: &str) -> bool
+    ensures { result ≡ begins_with_dash word.now }
+{
+    matches!(word.as_bytes(), [b'-', ..])
+}
+
+/// What two words give.
+fn given_by<'a>(name: &str, value: &'a str) -> Option<Given<'a>>
+    ensures { option_map given_meant result ≡ given_by name.now value.now }
+{
+    if begins_with_dash(value) {
+        None
+    } else {
+        given_to(name, value)
+    }
+}
+
+/// What words give first, and the words behind it.
+#[derive(Clone, Copy)]
+struct First<'a> {
+    setting: Setting,
+    value: &'a str,
+    behind: &'a [String],
+}
+
+/// What a word and the first of those behind it give.
+fn first_by_two<'a>(name: &str, words: &'a [String]) -> Option<First<'a>>
+    requires { given_in name.now ≡ None }
+    ensures all { MatchOption result (all_given (name.now ∷ map string_bytes words.now) ≡ None)
+        (λ first. all_given (name.now ∷ map string_bytes words.now)
+        ≡ option_map (λ gs. first_meant first ∷ gs) (all_given (map string_bytes first.behind.now))) }
+    ensures shorter { IfSome result (λ first. length first.behind.now < length words.now) }
+{
+    match words {
+        [next, behind @ ..] => match given_by(name, next) {
+            Some(Given { setting, value }) => Some(First {
+                setting,
+                value,
+                behind,
+            }),
+            None => None,
+        },
+        [] => None,
+    }
+}
+
+/// What words give first, in one word or in two.
+fn first_given<'a>(words: &'a [String]) -> Option<First<'a>>
+    requires { 0 < length words.now }
+    ensures all { MatchOption result (all_given (map string_bytes words.now) ≡ None)
+        (λ first. all_given (map string_bytes words.now)
+        ≡ option_map (λ gs. first_meant first ∷ gs) (all_given (map string_bytes first.behind.now))) }
+    ensures shorter { IfSome result (λ first. length first.behind.now < length words.now) }
+{
+    match words {
+        [word, behind @ ..] => match given_in(word) {
+            Some(Given { setting, value }) => Some(First {
+                setting,
+                value,
+                behind,
+            }),
+            None => first_by_two(word, behind),
+        },
+        [] => None,
+    }
+}
+
+/// The value that each setting was given, where it was given one.
+#[derive(Clone, Copy)]
+struct Said<'a> {
+    parts: Option<&'a str>,
+    folder: Option<&'a str>,
+}
+
+/// With a value for a setting that had none.
+fn said_with<'a>(said: Said<'a>, setting: Setting, value: &'a str) -> Option<Said<'a>>
+    ensures { MatchOption result ((gs : List words.Given) → settings_behind said.entry (words.given setting value.now ∷ gs) ≡ None)
+        (λ after. (gs : List words.Given) → settings_behind after gs ≡ settings_behind said.entry (words.given setting value.now ∷ gs)) }
+{
+    match (setting, said.parts, said.folder) {
+        (Setting::Parts, None, folder) => Some(Said {
+            parts: Some(value),
+            folder,
+        }),
+        (Setting::Folder, parts, None) => Some(Said {
+            parts,
+            folder: Some(value),
+        }),
+        _ => None,
+    }
+}
+
+/// What the words say, where they give no setting twice and say nothing else.
+fn said_in<'a>(words: &'a [String]) -> Option<Said<'a>>
+    ensures { MatchOption result (settings_said (map string_bytes words.now) ≡ None)
+        (λ said. settings_said (map string_bytes words.now) ≡ settings_behind said []) }
+{
+    let mut said = Said {
+        parts: None,
+        folder: None,
+    };
+    let mut rest = words;
+    while !rest.is_empty() {
+        let first = first_given(rest)?;
+        said = said_with(said, first.setting, first.value)?;
+        rest = first.behind;
+    }
+    Some(said)
+}
+
+/// How many partitions a run has.
+fn parts_in(count: Option<&str>) -> Option<u8>
+    ensures { result ≡ parts_said (option_to_list (option_copied count.entry)) }
+{
+    match count {
+        Some(word) => match count_in(u64::from(PARTITIONS_MOST), word) {
+            Some(parts) => Some(parts as u8),
+            None => None,
+        },
+        None => Some(2),
+    }
+}
+
+/// The settings of a run.
+#[derive(Clone, Copy)]
+pub struct Settings<'a> {
+    /// How many partitions there are.
+    pub parts: u8,
+    /// The folder of their files, where one is named.
+    pub folder: Option<&'a str>,
+}
+
+/// The settings that words say.
+pub fn settings_in<'a>(words: &'a [String]) -> Option<Settings<'a>>
+    ensures { option_map settings_meant result ≡ settings_said (map string_bytes words.now) }
+{
+    let said = said_in(words)?;
+    let parts = parts_in(said.parts)?;
+    match said.folder {
+        Some(path) if path.is_empty() => None,
+        folder => Some(Settings { parts, folder }),
+    }
+}
