@@ -1,0 +1,6 @@
+pub mod Defining
+pub mod Found
+pub mod Made
+pub mod Moving
+pub mod Replaced
+pub mod Rows

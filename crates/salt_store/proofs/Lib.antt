@@ -1,4 +1,0 @@
-pub mod FirstCont
-pub mod Going
-pub mod Defining
-pub mod Making
