@@ -20,7 +20,7 @@ use Rattle.salt_model.specs.declared.events.Event.TheVariants.{Began, Ended}
 use Rattle.salt_model.specs.declared.events.Event.{Event}
 use Rattle.salt_model.specs.declared.events.UnitKind.TheVariants.{Acid, Call, First, Later}
 use Rattle.salt_model.specs.declared.events.UnitKind.{UnitKind}
-use Rattle.salt_store.specs.Stores.{IsAtPart}
+use Rattle.salt_known.specs.Moves.{IsAtPart}
 use Rattle.salt_values.specs.Id.{is_same_id}
 use Rattle.salt_values.specs.declared.cont.Cont.{Cont}
 use Rattle.salt_values.specs.declared.id.Id.{Id}
@@ -29,7 +29,7 @@ use Rattle.std.specs.Bool.{then_some}
 use Rattle.std.specs.Option.{option_or}
 use Rattle.std.specs.Prelude.{Bool, List, Some, [], cond, false, option_and_then, option_map, refl, true, ℕ, ◌∷◌, ◌≡◌}
 
-abbrev StandsDue : Trace → Type 0
+abbrev pub StandsDue : Trace → Type 0
 StandsDue trace = (u b : Id) (part : ℕ) → is_open trace u ≡ true → kind_of u trace ≡ Some (Later b part) → part_due trace b ≡ Some part
 
 due-says : (trace : Trace) (e : Event) → Sound trace → Fits trace e → StandsDue trace → StandsDue (trace says e)
@@ -63,7 +63,7 @@ due-says trace (Ended v end) s f h u b part o k = by (is_same_id u v) refl o
     by false e o = ap (option_map (λ c. c.next)) (cont-stays trace v end b (other e o)) ∙ h u b part o k
 due-says trace e s f h u b part o k = h u b part (either (λ q. q) (λ q. absurd q) (open-back trace e u f o)) k
 
-due : (trace : Trace) → IsPlayed trace → OfBoots (start_of trace).kept → StandsDue trace
+pub due : (trace : Trace) → IsPlayed trace → OfBoots (start_of trace).kept → StandsDue trace
 due (from k) p w = λ u b part o g. cc
 due (trace asks asked) p w = due trace p.0 w
 due (trace turns b) p w = due trace p.0 w

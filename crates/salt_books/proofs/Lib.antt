@@ -1,7 +1,11 @@
 pub mod AtParts
 pub mod Calls
+pub mod CanMoves
+pub mod Cuts
 pub mod Decided
-pub mod LeavingKeys
+pub mod Loaded
 pub mod LookUps
+pub mod Meant
+pub mod Named
 pub mod OneHeld
-pub mod Views
+pub mod Phases

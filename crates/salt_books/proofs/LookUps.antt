@@ -5,14 +5,13 @@ use Rattle.salt_keeps.specs.OpenUnits.{OpenUnit, names_in, unit_named}
 use Rattle.salt_keeps.specs.Readings.{first_parts}
 use Rattle.salt_laws.proofs.Ids.{is_same_id-true}
 use Rattle.salt_model.specs.Units.{program_begun}
-use Rattle.salt_store.proofs.FirstCont.{none-found}
 use Rattle.salt_values.specs.Id.{is_same_id}
 use Rattle.salt_values.specs.declared.id.Id.{Id}
 use Rattle.std.proofs.Common.{ap, arith, subst, sym, ◌∙◌}
 use Rattle.std.proofs.lemmas.Bool.Decides.{nat_tests}
 use Rattle.std.proofs.lemmas.List.Quantifiers.{position-Some}
 use Rattle.std.specs.List.{cons_option, filter_map, find, position, position_or_len}
-use Rattle.std.specs.Prelude.{Bool, IsSome, List, None, Some, [], cond, get_or, length, map, nat_lt, option_map, refl, true, false, ℕ, ◌<◌, ◌∷◌, ◌≡◌}
+use Rattle.std.specs.Prelude.{Bool, IsSome, List, None, Some, [], cond, get_or, length, map, nat_lt, not, option_map, refl, suc, true, false, ℕ, ◌+◌, ◌<◌, ◌∷◌, ◌≡◌}
 
 pub find-seen : (p : OpenUnit → Bool) (hs : List Held) → option_map seen (find (λ (h : Held). p (seen h)) hs) ≡ find p (map seen hs)
 find-seen p [] = refl
@@ -22,6 +21,23 @@ find-seen p (h ∷ hs) = by (p (seen h)) (find-seen p hs)
         option_map seen (cond b (Some h) (find (λ (h : Held). p (seen h)) hs)) ≡ cond b (Some (seen h)) (find p (map seen hs))
     by true more = refl
     by false more = more
+
+absent : {A : Type 0} (p : A → Bool) (xs : List A) → nat_lt (position_or_len p xs) (length xs) ≡ false → find p xs ≡ None
+absent p [] h = refl
+absent {A = A} p (x ∷ xs) h = by (p x) (absent p xs) h
+  where
+    by : (t : Bool) → (nat_lt (position_or_len p xs) (length xs) ≡ false → find p xs ≡ None) →
+        nat_lt (cond (not t) (1 + position_or_len p xs) 0) (suc (length xs)) ≡ false → cond t (Some x) (find p xs) ≡ None
+    by true more h = absurd (grind (arith, nat_tests))
+    by false more h = more (grind (arith, nat_tests))
+
+-- what has no place is not there
+none-found : {A : Type 0} (p : A → Bool) (xs : List A) → position p xs ≡ None → find p xs ≡ None
+none-found p xs h = absent p xs (by (nat_lt (position_or_len p xs) (length xs)) h)
+  where
+    by : (t : Bool) → cond t (Some (position_or_len p xs)) None ≡ None → t ≡ false
+    by false e = refl
+    by true e = absurd (cc)
 
 -- where a search has come to
 pub found-within : {A : Type 0} (p : A → Bool) (xs : List A) (at : ℕ) → position p xs ≡ Some at → at < length xs

@@ -1,19 +1,19 @@
--- What the books tell: the half of an engine's state that is of units and tables.
+-- What the books tell: the half of an engine's state that is of units and of what is kept.
 use Rattle.salt_ast.specs.declared.trees.Statement.{Statement}
-use Rattle.salt_ast.specs.declared.trees.TableDef.{TableDef}
-use Rattle.salt_books.specs.LeavingKeys.{AllLeaveKeys, LeavesKeys}
 use Rattle.salt_books.specs.declared.books.Books.{Books}
 use Rattle.salt_books.specs.declared.held.Held.{Held}
-use Rattle.salt_eval.specs.Scans.{IsKeyed}
 use Rattle.salt_keeps.specs.OpenUnits.{OpenUnit, UnitState, belongs_to_program, belongs_to_session, unit_named}
 use Rattle.salt_keeps.specs.Overlays.{edits_of}
 use Rattle.salt_keeps.specs.Steps.{doing_one, outcome_under}
-use Rattle.salt_model.specs.Kept.{Kept, programs_of, schema_of}
-use Rattle.salt_model.specs.Words.{Every}
+use Rattle.salt_known.specs.Known.{IsKnown}
+use Rattle.salt_known.specs.Moves.{IsAtPart}
+use Rattle.salt_model.specs.Kept.{Kept}
+use Rattle.salt_model.specs.Tables.{Tables, is_within, row_at}
 use Rattle.salt_model.specs.declared.events.Answer.{Answer}
-use Rattle.salt_store.specs.Stores.{IsAtPart, IsStore}
+use Rattle.salt_model.specs.declared.locks.Reach.{Reach}
+use Rattle.salt_model.specs.declared.places.Place.{Place}
 use Rattle.salt_values.specs.declared.id.Id.{Id}
-use Rattle.std.specs.Prelude.{Bool, IfSome, IsSome, List, Some, map, ℕ, ◌≡◌}
+use Rattle.std.specs.Prelude.{Bool, IsSome, None, Option, Some, if◌then◌else◌, map, ℕ, ⊤, ◌≡◌}
 
 -- a unit that is held, as an open unit
 abbrev pub seen : Held → OpenUnit
@@ -40,21 +40,18 @@ pub record HasActed (k : Kept) (st : Statement) (old : OpenUnit) (told : Answer)
   pub answer : told ≡ (outcome_under k old st).answer
   pub unit : new ≡ doing_one k st old
 
--- what waiting units ask for leaves keys
-abbrev pub AsksLeaveKeys : List TableDef → List OpenUnit → Type 0
-AsksLeaveKeys schema os = Every (λ (o : OpenUnit). IfSome o.asks (LeavesKeys schema)) os
+-- rows that are loaded: those of tables within a reach, and no others
+abbrev pub AreLoaded : Option Reach → (rows es : Tables) → Type 0
+AreLoaded None rows es = ⊤
+AreLoaded (Some r) rows es = (q : Place) → row_at q rows ≡ (if is_within r q then row_at q es else None)
 
--- the books have the state's units, numbers and store; each row stands at the place of its key, and no statement of a program, or that a
--- waiting unit asks for, changes that
+-- the books have the state's units and numbers, and know what it keeps but for the rows of tables; they see no phase and no line
 pub record AreBooks (x : Books) (s : UnitState) : Type 0 where
-  pub store : IsStore x.store s.kept
+  pub known : IsKnown x.known s.kept
   pub units : map seen x.units.items ≡ s.units
   pub unit_count : x.unit_count ≡ s.unit_count
   pub base_count : x.base_count ≡ s.base_count
   pub to_go : x.to_go.items ≡ s.to_go
-  pub keyed : IsKeyed s.kept.tables
-  pub programs : AllLeaveKeys (schema_of s.kept) (programs_of s.kept)
-  pub asks : AsksLeaveKeys (schema_of s.kept) s.units
 
 -- the books have an open unit of this name
 pub record HaveUnit (x : Books) (u : Id) : Type 0 where

@@ -1,4 +1,6 @@
+pub mod Asking
 pub mod Books
 pub mod Called
+pub mod Coming
 pub mod Ends
-pub mod LeavingKeys
+pub mod Sound

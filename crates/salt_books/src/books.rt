@@ -1,12 +1,11 @@
 //! The books, and how units begin and wait.
 
 ghost use Rattle.salt_books.specs.Books.{AreBooks, HaveUnit, seen};
-ghost use Rattle.salt_books.specs.LeavingKeys.{LeavesKeys};
 ghost use Rattle.salt_keeps.specs.OpenUnits.{UnitState, names_in};
 ghost use Rattle.salt_keeps.specs.Rising.{Rising};
 ghost use Rattle.salt_keeps.specs.Steps.{units_after};
 ghost use Rattle.salt_keeps.specs.Told.{next_unit};
-ghost use Rattle.salt_model.specs.Kept.{nothing_kept};
+ghost use Rattle.salt_model.specs.Kept.{Kept};
 ghost use Rattle.salt_model.specs.Turns.{is_statement_line};
 ghost use Rattle.salt_model.specs.Phases.{Phase};
 ghost use Rattle.salt_model.specs.Waiting.{statement_of_line};
@@ -14,26 +13,27 @@ ghost use Rattle.salt_model.specs.declared.events.Event.{Event};
 ghost use Rattle.salt_model.specs.declared.events.Owner.{Owner};
 ghost use Rattle.salt_ast.specs.declared.lines.Line.{Line};
 ghost use Rattle.salt_books.specs.declared.held.Held.{Held};
+ghost use Rattle.salt_known.specs.Known.{IsKnown};
 ghost use Rattle.salt_values.specs.Id.{is_same_id};
 ghost use Rattle.std.specs.List.{position};
 ghost use Rattle.salt_values.specs.declared.id.Id.{Id};
-ghost use Rattle.std.specs.Prelude.{IfOk, IfSome, List, OnOk, [], get_or, length, ◌<◌, ◌≡◌};
+ghost use Rattle.std.specs.Prelude.{IfOk, List, OnOk, [], get_or, length, ◌<◌, ◌≡◌};
 
 use crate::held::{Held, count_bases};
 use salt_ast::Statement;
 use salt_ids::next_number;
+use salt_known::Known;
 use salt_model::UnitKind;
-use salt_store::Store;
 use salt_units::OpenUnit;
 use salt_values::Id;
 use std::alloc::{AllocError, Global};
 
 /// The open units in order of their names, how many units and programs have begun in this boot, the programs to which `go all`
-/// has still to turn, and the store. An `AllocError` leaves them in no state that is told.
+/// has still to turn, and what is known of the database. An `AllocError` leaves them in no state that is told.
 #[derive(Drop)]
 pub struct Books {
     pub(crate) alloc: Global,
-    pub(crate) store: Store,
+    pub(crate) known: Known,
     pub(crate) units: Vec<Held>,
     pub(crate) unit_count: u64,
     pub(crate) base_count: u64,
@@ -47,10 +47,10 @@ fn place_in(units: &[Held], unit: Id) -> Option<usize>
 }
 
 impl Books {
-    /// No units, and nothing kept but a boot.
-    pub fn new(alloc: Global, boot: u64) -> Books
-        ensures { (phase : Phase) (line : Line) → AreBooks result (record {
-          kept = record nothing_kept { boot = boot };
+    /// No units, and what is known of a database.
+    pub fn new(alloc: Global, known: Known) -> Books
+        ensures { (k : Kept) (phase : Phase) (line : Line) → IsKnown known k → AreBooks result (record {
+          kept = k;
           phase = phase;
           line = line;
           to_go = [];
@@ -61,7 +61,7 @@ impl Books {
     {
         Books {
             alloc,
-            store: Store::new(alloc, boot),
+            known,
             units: Vec::new(alloc),
             unit_count: 0,
             base_count: 0,
@@ -87,10 +87,10 @@ impl Books {
         ensures state { OnOk result ((s : UnitState) → AreBooks self.old s → single ≡ is_statement_line s.line
             → AreBooks self.new (units_after (Event.Began (next_unit s) kind) s)) }
     {
-        let vars = self.store.vars_of_kind(&kind)?;
+        let vars = self.known.vars_of_kind(&kind)?;
         let seq = next_number(self.unit_count)?;
         let base_count = count_bases(&kind, self.base_count)?;
-        let boot = self.store.boot();
+        let boot = self.known.boot();
         let unit = Id { boot, seq };
         self.units.push(Held {
             open: OpenUnit::new(self.alloc, unit, vars),
@@ -105,12 +105,11 @@ impl Books {
         Ok(unit)
     }
 
-    /// A unit waits, and asks for what the line asks for in which it begins to, which is not refused. That names rise is the law
-    /// `names_rise`.
+    /// A unit waits, and asks for what the line asks for in which it begins to. That names rise is the law `names_rise`.
     pub fn wait(&mut self, unit: Id, asks: Option<Statement>)
         requires { HaveUnit self.old unit }
         ensures { (s : UnitState) (owners : List Owner) → AreBooks self.old s → Rising (names_in s.units) → asks ≡ statement_of_line s.line
-            → IfSome asks (LeavesKeys self.old.store.schema) → AreBooks self.new (units_after (Event.Waits unit owners) s) }
+            → AreBooks self.new (units_after (Event.Waits unit owners) s) }
     {
         let at = self.place(unit);
         let held = &mut self.units[at];

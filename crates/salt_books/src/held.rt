@@ -4,17 +4,19 @@ ghost use Rattle.salt_eval.specs.Scans.{IsKeyed};
 ghost use Rattle.salt_eval.specs.Views.{tables_of};
 ghost use Rattle.salt_keeps.specs.OpenUnits.{count_on};
 ghost use Rattle.salt_model.specs.Kept.{Kept, schema_of};
+ghost use Rattle.salt_model.specs.Reaches.{reach};
 ghost use Rattle.salt_model.specs.Units.{program_begun};
 ghost use Rattle.salt_units.specs.Acting.{leaves_keys};
 ghost use Rattle.salt_values.specs.Id.{is_same_id};
-ghost use Rattle.std.specs.Prelude.{IfOk, if◌then◌else◌, is_some, true, ◌+◌, ◌≡◌};
+ghost use Rattle.std.specs.Prelude.{IfOk, if◌then◌else◌, is_some, nat_lt, true, ◌+◌, ◌≡◌};
 
+use crate::kinds::program_begun;
 use salt_ast::Statement;
-use salt_eval::{MapView, ViewErr};
+use salt_eval::{MapView, Tables, ViewErr};
 use salt_ids::{is_same_id, next_number};
+use salt_keeps::statements_are_done_under_edits;
 use salt_model::{Answer, UnitKind};
 use salt_schema::Schema;
-use salt_store::Tables;
 use salt_units::OpenUnit;
 use salt_values::Id;
 use std::alloc::{AllocError, Global};
@@ -35,13 +37,20 @@ pub struct Held {
 }
 
 impl Held {
-    ghost use Rattle.salt_books.specs.Books.{HasActed, is_of_program, is_of_session, seen};
+    ghost use Rattle.salt_books.specs.Books.{AreLoaded, HasActed, is_of_program, is_of_session, seen};
 
     /// Whether it has this name.
     pub fn is_named(&self, unit: Id) -> bool
         ensures { result ≡ is_same_id (seen self.now).unit unit }
     {
         is_same_id(self.open.unit, unit)
+    }
+
+    /// Whether it began before this boot.
+    pub fn began_before(&self, boot: u64) -> bool
+        ensures { result ≡ nat_lt (seen self.now).unit.boot boot }
+    {
+        self.open.unit.boot < boot
     }
 
     /// Whether it is a session's.
@@ -68,8 +77,8 @@ impl Held {
         }
     }
 
-    /// Does a statement over rows, each of which stands at the place of its key. No set may be of a key column. An `AllocError`
-    /// leaves the unit as it was.
+    /// Does a statement over the rows in its reach, each of which stands at the place of its key. No set may be of a key column.
+    /// An `AllocError` leaves the unit as it was.
     pub fn act(
         &mut self,
         alloc: Global,
@@ -79,9 +88,11 @@ impl Held {
     ) -> Result<Answer, AllocError>
         requires keyed { IsKeyed (tables_of rows.now.entries) }
         requires leaves_keys { leaves_keys schema.now statement.now ≡ true }
-        ensures done { IfOk result (λ answer. (k : Kept) → schema.now ≡ schema_of k → rows.now.entries ≡ k.tables.list
+        ensures done { IfOk result (λ answer. (k : Kept) → schema.now ≡ schema_of k
+            → AreLoaded (reach (schema_of k) self.old.open.vars statement.now) (tables_of rows.now.entries) k.tables
             → HasActed k statement.now (seen self.old) answer (seen self.new)) }
     {
+        statements_are_done_under_edits();
         let mut view = MapView::new(alloc, rows);
         let done = count_on(&self.kind, self.done)?;
         match self.open.act(alloc, &mut view, schema, statement) {
@@ -106,18 +117,6 @@ pub fn count_on(kind: &UnitKind, done: u64) -> Result<u64, AllocError>
         UnitKind::Call { .. } => next_number(done),
         UnitKind::First { .. } => next_number(done),
         UnitKind::Later { .. } => next_number(done),
-    }
-}
-
-/// The program that a unit of this kind begins.
-pub fn program_begun(kind: &UnitKind) -> Option<Id>
-    ensures { result ≡ program_begun kind.now }
-{
-    match kind {
-        UnitKind::Acid { .. } => None,
-        UnitKind::Call { .. } => None,
-        UnitKind::First { base, .. } => Some(*base),
-        UnitKind::Later { .. } => None,
     }
 }
 

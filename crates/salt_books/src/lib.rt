@@ -1,15 +1,23 @@
-//! The books of an engine: the open units, how many have begun, and what decisions leave.
+//! The books of an engine: the open units, how many have begun, and what is known of the database; and what is to come next,
+//! as those tell that choose it.
 #![tactic(auto)]
 
+mod asking;
 mod books;
 mod called;
+mod coming;
 mod ends;
 mod held;
+mod kinds;
 mod laws;
 mod looks;
+mod openings;
 mod turns;
 
+pub use asking::Asking;
 pub use books::Books;
 pub use called::CalledNames;
+pub use coming::Coming;
 pub use held::Held;
-pub use laws::{judged_statements_leave_keys, later_units_stand_at_their_parts};
+pub use kinds::{cause_of, family_of, program_begun, program_of};
+pub use laws::{later_units_stand_at_their_parts, units_can_move};

@@ -3,7 +3,6 @@
 ghost use Rattle.salt_ast.specs.declared.trees.Statement.{Statement};
 ghost use Rattle.salt_books.specs.Books.{AreBooks, is_of_program, is_of_session, seen};
 ghost use Rattle.salt_books.specs.declared.held.Held.{Held};
-ghost use Rattle.salt_books.specs.LeavingKeys.{LeavesKeys};
 ghost use Rattle.salt_keeps.specs.OpenUnits.{UnitState, asking, asks_next, names_in, unit_named, unit_of_program, unit_of_session};
 ghost use Rattle.salt_keeps.specs.Readings.{first_parts};
 ghost use Rattle.salt_keeps.specs.Told.{is_at_end_in, next_base, next_unit};
@@ -14,15 +13,15 @@ ghost use Rattle.salt_model.specs.Waiting.{statement_of_line};
 ghost use Rattle.salt_values.specs.Id.{is_same_id};
 ghost use Rattle.std.specs.List.{filter_map, find};
 ghost use Rattle.std.specs.Option.{option_copied};
-ghost use Rattle.salt_units.specs.Acting.{leaves_keys};
-ghost use Rattle.std.specs.Prelude.{IfOk, IfSome, None, Some, length, map, option_map, true, ◌≡◌, ◌⊎◌};
+ghost use Rattle.std.specs.Prelude.{IfOk, None, length, map, option_map, ◌≡◌};
 
 use crate::books::Books;
-use crate::held::{Held, program_begun};
+use crate::held::Held;
+use crate::kinds::program_begun;
 use salt_ast::{Act, Line, Statement};
 use salt_ids::next_number;
+use salt_known::Known;
 use salt_model::Reach;
-use salt_store::Store;
 use salt_values::Id;
 use std::alloc::{AllocError, Global};
 
@@ -114,11 +113,11 @@ fn first_parts_of(alloc: Global, units: &[Held]) -> Result<Vec<Id>, AllocError>
 }
 
 impl Books {
-    /// The store.
-    pub fn store(&self) -> &Store
-        ensures { result.now ≡ self.now.store }
+    /// What is known of the database.
+    pub fn known(&self) -> &Known
+        ensures { result.now ≡ self.now.known }
     {
-        &self.store
+        &self.known
     }
 
     /// The open unit of a name. It looks through the units.
@@ -143,14 +142,11 @@ impl Books {
     }
 
     /// The statement that a unit asks for in a line: the next of its block; without a block that of the line, or of the one in
-    /// which it began to wait. It sets no key where the unit waits or the line's statement sets none.
+    /// which it began to wait.
     pub fn asks_next<'a>(&'a self, held: &'a Held, line: &'a Line) -> Option<&'a Statement>
-        ensures statement { (s : UnitState) → AreBooks self.now s → line.now ≡ s.line → option_copied result ≡ asks_next s (seen held.now) }
-        ensures leaves_keys { (s : UnitState) → AreBooks self.now s → unit_named held.now.open.unit s.units ≡ Some (seen held.now)
-            → (held.now.waiting ≡ true) ⊎ IfSome (statement_of_line line.now) (LeavesKeys self.now.store.schema)
-            → IfSome result (λ statement. leaves_keys self.now.store.schema statement.now ≡ true) }
+        ensures { (s : UnitState) → AreBooks self.now s → line.now ≡ s.line → option_copied result ≡ asks_next s (seen held.now) }
     {
-        let block = self.store.block_of_kind(&held.kind);
+        let block = self.known.block_of_kind(&held.kind);
         asked(held, line, block)
     }
 
@@ -158,7 +154,7 @@ impl Books {
     pub fn is_at_end(&self, held: &Held) -> bool
         ensures { (s : UnitState) → AreBooks self.now s → result ≡ is_at_end_in (seen held.now) (block_of_kind s.kept held.now.kind) }
     {
-        let block = self.store.block_of_kind(&held.kind);
+        let block = self.known.block_of_kind(&held.kind);
         ends_block(held, block)
     }
 
@@ -166,7 +162,7 @@ impl Books {
     pub fn reach(&self, held: &Held, statement: &Statement) -> Result<Option<Reach>, AllocError>
         ensures { IfOk result (λ found. (s : UnitState) → AreBooks self.now s → found ≡ reach_under s.kept (seen held.now) statement.now) }
     {
-        held.open.ask(self.alloc, self.store.schema(), statement)
+        held.open.ask(self.alloc, self.known.schema(), statement)
     }
 
     /// The name of the next unit.
@@ -174,7 +170,7 @@ impl Books {
         ensures { IfOk result (λ unit. (s : UnitState) → AreBooks self.now s → unit ≡ next_unit s) }
     {
         Ok(Id {
-            boot: self.store.boot(),
+            boot: self.known.boot(),
             seq: next_number(self.unit_count)?,
         })
     }
@@ -184,7 +180,7 @@ impl Books {
         ensures { IfOk result (λ base. (s : UnitState) → AreBooks self.now s → base ≡ next_base s) }
     {
         Ok(Id {
-            boot: self.store.boot(),
+            boot: self.known.boot(),
             seq: next_number(self.base_count)?,
         })
     }

@@ -19,7 +19,7 @@ use crate::books::Books;
 use crate::held::Held;
 use salt_ast::{Line, ProgramDef, TableDef};
 use salt_ids::is_same_id;
-use salt_store::Defined;
+use salt_known::Defined;
 use salt_values::{Cont, Id};
 use std::alloc::{AllocError, Global};
 
@@ -54,7 +54,7 @@ impl Books {
     {
         match line {
             Line::GoAll => {
-                let bases = self.store.bases()?;
+                let bases = self.known.bases()?;
                 Ok(bases)
             }
             _ => Ok(Vec::new(self.alloc)),
@@ -83,7 +83,7 @@ impl Books {
     fn can_go(&self, base: Id) -> bool
         ensures { (s : UnitState) → AreBooks self.now s → result ≡ can_go_in s base }
     {
-        let cont = self.store.cont(base);
+        let cont = self.known.cont(base);
         is_left_to_go(cont, self.unit_of_program(base))
     }
 
@@ -101,26 +101,26 @@ impl Books {
 
     /// Defines a table that is not refused, by the line that is its tree. The number of the decision and the canonical text.
     pub fn define_table(&mut self, def: &TableDef) -> Result<Defined, AllocError>
-        requires { table_refusal self.old.store.schema def.now ≡ None }
+        requires { table_refusal self.old.known.schema def.now ≡ None }
         ensures told { IfOk result (λ defined. (s : UnitState) → AreBooks self.old s
             → (defined.0 ≡ next_decision s) × (defined.1 ≡ table_text def.now)) }
         ensures state { OnOk result ((s : UnitState) → AreBooks self.old s → s.line ≡ Table def.now
             → AreBooks self.new (units_after (Event.Defined (next_decision s) (table_text def.now)) s)) }
     {
-        let defined = self.store.define_table(def)?;
+        let defined = self.known.define_table(def)?;
         Ok(defined)
     }
 
     /// Defines a program that is not refused, by the line that is its tree. The number of the decision and the canonical text.
     pub fn define_program(&mut self, def: &ProgramDef) -> Result<Defined, AllocError>
         requires parts { length (parts_in def.now.body) < 2 ^ 32 }
-        requires allowed { program_refusal self.old.store.schema self.old.store.catalogue def.now ≡ None }
+        requires allowed { program_refusal self.old.known.schema self.old.known.catalogue def.now ≡ None }
         ensures told { IfOk result (λ defined. (s : UnitState) → AreBooks self.old s
             → (defined.0 ≡ next_decision s) × (defined.1 ≡ program_text def.now)) }
         ensures state { OnOk result ((s : UnitState) → AreBooks self.old s → s.line ≡ Program def.now
             → AreBooks self.new (units_after (Event.Defined (next_decision s) (program_text def.now)) s)) }
     {
-        let defined = self.store.define_program(def)?;
+        let defined = self.known.define_program(def)?;
         Ok(defined)
     }
 }

@@ -2,12 +2,9 @@ use Rattle.salt_books.proofs.books.Books.ask.Goals as goal
 
 pub returns : goal.returns
 returns c = λ s h. record {
-  store = h.store;
+  known = h.known;
   units = h.units;
   unit_count = h.unit_count;
   base_count = h.base_count;
   to_go = c.in_ok-bases.ensures s h;
-  keyed = h.keyed;
-  programs = h.programs;
-  asks = h.asks;
 }

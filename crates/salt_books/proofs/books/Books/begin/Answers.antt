@@ -2,7 +2,6 @@ use Rattle.salt_books.proofs.books.Books.begin.Goals as goal
 use Rattle.salt_books.specs.Books.{seen}
 use Rattle.salt_keeps.specs.Overlays.{edits_of}
 use Rattle.salt_keeps.specs.Told.{next_unit}
-use Rattle.salt_laws.proofs.Every.{every-append}
 use Rattle.salt_model.specs.Units.{program_begun}
 use Rattle.salt_values.specs.declared.id.Id.{Id}
 use Rattle.std.proofs.Common.{None, [], ap, false, ◌+◌, ◌++◌, ◌∙◌, ◌∷◌, ◌≡◌}
@@ -11,7 +10,7 @@ use Rattle.std.specs.Prelude.{if◌then◌else◌, is_some, map}
 
 pub returns-clause-name : goal.returns-clause-name
 returns-clause-name c = λ s h. λ i. record {
-  boot = (c.boot-boot.ensures ∙ h.store.boot) i;
+  boot = (c.boot-boot.ensures ∙ h.known.boot) i;
   seq = (c.in_ok-seq.ensures ∙ ap (λ n. n + 1) h.unit_count) i;
 }
 
@@ -19,10 +18,10 @@ pub returns-clause-state : goal.returns-clause-state
 returns-clause-state c = λ s h single.
     let seq = c.in_ok-seq.ensures ∙ ap (λ n. n + 1) h.unit_count in
     let name : ◌≡◌ {A = Id} (record { boot = c.boot-boot.result; seq = c.in_ok-seq.seq }) (next_unit s) =
-    λ i. record { boot = (c.boot-boot.ensures ∙ h.store.boot) i; seq = seq i } in
-    let vars = c.in_ok-vars.ensures s.kept h.store in
+    λ i. record { boot = (c.boot-boot.ensures ∙ h.known.boot) i; seq = seq i } in
+    let vars = c.in_ok-vars.ensures s.kept h.known in
     record {
-      store = h.store;
+      known = h.known;
       units = ap (map seen) c.in_ok-push.ensures.items ∙ map-append seen c.args.self.now.units.items _
           ∙ (λ i. h.units i ++ record {
             unit = (c.new.ensures.unit ∙ name) i;
@@ -37,7 +36,4 @@ returns-clause-state c = λ s h single.
       unit_count = seq;
       base_count = c.in_ok-base_count.ensures ∙ ap (λ n. if is_some (program_begun c.args.kind) then n + 1 else n) h.base_count;
       to_go = h.to_go;
-      keyed = h.keyed;
-      programs = h.programs;
-      asks = every-append _ s.units _ h.asks (tt, tt);
     }

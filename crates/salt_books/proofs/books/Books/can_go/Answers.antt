@@ -4,4 +4,4 @@ use Rattle.std.proofs.Common.{◌∙◌}
 use Rattle.std.specs.Prelude.{is_some, ◌&&◌}
 
 pub returns : goal.returns
-returns c = λ s h. c.is_left_to_go.ensures ∙ (λ i. is_some (c.cont-cont.ensures s.kept h.store i) && is_not_waiting (c.unit_of_program.ensures s h i))
+returns c = λ s h. c.is_left_to_go.ensures ∙ (λ i. is_some (c.cont-cont.ensures s.kept h.known i) && is_not_waiting (c.unit_of_program.ensures s h i))

@@ -4,4 +4,4 @@ use Rattle.salt_keeps.specs.Told.{is_at_end_in}
 use Rattle.std.proofs.Common.{ap, ◌∙◌}
 
 pub returns : goal.returns
-returns c = λ s h. c.ends_block.ensures ∙ ap (is_at_end_in (seen c.args.held.now)) (c.block_of_kind-block.ensures s.kept h.store)
+returns c = λ s h. c.ends_block.ensures ∙ ap (is_at_end_in (seen c.args.held.now)) (c.block_of_kind-block.ensures s.kept h.known)

@@ -5,4 +5,4 @@ use Rattle.std.proofs.lemmas.Result.{IfOk-weaker}
 
 pub returns : goal.returns
 returns c = IfOk-weaker c.ask.result _ _ (λ found e s h.
-    e ∙ ap (λ schema. reach schema c.args.held.now.open.vars c.args.statement.now) (c.schema.ensures ∙ h.store.schema)) c.ask.ensures
+    e ∙ ap (λ schema. reach schema c.args.held.now.open.vars c.args.statement.now) (c.schema.ensures ∙ h.known.schema)) c.ask.ensures

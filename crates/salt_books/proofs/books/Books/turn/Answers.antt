@@ -4,12 +4,9 @@ use Rattle.std.proofs.Common.{ap, ◌∙◌}
 
 pub returns : goal.returns
 returns c = λ s h. record {
-  store = h.store;
+  known = h.known;
   units = h.units;
   unit_count = h.unit_count;
   base_count = h.base_count;
   to_go = c.in_ok-left.ensures ∙ ap (ids_after c.args.base) (c.as_slice.ensures.value ∙ h.to_go);
-  keyed = h.keyed;
-  programs = h.programs;
-  asks = h.asks;
 }

@@ -1,7 +1,8 @@
-use Rattle.salt_books.proofs.Views.{rows-shown}
+use Rattle.salt_books.proofs.Loaded.{loaded-views}
 use Rattle.salt_books.proofs.held.Held.act.Goals as goal
 use Rattle.salt_books.specs.Books.{seen}
 use Rattle.salt_eval.specs.Scans.{IsKeyed}
+use Rattle.salt_eval.specs.Views.{tables_of}
 use Rattle.salt_keeps.specs.OpenUnits.{OpenUnit}
 use Rattle.salt_keeps.specs.Overlays.{put_all, with_edits}
 use Rattle.salt_keeps.specs.Steps.{outcome_under}
@@ -13,12 +14,16 @@ act-requires-clause-keyed c = subst IsKeyed (sym c.new-view.ensures) c.requires.
 
 pub returns-in-Ok : goal.returns-in-Ok
 returns-in-Ok c = record {
-  done = λ k schema rows.
+  done = λ k schema loaded.
       let old : OpenUnit = seen c.args.self.now in
+      let sorted = c.args.self.now.open.in_order in
+      let rows = tables_of c.args.rows.now.entries in
+      let st = c.args.statement.now in
       let d = c.in-Ok.ensures.done in
-      let view = c.new-view.ensures ∙ rows-shown c.args.rows.now.entries k.tables rows in
-      let same : outcome_of c.args.schema.now (with_edits old.changes (_)) old.vars c.args.statement.now ≡ outcome_under k old c.args.statement.now =
-      λ i. outcome_of (schema i) (with_edits old.changes (view i)) old.vars c.args.statement.now in
+      let law = c.statements_are_done_under_edits.ensures in
+      let same : outcome_of c.args.schema.now (with_edits old.changes (_)) old.vars st ≡ outcome_under k old st =
+      (λ i. outcome_of (schema i) (with_edits old.changes (c.new-view.ensures i)) old.vars st)
+      ∙ (law.alike k old st sorted).in_views (with_edits old.changes rows) (loaded-views law.stored (_) old.changes k.tables rows sorted loaded) in
       record {
         answer = d.answers ∙ ap (λ (x : Done). x.answer) same;
         unit = λ i. record old {

@@ -1,0 +1,10 @@
+use Rattle.salt_books.proofs.books.Books.fall.Goals as goal
+
+pub returns : goal.returns
+returns c = λ s why h. record {
+  known = h.known;
+  units = h.units;
+  unit_count = h.unit_count;
+  base_count = h.base_count;
+  to_go = c.clear.ensures.items;
+}
