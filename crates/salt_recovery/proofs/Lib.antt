@@ -1,0 +1,5 @@
+pub mod Asked
+pub mod Chosen
+pub mod Done
+pub mod Follows
+pub mod Sound
