@@ -1,0 +1,31 @@
+-- Why a line is refused, by what the books and the watch tell.
+use Rattle.salt_ast.specs.ProgramJudgement.{line_fault}
+use Rattle.salt_ast.specs.declared.lines.Line.{Line}
+use Rattle.salt_ast.specs.declared.programs.ProgramDef.{ProgramDef}
+use Rattle.salt_ast.specs.declared.trees.TableDef.{TableDef}
+use Rattle.salt_scheduler.specs.Refused.{refusal_by_state}
+use Rattle.salt_judge.specs.Refusals.{known_by, line_refusal, told}
+use Rattle.salt_keeps.specs.Nexts.{refusal_of}
+use Rattle.salt_keeps.specs.Readings.{under_way_of}
+use Rattle.salt_keeps.specs.Refused.{known_in}
+use Rattle.salt_keeps.specs.States.{State}
+use Rattle.salt_model.specs.Trace.{Tree}
+use Rattle.salt_model.specs.declared.events.Refusal.{Refusal}
+use Rattle.salt_known.specs.Known.{IsKnown}
+use Rattle.salt_known.specs.declared.known.Known.{Known}
+use Rattle.salt_values.specs.declared.cont.Cont.{Cont}
+use Rattle.std.proofs.Common.{◌∙◌}
+use Rattle.std.specs.Option.{option_or}
+use Rattle.std.specs.Prelude.{List, Option, ℕ, ◌≡◌}
+
+-- what is judged by what is known, and the number of programs under way
+pub judged : (s : State) (x : Known) (schema : List TableDef) (catalogue : List ProgramDef) (conts : List Cont) (count : ℕ) (line : Line) →
+    IsKnown x s.units.kept → schema ≡ x.schema → catalogue ≡ x.catalogue → conts ≡ x.conts → count ≡ (under_way_of s).count →
+    line_refusal (known_by schema catalogue conts count) line ≡ told (line_fault (known_in s.units (under_way_of s)) line)
+judged s x schema catalogue conts count line h a b c many =
+    λ i. told (line_fault (known_by ((a ∙ h.schema) i) ((b ∙ h.catalogue) i) ((c ∙ h.conts) i) (many i)) line)
+
+-- a fault comes before what the state refuses
+pub faulty : (s : State) (line : Line) (fault by_state : Option Refusal) → fault ≡ told (line_fault (known_in s.units (under_way_of s)) line) →
+    by_state ≡ refusal_by_state s line → option_or fault by_state ≡ refusal_of s (Tree line)
+faulty s line fault by_state f b = λ i. option_or (f i) (b i)

@@ -1,0 +1,16 @@
+-- What a sound state gives.
+use Rattle.salt_books.specs.Sound.{IsSoundState}
+use Rattle.salt_keeps.specs.KeptWaits.{AreDistinct, Asker}
+use Rattle.salt_keeps.specs.Readings.{Reading}
+use Rattle.salt_keeps.specs.States.{State}
+use Rattle.salt_watch.proofs.Readable.{distinct, readable}
+use Rattle.std.specs.Prelude.{false, map, true, ◌≡◌}
+
+pub reads : (s : State) → IsSoundState s → Reading s.watch
+reads s h = readable s.watch h.trace h.keeps.watch h.sound
+
+pub waits-apart : (s : State) → IsSoundState s → AreDistinct (map (λ (a : Asker). a.unit) s.watch.waits)
+waits-apart s h = distinct s.watch h.trace h.keeps.watch
+
+pub never-true : false ≡ true → ⊥
+never-true h = cc

@@ -1,0 +1,8 @@
+use Rattle.salt_scheduler.proofs.LinesDone.{quiet}
+use Rattle.salt_scheduler.proofs.scheduler.Scheduler.armed.Goals as goal
+use Rattle.salt_model.specs.declared.events.Event.TheVariants.{Armed}
+use Rattle.std.specs.Prelude.{refl}
+
+pub returns : goal.returns
+returns c = λ s r stands h.
+    quiet (Armed c.args.pairs) s c.args.self.now _ _ refl tt (λ x. refl) refl (λ b. refl) stands refl refl refl stands.books refl

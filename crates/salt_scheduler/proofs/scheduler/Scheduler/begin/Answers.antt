@@ -1,0 +1,21 @@
+use Rattle.salt_scheduler.proofs.scheduler.Scheduler.begin.Goals as goal
+use Rattle.std.specs.Prelude.{Some}
+use Rattle.salt_keeps.specs.Told.{next_unit}
+use Rattle.salt_model.specs.declared.events.Event.TheVariants.{Began}
+use Rattle.salt_model.specs.Turns.{is_statement_line}
+use Rattle.salt_scheduler.proofs.BeginDone.{begin-gives, follows-alone, follows-turn}
+use Rattle.std.proofs.Common.{ap, sym, ◌∙◌}
+use Rattle.salt_scheduler.proofs.scheduler.Scheduler.begin.Goals.{else-opens_alone, then-opens_alone}
+
+pub returns : goal.returns
+returns c = λ s r stands serves.
+    let name = c.in_ok-unit.ensures.name s.units stands.books in
+    begin-gives c.args.line.now c.args.kind c.args.self.now _ s _ stands serves.line
+    (λ i. Some (Began (name i) (c.in_ok-told.ensures i)))
+    stands.watch
+    (c.in_ok-unit.ensures.state s.units stands.books (c.is_statement_line.ensures ∙ ap is_statement_line (sym serves.line)))
+    c.in_ok-note_call.ensures
+    (elim c.if-opens_alone.branch [
+      | then-opens_alone w ↦ follows-alone c.args.line.now (next_unit s.units) c.if-opens_alone.self c.opens_alone.result c.opens_alone.ensures w.if-opens_alone.true w.self-is
+      | else-opens_alone w ↦ follows-turn c.args.line.now (next_unit s.units) c.in_ok-unit.unit c.if-opens_alone.self c.opens_alone.result c.opens_alone.ensures w.if-opens_alone.false name w.self-is
+    ])

@@ -1,0 +1,31 @@
+use Rattle.salt_scheduler.proofs.Done.{brings-same, brings-told}
+use Rattle.salt_scheduler.proofs.scheduler.Scheduler.first_of.Goals as goal
+use Rattle.salt_keeps.specs.Readings.{clash_by, items_by}
+use Rattle.salt_keeps.specs.Told.{line_in}
+use Rattle.std.proofs.Common.{ap}
+use Rattle.std.proofs.lemmas.Result.{IfOk-weaker}
+use Rattle.std.specs.Prelude.{refl}
+
+pub act_of-requires : goal.act_of-requires
+act_of-requires c = (c.requires.0, c.requires.1, c.requires.2.serves)
+
+pub go-requires : goal.go-requires
+go-requires c = (c.requires.0, c.requires.1, c.requires.2.serves)
+
+pub returns-in-Session : goal.returns-in-Session
+returns-in-Session c = IfOk-weaker c.act_of.result _ _ (λ e given s r stands h.
+    brings-same s _ _ _ _ (ap (line_in s.units (clash_by s) (items_by s r)) c.in-Session.is) (given s r stands h.serves)) c.act_of.ensures
+
+pub returns-in-Go : goal.returns-in-Go
+returns-in-Go c = IfOk-weaker c.go.result _ _ (λ e given s r stands h.
+    brings-same s _ _ _ _ (ap (line_in s.units (clash_by s) (items_by s r)) c.in-Go.is) (given s r stands h.serves)) c.go.ensures
+
+pub returns-in_ok-show_locks-in-ShowLocks : goal.returns-in_ok-show_locks-in-ShowLocks
+returns-in_ok-show_locks-in-ShowLocks c = λ s r stands h.
+    brings-same s _ _ _ _ (ap (line_in s.units (clash_by s) (items_by s r)) c.in-ShowLocks.is)
+    (brings-told s _ _ _ (c.in_ok-show_locks-in-ShowLocks.ensures s r stands h.serves) refl)
+
+pub returns-in_ok-show_bases-in-ShowBases : goal.returns-in_ok-show_bases-in-ShowBases
+returns-in_ok-show_bases-in-ShowBases c = λ s r stands h.
+    brings-same s _ _ _ _ (ap (line_in s.units (clash_by s) (items_by s r)) c.in-ShowBases.is)
+    (brings-told s _ _ _ (c.in_ok-show_bases-in-ShowBases.ensures s r stands h.serves) refl)

@@ -1,0 +1,5 @@
+pub mod Follows
+pub mod Serving
+pub mod Calling
+pub mod Standing
+pub mod Refused

@@ -1,0 +1,16 @@
+-- What is refused of a line.
+use Rattle.salt_ast.specs.declared.lines.Line.{Line}
+use Rattle.salt_keeps.specs.Readings.{under_way_of}
+use Rattle.salt_keeps.specs.Refused.{busy_in, wrong_in}
+use Rattle.salt_keeps.specs.States.{State}
+use Rattle.salt_model.specs.Refusals.{defines}
+use Rattle.salt_model.specs.declared.events.Refusal.{Refusal}
+use Rattle.salt_model.specs.declared.events.Refusal.TheVariants as refused
+use Rattle.std.specs.Bool.{then_some}
+use Rattle.std.specs.Option.{option_or}
+use Rattle.std.specs.Prelude.{Option, ◌&&◌}
+
+-- what is refused of a line without a fault
+abbrev pub refusal_by_state : State → Line → Option Refusal
+refusal_by_state s line =
+    option_or (then_some (wrong_in s.units (under_way_of s) line) refused.State) (then_some (defines line && busy_in s.units (under_way_of s)) refused.Busy)

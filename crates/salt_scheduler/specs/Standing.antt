@@ -1,0 +1,131 @@
+-- What a scheduler stands for: a state; and with an event at hand, which it has done, the state before that.
+use Rattle.salt_ast.specs.declared.lines.Line.TheVariants.{GoAll}
+use Rattle.salt_ast.specs.declared.lines.Line.{Line}
+use Rattle.salt_books.specs.Books.{AreBooks}
+use Rattle.salt_books.specs.Called.{name_told}
+use Rattle.salt_books.specs.Coming.{CanCome, event_meant}
+use Rattle.salt_keeps.specs.Follows.{settles_in}
+use Rattle.salt_keeps.specs.Members.{In}
+use Rattle.salt_keeps.specs.OpenUnits.{UnitState}
+use Rattle.salt_keeps.specs.Readings.{Reading, beside_by, first_parts, under_way_of}
+use Rattle.salt_keeps.specs.Refused.{refusal_in}
+use Rattle.salt_keeps.specs.States.{After, State}
+use Rattle.salt_keeps.specs.Watches.{Watch}
+use Rattle.salt_model.specs.Next.{decision_in}
+use Rattle.salt_model.specs.Phases.{Serving}
+use Rattle.salt_model.specs.Trace.{Tree}
+use Rattle.salt_model.specs.declared.events.Event.{Event}
+use Rattle.salt_scheduler.specs.Follows.{FollowsOn, event_of}
+use Rattle.salt_scheduler.specs.Serving.{is_served}
+use Rattle.salt_books.specs.Sound.{IsSoundState}
+use Rattle.salt_books.specs.declared.coming.Coming.TheVariants as coming
+use Rattle.salt_books.specs.declared.coming.Coming.{Coming}
+use Rattle.salt_scheduler.specs.declared.follow.Follow.TheVariants.{Accept, Release}
+use Rattle.salt_scheduler.specs.declared.follow.Follow.{Follow}
+use Rattle.salt_scheduler.specs.declared.scheduler.Scheduler.{Scheduler}
+use Rattle.salt_values.specs.declared.id.Id.{Id}
+use Rattle.salt_watch.specs.Watched.{IsFinishing, IsWatch}
+use Rattle.salt_watch.specs.declared.watching.Watching.{Watching}
+use Rattle.std.specs.Option.{option_or}
+use Rattle.std.specs.Prelude.{List, None, Option, Some, [], true, ◌++◌, ◌∷◌, ◌≡◌, ◌⊎◌}
+
+-- a program of which the event at hand was the first commit
+abbrev pub accepting : Follow → List Id
+accepting (Accept b) = b ∷ []
+accepting f = []
+
+-- the programs whose names are kept: unreleased, in their first part, or about to be accepted
+abbrev pub bases_called : Follow → State → List Id
+bases_called f s = s.watch.programs ++ (first_parts s.units.units ++ accepting f)
+
+-- programs are to have a turn in a `go all` alone
+abbrev pub IsTurning : UnitState → Type 0
+IsTurning s = (s.to_go ≡ []) ⊎ (s.line ≡ GoAll)
+
+-- the watch, seen in this way, with all else
+pub record StandsWith (watched : Watching → Watch → Type 0) (x : Scheduler) (s : State) : Type 0 where
+  pub books : AreBooks x.books s.units
+  pub watch : watched x.watch s.watch
+  pub called : (b : Id) → In b (bases_called x.follow s) → name_told x.called b ≡ Some (s.names b)
+  pub turns : IsTurning s.units
+
+abbrev pub Stands : Scheduler → State → Type 0
+Stands x s = StandsWith IsWatch x s
+
+-- what is watched where this follows: of a program that has finished the releases are not yet asked for
+abbrev pub watched_by : Follow → Watching → Watch → Type 0
+watched_by (Release b) x w = IsFinishing b x w
+watched_by f x w = IsWatch x w
+
+abbrev pub StandsBehind : Scheduler → State → Type 0
+StandsBehind x s = StandsWith (watched_by x.follow) x s
+
+-- it has done an event
+pub record HasDone (x : Scheduler) (e : Event) (s t : State) : Type 0 where
+  pub served : is_served e ≡ true
+  pub after : After e s t
+  pub behind : StandsBehind x t
+  pub follows : FollowsOn x.follow e s.units t.units
+
+abbrev pub Sees : Scheduler → Option Event → State → Type 0
+Sees x None s = Stands x s
+Sees x (Some e) s = (t : State) × HasDone x e s t
+
+-- a state in which lines are served, this one now
+pub record ServesLine (now : Line) (s : State) : Type 0 where
+  pub sound : IsSoundState s
+  pub phase : s.units.phase ≡ Serving
+  pub line : s.units.line ≡ now
+
+-- a state in which a line is served that is not refused
+pub record ServesAllowed (now : Line) (s : State) : Type 0 where
+  pub serves : ServesLine now s
+  pub allowed : refusal_in s.units (under_way_of s) (Tree now) ≡ None
+
+-- what is given is what the state tells, and it is done
+pub record Gives (s : State) (want : Option Event) (new : Scheduler) (given : Option Event) : Type 0 where
+  pub told : given ≡ want
+  pub done : Sees new given s
+
+-- it is done where it is an event that is done, which no decision makes; else nothing is
+abbrev pub IsReady : Scheduler → State → Coming → Type 0
+IsReady x s (coming.Told e) = Sees x (Some e) s × (decision_in (Some e) ≡ None)
+IsReady x s c = Stands x s × CanCome c s.units
+
+-- what is to come is what the state tells
+pub record Brings (s : State) (want : Option Event) (new : Scheduler) (c : Coming) : Type 0 where
+  pub meant : event_meant s.units c ≡ want
+  pub ready : IsReady new s c
+
+-- what a state tells of what comes next, in whatever way it is read
+abbrev pub Wanted : Type 0
+Wanted = (s : State) → Reading s.watch → Option Event
+
+-- from a scheduler that stands for a state to one that has done what this tells of it, in a line
+abbrev pub Does : Wanted → Line → Scheduler → Scheduler → Event → Type 0
+Does want now old new e = (s : State) (r : Reading s.watch) → Stands old s → ServesLine now s → Gives s (want s r) new (Some e)
+
+-- to one that is ready for what this tells
+abbrev pub Chooses : Wanted → Line → Scheduler → Scheduler → Coming → Type 0
+Chooses want now old new c = (s : State) (r : Reading s.watch) → Stands old s → ServesLine now s → Brings s (want s r) new c
+
+-- in a line that is not refused
+abbrev pub Allows : Wanted → Line → Scheduler → Scheduler → Event → Type 0
+Allows want now old new e = (s : State) (r : Reading s.watch) → Stands old s → ServesAllowed now s → Gives s (want s r) new (Some e)
+
+abbrev pub AllowsComing : Wanted → Line → Scheduler → Scheduler → Coming → Type 0
+AllowsComing want now old new c = (s : State) (r : Reading s.watch) → Stands old s → ServesAllowed now s → Brings s (want s r) new c
+
+-- it stands for some state in which a line is served
+abbrev pub IsServing : Line → Scheduler → Type 0
+IsServing now x = (s : State) × Stands x s × ServesLine now s
+
+abbrev pub IsServingBehind : Line → Scheduler → Type 0
+IsServingBehind now x = (s : State) × StandsBehind x s × ServesLine now s
+
+abbrev pub IsAllowed : Line → Scheduler → Type 0
+IsAllowed now x = (s : State) × Stands x s × ServesAllowed now s
+
+-- what comes behind an event: what follows it, or what settles
+abbrev pub behind_in : (s : State) → Reading s.watch → Follow → Option Event
+behind_in s r f = option_or (event_of f s.units (beside_by s r)) (settles_in s.units (beside_by s r))

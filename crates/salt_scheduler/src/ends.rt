@@ -1,0 +1,232 @@
+//! How units end, and what becomes of programs.
+
+ghost use Rattle.std.specs.Prelude.{◌≡◌, IfOk, None, Option, Some, option_map, ℕ};
+ghost use Rattle.salt_ast.specs.declared.lines.Line.{Line};
+ghost use Rattle.salt_books.specs.Books.{HaveUnit};
+ghost use Rattle.salt_books.specs.Ends.{IsUndecided, done_of};
+ghost use Rattle.salt_known.specs.Moves.{MovesTo};
+ghost use Rattle.salt_scheduler.specs.Follows.{event_of};
+ghost use Rattle.salt_scheduler.specs.declared.follow.Follow.TheVariants.{Accept, Release};
+ghost use Rattle.salt_keeps.specs.Follows.{settles_in};
+ghost use Rattle.salt_keeps.specs.OpenUnits.{OpenUnit, unit_named};
+ghost use Rattle.salt_keeps.specs.Readings.{Reading, beside_by};
+ghost use Rattle.salt_keeps.specs.States.{State};
+ghost use Rattle.salt_keeps.specs.Told.{commits_in, finishes_in, next_decision};
+ghost use Rattle.salt_model.specs.Kept.{conts_branched, conts_committed};
+ghost use Rattle.salt_model.specs.Turns.{releases};
+ghost use Rattle.salt_books.specs.Sound.{IsSoundState};
+ghost use Rattle.salt_model.specs.declared.events.End.{End};
+ghost use Rattle.salt_model.specs.declared.events.Event.{Event};
+ghost use Rattle.salt_model.specs.declared.events.UnitKind.TheVariants.{Later};
+ghost use Rattle.salt_values.specs.declared.id.Id.{Id};
+
+use crate::called::{forget, forget_first};
+use crate::follow::{Follow, behind_commit};
+use crate::scheduler::Scheduler;
+use salt_ast::Line;
+use salt_books::{Coming, program_begun, program_of};
+use salt_cont::Move;
+use salt_model::{Cause, End, Event, UnitKind};
+use salt_values::Id;
+use std::alloc::AllocError;
+
+impl Scheduler {
+    ghost use Rattle.salt_scheduler.specs.Standing.{Brings, Chooses, Does, Gives, IsServing, IsServingBehind, ServesLine, Stands, StandsBehind, behind_in};
+
+    /// A unit is to commit, if it is open.
+    pub(crate) fn commit(&self, line: &Line, unit: Id) -> Coming
+        ensures { Chooses (λ s r. option_map (commits_in s.units) (unit_named unit s.units.units)) line.now self.now self.now result }
+    {
+        match self.books.unit_named(unit) {
+            Some(_) => Coming::Commit(unit),
+            None => Coming::Nothing,
+        }
+    }
+
+    /// A unit that is to commit has been decided, with this move of its program: it commits.
+    pub fn committed(&mut self, unit: Id, made: Move) -> Result<Event, AllocError>
+        requires { HaveUnit self.old.books unit }
+        ensures { IfOk result (λ e. (s : State) (o : OpenUnit) → Stands self.old s → IsSoundState s → unit_named unit s.units.units ≡ Some o
+            → MovesTo made s.units.kept (conts_committed s.units.kept (next_decision s.units) o.kind o.vars)
+            → Gives s (Some (commits_in s.units o)) self.new (Some e)) }
+    {
+        let Some(held) = self.books.unit_named(unit) else {
+            unreachable!()
+        };
+        let follow = behind_commit(&held.kind);
+        self.watch
+            .commit(unit, program_of(&held.kind), held.open.changes())?;
+        let number = self.books.commit(unit, made)?;
+        self.follow = follow;
+        Ok(Event::Ended {
+            unit,
+            end: End::Committed(number),
+        })
+    }
+
+    /// A unit ends by no decision, and leaves nothing.
+    pub(crate) fn end(&mut self, line: &Line, unit: Id, end: End) -> Result<Event, AllocError>
+        requires serving { IsServing line.now self.old }
+        requires undecided { IsUndecided end }
+        ensures { IfOk result (λ e. Does (λ s r. Some (Event.Ended unit end)) line.now self.old self.new e) }
+    {
+        let Some(held) = self.books.unit_named(unit) else {
+            self.watch.end(unit, None);
+            self.follow = Follow::Nothing;
+            return Ok(Event::Ended { unit, end });
+        };
+        let first = program_begun(&held.kind);
+        self.watch.end(unit, first);
+        self.books.end(unit);
+        forget_first(&mut self.called, &self.books, &self.watch, first)?;
+        self.follow = Follow::Nothing;
+        Ok(Event::Ended { unit, end })
+    }
+
+    /// The failure of a later part has been decided, with this move of its program: the program tries it again, or goes on at
+    /// its branch.
+    pub fn branched(
+        &mut self,
+        unit: Id,
+        base: Id,
+        cause: Cause,
+        made: Move,
+    ) -> Result<Event, AllocError>
+        requires { HaveUnit self.old.books unit }
+        ensures { IfOk result (λ e. (s : State) (o : OpenUnit) (part : ℕ) → Stands self.old s → IsSoundState s → unit_named unit s.units.units ≡ Some o
+            → o.kind ≡ Later base part → MovesTo made s.units.kept (conts_branched s.units.kept o.kind)
+            → Gives s (Some (Event.Ended unit (End.Branched (next_decision s.units) cause))) self.new (Some e)) }
+    {
+        self.watch.end(unit, None);
+        let number = self.books.branch(unit, made)?;
+        self.follow = Follow::Finish(base);
+        Ok(Event::Ended {
+            unit,
+            end: End::Branched(number, cause),
+        })
+    }
+
+    /// A unit whose statement has failed ends by this cause.
+    fn fail(&mut self, line: &Line, unit: Id, cause: Cause) -> Result<Coming, AllocError>
+        requires { IsServing line.now self.old }
+        ensures { IfOk result (λ coming. Chooses (λ s r. done_of s.units (Some cause) (unit_named unit s.units.units)) line.now self.old self.new coming) }
+    {
+        let Some(held) = self.books.unit_named(unit) else {
+            return Ok(Coming::Nothing);
+        };
+        match held.kind {
+            UnitKind::Later { base, .. } => Ok(Coming::Branch { unit, base, cause }),
+            _ => Ok(Coming::Told(self.end(line, unit, End::Failed(cause))?)),
+        }
+    }
+
+    /// A unit whose last statement is done commits.
+    fn commit_at_end(&self, line: &Line, unit: Id) -> Coming
+        ensures { Chooses (λ s r. done_of s.units None (unit_named unit s.units.units)) line.now self.now self.now result }
+    {
+        let Some(held) = self.books.unit_named(unit) else {
+            return Coming::Nothing;
+        };
+        if self.books.is_at_end(held) {
+            Coming::Commit(unit)
+        } else {
+            Coming::Nothing
+        }
+    }
+
+    /// What follows a statement: its unit ends by the cause of its failure, or behind its last statement.
+    fn go_on_behind(
+        &mut self,
+        line: &Line,
+        unit: Id,
+        failed: Option<Cause>,
+    ) -> Result<Coming, AllocError>
+        requires { IsServing line.now self.old }
+        ensures { IfOk result (λ coming. Chooses (λ s r. done_of s.units failed (unit_named unit s.units.units)) line.now self.old self.new coming) }
+    {
+        match failed {
+            Some(cause) => self.fail(line, unit, cause),
+            None => Ok(self.commit_at_end(line, unit)),
+        }
+    }
+
+    /// A program is accepted.
+    fn accept(&mut self, line: &Line, base: Id) -> Result<Event, AllocError>
+        requires { self.old.follow ≡ Accept base }
+        ensures { IfOk result (λ e. Does (λ s r. Some (Event.Accepted base)) line.now self.old self.new e) }
+    {
+        self.watch.accept(base)?;
+        self.follow = Follow::Finish(base);
+        Ok(Event::Accepted(base))
+    }
+
+    /// A program has come to its end, if it goes on nowhere.
+    fn finish(&mut self, line: &Line, base: Id) -> Coming
+        ensures { Chooses (λ s r. finishes_in s.units base) line.now self.old self.new result }
+    {
+        if self.books.known().cont(base).is_some() {
+            return Coming::Nothing;
+        }
+        self.follow = Follow::Release(base);
+        Coming::Told(Event::Finished(base))
+    }
+
+    /// The programs are released that are due now that this one has finished.
+    fn release(&mut self, line: &Line, base: Id) -> Result<Coming, AllocError>
+        requires { self.old.follow ≡ Release base }
+        ensures { IfOk result (λ coming. (s : State) (r : Reading s.watch) → StandsBehind self.old s → ServesLine line.now s
+            → Brings s (releases (beside_by s r).due) self.new coming) }
+    {
+        let due = self.watch.finish(base)?;
+        self.follow = Follow::Nothing;
+        if due.is_empty() {
+            return Ok(Coming::Nothing);
+        }
+        forget(&mut self.called, &self.books, &self.watch, due.as_slice())?;
+        Ok(Coming::Told(Event::Released(due)))
+    }
+
+    /// A unit on a circle of waits is given up; where there is none, the unit that has waited longest of those that clash with
+    /// nothing goes on.
+    pub(crate) fn settle(&mut self, line: &Line) -> Result<Coming, AllocError>
+        requires { IsServing line.now self.old }
+        ensures { IfOk result (λ coming. Chooses (λ s r. settles_in s.units (beside_by s r)) line.now self.old self.new coming) }
+    {
+        if let Some(unit) = self.watch.victim()? {
+            return Ok(Coming::Told(self.end(line, unit, End::Victim)?));
+        }
+        match self.watch.served()? {
+            Some(unit) => self.serve(line, unit),
+            None => Ok(Coming::Nothing),
+        }
+    }
+
+    /// What follows the event at hand in its turn.
+    fn follow_up(&mut self, line: &Line) -> Result<Coming, AllocError>
+        requires { IsServingBehind line.now self.old }
+        ensures { IfOk result (λ coming. (s : State) (r : Reading s.watch) → StandsBehind self.old s → ServesLine line.now s
+            → Brings s (event_of self.old.follow s.units (beside_by s r)) self.new coming) }
+    {
+        match self.follow {
+            Follow::Nothing => Ok(Coming::Nothing),
+            Follow::Turn(unit) => self.take_turn(line, unit),
+            Follow::Done { unit, failed } => self.go_on_behind(line, unit, failed),
+            Follow::Accept(base) => Ok(Coming::Told(self.accept(line, base)?)),
+            Follow::Finish(base) => Ok(self.finish(line, base)),
+            Follow::Release(base) => self.release(line, base),
+        }
+    }
+
+    /// What comes behind the event at hand: what follows it in its turn, or what settles.
+    pub fn go_on(&mut self, line: &Line) -> Result<Coming, AllocError>
+        requires { IsServingBehind line.now self.old }
+        ensures { IfOk result (λ coming. (s : State) (r : Reading s.watch) → StandsBehind self.old s → ServesLine line.now s
+            → Brings s (behind_in s r self.old.follow) self.new coming) }
+    {
+        let following = self.follow_up(line)?;
+        match &following {
+            Coming::Nothing => self.settle(line),
+            _ => Ok(following),
+        }
+    }
+}

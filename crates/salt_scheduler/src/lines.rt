@@ -1,0 +1,189 @@
+//! The first event of a line.
+
+ghost use Rattle.std.specs.Option.{option_copied};
+ghost use Rattle.std.specs.Prelude.{◌≡◌, ◌<◌, ◌^◌, IfOk, Option, Some, length, option_map};
+ghost use Rattle.salt_ast.specs.declared.lines.Act.{Act};
+ghost use Rattle.salt_ast.specs.declared.lines.Line.{Line};
+ghost use Rattle.salt_books.specs.Books.{seen};
+ghost use Rattle.salt_keeps.specs.OpenUnits.{unit_of_session};
+ghost use Rattle.salt_keeps.specs.Readings.{clash_by, items_by};
+ghost use Rattle.salt_keeps.specs.States.{State};
+ghost use Rattle.salt_program.specs.Refusals.{parts_in};
+ghost use Rattle.salt_ast.specs.ProgramTexts.{program_text};
+ghost use Rattle.salt_ast.specs.Texts.{table_text};
+ghost use Rattle.salt_keeps.specs.Told.{act_in, calls_in, go_in, kind_called_in, line_in, next_decision};
+ghost use Rattle.salt_model.specs.Kept.{kept_program};
+ghost use Rattle.salt_model.specs.declared.events.Event.{Event};
+
+use crate::follow::Follow;
+use crate::scheduler::Scheduler;
+use salt_ast::{Act, Body, Line, Pairs, ProgramDef, TableDef};
+use salt_books::{Coming, Held};
+use salt_known::{program_text, table_text};
+use salt_model::{End, Event, Refusal, UnitKind};
+use salt_values::{Id, Name, Row, TryCopy};
+use sqlite_items::Items;
+use std::alloc::AllocError;
+
+/// The name of a unit, if there is one.
+fn name_of(held: Option<&Held>) -> Option<Id>
+    ensures { result ≡ option_map (λ h. (seen h).unit) (option_copied held.entry) }
+{
+    match held {
+        Some(held) => Some(held.open.unit()),
+        None => None,
+    }
+}
+
+impl Scheduler {
+    ghost use Rattle.salt_scheduler.specs.Standing.{Allows, AllowsComing, Chooses, Does, IsAllowed, IsServing, Stands};
+
+    /// The table of a line has been decided: it is defined.
+    pub fn table_defined(&mut self, line: &Line, def: &TableDef) -> Result<Event, AllocError>
+        requires allowed { IsAllowed line.now self.old }
+        requires line { line.now ≡ Line.Table def.now }
+        ensures { IfOk result (λ e. Allows (λ s r. Some (Event.Defined (next_decision s.units) (table_text def.now))) line.now self.old self.new e) }
+    {
+        let (number, text) = self.books.define_table(def)?;
+        self.follow = Follow::Nothing;
+        Ok(Event::Defined { number, text })
+    }
+
+    /// The program of a line has been decided: it is defined.
+    pub fn program_defined(&mut self, line: &Line, def: &ProgramDef) -> Result<Event, AllocError>
+        requires allowed { IsAllowed line.now self.old }
+        requires line { line.now ≡ Line.Program def.now }
+        requires parts { length (parts_in def.now.body) < 2 ^ 32 }
+        ensures { IfOk result (λ e. Allows (λ s r. Some (Event.Defined (next_decision s.units) (program_text def.now))) line.now self.old self.new e) }
+    {
+        let (number, text) = self.books.define_program(def)?;
+        self.follow = Follow::Nothing;
+        Ok(Event::Defined { number, text })
+    }
+
+    /// The kind of a unit that a session's call begins, if there is a program of the name.
+    fn kind_called(
+        &self,
+        session: u8,
+        name: &Name,
+        args: &Row,
+    ) -> Result<Option<UnitKind>, AllocError>
+        ensures { IfOk result (λ kind. (s : State) → Stands self.now s
+            → kind ≡ option_map (λ p. kind_called_in s.units session name.now args.now p.body) (kept_program name.now s.units.kept)) }
+    {
+        let Some(def) = self.books.known().program(name) else {
+            return Ok(None);
+        };
+        let program = name.copy(self.alloc)?;
+        let args = args.copy(self.alloc)?;
+        match def.body {
+            Body::Acid(_) => Ok(Some(UnitKind::Call {
+                session,
+                program,
+                args,
+            })),
+            Body::Base(_) => Ok(Some(UnitKind::First {
+                session,
+                base: self.books.next_base()?,
+                program,
+                args,
+            })),
+        }
+    }
+
+    /// A session calls a program.
+    fn call(
+        &mut self,
+        line: &Line,
+        session: u8,
+        name: &Name,
+        args: &Row,
+    ) -> Result<Coming, AllocError>
+        ensures { IfOk result (λ coming. Chooses (λ s r. calls_in s.units session name.now args.now) line.now self.old self.new coming) }
+    {
+        match self.kind_called(session, name, args)? {
+            Some(kind) => Ok(Coming::Told(self.begin(line, kind)?)),
+            None => Ok(Coming::Nothing),
+        }
+    }
+
+    /// What an act of a session brings.
+    fn act_of(&mut self, line: &Line, session: u8, act: &Act) -> Result<Coming, AllocError>
+        requires { IsServing line.now self.old }
+        ensures { IfOk result (λ coming. Chooses (λ s r. act_in s.units (clash_by s) session act.now (unit_of_session session s.units)) line.now self.old self.new coming) }
+    {
+        let open = name_of(self.books.unit_of_session(session));
+        match act {
+            Act::Begin => Ok(Coming::Told(self.begin(line, UnitKind::Acid { session })?)),
+            Act::Call { program, args } => self.call(line, session, program, args),
+            Act::Do(_) => match open {
+                Some(unit) => self.take_turn(line, unit),
+                None => Ok(Coming::Told(self.begin(line, UnitKind::Acid { session })?)),
+            },
+            Act::Step => match open {
+                Some(unit) => self.take_turn(line, unit),
+                None => Ok(Coming::Nothing),
+            },
+            Act::Commit => match open {
+                Some(unit) => Ok(self.commit(line, unit)),
+                None => Ok(Coming::Nothing),
+            },
+            Act::Rollback => match open {
+                Some(unit) => Ok(Coming::Told(self.end(line, unit, End::RolledBack)?)),
+                None => Ok(Coming::Nothing),
+            },
+        }
+    }
+
+    /// A turn of a program that goes on: of its open unit, or its next part begins.
+    pub fn go(&mut self, line: &Line, base: Id) -> Result<Coming, AllocError>
+        requires { IsServing line.now self.old }
+        ensures { IfOk result (λ coming. Chooses (λ s r. go_in s.units (clash_by s) base) line.now self.old self.new coming) }
+    {
+        let open = name_of(self.books.unit_of_program(base));
+        match open {
+            Some(unit) => self.take_turn(line, unit),
+            None => match self.books.known().cont(base) {
+                Some(cont) => {
+                    let part = cont.next;
+                    Ok(Coming::Told(self.begin(line, UnitKind::Later { base, part })?))
+                }
+                None => Ok(Coming::Nothing),
+            },
+        }
+    }
+
+    /// A line is refused.
+    pub fn refuse(&mut self, line: &Line, refusal: Refusal) -> Event
+        ensures { Does (λ s r. Some (Event.Refused refusal)) line.now self.old self.new result }
+    {
+        self.follow = Follow::Nothing;
+        Event::Refused(refusal)
+    }
+
+    /// Stops have been armed.
+    pub fn armed(&mut self, line: &Line, pairs: Pairs) -> Event
+        ensures { Does (λ s r. Some (Event.Armed pairs)) line.now self.old self.new result }
+    {
+        self.follow = Follow::Nothing;
+        Event::Armed(pairs)
+    }
+
+    /// What the first event of a line that is not refused is to be.
+    pub fn first_of(&mut self, line: &Line) -> Result<Coming, AllocError>
+        requires { IsAllowed line.now self.old }
+        ensures { IfOk result (λ coming. AllowsComing (λ s r. line_in s.units (clash_by s) (items_by s r) line.now) line.now self.old self.new coming) }
+    {
+        match line {
+            Line::Table(def) => Ok(Coming::Define(table_text(self.alloc, def)?)),
+            Line::Program(def) => Ok(Coming::Define(program_text(self.alloc, def)?)),
+            Line::Session { session, act } => self.act_of(line, *session, act),
+            Line::Go(base) => self.go(line, *base),
+            Line::ShowLocks => Ok(Coming::Told(self.show_locks(line)?)),
+            Line::ShowBases => Ok(Coming::Told(self.show_bases(line)?)),
+            Line::Nothing => Ok(Coming::Nothing),
+            Line::GoAll => Ok(Coming::Nothing),
+            Line::Crash(pairs) => Ok(Coming::Arm(Items::from_slice(self.alloc, pairs.as_slice())?)),
+        }
+    }
+}

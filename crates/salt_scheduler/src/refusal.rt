@@ -1,0 +1,152 @@
+//! What is refused of a line.
+
+ghost use Rattle.std.specs.Prelude.{◌≡◌, IfOk};
+ghost use Rattle.salt_ast.specs.ProgramJudgement.{line_fault};
+ghost use Rattle.salt_books.specs.Books.{seen};
+ghost use Rattle.salt_scheduler.specs.Refused.{refusal_by_state};
+ghost use Rattle.salt_judge.specs.Refusals.{HasFewParts, told};
+ghost use Rattle.salt_keeps.specs.KeptWaits.{AreDistinct};
+ghost use Rattle.salt_keeps.specs.Nexts.{refusal_of};
+ghost use Rattle.salt_keeps.specs.Readings.{under_way_of};
+ghost use Rattle.salt_keeps.specs.Refused.{busy_in, known_in, wrong_for, wrong_in};
+ghost use Rattle.salt_keeps.specs.States.{State};
+ghost use Rattle.salt_model.specs.Refusals.{defines, has_block};
+ghost use Rattle.salt_model.specs.Trace.{Tree};
+
+use crate::names::count_both;
+use crate::scheduler::Scheduler;
+use salt_ast::{Act, Line};
+use salt_books::Held;
+use salt_judge::line_refusal;
+use salt_model::{Refusal, UnitKind};
+use std::alloc::AllocError;
+
+/// Whether a unit of this kind has the statements of a program or part.
+fn has_block(kind: &UnitKind) -> bool
+    ensures { result ≡ has_block kind.now }
+{
+    match kind {
+        UnitKind::Acid { .. } => false,
+        UnitKind::Call { .. } => true,
+        UnitKind::First { .. } => true,
+        UnitKind::Later { .. } => true,
+    }
+}
+
+/// Whether an act does not fit how the open unit of its session stands.
+fn is_wrong_in(held: &Held, act: &Act) -> bool
+    ensures { result ≡ wrong_for (Some (seen held.now)) act.now }
+{
+    match act {
+        Act::Begin => true,
+        Act::Call { .. } => true,
+        Act::Do(_) => held.waiting || has_block(&held.kind),
+        Act::Step => held.waiting || !has_block(&held.kind),
+        Act::Commit => held.waiting || has_block(&held.kind),
+        Act::Rollback => false,
+    }
+}
+
+/// Whether an act needs an open unit of its session.
+fn is_wrong_outside(act: &Act) -> bool
+    ensures { result ≡ wrong_for None act.now }
+{
+    match act {
+        Act::Step => true,
+        Act::Commit => true,
+        Act::Rollback => true,
+        Act::Begin => false,
+        Act::Call { .. } => false,
+        Act::Do(_) => false,
+    }
+}
+
+/// Whether a line defines a table or a program.
+fn defines(line: &Line) -> bool
+    ensures { result ≡ defines line.now }
+{
+    match line {
+        Line::Table(_) => true,
+        Line::Program(_) => true,
+        _ => false,
+    }
+}
+
+impl Scheduler {
+    ghost use Rattle.salt_scheduler.specs.Standing.{Stands};
+
+    /// Whether a session, a program or the disks are in no state for a line.
+    fn is_wrong(&self, line: &Line, can_stop: bool) -> bool
+        ensures { (s : State) → Stands self.now s → s.can_stop ≡ can_stop → result ≡ wrong_in s.units (under_way_of s) line.now }
+    {
+        match line {
+            Line::Session { session, act } => match self.books.unit_of_session(*session) {
+                Some(held) => is_wrong_in(held, act),
+                None => is_wrong_outside(act),
+            },
+            Line::Go(base) => match self.books.unit_of_program(*base) {
+                Some(held) => held.waiting,
+                None => false,
+            },
+            Line::Crash(_) => !can_stop,
+            _ => false,
+        }
+    }
+
+    /// Whether a unit is open or a program is not released: then nothing is defined.
+    fn is_busy(&self) -> bool
+        ensures { (s : State) → Stands self.now s → result ≡ busy_in s.units (under_way_of s) }
+    {
+        self.books.count() > 0 || !self.watch.programs().is_empty()
+    }
+
+    /// How many programs are under way. That no program is unreleased twice comes of the order of the unreleased ones.
+    fn count_under_way(&self) -> Result<usize, AllocError>
+        ensures { IfOk result (λ count. (s : State) → Stands self.now s → AreDistinct s.watch.programs → count ≡ (under_way_of s).count) }
+    {
+        let beginning = self.books.first_parts()?;
+        count_both(self.alloc, self.watch.programs(), beginning.as_slice())
+    }
+
+    /// What is refused of a line by what is defined and how many programs are under way.
+    fn fault(&self, line: &Line) -> Result<Option<Refusal>, AllocError>
+        requires { HasFewParts line.now }
+        ensures { IfOk result (λ refusal. (s : State) → Stands self.now s → AreDistinct s.watch.programs →
+            refusal ≡ told (line_fault (known_in s.units (under_way_of s)) line.now)) }
+    {
+        let known = self.books.known();
+        let count = self.count_under_way()?;
+        line_refusal(
+            self.alloc,
+            known.schema(),
+            known.catalogue(),
+            known.conts(),
+            count,
+            line,
+        )
+    }
+
+    /// What is refused of a line without a fault, by the state of sessions, programs and disks.
+    fn refusal_by_state(&self, line: &Line, can_stop: bool) -> Option<Refusal>
+        ensures { (s : State) → Stands self.now s → s.can_stop ≡ can_stop → result ≡ refusal_by_state s line.now }
+    {
+        if self.is_wrong(line, can_stop) {
+            Some(Refusal::State)
+        } else if defines(line) && self.is_busy() {
+            Some(Refusal::Busy)
+        } else {
+            None
+        }
+    }
+
+    /// What is refused of a line that passes no limit of its text, where devices can be stopped or not.
+    pub fn refusal(&self, line: &Line, can_stop: bool) -> Result<Option<Refusal>, AllocError>
+        requires { HasFewParts line.now }
+        ensures { IfOk result (λ refusal. (s : State) → Stands self.now s → s.can_stop ≡ can_stop → AreDistinct s.watch.programs → refusal ≡ refusal_of s (Tree line.now)) }
+    {
+        match self.fault(line)? {
+            Some(refusal) => Ok(Some(refusal)),
+            None => Ok(self.refusal_by_state(line, can_stop)),
+        }
+    }
+}

@@ -1,0 +1,89 @@
+//! The scheduler: units, locks and programs together.
+
+ghost use Rattle.salt_books.specs.Books.{AreBooks};
+ghost use Rattle.salt_keeps.specs.Nexts.{next_turn_of};
+ghost use Rattle.salt_keeps.specs.OpenUnits.{UnitState};
+ghost use Rattle.salt_keeps.specs.States.{State, asked_of, turned_to};
+ghost use Rattle.salt_keeps.specs.Watches.{empty_watch};
+ghost use Rattle.salt_model.specs.Kept.{schema_of};
+ghost use Rattle.salt_model.specs.Trace.{Tree};
+ghost use Rattle.std.specs.Prelude.{OnOk, Some, [], ◌≡◌};
+
+use crate::follow::Follow;
+use salt_ast::Line;
+use salt_books::{Books, CalledNames};
+use salt_schema::Schema;
+use salt_values::Id;
+use salt_watch::Watching;
+use std::alloc::{AllocError, Global};
+
+/// Keeps units, locks and programs in memory, and chooses what comes next. With an event at hand it has done that event, and
+/// knows what follows it. An `AllocError` leaves it in no state that is told.
+#[derive(Drop)]
+pub struct Scheduler {
+    pub(crate) alloc: Global,
+    pub(crate) books: Books,
+    pub(crate) watch: Watching,
+    pub(crate) called: CalledNames,
+    pub(crate) follow: Follow,
+}
+
+impl Scheduler {
+    ghost use Rattle.salt_scheduler.specs.Standing.{IsTurning, Stands};
+
+    /// A scheduler over these books, which have no unit: nothing is watched, and no program has been called.
+    pub fn new(alloc: Global, books: Books) -> Scheduler
+        ensures { (s : State) → AreBooks books s.units → s.units.units ≡ [] → s.watch ≡ empty_watch 0 → IsTurning s.units → Stands result s }
+    {
+        Scheduler {
+            alloc,
+            books,
+            watch: Watching::new(alloc, Vec::new(alloc)),
+            called: CalledNames::new(alloc),
+            follow: Follow::Nothing,
+        }
+    }
+
+    /// The books.
+    pub fn books(&self) -> &Books
+        ensures { result.now ≡ self.now.books }
+    {
+        &self.books
+    }
+
+    /// The books, without locks, waits and names.
+    pub fn into_books(self) -> Books
+        ensures { result ≡ self.books }
+    {
+        let Scheduler { books, .. } = self;
+        books
+    }
+
+    /// The tables defined.
+    pub fn schema(&self) -> &Schema
+        ensures { (s : UnitState) → AreBooks self.now.books s → result.now ≡ schema_of s.kept }
+    {
+        self.books.known().schema()
+    }
+
+    /// A line is asked, which may be refused.
+    pub fn ask(&mut self, line: &Line) -> Result<(), AllocError>
+        ensures { OnOk result ((s : State) → Stands self.old s → Stands self.new (asked_of (Tree line.now) s)) }
+    {
+        self.books.ask(line)
+    }
+
+    /// The program to which `go all` turns next.
+    pub fn next_turn(&self) -> Option<Id>
+        ensures { (s : State) → Stands self.now s → result ≡ next_turn_of s }
+    {
+        self.books.next_turn()
+    }
+
+    /// `go all` turns to the program that is next.
+    pub fn turn(&mut self, base: Id) -> Result<(), AllocError>
+        ensures { OnOk result ((s : State) → Stands self.old s → next_turn_of s ≡ Some base → Stands self.new (turned_to base s)) }
+    {
+        self.books.turn(base)
+    }
+}

@@ -1,0 +1,126 @@
+//! How units begin, and what they do in their turns.
+
+ghost use Rattle.std.specs.Prelude.{◌≡◌, IfOk, Option, Some, option_and_then, true};
+ghost use Rattle.salt_ast.specs.declared.lines.Line.{Line};
+ghost use Rattle.salt_books.specs.Books.{AreLoaded, HaveUnit};
+ghost use Rattle.salt_eval.specs.Scans.{IsKeyed};
+ghost use Rattle.salt_eval.specs.Views.{tables_of};
+ghost use Rattle.salt_books.specs.Asking.{IsAskedBy};
+ghost use Rattle.salt_books.specs.Sound.{IsSoundState};
+ghost use Rattle.salt_keeps.specs.OpenUnits.{OpenUnit, unit_named};
+ghost use Rattle.salt_keeps.specs.Readings.{clash_by};
+ghost use Rattle.salt_keeps.specs.States.{State};
+ghost use Rattle.salt_keeps.specs.Told.{begins_in, does_in, serve_in, turn_of_in};
+ghost use Rattle.salt_model.specs.declared.events.Event.{Event};
+ghost use Rattle.salt_units.specs.Acting.{leaves_keys};
+
+use crate::called::note_call;
+use crate::follow::{Follow, opens_alone};
+use crate::kinds::{copy_kind, copy_statement, is_statement_line};
+use crate::scheduler::Scheduler;
+use salt_ast::Line;
+use salt_books::{Asking, Coming, cause_of};
+use salt_eval::Tables;
+use salt_model::{Event, Owners, UnitKind};
+use salt_values::Id;
+use salt_watch::Waiter;
+use std::alloc::AllocError;
+
+impl Scheduler {
+    ghost use Rattle.salt_scheduler.specs.Standing.{Chooses, Does, Gives, IsServing, ServesLine, Stands};
+
+    /// A unit begins.
+    pub(crate) fn begin(&mut self, line: &Line, kind: UnitKind) -> Result<Event, AllocError>
+        ensures { IfOk result (λ e. Does (λ s r. Some (begins_in s.units kind)) line.now self.old self.new e) }
+    {
+        let told = copy_kind(self.alloc, &kind)?;
+        note_call(&mut self.called, &kind)?;
+        let unit = self.books.begin(kind, is_statement_line(line))?;
+        self.follow = if opens_alone(line) {
+            Follow::Nothing
+        } else {
+            Follow::Turn(unit)
+        };
+        Ok(Event::Began { unit, kind: told })
+    }
+
+    /// A unit does the statement that it asks for, over the rows that this reaches.
+    pub fn done(&mut self, asking: Asking, rows: &Tables) -> Result<Event, AllocError>
+        requires there { HaveUnit self.old.books asking.unit }
+        requires leaves_keys { leaves_keys self.old.books.known.schema asking.statement ≡ true }
+        requires keyed { IsKeyed (tables_of rows.now.entries) }
+        ensures { IfOk result (λ e. (s : State) (o : OpenUnit) → Stands self.old s → IsSoundState s → IsAskedBy asking s.units o
+            → AreLoaded asking.reach (tables_of rows.now.entries) s.units.kept.tables → Gives s (Some (does_in s.units o asking.statement)) self.new (Some e)) }
+    {
+        let Asking {
+            unit,
+            base,
+            family,
+            statement,
+            reach,
+        } = asking;
+        let answer = self.books.act(unit, rows, &statement)?;
+        self.watch.did(unit, base, family, reach.as_ref())?;
+        self.follow = Follow::Done {
+            unit,
+            failed: cause_of(&answer),
+        };
+        Ok(Event::Did {
+            unit,
+            statement,
+            answer,
+        })
+    }
+
+    /// A unit waits for these owners.
+    fn wait(&mut self, line: &Line, asking: Asking, owners: Owners) -> Result<Event, AllocError>
+        requires { HaveUnit self.old.books asking.unit }
+        ensures { IfOk result (λ e. (s : State) (o : OpenUnit) → Stands self.old s → ServesLine line.now s → IsAskedBy asking s.units o
+            → Gives s (Some (Event.Waits asking.unit owners)) self.new (Some e)) }
+    {
+        let Asking {
+            unit,
+            base,
+            family,
+            statement: _statement,
+            reach,
+        } = asking;
+        self.books.wait(unit, copy_statement(self.alloc, line)?);
+        self.watch.wait(Waiter {
+            unit,
+            base,
+            family,
+            reach,
+        })?;
+        self.follow = Follow::Nothing;
+        Ok(Event::Waits { unit, owners })
+    }
+
+    /// A unit takes a turn: it is to do its next statement, or waits for those that hold what it would reach.
+    pub(crate) fn take_turn(&mut self, line: &Line, unit: Id) -> Result<Coming, AllocError>
+        requires { IsServing line.now self.old }
+        ensures { IfOk result (λ coming. Chooses (λ s r. turn_of_in s.units (clash_by s) (unit_named unit s.units.units)) line.now self.old self.new coming) }
+    {
+        let Some(asking) = self.books.asking(line, unit)? else {
+            return Ok(Coming::Nothing);
+        };
+        let owners = self
+            .watch
+            .clashing(unit, asking.family, asking.reach.as_ref())?;
+        if owners.is_empty() {
+            Ok(Coming::Act(asking))
+        } else {
+            Ok(Coming::Told(self.wait(line, asking, owners)?))
+        }
+    }
+
+    /// A unit that has waited is to do its statement.
+    pub(crate) fn serve(&self, line: &Line, unit: Id) -> Result<Coming, AllocError>
+        ensures { IfOk result (λ coming. Chooses (λ s r. option_and_then (serve_in s.units) (unit_named unit s.units.units)) line.now self.now self.now coming) }
+    {
+        match self.books.asking(line, unit)? {
+            Some(asking) => Ok(Coming::Act(asking)),
+            None => Ok(Coming::Nothing),
+        }
+    }
+}
