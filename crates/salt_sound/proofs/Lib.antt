@@ -1,10 +1,10 @@
-mod Changes
-mod Defining
-mod Ending
-mod Flying
-mod Keyed
-mod Moving
-mod Naming
-mod Owning
-mod Reading
-mod Starting
+pub mod Changes
+pub mod Defining
+pub mod Ending
+pub mod Flying
+pub mod Keyed
+pub mod Moving
+pub mod Naming
+pub mod Owning
+pub mod Reading
+pub mod Starting

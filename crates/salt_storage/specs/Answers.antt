@@ -45,3 +45,10 @@ IsLater (NotSalt dev) = ⊥
 IsLater (OtherShape kept asked) = ⊥
 IsLater (NumbersSpent boot decisions) = ⊤
 IsLater (Halted halt) = ⊤
+
+-- of an opening that refuses what it has come upon
+abbrev pub IfRefused : OpenErr → Type 0 → Type 0
+IfRefused (NotSalt dev) P = P
+IfRefused (OtherShape kept asked) P = P
+IfRefused (NumbersSpent boot decisions) P = ⊤
+IfRefused (Halted halt) P = ⊤

@@ -2,10 +2,10 @@
 
 ghost use Rattle.salt_bytes.specs.declared.moves.Move.{Move};
 ghost use Rattle.salt_canonical.specs.Texts.{definition_in};
-ghost use Rattle.salt_disk.specs.Disks.{HasCause, SameShape, View};
+ghost use Rattle.salt_disk.specs.Disks.{AreUnchanged, HasCause, SameShape, View};
 ghost use Rattle.salt_model.specs.Kept.{Definition, Kept, schema_of};
 ghost use Rattle.salt_model.specs.Tables.{Tables};
-ghost use Rattle.salt_storage.specs.Answers.{IsLater, MayFail, disk_err, open_disk_err};
+ghost use Rattle.salt_storage.specs.Answers.{IfRefused, IsLater, MayFail, disk_err, open_disk_err};
 ghost use Rattle.salt_storage.specs.Storing.{IsFound, IsPartOf, IsSoundKept, MayDecide, MayDefine, Reopens, booted, decided, defined};
 ghost use Rattle.salt_storage.specs.Writing.{FindsNoMore, OfBoot, OfDefinition, OfOpening, OfUnit, Written};
 ghost use Rattle.salt_storage.specs.declared.halt.Halt.TheVariants.{DeviceFull, Stopped};
@@ -14,6 +14,7 @@ ghost use Rattle.salt_stands.specs.Stands.{are_spent};
 ghost use Rattle.salt_values.specs.Id.{is_same_id};
 ghost use Rattle.salt_values.specs.declared.cont.Cont.{Cont};
 ghost use Rattle.salt_values.specs.declared.id.Id.{Id};
+ghost use Rattle.salt_values.specs.declared.placement.Shape.{Shape};
 ghost use Rattle.std.specs.Prelude.{Err, IfErr, IfOk, IsTrue, List, OnErr, OnOk, Some, false, length, ℕ, ◌+◌, ◌<◌, ◌≡◌, ◌≤◌, ◌⊎◌};
 
 use crate::found::{Found, Numbers};
@@ -57,6 +58,9 @@ pub trait Storage {
     /// An opening of what a stop may leave of the devices finds this.
     ghost finds: { View → Self → Kept → Type 0 };
 
+    /// The shape that its devices are asked for.
+    ghost asked: { Self → Shape };
+
     /// What is written next would pass the limit of this device.
     ghost fills: { View → Self → Written → ℕ → Type 0 };
 
@@ -71,8 +75,10 @@ pub trait Storage {
         ensures unopened { OnErr result (unopened self.new) }
         ensures tried { result ≡ Err (OpenErr.Halted Stopped) → tried (D.view disks.new) self.new }
         ensures later { tried (D.view disks.old) self.old → IfErr result IsLater }
+        ensures unchanged { IfErr result (λ e. IfRefused e (IsTrue (D.view disks.old).told → AreUnchanged (D.view disks.old) (D.view disks.new))) }
         ensures able { OnErr result (able (D.view disks.new) self.new) }
         ensures full { (dev : ℕ) → result ≡ Err (OpenErr.Halted (DeviceFull dev)) → fills (D.view disks.new) self.new OfOpening dev }
+        ensures asked { asked self.new ≡ asked self.old }
         ensures shape { SameShape (D.view disks.old) (D.view disks.new) }
         ensures cause { HasCause (D.view disks.old) (D.view disks.new) (open_disk_err result) };
 
@@ -86,6 +92,7 @@ pub trait Storage {
         ensures leaves { OnErr result ((a b : Kept) → leaves (D.view disks.old) self.old a b → leaves (D.view disks.new) self.new a b) }
         ensures known { IfErr result (λ e. (a b : Kept) → leaves (D.view disks.old) self.old a b → MayFail a b e) }
         ensures full { (dev : ℕ) → result ≡ Err (OpenErr.Halted (DeviceFull dev)) → ⊥ }
+        ensures asked { asked self.new ≡ asked self.old }
         ensures shape { SameShape (D.view disks.old) (D.view disks.new) }
         ensures cause { HasCause (D.view disks.old) (D.view disks.new) (open_disk_err result) };
 
@@ -97,6 +104,7 @@ pub trait Storage {
         ensures is_new { IfOk result (λ boot. (u : Id) → u.boot ≡ boot → is_new (D.view disks.new) self.new u) }
         ensures leaves { OnErr result ((k : Kept) → holds (D.view disks.old) self.old k → leaves (D.view disks.new) self.new k (booted k)) }
         ensures full { (dev : ℕ) → result ≡ Err (DeviceFull dev) → fills (D.view disks.new) self.new OfBoot dev }
+        ensures asked { asked self.new ≡ asked self.old }
         ensures shape { SameShape (D.view disks.old) (D.view disks.new) }
         ensures cause { HasCause (D.view disks.old) (D.view disks.new) (disk_err result) };
 
@@ -113,6 +121,7 @@ pub trait Storage {
         ensures is_new { OnOk result ((u : Id) → is_new (D.view disks.old) self.old u → is_new (D.view disks.new) self.new u) }
         ensures leaves { OnErr result ((k : Kept) → holds (D.view disks.old) self.old k → leaves (D.view disks.new) self.new k k) }
         ensures full { (dev : ℕ) → result ≡ Err (DeviceFull dev) → ⊥ }
+        ensures asked { asked self.new ≡ asked self.old }
         ensures shape { SameShape (D.view disks.old) (D.view disks.new) }
         ensures cause { HasCause (D.view disks.old) (D.view disks.new) (disk_err result) };
 
@@ -133,6 +142,7 @@ pub trait Storage {
         ensures leaves { OnErr result ((k : Kept) (conts : List Cont) → holds (D.view disks.old) self.old k → MayDecide k unit changes.now made.now conts
             → leaves (D.view disks.new) self.new k (decided k changes.now conts)) }
         ensures full { (dev : ℕ) → result ≡ Err (DeviceFull dev) → fills (D.view disks.new) self.new (OfUnit unit changes.now made.now) dev }
+        ensures asked { asked self.new ≡ asked self.old }
         ensures shape { SameShape (D.view disks.old) (D.view disks.new) }
         ensures cause { HasCause (D.view disks.old) (D.view disks.new) (disk_err result) };
 
@@ -146,6 +156,7 @@ pub trait Storage {
         ensures leaves { OnErr result ((k : Kept) (d : Definition) → holds (D.view disks.old) self.old k → definition_in text.now ≡ Some d → MayDefine k d
             → leaves (D.view disks.new) self.new k (defined k d)) }
         ensures full { (dev : ℕ) → result ≡ Err (DeviceFull dev) → fills (D.view disks.new) self.new (OfDefinition text.now) dev }
+        ensures asked { asked self.new ≡ asked self.old }
         ensures shape { SameShape (D.view disks.old) (D.view disks.new) }
         ensures cause { HasCause (D.view disks.old) (D.view disks.new) (disk_err result) };
 
@@ -156,6 +167,7 @@ pub trait Storage {
         ensures ok { OnOk result ((D.view disks.new).stops_left ≡ (D.view disks.old).stops_left + 1) }
         ensures err { OnErr result ((D.view disks.new).stops_left ≡ (D.view disks.old).stops_left) }
         ensures faults { (D.view disks.new).faults ≡ (D.view disks.old).faults }
+        ensures asked { asked self.new ≡ asked self.old }
         ensures shape { SameShape (D.view disks.old) (D.view disks.new) }
         ensures holds { (k : Kept) → holds (D.view disks.old) self.old k → holds (D.view disks.new) self.new k }
         ensures is_new { (u : Id) → is_new (D.view disks.old) self.old u → is_new (D.view disks.new) self.new u };
@@ -170,6 +182,7 @@ pub trait Storage {
         ensures leaves { (a b : Kept) → leaves (D.view disks.old) self.old a b → leaves (D.view disks.new) self.new a b }
         ensures faults { (D.view disks.new).faults ≡ (D.view disks.old).faults }
         ensures stops { (D.view disks.new).stops_left ≡ (D.view disks.old).stops_left }
+        ensures asked { asked self.new ≡ asked self.old }
         ensures shape { SameShape (D.view disks.old) (D.view disks.new) };
 
     /// A law: what it holds may be kept, and a stop leaves it; and what is left can be started again.
