@@ -2,25 +2,25 @@
 use Rattle.salt_ast.specs.declared.lines.Line.{Line}
 use Rattle.salt_keeps.proofs.PointsGoOn.{idle-complete, no-more, runs-point, start-on, story-on}
 use Rattle.salt_keeps.specs.Laws.{IsSound, is_of_run}
-use Rattle.salt_keeps.specs.Points.{Ask, Move, Moves, Point, Runs, Say, Turn, told_by, trace_on}
+use Rattle.salt_keeps.specs.Points.{Ask, KeepsPoint, Move, Moves, Point, Runs, Say, Turn, told_by, trace_on}
 use Rattle.salt_keeps.specs.States.{State}
 use Rattle.salt_model.specs.Kept.{WellKept}
-use Rattle.salt_model.specs.Trace.{Asked, Start, Trace, lines_of, story_before, ◌asks◌, ◌says◌, ◌turns◌}
+use Rattle.salt_model.specs.Phases.{Serving, phase}
+use Rattle.salt_model.specs.Played.{IsPlayed}
+use Rattle.salt_model.specs.Trace.{Asked, Start, Trace, lines_of, start_of, story_before, ◌asks◌, ◌says◌, ◌turns◌}
 use Rattle.salt_model.specs.Words.{Every}
 use Rattle.salt_model.specs.declared.events.Event.{Event}
-use Rattle.salt_model.specs.declared.events.Event.TheVariants.{Down, Opened}
-use Rattle.salt_steps.specs.Serving.{Breaks, Goes, IsUp, NeverDown, Serves}
-use Rattle.salt_steps.specs.Standing.{Finishes, IsInside, IsSoundPoint, StopsWithin}
-use Rattle.std.proofs.Common.{subst, sym, ◌∙◌}
-use Rattle.std.specs.Prelude.{List, Option, [], false, refl, ◌++◌, ◌∷◌, ◌≡◌}
-use Rattle.std.proofs.Common.{ap}
-
--- lines are asked by Ask alone
-lines-on : (ms : List Move) (trace : Trace) → Every IsInside ms → lines_of (trace_on trace ms) ≡ lines_of trace
-lines-on [] trace h = refl
-lines-on (Ask asked ∷ ms) trace h = absurd h.0
-lines-on (Turn b ∷ ms) trace h = lines-on ms (trace turns b) h.1
-lines-on (Say e ∷ ms) trace h = lines-on ms (trace says e) h.1
+use Rattle.salt_model.specs.declared.events.Event.TheVariants.{Down, Opened, Ready}
+use Rattle.salt_model.specs.declared.events.Flight.{Flight}
+use Rattle.salt_steps.proofs.Advancing.{every-last, lines-on, stop-at}
+use Rattle.salt_steps.specs.Serving.{Breaks, Goes, IsFitting, Serves}
+use Rattle.salt_steps.specs.Standing.{Finishes, HaltsAt, IsInside, IsSoundPoint, RunsShort, StopsWithin}
+use Rattle.salt_storage.specs.Writing.{Written}
+use Rattle.salt_storage.specs.declared.halt.Halt.{Halt}
+use Rattle.salt_types.specs.Played.{HasKey}
+use Rattle.salt_types.specs.Typed.{IsTyped}
+use Rattle.std.proofs.Common.{ap, inl, inr, subst, sym, ◌∙◌}
+use Rattle.std.specs.Prelude.{List, Option, [], false, refl, ℕ, ◌++◌, ◌∷◌, ◌≡◌, ◌⊎◌}
 
 -- an event of a line begins no segment, and takes no run down
 
@@ -34,30 +34,49 @@ before-on (Ask asked ∷ ms) p q trace r h = absurd h.0
 before-on (Turn b ∷ ms) p q trace r h = before-on ms r.0 q (trace turns b) r.2 h.1
 before-on (Say e ∷ ms) p q trace r h = before-on ms r.0 q (trace says e) r.2 h.1 ∙ before-says e trace r.1.1
 
-up-says : (e : Event) (trace : Trace) → is_of_run e ≡ false → IsUp trace e
-up-says (Down why) trace r = cc
-up-says e trace r = tt
+serving-says : (e : Event) (trace : Trace) → is_of_run e ≡ false → phase trace ≡ Serving → phase (trace says e) ≡ Serving
+serving-says (Down why) trace r h = cc
+serving-says (Opened boot n) trace r h = cc
+serving-says Ready trace r h = refl
+serving-says e trace r h = h
 
-up-on : (ms : List Move) (p q : Point) (trace : Trace) → Runs p ms q → NeverDown trace → NeverDown (trace_on trace ms)
-up-on [] p q trace r up = up
-up-on (Ask asked ∷ ms) p q trace r up = up-on ms r.0 q (trace asks asked) r.2 up
-up-on (Turn b ∷ ms) p q trace r up = up-on ms r.0 q (trace turns b) r.2 up
-up-on (Say e ∷ ms) p q trace r up = up-on ms r.0 q (trace says e) r.2 (up, up-says e trace r.1.1)
+serving-on : (ms : List Move) (p q : Point) (trace : Trace) → Runs p ms q → Every IsInside ms → phase trace ≡ Serving → phase (trace_on trace ms) ≡ Serving
+serving-on [] p q trace r h at = at
+serving-on (Ask asked ∷ ms) p q trace r h at = absurd h.0
+serving-on (Turn b ∷ ms) p q trace r h at = serving-on ms r.0 q (trace turns b) r.2 h.1 at
+serving-on (Say e ∷ ms) p q trace r h at = serving-on ms r.0 q (trace says e) r.2 h.1 (serving-says e trace r.1.1 at)
 
-module _ {E : Type 0} (sees : E → Option Event → State → Type 0) (start : Start) where
-  sound-of : (e : E) (story : List Event) (trace : Trace) → Serves sees start e story trace → IsSound trace
-  sound-of e story trace s = record { played = s.tells.played; well = subst (λ (x : Start). WellKept x.kept) (sym s.tells.begins) s.well }
+pub sound-of : (start : Start) (trace : Trace) → start_of trace ≡ start → IsPlayed trace → IsFitting start trace → IsSound trace
+sound-of start trace begins played f = record { played = played; well = subst (λ (x : Start). WellKept x.kept) (sym begins) f.well }
 
+pub sound-at : (start : Start) (trace : Trace) (p : Point) → start_of trace ≡ start → IsPlayed trace → IsFitting start trace → KeepsPoint p trace → IsSoundPoint p
+sound-at start trace p begins played f k = record {
+  trace = trace;
+  keeps = k;
+  sound = sound-of start trace begins played f;
+  typed = subst (λ (x : Start). IsTyped x.kept) (sym begins) f.typed;
+  keyed = f.keyed;
+}
+
+fits-on : (start : Start) (trace : Trace) (asked : Asked) (ms : List Move) → Every IsInside ms → HasKey asked → IsFitting start trace →
+    IsFitting start (trace_on (trace asks asked) ms)
+fits-on start trace asked ms inside key f = record {
+  well = f.well;
+  typed = f.typed;
+  keyed = subst (Every HasKey) (sym (lines-on ms (trace asks asked) inside)) (every-last asked (lines_of trace) f.keyed key);
+}
+
+module _ {E : Type 0} (old_sees new_sees : E → Option Event → State → Type 0) (start : Start) where
   -- where it serves, its point is that of the trace
-  pub serves-at : (e : E) (story : List Event) (trace : Trace) → (s : Serves sees start e story trace) → IsSoundPoint s.point
-  serves-at e story trace s = (trace, s.keeps, sound-of e story trace s)
+  pub serves-at : (e : E) (story : List Event) (trace : Trace) → (s : Serves old_sees start e story trace) → IsSoundPoint s.point
+  serves-at e story trace s = sound-at start trace s.point s.tells.begins s.tells.played s.fits s.keeps
 
-  pub goes-by : (trace : Trace) (asked : Asked) (line : Line) (old new : E) (story told : List Event) → (s : Serves sees start old story trace) → (q : Point) →
-      Moves (Ask asked) s.point q → Finishes sees line q story new told → Goes sees start trace asked story new told
-  goes-by trace asked line old new story told s q m f =
+  pub goes-by : (trace : Trace) (asked : Asked) (line : Line) (old new : E) (story told : List Event) → (s : Serves old_sees start old story trace) → (q : Point) →
+      HasKey asked → Moves (Ask asked) s.point q → Finishes new_sees line q story new told → Goes new_sees start trace asked story new told
+  goes-by trace asked line old new story told s q key m f =
       let a = f.advances in
       let ms = Ask asked ∷ a.moves in
-      let k = runs-point ms s.point a.point trace s.keeps (sound-of old story trace s) (q, m, a.runs) in
+      let k = runs-point ms s.point a.point trace s.keeps (sound-of start trace s.tells.begins s.tells.played s.fits) (q, m, a.runs) in
       record {
         after = trace_on trace ms;
         asks = lines-on a.moves (trace asks asked) a.inside;
@@ -65,8 +84,7 @@ module _ {E : Type 0} (sees : E → Option Event → State → Type 0) (start : 
         serves = record {
           tells = record { begins = start-on ms trace ∙ s.tells.begins; told = story-on ms trace ∙ ap (λ es. es ++ told_by a.moves) s.tells.told ∙ sym a.tells; played = k.1.played };
           complete = idle-complete a.point (trace_on trace ms) k.0 f.idle;
-          up = up-on a.moves q a.point (trace asks asked) a.runs s.up;
-          well = s.well;
+          fits = fits-on start trace asked a.moves a.inside key s.fits;
           point = a.point;
           keeps = k.0;
           stands = record { state = a.stands.state; idle = f.idle };
@@ -75,27 +93,36 @@ module _ {E : Type 0} (sees : E → Option Event → State → Type 0) (start : 
       }
 
   -- broken off after some events
-  pub breaks-by : (trace : Trace) (asked : Asked) (old : E) (story told : List Event) → (s : Serves sees start old story trace) → (q : Point) →
-      Moves (Ask asked) s.point q → StopsWithin q story told → Breaks start trace asked story told
-  breaks-by trace asked old story told s q m a =
+  pub breaks-by : (lies left : Point → Type 0) (fills : Written → ℕ → Type 0) (flight : Option Flight) (halt : Halt) (trace : Trace) (asked : Asked) (old : E) (story told : List Event) →
+      (s : Serves old_sees start old story trace) → (q : Point) → HasKey asked → Moves (Ask asked) s.point q → StopsWithin lies left fills flight halt q story told →
+      Breaks lies left fills flight halt start trace asked story told
+  breaks-by lies left fills flight halt trace asked old story told s q key m a =
       let ms = Ask asked ∷ a.moves in
-      let k = runs-point ms s.point a.point trace s.keeps (sound-of old story trace s) (q, m, a.runs) in
+      let k = runs-point ms s.point a.point trace s.keeps (sound-of start trace s.tells.begins s.tells.played s.fits) (q, m, a.runs) in
       record {
         after = trace_on trace ms;
-        asks = lines-on a.moves (trace asks asked) a.inside;
-        before = before-on a.moves q a.point (trace asks asked) a.runs a.inside ∙ s.tells.told;
-        tells = record { begins = start-on ms trace ∙ s.tells.begins; told = story-on ms trace ∙ ap (λ es. es ++ told_by a.moves) s.tells.told ∙ sym a.tells; played = k.1.played };
-        up = up-on a.moves q a.point (trace asks asked) a.runs s.up;
+        asks = inl (lines-on a.moves (trace asks asked) a.inside);
+        before = inl (before-on a.moves q a.point (trace asks asked) a.runs a.inside ∙ s.tells.told);
+        halts = record {
+          tells = record { begins = start-on ms trace ∙ s.tells.begins; told = story-on ms trace ∙ ap (λ es. es ++ told_by a.moves) s.tells.told ∙ sym a.tells; played = k.1.played };
+          fits = fits-on start trace asked a.moves a.inside key s.fits;
+          point = a.point;
+          keeps = k.0;
+          serving = serving-on a.moves q a.point (trace asks asked) a.runs a.inside (s.keeps.state.units.phase ∙ s.stands.idle.serves);
+          halts = a.halts;
+        };
         grows = (told_by a.moves, a.tells);
       }
 
-  -- and with none told
-  pub breaks-untold : (trace : Trace) (asked : Asked) (old : E) (story : List Event) → Serves sees start old story trace → Breaks start trace asked story story
-  breaks-untold trace asked old story s = record {
-    after = trace asks asked;
-    asks = refl;
-    before = s.tells.told;
-    tells = record { begins = s.tells.begins; told = s.tells.told; played = (s.tells.played, s.complete) };
-    up = s.up;
+  -- before the line, or at its first event
+  pub breaks-untold : (lies left : Point → Type 0) (fills : Written → ℕ → Type 0) (flight : Option Flight) (halt : Halt) (trace : Trace) (asked : Asked) (old : E) (story : List Event) →
+      (s : Serves old_sees start old story trace) → HasKey asked →
+      RunsShort lies left fills flight halt s.point ⊎ ((q : Point) × Moves (Ask asked) s.point q × HaltsAt lies left fills flight halt q) → Breaks lies left fills flight halt start trace asked story story
+  breaks-untold lies left fills flight halt trace asked old story s key (inl short) = record {
+    after = trace;
+    asks = inr (short.0, refl);
+    before = inr refl;
+    halts = record { tells = s.tells; fits = s.fits; point = s.point; keeps = s.keeps; serving = s.keeps.state.units.phase ∙ s.stands.idle.serves; halts = short.1 };
     grows = ([], sym (no-more story));
   }
+  breaks-untold lies left fills flight halt trace asked old story s key (inr r) = breaks-by lies left fills flight halt trace asked old story story s r.0 key r.1 (stop-at lies left fills flight halt r.0 story r.2)

@@ -1,3 +1,6 @@
+pub mod Writing
 pub mod Standing
+pub mod Opening
 pub mod Serving
-pub mod Opened
+pub mod Counting
+pub mod Reopening

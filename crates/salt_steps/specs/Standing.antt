@@ -1,19 +1,33 @@
 -- An engine stands at a point of a run, with what comes next at hand, and goes on from it by moves that its story tells.
 use Rattle.salt_ast.specs.declared.lines.Line.{Line}
 use Rattle.salt_keeps.specs.Laws.{IsSound}
-use Rattle.salt_keeps.specs.Points.{Ask, IsIdle, KeepsPoint, Move, Point, Runs, told_by}
+use Rattle.salt_keeps.specs.Points.{Ask, IsIdle, KeepsPoint, Move, Moves, Point, Runs, Say, told_by}
 use Rattle.salt_keeps.specs.Settling.{stage, waiters, waiters_after}
 use Rattle.salt_keeps.specs.States.{State}
-use Rattle.salt_model.specs.Phases.{Serving}
-use Rattle.salt_model.specs.Trace.{Trace}
+use Rattle.salt_keeps.specs.Told.{at_devices_in}
+use Rattle.salt_model.specs.Ends.{flight_told}
+use Rattle.salt_model.specs.Phases.{Opening, Serving}
+use Rattle.salt_model.specs.Trace.{Trace, lines_of, start_of}
 use Rattle.salt_model.specs.Words.{Every}
 use Rattle.salt_model.specs.declared.events.Event.{Event}
+use Rattle.salt_model.specs.declared.events.Flight.{Flight}
+use Rattle.salt_steps.specs.Writing.{IsWrittenAt}
+use Rattle.salt_storage.specs.Writing.{Written}
+use Rattle.salt_storage.specs.declared.halt.Halt.TheVariants.{DeviceFull, Memory}
+use Rattle.salt_storage.specs.declared.halt.Halt.{Halt}
+use Rattle.salt_types.specs.Played.{HasKey}
+use Rattle.salt_types.specs.Typed.{IsTyped}
 use Rattle.salt_values.specs.declared.id.Id.{Id}
-use Rattle.std.specs.Prelude.{List, None, Option, Some, length, ℕ, ⊤, ◌*◌, ◌++◌, ◌+◌, ◌≡◌}
+use Rattle.std.specs.Prelude.{List, None, Option, Some, [], length, true, ℕ, ⊤, ◌*◌, ◌++◌, ◌+◌, ◌∷◌, ◌≡◌, ◌⊎◌}
 
--- it is the point of a trace that is played, so all that laws give of such traces holds of it
-abbrev pub IsSoundPoint : Point → Type 0
-IsSoundPoint p = (trace : Trace) × KeepsPoint p trace × IsSound trace
+-- It is the point of a trace that is played, from a start that fits its definitions and over lines whose tables have keys, so all
+-- that laws give of such traces holds of it.
+pub record IsSoundPoint (p : Point) : Type 0 where
+  pub trace : Trace
+  pub keeps : KeepsPoint p trace
+  pub sound : IsSound trace
+  pub typed : IsTyped (start_of trace).kept
+  pub keyed : Every HasKey (lines_of trace)
 
 -- it serves this line, and what comes next of it is at hand
 pub record IsAt {E : Type 0} (sees : E → Option Event → State → Type 0) (served : Line) (e : E) (next : Option Event) (p : Point) : Type 0 where
@@ -26,6 +40,37 @@ pub record IsAt {E : Type 0} (sees : E → Option Event → State → Type 0) (s
 pub record IsIdleAt {E : Type 0} (sees : E → Option Event → State → Type 0) (e : E) (p : Point) : Type 0 where
   pub state : sees e None p.state
   pub idle : IsIdle p
+
+-- it is in an opening, and what comes next of that is at hand
+pub record IsOpeningAt {E : Type 0} (sees : E → Option Event → State → Type 0) (e : E) (next : Option Event) (p : Point) : Type 0 where
+  pub state : sees e next p.state
+  pub comes : p.next ≡ next
+  pub opening : p.state.units.phase ≡ Opening
+
+-- the opening goes on, or nothing is missing of it
+abbrev pub IsOpenedOn : {E : Type 0} → (E → Option Event → State → Type 0) → E → Option Event → Point → Type 0
+IsOpenedOn sees e None p = IsIdleAt sees e p
+IsOpenedOn sees e (Some event) p = IsOpeningAt sees e (Some event) p
+
+-- Broken off at a point: unless for want of memory, what comes next there is at the devices, and what is in flight is known. A device
+-- is told to be full by what was to be written there. What is left of the devices stands there, and unless memory ran out the run can
+-- be opened behind it.
+pub record HaltsAt (lies left : Point → Type 0) (fills : Written → ℕ → Type 0) (flight : Option Flight) (halt : Halt) (p : Point) : Type 0 where
+  pub reason : (halt ≡ Memory) ⊎ ((e : Event) × (p.next ≡ Some e) × (at_devices_in p.state.units e ≡ true))
+  pub flies : ((halt ≡ Memory) × (flight ≡ None)) ⊎ (flight ≡ flight_told p.flight)
+  pub full : (dev : ℕ) → halt ≡ DeviceFull dev → (w : Written) × IsWrittenAt p w × fills w dev
+  pub again : (halt ≡ Memory → ⊥) → lies p
+  pub stays : left p
+
+-- in telling an event: before it was told, for want of memory, or behind it
+abbrev pub BreaksAt : (lies left : Point → Type 0) → (Written → ℕ → Type 0) → Option Flight → Halt → Point → Event → (story told : List Event) → Type 0
+BreaksAt lies left fills flight halt p e story told =
+    ((told ≡ story) × HaltsAt lies left fills flight halt p × (halt ≡ Memory)) ⊎
+    ((told ≡ story ++ e ∷ []) × ((q : Point) × Moves (Say e) p q × HaltsAt lies left fills flight halt q))
+
+-- for want of memory a move was not made
+abbrev pub RunsShort : (lies left : Point → Type 0) → (Written → ℕ → Type 0) → Option Flight → Halt → Point → Type 0
+RunsShort lies left fills flight halt p = (halt ≡ Memory) × HaltsAt lies left fills flight halt p
 
 -- the waiting units behind the event at hand
 abbrev pub waiters_behind : Option Event → State → List Id
@@ -58,10 +103,21 @@ pub record Finishes {E : Type 0} (sees : E → Option Event → State → Type 0
   pub advances : Advances sees line p story e None told
   pub idle : IsIdle advances.point
 
--- or it broke off: the story has gained the events of such moves, and the engine stands nowhere
-pub record StopsWithin (p : Point) (story told : List Event) : Type 0 where
+-- or it broke off: the story has gained the events of such moves, and the engine is to be opened anew
+pub record StopsWithin (lies left : Point → Type 0) (fills : Written → ℕ → Type 0) (flight : Option Flight) (halt : Halt) (p : Point) (story told : List Event) : Type 0 where
   pub moves : List Move
   pub point : Point
   pub runs : Runs p moves point
   pub inside : Every IsInside moves
+  pub tells : told ≡ story ++ told_by moves
+  pub halts : HaltsAt lies left fills flight halt point
+
+-- it has come by events of an opening to where it stands
+pub record OpensOn {E : Type 0} (sees : E → Option Event → State → Type 0) (p : Point) (story : List Event) (e : E)
+    (next : Option Event) (told : List Event) : Type 0 where
+  pub moves : List Move
+  pub point : Point
+  pub runs : Runs p moves point
+  pub inside : Every IsInside moves
+  pub stands : IsOpenedOn sees e next point
   pub tells : told ≡ story ++ told_by moves

@@ -1,77 +1,106 @@
 //! A line is asked, its events are told until none comes next, and so is each turn of `go all`.
 
+ghost use Rattle.salt_disk.specs.Disks.{SameShape};
 ghost use Rattle.salt_keeps.specs.Points.{Point};
 ghost use Rattle.salt_model.specs.Trace.{Rejected, Start, Trace, Tree};
+ghost use Rattle.salt_steps.specs.Counting.{CountsMore};
 ghost use Rattle.salt_steps.specs.Serving.{BreaksOff, GoesOn, Serves};
 ghost use Rattle.salt_steps.specs.Standing.{Advances, Finishes, IsAt, IsSoundPoint, StopsWithin};
-ghost use Rattle.std.specs.Prelude.{None, OnErr, OnOk};
+ghost use Rattle.salt_storage.specs.Answers.{disk_err};
+ghost use Rattle.salt_types.specs.Played.{HasKey};
+ghost use Rattle.std.specs.Prelude.{IfErr, None, OnOk, ◌≡◌};
 
 use crate::engine::Steps;
 use salt_ast::Line;
+use salt_disk::Disks;
 use salt_model::{Event, Refusal, Story};
-use std::alloc::AllocError;
+use salt_storage::Halt;
 
 /// Tells events until none comes next.
-fn settle<E: Steps>(
+fn settle<E: Steps, D: Disks>(
     engine: &mut E,
+    disks: &mut D,
     line: &Line,
     story: &mut Story,
     first: Option<Event>,
-) -> Result<(), AllocError>
-    requires { (p : Point) × IsSoundPoint p × IsAt E.sees line.now engine.old first p }
-    ensures ok { OnOk result ((p : Point) → IsSoundPoint p → IsAt E.sees line.now engine.old first p →
-        Advances E.sees line.now p story.old engine.new None story.new) }
-    ensures err { OnErr result ((p : Point) → IsSoundPoint p → IsAt E.sees line.now engine.old first p → StopsWithin p story.old story.new) }
+) -> Result<(), Halt>
+    requires { (p : Point) × IsSoundPoint p × IsAt (E.sees (D.view disks.old)) line.now engine.old first p }
+    ensures ok { OnOk result ((p : Point) → IsSoundPoint p → IsAt (E.sees (D.view disks.old)) line.now engine.old first p →
+        Advances (E.sees (D.view disks.new)) line.now p story.old engine.new None story.new) }
+    ensures err { IfErr result (λ halt. (p : Point) → IsSoundPoint p → IsAt (E.sees (D.view disks.old)) line.now engine.old first p →
+        StopsWithin (E.lies (D.view disks.new) engine.new 0) (E.left (D.view disks.new) engine.new 0) (E.fills (D.view disks.new) engine.new) (E.flight engine.new) halt p story.old story.new) }
+    ensures turns { OnOk result (E.turns engine.new ≡ E.turns engine.old) }
+    ensures asked { E.asked engine.new ≡ E.asked engine.old }
+    ensures shape { SameShape (D.view disks.old) (D.view disks.new) }
+    ensures counts { CountsMore (D.view disks.old) (D.view disks.new) (disk_err result) first story.old story.new }
 {
     let mut next = first;
     while let Some(event) = next {
-        next = engine.say(line, event, story)?;
+        next = engine.say(disks, line, event, story)?;
     }
     Ok(())
 }
 
 /// Does the rest of a line from its first event on: its own events, and each turn of `go all`.
-fn finish<E: Steps>(
+fn finish<E: Steps, D: Disks>(
     engine: &mut E,
+    disks: &mut D,
     line: &Line,
     story: &mut Story,
     first: Option<Event>,
-) -> Result<(), AllocError>
-    requires { (p : Point) × IsSoundPoint p × IsAt E.sees line.now engine.old first p }
-    ensures ok { OnOk result ((p : Point) → IsSoundPoint p → IsAt E.sees line.now engine.old first p →
-        Finishes E.sees line.now p story.old engine.new story.new) }
-    ensures err { OnErr result ((p : Point) → IsSoundPoint p → IsAt E.sees line.now engine.old first p → StopsWithin p story.old story.new) }
+) -> Result<(), Halt>
+    requires { (p : Point) × IsSoundPoint p × IsAt (E.sees (D.view disks.old)) line.now engine.old first p }
+    ensures ok { OnOk result ((p : Point) → IsSoundPoint p → IsAt (E.sees (D.view disks.old)) line.now engine.old first p →
+        Finishes (E.sees (D.view disks.new)) line.now p story.old engine.new story.new) }
+    ensures err { IfErr result (λ halt. (p : Point) → IsSoundPoint p → IsAt (E.sees (D.view disks.old)) line.now engine.old first p →
+        StopsWithin (E.lies (D.view disks.new) engine.new 0) (E.left (D.view disks.new) engine.new 0) (E.fills (D.view disks.new) engine.new) (E.flight engine.new) halt p story.old story.new) }
+    ensures asked { E.asked engine.new ≡ E.asked engine.old }
+    ensures shape { SameShape (D.view disks.old) (D.view disks.new) }
+    ensures counts { CountsMore (D.view disks.old) (D.view disks.new) (disk_err result) first story.old story.new }
 {
-    settle(engine, line, story, first)?;
-    while let Some(base) = engine.next_turn() {
-        let next = engine.turn(line, base)?;
-        settle(engine, line, story, next)?;
+    settle(engine, disks, line, story, first)?;
+    while let Some(base) = engine.next_turn(disks) {
+        let next = engine.turn(disks, line, base)?;
+        settle(engine, disks, line, story, next)?;
     }
     Ok(())
 }
 
-/// Does a line: the trace of the engine and the story goes on by it and its whole segment. An error leaves a story that
-/// has gained a front of this segment, and an engine that is not asked again.
-pub fn serve<E: Steps>(engine: &mut E, story: &mut Story, line: &Line) -> Result<(), AllocError>
+/// Does a line: the trace of the engine and the story goes on by it and its whole segment. An error leaves a story that has gained a
+/// front of this segment, and an engine that is to be opened anew.
+pub fn serve<E: Steps, D: Disks>(
+    engine: &mut E,
+    disks: &mut D,
+    story: &mut Story,
+    line: &Line,
+) -> Result<(), Halt>
     requires served { E.serves line.now }
-    requires stands { (start : Start) × (trace : Trace) × Serves E.sees start engine.old story.old trace }
-    ensures segment { OnOk result (GoesOn E.sees engine.old story.old (Tree line.now) engine.new story.new) }
-    ensures broken_off { OnErr result (BreaksOff E.sees engine.old story.old (Tree line.now) story.new) }
+    requires key { HasKey (Tree line.now) }
+    requires stands { (start : Start) × (trace : Trace) × Serves (E.sees (D.view disks.old)) start engine.old story.old trace }
+    ensures segment { OnOk result (GoesOn (E.sees (D.view disks.old)) (E.sees (D.view disks.new)) engine.old story.old (Tree line.now) engine.new story.new) }
+    ensures broken_off { IfErr result (λ halt. BreaksOff (E.sees (D.view disks.old)) (E.lies (D.view disks.new) engine.new 0) (E.left (D.view disks.new) engine.new 0) (E.fills (D.view disks.new) engine.new) (E.flight engine.new) halt engine.old story.old (Tree line.now) story.new) }
+    ensures asked { E.asked engine.new ≡ E.asked engine.old }
+    ensures shape { SameShape (D.view disks.old) (D.view disks.new) }
+    ensures counts { CountsMore (D.view disks.old) (D.view disks.new) (disk_err result) None story.old story.new }
 {
-    let first = engine.ask(line)?;
-    finish(engine, line, story, first)
+    let first = engine.ask(disks, line)?;
+    finish(engine, disks, line, story, first)
 }
 
 /// Does a line whose text is refused, likewise.
-pub fn refuse<E: Steps>(
+pub fn refuse<E: Steps, D: Disks>(
     engine: &mut E,
+    disks: &mut D,
     story: &mut Story,
     refusal: Refusal,
-) -> Result<(), AllocError>
-    requires { (start : Start) × (trace : Trace) × Serves E.sees start engine.old story.old trace }
-    ensures segment { OnOk result (GoesOn E.sees engine.old story.old (Rejected refusal) engine.new story.new) }
-    ensures broken_off { OnErr result (BreaksOff E.sees engine.old story.old (Rejected refusal) story.new) }
+) -> Result<(), Halt>
+    requires { (start : Start) × (trace : Trace) × Serves (E.sees (D.view disks.old)) start engine.old story.old trace }
+    ensures segment { OnOk result (GoesOn (E.sees (D.view disks.old)) (E.sees (D.view disks.new)) engine.old story.old (Rejected refusal) engine.new story.new) }
+    ensures broken_off { IfErr result (λ halt. BreaksOff (E.sees (D.view disks.old)) (E.lies (D.view disks.new) engine.new 0) (E.left (D.view disks.new) engine.new 0) (E.fills (D.view disks.new) engine.new) (E.flight engine.new) halt engine.old story.old (Rejected refusal) story.new) }
+    ensures asked { E.asked engine.new ≡ E.asked engine.old }
+    ensures shape { SameShape (D.view disks.old) (D.view disks.new) }
+    ensures counts { CountsMore (D.view disks.old) (D.view disks.new) (disk_err result) None story.old story.new }
 {
-    let first = engine.ask_rejected(refusal)?;
-    finish(engine, &Line::Nothing, story, first)
+    let first = engine.ask_rejected(disks, refusal)?;
+    finish(engine, disks, &Line::Nothing, story, first)
 }

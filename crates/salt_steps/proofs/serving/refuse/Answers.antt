@@ -1,40 +1,70 @@
+use Rattle.std.proofs.lemmas.Result.{err_from_is_err_and}
 use Rattle.salt_ast.specs.declared.lines.Line.TheVariants.{Nothing}
-use Rattle.salt_keeps.specs.Points.{Ask}
 use Rattle.salt_model.specs.Trace.{Rejected}
-use Rattle.salt_steps.proofs.Advancing.{on_err, sound-moved}
+use Rattle.salt_steps.proofs.Advancing.{sound-asked}
+use Rattle.salt_steps.proofs.Counted.{count-join, count-none, count-short, count-turn, shapes}
 use Rattle.salt_steps.proofs.Segments.{breaks-by, breaks-untold, goes-by, serves-at}
 use Rattle.salt_steps.proofs.serving.refuse.Goals as goal
-use Rattle.std.proofs.lemmas.Result.{on_err_weaker, on_ok_weaker}
+use Rattle.std.proofs.lemmas.Result.{IfErr-weaker, on_ok_weaker}
+use Rattle.std.specs.Prelude.{None}
 
 pub ask_rejected-requires : goal.ask_rejected-requires
 ask_rejected-requires g c =
-    let s = c.requires.2 in (s.point, serves-at g.E.Steps.sees c.requires.0 c.args.engine.now c.args.story.now c.requires.1 s, s.stands)
+    let sees = g.E.Steps.sees (g.D.Disks.view c.args.disks.now) in
+    let s = c.requires.2 in (s.point, serves-at sees sees c.requires.0 c.args.engine.now c.args.story.now c.requires.1 s, s.stands)
 
 pub finish-requires : goal.finish-requires
 finish-requires g c =
+    let sees = g.E.Steps.sees (g.D.Disks.view c.args.disks.now) in
     let s = c.requires.2 in
-    let sound = serves-at g.E.Steps.sees c.requires.0 c.args.engine.now c.args.story.now c.requires.1 s in
-    let r = c.in_ok-first.ensures s.point sound s.stands in
-    (r.0, sound-moved (Ask (Rejected c.args.refusal)) s.point r.0 sound r.1, r.2)
+    let sound = serves-at sees sees c.requires.0 c.args.engine.now c.args.story.now c.requires.1 s in
+    let r = c.in_ok-first.ensures.moves s.point sound s.stands in
+    (r.0, sound-asked (Rejected c.args.refusal) s.point r.0 tt sound r.1, r.2)
 
 pub returns-clause-segment : goal.returns-clause-segment
 returns-clause-segment g c = on_ok_weaker c.finish.result (λ done start trace s.
-    let sees = g.E.Steps.sees in
+    let view = g.D.Disks.view in
+    let old = g.E.Steps.sees (view c.args.disks.now) in
     let asked = Rejected c.args.refusal in
-    let sound = serves-at sees start c.args.engine.now c.args.story.now trace s in
-    let r = c.in_ok-first.ensures s.point sound s.stands in
-    goes-by sees start trace asked Nothing c.args.engine.now c.finish.new.engine c.args.story.now c.finish.new.story s r.0 r.1
-    (done r.0 (sound-moved (Ask asked) s.point r.0 sound r.1) r.2)) c.finish.ensures.ok
+    let sound = serves-at old old start c.args.engine.now c.args.story.now trace s in
+    let r = c.in_ok-first.ensures.moves s.point sound s.stands in
+    goes-by old (g.E.Steps.sees (view c.finish.new.disks)) start trace asked Nothing c.args.engine.now c.finish.new.engine c.args.story.now c.finish.new.story s r.0 tt r.1
+    (done r.0 (sound-asked asked s.point r.0 tt sound r.1) r.2)) c.finish.ensures.ok
 
 pub returns-clause-broken_off : goal.returns-clause-broken_off
-returns-clause-broken_off g c = on_err_weaker c.finish.result (λ stopped start trace s.
-    let sees = g.E.Steps.sees in
+returns-clause-broken_off g c = IfErr-weaker c.finish.result _ _ (λ halt stopped start trace s.
+    let view = g.D.Disks.view in
+    let old = g.E.Steps.sees (view c.args.disks.now) in
     let asked = Rejected c.args.refusal in
-    let sound = serves-at sees start c.args.engine.now c.args.story.now trace s in
-    let r = c.in_ok-first.ensures s.point sound s.stands in
-    breaks-by sees start trace asked c.args.engine.now c.args.story.now c.finish.new.story s r.0 r.1
-    (stopped r.0 (sound-moved (Ask asked) s.point r.0 sound r.1) r.2)) c.finish.ensures.err
+    let sound = serves-at old old start c.args.engine.now c.args.story.now trace s in
+    let r = c.in_ok-first.ensures.moves s.point sound s.stands in
+    breaks-by old old start (g.E.Steps.lies (view c.finish.new.disks) c.finish.new.engine 0) (g.E.Steps.left (view c.finish.new.disks) c.finish.new.engine 0) (g.E.Steps.fills (view c.finish.new.disks) c.finish.new.engine) (g.E.Steps.flight c.finish.new.engine) halt trace asked c.args.engine.now c.args.story.now c.finish.new.story s r.0 tt r.1
+    (stopped r.0 (sound-asked asked s.point r.0 tt sound r.1) r.2)) c.finish.ensures.err
+
+pub returns-clause-shape : goal.returns-clause-shape
+returns-clause-shape g c =
+    shapes (g.D.Disks.view c.args.disks.now) (g.D.Disks.view c.ask_rejected.new.disks) (g.D.Disks.view c.finish.new.disks) c.in_ok-first.ensures.shape c.finish.ensures.shape
+
+pub returns-clause-counts : goal.returns-clause-counts
+returns-clause-counts g c =
+    let view = g.D.Disks.view in
+    let story = c.args.story.now in
+    count-join (view c.args.disks.now) (view c.ask_rejected.new.disks) (view c.finish.new.disks) _ None c.in_ok-first.first story story c.finish.new.story
+    (count-turn (view c.args.disks.now) (view c.args.disks.now) (view c.ask_rejected.new.disks) None story story c.in_ok-first.first
+    (count-none (view c.args.disks.now) None story) c.in_ok-first.ensures.shape c.in_ok-first.ensures.counts)
+    c.finish.ensures.counts
 
 pub returns-in_err-first-clause-broken_off : goal.returns-in_err-first-clause-broken_off
-returns-in_err-first-clause-broken_off g c = on_err c.from_residual.result (λ start trace s.
-    breaks-untold g.E.Steps.sees start trace (Rejected c.args.refusal) c.args.engine.now c.args.story.now s)
+returns-in_err-first-clause-broken_off g c =
+    let p = err_from_is_err_and c.from_residual.result c.from_residual.ensures.1 in
+    rw (p.1, p.2) (λ start trace s.
+    let old = g.E.Steps.sees (g.D.Disks.view c.args.disks.now) in
+    let sound = serves-at old old start c.args.engine.now c.args.story.now trace s in
+    breaks-untold old old start _ _ _ _ _ trace (Rejected c.args.refusal) c.args.engine.now c.args.story.now s tt (c.in_err-first.ensures.halts s.point sound s.stands))
+
+pub returns-in_err-first-clause-counts : goal.returns-in_err-first-clause-counts
+returns-in_err-first-clause-counts g c =
+    let view = g.D.Disks.view in
+    let story = c.args.story.now in
+    let p = err_from_is_err_and c.from_residual.result c.from_residual.ensures.1 in
+    rw (p.1, p.2) (count-short (view c.args.disks.now) (view c.args.disks.now) (view c.ask_rejected.new.disks) _ None story story (count-none (view c.args.disks.now) None story) c.in_err-first.ensures.counts)

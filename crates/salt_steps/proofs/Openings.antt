@@ -1,0 +1,323 @@
+-- A run that is down goes on to the end of an opening, or breaks off in it.
+use Rattle.salt_keeps.proofs.PointsGoOn.{idle-complete, no-more, runs-point, start-on, story-on}
+use Rattle.salt_keeps.specs.Laws.{IsSound, is_of_run}
+use Rattle.salt_keeps.specs.Follows.{said_in, unit_of}
+use Rattle.salt_keeps.specs.OpenUnits.{UnitState}
+use Rattle.salt_keeps.specs.Points.{KeepsPoint, Move, Moves, Point, Runs, Say, moved, told_by, trace_on}
+use Rattle.salt_keeps.specs.Readings.{beside_by}
+use Rattle.salt_keeps.specs.States.{State}
+use Rattle.salt_keeps.specs.Steps.{units_after}
+use Rattle.salt_keeps.specs.Told.{at_devices_in}
+use Rattle.salt_model.specs.After.{kept}
+use Rattle.salt_model.specs.Kept.{Kept}
+use Rattle.salt_model.specs.Next.{flight}
+use Rattle.salt_model.specs.Phases.{Fallen, Opening, Phase, downs, has_opened}
+use Rattle.salt_model.specs.Stops.{MayOpen}
+use Rattle.salt_model.specs.Trace.{Start, Trace, story_of, ◌says◌}
+use Rattle.salt_model.specs.Words.{Every}
+use Rattle.salt_model.specs.declared.events.Event.TheVariants.{Down, Opened, Ready}
+use Rattle.salt_model.specs.declared.events.Event.{Event}
+use Rattle.salt_model.specs.declared.events.Flight.{Flight}
+use Rattle.salt_openings.proofs.Opening.{opens-point}
+use Rattle.salt_steps.proofs.Advancing.{inside-both, lines-on, runs-both, sound-on, tells-both}
+use Rattle.salt_steps.proofs.Segments.{sound-at, sound-of}
+use Rattle.salt_steps.specs.Opening.{HasOpened, MayFailAt, OpensAt}
+use Rattle.salt_steps.specs.Reopening.{BreaksOpening, EndsWithin, IsOpening, Reopens}
+use Rattle.salt_steps.specs.Serving.{IsDown, IsFitting}
+use Rattle.salt_steps.specs.Standing.{BreaksAt, HaltsAt, IsInside, IsOpenedOn, IsSoundPoint}
+use Rattle.salt_storage.specs.Answers.{IsLater}
+use Rattle.salt_storage.specs.Writing.{OfBoot, OfOpening, Written}
+use Rattle.salt_storage.specs.declared.halt.Halt.TheVariants.{DeviceFull, Memory}
+use Rattle.salt_storage.specs.declared.halt.Halt.{Halt}
+use Rattle.salt_storage.specs.declared.open.OpenErr.TheVariants.{Halted, NotSalt, NumbersSpent, OtherShape}
+use Rattle.salt_storage.specs.declared.open.OpenErr.{OpenErr}
+use Rattle.salt_types.specs.Played.{HasKey}
+use Rattle.salt_types.specs.Typed.{IsTyped}
+use Rattle.std.proofs.Common.{ap, arith, inl, inr, subst, sym, ◌∙◌}
+use Rattle.std.specs.Prelude.{Err, IsSome, List, None, Option, Result, Some, [], false, if◌then◌else◌, refl, true, ℕ, ◌+◌, ◌++◌, ◌<◌, ◌∷◌, ◌≡◌, ◌≤◌, ◌⊎◌}
+
+pub down-sound : (lies : ℕ → Point → Type 0) (flight : Option Flight) (start : Start) (story : List Event) (trace : Trace) → (d : IsDown lies flight start story trace) →
+    IsSoundPoint d.point
+down-sound lies flight start story trace d = sound-at start trace d.point d.tells.begins d.tells.played d.fits d.keeps
+
+pub down-fallen : (lies : ℕ → Point → Type 0) (flight : Option Flight) (start : Start) (story : List Event) (trace : Trace) → (d : IsDown lies flight start story trace) →
+    d.point.state.units.phase ≡ Fallen
+down-fallen lies flight start story trace d = sym d.keeps.state.units.phase ∙ d.fallen
+
+-- it may be opened so
+may-open : (lies : ℕ → Point → Type 0) (flies : Option Flight) (start : Start) (story : List Event) (trace : Trace) → (d : IsDown lies flies start story trace) →
+    (h : HasOpened d.room d.point) → MayOpen Fallen trace h.boot h.number
+may-open lies flies start story trace d h = (above, most, by h.stands_for)
+  where
+    same : kept trace ≡ d.point.state.units.kept
+    same = d.keeps.state.units.kept
+
+    above : (kept trace).boot < h.boot
+    above = subst (λ (k : Kept). k.boot < h.boot) (sym same) h.above
+
+    most : h.boot ≤ (kept trace).boot + (downs trace + (if has_opened trace then 0 else 1))
+    most =
+        subst (λ (k : Kept). h.boot ≤ k.boot + (downs trace + (if has_opened trace then 0 else 1))) (sym same)
+        (let a = h.most in let b = d.boots in omega arith)
+
+    by : (h.number ≡ d.point.state.units.kept.decisions) ⊎ (IsSome d.point.flight × (h.number ≡ d.point.state.units.kept.decisions + 1)) →
+        (h.number ≡ (kept trace).decisions) ⊎ (IsSome (flight trace) × (h.number ≡ (kept trace).decisions + 1))
+    by (inl e) = inl (subst (λ (k : Kept). h.number ≡ k.decisions) (sym same) e)
+    by (inr e) = inr (subst (λ (f : Option Event). IsSome f) (sym d.keeps.flight) e.0, subst (λ (k : Kept). h.number ≡ k.decisions + 1) (sym same) e.1)
+
+opened-keeps : (lies : ℕ → Point → Type 0) (flies : Option Flight) (start : Start) (story : List Event) (trace : Trace) → (d : IsDown lies flies start story trace) →
+    (h : HasOpened d.room d.point) → KeepsPoint h.point (trace says Opened h.boot h.number) × IsSound (trace says Opened h.boot h.number)
+opened-keeps lies flies start story trace d h =
+    opens-point h.boot h.number d.point h.point trace d.keeps (sound-of start trace d.tells.begins d.tells.played d.fits) (may-open lies flies start story trace d h) h.opens
+
+pub opened-sound : (lies : ℕ → Point → Type 0) (flies : Option Flight) (start : Start) (story : List Event) (trace : Trace) → (d : IsDown lies flies start story trace) →
+    (h : HasOpened d.room d.point) → IsSoundPoint h.point
+opened-sound lies flies start story trace d h =
+    let k = opened-keeps lies flies start story trace d h in
+    record {
+      trace = trace says Opened h.boot h.number;
+      keeps = k.0;
+      sound = k.1;
+      typed = subst (λ (x : Start). IsTyped x.kept) (sym d.tells.begins) d.fits.typed;
+      keyed = d.fits.keyed;
+    }
+
+append-both : (es fs gs : List Event) → (es ++ fs) ++ gs ≡ es ++ (fs ++ gs)
+append-both [] fs gs = refl
+append-both (e ∷ es) fs gs = ap (λ l. e ∷ l) (append-both es fs gs)
+
+phase-stays : (e : Event) (s : UnitState) → is_of_run e ≡ false → (e ≡ Ready → ⊥) → s.phase ≡ Opening → (units_after e s).phase ≡ Opening
+phase-stays (Down why) s h r p = cc
+phase-stays (Opened boot n) s h r p = cc
+phase-stays Ready s h r p = absurd (r refl)
+phase-stays e s h r p = p
+
+-- behind a Ready nothing comes next
+ready-rests : (p q : Point) → Moves (Say Ready) p q → q.next ≡ None
+ready-rests p q m =
+    m.0.next ∙ ap (λ (f : Phase). said_in f q.state.units (beside_by q.state m.0.read) Ready (unit_of Ready p.state.units q.state.units))
+    (ap (λ (s : UnitState). s.phase) m.0.after.units)
+
+is-ready : (e : Event) → (e ≡ Ready) ⊎ (e ≡ Ready → ⊥)
+is-ready Ready = inl refl
+is-ready e = inr (λ h. cc)
+
+opening-on : (e : Event) (p q : Point) (event : Event) → p.state.units.phase ≡ Opening → Moves (Say e) p q → q.next ≡ Some event → q.state.units.phase ≡ Opening
+opening-on e p q event opening m comes = by (is-ready e)
+  where
+    by : (e ≡ Ready) ⊎ (e ≡ Ready → ⊥) → q.state.units.phase ≡ Opening
+    by (inl same) = let none = ready-rests p q (subst (λ x. Moves (Say x) p q) same m) in cc
+    by (inr other) = ap (λ (s : UnitState). s.phase) m.0.after.units ∙ phase-stays e p.state.units m.1 other opening
+
+-- what is told of the halt
+pub same-halt : (a b : Halt) → Halted a ≡ Halted b → a ≡ b
+same-halt a b h = cc
+
+module _ {E : Type 0} (old new : E → Option Event → State → Type 0) (lies : ℕ → Point → Type 0) (flies : Option Flight) (start : Start) (story : List Event) (trace : Trace)
+    (d : IsDown lies flies start story trace) where
+  pub opening-begins : (e : E) (next : Event) (told : List Event) → OpensAt new d.room d.point story e next told → IsOpening new d.room d.point story e (Some next) told
+  opening-begins e next told o = record {
+    has = o.has;
+    on = record { moves = []; point = o.has.point; runs = refl; inside = tt; stands = o.stands; tells = o.tells ∙ sym (no-more (story ++ Opened o.has.boot o.has.number ∷ [])) };
+  }
+
+  pub here-sound : (e : E) (next : Option Event) (told : List Event) → (o : IsOpening old d.room d.point story e next told) → IsSoundPoint o.on.point
+  here-sound e next told o =
+      sound-on o.on.moves o.has.point o.on.point (opened-sound lies flies start story trace d o.has) o.on.inside o.on.runs
+
+  pub opening-goes : (e f : E) (event : Event) (next : Option Event) (told now : List Event) → (o : IsOpening old d.room d.point story e (Some event) told) →
+      (q : Point) → Moves (Say event) o.on.point q → IsOpenedOn new f next q → now ≡ told ++ event ∷ [] → IsOpening new d.room d.point story f next now
+  opening-goes e f event next told now o q m stands tells = record {
+    has = o.has;
+    on = record {
+      moves = o.on.moves ++ Say event ∷ [];
+      point = q;
+      runs = runs-both o.on.moves (Say event ∷ []) o.has.point o.on.point q o.on.runs (q, m, refl);
+      inside = inside-both o.on.moves (Say event ∷ []) o.on.inside (tt, tt);
+      stands = stands;
+      tells = tells-both (story ++ Opened o.has.boot o.has.number ∷ []) told now o.on.moves (Say event ∷ []) o.on.tells tells;
+    };
+  }
+
+  -- the trace with moves of the opening
+  abbrev behind : HasOpened d.room d.point → List Move → Trace
+  behind h ms = trace_on (trace says Opened h.boot h.number) ms
+
+  behind-fits : (h : HasOpened d.room d.point) (ms : List Move) → Every IsInside ms → IsFitting start (behind h ms)
+  behind-fits h ms inside = record {
+    well = d.fits.well;
+    typed = d.fits.typed;
+    keyed = subst (Every HasKey) (sym (lines-on ms (trace says Opened h.boot h.number) inside)) d.fits.keyed;
+  }
+
+  behind-keeps : (h : HasOpened d.room d.point) (ms : List Move) (q : Point) → Runs h.point ms q → KeepsPoint q (behind h ms) × IsSound (behind h ms)
+  behind-keeps h ms q runs =
+      let k = opened-keeps lies flies start story trace d h in
+      runs-point ms h.point q (trace says Opened h.boot h.number) k.0 k.1 runs
+
+  behind-told : (h : HasOpened d.room d.point) (ms : List Move) (told : List Event) → told ≡ (story ++ Opened h.boot h.number ∷ []) ++ told_by ms → story_of (behind h ms) ≡ told
+  behind-told h ms told tells =
+      story-on ms (trace says Opened h.boot h.number) ∙ ap (λ es. (es ++ Opened h.boot h.number ∷ []) ++ told_by ms) d.tells.told ∙ sym tells
+
+  behind-grows : (h : HasOpened d.room d.point) (ms : List Move) (told : List Event) → told ≡ (story ++ Opened h.boot h.number ∷ []) ++ told_by ms →
+      (more : List Event) × (told ≡ story ++ more)
+  behind-grows h ms told tells = (Opened h.boot h.number ∷ told_by ms, tells ∙ append-both story (Opened h.boot h.number ∷ []) (told_by ms))
+
+  pub opening-ends : (e : E) (told : List Event) → IsOpening old d.room d.point story e None told → Reopens old start trace story e told
+  opening-ends e told o =
+      let h = o.has in
+      let ms = o.on.moves in
+      let k = behind-keeps h ms o.on.point o.on.runs in
+      record {
+        after = behind h ms;
+        lines = lines-on ms (trace says Opened h.boot h.number) o.on.inside;
+        serves = record {
+          tells = record { begins = start-on ms (trace says Opened h.boot h.number) ∙ d.tells.begins; told = behind-told h ms told o.on.tells; played = k.1.played };
+          complete = idle-complete o.on.point (behind h ms) k.0 o.on.stands.idle;
+          fits = behind-fits h ms o.on.inside;
+          point = o.on.point;
+          keeps = k.0;
+          stands = o.on.stands;
+        };
+        grows = behind-grows h ms told o.on.tells;
+      }
+
+  -- it breaks off: before it was begun
+
+  pub opening-fails : (now left : ℕ → Point → Type 0) (fills : Written → ℕ → Type 0) (flight : Option Flight) (halt : Halt) (told : List Event) → told ≡ story → flight ≡ flies →
+      ((dev : ℕ) → halt ≡ DeviceFull dev → fills OfBoot dev) → ((halt ≡ Memory → ⊥) → now (d.room + 1) d.point) → left (d.room + 1) d.point →
+      BreaksOpening now left fills flight (Halted halt) start trace story told
+  opening-fails now left fills flight halt told same keeps full again stays = record {
+    after = trace;
+    lines = refl;
+    tells = record { begins = d.tells.begins; told = d.tells.told ∙ sym same; played = d.tells.played };
+    fits = d.fits;
+    point = d.point;
+    keeps = d.keeps;
+    grows = ([], same ∙ sym (no-more story));
+    later = tt;
+    stops = inl (record {
+      fallen = d.fallen;
+      room = d.room + 1;
+      boots = d.boots;
+      fails = tt;
+      full = λ dev is. inl (full dev (same-halt halt (DeviceFull dev) is));
+      again = λ some. again (λ is. some (ap Halted is));
+      stays = stays;
+      flies = keeps ∙ d.flies;
+    });
+  }
+
+  -- or at an event
+
+  breaks-here : (now left : ℕ → Point → Type 0) (fills : Written → ℕ → Type 0) (flight : Option Flight) (halt : Halt) (h : HasOpened d.room d.point) (ms : List Move) (q : Point) (told : List Event) →
+      Runs h.point ms q → Every IsInside ms → told ≡ (story ++ Opened h.boot h.number ∷ []) ++ told_by ms → HaltsAt (now 0) (left 0) fills flight halt q →
+      (halt ≡ Memory) ⊎ EndsWithin (behind h ms) → BreaksOpening now left fills flight (Halted halt) start trace story told
+  breaks-here now left fills flight halt h ms q told runs inside tells halts place =
+      let k = behind-keeps h ms q runs in
+      record {
+        after = behind h ms;
+        lines = lines-on ms (trace says Opened h.boot h.number) inside;
+        tells = record { begins = start-on ms (trace says Opened h.boot h.number) ∙ d.tells.begins; told = behind-told h ms told tells; played = k.1.played };
+        fits = behind-fits h ms inside;
+        point = q;
+        keeps = k.0;
+        grows = behind-grows h ms told tells;
+        later = tt;
+        stops = inr (record { halt = halt; halted = refl; halts = halts; place = place });
+      }
+
+  last-of : (h : HasOpened d.room d.point) (ms : List Move) (e : Event) → behind h (ms ++ Say e ∷ []) ≡ (behind h ms says e)
+  last-of h ms e = go (trace says Opened h.boot h.number) ms
+    where
+      go : (t : Trace) (ms : List Move) → trace_on t (ms ++ Say e ∷ []) ≡ (trace_on t ms says e)
+      go t [] = refl
+      go t (m ∷ ms) = go (moved t m) ms
+
+  pub opening-breaks : (now left : ℕ → Point → Type 0) (fills : Written → ℕ → Type 0) (flight : Option Flight) (halt : Halt) (e : E) (event : Event) (told new_told : List Event) →
+      (o : IsOpening old d.room d.point story e (Some event) told) → BreaksAt (now 0) (left 0) fills flight halt o.on.point event told new_told →
+      BreaksOpening now left fills flight (Halted halt) start trace story new_told
+  opening-breaks now left fills flight halt e event told new_told o (inl short) =
+      subst (λ es. BreaksOpening now left fills flight (Halted halt) start trace story es) (sym short.0)
+      (breaks-here now left fills flight halt o.has o.on.moves o.on.point told o.on.runs o.on.inside o.on.tells short.1 (inl short.2))
+  opening-breaks now left fills flight halt e event told new_told o (inr said) =
+      let q = said.1.0 in
+      let m = said.1.1 in
+      let halts = said.1.2 in
+      let ms = o.on.moves ++ Say event ∷ [] in
+      let runs = runs-both o.on.moves (Say event ∷ []) o.has.point o.on.point q o.on.runs (q, m, refl) in
+      let inside = inside-both o.on.moves (Say event ∷ []) o.on.inside (tt, tt) in
+      let k = behind-keeps o.has ms q runs in
+      breaks-here now left fills flight halt o.has ms q new_told runs inside
+      (tells-both (story ++ Opened o.has.boot o.has.number ∷ []) told new_told o.on.moves (Say event ∷ []) o.on.tells said.0) halts (by k.0 m halts.reason)
+    where
+      by : KeepsPoint said.1.0 (behind o.has (o.on.moves ++ Say event ∷ [])) → Moves (Say event) o.on.point said.1.0 →
+          (halt ≡ Memory) ⊎ ((f : Event) × (said.1.0.next ≡ Some f) × (at_devices_in said.1.0.state.units f ≡ true)) →
+          (halt ≡ Memory) ⊎ EndsWithin (behind o.has (o.on.moves ++ Say event ∷ []))
+      by k m (inl memory) = inl memory
+      by k m (inr f) = inr (record {
+        opening = k.state.units.phase ∙ opening-on event o.on.point said.1.0 f.0 o.on.stands.opening m f.1;
+        before = behind o.has o.on.moves;
+        event = event;
+        behind = last-of o.has o.on.moves event;
+        plain = m.1;
+      })
+
+-- FINDING what devices stand for
+
+same-err : {A : Type 0} (a b : OpenErr) → ◌≡◌ {A = Result A OpenErr} (Err a) (Err b) → a ≡ b
+same-err a b h = cc
+
+pub not-short : {A : Type 0} (e : OpenErr) → (e ≡ Halted Memory → ⊥) → ◌≡◌ {A = Result A OpenErr} (Err e) (Err (Halted Memory)) → ⊥
+not-short e some is = some (same-err e (Halted Memory) is)
+
+pub found-down : (lies now : ℕ → Point → Type 0) (flies known : Option Flight) (start : Start) (story : List Event) (trace : Trace) →
+    (d : IsDown lies flies start story trace) → ((room : ℕ) (p : Point) → IsSoundPoint p → p.state.units.phase ≡ Fallen → lies room p → now room p) → known ≡ flies →
+    IsDown now known start story trace
+found-down lies now flies known start story trace d found same = record {
+  tells = d.tells;
+  fallen = d.fallen;
+  fits = d.fits;
+  point = d.point;
+  keeps = d.keeps;
+  room = d.room;
+  boots = d.boots;
+  again = found d.room d.point (down-sound lies flies start story trace d) (down-fallen lies flies start story trace d) d.again;
+  flies = same ∙ d.flies;
+}
+
+fails-later : (room : ℕ) (p : Point) (e : OpenErr) → MayFailAt room p e → IsLater e
+fails-later room p (NotSalt dev) h = h
+fails-later room p (OtherShape kept asked) h = h
+fails-later room p (NumbersSpent boot decisions) h = tt
+fails-later room p (Halted halt) h = tt
+
+pub finding-fails : (lies now left : ℕ → Point → Type 0) (fills : Written → ℕ → Type 0) (flies known : Option Flight) (e : OpenErr) (start : Start) (story : List Event) (trace : Trace) →
+    (d : IsDown lies flies start story trace) →
+    ((e ≡ Halted Memory → ⊥) → (room : ℕ) (p : Point) → IsSoundPoint p → p.state.units.phase ≡ Fallen → lies room p → now room p) →
+    ((room : ℕ) (p : Point) → IsSoundPoint p → p.state.units.phase ≡ Fallen → lies room p → left room p) → known ≡ flies →
+    ((room : ℕ) (p : Point) → IsSoundPoint p → p.state.units.phase ≡ Fallen → lies room p → MayFailAt room p e) →
+    ((dev : ℕ) → e ≡ Halted (DeviceFull dev) → fills OfOpening dev) → BreaksOpening now left fills known e start trace story story
+finding-fails lies now left fills flies known e start story trace d found stays same fails full =
+    let sound = down-sound lies flies start story trace d in
+    let fallen = down-fallen lies flies start story trace d in
+    record {
+      after = trace;
+      lines = refl;
+      tells = d.tells;
+      fits = d.fits;
+      point = d.point;
+      keeps = d.keeps;
+      grows = ([], sym (no-more story));
+      later = fails-later d.room d.point e (fails d.room d.point sound fallen d.again);
+      stops = inl (record {
+        fallen = d.fallen;
+        room = d.room;
+        boots = let b = d.boots in omega arith;
+        fails = fails d.room d.point sound fallen d.again;
+        full = λ dev is. inr (full dev is);
+        again = λ some. found some d.room d.point sound fallen d.again;
+        stays = stays d.room d.point sound fallen d.again;
+        flies = same ∙ d.flies;
+      });
+    }

@@ -1,0 +1,54 @@
+use Rattle.salt_steps.proofs.Counted.{fall-short}
+use Rattle.salt_steps.proofs.Falling.{breaks-behind, falls-served, halted-short, no-short-fall, reopens-behind}
+use Rattle.salt_steps.proofs.opening.recover.Goals as goal
+use Rattle.salt_steps.specs.Counting.{CountsFall}
+use Rattle.salt_model.specs.declared.events.Event.{Event}
+use Rattle.std.proofs.Common.{inr, subst, sym}
+use Rattle.std.proofs.lemmas.Result.{IfErr-weaker, err_from_is_err_and, on_ok_weaker}
+use Rattle.std.specs.Prelude.{List}
+
+pub returns-in_err-push-clause-err : goal.returns-in_err-push-clause-err
+returns-in_err-push-clause-err g c =
+    let p = err_from_is_err_and c.from_residual.result c.from_residual.ensures.1 in
+    rw (p.1, p.2) (λ start trace h.
+    halted-short (g.E.Steps.lies (g.D.Disks.view c.args.disks.now) c.args.engine.now) (g.E.Steps.left (g.D.Disks.view c.args.disks.now) c.args.engine.now) (g.E.Steps.fills (g.D.Disks.view c.args.disks.now) c.args.engine.now) _ (g.E.Steps.flight c.args.engine.now) c.args.why start trace c.args.story.now c.push.new.self
+    c.in_err-push.ensures.err h)
+
+pub returns-in_err-push-clause-counts : goal.returns-in_err-push-clause-counts
+returns-in_err-push-clause-counts g c =
+    let p = err_from_is_err_and c.from_residual.result c.from_residual.ensures.1 in
+    let v = g.D.Disks.view c.args.disks.now in
+    rw (p.1, p.2) (subst (λ (told : List Event). CountsFall c.args.why v v _ c.args.story.now told) (sym c.in_err-push.ensures.err) (fall-short c.args.why v c.args.story.now))
+
+pub fall-requires : goal.fall-requires
+fall-requires g c = let h = c.requires.halted.2 in inr (0, (h.point, h.halts.again (no-short-fall c.args.why)))
+
+pub open-requires-clause-down : goal.open-requires-clause-down
+open-requires-clause-down g c =
+    let view = g.D.Disks.view in
+    let h = c.requires.halted in
+    let f =
+    falls-served (g.E.Steps.lies (view c.args.disks.now) c.args.engine.now 0) (g.E.Steps.left (view c.args.disks.now) c.args.engine.now 0) (g.E.Steps.fills (view c.args.disks.now) c.args.engine.now) (g.E.Steps.flight c.args.engine.now) c.args.why h.0 h.1 c.args.story.now h.2
+    (g.E.Steps.lies (view c.fall.new.disks) c.fall.new.self) (g.E.Steps.flight c.fall.new.self) c.push.new.self (c.fall.ensures.lies 0) c.fall.ensures.flies c.in_ok-push.ensures.ok in
+    (h.0, f.after, f.down)
+
+pub returns-clause-ok : goal.returns-clause-ok
+returns-clause-ok g c = on_ok_weaker c.open.result (λ done start trace h.
+    let view = g.D.Disks.view in
+    let lies = g.E.Steps.lies (view c.fall.new.disks) c.fall.new.self in
+    let flies = g.E.Steps.flight c.fall.new.self in
+    let f =
+    falls-served (g.E.Steps.lies (view c.args.disks.now) c.args.engine.now 0) (g.E.Steps.left (view c.args.disks.now) c.args.engine.now 0) (g.E.Steps.fills (view c.args.disks.now) c.args.engine.now) (g.E.Steps.flight c.args.engine.now) c.args.why start trace c.args.story.now h
+    lies flies c.push.new.self (c.fall.ensures.lies 0) c.fall.ensures.flies c.in_ok-push.ensures.ok in
+    reopens-behind lies lies flies flies start trace c.args.story.now c.push.new.self c.open.new.story f (g.E.Steps.sees (view c.open.new.disks)) c.open.new.engine (done start f.after f.down)) c.open.ensures.ok
+
+pub returns-clause-err : goal.returns-clause-err
+returns-clause-err g c = IfErr-weaker c.open.result _ _ (λ e broken start trace h.
+    let view = g.D.Disks.view in
+    let lies = g.E.Steps.lies (view c.fall.new.disks) c.fall.new.self in
+    let flies = g.E.Steps.flight c.fall.new.self in
+    let f =
+    falls-served (g.E.Steps.lies (view c.args.disks.now) c.args.engine.now 0) (g.E.Steps.left (view c.args.disks.now) c.args.engine.now 0) (g.E.Steps.fills (view c.args.disks.now) c.args.engine.now) (g.E.Steps.flight c.args.engine.now) c.args.why start trace c.args.story.now h
+    lies flies c.push.new.self (c.fall.ensures.lies 0) c.fall.ensures.flies c.in_ok-push.ensures.ok in
+    breaks-behind lies (g.E.Steps.lies (view c.open.new.disks) c.open.new.engine) flies (g.E.Steps.flight c.open.new.engine) start trace c.args.story.now c.push.new.self c.open.new.story f _ _ e
+    (broken start f.after f.down)) c.open.ensures.err

@@ -1,0 +1,116 @@
+-- What an opening makes of a run that is down.
+use Rattle.salt_keeps.specs.Laws.{is_of_run}
+use Rattle.salt_keeps.specs.Points.{KeepsPoint, Point}
+use Rattle.salt_keeps.specs.States.{State}
+use Rattle.salt_model.specs.Ends.{flight_told}
+use Rattle.salt_model.specs.Kept.{Kept}
+use Rattle.salt_model.specs.Phases.{Fallen, Opening, downs, has_opened, phase}
+use Rattle.salt_model.specs.Played.{Tells}
+use Rattle.salt_model.specs.Trace.{Start, Trace, from, lines_of, ◌says◌}
+use Rattle.salt_model.specs.declared.events.Event.TheVariants.{Down, Opened}
+use Rattle.salt_model.specs.declared.events.Event.{Event}
+use Rattle.salt_model.specs.declared.events.Flight.{Flight}
+use Rattle.salt_model.specs.declared.events.Why.TheVariants.{Stopped}
+use Rattle.salt_steps.specs.Opening.{HasOpened, IsStartOf, MayFailAt}
+use Rattle.salt_steps.specs.Serving.{Grows, IsDown, IsFitting, Serves}
+use Rattle.salt_steps.specs.Standing.{HaltsAt, OpensOn}
+use Rattle.salt_storage.specs.Answers.{IsLater}
+use Rattle.salt_storage.specs.Writing.{FindsNoMore, OfBoot, OfOpening, Written}
+use Rattle.salt_storage.specs.declared.halt.Halt.TheVariants.{DeviceFull, Memory}
+use Rattle.salt_storage.specs.declared.halt.Halt.{Halt}
+use Rattle.salt_storage.specs.declared.open.OpenErr.TheVariants.{Halted}
+use Rattle.salt_storage.specs.declared.open.OpenErr.{OpenErr}
+use Rattle.std.specs.Prelude.{Bool, List, Option, [], false, if◌then◌else◌, true, ℕ, ◌+◌, ◌++◌, ◌∷◌, ◌≡◌, ◌≤◌, ◌⊎◌}
+
+-- the trace goes on to the end of an opening
+pub record Reopens {E : Type 0} (sees : E → Option Event → State → Type 0) (start : Start) (trace : Trace) (story : List Event) (e : E)
+    (told : List Event) : Type 0 where
+  pub after : Trace
+  pub lines : lines_of after ≡ lines_of trace
+  pub serves : Serves sees start e told after
+  pub grows : Grows story told
+
+-- An opening was not begun: what is left of the devices stands here, where they may have one boot more; and unless memory ran out the
+-- engine can be opened. It failed by spent numbers, or halted. Where a device was full, the next boot was to be written there, or what a
+-- first opening writes.
+pub record NotBegun (lies left : ℕ → Point → Type 0) (fills : Written → ℕ → Type 0) (flight : Option Flight) (e : OpenErr) (trace : Trace) (p : Point) : Type 0 where
+  pub fallen : phase trace ≡ Fallen
+  pub room : ℕ
+  pub boots : room ≤ downs trace + (if has_opened trace then 0 else 1)
+  pub fails : MayFailAt room p e
+  pub full : (dev : ℕ) → e ≡ Halted (DeviceFull dev) → fills OfBoot dev ⊎ fills OfOpening dev
+  pub again : (e ≡ Halted Memory → ⊥) → lies room p
+  pub stays : left room p
+  pub flies : flight ≡ flight_told p.flight
+
+-- the trace ends within an opening, behind an event of that
+pub record EndsWithin (trace : Trace) : Type 0 where
+  pub opening : phase trace ≡ Opening
+  pub before : Trace
+  pub event : Event
+  pub behind : trace ≡ (before says event)
+  pub plain : is_of_run event ≡ false
+
+-- or it was broken off within it
+pub record WithinOpening (lies left : ℕ → Point → Type 0) (fills : Written → ℕ → Type 0) (flight : Option Flight) (e : OpenErr) (trace : Trace) (p : Point) : Type 0 where
+  pub halt : Halt
+  pub halted : e ≡ Halted halt
+  pub halts : HaltsAt (lies 0) (left 0) fills flight halt p
+  pub place : (halt ≡ Memory) ⊎ EndsWithin trace
+
+-- an opening ends early: the trace has gone on by a front of it
+pub record BreaksOpening (lies left : ℕ → Point → Type 0) (fills : Written → ℕ → Type 0) (flight : Option Flight) (e : OpenErr) (start : Start)
+    (trace : Trace) (story told : List Event) : Type 0 where
+  pub after : Trace
+  pub lines : lines_of after ≡ lines_of trace
+  pub tells : Tells start after told
+  pub fits : IsFitting start after
+  pub point : Point
+  pub keeps : KeepsPoint point after
+  pub grows : Grows story told
+  pub later : IsLater e
+  pub stops : NotBegun lies left fills flight e after point ⊎ WithinOpening lies left fills flight e after point
+
+-- an engine in an opening: it has told that the run is opened, and the events of the opening so far
+pub record IsOpening {E : Type 0} (sees : E → Option Event → State → Type 0) (room : ℕ) (p : Point) (story : List Event) (e : E)
+    (next : Option Event) (told : List Event) : Type 0 where
+  pub has : HasOpened room p
+  pub on : OpensOn sees has.point (story ++ Opened has.boot has.number ∷ []) e next told
+
+-- the run has fallen again, and its trace has gone on by a front of an opening
+pub record FallsAnew (lies : ℕ → Point → Type 0) (flight : Option Flight) (start : Start) (trace : Trace) (story told : List Event) : Type 0 where
+  pub after : Trace
+  pub lines : lines_of after ≡ lines_of trace
+  pub down : IsDown lies flight start told after
+  pub grows : Grows story told
+
+-- it is opened, or has fallen again
+abbrev pub OpensOrFalls : {E : Type 0} → Bool → (E → Option Event → State → Type 0) → (ℕ → Point → Type 0) → Option Flight → Start → Trace → List Event → E → List Event → Type 0
+OpensOrFalls true sees lies flight start trace story e told = Reopens sees start trace story e told
+OpensOrFalls false sees lies flight start trace story e told = FallsAnew lies flight start trace story told
+
+-- FIRST OPENINGS
+
+-- the run has begun, and is opened
+pub record Begins {E : Type 0} (finds : Kept → Type 0) (can_stop : Bool) (sees : E → Option Event → State → Type 0) (e : E) (told : List Event) : Type 0 where
+  pub start : Start
+  pub is : IsStartOf finds can_stop start
+  pub reopens : Reopens sees start (from start) [] e told
+
+-- it has begun, and lies at the place where it fell while nothing was found
+pub record IsFoundDown (finds : Kept → Type 0) (can_stop : Bool) (lies : ℕ → Point → Type 0) (flight : Option Flight) (told : List Event) : Type 0 where
+  pub start : Start
+  pub is : IsStartOf finds can_stop start
+  pub falls : FallsAnew lies flight start (from start) [] told
+
+-- it has begun, and breaks off in an opening
+pub record BreaksFirst (finds : Kept → Type 0) (can_stop : Bool) (lies left : ℕ → Point → Type 0) (fills : Written → ℕ → Type 0) (flight : Option Flight)
+    (e : OpenErr) (told : List Event) : Type 0 where
+  pub start : Start
+  pub is : IsStartOf finds can_stop start
+  pub breaks : BreaksOpening lies left fills flight e start (from start) [] told
+
+-- while nothing is found yet, it falls and is as it was, with this story
+pub record FallsUnfound (old_refuses : OpenErr → Type 0) (old_finds : Kept → Type 0) (refuses : OpenErr → Type 0) (finds : Kept → Type 0) (story told : List Event) : Type 0 where
+  pub less : FindsNoMore old_refuses old_finds refuses finds
+  pub falls : told ≡ story ++ Down Stopped ∷ []
