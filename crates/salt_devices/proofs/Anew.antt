@@ -1,0 +1,144 @@
+-- Devices are opened anew: what was left there is found, or is left as it was.
+use Rattle.salt_bytes.specs.Generations.{BothBlank}
+use Rattle.salt_commit.specs.Openings.{HasRoom}
+use Rattle.salt_commit.specs.declared.store.Store.{Store}
+use Rattle.salt_decisions.specs.Decisions.{shape_of}
+use Rattle.salt_definitions.specs.Fitting.{kept_in}
+use Rattle.salt_devices.proofs.Known.{stands_fails}
+use Rattle.salt_devices.proofs.Reheld.{held_again_mute}
+use Rattle.salt_devices.proofs.Refound.{Tells}
+use Rattle.salt_devices.proofs.Remembered.{held_rows}
+use Rattle.salt_devices.specs.Leaving.{IsLeft, Leaves, LeavesAs, StandsFor}
+use Rattle.salt_devices.specs.Opened.{IsHeldAgain, OpensAs}
+use Rattle.salt_devices.specs.Refusing.{RefusedAs}
+use Rattle.salt_devices.specs.Remembering.{AreNumbersOf, IsFoundAgain, Recalls, Remembers}
+use Rattle.salt_devices.specs.declared.pending.Pending.TheVariants.{Lost}
+use Rattle.salt_devices.specs.declared.pending.Pending.{Pending}
+use Rattle.salt_disk.specs.Disks.{KeepsAll, SameShape, View}
+use Rattle.salt_disk.specs.declared.disks.DiskErr.{DiskErr}
+use Rattle.salt_gatelog.proofs.Entries.{not_told}
+use Rattle.salt_model.specs.Kept.{Kept}
+use Rattle.salt_stands.specs.Coordinator.{coordinator_pair}
+use Rattle.salt_stands.specs.Stands.{logs_of}
+use Rattle.salt_storage.specs.Answers.{MayFail}
+use Rattle.salt_storage.specs.Storing.{IsSoundKept}
+use Rattle.salt_storage.specs.declared.found.Found as storage
+use Rattle.salt_storage.specs.declared.found.Numbers.{Numbers}
+use Rattle.salt_storage.specs.declared.halt.Halt.TheVariants.{DeviceFull}
+use Rattle.salt_storage.specs.declared.open.OpenErr.TheVariants.{Halted, NotSalt, NumbersSpent, OtherShape}
+use Rattle.salt_storage.specs.declared.open.OpenErr.{OpenErr}
+use Rattle.salt_values.specs.declared.placement.Shape.{Shape}
+use Rattle.std.proofs.Common.{Bool, IsTrue, List, Ok, Option, Some, ap, arith, false, inl, inr, refl, subst, sym, true, ℕ, ◌≡◌, ◌⊎◌, ◌∙◌}
+
+-- where nothing was written, what may come now came before
+pub still_left : (d e : View) (shape : Shape) (n : ℕ) (answer : Option DiskErr) → HasRoom d n → KeepsAll d e answer → (a b : Kept) → LeavesAs true d shape a b → Leaves e shape a b
+still_left d e shape n answer room keeps a b h told image left =
+    h (sym keeps.shape.told ∙ told) image
+    (λ dev low. room.settled dev low (image dev) (keeps.images dev (λ none. none) (image dev) (left dev (omega (arith, low, keeps.shape.count)))))
+
+-- and of disks that don't tell nothing is said
+pub mute_left : (e : View) (shape : Shape) (a b : Kept) → e.told ≡ false → Leaves e shape a b
+mute_left e shape a b mute told image left = absurd (cc (told, mute))
+
+pub left_bytes : (d : View) (shape : Shape) (a b : Kept) → LeavesAs true d shape a b → IsTrue d.told → IsLeft shape d.bytes a b
+left_bytes d shape a b h told = h told d.bytes (λ dev low. refl)
+
+-- what stands there is one thing
+one_kept : (shape : Shape) (image : ℕ → List ℕ) (k l : Kept) → StandsFor shape image k → StandsFor shape image l → k ≡ l
+one_kept shape image k l s t =
+    let both : Ok s.found ≡ Ok t.found = sym s.is ∙ t.is in
+    let same : s.found ≡ t.found = cc both in
+    sym s.keeps ∙ ap kept_in same ∙ t.keeps
+
+-- where memory did not run out it is recalled
+pub recalled : (shape : Shape) (x : Store) (n : Numbers) (p : Pending) (a b : Kept) → (p ≡ Lost → ⊥) → Remembers shape (Some x) n p a b → Recalls shape x n p a b
+recalled shape x n p a b not (inl lost) = absurd (not lost)
+recalled shape x n p a b not (inr r) = r
+
+-- HOW AN OPENING MAY FAIL there
+
+swapped : (a b : Kept) (e : OpenErr) → MayFail b a e → MayFail a b e
+swapped a b (NotSalt dev) h = h
+swapped a b (OtherShape kept asked) h = h
+swapped a b (NumbersSpent boot decisions) h = (h.0, by h.1)
+  where
+    by : ((boot ≡ b.boot) × (decisions ≡ b.decisions)) ⊎ ((boot ≡ a.boot) × (decisions ≡ a.decisions)) → ((boot ≡ a.boot) × (decisions ≡ a.decisions)) ⊎ ((boot ≡ b.boot) × (decisions ≡ b.decisions))
+    by (inl s) = inr s
+    by (inr s) = inl s
+swapped a b (Halted e) h = tt
+
+pub left_fails : (d : View) (shape : Shape) (a b : Kept) (e : OpenErr) → LeavesAs true d shape a b → IsTrue d.told → RefusedAs shape d.bytes e → MayFail a b e
+left_fails d shape a b e h told refused = by (left_bytes d shape a b h told).stands
+  where
+    by : StandsFor shape d.bytes a ⊎ StandsFor shape d.bytes b → MayFail a b e
+    by (inl s) = stands_fails shape d.bytes a b e s refused
+    by (inr s) = swapped a b e (stands_fails shape d.bytes b a e s refused)
+
+-- where a log was begun nothing is written
+pub unwritten_left : (d e : View) (shape : Shape) (n : ℕ) (answer : Option DiskErr) → HasRoom d n → SameShape d e → (IsTrue d.told → ¬ (coordinator_pair (logs_of d.bytes) ≡ BothBlank) → KeepsAll d e answer) → (a b : Kept) → LeavesAs true d shape a b
+    → Leaves e shape a b
+unwritten_left d e shape n answer room same kept a b h told image left =
+    let was : IsTrue d.told = sym same.told ∙ told in
+    still_left d e shape n answer room (kept was (left_bytes d shape a b h was).begun) a b h told image left
+
+-- what an opening may not answer is not told
+pub not_left : (d : View) (shape : Shape) (a b : Kept) (e : OpenErr) → LeavesAs true d shape a b → (MayFail a b e → (dev : ℕ) × (e ≡ Halted (DeviceFull dev))) → (IsTrue d.told → RefusedAs shape d.bytes e)
+    → ((dev : ℕ) → e ≡ Halted (DeviceFull dev) → IsTrue d.told → coordinator_pair (logs_of d.bytes) ≡ BothBlank) → IsTrue d.told → ⊥
+not_left d shape a b e h not refused blank told =
+    let full = not (left_fails d shape a b e h told (refused told)) in
+    (left_bytes d shape a b h told).begun (blank full.0 full.1 told)
+
+pub never : (b : Bool) (P : Type 0) → b ≡ false → (P → IsTrue b) → P → ⊥
+never b P not holds h = let both : IsTrue b = holds h in cc (both, not)
+
+-- WHAT IS OPENED there
+module _ (d e : View) (shape : Shape) (y : Store) (found : storage.Found) (o : OpensAs d e shape y found) (same : SameShape d e) where
+  pub has_shape : shape_of y.decisions ≡ shape
+  has_shape = o.held.is.decisions.holds.shape ∙ o.held.keeps.has_shape
+
+  abbrev numbers : Numbers
+  numbers = record { boot = found.boot; decisions = found.decisions }
+
+  module _ (a b : Kept) (h : LeavesAs true d shape a b) where
+    one_of : IsTrue d.told → (P : Kept → Type 0) → P o.kept → P a ⊎ P b
+    one_of told P is = by (left_bytes d shape a b h told).stands
+      where
+        by : StandsFor shape d.bytes a ⊎ StandsFor shape d.bytes b → P a ⊎ P b
+        by (inl s) = inl (subst P (one_kept shape d.bytes o.kept a (o.stood told) s) is)
+        by (inr s) = inr (subst P (one_kept shape d.bytes o.kept b (o.stood told) s) is)
+
+    numbers_are : AreNumbersOf numbers o.kept
+    numbers_are = record { boot = o.is_found.boot; decisions = o.is_found.decisions }
+
+    -- over disks that tell it has its rows and its numbers
+    pub found_there : IsTrue d.told → IsFoundAgain shape y numbers a ⊎ IsFoundAgain shape y numbers b
+    found_there told = one_of told (IsFoundAgain shape y numbers) (record { rows = held_rows e shape y o.kept o.held; numbers = numbers_are })
+
+    -- and where it has, it is held, whatever the disks tell
+    pub held_there : (x : Store) (n : Numbers) (p : Pending) → Recalls shape x n p a b → IsFoundAgain shape y numbers a ⊎ IsFoundAgain shape y numbers b → IsHeldAgain e shape y numbers a ⊎ IsHeldAgain e shape y numbers b
+    held_there x n p r again = by e.told refl again
+      where
+        mute : e.told ≡ false → (k : Kept) → IsSoundKept k → IsFoundAgain shape y numbers k → IsHeldAgain e shape y numbers k
+        mute not k sound f = record {
+          held = held_again_mute e not shape y o.held.which o.held.c o.held.v o.held.is o.held.keeps.has_shape o.held.keeps.format o.held.keeps.nulls k
+              (sym f.numbers.boot ∙ o.is_found.boot ∙ o.held.keeps.boot) (sym f.numbers.decisions ∙ o.is_found.decisions ∙ o.held.keeps.decisions) f.rows sound;
+          numbers = f.numbers;
+        }
+
+        by : (t : Bool) → e.told ≡ t → IsFoundAgain shape y numbers a ⊎ IsFoundAgain shape y numbers b → IsHeldAgain e shape y numbers a ⊎ IsHeldAgain e shape y numbers b
+        by true told f = one_of (sym same.told ∙ told) (IsHeldAgain e shape y numbers) (record { held = o.held; numbers = numbers_are })
+        by false not (inl f) = inl (mute not a r.sound f)
+        by false not (inr f) = inr (mute not b r.sound_after f)
+
+    -- what is not remembered was not told
+    pub mute_there : (x : Store) (n : Numbers) (p : Pending) (has : Bool) → has ≡ false → Tells x y n numbers p has → (p ≡ Lost → ⊥) → Remembers shape (Some x) n p a b → e.told ≡ false
+    mute_there x n p has fails tells not r =
+        not_told e.told (λ now.
+        let found_is : IsTrue has = (tells shape a b has_shape (recalled shape x n p a b not r)).1 (found_there (sym same.told ∙ now)) in
+        cc (found_is, fails))
+
+    -- and what is remembered is held
+    pub holds_there : (x : Store) (n : Numbers) (p : Pending) (has : Bool) → has ≡ true → Tells x y n numbers p has → (p ≡ Lost → ⊥) → Remembers shape (Some x) n p a b → IsHeldAgain e shape y numbers a ⊎ IsHeldAgain e shape y numbers b
+    holds_there x n p has is tells not r =
+        let was = recalled shape x n p a b not r in
+        held_there x n p was ((tells shape a b has_shape was).0 is)

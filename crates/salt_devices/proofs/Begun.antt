@@ -1,0 +1,93 @@
+-- A first opening, by what it may come upon.
+use Rattle.salt_commit.specs.Openings.{StorePassesLimit}
+use Rattle.salt_commit.specs.declared.store.Store.{Store}
+use Rattle.salt_devices.proofs.Known.{stands_fails}
+use Rattle.salt_devices.proofs.Started.{able_on}
+use Rattle.salt_devices.specs.Filling.{FillsIn}
+use Rattle.salt_devices.specs.Holding.{IsAble}
+use Rattle.salt_devices.specs.Leaving.{CanOpen, Stands, StandsFor}
+use Rattle.salt_devices.specs.Opened.{OpensAs}
+use Rattle.salt_devices.specs.Refusing.{ComesUpon, Finds, RefusedAs, Refuses}
+use Rattle.salt_devices.specs.Standing.{StandsHeld}
+use Rattle.salt_devices.specs.declared.pending.Pending.TheVariants.{Nothing, Opening}
+use Rattle.salt_devices.specs.declared.pending.Pending.{Pending}
+use Rattle.salt_disk.specs.Disks.{IsImage, SameShape, View}
+use Rattle.salt_model.specs.Kept.{Kept}
+use Rattle.salt_storage.specs.Writing.{FindsNoMore, OfOpening}
+use Rattle.salt_storage.specs.declared.found.Found.{Found}
+use Rattle.salt_storage.specs.Answers.{IsLater, MayFail}
+use Rattle.salt_storage.specs.declared.halt.Halt.TheVariants.{Stopped}
+use Rattle.salt_storage.specs.declared.open.OpenErr.TheVariants.{Halted, NotSalt, NumbersSpent, OtherShape}
+use Rattle.salt_storage.specs.declared.open.OpenErr.{OpenErr}
+use Rattle.salt_values.specs.declared.placement.PlaceKind.{PlaceKind}
+use Rattle.salt_values.specs.declared.placement.Shape.{Shape}
+use Rattle.salt_values.specs.declared.value.Value.{Value}
+use Rattle.std.specs.Borrow.{Bor}
+use Rattle.std.proofs.Common.{Bool, IsTrue, List, Some, false, inl, inr, refl, subst, sym, true, ℕ, ◌≡◌, ◌≢◌, ◌⊎◌, ◌∙◌}
+
+-- what was started holds its bytes
+pub upon_bytes : (d : View) (started : Bool) (P : (ℕ → List ℕ) → Type 0) → started ≡ true → P d.bytes → ComesUpon d started P
+upon_bytes d started P is h = subst (λ (b : Bool). ComesUpon d b P) (sym is) (record { image = d.bytes; comes = λ dev low. refl; is = h })
+
+-- a limit is the same behind a call
+pub passes_on : (d e : View) (shape : Shape) (dev : ℕ) → SameShape d e → (IsTrue d.told → StorePassesLimit d.limit shape dev) → FillsIn e shape OfOpening dev
+passes_on d e shape dev same h told =
+    let limits : d.limit ≡ e.limit = λ i k. sym (same.limit k) i in
+    subst (λ (limit : ℕ → ℕ). StorePassesLimit limit shape dev) limits (h (sym same.told ∙ told))
+
+-- behind an opening that failed, an image refuses and finds what the bytes did
+module _ (d e : View) (shape : Shape) (same : SameShape d e) (was now : Bool) (started : was ≡ true) (called : now ≡ false)
+    (still : IsTrue d.told → (image : ℕ → List ℕ) → IsImage e image → FindsNoMore (RefusedAs shape d.bytes) (StandsFor shape d.bytes) (RefusedAs shape image) (StandsFor shape image)) where
+  came : (P : (ℕ → List ℕ) → Type 0) → ComesUpon e now P → ComesUpon e false P
+  came P h = subst (λ (b : Bool). ComesUpon e b P) called h
+
+  pub no_more : FindsNoMore (Refuses d was shape) (Finds d was shape) (Refuses e now shape) (Finds e now shape)
+  no_more = record {
+    refuses_no_more = λ r h told.
+        let u = came (λ image. RefusedAs shape image r) (h (same.told ∙ told)) in
+        upon_bytes d was (λ image. RefusedAs shape image r) started ((still told u.image u.comes).refuses_no_more r u.is);
+    finds_no_more = λ k h told.
+        let u = came (λ image. StandsFor shape image k) (h (same.told ∙ told)) in
+        upon_bytes d was (λ image. StandsFor shape image k) started ((still told u.image u.comes).finds_no_more k u.is);
+  }
+
+-- WHAT IS OPENED is held, and was found there
+module _ (d e : View) (shape : Shape) (x : Store) (found : Found) (o : OpensAs d e shape x found) where
+  pub opened_held : (pre : PlaceKind → Bor Value → ℕ → Type 0) (post : PlaceKind → Bor Value → ℕ → ℕ → Type 0) → IsAble pre post shape d → SameShape d e
+      → StandsHeld pre post shape false (Some x) (record { boot = found.boot; decisions = found.decisions }) Nothing e o.kept
+  opened_held pre post able same = record {
+    able = able_on pre post shape d e same able;
+    called = refl;
+    nothing = refl;
+    numbers = record { boot = o.is_found.boot; decisions = o.is_found.decisions };
+    held = o.held;
+  }
+
+  pub opened_finds : (started : Bool) → started ≡ true → Finds d started shape o.kept
+  opened_finds started is told = upon_bytes d started (λ image. StandsFor shape image o.kept) is (o.stood told)
+
+-- BROKEN OFF by a stop, or otherwise
+
+abbrev pub IsPending : Pending → OpenErr → Type 0
+IsPending p err = ((p ≡ Opening) × (err ≡ Halted Stopped)) ⊎ ((p ≡ Nothing) × (err ≢ Halted Stopped))
+
+pub tried_behind : (p : Pending) (err : OpenErr) → IsPending p err → err ≡ Halted Stopped → p ≡ Opening
+tried_behind p err (inl h) is = h.0
+tried_behind p err (inr h) is = absurd (h.1 is)
+
+pub opens_behind : (d e : View) (shape : Shape) (p : Pending) (err : OpenErr) → SameShape d e → IsPending p err
+    → (err ≡ Halted Stopped → IsTrue d.told → (image : ℕ → List ℕ) → IsImage e image → Stands shape image) → CanOpen p false e shape
+opens_behind d e shape p err same (inl h) stopped is told image comes = stopped h.1 (sym same.told ∙ told) image comes
+opens_behind d e shape p err same (inr h) stopped is told image comes = absurd (cc (h.0, is))
+
+later_of : (a b : Kept) (err : OpenErr) → MayFail a b err → IsLater err
+later_of a b (NotSalt dev) h = h
+later_of a b (OtherShape kept asked) h = h
+later_of a b (NumbersSpent boot decisions) h = tt
+later_of a b (Halted e) h = tt
+
+-- what stands for something is not refused
+pub not_refused : (d : View) (shape : Shape) (p : Pending) (err : OpenErr) → CanOpen p true d shape → p ≡ Opening → IsTrue d.told → RefusedAs shape d.bytes err → IsLater err
+not_refused d shape p err can is told refused =
+    let s = can is told d.bytes (λ dev low. refl) in
+    later_of s.0 s.0 err (stands_fails shape d.bytes s.0 s.0 err s.1 refused)

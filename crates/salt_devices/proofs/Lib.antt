@@ -1,0 +1,28 @@
+mod Halts
+pub mod Stores
+mod Kept
+mod Limits
+mod Filled
+mod Untouched
+mod Limited
+mod Started
+mod Remembered
+mod Loading
+mod Standing
+mod Renaming
+mod Renamed
+mod Sound
+mod Entered
+mod Booting
+mod Committing
+mod Decided
+pub mod Answered
+pub mod Known
+mod Begun
+mod Fitting
+mod Opening
+mod Deciding
+mod Reheld
+mod Refound
+mod Anew
+mod Refused

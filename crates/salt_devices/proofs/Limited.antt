@@ -1,0 +1,79 @@
+-- A unit's commit that met a limit left the pair of the log that was full as it was.
+use Rattle.salt_bytes.specs.Generations.{Counts, LogA, LogB, WhichLog}
+use Rattle.salt_commit.proofs.Standing.{apart_from_other, apart_from_part, if_some, part_at}
+use Rattle.salt_commit.specs.Commits.{IsCommitLog, shares_in}
+use Rattle.salt_commit.specs.Prepares.{IsLogOfShares}
+use Rattle.salt_commit.specs.Stores.{decided_by}
+use Rattle.salt_commit.specs.declared.store.Store.{Store}
+use Rattle.salt_devices.proofs.Untouched.{entry_stays, share_stays}
+use Rattle.salt_devices.specs.Filling.{EntryFills, FillsIn, ShareFills, next_decision}
+use Rattle.salt_devices.specs.Holding.{IsHeld}
+use Rattle.salt_disk.specs.Disks.{IsUnchanged, KeepsBut, View}
+use Rattle.salt_disk.specs.declared.disks.DiskErr.TheVariants.{Full}
+use Rattle.salt_bytes.specs.declared.moves.Move.{Move}
+use Rattle.salt_model.specs.Kept.{Kept}
+use Rattle.salt_partition.specs.Partitions.{IsPartition}
+use Rattle.salt_stands.specs.Coordinator.{device_of}
+use Rattle.salt_stands.specs.Partition.{part_device}
+use Rattle.salt_stands.specs.Pieces.{other_log}
+use Rattle.salt_storage.specs.Writing.{OfUnit}
+use Rattle.salt_values.specs.declared.change.Change.{Change}
+use Rattle.salt_values.specs.declared.id.Id.{Id}
+use Rattle.salt_values.specs.declared.placement.Shape.{Shape}
+use Rattle.std.proofs.Common.{IsTrue, List, Some, ap, arith, inl, inr, length, slice_get, sym, ℕ, ◌+◌, ◌<◌, ◌≡◌, ◌≢◌, ◌⊎◌, ◌∙◌}
+
+same_which : {L : Type 0} (w z : WhichLog) (x y : L) → Counts w x ≡ Counts z y → w ≡ z
+same_which w z x y is = cc
+
+-- DEVICES of logs
+apart_from_parts : (w : WhichLog) (q : ℕ) (z : WhichLog) → device_of 0 w ≢ device_of (part_device q) z
+apart_from_parts w q LogA is = apart_from_part w q 0 (omega (arith, is))
+apart_from_parts w q LogB is = apart_from_part w q 1 (omega (arith, is))
+
+one_part : (p q : ℕ) (w z : WhichLog) → device_of (part_device p) w ≡ device_of (part_device q) z → p ≡ q
+one_part p q LogA LogA is = omega (arith, is)
+one_part p q LogA LogB is = omega (arith, is)
+one_part p q LogB LogA is = omega (arith, is)
+one_part p q LogB LogB is = omega (arith, is)
+
+differs : (w : WhichLog) (a : ℕ) → device_of a (other_log w) ≢ device_of a w
+differs LogA a is = omega (arith, is)
+differs LogB a is = omega (arith, is)
+
+module _ (d e : View) (shape : Shape) (x : Store) (k : Kept) (h : IsHeld d shape x k) (cs : List Change) (n : ℕ) (others : KeepsBut (IsCommitLog x cs) d e (Some (Full n))) (same : IsUnchanged d e n) where
+  share_device : (dev : ℕ) (t : IsLogOfShares x.parts.items (shares_in x cs) (length x.parts.items) dev) → dev ≡ device_of (part_device t.p) (h.v t.p).which
+  share_device dev t = t.log.device ∙ (if_some (slice_get x.parts.items t.p) t.x (λ y. IsPartition d y t.p (h.v t.p) (decided_by h.c t.p)) t.at (h.is.parts.each t.p)).device
+
+  -- the log of a pair that does not count is written by no commit
+  coordinator_apart : ¬ IsCommitLog x cs (device_of 0 (other_log h.which))
+  coordinator_apart (inl is) = apart_from_other h.which (is ∙ h.is.decisions.counting.device)
+  coordinator_apart (inr t) = apart_from_parts (other_log h.which) t.p (h.v t.p).which (share_device (device_of 0 (other_log h.which)) t)
+
+  part_apart : (p : ℕ) → ¬ IsCommitLog x cs (device_of (part_device p) (other_log (h.v p).which))
+  part_apart p (inl is) = apart_from_parts h.which p (other_log (h.v p).which) (sym h.is.decisions.counting.device ∙ sym is)
+  part_apart p (inr t) =
+      let is : device_of (part_device p) (other_log (h.v p).which) ≡ device_of (part_device t.p) (h.v t.p).which = share_device (device_of (part_device p) (other_log (h.v p).which)) t in
+      let one : p ≡ t.p = one_part p t.p (other_log (h.v p).which) (h.v t.p).which is in
+      differs (h.v p).which (part_device p) (is ∙ ap (λ q. device_of (part_device q) (h.v q).which) (sym one))
+
+  pair_stays : (a : ℕ) (w : WhichLog) → n ≡ device_of a w → ¬ IsCommitLog x cs (device_of a (other_log w)) → (e.bytes a ≡ d.bytes a) × (e.bytes (a + 1) ≡ d.bytes (a + 1))
+  pair_stays a LogA is not = (ap e.bytes (sym is) ∙ same.bytes ∙ ap d.bytes is, (others.kept (a + 1) not).bytes)
+  pair_stays a LogB is not = ((others.kept a not).bytes, ap e.bytes (sym is) ∙ same.bytes ∙ ap d.bytes is)
+
+  pub unit_stays : (u : Id) (m : Move) → FillsIn d shape (OfUnit u cs m) n → FillsIn e shape (OfUnit u cs m) n
+  unit_stays u m fills told = by (fills was)
+    where
+      was : IsTrue d.told
+      was = sym others.shape.told ∙ told
+
+      by : EntryFills d (next_decision shape u cs m) n ⊎ ShareFills d shape u cs n → EntryFills e (next_decision shape u cs m) n ⊎ ShareFills e shape u cs n
+      by (inl f) =
+          let w : f.which ≡ h.which = same_which f.which h.which f.log h.c.log (sym f.counts ∙ h.is.decisions.counting.counts was) in
+          let p = pair_stays 0 h.which (f.device ∙ ap (device_of 0) w) coordinator_apart in
+          inl (entry_stays d e others.shape (next_decision shape u cs m) n p.0 p.1 f)
+      by (inr f) =
+          let low : f.p < length x.parts.items = omega (arith, f.low, h.is.size, ap (λ (s : Shape). s.parts) h.keeps.has_shape) in
+          let is = (part_at d x.parts.items h.v (decided_by h.c) h.is.parts f.p low).1 in
+          let w : f.which ≡ (h.v f.p).which = same_which f.which (h.v f.p).which f.log (h.v f.p).log (sym f.counts ∙ (is.told was).counts) in
+          let p = pair_stays (part_device f.p) (h.v f.p).which (f.device ∙ ap (device_of (part_device f.p)) w) (part_apart f.p) in
+          inr (share_stays d e others.shape shape u cs n f p.0 p.1)

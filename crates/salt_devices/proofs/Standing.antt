@@ -1,0 +1,201 @@
+-- A database behind a call on its devices.
+use Rattle.salt_bytes.specs.Generations.{WhichLog}
+use Rattle.salt_commit.proofs.Standing.{partitions_kept}
+use Rattle.salt_commit.specs.Stores.{IsStore, decided_by, reading, rows_of_store}
+use Rattle.salt_commit.specs.declared.store.Store.{Store}
+use Rattle.salt_decisions.specs.Decisions.{IsDecisions}
+use Rattle.salt_decisions.specs.declared.decisions.Decisions.{Decisions}
+use Rattle.salt_devices.proofs.Remembered.{held_in, recalls}
+use Rattle.salt_devices.proofs.Started.{able_on, called, leaves_again, opened, opens_again, settled_again, upon_again}
+use Rattle.salt_devices.proofs.Stores.{held_again, held_leaves}
+use Rattle.salt_devices.specs.Holding.{CanStart, HoldsIn, IsAble, IsHeld, IsNewTo}
+use Rattle.salt_devices.specs.Leaving.{Leaves, LeavesAs, StandsFor}
+use Rattle.salt_devices.specs.Opened.{IsHeldAgain}
+use Rattle.salt_devices.specs.Refusing.{Finds, RefusedAs, Refuses}
+use Rattle.salt_devices.specs.Remembering.{AreNumbersOf, MayFollow, Remembers}
+use Rattle.salt_devices.specs.Standing.{StandsHeld, StandsLeft, StandsStarted}
+use Rattle.salt_devices.specs.declared.pending.Pending.TheVariants.{Boot, Decision, Lost, Nothing, Opening}
+use Rattle.salt_devices.specs.declared.pending.Pending.TheVariants as pending
+use Rattle.salt_devices.specs.declared.pending.Pending.{Pending}
+use Rattle.salt_disk.specs.Disks.{AreUnchanged, IsRestarted, IsSettled, SameShape, View}
+use Rattle.salt_gatelog.proofs.Frame.{log_kept}
+use Rattle.salt_model.specs.Kept.{Definition, Kept}
+use Rattle.salt_stands.specs.Coordinator.{Coordinator, coordinator_pair, device_of}
+use Rattle.salt_stands.specs.CoordinatorLog.{CoordinatorLog}
+use Rattle.salt_stands.specs.Partition.{part_device, part_pair}
+use Rattle.salt_stands.specs.Pieces.{PartView, other_log}
+use Rattle.salt_stands.specs.Stands.{logs_of}
+use Rattle.salt_storage.specs.Storing.{IsSoundKept, Reopens, decided}
+use Rattle.salt_storage.specs.Writing.{FindsNoMore}
+use Rattle.salt_storage.specs.declared.found.Numbers.{Numbers}
+use Rattle.salt_storage.specs.declared.halt.Halt.TheVariants.{Memory}
+use Rattle.salt_storage.specs.declared.halt.Halt.{Halt}
+use Rattle.salt_values.specs.declared.change.Change.{Change}
+use Rattle.salt_values.specs.declared.cont.Cont.{Cont}
+use Rattle.salt_values.specs.declared.id.Id.{Id}
+use Rattle.salt_values.specs.declared.placement.PlaceKind.{PlaceKind}
+use Rattle.salt_values.specs.declared.placement.Shape.{Shape}
+use Rattle.salt_values.specs.declared.value.Value.{Value}
+use Rattle.std.specs.Borrow.{Bor}
+use Rattle.std.proofs.Common.{Bool, List, None, Option, Some, ap, arith, false, inl, inr, refl, subst, sym, true, ℕ, ◌+◌, ◌≡◌, ◌≢◌, ◌⊎◌, ◌∙◌}
+
+-- behind what was being written over a store
+pub not_opening : (q : Pending) (a b : Kept) → MayFollow q a b → q ≡ Opening → ⊥
+not_opening Nothing a b h is = absurd (cc is)
+not_opening Opening a b h is = h
+not_opening Boot a b h is = absurd (cc is)
+not_opening pending.Definition a b h is = absurd (cc is)
+not_opening (Decision cs) a b h is = absurd (cc is)
+not_opening Lost a b h is = absurd (cc is)
+
+-- A STORE ON DEVICES that are as they were
+
+module _ (d e : View) (same : AreUnchanged d e) where
+  same_bytes : e.bytes ≡ d.bytes
+  same_bytes = λ i dev. (same.each dev).bytes i
+
+  still_settled : (dev : ℕ) → IsSettled d dev → IsSettled e dev
+  still_settled dev settled image left = settled image ((same.each dev).images image left) ∙ sym (same.each dev).bytes
+
+  decisions_unchanged : (x : Decisions) (which : WhichLog) (log : CoordinatorLog) → IsDecisions d x which log → IsDecisions e x which log
+  decisions_unchanged x which log is =
+      let c = is.counting in
+      record {
+        own = is.own;
+        holds = is.holds;
+        counting = record {
+          entries = c.entries;
+          is_log = log_kept d e x.gate c.entries same.shape (same.each x.gate.dev) c.is_log;
+          device = c.device;
+          known = omega (arith, c.known, same.shape.count);
+          other = still_settled (device_of 0 (other_log which)) c.other;
+          counts = λ told. ap (λ bytes. coordinator_pair (logs_of bytes)) same_bytes ∙ c.counts (sym same.shape.told ∙ told);
+        };
+      }
+
+  store_unchanged : (x : Store) (which : WhichLog) (c : Coordinator Definition) (v : ℕ → PartView) → IsStore reading d x which c v → IsStore reading e x which c v
+  store_unchanged x which c v is = record {
+    decisions = decisions_unchanged x.decisions which c.log is.decisions;
+    size = is.size;
+    parts = partitions_kept d e x.parts.items v (decided_by c) same.shape (λ p. same.each (part_device p)) (λ p. same.each (part_device p + 1)) is.parts;
+    sound = λ told. is.sound (sym same.shape.told ∙ told);
+  }
+
+  held_unchanged : (shape : Shape) (x : Store) (k : Kept) → IsHeld d shape x k → IsHeld e shape x k
+  held_unchanged shape x k h = held_again d e shape x x k h (store_unchanged x h.which h.c h.v h.is)
+
+  pub stays_new : (u : Id) → IsNewTo d u → IsNewTo e u
+  stays_new u new told c v is =
+      new (sym same.shape.told ∙ told) c v
+      (record {
+        which = is.which;
+        counts = ap (λ bytes. coordinator_pair (logs_of bytes)) (sym same_bytes) ∙ is.counts;
+        parts = λ p low. ap (λ bytes. part_pair p (logs_of bytes)) (sym same_bytes) ∙ is.parts p low;
+      })
+
+module _ (pre : PlaceKind → Bor Value → ℕ → Type 0) (post : PlaceKind → Bor Value → ℕ → ℕ → Type 0) (shape : Shape) (started : Bool) (o : Option Store) (n : Numbers) (p : Pending) (d : View) where
+  -- a law: what is held is left
+  pub held_left : (k : Kept) → StandsHeld pre post shape started o n p d k → StandsLeft pre post shape started o n p d k k
+  held_left k h = by o h.held
+    where
+      by : (o' : Option Store) → HoldsIn d shape o' k → StandsLeft pre post shape started o' n p d k k
+      by None none = absurd none
+      by (Some x) held = record {
+        can = record { able = h.able; settled = λ is. absurd (cc (is, h.called)); opens = λ is. absurd (cc (is, h.nothing)) };
+        leaves = subst (λ (b : Bool). LeavesAs b d shape k k) (sym h.called) (held_leaves d shape x k held k);
+        remembers = inr (recalls d shape x x n p k k held refl h.numbers (subst (λ q. MayFollow q k k) (sym h.nothing) refl) held.kept);
+      }
+
+  module _ (x : Store) (is : o ≡ Some x) (k : Kept) (h : StandsHeld pre post shape started o n p d k) where
+    pub the_store : IsHeld d shape x k
+    the_store = held_in d shape o x k is h.held
+
+    -- behind a call that went well
+    pub goes_on : (e : View) (y : Store) (m : Numbers) (k' : Kept) → SameShape d e → IsHeld e shape y k' → AreNumbersOf m k' → StandsHeld pre post shape started (Some y) m p e k'
+    goes_on e y m k' same held numbers = record { able = able_on pre post shape d e same h.able; called = h.called; nothing = h.nothing; numbers = numbers; held = held }
+
+    -- behind one that did not, with what was being written
+    pub breaks_off : (e : View) (y : Store) (q : Pending) (k' : Kept) → SameShape d e → Leaves e shape k k' → rows_of_store y ≡ rows_of_store x → MayFollow q k k' → IsSoundKept k'
+        → StandsLeft pre post shape started (Some y) n q e k k'
+    breaks_off e y q k' same leaves rows follows sound = record {
+      can = called pre post shape started q d e h.called same h.able (opened q started e shape (not_opening q k k' follows));
+      leaves = subst (λ (b : Bool). LeavesAs b e shape k k') (sym h.called) leaves;
+      remembers = inr (recalls d shape x y n q k k' the_store rows h.numbers follows sound);
+    }
+
+    -- and where memory ran out within it
+    pub is_lost : (e : View) (y : Store) (q : Pending) (k' : Kept) → SameShape d e → Leaves e shape k k' → q ≡ Lost → StandsLeft pre post shape started (Some y) n q e k k'
+    is_lost e y q k' same leaves lost = record {
+      can = called pre post shape started q d e h.called same h.able (opened q started e shape (λ is. let both : Lost ≡ Opening = sym lost ∙ is in cc both));
+      leaves = subst (λ (b : Bool). LeavesAs b e shape k k') (sym h.called) leaves;
+      remembers = inl lost;
+    }
+
+    -- of a unit: memory ran out within it, or its changes are remembered and the rows are as before
+    pub unit_breaks_off : (e : View) (y : Store) (q : Pending) (cs : List Change) (conts : List Cont) (err : Halt) → SameShape d e → Leaves e shape k (decided k cs conts)
+        → (q ≡ Lost) ⊎ ((q ≡ Decision cs) × (err ≢ Memory)) → (err ≢ Memory → rows_of_store y ≡ rows_of_store x) → IsSoundKept (decided k cs conts)
+        → StandsLeft pre post shape started (Some y) n q e k (decided k cs conts)
+    unit_breaks_off e y q cs conts err same leaves (inl lost) rows sound = is_lost e y q (decided k cs conts) same leaves lost
+    unit_breaks_off e y q cs conts err same leaves (inr r) rows sound =
+        breaks_off e y q (decided k cs conts) same leaves (rows r.1) (subst (λ z. MayFollow z k (decided k cs conts)) (sym r.0) (conts, refl)) sound
+
+  -- where nothing was done on the devices
+  pub armed : (e : View) → AreUnchanged d e → (k : Kept) → StandsHeld pre post shape started o n p d k → StandsHeld pre post shape started o n p e k
+  armed e same k h = record { able = able_on pre post shape d e same.shape h.able; called = h.called; nothing = h.nothing; numbers = h.numbers; held = by o h.held }
+    where
+      by : (o' : Option Store) → HoldsIn d shape o' k → HoldsIn e shape o' k
+      by None none = none
+      by (Some x) held = held_unchanged d e same shape x k held
+
+  -- STARTED AGAIN
+  module _ (e : View) (again : IsRestarted d e) (can : CanStart pre post shape started p d) where
+    pub starts : StandsStarted pre post shape true p e
+    starts = record { able = able_on pre post shape d e again.shape can.able; settled = settled_again d e again; started_now = refl; opens = opens_again d e again started can.settled p shape can.opens }
+
+    pub found_again : FindsNoMore (Refuses d started shape) (Finds d started shape) (Refuses e true shape) (Finds e true shape)
+    found_again = record {
+      refuses_no_more = λ r h. upon_again d e again started can.settled (λ image. RefusedAs shape image r) h;
+      finds_no_more = λ k h. upon_again d e again started can.settled (λ image. StandsFor shape image k) h;
+    }
+
+    pub left_again : (a b : Kept) → StandsLeft pre post shape started o n p d a b → StandsLeft pre post shape true o n p e a b
+    left_again a b h = record {
+      can = record { able = able_on pre post shape d e again.shape can.able; settled = λ is. settled_again d e again; opens = opens_again d e again started can.settled p shape can.opens };
+      leaves = leaves_again d e again started can.settled shape a b h.leaves;
+      remembers = h.remembers;
+    }
+
+-- OPENED ANEW, where the devices were started
+module _ (pre : PlaceKind → Bor Value → ℕ → Type 0) (post : PlaceKind → Bor Value → ℕ → ℕ → Type 0) (shape : Shape) (started : Bool) (o : Option Store) (n : Numbers) (p : Pending) (d : View)
+    (is_started : started ≡ true) (x : Store) (is : o ≡ Some x) where
+  module _ (a b : Kept) (h : StandsLeft pre post shape started o n p d a b) where
+    pub the_left : LeavesAs true d shape a b
+    the_left = subst (λ (s : Bool). LeavesAs s d shape a b) is_started h.leaves
+
+    pub the_memory : Remembers shape (Some x) n p a b
+    the_memory = subst (λ v. Remembers shape v n p a b) is h.remembers
+
+    not_first : Remembers shape (Some x) n p a b → p ≡ Opening → ⊥
+    not_first (inl lost) first = let both : Lost ≡ Opening = sym lost ∙ first in cc both
+    not_first (inr r) first = not_opening p a b r.follows first
+
+    -- what an error leaves
+    pub left_behind : (e : View) → SameShape d e → Leaves e shape a b → StandsLeft pre post shape false o n p e a b
+    left_behind e same leaves = record {
+      can = called pre post shape false p d e refl same h.can.able (opened p false e shape (not_first the_memory));
+      leaves = leaves;
+      remembers = h.remembers;
+    }
+
+  -- what is held again
+  pub refound : (e : View) (y : Store) (m : Numbers) (k : Kept) → SameShape d e → IsAble pre post shape d → IsHeldAgain e shape y m k → Reopens (StandsHeld pre post shape false (Some y) m Nothing e) m k
+  refound e y m k same able h = record {
+    holding = record { able = able_on pre post shape d e same able; called = refl; nothing = refl; numbers = h.numbers; held = h.held };
+    boot = h.numbers.boot;
+    decisions = h.numbers.decisions;
+  }
+
+  pub refound_either : (e : View) (y : Store) (m : Numbers) (a b : Kept) → SameShape d e → IsAble pre post shape d → IsHeldAgain e shape y m a ⊎ IsHeldAgain e shape y m b
+      → Reopens (StandsHeld pre post shape false (Some y) m Nothing e) m a ⊎ Reopens (StandsHeld pre post shape false (Some y) m Nothing e) m b
+  refound_either e y m a b same able (inl h) = inl (refound e y m a same able h)
+  refound_either e y m a b same able (inr h) = inr (refound e y m b same able h)

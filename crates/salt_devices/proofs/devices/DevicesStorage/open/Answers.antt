@@ -1,0 +1,48 @@
+use Rattle.salt_devices.proofs.Begun.{no_more, opened_finds, opened_held, opens_behind, passes_on, tried_behind, upon_bytes}
+use Rattle.salt_devices.proofs.Started.{called}
+use Rattle.salt_devices.proofs.devices.DevicesStorage.open.Goals as goal
+use Rattle.salt_devices.specs.Leaving.{CanOpen}
+use Rattle.salt_storage.specs.declared.halt.Halt.TheVariants.{DeviceFull}
+use Rattle.salt_storage.specs.declared.open.OpenErr.TheVariants.{Halted}
+use Rattle.std.proofs.Common.{Bool, Err, ap, refl, subst, ◌≡◌}
+
+pub open_first-requires-clause-room : goal.open_first-requires-clause-room
+open_first-requires-clause-room g c = record { known = c.requires.settled.able.room; settled = c.requires.settled.settled.each }
+
+pub open_first-requires-clause-opens : goal.open_first-requires-clause-opens
+open_first-requires-clause-opens g c =
+    subst (λ (b : Bool). CanOpen c.args.self.now.pending b (g.D.Disks.view c.args.disks.now) c.args.self.now.shape) c.requires.settled.started_now c.requires.settled.opens
+
+pub returns-in-Ok-clause-holds : goal.returns-in-Ok-clause-holds
+returns-in-Ok-clause-holds g c =
+    let d = g.D.Disks.view c.args.disks.now in
+    let e = g.D.Disks.view c.open_first.new.disks in
+    let o = c.in-Ok.ensures.ok in
+    let x = c.args.self.now in (
+      o.kept,
+      opened_held d e x.shape c.in-Ok.store c.in-Ok.found o _ _ c.requires.settled.able c.in-Ok.ensures.shape,
+      o.is_found,
+      opened_finds d e x.shape c.in-Ok.store c.in-Ok.found o x.started c.requires.settled.started_now,
+    )
+
+pub returns-in-Err-clause-refuses : goal.returns-in-Err-clause-refuses
+returns-in-Err-clause-refuses g c told = upon_bytes (g.D.Disks.view c.args.disks.now) c.args.self.now.started _ c.requires.settled.started_now (c.in-Err.ensures.err told)
+
+pub returns-in-Err-clause-still : goal.returns-in-Err-clause-still
+returns-in-Err-clause-still g c =
+    no_more (g.D.Disks.view c.args.disks.now) (g.D.Disks.view c.open_first.new.disks) c.args.self.now.shape c.in-Err.ensures.shape c.args.self.now.started _ c.requires.settled.started_now refl c.in-Err.ensures.still
+
+pub returns-in-Err-clause-tried : goal.returns-in-Err-clause-tried
+returns-in-Err-clause-tried g c is = tried_behind _ c.in-Err.e c.pending_opening.ensures (cc is)
+
+pub returns-in-Err-clause-able : goal.returns-in-Err-clause-able
+returns-in-Err-clause-able g c =
+    let d = g.D.Disks.view c.args.disks.now in
+    let e = g.D.Disks.view c.open_first.new.disks in
+    called _ _ _ _ _ d e refl c.in-Err.ensures.shape c.requires.settled.able
+    (opens_behind d e c.args.self.now.shape _ c.in-Err.e c.in-Err.ensures.shape c.pending_opening.ensures (λ is. c.in-Err.ensures.stopped (ap Err is)))
+
+pub returns-in-Err-clause-full : goal.returns-in-Err-clause-full
+returns-in-Err-clause-full g c dev is =
+    let full : c.in-Err.e ≡ Halted (DeviceFull dev) = cc is in
+    passes_on (g.D.Disks.view c.args.disks.now) (g.D.Disks.view c.open_first.new.disks) c.args.self.now.shape dev c.in-Err.ensures.shape (c.in-Err.ensures.full dev (ap Err full))

@@ -1,0 +1,142 @@
+use Rattle.salt_bytes.specs.Generations.{BothBlank}
+use Rattle.salt_commit.proofs.Opened.{same_bytes}
+use Rattle.salt_commit.proofs.Opening.{nothing, opens_at}
+use Rattle.salt_commit.proofs.Standing.{if_some}
+use Rattle.salt_commit.specs.Openings.{IsStoreLog}
+use Rattle.salt_decisions.specs.Errors.{disk_err_in}
+use Rattle.salt_devices.proofs.Opening.{disk_answer, is_open, new_stands, opened_newest, opens_as, refused_as, still_opened, still_unwritten, stopped_blank}
+use Rattle.salt_devices.proofs.open.open_devices.Goals as goal
+use Rattle.salt_devices.proofs.Refused.{refused_unchanged}
+use Rattle.salt_devices.specs.Errors.{open_err_of}
+use Rattle.salt_devices.specs.Refusing.{RefusedAs}
+use Rattle.salt_disk.proofs.CallAfterCall.{keeps_on, shape_goes_on}
+use Rattle.salt_disk.specs.Disks.{KeepsAll}
+use Rattle.salt_gatelog.proofs.Entries.{not_told}
+use Rattle.salt_stands.specs.Coordinator.{coordinator_pair}
+use Rattle.salt_stands.specs.Stands.{logs_of}
+use Rattle.std.proofs.Common.{IsTrue, List, None, Ok, ap, subst, sym, ℕ, ◌≡◌, ◌∙◌}
+use Rattle.std.proofs.lemmas.Result.{err_from_is_err_and}
+
+pub returns-in_err-schema-clause-err : goal.returns-in_err-schema-clause-err
+returns-in_err-schema-clause-err g c told =
+    let p = err_from_is_err_and c.from_residual.result c.from_residual.ensures.1 in
+    rw (p.1, p.2) (c.in_err-schema.ensures.err told c.args.shape)
+
+pub returns-in_err-schema-clause-still : goal.returns-in_err-schema-clause-still
+returns-in_err-schema-clause-still g c =
+    let p = err_from_is_err_and c.from_residual.result c.from_residual.ensures.1 in
+    rw p.1 (λ told image left. still_unwritten (g.D.Disks.view c.args.disks.now) c.args.shape c.requires.parts c.requires.room (g.D.Disks.view c.schema_of_log.new.disks) _ c.in_err-schema.ensures.kept image left)
+
+pub returns-in-Ok-Some-clause-ok : goal.returns-in-Ok-Some-clause-ok
+returns-in-Ok-Some-clause-ok g c =
+    let d = g.D.Disks.view c.args.disks.now in
+    let b = g.D.Disks.view c.schema_of_log.new.disks in
+    let e = g.D.Disks.view c.open_store.new.disks in
+    let first = c.in_ok-schema.ensures.kept in
+    let o = opens_at c.args.shape d b e c.in-Ok.store c.in-Ok.kept first c.in-Ok.ensures.ok in
+    opens_as d e c.args.shape c.in-Ok.store c.in-Ok.kept o c.in-Ok-Some.found (shape_goes_on d b e first.shape c.in-Ok.ensures.others.shape)
+    (if_some c.in-Ok-Some.field-0 c.in-Ok-Some.found _ c.in-Ok-Some.field-0-is c.in-Ok-Some.ensures.some c.args.shape o.c o.v (is_open d e c.args.shape c.in-Ok.store c.in-Ok.kept o))
+
+pub returns-in-Ok-Some-clause-kept : goal.returns-in-Ok-Some-clause-kept
+returns-in-Ok-Some-clause-kept g c told some =
+    let d = g.D.Disks.view c.args.disks.now in
+    let b = g.D.Disks.view c.schema_of_log.new.disks in
+    let e = g.D.Disks.view c.open_store.new.disks in
+    let first = c.in_ok-schema.ensures.kept in
+    let some_b : ¬ (coordinator_pair (logs_of b.bytes) ≡ BothBlank) = λ blank. some (sym (ap (λ (bytes : ℕ → List ℕ). coordinator_pair (logs_of bytes)) (same_bytes d b first)) ∙ blank) in
+    keeps_on (λ _. ⊥) d b e None first (c.in-Ok.ensures.kept (first.shape.told ∙ told) some_b)
+
+pub returns-in-Ok-Some-clause-others : goal.returns-in-Ok-Some-clause-others
+returns-in-Ok-Some-clause-others g c =
+    let d = g.D.Disks.view c.args.disks.now in
+    let b = g.D.Disks.view c.schema_of_log.new.disks in
+    let e = g.D.Disks.view c.open_store.new.disks in
+    let first = c.in_ok-schema.ensures.kept in
+    keeps_on (IsStoreLog c.args.shape.parts) d b e None (nothing (IsStoreLog c.args.shape.parts) d b None first) c.in-Ok.ensures.others
+
+pub fault-requires : goal.fault-requires
+fault-requires g c =
+    let d = g.D.Disks.view c.args.disks.now in
+    let b = g.D.Disks.view c.schema_of_log.new.disks in
+    let e = g.D.Disks.view c.open_store.new.disks in
+    let first = c.in_ok-schema.ensures.kept in
+    let o = opens_at c.args.shape d b e c.in-Ok.store c.in-Ok.kept first c.in-Ok.ensures.ok in
+    not_told e.told (λ now.
+    let told : IsTrue d.told = sym first.shape.told ∙ (sym c.in-Ok.ensures.others.shape.told ∙ now) in
+    c.in-Ok-None.ensures.none (ap Ok c.in-Ok-None.field-0-is) c.args.shape o.c o.v (is_open d e c.args.shape c.in-Ok.store c.in-Ok.kept o) now (opened_newest c.in_ok-schema.schema d e c.args.shape c.in-Ok.store c.in-Ok.kept o told (c.in_ok-schema.ensures.schema told)))
+
+pub returns-in-Ok-None-clause-kept : goal.returns-in-Ok-None-clause-kept
+returns-in-Ok-None-clause-kept g c told some =
+    let d = g.D.Disks.view c.args.disks.now in
+    let b = g.D.Disks.view c.schema_of_log.new.disks in
+    let e = g.D.Disks.view c.open_store.new.disks in
+    let first = c.in_ok-schema.ensures.kept in
+    let o = opens_at c.args.shape d b e c.in-Ok.store c.in-Ok.kept first c.in-Ok.ensures.ok in
+    let now : IsTrue e.told = c.in-Ok.ensures.others.shape.told ∙ (first.shape.told ∙ told) in
+    absurd (c.in-Ok-None.ensures.none (ap Ok c.in-Ok-None.field-0-is) c.args.shape o.c o.v (is_open d e c.args.shape c.in-Ok.store c.in-Ok.kept o) now (opened_newest c.in_ok-schema.schema d e c.args.shape c.in-Ok.store c.in-Ok.kept o told (c.in_ok-schema.ensures.schema told)))
+
+pub returns-in-Ok-None-clause-still : goal.returns-in-Ok-None-clause-still
+returns-in-Ok-None-clause-still g c told image left =
+    let d = g.D.Disks.view c.args.disks.now in
+    let b = g.D.Disks.view c.schema_of_log.new.disks in
+    let e = g.D.Disks.view c.open_store.new.disks in
+    let first = c.in_ok-schema.ensures.kept in
+    let o = opens_at c.args.shape d b e c.in-Ok.store c.in-Ok.kept first c.in-Ok.ensures.ok in
+    let now : IsTrue e.told = c.in-Ok.ensures.others.shape.told ∙ (first.shape.told ∙ told) in
+    absurd (c.in-Ok-None.ensures.none (ap Ok c.in-Ok-None.field-0-is) c.args.shape o.c o.v (is_open d e c.args.shape c.in-Ok.store c.in-Ok.kept o) now (opened_newest c.in_ok-schema.schema d e c.args.shape c.in-Ok.store c.in-Ok.kept o told (c.in_ok-schema.ensures.schema told)))
+
+pub returns-in-Ok-clause-kept : goal.returns-in-Ok-clause-kept
+returns-in-Ok-clause-kept g c told some =
+    let d = g.D.Disks.view c.args.disks.now in
+    let b = g.D.Disks.view c.schema_of_log.new.disks in
+    let e = g.D.Disks.view c.open_store.new.disks in
+    let first = c.in_ok-schema.ensures.kept in
+    let some_b : ¬ (coordinator_pair (logs_of b.bytes) ≡ BothBlank) = λ blank. some (sym (ap (λ (bytes : ℕ → List ℕ). coordinator_pair (logs_of bytes)) (same_bytes d b first)) ∙ blank) in
+    let k : KeepsAll d e None = keeps_on (λ _. ⊥) d b e None first (c.in-Ok.ensures.kept (first.shape.told ∙ told) some_b) in
+    rw c.into.ensures (record { shape = k.shape; kept = k.kept; images = k.images })
+
+pub returns-in-Ok-clause-still : goal.returns-in-Ok-clause-still
+returns-in-Ok-clause-still g c told image left =
+    let d = g.D.Disks.view c.args.disks.now in
+    let b = g.D.Disks.view c.schema_of_log.new.disks in
+    let e = g.D.Disks.view c.open_store.new.disks in
+    let first = c.in_ok-schema.ensures.kept in
+    still_opened d c.args.shape c.requires.parts c.requires.room b e None first (c.in-Ok.ensures.kept (first.shape.told ∙ told)) (c.in-Ok.ensures.images (first.shape.told ∙ told)) (c.in-Ok.ensures.pages (first.shape.told ∙ told))
+    c.in-Ok.ensures.others.shape.count image left
+
+pub returns-clause-err : goal.returns-clause-err
+returns-clause-err g c told =
+    let d = g.D.Disks.view c.args.disks.now in
+    let b = g.D.Disks.view c.schema_of_log.new.disks in
+    let e = g.D.Disks.view c.open_store.new.disks in
+    let first = c.in_ok-schema.ensures.kept in
+    rw c.open_err_of.ensures (subst (λ (bytes : ℕ → List ℕ). RefusedAs c.args.shape bytes (open_err_of c.in-Err.e)) (same_bytes d b first) (refused_as c.args.shape b.bytes c.in-Err.e (c.in-Err.ensures.err (first.shape.told ∙ told))))
+
+pub returns-clause-kept : goal.returns-clause-kept
+returns-clause-kept g c told some =
+    let d = g.D.Disks.view c.args.disks.now in
+    let b = g.D.Disks.view c.schema_of_log.new.disks in
+    let e = g.D.Disks.view c.open_store.new.disks in
+    let first = c.in_ok-schema.ensures.kept in
+    let some_b : ¬ (coordinator_pair (logs_of b.bytes) ≡ BothBlank) = λ blank. some (sym (ap (λ (bytes : ℕ → List ℕ). coordinator_pair (logs_of bytes)) (same_bytes d b first)) ∙ blank) in
+    rw c.open_err_of.ensures (subst (KeepsAll d e) (sym (disk_answer c.in-Err.e)) (keeps_on (λ _. ⊥) d b e (disk_err_in c.in-Err.e) first (c.in-Err.ensures.kept (first.shape.told ∙ told) some_b)))
+
+pub returns-clause-still : goal.returns-clause-still
+returns-clause-still g c told image left =
+    let d = g.D.Disks.view c.args.disks.now in
+    let b = g.D.Disks.view c.schema_of_log.new.disks in
+    let e = g.D.Disks.view c.open_store.new.disks in
+    let first = c.in_ok-schema.ensures.kept in
+    still_opened d c.args.shape c.requires.parts c.requires.room b e (disk_err_in c.in-Err.e) first (c.in-Err.ensures.kept (first.shape.told ∙ told)) (c.in-Err.ensures.images (first.shape.told ∙ told)) (c.in-Err.ensures.pages (first.shape.told ∙ told))
+    c.in-Err.ensures.others.shape.count image left
+
+pub returns-clause-stopped : goal.returns-clause-stopped
+returns-clause-stopped g c is told image left =
+    let b = g.D.Disks.view c.schema_of_log.new.disks in
+    let told_b : IsTrue b.told = c.in_ok-schema.ensures.kept.shape.told ∙ told in
+    let blank = stopped_blank c.args.shape b.bytes c.in-Err.e (sym c.open_err_of.ensures ∙ cc is) (c.in-Err.ensures.err told_b) in
+    new_stands c.args.shape image (c.in-Err.ensures.images told_b blank image left) (c.in-Err.ensures.pages told_b blank image left)
+
+pub returns-clause-unchanged : goal.returns-clause-unchanged
+returns-clause-unchanged g c =
+    refused_unchanged (g.D.Disks.view c.args.disks.now) (g.D.Disks.view c.open_store.new.disks) c.args.shape c.open_err_of.result (returns-clause-err g c) (returns-clause-kept g c)

@@ -1,0 +1,69 @@
+-- Where a write would pass a device's limit, told by the bytes of the devices.
+use Rattle.salt_bytes.specs.Conts.{spell_move}
+use Rattle.salt_bytes.specs.Coordinator.{Boots, CoordinatorEntry, Decides, Defines, spell_entry}
+use Rattle.salt_bytes.specs.Generations.{Counts, WhichLog}
+use Rattle.salt_bytes.specs.Log.{entries_in, spelled}
+use Rattle.salt_bytes.specs.Partition.{spell_prepared}
+use Rattle.salt_bytes.specs.declared.moves.Move.{Move}
+use Rattle.salt_commit.specs.Openings.{StorePassesLimit}
+use Rattle.salt_commit.specs.Shares.{has_changes, mask_of, shares_of}
+use Rattle.salt_devices.specs.declared.held.TheConstants.{FORMAT}
+use Rattle.salt_disk.specs.Disks.{View}
+use Rattle.salt_stands.specs.Coordinator.{coordinator_pair, device_of}
+use Rattle.salt_stands.specs.CoordinatorLog.{CoordinatorLog}
+use Rattle.salt_stands.specs.Partition.{part_device, part_pair}
+use Rattle.salt_stands.specs.PartitionLog.{PartitionLog}
+use Rattle.salt_stands.specs.Placed.{changes_at}
+use Rattle.salt_stands.specs.Stands.{logs_of}
+use Rattle.salt_storage.specs.Writing.{OfBoot, OfDefinition, OfOpening, OfUnit, Written}
+use Rattle.salt_values.specs.declared.change.Change.{Change}
+use Rattle.salt_values.specs.declared.id.Id.{Id}
+use Rattle.salt_values.specs.declared.placement.Shape.{Shape}
+use Rattle.std.specs.Prelude.{IsTrue, List, Some, length, true, ℕ, ◌+◌, ◌<◌, ◌≡◌, ◌⊎◌}
+
+-- behind the entries of the device there is no room for one with this payload, and the next closed gate
+pub record IsTooLong (d : View) (dev : ℕ) (payload : List ℕ) : Type 0 where
+  pub entries : List (List ℕ)
+  pub reads : entries_in (d.bytes dev) ≡ Some entries
+  pub over : d.limit dev < length (spelled entries) + 10 + length payload
+
+-- the coordinator's log that counts stands on the device, and this entry of it is too long
+pub record EntryFills (d : View) (entry : CoordinatorLog → CoordinatorEntry) (dev : ℕ) : Type 0 where
+  pub which : WhichLog
+  pub log : CoordinatorLog
+  pub counts : coordinator_pair (logs_of d.bytes) ≡ Counts which log
+  pub device : dev ≡ device_of 0 which
+  pub over : IsTooLong d dev (spell_entry (entry log))
+
+-- the log of a partition that counts stands on the device, the unit changes the partition, and its entry is too long
+pub record ShareFills (d : View) (shape : Shape) (u : Id) (cs : List Change) (dev : ℕ) : Type 0 where
+  pub p : ℕ
+  pub low : p < shape.parts
+  pub which : WhichLog
+  pub log : PartitionLog
+  pub counts : part_pair p (logs_of d.bytes) ≡ Counts which log
+  pub device : dev ≡ device_of (part_device p) which
+  pub changed : has_changes (changes_at shape p cs) ≡ true
+  pub over : IsTooLong d dev (spell_prepared (record { unit = u; changes = changes_at shape p cs }))
+
+-- WHAT COMES NEXT in the coordinator's log
+
+abbrev pub next_boot : CoordinatorLog → CoordinatorEntry
+next_boot log = Boots (log.told.boot + 1)
+
+abbrev pub next_definition : List ℕ → CoordinatorLog → CoordinatorEntry
+next_definition text log = Defines (record { number = log.told.decisions + 1; text = text })
+
+-- the unit, with the bits of the partitions that it changes, and its program's move
+abbrev pub next_decision : Shape → Id → List Change → Move → CoordinatorLog → CoordinatorEntry
+next_decision shape u cs m log = Decides (record { number = log.told.decisions + 1; unit = u; mask = mask_of (shares_of shape cs); move = spell_move FORMAT m })
+
+abbrev pub Fills : View → Shape → Written → ℕ → Type 0
+Fills d shape OfOpening dev = StorePassesLimit d.limit shape dev
+Fills d shape OfBoot dev = EntryFills d next_boot dev
+Fills d shape (OfDefinition text) dev = EntryFills d (next_definition text) dev
+Fills d shape (OfUnit u cs m) dev = EntryFills d (next_decision shape u cs m) dev ⊎ ShareFills d shape u cs dev
+
+-- what is to be written would pass the limit of the device; of disks that do not tell their bytes nothing is said
+abbrev pub FillsIn : View → Shape → Written → ℕ → Type 0
+FillsIn d shape w dev = IsTrue d.told → Fills d shape w dev

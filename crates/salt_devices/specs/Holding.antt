@@ -1,0 +1,78 @@
+-- What a store on its devices holds of a database.
+use Rattle.salt_bytes.specs.Formats.{has_nulls}
+use Rattle.salt_bytes.specs.Generations.{Counts, WhichLog}
+use Rattle.salt_commit.specs.Stores.{IsStore, decided_by, reading}
+use Rattle.salt_commit.specs.declared.store.Store.{Store}
+use Rattle.salt_devices.specs.Leaving.{CanOpen}
+use Rattle.salt_devices.specs.Settling.{AreSettled}
+use Rattle.salt_devices.specs.declared.pending.Pending.{Pending}
+use Rattle.salt_disk.specs.Disks.{View}
+use Rattle.salt_model.specs.Kept.{Definition, Kept}
+use Rattle.salt_model.specs.Words.{has_id}
+use Rattle.salt_stands.specs.Commits.{each_tables, found_of, parts_of}
+use Rattle.salt_stands.specs.Coordinator.{Coordinator, coordinator_pair}
+use Rattle.salt_stands.specs.Partition.{pages_device, part_pair}
+use Rattle.salt_stands.specs.Pieces.{PartView, is_prepared_in}
+use Rattle.salt_stands.specs.Placed.{IsPlaced}
+use Rattle.salt_stands.specs.Stands.{logs_of}
+use Rattle.salt_storage.specs.Storing.{IsSoundKept}
+use Rattle.salt_values.specs.Placement.{GivesPlaceOf, IsParts, TakesEachKey}
+use Rattle.salt_values.specs.declared.id.Id.{Id}
+use Rattle.salt_values.specs.declared.placement.PlaceKind.{PlaceKind}
+use Rattle.salt_values.specs.declared.placement.Shape.{Shape}
+use Rattle.salt_values.specs.declared.value.Value.{Value}
+use Rattle.std.specs.Borrow.{Bor}
+use Rattle.std.specs.Prelude.{Bool, IsTrue, None, Option, Some, false, true, ℕ, ◌<◌, ◌≡◌}
+
+-- the placement answers, and there are devices for each part
+pub record IsAble (pre : PlaceKind → Bor Value → ℕ → Type 0) (post : PlaceKind → Bor Value → ℕ → ℕ → Type 0) (shape : Shape) (d : View) : Type 0 where
+  pub callable : TakesEachKey pre
+  pub answers : GivesPlaceOf post
+  pub parts : IsParts shape.parts
+  pub room : (p : ℕ) → p < shape.parts → pages_device p < d.count
+
+-- and where they were started, nothing is pending
+pub record CanStart (pre : PlaceKind → Bor Value → ℕ → Type 0) (post : PlaceKind → Bor Value → ℕ → ℕ → Type 0) (shape : Shape) (started : Bool) (p : Pending) (d : View) : Type 0 where
+  pub able : IsAble pre post shape d
+  pub settled : started ≡ true → AreSettled d
+  pub opens : CanOpen p started d shape
+
+-- The coordinator and the partitions keep this, in the newest formats, each row in the partition of its key.
+pub record Keeps (shape : Shape) (c : Coordinator Definition) (v : ℕ → PartView) (k : Kept) : Type 0 where
+  pub has_shape : c.log.header.shape ≡ shape
+  pub format : c.log.header.format ≡ 3
+  pub nulls : (p : ℕ) → p < parts_of c → has_nulls (v p).log.header.format ≡ true
+  pub boot : k.boot ≡ c.log.told.boot
+  pub decisions : k.decisions ≡ c.log.told.decisions
+  pub definitions : k.definitions ≡ c.definitions
+  pub conts : k.conts ≡ c.conts
+  pub tables : k.tables ≡ (found_of c v).kept.tables
+  pub placed : (p : ℕ) → p < parts_of c → IsPlaced shape p (each_tables c v p)
+
+-- the store stands, and keeps this, which is sound
+pub record IsHeld (d : View) (shape : Shape) (x : Store) (k : Kept) : Type 0 where
+  pub which : WhichLog
+  pub c : Coordinator Definition
+  pub v : ℕ → PartView
+  pub is : IsStore reading d x which c v
+  pub keeps : Keeps shape c v k
+  pub kept : IsSoundKept k
+
+abbrev pub HoldsIn : View → Shape → Option Store → Kept → Type 0
+HoldsIn d shape None k = ⊥
+HoldsIn d shape (Some x) k = IsHeld d shape x k
+
+-- no entry of a partition and no decision names the unit
+pub record IsFresh (c : Coordinator Definition) (v : ℕ → PartView) (u : Id) : Type 0 where
+  pub fresh : (p : ℕ) → p < parts_of c → is_prepared_in u (v p).log.prepared ≡ false
+  pub new : (p : ℕ) → p < parts_of c → has_id u (decided_by c p) ≡ false
+
+-- the logs that count are these
+pub record AreLogsOf (d : View) (c : Coordinator Definition) (v : ℕ → PartView) : Type 0 where
+  pub which : WhichLog
+  pub counts : coordinator_pair (logs_of d.bytes) ≡ Counts which c.log
+  pub parts : (p : ℕ) → p < parts_of c → part_pair p (logs_of d.bytes) ≡ Counts (v p).which (v p).log
+
+-- where the disks tell; where not, the units' names are not known
+abbrev pub IsNewTo : View → Id → Type 0
+IsNewTo d u = IsTrue d.told → (c : Coordinator Definition) (v : ℕ → PartView) → AreLogsOf d c v → IsFresh c v u

@@ -1,0 +1,9 @@
+pub mod Errors
+pub mod Filling
+pub mod Holding
+pub mod Leaving
+pub mod Opened
+pub mod Refusing
+pub mod Remembering
+pub mod Settling
+pub mod Standing

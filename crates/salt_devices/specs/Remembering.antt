@@ -1,0 +1,78 @@
+-- What is remembered of a database behind a call that was broken off.
+use Rattle.salt_commit.specs.Stores.{rows_of_store}
+use Rattle.salt_commit.specs.declared.store.Store.{Store}
+use Rattle.salt_devices.specs.declared.pending.Pending.TheVariants.{Boot, Decision, Lost, Nothing, Opening}
+use Rattle.salt_devices.specs.declared.pending.Pending.TheVariants as pending
+use Rattle.salt_devices.specs.declared.pending.Pending.{Pending}
+use Rattle.salt_model.specs.Kept.{Definition, Kept}
+use Rattle.salt_model.specs.Tables.{Entry, Tables}
+use Rattle.salt_stands.specs.Pieces.{listed}
+use Rattle.salt_stands.specs.Placed.{IsPlaced}
+use Rattle.salt_stands.specs.Tables.{joined}
+use Rattle.salt_storage.specs.Storing.{IsSoundKept, booted, decided, defined}
+use Rattle.salt_storage.specs.declared.found.Numbers.{Numbers}
+use Rattle.salt_values.specs.declared.change.Change.{Change}
+use Rattle.salt_values.specs.declared.cont.Cont.{Cont}
+use Rattle.salt_values.specs.declared.placement.Shape.{Shape}
+use Rattle.std.specs.Prelude.{List, None, Option, Some, [], ℕ, ◌+◌, ◌<◌, ◌≡◌, ◌⊎◌}
+
+abbrev pub entries_of : Tables → List Entry
+entries_of t = t.list
+
+-- the rows in memory are those of what is kept, each in the partition of its key
+pub record HasRows (shape : Shape) (x : Store) (k : Kept) : Type 0 where
+  pub tables : ℕ → Tables
+  pub rows : rows_of_store x ≡ listed (λ p. entries_of (tables p)) 0 shape.parts
+  pub joins : k.tables ≡ joined (listed tables 0 shape.parts)
+  pub placed : (p : ℕ) → p < shape.parts → IsPlaced shape p (tables p)
+
+pub record AreNumbersOf (n : Numbers) (k : Kept) : Type 0 where
+  pub boot : n.boot ≡ k.boot
+  pub decisions : n.decisions ≡ k.decisions
+
+-- what is kept if that which was being written stands
+abbrev pub MayFollow : Pending → Kept → Kept → Type 0
+MayFollow Nothing a b = b ≡ a
+MayFollow Opening a b = ⊥
+MayFollow Boot a b = b ≡ booted a
+MayFollow pending.Definition a b = (d : Definition) × (b ≡ defined a d)
+MayFollow (Decision cs) a b = (conts : List Cont) × (b ≡ decided a cs conts)
+MayFollow Lost a b = ⊥
+
+-- the rows in memory, the numbers, and what was being written are those of the one; with what was being written it is the other
+pub record Recalls (shape : Shape) (x : Store) (n : Numbers) (p : Pending) (a b : Kept) : Type 0 where
+  pub rows : HasRows shape x a
+  pub numbers : AreNumbersOf n a
+  pub follows : MayFollow p a b
+  pub sound : IsSoundKept a
+  pub sound_after : IsSoundKept b
+
+-- or memory ran out, and then it is not reopened
+abbrev pub Remembers : Shape → Option Store → Numbers → Pending → Kept → Kept → Type 0
+Remembers shape None n p a b = ⊥
+Remembers shape (Some x) n p a b = (p ≡ Lost) ⊎ Recalls shape x n p a b
+
+-- WHAT IS FOUND again
+
+-- the numbers m are those behind n, with what was being written
+abbrev pub Follow : Pending → (n m : Numbers) → Type 0
+Follow Nothing n m = ⊥
+Follow Opening n m = ⊥
+Follow Boot n m = (m.boot ≡ n.boot + 1) × (m.decisions ≡ n.decisions)
+Follow pending.Definition n m = (m.boot ≡ n.boot) × (m.decisions ≡ n.decisions + 1)
+Follow (Decision cs) n m = (m.boot ≡ n.boot) × (m.decisions ≡ n.decisions + 1)
+Follow Lost n m = ⊥
+
+-- the changes of what was being written
+abbrev pub changes_in : Pending → List Change
+changes_in Nothing = []
+changes_in Opening = []
+changes_in Boot = []
+changes_in pending.Definition = []
+changes_in (Decision cs) = cs
+changes_in Lost = []
+
+-- these are the rows and the numbers of what is kept
+pub record IsFoundAgain (shape : Shape) (x : Store) (n : Numbers) (k : Kept) : Type 0 where
+  pub rows : HasRows shape x k
+  pub numbers : AreNumbersOf n k

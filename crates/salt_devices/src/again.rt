@@ -1,0 +1,154 @@
+//! Devices are opened anew, behind a fall.
+
+ghost use Rattle.salt_commit.specs.Openings.{HasRoom};
+ghost use Rattle.salt_decisions.specs.Decisions.{shape_of};
+ghost use Rattle.salt_devices.specs.Leaving.{Leaves, LeavesAs};
+ghost use Rattle.salt_devices.specs.Opened.{IsHeldAgain};
+ghost use Rattle.salt_devices.specs.Remembering.{AreNumbersOf, Follow, IsFoundAgain, MayFollow, Recalls, Remembers};
+ghost use Rattle.salt_disk.specs.Disks.{HasCause, SameShape};
+ghost use Rattle.salt_model.specs.Kept.{Kept};
+ghost use Rattle.salt_stands.specs.Stands.{are_spent};
+ghost use Rattle.salt_storage.specs.Answers.{MayFail, open_disk_err};
+ghost use Rattle.salt_storage.specs.declared.halt.Halt.TheVariants.{DeviceFull};
+ghost use Rattle.salt_storage.specs.declared.open.OpenErr.TheVariants.{Halted};
+ghost use Rattle.salt_values.specs.Placement.{GivesPlaceOf, IsParts, TakesEachKey};
+ghost use Rattle.salt_values.specs.declared.placement.Shape.{Shape};
+ghost use Rattle.std.specs.Prelude.{Err, IfErr, IfOk, IsTrue, OnErr, Some, false, true, ℕ, ◌+◌, ◌↔◌, ◌≡◌, ◌⊎◌};
+
+use crate::open::{fault, open_devices};
+use crate::pending::Pending;
+use crate::told::told_keys;
+use salt_commit::Store;
+use salt_disk::Disks;
+use salt_storage::{Halt, Numbers, OpenErr};
+use salt_values::{Changes, Key, PlaceKind, Placement, Shape};
+use std::alloc::{AllocError, Global};
+
+/// Whether the one number comes next behind the other.
+fn is_next(before: u64, found: u64) -> bool
+    ensures { IsTrue result ↔ (found ≡ before + 1) }
+{
+    before < found && found - before == 1
+}
+
+/// Whether these are the numbers behind those that are remembered, with what was being written.
+fn follow(numbers: Numbers, pending: &Pending, found: Numbers) -> bool
+    ensures { IsTrue result ↔ Follow pending.now numbers found }
+{
+    match pending {
+        Pending::Nothing | Pending::Opening | Pending::Lost => false,
+        Pending::Boot => {
+            is_next(numbers.boot, found.boot) && found.decisions == numbers.decisions
+        }
+        Pending::Definition | Pending::Decision(_) => {
+            found.boot == numbers.boot && is_next(numbers.decisions, found.decisions)
+        }
+    }
+}
+
+/// Whether numbers are too high to be opened.
+fn are_spent(numbers: Numbers) -> bool
+    ensures { result ≡ are_spent numbers.boot numbers.decisions }
+{
+    numbers.boot >= 1 << 63 || numbers.decisions >= 1 << 63
+}
+
+/// Whether a store was found that is remembered, by its numbers and its rows: as it was before what was being written, or as it
+/// is with it.
+fn is_remembered<F: Fn(PlaceKind, &Key, u32) -> u32>(
+    alloc: Global,
+    place: &Placement<F>,
+    store: &Store,
+    found: Numbers,
+    before: &Store,
+    numbers: Numbers,
+    pending: &Pending,
+) -> Result<bool, AllocError>
+    requires callable { TakesEachKey (F.pre place.now.place) }
+    requires answers { GivesPlaceOf (F.post place.now.place) }
+    requires parts { IsParts (shape_of store.now.decisions).parts }
+    ensures { IfOk result (λ is. (shape : Shape) (a b : Kept) → shape_of store.now.decisions ≡ shape → Recalls shape before.now numbers pending.now a b
+        → IsTrue is ↔ (IsFoundAgain shape store.now found a ⊎ IsFoundAgain shape store.now found b)) }
+{
+    let none = Changes::new(alloc);
+    if found == numbers {
+        return store.has_rows_with(place, before, &none);
+    }
+    if !follow(numbers, pending, found) {
+        return Ok(false);
+    }
+    let Pending::Decision(changes) = pending else {
+        return store.has_rows_with(place, before, &none);
+    };
+    told_keys(changes.as_slice());
+    store.has_rows_with(place, before, changes)
+}
+
+/// Whether an opening of what is remembered may answer so: its numbers are spent, or it was broken off. There is no write that
+/// would pass a limit.
+fn may_answer(e: OpenErr, numbers: Numbers, pending: &Pending) -> bool
+    ensures may { IsTrue result → (a b : Kept) → AreNumbersOf numbers a → MayFollow pending.now a b → MayFail a b e }
+    ensures not { result ≡ false → (a b : Kept) → AreNumbersOf numbers a → MayFollow pending.now a b → MayFail a b e → (dev : ℕ) × (e ≡ Halted (DeviceFull dev)) }
+    ensures full { (dev : ℕ) → IsTrue result → e ≡ Halted (DeviceFull dev) → ⊥ }
+{
+    match e {
+        OpenErr::NotSalt(_) | OpenErr::OtherShape { .. } | OpenErr::Halted(Halt::DeviceFull(_)) => {
+            false
+        }
+        OpenErr::Halted(Halt::Stopped | Halt::DiskFault | Halt::Memory) => true,
+        OpenErr::NumbersSpent { boot, decisions } => {
+            let found = Numbers { boot, decisions };
+            are_spent(found) && (found == numbers || follow(numbers, pending, found))
+        }
+    }
+}
+
+/// Opens devices anew, in this shape, on which nothing is pending: what was found is what is remembered of them, before what was
+/// being written or with it. Else the disks gave what was not written, and have failed. Nothing is written.
+pub fn open_again<D: Disks, F: Fn(PlaceKind, &Key, u32) -> u32>(
+    alloc: Global,
+    disks: &mut D,
+    place: &Placement<F>,
+    shape: Shape,
+    before: &Store,
+    numbers: Numbers,
+    pending: &Pending,
+) -> Result<(Store, Numbers), OpenErr>
+    requires callable { TakesEachKey (F.pre place.now.place) }
+    requires answers { GivesPlaceOf (F.post place.now.place) }
+    requires parts { IsParts shape.parts }
+    requires room { HasRoom (D.view disks.old) shape.parts }
+    requires left { (a b : Kept) × LeavesAs true (D.view disks.old) shape a b × Remembers shape (Some before.now) numbers pending.now a b }
+
+    ensures ok { IfOk result (λ made. (a b : Kept) → LeavesAs true (D.view disks.old) shape a b → Remembers shape (Some before.now) numbers pending.now a b
+        → IsHeldAgain (D.view disks.new) shape made.0 made.1 a ⊎ IsHeldAgain (D.view disks.new) shape made.0 made.1 b) }
+    ensures numbers { IfOk result (λ made. are_spent made.1.boot made.1.decisions ≡ false) }
+    ensures leaves { OnErr result ((a b : Kept) → LeavesAs true (D.view disks.old) shape a b → Leaves (D.view disks.new) shape a b) }
+    ensures known { IfErr result (λ e. (a b : Kept) → LeavesAs true (D.view disks.old) shape a b → Remembers shape (Some before.now) numbers pending.now a b → MayFail a b e) }
+    ensures full { (dev : ℕ) → result ≡ Err (Halted (DeviceFull dev)) → ⊥ }
+    ensures shape { SameShape (D.view disks.old) (D.view disks.new) }
+    ensures cause { HasCause (D.view disks.old) (D.view disks.new) (open_disk_err result) }
+{
+    if pending.is_lost() {
+        return Err(OpenErr::Halted(Halt::Memory));
+    }
+    match open_devices(alloc, disks, place, shape) {
+        Ok((store, found)) => {
+            let found = Numbers {
+                boot: found.boot,
+                decisions: found.decisions,
+            };
+            match is_remembered(alloc, place, &store, found, before, numbers, pending) {
+                Ok(true) => Ok((store, found)),
+                Ok(false) => Err(fault(disks)),
+                Err(e) => Err(e.into()),
+            }
+        }
+        Err(e) => {
+            if may_answer(e, numbers, pending) {
+                return Err(e);
+            }
+            Err(fault(disks))
+        }
+    }
+}

@@ -1,0 +1,212 @@
+//! A database over its devices.
+
+ghost use Rattle.salt_devices.specs.declared.pending.Pending.TheVariants.{Nothing};
+ghost use Rattle.std.specs.Prelude.{None, true, ◌≡◌};
+
+use crate::again::open_again;
+use crate::held::{begin_boot, decide_definition, decide_unit, load_rows};
+use crate::open::open_first;
+use crate::pending::{Pending, pending_opening, pending_unit};
+use salt_bytes::Move;
+use salt_commit::Store;
+use salt_disk::Disks;
+use salt_eval::Tables;
+use salt_model::Reach;
+use salt_schema::Schema;
+use salt_storage::{Found, Halt, Numbers, OpenErr, Storage};
+use salt_values::{Changes, Id, Key, PlaceKind, Placement, Shape};
+use std::alloc::{AllocError, Global};
+
+/// A database over devices, in the shape that is asked for: a store that stands on them, once it is opened. Behind an error the
+/// store stays, as what is remembered, until it is reopened.
+#[derive(Drop)]
+pub struct Devices<'p, F: Fn(PlaceKind, &Key, u32) -> u32> {
+    alloc: Global,
+    place: &'p Placement<F>,
+    shape: Shape,
+    // whether the devices were started, and nothing was called since
+    started: bool,
+    store: Option<Store>,
+    // of what is kept, before what is pending
+    numbers: Numbers,
+    pending: Pending,
+}
+
+impl<'p, F: Fn(PlaceKind, &Key, u32) -> u32> Devices<'p, F> {
+    /// Devices that are not opened yet.
+    pub fn new(alloc: Global, place: &'p Placement<F>, shape: Shape) -> Devices<'p, F>
+        ensures place { result.place.now ≡ place.now }
+        ensures shape { result.shape ≡ shape }
+        ensures started { result.started ≡ true }
+        ensures store { result.store ≡ None }
+        ensures pending { result.pending ≡ Nothing }
+    {
+        Devices {
+            alloc,
+            place,
+            shape,
+            started: true,
+            store: None,
+            numbers: Numbers {
+                boot: 0,
+                decisions: 0,
+            },
+            pending: Pending::Nothing,
+        }
+    }
+}
+
+impl<'p, F: Fn(PlaceKind, &Key, u32) -> u32> Storage for Devices<'p, F> {
+    ghost use Rattle.salt_devices.specs.Filling.{FillsIn};
+    ghost use Rattle.salt_devices.specs.Holding.{CanStart, IsNewTo};
+    ghost use Rattle.salt_devices.specs.Refusing.{Finds, Refuses};
+    ghost use Rattle.salt_devices.specs.Standing.{StandsHeld, StandsLeft, StandsStarted};
+    ghost use Rattle.salt_devices.specs.declared.pending.Pending.TheVariants.{Opening};
+
+    ghost holds = { λ d x k. StandsHeld (F.pre x.place.now.place) (F.post x.place.now.place) x.shape x.started x.store x.numbers x.pending d k };
+
+    ghost leaves = { λ d x a b. StandsLeft (F.pre x.place.now.place) (F.post x.place.now.place) x.shape x.started x.store x.numbers x.pending d a b };
+
+    ghost settled = { λ d x. StandsStarted (F.pre x.place.now.place) (F.post x.place.now.place) x.shape x.started x.pending d };
+
+    ghost unopened = { λ x. x.store ≡ None };
+
+    ghost tried = { λ d x. x.pending ≡ Opening };
+
+    ghost able = { λ d x. CanStart (F.pre x.place.now.place) (F.post x.place.now.place) x.shape x.started x.pending d };
+
+    ghost is_new = { λ d x u. IsNewTo d u };
+
+    ghost refuses = { λ d x e. Refuses d x.started x.shape e };
+
+    ghost finds = { λ d x k. Finds d x.started x.shape k };
+
+    ghost asked = { λ x. x.shape };
+
+    ghost fills = { λ d x w dev. FillsIn d x.shape w dev };
+
+    fn open<D: Disks>(&mut self, disks: &mut D) -> Result<Found, OpenErr> {
+        self.started = false;
+        match open_first(self.alloc, disks, self.place, self.shape, &self.pending) {
+            Ok((store, found)) => {
+                self.store = Some(store);
+                self.numbers = Numbers {
+                    boot: found.boot,
+                    decisions: found.decisions,
+                };
+                self.pending = Pending::Nothing;
+                Ok(found)
+            }
+            Err(e) => {
+                self.pending = pending_opening(e);
+                Err(e)
+            }
+        }
+    }
+
+    fn reopen<D: Disks>(&mut self, disks: &mut D) -> Result<Numbers, OpenErr> {
+        let Some(before) = &self.store else {
+            unreachable!()
+        };
+        self.started = false;
+        match open_again(
+            self.alloc,
+            disks,
+            self.place,
+            self.shape,
+            before,
+            self.numbers,
+            &self.pending,
+        ) {
+            Ok((store, found)) => {
+                self.store = Some(store);
+                self.numbers = found;
+                self.pending = Pending::Nothing;
+                Ok(found)
+            }
+            Err(e) => Err(e),
+        }
+    }
+
+    fn boot<D: Disks>(&mut self, disks: &mut D) -> Result<u64, Halt> {
+        let Some(store) = &mut self.store else {
+            unreachable!()
+        };
+        match begin_boot(store, disks) {
+            Ok(boot) => {
+                self.numbers.boot = boot;
+                Ok(boot)
+            }
+            Err(e) => {
+                self.pending = Pending::Boot;
+                Err(e)
+            }
+        }
+    }
+
+    fn load<D: Disks>(
+        &mut self,
+        disks: &mut D,
+        schema: &Schema,
+        reach: &Reach,
+    ) -> Result<Tables, Halt> {
+        let Some(store) = &mut self.store else {
+            unreachable!()
+        };
+        match load_rows(store, disks, self.place, schema, reach) {
+            Ok(rows) => Ok(rows),
+            Err(e) => Err(e),
+        }
+    }
+
+    fn commit<D: Disks>(
+        &mut self,
+        disks: &mut D,
+        unit: Id,
+        changes: &Changes,
+        made: &Move,
+    ) -> Result<u64, Halt> {
+        let Some(store) = &mut self.store else {
+            unreachable!()
+        };
+        match decide_unit(self.alloc, store, disks, self.place, unit, changes, made) {
+            Ok(number) => {
+                self.numbers.decisions = number;
+                Ok(number)
+            }
+            Err(e) => {
+                self.pending = pending_unit(self.alloc, e, changes);
+                Err(e)
+            }
+        }
+    }
+
+    fn define<D: Disks>(&mut self, disks: &mut D, text: &[u8]) -> Result<u64, Halt> {
+        let Some(store) = &mut self.store else {
+            unreachable!()
+        };
+        match decide_definition(store, disks, text) {
+            Ok(number) => {
+                self.numbers.decisions = number;
+                Ok(number)
+            }
+            Err(e) => {
+                self.pending = Pending::Definition;
+                Err(e)
+            }
+        }
+    }
+
+    fn arm<D: Disks>(&mut self, disks: &mut D, calls: u64, pick: u8) -> Result<(), AllocError> {
+        disks.arm(calls, pick)
+    }
+
+    fn restart<D: Disks>(&mut self, disks: &mut D) {
+        disks.restart();
+        self.started = true;
+    }
+
+    fn stands<D: Disks>(&self, disks: &D) {
+        let _ = disks;
+    }
+}

@@ -1,0 +1,164 @@
+//! What is done in a store that stands.
+
+ghost use Rattle.salt_bytes.specs.declared.moves.Move.{Move};
+ghost use Rattle.salt_canonical.specs.Texts.{definition_in};
+ghost use Rattle.salt_devices.specs.Errors.{halt_of};
+ghost use Rattle.salt_devices.specs.Filling.{FillsIn};
+ghost use Rattle.salt_commit.specs.Stores.{rows_of_store};
+ghost use Rattle.salt_devices.specs.Holding.{IsHeld, IsNewTo};
+ghost use Rattle.salt_devices.specs.Leaving.{Leaves};
+ghost use Rattle.salt_disk.specs.Disks.{HasCause, SameShape};
+ghost use Rattle.salt_model.specs.Kept.{Definition, Kept, schema_of};
+ghost use Rattle.salt_model.specs.Tables.{Tables};
+ghost use Rattle.salt_stands.specs.Stands.{are_spent};
+ghost use Rattle.salt_storage.specs.Answers.{disk_err};
+ghost use Rattle.salt_storage.specs.Storing.{IsPartOf, MayDecide, MayDefine, booted, decided, defined};
+ghost use Rattle.salt_storage.specs.Writing.{OfBoot, OfDefinition, OfUnit};
+ghost use Rattle.salt_storage.specs.declared.halt.Halt.TheVariants.{DeviceFull, Memory};
+ghost use Rattle.salt_storage.specs.declared.halt.Halt.{Halt};
+ghost use Rattle.salt_values.specs.Id.{is_same_id};
+ghost use Rattle.salt_values.specs.Placement.{GivesPlaceOf, TakesEachKey};
+ghost use Rattle.salt_values.specs.declared.cont.Cont.{Cont};
+ghost use Rattle.salt_values.specs.declared.id.Id.{Id};
+ghost use Rattle.salt_values.specs.declared.placement.Shape.{Shape};
+ghost use Rattle.std.specs.Prelude.{Err, IfOk, List, OnErr, OnOk, Some, false, length, ℕ, ◌+◌, ◌<◌, ◌≡◌, ◌≢◌};
+
+use crate::told::{told_keys, told_move};
+use salt_bytes::{Move, moves_are_read};
+use salt_codec::put_move;
+use salt_commit::{Store, StoreErr};
+use salt_disk::Disks;
+use salt_eval::Tables;
+use salt_model::Reach;
+use salt_schema::Schema;
+use salt_storage::Halt;
+use salt_types::typed_changes_are_sound;
+use salt_values::{Changes, Id, Key, PlaceKind, Placement, Shape};
+use std::alloc::Global;
+
+/// The format under which moves are spelled, the newest.
+pub const FORMAT: u8 = 3;
+
+/// Why a call on a store was broken off.
+fn halt_of(e: StoreErr) -> Halt
+    ensures { result ≡ halt_of e }
+{
+    match e {
+        StoreErr::Failed => Halt::DiskFault,
+        StoreErr::Stopped => Halt::Stopped,
+        StoreErr::Full(dev) => Halt::DeviceFull(dev),
+        StoreErr::Memory => Halt::Memory,
+    }
+}
+
+/// The rows of a reach, each of which meets its table.
+pub fn load_rows<D: Disks, F: Fn(PlaceKind, &Key, u32) -> u32>(
+    store: &mut Store,
+    disks: &mut D,
+    place: &Placement<F>,
+    schema: &Schema,
+    reach: &Reach,
+) -> Result<Tables, Halt>
+    requires callable { TakesEachKey (F.pre place.now.place) }
+    requires answers { GivesPlaceOf (F.post place.now.place) }
+    requires held { (shape : Shape) × (k : Kept) × IsHeld (D.view disks.old) shape store.old k × (schema.now ≡ schema_of k) × (reach.now.table < length (schema_of k)) }
+    ensures rows { IfOk result (λ rows. (shape : Shape) (k : Kept) → IsHeld (D.view disks.old) shape store.old k → (es : Tables) → rows.entries ≡ es.list → IsPartOf reach.now es k.tables) }
+    ensures holds { OnOk result ((shape : Shape) (k : Kept) → IsHeld (D.view disks.old) shape store.old k → IsHeld (D.view disks.new) shape store.new k) }
+    ensures is_new { OnOk result ((u : Id) → IsNewTo (D.view disks.old) u → IsNewTo (D.view disks.new) u) }
+    ensures leaves { OnErr result ((shape : Shape) (k : Kept) → IsHeld (D.view disks.old) shape store.old k → Leaves (D.view disks.new) shape k k) }
+    ensures stay { rows_of_store store.new ≡ rows_of_store store.old }
+    ensures full { (dev : ℕ) → result ≡ Err (DeviceFull dev) → ⊥ }
+    ensures shape { SameShape (D.view disks.old) (D.view disks.new) }
+    ensures cause { HasCause (D.view disks.old) (D.view disks.new) (disk_err result) }
+{
+    match store.load(disks, place, schema, reach) {
+        Ok(rows) => Ok(rows),
+        Err(e) => Err(halt_of(e)),
+    }
+}
+
+/// Begins the next boot, and gives its number.
+pub fn begin_boot<D: Disks>(store: &mut Store, disks: &mut D) -> Result<u64, Halt>
+    requires held { (shape : Shape) × (k : Kept) × IsHeld (D.view disks.old) shape store.old k × (are_spent k.boot k.decisions ≡ false) }
+    ensures number { IfOk result (λ boot. (shape : Shape) (k : Kept) → IsHeld (D.view disks.old) shape store.old k → boot ≡ k.boot + 1) }
+    ensures holds { OnOk result ((shape : Shape) (k : Kept) → IsHeld (D.view disks.old) shape store.old k → IsHeld (D.view disks.new) shape store.new (booted k)) }
+    ensures is_new { IfOk result (λ boot. (u : Id) → u.boot ≡ boot → IsNewTo (D.view disks.new) u) }
+    ensures leaves { (shape : Shape) (k : Kept) → IsHeld (D.view disks.old) shape store.old k → Leaves (D.view disks.new) shape k (booted k) }
+    ensures stay { rows_of_store store.new ≡ rows_of_store store.old }
+    ensures full { (dev : ℕ) → result ≡ Err (DeviceFull dev) → (shape : Shape) (k : Kept) → IsHeld (D.view disks.old) shape store.old k → FillsIn (D.view disks.new) shape OfBoot dev }
+    ensures shape { SameShape (D.view disks.old) (D.view disks.new) }
+    ensures cause { HasCause (D.view disks.old) (D.view disks.new) (disk_err result) }
+{
+    match store.boot(disks) {
+        Ok(boot) => Ok(boot),
+        Err(e) => Err(halt_of(e)),
+    }
+}
+
+/// Decides a definition by its canonical text, and gives its number. Where no number is left, want of memory is answered.
+pub fn decide_definition<D: Disks>(
+    store: &mut Store,
+    disks: &mut D,
+    text: &[u8],
+) -> Result<u64, Halt>
+    requires held { (shape : Shape) × (k : Kept) × IsHeld (D.view disks.old) shape store.old k × ((d : Definition) × (definition_in text.now ≡ Some d) × MayDefine k d) }
+    ensures number { IfOk result (λ number. (shape : Shape) (k : Kept) → IsHeld (D.view disks.old) shape store.old k → number ≡ k.decisions + 1) }
+    ensures holds { OnOk result ((shape : Shape) (k : Kept) (d : Definition) → IsHeld (D.view disks.old) shape store.old k → definition_in text.now ≡ Some d → MayDefine k d
+        → IsHeld (D.view disks.new) shape store.new (defined k d)) }
+    ensures is_new { OnOk result ((u : Id) → IsNewTo (D.view disks.old) u → IsNewTo (D.view disks.new) u) }
+    ensures leaves { (shape : Shape) (k : Kept) (d : Definition) → IsHeld (D.view disks.old) shape store.old k → definition_in text.now ≡ Some d → MayDefine k d
+        → Leaves (D.view disks.new) shape k (defined k d) }
+    ensures stay { rows_of_store store.new ≡ rows_of_store store.old }
+    ensures full { (dev : ℕ) → result ≡ Err (DeviceFull dev) → (shape : Shape) (k : Kept) → IsHeld (D.view disks.old) shape store.old k → FillsIn (D.view disks.new) shape (OfDefinition text.now) dev }
+    ensures shape { SameShape (D.view disks.old) (D.view disks.new) }
+    ensures cause { HasCause (D.view disks.old) (D.view disks.new) (disk_err result) }
+{
+    if store.decisions() == u64::MAX {
+        return Err(Halt::Memory);
+    }
+    match store.define(disks, text) {
+        Ok(number) => Ok(number),
+        Err(e) => Err(halt_of(e)),
+    }
+}
+
+/// Decides a unit with its changes and its program's move, and gives its number. Where no number is left, want of memory is
+/// answered.
+pub fn decide_unit<D: Disks, F: Fn(PlaceKind, &Key, u32) -> u32>(
+    alloc: Global,
+    store: &mut Store,
+    disks: &mut D,
+    place: &Placement<F>,
+    unit: Id,
+    changes: &Changes,
+    made: &Move,
+) -> Result<u64, Halt>
+    requires callable { TakesEachKey (F.pre place.now.place) }
+    requires answers { GivesPlaceOf (F.post place.now.place) }
+    requires held { (shape : Shape) × (k : Kept) × IsHeld (D.view disks.old) shape store.old k × ((conts : List Cont) × MayDecide k unit changes.now made.now conts) }
+    requires new { IsNewTo (D.view disks.old) unit }
+    ensures number { IfOk result (λ number. (shape : Shape) (k : Kept) → IsHeld (D.view disks.old) shape store.old k → number ≡ k.decisions + 1) }
+    ensures holds { OnOk result ((shape : Shape) (k : Kept) (conts : List Cont) → IsHeld (D.view disks.old) shape store.old k → MayDecide k unit changes.now made.now conts
+        → IsHeld (D.view disks.new) shape store.new (decided k changes.now conts)) }
+    ensures is_new { OnOk result ((u : Id) → is_same_id u unit ≡ false → IsNewTo (D.view disks.old) u → IsNewTo (D.view disks.new) u) }
+    ensures leaves { (shape : Shape) (k : Kept) (conts : List Cont) → IsHeld (D.view disks.old) shape store.old k → MayDecide k unit changes.now made.now conts
+        → Leaves (D.view disks.new) shape k (decided k changes.now conts) }
+    ensures stay { (e : Halt) → result ≡ Err e → e ≢ Memory → rows_of_store store.new ≡ rows_of_store store.old }
+    ensures full { (dev : ℕ) → result ≡ Err (DeviceFull dev) → (shape : Shape) (k : Kept) → IsHeld (D.view disks.old) shape store.old k → FillsIn (D.view disks.new) shape (OfUnit unit changes.now made.now) dev }
+    ensures shape { SameShape (D.view disks.old) (D.view disks.new) }
+    ensures cause { HasCause (D.view disks.old) (D.view disks.new) (disk_err result) }
+{
+    if store.decisions() == u64::MAX {
+        return Err(Halt::Memory);
+    }
+    typed_changes_are_sound();
+    moves_are_read();
+    told_move(made);
+    told_keys(changes.as_slice());
+    let mut spelled = Vec::new(alloc);
+    put_move(&mut spelled, FORMAT, made)?;
+    match store.commit(disks, place, unit, changes, &spelled) {
+        Ok(number) => Ok(number),
+        Err(e) => Err(halt_of(e)),
+    }
+}

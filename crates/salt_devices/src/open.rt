@@ -1,0 +1,240 @@
+//! Devices are opened.
+
+ghost use Rattle.salt_bytes.specs.Generations.{BothBlank};
+ghost use Rattle.salt_commit.specs.Openings.{HasRoom, IsStoreLog, StorePassesLimit};
+ghost use Rattle.salt_decisions.specs.Decisions.{shape_of};
+ghost use Rattle.salt_decisions.specs.Kept.{IsKept};
+ghost use Rattle.salt_devices.specs.Errors.{open_err_of};
+ghost use Rattle.salt_devices.specs.Leaving.{CanOpen, Stands, StandsFor};
+ghost use Rattle.salt_devices.specs.Opened.{HoldsFound, IsNewest, IsNewestOf, IsNewestWhere, IsOpen, IsUnread, OpensAs};
+ghost use Rattle.salt_devices.specs.Refusing.{RefusedAs};
+ghost use Rattle.salt_devices.specs.declared.pending.Pending.TheVariants.{Opening};
+ghost use Rattle.salt_disk.specs.Disks.{AreUnchanged, HasCause, IsImage, IsSettled, KeepsAll, KeepsBut, SameShape};
+ghost use Rattle.salt_model.specs.Kept.{Definition};
+ghost use Rattle.salt_stands.specs.Coordinator.{Coordinator, coordinator_pair};
+ghost use Rattle.salt_stands.specs.CoordinatorLog.{CoordinatorLog};
+ghost use Rattle.salt_stands.specs.Pieces.{PartView};
+ghost use Rattle.salt_stands.specs.Stands.{are_spent, logs_of};
+ghost use Rattle.salt_storage.specs.Answers.{IfRefused, IsLater, open_disk_err, open_disk_err_of};
+ghost use Rattle.salt_storage.specs.Writing.{FindsNoMore};
+ghost use Rattle.salt_storage.specs.declared.halt.Halt.TheVariants.{DeviceFull, DiskFault, Memory, Stopped};
+ghost use Rattle.salt_storage.specs.declared.open.OpenErr.TheVariants.{Halted, NotSalt};
+ghost use Rattle.salt_values.specs.Placement.{GivesPlaceOf, IsParts, TakesEachKey};
+ghost use Rattle.salt_values.specs.declared.placement.Shape.{Shape};
+ghost use Rattle.std.specs.Prelude.{Err, IfErr, IfOk, IfSome, IsTrue, List, None, Ok, OnErr, false, true, ℕ, ◌<◌, ◌≡◌, ◌⊎◌};
+
+use crate::held::FORMAT;
+use crate::pending::Pending;
+use salt_canonical::definitions_are_read;
+use salt_commit::{Kept, OpenErr as StoreOpenErr, Store, open_store, peek};
+use salt_disk::Disks;
+use salt_drain::{RecoverErr, Recovered, recover};
+use salt_partition::rejected;
+use salt_schema::Schema;
+use salt_storage::{Found, Halt, OpenErr};
+use salt_types::spelled_tables_have_keys;
+use salt_values::{Key, PlaceKind, Placement, Shape};
+use std::alloc::{AllocError, Global};
+
+/// Why a store was not opened.
+fn open_err_of(e: StoreOpenErr) -> OpenErr
+    ensures { result ≡ open_err_of e }
+{
+    match e {
+        StoreOpenErr::NotSalt(dev) => OpenErr::NotSalt(dev),
+        StoreOpenErr::OtherShape { kept, asked } => OpenErr::OtherShape { kept, asked },
+        StoreOpenErr::NumbersSpent { boot, decisions } => OpenErr::NumbersSpent { boot, decisions },
+        StoreOpenErr::Failed => OpenErr::Halted(Halt::DiskFault),
+        StoreOpenErr::Stopped => OpenErr::Halted(Halt::Stopped),
+        StoreOpenErr::Full(dev) => OpenErr::Halted(Halt::DeviceFull(dev)),
+        StoreOpenErr::Memory => OpenErr::Halted(Halt::Memory),
+    }
+}
+
+/// The disks gave what was not written: they have failed.
+pub fn fault<D: Disks>(disks: &mut D) -> OpenErr
+    requires { (D.view disks.old).told ≡ false }
+    ensures fault { result ≡ Halted DiskFault }
+    ensures kept { KeepsAll (D.view disks.old) (D.view disks.new) (open_disk_err_of result) }
+    ensures cause { HasCause (D.view disks.old) (D.view disks.new) (open_disk_err_of result) }
+{
+    let _failed = rejected(disks);
+    OpenErr::Halted(Halt::DiskFault)
+}
+
+/// What the log stands for that keeps this, where it is in the newest format; nothing where it is not, or stands for nothing.
+fn newest(alloc: Global, kept: &Kept) -> Result<Option<Recovered>, AllocError>
+    ensures some { IfOk result (λ o. IfSome o (IsNewest kept.now)) }
+    ensures none { result ≡ Ok None → (log : CoordinatorLog) → IsKept kept.now log → IsUnread log }
+{
+    if kept.format != FORMAT {
+        return Ok(None);
+    }
+    match recover(alloc, kept) {
+        Ok(found) => Ok(Some(found)),
+        Err(RecoverErr::NotSalt) => Ok(None),
+        Err(RecoverErr::Memory) => Err(AllocError),
+    }
+}
+
+/// The tables of the definitions in the log that keeps this. `NotSalt` of its device where it stands for nothing, or is in an
+/// older format, which is not read yet.
+fn schema_kept(alloc: Global, kept: &Kept) -> Result<Schema, OpenErr>
+    ensures ok { IfOk result (λ schema. (log : CoordinatorLog) → IsKept kept.now log → IsNewestOf schema log) }
+    ensures err { IfErr result (λ e. (e ≡ Halted Memory) ⊎ ((e ≡ NotSalt kept.now.device) × ((log : CoordinatorLog) → IsKept kept.now log → IsUnread log))) }
+{
+    match newest(alloc, kept) {
+        Ok(Some(found)) => Ok(found.schema),
+        Ok(None) => Err(OpenErr::NotSalt(kept.device)),
+        Err(e) => Err(e.into()),
+    }
+}
+
+/// The tables of the definitions in the coordinator's log, none where its devices are blank.
+fn schema_of_log<D: Disks>(alloc: Global, disks: &mut D) -> Result<Schema, OpenErr>
+    requires known { 1 < (D.view disks.old).count }
+    requires settled_a { IsSettled (D.view disks.old) 0 }
+    requires settled_b { IsSettled (D.view disks.old) 1 }
+    ensures schema { IsTrue (D.view disks.old).told → IfOk result (λ schema. IsNewestWhere schema (coordinator_pair (logs_of (D.view disks.old).bytes))) }
+    ensures err { IsTrue (D.view disks.old).told → IfErr result (λ e. (shape : Shape) → RefusedAs shape (D.view disks.old).bytes e) }
+    ensures full { (dev : ℕ) → result ≡ Err (Halted (DeviceFull dev)) → IsTrue (D.view disks.old).told → ⊥ }
+    ensures stopped { result ≡ Err (Halted Stopped) → IsTrue (D.view disks.old).told → ⊥ }
+    ensures kept { KeepsAll (D.view disks.old) (D.view disks.new) (open_disk_err result) }
+    ensures cause { HasCause (D.view disks.old) (D.view disks.new) (open_disk_err result) }
+{
+    match peek(alloc, disks) {
+        Ok(None) => Ok(Schema::new(alloc)),
+        Ok(Some((_shape, kept))) => schema_kept(alloc, &kept),
+        Err(e) => Err(open_err_of(e)),
+    }
+}
+
+/// What was opened with a store, where its log stands for something in the newest format and its rows fit; else nothing, which
+/// only disks can bring about that don't tell their bytes.
+fn fitting<D: Disks, F: Fn(PlaceKind, &Key, u32) -> u32>(
+    alloc: Global,
+    disks: &D,
+    place: &Placement<F>,
+    store: &Store,
+    kept: &Kept,
+) -> Result<Option<Found>, AllocError>
+    requires callable { TakesEachKey (F.pre place.now.place) }
+    requires answers { GivesPlaceOf (F.post place.now.place) }
+    requires parts { IsParts (shape_of store.now.decisions).parts }
+    ensures some { IfOk result (λ o. IfSome o (λ found. (shape : Shape) (c : Coordinator Definition) (v : ℕ → PartView) → IsOpen (D.view disks.now) shape store.now kept.now c v
+        → HoldsFound (D.view disks.now) shape store.now found c v)) }
+    ensures numbers { IfOk result (λ o. IfSome o (λ found. (found.boot ≡ kept.now.boot) × (found.decisions ≡ kept.now.decisions))) }
+    ensures none { result ≡ Ok None → (shape : Shape) (c : Coordinator Definition) (v : ℕ → PartView) → IsOpen (D.view disks.now) shape store.now kept.now c v
+        → IsTrue (D.view disks.now).told → kept.now.format ≡ 3 → ⊥ }
+{
+    definitions_are_read();
+    spelled_tables_have_keys();
+    let Some(found) = newest(alloc, kept)? else {
+        return Ok(None);
+    };
+    if !store.rows_fit(disks, place, &found.schema)? {
+        return Ok(None);
+    }
+    let Recovered {
+        schema,
+        catalogue,
+        conts,
+    } = found;
+    Ok(Some(Found {
+        schema,
+        catalogue,
+        conts,
+        boot: kept.boot,
+        decisions: kept.decisions,
+    }))
+}
+
+/// Opens devices on which nothing is pending, in this shape; blank ones are made new ones. What an error leaves of them refuses
+/// and finds nothing that they did not before.
+pub fn open_devices<D: Disks, F: Fn(PlaceKind, &Key, u32) -> u32>(
+    alloc: Global,
+    disks: &mut D,
+    place: &Placement<F>,
+    shape: Shape,
+) -> Result<(Store, Found), OpenErr>
+    requires callable { TakesEachKey (F.pre place.now.place) }
+    requires answers { GivesPlaceOf (F.post place.now.place) }
+    requires parts { IsParts shape.parts }
+    requires room { HasRoom (D.view disks.old) shape.parts }
+
+    ensures ok { IfOk result (λ made. OpensAs (D.view disks.old) (D.view disks.new) shape made.0 made.1) }
+    ensures numbers { IfOk result (λ made. are_spent made.1.boot made.1.decisions ≡ false) }
+    ensures err { IsTrue (D.view disks.old).told → IfErr result (RefusedAs shape (D.view disks.old).bytes) }
+
+    ensures kept { IsTrue (D.view disks.old).told → ¬ (coordinator_pair (logs_of (D.view disks.old).bytes) ≡ BothBlank) → KeepsAll (D.view disks.old) (D.view disks.new) (open_disk_err result) }
+    ensures still { OnErr result (IsTrue (D.view disks.old).told → (image : ℕ → List ℕ) → IsImage (D.view disks.new) image
+        → FindsNoMore (RefusedAs shape (D.view disks.old).bytes) (StandsFor shape (D.view disks.old).bytes) (RefusedAs shape image) (StandsFor shape image)) }
+
+    ensures stopped { result ≡ Err (Halted Stopped) → IsTrue (D.view disks.old).told → (image : ℕ → List ℕ) → IsImage (D.view disks.new) image → Stands shape image }
+
+    ensures unchanged { IfErr result (λ e. IfRefused e (IsTrue (D.view disks.old).told → AreUnchanged (D.view disks.old) (D.view disks.new))) }
+
+    ensures blank { (dev : ℕ) → result ≡ Err (Halted (DeviceFull dev)) → IsTrue (D.view disks.old).told → coordinator_pair (logs_of (D.view disks.old).bytes) ≡ BothBlank }
+    ensures full { (dev : ℕ) → result ≡ Err (Halted (DeviceFull dev)) → IsTrue (D.view disks.old).told → StorePassesLimit (D.view disks.old).limit shape dev }
+    ensures others { KeepsBut (IsStoreLog shape.parts) (D.view disks.old) (D.view disks.new) (open_disk_err result) }
+    ensures cause { HasCause (D.view disks.old) (D.view disks.new) (open_disk_err result) }
+{
+    let schema = schema_of_log(alloc, disks)?;
+    match open_store(alloc, disks, place, shape, &schema) {
+        Ok((store, kept)) => match fitting(alloc, &*disks, place, &store, &kept) {
+            Ok(Some(found)) => Ok((store, found)),
+            Ok(None) => Err(fault(disks)),
+            Err(e) => Err(e.into()),
+        },
+        Err(e) => Err(open_err_of(e)),
+    }
+}
+
+/// Whether an opening refuses what it has come upon.
+fn refuses(e: OpenErr) -> bool
+    ensures refused { IsTrue result → IsLater e → ⊥ }
+    ensures later { result ≡ false → IsLater e }
+{
+    matches!(e, OpenErr::NotSalt(_) | OpenErr::OtherShape { .. })
+}
+
+/// Opens devices at first, as `open_devices`. Behind an opening that a stop has broken off nothing is refused: only disks can bring
+/// that about that don't tell their bytes, and they have failed.
+pub fn open_first<D: Disks, F: Fn(PlaceKind, &Key, u32) -> u32>(
+    alloc: Global,
+    disks: &mut D,
+    place: &Placement<F>,
+    shape: Shape,
+    pending: &Pending,
+) -> Result<(Store, Found), OpenErr>
+    requires callable { TakesEachKey (F.pre place.now.place) }
+    requires answers { GivesPlaceOf (F.post place.now.place) }
+    requires parts { IsParts shape.parts }
+    requires room { HasRoom (D.view disks.old) shape.parts }
+    requires opens { CanOpen pending.now true (D.view disks.old) shape }
+
+    ensures ok { IfOk result (λ made. OpensAs (D.view disks.old) (D.view disks.new) shape made.0 made.1) }
+    ensures numbers { IfOk result (λ made. are_spent made.1.boot made.1.decisions ≡ false) }
+    ensures err { IsTrue (D.view disks.old).told → IfErr result (RefusedAs shape (D.view disks.old).bytes) }
+    ensures still { OnErr result (IsTrue (D.view disks.old).told → (image : ℕ → List ℕ) → IsImage (D.view disks.new) image
+        → FindsNoMore (RefusedAs shape (D.view disks.old).bytes) (StandsFor shape (D.view disks.old).bytes) (RefusedAs shape image) (StandsFor shape image)) }
+    ensures stopped { result ≡ Err (Halted Stopped) → IsTrue (D.view disks.old).told → (image : ℕ → List ℕ) → IsImage (D.view disks.new) image → Stands shape image }
+    ensures later { pending.now ≡ Opening → IfErr result IsLater }
+    ensures unchanged { IfErr result (λ e. IfRefused e (IsTrue (D.view disks.old).told → AreUnchanged (D.view disks.old) (D.view disks.new))) }
+    ensures full { (dev : ℕ) → result ≡ Err (Halted (DeviceFull dev)) → IsTrue (D.view disks.old).told → StorePassesLimit (D.view disks.old).limit shape dev }
+    ensures shape { SameShape (D.view disks.old) (D.view disks.new) }
+    ensures cause { HasCause (D.view disks.old) (D.view disks.new) (open_disk_err result) }
+{
+    match open_devices(alloc, disks, place, shape) {
+        Ok((store, found)) => Ok((store, found)),
+        Err(e) => {
+            if !pending.is_opening() {
+                return Err(e);
+            }
+            if refuses(e) {
+                return Err(fault(disks));
+            }
+            Err(e)
+        }
+    }
+}

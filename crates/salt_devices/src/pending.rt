@@ -1,0 +1,75 @@
+//! What was being written when a call was broken off.
+
+ghost use Rattle.salt_devices.specs.declared.pending.Pending.TheVariants.{Decision, Lost, Nothing, Opening};
+ghost use Rattle.salt_storage.specs.declared.halt.Halt.TheVariants.{Memory, Stopped};
+ghost use Rattle.salt_storage.specs.declared.open.OpenErr.TheVariants.{Halted};
+ghost use Rattle.std.specs.Prelude.{IfOk, IsTrue, ◌↔◌, ◌≡◌, ◌≢◌, ◌⊎◌};
+
+use salt_partition::change_copied;
+use salt_storage::{Halt, OpenErr};
+use salt_values::{Change, Changes};
+use std::alloc::{AllocError, Global};
+
+/// What may stand on the devices beside what was kept before, where the last call was broken off.
+#[derive(Drop)]
+pub enum Pending {
+    Nothing,
+    /// A first opening, which a stop has broken off.
+    Opening,
+    Boot,
+    Definition,
+    /// A unit with these changes.
+    Decision(Changes),
+    /// Memory ran out within a unit, and the rows in memory may be of it or not.
+    Lost,
+}
+
+impl Pending {
+    /// Whether a first opening was broken off by a stop.
+    pub fn is_opening(&self) -> bool
+        ensures { IsTrue result ↔ (self.now ≡ Opening) }
+    {
+        matches!(self, Pending::Opening)
+    }
+
+    /// Whether memory ran out within a unit.
+    pub fn is_lost(&self) -> bool
+        ensures { IsTrue result ↔ (self.now ≡ Lost) }
+    {
+        matches!(self, Pending::Lost)
+    }
+}
+
+/// A copy of changes, in their order.
+fn changes_copied(alloc: Global, changes: &[Change]) -> Result<Changes, AllocError>
+    ensures { IfOk result (λ made. made ≡ changes.now) }
+{
+    let mut made = Changes::new(alloc);
+    for change in changes {
+        made.push(change_copied(alloc, change)?)?;
+    }
+    Ok(made)
+}
+
+/// What is pending behind this error of a first opening.
+pub fn pending_opening(e: OpenErr) -> Pending
+    ensures { ((result ≡ Opening) × (e ≡ Halted Stopped)) ⊎ ((result ≡ Nothing) × (e ≢ Halted Stopped)) }
+{
+    match e {
+        OpenErr::Halted(Halt::Stopped) => Pending::Opening,
+        _ => Pending::Nothing,
+    }
+}
+
+/// What is pending behind this error of a unit's commit.
+pub fn pending_unit(alloc: Global, e: Halt, changes: &Changes) -> Pending
+    ensures { (result ≡ Lost) ⊎ ((result ≡ Decision changes.now) × (e ≢ Memory)) }
+{
+    if matches!(e, Halt::Memory) {
+        return Pending::Lost;
+    }
+    match changes_copied(alloc, changes.as_slice()) {
+        Ok(changes) => Pending::Decision(changes),
+        Err(_) => Pending::Lost,
+    }
+}
