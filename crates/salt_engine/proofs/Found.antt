@@ -1,32 +1,67 @@
--- A unit that is found in a list whose names rise is the one of its name.
-use Rattle.salt_keeps.proofs.Rising.{named-at}
-use Rattle.salt_keeps.specs.OpenUnits.{OpenUnit, names_in, unit_named}
-use Rattle.salt_keeps.specs.Rising.{Rising}
-use Rattle.std.proofs.Common.{ap, arith, subst}
-use Rattle.std.specs.List.{find}
-use Rattle.std.specs.Prelude.{Bool, List, None, Some, [], cond, false, get_or, length, suc, true, zero, ℕ, ◌<◌, ◌∷◌, ◌≡◌}
+-- What was found is taken on, at first and behind a fall.
+use Rattle.salt_ast.specs.declared.lines.Line.{Line}
+use Rattle.salt_books.specs.Books.{AreBooks}
+use Rattle.salt_books.specs.declared.books.Books.{Books}
+use Rattle.salt_engine.proofs.Draining.{leads-on}
+use Rattle.salt_engine.specs.Finding.{IsFoundAgain, IsFoundFirst, IsTakenOn}
+use Rattle.salt_engine.specs.Stored.{IsEither}
+use Rattle.salt_engine.specs.declared.stage.Stage.TheVariants as at
+use Rattle.salt_engine.specs.declared.stage.Stage.{Stage}
+use Rattle.salt_known.specs.Known.{AllLeadOn, IsKnown}
+use Rattle.salt_known.specs.declared.known.Known.{Known}
+use Rattle.salt_model.specs.Kept.{Kept, programs_of, schema_of}
+use Rattle.salt_model.specs.Phases.{Phase}
+use Rattle.salt_stands.specs.Stands.{are_spent}
+use Rattle.salt_storage.specs.Storing.{IsFound, IsSoundKept, Reopens}
+use Rattle.salt_storage.specs.declared.found.Found.{Found}
+use Rattle.salt_storage.specs.declared.found.Numbers.{Numbers}
+use Rattle.std.proofs.Common.{ap, inl, inr, sym, ◌∙◌}
+use Rattle.std.specs.Prelude.{[], false, refl, ◌≡◌, ◌⊎◌}
 
--- it stands at a place of the list
-record IsThere {A : Type 0} (x : A) (xs : List A) : Type 0 where
-  at : ℕ
-  within : at < length xs
-  is : get_or xs at x ≡ x
+-- at first
+pub takes-on : (found : Found) (k : Kept) (known : Known) (books : Books) (stage : Stage) → IsFound found k → IsSoundKept k → are_spent found.boot found.decisions ≡ false →
+    (found.schema ≡ schema_of k → found.catalogue ≡ programs_of k → found.conts ≡ k.conts → found.boot ≡ k.boot → found.decisions ≡ k.decisions → AllLeadOn (programs_of k) → IsKnown known k) →
+    ((phase : Phase) (line : Line) → IsKnown known k →
+    AreBooks books (record { kept = k; phase = phase; line = line; to_go = []; units = []; unit_count = 0; base_count = 0 })) →
+    stage ≡ at.Found books (record { boot = found.boot; decisions = found.decisions }) → IsTakenOn k stage
+takes-on found k known books stage is sound unspent knows fresh there =
+    let it : IsKnown known k = knows is.schema is.catalogue is.conts is.boot is.decisions (leads-on k sound) in
+    record {
+      books = books;
+      numbers = record { boot = found.boot; decisions = found.decisions };
+      there = there;
+      fresh = λ phase line. fresh phase line it;
+      numbered = record { boot = is.boot; decisions = is.decisions; unspent = unspent };
+    }
 
-is-there : {A : Type 0} (p : A → Bool) (xs : List A) (x : A) → find p xs ≡ Some x → IsThere x xs
-is-there p [] x h = cc
-is-there p (y ∷ ys) x h = by (p y) h (is-there p ys x)
+pub first-found : (holds finds : Kept → Type 0) (found : Found) (stage : Stage) → ((k : Kept) × holds k × IsFound found k × finds k) → ((k : Kept) → holds k → IsSoundKept k) →
+    ((k : Kept) → IsFound found k → IsSoundKept k → IsTakenOn k stage) → IsFoundFirst holds finds stage
+first-found holds finds found stage h may taken = record {
+  kept = h.0;
+  found = h.3;
+  holding = h.1;
+  sound = may h.0 h.1;
+  taken = taken h.0 h.2 (may h.0 h.1);
+}
+
+-- behind a fall
+pub found-again : (holds : Kept → Type 0) (x y : Books) (a b : Kept) (n : Numbers) (was stage : Stage) → was ≡ at.Down x → was ≡ at.Down y → stage ≡ at.Found y n →
+    are_spent n.boot n.decisions ≡ false → Reopens holds n a ⊎ Reopens holds n b → IsFoundAgain holds x a b stage
+found-again holds x y a b n was stage is_x is_y there unspent how = by how
   where
-    some : y ≡ x → IsThere x (y ∷ ys)
-    some e = record { at = zero; within = omega arith; is = e }
+    same : y ≡ x
+    same = let both : at.Down y ≡ at.Down x = sym is_y ∙ is_x in cc
 
-    by : (b : Bool) → cond b (Some y) (find p ys) ≡ Some x → (find p ys ≡ Some x → IsThere x ys) → IsThere x (y ∷ ys)
-    by true e more = some (ap (λ o. elim o [ None ↦ y | Some z ↦ z ]) e)
-    by false e more =
-        let t = more e in
-        let w = t.within in
-        record { at = suc t.at; within = omega arith; is = t.is }
+    on : (k : Kept) → IsEither a b k → Reopens holds n k → IsFoundAgain holds x a b stage
+    on k either r = record {
+      kept = k;
+      numbers = n;
+      either = either;
+      holding = r.holding;
+      there = there ∙ ap (λ (z : Books). at.Found z n) same;
+      numbered = record { boot = r.boot; decisions = r.decisions; unspent = unspent };
+    }
 
-pub found-named : (p : OpenUnit → Bool) (os : List OpenUnit) (o : OpenUnit) → Rising (names_in os) → find p os ≡ Some o → unit_named o.unit os ≡ Some o
-found-named p os o rises h =
-    let t = is-there p os o h in
-    subst (λ (x : OpenUnit). unit_named x.unit os ≡ Some x) t.is (named-at os t.at o rises t.within)
+    by : Reopens holds n a ⊎ Reopens holds n b → IsFoundAgain holds x a b stage
+    by (inl r) = on a (inl refl) r
+    by (inr r) = on b (inr refl) r

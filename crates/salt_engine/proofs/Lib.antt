@@ -1,24 +1,40 @@
-mod Following
-mod InTurn
-mod Soundness
-mod Found
-mod Facts
-mod Moving
-mod Beginning
-mod Allowing
-mod Done
-mod Serving
-mod SoundFacts
-mod BeginDone
-mod ActDone
-mod EndsDone
-mod BasesDone
-mod SettleDone
-mod UnderWay
-mod FirstLine
-mod ShownDone
-mod Refusing
-mod Judged
-mod LinesDone
-mod StepsDone
-mod Counting
+pub mod Loading
+pub mod Decided
+pub mod Committing
+pub mod Draining
+pub mod Broken
+pub mod Resting
+pub mod Booting
+pub mod Halting
+pub mod Going
+pub mod Leftover
+pub mod OpeningGoes
+pub mod Waiting
+pub mod ServingGoes
+pub mod Falling
+pub mod Opened
+pub mod OpenedOn
+pub mod Flying
+pub mod Performed
+pub mod Plain
+pub mod Lying
+pub mod Counted
+pub mod LineGoes
+pub mod Judging
+pub mod OpeningActs
+pub mod ReadyDone
+pub mod Flown
+pub mod AskDone
+pub mod FallDone
+pub mod FindDone
+pub mod Found
+pub mod GoDone
+pub mod LineArms
+pub mod LineAsked
+pub mod LineChosen
+pub mod LineDefines
+pub mod OpenDone
+pub mod SayDone
+pub mod Spent
+pub mod ServingActs
+pub mod Stages

@@ -1,8 +1,6 @@
-pub mod Follows
-pub mod Serving
-pub mod Sound
-pub mod Asking
-pub mod Calling
+pub mod Stored
+pub mod Deciding
+pub mod Flights
 pub mod Standing
-pub mod Refused
-pub mod StillToCome
+pub mod Performing
+pub mod Finding

@@ -1,170 +1,143 @@
--- What an engine stands for: a state; and with an event at hand, which it has done, the state before that.
-use Rattle.salt_ast.specs.declared.lines.Line.TheVariants.{GoAll}
-use Rattle.salt_ast.specs.declared.lines.Line.{Line}
-use Rattle.salt_ast.specs.declared.trees.TableDef.{TableDef}
-use Rattle.salt_books.specs.Books.{AreBooks}
-use Rattle.salt_engine.specs.Asking.{IsAskedBy}
-use Rattle.salt_books.specs.Called.{name_told}
-use Rattle.salt_books.specs.LeavingKeys.{LeavesKeys}
-use Rattle.salt_engine.specs.Follows.{FollowsOn, event_of}
-use Rattle.salt_engine.specs.Serving.{is_served}
-use Rattle.salt_engine.specs.Sound.{IsSoundState}
-use Rattle.salt_engine.specs.declared.asking.Asking.{Asking}
-use Rattle.salt_engine.specs.declared.engine.Engine.{Engine}
-use Rattle.salt_engine.specs.declared.follow.Follow.{Follow}
-use Rattle.salt_engine.specs.declared.follow.Follow.TheVariants.{Accept, Release, Turn}
-use Rattle.salt_keeps.specs.KeptWaits.{served_in}
-use Rattle.salt_keeps.specs.Members.{In}
-use Rattle.salt_keeps.specs.OpenUnits.{OpenUnit, UnitState, unit_named}
-use Rattle.salt_keeps.specs.Follows.{settles_in}
-use Rattle.salt_keeps.specs.Readings.{Reading, beside_by, first_parts, locks_in, under_way_of}
-use Rattle.salt_keeps.specs.Refused.{refusal_in}
-use Rattle.salt_keeps.specs.States.{After, State}
-use Rattle.salt_keeps.specs.Watches.{Watch}
-use Rattle.salt_model.specs.Kept.{schema_of}
-use Rattle.salt_model.specs.Phases.{Serving}
-use Rattle.salt_model.specs.Trace.{Tree}
-use Rattle.salt_model.specs.Waiting.{statement_of_line}
+-- What an engine stands for: a state, over a storage that holds what that keeps; broken off, a point at which it can be opened.
+use Rattle.salt_books.specs.Books.{AreBooks, seen}
+use Rattle.salt_books.specs.declared.books.Books.{Books}
+use Rattle.salt_engine.specs.Flights.{IsInFlight}
+use Rattle.salt_engine.specs.Stored.{IsLeft, IsNumbered, Stored}
+use Rattle.salt_engine.specs.declared.flights.InFlight.{InFlight}
+use Rattle.salt_engine.specs.declared.stage.Stage.TheVariants.{Down, Found, Lost, New, Opening, Serving}
+use Rattle.salt_engine.specs.declared.stage.Stage.{Stage}
+use Rattle.salt_keeps.specs.OpenUnits.{UnitState}
+use Rattle.salt_keeps.specs.Points.{Point}
+use Rattle.salt_keeps.specs.States.{State}
+use Rattle.salt_model.specs.Kept.{Kept}
+use Rattle.salt_model.specs.Phases as phases
+use Rattle.salt_model.specs.Turns.{is_statement_line}
+use Rattle.salt_model.specs.declared.events.Event.TheVariants.{Ready}
 use Rattle.salt_model.specs.declared.events.Event.{Event}
-use Rattle.salt_model.specs.declared.events.UnitKind.TheVariants.{Later}
-use Rattle.salt_units.specs.Acting.{leaves_keys}
+use Rattle.salt_openings.specs.Draining.{done_now, is_earlier, opening_stage, rests_of}
+use Rattle.salt_recovery.specs.Recovering as recovering
+use Rattle.salt_scheduler.specs.Standing as scheduling
+use Rattle.salt_storage.specs.Storing.{IsSoundKept}
 use Rattle.salt_values.specs.declared.id.Id.{Id}
-use Rattle.salt_watch.specs.Watched.{IsFinishing, IsWatch}
-use Rattle.salt_watch.specs.declared.watching.Watching.{Watching}
-use Rattle.std.specs.Option.{option_or}
-use Rattle.std.specs.Prelude.{IfSome, List, None, Option, Some, [], false, true, ℕ, ⊤, ◌++◌, ◌∷◌, ◌≡◌, ◌⊎◌}
+use Rattle.std.specs.List.{filter}
+use Rattle.std.specs.Prelude.{Bool, List, None, Option, Some, [], false, length, map, true, ℕ, ⊤, ◌*◌, ◌+◌, ◌-◌, ◌≡◌, ◌⊎◌}
 
--- a program of which the event at hand was the first commit
-abbrev pub accepting : Follow → List Id
-accepting (Accept b) = b ∷ []
-accepting f = []
+-- THE STAGES.
 
--- the programs whose names are kept: unreleased, in their first part, or about to be accepted
-abbrev pub bases_called : Follow → State → List Id
-bases_called f s = s.watch.programs ++ (first_parts s.units.units ++ accepting f)
+-- with the event at hand, which the half in memory has done, it stands for the state before that; a scheduler serves there
+abbrev pub SeesIn : (holds : Kept → Type 0) (is_new : Id → Type 0) → Stage → Option Event → State → Type 0
+SeesIn holds is_new (Serving x) None s = scheduling.Stands x s × Stored holds is_new s.units
+SeesIn holds is_new (Serving x) (Some e) s = (t : State) × scheduling.HasDone x e s t × Stored holds is_new t.units × (s.units.phase ≡ phases.Serving)
+SeesIn holds is_new (Opening x) (Some e) s = (t : State) × recovering.HasDone x e s t × Stored holds is_new t.units
+SeesIn holds is_new stage next s = ⊥
 
--- the statement of a line sets no key, if it has one
-abbrev pub LineLeaves : List TableDef → Line → Type 0
-LineLeaves schema now = IfSome (statement_of_line now) (LeavesKeys schema)
+-- beside that: whether stops can be armed, whether the last line is one statement, and that nothing is in flight
+pub record Sees (holds : Kept → Type 0) (is_new : Id → Type 0) (stoppable : Bool) (stage : Stage) (single : Bool) (in_flight : Option InFlight)
+    (next : Option Event) (s : State) : Type 0 where
+  pub seen : SeesIn holds is_new stage next s
+  pub can_stop : s.can_stop ≡ stoppable
+  pub line : single ≡ is_statement_line s.units.line
+  pub none : in_flight ≡ None
 
--- programs are to have a turn in a `go all` alone
-abbrev pub IsTurning : UnitState → Type 0
-IsTurning s = (s.to_go ≡ []) ⊎ (s.line ≡ GoAll)
+abbrev pub IsNewStage : Stage → Type 0
+IsNewStage New = ⊤
+IsNewStage stage = ⊥
 
--- the watch, seen in this way, with all else
-pub record StandsWith (watched : Watching → Watch → Type 0) (x : Engine) (s : State) : Type 0 where
-  pub books : AreBooks x.books s.units
-  pub watch : watched x.watch s.watch
-  pub called : (b : Id) → In b (bases_called x.follow s) → name_told x.called b ≡ Some (s.names b)
-  pub can_stop : s.can_stop ≡ false
-  pub turns : IsTurning s.units
+abbrev pub IsFoundStage : Stage → Type 0
+IsFoundStage (Found books numbers) = ⊤
+IsFoundStage stage = ⊥
 
-abbrev pub Stands : Engine → State → Type 0
-Stands x s = StandsWith IsWatch x s
+abbrev pub IsOpeningStage : Stage → Type 0
+IsOpeningStage (Opening x) = ⊤
+IsOpeningStage stage = ⊥
 
--- what is watched where this follows: of a program that has finished the releases are not yet asked for
-abbrev pub watched_by : Follow → Watching → Watch → Type 0
-watched_by (Release b) x w = IsFinishing b x w
-watched_by f x w = IsWatch x w
+abbrev pub IsServingStage : Stage → Type 0
+IsServingStage (Serving x) = ⊤
+IsServingStage stage = ⊥
 
--- a unit that takes a turn may ask for the statement of the line
-abbrev pub LineFor : Follow → UnitState → Type 0
-LineFor (Turn u) s = LineLeaves (schema_of s.kept) s.line
-LineFor f s = ⊤
+-- it was broken off
+abbrev pub IsBrokenStage : Stage → Type 0
+IsBrokenStage (Down x) = ⊤
+IsBrokenStage stage = ⊥
 
-pub record StandsBehind (x : Engine) (s : State) : Type 0 where
-  pub stands : StandsWith (watched_by x.follow) x s
-  pub line : LineFor x.follow s.units
+-- or has not begun
+abbrev pub IsDownStage : Stage → Type 0
+IsDownStage (Found books numbers) = ⊥
+IsDownStage (Opening x) = ⊥
+IsDownStage (Serving x) = ⊥
+IsDownStage stage = ⊤
 
--- it has done an event
-pub record HasDone (x : Engine) (e : Event) (s t : State) : Type 0 where
-  pub served : is_served e ≡ true
-  pub after : After e s t
-  pub behind : StandsBehind x t
-  pub follows : FollowsOn x.follow e s.units t.units
+-- it has found nothing, and was asked nothing
+pub record IsNew (stage : Stage) (single : Bool) (in_flight : Option InFlight) : Type 0 where
+  pub begins : IsNewStage stage
+  pub line : single ≡ false
+  pub none : in_flight ≡ None
 
-abbrev pub Sees : Engine → Option Event → State → Type 0
-Sees x None s = Stands x s
-Sees x (Some e) s = (t : State) × HasDone x e s t
+-- BROKEN OFF.
 
--- a state in which lines are served, this one now
-pub record ServesLine (now : Line) (s : State) : Type 0 where
-  pub sound : IsSoundState s
-  pub phase : s.units.phase ≡ Serving
-  pub line : s.units.line ≡ now
+-- the books that it has
+abbrev pub books_in : Stage → Option Books
+books_in New = None
+books_in (Found books numbers) = Some books
+books_in (Opening x) = Some x.books
+books_in (Serving x) = Some x.books
+books_in (Down books) = Some books
+books_in Lost = None
 
--- what is given is what the state tells, and it is done
-pub record Gives (s : State) (want : Option Event) (new : Engine) (given : Option Event) : Type 0 where
-  pub told : given ≡ want
-  pub done : Sees new given s
+-- They have the units and know what is kept; an opening counts units and programs anew. To the programs of a `go all` it goes no more,
+-- or as it went.
+pub record KnowUnits (x : Books) (s : UnitState) : Type 0 where
+  pub units : ℕ
+  pub bases : ℕ
+  pub goes : List Id
+  pub are : AreBooks x (record s { unit_count = units; base_count = bases; to_go = goes })
+  pub going : (goes ≡ []) ⊎ (goes ≡ s.to_go)
 
--- what a state tells of what comes next, in whatever way it is read
-abbrev pub Wanted : Type 0
-Wanted = (s : State) → Reading s.watch → Option Event
+abbrev pub KnowsUnits : Stage → UnitState → Type 0
+KnowsUnits stage s = (x : Books) × (books_in stage ≡ Some x) × KnowUnits x s
 
--- a state in which this line is served, whose statement sets no key
-pub record ServesJudged (now : Line) (s : State) : Type 0 where
-  pub serves : ServesLine now s
-  pub leaves : LineLeaves (schema_of s.units.kept) s.units.line
+-- what a stop leaves of the devices stands for what is kept at this point, or for that with the flight
+abbrev pub Left : (holds : Kept → Type 0) (leaves : Kept → Kept → Type 0) → Stage → ℕ → Point → Type 0
+Left holds leaves (Found books numbers) room p = (k : Kept) × holds k × IsLeft room p k × IsNumbered numbers k
+Left holds leaves stage room p = (a b : Kept) × leaves a b × IsLeft room p a × IsLeft room p b
 
--- from an engine that stands for a state to one that has done what this tells of it, in a line
-abbrev pub Chooses : Wanted → Line → Engine → Engine → Option Event → Type 0
-Chooses want now old new given = (s : State) (r : Reading s.watch) → Stands old s → ServesLine now s → Gives s (want s r) new given
+-- it can be opened at this point
+pub record Lies (holds : Kept → Type 0) (leaves : Kept → Kept → Type 0) (stoppable : Bool) (stage : Stage) (single : Bool) (in_flight : Option InFlight)
+    (room : ℕ) (p : Point) : Type 0 where
+  pub left : Left holds leaves stage room p
+  pub knows : KnowsUnits stage p.state.units
+  pub sound : IsSoundKept p.state.units.kept
+  pub can_stop : p.state.can_stop ≡ stoppable
+  pub line : single ≡ is_statement_line p.state.units.line
+  pub flies : IsInFlight in_flight p.flight p.state.units
 
--- in a line that is not refused
-abbrev pub ChoosesJudged : Wanted → Line → Engine → Engine → Option Event → Type 0
-ChoosesJudged want now old new given = (s : State) (r : Reading s.watch) → Stands old s → ServesJudged now s → Gives s (want s r) new given
+-- what its stage asks of the storage for it to be opened
+abbrev pub CanFind : (unopened : Type 0) (leaves : Kept → Kept → Type 0) → Stage → Type 0
+CanFind unopened leaves New = unopened
+CanFind unopened leaves (Down books) = (a b : Kept) × leaves a b
+CanFind unopened leaves stage = ⊤
 
--- it stands for some state in which a line is served
-abbrev pub IsServing : Line → Engine → Type 0
-IsServing now x = (s : State) × Stands x s × ServesLine now s
+-- WHAT IS STILL TO COME.
 
-abbrev pub IsServingJudged : Line → Engine → Type 0
-IsServingJudged now x = (s : State) × Stands x s × ServesJudged now s
+-- the waiting units, and the programs to which `go all` has still to turn
+abbrev pub waits_in : Stage → List Id
+waits_in (Serving x) = map (λ w. w.unit) x.watch.waits.items
+waits_in stage = []
 
-abbrev pub IsServingBehind : Line → Engine → Type 0
-IsServingBehind now x = (s : State) × StandsBehind x s × ServesLine now s
+abbrev pub goes_in : Stage → List Id
+goes_in (Serving x) = x.books.to_go.items
+goes_in stage = []
 
--- what an engine needs to do an open unit's statement
-pub record CanDo (x : Engine) (a : Asking) : Type 0 where
-  pub state : State
-  pub stands : Stands x state
-  pub unit : OpenUnit
-  pub asked : IsAskedBy a state.units unit
-  pub leaves : leaves_keys (schema_of state.units.kept) a.statement ≡ true
+-- the units that an opening has still to cut, and the statements that it may still do, by its books
+abbrev pub left_by : Books → ℕ
+left_by x =
+    let units = map seen x.units.items in
+    length (filter (is_earlier x.known.boot) units) + (rests_of x.known.catalogue x.known.conts - done_now x.known.boot units)
 
--- it stands for a state in which a line is served and this unit is to be served
-pub record IsServed (now : Line) (x : Engine) (u : Id) : Type 0 where
-  pub state : State
-  pub stands : Stands x state
-  pub serves : ServesLine now state
-  pub served : served_in (locks_in state.watch) state.watch.waits ≡ Some u
+abbrev pub left_in : Stage → Option Event → ℕ
+left_in (Opening x) (Some e) = 8 * left_by x.books + opening_stage e
+left_in stage next = 0
 
--- a state in which a line is served that is not refused
-pub record ServesAllowed (now : Line) (s : State) : Type 0 where
-  pub serves : ServesLine now s
-  pub allowed : refusal_in s.units (under_way_of s) (Tree now) ≡ None
-
-abbrev pub Allows : Wanted → Line → Engine → Engine → Option Event → Type 0
-Allows want now old new given = (s : State) (r : Reading s.watch) → Stands old s → ServesAllowed now s → Gives s (want s r) new given
-
-abbrev pub IsAllowed : Line → Engine → Type 0
-IsAllowed now x = (s : State) × Stands x s × ServesAllowed now s
-
--- what comes behind an event: what follows it, or what settles
-abbrev pub behind_in : (s : State) → Reading s.watch → Follow → Option Event
-behind_in s r f = option_or (event_of f s.units (beside_by s r)) (settles_in s.units (beside_by s r))
-
--- it stands for a state in which a line is served and a failed unit is of a later part
-pub record IsLaterUnit (now : Line) (x : Engine) (u b : Id) : Type 0 where
-  pub state : State
-  pub stands : Stands x state
-  pub serves : ServesLine now state
-  pub unit : OpenUnit
-  pub part : ℕ
-  pub named : unit_named u state.units.units ≡ Some unit
-  pub kind : unit.kind ≡ Later b part
-
--- what the unit of this name asks for sets no key: it waits, or the line's statement sets none
-abbrev pub MayAsk : Line → UnitState → Id → Type 0
-MayAsk now s u = (o : OpenUnit) → unit_named u s.units ≡ Some o → (o.waiting ≡ true) ⊎ LineLeaves (schema_of s.kept) now
+abbrev pub is_ready : Event → Bool
+is_ready Ready = true
+is_ready e = false

@@ -1,20 +1,19 @@
-//! The engine: it does a line, and tells the events that come next.
+//! The engine: it does a line, and tells the events that come next, over a storage.
 //!
-//! `Engine` implements `salt_steps::Steps`, by which lines are served. It chooses what comes next by small functions, each of
-//! which gives an event and has done it: units and tables are in its books, locks and waits in its watch.
+//! `Engine` implements `salt_steps::Steps`, by which lines are served and runs are opened. One half of it chooses in memory what
+//! comes next, in an opening `salt_recovery`, while serving `salt_scheduler`; what is decided or read is asked of a
+//! `salt_storage::Storage`, at one place.
 #![tactic(auto)]
 
-mod asking;
-mod called;
-mod ends;
+mod beginning;
+mod deciding;
 mod engine;
-mod follow;
-mod kinds;
+mod finding;
+mod flights;
 mod lines;
-mod names;
-mod refusal;
-mod shows;
+mod opening;
+mod serving;
+mod stage;
 mod steps;
-mod turns;
 
 pub use engine::Engine;

@@ -1,181 +1,300 @@
-//! The first event of a line.
+//! A line is begun.
 
-ghost use Rattle.std.specs.Option.{option_copied};
-ghost use Rattle.std.specs.Prelude.{◌≡◌, ◌<◌, ◌^◌, IfOk, Option, Some, length, option_map};
-ghost use Rattle.salt_ast.specs.declared.lines.Act.{Act};
-ghost use Rattle.salt_ast.specs.declared.lines.Line.{Line};
-ghost use Rattle.salt_books.specs.Books.{seen};
-ghost use Rattle.salt_keeps.specs.OpenUnits.{unit_of_session};
-ghost use Rattle.salt_keeps.specs.Readings.{clash_by, items_by};
-ghost use Rattle.salt_keeps.specs.States.{State};
-ghost use Rattle.salt_program.specs.Refusals.{parts_in};
-ghost use Rattle.salt_ast.specs.ProgramTexts.{program_text};
-ghost use Rattle.salt_ast.specs.Texts.{table_text};
-ghost use Rattle.salt_judge.specs.Refusals.{HasFewParts};
-ghost use Rattle.salt_keeps.specs.Told.{act_in, calls_in, go_in, kind_called_in, line_in, next_decision};
-ghost use Rattle.salt_model.specs.Kept.{kept_program};
-ghost use Rattle.salt_model.specs.declared.events.Event.{Event};
+ghost use Rattle.salt_ast.specs.declared.lines.Line.TheVariants as line_of;
+ghost use Rattle.salt_disk.specs.Disks.{SameShape};
+ghost use Rattle.salt_engine.specs.Performing.{AsksLine, BreaksOff, IsRefused, IsRejected, IsToAsk, Performs, is_prepared_line};
+ghost use Rattle.salt_engine.specs.Stored.{Stored};
+ghost use Rattle.salt_engine.specs.declared.stage.Stage.TheVariants.{Lost};
+ghost use Rattle.salt_keeps.specs.Readings.{Reading, clash_by, items_by};
+ghost use Rattle.salt_keeps.specs.Nexts.{asked_next};
+ghost use Rattle.salt_keeps.specs.OpenUnits.{UnitState};
+ghost use Rattle.salt_keeps.specs.States.{State, asked_of};
+ghost use Rattle.salt_keeps.specs.Told.{line_in};
+ghost use Rattle.salt_model.specs.Trace.{Tree};
+ghost use Rattle.salt_model.specs.Turns.{is_statement_line};
+ghost use Rattle.salt_model.specs.Words.{Every};
+ghost use Rattle.salt_steps.specs.Counting.{CountsStops, armed_by};
+ghost use Rattle.salt_storage.specs.Answers.{disk_err};
+ghost use Rattle.std.specs.Prelude.{IfErr, IfOk, IsTrue, None, OnErr, OnOk, false, length, ℕ, ◌+◌, ◌≡◌, ◌≤◌};
 
 use crate::engine::Engine;
-use crate::follow::Follow;
-use salt_ast::{Act, Body, Line, ProgramDef, TableDef};
-use salt_books::Held;
-use salt_model::{End, Event, Refusal, UnitKind};
-use salt_values::{Id, Name, Row, TryCopy};
+use crate::flights::InFlight;
+use crate::stage::Stage;
+use salt_ast::{Act, Line, Pairs, ProgramDef, TableDef};
+use salt_disk::Disks;
+use salt_known::{program_text, table_text};
+use salt_model::{Event, Refusal};
+use salt_scheduler::Scheduler;
+use salt_sound::definitions_may_be_kept;
+use salt_storage::{Halt, Storage};
+use salt_values::TryCopy;
+use sqlite_items::Items;
 use std::alloc::AllocError;
 
-/// The name of a unit, if there is one.
-fn name_of(held: Option<&Held>) -> Option<Id>
-    ensures { result ≡ option_map (λ h. (seen h).unit) (option_copied held.entry) }
+/// Whether a line is one statement.
+pub fn is_statement_line(line: &Line) -> bool
+    ensures { result ≡ is_statement_line line.now }
 {
-    match held {
-        Some(held) => Some(held.open.unit()),
-        None => None,
+    match line {
+        Line::Session { act, .. } => match act {
+            Act::Do(_) => true,
+            _ => false,
+        },
+        _ => false,
     }
 }
 
-impl Engine {
-    ghost use Rattle.salt_engine.specs.Standing.{Allows, Chooses, ChoosesJudged, IsAllowed, IsServingJudged, Stands};
-
-    /// A table is defined that is not refused.
-    fn define_table(&mut self, line: &Line, def: &TableDef) -> Result<Event, AllocError>
-        requires allowed { IsAllowed line.now self.old }
-        requires line { line.now ≡ Line.Table def.now }
-        ensures { IfOk result (λ e. Allows (λ s r. Some (Event.Defined (next_decision s.units) (table_text def.now))) line.now self.old self.new (Some e)) }
-    {
-        let (number, text) = self.books.define_table(def)?;
-        self.follow = Follow::Nothing;
-        Ok(Event::Defined { number, text })
-    }
-
-    /// A program is defined that is not refused.
-    fn define_program(&mut self, line: &Line, def: &ProgramDef) -> Result<Event, AllocError>
-        requires allowed { IsAllowed line.now self.old }
-        requires line { line.now ≡ Line.Program def.now }
-        requires parts { length (parts_in def.now.body) < 2 ^ 32 }
-        ensures { IfOk result (λ e. Allows (λ s r. Some (Event.Defined (next_decision s.units) (program_text def.now))) line.now self.old self.new (Some e)) }
-    {
-        let (number, text) = self.books.define_program(def)?;
-        self.follow = Follow::Nothing;
-        Ok(Event::Defined { number, text })
-    }
-
-    /// The kind of a unit that a session's call begins, if there is a program of the name.
-    fn kind_called(
-        &self,
-        session: u8,
-        name: &Name,
-        args: &Row,
-    ) -> Result<Option<UnitKind>, AllocError>
-        ensures { IfOk result (λ kind. (s : State) → Stands self.now s
-            → kind ≡ option_map (λ p. kind_called_in s.units session name.now args.now p.body) (kept_program name.now s.units.kept)) }
-    {
-        let Some(def) = self.books.store().program(name) else {
-            return Ok(None);
-        };
-        let program = name.copy(self.alloc)?;
-        let args = args.copy(self.alloc)?;
-        match def.body {
-            Body::Acid(_) => Ok(Some(UnitKind::Call {
-                session,
-                program,
-                args,
-            })),
-            Body::Base(_) => Ok(Some(UnitKind::First {
-                session,
-                base: self.books.next_base()?,
-                program,
-                args,
-            })),
-        }
-    }
-
-    /// A session calls a program.
-    fn call(
+impl<S: Storage> Engine<S> {
+    /// The table of a line is defined.
+    fn define_table<D: Disks>(
         &mut self,
+        disks: &mut D,
+        scheduler: Scheduler,
         line: &Line,
-        session: u8,
-        name: &Name,
-        args: &Row,
-    ) -> Result<Option<Event>, AllocError>
-        ensures { IfOk result (λ e. ChoosesJudged (λ s r. calls_in s.units session name.now args.now) line.now self.old self.new e) }
+        def: &TableDef,
+    ) -> Result<Option<Event>, Halt>
+        requires line { line.now ≡ line_of.Table def.now }
+        requires lost { self.old.stage ≡ Lost }
+        requires none { self.old.in_flight ≡ None }
+        requires ready { (s : State) × AsksLine (S.holds (D.view disks.old) self.old.storage) (S.is_new (D.view disks.old) self.old.storage) (D.view disks.old).can_stop line.now scheduler s }
+        ensures performs { IfOk result (λ e. (s : State) (r : Reading s.watch) → AsksLine (S.holds (D.view disks.old) self.old.storage) (S.is_new (D.view disks.old) self.old.storage) (D.view disks.old).can_stop line.now scheduler s
+            → Performs (S.holds (D.view disks.new) self.new.storage) (S.is_new (D.view disks.new) self.new.storage) self.new.stage self.new.in_flight (line_in s.units (clash_by s) (items_by s r) line.now) e s) }
+        ensures breaks { IfErr result (λ halt. (s : State) (r : Reading s.watch) → AsksLine (S.holds (D.view disks.old) self.old.storage) (S.is_new (D.view disks.old) self.old.storage) (D.view disks.old).can_stop line.now scheduler s
+            → BreaksOff (S.leaves (D.view disks.new) self.new.storage) (S.fills (D.view disks.new) self.new.storage) halt self.new.stage self.new.in_flight (line_in s.units (clash_by s) (items_by s r) line.now) s.units) }
+        ensures single { self.new.single ≡ self.old.single }
+        ensures asked { S.asked self.new.storage ≡ S.asked self.old.storage }
+        ensures shape { SameShape (D.view disks.old) (D.view disks.new) }
+        ensures counts { CountsStops (D.view disks.old) (D.view disks.new) (disk_err result) (armed_by result) 0 }
     {
-        match self.kind_called(session, name, args)? {
-            Some(kind) => Ok(Some(self.begin(line, kind)?)),
-            None => Ok(None),
+        definitions_may_be_kept();
+        let mut scheduler = scheduler;
+        self.storage.stands(disks);
+        let text = table_text(self.alloc, def)?;
+        let asked = InFlight::Table {
+            def: def.copy(self.alloc)?,
+            text: text.copy(self.alloc)?,
+        };
+        match self.storage.define(disks, text.as_slice()) {
+            Ok(_number) => {
+                self.storage.stands(disks);
+                let event = scheduler.table_defined(line, def)?;
+                self.stage = Stage::Serving(scheduler);
+                Ok(Some(event))
+            }
+            Err(halt) => Err(self.break_off(scheduler.into_books(), halt, Some(asked))),
         }
     }
 
-    /// What an act of a session brings.
-    fn act_of(&mut self, line: &Line, session: u8, act: &Act) -> Result<Option<Event>, AllocError>
-        requires { IsServingJudged line.now self.old }
-        ensures { IfOk result (λ e. ChoosesJudged (λ s r. act_in s.units (clash_by s) session act.now (unit_of_session session s.units)) line.now self.old self.new e) }
+    /// The program of a line is defined.
+    fn define_program<D: Disks>(
+        &mut self,
+        disks: &mut D,
+        scheduler: Scheduler,
+        line: &Line,
+        def: &ProgramDef,
+    ) -> Result<Option<Event>, Halt>
+        requires line { line.now ≡ line_of.Program def.now }
+        requires lost { self.old.stage ≡ Lost }
+        requires none { self.old.in_flight ≡ None }
+        requires ready { (s : State) × AsksLine (S.holds (D.view disks.old) self.old.storage) (S.is_new (D.view disks.old) self.old.storage) (D.view disks.old).can_stop line.now scheduler s }
+        ensures performs { IfOk result (λ e. (s : State) (r : Reading s.watch) → AsksLine (S.holds (D.view disks.old) self.old.storage) (S.is_new (D.view disks.old) self.old.storage) (D.view disks.old).can_stop line.now scheduler s
+            → Performs (S.holds (D.view disks.new) self.new.storage) (S.is_new (D.view disks.new) self.new.storage) self.new.stage self.new.in_flight (line_in s.units (clash_by s) (items_by s r) line.now) e s) }
+        ensures breaks { IfErr result (λ halt. (s : State) (r : Reading s.watch) → AsksLine (S.holds (D.view disks.old) self.old.storage) (S.is_new (D.view disks.old) self.old.storage) (D.view disks.old).can_stop line.now scheduler s
+            → BreaksOff (S.leaves (D.view disks.new) self.new.storage) (S.fills (D.view disks.new) self.new.storage) halt self.new.stage self.new.in_flight (line_in s.units (clash_by s) (items_by s r) line.now) s.units) }
+        ensures single { self.new.single ≡ self.old.single }
+        ensures asked { S.asked self.new.storage ≡ S.asked self.old.storage }
+        ensures shape { SameShape (D.view disks.old) (D.view disks.new) }
+        ensures counts { CountsStops (D.view disks.old) (D.view disks.new) (disk_err result) (armed_by result) 0 }
     {
-        let open = name_of(self.books.unit_of_session(session));
-        match act {
-            Act::Begin => Ok(Some(self.begin(line, UnitKind::Acid { session })?)),
-            Act::Call { program, args } => self.call(line, session, program, args),
-            Act::Do(_) => match open {
-                Some(unit) => self.take_turn(line, unit),
-                None => Ok(Some(self.begin(line, UnitKind::Acid { session })?)),
-            },
-            Act::Step => match open {
-                Some(unit) => self.take_turn(line, unit),
-                None => Ok(None),
-            },
-            Act::Commit => match open {
-                Some(unit) => self.commit(line, unit),
-                None => Ok(None),
-            },
-            Act::Rollback => match open {
-                Some(unit) => Ok(Some(self.end(line, unit, End::RolledBack)?)),
-                None => Ok(None),
-            },
+        definitions_may_be_kept();
+        let mut scheduler = scheduler;
+        self.storage.stands(disks);
+        let text = program_text(self.alloc, def)?;
+        let asked = InFlight::Program {
+            def: def.copy(self.alloc)?,
+            text: text.copy(self.alloc)?,
+        };
+        match self.storage.define(disks, text.as_slice()) {
+            Ok(_number) => {
+                self.storage.stands(disks);
+                let event = scheduler.program_defined(line, def)?;
+                self.stage = Stage::Serving(scheduler);
+                Ok(Some(event))
+            }
+            Err(halt) => Err(self.break_off(scheduler.into_books(), halt, Some(asked))),
         }
     }
 
-    /// A turn of a program that goes on: of its open unit, or its next part begins.
-    pub(crate) fn go(&mut self, line: &Line, base: Id) -> Result<Option<Event>, AllocError>
-        requires { IsServingJudged line.now self.old }
-        ensures { IfOk result (λ e. ChoosesJudged (λ s r. go_in s.units (clash_by s) base) line.now self.old self.new e) }
+    /// Stops are armed, one by one.
+    fn arm_each<D: Disks>(&mut self, disks: &mut D, pairs: &[(u64, u8)]) -> Result<(), AllocError>
+        requires able { IsTrue (D.view disks.old).can_stop }
+        requires picks { Every (λ (p : ℕ × ℕ). p.1 ≤ 4) pairs.now }
+        ensures stored { (s : UnitState) → Stored (S.holds (D.view disks.old) self.old.storage) (S.is_new (D.view disks.old) self.old.storage) s → Stored (S.holds (D.view disks.new) self.new.storage) (S.is_new (D.view disks.new) self.new.storage) s }
+        ensures ok { OnOk result ((D.view disks.new).stops_left ≡ (D.view disks.old).stops_left + length pairs.now) }
+        ensures faults { (D.view disks.new).faults ≡ (D.view disks.old).faults }
+        ensures asked { S.asked self.new.storage ≡ S.asked self.old.storage }
+        ensures shape { SameShape (D.view disks.old) (D.view disks.new) }
+        ensures stage { self.new.stage ≡ self.old.stage }
+        ensures single { self.new.single ≡ self.old.single }
+        ensures flies { self.new.in_flight ≡ self.old.in_flight }
     {
-        let open = name_of(self.books.unit_of_program(base));
-        match open {
-            Some(unit) => self.take_turn(line, unit),
-            None => match self.books.store().cont(base) {
-                Some(cont) => {
-                    let part = cont.next;
-                    Ok(Some(self.begin(line, UnitKind::Later { base, part })?))
-                }
-                None => Ok(None),
-            },
+        for pair in pairs {
+            self.storage.arm(disks, pair.0, pair.1)?;
+        }
+        Ok(())
+    }
+
+    /// The stops of a line are armed.
+    fn arm<D: Disks>(
+        &mut self,
+        disks: &mut D,
+        scheduler: Scheduler,
+        line: &Line,
+        pairs: &Pairs,
+    ) -> Result<Option<Event>, Halt>
+        requires line { line.now ≡ line_of.Crash pairs.now }
+        requires lost { self.old.stage ≡ Lost }
+        requires none { self.old.in_flight ≡ None }
+        requires ready { (s : State) × AsksLine (S.holds (D.view disks.old) self.old.storage) (S.is_new (D.view disks.old) self.old.storage) (D.view disks.old).can_stop line.now scheduler s }
+        ensures performs { IfOk result (λ e. (s : State) (r : Reading s.watch) → AsksLine (S.holds (D.view disks.old) self.old.storage) (S.is_new (D.view disks.old) self.old.storage) (D.view disks.old).can_stop line.now scheduler s
+            → Performs (S.holds (D.view disks.new) self.new.storage) (S.is_new (D.view disks.new) self.new.storage) self.new.stage self.new.in_flight (line_in s.units (clash_by s) (items_by s r) line.now) e s) }
+        ensures breaks { IfErr result (λ halt. (s : State) (r : Reading s.watch) → AsksLine (S.holds (D.view disks.old) self.old.storage) (S.is_new (D.view disks.old) self.old.storage) (D.view disks.old).can_stop line.now scheduler s
+            → BreaksOff (S.leaves (D.view disks.new) self.new.storage) (S.fills (D.view disks.new) self.new.storage) halt self.new.stage self.new.in_flight (line_in s.units (clash_by s) (items_by s r) line.now) s.units) }
+        ensures single { self.new.single ≡ self.old.single }
+        ensures asked { S.asked self.new.storage ≡ S.asked self.old.storage }
+        ensures shape { SameShape (D.view disks.old) (D.view disks.new) }
+        ensures counts { CountsStops (D.view disks.old) (D.view disks.new) (disk_err result) (armed_by result) 0 }
+    {
+        let mut scheduler = scheduler;
+        self.storage.stands(disks);
+        let told = Items::from_slice(self.alloc, pairs.as_slice())?;
+        match self.arm_each(disks, pairs.as_slice()) {
+            Ok(()) => {
+                let event = scheduler.armed(line, told);
+                self.stage = Stage::Serving(scheduler);
+                Ok(Some(event))
+            }
+            Err(_) => {
+                self.storage.stands(disks);
+                Err(Halt::Memory)
+            }
+        }
+    }
+
+    /// What comes first in a line that defines nothing and arms nothing.
+    fn follow_line<D: Disks>(
+        &mut self,
+        disks: &mut D,
+        scheduler: Scheduler,
+        line: &Line,
+    ) -> Result<Option<Event>, Halt>
+        requires plain { is_prepared_line line.now ≡ false }
+        requires lost { self.old.stage ≡ Lost }
+        requires none { self.old.in_flight ≡ None }
+        requires ready { (s : State) × AsksLine (S.holds (D.view disks.old) self.old.storage) (S.is_new (D.view disks.old) self.old.storage) (D.view disks.old).can_stop line.now scheduler s }
+        ensures performs { IfOk result (λ e. (s : State) (r : Reading s.watch) → AsksLine (S.holds (D.view disks.old) self.old.storage) (S.is_new (D.view disks.old) self.old.storage) (D.view disks.old).can_stop line.now scheduler s
+            → Performs (S.holds (D.view disks.new) self.new.storage) (S.is_new (D.view disks.new) self.new.storage) self.new.stage self.new.in_flight (line_in s.units (clash_by s) (items_by s r) line.now) e s) }
+        ensures breaks { IfErr result (λ halt. (s : State) (r : Reading s.watch) → AsksLine (S.holds (D.view disks.old) self.old.storage) (S.is_new (D.view disks.old) self.old.storage) (D.view disks.old).can_stop line.now scheduler s
+            → BreaksOff (S.leaves (D.view disks.new) self.new.storage) (S.fills (D.view disks.new) self.new.storage) halt self.new.stage self.new.in_flight (line_in s.units (clash_by s) (items_by s r) line.now) s.units) }
+        ensures single { self.new.single ≡ self.old.single }
+        ensures asked { S.asked self.new.storage ≡ S.asked self.old.storage }
+        ensures shape { SameShape (D.view disks.old) (D.view disks.new) }
+        ensures counts { CountsStops (D.view disks.old) (D.view disks.new) (disk_err result) (armed_by result) 0 }
+    {
+        let mut scheduler = scheduler;
+        self.storage.stands(disks);
+        let coming = scheduler.first_of(line)?;
+        self.perform(disks, scheduler, coming)
+    }
+
+    /// A line that is not refused is begun.
+    pub(crate) fn begin_line<D: Disks>(
+        &mut self,
+        disks: &mut D,
+        scheduler: Scheduler,
+        line: &Line,
+    ) -> Result<Option<Event>, Halt>
+        requires lost { self.old.stage ≡ Lost }
+        requires none { self.old.in_flight ≡ None }
+        requires ready { (s : State) × AsksLine (S.holds (D.view disks.old) self.old.storage) (S.is_new (D.view disks.old) self.old.storage) (D.view disks.old).can_stop line.now scheduler s }
+        ensures performs { IfOk result (λ e. (s : State) (r : Reading s.watch) → AsksLine (S.holds (D.view disks.old) self.old.storage) (S.is_new (D.view disks.old) self.old.storage) (D.view disks.old).can_stop line.now scheduler s
+            → Performs (S.holds (D.view disks.new) self.new.storage) (S.is_new (D.view disks.new) self.new.storage) self.new.stage self.new.in_flight (line_in s.units (clash_by s) (items_by s r) line.now) e s) }
+        ensures breaks { IfErr result (λ halt. (s : State) (r : Reading s.watch) → AsksLine (S.holds (D.view disks.old) self.old.storage) (S.is_new (D.view disks.old) self.old.storage) (D.view disks.old).can_stop line.now scheduler s
+            → BreaksOff (S.leaves (D.view disks.new) self.new.storage) (S.fills (D.view disks.new) self.new.storage) halt self.new.stage self.new.in_flight (line_in s.units (clash_by s) (items_by s r) line.now) s.units) }
+        ensures single { self.new.single ≡ self.old.single }
+        ensures asked { S.asked self.new.storage ≡ S.asked self.old.storage }
+        ensures shape { SameShape (D.view disks.old) (D.view disks.new) }
+        ensures counts { CountsStops (D.view disks.old) (D.view disks.new) (disk_err result) (armed_by result) 0 }
+    {
+        match line {
+            Line::Table(def) => self.define_table(disks, scheduler, line, def),
+            Line::Program(def) => self.define_program(disks, scheduler, line, def),
+            Line::Crash(pairs) => self.arm(disks, scheduler, line, pairs),
+            _ => self.follow_line(disks, scheduler, line),
         }
     }
 
     /// A line is refused.
-    pub(crate) fn refuse(&mut self, line: &Line, refusal: Refusal) -> Event
-        ensures { Chooses (λ s r. Some (Event.Refused refusal)) line.now self.old self.new (Some result) }
+    pub(crate) fn refuse_line(
+        &mut self,
+        scheduler: Scheduler,
+        line: &Line,
+        refusal: Refusal,
+    ) -> Event
+        ensures stage { IsRefused line.now refusal scheduler self.new.stage result }
+        ensures storage { self.new.storage ≡ self.old.storage }
+        ensures single { self.new.single ≡ self.old.single }
+        ensures flies { self.new.in_flight ≡ self.old.in_flight }
     {
-        self.follow = Follow::Nothing;
-        Event::Refused(refusal)
+        let mut scheduler = scheduler;
+        let event = scheduler.refuse(line, refusal);
+        self.stage = Stage::Serving(scheduler);
+        event
     }
 
-    /// The first event of a line that is not refused.
-    pub(crate) fn first_of(&mut self, line: &Line) -> Result<Option<Event>, AllocError>
-        requires allowed { IsAllowed line.now self.old }
-        requires parts { HasFewParts line.now }
-        ensures { IfOk result (λ e. Allows (λ s r. line_in s.units (clash_by s) (items_by s r) line.now) line.now self.old self.new e) }
+    /// A line whose text is refused is asked.
+    pub(crate) fn reject_line(
+        &mut self,
+        scheduler: Scheduler,
+        refusal: Refusal,
+    ) -> Result<Event, AllocError>
+        ensures told { IfOk result (λ e. IsRejected refusal scheduler self.new.stage e) }
+        ensures stage { OnErr result (self.new.stage ≡ self.old.stage) }
+        ensures storage { self.new.storage ≡ self.old.storage }
+        ensures single { self.new.single ≡ self.old.single }
+        ensures flies { self.new.in_flight ≡ self.old.in_flight }
     {
-        match line {
-            Line::Table(def) => Ok(Some(self.define_table(line, def)?)),
-            Line::Program(def) => Ok(Some(self.define_program(line, def)?)),
-            Line::Session { session, act } => self.act_of(line, *session, act),
-            Line::Go(base) => self.go(line, *base),
-            Line::ShowLocks => Ok(Some(self.show_locks(line)?)),
-            Line::ShowBases => Ok(Some(self.show_bases(line)?)),
-            Line::Nothing => Ok(None),
-            Line::GoAll => Ok(None),
-            Line::Crash(_) => unreachable!(),
+        let mut scheduler = scheduler;
+        scheduler.ask(&Line::Nothing)?;
+        Ok(self.refuse_line(scheduler, &Line::Nothing, refusal))
+    }
+
+    /// A line is asked: it is refused, or begun.
+    pub(crate) fn ask_line<D: Disks>(
+        &mut self,
+        disks: &mut D,
+        scheduler: Scheduler,
+        line: &Line,
+    ) -> Result<Option<Event>, Halt>
+        requires lost { self.old.stage ≡ Lost }
+        requires none { self.old.in_flight ≡ None }
+        requires ready { (s : State) × IsToAsk (S.holds (D.view disks.old) self.old.storage) (S.is_new (D.view disks.old) self.old.storage) (D.view disks.old).can_stop line.now scheduler s }
+        ensures performs { IfOk result (λ e. (s : State) (r : Reading s.watch) → IsToAsk (S.holds (D.view disks.old) self.old.storage) (S.is_new (D.view disks.old) self.old.storage) (D.view disks.old).can_stop line.now scheduler s
+            → Performs (S.holds (D.view disks.new) self.new.storage) (S.is_new (D.view disks.new) self.new.storage) self.new.stage self.new.in_flight (asked_next s r (Tree line.now)) e (asked_of (Tree line.now) s)) }
+        ensures breaks { IfErr result (λ halt. (s : State) (r : Reading s.watch) → IsToAsk (S.holds (D.view disks.old) self.old.storage) (S.is_new (D.view disks.old) self.old.storage) (D.view disks.old).can_stop line.now scheduler s
+            → BreaksOff (S.leaves (D.view disks.new) self.new.storage) (S.fills (D.view disks.new) self.new.storage) halt self.new.stage self.new.in_flight (asked_next s r (Tree line.now)) (asked_of (Tree line.now) s).units) }
+        ensures single { self.new.single ≡ self.old.single }
+        ensures asked { S.asked self.new.storage ≡ S.asked self.old.storage }
+        ensures shape { SameShape (D.view disks.old) (D.view disks.new) }
+        ensures counts { CountsStops (D.view disks.old) (D.view disks.new) (disk_err result) (armed_by result) 0 }
+    {
+        let mut scheduler = scheduler;
+        self.storage.stands(disks);
+        let refusal = scheduler.refusal(line, disks.can_stop())?;
+        scheduler.ask(line)?;
+        match refusal {
+            Some(refusal) => Ok(Some(self.refuse_line(scheduler, line, refusal))),
+            None => self.begin_line(disks, scheduler, line),
         }
     }
 }

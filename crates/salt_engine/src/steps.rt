@@ -1,68 +1,181 @@
 //! The engine's moves.
 
-ghost use Rattle.salt_ast.specs.declared.lines.Line.{Line};
-ghost use Rattle.salt_judge.specs.Refusals.{HasFewParts};
-ghost use Rattle.std.specs.Prelude.{map};
+ghost use Rattle.salt_engine.specs.Flights.{flight_of};
+ghost use Rattle.salt_engine.specs.Performing.{IsServed};
+ghost use Rattle.salt_engine.specs.Standing.{CanFind, IsFoundStage, IsNew, Left, Lies, Sees, goes_in, is_ready, left_in, waits_in};
+ghost use Rattle.std.specs.Prelude.{◌≡◌};
 
 use crate::engine::Engine;
-use crate::follow::Follow;
+use crate::flights::flight_of;
+use crate::lines::is_statement_line;
+use crate::stage::Stage;
 use salt_ast::Line;
-use salt_model::{Event, Refusal, Story};
+use salt_disk::Disks;
+use salt_model::{Event, Flight, Refusal, Story};
 use salt_schema::Schema;
+use salt_sound::read_lines_are_spelled;
 use salt_steps::Steps;
+use salt_storage::{Halt, OpenErr, Storage};
 use salt_values::Id;
-use std::alloc::AllocError;
+use std::mem;
 
-impl Steps for Engine {
-    ghost use Rattle.salt_engine.specs.StillToCome.{engine_goes, engine_waits};
-    ghost use Rattle.salt_engine.specs.Standing.{Sees};
+/// Whether an opening is done.
+fn is_ready(event: &Event) -> bool
+    ensures { result ≡ is_ready event.now }
+{
+    match event {
+        Event::Ready => true,
+        _ => false,
+    }
+}
 
-    ghost sees = { Sees };
+impl<S: Storage> Steps for Engine<S> {
+    ghost sees = { λ d e next s. Sees (S.holds d e.storage) (S.is_new d e.storage) d.can_stop e.stage e.single e.in_flight next s };
 
-    ghost waiting = { λ x. map (λ w. w.unit) x.watch.waits.items };
+    ghost lies = { λ d e room p. Lies (S.holds d e.storage) (S.leaves d e.storage) d.can_stop e.stage e.single e.in_flight room p };
 
-    ghost turns = { λ x. x.books.to_go.items };
+    ghost left = { λ d e room p. Left (S.holds d e.storage) (S.leaves d e.storage) e.stage room p };
 
-    ghost serves = { HasFewParts };
+    ghost is_new = { λ d e. IsNew e.stage e.single e.in_flight × S.unopened e.storage × S.able d e.storage };
 
-    fn ask(&mut self, line: &Line) -> Result<Option<Event>, AllocError> {
-        let refusal = self.refusal(line)?;
-        self.books.ask(line)?;
-        match refusal {
-            Some(refusal) => Ok(Some(self.refuse(line, refusal))),
-            None => self.first_of(line),
+    ghost tried = { λ d e. S.tried d e.storage };
+
+    ghost is_found = { λ d e. IsFoundStage e.stage };
+
+    ghost settled = { λ d e. S.settled d e.storage × CanFind (S.unopened e.storage) (S.leaves d e.storage) e.stage };
+
+    ghost flight = { λ e. flight_of e.in_flight };
+
+    ghost refuses = { λ d e. S.refuses d e.storage };
+
+    ghost finds = { λ d e. S.finds d e.storage };
+
+    ghost asked = { λ e. S.asked e.storage };
+
+    ghost fills = { λ d e. S.fills d e.storage };
+
+    ghost waiting = { λ e. waits_in e.stage };
+
+    ghost turns = { λ e. goes_in e.stage };
+
+    ghost to_open = { λ e next. left_in e.stage next };
+
+    ghost serves = { IsServed };
+
+    fn ask<D: Disks>(&mut self, disks: &mut D, line: &Line) -> Result<Option<Event>, Halt> {
+        read_lines_are_spelled();
+        self.storage.stands(disks);
+        let scheduler = mem::replace(&mut self.stage, Stage::Lost).serving();
+        self.single = is_statement_line(line);
+        self.ask_line(disks, scheduler, line)
+    }
+
+    fn ask_rejected<D: Disks>(
+        &mut self,
+        disks: &mut D,
+        refusal: Refusal,
+    ) -> Result<Option<Event>, Halt> {
+        let scheduler = mem::replace(&mut self.stage, Stage::Lost).serving();
+        self.single = false;
+        self.storage.stands(disks);
+        Ok(Some(self.reject_line(scheduler, refusal)?))
+    }
+
+    fn next_turn<D: Disks>(&self, _disks: &D) -> Option<Id> {
+        match &self.stage {
+            Stage::Serving(scheduler) => scheduler.next_turn(),
+            _ => None,
         }
     }
 
-    fn ask_rejected(&mut self, refusal: Refusal) -> Result<Option<Event>, AllocError> {
-        self.books.ask(&Line::Nothing)?;
-        Ok(Some(self.refuse(&Line::Nothing, refusal)))
-    }
-
-    fn next_turn(&self) -> Option<Id> {
-        self.books.next_turn()
-    }
-
-    fn turn(&mut self, line: &Line, base: Id) -> Result<Option<Event>, AllocError> {
-        self.books.turn(base)?;
-        self.go(line, base)
-    }
-
-    fn say(
+    fn turn<D: Disks>(
         &mut self,
+        disks: &mut D,
+        line: &Line,
+        base: Id,
+    ) -> Result<Option<Event>, Halt> {
+        self.storage.stands(disks);
+        let scheduler = mem::replace(&mut self.stage, Stage::Lost).serving();
+        self.turn_in_line(disks, scheduler, line, base)
+    }
+
+    fn say<D: Disks>(
+        &mut self,
+        disks: &mut D,
         line: &Line,
         event: Event,
         story: &mut Story,
-    ) -> Result<Option<Event>, AllocError> {
+    ) -> Result<Option<Event>, Halt> {
+        self.storage.stands(disks);
+        let scheduler = mem::replace(&mut self.stage, Stage::Lost).serving();
         story.push(event)?;
-        self.go_on(line)
+        self.go_on_in_line(disks, scheduler, line)
     }
 
-    fn schema(&self) -> &Schema {
-        self.books.store().schema()
+    fn find<D: Disks>(&mut self, disks: &mut D) -> Result<(), OpenErr> {
+        match &self.stage {
+            Stage::New => self.find_first(disks),
+            Stage::Down(_) => self.find_behind(disks),
+            Stage::Found { .. } => Ok(()),
+            _ => Err(OpenErr::Halted(Halt::Memory)),
+        }
     }
 
-    ghost waits = { engine_waits };
+    fn open<D: Disks>(&mut self, disks: &mut D, story: &mut Story) -> Result<Event, Halt> {
+        let (books, numbers) = mem::replace(&mut self.stage, Stage::Lost).found();
+        match self.storage.boot(disks) {
+            Ok(boot) => {
+                self.storage.stands(disks);
+                self.open_boot(books, boot, numbers.decisions, story)
+            }
+            Err(halt) => {
+                self.stage = Stage::Down(books);
+                Err(halt)
+            }
+        }
+    }
 
-    ghost goes = { engine_goes };
+    fn go_on<D: Disks>(
+        &mut self,
+        disks: &mut D,
+        event: Event,
+        story: &mut Story,
+    ) -> Result<Option<Event>, Halt> {
+        self.storage.stands(disks);
+        let recovery = mem::replace(&mut self.stage, Stage::Lost).opening();
+        let ready = is_ready(&event);
+        story.push(event)?;
+        if ready {
+            self.serve_books(recovery.into_books());
+            Ok(None)
+        } else {
+            Ok(Some(self.go_on_in_opening(disks, recovery)?))
+        }
+    }
+
+    fn fall<D: Disks>(&mut self, disks: &mut D) {
+        self.storage.stands(disks);
+        self.storage.restart(disks);
+        self.storage.stands(disks);
+        self.stage = mem::replace(&mut self.stage, Stage::Lost).fallen();
+    }
+
+    fn schema<D: Disks>(&self, _disks: &D) -> &Schema {
+        match &self.stage {
+            Stage::New => &self.no_tables,
+            Stage::Found { books, .. } => books.known().schema(),
+            Stage::Opening(recovery) => recovery.books().known().schema(),
+            Stage::Serving(scheduler) => scheduler.books().known().schema(),
+            Stage::Down(books) => books.known().schema(),
+            Stage::Lost => &self.no_tables,
+        }
+    }
+
+    fn flight(&mut self) -> Option<Flight> {
+        flight_of(self.in_flight.take())
+    }
+
+    fn stands<D: Disks>(&self, disks: &D) {
+        self.storage.stands(disks);
+    }
 }

@@ -1,24 +1,57 @@
+use Rattle.salt_disk.specs.Disks.{HasCause}
+use Rattle.salt_engine.proofs.Counted.{cause-lost}
+use Rattle.salt_engine.proofs.ServingActs.{act-asked, act-before, act-breaks, act-done, act-keys, act-lost, act-stands, act-there, act-unit, sound-state}
 use Rattle.salt_engine.proofs.engine.Engine.act.Goals as goal
-use Rattle.std.specs.Prelude.{refl}
-use Rattle.salt_engine.proofs.SoundFacts.{rising}
-use Rattle.salt_model.specs.declared.events.Event.TheVariants.{Did}
-use Rattle.salt_engine.proofs.ActDone.{act-gives, did-base, did-family, did-reach, have-asked}
-use Rattle.salt_keeps.specs.UnitFacts.{facts_in}
-use Rattle.std.proofs.Common.{ap, sym, ◌∙◌}
-use Rattle.salt_engine.specs.declared.follow.Follow.TheVariants.{Done}
+use Rattle.salt_storage.specs.Answers.{disk_err_of}
+use Rattle.salt_storage.specs.declared.halt.Halt.{Halt}
+use Rattle.std.proofs.Common.{refl, subst, sym}
+use Rattle.std.proofs.lemmas.Result.{err_from_is_err_and}
+use Rattle.std.specs.Prelude.{Some}
 
-pub act-requires-clause-there : goal.act-requires-clause-there
-act-requires-clause-there c = have-asked c.args.self.now c.requires.state c.args.asking c.requires.unit c.requires.stands c.requires.asked
+pub load-requires : goal.load-requires
+load-requires g c =
+    let s = c.requires.ready.0 in
+    let h = c.requires.ready.1 in (
+      s.units,
+      act-unit _ _ c.args.scheduler c.args.asking s h,
+      act-before _ _ c.args.scheduler c.args.asking s h c.books.result.now c.books.ensures,
+      act-asked _ _ c.args.scheduler c.args.asking s h,
+    )
 
-pub returns : goal.returns
-returns c = λ line s o stands serves asked.
-    let rises = rising s serves.sound in
-    act-gives line c.args.self.now _ c.args.asking c.in_ok-answer.answer s o _ stands serves asked refl
-    (c.in_ok-answer.ensures.answer s.units o stands.books rises asked.named)
-    (c.in_ok-answer.ensures.state s.units c.in_ok-answer.answer stands.books rises)
-    (c.in_ok-did.ensures s.watch (facts_in s.units (Did c.args.asking.unit c.args.asking.statement c.in_ok-answer.answer)) c.args.asking.statement c.in_ok-answer.answer stands.watch
-    (did-base s.units c.args.asking c.in_ok-answer.answer o asked)
-    (did-family s.units c.args.asking c.in_ok-answer.answer o asked)
-    (did-reach s.units c.args.asking c.in_ok-answer.answer o asked ∙ sym c.as_ref.ensures.value))
-    refl
-    (ap (Done c.args.asking.unit) c.cause_of.ensures)
+pub done-requires-clause-there : goal.done-requires-clause-there
+done-requires-clause-there g c = act-there _ _ c.args.scheduler c.args.asking c.requires.ready.0 c.requires.ready.1
+
+pub done-requires-clause-leaves_keys : goal.done-requires-clause-leaves_keys
+done-requires-clause-leaves_keys g c = act-keys _ _ c.args.scheduler c.args.asking c.requires.ready.0 c.requires.ready.1
+
+pub returns-in_ok-event-in-Ok-clause-performs : goal.returns-in_ok-event-in-Ok-clause-performs
+returns-in_ok-event-in-Ok-clause-performs g c = λ s h.
+    let x = c.args.scheduler in
+    let a = c.args.asking in
+    act-done _ _ x a s h _ _ _ _ _ _ c.requires.none refl (c.in-Ok.ensures.stored s.units h.stored)
+    (c.in_ok-event-in-Ok.ensures s (act-unit _ _ x a s h) (act-stands _ _ x a s h) (sound-state _ s h.played) (act-asked _ _ x a s h) (c.in-Ok.ensures.rows s.units h.stored))
+
+pub returns-in_err-event-in-Ok-clause-breaks : goal.returns-in_err-event-in-Ok-clause-breaks
+returns-in_err-event-in-Ok-clause-breaks g c =
+    let p = err_from_is_err_and c.from_residual.result c.from_residual.ensures.1 in
+    rw (p.1, p.2) (λ s h.
+    act-lost _ _ c.args.scheduler c.args.asking s h _ _ _ _ (record { there = c.requires.lost; none = c.requires.none })
+    (c.stands.ensures.stays s.units.kept (c.in-Ok.ensures.stored s.units h.stored).holding))
+
+pub returns-in_err-event-in-Ok-clause-cause : goal.returns-in_err-event-in-Ok-clause-cause
+returns-in_err-event-in-Ok-clause-cause g c =
+    let p = err_from_is_err_and c.from_residual.result c.from_residual.ensures.1 in
+    rw (p.1, p.2) (cause-lost _ _ c.in-Ok.ensures.cause)
+
+pub returns-in-Err-clause-breaks : goal.returns-in-Err-clause-breaks
+returns-in-Err-clause-breaks g c = λ s h.
+    let x = c.args.scheduler in
+    let a = c.args.asking in
+    rw (c.break_off.ensures.halt, c.break_off.ensures.storage)
+    (act-breaks _ _ x a s h _ _ _ _ c.in-Err.halt c.into_books.result c.into_books.ensures
+    (c.in-Err.ensures.undone s.units (act-unit _ _ x a s h) (act-before _ _ x a s h c.books.result.now c.books.ensures) (act-asked _ _ x a s h)) c.break_off.ensures.broken)
+
+pub returns-in-Err-clause-cause : goal.returns-in-Err-clause-cause
+returns-in-Err-clause-cause g c =
+    let view = g.D.Disks.view in
+    subst (λ (h : Halt). HasCause (view c.args.disks.now) (view c.load.new.disks) (Some (disk_err_of h))) (sym c.break_off.ensures.halt) c.in-Err.ensures.cause

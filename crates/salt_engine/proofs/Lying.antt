@@ -1,0 +1,153 @@
+-- An engine that can be opened at a point: at first, behind a fall, and between lines.
+use Rattle.salt_books.specs.declared.books.Books.{Books}
+use Rattle.salt_engine.proofs.Falling.{flies-fallen, left-fallen}
+use Rattle.salt_engine.proofs.Flying.{flight-next}
+use Rattle.salt_engine.proofs.Halting.{is-left, know-units}
+use Rattle.salt_engine.specs.Finding.{IsFoundAgain, IsTakenOn}
+use Rattle.salt_engine.specs.Flights.{IsInFlight}
+use Rattle.salt_engine.specs.Standing.{IsFoundStage, KnowsUnits, Left, Lies, Sees, SeesIn, books_in}
+use Rattle.salt_engine.specs.Stored.{IsEither, IsLeft}
+use Rattle.salt_engine.specs.declared.flights.InFlight.{InFlight}
+use Rattle.salt_engine.specs.declared.stage.Stage.TheVariants as at
+use Rattle.salt_engine.specs.declared.stage.Stage.{Stage}
+use Rattle.salt_keeps.specs.OpenUnits.{UnitState}
+use Rattle.salt_keeps.specs.Points.{IsIdle, Point}
+use Rattle.salt_keeps.specs.States.{State}
+use Rattle.salt_keeps.specs.Steps.{units_after}
+use Rattle.salt_known.specs.Known.{IsKnown}
+use Rattle.salt_model.specs.Kept.{Kept}
+use Rattle.salt_model.specs.Next.{decision_in}
+use Rattle.salt_model.specs.Phases.{Fallen, Serving}
+use Rattle.salt_model.specs.Turns.{is_statement_line}
+use Rattle.salt_model.specs.declared.events.Event.TheVariants.{Down}
+use Rattle.salt_model.specs.declared.events.Event.{Event}
+use Rattle.salt_model.specs.declared.events.Why.{Why}
+use Rattle.salt_steps.specs.Opening.{IsFallenFrom, IsUnopened}
+use Rattle.salt_steps.specs.Standing.{IsSoundPoint}
+use Rattle.salt_storage.specs.Storing.{IsSoundKept}
+use Rattle.salt_values.specs.declared.id.Id.{Id}
+use Rattle.std.proofs.Common.{ap, inl, inr, subst, sym, ◌∙◌}
+use Rattle.std.specs.Prelude.{Bool, None, Option, [], false, refl, ℕ, ◌≡◌}
+
+-- AT FIRST
+
+pub first-lies : (holds : Kept → Type 0) (leaves : Kept → Kept → Type 0) (stoppable : Bool) (stage : Stage) (single : Bool) (in_flight : Option InFlight) (k : Kept) (p : Point) →
+    IsTakenOn k stage → holds k → IsSoundKept k → single ≡ false → in_flight ≡ None → IsUnopened k stoppable p → Lies holds leaves stoppable stage single in_flight 0 p
+first-lies holds leaves stoppable stage single in_flight k p taken holding sound line none u =
+    let books = taken.fresh p.state.units.phase p.state.units.line in
+    record {
+      left = subst (λ (s : Stage). Left holds leaves s 0 p) (sym taken.there) (k, holding, is-left p k (inl (sym u.kept)), taken.numbered);
+      knows = (
+        taken.books,
+        ap books_in taken.there,
+        record {
+          units = 0;
+          bases = 0;
+          goes = [];
+          are = record {
+            known = subst (IsKnown taken.books.known) (sym u.kept) books.known;
+            units = books.units ∙ sym u.units;
+            unit_count = books.unit_count;
+            base_count = books.base_count;
+            to_go = books.to_go;
+          };
+          going = inl refl;
+        },
+      );
+      sound = subst IsSoundKept (sym u.kept) sound;
+      can_stop = u.can_stop;
+      line = line ∙ sym (ap is_statement_line u.line);
+      flies = subst (λ (i : Option InFlight). IsInFlight i p.flight p.state.units) (sym none) u.flight;
+    }
+
+-- BEHIND A FALL the one or the other is found.
+
+pub found-left : (holds : Kept → Type 0) (leaves : Kept → Kept → Type 0) (books : Books) (a b : Kept) (stage : Stage) (room : ℕ) (p : Point) → IsFoundAgain holds books a b stage →
+    IsLeft room p a → IsLeft room p b → Left holds leaves stage room p
+found-left holds leaves books a b stage room p f is_a is_b =
+    subst (λ (s : Stage). Left holds leaves s room p) (sym f.there) (f.kept, f.holding, by f.either, f.numbered)
+  where
+    by : IsEither a b f.kept → IsLeft room p f.kept
+    by (inl e) = subst (IsLeft room p) (sym e) is_a
+    by (inr e) = subst (IsLeft room p) (sym e) is_b
+
+-- WHAT IS LEFT, where nothing was found since
+
+pub left-of : (holds : Kept → Type 0) (leaves : Kept → Kept → Type 0) (stage : Stage) (room : ℕ) (p : Point) → (IsFoundStage stage → ⊥) → Left holds leaves stage room p →
+    (a b : Kept) × leaves a b × IsLeft room p a × IsLeft room p b
+left-of holds leaves (at.Found books numbers) room p not h = absurd (not tt)
+left-of holds leaves at.New room p not h = h
+left-of holds leaves (at.Opening x) room p not h = h
+left-of holds leaves (at.Serving x) room p not h = h
+left-of holds leaves (at.Down books) room p not h = h
+left-of holds leaves at.Lost room p not h = h
+
+pub left-as : (holds : Kept → Type 0) (leaves : Kept → Kept → Type 0) (stage : Stage) (room : ℕ) (p : Point) → (IsFoundStage stage → ⊥) →
+    ((a b : Kept) × leaves a b × IsLeft room p a × IsLeft room p b) → Left holds leaves stage room p
+left-as holds leaves (at.Found books numbers) room p not h = absurd (not tt)
+left-as holds leaves at.New room p not h = h
+left-as holds leaves (at.Opening x) room p not h = h
+left-as holds leaves (at.Serving x) room p not h = h
+left-as holds leaves (at.Down books) room p not h = h
+left-as holds leaves at.Lost room p not h = h
+
+-- either way a stop leaves it
+pub left-stops : (holds : Kept → Type 0) (leaves : Kept → Kept → Type 0) (stage : Stage) (room : ℕ) (p : Point) → ((k : Kept) → holds k → leaves k k) → Left holds leaves stage room p →
+    (a b : Kept) × leaves a b × IsLeft room p a × IsLeft room p b
+left-stops holds leaves (at.Found books numbers) room p stays h = (h.0, h.0, stays h.0 h.1, h.2, h.2)
+left-stops holds leaves at.New room p stays h = h
+left-stops holds leaves (at.Opening x) room p stays h = h
+left-stops holds leaves (at.Serving x) room p stays h = h
+left-stops holds leaves (at.Down books) room p stays h = h
+left-stops holds leaves at.Lost room p stays h = h
+
+-- BETWEEN LINES
+
+idle-knows : (holds : Kept → Type 0) (is_new : Id → Type 0) (stage : Stage) (s : State) → SeesIn holds is_new stage None s →
+    KnowsUnits stage s.units × holds s.units.kept × (IsFoundStage stage → ⊥)
+idle-knows holds is_new (at.Serving x) s h = ((x.books, refl, know-units x.books s.units h.0.books), h.1.holding, λ f. f)
+idle-knows holds is_new at.New s h = absurd h
+idle-knows holds is_new (at.Found books numbers) s h = absurd h
+idle-knows holds is_new (at.Opening x) s h = absurd h
+idle-knows holds is_new (at.Down books) s h = absurd h
+idle-knows holds is_new at.Lost s h = absurd h
+
+up : (p : Point) → p.state.units.phase ≡ Serving → p.state.units.phase ≡ Fallen → ⊥
+up p serves fallen = let no = sym serves ∙ fallen in cc
+
+pub idle-lies : (holds : Kept → Type 0) (is_new : Id → Type 0) (leaves : Kept → Kept → Type 0) (stoppable : Bool) (stage : Stage) (single : Bool) (in_flight : Option InFlight) (p : Point) →
+    IsSoundPoint p → Sees holds is_new stoppable stage single in_flight None p.state → IsIdle p → ((k : Kept) → holds k → leaves k k) → ((k : Kept) → holds k → IsSoundKept k) →
+    Lies holds leaves stoppable stage single in_flight 0 p
+idle-lies holds is_new leaves stoppable stage single in_flight p sound sees idle stays may =
+    let k = p.state.units.kept in
+    let knows = idle-knows holds is_new stage p.state sees.seen in
+    record {
+      left = left-as holds leaves stage 0 p knows.2 (k, k, stays k knows.1, is-left p k (inl refl), is-left p k (inl refl));
+      knows = knows.0;
+      sound = may k knows.1;
+      can_stop = sees.can_stop;
+      line = sees.line;
+      flies =
+          subst (λ (i : Option InFlight). IsInFlight i p.flight p.state.units) (sym sees.none)
+          (flight-next p sound.trace sound.keeps (up p idle.serves) ∙ ap decision_in idle.next);
+    }
+
+-- BEHIND A DOWN
+
+pub fallen-lies : (holds now : Kept → Type 0) (leaves again : Kept → Kept → Type 0) (old stoppable : Bool) (stage new : Stage) (single : Bool) (in_flight : Option InFlight)
+    (room : ℕ) (p q : Point) → Lies holds leaves old stage single in_flight room p → IsFallenFrom p q → stoppable ≡ old → (IsFoundStage new → ⊥) →
+    ((k : Kept) → holds k → leaves k k) → ((a b : Kept) → leaves a b → again a b) →
+    ((s : UnitState) (why : Why) → KnowsUnits stage s → KnowsUnits new (units_after (Down why) s)) → Lies now again stoppable new single in_flight room q
+fallen-lies holds now leaves again old stoppable stage new single in_flight room p q h fell same not stays left knows =
+    let l = left-stops holds leaves stage room p stays h.left in
+    let units = fell.after.units in
+    record {
+      left = left-as now again new room q not (l.0, l.1, left l.0 l.1 l.2, left-fallen in_flight room p q l.0 h.flies fell l.3, left-fallen in_flight room p q l.1 h.flies fell l.4);
+      knows = subst (KnowsUnits new) (sym units) (knows p.state.units fell.why h.knows);
+      sound = subst (λ (s : UnitState). IsSoundKept s.kept) (sym units) h.sound;
+      can_stop = fell.after.can_stop ∙ h.can_stop ∙ sym same;
+      line = h.line ∙ sym (ap (λ (s : UnitState). is_statement_line s.line) units);
+      flies =
+          subst (λ (f : Option Event). IsInFlight in_flight f q.state.units) (sym fell.flight)
+          (subst (IsInFlight in_flight p.flight) (sym units) (flies-fallen in_flight p.flight fell.why p.state.units h.flies));
+    }

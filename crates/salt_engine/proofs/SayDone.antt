@@ -1,0 +1,128 @@
+-- An event of a line is said: what was performed behind it is a move of the engine's point, or it broke off there.
+use Rattle.salt_ast.specs.declared.lines.Line.{Line}
+use Rattle.salt_engine.proofs.Flying.{flight-next, kept-decided}
+use Rattle.salt_engine.proofs.Going.{flight-decides}
+use Rattle.salt_engine.proofs.Halting.{halts, memory-at}
+use Rattle.salt_engine.proofs.ServingGoes.{goes, meant, moves, plain, point, read, serves, serves-on}
+use Rattle.salt_engine.proofs.Stages.{goes-now, left-at, serves-now}
+use Rattle.salt_engine.specs.Flights.{flight_of}
+use Rattle.salt_engine.specs.Performing.{BreaksOff, GoesOnServing, IsLost, Performs}
+use Rattle.salt_engine.specs.Standing.{IsServingStage, Left, Lies, Sees, SeesIn, goes_in, waits_in}
+use Rattle.salt_engine.specs.Stored.{Stored, kept_behind}
+use Rattle.salt_engine.specs.declared.flights.InFlight.{InFlight}
+use Rattle.salt_engine.specs.declared.stage.Stage.{Stage}
+use Rattle.salt_keeps.proofs.SettlingEnds.{to-come-falls}
+use Rattle.salt_keeps.specs.Points.{Moves, Point, Say}
+use Rattle.salt_keeps.specs.Settling.{to_come, waiters}
+use Rattle.salt_keeps.specs.States.{State}
+use Rattle.salt_engine.proofs.Waiting.{to-go-stays}
+use Rattle.salt_keeps.specs.OpenUnits.{UnitState}
+use Rattle.salt_model.specs.Kept.{Kept}
+use Rattle.salt_model.specs.Next.{decision_in}
+use Rattle.salt_model.specs.Phases.{Fallen, Serving}
+use Rattle.salt_model.specs.Turns.{is_statement_line}
+use Rattle.salt_model.specs.declared.events.Event.{Event}
+use Rattle.salt_scheduler.proofs.Following.{not-of-run}
+use Rattle.salt_scheduler.specs.Standing.{HasDone}
+use Rattle.salt_scheduler.specs.declared.scheduler.Scheduler.{Scheduler}
+use Rattle.salt_steps.proofs.Advancing.{sound-moved}
+use Rattle.salt_steps.specs.Standing.{BreaksAt, IsAt, IsSoundPoint, left_to_come}
+use Rattle.salt_storage.specs.Storing.{IsSoundKept}
+use Rattle.salt_storage.specs.Writing.{Written}
+use Rattle.salt_storage.specs.declared.halt.Halt.TheVariants.{Memory}
+use Rattle.salt_storage.specs.declared.halt.Halt.{Halt}
+use Rattle.salt_values.specs.declared.id.Id.{Id}
+use Rattle.std.proofs.Common.{ap, inl, inr, subst, sym, ◌∙◌}
+use Rattle.std.specs.Prelude.{Bool, List, Option, Some, [], refl, ℕ, ◌++◌, ◌<◌, ◌∷◌, ◌≡◌}
+
+-- while it serves it has not fallen
+pub never-fallen : (p : Point) → p.state.units.phase ≡ Serving → p.state.units.phase ≡ Fallen → ⊥
+never-fallen p serves fallen = let no = sym serves ∙ fallen in cc
+
+-- what is kept behind an event that comes next
+pub kept-behind-next : (p : Point) (sound : IsSoundPoint p) (e : Event) (t : State) (x : Scheduler) → p.next ≡ Some e → HasDone x e p.state t → p.state.units.phase ≡ Serving →
+    t.units.kept ≡ kept_behind (decision_in p.next) p.state.units
+kept-behind-next p sound e t x comes d phase =
+    ap (λ (s : UnitState). s.kept) d.after.units ∙ kept-decided e p.state.units (not-of-run e d.served)
+    ∙ ap (λ (o : Option Event). kept_behind (decision_in o) p.state.units) (sym comes)
+
+module _ (line : Line) (x : Scheduler) (e : Event) (p : Point) (sound : IsSoundPoint p) (t : State) (d : HasDone x e p.state t) (comes : p.next ≡ Some e)
+    (phase : p.state.units.phase ≡ Serving) (served : p.state.units.line ≡ line) where
+  abbrev pub now : Point
+  now = point line x e p sound t d comes phase served
+
+  abbrev pub wanted : Option Event
+  wanted = meant line x e p sound t d comes phase served (read line x e p sound t d comes phase served)
+
+  pub said-there : {E : Type 0} (sees : E → Option Event → State → Type 0) (f : E) (given : Option Event) → sees f given t → given ≡ wanted →
+      (q : Point) × Moves (Say e) p q × IsAt sees line f given q
+  said-there sees f given state told =
+      let s = serves line x e p sound t d comes phase served in
+      (now, moves line x e p sound t d comes phase served, record { state = state; comes = sym told; serves = s.phase; line = s.line })
+
+  pub said-goes : (holds : Kept → Type 0) (is_new : Id → Type 0) → Stored holds is_new t.units → GoesOnServing holds is_new line x t
+  said-goes holds is_new stored = goes line x e p sound t d comes phase served holds is_new stored
+
+  pub said-sees : (holds : Kept → Type 0) (is_new : Id → Type 0) (old stoppable : Bool) (was single : Bool) (stage : Stage) (in_flight : Option InFlight) (given : Option Event) →
+      Performs holds is_new stage in_flight wanted given t → p.state.can_stop ≡ old → stoppable ≡ old → was ≡ is_statement_line p.state.units.line → single ≡ was →
+      Sees holds is_new stoppable stage single in_flight given t
+  said-sees holds is_new old stoppable was single stage in_flight given h can same lined kept =
+      serves-on line x e p sound t d comes phase served holds is_new old stoppable was single stage in_flight given h can same lined kept
+
+  -- it broke off behind the event
+
+  now-flies : now.flight ≡ decision_in now.next
+  now-flies = flight-decides e p.flight wanted (plain line x e p sound t d comes phase served)
+
+  line-now : (was single : Bool) → was ≡ is_statement_line p.state.units.line → single ≡ was → single ≡ is_statement_line t.units.line
+  line-now was single lined kept =
+      let s = serves line x e p sound t d comes phase served in
+      kept ∙ lined ∙ ap is_statement_line (served ∙ sym s.line)
+
+  pub said-halts : (holds : Kept → Type 0) (leaves : Kept → Kept → Type 0) (fills : Written → ℕ → Type 0) (halt : Halt) (old stoppable : Bool) (was single : Bool) (stage : Stage)
+      (in_flight : Option InFlight) (story told : List Event) → BreaksOff leaves fills halt stage in_flight wanted t.units → p.state.can_stop ≡ old → stoppable ≡ old →
+      was ≡ is_statement_line p.state.units.line → single ≡ was → IsSoundKept t.units.kept → told ≡ story ++ e ∷ [] →
+      BreaksAt (λ p. Lies holds leaves stoppable stage single in_flight 0 p) (λ p. Left holds leaves stage 0 p) fills (flight_of in_flight) halt p e story told
+  said-halts holds leaves fills halt old stoppable was single stage in_flight story told b can same lined kept may tells = inr (
+    tells,
+    (now, moves line x e p sound t d comes phase served, halts holds leaves fills halt stoppable stage single in_flight now b now-flies (d.after.can_stop ∙ can ∙ sym same) (line-now was single lined kept) may),
+  )
+
+  -- or before it was told
+  pub said-lost : (holds : Kept → Type 0) (leaves : Kept → Kept → Type 0) (fills : Written → ℕ → Type 0) (stoppable : Bool) (single : Bool) (stage : Stage)
+      (in_flight : Option InFlight) (story told : List Event) → leaves t.units.kept t.units.kept → IsLost stage in_flight → told ≡ story →
+      BreaksAt (λ p. Lies holds leaves stoppable stage single in_flight 0 p) (λ p. Left holds leaves stage 0 p) fills (flight_of in_flight) Memory p e story told
+  said-lost holds leaves fills stoppable single stage in_flight story told left lost same = inl (
+    same,
+    memory-at holds leaves fills stoppable stage single in_flight p t.units.kept (flight-next p sound.trace sound.keeps (never-fallen p phase)) left
+        (inr (kept-behind-next p sound e t x comes d phase)) lost,
+    refl,
+  )
+
+  -- less is still to come, and it has still to turn to as many programs
+
+  now-sound : IsSoundPoint now
+  now-sound = sound-moved (Say e) p now tt sound (moves line x e p sound t d comes phase served)
+
+  stage-now : (holds : Kept → Type 0) (is_new : Id → Type 0) (stage : Stage) (given : Option Event) → SeesIn holds is_new stage given t → given ≡ wanted → IsServingStage stage
+  stage-now holds is_new stage given seen told = serves-now holds is_new stage given now now-sound seen (sym told) (serves line x e p sound t d comes phase served).phase
+
+  pub said-less : (holds later : Kept → Type 0) (is_new new_later : Id → Type 0) (old stage : Stage) (given : Option Event) → SeesIn holds is_new old (Some e) p.state →
+      SeesIn later new_later stage given t → given ≡ wanted → left_to_come (waits_in stage) given < left_to_come (waits_in old) (Some e)
+  said-less holds later is_new new_later old stage given seen sees told =
+      let m = moves line x e p sound t d comes phase served in
+      let before : left_to_come (waits_in old) (Some e) ≡ to_come (waiters p.state) (Some e) =
+      left-at holds is_new old (Some e) p sound comes seen (serves-now holds is_new old (Some e) p sound seen comes phase) in
+      let after : left_to_come (waits_in stage) given ≡ to_come (waiters t) given =
+      left-at later new_later stage given now now-sound (sym told) sees (stage-now later new_later stage given sees told) in
+      subst (λ n. n < left_to_come (waits_in old) (Some e)) (sym after)
+      (subst (λ n. to_come (waiters t) given < n) (sym before)
+      (subst (λ (o : Option Event). to_come (waiters t) o < to_come (waiters p.state) (Some e)) (sym m.0.next ∙ sym told)
+      (to-come-falls e p.state t m.0.read p.flight m.1 (serves line x e p sound t d comes phase served).phase d.after)))
+
+  pub said-turns : (holds later : Kept → Type 0) (is_new new_later : Id → Type 0) (old stage : Stage) (given : Option Event) → SeesIn holds is_new old (Some e) p.state →
+      SeesIn later new_later stage given t → given ≡ wanted → goes_in stage ≡ goes_in old
+  said-turns holds later is_new new_later old stage given seen sees told =
+      goes-now later new_later stage given t sees (stage-now later new_later stage given sees told)
+      ∙ ap (λ (s : UnitState). s.to_go) d.after.units ∙ to-go-stays e p.state.units (plain line x e p sound t d comes phase served)
+      ∙ sym (goes-now holds is_new old (Some e) p.state seen (serves-now holds is_new old (Some e) p sound seen comes phase))

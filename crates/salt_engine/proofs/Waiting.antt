@@ -1,0 +1,77 @@
+-- The units that wait, and the programs to which `go all` has still to turn, are those of the engine's point.
+use Rattle.salt_engine.specs.Standing.{waits_in}
+use Rattle.salt_engine.specs.declared.stage.Stage.TheVariants.{Serving}
+use Rattle.salt_keeps.specs.Laws.{is_of_run}
+use Rattle.salt_keeps.specs.KeptWaits.{Asker, asker}
+use Rattle.salt_keeps.specs.OpenUnits.{UnitState}
+use Rattle.salt_keeps.specs.Settling.{stage, to_come, waiters, waiters_after}
+use Rattle.salt_keeps.specs.States.{Keeps, State}
+use Rattle.salt_keeps.specs.Steps.{units_after}
+use Rattle.salt_keeps.specs.Watches.{Watch}
+use Rattle.salt_model.specs.Trace.{Trace, ◌says◌}
+use Rattle.salt_model.specs.Units.{wait_list}
+use Rattle.salt_model.specs.declared.events.Event.TheVariants.{Began, Defined, Did, Down, Ended, Opened, Ready, Waits}
+use Rattle.salt_model.specs.declared.events.Event.{Event}
+use Rattle.salt_scheduler.proofs.Following.{not-of-run}
+use Rattle.salt_scheduler.specs.Standing.{HasDone, StandsBehind, watched_by}
+use Rattle.salt_scheduler.specs.declared.follow.Follow.TheVariants.{Release}
+use Rattle.salt_scheduler.specs.declared.follow.Follow.{Follow}
+use Rattle.salt_scheduler.specs.declared.scheduler.Scheduler.{Scheduler}
+use Rattle.salt_steps.specs.Standing.{left_to_come}
+use Rattle.salt_values.specs.declared.id.Id.{Id}
+use Rattle.salt_watch.specs.Waiters.{waiter_of}
+use Rattle.salt_watch.specs.declared.waiters.Waiter.{Waiter}
+use Rattle.salt_watch.specs.declared.watching.Watching.{Watching}
+use Rattle.std.proofs.Common.{ap, sym, ◌∙◌}
+use Rattle.std.specs.Prelude.{List, Some, [], false, length, map, refl, ◌*◌, ◌+◌, ◌∷◌, ◌≡◌}
+
+pub to-go-stays : (e : Event) (s : UnitState) → is_of_run e ≡ false → (units_after e s).to_go ≡ s.to_go
+to-go-stays (Began u kind) s h = refl
+to-go-stays (Did u st answer) s h = refl
+to-go-stays (Waits u owners) s h = refl
+to-go-stays (Ended u end) s h = refl
+to-go-stays (Defined n text) s h = refl
+to-go-stays (Down why) s h = cc
+to-go-stays (Opened boot n) s h = cc
+to-go-stays Ready s h = refl
+to-go-stays e s h = refl
+
+-- behind the event at hand it goes where it went before
+pub goes-behind : (x : Scheduler) (e : Event) (s t : State) → HasDone x e s t → x.books.to_go.items ≡ s.units.to_go
+goes-behind x e s t d = d.behind.books.to_go ∙ ap (λ (u : UnitState). u.to_go) d.after.units ∙ to-go-stays e s.units (not-of-run e d.served)
+
+-- THE WAITING UNITS of a trace
+
+named : (trace : Trace) (us : List Id) → us ≡ map (λ (a : Asker). a.unit) (map (asker trace) us)
+named trace [] = refl
+named trace (u ∷ us) = ap (λ l. u ∷ l) (named trace us)
+
+waiters-of : (s : State) (trace : Trace) → Keeps s trace → waiters s ≡ wait_list trace
+waiters-of s trace k = sym (named trace (wait_list trace) ∙ ap (map (λ (a : Asker). a.unit)) k.watch.waits)
+
+waiters-say : (trace : Trace) (e : Event) → wait_list (trace says e) ≡ waiters_after e (wait_list trace)
+waiters-say trace (Waits u owners) = refl
+waiters-say trace (Did u st answer) = refl
+waiters-say trace (Ended u end) = refl
+waiters-say trace e = refl
+
+waiters-told : (askers : List Asker) → map (λ (w : Waiter). w.unit) (map waiter_of askers) ≡ map (λ (a : Asker). a.unit) askers
+waiters-told [] = refl
+waiters-told (a ∷ askers) = ap (λ l. a.unit ∷ l) (waiters-told askers)
+
+watched-waits : (f : Follow) (x : Watching) (w : Watch) → watched_by f x w → map waiter_of w.waits ≡ x.waits.items
+watched-waits (Release b) x w h = h.waits
+watched-waits f x w h = h.waits
+
+waits-behind : (x : Scheduler) (s : State) → StandsBehind x s → waits_in (Serving x) ≡ waiters s
+waits-behind x s h = sym (ap (map (λ (w : Waiter). w.unit)) (watched-waits x.follow x.watch s.watch h.watch)) ∙ waiters-told s.watch.waits
+
+-- as the event of a trace leaves them
+pub waits-after : (x : Scheduler) (e : Event) (s t : State) (trace : Trace) → Keeps s trace → Keeps t (trace says e) → StandsBehind x t →
+    waits_in (Serving x) ≡ waiters_after e (waiters s)
+waits-after x e s t trace k kept h = waits-behind x t h ∙ waiters-of t (trace says e) kept ∙ waiters-say trace e ∙ ap (waiters_after e) (sym (waiters-of s trace k))
+
+-- what is still to come, as a number
+pub left-now : (x : Scheduler) (e : Event) (s t : State) (trace : Trace) → Keeps s trace → Keeps t (trace says e) → StandsBehind x t →
+    left_to_come (waits_in (Serving x)) (Some e) ≡ to_come (waiters s) (Some e)
+left-now x e s t trace k kept h = ap (λ (us : List Id). 6 * length us + stage e) (waits-after x e s t trace k kept h)

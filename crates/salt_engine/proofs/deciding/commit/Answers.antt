@@ -1,0 +1,85 @@
+use Rattle.salt_engine.proofs.Committing.{commit-done, commit-may, commit-moves, commit-new, commit-undone}
+use Rattle.salt_engine.proofs.Decided.{undone-before}
+use Rattle.salt_engine.proofs.Performed.{have-unit}
+use Rattle.salt_engine.proofs.deciding.commit.Goals as goal
+use Rattle.salt_keeps.specs.Told.{next_decision}
+use Rattle.salt_model.specs.Kept.{conts_committed}
+use Rattle.std.proofs.Common.{ap}
+use Rattle.std.proofs.lemmas.Result.{err_from_is_err_and}
+use Rattle.std.specs.Prelude.{Err}
+
+pub move_of_commit-requires : goal.move_of_commit-requires
+move_of_commit-requires g c = have-unit c.args.books.now c.requires.0 c.args.unit c.requires.1 c.requires.2.books c.requires.3
+
+pub commit-requires-clause-may : goal.commit-requires-clause-may
+commit-requires-clause-may g c =
+    let view = g.D.Disks.view c.args.disks.now in
+    let holds = g.S.Storage.holds view c.args.storage.now in
+    let is_new = g.S.Storage.is_new view c.args.storage.now in
+    let x = c.args.books.now in
+    let s = c.requires.0 in
+    let o = c.requires.1 in
+    let b = c.requires.2 in
+    let named = c.requires.3 in
+    let moves = commit-moves holds is_new x s o c.args.unit c.stands.ensures.sound named b c.in_ok-made.made c.in_ok-made.ensures in (
+      s.kept,
+      b.stored.holding,
+      (
+        conts_committed s.kept (next_decision s) o.kind o.vars,
+        commit-may holds is_new x s o c.args.unit c.stands.ensures.sound named b c.decided_ends_may_be_kept.ensures.commit c.in_ok-changes.changes c.in_ok-made.made
+            (c.in_ok-changes.ensures s o b.books named) moves,
+      ),
+    )
+
+pub commit-requires-clause-new : goal.commit-requires-clause-new
+commit-requires-clause-new g c =
+    let view = g.D.Disks.view c.args.disks.now in
+    let holds = g.S.Storage.holds view c.args.storage.now in
+    let is_new = g.S.Storage.is_new view c.args.storage.now in
+    let x = c.args.books.now in
+    let s = c.requires.0 in
+    let o = c.requires.1 in
+    let b = c.requires.2 in
+    let named = c.requires.3 in
+    let moves = commit-moves holds is_new x s o c.args.unit c.stands.ensures.sound named b c.in_ok-made.made c.in_ok-made.ensures in
+    commit-new holds is_new x s o c.args.unit c.stands.ensures.sound named b c.decided_ends_may_be_kept.ensures.commit c.in_ok-changes.changes c.in_ok-made.made
+    (c.in_ok-changes.ensures s o b.books named) moves
+
+pub returns-in_err-made-clause-undone : goal.returns-in_err-made-clause-undone
+returns-in_err-made-clause-undone g c =
+    let p = err_from_is_err_and c.from_residual.result c.from_residual.ensures.1 in
+    rw (p.1, p.2) (λ s o b named. undone-before _ _ s _ (c.stands.ensures.stays s.kept b.stored.holding))
+
+pub returns-clause-committed : goal.returns-clause-committed
+returns-clause-committed g c = λ s o b named.
+    let view = g.D.Disks.view c.args.disks.now in
+    let holds = g.S.Storage.holds view c.args.storage.now in
+    let is_new = g.S.Storage.is_new view c.args.storage.now in
+    let x = c.args.books.now in
+    let moves = commit-moves holds is_new x s o c.args.unit c.stands.ensures.sound named b c.in_ok-made.made c.in_ok-made.ensures in
+    let are = c.in_ok-changes.ensures s o b.books named in
+    let may = commit-may holds is_new x s o c.args.unit c.stands.ensures.sound named b c.decided_ends_may_be_kept.ensures.commit c.in_ok-changes.changes c.in_ok-made.made are moves in
+    commit-done holds is_new x s o c.args.unit c.stands.ensures.sound named b c.decided_ends_may_be_kept.ensures.commit c.in_ok-changes.changes c.in_ok-made.made are moves _ _
+    (c.in_ok-_number.ensures.holds s.kept (conts_committed s.kept (next_decision s) o.kind o.vars) b.stored.holding may) c.in_ok-_number.ensures.is_new
+
+pub returns-in_err-changes-clause-undone : goal.returns-in_err-changes-clause-undone
+returns-in_err-changes-clause-undone g c =
+    let p = err_from_is_err_and c.from_residual-in_err-changes.result c.from_residual-in_err-changes.ensures.1 in
+    rw (p.1, p.2) (λ s o b named. undone-before _ _ s _ (c.stands.ensures.stays s.kept b.stored.holding))
+
+pub returns-in_err-_number-clause-undone : goal.returns-in_err-_number-clause-undone
+returns-in_err-_number-clause-undone g c =
+    let p = err_from_is_err_and c.from_residual-in_err-_number.result c.from_residual-in_err-_number.ensures.1 in
+    rw (p.1, p.2) (λ s o b named.
+    let view = g.D.Disks.view c.args.disks.now in
+    let holds = g.S.Storage.holds view c.args.storage.now in
+    let is_new = g.S.Storage.is_new view c.args.storage.now in
+    let x = c.args.books.now in
+    let law = c.decided_ends_may_be_kept.ensures.commit in
+    let sound = c.stands.ensures.sound in
+    let moves = commit-moves holds is_new x s o c.args.unit sound named b c.in_ok-made.made c.in_ok-made.ensures in
+    let are = c.in_ok-changes.ensures s o b.books named in
+    let may = commit-may holds is_new x s o c.args.unit sound named b law c.in_ok-changes.changes c.in_ok-made.made are moves in
+    commit-undone holds is_new x s o c.args.unit sound named b law c.in_ok-changes.changes c.in_ok-made.made are moves _ _ _
+    (c.in_err-_number.ensures.leaves s.kept (conts_committed s.kept (next_decision s) o.kind o.vars) b.stored.holding may)
+    (λ dev is. c.in_err-_number.ensures.full dev (ap Err is)))

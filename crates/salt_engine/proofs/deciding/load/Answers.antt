@@ -1,0 +1,36 @@
+use Rattle.salt_engine.proofs.Decided.{stored-still}
+use Rattle.salt_engine.proofs.Loading.{may-load, rows-keyed, rows-loaded, unloaded}
+use Rattle.salt_engine.proofs.deciding.load.Goals as goal
+use Rattle.salt_known.specs.declared.known.Known.{Known}
+use Rattle.std.proofs.Common.{ap, ◌∙◌}
+use Rattle.std.proofs.lemmas.Result.{err_from_is_err_and}
+use Rattle.std.specs.Prelude.{Err}
+
+pub load-requires : goal.load-requires
+load-requires g c =
+    let view = g.D.Disks.view c.args.disks.now in
+    may-load (g.S.Storage.holds view c.args.storage.now) (g.S.Storage.is_new view c.args.storage.now) c.args.books.now c.args.asking.now c.requires.0 c.requires.1 c.in-Some.reach
+    c.requires.2 c.requires.3 c.in-Some.is c.schema.result.now (c.schema.ensures ∙ ap (λ (x : Known). x.schema) c.known.ensures)
+
+pub returns-in_ok-rows-in-Some-clause-rows : goal.returns-in_ok-rows-in-Some-clause-rows
+returns-in_ok-rows-in-Some-clause-rows g c = λ s stored.
+    rows-loaded c.args.asking.now.reach c.in-Some.reach c.in_ok-rows-in-Some.rows s.kept.tables c.in-Some.is c.len-count.ensures.ordered
+    (c.in_ok-rows-in-Some.ensures.rows s.kept stored.holding)
+
+pub returns-in_ok-rows-in-Some-clause-keyed : goal.returns-in_ok-rows-in-Some-clause-keyed
+returns-in_ok-rows-in-Some-clause-keyed g c =
+    let k = c.requires.0.kept in
+    let holding = c.requires.2.stored.holding in
+    rows-keyed k c.in-Some.reach c.in_ok-rows-in-Some.rows (c.stands.ensures.sound k holding) c.len-count.ensures.ordered (c.in_ok-rows-in-Some.ensures.rows k holding)
+
+pub returns-in_ok-rows-in-Some-clause-stored : goal.returns-in_ok-rows-in-Some-clause-stored
+returns-in_ok-rows-in-Some-clause-stored g c = λ s stored.
+    stored-still _ _ _ _ s stored c.in_ok-rows-in-Some.ensures.holds c.in_ok-rows-in-Some.ensures.is_new
+
+pub returns-in_err-rows-in-Some-clause-undone : goal.returns-in_err-rows-in-Some-clause-undone
+returns-in_err-rows-in-Some-clause-undone g c =
+    let view = g.D.Disks.view c.args.disks.now in
+    let p = err_from_is_err_and c.from_residual.result c.from_residual.ensures.1 in
+    rw (p.1, p.2) (λ s o b asked.
+    unloaded (g.S.Storage.holds view c.args.storage.now) (g.S.Storage.is_new view c.args.storage.now) c.args.books.now c.args.asking.now s o c.in-Some.reach b asked c.in-Some.is
+    _ _ _ (c.in_err-rows-in-Some.ensures.leaves s.kept b.stored.holding) (λ dev is. c.in_err-rows-in-Some.ensures.full dev (ap Err is)))

@@ -1,8 +1,0 @@
-use Rattle.salt_engine.proofs.LinesDone.{quiet}
-use Rattle.salt_engine.proofs.engine.Engine.refuse.Goals as goal
-use Rattle.salt_model.specs.declared.events.Event.TheVariants.{Refused}
-use Rattle.std.specs.Prelude.{refl}
-
-pub returns : goal.returns
-returns c = λ s r stands h.
-    quiet (Refused c.args.refusal) s c.args.self.now _ _ refl tt (λ x. refl) refl (λ b. refl) stands refl refl refl stands.books refl

@@ -1,0 +1,65 @@
+-- What is asked of a storage, and where it was not done.
+use Rattle.salt_books.specs.Books.{AreBooks}
+use Rattle.salt_books.specs.declared.books.Books.{Books}
+use Rattle.salt_bytes.specs.declared.moves.Move.{Move}
+use Rattle.salt_engine.specs.Stored.{LeavesEither, Stored}
+use Rattle.salt_keeps.specs.Keeps.{KeepsUnits}
+use Rattle.salt_keeps.specs.Laws.{IsSound}
+use Rattle.salt_keeps.specs.OpenUnits.{OpenUnit, UnitState}
+use Rattle.salt_keeps.specs.Steps.{units_after}
+use Rattle.salt_keeps.specs.Told.{at_devices_in, commits_in, next_decision}
+use Rattle.salt_model.specs.Kept.{Kept, conts_branched, conts_committed}
+use Rattle.salt_model.specs.Next.{next}
+use Rattle.salt_model.specs.Stops.{is_just_opened}
+use Rattle.salt_model.specs.Trace.{Trace, lines_of, start_of}
+use Rattle.salt_model.specs.Words.{Every}
+use Rattle.salt_model.specs.declared.events.Cause.{Cause}
+use Rattle.salt_model.specs.declared.events.End.TheVariants.{Branched}
+use Rattle.salt_model.specs.declared.events.Event.TheVariants.{Ended}
+use Rattle.salt_model.specs.declared.events.Event.{Event}
+use Rattle.salt_stands.specs.OpenConts.{make_move}
+use Rattle.salt_steps.specs.Writing.{IsWrittenBy}
+use Rattle.salt_storage.specs.Writing.{Written}
+use Rattle.salt_storage.specs.declared.halt.Halt.TheVariants.{DeviceFull, Memory}
+use Rattle.salt_storage.specs.declared.halt.Halt.{Halt}
+use Rattle.salt_types.specs.Played.{HasKey}
+use Rattle.salt_types.specs.Typed.{IsTyped}
+use Rattle.salt_values.specs.declared.id.Id.{Id}
+use Rattle.std.specs.Prelude.{Some, false, true, ℕ, ◌≡◌, ◌⊎◌}
+
+-- the units of a played trace, of a typed start and over lines whose tables have keys, where this comes next; and not as a decision
+-- that was in flight
+pub record ComesNext (e : Event) (s : UnitState) : Type 0 where
+  pub trace : Trace
+  pub keeps : KeepsUnits s trace
+  pub sound : IsSound trace
+  pub typed : IsTyped (start_of trace).kept
+  pub keyed : Every HasKey (lines_of trace)
+  pub next : next trace ≡ Some e
+  pub late : is_just_opened trace ≡ false
+
+-- books and a storage before an event that comes next
+pub record IsBefore (holds : Kept → Type 0) (is_new : Id → Type 0) (x : Books) (e : Event) (s : UnitState) : Type 0 where
+  pub books : AreBooks x s
+  pub stored : Stored holds is_new s
+  pub comes : ComesNext e s
+
+-- the end of a unit by a branch
+abbrev pub branches_in : UnitState → Id → Cause → Event
+branches_in s u cause = Ended u (Branched (next_decision s) cause)
+
+-- a unit has been decided, with the move of its program that its commit makes, or its branch
+pub record IsCommitted (holds : Kept → Type 0) (is_new : Id → Type 0) (m : Move) (s : UnitState) (o : OpenUnit) : Type 0 where
+  pub moves : make_move s.kept.conts m ≡ Some (conts_committed s.kept (next_decision s) o.kind o.vars)
+  pub stored : Stored holds is_new (units_after (commits_in s o) s)
+
+pub record IsBranched (holds : Kept → Type 0) (is_new : Id → Type 0) (m : Move) (s : UnitState) (o : OpenUnit) (cause : Cause) : Type 0 where
+  pub moves : make_move s.kept.conts m ≡ Some (conts_branched s.kept o.kind)
+  pub stored : Stored holds is_new (units_after (branches_in s o.unit cause) s)
+
+-- An event was to come next, and was broken off: a stop leaves what is kept before or behind it; unless memory ran out it is at the
+-- devices; and where a device was full, by what was to be written of it.
+pub record Undone (leaves : Kept → Kept → Type 0) (fills : Written → ℕ → Type 0) (halt : Halt) (s : UnitState) (e : Event) : Type 0 where
+  pub left : LeavesEither leaves s.kept (units_after e s).kept
+  pub reason : (halt ≡ Memory) ⊎ (at_devices_in s e ≡ true)
+  pub full : (dev : ℕ) → halt ≡ DeviceFull dev → (w : Written) × IsWrittenBy s (Some e) w × fills w dev

@@ -1,0 +1,48 @@
+-- What was asked of the storage where an engine was broken off.
+use Rattle.salt_ast.specs.ProgramTexts.{program_text}
+use Rattle.salt_ast.specs.Texts.{table_text}
+use Rattle.salt_ast.specs.declared.lines.Line.TheVariants as line
+use Rattle.salt_ast.specs.declared.programs.ProgramDef.{ProgramDef}
+use Rattle.salt_ast.specs.declared.trees.TableDef.{TableDef}
+use Rattle.salt_books.specs.Coming.{IsLaterUnit}
+use Rattle.salt_engine.specs.Deciding.{branches_in}
+use Rattle.salt_engine.specs.declared.flights.InFlight.TheVariants.{Branch, Commit, Program, Table}
+use Rattle.salt_engine.specs.declared.flights.InFlight.{InFlight}
+use Rattle.salt_keeps.specs.OpenUnits.{OpenUnit, UnitState, unit_named}
+use Rattle.salt_keeps.specs.Told.{commits_in, next_decision}
+use Rattle.salt_model.specs.Kept.{programs_of, schema_of}
+use Rattle.salt_model.specs.declared.events.Event.TheVariants.{Defined}
+use Rattle.salt_model.specs.declared.events.Event.{Event}
+use Rattle.salt_model.specs.declared.events.Flight.TheVariants as flight
+use Rattle.salt_model.specs.declared.events.Flight.{Flight}
+use Rattle.salt_program.specs.Refusals.{parts_in, program_refusal}
+use Rattle.salt_schema.specs.Refusals.{table_refusal}
+use Rattle.std.specs.Prelude.{None, Option, Some, length, option_map, ◌<◌, ◌^◌, ◌≡◌}
+
+-- what is told of it
+abbrev pub told_of : InFlight → Flight
+told_of (Commit u) = flight.Unit u
+told_of (Branch u b cause) = flight.Unit u
+told_of (Table d text) = flight.Definition text
+told_of (Program p text) = flight.Definition text
+
+abbrev pub flight_of : Option InFlight → Option Flight
+flight_of f = option_map told_of f
+
+-- a table, and a program, of the last line that may be defined
+pub record IsTableToCome (s : UnitState) (d : TableDef) : Type 0 where
+  pub line : s.line ≡ line.Table d
+  pub allowed : table_refusal (schema_of s.kept) d ≡ None
+
+pub record IsProgramToCome (s : UnitState) (p : ProgramDef) : Type 0 where
+  pub line : s.line ≡ line.Program p
+  pub allowed : program_refusal (schema_of s.kept) (programs_of s.kept) p ≡ None
+  pub few : length (parts_in p.body) < 2 ^ 32
+
+-- it is the event that is in flight in a state
+abbrev pub IsInFlight : Option InFlight → Option Event → UnitState → Type 0
+IsInFlight None e s = e ≡ None
+IsInFlight (Some (Commit u)) e s = (o : OpenUnit) × (unit_named u s.units ≡ Some o) × (e ≡ Some (commits_in s o))
+IsInFlight (Some (Branch u b cause)) e s = IsLaterUnit s u b × (e ≡ Some (branches_in s u cause))
+IsInFlight (Some (Table d text)) e s = IsTableToCome s d × (text ≡ table_text d) × (e ≡ Some (Defined (next_decision s) text))
+IsInFlight (Some (Program p text)) e s = IsProgramToCome s p × (text ≡ program_text p) × (e ≡ Some (Defined (next_decision s) text))

@@ -1,0 +1,184 @@
+-- What is to come is performed, over the half in memory that has chosen it; or it is broken off.
+use Rattle.salt_ast.specs.declared.lines.Line.TheVariants.{Crash, Nothing, Program, Table}
+use Rattle.salt_ast.specs.declared.lines.Line.{Line}
+use Rattle.salt_books.specs.Books.{AreBooks}
+use Rattle.salt_books.specs.Coming.{event_meant}
+use Rattle.salt_books.specs.declared.books.Books.{Books}
+use Rattle.salt_books.specs.declared.coming.Coming.TheVariants as coming
+use Rattle.salt_books.specs.declared.coming.Coming.{Coming}
+use Rattle.salt_engine.specs.Flights.{IsInFlight}
+use Rattle.salt_engine.specs.Standing.{SeesIn}
+use Rattle.salt_engine.specs.Stored.{LeavesEither, Stored, kept_behind}
+use Rattle.salt_engine.specs.declared.flights.InFlight.{InFlight}
+use Rattle.salt_engine.specs.declared.stage.Stage.TheVariants.{Down, Lost, Serving}
+use Rattle.salt_engine.specs.declared.stage.Stage.{Stage}
+use Rattle.salt_keeps.specs.KeptWaits.{AreDistinct}
+use Rattle.salt_keeps.specs.Laws.{IsSound}
+use Rattle.salt_keeps.specs.Nexts.{asked_next, next_turn_of, turned_next}
+use Rattle.salt_keeps.specs.OpenUnits.{UnitState}
+use Rattle.salt_keeps.specs.Readings.{Reading, clash_by, items_by}
+use Rattle.salt_keeps.specs.States.{Keeps, State, asked_of, turned_to}
+use Rattle.salt_keeps.specs.Steps.{units_after}
+use Rattle.salt_keeps.specs.Told.{at_devices_in, line_in}
+use Rattle.salt_model.specs.Kept.{Kept}
+use Rattle.salt_model.specs.Next.{decision_in, next}
+use Rattle.salt_model.specs.Phases as phases
+use Rattle.salt_model.specs.Stops.{is_just_opened}
+use Rattle.salt_model.specs.Trace.{Rejected, Trace, Tree, lines_of, start_of}
+use Rattle.salt_model.specs.Words.{Every}
+use Rattle.salt_model.specs.declared.events.Event.TheVariants.{Armed, Defined, Refused}
+use Rattle.salt_model.specs.declared.events.Event.{Event}
+use Rattle.salt_model.specs.declared.events.Refusal.{Refusal}
+use Rattle.salt_recovery.specs.Follows.{comes_behind}
+use Rattle.salt_recovery.specs.Recovering as recovering
+use Rattle.salt_recovery.specs.declared.recovery.Recovery.{Recovery}
+use Rattle.salt_scheduler.specs.Standing as scheduling
+use Rattle.salt_scheduler.specs.Standing.{Does, ServesAllowed, ServesLine, behind_in}
+use Rattle.salt_scheduler.specs.declared.scheduler.Scheduler.{Scheduler}
+use Rattle.salt_sound.specs.Spelled.{IsSpelledLine}
+use Rattle.salt_steps.specs.Writing.{IsWrittenBy}
+use Rattle.salt_storage.specs.Writing.{Written}
+use Rattle.salt_storage.specs.declared.halt.Halt.TheVariants.{DeviceFull, Memory}
+use Rattle.salt_storage.specs.declared.halt.Halt.{Halt}
+use Rattle.salt_types.specs.Played.{HasKey}
+use Rattle.salt_types.specs.Typed.{IsTyped}
+use Rattle.salt_values.specs.declared.id.Id.{Id}
+use Rattle.std.specs.Prelude.{Bool, IsSome, None, Option, Some, false, true, ℕ, ◌≡◌, ◌≤◌, ◌⊎◌}
+
+-- this comes next in a state of a played trace, of a typed start and over lines whose tables have keys
+pub record IsPlayedBefore (comes : Option Event) (s : State) : Type 0 where
+  pub trace : Trace
+  pub keeps : Keeps s trace
+  pub sound : IsSound trace
+  pub typed : IsTyped (start_of trace).kept
+  pub keyed : Every HasKey (lines_of trace)
+  pub next : next trace ≡ comes
+  pub late : is_just_opened trace ≡ false
+
+-- a line, a definition and stops that are armed are prepared before anything of a unit comes
+abbrev pub is_prepared : Option Event → Bool
+is_prepared (Some (Armed pairs)) = true
+is_prepared (Some (Defined n text)) = true
+is_prepared e = false
+
+-- it holds what the state keeps; where the event is done already, that is what the event leaves too
+abbrev pub StoredAt : (holds : Kept → Type 0) (is_new : Id → Type 0) → Coming → State → Type 0
+StoredAt holds is_new (coming.Told e) s = Stored holds is_new (units_after e s.units)
+StoredAt holds is_new c s = Stored holds is_new s.units
+
+-- a recovery is ready for an event of its opening, over a storage that holds what its state keeps
+pub record IsToOpen (holds : Kept → Type 0) (is_new : Id → Type 0) (x : Recovery) (c : Coming) (s : State) : Type 0 where
+  pub played : IsPlayedBefore (event_meant s.units c) s
+  pub comes : IsSome (event_meant s.units c)
+  pub plain : is_prepared (event_meant s.units c) ≡ false
+  pub ready : recovering.IsReady x s c
+  pub stored : StoredAt holds is_new c s
+
+-- a recovery stands for a state behind an event of an opening, and what comes behind that comes next
+pub record GoesOnOpening (holds : Kept → Type 0) (is_new : Id → Type 0) (x : Recovery) (s : State) : Type 0 where
+  pub played : IsPlayedBefore (comes_behind x.behind s.units) s
+  pub stands : recovering.Stands x s
+  pub stored : Stored holds is_new s.units
+
+-- a scheduler is ready for what follows in a line, which is no preparation
+pub record IsToServe (holds : Kept → Type 0) (is_new : Id → Type 0) (x : Scheduler) (c : Coming) (s : State) : Type 0 where
+  pub played : IsPlayedBefore (event_meant s.units c) s
+  pub serves : s.units.phase ≡ phases.Serving
+  pub plain : is_prepared (event_meant s.units c) ≡ false
+  pub ready : scheduling.IsReady x s c
+  pub stored : StoredAt holds is_new c s
+
+-- a scheduler stands for a state behind an event in a line, and what comes behind that comes next
+pub record GoesOnServing (holds : Kept → Type 0) (is_new : Id → Type 0) (line : Line) (x : Scheduler) (s : State) : Type 0 where
+  pub played : (r : Reading s.watch) → IsPlayedBefore (behind_in s r x.follow) s
+  pub serves : ServesLine line s
+  pub stands : scheduling.StandsBehind x s
+  pub stored : Stored holds is_new s.units
+
+-- `go all` is to turn to a program, and what that brings comes next
+pub record Turns (holds : Kept → Type 0) (is_new : Id → Type 0) (line : Line) (base : Id) (x : Scheduler) (s : State) : Type 0 where
+  pub turn : next_turn_of s ≡ Some base
+  pub played : (r : Reading s.watch) → IsPlayedBefore (turned_next s r base) (turned_to base s)
+  pub serves : ServesLine line (turned_to base s)
+  pub stands : scheduling.Stands x s
+  pub stored : Stored holds is_new s.units
+
+-- the lines that an engine can be asked: a definition is spelled by a text, and stops leave one of the images that there are
+abbrev pub IsServed : Line → Type 0
+IsServed (Crash pairs) = Every (λ (p : ℕ × ℕ). p.1 ≤ 4) pairs
+IsServed line = IsSpelledLine line
+
+-- lines that have to be prepared: definitions, and stops that are armed
+abbrev pub is_prepared_line : Line → Bool
+is_prepared_line (Table d) = true
+is_prepared_line (Program p) = true
+is_prepared_line (Crash pairs) = true
+is_prepared_line line = false
+
+-- a line has been asked that is not refused, and its first event comes next
+pub record AsksLine (holds : Kept → Type 0) (is_new : Id → Type 0) (stoppable : Bool) (line : Line) (x : Scheduler) (s : State) : Type 0 where
+  pub played : (r : Reading s.watch) → IsPlayedBefore (line_in s.units (clash_by s) (items_by s r) line) s
+  pub allowed : ServesAllowed line s
+  pub stands : scheduling.Stands x s
+  pub stored : Stored holds is_new s.units
+  pub served : IsServed line
+  pub can_stop : s.can_stop ≡ stoppable
+
+-- before it is asked, and may be refused
+pub record IsToAsk (holds : Kept → Type 0) (is_new : Id → Type 0) (stoppable : Bool) (line : Line) (x : Scheduler) (s : State) : Type 0 where
+  pub played : (r : Reading s.watch) → IsPlayedBefore (asked_next s r (Tree line)) (asked_of (Tree line) s)
+  pub distinct : AreDistinct s.watch.programs
+  pub serves : ServesLine line (asked_of (Tree line) s)
+  pub stands : scheduling.Stands x s
+  pub stored : Stored holds is_new s.units
+  pub served : IsServed line
+  pub can_stop : s.can_stop ≡ stoppable
+
+-- the event that was meant is given, and the engine has done it
+pub record Performs (holds : Kept → Type 0) (is_new : Id → Type 0) (stage : Stage) (in_flight : Option InFlight) (meant given : Option Event)
+    (s : State) : Type 0 where
+  pub told : given ≡ meant
+  pub sees : SeesIn holds is_new stage given s
+  pub none : in_flight ≡ None
+
+-- The storage halted: what was to come is at the devices, and a full device is told by what was to be written of it; the books are
+-- those of the state, and what is in flight is known.
+pub record IsHalted (fills : Written → ℕ → Type 0) (halt : Halt) (stage : Stage) (in_flight : Option InFlight) (meant : Option Event)
+    (s : UnitState) : Type 0 where
+  pub event : Event
+  pub is : meant ≡ Some event
+  pub other : halt ≡ Memory → ⊥
+  pub devices : at_devices_in s event ≡ true
+  pub full : (dev : ℕ) → halt ≡ DeviceFull dev → (w : Written) × IsWrittenBy s (Some event) w × fills w dev
+  pub books : Books
+  pub there : stage ≡ Down books
+  pub are : AreBooks books s
+  pub flies : IsInFlight in_flight (decision_in meant) s
+
+pub record IsLost (stage : Stage) (in_flight : Option InFlight) : Type 0 where
+  pub there : stage ≡ Lost
+  pub none : in_flight ≡ None
+
+-- or memory ran out; either way a stop leaves what is kept, or that with the decision that was to come
+pub record BreaksOff (leaves : Kept → Kept → Type 0) (fills : Written → ℕ → Type 0) (halt : Halt) (stage : Stage) (in_flight : Option InFlight)
+    (meant : Option Event) (s : UnitState) : Type 0 where
+  pub left : LeavesEither leaves s.kept (kept_behind (decision_in meant) s)
+  pub how : ((halt ≡ Memory) × IsLost stage in_flight) ⊎ IsHalted fills halt stage in_flight meant s
+
+-- by what the storage answered: these books stay, and what was asked of it
+abbrev pub WasBroken : Halt → Books → Option InFlight → Stage → Option InFlight → Type 0
+WasBroken halt books asked stage in_flight =
+    ((halt ≡ Memory) × IsLost stage in_flight) ⊎ ((halt ≡ Memory → ⊥) × (stage ≡ Down books) × (in_flight ≡ asked))
+
+-- a line is refused, and the scheduler has told it
+pub record IsRefused (line : Line) (refusal : Refusal) (x : Scheduler) (stage : Stage) (e : Event) : Type 0 where
+  pub scheduler : Scheduler
+  pub there : stage ≡ Serving scheduler
+  pub refuses : Does (λ s r. Some (Refused refusal)) line x scheduler e
+
+-- a line whose text is refused
+pub record IsRejected (refusal : Refusal) (x : Scheduler) (stage : Stage) (e : Event) : Type 0 where
+  pub scheduler : Scheduler
+  pub there : stage ≡ Serving scheduler
+  pub refuses : (s : State) (r : Reading s.watch) → scheduling.Stands x s → ServesLine Nothing (asked_of (Rejected refusal) s) →
+      scheduling.Gives (asked_of (Rejected refusal) s) (Some (Refused refusal)) scheduler (Some e)

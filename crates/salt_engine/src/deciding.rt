@@ -1,0 +1,142 @@
+//! What is asked of the storage: the rows that a statement reaches, and decisions of units.
+
+ghost use Rattle.salt_books.specs.Asking.{IsAskedBy};
+ghost use Rattle.salt_books.specs.Books.{AreBooks, AreLoaded};
+ghost use Rattle.salt_books.specs.Coming.{IsLaterUnit};
+ghost use Rattle.salt_disk.specs.Disks.{HasCause, SameShape};
+ghost use Rattle.salt_engine.specs.Deciding.{IsBefore, IsBranched, IsCommitted, Undone, branches_in};
+ghost use Rattle.salt_engine.specs.Stored.{Stored};
+ghost use Rattle.salt_eval.specs.Scans.{IsKeyed};
+ghost use Rattle.salt_eval.specs.Views.{tables_of};
+ghost use Rattle.salt_keeps.specs.OpenUnits.{OpenUnit, UnitState, unit_named};
+ghost use Rattle.salt_keeps.specs.Told.{commits_in, does_in};
+ghost use Rattle.salt_model.specs.declared.events.Cause.{Cause};
+ghost use Rattle.salt_steps.specs.Writing.{change_of};
+ghost use Rattle.salt_storage.specs.Answers.{disk_err};
+ghost use Rattle.salt_values.specs.declared.id.Id.{Id};
+ghost use Rattle.std.specs.Prelude.{IfErr, IfOk, OnOk, Some, map, ◌≡◌};
+
+use salt_books::{Asking, Books};
+use salt_cont::Move;
+use salt_disk::Disks;
+use salt_eval::Tables;
+use salt_sound::decided_ends_may_be_kept;
+use salt_storage::{Halt, Storage};
+use salt_values::{Change, Changes, Id, TryCopy};
+use sqlite_items::Items;
+use std::alloc::{AllocError, Global};
+
+/// The rows in the reach of the statement that a unit is to do; none where it reaches nothing.
+pub fn load<S: Storage, D: Disks>(
+    alloc: Global,
+    storage: &mut S,
+    disks: &mut D,
+    books: &Books,
+    asking: &Asking,
+) -> Result<Tables, Halt>
+    requires { (s : UnitState) × (o : OpenUnit) × IsBefore (S.holds (D.view disks.old) storage.old) (S.is_new (D.view disks.old) storage.old) books.now (does_in s o asking.now.statement) s × IsAskedBy asking.now s o }
+    ensures rows { IfOk result (λ rows. (s : UnitState) → Stored (S.holds (D.view disks.old) storage.old) (S.is_new (D.view disks.old) storage.old) s
+        → AreLoaded asking.now.reach (tables_of rows.entries) s.kept.tables) }
+    ensures keyed { IfOk result (λ rows. IsKeyed (tables_of rows.entries)) }
+    ensures stored { OnOk result ((s : UnitState) → Stored (S.holds (D.view disks.old) storage.old) (S.is_new (D.view disks.old) storage.old) s
+        → Stored (S.holds (D.view disks.new) storage.new) (S.is_new (D.view disks.new) storage.new) s) }
+    ensures undone { IfErr result (λ halt. (s : UnitState) (o : OpenUnit) → IsBefore (S.holds (D.view disks.old) storage.old) (S.is_new (D.view disks.old) storage.old) books.now (does_in s o asking.now.statement) s → IsAskedBy asking.now s o
+        → Undone (S.leaves (D.view disks.new) storage.new) (S.fills (D.view disks.new) storage.new) halt s (does_in s o asking.now.statement)) }
+    ensures asked { S.asked storage.new ≡ S.asked storage.old }
+    ensures shape { SameShape (D.view disks.old) (D.view disks.new) }
+    ensures cause { HasCause (D.view disks.old) (D.view disks.new) (disk_err result) }
+{
+    storage.stands(disks);
+    match &asking.reach {
+        Some(reach) => {
+            let rows = storage.load(disks, books.known().schema(), reach)?;
+            let _count = rows.len();
+            Ok(rows)
+        }
+        None => Ok(Tables::new(alloc)),
+    }
+}
+
+fn change_copied(alloc: Global, change: &Change) -> Result<Change, AllocError>
+    ensures { IfOk result (λ copy. copy ≡ change.now) }
+{
+    Ok(Change {
+        table: change.table,
+        key: change.key.copy(alloc)?,
+        row: match &change.row {
+            Some(row) => Some(row.copy(alloc)?),
+            None => None,
+        },
+    })
+}
+
+/// A copy of changes.
+fn changes_copied(alloc: Global, changes: &[Change]) -> Result<Changes, AllocError>
+    ensures { IfOk result (λ copies. copies ≡ changes.now) }
+{
+    let mut copies = Items::new(alloc);
+    for change in changes {
+        copies.push(change_copied(alloc, change)?)?;
+    }
+    Ok(copies)
+}
+
+/// The changes of an open unit.
+fn changes_of(alloc: Global, books: &Books, unit: Id) -> Result<Changes, AllocError>
+    ensures { IfOk result (λ changes. (s : UnitState) (o : OpenUnit) → AreBooks books.now s → unit_named unit s.units ≡ Some o → changes ≡ map change_of o.changes) }
+{
+    match books.unit_named(unit) {
+        Some(held) => changes_copied(alloc, held.open.changes()),
+        None => Ok(Items::new(alloc)),
+    }
+}
+
+/// Decides the commit of a unit. The move of its program.
+pub fn commit<S: Storage, D: Disks>(
+    alloc: Global,
+    storage: &mut S,
+    disks: &mut D,
+    books: &Books,
+    unit: Id,
+) -> Result<Move, Halt>
+    requires { (s : UnitState) × (o : OpenUnit) × IsBefore (S.holds (D.view disks.old) storage.old) (S.is_new (D.view disks.old) storage.old) books.now (commits_in s o) s × (unit_named unit s.units ≡ Some o) }
+    ensures committed { IfOk result (λ made. (s : UnitState) (o : OpenUnit) → IsBefore (S.holds (D.view disks.old) storage.old) (S.is_new (D.view disks.old) storage.old) books.now (commits_in s o) s → unit_named unit s.units ≡ Some o
+        → IsCommitted (S.holds (D.view disks.new) storage.new) (S.is_new (D.view disks.new) storage.new) made s o) }
+    ensures undone { IfErr result (λ halt. (s : UnitState) (o : OpenUnit) → IsBefore (S.holds (D.view disks.old) storage.old) (S.is_new (D.view disks.old) storage.old) books.now (commits_in s o) s → unit_named unit s.units ≡ Some o
+        → Undone (S.leaves (D.view disks.new) storage.new) (S.fills (D.view disks.new) storage.new) halt s (commits_in s o)) }
+    ensures asked { S.asked storage.new ≡ S.asked storage.old }
+    ensures shape { SameShape (D.view disks.old) (D.view disks.new) }
+    ensures cause { HasCause (D.view disks.old) (D.view disks.new) (disk_err result) }
+{
+    decided_ends_may_be_kept();
+    storage.stands(disks);
+    let made = books.move_of_commit(unit)?;
+    let changes = changes_of(alloc, books, unit)?;
+    let _number = storage.commit(disks, unit, &changes, &made)?;
+    Ok(made)
+}
+
+/// Decides the branch of a unit of a later part, which has failed by this cause. The move of its program.
+pub fn branch<S: Storage, D: Disks>(
+    alloc: Global,
+    storage: &mut S,
+    disks: &mut D,
+    books: &Books,
+    unit: Id,
+) -> Result<Move, Halt>
+    requires { (s : UnitState) × (base : Id) × (cause : Cause) × IsBefore (S.holds (D.view disks.old) storage.old) (S.is_new (D.view disks.old) storage.old) books.now (branches_in s unit cause) s × IsLaterUnit s unit base }
+    ensures branched { IfOk result (λ made. (s : UnitState) (base : Id) (cause : Cause) → IsBefore (S.holds (D.view disks.old) storage.old) (S.is_new (D.view disks.old) storage.old) books.now (branches_in s unit cause) s → (later : IsLaterUnit s unit base)
+        → IsBranched (S.holds (D.view disks.new) storage.new) (S.is_new (D.view disks.new) storage.new) made s later.unit cause) }
+    ensures undone { IfErr result (λ halt. (s : UnitState) (base : Id) (cause : Cause) → IsBefore (S.holds (D.view disks.old) storage.old) (S.is_new (D.view disks.old) storage.old) books.now (branches_in s unit cause) s → IsLaterUnit s unit base
+        → Undone (S.leaves (D.view disks.new) storage.new) (S.fills (D.view disks.new) storage.new) halt s (branches_in s unit cause)) }
+    ensures asked { S.asked storage.new ≡ S.asked storage.old }
+    ensures shape { SameShape (D.view disks.old) (D.view disks.new) }
+    ensures cause { HasCause (D.view disks.old) (D.view disks.new) (disk_err result) }
+{
+    decided_ends_may_be_kept();
+    storage.stands(disks);
+    let made = books.move_of_branch(unit)?;
+    let changes = Items::new(alloc);
+    let _number = storage.commit(disks, unit, &changes, &made)?;
+    Ok(made)
+}

@@ -1,0 +1,240 @@
+//! What is to come in a line is performed.
+
+ghost use Rattle.salt_books.specs.Coming.{event_meant};
+ghost use Rattle.salt_books.specs.declared.coming.Coming.TheVariants as coming;
+ghost use Rattle.salt_disk.specs.Disks.{HasCause, SameShape};
+ghost use Rattle.salt_engine.specs.Performing.{BreaksOff, GoesOnServing, IsToServe, Performs, Turns};
+ghost use Rattle.salt_engine.specs.declared.stage.Stage.TheVariants.{Lost};
+ghost use Rattle.salt_keeps.specs.Nexts.{turned_next};
+ghost use Rattle.salt_keeps.specs.Readings.{Reading};
+ghost use Rattle.salt_keeps.specs.States.{State, turned_to};
+ghost use Rattle.salt_scheduler.specs.Standing.{behind_in};
+ghost use Rattle.salt_steps.specs.Counting.{armed_at};
+ghost use Rattle.salt_storage.specs.Answers.{disk_err};
+ghost use Rattle.std.specs.Prelude.{IfErr, IfOk, None, Some, ◌≡◌};
+
+use crate::deciding::{branch, commit, load};
+use crate::engine::Engine;
+use crate::flights::InFlight;
+use crate::stage::Stage;
+use salt_ast::Line;
+use salt_books::{Asking, Coming};
+use salt_disk::Disks;
+use salt_model::{Cause, Event};
+use salt_scheduler::Scheduler;
+use salt_storage::{Halt, Storage};
+use salt_values::Id;
+
+impl<S: Storage> Engine<S> {
+    /// A unit does the statement that it asks for.
+    fn act<D: Disks>(
+        &mut self,
+        disks: &mut D,
+        scheduler: Scheduler,
+        asking: Asking,
+    ) -> Result<Event, Halt>
+        requires lost { self.old.stage ≡ Lost }
+        requires none { self.old.in_flight ≡ None }
+        requires ready { (s : State) × IsToServe (S.holds (D.view disks.old) self.old.storage) (S.is_new (D.view disks.old) self.old.storage) scheduler (coming.Act asking) s }
+        ensures performs { IfOk result (λ e. (s : State) → IsToServe (S.holds (D.view disks.old) self.old.storage) (S.is_new (D.view disks.old) self.old.storage) scheduler (coming.Act asking) s
+            → Performs (S.holds (D.view disks.new) self.new.storage) (S.is_new (D.view disks.new) self.new.storage) self.new.stage self.new.in_flight (event_meant s.units (coming.Act asking)) (Some e) s) }
+        ensures breaks { IfErr result (λ halt. (s : State) → IsToServe (S.holds (D.view disks.old) self.old.storage) (S.is_new (D.view disks.old) self.old.storage) scheduler (coming.Act asking) s
+            → BreaksOff (S.leaves (D.view disks.new) self.new.storage) (S.fills (D.view disks.new) self.new.storage) halt self.new.stage self.new.in_flight (event_meant s.units (coming.Act asking)) s.units) }
+        ensures single { self.new.single ≡ self.old.single }
+        ensures asked { S.asked self.new.storage ≡ S.asked self.old.storage }
+        ensures shape { SameShape (D.view disks.old) (D.view disks.new) }
+        ensures cause { HasCause (D.view disks.old) (D.view disks.new) (disk_err result) }
+    {
+        let mut scheduler = scheduler;
+        match load(
+            self.alloc,
+            &mut self.storage,
+            disks,
+            scheduler.books(),
+            &asking,
+        ) {
+            Ok(rows) => {
+                self.storage.stands(disks);
+                let event = scheduler.done(asking, &rows)?;
+                self.stage = Stage::Serving(scheduler);
+                Ok(event)
+            }
+            Err(halt) => Err(self.break_off(scheduler.into_books(), halt, None)),
+        }
+    }
+
+    /// A unit commits.
+    fn commit<D: Disks>(
+        &mut self,
+        disks: &mut D,
+        scheduler: Scheduler,
+        unit: Id,
+    ) -> Result<Event, Halt>
+        requires lost { self.old.stage ≡ Lost }
+        requires none { self.old.in_flight ≡ None }
+        requires ready { (s : State) × IsToServe (S.holds (D.view disks.old) self.old.storage) (S.is_new (D.view disks.old) self.old.storage) scheduler (coming.Commit unit) s }
+        ensures performs { IfOk result (λ e. (s : State) → IsToServe (S.holds (D.view disks.old) self.old.storage) (S.is_new (D.view disks.old) self.old.storage) scheduler (coming.Commit unit) s
+            → Performs (S.holds (D.view disks.new) self.new.storage) (S.is_new (D.view disks.new) self.new.storage) self.new.stage self.new.in_flight (event_meant s.units (coming.Commit unit)) (Some e) s) }
+        ensures breaks { IfErr result (λ halt. (s : State) → IsToServe (S.holds (D.view disks.old) self.old.storage) (S.is_new (D.view disks.old) self.old.storage) scheduler (coming.Commit unit) s
+            → BreaksOff (S.leaves (D.view disks.new) self.new.storage) (S.fills (D.view disks.new) self.new.storage) halt self.new.stage self.new.in_flight (event_meant s.units (coming.Commit unit)) s.units) }
+        ensures single { self.new.single ≡ self.old.single }
+        ensures asked { S.asked self.new.storage ≡ S.asked self.old.storage }
+        ensures shape { SameShape (D.view disks.old) (D.view disks.new) }
+        ensures cause { HasCause (D.view disks.old) (D.view disks.new) (disk_err result) }
+    {
+        let mut scheduler = scheduler;
+        match commit(
+            self.alloc,
+            &mut self.storage,
+            disks,
+            scheduler.books(),
+            unit,
+        ) {
+            Ok(made) => {
+                self.storage.stands(disks);
+                let event = scheduler.committed(unit, made)?;
+                self.stage = Stage::Serving(scheduler);
+                Ok(event)
+            }
+            Err(halt) => Err(self.break_off(
+                scheduler.into_books(),
+                halt,
+                Some(InFlight::Commit(unit)),
+            )),
+        }
+    }
+
+    /// A program goes on behind the failure of its part.
+    fn branch<D: Disks>(
+        &mut self,
+        disks: &mut D,
+        scheduler: Scheduler,
+        unit: Id,
+        base: Id,
+        cause: Cause,
+    ) -> Result<Event, Halt>
+        requires lost { self.old.stage ≡ Lost }
+        requires none { self.old.in_flight ≡ None }
+        requires ready { (s : State) × IsToServe (S.holds (D.view disks.old) self.old.storage) (S.is_new (D.view disks.old) self.old.storage) scheduler (coming.Branch unit base cause) s }
+        ensures performs { IfOk result (λ e. (s : State) → IsToServe (S.holds (D.view disks.old) self.old.storage) (S.is_new (D.view disks.old) self.old.storage) scheduler (coming.Branch unit base cause) s
+            → Performs (S.holds (D.view disks.new) self.new.storage) (S.is_new (D.view disks.new) self.new.storage) self.new.stage self.new.in_flight (event_meant s.units (coming.Branch unit base cause)) (Some e) s) }
+        ensures breaks { IfErr result (λ halt. (s : State) → IsToServe (S.holds (D.view disks.old) self.old.storage) (S.is_new (D.view disks.old) self.old.storage) scheduler (coming.Branch unit base cause) s
+            → BreaksOff (S.leaves (D.view disks.new) self.new.storage) (S.fills (D.view disks.new) self.new.storage) halt self.new.stage self.new.in_flight (event_meant s.units (coming.Branch unit base cause)) s.units) }
+        ensures single { self.new.single ≡ self.old.single }
+        ensures asked { S.asked self.new.storage ≡ S.asked self.old.storage }
+        ensures shape { SameShape (D.view disks.old) (D.view disks.new) }
+        ensures cause { HasCause (D.view disks.old) (D.view disks.new) (disk_err result) }
+    {
+        let mut scheduler = scheduler;
+        match branch(
+            self.alloc,
+            &mut self.storage,
+            disks,
+            scheduler.books(),
+            unit,
+        ) {
+            Ok(made) => {
+                self.storage.stands(disks);
+                let event = scheduler.branched(unit, base, cause, made)?;
+                self.stage = Stage::Serving(scheduler);
+                Ok(event)
+            }
+            Err(halt) => {
+                let asked = InFlight::Branch { unit, base, cause };
+                Err(self.break_off(scheduler.into_books(), halt, Some(asked)))
+            }
+        }
+    }
+
+    /// What is to come in a line, behind its preparations.
+    pub(crate) fn perform<D: Disks>(
+        &mut self,
+        disks: &mut D,
+        scheduler: Scheduler,
+        coming: Coming,
+    ) -> Result<Option<Event>, Halt>
+        requires lost { self.old.stage ≡ Lost }
+        requires none { self.old.in_flight ≡ None }
+        requires ready { (s : State) × IsToServe (S.holds (D.view disks.old) self.old.storage) (S.is_new (D.view disks.old) self.old.storage) scheduler coming s }
+        ensures performs { IfOk result (λ e. (s : State) → IsToServe (S.holds (D.view disks.old) self.old.storage) (S.is_new (D.view disks.old) self.old.storage) scheduler coming s
+            → Performs (S.holds (D.view disks.new) self.new.storage) (S.is_new (D.view disks.new) self.new.storage) self.new.stage self.new.in_flight (event_meant s.units coming) e s) }
+        ensures breaks { IfErr result (λ halt. (s : State) → IsToServe (S.holds (D.view disks.old) self.old.storage) (S.is_new (D.view disks.old) self.old.storage) scheduler coming s
+            → BreaksOff (S.leaves (D.view disks.new) self.new.storage) (S.fills (D.view disks.new) self.new.storage) halt self.new.stage self.new.in_flight (event_meant s.units coming) s.units) }
+        ensures single { self.new.single ≡ self.old.single }
+        ensures asked { S.asked self.new.storage ≡ S.asked self.old.storage }
+        ensures shape { SameShape (D.view disks.old) (D.view disks.new) }
+        ensures cause { HasCause (D.view disks.old) (D.view disks.new) (disk_err result) }
+    {
+        match coming {
+            Coming::Nothing => {
+                self.stage = Stage::Serving(scheduler);
+                Ok(None)
+            }
+            Coming::Told(event) => {
+                self.stage = Stage::Serving(scheduler);
+                Ok(Some(event))
+            }
+            Coming::Act(asking) => Ok(Some(self.act(disks, scheduler, asking)?)),
+            Coming::Commit(unit) => Ok(Some(self.commit(disks, scheduler, unit)?)),
+            Coming::Branch { unit, base, cause } => Ok(Some(self.branch(
+                disks, scheduler, unit, base, cause,
+            )?)),
+            Coming::Define(_text) => unreachable!(),
+            Coming::Arm(_pairs) => unreachable!(),
+        }
+    }
+
+    /// What comes behind the event at hand in a line.
+    pub(crate) fn go_on_in_line<D: Disks>(
+        &mut self,
+        disks: &mut D,
+        scheduler: Scheduler,
+        line: &Line,
+    ) -> Result<Option<Event>, Halt>
+        requires lost { self.old.stage ≡ Lost }
+        requires none { self.old.in_flight ≡ None }
+        requires ready { (s : State) × GoesOnServing (S.holds (D.view disks.old) self.old.storage) (S.is_new (D.view disks.old) self.old.storage) line.now scheduler s }
+        ensures performs { IfOk result (λ e. (s : State) (r : Reading s.watch) → GoesOnServing (S.holds (D.view disks.old) self.old.storage) (S.is_new (D.view disks.old) self.old.storage) line.now scheduler s
+            → Performs (S.holds (D.view disks.new) self.new.storage) (S.is_new (D.view disks.new) self.new.storage) self.new.stage self.new.in_flight (behind_in s r scheduler.follow) e s) }
+        ensures breaks { IfErr result (λ halt. (s : State) (r : Reading s.watch) → GoesOnServing (S.holds (D.view disks.old) self.old.storage) (S.is_new (D.view disks.old) self.old.storage) line.now scheduler s
+            → BreaksOff (S.leaves (D.view disks.new) self.new.storage) (S.fills (D.view disks.new) self.new.storage) halt self.new.stage self.new.in_flight (behind_in s r scheduler.follow) s.units) }
+        ensures single { self.new.single ≡ self.old.single }
+        ensures asked { S.asked self.new.storage ≡ S.asked self.old.storage }
+        ensures shape { SameShape (D.view disks.old) (D.view disks.new) }
+        ensures cause { HasCause (D.view disks.old) (D.view disks.new) (disk_err result) }
+        ensures unarmed { IfOk result (λ next. armed_at next ≡ 0) }
+    {
+        let mut scheduler = scheduler;
+        self.storage.stands(disks);
+        let coming = scheduler.go_on(line)?;
+        self.perform(disks, scheduler, coming)
+    }
+
+    /// `go all` turns to a program, and what that brings is performed.
+    pub(crate) fn turn_in_line<D: Disks>(
+        &mut self,
+        disks: &mut D,
+        scheduler: Scheduler,
+        line: &Line,
+        base: Id,
+    ) -> Result<Option<Event>, Halt>
+        requires lost { self.old.stage ≡ Lost }
+        requires none { self.old.in_flight ≡ None }
+        requires ready { (s : State) × Turns (S.holds (D.view disks.old) self.old.storage) (S.is_new (D.view disks.old) self.old.storage) line.now base scheduler s }
+        ensures performs { IfOk result (λ e. (s : State) (r : Reading s.watch) → Turns (S.holds (D.view disks.old) self.old.storage) (S.is_new (D.view disks.old) self.old.storage) line.now base scheduler s
+            → Performs (S.holds (D.view disks.new) self.new.storage) (S.is_new (D.view disks.new) self.new.storage) self.new.stage self.new.in_flight (turned_next s r base) e (turned_to base s)) }
+        ensures breaks { IfErr result (λ halt. (s : State) (r : Reading s.watch) → Turns (S.holds (D.view disks.old) self.old.storage) (S.is_new (D.view disks.old) self.old.storage) line.now base scheduler s
+            → BreaksOff (S.leaves (D.view disks.new) self.new.storage) (S.fills (D.view disks.new) self.new.storage) halt self.new.stage self.new.in_flight (turned_next s r base) (turned_to base s).units) }
+        ensures single { self.new.single ≡ self.old.single }
+        ensures asked { S.asked self.new.storage ≡ S.asked self.old.storage }
+        ensures shape { SameShape (D.view disks.old) (D.view disks.new) }
+        ensures cause { HasCause (D.view disks.old) (D.view disks.new) (disk_err result) }
+        ensures unarmed { IfOk result (λ next. armed_at next ≡ 0) }
+    {
+        let mut scheduler = scheduler;
+        self.storage.stands(disks);
+        scheduler.turn(base)?;
+        let coming = scheduler.go(line, base)?;
+        self.perform(disks, scheduler, coming)
+    }
+}
