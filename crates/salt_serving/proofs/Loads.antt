@@ -1,66 +1,84 @@
 -- The lines of a workload, one after another.
+use Rattle.salt_ast.specs.Sample.{transfer}
 use Rattle.salt_ast.specs.declared.lines.Line.{Line}
-use Rattle.salt_judge.specs.Refusals.{HasFewParts}
+use Rattle.salt_keeps.specs.Points.{Point}
 use Rattle.salt_keeps.specs.States.{State}
-use Rattle.salt_load.specs.Workload.{balance, behind, behind_eighth, behind_fiftieth, call_lines, calls, closing, deposit, load_lines, opening, transfer_program, turn}
-use Rattle.salt_model.specs.Played.{empty_start}
-use Rattle.salt_model.specs.Trace.{Trace, Tree, from, lines_of, ◌says◌}
+use Rattle.salt_load.specs.Workload.{account_def, balance, behind, behind_eighth, behind_fiftieth, call_lines, calls, closing, deposit, load_lines, opening, turn}
+use Rattle.salt_model.specs.Kept.{Kept}
+use Rattle.salt_model.specs.Printable.{IsSpelledProgram, IsSpelledTable}
+use Rattle.salt_model.specs.Trace.{Asked, Start, Trace, Tree, lines_of}
 use Rattle.salt_model.specs.Words.{Every}
-use Rattle.salt_model.specs.declared.events.Event.TheVariants.{Opened}
 use Rattle.salt_model.specs.declared.events.Event.{Event}
-use Rattle.salt_serving.specs.Loading.{IsLoading, IsPlayedLoad, asked_by_load}
-use Rattle.salt_serving.specs.declared.status.Status.TheVariants.{Done, Memory}
-use Rattle.salt_steps.specs.Opened as opened_words
-use Rattle.salt_steps.specs.Opened.{IsOpened}
-use Rattle.salt_steps.specs.Serving.{BreaksOff, GoesOn}
+use Rattle.salt_model.specs.declared.events.Flight.{Flight}
+use Rattle.salt_serving.proofs.Beginning.{broken-leaves, often-asked, often-tells, unfound-ended, unfound-flies, unfound-leaves}
+use Rattle.salt_serving.proofs.Leaving.{done-leaves, short-leaves}
+use Rattle.salt_serving.specs.Ending.{FailsToBegin, LeavesAt}
+use Rattle.salt_serving.specs.Loading.{AreLoadLines, EndsLoading, IsLoaded, IsLoading, IsLoadingOver, IsPlayedLoad, asked_by_load}
+use Rattle.salt_serving.specs.Run.{IsFrontOf}
+use Rattle.salt_serving.specs.Serving.{EndsBehind, IsAskable}
+use Rattle.salt_serving.specs.Stopping.{IsLaterStop, IsOfDevices, status_of}
+use Rattle.salt_serving.specs.declared.status.Status.TheVariants as status
+use Rattle.salt_serving.specs.declared.status.Status.{Status}
+use Rattle.salt_serving.specs.declared.stop.Stop.TheVariants as stop
+use Rattle.salt_serving.specs.declared.stop.Stop.{Stop}
+use Rattle.salt_steps.specs.Opening.{FailsToFind, fallen_often}
+use Rattle.salt_steps.specs.Reopening.{Begins, BreaksFirst, Reopens}
+use Rattle.salt_steps.specs.Serving.{Breaks, Goes}
+use Rattle.salt_steps.specs.Standing.{IsIdleAt, IsSoundPoint}
+use Rattle.salt_storage.specs.Writing.{Written}
+use Rattle.salt_storage.specs.declared.halt.Halt.TheVariants.{Memory}
+use Rattle.salt_storage.specs.declared.halt.Halt.{Halt}
+use Rattle.salt_storage.specs.declared.open.OpenErr.{OpenErr}
+use Rattle.salt_types.specs.Played.{HasKey}
 use Rattle.std.proofs.Common.{ap, arith, get_or, inl, inr, subst, suc, sym, take, zero, ◌∙◌}
 use Rattle.std.proofs.lemmas.List.{take_all, take_more}
 use Rattle.std.specs.List.{flat_map, range_with_len}
 use Rattle.std.specs.Prelude.{Bool, List, None, Option, Some, [], cond, drop, eqb, false, length, map, refl, slice_get, true, ℕ, ◌%◌, ◌+◌, ◌++◌, ◌<◌, ◌∷◌, ◌≡◌, ◌≤◌, ◌⊎◌}
 
--- each has few parts
+-- each may be asked, and has a key where it is a table
 
-each-both : (xs ys : List Line) → Every HasFewParts xs → Every HasFewParts ys → Every HasFewParts (xs ++ ys)
+abbrev MayBeAsked : Line → Type 0
+MayBeAsked line = IsAskable line × HasKey (Tree line)
+
+each-both : (xs ys : List Line) → Every MayBeAsked xs → Every MayBeAsked ys → Every MayBeAsked (xs ++ ys)
 each-both [] ys f g = g
 each-both (x ∷ xs) ys f g = (f.0, each-both xs ys f.1 g)
 
-each-deposit : (ks : List ℕ) → Every HasFewParts (map deposit ks)
+each-deposit : (ks : List ℕ) → Every MayBeAsked (map deposit ks)
 each-deposit [] = tt
-each-deposit (k ∷ ks) = (tt, each-deposit ks)
+each-deposit (k ∷ ks) = ((tt, tt), each-deposit ks)
 
-each-where : (t : Bool) (xs : List Line) → Every HasFewParts xs → Every HasFewParts (cond t xs [])
+each-where : (t : Bool) (xs : List Line) → Every MayBeAsked xs → Every MayBeAsked (cond t xs [])
 each-where true xs h = h
 each-where false xs h = tt
 
-each-behind : (i : ℕ) → Every HasFewParts (behind i)
+each-behind : (i : ℕ) → Every MayBeAsked (behind i)
 each-behind i =
-    each-both (behind_eighth i) (behind_fiftieth i) (each-where (eqb (i % 8) 0) (turn ∷ []) (tt, tt))
-    (each-where (eqb (i % 50) 0) (balance ∷ turn ∷ turn ∷ []) (tt, (tt, (tt, tt))))
+    each-both (behind_eighth i) (behind_fiftieth i) (each-where (eqb (i % 8) 0) (turn ∷ []) ((tt, tt), tt))
+    (each-where (eqb (i % 50) 0) (balance ∷ turn ∷ turn ∷ []) ((tt, tt), ((tt, tt), ((tt, tt), tt))))
 
-each-calls : (is : List ℕ) → Every HasFewParts (flat_map call_lines is)
+each-calls : (is : List ℕ) → Every MayBeAsked (flat_map call_lines is)
 each-calls [] = tt
-each-calls (i ∷ is) = each-both (call_lines i) (flat_map call_lines is) (tt, each-behind i) (each-calls is)
+each-calls (i ∷ is) = each-both (call_lines i) (flat_map call_lines is) ((tt, tt), each-behind i) (each-calls is)
 
-transfer-few : HasFewParts transfer_program
-transfer-few = omega arith
+module _ (table : IsSpelledTable account_def) (program : IsSpelledProgram transfer) where
+  each-opening : Every MayBeAsked opening
+  unfolding opening
+  each-opening = ((table, refl), ((program, tt), each-deposit (range_with_len 0 100)))
 
-each-opening : Every HasFewParts opening
-unfolding opening
-each-opening = (tt, (transfer-few, each-deposit (range_with_len 0 100)))
+  each-line : (n : ℕ) → Every MayBeAsked (load_lines n)
+  each-line n = each-both opening (calls n ++ closing) each-opening (each-both (calls n) closing (each-calls (range_with_len 1 n)) ((tt, tt), ((tt, tt), ((tt, tt), tt))))
 
-each-line : (n : ℕ) → Every HasFewParts (load_lines n)
-each-line n = each-both opening (calls n ++ closing) each-opening (each-both (calls n) closing (each-calls (range_with_len 1 n)) (tt, (tt, (tt, tt))))
+  of-each : (xs : List Line) (i : ℕ) (line : Line) → Every MayBeAsked xs → Some line ≡ slice_get xs i → MayBeAsked line
+  of-each [] i line h e = absurd cc
+  of-each (x ∷ xs) zero line h e = subst MayBeAsked (same x line e) h.0
+    where
+      same : (a b : Line) → Some b ≡ Some a → a ≡ b
+      same a b e = cc
+  of-each (x ∷ xs) (suc i) line h e = of-each xs i line h.1 e
 
-of-each : (xs : List Line) (i : ℕ) (line : Line) → Every HasFewParts xs → Some line ≡ slice_get xs i → HasFewParts line
-of-each [] i line h e = absurd cc
-of-each (x ∷ xs) zero line h e = subst HasFewParts (same x line e) h.0
-  where
-    same : (a b : Line) → Some b ≡ Some a → a ≡ b
-    same a b e = cc
-of-each (x ∷ xs) (suc i) line h e = of-each xs i line h.1 e
-
-pub few-loaded : (n i : ℕ) (line : Line) → Some line ≡ slice_get (load_lines n) i → HasFewParts line
-few-loaded n i line e = of-each (load_lines n) i line (each-line n) e
+  pub asked-by-load : (n i : ℕ) (line : Line) → Some line ≡ slice_get (load_lines n) i → IsAskable line × HasKey (Tree line)
+  asked-by-load n i line e = of-each (load_lines n) i line (each-line n) e
 
 -- one line more
 
@@ -94,71 +112,135 @@ take-drop (x ∷ xs) (suc i) = ap (λ l. x ∷ l) (take-drop xs i)
 front-of-load : (n i : ℕ) → asked_by_load n ≡ map Tree (take i (load_lines n)) ++ map Tree (drop i (load_lines n))
 front-of-load n i = ap (map Tree) (take-drop (load_lines n) i) ∙ map-append (take i (load_lines n)) (drop i (load_lines n))
 
-module _ {E : Type 0} (sees : E → Option Event → State → Type 0) (n i : ℕ) (old : E) (story : List Event) (loading : IsLoading sees n i old story) where
-  -- memory ran out between lines
-  pub left-loading : IsPlayedLoad Memory n story
-  left-loading = record {
-    trace = loading.trace;
-    tells = loading.serves.tells;
-    up = loading.serves.up;
-    lines = (map Tree (drop i (load_lines n)), front-of-load n i ∙ ap (λ ls. ls ++ map Tree (drop i (load_lines n))) (sym loading.lines));
-    leaves = tt;
-  }
+-- so many lines are the first ones
+pub front-lines : (n i : ℕ) (lines : List Asked) → lines ≡ map Tree (take i (load_lines n)) → IsFrontOf lines (asked_by_load n)
+front-lines n i lines is = (map Tree (drop i (load_lines n)), front-of-load n i ∙ ap (λ ls. ls ++ map Tree (drop i (load_lines n))) (sym is))
+
+-- so the lines of a run are that ends behind some of them
+lines-behind : (s : Stop) → IsLaterStop s → (n : ℕ) (lines : List Asked) → IsFrontOf lines (asked_by_load n) → AreLoadLines (status_of s) n lines
+lines-behind stop.Memory later n lines f = f
+lines-behind stop.DiskFault later n lines f = f
+lines-behind (stop.DeviceFull dev) later n lines f = f
+lines-behind (stop.NumbersSpent boot decisions) later n lines f = f
+lines-behind stop.ReadFault later n lines f = absurd later
+lines-behind stop.WriteFault later n lines f = absurd later
+lines-behind (stop.NotSalt dev) later n lines f = absurd later
+lines-behind (stop.OtherShape kept asked) later n lines f = absurd later
+lines-behind stop.ScriptTooLong later n lines f = absurd later
+
+none-asked : (n : ℕ) (lines : List Asked) → lines ≡ [] → IsFrontOf lines (asked_by_load n)
+none-asked n lines none = subst (λ ls. IsFrontOf ls (asked_by_load n)) (sym none) (asked_by_load n, refl)
+
+early-load-lines : (s : Stop) → IsOfDevices s → (n : ℕ) (lines : List Asked) → lines ≡ [] → AreLoadLines (status_of s) n lines
+early-load-lines stop.Memory of n lines none = none-asked n lines none
+early-load-lines stop.DiskFault of n lines none = none-asked n lines none
+early-load-lines (stop.DeviceFull dev) of n lines none = none-asked n lines none
+early-load-lines (stop.NumbersSpent boot decisions) of n lines none = none-asked n lines none
+early-load-lines (stop.NotSalt dev) of n lines none = none
+early-load-lines (stop.OtherShape kept asked) of n lines none = none
+early-load-lines stop.ReadFault of n lines none = absurd of
+early-load-lines stop.WriteFault of n lines none = absurd of
+early-load-lines stop.ScriptTooLong of n lines none = absurd of
+
+loads-at : (lies left : ℕ → Point → Type 0) (fills : Written → ℕ → Type 0) (flies : Option Flight) (ends : Status) (start : Start) (trace : Trace) (story : List Event) (n done : ℕ) →
+    LeavesAt lies left fills flies ends start trace story → AreLoadLines ends n (lines_of trace) → ((ends ≡ status.Memory → ⊥) → length (lines_of trace) ≡ done) →
+    EndsLoading lies left fills flies start ends n done story
+loads-at lies left fills flies ends start trace story n done x lines count =
+    (record { trace = trace; tells = x.tells; lines = lines; count = count; leaves = x.leaves; flies = x.flies }, x.ends)
+
+-- so many lines are as many
+
+length-asked : (xs : List Line) (i : ℕ) → i ≤ length xs → length (map Tree (take i xs)) ≡ i
+length-asked [] zero h = refl
+length-asked [] (suc i) h = absurd (omega (arith, h))
+length-asked (x ∷ xs) zero h = refl
+length-asked (x ∷ xs) (suc i) h = let e = length-asked xs i (omega (arith, h)) in omega arith
+
+module _ {E : Type 0} (old_sees : E → Option Event → State → Type 0) (start : Start) (n i : ℕ) (old : E) (story : List Event) (loading : IsLoading old_sees start n i old story) where
+  module _ (lies left : ℕ → Point → Type 0) (fills : Written → ℕ → Type 0) (flies : Option Flight) (idle : (p : Point) → IsSoundPoint p → IsIdleAt old_sees old p → lies 0 p)
+      (flown : (p : Point) → IsSoundPoint p → IsIdleAt old_sees old p → flies ≡ None) (leaves : (room : ℕ) (p : Point) → lies room p → left room p) where
+    -- memory ran out between lines
+    pub short-loading : (done : ℕ) → EndsLoading lies left fills flies start status.Memory n done story
+    short-loading done =
+        loads-at lies left fills flies status.Memory start loading.trace story n done (short-leaves old_sees lies left fills flies old idle flown leaves start loading.trace story loading.serves)
+        (front-lines n i (lines_of loading.trace) loading.lines) (λ some. absurd (some refl))
+
+    -- all lines are done
+    pub all-loaded : length (load_lines n) ≤ i → (done : ℕ) → done ≡ length (load_lines n) → EndsLoading lies left fills flies start status.Done n done story
+    all-loaded past done all =
+        let whole = take_all i (load_lines n) past in
+        let here : lines_of loading.trace ≡ map Tree (load_lines n) = loading.lines ∙ ap (map Tree) whole in
+        loads-at lies left fills flies status.Done start loading.trace story n done (done-leaves old_sees lies left fills flies old idle flown leaves start loading.trace story loading.serves)
+        here
+        (λ some. ap length (here ∙ sym (ap (map Tree) (take_all (length (load_lines n)) (load_lines n) (omega arith)))) ∙ length-asked (load_lines n) (length (load_lines n)) (omega arith) ∙ sym all)
 
   module _ (line : Line) (within : i < length (load_lines n)) (is : Some line ≡ slice_get (load_lines n) i) where
     asked-here : (after : Trace) → lines_of after ≡ lines_of loading.trace ++ Tree line ∷ [] → lines_of after ≡ map Tree (take (i + 1) (load_lines n))
     asked-here after lines = lines ∙ ap (λ ls. ls ++ Tree line ∷ []) loading.lines ∙ sym (asked-more n i line within is)
 
-    pub line-loaded : (new : E) (told : List Event) → GoesOn sees old story (Tree line) new told → IsLoading sees n (i + 1) new told
-    line-loaded new told goes =
-        let g = goes empty_start loading.trace loading.serves in
-        record { trace = g.after; serves = g.serves; lines = asked-here g.after g.asks }
+    pub line-loaded : {F : Type 0} (sees : F → Option Event → State → Type 0) (new : F) (told : List Event) → Goes sees start loading.trace (Tree line) story new told → IsLoading sees start n (i + 1) new told
+    line-loaded sees new told g = record { trace = g.after; serves = g.serves; lines = asked-here g.after g.asks }
 
-    -- or within one
-    pub left-in-line : (told : List Event) → BreaksOff sees old story (Tree line) told → IsPlayedLoad Memory n told
-    left-in-line told broken =
-        let b = broken empty_start loading.trace loading.serves in
-        record {
-          trace = b.after;
-          tells = b.tells;
-          up = b.up;
-          lines = (map Tree (drop (i + 1) (load_lines n)), front-of-load n (i + 1) ∙ ap (λ ls. ls ++ map Tree (drop (i + 1) (load_lines n))) (sym (asked-here b.after b.asks)));
-          leaves = tt;
-        }
+    module _ (old_lies old_left : Point → Type 0) (old_fills : Written → ℕ → Type 0) (old_flies : Option Flight) (halt : Halt) (mid told : List Event)
+        (b : Breaks old_lies old_left old_fills old_flies halt start loading.trace (Tree line) story mid) where
+      pub loaded-behind : {F : Type 0} (sees : F → Option Event → State → Type 0) (new : F) → (halt ≡ Memory → ⊥) → Reopens sees start b.after mid new told → IsLoading sees start n (i + 1) new told
+      loaded-behind sees new some r = record { trace = r.after; serves = r.serves; lines = r.lines ∙ by b.asks }
+        where
+          by : (lines_of b.after ≡ lines_of loading.trace ++ Tree line ∷ []) ⊎ ((halt ≡ Memory) × (b.after ≡ loading.trace)) → lines_of b.after ≡ map Tree (take (i + 1) (load_lines n))
+          by (inl more) = asked-here b.after more
+          by (inr m) = absurd (some m.0)
 
-  -- all lines are done
-  pub all-loaded : length (load_lines n) ≤ i → IsPlayedLoad Done n story
-  all-loaded past = record {
-    trace = loading.trace;
-    tells = loading.serves.tells;
-    up = loading.serves.up;
-    lines = loading.lines ∙ ap (map Tree) (take_all i (load_lines n) past);
-    leaves = loading.serves.complete;
-  }
+      pub ends-loading : (lies left : ℕ → Point → Type 0) (fills : Written → ℕ → Type 0) (flies : Option Flight) (s : Stop) → IsLaterStop s → EndsBehind lies left fills flies halt s start b.after mid told →
+          EndsLoading lies left fills flies start (status_of s) n (i + 1) told
+      ends-loading lies left fills flies s later x =
+          loads-at lies left fills flies (status_of s) start x.after told n (i + 1) x.ends (lines-behind s later n (lines_of x.after) (subst (λ ls. IsFrontOf ls (asked_by_load n)) (sym x.lines) (by b.asks)))
+          (λ some. ap length x.lines ∙ many some b.asks)
+        where
+          many : (status_of s ≡ status.Memory → ⊥) → (lines_of b.after ≡ lines_of loading.trace ++ Tree line ∷ []) ⊎ ((halt ≡ Memory) × (b.after ≡ loading.trace)) → length (lines_of b.after) ≡ i + 1
+          many some (inl more) = ap length (asked-here b.after more) ∙ length-asked (load_lines n) (i + 1) (omega (arith, within))
+          many some (inr m) = absurd (some (ap status_of (x.short m.0).0))
+
+          by : (lines_of b.after ≡ lines_of loading.trace ++ Tree line ∷ []) ⊎ ((halt ≡ Memory) × (b.after ≡ loading.trace)) → IsFrontOf (lines_of b.after) (asked_by_load n)
+          by (inl more) = front-lines n (i + 1) (lines_of b.after) (asked-here b.after more)
+          by (inr m) = front-lines n i (lines_of b.after) (ap lines_of m.1 ∙ loading.lines)
 
 -- the opening
 
-pub loading-opened : {E : Type 0} (sees : E → Option Event → State → Type 0) (n : ℕ) (e : E) (story : List Event) → IsOpened sees e → story ≡ opened_words.opening →
-    IsLoading sees n 0 e story
-loading-opened sees n e story serves told =
-    subst (IsLoading sees n 0 e) (sym told) (record { trace = opened_words.opened; serves = serves; lines = ap (map Tree) (sym (take-none (load_lines n))) })
-  where
-    take-none : (xs : List Line) → take 0 xs ≡ []
-    take-none [] = refl
-    take-none (x ∷ xs) = refl
+take-none : (xs : List Line) → take 0 xs ≡ []
+take-none [] = refl
+take-none (x ∷ xs) = refl
 
-pub left-opening : (n : ℕ) (story : List Event) → (story ≡ []) ⊎ (story ≡ Opened 1 0 ∷ []) → IsPlayedLoad Memory n story
-left-opening n story (inl is) = record {
-  trace = from empty_start;
-  tells = record { begins = refl; told = sym is; played = tt };
-  up = tt;
-  lines = (asked_by_load n, refl);
-  leaves = tt;
+pub loading-begun : {E : Type 0} (finds : Kept → Type 0) (can_stop : Bool) (sees : E → Option Event → State → Type 0) (n : ℕ) (e : E) (story : List Event) → Begins finds can_stop sees e story →
+    IsLoadingOver finds can_stop sees n 0 e story
+loading-begun finds can_stop sees n e story b = record {
+  start = b.start;
+  is = b.is;
+  loading = record { trace = b.reopens.after; serves = b.reopens.serves; lines = b.reopens.lines ∙ sym (ap (map Tree) (take-none (load_lines n))) };
 }
-left-opening n story (inr is) = record {
-  trace = from empty_start says Opened 1 0;
-  tells = record { begins = refl; told = sym is; played = (tt, (omega arith, omega arith, inl refl)) };
-  up = (tt, tt);
-  lines = (asked_by_load n, refl);
-  leaves = tt;
-}
+
+module _ (old_refuses : OpenErr → Type 0) (old_finds : Kept → Type 0) (can_stop : Bool) (refuses : OpenErr → Type 0) (finds : Kept → Type 0) (stays : Type 0) (lies left : ℕ → Point → Type 0)
+    (fills : Written → ℕ → Type 0) (flies : Option Flight) (n : ℕ) (story : List Event) where
+  pub not-begun : (e : Stop) → IsOfDevices e → FailsToBegin old_refuses old_finds can_stop refuses finds stays lies left fills flies story e →
+      IsLoaded old_refuses old_finds can_stop refuses finds stays lies left fills flies (status_of e) n 0 story
+  not-begun e of f = by f.fails
+    where
+      run : (u : FailsToFind old_refuses old_finds refuses finds fills flies stays f.reason story) (start : Start) → IsPlayedLoad start (status_of e) flies n 0 story
+      run u start = record {
+        trace = fallen_often start u.unfound.0;
+        tells = often-tells start story u.unfound;
+        lines = early-load-lines e of n (lines_of (fallen_often start u.unfound.0)) (often-asked start u.unfound.0);
+        count = λ some. ap length (often-asked start u.unfound.0);
+        leaves = unfound-leaves old_refuses old_finds can_stop refuses finds stays lies left fills flies story e e of (inl refl) f u start;
+        flies = unfound-flies old_refuses old_finds can_stop refuses finds stays lies left fills flies story e e of (inl refl) f u start;
+      }
+
+      by : FailsToFind old_refuses old_finds refuses finds fills flies stays f.reason story ⊎ BreaksFirst old_finds can_stop lies left fills flies f.reason story →
+          IsLoaded old_refuses old_finds can_stop refuses finds stays lies left fills flies (status_of e) n 0 story
+      by (inl u) = inl (unfound-ended old_refuses old_finds can_stop refuses finds stays lies left fills flies story e e of (inl refl) f u (λ start. IsPlayedLoad start (status_of e) flies n 0 story) (run u))
+      by (inr b) = inr (record {
+        start = b.start;
+        is = b.is;
+        ends = loads-at lies left fills flies (status_of e) b.start b.breaks.after story n 0
+            (broken-leaves old_refuses old_finds can_stop refuses finds stays lies left fills flies story e e of (inl refl) f b)
+            (early-load-lines e of n (lines_of b.breaks.after) b.breaks.lines) (λ some. ap length b.breaks.lines);
+      })

@@ -5,7 +5,10 @@ use Rattle.salt_io.specs.Lines.{IsCutOff, IsLineOf, IsReadingOf, Reading, TakesL
 use Rattle.salt_io.specs.Streams.{IsAtEnd, Takes, bytes_before}
 use Rattle.salt_serving.specs.Run.{AreFirstLines, AreLinesOf, IsFrontOf}
 use Rattle.salt_serving.specs.Serving.{IsAt, IsAtLine, rest_of}
-use Rattle.salt_serving.specs.declared.status.Status.TheVariants.{Done, Memory, ReadFault, ScriptTooLong, WriteFault}
+use Rattle.salt_serving.specs.Stopping.{IsOfLine, status_of}
+use Rattle.salt_serving.specs.declared.status.Status.TheVariants.{Done, ReadFault, ScriptTooLong}
+use Rattle.salt_serving.specs.declared.stop.Stop.TheVariants as stop
+use Rattle.salt_serving.specs.declared.stop.Stop.{Stop}
 use Rattle.std.proofs.Common.{ap, append-nil, append_assoc, arith, inl, inr, length-append, subst, sym, ◌∙◌}
 use Rattle.std.proofs.Math.Seq.{take-append-add}
 use Rattle.std.specs.Prelude.{Bool, List, None, Option, Some, [], false, length, refl, take, true, ℕ, ◌++◌, ◌+◌, ◌-◌, ◌<◌, ◌∷◌, ◌≡◌, ◌≢◌, ◌≤◌, ◌⊎◌}
@@ -164,12 +167,16 @@ first-lines script reading rest texts at over within = record {
         let empty : b.0 ≡ [] = subst IsAtEnd b.1 (over ended) in
         ([], ap lines_of (b.2 ∙ ap (λ l. at.given ++ l) empty ∙ append-nil at.given) ∙ sym at.lines ∙ sym (append-nil texts))
 
-pub memory-place : (script : Option (List ℕ)) (reading : Reading) (rest left : Option (List ℕ)) (texts : List (List ℕ)) → IsAt script reading rest texts
-    → (reading.ended ≡ true → IsAtEnd rest) → reading.taken ≤ SCRIPT_MOST → AreLinesOf Memory script left texts
-memory-place None reading rest left texts at over within = tt
-memory-place (Some script) reading rest left texts at over within = first-lines script reading rest texts at over within
-
-pub write-place : (script : Option (List ℕ)) (reading : Reading) (rest left : Option (List ℕ)) (texts : List (List ℕ)) → IsAt script reading rest texts
-    → (reading.ended ≡ true → IsAtEnd rest) → reading.taken ≤ SCRIPT_MOST → AreLinesOf WriteFault script left texts
-write-place None reading rest left texts at over within = tt
-write-place (Some script) reading rest left texts at over within = first-lines script reading rest texts at over within
+-- so where a run ends in a line
+pub first-place : (s : Stop) → IsOfLine s → (script : Option (List ℕ)) (reading : Reading) (rest left : Option (List ℕ)) (texts : List (List ℕ)) → IsAt script reading rest texts
+    → (reading.ended ≡ true → IsAtEnd rest) → reading.taken ≤ SCRIPT_MOST → AreLinesOf (status_of s) script left texts
+first-place s of None reading rest left texts at over within = tt
+first-place stop.Memory of (Some script) reading rest left texts at over within = first-lines script reading rest texts at over within
+first-place stop.WriteFault of (Some script) reading rest left texts at over within = first-lines script reading rest texts at over within
+first-place stop.DiskFault of (Some script) reading rest left texts at over within = first-lines script reading rest texts at over within
+first-place (stop.DeviceFull dev) of (Some script) reading rest left texts at over within = first-lines script reading rest texts at over within
+first-place (stop.NumbersSpent boot decisions) of (Some script) reading rest left texts at over within = first-lines script reading rest texts at over within
+first-place stop.ReadFault of (Some script) reading rest left texts at over within = absurd of
+first-place (stop.NotSalt dev) of (Some script) reading rest left texts at over within = absurd of
+first-place (stop.OtherShape kept asked) of (Some script) reading rest left texts at over within = absurd of
+first-place stop.ScriptTooLong of (Some script) reading rest left texts at over within = absurd of

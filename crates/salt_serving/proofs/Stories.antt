@@ -5,12 +5,11 @@ use Rattle.salt_model.specs.After.{kept}
 use Rattle.salt_model.specs.EventTexts.{event_text, story_text}
 use Rattle.salt_model.specs.Kept.{WellKept, schema_of}
 use Rattle.salt_model.specs.Played.{IsPlayed, Tells}
-use Rattle.salt_model.specs.Trace.{Asked, Start, Trace, from, lines_of, start_of, story_before, story_of, ◌asks◌, ◌says◌, ◌turns◌}
-use Rattle.salt_model.specs.declared.events.Event.TheVariants.{Opened}
+use Rattle.salt_model.specs.Trace.{Asked, Start, Trace, from, lines_of, start_of, story_of, ◌asks◌, ◌says◌, ◌turns◌}
 use Rattle.salt_model.specs.declared.events.Event.{Event}
 use Rattle.salt_serving.proofs.Extends.{extends}
-use Rattle.salt_serving.specs.Run.{IsFrontOf, text_under}
-use Rattle.salt_steps.specs.Serving.{Grows as HasGrown, NeverDown}
+use Rattle.salt_serving.specs.Run.{IsFrontOf, story_before_line, text_under}
+use Rattle.salt_steps.specs.Serving.{Grows as HasGrown}
 use Rattle.salt_told.proofs.ShownWithin.{shown-within}
 use Rattle.salt_told.proofs.Stays.{story-stays}
 use Rattle.salt_told.proofs.WithinSchema.{schema-grows}
@@ -50,12 +49,12 @@ stays-on ms trace p w =
 
 -- the text of a trace that has gone on by a line: that of the story before, as it was, and that of the events added
 pub grown-text : (start : Start) (trace after : Trace) (asked : Asked) (story told : List Event) → WellKept start.kept → Tells start trace story → Tells start after told →
-    NeverDown trace → NeverDown after → lines_of after ≡ lines_of trace ++ asked ∷ [] → HasGrown story told →
+    lines_of after ≡ lines_of trace ++ asked ∷ [] → HasGrown story told →
     (text_under after story ≡ text_under trace story) × (text_under after told ≡ text_under trace story ++ text_under after (drop (length story) told))
-grown-text start trace after asked story told well one other u v lines grows = (same, whole)
+grown-text start trace after asked story told well one other lines grows = (same, whole)
   where
     longer : (rest : List Move) × (after ≡ trace_on trace rest)
-    longer = extends trace after asked grows.0 (other.begins ∙ sym one.begins) one.played other.played u v lines (other.told ∙ grows.1 ∙ ap (λ es. es ++ grows.0) (sym one.told))
+    longer = extends trace after asked grows.0 (other.begins ∙ sym one.begins) one.played other.played lines (other.told ∙ grows.1 ∙ ap (λ es. es ++ grows.0) (sym one.told))
 
     same : text_under after story ≡ text_under trace story
     same = ap (λ t. text_under t story) longer.1
@@ -68,15 +67,14 @@ grown-text start trace after asked story told well one other u v lines grows = (
     whole = ap (text_under after) grows.1 ∙ text-append (schema_of (kept after)) story grows.0
         ∙ ap (λ t. t ++ text_under after grows.0) same ∙ ap (λ es. text_under trace story ++ text_under after es) added
 
--- a trace's story begins with that before its last segment
-pub story-begins : (trace : Trace) → IsFrontOf (story_before trace) (story_of trace)
+-- a trace's story begins with that before its last line
+pub story-begins : (trace : Trace) → IsFrontOf (story_before_line trace) (story_of trace)
 story-begins (from k) = ([], refl)
 story-begins (trace asks asked) = ([], sym (append-nil (story_of trace)))
 story-begins (trace turns b) = story-begins trace
-story-begins (trace says Opened boot n) = (Opened boot n ∷ [], refl)
-story-begins (trace says e) = let h = story-begins trace in (h.0 ++ e ∷ [], ap (λ s. s ++ e ∷ []) h.1 ∙ append_assoc (story_before trace) h.0 (e ∷ []))
+story-begins (trace says e) = let h = story-begins trace in (h.0 ++ e ∷ [], ap (λ s. s ++ e ∷ []) h.1 ∙ append_assoc (story_before_line trace) h.0 (e ∷ []))
 
-pub text-begins : (trace : Trace) (story : List Event) → story_of trace ≡ story → IsFrontOf (text_under trace (story_before trace)) (text_under trace story)
+pub text-begins : (trace : Trace) (story : List Event) → story_of trace ≡ story → IsFrontOf (text_under trace (story_before_line trace)) (text_under trace story)
 text-begins trace story is =
     let h = story-begins trace in
-    (text_under trace h.0, ap (text_under trace) (sym is ∙ h.1) ∙ text-append (schema_of (kept trace)) (story_before trace) h.0)
+    (text_under trace h.0, ap (text_under trace) (sym is ∙ h.1) ∙ text-append (schema_of (kept trace)) (story_before_line trace) h.0)

@@ -1,5 +1,8 @@
 pub mod Status
-pub mod Telling
+pub mod Stopping
 pub mod Run
+pub mod Counted
+pub mod Ending
+pub mod Telling
 pub mod Serving
 pub mod Loading

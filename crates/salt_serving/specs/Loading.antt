@@ -1,39 +1,72 @@
 -- What the run of a workload has to be: its story, and how far it came.
+use Rattle.salt_keeps.specs.Points.{Point}
 use Rattle.salt_keeps.specs.States.{State}
 use Rattle.salt_load.specs.Workload.{load_lines}
 use Rattle.salt_model.specs.Ends.{MayLeave}
-use Rattle.salt_model.specs.Played.{Tells, empty_start}
-use Rattle.salt_model.specs.Trace.{Asked, Trace, Tree, lines_of}
+use Rattle.salt_model.specs.Kept.{Kept}
+use Rattle.salt_model.specs.Played.{Tells}
+use Rattle.salt_model.specs.Trace.{Asked, Start, Trace, Tree, lines_of}
 use Rattle.salt_model.specs.declared.events.Event.{Event}
-use Rattle.salt_serving.specs.Run.{IsFrontOf, leave_of}
+use Rattle.salt_model.specs.declared.events.Flight.{Flight}
+use Rattle.salt_serving.specs.Ending.{EndsFound, EndsOver, EndsUnfound}
+use Rattle.salt_serving.specs.Run.{IsFlightAt, IsFrontOf, leave_of}
 use Rattle.salt_serving.specs.declared.status.Status.{Status}
-use Rattle.salt_serving.specs.declared.status.Status.TheVariants.{Done, Memory, ReadFault, ScriptTooLong, Usage, WriteFault}
-use Rattle.salt_steps.specs.Serving.{NeverDown, Serves}
-use Rattle.std.specs.Prelude.{List, Option, map, take, ℕ, ◌≡◌}
+use Rattle.salt_serving.specs.declared.status.Status.TheVariants.{DeviceFull, DiskFault, Done, Memory, NotSalt, NumbersSpent, OtherShape, ReadFault, ScriptTooLong, Usage, WriteFault}
+use Rattle.salt_steps.specs.Opening.{IsStartOf}
+use Rattle.salt_steps.specs.Serving.{Serves}
+use Rattle.salt_storage.specs.Writing.{Written}
+use Rattle.salt_storage.specs.declared.open.OpenErr.{OpenErr}
+use Rattle.std.specs.Prelude.{Bool, List, Option, length, map, take, ℕ, [], ◌≡◌, ◌⊎◌}
 
 -- what the lines of the workload with so many calls ask
 abbrev pub asked_by_load : ℕ → List Asked
 asked_by_load calls = map Tree (load_lines calls)
 
--- what is asked in a run of the workload that ends so: all of its lines, or the first of them where memory ran out; it reads no script
+-- what is asked in a run of the workload that ends so: all of its lines; the first of them where memory ran out, the devices end the run,
+-- or what was done could not be written; or none, where it was not begun. It reads no script.
 abbrev pub AreLoadLines : Status → ℕ → List Asked → Type 0
 AreLoadLines Done calls lines = lines ≡ asked_by_load calls
-AreLoadLines WriteFault calls lines = lines ≡ asked_by_load calls
+AreLoadLines WriteFault calls lines = IsFrontOf lines (asked_by_load calls)
 AreLoadLines Memory calls lines = IsFrontOf lines (asked_by_load calls)
+AreLoadLines DiskFault calls lines = IsFrontOf lines (asked_by_load calls)
+AreLoadLines (DeviceFull dev) calls lines = IsFrontOf lines (asked_by_load calls)
+AreLoadLines (NumbersSpent boot decisions) calls lines = IsFrontOf lines (asked_by_load calls)
+AreLoadLines (NotSalt dev) calls lines = lines ≡ []
+AreLoadLines (OtherShape kept asked) calls lines = lines ≡ []
 AreLoadLines Usage calls lines = ⊥
 AreLoadLines ReadFault calls lines = ⊥
 AreLoadLines ScriptTooLong calls lines = ⊥
 
--- the story is that of a trace which is played, and whose lines are the workload's
-pub record IsPlayedLoad (status : Status) (calls : ℕ) (story : List Event) : Type 0 where
+-- The story is that of a trace which is played from this start, and whose lines are the workload's. Unless memory ran out, there are so
+-- many of them.
+pub record IsPlayedLoad (start : Start) (status : Status) (told : Option Flight) (calls done : ℕ) (story : List Event) : Type 0 where
   pub trace : Trace
-  pub tells : Tells empty_start trace story
-  pub up : NeverDown trace
+  pub tells : Tells start trace story
   pub lines : AreLoadLines status calls (lines_of trace)
+  pub count : (status ≡ Memory → ⊥) → length (lines_of trace) ≡ done
   pub leaves : MayLeave (leave_of status) trace
+  pub flies : IsFlightAt status trace told
+
+-- so ends the run of a workload from this start
+abbrev pub EndsLoading : (lies left : ℕ → Point → Type 0) → (Written → ℕ → Type 0) → Option Flight → Start → Status → (calls done : ℕ) → List Event → Type 0
+EndsLoading lies left fills flight start status calls done story =
+    (run : IsPlayedLoad start status flight calls done story) × EndsFound lies left fills status run.trace
 
 -- a run of the workload of which so many lines are done
-pub record IsLoading {E : Type 0} (sees : E → Option Event → State → Type 0) (calls done : ℕ) (e : E) (story : List Event) : Type 0 where
+pub record IsLoading {E : Type 0} (sees : E → Option Event → State → Type 0) (start : Start) (calls done : ℕ) (e : E) (story : List Event) : Type 0 where
   pub trace : Trace
-  pub serves : Serves sees empty_start e story trace
+  pub serves : Serves sees start e story trace
   pub lines : lines_of trace ≡ map Tree (take done (load_lines calls))
+
+-- it has begun over what was found
+pub record IsLoadingOver {E : Type 0} (finds : Kept → Type 0) (can_stop : Bool) (sees : E → Option Event → State → Type 0) (calls done : ℕ) (e : E) (story : List Event) : Type 0 where
+  pub start : Start
+  pub is : IsStartOf finds can_stop start
+  pub loading : IsLoading sees start calls done e story
+
+-- the run of a workload has ended: over devices that refused and found this, and now refuse and find that
+abbrev pub IsLoaded : (old_refuses : OpenErr → Type 0) → (old_finds : Kept → Type 0) → (can_stop : Bool) → (refuses : OpenErr → Type 0) → (finds : Kept → Type 0) →
+    (new : Type 0) → (lies left : ℕ → Point → Type 0) → (Written → ℕ → Type 0) → Option Flight → Status → (calls done : ℕ) → List Event → Type 0
+IsLoaded old_refuses old_finds can_stop refuses finds new lies left fills flight status calls done story =
+    EndsUnfound old_refuses old_finds refuses finds new fills status story (λ start. IsPlayedLoad start status flight calls done story) ⊎
+    EndsOver old_finds can_stop (λ start. EndsLoading lies left fills flight start status calls done story)

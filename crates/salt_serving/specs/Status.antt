@@ -1,6 +1,6 @@
 -- The exit status of each way in which a run ends.
 use Rattle.salt_serving.specs.declared.status.Status.{Status}
-use Rattle.salt_serving.specs.declared.status.Status.TheVariants.{Done, Memory, ReadFault, ScriptTooLong, Usage, WriteFault}
+use Rattle.salt_serving.specs.declared.status.Status.TheVariants.{DeviceFull, DiskFault, Done, Memory, NotSalt, NumbersSpent, OtherShape, ReadFault, ScriptTooLong, Usage, WriteFault}
 use Rattle.std.specs.Prelude.{ℕ}
 
 abbrev pub number_of : Status → ℕ
@@ -9,4 +9,9 @@ number_of Memory = 1
 number_of Usage = 2
 number_of ReadFault = 3
 number_of WriteFault = 4
+number_of DiskFault = 5
+number_of (NotSalt dev) = 6
+number_of (DeviceFull dev) = 7
+number_of (OtherShape kept asked) = 8
 number_of ScriptTooLong = 9
+number_of (NumbersSpent boot decisions) = 10

@@ -1,12 +1,10 @@
 -- How the texts of events are written under a schema.
 use Rattle.salt_io.specs.Streams.{GainsShort}
 use Rattle.salt_serving.specs.declared.stop.Stop.{Stop}
-use Rattle.salt_serving.specs.declared.stop.Stop.TheVariants.{Memory, ReadFault, ScriptTooLong, WriteFault}
+use Rattle.salt_serving.specs.declared.stop.Stop.TheVariants.{WriteFault}
 use Rattle.std.specs.Prelude.{List, Option, ℕ}
 
 -- how the writing of a text stops: with a part of it written
 abbrev pub StopsWriting : List ℕ → Option (List ℕ) → Option (List ℕ) → Stop → Type 0
-StopsWriting text before held Memory = ⊥
 StopsWriting text before held WriteFault = GainsShort before text held
-StopsWriting text before held ReadFault = ⊥
-StopsWriting text before held ScriptTooLong = ⊥
+StopsWriting text before held stop = ⊥

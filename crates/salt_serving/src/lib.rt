@@ -1,13 +1,15 @@
 //! A run: its opening, and its lines, done by an engine and told to a sink.
 #![tactic(auto)]
 
+mod lines;
 mod loading;
 mod serving;
+mod starting;
 mod status;
 mod stop;
 mod telling;
 
-pub use loading::load;
+pub use loading::{Loaded, load};
 pub use serving::serve;
 pub use status::Status;
 pub use stop::{Stop, status_of};

@@ -1,61 +1,138 @@
 //! The run of a workload: its opening, and its lines.
 
-ghost use Rattle.std.specs.Prelude.{◌≡◌, ◌+◌, ◌<◌, ◌≤◌, [], OnErr, OnOk, length};
 ghost use Rattle.salt_ast.specs.declared.lines.Line.{Line};
-ghost use Rattle.salt_judge.specs.Refusals.{HasFewParts};
+ghost use Rattle.salt_disk.specs.Disks.{AreUnchanged, SameShape};
 ghost use Rattle.salt_load.specs.Workload.{load_lines};
 ghost use Rattle.salt_load.specs.declared.limits.TheConstants.{CALLS_MOST};
-ghost use Rattle.salt_serving.specs.Loading.{IsLoading, IsPlayedLoad};
-ghost use Rattle.salt_steps.specs.Opened.{IsOpened};
+ghost use Rattle.salt_model.specs.Trace.{Start};
+ghost use Rattle.salt_serving.specs.Counted.{CountsAdded, CountsRun};
+ghost use Rattle.salt_serving.specs.Loading.{EndsLoading, IsLoaded, IsLoading};
+ghost use Rattle.salt_serving.specs.Serving.{IsAskable};
+ghost use Rattle.salt_serving.specs.Stopping.{IfNotBegun, IsLaterStop, IsOfDevices, outcome, status_of};
+ghost use Rattle.std.specs.Prelude.{IfErr, IsTrue, None, OnOk, Some, length, slice_get, [], ◌+◌, ◌<◌, ◌≡◌, ◌≤◌};
 
-use crate::serving::open;
-use crate::status::Status;
+use crate::lines::resume;
+use crate::starting::start;
+use crate::stop::Stop;
+use salt_ast::Line;
+use salt_canonical::definitions_are_read;
+use salt_disk::Disks;
 use salt_load::{line_count, load_line};
 use salt_model::Story;
 use salt_steps::Steps;
-use std::alloc::{AllocError, Global};
+use std::alloc::Global;
+
+/// How the run of a workload has ended, and how many of its lines were done, the one in which it ended among them.
+#[derive(Drop)]
+pub struct Loaded {
+    pub lines: u64,
+    pub done: Result<(), Stop>,
+}
+
+/// Does a line of the workload, and opens the run anew where it is broken off by a stop or a fault.
+fn load_one<E: Steps, D: Disks>(
+    engine: &mut E,
+    disks: &mut D,
+    calls: u64,
+    i: u64,
+    line: &Line,
+    story: &mut Story,
+) -> Result<(), Stop>
+    requires within { i < length (load_lines calls) }
+    requires is { Some line.now ≡ slice_get (load_lines calls) i }
+    requires serves { (line : Line) → IsAskable line → E.serves line }
+    requires stands { (start : Start) × IsLoading (E.sees (D.view disks.old)) start calls i engine.old story.old }
+    ensures ok { OnOk result ((start : Start) → IsLoading (E.sees (D.view disks.old)) start calls i engine.old story.old →
+        IsLoading (E.sees (D.view disks.new)) start calls (i + 1) engine.new story.new) }
+    ensures err { IfErr result (λ stop. (start : Start) → IsLoading (E.sees (D.view disks.old)) start calls i engine.old story.old →
+        EndsLoading (E.lies (D.view disks.new) engine.new) (E.left (D.view disks.new) engine.new) (E.fills (D.view disks.new) engine.new) (E.flight engine.new) start
+        (status_of stop) calls (i + 1) story.new) }
+    ensures later { IfErr result IsLaterStop }
+    ensures asked { E.asked engine.new ≡ E.asked engine.old }
+    ensures shape { SameShape (D.view disks.old) (D.view disks.new) }
+    ensures counts { CountsAdded (D.view disks.old) (D.view disks.new) (outcome result) story.old story.new }
+{
+    // For the proof alone: texts spell what the workload defines.
+    definitions_are_read();
+    match salt_steps::serve(engine, disks, story, line) {
+        Ok(()) => Ok(()),
+        Err(halt) => resume(engine, disks, halt, story),
+    }
+}
 
 /// Does line i, from 0, of the workload with so many calls.
-fn serve_load_line<E: Steps>(
+fn serve_load_line<E: Steps, D: Disks>(
     alloc: Global,
     engine: &mut E,
+    disks: &mut D,
     calls: u64,
     i: u64,
     story: &mut Story,
-) -> Result<(), AllocError>
+) -> Result<(), Stop>
     requires least { 1 ≤ calls }
     requires most { calls ≤ CALLS_MOST }
     requires within { i < length (load_lines calls) }
-    requires serves { (line : Line) → HasFewParts line → E.serves line }
-    requires stands { IsLoading E.sees calls i engine.old story.old }
-    ensures ok { OnOk result (IsLoading E.sees calls (i + 1) engine.new story.new) }
-    ensures err { OnErr result (IsPlayedLoad Status.Memory calls story.new) }
+    requires serves { (line : Line) → IsAskable line → E.serves line }
+    requires stands { (start : Start) × IsLoading (E.sees (D.view disks.old)) start calls i engine.old story.old }
+    ensures ok { OnOk result ((start : Start) → IsLoading (E.sees (D.view disks.old)) start calls i engine.old story.old →
+        IsLoading (E.sees (D.view disks.new)) start calls (i + 1) engine.new story.new) }
+    ensures err { IfErr result (λ stop. (start : Start) → IsLoading (E.sees (D.view disks.old)) start calls i engine.old story.old →
+        EndsLoading (E.lies (D.view disks.new) engine.new) (E.left (D.view disks.new) engine.new) (E.fills (D.view disks.new) engine.new) (E.flight engine.new) start
+        (status_of stop) calls (i + 1) story.new) }
+    ensures later { IfErr result IsLaterStop }
+    ensures asked { E.asked engine.new ≡ E.asked engine.old }
+    ensures shape { SameShape (D.view disks.old) (D.view disks.new) }
+    ensures counts { CountsAdded (D.view disks.old) (D.view disks.new) (outcome result) story.old story.new }
 {
+    engine.stands(disks);
     match load_line(alloc, calls, i)? {
-        Some(line) => salt_steps::serve(engine, story, &line),
+        Some(line) => load_one(engine, disks, calls, i, &line, story),
         None => Ok(()),
     }
 }
 
-/// Opens, and does the lines of the workload with so many calls, by an engine that has just been opened over nothing.
-/// Where memory runs out the story ends within a line.
-pub fn load<E: Steps + Drop>(
+/// Begins a run over what the devices stand for, and does the lines of the workload with so many calls.
+pub fn load<E: Steps, D: Disks>(
     alloc: Global,
-    mut engine: E,
+    engine: &mut E,
+    disks: &mut D,
     calls: u64,
     story: &mut Story,
-) -> Result<(), AllocError>
+) -> Loaded
     requires least { 1 ≤ calls }
     requires most { calls ≤ CALLS_MOST }
-    requires serves { (line : Line) → HasFewParts line → E.serves line }
-    requires opened { IsOpened E.sees engine }
+    requires serves { (line : Line) → IsAskable line → E.serves line }
+    requires new { E.is_new (D.view disks.old) engine.old }
+    requires settled { E.settled (D.view disks.old) engine.old }
+    requires flies { E.flight engine.old ≡ None }
     requires untold { story.old ≡ [] }
-    ensures ok { OnOk result (IsPlayedLoad Status.Done calls story.new) }
-    ensures err { OnErr result (IsPlayedLoad Status.Memory calls story.new) }
+    ensures ended { IsLoaded (E.refuses (D.view disks.old) engine.old) (E.finds (D.view disks.old) engine.old) (D.view disks.old).can_stop
+        (E.refuses (D.view disks.new) engine.new) (E.finds (D.view disks.new) engine.new)
+        (E.is_new (D.view disks.new) engine.new) (E.lies (D.view disks.new) engine.new) (E.left (D.view disks.new) engine.new)
+        (E.fills (D.view disks.new) engine.new) (E.flight engine.new) (outcome result.done) calls result.lines story.new }
+    ensures of_devices { IfErr result.done IsOfDevices }
+    ensures unchanged { IfNotBegun (outcome result.done) (IsTrue (D.view disks.old).told → AreUnchanged (D.view disks.old) (D.view disks.new)) }
+    ensures asked { E.asked engine.new ≡ E.asked engine.old }
+    ensures shape { SameShape (D.view disks.old) (D.view disks.new) }
+    ensures counts { CountsRun (D.view disks.old) (D.view disks.new) (outcome result.done) story.new }
 {
-    open(story)?;
-    for i in 0..line_count(calls) {
-        serve_load_line(alloc, &mut engine, calls, i, story)?;
+    if let Err(stop) = start(engine, disks, story) {
+        return Loaded {
+            lines: 0,
+            done: Err(stop),
+        };
     }
-    Ok(())
+    for i in 0..line_count(calls) {
+        if let Err(stop) = serve_load_line(alloc, engine, disks, calls, i, story) {
+            return Loaded {
+                lines: i + 1,
+                done: Err(stop),
+            };
+        }
+    }
+    engine.stands(disks);
+    Loaded {
+        lines: line_count(calls),
+        done: Ok(()),
+    }
 }

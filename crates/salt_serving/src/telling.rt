@@ -3,9 +3,11 @@
 ghost use Rattle.std.specs.Prelude.{◌≡◌, ◌≢◌, ◌≤◌, Err, IfErr, OnOk, drop};
 ghost use Rattle.salt_io.specs.Streams.{Gains, Rose};
 ghost use Rattle.salt_model.specs.EventTexts.{story_text};
+ghost use Rattle.salt_serving.specs.Serving.{EndsWriting};
+ghost use Rattle.salt_serving.specs.Stopping.{IsOfDevices};
 ghost use Rattle.salt_serving.specs.Telling.{StopsWriting};
 
-use crate::stop::Stop;
+use crate::stop::{Stop, ran_short};
 use salt_io::Sink;
 use salt_model::{Event, Story};
 use salt_print::print_story;
@@ -29,4 +31,24 @@ pub fn write_events<K: Sink>(sink: &mut K, events: &[Event], schema: &Schema) ->
 {
     print_story(sink, events, schema)?;
     Ok(())
+}
+
+/// Writes the events that are told of what was done, unless memory ran out there. Answers what was done, or that the sink failed.
+pub fn write_done<K: Sink>(
+    sink: &mut K,
+    events: &[Event],
+    schema: &Schema,
+    done: Result<(), Stop>,
+) -> Result<(), Stop>
+    requires { IfErr done IsOfDevices }
+    ensures written { EndsWriting done (story_text schema.now events.now) (K.held sink.old) (K.held sink.new) result }
+    ensures fault { result ≡ Err Stop.WriteFault → Rose (K.faults sink.old) (K.faults sink.new) }
+    ensures no_fault { result ≢ Err Stop.WriteFault → K.faults sink.new ≡ K.faults sink.old }
+    ensures later { K.faults sink.old ≤ K.faults sink.new }
+{
+    if ran_short(&done) {
+        return done;
+    }
+    write_events(sink, events, schema)?;
+    done
 }

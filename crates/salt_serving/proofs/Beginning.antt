@@ -1,0 +1,382 @@
+-- A run that ends before its first line.
+use Rattle.salt_io.proofs.Taking.{gains-none}
+use Rattle.salt_io.specs.Lines.{Reading, lines_of}
+use Rattle.salt_io.specs.Streams.{Gains, GainsShort, bytes_before}
+use Rattle.salt_ast.specs.declared.trees.TableDef.{TableDef}
+use Rattle.salt_keeps.specs.Points.{Point}
+use Rattle.salt_keeps.specs.States.{State}
+use Rattle.salt_model.specs.After.{kept}
+use Rattle.salt_model.specs.Ends.{MayLeave, flight_told, is_serving}
+use Rattle.salt_model.specs.EventTexts.{story_text}
+use Rattle.salt_model.specs.Kept.{Kept, schema_of}
+use Rattle.salt_model.specs.Lines.{AskInOrder}
+use Rattle.salt_model.specs.Next.{flight}
+use Rattle.salt_model.specs.Phases.{Fallen, phase}
+use Rattle.salt_model.specs.Phases as phases
+use Rattle.salt_model.specs.Played.{IsPlayed, Tells}
+use Rattle.salt_model.specs.Stops.{MayFall}
+use Rattle.salt_model.specs.Trace as trace_words
+use Rattle.salt_model.specs.Trace.{Asked, Start, Trace, from, start_of, story_of, ◌asks◌, ◌says◌, ◌turns◌}
+use Rattle.salt_model.specs.declared.events.Event.TheVariants.{Down}
+use Rattle.salt_model.specs.declared.events.Event.{Event}
+use Rattle.salt_model.specs.declared.events.Flight.{Flight}
+use Rattle.salt_model.specs.declared.events.Why.TheVariants.{Stopped}
+use Rattle.salt_serving.proofs.Leaving.{at-devices, full-reason, leaves-later, leaves-opening, leaves-unwritten, later-stop, unwritten-leaves}
+use Rattle.salt_serving.proofs.Stories.{text-append}
+use Rattle.salt_serving.proofs.Texts.{gains-under, memory-status, tables-lying, tables-serving}
+use Rattle.salt_serving.specs.Ending.{EndsFound, EndsServing, EndsUnfound, FailsToBegin, IsEnded, IsStatusOf, LeavesAt}
+use Rattle.salt_serving.specs.Run.{AreFirstLines, AreLinesOf, GainsFrom, IsFlightAt, IsRun, IsWritten, leave_of, story_before_line, text_under}
+use Rattle.salt_serving.specs.Serving.{EndsWriting, GainsAtEnd, IsAt, IsBegun, IsServing}
+use Rattle.salt_serving.specs.Stopping.{IsLaterStop, IsOfDevices, status_of, status_opening, stop_opening}
+use Rattle.salt_serving.specs.declared.status.Status.TheVariants.{DeviceFull, Memory, WriteFault}
+use Rattle.salt_serving.specs.declared.status.Status.{Status}
+use Rattle.salt_serving.specs.declared.stop.Stop.TheVariants as stop
+use Rattle.salt_serving.specs.declared.stop.Stop.{Stop}
+use Rattle.salt_steps.specs.Opening.{FailsToFind, IsUnfound, fallen_often}
+use Rattle.salt_steps.specs.Reopening.{Begins, BreaksFirst}
+use Rattle.salt_steps.specs.Standing.{IsIdleAt, IsSoundPoint}
+use Rattle.salt_storage.specs.Answers.{IsLater}
+use Rattle.salt_storage.specs.Writing.{OfOpening, Written}
+use Rattle.salt_storage.specs.declared.halt.Halt.TheVariants as halt
+use Rattle.salt_storage.specs.declared.open.OpenErr.TheVariants.{Halted, NotSalt, NumbersSpent, OtherShape}
+use Rattle.salt_storage.specs.declared.open.OpenErr.{OpenErr}
+use Rattle.std.proofs.Common.{ap, arith, inl, inr, subst, suc, sym, zero, ◌∙◌}
+use Rattle.std.specs.Prelude.{Bool, Err, List, None, Ok, Option, Result, Some, [], false, refl, true, ℕ, ◌++◌, ◌∷◌, ◌≡◌, ◌⊎◌}
+use Rattle.std.specs.Result.{IfErr, OnOk}
+
+-- A RUN THAT HAS ONLY FALLEN
+
+pub often-begins : (start : Start) (times : ℕ) → start_of (fallen_often start times) ≡ start
+often-begins start zero = refl
+often-begins start (suc times) = often-begins start times
+
+often-down : (start : Start) (times : ℕ) → phase (fallen_often start times) ≡ Fallen
+often-down start zero = refl
+often-down start (suc times) = refl
+
+pub often-asked : (start : Start) (times : ℕ) → trace_words.lines_of (fallen_often start times) ≡ []
+often-asked start zero = refl
+often-asked start (suc times) = often-asked start times
+
+often-unflown : (start : Start) (times : ℕ) → flight (fallen_often start times) ≡ None
+often-unflown start zero = refl
+often-unflown start (suc times) = often-unflown start times
+
+may-fall : (p : phases.Phase) (trace : Trace) → p ≡ Fallen → MayFall p trace Stopped
+may-fall Fallen trace e = refl
+may-fall p trace e = absurd cc
+
+often-played : (start : Start) (times : ℕ) → IsPlayed (fallen_often start times)
+often-played start zero = tt
+often-played start (suc times) = (often-played start times, may-fall (phase (fallen_often start times)) (fallen_often start times) (often-down start times))
+
+pub often-tells : (start : Start) (story : List Event) → (u : IsUnfound story) → Tells start (fallen_often start u.0) story
+often-tells start story u = record { begins = often-begins start u.0; told = u.1 start; played = often-played start u.0 }
+
+-- its text names no table
+often-text : (start : Start) (times : ℕ) (a b : List TableDef) → story_text a (story_of (fallen_often start times)) ≡ story_text b (story_of (fallen_often start times))
+often-text start zero a b = refl
+often-text start (suc times) a b =
+    let before = story_of (fallen_often start times) in
+    text-append a before (Down Stopped ∷ []) ∙ ap (λ t. t ++ story_text b (Down Stopped ∷ [])) (often-text start times a b) ∙ sym (text-append b before (Down Stopped ∷ []))
+
+-- how it may leave
+leaves-unfound : (e : OpenErr) (story : List Event) → (story ≡ []) ⊎ IsLater e → (trace : Trace) → story_of trace ≡ story → is_serving (phase trace) ≡ false → MayLeave (leave_of (status_opening e)) trace
+leaves-unfound e story (inr l) trace told down = leaves-later e l trace down
+leaves-unfound (NotSalt dev) story (inl none) trace told down = told ∙ none
+leaves-unfound (OtherShape kept asked) story (inl none) trace told down = told ∙ none
+leaves-unfound (NumbersSpent boot decisions) story (inl none) trace told down = leaves-later (NumbersSpent boot decisions) tt trace down
+leaves-unfound (Halted h) story (inl none) trace told down = leaves-later (Halted h) tt trace down
+
+flies-unfound : (e : OpenErr) (trace : Trace) (flies : Option Flight) → flies ≡ None → flight trace ≡ None → IsFlightAt (status_opening e) trace flies
+flies-unfound (NotSalt dev) trace flies none unflown = none
+flies-unfound (OtherShape kept asked) trace flies none unflown = none
+flies-unfound (NumbersSpent boot decisions) trace flies none unflown = none ∙ sym (ap flight_told unflown)
+flies-unfound (Halted halt.Stopped) trace flies none unflown = none ∙ sym (ap flight_told unflown)
+flies-unfound (Halted halt.DiskFault) trace flies none unflown = none ∙ sym (ap flight_told unflown)
+flies-unfound (Halted (halt.DeviceFull dev)) trace flies none unflown = none ∙ sym (ap flight_told unflown)
+flies-unfound (Halted halt.Memory) trace flies none unflown = inl none
+
+-- NO LINE WAS ASKED
+
+no-line-asked : (xs : List Asked) (x : Asked) → xs ++ x ∷ [] ≡ [] → ⊥
+no-line-asked [] x e = cc
+no-line-asked (y ∷ xs) x e = cc
+
+pub unasked-before : (trace : Trace) → trace_words.lines_of trace ≡ [] → story_before_line trace ≡ []
+unasked-before (from k) none = refl
+unasked-before (trace asks asked) none = absurd (no-line-asked (trace_words.lines_of trace) asked none)
+unasked-before (trace turns b) none = unasked-before trace none
+unasked-before (trace says e) none = unasked-before trace none
+
+first-lines : (script : List ℕ) → AreFirstLines script []
+first-lines script = record { got = []; front = (script, refl); within = omega arith; lines = refl; first = (lines_of script, refl) }
+
+-- a stop before the first line
+abbrev pub IsEarly : Stop → Type 0
+IsEarly s = IsOfDevices s ⊎ (s ≡ stop.WriteFault)
+
+early-lines : (s : Stop) → IsEarly s → (script left : Option (List ℕ)) → AreLinesOf (status_of s) script left []
+early-lines s early None left = tt
+early-lines stop.Memory early (Some script) left = first-lines script
+early-lines stop.WriteFault early (Some script) left = first-lines script
+early-lines stop.DiskFault early (Some script) left = first-lines script
+early-lines (stop.DeviceFull dev) early (Some script) left = first-lines script
+early-lines (stop.NumbersSpent boot decisions) early (Some script) left = first-lines script
+early-lines (stop.NotSalt dev) early (Some script) left = refl
+early-lines (stop.OtherShape kept asked) early (Some script) left = refl
+early-lines stop.ReadFault (inl of) (Some script) left = absurd of
+early-lines stop.ReadFault (inr e) (Some script) left = absurd cc
+early-lines stop.ScriptTooLong (inl of) (Some script) left = absurd of
+early-lines stop.ScriptTooLong (inr e) (Some script) left = absurd cc
+
+-- what the sink gained of the text
+early-written : (s : Stop) (before held : Option (List ℕ)) (text : List ℕ) → GainsAtEnd s before text held → IsWritten (status_of s) before [] text held
+early-written stop.Memory before held text same =
+    subst (GainsFrom before [] text) (sym same) (record { some = record { part = []; others = text; whole = refl; gained = gains-none before }; from = ([], refl) })
+early-written stop.WriteFault before held text short = record { short = short; from = (short.part, refl) }
+early-written stop.ReadFault before held text g = g
+early-written stop.DiskFault before held text g = g
+early-written (stop.NotSalt dev) before held text g = g
+early-written (stop.DeviceFull dev) before held text g = g
+early-written (stop.OtherShape kept asked) before held text g = g
+early-written stop.ScriptTooLong before held text g = g
+early-written (stop.NumbersSpent boot decisions) before held text g = g
+
+-- so it is a run of the script
+pub early-run : (s : Stop) → IsEarly s → (flies : Option Flight) (start : Start) (trace : Trace) (story : List Event) (script rest before held : Option (List ℕ)) → Tells start trace story →
+    trace_words.lines_of trace ≡ [] → MayLeave (leave_of (status_of s)) trace → IsFlightAt (status_of s) trace flies → GainsAtEnd s before (text_under trace story) held →
+    (run : IsRun start (status_of s) flies script rest before story held) × (run.played.trace ≡ trace)
+early-run s early flies start trace story script rest before held tells unasked leaves flown gained = (
+  record {
+    played = record {
+      trace = trace;
+      texts = [];
+      tells = tells;
+      reads = subst (AskInOrder []) (sym unasked) tt;
+      lines = early-lines s early script rest;
+      leaves = leaves;
+      flies = flown;
+    };
+    told = subst (λ es. IsWritten (status_of s) before (text_under trace es) (text_under trace (story_of trace)) held) (sym (unasked-before trace unasked))
+        (subst (λ es. IsWritten (status_of s) before [] (text_under trace es) held) (sym tells.told) (early-written s before held (text_under trace story) gained));
+  },
+  refl,
+)
+
+pub early-ends : (lies left : ℕ → Point → Type 0) (fills : Written → ℕ → Type 0) (flies : Option Flight) (s : Stop) → IsEarly s → (start : Start) (trace : Trace) (story : List Event)
+    (script rest before held : Option (List ℕ)) → LeavesAt lies left fills flies (status_of s) start trace story → trace_words.lines_of trace ≡ [] → GainsAtEnd s before (text_under trace story) held →
+    EndsServing lies left fills flies start (status_of s) script rest before story held
+early-ends lies left fills flies s early start trace story script rest before held x unasked gained =
+    let r = early-run s early flies start trace story script rest before held x.tells unasked x.leaves x.flies gained in
+    (r.0, subst (EndsFound lies left fills (status_of s)) (sym r.1) x.ends)
+
+-- WHAT IS TOLD OF THE BEGINNING
+
+abbrev pub IsWrittenOf : Stop → Stop → Type 0
+IsWrittenOf e s = (s ≡ e) ⊎ ((s ≡ stop.WriteFault) × (e ≡ stop.Memory → ⊥))
+
+early-of : (e s : Stop) → IsOfDevices e → IsWrittenOf e s → IsEarly s
+early-of e s of (inl same) = inl (subst IsOfDevices (sym same) of)
+early-of e s of (inr w) = inr w.0
+
+module _ (old_refuses : OpenErr → Type 0) (old_finds : Kept → Type 0) (can_stop : Bool) (refuses : OpenErr → Type 0) (finds : Kept → Type 0) (stays : Type 0) (lies left : ℕ → Point → Type 0)
+    (fills : Written → ℕ → Type 0) (flies : Option Flight) (story : List Event) (e s : Stop) (of : IsOfDevices e) (how : IsWrittenOf e s)
+    (f : FailsToBegin old_refuses old_finds can_stop refuses finds stays lies left fills flies story e) where
+  of-reason : status_of e ≡ status_opening f.reason
+  of-reason = ap status_of f.is
+
+  is-of : IsStatusOf f.reason (status_of s)
+  is-of = by how
+    where
+      by : IsWrittenOf e s → IsStatusOf f.reason (status_of s)
+      by (inl same) = inl (ap status_of same ∙ of-reason)
+      by (inr w) = inr (ap status_of w.0, λ m. w.1 (f.is ∙ ap stop_opening m))
+
+  module _ (u : FailsToFind old_refuses old_finds refuses finds fills flies stays f.reason story) where
+    pub unfound-full : (dev : ℕ) → status_of s ≡ DeviceFull dev → fills OfOpening dev
+    unfound-full dev is = by how
+      where
+        no-device : WriteFault ≡ DeviceFull dev → ⊥
+        no-device x = cc
+
+        by : IsWrittenOf e s → fills OfOpening dev
+        by (inl same) = u.full dev (full-reason f.reason dev (sym (ap status_of same ∙ of-reason) ∙ is))
+        by (inr w) = absurd (no-device (sym (ap status_of w.0) ∙ is))
+
+    module _ (start : Start) where
+      abbrev fallen : Trace
+      fallen = fallen_often start u.unfound.0
+
+      fallen-down : is_serving (phase fallen) ≡ false
+      fallen-down = ap is_serving (often-down start u.unfound.0)
+
+      pub unfound-leaves : MayLeave (leave_of (status_of s)) fallen
+      unfound-leaves = by how
+        where
+          by : IsWrittenOf e s → MayLeave (leave_of (status_of s)) fallen
+          by (inl same) =
+              subst (λ (x : Status). MayLeave (leave_of x) fallen) (sym (ap status_of same ∙ of-reason)) (leaves-unfound f.reason story u.empty fallen (u.unfound.1 start) fallen-down)
+          by (inr w) = subst (λ (x : Stop). MayLeave (leave_of (status_of x)) fallen) (sym w.0) (inr (at-devices fallen fallen-down))
+
+      pub unfound-flies : IsFlightAt (status_of s) fallen flies
+      unfound-flies = by how
+        where
+          none : flight fallen ≡ None
+          none = often-unflown start u.unfound.0
+
+          by : IsWrittenOf e s → IsFlightAt (status_of s) fallen flies
+          by (inl same) = subst (λ (x : Status). IsFlightAt x fallen flies) (sym (ap status_of same ∙ of-reason)) (flies-unfound f.reason fallen flies u.flies none)
+          by (inr w) = subst (λ (x : Stop). IsFlightAt (status_of x) fallen flies) (sym w.0) (u.flies ∙ sym (ap flight_told none))
+
+      -- whatever the tables are, the text is the same
+      pub unfound-text : (schema : List TableDef) → story_text schema story ≡ text_under fallen story
+      unfound-text schema =
+          subst (λ (es : List Event). story_text schema es ≡ story_text (schema_of (kept fallen)) es) (u.unfound.1 start) (often-text start u.unfound.0 schema (schema_of (kept fallen)))
+
+    pub unfound-ended : (Run : Start → Type 0) → ((start : Start) → Run start) → EndsUnfound old_refuses old_finds refuses finds stays fills (status_of s) story Run
+    unfound-ended Run run = record { reason = f.reason; is = is-of; refused = u.refused; unfound = u.unfound; less = u.less; stays_new = u.stays_new; full = unfound-full; run = run }
+
+  -- it broke off in its first opening
+  module _ (b : BreaksFirst old_finds can_stop lies left fills flies f.reason story) where
+    first-leaves : LeavesAt lies left fills flies (status_of e) b.start b.breaks.after story
+    first-leaves =
+        subst (λ (x : Status). LeavesAt lies left fills flies x b.start b.breaks.after story) (sym of-reason) (leaves-opening lies left fills flies f.reason b.start (from b.start) [] story b.breaks)
+
+    pub broken-leaves : LeavesAt lies left fills flies (status_of s) b.start b.breaks.after story
+    broken-leaves = by how
+      where
+        by : IsWrittenOf e s → LeavesAt lies left fills flies (status_of s) b.start b.breaks.after story
+        by (inl same) = subst (λ (x : Stop). LeavesAt lies left fills flies (status_of x) b.start b.breaks.after story) (sym same) first-leaves
+        by (inr w) =
+            subst (λ (x : Stop). LeavesAt lies left fills flies (status_of x) b.start b.breaks.after story) (sym w.0)
+            (leaves-unwritten lies left fills flies b.start b.breaks.after story e (subst IsLaterStop (sym f.is) (later-stop f.reason b.breaks.later)) w.1 first-leaves)
+
+    pub broken-some : (s ≡ stop.Memory → ⊥) → status_of e ≡ Memory → ⊥
+    broken-some some m = by how
+      where
+        by : IsWrittenOf e s → ⊥
+        by (inl same) = some (same ∙ memory-status e m)
+        by (inr w) = w.1 (memory-status e m)
+
+    pub first-told : LeavesAt lies left fills flies (status_of e) b.start b.breaks.after story
+    first-told = first-leaves
+
+module _ {E : Type 0} (old_refuses : OpenErr → Type 0) (old_finds : Kept → Type 0) (can_stop : Bool) (refuses : OpenErr → Type 0) (finds : Kept → Type 0) (stays : Type 0)
+    (sees : E → Option Event → State → Type 0) (lies left : ℕ → Point → Type 0) (fills : Written → ℕ → Type 0) (flies : Option Flight) (new : E)
+    (idle : (p : Point) → IsSoundPoint p → IsIdleAt sees new p → lies 0 p) (flown : (p : Point) → IsSoundPoint p → IsIdleAt sees new p → flies ≡ None)
+    (leaves : (room : ℕ) (p : Point) → lies room p → left room p)
+    (schema : List TableDef) (serving : (p : Point) → IsSoundPoint p → sees new None p.state → schema ≡ schema_of p.state.units.kept)
+    (lying : (room : ℕ) (p : Point) → IsSoundPoint p → lies room p → schema ≡ schema_of p.state.units.kept)
+    (story : List Event) (before held : Option (List ℕ)) where
+  abbrev Ends : Stop → Type 0
+  Ends s = (script rest : Option (List ℕ)) → IsEnded old_refuses old_finds can_stop refuses finds stays lies left fills flies (status_of s) script rest before story held
+
+  pub begun-ok : (d r : Result (Unit {0}) Stop) → OnOk d (Begins old_finds can_stop sees new story) → EndsWriting d (story_text schema story) before held r →
+      OnOk r (IsBegun old_finds can_stop sees new story before held)
+  begun-ok d (Err s) b w = tt
+  begun-ok d (Ok x) b w =
+      let begins = subst (λ (y : Result (Unit {0}) Stop). OnOk y (Begins old_finds can_stop sees new story)) w.0 b in
+      let after = begins.reopens.after in
+      record {
+        start = begins.start;
+        is = begins.is;
+        trace = after;
+        lines = begins.reopens.lines;
+        serves = begins.reopens.serves;
+        written = subst (λ (ts : List TableDef). Gains before (story_text ts story) held) (tables-serving sees lies left fills flies new schema serving lying begins.start after story begins.reopens.serves) w.1;
+      }
+
+  begins-unwritten : Begins old_finds can_stop sees new story → GainsShort before (story_text schema story) held → Ends stop.WriteFault
+  begins-unwritten b short script rest =
+      let after = b.reopens.after in
+      inr (record {
+        start = b.start;
+        is = b.is;
+        ends = early-ends lies left fills flies stop.WriteFault (inr refl) b.start after story script rest before held
+            (unwritten-leaves sees lies left fills flies new idle flown leaves b.start after story b.reopens.serves) b.reopens.lines
+            (subst (λ (ts : List TableDef). GainsShort before (story_text ts story) held) (tables-serving sees lies left fills flies new schema serving lying b.start after story b.reopens.serves) short);
+      })
+
+  fails-ended : (e s : Stop) → IsOfDevices e → IsWrittenOf e s → FailsToBegin old_refuses old_finds can_stop refuses finds stays lies left fills flies story e →
+      GainsAtEnd s before (story_text schema story) held → Ends s
+  fails-ended e s of how f gained script rest = by f.fails
+    where
+      early : IsEarly s
+      early = early-of e s of how
+
+      run : (u : FailsToFind old_refuses old_finds refuses finds fills flies stays f.reason story) (start : Start) → IsRun start (status_of s) flies script rest before story held
+      run u start =
+          (early-run s early flies start (fallen_often start u.unfound.0) story script rest before held (often-tells start story u.unfound) (often-asked start u.unfound.0)
+          (unfound-leaves old_refuses old_finds can_stop refuses finds stays lies left fills flies story e s of how f u start)
+          (unfound-flies old_refuses old_finds can_stop refuses finds stays lies left fills flies story e s of how f u start)
+          (gains-under s before held _ _ (λ some. unfound-text old_refuses old_finds can_stop refuses finds stays lies left fills flies story e s of how f u start schema) gained)).0
+
+      by : FailsToFind old_refuses old_finds refuses finds fills flies stays f.reason story ⊎ BreaksFirst old_finds can_stop lies left fills flies f.reason story →
+          IsEnded old_refuses old_finds can_stop refuses finds stays lies left fills flies (status_of s) script rest before story held
+      by (inl u) = inl (unfound-ended old_refuses old_finds can_stop refuses finds stays lies left fills flies story e s of how f u (λ start. IsRun start (status_of s) flies script rest before story held) (run u))
+      by (inr b) = inr (record {
+        start = b.start;
+        is = b.is;
+        ends = early-ends lies left fills flies s early b.start b.breaks.after story script rest before held
+            (broken-leaves old_refuses old_finds can_stop refuses finds stays lies left fills flies story e s of how f b) b.breaks.lines
+            (gains-under s before held _ _ (λ some. ap (λ ts. story_text ts story)
+            (tables-lying sees lies left fills flies new schema serving lying b.start b.breaks.after story (status_of e)
+            (first-told old_refuses old_finds can_stop refuses finds stays lies left fills flies story e s of how f b)
+            (broken-some old_refuses old_finds can_stop refuses finds stays lies left fills flies story e s of how f b some))) gained);
+      })
+
+  pub begun-err : (d r : Result (Unit {0}) Stop) → OnOk d (Begins old_finds can_stop sees new story) → IfErr d (FailsToBegin old_refuses old_finds can_stop refuses finds stays lies left fills flies story) →
+      IfErr d IsOfDevices → EndsWriting d (story_text schema story) before held r → IfErr r Ends
+  begun-err d (Ok x) b f of w = tt
+  begun-err d (Err s) b f of w = by w.0
+    where
+      short : (y : Result (Unit {0}) Stop) → (y ≡ Err stop.Memory → ⊥) → OnOk y (Begins old_finds can_stop sees new story) →
+          IfErr y (FailsToBegin old_refuses old_finds can_stop refuses finds stays lies left fills flies story) → IfErr y IsOfDevices → s ≡ stop.WriteFault →
+          GainsShort before (story_text schema story) held → Ends stop.WriteFault
+      short (Ok x) some c g o is h = begins-unwritten c h
+      short (Err e) some c g o is h = fails-ended e stop.WriteFault o (inr (refl, λ m. some (ap Err m))) g h
+
+      by : (d ≡ Err s) ⊎ ((s ≡ stop.WriteFault) × (d ≡ Err stop.Memory → ⊥)) → Ends s
+      by (inl is) =
+          fails-ended s s (subst (λ (y : Result (Unit {0}) Stop). IfErr y IsOfDevices) is of) (inl refl)
+          (subst (λ (y : Result (Unit {0}) Stop). IfErr y (FailsToBegin old_refuses old_finds can_stop refuses finds stays lies left fills flies story)) is f) w.1
+      by (inr u) = subst Ends (sym u.0) (short d u.1 b f of u.0 (subst (λ (x : Stop). GainsAtEnd x before (story_text schema story) held) u.0 w.1))
+
+pub never-read : (d r : Result (Unit {0}) Stop) (before held : Option (List ℕ)) (text : List ℕ) → IfErr d IsOfDevices → EndsWriting d text before held r → r ≡ Err stop.ReadFault → ⊥
+never-read d (Ok x) before held text of w is = cc
+never-read d (Err s) before held text of w is = by w.0
+  where
+    same : (a b : Stop) → ◌≡◌ {A = Result (Unit {0}) Stop} (Err a) (Err b) → a ≡ b
+    same a b e = cc
+
+    by : (d ≡ Err s) ⊎ ((s ≡ stop.WriteFault) × (d ≡ Err stop.Memory → ⊥)) → ⊥
+    by (inl e) = subst IsOfDevices (same s stop.ReadFault is) (subst (λ (y : Result (Unit {0}) Stop). IfErr y IsOfDevices) e of)
+    by (inr u) = let same_stop = same s stop.ReadFault is in let written = u.0 in cc
+
+-- BETWEEN LINES, FROM THEN ON
+
+-- a reader that has read nothing
+abbrev unread : Reading
+unread = record { kept = []; taken = 0; ended = false }
+
+no-lines : (left : Option (List ℕ)) → IsAt left unread (bytes_before [] left) []
+no-lines None = tt
+no-lines (Some script) = record { given = []; whole = refl; counted = refl; lines = refl; at_start = inl refl }
+
+unended : false ≡ true → ⊥
+unended e = cc
+
+pub serving-begun : {E : Type 0} (finds : Kept → Type 0) (can_stop : Bool) (sees : E → Option Event → State → Type 0) (e : E) (reading : Reading) (left before held : Option (List ℕ)) (story : List Event) →
+    (b : IsBegun finds can_stop sees e story before held) → reading ≡ unread → IsServing sees b.start left before e reading left story held
+serving-begun finds can_stop sees e reading left before held story b is =
+    subst (λ (r : Reading). IsServing sees b.start left before e r left story held) (sym is) (record {
+      trace = b.trace;
+      texts = [];
+      serves = b.serves;
+      reads = subst (AskInOrder []) (sym b.lines) tt;
+      of = λ ended. absurd (unended ended);
+      place = no-lines left;
+      written = b.written;
+      within = omega arith;
+    })

@@ -1,0 +1,39 @@
+use Rattle.salt_serving.proofs.Counts.{added-unwritten}
+use Rattle.salt_serving.proofs.Texts.{counts-written, of-devices, of-line}
+use Rattle.salt_serving.proofs.Told.{told-err, told-ok}
+use Rattle.salt_serving.proofs.lines.tell_line.Goals as goal
+use Rattle.salt_serving.specs.Counted.{CountsAdded}
+use Rattle.salt_serving.specs.declared.status.Status.{Status}
+use Rattle.std.proofs.Common.{ap, drop, ◌∙◌}
+use Rattle.std.specs.Option.{option_copied}
+
+pub write_done-requires : goal.write_done-requires
+write_done-requires g c = of-devices c.do_line-done.result c.do_line-done.ensures.later
+
+pub returns-clause-ok : goal.returns-clause-ok
+returns-clause-ok g c =
+    let view = g.D.Disks.view in
+    let now = view c.do_line-done.new.disks in
+    let e = c.do_line-done.new.engine in
+    told-ok (g.E.Steps.sees (view c.args.disks.now)) (g.E.Steps.sees now) (g.E.Steps.lies now e) (g.E.Steps.left now e) (g.E.Steps.fills now e) (g.E.Steps.flight e) c.args.engine.now e
+    c.stands.ensures.idle c.stands.ensures.flown c.stands.ensures.left c.schema.result.now c.schema.ensures.serves c.schema.ensures.lies (option_copied c.args.text) c.args.story.now c.do_line-done.new.story c.events_behind.result.now
+    (g.K.Sink.held c.args.sink.now) (g.K.Sink.held c.write_done.new.sink) (c.events_behind.ensures ∙ ap (λ n. drop n c.do_line-done.new.story) c.len-told.ensures) c.do_line-done.result c.write_done.result c.do_line-done.ensures.ok c.write_done.ensures.written
+
+pub returns-clause-err : goal.returns-clause-err
+returns-clause-err g c =
+    let view = g.D.Disks.view in
+    let now = view c.do_line-done.new.disks in
+    let e = c.do_line-done.new.engine in
+    told-err (g.E.Steps.sees (view c.args.disks.now)) (g.E.Steps.sees now) (g.E.Steps.lies now e) (g.E.Steps.left now e) (g.E.Steps.fills now e) (g.E.Steps.flight e) c.args.engine.now e
+    c.stands.ensures.idle c.stands.ensures.flown c.stands.ensures.left c.schema.result.now c.schema.ensures.serves c.schema.ensures.lies (option_copied c.args.text) c.args.story.now c.do_line-done.new.story c.events_behind.result.now
+    (g.K.Sink.held c.args.sink.now) (g.K.Sink.held c.write_done.new.sink) (c.events_behind.ensures ∙ ap (λ n. drop n c.do_line-done.new.story) c.len-told.ensures) c.do_line-done.result c.write_done.result c.do_line-done.ensures.ok c.do_line-done.ensures.err c.do_line-done.ensures.later
+    c.write_done.ensures.written
+
+pub returns-clause-of_line : goal.returns-clause-of_line
+returns-clause-of_line g c = of-line c.do_line-done.result c.write_done.result _ _ _ c.do_line-done.ensures.later c.write_done.ensures.written
+
+pub returns-clause-counts : goal.returns-clause-counts
+returns-clause-counts g c =
+    let view = g.D.Disks.view in
+    counts-written c.do_line-done.result c.write_done.result _ _ _ (λ (s : Status). CountsAdded (view c.args.disks.now) (view c.do_line-done.new.disks) s c.args.story.now c.do_line-done.new.story)
+    (λ s. added-unwritten (view c.args.disks.now) (view c.do_line-done.new.disks) s c.args.story.now c.do_line-done.new.story) c.do_line-done.ensures.counts c.write_done.ensures.written

@@ -1,0 +1,167 @@
+//! A line of a run: it is asked, the run is opened anew where it is broken off, and what is told is written.
+
+ghost use Rattle.salt_ast.specs.declared.lines.Line.{Line};
+ghost use Rattle.salt_disk.specs.Disks.{SameShape};
+ghost use Rattle.salt_io.specs.Streams.{Rose};
+ghost use Rattle.salt_model.specs.Trace.{Start, Trace};
+ghost use Rattle.salt_serving.specs.Counted.{CountsAdded, CountsResumed};
+ghost use Rattle.salt_serving.specs.Serving.{BreaksIn, Continues, EndsBehind, EndsIn, EndsTelling, IsAskable, IsToldLine};
+ghost use Rattle.salt_serving.specs.Stopping.{IsLaterStop, IsOfLine, answer_of, outcome};
+ghost use Rattle.salt_steps.specs.Counting.{CountsFall, CountsMore};
+ghost use Rattle.salt_steps.specs.Opening.{halt_of};
+ghost use Rattle.salt_steps.specs.Reopening.{Reopens};
+ghost use Rattle.salt_steps.specs.Serving.{Halts, Serves};
+ghost use Rattle.salt_storage.specs.Answers.{disk_err};
+ghost use Rattle.salt_storage.specs.declared.halt.Halt.TheVariants.{Memory};
+ghost use Rattle.std.specs.Option.{option_copied};
+ghost use Rattle.std.specs.Prelude.{Err, IfErr, None, OnOk, ◌≡◌, ◌≢◌, ◌≤◌};
+
+use crate::stop::{Stop, stop_opening};
+use crate::telling::{events_behind, write_done};
+use salt_disk::Disks;
+use salt_io::Sink;
+use salt_model::{Refusal, Story, Why};
+use salt_script::{ReadErr, read_line};
+use salt_sound::read_lines_are_spelled;
+use salt_steps::Steps;
+use salt_storage::Halt;
+use std::alloc::Global;
+
+/// Asks a line: of this text, or, where there is none, one that is too long.
+fn ask_line<E: Steps, D: Disks>(
+    alloc: Global,
+    engine: &mut E,
+    disks: &mut D,
+    text: Option<&[u8]>,
+    story: &mut Story,
+) -> Result<(), Halt>
+    requires serves { (line : Line) → IsAskable line → E.serves line }
+    requires stands { (start : Start) × (trace : Trace) × Serves (E.sees (D.view disks.old)) start engine.old story.old trace }
+    ensures ok { OnOk result ((start : Start) (trace : Trace) → Serves (E.sees (D.view disks.old)) start engine.old story.old trace →
+        Continues (E.sees (D.view disks.new)) start trace (option_copied text.entry) story.old engine.new story.new) }
+    ensures err { IfErr result (λ halt. (start : Start) (trace : Trace) → Serves (E.sees (D.view disks.old)) start engine.old story.old trace →
+        BreaksIn (E.lies (D.view disks.new) engine.new 0) (E.left (D.view disks.new) engine.new 0) (E.fills (D.view disks.new) engine.new) (E.flight engine.new) halt start
+        trace (option_copied text.entry) story.old story.new) }
+    ensures asked { E.asked engine.new ≡ E.asked engine.old }
+    ensures shape { SameShape (D.view disks.old) (D.view disks.new) }
+    ensures counts { CountsMore (D.view disks.old) (D.view disks.new) (disk_err result) None story.old story.new }
+{
+    // For the proof alone: what a line of the grammar asks is spelled.
+    read_lines_are_spelled();
+    let Some(text) = text else {
+        return salt_steps::refuse(engine, disks, story, Refusal::Long);
+    };
+    match read_line(alloc, text) {
+        Ok(line) => salt_steps::serve(engine, disks, story, &line),
+        Err(ReadErr::Refused(refusal)) => salt_steps::refuse(engine, disks, story, refusal),
+        Err(ReadErr::Memory) => {
+            engine.stands(disks);
+            Err(Halt::Memory)
+        }
+    }
+}
+
+/// Opens a run anew that was broken off in a line.
+fn recover<E: Steps, D: Disks>(
+    engine: &mut E,
+    disks: &mut D,
+    why: Why,
+    story: &mut Story,
+) -> Result<(), Stop>
+    requires halted { (start : Start) × (trace : Trace) × Halts (E.lies (D.view disks.old) engine.old 0) (E.left (D.view disks.old) engine.old 0) (E.fills (D.view disks.old) engine.old) (E.flight engine.old) (halt_of why) start story.old trace }
+    ensures ok { OnOk result ((start : Start) (trace : Trace) → Halts (E.lies (D.view disks.old) engine.old 0) (E.left (D.view disks.old) engine.old 0) (E.fills (D.view disks.old) engine.old) (E.flight engine.old) (halt_of why) start story.old trace →
+        Reopens (E.sees (D.view disks.new)) start trace story.old engine.new story.new) }
+    ensures err { IfErr result (λ stop. (start : Start) (trace : Trace) → Halts (E.lies (D.view disks.old) engine.old 0) (E.left (D.view disks.old) engine.old 0) (E.fills (D.view disks.old) engine.old) (E.flight engine.old) (halt_of why) start story.old trace →
+        EndsBehind (E.lies (D.view disks.new) engine.new) (E.left (D.view disks.new) engine.new) (E.fills (D.view disks.new) engine.new) (E.flight engine.new) (halt_of why) stop start trace story.old story.new) }
+    ensures later { IfErr result IsLaterStop }
+    ensures asked { E.asked engine.new ≡ E.asked engine.old }
+    ensures shape { SameShape (D.view disks.old) (D.view disks.new) }
+    ensures counts { CountsFall why (D.view disks.old) (D.view disks.new) (answer_of (outcome result)) story.old story.new }
+{
+    match salt_steps::recover(engine, disks, why, story) {
+        Ok(()) => Ok(()),
+        Err(e) => Err(stop_opening(e)),
+    }
+}
+
+/// What follows where a run is broken off in a line: it is opened anew, or it ends.
+pub fn resume<E: Steps, D: Disks>(
+    engine: &mut E,
+    disks: &mut D,
+    halt: Halt,
+    story: &mut Story,
+) -> Result<(), Stop>
+    requires halted { (start : Start) × (trace : Trace) × Halts (E.lies (D.view disks.old) engine.old 0) (E.left (D.view disks.old) engine.old 0) (E.fills (D.view disks.old) engine.old) (E.flight engine.old) halt start story.old trace }
+    ensures ok { OnOk result ((start : Start) (trace : Trace) → Halts (E.lies (D.view disks.old) engine.old 0) (E.left (D.view disks.old) engine.old 0) (E.fills (D.view disks.old) engine.old) (E.flight engine.old) halt start story.old trace →
+        Reopens (E.sees (D.view disks.new)) start trace story.old engine.new story.new) }
+    ensures err { IfErr result (λ stop. (start : Start) (trace : Trace) → Halts (E.lies (D.view disks.old) engine.old 0) (E.left (D.view disks.old) engine.old 0) (E.fills (D.view disks.old) engine.old) (E.flight engine.old) halt start story.old trace →
+        EndsBehind (E.lies (D.view disks.new) engine.new) (E.left (D.view disks.new) engine.new) (E.fills (D.view disks.new) engine.new) (E.flight engine.new) halt stop start trace story.old story.new) }
+    ensures later { IfErr result IsLaterStop }
+    ensures memory { halt ≡ Memory → OnOk result ⊥ }
+    ensures asked { E.asked engine.new ≡ E.asked engine.old }
+    ensures shape { SameShape (D.view disks.old) (D.view disks.new) }
+    ensures counts { CountsResumed halt (D.view disks.old) (D.view disks.new) (outcome result) story.old story.new }
+{
+    match halt {
+        Halt::Stopped => recover(engine, disks, Why::Stopped, story),
+        Halt::DiskFault => recover(engine, disks, Why::Fault, story),
+        Halt::DeviceFull(dev) => Err(Stop::DeviceFull(dev)),
+        Halt::Memory => Err(Stop::Memory),
+    }
+}
+
+/// Does a line, and opens the run anew where it is broken off by a stop or a fault.
+fn do_line<E: Steps, D: Disks>(
+    alloc: Global,
+    engine: &mut E,
+    disks: &mut D,
+    text: Option<&[u8]>,
+    story: &mut Story,
+) -> Result<(), Stop>
+    requires serves { (line : Line) → IsAskable line → E.serves line }
+    requires stands { (start : Start) × (trace : Trace) × Serves (E.sees (D.view disks.old)) start engine.old story.old trace }
+    ensures ok { OnOk result ((start : Start) (trace : Trace) → Serves (E.sees (D.view disks.old)) start engine.old story.old trace →
+        Continues (E.sees (D.view disks.new)) start trace (option_copied text.entry) story.old engine.new story.new) }
+    ensures err { IfErr result (λ stop. (start : Start) (trace : Trace) → Serves (E.sees (D.view disks.old)) start engine.old story.old trace →
+        EndsIn (E.lies (D.view disks.new) engine.new) (E.left (D.view disks.new) engine.new) (E.fills (D.view disks.new) engine.new) (E.flight engine.new) stop start trace
+        (option_copied text.entry) story.old story.new) }
+    ensures later { IfErr result IsLaterStop }
+    ensures asked { E.asked engine.new ≡ E.asked engine.old }
+    ensures shape { SameShape (D.view disks.old) (D.view disks.new) }
+    ensures counts { CountsAdded (D.view disks.old) (D.view disks.new) (outcome result) story.old story.new }
+{
+    match ask_line(alloc, engine, disks, text, story) {
+        Ok(()) => Ok(()),
+        Err(halt) => resume(engine, disks, halt, story),
+    }
+}
+
+/// Does a line, and writes the events that it adds; where memory ran out, none of them.
+pub fn tell_line<E: Steps, D: Disks, K: Sink>(
+    alloc: Global,
+    engine: &mut E,
+    disks: &mut D,
+    text: Option<&[u8]>,
+    sink: &mut K,
+    story: &mut Story,
+) -> Result<(), Stop>
+    requires serves { (line : Line) → IsAskable line → E.serves line }
+    requires stands { (start : Start) × (trace : Trace) × Serves (E.sees (D.view disks.old)) start engine.old story.old trace }
+    ensures ok { OnOk result ((start : Start) (trace : Trace) → Serves (E.sees (D.view disks.old)) start engine.old story.old trace →
+        IsToldLine (E.sees (D.view disks.new)) start trace (option_copied text.entry) story.old engine.new story.new (K.held sink.old) (K.held sink.new)) }
+    ensures err { IfErr result (λ stop. (start : Start) (trace : Trace) → Serves (E.sees (D.view disks.old)) start engine.old story.old trace →
+        EndsTelling (E.lies (D.view disks.new) engine.new) (E.left (D.view disks.new) engine.new) (E.fills (D.view disks.new) engine.new) (E.flight engine.new) stop start trace
+        (option_copied text.entry) story.old story.new (K.held sink.old) (K.held sink.new)) }
+    ensures of_line { IfErr result IsOfLine }
+    ensures fault { result ≡ Err Stop.WriteFault → Rose (K.faults sink.old) (K.faults sink.new) }
+    ensures no_fault { result ≢ Err Stop.WriteFault → K.faults sink.new ≡ K.faults sink.old }
+    ensures later { K.faults sink.old ≤ K.faults sink.new }
+    ensures asked { E.asked engine.new ≡ E.asked engine.old }
+    ensures shape { SameShape (D.view disks.old) (D.view disks.new) }
+    ensures counts { CountsAdded (D.view disks.old) (D.view disks.new) (outcome result) story.old story.new }
+{
+    let told = story.len();
+    let done = do_line(alloc, engine, disks, text, story);
+    engine.stands(disks);
+    write_done(sink, events_behind(story, told), engine.schema(disks), done)
+}
