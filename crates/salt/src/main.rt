@@ -1,15 +1,24 @@
 //! Salt's program: `salt run` reads a script from standard input and prints its story; `salt load N` does a workload and prints its summary.
 #![tactic(auto)]
 
-ghost use Rattle.std.specs.Prelude.{◌≡◌};
+ghost use Rattle.salt_devices.specs.Settling.{AreSettled};
 ghost use Rattle.salt_values.specs.Placement.{IsParts, place_of};
+ghost use Rattle.std.specs.Prelude.{◌≡◌, ◌≤◌};
 
-use salt_io::{NoDisks, StdSink, StdSource};
-use salt_run::{Status, run};
+use salt_disk::{Disks, MemDisks};
+use salt_files::FileDisks;
+use salt_io::{StdSink, StdSource};
+use salt_run::{Status, folder_of, run};
 use salt_values::{Key, PlaceKind, Placement, place_of};
+use std::alloc::AllocError;
 use std::process::ExitCode;
 use std::rt::Env;
 use std::{env, io};
+
+/// How many devices there are in memory, and how long each may be.
+const DEVICES: u32 = 26;
+
+const LIMIT: u64 = 67_108_864;
 
 /// The words behind the program's name.
 fn words(rt: &(impl Env + AllocGlobal)) -> io::Result<Vec<String>> {
@@ -20,31 +29,43 @@ fn words(rt: &(impl Env + AllocGlobal)) -> io::Result<Vec<String>> {
     Ok(words)
 }
 
-fn main(rt: HostRuntime) -> ExitCode {
+/// Runs what the words say over these devices.
+fn run_over<D: Disks>(rt: &HostRuntime, words: &[String], disks: &mut D) -> Status
+    requires devices { 26 ≤ (D.view disks.old).count }
+    requires settled { AreSettled (D.view disks.old) }
+{
     let place = Placement::new(
         |kind: PlaceKind, key: &Key, parts: u32| -> u32
             requires { IsParts parts }
             ensures { result ≡ place_of kind key.now parts }
         { place_of(kind, key, parts) },
     );
-    let status = match words(&rt) {
-        Ok(words) => {
-            let mut source = StdSource::new(rt.reader());
-            let mut sink = StdSink::new(io::writer(&rt));
-            run(
-                rt.alloc(),
-                words.as_slice(),
-                &mut source,
-                &mut sink,
-                &mut NoDisks,
-                &place,
-            )
-            .status
+    let mut source = StdSource::new(rt.reader());
+    let mut sink = StdSink::new(io::writer(rt));
+    run(rt.alloc(), words, &mut source, &mut sink, disks, &place).status
+}
+
+/// Runs what the words say: over the files of the folder that they name, or in memory.
+fn run_words(rt: &HostRuntime, words: &[String]) -> Result<Status, AllocError> {
+    match folder_of(words) {
+        Some(folder) => {
+            let mut disks = FileDisks::new(rt, folder)?;
+            Ok(run_over(rt, words, &mut disks))
         }
+        None => {
+            let mut disks = MemDisks::new(rt.alloc(), DEVICES, LIMIT)?;
+            Ok(run_over(rt, words, &mut disks))
+        }
+    }
+}
+
+fn main(rt: HostRuntime) -> ExitCode {
+    let status = match words(&rt) {
+        Ok(words) => run_words(&rt, words.as_slice()).unwrap_or(Status::Memory),
         Err(_) => Status::Memory,
     };
-    if let Some(message) = status.message() {
-        let _ = rt.eprintln(message);
+    if status != Status::Done {
+        let _ = eprintln!(rt; "salt: {status}");
     }
     ExitCode::from(status.number())
 }

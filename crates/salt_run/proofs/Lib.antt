@@ -1,2 +1,9 @@
-pub mod CallCounts
-pub mod EndedRuns
+mod Behind
+mod Images
+mod Over
+mod Unwritten
+mod Replayed
+mod EngineEnds
+mod Said
+mod Completes
+mod Commanded

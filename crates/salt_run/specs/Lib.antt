@@ -1,3 +1,7 @@
-pub mod Words
+pub mod Commands
+pub mod Completing
+pub mod Doing
+pub mod Ending
 pub mod Promises
+pub mod Running
 pub mod Summing

@@ -1,21 +1,20 @@
 -- What the sink gains in a run of the workload.
 use Rattle.salt_io.specs.Streams.{Gains, GainsShort}
-use Rattle.salt_load.specs.Workload.{load_lines}
-use Rattle.salt_model.specs.declared.events.Event.{Event}
+use Rattle.salt_model.specs.Trace.{Trace, lines_of, story_of}
+use Rattle.salt_serving.specs.declared.status.Status.TheVariants.{Memory, WriteFault}
 use Rattle.salt_serving.specs.declared.status.Status.{Status}
-use Rattle.salt_serving.specs.declared.status.Status.TheVariants.{Done, Memory, ReadFault, ScriptTooLong, Usage, WriteFault}
 use Rattle.salt_summary.specs.Summary.{summary_text}
 use Rattle.std.specs.Prelude.{List, Option, length, ℕ, ◌≡◌}
 
--- the summary of a story in which all lines of the workload are done
-abbrev pub whole_summary : ℕ → List Event → List ℕ
-whole_summary calls story = summary_text calls (length (load_lines calls)) story
+-- the summary of a trace: of its story and its lines, also the one in which it ends
+abbrev pub summary_of : ℕ → Trace → List ℕ
+summary_of calls trace = summary_text calls (length (lines_of trace)) (story_of trace)
 
--- the summary, where all lines are done; nothing, where memory ran out before
-abbrev pub IsSummed : Status → ℕ → List Event → Option (List ℕ) → Option (List ℕ) → Type 0
-IsSummed Done calls story before now = Gains before (whole_summary calls story) now
-IsSummed WriteFault calls story before now = GainsShort before (whole_summary calls story) now
-IsSummed Memory calls story before now = now ≡ before
-IsSummed Usage calls story before now = ⊥
-IsSummed ReadFault calls story before now = ⊥
-IsSummed ScriptTooLong calls story before now = ⊥
+-- a part of the summary, where the sink failed; nothing, where memory ran out before; else all of it
+abbrev pub IsSummary : Status → List ℕ → Option (List ℕ) → Option (List ℕ) → Type 0
+IsSummary WriteFault summary before now = GainsShort before summary now
+IsSummary Memory summary before now = now ≡ before
+IsSummary status summary before now = Gains before summary now
+
+abbrev pub IsSummed : Status → ℕ → Trace → Option (List ℕ) → Option (List ℕ) → Type 0
+IsSummed status calls trace before now = IsSummary status (summary_of calls trace) before now

@@ -3,7 +3,7 @@
 use salt_model::{Flight, Story};
 use salt_serving::Status;
 
-/// How a run ended, the story that it told, and the decision that was in flight (none, until there are devices).
+/// How a run ended, the story that it told, and the decision that was in flight.
 #[derive(Drop)]
 pub struct Ended {
     pub status: Status,

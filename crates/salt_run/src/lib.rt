@@ -5,11 +5,8 @@ mod command;
 mod ended;
 mod promises;
 mod runs;
-mod words;
 
 pub use command::run;
 pub use ended::Ended;
 pub use salt_serving::Status;
-
-#[cfg(test)]
-mod tests;
+pub use salt_words::folder_of;

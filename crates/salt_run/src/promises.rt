@@ -1,9 +1,8 @@
 //! What is promised of every story.
 
-ghost use Rattle.std.specs.Prelude.{List};
-ghost use Rattle.salt_model.specs.Trace.{Trace};
-ghost use Rattle.salt_model.specs.Played.{Tells, empty_start};
-ghost use Rattle.salt_model.specs.declared.events.Event.{Event};
+ghost use Rattle.salt_model.specs.Kept.{WellKept};
+ghost use Rattle.salt_model.specs.Played.{IsPlayed};
+ghost use Rattle.salt_model.specs.Trace.{Trace, start_of};
 ghost use Rattle.salt_run.specs.Promises.{Promises};
 
 use salt_laws::{
@@ -11,9 +10,9 @@ use salt_laws::{
     played_is_kept, played_is_salted, played_is_whole, played_releases_exactly,
 };
 
-/// Each trace that tells a story from the empty start keeps every promise.
-pub fn told_keeps_promises()
-    ensures { (trace : Trace) (story : List Event) → Tells empty_start trace story → Promises trace }
+/// Each trace that is played from what may be kept keeps every promise.
+pub fn played_keeps_promises()
+    ensures { (trace : Trace) → IsPlayed trace → WellKept (start_of trace).kept → Promises trace }
 {
     played_is_honest();
     played_is_salted();

@@ -1,104 +1,172 @@
 //! The runs that commands ask for, each by an engine of its own.
 
-ghost use Rattle.salt_io.specs.Streams.{IsAtEnd, Rose};
+ghost use Rattle.salt_devices.specs.Settling.{AreSettled};
+ghost use Rattle.salt_disk.specs.Disks.{Rose, SameShape};
+ghost use Rattle.salt_io.specs.Streams.{IsAtEnd};
 ghost use Rattle.salt_load.specs.declared.limits.TheConstants.{CALLS_MOST};
-ghost use Rattle.salt_run.specs.Summing.{IsSummed};
-ghost use Rattle.salt_run.specs.declared.words.Command.TheVariants.{Load, Run};
-ghost use Rattle.salt_serving.specs.Loading.{IsPlayedLoad};
-ghost use Rattle.salt_serving.specs.Run.{IsEnded};
-ghost use Rattle.std.specs.Prelude.{◌≡◌, ◌≢◌, ◌≤◌, [], ℕ};
+ghost use Rattle.salt_model.specs.Kept.{WellKept};
+ghost use Rattle.salt_model.specs.Played.{IsPlayed};
+ghost use Rattle.salt_model.specs.Trace.{Trace, start_of};
+ghost use Rattle.salt_run.specs.Commands.{shape_of};
+ghost use Rattle.salt_run.specs.Doing.{streams};
+ghost use Rattle.salt_run.specs.Ending.{flight_at};
+ghost use Rattle.salt_run.specs.Promises.{Promises};
+ghost use Rattle.salt_run.specs.Running.{Runs, WasRefused};
+ghost use Rattle.salt_run.specs.Summing.{IsSummary};
+ghost use Rattle.salt_serving.specs.Counted.{AreFaultsOf};
+ghost use Rattle.salt_serving.specs.Stopping.{outcome};
+ghost use Rattle.salt_steps.specs.Counting.{armed_in, stopped_in};
+ghost use Rattle.salt_summary.specs.Summary.{summary_text};
+ghost use Rattle.salt_values.specs.Placement.{GivesPlaceOf, IsParts, TakesEachKey};
+ghost use Rattle.salt_words.specs.declared.command.Command.TheVariants.{Load, Run};
+ghost use Rattle.std.specs.Prelude.{List, Option, ℕ, ◌+◌, ◌≡◌, ◌≢◌, ◌≤◌, ◌⊎◌};
 
-use crate::words::Command;
+use crate::ended::Ended;
+use salt_devices::Devices;
+use salt_disk::Disks;
 use salt_engine::Engine;
 use salt_io::{Sink, Source};
-use salt_load::line_count;
-use salt_model::Story;
-use salt_serving::{Status, load, serve, status_of};
+use salt_model::{Flight, Story};
+use salt_serving::{Loaded, Status, Stop, load, serve, status_of};
+use salt_steps::Steps;
 use salt_summary::print_summary;
+use salt_values::{Key, PlaceKind, Placement, Shape};
+use sqlite_items::Items;
 use std::alloc::Global;
 
-/// Runs the script of the source, and writes its story to the sink.
-fn run_script<S: Source, K: Sink>(
-    alloc: Global,
-    source: &mut S,
-    sink: &mut K,
-    story: &mut Story,
-) -> Status
-    requires { story.old ≡ [] }
-    ensures ended { IsEnded result (S.left source.old) (S.left source.new) (K.held sink.old) story.new (K.held sink.new) }
-    ensures right { result ≢ Status.Usage }
-    ensures done { result ≡ Status.Done → IsAtEnd (S.left source.new) }
-    ensures read_fault { result ≡ Status.ReadFault → Rose (S.faults source.old) (S.faults source.new) }
-    ensures write_fault { result ≡ Status.WriteFault → Rose (K.faults sink.old) (K.faults sink.new) }
-    ensures no_read_fault { result ≢ Status.ReadFault → S.faults source.new ≡ S.faults source.old }
-    ensures no_write_fault { result ≢ Status.WriteFault → K.faults sink.new ≡ K.faults sink.old }
-    ensures reads_later { S.faults source.old ≤ S.faults source.new }
-    ensures writes_later { K.faults sink.old ≤ K.faults sink.new }
+/// How many partitions there are in a run of the workload.
+const PARTS: u8 = 2;
+
+/// So many partitions, by remainders.
+fn shape_of(parts: u8) -> Shape
+    ensures { result ≡ shape_of (Run parts) }
 {
-    match serve(alloc, Engine::new(alloc), source, sink, story) {
+    Shape {
+        parts,
+        kind: PlaceKind::Remainder,
+    }
+}
+
+/// The decision that was in flight where a run ends so. Where numbers are spent, they tell themselves whether it was made.
+fn flight_at(status: Status, flight: Option<Flight>) -> Option<Flight>
+    ensures { result ≡ flight_at status flight }
+{
+    match status {
+        Status::NumbersSpent { .. } => None,
+        _ => flight,
+    }
+}
+
+/// How a run ends that is done, or stops.
+fn status_behind(done: Result<(), Stop>) -> Status
+    ensures { result ≡ outcome done }
+{
+    match done {
         Ok(()) => Status::Done,
         Err(stop) => status_of(stop),
     }
 }
 
-/// Runs the workload with so many calls, and writes the summary of its story to the sink. Where memory runs out nothing is written.
-fn run_load<K: Sink>(alloc: Global, calls: u64, sink: &mut K, story: &mut Story) -> Status
-    requires least { 1 ≤ calls }
-    requires most { calls ≤ CALLS_MOST }
-    requires untold { story.old ≡ [] }
-    ensures played { IsPlayedLoad result calls story.new }
-    ensures summed { IsSummed result calls story.new (K.held sink.old) (K.held sink.new) }
-    ensures write_fault { result ≡ Status.WriteFault → Rose (K.faults sink.old) (K.faults sink.new) }
-    ensures no_write_fault { result ≢ Status.WriteFault → K.faults sink.new ≡ K.faults sink.old }
-    ensures writes_later { K.faults sink.old ≤ K.faults sink.new }
-{
-    match load(alloc, Engine::new(alloc), calls, story) {
-        Ok(()) => write_summary(calls, sink, story),
-        Err(_) => Status::Memory,
-    }
-}
-
-/// Writes the summary of the workload with so many calls, all of whose lines are done.
-fn write_summary<K: Sink>(calls: u64, sink: &mut K, story: &Story) -> Status
-    requires most { calls ≤ CALLS_MOST }
-    requires played { IsPlayedLoad Status.Done calls story.now }
-    ensures played { IsPlayedLoad result calls story.now }
-    ensures summed { IsSummed result calls story.now (K.held sink.old) (K.held sink.new) }
-    ensures write_fault { result ≡ Status.WriteFault → Rose (K.faults sink.old) (K.faults sink.new) }
-    ensures no_write_fault { result ≢ Status.WriteFault → K.faults sink.new ≡ K.faults sink.old }
-    ensures writes_later { K.faults sink.old ≤ K.faults sink.new }
-{
-    match print_summary(sink, calls, line_count(calls), story.as_slice()) {
-        Ok(()) => Status::Done,
-        Err(_) => Status::WriteFault,
-    }
-}
-
-/// Runs the script of the source, or the workload: what the command says.
-pub fn do_command<S: Source, K: Sink>(
+/// Runs the script of the source over the devices, with so many partitions, and writes its story to the sink.
+pub fn run_script<S: Source, K: Sink, D: Disks, F: Fn(PlaceKind, &Key, u32) -> u32>(
     alloc: Global,
-    command: Command,
+    parts: u8,
     source: &mut S,
     sink: &mut K,
-    story: &mut Story,
-) -> Status
-    requires calls { (calls : ℕ) → command ≡ Load calls → (1 ≤ calls) × (calls ≤ CALLS_MOST) }
-    requires untold { story.old ≡ [] }
-    ensures right { result ≢ Status.Usage }
-    ensures run { command ≡ Run →
-        IsEnded result (S.left source.old) (S.left source.new) (K.held sink.old) story.new (K.held sink.new) }
-    ensures done { command ≡ Run → result ≡ Status.Done → IsAtEnd (S.left source.new) }
-    ensures load { (calls : ℕ) → command ≡ Load calls → (source.new ≡ source.old) × IsPlayedLoad result calls story.new
-        × IsSummed result calls story.new (K.held sink.old) (K.held sink.new) }
-    ensures read_fault { result ≡ Status.ReadFault → Rose (S.faults source.old) (S.faults source.new) }
-    ensures write_fault { result ≡ Status.WriteFault → Rose (K.faults sink.old) (K.faults sink.new) }
-    ensures no_read_fault { result ≢ Status.ReadFault → S.faults source.new ≡ S.faults source.old }
-    ensures no_write_fault { result ≢ Status.WriteFault → K.faults sink.new ≡ K.faults sink.old }
+    disks: &mut D,
+    place: &Placement<F>,
+) -> Ended
+    requires parts { IsParts parts }
+    requires devices { 26 ≤ (D.view disks.old).count }
+    requires settled { AreSettled (D.view disks.old) }
+    requires callable { TakesEachKey (F.pre place.now.place) }
+    requires answers { GivesPlaceOf (F.post place.now.place) }
+    requires promised { (trace : Trace) → IsPlayed trace → WellKept (start_of trace).kept → Promises trace }
+    ensures runs { Runs (Run parts) (D.view disks.old) (D.view disks.new) result.status result.flight
+        (streams (S.left source.old) (S.left source.new) (K.held sink.old) (K.held sink.new)) result.story }
+    ensures right { result.status ≢ Status.Usage }
+    ensures refused { WasRefused (D.view disks.old) (D.view disks.new) (shape_of (Run parts)) result.story result.status }
+    ensures done { result.status ≡ Status.Done → IsAtEnd (S.left source.new) }
+    ensures read_fault { result.status ≡ Status.ReadFault → Rose (S.faults source.old) (S.faults source.new) }
+    ensures write_fault { result.status ≡ Status.WriteFault → Rose (K.faults sink.old) (K.faults sink.new) }
+    ensures no_read_fault { result.status ≢ Status.ReadFault → S.faults source.new ≡ S.faults source.old }
+    ensures no_write_fault { result.status ≢ Status.WriteFault → K.faults sink.new ≡ K.faults sink.old }
     ensures reads_later { S.faults source.old ≤ S.faults source.new }
     ensures writes_later { K.faults sink.old ≤ K.faults sink.new }
+    ensures downs { AreFaultsOf result.status (D.view disks.old).faults result.story (D.view disks.new).faults }
+    ensures stops { result.status ≢ Status.Memory
+        → (D.view disks.old).stops_left + armed_in result.story ≡ stopped_in result.story + (D.view disks.new).stops_left }
+    ensures shape { SameShape (D.view disks.old) (D.view disks.new) }
 {
-    match command {
-        Command::Run => run_script(alloc, source, sink, story),
-        Command::Load(calls) => run_load(alloc, calls, sink, story),
+    let mut story = Items::new(alloc);
+    let mut engine = Engine::new(alloc, Devices::new(alloc, place, shape_of(parts)));
+    let status = status_behind(serve(alloc, &mut engine, disks, source, sink, &mut story));
+    Ended {
+        status,
+        story,
+        flight: flight_at(status, engine.flight()),
+    }
+}
+
+/// Writes the summary of a workload with so many calls, of which so many lines are done, unless memory ran out.
+fn write_summary<K: Sink>(
+    calls: u64,
+    lines: u64,
+    status: Status,
+    sink: &mut K,
+    story: &Story,
+) -> Status
+    requires other { status ≢ Status.WriteFault }
+    ensures summed { IsSummary result (summary_text calls lines story.now) (K.held sink.old) (K.held sink.new) }
+    ensures written { (result ≡ status) ⊎ ((result ≡ Status.WriteFault) × (status ≢ Status.Memory)) }
+    ensures write_fault { result ≡ Status.WriteFault → Rose (K.faults sink.old) (K.faults sink.new) }
+    ensures no_write_fault { result ≢ Status.WriteFault → K.faults sink.new ≡ K.faults sink.old }
+    ensures writes_later { K.faults sink.old ≤ K.faults sink.new }
+{
+    match status {
+        Status::Memory => Status::Memory,
+        _ => match print_summary(sink, calls, lines, story.as_slice()) {
+            Ok(()) => status,
+            Err(_) => Status::WriteFault,
+        },
+    }
+}
+
+/// Runs the workload with so many calls over the devices, and writes the summary of its story to the sink.
+pub fn run_load<K: Sink, D: Disks, F: Fn(PlaceKind, &Key, u32) -> u32>(
+    alloc: Global,
+    calls: u64,
+    sink: &mut K,
+    disks: &mut D,
+    place: &Placement<F>,
+) -> Ended
+    requires least { 1 ≤ calls }
+    requires most { calls ≤ CALLS_MOST }
+    requires devices { 26 ≤ (D.view disks.old).count }
+    requires settled { AreSettled (D.view disks.old) }
+    requires callable { TakesEachKey (F.pre place.now.place) }
+    requires answers { GivesPlaceOf (F.post place.now.place) }
+    requires promised { (trace : Trace) → IsPlayed trace → WellKept (start_of trace).kept → Promises trace }
+    ensures runs { (left : Option (List ℕ)) → Runs (Load calls) (D.view disks.old) (D.view disks.new) result.status result.flight
+        (streams left left (K.held sink.old) (K.held sink.new)) result.story }
+    ensures right { result.status ≢ Status.Usage }
+    ensures unread { result.status ≢ Status.ReadFault }
+    ensures refused { WasRefused (D.view disks.old) (D.view disks.new) (shape_of (Load calls)) result.story result.status }
+    ensures write_fault { result.status ≡ Status.WriteFault → Rose (K.faults sink.old) (K.faults sink.new) }
+    ensures no_write_fault { result.status ≢ Status.WriteFault → K.faults sink.new ≡ K.faults sink.old }
+    ensures writes_later { K.faults sink.old ≤ K.faults sink.new }
+    ensures downs { AreFaultsOf result.status (D.view disks.old).faults result.story (D.view disks.new).faults }
+    ensures stops { result.status ≢ Status.Memory
+        → (D.view disks.old).stops_left + armed_in result.story ≡ stopped_in result.story + (D.view disks.new).stops_left }
+    ensures shape { SameShape (D.view disks.old) (D.view disks.new) }
+{
+    let mut story = Items::new(alloc);
+    let mut engine = Engine::new(alloc, Devices::new(alloc, place, shape_of(PARTS)));
+    let Loaded { lines, done } = load(alloc, &mut engine, disks, calls, &mut story);
+    let written = write_summary(calls, lines, status_behind(done), sink, &story);
+    Ended {
+        status: written,
+        story,
+        flight: flight_at(written, engine.flight()),
     }
 }

@@ -1,33 +1,65 @@
-use Rattle.salt_run.proofs.EndedRuns.{ended-load, ended-run, load-at, none-said, run-at, same-said}
+use Rattle.salt_run.proofs.Commanded.{of-each}
+use Rattle.salt_run.proofs.Completes.{completes}
+use Rattle.salt_run.proofs.Said.{command-within}
 use Rattle.salt_run.proofs.command.run.Goals as goal
-use Rattle.salt_run.proofs.command.run.Goals.{in-None, in-Some}
-use Rattle.salt_run.specs.Words.{command_of}
-use Rattle.salt_run.specs.declared.words.Command.TheVariants.{Load, Run}
-use Rattle.std.proofs.Common.{ap, sym, ◌∙◌}
+use Rattle.salt_run.specs.Completing.{MeetsNothing}
+use Rattle.salt_run.specs.Doing.{streams}
+use Rattle.salt_serving.specs.declared.status.Status.TheVariants.{Done, Memory}
+use Rattle.salt_words.specs.Words.{command_of}
+use Rattle.salt_words.specs.declared.command.Command.TheVariants.{Load, Run}
+use Rattle.salt_words.specs.declared.command.Command.{Command}
+use Rattle.std.proofs.Common.{Some, ◌≡◌, ◌⊎◌}
 
-pub returns-clause-played : goal.returns-clause-played
-returns-clause-played g c = λ said.
+pub run_script-requires-clause-parts : goal.run_script-requires-clause-parts
+run_script-requires-clause-parts g c =
+    let a = c.in-Some-Run.is in
+    let b = c.in-Some-Run.ensures in
+    let x = c.in-Some-Run.field-0-is in
+    let y = c.in-Some-Run.parts-is in
+    let is : command_of c.args.words.now ≡ Some (Run c.in-Some-Run.parts) = cc in
+    command-within c.args.words.now (Run c.in-Some-Run.parts) is
+
+pub returns-in-Some-Run-clause-completes : goal.returns-in-Some-Run-clause-completes
+returns-in-Some-Run-clause-completes g c command also =
+    let a = c.in-Some-Run.is in
+    let b = c.in-Some-Run.ensures in
+    let x = c.in-Some-Run.field-0-is in
+    let y = c.in-Some-Run.parts-is in
+    let mine = Run c.in-Some-Run.parts in
+    let is : command_of c.args.words.now ≡ Some (Run c.in-Some-Run.parts) = cc in
+    let d = g.D.Disks.view c.args.disks.now in
+    let e = g.D.Disks.view c.run_script.new.disks in
+    let r = c.run_script.result in
+    let h = c.run_script.ensures in
+    let reads = g.S.Source.faults c.args.source.now in
+    let reads_now = g.S.Source.faults c.run_script.new.source in
+    let writes = g.K.Sink.faults c.args.sink.now in
+    let writes_now = g.K.Sink.faults c.run_script.new.sink in
     let script = g.S.Source.left c.args.source.now in
-    let before = g.K.Sink.held c.args.sink.now in
-    elim c.match-command_in.branch [
-      | in-Some w ↦
-          let d = w.do_command-status in
-          let is = same-said (command_of c.args.words.now) w.in-Some.command Run (sym c.command_in.ensures ∙ w.in-Some.is) said in
-          run-at script before d.result _ (g.S.Source.left d.new.source) _ d.new.story _ (g.K.Sink.held d.new.sink) _ w.status-is (ap g.S.Source.left w.source-is) w.story-is (ap g.K.Sink.held w.sink-is)
-          (ended-run c.told_keeps_promises.ensures script before d.result (g.S.Source.left d.new.source) d.new.story (g.K.Sink.held d.new.sink) (d.ensures.run is))
-      | in-None w ↦ absurd (none-said (command_of c.args.words.now) Run (sym c.command_in.ensures ∙ w.in-None.is) said)
-    ]
+    let s = streams script (g.S.Source.left c.run_script.new.source) (g.K.Sink.held c.args.sink.now) (g.K.Sink.held c.run_script.new.sink) in
+    of-each (λ (k : Command). MeetsNothing k d e reads reads_now writes writes_now script r.story → (r.status ≡ Done) ⊎ (r.status ≡ Memory)) (command_of c.args.words.now) mine is
+    (λ m. completes mine (command-within c.args.words.now mine is) d e h.shape c.requires.devices reads reads_now writes writes_now r.flight s r.story m r.status h.right h.read_fault h.write_fault h.downs
+    h.refused h.runs)
+    command also
 
-pub returns-clause-loaded : goal.returns-clause-loaded
-returns-clause-loaded g c = λ calls said.
-    let before = g.K.Sink.held c.args.sink.now in
-    elim c.match-command_in.branch [
-      | in-Some w ↦
-          let d = w.do_command-status in
-          let is = same-said (command_of c.args.words.now) w.in-Some.command (Load calls) (sym c.command_in.ensures ∙ w.in-Some.is) said in
-          let l = d.ensures.load calls is in
-          let loaded = load-at calls before d.result _ d.new.story _ (g.K.Sink.held d.new.sink) _ w.status-is w.story-is (ap g.K.Sink.held w.sink-is)
-          (ended-load c.told_keeps_promises.ensures calls before d.result d.new.story (g.K.Sink.held d.new.sink) l.1 l.2) in
-          (w.source-is ∙ l.0, loaded.0, loaded.1, loaded.2)
-      | in-None w ↦ absurd (none-said (command_of c.args.words.now) (Load calls) (sym c.command_in.ensures ∙ w.in-None.is) said)
-    ]
+pub returns-in-Some-Load-clause-completes : goal.returns-in-Some-Load-clause-completes
+returns-in-Some-Load-clause-completes g c command also =
+    let a = c.in-Some-Load.is in
+    let b = c.in-Some-Load.ensures in
+    let x = c.in-Some-Load.field-0-is in
+    let y = c.in-Some-Load.calls-is in
+    let mine = Load c.in-Some-Load.calls in
+    let is : command_of c.args.words.now ≡ Some (Load c.in-Some-Load.calls) = cc in
+    let d = g.D.Disks.view c.args.disks.now in
+    let e = g.D.Disks.view c.run_load.new.disks in
+    let r = c.run_load.result in
+    let h = c.run_load.ensures in
+    let reads = g.S.Source.faults c.args.source.now in
+    let writes = g.K.Sink.faults c.args.sink.now in
+    let writes_now = g.K.Sink.faults c.run_load.new.sink in
+    let script = g.S.Source.left c.args.source.now in
+    let s = streams script script (g.K.Sink.held c.args.sink.now) (g.K.Sink.held c.run_load.new.sink) in
+    of-each (λ (k : Command). MeetsNothing k d e reads reads writes writes_now script r.story → (r.status ≡ Done) ⊎ (r.status ≡ Memory)) (command_of c.args.words.now) mine is
+    (λ m. completes mine (command-within c.args.words.now mine is) d e h.shape c.requires.devices reads reads writes writes_now r.flight s r.story m r.status h.right (λ read. absurd (h.unread read)) h.write_fault
+    h.downs h.refused (h.runs script))
+    command also

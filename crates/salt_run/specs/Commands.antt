@@ -1,0 +1,14 @@
+-- What a command asks for.
+use Rattle.salt_values.specs.declared.placement.PlaceKind.TheVariants.{Remainder}
+use Rattle.salt_values.specs.declared.placement.Shape.{Shape}
+use Rattle.salt_words.specs.declared.command.Command.TheVariants.{Load, Run}
+use Rattle.salt_words.specs.declared.command.Command.{Command}
+use Rattle.std.specs.Prelude.{ℕ}
+
+abbrev pub parts_of : Command → ℕ
+parts_of (Run parts) = parts
+parts_of (Load calls) = 2
+
+-- the shape of the devices that a command asks for
+abbrev pub shape_of : Command → Shape
+shape_of command = record { parts = parts_of command; kind = Remainder }

@@ -1,0 +1,31 @@
+-- What a command does: the lines of its trace, and what is written of it.
+use Rattle.salt_model.specs.Lines.{AskInOrder}
+use Rattle.salt_model.specs.Trace.{Trace, lines_of}
+use Rattle.salt_run.specs.Summing.{IsSummed}
+use Rattle.salt_serving.specs.Loading.{AreLoadLines}
+use Rattle.salt_serving.specs.Run.{AreLinesOf, IsTold}
+use Rattle.salt_serving.specs.declared.status.Status.{Status}
+use Rattle.salt_words.specs.declared.command.Command.TheVariants.{Load, Run}
+use Rattle.salt_words.specs.declared.command.Command.{Command}
+use Rattle.std.specs.Prelude.{List, Option, ℕ}
+
+-- the bytes that a source tells, at first and at last, and those that a sink held and holds
+pub record Streams : Type 0 where
+  pub script : Option (List ℕ)
+  pub left : Option (List ℕ)
+  pub before : Option (List ℕ)
+  pub now : Option (List ℕ)
+
+-- the lines of a trace are what the lines of the script ask that were done
+pub record DoesLines (status : Status) (script left : Option (List ℕ)) (trace : Trace) : Type 0 where
+  pub texts : List (List ℕ)
+  pub reads : AskInOrder texts (lines_of trace)
+  pub lines : AreLinesOf status script left texts
+
+-- a run does the lines of the script, and writes its story; a load does those of the workload, and writes the summary
+abbrev pub Does : Command → Status → Streams → Trace → Type 0
+Does (Run parts) status s trace = DoesLines status s.script s.left trace × IsTold status s.before trace s.now
+Does (Load calls) status s trace = AreLoadLines status calls (lines_of trace) × IsSummed status calls trace s.before s.now
+
+abbrev pub streams : (script left before now : Option (List ℕ)) → Streams
+streams script left before now = record { script = script; left = left; before = before; now = now }
