@@ -3,4 +3,3 @@ pub mod Found
 pub mod Made
 pub mod Moving
 pub mod Replaced
-pub mod Rows

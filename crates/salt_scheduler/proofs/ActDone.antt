@@ -33,7 +33,7 @@ use Rattle.salt_values.specs.declared.id.Id.{Id}
 use Rattle.salt_watch.specs.Waiters.{waiter_of}
 use Rattle.salt_watch.specs.Watched.{GoesBy, IsWatch}
 use Rattle.std.proofs.Common.{ap, subst, sym, ◌∙◌}
-use Rattle.std.specs.Prelude.{List, None, Option, Some, [], option_and_then, option_map, refl, ◌∷◌, ◌≡◌}
+use Rattle.std.specs.Prelude.{List, Option, Some, [], option_and_then, option_map, refl, ◌∷◌, ◌≡◌}
 
 -- the facts that a call of the watch asks for
 pub did-base : (s : UnitState) (a : Asking) (answer : Answer) (o : OpenUnit) → IsAskedBy a s o →
@@ -100,24 +100,16 @@ wait-gives x new a owners s o given stands asked told books watch same follow =
           (λ b i. subst (In b) (first-same a.unit (waiting_by s.units.line) s.units.units (λ o. refl)) i));
     }))
 
--- what a turn brings of a unit that asks, and of one that does not
+-- what a turn brings of a unit that asks
 
 pub turn-asked : (s : UnitState) (clash : Clashes) (u : Id) (o : OpenUnit) (st : Statement) (owners : List Owner) → unit_named u s.units ≡ Some o →
     asks_next s o ≡ Some st → owners ≡ clash o st → turn_of_in s clash (unit_named u s.units) ≡ Some (asks_in s o st owners)
 turn-asked s clash u o st owners named asks clashes =
     ap (turn_of_in s clash) named ∙ ap (option_map (λ st. asks_in s o st (clash o st))) asks ∙ ap (λ os. Some (asks_in s o st os)) (sym clashes)
 
-pub turn-none : (s : UnitState) (clash : Clashes) (o : Option OpenUnit) → option_and_then (asks_next s) o ≡ None → turn_of_in s clash o ≡ None
-turn-none s clash None h = refl
-turn-none s clash (Some o) h = ap (option_map (λ st. asks_in s o st (clash o st))) h
-
 pub serve-asked : (s : UnitState) (u : Id) (o : OpenUnit) (st : Statement) → unit_named u s.units ≡ Some o → asks_next s o ≡ Some st →
     option_and_then (serve_in s) (unit_named u s.units) ≡ Some (does_in s o st)
 serve-asked s u o st named asks = ap (option_and_then (serve_in s)) named ∙ ap (option_map (does_in s o)) asks
-
-pub serve-none : (s : UnitState) (o : Option OpenUnit) → option_and_then (asks_next s) o ≡ None → option_and_then (serve_in s) o ≡ None
-serve-none s None h = refl
-serve-none s (Some o) h = ap (option_map (does_in s o)) h
 
 -- what is asked is to be done
 
