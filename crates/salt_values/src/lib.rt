@@ -7,6 +7,7 @@ mod copy;
 mod id;
 pub mod limits;
 mod placement;
+mod steps;
 mod text;
 mod value;
 
@@ -15,6 +16,7 @@ pub use cont::{Cont, Conts};
 pub use copy::TryCopy;
 pub use id::{Id, Ids};
 pub use placement::{PlaceKind, Placement, Shape, place_of};
+pub use steps::Steps;
 pub use text::{Text, TextErr};
 pub use value::{Bytes, Key, Name, Names, Row, Rows, Value};
 
