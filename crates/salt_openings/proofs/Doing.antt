@@ -27,7 +27,7 @@ use Rattle.salt_openings.proofs.OneState.{one-state}
 use Rattle.salt_openings.proofs.Opening.{said-last, serves-not}
 use Rattle.salt_openings.proofs.Standing.{comes-weaker, decided, stands-at, told-opened, told-within}
 use Rattle.salt_openings.proofs.Staying.{can-stay}
-use Rattle.salt_openings.specs.Draining.{CanDrain, IsBehindFlight, LeadsOn, Stands, defined_in, rests_of, statements_in, statements_left, statements_told}
+use Rattle.salt_openings.specs.Draining.{CanDrain, IsBehindFlight, LeadsOn, Stands, defined_in, rests_behind, rests_of, statements_at, statements_in, statements_left, statements_told}
 use Rattle.std.proofs.Common.{ap, arith, inl, inr, subst, sym, ◌∙◌}
 use Rattle.std.specs.Bool.{then_some}
 use Rattle.std.specs.Prelude.{Bool, List, None, Option, Some, [], false, refl, true, ℕ, ◌+◌, ◌==◌, ◌∷◌, ◌≡◌, ◌≤◌, ◌⊎◌}
@@ -124,13 +124,37 @@ serves-through (m ∷ ms) p q r h = serves-through ms r.0 q r.2 (serves-on m p r
 not-both : {A : Type 0} (p : Point) → p.state.units.phase ≡ Opening → p.state.units.phase ≡ Serving → A
 not-both p h g = cc
 
-pub does-no-more : (ms : List Move) (old new : Point) (trace : Trace) → KeepsPoint old trace → IsSound trace → CanDrain old.state.units.kept →
-    old.state.units.phase ≡ Opening → IsBehindFlight trace old.next → Runs old ms new → new.state.units.phase ≡ Opening →
-    statements_left new.state.units + statements_told (told_by ms) ≤ statements_left old.state.units
-does-no-more [] old new trace k sound can h q r g = subst (λ (p : Point). statements_left p.state.units + 0 ≤ statements_left old.state.units) r (omega arith)
-does-no-more (Ask asked ∷ ms) old new trace k sound can h q r g = not-both old h r.1.idle.serves
-does-no-more (Turn b ∷ ms) old new trace k sound can h q r g = not-both old h r.1.serves
-does-no-more (Say e ∷ ms) old new trace k sound can h q r g =
+pub left-most : (s : UnitState) → statements_left s ≤ rests_of (programs_of s.kept) s.kept.conts
+left-most s = omega arith
+
+-- within an opening each point is in it
+mid-opens : (e : Event) (ms : List Move) (old mid new : Point) → Moves (Say e) old mid → old.state.units.phase ≡ Opening → Runs mid ms new → new.state.units.phase ≡ Opening →
+    mid.state.units.phase ≡ Opening
+mid-opens e ms old mid new m h r g = by (phase-on e old.state.units m.1)
+  where
+    after : mid.state.units.phase ≡ (units_after e old.state.units).phase
+    after = ap (λ (s : UnitState). s.phase) m.0.after.units
+
+    by : ((units_after e old.state.units).phase ≡ old.state.units.phase) ⊎ ((units_after e old.state.units).phase ≡ Serving) → mid.state.units.phase ≡ Opening
+    by (inl x) = after ∙ x ∙ h
+    by (inr x) = not-both new g (serves-through ms mid new r (after ∙ x))
+
+-- where a run within an opening has come to, and what it has done
+record Drained (ms : List Move) (old new : Point) : Type 0 where
+  trace : Trace
+  keeps : KeepsPoint new trace
+  sound : IsSound trace
+  can : CanDrain new.state.units.kept
+  behind : IsBehindFlight trace new.next
+  less : statements_left new.state.units + statements_told (told_by ms) ≤ statements_left old.state.units
+
+drained : (ms : List Move) (old new : Point) (trace : Trace) → KeepsPoint old trace → IsSound trace → CanDrain old.state.units.kept →
+    old.state.units.phase ≡ Opening → IsBehindFlight trace old.next → Runs old ms new → new.state.units.phase ≡ Opening → Drained ms old new
+drained [] old new trace k sound can h q r g =
+    subst (Drained [] old) r (record { trace = trace; keeps = k; sound = sound; can = can; behind = q; less = omega arith })
+drained (Ask asked ∷ ms) old new trace k sound can h q r g = not-both old h r.1.idle.serves
+drained (Turn b ∷ ms) old new trace k sound can h q r g = not-both old h r.1.serves
+drained (Say e ∷ ms) old new trace k sound can h q r g =
     let mid = r.0 in
     let said : Says e old mid = r.1.0 in
     let on = says-point e old mid trace k sound said r.1.1 in
@@ -139,22 +163,64 @@ does-no-more (Say e ∷ ms) old new trace k sound can h q r g =
     let left = goes.1.statements can in
     let after : CanDrain (units_after e old.state.units).kept = can-stay old.state.units trace e k.state.units on.1 can (none-defined old.state.units e goes.1.defines) in
     let here : CanDrain mid.state.units.kept = subst (λ (s : UnitState). CanDrain s.kept) (sym said.after.units) after in
-    let phase_here : (mid.state.units.phase ≡ Opening) ⊎ (mid.state.units.phase ≡ Serving) = by mid said.after.units (phase-on e old.state.units r.1.1) in
-    let rest = through (λ x. does-no-more ms mid new (trace says e) on.0 on.1 here x (inl (said-last trace e r.1.1)) r.2 g) phase_here in
+    let rest = drained ms mid new (trace says e) on.0 on.1 here (mid-opens e ms old mid new r.1 h r.2 g) (inl (said-last trace e r.1.1)) r.2 g in
     let same = ap statements_left said.after.units in
-    omega arith
+    let less = rest.less in
+    record { trace = rest.trace; keeps = rest.keeps; sound = rest.sound; can = rest.can; behind = rest.behind; less = omega arith }
+
+pub does-no-more : (ms : List Move) (old new : Point) (trace : Trace) → KeepsPoint old trace → IsSound trace → CanDrain old.state.units.kept →
+    old.state.units.phase ≡ Opening → IsBehindFlight trace old.next → Runs old ms new → new.state.units.phase ≡ Opening →
+    statements_left new.state.units + statements_told (told_by ms) ≤ statements_left old.state.units
+does-no-more ms old new trace k sound can h q r g = (drained ms old new trace k sound can h q r g).less
+
+-- what comes next may stand
+next-may : (trace : Trace) (e : Event) → is_of_run e ≡ false → next trace ≡ Some e → May trace e
+next-may trace (Down why) r m = cc
+next-may trace (Opened boot n) r m = cc
+next-may trace e r m = m
+
+idle-of-run : (e : Event) → is_of_run e ≡ true → statements_in e ≡ 0
+idle-of-run (Down why) r = refl
+idle-of-run (Opened boot n) r = refl
+idle-of-run e r = cc
+
+-- nor with the event at hand
+does-no-more-next : (ms : List Move) (old new : Point) (trace : Trace) (e : Event) → KeepsPoint old trace → IsSound trace → CanDrain old.state.units.kept →
+    old.state.units.phase ≡ Opening → IsBehindFlight trace old.next → Runs old ms new → new.state.units.phase ≡ Opening → new.next ≡ Some e →
+    statements_told (told_by ms) + statements_in e ≤ statements_left old.state.units
+does-no-more-next ms old new trace e k sound can h q r g comes = by (is_of_run e) refl
   where
-    by : (mid : Point) → mid.state.units ≡ units_after e old.state.units →
-        ((units_after e old.state.units).phase ≡ old.state.units.phase) ⊎ ((units_after e old.state.units).phase ≡ Serving) →
-        (mid.state.units.phase ≡ Opening) ⊎ (mid.state.units.phase ≡ Serving)
-    by mid a (inl x) = inl (ap (λ (s : UnitState). s.phase) a ∙ x ∙ h)
-    by mid a (inr x) = inr (ap (λ (s : UnitState). s.phase) a ∙ x)
+    d : Drained ms old new
+    d = drained ms old new trace k sound can h q r g
 
-    through : (r.0.state.units.phase ≡ Opening → statements_left new.state.units + statements_told (told_by ms) ≤ statements_left r.0.state.units) →
-        (r.0.state.units.phase ≡ Opening) ⊎ (r.0.state.units.phase ≡ Serving) →
-        statements_left new.state.units + statements_told (told_by ms) ≤ statements_left r.0.state.units
-    through more (inl x) = more x
-    through more (inr x) = not-both new g (serves-through ms r.0 new r.2 x)
+    by : (b : Bool) → is_of_run e ≡ b → statements_told (told_by ms) + statements_in e ≤ statements_left old.state.units
+    by true run = let none = idle-of-run e run in let less = d.less in omega arith
+    by false plain =
+        let here : IsSound (d.trace says e) = record { played = (d.sound.played, next-may d.trace e plain (d.keeps.next ∙ comes)); well = d.sound.well } in
+        let last = statements-fall e new.state.units d.trace d.keeps.state.units here plain g (subst (IsBehindFlight d.trace) comes d.behind) d.can in
+        let less = d.less in
+        omega arith
 
-pub left-most : (s : UnitState) → statements_left s ≤ rests_of (programs_of s.kept) s.kept.conts
-left-most s = omega arith
+-- from what comes next in an opening on, also the decision in flight
+pub does-its-rests : (ms : List Move) (old new : Point) (trace : Trace) (first e : Event) → KeepsPoint old trace → IsSound trace → old.state.units.phase ≡ Opening →
+    old.next ≡ Some first → CanDrain (units_after first old.state.units).kept → Runs old ms new → new.state.units.phase ≡ Opening → new.next ≡ Some e →
+    statements_told (told_by ms) + statements_in e ≤ rests_behind first old.state.units + statements_in first
+does-its-rests [] old new trace first e k sound h comes can r g at =
+    let both : Some first ≡ Some e = sym comes ∙ ap (λ (p : Point). p.next) r ∙ at in
+    let same = ap statements_at both in
+    omega arith
+does-its-rests (Ask asked ∷ ms) old new trace first e k sound h comes can r g at = not-both old h r.1.idle.serves
+does-its-rests (Turn b ∷ ms) old new trace first e k sound h comes can r g at = not-both old h r.1.serves
+does-its-rests (Say f ∷ ms) old new trace first e k sound h comes can r g at =
+    let mid = r.0 in
+    let said : Says f old mid = r.1.0 in
+    let on = says-point f old mid trace k sound said r.1.1 in
+    let same : first ≡ f = let both : Some first ≡ Some f = sym comes ∙ said.comes in cc in
+    let after : mid.state.units ≡ units_after first old.state.units = said.after.units ∙ ap (λ x. units_after x old.state.units) (sym same) in
+    let here : CanDrain mid.state.units.kept = subst (λ (s : UnitState). CanDrain s.kept) (sym after) can in
+    let rest = does-no-more-next ms mid new (trace says f) e on.0 on.1 here (mid-opens f ms old mid new r.1 h r.2 g) (inl (said-last trace f r.1.1)) r.2 g at in
+    let most = left-most mid.state.units in
+    let rests : rests_of (programs_of mid.state.units.kept) mid.state.units.kept.conts ≡ rests_behind first old.state.units =
+    ap (λ (s : UnitState). rests_of (programs_of s.kept) s.kept.conts) after in
+    let done = ap statements_in same in
+    omega arith

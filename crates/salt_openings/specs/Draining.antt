@@ -46,6 +46,10 @@ abbrev pub rests_of : List ProgramDef → List Cont → ℕ
 rests_of ps [] = 0
 rests_of ps (c ∷ cs) = rest_of_cont ps c + rests_of ps cs
 
+-- the rests of the programs that go on behind this event
+abbrev pub rests_behind : Event → UnitState → ℕ
+rests_behind e s = let k = (units_after e s).kept in rests_of (programs_of k) k.conts
+
 -- a unit of an earlier boot
 abbrev pub is_earlier : ℕ → OpenUnit → Bool
 is_earlier boot o = nat_lt o.unit.boot boot
@@ -80,6 +84,11 @@ left_to_open s (Some e) = 8 * (units_to_cut (units_after e s) + statements_left 
 abbrev pub statements_in : Event → ℕ
 statements_in (Did u st answer) = 1
 statements_in e = 0
+
+-- the same of the event at hand, if there is one
+abbrev pub statements_at : Option Event → ℕ
+statements_at None = 0
+statements_at (Some e) = statements_in e
 
 abbrev pub cuts_in : Event → ℕ
 cuts_in (Ended u Cut) = 1

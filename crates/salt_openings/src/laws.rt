@@ -19,7 +19,7 @@ ghost use Rattle.salt_model.specs.declared.events.Event.TheVariants.{Down, Opene
 ghost use Rattle.salt_model.specs.declared.events.Why.TheVariants.{Stopped};
 ghost use Rattle.salt_model.specs.declared.events.Why.{Why};
 ghost use Rattle.salt_model.specs.Words.{Every};
-ghost use Rattle.salt_openings.specs.Draining.{CanDrain, IsBehindFlight, LeadsOn, Stands, defined_in, left_to_open, rests_of};
+ghost use Rattle.salt_openings.specs.Draining.{CanDrain, IsBehindFlight, LeadsOn, Stands, defined_in, left_to_open, rests_behind, rests_of};
 ghost use Rattle.salt_openings.specs.Draining.{statements_in, statements_left, statements_told};
 ghost use Rattle.salt_openings.specs.Openings.{FallsAgain, FallsInOpening, Leaves, Opens};
 ghost use Rattle.std.specs.Prelude.{IsSome, List, None, Option, Some, [], false, ℕ, ◌+◌, ◌<◌, ◌≡◌, ◌≤◌, ◌⊎◌};
@@ -95,7 +95,8 @@ pub fn drains_go_on()
         left_to_open new.state.units new.next < left_to_open old.state.units old.next }
 {}
 
-/// Behind the decision in flight an opening does no more statements than the rests of its continuations tell.
+/// Behind the decision in flight an opening does no more statements than the rests of its continuations tell; with the one at hand,
+/// and from what comes next on, whatever was in flight.
 pub fn drains_do_their_rests()
     ensures one { (e : Event) (s : UnitState) (trace : Trace) → KeepsUnits s trace → IsSound (trace says e) → is_of_run e ≡ false →
         s.phase ≡ Opening → IsBehindFlight trace (Some e) → CanDrain s.kept →
@@ -104,6 +105,10 @@ pub fn drains_do_their_rests()
         CanDrain old.state.units.kept → old.state.units.phase ≡ Opening → IsBehindFlight trace old.next → Runs old ms new →
         new.state.units.phase ≡ Opening →
         statements_left new.state.units + statements_told (told_by ms) ≤ statements_left old.state.units }
+    ensures next { (ms : List Move) (old new : Point) (trace : Trace) (first e : Event) → KeepsPoint old trace → IsSound trace →
+        old.state.units.phase ≡ Opening → old.next ≡ Some first → CanDrain (units_after first old.state.units).kept → Runs old ms new →
+        new.state.units.phase ≡ Opening → new.next ≡ Some e →
+        statements_told (told_by ms) + statements_in e ≤ rests_behind first old.state.units + statements_in first }
     ensures most { (s : UnitState) → statements_left s ≤ rests_of (programs_of s.kept) s.kept.conts }
 {}
 
