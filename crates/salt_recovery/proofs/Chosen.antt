@@ -6,7 +6,6 @@ use Rattle.salt_keeps.specs.Follows.{cut_in, cuts_or_drains_in, drains_in}
 use Rattle.salt_keeps.specs.OpenUnits.{UnitState}
 use Rattle.salt_keeps.specs.Told.{begins_in, finishes_in, serve_in}
 use Rattle.salt_model.specs.Kept.{cont_of}
-use Rattle.salt_model.specs.Next.{decision_in}
 use Rattle.salt_model.specs.Words.{first_of_list, is_empty}
 use Rattle.salt_model.specs.declared.events.Cause.{Cause}
 use Rattle.salt_model.specs.declared.events.End.TheVariants.{Cut}
@@ -15,7 +14,7 @@ use Rattle.salt_model.specs.declared.events.UnitKind.TheVariants.{Later}
 use Rattle.salt_recovery.proofs.Asked.{asked-alike, serves-asked, unlined}
 use Rattle.salt_books.proofs.Named.{done-branched}
 use Rattle.salt_recovery.specs.Follows.{rest_in}
-use Rattle.salt_recovery.specs.Recovering.{IsPartIfOpen, IsRecovering}
+use Rattle.salt_recovery.specs.Recovering.{IsPartIfOpen, IsPlain, IsRecovering}
 use Rattle.salt_values.specs.declared.cont.Cont.{Cont}
 use Rattle.salt_values.specs.declared.id.Id.{Id}
 use Rattle.std.proofs.Common.{Bor, arith}
@@ -36,28 +35,28 @@ use Rattle.std.specs.Prelude.{None, Option, Some, is_some, refl, true, ◌≡◌
 pub still-stands : (s : State) (a : Option Event) (x : Recovery) (c : Coming) → Brings s a x c → c ≡ coming.Nothing → Stands x s
 still-stands s a x c h e = (subst (λ (c : Coming). IsReady x s c) e h.ready).0
 
--- an event that no decision makes is given
-pub told : (s : State) (want : Option Event) (x : Recovery) (e : Event) → decision_in want ≡ None → Gives s want x (Some e) → Brings s want x (coming.Told e)
-told s want x e plain h = record { meant = h.told; ready = (h.done, ap decision_in h.told ∙ plain) }
+-- an event for which nothing is asked is given
+pub told : (s : State) (want : Option Event) (x : Recovery) (e : Event) → IsPlain want → Gives s want x (Some e) → Brings s want x (coming.Told e)
+told s want x e plain h = record { meant = h.told; ready = (h.done, subst IsPlain (sym h.told) plain) }
 
-pub rest-plain : (s : UnitState) → decision_in (rest_in s) ≡ None
+pub rest-plain : (s : UnitState) → IsPlain (rest_in s)
 rest-plain s = by (cut_in s)
   where
-    drains : (b : Bool) (cs : List Cont) → decision_in (then_some b (drains_in s cs)) ≡ None
-    drains true [] = refl
-    drains true (c ∷ cs) = refl
-    drains false cs = refl
+    drains : (b : Bool) (cs : List Cont) → IsPlain (then_some b (drains_in s cs))
+    drains true [] = (refl, refl)
+    drains true (c ∷ cs) = (refl, refl)
+    drains false cs = (refl, refl)
 
-    by : (us : List Id) → decision_in (cuts_or_drains_in s us) ≡ None
-    by (u ∷ us) = refl
+    by : (us : List Id) → IsPlain (cuts_or_drains_in s us)
+    by (u ∷ us) = (refl, refl)
     by [] = drains (is_empty s.units) s.kept.conts
 
-pub finish-plain : (s : UnitState) (b : Id) → decision_in (finishes_in s b) ≡ None
+pub finish-plain : (s : UnitState) (b : Id) → IsPlain (finishes_in s b)
 finish-plain s b = by (is_none (cont_of b s.kept))
   where
-    by : (t : Bool) → decision_in (then_some t (Finished b)) ≡ None
-    by true = refl
-    by false = refl
+    by : (t : Bool) → IsPlain (then_some t (Finished b))
+    by true = (refl, refl)
+    by false = (refl, refl)
 
 pub nothing : (s : State) (want : Option Event) (x : Recovery) → want ≡ None → Stands x s → Brings s want x coming.Nothing
 nothing s want x e h = record { meant = sym e; ready = (h, tt) }

@@ -14,6 +14,7 @@ use Rattle.salt_model.specs.Turns.{is_statement_line}
 use Rattle.salt_model.specs.declared.events.Event.TheVariants.{Ready}
 use Rattle.salt_model.specs.declared.events.Event.{Event}
 use Rattle.salt_model.specs.declared.events.UnitKind.TheVariants.{Later}
+use Rattle.salt_openings.specs.Draining.{statements_at}
 use Rattle.salt_recovery.specs.Follows.{FollowsOn}
 use Rattle.salt_recovery.specs.declared.behind.Behind.TheVariants.{Done, Turn}
 use Rattle.salt_recovery.specs.declared.behind.Behind.{Behind}
@@ -75,9 +76,13 @@ abbrev pub CanGoOn : Coming → UnitState → Type 0
 CanGoOn (coming.Act a) s = (o : OpenUnit) × IsAskedBy a s o × IsOfPart o
 CanGoOn c s = CanCome c s
 
--- it is done where it is an event that is done, which no decision makes; else nothing is
+-- nothing is asked for it: no decision makes it, and it does no statement
+abbrev pub IsPlain : Option Event → Type 0
+IsPlain want = (decision_in want ≡ None) × (statements_at want ≡ 0)
+
+-- it is done where it is an event that is done, for which nothing is asked; else nothing is
 abbrev pub IsReady : Recovery → State → Coming → Type 0
-IsReady x s (coming.Told e) = Sees x (Some e) s × (decision_in (Some e) ≡ None)
+IsReady x s (coming.Told e) = Sees x (Some e) s × IsPlain (Some e)
 IsReady x s c = Stands x s × CanGoOn c s.units
 
 -- what is to come is what the state tells

@@ -18,7 +18,7 @@ ghost use Rattle.salt_model.specs.declared.events.UnitKind.TheVariants.{Later};
 ghost use Rattle.salt_program.specs.Refusals.{parts_in, program_refusal};
 ghost use Rattle.salt_schema.specs.Refusals.{table_refusal};
 ghost use Rattle.salt_units.specs.Acting.{leaves_keys};
-ghost use Rattle.std.specs.Prelude.{IfOk, None, Some, length, true, ℕ, ◌<◌, ◌^◌, ◌≡◌};
+ghost use Rattle.std.specs.Prelude.{IfOk, None, Some, length, true, ℕ, ◌+◌, ◌<◌, ◌^◌, ◌≡◌};
 
 use crate::behind::{Behind, behind_commit};
 use crate::recovery::Recovery;
@@ -27,19 +27,27 @@ use salt_books::{Asking, cause_of};
 use salt_cont::Move;
 use salt_eval::Tables;
 use salt_model::{Cause, End, Event};
-use salt_values::Id;
+use salt_values::{Id, Steps};
 use std::alloc::AllocError;
+use std::sync::ledger::Ledger;
 
 impl Recovery {
     ghost use Rattle.salt_recovery.specs.Recovering.{Gives, IsOfPart, IsRecovering, Stands};
 
-    /// A unit that goes on with a program does the statement that it asks for, over the rows that this reaches.
-    pub fn done(&mut self, asking: Asking, rows: &Tables) -> Result<Event, AllocError>
+    /// A unit that goes on with a program does the statement that it asks for, over the rows that this reaches: one step, whatever it
+    /// answers.
+    pub fn done<L: Ledger>(
+        &mut self,
+        asking: Asking,
+        rows: &Tables,
+        steps: &mut Steps<L>,
+    ) -> Result<Event, AllocError>
         requires there { HaveUnit self.old.books asking.unit }
         requires leaves_keys { leaves_keys self.old.books.known.schema asking.statement ≡ true }
         requires keyed { IsKeyed (tables_of rows.now.entries) }
-        ensures { IfOk result (λ e. (s : State) (o : OpenUnit) → Stands self.old s → IsRecovering s → IsAskedBy asking s.units o → IsOfPart o
+        ensures gives { IfOk result (λ e. (s : State) (o : OpenUnit) → Stands self.old s → IsRecovering s → IsAskedBy asking s.units o → IsOfPart o
             → AreLoaded asking.reach (tables_of rows.now.entries) s.units.kept.tables → Gives s (Some (does_in s.units o asking.statement)) self.new (Some e)) }
+        ensures ticks { steps.new ≡ steps.old + 1 }
     {
         let Asking {
             unit,
@@ -48,6 +56,7 @@ impl Recovery {
             statement,
             reach: _reach,
         } = asking;
+        steps.tick();
         let answer = self.books.act(unit, rows, &statement)?;
         self.behind = Behind::Done {
             unit,

@@ -13,8 +13,8 @@ use Rattle.salt_recovery.specs.declared.behind.Behind.TheVariants.{Done}
 use Rattle.std.proofs.Common.{Option, subst, sym}
 use Rattle.std.specs.Prelude.{Some, refl}
 
-pub returns : goal.returns
-returns c = λ s o stands r asked part loaded.
+pub returns-clause-gives : goal.returns-clause-gives
+returns-clause-gives g c = λ s o stands r asked part loaded.
     let u = c.args.asking.unit in
     let st = c.args.asking.statement in
     let answer = c.in_ok-answer.answer in
