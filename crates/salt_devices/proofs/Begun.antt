@@ -19,10 +19,7 @@ use Rattle.salt_storage.specs.Answers.{IsLater, MayFail}
 use Rattle.salt_storage.specs.declared.halt.Halt.TheVariants.{Stopped}
 use Rattle.salt_storage.specs.declared.open.OpenErr.TheVariants.{Halted, NotSalt, NumbersSpent, OtherShape}
 use Rattle.salt_storage.specs.declared.open.OpenErr.{OpenErr}
-use Rattle.salt_values.specs.declared.placement.PlaceKind.{PlaceKind}
 use Rattle.salt_values.specs.declared.placement.Shape.{Shape}
-use Rattle.salt_values.specs.declared.value.Value.{Value}
-use Rattle.std.specs.Borrow.{Bor}
 use Rattle.std.proofs.Common.{Bool, IsTrue, List, Some, false, inl, inr, refl, subst, sym, true, ℕ, ◌≡◌, ◌≢◌, ◌⊎◌, ◌∙◌}
 
 -- what was started holds its bytes
@@ -53,10 +50,10 @@ module _ (d e : View) (shape : Shape) (same : SameShape d e) (was now : Bool) (s
 
 -- WHAT IS OPENED is held, and was found there
 module _ (d e : View) (shape : Shape) (x : Store) (found : Found) (o : OpensAs d e shape x found) where
-  pub opened_held : (pre : PlaceKind → Bor Value → ℕ → Type 0) (post : PlaceKind → Bor Value → ℕ → ℕ → Type 0) → IsAble pre post shape d → SameShape d e
-      → StandsHeld pre post shape false (Some x) (record { boot = found.boot; decisions = found.decisions }) Nothing e o.kept
-  opened_held pre post able same = record {
-    able = able_on pre post shape d e same able;
+  pub opened_held : IsAble shape d → SameShape d e
+      → StandsHeld shape false (Some x) (record { boot = found.boot; decisions = found.decisions }) Nothing e o.kept
+  opened_held able same = record {
+    able = able_on shape d e same able;
     called = refl;
     nothing = refl;
     numbers = record { boot = o.is_found.boot; decisions = o.is_found.decisions };

@@ -33,10 +33,7 @@ use Rattle.salt_storage.specs.declared.halt.Halt.{Halt}
 use Rattle.salt_values.specs.declared.change.Change.{Change}
 use Rattle.salt_values.specs.declared.cont.Cont.{Cont}
 use Rattle.salt_values.specs.declared.id.Id.{Id}
-use Rattle.salt_values.specs.declared.placement.PlaceKind.{PlaceKind}
 use Rattle.salt_values.specs.declared.placement.Shape.{Shape}
-use Rattle.salt_values.specs.declared.value.Value.{Value}
-use Rattle.std.specs.Borrow.{Bor}
 use Rattle.std.proofs.Common.{Bool, List, None, Option, Some, ap, arith, false, inl, inr, refl, subst, sym, true, ℕ, ◌+◌, ◌≡◌, ◌≢◌, ◌⊎◌, ◌∙◌}
 
 -- behind what was being written over a store
@@ -93,12 +90,12 @@ module _ (d e : View) (same : AreUnchanged d e) where
         parts = λ p low. ap (λ bytes. part_pair p (logs_of bytes)) (sym same_bytes) ∙ is.parts p low;
       })
 
-module _ (pre : PlaceKind → Bor Value → ℕ → Type 0) (post : PlaceKind → Bor Value → ℕ → ℕ → Type 0) (shape : Shape) (started : Bool) (o : Option Store) (n : Numbers) (p : Pending) (d : View) where
+module _ (shape : Shape) (started : Bool) (o : Option Store) (n : Numbers) (p : Pending) (d : View) where
   -- a law: what is held is left
-  pub held_left : (k : Kept) → StandsHeld pre post shape started o n p d k → StandsLeft pre post shape started o n p d k k
+  pub held_left : (k : Kept) → StandsHeld shape started o n p d k → StandsLeft shape started o n p d k k
   held_left k h = by o h.held
     where
-      by : (o' : Option Store) → HoldsIn d shape o' k → StandsLeft pre post shape started o' n p d k k
+      by : (o' : Option Store) → HoldsIn d shape o' k → StandsLeft shape started o' n p d k k
       by None none = absurd none
       by (Some x) held = record {
         can = record { able = h.able; settled = λ is. absurd (cc (is, h.called)); opens = λ is. absurd (cc (is, h.nothing)) };
@@ -106,27 +103,27 @@ module _ (pre : PlaceKind → Bor Value → ℕ → Type 0) (post : PlaceKind �
         remembers = inr (recalls d shape x x n p k k held refl h.numbers (subst (λ q. MayFollow q k k) (sym h.nothing) refl) held.kept);
       }
 
-  module _ (x : Store) (is : o ≡ Some x) (k : Kept) (h : StandsHeld pre post shape started o n p d k) where
+  module _ (x : Store) (is : o ≡ Some x) (k : Kept) (h : StandsHeld shape started o n p d k) where
     pub the_store : IsHeld d shape x k
     the_store = held_in d shape o x k is h.held
 
     -- behind a call that went well
-    pub goes_on : (e : View) (y : Store) (m : Numbers) (k' : Kept) → SameShape d e → IsHeld e shape y k' → AreNumbersOf m k' → StandsHeld pre post shape started (Some y) m p e k'
-    goes_on e y m k' same held numbers = record { able = able_on pre post shape d e same h.able; called = h.called; nothing = h.nothing; numbers = numbers; held = held }
+    pub goes_on : (e : View) (y : Store) (m : Numbers) (k' : Kept) → SameShape d e → IsHeld e shape y k' → AreNumbersOf m k' → StandsHeld shape started (Some y) m p e k'
+    goes_on e y m k' same held numbers = record { able = able_on shape d e same h.able; called = h.called; nothing = h.nothing; numbers = numbers; held = held }
 
     -- behind one that did not, with what was being written
     pub breaks_off : (e : View) (y : Store) (q : Pending) (k' : Kept) → SameShape d e → Leaves e shape k k' → rows_of_store y ≡ rows_of_store x → MayFollow q k k' → IsSoundKept k'
-        → StandsLeft pre post shape started (Some y) n q e k k'
+        → StandsLeft shape started (Some y) n q e k k'
     breaks_off e y q k' same leaves rows follows sound = record {
-      can = called pre post shape started q d e h.called same h.able (opened q started e shape (not_opening q k k' follows));
+      can = called shape started q d e h.called same h.able (opened q started e shape (not_opening q k k' follows));
       leaves = subst (λ (b : Bool). LeavesAs b e shape k k') (sym h.called) leaves;
       remembers = inr (recalls d shape x y n q k k' the_store rows h.numbers follows sound);
     }
 
     -- and where memory ran out within it
-    pub is_lost : (e : View) (y : Store) (q : Pending) (k' : Kept) → SameShape d e → Leaves e shape k k' → q ≡ Lost → StandsLeft pre post shape started (Some y) n q e k k'
+    pub is_lost : (e : View) (y : Store) (q : Pending) (k' : Kept) → SameShape d e → Leaves e shape k k' → q ≡ Lost → StandsLeft shape started (Some y) n q e k k'
     is_lost e y q k' same leaves lost = record {
-      can = called pre post shape started q d e h.called same h.able (opened q started e shape (λ is. let both : Lost ≡ Opening = sym lost ∙ is in cc both));
+      can = called shape started q d e h.called same h.able (opened q started e shape (λ is. let both : Lost ≡ Opening = sym lost ∙ is in cc both));
       leaves = subst (λ (b : Bool). LeavesAs b e shape k k') (sym h.called) leaves;
       remembers = inl lost;
     }
@@ -134,23 +131,23 @@ module _ (pre : PlaceKind → Bor Value → ℕ → Type 0) (post : PlaceKind �
     -- of a unit: memory ran out within it, or its changes are remembered and the rows are as before
     pub unit_breaks_off : (e : View) (y : Store) (q : Pending) (cs : List Change) (conts : List Cont) (err : Halt) → SameShape d e → Leaves e shape k (decided k cs conts)
         → (q ≡ Lost) ⊎ ((q ≡ Decision cs) × (err ≢ Memory)) → (err ≢ Memory → rows_of_store y ≡ rows_of_store x) → IsSoundKept (decided k cs conts)
-        → StandsLeft pre post shape started (Some y) n q e k (decided k cs conts)
+        → StandsLeft shape started (Some y) n q e k (decided k cs conts)
     unit_breaks_off e y q cs conts err same leaves (inl lost) rows sound = is_lost e y q (decided k cs conts) same leaves lost
     unit_breaks_off e y q cs conts err same leaves (inr r) rows sound =
         breaks_off e y q (decided k cs conts) same leaves (rows r.1) (subst (λ z. MayFollow z k (decided k cs conts)) (sym r.0) (conts, refl)) sound
 
   -- where nothing was done on the devices
-  pub armed : (e : View) → AreUnchanged d e → (k : Kept) → StandsHeld pre post shape started o n p d k → StandsHeld pre post shape started o n p e k
-  armed e same k h = record { able = able_on pre post shape d e same.shape h.able; called = h.called; nothing = h.nothing; numbers = h.numbers; held = by o h.held }
+  pub armed : (e : View) → AreUnchanged d e → (k : Kept) → StandsHeld shape started o n p d k → StandsHeld shape started o n p e k
+  armed e same k h = record { able = able_on shape d e same.shape h.able; called = h.called; nothing = h.nothing; numbers = h.numbers; held = by o h.held }
     where
       by : (o' : Option Store) → HoldsIn d shape o' k → HoldsIn e shape o' k
       by None none = none
       by (Some x) held = held_unchanged d e same shape x k held
 
   -- STARTED AGAIN
-  module _ (e : View) (again : IsRestarted d e) (can : CanStart pre post shape started p d) where
-    pub starts : StandsStarted pre post shape true p e
-    starts = record { able = able_on pre post shape d e again.shape can.able; settled = settled_again d e again; started_now = refl; opens = opens_again d e again started can.settled p shape can.opens }
+  module _ (e : View) (again : IsRestarted d e) (can : CanStart shape started p d) where
+    pub starts : StandsStarted shape true p e
+    starts = record { able = able_on shape d e again.shape can.able; settled = settled_again d e again; started_now = refl; opens = opens_again d e again started can.settled p shape can.opens }
 
     pub found_again : FindsNoMore (Refuses d started shape) (Finds d started shape) (Refuses e true shape) (Finds e true shape)
     found_again = record {
@@ -158,17 +155,17 @@ module _ (pre : PlaceKind → Bor Value → ℕ → Type 0) (post : PlaceKind �
       finds_no_more = λ k h. upon_again d e again started can.settled (λ image. StandsFor shape image k) h;
     }
 
-    pub left_again : (a b : Kept) → StandsLeft pre post shape started o n p d a b → StandsLeft pre post shape true o n p e a b
+    pub left_again : (a b : Kept) → StandsLeft shape started o n p d a b → StandsLeft shape true o n p e a b
     left_again a b h = record {
-      can = record { able = able_on pre post shape d e again.shape can.able; settled = λ is. settled_again d e again; opens = opens_again d e again started can.settled p shape can.opens };
+      can = record { able = able_on shape d e again.shape can.able; settled = λ is. settled_again d e again; opens = opens_again d e again started can.settled p shape can.opens };
       leaves = leaves_again d e again started can.settled shape a b h.leaves;
       remembers = h.remembers;
     }
 
 -- OPENED ANEW, where the devices were started
-module _ (pre : PlaceKind → Bor Value → ℕ → Type 0) (post : PlaceKind → Bor Value → ℕ → ℕ → Type 0) (shape : Shape) (started : Bool) (o : Option Store) (n : Numbers) (p : Pending) (d : View)
+module _ (shape : Shape) (started : Bool) (o : Option Store) (n : Numbers) (p : Pending) (d : View)
     (is_started : started ≡ true) (x : Store) (is : o ≡ Some x) where
-  module _ (a b : Kept) (h : StandsLeft pre post shape started o n p d a b) where
+  module _ (a b : Kept) (h : StandsLeft shape started o n p d a b) where
     pub the_left : LeavesAs true d shape a b
     the_left = subst (λ (s : Bool). LeavesAs s d shape a b) is_started h.leaves
 
@@ -180,22 +177,22 @@ module _ (pre : PlaceKind → Bor Value → ℕ → Type 0) (post : PlaceKind �
     not_first (inr r) first = not_opening p a b r.follows first
 
     -- what an error leaves
-    pub left_behind : (e : View) → SameShape d e → Leaves e shape a b → StandsLeft pre post shape false o n p e a b
+    pub left_behind : (e : View) → SameShape d e → Leaves e shape a b → StandsLeft shape false o n p e a b
     left_behind e same leaves = record {
-      can = called pre post shape false p d e refl same h.can.able (opened p false e shape (not_first the_memory));
+      can = called shape false p d e refl same h.can.able (opened p false e shape (not_first the_memory));
       leaves = leaves;
       remembers = h.remembers;
     }
 
   -- what is held again
-  pub refound : (e : View) (y : Store) (m : Numbers) (k : Kept) → SameShape d e → IsAble pre post shape d → IsHeldAgain e shape y m k → Reopens (StandsHeld pre post shape false (Some y) m Nothing e) m k
+  pub refound : (e : View) (y : Store) (m : Numbers) (k : Kept) → SameShape d e → IsAble shape d → IsHeldAgain e shape y m k → Reopens (StandsHeld shape false (Some y) m Nothing e) m k
   refound e y m k same able h = record {
-    holding = record { able = able_on pre post shape d e same able; called = refl; nothing = refl; numbers = h.numbers; held = h.held };
+    holding = record { able = able_on shape d e same able; called = refl; nothing = refl; numbers = h.numbers; held = h.held };
     boot = h.numbers.boot;
     decisions = h.numbers.decisions;
   }
 
-  pub refound_either : (e : View) (y : Store) (m : Numbers) (a b : Kept) → SameShape d e → IsAble pre post shape d → IsHeldAgain e shape y m a ⊎ IsHeldAgain e shape y m b
-      → Reopens (StandsHeld pre post shape false (Some y) m Nothing e) m a ⊎ Reopens (StandsHeld pre post shape false (Some y) m Nothing e) m b
+  pub refound_either : (e : View) (y : Store) (m : Numbers) (a b : Kept) → SameShape d e → IsAble shape d → IsHeldAgain e shape y m a ⊎ IsHeldAgain e shape y m b
+      → Reopens (StandsHeld shape false (Some y) m Nothing e) m a ⊎ Reopens (StandsHeld shape false (Some y) m Nothing e) m b
   refound_either e y m a b same able (inl h) = inl (refound e y m a same able h)
   refound_either e y m a b same able (inr h) = inr (refound e y m b same able h)

@@ -7,19 +7,16 @@ use Rattle.salt_devices.specs.declared.pending.Pending.TheVariants.{Opening}
 use Rattle.salt_devices.specs.declared.pending.Pending.{Pending}
 use Rattle.salt_disk.specs.Disks.{IsRestarted, SameShape, View}
 use Rattle.salt_model.specs.Kept.{Kept}
-use Rattle.salt_values.specs.declared.placement.PlaceKind.{PlaceKind}
 use Rattle.salt_values.specs.declared.placement.Shape.{Shape}
-use Rattle.salt_values.specs.declared.value.Value.{Value}
-use Rattle.std.specs.Borrow.{Bor}
 use Rattle.std.proofs.Common.{Bool, IsTrue, List, arith, false, refl, subst, sym, true, ℕ, ◌≡◌, ◌∙◌}
 
-pub able_on : (pre : PlaceKind → Bor Value → ℕ → Type 0) (post : PlaceKind → Bor Value → ℕ → ℕ → Type 0) (shape : Shape) (d e : View) → SameShape d e → IsAble pre post shape d → IsAble pre post shape e
-able_on pre post shape d e same h = record { callable = h.callable; answers = h.answers; parts = h.parts; room = λ p low. let was = h.room p low in omega (arith, was, same.count) }
+pub able_on : (shape : Shape) (d e : View) → SameShape d e → IsAble shape d → IsAble shape e
+able_on shape d e same h = record { parts = h.parts; room = λ p low. let was = h.room p low in omega (arith, was, same.count) }
 
 -- what was called on was not just started
-pub called : (pre : PlaceKind → Bor Value → ℕ → Type 0) (post : PlaceKind → Bor Value → ℕ → ℕ → Type 0) (shape : Shape) (started : Bool) (p : Pending) (d e : View) → started ≡ false → SameShape d e → IsAble pre post shape d
-    → CanOpen p started e shape → CanStart pre post shape started p e
-called pre post shape started p d e not same h opens = record { able = able_on pre post shape d e same h; settled = λ is. absurd (cc (is, not)); opens = opens }
+pub called : (shape : Shape) (started : Bool) (p : Pending) (d e : View) → started ≡ false → SameShape d e → IsAble shape d
+    → CanOpen p started e shape → CanStart shape started p e
+called shape started p d e not same h opens = record { able = able_on shape d e same h; settled = λ is. absurd (cc (is, not)); opens = opens }
 
 -- no first opening was broken off
 pub opened : (p : Pending) (started : Bool) (d : View) (shape : Shape) → (p ≡ Opening → ⊥) → CanOpen p started d shape

@@ -16,24 +16,19 @@ use Rattle.salt_stands.specs.Pieces.{PartView, is_prepared_in}
 use Rattle.salt_stands.specs.Placed.{IsPlaced}
 use Rattle.salt_stands.specs.Stands.{logs_of}
 use Rattle.salt_storage.specs.Storing.{IsSoundKept}
-use Rattle.salt_values.specs.Placement.{GivesPlaceOf, IsParts, TakesEachKey}
+use Rattle.salt_values.specs.Placement.{IsParts}
 use Rattle.salt_values.specs.declared.id.Id.{Id}
-use Rattle.salt_values.specs.declared.placement.PlaceKind.{PlaceKind}
 use Rattle.salt_values.specs.declared.placement.Shape.{Shape}
-use Rattle.salt_values.specs.declared.value.Value.{Value}
-use Rattle.std.specs.Borrow.{Bor}
 use Rattle.std.specs.Prelude.{Bool, IsTrue, None, Option, Some, false, true, ℕ, ◌<◌, ◌≡◌}
 
--- the placement answers, and there are devices for each part
-pub record IsAble (pre : PlaceKind → Bor Value → ℕ → Type 0) (post : PlaceKind → Bor Value → ℕ → ℕ → Type 0) (shape : Shape) (d : View) : Type 0 where
-  pub callable : TakesEachKey pre
-  pub answers : GivesPlaceOf post
+-- there are devices for each part
+pub record IsAble (shape : Shape) (d : View) : Type 0 where
   pub parts : IsParts shape.parts
   pub room : (p : ℕ) → p < shape.parts → pages_device p < d.count
 
 -- and where they were started, nothing is pending
-pub record CanStart (pre : PlaceKind → Bor Value → ℕ → Type 0) (post : PlaceKind → Bor Value → ℕ → ℕ → Type 0) (shape : Shape) (started : Bool) (p : Pending) (d : View) : Type 0 where
-  pub able : IsAble pre post shape d
+pub record CanStart (shape : Shape) (started : Bool) (p : Pending) (d : View) : Type 0 where
+  pub able : IsAble shape d
   pub settled : started ≡ true → AreSettled d
   pub opens : CanOpen p started d shape
 

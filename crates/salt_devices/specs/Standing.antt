@@ -9,16 +9,13 @@ use Rattle.salt_devices.specs.declared.pending.Pending.{Pending}
 use Rattle.salt_disk.specs.Disks.{View}
 use Rattle.salt_model.specs.Kept.{Kept}
 use Rattle.salt_storage.specs.declared.found.Numbers.{Numbers}
-use Rattle.salt_values.specs.declared.placement.PlaceKind.{PlaceKind}
 use Rattle.salt_values.specs.declared.placement.Shape.{Shape}
-use Rattle.salt_values.specs.declared.value.Value.{Value}
-use Rattle.std.specs.Borrow.{Bor}
-use Rattle.std.specs.Prelude.{Bool, Option, false, true, ℕ, ◌≡◌}
+use Rattle.std.specs.Prelude.{Bool, Option, false, true, ◌≡◌}
 
-module _ (pre : PlaceKind → Bor Value → ℕ → Type 0) (post : PlaceKind → Bor Value → ℕ → ℕ → Type 0) (shape : Shape) (started : Bool) where
+module _ (shape : Shape) (started : Bool) where
   -- a store is held, its numbers are known, and nothing is pending
   pub record StandsHeld (o : Option Store) (n : Numbers) (p : Pending) (d : View) (k : Kept) : Type 0 where
-    pub able : IsAble pre post shape d
+    pub able : IsAble shape d
     pub called : started ≡ false
     pub nothing : p ≡ Nothing
     pub numbers : AreNumbersOf n k
@@ -26,13 +23,13 @@ module _ (pre : PlaceKind → Bor Value → ℕ → Type 0) (post : PlaceKind �
 
   -- the next opening comes upon the one or the other, and both are remembered
   pub record StandsLeft (o : Option Store) (n : Numbers) (p : Pending) (d : View) (a b : Kept) : Type 0 where
-    pub can : CanStart pre post shape started p d
+    pub can : CanStart shape started p d
     pub leaves : LeavesAs started d shape a b
     pub remembers : Remembers shape o n p a b
 
   -- the devices were started
   pub record StandsStarted (p : Pending) (d : View) : Type 0 where
-    pub able : IsAble pre post shape d
+    pub able : IsAble shape d
     pub settled : AreSettled d
     pub started_now : started ≡ true
     pub opens : CanOpen p started d shape

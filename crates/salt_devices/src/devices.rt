@@ -20,9 +20,8 @@ use std::alloc::{AllocError, Global};
 /// A database over devices, in the shape that is asked for: a store that stands on them, once it is opened. Behind an error the
 /// store stays, as what is remembered, until it is reopened.
 #[derive(Drop)]
-pub struct Devices<'p, F: Fn(PlaceKind, &Key, u32) -> u32> {
+pub struct Devices {
     alloc: Global,
-    place: &'p Placement<F>,
     shape: Shape,
     // whether the devices were started, and nothing was called since
     started: bool,
@@ -32,10 +31,9 @@ pub struct Devices<'p, F: Fn(PlaceKind, &Key, u32) -> u32> {
     pending: Pending,
 }
 
-impl<'p, F: Fn(PlaceKind, &Key, u32) -> u32> Devices<'p, F> {
+impl Devices {
     /// Devices that are not opened yet.
-    pub fn new(alloc: Global, place: &'p Placement<F>, shape: Shape) -> Devices<'p, F>
-        ensures place { result.place.now ≡ place.now }
+    pub fn new(alloc: Global, shape: Shape) -> Devices
         ensures shape { result.shape ≡ shape }
         ensures started { result.started ≡ true }
         ensures store { result.store ≡ None }
@@ -43,7 +41,6 @@ impl<'p, F: Fn(PlaceKind, &Key, u32) -> u32> Devices<'p, F> {
     {
         Devices {
             alloc,
-            place,
             shape,
             started: true,
             store: None,
@@ -56,24 +53,24 @@ impl<'p, F: Fn(PlaceKind, &Key, u32) -> u32> Devices<'p, F> {
     }
 }
 
-impl<'p, F: Fn(PlaceKind, &Key, u32) -> u32> Storage for Devices<'p, F> {
+impl Storage for Devices {
     ghost use Rattle.salt_devices.specs.Filling.{FillsIn};
     ghost use Rattle.salt_devices.specs.Holding.{CanStart, IsNewTo};
     ghost use Rattle.salt_devices.specs.Refusing.{Finds, Refuses};
     ghost use Rattle.salt_devices.specs.Standing.{StandsHeld, StandsLeft, StandsStarted};
     ghost use Rattle.salt_devices.specs.declared.pending.Pending.TheVariants.{Opening};
 
-    ghost holds = { λ d x k. StandsHeld (F.pre x.place.now.place) (F.post x.place.now.place) x.shape x.started x.store x.numbers x.pending d k };
+    ghost holds = { λ d x k. StandsHeld x.shape x.started x.store x.numbers x.pending d k };
 
-    ghost leaves = { λ d x a b. StandsLeft (F.pre x.place.now.place) (F.post x.place.now.place) x.shape x.started x.store x.numbers x.pending d a b };
+    ghost leaves = { λ d x a b. StandsLeft x.shape x.started x.store x.numbers x.pending d a b };
 
-    ghost settled = { λ d x. StandsStarted (F.pre x.place.now.place) (F.post x.place.now.place) x.shape x.started x.pending d };
+    ghost settled = { λ d x. StandsStarted x.shape x.started x.pending d };
 
     ghost unopened = { λ x. x.store ≡ None };
 
     ghost tried = { λ d x. x.pending ≡ Opening };
 
-    ghost able = { λ d x. CanStart (F.pre x.place.now.place) (F.post x.place.now.place) x.shape x.started x.pending d };
+    ghost able = { λ d x. CanStart x.shape x.started x.pending d };
 
     ghost is_new = { λ d x u. IsNewTo d u };
 
@@ -85,9 +82,13 @@ impl<'p, F: Fn(PlaceKind, &Key, u32) -> u32> Storage for Devices<'p, F> {
 
     ghost fills = { λ d x w dev. FillsIn d x.shape w dev };
 
-    fn open<D: Disks>(&mut self, disks: &mut D) -> Result<Found, OpenErr> {
+    fn open<D: Disks, F: Fn(PlaceKind, &Key, u32) -> u32>(
+        &mut self,
+        disks: &mut D,
+        place: &Placement<F>,
+    ) -> Result<Found, OpenErr> {
         self.started = false;
-        match open_first(self.alloc, disks, self.place, self.shape, &self.pending) {
+        match open_first(self.alloc, disks, place, self.shape, &self.pending) {
             Ok((store, found)) => {
                 self.store = Some(store);
                 self.numbers = Numbers {
@@ -104,7 +105,11 @@ impl<'p, F: Fn(PlaceKind, &Key, u32) -> u32> Storage for Devices<'p, F> {
         }
     }
 
-    fn reopen<D: Disks>(&mut self, disks: &mut D) -> Result<Numbers, OpenErr> {
+    fn reopen<D: Disks, F: Fn(PlaceKind, &Key, u32) -> u32>(
+        &mut self,
+        disks: &mut D,
+        place: &Placement<F>,
+    ) -> Result<Numbers, OpenErr> {
         let Some(before) = &self.store else {
             unreachable!()
         };
@@ -112,7 +117,7 @@ impl<'p, F: Fn(PlaceKind, &Key, u32) -> u32> Storage for Devices<'p, F> {
         match open_again(
             self.alloc,
             disks,
-            self.place,
+            place,
             self.shape,
             before,
             self.numbers,
@@ -144,24 +149,26 @@ impl<'p, F: Fn(PlaceKind, &Key, u32) -> u32> Storage for Devices<'p, F> {
         }
     }
 
-    fn load<D: Disks>(
+    fn load<D: Disks, F: Fn(PlaceKind, &Key, u32) -> u32>(
         &mut self,
         disks: &mut D,
+        place: &Placement<F>,
         schema: &Schema,
         reach: &Reach,
     ) -> Result<Tables, Halt> {
         let Some(store) = &mut self.store else {
             unreachable!()
         };
-        match load_rows(store, disks, self.place, schema, reach) {
+        match load_rows(store, disks, place, schema, reach) {
             Ok(rows) => Ok(rows),
             Err(e) => Err(e),
         }
     }
 
-    fn commit<D: Disks>(
+    fn commit<D: Disks, F: Fn(PlaceKind, &Key, u32) -> u32>(
         &mut self,
         disks: &mut D,
+        place: &Placement<F>,
         unit: Id,
         changes: &Changes,
         made: &Move,
@@ -169,7 +176,7 @@ impl<'p, F: Fn(PlaceKind, &Key, u32) -> u32> Storage for Devices<'p, F> {
         let Some(store) = &mut self.store else {
             unreachable!()
         };
-        match decide_unit(self.alloc, store, disks, self.place, unit, changes, made) {
+        match decide_unit(self.alloc, store, disks, place, unit, changes, made) {
             Ok(number) => {
                 self.numbers.decisions = number;
                 Ok(number)

@@ -12,6 +12,7 @@ ghost use Rattle.salt_storage.specs.declared.halt.Halt.TheVariants.{DeviceFull, 
 ghost use Rattle.salt_storage.specs.declared.open.OpenErr.{OpenErr};
 ghost use Rattle.salt_stands.specs.Stands.{are_spent};
 ghost use Rattle.salt_values.specs.Id.{is_same_id};
+ghost use Rattle.salt_values.specs.Placement.{GivesPlaceOf, TakesEachKey};
 ghost use Rattle.salt_values.specs.declared.cont.Cont.{Cont};
 ghost use Rattle.salt_values.specs.declared.id.Id.{Id};
 ghost use Rattle.salt_values.specs.declared.placement.Shape.{Shape};
@@ -25,7 +26,7 @@ use salt_disk::Disks;
 use salt_eval::Tables;
 use salt_model::Reach;
 use salt_schema::Schema;
-use salt_values::{Changes, Id};
+use salt_values::{Changes, Id, Key, PlaceKind, Placement};
 use std::alloc::AllocError;
 
 /// What a database stands on. After an error of a call it is opened anew before it is used. Contracts see the devices by their
@@ -65,7 +66,13 @@ pub trait Storage {
     ghost fills: { View → Self → Written → ℕ → Type 0 };
 
     /// Opens it at first, and gives what it has found.
-    fn open<D: Disks>(&mut self, disks: &mut D) -> Result<Found, OpenErr>
+    fn open<D: Disks, F: Fn(PlaceKind, &Key, u32) -> u32>(
+        &mut self,
+        disks: &mut D,
+        place: &Placement<F>,
+    ) -> Result<Found, OpenErr>
+        requires callable { TakesEachKey (F.pre place.now.place) }
+        requires answers { GivesPlaceOf (F.post place.now.place) }
         requires settled { settled (D.view disks.old) self.old }
         requires unopened { unopened self.old }
         ensures holds { IfOk result (λ found. (k : Kept) × holds (D.view disks.new) self.new k × IsFound found k × finds (D.view disks.old) self.old k) }
@@ -83,7 +90,13 @@ pub trait Storage {
         ensures cause { HasCause (D.view disks.old) (D.view disks.new) (open_disk_err result) };
 
     /// Opens it anew, after a restart, and gives the numbers that it has found.
-    fn reopen<D: Disks>(&mut self, disks: &mut D) -> Result<Numbers, OpenErr>
+    fn reopen<D: Disks, F: Fn(PlaceKind, &Key, u32) -> u32>(
+        &mut self,
+        disks: &mut D,
+        place: &Placement<F>,
+    ) -> Result<Numbers, OpenErr>
+        requires callable { TakesEachKey (F.pre place.now.place) }
+        requires answers { GivesPlaceOf (F.post place.now.place) }
         requires settled { settled (D.view disks.old) self.old }
         requires left { (a b : Kept) × leaves (D.view disks.old) self.old a b }
         ensures holds { IfOk result (λ found. (a b : Kept) → leaves (D.view disks.old) self.old a b →
@@ -109,13 +122,16 @@ pub trait Storage {
         ensures cause { HasCause (D.view disks.old) (D.view disks.new) (disk_err result) };
 
     /// The rows of a reach, whose table is defined.
-    fn load<D: Disks>(
+    fn load<D: Disks, F: Fn(PlaceKind, &Key, u32) -> u32>(
         &mut self,
         disks: &mut D,
+        place: &Placement<F>,
         schema: &Schema,
         reach: &Reach,
     ) -> Result<Tables, Halt>
-        requires { (k : Kept) × holds (D.view disks.old) self.old k × (schema.now ≡ schema_of k) × (reach.now.table < length (schema_of k)) }
+        requires callable { TakesEachKey (F.pre place.now.place) }
+        requires answers { GivesPlaceOf (F.post place.now.place) }
+        requires reach { (k : Kept) × holds (D.view disks.old) self.old k × (schema.now ≡ schema_of k) × (reach.now.table < length (schema_of k)) }
         ensures rows { IfOk result (λ rows. (k : Kept) → holds (D.view disks.old) self.old k → (es : Tables) → rows.entries ≡ es.list → IsPartOf reach.now es k.tables) }
         ensures holds { OnOk result ((k : Kept) → holds (D.view disks.old) self.old k → holds (D.view disks.new) self.new k) }
         ensures is_new { OnOk result ((u : Id) → is_new (D.view disks.old) self.old u → is_new (D.view disks.new) self.new u) }
@@ -126,13 +142,16 @@ pub trait Storage {
         ensures cause { HasCause (D.view disks.old) (D.view disks.new) (disk_err result) };
 
     /// Decides a unit with its changes and its program's move, and gives the number of the decision.
-    fn commit<D: Disks>(
+    fn commit<D: Disks, F: Fn(PlaceKind, &Key, u32) -> u32>(
         &mut self,
         disks: &mut D,
+        place: &Placement<F>,
         unit: Id,
         changes: &Changes,
         made: &Move,
     ) -> Result<u64, Halt>
+        requires callable { TakesEachKey (F.pre place.now.place) }
+        requires answers { GivesPlaceOf (F.post place.now.place) }
         requires may { (k : Kept) × holds (D.view disks.old) self.old k × ((conts : List Cont) × MayDecide k unit changes.now made.now conts) }
         requires new { is_new (D.view disks.old) self.old unit }
         ensures number { IfOk result (λ number. (k : Kept) → holds (D.view disks.old) self.old k → number ≡ k.decisions + 1) }

@@ -7,10 +7,10 @@ use Rattle.std.proofs.Common.{refl}
 pub decide_definition-requires : goal.decide_definition-requires
 decide_definition-requires g c =
     let r = c.requires in
-    record { held = (c.args.self.now.shape, r.0, the_store _ _ _ _ _ _ _ _ c.in-Some.store c.in-Some.is r.0 r.1, r.2) }
+    record { held = (c.args.self.now.shape, r.0, the_store _ _ _ _ _ _ c.in-Some.store c.in-Some.is r.0 r.1, r.2) }
 
 pub returns-in-Err-clause-leaves : goal.returns-in-Err-clause-leaves
 returns-in-Err-clause-leaves g c k def h reads may =
-    let held = the_store _ _ _ _ _ _ _ _ c.in-Some.store c.in-Some.is k h in
-    breaks_off _ _ _ _ _ _ _ _ c.in-Some.store c.in-Some.is k h (g.D.Disks.view c.decide_definition.new.disks) c.decide_definition.new.store Definition (defined k def) c.in-Err.ensures.shape
+    let held = the_store _ _ _ _ _ _ c.in-Some.store c.in-Some.is k h in
+    breaks_off _ _ _ _ _ _ c.in-Some.store c.in-Some.is k h (g.D.Disks.view c.decide_definition.new.disks) c.decide_definition.new.store Definition (defined k def) c.in-Err.ensures.shape
     (c.in-Err.ensures.leaves c.args.self.now.shape k def held reads may) c.in-Err.ensures.stay (def, refl) may.sound

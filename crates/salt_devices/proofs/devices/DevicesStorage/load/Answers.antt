@@ -5,17 +5,17 @@ use Rattle.std.proofs.Common.{refl, subst, sym}
 
 pub load_rows-requires-clause-held : goal.load_rows-requires-clause-held
 load_rows-requires-clause-held g c =
-    let r = c.requires in
-    (c.args.self.now.shape, r.0, the_store _ _ _ _ _ _ _ _ c.in-Some.store c.in-Some.is r.0 r.1, r.2, r.3)
+    let r = c.requires.reach in
+    (c.args.self.now.shape, r.0, the_store _ _ _ _ _ _ c.in-Some.store c.in-Some.is r.0 r.1, r.2, r.3)
 
 pub returns-in-Ok-clause-holds : goal.returns-in-Ok-clause-holds
 returns-in-Ok-clause-holds g c k h =
-    let held = the_store _ _ _ _ _ _ _ _ c.in-Some.store c.in-Some.is k h in
-    goes_on _ _ _ _ _ _ _ _ c.in-Some.store c.in-Some.is k h (g.D.Disks.view c.load_rows.new.disks) c.load_rows.new.store _ k c.in-Ok.ensures.shape
+    let held = the_store _ _ _ _ _ _ c.in-Some.store c.in-Some.is k h in
+    goes_on _ _ _ _ _ _ c.in-Some.store c.in-Some.is k h (g.D.Disks.view c.load_rows.new.disks) c.load_rows.new.store _ k c.in-Ok.ensures.shape
     (c.in-Ok.ensures.holds c.args.self.now.shape k held) h.numbers
 
 pub returns-in-Err-clause-leaves : goal.returns-in-Err-clause-leaves
 returns-in-Err-clause-leaves g c k h =
-    let held = the_store _ _ _ _ _ _ _ _ c.in-Some.store c.in-Some.is k h in
-    breaks_off _ _ _ _ _ _ _ _ c.in-Some.store c.in-Some.is k h (g.D.Disks.view c.load_rows.new.disks) c.load_rows.new.store _ k c.in-Err.ensures.shape
+    let held = the_store _ _ _ _ _ _ c.in-Some.store c.in-Some.is k h in
+    breaks_off _ _ _ _ _ _ c.in-Some.store c.in-Some.is k h (g.D.Disks.view c.load_rows.new.disks) c.load_rows.new.store _ k c.in-Err.ensures.shape
     (c.in-Err.ensures.leaves c.args.self.now.shape k held) c.in-Err.ensures.stay (subst (λ q. MayFollow q k k) (sym h.nothing) refl) held.kept

@@ -20,7 +20,7 @@ returns-in-Ok-clause-holds g c =
     let o = c.in-Ok.ensures.ok in
     let x = c.args.self.now in (
       o.kept,
-      opened_held d e x.shape c.in-Ok.store c.in-Ok.found o _ _ c.requires.settled.able c.in-Ok.ensures.shape,
+      opened_held d e x.shape c.in-Ok.store c.in-Ok.found o c.requires.settled.able c.in-Ok.ensures.shape,
       o.is_found,
       opened_finds d e x.shape c.in-Ok.store c.in-Ok.found o x.started c.requires.settled.started_now,
     )
@@ -39,7 +39,7 @@ pub returns-in-Err-clause-able : goal.returns-in-Err-clause-able
 returns-in-Err-clause-able g c =
     let d = g.D.Disks.view c.args.disks.now in
     let e = g.D.Disks.view c.open_first.new.disks in
-    called _ _ _ _ _ d e refl c.in-Err.ensures.shape c.requires.settled.able
+    called _ _ _ d e refl c.in-Err.ensures.shape c.requires.settled.able
     (opens_behind d e c.args.self.now.shape _ c.in-Err.e c.in-Err.ensures.shape c.pending_opening.ensures (λ is. c.in-Err.ensures.stopped (ap Err is)))
 
 pub returns-in-Err-clause-full : goal.returns-in-Err-clause-full

@@ -2,10 +2,10 @@ use Rattle.salt_devices.proofs.Standing.{found_again, left_again, starts}
 use Rattle.salt_devices.proofs.devices.DevicesStorage.restart.Goals as goal
 
 pub returns-clause-settled : goal.returns-clause-settled
-returns-clause-settled g c = starts _ _ _ _ c.args.self.now.store c.args.self.now.numbers _ (g.D.Disks.view c.args.disks.now) (g.D.Disks.view c.restart.new.self) c.restart.ensures c.requires
+returns-clause-settled g c = starts _ _ c.args.self.now.store c.args.self.now.numbers _ (g.D.Disks.view c.args.disks.now) (g.D.Disks.view c.restart.new.self) c.restart.ensures c.requires
 
 pub returns-clause-still : goal.returns-clause-still
-returns-clause-still g c = found_again _ _ _ _ c.args.self.now.store c.args.self.now.numbers _ (g.D.Disks.view c.args.disks.now) (g.D.Disks.view c.restart.new.self) c.restart.ensures c.requires
+returns-clause-still g c = found_again _ _ c.args.self.now.store c.args.self.now.numbers _ (g.D.Disks.view c.args.disks.now) (g.D.Disks.view c.restart.new.self) c.restart.ensures c.requires
 
 pub returns-clause-leaves : goal.returns-clause-leaves
-returns-clause-leaves g c a b h = left_again _ _ _ _ _ _ _ (g.D.Disks.view c.args.disks.now) (g.D.Disks.view c.restart.new.self) c.restart.ensures c.requires a b h
+returns-clause-leaves g c a b h = left_again _ _ _ _ _ (g.D.Disks.view c.args.disks.now) (g.D.Disks.view c.restart.new.self) c.restart.ensures c.requires a b h
