@@ -20,7 +20,7 @@ use Rattle.salt_values.specs.declared.id.Id.{Id}
 use Rattle.std.proofs.Common.{ap, inl, inr, subst, sym, ◌∙◌}
 use Rattle.std.specs.Prelude.{List, None, Option, Some, [], false, refl, ℕ, ◌++◌, ◌∷◌, ◌≡◌, ◌⊎◌}
 
-append-both : (es fs gs : List Event) → (es ++ fs) ++ gs ≡ es ++ (fs ++ gs)
+pub append-both : (es fs gs : List Event) → (es ++ fs) ++ gs ≡ es ++ (fs ++ gs)
 append-both [] fs gs = refl
 append-both (e ∷ es) fs gs = ap (λ l. e ∷ l) (append-both es fs gs)
 
@@ -28,7 +28,7 @@ pub runs-both : (ms ns : List Move) (p q r : Point) → Runs p ms q → Runs q n
 runs-both [] ns p q r f g = subst (λ x. Runs x ns r) (sym f) g
 runs-both (m ∷ ms) ns p q r f g = (f.0, f.1, runs-both ms ns f.0 q r f.2 g)
 
-told-both : (ms ns : List Move) → told_by (ms ++ ns) ≡ told_by ms ++ told_by ns
+pub told-both : (ms ns : List Move) → told_by (ms ++ ns) ≡ told_by ms ++ told_by ns
 told-both [] ns = refl
 told-both (Say e ∷ ms) ns = ap (λ es. e ∷ es) (told-both ms ns)
 told-both (Ask asked ∷ ms) ns = told-both ms ns

@@ -1,14 +1,16 @@
 -- Stops counted along the events of a story.
 use Rattle.salt_disk.specs.Disks.{Rose, SameShape, View}
-use Rattle.salt_disk.specs.declared.disks.DiskErr.TheVariants.{Failed, Memory, Stopped}
+use Rattle.salt_disk.specs.declared.disks.DiskErr.TheVariants.{Memory, Stopped}
 use Rattle.salt_disk.specs.declared.disks.DiskErr.{DiskErr}
+use Rattle.salt_keeps.proofs.PointsGoOn.{no-more}
 use Rattle.salt_keeps.specs.Laws.{is_of_run}
 use Rattle.salt_model.specs.declared.events.Event.TheVariants.{Down}
 use Rattle.salt_model.specs.declared.events.Event.{Event}
 use Rattle.salt_model.specs.declared.events.Why.TheVariants as why
 use Rattle.salt_model.specs.declared.events.Why.{Why}
+use Rattle.salt_steps.proofs.Advancing.{append-both}
 use Rattle.salt_steps.specs.Counting.{CountsFall, CountsMore, CountsOpening, CountsSoFar, CountsStops, armed_at, armed_in, faulted_in, faults_told, stopped_in, stops_armed, stops_told}
-use Rattle.std.proofs.Common.{ap, arith, inl, inr, subst, sym, ◌∙◌}
+use Rattle.std.proofs.Common.{ap, arith, inl, inr, sym, ◌∙◌}
 use Rattle.std.specs.Prelude.{List, None, Option, Some, [], false, refl, ℕ, ◌+◌, ◌++◌, ◌<◌, ◌∷◌, ◌≡◌, ◌≤◌, ◌⊎◌}
 
 pub armed-both : (es fs : List Event) → armed_in (es ++ fs) ≡ armed_in es + armed_in fs
@@ -29,14 +31,6 @@ unfaulted-both es fs g h = let both = faulted-both es fs in omega arith
 
 unstopped-both : (es fs : List Event) → stopped_in es ≡ 0 → stopped_in fs ≡ 0 → stopped_in (es ++ fs) ≡ 0
 unstopped-both es fs g h = let both = stopped-both es fs in omega arith
-
-append-none : (es : List Event) → es ++ [] ≡ es
-append-none [] = refl
-append-none (e ∷ es) = ap (λ l. e ∷ l) (append-none es)
-
-append-both : (es fs gs : List Event) → (es ++ fs) ++ gs ≡ es ++ (fs ++ gs)
-append-both [] fs gs = refl
-append-both (e ∷ es) fs gs = ap (λ l. e ∷ l) (append-both es fs gs)
 
 pub same-shape : (v : View) → SameShape v v
 same-shape v = record { count = refl; can_stop = refl; told = refl; limit = λ dev. refl }
@@ -70,7 +64,7 @@ pub count-none : (v : View) (first : Option Event) (story : List Event) → Coun
 count-none v first story = record {
   shape = same-shape v;
   more = [];
-  grows = sym (append-none story);
+  grows = sym (no-more story);
   unfaulted = refl;
   unstopped = refl;
   counts = record { later = omega arith; failed = λ never. cc; stops = λ some. omega arith };
@@ -200,7 +194,7 @@ count-so-far old new first story told shape g = record {
 pub opening-none : (v : View) (story : List Event) → CountsOpening v v None story story
 opening-none v story = record {
   more = [];
-  grows = sym (append-none story);
+  grows = sym (no-more story);
   unarmed = refl;
   unfaulted = refl;
   most = omega arith;
@@ -211,7 +205,7 @@ opening-none v story = record {
 pub opening-untold : (old new : View) (answer : Option DiskErr) (story told : List Event) → CountsStops old new answer 0 0 → told ≡ story → CountsOpening old new answer story told
 opening-untold old new answer story told h same = record {
   more = [];
-  grows = same ∙ sym (append-none story);
+  grows = same ∙ sym (no-more story);
   unarmed = refl;
   unfaulted = refl;
   most = omega arith;
@@ -289,31 +283,11 @@ short-counts old new answer story told now h same is = record {
   counts = record { later = h.counts.later; failed = λ never. cc; stops = λ some. absurd (some refl) };
 }
 
--- it falls, and goes on
-pub fall-on : (why : Why) (old mid new : View) (answer : Option DiskErr) (story told now : List Event) → mid.faults ≡ old.faults → mid.stops_left ≡ old.stops_left →
-    told ≡ story ++ Down why ∷ [] → CountsOpening mid new answer told now → CountsFall why old new answer story now
-fall-on why old mid new answer story told now faults stops grows h =
-    let armed = armed-both (Down why ∷ []) h.more in
-    let stopped = stopped-both (Down why ∷ []) h.more in
-    let none = h.unarmed in
-    record {
-      more = Down why ∷ h.more;
-      grows = h.grows ∙ ap (λ es. es ++ h.more) grows ∙ append-both story (Down why ∷ []) h.more;
-      unarmed = omega arith;
-      falls = inr (record { behind = h.more; first = refl; unfaulted = h.unfaulted });
-      most = let x = h.most in omega arith;
-      counts = record {
-        later = let x = h.counts.later in omega arith;
-        failed = subst (λ n. answer ≡ Some Failed → Rose n new.faults) faults h.counts.failed;
-        stops = λ some. let x = h.counts.stops some in omega arith;
-      };
-    }
-
 -- or ran short of memory before
 pub fall-short : (why : Why) (v : View) (story : List Event) → CountsFall why v v (Some Memory) story story
 fall-short why v story = record {
   more = [];
-  grows = sym (append-none story);
+  grows = sym (no-more story);
   unarmed = refl;
   falls = inl refl;
   most = omega arith;

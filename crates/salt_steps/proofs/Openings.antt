@@ -19,12 +19,13 @@ use Rattle.salt_model.specs.declared.events.Event.TheVariants.{Down, Opened, Rea
 use Rattle.salt_model.specs.declared.events.Event.{Event}
 use Rattle.salt_model.specs.declared.events.Flight.{Flight}
 use Rattle.salt_openings.proofs.Opening.{opens-point}
-use Rattle.salt_steps.proofs.Advancing.{inside-both, lines-on, runs-both, sound-on, tells-both}
+use Rattle.salt_steps.proofs.Advancing.{append-both, inside-both, lines-on, runs-both, tells-both}
 use Rattle.salt_steps.proofs.Segments.{sound-at, sound-of}
-use Rattle.salt_steps.specs.Opening.{HasOpened, MayFailAt, OpensAt}
-use Rattle.salt_steps.specs.Reopening.{BreaksOpening, EndsWithin, IsOpening, Reopens}
+use Rattle.salt_steps.specs.Draining.{BreaksWithin}
+use Rattle.salt_steps.specs.Opening.{HasOpened, MayFailAt}
+use Rattle.salt_steps.specs.Reopening.{BreaksOpening, EndsWithin, Reopens}
 use Rattle.salt_steps.specs.Serving.{IsDown, IsFitting}
-use Rattle.salt_steps.specs.Standing.{BreaksAt, HaltsAt, IsInside, IsOpenedOn, IsSoundPoint}
+use Rattle.salt_steps.specs.Standing.{BreaksAt, HaltsAt, IsInside, IsSoundPoint, OpensOn}
 use Rattle.salt_storage.specs.Answers.{IsLater}
 use Rattle.salt_storage.specs.Writing.{OfBoot, OfOpening, Written}
 use Rattle.salt_storage.specs.declared.halt.Halt.TheVariants.{DeviceFull, Memory}
@@ -82,10 +83,6 @@ opened-sound lies flies start story trace d h =
       keyed = d.fits.keyed;
     }
 
-append-both : (es fs gs : List Event) → (es ++ fs) ++ gs ≡ es ++ (fs ++ gs)
-append-both [] fs gs = refl
-append-both (e ∷ es) fs gs = ap (λ l. e ∷ l) (append-both es fs gs)
-
 phase-stays : (e : Event) (s : UnitState) → is_of_run e ≡ false → (e ≡ Ready → ⊥) → s.phase ≡ Opening → (units_after e s).phase ≡ Opening
 phase-stays (Down why) s h r p = cc
 phase-stays (Opened boot n) s h r p = cc
@@ -102,7 +99,7 @@ is-ready : (e : Event) → (e ≡ Ready) ⊎ (e ≡ Ready → ⊥)
 is-ready Ready = inl refl
 is-ready e = inr (λ h. cc)
 
-opening-on : (e : Event) (p q : Point) (event : Event) → p.state.units.phase ≡ Opening → Moves (Say e) p q → q.next ≡ Some event → q.state.units.phase ≡ Opening
+pub opening-on : (e : Event) (p q : Point) (event : Event) → p.state.units.phase ≡ Opening → Moves (Say e) p q → q.next ≡ Some event → q.state.units.phase ≡ Opening
 opening-on e p q event opening m comes = by (is-ready e)
   where
     by : (e ≡ Ready) ⊎ (e ≡ Ready → ⊥) → q.state.units.phase ≡ Opening
@@ -113,32 +110,7 @@ opening-on e p q event opening m comes = by (is-ready e)
 pub same-halt : (a b : Halt) → Halted a ≡ Halted b → a ≡ b
 same-halt a b h = cc
 
-module _ {E : Type 0} (old new : E → Option Event → State → Type 0) (lies : ℕ → Point → Type 0) (flies : Option Flight) (start : Start) (story : List Event) (trace : Trace)
-    (d : IsDown lies flies start story trace) where
-  pub opening-begins : (e : E) (next : Event) (told : List Event) → OpensAt new d.room d.point story e next told → IsOpening new d.room d.point story e (Some next) told
-  opening-begins e next told o = record {
-    has = o.has;
-    on = record { moves = []; point = o.has.point; runs = refl; inside = tt; stands = o.stands; tells = o.tells ∙ sym (no-more (story ++ Opened o.has.boot o.has.number ∷ [])) };
-  }
-
-  pub here-sound : (e : E) (next : Option Event) (told : List Event) → (o : IsOpening old d.room d.point story e next told) → IsSoundPoint o.on.point
-  here-sound e next told o =
-      sound-on o.on.moves o.has.point o.on.point (opened-sound lies flies start story trace d o.has) o.on.inside o.on.runs
-
-  pub opening-goes : (e f : E) (event : Event) (next : Option Event) (told now : List Event) → (o : IsOpening old d.room d.point story e (Some event) told) →
-      (q : Point) → Moves (Say event) o.on.point q → IsOpenedOn new f next q → now ≡ told ++ event ∷ [] → IsOpening new d.room d.point story f next now
-  opening-goes e f event next told now o q m stands tells = record {
-    has = o.has;
-    on = record {
-      moves = o.on.moves ++ Say event ∷ [];
-      point = q;
-      runs = runs-both o.on.moves (Say event ∷ []) o.has.point o.on.point q o.on.runs (q, m, refl);
-      inside = inside-both o.on.moves (Say event ∷ []) o.on.inside (tt, tt);
-      stands = stands;
-      tells = tells-both (story ++ Opened o.has.boot o.has.number ∷ []) told now o.on.moves (Say event ∷ []) o.on.tells tells;
-    };
-  }
-
+module _ (lies : ℕ → Point → Type 0) (flies : Option Flight) (start : Start) (story : List Event) (trace : Trace) (d : IsDown lies flies start story trace) where
   -- the trace with moves of the opening
   abbrev behind : HasOpened d.room d.point → List Move → Trace
   behind h ms = trace_on (trace says Opened h.boot h.number) ms
@@ -163,23 +135,28 @@ module _ {E : Type 0} (old new : E → Option Event → State → Type 0) (lies 
       (more : List Event) × (told ≡ story ++ more)
   behind-grows h ms told tells = (Opened h.boot h.number ∷ told_by ms, tells ∙ append-both story (Opened h.boot h.number ∷ []) (told_by ms))
 
-  pub opening-ends : (e : E) (told : List Event) → IsOpening old d.room d.point story e None told → Reopens old start trace story e told
-  opening-ends e told o =
-      let h = o.has in
-      let ms = o.on.moves in
-      let k = behind-keeps h ms o.on.point o.on.runs in
+  -- what is told behind the Opened is told behind what was told before
+  pub behind-opened : {E : Type 0} (sees : E → Option Event → State → Type 0) (h : HasOpened d.room d.point) (e : E) (opened told : List Event) → opened ≡ story ++ Opened h.boot h.number ∷ [] →
+      OpensOn sees h.point opened e None told → OpensOn sees h.point (story ++ Opened h.boot h.number ∷ []) e None told
+  behind-opened sees h e opened told tells on = subst (λ es. OpensOn sees h.point es e None told) tells on
+
+  pub opening-ends : {E : Type 0} (sees : E → Option Event → State → Type 0) (h : HasOpened d.room d.point) (e : E) (told : List Event) →
+      OpensOn sees h.point (story ++ Opened h.boot h.number ∷ []) e None told → Reopens sees start trace story e told
+  opening-ends sees h e told on =
+      let ms = on.moves in
+      let k = behind-keeps h ms on.point on.runs in
       record {
         after = behind h ms;
-        lines = lines-on ms (trace says Opened h.boot h.number) o.on.inside;
+        lines = lines-on ms (trace says Opened h.boot h.number) on.inside;
         serves = record {
-          tells = record { begins = start-on ms (trace says Opened h.boot h.number) ∙ d.tells.begins; told = behind-told h ms told o.on.tells; played = k.1.played };
-          complete = idle-complete o.on.point (behind h ms) k.0 o.on.stands.idle;
-          fits = behind-fits h ms o.on.inside;
-          point = o.on.point;
+          tells = record { begins = start-on ms (trace says Opened h.boot h.number) ∙ d.tells.begins; told = behind-told h ms told on.tells; played = k.1.played };
+          complete = idle-complete on.point (behind h ms) k.0 on.stands.idle;
+          fits = behind-fits h ms on.inside;
+          point = on.point;
           keeps = k.0;
-          stands = o.on.stands;
+          stands = on.stands;
         };
-        grows = behind-grows h ms told o.on.tells;
+        grows = behind-grows h ms told on.tells;
       }
 
   -- it breaks off: before it was begun
@@ -234,34 +211,37 @@ module _ {E : Type 0} (old new : E → Option Event → State → Type 0) (lies 
       go t [] = refl
       go t (m ∷ ms) = go (moved t m) ms
 
-  pub opening-breaks : (now left : ℕ → Point → Type 0) (fills : Written → ℕ → Type 0) (flight : Option Flight) (halt : Halt) (e : E) (event : Event) (told new_told : List Event) →
-      (o : IsOpening old d.room d.point story e (Some event) told) → BreaksAt (now 0) (left 0) fills flight halt o.on.point event told new_told →
-      BreaksOpening now left fills flight (Halted halt) start trace story new_told
-  opening-breaks now left fills flight halt e event told new_told o (inl short) =
-      subst (λ es. BreaksOpening now left fills flight (Halted halt) start trace story es) (sym short.0)
-      (breaks-here now left fills flight halt o.has o.on.moves o.on.point told o.on.runs o.on.inside o.on.tells short.1 (inl short.2))
-  opening-breaks now left fills flight halt e event told new_told o (inr said) =
-      let q = said.1.0 in
-      let m = said.1.1 in
-      let halts = said.1.2 in
-      let ms = o.on.moves ++ Say event ∷ [] in
-      let runs = runs-both o.on.moves (Say event ∷ []) o.has.point o.on.point q o.on.runs (q, m, refl) in
-      let inside = inside-both o.on.moves (Say event ∷ []) o.on.inside (tt, tt) in
-      let k = behind-keeps o.has ms q runs in
-      breaks-here now left fills flight halt o.has ms q new_told runs inside
-      (tells-both (story ++ Opened o.has.boot o.has.number ∷ []) told new_told o.on.moves (Say event ∷ []) o.on.tells said.0) halts (by k.0 m halts.reason)
+  pub opening-breaks : (now left : ℕ → Point → Type 0) (fills : Written → ℕ → Type 0) (flight : Option Flight) (halt : Halt) (h : HasOpened d.room d.point) (opened told : List Event) →
+      opened ≡ story ++ Opened h.boot h.number ∷ [] → BreaksWithin (now 0) (left 0) fills flight halt h.point opened told → BreaksOpening now left fills flight (Halted halt) start trace story told
+  opening-breaks now left fills flight halt h opened told same b = by b.breaks
     where
-      by : KeepsPoint said.1.0 (behind o.has (o.on.moves ++ Say event ∷ [])) → Moves (Say event) o.on.point said.1.0 →
-          (halt ≡ Memory) ⊎ ((f : Event) × (said.1.0.next ≡ Some f) × (at_devices_in said.1.0.state.units f ≡ true)) →
-          (halt ≡ Memory) ⊎ EndsWithin (behind o.has (o.on.moves ++ Say event ∷ []))
-      by k m (inl memory) = inl memory
-      by k m (inr f) = inr (record {
-        opening = k.state.units.phase ∙ opening-on event o.on.point said.1.0 f.0 o.on.stands.opening m f.1;
-        before = behind o.has o.on.moves;
-        event = event;
-        behind = last-of o.has o.on.moves event;
+      tells : b.before ≡ (story ++ Opened h.boot h.number ∷ []) ++ told_by b.moves
+      tells = b.tells ∙ ap (λ es. es ++ told_by b.moves) same
+
+      place : (q : Point) → KeepsPoint q (behind h (b.moves ++ Say b.event ∷ [])) → Moves (Say b.event) b.point q →
+          (halt ≡ Memory) ⊎ ((f : Event) × (q.next ≡ Some f) × (at_devices_in q.state.units f ≡ true)) → (halt ≡ Memory) ⊎ EndsWithin (behind h (b.moves ++ Say b.event ∷ []))
+      place q k m (inl memory) = inl memory
+      place q k m (inr f) = inr (record {
+        opening = k.state.units.phase ∙ opening-on b.event b.point q f.0 b.opening m f.1;
+        before = behind h b.moves;
+        event = b.event;
+        behind = last-of h b.moves b.event;
         plain = m.1;
       })
+
+      by : BreaksAt (now 0) (left 0) fills flight halt b.point b.event b.before told → BreaksOpening now left fills flight (Halted halt) start trace story told
+      by (inl short) =
+          subst (λ es. BreaksOpening now left fills flight (Halted halt) start trace story es) (sym short.0)
+          (breaks-here now left fills flight halt h b.moves b.point b.before b.runs b.inside tells short.1 (inl short.2))
+      by (inr said) =
+          let q = said.1.0 in
+          let m = said.1.1 in
+          let ms = b.moves ++ Say b.event ∷ [] in
+          let runs = runs-both b.moves (Say b.event ∷ []) h.point b.point q b.runs (q, m, refl) in
+          let inside = inside-both b.moves (Say b.event ∷ []) b.inside (tt, tt) in
+          let k = behind-keeps h ms q runs in
+          breaks-here now left fills flight halt h ms q told runs inside
+          (tells-both (story ++ Opened h.boot h.number ∷ []) b.before told b.moves (Say b.event ∷ []) tells said.0) said.1.2 (place q k.0 m said.1.2.reason)
 
 -- FINDING what devices stand for
 

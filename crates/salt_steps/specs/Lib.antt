@@ -1,5 +1,6 @@
 pub mod Writing
 pub mod Standing
+pub mod Draining
 pub mod Opening
 pub mod Serving
 pub mod Counting

@@ -7,13 +7,13 @@ use Rattle.salt_model.specs.Kept.{Kept}
 use Rattle.salt_model.specs.Phases.{Fallen, Opening, downs, has_opened, phase}
 use Rattle.salt_model.specs.Played.{Tells}
 use Rattle.salt_model.specs.Trace.{Start, Trace, from, lines_of, ◌says◌}
-use Rattle.salt_model.specs.declared.events.Event.TheVariants.{Down, Opened}
+use Rattle.salt_model.specs.declared.events.Event.TheVariants.{Down}
 use Rattle.salt_model.specs.declared.events.Event.{Event}
 use Rattle.salt_model.specs.declared.events.Flight.{Flight}
 use Rattle.salt_model.specs.declared.events.Why.TheVariants.{Stopped}
-use Rattle.salt_steps.specs.Opening.{HasOpened, IsStartOf, MayFailAt}
+use Rattle.salt_steps.specs.Opening.{IsStartOf, MayFailAt}
 use Rattle.salt_steps.specs.Serving.{Grows, IsDown, IsFitting, Serves}
-use Rattle.salt_steps.specs.Standing.{HaltsAt, OpensOn}
+use Rattle.salt_steps.specs.Standing.{HaltsAt}
 use Rattle.salt_storage.specs.Answers.{IsLater}
 use Rattle.salt_storage.specs.Writing.{FindsNoMore, OfBoot, OfOpening, Written}
 use Rattle.salt_storage.specs.declared.halt.Halt.TheVariants.{DeviceFull, Memory}
@@ -70,12 +70,6 @@ pub record BreaksOpening (lies left : ℕ → Point → Type 0) (fills : Written
   pub grows : Grows story told
   pub later : IsLater e
   pub stops : NotBegun lies left fills flight e after point ⊎ WithinOpening lies left fills flight e after point
-
--- an engine in an opening: it has told that the run is opened, and the events of the opening so far
-pub record IsOpening {E : Type 0} (sees : E → Option Event → State → Type 0) (room : ℕ) (p : Point) (story : List Event) (e : E)
-    (next : Option Event) (told : List Event) : Type 0 where
-  pub has : HasOpened room p
-  pub on : OpensOn sees has.point (story ++ Opened has.boot has.number ∷ []) e next told
 
 -- the run has fallen again, and its trace has gone on by a front of an opening
 pub record FallsAnew (lies : ℕ → Point → Type 0) (flight : Option Flight) (start : Start) (trace : Trace) (story told : List Event) : Type 0 where

@@ -2,7 +2,7 @@
 use Rattle.salt_ast.specs.declared.lines.Line.{Line}
 use Rattle.salt_keeps.specs.Laws.{IsSound}
 use Rattle.salt_keeps.specs.Points.{Ask, IsIdle, KeepsPoint, Move, Moves, Point, Runs, Say, told_by}
-use Rattle.salt_keeps.specs.Settling.{stage, waiters, waiters_after}
+use Rattle.salt_keeps.specs.Settling.{stage}
 use Rattle.salt_keeps.specs.States.{State}
 use Rattle.salt_keeps.specs.Told.{at_devices_in}
 use Rattle.salt_model.specs.Ends.{flight_told}
@@ -71,11 +71,6 @@ BreaksAt lies left fills flight halt p e story told =
 -- for want of memory a move was not made
 abbrev pub RunsShort : (lies left : Point → Type 0) → (Written → ℕ → Type 0) → Option Flight → Halt → Point → Type 0
 RunsShort lies left fills flight halt p = (halt ≡ Memory) × HaltsAt lies left fills flight halt p
-
--- the waiting units behind the event at hand
-abbrev pub waiters_behind : Option Event → State → List Id
-waiters_behind None s = waiters s
-waiters_behind (Some e) s = waiters_after e (waiters s)
 
 -- what is still to come, by these units and that event, as a number
 abbrev pub left_to_come : List Id → Option Event → ℕ

@@ -12,12 +12,15 @@ ghost use Rattle.salt_model.specs.Trace.{Rejected, Tree};
 ghost use Rattle.salt_model.specs.declared.events.Event.{Event};
 ghost use Rattle.salt_model.specs.declared.events.Flight.{Flight};
 ghost use Rattle.salt_steps.specs.Counting.{CountsStops, armed_at, armed_by, stops_armed};
+ghost use Rattle.salt_openings.specs.Draining.{statements_at};
+ghost use Rattle.salt_steps.specs.Draining.{MayTick};
 ghost use Rattle.salt_steps.specs.Opening.{FindsFirst, IsFallenFrom, MayFailAt, OpensAt};
 ghost use Rattle.salt_steps.specs.Standing.{BreaksAt, HaltsAt, IsAt, IsIdleAt, IsOpenedOn, IsOpeningAt, IsSoundPoint, RunsShort, left_to_come};
 ghost use Rattle.salt_storage.specs.Answers.{IfRefused, IsLater, disk_err, open_disk_err};
 ghost use Rattle.salt_storage.specs.Writing.{FindsNoMore, OfBoot, OfOpening, Written};
 ghost use Rattle.salt_storage.specs.declared.halt.Halt.TheVariants.{DeviceFull, Memory, Stopped};
 ghost use Rattle.salt_storage.specs.declared.open.OpenErr.{OpenErr};
+ghost use Rattle.salt_values.specs.Placement.{GivesPlaceOf, TakesEachKey};
 ghost use Rattle.salt_values.specs.declared.id.Id.{Id};
 ghost use Rattle.salt_values.specs.declared.placement.Shape.{Shape};
 ghost use Rattle.std.specs.Prelude.{Err, IfErr, IfOk, IsTrue, List, None, OnErr, OnOk, Option, Some, length, ℕ, [], ◌++◌, ◌+◌, ◌<◌, ◌∷◌, ◌≡◌, ◌⊎◌};
@@ -27,12 +30,13 @@ use salt_disk::Disks;
 use salt_model::{Event, Flight, Refusal, Story};
 use salt_schema::Schema;
 use salt_storage::{Halt, OpenErr};
-use salt_values::Id;
+use salt_values::{Id, Key, PlaceKind, Placement, Steps};
+use std::sync::ledger::Ledger;
 
 /// An engine over devices, by what it does at each move of a run. It has moved by an event already when it gives it as what comes
 /// next: `say` tells this event, and moves by the one after it. The line that is being done is lent to each call. After a `Halt`
 /// it falls, and is opened anew before it is asked again; after want of memory it is not asked again.
-pub trait Steps {
+pub trait Stepping {
     /// With the event at hand it stands for the state before that event.
     ghost sees: { View → Self → Option Event → State → Type 0 };
 
@@ -84,7 +88,14 @@ pub trait Steps {
     ghost serves: { Line → Type 0 };
 
     /// Begins a line, and gives its first event.
-    fn ask<D: Disks>(&mut self, disks: &mut D, line: &Line) -> Result<Option<Event>, Halt>
+    fn ask<D: Disks, F: Fn(PlaceKind, &Key, u32) -> u32>(
+        &mut self,
+        disks: &mut D,
+        place: &Placement<F>,
+        line: &Line,
+    ) -> Result<Option<Event>, Halt>
+        requires callable { TakesEachKey (F.pre place.now.place) }
+        requires answers { GivesPlaceOf (F.post place.now.place) }
         requires served { serves line.now }
         requires stands { (p : Point) × IsSoundPoint p × IsIdleAt (sees (D.view disks.old)) self.old p }
         ensures moves { IfOk result (λ next. (p : Point) → IsSoundPoint p → IsIdleAt (sees (D.view disks.old)) self.old p →
@@ -117,13 +128,16 @@ pub trait Steps {
         ensures { (p : Point) → IsSoundPoint p → sees (D.view disks.now) self.now None p.state → result ≡ next_turn_of p.state };
 
     /// Turns to it, and gives the first event of the turn.
-    fn turn<D: Disks>(
+    fn turn<D: Disks, F: Fn(PlaceKind, &Key, u32) -> u32>(
         &mut self,
         disks: &mut D,
+        place: &Placement<F>,
         line: &Line,
         base: Id,
     ) -> Result<Option<Event>, Halt>
-        requires { (p : Point) × IsSoundPoint p × IsAt (sees (D.view disks.old)) line.now self.old None p × (next_turn_of p.state ≡ Some base) }
+        requires callable { TakesEachKey (F.pre place.now.place) }
+        requires answers { GivesPlaceOf (F.post place.now.place) }
+        requires stands { (p : Point) × IsSoundPoint p × IsAt (sees (D.view disks.old)) line.now self.old None p × (next_turn_of p.state ≡ Some base) }
         ensures moves { IfOk result (λ next. (p : Point) → IsSoundPoint p → IsAt (sees (D.view disks.old)) line.now self.old None p → next_turn_of p.state ≡ Some base →
             (q : Point) × Moves (Turn base) p q × IsAt (sees (D.view disks.new)) line.now self.new next q) }
         ensures halts { IfErr result (λ halt. (p : Point) → IsSoundPoint p → IsAt (sees (D.view disks.old)) line.now self.old None p → next_turn_of p.state ≡ Some base →
@@ -135,14 +149,17 @@ pub trait Steps {
         ensures counts { CountsStops (D.view disks.old) (D.view disks.new) (disk_err result) (armed_by result) 0 };
 
     /// Tells what comes next, and gives what comes after it. An error leaves the story as it was, or with this event.
-    fn say<D: Disks>(
+    fn say<D: Disks, F: Fn(PlaceKind, &Key, u32) -> u32>(
         &mut self,
         disks: &mut D,
+        place: &Placement<F>,
         line: &Line,
         event: Event,
         story: &mut Story,
     ) -> Result<Option<Event>, Halt>
-        requires { (p : Point) × IsSoundPoint p × IsAt (sees (D.view disks.old)) line.now self.old (Some event) p }
+        requires callable { TakesEachKey (F.pre place.now.place) }
+        requires answers { GivesPlaceOf (F.post place.now.place) }
+        requires stands { (p : Point) × IsSoundPoint p × IsAt (sees (D.view disks.old)) line.now self.old (Some event) p }
         ensures moves { IfOk result (λ next. (p : Point) → IsSoundPoint p → IsAt (sees (D.view disks.old)) line.now self.old (Some event) p →
             (q : Point) × Moves (Say event) p q × IsAt (sees (D.view disks.new)) line.now self.new next q) }
         ensures tells { OnOk result (story.new ≡ story.old ++ event ∷ []) }
@@ -155,8 +172,14 @@ pub trait Steps {
         ensures counts { CountsStops (D.view disks.old) (D.view disks.new) (disk_err result) (armed_by result) 0 };
 
     /// Finds what its devices stand for, at first or behind a fall.
-    fn find<D: Disks>(&mut self, disks: &mut D) -> Result<(), OpenErr>
-        requires { settled (D.view disks.old) self.old }
+    fn find<D: Disks, F: Fn(PlaceKind, &Key, u32) -> u32>(
+        &mut self,
+        disks: &mut D,
+        place: &Placement<F>,
+    ) -> Result<(), OpenErr>
+        requires callable { TakesEachKey (F.pre place.now.place) }
+        requires answers { GivesPlaceOf (F.post place.now.place) }
+        requires settled { settled (D.view disks.old) self.old }
         ensures found { OnOk result (is_found (D.view disks.new) self.new) }
         ensures first { OnOk result (is_new (D.view disks.old) self.old → FindsFirst (finds (D.view disks.old) self.old) (lies (D.view disks.new) self.new) (D.view disks.old).can_stop) }
         ensures again { (result ≡ Err (OpenErr.Halted Memory) → ⊥) → (room : ℕ) (p : Point) → IsSoundPoint p → p.state.units.phase ≡ Fallen → lies (D.view disks.old) self.old room p →
@@ -195,20 +218,27 @@ pub trait Steps {
         ensures unarmed { IfOk result (λ next. stops_armed next ≡ 0) }
         ensures counts { CountsStops (D.view disks.old) (D.view disks.new) (disk_err result) 0 0 };
 
-    /// Tells what comes next in an opening, and gives what comes after it, none behind its end. An error leaves the story as it was,
-    /// or with this event.
-    fn go_on<D: Disks>(
+    /// Tells what comes next in an opening, and gives what comes after it, none behind its end: a step where that is a statement, which
+    /// is done then. An error leaves the story as it was, or with this event.
+    fn go_on<D: Disks, F: Fn(PlaceKind, &Key, u32) -> u32, L: Ledger>(
         &mut self,
         disks: &mut D,
+        place: &Placement<F>,
         event: Event,
         story: &mut Story,
+        steps: &mut Steps<L>,
     ) -> Result<Option<Event>, Halt>
-        requires { (p : Point) × IsSoundPoint p × IsOpeningAt (sees (D.view disks.old)) self.old (Some event) p }
+        requires callable { TakesEachKey (F.pre place.now.place) }
+        requires answers { GivesPlaceOf (F.post place.now.place) }
+        requires stands { (p : Point) × IsSoundPoint p × IsOpeningAt (sees (D.view disks.old)) self.old (Some event) p }
         ensures moves { IfOk result (λ next. (p : Point) → IsSoundPoint p → IsOpeningAt (sees (D.view disks.old)) self.old (Some event) p →
             (q : Point) × Moves (Say event) p q × IsOpenedOn (sees (D.view disks.new)) self.new next q) }
         ensures tells { OnOk result (story.new ≡ story.old ++ event ∷ []) }
         ensures halts { IfErr result (λ halt. (p : Point) → IsSoundPoint p → IsOpeningAt (sees (D.view disks.old)) self.old (Some event) p →
             BreaksAt (lies (D.view disks.new) self.new 0) (left (D.view disks.new) self.new 0) (fills (D.view disks.new) self.new) (flight self.new) halt p event story.old story.new) }
+        ensures ticks { IfOk result (λ next. steps.new ≡ steps.old + statements_at next) }
+        ensures short { OnErr result ((p : Point) → IsSoundPoint p → IsOpeningAt (sees (D.view disks.old)) self.old (Some event) p →
+            MayTick p event story.old story.new steps.old steps.new) }
         ensures less { IfOk result (λ next. to_open self.new next < to_open self.old (Some event)) }
         ensures asked { asked self.new ≡ asked self.old }
         ensures shape { SameShape (D.view disks.old) (D.view disks.new) }
@@ -235,9 +265,9 @@ pub trait Steps {
         ensures serves { (p : Point) → IsSoundPoint p → sees (D.view disks.now) self.now None p.state → result.now ≡ schema_of p.state.units.kept }
         ensures lies { (room : ℕ) (p : Point) → IsSoundPoint p → lies (D.view disks.now) self.now room p → result.now ≡ schema_of p.state.units.kept };
 
-    /// Takes what was in flight where it was broken off.
-    fn flight(&mut self) -> Option<Flight>
-        ensures { result ≡ flight self.old };
+    /// It is given up: what was in flight where it was broken off.
+    fn flight(self) -> Option<Flight>
+        ensures { result ≡ flight self };
 
     /// A law: between lines it can be opened anew, and nothing is in flight; and where it can be opened, what is left of its devices
     /// stands.

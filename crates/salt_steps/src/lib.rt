@@ -6,7 +6,7 @@ mod opening;
 mod serving;
 mod starting;
 
-pub use engine::Steps;
-pub use opening::recover;
-pub use serving::{refuse, serve};
+pub use engine::Stepping;
+pub use opening::{drain, events_behind, recover};
+pub use serving::{refuse, step};
 pub use starting::start;

@@ -1,28 +1,134 @@
 //! A run is opened, at first and behind a fall, and through the stops that come meanwhile.
 
 ghost use Rattle.salt_disk.specs.Disks.{SameShape};
+ghost use Rattle.salt_keeps.specs.Points.{Point};
+ghost use Rattle.salt_keeps.specs.Steps.{units_after};
 ghost use Rattle.salt_model.specs.Trace.{Start, Trace};
-ghost use Rattle.salt_steps.specs.Counting.{CountsFall, CountsOpening};
+ghost use Rattle.salt_model.specs.declared.events.Event.{Event};
+ghost use Rattle.salt_openings.specs.Draining.{CanDrain, rests_behind};
+ghost use Rattle.salt_steps.specs.Counting.{CountsFall, CountsOpening, stops_armed};
+ghost use Rattle.salt_steps.specs.Draining.{BreaksWithin, CountsOff, CountsSteps, units_in, units_told};
 ghost use Rattle.salt_steps.specs.Opening.{halt_of};
 ghost use Rattle.salt_steps.specs.Reopening.{BreaksOpening, OpensOrFalls, Reopens};
 ghost use Rattle.salt_steps.specs.Serving.{Halts, IsDown};
+ghost use Rattle.salt_steps.specs.Standing.{IsOpeningAt, IsSoundPoint, OpensOn};
 ghost use Rattle.salt_storage.specs.Answers.{disk_err, open_disk_err};
 ghost use Rattle.salt_storage.specs.declared.halt.Halt.TheVariants.{Stopped};
 ghost use Rattle.salt_storage.specs.declared.open.OpenErr.TheVariants.{Halted};
-ghost use Rattle.std.specs.Prelude.{Err, IfErr, IfOk, Ok, OnOk, false, ◌<◌, ◌≡◌};
+ghost use Rattle.salt_values.specs.Placement.{GivesPlaceOf, TakesEachKey};
+ghost use Rattle.std.specs.Prelude.{Err, IfErr, IfOk, List, None, Ok, OnErr, OnOk, Some, drop, false, ◌++◌, ◌+◌, ◌<◌, ◌≡◌, ◌≤◌};
 
-use crate::engine::Steps;
+use crate::engine::Stepping;
 use salt_disk::Disks;
 use salt_model::{Event, Story, Why};
 use salt_storage::{Halt, OpenErr};
+use salt_values::{Key, PlaceKind, Placement, Steps};
 use std::alloc::AllocError;
+use std::marker::Brand;
+use std::sync::ledger::{Blank, Ledger};
 
-/// Opens over what was found, of a run that is down: tells the events of the opening until none comes next.
-pub fn open_found<E: Steps, D: Disks>(
+/// The events of a story behind so many.
+pub fn events_behind(story: &Story, count: usize) -> &[Event]
+    ensures { result.now ≡ drop count story.now }
+{
+    story.as_slice().get(count..).unwrap_or_default()
+}
+
+/// One where an event begins a unit.
+fn unit_in(event: &Event) -> u64
+    ensures { result ≡ units_in event.now }
+{
+    match event {
+        Event::Began { .. } => 1,
+        _ => 0,
+    }
+}
+
+/// How many units are begun.
+fn units_told(events: &[Event]) -> u64
+    ensures { result ≡ units_told events.now }
+{
+    let mut units = 0;
+    for event in events {
+        units += unit_in(event);
+    }
+    units
+}
+
+/// Tells what is left of an opening, from what comes next in it through its Ready, and gives the number of units that it began. Each
+/// statement that is done is a step, and there are no more than the programs that go on have left. An error leaves a story that has
+/// gained a front of what is told of the opening, and an engine that is to be opened anew.
+pub fn drain<E: Stepping, D: Disks, F: Fn(PlaceKind, &Key, u32) -> u32, L: Ledger>(
     engine: &mut E,
     disks: &mut D,
+    place: &Placement<F>,
+    first: Event,
+    story: &mut Story,
+    steps: &mut Steps<L>,
+) -> Result<u64, Halt>
+    requires callable { TakesEachKey (F.pre place.now.place) }
+    requires answers { GivesPlaceOf (F.post place.now.place) }
+    requires stands { (p : Point) × IsSoundPoint p × IsOpeningAt (E.sees (D.view disks.old)) engine.old (Some first) p }
+    requires unarmed { stops_armed first ≡ 0 }
+    ensures ok { OnOk result ((p : Point) → IsSoundPoint p → IsOpeningAt (E.sees (D.view disks.old)) engine.old (Some first) p →
+        OpensOn (E.sees (D.view disks.new)) p story.old engine.new None story.new) }
+    ensures err { IfErr result (λ halt. (p : Point) → IsSoundPoint p → IsOpeningAt (E.sees (D.view disks.old)) engine.old (Some first) p →
+        BreaksWithin (E.lies (D.view disks.new) engine.new 0) (E.left (D.view disks.new) engine.new 0) (E.fills (D.view disks.new) engine.new) (E.flight engine.new) halt p story.old story.new) }
+    ensures units { IfOk result (λ units. (more : List Event) → story.new ≡ story.old ++ more → units ≡ units_told more) }
+    ensures ticks { OnOk result (CountsSteps first story.old story.new steps.old steps.new 0) }
+    ensures short { OnErr result (CountsOff first story.old story.new steps.old steps.new) }
+    ensures most { (p : Point) → IsSoundPoint p → IsOpeningAt (E.sees (D.view disks.old)) engine.old (Some first) p →
+        CanDrain (units_after first p.state.units).kept → steps.new ≤ steps.old + rests_behind first p.state.units }
+    ensures asked { E.asked engine.new ≡ E.asked engine.old }
+    ensures shape { SameShape (D.view disks.old) (D.view disks.new) }
+    ensures counts { CountsOpening (D.view disks.old) (D.view disks.new) (disk_err result) story.old story.new }
+{
+    let told = story.len();
+    let mut next = Some(first);
+    while let Some(event) = next {
+        next = engine.go_on(disks, place, event, story, steps)?;
+    }
+    Ok(units_told(events_behind(story, told)))
+}
+
+/// Tells what is left of an opening, and counts no steps.
+fn finish_opening<E: Stepping, D: Disks, F: Fn(PlaceKind, &Key, u32) -> u32, L: Ledger>(
+    engine: &mut E,
+    disks: &mut D,
+    place: &Placement<F>,
+    first: Event,
+    story: &mut Story,
+    blank: Blank,
+) -> Result<(), Halt>
+    requires callable { TakesEachKey (F.pre place.now.place) }
+    requires answers { GivesPlaceOf (F.post place.now.place) }
+    requires stands { (p : Point) × IsSoundPoint p × IsOpeningAt (E.sees (D.view disks.old)) engine.old (Some first) p }
+    requires unarmed { stops_armed first ≡ 0 }
+    requires name { blank.name ≡ L.name }
+    requires parts { blank.parts ≡ L.parts }
+    requires some { 0 < blank.parts }
+    ensures ok { OnOk result ((p : Point) → IsSoundPoint p → IsOpeningAt (E.sees (D.view disks.old)) engine.old (Some first) p →
+        OpensOn (E.sees (D.view disks.new)) p story.old engine.new None story.new) }
+    ensures err { IfErr result (λ halt. (p : Point) → IsSoundPoint p → IsOpeningAt (E.sees (D.view disks.old)) engine.old (Some first) p →
+        BreaksWithin (E.lies (D.view disks.new) engine.new 0) (E.left (D.view disks.new) engine.new 0) (E.fills (D.view disks.new) engine.new) (E.flight engine.new) halt p story.old story.new) }
+    ensures asked { E.asked engine.new ≡ E.asked engine.old }
+    ensures shape { SameShape (D.view disks.old) (D.view disks.new) }
+    ensures counts { CountsOpening (D.view disks.old) (D.view disks.new) (disk_err result) story.old story.new }
+{
+    let mut steps = Steps::<L>::new(blank);
+    let _units = drain(engine, disks, place, first, story, &mut steps)?;
+    Ok(())
+}
+
+/// Opens over what was found, of a run that is down: tells the events of the opening until none comes next.
+pub fn open_found<E: Stepping, D: Disks, F: Fn(PlaceKind, &Key, u32) -> u32>(
+    engine: &mut E,
+    disks: &mut D,
+    place: &Placement<F>,
     story: &mut Story,
 ) -> Result<(), Halt>
+    requires callable { TakesEachKey (F.pre place.now.place) }
+    requires answers { GivesPlaceOf (F.post place.now.place) }
     requires found { E.is_found (D.view disks.old) engine.old }
     requires down { (start : Start) × (trace : Trace) × IsDown (E.lies (D.view disks.old) engine.old) (E.flight engine.old) start story.old trace }
     ensures ok { OnOk result ((start : Start) (trace : Trace) → IsDown (E.lies (D.view disks.old) engine.old) (E.flight engine.old) start story.old trace →
@@ -33,19 +139,19 @@ pub fn open_found<E: Steps, D: Disks>(
     ensures shape { SameShape (D.view disks.old) (D.view disks.new) }
     ensures counts { CountsOpening (D.view disks.old) (D.view disks.new) (disk_err result) story.old story.new }
 {
-    let mut next = Some(engine.open(disks, story)?);
-    while let Some(event) = next {
-        next = engine.go_on(disks, event, story)?;
-    }
-    Ok(())
+    let first = engine.open(disks, story)?;
+    finish_opening::<E, D, F, Brand>(engine, disks, place, first, story, Blank::new(1))
 }
 
 /// Finds what the devices stand for, and opens over that, once.
-fn open_once<E: Steps, D: Disks>(
+fn open_once<E: Stepping, D: Disks, F: Fn(PlaceKind, &Key, u32) -> u32>(
     engine: &mut E,
     disks: &mut D,
+    place: &Placement<F>,
     story: &mut Story,
 ) -> Result<(), OpenErr>
+    requires callable { TakesEachKey (F.pre place.now.place) }
+    requires answers { GivesPlaceOf (F.post place.now.place) }
     requires settled { E.settled (D.view disks.old) engine.old }
     requires down { (start : Start) × (trace : Trace) × IsDown (E.lies (D.view disks.old) engine.old) (E.flight engine.old) start story.old trace }
     ensures ok { OnOk result ((start : Start) (trace : Trace) → IsDown (E.lies (D.view disks.old) engine.old) (E.flight engine.old) start story.old trace →
@@ -56,17 +162,20 @@ fn open_once<E: Steps, D: Disks>(
     ensures shape { SameShape (D.view disks.old) (D.view disks.new) }
     ensures counts { CountsOpening (D.view disks.old) (D.view disks.new) (open_disk_err result) story.old story.new }
 {
-    engine.find(disks)?;
-    open_found(engine, disks, story)?;
+    engine.find(disks, place)?;
+    open_found(engine, disks, place, story)?;
     Ok(())
 }
 
 /// Opens once. False where a stop came meanwhile, and the run has fallen again.
-fn try_open<E: Steps, D: Disks>(
+fn try_open<E: Stepping, D: Disks, F: Fn(PlaceKind, &Key, u32) -> u32>(
     engine: &mut E,
     disks: &mut D,
+    place: &Placement<F>,
     story: &mut Story,
 ) -> Result<bool, OpenErr>
+    requires callable { TakesEachKey (F.pre place.now.place) }
+    requires answers { GivesPlaceOf (F.post place.now.place) }
     requires settled { E.settled (D.view disks.old) engine.old }
     requires down { (start : Start) × (trace : Trace) × IsDown (E.lies (D.view disks.old) engine.old) (E.flight engine.old) start story.old trace }
     ensures ok { IfOk result (λ opened. (start : Start) (trace : Trace) → IsDown (E.lies (D.view disks.old) engine.old) (E.flight engine.old) start story.old trace →
@@ -80,7 +189,7 @@ fn try_open<E: Steps, D: Disks>(
     ensures shape { SameShape (D.view disks.old) (D.view disks.new) }
     ensures counts { CountsOpening (D.view disks.old) (D.view disks.new) (open_disk_err result) story.old story.new }
 {
-    match open_once(engine, disks, story) {
+    match open_once(engine, disks, place, story) {
         Ok(()) => Ok(true),
         Err(OpenErr::Halted(Halt::Stopped)) => {
             story.push(Event::Down(Why::Stopped))?;
@@ -93,11 +202,14 @@ fn try_open<E: Steps, D: Disks>(
 
 /// Opens a run that is down, through the stops that come meanwhile. An error leaves a story that has gained a front of what is told of
 /// it.
-pub fn open<E: Steps, D: Disks>(
+pub fn open<E: Stepping, D: Disks, F: Fn(PlaceKind, &Key, u32) -> u32>(
     engine: &mut E,
     disks: &mut D,
+    place: &Placement<F>,
     story: &mut Story,
 ) -> Result<(), OpenErr>
+    requires callable { TakesEachKey (F.pre place.now.place) }
+    requires answers { GivesPlaceOf (F.post place.now.place) }
     requires settled { E.settled (D.view disks.old) engine.old }
     requires down { (start : Start) × (trace : Trace) × IsDown (E.lies (D.view disks.old) engine.old) (E.flight engine.old) start story.old trace }
     ensures ok { OnOk result ((start : Start) (trace : Trace) → IsDown (E.lies (D.view disks.old) engine.old) (E.flight engine.old) start story.old trace →
@@ -109,18 +221,21 @@ pub fn open<E: Steps, D: Disks>(
     ensures shape { SameShape (D.view disks.old) (D.view disks.new) }
     ensures counts { CountsOpening (D.view disks.old) (D.view disks.new) (open_disk_err result) story.old story.new }
 {
-    'stops: while !try_open(engine, disks, story)? {}
+    'stops: while !try_open(engine, disks, place, story)? {}
     Ok(())
 }
 
 /// A run that broke off in a line, by a stop or a fault, falls and is opened again, through the stops that come meanwhile. An error
 /// leaves a story that has gained a front of what is told of it.
-pub fn recover<E: Steps, D: Disks>(
+pub fn recover<E: Stepping, D: Disks, F: Fn(PlaceKind, &Key, u32) -> u32>(
     engine: &mut E,
     disks: &mut D,
+    place: &Placement<F>,
     why: Why,
     story: &mut Story,
 ) -> Result<(), OpenErr>
+    requires callable { TakesEachKey (F.pre place.now.place) }
+    requires answers { GivesPlaceOf (F.post place.now.place) }
     requires halted { (start : Start) × (trace : Trace) × Halts (E.lies (D.view disks.old) engine.old 0) (E.left (D.view disks.old) engine.old 0) (E.fills (D.view disks.old) engine.old) (E.flight engine.old) (halt_of why) start story.old trace }
     ensures ok { OnOk result ((start : Start) (trace : Trace) → Halts (E.lies (D.view disks.old) engine.old 0) (E.left (D.view disks.old) engine.old 0) (E.fills (D.view disks.old) engine.old) (E.flight engine.old) (halt_of why) start story.old trace →
         Reopens (E.sees (D.view disks.new)) start trace story.old engine.new story.new) }
@@ -133,5 +248,5 @@ pub fn recover<E: Steps, D: Disks>(
 {
     story.push(Event::Down(why))?;
     engine.fall(disks);
-    open(engine, disks, story)
+    open(engine, disks, place, story)
 }

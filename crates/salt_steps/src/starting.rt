@@ -9,20 +9,25 @@ ghost use Rattle.salt_storage.specs.Writing.{FindsNoMore, OfOpening};
 ghost use Rattle.salt_storage.specs.declared.halt.Halt.TheVariants.{DeviceFull, Memory, Stopped};
 ghost use Rattle.salt_storage.specs.declared.open.OpenErr.TheVariants.{Halted};
 ghost use Rattle.salt_storage.specs.declared.open.OpenErr.{OpenErr};
+ghost use Rattle.salt_values.specs.Placement.{GivesPlaceOf, TakesEachKey};
 ghost use Rattle.std.specs.Prelude.{Err, IfErr, IsTrue, None, Ok, OnErr, OnOk, false, true, ℕ, [], ◌<◌, ◌≡◌, ◌⊎◌};
 
-use crate::engine::Steps;
+use crate::engine::Stepping;
 use crate::opening::{open, open_found};
 use salt_disk::Disks;
 use salt_model::{Event, Story, Why};
 use salt_storage::{Halt, OpenErr};
+use salt_values::{Key, PlaceKind, Placement};
 
 /// Finds what the devices stand for. False where a stop came meanwhile, and the run has fallen.
-fn try_find<E: Steps, D: Disks>(
+fn try_find<E: Stepping, D: Disks, F: Fn(PlaceKind, &Key, u32) -> u32>(
     engine: &mut E,
     disks: &mut D,
+    place: &Placement<F>,
     story: &mut Story,
 ) -> Result<bool, OpenErr>
+    requires callable { TakesEachKey (F.pre place.now.place) }
+    requires answers { GivesPlaceOf (F.post place.now.place) }
     requires new { E.is_new (D.view disks.old) engine.old }
     requires settled { E.settled (D.view disks.old) engine.old }
     ensures found { result ≡ Ok true → E.is_found (D.view disks.new) engine.new }
@@ -48,7 +53,7 @@ fn try_find<E: Steps, D: Disks>(
     ensures shape { SameShape (D.view disks.old) (D.view disks.new) }
     ensures counts { CountsOpening (D.view disks.old) (D.view disks.new) (open_disk_err result) story.old story.new }
 {
-    match engine.find(disks) {
+    match engine.find(disks, place) {
         Ok(()) => Ok(true),
         Err(OpenErr::Halted(Halt::Stopped)) => {
             story.push(Event::Down(Why::Stopped))?;
@@ -60,11 +65,14 @@ fn try_find<E: Steps, D: Disks>(
 }
 
 /// Finds what the devices stand for, through the stops that come meanwhile.
-fn find_first<E: Steps, D: Disks>(
+fn find_first<E: Stepping, D: Disks, F: Fn(PlaceKind, &Key, u32) -> u32>(
     engine: &mut E,
     disks: &mut D,
+    place: &Placement<F>,
     story: &mut Story,
 ) -> Result<(), OpenErr>
+    requires callable { TakesEachKey (F.pre place.now.place) }
+    requires answers { GivesPlaceOf (F.post place.now.place) }
     requires new { E.is_new (D.view disks.old) engine.old }
     requires settled { E.settled (D.view disks.old) engine.old }
     requires flies { E.flight engine.old ≡ None }
@@ -81,16 +89,19 @@ fn find_first<E: Steps, D: Disks>(
     ensures shape { SameShape (D.view disks.old) (D.view disks.new) }
     ensures counts { CountsOpening (D.view disks.old) (D.view disks.new) (open_disk_err result) [] story.new }
 {
-    'stops: while !try_find(engine, disks, story)? {}
+    'stops: while !try_find(engine, disks, place, story)? {}
     Ok(())
 }
 
 /// Begins a run over what its devices stand for, and opens it. An error leaves a story that is a front of what is told of this.
-pub fn start<E: Steps, D: Disks>(
+pub fn start<E: Stepping, D: Disks, F: Fn(PlaceKind, &Key, u32) -> u32>(
     engine: &mut E,
     disks: &mut D,
+    place: &Placement<F>,
     story: &mut Story,
 ) -> Result<(), OpenErr>
+    requires callable { TakesEachKey (F.pre place.now.place) }
+    requires answers { GivesPlaceOf (F.post place.now.place) }
     requires new { E.is_new (D.view disks.old) engine.old }
     requires settled { E.settled (D.view disks.old) engine.old }
     requires flies { E.flight engine.old ≡ None }
@@ -106,13 +117,13 @@ pub fn start<E: Steps, D: Disks>(
     ensures shape { SameShape (D.view disks.old) (D.view disks.new) }
     ensures counts { CountsOpening (D.view disks.old) (D.view disks.new) (open_disk_err result) [] story.new }
 {
-    find_first(engine, disks, story)?;
-    match open_found(engine, disks, story) {
+    find_first(engine, disks, place, story)?;
+    match open_found(engine, disks, place, story) {
         Ok(()) => Ok(()),
         Err(Halt::Stopped) => {
             story.push(Event::Down(Why::Stopped))?;
             engine.fall(disks);
-            open(engine, disks, story)
+            open(engine, disks, place, story)
         }
         Err(halt) => Err(OpenErr::Halted(halt)),
     }

@@ -6,8 +6,8 @@ use Rattle.salt_steps.proofs.serving.finish.Goals as goal
 use Rattle.std.proofs.Common.{ap, subst, sym, ◌∙◌}
 use Rattle.std.specs.Prelude.{None, length, ◌<◌}
 
-pub settle-requires : goal.settle-requires
-settle-requires g c = c.requires
+pub settle-requires-clause-stands : goal.settle-requires-clause-stands
+settle-requires-clause-stands g c = c.requires.stands
 
 pub loop-base-init : goal.loop-base-init
 loop-base-init g c = (
@@ -16,22 +16,22 @@ loop-base-init g c = (
   c.in_ok-settle.ensures.asked,
 )
 
-pub turn-requires : goal.turn-requires
-turn-requires g c =
-    let here = c.loop-base.invariant.0 c.requires.0 c.requires.1 c.requires.2 in
-    let sound = sound-on here.moves c.requires.0 here.point c.requires.1 here.inside here.runs in
+pub turn-requires-clause-stands : goal.turn-requires-clause-stands
+turn-requires-clause-stands g c =
+    let here = c.loop-base.invariant.0 c.requires.stands.0 c.requires.stands.1 c.requires.stands.2 in
+    let sound = sound-on here.moves c.requires.stands.0 here.point c.requires.stands.1 here.inside here.runs in
     (here.point, sound, here.stands, sym (c.next_turn.ensures here.point sound here.stands.state) ∙ c.in-Some.is)
 
-pub settle-requires-in-Some : goal.settle-requires-in-Some
-settle-requires-in-Some g c =
-    let here = c.loop-base.invariant.0 c.requires.0 c.requires.1 c.requires.2 in
-    let sound = sound-on here.moves c.requires.0 here.point c.requires.1 here.inside here.runs in
+pub settle-requires-in-Some-clause-stands : goal.settle-requires-in-Some-clause-stands
+settle-requires-in-Some-clause-stands g c =
+    let here = c.loop-base.invariant.0 c.requires.stands.0 c.requires.stands.1 c.requires.stands.2 in
+    let sound = sound-on here.moves c.requires.stands.0 here.point c.requires.stands.1 here.inside here.runs in
     let r = c.in_ok-next.ensures.moves here.point sound here.stands (sym (c.next_turn.ensures here.point sound here.stands.state) ∙ c.in-Some.is) in
     (r.0, sound-moved (Turn c.in-Some.base) here.point r.0 tt sound r.1, r.2)
 
 pub loop-base-smaller : goal.loop-base-smaller
 loop-base-smaller g c =
-    subst (λ n. n < length (g.E.Steps.turns c.loop-base.engine)) (sym (ap length c.in_ok-settle-2.ensures.turns)) c.in_ok-next.ensures.fewer
+    subst (λ n. n < length (g.E.Stepping.turns c.loop-base.engine)) (sym (ap length c.in_ok-settle-2.ensures.turns)) c.in_ok-next.ensures.fewer
 
 pub loop-base-preserved : goal.loop-base-preserved
 loop-base-preserved g c =
@@ -41,7 +41,7 @@ loop-base-preserved g c =
           let here = known.0 p starts at in
           let sound = sound-on here.moves p here.point starts here.inside here.runs in
           let r = c.in_ok-next.ensures.moves here.point sound here.stands (sym (c.next_turn.ensures here.point sound here.stands.state) ∙ c.in-Some.is) in
-          turn-on (g.E.Steps.sees (view c.settle-in-Some.new.disks)) c.args.line.now (g.E.Steps.sees (view c.loop-base.disks)) c.in-Some.base p r.0 c.args.story.now c.loop-base.story c.settle-in-Some.new.story c.loop-base.engine c.settle-in-Some.new.engine here r.1
+          turn-on (g.E.Stepping.sees (view c.settle-in-Some.new.disks)) c.args.line.now (g.E.Stepping.sees (view c.loop-base.disks)) c.in-Some.base p r.0 c.args.story.now c.loop-base.story c.settle-in-Some.new.story c.loop-base.engine c.settle-in-Some.new.engine here r.1
           (c.in_ok-settle-2.ensures.ok r.0 (sound-moved (Turn c.in-Some.base) here.point r.0 tt sound r.1) r.2),
       count-so-far (view c.args.disks.now) (view c.settle-in-Some.new.disks) c.args.first c.args.story.now c.settle-in-Some.new.story
           (shapes (view c.args.disks.now) (view c.turn.new.disks) (view c.settle-in-Some.new.disks)
@@ -56,7 +56,7 @@ pub returns-clause-ok : goal.returns-clause-ok
 returns-clause-ok g c = λ p starts at.
     let here = c.loop-base.invariant.0 p starts at in
     let sound = sound-on here.moves p here.point starts here.inside here.runs in
-    finish-where (g.E.Steps.sees (g.D.Disks.view c.loop-base.disks)) c.args.line.now p c.args.story.now c.loop-base.story c.loop-base.engine here
+    finish-where (g.E.Stepping.sees (g.D.Disks.view c.loop-base.disks)) c.args.line.now p c.args.story.now c.loop-base.story c.loop-base.engine here
     (sym (c.next_turn.ensures here.point sound here.stands.state) ∙ none-of c.next_turn.result c.in_default.not-Some)
 
 pub returns-clause-shape : goal.returns-clause-shape
@@ -83,7 +83,7 @@ returns-in_err-next-clause-err g c =
     rw (p.1, p.2) (λ p starts at.
     let here = c.loop-base.invariant.0 p starts at in
     let sound = sound-on here.moves p here.point starts here.inside here.runs in
-    stop-turning (g.E.Steps.sees (g.D.Disks.view c.loop-base.disks)) c.args.line.now _ _ _ _ _ c.in-Some.base p c.args.story.now c.loop-base.story c.loop-base.engine here
+    stop-turning (g.E.Stepping.sees (g.D.Disks.view c.loop-base.disks)) c.args.line.now _ _ _ _ _ c.in-Some.base p c.args.story.now c.loop-base.story c.loop-base.engine here
     (c.in_err-next.ensures.halts here.point sound here.stands (sym (c.next_turn.ensures here.point sound here.stands.state) ∙ c.in-Some.is)))
 
 pub returns-in_err-next-clause-counts : goal.returns-in_err-next-clause-counts
@@ -103,7 +103,7 @@ returns-in_err-settle-2-clause-err g c =
     let here = c.loop-base.invariant.0 p starts at in
     let sound = sound-on here.moves p here.point starts here.inside here.runs in
     let r = c.in_ok-next.ensures.moves here.point sound here.stands (sym (c.next_turn.ensures here.point sound here.stands.state) ∙ c.in-Some.is) in
-    stop-turned (g.E.Steps.sees (g.D.Disks.view c.loop-base.disks)) c.args.line.now _ _ _ _ _ c.in-Some.base p r.0 c.args.story.now c.loop-base.story c.settle-in-Some.new.story c.loop-base.engine here r.1
+    stop-turned (g.E.Stepping.sees (g.D.Disks.view c.loop-base.disks)) c.args.line.now _ _ _ _ _ c.in-Some.base p r.0 c.args.story.now c.loop-base.story c.settle-in-Some.new.story c.loop-base.engine here r.1
     (c.in_err-settle-2.ensures.err r.0 (sound-moved (Turn c.in-Some.base) here.point r.0 tt sound r.1) r.2))
 
 pub returns-in_err-settle-2-clause-counts : goal.returns-in_err-settle-2-clause-counts

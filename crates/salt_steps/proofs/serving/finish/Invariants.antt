@@ -6,10 +6,10 @@ use Rattle.std.specs.Prelude.{None, length, ◌≡◌}
 
 abbrev pub invariant-loop-base : goal.invariant-loop-base
 invariant-loop-base g l =
-    ((p : Point) → IsSoundPoint p → IsAt (g.E.Steps.sees (g.D.Disks.view l.fn.disks)) l.line l.fn.engine l.fn.first p →
-    Advances (g.E.Steps.sees (g.D.Disks.view l.disks)) l.line p l.fn.story l.engine None l.story)
+    ((p : Point) → IsSoundPoint p → IsAt (g.E.Stepping.sees (g.D.Disks.view l.fn.disks)) l.line l.fn.engine l.fn.first p →
+    Advances (g.E.Stepping.sees (g.D.Disks.view l.disks)) l.line p l.fn.story l.engine None l.story)
     × CountsSoFar (g.D.Disks.view l.fn.disks) (g.D.Disks.view l.disks) l.fn.first l.fn.story l.story None
-    × (g.E.Steps.asked l.engine ≡ g.E.Steps.asked l.fn.engine)
+    × (g.E.Stepping.asked l.engine ≡ g.E.Stepping.asked l.fn.engine)
 
 abbrev pub decreases-loop-base : goal.decreases-loop-base
-decreases-loop-base g l = length (g.E.Steps.turns l.engine)
+decreases-loop-base g l = length (g.E.Stepping.turns l.engine)

@@ -10,35 +10,35 @@ use Rattle.std.specs.Prelude.{None}
 
 pub ask_rejected-requires : goal.ask_rejected-requires
 ask_rejected-requires g c =
-    let sees = g.E.Steps.sees (g.D.Disks.view c.args.disks.now) in
-    let s = c.requires.2 in (s.point, serves-at sees sees c.requires.0 c.args.engine.now c.args.story.now c.requires.1 s, s.stands)
+    let sees = g.E.Stepping.sees (g.D.Disks.view c.args.disks.now) in
+    let s = c.requires.stands.2 in (s.point, serves-at sees sees c.requires.stands.0 c.args.engine.now c.args.story.now c.requires.stands.1 s, s.stands)
 
-pub finish-requires : goal.finish-requires
-finish-requires g c =
-    let sees = g.E.Steps.sees (g.D.Disks.view c.args.disks.now) in
-    let s = c.requires.2 in
-    let sound = serves-at sees sees c.requires.0 c.args.engine.now c.args.story.now c.requires.1 s in
+pub finish-requires-clause-stands : goal.finish-requires-clause-stands
+finish-requires-clause-stands g c =
+    let sees = g.E.Stepping.sees (g.D.Disks.view c.args.disks.now) in
+    let s = c.requires.stands.2 in
+    let sound = serves-at sees sees c.requires.stands.0 c.args.engine.now c.args.story.now c.requires.stands.1 s in
     let r = c.in_ok-first.ensures.moves s.point sound s.stands in
     (r.0, sound-asked (Rejected c.args.refusal) s.point r.0 tt sound r.1, r.2)
 
 pub returns-clause-segment : goal.returns-clause-segment
 returns-clause-segment g c = on_ok_weaker c.finish.result (λ done start trace s.
     let view = g.D.Disks.view in
-    let old = g.E.Steps.sees (view c.args.disks.now) in
+    let old = g.E.Stepping.sees (view c.args.disks.now) in
     let asked = Rejected c.args.refusal in
     let sound = serves-at old old start c.args.engine.now c.args.story.now trace s in
     let r = c.in_ok-first.ensures.moves s.point sound s.stands in
-    goes-by old (g.E.Steps.sees (view c.finish.new.disks)) start trace asked Nothing c.args.engine.now c.finish.new.engine c.args.story.now c.finish.new.story s r.0 tt r.1
+    goes-by old (g.E.Stepping.sees (view c.finish.new.disks)) start trace asked Nothing c.args.engine.now c.finish.new.engine c.args.story.now c.finish.new.story s r.0 tt r.1
     (done r.0 (sound-asked asked s.point r.0 tt sound r.1) r.2)) c.finish.ensures.ok
 
 pub returns-clause-broken_off : goal.returns-clause-broken_off
 returns-clause-broken_off g c = IfErr-weaker c.finish.result _ _ (λ halt stopped start trace s.
     let view = g.D.Disks.view in
-    let old = g.E.Steps.sees (view c.args.disks.now) in
+    let old = g.E.Stepping.sees (view c.args.disks.now) in
     let asked = Rejected c.args.refusal in
     let sound = serves-at old old start c.args.engine.now c.args.story.now trace s in
     let r = c.in_ok-first.ensures.moves s.point sound s.stands in
-    breaks-by old old start (g.E.Steps.lies (view c.finish.new.disks) c.finish.new.engine 0) (g.E.Steps.left (view c.finish.new.disks) c.finish.new.engine 0) (g.E.Steps.fills (view c.finish.new.disks) c.finish.new.engine) (g.E.Steps.flight c.finish.new.engine) halt trace asked c.args.engine.now c.args.story.now c.finish.new.story s r.0 tt r.1
+    breaks-by old old start (g.E.Stepping.lies (view c.finish.new.disks) c.finish.new.engine 0) (g.E.Stepping.left (view c.finish.new.disks) c.finish.new.engine 0) (g.E.Stepping.fills (view c.finish.new.disks) c.finish.new.engine) (g.E.Stepping.flight c.finish.new.engine) halt trace asked c.args.engine.now c.args.story.now c.finish.new.story s r.0 tt r.1
     (stopped r.0 (sound-asked asked s.point r.0 tt sound r.1) r.2)) c.finish.ensures.err
 
 pub returns-clause-shape : goal.returns-clause-shape
@@ -58,7 +58,7 @@ pub returns-in_err-first-clause-broken_off : goal.returns-in_err-first-clause-br
 returns-in_err-first-clause-broken_off g c =
     let p = err_from_is_err_and c.from_residual.result c.from_residual.ensures.1 in
     rw (p.1, p.2) (λ start trace s.
-    let old = g.E.Steps.sees (g.D.Disks.view c.args.disks.now) in
+    let old = g.E.Stepping.sees (g.D.Disks.view c.args.disks.now) in
     let sound = serves-at old old start c.args.engine.now c.args.story.now trace s in
     breaks-untold old old start _ _ _ _ _ trace (Rejected c.args.refusal) c.args.engine.now c.args.story.now s tt (c.in_err-first.ensures.halts s.point sound s.stands))
 

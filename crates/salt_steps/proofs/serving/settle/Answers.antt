@@ -10,23 +10,23 @@ use Rattle.std.specs.Prelude.{Some, refl, ◌<◌}
 
 pub loop-next-init : goal.loop-next-init
 loop-next-init g c = (
-  λ p sound at. advance-none (g.E.Steps.sees (g.D.Disks.view c.args.disks.now)) c.args.line.now p c.args.story.now c.args.engine.now c.args.first at,
+  λ p sound at. advance-none (g.E.Stepping.sees (g.D.Disks.view c.args.disks.now)) c.args.line.now p c.args.story.now c.args.engine.now c.args.first at,
   count-none (g.D.Disks.view c.args.disks.now) c.args.first c.args.story.now,
   refl,
   refl,
 )
 
-pub say-requires : goal.say-requires
-say-requires g c =
-    let here = c.loop-next.invariant.0 c.requires.0 c.requires.1 c.requires.2 in (
+pub say-requires-clause-stands : goal.say-requires-clause-stands
+say-requires-clause-stands g c =
+    let here = c.loop-next.invariant.0 c.requires.stands.0 c.requires.stands.1 c.requires.stands.2 in (
       here.point,
-      sound-on here.moves c.requires.0 here.point c.requires.1 here.inside here.runs,
-      subst (λ o. IsAt (g.E.Steps.sees (g.D.Disks.view c.loop-next.disks)) c.args.line.now c.loop-next.engine o here.point) c.in-Some.is here.stands,
+      sound-on here.moves c.requires.stands.0 here.point c.requires.stands.1 here.inside here.runs,
+      subst (λ o. IsAt (g.E.Stepping.sees (g.D.Disks.view c.loop-next.disks)) c.args.line.now c.loop-next.engine o here.point) c.in-Some.is here.stands,
     )
 
 pub loop-next-smaller : goal.loop-next-smaller
 loop-next-smaller g c =
-    subst (λ o. left_to_come (g.E.Steps.waiting c.say.new.self) c.in_ok-next.next < left_to_come (g.E.Steps.waiting c.loop-next.engine) o) (sym c.in-Some.is)
+    subst (λ o. left_to_come (g.E.Stepping.waiting c.say.new.self) c.in_ok-next.next < left_to_come (g.E.Stepping.waiting c.loop-next.engine) o) (sym c.in-Some.is)
     c.in_ok-next.ensures.less
 
 pub loop-next-preserved : goal.loop-next-preserved
@@ -34,15 +34,15 @@ loop-next-preserved g c =
     let view = g.D.Disks.view in
     let line = c.args.line.now in
     let known = c.loop-next.invariant in
-    let first = known.0 c.requires.0 c.requires.1 c.requires.2 in
-    let at = subst (λ o. IsAt (g.E.Steps.sees (view c.loop-next.disks)) line c.loop-next.engine o first.point) c.in-Some.is first.stands in
-    let moved = c.in_ok-next.ensures.moves first.point (sound-on first.moves c.requires.0 first.point c.requires.1 first.inside first.runs) at in (
+    let first = known.0 c.requires.stands.0 c.requires.stands.1 c.requires.stands.2 in
+    let at = subst (λ o. IsAt (g.E.Stepping.sees (view c.loop-next.disks)) line c.loop-next.engine o first.point) c.in-Some.is first.stands in
+    let moved = c.in_ok-next.ensures.moves first.point (sound-on first.moves c.requires.stands.0 first.point c.requires.stands.1 first.inside first.runs) at in (
       λ p sound starts.
           let here =
-          subst (λ o. Advances (g.E.Steps.sees (view c.loop-next.disks)) line p c.args.story.now c.loop-next.engine o c.loop-next.story) c.in-Some.is (known.0 p sound starts) in
+          subst (λ o. Advances (g.E.Stepping.sees (view c.loop-next.disks)) line p c.args.story.now c.loop-next.engine o c.loop-next.story) c.in-Some.is (known.0 p sound starts) in
           let r = c.in_ok-next.ensures.moves here.point (sound-on here.moves p here.point sound here.inside here.runs) here.stands in
-          advance-on (g.E.Steps.sees (view c.say.new.disks)) line (g.E.Steps.sees (view c.loop-next.disks)) p c.args.story.now c.loop-next.story c.say.new.story c.loop-next.engine c.say.new.self (Some c.in-Some.event) c.in_ok-next.next here
-          (advance-once (g.E.Steps.sees (view c.say.new.disks)) line (Say c.in-Some.event) tt here.point r.0 c.loop-next.story c.say.new.story c.say.new.self c.in_ok-next.next r.1 r.2 c.in_ok-next.ensures.tells),
+          advance-on (g.E.Stepping.sees (view c.say.new.disks)) line (g.E.Stepping.sees (view c.loop-next.disks)) p c.args.story.now c.loop-next.story c.say.new.story c.loop-next.engine c.say.new.self (Some c.in-Some.event) c.in_ok-next.next here
+          (advance-once (g.E.Stepping.sees (view c.say.new.disks)) line (Say c.in-Some.event) tt here.point r.0 c.loop-next.story c.say.new.story c.say.new.self c.in_ok-next.next r.1 r.2 c.in_ok-next.ensures.tells),
       count-on (view c.args.disks.now) (view c.loop-next.disks) (view c.say.new.disks) c.args.first c.args.story.now c.loop-next.story c.say.new.story c.in-Some.event c.in_ok-next.next
           (subst (λ o. CountsSoFar (view c.args.disks.now) (view c.loop-next.disks) c.args.first c.args.story.now c.loop-next.story o) c.in-Some.is known.1)
           c.in_ok-next.ensures.shape c.in_ok-next.ensures.counts moved.1.1 c.in_ok-next.ensures.tells,
@@ -52,7 +52,7 @@ loop-next-preserved g c =
 
 pub returns-clause-ok : goal.returns-clause-ok
 returns-clause-ok g c = λ p sound starts.
-    subst (λ o. Advances (g.E.Steps.sees (g.D.Disks.view c.loop-next.disks)) c.args.line.now p c.args.story.now c.loop-next.engine o c.loop-next.story)
+    subst (λ o. Advances (g.E.Stepping.sees (g.D.Disks.view c.loop-next.disks)) c.args.line.now p c.args.story.now c.loop-next.engine o c.loop-next.story)
     (none-of c.loop-next.next c.in_default.not-Some) (c.loop-next.invariant.0 p sound starts)
 
 pub returns-clause-turns : goal.returns-clause-turns
@@ -72,7 +72,7 @@ pub returns-in_err-next-clause-err : goal.returns-in_err-next-clause-err
 returns-in_err-next-clause-err g c =
     let p = err_from_is_err_and c.from_residual.result c.from_residual.ensures.1 in
     rw (p.1, p.2) (λ p sound at.
-    let sees = g.E.Steps.sees (g.D.Disks.view c.loop-next.disks) in
+    let sees = g.E.Stepping.sees (g.D.Disks.view c.loop-next.disks) in
     let line = c.args.line.now in
     let here =
     subst (λ o. Advances sees line p c.args.story.now c.loop-next.engine o c.loop-next.story) c.in-Some.is (c.loop-next.invariant.0 p sound at) in
@@ -84,9 +84,9 @@ returns-in_err-next-clause-counts g c =
     let view = g.D.Disks.view in
     let line = c.args.line.now in
     let known = c.loop-next.invariant in
-    let here = known.0 c.requires.0 c.requires.1 c.requires.2 in
-    let at = subst (λ o. IsAt (g.E.Steps.sees (view c.loop-next.disks)) line c.loop-next.engine o here.point) c.in-Some.is here.stands in
-    let broken = c.in_err-next.ensures.halts here.point (sound-on here.moves c.requires.0 here.point c.requires.1 here.inside here.runs) at in
+    let here = known.0 c.requires.stands.0 c.requires.stands.1 c.requires.stands.2 in
+    let at = subst (λ o. IsAt (g.E.Stepping.sees (view c.loop-next.disks)) line c.loop-next.engine o here.point) c.in-Some.is here.stands in
+    let broken = c.in_err-next.ensures.halts here.point (sound-on here.moves c.requires.stands.0 here.point c.requires.stands.1 here.inside here.runs) at in
     let p = err_from_is_err_and c.from_residual.result c.from_residual.ensures.1 in
     rw (p.1, p.2) (count-stop (view c.args.disks.now) (view c.loop-next.disks) (view c.say.new.disks) _ c.args.first c.args.story.now c.loop-next.story c.say.new.story c.in-Some.event
     (subst (λ o. CountsSoFar (view c.args.disks.now) (view c.loop-next.disks) c.args.first c.args.story.now c.loop-next.story o) c.in-Some.is known.1)

@@ -16,7 +16,7 @@ stops-init g c =
       c.requires.settled,
       c.requires.flies,
       none-told c.args.story.now c.requires.empty,
-      same-found (g.E.Steps.refuses v e) (g.E.Steps.finds v e),
+      same-found (g.E.Stepping.refuses v e) (g.E.Stepping.finds v e),
       subst (λ (told : List Event). CountsOpening v v None [] told) (sym c.requires.empty) (opening-none v []),
       same-shape v,
       inl c.requires.empty,
@@ -50,11 +50,11 @@ returns-clause-down g c =
     let view = g.D.Disks.view in
     let yes = ap Ok c.if-not-branch.false in
     let known = c.stops.invariant in
-    let before = g.E.Steps.finds (view c.args.disks.now) c.args.engine.now in
-    let lies = g.E.Steps.lies (view c.try_find.new.disks) c.try_find.new.engine in
-    found-down before (view c.args.disks.now).can_stop lies (g.E.Steps.flight c.try_find.new.engine) c.try_find.new.story
+    let before = g.E.Stepping.finds (view c.args.disks.now) c.args.engine.now in
+    let lies = g.E.Stepping.lies (view c.try_find.new.disks) c.try_find.new.engine in
+    found-down before (view c.args.disks.now).can_stop lies (g.E.Stepping.flight c.try_find.new.engine) c.try_find.new.story
     (subst IsUnfound (sym (c.in_ok-try_find.ensures.untold yes)) known.3)
-    (first-before before (g.E.Steps.finds (view c.stops.disks) c.stops.engine) (g.E.Steps.refuses (view c.args.disks.now) c.args.engine.now) (g.E.Steps.refuses (view c.stops.disks) c.stops.engine) lies
+    (first-before before (g.E.Stepping.finds (view c.stops.disks) c.stops.engine) (g.E.Stepping.refuses (view c.args.disks.now) c.args.engine.now) (g.E.Stepping.refuses (view c.stops.disks) c.stops.engine) lies
     (view c.args.disks.now).can_stop (view c.stops.disks).can_stop known.6.can_stop known.4 (c.in_ok-try_find.ensures.first yes))
     (c.in_ok-try_find.ensures.flies ∙ known.2)
 
@@ -68,10 +68,10 @@ returns-in_err-try_find-clause-err g c =
     let view = g.D.Disks.view in
     let known = c.stops.invariant in
     let p = err_from_is_err_and c.from_residual.result c.from_residual.ensures.1 in
-    rw (p.1, p.2) (fails-to-find (g.E.Steps.refuses (view c.args.disks.now) c.args.engine.now) (g.E.Steps.refuses (view c.stops.disks) c.stops.engine) (g.E.Steps.refuses (view c.try_find.new.disks) c.try_find.new.engine)
-    (g.E.Steps.finds (view c.args.disks.now) c.args.engine.now) (g.E.Steps.finds (view c.stops.disks) c.stops.engine) (g.E.Steps.finds (view c.try_find.new.disks) c.try_find.new.engine) _ _ _ _ c.stops.story c.try_find.new.story
+    rw (p.1, p.2) (fails-to-find (g.E.Stepping.refuses (view c.args.disks.now) c.args.engine.now) (g.E.Stepping.refuses (view c.stops.disks) c.stops.engine) (g.E.Stepping.refuses (view c.try_find.new.disks) c.try_find.new.engine)
+    (g.E.Stepping.finds (view c.args.disks.now) c.args.engine.now) (g.E.Stepping.finds (view c.stops.disks) c.stops.engine) (g.E.Stepping.finds (view c.try_find.new.disks) c.try_find.new.engine) _ _ _ _ c.stops.story c.try_find.new.story
     known.3 c.in_err-try_find.ensures.unrefused known.4 c.in_err-try_find.ensures.still c.in_err-try_find.ensures.refuses c.in_err-try_find.ensures.stays_new
-    (later-by c.stops.story (g.E.Steps.tried (view c.stops.disks) c.stops.engine) _ known.7 c.in_err-try_find.ensures.later) (λ dev is. c.in_err-try_find.ensures.full dev (ap Err is)) (c.in_err-try_find.ensures.flies ∙ known.2))
+    (later-by c.stops.story (g.E.Stepping.tried (view c.stops.disks) c.stops.engine) _ known.7 c.in_err-try_find.ensures.later) (λ dev is. c.in_err-try_find.ensures.full dev (ap Err is)) (c.in_err-try_find.ensures.flies ∙ known.2))
 
 pub returns-in_err-try_find-clause-counts : goal.returns-in_err-try_find-clause-counts
 returns-in_err-try_find-clause-counts g c =
@@ -82,7 +82,7 @@ returns-in_err-try_find-clause-counts g c =
 pub returns-in_err-try_find-clause-unchanged : goal.returns-in_err-try_find-clause-unchanged
 returns-in_err-try_find-clause-unchanged g c =
     let p = err_from_is_err_and c.from_residual.result c.from_residual.ensures.1 in
-    rw (p.1, p.2) (unchanged-by g.D.Disks.view c.args.disks.now c.stops.disks c.try_find.new.disks (g.E.Steps.tried (g.D.Disks.view c.stops.disks) c.stops.engine) _ c.stops.invariant.8
+    rw (p.1, p.2) (unchanged-by g.D.Disks.view c.args.disks.now c.stops.disks c.try_find.new.disks (g.E.Stepping.tried (g.D.Disks.view c.stops.disks) c.stops.engine) _ c.stops.invariant.8
     c.in_err-try_find.ensures.later c.in_err-try_find.ensures.unchanged)
 
 pub returns-in_err-try_find-clause-asked : goal.returns-in_err-try_find-clause-asked

@@ -7,17 +7,17 @@ use Rattle.std.specs.Prelude.{None, [], ◌≡◌, ◌⊎◌}
 
 abbrev pub invariant-stops : goal.invariant-stops
 invariant-stops g l =
-    g.E.Steps.is_new (g.D.Disks.view l.disks) l.engine
-    × g.E.Steps.settled (g.D.Disks.view l.disks) l.engine
-    × (g.E.Steps.flight l.engine ≡ None)
+    g.E.Stepping.is_new (g.D.Disks.view l.disks) l.engine
+    × g.E.Stepping.settled (g.D.Disks.view l.disks) l.engine
+    × (g.E.Stepping.flight l.engine ≡ None)
     × IsUnfound l.story
-    × FindsNoMore (g.E.Steps.refuses (g.D.Disks.view l.fn.disks) l.fn.engine) (g.E.Steps.finds (g.D.Disks.view l.fn.disks) l.fn.engine)
-    (g.E.Steps.refuses (g.D.Disks.view l.disks) l.engine) (g.E.Steps.finds (g.D.Disks.view l.disks) l.engine)
+    × FindsNoMore (g.E.Stepping.refuses (g.D.Disks.view l.fn.disks) l.fn.engine) (g.E.Stepping.finds (g.D.Disks.view l.fn.disks) l.fn.engine)
+    (g.E.Stepping.refuses (g.D.Disks.view l.disks) l.engine) (g.E.Stepping.finds (g.D.Disks.view l.disks) l.engine)
     × CountsOpening (g.D.Disks.view l.fn.disks) (g.D.Disks.view l.disks) None [] l.story
     × SameShape (g.D.Disks.view l.fn.disks) (g.D.Disks.view l.disks)
-    × ((l.story ≡ []) ⊎ g.E.Steps.tried (g.D.Disks.view l.disks) l.engine)
-    × ((l.disks ≡ l.fn.disks) ⊎ g.E.Steps.tried (g.D.Disks.view l.disks) l.engine)
-    × (g.E.Steps.asked l.engine ≡ g.E.Steps.asked l.fn.engine)
+    × ((l.story ≡ []) ⊎ g.E.Stepping.tried (g.D.Disks.view l.disks) l.engine)
+    × ((l.disks ≡ l.fn.disks) ⊎ g.E.Stepping.tried (g.D.Disks.view l.disks) l.engine)
+    × (g.E.Stepping.asked l.engine ≡ g.E.Stepping.asked l.fn.engine)
 
 abbrev pub decreases-stops : goal.decreases-stops
 decreases-stops g l = (g.D.Disks.view l.disks).stops_left

@@ -29,8 +29,8 @@ pub returns-in-Ok-clause-ok : goal.returns-in-Ok-clause-ok
 returns-in-Ok-clause-ok g c =
     let view = g.D.Disks.view in
     let d = c.in_ok-find_first.ensures.down in
-    begins-by (g.E.Steps.finds (view c.args.disks.now) c.args.engine.now) (view c.args.disks.now).can_stop (g.E.Steps.lies (view c.find_first.new.disks) c.find_first.new.engine)
-    (g.E.Steps.flight c.find_first.new.engine) c.find_first.new.story d (g.E.Steps.sees (view c.open_found.new.disks)) c.open_found.new.engine c.open_found.new.story
+    begins-by (g.E.Stepping.finds (view c.args.disks.now) c.args.engine.now) (view c.args.disks.now).can_stop (g.E.Stepping.lies (view c.find_first.new.disks) c.find_first.new.engine)
+    (g.E.Stepping.flight c.find_first.new.engine) c.find_first.new.story d (g.E.Stepping.sees (view c.open_found.new.disks)) c.open_found.new.engine c.open_found.new.story
     (c.in-Ok.ensures.ok d.start d.falls.after d.falls.down)
 
 pub returns-in-Ok-clause-counts : goal.returns-in-Ok-clause-counts
@@ -48,7 +48,7 @@ fall-requires g c =
     let view = g.D.Disks.view c.open_found.new.disks in
     let e = c.open_found.new.engine in
     let d = c.in_ok-find_first.ensures.down in
-    inr (lies-somewhere (g.E.Steps.lies view e) (g.E.Steps.left view e) (g.E.Steps.fills view e) (g.E.Steps.flight e) (Halted c.in-Err-Stopped.field-0) d.start d.falls.after c.find_first.new.story c.open_found.new.story
+    inr (lies-somewhere (g.E.Stepping.lies view e) (g.E.Stepping.left view e) (g.E.Stepping.fills view e) (g.E.Stepping.flight e) (Halted c.in-Err-Stopped.field-0) d.start d.falls.after c.find_first.new.story c.open_found.new.story
     (ap Halted c.in-Err-Stopped.field-0-is) (c.in-Err-Stopped.ensures.err d.start d.falls.after d.falls.down))
 
 pub returns-in_err-push-in-Err-Stopped-clause-err : goal.returns-in_err-push-in-Err-Stopped-clause-err
@@ -57,13 +57,13 @@ returns-in_err-push-in-Err-Stopped-clause-err g c =
     let stop = c.in-Err-Stopped in
     let d = c.in_ok-find_first.ensures.down in
     let told = c.find_first.new.story in
-    let lies = g.E.Steps.lies (view c.open_found.new.disks) c.open_found.new.engine in
-    let left = g.E.Steps.left (view c.open_found.new.disks) c.open_found.new.engine in
-    let fills = g.E.Steps.fills (view c.open_found.new.disks) c.open_found.new.engine in
-    let flies = g.E.Steps.flight c.open_found.new.engine in
+    let lies = g.E.Stepping.lies (view c.open_found.new.disks) c.open_found.new.engine in
+    let left = g.E.Stepping.left (view c.open_found.new.disks) c.open_found.new.engine in
+    let fills = g.E.Stepping.fills (view c.open_found.new.disks) c.open_found.new.engine in
+    let flies = g.E.Stepping.flight c.open_found.new.engine in
     let p = err_from_is_err_and c.from_residual-in_err-push-in-Err-Stopped.result c.from_residual-in_err-push-in-Err-Stopped.ensures.1 in
-    rw (p.1, p.2) (inr (breaks-first (g.E.Steps.finds (view c.args.disks.now) c.args.engine.now) (view c.args.disks.now).can_stop (g.E.Steps.lies (view c.find_first.new.disks) c.find_first.new.engine)
-    (g.E.Steps.flight c.find_first.new.engine) told d lies left fills flies (Halted Memory) c.push.new.self
+    rw (p.1, p.2) (inr (breaks-first (g.E.Stepping.finds (view c.args.disks.now) c.args.engine.now) (view c.args.disks.now).can_stop (g.E.Stepping.lies (view c.find_first.new.disks) c.find_first.new.engine)
+    (g.E.Stepping.flight c.find_first.new.engine) told d lies left fills flies (Halted Memory) c.push.new.self
     (breaks-short lies left fills flies (Halted stop.field-0) d.start d.falls.after told c.open_found.new.story c.push.new.self (ap Halted stop.field-0-is)
     c.in_err-push-in-Err-Stopped.ensures.err (stop.ensures.err d.start d.falls.after d.falls.down))))
 
@@ -83,9 +83,9 @@ open-requires-clause-down g c =
     let stop = c.in-Err-Stopped in
     let d = c.in_ok-find_first.ensures.down in
     let first =
-    falls-found (g.E.Steps.finds (view c.args.disks.now) c.args.engine.now) (view c.args.disks.now).can_stop (g.E.Steps.lies (view c.find_first.new.disks) c.find_first.new.engine)
-    (g.E.Steps.flight c.find_first.new.engine) c.find_first.new.story d (g.E.Steps.lies (view c.open_found.new.disks) c.open_found.new.engine) (g.E.Steps.left (view c.open_found.new.disks) c.open_found.new.engine) (g.E.Steps.lies (view c.fall.new.disks) c.fall.new.self)
-    (g.E.Steps.fills (view c.open_found.new.disks) c.open_found.new.engine) (g.E.Steps.flight c.open_found.new.engine) (g.E.Steps.flight c.fall.new.self) stop.field-0 c.open_found.new.story c.push.new.self
+    falls-found (g.E.Stepping.finds (view c.args.disks.now) c.args.engine.now) (view c.args.disks.now).can_stop (g.E.Stepping.lies (view c.find_first.new.disks) c.find_first.new.engine)
+    (g.E.Stepping.flight c.find_first.new.engine) c.find_first.new.story d (g.E.Stepping.lies (view c.open_found.new.disks) c.open_found.new.engine) (g.E.Stepping.left (view c.open_found.new.disks) c.open_found.new.engine) (g.E.Stepping.lies (view c.fall.new.disks) c.fall.new.self)
+    (g.E.Stepping.fills (view c.open_found.new.disks) c.open_found.new.engine) (g.E.Stepping.flight c.open_found.new.engine) (g.E.Stepping.flight c.fall.new.self) stop.field-0 c.open_found.new.story c.push.new.self
     stop.field-0-is c.fall.ensures.lies c.fall.ensures.flies c.in_ok-push-in-Err-Stopped.ensures.ok (stop.ensures.err d.start d.falls.after d.falls.down) in
     (first.start, first.falls.after, first.falls.down)
 
@@ -94,15 +94,15 @@ returns-in_ok-push-in-Err-Stopped-clause-ok g c = on_ok_weaker c.open.result (λ
     let view = g.D.Disks.view in
     let stop = c.in-Err-Stopped in
     let d = c.in_ok-find_first.ensures.down in
-    let finds = g.E.Steps.finds (view c.args.disks.now) c.args.engine.now in
-    let lies = g.E.Steps.lies (view c.fall.new.disks) c.fall.new.self in
-    let flies = g.E.Steps.flight c.fall.new.self in
+    let finds = g.E.Stepping.finds (view c.args.disks.now) c.args.engine.now in
+    let lies = g.E.Stepping.lies (view c.fall.new.disks) c.fall.new.self in
+    let flies = g.E.Stepping.flight c.fall.new.self in
     let first =
-    falls-found finds (view c.args.disks.now).can_stop (g.E.Steps.lies (view c.find_first.new.disks) c.find_first.new.engine)
-    (g.E.Steps.flight c.find_first.new.engine) c.find_first.new.story d (g.E.Steps.lies (view c.open_found.new.disks) c.open_found.new.engine) (g.E.Steps.left (view c.open_found.new.disks) c.open_found.new.engine) lies
-    (g.E.Steps.fills (view c.open_found.new.disks) c.open_found.new.engine) (g.E.Steps.flight c.open_found.new.engine) flies stop.field-0 c.open_found.new.story c.push.new.self
+    falls-found finds (view c.args.disks.now).can_stop (g.E.Stepping.lies (view c.find_first.new.disks) c.find_first.new.engine)
+    (g.E.Stepping.flight c.find_first.new.engine) c.find_first.new.story d (g.E.Stepping.lies (view c.open_found.new.disks) c.open_found.new.engine) (g.E.Stepping.left (view c.open_found.new.disks) c.open_found.new.engine) lies
+    (g.E.Stepping.fills (view c.open_found.new.disks) c.open_found.new.engine) (g.E.Stepping.flight c.open_found.new.engine) flies stop.field-0 c.open_found.new.story c.push.new.self
     stop.field-0-is c.fall.ensures.lies c.fall.ensures.flies c.in_ok-push-in-Err-Stopped.ensures.ok (stop.ensures.err d.start d.falls.after d.falls.down) in
-    begins-by finds (view c.args.disks.now).can_stop lies flies c.push.new.self first (g.E.Steps.sees (view c.open.new.disks)) c.open.new.engine c.open.new.story
+    begins-by finds (view c.args.disks.now).can_stop lies flies c.push.new.self first (g.E.Stepping.sees (view c.open.new.disks)) c.open.new.engine c.open.new.story
     (done first.start first.falls.after first.falls.down)) c.open.ensures.ok
 
 pub returns-in_ok-push-in-Err-Stopped-clause-err : goal.returns-in_ok-push-in-Err-Stopped-clause-err
@@ -110,16 +110,16 @@ returns-in_ok-push-in-Err-Stopped-clause-err g c = IfErr-weaker c.open.result _ 
     let view = g.D.Disks.view in
     let stop = c.in-Err-Stopped in
     let d = c.in_ok-find_first.ensures.down in
-    let finds = g.E.Steps.finds (view c.args.disks.now) c.args.engine.now in
-    let lies = g.E.Steps.lies (view c.fall.new.disks) c.fall.new.self in
-    let flies = g.E.Steps.flight c.fall.new.self in
+    let finds = g.E.Stepping.finds (view c.args.disks.now) c.args.engine.now in
+    let lies = g.E.Stepping.lies (view c.fall.new.disks) c.fall.new.self in
+    let flies = g.E.Stepping.flight c.fall.new.self in
     let first =
-    falls-found finds (view c.args.disks.now).can_stop (g.E.Steps.lies (view c.find_first.new.disks) c.find_first.new.engine)
-    (g.E.Steps.flight c.find_first.new.engine) c.find_first.new.story d (g.E.Steps.lies (view c.open_found.new.disks) c.open_found.new.engine) (g.E.Steps.left (view c.open_found.new.disks) c.open_found.new.engine) lies
-    (g.E.Steps.fills (view c.open_found.new.disks) c.open_found.new.engine) (g.E.Steps.flight c.open_found.new.engine) flies stop.field-0 c.open_found.new.story c.push.new.self
+    falls-found finds (view c.args.disks.now).can_stop (g.E.Stepping.lies (view c.find_first.new.disks) c.find_first.new.engine)
+    (g.E.Stepping.flight c.find_first.new.engine) c.find_first.new.story d (g.E.Stepping.lies (view c.open_found.new.disks) c.open_found.new.engine) (g.E.Stepping.left (view c.open_found.new.disks) c.open_found.new.engine) lies
+    (g.E.Stepping.fills (view c.open_found.new.disks) c.open_found.new.engine) (g.E.Stepping.flight c.open_found.new.engine) flies stop.field-0 c.open_found.new.story c.push.new.self
     stop.field-0-is c.fall.ensures.lies c.fall.ensures.flies c.in_ok-push-in-Err-Stopped.ensures.ok (stop.ensures.err d.start d.falls.after d.falls.down) in
-    inr (breaks-first finds (view c.args.disks.now).can_stop lies flies c.push.new.self first (g.E.Steps.lies (view c.open.new.disks) c.open.new.engine) (g.E.Steps.left (view c.open.new.disks) c.open.new.engine) (g.E.Steps.fills (view c.open.new.disks) c.open.new.engine)
-    (g.E.Steps.flight c.open.new.engine) e c.open.new.story (broken first.start first.falls.after first.falls.down))) c.open.ensures.err
+    inr (breaks-first finds (view c.args.disks.now).can_stop lies flies c.push.new.self first (g.E.Stepping.lies (view c.open.new.disks) c.open.new.engine) (g.E.Stepping.left (view c.open.new.disks) c.open.new.engine) (g.E.Stepping.fills (view c.open.new.disks) c.open.new.engine)
+    (g.E.Stepping.flight c.open.new.engine) e c.open.new.story (broken first.start first.falls.after first.falls.down))) c.open.ensures.err
 
 pub returns-in_ok-push-in-Err-Stopped-clause-counts : goal.returns-in_ok-push-in-Err-Stopped-clause-counts
 returns-in_ok-push-in-Err-Stopped-clause-counts g c =
@@ -139,9 +139,9 @@ pub returns-in-Err-clause-err : goal.returns-in-Err-clause-err
 returns-in-Err-clause-err g c =
     let view = g.D.Disks.view in
     let d = c.in_ok-find_first.ensures.down in
-    inr (breaks-first (g.E.Steps.finds (view c.args.disks.now) c.args.engine.now) (view c.args.disks.now).can_stop (g.E.Steps.lies (view c.find_first.new.disks) c.find_first.new.engine)
-    (g.E.Steps.flight c.find_first.new.engine) c.find_first.new.story d (g.E.Steps.lies (view c.open_found.new.disks) c.open_found.new.engine) (g.E.Steps.left (view c.open_found.new.disks) c.open_found.new.engine)
-    (g.E.Steps.fills (view c.open_found.new.disks) c.open_found.new.engine) (g.E.Steps.flight c.open_found.new.engine) (Halted c.in-Err.halt) c.open_found.new.story
+    inr (breaks-first (g.E.Stepping.finds (view c.args.disks.now) c.args.engine.now) (view c.args.disks.now).can_stop (g.E.Stepping.lies (view c.find_first.new.disks) c.find_first.new.engine)
+    (g.E.Stepping.flight c.find_first.new.engine) c.find_first.new.story d (g.E.Stepping.lies (view c.open_found.new.disks) c.open_found.new.engine) (g.E.Stepping.left (view c.open_found.new.disks) c.open_found.new.engine)
+    (g.E.Stepping.fills (view c.open_found.new.disks) c.open_found.new.engine) (g.E.Stepping.flight c.open_found.new.engine) (Halted c.in-Err.halt) c.open_found.new.story
     (c.in-Err.ensures.err d.start d.falls.after d.falls.down))
 
 pub returns-in-Err-clause-counts : goal.returns-in-Err-clause-counts
@@ -160,8 +160,8 @@ returns-in_ok-push-in-Err-Stopped-clause-unchanged g c = IfErr-weaker c.open.res
     let stop = c.in-Err-Stopped in
     let d = c.in_ok-find_first.ensures.down in
     let first =
-    falls-found (g.E.Steps.finds (view c.args.disks.now) c.args.engine.now) (view c.args.disks.now).can_stop (g.E.Steps.lies (view c.find_first.new.disks) c.find_first.new.engine)
-    (g.E.Steps.flight c.find_first.new.engine) c.find_first.new.story d (g.E.Steps.lies (view c.open_found.new.disks) c.open_found.new.engine) (g.E.Steps.left (view c.open_found.new.disks) c.open_found.new.engine)
-    (g.E.Steps.lies (view c.fall.new.disks) c.fall.new.self) (g.E.Steps.fills (view c.open_found.new.disks) c.open_found.new.engine) (g.E.Steps.flight c.open_found.new.engine) (g.E.Steps.flight c.fall.new.self) stop.field-0
+    falls-found (g.E.Stepping.finds (view c.args.disks.now) c.args.engine.now) (view c.args.disks.now).can_stop (g.E.Stepping.lies (view c.find_first.new.disks) c.find_first.new.engine)
+    (g.E.Stepping.flight c.find_first.new.engine) c.find_first.new.story d (g.E.Stepping.lies (view c.open_found.new.disks) c.open_found.new.engine) (g.E.Stepping.left (view c.open_found.new.disks) c.open_found.new.engine)
+    (g.E.Stepping.lies (view c.fall.new.disks) c.fall.new.self) (g.E.Stepping.fills (view c.open_found.new.disks) c.open_found.new.engine) (g.E.Stepping.flight c.open_found.new.engine) (g.E.Stepping.flight c.fall.new.self) stop.field-0
     c.open_found.new.story c.push.new.self stop.field-0-is c.fall.ensures.lies c.fall.ensures.flies c.in_ok-push-in-Err-Stopped.ensures.ok (stop.ensures.err d.start d.falls.after d.falls.down) in
     later-unrefused e _ (broken first.start first.falls.after first.falls.down).later) c.open.ensures.err

@@ -3,18 +3,18 @@ use Rattle.salt_model.specs.Trace.{Tree}
 use Rattle.salt_steps.proofs.Advancing.{sound-asked}
 use Rattle.salt_steps.proofs.Counted.{count-join, count-none, count-short, count-turn, shapes}
 use Rattle.salt_steps.proofs.Segments.{breaks-by, breaks-untold, goes-by, serves-at}
-use Rattle.salt_steps.proofs.serving.serve.Goals as goal
+use Rattle.salt_steps.proofs.serving.step.Goals as goal
 use Rattle.std.proofs.lemmas.Result.{IfErr-weaker, on_ok_weaker}
 use Rattle.std.specs.Prelude.{None}
 
 pub ask-requires-clause-stands : goal.ask-requires-clause-stands
 ask-requires-clause-stands g c =
-    let sees = g.E.Steps.sees (g.D.Disks.view c.args.disks.now) in
+    let sees = g.E.Stepping.sees (g.D.Disks.view c.args.disks.now) in
     let s = c.requires.stands.2 in (s.point, serves-at sees sees c.requires.stands.0 c.args.engine.now c.args.story.now c.requires.stands.1 s, s.stands)
 
-pub finish-requires : goal.finish-requires
-finish-requires g c =
-    let sees = g.E.Steps.sees (g.D.Disks.view c.args.disks.now) in
+pub finish-requires-clause-stands : goal.finish-requires-clause-stands
+finish-requires-clause-stands g c =
+    let sees = g.E.Stepping.sees (g.D.Disks.view c.args.disks.now) in
     let s = c.requires.stands.2 in
     let sound = serves-at sees sees c.requires.stands.0 c.args.engine.now c.args.story.now c.requires.stands.1 s in
     let r = c.in_ok-first.ensures.moves s.point sound s.stands in
@@ -23,21 +23,21 @@ finish-requires g c =
 pub returns-clause-segment : goal.returns-clause-segment
 returns-clause-segment g c = on_ok_weaker c.finish.result (λ done start trace s.
     let view = g.D.Disks.view in
-    let old = g.E.Steps.sees (view c.args.disks.now) in
+    let old = g.E.Stepping.sees (view c.args.disks.now) in
     let asked = Tree c.args.line.now in
     let sound = serves-at old old start c.args.engine.now c.args.story.now trace s in
     let r = c.in_ok-first.ensures.moves s.point sound s.stands in
-    goes-by old (g.E.Steps.sees (view c.finish.new.disks)) start trace asked c.args.line.now c.args.engine.now c.finish.new.engine c.args.story.now c.finish.new.story s r.0 c.requires.key r.1
+    goes-by old (g.E.Stepping.sees (view c.finish.new.disks)) start trace asked c.args.line.now c.args.engine.now c.finish.new.engine c.args.story.now c.finish.new.story s r.0 c.requires.key r.1
     (done r.0 (sound-asked asked s.point r.0 c.requires.key sound r.1) r.2)) c.finish.ensures.ok
 
 pub returns-clause-broken_off : goal.returns-clause-broken_off
 returns-clause-broken_off g c = IfErr-weaker c.finish.result _ _ (λ halt stopped start trace s.
     let view = g.D.Disks.view in
-    let old = g.E.Steps.sees (view c.args.disks.now) in
+    let old = g.E.Stepping.sees (view c.args.disks.now) in
     let asked = Tree c.args.line.now in
     let sound = serves-at old old start c.args.engine.now c.args.story.now trace s in
     let r = c.in_ok-first.ensures.moves s.point sound s.stands in
-    breaks-by old old start (g.E.Steps.lies (view c.finish.new.disks) c.finish.new.engine 0) (g.E.Steps.left (view c.finish.new.disks) c.finish.new.engine 0) (g.E.Steps.fills (view c.finish.new.disks) c.finish.new.engine) (g.E.Steps.flight c.finish.new.engine) halt trace asked c.args.engine.now c.args.story.now c.finish.new.story s r.0 c.requires.key r.1
+    breaks-by old old start (g.E.Stepping.lies (view c.finish.new.disks) c.finish.new.engine 0) (g.E.Stepping.left (view c.finish.new.disks) c.finish.new.engine 0) (g.E.Stepping.fills (view c.finish.new.disks) c.finish.new.engine) (g.E.Stepping.flight c.finish.new.engine) halt trace asked c.args.engine.now c.args.story.now c.finish.new.story s r.0 c.requires.key r.1
     (stopped r.0 (sound-asked asked s.point r.0 c.requires.key sound r.1) r.2)) c.finish.ensures.err
 
 pub returns-clause-shape : goal.returns-clause-shape
@@ -57,7 +57,7 @@ pub returns-in_err-first-clause-broken_off : goal.returns-in_err-first-clause-br
 returns-in_err-first-clause-broken_off g c =
     let p = err_from_is_err_and c.from_residual.result c.from_residual.ensures.1 in
     rw (p.1, p.2) (λ start trace s.
-    let old = g.E.Steps.sees (g.D.Disks.view c.args.disks.now) in
+    let old = g.E.Stepping.sees (g.D.Disks.view c.args.disks.now) in
     let sound = serves-at old old start c.args.engine.now c.args.story.now trace s in
     breaks-untold old old start _ _ _ _ _ trace (Tree c.args.line.now) c.args.engine.now c.args.story.now s c.requires.key (c.in_err-first.ensures.halts s.point sound s.stands))
 
