@@ -76,14 +76,6 @@ undone-before leaves fills s e left = record {
   full = λ dev h. cc;
 }
 
-pub undone-behind : (leaves : Kept → Kept → Type 0) (fills : Written → ℕ → Type 0) (s : UnitState) (e : Event) → leaves (units_after e s).kept (units_after e s).kept →
-    Undone leaves fills Memory s e
-undone-behind leaves fills s e left = record {
-  left = record { one = (units_after e s).kept; other = (units_after e s).kept; left = left; is_one = inr refl; is_other = inr refl };
-  reason = inl refl;
-  full = λ dev h. cc;
-}
-
 -- A UNIT THAT IS TO END so next
 
 module _ (holds : Kept → Type 0) (is_new : Id → Type 0) (x : Books) (s : UnitState) (o : OpenUnit) (u : Id) (end : End)

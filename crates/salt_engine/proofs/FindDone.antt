@@ -12,18 +12,9 @@ use Rattle.salt_keeps.specs.Points.{Point}
 use Rattle.salt_model.specs.Kept.{Kept}
 use Rattle.salt_keeps.specs.OpenUnits.{UnitState}
 use Rattle.salt_steps.specs.Opening.{FindsFirst, IsUnopened}
-use Rattle.salt_storage.specs.Answers.{IsLater, MayFail}
-use Rattle.salt_storage.specs.declared.open.OpenErr.TheVariants as open_err
-use Rattle.salt_storage.specs.declared.open.OpenErr.{OpenErr}
 use Rattle.salt_stands.specs.Stands.{are_spent}
 use Rattle.std.proofs.Common.{ap, subst, sym, ◌∙◌}
 use Rattle.std.specs.Prelude.{Bool, Err, IfErr, None, Ok, OnErr, OnOk, Option, Result, Some, false, refl, ℕ, ◌≡◌}
-
-pub may-later : (a b : Kept) (e : OpenErr) → MayFail a b e → IsLater e
-may-later a b (open_err.NotSalt dev) h = absurd h
-may-later a b (open_err.OtherShape kept asked) h = absurd h
-may-later a b (open_err.NumbersSpent boot decisions) h = tt
-may-later a b (open_err.Halted halt) h = tt
 
 -- STAGES that are not new
 

@@ -7,7 +7,7 @@ use Rattle.salt_engine.proofs.OpeningGoes.{leaves-less, meant, moves, point, sta
 use Rattle.salt_engine.proofs.ReadyDone.{ready-after, ready-books, ready-moves, ready-point, ready-state, ready-turns, ready-units}
 use Rattle.salt_engine.specs.Finding.{ServesBooks}
 use Rattle.salt_engine.specs.Flights.{flight_of}
-use Rattle.salt_engine.specs.Performing.{BreaksOff, IsLost}
+use Rattle.salt_engine.specs.Performing.{BreaksOff, IsLost, MayStep}
 use Rattle.salt_engine.specs.Standing.{Left, Lies, Sees, SeesIn, is_ready, left_in}
 use Rattle.salt_engine.specs.Stored.{Stored, kept_behind}
 use Rattle.salt_engine.specs.declared.flights.InFlight.{InFlight}
@@ -26,6 +26,7 @@ use Rattle.salt_model.specs.declared.events.Event.{Event}
 use Rattle.salt_openings.proofs.Opening.{ready-idle}
 use Rattle.salt_recovery.specs.Recovering.{HasDone}
 use Rattle.salt_recovery.specs.declared.recovery.Recovery.{Recovery}
+use Rattle.salt_steps.specs.Draining.{MayTick}
 use Rattle.salt_steps.specs.Standing.{BreaksAt, IsOpenedOn, IsSoundPoint}
 use Rattle.salt_storage.specs.Storing.{IsSoundKept}
 use Rattle.salt_storage.specs.Writing.{Written}
@@ -82,6 +83,11 @@ module _ (x : Recovery) (e : Event) (p : Point) (sound : IsSoundPoint p) (t : St
           (kept ∙ lined ∙ ap is_statement_line (sym (onwards-line p sound e t d.plain comes d.after))) may,
     ),
   )
+
+  -- the steps for what comes there
+  pub opens-short : (story told : List Event) (old new : ℕ) → MayStep wanted old new → told ≡ story ++ e ∷ [] → MayTick p e story told old new
+  opens-short story told old new (inl same) tells = inl same
+  opens-short story told old new (inr step) tells = inr (tells, (now, moves x e p sound t d comes going, step))
 
 -- IT IS DONE
 

@@ -73,15 +73,6 @@ found-left holds leaves books a b stage room p f is_a is_b =
 
 -- WHAT IS LEFT, where nothing was found since
 
-pub left-of : (holds : Kept → Type 0) (leaves : Kept → Kept → Type 0) (stage : Stage) (room : ℕ) (p : Point) → (IsFoundStage stage → ⊥) → Left holds leaves stage room p →
-    (a b : Kept) × leaves a b × IsLeft room p a × IsLeft room p b
-left-of holds leaves (at.Found books numbers) room p not h = absurd (not tt)
-left-of holds leaves at.New room p not h = h
-left-of holds leaves (at.Opening x) room p not h = h
-left-of holds leaves (at.Serving x) room p not h = h
-left-of holds leaves (at.Down books) room p not h = h
-left-of holds leaves at.Lost room p not h = h
-
 pub left-as : (holds : Kept → Type 0) (leaves : Kept → Kept → Type 0) (stage : Stage) (room : ℕ) (p : Point) → (IsFoundStage stage → ⊥) →
     ((a b : Kept) × leaves a b × IsLeft room p a × IsLeft room p b) → Left holds leaves stage room p
 left-as holds leaves (at.Found books numbers) room p not h = absurd (not tt)

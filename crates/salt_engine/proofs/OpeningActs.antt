@@ -31,6 +31,7 @@ use Rattle.salt_model.specs.declared.events.Cause.{Cause}
 use Rattle.salt_model.specs.declared.events.Event.TheVariants.{Armed}
 use Rattle.salt_model.specs.declared.events.Event.{Event}
 use Rattle.salt_openings.proofs.Resting.{never-rests}
+use Rattle.salt_openings.specs.Draining.{statements_at, statements_in}
 use Rattle.salt_recovery.specs.Follows.{comes_behind}
 use Rattle.salt_recovery.specs.Recovering as recovering
 use Rattle.salt_recovery.specs.declared.recovery.Recovery.{Recovery}
@@ -42,7 +43,7 @@ use Rattle.salt_storage.specs.declared.halt.Halt.{Halt}
 use Rattle.salt_units.specs.Acting.{leaves_keys}
 use Rattle.salt_values.specs.declared.id.Id.{Id}
 use Rattle.std.proofs.Common.{ap, subst, sym, ◌∙◌}
-use Rattle.std.specs.Prelude.{IsSome, List, None, Option, Some, false, refl, true, ℕ, ◌≡◌}
+use Rattle.std.specs.Prelude.{Err, IsSome, List, None, Ok, OnErr, Option, Result, Some, false, refl, true, ℕ, ◌≡◌}
 
 pub recovers : (holds : Kept → Type 0) (is_new : Id → Type 0) (x : Recovery) (c : Coming) (s : State) → IsToOpen holds is_new x c s → recovering.Stands x s → recovering.IsRecovering s
 recovers holds is_new x c s h stands = record { sound = record { trace = h.played.trace; keeps = h.played.keeps; sound = h.played.sound }; phase = stands.opening }
@@ -67,6 +68,10 @@ module _ (holds : Kept → Type 0) (is_new : Id → Type 0) (x : Recovery) (a : 
 
   pub act-meant : event_meant s.units (coming.Act a) ≡ Some act-event
   act-meant = acts-meant s.units a act-unit act-asked
+
+  -- it is a statement: one step
+  pub act-step : statements_at (event_meant s.units (coming.Act a)) ≡ 1
+  act-step = ap statements_at act-meant
 
   pub act-before : (y : Books) → y ≡ x.books → IsBefore holds is_new y act-event s.units
   act-before y same =
@@ -109,6 +114,9 @@ module _ (holds : Kept → Type 0) (is_new : Id → Type 0) (x : Recovery) (u : 
 
   pub commit-meant : event_meant s.units (coming.Commit u) ≡ Some (commits_in s.units commit-unit)
   commit-meant = commits-meant s.units u commit-unit commit-named
+
+  pub commit-step : statements_at (event_meant s.units (coming.Commit u)) ≡ 0
+  commit-step = ap statements_at commit-meant
 
   pub commit-before : (y : Books) → y ≡ x.books → IsBefore holds is_new y (commits_in s.units commit-unit) s.units
   commit-before y same =
@@ -191,6 +199,16 @@ told-performs holds is_new x c e s stage in_flight is none there h =
     let t : IsToOpen holds is_new x (coming.Told e) s = subst (λ (d : Coming). IsToOpen holds is_new x d s) is h in
     opens-by holds is_new stage in_flight (event_meant s.units c) s none x e e there (ap (event_meant s.units) is) (record { told = refl; done = t.ready.0 }) t.stored
 
+pub told-step : (holds : Kept → Type 0) (is_new : Id → Type 0) (x : Recovery) (c : Coming) (e : Event) (s : State) → c ≡ coming.Told e → IsToOpen holds is_new x c s → statements_in e ≡ 0
+told-step holds is_new x c e s is h =
+    let t : IsToOpen holds is_new x (coming.Told e) s = subst (λ (d : Coming). IsToOpen holds is_new x d s) is h in
+    t.ready.1.1
+
+-- what holds whatever the error is
+pub on-err : {A H P : Type 0} (r : Result A H) → P → OnErr r P
+on-err (Ok x) h = tt
+on-err (Err e) h = h
+
 -- SOMETHING ALWAYS COMES in an opening, and no preparation.
 
 opening-goes : (holds : Kept → Type 0) (is_new : Id → Type 0) (x : Recovery) (s : State) → GoesOnOpening holds is_new x s → IsSoundKept s.units.kept → IsSome (comes_behind x.behind s.units)
@@ -213,7 +231,7 @@ goes-to-open holds is_new x y c s h may b = record {
 }
   where
     by : (c : Coming) → event_meant s.units c ≡ comes_behind x.behind s.units → recovering.IsReady y s c → StoredAt holds is_new c s
-    by (coming.Told e) meant r = stored-plain holds is_new e (comes_behind x.behind s.units) s h.played (sym meant) r.0.1.plain r.1 h.stored
+    by (coming.Told e) meant r = stored-plain holds is_new e (comes_behind x.behind s.units) s h.played (sym meant) r.0.1.plain r.1.0 h.stored
     by coming.Nothing meant r = h.stored
     by (coming.Act a) meant r = h.stored
     by (coming.Commit u) meant r = h.stored

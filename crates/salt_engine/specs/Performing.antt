@@ -29,6 +29,7 @@ use Rattle.salt_model.specs.Words.{Every}
 use Rattle.salt_model.specs.declared.events.Event.TheVariants.{Armed, Defined, Refused}
 use Rattle.salt_model.specs.declared.events.Event.{Event}
 use Rattle.salt_model.specs.declared.events.Refusal.{Refusal}
+use Rattle.salt_openings.specs.Draining.{statements_at}
 use Rattle.salt_recovery.specs.Follows.{comes_behind}
 use Rattle.salt_recovery.specs.Recovering as recovering
 use Rattle.salt_recovery.specs.declared.recovery.Recovery.{Recovery}
@@ -43,7 +44,7 @@ use Rattle.salt_storage.specs.declared.halt.Halt.{Halt}
 use Rattle.salt_types.specs.Played.{HasKey}
 use Rattle.salt_types.specs.Typed.{IsTyped}
 use Rattle.salt_values.specs.declared.id.Id.{Id}
-use Rattle.std.specs.Prelude.{Bool, IsSome, None, Option, Some, false, true, ℕ, ◌≡◌, ◌≤◌, ◌⊎◌}
+use Rattle.std.specs.Prelude.{Bool, IsSome, None, Option, Some, false, true, ℕ, ◌+◌, ◌≡◌, ◌≤◌, ◌⊎◌}
 
 -- this comes next in a state of a played trace, of a typed start and over lines whose tables have keys
 pub record IsPlayedBefore (comes : Option Event) (s : State) : Type 0 where
@@ -79,6 +80,10 @@ pub record GoesOnOpening (holds : Kept → Type 0) (is_new : Id → Type 0) (x :
   pub played : IsPlayedBefore (comes_behind x.behind s.units) s
   pub stands : recovering.Stands x s
   pub stored : Stored holds is_new s.units
+
+-- a step was taken where what was meant is a statement, or it was not come to
+abbrev pub MayStep : Option Event → (old new : ℕ) → Type 0
+MayStep meant old new = (new ≡ old) ⊎ (new ≡ old + statements_at meant)
 
 -- a scheduler is ready for what follows in a line, which is no preparation
 pub record IsToServe (holds : Kept → Type 0) (is_new : Id → Type 0) (x : Scheduler) (c : Coming) (s : State) : Type 0 where

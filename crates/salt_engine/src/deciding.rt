@@ -13,6 +13,7 @@ ghost use Rattle.salt_keeps.specs.Told.{commits_in, does_in};
 ghost use Rattle.salt_model.specs.declared.events.Cause.{Cause};
 ghost use Rattle.salt_steps.specs.Writing.{change_of};
 ghost use Rattle.salt_storage.specs.Answers.{disk_err};
+ghost use Rattle.salt_values.specs.Placement.{GivesPlaceOf, TakesEachKey};
 ghost use Rattle.salt_values.specs.declared.id.Id.{Id};
 ghost use Rattle.std.specs.Prelude.{IfErr, IfOk, OnOk, Some, map, ◌≡◌};
 
@@ -22,19 +23,22 @@ use salt_disk::Disks;
 use salt_eval::Tables;
 use salt_sound::decided_ends_may_be_kept;
 use salt_storage::{Halt, Storage};
-use salt_values::{Change, Changes, Id, TryCopy};
+use salt_values::{Change, Changes, Id, Key, PlaceKind, Placement, TryCopy};
 use sqlite_items::Items;
 use std::alloc::{AllocError, Global};
 
 /// The rows in the reach of the statement that a unit is to do; none where it reaches nothing.
-pub fn load<S: Storage, D: Disks>(
+pub fn load<S: Storage, D: Disks, F: Fn(PlaceKind, &Key, u32) -> u32>(
     alloc: Global,
     storage: &mut S,
     disks: &mut D,
+    place: &Placement<F>,
     books: &Books,
     asking: &Asking,
 ) -> Result<Tables, Halt>
-    requires { (s : UnitState) × (o : OpenUnit) × IsBefore (S.holds (D.view disks.old) storage.old) (S.is_new (D.view disks.old) storage.old) books.now (does_in s o asking.now.statement) s × IsAskedBy asking.now s o }
+    requires callable { TakesEachKey (F.pre place.now.place) }
+    requires answers { GivesPlaceOf (F.post place.now.place) }
+    requires ready { (s : UnitState) × (o : OpenUnit) × IsBefore (S.holds (D.view disks.old) storage.old) (S.is_new (D.view disks.old) storage.old) books.now (does_in s o asking.now.statement) s × IsAskedBy asking.now s o }
     ensures rows { IfOk result (λ rows. (s : UnitState) → Stored (S.holds (D.view disks.old) storage.old) (S.is_new (D.view disks.old) storage.old) s
         → AreLoaded asking.now.reach (tables_of rows.entries) s.kept.tables) }
     ensures keyed { IfOk result (λ rows. IsKeyed (tables_of rows.entries)) }
@@ -49,7 +53,7 @@ pub fn load<S: Storage, D: Disks>(
     storage.stands(disks);
     match &asking.reach {
         Some(reach) => {
-            let rows = storage.load(disks, books.known().schema(), reach)?;
+            let rows = storage.load(disks, place, books.known().schema(), reach)?;
             let _count = rows.len();
             Ok(rows)
         }
@@ -92,14 +96,17 @@ fn changes_of(alloc: Global, books: &Books, unit: Id) -> Result<Changes, AllocEr
 }
 
 /// Decides the commit of a unit. The move of its program.
-pub fn commit<S: Storage, D: Disks>(
+pub fn commit<S: Storage, D: Disks, F: Fn(PlaceKind, &Key, u32) -> u32>(
     alloc: Global,
     storage: &mut S,
     disks: &mut D,
+    place: &Placement<F>,
     books: &Books,
     unit: Id,
 ) -> Result<Move, Halt>
-    requires { (s : UnitState) × (o : OpenUnit) × IsBefore (S.holds (D.view disks.old) storage.old) (S.is_new (D.view disks.old) storage.old) books.now (commits_in s o) s × (unit_named unit s.units ≡ Some o) }
+    requires callable { TakesEachKey (F.pre place.now.place) }
+    requires answers { GivesPlaceOf (F.post place.now.place) }
+    requires ready { (s : UnitState) × (o : OpenUnit) × IsBefore (S.holds (D.view disks.old) storage.old) (S.is_new (D.view disks.old) storage.old) books.now (commits_in s o) s × (unit_named unit s.units ≡ Some o) }
     ensures committed { IfOk result (λ made. (s : UnitState) (o : OpenUnit) → IsBefore (S.holds (D.view disks.old) storage.old) (S.is_new (D.view disks.old) storage.old) books.now (commits_in s o) s → unit_named unit s.units ≡ Some o
         → IsCommitted (S.holds (D.view disks.new) storage.new) (S.is_new (D.view disks.new) storage.new) made s o) }
     ensures undone { IfErr result (λ halt. (s : UnitState) (o : OpenUnit) → IsBefore (S.holds (D.view disks.old) storage.old) (S.is_new (D.view disks.old) storage.old) books.now (commits_in s o) s → unit_named unit s.units ≡ Some o
@@ -112,19 +119,22 @@ pub fn commit<S: Storage, D: Disks>(
     storage.stands(disks);
     let made = books.move_of_commit(unit)?;
     let changes = changes_of(alloc, books, unit)?;
-    let _number = storage.commit(disks, unit, &changes, &made)?;
+    let _number = storage.commit(disks, place, unit, &changes, &made)?;
     Ok(made)
 }
 
 /// Decides the branch of a unit of a later part, which has failed by this cause. The move of its program.
-pub fn branch<S: Storage, D: Disks>(
+pub fn branch<S: Storage, D: Disks, F: Fn(PlaceKind, &Key, u32) -> u32>(
     alloc: Global,
     storage: &mut S,
     disks: &mut D,
+    place: &Placement<F>,
     books: &Books,
     unit: Id,
 ) -> Result<Move, Halt>
-    requires { (s : UnitState) × (base : Id) × (cause : Cause) × IsBefore (S.holds (D.view disks.old) storage.old) (S.is_new (D.view disks.old) storage.old) books.now (branches_in s unit cause) s × IsLaterUnit s unit base }
+    requires callable { TakesEachKey (F.pre place.now.place) }
+    requires answers { GivesPlaceOf (F.post place.now.place) }
+    requires ready { (s : UnitState) × (base : Id) × (cause : Cause) × IsBefore (S.holds (D.view disks.old) storage.old) (S.is_new (D.view disks.old) storage.old) books.now (branches_in s unit cause) s × IsLaterUnit s unit base }
     ensures branched { IfOk result (λ made. (s : UnitState) (base : Id) (cause : Cause) → IsBefore (S.holds (D.view disks.old) storage.old) (S.is_new (D.view disks.old) storage.old) books.now (branches_in s unit cause) s → (later : IsLaterUnit s unit base)
         → IsBranched (S.holds (D.view disks.new) storage.new) (S.is_new (D.view disks.new) storage.new) made s later.unit cause) }
     ensures undone { IfErr result (λ halt. (s : UnitState) (base : Id) (cause : Cause) → IsBefore (S.holds (D.view disks.old) storage.old) (S.is_new (D.view disks.old) storage.old) books.now (branches_in s unit cause) s → IsLaterUnit s unit base
@@ -137,6 +147,6 @@ pub fn branch<S: Storage, D: Disks>(
     storage.stands(disks);
     let made = books.move_of_branch(unit)?;
     let changes = Items::new(alloc);
-    let _number = storage.commit(disks, unit, &changes, &made)?;
+    let _number = storage.commit(disks, place, unit, &changes, &made)?;
     Ok(made)
 }

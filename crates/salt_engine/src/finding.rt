@@ -14,6 +14,7 @@ ghost use Rattle.salt_storage.specs.Storing.{IsFound, IsSoundKept};
 ghost use Rattle.salt_storage.specs.Writing.{FindsNoMore, OfOpening};
 ghost use Rattle.salt_storage.specs.declared.halt.Halt.TheVariants.{DeviceFull, Memory, Stopped};
 ghost use Rattle.salt_storage.specs.declared.open.OpenErr.{OpenErr};
+ghost use Rattle.salt_values.specs.Placement.{GivesPlaceOf, TakesEachKey};
 ghost use Rattle.std.specs.Prelude.{Err, IfErr, IfOk, IsTrue, None, OnErr, OnOk, Option, false, ℕ, [], ◌++◌, ◌∷◌, ◌≡◌};
 
 use crate::beginning::begin;
@@ -25,6 +26,7 @@ use salt_known::Known;
 use salt_model::{Event, Story};
 use salt_scheduler::Scheduler;
 use salt_storage::{Found, Halt, Numbers, OpenErr, Storage};
+use salt_values::{Key, PlaceKind, Placement};
 use std::mem;
 
 impl<S: Storage> Engine<S> {
@@ -51,7 +53,13 @@ impl<S: Storage> Engine<S> {
     }
 
     /// Finds at first what the storage holds.
-    pub(crate) fn find_first<D: Disks>(&mut self, disks: &mut D) -> Result<(), OpenErr>
+    pub(crate) fn find_first<D: Disks, F: Fn(PlaceKind, &Key, u32) -> u32>(
+        &mut self,
+        disks: &mut D,
+        place: &Placement<F>,
+    ) -> Result<(), OpenErr>
+        requires callable { TakesEachKey (F.pre place.now.place) }
+        requires answers { GivesPlaceOf (F.post place.now.place) }
         requires settled { S.settled (D.view disks.old) self.old.storage }
         requires unopened { S.unopened self.old.storage }
         ensures found { OnOk result (IsFoundFirst (S.holds (D.view disks.new) self.new.storage) (S.finds (D.view disks.old) self.old.storage) self.new.stage) }
@@ -71,7 +79,7 @@ impl<S: Storage> Engine<S> {
         ensures shape { SameShape (D.view disks.old) (D.view disks.new) }
         ensures cause { HasCause (D.view disks.old) (D.view disks.new) (open_disk_err result) }
     {
-        match self.storage.open(disks) {
+        match self.storage.open(disks, place) {
             Ok(found) => {
                 self.storage.stands(disks);
                 self.take_on(found);
@@ -85,7 +93,13 @@ impl<S: Storage> Engine<S> {
     }
 
     /// Finds behind a fall what the storage holds: the books stay.
-    pub(crate) fn find_behind<D: Disks>(&mut self, disks: &mut D) -> Result<(), OpenErr>
+    pub(crate) fn find_behind<D: Disks, F: Fn(PlaceKind, &Key, u32) -> u32>(
+        &mut self,
+        disks: &mut D,
+        place: &Placement<F>,
+    ) -> Result<(), OpenErr>
+        requires callable { TakesEachKey (F.pre place.now.place) }
+        requires answers { GivesPlaceOf (F.post place.now.place) }
         requires settled { S.settled (D.view disks.old) self.old.storage }
         requires down { IsBrokenStage self.old.stage }
         requires left { (a b : Kept) × S.leaves (D.view disks.old) self.old.storage a b }
@@ -101,7 +115,7 @@ impl<S: Storage> Engine<S> {
         ensures shape { SameShape (D.view disks.old) (D.view disks.new) }
         ensures cause { HasCause (D.view disks.old) (D.view disks.new) (open_disk_err result) }
     {
-        let numbers = self.storage.reopen(disks)?;
+        let numbers = self.storage.reopen(disks, place)?;
         let books = mem::replace(&mut self.stage, Stage::Lost).down();
         self.stage = Stage::Found { books, numbers };
         Ok(())

@@ -15,6 +15,7 @@ ghost use Rattle.salt_model.specs.Turns.{is_statement_line};
 ghost use Rattle.salt_model.specs.Words.{Every};
 ghost use Rattle.salt_steps.specs.Counting.{CountsStops, armed_by};
 ghost use Rattle.salt_storage.specs.Answers.{disk_err};
+ghost use Rattle.salt_values.specs.Placement.{GivesPlaceOf, TakesEachKey};
 ghost use Rattle.std.specs.Prelude.{IfErr, IfOk, IsTrue, None, OnErr, OnOk, false, length, ℕ, ◌+◌, ◌≡◌, ◌≤◌};
 
 use crate::engine::Engine;
@@ -27,7 +28,7 @@ use salt_model::{Event, Refusal};
 use salt_scheduler::Scheduler;
 use salt_sound::definitions_may_be_kept;
 use salt_storage::{Halt, Storage};
-use salt_values::TryCopy;
+use salt_values::{Key, PlaceKind, Placement, TryCopy};
 use sqlite_items::Items;
 use std::alloc::AllocError;
 
@@ -182,12 +183,15 @@ impl<S: Storage> Engine<S> {
     }
 
     /// What comes first in a line that defines nothing and arms nothing.
-    fn follow_line<D: Disks>(
+    fn follow_line<D: Disks, F: Fn(PlaceKind, &Key, u32) -> u32>(
         &mut self,
         disks: &mut D,
+        place: &Placement<F>,
         scheduler: Scheduler,
         line: &Line,
     ) -> Result<Option<Event>, Halt>
+        requires callable { TakesEachKey (F.pre place.now.place) }
+        requires answers { GivesPlaceOf (F.post place.now.place) }
         requires plain { is_prepared_line line.now ≡ false }
         requires lost { self.old.stage ≡ Lost }
         requires none { self.old.in_flight ≡ None }
@@ -204,16 +208,19 @@ impl<S: Storage> Engine<S> {
         let mut scheduler = scheduler;
         self.storage.stands(disks);
         let coming = scheduler.first_of(line)?;
-        self.perform(disks, scheduler, coming)
+        self.perform(disks, place, scheduler, coming)
     }
 
     /// A line that is not refused is begun.
-    pub(crate) fn begin_line<D: Disks>(
+    pub(crate) fn begin_line<D: Disks, F: Fn(PlaceKind, &Key, u32) -> u32>(
         &mut self,
         disks: &mut D,
+        place: &Placement<F>,
         scheduler: Scheduler,
         line: &Line,
     ) -> Result<Option<Event>, Halt>
+        requires callable { TakesEachKey (F.pre place.now.place) }
+        requires answers { GivesPlaceOf (F.post place.now.place) }
         requires lost { self.old.stage ≡ Lost }
         requires none { self.old.in_flight ≡ None }
         requires ready { (s : State) × AsksLine (S.holds (D.view disks.old) self.old.storage) (S.is_new (D.view disks.old) self.old.storage) (D.view disks.old).can_stop line.now scheduler s }
@@ -230,7 +237,7 @@ impl<S: Storage> Engine<S> {
             Line::Table(def) => self.define_table(disks, scheduler, line, def),
             Line::Program(def) => self.define_program(disks, scheduler, line, def),
             Line::Crash(pairs) => self.arm(disks, scheduler, line, pairs),
-            _ => self.follow_line(disks, scheduler, line),
+            _ => self.follow_line(disks, place, scheduler, line),
         }
     }
 
@@ -270,12 +277,15 @@ impl<S: Storage> Engine<S> {
     }
 
     /// A line is asked: it is refused, or begun.
-    pub(crate) fn ask_line<D: Disks>(
+    pub(crate) fn ask_line<D: Disks, F: Fn(PlaceKind, &Key, u32) -> u32>(
         &mut self,
         disks: &mut D,
+        place: &Placement<F>,
         scheduler: Scheduler,
         line: &Line,
     ) -> Result<Option<Event>, Halt>
+        requires callable { TakesEachKey (F.pre place.now.place) }
+        requires answers { GivesPlaceOf (F.post place.now.place) }
         requires lost { self.old.stage ≡ Lost }
         requires none { self.old.in_flight ≡ None }
         requires ready { (s : State) × IsToAsk (S.holds (D.view disks.old) self.old.storage) (S.is_new (D.view disks.old) self.old.storage) (D.view disks.old).can_stop line.now scheduler s }
@@ -294,7 +304,7 @@ impl<S: Storage> Engine<S> {
         scheduler.ask(line)?;
         match refusal {
             Some(refusal) => Ok(Some(self.refuse_line(scheduler, line, refusal))),
-            None => self.begin_line(disks, scheduler, line),
+            None => self.begin_line(disks, place, scheduler, line),
         }
     }
 }

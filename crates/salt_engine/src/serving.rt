@@ -11,6 +11,7 @@ ghost use Rattle.salt_keeps.specs.States.{State, turned_to};
 ghost use Rattle.salt_scheduler.specs.Standing.{behind_in};
 ghost use Rattle.salt_steps.specs.Counting.{armed_at};
 ghost use Rattle.salt_storage.specs.Answers.{disk_err};
+ghost use Rattle.salt_values.specs.Placement.{GivesPlaceOf, TakesEachKey};
 ghost use Rattle.std.specs.Prelude.{IfErr, IfOk, None, Some, ◌≡◌};
 
 use crate::deciding::{branch, commit, load};
@@ -23,16 +24,19 @@ use salt_disk::Disks;
 use salt_model::{Cause, Event};
 use salt_scheduler::Scheduler;
 use salt_storage::{Halt, Storage};
-use salt_values::Id;
+use salt_values::{Id, Key, PlaceKind, Placement};
 
 impl<S: Storage> Engine<S> {
     /// A unit does the statement that it asks for.
-    fn act<D: Disks>(
+    fn act<D: Disks, F: Fn(PlaceKind, &Key, u32) -> u32>(
         &mut self,
         disks: &mut D,
+        place: &Placement<F>,
         scheduler: Scheduler,
         asking: Asking,
     ) -> Result<Event, Halt>
+        requires callable { TakesEachKey (F.pre place.now.place) }
+        requires answers { GivesPlaceOf (F.post place.now.place) }
         requires lost { self.old.stage ≡ Lost }
         requires none { self.old.in_flight ≡ None }
         requires ready { (s : State) × IsToServe (S.holds (D.view disks.old) self.old.storage) (S.is_new (D.view disks.old) self.old.storage) scheduler (coming.Act asking) s }
@@ -50,6 +54,7 @@ impl<S: Storage> Engine<S> {
             self.alloc,
             &mut self.storage,
             disks,
+            place,
             scheduler.books(),
             &asking,
         ) {
@@ -64,12 +69,15 @@ impl<S: Storage> Engine<S> {
     }
 
     /// A unit commits.
-    fn commit<D: Disks>(
+    fn commit<D: Disks, F: Fn(PlaceKind, &Key, u32) -> u32>(
         &mut self,
         disks: &mut D,
+        place: &Placement<F>,
         scheduler: Scheduler,
         unit: Id,
     ) -> Result<Event, Halt>
+        requires callable { TakesEachKey (F.pre place.now.place) }
+        requires answers { GivesPlaceOf (F.post place.now.place) }
         requires lost { self.old.stage ≡ Lost }
         requires none { self.old.in_flight ≡ None }
         requires ready { (s : State) × IsToServe (S.holds (D.view disks.old) self.old.storage) (S.is_new (D.view disks.old) self.old.storage) scheduler (coming.Commit unit) s }
@@ -87,6 +95,7 @@ impl<S: Storage> Engine<S> {
             self.alloc,
             &mut self.storage,
             disks,
+            place,
             scheduler.books(),
             unit,
         ) {
@@ -105,14 +114,17 @@ impl<S: Storage> Engine<S> {
     }
 
     /// A program goes on behind the failure of its part.
-    fn branch<D: Disks>(
+    fn branch<D: Disks, F: Fn(PlaceKind, &Key, u32) -> u32>(
         &mut self,
         disks: &mut D,
+        place: &Placement<F>,
         scheduler: Scheduler,
         unit: Id,
         base: Id,
         cause: Cause,
     ) -> Result<Event, Halt>
+        requires callable { TakesEachKey (F.pre place.now.place) }
+        requires answers { GivesPlaceOf (F.post place.now.place) }
         requires lost { self.old.stage ≡ Lost }
         requires none { self.old.in_flight ≡ None }
         requires ready { (s : State) × IsToServe (S.holds (D.view disks.old) self.old.storage) (S.is_new (D.view disks.old) self.old.storage) scheduler (coming.Branch unit base cause) s }
@@ -130,6 +142,7 @@ impl<S: Storage> Engine<S> {
             self.alloc,
             &mut self.storage,
             disks,
+            place,
             scheduler.books(),
             unit,
         ) {
@@ -147,12 +160,15 @@ impl<S: Storage> Engine<S> {
     }
 
     /// What is to come in a line, behind its preparations.
-    pub(crate) fn perform<D: Disks>(
+    pub(crate) fn perform<D: Disks, F: Fn(PlaceKind, &Key, u32) -> u32>(
         &mut self,
         disks: &mut D,
+        place: &Placement<F>,
         scheduler: Scheduler,
         coming: Coming,
     ) -> Result<Option<Event>, Halt>
+        requires callable { TakesEachKey (F.pre place.now.place) }
+        requires answers { GivesPlaceOf (F.post place.now.place) }
         requires lost { self.old.stage ≡ Lost }
         requires none { self.old.in_flight ≡ None }
         requires ready { (s : State) × IsToServe (S.holds (D.view disks.old) self.old.storage) (S.is_new (D.view disks.old) self.old.storage) scheduler coming s }
@@ -174,10 +190,10 @@ impl<S: Storage> Engine<S> {
                 self.stage = Stage::Serving(scheduler);
                 Ok(Some(event))
             }
-            Coming::Act(asking) => Ok(Some(self.act(disks, scheduler, asking)?)),
-            Coming::Commit(unit) => Ok(Some(self.commit(disks, scheduler, unit)?)),
+            Coming::Act(asking) => Ok(Some(self.act(disks, place, scheduler, asking)?)),
+            Coming::Commit(unit) => Ok(Some(self.commit(disks, place, scheduler, unit)?)),
             Coming::Branch { unit, base, cause } => Ok(Some(self.branch(
-                disks, scheduler, unit, base, cause,
+                disks, place, scheduler, unit, base, cause,
             )?)),
             Coming::Define(_text) => unreachable!(),
             Coming::Arm(_pairs) => unreachable!(),
@@ -185,12 +201,15 @@ impl<S: Storage> Engine<S> {
     }
 
     /// What comes behind the event at hand in a line.
-    pub(crate) fn go_on_in_line<D: Disks>(
+    pub(crate) fn go_on_in_line<D: Disks, F: Fn(PlaceKind, &Key, u32) -> u32>(
         &mut self,
         disks: &mut D,
+        place: &Placement<F>,
         scheduler: Scheduler,
         line: &Line,
     ) -> Result<Option<Event>, Halt>
+        requires callable { TakesEachKey (F.pre place.now.place) }
+        requires answers { GivesPlaceOf (F.post place.now.place) }
         requires lost { self.old.stage ≡ Lost }
         requires none { self.old.in_flight ≡ None }
         requires ready { (s : State) × GoesOnServing (S.holds (D.view disks.old) self.old.storage) (S.is_new (D.view disks.old) self.old.storage) line.now scheduler s }
@@ -207,17 +226,20 @@ impl<S: Storage> Engine<S> {
         let mut scheduler = scheduler;
         self.storage.stands(disks);
         let coming = scheduler.go_on(line)?;
-        self.perform(disks, scheduler, coming)
+        self.perform(disks, place, scheduler, coming)
     }
 
     /// `go all` turns to a program, and what that brings is performed.
-    pub(crate) fn turn_in_line<D: Disks>(
+    pub(crate) fn turn_in_line<D: Disks, F: Fn(PlaceKind, &Key, u32) -> u32>(
         &mut self,
         disks: &mut D,
+        place: &Placement<F>,
         scheduler: Scheduler,
         line: &Line,
         base: Id,
     ) -> Result<Option<Event>, Halt>
+        requires callable { TakesEachKey (F.pre place.now.place) }
+        requires answers { GivesPlaceOf (F.post place.now.place) }
         requires lost { self.old.stage ≡ Lost }
         requires none { self.old.in_flight ≡ None }
         requires ready { (s : State) × Turns (S.holds (D.view disks.old) self.old.storage) (S.is_new (D.view disks.old) self.old.storage) line.now base scheduler s }
@@ -235,6 +257,6 @@ impl<S: Storage> Engine<S> {
         self.storage.stands(disks);
         scheduler.turn(base)?;
         let coming = scheduler.go(line, base)?;
-        self.perform(disks, scheduler, coming)
+        self.perform(disks, place, scheduler, coming)
     }
 }

@@ -14,10 +14,11 @@ use salt_disk::Disks;
 use salt_model::{Event, Flight, Refusal, Story};
 use salt_schema::Schema;
 use salt_sound::read_lines_are_spelled;
-use salt_steps::Steps;
+use salt_steps::Stepping;
 use salt_storage::{Halt, OpenErr, Storage};
-use salt_values::Id;
+use salt_values::{Id, Key, PlaceKind, Placement, Steps};
 use std::mem;
+use std::sync::ledger::Ledger;
 
 /// Whether an opening is done.
 fn is_ready(event: &Event) -> bool
@@ -29,7 +30,7 @@ fn is_ready(event: &Event) -> bool
     }
 }
 
-impl<S: Storage> Steps for Engine<S> {
+impl<S: Storage + Drop> Stepping for Engine<S> {
     ghost sees = { λ d e next s. Sees (S.holds d e.storage) (S.is_new d e.storage) d.can_stop e.stage e.single e.in_flight next s };
 
     ghost lies = { λ d e room p. Lies (S.holds d e.storage) (S.leaves d e.storage) d.can_stop e.stage e.single e.in_flight room p };
@@ -62,12 +63,17 @@ impl<S: Storage> Steps for Engine<S> {
 
     ghost serves = { IsServed };
 
-    fn ask<D: Disks>(&mut self, disks: &mut D, line: &Line) -> Result<Option<Event>, Halt> {
+    fn ask<D: Disks, F: Fn(PlaceKind, &Key, u32) -> u32>(
+        &mut self,
+        disks: &mut D,
+        place: &Placement<F>,
+        line: &Line,
+    ) -> Result<Option<Event>, Halt> {
         read_lines_are_spelled();
         self.storage.stands(disks);
         let scheduler = mem::replace(&mut self.stage, Stage::Lost).serving();
         self.single = is_statement_line(line);
-        self.ask_line(disks, scheduler, line)
+        self.ask_line(disks, place, scheduler, line)
     }
 
     fn ask_rejected<D: Disks>(
@@ -88,20 +94,22 @@ impl<S: Storage> Steps for Engine<S> {
         }
     }
 
-    fn turn<D: Disks>(
+    fn turn<D: Disks, F: Fn(PlaceKind, &Key, u32) -> u32>(
         &mut self,
         disks: &mut D,
+        place: &Placement<F>,
         line: &Line,
         base: Id,
     ) -> Result<Option<Event>, Halt> {
         self.storage.stands(disks);
         let scheduler = mem::replace(&mut self.stage, Stage::Lost).serving();
-        self.turn_in_line(disks, scheduler, line, base)
+        self.turn_in_line(disks, place, scheduler, line, base)
     }
 
-    fn say<D: Disks>(
+    fn say<D: Disks, F: Fn(PlaceKind, &Key, u32) -> u32>(
         &mut self,
         disks: &mut D,
+        place: &Placement<F>,
         line: &Line,
         event: Event,
         story: &mut Story,
@@ -109,13 +117,17 @@ impl<S: Storage> Steps for Engine<S> {
         self.storage.stands(disks);
         let scheduler = mem::replace(&mut self.stage, Stage::Lost).serving();
         story.push(event)?;
-        self.go_on_in_line(disks, scheduler, line)
+        self.go_on_in_line(disks, place, scheduler, line)
     }
 
-    fn find<D: Disks>(&mut self, disks: &mut D) -> Result<(), OpenErr> {
+    fn find<D: Disks, F: Fn(PlaceKind, &Key, u32) -> u32>(
+        &mut self,
+        disks: &mut D,
+        place: &Placement<F>,
+    ) -> Result<(), OpenErr> {
         match &self.stage {
-            Stage::New => self.find_first(disks),
-            Stage::Down(_) => self.find_behind(disks),
+            Stage::New => self.find_first(disks, place),
+            Stage::Down(_) => self.find_behind(disks, place),
             Stage::Found { .. } => Ok(()),
             _ => Err(OpenErr::Halted(Halt::Memory)),
         }
@@ -135,11 +147,13 @@ impl<S: Storage> Steps for Engine<S> {
         }
     }
 
-    fn go_on<D: Disks>(
+    fn go_on<D: Disks, F: Fn(PlaceKind, &Key, u32) -> u32, L: Ledger>(
         &mut self,
         disks: &mut D,
+        place: &Placement<F>,
         event: Event,
         story: &mut Story,
+        steps: &mut Steps<L>,
     ) -> Result<Option<Event>, Halt> {
         self.storage.stands(disks);
         let recovery = mem::replace(&mut self.stage, Stage::Lost).opening();
@@ -149,7 +163,7 @@ impl<S: Storage> Steps for Engine<S> {
             self.serve_books(recovery.into_books());
             Ok(None)
         } else {
-            Ok(Some(self.go_on_in_opening(disks, recovery)?))
+            Ok(Some(self.go_on_in_opening(disks, place, recovery, steps)?))
         }
     }
 
@@ -171,8 +185,9 @@ impl<S: Storage> Steps for Engine<S> {
         }
     }
 
-    fn flight(&mut self) -> Option<Flight> {
-        flight_of(self.in_flight.take())
+    fn flight(self) -> Option<Flight> {
+        let Engine { in_flight, .. } = self;
+        flight_of(in_flight)
     }
 
     fn stands<D: Disks>(&self, disks: &D) {

@@ -8,7 +8,7 @@ use Rattle.std.proofs.lemmas.Result.{err_from_is_err_and}
 use Rattle.std.specs.Prelude.{Err}
 
 pub move_of_branch-requires : goal.move_of_branch-requires
-move_of_branch-requires g c = have-unit c.args.books.now c.requires.0 c.args.unit c.requires.4.unit c.requires.3.books c.requires.4.named
+move_of_branch-requires g c = have-unit c.args.books.now c.requires.ready.0 c.args.unit c.requires.ready.4.unit c.requires.ready.3.books c.requires.ready.4.named
 
 pub commit-requires-clause-may : goal.commit-requires-clause-may
 commit-requires-clause-may g c =
@@ -16,10 +16,10 @@ commit-requires-clause-may g c =
     let holds = g.S.Storage.holds view c.args.storage.now in
     let is_new = g.S.Storage.is_new view c.args.storage.now in
     let x = c.args.books.now in
-    let s = c.requires.0 in
-    let cause = c.requires.2 in
-    let later = c.requires.4 in
-    let b = own-branch holds is_new x s c.args.unit c.requires.1 cause c.requires.3 later in
+    let s = c.requires.ready.0 in
+    let cause = c.requires.ready.2 in
+    let later = c.requires.ready.4 in
+    let b = own-branch holds is_new x s c.args.unit c.requires.ready.1 cause c.requires.ready.3 later in
     let moves = branch-moves holds is_new x s later.unit c.args.unit c.stands.ensures.sound later.named cause b c.in_ok-made.made c.in_ok-made.ensures in (
       s.kept,
       b.stored.holding,
@@ -35,10 +35,10 @@ commit-requires-clause-new g c =
     let holds = g.S.Storage.holds view c.args.storage.now in
     let is_new = g.S.Storage.is_new view c.args.storage.now in
     let x = c.args.books.now in
-    let s = c.requires.0 in
-    let cause = c.requires.2 in
-    let later = c.requires.4 in
-    let b = own-branch holds is_new x s c.args.unit c.requires.1 cause c.requires.3 later in
+    let s = c.requires.ready.0 in
+    let cause = c.requires.ready.2 in
+    let later = c.requires.ready.4 in
+    let b = own-branch holds is_new x s c.args.unit c.requires.ready.1 cause c.requires.ready.3 later in
     let moves = branch-moves holds is_new x s later.unit c.args.unit c.stands.ensures.sound later.named cause b c.in_ok-made.made c.in_ok-made.ensures in
     branch-new holds is_new x s later.unit c.args.unit c.stands.ensures.sound later.named cause b c.decided_ends_may_be_kept.ensures.branch c.new-changes.result c.new-changes.ensures c.in_ok-made.made moves
 

@@ -9,7 +9,7 @@ use Rattle.std.proofs.lemmas.Result.{err_from_is_err_and}
 use Rattle.std.specs.Prelude.{Err}
 
 pub move_of_commit-requires : goal.move_of_commit-requires
-move_of_commit-requires g c = have-unit c.args.books.now c.requires.0 c.args.unit c.requires.1 c.requires.2.books c.requires.3
+move_of_commit-requires g c = have-unit c.args.books.now c.requires.ready.0 c.args.unit c.requires.ready.1 c.requires.ready.2.books c.requires.ready.3
 
 pub commit-requires-clause-may : goal.commit-requires-clause-may
 commit-requires-clause-may g c =
@@ -17,10 +17,10 @@ commit-requires-clause-may g c =
     let holds = g.S.Storage.holds view c.args.storage.now in
     let is_new = g.S.Storage.is_new view c.args.storage.now in
     let x = c.args.books.now in
-    let s = c.requires.0 in
-    let o = c.requires.1 in
-    let b = c.requires.2 in
-    let named = c.requires.3 in
+    let s = c.requires.ready.0 in
+    let o = c.requires.ready.1 in
+    let b = c.requires.ready.2 in
+    let named = c.requires.ready.3 in
     let moves = commit-moves holds is_new x s o c.args.unit c.stands.ensures.sound named b c.in_ok-made.made c.in_ok-made.ensures in (
       s.kept,
       b.stored.holding,
@@ -37,10 +37,10 @@ commit-requires-clause-new g c =
     let holds = g.S.Storage.holds view c.args.storage.now in
     let is_new = g.S.Storage.is_new view c.args.storage.now in
     let x = c.args.books.now in
-    let s = c.requires.0 in
-    let o = c.requires.1 in
-    let b = c.requires.2 in
-    let named = c.requires.3 in
+    let s = c.requires.ready.0 in
+    let o = c.requires.ready.1 in
+    let b = c.requires.ready.2 in
+    let named = c.requires.ready.3 in
     let moves = commit-moves holds is_new x s o c.args.unit c.stands.ensures.sound named b c.in_ok-made.made c.in_ok-made.ensures in
     commit-new holds is_new x s o c.args.unit c.stands.ensures.sound named b c.decided_ends_may_be_kept.ensures.commit c.in_ok-changes.changes c.in_ok-made.made
     (c.in_ok-changes.ensures s o b.books named) moves

@@ -6,11 +6,11 @@ use Rattle.std.proofs.Common.{ap, ◌∙◌}
 use Rattle.std.proofs.lemmas.Result.{err_from_is_err_and}
 use Rattle.std.specs.Prelude.{Err}
 
-pub load-requires : goal.load-requires
-load-requires g c =
+pub load-requires-clause-reach : goal.load-requires-clause-reach
+load-requires-clause-reach g c =
     let view = g.D.Disks.view c.args.disks.now in
-    may-load (g.S.Storage.holds view c.args.storage.now) (g.S.Storage.is_new view c.args.storage.now) c.args.books.now c.args.asking.now c.requires.0 c.requires.1 c.in-Some.reach
-    c.requires.2 c.requires.3 c.in-Some.is c.schema.result.now (c.schema.ensures ∙ ap (λ (x : Known). x.schema) c.known.ensures)
+    may-load (g.S.Storage.holds view c.args.storage.now) (g.S.Storage.is_new view c.args.storage.now) c.args.books.now c.args.asking.now c.requires.ready.0 c.requires.ready.1 c.in-Some.reach
+    c.requires.ready.2 c.requires.ready.3 c.in-Some.is c.schema.result.now (c.schema.ensures ∙ ap (λ (x : Known). x.schema) c.known.ensures)
 
 pub returns-in_ok-rows-in-Some-clause-rows : goal.returns-in_ok-rows-in-Some-clause-rows
 returns-in_ok-rows-in-Some-clause-rows g c = λ s stored.
@@ -19,8 +19,8 @@ returns-in_ok-rows-in-Some-clause-rows g c = λ s stored.
 
 pub returns-in_ok-rows-in-Some-clause-keyed : goal.returns-in_ok-rows-in-Some-clause-keyed
 returns-in_ok-rows-in-Some-clause-keyed g c =
-    let k = c.requires.0.kept in
-    let holding = c.requires.2.stored.holding in
+    let k = c.requires.ready.0.kept in
+    let holding = c.requires.ready.2.stored.holding in
     rows-keyed k c.in-Some.reach c.in_ok-rows-in-Some.rows (c.stands.ensures.sound k holding) c.len-count.ensures.ordered (c.in_ok-rows-in-Some.ensures.rows k holding)
 
 pub returns-in_ok-rows-in-Some-clause-stored : goal.returns-in_ok-rows-in-Some-clause-stored

@@ -8,8 +8,8 @@ use Rattle.std.proofs.Common.{refl, subst, sym}
 use Rattle.std.proofs.lemmas.Result.{err_from_is_err_and}
 use Rattle.std.specs.Prelude.{Some}
 
-pub load-requires : goal.load-requires
-load-requires g c =
+pub load-requires-clause-ready : goal.load-requires-clause-ready
+load-requires-clause-ready g c =
     let s = c.requires.ready.0 in
     let h = c.requires.ready.1 in (
       s.units,

@@ -8,8 +8,8 @@ use Rattle.std.proofs.Common.{refl, subst, sym}
 use Rattle.std.proofs.lemmas.Result.{err_from_is_err_and}
 use Rattle.std.specs.Prelude.{Some}
 
-pub branch-made-requires : goal.branch-made-requires
-branch-made-requires g c =
+pub branch-made-requires-clause-ready : goal.branch-made-requires-clause-ready
+branch-made-requires-clause-ready g c =
     let s = c.requires.ready.0 in
     let h = c.requires.ready.1 in (
       s.units,

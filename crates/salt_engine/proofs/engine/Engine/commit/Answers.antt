@@ -8,8 +8,8 @@ use Rattle.std.proofs.Common.{refl, subst, sym}
 use Rattle.std.proofs.lemmas.Result.{err_from_is_err_and}
 use Rattle.std.specs.Prelude.{Some}
 
-pub commit-requires : goal.commit-requires
-commit-requires g c =
+pub commit-requires-clause-ready : goal.commit-requires-clause-ready
+commit-requires-clause-ready g c =
     let s = c.requires.ready.0 in
     let h = c.requires.ready.1 in (
       s.units,

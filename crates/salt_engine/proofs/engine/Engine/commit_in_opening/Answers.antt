@@ -4,8 +4,8 @@ use Rattle.salt_engine.proofs.engine.Engine.commit_in_opening.Goals as goal
 use Rattle.std.proofs.Common.{refl}
 use Rattle.std.proofs.lemmas.Result.{err_from_is_err_and}
 
-pub commit-requires : goal.commit-requires
-commit-requires g c =
+pub commit-requires-clause-ready : goal.commit-requires-clause-ready
+commit-requires-clause-ready g c =
     let view = g.D.Disks.view c.args.disks.now in
     let holds = g.S.Storage.holds view c.args.self.now.storage in
     let is_new = g.S.Storage.is_new view c.args.self.now.storage in
