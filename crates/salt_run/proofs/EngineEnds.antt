@@ -42,13 +42,10 @@ use Rattle.salt_storage.specs.declared.halt.Halt.TheVariants as halt
 use Rattle.salt_storage.specs.declared.open.OpenErr.TheVariants as open_err
 use Rattle.salt_storage.specs.declared.open.OpenErr.{OpenErr}
 use Rattle.salt_summary.specs.Summary.{summary_text}
-use Rattle.salt_values.specs.declared.placement.PlaceKind.{PlaceKind}
 use Rattle.salt_values.specs.declared.placement.Shape.{Shape}
-use Rattle.salt_values.specs.declared.value.Value.{Value}
 use Rattle.salt_words.specs.declared.command.Command.TheVariants.{Load, Run}
 use Rattle.salt_words.specs.declared.command.Command.{Command}
 use Rattle.std.proofs.Common.{ap, inl, inr, subst, sym, ◌∙◌}
-use Rattle.std.specs.Borrow.{Bor}
 use Rattle.std.specs.Prelude.{Bool, IsTrue, List, None, Option, false, refl, true, ℕ, ◌≡◌, ◌⊎◌}
 
 -- THE STATUS, and the one of its engine: the same, or the sink failed behind it
@@ -65,7 +62,7 @@ not-full : (status : Status) (dev : ℕ) → status ≡ WriteFault → status �
 not-full status dev w f = let both : WriteFault ≡ DeviceFull dev = sym w ∙ f in cc
 
 module _ (command : Command) (d e : View) (started0 : Bool) (shape0 : Shape) (was : started0 ≡ true) (asked0 : shape0 ≡ shape_of command)
-    (pre : PlaceKind → Bor Value → ℕ → Type 0) (post : PlaceKind → Bor Value → ℕ → ℕ → Type 0) (shape : Shape) (started : Bool) (o : Option Store) (n : Numbers) (q : Pending)
+    (shape : Shape) (started : Bool) (o : Option Store) (n : Numbers) (q : Pending)
     (stage : Stage) (single : Bool) (i : Option InFlight) (asked : shape ≡ shape0) where
   now : shape ≡ shape_of command
   now = asked ∙ asked0
@@ -78,9 +75,9 @@ module _ (command : Command) (d e : View) (started0 : Bool) (shape0 : Shape) (wa
 
   -- over what was found
   pub ends-there : (status : Status) (trace : Trace) → IsPlayed trace →
-      EndsFound (Lies (StandsHeld pre post shape started o n q e) (StandsLeft pre post shape started o n q e) e.can_stop stage single i)
-      (Left (StandsHeld pre post shape started o n q e) (StandsLeft pre post shape started o n q e) stage) (FillsIn e shape) status trace → EndsBehind e (shape_of command) status trace
-  ends-there status trace played x = subst (λ (s : Shape). EndsBehind e s status trace) now (ends-behind pre post shape started o n q e stage single i status trace played x)
+      EndsFound (Lies (StandsHeld shape started o n q e) (StandsLeft shape started o n q e) e.can_stop stage single i)
+      (Left (StandsHeld shape started o n q e) (StandsLeft shape started o n q e) stage) (FillsIn e shape) status trace → EndsBehind e (shape_of command) status trace
+  ends-there status trace played x = subst (λ (s : Shape). EndsBehind e s status trace) now (ends-behind shape started o n q e stage single i status trace played x)
 
   pub over : (status : Status) (f : Option Flight) (s : Streams) (story : List Event) (start : Start) → IsStartOf (Finds d started0 shape0) d.can_stop start →
       (r : Replays command status f s story start) → EndsBehind e (shape_of command) status r.trace → RunsOver command d e status f s story
@@ -89,7 +86,7 @@ module _ (command : Command) (d e : View) (started0 : Bool) (shape0 : Shape) (wa
   -- or nothing was found
   module _ (old : Status) (story : List Event) (Run : Start → Type 0)
       (x : EndsUnfound (Refuses d started0 shape0) (Finds d started0 shape0) (Refuses e started shape) (Finds e started shape)
-      (IsNew stage single i × (o ≡ None) × CanStart pre post shape started q e) (FillsIn e shape) old story Run) where
+      (IsNew stage single i × (o ≡ None) × CanStart shape started q e) (FillsIn e shape) old story Run) where
     was-refused : Refuses d true (shape_of command) x.reason ⊎ (x.reason ≡ open_err.Halted halt.Memory)
     was-refused = elim x.refused [ inl h ↦ inl (refuses-first x.reason h) | inr m ↦ inr m ]
 
@@ -162,49 +159,49 @@ any-start = record { kept = nothing_kept; can_stop = false }
 -- A SCRIPT, AND THE WORKLOAD
 
 module _ (promised : (trace : Trace) → IsPlayed trace → WellKept (start_of trace).kept → Promises trace) (d e : View) (started0 : Bool) (shape0 : Shape) (was : started0 ≡ true)
-    (pre : PlaceKind → Bor Value → ℕ → Type 0) (post : PlaceKind → Bor Value → ℕ → ℕ → Type 0) (shape : Shape) (started : Bool) (o : Option Store) (n : Numbers) (q : Pending)
+    (shape : Shape) (started : Bool) (o : Option Store) (n : Numbers) (q : Pending)
     (stage : Stage) (single : Bool) (i : Option InFlight) (asked : shape ≡ shape0) (status : Status) (f : Option Flight) (s : Streams) (story : List Event) where
   module _ (parts : ℕ) (asked0 : shape0 ≡ shape_of (Run parts))
       (x : IsEnded (Refuses d started0 shape0) (Finds d started0 shape0) d.can_stop (Refuses e started shape) (Finds e started shape)
-      (IsNew stage single i × (o ≡ None) × CanStart pre post shape started q e)
-      (Lies (StandsHeld pre post shape started o n q e) (StandsLeft pre post shape started o n q e) e.can_stop stage single i)
-      (Left (StandsHeld pre post shape started o n q e) (StandsLeft pre post shape started o n q e) stage) (FillsIn e shape) f status s.script s.left s.before story s.now) where
+      (IsNew stage single i × (o ≡ None) × CanStart shape started q e)
+      (Lies (StandsHeld shape started o n q e) (StandsLeft shape started o n q e) e.can_stop stage single i)
+      (Left (StandsHeld shape started o n q e) (StandsLeft shape started o n q e) stage) (FillsIn e shape) f status s.script s.left s.before story s.now) where
     pub script-runs : Runs (Run parts) d e status (flight_at status f) s story
     script-runs = by x
       where
         by : IsEnded (Refuses d started0 shape0) (Finds d started0 shape0) d.can_stop (Refuses e started shape) (Finds e started shape)
-            (IsNew stage single i × (o ≡ None) × CanStart pre post shape started q e)
-            (Lies (StandsHeld pre post shape started o n q e) (StandsLeft pre post shape started o n q e) e.can_stop stage single i)
-            (Left (StandsHeld pre post shape started o n q e) (StandsLeft pre post shape started o n q e) stage) (FillsIn e shape) f status s.script s.left s.before story s.now
+            (IsNew stage single i × (o ≡ None) × CanStart shape started q e)
+            (Lies (StandsHeld shape started o n q e) (StandsLeft shape started o n q e) e.can_stop stage single i)
+            (Left (StandsHeld shape started o n q e) (StandsLeft shape started o n q e) stage) (FillsIn e shape) f status s.script s.left s.before story s.now
             → Runs (Run parts) d e status (flight_at status f) s story
         by (inl u) =
-            inr (nothing (Run parts) d e started0 shape0 was asked0 pre post shape started o n q stage single i asked status story (λ start. IsRun start status f s.script s.left s.before story s.now) u status
+            inr (nothing (Run parts) d e started0 shape0 was asked0 shape started o n q stage single i asked status story (λ start. IsRun start status f s.script s.left s.before story s.now) u status
             (flight_at status f) s (inl refl) (λ start well. script-replays promised parts status f s story start well (u.run start)))
         by (inr v) =
-            inl (over (Run parts) d e started0 shape0 was asked0 pre post shape started o n q stage single i asked status (flight_at status f) s story v.start v.is
+            inl (over (Run parts) d e started0 shape0 was asked0 shape started o n q stage single i asked status (flight_at status f) s story v.start v.is
             (script-replays promised parts status f s story v.start v.is.sound.well v.ends.0)
-            (ends-there (Run parts) d e started0 shape0 was asked0 pre post shape started o n q stage single i asked status v.ends.0.played.trace v.ends.0.played.tells.played v.ends.1))
+            (ends-there (Run parts) d e started0 shape0 was asked0 shape started o n q stage single i asked status v.ends.0.played.trace v.ends.0.played.tells.played v.ends.1))
 
     pub script-refused : IfNotBegun status (IsTrue d.told → AreUnchanged d e) → WasRefused d e (shape_of (Run parts)) story status
     script-refused unchanged = by x
       where
         by : IsEnded (Refuses d started0 shape0) (Finds d started0 shape0) d.can_stop (Refuses e started shape) (Finds e started shape)
-            (IsNew stage single i × (o ≡ None) × CanStart pre post shape started q e)
-            (Lies (StandsHeld pre post shape started o n q e) (StandsLeft pre post shape started o n q e) e.can_stop stage single i)
-            (Left (StandsHeld pre post shape started o n q e) (StandsLeft pre post shape started o n q e) stage) (FillsIn e shape) f status s.script s.left s.before story s.now
+            (IsNew stage single i × (o ≡ None) × CanStart shape started q e)
+            (Lies (StandsHeld shape started o n q e) (StandsLeft shape started o n q e) e.can_stop stage single i)
+            (Left (StandsHeld shape started o n q e) (StandsLeft shape started o n q e) stage) (FillsIn e shape) f status s.script s.left s.before story s.now
             → WasRefused d e (shape_of (Run parts)) story status
         by (inl u) =
             let p = (u.run any-start).played in
             nothing-refused d e (shape_of (Run parts)) story u.reason status p.trace u.is
-            (was-refused (Run parts) d e started0 shape0 was asked0 pre post shape started o n q stage single i asked status story (λ start. IsRun start status f s.script s.left s.before story s.now) u) p.tells.told p.leaves
+            (was-refused (Run parts) d e started0 shape0 was asked0 shape started o n q stage single i asked status story (λ start. IsRun start status f s.script s.left s.before story s.now) u) p.tells.told p.leaves
             unchanged
         by (inr v) = over-refused d e (shape_of (Run parts)) story v.ends.1.room v.ends.1.point status v.ends.1.may
 
   module _ (calls done : ℕ) (old : Status) (how : IsBehind old status) (asked0 : shape0 ≡ shape_of (Load calls)) (summed : IsSummary status (summary_text calls done story) s.before s.now)
       (x : IsLoaded (Refuses d started0 shape0) (Finds d started0 shape0) d.can_stop (Refuses e started shape) (Finds e started shape)
-      (IsNew stage single i × (o ≡ None) × CanStart pre post shape started q e)
-      (Lies (StandsHeld pre post shape started o n q e) (StandsLeft pre post shape started o n q e) e.can_stop stage single i)
-      (Left (StandsHeld pre post shape started o n q e) (StandsLeft pre post shape started o n q e) stage) (FillsIn e shape) f old calls done story) where
+      (IsNew stage single i × (o ≡ None) × CanStart shape started q e)
+      (Lies (StandsHeld shape started o n q e) (StandsLeft shape started o n q e) e.can_stop stage single i)
+      (Left (StandsHeld shape started o n q e) (StandsLeft shape started o n q e) stage) (FillsIn e shape) f old calls done story) where
     abbrev Loaded : Status → Start → Type 0
     Loaded t start = (r : IsPlayedLoad start t f calls done story) × EndsBehind e (shape_of (Load calls)) t r.trace
 
@@ -228,30 +225,30 @@ module _ (promised : (trace : Trace) → IsPlayed trace → WellKept (start_of t
     load-runs = by x
       where
         by : IsLoaded (Refuses d started0 shape0) (Finds d started0 shape0) d.can_stop (Refuses e started shape) (Finds e started shape)
-            (IsNew stage single i × (o ≡ None) × CanStart pre post shape started q e)
-            (Lies (StandsHeld pre post shape started o n q e) (StandsLeft pre post shape started o n q e) e.can_stop stage single i)
-            (Left (StandsHeld pre post shape started o n q e) (StandsLeft pre post shape started o n q e) stage) (FillsIn e shape) f old calls done story
+            (IsNew stage single i × (o ≡ None) × CanStart shape started q e)
+            (Lies (StandsHeld shape started o n q e) (StandsLeft shape started o n q e) e.can_stop stage single i)
+            (Left (StandsHeld shape started o n q e) (StandsLeft shape started o n q e) stage) (FillsIn e shape) f old calls done story
             → Runs (Load calls) d e status (flight_at status f) s story
         by (inl u) =
-            inr (nothing (Load calls) d e started0 shape0 was asked0 pre post shape started o n q stage single i asked old story (λ start. IsPlayedLoad start old f calls done story) u status (flight_at status f) s how
+            inr (nothing (Load calls) d e started0 shape0 was asked0 shape started o n q stage single i asked old story (λ start. IsPlayedLoad start old f calls done story) u status (flight_at status f) s how
             (λ start well. load-replays promised calls done status f s story start well (loaded start (u.run start)) summed))
         by (inr v) =
-            let p = ends-loaded v.start (v.ends.0, ends-there (Load calls) d e started0 shape0 was asked0 pre post shape started o n q stage single i asked old v.ends.0.trace v.ends.0.tells.played v.ends.1) in
-            inl (over (Load calls) d e started0 shape0 was asked0 pre post shape started o n q stage single i asked status (flight_at status f) s story v.start v.is
+            let p = ends-loaded v.start (v.ends.0, ends-there (Load calls) d e started0 shape0 was asked0 shape started o n q stage single i asked old v.ends.0.trace v.ends.0.tells.played v.ends.1) in
+            inl (over (Load calls) d e started0 shape0 was asked0 shape started o n q stage single i asked status (flight_at status f) s story v.start v.is
             (load-replays promised calls done status f s story v.start v.is.sound.well p.0 summed) p.1)
 
     pub load-refused : IfNotBegun old (IsTrue d.told → AreUnchanged d e) → WasRefused d e (shape_of (Load calls)) story status
     load-refused unchanged = behind-refused d e (shape_of (Load calls)) story old status how (by x)
       where
         by : IsLoaded (Refuses d started0 shape0) (Finds d started0 shape0) d.can_stop (Refuses e started shape) (Finds e started shape)
-            (IsNew stage single i × (o ≡ None) × CanStart pre post shape started q e)
-            (Lies (StandsHeld pre post shape started o n q e) (StandsLeft pre post shape started o n q e) e.can_stop stage single i)
-            (Left (StandsHeld pre post shape started o n q e) (StandsLeft pre post shape started o n q e) stage) (FillsIn e shape) f old calls done story
+            (IsNew stage single i × (o ≡ None) × CanStart shape started q e)
+            (Lies (StandsHeld shape started o n q e) (StandsLeft shape started o n q e) e.can_stop stage single i)
+            (Left (StandsHeld shape started o n q e) (StandsLeft shape started o n q e) stage) (FillsIn e shape) f old calls done story
             → WasRefused d e (shape_of (Load calls)) story old
         by (inl u) =
             let p = u.run any-start in
             nothing-refused d e (shape_of (Load calls)) story u.reason old p.trace u.is
-            (was-refused (Load calls) d e started0 shape0 was asked0 pre post shape started o n q stage single i asked old story (λ start. IsPlayedLoad start old f calls done story) u) p.tells.told p.leaves unchanged
+            (was-refused (Load calls) d e started0 shape0 was asked0 shape started o n q stage single i asked old story (λ start. IsPlayedLoad start old f calls done story) u) p.tells.told p.leaves unchanged
         by (inr v) = over-refused d e (shape_of (Load calls)) story v.ends.1.room v.ends.1.point old v.ends.1.may
 
 -- AS ITS CALLER KNOWS IT: the status is the outcome, and the flight is told by that

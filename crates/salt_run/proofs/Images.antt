@@ -14,11 +14,8 @@ use Rattle.salt_engine.specs.declared.stage.Stage.{Stage}
 use Rattle.salt_keeps.specs.Points.{Point}
 use Rattle.salt_model.specs.Kept.{Kept}
 use Rattle.salt_storage.specs.declared.found.Numbers.{Numbers}
-use Rattle.salt_values.specs.declared.placement.PlaceKind.{PlaceKind}
 use Rattle.salt_values.specs.declared.placement.Shape.{Shape}
-use Rattle.salt_values.specs.declared.value.Value.{Value}
 use Rattle.std.proofs.Common.{inl, inr}
-use Rattle.std.specs.Borrow.{Bor}
 use Rattle.std.specs.Prelude.{Bool, IsTrue, List, None, Option, Some, false, refl, true, ℕ, ◌≡◌}
 
 -- an image stands for something that is left at a point
@@ -32,9 +29,9 @@ pub may-come : (d : View) (started : Bool) → (started ≡ true → AreSettled 
 may-come d true settled image left = λ dev low. (settled refl).each dev low (image dev) (left dev low)
 may-come d false settled image left = left
 
-module _ (pre : PlaceKind → Bor Value → ℕ → Type 0) (post : PlaceKind → Bor Value → ℕ → ℕ → Type 0) (shape : Shape) (started : Bool) (o : Option Store) (n : Numbers) (q : Pending) (d : View)
+module _ (shape : Shape) (started : Bool) (o : Option Store) (n : Numbers) (q : Pending) (d : View)
     (told : IsTrue d.told) (room : ℕ) (p : Point) (image : ℕ → List ℕ) (left : IsImage d image) where
-  either : (a b : Kept) → StandsLeft pre post shape started o n q d a b → IsLeft room p a → IsLeft room p b → StandsAt shape room p image
+  either : (a b : Kept) → StandsLeft shape started o n q d a b → IsLeft room p a → IsLeft room p b → StandsAt shape room p image
   either a b h first second =
       elim (h.leaves told image (may-come d started h.can.settled image left)).stands [
         | inl s ↦ record { found = a; stands = s; left = first }
@@ -45,10 +42,10 @@ module _ (pre : PlaceKind → Bor Value → ℕ → Type 0) (post : PlaceKind �
   in-one (Some x) k h = held_image d shape x k h told image left
   in-one None k h = absurd h
 
-  held : (k : Kept) → StandsHeld pre post shape started o n q d k → IsLeft room p k → StandsAt shape room p image
+  held : (k : Kept) → StandsHeld shape started o n q d k → IsLeft room p k → StandsAt shape room p image
   held k h here = record { found = k; stands = in-one o k h.held; left = here }
 
-  pub stands-left : (stage : Stage) → Left (StandsHeld pre post shape started o n q d) (StandsLeft pre post shape started o n q d) stage room p → StandsAt shape room p image
+  pub stands-left : (stage : Stage) → Left (StandsHeld shape started o n q d) (StandsLeft shape started o n q d) stage room p → StandsAt shape room p image
   stands-left (Found books numbers) h = held h.0 h.1 h.2
   stands-left New h = either h.0 h.1 h.2 h.3 h.4
   stands-left (Opening x) h = either h.0 h.1 h.2 h.3 h.4

@@ -17,20 +17,17 @@ use Rattle.salt_serving.specs.declared.status.Status.TheVariants.{DeviceFull, Me
 use Rattle.salt_serving.specs.declared.status.Status.{Status}
 use Rattle.salt_stands.specs.Stands.{are_spent}
 use Rattle.salt_storage.specs.declared.found.Numbers.{Numbers}
-use Rattle.salt_values.specs.declared.placement.PlaceKind.{PlaceKind}
 use Rattle.salt_values.specs.declared.placement.Shape.{Shape}
-use Rattle.salt_values.specs.declared.value.Value.{Value}
 use Rattle.std.proofs.Common.{subst, sym, ◌∙◌}
-use Rattle.std.specs.Borrow.{Bor}
 use Rattle.std.specs.Prelude.{Bool, IsTrue, List, Option, true, ℕ, ◌≡◌}
 
-module _ (pre : PlaceKind → Bor Value → ℕ → Type 0) (post : PlaceKind → Bor Value → ℕ → ℕ → Type 0) (shape : Shape) (started : Bool) (o : Option Store) (n : Numbers) (q : Pending) (d : View)
+module _ (shape : Shape) (started : Bool) (o : Option Store) (n : Numbers) (q : Pending) (d : View)
     (stage : Stage) (single : Bool) (i : Option InFlight) (status : Status) (trace : Trace) (played : IsPlayed trace)
-    (x : EndsFound (Lies (StandsHeld pre post shape started o n q d) (StandsLeft pre post shape started o n q d) d.can_stop stage single i)
-    (Left (StandsHeld pre post shape started o n q d) (StandsLeft pre post shape started o n q d) stage) (FillsIn d shape) status trace) where
+    (x : EndsFound (Lies (StandsHeld shape started o n q d) (StandsLeft shape started o n q d) d.can_stop stage single i)
+    (Left (StandsHeld shape started o n q d) (StandsLeft shape started o n q d) stage) (FillsIn d shape) status trace) where
   images : IsTrue d.told → (image : ℕ → List ℕ) → IsImage d image → StandsBehind shape trace image
   images told image is =
-      let s : StandsAt shape x.room x.point image = stands-left pre post shape started o n q d told x.room x.point image is stage x.stands in
+      let s : StandsAt shape x.room x.point image = stands-left shape started o n q d told x.room x.point image is stage x.stands in
       record { found = s.found; stands = s.stands; is = is-behind trace played x.point x.keeps x.room s.found x.boots s.left }
 
   spent : (boot decisions : ℕ) → status ≡ NumbersSpent boot decisions → (are_spent boot decisions ≡ true) × AreNumbersBehind trace boot decisions

@@ -28,7 +28,7 @@ use salt_engine::Engine;
 use salt_io::{Sink, Source};
 use salt_model::{Flight, Story};
 use salt_serving::{Loaded, Status, Stop, load, serve, status_of};
-use salt_steps::Steps;
+use salt_steps::Stepping;
 use salt_summary::print_summary;
 use salt_values::{Key, PlaceKind, Placement, Shape};
 use sqlite_items::Items;
@@ -99,8 +99,8 @@ pub fn run_script<S: Source, K: Sink, D: Disks, F: Fn(PlaceKind, &Key, u32) -> u
     ensures shape { SameShape (D.view disks.old) (D.view disks.new) }
 {
     let mut story = Items::new(alloc);
-    let mut engine = Engine::new(alloc, Devices::new(alloc, place, shape_of(parts)));
-    let status = status_behind(serve(alloc, &mut engine, disks, source, sink, &mut story));
+    let mut engine = Engine::new(alloc, Devices::new(alloc, shape_of(parts)));
+    let status = status_behind(serve(alloc, &mut engine, disks, place, source, sink, &mut story));
     Ended {
         status,
         story,
@@ -161,8 +161,8 @@ pub fn run_load<K: Sink, D: Disks, F: Fn(PlaceKind, &Key, u32) -> u32>(
     ensures shape { SameShape (D.view disks.old) (D.view disks.new) }
 {
     let mut story = Items::new(alloc);
-    let mut engine = Engine::new(alloc, Devices::new(alloc, place, shape_of(PARTS)));
-    let Loaded { lines, done } = load(alloc, &mut engine, disks, calls, &mut story);
+    let mut engine = Engine::new(alloc, Devices::new(alloc, shape_of(PARTS)));
+    let Loaded { lines, done } = load(alloc, &mut engine, disks, place, calls, &mut story);
     let written = write_summary(calls, lines, status_behind(done), sink, &story);
     Ended {
         status: written,

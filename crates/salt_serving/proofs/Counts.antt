@@ -86,13 +86,6 @@ run-behind a b c status es fs g h =
       most = let x = g.stops not-short in let y = h.most in omega arith;
     }
 
-pub added-behind : (a b c : View) (status : Status) (story told now : List Event) → CountsAdded a b Done story told → CountsAdded b c status told now → CountsAdded a c status story now
-added-behind a b c status story told now g h = record {
-  more = g.more ++ h.more;
-  grows = h.grows ∙ ap (λ es. es ++ h.more) g.grows ∙ append_assoc story g.more h.more;
-  counts = run-behind a b c status g.more h.more g.counts h.counts;
-}
-
 pub run-added : (a b c : View) (status : Status) (told now : List Event) → CountsRun a b Done told → CountsAdded b c status told now → CountsRun a c status now
 run-added a b c status told now g h = subst (CountsRun a c status) (sym h.grows) (run-behind a b c status told h.more g h.counts)
 

@@ -13,28 +13,33 @@ ghost use Rattle.salt_steps.specs.Reopening.{Reopens};
 ghost use Rattle.salt_steps.specs.Serving.{Halts, Serves};
 ghost use Rattle.salt_storage.specs.Answers.{disk_err};
 ghost use Rattle.salt_storage.specs.declared.halt.Halt.TheVariants.{Memory};
+ghost use Rattle.salt_values.specs.Placement.{GivesPlaceOf, TakesEachKey};
 ghost use Rattle.std.specs.Option.{option_copied};
 ghost use Rattle.std.specs.Prelude.{Err, IfErr, None, OnOk, ◌≡◌, ◌≢◌, ◌≤◌};
 
 use crate::stop::{Stop, stop_opening};
-use crate::telling::{events_behind, write_done};
+use crate::telling::write_done;
 use salt_disk::Disks;
 use salt_io::Sink;
 use salt_model::{Refusal, Story, Why};
 use salt_script::{ReadErr, read_line};
 use salt_sound::read_lines_are_spelled;
-use salt_steps::Steps;
+use salt_steps::{Stepping, events_behind};
 use salt_storage::Halt;
+use salt_values::{Key, PlaceKind, Placement};
 use std::alloc::Global;
 
 /// Asks a line: of this text, or, where there is none, one that is too long.
-fn ask_line<E: Steps, D: Disks>(
+fn ask_line<E: Stepping, D: Disks, F: Fn(PlaceKind, &Key, u32) -> u32>(
     alloc: Global,
     engine: &mut E,
     disks: &mut D,
+    place: &Placement<F>,
     text: Option<&[u8]>,
     story: &mut Story,
 ) -> Result<(), Halt>
+    requires callable { TakesEachKey (F.pre place.now.place) }
+    requires answers { GivesPlaceOf (F.post place.now.place) }
     requires serves { (line : Line) → IsAskable line → E.serves line }
     requires stands { (start : Start) × (trace : Trace) × Serves (E.sees (D.view disks.old)) start engine.old story.old trace }
     ensures ok { OnOk result ((start : Start) (trace : Trace) → Serves (E.sees (D.view disks.old)) start engine.old story.old trace →
@@ -49,11 +54,11 @@ fn ask_line<E: Steps, D: Disks>(
     // For the proof alone: what a line of the grammar asks is spelled.
     read_lines_are_spelled();
     let Some(text) = text else {
-        return salt_steps::refuse(engine, disks, story, Refusal::Long);
+        return salt_steps::refuse(engine, disks, place, Refusal::Long, story);
     };
     match read_line(alloc, text) {
-        Ok(line) => salt_steps::serve(engine, disks, story, &line),
-        Err(ReadErr::Refused(refusal)) => salt_steps::refuse(engine, disks, story, refusal),
+        Ok(line) => salt_steps::step(engine, disks, place, &line, story),
+        Err(ReadErr::Refused(refusal)) => salt_steps::refuse(engine, disks, place, refusal, story),
         Err(ReadErr::Memory) => {
             engine.stands(disks);
             Err(Halt::Memory)
@@ -62,12 +67,15 @@ fn ask_line<E: Steps, D: Disks>(
 }
 
 /// Opens a run anew that was broken off in a line.
-fn recover<E: Steps, D: Disks>(
+fn recover<E: Stepping, D: Disks, F: Fn(PlaceKind, &Key, u32) -> u32>(
     engine: &mut E,
     disks: &mut D,
+    place: &Placement<F>,
     why: Why,
     story: &mut Story,
 ) -> Result<(), Stop>
+    requires callable { TakesEachKey (F.pre place.now.place) }
+    requires answers { GivesPlaceOf (F.post place.now.place) }
     requires halted { (start : Start) × (trace : Trace) × Halts (E.lies (D.view disks.old) engine.old 0) (E.left (D.view disks.old) engine.old 0) (E.fills (D.view disks.old) engine.old) (E.flight engine.old) (halt_of why) start story.old trace }
     ensures ok { OnOk result ((start : Start) (trace : Trace) → Halts (E.lies (D.view disks.old) engine.old 0) (E.left (D.view disks.old) engine.old 0) (E.fills (D.view disks.old) engine.old) (E.flight engine.old) (halt_of why) start story.old trace →
         Reopens (E.sees (D.view disks.new)) start trace story.old engine.new story.new) }
@@ -78,19 +86,22 @@ fn recover<E: Steps, D: Disks>(
     ensures shape { SameShape (D.view disks.old) (D.view disks.new) }
     ensures counts { CountsFall why (D.view disks.old) (D.view disks.new) (answer_of (outcome result)) story.old story.new }
 {
-    match salt_steps::recover(engine, disks, why, story) {
+    match salt_steps::recover(engine, disks, place, why, story) {
         Ok(()) => Ok(()),
         Err(e) => Err(stop_opening(e)),
     }
 }
 
 /// What follows where a run is broken off in a line: it is opened anew, or it ends.
-pub fn resume<E: Steps, D: Disks>(
+pub fn resume<E: Stepping, D: Disks, F: Fn(PlaceKind, &Key, u32) -> u32>(
     engine: &mut E,
     disks: &mut D,
+    place: &Placement<F>,
     halt: Halt,
     story: &mut Story,
 ) -> Result<(), Stop>
+    requires callable { TakesEachKey (F.pre place.now.place) }
+    requires answers { GivesPlaceOf (F.post place.now.place) }
     requires halted { (start : Start) × (trace : Trace) × Halts (E.lies (D.view disks.old) engine.old 0) (E.left (D.view disks.old) engine.old 0) (E.fills (D.view disks.old) engine.old) (E.flight engine.old) halt start story.old trace }
     ensures ok { OnOk result ((start : Start) (trace : Trace) → Halts (E.lies (D.view disks.old) engine.old 0) (E.left (D.view disks.old) engine.old 0) (E.fills (D.view disks.old) engine.old) (E.flight engine.old) halt start story.old trace →
         Reopens (E.sees (D.view disks.new)) start trace story.old engine.new story.new) }
@@ -103,21 +114,24 @@ pub fn resume<E: Steps, D: Disks>(
     ensures counts { CountsResumed halt (D.view disks.old) (D.view disks.new) (outcome result) story.old story.new }
 {
     match halt {
-        Halt::Stopped => recover(engine, disks, Why::Stopped, story),
-        Halt::DiskFault => recover(engine, disks, Why::Fault, story),
+        Halt::Stopped => recover(engine, disks, place, Why::Stopped, story),
+        Halt::DiskFault => recover(engine, disks, place, Why::Fault, story),
         Halt::DeviceFull(dev) => Err(Stop::DeviceFull(dev)),
         Halt::Memory => Err(Stop::Memory),
     }
 }
 
 /// Does a line, and opens the run anew where it is broken off by a stop or a fault.
-fn do_line<E: Steps, D: Disks>(
+fn do_line<E: Stepping, D: Disks, F: Fn(PlaceKind, &Key, u32) -> u32>(
     alloc: Global,
     engine: &mut E,
     disks: &mut D,
+    place: &Placement<F>,
     text: Option<&[u8]>,
     story: &mut Story,
 ) -> Result<(), Stop>
+    requires callable { TakesEachKey (F.pre place.now.place) }
+    requires answers { GivesPlaceOf (F.post place.now.place) }
     requires serves { (line : Line) → IsAskable line → E.serves line }
     requires stands { (start : Start) × (trace : Trace) × Serves (E.sees (D.view disks.old)) start engine.old story.old trace }
     ensures ok { OnOk result ((start : Start) (trace : Trace) → Serves (E.sees (D.view disks.old)) start engine.old story.old trace →
@@ -130,21 +144,24 @@ fn do_line<E: Steps, D: Disks>(
     ensures shape { SameShape (D.view disks.old) (D.view disks.new) }
     ensures counts { CountsAdded (D.view disks.old) (D.view disks.new) (outcome result) story.old story.new }
 {
-    match ask_line(alloc, engine, disks, text, story) {
+    match ask_line(alloc, engine, disks, place, text, story) {
         Ok(()) => Ok(()),
-        Err(halt) => resume(engine, disks, halt, story),
+        Err(halt) => resume(engine, disks, place, halt, story),
     }
 }
 
 /// Does a line, and writes the events that it adds; where memory ran out, none of them.
-pub fn tell_line<E: Steps, D: Disks, K: Sink>(
+pub fn tell_line<E: Stepping, D: Disks, K: Sink, F: Fn(PlaceKind, &Key, u32) -> u32>(
     alloc: Global,
     engine: &mut E,
     disks: &mut D,
+    place: &Placement<F>,
     text: Option<&[u8]>,
     sink: &mut K,
     story: &mut Story,
 ) -> Result<(), Stop>
+    requires callable { TakesEachKey (F.pre place.now.place) }
+    requires answers { GivesPlaceOf (F.post place.now.place) }
     requires serves { (line : Line) → IsAskable line → E.serves line }
     requires stands { (start : Start) × (trace : Trace) × Serves (E.sees (D.view disks.old)) start engine.old story.old trace }
     ensures ok { OnOk result ((start : Start) (trace : Trace) → Serves (E.sees (D.view disks.old)) start engine.old story.old trace →
@@ -161,7 +178,7 @@ pub fn tell_line<E: Steps, D: Disks, K: Sink>(
     ensures counts { CountsAdded (D.view disks.old) (D.view disks.new) (outcome result) story.old story.new }
 {
     let told = story.len();
-    let done = do_line(alloc, engine, disks, text, story);
+    let done = do_line(alloc, engine, disks, place, text, story);
     engine.stands(disks);
     write_done(sink, events_behind(story, told), engine.schema(disks), done)
 }

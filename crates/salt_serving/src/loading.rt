@@ -9,6 +9,7 @@ ghost use Rattle.salt_serving.specs.Counted.{CountsAdded, CountsRun};
 ghost use Rattle.salt_serving.specs.Loading.{EndsLoading, IsLoaded, IsLoading};
 ghost use Rattle.salt_serving.specs.Serving.{IsAskable};
 ghost use Rattle.salt_serving.specs.Stopping.{IfNotBegun, IsLaterStop, IsOfDevices, outcome, status_of};
+ghost use Rattle.salt_values.specs.Placement.{GivesPlaceOf, TakesEachKey};
 ghost use Rattle.std.specs.Prelude.{IfErr, IsTrue, None, OnOk, Some, length, slice_get, [], ◌+◌, ◌<◌, ◌≡◌, ◌≤◌};
 
 use crate::lines::resume;
@@ -19,7 +20,8 @@ use salt_canonical::definitions_are_read;
 use salt_disk::Disks;
 use salt_load::{line_count, load_line};
 use salt_model::Story;
-use salt_steps::Steps;
+use salt_steps::Stepping;
+use salt_values::{Key, PlaceKind, Placement};
 use std::alloc::Global;
 
 /// How the run of a workload has ended, and how many of its lines were done, the one in which it ended among them.
@@ -30,14 +32,17 @@ pub struct Loaded {
 }
 
 /// Does a line of the workload, and opens the run anew where it is broken off by a stop or a fault.
-fn load_one<E: Steps, D: Disks>(
+fn load_one<E: Stepping, D: Disks, F: Fn(PlaceKind, &Key, u32) -> u32>(
     engine: &mut E,
     disks: &mut D,
+    place: &Placement<F>,
     calls: u64,
     i: u64,
     line: &Line,
     story: &mut Story,
 ) -> Result<(), Stop>
+    requires callable { TakesEachKey (F.pre place.now.place) }
+    requires answers { GivesPlaceOf (F.post place.now.place) }
     requires within { i < length (load_lines calls) }
     requires is { Some line.now ≡ slice_get (load_lines calls) i }
     requires serves { (line : Line) → IsAskable line → E.serves line }
@@ -54,21 +59,24 @@ fn load_one<E: Steps, D: Disks>(
 {
     // For the proof alone: texts spell what the workload defines.
     definitions_are_read();
-    match salt_steps::serve(engine, disks, story, line) {
+    match salt_steps::step(engine, disks, place, line, story) {
         Ok(()) => Ok(()),
-        Err(halt) => resume(engine, disks, halt, story),
+        Err(halt) => resume(engine, disks, place, halt, story),
     }
 }
 
 /// Does line i, from 0, of the workload with so many calls.
-fn serve_load_line<E: Steps, D: Disks>(
+fn serve_load_line<E: Stepping, D: Disks, F: Fn(PlaceKind, &Key, u32) -> u32>(
     alloc: Global,
     engine: &mut E,
     disks: &mut D,
+    place: &Placement<F>,
     calls: u64,
     i: u64,
     story: &mut Story,
 ) -> Result<(), Stop>
+    requires callable { TakesEachKey (F.pre place.now.place) }
+    requires answers { GivesPlaceOf (F.post place.now.place) }
     requires least { 1 ≤ calls }
     requires most { calls ≤ CALLS_MOST }
     requires within { i < length (load_lines calls) }
@@ -86,19 +94,22 @@ fn serve_load_line<E: Steps, D: Disks>(
 {
     engine.stands(disks);
     match load_line(alloc, calls, i)? {
-        Some(line) => load_one(engine, disks, calls, i, &line, story),
+        Some(line) => load_one(engine, disks, place, calls, i, &line, story),
         None => Ok(()),
     }
 }
 
 /// Begins a run over what the devices stand for, and does the lines of the workload with so many calls.
-pub fn load<E: Steps, D: Disks>(
+pub fn load<E: Stepping, D: Disks, F: Fn(PlaceKind, &Key, u32) -> u32>(
     alloc: Global,
     engine: &mut E,
     disks: &mut D,
+    place: &Placement<F>,
     calls: u64,
     story: &mut Story,
 ) -> Loaded
+    requires callable { TakesEachKey (F.pre place.now.place) }
+    requires answers { GivesPlaceOf (F.post place.now.place) }
     requires least { 1 ≤ calls }
     requires most { calls ≤ CALLS_MOST }
     requires serves { (line : Line) → IsAskable line → E.serves line }
@@ -116,14 +127,14 @@ pub fn load<E: Steps, D: Disks>(
     ensures shape { SameShape (D.view disks.old) (D.view disks.new) }
     ensures counts { CountsRun (D.view disks.old) (D.view disks.new) (outcome result.done) story.new }
 {
-    if let Err(stop) = start(engine, disks, story) {
+    if let Err(stop) = start(engine, disks, place, story) {
         return Loaded {
             lines: 0,
             done: Err(stop),
         };
     }
     for i in 0..line_count(calls) {
-        if let Err(stop) = serve_load_line(alloc, engine, disks, calls, i, story) {
+        if let Err(stop) = serve_load_line(alloc, engine, disks, place, calls, i, story) {
             return Loaded {
                 lines: i + 1,
                 done: Err(stop),

@@ -8,6 +8,7 @@ ghost use Rattle.salt_serving.specs.Counted.{CountsAdded, CountsRun};
 ghost use Rattle.salt_serving.specs.Ending.{EndsServing, IsEnded};
 ghost use Rattle.salt_serving.specs.Serving.{IsAfterLine, IsAskable, IsBegun, IsServing, text_of};
 ghost use Rattle.salt_serving.specs.Stopping.{IfNotBegun, outcome, status_of};
+ghost use Rattle.salt_values.specs.Placement.{GivesPlaceOf, TakesEachKey};
 ghost use Rattle.salt_values.specs.declared.limits.TheConstants.{SCRIPT_MOST};
 ghost use Rattle.std.specs.Option.{option_copied};
 ghost use Rattle.std.specs.Prelude.{Err, IfErr, IfOk, IsTrue, List, None, Ok, OnOk, Option, true, ℕ, [], ◌<◌, ◌≡◌, ◌≢◌, ◌≤◌};
@@ -19,8 +20,9 @@ use crate::telling::write_done;
 use salt_disk::Disks;
 use salt_io::{Lines, Next, Sink, Source};
 use salt_model::Story;
-use salt_steps::Steps;
+use salt_steps::Stepping;
 use salt_values::limits::SCRIPT_MOST;
+use salt_values::{Key, PlaceKind, Placement};
 use std::alloc::Global;
 
 /// The text of a line that was taken; none where it is too long.
@@ -43,14 +45,17 @@ struct Serving {
 
 impl Serving {
     /// Does the script's next line. False at the script's end.
-    fn serve_line<E: Steps, D: Disks, S: Source, K: Sink>(
+    fn serve_line<E: Stepping, D: Disks, S: Source, K: Sink, F: Fn(PlaceKind, &Key, u32) -> u32>(
         &mut self,
         engine: &mut E,
         disks: &mut D,
+        place: &Placement<F>,
         source: &mut S,
         sink: &mut K,
         story: &mut Story,
     ) -> Result<bool, Stop>
+        requires callable { TakesEachKey (F.pre place.now.place) }
+        requires answers { GivesPlaceOf (F.post place.now.place) }
         requires serves { (line : Line) → IsAskable line → E.serves line }
         requires stands { (start : Start) × (script : Option (List ℕ)) × (before : Option (List ℕ)) ×
             IsServing (E.sees (D.view disks.old)) start script before engine.old self.old.lines (S.left source.old) story.old (K.held sink.old) }
@@ -80,18 +85,21 @@ impl Serving {
             Next::End => return Ok(false),
             _ => text_of(next, self.line.as_slice()),
         };
-        tell_line(self.alloc, engine, disks, text, sink, story)?;
+        tell_line(self.alloc, engine, disks, place, text, sink, story)?;
         Ok(true)
     }
 }
 
 /// Begins the run, and writes what is told of that.
-fn begin<E: Steps, D: Disks, K: Sink>(
+fn begin<E: Stepping, D: Disks, K: Sink, F: Fn(PlaceKind, &Key, u32) -> u32>(
     engine: &mut E,
     disks: &mut D,
+    place: &Placement<F>,
     sink: &mut K,
     story: &mut Story,
 ) -> Result<(), Stop>
+    requires callable { TakesEachKey (F.pre place.now.place) }
+    requires answers { GivesPlaceOf (F.post place.now.place) }
     requires new { E.is_new (D.view disks.old) engine.old }
     requires settled { E.settled (D.view disks.old) engine.old }
     requires flies { E.flight engine.old ≡ None }
@@ -112,20 +120,23 @@ fn begin<E: Steps, D: Disks, K: Sink>(
     ensures shape { SameShape (D.view disks.old) (D.view disks.new) }
     ensures counts { CountsRun (D.view disks.old) (D.view disks.new) (outcome result) story.new }
 {
-    let done = start(engine, disks, story);
+    let done = start(engine, disks, place, story);
     engine.stands(disks);
     write_done(sink, story.as_slice(), engine.schema(disks), done)
 }
 
 /// Begins a run over what the devices stand for, and does the lines of the script.
-pub fn serve<E: Steps, D: Disks, S: Source, K: Sink>(
+pub fn serve<E: Stepping, D: Disks, S: Source, K: Sink, F: Fn(PlaceKind, &Key, u32) -> u32>(
     alloc: Global,
     engine: &mut E,
     disks: &mut D,
+    place: &Placement<F>,
     source: &mut S,
     sink: &mut K,
     story: &mut Story,
 ) -> Result<(), Stop>
+    requires callable { TakesEachKey (F.pre place.now.place) }
+    requires answers { GivesPlaceOf (F.post place.now.place) }
     requires serves { (line : Line) → IsAskable line → E.serves line }
     requires new { E.is_new (D.view disks.old) engine.old }
     requires settled { E.settled (D.view disks.old) engine.old }
@@ -148,12 +159,12 @@ pub fn serve<E: Steps, D: Disks, S: Source, K: Sink>(
     ensures shape { SameShape (D.view disks.old) (D.view disks.new) }
     ensures counts { CountsRun (D.view disks.old) (D.view disks.new) (outcome result) story.new }
 {
-    begin(engine, disks, sink, story)?;
+    begin(engine, disks, place, sink, story)?;
     let mut serving = Serving {
         alloc,
         lines: Lines::new(),
         line: Vec::new(alloc),
     };
-    'lines: while serving.serve_line(engine, disks, source, sink, story)? {}
+    'lines: while serving.serve_line(engine, disks, place, source, sink, story)? {}
     Ok(())
 }

@@ -5,19 +5,24 @@ ghost use Rattle.salt_serving.specs.Ending.{FailsToBegin};
 ghost use Rattle.salt_serving.specs.Stopping.{IfNotBegun, IsOfDevices, answer_of, outcome};
 ghost use Rattle.salt_steps.specs.Counting.{CountsOpening};
 ghost use Rattle.salt_steps.specs.Reopening.{Begins};
+ghost use Rattle.salt_values.specs.Placement.{GivesPlaceOf, TakesEachKey};
 ghost use Rattle.std.specs.Prelude.{IfErr, IsTrue, None, OnOk, [], ◌≡◌};
 
 use crate::stop::{Stop, stop_opening};
 use salt_disk::Disks;
 use salt_model::Story;
-use salt_steps::Steps;
+use salt_steps::Stepping;
+use salt_values::{Key, PlaceKind, Placement};
 
 /// Begins a run over what the devices stand for, and opens it.
-pub fn start<E: Steps, D: Disks>(
+pub fn start<E: Stepping, D: Disks, F: Fn(PlaceKind, &Key, u32) -> u32>(
     engine: &mut E,
     disks: &mut D,
+    place: &Placement<F>,
     story: &mut Story,
 ) -> Result<(), Stop>
+    requires callable { TakesEachKey (F.pre place.now.place) }
+    requires answers { GivesPlaceOf (F.post place.now.place) }
     requires new { E.is_new (D.view disks.old) engine.old }
     requires settled { E.settled (D.view disks.old) engine.old }
     requires flies { E.flight engine.old ≡ None }
@@ -33,7 +38,7 @@ pub fn start<E: Steps, D: Disks>(
     ensures shape { SameShape (D.view disks.old) (D.view disks.new) }
     ensures counts { CountsOpening (D.view disks.old) (D.view disks.new) (answer_of (outcome result)) [] story.new }
 {
-    match salt_steps::start(engine, disks, story) {
+    match salt_steps::start(engine, disks, place, story) {
         Ok(()) => Ok(()),
         Err(e) => Err(stop_opening(e)),
     }

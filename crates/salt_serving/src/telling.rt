@@ -1,6 +1,6 @@
 //! The texts of events, written under the tables of a schema.
 
-ghost use Rattle.std.specs.Prelude.{◌≡◌, ◌≢◌, ◌≤◌, Err, IfErr, OnOk, drop};
+ghost use Rattle.std.specs.Prelude.{◌≡◌, ◌≢◌, ◌≤◌, Err, IfErr, OnOk};
 ghost use Rattle.salt_io.specs.Streams.{Gains, Rose};
 ghost use Rattle.salt_model.specs.EventTexts.{story_text};
 ghost use Rattle.salt_serving.specs.Serving.{EndsWriting};
@@ -9,16 +9,9 @@ ghost use Rattle.salt_serving.specs.Telling.{StopsWriting};
 
 use crate::stop::{Stop, ran_short};
 use salt_io::Sink;
-use salt_model::{Event, Story};
+use salt_model::Event;
 use salt_print::print_story;
 use salt_schema::Schema;
-
-/// The events of a story behind so many.
-pub fn events_behind(story: &Story, count: usize) -> &[Event]
-    ensures { result.now ≡ drop count story.now }
-{
-    story.as_slice().get(count..).unwrap_or_default()
-}
 
 /// Appends the texts of events, one after another, to what the sink holds. `WriteFault` where a write failed, behind some first
 /// part of the texts.

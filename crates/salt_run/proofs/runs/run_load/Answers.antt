@@ -19,7 +19,7 @@ returns-clause-runs g c left =
     let s = streams left left (g.K.Sink.held c.args.sink.now) (g.K.Sink.held c.write_summary-written.new.sink) in
     as-told (Load c.args.calls) d e s c.load-lines.new.story status status (flight_of x.in_flight) c.flight_at.result refl (c.flight_at.ensures ∙ ap (flight_at status) c.flight.ensures)
     (load-runs c.requires.promised d e z.started z.shape ((λ i. (c.new-engine.ensures.storage i).started) ∙ c.new.ensures.started)
-    (λ kind key n. g.F.Fn.pre y.place.now.place (kind, (key, (n, tt)))) (λ kind key n r. g.F.Fn.post y.place.now.place (kind, (key, (n, tt))) r) y.shape y.started y.store y.numbers y.pending x.stage x.single x.in_flight c.load-lines.ensures.asked status
+    y.shape y.started y.store y.numbers y.pending x.stage x.single x.in_flight c.load-lines.ensures.asked status
     (flight_of x.in_flight) s c.load-lines.new.story c.args.calls r.lines (outcome r.done)
     (behind-outcome (outcome r.done) c.status_behind.result status c.status_behind.ensures c.write_summary-written.ensures.written)
     ((λ i. (c.new-engine.ensures.storage i).shape) ∙ c.new.ensures.shape ∙ c.shape_of.ensures) c.write_summary-written.ensures.summed c.load-lines.ensures.ended)
@@ -36,7 +36,7 @@ returns-clause-refused g c =
     let held = g.K.Sink.held c.args.sink.now in
     let s = streams held held held (g.K.Sink.held c.write_summary-written.new.sink) in
     load-refused c.requires.promised d e z.started z.shape ((λ i. (c.new-engine.ensures.storage i).started) ∙ c.new.ensures.started)
-    (λ kind key n. g.F.Fn.pre y.place.now.place (kind, (key, (n, tt)))) (λ kind key n r. g.F.Fn.post y.place.now.place (kind, (key, (n, tt))) r) y.shape y.started y.store y.numbers y.pending x.stage x.single x.in_flight c.load-lines.ensures.asked status
+    y.shape y.started y.store y.numbers y.pending x.stage x.single x.in_flight c.load-lines.ensures.asked status
     (flight_of x.in_flight) s c.load-lines.new.story c.args.calls r.lines (outcome r.done)
     (behind-outcome (outcome r.done) c.status_behind.result status c.status_behind.ensures c.write_summary-written.ensures.written)
     ((λ i. (c.new-engine.ensures.storage i).shape) ∙ c.new.ensures.shape ∙ c.shape_of.ensures) c.write_summary-written.ensures.summed c.load-lines.ensures.ended c.load-lines.ensures.unchanged

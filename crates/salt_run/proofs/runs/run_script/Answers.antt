@@ -20,7 +20,7 @@ returns-clause-runs g c =
     as-told (Run c.args.parts) d e s c.serve.new.story (outcome c.serve.result) status (flight_of x.in_flight) c.flight_at.result c.status_behind-status.ensures
     (c.flight_at.ensures ∙ ap (flight_at status) c.flight.ensures)
     (script-runs c.requires.promised d e z.started z.shape ((λ i. (c.new-engine.ensures.storage i).started) ∙ c.new.ensures.started)
-    (λ kind key n. g.F.Fn.pre y.place.now.place (kind, (key, (n, tt)))) (λ kind key n r. g.F.Fn.post y.place.now.place (kind, (key, (n, tt))) r) y.shape y.started y.store y.numbers y.pending x.stage x.single x.in_flight c.serve.ensures.asked (outcome c.serve.result)
+    y.shape y.started y.store y.numbers y.pending x.stage x.single x.in_flight c.serve.ensures.asked (outcome c.serve.result)
     (flight_of x.in_flight) s c.serve.new.story c.args.parts ((λ i. (c.new-engine.ensures.storage i).shape) ∙ c.new.ensures.shape ∙ c.shape_of.ensures) c.serve.ensures.ended)
 
 pub returns-clause-refused : goal.returns-clause-refused
@@ -33,5 +33,5 @@ returns-clause-refused g c =
     let s = streams (g.S.Source.left c.args.source.now) (g.S.Source.left c.serve.new.source) (g.K.Sink.held c.args.sink.now) (g.K.Sink.held c.serve.new.sink) in
     refused-as d e (shape_of (Run c.args.parts)) c.serve.new.story (outcome c.serve.result) c.status_behind-status.result c.status_behind-status.ensures
     (script-refused c.requires.promised d e z.started z.shape ((λ i. (c.new-engine.ensures.storage i).started) ∙ c.new.ensures.started)
-    (λ kind key n. g.F.Fn.pre y.place.now.place (kind, (key, (n, tt)))) (λ kind key n r. g.F.Fn.post y.place.now.place (kind, (key, (n, tt))) r) y.shape y.started y.store y.numbers y.pending x.stage x.single x.in_flight c.serve.ensures.asked (outcome c.serve.result)
+    y.shape y.started y.store y.numbers y.pending x.stage x.single x.in_flight c.serve.ensures.asked (outcome c.serve.result)
     (flight_of x.in_flight) s c.serve.new.story c.args.parts ((λ i. (c.new-engine.ensures.storage i).shape) ∙ c.new.ensures.shape ∙ c.shape_of.ensures) c.serve.ensures.ended c.serve.ensures.unchanged)

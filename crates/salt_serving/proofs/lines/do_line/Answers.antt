@@ -8,8 +8,8 @@ use Rattle.std.proofs.lemmas.Result.{IfErr-weaker}
 pub returns-in-Ok-clause-counts : goal.returns-in-Ok-clause-counts
 returns-in-Ok-clause-counts g c = line-counted (g.D.Disks.view c.args.disks.now) (g.D.Disks.view c.ask_line.new.disks) c.args.story.now c.ask_line.new.story c.in-Ok.ensures.counts
 
-pub resume-requires : goal.resume-requires
-resume-requires g c = let s = c.requires.stands in let b = c.in-Err.ensures.err s.0 s.1 s.2 in record { halted = (s.0, b.after, b.halts) }
+pub resume-requires-clause-halted : goal.resume-requires-clause-halted
+resume-requires-clause-halted g c = let s = c.requires.stands in let b = c.in-Err.ensures.err s.0 s.1 s.2 in (s.0, b.after, b.halts)
 
 pub returns-in-Err-clause-ok : goal.returns-in-Err-clause-ok
 returns-in-Err-clause-ok g c = on-ok-both c.resume.result c.resume.ensures.ok c.resume.ensures.memory (λ reopens some start trace s.

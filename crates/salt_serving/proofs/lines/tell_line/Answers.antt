@@ -15,7 +15,7 @@ returns-clause-ok g c =
     let view = g.D.Disks.view in
     let now = view c.do_line-done.new.disks in
     let e = c.do_line-done.new.engine in
-    told-ok (g.E.Steps.sees (view c.args.disks.now)) (g.E.Steps.sees now) (g.E.Steps.lies now e) (g.E.Steps.left now e) (g.E.Steps.fills now e) (g.E.Steps.flight e) c.args.engine.now e
+    told-ok (g.E.Stepping.sees (view c.args.disks.now)) (g.E.Stepping.sees now) (g.E.Stepping.lies now e) (g.E.Stepping.left now e) (g.E.Stepping.fills now e) (g.E.Stepping.flight e) c.args.engine.now e
     c.stands.ensures.idle c.stands.ensures.flown c.stands.ensures.left c.schema.result.now c.schema.ensures.serves c.schema.ensures.lies (option_copied c.args.text) c.args.story.now c.do_line-done.new.story c.events_behind.result.now
     (g.K.Sink.held c.args.sink.now) (g.K.Sink.held c.write_done.new.sink) (c.events_behind.ensures ∙ ap (λ n. drop n c.do_line-done.new.story) c.len-told.ensures) c.do_line-done.result c.write_done.result c.do_line-done.ensures.ok c.write_done.ensures.written
 
@@ -24,7 +24,7 @@ returns-clause-err g c =
     let view = g.D.Disks.view in
     let now = view c.do_line-done.new.disks in
     let e = c.do_line-done.new.engine in
-    told-err (g.E.Steps.sees (view c.args.disks.now)) (g.E.Steps.sees now) (g.E.Steps.lies now e) (g.E.Steps.left now e) (g.E.Steps.fills now e) (g.E.Steps.flight e) c.args.engine.now e
+    told-err (g.E.Stepping.sees (view c.args.disks.now)) (g.E.Stepping.sees now) (g.E.Stepping.lies now e) (g.E.Stepping.left now e) (g.E.Stepping.fills now e) (g.E.Stepping.flight e) c.args.engine.now e
     c.stands.ensures.idle c.stands.ensures.flown c.stands.ensures.left c.schema.result.now c.schema.ensures.serves c.schema.ensures.lies (option_copied c.args.text) c.args.story.now c.do_line-done.new.story c.events_behind.result.now
     (g.K.Sink.held c.args.sink.now) (g.K.Sink.held c.write_done.new.sink) (c.events_behind.ensures ∙ ap (λ n. drop n c.do_line-done.new.story) c.len-told.ensures) c.do_line-done.result c.write_done.result c.do_line-done.ensures.ok c.do_line-done.ensures.err c.do_line-done.ensures.later
     c.write_done.ensures.written

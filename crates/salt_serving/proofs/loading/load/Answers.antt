@@ -14,8 +14,8 @@ returns-in-Err-clause-ended g c =
     let old = view c.args.disks.now in
     let now = view c.start.new.disks in
     let e = c.start.new.engine in
-    not-begun (g.E.Steps.refuses old c.args.engine.now) (g.E.Steps.finds old c.args.engine.now) old.can_stop (g.E.Steps.refuses now e) (g.E.Steps.finds now e) (g.E.Steps.is_new now e) (g.E.Steps.lies now e)
-    (g.E.Steps.left now e) (g.E.Steps.fills now e) (g.E.Steps.flight e) c.args.calls c.start.new.story c.in-Err.stop c.in-Err.ensures.of_devices c.in-Err.ensures.err
+    not-begun (g.E.Stepping.refuses old c.args.engine.now) (g.E.Stepping.finds old c.args.engine.now) old.can_stop (g.E.Stepping.refuses now e) (g.E.Stepping.finds now e) (g.E.Stepping.is_new now e) (g.E.Stepping.lies now e)
+    (g.E.Stepping.left now e) (g.E.Stepping.fills now e) (g.E.Stepping.flight e) c.args.calls c.start.new.story c.in-Err.stop c.in-Err.ensures.of_devices c.in-Err.ensures.err
 
 pub returns-in-Err-clause-counts : goal.returns-in-Err-clause-counts
 returns-in-Err-clause-counts g c =
@@ -26,7 +26,7 @@ pub loop-i-init : goal.loop-i-init
 loop-i-init g c =
     let view = g.D.Disks.view in
     record {
-      over = loading-begun (g.E.Steps.finds (view c.args.disks.now) c.args.engine.now) (view c.args.disks.now).can_stop (g.E.Steps.sees (view c.start.new.disks)) c.args.calls c.start.new.engine c.start.new.story
+      over = loading-begun (g.E.Stepping.finds (view c.args.disks.now) c.args.engine.now) (view c.args.disks.now).can_stop (g.E.Stepping.sees (view c.start.new.disks)) c.args.calls c.start.new.engine c.start.new.story
           (was-ok c.start.result _ c.in_default.not-Err c.start.ensures.ok);
       asked = c.start.ensures.asked;
       shape = c.start.ensures.shape;
@@ -82,7 +82,7 @@ returns-clause-ended g c =
     inr (record {
       start = o.start;
       is = o.is;
-      ends = all-loaded (g.E.Steps.sees now) o.start c.args.calls c.loop-i.i e c.loop-i.story o.loading (g.E.Steps.lies now e) (g.E.Steps.left now e) (g.E.Steps.fills now e) (g.E.Steps.flight e)
+      ends = all-loaded (g.E.Stepping.sees now) o.start c.args.calls c.loop-i.i e c.loop-i.story o.loading (g.E.Stepping.lies now e) (g.E.Stepping.left now e) (g.E.Stepping.fills now e) (g.E.Stepping.flight e)
           c.stands.ensures.idle c.stands.ensures.flown c.stands.ensures.left (omega arith) c.line_count.result c.line_count.ensures;
     })
 

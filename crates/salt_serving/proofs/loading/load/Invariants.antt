@@ -7,8 +7,8 @@ use Rattle.std.specs.Prelude.{◌≡◌}
 
 abbrev pub invariant-loop-i : goal.invariant-loop-i
 invariant-loop-i g l = record {
-  over : IsLoadingOver (g.E.Steps.finds (g.D.Disks.view l.fn.disks) l.fn.engine) (g.D.Disks.view l.fn.disks).can_stop (g.E.Steps.sees (g.D.Disks.view l.disks)) l.calls l.i l.engine l.story;
-  asked : g.E.Steps.asked l.engine ≡ g.E.Steps.asked l.fn.engine;
+  over : IsLoadingOver (g.E.Stepping.finds (g.D.Disks.view l.fn.disks) l.fn.engine) (g.D.Disks.view l.fn.disks).can_stop (g.E.Stepping.sees (g.D.Disks.view l.disks)) l.calls l.i l.engine l.story;
+  asked : g.E.Stepping.asked l.engine ≡ g.E.Stepping.asked l.fn.engine;
   shape : SameShape (g.D.Disks.view l.fn.disks) (g.D.Disks.view l.disks);
   counts : CountsRun (g.D.Disks.view l.fn.disks) (g.D.Disks.view l.disks) Done l.story;
 }

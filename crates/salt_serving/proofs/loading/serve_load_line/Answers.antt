@@ -14,7 +14,7 @@ returns-in_err-line-clause-err g c =
     let v = g.D.Disks.view c.args.disks.now in
     let e = c.args.engine.now in
     if_err_gives c.from_residual.result Memory _ c.from_residual.ensures.1 (λ start loading.
-    short-loading (g.E.Steps.sees v) start c.args.calls c.args.i e c.args.story.now loading (g.E.Steps.lies v e) (g.E.Steps.left v e) (g.E.Steps.fills v e) (g.E.Steps.flight e)
+    short-loading (g.E.Stepping.sees v) start c.args.calls c.args.i e c.args.story.now loading (g.E.Stepping.lies v e) (g.E.Stepping.left v e) (g.E.Stepping.fills v e) (g.E.Stepping.flight e)
     c.stands.ensures.idle c.stands.ensures.flown c.stands.ensures.left (c.args.i + 1))
 
 pub returns-in_err-line-clause-counts : goal.returns-in_err-line-clause-counts

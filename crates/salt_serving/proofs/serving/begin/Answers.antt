@@ -17,8 +17,8 @@ returns-clause-ok g c =
     let old = view c.args.disks.now in
     let now = view c.start-done.new.disks in
     let e = c.start-done.new.engine in
-    begun-ok (g.E.Steps.refuses old c.args.engine.now) (g.E.Steps.finds old c.args.engine.now) old.can_stop (g.E.Steps.refuses now e) (g.E.Steps.finds now e) (g.E.Steps.is_new now e) (g.E.Steps.sees now) (g.E.Steps.lies now e) (g.E.Steps.left now e)
-    (g.E.Steps.fills now e) (g.E.Steps.flight e) e c.stands.ensures.idle c.stands.ensures.flown c.stands.ensures.left c.schema.result.now c.schema.ensures.serves c.schema.ensures.lies c.start-done.new.story
+    begun-ok (g.E.Stepping.refuses old c.args.engine.now) (g.E.Stepping.finds old c.args.engine.now) old.can_stop (g.E.Stepping.refuses now e) (g.E.Stepping.finds now e) (g.E.Stepping.is_new now e) (g.E.Stepping.sees now) (g.E.Stepping.lies now e) (g.E.Stepping.left now e)
+    (g.E.Stepping.fills now e) (g.E.Stepping.flight e) e c.stands.ensures.idle c.stands.ensures.flown c.stands.ensures.left c.schema.result.now c.schema.ensures.serves c.schema.ensures.lies c.start-done.new.story
     (g.K.Sink.held c.args.sink.now) (g.K.Sink.held c.write_done.new.sink) c.start-done.result c.write_done.result c.start-done.ensures.ok
     (subst (λ (es : List Event). EndsWriting c.start-done.result (story_text c.schema.result.now es) (g.K.Sink.held c.args.sink.now) (g.K.Sink.held c.write_done.new.sink) c.write_done.result)
     c.as_slice.ensures c.write_done.ensures.written)
@@ -29,8 +29,8 @@ returns-clause-stops g c =
     let old = view c.args.disks.now in
     let now = view c.start-done.new.disks in
     let e = c.start-done.new.engine in
-    begun-err (g.E.Steps.refuses old c.args.engine.now) (g.E.Steps.finds old c.args.engine.now) old.can_stop (g.E.Steps.refuses now e) (g.E.Steps.finds now e) (g.E.Steps.is_new now e) (g.E.Steps.sees now) (g.E.Steps.lies now e) (g.E.Steps.left now e)
-    (g.E.Steps.fills now e) (g.E.Steps.flight e) e c.stands.ensures.idle c.stands.ensures.flown c.stands.ensures.left c.schema.result.now c.schema.ensures.serves c.schema.ensures.lies c.start-done.new.story
+    begun-err (g.E.Stepping.refuses old c.args.engine.now) (g.E.Stepping.finds old c.args.engine.now) old.can_stop (g.E.Stepping.refuses now e) (g.E.Stepping.finds now e) (g.E.Stepping.is_new now e) (g.E.Stepping.sees now) (g.E.Stepping.lies now e) (g.E.Stepping.left now e)
+    (g.E.Stepping.fills now e) (g.E.Stepping.flight e) e c.stands.ensures.idle c.stands.ensures.flown c.stands.ensures.left c.schema.result.now c.schema.ensures.serves c.schema.ensures.lies c.start-done.new.story
     (g.K.Sink.held c.args.sink.now) (g.K.Sink.held c.write_done.new.sink) c.start-done.result c.write_done.result c.start-done.ensures.ok c.start-done.ensures.err c.start-done.ensures.of_devices
     (subst (λ (es : List Event). EndsWriting c.start-done.result (story_text c.schema.result.now es) (g.K.Sink.held c.args.sink.now) (g.K.Sink.held c.write_done.new.sink) c.write_done.result)
     c.as_slice.ensures c.write_done.ensures.written)

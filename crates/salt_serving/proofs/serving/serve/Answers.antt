@@ -20,8 +20,8 @@ returns-in_err-begin-clause-ended g c =
     let now = view c.begin.new.disks in
     let e = c.begin.new.engine in
     let stop = c.in_err-begin.field-0.0 in
-    outcome-of c.from_residual.result stop (λ (s : Status). IsEnded (g.E.Steps.refuses old c.args.engine.now) (g.E.Steps.finds old c.args.engine.now) old.can_stop (g.E.Steps.refuses now e) (g.E.Steps.finds now e) (g.E.Steps.is_new now e)
-    (g.E.Steps.lies now e) (g.E.Steps.left now e) (g.E.Steps.fills now e) (g.E.Steps.flight e) s (g.S.Source.left c.args.source.now) (g.S.Source.left c.args.source.now) (g.K.Sink.held c.args.sink.now) c.begin.new.story
+    outcome-of c.from_residual.result stop (λ (s : Status). IsEnded (g.E.Stepping.refuses old c.args.engine.now) (g.E.Stepping.finds old c.args.engine.now) old.can_stop (g.E.Stepping.refuses now e) (g.E.Stepping.finds now e) (g.E.Stepping.is_new now e)
+    (g.E.Stepping.lies now e) (g.E.Stepping.left now e) (g.E.Stepping.fills now e) (g.E.Stepping.flight e) s (g.S.Source.left c.args.source.now) (g.S.Source.left c.args.source.now) (g.K.Sink.held c.args.sink.now) c.begin.new.story
     (g.K.Sink.held c.begin.new.sink)) c.from_residual.ensures.1 (c.in_err-begin.ensures.stops (g.S.Source.left c.args.source.now) (g.S.Source.left c.args.source.now))
 
 pub returns-in_err-begin-clause-counts : goal.returns-in_err-begin-clause-counts
@@ -37,7 +37,7 @@ lines-init g c =
       over = (
         b.start,
         b.is,
-        serving-begun (g.E.Steps.finds (view c.args.disks.now) c.args.engine.now) (view c.args.disks.now).can_stop (g.E.Steps.sees (view c.begin.new.disks)) c.begin.new.engine c.new.result
+        serving-begun (g.E.Stepping.finds (view c.args.disks.now) c.args.engine.now) (view c.args.disks.now).can_stop (g.E.Stepping.sees (view c.begin.new.disks)) c.begin.new.engine c.new.result
             (g.S.Source.left c.args.source.now) (g.K.Sink.held c.args.sink.now) (g.K.Sink.held c.begin.new.sink) c.begin.new.story b c.new.ensures,
       );
       reads = refl;
@@ -58,8 +58,8 @@ returns-in_err-serve_line-clause-ended g c =
     let now = view c.serve_line.new.disks in
     let e = c.serve_line.new.engine in
     let o = c.lines.invariant.over in
-    outcome-of c.from_residual-in_err-serve_line.result c.in_err-serve_line.field-0.0 (λ (s : Status). IsEnded (g.E.Steps.refuses old c.args.engine.now) (g.E.Steps.finds old c.args.engine.now) old.can_stop
-    (g.E.Steps.refuses now e) (g.E.Steps.finds now e) (g.E.Steps.is_new now e) (g.E.Steps.lies now e) (g.E.Steps.left now e) (g.E.Steps.fills now e) (g.E.Steps.flight e) s (g.S.Source.left c.args.source.now) (g.S.Source.left c.serve_line.new.source)
+    outcome-of c.from_residual-in_err-serve_line.result c.in_err-serve_line.field-0.0 (λ (s : Status). IsEnded (g.E.Stepping.refuses old c.args.engine.now) (g.E.Stepping.finds old c.args.engine.now) old.can_stop
+    (g.E.Stepping.refuses now e) (g.E.Stepping.finds now e) (g.E.Stepping.is_new now e) (g.E.Stepping.lies now e) (g.E.Stepping.left now e) (g.E.Stepping.fills now e) (g.E.Stepping.flight e) s (g.S.Source.left c.args.source.now) (g.S.Source.left c.serve_line.new.source)
     (g.K.Sink.held c.args.sink.now) c.serve_line.new.story (g.K.Sink.held c.serve_line.new.sink)) c.from_residual-in_err-serve_line.ensures.1
     (inr (record { start = o.0; is = o.1; ends = c.in_err-serve_line.ensures.stops o.0 (g.S.Source.left c.args.source.now) (g.K.Sink.held c.args.sink.now) o.2 }))
 
@@ -80,7 +80,7 @@ lines-preserved g c =
       over = (
         o.0,
         o.1,
-        subst (λ (more : Bool). IsAfterLine more (g.E.Steps.sees now) (g.E.Steps.lies now e) (g.E.Steps.left now e) (g.E.Steps.fills now e) (g.E.Steps.flight e) o.0 (g.S.Source.left c.args.source.now)
+        subst (λ (more : Bool). IsAfterLine more (g.E.Stepping.sees now) (g.E.Stepping.lies now e) (g.E.Stepping.left now e) (g.E.Stepping.fills now e) (g.E.Stepping.flight e) o.0 (g.S.Source.left c.args.source.now)
             (g.K.Sink.held c.args.sink.now) e c.serve_line.new.self.lines (g.S.Source.left c.serve_line.new.source) c.serve_line.new.story (g.K.Sink.held c.serve_line.new.sink)) c.if-branch.true
             (c.in_ok-serve_line.ensures.goes o.0 (g.S.Source.left c.args.source.now) (g.K.Sink.held c.args.sink.now) o.2),
       );
@@ -100,7 +100,7 @@ returns-clause-ended g c =
     inr (record {
       start = o.0;
       is = o.1;
-      ends = (subst (λ (more : Bool). IsAfterLine more (g.E.Steps.sees now) (g.E.Steps.lies now e) (g.E.Steps.left now e) (g.E.Steps.fills now e) (g.E.Steps.flight e) o.0 (g.S.Source.left c.args.source.now)
+      ends = (subst (λ (more : Bool). IsAfterLine more (g.E.Stepping.sees now) (g.E.Stepping.lies now e) (g.E.Stepping.left now e) (g.E.Stepping.fills now e) (g.E.Stepping.flight e) o.0 (g.S.Source.left c.args.source.now)
           (g.K.Sink.held c.args.sink.now) e c.serve_line.new.self.lines (g.S.Source.left c.serve_line.new.source) c.serve_line.new.story (g.K.Sink.held c.serve_line.new.sink)) c.if-branch.false
           (c.in_ok-serve_line.ensures.goes o.0 (g.S.Source.left c.args.source.now) (g.K.Sink.held c.args.sink.now) o.2)).0;
     })
@@ -111,7 +111,7 @@ returns-clause-end g c =
     let now = view c.serve_line.new.disks in
     let e = c.serve_line.new.engine in
     let o = c.lines.invariant.over in
-    (subst (λ (more : Bool). IsAfterLine more (g.E.Steps.sees now) (g.E.Steps.lies now e) (g.E.Steps.left now e) (g.E.Steps.fills now e) (g.E.Steps.flight e) o.0 (g.S.Source.left c.args.source.now)
+    (subst (λ (more : Bool). IsAfterLine more (g.E.Stepping.sees now) (g.E.Stepping.lies now e) (g.E.Stepping.left now e) (g.E.Stepping.fills now e) (g.E.Stepping.flight e) o.0 (g.S.Source.left c.args.source.now)
     (g.K.Sink.held c.args.sink.now) e c.serve_line.new.self.lines (g.S.Source.left c.serve_line.new.source) c.serve_line.new.story (g.K.Sink.held c.serve_line.new.sink)) c.if-branch.false
     (c.in_ok-serve_line.ensures.goes o.0 (g.S.Source.left c.args.source.now) (g.K.Sink.held c.args.sink.now) o.2)).1
 

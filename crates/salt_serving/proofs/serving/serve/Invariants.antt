@@ -10,11 +10,11 @@ use Rattle.std.proofs.Common.{◌-◌, ◌≡◌}
 
 abbrev pub invariant-lines : goal.invariant-lines
 invariant-lines g l = record {
-  over : (start : Start) × IsStartOf (g.E.Steps.finds (g.D.Disks.view l.fn.disks) l.fn.engine) (g.D.Disks.view l.fn.disks).can_stop start ×
-      IsServing (g.E.Steps.sees (g.D.Disks.view l.disks)) start (g.S.Source.left l.fn.source) (g.K.Sink.held l.fn.sink) l.engine l.serving.lines (g.S.Source.left l.source) l.story (g.K.Sink.held l.sink);
+  over : (start : Start) × IsStartOf (g.E.Stepping.finds (g.D.Disks.view l.fn.disks) l.fn.engine) (g.D.Disks.view l.fn.disks).can_stop start ×
+      IsServing (g.E.Stepping.sees (g.D.Disks.view l.disks)) start (g.S.Source.left l.fn.source) (g.K.Sink.held l.fn.sink) l.engine l.serving.lines (g.S.Source.left l.source) l.story (g.K.Sink.held l.sink);
   reads : g.S.Source.faults l.source ≡ g.S.Source.faults l.fn.source;
   writes : g.K.Sink.faults l.sink ≡ g.K.Sink.faults l.fn.sink;
-  asked : g.E.Steps.asked l.engine ≡ g.E.Steps.asked l.fn.engine;
+  asked : g.E.Stepping.asked l.engine ≡ g.E.Stepping.asked l.fn.engine;
   shape : SameShape (g.D.Disks.view l.fn.disks) (g.D.Disks.view l.disks);
   counts : CountsRun (g.D.Disks.view l.fn.disks) (g.D.Disks.view l.disks) Done l.story;
 }
