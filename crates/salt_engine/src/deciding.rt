@@ -54,6 +54,7 @@ pub fn load<S: Storage, D: Disks, F: Fn(PlaceKind, &Key, u32) -> u32>(
     match &asking.reach {
         Some(reach) => {
             let rows = storage.load(disks, place, books.known().schema(), reach)?;
+            // For the proof alone: the count's contract says that the keys of rows rise.
             let _count = rows.len();
             Ok(rows)
         }
