@@ -1,5 +1,5 @@
 -- Stops counted along the events of a story.
-use Rattle.salt_disk.specs.Disks.{Rose, SameShape, View}
+use Rattle.salt_disk.specs.Disks.{HasCause, Rose, SameShape, View}
 use Rattle.salt_disk.specs.declared.disks.DiskErr.TheVariants.{Memory, Stopped}
 use Rattle.salt_disk.specs.declared.disks.DiskErr.{DiskErr}
 use Rattle.salt_keeps.proofs.PointsGoOn.{no-more}
@@ -293,3 +293,15 @@ fall-short why v story = record {
   most = omega arith;
   counts = record { later = omega arith; failed = λ never. cc; stops = λ some. absurd (some refl) };
 }
+
+-- as a call of the storage counts them
+pub counts-cause : (old new : View) (answer : Option DiskErr) (armed : ℕ) → armed ≡ 0 → HasCause old new answer → CountsStops old new answer armed 0
+counts-cause old new answer armed none h = record {
+  later = h.later;
+  failed = h.failed;
+  stops = λ other. let e = h.stops in let z = none in omega arith;
+}
+
+-- a first opening tells nothing
+pub opening_cause : (old new : View) (answer : Option DiskErr) (story : List Event) → HasCause old new answer → CountsOpening old new answer story story
+opening_cause old new answer story h = opening-untold old new answer story story (counts-cause old new answer 0 refl h) refl

@@ -4,4 +4,4 @@ pub mod Counted
 pub mod Openings
 pub mod Draining
 pub mod Falling
-pub mod Finding
+pub mod AtFirst

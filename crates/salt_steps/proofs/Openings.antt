@@ -27,7 +27,7 @@ use Rattle.salt_steps.specs.Reopening.{BreaksOpening, EndsWithin, Reopens}
 use Rattle.salt_steps.specs.Serving.{IsDown, IsFitting}
 use Rattle.salt_steps.specs.Standing.{BreaksAt, HaltsAt, IsInside, IsSoundPoint, OpensOn}
 use Rattle.salt_storage.specs.Answers.{IsLater}
-use Rattle.salt_storage.specs.Writing.{OfBoot, OfOpening, Written}
+use Rattle.salt_storage.specs.Writing.{OfBoot, Written}
 use Rattle.salt_storage.specs.declared.halt.Halt.TheVariants.{DeviceFull, Memory}
 use Rattle.salt_storage.specs.declared.halt.Halt.{Halt}
 use Rattle.salt_storage.specs.declared.open.OpenErr.TheVariants.{Halted, NotSalt, NumbersSpent, OtherShape}
@@ -178,7 +178,7 @@ module _ (lies : ℕ → Point → Type 0) (flies : Option Flight) (start : Star
       room = d.room + 1;
       boots = d.boots;
       fails = tt;
-      full = λ dev is. inl (full dev (same-halt halt (DeviceFull dev) is));
+      full = λ dev is. full dev (same-halt halt (DeviceFull dev) is);
       again = λ some. again (λ is. some (ap Halted is));
       stays = stays;
       flies = keeps ∙ d.flies;
@@ -277,7 +277,7 @@ pub finding-fails : (lies now left : ℕ → Point → Type 0) (fills : Written 
     ((e ≡ Halted Memory → ⊥) → (room : ℕ) (p : Point) → IsSoundPoint p → p.state.units.phase ≡ Fallen → lies room p → now room p) →
     ((room : ℕ) (p : Point) → IsSoundPoint p → p.state.units.phase ≡ Fallen → lies room p → left room p) → known ≡ flies →
     ((room : ℕ) (p : Point) → IsSoundPoint p → p.state.units.phase ≡ Fallen → lies room p → MayFailAt room p e) →
-    ((dev : ℕ) → e ≡ Halted (DeviceFull dev) → fills OfOpening dev) → BreaksOpening now left fills known e start trace story story
+    ((dev : ℕ) → e ≡ Halted (DeviceFull dev) → ⊥) → BreaksOpening now left fills known e start trace story story
 finding-fails lies now left fills flies known e start story trace d found stays same fails full =
     let sound = down-sound lies flies start story trace d in
     let fallen = down-fallen lies flies start story trace d in
@@ -295,7 +295,7 @@ finding-fails lies now left fills flies known e start story trace d found stays 
         room = d.room;
         boots = let b = d.boots in omega arith;
         fails = fails d.room d.point sound fallen d.again;
-        full = λ dev is. inr (full dev is);
+        full = λ dev is. absurd (full dev is);
         again = λ some. found some d.room d.point sound fallen d.again;
         stays = stays d.room d.point sound fallen d.again;
         flies = same ∙ d.flies;

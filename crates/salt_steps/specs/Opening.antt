@@ -7,15 +7,15 @@ use Rattle.salt_model.specs.Phases.{Fallen}
 use Rattle.salt_model.specs.Trace.{Start, Trace, from, story_of, ◌says◌}
 use Rattle.salt_model.specs.declared.events.Event.TheVariants.{Down, Opened}
 use Rattle.salt_model.specs.declared.events.Event.{Event}
-use Rattle.salt_model.specs.declared.events.Flight.{Flight}
 use Rattle.salt_model.specs.declared.events.Why.TheVariants as why
 use Rattle.salt_model.specs.declared.events.Why.{Why}
 use Rattle.salt_openings.specs.Openings.{Opens}
 use Rattle.salt_stands.specs.Stands.{are_spent}
 use Rattle.salt_steps.specs.Standing.{IsOpeningAt}
 use Rattle.salt_storage.specs.Answers.{IsLater}
-use Rattle.salt_storage.specs.Storing.{IsSoundKept}
+use Rattle.salt_storage.specs.Storing.{IsFound, IsSoundKept}
 use Rattle.salt_storage.specs.Writing.{FindsNoMore, OfOpening, Written}
+use Rattle.salt_storage.specs.declared.found.Found.{Found}
 use Rattle.salt_storage.specs.declared.halt.Halt.TheVariants.{DeviceFull, DiskFault, Memory, Stopped}
 use Rattle.salt_storage.specs.declared.halt.Halt.{Halt}
 use Rattle.salt_storage.specs.declared.open.OpenErr.TheVariants.{Halted, NotSalt, NumbersSpent, OtherShape}
@@ -74,13 +74,18 @@ pub record IsUnopened (k : Kept) (stoppable : Bool) (p : Point) : Type 0 where
   pub flight : p.flight ≡ None
   pub can_stop : p.state.can_stop ≡ stoppable
 
--- at first: what it has found may be kept, its numbers are not spent, and a run over that can be opened
-pub record FindsFirst (finds : Kept → Type 0) (lies : ℕ → Point → Type 0) (can_stop : Bool) : Type 0 where
+-- What an opening has found at first: this is held, and may be kept; its numbers are not spent.
+pub record FindsFirst (finds holds : Kept → Type 0) (x : Found) : Type 0 where
   pub kept : Kept
+  pub is : IsFound x kept
   pub found : finds kept
-  pub unspent : are_spent kept.boot kept.decisions ≡ false
+  pub holding : holds kept
   pub sound : IsSoundKept kept
-  pub opens : (p : Point) → IsUnopened kept can_stop p → lies 0 p
+  pub unspent : are_spent x.boot x.decisions ≡ false
+
+-- a run over that, in which nothing is told but that it fell, can be opened
+abbrev pub IsOpenedFirst : (lies : ℕ → Point → Type 0) → Kept → Bool → Type 0
+IsOpenedFirst lies k can_stop = (p : Point) → IsUnopened k can_stop p → lies 0 p
 
 -- the halt by which a run falls
 abbrev pub halt_of : Why → Halt
@@ -96,22 +101,16 @@ fallen_often start (suc times) = fallen_often start times says Down why.Stopped
 abbrev pub IsUnfound : List Event → Type 0
 IsUnfound story = (times : ℕ) × ((start : Start) → story_of (fallen_often start times) ≡ story)
 
--- Or nothing was found: it was refused, or memory ran out as the fall was told; behind a stop only spent numbers or a halt refuse it.
--- Where a device was full, a first opening was to be written there. What is refused or found now would have been before, and nothing is
--- in flight.
+-- nothing was found yet, and the run has fallen: what is refused or found now would have been before
+pub record FallsUnfound (old_refuses : OpenErr → Type 0) (old_finds : Kept → Type 0) (refuses : OpenErr → Type 0) (finds : Kept → Type 0) (story told : List Event) : Type 0 where
+  pub less : FindsNoMore old_refuses old_finds refuses finds
+  pub falls : told ≡ story ++ Down why.Stopped ∷ []
+
+-- Nothing was found: it was refused, or memory ran out as the fall was told; behind a stop only spent numbers or a halt refuse it.
+-- Where a device was full, a first opening was to be written there. What is refused or found now would have been before.
 pub record FailsToFind (old_refuses : OpenErr → Type 0) (old_finds : Kept → Type 0) (refuses : OpenErr → Type 0) (finds : Kept → Type 0)
-    (fills : Written → ℕ → Type 0) (flight : Option Flight) (new : Type 0) (e : OpenErr) (story : List Event) : Type 0 where
-  pub unfound : IsUnfound story
+    (fills : Written → ℕ → Type 0) (e : OpenErr) (story : List Event) : Type 0 where
   pub refused : old_refuses e ⊎ (e ≡ Halted Memory)
   pub empty : (story ≡ []) ⊎ IsLater e
   pub full : (dev : ℕ) → e ≡ Halted (DeviceFull dev) → fills OfOpening dev
   pub less : FindsNoMore old_refuses old_finds refuses finds
-  pub stays_new : new
-  pub flies : flight ≡ None
-
--- a start of what was found, whose numbers are not spent
-pub record IsStartOf (finds : Kept → Type 0) (can_stop : Bool) (start : Start) : Type 0 where
-  pub found : finds start.kept
-  pub sound : IsSoundKept start.kept
-  pub unspent : are_spent start.kept.boot start.kept.decisions ≡ false
-  pub stops : start.can_stop ≡ can_stop

@@ -3,24 +3,21 @@ use Rattle.salt_keeps.specs.Laws.{is_of_run}
 use Rattle.salt_keeps.specs.Points.{KeepsPoint, Point}
 use Rattle.salt_keeps.specs.States.{State}
 use Rattle.salt_model.specs.Ends.{flight_told}
-use Rattle.salt_model.specs.Kept.{Kept}
 use Rattle.salt_model.specs.Phases.{Fallen, Opening, downs, has_opened, phase}
 use Rattle.salt_model.specs.Played.{Tells}
-use Rattle.salt_model.specs.Trace.{Start, Trace, from, lines_of, ◌says◌}
-use Rattle.salt_model.specs.declared.events.Event.TheVariants.{Down}
+use Rattle.salt_model.specs.Trace.{Start, Trace, lines_of, ◌says◌}
 use Rattle.salt_model.specs.declared.events.Event.{Event}
 use Rattle.salt_model.specs.declared.events.Flight.{Flight}
-use Rattle.salt_model.specs.declared.events.Why.TheVariants.{Stopped}
-use Rattle.salt_steps.specs.Opening.{IsStartOf, MayFailAt}
+use Rattle.salt_steps.specs.Opening.{MayFailAt}
 use Rattle.salt_steps.specs.Serving.{Grows, IsDown, IsFitting, Serves}
 use Rattle.salt_steps.specs.Standing.{HaltsAt}
 use Rattle.salt_storage.specs.Answers.{IsLater}
-use Rattle.salt_storage.specs.Writing.{FindsNoMore, OfBoot, OfOpening, Written}
+use Rattle.salt_storage.specs.Writing.{OfBoot, Written}
 use Rattle.salt_storage.specs.declared.halt.Halt.TheVariants.{DeviceFull, Memory}
 use Rattle.salt_storage.specs.declared.halt.Halt.{Halt}
 use Rattle.salt_storage.specs.declared.open.OpenErr.TheVariants.{Halted}
 use Rattle.salt_storage.specs.declared.open.OpenErr.{OpenErr}
-use Rattle.std.specs.Prelude.{Bool, List, Option, [], false, if◌then◌else◌, true, ℕ, ◌+◌, ◌++◌, ◌∷◌, ◌≡◌, ◌≤◌, ◌⊎◌}
+use Rattle.std.specs.Prelude.{Bool, List, Option, false, if◌then◌else◌, true, ℕ, ◌+◌, ◌≡◌, ◌≤◌, ◌⊎◌}
 
 -- the trace goes on to the end of an opening
 pub record Reopens {E : Type 0} (sees : E → Option Event → State → Type 0) (start : Start) (trace : Trace) (story : List Event) (e : E)
@@ -31,14 +28,13 @@ pub record Reopens {E : Type 0} (sees : E → Option Event → State → Type 0)
   pub grows : Grows story told
 
 -- An opening was not begun: what is left of the devices stands here, where they may have one boot more; and unless memory ran out the
--- engine can be opened. It failed by spent numbers, or halted. Where a device was full, the next boot was to be written there, or what a
--- first opening writes.
+-- engine can be opened. It failed by spent numbers, or halted. Where a device was full, the next boot was to be written there.
 pub record NotBegun (lies left : ℕ → Point → Type 0) (fills : Written → ℕ → Type 0) (flight : Option Flight) (e : OpenErr) (trace : Trace) (p : Point) : Type 0 where
   pub fallen : phase trace ≡ Fallen
   pub room : ℕ
   pub boots : room ≤ downs trace + (if has_opened trace then 0 else 1)
   pub fails : MayFailAt room p e
-  pub full : (dev : ℕ) → e ≡ Halted (DeviceFull dev) → fills OfBoot dev ⊎ fills OfOpening dev
+  pub full : (dev : ℕ) → e ≡ Halted (DeviceFull dev) → fills OfBoot dev
   pub again : (e ≡ Halted Memory → ⊥) → lies room p
   pub stays : left room p
   pub flies : flight ≡ flight_told p.flight
@@ -82,29 +78,3 @@ pub record FallsAnew (lies : ℕ → Point → Type 0) (flight : Option Flight) 
 abbrev pub OpensOrFalls : {E : Type 0} → Bool → (E → Option Event → State → Type 0) → (ℕ → Point → Type 0) → Option Flight → Start → Trace → List Event → E → List Event → Type 0
 OpensOrFalls true sees lies flight start trace story e told = Reopens sees start trace story e told
 OpensOrFalls false sees lies flight start trace story e told = FallsAnew lies flight start trace story told
-
--- FIRST OPENINGS
-
--- the run has begun, and is opened
-pub record Begins {E : Type 0} (finds : Kept → Type 0) (can_stop : Bool) (sees : E → Option Event → State → Type 0) (e : E) (told : List Event) : Type 0 where
-  pub start : Start
-  pub is : IsStartOf finds can_stop start
-  pub reopens : Reopens sees start (from start) [] e told
-
--- it has begun, and lies at the place where it fell while nothing was found
-pub record IsFoundDown (finds : Kept → Type 0) (can_stop : Bool) (lies : ℕ → Point → Type 0) (flight : Option Flight) (told : List Event) : Type 0 where
-  pub start : Start
-  pub is : IsStartOf finds can_stop start
-  pub falls : FallsAnew lies flight start (from start) [] told
-
--- it has begun, and breaks off in an opening
-pub record BreaksFirst (finds : Kept → Type 0) (can_stop : Bool) (lies left : ℕ → Point → Type 0) (fills : Written → ℕ → Type 0) (flight : Option Flight)
-    (e : OpenErr) (told : List Event) : Type 0 where
-  pub start : Start
-  pub is : IsStartOf finds can_stop start
-  pub breaks : BreaksOpening lies left fills flight e start (from start) [] told
-
--- while nothing is found yet, it falls and is as it was, with this story
-pub record FallsUnfound (old_refuses : OpenErr → Type 0) (old_finds : Kept → Type 0) (refuses : OpenErr → Type 0) (finds : Kept → Type 0) (story told : List Event) : Type 0 where
-  pub less : FindsNoMore old_refuses old_finds refuses finds
-  pub falls : told ≡ story ++ Down Stopped ∷ []

@@ -2,11 +2,11 @@
 
 ghost use Rattle.salt_ast.specs.declared.lines.Line.TheVariants.{Nothing};
 ghost use Rattle.salt_ast.specs.declared.lines.Line.{Line};
-ghost use Rattle.salt_disk.specs.Disks.{AreUnchanged, SameShape, View};
+ghost use Rattle.salt_disk.specs.Disks.{SameShape, View};
 ghost use Rattle.salt_keeps.specs.Nexts.{next_turn_of};
 ghost use Rattle.salt_keeps.specs.Points.{Ask, Moves, Point, Say, Turn};
 ghost use Rattle.salt_keeps.specs.States.{State};
-ghost use Rattle.salt_model.specs.Kept.{Kept, schema_of};
+ghost use Rattle.salt_model.specs.Kept.{schema_of};
 ghost use Rattle.salt_model.specs.Phases.{Fallen};
 ghost use Rattle.salt_model.specs.Trace.{Rejected, Tree};
 ghost use Rattle.salt_model.specs.declared.events.Event.{Event};
@@ -14,16 +14,16 @@ ghost use Rattle.salt_model.specs.declared.events.Flight.{Flight};
 ghost use Rattle.salt_steps.specs.Counting.{CountsStops, armed_at, armed_by, stops_armed};
 ghost use Rattle.salt_openings.specs.Draining.{statements_at};
 ghost use Rattle.salt_steps.specs.Draining.{MayTick};
-ghost use Rattle.salt_steps.specs.Opening.{FindsFirst, IsFallenFrom, MayFailAt, OpensAt};
+ghost use Rattle.salt_steps.specs.Opening.{IsFallenFrom, MayFailAt, OpensAt};
 ghost use Rattle.salt_steps.specs.Standing.{BreaksAt, HaltsAt, IsAt, IsIdleAt, IsOpenedOn, IsOpeningAt, IsSoundPoint, RunsShort, left_to_come};
-ghost use Rattle.salt_storage.specs.Answers.{IfRefused, IsLater, disk_err, open_disk_err};
-ghost use Rattle.salt_storage.specs.Writing.{FindsNoMore, OfBoot, OfOpening, Written};
-ghost use Rattle.salt_storage.specs.declared.halt.Halt.TheVariants.{DeviceFull, Memory, Stopped};
+ghost use Rattle.salt_storage.specs.Answers.{disk_err, open_disk_err};
+ghost use Rattle.salt_storage.specs.Writing.{OfBoot, Written};
+ghost use Rattle.salt_storage.specs.declared.halt.Halt.TheVariants.{DeviceFull, Memory};
 ghost use Rattle.salt_storage.specs.declared.open.OpenErr.{OpenErr};
 ghost use Rattle.salt_values.specs.Placement.{GivesPlaceOf, TakesEachKey};
 ghost use Rattle.salt_values.specs.declared.id.Id.{Id};
 ghost use Rattle.salt_values.specs.declared.placement.Shape.{Shape};
-ghost use Rattle.std.specs.Prelude.{Err, IfErr, IfOk, IsTrue, List, None, OnErr, OnOk, Option, Some, length, ℕ, [], ◌++◌, ◌+◌, ◌<◌, ◌∷◌, ◌≡◌, ◌⊎◌};
+ghost use Rattle.std.specs.Prelude.{Err, IfErr, IfOk, List, None, OnErr, OnOk, Option, Some, length, ℕ, [], ◌++◌, ◌+◌, ◌<◌, ◌∷◌, ◌≡◌, ◌⊎◌};
 
 use salt_ast::Line;
 use salt_disk::Disks;
@@ -48,26 +48,14 @@ pub trait Stepping {
     /// more.
     ghost left: { View → Self → ℕ → Point → Type 0 };
 
-    /// It has not found yet what its devices stand for, and they can be started again.
-    ghost is_new: { View → Self → Type 0 };
-
-    /// An opening of it was broken off by a stop, so what is there may be opened.
-    ghost tried: { View → Self → Type 0 };
-
-    /// It has found what its devices stand for.
+    /// What its devices stand for is found.
     ghost is_found: { View → Self → Type 0 };
 
-    /// Its devices are there, and nothing is pending on them.
+    /// What its devices stand for is found, or can be looked for: they are there, and nothing is pending on them.
     ghost settled: { View → Self → Type 0 };
 
     /// What was in flight where it was broken off.
     ghost flight: { Self → Option Flight };
-
-    /// An opening of what is on the devices answers so.
-    ghost refuses: { View → Self → OpenErr → Type 0 };
-
-    /// An opening of what is on the devices finds this.
-    ghost finds: { View → Self → Kept → Type 0 };
 
     /// The shape that its devices are asked for.
     ghost asked: { Self → Shape };
@@ -171,7 +159,7 @@ pub trait Stepping {
         ensures shape { SameShape (D.view disks.old) (D.view disks.new) }
         ensures counts { CountsStops (D.view disks.old) (D.view disks.new) (disk_err result) (armed_by result) 0 };
 
-    /// Finds what its devices stand for, at first or behind a fall.
+    /// Finds behind a fall what its devices stand for. What is found already is not looked for again.
     fn find<D: Disks, F: Fn(PlaceKind, &Key, u32) -> u32>(
         &mut self,
         disks: &mut D,
@@ -181,20 +169,12 @@ pub trait Stepping {
         requires answers { GivesPlaceOf (F.post place.now.place) }
         requires settled { settled (D.view disks.old) self.old }
         ensures found { OnOk result (is_found (D.view disks.new) self.new) }
-        ensures first { OnOk result (is_new (D.view disks.old) self.old → FindsFirst (finds (D.view disks.old) self.old) (lies (D.view disks.new) self.new) (D.view disks.old).can_stop) }
         ensures again { (result ≡ Err (OpenErr.Halted Memory) → ⊥) → (room : ℕ) (p : Point) → IsSoundPoint p → p.state.units.phase ≡ Fallen → lies (D.view disks.old) self.old room p →
             lies (D.view disks.new) self.new room p }
         ensures left { (room : ℕ) (p : Point) → IsSoundPoint p → p.state.units.phase ≡ Fallen → lies (D.view disks.old) self.old room p → left (D.view disks.new) self.new room p }
-        ensures stays_new { OnErr result (is_new (D.view disks.old) self.old → is_new (D.view disks.new) self.new) }
-        ensures tried { result ≡ Err (OpenErr.Halted Stopped) → is_new (D.view disks.old) self.old → tried (D.view disks.new) self.new }
-        ensures refuses { IfErr result (λ e. is_new (D.view disks.old) self.old → refuses (D.view disks.old) self.old e) }
-        ensures still { OnErr result (is_new (D.view disks.old) self.old →
-            FindsNoMore (refuses (D.view disks.old) self.old) (finds (D.view disks.old) self.old) (refuses (D.view disks.new) self.new) (finds (D.view disks.new) self.new)) }
-        ensures later_first { is_new (D.view disks.old) self.old → tried (D.view disks.old) self.old → IfErr result IsLater }
         ensures later { IfErr result (λ e. (room : ℕ) (p : Point) → IsSoundPoint p → p.state.units.phase ≡ Fallen → lies (D.view disks.old) self.old room p → MayFailAt room p e) }
-        ensures unchanged { IfErr result (λ e. is_new (D.view disks.old) self.old → IfRefused e (IsTrue (D.view disks.old).told → AreUnchanged (D.view disks.old) (D.view disks.new))) }
         ensures flies { flight self.new ≡ flight self.old }
-        ensures full { (dev : ℕ) → result ≡ Err (OpenErr.Halted (DeviceFull dev)) → fills (D.view disks.new) self.new OfOpening dev }
+        ensures full { (dev : ℕ) → result ≡ Err (OpenErr.Halted (DeviceFull dev)) → ⊥ }
         ensures asked { asked self.new ≡ asked self.old }
         ensures shape { SameShape (D.view disks.old) (D.view disks.new) }
         ensures counts { CountsStops (D.view disks.old) (D.view disks.new) (open_disk_err result) 0 0 };
@@ -247,12 +227,8 @@ pub trait Stepping {
 
     /// Falls: the devices are started again.
     fn fall<D: Disks>(&mut self, disks: &mut D)
-        requires { is_new (D.view disks.old) self.old ⊎ ((room : ℕ) × ((p : Point) × lies (D.view disks.old) self.old room p)) }
+        requires { (room : ℕ) × ((p : Point) × lies (D.view disks.old) self.old room p) }
         ensures lies { (room : ℕ) (p q : Point) → lies (D.view disks.old) self.old room p → IsFallenFrom p q → lies (D.view disks.new) self.new room q }
-        ensures is_new { is_new (D.view disks.old) self.old → is_new (D.view disks.new) self.new }
-        ensures tried { tried (D.view disks.old) self.old → tried (D.view disks.new) self.new }
-        ensures still { is_new (D.view disks.old) self.old →
-            FindsNoMore (refuses (D.view disks.old) self.old) (finds (D.view disks.old) self.old) (refuses (D.view disks.new) self.new) (finds (D.view disks.new) self.new) }
         ensures settled { settled (D.view disks.new) self.new }
         ensures flies { flight self.new ≡ flight self.old }
         ensures asked { asked self.new ≡ asked self.old }

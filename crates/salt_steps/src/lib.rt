@@ -2,11 +2,11 @@
 #![tactic(auto)]
 
 mod engine;
+mod finding;
 mod opening;
 mod serving;
-mod starting;
 
 pub use engine::Stepping;
-pub use opening::{drain, events_behind, recover};
+pub use finding::find;
+pub use opening::{drain, events_behind, open, recover};
 pub use serving::{refuse, step};
-pub use starting::start;

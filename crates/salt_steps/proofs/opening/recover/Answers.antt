@@ -3,7 +3,7 @@ use Rattle.salt_steps.proofs.Falling.{breaks-behind, falls-served, halted-short,
 use Rattle.salt_steps.proofs.opening.recover.Goals as goal
 use Rattle.salt_steps.specs.Counting.{CountsFall}
 use Rattle.salt_model.specs.declared.events.Event.{Event}
-use Rattle.std.proofs.Common.{inr, subst, sym}
+use Rattle.std.proofs.Common.{subst, sym}
 use Rattle.std.proofs.lemmas.Result.{IfErr-weaker, err_from_is_err_and, on_ok_weaker}
 use Rattle.std.specs.Prelude.{List}
 
@@ -21,7 +21,7 @@ returns-in_err-push-clause-counts g c =
     rw (p.1, p.2) (subst (λ (told : List Event). CountsFall c.args.why v v _ c.args.story.now told) (sym c.in_err-push.ensures.err) (fall-short c.args.why v c.args.story.now))
 
 pub fall-requires : goal.fall-requires
-fall-requires g c = let h = c.requires.halted.2 in inr (0, (h.point, h.halts.again (no-short-fall c.args.why)))
+fall-requires g c = let h = c.requires.halted.2 in (0, (h.point, h.halts.again (no-short-fall c.args.why)))
 
 pub open-requires-clause-down : goal.open-requires-clause-down
 open-requires-clause-down g c =

@@ -5,7 +5,7 @@ use Rattle.salt_steps.specs.Counting.{CountsOpening}
 use Rattle.salt_storage.specs.Answers.{open_disk_err_of}
 use Rattle.salt_storage.specs.declared.open.OpenErr.TheVariants.{Halted}
 use Rattle.salt_storage.specs.declared.open.OpenErr.{OpenErr}
-use Rattle.std.proofs.Common.{ap, inr, subst, ◌∙◌}
+use Rattle.std.proofs.Common.{ap, subst, ◌∙◌}
 use Rattle.std.proofs.lemmas.Result.{err_from_is_err_and}
 
 pub fall-requires : goal.fall-requires
@@ -13,8 +13,8 @@ fall-requires g c =
     let down = c.requires.down in
     let view = g.D.Disks.view c.open_once.new.disks in
     let e = c.open_once.new.engine in
-    inr (lies-somewhere (g.E.Stepping.lies view e) (g.E.Stepping.left view e) (g.E.Stepping.fills view e) (g.E.Stepping.flight e) c.in-Err-Halted-Stopped.field-0 down.0 down.1 c.args.story.now c.open_once.new.story
-    (c.in-Err-Halted-Stopped.field-0-is ∙ ap Halted c.in-Err-Halted-Stopped.field-0-0-is) (c.in-Err-Halted-Stopped.ensures.err down.0 down.1 down.2))
+    lies-somewhere (g.E.Stepping.lies view e) (g.E.Stepping.left view e) (g.E.Stepping.fills view e) (g.E.Stepping.flight e) c.in-Err-Halted-Stopped.field-0 down.0 down.1 c.args.story.now c.open_once.new.story
+    (c.in-Err-Halted-Stopped.field-0-is ∙ ap Halted c.in-Err-Halted-Stopped.field-0-0-is) (c.in-Err-Halted-Stopped.ensures.err down.0 down.1 down.2)
 
 pub returns-in_err-push-in-Err-Halted-Stopped-clause-err : goal.returns-in_err-push-in-Err-Halted-Stopped-clause-err
 returns-in_err-push-in-Err-Halted-Stopped-clause-err g c =

@@ -1,11 +1,10 @@
 -- A run that fell before anything was found on its devices begins over what is found then.
 use Rattle.salt_keeps.specs.Laws.{IsSound}
 use Rattle.salt_keeps.specs.Points.{KeepsPoint, Point}
-use Rattle.salt_keeps.specs.States.{State}
 use Rattle.salt_model.specs.Ends.{flight_told}
 use Rattle.salt_model.specs.Kept.{Kept, WellKept}
 use Rattle.salt_model.specs.Phases.{Fallen, downs, has_opened, phase}
-use Rattle.salt_model.specs.Trace.{Start, from, lines_of, start_of}
+use Rattle.salt_model.specs.Trace.{Start, Trace, lines_of, start_of}
 use Rattle.salt_model.specs.Words.{Every}
 use Rattle.salt_model.specs.declared.events.Event.TheVariants.{Down}
 use Rattle.salt_model.specs.declared.events.Event.{Event}
@@ -13,21 +12,22 @@ use Rattle.salt_model.specs.declared.events.Flight.{Flight}
 use Rattle.salt_model.specs.declared.events.Why.TheVariants.{Stopped}
 use Rattle.salt_openings.proofs.Leaving.{leaves}
 use Rattle.salt_openings.proofs.Opening.{falls-again, start-point}
-use Rattle.salt_steps.proofs.Falling.{breaks-behind, fallen_point, falls-anew, falls-behind, reopens-behind}
-use Rattle.salt_steps.specs.Opening.{FailsToFind, FindsFirst, IsFallenFrom, IsUnfound, IsUnopened, fallen_often, starting}
-use Rattle.salt_steps.specs.Reopening.{Begins, BreaksFirst, BreaksOpening, IsFoundDown, Reopens}
+use Rattle.salt_steps.proofs.Falling.{fallen_point}
+use Rattle.salt_steps.specs.Opening.{FailsToFind, FindsFirst, IsOpenedFirst, IsUnfound, IsUnopened, fallen_often, starting}
+use Rattle.salt_steps.specs.Serving.{IsDown}
+use Rattle.salt_stands.specs.Stands.{are_spent}
+use Rattle.salt_storage.specs.Storing.{IsFound, IsSoundKept}
+use Rattle.salt_storage.specs.declared.found.Found.{Found}
 use Rattle.salt_disk.specs.Disks.{AreUnchanged, View}
 use Rattle.salt_storage.specs.Answers.{IfRefused, IsLater}
 use Rattle.salt_storage.specs.Writing.{FindsNoMore, OfOpening, Written}
-use Rattle.salt_storage.specs.declared.halt.Halt.TheVariants as halt
 use Rattle.salt_storage.specs.declared.halt.Halt.TheVariants.{DeviceFull, Memory}
-use Rattle.salt_storage.specs.declared.halt.Halt.{Halt}
 use Rattle.salt_storage.specs.declared.open.OpenErr.TheVariants as open_err
 use Rattle.salt_storage.specs.declared.open.OpenErr.TheVariants.{Halted}
 use Rattle.salt_storage.specs.declared.open.OpenErr.{OpenErr}
 use Rattle.salt_types.specs.Played.{HasKey}
 use Rattle.std.proofs.Common.{ap, arith, inl, inr, subst, sym, ◌∙◌}
-use Rattle.std.specs.Prelude.{Bool, IsTrue, List, None, Option, [], false, if◌then◌else◌, refl, ℕ, ◌+◌, ◌++◌, ◌∷◌, ◌≡◌, ◌≤◌, ◌⊎◌, suc, zero}
+use Rattle.std.specs.Prelude.{Bool, IsTrue, List, None, Ok, Option, Result, Some, [], false, if◌then◌else◌, refl, ℕ, ◌+◌, ◌++◌, ◌∷◌, ◌≡◌, ◌≤◌, ◌⊎◌, suc, zero}
 
 often-begins : (start : Start) (times : ℕ) → start_of (fallen_often start times) ≡ start
 often-begins start zero = refl
@@ -61,33 +61,28 @@ unfound-point start well (suc times) =
     let k = falls-again p q trace u.1 u.2 (record { fallen = u.3.fallen; after = l.after; next = refl; flight = refl }) in
     (q, k.0, k.1, record { fallen = refl; kept = u.3.kept; line = u.3.line; units = u.3.units; flight = u.3.flight; can_stop = u.3.can_stop })
 
-pub found-down : (finds : Kept → Type 0) (can_stop : Bool) (lies : ℕ → Point → Type 0) (flies : Option Flight) (story : List Event) → IsUnfound story →
-    FindsFirst finds lies can_stop → flies ≡ None → IsFoundDown finds can_stop lies flies story
-found-down finds can_stop lies flies story u f none =
-    let start : Start = record { kept = f.kept; can_stop = can_stop } in
+-- over what was found then it is down
+pub down-at-first : (k : Kept) (can_stop : Bool) (lies : ℕ → Point → Type 0) (flies : Option Flight) (story : List Event) → IsUnfound story → IsSoundKept k →
+    IsOpenedFirst lies k can_stop → flies ≡ None → (trace : Trace) × IsDown lies flies (record { kept = k; can_stop = can_stop }) story trace × (lines_of trace ≡ [])
+down-at-first k can_stop lies flies story u sound opens none =
+    let start : Start = record { kept = k; can_stop = can_stop } in
     let times = u.0 in
     let trace = fallen_often start times in
-    let x = unfound-point start f.sound.well times in
-    record {
-      start = start;
-      is = record { found = f.found; sound = f.sound; unspent = f.unspent; stops = refl };
-      falls = record {
-        after = trace;
-        lines = often-asked start times;
-        down = record {
-          tells = record { begins = often-begins start times; told = u.1 start; played = x.2.played };
-          fallen = often-down start times;
-          fits = record { well = f.sound.well; typed = f.sound.typed; keyed = subst (Every HasKey) (sym (often-asked start times)) tt };
-          point = x.0;
-          keeps = x.1;
-          room = 0;
-          boots = subst (λ (b : Bool). 0 + 1 ≤ downs trace + (if b then 0 else 1)) (sym (often-unopened start times)) (omega arith);
-          again = f.opens x.0 x.3;
-          flies = none ∙ ap flight_told (sym x.3.flight);
-        };
-        grows = (story, refl);
-      };
-    }
+    let x = unfound-point start sound.well times in (
+      trace,
+      record {
+        tells = record { begins = often-begins start times; told = u.1 start; played = x.2.played };
+        fallen = often-down start times;
+        fits = record { well = sound.well; typed = sound.typed; keyed = subst (Every HasKey) (sym (often-asked start times)) tt };
+        point = x.0;
+        keeps = x.1;
+        room = 0;
+        boots = subst (λ (b : Bool). 0 + 1 ≤ downs trace + (if b then 0 else 1)) (sym (often-unopened start times)) (omega arith);
+        again = opens x.0 x.3;
+        flies = none ∙ ap flight_told (sym x.3.flight);
+      },
+      often-asked start times,
+    )
 
 -- one fall more, and nothing is found yet
 pub falls-unfound : (story told : List Event) → IsUnfound story → told ≡ story ++ Down Stopped ∷ [] → IsUnfound told
@@ -106,20 +101,14 @@ module _ (r0 r1 r2 : OpenErr → Type 0) (b0 b1 b2 : Kept → Type 0) where
 pub same-found : (r : OpenErr → Type 0) (b : Kept → Type 0) → FindsNoMore r b r b
 same-found r b = record { refuses_no_more = λ e is. is; finds_no_more = λ k is. is }
 
-pub first-before : (b0 b1 : Kept → Type 0) (r0 r1 : OpenErr → Type 0) (lies : ℕ → Point → Type 0) (can now : Bool) → now ≡ can → FindsNoMore r0 b0 r1 b1 →
-    FindsFirst b1 lies now → FindsFirst b0 lies can
-first-before b0 b1 r0 r1 lies can now same g f = record {
-  kept = f.kept;
-  found = g.finds_no_more f.kept f.found;
-  unspent = f.unspent;
-  sound = f.sound;
-  opens = subst (λ (c : Bool). (p : Point) → IsUnopened f.kept c p → lies 0 p) same f.opens;
-}
+pub first-before : (b0 b1 holds : Kept → Type 0) (r0 r1 : OpenErr → Type 0) (x : Found) → FindsNoMore r0 b0 r1 b1 → FindsFirst b1 holds x → FindsFirst b0 holds x
+first-before b0 b1 holds r0 r1 x g f =
+    record { kept = f.kept; is = f.is; found = g.finds_no_more f.kept f.found; holding = f.holding; sound = f.sound; unspent = f.unspent }
 
-pub fails-to-find : (r0 r1 r2 : OpenErr → Type 0) (b0 b1 b2 : Kept → Type 0) (fills : Written → ℕ → Type 0) (flies : Option Flight) (new : Type 0) (e : OpenErr) (story now : List Event) → IsUnfound story → now ≡ story → FindsNoMore r0 b0 r1 b1 → FindsNoMore r1 b1 r2 b2 →
-    r1 e ⊎ (e ≡ Halted Memory) → new → (story ≡ []) ⊎ IsLater e → ((dev : ℕ) → e ≡ Halted (DeviceFull dev) → fills OfOpening dev) → flies ≡ None → FailsToFind r0 b0 r2 b2 fills flies new e now
-fails-to-find r0 r1 r2 b0 b1 b2 fills flies new e story now u same g h refused stays empty full none =
-    record { unfound = subst IsUnfound (sym same) u; refused = by refused; empty = untold empty; full = full; less = no-more-behind r0 r1 r2 b0 b1 b2 g h; stays_new = stays; flies = none }
+pub fails-to-find : (r0 r1 r2 : OpenErr → Type 0) (b0 b1 b2 : Kept → Type 0) (fills : Written → ℕ → Type 0) (e : OpenErr) (story now : List Event) → now ≡ story → FindsNoMore r0 b0 r1 b1 →
+    FindsNoMore r1 b1 r2 b2 → r1 e ⊎ (e ≡ Halted Memory) → (story ≡ []) ⊎ IsLater e → ((dev : ℕ) → e ≡ Halted (DeviceFull dev) → fills OfOpening dev) → FailsToFind r0 b0 r2 b2 fills e now
+fails-to-find r0 r1 r2 b0 b1 b2 fills e story now same g h refused empty full =
+    record { refused = by refused; empty = untold empty; full = full; less = no-more-behind r0 r1 r2 b0 b1 b2 g h }
   where
     by : r1 e ⊎ (e ≡ Halted Memory) → r0 e ⊎ (e ≡ Halted Memory)
     by (inl r) = inl (g.refuses_no_more e r)
@@ -148,21 +137,10 @@ unchanged-by view first mid now tried e (inl same) later h =
     subst (λ d. IfRefused e (IsTrue (view d).told → AreUnchanged (view d) (view now))) same h
 unchanged-by view first mid now tried e (inr t) later h = later-unrefused e _ (later t)
 
--- BEHIND WHAT WAS FOUND
+-- what an opening gives
+pub finds-by : (finds holds : Kept → Type 0) (x : Found) → ((k : Kept) × holds k × IsFound x k × finds k) → ((k : Kept) → holds k → IsSoundKept k) → are_spent x.boot x.decisions ≡ false →
+    FindsFirst finds holds x
+finds-by finds holds x h may unspent = record { kept = h.0; is = h.2; found = h.3; holding = h.1; sound = may h.0 h.1; unspent = unspent }
 
-module _ (finds : Kept → Type 0) (can_stop : Bool) (lies : ℕ → Point → Type 0) (flies : Option Flight) (told : List Event) (d : IsFoundDown finds can_stop lies flies told) where
-  pub begins-by : {E : Type 0} → (sees : E → Option Event → State → Type 0) (e : E) (now : List Event) → Reopens sees d.start d.falls.after told e now →
-      Begins finds can_stop sees e now
-  begins-by sees e now r = record { start = d.start; is = d.is; reopens = reopens-behind lies lies flies flies d.start (from d.start) [] told now d.falls sees e r }
-
-  pub breaks-first : (again left : ℕ → Point → Type 0) (fills : Written → ℕ → Type 0) (known : Option Flight) (e : OpenErr) (now : List Event) →
-      BreaksOpening again left fills known e d.start d.falls.after told now → BreaksFirst finds can_stop again left fills known e now
-  breaks-first again left fills known e now b = record { start = d.start; is = d.is; breaks = breaks-behind lies again flies known d.start (from d.start) [] told now d.falls left fills e b }
-
-  -- it was stopped in its first opening, and has fallen again
-  pub falls-found : (stopped left again : ℕ → Point → Type 0) (fills : Written → ℕ → Type 0) (flown known : Option Flight) (h : Halt) (mid now : List Event) → h ≡ halt.Stopped →
-      ((room : ℕ) (p q : Point) → stopped room p → IsFallenFrom p q → again room q) → known ≡ flown → now ≡ mid ++ Down Stopped ∷ [] →
-      BreaksOpening stopped left fills flown (Halted h) d.start d.falls.after told mid → IsFoundDown finds can_stop again known now
-  falls-found stopped left again fills flown known h mid now is falls same grows b =
-      let f = falls-anew stopped left again fills flown known (Halted h) d.start d.falls.after told mid now (ap Halted is) falls same grows b in
-      record { start = d.start; is = d.is; falls = falls-behind lies again flies known d.start (from d.start) [] told now d.falls f }
+pub same-some : (x y : Found) → ◌≡◌ {A = Result (Option Found) OpenErr} (Ok (Some x)) (Ok (Some y)) → x ≡ y
+same-some x y e = cc

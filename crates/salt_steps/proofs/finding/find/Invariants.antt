@@ -1,0 +1,23 @@
+use Rattle.salt_disk.specs.Disks.{SameShape}
+use Rattle.salt_steps.proofs.finding.find.Given as goal
+use Rattle.salt_steps.specs.Counting.{CountsOpening}
+use Rattle.salt_steps.specs.Opening.{IsUnfound}
+use Rattle.salt_storage.specs.Writing.{FindsNoMore}
+use Rattle.std.specs.Prelude.{None, [], ◌≡◌, ◌⊎◌}
+
+abbrev pub invariant-stops : goal.invariant-stops
+invariant-stops g l = record {
+  unopened : g.S.Storage.unopened l.storage;
+  settled : g.S.Storage.settled (g.D.Disks.view l.disks) l.storage;
+  unfound : IsUnfound l.story;
+  less : FindsNoMore (g.S.Storage.refuses (g.D.Disks.view l.fn.disks) l.fn.storage) (g.S.Storage.finds (g.D.Disks.view l.fn.disks) l.fn.storage)
+      (g.S.Storage.refuses (g.D.Disks.view l.disks) l.storage) (g.S.Storage.finds (g.D.Disks.view l.disks) l.storage);
+  counts : CountsOpening (g.D.Disks.view l.fn.disks) (g.D.Disks.view l.disks) None [] l.story;
+  shape : SameShape (g.D.Disks.view l.fn.disks) (g.D.Disks.view l.disks);
+  untold : (l.story ≡ []) ⊎ g.S.Storage.tried (g.D.Disks.view l.disks) l.storage;
+  untouched : (l.disks ≡ l.fn.disks) ⊎ g.S.Storage.tried (g.D.Disks.view l.disks) l.storage;
+  asked : g.S.Storage.asked l.storage ≡ g.S.Storage.asked l.fn.storage;
+}
+
+abbrev pub decreases-stops : goal.decreases-stops
+decreases-stops g l = (g.D.Disks.view l.disks).stops_left
