@@ -1,17 +1,9 @@
 -- Stops and faults, as a call of the storage counts them.
 use Rattle.salt_disk.specs.Disks.{HasCause, View}
 use Rattle.salt_disk.specs.declared.disks.DiskErr.TheVariants.{Memory}
-use Rattle.salt_disk.specs.declared.disks.DiskErr.{DiskErr}
 use Rattle.salt_steps.specs.Counting.{CountsStops}
 use Rattle.std.proofs.Common.{arith}
-use Rattle.std.specs.Prelude.{None, Option, Some, refl, ℕ, ◌+◌, ◌≡◌}
-
-pub counts-cause : (old new : View) (answer : Option DiskErr) (armed : ℕ) → armed ≡ 0 → HasCause old new answer → CountsStops old new answer armed 0
-counts-cause old new answer armed none h = record {
-  later = h.later;
-  failed = h.failed;
-  stops = λ other. let e = h.stops in let z = none in omega arith;
-}
+use Rattle.std.specs.Prelude.{None, Some, refl, ℕ, ◌+◌, ◌≡◌}
 
 -- a call that was not made
 pub same-cause : (d : View) → HasCause d d None

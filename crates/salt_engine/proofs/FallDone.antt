@@ -2,7 +2,7 @@
 use Rattle.salt_books.specs.declared.books.Books.{Books}
 use Rattle.salt_engine.proofs.Lying.{left-stops}
 use Rattle.salt_engine.proofs.OpenDone.{known-by}
-use Rattle.salt_engine.specs.Standing.{CanFind, IsDownStage, IsFoundStage, IsNewStage, KnowsUnits, Lies, SeesIn, books_in}
+use Rattle.salt_engine.specs.Standing.{CanFind, IsDownStage, IsFoundStage, KnowsUnits, Lies, SeesIn, books_in}
 use Rattle.salt_engine.specs.declared.flights.InFlight.{InFlight}
 use Rattle.salt_engine.specs.declared.stage.Stage.TheVariants as at
 use Rattle.salt_engine.specs.declared.stage.Stage.{Stage}
@@ -12,32 +12,23 @@ use Rattle.salt_keeps.specs.States.{State}
 use Rattle.salt_model.specs.Kept.{Kept, schema_of}
 use Rattle.salt_scheduler.specs.declared.scheduler.Scheduler.{Scheduler}
 use Rattle.salt_values.specs.declared.id.Id.{Id}
-use Rattle.std.proofs.Common.{inl, inr, subst, sym, ◌∙◌}
-use Rattle.std.specs.Prelude.{Bool, None, Option, Some, ℕ, ◌≡◌, ◌⊎◌}
+use Rattle.std.proofs.Common.{subst, sym, ◌∙◌}
+use Rattle.std.specs.Prelude.{Bool, None, Option, Some, ℕ, ◌≡◌}
 
 pub down-unfound : (stage : Stage) → IsDownStage stage → IsFoundStage stage → ⊥
 down-unfound (at.Found books numbers) down found = down
-down-unfound at.New down found = found
 down-unfound (at.Opening x) down found = found
 down-unfound (at.Serving x) down found = found
 down-unfound (at.Down books) down found = found
 down-unfound at.Lost down found = found
 
-pub new-finds : (unopened : Type 0) (leaves : Kept → Kept → Type 0) (stage : Stage) → IsNewStage stage → unopened → CanFind unopened leaves stage
-new-finds unopened leaves at.New new h = h
-new-finds unopened leaves (at.Found books numbers) new h = absurd new
-new-finds unopened leaves (at.Opening x) new h = absurd new
-new-finds unopened leaves (at.Serving x) new h = absurd new
-new-finds unopened leaves (at.Down books) new h = absurd new
-new-finds unopened leaves at.Lost new h = absurd new
-
-pub down-finds : (unopened : Type 0) (leaves : Kept → Kept → Type 0) (stage : Stage) (s : UnitState) → KnowsUnits stage s → ((a b : Kept) × leaves a b) → CanFind unopened leaves stage
-down-finds unopened leaves at.New s k h = let none = k.1 in cc
-down-finds unopened leaves (at.Found books numbers) s k h = tt
-down-finds unopened leaves (at.Opening x) s k h = tt
-down-finds unopened leaves (at.Serving x) s k h = tt
-down-finds unopened leaves (at.Down books) s k h = h
-down-finds unopened leaves at.Lost s k h = tt
+pub down-finds : (settled : Type 0) (leaves : Kept → Kept → Type 0) (stage : Stage) (s : UnitState) → IsDownStage stage → KnowsUnits stage s → settled → ((a b : Kept) × leaves a b) →
+    CanFind settled leaves stage
+down-finds settled leaves (at.Found books numbers) s down k t h = tt
+down-finds settled leaves (at.Opening x) s down k t h = absurd down
+down-finds settled leaves (at.Serving x) s down k t h = absurd down
+down-finds settled leaves (at.Down books) s down k t h = (t, h)
+down-finds settled leaves at.Lost s down k t h = let none = k.1 in cc
 
 -- either way a stop leaves something
 pub leaves-some : (holds : Kept → Type 0) (leaves : Kept → Kept → Type 0) (stoppable : Bool) (stage : Stage) (single : Bool) (in_flight : Option InFlight) (room : ℕ) (p : Point) →
@@ -61,9 +52,3 @@ pub seen-schema : (holds : Kept → Type 0) (is_new : Id → Type 0) (stage : St
 seen-schema holds is_new stage x s there h =
     let seen : SeesIn holds is_new (at.Serving x) None s = subst (λ (q : Stage). SeesIn holds is_new q None s) there h in
     seen.0.books.known.schema
-
--- BY WHAT it was
-
-pub by-either : {A B C : Type 0} → (A → C) → (B → C) → A ⊎ B → C
-by-either f g (inl a) = f a
-by-either f g (inr b) = g b

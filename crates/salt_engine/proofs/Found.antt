@@ -3,7 +3,7 @@ use Rattle.salt_ast.specs.declared.lines.Line.{Line}
 use Rattle.salt_books.specs.Books.{AreBooks}
 use Rattle.salt_books.specs.declared.books.Books.{Books}
 use Rattle.salt_engine.proofs.Draining.{leads-on}
-use Rattle.salt_engine.specs.Finding.{IsFoundAgain, IsFoundFirst, IsTakenOn}
+use Rattle.salt_engine.specs.Finding.{IsFoundAgain, IsTakenOn}
 use Rattle.salt_engine.specs.Stored.{IsEither}
 use Rattle.salt_engine.specs.declared.stage.Stage.TheVariants as at
 use Rattle.salt_engine.specs.declared.stage.Stage.{Stage}
@@ -33,16 +33,6 @@ takes-on found k known books stage is sound unspent knows fresh there =
       fresh = λ phase line. fresh phase line it;
       numbered = record { boot = is.boot; decisions = is.decisions; unspent = unspent };
     }
-
-pub first-found : (holds finds : Kept → Type 0) (found : Found) (stage : Stage) → ((k : Kept) × holds k × IsFound found k × finds k) → ((k : Kept) → holds k → IsSoundKept k) →
-    ((k : Kept) → IsFound found k → IsSoundKept k → IsTakenOn k stage) → IsFoundFirst holds finds stage
-first-found holds finds found stage h may taken = record {
-  kept = h.0;
-  found = h.3;
-  holding = h.1;
-  sound = may h.0 h.1;
-  taken = taken h.0 h.2 (may h.0 h.1);
-}
 
 -- behind a fall
 pub found-again : (holds : Kept → Type 0) (x y : Books) (a b : Kept) (n : Numbers) (was stage : Stage) → was ≡ at.Down x → was ≡ at.Down y → stage ≡ at.Found y n →

@@ -148,7 +148,6 @@ opening-less holds is_new old stage x e given p sound t d comes going there seen
     by : (s : Stage) → SeesIn holds is_new s (Some given) t → left_in s (Some given) < left_in (at.Opening x) (Some e)
     by (at.Opening y) h = leaves-less x e p sound t d comes going y given kept told (h.0, h.1)
     by (at.Serving y) h = let no = sym h.3 ∙ opening in cc
-    by at.New h = absurd h
     by (at.Found books numbers) h = absurd h
     by (at.Down books) h = absurd h
     by at.Lost h = absurd h

@@ -4,7 +4,7 @@ use Rattle.salt_ast.specs.declared.lines.Line.{Line}
 use Rattle.salt_ast.specs.declared.programs.ProgramDef.{ProgramDef}
 use Rattle.salt_ast.specs.declared.trees.TableDef.{TableDef}
 use Rattle.salt_disk.specs.Disks.{View}
-use Rattle.salt_engine.proofs.Counted.{counts-cause, same-cause}
+use Rattle.salt_engine.proofs.Counted.{same-cause}
 use Rattle.salt_engine.proofs.Performed.{serves-by, stored-plain}
 use Rattle.salt_engine.specs.Performing.{AsksLine, IsPlayedBefore, IsRefused, IsRejected, IsServed, IsToAsk, Performs, is_prepared_line}
 use Rattle.salt_engine.specs.Stored.{Stored}
@@ -24,6 +24,7 @@ use Rattle.salt_model.specs.declared.events.Refusal.{Refusal}
 use Rattle.salt_scheduler.specs.Standing as scheduling
 use Rattle.salt_scheduler.specs.declared.scheduler.Scheduler.{Scheduler}
 use Rattle.salt_sound.proofs.Reading.{few-parts}
+use Rattle.salt_steps.proofs.Counted.{counts-cause}
 use Rattle.salt_steps.specs.Counting.{CountsStops, armed_at, armed_by}
 use Rattle.salt_values.specs.declared.id.Id.{Id}
 use Rattle.std.proofs.Common.{ap, subst}

@@ -3,7 +3,7 @@ use Rattle.salt_books.specs.declared.books.Books.{Books}
 use Rattle.salt_engine.proofs.Falling.{flies-fallen, left-fallen}
 use Rattle.salt_engine.proofs.Flying.{flight-next}
 use Rattle.salt_engine.proofs.Halting.{is-left, know-units}
-use Rattle.salt_engine.specs.Finding.{IsFoundAgain, IsTakenOn}
+use Rattle.salt_engine.specs.Finding.{IsFoundAgain, IsNew}
 use Rattle.salt_engine.specs.Flights.{IsInFlight}
 use Rattle.salt_engine.specs.Standing.{IsFoundStage, KnowsUnits, Left, Lies, Sees, SeesIn, books_in}
 use Rattle.salt_engine.specs.Stored.{IsEither, IsLeft}
@@ -22,18 +22,19 @@ use Rattle.salt_model.specs.Turns.{is_statement_line}
 use Rattle.salt_model.specs.declared.events.Event.TheVariants.{Down}
 use Rattle.salt_model.specs.declared.events.Event.{Event}
 use Rattle.salt_model.specs.declared.events.Why.{Why}
-use Rattle.salt_steps.specs.Opening.{IsFallenFrom, IsUnopened}
+use Rattle.salt_steps.specs.Opening.{IsFallenFrom, IsOpenedFirst}
 use Rattle.salt_steps.specs.Standing.{IsSoundPoint}
 use Rattle.salt_storage.specs.Storing.{IsSoundKept}
 use Rattle.salt_values.specs.declared.id.Id.{Id}
 use Rattle.std.proofs.Common.{ap, inl, inr, subst, sym, ◌∙◌}
-use Rattle.std.specs.Prelude.{Bool, None, Option, [], false, refl, ℕ, ◌≡◌}
+use Rattle.std.specs.Prelude.{Bool, None, Option, [], refl, ℕ, ◌≡◌}
 
 -- AT FIRST
 
-pub first-lies : (holds : Kept → Type 0) (leaves : Kept → Kept → Type 0) (stoppable : Bool) (stage : Stage) (single : Bool) (in_flight : Option InFlight) (k : Kept) (p : Point) →
-    IsTakenOn k stage → holds k → IsSoundKept k → single ≡ false → in_flight ≡ None → IsUnopened k stoppable p → Lies holds leaves stoppable stage single in_flight 0 p
-first-lies holds leaves stoppable stage single in_flight k p taken holding sound line none u =
+pub opened-first : (holds : Kept → Type 0) (leaves : Kept → Kept → Type 0) (stoppable : Bool) (stage : Stage) (single : Bool) (in_flight : Option InFlight) (k : Kept) →
+    IsNew k stage single in_flight → holds k → IsSoundKept k → IsOpenedFirst (Lies holds leaves stoppable stage single in_flight) k stoppable
+opened-first holds leaves stoppable stage single in_flight k new holding sound p u =
+    let taken = new.taken in
     let books = taken.fresh p.state.units.phase p.state.units.line in
     record {
       left = subst (λ (s : Stage). Left holds leaves s 0 p) (sym taken.there) (k, holding, is-left p k (inl (sym u.kept)), taken.numbered);
@@ -56,8 +57,8 @@ first-lies holds leaves stoppable stage single in_flight k p taken holding sound
       );
       sound = subst IsSoundKept (sym u.kept) sound;
       can_stop = u.can_stop;
-      line = line ∙ sym (ap is_statement_line u.line);
-      flies = subst (λ (i : Option InFlight). IsInFlight i p.flight p.state.units) (sym none) u.flight;
+      line = new.line ∙ sym (ap is_statement_line u.line);
+      flies = subst (λ (i : Option InFlight). IsInFlight i p.flight p.state.units) (sym new.none) u.flight;
     }
 
 -- BEHIND A FALL the one or the other is found.
@@ -76,7 +77,6 @@ found-left holds leaves books a b stage room p f is_a is_b =
 pub left-as : (holds : Kept → Type 0) (leaves : Kept → Kept → Type 0) (stage : Stage) (room : ℕ) (p : Point) → (IsFoundStage stage → ⊥) →
     ((a b : Kept) × leaves a b × IsLeft room p a × IsLeft room p b) → Left holds leaves stage room p
 left-as holds leaves (at.Found books numbers) room p not h = absurd (not tt)
-left-as holds leaves at.New room p not h = h
 left-as holds leaves (at.Opening x) room p not h = h
 left-as holds leaves (at.Serving x) room p not h = h
 left-as holds leaves (at.Down books) room p not h = h
@@ -86,7 +86,6 @@ left-as holds leaves at.Lost room p not h = h
 pub left-stops : (holds : Kept → Type 0) (leaves : Kept → Kept → Type 0) (stage : Stage) (room : ℕ) (p : Point) → ((k : Kept) → holds k → leaves k k) → Left holds leaves stage room p →
     (a b : Kept) × leaves a b × IsLeft room p a × IsLeft room p b
 left-stops holds leaves (at.Found books numbers) room p stays h = (h.0, h.0, stays h.0 h.1, h.2, h.2)
-left-stops holds leaves at.New room p stays h = h
 left-stops holds leaves (at.Opening x) room p stays h = h
 left-stops holds leaves (at.Serving x) room p stays h = h
 left-stops holds leaves (at.Down books) room p stays h = h
@@ -97,7 +96,6 @@ left-stops holds leaves at.Lost room p stays h = h
 idle-knows : (holds : Kept → Type 0) (is_new : Id → Type 0) (stage : Stage) (s : State) → SeesIn holds is_new stage None s →
     KnowsUnits stage s.units × holds s.units.kept × (IsFoundStage stage → ⊥)
 idle-knows holds is_new (at.Serving x) s h = ((x.books, refl, know-units x.books s.units h.0.books), h.1.holding, λ f. f)
-idle-knows holds is_new at.New s h = absurd h
 idle-knows holds is_new (at.Found books numbers) s h = absurd h
 idle-knows holds is_new (at.Opening x) s h = absurd h
 idle-knows holds is_new (at.Down books) s h = absurd h

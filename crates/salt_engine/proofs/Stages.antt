@@ -61,7 +61,6 @@ pub serves-now : (holds : Kept → Type 0) (is_new : Id → Type 0) (stage : Sta
 serves-now holds is_new (at.Serving x) given p sound h comes serves = tt
 serves-now holds is_new (at.Opening x) None p sound h comes serves = absurd h
 serves-now holds is_new (at.Opening x) (Some e) p sound h comes serves = absurd (no-recovery x e p h.0 sound h.1 comes serves)
-serves-now holds is_new at.New given p sound h comes serves = absurd h
 serves-now holds is_new (at.Found books numbers) given p sound h comes serves = absurd h
 serves-now holds is_new (at.Down books) given p sound h comes serves = absurd h
 serves-now holds is_new at.Lost given p sound h comes serves = absurd h
@@ -70,7 +69,6 @@ pub opens-now : (holds : Kept → Type 0) (is_new : Id → Type 0) (stage : Stag
     IsOpeningStage stage
 opens-now holds is_new (at.Serving x) e s h opening = absurd (never-both s.units.phase h.3 opening)
 opens-now holds is_new (at.Opening x) e s h opening = tt
-opens-now holds is_new at.New e s h opening = absurd h
 opens-now holds is_new (at.Found books numbers) e s h opening = absurd h
 opens-now holds is_new (at.Down books) e s h opening = absurd h
 opens-now holds is_new at.Lost e s h opening = absurd h
@@ -79,7 +77,6 @@ opens-now holds is_new at.Lost e s h opening = absurd h
 pub idle-serves : (holds : Kept → Type 0) (is_new : Id → Type 0) (stage : Stage) (s : State) → SeesIn holds is_new stage None s → IsServingStage stage
 idle-serves holds is_new (at.Serving x) s h = tt
 idle-serves holds is_new (at.Opening x) s h = absurd h
-idle-serves holds is_new at.New s h = absurd h
 idle-serves holds is_new (at.Found books numbers) s h = absurd h
 idle-serves holds is_new (at.Down books) s h = absurd h
 idle-serves holds is_new at.Lost s h = absurd h
@@ -99,7 +96,6 @@ pub goes-now : (holds : Kept → Type 0) (is_new : Id → Type 0) (stage : Stage
     goes_in stage ≡ s.units.to_go
 goes-now holds is_new (at.Serving x) given s h serves = goes-seen holds is_new x given s h
 goes-now holds is_new (at.Opening x) given s h serves = absurd serves
-goes-now holds is_new at.New given s h serves = absurd serves
 goes-now holds is_new (at.Found books numbers) given s h serves = absurd serves
 goes-now holds is_new (at.Down books) given s h serves = absurd serves
 goes-now holds is_new at.Lost given s h serves = absurd serves
@@ -115,7 +111,6 @@ pub left-at : (holds : Kept → Type 0) (is_new : Id → Type 0) (stage : Stage)
     IsServingStage stage → left_to_come (waits_in stage) given ≡ to_come (waiters p.state) given
 left-at holds is_new (at.Serving x) given p sound comes h serves = left-seen holds is_new x given p sound comes h
 left-at holds is_new (at.Opening x) given p sound comes h serves = absurd serves
-left-at holds is_new at.New given p sound comes h serves = absurd serves
 left-at holds is_new (at.Found books numbers) given p sound comes h serves = absurd serves
 left-at holds is_new (at.Down books) given p sound comes h serves = absurd serves
 left-at holds is_new at.Lost given p sound comes h serves = absurd serves
@@ -123,7 +118,6 @@ left-at holds is_new at.Lost given p sound comes h serves = absurd serves
 pub serving-of : (stage : Stage) → IsServingStage stage → (x : Scheduler) × (stage ≡ at.Serving x)
 serving-of (at.Serving x) serves = (x, refl)
 serving-of (at.Opening x) serves = absurd serves
-serving-of at.New serves = absurd serves
 serving-of (at.Found books numbers) serves = absurd serves
 serving-of (at.Down books) serves = absurd serves
 serving-of at.Lost serves = absurd serves

@@ -26,7 +26,7 @@ use Rattle.salt_scheduler.specs.Standing as scheduling
 use Rattle.salt_scheduler.specs.declared.scheduler.Scheduler.{Scheduler}
 use Rattle.salt_storage.specs.Storing.{IsSoundKept}
 use Rattle.salt_storage.specs.declared.found.Numbers.{Numbers}
-use Rattle.std.specs.Prelude.{Bool, IsSome, Option, Some, [], true, ℕ, ◌+◌, ◌<◌, ◌≡◌, ◌⊎◌}
+use Rattle.std.specs.Prelude.{Bool, IsSome, None, Option, Some, [], false, true, ℕ, ◌+◌, ◌<◌, ◌≡◌, ◌⊎◌}
 
 -- nothing is open over what is kept
 abbrev pub AreFresh : Books → Kept → Type 0
@@ -48,13 +48,11 @@ pub record IsTakenOn (k : Kept) (stage : Stage) : Type 0 where
   pub fresh : AreFresh books k
   pub numbered : IsNumbered numbers k
 
--- at first: this is held, and nothing is open
-pub record IsFoundFirst (holds finds : Kept → Type 0) (stage : Stage) : Type 0 where
-  pub kept : Kept
-  pub found : finds kept
-  pub holding : holds kept
-  pub sound : IsSoundKept kept
-  pub taken : IsTakenOn kept stage
+-- and was asked nothing yet
+pub record IsNew (k : Kept) (stage : Stage) (single : Bool) (in_flight : Option InFlight) : Type 0 where
+  pub taken : IsTakenOn k stage
+  pub line : single ≡ false
+  pub none : in_flight ≡ None
 
 -- behind a fall: the one or the other is held, and the books stay
 pub record IsFoundAgain (holds : Kept → Type 0) (books : Books) (a b : Kept) (stage : Stage) : Type 0 where

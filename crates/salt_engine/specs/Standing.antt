@@ -4,7 +4,7 @@ use Rattle.salt_books.specs.declared.books.Books.{Books}
 use Rattle.salt_engine.specs.Flights.{IsInFlight}
 use Rattle.salt_engine.specs.Stored.{IsLeft, IsNumbered, Stored}
 use Rattle.salt_engine.specs.declared.flights.InFlight.{InFlight}
-use Rattle.salt_engine.specs.declared.stage.Stage.TheVariants.{Down, Found, Lost, New, Opening, Serving}
+use Rattle.salt_engine.specs.declared.stage.Stage.TheVariants.{Down, Found, Lost, Opening, Serving}
 use Rattle.salt_engine.specs.declared.stage.Stage.{Stage}
 use Rattle.salt_keeps.specs.OpenUnits.{UnitState}
 use Rattle.salt_keeps.specs.Points.{Point}
@@ -39,10 +39,6 @@ pub record Sees (holds : Kept → Type 0) (is_new : Id → Type 0) (stoppable : 
   pub line : single ≡ is_statement_line s.units.line
   pub none : in_flight ≡ None
 
-abbrev pub IsNewStage : Stage → Type 0
-IsNewStage New = ⊤
-IsNewStage stage = ⊥
-
 abbrev pub IsFoundStage : Stage → Type 0
 IsFoundStage (Found books numbers) = ⊤
 IsFoundStage stage = ⊥
@@ -60,24 +56,17 @@ abbrev pub IsBrokenStage : Stage → Type 0
 IsBrokenStage (Down x) = ⊤
 IsBrokenStage stage = ⊥
 
--- or has not begun
+-- or memory ran out
 abbrev pub IsDownStage : Stage → Type 0
 IsDownStage (Found books numbers) = ⊥
 IsDownStage (Opening x) = ⊥
 IsDownStage (Serving x) = ⊥
 IsDownStage stage = ⊤
 
--- it has found nothing, and was asked nothing
-pub record IsNew (stage : Stage) (single : Bool) (in_flight : Option InFlight) : Type 0 where
-  pub begins : IsNewStage stage
-  pub line : single ≡ false
-  pub none : in_flight ≡ None
-
 -- BROKEN OFF.
 
 -- the books that it has
 abbrev pub books_in : Stage → Option Books
-books_in New = None
 books_in (Found books numbers) = Some books
 books_in (Opening x) = Some x.books
 books_in (Serving x) = Some x.books
@@ -111,11 +100,11 @@ pub record Lies (holds : Kept → Type 0) (leaves : Kept → Kept → Type 0) (s
   pub line : single ≡ is_statement_line p.state.units.line
   pub flies : IsInFlight in_flight p.flight p.state.units
 
--- what its stage asks of the storage for it to be opened
-abbrev pub CanFind : (unopened : Type 0) (leaves : Kept → Kept → Type 0) → Stage → Type 0
-CanFind unopened leaves New = unopened
-CanFind unopened leaves (Down books) = (a b : Kept) × leaves a b
-CanFind unopened leaves stage = ⊤
+-- for it to be opened: what the storage holds is found, or it was broken off, and a stop has left something there
+abbrev pub CanFind : (settled : Type 0) (leaves : Kept → Kept → Type 0) → Stage → Type 0
+CanFind settled leaves (Found books numbers) = ⊤
+CanFind settled leaves (Down books) = settled × ((a b : Kept) × leaves a b)
+CanFind settled leaves stage = ⊥
 
 -- WHAT IS STILL TO COME.
 

@@ -1,15 +1,20 @@
 //! The engine: what it is doing, over a storage.
 
+ghost use Rattle.salt_engine.specs.Finding.{IsNew};
 ghost use Rattle.salt_engine.specs.Performing.{WasBroken};
-ghost use Rattle.salt_engine.specs.Standing.{IsNew};
+ghost use Rattle.salt_engine.specs.Standing.{IsFoundStage};
 ghost use Rattle.salt_engine.specs.declared.stage.Stage.TheVariants.{Lost};
-ghost use Rattle.std.specs.Prelude.{None, ◌≡◌};
+ghost use Rattle.salt_model.specs.Kept.{Kept};
+ghost use Rattle.salt_stands.specs.Stands.{are_spent};
+ghost use Rattle.salt_storage.specs.Storing.{IsFound, IsSoundKept};
+ghost use Rattle.std.specs.Prelude.{None, false, ◌≡◌};
 
 use crate::flights::InFlight;
 use crate::stage::Stage;
 use salt_books::Books;
+use salt_known::Known;
 use salt_schema::Schema;
-use salt_storage::{Halt, Storage};
+use salt_storage::{Found, Halt, Numbers, Storage};
 use std::alloc::Global;
 
 /// An engine over a storage: a half of it chooses in memory what comes next, and what is decided or read is asked of the storage.
@@ -23,20 +28,33 @@ pub struct Engine<S> {
     pub(crate) single: bool,
     /// What was asked of the storage when it halted.
     pub(crate) in_flight: Option<InFlight>,
-    /// The tables where nothing is found: none.
+    /// The tables where memory ran out: none.
     pub(crate) no_tables: Schema,
 }
 
 impl<S: Storage> Engine<S> {
-    /// An engine that has found nothing yet on its storage.
-    pub fn new(alloc: Global, storage: S) -> Engine<S>
+    /// An engine over what an opening has found on its storage, whose numbers are not spent. It is to be opened: no boot has begun.
+    pub fn new(alloc: Global, storage: S, found: Found) -> Engine<S>
+        requires { are_spent found.boot found.decisions ≡ false }
         ensures storage { result.storage ≡ storage }
-        ensures is_new { IsNew result.stage result.single result.in_flight }
+        ensures found { IsFoundStage result.stage }
+        ensures is_new { (k : Kept) → IsFound found k → IsSoundKept k → IsNew k result.stage result.single result.in_flight }
     {
+        let Found {
+            schema,
+            catalogue,
+            conts,
+            boot,
+            decisions,
+        } = found;
+        let known = Known::new(alloc, schema, catalogue, conts, boot, decisions);
         Engine {
             alloc,
             storage,
-            stage: Stage::New,
+            stage: Stage::Found {
+                books: Books::new(alloc, known),
+                numbers: Numbers { boot, decisions },
+            },
             single: false,
             in_flight: None,
             no_tables: Schema::new(alloc),

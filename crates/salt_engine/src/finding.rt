@@ -1,97 +1,31 @@
-//! What the storage holds is found, at first and behind a fall.
+//! What the storage holds is found again behind a fall, and opened.
 
-ghost use Rattle.salt_disk.specs.Disks.{AreUnchanged, HasCause, SameShape};
-ghost use Rattle.salt_engine.specs.Finding.{IsFoundAgain, IsFoundFirst, IsOpenedBy, IsOpeningWith, IsTakenOn, ServesBooks};
+ghost use Rattle.salt_disk.specs.Disks.{HasCause, SameShape};
+ghost use Rattle.salt_engine.specs.Finding.{IsFoundAgain, IsOpenedBy, IsOpeningWith, ServesBooks};
 ghost use Rattle.salt_books.specs.declared.books.Books.{Books};
-ghost use Rattle.salt_engine.specs.Standing.{IsBrokenStage, IsNewStage};
+ghost use Rattle.salt_engine.specs.Standing.{IsBrokenStage};
 ghost use Rattle.salt_engine.specs.declared.stage.Stage.TheVariants.{Down, Lost};
 ghost use Rattle.salt_keeps.specs.States.{State};
 ghost use Rattle.salt_model.specs.Kept.{Kept};
 ghost use Rattle.salt_model.specs.declared.events.Event.{Event};
-ghost use Rattle.salt_stands.specs.Stands.{are_spent};
-ghost use Rattle.salt_storage.specs.Answers.{IfRefused, IsLater, MayFail, open_disk_err};
-ghost use Rattle.salt_storage.specs.Storing.{IsFound, IsSoundKept};
-ghost use Rattle.salt_storage.specs.Writing.{FindsNoMore, OfOpening};
-ghost use Rattle.salt_storage.specs.declared.halt.Halt.TheVariants.{DeviceFull, Memory, Stopped};
+ghost use Rattle.salt_storage.specs.Answers.{MayFail, open_disk_err};
+ghost use Rattle.salt_storage.specs.declared.halt.Halt.TheVariants.{DeviceFull, Memory};
 ghost use Rattle.salt_storage.specs.declared.open.OpenErr.{OpenErr};
 ghost use Rattle.salt_values.specs.Placement.{GivesPlaceOf, TakesEachKey};
-ghost use Rattle.std.specs.Prelude.{Err, IfErr, IfOk, IsTrue, None, OnErr, OnOk, Option, false, ℕ, [], ◌++◌, ◌∷◌, ◌≡◌};
+ghost use Rattle.std.specs.Prelude.{Err, IfErr, IfOk, None, OnErr, OnOk, Option, ℕ, [], ◌++◌, ◌∷◌, ◌≡◌};
 
 use crate::beginning::begin;
 use crate::engine::Engine;
 use crate::stage::Stage;
 use salt_books::Books;
 use salt_disk::Disks;
-use salt_known::Known;
 use salt_model::{Event, Story};
 use salt_scheduler::Scheduler;
-use salt_storage::{Found, Halt, Numbers, OpenErr, Storage};
+use salt_storage::{Halt, OpenErr, Storage};
 use salt_values::{Key, PlaceKind, Placement};
 use std::mem;
 
 impl<S: Storage> Engine<S> {
-    /// The books of what was found at first: no unit is open.
-    fn take_on(&mut self, found: Found)
-        requires { are_spent found.boot found.decisions ≡ false }
-        ensures found { (k : Kept) → IsFound found k → IsSoundKept k → IsTakenOn k self.new.stage }
-        ensures storage { self.new.storage ≡ self.old.storage }
-        ensures single { self.new.single ≡ self.old.single }
-        ensures flies { self.new.in_flight ≡ self.old.in_flight }
-    {
-        let Found {
-            schema,
-            catalogue,
-            conts,
-            boot,
-            decisions,
-        } = found;
-        let known = Known::new(self.alloc, schema, catalogue, conts, boot, decisions);
-        self.stage = Stage::Found {
-            books: Books::new(self.alloc, known),
-            numbers: Numbers { boot, decisions },
-        };
-    }
-
-    /// Finds at first what the storage holds.
-    pub(crate) fn find_first<D: Disks, F: Fn(PlaceKind, &Key, u32) -> u32>(
-        &mut self,
-        disks: &mut D,
-        place: &Placement<F>,
-    ) -> Result<(), OpenErr>
-        requires callable { TakesEachKey (F.pre place.now.place) }
-        requires answers { GivesPlaceOf (F.post place.now.place) }
-        requires settled { S.settled (D.view disks.old) self.old.storage }
-        requires unopened { S.unopened self.old.storage }
-        ensures found { OnOk result (IsFoundFirst (S.holds (D.view disks.new) self.new.storage) (S.finds (D.view disks.old) self.old.storage) self.new.stage) }
-        ensures stage { OnErr result (IsNewStage self.new.stage) }
-        ensures unopened { OnErr result (S.unopened self.new.storage) }
-        ensures able { OnErr result (S.able (D.view disks.new) self.new.storage) }
-        ensures refuses { IfErr result (S.refuses (D.view disks.old) self.old.storage) }
-        ensures still { OnErr result (FindsNoMore (S.refuses (D.view disks.old) self.old.storage) (S.finds (D.view disks.old) self.old.storage)
-            (S.refuses (D.view disks.new) self.new.storage) (S.finds (D.view disks.new) self.new.storage)) }
-        ensures tried { result ≡ Err (OpenErr.Halted Stopped) → S.tried (D.view disks.new) self.new.storage }
-        ensures later { S.tried (D.view disks.old) self.old.storage → IfErr result IsLater }
-        ensures unchanged { IfErr result (λ e. IfRefused e (IsTrue (D.view disks.old).told → AreUnchanged (D.view disks.old) (D.view disks.new))) }
-        ensures full { (dev : ℕ) → result ≡ Err (OpenErr.Halted (DeviceFull dev)) → S.fills (D.view disks.new) self.new.storage OfOpening dev }
-        ensures single { self.new.single ≡ self.old.single }
-        ensures flies { self.new.in_flight ≡ self.old.in_flight }
-        ensures asked { S.asked self.new.storage ≡ S.asked self.old.storage }
-        ensures shape { SameShape (D.view disks.old) (D.view disks.new) }
-        ensures cause { HasCause (D.view disks.old) (D.view disks.new) (open_disk_err result) }
-    {
-        match self.storage.open(disks, place) {
-            Ok(found) => {
-                self.storage.stands(disks);
-                self.take_on(found);
-                Ok(())
-            }
-            Err(e) => {
-                self.stage = Stage::New;
-                Err(e)
-            }
-        }
-    }
-
     /// Finds behind a fall what the storage holds: the books stay.
     pub(crate) fn find_behind<D: Disks, F: Fn(PlaceKind, &Key, u32) -> u32>(
         &mut self,

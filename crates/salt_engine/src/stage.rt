@@ -1,6 +1,6 @@
 //! What an engine is doing.
 
-ghost use Rattle.salt_engine.specs.Standing.{IsBrokenStage, IsDownStage, IsFoundStage, IsNewStage, IsOpeningStage, IsServingStage, KnowUnits, KnowsUnits};
+ghost use Rattle.salt_engine.specs.Standing.{IsBrokenStage, IsDownStage, IsFoundStage, IsOpeningStage, IsServingStage, KnowUnits, KnowsUnits};
 ghost use Rattle.salt_engine.specs.declared.stage.Stage.TheVariants.{Down, Found, Opening, Serving};
 ghost use Rattle.salt_keeps.specs.OpenUnits.{UnitState};
 ghost use Rattle.salt_keeps.specs.Steps.{units_after};
@@ -15,8 +15,6 @@ use salt_storage::Numbers;
 
 /// What an engine is doing.
 pub enum Stage {
-    /// Nothing is found yet.
-    New,
     /// What the storage holds is found.
     Found { books: Books, numbers: Numbers },
     /// An opening goes on.
@@ -32,7 +30,6 @@ pub enum Stage {
 impl Drop for Stage {
     fn drop(self) {
         match self {
-            Stage::New => {}
             Stage::Found {
                 books: _books,
                 numbers: _numbers,
@@ -102,11 +99,9 @@ impl Stage {
     /// What is left of it behind a fall: the books, which go to no further program of a `go all`.
     pub fn fallen(self) -> Stage
         ensures books { (s : UnitState) (why : Why) → KnowsUnits self s → KnowsUnits result (units_after (Event.Down why) s) }
-        ensures new { IsNewStage self → IsNewStage result }
         ensures down { IsDownStage result }
     {
         match self {
-            Stage::New => Stage::New,
             Stage::Found {
                 books,
                 numbers: _numbers,

@@ -2,7 +2,7 @@
 
 ghost use Rattle.salt_engine.specs.Flights.{flight_of};
 ghost use Rattle.salt_engine.specs.Performing.{IsServed};
-ghost use Rattle.salt_engine.specs.Standing.{CanFind, IsFoundStage, IsNew, Left, Lies, Sees, goes_in, is_ready, left_in, waits_in};
+ghost use Rattle.salt_engine.specs.Standing.{CanFind, IsFoundStage, Left, Lies, Sees, goes_in, is_ready, left_in, waits_in};
 ghost use Rattle.std.specs.Prelude.{◌≡◌};
 
 use crate::engine::Engine;
@@ -37,19 +37,11 @@ impl<S: Storage + Drop> Stepping for Engine<S> {
 
     ghost left = { λ d e room p. Left (S.holds d e.storage) (S.leaves d e.storage) e.stage room p };
 
-    ghost is_new = { λ d e. IsNew e.stage e.single e.in_flight × S.unopened e.storage × S.able d e.storage };
-
-    ghost tried = { λ d e. S.tried d e.storage };
-
     ghost is_found = { λ d e. IsFoundStage e.stage };
 
-    ghost settled = { λ d e. S.settled d e.storage × CanFind (S.unopened e.storage) (S.leaves d e.storage) e.stage };
+    ghost settled = { λ d e. CanFind (S.settled d e.storage) (S.leaves d e.storage) e.stage };
 
     ghost flight = { λ e. flight_of e.in_flight };
-
-    ghost refuses = { λ d e. S.refuses d e.storage };
-
-    ghost finds = { λ d e. S.finds d e.storage };
 
     ghost asked = { λ e. S.asked e.storage };
 
@@ -126,10 +118,9 @@ impl<S: Storage + Drop> Stepping for Engine<S> {
         place: &Placement<F>,
     ) -> Result<(), OpenErr> {
         match &self.stage {
-            Stage::New => self.find_first(disks, place),
-            Stage::Down(_) => self.find_behind(disks, place),
             Stage::Found { .. } => Ok(()),
-            _ => Err(OpenErr::Halted(Halt::Memory)),
+            Stage::Down(_) => self.find_behind(disks, place),
+            _ => unreachable!(),
         }
     }
 
@@ -176,7 +167,6 @@ impl<S: Storage + Drop> Stepping for Engine<S> {
 
     fn schema<D: Disks>(&self, _disks: &D) -> &Schema {
         match &self.stage {
-            Stage::New => &self.no_tables,
             Stage::Found { books, .. } => books.known().schema(),
             Stage::Opening(recovery) => recovery.books().known().schema(),
             Stage::Serving(scheduler) => scheduler.books().known().schema(),

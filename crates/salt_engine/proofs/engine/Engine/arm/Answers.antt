@@ -1,9 +1,10 @@
 use Rattle.salt_engine.proofs.Broken.{breaks-before}
-use Rattle.salt_engine.proofs.Counted.{cause-lost, counts-armed, counts-cause, counts-lost, same-cause}
+use Rattle.salt_engine.proofs.Counted.{cause-lost, counts-armed, counts-lost, same-cause}
 use Rattle.salt_engine.proofs.LineArms.{arms-able, arms-armed, arms-performs, arms-picks}
 use Rattle.salt_engine.proofs.LineDefines.{reads-there}
 use Rattle.salt_engine.proofs.engine.Engine.arm.Goals as goal
 use Rattle.salt_model.specs.Words.{Every}
+use Rattle.salt_steps.proofs.Counted.{counts-cause}
 use Rattle.std.proofs.Common.{ap, refl, subst, sym, ◌∙◌}
 use Rattle.std.proofs.lemmas.Result.{err_from_is_err_and}
 use Rattle.std.specs.Prelude.{length, ℕ, ◌+◌, ◌≤◌}

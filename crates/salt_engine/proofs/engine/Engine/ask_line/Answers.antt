@@ -1,11 +1,12 @@
 use Rattle.salt_engine.proofs.Broken.{breaks-before}
-use Rattle.salt_engine.proofs.Counted.{cause-lost, counts-cause, same-cause}
+use Rattle.salt_engine.proofs.Counted.{cause-lost, same-cause}
 use Rattle.salt_engine.proofs.LineAsked.{asks-line, counts-same, few-of, refused-performs, refused-unarmed, unrefused}
 use Rattle.salt_engine.proofs.LineChosen.{breaks-same, performs-same}
 use Rattle.salt_engine.proofs.engine.Engine.ask_line.Goals as goal
 use Rattle.salt_keeps.specs.States.{asked_of}
 use Rattle.salt_model.specs.Trace.{Tree}
 use Rattle.salt_scheduler.proofs.SoundFacts.{reads}
+use Rattle.salt_steps.proofs.Counted.{counts-cause}
 use Rattle.std.proofs.Common.{refl, sym, ◌∙◌}
 use Rattle.std.proofs.lemmas.Result.{IfErr-weaker, IfOk-weaker, err_from_is_err_and}
 

@@ -1,10 +1,11 @@
 use Rattle.salt_canonical.specs.Texts.{definition_in}
 use Rattle.salt_disk.specs.Disks.{HasCause}
 use Rattle.salt_engine.proofs.Broken.{breaks-before}
-use Rattle.salt_engine.proofs.Counted.{cause-lost, counts-cause, same-cause}
+use Rattle.salt_engine.proofs.Counted.{cause-lost, same-cause}
 use Rattle.salt_engine.proofs.LineDefines.{defined-breaks, defined-lost, defined-performs, table-flies, table-may, table-meant, reads-there}
 use Rattle.salt_engine.proofs.engine.Engine.define_table.Goals as goal
 use Rattle.salt_model.specs.Kept.{OfTable}
+use Rattle.salt_steps.proofs.Counted.{counts-cause}
 use Rattle.salt_steps.specs.Counting.{armed_at}
 use Rattle.salt_storage.specs.Answers.{disk_err_of}
 use Rattle.salt_storage.specs.declared.halt.Halt.{Halt}

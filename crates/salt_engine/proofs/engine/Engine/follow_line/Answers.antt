@@ -1,11 +1,12 @@
 use Rattle.salt_engine.proofs.Broken.{breaks-before}
-use Rattle.salt_engine.proofs.Counted.{cause-lost, counts-cause, same-cause}
+use Rattle.salt_engine.proofs.Counted.{cause-lost, same-cause}
 use Rattle.salt_engine.proofs.LineAsked.{armed-none}
 use Rattle.salt_engine.proofs.LineChosen.{breaks-same, performed-unarmed, performs-same, to-serve}
 use Rattle.salt_engine.proofs.Plain.{first-plain}
 use Rattle.salt_engine.proofs.engine.Engine.follow_line.Goals as goal
 use Rattle.salt_keeps.specs.Readings.{clash_by, items_by}
 use Rattle.salt_scheduler.proofs.SoundFacts.{reads}
+use Rattle.salt_steps.proofs.Counted.{counts-cause}
 use Rattle.std.proofs.Common.{refl}
 use Rattle.std.proofs.lemmas.Result.{IfErr-weaker, IfOk-weaker, err_from_is_err_and}
 

@@ -1,5 +1,5 @@
 use Rattle.salt_engine.proofs.AskDone.{asked-there, reads-here}
-use Rattle.salt_engine.proofs.Counted.{cause-lost, counts-cause, same-cause}
+use Rattle.salt_engine.proofs.Counted.{cause-lost, same-cause}
 use Rattle.salt_engine.proofs.Flying.{flight-next}
 use Rattle.salt_engine.proofs.Halting.{memory-at}
 use Rattle.salt_engine.proofs.LineAsked.{counts-same, rejected-performs, rejected-unarmed}
@@ -10,6 +10,7 @@ use Rattle.salt_engine.proofs.steps.EngineStepping.ask_rejected.Goals as goal
 use Rattle.salt_engine.specs.Standing.{IsServingStage}
 use Rattle.salt_engine.specs.Stored.{Stored}
 use Rattle.salt_model.specs.Trace.{Rejected}
+use Rattle.salt_steps.proofs.Counted.{counts-cause}
 use Rattle.std.proofs.Common.{inl, refl, subst, sym, ◌∙◌}
 use Rattle.std.proofs.lemmas.Result.{err_from_is_err_and}
 

@@ -1,4 +1,4 @@
-use Rattle.salt_engine.proofs.Counted.{cause-lost, counts-cause, same-cause}
+use Rattle.salt_engine.proofs.Counted.{cause-lost, same-cause}
 use Rattle.salt_engine.proofs.GoDone.{comes-ready, done-ready, opening-less, opens-halts, opens-short, opens-there, ready-idles, ready-is, ready-less, ready-sees, says-ready, untold-lost}
 use Rattle.salt_engine.proofs.LineAsked.{counts-same}
 use Rattle.salt_engine.proofs.OpeningGoes.{goes-on, opened-on}
@@ -8,6 +8,7 @@ use Rattle.salt_books.specs.declared.books.Books.{Books}
 use Rattle.salt_engine.specs.Finding.{ServesBooks}
 use Rattle.salt_engine.specs.Standing.{IsOpeningStage}
 use Rattle.salt_engine.specs.Stored.{Stored}
+use Rattle.salt_steps.proofs.Counted.{counts-cause}
 use Rattle.std.proofs.Common.{inl, refl, subst, sym, ◌∙◌}
 use Rattle.std.proofs.lemmas.Result.{err_from_is_err_and}
 

@@ -1,10 +1,10 @@
-use Rattle.salt_engine.proofs.Counted.{counts-cause}
 use Rattle.salt_engine.proofs.OpenDone.{begun-by, booted-left, down-lies, found-there, holding-found, kept-found, memory-cause, never-full, ok-with, opening-at, opening-sees, unspent-found}
 use Rattle.salt_engine.proofs.OpenedOn.{first-unarmed}
 use Rattle.salt_engine.proofs.steps.EngineStepping.open.Goals as goal
 use Rattle.salt_engine.specs.Flights.{flight_of}
 use Rattle.salt_engine.specs.Standing.{IsFoundStage}
 use Rattle.salt_engine.specs.declared.stage.Stage.TheVariants as at
+use Rattle.salt_steps.proofs.Counted.{counts-cause}
 use Rattle.salt_storage.specs.Storing.{booted}
 use Rattle.std.proofs.Common.{ap, inl, inr, refl, subst, sym, ◌∙◌}
 use Rattle.std.proofs.lemmas.Result.{IfErr-weaker, IfOk-weaker, on_err_weaker}

@@ -1,11 +1,12 @@
 use Rattle.salt_engine.proofs.AskDone.{on-ok}
-use Rattle.salt_engine.proofs.Counted.{cause-lost, counts-cause, same-cause}
+use Rattle.salt_engine.proofs.Counted.{cause-lost, same-cause}
 use Rattle.salt_engine.proofs.LineAsked.{armed-none}
 use Rattle.salt_engine.proofs.SayDone.{said-goes, said-halts, said-less, said-lost, said-sees, said-there, said-turns}
 use Rattle.salt_engine.proofs.ServingGoes.{read}
 use Rattle.salt_engine.proofs.Stages.{seen-at, serves-now}
 use Rattle.salt_engine.proofs.steps.EngineStepping.say.Goals as goal
 use Rattle.salt_engine.specs.Standing.{IsServingStage}
+use Rattle.salt_steps.proofs.Counted.{counts-cause}
 use Rattle.std.proofs.Common.{refl, subst, sym, ◌∙◌}
 use Rattle.std.proofs.lemmas.Result.{IfErr-weaker, IfOk-weaker, err_from_is_err_and}
 

@@ -6,12 +6,6 @@ use Rattle.salt_engine.specs.Standing.{IsServingStage, books_in}
 use Rattle.salt_known.specs.declared.known.Known.{Known}
 use Rattle.std.proofs.Common.{ap, subst, ◌∙◌}
 
-pub returns-in-New-clause-serves : goal.returns-in-New-clause-serves
-returns-in-New-clause-serves g c = λ p sound h. absurd (subst IsServingStage c.in-New.is (idle-serves _ _ c.args.self.now.stage p.state h.seen))
-
-pub returns-in-New-clause-lies : goal.returns-in-New-clause-lies
-returns-in-New-clause-lies g c = λ room p sound lies. absurd (lies-none _ _ _ _ _ _ room p (ap books_in c.in-New.is) lies)
-
 pub returns-in-Found-clause-serves : goal.returns-in-Found-clause-serves
 returns-in-Found-clause-serves g c = λ p sound h. absurd (subst IsServingStage c.in-Found.is (idle-serves _ _ c.args.self.now.stage p.state h.seen))
 

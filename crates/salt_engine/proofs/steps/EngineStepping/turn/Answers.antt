@@ -1,9 +1,9 @@
 use Rattle.salt_engine.proofs.AskDone.{on-ok, reads-here, to-turn, turned-fewer, turned-halts, turned-sees, turned-there}
-use Rattle.salt_engine.proofs.Counted.{counts-cause}
 use Rattle.salt_engine.proofs.LineAsked.{armed-none}
 use Rattle.salt_engine.proofs.Stages.{idle-serves, seen-at}
 use Rattle.salt_engine.proofs.steps.EngineStepping.turn.Goals as goal
 use Rattle.salt_engine.specs.Standing.{IsServingStage}
+use Rattle.salt_steps.proofs.Counted.{counts-cause}
 use Rattle.std.proofs.Common.{inr, subst, sym, ◌∙◌}
 use Rattle.std.proofs.lemmas.Result.{IfErr-weaker, IfOk-weaker}
 
