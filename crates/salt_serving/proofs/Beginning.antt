@@ -8,7 +8,7 @@ use Rattle.salt_keeps.specs.States.{State}
 use Rattle.salt_model.specs.After.{kept}
 use Rattle.salt_model.specs.Ends.{MayLeave, flight_told, is_serving}
 use Rattle.salt_model.specs.EventTexts.{story_text}
-use Rattle.salt_model.specs.Kept.{Kept, schema_of}
+use Rattle.salt_model.specs.Kept.{schema_of}
 use Rattle.salt_model.specs.Lines.{AskInOrder}
 use Rattle.salt_model.specs.Next.{flight}
 use Rattle.salt_model.specs.Phases.{Fallen, phase}
@@ -21,27 +21,25 @@ use Rattle.salt_model.specs.declared.events.Event.TheVariants.{Down}
 use Rattle.salt_model.specs.declared.events.Event.{Event}
 use Rattle.salt_model.specs.declared.events.Flight.{Flight}
 use Rattle.salt_model.specs.declared.events.Why.TheVariants.{Stopped}
-use Rattle.salt_serving.proofs.Leaving.{at-devices, full-reason, leaves-later, leaves-opening, leaves-unwritten, later-stop, unwritten-leaves}
+use Rattle.salt_serving.proofs.Leaving.{at-devices, leaves-later, leaves-unwritten, unwritten-leaves}
 use Rattle.salt_serving.proofs.Stories.{text-append}
-use Rattle.salt_serving.proofs.Texts.{gains-under, memory-status, tables-lying, tables-serving}
-use Rattle.salt_serving.specs.Ending.{EndsFound, EndsServing, EndsUnfound, FailsToBegin, IsEnded, IsStatusOf, LeavesAt}
+use Rattle.salt_serving.proofs.Texts.{gains-under, memory-status, of-later, tables-lying, tables-serving}
+use Rattle.salt_serving.specs.Ending.{EndsFound, EndsOpening, EndsServing, IsStatusOf, LeavesAt}
 use Rattle.salt_serving.specs.Run.{AreFirstLines, AreLinesOf, GainsFrom, IsFlightAt, IsRun, IsWritten, leave_of, story_before_line, text_under}
 use Rattle.salt_serving.specs.Serving.{EndsWriting, GainsAtEnd, IsAt, IsBegun, IsServing}
-use Rattle.salt_serving.specs.Stopping.{IsLaterStop, IsOfDevices, status_of, status_opening, stop_opening}
-use Rattle.salt_serving.specs.declared.status.Status.TheVariants.{DeviceFull, Memory, WriteFault}
-use Rattle.salt_serving.specs.declared.status.Status.{Status}
+use Rattle.salt_serving.specs.Stopping.{IsLaterStop, IsOfDevices, outcome, status_of, status_opening, stop_opening}
 use Rattle.salt_serving.specs.declared.stop.Stop.TheVariants as stop
 use Rattle.salt_serving.specs.declared.stop.Stop.{Stop}
-use Rattle.salt_steps.specs.Opening.{FailsToFind, IsUnfound, fallen_often}
-use Rattle.salt_steps.specs.Reopening.{Begins, BreaksFirst}
+use Rattle.salt_steps.specs.Opening.{IsUnfound, fallen_often}
+use Rattle.salt_steps.specs.Reopening.{Reopens}
 use Rattle.salt_steps.specs.Standing.{IsIdleAt, IsSoundPoint}
 use Rattle.salt_storage.specs.Answers.{IsLater}
-use Rattle.salt_storage.specs.Writing.{OfOpening, Written}
+use Rattle.salt_storage.specs.Writing.{Written}
 use Rattle.salt_storage.specs.declared.halt.Halt.TheVariants as halt
 use Rattle.salt_storage.specs.declared.open.OpenErr.TheVariants.{Halted, NotSalt, NumbersSpent, OtherShape}
 use Rattle.salt_storage.specs.declared.open.OpenErr.{OpenErr}
 use Rattle.std.proofs.Common.{ap, arith, inl, inr, subst, suc, sym, zero, ◌∙◌}
-use Rattle.std.specs.Prelude.{Bool, Err, List, None, Ok, Option, Result, Some, [], false, refl, true, ℕ, ◌++◌, ◌∷◌, ◌≡◌, ◌⊎◌}
+use Rattle.std.specs.Prelude.{Err, List, None, Ok, Option, Result, Some, [], false, refl, true, ℕ, ◌++◌, ◌∷◌, ◌≡◌, ◌⊎◌}
 use Rattle.std.specs.Result.{IfErr, OnOk}
 
 -- A RUN THAT HAS ONLY FALLEN
@@ -180,168 +178,138 @@ early-of : (e s : Stop) → IsOfDevices e → IsWrittenOf e s → IsEarly s
 early-of e s of (inl same) = inl (subst IsOfDevices (sym same) of)
 early-of e s of (inr w) = inr w.0
 
-module _ (old_refuses : OpenErr → Type 0) (old_finds : Kept → Type 0) (can_stop : Bool) (refuses : OpenErr → Type 0) (finds : Kept → Type 0) (stays : Type 0) (lies left : ℕ → Point → Type 0)
-    (fills : Written → ℕ → Type 0) (flies : Option Flight) (story : List Event) (e s : Stop) (of : IsOfDevices e) (how : IsWrittenOf e s)
-    (f : FailsToBegin old_refuses old_finds can_stop refuses finds stays lies left fills flies story e) where
-  of-reason : status_of e ≡ status_opening f.reason
-  of-reason = ap status_of f.is
+-- NOTHING WAS FOUND
 
-  is-of : IsStatusOf f.reason (status_of s)
-  is-of = by how
+pub of-reason : (e : OpenErr) → IsOfDevices (stop_opening e)
+of-reason (NotSalt dev) = tt
+of-reason (OtherShape kept asked) = tt
+of-reason (NumbersSpent boot decisions) = tt
+of-reason (Halted halt.Stopped) = tt
+of-reason (Halted halt.DiskFault) = tt
+of-reason (Halted (halt.DeviceFull dev)) = tt
+of-reason (Halted halt.Memory) = tt
+
+module _ (reason : OpenErr) (story : List Event) (unfound : IsUnfound story) (empty : (story ≡ []) ⊎ IsLater reason) (s : Stop) (how : IsWrittenOf (stop_opening reason) s) (start : Start) where
+  abbrev fallen : Trace
+  fallen = fallen_often start unfound.0
+
+  fallen-down : is_serving (phase fallen) ≡ false
+  fallen-down = ap is_serving (often-down start unfound.0)
+
+  pub unfound-leaves : MayLeave (leave_of (status_of s)) fallen
+  unfound-leaves = by how
     where
-      by : IsWrittenOf e s → IsStatusOf f.reason (status_of s)
-      by (inl same) = inl (ap status_of same ∙ of-reason)
-      by (inr w) = inr (ap status_of w.0, λ m. w.1 (f.is ∙ ap stop_opening m))
+      by : IsWrittenOf (stop_opening reason) s → MayLeave (leave_of (status_of s)) fallen
+      by (inl same) = subst (λ (x : Stop). MayLeave (leave_of (status_of x)) fallen) (sym same) (leaves-unfound reason story empty fallen (unfound.1 start) fallen-down)
+      by (inr w) = subst (λ (x : Stop). MayLeave (leave_of (status_of x)) fallen) (sym w.0) (inr (at-devices fallen fallen-down))
 
-  module _ (u : FailsToFind old_refuses old_finds refuses finds fills flies stays f.reason story) where
-    pub unfound-full : (dev : ℕ) → status_of s ≡ DeviceFull dev → fills OfOpening dev
-    unfound-full dev is = by how
-      where
-        no-device : WriteFault ≡ DeviceFull dev → ⊥
-        no-device x = cc
+  pub unfound-flies : IsFlightAt (status_of s) fallen None
+  unfound-flies = by how
+    where
+      none : flight fallen ≡ None
+      none = often-unflown start unfound.0
 
-        by : IsWrittenOf e s → fills OfOpening dev
-        by (inl same) = u.full dev (full-reason f.reason dev (sym (ap status_of same ∙ of-reason) ∙ is))
-        by (inr w) = absurd (no-device (sym (ap status_of w.0) ∙ is))
+      by : IsWrittenOf (stop_opening reason) s → IsFlightAt (status_of s) fallen None
+      by (inl same) = subst (λ (x : Stop). IsFlightAt (status_of x) fallen None) (sym same) (flies-unfound reason fallen None refl none)
+      by (inr w) = subst (λ (x : Stop). IsFlightAt (status_of x) fallen None) (sym w.0) (sym (ap flight_told none))
 
-    module _ (start : Start) where
-      abbrev fallen : Trace
-      fallen = fallen_often start u.unfound.0
+  -- whatever the tables are, the text is the same
+  unfound-text : (schema : List TableDef) → story_text schema story ≡ text_under fallen story
+  unfound-text schema =
+      subst (λ (es : List Event). story_text schema es ≡ story_text (schema_of (kept fallen)) es) (unfound.1 start) (often-text start unfound.0 schema (schema_of (kept fallen)))
 
-      fallen-down : is_serving (phase fallen) ≡ false
-      fallen-down = ap is_serving (often-down start u.unfound.0)
+  unfound-run : (schema : List TableDef) (script rest before held : Option (List ℕ)) → GainsAtEnd s before (story_text schema story) held →
+      IsRun start (status_of s) None script rest before story held
+  unfound-run schema script rest before held gained =
+      (early-run s (early-of (stop_opening reason) s (of-reason reason) how) None start fallen story script rest before held (often-tells start story unfound) (often-asked start unfound.0)
+      unfound-leaves unfound-flies (gains-under s before held _ _ (λ some. unfound-text schema) gained)).0
 
-      pub unfound-leaves : MayLeave (leave_of (status_of s)) fallen
-      unfound-leaves = by how
-        where
-          by : IsWrittenOf e s → MayLeave (leave_of (status_of s)) fallen
-          by (inl same) =
-              subst (λ (x : Status). MayLeave (leave_of x) fallen) (sym (ap status_of same ∙ of-reason)) (leaves-unfound f.reason story u.empty fallen (u.unfound.1 start) fallen-down)
-          by (inr w) = subst (λ (x : Stop). MayLeave (leave_of (status_of x)) fallen) (sym w.0) (inr (at-devices fallen fallen-down))
+module _ (reason : OpenErr) (story : List Event) (unfound : IsUnfound story) (empty : (story ≡ []) ⊎ IsLater reason) (e : Stop) (is : e ≡ stop_opening reason) (schema : List TableDef)
+    (before held : Option (List ℕ)) where
+  of-writing : (s : Stop) → (◌≡◌ {A = Result (Unit {0}) Stop} (Err e) (Err s)) ⊎ ((s ≡ stop.WriteFault) × (◌≡◌ {A = Result (Unit {0}) Stop} (Err e) (Err stop.Memory) → ⊥)) → IsWrittenOf (stop_opening reason) s
+  of-writing s (inl same) = inl (sym (same-stop e s same) ∙ is)
+    where
+      same-stop : (a b : Stop) → ◌≡◌ {A = Result (Unit {0}) Stop} (Err a) (Err b) → a ≡ b
+      same-stop a b h = cc
+  of-writing s (inr w) = inr (w.0, λ m. w.1 (ap Err (is ∙ m)))
 
-      pub unfound-flies : IsFlightAt (status_of s) fallen flies
-      unfound-flies = by how
-        where
-          none : flight fallen ≡ None
-          none = often-unflown start u.unfound.0
+  pub unfound-told : (r : Result (Unit {0}) Stop) → EndsWriting (Err e) (story_text schema story) before held r → (start : Start) (script rest : Option (List ℕ)) →
+      IsRun start (outcome r) None script rest before story held
+  unfound-told (Ok x) w start script rest = absurd (never x w.0)
+    where
+      never : (x : Unit {0}) → ◌≡◌ {A = Result (Unit {0}) Stop} (Err e) (Ok x) → ⊥
+      never x h = cc
+  unfound-told (Err s) w start script rest = unfound-run reason story unfound empty s (of-writing s w.0) start schema script rest before held w.1
 
-          by : IsWrittenOf e s → IsFlightAt (status_of s) fallen flies
-          by (inl same) = subst (λ (x : Status). IsFlightAt x fallen flies) (sym (ap status_of same ∙ of-reason)) (flies-unfound f.reason fallen flies u.flies none)
-          by (inr w) = subst (λ (x : Stop). IsFlightAt (status_of x) fallen flies) (sym w.0) (u.flies ∙ sym (ap flight_told none))
+  pub unfound-status : (r : Result (Unit {0}) Stop) → EndsWriting (Err e) (story_text schema story) before held r → IsStatusOf reason (outcome r)
+  unfound-status (Ok x) w = absurd (never x w.0)
+    where
+      never : (x : Unit {0}) → ◌≡◌ {A = Result (Unit {0}) Stop} (Err e) (Ok x) → ⊥
+      never x h = cc
+  unfound-status (Err s) w = by (of-writing s w.0)
+    where
+      by : IsWrittenOf (stop_opening reason) s → IsStatusOf reason (status_of s)
+      by (inl same) = inl (ap status_of same)
+      by (inr h) = inr (ap status_of h.0, λ m. h.1 (ap stop_opening m))
 
-      -- whatever the tables are, the text is the same
-      pub unfound-text : (schema : List TableDef) → story_text schema story ≡ text_under fallen story
-      unfound-text schema =
-          subst (λ (es : List Event). story_text schema es ≡ story_text (schema_of (kept fallen)) es) (u.unfound.1 start) (often-text start u.unfound.0 schema (schema_of (kept fallen)))
+-- OVER WHAT WAS FOUND
 
-    pub unfound-ended : (Run : Start → Type 0) → ((start : Start) → Run start) → EndsUnfound old_refuses old_finds refuses finds stays fills (status_of s) story Run
-    unfound-ended Run run = record { reason = f.reason; is = is-of; refused = u.refused; unfound = u.unfound; less = u.less; stays_new = u.stays_new; full = unfound-full; run = run }
-
-  -- it broke off in its first opening
-  module _ (b : BreaksFirst old_finds can_stop lies left fills flies f.reason story) where
-    first-leaves : LeavesAt lies left fills flies (status_of e) b.start b.breaks.after story
-    first-leaves =
-        subst (λ (x : Status). LeavesAt lies left fills flies x b.start b.breaks.after story) (sym of-reason) (leaves-opening lies left fills flies f.reason b.start (from b.start) [] story b.breaks)
-
-    pub broken-leaves : LeavesAt lies left fills flies (status_of s) b.start b.breaks.after story
-    broken-leaves = by how
-      where
-        by : IsWrittenOf e s → LeavesAt lies left fills flies (status_of s) b.start b.breaks.after story
-        by (inl same) = subst (λ (x : Stop). LeavesAt lies left fills flies (status_of x) b.start b.breaks.after story) (sym same) first-leaves
-        by (inr w) =
-            subst (λ (x : Stop). LeavesAt lies left fills flies (status_of x) b.start b.breaks.after story) (sym w.0)
-            (leaves-unwritten lies left fills flies b.start b.breaks.after story e (subst IsLaterStop (sym f.is) (later-stop f.reason b.breaks.later)) w.1 first-leaves)
-
-    pub broken-some : (s ≡ stop.Memory → ⊥) → status_of e ≡ Memory → ⊥
-    broken-some some m = by how
-      where
-        by : IsWrittenOf e s → ⊥
-        by (inl same) = some (same ∙ memory-status e m)
-        by (inr w) = w.1 (memory-status e m)
-
-    pub first-told : LeavesAt lies left fills flies (status_of e) b.start b.breaks.after story
-    first-told = first-leaves
-
-module _ {E : Type 0} (old_refuses : OpenErr → Type 0) (old_finds : Kept → Type 0) (can_stop : Bool) (refuses : OpenErr → Type 0) (finds : Kept → Type 0) (stays : Type 0)
-    (sees : E → Option Event → State → Type 0) (lies left : ℕ → Point → Type 0) (fills : Written → ℕ → Type 0) (flies : Option Flight) (new : E)
+module _ {E : Type 0} (sees : E → Option Event → State → Type 0) (lies left : ℕ → Point → Type 0) (fills : Written → ℕ → Type 0) (flies : Option Flight) (new : E)
     (idle : (p : Point) → IsSoundPoint p → IsIdleAt sees new p → lies 0 p) (flown : (p : Point) → IsSoundPoint p → IsIdleAt sees new p → flies ≡ None)
     (leaves : (room : ℕ) (p : Point) → lies room p → left room p)
     (schema : List TableDef) (serving : (p : Point) → IsSoundPoint p → sees new None p.state → schema ≡ schema_of p.state.units.kept)
     (lying : (room : ℕ) (p : Point) → IsSoundPoint p → lies room p → schema ≡ schema_of p.state.units.kept)
-    (story : List Event) (before held : Option (List ℕ)) where
+    (story told : List Event) (before held : Option (List ℕ)) (start : Start) (trace : Trace) (unasked : trace_words.lines_of trace ≡ []) where
   abbrev Ends : Stop → Type 0
-  Ends s = (script rest : Option (List ℕ)) → IsEnded old_refuses old_finds can_stop refuses finds stays lies left fills flies (status_of s) script rest before story held
+  Ends s = (script rest : Option (List ℕ)) → EndsServing lies left fills flies start (status_of s) script rest before told held
 
-  pub begun-ok : (d r : Result (Unit {0}) Stop) → OnOk d (Begins old_finds can_stop sees new story) → EndsWriting d (story_text schema story) before held r →
-      OnOk r (IsBegun old_finds can_stop sees new story before held)
+  pub begun-ok : (d r : Result (Unit {0}) Stop) → OnOk d (Reopens sees start trace story new told) → EndsWriting d (story_text schema told) before held r →
+      OnOk r (IsBegun sees start new told before held)
   begun-ok d (Err s) b w = tt
   begun-ok d (Ok x) b w =
-      let begins = subst (λ (y : Result (Unit {0}) Stop). OnOk y (Begins old_finds can_stop sees new story)) w.0 b in
-      let after = begins.reopens.after in
+      let opened = subst (λ (y : Result (Unit {0}) Stop). OnOk y (Reopens sees start trace story new told)) w.0 b in
       record {
-        start = begins.start;
-        is = begins.is;
-        trace = after;
-        lines = begins.reopens.lines;
-        serves = begins.reopens.serves;
-        written = subst (λ (ts : List TableDef). Gains before (story_text ts story) held) (tables-serving sees lies left fills flies new schema serving lying begins.start after story begins.reopens.serves) w.1;
+        trace = opened.after;
+        lines = opened.lines ∙ unasked;
+        serves = opened.serves;
+        written = subst (λ (ts : List TableDef). Gains before (story_text ts told) held) (tables-serving sees lies left fills flies new schema serving lying start opened.after told opened.serves) w.1;
       }
 
-  begins-unwritten : Begins old_finds can_stop sees new story → GainsShort before (story_text schema story) held → Ends stop.WriteFault
-  begins-unwritten b short script rest =
-      let after = b.reopens.after in
-      inr (record {
-        start = b.start;
-        is = b.is;
-        ends = early-ends lies left fills flies stop.WriteFault (inr refl) b.start after story script rest before held
-            (unwritten-leaves sees lies left fills flies new idle flown leaves b.start after story b.reopens.serves) b.reopens.lines
-            (subst (λ (ts : List TableDef). GainsShort before (story_text ts story) held) (tables-serving sees lies left fills flies new schema serving lying b.start after story b.reopens.serves) short);
-      })
+  opened-unwritten : Reopens sees start trace story new told → GainsShort before (story_text schema told) held → Ends stop.WriteFault
+  opened-unwritten b short script rest =
+      early-ends lies left fills flies stop.WriteFault (inr refl) start b.after told script rest before held
+      (unwritten-leaves sees lies left fills flies new idle flown leaves start b.after told b.serves) (b.lines ∙ unasked)
+      (subst (λ (ts : List TableDef). GainsShort before (story_text ts told) held) (tables-serving sees lies left fills flies new schema serving lying start b.after told b.serves) short)
 
-  fails-ended : (e s : Stop) → IsOfDevices e → IsWrittenOf e s → FailsToBegin old_refuses old_finds can_stop refuses finds stays lies left fills flies story e →
-      GainsAtEnd s before (story_text schema story) held → Ends s
-  fails-ended e s of how f gained script rest = by f.fails
-    where
-      early : IsEarly s
-      early = early-of e s of how
+  module _ (e : Stop) (later : IsLaterStop e) (x : EndsOpening lies left fills flies e start trace told) where
+    tables : (e ≡ stop.Memory → ⊥) → (told-text : List Event) → story_text schema told-text ≡ text_under x.after told-text
+    tables some es = ap (λ ts. story_text ts es) (tables-lying sees lies left fills flies new schema serving lying start x.after told (status_of e) x.ends (λ m. some (memory-status e m)))
 
-      run : (u : FailsToFind old_refuses old_finds refuses finds fills flies stays f.reason story) (start : Start) → IsRun start (status_of s) flies script rest before story held
-      run u start =
-          (early-run s early flies start (fallen_often start u.unfound.0) story script rest before held (often-tells start story u.unfound) (often-asked start u.unfound.0)
-          (unfound-leaves old_refuses old_finds can_stop refuses finds stays lies left fills flies story e s of how f u start)
-          (unfound-flies old_refuses old_finds can_stop refuses finds stays lies left fills flies story e s of how f u start)
-          (gains-under s before held _ _ (λ some. unfound-text old_refuses old_finds can_stop refuses finds stays lies left fills flies story e s of how f u start schema) gained)).0
+    pub broken-ends : GainsAtEnd e before (story_text schema told) held → Ends e
+    broken-ends gained script rest =
+        early-ends lies left fills flies e (inl (of-later e later)) start x.after told script rest before held x.ends (x.lines ∙ unasked)
+        (gains-under e before held _ _ (λ some. tables some told) gained)
 
-      by : FailsToFind old_refuses old_finds refuses finds fills flies stays f.reason story ⊎ BreaksFirst old_finds can_stop lies left fills flies f.reason story →
-          IsEnded old_refuses old_finds can_stop refuses finds stays lies left fills flies (status_of s) script rest before story held
-      by (inl u) = inl (unfound-ended old_refuses old_finds can_stop refuses finds stays lies left fills flies story e s of how f u (λ start. IsRun start (status_of s) flies script rest before story held) (run u))
-      by (inr b) = inr (record {
-        start = b.start;
-        is = b.is;
-        ends = early-ends lies left fills flies s early b.start b.breaks.after story script rest before held
-            (broken-leaves old_refuses old_finds can_stop refuses finds stays lies left fills flies story e s of how f b) b.breaks.lines
-            (gains-under s before held _ _ (λ some. ap (λ ts. story_text ts story)
-            (tables-lying sees lies left fills flies new schema serving lying b.start b.breaks.after story (status_of e)
-            (first-told old_refuses old_finds can_stop refuses finds stays lies left fills flies story e s of how f b)
-            (broken-some old_refuses old_finds can_stop refuses finds stays lies left fills flies story e s of how f b some))) gained);
-      })
+    pub broken-unwritten : (e ≡ stop.Memory → ⊥) → GainsShort before (story_text schema told) held → Ends stop.WriteFault
+    broken-unwritten some short script rest =
+        early-ends lies left fills flies stop.WriteFault (inr refl) start x.after told script rest before held (leaves-unwritten lies left fills flies start x.after told e later some x.ends) (x.lines ∙ unasked)
+        (subst (λ t. GainsShort before t held) (tables some told) short)
 
-  pub begun-err : (d r : Result (Unit {0}) Stop) → OnOk d (Begins old_finds can_stop sees new story) → IfErr d (FailsToBegin old_refuses old_finds can_stop refuses finds stays lies left fills flies story) →
-      IfErr d IsOfDevices → EndsWriting d (story_text schema story) before held r → IfErr r Ends
+  pub begun-err : (d r : Result (Unit {0}) Stop) → OnOk d (Reopens sees start trace story new told) → IfErr d (λ e. EndsOpening lies left fills flies e start trace told) → IfErr d IsLaterStop →
+      EndsWriting d (story_text schema told) before held r → IfErr r Ends
   begun-err d (Ok x) b f of w = tt
   begun-err d (Err s) b f of w = by w.0
     where
-      short : (y : Result (Unit {0}) Stop) → (y ≡ Err stop.Memory → ⊥) → OnOk y (Begins old_finds can_stop sees new story) →
-          IfErr y (FailsToBegin old_refuses old_finds can_stop refuses finds stays lies left fills flies story) → IfErr y IsOfDevices → s ≡ stop.WriteFault →
-          GainsShort before (story_text schema story) held → Ends stop.WriteFault
-      short (Ok x) some c g o is h = begins-unwritten c h
-      short (Err e) some c g o is h = fails-ended e stop.WriteFault o (inr (refl, λ m. some (ap Err m))) g h
+      short : (y : Result (Unit {0}) Stop) → (y ≡ Err stop.Memory → ⊥) → OnOk y (Reopens sees start trace story new told) → IfErr y (λ e. EndsOpening lies left fills flies e start trace told) →
+          IfErr y IsLaterStop → GainsShort before (story_text schema told) held → Ends stop.WriteFault
+      short (Ok x) some c g o h = opened-unwritten c h
+      short (Err e) some c g o h = broken-unwritten e o g (λ m. some (ap Err m)) h
 
       by : (d ≡ Err s) ⊎ ((s ≡ stop.WriteFault) × (d ≡ Err stop.Memory → ⊥)) → Ends s
       by (inl is) =
-          fails-ended s s (subst (λ (y : Result (Unit {0}) Stop). IfErr y IsOfDevices) is of) (inl refl)
-          (subst (λ (y : Result (Unit {0}) Stop). IfErr y (FailsToBegin old_refuses old_finds can_stop refuses finds stays lies left fills flies story)) is f) w.1
-      by (inr u) = subst Ends (sym u.0) (short d u.1 b f of u.0 (subst (λ (x : Stop). GainsAtEnd x before (story_text schema story) held) u.0 w.1))
+          broken-ends s (subst (λ (y : Result (Unit {0}) Stop). IfErr y IsLaterStop) is of)
+          (subst (λ (y : Result (Unit {0}) Stop). IfErr y (λ e. EndsOpening lies left fills flies e start trace told)) is f) w.1
+      by (inr u) = subst Ends (sym u.0) (short d u.1 b f of (subst (λ (x : Stop). GainsAtEnd x before (story_text schema told) held) u.0 w.1))
 
 pub never-read : (d r : Result (Unit {0}) Stop) (before held : Option (List ℕ)) (text : List ℕ) → IfErr d IsOfDevices → EndsWriting d text before held r → r ≡ Err stop.ReadFault → ⊥
 never-read d (Ok x) before held text of w is = cc
@@ -367,10 +335,10 @@ no-lines (Some script) = record { given = []; whole = refl; counted = refl; line
 unended : false ≡ true → ⊥
 unended e = cc
 
-pub serving-begun : {E : Type 0} (finds : Kept → Type 0) (can_stop : Bool) (sees : E → Option Event → State → Type 0) (e : E) (reading : Reading) (left before held : Option (List ℕ)) (story : List Event) →
-    (b : IsBegun finds can_stop sees e story before held) → reading ≡ unread → IsServing sees b.start left before e reading left story held
-serving-begun finds can_stop sees e reading left before held story b is =
-    subst (λ (r : Reading). IsServing sees b.start left before e r left story held) (sym is) (record {
+pub serving-begun : {E : Type 0} (sees : E → Option Event → State → Type 0) (start : Start) (e : E) (reading : Reading) (left before held : Option (List ℕ)) (story : List Event) →
+    IsBegun sees start e story before held → reading ≡ unread → IsServing sees start left before e reading left story held
+serving-begun sees start e reading left before held story b is =
+    subst (λ (r : Reading). IsServing sees start left before e r left story held) (sym is) (record {
       trace = b.trace;
       texts = [];
       serves = b.serves;

@@ -139,15 +139,31 @@ no-stop (OtherShape kept asked) = refl
 no-stop ScriptTooLong = refl
 no-stop (NumbersSpent boot decisions) = refl
 
-pub run-opened : (a b : View) (status : Status) (told : List Event) → CountsOpening a b (answer_of status) [] told → CountsRun a b status told
-run-opened a b status told h =
+pub added-opened : (a b : View) (status : Status) (story told : List Event) → CountsOpening a b (answer_of status) story told → CountsAdded a b status story told
+added-opened a b status story told h =
     let none = no-stop status in
     let unarmed = h.unarmed in
-    subst (CountsRun a b status) (sym h.grows) (record {
-      faults = faults-end status a.faults a.faults b.faults h.more (faults-plain a.faults a.faults h.more h.unfaulted (omega arith)) h.counts.later h.counts.failed;
-      stops = λ some. let x = h.counts.stops (λ m. some (memory-short status m)) in omega arith;
-      most = let x = h.most in omega arith;
-    })
+    record {
+      more = h.more;
+      grows = h.grows;
+      counts = record {
+        faults = faults-end status a.faults a.faults b.faults h.more (faults-plain a.faults a.faults h.more h.unfaulted (omega arith)) h.counts.later h.counts.failed;
+        stops = λ some. let x = h.counts.stops (λ m. some (memory-short status m)) in omega arith;
+        most = let x = h.most in omega arith;
+      };
+    }
+
+-- of a story that was empty
+pub run-opened : (a b : View) (status : Status) (told : List Event) → CountsOpening a b (answer_of status) [] told → CountsRun a b status told
+run-opened a b status told h = let all = added-opened a b status [] told h in subst (CountsRun a b status) (sym all.grows) all.counts
+
+-- one behind the other
+pub added-both : (a b c : View) (status : Status) (story mid now : List Event) → CountsAdded a b Done story mid → CountsAdded b c status mid now → CountsAdded a c status story now
+added-both a b c status story mid now g h = record {
+  more = g.more ++ h.more;
+  grows = h.grows ∙ ap (λ es. es ++ h.more) g.grows ∙ append_assoc story g.more h.more;
+  counts = run-behind a b c status g.more h.more g.counts h.counts;
+}
 
 -- LINES
 

@@ -15,7 +15,7 @@ use Rattle.salt_model.specs.Trace.{Start, Trace, from, ◌asks◌, ◌says◌, �
 use Rattle.salt_model.specs.declared.events.Event.TheVariants.{Down, Opened}
 use Rattle.salt_model.specs.declared.events.Event.{Event}
 use Rattle.salt_model.specs.declared.events.Flight.{Flight}
-use Rattle.salt_serving.specs.Ending.{EndsFound, LeavesAt, MayEndAt}
+use Rattle.salt_serving.specs.Ending.{EndsFound, EndsOpening, LeavesAt, MayEndAt}
 use Rattle.salt_serving.specs.Run.{IsFlightAt, leave_of}
 use Rattle.salt_serving.specs.Serving.{EndsBehind}
 use Rattle.salt_serving.specs.Stopping.{IsLaterStop, answer_of, status_of, status_opening, stop_opening}
@@ -30,7 +30,7 @@ use Rattle.salt_steps.specs.Serving.{Halts, Serves}
 use Rattle.salt_steps.specs.Standing.{IsIdleAt, IsSoundPoint}
 use Rattle.salt_steps.specs.Writing.{IsWrittenAt}
 use Rattle.salt_storage.specs.Answers.{IsLater, open_disk_err_of}
-use Rattle.salt_storage.specs.Writing.{OfBoot, OfOpening, Written}
+use Rattle.salt_storage.specs.Writing.{OfBoot, Written}
 use Rattle.salt_storage.specs.declared.halt.Halt.TheVariants as halt
 use Rattle.salt_storage.specs.declared.halt.Halt.{Halt}
 use Rattle.salt_storage.specs.declared.open.OpenErr.TheVariants.{Halted, NotSalt, NumbersSpent, OtherShape}
@@ -118,17 +118,12 @@ module _ (lies left : ℕ → Point → Type 0) (fills : Written → ℕ → Typ
       may = may-fail n.room b.point e fell n.fails;
       again = λ some. n.again (λ m. some (ap status_opening m));
       stands = n.stays;
-      full = λ dev is. by dev (n.full dev (full-reason e dev is));
+      full = λ dev is. (OfBoot, inr (fell, refl), n.full dev (full-reason e dev is));
     };
   }
     where
       fell : b.point.state.units.phase ≡ Fallen
       fell = sym b.keeps.state.units.phase ∙ n.fallen
-
-      by : (dev : ℕ) → fills OfBoot dev ⊎ fills OfOpening dev →
-          (w : Written) × (IsWrittenAt b.point w ⊎ ((b.point.state.units.phase ≡ Fallen) × ((w ≡ OfBoot) ⊎ (w ≡ OfOpening)))) × fills w dev
-      by dev (inl boot) = (OfBoot, inr (fell, inl refl), boot)
-      by dev (inr first) = (OfOpening, inr (fell, inr refl), first)
 
   within : WithinOpening lies left fills flies e b.after b.point → LeavesAt lies left fills flies (status_opening e) start b.after told
   within w = record {
@@ -163,7 +158,7 @@ module _ (lies left : ℕ → Point → Type 0) (fills : Written → ℕ → Typ
       flown (inr f) = flies-later e b.later b.after flies (f ∙ ap flight_told (sym b.keeps.flight))
 
       by : (dev : ℕ) → (x : Written) × IsWrittenAt b.point x × fills x dev →
-          (x : Written) × (IsWrittenAt b.point x ⊎ ((b.point.state.units.phase ≡ Fallen) × ((x ≡ OfBoot) ⊎ (x ≡ OfOpening)))) × fills x dev
+          (x : Written) × (IsWrittenAt b.point x ⊎ ((b.point.state.units.phase ≡ Fallen) × (x ≡ OfBoot))) × fills x dev
       by dev x = (x.0, inl x.1, x.2)
 
   pub leaves-opening : LeavesAt lies left fills flies (status_opening e) start b.after told
@@ -172,6 +167,9 @@ module _ (lies left : ℕ → Point → Type 0) (fills : Written → ℕ → Typ
       by : NotBegun lies left fills flies e b.after b.point ⊎ WithinOpening lies left fills flies e b.after b.point → LeavesAt lies left fills flies (status_opening e) start b.after told
       by (inl n) = not-begun n
       by (inr w) = within w
+
+  pub ends-early : EndsOpening lies left fills flies (stop_opening e) start trace told
+  ends-early = record { after = b.after; lines = b.lines; ends = leaves-opening }
 
   pub ends-opening : (h : Halt) → (h ≡ halt.Memory → ⊥) → EndsBehind lies left fills flies h (stop_opening e) start trace story told
   ends-opening h some = record { after = b.after; lines = b.lines; short = λ m. absurd (some m); ends = leaves-opening; grows = b.grows }
@@ -233,7 +231,7 @@ module _ (lies left : ℕ → Point → Type 0) (fills : Written → ℕ → Typ
       flown (inr f) = f ∙ ap flight_told (sym h.keeps.flight)
 
       by : (d : ℕ) → (x : Written) × IsWrittenAt h.point x × fills x d →
-          (x : Written) × (IsWrittenAt h.point x ⊎ ((h.point.state.units.phase ≡ Fallen) × ((x ≡ OfBoot) ⊎ (x ≡ OfOpening)))) × fills x d
+          (x : Written) × (IsWrittenAt h.point x ⊎ ((h.point.state.units.phase ≡ Fallen) × (x ≡ OfBoot))) × fills x d
       by d x = (x.0, inl x.1, x.2)
 
   pub halts-short : Halts (lies 0) (left 0) fills flies halt.Memory start story trace → EndsBehind lies left fills flies halt.Memory stop.Memory start trace story story

@@ -11,4 +11,4 @@ pub mod Ends
 pub mod Beginning
 pub mod LoadSpelled
 pub mod Loads
-pub mod Refused
+pub mod Outcomes

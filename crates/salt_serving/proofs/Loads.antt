@@ -4,27 +4,28 @@ use Rattle.salt_ast.specs.declared.lines.Line.{Line}
 use Rattle.salt_keeps.specs.Points.{Point}
 use Rattle.salt_keeps.specs.States.{State}
 use Rattle.salt_load.specs.Workload.{account_def, balance, behind, behind_eighth, behind_fiftieth, call_lines, calls, closing, deposit, load_lines, opening, turn}
-use Rattle.salt_model.specs.Kept.{Kept}
 use Rattle.salt_model.specs.Printable.{IsSpelledProgram, IsSpelledTable}
 use Rattle.salt_model.specs.Trace.{Asked, Start, Trace, Tree, lines_of}
 use Rattle.salt_model.specs.Words.{Every}
 use Rattle.salt_model.specs.declared.events.Event.{Event}
 use Rattle.salt_model.specs.declared.events.Flight.{Flight}
-use Rattle.salt_serving.proofs.Beginning.{broken-leaves, often-asked, often-tells, unfound-ended, unfound-flies, unfound-leaves}
+use Rattle.salt_serving.proofs.Beginning.{of-reason, often-asked, often-tells, unfound-flies, unfound-leaves}
 use Rattle.salt_serving.proofs.Leaving.{done-leaves, short-leaves}
-use Rattle.salt_serving.specs.Ending.{FailsToBegin, LeavesAt}
-use Rattle.salt_serving.specs.Loading.{AreLoadLines, EndsLoading, IsLoaded, IsLoading, IsLoadingOver, IsPlayedLoad, asked_by_load}
+use Rattle.salt_serving.proofs.Texts.{of-later}
+use Rattle.salt_serving.specs.Ending.{EndsOpening, LeavesAt}
+use Rattle.salt_serving.specs.Loading.{AreLoadLines, EndsLoading, IsLoading, IsPlayedLoad, asked_by_load}
 use Rattle.salt_serving.specs.Run.{IsFrontOf}
 use Rattle.salt_serving.specs.Serving.{EndsBehind, IsAskable}
-use Rattle.salt_serving.specs.Stopping.{IsLaterStop, IsOfDevices, status_of}
+use Rattle.salt_serving.specs.Stopping.{IsLaterStop, IsOfDevices, status_of, stop_opening}
 use Rattle.salt_serving.specs.declared.status.Status.TheVariants as status
 use Rattle.salt_serving.specs.declared.status.Status.{Status}
 use Rattle.salt_serving.specs.declared.stop.Stop.TheVariants as stop
 use Rattle.salt_serving.specs.declared.stop.Stop.{Stop}
-use Rattle.salt_steps.specs.Opening.{FailsToFind, fallen_often}
-use Rattle.salt_steps.specs.Reopening.{Begins, BreaksFirst, Reopens}
+use Rattle.salt_steps.specs.Opening.{IsUnfound, fallen_often}
+use Rattle.salt_steps.specs.Reopening.{Reopens}
 use Rattle.salt_steps.specs.Serving.{Breaks, Goes}
 use Rattle.salt_steps.specs.Standing.{IsIdleAt, IsSoundPoint}
+use Rattle.salt_storage.specs.Answers.{IsLater}
 use Rattle.salt_storage.specs.Writing.{Written}
 use Rattle.salt_storage.specs.declared.halt.Halt.TheVariants.{Memory}
 use Rattle.salt_storage.specs.declared.halt.Halt.{Halt}
@@ -210,37 +211,27 @@ take-none : (xs : List Line) → take 0 xs ≡ []
 take-none [] = refl
 take-none (x ∷ xs) = refl
 
-pub loading-begun : {E : Type 0} (finds : Kept → Type 0) (can_stop : Bool) (sees : E → Option Event → State → Type 0) (n : ℕ) (e : E) (story : List Event) → Begins finds can_stop sees e story →
-    IsLoadingOver finds can_stop sees n 0 e story
-loading-begun finds can_stop sees n e story b = record {
-  start = b.start;
-  is = b.is;
-  loading = record { trace = b.reopens.after; serves = b.reopens.serves; lines = b.reopens.lines ∙ sym (ap (map Tree) (take-none (load_lines n))) };
-}
+pub loading-begun : {E : Type 0} (sees : E → Option Event → State → Type 0) (n : ℕ) (start : Start) (trace : Trace) (e : E) (story told : List Event) → lines_of trace ≡ [] →
+    Reopens sees start trace story e told → IsLoading sees start n 0 e told
+loading-begun sees n start trace e story told unasked b =
+    record { trace = b.after; serves = b.serves; lines = b.lines ∙ unasked ∙ sym (ap (map Tree) (take-none (load_lines n))) }
 
-module _ (old_refuses : OpenErr → Type 0) (old_finds : Kept → Type 0) (can_stop : Bool) (refuses : OpenErr → Type 0) (finds : Kept → Type 0) (stays : Type 0) (lies left : ℕ → Point → Type 0)
-    (fills : Written → ℕ → Type 0) (flies : Option Flight) (n : ℕ) (story : List Event) where
-  pub not-begun : (e : Stop) → IsOfDevices e → FailsToBegin old_refuses old_finds can_stop refuses finds stays lies left fills flies story e →
-      IsLoaded old_refuses old_finds can_stop refuses finds stays lies left fills flies (status_of e) n 0 story
-  not-begun e of f = by f.fails
-    where
-      run : (u : FailsToFind old_refuses old_finds refuses finds fills flies stays f.reason story) (start : Start) → IsPlayedLoad start (status_of e) flies n 0 story
-      run u start = record {
-        trace = fallen_often start u.unfound.0;
-        tells = often-tells start story u.unfound;
-        lines = early-load-lines e of n (lines_of (fallen_often start u.unfound.0)) (often-asked start u.unfound.0);
-        count = λ some. ap length (often-asked start u.unfound.0);
-        leaves = unfound-leaves old_refuses old_finds can_stop refuses finds stays lies left fills flies story e e of (inl refl) f u start;
-        flies = unfound-flies old_refuses old_finds can_stop refuses finds stays lies left fills flies story e e of (inl refl) f u start;
-      }
+pub not-begun : (lies left : ℕ → Point → Type 0) (fills : Written → ℕ → Type 0) (flies : Option Flight) (n : ℕ) (start : Start) (trace : Trace) (told : List Event) (e : Stop) → IsLaterStop e →
+    lines_of trace ≡ [] → EndsOpening lies left fills flies e start trace told → EndsLoading lies left fills flies start (status_of e) n 0 told
+not-begun lies left fills flies n start trace told e later unasked x =
+    let none = x.lines ∙ unasked in
+    loads-at lies left fills flies (status_of e) start x.after told n 0 x.ends (early-load-lines e (of-later e later) n (lines_of x.after) none) (λ some. ap length none)
 
-      by : FailsToFind old_refuses old_finds refuses finds fills flies stays f.reason story ⊎ BreaksFirst old_finds can_stop lies left fills flies f.reason story →
-          IsLoaded old_refuses old_finds can_stop refuses finds stays lies left fills flies (status_of e) n 0 story
-      by (inl u) = inl (unfound-ended old_refuses old_finds can_stop refuses finds stays lies left fills flies story e e of (inl refl) f u (λ start. IsPlayedLoad start (status_of e) flies n 0 story) (run u))
-      by (inr b) = inr (record {
-        start = b.start;
-        is = b.is;
-        ends = loads-at lies left fills flies (status_of e) b.start b.breaks.after story n 0
-            (broken-leaves old_refuses old_finds can_stop refuses finds stays lies left fills flies story e e of (inl refl) f b)
-            (early-load-lines e of n (lines_of b.breaks.after) b.breaks.lines) (λ some. ap length b.breaks.lines);
-      })
+-- nothing was found
+pub unfound-loaded : (reason : OpenErr) (n : ℕ) (story : List Event) → IsUnfound story → (story ≡ []) ⊎ IsLater reason → (start : Start) → IsPlayedLoad start (status_of (stop_opening reason)) None n 0 story
+unfound-loaded reason n story u empty start =
+    let e = stop_opening reason in
+    let asked = often-asked start u.0 in
+    record {
+      trace = fallen_often start u.0;
+      tells = often-tells start story u;
+      lines = early-load-lines e (of-reason reason) n (lines_of (fallen_often start u.0)) asked;
+      count = λ some. ap length asked;
+      leaves = unfound-leaves reason story u empty e (inl refl) start;
+      flies = unfound-flies reason story u empty e (inl refl) start;
+    }

@@ -118,13 +118,16 @@ of-line done (Err s) before held text later w = by w.0
     by (inl is) = also s (subst (λ d. IfErr d IsLaterStop) is later)
     by (inr w) = subst IsOfLine (sym w.0) tt
 
+pub of-later : (s : Stop) → IsLaterStop s → IsOfDevices s
+of-later Memory later = tt
+of-later DiskFault later = tt
+of-later (DeviceFull dev) later = tt
+of-later (NumbersSpent boot decisions) later = tt
+of-later s later = absurd later
+
 pub of-devices : (done : Result (Unit {0}) Stop) → IfErr done IsLaterStop → IfErr done IsOfDevices
 of-devices (Ok x) later = tt
-of-devices (Err Memory) later = tt
-of-devices (Err DiskFault) later = tt
-of-devices (Err (DeviceFull dev)) later = tt
-of-devices (Err (NumbersSpent boot decisions)) later = tt
-of-devices (Err s) later = absurd later
+of-devices (Err s) later = of-later s later
 
 -- the answer counts as what was done did, or as a sink that failed
 pub counts-written : (done r : Result (Unit {0}) Stop) (before held : Option (List ℕ)) (text : List ℕ) (P : Status → Type 0) → ((s : Status) → (s ≡ status.Memory → ⊥) → P s → P status.WriteFault) →

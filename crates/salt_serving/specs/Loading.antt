@@ -3,20 +3,17 @@ use Rattle.salt_keeps.specs.Points.{Point}
 use Rattle.salt_keeps.specs.States.{State}
 use Rattle.salt_load.specs.Workload.{load_lines}
 use Rattle.salt_model.specs.Ends.{MayLeave}
-use Rattle.salt_model.specs.Kept.{Kept}
 use Rattle.salt_model.specs.Played.{Tells}
 use Rattle.salt_model.specs.Trace.{Asked, Start, Trace, Tree, lines_of}
 use Rattle.salt_model.specs.declared.events.Event.{Event}
 use Rattle.salt_model.specs.declared.events.Flight.{Flight}
-use Rattle.salt_serving.specs.Ending.{EndsFound, EndsOver, EndsUnfound}
+use Rattle.salt_serving.specs.Ending.{EndsFound}
 use Rattle.salt_serving.specs.Run.{IsFlightAt, IsFrontOf, leave_of}
 use Rattle.salt_serving.specs.declared.status.Status.{Status}
 use Rattle.salt_serving.specs.declared.status.Status.TheVariants.{DeviceFull, DiskFault, Done, Memory, NotSalt, NumbersSpent, OtherShape, ReadFault, ScriptTooLong, Usage, WriteFault}
-use Rattle.salt_steps.specs.Opening.{IsStartOf}
 use Rattle.salt_steps.specs.Serving.{Serves}
 use Rattle.salt_storage.specs.Writing.{Written}
-use Rattle.salt_storage.specs.declared.open.OpenErr.{OpenErr}
-use Rattle.std.specs.Prelude.{Bool, List, Option, length, map, take, ℕ, [], ◌≡◌, ◌⊎◌}
+use Rattle.std.specs.Prelude.{List, Option, length, map, take, ℕ, [], ◌≡◌}
 
 -- what the lines of the workload with so many calls ask
 abbrev pub asked_by_load : ℕ → List Asked
@@ -57,16 +54,3 @@ pub record IsLoading {E : Type 0} (sees : E → Option Event → State → Type 
   pub trace : Trace
   pub serves : Serves sees start e story trace
   pub lines : lines_of trace ≡ map Tree (take done (load_lines calls))
-
--- it has begun over what was found
-pub record IsLoadingOver {E : Type 0} (finds : Kept → Type 0) (can_stop : Bool) (sees : E → Option Event → State → Type 0) (calls done : ℕ) (e : E) (story : List Event) : Type 0 where
-  pub start : Start
-  pub is : IsStartOf finds can_stop start
-  pub loading : IsLoading sees start calls done e story
-
--- the run of a workload has ended: over devices that refused and found this, and now refuse and find that
-abbrev pub IsLoaded : (old_refuses : OpenErr → Type 0) → (old_finds : Kept → Type 0) → (can_stop : Bool) → (refuses : OpenErr → Type 0) → (finds : Kept → Type 0) →
-    (new : Type 0) → (lies left : ℕ → Point → Type 0) → (Written → ℕ → Type 0) → Option Flight → Status → (calls done : ℕ) → List Event → Type 0
-IsLoaded old_refuses old_finds can_stop refuses finds new lies left fills flight status calls done story =
-    EndsUnfound old_refuses old_finds refuses finds new fills status story (λ start. IsPlayedLoad start status flight calls done story) ⊎
-    EndsOver old_finds can_stop (λ start. EndsLoading lies left fills flight start status calls done story)

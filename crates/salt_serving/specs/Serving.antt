@@ -7,7 +7,6 @@ use Rattle.salt_io.specs.declared.lines.Next.TheVariants.{TooLong}
 use Rattle.salt_io.specs.declared.lines.Next.{Next}
 use Rattle.salt_keeps.specs.Points.{Point}
 use Rattle.salt_keeps.specs.States.{State}
-use Rattle.salt_model.specs.Kept.{Kept}
 use Rattle.salt_model.specs.Lines.{AskInOrder, Asks}
 use Rattle.salt_model.specs.Trace as trace_words
 use Rattle.salt_model.specs.Trace.{Asked, Rejected, Start, Trace}
@@ -22,8 +21,7 @@ use Rattle.salt_serving.specs.declared.status.Status.TheVariants as status
 use Rattle.salt_serving.specs.declared.stop.Stop.TheVariants.{Memory, WriteFault}
 use Rattle.salt_serving.specs.declared.stop.Stop.{Stop}
 use Rattle.salt_sound.specs.Spelled.{IsSpelledLine}
-use Rattle.salt_steps.specs.Opening.{IsStartOf}
-use Rattle.salt_steps.specs.Serving.{Grows, Halts, Serves}
+use Rattle.salt_steps.specs.Serving.{Grows, Halts, IsDown, Serves}
 use Rattle.salt_storage.specs.Writing.{Written}
 use Rattle.salt_storage.specs.declared.halt.Halt.TheVariants as halting
 use Rattle.salt_storage.specs.declared.halt.Halt.{Halt}
@@ -139,11 +137,13 @@ pub record EndsTelling (lies left : ℕ → Point → Type 0) (fills : Written �
   pub ends : EndsIn lies left fills flight stop start trace text story told
   pub written : GainsAtEnd stop before (added_text ends.after story told) held
 
--- a run has begun, over what was found, and its opening is told
-pub record IsBegun {E : Type 0} (finds : Kept → Type 0) (can_stop : Bool) (sees : E → Option Event → State → Type 0) (e : E) (story : List Event)
-    (before held : Option (List ℕ)) : Type 0 where
-  pub start : Start
-  pub is : IsStartOf finds can_stop start
+-- a run is down, and was asked nothing yet
+pub record IsToBegin (lies : ℕ → Point → Type 0) (flight : Option Flight) (start : Start) (story : List Event) (trace : Trace) : Type 0 where
+  pub down : IsDown lies flight start story trace
+  pub unasked : trace_words.lines_of trace ≡ []
+
+-- it has begun, and its opening is told
+pub record IsBegun {E : Type 0} (sees : E → Option Event → State → Type 0) (start : Start) (e : E) (story : List Event) (before held : Option (List ℕ)) : Type 0 where
   pub trace : Trace
   pub lines : trace_words.lines_of trace ≡ []
   pub serves : Serves sees start e story trace

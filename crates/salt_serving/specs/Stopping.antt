@@ -85,9 +85,3 @@ answer_of status.DiskFault = Some disk.Failed
 answer_of (status.DeviceFull dev) = Some (disk.Full dev)
 answer_of status.Memory = Some disk.Memory
 answer_of s = None
-
--- of a run that was not begun: what is on the devices was refused
-abbrev pub IfNotBegun : Status → Type 0 → Type 0
-IfNotBegun (status.NotSalt dev) P = P
-IfNotBegun (status.OtherShape kept asked) P = P
-IfNotBegun s P = ⊤

@@ -11,5 +11,6 @@ mod telling;
 
 pub use loading::{Loaded, load};
 pub use serving::serve;
+pub use starting::tell_unfound;
 pub use status::Status;
-pub use stop::{Stop, status_of};
+pub use stop::{Stop, status_of, stop_opening};

@@ -1,16 +1,16 @@
 //! The run of a workload: its opening, and its lines.
 
 ghost use Rattle.salt_ast.specs.declared.lines.Line.{Line};
-ghost use Rattle.salt_disk.specs.Disks.{AreUnchanged, SameShape};
+ghost use Rattle.salt_disk.specs.Disks.{SameShape};
 ghost use Rattle.salt_load.specs.Workload.{load_lines};
 ghost use Rattle.salt_load.specs.declared.limits.TheConstants.{CALLS_MOST};
-ghost use Rattle.salt_model.specs.Trace.{Start};
-ghost use Rattle.salt_serving.specs.Counted.{CountsAdded, CountsRun};
-ghost use Rattle.salt_serving.specs.Loading.{EndsLoading, IsLoaded, IsLoading};
-ghost use Rattle.salt_serving.specs.Serving.{IsAskable};
-ghost use Rattle.salt_serving.specs.Stopping.{IfNotBegun, IsLaterStop, IsOfDevices, outcome, status_of};
+ghost use Rattle.salt_model.specs.Trace.{Start, Trace};
+ghost use Rattle.salt_serving.specs.Counted.{CountsAdded};
+ghost use Rattle.salt_serving.specs.Loading.{EndsLoading, IsLoading};
+ghost use Rattle.salt_serving.specs.Serving.{IsAskable, IsToBegin};
+ghost use Rattle.salt_serving.specs.Stopping.{IsLaterStop, outcome, status_of};
 ghost use Rattle.salt_values.specs.Placement.{GivesPlaceOf, TakesEachKey};
-ghost use Rattle.std.specs.Prelude.{IfErr, IsTrue, None, OnOk, Some, length, slice_get, [], ◌+◌, ◌<◌, ◌≡◌, ◌≤◌};
+ghost use Rattle.std.specs.Prelude.{IfErr, OnOk, Some, length, slice_get, ◌+◌, ◌<◌, ◌≡◌, ◌≤◌};
 
 use crate::lines::resume;
 use crate::starting::start;
@@ -99,7 +99,7 @@ fn serve_load_line<E: Stepping, D: Disks, F: Fn(PlaceKind, &Key, u32) -> u32>(
     }
 }
 
-/// Begins a run over what the devices stand for, and does the lines of the workload with so many calls.
+/// Opens a run that is down, and does the lines of the workload with so many calls.
 pub fn load<E: Stepping, D: Disks, F: Fn(PlaceKind, &Key, u32) -> u32>(
     alloc: Global,
     engine: &mut E,
@@ -113,19 +113,15 @@ pub fn load<E: Stepping, D: Disks, F: Fn(PlaceKind, &Key, u32) -> u32>(
     requires least { 1 ≤ calls }
     requires most { calls ≤ CALLS_MOST }
     requires serves { (line : Line) → IsAskable line → E.serves line }
-    requires new { E.is_new (D.view disks.old) engine.old }
     requires settled { E.settled (D.view disks.old) engine.old }
-    requires flies { E.flight engine.old ≡ None }
-    requires untold { story.old ≡ [] }
-    ensures ended { IsLoaded (E.refuses (D.view disks.old) engine.old) (E.finds (D.view disks.old) engine.old) (D.view disks.old).can_stop
-        (E.refuses (D.view disks.new) engine.new) (E.finds (D.view disks.new) engine.new)
-        (E.is_new (D.view disks.new) engine.new) (E.lies (D.view disks.new) engine.new) (E.left (D.view disks.new) engine.new)
-        (E.fills (D.view disks.new) engine.new) (E.flight engine.new) (outcome result.done) calls result.lines story.new }
-    ensures of_devices { IfErr result.done IsOfDevices }
-    ensures unchanged { IfNotBegun (outcome result.done) (IsTrue (D.view disks.old).told → AreUnchanged (D.view disks.old) (D.view disks.new)) }
+    requires begins { (start : Start) × (trace : Trace) × IsToBegin (E.lies (D.view disks.old) engine.old) (E.flight engine.old) start story.old trace }
+    ensures ended { (start : Start) (trace : Trace) → IsToBegin (E.lies (D.view disks.old) engine.old) (E.flight engine.old) start story.old trace →
+        EndsLoading (E.lies (D.view disks.new) engine.new) (E.left (D.view disks.new) engine.new) (E.fills (D.view disks.new) engine.new) (E.flight engine.new) start
+        (outcome result.done) calls result.lines story.new }
+    ensures later { IfErr result.done IsLaterStop }
     ensures asked { E.asked engine.new ≡ E.asked engine.old }
     ensures shape { SameShape (D.view disks.old) (D.view disks.new) }
-    ensures counts { CountsRun (D.view disks.old) (D.view disks.new) (outcome result.done) story.new }
+    ensures counts { CountsAdded (D.view disks.old) (D.view disks.new) (outcome result.done) story.old story.new }
 {
     if let Err(stop) = start(engine, disks, place, story) {
         return Loaded {

@@ -1,17 +1,17 @@
 //! The run of a script: its opening, and its lines.
 
 ghost use Rattle.salt_ast.specs.declared.lines.Line.{Line};
-ghost use Rattle.salt_disk.specs.Disks.{AreUnchanged, SameShape};
+ghost use Rattle.salt_disk.specs.Disks.{SameShape};
 ghost use Rattle.salt_io.specs.Streams.{IsAtEnd, Rose};
-ghost use Rattle.salt_model.specs.Trace.{Start};
-ghost use Rattle.salt_serving.specs.Counted.{CountsAdded, CountsRun};
-ghost use Rattle.salt_serving.specs.Ending.{EndsServing, IsEnded};
-ghost use Rattle.salt_serving.specs.Serving.{IsAfterLine, IsAskable, IsBegun, IsServing, text_of};
-ghost use Rattle.salt_serving.specs.Stopping.{IfNotBegun, outcome, status_of};
+ghost use Rattle.salt_model.specs.Trace.{Start, Trace};
+ghost use Rattle.salt_serving.specs.Counted.{CountsAdded};
+ghost use Rattle.salt_serving.specs.Ending.{EndsServing};
+ghost use Rattle.salt_serving.specs.Serving.{IsAfterLine, IsAskable, IsBegun, IsServing, IsToBegin, text_of};
+ghost use Rattle.salt_serving.specs.Stopping.{outcome, status_of};
 ghost use Rattle.salt_values.specs.Placement.{GivesPlaceOf, TakesEachKey};
 ghost use Rattle.salt_values.specs.declared.limits.TheConstants.{SCRIPT_MOST};
 ghost use Rattle.std.specs.Option.{option_copied};
-ghost use Rattle.std.specs.Prelude.{Err, IfErr, IfOk, IsTrue, List, None, Ok, OnOk, Option, true, ℕ, [], ◌<◌, ◌≡◌, ◌≢◌, ◌≤◌};
+ghost use Rattle.std.specs.Prelude.{Err, IfErr, IfOk, List, Ok, OnOk, Option, true, ℕ, ◌<◌, ◌≡◌, ◌≢◌, ◌≤◌};
 
 use crate::lines::tell_line;
 use crate::starting::start;
@@ -90,7 +90,7 @@ impl Serving {
     }
 }
 
-/// Begins the run, and writes what is told of that.
+/// Opens a run that is down, and writes what was told until then.
 fn begin<E: Stepping, D: Disks, K: Sink, F: Fn(PlaceKind, &Key, u32) -> u32>(
     engine: &mut E,
     disks: &mut D,
@@ -100,32 +100,27 @@ fn begin<E: Stepping, D: Disks, K: Sink, F: Fn(PlaceKind, &Key, u32) -> u32>(
 ) -> Result<(), Stop>
     requires callable { TakesEachKey (F.pre place.now.place) }
     requires answers { GivesPlaceOf (F.post place.now.place) }
-    requires new { E.is_new (D.view disks.old) engine.old }
     requires settled { E.settled (D.view disks.old) engine.old }
-    requires flies { E.flight engine.old ≡ None }
-    requires untold { story.old ≡ [] }
-    ensures ok { OnOk result (IsBegun (E.finds (D.view disks.old) engine.old) (D.view disks.old).can_stop (E.sees (D.view disks.new)) engine.new story.new
-        (K.held sink.old) (K.held sink.new)) }
-    ensures stops { IfErr result (λ stop. (script rest : Option (List ℕ)) →
-        IsEnded (E.refuses (D.view disks.old) engine.old) (E.finds (D.view disks.old) engine.old) (D.view disks.old).can_stop
-        (E.refuses (D.view disks.new) engine.new) (E.finds (D.view disks.new) engine.new)
-        (E.is_new (D.view disks.new) engine.new) (E.lies (D.view disks.new) engine.new) (E.left (D.view disks.new) engine.new)
-        (E.fills (D.view disks.new) engine.new) (E.flight engine.new) (status_of stop) script rest (K.held sink.old) story.new (K.held sink.new)) }
+    requires begins { (start : Start) × (trace : Trace) × IsToBegin (E.lies (D.view disks.old) engine.old) (E.flight engine.old) start story.old trace }
+    ensures ok { OnOk result ((start : Start) (trace : Trace) → IsToBegin (E.lies (D.view disks.old) engine.old) (E.flight engine.old) start story.old trace →
+        IsBegun (E.sees (D.view disks.new)) start engine.new story.new (K.held sink.old) (K.held sink.new)) }
+    ensures stops { IfErr result (λ stop. (start : Start) (trace : Trace) → IsToBegin (E.lies (D.view disks.old) engine.old) (E.flight engine.old) start story.old trace →
+        (script rest : Option (List ℕ)) → EndsServing (E.lies (D.view disks.new) engine.new) (E.left (D.view disks.new) engine.new) (E.fills (D.view disks.new) engine.new)
+        (E.flight engine.new) start (status_of stop) script rest (K.held sink.old) story.new (K.held sink.new)) }
     ensures unread { result ≢ Err Stop.ReadFault }
     ensures write_fault { result ≡ Err Stop.WriteFault → Rose (K.faults sink.old) (K.faults sink.new) }
     ensures no_write_fault { result ≢ Err Stop.WriteFault → K.faults sink.new ≡ K.faults sink.old }
     ensures writes_later { K.faults sink.old ≤ K.faults sink.new }
-    ensures unchanged { IfNotBegun (outcome result) (IsTrue (D.view disks.old).told → AreUnchanged (D.view disks.old) (D.view disks.new)) }
     ensures asked { E.asked engine.new ≡ E.asked engine.old }
     ensures shape { SameShape (D.view disks.old) (D.view disks.new) }
-    ensures counts { CountsRun (D.view disks.old) (D.view disks.new) (outcome result) story.new }
+    ensures counts { CountsAdded (D.view disks.old) (D.view disks.new) (outcome result) story.old story.new }
 {
     let done = start(engine, disks, place, story);
     engine.stands(disks);
     write_done(sink, story.as_slice(), engine.schema(disks), done)
 }
 
-/// Begins a run over what the devices stand for, and does the lines of the script.
+/// Opens a run that is down, and does the lines of the script. What was told until then is written too.
 pub fn serve<E: Stepping, D: Disks, S: Source, K: Sink, F: Fn(PlaceKind, &Key, u32) -> u32>(
     alloc: Global,
     engine: &mut E,
@@ -138,15 +133,11 @@ pub fn serve<E: Stepping, D: Disks, S: Source, K: Sink, F: Fn(PlaceKind, &Key, u
     requires callable { TakesEachKey (F.pre place.now.place) }
     requires answers { GivesPlaceOf (F.post place.now.place) }
     requires serves { (line : Line) → IsAskable line → E.serves line }
-    requires new { E.is_new (D.view disks.old) engine.old }
     requires settled { E.settled (D.view disks.old) engine.old }
-    requires flies { E.flight engine.old ≡ None }
-    requires untold { story.old ≡ [] }
-    ensures ended { IsEnded (E.refuses (D.view disks.old) engine.old) (E.finds (D.view disks.old) engine.old) (D.view disks.old).can_stop
-        (E.refuses (D.view disks.new) engine.new) (E.finds (D.view disks.new) engine.new)
-        (E.is_new (D.view disks.new) engine.new) (E.lies (D.view disks.new) engine.new) (E.left (D.view disks.new) engine.new)
-        (E.fills (D.view disks.new) engine.new) (E.flight engine.new) (outcome result) (S.left source.old) (S.left source.new) (K.held sink.old) story.new
-        (K.held sink.new) }
+    requires begins { (start : Start) × (trace : Trace) × IsToBegin (E.lies (D.view disks.old) engine.old) (E.flight engine.old) start story.old trace }
+    ensures ended { (start : Start) (trace : Trace) → IsToBegin (E.lies (D.view disks.old) engine.old) (E.flight engine.old) start story.old trace →
+        EndsServing (E.lies (D.view disks.new) engine.new) (E.left (D.view disks.new) engine.new) (E.fills (D.view disks.new) engine.new)
+        (E.flight engine.new) start (outcome result) (S.left source.old) (S.left source.new) (K.held sink.old) story.new (K.held sink.new) }
     ensures end { OnOk result (IsAtEnd (S.left source.new)) }
     ensures read_fault { result ≡ Err Stop.ReadFault → Rose (S.faults source.old) (S.faults source.new) }
     ensures write_fault { result ≡ Err Stop.WriteFault → Rose (K.faults sink.old) (K.faults sink.new) }
@@ -154,10 +145,9 @@ pub fn serve<E: Stepping, D: Disks, S: Source, K: Sink, F: Fn(PlaceKind, &Key, u
     ensures no_write_fault { result ≢ Err Stop.WriteFault → K.faults sink.new ≡ K.faults sink.old }
     ensures reads_later { S.faults source.old ≤ S.faults source.new }
     ensures writes_later { K.faults sink.old ≤ K.faults sink.new }
-    ensures unchanged { IfNotBegun (outcome result) (IsTrue (D.view disks.old).told → AreUnchanged (D.view disks.old) (D.view disks.new)) }
     ensures asked { E.asked engine.new ≡ E.asked engine.old }
     ensures shape { SameShape (D.view disks.old) (D.view disks.new) }
-    ensures counts { CountsRun (D.view disks.old) (D.view disks.new) (outcome result) story.new }
+    ensures counts { CountsAdded (D.view disks.old) (D.view disks.new) (outcome result) story.old story.new }
 {
     begin(engine, disks, place, sink, story)?;
     let mut serving = Serving {

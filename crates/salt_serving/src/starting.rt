@@ -1,20 +1,33 @@
-//! A run begins.
+//! A run begins over what was found; or nothing was.
 
-ghost use Rattle.salt_disk.specs.Disks.{AreUnchanged, SameShape};
-ghost use Rattle.salt_serving.specs.Ending.{FailsToBegin};
-ghost use Rattle.salt_serving.specs.Stopping.{IfNotBegun, IsOfDevices, answer_of, outcome};
+ghost use Rattle.salt_disk.specs.Disks.{SameShape};
+ghost use Rattle.salt_io.specs.Streams.{Rose};
+ghost use Rattle.salt_model.specs.Trace.{Start, Trace};
+ghost use Rattle.salt_serving.specs.Ending.{EndsOpening, IsStatusOf};
+ghost use Rattle.salt_serving.specs.Run.{IsRun};
+ghost use Rattle.salt_serving.specs.Stopping.{IsLaterStop, answer_of, outcome};
 ghost use Rattle.salt_steps.specs.Counting.{CountsOpening};
-ghost use Rattle.salt_steps.specs.Reopening.{Begins};
+ghost use Rattle.salt_steps.specs.Opening.{IsUnfound};
+ghost use Rattle.salt_steps.specs.Reopening.{Reopens};
+ghost use Rattle.salt_steps.specs.Serving.{IsDown};
+ghost use Rattle.salt_storage.specs.Answers.{IsLater};
+ghost use Rattle.salt_storage.specs.declared.halt.Halt.TheVariants.{Stopped};
+ghost use Rattle.salt_storage.specs.declared.open.OpenErr.TheVariants.{Halted};
 ghost use Rattle.salt_values.specs.Placement.{GivesPlaceOf, TakesEachKey};
-ghost use Rattle.std.specs.Prelude.{IfErr, IsTrue, None, OnOk, [], ◌≡◌};
+ghost use Rattle.std.specs.Prelude.{Err, IfErr, List, None, OnOk, Option, ℕ, [], ◌≡◌, ◌≢◌, ◌≤◌, ◌⊎◌};
 
 use crate::stop::{Stop, stop_opening};
+use crate::telling::write_done;
 use salt_disk::Disks;
+use salt_io::Sink;
 use salt_model::Story;
+use salt_schema::Schema;
 use salt_steps::Stepping;
+use salt_storage::OpenErr;
 use salt_values::{Key, PlaceKind, Placement};
+use std::alloc::Global;
 
-/// Begins a run over what the devices stand for, and opens it.
+/// Opens a run that is down.
 pub fn start<E: Stepping, D: Disks, F: Fn(PlaceKind, &Key, u32) -> u32>(
     engine: &mut E,
     disks: &mut D,
@@ -23,23 +36,46 @@ pub fn start<E: Stepping, D: Disks, F: Fn(PlaceKind, &Key, u32) -> u32>(
 ) -> Result<(), Stop>
     requires callable { TakesEachKey (F.pre place.now.place) }
     requires answers { GivesPlaceOf (F.post place.now.place) }
-    requires new { E.is_new (D.view disks.old) engine.old }
     requires settled { E.settled (D.view disks.old) engine.old }
-    requires flies { E.flight engine.old ≡ None }
-    requires untold { story.old ≡ [] }
-    ensures ok { OnOk result (Begins (E.finds (D.view disks.old) engine.old) (D.view disks.old).can_stop (E.sees (D.view disks.new)) engine.new story.new) }
-    ensures err { IfErr result (FailsToBegin (E.refuses (D.view disks.old) engine.old) (E.finds (D.view disks.old) engine.old) (D.view disks.old).can_stop
-        (E.refuses (D.view disks.new) engine.new) (E.finds (D.view disks.new) engine.new)
-        (E.is_new (D.view disks.new) engine.new) (E.lies (D.view disks.new) engine.new) (E.left (D.view disks.new) engine.new)
-        (E.fills (D.view disks.new) engine.new) (E.flight engine.new) story.new) }
-    ensures of_devices { IfErr result IsOfDevices }
-    ensures unchanged { IfNotBegun (outcome result) (IsTrue (D.view disks.old).told → AreUnchanged (D.view disks.old) (D.view disks.new)) }
+    requires down { (start : Start) × (trace : Trace) × IsDown (E.lies (D.view disks.old) engine.old) (E.flight engine.old) start story.old trace }
+    ensures ok { OnOk result ((start : Start) (trace : Trace) → IsDown (E.lies (D.view disks.old) engine.old) (E.flight engine.old) start story.old trace →
+        Reopens (E.sees (D.view disks.new)) start trace story.old engine.new story.new) }
+    ensures err { IfErr result (λ stop. (start : Start) (trace : Trace) → IsDown (E.lies (D.view disks.old) engine.old) (E.flight engine.old) start story.old trace →
+        EndsOpening (E.lies (D.view disks.new) engine.new) (E.left (D.view disks.new) engine.new) (E.fills (D.view disks.new) engine.new) (E.flight engine.new) stop start trace story.new) }
+    ensures later { IfErr result IsLaterStop }
     ensures asked { E.asked engine.new ≡ E.asked engine.old }
     ensures shape { SameShape (D.view disks.old) (D.view disks.new) }
-    ensures counts { CountsOpening (D.view disks.old) (D.view disks.new) (answer_of (outcome result)) [] story.new }
+    ensures counts { CountsOpening (D.view disks.old) (D.view disks.new) (answer_of (outcome result)) story.old story.new }
 {
-    match salt_steps::start(engine, disks, place, story) {
+    match salt_steps::open(engine, disks, place, story) {
         Ok(()) => Ok(()),
         Err(e) => Err(stop_opening(e)),
     }
+}
+
+/// Ends the run of a script where nothing was found to run over: the stops that came meanwhile are told, and written. Answers why
+/// nothing was found, or that the sink failed.
+pub fn tell_unfound<K: Sink>(
+    alloc: Global,
+    reason: OpenErr,
+    sink: &mut K,
+    story: &Story,
+) -> Result<(), Stop>
+    requires unstopped { reason ≢ Halted Stopped }
+    requires unfound { IsUnfound story.now }
+    requires empty { (story.now ≡ []) ⊎ IsLater reason }
+    ensures is { IsStatusOf reason (outcome result) }
+    ensures run { (start : Start) (script rest : Option (List ℕ)) → IsRun start (outcome result) None script rest (K.held sink.old) story.now (K.held sink.new) }
+    ensures unread { result ≢ Err Stop.ReadFault }
+    ensures write_fault { result ≡ Err Stop.WriteFault → Rose (K.faults sink.old) (K.faults sink.new) }
+    ensures no_write_fault { result ≢ Err Stop.WriteFault → K.faults sink.new ≡ K.faults sink.old }
+    ensures writes_later { K.faults sink.old ≤ K.faults sink.new }
+{
+    let no_tables = Schema::new(alloc);
+    write_done(
+        sink,
+        story.as_slice(),
+        &no_tables,
+        Err(stop_opening(reason)),
+    )
 }

@@ -1,14 +1,17 @@
 use Rattle.salt_disk.specs.Disks.{SameShape}
+use Rattle.salt_model.specs.Trace.{Start, Trace}
 use Rattle.salt_serving.proofs.loading.load.Given as goal
-use Rattle.salt_serving.specs.Counted.{CountsRun}
-use Rattle.salt_serving.specs.Loading.{IsLoadingOver}
+use Rattle.salt_serving.specs.Counted.{CountsAdded}
+use Rattle.salt_serving.specs.Loading.{IsLoading}
+use Rattle.salt_serving.specs.Serving.{IsToBegin}
 use Rattle.salt_serving.specs.declared.status.Status.TheVariants.{Done}
 use Rattle.std.specs.Prelude.{◌≡◌}
 
 abbrev pub invariant-loop-i : goal.invariant-loop-i
 invariant-loop-i g l = record {
-  over : IsLoadingOver (g.E.Stepping.finds (g.D.Disks.view l.fn.disks) l.fn.engine) (g.D.Disks.view l.fn.disks).can_stop (g.E.Stepping.sees (g.D.Disks.view l.disks)) l.calls l.i l.engine l.story;
+  over : (start : Start) (trace : Trace) → IsToBegin (g.E.Stepping.lies (g.D.Disks.view l.fn.disks) l.fn.engine) (g.E.Stepping.flight l.fn.engine) start l.fn.story trace →
+      IsLoading (g.E.Stepping.sees (g.D.Disks.view l.disks)) start l.calls l.i l.engine l.story;
   asked : g.E.Stepping.asked l.engine ≡ g.E.Stepping.asked l.fn.engine;
   shape : SameShape (g.D.Disks.view l.fn.disks) (g.D.Disks.view l.disks);
-  counts : CountsRun (g.D.Disks.view l.fn.disks) (g.D.Disks.view l.disks) Done l.story;
+  counts : CountsAdded (g.D.Disks.view l.fn.disks) (g.D.Disks.view l.disks) Done l.fn.story l.story;
 }
