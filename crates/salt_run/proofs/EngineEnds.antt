@@ -1,4 +1,4 @@
--- A run, by how its engine ends.
+-- A run, by what is found at first and by how its engine ends.
 use Rattle.salt_commit.specs.declared.store.Store.{Store}
 use Rattle.salt_devices.specs.Filling.{FillsIn}
 use Rattle.salt_devices.specs.Holding.{CanStart}
@@ -7,7 +7,8 @@ use Rattle.salt_devices.specs.Refusing.{Finds, RefusedAs, Refuses}
 use Rattle.salt_devices.specs.Standing.{StandsHeld, StandsLeft}
 use Rattle.salt_devices.specs.declared.pending.Pending.{Pending}
 use Rattle.salt_disk.specs.Disks.{AreUnchanged, View}
-use Rattle.salt_engine.specs.Standing.{IsNew, Left, Lies}
+use Rattle.salt_disk.specs.declared.disks.DiskErr.{DiskErr}
+use Rattle.salt_engine.specs.Standing.{Left, Lies}
 use Rattle.salt_engine.specs.declared.flights.InFlight.{InFlight}
 use Rattle.salt_engine.specs.declared.stage.Stage.{Stage}
 use Rattle.salt_keeps.specs.Points.{Point}
@@ -27,15 +28,21 @@ use Rattle.salt_run.specs.Ending.{EndsBehind, flight_at}
 use Rattle.salt_run.specs.Promises.{Promises}
 use Rattle.salt_run.specs.Running.{FindsNothing, Replays, Runs, RunsOver, WasRefused}
 use Rattle.salt_run.specs.Summing.{IsSummary}
-use Rattle.salt_serving.proofs.Counts.{run-unwritten}
-use Rattle.salt_serving.specs.Counted.{AreFaultsOf, CountsRun}
-use Rattle.salt_serving.specs.Ending.{EndsFound, EndsUnfound, IsEnded, IsStatusOf, MayEndAt}
-use Rattle.salt_serving.specs.Loading.{IsLoaded, IsPlayedLoad}
+use Rattle.salt_serving.proofs.Counts.{run-added, run-opened, run-unwritten}
+use Rattle.salt_serving.proofs.Leaving.{answers-opening, full-reason}
+use Rattle.salt_serving.specs.Counted.{AreFaultsOf, CountsAdded, CountsRun}
+use Rattle.salt_serving.specs.Ending.{EndsFound, IsStatusOf, MayEndAt}
+use Rattle.salt_serving.specs.Loading.{IsPlayedLoad}
 use Rattle.salt_serving.specs.Run.{IsRun, leave_of}
-use Rattle.salt_serving.specs.Stopping.{IfNotBegun, status_opening}
-use Rattle.salt_serving.specs.declared.status.Status.TheVariants.{DeviceFull, Memory, NotSalt, OtherShape, WriteFault}
+use Rattle.salt_serving.specs.Serving.{IsToBegin}
+use Rattle.salt_serving.specs.Stopping.{status_opening}
+use Rattle.salt_serving.specs.declared.status.Status.TheVariants.{DeviceFull, Done, Memory, NotSalt, NumbersSpent, OtherShape, WriteFault}
 use Rattle.salt_serving.specs.declared.status.Status.{Status}
-use Rattle.salt_steps.specs.Opening.{IsStartOf}
+use Rattle.salt_steps.proofs.AtFirst.{down-at-first}
+use Rattle.salt_steps.specs.Counting.{CountsOpening, armed_in, stopped_in}
+use Rattle.salt_steps.specs.Opening.{FailsToFind, IsOpenedFirst, IsUnfound}
+use Rattle.salt_storage.specs.Answers.{IfRefused, open_disk_err_of}
+use Rattle.salt_storage.specs.Storing.{IsSoundKept}
 use Rattle.salt_storage.specs.Writing.{OfOpening}
 use Rattle.salt_storage.specs.declared.found.Numbers.{Numbers}
 use Rattle.salt_storage.specs.declared.halt.Halt.TheVariants as halt
@@ -46,72 +53,19 @@ use Rattle.salt_values.specs.declared.placement.Shape.{Shape}
 use Rattle.salt_words.specs.declared.command.Command.TheVariants.{Load, Run}
 use Rattle.salt_words.specs.declared.command.Command.{Command}
 use Rattle.std.proofs.Common.{ap, inl, inr, subst, sym, ◌∙◌}
-use Rattle.std.specs.Prelude.{Bool, IsTrue, List, None, Option, false, refl, true, ℕ, ◌≡◌, ◌⊎◌}
+use Rattle.std.specs.Prelude.{Bool, IsTrue, List, None, Option, [], false, refl, true, ℕ, ◌+◌, ◌≡◌, ◌⊎◌}
 
 -- THE STATUS, and the one of its engine: the same, or the sink failed behind it
 
 abbrev pub IsBehind : (old status : Status) → Type 0
 IsBehind old status = (status ≡ old) ⊎ ((status ≡ WriteFault) × (old ≡ Memory → ⊥))
 
-status-of : (reason : OpenErr) (old status : Status) → IsStatusOf reason old → IsBehind old status → IsStatusOf reason status
-status-of reason old status is (inl same) = subst (IsStatusOf reason) (sym same) is
-status-of reason old status (inl is) (inr w) = inr (w.0, λ m. w.1 (is ∙ ap status_opening m))
-status-of reason old status (inr is) (inr w) = inr (w.0, is.1)
-
 not-full : (status : Status) (dev : ℕ) → status ≡ WriteFault → status ≡ DeviceFull dev → ⊥
 not-full status dev w f = let both : WriteFault ≡ DeviceFull dev = sym w ∙ f in cc
 
-module _ (command : Command) (d e : View) (started0 : Bool) (shape0 : Shape) (was : started0 ≡ true) (asked0 : shape0 ≡ shape_of command)
-    (shape : Shape) (started : Bool) (o : Option Store) (n : Numbers) (q : Pending)
-    (stage : Stage) (single : Bool) (i : Option InFlight) (asked : shape ≡ shape0) where
-  now : shape ≡ shape_of command
-  now = asked ∙ asked0
+-- WHAT IS REFUSED
 
-  finds-first : (k : Kept) → Finds d started0 shape0 k → Finds d true (shape_of command) k
-  finds-first k h = subst (λ (b : Bool). Finds d b (shape_of command) k) was (subst (λ (s : Shape). Finds d started0 s k) asked0 h)
-
-  refuses-first : (r : OpenErr) → Refuses d started0 shape0 r → Refuses d true (shape_of command) r
-  refuses-first r h = subst (λ (b : Bool). Refuses d b (shape_of command) r) was (subst (λ (s : Shape). Refuses d started0 s r) asked0 h)
-
-  -- over what was found
-  pub ends-there : (status : Status) (trace : Trace) → IsPlayed trace →
-      EndsFound (Lies (StandsHeld shape started o n q e) (StandsLeft shape started o n q e) e.can_stop stage single i)
-      (Left (StandsHeld shape started o n q e) (StandsLeft shape started o n q e) stage) (FillsIn e shape) status trace → EndsBehind e (shape_of command) status trace
-  ends-there status trace played x = subst (λ (s : Shape). EndsBehind e s status trace) now (ends-behind shape started o n q e stage single i status trace played x)
-
-  pub over : (status : Status) (f : Option Flight) (s : Streams) (story : List Event) (start : Start) → IsStartOf (Finds d started0 shape0) d.can_stop start →
-      (r : Replays command status f s story start) → EndsBehind e (shape_of command) status r.trace → RunsOver command d e status f s story
-  over status f s story start is r ends = record { start = start; stood = finds-first start.kept is.found; sound = is.sound; stops = is.stops; replays = r; ends = ends }
-
-  -- or nothing was found
-  module _ (old : Status) (story : List Event) (Run : Start → Type 0)
-      (x : EndsUnfound (Refuses d started0 shape0) (Finds d started0 shape0) (Refuses e started shape) (Finds e started shape)
-      (IsNew stage single i × (o ≡ None) × CanStart shape started q e) (FillsIn e shape) old story Run) where
-    was-refused : Refuses d true (shape_of command) x.reason ⊎ (x.reason ≡ open_err.Halted halt.Memory)
-    was-refused = elim x.refused [ inl h ↦ inl (refuses-first x.reason h) | inr m ↦ inr m ]
-
-    pub nothing : (status : Status) (f : Option Flight) (s : Streams) → IsBehind old status → ((start : Start) → WellKept start.kept → Replays command status f s story start) →
-        FindsNothing command d e status f s story
-    nothing status f s how replays = record {
-      reason = x.reason;
-      is = status-of x.reason old status x.is how;
-      refused = was-refused;
-      unfound = x.unfound;
-      replays = replays;
-      no_more_refused = λ told image left r h.
-          refuses-first r (x.less.refuses_no_more r (λ t. record { image = image; comes = may-come e started x.stays_new.2.settled image left; is = subst (λ (s : Shape). RefusedAs s image r) (sym now) h }));
-      no_more_stands = λ told image left k h.
-          finds-first k (x.less.finds_no_more k (λ t. record { image = image; comes = may-come e started x.stays_new.2.settled image left; is = subst (λ (s : Shape). StandsFor s image k) (sym now) h }));
-      full = λ dev is. by dev is how;
-    }
-      where
-        by : (dev : ℕ) → status ≡ DeviceFull dev → IsBehind old status → FillsIn e (shape_of command) OfOpening dev
-        by dev is (inl same) = subst (λ (s : Shape). FillsIn e s OfOpening dev) now (x.full dev (sym same ∙ is))
-        by dev is (inr w) = absurd (not-full status dev w.0 is)
-
--- WHAT WAS REFUSED
-
-over-refused : (d e : View) (shape : Shape) (story : List Event) (room : ℕ) (p : Point) (status : Status) → MayEndAt room p status → WasRefused d e shape story status
+pub over-refused : (d e : View) (shape : Shape) (story : List Event) (room : ℕ) (p : Point) (status : Status) → MayEndAt room p status → WasRefused d e shape story status
 over-refused d e shape story room p (NotSalt dev) h = absurd h
 over-refused d e shape story room p (OtherShape kept asked) h = absurd h
 over-refused d e shape story room p status h = tt
@@ -142,114 +96,161 @@ refused-so d shape reason r is other (inl h) = subst (Refuses d true shape) is h
 refused-so d shape reason r is other (inr m) = absurd (other (sym is ∙ m))
 
 nothing-refused : (d e : View) (shape : Shape) (story : List Event) (reason : OpenErr) (status : Status) (trace : Trace) → IsStatusOf reason status →
-    Refuses d true shape reason ⊎ (reason ≡ open_err.Halted halt.Memory) → story_of trace ≡ story → MayLeave (leave_of status) trace → IfNotBegun status (IsTrue d.told → AreUnchanged d e) → WasRefused d e shape story status
+    Refuses d true shape reason ⊎ (reason ≡ open_err.Halted halt.Memory) → story_of trace ≡ story → MayLeave (leave_of status) trace → IfRefused reason (IsTrue d.told → AreUnchanged d e) → WasRefused d e shape story status
 nothing-refused d e shape story reason (NotSalt dev) trace is refused told leaves unchanged =
-    (refused-so d shape reason (open_err.NotSalt dev) (salt-reason reason dev is) (λ m. cc) refused, sym told ∙ leaves, unchanged)
+    let r = salt-reason reason dev is in
+    (refused-so d shape reason (open_err.NotSalt dev) r (λ m. cc) refused, sym told ∙ leaves, subst (λ (x : OpenErr). IfRefused x (IsTrue d.told → AreUnchanged d e)) r unchanged)
 nothing-refused d e shape story reason (OtherShape kept asked) trace is refused told leaves unchanged =
-    (refused-so d shape reason (open_err.OtherShape kept asked) (shape-reason reason kept asked is) (λ m. cc) refused, sym told ∙ leaves, unchanged)
+    let r = shape-reason reason kept asked is in
+    (refused-so d shape reason (open_err.OtherShape kept asked) r (λ m. cc) refused, sym told ∙ leaves, subst (λ (x : OpenErr). IfRefused x (IsTrue d.told → AreUnchanged d e)) r unchanged)
 nothing-refused d e shape story reason status trace is refused told leaves unchanged = tt
 
-behind-refused : (d e : View) (shape : Shape) (story : List Event) (old status : Status) → IsBehind old status → WasRefused d e shape story old → WasRefused d e shape story status
+pub behind-refused : (d e : View) (shape : Shape) (story : List Event) (old status : Status) → IsBehind old status → WasRefused d e shape story old → WasRefused d e shape story status
 behind-refused d e shape story old status (inl same) h = subst (WasRefused d e shape story) (sym same) h
 behind-refused d e shape story old status (inr w) h = subst (WasRefused d e shape story) (sym w.0) tt
 
-any-start : Start
+pub any-start : Start
 any-start = record { kept = nothing_kept; can_stop = false }
 
--- A SCRIPT, AND THE WORKLOAD
+-- WHAT WAS FOUND AT FIRST, by a shape that was not tried before
 
-module _ (promised : (trace : Trace) → IsPlayed trace → WellKept (start_of trace).kept → Promises trace) (d e : View) (started0 : Bool) (shape0 : Shape) (was : started0 ≡ true)
-    (shape : Shape) (started : Bool) (o : Option Store) (n : Numbers) (q : Pending)
-    (stage : Stage) (single : Bool) (i : Option InFlight) (asked : shape ≡ shape0) (status : Status) (f : Option Flight) (s : Streams) (story : List Event) where
-  module _ (parts : ℕ) (asked0 : shape0 ≡ shape_of (Run parts))
-      (x : IsEnded (Refuses d started0 shape0) (Finds d started0 shape0) d.can_stop (Refuses e started shape) (Finds e started shape)
-      (IsNew stage single i × (o ≡ None) × CanStart shape started q e)
-      (Lies (StandsHeld shape started o n q e) (StandsLeft shape started o n q e) e.can_stop stage single i)
-      (Left (StandsHeld shape started o n q e) (StandsLeft shape started o n q e) stage) (FillsIn e shape) f status s.script s.left s.before story s.now) where
-    pub script-runs : Runs (Run parts) d e status (flight_at status f) s story
-    script-runs = by x
+module _ (command : Command) (d : View) (started0 : Bool) (shape0 : Shape) (was : started0 ≡ true) (asked0 : shape0 ≡ shape_of command) where
+  pub found-is : (k : Kept) → Finds d started0 shape0 k → Finds d true (shape_of command) k
+  found-is k h = subst (λ (b : Bool). Finds d b (shape_of command) k) was (subst (λ (s : Shape). Finds d started0 s k) asked0 h)
+
+  refuses-first : (r : OpenErr) → Refuses d started0 shape0 r → Refuses d true (shape_of command) r
+  refuses-first r h = subst (λ (b : Bool). Refuses d b (shape_of command) r) was (subst (λ (s : Shape). Refuses d started0 s r) asked0 h)
+
+  -- nothing: it was refused, and what is refused now would have been
+  module _ (e : View) (shape : Shape) (started : Bool) (q : Pending) (asked : shape ≡ shape0) (able : CanStart shape started q e) (reason : OpenErr) (story : List Event)
+      (x : FailsToFind (Refuses d started0 shape0) (Finds d started0 shape0) (Refuses e started shape) (Finds e started shape) (FillsIn e shape) reason story) where
+    now : shape ≡ shape_of command
+    now = asked ∙ asked0
+
+    was-refused : Refuses d true (shape_of command) reason ⊎ (reason ≡ open_err.Halted halt.Memory)
+    was-refused = elim x.refused [ inl h ↦ inl (refuses-first reason h) | inr m ↦ inr m ]
+
+    pub nothing : (status : Status) (f : Option Flight) (s : Streams) → IsStatusOf reason status → IsUnfound story → ((start : Start) → WellKept start.kept → Replays command status f s story start) →
+        FindsNothing command d e status f s story
+    nothing status f s is unfound replays = record {
+      reason = reason;
+      is = is;
+      refused = was-refused;
+      unfound = unfound;
+      replays = replays;
+      no_more_refused = λ told image left r h.
+          refuses-first r (x.less.refuses_no_more r (λ t. record { image = image; comes = may-come e started able.settled image left; is = subst (λ (s : Shape). RefusedAs s image r) (sym now) h }));
+      no_more_stands = λ told image left k h.
+          found-is k (x.less.finds_no_more k (λ t. record { image = image; comes = may-come e started able.settled image left; is = subst (λ (s : Shape). StandsFor s image k) (sym now) h }));
+      full = λ dev full. by dev full is;
+    }
       where
-        by : IsEnded (Refuses d started0 shape0) (Finds d started0 shape0) d.can_stop (Refuses e started shape) (Finds e started shape)
-            (IsNew stage single i × (o ≡ None) × CanStart shape started q e)
-            (Lies (StandsHeld shape started o n q e) (StandsLeft shape started o n q e) e.can_stop stage single i)
-            (Left (StandsHeld shape started o n q e) (StandsLeft shape started o n q e) stage) (FillsIn e shape) f status s.script s.left s.before story s.now
-            → Runs (Run parts) d e status (flight_at status f) s story
-        by (inl u) =
-            inr (nothing (Run parts) d e started0 shape0 was asked0 shape started o n q stage single i asked status story (λ start. IsRun start status f s.script s.left s.before story s.now) u status
-            (flight_at status f) s (inl refl) (λ start well. script-replays promised parts status f s story start well (u.run start)))
-        by (inr v) =
-            inl (over (Run parts) d e started0 shape0 was asked0 shape started o n q stage single i asked status (flight_at status f) s story v.start v.is
-            (script-replays promised parts status f s story v.start v.is.sound.well v.ends.0)
-            (ends-there (Run parts) d e started0 shape0 was asked0 shape started o n q stage single i asked status v.ends.0.played.trace v.ends.0.played.tells.played v.ends.1))
+        by : (dev : ℕ) → status ≡ DeviceFull dev → IsStatusOf reason status → FillsIn e (shape_of command) OfOpening dev
+        by dev full (inl same) = subst (λ (s : Shape). FillsIn e s OfOpening dev) now (x.full dev (full-reason reason dev (sym same ∙ full)))
+        by dev full (inr w) = absurd (not-full status dev w.0 full)
 
-    pub script-refused : IfNotBegun status (IsTrue d.told → AreUnchanged d e) → WasRefused d e (shape_of (Run parts)) story status
-    script-refused unchanged = by x
-      where
-        by : IsEnded (Refuses d started0 shape0) (Finds d started0 shape0) d.can_stop (Refuses e started shape) (Finds e started shape)
-            (IsNew stage single i × (o ≡ None) × CanStart shape started q e)
-            (Lies (StandsHeld shape started o n q e) (StandsLeft shape started o n q e) e.can_stop stage single i)
-            (Left (StandsHeld shape started o n q e) (StandsLeft shape started o n q e) stage) (FillsIn e shape) f status s.script s.left s.before story s.now
-            → WasRefused d e (shape_of (Run parts)) story status
-        by (inl u) =
-            let p = (u.run any-start).played in
-            nothing-refused d e (shape_of (Run parts)) story u.reason status p.trace u.is
-            (was-refused (Run parts) d e started0 shape0 was asked0 shape started o n q stage single i asked status story (λ start. IsRun start status f s.script s.left s.before story s.now) u) p.tells.told p.leaves
-            unchanged
-        by (inr v) = over-refused d e (shape_of (Run parts)) story v.ends.1.room v.ends.1.point status v.ends.1.may
+    pub nothing-begun : (status : Status) (trace : Trace) → IsStatusOf reason status → story_of trace ≡ story → MayLeave (leave_of status) trace → IfRefused reason (IsTrue d.told → AreUnchanged d e) →
+        WasRefused d e (shape_of command) story status
+    nothing-begun status trace is told leaves unchanged = nothing-refused d e (shape_of command) story reason status trace is was-refused told leaves unchanged
 
-  module _ (calls done : ℕ) (old : Status) (how : IsBehind old status) (asked0 : shape0 ≡ shape_of (Load calls)) (summed : IsSummary status (summary_text calls done story) s.before s.now)
-      (x : IsLoaded (Refuses d started0 shape0) (Finds d started0 shape0) d.can_stop (Refuses e started shape) (Finds e started shape)
-      (IsNew stage single i × (o ≡ None) × CanStart shape started q e)
-      (Lies (StandsHeld shape started o n q e) (StandsLeft shape started o n q e) e.can_stop stage single i)
-      (Left (StandsHeld shape started o n q e) (StandsLeft shape started o n q e) stage) (FillsIn e shape) f old calls done story) where
-    abbrev Loaded : Status → Start → Type 0
-    Loaded t start = (r : IsPlayedLoad start t f calls done story) × EndsBehind e (shape_of (Load calls)) t r.trace
+-- a run over it begins
+pub begins-over : (k : Kept) (now : Bool) (lies : ℕ → Point → Type 0) (flies : Option Flight) (story : List Event) → IsUnfound story → IsSoundKept k → IsOpenedFirst lies k now → flies ≡ None →
+    (trace : Trace) × IsToBegin lies flies (record { kept = k; can_stop = now }) story trace
+begins-over k now lies flies story unfound sound opens none =
+    let d = down-at-first k now lies flies story unfound sound opens none in
+    (d.0, record { down = d.1; unasked = d.2 })
 
-    loaded : (start : Start) → IsPlayedLoad start old f calls done story → IsPlayedLoad start status f calls done story
-    loaded start p = by how
-      where
-        by : IsBehind old status → IsPlayedLoad start status f calls done story
-        by (inl same) = subst (λ (t : Status). IsPlayedLoad start t f calls done story) (sym same) p
-        by (inr w) = subst (λ (t : Status). IsPlayedLoad start t f calls done story) (sym w.0) (load-unwritten start old f calls done story w.1 p)
+-- AND ENDS
 
-    ends-loaded : (start : Start) → Loaded old start → Loaded status start
-    ends-loaded start p = by how
-      where
-        by : IsBehind old status → Loaded status start
-        by (inl same) = subst (λ (t : Status). Loaded t start) (sym same) p
-        by (inr w) =
-            subst (λ (t : Status). Loaded t start) (sym w.0)
-            (load-unwritten start old f calls done story w.1 p.0, unwritten-behind e (shape_of (Load calls)) old p.0.trace p.1)
+module _ (d e : View) (shape : Shape) (started : Bool) (o : Option Store) (n : Numbers) (q : Pending) (stage : Stage) (single : Bool) (i : Option InFlight) where
+  abbrev FoundAt : Status → Trace → Type 0
+  FoundAt status trace =
+      EndsFound (Lies (StandsHeld shape started o n q e) (StandsLeft shape started o n q e) e.can_stop stage single i)
+      (Left (StandsHeld shape started o n q e) (StandsLeft shape started o n q e) stage) (FillsIn e shape) status trace
 
-    pub load-runs : Runs (Load calls) d e status (flight_at status f) s story
-    load-runs = by x
-      where
-        by : IsLoaded (Refuses d started0 shape0) (Finds d started0 shape0) d.can_stop (Refuses e started shape) (Finds e started shape)
-            (IsNew stage single i × (o ≡ None) × CanStart shape started q e)
-            (Lies (StandsHeld shape started o n q e) (StandsLeft shape started o n q e) e.can_stop stage single i)
-            (Left (StandsHeld shape started o n q e) (StandsLeft shape started o n q e) stage) (FillsIn e shape) f old calls done story
-            → Runs (Load calls) d e status (flight_at status f) s story
-        by (inl u) =
-            inr (nothing (Load calls) d e started0 shape0 was asked0 shape started o n q stage single i asked old story (λ start. IsPlayedLoad start old f calls done story) u status (flight_at status f) s how
-            (λ start well. load-replays promised calls done status f s story start well (loaded start (u.run start)) summed))
-        by (inr v) =
-            let p = ends-loaded v.start (v.ends.0, ends-there (Load calls) d e started0 shape0 was asked0 shape started o n q stage single i asked old v.ends.0.trace v.ends.0.tells.played v.ends.1) in
-            inl (over (Load calls) d e started0 shape0 was asked0 shape started o n q stage single i asked status (flight_at status f) s story v.start v.is
-            (load-replays promised calls done status f s story v.start v.is.sound.well p.0 summed) p.1)
+  ends-there : (target : Shape) → shape ≡ target → (status : Status) (trace : Trace) → IsPlayed trace → FoundAt status trace → EndsBehind e target status trace
+  ends-there target same status trace played x = subst (λ (s : Shape). EndsBehind e s status trace) same (ends-behind shape started o n q e stage single i status trace played x)
 
-    pub load-refused : IfNotBegun old (IsTrue d.told → AreUnchanged d e) → WasRefused d e (shape_of (Load calls)) story status
-    load-refused unchanged = behind-refused d e (shape_of (Load calls)) story old status how (by x)
-      where
-        by : IsLoaded (Refuses d started0 shape0) (Finds d started0 shape0) d.can_stop (Refuses e started shape) (Finds e started shape)
-            (IsNew stage single i × (o ≡ None) × CanStart shape started q e)
-            (Lies (StandsHeld shape started o n q e) (StandsLeft shape started o n q e) e.can_stop stage single i)
-            (Left (StandsHeld shape started o n q e) (StandsLeft shape started o n q e) stage) (FillsIn e shape) f old calls done story
-            → WasRefused d e (shape_of (Load calls)) story old
-        by (inl u) =
-            let p = u.run any-start in
-            nothing-refused d e (shape_of (Load calls)) story u.reason old p.trace u.is
-            (was-refused (Load calls) d e started0 shape0 was asked0 shape started o n q stage single i asked old story (λ start. IsPlayedLoad start old f calls done story) u) p.tells.told p.leaves unchanged
-        by (inr v) = over-refused d e (shape_of (Load calls)) story v.ends.1.room v.ends.1.point old v.ends.1.may
+  module _ (promised : (trace : Trace) → IsPlayed trace → WellKept (start_of trace).kept → Promises trace) (start : Start) (sound : IsSoundKept start.kept) (stops : start.can_stop ≡ d.can_stop)
+      (f : Option Flight) (s : Streams) (story : List Event) where
+    module _ (parts : ℕ) (asked : shape ≡ shape_of (Run parts)) (stood : Finds d true (shape_of (Run parts)) start.kept) (status : Status)
+        (x : (run : IsRun start status f s.script s.left s.before story s.now) × FoundAt status run.played.trace) where
+      pub script-over : RunsOver (Run parts) d e status (flight_at status f) s story
+      script-over = record {
+        start = start;
+        stood = stood;
+        sound = sound;
+        stops = stops;
+        replays = script-replays promised parts status f s story start sound.well x.0;
+        ends = ends-there (shape_of (Run parts)) asked status x.0.played.trace x.0.played.tells.played x.1;
+      }
+
+    module _ (calls done : ℕ) (asked : shape ≡ shape_of (Load calls)) (stood : Finds d true (shape_of (Load calls)) start.kept) (old status : Status) (how : IsBehind old status)
+        (summed : IsSummary status (summary_text calls done story) s.before s.now) (x : (run : IsPlayedLoad start old f calls done story) × FoundAt old run.trace) where
+      abbrev Loaded : Status → Type 0
+      Loaded t = (r : IsPlayedLoad start t f calls done story) × EndsBehind e (shape_of (Load calls)) t r.trace
+
+      loaded : Loaded status
+      loaded = by how
+        where
+          there : Loaded old
+          there = (x.0, ends-there (shape_of (Load calls)) asked old x.0.trace x.0.tells.played x.1)
+
+          by : IsBehind old status → Loaded status
+          by (inl same) = subst Loaded (sym same) there
+          by (inr w) =
+              subst Loaded (sym w.0)
+              (load-unwritten start old f calls done story w.1 there.0, unwritten-behind e (shape_of (Load calls)) old there.0.trace there.1)
+
+      pub load-over : RunsOver (Load calls) d e status (flight_at status f) s story
+      load-over = record {
+        start = start;
+        stood = stood;
+        sound = sound;
+        stops = stops;
+        replays = load-replays promised calls done status f s story start sound.well loaded.0 summed;
+        ends = loaded.1;
+      }
+
+-- a workload that was not begun
+pub unfound-load : (calls : ℕ) (old status : Status) → IsBehind old status → (start : Start) (story : List Event) → IsPlayedLoad start old None calls 0 story → IsPlayedLoad start status None calls 0 story
+unfound-load calls old status (inl same) start story p = subst (λ (t : Status). IsPlayedLoad start t None calls 0 story) (sym same) p
+unfound-load calls old status (inr w) start story p = subst (λ (t : Status). IsPlayedLoad start t None calls 0 story) (sym w.0) (load-unwritten start old None calls 0 story w.1 p)
+
+pub unfound-status : (reason : OpenErr) (old status : Status) → old ≡ status_opening reason → IsBehind old status → IsStatusOf reason status
+unfound-status reason old status is (inl same) = inl (same ∙ is)
+unfound-status reason old status is (inr w) = inr (w.0, λ m. w.1 (is ∙ ap status_opening m))
+
+-- WHAT IS COUNTED, over what was found and behind it
+
+memory-reason : (reason : OpenErr) → (reason ≡ open_err.Halted halt.Stopped → ⊥) → status_opening reason ≡ Memory → reason ≡ open_err.Halted halt.Memory
+memory-reason (open_err.NotSalt dev) never is = absurd cc
+memory-reason (open_err.OtherShape kept asked) never is = absurd cc
+memory-reason (open_err.NumbersSpent boot decisions) never is = absurd cc
+memory-reason (open_err.Halted halt.Stopped) never is = absurd (never refl)
+memory-reason (open_err.Halted halt.DiskFault) never is = absurd cc
+memory-reason (open_err.Halted (halt.DeviceFull dev)) never is = absurd cc
+memory-reason (open_err.Halted halt.Memory) never is = refl
+
+pub found-counts : (d mid e : View) (status : Status) (told story : List Event) → CountsOpening d mid None [] told → CountsAdded mid e status told story → CountsRun d e status story
+found-counts d mid e status told story g h = run-added d mid e status told story (run-opened d mid Done told g) h
+
+pub unfound-counts : (d e : View) (reason : OpenErr) (status : Status) (story : List Event) → (reason ≡ open_err.Halted halt.Stopped → ⊥) → CountsOpening d e (open_disk_err_of reason) [] story →
+    IsStatusOf reason status → CountsRun d e status story
+unfound-counts d e reason status story never g how = by how
+  where
+    first : CountsRun d e (status_opening reason) story
+    first = run-opened d e (status_opening reason) story (subst (λ (a : Option DiskErr). CountsOpening d e a [] story) (answers-opening reason never) g)
+
+    by : IsStatusOf reason status → CountsRun d e status story
+    by (inl same) = subst (λ (t : Status). CountsRun d e t story) (sym same) first
+    by (inr w) =
+        subst (λ (t : Status). CountsRun d e t story) (sym w.0) (run-unwritten d e (status_opening reason) story (λ m. w.1 (memory-reason reason never m)) first)
+
+-- nothing was in flight
+pub flight-none : (status : Status) → flight_at status None ≡ None
+flight-none (NumbersSpent boot decisions) = refl
+flight-none status = refl
 
 -- AS ITS CALLER KNOWS IT: the status is the outcome, and the flight is told by that
 
@@ -267,3 +268,7 @@ behind-outcome old mid status same h = subst (λ (t : Status). IsBehind t status
 pub behind-faults : (d e : View) (story : List Event) (old status : Status) → IsBehind old status → CountsRun d e old story → AreFaultsOf status d.faults story e.faults
 behind-faults d e story old status (inl same) h = subst (λ (t : Status). AreFaultsOf t d.faults story e.faults) (sym same) h.faults
 behind-faults d e story old status (inr w) h = subst (λ (t : Status). AreFaultsOf t d.faults story e.faults) (sym w.0) (run-unwritten d e old story w.1 h).faults
+
+pub behind-stops : (d e : View) (story : List Event) (old status : Status) → IsBehind old status → CountsRun d e old story → (status ≡ Memory → ⊥) → d.stops_left + armed_in story ≡ stopped_in story + e.stops_left
+behind-stops d e story old status (inl same) h some = h.stops (λ m. some (same ∙ m))
+behind-stops d e story old status (inr w) h some = h.stops w.1

@@ -9,7 +9,7 @@ use Rattle.salt_commit.specs.declared.store.Store.{Store}
 use Rattle.salt_disk.specs.Disks.{IsImage, View}
 use Rattle.salt_engine.specs.Standing.{Left}
 use Rattle.salt_engine.specs.Stored.{IsLeft}
-use Rattle.salt_engine.specs.declared.stage.Stage.TheVariants.{Down, Found, Lost, New, Opening, Serving}
+use Rattle.salt_engine.specs.declared.stage.Stage.TheVariants.{Down, Found, Lost, Opening, Serving}
 use Rattle.salt_engine.specs.declared.stage.Stage.{Stage}
 use Rattle.salt_keeps.specs.Points.{Point}
 use Rattle.salt_model.specs.Kept.{Kept}
@@ -47,7 +47,6 @@ module _ (shape : Shape) (started : Bool) (o : Option Store) (n : Numbers) (q : 
 
   pub stands-left : (stage : Stage) → Left (StandsHeld shape started o n q d) (StandsLeft shape started o n q d) stage room p → StandsAt shape room p image
   stands-left (Found books numbers) h = held h.0 h.1 h.2
-  stands-left New h = either h.0 h.1 h.2 h.3 h.4
   stands-left (Opening x) h = either h.0 h.1 h.2 h.3 h.4
   stands-left (Serving x) h = either h.0 h.1 h.2 h.3 h.4
   stands-left (Down books) h = either h.0 h.1 h.2 h.3 h.4

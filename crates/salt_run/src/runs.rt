@@ -27,8 +27,8 @@ use salt_disk::Disks;
 use salt_engine::Engine;
 use salt_io::{Sink, Source};
 use salt_model::{Flight, Story};
-use salt_serving::{Loaded, Status, Stop, load, serve, status_of};
-use salt_steps::Stepping;
+use salt_serving::{Loaded, Status, Stop, load, serve, status_of, stop_opening, tell_unfound};
+use salt_steps::{Stepping, find};
 use salt_summary::print_summary;
 use salt_values::{Key, PlaceKind, Placement, Shape};
 use sqlite_items::Items;
@@ -99,12 +99,23 @@ pub fn run_script<S: Source, K: Sink, D: Disks, F: Fn(PlaceKind, &Key, u32) -> u
     ensures shape { SameShape (D.view disks.old) (D.view disks.new) }
 {
     let mut story = Items::new(alloc);
-    let mut engine = Engine::new(alloc, Devices::new(alloc, shape_of(parts)));
-    let status = status_behind(serve(alloc, &mut engine, disks, place, source, sink, &mut story));
-    Ended {
-        status,
-        story,
-        flight: flight_at(status, engine.flight()),
+    let mut devices = Devices::new(alloc, shape_of(parts));
+    match find(&mut devices, disks, place, &mut story) {
+        Ok(found) => {
+            let mut engine = Engine::new(alloc, devices, found);
+            let done = serve(alloc, &mut engine, disks, place, source, sink, &mut story);
+            let status = status_behind(done);
+            Ended {
+                status,
+                story,
+                flight: flight_at(status, engine.flight()),
+            }
+        }
+        Err(reason) => Ended {
+            status: status_behind(tell_unfound(alloc, reason, sink, &story)),
+            story,
+            flight: None,
+        },
     }
 }
 
@@ -161,12 +172,22 @@ pub fn run_load<K: Sink, D: Disks, F: Fn(PlaceKind, &Key, u32) -> u32>(
     ensures shape { SameShape (D.view disks.old) (D.view disks.new) }
 {
     let mut story = Items::new(alloc);
-    let mut engine = Engine::new(alloc, Devices::new(alloc, shape_of(PARTS)));
-    let Loaded { lines, done } = load(alloc, &mut engine, disks, place, calls, &mut story);
-    let written = write_summary(calls, lines, status_behind(done), sink, &story);
-    Ended {
-        status: written,
-        story,
-        flight: flight_at(written, engine.flight()),
+    let mut devices = Devices::new(alloc, shape_of(PARTS));
+    match find(&mut devices, disks, place, &mut story) {
+        Ok(found) => {
+            let mut engine = Engine::new(alloc, devices, found);
+            let Loaded { lines, done } = load(alloc, &mut engine, disks, place, calls, &mut story);
+            let status = write_summary(calls, lines, status_behind(done), sink, &story);
+            Ended {
+                status,
+                story,
+                flight: flight_at(status, engine.flight()),
+            }
+        }
+        Err(reason) => Ended {
+            status: write_summary(calls, 0, status_of(stop_opening(reason)), sink, &story),
+            story,
+            flight: None,
+        },
     }
 }

@@ -1,50 +1,139 @@
+use Rattle.salt_devices.specs.Standing.{StandsHeld}
+use Rattle.salt_devices.specs.declared.devices.Devices.{Devices}
+use Rattle.salt_engine.proofs.Lying.{opened-first}
 use Rattle.salt_engine.specs.Flights.{flight_of}
-use Rattle.salt_run.proofs.EngineEnds.{as-told, behind-faults, behind-outcome, load-refused, load-runs}
+use Rattle.salt_model.specs.Trace.{Start}
+use Rattle.salt_run.proofs.EngineEnds.{any-start, as-told, begins-over, behind-faults, behind-outcome, behind-refused, behind-stops, flight-none, found-counts, found-is, load-over, nothing, nothing-begun, over-refused, unfound-counts, unfound-load, unfound-status}
+use Rattle.salt_run.proofs.Replayed.{load-replays}
 use Rattle.salt_run.proofs.runs.run_load.Goals as goal
+use Rattle.salt_run.specs.Commands.{shape_of}
 use Rattle.salt_run.specs.Doing.{streams}
 use Rattle.salt_run.specs.Ending.{flight_at}
-use Rattle.salt_serving.specs.Stopping.{outcome}
+use Rattle.salt_serving.proofs.Loads.{unfound-loaded}
+use Rattle.salt_serving.specs.Loading.{IsPlayedLoad}
+use Rattle.salt_serving.specs.Stopping.{outcome, status_of, status_opening}
 use Rattle.salt_words.specs.declared.command.Command.TheVariants.{Load}
-use Rattle.std.proofs.Common.{ap, refl, ◌∙◌}
+use Rattle.std.proofs.Common.{ap, inl, inr, refl, subst, sym, ◌∙◌}
+use Rattle.std.specs.Prelude.{Err, None}
 
-pub returns-clause-runs : goal.returns-clause-runs
-returns-clause-runs g c left =
+pub new-engine-requires : goal.new-engine-requires
+new-engine-requires g c = c.in-Ok.ensures.found.unspent
+
+pub load-lines-requires-clause-begins : goal.load-lines-requires-clause-begins
+load-lines-requires-clause-begins g c =
+    let f = c.in-Ok.ensures.found in
+    let mid = g.D.Disks.view c.find.new.disks in
+    let new = c.new-engine.ensures.is_new f.kept f.is f.sound in
+    let opens = opened-first _ _ mid.can_stop _ _ _ f.kept new (subst (λ (x : Devices). StandsHeld x.shape x.started x.store x.numbers x.pending mid f.kept) (sym c.new-engine.ensures.storage) f.holding) f.sound in
+    let b = begins-over f.kept mid.can_stop _ _ c.find.new.story c.find.ensures.unfound f.sound opens (ap flight_of new.none) in
+    (record { kept = f.kept; can_stop = mid.can_stop }, b.0, b.1)
+
+pub returns-in-Ok-clause-runs : goal.returns-in-Ok-clause-runs
+returns-in-Ok-clause-runs g c left =
     let d = g.D.Disks.view c.args.disks.now in
+    let mid = g.D.Disks.view c.find.new.disks in
     let e = g.D.Disks.view c.load-lines.new.disks in
+    let f = c.in-Ok.ensures.found in
     let x = c.load-lines.new.engine in
     let y = x.storage in
-    let z = c.new-engine.result.storage in
-    let status = c.write_summary-written.result in
+    let z = c.new-devices.result in
     let r = c.load-lines.result in
-    let s = streams left left (g.K.Sink.held c.args.sink.now) (g.K.Sink.held c.write_summary-written.new.sink) in
+    let status = c.write_summary-status.result in
+    let s = streams left left (g.K.Sink.held c.args.sink.now) (g.K.Sink.held c.write_summary-status.new.sink) in
+    let start : Start = record { kept = f.kept; can_stop = mid.can_stop } in
+    let new = c.new-engine.ensures.is_new f.kept f.is f.sound in
+    let opens = opened-first _ _ mid.can_stop _ _ _ f.kept new (subst (λ (x : Devices). StandsHeld x.shape x.started x.store x.numbers x.pending mid f.kept) (sym c.new-engine.ensures.storage) f.holding) f.sound in
+    let b = begins-over f.kept mid.can_stop _ _ c.find.new.story c.find.ensures.unfound f.sound opens (ap flight_of new.none) in
+    let asked = c.new-devices.ensures.shape ∙ c.shape_of.ensures in
     as-told (Load c.args.calls) d e s c.load-lines.new.story status status (flight_of x.in_flight) c.flight_at.result refl (c.flight_at.ensures ∙ ap (flight_at status) c.flight.ensures)
-    (load-runs c.requires.promised d e z.started z.shape ((λ i. (c.new-engine.ensures.storage i).started) ∙ c.new.ensures.started)
-    y.shape y.started y.store y.numbers y.pending x.stage x.single x.in_flight c.load-lines.ensures.asked status
-    (flight_of x.in_flight) s c.load-lines.new.story c.args.calls r.lines (outcome r.done)
-    (behind-outcome (outcome r.done) c.status_behind.result status c.status_behind.ensures c.write_summary-written.ensures.written)
-    ((λ i. (c.new-engine.ensures.storage i).shape) ∙ c.new.ensures.shape ∙ c.shape_of.ensures) c.write_summary-written.ensures.summed c.load-lines.ensures.ended)
+    (inl (load-over d e y.shape y.started y.store y.numbers y.pending x.stage x.single x.in_flight c.requires.promised start f.sound c.find.ensures.shape.can_stop (flight_of x.in_flight) s c.load-lines.new.story
+    c.args.calls r.lines (c.load-lines.ensures.asked ∙ (λ i. (c.new-engine.ensures.storage i).shape) ∙ c.find.ensures.asked ∙ asked)
+    (found-is (Load c.args.calls) d z.started z.shape c.new-devices.ensures.started asked f.kept f.found) (outcome r.done) status
+    (behind-outcome (outcome r.done) c.status_behind.result status c.status_behind.ensures c.write_summary-status.ensures.written) c.write_summary-status.ensures.summed (c.load-lines.ensures.ended start b.0 b.1)))
 
-pub returns-clause-refused : goal.returns-clause-refused
-returns-clause-refused g c =
+pub returns-in-Ok-clause-refused : goal.returns-in-Ok-clause-refused
+returns-in-Ok-clause-refused g c =
     let d = g.D.Disks.view c.args.disks.now in
+    let mid = g.D.Disks.view c.find.new.disks in
     let e = g.D.Disks.view c.load-lines.new.disks in
-    let x = c.load-lines.new.engine in
-    let y = x.storage in
-    let z = c.new-engine.result.storage in
-    let status = c.write_summary-written.result in
+    let f = c.in-Ok.ensures.found in
     let r = c.load-lines.result in
-    let held = g.K.Sink.held c.args.sink.now in
-    let s = streams held held held (g.K.Sink.held c.write_summary-written.new.sink) in
-    load-refused c.requires.promised d e z.started z.shape ((λ i. (c.new-engine.ensures.storage i).started) ∙ c.new.ensures.started)
-    y.shape y.started y.store y.numbers y.pending x.stage x.single x.in_flight c.load-lines.ensures.asked status
-    (flight_of x.in_flight) s c.load-lines.new.story c.args.calls r.lines (outcome r.done)
-    (behind-outcome (outcome r.done) c.status_behind.result status c.status_behind.ensures c.write_summary-written.ensures.written)
-    ((λ i. (c.new-engine.ensures.storage i).shape) ∙ c.new.ensures.shape ∙ c.shape_of.ensures) c.write_summary-written.ensures.summed c.load-lines.ensures.ended c.load-lines.ensures.unchanged
+    let status = c.write_summary-status.result in
+    let start : Start = record { kept = f.kept; can_stop = mid.can_stop } in
+    let new = c.new-engine.ensures.is_new f.kept f.is f.sound in
+    let opens = opened-first _ _ mid.can_stop _ _ _ f.kept new (subst (λ (x : Devices). StandsHeld x.shape x.started x.store x.numbers x.pending mid f.kept) (sym c.new-engine.ensures.storage) f.holding) f.sound in
+    let b = begins-over f.kept mid.can_stop _ _ c.find.new.story c.find.ensures.unfound f.sound opens (ap flight_of new.none) in
+    let ends = (c.load-lines.ensures.ended start b.0 b.1).1 in
+    behind-refused d e (shape_of (Load c.args.calls)) c.load-lines.new.story (outcome r.done) status
+    (behind-outcome (outcome r.done) c.status_behind.result status c.status_behind.ensures c.write_summary-status.ensures.written)
+    (over-refused d e (shape_of (Load c.args.calls)) c.load-lines.new.story ends.room ends.point (outcome r.done) ends.may)
 
-pub returns-clause-downs : goal.returns-clause-downs
-returns-clause-downs g c =
-    let d = g.D.Disks.view c.args.disks.now in
-    let e = g.D.Disks.view c.load-lines.new.disks in
+pub returns-in-Ok-clause-downs : goal.returns-in-Ok-clause-downs
+returns-in-Ok-clause-downs g c =
+    let view = g.D.Disks.view in
     let r = c.load-lines.result in
-    behind-faults d e c.load-lines.new.story (outcome r.done) c.write_summary-written.result
-    (behind-outcome (outcome r.done) c.status_behind.result c.write_summary-written.result c.status_behind.ensures c.write_summary-written.ensures.written) c.load-lines.ensures.counts
+    let status = c.write_summary-status.result in
+    behind-faults (view c.args.disks.now) (view c.load-lines.new.disks) c.load-lines.new.story (outcome r.done) status
+    (behind-outcome (outcome r.done) c.status_behind.result status c.status_behind.ensures c.write_summary-status.ensures.written)
+    (found-counts (view c.args.disks.now) (view c.find.new.disks) (view c.load-lines.new.disks) (outcome r.done) c.find.new.story c.load-lines.new.story c.in-Ok.ensures.counts c.load-lines.ensures.counts)
+
+pub returns-in-Ok-clause-stops : goal.returns-in-Ok-clause-stops
+returns-in-Ok-clause-stops g c =
+    let view = g.D.Disks.view in
+    let r = c.load-lines.result in
+    let status = c.write_summary-status.result in
+    behind-stops (view c.args.disks.now) (view c.load-lines.new.disks) c.load-lines.new.story (outcome r.done) status
+    (behind-outcome (outcome r.done) c.status_behind.result status c.status_behind.ensures c.write_summary-status.ensures.written)
+    (found-counts (view c.args.disks.now) (view c.find.new.disks) (view c.load-lines.new.disks) (outcome r.done) c.find.new.story c.load-lines.new.story c.in-Ok.ensures.counts c.load-lines.ensures.counts)
+
+-- NOTHING WAS FOUND
+
+pub stop_opening-requires : goal.stop_opening-requires
+stop_opening-requires g c = λ is. c.find.ensures.unstopped (c.in-Err.is ∙ ap Err is)
+
+pub returns-in-Err-clause-runs : goal.returns-in-Err-clause-runs
+returns-in-Err-clause-runs g c left =
+    let d = g.D.Disks.view c.args.disks.now in
+    let e = g.D.Disks.view c.find.new.disks in
+    let y = c.find.new.storage in
+    let z = c.new-devices.result in
+    let status = c.write_summary.result in
+    let s = streams left left (g.K.Sink.held c.args.sink.now) (g.K.Sink.held c.write_summary.new.sink) in
+    let old = status_opening c.in-Err.reason in
+    let how = behind-outcome old c.status_of.result status (c.status_of.ensures ∙ ap status_of c.stop_opening.ensures.is) c.write_summary.ensures.written in
+    let run : (start : Start) → IsPlayedLoad start status None c.args.calls 0 c.find.new.story = λ start. unfound-load c.args.calls old status how start c.find.new.story (unfound-loaded c.in-Err.reason c.args.calls c.find.new.story c.find.ensures.unfound c.in-Err.ensures.err.empty start) in
+    as-told (Load c.args.calls) d e s c.find.new.story status status None None refl (sym (flight-none status))
+    (inr (nothing (Load c.args.calls) d z.started z.shape c.new-devices.ensures.started (c.new-devices.ensures.shape ∙ c.shape_of.ensures) e y.shape y.started y.pending c.find.ensures.asked c.in-Err.ensures.able
+    c.in-Err.reason c.find.new.story c.in-Err.ensures.err status (flight_at status None) s (unfound-status c.in-Err.reason old status refl how) c.find.ensures.unfound
+    (λ start well. load-replays c.requires.promised c.args.calls 0 status None s c.find.new.story start well (run start) c.write_summary.ensures.summed)))
+
+pub returns-in-Err-clause-refused : goal.returns-in-Err-clause-refused
+returns-in-Err-clause-refused g c =
+    let d = g.D.Disks.view c.args.disks.now in
+    let e = g.D.Disks.view c.find.new.disks in
+    let y = c.find.new.storage in
+    let z = c.new-devices.result in
+    let status = c.write_summary.result in
+    let old = status_opening c.in-Err.reason in
+    let how = behind-outcome old c.status_of.result status (c.status_of.ensures ∙ ap status_of c.stop_opening.ensures.is) c.write_summary.ensures.written in
+    let p = unfound-load c.args.calls old status how any-start c.find.new.story (unfound-loaded c.in-Err.reason c.args.calls c.find.new.story c.find.ensures.unfound c.in-Err.ensures.err.empty any-start) in
+    nothing-begun (Load c.args.calls) d z.started z.shape c.new-devices.ensures.started (c.new-devices.ensures.shape ∙ c.shape_of.ensures) e y.shape y.started y.pending c.find.ensures.asked c.in-Err.ensures.able
+    c.in-Err.reason c.find.new.story c.in-Err.ensures.err status p.trace (unfound-status c.in-Err.reason old status refl how) p.tells.told p.leaves c.in-Err.ensures.unchanged
+
+pub returns-in-Err-clause-downs : goal.returns-in-Err-clause-downs
+returns-in-Err-clause-downs g c =
+    let view = g.D.Disks.view in
+    let status = c.write_summary.result in
+    let old = status_opening c.in-Err.reason in
+    let how = behind-outcome old c.status_of.result status (c.status_of.ensures ∙ ap status_of c.stop_opening.ensures.is) c.write_summary.ensures.written in
+    (unfound-counts (view c.args.disks.now) (view c.find.new.disks) c.in-Err.reason status c.find.new.story (λ is. c.find.ensures.unstopped (c.in-Err.is ∙ ap Err is)) c.in-Err.ensures.counts
+    (unfound-status c.in-Err.reason old status refl how)).faults
+
+pub returns-in-Err-clause-stops : goal.returns-in-Err-clause-stops
+returns-in-Err-clause-stops g c =
+    let view = g.D.Disks.view in
+    let status = c.write_summary.result in
+    let old = status_opening c.in-Err.reason in
+    let how = behind-outcome old c.status_of.result status (c.status_of.ensures ∙ ap status_of c.stop_opening.ensures.is) c.write_summary.ensures.written in
+    (unfound-counts (view c.args.disks.now) (view c.find.new.disks) c.in-Err.reason status c.find.new.story (λ is. c.find.ensures.unstopped (c.in-Err.is ∙ ap Err is)) c.in-Err.ensures.counts
+    (unfound-status c.in-Err.reason old status refl how)).stops

@@ -1,37 +1,122 @@
+use Rattle.salt_devices.specs.Standing.{StandsHeld}
+use Rattle.salt_devices.specs.declared.devices.Devices.{Devices}
+use Rattle.salt_engine.proofs.Lying.{opened-first}
 use Rattle.salt_engine.specs.Flights.{flight_of}
-use Rattle.salt_run.proofs.EngineEnds.{as-told, refused-as, script-refused, script-runs}
+use Rattle.salt_model.specs.Trace.{Start}
+use Rattle.salt_run.proofs.EngineEnds.{any-start, as-told, begins-over, behind-faults, flight-none, found-counts, found-is, nothing, nothing-begun, over-refused, refused-as, script-over, unfound-counts}
+use Rattle.salt_run.proofs.Replayed.{script-replays}
 use Rattle.salt_run.proofs.runs.run_script.Goals as goal
 use Rattle.salt_run.specs.Commands.{shape_of}
 use Rattle.salt_run.specs.Doing.{streams}
 use Rattle.salt_run.specs.Ending.{flight_at}
 use Rattle.salt_serving.specs.Stopping.{outcome}
 use Rattle.salt_words.specs.declared.command.Command.TheVariants.{Run}
-use Rattle.std.proofs.Common.{ap, ◌∙◌}
+use Rattle.std.proofs.Common.{ap, inl, inr, subst, sym, ◌∙◌}
+use Rattle.std.specs.Prelude.{Err, None}
 
-pub returns-clause-runs : goal.returns-clause-runs
-returns-clause-runs g c =
+pub new-engine-requires : goal.new-engine-requires
+new-engine-requires g c = c.in-Ok.ensures.found.unspent
+
+pub serve-done-requires-clause-begins : goal.serve-done-requires-clause-begins
+serve-done-requires-clause-begins g c =
+    let f = c.in-Ok.ensures.found in
+    let mid = g.D.Disks.view c.find.new.disks in
+    let new = c.new-engine.ensures.is_new f.kept f.is f.sound in
+    let opens = opened-first _ _ mid.can_stop _ _ _ f.kept new (subst (λ (x : Devices). StandsHeld x.shape x.started x.store x.numbers x.pending mid f.kept) (sym c.new-engine.ensures.storage) f.holding) f.sound in
+    let b = begins-over f.kept mid.can_stop _ _ c.find.new.story c.find.ensures.unfound f.sound opens (ap flight_of new.none) in
+    (record { kept = f.kept; can_stop = mid.can_stop }, b.0, b.1)
+
+pub returns-in-Ok-clause-runs : goal.returns-in-Ok-clause-runs
+returns-in-Ok-clause-runs g c =
     let d = g.D.Disks.view c.args.disks.now in
-    let e = g.D.Disks.view c.serve.new.disks in
-    let x = c.serve.new.engine in
+    let mid = g.D.Disks.view c.find.new.disks in
+    let e = g.D.Disks.view c.serve-done.new.disks in
+    let f = c.in-Ok.ensures.found in
+    let x = c.serve-done.new.engine in
     let y = x.storage in
-    let z = c.new-engine.result.storage in
+    let z = c.new-devices.result in
     let status = c.status_behind-status.result in
-    let s = streams (g.S.Source.left c.args.source.now) (g.S.Source.left c.serve.new.source) (g.K.Sink.held c.args.sink.now) (g.K.Sink.held c.serve.new.sink) in
-    as-told (Run c.args.parts) d e s c.serve.new.story (outcome c.serve.result) status (flight_of x.in_flight) c.flight_at.result c.status_behind-status.ensures
+    let s = streams (g.S.Source.left c.args.source.now) (g.S.Source.left c.serve-done.new.source) (g.K.Sink.held c.args.sink.now) (g.K.Sink.held c.serve-done.new.sink) in
+    let start : Start = record { kept = f.kept; can_stop = mid.can_stop } in
+    let new = c.new-engine.ensures.is_new f.kept f.is f.sound in
+    let opens = opened-first _ _ mid.can_stop _ _ _ f.kept new (subst (λ (x : Devices). StandsHeld x.shape x.started x.store x.numbers x.pending mid f.kept) (sym c.new-engine.ensures.storage) f.holding) f.sound in
+    let b = begins-over f.kept mid.can_stop _ _ c.find.new.story c.find.ensures.unfound f.sound opens (ap flight_of new.none) in
+    let asked = c.new-devices.ensures.shape ∙ c.shape_of.ensures in
+    as-told (Run c.args.parts) d e s c.serve-done.new.story (outcome c.serve-done.result) status (flight_of x.in_flight) c.flight_at.result c.status_behind-status.ensures
     (c.flight_at.ensures ∙ ap (flight_at status) c.flight.ensures)
-    (script-runs c.requires.promised d e z.started z.shape ((λ i. (c.new-engine.ensures.storage i).started) ∙ c.new.ensures.started)
-    y.shape y.started y.store y.numbers y.pending x.stage x.single x.in_flight c.serve.ensures.asked (outcome c.serve.result)
-    (flight_of x.in_flight) s c.serve.new.story c.args.parts ((λ i. (c.new-engine.ensures.storage i).shape) ∙ c.new.ensures.shape ∙ c.shape_of.ensures) c.serve.ensures.ended)
+    (inl (script-over d e y.shape y.started y.store y.numbers y.pending x.stage x.single x.in_flight c.requires.promised start f.sound c.find.ensures.shape.can_stop (flight_of x.in_flight) s c.serve-done.new.story
+    c.args.parts (c.serve-done.ensures.asked ∙ (λ i. (c.new-engine.ensures.storage i).shape) ∙ c.find.ensures.asked ∙ asked)
+    (found-is (Run c.args.parts) d z.started z.shape c.new-devices.ensures.started asked f.kept f.found) (outcome c.serve-done.result) (c.serve-done.ensures.ended start b.0 b.1)))
 
-pub returns-clause-refused : goal.returns-clause-refused
-returns-clause-refused g c =
+pub returns-in-Ok-clause-refused : goal.returns-in-Ok-clause-refused
+returns-in-Ok-clause-refused g c =
     let d = g.D.Disks.view c.args.disks.now in
-    let e = g.D.Disks.view c.serve.new.disks in
-    let x = c.serve.new.engine in
-    let y = x.storage in
-    let z = c.new-engine.result.storage in
-    let s = streams (g.S.Source.left c.args.source.now) (g.S.Source.left c.serve.new.source) (g.K.Sink.held c.args.sink.now) (g.K.Sink.held c.serve.new.sink) in
-    refused-as d e (shape_of (Run c.args.parts)) c.serve.new.story (outcome c.serve.result) c.status_behind-status.result c.status_behind-status.ensures
-    (script-refused c.requires.promised d e z.started z.shape ((λ i. (c.new-engine.ensures.storage i).started) ∙ c.new.ensures.started)
-    y.shape y.started y.store y.numbers y.pending x.stage x.single x.in_flight c.serve.ensures.asked (outcome c.serve.result)
-    (flight_of x.in_flight) s c.serve.new.story c.args.parts ((λ i. (c.new-engine.ensures.storage i).shape) ∙ c.new.ensures.shape ∙ c.shape_of.ensures) c.serve.ensures.ended c.serve.ensures.unchanged)
+    let mid = g.D.Disks.view c.find.new.disks in
+    let e = g.D.Disks.view c.serve-done.new.disks in
+    let f = c.in-Ok.ensures.found in
+    let start : Start = record { kept = f.kept; can_stop = mid.can_stop } in
+    let new = c.new-engine.ensures.is_new f.kept f.is f.sound in
+    let opens = opened-first _ _ mid.can_stop _ _ _ f.kept new (subst (λ (x : Devices). StandsHeld x.shape x.started x.store x.numbers x.pending mid f.kept) (sym c.new-engine.ensures.storage) f.holding) f.sound in
+    let b = begins-over f.kept mid.can_stop _ _ c.find.new.story c.find.ensures.unfound f.sound opens (ap flight_of new.none) in
+    let ends = (c.serve-done.ensures.ended start b.0 b.1).1 in
+    refused-as d e (shape_of (Run c.args.parts)) c.serve-done.new.story (outcome c.serve-done.result) c.status_behind-status.result c.status_behind-status.ensures
+    (over-refused d e (shape_of (Run c.args.parts)) c.serve-done.new.story ends.room ends.point (outcome c.serve-done.result) ends.may)
+
+pub returns-in-Ok-clause-downs : goal.returns-in-Ok-clause-downs
+returns-in-Ok-clause-downs g c =
+    let view = g.D.Disks.view in
+    behind-faults (view c.args.disks.now) (view c.serve-done.new.disks) c.serve-done.new.story (outcome c.serve-done.result) c.status_behind-status.result (inl c.status_behind-status.ensures)
+    (found-counts (view c.args.disks.now) (view c.find.new.disks) (view c.serve-done.new.disks) (outcome c.serve-done.result) c.find.new.story c.serve-done.new.story c.in-Ok.ensures.counts c.serve-done.ensures.counts)
+
+pub returns-in-Ok-clause-stops : goal.returns-in-Ok-clause-stops
+returns-in-Ok-clause-stops g c = λ some.
+    let view = g.D.Disks.view in
+    (found-counts (view c.args.disks.now) (view c.find.new.disks) (view c.serve-done.new.disks) (outcome c.serve-done.result) c.find.new.story c.serve-done.new.story c.in-Ok.ensures.counts c.serve-done.ensures.counts).stops
+    (λ m. some (c.status_behind-status.ensures ∙ m))
+
+-- NOTHING WAS FOUND
+
+pub tell_unfound-requires-clause-unstopped : goal.tell_unfound-requires-clause-unstopped
+tell_unfound-requires-clause-unstopped g c = λ is. c.find.ensures.unstopped (c.in-Err.is ∙ ap Err is)
+
+pub tell_unfound-requires-clause-empty : goal.tell_unfound-requires-clause-empty
+tell_unfound-requires-clause-empty g c = c.in-Err.ensures.err.empty
+
+pub returns-in-Err-clause-runs : goal.returns-in-Err-clause-runs
+returns-in-Err-clause-runs g c =
+    let d = g.D.Disks.view c.args.disks.now in
+    let e = g.D.Disks.view c.find.new.disks in
+    let y = c.find.new.storage in
+    let z = c.new-devices.result in
+    let status = c.status_behind.result in
+    let s = streams (g.S.Source.left c.args.source.now) (g.S.Source.left c.args.source.now) (g.K.Sink.held c.args.sink.now) (g.K.Sink.held c.tell_unfound.new.sink) in
+    let now = outcome c.tell_unfound.result in
+    as-told (Run c.args.parts) d e s c.find.new.story now status None None c.status_behind.ensures (sym (flight-none status))
+    (inr (nothing (Run c.args.parts) d z.started z.shape c.new-devices.ensures.started (c.new-devices.ensures.shape ∙ c.shape_of.ensures) e y.shape y.started y.pending c.find.ensures.asked c.in-Err.ensures.able
+    c.in-Err.reason c.find.new.story c.in-Err.ensures.err now (flight_at now None) s c.tell_unfound.ensures.is c.find.ensures.unfound
+    (λ start well. script-replays c.requires.promised c.args.parts now None s c.find.new.story start well (c.tell_unfound.ensures.run start (g.S.Source.left c.args.source.now) (g.S.Source.left c.args.source.now)))))
+
+pub returns-in-Err-clause-refused : goal.returns-in-Err-clause-refused
+returns-in-Err-clause-refused g c =
+    let d = g.D.Disks.view c.args.disks.now in
+    let e = g.D.Disks.view c.find.new.disks in
+    let y = c.find.new.storage in
+    let z = c.new-devices.result in
+    let now = outcome c.tell_unfound.result in
+    let p = (c.tell_unfound.ensures.run any-start (g.S.Source.left c.args.source.now) (g.S.Source.left c.args.source.now)).played in
+    refused-as d e (shape_of (Run c.args.parts)) c.find.new.story now c.status_behind.result c.status_behind.ensures
+    (nothing-begun (Run c.args.parts) d z.started z.shape c.new-devices.ensures.started (c.new-devices.ensures.shape ∙ c.shape_of.ensures) e y.shape y.started y.pending c.find.ensures.asked c.in-Err.ensures.able
+    c.in-Err.reason c.find.new.story c.in-Err.ensures.err now p.trace c.tell_unfound.ensures.is p.tells.told p.leaves c.in-Err.ensures.unchanged)
+
+pub returns-in-Err-clause-downs : goal.returns-in-Err-clause-downs
+returns-in-Err-clause-downs g c =
+    let view = g.D.Disks.view in
+    behind-faults (view c.args.disks.now) (view c.find.new.disks) c.find.new.story (outcome c.tell_unfound.result) c.status_behind.result (inl c.status_behind.ensures)
+    (unfound-counts (view c.args.disks.now) (view c.find.new.disks) c.in-Err.reason (outcome c.tell_unfound.result) c.find.new.story (λ is. c.find.ensures.unstopped (c.in-Err.is ∙ ap Err is)) c.in-Err.ensures.counts
+    c.tell_unfound.ensures.is)
+
+pub returns-in-Err-clause-stops : goal.returns-in-Err-clause-stops
+returns-in-Err-clause-stops g c = λ some.
+    let view = g.D.Disks.view in
+    (unfound-counts (view c.args.disks.now) (view c.find.new.disks) c.in-Err.reason (outcome c.tell_unfound.result) c.find.new.story (λ is. c.find.ensures.unstopped (c.in-Err.is ∙ ap Err is)) c.in-Err.ensures.counts
+    c.tell_unfound.ensures.is).stops (λ m. some (c.status_behind.ensures ∙ m))
