@@ -47,15 +47,15 @@ fn place_in(units: &[Held], unit: Id) -> Option<usize>
 }
 
 impl Books {
-    /// No units, and what is known of a database.
-    pub fn new(alloc: Global, known: Known) -> Books
+    /// No units, and what is known of a database; so many units have begun in this boot, and no program.
+    pub fn new(alloc: Global, known: Known, begun: u64) -> Books
         ensures { (k : Kept) (phase : Phase) (line : Line) → IsKnown known k → AreBooks result (record {
           kept = k;
           phase = phase;
           line = line;
           to_go = [];
           units = [];
-          unit_count = 0;
+          unit_count = begun;
           base_count = 0;
         }) }
     {
@@ -63,10 +63,23 @@ impl Books {
             alloc,
             known,
             units: Vec::new(alloc),
-            unit_count: 0,
+            unit_count: begun,
             base_count: 0,
             to_go: Vec::new(alloc),
         }
+    }
+
+    /// What is known of the database, and how many units have begun in this boot.
+    pub fn into_parts(self) -> (Known, u64)
+        ensures known { result.0 ≡ self.known }
+        ensures begun { result.1 ≡ self.unit_count }
+    {
+        let Books {
+            known,
+            unit_count,
+            ..
+        } = self;
+        (known, unit_count)
     }
 
     /// Where the unit of a name stands.

@@ -68,6 +68,23 @@ impl Known {
         }
     }
 
+    /// The tables and the programs defined, the boot, and the number of the last decision.
+    pub fn into_parts(self) -> (Schema, Catalogue, u64, u64)
+        ensures schema { result.0 ≡ self.schema }
+        ensures catalogue { result.1 ≡ self.catalogue }
+        ensures boot { result.2 ≡ self.boot }
+        ensures decisions { result.3 ≡ self.decisions }
+    {
+        let Known {
+            schema,
+            catalogue,
+            boot,
+            decisions,
+            ..
+        } = self;
+        (schema, catalogue, boot, decisions)
+    }
+
     /// The tables defined.
     pub fn schema(&self) -> &Schema
         ensures { result.now ≡ self.now.schema }
