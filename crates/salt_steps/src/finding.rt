@@ -82,6 +82,7 @@ pub fn find<S: Storage, D: Disks, F: Fn(PlaceKind, &Key, u32) -> u32>(
     ensures unfound { IsUnfound story.new }
     ensures err { IfErr result (λ e. FailsToFind (S.refuses (D.view disks.old) storage.old) (S.finds (D.view disks.old) storage.old)
         (S.refuses (D.view disks.new) storage.new) (S.finds (D.view disks.new) storage.new) (S.fills (D.view disks.new) storage.new) e story.new) }
+    ensures stays { OnErr result (S.unopened storage.new) }
     ensures able { OnErr result (S.able (D.view disks.new) storage.new) }
     ensures unchanged { IfErr result (λ e. IfRefused e (IsTrue (D.view disks.old).told → AreUnchanged (D.view disks.old) (D.view disks.new))) }
     ensures unstopped { result ≡ Err (Halted Stopped) → ⊥ }

@@ -3,10 +3,12 @@
 
 mod engine;
 mod finding;
+mod openable;
 mod opening;
 mod serving;
 
 pub use engine::Stepping;
 pub use finding::find;
+pub use openable::Openable;
 pub use opening::{drain, events_behind, open, recover};
 pub use serving::{refuse, step};

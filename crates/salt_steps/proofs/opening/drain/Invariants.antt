@@ -8,12 +8,12 @@ use Rattle.std.specs.Prelude.{None, Some, ◌≡◌}
 
 abbrev pub invariant-loop-next : goal.invariant-loop-next
 invariant-loop-next g l =
-    ((p : Point) → IsSoundPoint p → IsOpeningAt (g.E.Stepping.sees (g.D.Disks.view l.fn.disks)) l.fn.engine (Some l.fn.first) p →
-    Drains (g.E.Stepping.sees (g.D.Disks.view l.disks)) p l.fn.first l.fn.story l.engine l.next l.story l.fn.steps l.steps)
+    ((p : Point) → IsSoundPoint p → IsOpeningAt (g.E.Stepping.sees (g.D.Disks.view l.fn.disks)) l.fn.database (Some l.fn.first) p →
+    Drains (g.E.Stepping.sees (g.D.Disks.view l.disks)) p l.fn.first l.fn.story l.database l.next l.story l.fn.steps l.steps)
     × CountsOpening (g.D.Disks.view l.fn.disks) (g.D.Disks.view l.disks) None l.fn.story l.story
     × SameShape (g.D.Disks.view l.fn.disks) (g.D.Disks.view l.disks)
     × (armed_at l.next ≡ 0)
-    × (g.E.Stepping.asked l.engine ≡ g.E.Stepping.asked l.fn.engine)
+    × (g.E.Stepping.asked l.database ≡ g.E.Stepping.asked l.fn.database)
 
 abbrev pub decreases-loop-next : goal.decreases-loop-next
-decreases-loop-next g l = g.E.Stepping.to_open l.engine l.next
+decreases-loop-next g l = g.E.Openable.to_open l.database l.next

@@ -8,12 +8,12 @@ use Rattle.std.specs.Prelude.{None, ◌≡◌}
 
 abbrev pub invariant-stops : goal.invariant-stops
 invariant-stops g l =
-    g.E.Stepping.settled (g.D.Disks.view l.disks) l.engine
-    × ((start : Start) (trace : Trace) → IsDown (g.E.Stepping.lies (g.D.Disks.view l.fn.disks) l.fn.engine) (g.E.Stepping.flight l.fn.engine) start l.fn.story trace →
-    FallsAnew (g.E.Stepping.lies (g.D.Disks.view l.disks) l.engine) (g.E.Stepping.flight l.engine) start trace l.fn.story l.story)
+    g.E.Openable.settled (g.D.Disks.view l.disks) l.database
+    × ((start : Start) (trace : Trace) → IsDown (g.E.Stepping.lies (g.D.Disks.view l.fn.disks) l.fn.database) (g.E.Stepping.flight l.fn.database) start l.fn.story trace →
+    FallsAnew (g.E.Stepping.lies (g.D.Disks.view l.disks) l.database) (g.E.Stepping.flight l.database) start trace l.fn.story l.story)
     × CountsOpening (g.D.Disks.view l.fn.disks) (g.D.Disks.view l.disks) None l.fn.story l.story
     × SameShape (g.D.Disks.view l.fn.disks) (g.D.Disks.view l.disks)
-    × (g.E.Stepping.asked l.engine ≡ g.E.Stepping.asked l.fn.engine)
+    × (g.E.Stepping.asked l.database ≡ g.E.Stepping.asked l.fn.database)
 
 abbrev pub decreases-stops : goal.decreases-stops
 decreases-stops g l = (g.D.Disks.view l.disks).stops_left

@@ -12,8 +12,8 @@ open-requires-clause-lies g c =
     let d = c.requires.down.2 in
     let start = c.requires.down.0 in
     let trace = c.requires.down.1 in
-    let lies = g.E.Stepping.lies (view c.args.disks.now) c.args.engine.now in
-    let flies = g.E.Stepping.flight c.args.engine.now in
+    let lies = g.E.Stepping.lies (view c.args.disks.now) c.args.database.now in
+    let flies = g.E.Stepping.flight c.args.database.now in
     (d.room, d.point, down-sound lies flies start c.args.story.now trace d, down-fallen lies flies start c.args.story.now trace d, d.again)
 
 pub finish_opening-requires-clause-stands : goal.finish_opening-requires-clause-stands
@@ -22,8 +22,8 @@ finish_opening-requires-clause-stands g c =
     let start = c.requires.down.0 in
     let trace = c.requires.down.1 in
     let story = c.args.story.now in
-    let lies = g.E.Stepping.lies (g.D.Disks.view c.args.disks.now) c.args.engine.now in
-    let flies = g.E.Stepping.flight c.args.engine.now in
+    let lies = g.E.Stepping.lies (g.D.Disks.view c.args.disks.now) c.args.database.now in
+    let flies = g.E.Stepping.flight c.args.database.now in
     let o = c.in_ok-first.ensures.opens d.room d.point (down-sound lies flies start story trace d) (down-fallen lies flies start story trace d) d.again in
     (o.has.point, opened-sound lies flies start story trace d o.has, o.stands)
 
@@ -31,20 +31,20 @@ pub returns-clause-ok : goal.returns-clause-ok
 returns-clause-ok g c = on_ok_weaker c.finish_opening.result (λ ends start trace d.
     let view = g.D.Disks.view in
     let story = c.args.story.now in
-    let lies = g.E.Stepping.lies (view c.args.disks.now) c.args.engine.now in
-    let flies = g.E.Stepping.flight c.args.engine.now in
+    let lies = g.E.Stepping.lies (view c.args.disks.now) c.args.database.now in
+    let flies = g.E.Stepping.flight c.args.database.now in
     let sees = g.E.Stepping.sees (view c.finish_opening.new.disks) in
     let o = c.in_ok-first.ensures.opens d.room d.point (down-sound lies flies start story trace d) (down-fallen lies flies start story trace d) d.again in
-    opening-ends lies flies start story trace d sees o.has c.finish_opening.new.engine c.finish_opening.new.story
-    (behind-opened lies flies start story trace d sees o.has c.finish_opening.new.engine c.open.new.story c.finish_opening.new.story o.tells
+    opening-ends lies flies start story trace d sees o.has c.finish_opening.new.database c.finish_opening.new.story
+    (behind-opened lies flies start story trace d sees o.has c.finish_opening.new.database c.open.new.story c.finish_opening.new.story o.tells
     (ends o.has.point (opened-sound lies flies start story trace d o.has) o.stands))) c.finish_opening.ensures.ok
 
 pub returns-clause-err : goal.returns-clause-err
 returns-clause-err g c = IfErr-weaker c.finish_opening.result _ _ (λ halt breaks start trace d.
     let view = g.D.Disks.view in
     let story = c.args.story.now in
-    let lies = g.E.Stepping.lies (view c.args.disks.now) c.args.engine.now in
-    let flies = g.E.Stepping.flight c.args.engine.now in
+    let lies = g.E.Stepping.lies (view c.args.disks.now) c.args.database.now in
+    let flies = g.E.Stepping.flight c.args.database.now in
     let o = c.in_ok-first.ensures.opens d.room d.point (down-sound lies flies start story trace d) (down-fallen lies flies start story trace d) d.again in
     opening-breaks lies flies start story trace d _ _ _ _ halt o.has c.open.new.story c.finish_opening.new.story o.tells
     (breaks o.has.point (opened-sound lies flies start story trace d o.has) o.stands)) c.finish_opening.ensures.err
@@ -63,8 +63,8 @@ returns-clause-counts g c =
     let d = c.requires.down.2 in
     let start = c.requires.down.0 in
     let trace = c.requires.down.1 in
-    let lies = g.E.Stepping.lies (view c.args.disks.now) c.args.engine.now in
-    let flies = g.E.Stepping.flight c.args.engine.now in
+    let lies = g.E.Stepping.lies (view c.args.disks.now) c.args.database.now in
+    let flies = g.E.Stepping.flight c.args.database.now in
     let o = c.in_ok-first.ensures.opens d.room d.point (down-sound lies flies start story trace d) (down-fallen lies flies start story trace d) d.again in
     opening-join (view c.args.disks.now) (view c.open.new.disks) (view c.finish_opening.new.disks) _ story c.open.new.story c.finish_opening.new.story
     (opening-said (view c.args.disks.now) (view c.open.new.disks) None story c.open.new.story (Opened o.has.boot o.has.number) c.in_ok-first.ensures.counts refl refl refl o.tells)
@@ -75,8 +75,8 @@ returns-in_err-first-clause-err g c =
     let p = err_from_is_err_and c.from_residual.result c.from_residual.ensures.1 in
     rw (p.1, p.2) (λ start trace d.
     let view = g.D.Disks.view in
-    let lies = g.E.Stepping.lies (view c.args.disks.now) c.args.engine.now in
-    let flies = g.E.Stepping.flight c.args.engine.now in
+    let lies = g.E.Stepping.lies (view c.args.disks.now) c.args.database.now in
+    let flies = g.E.Stepping.flight c.args.database.now in
     let story = c.args.story.now in
     opening-fails lies flies start story trace d _ _ _ _ _ c.open.new.story c.in_err-first.ensures.untold c.in_err-first.ensures.flies
     (λ dev is. c.in_err-first.ensures.full dev (ap Err is))

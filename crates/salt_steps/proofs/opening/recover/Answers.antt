@@ -11,7 +11,7 @@ pub returns-in_err-push-clause-err : goal.returns-in_err-push-clause-err
 returns-in_err-push-clause-err g c =
     let p = err_from_is_err_and c.from_residual.result c.from_residual.ensures.1 in
     rw (p.1, p.2) (λ start trace h.
-    halted-short (g.E.Stepping.lies (g.D.Disks.view c.args.disks.now) c.args.engine.now) (g.E.Stepping.left (g.D.Disks.view c.args.disks.now) c.args.engine.now) (g.E.Stepping.fills (g.D.Disks.view c.args.disks.now) c.args.engine.now) _ (g.E.Stepping.flight c.args.engine.now) c.args.why start trace c.args.story.now c.push.new.self
+    halted-short (g.E.Stepping.lies (g.D.Disks.view c.args.disks.now) c.args.database.now) (g.E.Stepping.left (g.D.Disks.view c.args.disks.now) c.args.database.now) (g.E.Stepping.fills (g.D.Disks.view c.args.disks.now) c.args.database.now) _ (g.E.Stepping.flight c.args.database.now) c.args.why start trace c.args.story.now c.push.new.self
     c.in_err-push.ensures.err h)
 
 pub returns-in_err-push-clause-counts : goal.returns-in_err-push-clause-counts
@@ -28,7 +28,7 @@ open-requires-clause-down g c =
     let view = g.D.Disks.view in
     let h = c.requires.halted in
     let f =
-    falls-served (g.E.Stepping.lies (view c.args.disks.now) c.args.engine.now 0) (g.E.Stepping.left (view c.args.disks.now) c.args.engine.now 0) (g.E.Stepping.fills (view c.args.disks.now) c.args.engine.now) (g.E.Stepping.flight c.args.engine.now) c.args.why h.0 h.1 c.args.story.now h.2
+    falls-served (g.E.Stepping.lies (view c.args.disks.now) c.args.database.now 0) (g.E.Stepping.left (view c.args.disks.now) c.args.database.now 0) (g.E.Stepping.fills (view c.args.disks.now) c.args.database.now) (g.E.Stepping.flight c.args.database.now) c.args.why h.0 h.1 c.args.story.now h.2
     (g.E.Stepping.lies (view c.fall.new.disks) c.fall.new.self) (g.E.Stepping.flight c.fall.new.self) c.push.new.self (c.fall.ensures.lies 0) c.fall.ensures.flies c.in_ok-push.ensures.ok in
     (h.0, f.after, f.down)
 
@@ -38,9 +38,9 @@ returns-clause-ok g c = on_ok_weaker c.open.result (λ done start trace h.
     let lies = g.E.Stepping.lies (view c.fall.new.disks) c.fall.new.self in
     let flies = g.E.Stepping.flight c.fall.new.self in
     let f =
-    falls-served (g.E.Stepping.lies (view c.args.disks.now) c.args.engine.now 0) (g.E.Stepping.left (view c.args.disks.now) c.args.engine.now 0) (g.E.Stepping.fills (view c.args.disks.now) c.args.engine.now) (g.E.Stepping.flight c.args.engine.now) c.args.why start trace c.args.story.now h
+    falls-served (g.E.Stepping.lies (view c.args.disks.now) c.args.database.now 0) (g.E.Stepping.left (view c.args.disks.now) c.args.database.now 0) (g.E.Stepping.fills (view c.args.disks.now) c.args.database.now) (g.E.Stepping.flight c.args.database.now) c.args.why start trace c.args.story.now h
     lies flies c.push.new.self (c.fall.ensures.lies 0) c.fall.ensures.flies c.in_ok-push.ensures.ok in
-    reopens-behind lies lies flies flies start trace c.args.story.now c.push.new.self c.open.new.story f (g.E.Stepping.sees (view c.open.new.disks)) c.open.new.engine (done start f.after f.down)) c.open.ensures.ok
+    reopens-behind lies lies flies flies start trace c.args.story.now c.push.new.self c.open.new.story f (g.E.Stepping.sees (view c.open.new.disks)) c.open.new.database (done start f.after f.down)) c.open.ensures.ok
 
 pub returns-clause-err : goal.returns-clause-err
 returns-clause-err g c = IfErr-weaker c.open.result _ _ (λ e broken start trace h.
@@ -48,7 +48,7 @@ returns-clause-err g c = IfErr-weaker c.open.result _ _ (λ e broken start trace
     let lies = g.E.Stepping.lies (view c.fall.new.disks) c.fall.new.self in
     let flies = g.E.Stepping.flight c.fall.new.self in
     let f =
-    falls-served (g.E.Stepping.lies (view c.args.disks.now) c.args.engine.now 0) (g.E.Stepping.left (view c.args.disks.now) c.args.engine.now 0) (g.E.Stepping.fills (view c.args.disks.now) c.args.engine.now) (g.E.Stepping.flight c.args.engine.now) c.args.why start trace c.args.story.now h
+    falls-served (g.E.Stepping.lies (view c.args.disks.now) c.args.database.now 0) (g.E.Stepping.left (view c.args.disks.now) c.args.database.now 0) (g.E.Stepping.fills (view c.args.disks.now) c.args.database.now) (g.E.Stepping.flight c.args.database.now) c.args.why start trace c.args.story.now h
     lies flies c.push.new.self (c.fall.ensures.lies 0) c.fall.ensures.flies c.in_ok-push.ensures.ok in
-    breaks-behind lies (g.E.Stepping.lies (view c.open.new.disks) c.open.new.engine) flies (g.E.Stepping.flight c.open.new.engine) start trace c.args.story.now c.push.new.self c.open.new.story f _ _ e
+    breaks-behind lies (g.E.Stepping.lies (view c.open.new.disks) c.open.new.database) flies (g.E.Stepping.flight c.open.new.database) start trace c.args.story.now c.push.new.self c.open.new.story f _ _ e
     (broken start f.after f.down)) c.open.ensures.err

@@ -12,7 +12,7 @@ pub fall-requires : goal.fall-requires
 fall-requires g c =
     let down = c.requires.down in
     let view = g.D.Disks.view c.open_once.new.disks in
-    let e = c.open_once.new.engine in
+    let e = c.open_once.new.database in
     lies-somewhere (g.E.Stepping.lies view e) (g.E.Stepping.left view e) (g.E.Stepping.fills view e) (g.E.Stepping.flight e) c.in-Err-Halted-Stopped.field-0 down.0 down.1 c.args.story.now c.open_once.new.story
     (c.in-Err-Halted-Stopped.field-0-is ∙ ap Halted c.in-Err-Halted-Stopped.field-0-0-is) (c.in-Err-Halted-Stopped.ensures.err down.0 down.1 down.2)
 
@@ -21,7 +21,7 @@ returns-in_err-push-in-Err-Halted-Stopped-clause-err g c =
     let p = err_from_is_err_and c.from_residual.result c.from_residual.ensures.1 in
     rw (p.1, p.2) (λ start trace d.
     let view = g.D.Disks.view c.open_once.new.disks in
-    let e = c.open_once.new.engine in
+    let e = c.open_once.new.database in
     let stop = c.in-Err-Halted-Stopped in
     breaks-short (g.E.Stepping.lies view e) (g.E.Stepping.left view e) (g.E.Stepping.fills view e) (g.E.Stepping.flight e) stop.field-0 start trace c.args.story.now c.open_once.new.story c.push.new.self (stop.field-0-is ∙ ap Halted stop.field-0-0-is)
     c.in_err-push-in-Err-Halted-Stopped.ensures.err (stop.ensures.err start trace d))
@@ -29,7 +29,7 @@ returns-in_err-push-in-Err-Halted-Stopped-clause-err g c =
 pub returns-in_ok-push-in-Err-Halted-Stopped-clause-ok : goal.returns-in_ok-push-in-Err-Halted-Stopped-clause-ok
 returns-in_ok-push-in-Err-Halted-Stopped-clause-ok g c = λ start trace d.
     let stop = c.in-Err-Halted-Stopped in
-    falls-anew (g.E.Stepping.lies (g.D.Disks.view c.open_once.new.disks) c.open_once.new.engine) (g.E.Stepping.left (g.D.Disks.view c.open_once.new.disks) c.open_once.new.engine) (g.E.Stepping.lies (g.D.Disks.view c.fall.new.disks) c.fall.new.self) (g.E.Stepping.fills (g.D.Disks.view c.open_once.new.disks) c.open_once.new.engine) (g.E.Stepping.flight c.open_once.new.engine) (g.E.Stepping.flight c.fall.new.self)
+    falls-anew (g.E.Stepping.lies (g.D.Disks.view c.open_once.new.disks) c.open_once.new.database) (g.E.Stepping.left (g.D.Disks.view c.open_once.new.disks) c.open_once.new.database) (g.E.Stepping.lies (g.D.Disks.view c.fall.new.disks) c.fall.new.self) (g.E.Stepping.fills (g.D.Disks.view c.open_once.new.disks) c.open_once.new.database) (g.E.Stepping.flight c.open_once.new.database) (g.E.Stepping.flight c.fall.new.self)
     stop.field-0 start trace c.args.story.now c.open_once.new.story c.push.new.self (stop.field-0-is ∙ ap Halted stop.field-0-0-is) c.fall.ensures.lies c.fall.ensures.flies
     c.in_ok-push-in-Err-Halted-Stopped.ensures.ok (stop.ensures.err start trace d)
 
