@@ -19,7 +19,7 @@ use Rattle.salt_storage.specs.declared.halt.Halt.{Halt}
 use Rattle.std.proofs.Common.{ap, inl, inr, subst, sym, ◌∙◌}
 use Rattle.std.specs.Prelude.{Option, Some, refl, true, ℕ, ◌≡◌, ◌⊎◌}
 
-module _ (leaves : Kept → Kept → Type 0) (fills : Written → ℕ → Type 0) (stage : Stage) (in_flight : Option InFlight) (meant : Option Event) (s : UnitState) where
+module _ {H : Type 0} (leaves : Kept → Kept → Type 0) (fills : Written → ℕ → Type 0) (stage : Stage H) (in_flight : Option InFlight) (meant : Option Event) (s : UnitState) where
   -- by what the storage answered
   pub breaks : (halt : Halt) (x : Books) (asked : Option InFlight) (e : Event) → meant ≡ Some e → (units_after e s).kept ≡ kept_behind (decision_in (Some e)) s →
       Undone leaves fills halt s e → WasBroken halt x asked stage in_flight → AreBooks x s → IsInFlight asked (decision_in (Some e)) s →

@@ -1,73 +1,92 @@
--- What the storage holds is found again behind a fall: what stays of an engine, and what it stands for.
+-- What the storage holds is found again behind a fall: what stays of an opening, and what it stands for.
 use Rattle.salt_books.specs.declared.books.Books.{Books}
 use Rattle.salt_engine.proofs.Lying.{found-left}
 use Rattle.salt_engine.specs.Finding.{IsFoundAgain}
 use Rattle.salt_engine.specs.Flights.{IsInFlight}
-use Rattle.salt_engine.specs.Standing.{CanFind, IsBrokenStage, IsFoundStage, KnowsUnits, Left, Lies, books_in}
+use Rattle.salt_engine.specs.Standing.{CanFind, IsBrokenStage, IsFoundStage, KnowsUnits, Left, Lies, opening_books}
 use Rattle.salt_engine.specs.Stored.{IsLeft}
 use Rattle.salt_engine.specs.declared.flights.InFlight.{InFlight}
 use Rattle.salt_engine.specs.declared.stage.Stage.TheVariants as at
 use Rattle.salt_engine.specs.declared.stage.Stage.{Stage}
 use Rattle.salt_keeps.specs.Points.{Point}
 use Rattle.salt_model.specs.Kept.{Kept}
-use Rattle.salt_keeps.specs.OpenUnits.{UnitState}
-use Rattle.std.proofs.Common.{ap, subst, sym, ◌∙◌}
-use Rattle.std.specs.Prelude.{Bool, Err, Ok, OnErr, OnOk, Option, Result, Some, ℕ, ◌≡◌}
+use Rattle.salt_recovery.specs.declared.recovery.Recovery.{Recovery}
+use Rattle.salt_storage.specs.declared.found.Numbers.{Numbers}
+use Rattle.std.proofs.Common.{subst, sym, ◌∙◌}
+use Rattle.std.specs.Prelude.{Bool, Err, None, Ok, OnErr, OnOk, Option, Result, Some, refl, ℕ, ◌≡◌}
 
 -- BEHIND A FALL
 
-pub left-behind : (holds : Kept → Type 0) (leaves : Kept → Kept → Type 0) (stage : Stage) (x : Books) (room : ℕ) (p : Point) → stage ≡ at.Down x → Left holds leaves stage room p →
+pub left-behind : (holds : Kept → Type 0) (leaves : Kept → Kept → Type 0) (found : Option Numbers) (room : ℕ) (p : Point) → found ≡ None → Left holds leaves found room p →
     (a b : Kept) × leaves a b × IsLeft room p a × IsLeft room p b
-left-behind holds leaves stage x room p is h = subst (λ (s : Stage). Left holds leaves s room p) is h
+left-behind holds leaves found room p none h = subst (λ (f : Option Numbers). Left holds leaves f room p) none h
 
-pub can-find : (settled : Type 0) (leaves : Kept → Kept → Type 0) (stage : Stage) (x : Books) → stage ≡ at.Down x → CanFind settled leaves stage → settled × ((a b : Kept) × leaves a b)
-can-find settled leaves stage x is h = subst (λ (s : Stage). CanFind settled leaves s) is h
+broken-finds : (settled : Type 0) (leaves : Kept → Kept → Type 0) (stage : Stage Recovery) → CanFind settled leaves None stage → settled × ((a b : Kept) × leaves a b) × IsBrokenStage stage
+broken-finds settled leaves (at.Going x) h = absurd h
+broken-finds settled leaves (at.Down x) h = (h.0, h.1, tt)
+broken-finds settled leaves at.Lost h = absurd h
 
--- it was not found: it stays as it was
-pub left-still : (holds now : Kept → Type 0) (leaves again : Kept → Kept → Type 0) (stage later : Stage) (x : Books) (room : ℕ) (p : Point) → stage ≡ at.Down x →
-    Left holds leaves stage room p → later ≡ stage → ((a b : Kept) → leaves a b → again a b) → Left now again later room p
-left-still holds now leaves again stage later x room p down left stays more =
-    let here = left-behind holds leaves stage x room p down left in
-    subst (λ (s : Stage). Left now again s room p) (sym (stays ∙ down)) (here.0, here.1, more here.0 here.1 here.2, here.3, here.4)
+pub can-find : (settled : Type 0) (leaves : Kept → Kept → Type 0) (found : Option Numbers) (stage : Stage Recovery) → found ≡ None → CanFind settled leaves found stage →
+    settled × ((a b : Kept) × leaves a b) × IsBrokenStage stage
+can-find settled leaves found stage none h = broken-finds settled leaves stage (subst (λ (f : Option Numbers). CanFind settled leaves f stage) none h)
 
-found-knows : (stage later : Stage) (x : Books) (s : UnitState) → books_in stage ≡ Some x → books_in later ≡ Some x → KnowsUnits stage s → KnowsUnits later s
-found-knows stage later x s before after k = (k.0, after ∙ sym before ∙ k.1, k.2)
+some-found : (settled : Type 0) (leaves : Kept → Kept → Type 0) (n : Numbers) (stage : Stage Recovery) → CanFind settled leaves (Some n) stage → IsFoundStage (Some n) stage
+some-found settled leaves n (at.Going x) h = absurd h
+some-found settled leaves n (at.Down x) h = tt
+some-found settled leaves n at.Lost h = absurd h
 
-module _ (holds now : Kept → Type 0) (leaves again : Kept → Kept → Type 0) (old stoppable : Bool) (stage later : Stage) (was single : Bool) (flew in_flight : Option InFlight)
-    (x : Books) (down : stage ≡ at.Down x) (room : ℕ) (p : Point) (lies : Lies holds leaves old stage was flew room p) where
+pub was-found : (settled : Type 0) (leaves : Kept → Kept → Type 0) (found : Option Numbers) (n : Numbers) (stage : Stage Recovery) → found ≡ Some n → CanFind settled leaves found stage →
+    IsFoundStage found stage
+was-found settled leaves found n stage is h =
+    subst (λ (f : Option Numbers). IsFoundStage f stage) (sym is) (some-found settled leaves n stage (subst (λ (f : Option Numbers). CanFind settled leaves f stage) is h))
+
+-- what was found needs no looking for
+pub found-finds : (settled : Type 0) (leaves : Kept → Kept → Type 0) (found : Option Numbers) (stage : Stage Recovery) → IsFoundStage found stage → CanFind settled leaves found stage
+found-finds settled leaves (Some n) (at.Down x) h = tt
+found-finds settled leaves (Some n) (at.Going x) h = absurd h
+found-finds settled leaves (Some n) at.Lost h = absurd h
+found-finds settled leaves None stage h = absurd h
+
+pub broken-books : (stage : Stage Recovery) → IsBrokenStage stage → (x : Books) × (stage ≡ at.Down x)
+broken-books (at.Going x) h = absurd h
+broken-books (at.Down x) h = (x, refl)
+broken-books at.Lost h = absurd h
+
+pub again-found : (holds : Kept → Type 0) (x : Books) (a b : Kept) (found : Option Numbers) (stage : Stage Recovery) → IsFoundAgain holds x a b found stage → IsFoundStage found stage
+again-found holds x a b found stage f =
+    subst (λ (n : Option Numbers). IsFoundStage n stage) (sym f.is) (subst (λ (s : Stage Recovery). IsFoundStage (Some f.numbers) s) (sym f.there) tt)
+
+module _ (holds now : Kept → Type 0) (leaves again : Kept → Kept → Type 0) (old stoppable : Bool) (found later : Option Numbers) (stage after : Stage Recovery) (was single : Bool)
+    (flew in_flight : Option InFlight) (unfound : found ≡ None) (stays : after ≡ stage) (room : ℕ) (p : Point)
+    (lies : Lies holds leaves old found (opening_books stage) was flew room p) where
   here : (a b : Kept) × leaves a b × IsLeft room p a × IsLeft room p b
-  here = left-behind holds leaves stage x room p down lies.left
+  here = left-behind holds leaves found room p unfound lies.left
 
-  -- it was found
-  pub found-lies : ((a b : Kept) → leaves a b → IsFoundAgain now x a b later) → stoppable ≡ old → single ≡ was → in_flight ≡ flew →
-      Lies now again stoppable later single in_flight room p
-  found-lies found same line flies =
-      let f = found here.0 here.1 here.2 in
-      record {
-        left = found-left now again x here.0 here.1 later room p f here.3 here.4;
-        knows = found-knows stage later x p.state.units (ap books_in down) (ap books_in f.there) lies.knows;
-        sound = lies.sound;
-        can_stop = lies.can_stop ∙ sym same;
-        line = line ∙ lies.line;
-        flies = subst (λ (i : Option InFlight). IsInFlight i p.flight p.state.units) (sym flies) lies.flies;
-      }
-
-  pub lies-still : later ≡ stage → ((a b : Kept) → leaves a b → again a b) → stoppable ≡ old → single ≡ was → in_flight ≡ flew →
-      Lies now again stoppable later single in_flight room p
-  lies-still stays more same line flies = record {
-    left = left-still holds now leaves again stage later x room p down lies.left stays more;
-    knows = subst (λ (s : Stage). KnowsUnits s p.state.units) (sym stays) lies.knows;
+  lies-with : Left now again later room p → stoppable ≡ old → single ≡ was → in_flight ≡ flew → Lies now again stoppable later (opening_books after) single in_flight room p
+  lies-with left same line flies = record {
+    left = left;
+    knows = subst (λ (s : Stage Recovery). KnowsUnits (opening_books s) p.state.units) (sym stays) lies.knows;
     sound = lies.sound;
     can_stop = lies.can_stop ∙ sym same;
     line = line ∙ lies.line;
     flies = subst (λ (i : Option InFlight). IsInFlight i p.flight p.state.units) (sym flies) lies.flies;
   }
 
-pub broken-down : (stage : Stage) (x : Books) → stage ≡ at.Down x → IsBrokenStage stage
-broken-down stage x is = subst IsBrokenStage (sym is) tt
+  -- it was found
+  pub left-found : (x : Books) → ((a b : Kept) → leaves a b → IsFoundAgain now x a b later after) → Left now again later room p
+  left-found x again-is = found-left now again x here.0 here.1 later after room p (again-is here.0 here.1 here.2) here.3 here.4
 
-pub again-found : (holds : Kept → Type 0) (x : Books) (a b : Kept) (stage : Stage) → IsFoundAgain holds x a b stage → IsFoundStage stage
-again-found holds x a b stage f = subst IsFoundStage (sym f.there) tt
+  pub found-lies : (x : Books) → ((a b : Kept) → leaves a b → IsFoundAgain now x a b later after) → stoppable ≡ old → single ≡ was → in_flight ≡ flew →
+      Lies now again stoppable later (opening_books after) single in_flight room p
+  found-lies x again-is same line flies = lies-with (left-found x again-is) same line flies
+
+  -- it was not found: it stays as it was
+  pub left-still : later ≡ found → ((a b : Kept) → leaves a b → again a b) → Left now again later room p
+  left-still none more = subst (λ (f : Option Numbers). Left now again f room p) (sym (none ∙ unfound)) (here.0, here.1, more here.0 here.1 here.2, here.3, here.4)
+
+  pub lies-still : later ≡ found → ((a b : Kept) → leaves a b → again a b) → stoppable ≡ old → single ≡ was → in_flight ≡ flew →
+      Lies now again stoppable later (opening_books after) single in_flight room p
+  lies-still none more same line flies = lies-with (left-still none more) same line flies
 
 -- BY WHAT a call answers
 

@@ -1,14 +1,12 @@
 -- An opening goes on, or is done and lines are served: what was performed is a move of the engine's point, or it broke off there.
-use Rattle.salt_books.specs.declared.books.Books.{Books}
 use Rattle.salt_engine.proofs.Flying.{flight-next, kept-decided}
 use Rattle.salt_engine.proofs.Going.{flight-decides, onwards-line}
 use Rattle.salt_engine.proofs.Halting.{halts, memory-at}
 use Rattle.salt_engine.proofs.OpeningGoes.{leaves-less, meant, moves, point, stands}
-use Rattle.salt_engine.proofs.ReadyDone.{ready-after, ready-books, ready-moves, ready-point, ready-state, ready-turns, ready-units}
-use Rattle.salt_engine.specs.Finding.{ServesBooks}
+use Rattle.salt_engine.proofs.ReadyDone.{ready-after, ready-bases, ready-books, ready-conts, ready-moves, ready-point, ready-state, ready-turns, ready-units}
 use Rattle.salt_engine.specs.Flights.{flight_of}
 use Rattle.salt_engine.specs.Performing.{BreaksOff, IsLost, MayStep}
-use Rattle.salt_engine.specs.Standing.{Left, Lies, Sees, SeesIn, is_ready, left_in}
+use Rattle.salt_engine.specs.Standing.{Left, Lies, OpensIn, Sees, is_ready, left_in, opening_books}
 use Rattle.salt_engine.specs.Stored.{Stored, kept_behind}
 use Rattle.salt_engine.specs.declared.flights.InFlight.{InFlight}
 use Rattle.salt_engine.specs.declared.stage.Stage.TheVariants as at
@@ -29,6 +27,7 @@ use Rattle.salt_recovery.specs.declared.recovery.Recovery.{Recovery}
 use Rattle.salt_steps.specs.Draining.{MayTick}
 use Rattle.salt_steps.specs.Standing.{BreaksAt, IsOpenedOn, IsSoundPoint}
 use Rattle.salt_storage.specs.Storing.{IsSoundKept}
+use Rattle.salt_storage.specs.declared.found.Numbers.{Numbers}
 use Rattle.salt_storage.specs.Writing.{Written}
 use Rattle.salt_storage.specs.declared.halt.Halt.TheVariants.{Memory}
 use Rattle.salt_storage.specs.declared.halt.Halt.{Halt}
@@ -43,12 +42,12 @@ never-down p opening fallen = let no = sym opening ∙ fallen in cc
 -- BEFORE the event was told
 
 pub untold-lost : (x : Recovery) (e : Event) (p : Point) (sound : IsSoundPoint p) (t : State) → HasDone x e p.state t → p.next ≡ Some e → p.state.units.phase ≡ Opening →
-    (holds : Kept → Type 0) (leaves : Kept → Kept → Type 0) (fills : Written → ℕ → Type 0) (stoppable : Bool) (single : Bool) (stage : Stage)
-    (in_flight : Option InFlight) (story told : List Event) → leaves t.units.kept t.units.kept → IsLost stage in_flight → told ≡ story →
-    BreaksAt (λ p. Lies holds leaves stoppable stage single in_flight 0 p) (λ p. Left holds leaves stage 0 p) fills (flight_of in_flight) Memory p e story told
-untold-lost x e p sound t d comes opening holds leaves fills stoppable single stage in_flight story told left lost same = inl (
+    (holds : Kept → Type 0) (leaves : Kept → Kept → Type 0) (fills : Written → ℕ → Type 0) (stoppable : Bool) (found : Option Numbers) → found ≡ None → (single : Bool)
+    (stage : Stage Recovery) (in_flight : Option InFlight) (story told : List Event) → leaves t.units.kept t.units.kept → IsLost stage in_flight → told ≡ story →
+    BreaksAt (λ p. Lies holds leaves stoppable found (opening_books stage) single in_flight 0 p) (λ p. Left holds leaves found 0 p) fills (flight_of in_flight) Memory p e story told
+untold-lost x e p sound t d comes opening holds leaves fills stoppable found unfound single stage in_flight story told left lost same = inl (
   same,
-  memory-at holds leaves fills stoppable stage single in_flight p t.units.kept (flight-next p sound.trace sound.keeps (never-down p opening)) left
+  memory-at (λ (x : Recovery). x.books) holds leaves fills stoppable found unfound stage single in_flight p t.units.kept (flight-next p sound.trace sound.keeps (never-down p opening)) left
       (inr (ap (λ (s : UnitState). s.kept) d.after.units ∙ kept-decided e p.state.units d.plain ∙ ap (λ (o : Option Event). kept_behind (decision_in o) p.state.units) (sym comes))) lost,
   refl,
 )
@@ -70,16 +69,16 @@ module _ (x : Recovery) (e : Event) (p : Point) (sound : IsSoundPoint p) (t : St
   now-flies : now.flight ≡ decision_in now.next
   now-flies = flight-decides e p.flight wanted d.plain
 
-  pub opens-halts : (holds : Kept → Type 0) (leaves : Kept → Kept → Type 0) (fills : Written → ℕ → Type 0) (halt : Halt) (old stoppable : Bool) (was single : Bool) (stage : Stage)
-      (in_flight : Option InFlight) (story told : List Event) → BreaksOff leaves fills halt stage in_flight wanted t.units → p.state.can_stop ≡ old → stoppable ≡ old →
+  pub opens-halts : (holds : Kept → Type 0) (leaves : Kept → Kept → Type 0) (fills : Written → ℕ → Type 0) (halt : Halt) (old stoppable : Bool) (found : Option Numbers) → found ≡ None →
+      (was single : Bool) (stage : Stage Recovery) (in_flight : Option InFlight) (story told : List Event) → BreaksOff leaves fills halt stage in_flight wanted t.units → p.state.can_stop ≡ old → stoppable ≡ old →
       was ≡ is_statement_line p.state.units.line → single ≡ was → IsSoundKept t.units.kept → told ≡ story ++ e ∷ [] →
-      BreaksAt (λ p. Lies holds leaves stoppable stage single in_flight 0 p) (λ p. Left holds leaves stage 0 p) fills (flight_of in_flight) halt p e story told
-  opens-halts holds leaves fills halt old stoppable was single stage in_flight story told b can same lined kept may tells = inr (
+      BreaksAt (λ p. Lies holds leaves stoppable found (opening_books stage) single in_flight 0 p) (λ p. Left holds leaves found 0 p) fills (flight_of in_flight) halt p e story told
+  opens-halts holds leaves fills halt old stoppable found unfound was single stage in_flight story told b can same lined kept may tells = inr (
     tells,
     (
       now,
       moves x e p sound t d comes going,
-      halts holds leaves fills halt stoppable stage single in_flight now b now-flies (d.after.can_stop ∙ can ∙ sym same)
+      halts (λ (x : Recovery). x.books) holds leaves fills halt stoppable found unfound stage single in_flight now b now-flies (d.after.can_stop ∙ can ∙ sym same)
           (kept ∙ lined ∙ ap is_statement_line (sym (onwards-line p sound e t d.plain comes d.after))) may,
     ),
   )
@@ -103,13 +102,21 @@ module _ (x : Recovery) (p : Point) (sound : IsSoundPoint p) (t : State) (d : Ha
       let m = ready-moves x p sound t d comes opening read-there in
       (ready-point x p sound t d comes opening, m, record { state = state; idle = ready-idle p (ready-point x p sound t d comes opening) sound.trace sound.keeps sound.sound m.0 })
 
-  pub ready-sees : (holds : Kept → Type 0) (is_new : Id → Type 0) (old stoppable was single : Bool) (stage : Stage) (in_flight : Option InFlight) → ServesBooks x.books stage →
+  pub ready-sees : (holds : Kept → Type 0) (is_new : Id → Type 0) (old stoppable was single : Bool) (stage : Stage Recovery) (in_flight : Option InFlight) → stage ≡ at.Going x →
       Stored holds is_new t.units → p.state.can_stop ≡ old → stoppable ≡ old → was ≡ is_statement_line p.state.units.line → single ≡ was → in_flight ≡ None →
-      Sees holds is_new stoppable stage single in_flight None there
-  ready-sees holds is_new old stoppable was single stage in_flight serves stored can same line kept none = record {
-    seen =
-        subst (λ (s : Stage). SeesIn holds is_new s None there) (sym serves.there)
-        (serves.stands there (ready-books x p sound t d comes opening) (ready-units x p sound t d comes opening) refl (inl (ready-turns x p sound t d comes opening)), stored);
+      Sees (OpensIn holds is_new stage) stoppable single in_flight None there
+  ready-sees holds is_new old stoppable was single stage in_flight at stored can same line kept none = record {
+    seen = subst (λ (s : Stage Recovery). OpensIn holds is_new s None there) (sym at) (
+      record {
+        books = ready-books x p sound t d comes opening;
+        units = ready-units x p sound t d comes opening;
+        bases = ready-bases x p sound t d comes opening;
+        conts = ready-conts x p sound t d comes opening;
+        to_go = ready-turns x p sound t d comes opening;
+        watch = refl;
+      },
+      stored,
+    );
     can_stop = d.after.can_stop ∙ can ∙ sym same;
     line = kept ∙ line ∙ ap is_statement_line (sym (onwards-line p sound Ready there refl comes (ready-after x p sound t d comes opening)));
     none = none;
@@ -133,21 +140,19 @@ says-ready sees f e p is h = subst (λ (k : Event). (q : Point) × Moves (Say k)
 
 -- what is left of the opening is less
 
-pub ready-less : (old stage : Stage) (x : Recovery) (books : Books) (e : Event) → old ≡ at.Opening x → e ≡ Ready → ServesBooks books stage → left_in stage None < left_in old (Some e)
-ready-less old stage x books e there is serves =
-    subst (λ n. n < left_in old (Some e)) (sym (ap (λ (s : Stage). left_in s None) serves.there))
-    (subst (λ (s : Stage). 0 < left_in s (Some e)) (sym there)
-    (subst (λ (k : Event). 0 < left_in (at.Opening x) (Some k)) (sym is) (omega arith)))
+pub ready-less : (old stage : Stage Recovery) (x y : Recovery) (e : Event) → old ≡ at.Going x → e ≡ Ready → stage ≡ at.Going y → left_in stage None < left_in old (Some e)
+ready-less old stage x y e there is serves =
+    subst (λ n. n < left_in old (Some e)) (sym (ap (λ (s : Stage Recovery). left_in s None) serves))
+    (subst (λ (s : Stage Recovery). 0 < left_in s (Some e)) (sym there)
+    (subst (λ (k : Event). 0 < left_in (at.Going x) (Some k)) (sym is) (omega arith)))
 
-pub opening-less : (holds : Kept → Type 0) (is_new : Id → Type 0) (old stage : Stage) (x : Recovery) (e given : Event) (p : Point) (sound : IsSoundPoint p) (t : State)
-    (d : HasDone x e p.state t) (comes : p.next ≡ Some e) (going : is_ready e ≡ false) → old ≡ at.Opening x → SeesIn holds is_new stage (Some given) t → t.units.phase ≡ Opening →
+pub opening-less : (holds : Kept → Type 0) (is_new : Id → Type 0) (old stage : Stage Recovery) (x : Recovery) (e given : Event) (p : Point) (sound : IsSoundPoint p) (t : State)
+    (d : HasDone x e p.state t) (comes : p.next ≡ Some e) (going : is_ready e ≡ false) → old ≡ at.Going x → OpensIn holds is_new stage (Some given) t →
     IsSoundKept t.units.kept → Some given ≡ meant x e p sound t d comes going → left_in stage (Some given) < left_in old (Some e)
-opening-less holds is_new old stage x e given p sound t d comes going there seen opening kept told =
-    subst (λ (s : Stage). left_in stage (Some given) < left_in s (Some e)) (sym there) (by stage seen)
+opening-less holds is_new old stage x e given p sound t d comes going there seen kept told =
+    subst (λ (s : Stage Recovery). left_in stage (Some given) < left_in s (Some e)) (sym there) (by stage seen)
   where
-    by : (s : Stage) → SeesIn holds is_new s (Some given) t → left_in s (Some given) < left_in (at.Opening x) (Some e)
-    by (at.Opening y) h = leaves-less x e p sound t d comes going y given kept told (h.0, h.1)
-    by (at.Serving y) h = let no = sym h.3 ∙ opening in cc
-    by (at.Found books numbers) h = absurd h
+    by : (s : Stage Recovery) → OpensIn holds is_new s (Some given) t → left_in s (Some given) < left_in (at.Going x) (Some e)
+    by (at.Going y) h = leaves-less x e p sound t d comes going y given kept told (h.0, h.1)
     by (at.Down books) h = absurd h
     by at.Lost h = absurd h

@@ -21,6 +21,7 @@ use Rattle.salt_model.specs.declared.events.Flight.TheVariants as flight
 use Rattle.salt_steps.specs.Standing.{HaltsAt}
 use Rattle.salt_steps.specs.Writing.{IsWrittenBy}
 use Rattle.salt_storage.specs.Storing.{IsSoundKept}
+use Rattle.salt_storage.specs.declared.found.Numbers.{Numbers}
 use Rattle.salt_storage.specs.Writing.{Written}
 use Rattle.salt_storage.specs.declared.halt.Halt.TheVariants.{Memory}
 use Rattle.salt_storage.specs.declared.halt.Halt.{Halt}
@@ -58,14 +59,18 @@ flight-told (Some (asked.Program p text)) f s h = sym (ap flight_told h.2)
 pub know-units : (x : Books) (s : UnitState) → AreBooks x s → KnowUnits x s
 know-units x s h = record { units = s.unit_count; bases = s.base_count; goes = s.to_go; are = h; going = inr refl }
 
-module _ (holds : Kept → Type 0) (leaves : Kept → Kept → Type 0) (fills : Written → ℕ → Type 0) (halt : Halt) (stoppable : Bool) (stage : Stage) (single : Bool)
-    (in_flight : Option InFlight) (q : Point) (b : BreaksOff leaves fills halt stage in_flight q.next q.state.units) (flight : q.flight ≡ decision_in q.next)
+module _ {H : Type 0} (books_of : H → Books) (holds : Kept → Type 0) (leaves : Kept → Kept → Type 0) (fills : Written → ℕ → Type 0) (halt : Halt) (stoppable : Bool)
+    (found : Option Numbers) (unfound : found ≡ None) (stage : Stage H) (single : Bool) (in_flight : Option InFlight) (q : Point) (b : BreaksOff leaves fills halt stage in_flight q.next q.state.units) (flight : q.flight ≡ decision_in q.next)
   where
     abbrev Halts : Type 0
-    Halts = HaltsAt (λ p. Lies holds leaves stoppable stage single in_flight 0 p) (λ p. Left holds leaves stage 0 p) fills (flight_of in_flight) halt q
+    Halts =
+        HaltsAt (λ p. Lies holds leaves stoppable found (books_in books_of stage) single in_flight 0 p) (λ p. Left holds leaves found 0 p) fills (flight_of in_flight) halt q
 
     left : LeavesEither leaves q.state.units.kept (kept_behind q.flight q.state.units)
     left = subst (λ (f : Option Event). LeavesEither leaves q.state.units.kept (kept_behind f q.state.units)) (sym flight) b.left
+
+    stays : Left holds leaves found 0 q
+    stays = subst (λ (f : Option Numbers). Left holds leaves f 0 q) (sym unfound) (either-left leaves q left)
 
     pub lost : halt ≡ Memory → IsLost stage in_flight → Halts
     lost memory l = record {
@@ -73,21 +78,20 @@ module _ (holds : Kept → Type 0) (leaves : Kept → Kept → Type 0) (fills : 
       flies = inl (memory, ap flight_of l.none);
       full = λ dev h. cc;
       again = λ other. absurd (other memory);
-      stays = subst (λ (s : Stage). Left holds leaves s 0 q) (sym l.there) (either-left leaves q left);
+      stays = stays;
     }
 
     down : q.state.can_stop ≡ stoppable → single ≡ is_statement_line q.state.units.line → IsSoundKept q.state.units.kept →
         IsHalted fills halt stage in_flight q.next q.state.units → Halts
     down stops line kept h =
         let flies : IsInFlight in_flight q.flight q.state.units = subst (λ (f : Option Event). IsInFlight in_flight f q.state.units) (sym flight) h.flies in
-        let stays : Left holds leaves stage 0 q = subst (λ (s : Stage). Left holds leaves s 0 q) (sym h.there) (either-left leaves q left) in
         record {
           reason = inr (h.event, h.is, h.devices);
           flies = inr (flight-told in_flight q.flight q.state.units flies);
           full = λ dev is. let w = h.full dev is in (w.0, subst (λ (m : Option Event). IsWrittenBy q.state.units m w.0) (sym h.is) w.1, w.2);
           again = λ other. record {
             left = stays;
-            knows = (h.books, ap books_in h.there, know-units h.books q.state.units h.are);
+            knows = (h.books, ap (books_in books_of) h.there, know-units h.books q.state.units h.are);
             sound = kept;
             can_stop = stops;
             line = line;
@@ -104,9 +108,9 @@ module _ (holds : Kept → Type 0) (leaves : Kept → Kept → Type 0) (fills : 
         by (inr h) = down stops line kept h
 
 -- memory ran out here, where this is left
-pub memory-at : (holds : Kept → Type 0) (leaves : Kept → Kept → Type 0) (fills : Written → ℕ → Type 0) (stoppable : Bool) (stage : Stage) (single : Bool)
-    (in_flight : Option InFlight) (p : Point) (k : Kept) → p.flight ≡ decision_in p.next → leaves k k →
+pub memory-at : {H : Type 0} (books_of : H → Books) (holds : Kept → Type 0) (leaves : Kept → Kept → Type 0) (fills : Written → ℕ → Type 0) (stoppable : Bool)
+    (found : Option Numbers) → found ≡ None → (stage : Stage H) (single : Bool) (in_flight : Option InFlight) (p : Point) (k : Kept) → p.flight ≡ decision_in p.next → leaves k k →
     (k ≡ p.state.units.kept) ⊎ (k ≡ kept_behind (decision_in p.next) p.state.units) → IsLost stage in_flight →
-    HaltsAt (λ p. Lies holds leaves stoppable stage single in_flight 0 p) (λ p. Left holds leaves stage 0 p) fills (flight_of in_flight) Memory p
-memory-at holds leaves fills stoppable stage single in_flight p k flight left is l =
-    lost holds leaves fills Memory stoppable stage single in_flight p (breaks-lost leaves fills stage in_flight p.next p.state.units k left is l) flight refl l
+    HaltsAt (λ p. Lies holds leaves stoppable found (books_in books_of stage) single in_flight 0 p) (λ p. Left holds leaves found 0 p) fills (flight_of in_flight) Memory p
+memory-at books_of holds leaves fills stoppable found unfound stage single in_flight p k flight left is l =
+    lost books_of holds leaves fills Memory stoppable found unfound stage single in_flight p (breaks-lost leaves fills stage in_flight p.next p.state.units k left is l) flight refl l

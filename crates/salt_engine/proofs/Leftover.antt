@@ -2,7 +2,7 @@
 use Rattle.salt_books.specs.Books.{AreBooks}
 use Rattle.salt_books.specs.declared.books.Books.{Books}
 use Rattle.salt_engine.specs.Standing.{left_by, left_in}
-use Rattle.salt_engine.specs.declared.stage.Stage.TheVariants.{Opening}
+use Rattle.salt_engine.specs.declared.stage.Stage.TheVariants.{Going}
 use Rattle.salt_keeps.specs.OpenUnits.{UnitState}
 use Rattle.salt_keeps.specs.States.{State}
 use Rattle.salt_keeps.specs.Steps.{units_after}
@@ -24,7 +24,7 @@ pub behind-books : (e : Event) (x : Recovery) (s : UnitState) → StandsBehind e
 behind-books Ready x s h = h.0
 behind-books e x s h = h.books
 
-pub left-at : (x : Recovery) (e : Event) (s t : State) → HasDone x e s t → left_in (Opening x) (Some e) ≡ left_to_open s.units (Some e)
+pub left-at : (x : Recovery) (e : Event) (s t : State) → HasDone x e s t → left_in (Going x) (Some e) ≡ left_to_open s.units (Some e)
 left-at x e s t d =
     let books : AreBooks x.books (units_after e s.units) = subst (AreBooks x.books) d.after.units (behind-books e x t.units d.behind) in
     ap (λ (n : ℕ). 8 * n + opening_stage e) (left-books x.books (units_after e s.units) books)

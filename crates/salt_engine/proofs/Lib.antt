@@ -38,3 +38,5 @@ pub mod SayDone
 pub mod Spent
 pub mod ServingActs
 pub mod Stages
+pub mod Making
+pub mod Halved

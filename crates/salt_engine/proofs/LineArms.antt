@@ -23,6 +23,7 @@ use Rattle.salt_steps.specs.Counting.{armed_at}
 use Rattle.salt_values.specs.declared.id.Id.{Id}
 use Rattle.std.proofs.Common.{ap, arith, subst, sym, ◌∙◌}
 use Rattle.std.specs.Prelude.{Bool, IsTrue, List, None, Option, Some, [], false, get_or, length, not, refl, suc, true, zero, ℕ, ◌<◌, ◌∷◌, ◌≡◌, ◌≤◌}
+use Rattle.salt_engine.specs.Standing.{SeesIn}
 
 unless-not : (b : Bool) → not b ≡ false → b ≡ true
 unless-not true h = refl
@@ -41,9 +42,9 @@ module _ (holds : Kept → Type 0) (is_new : Id → Type 0) (stoppable : Bool) (
   pub arms-meant : (told : List (ℕ × ℕ)) → told ≡ pairs → (r : Reading s.watch) → line_in s.units (clash_by s) (items_by s r) line ≡ Some (Armed told)
   arms-meant told same r = ap (line_in s.units (clash_by s) (items_by s r)) is ∙ ap (λ (ps : List (ℕ × ℕ)). Some (Armed ps)) (sym same)
 
-  pub arms-performs : (now : Kept → Type 0) (new_now : Id → Type 0) (stage : Stage) (in_flight : Option InFlight) (y : Scheduler) (e : Event) (told : List (ℕ × ℕ)) → told ≡ pairs →
-      in_flight ≡ None → stage ≡ at.Serving y → Stored now new_now s.units → (r : Reading s.watch) → scheduling.Gives s (Some (Armed told)) y (Some e) →
-      Performs now new_now stage in_flight (line_in s.units (clash_by s) (items_by s r) line) (Some e) s
+  pub arms-performs : (now : Kept → Type 0) (new_now : Id → Type 0) (stage : Stage Scheduler) (in_flight : Option InFlight) (y : Scheduler) (e : Event) (told : List (ℕ × ℕ)) → told ≡ pairs →
+      in_flight ≡ None → stage ≡ at.Going y → Stored now new_now s.units → (r : Reading s.watch) → scheduling.Gives s (Some (Armed told)) y (Some e) →
+      Performs (SeesIn now new_now stage) in_flight (line_in s.units (clash_by s) (items_by s r) line) (Some e) s
   arms-performs now new_now stage in_flight y e told same none there stored r g =
       serves-by now new_now stage in_flight (line_in s.units (clash_by s) (items_by s r) line) s none y (Armed told) e there (arms-meant told same r) g h.allowed.serves.phase
       (stored-plain now new_now (Armed told) (line_in s.units (clash_by s) (items_by s r) line) s (h.played r) (arms-meant told same r) refl refl stored)

@@ -30,6 +30,7 @@ use Rattle.salt_values.specs.declared.id.Id.{Id}
 use Rattle.std.proofs.Common.{ap, subst}
 use Rattle.std.specs.Option.{option_or}
 use Rattle.std.specs.Prelude.{Bool, Err, IfOk, List, None, Ok, Option, Result, Some, false, option_map, refl, ℕ, ◌≡◌}
+use Rattle.salt_engine.specs.Standing.{SeesIn}
 
 pub few-of : (line : Line) → IsServed line → HasFewParts line
 few-of (Program p) h = few-parts p h
@@ -72,14 +73,14 @@ module _ (holds : Kept → Type 0) (is_new : Id → Type 0) (stoppable : Bool) (
     pub is-refused : (r : Reading s.watch) → asked_next s r (Tree line) ≡ Some (Refused refusal)
     is-refused r = ap (λ (o : Option Refusal). option_or (option_map Refused o) (line_in now.units (clash_by now) (items_by now r) line)) refused
 
-    pub refused-performs : (stage : Stage) (in_flight : Option InFlight) (e : Event) (y : Scheduler) → IsRefused line refusal y stage e → scheduling.Stands y now → in_flight ≡ None →
-        (r : Reading s.watch) → Performs holds is_new stage in_flight (asked_next s r (Tree line)) (Some e) now
+    pub refused-performs : (stage : Stage Scheduler) (in_flight : Option InFlight) (e : Event) (y : Scheduler) → IsRefused line refusal y stage e → scheduling.Stands y now → in_flight ≡ None →
+        (r : Reading s.watch) → Performs (SeesIn holds is_new stage) in_flight (asked_next s r (Tree line)) (Some e) now
     refused-performs stage in_flight e y f stands none r =
         serves-by holds is_new stage in_flight (asked_next s r (Tree line)) now none f.scheduler (Refused refusal) e f.there (is-refused r) (f.refuses now r stands h.serves) h.serves.phase
         (stored-plain holds is_new (Refused refusal) (asked_next s r (Tree line)) now (h.played r) (is-refused r) refl refl
         (record { holding = h.stored.holding; new = h.stored.new }))
 
-    pub refused-unarmed : (stage : Stage) (e : Event) (y : Scheduler) → IsRefused line refusal y stage e → scheduling.Stands y now → (r : Reading s.watch) → armed_at (Some e) ≡ 0
+    pub refused-unarmed : (stage : Stage Scheduler) (e : Event) (y : Scheduler) → IsRefused line refusal y stage e → scheduling.Stands y now → (r : Reading s.watch) → armed_at (Some e) ≡ 0
     refused-unarmed stage e y f stands r = ap armed_at (f.refuses now r stands h.serves).told
 
 -- A TEXT that is refused
@@ -88,14 +89,14 @@ module _ (holds : Kept → Type 0) (is_new : Id → Type 0) (refusal : Refusal) 
   abbrev pub rejected : State
   rejected = asked_of (Rejected refusal) p.state
 
-  pub rejected-performs : (stage : Stage) (in_flight : Option InFlight) (e : Event) (r : Reading p.state.watch) → IsRejected refusal x stage e → scheduling.Stands x p.state →
+  pub rejected-performs : (stage : Stage Scheduler) (in_flight : Option InFlight) (e : Event) (r : Reading p.state.watch) → IsRejected refusal x stage e → scheduling.Stands x p.state →
       scheduling.ServesLine Nothing rejected → IsPlayedBefore (asked_next p.state r (Rejected refusal)) rejected → Stored holds is_new p.state.units → in_flight ≡ None →
-      Performs holds is_new stage in_flight (asked_next p.state r (Rejected refusal)) (Some e) rejected
+      Performs (SeesIn holds is_new stage) in_flight (asked_next p.state r (Rejected refusal)) (Some e) rejected
   rejected-performs stage in_flight e r f stands serves played stored none =
       serves-by holds is_new stage in_flight (asked_next p.state r (Rejected refusal)) rejected none f.scheduler (Refused refusal) e f.there refl (f.refuses p.state r stands serves) serves.phase
       (stored-plain holds is_new (Refused refusal) (asked_next p.state r (Rejected refusal)) rejected played refl refl refl (record { holding = stored.holding; new = stored.new }))
 
-  pub rejected-unarmed : (stage : Stage) (e : Event) (r : Reading p.state.watch) → IsRejected refusal x stage e → scheduling.Stands x p.state →
+  pub rejected-unarmed : (stage : Stage Scheduler) (e : Event) (r : Reading p.state.watch) → IsRejected refusal x stage e → scheduling.Stands x p.state →
       scheduling.ServesLine Nothing rejected → armed_at (Some e) ≡ 0
   rejected-unarmed stage e r f stands serves = ap armed_at (f.refuses p.state r stands serves).told
 

@@ -23,6 +23,7 @@ use Rattle.salt_storage.specs.declared.halt.Halt.{Halt}
 use Rattle.salt_values.specs.declared.id.Id.{Id}
 use Rattle.std.proofs.Common.{ap, subst, sym, ◌∙◌}
 use Rattle.std.specs.Prelude.{None, Option, Some, false, refl, true, ℕ, ◌≡◌}
+use Rattle.salt_engine.specs.Standing.{SeesIn}
 
 stored-at : (holds : Kept → Type 0) (is_new : Id → Type 0) (x : Scheduler) (c : Coming) (meant : Option Event) (s : State) → IsPlayedBefore meant s →
     scheduling.Brings s meant x c → Stored holds is_new s.units → StoredAt holds is_new c s
@@ -47,11 +48,11 @@ to-serve holds is_new x c meant s played serves plain b stored = record {
 
 -- what was meant in other words
 
-pub performs-same : (holds : Kept → Type 0) (is_new : Id → Type 0) (stage : Stage) (in_flight : Option InFlight) (meant other given : Option Event) (s : State) → other ≡ meant →
-    Performs holds is_new stage in_flight other given s → Performs holds is_new stage in_flight meant given s
+pub performs-same : (holds : Kept → Type 0) (is_new : Id → Type 0) (stage : Stage Scheduler) (in_flight : Option InFlight) (meant other given : Option Event) (s : State) → other ≡ meant →
+    Performs (SeesIn holds is_new stage) in_flight other given s → Performs (SeesIn holds is_new stage) in_flight meant given s
 performs-same holds is_new stage in_flight meant other given s same p = record { told = p.told ∙ same; sees = p.sees; none = p.none }
 
-pub breaks-same : (leaves : Kept → Kept → Type 0) (fills : Written → ℕ → Type 0) (halt : Halt) (stage : Stage) (in_flight : Option InFlight) (meant other : Option Event)
+pub breaks-same : (leaves : Kept → Kept → Type 0) (fills : Written → ℕ → Type 0) (halt : Halt) (stage : Stage Scheduler) (in_flight : Option InFlight) (meant other : Option Event)
     (s : UnitState) → other ≡ meant → BreaksOff leaves fills halt stage in_flight other s → BreaksOff leaves fills halt stage in_flight meant s
 breaks-same leaves fills halt stage in_flight meant other s same b = subst (λ (m : Option Event). BreaksOff leaves fills halt stage in_flight m s) same b
 
@@ -61,23 +62,23 @@ pub serve-as : (holds : Kept → Type 0) (is_new : Id → Type 0) (x : Scheduler
 serve-as holds is_new x c d s is h = subst (λ (k : Coming). IsToServe holds is_new x k s) is h
 
 pub nothing-performs : (holds : Kept → Type 0) (is_new : Id → Type 0) (x : Scheduler) (c : Coming) (in_flight : Option InFlight) (s : State) → c ≡ coming.Nothing →
-    IsToServe holds is_new x c s → in_flight ≡ None → Performs holds is_new (at.Serving x) in_flight (event_meant s.units c) None s
+    IsToServe holds is_new x c s → in_flight ≡ None → Performs (SeesIn holds is_new (at.Going x)) in_flight (event_meant s.units c) None s
 nothing-performs holds is_new x c in_flight s is h none =
     let k = serve-as holds is_new x c coming.Nothing s is h in
-    performs-same holds is_new (at.Serving x) in_flight (event_meant s.units c) None None s (ap (event_meant s.units) (sym is))
+    performs-same holds is_new (at.Going x) in_flight (event_meant s.units c) None None s (ap (event_meant s.units) (sym is))
     (record { told = refl; sees = (k.ready.0, k.stored); none = none })
 
 pub told-performs : (holds : Kept → Type 0) (is_new : Id → Type 0) (x : Scheduler) (c : Coming) (e : Event) (in_flight : Option InFlight) (s : State) → c ≡ coming.Told e →
-    IsToServe holds is_new x c s → in_flight ≡ None → Performs holds is_new (at.Serving x) in_flight (event_meant s.units c) (Some e) s
+    IsToServe holds is_new x c s → in_flight ≡ None → Performs (SeesIn holds is_new (at.Going x)) in_flight (event_meant s.units c) (Some e) s
 told-performs holds is_new x c e in_flight s is h none =
     let k = serve-as holds is_new x c (coming.Told e) s is h in
     let done = k.ready.0 in
-    performs-same holds is_new (at.Serving x) in_flight (event_meant s.units c) (Some e) (Some e) s (ap (event_meant s.units) (sym is))
+    performs-same holds is_new (at.Going x) in_flight (event_meant s.units c) (Some e) (Some e) s (ap (event_meant s.units) (sym is))
     (record { told = refl; sees = (done.0, done.1, subst (Stored holds is_new) (sym done.1.after.units) k.stored, k.serves); none = none })
 
 -- what is no preparation arms nothing
-pub performed-unarmed : (holds : Kept → Type 0) (is_new : Id → Type 0) (stage : Stage) (in_flight : Option InFlight) (meant given : Option Event) (s : State) →
-    is_prepared meant ≡ false → Performs holds is_new stage in_flight meant given s → armed_at given ≡ 0
+pub performed-unarmed : (holds : Kept → Type 0) (is_new : Id → Type 0) (stage : Stage Scheduler) (in_flight : Option InFlight) (meant given : Option Event) (s : State) →
+    is_prepared meant ≡ false → Performs (SeesIn holds is_new stage) in_flight meant given s → armed_at given ≡ 0
 performed-unarmed holds is_new stage in_flight meant given s plain p = ap armed_at p.told ∙ plain-unarmed meant plain
 
 -- a definition, and stops that are armed, are to be prepared

@@ -46,6 +46,7 @@ use Rattle.salt_storage.specs.declared.halt.Halt.{Halt}
 use Rattle.salt_values.specs.declared.id.Id.{Id}
 use Rattle.std.proofs.Common.{ap, inl, inr, subst, sym, ◌∙◌}
 use Rattle.std.specs.Prelude.{Bool, List, None, Option, Some, length, refl, ℕ, ◌<◌, ◌^◌, ◌≡◌}
+use Rattle.salt_engine.specs.Standing.{SeesIn}
 
 -- the laws of definitions of salt_sound
 abbrev pub TableLaw : Type 0
@@ -66,7 +67,7 @@ module _ (holds : Kept → Type 0) (is_new : Id → Type 0) (stoppable : Bool) (
   faultless : (l : Line) → line ≡ l → refused_in s.units (under_way_of s) l ≡ None
   faultless l is = subst (λ (m : Line). refusal_in s.units (under_way_of s) (Tree m) ≡ None) is h.allowed.allowed
 
-  pub line-lost : (leaves : Kept → Kept → Type 0) (fills : Written → ℕ → Type 0) (stage : Stage) (in_flight : Option InFlight) (meant : Option Event) →
+  pub line-lost : (leaves : Kept → Kept → Type 0) (fills : Written → ℕ → Type 0) (stage : Stage Scheduler) (in_flight : Option InFlight) (meant : Option Event) →
       IsLost stage in_flight → leaves s.units.kept s.units.kept → BreaksOff leaves fills Memory stage in_flight meant s.units
   line-lost leaves fills stage in_flight meant lost left = breaks-before leaves fills stage in_flight meant s.units left lost
 
@@ -137,14 +138,14 @@ module _ (holds : Kept → Type 0) (is_new : Id → Type 0) (stoppable : Bool) (
         stored-behind holds now is_new new_now s.units (h.played r).trace event (h.played r).keeps.units sound-behind refl h.stored
         (subst now may.leaves holding) (λ u i n. stays u n)
 
-    pub defined-performs : (now : Kept → Type 0) (new_now : Id → Type 0) (stage : Stage) (in_flight : Option InFlight) (y : Scheduler) (e : Event) → in_flight ≡ None →
-        stage ≡ at.Serving y → now (defined s.units.kept d) → ((u : Id) → is_new u → new_now u) → scheduling.Gives s (Some event) y (Some e) →
-        Performs now new_now stage in_flight (line_in s.units (clash_by s) (items_by s r) line) (Some e) s
+    pub defined-performs : (now : Kept → Type 0) (new_now : Id → Type 0) (stage : Stage Scheduler) (in_flight : Option InFlight) (y : Scheduler) (e : Event) → in_flight ≡ None →
+        stage ≡ at.Going y → now (defined s.units.kept d) → ((u : Id) → is_new u → new_now u) → scheduling.Gives s (Some event) y (Some e) →
+        Performs (SeesIn now new_now stage) in_flight (line_in s.units (clash_by s) (items_by s r) line) (Some e) s
     defined-performs now new_now stage in_flight y e none there holding stays g =
         serves-by now new_now stage in_flight (line_in s.units (clash_by s) (items_by s r) line) s none y event e there meant g h.allowed.serves.phase
         (defined-stored now new_now holding stays)
 
-    module _ (leaves : Kept → Kept → Type 0) (fills : Written → ℕ → Type 0) (stage : Stage) (in_flight : Option InFlight) where
+    module _ (leaves : Kept → Kept → Type 0) (fills : Written → ℕ → Type 0) (stage : Stage Scheduler) (in_flight : Option InFlight) where
       -- memory ran out behind it
       pub defined-lost : IsLost stage in_flight → leaves (defined s.units.kept d) (defined s.units.kept d) →
           BreaksOff leaves fills Memory stage in_flight (line_in s.units (clash_by s) (items_by s r) line) s.units

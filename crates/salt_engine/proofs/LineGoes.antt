@@ -1,7 +1,7 @@
 -- A line that is asked, and a turn of `go all`, as moves of a point.
 use Rattle.salt_ast.specs.declared.lines.Line.{Line}
 use Rattle.salt_engine.specs.Performing.{IsPlayedBefore, Performs}
-use Rattle.salt_engine.specs.Standing.{Sees}
+use Rattle.salt_engine.specs.Standing.{Sees, SeesIn}
 use Rattle.salt_engine.specs.declared.flights.InFlight.{InFlight}
 use Rattle.salt_engine.specs.declared.stage.Stage.{Stage}
 use Rattle.salt_keeps.proofs.PointsGoOn.{asked-kept, idle-complete, turn-kept, turned-kept}
@@ -25,6 +25,7 @@ use Rattle.salt_values.specs.declared.id.Id.{Id}
 use Rattle.salt_watch.proofs.Readable.{readable}
 use Rattle.std.proofs.Common.{sym, ◌∙◌}
 use Rattle.std.specs.Prelude.{Bool, List, None, Option, Some, [], refl, ◌++◌, ◌∷◌, ◌≡◌}
+use Rattle.salt_scheduler.specs.declared.scheduler.Scheduler.{Scheduler}
 
 every-more : {A : Type 0} (P : A → Type 0) (xs : List A) (x : A) → Every P xs → P x → Every P (xs ++ x ∷ [])
 every-more P [] x h k = (k, tt)
@@ -63,9 +64,9 @@ module _ (asked : Asked) (p : Point) (sound : IsSoundPoint p) (idle : IsIdle p) 
   pub asked-moves : (r : Reading p.state.watch) → Moves (Ask asked) p (asked_to r)
   asked-moves r = record { idle = idle; state = refl; read = r; next = refl; flight = refl }
 
-  pub asked-at : (holds : Kept → Type 0) (is_new : Id → Type 0) (old now single : Bool) (stage : Stage) (in_flight : Option InFlight) (given : Option Event) (r : Reading p.state.watch) →
-      Performs holds is_new stage in_flight (asked_next p.state r asked) given (asked_of asked p.state) → p.state.can_stop ≡ old → now ≡ old →
-      single ≡ is_statement_line (line_asked asked) → Sees holds is_new now stage single in_flight given (asked_of asked p.state)
+  pub asked-at : (holds : Kept → Type 0) (is_new : Id → Type 0) (old now single : Bool) (stage : Stage Scheduler) (in_flight : Option InFlight) (given : Option Event) (r : Reading p.state.watch) →
+      Performs (SeesIn holds is_new stage) in_flight (asked_next p.state r asked) given (asked_of asked p.state) → p.state.can_stop ≡ old → now ≡ old →
+      single ≡ is_statement_line (line_asked asked) → Sees (SeesIn holds is_new stage) now single in_flight given (asked_of asked p.state)
   asked-at holds is_new old now single stage in_flight given r h can same line = record { seen = h.sees; can_stop = can ∙ sym same; line = line; none = h.none }
 
 -- A TURN

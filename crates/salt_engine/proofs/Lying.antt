@@ -1,11 +1,11 @@
--- An engine that can be opened at a point: at first, behind a fall, and between lines.
+-- What can be opened at a point: at first, behind a fall, and between lines.
 use Rattle.salt_books.specs.declared.books.Books.{Books}
 use Rattle.salt_engine.proofs.Falling.{flies-fallen, left-fallen}
 use Rattle.salt_engine.proofs.Flying.{flight-next}
 use Rattle.salt_engine.proofs.Halting.{is-left, know-units}
 use Rattle.salt_engine.specs.Finding.{IsFoundAgain, IsNew}
 use Rattle.salt_engine.specs.Flights.{IsInFlight}
-use Rattle.salt_engine.specs.Standing.{IsFoundStage, KnowsUnits, Left, Lies, Sees, SeesIn, books_in}
+use Rattle.salt_engine.specs.Standing.{KnowsUnits, Left, Lies, Sees, SeesIn, opening_books, serving_books}
 use Rattle.salt_engine.specs.Stored.{IsEither, IsLeft}
 use Rattle.salt_engine.specs.declared.flights.InFlight.{InFlight}
 use Rattle.salt_engine.specs.declared.stage.Stage.TheVariants as at
@@ -22,25 +22,29 @@ use Rattle.salt_model.specs.Turns.{is_statement_line}
 use Rattle.salt_model.specs.declared.events.Event.TheVariants.{Down}
 use Rattle.salt_model.specs.declared.events.Event.{Event}
 use Rattle.salt_model.specs.declared.events.Why.{Why}
+use Rattle.salt_recovery.specs.declared.recovery.Recovery.{Recovery}
+use Rattle.salt_scheduler.specs.declared.scheduler.Scheduler.{Scheduler}
 use Rattle.salt_steps.specs.Opening.{IsFallenFrom, IsOpenedFirst}
 use Rattle.salt_steps.specs.Standing.{IsSoundPoint}
 use Rattle.salt_storage.specs.Storing.{IsSoundKept}
+use Rattle.salt_storage.specs.declared.found.Numbers.{Numbers}
 use Rattle.salt_values.specs.declared.id.Id.{Id}
 use Rattle.std.proofs.Common.{ap, inl, inr, subst, sym, ◌∙◌}
-use Rattle.std.specs.Prelude.{Bool, None, Option, [], refl, ℕ, ◌≡◌}
+use Rattle.std.specs.Prelude.{Bool, None, Option, Some, [], refl, ℕ, ◌≡◌}
 
 -- AT FIRST
 
-pub opened-first : (holds : Kept → Type 0) (leaves : Kept → Kept → Type 0) (stoppable : Bool) (stage : Stage) (single : Bool) (in_flight : Option InFlight) (k : Kept) →
-    IsNew k stage single in_flight → holds k → IsSoundKept k → IsOpenedFirst (Lies holds leaves stoppable stage single in_flight) k stoppable
-opened-first holds leaves stoppable stage single in_flight k new holding sound p u =
+pub opened-first : (holds : Kept → Type 0) (leaves : Kept → Kept → Type 0) (stoppable : Bool) (found : Option Numbers) (stage : Stage Recovery) (single : Bool)
+    (in_flight : Option InFlight) (k : Kept) → IsNew k found stage single in_flight → holds k → IsSoundKept k →
+    IsOpenedFirst (Lies holds leaves stoppable found (opening_books stage) single in_flight) k stoppable
+opened-first holds leaves stoppable found stage single in_flight k new holding sound p u =
     let taken = new.taken in
     let books = taken.fresh p.state.units.phase p.state.units.line in
     record {
-      left = subst (λ (s : Stage). Left holds leaves s 0 p) (sym taken.there) (k, holding, is-left p k (inl (sym u.kept)), taken.numbered);
+      left = subst (λ (f : Option Numbers). Left holds leaves f 0 p) (sym taken.is) (k, holding, is-left p k (inl (sym u.kept)), taken.numbered);
       knows = (
         taken.books,
-        ap books_in taken.there,
+        ap opening_books taken.there,
         record {
           units = 0;
           bases = 0;
@@ -63,55 +67,41 @@ opened-first holds leaves stoppable stage single in_flight k new holding sound p
 
 -- BEHIND A FALL the one or the other is found.
 
-pub found-left : (holds : Kept → Type 0) (leaves : Kept → Kept → Type 0) (books : Books) (a b : Kept) (stage : Stage) (room : ℕ) (p : Point) → IsFoundAgain holds books a b stage →
-    IsLeft room p a → IsLeft room p b → Left holds leaves stage room p
-found-left holds leaves books a b stage room p f is_a is_b =
-    subst (λ (s : Stage). Left holds leaves s room p) (sym f.there) (f.kept, f.holding, by f.either, f.numbered)
+pub found-left : (holds : Kept → Type 0) (leaves : Kept → Kept → Type 0) (books : Books) (a b : Kept) (found : Option Numbers) (stage : Stage Recovery) (room : ℕ) (p : Point) →
+    IsFoundAgain holds books a b found stage → IsLeft room p a → IsLeft room p b → Left holds leaves found room p
+found-left holds leaves books a b found stage room p f is_a is_b =
+    subst (λ (n : Option Numbers). Left holds leaves n room p) (sym f.is) (f.kept, f.holding, by f.either, f.numbered)
   where
     by : IsEither a b f.kept → IsLeft room p f.kept
     by (inl e) = subst (IsLeft room p) (sym e) is_a
     by (inr e) = subst (IsLeft room p) (sym e) is_b
 
--- WHAT IS LEFT, where nothing was found since
+-- WHAT IS LEFT, whether it was found since or not: a stop leaves it
 
-pub left-as : (holds : Kept → Type 0) (leaves : Kept → Kept → Type 0) (stage : Stage) (room : ℕ) (p : Point) → (IsFoundStage stage → ⊥) →
-    ((a b : Kept) × leaves a b × IsLeft room p a × IsLeft room p b) → Left holds leaves stage room p
-left-as holds leaves (at.Found books numbers) room p not h = absurd (not tt)
-left-as holds leaves (at.Opening x) room p not h = h
-left-as holds leaves (at.Serving x) room p not h = h
-left-as holds leaves (at.Down books) room p not h = h
-left-as holds leaves at.Lost room p not h = h
-
--- either way a stop leaves it
-pub left-stops : (holds : Kept → Type 0) (leaves : Kept → Kept → Type 0) (stage : Stage) (room : ℕ) (p : Point) → ((k : Kept) → holds k → leaves k k) → Left holds leaves stage room p →
-    (a b : Kept) × leaves a b × IsLeft room p a × IsLeft room p b
-left-stops holds leaves (at.Found books numbers) room p stays h = (h.0, h.0, stays h.0 h.1, h.2, h.2)
-left-stops holds leaves (at.Opening x) room p stays h = h
-left-stops holds leaves (at.Serving x) room p stays h = h
-left-stops holds leaves (at.Down books) room p stays h = h
-left-stops holds leaves at.Lost room p stays h = h
+pub left-stops : (holds : Kept → Type 0) (leaves : Kept → Kept → Type 0) (found : Option Numbers) (room : ℕ) (p : Point) → ((k : Kept) → holds k → leaves k k) →
+    Left holds leaves found room p → (a b : Kept) × leaves a b × IsLeft room p a × IsLeft room p b
+left-stops holds leaves None room p stays h = h
+left-stops holds leaves (Some n) room p stays h = (h.0, h.0, stays h.0 h.1, h.2, h.2)
 
 -- BETWEEN LINES
 
-idle-knows : (holds : Kept → Type 0) (is_new : Id → Type 0) (stage : Stage) (s : State) → SeesIn holds is_new stage None s →
-    KnowsUnits stage s.units × holds s.units.kept × (IsFoundStage stage → ⊥)
-idle-knows holds is_new (at.Serving x) s h = ((x.books, refl, know-units x.books s.units h.0.books), h.1.holding, λ f. f)
-idle-knows holds is_new (at.Found books numbers) s h = absurd h
-idle-knows holds is_new (at.Opening x) s h = absurd h
+idle-knows : (holds : Kept → Type 0) (is_new : Id → Type 0) (stage : Stage Scheduler) (s : State) → SeesIn holds is_new stage None s →
+    KnowsUnits (serving_books stage) s.units × holds s.units.kept
+idle-knows holds is_new (at.Going x) s h = ((x.books, refl, know-units x.books s.units h.0.books), h.1.holding)
 idle-knows holds is_new (at.Down books) s h = absurd h
 idle-knows holds is_new at.Lost s h = absurd h
 
 up : (p : Point) → p.state.units.phase ≡ Serving → p.state.units.phase ≡ Fallen → ⊥
 up p serves fallen = let no = sym serves ∙ fallen in cc
 
-pub idle-lies : (holds : Kept → Type 0) (is_new : Id → Type 0) (leaves : Kept → Kept → Type 0) (stoppable : Bool) (stage : Stage) (single : Bool) (in_flight : Option InFlight) (p : Point) →
-    IsSoundPoint p → Sees holds is_new stoppable stage single in_flight None p.state → IsIdle p → ((k : Kept) → holds k → leaves k k) → ((k : Kept) → holds k → IsSoundKept k) →
-    Lies holds leaves stoppable stage single in_flight 0 p
+pub idle-lies : (holds : Kept → Type 0) (is_new : Id → Type 0) (leaves : Kept → Kept → Type 0) (stoppable : Bool) (stage : Stage Scheduler) (single : Bool) (in_flight : Option InFlight) (p : Point) →
+    IsSoundPoint p → Sees (SeesIn holds is_new stage) stoppable single in_flight None p.state → IsIdle p → ((k : Kept) → holds k → leaves k k) → ((k : Kept) → holds k → IsSoundKept k) →
+    Lies holds leaves stoppable None (serving_books stage) single in_flight 0 p
 idle-lies holds is_new leaves stoppable stage single in_flight p sound sees idle stays may =
     let k = p.state.units.kept in
     let knows = idle-knows holds is_new stage p.state sees.seen in
     record {
-      left = left-as holds leaves stage 0 p knows.2 (k, k, stays k knows.1, is-left p k (inl refl), is-left p k (inl refl));
+      left = (k, k, stays k knows.1, is-left p k (inl refl), is-left p k (inl refl));
       knows = knows.0;
       sound = may k knows.1;
       can_stop = sees.can_stop;
@@ -123,16 +113,16 @@ idle-lies holds is_new leaves stoppable stage single in_flight p sound sees idle
 
 -- BEHIND A DOWN
 
-pub fallen-lies : (holds now : Kept → Type 0) (leaves again : Kept → Kept → Type 0) (old stoppable : Bool) (stage new : Stage) (single : Bool) (in_flight : Option InFlight)
-    (room : ℕ) (p q : Point) → Lies holds leaves old stage single in_flight room p → IsFallenFrom p q → stoppable ≡ old → (IsFoundStage new → ⊥) →
+pub fallen-lies : (holds now : Kept → Type 0) (leaves again : Kept → Kept → Type 0) (old stoppable : Bool) (found : Option Numbers) (books later : Option Books) (single : Bool)
+    (in_flight : Option InFlight) (room : ℕ) (p q : Point) → Lies holds leaves old found books single in_flight room p → IsFallenFrom p q → stoppable ≡ old →
     ((k : Kept) → holds k → leaves k k) → ((a b : Kept) → leaves a b → again a b) →
-    ((s : UnitState) (why : Why) → KnowsUnits stage s → KnowsUnits new (units_after (Down why) s)) → Lies now again stoppable new single in_flight room q
-fallen-lies holds now leaves again old stoppable stage new single in_flight room p q h fell same not stays left knows =
-    let l = left-stops holds leaves stage room p stays h.left in
+    ((s : UnitState) (why : Why) → KnowsUnits books s → KnowsUnits later (units_after (Down why) s)) → Lies now again stoppable None later single in_flight room q
+fallen-lies holds now leaves again old stoppable found books later single in_flight room p q h fell same stays left knows =
+    let l = left-stops holds leaves found room p stays h.left in
     let units = fell.after.units in
     record {
-      left = left-as now again new room q not (l.0, l.1, left l.0 l.1 l.2, left-fallen in_flight room p q l.0 h.flies fell l.3, left-fallen in_flight room p q l.1 h.flies fell l.4);
-      knows = subst (KnowsUnits new) (sym units) (knows p.state.units fell.why h.knows);
+      left = (l.0, l.1, left l.0 l.1 l.2, left-fallen in_flight room p q l.0 h.flies fell l.3, left-fallen in_flight room p q l.1 h.flies fell l.4);
+      knows = subst (KnowsUnits later) (sym units) (knows p.state.units fell.why h.knows);
       sound = subst (λ (s : UnitState). IsSoundKept s.kept) (sym units) h.sound;
       can_stop = fell.after.can_stop ∙ h.can_stop ∙ sym same;
       line = h.line ∙ sym (ap (λ (s : UnitState). is_statement_line s.line) units);

@@ -6,7 +6,7 @@ use Rattle.salt_engine.proofs.Opened.{FoundAt, found-at, has-opened, opened-by, 
 use Rattle.salt_engine.proofs.OpenedOn.{first-stored}
 use Rattle.salt_engine.specs.Finding.{IsOpenedBy, IsOpeningWith}
 use Rattle.salt_engine.specs.Flights.{IsInFlight}
-use Rattle.salt_engine.specs.Standing.{KnowUnits, KnowsUnits, Left, Lies, Sees, SeesIn, books_in}
+use Rattle.salt_engine.specs.Standing.{IsBrokenStage, IsFoundStage, KnowUnits, KnowsUnits, Left, Lies, OpensIn, Sees, opening_books}
 use Rattle.salt_engine.specs.Stored.{IsLeft, IsNumbered, kept_behind, raised}
 use Rattle.salt_engine.specs.declared.flights.InFlight.{InFlight}
 use Rattle.salt_engine.specs.declared.stage.Stage.TheVariants as at
@@ -19,6 +19,7 @@ use Rattle.salt_model.specs.Phases.{Fallen}
 use Rattle.salt_model.specs.Turns.{is_statement_line}
 use Rattle.salt_model.specs.declared.events.Event.TheVariants.{Opened}
 use Rattle.salt_model.specs.declared.events.Event.{Event}
+use Rattle.salt_recovery.specs.declared.recovery.Recovery.{Recovery}
 use Rattle.salt_stands.specs.Stands.{are_spent}
 use Rattle.salt_steps.specs.Opening.{OpensAt}
 use Rattle.salt_steps.specs.Standing.{IsSoundPoint}
@@ -31,12 +32,24 @@ use Rattle.salt_values.specs.declared.id.Id.{Id}
 use Rattle.std.proofs.Common.{ap, arith, inl, inr, subst, sym, ◌∙◌}
 use Rattle.std.specs.Prelude.{Bool, Err, IfErr, IfOk, List, None, Ok, OnOk, Option, Result, Some, [], false, refl, ℕ, ◌+◌, ◌++◌, ◌∷◌, ◌≡◌, ◌⊎◌}
 
--- the books that a stage has
-pub known-by : (stage : Stage) (x : Books) (s : UnitState) → books_in stage ≡ Some x → KnowsUnits stage s → KnowUnits x s
-known-by stage x s e k =
+-- the books that there are
+pub known-by : (books : Option Books) (x : Books) (s : UnitState) → books ≡ Some x → KnowsUnits books s → KnowUnits x s
+known-by books x s e k =
     let of : Some x ≡ Some k.0 = sym e ∙ k.1 in
     let same : x ≡ k.0 = cc in
     subst (λ (y : Books). KnowUnits y s) (sym same) k.2
+
+-- what was found
+
+pub found-broken : (found : Option Numbers) (stage : Stage Recovery) → IsFoundStage found stage → IsBrokenStage stage
+found-broken (Some n) (at.Down x) h = tt
+found-broken (Some n) (at.Going x) h = absurd h
+found-broken (Some n) at.Lost h = absurd h
+found-broken None stage h = absurd h
+
+pub never-found : (found : Option Numbers) (stage : Stage Recovery) → ((n : Numbers) → found ≡ Some n → ⊥) → IsFoundStage found stage → ⊥
+never-found None stage nowhere h = h
+never-found (Some n) stage nowhere h = nowhere n refl
 
 -- its numbers are not spent
 pub unspent : (n : Numbers) (k : Kept) → IsNumbered n k → are_spent k.boot k.decisions ≡ false
@@ -60,10 +73,10 @@ left-booted room p k h = record { boots = h.boots + 1; most = let m = h.most in 
     by (inl e) = inl (later p.state.units.kept e)
     by (inr e) = inr (later (kept_behind p.flight p.state.units) e)
 
-module _ (holds : Kept → Type 0) (leaves : Kept → Kept → Type 0) (old : Bool) (stage : Stage) (was : Bool) (flew : Option InFlight) (x : Books) (n : Numbers)
-    (found : stage ≡ at.Found x n) (room : ℕ) (p : Point) (lies : Lies holds leaves old stage was flew room p) where
+module _ (holds : Kept → Type 0) (leaves : Kept → Kept → Type 0) (old : Bool) (found : Option Numbers) (stage : Stage Recovery) (was : Bool) (flew : Option InFlight) (x : Books)
+    (n : Numbers) (is : found ≡ Some n) (there : stage ≡ at.Down x) (room : ℕ) (p : Point) (lies : Lies holds leaves old found (opening_books stage) was flew room p) where
   pub found-here : (k : Kept) × holds k × IsLeft room p k × IsNumbered n k
-  found-here = subst (λ (s : Stage). Left holds leaves s room p) found lies.left
+  found-here = subst (λ (f : Option Numbers). Left holds leaves f room p) is lies.left
 
   abbrev pub kept-found : Kept
   kept-found = found-here.0
@@ -78,7 +91,7 @@ module _ (holds : Kept → Type 0) (leaves : Kept → Kept → Type 0) (old : Bo
   found-there = found-at flew room p n kept-found lies.flies found-here.2 found-here.3
 
   pub knows-found : KnowUnits x p.state.units
-  knows-found = known-by stage x p.state.units (ap books_in found) lies.knows
+  knows-found = known-by (opening_books stage) x p.state.units (ap opening_books there) lies.knows
 
   -- a boot has begun
   pub begun-by : (sound : IsSoundPoint p) (fallen : p.state.units.phase ≡ Fallen) (boot : ℕ) (next : boot ≡ kept-found.boot + 1) →
@@ -87,23 +100,20 @@ module _ (holds : Kept → Type 0) (leaves : Kept → Kept → Type 0) (old : Bo
       opened-by p sound fallen room kept-found n.decisions boot found-there next x was flew knows-found lies.line lies.flies lies.sound
 
   -- or not
-  pub booted-left : (now : Kept → Type 0) (again : Kept → Kept → Type 0) (later : Stage) (a b : Kept) → (later ≡ at.Down x) ⊎ (later ≡ at.Lost) →
-      (a ≡ kept-found) ⊎ (a ≡ booted kept-found) → (b ≡ kept-found) ⊎ (b ≡ booted kept-found) → again a b → Left now again later (room + 1) p
-  booted-left now again later a b there is_a is_b left = by there
+  pub booted-left : (now : Kept → Type 0) (again : Kept → Kept → Type 0) (later : Option Numbers) (a b : Kept) → later ≡ None → (a ≡ kept-found) ⊎ (a ≡ booted kept-found) →
+      (b ≡ kept-found) ⊎ (b ≡ booted kept-found) → again a b → Left now again later (room + 1) p
+  booted-left now again later a b none is_a is_b left = subst (λ (f : Option Numbers). Left now again f (room + 1) p) (sym none) (a, b, left, one a is_a, one b is_b)
     where
       one : (k : Kept) → (k ≡ kept-found) ⊎ (k ≡ booted kept-found) → IsLeft (room + 1) p k
       one k (inl e) = subst (IsLeft (room + 1) p) (sym e) (left-more room p kept-found found-here.2)
       one k (inr e) = subst (IsLeft (room + 1) p) (sym e) (left-booted room p kept-found found-here.2)
 
-      by : (later ≡ at.Down x) ⊎ (later ≡ at.Lost) → Left now again later (room + 1) p
-      by (inl down) = subst (λ (s : Stage). Left now again s (room + 1) p) (sym down) (a, b, left, one a is_a, one b is_b)
-      by (inr lost) = subst (λ (s : Stage). Left now again s (room + 1) p) (sym lost) (a, b, left, one a is_a, one b is_b)
-
-  pub down-lies : (now : Kept → Type 0) (again : Kept → Kept → Type 0) (stoppable : Bool) (later : Stage) (single : Bool) (in_flight : Option InFlight) → later ≡ at.Down x →
-      again kept-found (booted kept-found) → stoppable ≡ old → single ≡ was → in_flight ≡ flew → Lies now again stoppable later single in_flight (room + 1) p
-  down-lies now again stoppable later single in_flight there left same line flies = record {
-    left = booted-left now again later kept-found (booted kept-found) (inl there) (inl refl) (inr refl) left;
-    knows = (x, ap books_in there, knows-found);
+  pub down-lies : (now : Kept → Type 0) (again : Kept → Kept → Type 0) (stoppable : Bool) (later : Option Numbers) (books : Option Books) (single : Bool) (in_flight : Option InFlight) →
+      later ≡ None → books ≡ Some x → again kept-found (booted kept-found) → stoppable ≡ old → single ≡ was → in_flight ≡ flew →
+      Lies now again stoppable later books single in_flight (room + 1) p
+  down-lies now again stoppable later books single in_flight none stays left same line flies = record {
+    left = booted-left now again later kept-found (booted kept-found) none (inl refl) (inr refl) left;
+    knows = (x, stays, knows-found);
     sound = lies.sound;
     can_stop = lies.can_stop ∙ sym same;
     line = line ∙ lies.line;
@@ -117,22 +127,22 @@ module _ (p : Point) (sound : IsSoundPoint p) (fallen : p.state.units.phase ≡ 
   abbrev pub its : State
   its = state p sound fallen room k number boot f next_boot
 
-  pub opening-sees : (holds : Kept → Type 0) (is_new : Id → Type 0) (old stoppable was single : Bool) (stage : Stage) (in_flight : Option InFlight) (next : Event) →
+  pub opening-sees : (holds : Kept → Type 0) (is_new : Id → Type 0) (old stoppable was single : Bool) (stage : Stage Recovery) (in_flight : Option InFlight) (next : Event) →
       IsOpeningWith p.flight number its stage next → holds (booted k) → ((u : Id) → u.boot ≡ boot → is_new u) → p.state.can_stop ≡ old → stoppable ≡ old →
-      was ≡ is_statement_line p.state.units.line → single ≡ was → in_flight ≡ None → Sees holds is_new stoppable stage single in_flight (Some next) its
+      was ≡ is_statement_line p.state.units.line → single ≡ was → in_flight ≡ None → Sees (OpensIn holds is_new stage) stoppable single in_flight (Some next) its
   opening-sees holds is_new old stoppable was single stage in_flight next o holding new can same line kept none =
       let t = o.begins.done.0 in
       let d = o.begins.done.1 in
       record {
         seen =
-            subst (λ (s : Stage). SeesIn holds is_new s (Some next) its) (sym o.there)
-            (t, d, first-stored p sound fallen room k number boot f next_boot next o.begins.told holds is_new t.units d.after.units holding new);
+            subst (λ (s : Stage Recovery). OpensIn holds is_new s (Some next) its) (sym o.there)
+            (t, d, first-stored p sound fallen room k number boot f next_boot next o.begins.told holds is_new t.units d.after.units holding new, refl);
         can_stop = can ∙ sym same;
         line = kept ∙ line;
         none = none;
       }
 
-  pub opening-at : {E : Type 0} (sees : E → Option Event → State → Type 0) (e : E) (next : Event) (stage : Stage) (story told : List Event) → IsOpeningWith p.flight number its stage next →
+  pub opening-at : {E : Type 0} (sees : E → Option Event → State → Type 0) (e : E) (next : Event) (stage : Stage Recovery) (story told : List Event) → IsOpeningWith p.flight number its stage next →
       sees e (Some next) its → told ≡ story ++ Opened boot number ∷ [] → OpensAt sees room p story e next told
   unfolding has-opened
   opening-at sees e next stage story told o seen tells = record {

@@ -16,6 +16,7 @@ use Rattle.salt_engine.proofs.Performed.{acts-meant, comes-next, commits-meant, 
 use Rattle.salt_engine.proofs.Resting.{opening-plain}
 use Rattle.salt_engine.specs.Deciding.{IsBefore, Undone, branches_in}
 use Rattle.salt_engine.specs.Performing.{BreaksOff, GoesOnOpening, IsPlayedBefore, IsToOpen, Performs, StoredAt, WasBroken, is_prepared}
+use Rattle.salt_engine.specs.Standing.{OpensIn}
 use Rattle.salt_engine.specs.Stored.{Stored}
 use Rattle.salt_engine.specs.declared.flights.InFlight.TheVariants as asked
 use Rattle.salt_engine.specs.declared.flights.InFlight.{InFlight}
@@ -85,13 +86,13 @@ module _ (holds : Kept → Type 0) (is_new : Id → Type 0) (x : Recovery) (a : 
       ap (λ (ts : List TableDef). leaves_keys ts a.statement) act-stands.books.known.schema
       ∙ keys-left s.units act-unit a.statement a.unit (comes-next act-event (event_meant s.units (coming.Act a)) s h.played act-meant) act-asked.named
 
-  pub act-performs : (now : Kept → Type 0) (new_now : Id → Type 0) (stage : Stage) (in_flight : Option InFlight) (y : Recovery) (given : Event) → in_flight ≡ None → stage ≡ at.Opening y →
-      Stored now new_now s.units → recovering.Gives s (Some act-event) y (Some given) → Performs now new_now stage in_flight (event_meant s.units (coming.Act a)) (Some given) s
+  pub act-performs : (now : Kept → Type 0) (new_now : Id → Type 0) (stage : Stage Recovery) (in_flight : Option InFlight) (y : Recovery) (given : Event) → in_flight ≡ None → stage ≡ at.Going y →
+      Stored now new_now s.units → recovering.Gives s (Some act-event) y (Some given) → Performs (OpensIn now new_now stage) in_flight (event_meant s.units (coming.Act a)) (Some given) s
   act-performs now new_now stage in_flight y given none there stored gives =
-      opens-by now new_now stage in_flight (event_meant s.units (coming.Act a)) s none y act-event given there act-meant gives
+      opens-by now new_now stage in_flight (event_meant s.units (coming.Act a)) s none y act-event given there act-meant gives h.opens
       (stored-plain now new_now act-event (event_meant s.units (coming.Act a)) s h.played act-meant refl refl stored)
 
-  pub act-breaks : (leaves : Kept → Kept → Type 0) (fills : Written → ℕ → Type 0) (halt : Halt) (stage : Stage) (in_flight : Option InFlight) (y : Books) → y ≡ x.books →
+  pub act-breaks : (leaves : Kept → Kept → Type 0) (fills : Written → ℕ → Type 0) (halt : Halt) (stage : Stage Recovery) (in_flight : Option InFlight) (y : Books) → y ≡ x.books →
       Undone leaves fills halt s.units act-event → WasBroken halt y None stage in_flight → BreaksOff leaves fills halt stage in_flight (event_meant s.units (coming.Act a)) s.units
   act-breaks leaves fills halt stage in_flight y same undone broken =
       breaks leaves fills stage in_flight (event_meant s.units (coming.Act a)) s.units halt y None act-event act-meant (kept-decided act-event s.units refl) undone broken
@@ -126,13 +127,13 @@ module _ (holds : Kept → Type 0) (is_new : Id → Type 0) (x : Recovery) (u : 
   pub commit-there : HaveUnit x.books u
   commit-there = have-unit x.books s.units u commit-unit commit-stands.books commit-named
 
-  pub commit-performs : (now : Kept → Type 0) (new_now : Id → Type 0) (stage : Stage) (in_flight : Option InFlight) (y : Recovery) (given : Event) → in_flight ≡ None → stage ≡ at.Opening y →
+  pub commit-performs : (now : Kept → Type 0) (new_now : Id → Type 0) (stage : Stage Recovery) (in_flight : Option InFlight) (y : Recovery) (given : Event) → in_flight ≡ None → stage ≡ at.Going y →
       Stored now new_now (units_after (commits_in s.units commit-unit) s.units) → recovering.Gives s (Some (commits_in s.units commit-unit)) y (Some given) →
-      Performs now new_now stage in_flight (event_meant s.units (coming.Commit u)) (Some given) s
+      Performs (OpensIn now new_now stage) in_flight (event_meant s.units (coming.Commit u)) (Some given) s
   commit-performs now new_now stage in_flight y given none there stored gives =
-      opens-by now new_now stage in_flight (event_meant s.units (coming.Commit u)) s none y (commits_in s.units commit-unit) given there commit-meant gives stored
+      opens-by now new_now stage in_flight (event_meant s.units (coming.Commit u)) s none y (commits_in s.units commit-unit) given there commit-meant gives h.opens stored
 
-  pub commit-breaks : (leaves : Kept → Kept → Type 0) (fills : Written → ℕ → Type 0) (halt : Halt) (stage : Stage) (in_flight : Option InFlight) (y : Books) → y ≡ x.books →
+  pub commit-breaks : (leaves : Kept → Kept → Type 0) (fills : Written → ℕ → Type 0) (halt : Halt) (stage : Stage Recovery) (in_flight : Option InFlight) (y : Books) → y ≡ x.books →
       Undone leaves fills halt s.units (commits_in s.units commit-unit) → WasBroken halt y (Some (asked.Commit u)) stage in_flight →
       BreaksOff leaves fills halt stage in_flight (event_meant s.units (coming.Commit u)) s.units
   commit-breaks leaves fills halt stage in_flight y same undone broken =
@@ -140,7 +141,7 @@ module _ (holds : Kept → Type 0) (is_new : Id → Type 0) (x : Recovery) (u : 
       (kept-decided (commits_in s.units commit-unit) s.units refl) undone broken
       (subst (λ (z : Books). AreBooks z s.units) (sym same) commit-stands.books) (commit-unit, commit-named, refl)
 
-  pub commit-lost : (leaves : Kept → Kept → Type 0) (fills : Written → ℕ → Type 0) (stage : Stage) (in_flight : Option InFlight) →
+  pub commit-lost : (leaves : Kept → Kept → Type 0) (fills : Written → ℕ → Type 0) (stage : Stage Recovery) (in_flight : Option InFlight) →
       leaves (units_after (commits_in s.units commit-unit) s.units).kept (units_after (commits_in s.units commit-unit) s.units).kept → stage ≡ at.Lost → in_flight ≡ None →
       BreaksOff leaves fills Memory stage in_flight (event_meant s.units (coming.Commit u)) s.units
   commit-lost leaves fills stage in_flight left there none =
@@ -170,13 +171,13 @@ module _ (holds : Kept → Type 0) (is_new : Id → Type 0) (x : Recovery) (u ba
   branch-stored now new_now stored =
       subst (λ v. Stored now new_now (units_after (branches_in s.units v cause) s.units)) (named-unit u s.units.units branch-unit.unit branch-unit.named) stored
 
-  pub branch-performs : (now : Kept → Type 0) (new_now : Id → Type 0) (stage : Stage) (in_flight : Option InFlight) (y : Recovery) (given : Event) → in_flight ≡ None → stage ≡ at.Opening y →
+  pub branch-performs : (now : Kept → Type 0) (new_now : Id → Type 0) (stage : Stage Recovery) (in_flight : Option InFlight) (y : Recovery) (given : Event) → in_flight ≡ None → stage ≡ at.Going y →
       Stored now new_now (units_after (branches_in s.units u cause) s.units) → recovering.Gives s (Some (branches_in s.units u cause)) y (Some given) →
-      Performs now new_now stage in_flight (event_meant s.units (coming.Branch u base cause)) (Some given) s
+      Performs (OpensIn now new_now stage) in_flight (event_meant s.units (coming.Branch u base cause)) (Some given) s
   branch-performs now new_now stage in_flight y given none there stored gives =
-      opens-by now new_now stage in_flight (event_meant s.units (coming.Branch u base cause)) s none y (branches_in s.units u cause) given there refl gives stored
+      opens-by now new_now stage in_flight (event_meant s.units (coming.Branch u base cause)) s none y (branches_in s.units u cause) given there refl gives h.opens stored
 
-  pub branch-breaks : (leaves : Kept → Kept → Type 0) (fills : Written → ℕ → Type 0) (halt : Halt) (stage : Stage) (in_flight : Option InFlight) (y : Books) → y ≡ x.books →
+  pub branch-breaks : (leaves : Kept → Kept → Type 0) (fills : Written → ℕ → Type 0) (halt : Halt) (stage : Stage Recovery) (in_flight : Option InFlight) (y : Books) → y ≡ x.books →
       Undone leaves fills halt s.units (branches_in s.units u cause) → WasBroken halt y (Some (asked.Branch u base cause)) stage in_flight →
       BreaksOff leaves fills halt stage in_flight (event_meant s.units (coming.Branch u base cause)) s.units
   branch-breaks leaves fills halt stage in_flight y same undone broken =
@@ -184,7 +185,7 @@ module _ (holds : Kept → Type 0) (is_new : Id → Type 0) (x : Recovery) (u ba
       (kept-decided (branches_in s.units u cause) s.units refl) undone broken
       (subst (λ (z : Books). AreBooks z s.units) (sym same) branch-stands.books) (branch-unit, refl)
 
-  pub branch-lost : (leaves : Kept → Kept → Type 0) (fills : Written → ℕ → Type 0) (stage : Stage) (in_flight : Option InFlight) →
+  pub branch-lost : (leaves : Kept → Kept → Type 0) (fills : Written → ℕ → Type 0) (stage : Stage Recovery) (in_flight : Option InFlight) →
       leaves (units_after (branches_in s.units u cause) s.units).kept (units_after (branches_in s.units u cause) s.units).kept → stage ≡ at.Lost → in_flight ≡ None →
       BreaksOff leaves fills Memory stage in_flight (event_meant s.units (coming.Branch u base cause)) s.units
   branch-lost leaves fills stage in_flight left there none =
@@ -193,11 +194,11 @@ module _ (holds : Kept → Type 0) (is_new : Id → Type 0) (x : Recovery) (u ba
 
 -- WHAT IS DONE ALREADY
 
-pub told-performs : (holds : Kept → Type 0) (is_new : Id → Type 0) (x : Recovery) (c : Coming) (e : Event) (s : State) (stage : Stage) (in_flight : Option InFlight) → c ≡ coming.Told e →
-    in_flight ≡ None → stage ≡ at.Opening x → IsToOpen holds is_new x c s → Performs holds is_new stage in_flight (event_meant s.units c) (Some e) s
+pub told-performs : (holds : Kept → Type 0) (is_new : Id → Type 0) (x : Recovery) (c : Coming) (e : Event) (s : State) (stage : Stage Recovery) (in_flight : Option InFlight) → c ≡ coming.Told e →
+    in_flight ≡ None → stage ≡ at.Going x → IsToOpen holds is_new x c s → Performs (OpensIn holds is_new stage) in_flight (event_meant s.units c) (Some e) s
 told-performs holds is_new x c e s stage in_flight is none there h =
     let t : IsToOpen holds is_new x (coming.Told e) s = subst (λ (d : Coming). IsToOpen holds is_new x d s) is h in
-    opens-by holds is_new stage in_flight (event_meant s.units c) s none x e e there (ap (event_meant s.units) is) (record { told = refl; done = t.ready.0 }) t.stored
+    opens-by holds is_new stage in_flight (event_meant s.units c) s none x e e there (ap (event_meant s.units) is) (record { told = refl; done = t.ready.0 }) t.opens t.stored
 
 pub told-step : (holds : Kept → Type 0) (is_new : Id → Type 0) (x : Recovery) (c : Coming) (e : Event) (s : State) → c ≡ coming.Told e → IsToOpen holds is_new x c s → statements_in e ≡ 0
 told-step holds is_new x c e s is h =
@@ -224,6 +225,7 @@ pub goes-to-open : (holds : Kept → Type 0) (is_new : Id → Type 0) (x y : Rec
     recovering.Brings s (comes_behind x.behind s.units) y c → IsToOpen holds is_new y c s
 goes-to-open holds is_new x y c s h may b = record {
   played = subst (λ (o : Option Event). IsPlayedBefore o s) (sym b.meant) h.played;
+  opens = h.stands.opening;
   comes = subst (λ (o : Option Event). IsSome o) (sym b.meant) (opening-goes holds is_new x s h may);
   plain = ap is_prepared b.meant ∙ opening-plain x.behind s.units;
   ready = b.ready;
@@ -262,10 +264,10 @@ comes-unarmed holds is_new x c pairs s h is = let plain : is_prepared (event_mea
 pub to-open-as : (holds : Kept → Type 0) (is_new : Id → Type 0) (x : Recovery) (c d : Coming) (s : State) → c ≡ d → IsToOpen holds is_new x c s → IsToOpen holds is_new x d s
 to-open-as holds is_new x c d s is h = subst (λ (b : Coming). IsToOpen holds is_new x b s) is h
 
-pub performs-as : (holds : Kept → Type 0) (is_new : Id → Type 0) (stage : Stage) (in_flight : Option InFlight) (a b given : Option Event) (s : State) → a ≡ b →
-    Performs holds is_new stage in_flight a given s → Performs holds is_new stage in_flight b given s
+pub performs-as : (holds : Kept → Type 0) (is_new : Id → Type 0) (stage : Stage Recovery) (in_flight : Option InFlight) (a b given : Option Event) (s : State) → a ≡ b →
+    Performs (OpensIn holds is_new stage) in_flight a given s → Performs (OpensIn holds is_new stage) in_flight b given s
 performs-as holds is_new stage in_flight a b given s is h = record { told = h.told ∙ is; sees = h.sees; none = h.none }
 
-pub breaks-as : (leaves : Kept → Kept → Type 0) (fills : Written → ℕ → Type 0) (halt : Halt) (stage : Stage) (in_flight : Option InFlight) (a b : Option Event) (s : UnitState) → a ≡ b →
+pub breaks-as : (leaves : Kept → Kept → Type 0) (fills : Written → ℕ → Type 0) (halt : Halt) (stage : Stage Recovery) (in_flight : Option InFlight) (a b : Option Event) (s : UnitState) → a ≡ b →
     BreaksOff leaves fills halt stage in_flight a s → BreaksOff leaves fills halt stage in_flight b s
 breaks-as leaves fills halt stage in_flight a b s is h = subst (λ (o : Option Event). BreaksOff leaves fills halt stage in_flight o s) is h

@@ -3,7 +3,7 @@ use Rattle.salt_engine.proofs.Draining.{can-drain}
 use Rattle.salt_engine.proofs.Going.{onwards, onwards-line, played-before, reads, says-keeps, says-moves, says-sound}
 use Rattle.salt_engine.proofs.Leftover.{left-at}
 use Rattle.salt_engine.specs.Performing.{GoesOnOpening, Performs}
-use Rattle.salt_engine.specs.Standing.{Sees, is_ready, left_in}
+use Rattle.salt_engine.specs.Standing.{Sees, is_ready, left_in, OpensIn}
 use Rattle.salt_engine.specs.Stored.{Stored}
 use Rattle.salt_engine.specs.declared.flights.InFlight.{InFlight}
 use Rattle.salt_engine.specs.declared.stage.Stage.TheVariants as at
@@ -56,9 +56,9 @@ module _ (x : Recovery) (e : Event) (p : Point) (sound : IsSoundPoint p) (t : St
   pub moves : Moves (Say e) p point
   moves = let r = reads p sound e t d.plain comes d.after in says-moves p sound e t d.plain comes d.after meant r (meant-is r)
 
-  pub opened-on : (holds : Kept → Type 0) (is_new : Id → Type 0) (old now : Bool) (was single : Bool) (stage : Stage) (in_flight : Option InFlight) (given : Event) →
-      Performs holds is_new stage in_flight meant (Some given) t → p.state.can_stop ≡ old → now ≡ old → was ≡ is_statement_line p.state.units.line → single ≡ was →
-      Sees holds is_new now stage single in_flight (Some given) t × (meant ≡ Some given) × (t.units.phase ≡ Opening)
+  pub opened-on : (holds : Kept → Type 0) (is_new : Id → Type 0) (old now : Bool) (was single : Bool) (stage : Stage Recovery) (in_flight : Option InFlight) (given : Event) →
+      Performs (OpensIn holds is_new stage) in_flight meant (Some given) t → p.state.can_stop ≡ old → now ≡ old → was ≡ is_statement_line p.state.units.line → single ≡ was →
+      Sees (OpensIn holds is_new stage) now single in_flight (Some given) t × (meant ≡ Some given) × (t.units.phase ≡ Opening)
   opened-on holds is_new old now was single stage in_flight given h can same line kept = (
     record {
       seen = h.sees;
@@ -78,9 +78,9 @@ module _ (x : Recovery) (e : Event) (p : Point) (sound : IsSoundPoint p) (t : St
 
   -- what is left of the opening is less
   pub leaves-less : (y : Recovery) (given : Event) → IsSoundKept t.units.kept → Some given ≡ meant → ((u : State) × HasDone y given t u) →
-      left_in (at.Opening y) (Some given) < left_in (at.Opening x) (Some e)
+      left_in (at.Going y) (Some given) < left_in (at.Going x) (Some e)
   leaves-less y given kept told u =
-      subst (λ n. n < left_in (at.Opening x) (Some e)) (sym (left-at y given t u.0 u.1))
+      subst (λ n. n < left_in (at.Going x) (Some e)) (sym (left-at y given t u.0 u.1))
       (subst (λ n. left_to_open t.units (Some given) < n) (sym (left-at x e p.state t d))
       (subst (λ (o : Option Event). left_to_open t.units o < left_to_open p.state.units (Some e)) (sym told)
       (subst (λ (o : Option Event). left_to_open t.units meant < left_to_open p.state.units o) comes (falls kept))))

@@ -15,10 +15,16 @@ use Rattle.salt_keeps.specs.States.{After, State}
 use Rattle.salt_keeps.specs.UnitFacts.{UnitFacts, facts_in}
 use Rattle.salt_keeps.specs.WatchSteps.{WatchBy, fate_by}
 use Rattle.salt_keeps.specs.Watches.{Watch, empty_watch}
+use Rattle.salt_keeps.proofs.NextTold.{may-stand}
+use Rattle.salt_laws.proofs.Salted.{holds, may-fit}
 use Rattle.salt_laws.proofs.WellKept.{of-start}
-use Rattle.salt_model.specs.Phases.{Opening, Phase}
-use Rattle.salt_model.specs.Trace.{Trace, start_of, ◌says◌}
-use Rattle.salt_model.specs.declared.events.Event.TheVariants.{Ready}
+use Rattle.salt_model.specs.Kept.{Kept, WellKept}
+use Rattle.salt_model.specs.Phases.{Opening, Phase, Serving, phase}
+use Rattle.salt_model.specs.Played.{IsPlayed}
+use Rattle.salt_model.specs.Trace.{Trace, from, start_of, ◌asks◌, ◌says◌, ◌turns◌}
+use Rattle.salt_model.specs.Units.{base_count}
+use Rattle.salt_model.specs.declared.events.Event.TheVariants.{Began, Down, Opened, Ready}
+use Rattle.salt_model.specs.declared.events.UnitKind.TheVariants.{First}
 use Rattle.salt_openings.proofs.Opening.{none-to-go}
 use Rattle.salt_recovery.specs.Recovering.{HasDone}
 use Rattle.salt_recovery.specs.declared.recovery.Recovery.{Recovery}
@@ -53,6 +59,30 @@ pub ready-none : (s : UnitState) (trace : Trace) → KeepsUnits s (trace says Re
 ready-none s trace keeps sound =
     no-names s.units (sym keeps.units ∙ (ready-empty trace sound.played (of-start (start_of trace).kept sound.well)).units)
 
+-- no program begins in an opening
+
+never-both : (q : Phase) → q ≡ Serving → q ≡ Opening → ⊥
+never-both q s o = let no = sym s ∙ o in cc
+
+no-bases : (trace : Trace) → IsPlayed trace → WellKept (start_of trace).kept → phase trace ≡ Opening → base_count trace ≡ 0
+no-bases (from k) p w h = refl
+no-bases (trace asks asked) p w h = absurd (never-both (phase trace) p.1.0 h)
+no-bases (trace turns b) p w h = absurd (never-both (phase trace) p.1 h)
+no-bases (trace says Down why) p w h = cc
+no-bases (trace says Opened boot n) p w h = refl
+no-bases (trace says Ready) p w h = cc
+no-bases (trace says Began u (First s b n args)) p w h =
+    absurd (never-both (phase trace) (may-fit trace (Began u (First s b n args)) (holds trace p.0 (of-start (start_of trace).kept w)).comes p.1).2.0 h)
+no-bases (trace says Began u kind) p w h = no-bases trace p.0 w h
+no-bases (trace says e) p w h = no-bases trace p.0 w h
+
+none-unfinished : (p : Point) → IsSoundPoint p → p.next ≡ Some Ready → p.state.units.kept.conts ≡ []
+none-unfinished p sound comes =
+    let trace = sound.trace in
+    let next = sound.keeps.next ∙ comes in
+    ap (λ (k : Kept). k.conts) (sym sound.keeps.state.units.kept)
+    ∙ (may-fit trace Ready (holds trace sound.sound.played (of-start (start_of trace).kept sound.sound.well)).comes (may-stand trace Ready refl next)).1
+
 module _ (x : Recovery) (p : Point) (sound : IsSoundPoint p) (t : State) (d : HasDone x Ready p.state t) (comes : p.next ≡ Some Ready) (opening : p.state.units.phase ≡ Opening) where
   -- the state behind it, in which nothing is watched
   abbrev pub ready-state : State
@@ -70,6 +100,15 @@ module _ (x : Recovery) (p : Point) (sound : IsSoundPoint p) (t : State) (d : Ha
   -- `go all` has nothing left to turn to
   pub ready-turns : t.units.to_go ≡ []
   ready-turns = ap (λ (s : UnitState). s.to_go) d.after.units ∙ none-to-go p.state.units sound.trace sound.keeps.state.units sound.sound (inr opening)
+
+  -- no accepted program is unfinished
+  pub ready-conts : t.units.kept.conts ≡ []
+  ready-conts = ap (λ (s : UnitState). s.kept.conts) d.after.units ∙ none-unfinished p sound comes
+
+  pub ready-bases : t.units.base_count ≡ 0
+  ready-bases =
+      ap (λ (s : UnitState). s.base_count) d.after.units ∙ sym sound.keeps.state.units.base_count
+      ∙ no-bases sound.trace sound.sound.played sound.sound.well (sound.keeps.state.units.phase ∙ opening)
 
   ready-rests : (r : Reading ready-state.watch) → said_next Ready p.state ready-state r p.flight ≡ None
   ready-rests r = ap (λ (q : Phase). said_in q t.units (beside_by ready-state r) Ready (unit_of Ready p.state.units t.units)) d.behind.1

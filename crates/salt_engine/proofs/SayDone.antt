@@ -7,7 +7,7 @@ use Rattle.salt_engine.proofs.ServingGoes.{goes, meant, moves, plain, point, rea
 use Rattle.salt_engine.proofs.Stages.{goes-now, left-at, serves-now}
 use Rattle.salt_engine.specs.Flights.{flight_of}
 use Rattle.salt_engine.specs.Performing.{BreaksOff, GoesOnServing, IsLost, Performs}
-use Rattle.salt_engine.specs.Standing.{IsServingStage, Left, Lies, Sees, SeesIn, goes_in, waits_in}
+use Rattle.salt_engine.specs.Standing.{IsGoingStage, Left, Lies, Sees, SeesIn, goes_in, waits_in, serving_books}
 use Rattle.salt_engine.specs.Stored.{Stored, kept_behind}
 use Rattle.salt_engine.specs.declared.flights.InFlight.{InFlight}
 use Rattle.salt_engine.specs.declared.stage.Stage.{Stage}
@@ -33,7 +33,7 @@ use Rattle.salt_storage.specs.declared.halt.Halt.TheVariants.{Memory}
 use Rattle.salt_storage.specs.declared.halt.Halt.{Halt}
 use Rattle.salt_values.specs.declared.id.Id.{Id}
 use Rattle.std.proofs.Common.{ap, inl, inr, subst, sym, ◌∙◌}
-use Rattle.std.specs.Prelude.{Bool, List, Option, Some, [], refl, ℕ, ◌++◌, ◌<◌, ◌∷◌, ◌≡◌}
+use Rattle.std.specs.Prelude.{Bool, List, Option, Some, [], refl, ℕ, ◌++◌, ◌<◌, ◌∷◌, ◌≡◌, None}
 
 -- while it serves it has not fallen
 pub never-fallen : (p : Point) → p.state.units.phase ≡ Serving → p.state.units.phase ≡ Fallen → ⊥
@@ -63,9 +63,9 @@ module _ (line : Line) (x : Scheduler) (e : Event) (p : Point) (sound : IsSoundP
   pub said-goes : (holds : Kept → Type 0) (is_new : Id → Type 0) → Stored holds is_new t.units → GoesOnServing holds is_new line x t
   said-goes holds is_new stored = goes line x e p sound t d comes phase served holds is_new stored
 
-  pub said-sees : (holds : Kept → Type 0) (is_new : Id → Type 0) (old stoppable : Bool) (was single : Bool) (stage : Stage) (in_flight : Option InFlight) (given : Option Event) →
-      Performs holds is_new stage in_flight wanted given t → p.state.can_stop ≡ old → stoppable ≡ old → was ≡ is_statement_line p.state.units.line → single ≡ was →
-      Sees holds is_new stoppable stage single in_flight given t
+  pub said-sees : (holds : Kept → Type 0) (is_new : Id → Type 0) (old stoppable : Bool) (was single : Bool) (stage : Stage Scheduler) (in_flight : Option InFlight) (given : Option Event) →
+      Performs (SeesIn holds is_new stage) in_flight wanted given t → p.state.can_stop ≡ old → stoppable ≡ old → was ≡ is_statement_line p.state.units.line → single ≡ was →
+      Sees (SeesIn holds is_new stage) stoppable single in_flight given t
   said-sees holds is_new old stoppable was single stage in_flight given h can same lined kept =
       serves-on line x e p sound t d comes phase served holds is_new old stoppable was single stage in_flight given h can same lined kept
 
@@ -79,22 +79,22 @@ module _ (line : Line) (x : Scheduler) (e : Event) (p : Point) (sound : IsSoundP
       let s = serves line x e p sound t d comes phase served in
       kept ∙ lined ∙ ap is_statement_line (served ∙ sym s.line)
 
-  pub said-halts : (holds : Kept → Type 0) (leaves : Kept → Kept → Type 0) (fills : Written → ℕ → Type 0) (halt : Halt) (old stoppable : Bool) (was single : Bool) (stage : Stage)
+  pub said-halts : (holds : Kept → Type 0) (leaves : Kept → Kept → Type 0) (fills : Written → ℕ → Type 0) (halt : Halt) (old stoppable : Bool) (was single : Bool) (stage : Stage Scheduler)
       (in_flight : Option InFlight) (story told : List Event) → BreaksOff leaves fills halt stage in_flight wanted t.units → p.state.can_stop ≡ old → stoppable ≡ old →
       was ≡ is_statement_line p.state.units.line → single ≡ was → IsSoundKept t.units.kept → told ≡ story ++ e ∷ [] →
-      BreaksAt (λ p. Lies holds leaves stoppable stage single in_flight 0 p) (λ p. Left holds leaves stage 0 p) fills (flight_of in_flight) halt p e story told
+      BreaksAt (λ p. Lies holds leaves stoppable None (serving_books stage) single in_flight 0 p) (λ p. Left holds leaves None 0 p) fills (flight_of in_flight) halt p e story told
   said-halts holds leaves fills halt old stoppable was single stage in_flight story told b can same lined kept may tells = inr (
     tells,
-    (now, moves line x e p sound t d comes phase served, halts holds leaves fills halt stoppable stage single in_flight now b now-flies (d.after.can_stop ∙ can ∙ sym same) (line-now was single lined kept) may),
+    (now, moves line x e p sound t d comes phase served, halts (λ (x : Scheduler). x.books) holds leaves fills halt stoppable None refl stage single in_flight now b now-flies (d.after.can_stop ∙ can ∙ sym same) (line-now was single lined kept) may),
   )
 
   -- or before it was told
-  pub said-lost : (holds : Kept → Type 0) (leaves : Kept → Kept → Type 0) (fills : Written → ℕ → Type 0) (stoppable : Bool) (single : Bool) (stage : Stage)
+  pub said-lost : (holds : Kept → Type 0) (leaves : Kept → Kept → Type 0) (fills : Written → ℕ → Type 0) (stoppable : Bool) (single : Bool) (stage : Stage Scheduler)
       (in_flight : Option InFlight) (story told : List Event) → leaves t.units.kept t.units.kept → IsLost stage in_flight → told ≡ story →
-      BreaksAt (λ p. Lies holds leaves stoppable stage single in_flight 0 p) (λ p. Left holds leaves stage 0 p) fills (flight_of in_flight) Memory p e story told
+      BreaksAt (λ p. Lies holds leaves stoppable None (serving_books stage) single in_flight 0 p) (λ p. Left holds leaves None 0 p) fills (flight_of in_flight) Memory p e story told
   said-lost holds leaves fills stoppable single stage in_flight story told left lost same = inl (
     same,
-    memory-at holds leaves fills stoppable stage single in_flight p t.units.kept (flight-next p sound.trace sound.keeps (never-fallen p phase)) left
+    memory-at (λ (x : Scheduler). x.books) holds leaves fills stoppable None refl stage single in_flight p t.units.kept (flight-next p sound.trace sound.keeps (never-fallen p phase)) left
         (inr (kept-behind-next p sound e t x comes d phase)) lost,
     refl,
   )
@@ -104,25 +104,25 @@ module _ (line : Line) (x : Scheduler) (e : Event) (p : Point) (sound : IsSoundP
   now-sound : IsSoundPoint now
   now-sound = sound-moved (Say e) p now tt sound (moves line x e p sound t d comes phase served)
 
-  stage-now : (holds : Kept → Type 0) (is_new : Id → Type 0) (stage : Stage) (given : Option Event) → SeesIn holds is_new stage given t → given ≡ wanted → IsServingStage stage
-  stage-now holds is_new stage given seen told = serves-now holds is_new stage given now now-sound seen (sym told) (serves line x e p sound t d comes phase served).phase
+  stage-now : (holds : Kept → Type 0) (is_new : Id → Type 0) (stage : Stage Scheduler) (given : Option Event) → SeesIn holds is_new stage given t → IsGoingStage stage
+  stage-now holds is_new stage given seen = serves-now holds is_new stage given t seen
 
-  pub said-less : (holds later : Kept → Type 0) (is_new new_later : Id → Type 0) (old stage : Stage) (given : Option Event) → SeesIn holds is_new old (Some e) p.state →
+  pub said-less : (holds later : Kept → Type 0) (is_new new_later : Id → Type 0) (old stage : Stage Scheduler) (given : Option Event) → SeesIn holds is_new old (Some e) p.state →
       SeesIn later new_later stage given t → given ≡ wanted → left_to_come (waits_in stage) given < left_to_come (waits_in old) (Some e)
   said-less holds later is_new new_later old stage given seen sees told =
       let m = moves line x e p sound t d comes phase served in
       let before : left_to_come (waits_in old) (Some e) ≡ to_come (waiters p.state) (Some e) =
-      left-at holds is_new old (Some e) p sound comes seen (serves-now holds is_new old (Some e) p sound seen comes phase) in
+      left-at holds is_new old (Some e) p sound comes seen (serves-now holds is_new old (Some e) p.state seen) in
       let after : left_to_come (waits_in stage) given ≡ to_come (waiters t) given =
-      left-at later new_later stage given now now-sound (sym told) sees (stage-now later new_later stage given sees told) in
+      left-at later new_later stage given now now-sound (sym told) sees (stage-now later new_later stage given sees) in
       subst (λ n. n < left_to_come (waits_in old) (Some e)) (sym after)
       (subst (λ n. to_come (waiters t) given < n) (sym before)
       (subst (λ (o : Option Event). to_come (waiters t) o < to_come (waiters p.state) (Some e)) (sym m.0.next ∙ sym told)
       (to-come-falls e p.state t m.0.read p.flight m.1 (serves line x e p sound t d comes phase served).phase d.after)))
 
-  pub said-turns : (holds later : Kept → Type 0) (is_new new_later : Id → Type 0) (old stage : Stage) (given : Option Event) → SeesIn holds is_new old (Some e) p.state →
+  pub said-turns : (holds later : Kept → Type 0) (is_new new_later : Id → Type 0) (old stage : Stage Scheduler) (given : Option Event) → SeesIn holds is_new old (Some e) p.state →
       SeesIn later new_later stage given t → given ≡ wanted → goes_in stage ≡ goes_in old
   said-turns holds later is_new new_later old stage given seen sees told =
-      goes-now later new_later stage given t sees (stage-now later new_later stage given sees told)
+      goes-now later new_later stage given t sees (stage-now later new_later stage given sees)
       ∙ ap (λ (s : UnitState). s.to_go) d.after.units ∙ to-go-stays e p.state.units (plain line x e p sound t d comes phase served)
-      ∙ sym (goes-now holds is_new old (Some e) p.state seen (serves-now holds is_new old (Some e) p sound seen comes phase))
+      ∙ sym (goes-now holds is_new old (Some e) p.state seen (serves-now holds is_new old (Some e) p.state seen))

@@ -35,6 +35,7 @@ use Rattle.salt_units.specs.Acting.{leaves_keys}
 use Rattle.salt_values.specs.declared.id.Id.{Id}
 use Rattle.std.proofs.Common.{subst, sym}
 use Rattle.std.specs.Prelude.{List, None, Option, Some, refl, true, ℕ, ◌≡◌}
+use Rattle.salt_engine.specs.Standing.{SeesIn}
 
 pub sound-state : (meant : Option Event) (s : State) → IsPlayedBefore meant s → IsSoundState s
 sound-state meant s p = record { trace = p.trace; keeps = p.keeps; sound = p.sound }
@@ -71,14 +72,14 @@ module _ (holds : Kept → Type 0) (is_new : Id → Type 0) (x : Scheduler) (a :
       subst (λ (schema : List TableDef). leaves_keys schema a.statement ≡ true) (sym act-stands.books.known.schema)
       (keys-left s.units act-unit a.statement a.unit (comes-next act-event (event_meant s.units (coming.Act a)) s h.played act-meant) act-asked.named)
 
-  pub act-done : (now : Kept → Type 0) (new_now : Id → Type 0) (stage : Stage) (in_flight : Option InFlight) (y : Scheduler) (e : Event) → in_flight ≡ None →
-      stage ≡ at.Serving y → Stored now new_now s.units → scheduling.Gives s (Some act-event) y (Some e) →
-      Performs now new_now stage in_flight (event_meant s.units (coming.Act a)) (Some e) s
+  pub act-done : (now : Kept → Type 0) (new_now : Id → Type 0) (stage : Stage Scheduler) (in_flight : Option InFlight) (y : Scheduler) (e : Event) → in_flight ≡ None →
+      stage ≡ at.Going y → Stored now new_now s.units → scheduling.Gives s (Some act-event) y (Some e) →
+      Performs (SeesIn now new_now stage) in_flight (event_meant s.units (coming.Act a)) (Some e) s
   act-done now new_now stage in_flight y e none there stored g =
       serves-by now new_now stage in_flight (event_meant s.units (coming.Act a)) s none y act-event e there act-meant g h.serves
       (stored-plain now new_now act-event (event_meant s.units (coming.Act a)) s h.played act-meant refl refl stored)
 
-  module _ (leaves : Kept → Kept → Type 0) (fills : Written → ℕ → Type 0) (stage : Stage) (in_flight : Option InFlight) where
+  module _ (leaves : Kept → Kept → Type 0) (fills : Written → ℕ → Type 0) (stage : Stage Scheduler) (in_flight : Option InFlight) where
     pub act-lost : IsLost stage in_flight → leaves s.units.kept s.units.kept → BreaksOff leaves fills Memory stage in_flight (event_meant s.units (coming.Act a)) s.units
     act-lost lost left = breaks-before leaves fills stage in_flight (event_meant s.units (coming.Act a)) s.units left lost
 
@@ -118,13 +119,13 @@ module _ (holds : Kept → Type 0) (is_new : Id → Type 0) (x : Scheduler) (u :
   pub commit-there : HaveUnit x.books u
   commit-there = have-unit x.books s.units u commit-unit commit-stands.books commit-named
 
-  pub commit-done : (now : Kept → Type 0) (new_now : Id → Type 0) (stage : Stage) (in_flight : Option InFlight) (y : Scheduler) (e : Event) → in_flight ≡ None →
-      stage ≡ at.Serving y → Stored now new_now (units_after commit-event s.units) → scheduling.Gives s (Some commit-event) y (Some e) →
-      Performs now new_now stage in_flight (event_meant s.units (coming.Commit u)) (Some e) s
+  pub commit-done : (now : Kept → Type 0) (new_now : Id → Type 0) (stage : Stage Scheduler) (in_flight : Option InFlight) (y : Scheduler) (e : Event) → in_flight ≡ None →
+      stage ≡ at.Going y → Stored now new_now (units_after commit-event s.units) → scheduling.Gives s (Some commit-event) y (Some e) →
+      Performs (SeesIn now new_now stage) in_flight (event_meant s.units (coming.Commit u)) (Some e) s
   commit-done now new_now stage in_flight y e none there stored g =
       serves-by now new_now stage in_flight (event_meant s.units (coming.Commit u)) s none y commit-event e there commit-meant g h.serves stored
 
-  module _ (leaves : Kept → Kept → Type 0) (fills : Written → ℕ → Type 0) (stage : Stage) (in_flight : Option InFlight) where
+  module _ (leaves : Kept → Kept → Type 0) (fills : Written → ℕ → Type 0) (stage : Stage Scheduler) (in_flight : Option InFlight) where
     -- memory ran out behind the decision
     pub commit-lost : IsLost stage in_flight → leaves (units_after commit-event s.units).kept (units_after commit-event s.units).kept →
         BreaksOff leaves fills Memory stage in_flight (event_meant s.units (coming.Commit u)) s.units
@@ -165,13 +166,13 @@ module _ (holds : Kept → Type 0) (is_new : Id → Type 0) (x : Scheduler) (u b
   branch-stored now new_now stored =
       subst (λ v. Stored now new_now (units_after (branches_in s.units v cause) s.units)) (named-unit u s.units.units branch-unit.unit branch-unit.named) stored
 
-  pub branch-done : (now : Kept → Type 0) (new_now : Id → Type 0) (stage : Stage) (in_flight : Option InFlight) (y : Scheduler) (e : Event) → in_flight ≡ None →
-      stage ≡ at.Serving y → Stored now new_now (units_after (branches_in s.units branch-unit.unit.unit cause) s.units) →
-      scheduling.Gives s (Some branch-event) y (Some e) → Performs now new_now stage in_flight (event_meant s.units (coming.Branch u base cause)) (Some e) s
+  pub branch-done : (now : Kept → Type 0) (new_now : Id → Type 0) (stage : Stage Scheduler) (in_flight : Option InFlight) (y : Scheduler) (e : Event) → in_flight ≡ None →
+      stage ≡ at.Going y → Stored now new_now (units_after (branches_in s.units branch-unit.unit.unit cause) s.units) →
+      scheduling.Gives s (Some branch-event) y (Some e) → Performs (SeesIn now new_now stage) in_flight (event_meant s.units (coming.Branch u base cause)) (Some e) s
   branch-done now new_now stage in_flight y e none there stored g =
       serves-by now new_now stage in_flight (event_meant s.units (coming.Branch u base cause)) s none y branch-event e there refl g h.serves (branch-stored now new_now stored)
 
-  module _ (leaves : Kept → Kept → Type 0) (fills : Written → ℕ → Type 0) (stage : Stage) (in_flight : Option InFlight) where
+  module _ (leaves : Kept → Kept → Type 0) (fills : Written → ℕ → Type 0) (stage : Stage Scheduler) (in_flight : Option InFlight) where
     pub branch-lost : IsLost stage in_flight → leaves (units_after branch-event s.units).kept (units_after branch-event s.units).kept →
         BreaksOff leaves fills Memory stage in_flight (event_meant s.units (coming.Branch u base cause)) s.units
     branch-lost lost left =

@@ -2,7 +2,7 @@
 use Rattle.salt_ast.specs.declared.lines.Line.{Line}
 use Rattle.salt_engine.proofs.Going.{onwards, onwards-line, played-before, reads, says-keeps, says-moves, says-sound}
 use Rattle.salt_engine.specs.Performing.{GoesOnServing, Performs}
-use Rattle.salt_engine.specs.Standing.{Sees}
+use Rattle.salt_engine.specs.Standing.{Sees, SeesIn}
 use Rattle.salt_engine.specs.Stored.{Stored}
 use Rattle.salt_engine.specs.declared.flights.InFlight.{InFlight}
 use Rattle.salt_engine.specs.declared.stage.Stage.{Stage}
@@ -70,9 +70,9 @@ module _ (line : Line) (x : Scheduler) (e : Event) (p : Point) (sound : IsSoundP
   moves = says-moves p sound e t plain comes d.after (meant read) read (meant-is read)
 
   -- where it stands behind it
-  pub serves-on : (holds : Kept → Type 0) (is_new : Id → Type 0) (old now : Bool) (was single : Bool) (stage : Stage) (in_flight : Option InFlight) (given : Option Event) →
-      Performs holds is_new stage in_flight (meant read) given t → p.state.can_stop ≡ old → now ≡ old → was ≡ is_statement_line p.state.units.line → single ≡ was →
-      Sees holds is_new now stage single in_flight given t
+  pub serves-on : (holds : Kept → Type 0) (is_new : Id → Type 0) (old now : Bool) (was single : Bool) (stage : Stage Scheduler) (in_flight : Option InFlight) (given : Option Event) →
+      Performs (SeesIn holds is_new stage) in_flight (meant read) given t → p.state.can_stop ≡ old → now ≡ old → was ≡ is_statement_line p.state.units.line → single ≡ was →
+      Sees (SeesIn holds is_new stage) now single in_flight given t
   serves-on holds is_new old now was single stage in_flight given h can same line kept = record {
     seen = h.sees;
     can_stop = d.after.can_stop ∙ can ∙ sym same;

@@ -1,6 +1,6 @@
 -- The units that wait, and the programs to which `go all` has still to turn, are those of the engine's point.
 use Rattle.salt_engine.specs.Standing.{waits_in}
-use Rattle.salt_engine.specs.declared.stage.Stage.TheVariants.{Serving}
+use Rattle.salt_engine.specs.declared.stage.Stage.TheVariants.{Going}
 use Rattle.salt_keeps.specs.Laws.{is_of_run}
 use Rattle.salt_keeps.specs.KeptWaits.{Asker, asker}
 use Rattle.salt_keeps.specs.OpenUnits.{UnitState}
@@ -63,15 +63,15 @@ watched-waits : (f : Follow) (x : Watching) (w : Watch) → watched_by f x w →
 watched-waits (Release b) x w h = h.waits
 watched-waits f x w h = h.waits
 
-waits-behind : (x : Scheduler) (s : State) → StandsBehind x s → waits_in (Serving x) ≡ waiters s
+waits-behind : (x : Scheduler) (s : State) → StandsBehind x s → waits_in (Going x) ≡ waiters s
 waits-behind x s h = sym (ap (map (λ (w : Waiter). w.unit)) (watched-waits x.follow x.watch s.watch h.watch)) ∙ waiters-told s.watch.waits
 
 -- as the event of a trace leaves them
 pub waits-after : (x : Scheduler) (e : Event) (s t : State) (trace : Trace) → Keeps s trace → Keeps t (trace says e) → StandsBehind x t →
-    waits_in (Serving x) ≡ waiters_after e (waiters s)
+    waits_in (Going x) ≡ waiters_after e (waiters s)
 waits-after x e s t trace k kept h = waits-behind x t h ∙ waiters-of t (trace says e) kept ∙ waiters-say trace e ∙ ap (waiters_after e) (sym (waiters-of s trace k))
 
 -- what is still to come, as a number
 pub left-now : (x : Scheduler) (e : Event) (s t : State) (trace : Trace) → Keeps s trace → Keeps t (trace says e) → StandsBehind x t →
-    left_to_come (waits_in (Serving x)) (Some e) ≡ to_come (waiters s) (Some e)
+    left_to_come (waits_in (Going x)) (Some e) ≡ to_come (waiters s) (Some e)
 left-now x e s t trace k kept h = ap (λ (us : List Id). 6 * length us + stage e) (waits-after x e s t trace k kept h)

@@ -6,12 +6,11 @@ use Rattle.salt_engine.specs.Flights.{IsInFlight}
 use Rattle.salt_engine.specs.Standing.{KnowUnits}
 use Rattle.salt_engine.specs.Stored.{IsEither, IsNumbered}
 use Rattle.salt_engine.specs.declared.flights.InFlight.{InFlight}
-use Rattle.salt_engine.specs.declared.stage.Stage.TheVariants.{Found, Opening, Serving}
+use Rattle.salt_engine.specs.declared.stage.Stage.TheVariants.{Down, Going}
 use Rattle.salt_engine.specs.declared.stage.Stage.{Stage}
 use Rattle.salt_keeps.specs.Follows.{opened_in}
 use Rattle.salt_keeps.specs.OpenUnits.{UnitState}
 use Rattle.salt_keeps.specs.States.{After, Keeps, State}
-use Rattle.salt_keeps.specs.Watches.{empty_watch}
 use Rattle.salt_model.specs.Kept.{Kept}
 use Rattle.salt_model.specs.Phases.{Phase}
 use Rattle.salt_model.specs.Trace.{Trace, ◌says◌}
@@ -22,8 +21,6 @@ use Rattle.salt_keeps.specs.Laws.{IsSound}
 use Rattle.salt_recovery.specs.Follows.{rest_in}
 use Rattle.salt_recovery.specs.Recovering as recovering
 use Rattle.salt_recovery.specs.declared.recovery.Recovery.{Recovery}
-use Rattle.salt_scheduler.specs.Standing as scheduling
-use Rattle.salt_scheduler.specs.declared.scheduler.Scheduler.{Scheduler}
 use Rattle.salt_storage.specs.Storing.{IsSoundKept}
 use Rattle.salt_storage.specs.declared.found.Numbers.{Numbers}
 use Rattle.std.specs.Prelude.{Bool, IsSome, None, Option, Some, [], false, true, ℕ, ◌+◌, ◌<◌, ◌≡◌, ◌⊎◌}
@@ -41,26 +38,28 @@ AreFresh x k = (phase : Phase) (line : Line) → AreBooks x (record {
 })
 
 -- so it stands over what is kept
-pub record IsTakenOn (k : Kept) (stage : Stage) : Type 0 where
+pub record IsTakenOn (k : Kept) (found : Option Numbers) (stage : Stage Recovery) : Type 0 where
   pub books : Books
   pub numbers : Numbers
-  pub there : stage ≡ Found books numbers
+  pub is : found ≡ Some numbers
+  pub there : stage ≡ Down books
   pub fresh : AreFresh books k
   pub numbered : IsNumbered numbers k
 
 -- and was asked nothing yet
-pub record IsNew (k : Kept) (stage : Stage) (single : Bool) (in_flight : Option InFlight) : Type 0 where
-  pub taken : IsTakenOn k stage
+pub record IsNew (k : Kept) (found : Option Numbers) (stage : Stage Recovery) (single : Bool) (in_flight : Option InFlight) : Type 0 where
+  pub taken : IsTakenOn k found stage
   pub line : single ≡ false
   pub none : in_flight ≡ None
 
 -- behind a fall: the one or the other is held, and the books stay
-pub record IsFoundAgain (holds : Kept → Type 0) (books : Books) (a b : Kept) (stage : Stage) : Type 0 where
+pub record IsFoundAgain (holds : Kept → Type 0) (books : Books) (a b : Kept) (found : Option Numbers) (stage : Stage Recovery) : Type 0 where
   pub kept : Kept
   pub numbers : Numbers
   pub either : IsEither a b kept
   pub holding : holds kept
-  pub there : stage ≡ Found books numbers
+  pub is : found ≡ Some numbers
+  pub there : stage ≡ Down books
   pub numbered : IsNumbered numbers kept
 
 -- A boot has begun over a run that is down: the state behind its Opened, where the decision in flight stands if its number is told.
@@ -104,13 +103,7 @@ abbrev pub BeginsOpening : Option Event → ℕ → State → Recovery → Event
 BeginsOpening flight number new x e = recovering.Gives new (opened_in new.units number flight) x (Some e)
 
 -- so it is in an opening
-pub record IsOpeningWith (flight : Option Event) (number : ℕ) (new : State) (stage : Stage) (e : Event) : Type 0 where
+pub record IsOpeningWith (flight : Option Event) (number : ℕ) (new : State) (stage : Stage Recovery) (e : Event) : Type 0 where
   pub recovery : Recovery
-  pub there : stage ≡ Opening recovery
+  pub there : stage ≡ Going recovery
   pub begins : BeginsOpening flight number new recovery e
-
--- lines are served over these books, in a state without units in which nothing is watched
-pub record ServesBooks (books : Books) (stage : Stage) : Type 0 where
-  pub scheduler : Scheduler
-  pub there : stage ≡ Serving scheduler
-  pub stands : (s : State) → AreBooks books s.units → s.units.units ≡ [] → s.watch ≡ empty_watch 0 → scheduling.IsTurning s.units → scheduling.Stands scheduler s

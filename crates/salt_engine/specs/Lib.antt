@@ -4,3 +4,4 @@ pub mod Flights
 pub mod Standing
 pub mod Performing
 pub mod Finding
+pub mod Halves

@@ -7,10 +7,9 @@ use Rattle.salt_books.specs.declared.books.Books.{Books}
 use Rattle.salt_books.specs.declared.coming.Coming.TheVariants as coming
 use Rattle.salt_books.specs.declared.coming.Coming.{Coming}
 use Rattle.salt_engine.specs.Flights.{IsInFlight}
-use Rattle.salt_engine.specs.Standing.{SeesIn}
 use Rattle.salt_engine.specs.Stored.{LeavesEither, Stored, kept_behind}
 use Rattle.salt_engine.specs.declared.flights.InFlight.{InFlight}
-use Rattle.salt_engine.specs.declared.stage.Stage.TheVariants.{Down, Lost, Serving}
+use Rattle.salt_engine.specs.declared.stage.Stage.TheVariants.{Down, Going, Lost}
 use Rattle.salt_engine.specs.declared.stage.Stage.{Stage}
 use Rattle.salt_keeps.specs.KeptWaits.{AreDistinct}
 use Rattle.salt_keeps.specs.Laws.{IsSound}
@@ -70,6 +69,7 @@ StoredAt holds is_new c s = Stored holds is_new s.units
 -- a recovery is ready for an event of its opening, over a storage that holds what its state keeps
 pub record IsToOpen (holds : Kept → Type 0) (is_new : Id → Type 0) (x : Recovery) (c : Coming) (s : State) : Type 0 where
   pub played : IsPlayedBefore (event_meant s.units c) s
+  pub opens : s.units.phase ≡ phases.Opening
   pub comes : IsSome (event_meant s.units c)
   pub plain : is_prepared (event_meant s.units c) ≡ false
   pub ready : recovering.IsReady x s c
@@ -140,15 +140,14 @@ pub record IsToAsk (holds : Kept → Type 0) (is_new : Id → Type 0) (stoppable
   pub can_stop : s.can_stop ≡ stoppable
 
 -- the event that was meant is given, and the engine has done it
-pub record Performs (holds : Kept → Type 0) (is_new : Id → Type 0) (stage : Stage) (in_flight : Option InFlight) (meant given : Option Event)
-    (s : State) : Type 0 where
+pub record Performs (seen : Option Event → State → Type 0) (in_flight : Option InFlight) (meant given : Option Event) (s : State) : Type 0 where
   pub told : given ≡ meant
-  pub sees : SeesIn holds is_new stage given s
+  pub sees : seen given s
   pub none : in_flight ≡ None
 
 -- The storage halted: what was to come is at the devices, and a full device is told by what was to be written of it; the books are
 -- those of the state, and what is in flight is known.
-pub record IsHalted (fills : Written → ℕ → Type 0) (halt : Halt) (stage : Stage) (in_flight : Option InFlight) (meant : Option Event)
+pub record IsHalted {H : Type 0} (fills : Written → ℕ → Type 0) (halt : Halt) (stage : Stage H) (in_flight : Option InFlight) (meant : Option Event)
     (s : UnitState) : Type 0 where
   pub event : Event
   pub is : meant ≡ Some event
@@ -160,30 +159,30 @@ pub record IsHalted (fills : Written → ℕ → Type 0) (halt : Halt) (stage : 
   pub are : AreBooks books s
   pub flies : IsInFlight in_flight (decision_in meant) s
 
-pub record IsLost (stage : Stage) (in_flight : Option InFlight) : Type 0 where
+pub record IsLost {H : Type 0} (stage : Stage H) (in_flight : Option InFlight) : Type 0 where
   pub there : stage ≡ Lost
   pub none : in_flight ≡ None
 
 -- or memory ran out; either way a stop leaves what is kept, or that with the decision that was to come
-pub record BreaksOff (leaves : Kept → Kept → Type 0) (fills : Written → ℕ → Type 0) (halt : Halt) (stage : Stage) (in_flight : Option InFlight)
+pub record BreaksOff {H : Type 0} (leaves : Kept → Kept → Type 0) (fills : Written → ℕ → Type 0) (halt : Halt) (stage : Stage H) (in_flight : Option InFlight)
     (meant : Option Event) (s : UnitState) : Type 0 where
   pub left : LeavesEither leaves s.kept (kept_behind (decision_in meant) s)
   pub how : ((halt ≡ Memory) × IsLost stage in_flight) ⊎ IsHalted fills halt stage in_flight meant s
 
 -- by what the storage answered: these books stay, and what was asked of it
-abbrev pub WasBroken : Halt → Books → Option InFlight → Stage → Option InFlight → Type 0
+abbrev pub WasBroken : {H : Type 0} → Halt → Books → Option InFlight → Stage H → Option InFlight → Type 0
 WasBroken halt books asked stage in_flight =
     ((halt ≡ Memory) × IsLost stage in_flight) ⊎ ((halt ≡ Memory → ⊥) × (stage ≡ Down books) × (in_flight ≡ asked))
 
 -- a line is refused, and the scheduler has told it
-pub record IsRefused (line : Line) (refusal : Refusal) (x : Scheduler) (stage : Stage) (e : Event) : Type 0 where
+pub record IsRefused (line : Line) (refusal : Refusal) (x : Scheduler) (stage : Stage Scheduler) (e : Event) : Type 0 where
   pub scheduler : Scheduler
-  pub there : stage ≡ Serving scheduler
+  pub there : stage ≡ Going scheduler
   pub refuses : Does (λ s r. Some (Refused refusal)) line x scheduler e
 
 -- a line whose text is refused
-pub record IsRejected (refusal : Refusal) (x : Scheduler) (stage : Stage) (e : Event) : Type 0 where
+pub record IsRejected (refusal : Refusal) (x : Scheduler) (stage : Stage Scheduler) (e : Event) : Type 0 where
   pub scheduler : Scheduler
-  pub there : stage ≡ Serving scheduler
+  pub there : stage ≡ Going scheduler
   pub refuses : (s : State) (r : Reading s.watch) → scheduling.Stands x s → ServesLine Nothing (asked_of (Rejected refusal) s) →
       scheduling.Gives (asked_of (Rejected refusal) s) (Some (Refused refusal)) scheduler (Some e)

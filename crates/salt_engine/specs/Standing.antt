@@ -1,77 +1,112 @@
--- What an engine stands for: a state, over a storage that holds what that keeps; broken off, a point at which it can be opened.
+-- What an engine and an opening stand for: a state, over a storage that holds what that keeps; broken off, a point at which it can be
+-- opened.
+use Rattle.salt_ast.specs.declared.programs.ProgramDef.{ProgramDef}
+use Rattle.salt_ast.specs.declared.trees.TableDef.{TableDef}
 use Rattle.salt_books.specs.Books.{AreBooks, seen}
 use Rattle.salt_books.specs.declared.books.Books.{Books}
 use Rattle.salt_engine.specs.Flights.{IsInFlight}
 use Rattle.salt_engine.specs.Stored.{IsLeft, IsNumbered, Stored}
 use Rattle.salt_engine.specs.declared.flights.InFlight.{InFlight}
-use Rattle.salt_engine.specs.declared.stage.Stage.TheVariants.{Down, Found, Lost, Opening, Serving}
+use Rattle.salt_engine.specs.declared.stage.Stage.TheVariants.{Down, Going, Lost}
 use Rattle.salt_engine.specs.declared.stage.Stage.{Stage}
 use Rattle.salt_keeps.specs.OpenUnits.{UnitState}
 use Rattle.salt_keeps.specs.Points.{Point}
 use Rattle.salt_keeps.specs.States.{State}
-use Rattle.salt_model.specs.Kept.{Kept}
+use Rattle.salt_keeps.specs.Watches.{empty_watch}
+use Rattle.salt_known.specs.Known.{AllLeadOn}
+use Rattle.salt_model.specs.Kept.{Kept, programs_of, schema_of}
 use Rattle.salt_model.specs.Phases as phases
 use Rattle.salt_model.specs.Turns.{is_statement_line}
 use Rattle.salt_model.specs.declared.events.Event.TheVariants.{Ready}
 use Rattle.salt_model.specs.declared.events.Event.{Event}
 use Rattle.salt_openings.specs.Draining.{done_now, is_earlier, opening_stage, rests_of}
 use Rattle.salt_recovery.specs.Recovering as recovering
+use Rattle.salt_recovery.specs.declared.recovery.Recovery.{Recovery}
 use Rattle.salt_scheduler.specs.Standing as scheduling
+use Rattle.salt_scheduler.specs.declared.scheduler.Scheduler.{Scheduler}
 use Rattle.salt_storage.specs.Storing.{IsSoundKept}
+use Rattle.salt_storage.specs.declared.found.Numbers.{Numbers}
 use Rattle.salt_values.specs.declared.id.Id.{Id}
 use Rattle.std.specs.List.{filter}
 use Rattle.std.specs.Prelude.{Bool, List, None, Option, Some, [], false, length, map, true, ℕ, ⊤, ◌*◌, ◌+◌, ◌-◌, ◌≡◌, ◌⊎◌}
 
--- THE STAGES.
+-- THE STAGES. With the event at hand, which the half in memory has done, it stands for the state before that.
 
--- with the event at hand, which the half in memory has done, it stands for the state before that; a scheduler serves there
-abbrev pub SeesIn : (holds : Kept → Type 0) (is_new : Id → Type 0) → Stage → Option Event → State → Type 0
-SeesIn holds is_new (Serving x) None s = scheduling.Stands x s × Stored holds is_new s.units
-SeesIn holds is_new (Serving x) (Some e) s = (t : State) × scheduling.HasDone x e s t × Stored holds is_new t.units × (s.units.phase ≡ phases.Serving)
-SeesIn holds is_new (Opening x) (Some e) s = (t : State) × recovering.HasDone x e s t × Stored holds is_new t.units
+-- of a scheduler, lines are served
+abbrev pub SeesIn : (holds : Kept → Type 0) (is_new : Id → Type 0) → Stage Scheduler → Option Event → State → Type 0
+SeesIn holds is_new (Going x) None s = scheduling.Stands x s × Stored holds is_new s.units
+SeesIn holds is_new (Going x) (Some e) s = (t : State) × scheduling.HasDone x e s t × Stored holds is_new t.units × (s.units.phase ≡ phases.Serving)
 SeesIn holds is_new stage next s = ⊥
 
--- beside that: whether stops can be armed, whether the last line is one statement, and that nothing is in flight
-pub record Sees (holds : Kept → Type 0) (is_new : Id → Type 0) (stoppable : Bool) (stage : Stage) (single : Bool) (in_flight : Option InFlight)
-    (next : Option Event) (s : State) : Type 0 where
-  pub seen : SeesIn holds is_new stage next s
+-- the books of an opening that is done: behind its Ready nothing is open and nothing is watched, and no accepted program is unfinished
+pub record AreOpened (x : Books) (s : State) : Type 0 where
+  pub books : AreBooks x s.units
+  pub units : s.units.units ≡ []
+  pub bases : s.units.base_count ≡ 0
+  pub conts : s.units.kept.conts ≡ []
+  pub to_go : s.units.to_go ≡ []
+  pub watch : s.watch ≡ empty_watch 0
+
+-- of a recovery, an opening goes on, or is done
+abbrev pub OpensIn : (holds : Kept → Type 0) (is_new : Id → Type 0) → Stage Recovery → Option Event → State → Type 0
+OpensIn holds is_new (Going x) None s = AreOpened x.books s × Stored holds is_new s.units
+OpensIn holds is_new (Going x) (Some e) s = (t : State) × recovering.HasDone x e s t × Stored holds is_new t.units × (s.units.phase ≡ phases.Opening)
+OpensIn holds is_new stage next s = ⊥
+
+-- beside what is seen: whether stops can be armed, whether the last line is one statement, and that nothing is in flight
+pub record Sees (sees : Option Event → State → Type 0) (stoppable single : Bool) (in_flight : Option InFlight) (next : Option Event) (s : State) : Type 0 where
+  pub seen : sees next s
   pub can_stop : s.can_stop ≡ stoppable
   pub line : single ≡ is_statement_line s.units.line
   pub none : in_flight ≡ None
 
-abbrev pub IsFoundStage : Stage → Type 0
-IsFoundStage (Found books numbers) = ⊤
-IsFoundStage stage = ⊥
+abbrev pub IsGoingStage : {H : Type 0} → Stage H → Type 0
+IsGoingStage (Going x) = ⊤
+IsGoingStage stage = ⊥
 
-abbrev pub IsOpeningStage : Stage → Type 0
-IsOpeningStage (Opening x) = ⊤
-IsOpeningStage stage = ⊥
-
-abbrev pub IsServingStage : Stage → Type 0
-IsServingStage (Serving x) = ⊤
-IsServingStage stage = ⊥
-
--- it was broken off
-abbrev pub IsBrokenStage : Stage → Type 0
+-- it was broken off, and its books stay
+abbrev pub IsBrokenStage : {H : Type 0} → Stage H → Type 0
 IsBrokenStage (Down x) = ⊤
 IsBrokenStage stage = ⊥
 
--- or memory ran out
-abbrev pub IsDownStage : Stage → Type 0
-IsDownStage (Found books numbers) = ⊥
-IsDownStage (Opening x) = ⊥
-IsDownStage (Serving x) = ⊥
-IsDownStage stage = ⊤
+-- what the storage holds is found, and no boot has begun over it
+abbrev pub IsFoundStage : Option Numbers → Stage Recovery → Type 0
+IsFoundStage (Some n) (Down x) = ⊤
+IsFoundStage found stage = ⊥
+
+-- AN ENGINE is made behind a Ready.
+
+-- a state behind a Ready, with these tables and programs, this boot and so many units begun in it, and this last decision
+pub record IsReadyOver (numbers : Numbers) (ts : List TableDef) (ps : List ProgramDef) (b u : ℕ) (s : State) : Type 0 where
+  pub schema : ts ≡ schema_of s.units.kept
+  pub catalogue : ps ≡ programs_of s.units.kept
+  pub boot : b ≡ s.units.kept.boot
+  pub decisions : numbers.decisions ≡ s.units.kept.decisions
+  pub begun : u ≡ s.units.unit_count
+  pub lead_on : AllLeadOn (programs_of s.units.kept)
+  pub units : s.units.units ≡ []
+  pub bases : s.units.base_count ≡ 0
+  pub conts : s.units.kept.conts ≡ []
+  pub to_go : s.units.to_go ≡ []
+  pub watch : s.watch ≡ empty_watch 0
+
+-- lines are served from it on
+abbrev pub ServesFrom : Stage Scheduler → State → Type 0
+ServesFrom stage s = (x : Scheduler) × (stage ≡ Going x) × scheduling.Stands x s
 
 -- BROKEN OFF.
 
 -- the books that it has
-abbrev pub books_in : Stage → Option Books
-books_in (Found books numbers) = Some books
-books_in (Opening x) = Some x.books
-books_in (Serving x) = Some x.books
-books_in (Down books) = Some books
-books_in Lost = None
+abbrev pub books_in : {H : Type 0} → (H → Books) → Stage H → Option Books
+books_in books (Going x) = Some (books x)
+books_in books (Down x) = Some x
+books_in books Lost = None
+
+abbrev pub serving_books : Stage Scheduler → Option Books
+serving_books stage = books_in (λ (x : Scheduler). x.books) stage
+
+abbrev pub opening_books : Stage Recovery → Option Books
+opening_books stage = books_in (λ (x : Recovery). x.books) stage
 
 -- They have the units and know what is kept; an opening counts units and programs anew. To the programs of a `go all` it goes no more,
 -- or as it went.
@@ -82,39 +117,39 @@ pub record KnowUnits (x : Books) (s : UnitState) : Type 0 where
   pub are : AreBooks x (record s { unit_count = units; base_count = bases; to_go = goes })
   pub going : (goes ≡ []) ⊎ (goes ≡ s.to_go)
 
-abbrev pub KnowsUnits : Stage → UnitState → Type 0
-KnowsUnits stage s = (x : Books) × (books_in stage ≡ Some x) × KnowUnits x s
+abbrev pub KnowsUnits : Option Books → UnitState → Type 0
+KnowsUnits books s = (x : Books) × (books ≡ Some x) × KnowUnits x s
 
--- what a stop leaves of the devices stands for what is kept at this point, or for that with the flight
-abbrev pub Left : (holds : Kept → Type 0) (leaves : Kept → Kept → Type 0) → Stage → ℕ → Point → Type 0
-Left holds leaves (Found books numbers) room p = (k : Kept) × holds k × IsLeft room p k × IsNumbered numbers k
-Left holds leaves stage room p = (a b : Kept) × leaves a b × IsLeft room p a × IsLeft room p b
+-- what a stop leaves of the devices stands for what is kept at this point, or for that with the flight; where it is found which, for that
+abbrev pub Left : (holds : Kept → Type 0) (leaves : Kept → Kept → Type 0) → Option Numbers → ℕ → Point → Type 0
+Left holds leaves None room p = (a b : Kept) × leaves a b × IsLeft room p a × IsLeft room p b
+Left holds leaves (Some numbers) room p = (k : Kept) × holds k × IsLeft room p k × IsNumbered numbers k
 
 -- it can be opened at this point
-pub record Lies (holds : Kept → Type 0) (leaves : Kept → Kept → Type 0) (stoppable : Bool) (stage : Stage) (single : Bool) (in_flight : Option InFlight)
-    (room : ℕ) (p : Point) : Type 0 where
-  pub left : Left holds leaves stage room p
-  pub knows : KnowsUnits stage p.state.units
+pub record Lies (holds : Kept → Type 0) (leaves : Kept → Kept → Type 0) (stoppable : Bool) (found : Option Numbers) (books : Option Books) (single : Bool)
+    (in_flight : Option InFlight) (room : ℕ) (p : Point) : Type 0 where
+  pub left : Left holds leaves found room p
+  pub knows : KnowsUnits books p.state.units
   pub sound : IsSoundKept p.state.units.kept
   pub can_stop : p.state.can_stop ≡ stoppable
   pub line : single ≡ is_statement_line p.state.units.line
   pub flies : IsInFlight in_flight p.flight p.state.units
 
 -- for it to be opened: what the storage holds is found, or it was broken off, and a stop has left something there
-abbrev pub CanFind : (settled : Type 0) (leaves : Kept → Kept → Type 0) → Stage → Type 0
-CanFind settled leaves (Found books numbers) = ⊤
-CanFind settled leaves (Down books) = settled × ((a b : Kept) × leaves a b)
-CanFind settled leaves stage = ⊥
+abbrev pub CanFind : (settled : Type 0) (leaves : Kept → Kept → Type 0) → Option Numbers → Stage Recovery → Type 0
+CanFind settled leaves (Some n) (Down x) = ⊤
+CanFind settled leaves None (Down x) = settled × ((a b : Kept) × leaves a b)
+CanFind settled leaves found stage = ⊥
 
 -- WHAT IS STILL TO COME.
 
 -- the waiting units, and the programs to which `go all` has still to turn
-abbrev pub waits_in : Stage → List Id
-waits_in (Serving x) = map (λ w. w.unit) x.watch.waits.items
+abbrev pub waits_in : Stage Scheduler → List Id
+waits_in (Going x) = map (λ w. w.unit) x.watch.waits.items
 waits_in stage = []
 
-abbrev pub goes_in : Stage → List Id
-goes_in (Serving x) = x.books.to_go.items
+abbrev pub goes_in : Stage Scheduler → List Id
+goes_in (Going x) = x.books.to_go.items
 goes_in stage = []
 
 -- the units that an opening has still to cut, and the statements that it may still do, by its books
@@ -123,8 +158,8 @@ left_by x =
     let units = map seen x.units.items in
     length (filter (is_earlier x.known.boot) units) + (rests_of x.known.catalogue x.known.conts - done_now x.known.boot units)
 
-abbrev pub left_in : Stage → Option Event → ℕ
-left_in (Opening x) (Some e) = 8 * left_by x.books + opening_stage e
+abbrev pub left_in : Stage Recovery → Option Event → ℕ
+left_in (Going x) (Some e) = 8 * left_by x.books + opening_stage e
 left_in stage next = 0
 
 abbrev pub is_ready : Event → Bool

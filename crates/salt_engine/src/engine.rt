@@ -1,29 +1,31 @@
-//! The engine: what it is doing, over a storage.
+//! The engine: it serves lines, over a storage.
 
-ghost use Rattle.salt_engine.specs.Finding.{IsNew};
-ghost use Rattle.salt_engine.specs.Performing.{WasBroken};
-ghost use Rattle.salt_engine.specs.Standing.{IsFoundStage};
-ghost use Rattle.salt_engine.specs.declared.stage.Stage.TheVariants.{Lost};
-ghost use Rattle.salt_model.specs.Kept.{Kept};
-ghost use Rattle.salt_stands.specs.Stands.{are_spent};
-ghost use Rattle.salt_storage.specs.Storing.{IsFound, IsSoundKept};
-ghost use Rattle.std.specs.Prelude.{None, false, ◌≡◌};
+ghost use Rattle.salt_books.specs.declared.books.Books.{Books};
+ghost use Rattle.salt_engine.specs.Flights.{flight_of};
+ghost use Rattle.salt_engine.specs.Standing.{IsReadyOver, ServesFrom, serving_books};
+ghost use Rattle.salt_keeps.specs.States.{State};
+ghost use Rattle.std.specs.Prelude.{None, Some, ◌≡◌};
 
-use crate::flights::InFlight;
+use crate::flights::{InFlight, flight_of};
 use crate::stage::Stage;
 use salt_books::Books;
 use salt_known::Known;
+use salt_model::Flight;
+use salt_program::Catalogue;
+use salt_scheduler::Scheduler;
 use salt_schema::Schema;
-use salt_storage::{Found, Halt, Numbers, Storage};
+use salt_storage::Numbers;
+use sqlite_items::Items;
 use std::alloc::Global;
 
-/// An engine over a storage: a half of it chooses in memory what comes next, and what is decided or read is asked of the storage.
-/// After a halt it finds and opens anew what the storage holds; after want of memory it does no more.
+/// An engine over a storage, that serves lines: a half of it chooses in memory what comes next, and what is decided or read is asked
+/// of the storage. It is made behind an opening, in which the programs that were accepted have been finished. After a halt it is
+/// given up for an opening, with the books that stayed; after want of memory it does no more.
 #[derive(Drop)]
 pub struct Engine<S> {
     pub(crate) alloc: Global,
     pub(crate) storage: S,
-    pub(crate) stage: Stage,
+    pub(crate) stage: Stage<Scheduler>,
     /// Whether the last line that was asked is one statement: the units of an opening note it.
     pub(crate) single: bool,
     /// What was asked of the storage when it halted.
@@ -32,51 +34,51 @@ pub struct Engine<S> {
     pub(crate) no_tables: Schema,
 }
 
-impl<S: Storage> Engine<S> {
-    /// An engine over what an opening has found on its storage, whose numbers are not spent. It is to be opened: no boot has begun.
-    pub fn new(alloc: Global, storage: S, found: Found) -> Engine<S>
-        requires { are_spent found.boot found.decisions ≡ false }
-        ensures storage { result.storage ≡ storage }
-        ensures found { IsFoundStage result.stage }
-        ensures is_new { (k : Kept) → IsFound found k → IsSoundKept k → IsNew k result.stage result.single result.in_flight }
+impl<S: Drop> Engine<S> {
+    /// An engine over a storage behind the Ready of an opening: the number of the last decision that is kept, the tables and the
+    /// programs that are defined, the boot, and how many units were begun in it. No accepted program is unfinished.
+    pub fn new(
+        alloc: Global,
+        store: S,
+        kept: &Numbers,
+        schema: Schema,
+        catalogue: Catalogue,
+        boot: u64,
+        begun: u64,
+    ) -> Engine<S>
+        ensures store { result.storage ≡ store }
+        ensures serves { (s : State) → IsReadyOver kept.now schema catalogue boot begun s → ServesFrom result.stage s }
+        ensures none { result.in_flight ≡ None }
     {
-        let Found {
-            schema,
-            catalogue,
-            conts,
-            boot,
-            decisions,
-        } = found;
-        let known = Known::new(alloc, schema, catalogue, conts, boot, decisions);
+        let conts = Items::new(alloc);
+        let known = Known::new(alloc, schema, catalogue, conts, boot, kept.decisions);
+        let scheduler = Scheduler::new(alloc, Books::new(alloc, known, begun));
         Engine {
             alloc,
-            storage,
-            stage: Stage::Found {
-                books: Books::new(alloc, known),
-                numbers: Numbers { boot, decisions },
-            },
+            storage: store,
+            stage: Stage::Going(scheduler),
             single: false,
             in_flight: None,
             no_tables: Schema::new(alloc),
         }
     }
 
-    /// The call of the storage was broken off that this was asked by: unless memory ran out, the books stay.
-    pub(crate) fn break_off(&mut self, books: Books, halt: Halt, asked: Option<InFlight>) -> Halt
-        requires lost { self.old.stage ≡ Lost }
-        requires none { self.old.in_flight ≡ None }
-        ensures halt { result ≡ halt }
-        ensures storage { self.new.storage ≡ self.old.storage }
-        ensures single { self.new.single ≡ self.old.single }
-        ensures broken { WasBroken halt books asked self.new.stage self.new.in_flight }
+    /// The tables that are defined, unless memory ran out.
+    pub fn schema(&self) -> &Schema
+        ensures { (x : Books) → serving_books self.now.stage ≡ Some x → result.now ≡ x.known.schema }
     {
-        match halt {
-            Halt::Memory => {}
-            _ => {
-                self.stage = Stage::Down(books);
-                self.in_flight = asked;
-            }
+        match &self.stage {
+            Stage::Going(scheduler) => scheduler.books().known().schema(),
+            Stage::Down(books) => books.known().schema(),
+            Stage::Lost => &self.no_tables,
         }
-        halt
+    }
+
+    /// It is given up: what was in flight where it was broken off.
+    pub fn flight(self) -> Option<Flight>
+        ensures { result ≡ flight_of self.in_flight }
+    {
+        let Engine { in_flight, .. } = self;
+        flight_of(in_flight)
     }
 }

@@ -1,7 +1,7 @@
 //! What the storage holds is found again behind a fall, and opened.
 
 ghost use Rattle.salt_disk.specs.Disks.{HasCause, SameShape};
-ghost use Rattle.salt_engine.specs.Finding.{IsFoundAgain, IsOpenedBy, IsOpeningWith, ServesBooks};
+ghost use Rattle.salt_engine.specs.Finding.{IsFoundAgain, IsOpenedBy, IsOpeningWith};
 ghost use Rattle.salt_books.specs.declared.books.Books.{Books};
 ghost use Rattle.salt_engine.specs.Standing.{IsBrokenStage};
 ghost use Rattle.salt_engine.specs.declared.stage.Stage.TheVariants.{Down, Lost};
@@ -15,17 +15,15 @@ ghost use Rattle.salt_values.specs.Placement.{GivesPlaceOf, TakesEachKey};
 ghost use Rattle.std.specs.Prelude.{Err, IfErr, IfOk, None, OnErr, OnOk, Option, ℕ, [], ◌++◌, ◌∷◌, ◌≡◌};
 
 use crate::beginning::begin;
-use crate::engine::Engine;
+use crate::opening::Opening;
 use crate::stage::Stage;
 use salt_books::Books;
 use salt_disk::Disks;
 use salt_model::{Event, Story};
-use salt_scheduler::Scheduler;
 use salt_storage::{Halt, OpenErr, Storage};
 use salt_values::{Key, PlaceKind, Placement};
-use std::mem;
 
-impl<S: Storage> Engine<S> {
+impl<S: Storage> Opening<S> {
     /// Finds behind a fall what the storage holds: the books stay.
     pub(crate) fn find_behind<D: Disks, F: Fn(PlaceKind, &Key, u32) -> u32>(
         &mut self,
@@ -38,8 +36,9 @@ impl<S: Storage> Engine<S> {
         requires down { IsBrokenStage self.old.stage }
         requires left { (a b : Kept) × S.leaves (D.view disks.old) self.old.storage a b }
         ensures found { OnOk result ((x : Books) (a b : Kept) → self.old.stage ≡ Down x → S.leaves (D.view disks.old) self.old.storage a b →
-            IsFoundAgain (S.holds (D.view disks.new) self.new.storage) x a b self.new.stage) }
-        ensures stage { OnErr result (self.new.stage ≡ self.old.stage) }
+            IsFoundAgain (S.holds (D.view disks.new) self.new.storage) x a b self.new.found self.new.stage) }
+        ensures stage { self.new.stage ≡ self.old.stage }
+        ensures unfound { OnErr result (self.new.found ≡ self.old.found) }
         ensures leaves { OnErr result ((a b : Kept) → S.leaves (D.view disks.old) self.old.storage a b → S.leaves (D.view disks.new) self.new.storage a b) }
         ensures known { IfErr result (λ e. (a b : Kept) → S.leaves (D.view disks.old) self.old.storage a b → MayFail a b e) }
         ensures full { (dev : ℕ) → result ≡ Err (OpenErr.Halted (DeviceFull dev)) → ⊥ }
@@ -50,8 +49,7 @@ impl<S: Storage> Engine<S> {
         ensures cause { HasCause (D.view disks.old) (D.view disks.new) (open_disk_err result) }
     {
         let numbers = self.storage.reopen(disks, place)?;
-        let books = mem::replace(&mut self.stage, Stage::Lost).down();
-        self.stage = Stage::Found { books, numbers };
+        self.found = Some(numbers);
         Ok(())
     }
 
@@ -74,6 +72,7 @@ impl<S: Storage> Engine<S> {
         ensures flies { OnErr result (self.new.in_flight ≡ self.old.in_flight) }
         ensures untold { OnErr result (story.new ≡ story.old) }
         ensures storage { self.new.storage ≡ self.old.storage }
+        ensures found { self.new.found ≡ self.old.found }
         ensures single { self.new.single ≡ self.old.single }
     {
         let (recovery, first) = begin(
@@ -89,17 +88,7 @@ impl<S: Storage> Engine<S> {
             decisions: number,
         })?;
         self.in_flight = None;
-        self.stage = Stage::Opening(recovery);
+        self.stage = Stage::Going(recovery);
         Ok(first)
-    }
-
-    /// An opening is done: lines are served over its books.
-    pub(crate) fn serve_books(&mut self, books: Books)
-        ensures stage { ServesBooks books self.new.stage }
-        ensures storage { self.new.storage ≡ self.old.storage }
-        ensures single { self.new.single ≡ self.old.single }
-        ensures flies { self.new.in_flight ≡ self.old.in_flight }
-    {
-        self.stage = Stage::Serving(Scheduler::new(self.alloc, books));
     }
 }

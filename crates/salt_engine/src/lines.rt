@@ -4,6 +4,7 @@ ghost use Rattle.salt_ast.specs.declared.lines.Line.TheVariants as line_of;
 ghost use Rattle.salt_disk.specs.Disks.{SameShape};
 ghost use Rattle.salt_engine.specs.Performing.{AsksLine, BreaksOff, IsRefused, IsRejected, IsToAsk, Performs, is_prepared_line};
 ghost use Rattle.salt_engine.specs.Stored.{Stored};
+ghost use Rattle.salt_engine.specs.Standing.{SeesIn};
 ghost use Rattle.salt_engine.specs.declared.stage.Stage.TheVariants.{Lost};
 ghost use Rattle.salt_keeps.specs.Readings.{Reading, clash_by, items_by};
 ghost use Rattle.salt_keeps.specs.Nexts.{asked_next};
@@ -59,7 +60,7 @@ impl<S: Storage> Engine<S> {
         requires none { self.old.in_flight ≡ None }
         requires ready { (s : State) × AsksLine (S.holds (D.view disks.old) self.old.storage) (S.is_new (D.view disks.old) self.old.storage) (D.view disks.old).can_stop line.now scheduler s }
         ensures performs { IfOk result (λ e. (s : State) (r : Reading s.watch) → AsksLine (S.holds (D.view disks.old) self.old.storage) (S.is_new (D.view disks.old) self.old.storage) (D.view disks.old).can_stop line.now scheduler s
-            → Performs (S.holds (D.view disks.new) self.new.storage) (S.is_new (D.view disks.new) self.new.storage) self.new.stage self.new.in_flight (line_in s.units (clash_by s) (items_by s r) line.now) e s) }
+            → Performs (SeesIn (S.holds (D.view disks.new) self.new.storage) (S.is_new (D.view disks.new) self.new.storage) self.new.stage) self.new.in_flight (line_in s.units (clash_by s) (items_by s r) line.now) e s) }
         ensures breaks { IfErr result (λ halt. (s : State) (r : Reading s.watch) → AsksLine (S.holds (D.view disks.old) self.old.storage) (S.is_new (D.view disks.old) self.old.storage) (D.view disks.old).can_stop line.now scheduler s
             → BreaksOff (S.leaves (D.view disks.new) self.new.storage) (S.fills (D.view disks.new) self.new.storage) halt self.new.stage self.new.in_flight (line_in s.units (clash_by s) (items_by s r) line.now) s.units) }
         ensures single { self.new.single ≡ self.old.single }
@@ -79,10 +80,17 @@ impl<S: Storage> Engine<S> {
             Ok(_number) => {
                 self.storage.stands(disks);
                 let event = scheduler.table_defined(line, def)?;
-                self.stage = Stage::Serving(scheduler);
+                self.stage = Stage::Going(scheduler);
                 Ok(Some(event))
             }
-            Err(halt) => Err(self.break_off(scheduler.into_books(), halt, Some(asked))),
+            Err(halt) => Err(
+                self.stage.break_off(
+                    &mut self.in_flight,
+                    scheduler.into_books(),
+                    halt,
+                    Some(asked),
+                ),
+            ),
         }
     }
 
@@ -99,7 +107,7 @@ impl<S: Storage> Engine<S> {
         requires none { self.old.in_flight ≡ None }
         requires ready { (s : State) × AsksLine (S.holds (D.view disks.old) self.old.storage) (S.is_new (D.view disks.old) self.old.storage) (D.view disks.old).can_stop line.now scheduler s }
         ensures performs { IfOk result (λ e. (s : State) (r : Reading s.watch) → AsksLine (S.holds (D.view disks.old) self.old.storage) (S.is_new (D.view disks.old) self.old.storage) (D.view disks.old).can_stop line.now scheduler s
-            → Performs (S.holds (D.view disks.new) self.new.storage) (S.is_new (D.view disks.new) self.new.storage) self.new.stage self.new.in_flight (line_in s.units (clash_by s) (items_by s r) line.now) e s) }
+            → Performs (SeesIn (S.holds (D.view disks.new) self.new.storage) (S.is_new (D.view disks.new) self.new.storage) self.new.stage) self.new.in_flight (line_in s.units (clash_by s) (items_by s r) line.now) e s) }
         ensures breaks { IfErr result (λ halt. (s : State) (r : Reading s.watch) → AsksLine (S.holds (D.view disks.old) self.old.storage) (S.is_new (D.view disks.old) self.old.storage) (D.view disks.old).can_stop line.now scheduler s
             → BreaksOff (S.leaves (D.view disks.new) self.new.storage) (S.fills (D.view disks.new) self.new.storage) halt self.new.stage self.new.in_flight (line_in s.units (clash_by s) (items_by s r) line.now) s.units) }
         ensures single { self.new.single ≡ self.old.single }
@@ -119,10 +127,17 @@ impl<S: Storage> Engine<S> {
             Ok(_number) => {
                 self.storage.stands(disks);
                 let event = scheduler.program_defined(line, def)?;
-                self.stage = Stage::Serving(scheduler);
+                self.stage = Stage::Going(scheduler);
                 Ok(Some(event))
             }
-            Err(halt) => Err(self.break_off(scheduler.into_books(), halt, Some(asked))),
+            Err(halt) => Err(
+                self.stage.break_off(
+                    &mut self.in_flight,
+                    scheduler.into_books(),
+                    halt,
+                    Some(asked),
+                ),
+            ),
         }
     }
 
@@ -158,7 +173,7 @@ impl<S: Storage> Engine<S> {
         requires none { self.old.in_flight ≡ None }
         requires ready { (s : State) × AsksLine (S.holds (D.view disks.old) self.old.storage) (S.is_new (D.view disks.old) self.old.storage) (D.view disks.old).can_stop line.now scheduler s }
         ensures performs { IfOk result (λ e. (s : State) (r : Reading s.watch) → AsksLine (S.holds (D.view disks.old) self.old.storage) (S.is_new (D.view disks.old) self.old.storage) (D.view disks.old).can_stop line.now scheduler s
-            → Performs (S.holds (D.view disks.new) self.new.storage) (S.is_new (D.view disks.new) self.new.storage) self.new.stage self.new.in_flight (line_in s.units (clash_by s) (items_by s r) line.now) e s) }
+            → Performs (SeesIn (S.holds (D.view disks.new) self.new.storage) (S.is_new (D.view disks.new) self.new.storage) self.new.stage) self.new.in_flight (line_in s.units (clash_by s) (items_by s r) line.now) e s) }
         ensures breaks { IfErr result (λ halt. (s : State) (r : Reading s.watch) → AsksLine (S.holds (D.view disks.old) self.old.storage) (S.is_new (D.view disks.old) self.old.storage) (D.view disks.old).can_stop line.now scheduler s
             → BreaksOff (S.leaves (D.view disks.new) self.new.storage) (S.fills (D.view disks.new) self.new.storage) halt self.new.stage self.new.in_flight (line_in s.units (clash_by s) (items_by s r) line.now) s.units) }
         ensures single { self.new.single ≡ self.old.single }
@@ -172,7 +187,7 @@ impl<S: Storage> Engine<S> {
         match self.arm_each(disks, pairs.as_slice()) {
             Ok(()) => {
                 let event = scheduler.armed(line, told);
-                self.stage = Stage::Serving(scheduler);
+                self.stage = Stage::Going(scheduler);
                 Ok(Some(event))
             }
             Err(_) => {
@@ -197,7 +212,7 @@ impl<S: Storage> Engine<S> {
         requires none { self.old.in_flight ≡ None }
         requires ready { (s : State) × AsksLine (S.holds (D.view disks.old) self.old.storage) (S.is_new (D.view disks.old) self.old.storage) (D.view disks.old).can_stop line.now scheduler s }
         ensures performs { IfOk result (λ e. (s : State) (r : Reading s.watch) → AsksLine (S.holds (D.view disks.old) self.old.storage) (S.is_new (D.view disks.old) self.old.storage) (D.view disks.old).can_stop line.now scheduler s
-            → Performs (S.holds (D.view disks.new) self.new.storage) (S.is_new (D.view disks.new) self.new.storage) self.new.stage self.new.in_flight (line_in s.units (clash_by s) (items_by s r) line.now) e s) }
+            → Performs (SeesIn (S.holds (D.view disks.new) self.new.storage) (S.is_new (D.view disks.new) self.new.storage) self.new.stage) self.new.in_flight (line_in s.units (clash_by s) (items_by s r) line.now) e s) }
         ensures breaks { IfErr result (λ halt. (s : State) (r : Reading s.watch) → AsksLine (S.holds (D.view disks.old) self.old.storage) (S.is_new (D.view disks.old) self.old.storage) (D.view disks.old).can_stop line.now scheduler s
             → BreaksOff (S.leaves (D.view disks.new) self.new.storage) (S.fills (D.view disks.new) self.new.storage) halt self.new.stage self.new.in_flight (line_in s.units (clash_by s) (items_by s r) line.now) s.units) }
         ensures single { self.new.single ≡ self.old.single }
@@ -225,7 +240,7 @@ impl<S: Storage> Engine<S> {
         requires none { self.old.in_flight ≡ None }
         requires ready { (s : State) × AsksLine (S.holds (D.view disks.old) self.old.storage) (S.is_new (D.view disks.old) self.old.storage) (D.view disks.old).can_stop line.now scheduler s }
         ensures performs { IfOk result (λ e. (s : State) (r : Reading s.watch) → AsksLine (S.holds (D.view disks.old) self.old.storage) (S.is_new (D.view disks.old) self.old.storage) (D.view disks.old).can_stop line.now scheduler s
-            → Performs (S.holds (D.view disks.new) self.new.storage) (S.is_new (D.view disks.new) self.new.storage) self.new.stage self.new.in_flight (line_in s.units (clash_by s) (items_by s r) line.now) e s) }
+            → Performs (SeesIn (S.holds (D.view disks.new) self.new.storage) (S.is_new (D.view disks.new) self.new.storage) self.new.stage) self.new.in_flight (line_in s.units (clash_by s) (items_by s r) line.now) e s) }
         ensures breaks { IfErr result (λ halt. (s : State) (r : Reading s.watch) → AsksLine (S.holds (D.view disks.old) self.old.storage) (S.is_new (D.view disks.old) self.old.storage) (D.view disks.old).can_stop line.now scheduler s
             → BreaksOff (S.leaves (D.view disks.new) self.new.storage) (S.fills (D.view disks.new) self.new.storage) halt self.new.stage self.new.in_flight (line_in s.units (clash_by s) (items_by s r) line.now) s.units) }
         ensures single { self.new.single ≡ self.old.single }
@@ -255,7 +270,7 @@ impl<S: Storage> Engine<S> {
     {
         let mut scheduler = scheduler;
         let event = scheduler.refuse(line, refusal);
-        self.stage = Stage::Serving(scheduler);
+        self.stage = Stage::Going(scheduler);
         event
     }
 
@@ -290,7 +305,7 @@ impl<S: Storage> Engine<S> {
         requires none { self.old.in_flight ≡ None }
         requires ready { (s : State) × IsToAsk (S.holds (D.view disks.old) self.old.storage) (S.is_new (D.view disks.old) self.old.storage) (D.view disks.old).can_stop line.now scheduler s }
         ensures performs { IfOk result (λ e. (s : State) (r : Reading s.watch) → IsToAsk (S.holds (D.view disks.old) self.old.storage) (S.is_new (D.view disks.old) self.old.storage) (D.view disks.old).can_stop line.now scheduler s
-            → Performs (S.holds (D.view disks.new) self.new.storage) (S.is_new (D.view disks.new) self.new.storage) self.new.stage self.new.in_flight (asked_next s r (Tree line.now)) e (asked_of (Tree line.now) s)) }
+            → Performs (SeesIn (S.holds (D.view disks.new) self.new.storage) (S.is_new (D.view disks.new) self.new.storage) self.new.stage) self.new.in_flight (asked_next s r (Tree line.now)) e (asked_of (Tree line.now) s)) }
         ensures breaks { IfErr result (λ halt. (s : State) (r : Reading s.watch) → IsToAsk (S.holds (D.view disks.old) self.old.storage) (S.is_new (D.view disks.old) self.old.storage) (D.view disks.old).can_stop line.now scheduler s
             → BreaksOff (S.leaves (D.view disks.new) self.new.storage) (S.fills (D.view disks.new) self.new.storage) halt self.new.stage self.new.in_flight (asked_next s r (Tree line.now)) (asked_of (Tree line.now) s).units) }
         ensures single { self.new.single ≡ self.old.single }

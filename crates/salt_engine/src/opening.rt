@@ -1,238 +1,116 @@
-//! What is to come in an opening is performed.
+//! An opening: what stands over a storage before an engine is made over it.
 
-ghost use Rattle.salt_books.specs.Coming.{event_meant};
-ghost use Rattle.salt_books.specs.declared.coming.Coming.TheVariants as coming;
-ghost use Rattle.salt_disk.specs.Disks.{HasCause, SameShape};
-ghost use Rattle.salt_engine.specs.Performing.{BreaksOff, GoesOnOpening, IsToOpen, MayStep, Performs};
-ghost use Rattle.salt_engine.specs.declared.stage.Stage.TheVariants.{Lost};
+ghost use Rattle.salt_engine.specs.Finding.{IsNew};
+ghost use Rattle.salt_engine.specs.Standing.{AreOpened, IsFoundStage, OpensIn, ServesFrom, opening_books, serving_books};
+ghost use Rattle.salt_engine.specs.declared.stage.Stage.TheVariants.{Going};
 ghost use Rattle.salt_keeps.specs.States.{State};
-ghost use Rattle.salt_openings.specs.Draining.{statements_in};
-ghost use Rattle.salt_recovery.specs.Follows.{comes_behind};
-ghost use Rattle.salt_steps.specs.Counting.{stops_armed};
-ghost use Rattle.salt_storage.specs.Answers.{disk_err};
-ghost use Rattle.salt_values.specs.Placement.{GivesPlaceOf, TakesEachKey};
-ghost use Rattle.std.specs.Prelude.{IfErr, IfOk, None, OnErr, Some, ◌+◌, ◌≡◌};
+ghost use Rattle.salt_model.specs.Kept.{Kept};
+ghost use Rattle.salt_recovery.specs.declared.recovery.Recovery.{Recovery};
+ghost use Rattle.salt_stands.specs.Stands.{are_spent};
+ghost use Rattle.salt_storage.specs.Storing.{IsFound, IsSoundKept};
+ghost use Rattle.std.specs.Prelude.{None, false, ◌≡◌};
 
-use crate::deciding::{branch, commit, load};
 use crate::engine::Engine;
 use crate::flights::InFlight;
 use crate::stage::Stage;
-use salt_books::{Asking, Coming};
-use salt_disk::Disks;
-use salt_model::{Cause, Event};
+use salt_books::Books;
+use salt_known::Known;
 use salt_recovery::Recovery;
-use salt_storage::{Halt, Storage};
-use salt_values::{Id, Key, PlaceKind, Placement, Steps};
-use std::sync::ledger::Ledger;
+use salt_schema::Schema;
+use salt_storage::{Found, Numbers};
+use std::alloc::Global;
 
-impl<S: Storage> Engine<S> {
-    /// A unit that goes on with a program does the statement that it asks for.
-    fn act_in_opening<D: Disks, F: Fn(PlaceKind, &Key, u32) -> u32, L: Ledger>(
-        &mut self,
-        disks: &mut D,
-        place: &Placement<F>,
-        recovery: Recovery,
-        asking: Asking,
-        steps: &mut Steps<L>,
-    ) -> Result<Event, Halt>
-        requires callable { TakesEachKey (F.pre place.now.place) }
-        requires answers { GivesPlaceOf (F.post place.now.place) }
-        requires lost { self.old.stage ≡ Lost }
-        requires none { self.old.in_flight ≡ None }
-        requires ready { (s : State) × IsToOpen (S.holds (D.view disks.old) self.old.storage) (S.is_new (D.view disks.old) self.old.storage) recovery (coming.Act asking) s }
-        ensures performs { IfOk result (λ e. (s : State) → IsToOpen (S.holds (D.view disks.old) self.old.storage) (S.is_new (D.view disks.old) self.old.storage) recovery (coming.Act asking) s
-            → Performs (S.holds (D.view disks.new) self.new.storage) (S.is_new (D.view disks.new) self.new.storage) self.new.stage self.new.in_flight (event_meant s.units (coming.Act asking)) (Some e) s) }
-        ensures breaks { IfErr result (λ halt. (s : State) → IsToOpen (S.holds (D.view disks.old) self.old.storage) (S.is_new (D.view disks.old) self.old.storage) recovery (coming.Act asking) s
-            → BreaksOff (S.leaves (D.view disks.new) self.new.storage) (S.fills (D.view disks.new) self.new.storage) halt self.new.stage self.new.in_flight (event_meant s.units (coming.Act asking)) s.units) }
-        ensures ticks { IfOk result (λ e. steps.new ≡ steps.old + statements_in e) }
-        ensures short { OnErr result ((s : State) → IsToOpen (S.holds (D.view disks.old) self.old.storage) (S.is_new (D.view disks.old) self.old.storage) recovery (coming.Act asking) s
-            → MayStep (event_meant s.units (coming.Act asking)) steps.old steps.new) }
-        ensures single { self.new.single ≡ self.old.single }
-        ensures asked { S.asked self.new.storage ≡ S.asked self.old.storage }
-        ensures shape { SameShape (D.view disks.old) (D.view disks.new) }
-        ensures cause { HasCause (D.view disks.old) (D.view disks.new) (disk_err result) }
+/// An opening over a storage: at first over what was found there, and behind each fall over what an engine has left. It begins a
+/// boot, and goes on with what programs have left; behind its Ready an engine is made of it.
+#[derive(Drop)]
+pub struct Opening<S> {
+    pub(crate) alloc: Global,
+    pub(crate) storage: S,
+    pub(crate) stage: Stage<Recovery>,
+    /// The numbers of what the storage holds, where that is found and no boot has begun over it.
+    pub(crate) found: Option<Numbers>,
+    /// Whether the last line that was asked is one statement: the units of an opening note it.
+    pub(crate) single: bool,
+    /// What was asked of the storage when it halted.
+    pub(crate) in_flight: Option<InFlight>,
+    /// The tables where memory ran out: none.
+    pub(crate) no_tables: Schema,
+}
+
+impl<S: Drop> Opening<S> {
+    /// An opening over what was found on a storage, whose numbers are not spent. No boot has begun.
+    pub fn new(alloc: Global, storage: S, found: Found) -> Opening<S>
+        requires { are_spent found.boot found.decisions ≡ false }
+        ensures storage { result.storage ≡ storage }
+        ensures found { IsFoundStage result.found result.stage }
+        ensures is_new { (k : Kept) → IsFound found k → IsSoundKept k → IsNew k result.found result.stage result.single result.in_flight }
     {
-        let mut recovery = recovery;
-        match load(
-            self.alloc,
-            &mut self.storage,
-            disks,
-            place,
-            recovery.books(),
-            &asking,
-        ) {
-            Ok(rows) => {
-                self.storage.stands(disks);
-                let event = recovery.done(asking, &rows, steps)?;
-                self.stage = Stage::Opening(recovery);
-                Ok(event)
-            }
-            Err(halt) => Err(self.break_off(recovery.into_books(), halt, None)),
+        let Found {
+            schema,
+            catalogue,
+            conts,
+            boot,
+            decisions,
+        } = found;
+        let known = Known::new(alloc, schema, catalogue, conts, boot, decisions);
+        Opening {
+            alloc,
+            storage,
+            stage: Stage::Down(Books::new(alloc, known, 0)),
+            found: Some(Numbers { boot, decisions }),
+            single: false,
+            in_flight: None,
+            no_tables: Schema::new(alloc),
         }
     }
 
-    /// A unit that goes on with a program commits.
-    fn commit_in_opening<D: Disks, F: Fn(PlaceKind, &Key, u32) -> u32>(
-        &mut self,
-        disks: &mut D,
-        place: &Placement<F>,
-        recovery: Recovery,
-        unit: Id,
-    ) -> Result<Event, Halt>
-        requires callable { TakesEachKey (F.pre place.now.place) }
-        requires answers { GivesPlaceOf (F.post place.now.place) }
-        requires lost { self.old.stage ≡ Lost }
-        requires none { self.old.in_flight ≡ None }
-        requires ready { (s : State) × IsToOpen (S.holds (D.view disks.old) self.old.storage) (S.is_new (D.view disks.old) self.old.storage) recovery (coming.Commit unit) s }
-        ensures performs { IfOk result (λ e. (s : State) → IsToOpen (S.holds (D.view disks.old) self.old.storage) (S.is_new (D.view disks.old) self.old.storage) recovery (coming.Commit unit) s
-            → Performs (S.holds (D.view disks.new) self.new.storage) (S.is_new (D.view disks.new) self.new.storage) self.new.stage self.new.in_flight (event_meant s.units (coming.Commit unit)) (Some e) s) }
-        ensures breaks { IfErr result (λ halt. (s : State) → IsToOpen (S.holds (D.view disks.old) self.old.storage) (S.is_new (D.view disks.old) self.old.storage) recovery (coming.Commit unit) s
-            → BreaksOff (S.leaves (D.view disks.new) self.new.storage) (S.fills (D.view disks.new) self.new.storage) halt self.new.stage self.new.in_flight (event_meant s.units (coming.Commit unit)) s.units) }
-        ensures single { self.new.single ≡ self.old.single }
-        ensures asked { S.asked self.new.storage ≡ S.asked self.old.storage }
-        ensures shape { SameShape (D.view disks.old) (D.view disks.new) }
-        ensures cause { HasCause (D.view disks.old) (D.view disks.new) (disk_err result) }
+    /// An opening of what an engine has left that is given up.
+    pub fn behind(engine: Engine<S>) -> Opening<S>
+        ensures storage { result.storage ≡ engine.storage }
+        ensures books { opening_books result.stage ≡ serving_books engine.stage }
+        ensures found { result.found ≡ None }
+        ensures single { result.single ≡ engine.single }
+        ensures flies { result.in_flight ≡ engine.in_flight }
     {
-        let mut recovery = recovery;
-        match commit(
-            self.alloc,
-            &mut self.storage,
-            disks,
-            place,
-            recovery.books(),
-            unit,
-        ) {
-            Ok(made) => {
-                self.storage.stands(disks);
-                let event = recovery.committed(unit, made)?;
-                self.stage = Stage::Opening(recovery);
-                Ok(event)
-            }
-            Err(halt) => Err(self.break_off(
-                recovery.into_books(),
-                halt,
-                Some(InFlight::Commit(unit)),
-            )),
+        let Engine {
+            alloc,
+            storage,
+            stage,
+            single,
+            in_flight,
+            no_tables,
+        } = engine;
+        Opening {
+            alloc,
+            storage,
+            stage: stage.given_up(),
+            found: None,
+            single,
+            in_flight,
+            no_tables,
         }
     }
 
-    /// A program goes on behind the failure of its part.
-    fn branch_in_opening<D: Disks, F: Fn(PlaceKind, &Key, u32) -> u32>(
-        &mut self,
-        disks: &mut D,
-        place: &Placement<F>,
-        recovery: Recovery,
-        unit: Id,
-        base: Id,
-        cause: Cause,
-    ) -> Result<Event, Halt>
-        requires callable { TakesEachKey (F.pre place.now.place) }
-        requires answers { GivesPlaceOf (F.post place.now.place) }
-        requires lost { self.old.stage ≡ Lost }
-        requires none { self.old.in_flight ≡ None }
-        requires ready { (s : State) × IsToOpen (S.holds (D.view disks.old) self.old.storage) (S.is_new (D.view disks.old) self.old.storage) recovery (coming.Branch unit base cause) s }
-        ensures performs { IfOk result (λ e. (s : State) → IsToOpen (S.holds (D.view disks.old) self.old.storage) (S.is_new (D.view disks.old) self.old.storage) recovery (coming.Branch unit base cause) s
-            → Performs (S.holds (D.view disks.new) self.new.storage) (S.is_new (D.view disks.new) self.new.storage) self.new.stage self.new.in_flight (event_meant s.units (coming.Branch unit base cause)) (Some e) s) }
-        ensures breaks { IfErr result (λ halt. (s : State) → IsToOpen (S.holds (D.view disks.old) self.old.storage) (S.is_new (D.view disks.old) self.old.storage) recovery (coming.Branch unit base cause) s
-            → BreaksOff (S.leaves (D.view disks.new) self.new.storage) (S.fills (D.view disks.new) self.new.storage) halt self.new.stage self.new.in_flight (event_meant s.units (coming.Branch unit base cause)) s.units) }
-        ensures single { self.new.single ≡ self.old.single }
-        ensures asked { S.asked self.new.storage ≡ S.asked self.old.storage }
-        ensures shape { SameShape (D.view disks.old) (D.view disks.new) }
-        ensures cause { HasCause (D.view disks.old) (D.view disks.new) (disk_err result) }
+    /// An engine over what an opening has left that is done.
+    pub fn into_engine(self) -> Engine<S>
+        requires { (x : Recovery) × (s : State) × (self.stage ≡ Going x) × AreOpened x.books s }
+        ensures storage { result.storage ≡ self.storage }
+        ensures serves { (x : Recovery) (s : State) → self.stage ≡ Going x → AreOpened x.books s → ServesFrom result.stage s }
+        ensures single { result.single ≡ self.single }
+        ensures none { result.in_flight ≡ None }
     {
-        let mut recovery = recovery;
-        match branch(
-            self.alloc,
-            &mut self.storage,
-            disks,
-            place,
-            recovery.books(),
-            unit,
-        ) {
-            Ok(made) => {
-                self.storage.stands(disks);
-                let event = recovery.branched(unit, base, cause, made)?;
-                self.stage = Stage::Opening(recovery);
-                Ok(event)
-            }
-            Err(halt) => {
-                let asked = InFlight::Branch { unit, base, cause };
-                Err(self.break_off(recovery.into_books(), halt, Some(asked)))
-            }
-        }
-    }
-
-    /// What is to come in an opening, which is an event of it.
-    pub(crate) fn perform_in_opening<D: Disks, F: Fn(PlaceKind, &Key, u32) -> u32, L: Ledger>(
-        &mut self,
-        disks: &mut D,
-        place: &Placement<F>,
-        recovery: Recovery,
-        coming: Coming,
-        steps: &mut Steps<L>,
-    ) -> Result<Event, Halt>
-        requires callable { TakesEachKey (F.pre place.now.place) }
-        requires answers { GivesPlaceOf (F.post place.now.place) }
-        requires lost { self.old.stage ≡ Lost }
-        requires none { self.old.in_flight ≡ None }
-        requires ready { (s : State) × IsToOpen (S.holds (D.view disks.old) self.old.storage) (S.is_new (D.view disks.old) self.old.storage) recovery coming s }
-        ensures performs { IfOk result (λ e. (s : State) → IsToOpen (S.holds (D.view disks.old) self.old.storage) (S.is_new (D.view disks.old) self.old.storage) recovery coming s
-            → Performs (S.holds (D.view disks.new) self.new.storage) (S.is_new (D.view disks.new) self.new.storage) self.new.stage self.new.in_flight (event_meant s.units coming) (Some e) s) }
-        ensures breaks { IfErr result (λ halt. (s : State) → IsToOpen (S.holds (D.view disks.old) self.old.storage) (S.is_new (D.view disks.old) self.old.storage) recovery coming s
-            → BreaksOff (S.leaves (D.view disks.new) self.new.storage) (S.fills (D.view disks.new) self.new.storage) halt self.new.stage self.new.in_flight (event_meant s.units coming) s.units) }
-        ensures ticks { IfOk result (λ e. steps.new ≡ steps.old + statements_in e) }
-        ensures short { OnErr result ((s : State) → IsToOpen (S.holds (D.view disks.old) self.old.storage) (S.is_new (D.view disks.old) self.old.storage) recovery coming s
-            → MayStep (event_meant s.units coming) steps.old steps.new) }
-        ensures single { self.new.single ≡ self.old.single }
-        ensures asked { S.asked self.new.storage ≡ S.asked self.old.storage }
-        ensures shape { SameShape (D.view disks.old) (D.view disks.new) }
-        ensures cause { HasCause (D.view disks.old) (D.view disks.new) (disk_err result) }
-    {
-        match coming {
-            Coming::Told(event) => {
-                self.stage = Stage::Opening(recovery);
-                Ok(event)
-            }
-            Coming::Act(asking) => self.act_in_opening(disks, place, recovery, asking, steps),
-            Coming::Commit(unit) => self.commit_in_opening(disks, place, recovery, unit),
-            Coming::Branch { unit, base, cause } => self.branch_in_opening(
-                disks, place, recovery, unit, base, cause,
-            ),
-            Coming::Nothing => unreachable!(),
-            Coming::Define(_text) => unreachable!(),
-            Coming::Arm(_pairs) => unreachable!(),
-        }
-    }
-
-    /// What comes behind the event at hand of an opening.
-    pub(crate) fn go_on_in_opening<D: Disks, F: Fn(PlaceKind, &Key, u32) -> u32, L: Ledger>(
-        &mut self,
-        disks: &mut D,
-        place: &Placement<F>,
-        recovery: Recovery,
-        steps: &mut Steps<L>,
-    ) -> Result<Event, Halt>
-        requires callable { TakesEachKey (F.pre place.now.place) }
-        requires answers { GivesPlaceOf (F.post place.now.place) }
-        requires lost { self.old.stage ≡ Lost }
-        requires none { self.old.in_flight ≡ None }
-        requires stands { (s : State) × GoesOnOpening (S.holds (D.view disks.old) self.old.storage) (S.is_new (D.view disks.old) self.old.storage) recovery s }
-        ensures performs { IfOk result (λ e. (s : State) → GoesOnOpening (S.holds (D.view disks.old) self.old.storage) (S.is_new (D.view disks.old) self.old.storage) recovery s
-            → Performs (S.holds (D.view disks.new) self.new.storage) (S.is_new (D.view disks.new) self.new.storage) self.new.stage self.new.in_flight (comes_behind recovery.behind s.units) (Some e) s) }
-        ensures breaks { IfErr result (λ halt. (s : State) → GoesOnOpening (S.holds (D.view disks.old) self.old.storage) (S.is_new (D.view disks.old) self.old.storage) recovery s
-            → BreaksOff (S.leaves (D.view disks.new) self.new.storage) (S.fills (D.view disks.new) self.new.storage) halt self.new.stage self.new.in_flight (comes_behind recovery.behind s.units) s.units) }
-        ensures ticks { IfOk result (λ e. steps.new ≡ steps.old + statements_in e) }
-        ensures short { OnErr result ((s : State) → GoesOnOpening (S.holds (D.view disks.old) self.old.storage) (S.is_new (D.view disks.old) self.old.storage) recovery s
-            → MayStep (comes_behind recovery.behind s.units) steps.old steps.new) }
-        ensures single { self.new.single ≡ self.old.single }
-        ensures unarmed { IfOk result (λ e. stops_armed e ≡ 0) }
-        ensures asked { S.asked self.new.storage ≡ S.asked self.old.storage }
-        ensures shape { SameShape (D.view disks.old) (D.view disks.new) }
-        ensures cause { HasCause (D.view disks.old) (D.view disks.new) (disk_err result) }
-    {
-        let mut recovery = recovery;
-        self.storage.stands(disks);
-        let coming = recovery.go_on()?;
-        self.perform_in_opening(disks, place, recovery, coming, steps)
+        let Opening {
+            alloc,
+            storage,
+            stage,
+            single,
+            ..
+        } = self;
+        let (known, begun) = stage.going().into_books().into_parts();
+        let (schema, catalogue, boot, decisions) = known.into_parts();
+        let kept = Numbers { boot, decisions };
+        let mut engine = Engine::new(alloc, storage, &kept, schema, catalogue, boot, begun);
+        engine.single = single;
+        engine
     }
 }

@@ -4,6 +4,7 @@ ghost use Rattle.salt_books.specs.Coming.{event_meant};
 ghost use Rattle.salt_books.specs.declared.coming.Coming.TheVariants as coming;
 ghost use Rattle.salt_disk.specs.Disks.{HasCause, SameShape};
 ghost use Rattle.salt_engine.specs.Performing.{BreaksOff, GoesOnServing, IsToServe, Performs, Turns};
+ghost use Rattle.salt_engine.specs.Standing.{SeesIn};
 ghost use Rattle.salt_engine.specs.declared.stage.Stage.TheVariants.{Lost};
 ghost use Rattle.salt_keeps.specs.Nexts.{turned_next};
 ghost use Rattle.salt_keeps.specs.Readings.{Reading};
@@ -41,7 +42,7 @@ impl<S: Storage> Engine<S> {
         requires none { self.old.in_flight ≡ None }
         requires ready { (s : State) × IsToServe (S.holds (D.view disks.old) self.old.storage) (S.is_new (D.view disks.old) self.old.storage) scheduler (coming.Act asking) s }
         ensures performs { IfOk result (λ e. (s : State) → IsToServe (S.holds (D.view disks.old) self.old.storage) (S.is_new (D.view disks.old) self.old.storage) scheduler (coming.Act asking) s
-            → Performs (S.holds (D.view disks.new) self.new.storage) (S.is_new (D.view disks.new) self.new.storage) self.new.stage self.new.in_flight (event_meant s.units (coming.Act asking)) (Some e) s) }
+            → Performs (SeesIn (S.holds (D.view disks.new) self.new.storage) (S.is_new (D.view disks.new) self.new.storage) self.new.stage) self.new.in_flight (event_meant s.units (coming.Act asking)) (Some e) s) }
         ensures breaks { IfErr result (λ halt. (s : State) → IsToServe (S.holds (D.view disks.old) self.old.storage) (S.is_new (D.view disks.old) self.old.storage) scheduler (coming.Act asking) s
             → BreaksOff (S.leaves (D.view disks.new) self.new.storage) (S.fills (D.view disks.new) self.new.storage) halt self.new.stage self.new.in_flight (event_meant s.units (coming.Act asking)) s.units) }
         ensures single { self.new.single ≡ self.old.single }
@@ -61,10 +62,13 @@ impl<S: Storage> Engine<S> {
             Ok(rows) => {
                 self.storage.stands(disks);
                 let event = scheduler.done(asking, &rows)?;
-                self.stage = Stage::Serving(scheduler);
+                self.stage = Stage::Going(scheduler);
                 Ok(event)
             }
-            Err(halt) => Err(self.break_off(scheduler.into_books(), halt, None)),
+            Err(halt) => Err(
+                self.stage
+                    .break_off(&mut self.in_flight, scheduler.into_books(), halt, None),
+            ),
         }
     }
 
@@ -82,7 +86,7 @@ impl<S: Storage> Engine<S> {
         requires none { self.old.in_flight ≡ None }
         requires ready { (s : State) × IsToServe (S.holds (D.view disks.old) self.old.storage) (S.is_new (D.view disks.old) self.old.storage) scheduler (coming.Commit unit) s }
         ensures performs { IfOk result (λ e. (s : State) → IsToServe (S.holds (D.view disks.old) self.old.storage) (S.is_new (D.view disks.old) self.old.storage) scheduler (coming.Commit unit) s
-            → Performs (S.holds (D.view disks.new) self.new.storage) (S.is_new (D.view disks.new) self.new.storage) self.new.stage self.new.in_flight (event_meant s.units (coming.Commit unit)) (Some e) s) }
+            → Performs (SeesIn (S.holds (D.view disks.new) self.new.storage) (S.is_new (D.view disks.new) self.new.storage) self.new.stage) self.new.in_flight (event_meant s.units (coming.Commit unit)) (Some e) s) }
         ensures breaks { IfErr result (λ halt. (s : State) → IsToServe (S.holds (D.view disks.old) self.old.storage) (S.is_new (D.view disks.old) self.old.storage) scheduler (coming.Commit unit) s
             → BreaksOff (S.leaves (D.view disks.new) self.new.storage) (S.fills (D.view disks.new) self.new.storage) halt self.new.stage self.new.in_flight (event_meant s.units (coming.Commit unit)) s.units) }
         ensures single { self.new.single ≡ self.old.single }
@@ -102,14 +106,17 @@ impl<S: Storage> Engine<S> {
             Ok(made) => {
                 self.storage.stands(disks);
                 let event = scheduler.committed(unit, made)?;
-                self.stage = Stage::Serving(scheduler);
+                self.stage = Stage::Going(scheduler);
                 Ok(event)
             }
-            Err(halt) => Err(self.break_off(
-                scheduler.into_books(),
-                halt,
-                Some(InFlight::Commit(unit)),
-            )),
+            Err(halt) => Err(
+                self.stage.break_off(
+                    &mut self.in_flight,
+                    scheduler.into_books(),
+                    halt,
+                    Some(InFlight::Commit(unit)),
+                ),
+            ),
         }
     }
 
@@ -129,7 +136,7 @@ impl<S: Storage> Engine<S> {
         requires none { self.old.in_flight ≡ None }
         requires ready { (s : State) × IsToServe (S.holds (D.view disks.old) self.old.storage) (S.is_new (D.view disks.old) self.old.storage) scheduler (coming.Branch unit base cause) s }
         ensures performs { IfOk result (λ e. (s : State) → IsToServe (S.holds (D.view disks.old) self.old.storage) (S.is_new (D.view disks.old) self.old.storage) scheduler (coming.Branch unit base cause) s
-            → Performs (S.holds (D.view disks.new) self.new.storage) (S.is_new (D.view disks.new) self.new.storage) self.new.stage self.new.in_flight (event_meant s.units (coming.Branch unit base cause)) (Some e) s) }
+            → Performs (SeesIn (S.holds (D.view disks.new) self.new.storage) (S.is_new (D.view disks.new) self.new.storage) self.new.stage) self.new.in_flight (event_meant s.units (coming.Branch unit base cause)) (Some e) s) }
         ensures breaks { IfErr result (λ halt. (s : State) → IsToServe (S.holds (D.view disks.old) self.old.storage) (S.is_new (D.view disks.old) self.old.storage) scheduler (coming.Branch unit base cause) s
             → BreaksOff (S.leaves (D.view disks.new) self.new.storage) (S.fills (D.view disks.new) self.new.storage) halt self.new.stage self.new.in_flight (event_meant s.units (coming.Branch unit base cause)) s.units) }
         ensures single { self.new.single ≡ self.old.single }
@@ -149,12 +156,19 @@ impl<S: Storage> Engine<S> {
             Ok(made) => {
                 self.storage.stands(disks);
                 let event = scheduler.branched(unit, base, cause, made)?;
-                self.stage = Stage::Serving(scheduler);
+                self.stage = Stage::Going(scheduler);
                 Ok(event)
             }
             Err(halt) => {
                 let asked = InFlight::Branch { unit, base, cause };
-                Err(self.break_off(scheduler.into_books(), halt, Some(asked)))
+                Err(
+                    self.stage.break_off(
+                        &mut self.in_flight,
+                        scheduler.into_books(),
+                        halt,
+                        Some(asked),
+                    ),
+                )
             }
         }
     }
@@ -173,7 +187,7 @@ impl<S: Storage> Engine<S> {
         requires none { self.old.in_flight ≡ None }
         requires ready { (s : State) × IsToServe (S.holds (D.view disks.old) self.old.storage) (S.is_new (D.view disks.old) self.old.storage) scheduler coming s }
         ensures performs { IfOk result (λ e. (s : State) → IsToServe (S.holds (D.view disks.old) self.old.storage) (S.is_new (D.view disks.old) self.old.storage) scheduler coming s
-            → Performs (S.holds (D.view disks.new) self.new.storage) (S.is_new (D.view disks.new) self.new.storage) self.new.stage self.new.in_flight (event_meant s.units coming) e s) }
+            → Performs (SeesIn (S.holds (D.view disks.new) self.new.storage) (S.is_new (D.view disks.new) self.new.storage) self.new.stage) self.new.in_flight (event_meant s.units coming) e s) }
         ensures breaks { IfErr result (λ halt. (s : State) → IsToServe (S.holds (D.view disks.old) self.old.storage) (S.is_new (D.view disks.old) self.old.storage) scheduler coming s
             → BreaksOff (S.leaves (D.view disks.new) self.new.storage) (S.fills (D.view disks.new) self.new.storage) halt self.new.stage self.new.in_flight (event_meant s.units coming) s.units) }
         ensures single { self.new.single ≡ self.old.single }
@@ -183,11 +197,11 @@ impl<S: Storage> Engine<S> {
     {
         match coming {
             Coming::Nothing => {
-                self.stage = Stage::Serving(scheduler);
+                self.stage = Stage::Going(scheduler);
                 Ok(None)
             }
             Coming::Told(event) => {
-                self.stage = Stage::Serving(scheduler);
+                self.stage = Stage::Going(scheduler);
                 Ok(Some(event))
             }
             Coming::Act(asking) => Ok(Some(self.act(disks, place, scheduler, asking)?)),
@@ -214,7 +228,7 @@ impl<S: Storage> Engine<S> {
         requires none { self.old.in_flight ≡ None }
         requires ready { (s : State) × GoesOnServing (S.holds (D.view disks.old) self.old.storage) (S.is_new (D.view disks.old) self.old.storage) line.now scheduler s }
         ensures performs { IfOk result (λ e. (s : State) (r : Reading s.watch) → GoesOnServing (S.holds (D.view disks.old) self.old.storage) (S.is_new (D.view disks.old) self.old.storage) line.now scheduler s
-            → Performs (S.holds (D.view disks.new) self.new.storage) (S.is_new (D.view disks.new) self.new.storage) self.new.stage self.new.in_flight (behind_in s r scheduler.follow) e s) }
+            → Performs (SeesIn (S.holds (D.view disks.new) self.new.storage) (S.is_new (D.view disks.new) self.new.storage) self.new.stage) self.new.in_flight (behind_in s r scheduler.follow) e s) }
         ensures breaks { IfErr result (λ halt. (s : State) (r : Reading s.watch) → GoesOnServing (S.holds (D.view disks.old) self.old.storage) (S.is_new (D.view disks.old) self.old.storage) line.now scheduler s
             → BreaksOff (S.leaves (D.view disks.new) self.new.storage) (S.fills (D.view disks.new) self.new.storage) halt self.new.stage self.new.in_flight (behind_in s r scheduler.follow) s.units) }
         ensures single { self.new.single ≡ self.old.single }
@@ -244,7 +258,7 @@ impl<S: Storage> Engine<S> {
         requires none { self.old.in_flight ≡ None }
         requires ready { (s : State) × Turns (S.holds (D.view disks.old) self.old.storage) (S.is_new (D.view disks.old) self.old.storage) line.now base scheduler s }
         ensures performs { IfOk result (λ e. (s : State) (r : Reading s.watch) → Turns (S.holds (D.view disks.old) self.old.storage) (S.is_new (D.view disks.old) self.old.storage) line.now base scheduler s
-            → Performs (S.holds (D.view disks.new) self.new.storage) (S.is_new (D.view disks.new) self.new.storage) self.new.stage self.new.in_flight (turned_next s r base) e (turned_to base s)) }
+            → Performs (SeesIn (S.holds (D.view disks.new) self.new.storage) (S.is_new (D.view disks.new) self.new.storage) self.new.stage) self.new.in_flight (turned_next s r base) e (turned_to base s)) }
         ensures breaks { IfErr result (λ halt. (s : State) (r : Reading s.watch) → Turns (S.holds (D.view disks.old) self.old.storage) (S.is_new (D.view disks.old) self.old.storage) line.now base scheduler s
             → BreaksOff (S.leaves (D.view disks.new) self.new.storage) (S.fills (D.view disks.new) self.new.storage) halt self.new.stage self.new.in_flight (turned_next s r base) (turned_to base s).units) }
         ensures single { self.new.single ≡ self.old.single }

@@ -47,7 +47,7 @@ pub returns-in-Err-clause-breaks : goal.returns-in-Err-clause-breaks
 returns-in-Err-clause-breaks g c = λ s h.
     let x = c.args.scheduler in
     let a = c.args.asking in
-    rw (c.break_off.ensures.halt, c.break_off.ensures.storage)
+    rw c.break_off.ensures.halt
     (act-breaks _ _ x a s h _ _ _ _ c.in-Err.halt c.into_books.result c.into_books.ensures
     (c.in-Err.ensures.undone s.units (act-unit _ _ x a s h) (act-before _ _ x a s h c.books.result.now c.books.ensures) (act-asked _ _ x a s h)) c.break_off.ensures.broken)
 

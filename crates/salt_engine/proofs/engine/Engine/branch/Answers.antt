@@ -56,7 +56,7 @@ returns-in_Err-made-clause-breaks g c = λ s h.
     let u = c.args.unit in
     let b = c.args.base in
     let cause = c.args.cause in
-    rw (c.break_off.ensures.halt, c.break_off.ensures.storage)
+    rw c.break_off.ensures.halt
     (branch-breaks _ _ x u b cause s h _ _ _ _ c.in_Err-made.halt c.into_books.result c.into_books.ensures
     (c.in_Err-made.ensures.undone s.units b cause (branch-before _ _ x u b cause s h c.books.result.now c.books.ensures) (branch-unit _ _ x u b cause s h)) c.break_off.ensures.broken)
 

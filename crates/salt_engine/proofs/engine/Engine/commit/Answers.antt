@@ -49,7 +49,7 @@ pub returns-in-Err-clause-breaks : goal.returns-in-Err-clause-breaks
 returns-in-Err-clause-breaks g c = λ s h.
     let x = c.args.scheduler in
     let u = c.args.unit in
-    rw (c.break_off.ensures.halt, c.break_off.ensures.storage)
+    rw c.break_off.ensures.halt
     (commit-breaks _ _ x u s h _ _ _ _ c.in-Err.halt c.into_books.result c.into_books.ensures
     (c.in-Err.ensures.undone s.units (commit-unit _ _ x u s h) (commit-before _ _ x u s h c.books.result.now c.books.ensures) (commit-named _ _ x u s h)) c.break_off.ensures.broken)
 

@@ -66,7 +66,7 @@ returns-clause-breaks g c = λ s r h.
     let d = c.args.def.now in
     let is = c.requires.line in
     let m = program-may _ _ _ c.args.line.now c.args.scheduler s h d is c.definitions_may_be_kept.ensures.program c.stands.ensures.sound in
-    rw (c.break_off.ensures.halt, c.break_off.ensures.storage)
+    rw c.break_off.ensures.halt
     (defined-breaks _ _ _ c.args.line.now c.args.scheduler s h _ _ m r (program-meant _ _ _ c.args.line.now c.args.scheduler s h d is r) _ _ _ _ c.in-Err.halt c.into_books.result _ c.into_books.ensures
     (c.in-Err.ensures.leaves s.units.kept (OfProgram d) h.stored.holding (ap definition_in (c.as_slice.ensures ∙ c.in_ok-text.ensures) ∙ m.reads) m.may)
     (λ dev is. subst (λ (t : List ℕ). g.S.Storage.fills (g.D.Disks.view c.define.new.disks) c.define.new.self (OfDefinition t) dev) (c.as_slice.ensures ∙ c.in_ok-text.ensures) (c.in-Err.ensures.full dev (ap Err is)))

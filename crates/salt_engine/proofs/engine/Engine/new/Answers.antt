@@ -1,10 +1,19 @@
-use Rattle.salt_engine.proofs.Found.{takes-on}
 use Rattle.salt_engine.proofs.engine.Engine.new.Goals as goal
-use Rattle.std.proofs.Common.{refl}
+use Rattle.std.proofs.Common.{inl, refl, sym, ◌∙◌}
 
-pub returns-clause-is_new : goal.returns-clause-is_new
-returns-clause-is_new g c = λ k is sound. record {
-  taken = takes-on c.args.found k c.new-known.result c.new.result _ is sound c.requires (c.new-known.ensures k) (c.new.ensures k) refl;
-  line = refl;
-  none = refl;
-}
+pub returns-clause-serves : goal.returns-clause-serves
+returns-clause-serves g c = λ s r.
+    let known = c.new-known.ensures s.units.kept r.schema r.catalogue (c.new-conts.ensures ∙ sym r.conts) r.boot r.decisions r.lead_on in
+    let books = c.new.ensures s.units.kept s.units.phase s.units.line known in (
+      c.new-scheduler.result,
+      refl,
+      c.new-scheduler.ensures s
+          (record {
+            known = books.known;
+            units = books.units ∙ sym r.units;
+            unit_count = books.unit_count ∙ r.begun;
+            base_count = books.base_count ∙ sym r.bases;
+            to_go = books.to_go ∙ sym r.to_go;
+          })
+          r.units r.watch (inl r.to_go),
+    )

@@ -1,0 +1,13 @@
+use Rattle.salt_engine.proofs.Lying.{idle-lies}
+use Rattle.salt_engine.proofs.stepping.EngineStepping.stands.Goals as goal
+use Rattle.salt_engine.specs.Flights.{flight_of}
+use Rattle.std.proofs.Common.{ap}
+
+pub returns-clause-idle : goal.returns-clause-idle
+returns-clause-idle g c = λ p sound at. idle-lies _ _ _ _ _ _ _ p sound at.state at.idle c.stands.ensures.stays c.stands.ensures.sound
+
+pub returns-clause-flown : goal.returns-clause-flown
+returns-clause-flown g c = λ p sound at. ap flight_of at.state.none
+
+pub returns-clause-left : goal.returns-clause-left
+returns-clause-left g c = λ room p lies. lies.left

@@ -1,0 +1,134 @@
+//! The engine's moves at a line, at a turn of `go all` and at an event.
+
+ghost use Rattle.salt_disk.specs.Disks.{SameShape};
+ghost use Rattle.salt_engine.specs.Flights.{flight_of};
+ghost use Rattle.salt_engine.specs.Performing.{IsServed};
+ghost use Rattle.salt_engine.specs.Standing.{goes_in, waits_in};
+ghost use Rattle.salt_model.specs.Trace.{Start, Trace, Tree};
+ghost use Rattle.salt_steps.specs.Counting.{CountsMore};
+ghost use Rattle.salt_steps.specs.Serving.{BreaksOff, GoesOn, Serves};
+ghost use Rattle.salt_storage.specs.Answers.{disk_err};
+ghost use Rattle.salt_types.specs.Played.{HasKey};
+ghost use Rattle.salt_values.specs.Placement.{GivesPlaceOf, TakesEachKey};
+ghost use Rattle.std.specs.Prelude.{IfErr, None, OnOk, ◌≡◌};
+
+use crate::engine::Engine;
+use crate::lines::is_statement_line;
+use crate::stage::Stage;
+use salt_ast::Line;
+use salt_disk::Disks;
+use salt_model::{Event, Refusal, Story};
+use salt_sound::read_lines_are_spelled;
+use salt_steps::Stepping;
+use salt_storage::{Halt, Storage};
+use salt_values::{Id, Key, PlaceKind, Placement};
+use std::mem;
+
+impl<S: Storage + Drop> Stepping for Engine<S> {
+    ghost use Rattle.salt_engine.specs.Halves.{engine_left, engine_lies, engine_sees};
+
+    ghost sees = { λ d e next s. engine_sees (S.holds d) (S.is_new d) d.can_stop e next s };
+
+    ghost lies = { λ d e room p. engine_lies (S.holds d) (S.leaves d) d.can_stop e room p };
+
+    ghost left = { λ d e room p. engine_left (S.holds d) (S.leaves d) e room p };
+
+    ghost flight = { λ e. flight_of e.in_flight };
+
+    ghost asked = { λ e. S.asked e.storage };
+
+    ghost fills = { λ d e. S.fills d e.storage };
+
+    ghost waiting = { λ e. waits_in e.stage };
+
+    ghost turns = { λ e. goes_in e.stage };
+
+    ghost serves = { IsServed };
+
+    fn ask<D: Disks, F: Fn(PlaceKind, &Key, u32) -> u32>(
+        &mut self,
+        disks: &mut D,
+        place: &Placement<F>,
+        line: &Line,
+    ) -> Result<Option<Event>, Halt> {
+        read_lines_are_spelled();
+        self.storage.stands(disks);
+        let scheduler = mem::replace(&mut self.stage, Stage::Lost).going();
+        self.single = is_statement_line(line);
+        self.ask_line(disks, place, scheduler, line)
+    }
+
+    fn ask_rejected<D: Disks>(
+        &mut self,
+        disks: &mut D,
+        refusal: Refusal,
+    ) -> Result<Option<Event>, Halt> {
+        let scheduler = mem::replace(&mut self.stage, Stage::Lost).going();
+        self.single = false;
+        self.storage.stands(disks);
+        Ok(Some(self.reject_line(scheduler, refusal)?))
+    }
+
+    fn next_turn<D: Disks>(&self, _disks: &D) -> Option<Id> {
+        match &self.stage {
+            Stage::Going(scheduler) => scheduler.next_turn(),
+            _ => None,
+        }
+    }
+
+    fn turn<D: Disks, F: Fn(PlaceKind, &Key, u32) -> u32>(
+        &mut self,
+        disks: &mut D,
+        place: &Placement<F>,
+        line: &Line,
+        base: Id,
+    ) -> Result<Option<Event>, Halt> {
+        self.storage.stands(disks);
+        let scheduler = mem::replace(&mut self.stage, Stage::Lost).going();
+        self.turn_in_line(disks, place, scheduler, line, base)
+    }
+
+    fn say<D: Disks, F: Fn(PlaceKind, &Key, u32) -> u32>(
+        &mut self,
+        disks: &mut D,
+        place: &Placement<F>,
+        line: &Line,
+        event: Event,
+        story: &mut Story,
+    ) -> Result<Option<Event>, Halt> {
+        self.storage.stands(disks);
+        let scheduler = mem::replace(&mut self.stage, Stage::Lost).going();
+        story.push(event)?;
+        self.go_on_in_line(disks, place, scheduler, line)
+    }
+
+    fn stands<D: Disks>(&self, disks: &D) {
+        self.storage.stands(disks);
+    }
+}
+
+impl<S: Storage + Drop> Engine<S> {
+    /// Does a line: the trace of the engine and the story goes on by it and its whole segment. An error leaves a story that has gained
+    /// a front of this segment, and an engine that is to be given up.
+    pub fn step<D: Disks, F: Fn(PlaceKind, &Key, u32) -> u32>(
+        &mut self,
+        disks: &mut D,
+        place: &Placement<F>,
+        line: &Line,
+        story: &mut Story,
+    ) -> Result<(), Halt>
+        requires callable { TakesEachKey (F.pre place.now.place) }
+        requires answers { GivesPlaceOf (F.post place.now.place) }
+        requires served { IsServed line.now }
+        requires key { HasKey (Tree line.now) }
+        requires stands { (start : Start) × (trace : Trace) × Serves (⟦<Engine<S> as Stepping>⟧.sees (D.view disks.old)) start self.old story.old trace }
+        ensures segment { OnOk result (GoesOn (⟦<Engine<S> as Stepping>⟧.sees (D.view disks.old)) (⟦<Engine<S> as Stepping>⟧.sees (D.view disks.new)) self.old story.old (Tree line.now) self.new story.new) }
+        ensures broken_off { IfErr result (λ halt. BreaksOff (⟦<Engine<S> as Stepping>⟧.sees (D.view disks.old)) (⟦<Engine<S> as Stepping>⟧.lies (D.view disks.new) self.new 0)
+            (⟦<Engine<S> as Stepping>⟧.left (D.view disks.new) self.new 0) (⟦<Engine<S> as Stepping>⟧.fills (D.view disks.new) self.new) (flight_of self.new.in_flight) halt self.old story.old (Tree line.now) story.new) }
+        ensures asked { S.asked self.new.storage ≡ S.asked self.old.storage }
+        ensures shape { SameShape (D.view disks.old) (D.view disks.new) }
+        ensures counts { CountsMore (D.view disks.old) (D.view disks.new) (disk_err result) None story.old story.new }
+    {
+        salt_steps::step(self, disks, place, line, story)
+    }
+}
