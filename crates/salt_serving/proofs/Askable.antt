@@ -1,4 +1,4 @@
--- A line that a text asks may be asked of an engine.
+-- A line that a text asks may be asked of a database.
 use Rattle.salt_ast.specs.Limits.{above, height_passed, passed_in_list}
 use Rattle.salt_ast.specs.ProgramLimits.{line_exprs, line_limit, line_passed, stop_passed}
 use Rattle.salt_ast.specs.declared.limit.LimitName.TheVariants as limit

@@ -36,7 +36,8 @@ use Rattle.salt_storage.specs.declared.halt.Halt.{Halt}
 use Rattle.salt_storage.specs.declared.open.OpenErr.TheVariants.{Halted, NotSalt, NumbersSpent, OtherShape}
 use Rattle.salt_storage.specs.declared.open.OpenErr.{OpenErr}
 use Rattle.std.proofs.Common.{ap, append-nil, arith, inl, inr, subst, sym, ◌∙◌}
-use Rattle.std.specs.Prelude.{Bool, IsTrue, List, None, Option, Some, [], false, not, refl, true, ℕ, ◌||◌, ◌≡◌, ◌⊎◌}
+use Rattle.std.specs.Prelude.{Bool, Err, IsTrue, List, None, Ok, Option, Result, Some, [], false, not, refl, true, ℕ, ◌||◌, ◌≡◌, ◌⊎◌}
+use Rattle.std.specs.Result.{IfErr, OnOk}
 
 -- THE PLACE
 
@@ -380,3 +381,14 @@ answers-opening (Halted halt.Stopped) some = absurd (some refl)
 answers-opening (Halted halt.DiskFault) some = refl
 answers-opening (Halted (halt.DeviceFull dev)) some = refl
 answers-opening (Halted halt.Memory) some = refl
+
+-- either way a stop leaves of the devices what is kept there
+
+pub left-there : {E T : Type 0} (sees : E → Option Event → State → Type 0) (lies left : ℕ → Point → Type 0) (fills : Written → ℕ → Type 0) (flies : Option Flight) (e : E)
+    (idle : (p : Point) → IsSoundPoint p → IsIdleAt sees e p → lies 0 p) (flown : (p : Point) → IsSoundPoint p → IsIdleAt sees e p → flies ≡ None)
+    (leaves : (room : ℕ) (p : Point) → lies room p → left room p) (start : Start) (told : List Event) (done : Result T Stop) → OnOk done ((trace : Trace) × Serves sees start e told trace) →
+    IfErr done (λ s. (trace : Trace) × LeavesAt lies left fills flies (status_of s) start trace told) → (room : ℕ) × ((p : Point) × left room p)
+left-there sees lies left fills flies e idle flown leaves start told (Ok x) ok err =
+    let ends = (unwritten-leaves sees lies left fills flies e idle flown leaves start ok.0 told ok.1).ends in
+    (ends.room, (ends.point, ends.stands))
+left-there sees lies left fills flies e idle flown leaves start told (Err s) ok err = let ends = err.1.ends in (ends.room, (ends.point, ends.stands))

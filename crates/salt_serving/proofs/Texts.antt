@@ -1,4 +1,4 @@
--- The text of what a line has added, under the tables that the engine knows behind it.
+-- The text of what a line has added, under the tables that the database knows behind it.
 use Rattle.salt_ast.specs.declared.trees.TableDef.{TableDef}
 use Rattle.salt_io.specs.Streams.{Gains, GainsShort}
 use Rattle.salt_keeps.specs.Points.{Point}
@@ -146,7 +146,7 @@ counts-written done (Err s) before held text P weak p w = by w.0
 module _ {E : Type 0} (sees : E → Option Event → State → Type 0) (lies left : ℕ → Point → Type 0) (fills : Written → ℕ → Type 0) (flies : Option Flight) (new : E)
     (schema : List TableDef) (serving : (p : Point) → IsSoundPoint p → sees new None p.state → schema ≡ schema_of p.state.units.kept)
     (lying : (room : ℕ) (p : Point) → IsSoundPoint p → lies room p → schema ≡ schema_of p.state.units.kept) where
-  -- the tables that the engine knows are those defined at the end of its trace
+  -- the tables that the database knows are those defined at the end of its trace
   pub tables-serving : (start : Start) (trace : Trace) (told : List Event) → Serves sees start new told trace → schema ≡ schema_of (kept trace)
   tables-serving start trace told s = serving s.point (serves-at sees sees start new told trace s) s.stands.state ∙ sym (ap schema_of s.keeps.state.units.kept)
 

@@ -1,4 +1,4 @@
-//! A run: its opening, and its lines, done by an engine and told to a sink.
+//! A run: its opening, and its lines, done by a database and told to a sink.
 #![tactic(auto)]
 
 mod lines;

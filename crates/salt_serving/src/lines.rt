@@ -24,15 +24,15 @@ use salt_io::Sink;
 use salt_model::{Refusal, Story, Why};
 use salt_script::{ReadErr, read_line};
 use salt_sound::read_lines_are_spelled;
-use salt_steps::{Stepping, events_behind};
+use salt_steps::{Openable, events_behind};
 use salt_storage::Halt;
 use salt_values::{Key, PlaceKind, Placement};
 use std::alloc::Global;
 
 /// Asks a line: of this text, or, where there is none, one that is too long.
-fn ask_line<E: Stepping, D: Disks, F: Fn(PlaceKind, &Key, u32) -> u32>(
+fn ask_line<E: Openable, D: Disks, F: Fn(PlaceKind, &Key, u32) -> u32>(
     alloc: Global,
-    engine: &mut E,
+    database: &mut E,
     disks: &mut D,
     place: &Placement<F>,
     text: Option<&[u8]>,
@@ -41,34 +41,36 @@ fn ask_line<E: Stepping, D: Disks, F: Fn(PlaceKind, &Key, u32) -> u32>(
     requires callable { TakesEachKey (F.pre place.now.place) }
     requires answers { GivesPlaceOf (F.post place.now.place) }
     requires serves { (line : Line) → IsAskable line → E.serves line }
-    requires stands { (start : Start) × (trace : Trace) × Serves (E.sees (D.view disks.old)) start engine.old story.old trace }
-    ensures ok { OnOk result ((start : Start) (trace : Trace) → Serves (E.sees (D.view disks.old)) start engine.old story.old trace →
-        Continues (E.sees (D.view disks.new)) start trace (option_copied text.entry) story.old engine.new story.new) }
-    ensures err { IfErr result (λ halt. (start : Start) (trace : Trace) → Serves (E.sees (D.view disks.old)) start engine.old story.old trace →
-        BreaksIn (E.lies (D.view disks.new) engine.new 0) (E.left (D.view disks.new) engine.new 0) (E.fills (D.view disks.new) engine.new) (E.flight engine.new) halt start
+    requires stands { (start : Start) × (trace : Trace) × Serves (E.sees (D.view disks.old)) start database.old story.old trace }
+    ensures ok { OnOk result ((start : Start) (trace : Trace) → Serves (E.sees (D.view disks.old)) start database.old story.old trace →
+        Continues (E.sees (D.view disks.new)) start trace (option_copied text.entry) story.old database.new story.new) }
+    ensures err { IfErr result (λ halt. (start : Start) (trace : Trace) → Serves (E.sees (D.view disks.old)) start database.old story.old trace →
+        BreaksIn (E.lies (D.view disks.new) database.new 0) (E.left (D.view disks.new) database.new 0) (E.fills (D.view disks.new) database.new) (E.flight database.new) halt start
         trace (option_copied text.entry) story.old story.new) }
-    ensures asked { E.asked engine.new ≡ E.asked engine.old }
+    ensures asked { E.asked database.new ≡ E.asked database.old }
     ensures shape { SameShape (D.view disks.old) (D.view disks.new) }
     ensures counts { CountsMore (D.view disks.old) (D.view disks.new) (disk_err result) None story.old story.new }
 {
     // For the proof alone: what a line of the grammar asks is spelled.
     read_lines_are_spelled();
     let Some(text) = text else {
-        return salt_steps::refuse(engine, disks, place, Refusal::Long, story);
+        return salt_steps::refuse(database, disks, place, Refusal::Long, story);
     };
     match read_line(alloc, text) {
-        Ok(line) => salt_steps::step(engine, disks, place, &line, story),
-        Err(ReadErr::Refused(refusal)) => salt_steps::refuse(engine, disks, place, refusal, story),
+        Ok(line) => salt_steps::step(database, disks, place, &line, story),
+        Err(ReadErr::Refused(refusal)) => salt_steps::refuse(
+            database, disks, place, refusal, story,
+        ),
         Err(ReadErr::Memory) => {
-            engine.stands(disks);
+            database.stands(disks);
             Err(Halt::Memory)
         }
     }
 }
 
 /// Opens a run anew that was broken off in a line.
-fn recover<E: Stepping, D: Disks, F: Fn(PlaceKind, &Key, u32) -> u32>(
-    engine: &mut E,
+fn recover<E: Openable, D: Disks, F: Fn(PlaceKind, &Key, u32) -> u32>(
+    database: &mut E,
     disks: &mut D,
     place: &Placement<F>,
     why: Why,
@@ -76,25 +78,25 @@ fn recover<E: Stepping, D: Disks, F: Fn(PlaceKind, &Key, u32) -> u32>(
 ) -> Result<(), Stop>
     requires callable { TakesEachKey (F.pre place.now.place) }
     requires answers { GivesPlaceOf (F.post place.now.place) }
-    requires halted { (start : Start) × (trace : Trace) × Halts (E.lies (D.view disks.old) engine.old 0) (E.left (D.view disks.old) engine.old 0) (E.fills (D.view disks.old) engine.old) (E.flight engine.old) (halt_of why) start story.old trace }
-    ensures ok { OnOk result ((start : Start) (trace : Trace) → Halts (E.lies (D.view disks.old) engine.old 0) (E.left (D.view disks.old) engine.old 0) (E.fills (D.view disks.old) engine.old) (E.flight engine.old) (halt_of why) start story.old trace →
-        Reopens (E.sees (D.view disks.new)) start trace story.old engine.new story.new) }
-    ensures err { IfErr result (λ stop. (start : Start) (trace : Trace) → Halts (E.lies (D.view disks.old) engine.old 0) (E.left (D.view disks.old) engine.old 0) (E.fills (D.view disks.old) engine.old) (E.flight engine.old) (halt_of why) start story.old trace →
-        EndsBehind (E.lies (D.view disks.new) engine.new) (E.left (D.view disks.new) engine.new) (E.fills (D.view disks.new) engine.new) (E.flight engine.new) (halt_of why) stop start trace story.old story.new) }
+    requires halted { (start : Start) × (trace : Trace) × Halts (E.lies (D.view disks.old) database.old 0) (E.left (D.view disks.old) database.old 0) (E.fills (D.view disks.old) database.old) (E.flight database.old) (halt_of why) start story.old trace }
+    ensures ok { OnOk result ((start : Start) (trace : Trace) → Halts (E.lies (D.view disks.old) database.old 0) (E.left (D.view disks.old) database.old 0) (E.fills (D.view disks.old) database.old) (E.flight database.old) (halt_of why) start story.old trace →
+        Reopens (E.sees (D.view disks.new)) start trace story.old database.new story.new) }
+    ensures err { IfErr result (λ stop. (start : Start) (trace : Trace) → Halts (E.lies (D.view disks.old) database.old 0) (E.left (D.view disks.old) database.old 0) (E.fills (D.view disks.old) database.old) (E.flight database.old) (halt_of why) start story.old trace →
+        EndsBehind (E.lies (D.view disks.new) database.new) (E.left (D.view disks.new) database.new) (E.fills (D.view disks.new) database.new) (E.flight database.new) (halt_of why) stop start trace story.old story.new) }
     ensures later { IfErr result IsLaterStop }
-    ensures asked { E.asked engine.new ≡ E.asked engine.old }
+    ensures asked { E.asked database.new ≡ E.asked database.old }
     ensures shape { SameShape (D.view disks.old) (D.view disks.new) }
     ensures counts { CountsFall why (D.view disks.old) (D.view disks.new) (answer_of (outcome result)) story.old story.new }
 {
-    match salt_steps::recover(engine, disks, place, why, story) {
+    match salt_steps::recover(database, disks, place, why, story) {
         Ok(()) => Ok(()),
         Err(e) => Err(stop_opening(e)),
     }
 }
 
 /// What follows where a run is broken off in a line: it is opened anew, or it ends.
-pub fn resume<E: Stepping, D: Disks, F: Fn(PlaceKind, &Key, u32) -> u32>(
-    engine: &mut E,
+pub fn resume<E: Openable, D: Disks, F: Fn(PlaceKind, &Key, u32) -> u32>(
+    database: &mut E,
     disks: &mut D,
     place: &Placement<F>,
     halt: Halt,
@@ -102,29 +104,29 @@ pub fn resume<E: Stepping, D: Disks, F: Fn(PlaceKind, &Key, u32) -> u32>(
 ) -> Result<(), Stop>
     requires callable { TakesEachKey (F.pre place.now.place) }
     requires answers { GivesPlaceOf (F.post place.now.place) }
-    requires halted { (start : Start) × (trace : Trace) × Halts (E.lies (D.view disks.old) engine.old 0) (E.left (D.view disks.old) engine.old 0) (E.fills (D.view disks.old) engine.old) (E.flight engine.old) halt start story.old trace }
-    ensures ok { OnOk result ((start : Start) (trace : Trace) → Halts (E.lies (D.view disks.old) engine.old 0) (E.left (D.view disks.old) engine.old 0) (E.fills (D.view disks.old) engine.old) (E.flight engine.old) halt start story.old trace →
-        Reopens (E.sees (D.view disks.new)) start trace story.old engine.new story.new) }
-    ensures err { IfErr result (λ stop. (start : Start) (trace : Trace) → Halts (E.lies (D.view disks.old) engine.old 0) (E.left (D.view disks.old) engine.old 0) (E.fills (D.view disks.old) engine.old) (E.flight engine.old) halt start story.old trace →
-        EndsBehind (E.lies (D.view disks.new) engine.new) (E.left (D.view disks.new) engine.new) (E.fills (D.view disks.new) engine.new) (E.flight engine.new) halt stop start trace story.old story.new) }
+    requires halted { (start : Start) × (trace : Trace) × Halts (E.lies (D.view disks.old) database.old 0) (E.left (D.view disks.old) database.old 0) (E.fills (D.view disks.old) database.old) (E.flight database.old) halt start story.old trace }
+    ensures ok { OnOk result ((start : Start) (trace : Trace) → Halts (E.lies (D.view disks.old) database.old 0) (E.left (D.view disks.old) database.old 0) (E.fills (D.view disks.old) database.old) (E.flight database.old) halt start story.old trace →
+        Reopens (E.sees (D.view disks.new)) start trace story.old database.new story.new) }
+    ensures err { IfErr result (λ stop. (start : Start) (trace : Trace) → Halts (E.lies (D.view disks.old) database.old 0) (E.left (D.view disks.old) database.old 0) (E.fills (D.view disks.old) database.old) (E.flight database.old) halt start story.old trace →
+        EndsBehind (E.lies (D.view disks.new) database.new) (E.left (D.view disks.new) database.new) (E.fills (D.view disks.new) database.new) (E.flight database.new) halt stop start trace story.old story.new) }
     ensures later { IfErr result IsLaterStop }
     ensures memory { halt ≡ Memory → OnOk result ⊥ }
-    ensures asked { E.asked engine.new ≡ E.asked engine.old }
+    ensures asked { E.asked database.new ≡ E.asked database.old }
     ensures shape { SameShape (D.view disks.old) (D.view disks.new) }
     ensures counts { CountsResumed halt (D.view disks.old) (D.view disks.new) (outcome result) story.old story.new }
 {
     match halt {
-        Halt::Stopped => recover(engine, disks, place, Why::Stopped, story),
-        Halt::DiskFault => recover(engine, disks, place, Why::Fault, story),
+        Halt::Stopped => recover(database, disks, place, Why::Stopped, story),
+        Halt::DiskFault => recover(database, disks, place, Why::Fault, story),
         Halt::DeviceFull(dev) => Err(Stop::DeviceFull(dev)),
         Halt::Memory => Err(Stop::Memory),
     }
 }
 
 /// Does a line, and opens the run anew where it is broken off by a stop or a fault.
-fn do_line<E: Stepping, D: Disks, F: Fn(PlaceKind, &Key, u32) -> u32>(
+fn do_line<E: Openable, D: Disks, F: Fn(PlaceKind, &Key, u32) -> u32>(
     alloc: Global,
-    engine: &mut E,
+    database: &mut E,
     disks: &mut D,
     place: &Placement<F>,
     text: Option<&[u8]>,
@@ -133,27 +135,27 @@ fn do_line<E: Stepping, D: Disks, F: Fn(PlaceKind, &Key, u32) -> u32>(
     requires callable { TakesEachKey (F.pre place.now.place) }
     requires answers { GivesPlaceOf (F.post place.now.place) }
     requires serves { (line : Line) → IsAskable line → E.serves line }
-    requires stands { (start : Start) × (trace : Trace) × Serves (E.sees (D.view disks.old)) start engine.old story.old trace }
-    ensures ok { OnOk result ((start : Start) (trace : Trace) → Serves (E.sees (D.view disks.old)) start engine.old story.old trace →
-        Continues (E.sees (D.view disks.new)) start trace (option_copied text.entry) story.old engine.new story.new) }
-    ensures err { IfErr result (λ stop. (start : Start) (trace : Trace) → Serves (E.sees (D.view disks.old)) start engine.old story.old trace →
-        EndsIn (E.lies (D.view disks.new) engine.new) (E.left (D.view disks.new) engine.new) (E.fills (D.view disks.new) engine.new) (E.flight engine.new) stop start trace
+    requires stands { (start : Start) × (trace : Trace) × Serves (E.sees (D.view disks.old)) start database.old story.old trace }
+    ensures ok { OnOk result ((start : Start) (trace : Trace) → Serves (E.sees (D.view disks.old)) start database.old story.old trace →
+        Continues (E.sees (D.view disks.new)) start trace (option_copied text.entry) story.old database.new story.new) }
+    ensures err { IfErr result (λ stop. (start : Start) (trace : Trace) → Serves (E.sees (D.view disks.old)) start database.old story.old trace →
+        EndsIn (E.lies (D.view disks.new) database.new) (E.left (D.view disks.new) database.new) (E.fills (D.view disks.new) database.new) (E.flight database.new) stop start trace
         (option_copied text.entry) story.old story.new) }
     ensures later { IfErr result IsLaterStop }
-    ensures asked { E.asked engine.new ≡ E.asked engine.old }
+    ensures asked { E.asked database.new ≡ E.asked database.old }
     ensures shape { SameShape (D.view disks.old) (D.view disks.new) }
     ensures counts { CountsAdded (D.view disks.old) (D.view disks.new) (outcome result) story.old story.new }
 {
-    match ask_line(alloc, engine, disks, place, text, story) {
+    match ask_line(alloc, database, disks, place, text, story) {
         Ok(()) => Ok(()),
-        Err(halt) => resume(engine, disks, place, halt, story),
+        Err(halt) => resume(database, disks, place, halt, story),
     }
 }
 
 /// Does a line, and writes the events that it adds; where memory ran out, none of them.
-pub fn tell_line<E: Stepping, D: Disks, K: Sink, F: Fn(PlaceKind, &Key, u32) -> u32>(
+pub fn tell_line<E: Openable, D: Disks, K: Sink, F: Fn(PlaceKind, &Key, u32) -> u32>(
     alloc: Global,
-    engine: &mut E,
+    database: &mut E,
     disks: &mut D,
     place: &Placement<F>,
     text: Option<&[u8]>,
@@ -163,22 +165,27 @@ pub fn tell_line<E: Stepping, D: Disks, K: Sink, F: Fn(PlaceKind, &Key, u32) -> 
     requires callable { TakesEachKey (F.pre place.now.place) }
     requires answers { GivesPlaceOf (F.post place.now.place) }
     requires serves { (line : Line) → IsAskable line → E.serves line }
-    requires stands { (start : Start) × (trace : Trace) × Serves (E.sees (D.view disks.old)) start engine.old story.old trace }
-    ensures ok { OnOk result ((start : Start) (trace : Trace) → Serves (E.sees (D.view disks.old)) start engine.old story.old trace →
-        IsToldLine (E.sees (D.view disks.new)) start trace (option_copied text.entry) story.old engine.new story.new (K.held sink.old) (K.held sink.new)) }
-    ensures err { IfErr result (λ stop. (start : Start) (trace : Trace) → Serves (E.sees (D.view disks.old)) start engine.old story.old trace →
-        EndsTelling (E.lies (D.view disks.new) engine.new) (E.left (D.view disks.new) engine.new) (E.fills (D.view disks.new) engine.new) (E.flight engine.new) stop start trace
+    requires stands { (start : Start) × (trace : Trace) × Serves (E.sees (D.view disks.old)) start database.old story.old trace }
+    ensures ok { OnOk result ((start : Start) (trace : Trace) → Serves (E.sees (D.view disks.old)) start database.old story.old trace →
+        IsToldLine (E.sees (D.view disks.new)) start trace (option_copied text.entry) story.old database.new story.new (K.held sink.old) (K.held sink.new)) }
+    ensures err { IfErr result (λ stop. (start : Start) (trace : Trace) → Serves (E.sees (D.view disks.old)) start database.old story.old trace →
+        EndsTelling (E.lies (D.view disks.new) database.new) (E.left (D.view disks.new) database.new) (E.fills (D.view disks.new) database.new) (E.flight database.new) stop start trace
         (option_copied text.entry) story.old story.new (K.held sink.old) (K.held sink.new)) }
     ensures of_line { IfErr result IsOfLine }
     ensures fault { result ≡ Err Stop.WriteFault → Rose (K.faults sink.old) (K.faults sink.new) }
     ensures no_fault { result ≢ Err Stop.WriteFault → K.faults sink.new ≡ K.faults sink.old }
     ensures later { K.faults sink.old ≤ K.faults sink.new }
-    ensures asked { E.asked engine.new ≡ E.asked engine.old }
+    ensures asked { E.asked database.new ≡ E.asked database.old }
     ensures shape { SameShape (D.view disks.old) (D.view disks.new) }
     ensures counts { CountsAdded (D.view disks.old) (D.view disks.new) (outcome result) story.old story.new }
 {
     let told = story.len();
-    let done = do_line(alloc, engine, disks, place, text, story);
-    engine.stands(disks);
-    write_done(sink, events_behind(story, told), engine.schema(disks), done)
+    let done = do_line(alloc, database, disks, place, text, story);
+    database.stands(disks);
+    write_done(
+        sink,
+        events_behind(story, told),
+        database.schema(disks),
+        done,
+    )
 }

@@ -20,7 +20,7 @@ use salt_canonical::definitions_are_read;
 use salt_disk::Disks;
 use salt_load::{line_count, load_line};
 use salt_model::Story;
-use salt_steps::Stepping;
+use salt_steps::Openable;
 use salt_values::{Key, PlaceKind, Placement};
 use std::alloc::Global;
 
@@ -32,8 +32,8 @@ pub struct Loaded {
 }
 
 /// Does a line of the workload, and opens the run anew where it is broken off by a stop or a fault.
-fn load_one<E: Stepping, D: Disks, F: Fn(PlaceKind, &Key, u32) -> u32>(
-    engine: &mut E,
+fn load_one<E: Openable, D: Disks, F: Fn(PlaceKind, &Key, u32) -> u32>(
+    database: &mut E,
     disks: &mut D,
     place: &Placement<F>,
     calls: u64,
@@ -46,29 +46,29 @@ fn load_one<E: Stepping, D: Disks, F: Fn(PlaceKind, &Key, u32) -> u32>(
     requires within { i < length (load_lines calls) }
     requires is { Some line.now ≡ slice_get (load_lines calls) i }
     requires serves { (line : Line) → IsAskable line → E.serves line }
-    requires stands { (start : Start) × IsLoading (E.sees (D.view disks.old)) start calls i engine.old story.old }
-    ensures ok { OnOk result ((start : Start) → IsLoading (E.sees (D.view disks.old)) start calls i engine.old story.old →
-        IsLoading (E.sees (D.view disks.new)) start calls (i + 1) engine.new story.new) }
-    ensures err { IfErr result (λ stop. (start : Start) → IsLoading (E.sees (D.view disks.old)) start calls i engine.old story.old →
-        EndsLoading (E.lies (D.view disks.new) engine.new) (E.left (D.view disks.new) engine.new) (E.fills (D.view disks.new) engine.new) (E.flight engine.new) start
+    requires stands { (start : Start) × IsLoading (E.sees (D.view disks.old)) start calls i database.old story.old }
+    ensures ok { OnOk result ((start : Start) → IsLoading (E.sees (D.view disks.old)) start calls i database.old story.old →
+        IsLoading (E.sees (D.view disks.new)) start calls (i + 1) database.new story.new) }
+    ensures err { IfErr result (λ stop. (start : Start) → IsLoading (E.sees (D.view disks.old)) start calls i database.old story.old →
+        EndsLoading (E.lies (D.view disks.new) database.new) (E.left (D.view disks.new) database.new) (E.fills (D.view disks.new) database.new) (E.flight database.new) start
         (status_of stop) calls (i + 1) story.new) }
     ensures later { IfErr result IsLaterStop }
-    ensures asked { E.asked engine.new ≡ E.asked engine.old }
+    ensures asked { E.asked database.new ≡ E.asked database.old }
     ensures shape { SameShape (D.view disks.old) (D.view disks.new) }
     ensures counts { CountsAdded (D.view disks.old) (D.view disks.new) (outcome result) story.old story.new }
 {
     // For the proof alone: texts spell what the workload defines.
     definitions_are_read();
-    match salt_steps::step(engine, disks, place, line, story) {
+    match salt_steps::step(database, disks, place, line, story) {
         Ok(()) => Ok(()),
-        Err(halt) => resume(engine, disks, place, halt, story),
+        Err(halt) => resume(database, disks, place, halt, story),
     }
 }
 
 /// Does line i, from 0, of the workload with so many calls.
-fn serve_load_line<E: Stepping, D: Disks, F: Fn(PlaceKind, &Key, u32) -> u32>(
+fn serve_load_line<E: Openable, D: Disks, F: Fn(PlaceKind, &Key, u32) -> u32>(
     alloc: Global,
-    engine: &mut E,
+    database: &mut E,
     disks: &mut D,
     place: &Placement<F>,
     calls: u64,
@@ -81,28 +81,28 @@ fn serve_load_line<E: Stepping, D: Disks, F: Fn(PlaceKind, &Key, u32) -> u32>(
     requires most { calls ≤ CALLS_MOST }
     requires within { i < length (load_lines calls) }
     requires serves { (line : Line) → IsAskable line → E.serves line }
-    requires stands { (start : Start) × IsLoading (E.sees (D.view disks.old)) start calls i engine.old story.old }
-    ensures ok { OnOk result ((start : Start) → IsLoading (E.sees (D.view disks.old)) start calls i engine.old story.old →
-        IsLoading (E.sees (D.view disks.new)) start calls (i + 1) engine.new story.new) }
-    ensures err { IfErr result (λ stop. (start : Start) → IsLoading (E.sees (D.view disks.old)) start calls i engine.old story.old →
-        EndsLoading (E.lies (D.view disks.new) engine.new) (E.left (D.view disks.new) engine.new) (E.fills (D.view disks.new) engine.new) (E.flight engine.new) start
+    requires stands { (start : Start) × IsLoading (E.sees (D.view disks.old)) start calls i database.old story.old }
+    ensures ok { OnOk result ((start : Start) → IsLoading (E.sees (D.view disks.old)) start calls i database.old story.old →
+        IsLoading (E.sees (D.view disks.new)) start calls (i + 1) database.new story.new) }
+    ensures err { IfErr result (λ stop. (start : Start) → IsLoading (E.sees (D.view disks.old)) start calls i database.old story.old →
+        EndsLoading (E.lies (D.view disks.new) database.new) (E.left (D.view disks.new) database.new) (E.fills (D.view disks.new) database.new) (E.flight database.new) start
         (status_of stop) calls (i + 1) story.new) }
     ensures later { IfErr result IsLaterStop }
-    ensures asked { E.asked engine.new ≡ E.asked engine.old }
+    ensures asked { E.asked database.new ≡ E.asked database.old }
     ensures shape { SameShape (D.view disks.old) (D.view disks.new) }
     ensures counts { CountsAdded (D.view disks.old) (D.view disks.new) (outcome result) story.old story.new }
 {
-    engine.stands(disks);
+    database.stands(disks);
     match load_line(alloc, calls, i)? {
-        Some(line) => load_one(engine, disks, place, calls, i, &line, story),
+        Some(line) => load_one(database, disks, place, calls, i, &line, story),
         None => Ok(()),
     }
 }
 
 /// Opens a run that is down, and does the lines of the workload with so many calls.
-pub fn load<E: Stepping, D: Disks, F: Fn(PlaceKind, &Key, u32) -> u32>(
+pub fn load<E: Openable, D: Disks, F: Fn(PlaceKind, &Key, u32) -> u32>(
     alloc: Global,
-    engine: &mut E,
+    database: &mut E,
     disks: &mut D,
     place: &Placement<F>,
     calls: u64,
@@ -113,31 +113,31 @@ pub fn load<E: Stepping, D: Disks, F: Fn(PlaceKind, &Key, u32) -> u32>(
     requires least { 1 ≤ calls }
     requires most { calls ≤ CALLS_MOST }
     requires serves { (line : Line) → IsAskable line → E.serves line }
-    requires settled { E.settled (D.view disks.old) engine.old }
-    requires begins { (start : Start) × (trace : Trace) × IsToBegin (E.lies (D.view disks.old) engine.old) (E.flight engine.old) start story.old trace }
-    ensures ended { (start : Start) (trace : Trace) → IsToBegin (E.lies (D.view disks.old) engine.old) (E.flight engine.old) start story.old trace →
-        EndsLoading (E.lies (D.view disks.new) engine.new) (E.left (D.view disks.new) engine.new) (E.fills (D.view disks.new) engine.new) (E.flight engine.new) start
+    requires settled { E.settled (D.view disks.old) database.old }
+    requires begins { (start : Start) × (trace : Trace) × IsToBegin (E.lies (D.view disks.old) database.old) (E.flight database.old) start story.old trace }
+    ensures ended { (start : Start) (trace : Trace) → IsToBegin (E.lies (D.view disks.old) database.old) (E.flight database.old) start story.old trace →
+        EndsLoading (E.lies (D.view disks.new) database.new) (E.left (D.view disks.new) database.new) (E.fills (D.view disks.new) database.new) (E.flight database.new) start
         (outcome result.done) calls result.lines story.new }
     ensures later { IfErr result.done IsLaterStop }
-    ensures asked { E.asked engine.new ≡ E.asked engine.old }
+    ensures asked { E.asked database.new ≡ E.asked database.old }
     ensures shape { SameShape (D.view disks.old) (D.view disks.new) }
     ensures counts { CountsAdded (D.view disks.old) (D.view disks.new) (outcome result.done) story.old story.new }
 {
-    if let Err(stop) = start(engine, disks, place, story) {
+    if let Err(stop) = start(database, disks, place, story) {
         return Loaded {
             lines: 0,
             done: Err(stop),
         };
     }
     for i in 0..line_count(calls) {
-        if let Err(stop) = serve_load_line(alloc, engine, disks, place, calls, i, story) {
+        if let Err(stop) = serve_load_line(alloc, database, disks, place, calls, i, story) {
             return Loaded {
                 lines: i + 1,
                 done: Err(stop),
             };
         }
     }
-    engine.stands(disks);
+    database.stands(disks);
     Loaded {
         lines: line_count(calls),
         done: Ok(()),

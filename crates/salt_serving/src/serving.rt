@@ -20,7 +20,7 @@ use crate::telling::write_done;
 use salt_disk::Disks;
 use salt_io::{Lines, Next, Sink, Source};
 use salt_model::Story;
-use salt_steps::Stepping;
+use salt_steps::Openable;
 use salt_values::limits::SCRIPT_MOST;
 use salt_values::{Key, PlaceKind, Placement};
 use std::alloc::Global;
@@ -45,9 +45,9 @@ struct Serving {
 
 impl Serving {
     /// Does the script's next line. False at the script's end.
-    fn serve_line<E: Stepping, D: Disks, S: Source, K: Sink, F: Fn(PlaceKind, &Key, u32) -> u32>(
+    fn serve_line<E: Openable, D: Disks, S: Source, K: Sink, F: Fn(PlaceKind, &Key, u32) -> u32>(
         &mut self,
-        engine: &mut E,
+        database: &mut E,
         disks: &mut D,
         place: &Placement<F>,
         source: &mut S,
@@ -58,15 +58,15 @@ impl Serving {
         requires answers { GivesPlaceOf (F.post place.now.place) }
         requires serves { (line : Line) → IsAskable line → E.serves line }
         requires stands { (start : Start) × (script : Option (List ℕ)) × (before : Option (List ℕ)) ×
-            IsServing (E.sees (D.view disks.old)) start script before engine.old self.old.lines (S.left source.old) story.old (K.held sink.old) }
+            IsServing (E.sees (D.view disks.old)) start script before database.old self.old.lines (S.left source.old) story.old (K.held sink.old) }
         ensures goes { IfOk result (λ more. (start : Start) (script before : Option (List ℕ)) →
-            IsServing (E.sees (D.view disks.old)) start script before engine.old self.old.lines (S.left source.old) story.old (K.held sink.old) →
-            IsAfterLine more (E.sees (D.view disks.new)) (E.lies (D.view disks.new) engine.new) (E.left (D.view disks.new) engine.new) (E.fills (D.view disks.new) engine.new)
-            (E.flight engine.new) start script before engine.new self.new.lines (S.left source.new) story.new (K.held sink.new)) }
+            IsServing (E.sees (D.view disks.old)) start script before database.old self.old.lines (S.left source.old) story.old (K.held sink.old) →
+            IsAfterLine more (E.sees (D.view disks.new)) (E.lies (D.view disks.new) database.new) (E.left (D.view disks.new) database.new) (E.fills (D.view disks.new) database.new)
+            (E.flight database.new) start script before database.new self.new.lines (S.left source.new) story.new (K.held sink.new)) }
         ensures stops { IfErr result (λ stop. (start : Start) (script before : Option (List ℕ)) →
-            IsServing (E.sees (D.view disks.old)) start script before engine.old self.old.lines (S.left source.old) story.old (K.held sink.old) →
-            EndsServing (E.lies (D.view disks.new) engine.new) (E.left (D.view disks.new) engine.new) (E.fills (D.view disks.new) engine.new)
-            (E.flight engine.new) start (status_of stop) script (S.left source.new) before story.new (K.held sink.new)) }
+            IsServing (E.sees (D.view disks.old)) start script before database.old self.old.lines (S.left source.old) story.old (K.held sink.old) →
+            EndsServing (E.lies (D.view disks.new) database.new) (E.left (D.view disks.new) database.new) (E.fills (D.view disks.new) database.new)
+            (E.flight database.new) start (status_of stop) script (S.left source.new) before story.new (K.held sink.new)) }
         ensures nearer { result ≡ Ok true → self.old.lines.taken < self.new.lines.taken }
         ensures within { self.new.lines.taken ≤ SCRIPT_MOST }
         ensures read_fault { result ≡ Err Stop.ReadFault → Rose (S.faults source.old) (S.faults source.new) }
@@ -75,24 +75,24 @@ impl Serving {
         ensures no_write_fault { result ≢ Err Stop.WriteFault → K.faults sink.new ≡ K.faults sink.old }
         ensures reads_later { S.faults source.old ≤ S.faults source.new }
         ensures writes_later { K.faults sink.old ≤ K.faults sink.new }
-        ensures asked { E.asked engine.new ≡ E.asked engine.old }
+        ensures asked { E.asked database.new ≡ E.asked database.old }
         ensures shape { SameShape (D.view disks.old) (D.view disks.new) }
         ensures counts { CountsAdded (D.view disks.old) (D.view disks.new) (outcome result) story.old story.new }
     {
-        engine.stands(disks);
+        database.stands(disks);
         let next = self.lines.next_line(source, &mut self.line)?;
         let text = match next {
             Next::End => return Ok(false),
             _ => text_of(next, self.line.as_slice()),
         };
-        tell_line(self.alloc, engine, disks, place, text, sink, story)?;
+        tell_line(self.alloc, database, disks, place, text, sink, story)?;
         Ok(true)
     }
 }
 
 /// Opens a run that is down, and writes what was told until then.
-fn begin<E: Stepping, D: Disks, K: Sink, F: Fn(PlaceKind, &Key, u32) -> u32>(
-    engine: &mut E,
+fn begin<E: Openable, D: Disks, K: Sink, F: Fn(PlaceKind, &Key, u32) -> u32>(
+    database: &mut E,
     disks: &mut D,
     place: &Placement<F>,
     sink: &mut K,
@@ -100,30 +100,30 @@ fn begin<E: Stepping, D: Disks, K: Sink, F: Fn(PlaceKind, &Key, u32) -> u32>(
 ) -> Result<(), Stop>
     requires callable { TakesEachKey (F.pre place.now.place) }
     requires answers { GivesPlaceOf (F.post place.now.place) }
-    requires settled { E.settled (D.view disks.old) engine.old }
-    requires begins { (start : Start) × (trace : Trace) × IsToBegin (E.lies (D.view disks.old) engine.old) (E.flight engine.old) start story.old trace }
-    ensures ok { OnOk result ((start : Start) (trace : Trace) → IsToBegin (E.lies (D.view disks.old) engine.old) (E.flight engine.old) start story.old trace →
-        IsBegun (E.sees (D.view disks.new)) start engine.new story.new (K.held sink.old) (K.held sink.new)) }
-    ensures stops { IfErr result (λ stop. (start : Start) (trace : Trace) → IsToBegin (E.lies (D.view disks.old) engine.old) (E.flight engine.old) start story.old trace →
-        (script rest : Option (List ℕ)) → EndsServing (E.lies (D.view disks.new) engine.new) (E.left (D.view disks.new) engine.new) (E.fills (D.view disks.new) engine.new)
-        (E.flight engine.new) start (status_of stop) script rest (K.held sink.old) story.new (K.held sink.new)) }
+    requires settled { E.settled (D.view disks.old) database.old }
+    requires begins { (start : Start) × (trace : Trace) × IsToBegin (E.lies (D.view disks.old) database.old) (E.flight database.old) start story.old trace }
+    ensures ok { OnOk result ((start : Start) (trace : Trace) → IsToBegin (E.lies (D.view disks.old) database.old) (E.flight database.old) start story.old trace →
+        IsBegun (E.sees (D.view disks.new)) start database.new story.new (K.held sink.old) (K.held sink.new)) }
+    ensures stops { IfErr result (λ stop. (start : Start) (trace : Trace) → IsToBegin (E.lies (D.view disks.old) database.old) (E.flight database.old) start story.old trace →
+        (script rest : Option (List ℕ)) → EndsServing (E.lies (D.view disks.new) database.new) (E.left (D.view disks.new) database.new) (E.fills (D.view disks.new) database.new)
+        (E.flight database.new) start (status_of stop) script rest (K.held sink.old) story.new (K.held sink.new)) }
     ensures unread { result ≢ Err Stop.ReadFault }
     ensures write_fault { result ≡ Err Stop.WriteFault → Rose (K.faults sink.old) (K.faults sink.new) }
     ensures no_write_fault { result ≢ Err Stop.WriteFault → K.faults sink.new ≡ K.faults sink.old }
     ensures writes_later { K.faults sink.old ≤ K.faults sink.new }
-    ensures asked { E.asked engine.new ≡ E.asked engine.old }
+    ensures asked { E.asked database.new ≡ E.asked database.old }
     ensures shape { SameShape (D.view disks.old) (D.view disks.new) }
     ensures counts { CountsAdded (D.view disks.old) (D.view disks.new) (outcome result) story.old story.new }
 {
-    let done = start(engine, disks, place, story);
-    engine.stands(disks);
-    write_done(sink, story.as_slice(), engine.schema(disks), done)
+    let done = start(database, disks, place, story);
+    database.stands(disks);
+    write_done(sink, story.as_slice(), database.schema(disks), done)
 }
 
 /// Opens a run that is down, and does the lines of the script. What was told until then is written too.
-pub fn serve<E: Stepping, D: Disks, S: Source, K: Sink, F: Fn(PlaceKind, &Key, u32) -> u32>(
+pub fn serve<E: Openable, D: Disks, S: Source, K: Sink, F: Fn(PlaceKind, &Key, u32) -> u32>(
     alloc: Global,
-    engine: &mut E,
+    database: &mut E,
     disks: &mut D,
     place: &Placement<F>,
     source: &mut S,
@@ -133,11 +133,11 @@ pub fn serve<E: Stepping, D: Disks, S: Source, K: Sink, F: Fn(PlaceKind, &Key, u
     requires callable { TakesEachKey (F.pre place.now.place) }
     requires answers { GivesPlaceOf (F.post place.now.place) }
     requires serves { (line : Line) → IsAskable line → E.serves line }
-    requires settled { E.settled (D.view disks.old) engine.old }
-    requires begins { (start : Start) × (trace : Trace) × IsToBegin (E.lies (D.view disks.old) engine.old) (E.flight engine.old) start story.old trace }
-    ensures ended { (start : Start) (trace : Trace) → IsToBegin (E.lies (D.view disks.old) engine.old) (E.flight engine.old) start story.old trace →
-        EndsServing (E.lies (D.view disks.new) engine.new) (E.left (D.view disks.new) engine.new) (E.fills (D.view disks.new) engine.new)
-        (E.flight engine.new) start (outcome result) (S.left source.old) (S.left source.new) (K.held sink.old) story.new (K.held sink.new) }
+    requires settled { E.settled (D.view disks.old) database.old }
+    requires begins { (start : Start) × (trace : Trace) × IsToBegin (E.lies (D.view disks.old) database.old) (E.flight database.old) start story.old trace }
+    ensures ended { (start : Start) (trace : Trace) → IsToBegin (E.lies (D.view disks.old) database.old) (E.flight database.old) start story.old trace →
+        EndsServing (E.lies (D.view disks.new) database.new) (E.left (D.view disks.new) database.new) (E.fills (D.view disks.new) database.new)
+        (E.flight database.new) start (outcome result) (S.left source.old) (S.left source.new) (K.held sink.old) story.new (K.held sink.new) }
     ensures end { OnOk result (IsAtEnd (S.left source.new)) }
     ensures read_fault { result ≡ Err Stop.ReadFault → Rose (S.faults source.old) (S.faults source.new) }
     ensures write_fault { result ≡ Err Stop.WriteFault → Rose (K.faults sink.old) (K.faults sink.new) }
@@ -145,16 +145,16 @@ pub fn serve<E: Stepping, D: Disks, S: Source, K: Sink, F: Fn(PlaceKind, &Key, u
     ensures no_write_fault { result ≢ Err Stop.WriteFault → K.faults sink.new ≡ K.faults sink.old }
     ensures reads_later { S.faults source.old ≤ S.faults source.new }
     ensures writes_later { K.faults sink.old ≤ K.faults sink.new }
-    ensures asked { E.asked engine.new ≡ E.asked engine.old }
+    ensures asked { E.asked database.new ≡ E.asked database.old }
     ensures shape { SameShape (D.view disks.old) (D.view disks.new) }
     ensures counts { CountsAdded (D.view disks.old) (D.view disks.new) (outcome result) story.old story.new }
 {
-    begin(engine, disks, place, sink, story)?;
+    begin(database, disks, place, sink, story)?;
     let mut serving = Serving {
         alloc,
         lines: Lines::new(),
         line: Vec::new(alloc),
     };
-    'lines: while serving.serve_line(engine, disks, place, source, sink, story)? {}
+    'lines: while serving.serve_line(database, disks, place, source, sink, story)? {}
     Ok(())
 }

@@ -22,32 +22,32 @@ use salt_disk::Disks;
 use salt_io::Sink;
 use salt_model::Story;
 use salt_schema::Schema;
-use salt_steps::Stepping;
+use salt_steps::Openable;
 use salt_storage::OpenErr;
 use salt_values::{Key, PlaceKind, Placement};
 use std::alloc::Global;
 
 /// Opens a run that is down.
-pub fn start<E: Stepping, D: Disks, F: Fn(PlaceKind, &Key, u32) -> u32>(
-    engine: &mut E,
+pub fn start<E: Openable, D: Disks, F: Fn(PlaceKind, &Key, u32) -> u32>(
+    database: &mut E,
     disks: &mut D,
     place: &Placement<F>,
     story: &mut Story,
 ) -> Result<(), Stop>
     requires callable { TakesEachKey (F.pre place.now.place) }
     requires answers { GivesPlaceOf (F.post place.now.place) }
-    requires settled { E.settled (D.view disks.old) engine.old }
-    requires down { (start : Start) × (trace : Trace) × IsDown (E.lies (D.view disks.old) engine.old) (E.flight engine.old) start story.old trace }
-    ensures ok { OnOk result ((start : Start) (trace : Trace) → IsDown (E.lies (D.view disks.old) engine.old) (E.flight engine.old) start story.old trace →
-        Reopens (E.sees (D.view disks.new)) start trace story.old engine.new story.new) }
-    ensures err { IfErr result (λ stop. (start : Start) (trace : Trace) → IsDown (E.lies (D.view disks.old) engine.old) (E.flight engine.old) start story.old trace →
-        EndsOpening (E.lies (D.view disks.new) engine.new) (E.left (D.view disks.new) engine.new) (E.fills (D.view disks.new) engine.new) (E.flight engine.new) stop start trace story.new) }
+    requires settled { E.settled (D.view disks.old) database.old }
+    requires down { (start : Start) × (trace : Trace) × IsDown (E.lies (D.view disks.old) database.old) (E.flight database.old) start story.old trace }
+    ensures ok { OnOk result ((start : Start) (trace : Trace) → IsDown (E.lies (D.view disks.old) database.old) (E.flight database.old) start story.old trace →
+        Reopens (E.sees (D.view disks.new)) start trace story.old database.new story.new) }
+    ensures err { IfErr result (λ stop. (start : Start) (trace : Trace) → IsDown (E.lies (D.view disks.old) database.old) (E.flight database.old) start story.old trace →
+        EndsOpening (E.lies (D.view disks.new) database.new) (E.left (D.view disks.new) database.new) (E.fills (D.view disks.new) database.new) (E.flight database.new) stop start trace story.new) }
     ensures later { IfErr result IsLaterStop }
-    ensures asked { E.asked engine.new ≡ E.asked engine.old }
+    ensures asked { E.asked database.new ≡ E.asked database.old }
     ensures shape { SameShape (D.view disks.old) (D.view disks.new) }
     ensures counts { CountsOpening (D.view disks.old) (D.view disks.new) (answer_of (outcome result)) story.old story.new }
 {
-    match salt_steps::open(engine, disks, place, story) {
+    match salt_steps::open(database, disks, place, story) {
         Ok(()) => Ok(()),
         Err(e) => Err(stop_opening(e)),
     }

@@ -18,7 +18,7 @@ refuse-requires-clause-stands g c = c.requires.stands
 pub returns-in_default-clause-ok : goal.returns-in_default-clause-ok
 returns-in_default-clause-ok g c =
     let view = g.D.Disks.view in
-    subst (λ (text : Option (List ℕ)). OnOk c.refuse.result ((start : Start) (trace : Trace) → Serves (g.E.Stepping.sees (view c.args.disks.now)) start c.args.engine.now c.args.story.now trace →
+    subst (λ (text : Option (List ℕ)). OnOk c.refuse.result ((start : Start) (trace : Trace) → Serves (g.E.Stepping.sees (view c.args.disks.now)) start c.args.database.now c.args.story.now trace →
     Continues (g.E.Stepping.sees (view c.refuse.new.disks)) start trace text c.args.story.now c.refuse.new.engine c.refuse.new.story)) (sym (ap option_copied c.in_default.is))
     (on_ok_weaker c.refuse.result (λ goes start trace s. continues-by _ start trace _ (Rejected Long) _ _ _ refl (goes start trace s)) c.refuse.ensures.segment)
 
@@ -26,7 +26,7 @@ pub returns-in_default-clause-err : goal.returns-in_default-clause-err
 returns-in_default-clause-err g c =
     let view = g.D.Disks.view c.refuse.new.disks in
     let e = c.refuse.new.engine in
-    subst (λ (text : Option (List ℕ)). IfErr c.refuse.result (λ halt. (start : Start) (trace : Trace) → Serves (g.E.Stepping.sees (g.D.Disks.view c.args.disks.now)) start c.args.engine.now c.args.story.now trace →
+    subst (λ (text : Option (List ℕ)). IfErr c.refuse.result (λ halt. (start : Start) (trace : Trace) → Serves (g.E.Stepping.sees (g.D.Disks.view c.args.disks.now)) start c.args.database.now c.args.story.now trace →
     BreaksIn (g.E.Stepping.lies view e 0) (g.E.Stepping.left view e 0) (g.E.Stepping.fills view e) (g.E.Stepping.flight e) halt start trace text c.args.story.now c.refuse.new.story)) (sym (ap option_copied c.in_default.is))
     (IfErr-weaker c.refuse.result _ _ (λ halt breaks start trace s. breaks-by _ _ _ _ halt start trace _ (Rejected Long) _ _ refl (breaks start trace s)) c.refuse.ensures.broken_off)
 
@@ -45,7 +45,7 @@ step-requires-clause-stands g c = c.requires.stands
 pub returns-in-Ok-clause-ok : goal.returns-in-Ok-clause-ok
 returns-in-Ok-clause-ok g c =
     let view = g.D.Disks.view in
-    subst (λ (text : Option (List ℕ)). OnOk c.step.result ((start : Start) (trace : Trace) → Serves (g.E.Stepping.sees (view c.args.disks.now)) start c.args.engine.now c.args.story.now trace →
+    subst (λ (text : Option (List ℕ)). OnOk c.step.result ((start : Start) (trace : Trace) → Serves (g.E.Stepping.sees (view c.args.disks.now)) start c.args.database.now c.args.story.now trace →
     Continues (g.E.Stepping.sees (view c.step.new.disks)) start trace text c.args.story.now c.step.new.engine c.step.new.story)) (sym (ap option_copied c.in-Some.is))
     (on_ok_weaker c.step.result (λ goes start trace s. continues-by _ start trace _ (Tree c.in-Ok.line) _ _ _ c.in-Ok.ensures.line (goes start trace s)) c.step.ensures.segment)
 
@@ -53,7 +53,7 @@ pub returns-in-Ok-clause-err : goal.returns-in-Ok-clause-err
 returns-in-Ok-clause-err g c =
     let view = g.D.Disks.view c.step.new.disks in
     let e = c.step.new.engine in
-    subst (λ (text : Option (List ℕ)). IfErr c.step.result (λ halt. (start : Start) (trace : Trace) → Serves (g.E.Stepping.sees (g.D.Disks.view c.args.disks.now)) start c.args.engine.now c.args.story.now trace →
+    subst (λ (text : Option (List ℕ)). IfErr c.step.result (λ halt. (start : Start) (trace : Trace) → Serves (g.E.Stepping.sees (g.D.Disks.view c.args.disks.now)) start c.args.database.now c.args.story.now trace →
     BreaksIn (g.E.Stepping.lies view e 0) (g.E.Stepping.left view e 0) (g.E.Stepping.fills view e) (g.E.Stepping.flight e) halt start trace text c.args.story.now c.step.new.story)) (sym (ap option_copied c.in-Some.is))
     (IfErr-weaker c.step.result _ _ (λ halt breaks start trace s. breaks-by _ _ _ _ halt start trace _ (Tree c.in-Ok.line) _ _ c.in-Ok.ensures.line (breaks start trace s)) c.step.ensures.broken_off)
 
@@ -65,7 +65,7 @@ returns-in-Err-Refused-clause-ok g c =
     let view = g.D.Disks.view in
     let refusal = c.in-Err-Refused.refusal in
     let asks = c.in-Err-Refused.ensures.refused refusal (ap Err c.in-Err-Refused.field-0-is) in
-    subst (λ (text : Option (List ℕ)). OnOk c.refuse-in-Err-Refused.result ((start : Start) (trace : Trace) → Serves (g.E.Stepping.sees (view c.args.disks.now)) start c.args.engine.now c.args.story.now trace →
+    subst (λ (text : Option (List ℕ)). OnOk c.refuse-in-Err-Refused.result ((start : Start) (trace : Trace) → Serves (g.E.Stepping.sees (view c.args.disks.now)) start c.args.database.now c.args.story.now trace →
     Continues (g.E.Stepping.sees (view c.refuse-in-Err-Refused.new.disks)) start trace text c.args.story.now c.refuse-in-Err-Refused.new.engine c.refuse-in-Err-Refused.new.story)) (sym (ap option_copied c.in-Some.is))
     (on_ok_weaker c.refuse-in-Err-Refused.result (λ goes start trace s. continues-by _ start trace _ (Rejected refusal) _ _ _ asks (goes start trace s)) c.refuse-in-Err-Refused.ensures.segment)
 
@@ -75,14 +75,14 @@ returns-in-Err-Refused-clause-err g c =
     let e = c.refuse-in-Err-Refused.new.engine in
     let refusal = c.in-Err-Refused.refusal in
     let asks = c.in-Err-Refused.ensures.refused refusal (ap Err c.in-Err-Refused.field-0-is) in
-    subst (λ (text : Option (List ℕ)). IfErr c.refuse-in-Err-Refused.result (λ halt. (start : Start) (trace : Trace) → Serves (g.E.Stepping.sees (g.D.Disks.view c.args.disks.now)) start c.args.engine.now c.args.story.now trace →
+    subst (λ (text : Option (List ℕ)). IfErr c.refuse-in-Err-Refused.result (λ halt. (start : Start) (trace : Trace) → Serves (g.E.Stepping.sees (g.D.Disks.view c.args.disks.now)) start c.args.database.now c.args.story.now trace →
     BreaksIn (g.E.Stepping.lies view e 0) (g.E.Stepping.left view e 0) (g.E.Stepping.fills view e) (g.E.Stepping.flight e) halt start trace text c.args.story.now c.refuse-in-Err-Refused.new.story)) (sym (ap option_copied c.in-Some.is))
     (IfErr-weaker c.refuse-in-Err-Refused.result _ _ (λ halt breaks start trace s. breaks-by _ _ _ _ halt start trace _ (Rejected refusal) _ _ asks (breaks start trace s)) c.refuse-in-Err-Refused.ensures.broken_off)
 
 pub returns-in-Err-Memory-clause-err : goal.returns-in-Err-Memory-clause-err
 returns-in-Err-Memory-clause-err g c = λ start trace s.
     let view = g.D.Disks.view c.args.disks.now in
-    let e = c.args.engine.now in
+    let e = c.args.database.now in
     breaks-unread (g.E.Stepping.sees view) (g.E.Stepping.lies view e) (g.E.Stepping.left view e) (g.E.Stepping.fills view e) (g.E.Stepping.flight e) e c.stands.ensures.idle c.stands.ensures.flown c.stands.ensures.left start trace _ c.args.story.now s
 
 pub returns-in-Err-Memory-clause-counts : goal.returns-in-Err-Memory-clause-counts

@@ -18,7 +18,7 @@ stop_opening-requires g c = λ is. c.recover.ensures.unstopped (c.in-Err.is ∙ 
 pub returns-in-Err-clause-err : goal.returns-in-Err-clause-err
 returns-in-Err-clause-err g c = λ start trace h.
     let view = g.D.Disks.view c.recover.new.disks in
-    let e = c.recover.new.engine in
+    let e = c.recover.new.database in
     let lies = g.E.Stepping.lies view e in
     let left = g.E.Stepping.left view e in
     let fills = g.E.Stepping.fills view e in

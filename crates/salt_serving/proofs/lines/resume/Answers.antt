@@ -16,30 +16,30 @@ use Rattle.std.specs.Prelude.{refl}
 pub recover-requires-clause-halted : goal.recover-requires-clause-halted
 recover-requires-clause-halted g c =
     let view = g.D.Disks.view c.args.disks.now in
-    let e = c.args.engine.now in
+    let e = c.args.database.now in
     let h = c.requires.halted in
     (h.0, h.1, subst (λ (x : Halt). Halts (g.E.Stepping.lies view e 0) (g.E.Stepping.left view e 0) (g.E.Stepping.fills view e) (g.E.Stepping.flight e) x h.0 c.args.story.now h.1) c.in-Stopped.is h.2)
 
 pub recover-requires-in-DiskFault-clause-halted : goal.recover-requires-in-DiskFault-clause-halted
 recover-requires-in-DiskFault-clause-halted g c =
     let view = g.D.Disks.view c.args.disks.now in
-    let e = c.args.engine.now in
+    let e = c.args.database.now in
     let h = c.requires.halted in
     (h.0, h.1, subst (λ (x : Halt). Halts (g.E.Stepping.lies view e 0) (g.E.Stepping.left view e 0) (g.E.Stepping.fills view e) (g.E.Stepping.flight e) x h.0 c.args.story.now h.1) c.in-DiskFault.is h.2)
 
 pub returns-in-Stopped-clause-ok : goal.returns-in-Stopped-clause-ok
 returns-in-Stopped-clause-ok g c = on_ok_weaker c.recover.result (λ done start trace h.
     let view = g.D.Disks.view c.args.disks.now in
-    let e = c.args.engine.now in
+    let e = c.args.database.now in
     done start trace
     (subst (λ (x : Halt). Halts (g.E.Stepping.lies view e 0) (g.E.Stepping.left view e 0) (g.E.Stepping.fills view e) (g.E.Stepping.flight e) x start c.args.story.now trace) c.in-Stopped.is h)) c.recover.ensures.ok
 
 pub returns-in-Stopped-clause-err : goal.returns-in-Stopped-clause-err
 returns-in-Stopped-clause-err g c = IfErr-weaker c.recover.result _ _ (λ stop ends start trace h.
     let view = g.D.Disks.view c.args.disks.now in
-    let e = c.args.engine.now in
+    let e = c.args.database.now in
     let now = g.D.Disks.view c.recover.new.disks in
-    let new = c.recover.new.engine in
+    let new = c.recover.new.database in
     subst (λ (x : Halt). EndsBehind (g.E.Stepping.lies now new) (g.E.Stepping.left now new) (g.E.Stepping.fills now new) (g.E.Stepping.flight new) x stop start trace c.args.story.now c.recover.new.story) (sym c.in-Stopped.is)
     (ends start trace
     (subst (λ (x : Halt). Halts (g.E.Stepping.lies view e 0) (g.E.Stepping.left view e 0) (g.E.Stepping.fills view e) (g.E.Stepping.flight e) x start c.args.story.now trace) c.in-Stopped.is h))) c.recover.ensures.err
@@ -55,16 +55,16 @@ returns-in-Stopped-clause-counts g c =
 pub returns-in-DiskFault-clause-ok : goal.returns-in-DiskFault-clause-ok
 returns-in-DiskFault-clause-ok g c = on_ok_weaker c.recover-in-DiskFault.result (λ done start trace h.
     let view = g.D.Disks.view c.args.disks.now in
-    let e = c.args.engine.now in
+    let e = c.args.database.now in
     done start trace
     (subst (λ (x : Halt). Halts (g.E.Stepping.lies view e 0) (g.E.Stepping.left view e 0) (g.E.Stepping.fills view e) (g.E.Stepping.flight e) x start c.args.story.now trace) c.in-DiskFault.is h)) c.recover-in-DiskFault.ensures.ok
 
 pub returns-in-DiskFault-clause-err : goal.returns-in-DiskFault-clause-err
 returns-in-DiskFault-clause-err g c = IfErr-weaker c.recover-in-DiskFault.result _ _ (λ stop ends start trace h.
     let view = g.D.Disks.view c.args.disks.now in
-    let e = c.args.engine.now in
+    let e = c.args.database.now in
     let now = g.D.Disks.view c.recover-in-DiskFault.new.disks in
-    let new = c.recover-in-DiskFault.new.engine in
+    let new = c.recover-in-DiskFault.new.database in
     subst (λ (x : Halt). EndsBehind (g.E.Stepping.lies now new) (g.E.Stepping.left now new) (g.E.Stepping.fills now new) (g.E.Stepping.flight new) x stop start trace c.args.story.now c.recover-in-DiskFault.new.story) (sym c.in-DiskFault.is)
     (ends start trace
     (subst (λ (x : Halt). Halts (g.E.Stepping.lies view e 0) (g.E.Stepping.left view e 0) (g.E.Stepping.fills view e) (g.E.Stepping.flight e) x start c.args.story.now trace) c.in-DiskFault.is h))) c.recover-in-DiskFault.ensures.err
@@ -80,7 +80,7 @@ returns-in-DiskFault-clause-counts g c =
 pub returns-in-DeviceFull-clause-err : goal.returns-in-DeviceFull-clause-err
 returns-in-DeviceFull-clause-err g c = λ start trace h.
     let view = g.D.Disks.view c.args.disks.now in
-    let e = c.args.engine.now in
+    let e = c.args.database.now in
     subst (λ (x : Halt). EndsBehind (g.E.Stepping.lies view e) (g.E.Stepping.left view e) (g.E.Stepping.fills view e) (g.E.Stepping.flight e) x (stop.DeviceFull c.in-DeviceFull.dev) start trace c.args.story.now c.args.story.now) (sym c.in-DeviceFull.is)
     (halts-full (g.E.Stepping.lies view e) (g.E.Stepping.left view e) (g.E.Stepping.fills view e) (g.E.Stepping.flight e) start trace c.args.story.now c.in-DeviceFull.dev
     (subst (λ (x : Halt). Halts (g.E.Stepping.lies view e 0) (g.E.Stepping.left view e 0) (g.E.Stepping.fills view e) (g.E.Stepping.flight e) x start c.args.story.now trace) c.in-DeviceFull.is h))
@@ -93,7 +93,7 @@ returns-in-DeviceFull-clause-counts g c =
 pub returns-in-Memory-clause-err : goal.returns-in-Memory-clause-err
 returns-in-Memory-clause-err g c = λ start trace h.
     let view = g.D.Disks.view c.args.disks.now in
-    let e = c.args.engine.now in
+    let e = c.args.database.now in
     subst (λ (x : Halt). EndsBehind (g.E.Stepping.lies view e) (g.E.Stepping.left view e) (g.E.Stepping.fills view e) (g.E.Stepping.flight e) x stop.Memory start trace c.args.story.now c.args.story.now) (sym c.in-Memory.is)
     (halts-short (g.E.Stepping.lies view e) (g.E.Stepping.left view e) (g.E.Stepping.fills view e) (g.E.Stepping.flight e) start trace c.args.story.now
     (subst (λ (x : Halt). Halts (g.E.Stepping.lies view e 0) (g.E.Stepping.left view e 0) (g.E.Stepping.fills view e) (g.E.Stepping.flight e) x start c.args.story.now trace) c.in-Memory.is h))

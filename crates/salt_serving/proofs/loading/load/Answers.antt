@@ -14,7 +14,7 @@ start-requires-clause-down g c = let b = c.requires.begins in (b.0, b.1, b.2.dow
 pub returns-in-Err-clause-ended : goal.returns-in-Err-clause-ended
 returns-in-Err-clause-ended g c = λ start trace begins.
     let now = g.D.Disks.view c.start.new.disks in
-    let e = c.start.new.engine in
+    let e = c.start.new.database in
     not-begun (g.E.Stepping.lies now e) (g.E.Stepping.left now e) (g.E.Stepping.fills now e) (g.E.Stepping.flight e) c.args.calls start trace c.start.new.story c.in-Err.stop c.in-Err.ensures.later begins.unasked
     (c.in-Err.ensures.err start trace begins.down)
 
@@ -28,7 +28,7 @@ loop-i-init g c =
     let view = g.D.Disks.view in
     record {
       over = λ start trace begins.
-          loading-begun (g.E.Stepping.sees (view c.start.new.disks)) c.args.calls start trace c.start.new.engine c.args.story.now c.start.new.story begins.unasked
+          loading-begun (g.E.Stepping.sees (view c.start.new.disks)) c.args.calls start trace c.start.new.database c.args.story.now c.start.new.story begins.unasked
           (was-ok c.start.result _ c.in_default.not-Err c.start.ensures.ok start trace begins.down);
       asked = c.start.ensures.asked;
       shape = c.start.ensures.shape;
@@ -71,7 +71,7 @@ loop-i-preserved g c =
 pub returns-clause-ended : goal.returns-clause-ended
 returns-clause-ended g c = λ start trace begins.
     let now = g.D.Disks.view c.loop-i.disks in
-    let e = c.loop-i.engine in
+    let e = c.loop-i.database in
     all-loaded (g.E.Stepping.sees now) start c.args.calls c.loop-i.i e c.loop-i.story (c.loop-i.invariant.over start trace begins) (g.E.Stepping.lies now e) (g.E.Stepping.left now e) (g.E.Stepping.fills now e)
     (g.E.Stepping.flight e) c.stands.ensures.idle c.stands.ensures.flown c.stands.ensures.left (omega arith) c.line_count.result c.line_count.ensures
 

@@ -9,9 +9,9 @@ use Rattle.std.specs.Prelude.{◌≡◌}
 
 abbrev pub invariant-loop-i : goal.invariant-loop-i
 invariant-loop-i g l = record {
-  over : (start : Start) (trace : Trace) → IsToBegin (g.E.Stepping.lies (g.D.Disks.view l.fn.disks) l.fn.engine) (g.E.Stepping.flight l.fn.engine) start l.fn.story trace →
-      IsLoading (g.E.Stepping.sees (g.D.Disks.view l.disks)) start l.calls l.i l.engine l.story;
-  asked : g.E.Stepping.asked l.engine ≡ g.E.Stepping.asked l.fn.engine;
+  over : (start : Start) (trace : Trace) → IsToBegin (g.E.Stepping.lies (g.D.Disks.view l.fn.disks) l.fn.database) (g.E.Stepping.flight l.fn.database) start l.fn.story trace →
+      IsLoading (g.E.Stepping.sees (g.D.Disks.view l.disks)) start l.calls l.i l.database l.story;
+  asked : g.E.Stepping.asked l.database ≡ g.E.Stepping.asked l.fn.database;
   shape : SameShape (g.D.Disks.view l.fn.disks) (g.D.Disks.view l.disks);
   counts : CountsAdded (g.D.Disks.view l.fn.disks) (g.D.Disks.view l.disks) Done l.fn.story l.story;
 }

@@ -22,7 +22,7 @@ step-requires-clause-stands g c = let s = c.requires.stands in (s.0, s.1.trace, 
 pub returns-in-Ok-clause-ok : goal.returns-in-Ok-clause-ok
 returns-in-Ok-clause-ok g c = λ start loading.
     let view = g.D.Disks.view in
-    line-loaded (g.E.Stepping.sees (view c.args.disks.now)) start c.args.calls c.args.i c.args.engine.now c.args.story.now loading c.args.line.now c.requires.within c.requires.is (g.E.Stepping.sees (view c.step.new.disks)) c.step.new.engine
+    line-loaded (g.E.Stepping.sees (view c.args.disks.now)) start c.args.calls c.args.i c.args.database.now c.args.story.now loading c.args.line.now c.requires.within c.requires.is (g.E.Stepping.sees (view c.step.new.disks)) c.step.new.engine
     c.step.new.story (c.in-Ok.ensures.segment start loading.trace loading.serves)
 
 pub returns-in-Ok-clause-counts : goal.returns-in-Ok-clause-counts
@@ -35,14 +35,14 @@ pub returns-in-Err-clause-ok : goal.returns-in-Err-clause-ok
 returns-in-Err-clause-ok g c = on-ok-both c.resume.result c.resume.ensures.ok c.resume.ensures.memory (λ reopens some start loading.
     let view = g.D.Disks.view in
     let b = c.in-Err.ensures.broken_off start loading.trace loading.serves in
-    loaded-behind (g.E.Stepping.sees (view c.args.disks.now)) start c.args.calls c.args.i c.args.engine.now c.args.story.now loading c.args.line.now c.requires.within c.requires.is _ _ _ _ c.in-Err.halt c.step.new.story c.resume.new.story b
-    (g.E.Stepping.sees (view c.resume.new.disks)) c.resume.new.engine some (reopens start b.after b.halts))
+    loaded-behind (g.E.Stepping.sees (view c.args.disks.now)) start c.args.calls c.args.i c.args.database.now c.args.story.now loading c.args.line.now c.requires.within c.requires.is _ _ _ _ c.in-Err.halt c.step.new.story c.resume.new.story b
+    (g.E.Stepping.sees (view c.resume.new.disks)) c.resume.new.database some (reopens start b.after b.halts))
 
 pub returns-in-Err-clause-err : goal.returns-in-Err-clause-err
 returns-in-Err-clause-err g c = IfErr-both c.resume.result _ _ _ (λ stop ends later start loading.
     let view = g.D.Disks.view in
     let b = c.in-Err.ensures.broken_off start loading.trace loading.serves in
-    ends-loading (g.E.Stepping.sees (view c.args.disks.now)) start c.args.calls c.args.i c.args.engine.now c.args.story.now loading c.args.line.now c.requires.within c.requires.is _ _ _ _ c.in-Err.halt c.step.new.story c.resume.new.story b
+    ends-loading (g.E.Stepping.sees (view c.args.disks.now)) start c.args.calls c.args.i c.args.database.now c.args.story.now loading c.args.line.now c.requires.within c.requires.is _ _ _ _ c.in-Err.halt c.step.new.story c.resume.new.story b
     _ _ _ _ stop later (ends start b.after b.halts)) c.resume.ensures.err c.resume.ensures.later
 
 pub returns-in-Err-clause-shape : goal.returns-in-Err-clause-shape

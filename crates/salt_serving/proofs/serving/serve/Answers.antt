@@ -13,7 +13,7 @@ use Rattle.std.specs.Prelude.{Bool}
 pub returns-in_err-begin-clause-ended : goal.returns-in_err-begin-clause-ended
 returns-in_err-begin-clause-ended g c = λ start trace begins.
     let now = g.D.Disks.view c.begin.new.disks in
-    let e = c.begin.new.engine in
+    let e = c.begin.new.database in
     outcome-of c.from_residual.result c.in_err-begin.field-0.0 (λ (s : Status). EndsServing (g.E.Stepping.lies now e) (g.E.Stepping.left now e) (g.E.Stepping.fills now e) (g.E.Stepping.flight e) start s
     (g.S.Source.left c.args.source.now) (g.S.Source.left c.args.source.now) (g.K.Sink.held c.args.sink.now) c.begin.new.story (g.K.Sink.held c.begin.new.sink)) c.from_residual.ensures.1
     (c.in_err-begin.ensures.stops start trace begins (g.S.Source.left c.args.source.now) (g.S.Source.left c.args.source.now))
@@ -29,7 +29,7 @@ lines-init g c =
     let view = g.D.Disks.view in
     record {
       over = λ start trace begins.
-          serving-begun (g.E.Stepping.sees (view c.begin.new.disks)) start c.begin.new.engine c.new.result (g.S.Source.left c.args.source.now) (g.K.Sink.held c.args.sink.now) (g.K.Sink.held c.begin.new.sink)
+          serving-begun (g.E.Stepping.sees (view c.begin.new.disks)) start c.begin.new.database c.new.result (g.S.Source.left c.args.source.now) (g.K.Sink.held c.args.sink.now) (g.K.Sink.held c.begin.new.sink)
           c.begin.new.story (c.in_ok-begin.ensures.ok start trace begins) c.new.ensures;
       reads = refl;
       asked = c.begin.ensures.asked;
@@ -46,7 +46,7 @@ serve_line-requires-clause-stands g c =
 pub returns-in_err-serve_line-clause-ended : goal.returns-in_err-serve_line-clause-ended
 returns-in_err-serve_line-clause-ended g c = λ start trace begins.
     let now = g.D.Disks.view c.serve_line.new.disks in
-    let e = c.serve_line.new.engine in
+    let e = c.serve_line.new.database in
     outcome-of c.from_residual-in_err-serve_line.result c.in_err-serve_line.field-0.0 (λ (s : Status). EndsServing (g.E.Stepping.lies now e) (g.E.Stepping.left now e) (g.E.Stepping.fills now e) (g.E.Stepping.flight e) start s
     (g.S.Source.left c.args.source.now) (g.S.Source.left c.serve_line.new.source) (g.K.Sink.held c.args.sink.now) c.serve_line.new.story (g.K.Sink.held c.serve_line.new.sink)) c.from_residual-in_err-serve_line.ensures.1
     (c.in_err-serve_line.ensures.stops start (g.S.Source.left c.args.source.now) (g.K.Sink.held c.args.sink.now) (c.lines.invariant.over start trace begins))
@@ -63,7 +63,7 @@ lines-preserved g c =
     let view = g.D.Disks.view in
     let old = view c.args.disks.now in
     let now = view c.serve_line.new.disks in
-    let e = c.serve_line.new.engine in
+    let e = c.serve_line.new.database in
     record {
       over = λ start trace begins.
           subst (λ (more : Bool). IsAfterLine more (g.E.Stepping.sees now) (g.E.Stepping.lies now e) (g.E.Stepping.left now e) (g.E.Stepping.fills now e) (g.E.Stepping.flight e) start (g.S.Source.left c.args.source.now)
@@ -79,7 +79,7 @@ lines-preserved g c =
 pub returns-clause-ended : goal.returns-clause-ended
 returns-clause-ended g c = λ start trace begins.
     let now = g.D.Disks.view c.serve_line.new.disks in
-    let e = c.serve_line.new.engine in
+    let e = c.serve_line.new.database in
     (subst (λ (more : Bool). IsAfterLine more (g.E.Stepping.sees now) (g.E.Stepping.lies now e) (g.E.Stepping.left now e) (g.E.Stepping.fills now e) (g.E.Stepping.flight e) start (g.S.Source.left c.args.source.now)
     (g.K.Sink.held c.args.sink.now) e c.serve_line.new.self.lines (g.S.Source.left c.serve_line.new.source) c.serve_line.new.story (g.K.Sink.held c.serve_line.new.sink)) c.if-branch.false
     (c.in_ok-serve_line.ensures.goes start (g.S.Source.left c.args.source.now) (g.K.Sink.held c.args.sink.now) (c.lines.invariant.over start trace begins))).0
@@ -87,7 +87,7 @@ returns-clause-ended g c = λ start trace begins.
 pub returns-clause-end : goal.returns-clause-end
 returns-clause-end g c =
     let now = g.D.Disks.view c.serve_line.new.disks in
-    let e = c.serve_line.new.engine in
+    let e = c.serve_line.new.database in
     let b = c.requires.begins in
     (subst (λ (more : Bool). IsAfterLine more (g.E.Stepping.sees now) (g.E.Stepping.lies now e) (g.E.Stepping.left now e) (g.E.Stepping.fills now e) (g.E.Stepping.flight e) b.0 (g.S.Source.left c.args.source.now)
     (g.K.Sink.held c.args.sink.now) e c.serve_line.new.self.lines (g.S.Source.left c.serve_line.new.source) c.serve_line.new.story (g.K.Sink.held c.serve_line.new.sink)) c.if-branch.false

@@ -9,11 +9,11 @@ use Rattle.std.proofs.Common.{◌-◌, ◌≡◌}
 
 abbrev pub invariant-lines : goal.invariant-lines
 invariant-lines g l = record {
-  over : (start : Start) (trace : Trace) → IsToBegin (g.E.Stepping.lies (g.D.Disks.view l.fn.disks) l.fn.engine) (g.E.Stepping.flight l.fn.engine) start l.fn.story trace →
-      IsServing (g.E.Stepping.sees (g.D.Disks.view l.disks)) start (g.S.Source.left l.fn.source) (g.K.Sink.held l.fn.sink) l.engine l.serving.lines (g.S.Source.left l.source) l.story (g.K.Sink.held l.sink);
+  over : (start : Start) (trace : Trace) → IsToBegin (g.E.Stepping.lies (g.D.Disks.view l.fn.disks) l.fn.database) (g.E.Stepping.flight l.fn.database) start l.fn.story trace →
+      IsServing (g.E.Stepping.sees (g.D.Disks.view l.disks)) start (g.S.Source.left l.fn.source) (g.K.Sink.held l.fn.sink) l.database l.serving.lines (g.S.Source.left l.source) l.story (g.K.Sink.held l.sink);
   reads : g.S.Source.faults l.source ≡ g.S.Source.faults l.fn.source;
   writes : g.K.Sink.faults l.sink ≡ g.K.Sink.faults l.fn.sink;
-  asked : g.E.Stepping.asked l.engine ≡ g.E.Stepping.asked l.fn.engine;
+  asked : g.E.Stepping.asked l.database ≡ g.E.Stepping.asked l.fn.database;
   shape : SameShape (g.D.Disks.view l.fn.disks) (g.D.Disks.view l.disks);
   counts : CountsAdded (g.D.Disks.view l.fn.disks) (g.D.Disks.view l.disks) Done l.fn.story l.story;
 }

@@ -16,7 +16,7 @@ stop_opening-requires g c = λ is. c.open.ensures.unstopped (c.in-Err.is ∙ ap 
 pub returns-in-Err-clause-err : goal.returns-in-Err-clause-err
 returns-in-Err-clause-err g c = λ start trace down.
     let view = g.D.Disks.view c.open.new.disks in
-    let e = c.open.new.engine in
+    let e = c.open.new.database in
     let lies = g.E.Stepping.lies view e in
     let left = g.E.Stepping.left view e in
     let fills = g.E.Stepping.fills view e in
