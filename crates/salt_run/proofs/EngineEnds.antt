@@ -1,5 +1,5 @@
--- A run, by what is found at first and by how its engine ends.
-use Rattle.salt_commit.specs.declared.store.Store.{Store}
+-- A run, by what is found at first and by how its database ends.
+use Rattle.salt_books.specs.declared.books.Books.{Books}
 use Rattle.salt_devices.specs.Filling.{FillsIn}
 use Rattle.salt_devices.specs.Holding.{CanStart}
 use Rattle.salt_devices.specs.Leaving.{StandsFor}
@@ -8,9 +8,12 @@ use Rattle.salt_devices.specs.Standing.{StandsHeld, StandsLeft}
 use Rattle.salt_devices.specs.declared.pending.Pending.{Pending}
 use Rattle.salt_disk.specs.Disks.{AreUnchanged, View}
 use Rattle.salt_disk.specs.declared.disks.DiskErr.{DiskErr}
-use Rattle.salt_engine.specs.Standing.{Left, Lies}
+use Rattle.salt_devices.specs.declared.devices.Devices.{Devices}
+use Rattle.salt_engine.specs.Halves.{IfEither, by_half, database_left, database_lies, no_shape}
+use Rattle.salt_engine.specs.Standing.{Left, Lies, opening_books, serving_books}
+use Rattle.salt_engine.specs.declared.database.Database.TheVariants.{Closed, Moving, Open}
+use Rattle.salt_engine.specs.declared.database.Database.{Database}
 use Rattle.salt_engine.specs.declared.flights.InFlight.{InFlight}
-use Rattle.salt_engine.specs.declared.stage.Stage.{Stage}
 use Rattle.salt_keeps.specs.Points.{Point}
 use Rattle.salt_model.specs.Ends.{MayLeave}
 use Rattle.salt_model.specs.Kept.{Kept, WellKept, nothing_kept}
@@ -162,31 +165,48 @@ begins-over k now lies flies story unfound sound opens none =
 
 -- AND ENDS
 
-module _ (d e : View) (shape : Shape) (started : Bool) (o : Option Store) (n : Numbers) (q : Pending) (stage : Stage) (single : Bool) (i : Option InFlight) where
-  abbrev FoundAt : Status → Trace → Type 0
-  FoundAt status trace =
-      EndsFound (Lies (StandsHeld shape started o n q e) (StandsLeft shape started o n q e) e.can_stop stage single i)
-      (Left (StandsHeld shape started o n q e) (StandsLeft shape started o n q e) stage) (FillsIn e shape) status trace
+module _ (e : View) where
+  -- what the devices hold, and what a stop leaves of them
+  abbrev held : Devices → Kept → Type 0
+  held x k = StandsHeld x.shape x.started x.store x.numbers x.pending e k
 
-  ends-there : (target : Shape) → shape ≡ target → (status : Status) (trace : Trace) → IsPlayed trace → FoundAt status trace → EndsBehind e target status trace
-  ends-there target same status trace played x = subst (λ (s : Shape). EndsBehind e s status trace) same (ends-behind shape started o n q e stage single i status trace played x)
+  abbrev left : Devices → Kept → Kept → Type 0
+  left x a b = StandsLeft x.shape x.started x.store x.numbers x.pending e a b
 
+  ends-over : (x : Devices) (target : Shape) → x.shape ≡ target → (found : Option Numbers) (books : Option Books) (single : Bool) (i : Option InFlight) (status : Status) (trace : Trace) →
+      IsPlayed trace → EndsFound (Lies (held x) (left x) e.can_stop found books single i) (Left (held x) (left x) found) (FillsIn e x.shape) status trace → EndsBehind e target status trace
+  ends-over x target same found books single i status trace played f =
+      subst (λ (s : Shape). EndsBehind e s status trace) same (ends-behind x.shape x.started x.store x.numbers x.pending e found books single i status trace played f)
+
+  abbrev FoundAt : Database Devices → Status → Trace → Type 0
+  FoundAt x status trace =
+      EndsFound (λ room p. database_lies held left e.can_stop x room p) (λ room p. database_left held left x room p) (λ w dev. IfEither (λ o. FillsIn e o.storage.shape w dev) (λ g. FillsIn e g.storage.shape w dev) x)
+      status trace
+
+  -- whether it is closed or open there
+  pub ends-there : (x : Database Devices) (target : Shape) → by_half (λ o. o.storage.shape) (λ g. g.storage.shape) no_shape x ≡ target → (status : Status) (trace : Trace) → IsPlayed trace →
+      FoundAt x status trace → EndsBehind e target status trace
+  ends-there (Closed o) target same status trace played f = ends-over o.storage target same o.found (opening_books o.stage) o.single o.in_flight status trace played f
+  ends-there (Open g) target same status trace played f = ends-over g.storage target same None (serving_books g.stage) g.single g.in_flight status trace played f
+  ends-there Moving target same status trace played f = absurd f.stands
+
+module _ (d e : View) (x : Database Devices) where
   module _ (promised : (trace : Trace) → IsPlayed trace → WellKept (start_of trace).kept → Promises trace) (start : Start) (sound : IsSoundKept start.kept) (stops : start.can_stop ≡ d.can_stop)
       (f : Option Flight) (s : Streams) (story : List Event) where
-    module _ (parts : ℕ) (asked : shape ≡ shape_of (Run parts)) (stood : Finds d true (shape_of (Run parts)) start.kept) (status : Status)
-        (x : (run : IsRun start status f s.script s.left s.before story s.now) × FoundAt status run.played.trace) where
+    module _ (parts : ℕ) (asked : by_half (λ o. o.storage.shape) (λ g. g.storage.shape) no_shape x ≡ shape_of (Run parts)) (stood : Finds d true (shape_of (Run parts)) start.kept) (status : Status)
+        (y : (run : IsRun start status f s.script s.left s.before story s.now) × FoundAt e x status run.played.trace) where
       pub script-over : RunsOver (Run parts) d e status (flight_at status f) s story
       script-over = record {
         start = start;
         stood = stood;
         sound = sound;
         stops = stops;
-        replays = script-replays promised parts status f s story start sound.well x.0;
-        ends = ends-there (shape_of (Run parts)) asked status x.0.played.trace x.0.played.tells.played x.1;
+        replays = script-replays promised parts status f s story start sound.well y.0;
+        ends = ends-there e x (shape_of (Run parts)) asked status y.0.played.trace y.0.played.tells.played y.1;
       }
 
-    module _ (calls done : ℕ) (asked : shape ≡ shape_of (Load calls)) (stood : Finds d true (shape_of (Load calls)) start.kept) (old status : Status) (how : IsBehind old status)
-        (summed : IsSummary status (summary_text calls done story) s.before s.now) (x : (run : IsPlayedLoad start old f calls done story) × FoundAt old run.trace) where
+    module _ (calls done : ℕ) (asked : by_half (λ o. o.storage.shape) (λ g. g.storage.shape) no_shape x ≡ shape_of (Load calls)) (stood : Finds d true (shape_of (Load calls)) start.kept) (old status : Status) (how : IsBehind old status)
+        (summed : IsSummary status (summary_text calls done story) s.before s.now) (y : (run : IsPlayedLoad start old f calls done story) × FoundAt e x old run.trace) where
       abbrev Loaded : Status → Type 0
       Loaded t = (r : IsPlayedLoad start t f calls done story) × EndsBehind e (shape_of (Load calls)) t r.trace
 
@@ -194,7 +214,7 @@ module _ (d e : View) (shape : Shape) (started : Bool) (o : Option Store) (n : N
       loaded = by how
         where
           there : Loaded old
-          there = (x.0, ends-there (shape_of (Load calls)) asked old x.0.trace x.0.tells.played x.1)
+          there = (y.0, ends-there e x (shape_of (Load calls)) asked old y.0.trace y.0.tells.played y.1)
 
           by : IsBehind old status → Loaded status
           by (inl same) = subst Loaded (sym same) there

@@ -1,4 +1,4 @@
--- What a stop may leave of the devices of an engine.
+-- What a stop may leave of the devices of a database.
 use Rattle.salt_devices.proofs.Stores.{held_image}
 use Rattle.salt_devices.specs.Holding.{HoldsIn}
 use Rattle.salt_devices.specs.Leaving.{MayCome, StandsFor}
@@ -9,8 +9,6 @@ use Rattle.salt_commit.specs.declared.store.Store.{Store}
 use Rattle.salt_disk.specs.Disks.{IsImage, View}
 use Rattle.salt_engine.specs.Standing.{Left}
 use Rattle.salt_engine.specs.Stored.{IsLeft}
-use Rattle.salt_engine.specs.declared.stage.Stage.TheVariants.{Down, Found, Lost, Opening, Serving}
-use Rattle.salt_engine.specs.declared.stage.Stage.{Stage}
 use Rattle.salt_keeps.specs.Points.{Point}
 use Rattle.salt_model.specs.Kept.{Kept}
 use Rattle.salt_storage.specs.declared.found.Numbers.{Numbers}
@@ -45,9 +43,6 @@ module _ (shape : Shape) (started : Bool) (o : Option Store) (n : Numbers) (q : 
   held : (k : Kept) → StandsHeld shape started o n q d k → IsLeft room p k → StandsAt shape room p image
   held k h here = record { found = k; stands = in-one o k h.held; left = here }
 
-  pub stands-left : (stage : Stage) → Left (StandsHeld shape started o n q d) (StandsLeft shape started o n q d) stage room p → StandsAt shape room p image
-  stands-left (Found books numbers) h = held h.0 h.1 h.2
-  stands-left (Opening x) h = either h.0 h.1 h.2 h.3 h.4
-  stands-left (Serving x) h = either h.0 h.1 h.2 h.3 h.4
-  stands-left (Down books) h = either h.0 h.1 h.2 h.3 h.4
-  stands-left Lost h = either h.0 h.1 h.2 h.3 h.4
+  pub stands-left : (found : Option Numbers) → Left (StandsHeld shape started o n q d) (StandsLeft shape started o n q d) found room p → StandsAt shape room p image
+  stands-left (Some numbers) h = held h.0 h.1 h.2
+  stands-left None h = either h.0 h.1 h.2 h.3 h.4

@@ -1,4 +1,5 @@
 -- A run over what was found, as it ends on its devices.
+use Rattle.salt_books.specs.declared.books.Books.{Books}
 use Rattle.salt_commit.specs.declared.store.Store.{Store}
 use Rattle.salt_devices.specs.Filling.{FillsIn}
 use Rattle.salt_devices.specs.Standing.{StandsHeld, StandsLeft}
@@ -6,7 +7,6 @@ use Rattle.salt_devices.specs.declared.pending.Pending.{Pending}
 use Rattle.salt_disk.specs.Disks.{IsImage, View}
 use Rattle.salt_engine.specs.Standing.{Left, Lies}
 use Rattle.salt_engine.specs.declared.flights.InFlight.{InFlight}
-use Rattle.salt_engine.specs.declared.stage.Stage.{Stage}
 use Rattle.salt_model.specs.Played.{IsPlayed}
 use Rattle.salt_model.specs.Trace.{Trace}
 use Rattle.salt_run.proofs.Behind.{is-behind, numbers-behind}
@@ -22,12 +22,12 @@ use Rattle.std.proofs.Common.{subst, sym, ◌∙◌}
 use Rattle.std.specs.Prelude.{Bool, IsTrue, List, Option, true, ℕ, ◌≡◌}
 
 module _ (shape : Shape) (started : Bool) (o : Option Store) (n : Numbers) (q : Pending) (d : View)
-    (stage : Stage) (single : Bool) (i : Option InFlight) (status : Status) (trace : Trace) (played : IsPlayed trace)
-    (x : EndsFound (Lies (StandsHeld shape started o n q d) (StandsLeft shape started o n q d) d.can_stop stage single i)
-    (Left (StandsHeld shape started o n q d) (StandsLeft shape started o n q d) stage) (FillsIn d shape) status trace) where
+    (found : Option Numbers) (books : Option Books) (single : Bool) (i : Option InFlight) (status : Status) (trace : Trace) (played : IsPlayed trace)
+    (x : EndsFound (Lies (StandsHeld shape started o n q d) (StandsLeft shape started o n q d) d.can_stop found books single i)
+    (Left (StandsHeld shape started o n q d) (StandsLeft shape started o n q d) found) (FillsIn d shape) status trace) where
   images : IsTrue d.told → (image : ℕ → List ℕ) → IsImage d image → StandsBehind shape trace image
   images told image is =
-      let s : StandsAt shape x.room x.point image = stands-left shape started o n q d told x.room x.point image is stage x.stands in
+      let s : StandsAt shape x.room x.point image = stands-left shape started o n q d told x.room x.point image is found x.stands in
       record { found = s.found; stands = s.stands; is = is-behind trace played x.point x.keeps x.room s.found x.boots s.left }
 
   spent : (boot decisions : ℕ) → status ≡ NumbersSpent boot decisions → (are_spent boot decisions ≡ true) × AreNumbersBehind trace boot decisions

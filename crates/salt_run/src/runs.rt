@@ -1,4 +1,4 @@
-//! The runs that commands ask for, each by an engine of its own.
+//! The runs that commands ask for, each over a database of its own.
 
 ghost use Rattle.salt_devices.specs.Settling.{AreSettled};
 ghost use Rattle.salt_disk.specs.Disks.{Rose, SameShape};
@@ -24,11 +24,11 @@ ghost use Rattle.std.specs.Prelude.{List, Option, ℕ, ◌+◌, ◌≡◌, ◌�
 use crate::ended::Ended;
 use salt_devices::Devices;
 use salt_disk::Disks;
-use salt_engine::Engine;
+use salt_engine::{Database, Opening};
 use salt_io::{Sink, Source};
 use salt_model::{Flight, Story};
 use salt_serving::{Loaded, Status, Stop, load, serve, status_of, stop_opening, tell_unfound};
-use salt_steps::{Stepping, find};
+use salt_steps::{Openable, find};
 use salt_summary::print_summary;
 use salt_values::{Key, PlaceKind, Placement, Shape};
 use sqlite_items::Items;
@@ -102,13 +102,14 @@ pub fn run_script<S: Source, K: Sink, D: Disks, F: Fn(PlaceKind, &Key, u32) -> u
     let mut devices = Devices::new(alloc, shape_of(parts));
     match find(&mut devices, disks, place, &mut story) {
         Ok(found) => {
-            let mut engine = Engine::new(alloc, devices, found);
-            let done = serve(alloc, &mut engine, disks, place, source, sink, &mut story);
+            let opening = Opening::new(alloc, devices, found);
+            let mut database = Database::Closed(opening);
+            let done = serve(alloc, &mut database, disks, place, source, sink, &mut story);
             let status = status_behind(done);
             Ended {
                 status,
                 story,
-                flight: flight_at(status, engine.flight()),
+                flight: flight_at(status, database.flight()),
             }
         }
         Err(reason) => Ended {
@@ -175,13 +176,21 @@ pub fn run_load<K: Sink, D: Disks, F: Fn(PlaceKind, &Key, u32) -> u32>(
     let mut devices = Devices::new(alloc, shape_of(PARTS));
     match find(&mut devices, disks, place, &mut story) {
         Ok(found) => {
-            let mut engine = Engine::new(alloc, devices, found);
-            let Loaded { lines, done } = load(alloc, &mut engine, disks, place, calls, &mut story);
+            let opening = Opening::new(alloc, devices, found);
+            let mut database = Database::Closed(opening);
+            let Loaded { lines, done } = load(
+                alloc,
+                &mut database,
+                disks,
+                place,
+                calls,
+                &mut story,
+            );
             let status = write_summary(calls, lines, status_behind(done), sink, &story);
             Ended {
                 status,
                 story,
-                flight: flight_at(status, engine.flight()),
+                flight: flight_at(status, database.flight()),
             }
         }
         Err(reason) => Ended {

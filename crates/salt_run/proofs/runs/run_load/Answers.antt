@@ -1,7 +1,9 @@
 use Rattle.salt_devices.specs.Standing.{StandsHeld}
 use Rattle.salt_devices.specs.declared.devices.Devices.{Devices}
+use Rattle.salt_engine.proofs.FindDone.{found-finds}
 use Rattle.salt_engine.proofs.Lying.{opened-first}
 use Rattle.salt_engine.specs.Flights.{flight_of}
+use Rattle.salt_engine.specs.Halves.{database_flight}
 use Rattle.salt_model.specs.Trace.{Start}
 use Rattle.salt_run.proofs.EngineEnds.{any-start, as-told, begins-over, behind-faults, behind-outcome, behind-refused, behind-stops, flight-none, found-counts, found-is, load-over, nothing, nothing-begun, over-refused, unfound-counts, unfound-load, unfound-status}
 use Rattle.salt_run.proofs.Replayed.{load-replays}
@@ -16,15 +18,18 @@ use Rattle.salt_words.specs.declared.command.Command.TheVariants.{Load}
 use Rattle.std.proofs.Common.{ap, inl, inr, refl, subst, sym, ◌∙◌}
 use Rattle.std.specs.Prelude.{Err, None}
 
-pub new-engine-requires : goal.new-engine-requires
-new-engine-requires g c = c.in-Ok.ensures.found.unspent
+pub new-opening-requires : goal.new-opening-requires
+new-opening-requires g c = c.in-Ok.ensures.found.unspent
+
+pub load-lines-requires-clause-settled : goal.load-lines-requires-clause-settled
+load-lines-requires-clause-settled g c = found-finds _ _ _ _ c.new-opening.ensures.found
 
 pub load-lines-requires-clause-begins : goal.load-lines-requires-clause-begins
 load-lines-requires-clause-begins g c =
     let f = c.in-Ok.ensures.found in
     let mid = g.D.Disks.view c.find.new.disks in
-    let new = c.new-engine.ensures.is_new f.kept f.is f.sound in
-    let opens = opened-first _ _ mid.can_stop _ _ _ f.kept new (subst (λ (x : Devices). StandsHeld x.shape x.started x.store x.numbers x.pending mid f.kept) (sym c.new-engine.ensures.storage) f.holding) f.sound in
+    let new = c.new-opening.ensures.is_new f.kept f.is f.sound in
+    let opens = opened-first _ _ mid.can_stop _ _ _ _ f.kept new (subst (λ (x : Devices). StandsHeld x.shape x.started x.store x.numbers x.pending mid f.kept) (sym c.new-opening.ensures.storage) f.holding) f.sound in
     let b = begins-over f.kept mid.can_stop _ _ c.find.new.story c.find.ensures.unfound f.sound opens (ap flight_of new.none) in
     (record { kept = f.kept; can_stop = mid.can_stop }, b.0, b.1)
 
@@ -34,20 +39,20 @@ returns-in-Ok-clause-runs g c left =
     let mid = g.D.Disks.view c.find.new.disks in
     let e = g.D.Disks.view c.load-lines.new.disks in
     let f = c.in-Ok.ensures.found in
-    let x = c.load-lines.new.engine in
-    let y = x.storage in
+    let x = c.load-lines.new.database in
+    let flies = database_flight x in
     let z = c.new-devices.result in
     let r = c.load-lines.result in
     let status = c.write_summary-status.result in
     let s = streams left left (g.K.Sink.held c.args.sink.now) (g.K.Sink.held c.write_summary-status.new.sink) in
     let start : Start = record { kept = f.kept; can_stop = mid.can_stop } in
-    let new = c.new-engine.ensures.is_new f.kept f.is f.sound in
-    let opens = opened-first _ _ mid.can_stop _ _ _ f.kept new (subst (λ (x : Devices). StandsHeld x.shape x.started x.store x.numbers x.pending mid f.kept) (sym c.new-engine.ensures.storage) f.holding) f.sound in
+    let new = c.new-opening.ensures.is_new f.kept f.is f.sound in
+    let opens = opened-first _ _ mid.can_stop _ _ _ _ f.kept new (subst (λ (x : Devices). StandsHeld x.shape x.started x.store x.numbers x.pending mid f.kept) (sym c.new-opening.ensures.storage) f.holding) f.sound in
     let b = begins-over f.kept mid.can_stop _ _ c.find.new.story c.find.ensures.unfound f.sound opens (ap flight_of new.none) in
     let asked = c.new-devices.ensures.shape ∙ c.shape_of.ensures in
-    as-told (Load c.args.calls) d e s c.load-lines.new.story status status (flight_of x.in_flight) c.flight_at.result refl (c.flight_at.ensures ∙ ap (flight_at status) c.flight.ensures)
-    (inl (load-over d e y.shape y.started y.store y.numbers y.pending x.stage x.single x.in_flight c.requires.promised start f.sound c.find.ensures.shape.can_stop (flight_of x.in_flight) s c.load-lines.new.story
-    c.args.calls r.lines (c.load-lines.ensures.asked ∙ (λ i. (c.new-engine.ensures.storage i).shape) ∙ c.find.ensures.asked ∙ asked)
+    as-told (Load c.args.calls) d e s c.load-lines.new.story status status flies c.flight_at.result refl (c.flight_at.ensures ∙ ap (flight_at status) c.flight.ensures)
+    (inl (load-over d e x c.requires.promised start f.sound c.find.ensures.shape.can_stop flies s c.load-lines.new.story
+    c.args.calls r.lines (c.load-lines.ensures.asked ∙ (λ i. (c.new-opening.ensures.storage i).shape) ∙ c.find.ensures.asked ∙ asked)
     (found-is (Load c.args.calls) d z.started z.shape c.new-devices.ensures.started asked f.kept f.found) (outcome r.done) status
     (behind-outcome (outcome r.done) c.status_behind.result status c.status_behind.ensures c.write_summary-status.ensures.written) c.write_summary-status.ensures.summed (c.load-lines.ensures.ended start b.0 b.1)))
 
@@ -60,8 +65,8 @@ returns-in-Ok-clause-refused g c =
     let r = c.load-lines.result in
     let status = c.write_summary-status.result in
     let start : Start = record { kept = f.kept; can_stop = mid.can_stop } in
-    let new = c.new-engine.ensures.is_new f.kept f.is f.sound in
-    let opens = opened-first _ _ mid.can_stop _ _ _ f.kept new (subst (λ (x : Devices). StandsHeld x.shape x.started x.store x.numbers x.pending mid f.kept) (sym c.new-engine.ensures.storage) f.holding) f.sound in
+    let new = c.new-opening.ensures.is_new f.kept f.is f.sound in
+    let opens = opened-first _ _ mid.can_stop _ _ _ _ f.kept new (subst (λ (x : Devices). StandsHeld x.shape x.started x.store x.numbers x.pending mid f.kept) (sym c.new-opening.ensures.storage) f.holding) f.sound in
     let b = begins-over f.kept mid.can_stop _ _ c.find.new.story c.find.ensures.unfound f.sound opens (ap flight_of new.none) in
     let ends = (c.load-lines.ensures.ended start b.0 b.1).1 in
     behind-refused d e (shape_of (Load c.args.calls)) c.load-lines.new.story (outcome r.done) status

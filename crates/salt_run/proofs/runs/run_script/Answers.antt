@@ -1,7 +1,9 @@
 use Rattle.salt_devices.specs.Standing.{StandsHeld}
 use Rattle.salt_devices.specs.declared.devices.Devices.{Devices}
+use Rattle.salt_engine.proofs.FindDone.{found-finds}
 use Rattle.salt_engine.proofs.Lying.{opened-first}
 use Rattle.salt_engine.specs.Flights.{flight_of}
+use Rattle.salt_engine.specs.Halves.{database_flight}
 use Rattle.salt_model.specs.Trace.{Start}
 use Rattle.salt_run.proofs.EngineEnds.{any-start, as-told, begins-over, behind-faults, flight-none, found-counts, found-is, nothing, nothing-begun, over-refused, refused-as, script-over, unfound-counts}
 use Rattle.salt_run.proofs.Replayed.{script-replays}
@@ -14,15 +16,18 @@ use Rattle.salt_words.specs.declared.command.Command.TheVariants.{Run}
 use Rattle.std.proofs.Common.{ap, inl, inr, subst, sym, ◌∙◌}
 use Rattle.std.specs.Prelude.{Err, None}
 
-pub new-engine-requires : goal.new-engine-requires
-new-engine-requires g c = c.in-Ok.ensures.found.unspent
+pub new-opening-requires : goal.new-opening-requires
+new-opening-requires g c = c.in-Ok.ensures.found.unspent
+
+pub serve-done-requires-clause-settled : goal.serve-done-requires-clause-settled
+serve-done-requires-clause-settled g c = found-finds _ _ _ _ c.new-opening.ensures.found
 
 pub serve-done-requires-clause-begins : goal.serve-done-requires-clause-begins
 serve-done-requires-clause-begins g c =
     let f = c.in-Ok.ensures.found in
     let mid = g.D.Disks.view c.find.new.disks in
-    let new = c.new-engine.ensures.is_new f.kept f.is f.sound in
-    let opens = opened-first _ _ mid.can_stop _ _ _ f.kept new (subst (λ (x : Devices). StandsHeld x.shape x.started x.store x.numbers x.pending mid f.kept) (sym c.new-engine.ensures.storage) f.holding) f.sound in
+    let new = c.new-opening.ensures.is_new f.kept f.is f.sound in
+    let opens = opened-first _ _ mid.can_stop _ _ _ _ f.kept new (subst (λ (x : Devices). StandsHeld x.shape x.started x.store x.numbers x.pending mid f.kept) (sym c.new-opening.ensures.storage) f.holding) f.sound in
     let b = begins-over f.kept mid.can_stop _ _ c.find.new.story c.find.ensures.unfound f.sound opens (ap flight_of new.none) in
     (record { kept = f.kept; can_stop = mid.can_stop }, b.0, b.1)
 
@@ -32,20 +37,20 @@ returns-in-Ok-clause-runs g c =
     let mid = g.D.Disks.view c.find.new.disks in
     let e = g.D.Disks.view c.serve-done.new.disks in
     let f = c.in-Ok.ensures.found in
-    let x = c.serve-done.new.engine in
-    let y = x.storage in
+    let x = c.serve-done.new.database in
+    let flies = database_flight x in
     let z = c.new-devices.result in
     let status = c.status_behind-status.result in
     let s = streams (g.S.Source.left c.args.source.now) (g.S.Source.left c.serve-done.new.source) (g.K.Sink.held c.args.sink.now) (g.K.Sink.held c.serve-done.new.sink) in
     let start : Start = record { kept = f.kept; can_stop = mid.can_stop } in
-    let new = c.new-engine.ensures.is_new f.kept f.is f.sound in
-    let opens = opened-first _ _ mid.can_stop _ _ _ f.kept new (subst (λ (x : Devices). StandsHeld x.shape x.started x.store x.numbers x.pending mid f.kept) (sym c.new-engine.ensures.storage) f.holding) f.sound in
+    let new = c.new-opening.ensures.is_new f.kept f.is f.sound in
+    let opens = opened-first _ _ mid.can_stop _ _ _ _ f.kept new (subst (λ (x : Devices). StandsHeld x.shape x.started x.store x.numbers x.pending mid f.kept) (sym c.new-opening.ensures.storage) f.holding) f.sound in
     let b = begins-over f.kept mid.can_stop _ _ c.find.new.story c.find.ensures.unfound f.sound opens (ap flight_of new.none) in
     let asked = c.new-devices.ensures.shape ∙ c.shape_of.ensures in
-    as-told (Run c.args.parts) d e s c.serve-done.new.story (outcome c.serve-done.result) status (flight_of x.in_flight) c.flight_at.result c.status_behind-status.ensures
+    as-told (Run c.args.parts) d e s c.serve-done.new.story (outcome c.serve-done.result) status flies c.flight_at.result c.status_behind-status.ensures
     (c.flight_at.ensures ∙ ap (flight_at status) c.flight.ensures)
-    (inl (script-over d e y.shape y.started y.store y.numbers y.pending x.stage x.single x.in_flight c.requires.promised start f.sound c.find.ensures.shape.can_stop (flight_of x.in_flight) s c.serve-done.new.story
-    c.args.parts (c.serve-done.ensures.asked ∙ (λ i. (c.new-engine.ensures.storage i).shape) ∙ c.find.ensures.asked ∙ asked)
+    (inl (script-over d e x c.requires.promised start f.sound c.find.ensures.shape.can_stop flies s c.serve-done.new.story
+    c.args.parts (c.serve-done.ensures.asked ∙ (λ i. (c.new-opening.ensures.storage i).shape) ∙ c.find.ensures.asked ∙ asked)
     (found-is (Run c.args.parts) d z.started z.shape c.new-devices.ensures.started asked f.kept f.found) (outcome c.serve-done.result) (c.serve-done.ensures.ended start b.0 b.1)))
 
 pub returns-in-Ok-clause-refused : goal.returns-in-Ok-clause-refused
@@ -55,8 +60,8 @@ returns-in-Ok-clause-refused g c =
     let e = g.D.Disks.view c.serve-done.new.disks in
     let f = c.in-Ok.ensures.found in
     let start : Start = record { kept = f.kept; can_stop = mid.can_stop } in
-    let new = c.new-engine.ensures.is_new f.kept f.is f.sound in
-    let opens = opened-first _ _ mid.can_stop _ _ _ f.kept new (subst (λ (x : Devices). StandsHeld x.shape x.started x.store x.numbers x.pending mid f.kept) (sym c.new-engine.ensures.storage) f.holding) f.sound in
+    let new = c.new-opening.ensures.is_new f.kept f.is f.sound in
+    let opens = opened-first _ _ mid.can_stop _ _ _ _ f.kept new (subst (λ (x : Devices). StandsHeld x.shape x.started x.store x.numbers x.pending mid f.kept) (sym c.new-opening.ensures.storage) f.holding) f.sound in
     let b = begins-over f.kept mid.can_stop _ _ c.find.new.story c.find.ensures.unfound f.sound opens (ap flight_of new.none) in
     let ends = (c.serve-done.ensures.ended start b.0 b.1).1 in
     refused-as d e (shape_of (Run c.args.parts)) c.serve-done.new.story (outcome c.serve-done.result) c.status_behind-status.result c.status_behind-status.ensures
