@@ -1,6 +1,7 @@
-//! A log of ten entries on a device that is a file: the entries that stand after a restart, each on a line, and how many stand for another value of
-//! the same folder. Then how long the device's file is; what a device that was not used is opened as; and what is answered in a folder that is a
-//! file, in one whose own folder is missing, in one with no name, and of a write past the limit.
+//! A log of ten entries on a device that is a file: the entries that stand after a restart, each on a line; what other disks over the same folder are
+//! answered while these hold it, and how many entries stand for them once they don't. Then how long the device's file is; what a device that was not
+//! used is opened as; and what is answered in a folder that is a file, in one whose own folder is missing, in one with no name, and of a write past
+//! the limit.
 #![tactic(auto)]
 
 ghost use Rattle.std.specs.Prelude.{◌≡◌, ◌<◌, List, ℕ};
@@ -130,6 +131,9 @@ fn main(rt: HostRuntime) -> io::Result<()> {
         Err(why) => println!(rt; "{}", word_of(why))?,
     }
     let mut again = FileDisks::new(rt.clone()?, FOLDER)?;
+    let held = opened_as(rt.alloc(), &mut again, DEVICE)?;
+    println!(rt; "{held}")?;
+    drop(disks);
     let same = opened_as(rt.alloc(), &mut again, DEVICE)?;
     println!(rt; "{same}")?;
     let length = fs::metadata(&rt, "disks/3")?.len();

@@ -5,6 +5,7 @@ ghost use Rattle.std.specs.Io.KnownBytes.{Appends, Consumes, IsAtEnd};
 ghost use Rattle.std.specs.Io.Seek.{MovesTo};
 ghost use Rattle.salt_files.specs.declared.calls.FileErr.TheVariants.{Memory};
 
+use crate::holding::TryHold;
 use std::alloc::AllocError;
 use std::fs::OpenFile;
 use std::io::{self, ErrorKind, Read, Seek, SeekFrom, Write};
@@ -125,6 +126,21 @@ fn flush_and_sync<F: Write + OpenFile>(file: &mut F) -> io::Result<()> {
 pub(crate) fn sync_file<F: Write + OpenFile>(file: &mut F) -> Result<(), FileErr> {
     for _ in 0..=RETRIES {
         match flush_and_sync(file) {
+            Ok(()) => return Ok(()),
+            Err(error) => {
+                if !matches!(error.kind(), ErrorKind::Interrupted) {
+                    return Err(FileErr::Failed);
+                }
+            }
+        }
+    }
+    Err(FileErr::Failed)
+}
+
+/// Holds a file, where no other handle does.
+pub(crate) fn hold_file<F: TryHold>(file: &F) -> Result<(), FileErr> {
+    for _ in 0..=RETRIES {
+        match file.try_hold() {
             Ok(()) => return Ok(()),
             Err(error) => {
                 if !matches!(error.kind(), ErrorKind::Interrupted) {

@@ -5,7 +5,8 @@ ghost use Rattle.salt_disk.specs.Disks.{HasCause, OnlyFails};
 ghost use Rattle.salt_files.specs.FileDisks.{untold};
 
 use crate::calls::{FileErr, read_full, seek_to, sync_file, write_whole};
-use crate::opening::open_device;
+use crate::holding::TryHold;
+use crate::opening::{hold_folder, open_device};
 use salt_disk::{DiskErr, Disks};
 use std::alloc::AllocError;
 use std::marker::Model;
@@ -20,15 +21,18 @@ const LIMIT: u64 = 1 << 40;
 /// 26 devices, each of them the file in a folder whose name is the device's number. They tell nothing of their bytes, and can't
 /// be stopped.
 ///
-/// A file is opened, and made where it is missing, when its device is first used, and so is the folder; each device has at most
-/// one file open. A call that is interrupted is tried again up to 16 times, and then counts as a fault, as every other error does.
-/// What a file has past the limit is not the device's.
+/// A file is opened, and made where it is missing, when its device is first used; each device has at most one file open. Before the
+/// first of them the folder is made where it is missing, and held for as long as the disks live, restarts included: while other
+/// disks hold it, each call that would use a file fails, and has opened, read, written and made none. A call that is interrupted is
+/// tried again up to 16 times, and then counts as a fault, as every other error does. What a file has past the limit is not the
+/// device's.
 #[derive(Drop)]
 pub struct FileDisks<R: Files + AllocGlobal + Drop> {
     rt: R,
     folder: String,
     files: Vec<Option<R::File>>,
-    pub(crate) faults: u64,
+    held: Option<R::File>,
+    faults: u64,
 }
 
 // Contracts see the folder's name and the count of faults.
@@ -43,7 +47,10 @@ impl<R: Files + AllocGlobal + Drop> Model for FileDisks<R> {
     ghost invariant = { λ disks. length disks.files.items ≡ 26 };
 }
 
-impl<R: Files + AllocGlobal + Drop> FileDisks<R> {
+impl<R: Files + AllocGlobal + Drop> FileDisks<R>
+where
+    R::File: TryHold,
+{
     /// The files of this folder, with no fault and none opened yet.
     pub fn new(rt: R, folder: &str) -> Result<FileDisks<R>, AllocError>
         ensures { IfOk result (λ disks. disks ≡ record { name = folder.now; faults = 0 }) }
@@ -57,6 +64,7 @@ impl<R: Files + AllocGlobal + Drop> FileDisks<R> {
             rt,
             folder,
             files,
+            held: None,
             faults: 0,
         })
     }
@@ -68,8 +76,21 @@ impl<R: Files + AllocGlobal + Drop> FileDisks<R> {
     {
         match self.files[dev as usize].take() {
             Some(file) => Ok(file),
-            None => open_device(&self.rt, self.folder.as_str(), dev),
+            None => self.open_held(dev),
         }
+    }
+
+    /// Opens the device's file, in the folder that is held from here on.
+    fn open_held(&mut self, dev: u32) -> Result<R::File, FileErr>
+        ensures { self.new ≡ self.old }
+    {
+        let mut held = match self.held.take() {
+            Some(held) => held,
+            None => hold_folder(&self.rt, self.folder.as_str())?,
+        };
+        let answer = open_device(&self.rt, self.folder.as_str(), &mut held, dev);
+        self.held = Some(held);
+        answer
     }
 
     fn read_device(&mut self, dev: u32, at: u64, buf: &mut [u8]) -> Result<usize, FileErr>
@@ -126,7 +147,10 @@ impl<R: Files + AllocGlobal + Drop> FileDisks<R> {
     }
 }
 
-impl<R: Files + AllocGlobal + Drop> Disks for FileDisks<R> {
+impl<R: Files + AllocGlobal + Drop> Disks for FileDisks<R>
+where
+    R::File: TryHold,
+{
     ghost use Rattle.salt_files.specs.FileDisks.{untold};
 
     ghost view = { untold };

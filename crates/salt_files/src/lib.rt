@@ -3,9 +3,11 @@
 
 mod calls;
 mod file_disks;
+mod holding;
 mod opening;
 
 pub use file_disks::FileDisks;
+pub use holding::TryHold;
 
 #[cfg(test)]
 mod fake_files;
