@@ -11,6 +11,7 @@ use salt_io::{StdSink, StdSource};
 use salt_run::{Status, folder_of, run};
 use salt_values::{Key, PlaceKind, Placement, place_of};
 use std::alloc::AllocError;
+use std::fs::File;
 use std::process::ExitCode;
 use std::rt::Env;
 use std::{env, io};
@@ -29,6 +30,18 @@ fn words(rt: &(impl Env + AllocGlobal)) -> io::Result<Vec<String>> {
     Ok(words)
 }
 
+/// Three files without bytes, which can't be written. While they are open the descriptors 0 to 2 are taken.
+///
+/// A file that is opened gets the least descriptor that is free. Where a standard stream is closed that is the stream's own, and the
+/// first device's file would take what is printed, or be read as the script.
+fn take_streams(rt: &HostRuntime) -> io::Result<[File; 3]> {
+    Ok([
+        File::open(rt, "/dev/null")?,
+        File::open(rt, "/dev/null")?,
+        File::open(rt, "/dev/null")?,
+    ])
+}
+
 /// Runs what the words say over these devices.
 fn run_over<D: Disks>(rt: &HostRuntime, words: &[String], disks: &mut D) -> Status
     requires devices { 26 ≤ (D.view disks.old).count }
@@ -45,9 +58,12 @@ fn run_over<D: Disks>(rt: &HostRuntime, words: &[String], disks: &mut D) -> Stat
     run(rt.alloc(), words, &mut source, &mut sink, disks, &place).status
 }
 
-/// Runs what the words say: over the files of the folder that they name, or in memory.
+/// Runs what the words say: over the files of the folder that they name, or in memory. No device's file is opened where a closed stream
+/// might get it.
 fn run_words(rt: &HostRuntime, words: &[String]) -> Result<Status, AllocError> {
+    let streams = take_streams(rt);
     match folder_of(words) {
+        Some(_) if streams.is_err() => Ok(Status::DiskFault),
         Some(folder) => {
             let mut disks = FileDisks::new(rt, folder)?;
             Ok(run_over(rt, words, &mut disks))
