@@ -14,7 +14,7 @@ use Rattle.salt_recovery.specs.declared.recovery.Recovery.{Recovery}
 use Rattle.salt_scheduler.specs.declared.scheduler.Scheduler.{Scheduler}
 use Rattle.salt_storage.specs.declared.found.Numbers.{Numbers}
 use Rattle.salt_values.specs.declared.id.Id.{Id}
-use Rattle.std.proofs.Common.{sym, ◌∙◌}
+use Rattle.std.proofs.Common.{◌∙◌}
 use Rattle.std.specs.Prelude.{Bool, List, None, Option, Some, refl, ℕ, ◌≡◌}
 
 pub down-finds : (settled : Type 0) (leaves : Kept → Kept → Type 0) (stage : Stage Recovery) (s : UnitState) → (IsGoingStage stage → ⊥) → KnowsUnits (opening_books stage) s → settled →
@@ -42,7 +42,3 @@ pub seen-schema : (holds : Kept → Type 0) (is_new : Id → Type 0) (stage : St
 seen-schema holds is_new (at.Going x) s schema tells h = tells x.books refl ∙ h.0.books.known.schema
 seen-schema holds is_new (at.Down books) s schema tells h = absurd h
 seen-schema holds is_new at.Lost s schema tells h = absurd h
-
--- the books that a stage has are these
-pub some-books : (x y : Books) (books : Option Books) → books ≡ Some x → books ≡ Some y → x ≡ y
-some-books x y books is_x is_y = let both : Some x ≡ Some y = sym is_x ∙ is_y in cc

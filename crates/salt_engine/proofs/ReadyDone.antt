@@ -19,13 +19,13 @@ use Rattle.salt_keeps.proofs.NextTold.{may-stand}
 use Rattle.salt_laws.proofs.Salted.{holds, may-fit}
 use Rattle.salt_laws.proofs.WellKept.{of-start}
 use Rattle.salt_model.specs.Kept.{Kept, WellKept}
-use Rattle.salt_model.specs.Phases.{Opening, Phase, Serving, phase}
+use Rattle.salt_model.specs.Phases.{Opening, Phase, phase}
 use Rattle.salt_model.specs.Played.{IsPlayed}
 use Rattle.salt_model.specs.Trace.{Trace, from, start_of, ◌asks◌, ◌says◌, ◌turns◌}
 use Rattle.salt_model.specs.Units.{base_count}
 use Rattle.salt_model.specs.declared.events.Event.TheVariants.{Began, Down, Opened, Ready}
 use Rattle.salt_model.specs.declared.events.UnitKind.TheVariants.{First}
-use Rattle.salt_openings.proofs.Opening.{none-to-go}
+use Rattle.salt_openings.proofs.Opening.{none-to-go, serves-not}
 use Rattle.salt_recovery.specs.Recovering.{HasDone}
 use Rattle.salt_recovery.specs.declared.recovery.Recovery.{Recovery}
 use Rattle.salt_steps.specs.Standing.{IsSoundPoint}
@@ -61,18 +61,15 @@ ready-none s trace keeps sound =
 
 -- no program begins in an opening
 
-never-both : (q : Phase) → q ≡ Serving → q ≡ Opening → ⊥
-never-both q s o = let no = sym s ∙ o in cc
-
 no-bases : (trace : Trace) → IsPlayed trace → WellKept (start_of trace).kept → phase trace ≡ Opening → base_count trace ≡ 0
 no-bases (from k) p w h = refl
-no-bases (trace asks asked) p w h = absurd (never-both (phase trace) p.1.0 h)
-no-bases (trace turns b) p w h = absurd (never-both (phase trace) p.1 h)
+no-bases (trace asks asked) p w h = absurd (serves-not (phase trace) p.1.0 (inr h))
+no-bases (trace turns b) p w h = absurd (serves-not (phase trace) p.1 (inr h))
 no-bases (trace says Down why) p w h = cc
 no-bases (trace says Opened boot n) p w h = refl
 no-bases (trace says Ready) p w h = cc
 no-bases (trace says Began u (First s b n args)) p w h =
-    absurd (never-both (phase trace) (may-fit trace (Began u (First s b n args)) (holds trace p.0 (of-start (start_of trace).kept w)).comes p.1).2.0 h)
+    absurd (serves-not (phase trace) (may-fit trace (Began u (First s b n args)) (holds trace p.0 (of-start (start_of trace).kept w)).comes p.1).2.0 (inr h))
 no-bases (trace says Began u kind) p w h = no-bases trace p.0 w h
 no-bases (trace says e) p w h = no-bases trace p.0 w h
 

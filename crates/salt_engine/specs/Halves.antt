@@ -53,10 +53,6 @@ abbrev pub IfClosed : {S : Type 0} → (Opening S → Type 0) → Database S →
 IfClosed P (Closed o) = P o
 IfClosed P x = ⊥
 
-abbrev pub IsClosed : {S : Type 0} → Database S → Type 0
-IsClosed (Closed o) = ⊤
-IsClosed x = ⊥
-
 abbrev pub database_flight : {S : Type 0} → Database S → Option Flight
 database_flight x = by_half (λ o. flight_of o.in_flight) (λ e. flight_of e.in_flight) None x
 

@@ -2,7 +2,7 @@
 
 ghost use Rattle.salt_engine.specs.Performing.{IsServed};
 ghost use Rattle.salt_engine.specs.Standing.{CanFind, IsFoundStage, goes_in, left_in, waits_in};
-ghost use Rattle.std.specs.Prelude.{[], ◌≡◌};
+ghost use Rattle.std.specs.Prelude.{[], ⊤, ◌≡◌};
 
 use crate::engine::Engine;
 use crate::opening::Opening;
@@ -37,12 +37,12 @@ impl<S: Drop> Drop for Database<S> {
 }
 
 impl<S: Drop> Database<S> {
-    ghost use Rattle.salt_engine.specs.Halves.{IsClosed, IsLeftBy, IsMade};
+    ghost use Rattle.salt_engine.specs.Halves.{IfClosed, IsLeftBy, IsMade};
     ghost use Rattle.salt_engine.specs.declared.database.Database.TheVariants.{Closed};
 
     /// The opening of one that is closed.
     fn closed(self) -> Opening<S>
-        requires { IsClosed self }
+        requires { IfClosed (λ o. ⊤) self }
         ensures { self ≡ Closed result }
     {
         match self {
