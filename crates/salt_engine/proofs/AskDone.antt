@@ -107,10 +107,8 @@ pub to-turn : (holds : Kept → Type 0) (is_new : Id → Type 0) (stage : Stage 
 to-turn holds is_new stage line b x p sound serves served none turn seen there =
     let h = seen-at holds is_new stage (at.Going x) None p.state there seen in
     record {
-      turn = turn;
+      turns = record { turn = turn; serves = turned-serves b p sound serves none turn line served; stands = h.0 };
       played = turned-played b p sound serves none turn;
-      serves = turned-serves b p sound serves none turn line served;
-      stands = h.0;
       stored = h.1;
     }
 

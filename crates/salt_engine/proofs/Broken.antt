@@ -59,3 +59,7 @@ module _ {H : Type 0} (leaves : Kept → Kept → Type 0) (fills : Written → �
 
   pub breaks-before : leaves s.kept s.kept → IsLost stage in_flight → BreaksOff leaves fills Memory stage in_flight meant s
   breaks-before left lost = breaks-lost s.kept left (inl refl) lost
+
+  -- of the halt as it is passed on
+  pub broken-as : (halt told : Halt) → told ≡ halt → BreaksOff leaves fills halt stage in_flight meant s → BreaksOff leaves fills told stage in_flight meant s
+  broken-as halt told is broken = subst (λ (h : Halt). BreaksOff leaves fills h stage in_flight meant s) (sym is) broken

@@ -1,9 +1,14 @@
 -- Stops and faults, as a call of the storage counts them.
 use Rattle.salt_disk.specs.Disks.{HasCause, View}
 use Rattle.salt_disk.specs.declared.disks.DiskErr.TheVariants.{Memory}
-use Rattle.salt_steps.specs.Counting.{CountsStops}
-use Rattle.std.proofs.Common.{arith}
-use Rattle.std.specs.Prelude.{None, Some, refl, ℕ, ◌+◌, ◌≡◌}
+use Rattle.salt_model.specs.declared.events.Event.{Event}
+use Rattle.salt_steps.proofs.Counted.{counts-cause}
+use Rattle.salt_steps.specs.Counting.{CountsStops, armed_by}
+use Rattle.salt_storage.specs.Answers.{disk_err, disk_err_of}
+use Rattle.salt_storage.specs.declared.halt.Halt.{Halt}
+use Rattle.std.proofs.Common.{arith, subst, sym}
+use Rattle.std.specs.Prelude.{Err, None, Ok, Option, Result, Some, refl, ℕ, ◌+◌, ◌≡◌}
+use Rattle.std.specs.Result.{IsErrAnd}
 
 -- a call that was not made
 pub same-cause : (d : View) → HasCause d d None
@@ -12,6 +17,21 @@ same-cause d = record { later = omega arith; failed = λ h. cc; stops = omega ar
 -- what was done was for nothing, since memory ran out behind it
 pub cause-lost : (old new : View) → HasCause old new None → HasCause old new (Some Memory)
 cause-lost old new h = record { later = h.later; failed = λ f. cc; stops = h.stops }
+
+-- a call of the storage was broken off
+pub counts-broken : (old new : View) (result : Result (Option Event) Halt) (halt : Halt) → IsErrAnd result (λ told. told ≡ halt) → HasCause old new (Some (disk_err_of halt)) →
+    CountsStops old new (disk_err result) (armed_by result) 0
+counts-broken old new (Ok e) halt never h = absurd never
+counts-broken old new (Err told) halt is h =
+    counts-cause old new (Some (disk_err_of told)) 0 refl (subst (λ (t : Halt). HasCause old new (Some (disk_err_of t))) (sym is) h)
+
+pub cause-told : (old new : View) (halt told : Halt) → told ≡ halt → HasCause old new (Some (disk_err_of halt)) → HasCause old new (Some (disk_err_of told))
+cause-told old new halt told is h = subst (λ (t : Halt). HasCause old new (Some (disk_err_of t))) (sym is) h
+
+pub cause-broken : {T : Type 0} (old new : View) (result : Result T Halt) (halt : Halt) → IsErrAnd result (λ told. told ≡ halt) → HasCause old new (Some (disk_err_of halt)) →
+    HasCause old new (disk_err result)
+cause-broken old new (Ok e) halt never h = absurd never
+cause-broken old new (Err told) halt is h = subst (λ (t : Halt). HasCause old new (Some (disk_err_of t))) (sym is) h
 
 pub counts-armed : (old new : View) (armed : ℕ) → new.faults ≡ old.faults → new.stops_left ≡ old.stops_left + armed → CountsStops old new None armed 0
 counts-armed old new armed faults stops = record {

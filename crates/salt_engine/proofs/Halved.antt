@@ -2,7 +2,7 @@
 use Rattle.salt_ast.specs.declared.lines.Line.{Line}
 use Rattle.salt_books.specs.declared.books.Books.{Books}
 use Rattle.salt_engine.specs.Flights.{IsInFlight}
-use Rattle.salt_engine.specs.Halves.{IsBehind, IsLeftBy, database_lies, database_sees, engine_lies, engine_sees, opening_lies, opening_sees}
+use Rattle.salt_engine.specs.Halves.{IsBehind, IsLeftBy, by_half, database_lies, database_sees, engine_lies, engine_sees, opening_lies, opening_sees}
 use Rattle.salt_engine.specs.Standing.{AreOpened, KnowsUnits, Left, OpensIn, SeesIn, ServesFrom}
 use Rattle.salt_engine.specs.Stored.{Stored}
 use Rattle.salt_engine.specs.declared.database.Database.TheVariants.{Closed, Moving, Open}
@@ -22,7 +22,7 @@ use Rattle.salt_steps.specs.Opening.{OpensAt}
 use Rattle.salt_steps.specs.Standing.{IsAt, IsIdleAt, IsOpeningAt}
 use Rattle.salt_storage.specs.declared.found.Numbers.{Numbers}
 use Rattle.salt_values.specs.declared.id.Id.{Id}
-use Rattle.std.proofs.Common.{refl, subst, sym, ◌∙◌}
+use Rattle.std.proofs.Common.{ap, refl, subst, sym, ◌∙◌}
 use Rattle.std.specs.Prelude.{Bool, List, None, Option, Some, ℕ, ◌≡◌}
 
 module _ {S : Type 0} (holds : S → Kept → Type 0) (is_new : S → Id → Type 0) (stoppable : Bool) where
@@ -106,3 +106,13 @@ module _ {S : Type 0} (holds : S → Kept → Type 0) (leaves : S → Kept → K
   left-by (Closed was) o is h = subst (λ (y : Opening S). opening_lies holds leaves stoppable y room p) (sym is) h
   left-by (Open e) o b h = behind-lies e o b h
   left-by Moving o b h = absurd h
+
+-- what is read off the half that it has
+
+pub open-same : {S A : Type 0} (closed : Opening S → A) (served : Engine S → A) (moving : A) (x : Database S) (e now : Engine S) → x ≡ Open e → served now ≡ served e →
+    by_half closed served moving (Open now) ≡ by_half closed served moving x
+open-same closed served moving x e now is same = same ∙ sym (ap (by_half closed served moving) is)
+
+pub closed-same : {S A : Type 0} (closed : Opening S → A) (served : Engine S → A) (moving : A) (x : Database S) (o now : Opening S) → x ≡ Closed o → closed now ≡ closed o →
+    by_half closed served moving (Closed now) ≡ by_half closed served moving x
+closed-same closed served moving x o now is same = same ∙ sym (ap (by_half closed served moving) is)

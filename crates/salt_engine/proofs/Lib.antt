@@ -33,6 +33,7 @@ pub mod LineArms
 pub mod LineAsked
 pub mod LineChosen
 pub mod LineDefines
+pub mod Outcome
 pub mod OpenDone
 pub mod SayDone
 pub mod Spent

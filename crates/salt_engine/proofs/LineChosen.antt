@@ -3,13 +3,11 @@ use Rattle.salt_books.specs.Coming.{event_meant}
 use Rattle.salt_books.specs.declared.coming.Coming.TheVariants as coming
 use Rattle.salt_books.specs.declared.coming.Coming.{Coming}
 use Rattle.salt_engine.proofs.Performed.{stored-plain}
-use Rattle.salt_engine.proofs.Plain.{plain-unarmed}
-use Rattle.salt_engine.specs.Performing.{BreaksOff, IsPlayedBefore, IsToServe, Performs, StoredAt, is_prepared}
+use Rattle.salt_engine.specs.Performing.{IsPlayedBefore, IsToServe, Performs, StoredAt, is_prepared}
 use Rattle.salt_engine.specs.Stored.{Stored}
 use Rattle.salt_engine.specs.declared.flights.InFlight.{InFlight}
 use Rattle.salt_engine.specs.declared.stage.Stage.TheVariants as at
 use Rattle.salt_engine.specs.declared.stage.Stage.{Stage}
-use Rattle.salt_keeps.specs.OpenUnits.{UnitState}
 use Rattle.salt_keeps.specs.States.{State}
 use Rattle.salt_model.specs.Kept.{Kept}
 use Rattle.salt_model.specs.Phases.{Serving}
@@ -17,12 +15,9 @@ use Rattle.salt_model.specs.declared.events.Event.{Event}
 use Rattle.salt_scheduler.proofs.Following.{not-of-run}
 use Rattle.salt_scheduler.specs.Standing as scheduling
 use Rattle.salt_scheduler.specs.declared.scheduler.Scheduler.{Scheduler}
-use Rattle.salt_steps.specs.Counting.{armed_at}
-use Rattle.salt_storage.specs.Writing.{Written}
-use Rattle.salt_storage.specs.declared.halt.Halt.{Halt}
 use Rattle.salt_values.specs.declared.id.Id.{Id}
 use Rattle.std.proofs.Common.{ap, subst, sym, ◌∙◌}
-use Rattle.std.specs.Prelude.{None, Option, Some, false, refl, true, ℕ, ◌≡◌}
+use Rattle.std.specs.Prelude.{None, Option, Some, false, refl, true, ◌≡◌}
 use Rattle.salt_engine.specs.Standing.{SeesIn}
 
 stored-at : (holds : Kept → Type 0) (is_new : Id → Type 0) (x : Scheduler) (c : Coming) (meant : Option Event) (s : State) → IsPlayedBefore meant s →
@@ -52,10 +47,6 @@ pub performs-same : (holds : Kept → Type 0) (is_new : Id → Type 0) (stage : 
     Performs (SeesIn holds is_new stage) in_flight other given s → Performs (SeesIn holds is_new stage) in_flight meant given s
 performs-same holds is_new stage in_flight meant other given s same p = record { told = p.told ∙ same; sees = p.sees; none = p.none }
 
-pub breaks-same : (leaves : Kept → Kept → Type 0) (fills : Written → ℕ → Type 0) (halt : Halt) (stage : Stage Scheduler) (in_flight : Option InFlight) (meant other : Option Event)
-    (s : UnitState) → other ≡ meant → BreaksOff leaves fills halt stage in_flight other s → BreaksOff leaves fills halt stage in_flight meant s
-breaks-same leaves fills halt stage in_flight meant other s same b = subst (λ (m : Option Event). BreaksOff leaves fills halt stage in_flight m s) same b
-
 -- BY WHAT is to come: nothing, or an event that the scheduler has done
 
 pub serve-as : (holds : Kept → Type 0) (is_new : Id → Type 0) (x : Scheduler) (c d : Coming) (s : State) → c ≡ d → IsToServe holds is_new x c s → IsToServe holds is_new x d s
@@ -75,11 +66,6 @@ told-performs holds is_new x c e in_flight s is h none =
     let done = k.ready.0 in
     performs-same holds is_new (at.Going x) in_flight (event_meant s.units c) (Some e) (Some e) s (ap (event_meant s.units) (sym is))
     (record { told = refl; sees = (done.0, done.1, subst (Stored holds is_new) (sym done.1.after.units) k.stored, k.serves); none = none })
-
--- what is no preparation arms nothing
-pub performed-unarmed : (holds : Kept → Type 0) (is_new : Id → Type 0) (stage : Stage Scheduler) (in_flight : Option InFlight) (meant given : Option Event) (s : State) →
-    is_prepared meant ≡ false → Performs (SeesIn holds is_new stage) in_flight meant given s → armed_at given ≡ 0
-performed-unarmed holds is_new stage in_flight meant given s plain p = ap armed_at p.told ∙ plain-unarmed meant plain
 
 -- a definition, and stops that are armed, are to be prepared
 pub never-prepared : (holds : Kept → Type 0) (is_new : Id → Type 0) (x : Scheduler) (c d : Coming) (s : State) → c ≡ d → is_prepared (event_meant s.units d) ≡ true →

@@ -22,7 +22,7 @@ use Rattle.salt_engine.specs.declared.flights.InFlight.TheVariants as asked
 use Rattle.salt_engine.specs.declared.flights.InFlight.{InFlight}
 use Rattle.salt_engine.specs.declared.stage.Stage.TheVariants as at
 use Rattle.salt_engine.specs.declared.stage.Stage.{Stage}
-use Rattle.salt_keeps.specs.OpenUnits.{OpenUnit, UnitState, unit_named}
+use Rattle.salt_keeps.specs.OpenUnits.{OpenUnit, unit_named}
 use Rattle.salt_keeps.specs.States.{State}
 use Rattle.salt_keeps.specs.Steps.{units_after}
 use Rattle.salt_keeps.specs.Told.{commits_in, does_in}
@@ -263,11 +263,3 @@ comes-unarmed holds is_new x c pairs s h is = let plain : is_prepared (event_mea
 
 pub to-open-as : (holds : Kept → Type 0) (is_new : Id → Type 0) (x : Recovery) (c d : Coming) (s : State) → c ≡ d → IsToOpen holds is_new x c s → IsToOpen holds is_new x d s
 to-open-as holds is_new x c d s is h = subst (λ (b : Coming). IsToOpen holds is_new x b s) is h
-
-pub performs-as : (holds : Kept → Type 0) (is_new : Id → Type 0) (stage : Stage Recovery) (in_flight : Option InFlight) (a b given : Option Event) (s : State) → a ≡ b →
-    Performs (OpensIn holds is_new stage) in_flight a given s → Performs (OpensIn holds is_new stage) in_flight b given s
-performs-as holds is_new stage in_flight a b given s is h = record { told = h.told ∙ is; sees = h.sees; none = h.none }
-
-pub breaks-as : (leaves : Kept → Kept → Type 0) (fills : Written → ℕ → Type 0) (halt : Halt) (stage : Stage Recovery) (in_flight : Option InFlight) (a b : Option Event) (s : UnitState) → a ≡ b →
-    BreaksOff leaves fills halt stage in_flight a s → BreaksOff leaves fills halt stage in_flight b s
-breaks-as leaves fills halt stage in_flight a b s is h = subst (λ (o : Option Event). BreaksOff leaves fills halt stage in_flight o s) is h

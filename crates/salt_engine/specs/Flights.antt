@@ -2,6 +2,7 @@
 use Rattle.salt_ast.specs.ProgramTexts.{program_text}
 use Rattle.salt_ast.specs.Texts.{table_text}
 use Rattle.salt_ast.specs.declared.lines.Line.TheVariants as line
+use Rattle.salt_ast.specs.declared.lines.Line.{Line}
 use Rattle.salt_ast.specs.declared.programs.ProgramDef.{ProgramDef}
 use Rattle.salt_ast.specs.declared.trees.TableDef.{TableDef}
 use Rattle.salt_books.specs.Coming.{IsLaterUnit}
@@ -17,7 +18,7 @@ use Rattle.salt_model.specs.declared.events.Flight.TheVariants as flight
 use Rattle.salt_model.specs.declared.events.Flight.{Flight}
 use Rattle.salt_program.specs.Refusals.{parts_in, program_refusal}
 use Rattle.salt_schema.specs.Refusals.{table_refusal}
-use Rattle.std.specs.Prelude.{None, Option, Some, length, option_map, ◌<◌, ◌^◌, ◌≡◌}
+use Rattle.std.specs.Prelude.{List, None, Option, Some, [], length, option_map, ℕ, ◌<◌, ◌^◌, ◌≡◌}
 
 -- what is told of it
 abbrev pub told_of : InFlight → Flight
@@ -28,6 +29,17 @@ told_of (Program p text) = flight.Definition text
 
 abbrev pub flight_of : Option InFlight → Option Flight
 flight_of f = option_map told_of f
+
+-- what a line asks of the storage that defines something, by its canonical text
+abbrev pub definition_of : Line → Option InFlight
+definition_of (line.Table d) = Some (Table d (table_text d))
+definition_of (line.Program p) = Some (Program p (program_text p))
+definition_of l = None
+
+abbrev pub text_of : InFlight → List ℕ
+text_of (Table d text) = text
+text_of (Program p text) = text
+text_of f = []
 
 -- a table, and a program, of the last line that may be defined
 pub record IsTableToCome (s : UnitState) (d : TableDef) : Type 0 where

@@ -6,6 +6,7 @@ use Rattle.salt_books.specs.Coming.{event_meant}
 use Rattle.salt_books.specs.declared.books.Books.{Books}
 use Rattle.salt_books.specs.declared.coming.Coming.TheVariants as coming
 use Rattle.salt_books.specs.declared.coming.Coming.{Coming}
+use Rattle.salt_disk.specs.Disks.{SameShape, View}
 use Rattle.salt_engine.specs.Flights.{IsInFlight}
 use Rattle.salt_engine.specs.Stored.{LeavesEither, Stored, kept_behind}
 use Rattle.salt_engine.specs.declared.flights.InFlight.{InFlight}
@@ -43,7 +44,9 @@ use Rattle.salt_storage.specs.declared.halt.Halt.{Halt}
 use Rattle.salt_types.specs.Played.{HasKey}
 use Rattle.salt_types.specs.Typed.{IsTyped}
 use Rattle.salt_values.specs.declared.id.Id.{Id}
-use Rattle.std.specs.Prelude.{Bool, IsSome, None, Option, Some, false, true, ℕ, ◌+◌, ◌≡◌, ◌≤◌, ◌⊎◌}
+use Rattle.salt_values.specs.declared.placement.Shape.{Shape}
+use Rattle.std.specs.Result.{MatchResult}
+use Rattle.std.specs.Prelude.{Bool, IsSome, None, Option, Result, Some, false, true, ℕ, ◌+◌, ◌≡◌, ◌≤◌, ◌⊎◌}
 
 -- this comes next in a state of a played trace, of a typed start and over lines whose tables have keys
 pub record IsPlayedBefore (comes : Option Event) (s : State) : Type 0 where
@@ -100,12 +103,16 @@ pub record GoesOnServing (holds : Kept → Type 0) (is_new : Id → Type 0) (lin
   pub stands : scheduling.StandsBehind x s
   pub stored : Stored holds is_new s.units
 
--- `go all` is to turn to a program, and what that brings comes next
-pub record Turns (holds : Kept → Type 0) (is_new : Id → Type 0) (line : Line) (base : Id) (x : Scheduler) (s : State) : Type 0 where
+-- `go all` is to turn to a program
+pub record TurnsTo (line : Line) (base : Id) (x : Scheduler) (s : State) : Type 0 where
   pub turn : next_turn_of s ≡ Some base
-  pub played : (r : Reading s.watch) → IsPlayedBefore (turned_next s r base) (turned_to base s)
   pub serves : ServesLine line (turned_to base s)
   pub stands : scheduling.Stands x s
+
+-- and what that brings comes next
+pub record Turns (holds : Kept → Type 0) (is_new : Id → Type 0) (line : Line) (base : Id) (x : Scheduler) (s : State) : Type 0 where
+  pub turns : TurnsTo line base x s
+  pub played : (r : Reading s.watch) → IsPlayedBefore (turned_next s r base) (turned_to base s)
   pub stored : Stored holds is_new s.units
 
 -- the lines that an engine can be asked: a definition is spelled by a text, and stops leave one of the images that there are
@@ -119,6 +126,11 @@ is_prepared_line (Table d) = true
 is_prepared_line (Program p) = true
 is_prepared_line (Crash pairs) = true
 is_prepared_line line = false
+
+abbrev pub is_definition : Line → Bool
+is_definition (Table d) = true
+is_definition (Program p) = true
+is_definition line = false
 
 -- a line has been asked that is not refused, and its first event comes next
 pub record AsksLine (holds : Kept → Type 0) (is_new : Id → Type 0) (stoppable : Bool) (line : Line) (x : Scheduler) (s : State) : Type 0 where
@@ -173,6 +185,18 @@ pub record BreaksOff {H : Type 0} (leaves : Kept → Kept → Type 0) (fills : W
 abbrev pub WasBroken : {H : Type 0} → Halt → Books → Option InFlight → Stage H → Option InFlight → Type 0
 WasBroken halt books asked stage in_flight =
     ((halt ≡ Memory) × IsLost stage in_flight) ⊎ ((halt ≡ Memory → ⊥) × (stage ≡ Down books) × (in_flight ≡ asked))
+
+-- How it comes out: what was meant is given, and done; or it is broken off.
+abbrev pub ComesOut : {H T : Type 0} → (given : T → Option Event) (seen : Option Event → State → Type 0) (leaves : Kept → Kept → Type 0) (fills : Written → ℕ → Type 0) → Stage H →
+    Option InFlight → (meant : Option Event) → State → Result T Halt → Type 0
+ComesOut given seen leaves fills stage in_flight meant s result =
+    MatchResult result (λ x. Performs seen in_flight meant (given x) s) (λ halt. BreaksOff leaves fills halt stage in_flight meant s.units)
+
+-- No call changes these: what is noted beside the stage, the shape that the storage is asked for, and that of the devices.
+pub record Stays {A : Type 0} (before now : A) (was is : Shape) (old new : View) : Type 0 where
+  pub noted : now ≡ before
+  pub asked : is ≡ was
+  pub shape : SameShape old new
 
 -- a line is refused, and the scheduler has told it
 pub record IsRefused (line : Line) (refusal : Refusal) (x : Scheduler) (stage : Stage Scheduler) (e : Event) : Type 0 where

@@ -1,6 +1,6 @@
 //! What was asked of the storage where an engine was broken off.
 
-ghost use Rattle.salt_engine.specs.Flights.{flight_of, told_of};
+ghost use Rattle.salt_engine.specs.Flights.{flight_of, text_of, told_of};
 ghost use Rattle.std.specs.Prelude.{◌≡◌};
 
 use salt_ast::{ProgramDef, TableDef};
@@ -41,6 +41,17 @@ impl Drop for InFlight {
 }
 
 impl InFlight {
+    /// The text of a definition; of a unit none.
+    pub fn text(&self) -> &[u8]
+        ensures { result.now ≡ text_of self.now }
+    {
+        match self {
+            InFlight::Table { text, .. } => text.as_slice(),
+            InFlight::Program { text, .. } => text.as_slice(),
+            _ => &[],
+        }
+    }
+
     /// What is told of it.
     pub fn flight(self) -> Flight
         ensures { result ≡ told_of self }

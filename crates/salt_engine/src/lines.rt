@@ -2,12 +2,15 @@
 
 ghost use Rattle.salt_ast.specs.declared.lines.Line.TheVariants as line_of;
 ghost use Rattle.salt_disk.specs.Disks.{SameShape};
-ghost use Rattle.salt_engine.specs.Performing.{AsksLine, BreaksOff, IsRefused, IsRejected, IsToAsk, Performs, is_prepared_line};
+ghost use Rattle.salt_engine.specs.Flights.{definition_of};
+ghost use Rattle.salt_engine.specs.Performing.{AsksLine, ComesOut, IsRefused, IsRejected, IsToAsk, Stays, is_definition, is_prepared_line};
 ghost use Rattle.salt_engine.specs.Stored.{Stored};
 ghost use Rattle.salt_engine.specs.Standing.{SeesIn};
 ghost use Rattle.salt_engine.specs.declared.stage.Stage.TheVariants.{Lost};
+ghost use Rattle.salt_judge.specs.Refusals.{HasFewParts};
 ghost use Rattle.salt_keeps.specs.Readings.{Reading, clash_by, items_by};
-ghost use Rattle.salt_keeps.specs.Nexts.{asked_next};
+ghost use Rattle.salt_keeps.specs.KeptWaits.{AreDistinct};
+ghost use Rattle.salt_keeps.specs.Nexts.{asked_next, refusal_of};
 ghost use Rattle.salt_keeps.specs.OpenUnits.{UnitState};
 ghost use Rattle.salt_keeps.specs.States.{State, asked_of};
 ghost use Rattle.salt_keeps.specs.Told.{line_in};
@@ -15,14 +18,15 @@ ghost use Rattle.salt_model.specs.Trace.{Tree};
 ghost use Rattle.salt_model.specs.Turns.{is_statement_line};
 ghost use Rattle.salt_model.specs.Words.{Every};
 ghost use Rattle.salt_steps.specs.Counting.{CountsStops, armed_by};
+ghost use Rattle.salt_scheduler.specs.Standing.{Allows, IsAllowed, Stands};
 ghost use Rattle.salt_storage.specs.Answers.{disk_err};
 ghost use Rattle.salt_values.specs.Placement.{GivesPlaceOf, TakesEachKey};
-ghost use Rattle.std.specs.Prelude.{IfErr, IfOk, IsTrue, None, OnErr, OnOk, false, length, ℕ, ◌+◌, ◌≡◌, ◌≤◌};
+ghost use Rattle.std.specs.Prelude.{IfOk, IsTrue, None, OnErr, OnOk, Some, false, length, true, ℕ, ◌+◌, ◌≡◌, ◌≤◌};
 
 use crate::engine::Engine;
 use crate::flights::InFlight;
 use crate::stage::Stage;
-use salt_ast::{Act, Line, Pairs, ProgramDef, TableDef};
+use salt_ast::{Act, Line, Pairs};
 use salt_disk::Disks;
 use salt_known::{program_text, table_text};
 use salt_model::{Event, Refusal};
@@ -31,7 +35,7 @@ use salt_sound::definitions_may_be_kept;
 use salt_storage::{Halt, Storage};
 use salt_values::{Key, PlaceKind, Placement, TryCopy};
 use sqlite_items::Items;
-use std::alloc::AllocError;
+use std::alloc::{AllocError, Global};
 
 /// Whether a line is one statement.
 pub fn is_statement_line(line: &Line) -> bool
@@ -46,40 +50,98 @@ pub fn is_statement_line(line: &Line) -> bool
     }
 }
 
+/// What a line asks of the storage that defines something.
+fn definition_of(alloc: Global, line: &Line) -> Result<InFlight, AllocError>
+    requires { is_definition line.now ≡ true }
+    ensures { IfOk result (λ asked. definition_of line.now ≡ Some asked) }
+{
+    match line {
+        Line::Table(def) => Ok(InFlight::Table {
+            def: def.copy(alloc)?,
+            text: table_text(alloc, def)?,
+        }),
+        Line::Program(def) => Ok(InFlight::Program {
+            def: def.copy(alloc)?,
+            text: program_text(alloc, def)?,
+        }),
+        _ => unreachable!(),
+    }
+}
+
+/// What a line defines has been decided: it is defined.
+fn defined(scheduler: &mut Scheduler, line: &Line) -> Result<Event, AllocError>
+    requires definition { is_definition line.now ≡ true }
+    requires allowed { IsAllowed line.now scheduler.old }
+    requires parts { HasFewParts line.now }
+    ensures { IfOk result (λ e. Allows (λ s r. line_in s.units (clash_by s) (items_by s r) line.now) line.now scheduler.old scheduler.new e) }
+{
+    match line {
+        Line::Table(def) => scheduler.table_defined(line, def),
+        Line::Program(def) => scheduler.program_defined(line, def),
+        _ => unreachable!(),
+    }
+}
+
+/// A line is asked: what is refused of it.
+fn ask(
+    scheduler: &mut Scheduler,
+    line: &Line,
+    can_stop: bool,
+) -> Result<Option<Refusal>, AllocError>
+    requires { HasFewParts line.now }
+    ensures { IfOk result (λ refusal. (s : State) → Stands scheduler.old s → s.can_stop ≡ can_stop → AreDistinct s.watch.programs
+        → (refusal ≡ refusal_of s (Tree line.now)) × Stands scheduler.new (asked_of (Tree line.now) s)) }
+{
+    let refusal = scheduler.refusal(line, can_stop)?;
+    scheduler.ask(line)?;
+    Ok(refusal)
+}
+
+/// Stops are armed, one by one.
+fn arm_each<S: Storage, D: Disks>(
+    storage: &mut S,
+    disks: &mut D,
+    pairs: &[(u64, u8)],
+) -> Result<(), AllocError>
+    requires able { IsTrue (D.view disks.old).can_stop }
+    requires picks { Every (λ (p : ℕ × ℕ). p.1 ≤ 4) pairs.now }
+    ensures stored { (s : UnitState) → Stored (S.holds (D.view disks.old) storage.old) (S.is_new (D.view disks.old) storage.old) s → Stored (S.holds (D.view disks.new) storage.new) (S.is_new (D.view disks.new) storage.new) s }
+    ensures ok { OnOk result ((D.view disks.new).stops_left ≡ (D.view disks.old).stops_left + length pairs.now) }
+    ensures faults { (D.view disks.new).faults ≡ (D.view disks.old).faults }
+    ensures asked { S.asked storage.new ≡ S.asked storage.old }
+    ensures shape { SameShape (D.view disks.old) (D.view disks.new) }
+{
+    for pair in pairs {
+        storage.arm(disks, pair.0, pair.1)?;
+    }
+    Ok(())
+}
+
 impl<S: Storage> Engine<S> {
-    /// The table of a line is defined.
-    fn define_table<D: Disks>(
+    /// The table or the program of a line is defined.
+    fn define<D: Disks>(
         &mut self,
         disks: &mut D,
         scheduler: Scheduler,
         line: &Line,
-        def: &TableDef,
     ) -> Result<Option<Event>, Halt>
-        requires line { line.now ≡ line_of.Table def.now }
+        requires definition { is_definition line.now ≡ true }
         requires lost { self.old.stage ≡ Lost }
         requires none { self.old.in_flight ≡ None }
         requires ready { (s : State) × AsksLine (S.holds (D.view disks.old) self.old.storage) (S.is_new (D.view disks.old) self.old.storage) (D.view disks.old).can_stop line.now scheduler s }
-        ensures performs { IfOk result (λ e. (s : State) (r : Reading s.watch) → AsksLine (S.holds (D.view disks.old) self.old.storage) (S.is_new (D.view disks.old) self.old.storage) (D.view disks.old).can_stop line.now scheduler s
-            → Performs (SeesIn (S.holds (D.view disks.new) self.new.storage) (S.is_new (D.view disks.new) self.new.storage) self.new.stage) self.new.in_flight (line_in s.units (clash_by s) (items_by s r) line.now) e s) }
-        ensures breaks { IfErr result (λ halt. (s : State) (r : Reading s.watch) → AsksLine (S.holds (D.view disks.old) self.old.storage) (S.is_new (D.view disks.old) self.old.storage) (D.view disks.old).can_stop line.now scheduler s
-            → BreaksOff (S.leaves (D.view disks.new) self.new.storage) (S.fills (D.view disks.new) self.new.storage) halt self.new.stage self.new.in_flight (line_in s.units (clash_by s) (items_by s r) line.now) s.units) }
-        ensures single { self.new.single ≡ self.old.single }
-        ensures asked { S.asked self.new.storage ≡ S.asked self.old.storage }
-        ensures shape { SameShape (D.view disks.old) (D.view disks.new) }
+        ensures comes { (s : State) (r : Reading s.watch) → AsksLine (S.holds (D.view disks.old) self.old.storage) (S.is_new (D.view disks.old) self.old.storage) (D.view disks.old).can_stop line.now scheduler s
+            → ComesOut (λ e. e) (SeesIn (S.holds (D.view disks.new) self.new.storage) (S.is_new (D.view disks.new) self.new.storage) self.new.stage) (S.leaves (D.view disks.new) self.new.storage) (S.fills (D.view disks.new) self.new.storage) self.new.stage self.new.in_flight (line_in s.units (clash_by s) (items_by s r) line.now) s result }
+        ensures stays { Stays self.old.single self.new.single (S.asked self.old.storage) (S.asked self.new.storage) (D.view disks.old) (D.view disks.new) }
         ensures counts { CountsStops (D.view disks.old) (D.view disks.new) (disk_err result) (armed_by result) 0 }
     {
         definitions_may_be_kept();
         let mut scheduler = scheduler;
         self.storage.stands(disks);
-        let text = table_text(self.alloc, def)?;
-        let asked = InFlight::Table {
-            def: def.copy(self.alloc)?,
-            text: text.copy(self.alloc)?,
-        };
-        match self.storage.define(disks, text.as_slice()) {
+        let asked = definition_of(self.alloc, line)?;
+        match self.storage.define(disks, asked.text()) {
             Ok(_number) => {
                 self.storage.stands(disks);
-                let event = scheduler.table_defined(line, def)?;
+                let event = defined(&mut scheduler, line)?;
                 self.stage = Stage::Going(scheduler);
                 Ok(Some(event))
             }
@@ -92,72 +154,6 @@ impl<S: Storage> Engine<S> {
                 ),
             ),
         }
-    }
-
-    /// The program of a line is defined.
-    fn define_program<D: Disks>(
-        &mut self,
-        disks: &mut D,
-        scheduler: Scheduler,
-        line: &Line,
-        def: &ProgramDef,
-    ) -> Result<Option<Event>, Halt>
-        requires line { line.now ≡ line_of.Program def.now }
-        requires lost { self.old.stage ≡ Lost }
-        requires none { self.old.in_flight ≡ None }
-        requires ready { (s : State) × AsksLine (S.holds (D.view disks.old) self.old.storage) (S.is_new (D.view disks.old) self.old.storage) (D.view disks.old).can_stop line.now scheduler s }
-        ensures performs { IfOk result (λ e. (s : State) (r : Reading s.watch) → AsksLine (S.holds (D.view disks.old) self.old.storage) (S.is_new (D.view disks.old) self.old.storage) (D.view disks.old).can_stop line.now scheduler s
-            → Performs (SeesIn (S.holds (D.view disks.new) self.new.storage) (S.is_new (D.view disks.new) self.new.storage) self.new.stage) self.new.in_flight (line_in s.units (clash_by s) (items_by s r) line.now) e s) }
-        ensures breaks { IfErr result (λ halt. (s : State) (r : Reading s.watch) → AsksLine (S.holds (D.view disks.old) self.old.storage) (S.is_new (D.view disks.old) self.old.storage) (D.view disks.old).can_stop line.now scheduler s
-            → BreaksOff (S.leaves (D.view disks.new) self.new.storage) (S.fills (D.view disks.new) self.new.storage) halt self.new.stage self.new.in_flight (line_in s.units (clash_by s) (items_by s r) line.now) s.units) }
-        ensures single { self.new.single ≡ self.old.single }
-        ensures asked { S.asked self.new.storage ≡ S.asked self.old.storage }
-        ensures shape { SameShape (D.view disks.old) (D.view disks.new) }
-        ensures counts { CountsStops (D.view disks.old) (D.view disks.new) (disk_err result) (armed_by result) 0 }
-    {
-        definitions_may_be_kept();
-        let mut scheduler = scheduler;
-        self.storage.stands(disks);
-        let text = program_text(self.alloc, def)?;
-        let asked = InFlight::Program {
-            def: def.copy(self.alloc)?,
-            text: text.copy(self.alloc)?,
-        };
-        match self.storage.define(disks, text.as_slice()) {
-            Ok(_number) => {
-                self.storage.stands(disks);
-                let event = scheduler.program_defined(line, def)?;
-                self.stage = Stage::Going(scheduler);
-                Ok(Some(event))
-            }
-            Err(halt) => Err(
-                self.stage.break_off(
-                    &mut self.in_flight,
-                    scheduler.into_books(),
-                    halt,
-                    Some(asked),
-                ),
-            ),
-        }
-    }
-
-    /// Stops are armed, one by one.
-    fn arm_each<D: Disks>(&mut self, disks: &mut D, pairs: &[(u64, u8)]) -> Result<(), AllocError>
-        requires able { IsTrue (D.view disks.old).can_stop }
-        requires picks { Every (λ (p : ℕ × ℕ). p.1 ≤ 4) pairs.now }
-        ensures stored { (s : UnitState) → Stored (S.holds (D.view disks.old) self.old.storage) (S.is_new (D.view disks.old) self.old.storage) s → Stored (S.holds (D.view disks.new) self.new.storage) (S.is_new (D.view disks.new) self.new.storage) s }
-        ensures ok { OnOk result ((D.view disks.new).stops_left ≡ (D.view disks.old).stops_left + length pairs.now) }
-        ensures faults { (D.view disks.new).faults ≡ (D.view disks.old).faults }
-        ensures asked { S.asked self.new.storage ≡ S.asked self.old.storage }
-        ensures shape { SameShape (D.view disks.old) (D.view disks.new) }
-        ensures stage { self.new.stage ≡ self.old.stage }
-        ensures single { self.new.single ≡ self.old.single }
-        ensures flies { self.new.in_flight ≡ self.old.in_flight }
-    {
-        for pair in pairs {
-            self.storage.arm(disks, pair.0, pair.1)?;
-        }
-        Ok(())
     }
 
     /// The stops of a line are armed.
@@ -172,19 +168,15 @@ impl<S: Storage> Engine<S> {
         requires lost { self.old.stage ≡ Lost }
         requires none { self.old.in_flight ≡ None }
         requires ready { (s : State) × AsksLine (S.holds (D.view disks.old) self.old.storage) (S.is_new (D.view disks.old) self.old.storage) (D.view disks.old).can_stop line.now scheduler s }
-        ensures performs { IfOk result (λ e. (s : State) (r : Reading s.watch) → AsksLine (S.holds (D.view disks.old) self.old.storage) (S.is_new (D.view disks.old) self.old.storage) (D.view disks.old).can_stop line.now scheduler s
-            → Performs (SeesIn (S.holds (D.view disks.new) self.new.storage) (S.is_new (D.view disks.new) self.new.storage) self.new.stage) self.new.in_flight (line_in s.units (clash_by s) (items_by s r) line.now) e s) }
-        ensures breaks { IfErr result (λ halt. (s : State) (r : Reading s.watch) → AsksLine (S.holds (D.view disks.old) self.old.storage) (S.is_new (D.view disks.old) self.old.storage) (D.view disks.old).can_stop line.now scheduler s
-            → BreaksOff (S.leaves (D.view disks.new) self.new.storage) (S.fills (D.view disks.new) self.new.storage) halt self.new.stage self.new.in_flight (line_in s.units (clash_by s) (items_by s r) line.now) s.units) }
-        ensures single { self.new.single ≡ self.old.single }
-        ensures asked { S.asked self.new.storage ≡ S.asked self.old.storage }
-        ensures shape { SameShape (D.view disks.old) (D.view disks.new) }
+        ensures comes { (s : State) (r : Reading s.watch) → AsksLine (S.holds (D.view disks.old) self.old.storage) (S.is_new (D.view disks.old) self.old.storage) (D.view disks.old).can_stop line.now scheduler s
+            → ComesOut (λ e. e) (SeesIn (S.holds (D.view disks.new) self.new.storage) (S.is_new (D.view disks.new) self.new.storage) self.new.stage) (S.leaves (D.view disks.new) self.new.storage) (S.fills (D.view disks.new) self.new.storage) self.new.stage self.new.in_flight (line_in s.units (clash_by s) (items_by s r) line.now) s result }
+        ensures stays { Stays self.old.single self.new.single (S.asked self.old.storage) (S.asked self.new.storage) (D.view disks.old) (D.view disks.new) }
         ensures counts { CountsStops (D.view disks.old) (D.view disks.new) (disk_err result) (armed_by result) 0 }
     {
         let mut scheduler = scheduler;
         self.storage.stands(disks);
         let told = Items::from_slice(self.alloc, pairs.as_slice())?;
-        match self.arm_each(disks, pairs.as_slice()) {
+        match arm_each(&mut self.storage, disks, pairs.as_slice()) {
             Ok(()) => {
                 let event = scheduler.armed(line, told);
                 self.stage = Stage::Going(scheduler);
@@ -211,13 +203,9 @@ impl<S: Storage> Engine<S> {
         requires lost { self.old.stage ≡ Lost }
         requires none { self.old.in_flight ≡ None }
         requires ready { (s : State) × AsksLine (S.holds (D.view disks.old) self.old.storage) (S.is_new (D.view disks.old) self.old.storage) (D.view disks.old).can_stop line.now scheduler s }
-        ensures performs { IfOk result (λ e. (s : State) (r : Reading s.watch) → AsksLine (S.holds (D.view disks.old) self.old.storage) (S.is_new (D.view disks.old) self.old.storage) (D.view disks.old).can_stop line.now scheduler s
-            → Performs (SeesIn (S.holds (D.view disks.new) self.new.storage) (S.is_new (D.view disks.new) self.new.storage) self.new.stage) self.new.in_flight (line_in s.units (clash_by s) (items_by s r) line.now) e s) }
-        ensures breaks { IfErr result (λ halt. (s : State) (r : Reading s.watch) → AsksLine (S.holds (D.view disks.old) self.old.storage) (S.is_new (D.view disks.old) self.old.storage) (D.view disks.old).can_stop line.now scheduler s
-            → BreaksOff (S.leaves (D.view disks.new) self.new.storage) (S.fills (D.view disks.new) self.new.storage) halt self.new.stage self.new.in_flight (line_in s.units (clash_by s) (items_by s r) line.now) s.units) }
-        ensures single { self.new.single ≡ self.old.single }
-        ensures asked { S.asked self.new.storage ≡ S.asked self.old.storage }
-        ensures shape { SameShape (D.view disks.old) (D.view disks.new) }
+        ensures comes { (s : State) (r : Reading s.watch) → AsksLine (S.holds (D.view disks.old) self.old.storage) (S.is_new (D.view disks.old) self.old.storage) (D.view disks.old).can_stop line.now scheduler s
+            → ComesOut (λ e. e) (SeesIn (S.holds (D.view disks.new) self.new.storage) (S.is_new (D.view disks.new) self.new.storage) self.new.stage) (S.leaves (D.view disks.new) self.new.storage) (S.fills (D.view disks.new) self.new.storage) self.new.stage self.new.in_flight (line_in s.units (clash_by s) (items_by s r) line.now) s result }
+        ensures stays { Stays self.old.single self.new.single (S.asked self.old.storage) (S.asked self.new.storage) (D.view disks.old) (D.view disks.new) }
         ensures counts { CountsStops (D.view disks.old) (D.view disks.new) (disk_err result) (armed_by result) 0 }
     {
         let mut scheduler = scheduler;
@@ -239,18 +227,14 @@ impl<S: Storage> Engine<S> {
         requires lost { self.old.stage ≡ Lost }
         requires none { self.old.in_flight ≡ None }
         requires ready { (s : State) × AsksLine (S.holds (D.view disks.old) self.old.storage) (S.is_new (D.view disks.old) self.old.storage) (D.view disks.old).can_stop line.now scheduler s }
-        ensures performs { IfOk result (λ e. (s : State) (r : Reading s.watch) → AsksLine (S.holds (D.view disks.old) self.old.storage) (S.is_new (D.view disks.old) self.old.storage) (D.view disks.old).can_stop line.now scheduler s
-            → Performs (SeesIn (S.holds (D.view disks.new) self.new.storage) (S.is_new (D.view disks.new) self.new.storage) self.new.stage) self.new.in_flight (line_in s.units (clash_by s) (items_by s r) line.now) e s) }
-        ensures breaks { IfErr result (λ halt. (s : State) (r : Reading s.watch) → AsksLine (S.holds (D.view disks.old) self.old.storage) (S.is_new (D.view disks.old) self.old.storage) (D.view disks.old).can_stop line.now scheduler s
-            → BreaksOff (S.leaves (D.view disks.new) self.new.storage) (S.fills (D.view disks.new) self.new.storage) halt self.new.stage self.new.in_flight (line_in s.units (clash_by s) (items_by s r) line.now) s.units) }
-        ensures single { self.new.single ≡ self.old.single }
-        ensures asked { S.asked self.new.storage ≡ S.asked self.old.storage }
-        ensures shape { SameShape (D.view disks.old) (D.view disks.new) }
+        ensures comes { (s : State) (r : Reading s.watch) → AsksLine (S.holds (D.view disks.old) self.old.storage) (S.is_new (D.view disks.old) self.old.storage) (D.view disks.old).can_stop line.now scheduler s
+            → ComesOut (λ e. e) (SeesIn (S.holds (D.view disks.new) self.new.storage) (S.is_new (D.view disks.new) self.new.storage) self.new.stage) (S.leaves (D.view disks.new) self.new.storage) (S.fills (D.view disks.new) self.new.storage) self.new.stage self.new.in_flight (line_in s.units (clash_by s) (items_by s r) line.now) s result }
+        ensures stays { Stays self.old.single self.new.single (S.asked self.old.storage) (S.asked self.new.storage) (D.view disks.old) (D.view disks.new) }
         ensures counts { CountsStops (D.view disks.old) (D.view disks.new) (disk_err result) (armed_by result) 0 }
     {
         match line {
-            Line::Table(def) => self.define_table(disks, scheduler, line, def),
-            Line::Program(def) => self.define_program(disks, scheduler, line, def),
+            Line::Table(_def) => self.define(disks, scheduler, line),
+            Line::Program(_def) => self.define(disks, scheduler, line),
             Line::Crash(pairs) => self.arm(disks, scheduler, line, pairs),
             _ => self.follow_line(disks, place, scheduler, line),
         }
@@ -304,19 +288,14 @@ impl<S: Storage> Engine<S> {
         requires lost { self.old.stage ≡ Lost }
         requires none { self.old.in_flight ≡ None }
         requires ready { (s : State) × IsToAsk (S.holds (D.view disks.old) self.old.storage) (S.is_new (D.view disks.old) self.old.storage) (D.view disks.old).can_stop line.now scheduler s }
-        ensures performs { IfOk result (λ e. (s : State) (r : Reading s.watch) → IsToAsk (S.holds (D.view disks.old) self.old.storage) (S.is_new (D.view disks.old) self.old.storage) (D.view disks.old).can_stop line.now scheduler s
-            → Performs (SeesIn (S.holds (D.view disks.new) self.new.storage) (S.is_new (D.view disks.new) self.new.storage) self.new.stage) self.new.in_flight (asked_next s r (Tree line.now)) e (asked_of (Tree line.now) s)) }
-        ensures breaks { IfErr result (λ halt. (s : State) (r : Reading s.watch) → IsToAsk (S.holds (D.view disks.old) self.old.storage) (S.is_new (D.view disks.old) self.old.storage) (D.view disks.old).can_stop line.now scheduler s
-            → BreaksOff (S.leaves (D.view disks.new) self.new.storage) (S.fills (D.view disks.new) self.new.storage) halt self.new.stage self.new.in_flight (asked_next s r (Tree line.now)) (asked_of (Tree line.now) s).units) }
-        ensures single { self.new.single ≡ self.old.single }
-        ensures asked { S.asked self.new.storage ≡ S.asked self.old.storage }
-        ensures shape { SameShape (D.view disks.old) (D.view disks.new) }
+        ensures comes { (s : State) (r : Reading s.watch) → IsToAsk (S.holds (D.view disks.old) self.old.storage) (S.is_new (D.view disks.old) self.old.storage) (D.view disks.old).can_stop line.now scheduler s
+            → ComesOut (λ e. e) (SeesIn (S.holds (D.view disks.new) self.new.storage) (S.is_new (D.view disks.new) self.new.storage) self.new.stage) (S.leaves (D.view disks.new) self.new.storage) (S.fills (D.view disks.new) self.new.storage) self.new.stage self.new.in_flight (asked_next s r (Tree line.now)) (asked_of (Tree line.now) s) result }
+        ensures stays { Stays self.old.single self.new.single (S.asked self.old.storage) (S.asked self.new.storage) (D.view disks.old) (D.view disks.new) }
         ensures counts { CountsStops (D.view disks.old) (D.view disks.new) (disk_err result) (armed_by result) 0 }
     {
         let mut scheduler = scheduler;
         self.storage.stands(disks);
-        let refusal = scheduler.refusal(line, disks.can_stop())?;
-        scheduler.ask(line)?;
+        let refusal = ask(&mut scheduler, line, disks.can_stop())?;
         match refusal {
             Some(refusal) => Ok(Some(self.refuse_line(scheduler, line, refusal))),
             None => self.begin_line(disks, place, scheduler, line),

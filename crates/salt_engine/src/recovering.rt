@@ -2,8 +2,8 @@
 
 ghost use Rattle.salt_books.specs.Coming.{event_meant};
 ghost use Rattle.salt_books.specs.declared.coming.Coming.TheVariants as coming;
-ghost use Rattle.salt_disk.specs.Disks.{HasCause, SameShape};
-ghost use Rattle.salt_engine.specs.Performing.{BreaksOff, GoesOnOpening, IsToOpen, MayStep, Performs};
+ghost use Rattle.salt_disk.specs.Disks.{HasCause};
+ghost use Rattle.salt_engine.specs.Performing.{ComesOut, GoesOnOpening, IsToOpen, MayStep, Stays};
 ghost use Rattle.salt_engine.specs.Standing.{OpensIn};
 ghost use Rattle.salt_engine.specs.declared.stage.Stage.TheVariants.{Lost};
 ghost use Rattle.salt_keeps.specs.States.{State};
@@ -11,8 +11,9 @@ ghost use Rattle.salt_openings.specs.Draining.{statements_in};
 ghost use Rattle.salt_recovery.specs.Follows.{comes_behind};
 ghost use Rattle.salt_steps.specs.Counting.{stops_armed};
 ghost use Rattle.salt_storage.specs.Answers.{disk_err};
+ghost use Rattle.salt_storage.specs.declared.found.Numbers.{Numbers};
 ghost use Rattle.salt_values.specs.Placement.{GivesPlaceOf, TakesEachKey};
-ghost use Rattle.std.specs.Prelude.{IfErr, IfOk, None, OnErr, Some, ◌+◌, ◌≡◌};
+ghost use Rattle.std.specs.Prelude.{Bool, IfOk, None, OnErr, Option, Some, ◌+◌, ◌≡◌};
 
 use crate::deciding::{branch, commit, load};
 use crate::flights::InFlight;
@@ -41,17 +42,12 @@ impl<S: Storage> Opening<S> {
         requires lost { self.old.stage ≡ Lost }
         requires none { self.old.in_flight ≡ None }
         requires ready { (s : State) × IsToOpen (S.holds (D.view disks.old) self.old.storage) (S.is_new (D.view disks.old) self.old.storage) recovery (coming.Act asking) s }
-        ensures performs { IfOk result (λ e. (s : State) → IsToOpen (S.holds (D.view disks.old) self.old.storage) (S.is_new (D.view disks.old) self.old.storage) recovery (coming.Act asking) s
-            → Performs (OpensIn (S.holds (D.view disks.new) self.new.storage) (S.is_new (D.view disks.new) self.new.storage) self.new.stage) self.new.in_flight (event_meant s.units (coming.Act asking)) (Some e) s) }
-        ensures breaks { IfErr result (λ halt. (s : State) → IsToOpen (S.holds (D.view disks.old) self.old.storage) (S.is_new (D.view disks.old) self.old.storage) recovery (coming.Act asking) s
-            → BreaksOff (S.leaves (D.view disks.new) self.new.storage) (S.fills (D.view disks.new) self.new.storage) halt self.new.stage self.new.in_flight (event_meant s.units (coming.Act asking)) s.units) }
+        ensures comes { (s : State) → IsToOpen (S.holds (D.view disks.old) self.old.storage) (S.is_new (D.view disks.old) self.old.storage) recovery (coming.Act asking) s
+            → ComesOut Some (OpensIn (S.holds (D.view disks.new) self.new.storage) (S.is_new (D.view disks.new) self.new.storage) self.new.stage) (S.leaves (D.view disks.new) self.new.storage) (S.fills (D.view disks.new) self.new.storage) self.new.stage self.new.in_flight (event_meant s.units (coming.Act asking)) s result }
         ensures ticks { IfOk result (λ e. steps.new ≡ steps.old + statements_in e) }
         ensures short { OnErr result ((s : State) → IsToOpen (S.holds (D.view disks.old) self.old.storage) (S.is_new (D.view disks.old) self.old.storage) recovery (coming.Act asking) s
             → MayStep (event_meant s.units (coming.Act asking)) steps.old steps.new) }
-        ensures single { self.new.single ≡ self.old.single }
-        ensures found { self.new.found ≡ self.old.found }
-        ensures asked { S.asked self.new.storage ≡ S.asked self.old.storage }
-        ensures shape { SameShape (D.view disks.old) (D.view disks.new) }
+        ensures stays { Stays {A = Bool × Option Numbers} (self.old.single, self.old.found) (self.new.single, self.new.found) (S.asked self.old.storage) (S.asked self.new.storage) (D.view disks.old) (D.view disks.new) }
         ensures cause { HasCause (D.view disks.old) (D.view disks.new) (disk_err result) }
     {
         let mut recovery = recovery;
@@ -89,14 +85,9 @@ impl<S: Storage> Opening<S> {
         requires lost { self.old.stage ≡ Lost }
         requires none { self.old.in_flight ≡ None }
         requires ready { (s : State) × IsToOpen (S.holds (D.view disks.old) self.old.storage) (S.is_new (D.view disks.old) self.old.storage) recovery (coming.Commit unit) s }
-        ensures performs { IfOk result (λ e. (s : State) → IsToOpen (S.holds (D.view disks.old) self.old.storage) (S.is_new (D.view disks.old) self.old.storage) recovery (coming.Commit unit) s
-            → Performs (OpensIn (S.holds (D.view disks.new) self.new.storage) (S.is_new (D.view disks.new) self.new.storage) self.new.stage) self.new.in_flight (event_meant s.units (coming.Commit unit)) (Some e) s) }
-        ensures breaks { IfErr result (λ halt. (s : State) → IsToOpen (S.holds (D.view disks.old) self.old.storage) (S.is_new (D.view disks.old) self.old.storage) recovery (coming.Commit unit) s
-            → BreaksOff (S.leaves (D.view disks.new) self.new.storage) (S.fills (D.view disks.new) self.new.storage) halt self.new.stage self.new.in_flight (event_meant s.units (coming.Commit unit)) s.units) }
-        ensures single { self.new.single ≡ self.old.single }
-        ensures found { self.new.found ≡ self.old.found }
-        ensures asked { S.asked self.new.storage ≡ S.asked self.old.storage }
-        ensures shape { SameShape (D.view disks.old) (D.view disks.new) }
+        ensures comes { (s : State) → IsToOpen (S.holds (D.view disks.old) self.old.storage) (S.is_new (D.view disks.old) self.old.storage) recovery (coming.Commit unit) s
+            → ComesOut Some (OpensIn (S.holds (D.view disks.new) self.new.storage) (S.is_new (D.view disks.new) self.new.storage) self.new.stage) (S.leaves (D.view disks.new) self.new.storage) (S.fills (D.view disks.new) self.new.storage) self.new.stage self.new.in_flight (event_meant s.units (coming.Commit unit)) s result }
+        ensures stays { Stays {A = Bool × Option Numbers} (self.old.single, self.old.found) (self.new.single, self.new.found) (S.asked self.old.storage) (S.asked self.new.storage) (D.view disks.old) (D.view disks.new) }
         ensures cause { HasCause (D.view disks.old) (D.view disks.new) (disk_err result) }
     {
         let mut recovery = recovery;
@@ -140,14 +131,9 @@ impl<S: Storage> Opening<S> {
         requires lost { self.old.stage ≡ Lost }
         requires none { self.old.in_flight ≡ None }
         requires ready { (s : State) × IsToOpen (S.holds (D.view disks.old) self.old.storage) (S.is_new (D.view disks.old) self.old.storage) recovery (coming.Branch unit base cause) s }
-        ensures performs { IfOk result (λ e. (s : State) → IsToOpen (S.holds (D.view disks.old) self.old.storage) (S.is_new (D.view disks.old) self.old.storage) recovery (coming.Branch unit base cause) s
-            → Performs (OpensIn (S.holds (D.view disks.new) self.new.storage) (S.is_new (D.view disks.new) self.new.storage) self.new.stage) self.new.in_flight (event_meant s.units (coming.Branch unit base cause)) (Some e) s) }
-        ensures breaks { IfErr result (λ halt. (s : State) → IsToOpen (S.holds (D.view disks.old) self.old.storage) (S.is_new (D.view disks.old) self.old.storage) recovery (coming.Branch unit base cause) s
-            → BreaksOff (S.leaves (D.view disks.new) self.new.storage) (S.fills (D.view disks.new) self.new.storage) halt self.new.stage self.new.in_flight (event_meant s.units (coming.Branch unit base cause)) s.units) }
-        ensures single { self.new.single ≡ self.old.single }
-        ensures found { self.new.found ≡ self.old.found }
-        ensures asked { S.asked self.new.storage ≡ S.asked self.old.storage }
-        ensures shape { SameShape (D.view disks.old) (D.view disks.new) }
+        ensures comes { (s : State) → IsToOpen (S.holds (D.view disks.old) self.old.storage) (S.is_new (D.view disks.old) self.old.storage) recovery (coming.Branch unit base cause) s
+            → ComesOut Some (OpensIn (S.holds (D.view disks.new) self.new.storage) (S.is_new (D.view disks.new) self.new.storage) self.new.stage) (S.leaves (D.view disks.new) self.new.storage) (S.fills (D.view disks.new) self.new.storage) self.new.stage self.new.in_flight (event_meant s.units (coming.Branch unit base cause)) s result }
+        ensures stays { Stays {A = Bool × Option Numbers} (self.old.single, self.old.found) (self.new.single, self.new.found) (S.asked self.old.storage) (S.asked self.new.storage) (D.view disks.old) (D.view disks.new) }
         ensures cause { HasCause (D.view disks.old) (D.view disks.new) (disk_err result) }
     {
         let mut recovery = recovery;
@@ -193,17 +179,12 @@ impl<S: Storage> Opening<S> {
         requires lost { self.old.stage ≡ Lost }
         requires none { self.old.in_flight ≡ None }
         requires ready { (s : State) × IsToOpen (S.holds (D.view disks.old) self.old.storage) (S.is_new (D.view disks.old) self.old.storage) recovery coming s }
-        ensures performs { IfOk result (λ e. (s : State) → IsToOpen (S.holds (D.view disks.old) self.old.storage) (S.is_new (D.view disks.old) self.old.storage) recovery coming s
-            → Performs (OpensIn (S.holds (D.view disks.new) self.new.storage) (S.is_new (D.view disks.new) self.new.storage) self.new.stage) self.new.in_flight (event_meant s.units coming) (Some e) s) }
-        ensures breaks { IfErr result (λ halt. (s : State) → IsToOpen (S.holds (D.view disks.old) self.old.storage) (S.is_new (D.view disks.old) self.old.storage) recovery coming s
-            → BreaksOff (S.leaves (D.view disks.new) self.new.storage) (S.fills (D.view disks.new) self.new.storage) halt self.new.stage self.new.in_flight (event_meant s.units coming) s.units) }
+        ensures comes { (s : State) → IsToOpen (S.holds (D.view disks.old) self.old.storage) (S.is_new (D.view disks.old) self.old.storage) recovery coming s
+            → ComesOut Some (OpensIn (S.holds (D.view disks.new) self.new.storage) (S.is_new (D.view disks.new) self.new.storage) self.new.stage) (S.leaves (D.view disks.new) self.new.storage) (S.fills (D.view disks.new) self.new.storage) self.new.stage self.new.in_flight (event_meant s.units coming) s result }
         ensures ticks { IfOk result (λ e. steps.new ≡ steps.old + statements_in e) }
         ensures short { OnErr result ((s : State) → IsToOpen (S.holds (D.view disks.old) self.old.storage) (S.is_new (D.view disks.old) self.old.storage) recovery coming s
             → MayStep (event_meant s.units coming) steps.old steps.new) }
-        ensures single { self.new.single ≡ self.old.single }
-        ensures found { self.new.found ≡ self.old.found }
-        ensures asked { S.asked self.new.storage ≡ S.asked self.old.storage }
-        ensures shape { SameShape (D.view disks.old) (D.view disks.new) }
+        ensures stays { Stays {A = Bool × Option Numbers} (self.old.single, self.old.found) (self.new.single, self.new.found) (S.asked self.old.storage) (S.asked self.new.storage) (D.view disks.old) (D.view disks.new) }
         ensures cause { HasCause (D.view disks.old) (D.view disks.new) (disk_err result) }
     {
         match coming {
@@ -235,18 +216,13 @@ impl<S: Storage> Opening<S> {
         requires lost { self.old.stage ≡ Lost }
         requires none { self.old.in_flight ≡ None }
         requires stands { (s : State) × GoesOnOpening (S.holds (D.view disks.old) self.old.storage) (S.is_new (D.view disks.old) self.old.storage) recovery s }
-        ensures performs { IfOk result (λ e. (s : State) → GoesOnOpening (S.holds (D.view disks.old) self.old.storage) (S.is_new (D.view disks.old) self.old.storage) recovery s
-            → Performs (OpensIn (S.holds (D.view disks.new) self.new.storage) (S.is_new (D.view disks.new) self.new.storage) self.new.stage) self.new.in_flight (comes_behind recovery.behind s.units) (Some e) s) }
-        ensures breaks { IfErr result (λ halt. (s : State) → GoesOnOpening (S.holds (D.view disks.old) self.old.storage) (S.is_new (D.view disks.old) self.old.storage) recovery s
-            → BreaksOff (S.leaves (D.view disks.new) self.new.storage) (S.fills (D.view disks.new) self.new.storage) halt self.new.stage self.new.in_flight (comes_behind recovery.behind s.units) s.units) }
+        ensures comes { (s : State) → GoesOnOpening (S.holds (D.view disks.old) self.old.storage) (S.is_new (D.view disks.old) self.old.storage) recovery s
+            → ComesOut Some (OpensIn (S.holds (D.view disks.new) self.new.storage) (S.is_new (D.view disks.new) self.new.storage) self.new.stage) (S.leaves (D.view disks.new) self.new.storage) (S.fills (D.view disks.new) self.new.storage) self.new.stage self.new.in_flight (comes_behind recovery.behind s.units) s result }
         ensures ticks { IfOk result (λ e. steps.new ≡ steps.old + statements_in e) }
         ensures short { OnErr result ((s : State) → GoesOnOpening (S.holds (D.view disks.old) self.old.storage) (S.is_new (D.view disks.old) self.old.storage) recovery s
             → MayStep (comes_behind recovery.behind s.units) steps.old steps.new) }
-        ensures single { self.new.single ≡ self.old.single }
-        ensures found { self.new.found ≡ self.old.found }
         ensures unarmed { IfOk result (λ e. stops_armed e ≡ 0) }
-        ensures asked { S.asked self.new.storage ≡ S.asked self.old.storage }
-        ensures shape { SameShape (D.view disks.old) (D.view disks.new) }
+        ensures stays { Stays {A = Bool × Option Numbers} (self.old.single, self.old.found) (self.new.single, self.new.found) (S.asked self.old.storage) (S.asked self.new.storage) (D.view disks.old) (D.view disks.new) }
         ensures cause { HasCause (D.view disks.old) (D.view disks.new) (disk_err result) }
     {
         let mut recovery = recovery;

@@ -2,18 +2,18 @@
 
 ghost use Rattle.salt_books.specs.Coming.{event_meant};
 ghost use Rattle.salt_books.specs.declared.coming.Coming.TheVariants as coming;
-ghost use Rattle.salt_disk.specs.Disks.{HasCause, SameShape};
-ghost use Rattle.salt_engine.specs.Performing.{BreaksOff, GoesOnServing, IsToServe, Performs, Turns};
+ghost use Rattle.salt_disk.specs.Disks.{HasCause};
+ghost use Rattle.salt_engine.specs.Performing.{ComesOut, GoesOnServing, IsToServe, Stays, Turns, TurnsTo};
 ghost use Rattle.salt_engine.specs.Standing.{SeesIn};
 ghost use Rattle.salt_engine.specs.declared.stage.Stage.TheVariants.{Lost};
 ghost use Rattle.salt_keeps.specs.Nexts.{turned_next};
 ghost use Rattle.salt_keeps.specs.Readings.{Reading};
 ghost use Rattle.salt_keeps.specs.States.{State, turned_to};
-ghost use Rattle.salt_scheduler.specs.Standing.{behind_in};
+ghost use Rattle.salt_scheduler.specs.Standing.{Brings, behind_in};
 ghost use Rattle.salt_steps.specs.Counting.{armed_at};
 ghost use Rattle.salt_storage.specs.Answers.{disk_err};
 ghost use Rattle.salt_values.specs.Placement.{GivesPlaceOf, TakesEachKey};
-ghost use Rattle.std.specs.Prelude.{IfErr, IfOk, None, Some, ◌≡◌};
+ghost use Rattle.std.specs.Prelude.{IfOk, None, ◌≡◌};
 
 use crate::deciding::{branch, commit, load};
 use crate::engine::Engine;
@@ -26,6 +26,17 @@ use salt_model::{Cause, Event};
 use salt_scheduler::Scheduler;
 use salt_storage::{Halt, Storage};
 use salt_values::{Id, Key, PlaceKind, Placement};
+use std::alloc::AllocError;
+
+/// `go all` turns to a program: what that brings.
+fn turn_to(scheduler: &mut Scheduler, line: &Line, base: Id) -> Result<Coming, AllocError>
+    requires { (s : State) × TurnsTo line.now base scheduler.old s }
+    ensures { IfOk result (λ coming. (s : State) (r : Reading s.watch) → TurnsTo line.now base scheduler.old s
+        → Brings (turned_to base s) (turned_next s r base) scheduler.new coming) }
+{
+    scheduler.turn(base)?;
+    scheduler.go(line, base)
+}
 
 impl<S: Storage> Engine<S> {
     /// A unit does the statement that it asks for.
@@ -35,19 +46,15 @@ impl<S: Storage> Engine<S> {
         place: &Placement<F>,
         scheduler: Scheduler,
         asking: Asking,
-    ) -> Result<Event, Halt>
+    ) -> Result<Option<Event>, Halt>
         requires callable { TakesEachKey (F.pre place.now.place) }
         requires answers { GivesPlaceOf (F.post place.now.place) }
         requires lost { self.old.stage ≡ Lost }
         requires none { self.old.in_flight ≡ None }
         requires ready { (s : State) × IsToServe (S.holds (D.view disks.old) self.old.storage) (S.is_new (D.view disks.old) self.old.storage) scheduler (coming.Act asking) s }
-        ensures performs { IfOk result (λ e. (s : State) → IsToServe (S.holds (D.view disks.old) self.old.storage) (S.is_new (D.view disks.old) self.old.storage) scheduler (coming.Act asking) s
-            → Performs (SeesIn (S.holds (D.view disks.new) self.new.storage) (S.is_new (D.view disks.new) self.new.storage) self.new.stage) self.new.in_flight (event_meant s.units (coming.Act asking)) (Some e) s) }
-        ensures breaks { IfErr result (λ halt. (s : State) → IsToServe (S.holds (D.view disks.old) self.old.storage) (S.is_new (D.view disks.old) self.old.storage) scheduler (coming.Act asking) s
-            → BreaksOff (S.leaves (D.view disks.new) self.new.storage) (S.fills (D.view disks.new) self.new.storage) halt self.new.stage self.new.in_flight (event_meant s.units (coming.Act asking)) s.units) }
-        ensures single { self.new.single ≡ self.old.single }
-        ensures asked { S.asked self.new.storage ≡ S.asked self.old.storage }
-        ensures shape { SameShape (D.view disks.old) (D.view disks.new) }
+        ensures comes { (s : State) → IsToServe (S.holds (D.view disks.old) self.old.storage) (S.is_new (D.view disks.old) self.old.storage) scheduler (coming.Act asking) s
+            → ComesOut (λ e. e) (SeesIn (S.holds (D.view disks.new) self.new.storage) (S.is_new (D.view disks.new) self.new.storage) self.new.stage) (S.leaves (D.view disks.new) self.new.storage) (S.fills (D.view disks.new) self.new.storage) self.new.stage self.new.in_flight (event_meant s.units (coming.Act asking)) s result }
+        ensures stays { Stays self.old.single self.new.single (S.asked self.old.storage) (S.asked self.new.storage) (D.view disks.old) (D.view disks.new) }
         ensures cause { HasCause (D.view disks.old) (D.view disks.new) (disk_err result) }
     {
         let mut scheduler = scheduler;
@@ -63,7 +70,7 @@ impl<S: Storage> Engine<S> {
                 self.storage.stands(disks);
                 let event = scheduler.done(asking, &rows)?;
                 self.stage = Stage::Going(scheduler);
-                Ok(event)
+                Ok(Some(event))
             }
             Err(halt) => Err(
                 self.stage
@@ -79,19 +86,15 @@ impl<S: Storage> Engine<S> {
         place: &Placement<F>,
         scheduler: Scheduler,
         unit: Id,
-    ) -> Result<Event, Halt>
+    ) -> Result<Option<Event>, Halt>
         requires callable { TakesEachKey (F.pre place.now.place) }
         requires answers { GivesPlaceOf (F.post place.now.place) }
         requires lost { self.old.stage ≡ Lost }
         requires none { self.old.in_flight ≡ None }
         requires ready { (s : State) × IsToServe (S.holds (D.view disks.old) self.old.storage) (S.is_new (D.view disks.old) self.old.storage) scheduler (coming.Commit unit) s }
-        ensures performs { IfOk result (λ e. (s : State) → IsToServe (S.holds (D.view disks.old) self.old.storage) (S.is_new (D.view disks.old) self.old.storage) scheduler (coming.Commit unit) s
-            → Performs (SeesIn (S.holds (D.view disks.new) self.new.storage) (S.is_new (D.view disks.new) self.new.storage) self.new.stage) self.new.in_flight (event_meant s.units (coming.Commit unit)) (Some e) s) }
-        ensures breaks { IfErr result (λ halt. (s : State) → IsToServe (S.holds (D.view disks.old) self.old.storage) (S.is_new (D.view disks.old) self.old.storage) scheduler (coming.Commit unit) s
-            → BreaksOff (S.leaves (D.view disks.new) self.new.storage) (S.fills (D.view disks.new) self.new.storage) halt self.new.stage self.new.in_flight (event_meant s.units (coming.Commit unit)) s.units) }
-        ensures single { self.new.single ≡ self.old.single }
-        ensures asked { S.asked self.new.storage ≡ S.asked self.old.storage }
-        ensures shape { SameShape (D.view disks.old) (D.view disks.new) }
+        ensures comes { (s : State) → IsToServe (S.holds (D.view disks.old) self.old.storage) (S.is_new (D.view disks.old) self.old.storage) scheduler (coming.Commit unit) s
+            → ComesOut (λ e. e) (SeesIn (S.holds (D.view disks.new) self.new.storage) (S.is_new (D.view disks.new) self.new.storage) self.new.stage) (S.leaves (D.view disks.new) self.new.storage) (S.fills (D.view disks.new) self.new.storage) self.new.stage self.new.in_flight (event_meant s.units (coming.Commit unit)) s result }
+        ensures stays { Stays self.old.single self.new.single (S.asked self.old.storage) (S.asked self.new.storage) (D.view disks.old) (D.view disks.new) }
         ensures cause { HasCause (D.view disks.old) (D.view disks.new) (disk_err result) }
     {
         let mut scheduler = scheduler;
@@ -107,7 +110,7 @@ impl<S: Storage> Engine<S> {
                 self.storage.stands(disks);
                 let event = scheduler.committed(unit, made)?;
                 self.stage = Stage::Going(scheduler);
-                Ok(event)
+                Ok(Some(event))
             }
             Err(halt) => Err(
                 self.stage.break_off(
@@ -129,19 +132,15 @@ impl<S: Storage> Engine<S> {
         unit: Id,
         base: Id,
         cause: Cause,
-    ) -> Result<Event, Halt>
+    ) -> Result<Option<Event>, Halt>
         requires callable { TakesEachKey (F.pre place.now.place) }
         requires answers { GivesPlaceOf (F.post place.now.place) }
         requires lost { self.old.stage ≡ Lost }
         requires none { self.old.in_flight ≡ None }
         requires ready { (s : State) × IsToServe (S.holds (D.view disks.old) self.old.storage) (S.is_new (D.view disks.old) self.old.storage) scheduler (coming.Branch unit base cause) s }
-        ensures performs { IfOk result (λ e. (s : State) → IsToServe (S.holds (D.view disks.old) self.old.storage) (S.is_new (D.view disks.old) self.old.storage) scheduler (coming.Branch unit base cause) s
-            → Performs (SeesIn (S.holds (D.view disks.new) self.new.storage) (S.is_new (D.view disks.new) self.new.storage) self.new.stage) self.new.in_flight (event_meant s.units (coming.Branch unit base cause)) (Some e) s) }
-        ensures breaks { IfErr result (λ halt. (s : State) → IsToServe (S.holds (D.view disks.old) self.old.storage) (S.is_new (D.view disks.old) self.old.storage) scheduler (coming.Branch unit base cause) s
-            → BreaksOff (S.leaves (D.view disks.new) self.new.storage) (S.fills (D.view disks.new) self.new.storage) halt self.new.stage self.new.in_flight (event_meant s.units (coming.Branch unit base cause)) s.units) }
-        ensures single { self.new.single ≡ self.old.single }
-        ensures asked { S.asked self.new.storage ≡ S.asked self.old.storage }
-        ensures shape { SameShape (D.view disks.old) (D.view disks.new) }
+        ensures comes { (s : State) → IsToServe (S.holds (D.view disks.old) self.old.storage) (S.is_new (D.view disks.old) self.old.storage) scheduler (coming.Branch unit base cause) s
+            → ComesOut (λ e. e) (SeesIn (S.holds (D.view disks.new) self.new.storage) (S.is_new (D.view disks.new) self.new.storage) self.new.stage) (S.leaves (D.view disks.new) self.new.storage) (S.fills (D.view disks.new) self.new.storage) self.new.stage self.new.in_flight (event_meant s.units (coming.Branch unit base cause)) s result }
+        ensures stays { Stays self.old.single self.new.single (S.asked self.old.storage) (S.asked self.new.storage) (D.view disks.old) (D.view disks.new) }
         ensures cause { HasCause (D.view disks.old) (D.view disks.new) (disk_err result) }
     {
         let mut scheduler = scheduler;
@@ -157,7 +156,7 @@ impl<S: Storage> Engine<S> {
                 self.storage.stands(disks);
                 let event = scheduler.branched(unit, base, cause, made)?;
                 self.stage = Stage::Going(scheduler);
-                Ok(event)
+                Ok(Some(event))
             }
             Err(halt) => {
                 let asked = InFlight::Branch { unit, base, cause };
@@ -186,13 +185,9 @@ impl<S: Storage> Engine<S> {
         requires lost { self.old.stage ≡ Lost }
         requires none { self.old.in_flight ≡ None }
         requires ready { (s : State) × IsToServe (S.holds (D.view disks.old) self.old.storage) (S.is_new (D.view disks.old) self.old.storage) scheduler coming s }
-        ensures performs { IfOk result (λ e. (s : State) → IsToServe (S.holds (D.view disks.old) self.old.storage) (S.is_new (D.view disks.old) self.old.storage) scheduler coming s
-            → Performs (SeesIn (S.holds (D.view disks.new) self.new.storage) (S.is_new (D.view disks.new) self.new.storage) self.new.stage) self.new.in_flight (event_meant s.units coming) e s) }
-        ensures breaks { IfErr result (λ halt. (s : State) → IsToServe (S.holds (D.view disks.old) self.old.storage) (S.is_new (D.view disks.old) self.old.storage) scheduler coming s
-            → BreaksOff (S.leaves (D.view disks.new) self.new.storage) (S.fills (D.view disks.new) self.new.storage) halt self.new.stage self.new.in_flight (event_meant s.units coming) s.units) }
-        ensures single { self.new.single ≡ self.old.single }
-        ensures asked { S.asked self.new.storage ≡ S.asked self.old.storage }
-        ensures shape { SameShape (D.view disks.old) (D.view disks.new) }
+        ensures comes { (s : State) → IsToServe (S.holds (D.view disks.old) self.old.storage) (S.is_new (D.view disks.old) self.old.storage) scheduler coming s
+            → ComesOut (λ e. e) (SeesIn (S.holds (D.view disks.new) self.new.storage) (S.is_new (D.view disks.new) self.new.storage) self.new.stage) (S.leaves (D.view disks.new) self.new.storage) (S.fills (D.view disks.new) self.new.storage) self.new.stage self.new.in_flight (event_meant s.units coming) s result }
+        ensures stays { Stays self.old.single self.new.single (S.asked self.old.storage) (S.asked self.new.storage) (D.view disks.old) (D.view disks.new) }
         ensures cause { HasCause (D.view disks.old) (D.view disks.new) (disk_err result) }
     {
         match coming {
@@ -204,11 +199,11 @@ impl<S: Storage> Engine<S> {
                 self.stage = Stage::Going(scheduler);
                 Ok(Some(event))
             }
-            Coming::Act(asking) => Ok(Some(self.act(disks, place, scheduler, asking)?)),
-            Coming::Commit(unit) => Ok(Some(self.commit(disks, place, scheduler, unit)?)),
-            Coming::Branch { unit, base, cause } => Ok(Some(self.branch(
-                disks, place, scheduler, unit, base, cause,
-            )?)),
+            Coming::Act(asking) => self.act(disks, place, scheduler, asking),
+            Coming::Commit(unit) => self.commit(disks, place, scheduler, unit),
+            Coming::Branch { unit, base, cause } => {
+                self.branch(disks, place, scheduler, unit, base, cause)
+            }
             Coming::Define(_text) => unreachable!(),
             Coming::Arm(_pairs) => unreachable!(),
         }
@@ -227,13 +222,9 @@ impl<S: Storage> Engine<S> {
         requires lost { self.old.stage ≡ Lost }
         requires none { self.old.in_flight ≡ None }
         requires ready { (s : State) × GoesOnServing (S.holds (D.view disks.old) self.old.storage) (S.is_new (D.view disks.old) self.old.storage) line.now scheduler s }
-        ensures performs { IfOk result (λ e. (s : State) (r : Reading s.watch) → GoesOnServing (S.holds (D.view disks.old) self.old.storage) (S.is_new (D.view disks.old) self.old.storage) line.now scheduler s
-            → Performs (SeesIn (S.holds (D.view disks.new) self.new.storage) (S.is_new (D.view disks.new) self.new.storage) self.new.stage) self.new.in_flight (behind_in s r scheduler.follow) e s) }
-        ensures breaks { IfErr result (λ halt. (s : State) (r : Reading s.watch) → GoesOnServing (S.holds (D.view disks.old) self.old.storage) (S.is_new (D.view disks.old) self.old.storage) line.now scheduler s
-            → BreaksOff (S.leaves (D.view disks.new) self.new.storage) (S.fills (D.view disks.new) self.new.storage) halt self.new.stage self.new.in_flight (behind_in s r scheduler.follow) s.units) }
-        ensures single { self.new.single ≡ self.old.single }
-        ensures asked { S.asked self.new.storage ≡ S.asked self.old.storage }
-        ensures shape { SameShape (D.view disks.old) (D.view disks.new) }
+        ensures comes { (s : State) (r : Reading s.watch) → GoesOnServing (S.holds (D.view disks.old) self.old.storage) (S.is_new (D.view disks.old) self.old.storage) line.now scheduler s
+            → ComesOut (λ e. e) (SeesIn (S.holds (D.view disks.new) self.new.storage) (S.is_new (D.view disks.new) self.new.storage) self.new.stage) (S.leaves (D.view disks.new) self.new.storage) (S.fills (D.view disks.new) self.new.storage) self.new.stage self.new.in_flight (behind_in s r scheduler.follow) s result }
+        ensures stays { Stays self.old.single self.new.single (S.asked self.old.storage) (S.asked self.new.storage) (D.view disks.old) (D.view disks.new) }
         ensures cause { HasCause (D.view disks.old) (D.view disks.new) (disk_err result) }
         ensures unarmed { IfOk result (λ next. armed_at next ≡ 0) }
     {
@@ -257,20 +248,15 @@ impl<S: Storage> Engine<S> {
         requires lost { self.old.stage ≡ Lost }
         requires none { self.old.in_flight ≡ None }
         requires ready { (s : State) × Turns (S.holds (D.view disks.old) self.old.storage) (S.is_new (D.view disks.old) self.old.storage) line.now base scheduler s }
-        ensures performs { IfOk result (λ e. (s : State) (r : Reading s.watch) → Turns (S.holds (D.view disks.old) self.old.storage) (S.is_new (D.view disks.old) self.old.storage) line.now base scheduler s
-            → Performs (SeesIn (S.holds (D.view disks.new) self.new.storage) (S.is_new (D.view disks.new) self.new.storage) self.new.stage) self.new.in_flight (turned_next s r base) e (turned_to base s)) }
-        ensures breaks { IfErr result (λ halt. (s : State) (r : Reading s.watch) → Turns (S.holds (D.view disks.old) self.old.storage) (S.is_new (D.view disks.old) self.old.storage) line.now base scheduler s
-            → BreaksOff (S.leaves (D.view disks.new) self.new.storage) (S.fills (D.view disks.new) self.new.storage) halt self.new.stage self.new.in_flight (turned_next s r base) (turned_to base s).units) }
-        ensures single { self.new.single ≡ self.old.single }
-        ensures asked { S.asked self.new.storage ≡ S.asked self.old.storage }
-        ensures shape { SameShape (D.view disks.old) (D.view disks.new) }
+        ensures comes { (s : State) (r : Reading s.watch) → Turns (S.holds (D.view disks.old) self.old.storage) (S.is_new (D.view disks.old) self.old.storage) line.now base scheduler s
+            → ComesOut (λ e. e) (SeesIn (S.holds (D.view disks.new) self.new.storage) (S.is_new (D.view disks.new) self.new.storage) self.new.stage) (S.leaves (D.view disks.new) self.new.storage) (S.fills (D.view disks.new) self.new.storage) self.new.stage self.new.in_flight (turned_next s r base) (turned_to base s) result }
+        ensures stays { Stays self.old.single self.new.single (S.asked self.old.storage) (S.asked self.new.storage) (D.view disks.old) (D.view disks.new) }
         ensures cause { HasCause (D.view disks.old) (D.view disks.new) (disk_err result) }
         ensures unarmed { IfOk result (λ next. armed_at next ≡ 0) }
     {
         let mut scheduler = scheduler;
         self.storage.stands(disks);
-        scheduler.turn(base)?;
-        let coming = scheduler.go(line, base)?;
+        let coming = turn_to(&mut scheduler, line, base)?;
         self.perform(disks, place, scheduler, coming)
     }
 }

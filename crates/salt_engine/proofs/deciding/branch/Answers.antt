@@ -1,11 +1,12 @@
+use Rattle.salt_engine.proofs.Counted.{cause-broken, cause-lost, same-cause}
+use Rattle.salt_engine.proofs.Outcome.{by-err, not-ok, shape-same}
 use Rattle.salt_engine.proofs.Committing.{branch-done, branch-may, branch-moves, branch-new, branch-undone, own-branch, own-undone}
 use Rattle.salt_engine.proofs.Decided.{undone-before}
 use Rattle.salt_engine.proofs.Performed.{have-unit}
 use Rattle.salt_engine.proofs.deciding.branch.Goals as goal
 use Rattle.salt_model.specs.Kept.{conts_branched}
 use Rattle.std.proofs.Common.{ap}
-use Rattle.std.proofs.lemmas.Result.{err_from_is_err_and}
-use Rattle.std.specs.Prelude.{Err}
+use Rattle.std.specs.Prelude.{Err, refl}
 
 pub move_of_branch-requires : goal.move_of_branch-requires
 move_of_branch-requires g c = have-unit c.args.books.now c.requires.ready.0 c.args.unit c.requires.ready.4.unit c.requires.ready.3.books c.requires.ready.4.named
@@ -44,8 +45,7 @@ commit-requires-clause-new g c =
 
 pub returns-in_err-made-clause-undone : goal.returns-in_err-made-clause-undone
 returns-in_err-made-clause-undone g c =
-    let p = err_from_is_err_and c.from_residual.result c.from_residual.ensures.1 in
-    rw (p.1, p.2) (λ s base cause b later. undone-before _ _ s _ (c.stands.ensures.stays s.kept b.stored.holding))
+    by-err _ c.from_residual.result _ c.from_residual.ensures.1 (λ s base cause b later. undone-before _ _ s _ (c.stands.ensures.stays s.kept b.stored.holding))
 
 pub returns-clause-branched : goal.returns-clause-branched
 returns-clause-branched g c = λ s base cause b0 later.
@@ -61,8 +61,7 @@ returns-clause-branched g c = λ s base cause b0 later.
 
 pub returns-in_err-_number-clause-undone : goal.returns-in_err-_number-clause-undone
 returns-in_err-_number-clause-undone g c =
-    let p = err_from_is_err_and c.from_residual-in_err-_number.result c.from_residual-in_err-_number.ensures.1 in
-    rw (p.1, p.2) (λ s base cause b0 later.
+    by-err _ c.from_residual-in_err-_number.result _ c.from_residual-in_err-_number.ensures.1 (λ s base cause b0 later.
     let view = g.D.Disks.view c.args.disks.now in
     let holds = g.S.Storage.holds view c.args.storage.now in
     let is_new = g.S.Storage.is_new view c.args.storage.now in
@@ -77,3 +76,42 @@ returns-in_err-_number-clause-undone g c =
     (branch-undone holds is_new x s o c.args.unit sound later.named cause b law c.new-changes.result c.new-changes.ensures c.in_ok-made.made moves _ _ _
     (c.in_err-_number.ensures.leaves s.kept (conts_branched s.kept o.kind) b.stored.holding may)
     (λ dev is. c.in_err-_number.ensures.full dev (ap Err is))))
+
+pub returns-in_err-made-clause-branched : goal.returns-in_err-made-clause-branched
+returns-in_err-made-clause-branched g c = not-ok _ _ c.from_residual.result c.from_residual.ensures.1
+
+pub returns-in_err-made-clause-asked : goal.returns-in_err-made-clause-asked
+returns-in_err-made-clause-asked g c = refl
+
+pub returns-in_err-made-clause-shape : goal.returns-in_err-made-clause-shape
+returns-in_err-made-clause-shape g c = shape-same (g.D.Disks.view c.args.disks.now)
+
+pub returns-in_err-made-clause-cause : goal.returns-in_err-made-clause-cause
+returns-in_err-made-clause-cause g c = cause-broken _ _ c.from_residual.result _ c.from_residual.ensures.1 (cause-lost _ _ (same-cause (g.D.Disks.view c.args.disks.now)))
+
+pub returns-in_err-_number-clause-branched : goal.returns-in_err-_number-clause-branched
+returns-in_err-_number-clause-branched g c = not-ok _ _ c.from_residual-in_err-_number.result c.from_residual-in_err-_number.ensures.1
+
+pub returns-in_err-_number-clause-asked : goal.returns-in_err-_number-clause-asked
+returns-in_err-_number-clause-asked g c = c.commit.ensures.asked
+
+pub returns-in_err-_number-clause-shape : goal.returns-in_err-_number-clause-shape
+returns-in_err-_number-clause-shape g c = c.commit.ensures.shape
+
+pub returns-in_err-_number-clause-cause : goal.returns-in_err-_number-clause-cause
+returns-in_err-_number-clause-cause g c = cause-broken _ _ c.from_residual-in_err-_number.result _ c.from_residual-in_err-_number.ensures.1 c.in_err-_number.ensures.cause
+
+pub returns-clause-asked : goal.returns-clause-asked
+returns-clause-asked g c = c.commit.ensures.asked
+
+pub returns-clause-shape : goal.returns-clause-shape
+returns-clause-shape g c = c.commit.ensures.shape
+
+pub returns-clause-cause : goal.returns-clause-cause
+returns-clause-cause g c = c.in_ok-_number.ensures.cause
+
+pub commit-requires-clause-callable : goal.commit-requires-clause-callable
+commit-requires-clause-callable g c = c.requires.callable
+
+pub commit-requires-clause-answers : goal.commit-requires-clause-answers
+commit-requires-clause-answers g c = c.requires.answers

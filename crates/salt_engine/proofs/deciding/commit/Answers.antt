@@ -1,3 +1,5 @@
+use Rattle.salt_engine.proofs.Counted.{cause-broken, cause-lost, same-cause}
+use Rattle.salt_engine.proofs.Outcome.{by-err, not-ok, shape-same}
 use Rattle.salt_engine.proofs.Committing.{commit-done, commit-may, commit-moves, commit-new, commit-undone}
 use Rattle.salt_engine.proofs.Decided.{undone-before}
 use Rattle.salt_engine.proofs.Performed.{have-unit}
@@ -5,8 +7,7 @@ use Rattle.salt_engine.proofs.deciding.commit.Goals as goal
 use Rattle.salt_keeps.specs.Told.{next_decision}
 use Rattle.salt_model.specs.Kept.{conts_committed}
 use Rattle.std.proofs.Common.{ap}
-use Rattle.std.proofs.lemmas.Result.{err_from_is_err_and}
-use Rattle.std.specs.Prelude.{Err}
+use Rattle.std.specs.Prelude.{Err, refl}
 
 pub move_of_commit-requires : goal.move_of_commit-requires
 move_of_commit-requires g c = have-unit c.args.books.now c.requires.ready.0 c.args.unit c.requires.ready.1 c.requires.ready.2.books c.requires.ready.3
@@ -47,8 +48,7 @@ commit-requires-clause-new g c =
 
 pub returns-in_err-made-clause-undone : goal.returns-in_err-made-clause-undone
 returns-in_err-made-clause-undone g c =
-    let p = err_from_is_err_and c.from_residual.result c.from_residual.ensures.1 in
-    rw (p.1, p.2) (λ s o b named. undone-before _ _ s _ (c.stands.ensures.stays s.kept b.stored.holding))
+    by-err _ c.from_residual.result _ c.from_residual.ensures.1 (λ s o b named. undone-before _ _ s _ (c.stands.ensures.stays s.kept b.stored.holding))
 
 pub returns-clause-committed : goal.returns-clause-committed
 returns-clause-committed g c = λ s o b named.
@@ -64,13 +64,11 @@ returns-clause-committed g c = λ s o b named.
 
 pub returns-in_err-changes-clause-undone : goal.returns-in_err-changes-clause-undone
 returns-in_err-changes-clause-undone g c =
-    let p = err_from_is_err_and c.from_residual-in_err-changes.result c.from_residual-in_err-changes.ensures.1 in
-    rw (p.1, p.2) (λ s o b named. undone-before _ _ s _ (c.stands.ensures.stays s.kept b.stored.holding))
+    by-err _ c.from_residual-in_err-changes.result _ c.from_residual-in_err-changes.ensures.1 (λ s o b named. undone-before _ _ s _ (c.stands.ensures.stays s.kept b.stored.holding))
 
 pub returns-in_err-_number-clause-undone : goal.returns-in_err-_number-clause-undone
 returns-in_err-_number-clause-undone g c =
-    let p = err_from_is_err_and c.from_residual-in_err-_number.result c.from_residual-in_err-_number.ensures.1 in
-    rw (p.1, p.2) (λ s o b named.
+    by-err _ c.from_residual-in_err-_number.result _ c.from_residual-in_err-_number.ensures.1 (λ s o b named.
     let view = g.D.Disks.view c.args.disks.now in
     let holds = g.S.Storage.holds view c.args.storage.now in
     let is_new = g.S.Storage.is_new view c.args.storage.now in
@@ -83,3 +81,54 @@ returns-in_err-_number-clause-undone g c =
     commit-undone holds is_new x s o c.args.unit sound named b law c.in_ok-changes.changes c.in_ok-made.made are moves _ _ _
     (c.in_err-_number.ensures.leaves s.kept (conts_committed s.kept (next_decision s) o.kind o.vars) b.stored.holding may)
     (λ dev is. c.in_err-_number.ensures.full dev (ap Err is)))
+
+pub returns-in_err-made-clause-committed : goal.returns-in_err-made-clause-committed
+returns-in_err-made-clause-committed g c = not-ok _ _ c.from_residual.result c.from_residual.ensures.1
+
+pub returns-in_err-made-clause-asked : goal.returns-in_err-made-clause-asked
+returns-in_err-made-clause-asked g c = refl
+
+pub returns-in_err-made-clause-shape : goal.returns-in_err-made-clause-shape
+returns-in_err-made-clause-shape g c = shape-same (g.D.Disks.view c.args.disks.now)
+
+pub returns-in_err-made-clause-cause : goal.returns-in_err-made-clause-cause
+returns-in_err-made-clause-cause g c = cause-broken _ _ c.from_residual.result _ c.from_residual.ensures.1 (cause-lost _ _ (same-cause (g.D.Disks.view c.args.disks.now)))
+
+pub returns-in_err-changes-clause-committed : goal.returns-in_err-changes-clause-committed
+returns-in_err-changes-clause-committed g c = not-ok _ _ c.from_residual-in_err-changes.result c.from_residual-in_err-changes.ensures.1
+
+pub returns-in_err-changes-clause-asked : goal.returns-in_err-changes-clause-asked
+returns-in_err-changes-clause-asked g c = refl
+
+pub returns-in_err-changes-clause-shape : goal.returns-in_err-changes-clause-shape
+returns-in_err-changes-clause-shape g c = shape-same (g.D.Disks.view c.args.disks.now)
+
+pub returns-in_err-changes-clause-cause : goal.returns-in_err-changes-clause-cause
+returns-in_err-changes-clause-cause g c = cause-broken _ _ c.from_residual-in_err-changes.result _ c.from_residual-in_err-changes.ensures.1 (cause-lost _ _ (same-cause (g.D.Disks.view c.args.disks.now)))
+
+pub returns-in_err-_number-clause-committed : goal.returns-in_err-_number-clause-committed
+returns-in_err-_number-clause-committed g c = not-ok _ _ c.from_residual-in_err-_number.result c.from_residual-in_err-_number.ensures.1
+
+pub returns-in_err-_number-clause-asked : goal.returns-in_err-_number-clause-asked
+returns-in_err-_number-clause-asked g c = c.commit.ensures.asked
+
+pub returns-in_err-_number-clause-shape : goal.returns-in_err-_number-clause-shape
+returns-in_err-_number-clause-shape g c = c.commit.ensures.shape
+
+pub returns-in_err-_number-clause-cause : goal.returns-in_err-_number-clause-cause
+returns-in_err-_number-clause-cause g c = cause-broken _ _ c.from_residual-in_err-_number.result _ c.from_residual-in_err-_number.ensures.1 c.in_err-_number.ensures.cause
+
+pub returns-clause-asked : goal.returns-clause-asked
+returns-clause-asked g c = c.commit.ensures.asked
+
+pub returns-clause-shape : goal.returns-clause-shape
+returns-clause-shape g c = c.commit.ensures.shape
+
+pub returns-clause-cause : goal.returns-clause-cause
+returns-clause-cause g c = c.in_ok-_number.ensures.cause
+
+pub commit-requires-clause-callable : goal.commit-requires-clause-callable
+commit-requires-clause-callable g c = c.requires.callable
+
+pub commit-requires-clause-answers : goal.commit-requires-clause-answers
+commit-requires-clause-answers g c = c.requires.answers

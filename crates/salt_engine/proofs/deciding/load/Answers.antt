@@ -1,10 +1,11 @@
+use Rattle.salt_engine.proofs.Counted.{cause-broken, same-cause}
+use Rattle.salt_engine.proofs.Outcome.{by-err, not-ok, shape-same}
 use Rattle.salt_engine.proofs.Decided.{stored-still}
 use Rattle.salt_engine.proofs.Loading.{may-load, rows-keyed, rows-loaded, unloaded}
 use Rattle.salt_engine.proofs.deciding.load.Goals as goal
 use Rattle.salt_known.specs.declared.known.Known.{Known}
 use Rattle.std.proofs.Common.{ap, ◌∙◌}
-use Rattle.std.proofs.lemmas.Result.{err_from_is_err_and}
-use Rattle.std.specs.Prelude.{Err}
+use Rattle.std.specs.Prelude.{Err, refl}
 
 pub load-requires-clause-reach : goal.load-requires-clause-reach
 load-requires-clause-reach g c =
@@ -30,7 +31,51 @@ returns-in_ok-rows-in-Some-clause-stored g c = λ s stored.
 pub returns-in_err-rows-in-Some-clause-undone : goal.returns-in_err-rows-in-Some-clause-undone
 returns-in_err-rows-in-Some-clause-undone g c =
     let view = g.D.Disks.view c.args.disks.now in
-    let p = err_from_is_err_and c.from_residual.result c.from_residual.ensures.1 in
-    rw (p.1, p.2) (λ s o b asked.
+    by-err _ c.from_residual.result _ c.from_residual.ensures.1 (λ s o b asked.
     unloaded (g.S.Storage.holds view c.args.storage.now) (g.S.Storage.is_new view c.args.storage.now) c.args.books.now c.args.asking.now s o c.in-Some.reach b asked c.in-Some.is
     _ _ _ (c.in_err-rows-in-Some.ensures.leaves s.kept b.stored.holding) (λ dev is. c.in_err-rows-in-Some.ensures.full dev (ap Err is)))
+
+pub returns-in_ok-rows-in-Some-clause-asked : goal.returns-in_ok-rows-in-Some-clause-asked
+returns-in_ok-rows-in-Some-clause-asked g c = c.load.ensures.asked
+
+pub returns-in_ok-rows-in-Some-clause-shape : goal.returns-in_ok-rows-in-Some-clause-shape
+returns-in_ok-rows-in-Some-clause-shape g c = c.load.ensures.shape
+
+pub returns-in_err-rows-in-Some-clause-asked : goal.returns-in_err-rows-in-Some-clause-asked
+returns-in_err-rows-in-Some-clause-asked g c = c.load.ensures.asked
+
+pub returns-in_err-rows-in-Some-clause-shape : goal.returns-in_err-rows-in-Some-clause-shape
+returns-in_err-rows-in-Some-clause-shape g c = c.load.ensures.shape
+
+pub returns-in_ok-rows-in-Some-clause-cause : goal.returns-in_ok-rows-in-Some-clause-cause
+returns-in_ok-rows-in-Some-clause-cause g c = c.in_ok-rows-in-Some.ensures.cause
+
+pub returns-in_err-rows-in-Some-clause-cause : goal.returns-in_err-rows-in-Some-clause-cause
+returns-in_err-rows-in-Some-clause-cause g c = cause-broken _ _ c.from_residual.result _ c.from_residual.ensures.1 c.in_err-rows-in-Some.ensures.cause
+
+pub returns-in_err-rows-in-Some-clause-rows : goal.returns-in_err-rows-in-Some-clause-rows
+returns-in_err-rows-in-Some-clause-rows g c = not-ok _ _ c.from_residual.result c.from_residual.ensures.1
+
+pub returns-in_err-rows-in-Some-clause-keyed : goal.returns-in_err-rows-in-Some-clause-keyed
+returns-in_err-rows-in-Some-clause-keyed g c = not-ok _ _ c.from_residual.result c.from_residual.ensures.1
+
+pub returns-in_err-rows-in-Some-clause-stored : goal.returns-in_err-rows-in-Some-clause-stored
+returns-in_err-rows-in-Some-clause-stored g c = not-ok _ _ c.from_residual.result c.from_residual.ensures.1
+
+pub returns-in-None-clause-stored : goal.returns-in-None-clause-stored
+returns-in-None-clause-stored g c = λ s h. h
+
+pub returns-in-None-clause-asked : goal.returns-in-None-clause-asked
+returns-in-None-clause-asked g c = refl
+
+pub returns-in-None-clause-shape : goal.returns-in-None-clause-shape
+returns-in-None-clause-shape g c = shape-same (g.D.Disks.view c.args.disks.now)
+
+pub returns-in-None-clause-cause : goal.returns-in-None-clause-cause
+returns-in-None-clause-cause g c = same-cause (g.D.Disks.view c.args.disks.now)
+
+pub load-requires-clause-callable : goal.load-requires-clause-callable
+load-requires-clause-callable g c = c.requires.callable
+
+pub load-requires-clause-answers : goal.load-requires-clause-answers
+load-requires-clause-answers g c = c.requires.answers

@@ -52,3 +52,18 @@ pub returns-in-Err-clause-halts : goal.returns-in-Err-clause-halts
 returns-in-Err-clause-halts g c = λ p sound at.
     let is = sym c.replace.ensures.value ∙ c.closed-opening.ensures in
     c.in-Err.ensures.halts p sound (closed-at _ _ _ c.args.self.now c.closed-opening.result c.args.event p is at)
+
+pub go_on-requires-clause-callable : goal.go_on-requires-clause-callable
+go_on-requires-clause-callable g c = c.requires.callable
+
+pub go_on-requires-clause-answers : goal.go_on-requires-clause-answers
+go_on-requires-clause-answers g c = c.requires.answers
+
+pub returns-in-Ok-None-clause-shape : goal.returns-in-Ok-None-clause-shape
+returns-in-Ok-None-clause-shape g c = c.go_on.ensures.shape
+
+pub returns-in-Ok-Some-clause-shape : goal.returns-in-Ok-Some-clause-shape
+returns-in-Ok-Some-clause-shape g c = c.go_on.ensures.shape
+
+pub returns-in-Err-clause-shape : goal.returns-in-Err-clause-shape
+returns-in-Err-clause-shape g c = c.go_on.ensures.shape

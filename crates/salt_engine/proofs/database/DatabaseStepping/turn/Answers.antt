@@ -1,4 +1,4 @@
-use Rattle.salt_engine.proofs.Halved.{at-open, open-at}
+use Rattle.salt_engine.proofs.Halved.{at-open, open-at, open-same}
 use Rattle.salt_engine.proofs.database.DatabaseStepping.turn.Goals as goal
 use Rattle.std.proofs.lemmas.Result.{IfErr-weaker, IfOk-weaker}
 
@@ -15,3 +15,18 @@ returns-clause-moves g c = IfOk-weaker c.turn.result _ _ (λ next moves p sound 
 pub returns-clause-halts : goal.returns-clause-halts
 returns-clause-halts g c =
     IfErr-weaker c.turn.result _ _ (λ halt halts p sound at turn. halts p sound (open-at _ _ _ c.args.self.now c.in-Open.engine c.args.line.now _ p c.in-Open.is at) turn) c.turn.ensures.halts
+
+pub turn-requires-clause-callable : goal.turn-requires-clause-callable
+turn-requires-clause-callable g c = c.requires.callable
+
+pub turn-requires-clause-answers : goal.turn-requires-clause-answers
+turn-requires-clause-answers g c = c.requires.answers
+
+pub returns-clause-asked : goal.returns-clause-asked
+returns-clause-asked g c = open-same _ _ _ c.args.self.now c.in-Open.engine c.turn.new.self c.in-Open.is c.turn.ensures.asked
+
+pub returns-clause-shape : goal.returns-clause-shape
+returns-clause-shape g c = c.turn.ensures.shape
+
+pub returns-clause-counts : goal.returns-clause-counts
+returns-clause-counts g c = c.turn.ensures.counts

@@ -1,13 +1,12 @@
 use Rattle.salt_engine.proofs.Broken.{breaks-before}
-use Rattle.salt_engine.proofs.Counted.{cause-lost, counts-armed, counts-lost, same-cause}
+use Rattle.salt_engine.proofs.Counted.{cause-lost, counts-armed, counts-broken, counts-lost, same-cause}
 use Rattle.salt_engine.proofs.LineArms.{arms-able, arms-armed, arms-performs, arms-picks}
 use Rattle.salt_engine.proofs.LineDefines.{reads-there}
+use Rattle.salt_engine.proofs.Outcome.{comes-lost, stays-same}
 use Rattle.salt_engine.proofs.engine.Engine.arm.Goals as goal
 use Rattle.salt_model.specs.Words.{Every}
-use Rattle.salt_steps.proofs.Counted.{counts-cause}
-use Rattle.std.proofs.Common.{ap, refl, subst, sym, ◌∙◌}
-use Rattle.std.proofs.lemmas.Result.{err_from_is_err_and}
-use Rattle.std.specs.Prelude.{length, ℕ, ◌+◌, ◌≤◌}
+use Rattle.std.proofs.Common.{ap, subst, sym, ◌∙◌}
+use Rattle.std.specs.Prelude.{length, refl, ℕ, ◌+◌, ◌≤◌}
 
 pub arm_each-requires-clause-able : goal.arm_each-requires-clause-able
 arm_each-requires-clause-able g c = arms-able _ _ _ c.args.line.now c.args.scheduler c.requires.ready.0 c.requires.ready.1 c.args.pairs.now c.requires.line
@@ -17,10 +16,13 @@ arm_each-requires-clause-picks g c =
     subst (Every (λ (p : ℕ × ℕ). p.1 ≤ 4)) (sym c.as_slice-2.ensures)
     (arms-picks _ _ _ c.args.line.now c.args.scheduler c.requires.ready.0 c.requires.ready.1 c.args.pairs.now c.requires.line)
 
-pub returns-in-Ok-clause-performs : goal.returns-in-Ok-clause-performs
-returns-in-Ok-clause-performs g c = λ s r h.
-    arms-performs _ _ _ c.args.line.now c.args.scheduler s h c.args.pairs.now c.requires.line _ _ _ _ _ _ _ (c.in_ok-told.ensures ∙ c.as_slice.ensures) (c.arm_each.ensures.flies ∙ c.requires.none) refl
+pub returns-in-Ok-clause-comes : goal.returns-in-Ok-clause-comes
+returns-in-Ok-clause-comes g c = λ s r h.
+    arms-performs _ _ _ c.args.line.now c.args.scheduler s h c.args.pairs.now c.requires.line _ _ _ _ c.armed-event.new.self c.armed-event.result c.in_ok-told.told (c.in_ok-told.ensures ∙ c.as_slice.ensures) c.requires.none refl
     (c.arm_each.ensures.stored s.units h.stored) r (c.armed-event.ensures s r h.stands h.allowed.serves)
+
+pub returns-in-Ok-clause-stays : goal.returns-in-Ok-clause-stays
+returns-in-Ok-clause-stays g c = record { noted = refl; asked = c.arm_each.ensures.asked; shape = c.arm_each.ensures.shape }
 
 pub returns-in-Ok-clause-counts : goal.returns-in-Ok-clause-counts
 returns-in-Ok-clause-counts g c =
@@ -28,25 +30,27 @@ returns-in-Ok-clause-counts g c =
     let h = c.requires.ready.1 in
     let r = reads-there _ _ _ c.args.line.now c.args.scheduler s h in
     let armed =
-    arms-armed _ _ _ c.args.line.now c.args.scheduler s h c.args.pairs.now c.requires.line _ _ _ (c.in_ok-told.ensures ∙ c.as_slice.ensures) (c.armed-event.ensures s r h.stands h.allowed.serves) in
+    arms-armed _ _ _ c.args.line.now c.args.scheduler s h c.args.pairs.now c.requires.line c.armed-event.new.self c.armed-event.result c.in_ok-told.told (c.in_ok-told.ensures ∙ c.as_slice.ensures) (c.armed-event.ensures s r h.stands h.allowed.serves) in
     counts-armed _ _ _ c.arm_each.ensures.faults
     (c.in-Ok.ensures.ok ∙ ap (λ (n : ℕ). (g.D.Disks.view c.args.disks.now).stops_left + n) (ap length c.as_slice-2.ensures ∙ sym armed))
 
-pub returns-in-Err-clause-breaks : goal.returns-in-Err-clause-breaks
-returns-in-Err-clause-breaks g c = λ s r h.
+pub returns-in-Err-clause-comes : goal.returns-in-Err-clause-comes
+returns-in-Err-clause-comes g c = λ s r h.
     breaks-before _ _ _ _ _ s.units (c.stands-in-Err.ensures.stays s.units.kept (c.arm_each.ensures.stored s.units h.stored).holding)
-    (record { there = c.arm_each.ensures.stage ∙ c.requires.lost; none = c.arm_each.ensures.flies ∙ c.requires.none })
+    (record { there = c.requires.lost; none = c.requires.none })
+
+pub returns-in-Err-clause-stays : goal.returns-in-Err-clause-stays
+returns-in-Err-clause-stays g c = record { noted = refl; asked = c.arm_each.ensures.asked; shape = c.arm_each.ensures.shape }
 
 pub returns-in-Err-clause-counts : goal.returns-in-Err-clause-counts
 returns-in-Err-clause-counts g c = counts-lost _ _ 0 c.arm_each.ensures.faults
 
-pub returns-in_err-told-clause-breaks : goal.returns-in_err-told-clause-breaks
-returns-in_err-told-clause-breaks g c =
-    let p = err_from_is_err_and c.from_residual.result c.from_residual.ensures.1 in
-    rw (p.1, p.2) (λ s r h.
-    breaks-before _ _ _ _ _ s.units (c.stands.ensures.stays s.units.kept h.stored.holding) (record { there = c.requires.lost; none = c.requires.none }))
+pub returns-in_err-told-clause-comes : goal.returns-in_err-told-clause-comes
+returns-in_err-told-clause-comes g c = λ s r h.
+    comes-lost _ _ _ _ _ _ _ s c.from_residual.result c.from_residual.ensures.1 (c.stands.ensures.stays s.units.kept h.stored.holding) (record { there = c.requires.lost; none = c.requires.none })
+
+pub returns-in_err-told-clause-stays : goal.returns-in_err-told-clause-stays
+returns-in_err-told-clause-stays g c = stays-same _ _ _
 
 pub returns-in_err-told-clause-counts : goal.returns-in_err-told-clause-counts
-returns-in_err-told-clause-counts g c =
-    let p = err_from_is_err_and c.from_residual.result c.from_residual.ensures.1 in
-    rw (p.1, p.2) (counts-cause _ _ _ 0 refl (cause-lost _ _ (same-cause (g.D.Disks.view c.args.disks.now))))
+returns-in_err-told-clause-counts g c = counts-broken _ _ c.from_residual.result _ c.from_residual.ensures.1 (cause-lost _ _ (same-cause (g.D.Disks.view c.args.disks.now)))

@@ -1,13 +1,24 @@
-use Rattle.salt_engine.proofs.Broken.{breaks-before}
-use Rattle.salt_engine.proofs.Counted.{cause-lost, same-cause}
-use Rattle.salt_engine.proofs.LineChosen.{breaks-same, performed-unarmed, performs-same, to-serve}
+use Rattle.salt_engine.proofs.Counted.{cause-broken, cause-lost, same-cause}
+use Rattle.salt_engine.proofs.LineChosen.{to-serve}
+use Rattle.salt_engine.proofs.Outcome.{comes-lost, comes-same, comes-unarmed, not-ok, stays-same}
 use Rattle.salt_engine.proofs.Plain.{line-plain}
 use Rattle.salt_engine.proofs.engine.Engine.go_on_in_line.Goals as goal
 use Rattle.salt_scheduler.proofs.SoundFacts.{reads}
-use Rattle.std.proofs.lemmas.Result.{IfErr-weaker, IfOk-weaker, err_from_is_err_and}
 
 pub go_on-requires : goal.go_on-requires
 go_on-requires g c = (c.requires.ready.0, c.requires.ready.1.stands, c.requires.ready.1.serves)
+
+pub perform-requires-clause-callable : goal.perform-requires-clause-callable
+perform-requires-clause-callable g c = c.requires.callable
+
+pub perform-requires-clause-answers : goal.perform-requires-clause-answers
+perform-requires-clause-answers g c = c.requires.answers
+
+pub perform-requires-clause-lost : goal.perform-requires-clause-lost
+perform-requires-clause-lost g c = c.requires.lost
+
+pub perform-requires-clause-none : goal.perform-requires-clause-none
+perform-requires-clause-none g c = c.requires.none
 
 pub perform-requires-clause-ready : goal.perform-requires-clause-ready
 perform-requires-clause-ready g c =
@@ -16,32 +27,35 @@ perform-requires-clause-ready g c =
     let r = reads s h.serves.sound in
     (s, to-serve _ _ _ _ _ s (h.played r) h.serves.phase (line-plain s r c.args.scheduler.follow) (c.in_ok-coming.ensures s r h.stands h.serves) h.stored)
 
-pub returns-clause-performs : goal.returns-clause-performs
-returns-clause-performs g c = IfOk-weaker c.perform.result _ _ (λ e done s r h.
+pub returns-clause-comes : goal.returns-clause-comes
+returns-clause-comes g c = λ s r h.
     let b = c.in_ok-coming.ensures s r h.stands h.serves in
-    performs-same _ _ _ _ _ _ e s b.meant (done s (to-serve _ _ _ _ _ s (h.played r) h.serves.phase (line-plain s r c.args.scheduler.follow) b h.stored))) c.perform.ensures.performs
+    comes-same _ _ _ _ _ _ _ _ s c.perform.result b.meant (c.perform.ensures.comes s (to-serve _ _ _ _ _ s (h.played r) h.serves.phase (line-plain s r c.args.scheduler.follow) b h.stored))
 
-pub returns-clause-breaks : goal.returns-clause-breaks
-returns-clause-breaks g c = IfErr-weaker c.perform.result _ _ (λ halt broken s r h.
-    let b = c.in_ok-coming.ensures s r h.stands h.serves in
-    breaks-same _ _ halt _ _ _ _ s.units b.meant (broken s (to-serve _ _ _ _ _ s (h.played r) h.serves.phase (line-plain s r c.args.scheduler.follow) b h.stored))) c.perform.ensures.breaks
+pub returns-clause-stays : goal.returns-clause-stays
+returns-clause-stays g c = c.perform.ensures.stays
+
+pub returns-clause-cause : goal.returns-clause-cause
+returns-clause-cause g c = c.perform.ensures.cause
 
 pub returns-clause-unarmed : goal.returns-clause-unarmed
-returns-clause-unarmed g c = IfOk-weaker c.perform.result _ _ (λ e done.
+returns-clause-unarmed g c =
     let s = c.requires.ready.0 in
     let h = c.requires.ready.1 in
     let r = reads s h.serves.sound in
     let b = c.in_ok-coming.ensures s r h.stands h.serves in
-    performed-unarmed _ _ _ _ _ e s (line-plain s r c.args.scheduler.follow)
-    (performs-same _ _ _ _ _ _ e s b.meant (done s (to-serve _ _ _ _ _ s (h.played r) h.serves.phase (line-plain s r c.args.scheduler.follow) b h.stored)))) c.perform.ensures.performs
+    comes-unarmed _ _ _ _ _ _ _ s c.perform.result (line-plain s r c.args.scheduler.follow)
+    (comes-same _ _ _ _ _ _ _ _ s c.perform.result b.meant (c.perform.ensures.comes s (to-serve _ _ _ _ _ s (h.played r) h.serves.phase (line-plain s r c.args.scheduler.follow) b h.stored)))
 
-pub returns-in_err-coming-clause-breaks : goal.returns-in_err-coming-clause-breaks
-returns-in_err-coming-clause-breaks g c =
-    let p = err_from_is_err_and c.from_residual.result c.from_residual.ensures.1 in
-    rw (p.1, p.2) (λ s r h.
-    breaks-before _ _ _ _ _ s.units (c.stands.ensures.stays s.units.kept h.stored.holding) (record { there = c.requires.lost; none = c.requires.none }))
+pub returns-in_err-coming-clause-comes : goal.returns-in_err-coming-clause-comes
+returns-in_err-coming-clause-comes g c = λ s r h.
+    comes-lost _ _ _ _ _ _ _ s c.from_residual.result c.from_residual.ensures.1 (c.stands.ensures.stays s.units.kept h.stored.holding) (record { there = c.requires.lost; none = c.requires.none })
+
+pub returns-in_err-coming-clause-stays : goal.returns-in_err-coming-clause-stays
+returns-in_err-coming-clause-stays g c = stays-same _ _ _
 
 pub returns-in_err-coming-clause-cause : goal.returns-in_err-coming-clause-cause
-returns-in_err-coming-clause-cause g c =
-    let p = err_from_is_err_and c.from_residual.result c.from_residual.ensures.1 in
-    rw (p.1, p.2) (cause-lost _ _ (same-cause (g.D.Disks.view c.args.disks.now)))
+returns-in_err-coming-clause-cause g c = cause-broken _ _ c.from_residual.result _ c.from_residual.ensures.1 (cause-lost _ _ (same-cause (g.D.Disks.view c.args.disks.now)))
+
+pub returns-in_err-coming-clause-unarmed : goal.returns-in_err-coming-clause-unarmed
+returns-in_err-coming-clause-unarmed g c = not-ok _ _ c.from_residual.result c.from_residual.ensures.1

@@ -5,7 +5,7 @@ use Rattle.salt_engine.specs.Standing.{KnowsUnits, opening_books}
 use Rattle.salt_engine.specs.declared.stage.Stage.{Stage}
 use Rattle.salt_model.specs.declared.events.Why.TheVariants.{Stopped}
 use Rattle.salt_recovery.specs.declared.recovery.Recovery.{Recovery}
-use Rattle.std.proofs.Common.{subst, sym}
+use Rattle.std.proofs.Common.{refl, subst, sym}
 
 pub restart-requires : goal.restart-requires
 restart-requires g c =
@@ -25,3 +25,18 @@ returns-clause-settled g c =
     let e = leaves-some _ _ _ _ _ _ _ l.0 l.1.0 c.stands.ensures.stays l.1.1 in
     down-finds _ _ _ _ c.fallen.ensures.down (c.fallen.ensures.books units Stopped (subst (λ (stage : Stage Recovery). KnowsUnits (opening_books stage) units) (sym c.replace.ensures.value) l.1.1.knows))
     c.restart.ensures.settled (e.0, e.1, c.restart.ensures.leaves e.0 e.1 e.2)
+
+pub returns-clause-asked : goal.returns-clause-asked
+returns-clause-asked g c = c.restart.ensures.asked
+
+pub returns-clause-shape : goal.returns-clause-shape
+returns-clause-shape g c = c.restart.ensures.shape
+
+pub returns-clause-faults : goal.returns-clause-faults
+returns-clause-faults g c = c.restart.ensures.faults
+
+pub returns-clause-stops : goal.returns-clause-stops
+returns-clause-stops g c = c.restart.ensures.stops
+
+pub returns-clause-flies : goal.returns-clause-flies
+returns-clause-flies g c = refl

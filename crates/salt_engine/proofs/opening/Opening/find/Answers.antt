@@ -1,3 +1,4 @@
+use Rattle.salt_engine.proofs.Outcome.{shape-same}
 use Rattle.salt_engine.proofs.Counted.{same-cause}
 use Rattle.salt_engine.proofs.FindDone.{again-found, broken-books, can-find, either-way, found-lies, left-behind, left-found, left-still, lies-still, was-found}
 use Rattle.salt_engine.proofs.Spent.{may-fail-at}
@@ -75,3 +76,27 @@ returns-in-Some-clause-left g c = λ room p sound fallen lies. lies.left
 
 pub returns-in-Some-clause-counts : goal.returns-in-Some-clause-counts
 returns-in-Some-clause-counts g c = counts-cause _ _ _ 0 refl (same-cause (g.D.Disks.view c.args.disks.now))
+
+pub find_behind-requires-clause-callable : goal.find_behind-requires-clause-callable
+find_behind-requires-clause-callable g c = c.requires.callable
+
+pub find_behind-requires-clause-answers : goal.find_behind-requires-clause-answers
+find_behind-requires-clause-answers g c = c.requires.answers
+
+pub returns-in-None-clause-asked : goal.returns-in-None-clause-asked
+returns-in-None-clause-asked g c = c.find_behind.ensures.asked
+
+pub returns-in-None-clause-shape : goal.returns-in-None-clause-shape
+returns-in-None-clause-shape g c = c.find_behind.ensures.shape
+
+pub returns-in-None-clause-full : goal.returns-in-None-clause-full
+returns-in-None-clause-full g c = c.find_behind.ensures.full
+
+pub returns-in-Some-clause-asked : goal.returns-in-Some-clause-asked
+returns-in-Some-clause-asked g c = refl
+
+pub returns-in-Some-clause-flies : goal.returns-in-Some-clause-flies
+returns-in-Some-clause-flies g c = refl
+
+pub returns-in-Some-clause-shape : goal.returns-in-Some-clause-shape
+returns-in-Some-clause-shape g c = shape-same (g.D.Disks.view c.args.disks.now)

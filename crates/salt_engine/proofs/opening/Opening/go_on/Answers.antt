@@ -6,7 +6,7 @@ use Rattle.salt_engine.proofs.Stages.{opened-at, opens-now}
 use Rattle.salt_engine.proofs.opening.Opening.go_on.Goals as goal
 use Rattle.salt_engine.specs.Standing.{IsGoingStage}
 use Rattle.salt_steps.proofs.Counted.{counts-cause}
-use Rattle.std.proofs.Common.{inl, refl, subst, sym, ◌∙◌}
+use Rattle.std.proofs.Common.{ap, inl, refl, subst, sym, ◌∙◌}
 use Rattle.std.proofs.lemmas.Result.{err_from_is_err_and}
 use Rattle.std.specs.Prelude.{Some}
 
@@ -54,10 +54,10 @@ returns-in_ok-go_on_in_opening-clause-moves g c = λ p sound at.
     let e = c.args.event in
     let going = sym c.is_ready-ready.ensures ∙ c.if-ready.false in
     let h = opened-at _ _ _ _ _ p.state there at.state.0.seen in
-    let d = c.in_ok-go_on_in_opening.ensures.performs h.0 (goes-on x e p sound h.0 h.1 at.comes going _ _ h.2) in
+    let d = c.in_ok-go_on_in_opening.ensures.comes h.0 (goes-on x e p sound h.0 h.1 at.comes going _ _ h.2) in
     opens-there x e p sound h.0 h.1 at.comes going _ _ _ (
-      (opened-on x e p sound h.0 h.1 at.comes going _ _ _ _ _ _ _ _ _ d at.state.0.can_stop c.go_on_in_opening.ensures.shape.can_stop at.state.0.line c.go_on_in_opening.ensures.single).0,
-      c.go_on_in_opening.ensures.found ∙ at.state.1,
+      (opened-on x e p sound h.0 h.1 at.comes going _ _ _ _ _ _ _ _ _ d at.state.0.can_stop c.go_on_in_opening.ensures.stays.shape.can_stop at.state.0.line (ap (λ n. n.0) c.go_on_in_opening.ensures.stays.noted)).0,
+      (ap (λ n. n.1) c.go_on_in_opening.ensures.stays.noted) ∙ at.state.1,
     ) d.told
 
 pub returns-in_ok-go_on_in_opening-clause-less : goal.returns-in_ok-go_on_in_opening-clause-less
@@ -70,7 +70,7 @@ returns-in_ok-go_on_in_opening-clause-less g c =
     let e = c.args.event in
     let going = sym c.is_ready-ready.ensures ∙ c.if-ready.false in
     let h = opened-at _ _ _ _ _ p.state there at.state.0.seen in
-    let d = c.in_ok-go_on_in_opening.ensures.performs h.0 (goes-on x e p sound h.0 h.1 at.comes going _ _ h.2) in
+    let d = c.in_ok-go_on_in_opening.ensures.comes h.0 (goes-on x e p sound h.0 h.1 at.comes going _ _ h.2) in
     opening-less _ _ _ _ x e _ p sound h.0 h.1 at.comes going there d.sees (c.stands.ensures.sound h.0.units.kept h.2.holding) d.told
 
 pub returns-in_ok-go_on_in_opening-clause-counts : goal.returns-in_ok-go_on_in_opening-clause-counts
@@ -85,9 +85,9 @@ returns-in_err-go_on_in_opening-clause-halts g c =
     let e = c.args.event in
     let going = sym c.is_ready-ready.ensures ∙ c.if-ready.false in
     let h = opened-at _ _ _ _ _ p.state there at.state.0.seen in
-    let b = c.in_err-go_on_in_opening.ensures.breaks h.0 (goes-on x e p sound h.0 h.1 at.comes going _ _ h.2) in
-    opens-halts x e p sound h.0 h.1 at.comes going _ _ _ _ _ _ _ (c.go_on_in_opening.ensures.found ∙ at.state.1) _ _ _ _ c.args.story.now c.push.new.self b at.state.0.can_stop c.go_on_in_opening.ensures.shape.can_stop at.state.0.line
-    c.go_on_in_opening.ensures.single (c.stands.ensures.sound h.0.units.kept h.2.holding) c.in_ok-push.ensures.ok)
+    let b = c.in_err-go_on_in_opening.ensures.comes h.0 (goes-on x e p sound h.0 h.1 at.comes going _ _ h.2) in
+    opens-halts x e p sound h.0 h.1 at.comes going _ _ _ _ _ _ _ ((ap (λ n. n.1) c.go_on_in_opening.ensures.stays.noted) ∙ at.state.1) _ _ _ _ c.args.story.now c.push.new.self b at.state.0.can_stop c.go_on_in_opening.ensures.stays.shape.can_stop at.state.0.line
+    (ap (λ n. n.0) c.go_on_in_opening.ensures.stays.noted) (c.stands.ensures.sound h.0.units.kept h.2.holding) c.in_ok-push.ensures.ok)
 
 pub returns-in_err-go_on_in_opening-clause-counts : goal.returns-in_err-go_on_in_opening-clause-counts
 returns-in_err-go_on_in_opening-clause-counts g c =
@@ -124,3 +124,24 @@ pub returns-in_err-push-clause-short : goal.returns-in_err-push-clause-short
 returns-in_err-push-clause-short g c =
     let q = err_from_is_err_and c.from_residual.result c.from_residual.ensures.1 in
     rw q.1 (λ p sound at. inl refl)
+
+pub returns-in_ok-go_on_in_opening-clause-asked : goal.returns-in_ok-go_on_in_opening-clause-asked
+returns-in_ok-go_on_in_opening-clause-asked g c = c.go_on_in_opening.ensures.stays.asked
+
+pub returns-in_ok-go_on_in_opening-clause-shape : goal.returns-in_ok-go_on_in_opening-clause-shape
+returns-in_ok-go_on_in_opening-clause-shape g c = c.go_on_in_opening.ensures.stays.shape
+
+pub returns-in_err-go_on_in_opening-clause-asked : goal.returns-in_err-go_on_in_opening-clause-asked
+returns-in_err-go_on_in_opening-clause-asked g c = c.go_on_in_opening.ensures.stays.asked
+
+pub returns-in_err-go_on_in_opening-clause-shape : goal.returns-in_err-go_on_in_opening-clause-shape
+returns-in_err-go_on_in_opening-clause-shape g c = c.go_on_in_opening.ensures.stays.shape
+
+pub go_on_in_opening-requires-clause-callable : goal.go_on_in_opening-requires-clause-callable
+go_on_in_opening-requires-clause-callable g c = c.requires.callable
+
+pub go_on_in_opening-requires-clause-answers : goal.go_on_in_opening-requires-clause-answers
+go_on_in_opening-requires-clause-answers g c = c.requires.answers
+
+pub go_on_in_opening-requires-clause-lost : goal.go_on_in_opening-requires-clause-lost
+go_on_in_opening-requires-clause-lost g c = c.replace.ensures.after

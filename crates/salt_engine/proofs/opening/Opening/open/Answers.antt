@@ -105,3 +105,27 @@ returns-in-Err-clause-left g c = λ room p sound fallen lies.
 
 pub returns-in-Err-clause-counts : goal.returns-in-Err-clause-counts
 returns-in-Err-clause-counts g c = counts-cause _ _ _ 0 refl c.in-Err.ensures.cause
+
+pub open_boot-requires-clause-lost : goal.open_boot-requires-clause-lost
+open_boot-requires-clause-lost g c = c.replace.ensures.after
+
+pub returns-in-Ok-clause-untold : goal.returns-in-Ok-clause-untold
+returns-in-Ok-clause-untold g c = c.open_boot.ensures.untold
+
+pub returns-in-Ok-clause-asked : goal.returns-in-Ok-clause-asked
+returns-in-Ok-clause-asked g c = ap g.S.Storage.asked c.open_boot.ensures.storage ∙ c.boot.ensures.asked
+
+pub returns-in-Ok-clause-shape : goal.returns-in-Ok-clause-shape
+returns-in-Ok-clause-shape g c = c.boot.ensures.shape
+
+pub returns-in-Err-clause-asked : goal.returns-in-Err-clause-asked
+returns-in-Err-clause-asked g c = c.boot.ensures.asked
+
+pub returns-in-Err-clause-shape : goal.returns-in-Err-clause-shape
+returns-in-Err-clause-shape g c = c.boot.ensures.shape
+
+pub returns-in-Err-clause-flies : goal.returns-in-Err-clause-flies
+returns-in-Err-clause-flies g c = refl
+
+pub returns-in-Err-clause-untold : goal.returns-in-Err-clause-untold
+returns-in-Err-clause-untold g c = refl

@@ -1,5 +1,6 @@
 use Rattle.salt_engine.proofs.AskDone.{asked-halts, asked-there, reads-here, to-ask}
 use Rattle.salt_engine.proofs.LineGoes.{asked-at}
+use Rattle.salt_engine.proofs.Outcome.{when-err, when-ok}
 use Rattle.salt_engine.proofs.Stages.{seen-at, serves-now}
 use Rattle.salt_engine.proofs.stepping.EngineStepping.ask.Goals as goal
 use Rattle.salt_engine.specs.Standing.{IsGoingStage}
@@ -12,6 +13,15 @@ pub going-scheduler-requires : goal.going-scheduler-requires
 going-scheduler-requires g c =
     let at = c.requires.stands.2 in
     subst IsGoingStage (sym c.replace.ensures.value) (serves-now _ _ c.args.self.now.stage None c.requires.stands.0.state at.state.seen)
+
+pub ask_line-requires-clause-callable : goal.ask_line-requires-clause-callable
+ask_line-requires-clause-callable g c = c.requires.callable
+
+pub ask_line-requires-clause-answers : goal.ask_line-requires-clause-answers
+ask_line-requires-clause-answers g c = c.requires.answers
+
+pub ask_line-requires-clause-lost : goal.ask_line-requires-clause-lost
+ask_line-requires-clause-lost g c = c.replace.ensures.after
 
 pub ask_line-requires-clause-none : goal.ask_line-requires-clause-none
 ask_line-requires-clause-none g c = c.requires.stands.2.state.none
@@ -29,8 +39,8 @@ returns-clause-moves g c = IfOk-weaker c.ask_line.result _ _ (λ next done p sou
     let r = reads-here p sound in
     let d = done p.state r (to-ask _ _ _ _ _ _ c.args.line.now c.going-scheduler.result p sound at.idle c.requires.served c.read_lines_are_spelled.ensures.keys at.state there) in
     asked-there _ _ (Tree c.args.line.now) p sound at.idle r next
-    (asked-at (Tree c.args.line.now) p sound at.idle _ _ _ _ _ _ _ next r d at.state.can_stop c.ask_line.ensures.shape.can_stop (c.ask_line.ensures.single ∙ c.is_statement_line-self.ensures)) d.told)
-    c.ask_line.ensures.performs
+    (asked-at (Tree c.args.line.now) p sound at.idle _ _ _ _ _ _ _ next r d at.state.can_stop c.ask_line.ensures.stays.shape.can_stop (c.ask_line.ensures.stays.noted ∙ c.is_statement_line-self.ensures)) d.told)
+    (when-ok _ _ _ c.ask_line.result c.ask_line.ensures.comes)
 
 pub returns-clause-halts : goal.returns-clause-halts
 returns-clause-halts g c = IfErr-weaker c.ask_line.result _ _ (λ halt broken p sound at.
@@ -38,5 +48,11 @@ returns-clause-halts g c = IfErr-weaker c.ask_line.result _ _ (λ halt broken p 
     let r = reads-here p sound in
     let b = broken p.state r (to-ask _ _ _ _ _ _ c.args.line.now c.going-scheduler.result p sound at.idle c.requires.served c.read_lines_are_spelled.ensures.keys at.state there) in
     let kept = c.stands.ensures.sound p.state.units.kept (seen-at _ _ _ _ _ p.state there at.state.seen).1.holding in
-    inr (asked-halts _ _ _ halt _ _ _ _ _ p sound at.state.can_stop c.ask_line.ensures.shape.can_stop kept (Tree c.args.line.now) at.idle r b (c.ask_line.ensures.single ∙ c.is_statement_line-self.ensures)))
-    c.ask_line.ensures.breaks
+    inr (asked-halts _ _ _ halt _ _ _ _ _ p sound at.state.can_stop c.ask_line.ensures.stays.shape.can_stop kept (Tree c.args.line.now) at.idle r b (c.ask_line.ensures.stays.noted ∙ c.is_statement_line-self.ensures)))
+    (when-err _ _ _ c.ask_line.result c.ask_line.ensures.comes)
+
+pub returns-clause-asked : goal.returns-clause-asked
+returns-clause-asked g c = c.ask_line.ensures.stays.asked
+
+pub returns-clause-shape : goal.returns-clause-shape
+returns-clause-shape g c = c.ask_line.ensures.stays.shape

@@ -3,6 +3,7 @@ use Rattle.salt_engine.proofs.Counted.{cause-lost, same-cause}
 use Rattle.salt_engine.proofs.LineAsked.{armed-none}
 use Rattle.salt_engine.proofs.SayDone.{said-goes, said-halts, said-less, said-lost, said-sees, said-there, said-turns}
 use Rattle.salt_engine.proofs.ServingGoes.{read}
+use Rattle.salt_engine.proofs.Outcome.{when-err, when-ok}
 use Rattle.salt_engine.proofs.Stages.{seen-at, serves-now}
 use Rattle.salt_engine.proofs.stepping.EngineStepping.say.Goals as goal
 use Rattle.salt_engine.specs.Standing.{IsGoingStage}
@@ -15,6 +16,15 @@ going-scheduler-requires g c =
     let p = c.requires.stands.0 in
     let at = c.requires.stands.2 in
     subst IsGoingStage (sym c.replace.ensures.value) (serves-now _ _ c.args.self.now.stage _ p.state at.state.seen)
+
+pub go_on_in_line-requires-clause-callable : goal.go_on_in_line-requires-clause-callable
+go_on_in_line-requires-clause-callable g c = c.requires.callable
+
+pub go_on_in_line-requires-clause-answers : goal.go_on_in_line-requires-clause-answers
+go_on_in_line-requires-clause-answers g c = c.requires.answers
+
+pub go_on_in_line-requires-clause-lost : goal.go_on_in_line-requires-clause-lost
+go_on_in_line-requires-clause-lost g c = c.replace.ensures.after
 
 pub go_on_in_line-requires-clause-none : goal.go_on_in_line-requires-clause-none
 go_on_in_line-requires-clause-none g c = c.requires.stands.2.state.none
@@ -36,8 +46,8 @@ returns-clause-moves g c = IfOk-weaker c.go_on_in_line.result _ _ (λ next done 
     let h = seen-at _ _ _ _ _ p.state there at.state.seen in
     let d = done h.0 (read line x e p sound h.0 h.1 at.comes at.serves at.line) (said-goes line x e p sound h.0 h.1 at.comes at.serves at.line _ _ h.2) in
     said-there line x e p sound h.0 h.1 at.comes at.serves at.line _ _ next
-    (said-sees line x e p sound h.0 h.1 at.comes at.serves at.line _ _ _ _ _ _ _ _ next d at.state.can_stop c.go_on_in_line.ensures.shape.can_stop at.state.line c.go_on_in_line.ensures.single) d.told)
-    c.go_on_in_line.ensures.performs
+    (said-sees line x e p sound h.0 h.1 at.comes at.serves at.line _ _ _ _ _ _ _ _ next d at.state.can_stop c.go_on_in_line.ensures.stays.shape.can_stop at.state.line c.go_on_in_line.ensures.stays.noted) d.told)
+    (when-ok _ _ _ c.go_on_in_line.result c.go_on_in_line.ensures.comes)
 
 pub returns-clause-halts : goal.returns-clause-halts
 returns-clause-halts g c = IfErr-weaker c.go_on_in_line.result _ _ (λ halt broken p sound at.
@@ -47,8 +57,8 @@ returns-clause-halts g c = IfErr-weaker c.go_on_in_line.result _ _ (λ halt brok
     let e = c.args.event in
     let h = seen-at _ _ _ _ _ p.state there at.state.seen in
     let b = broken h.0 (read line x e p sound h.0 h.1 at.comes at.serves at.line) (said-goes line x e p sound h.0 h.1 at.comes at.serves at.line _ _ h.2) in
-    said-halts line x e p sound h.0 h.1 at.comes at.serves at.line _ _ _ halt _ _ _ _ _ _ c.args.story.now c.push.new.self b at.state.can_stop c.go_on_in_line.ensures.shape.can_stop
-    at.state.line c.go_on_in_line.ensures.single (c.stands.ensures.sound h.0.units.kept h.2.holding) c.in_ok-push.ensures.ok) c.go_on_in_line.ensures.breaks
+    said-halts line x e p sound h.0 h.1 at.comes at.serves at.line _ _ _ halt _ _ _ _ _ _ c.args.story.now c.push.new.self b at.state.can_stop c.go_on_in_line.ensures.stays.shape.can_stop
+    at.state.line c.go_on_in_line.ensures.stays.noted (c.stands.ensures.sound h.0.units.kept h.2.holding) c.in_ok-push.ensures.ok) (when-err _ _ _ c.go_on_in_line.result c.go_on_in_line.ensures.comes)
 
 pub returns-clause-less : goal.returns-clause-less
 returns-clause-less g c = IfOk-weaker c.go_on_in_line.result _ _ (λ next done.
@@ -61,7 +71,7 @@ returns-clause-less g c = IfOk-weaker c.go_on_in_line.result _ _ (λ next done.
     let e = c.args.event in
     let h = seen-at _ _ _ _ _ p.state there at.state.seen in
     let d = done h.0 (read line x e p sound h.0 h.1 at.comes at.serves at.line) (said-goes line x e p sound h.0 h.1 at.comes at.serves at.line _ _ h.2) in
-    said-less line x e p sound h.0 h.1 at.comes at.serves at.line _ _ _ _ _ _ next at.state.seen d.sees d.told) c.go_on_in_line.ensures.performs
+    said-less line x e p sound h.0 h.1 at.comes at.serves at.line _ _ _ _ _ _ next at.state.seen d.sees d.told) (when-ok _ _ _ c.go_on_in_line.result c.go_on_in_line.ensures.comes)
 
 pub returns-clause-turns : goal.returns-clause-turns
 returns-clause-turns g c = on-ok c.go_on_in_line.result _ (λ next done.
@@ -74,7 +84,7 @@ returns-clause-turns g c = on-ok c.go_on_in_line.result _ (λ next done.
     let e = c.args.event in
     let h = seen-at _ _ _ _ _ p.state there at.state.seen in
     let d = done h.0 (read line x e p sound h.0 h.1 at.comes at.serves at.line) (said-goes line x e p sound h.0 h.1 at.comes at.serves at.line _ _ h.2) in
-    said-turns line x e p sound h.0 h.1 at.comes at.serves at.line _ _ _ _ _ _ next at.state.seen d.sees d.told) c.go_on_in_line.ensures.performs
+    said-turns line x e p sound h.0 h.1 at.comes at.serves at.line _ _ _ _ _ _ next at.state.seen d.sees d.told) (when-ok _ _ _ c.go_on_in_line.result c.go_on_in_line.ensures.comes)
 
 pub returns-clause-counts : goal.returns-clause-counts
 returns-clause-counts g c = counts-cause _ _ _ _ (armed-none c.go_on_in_line.result c.go_on_in_line.ensures.unarmed) c.go_on_in_line.ensures.cause
@@ -92,3 +102,9 @@ pub returns-in_err-push-clause-counts : goal.returns-in_err-push-clause-counts
 returns-in_err-push-clause-counts g c =
     let q = err_from_is_err_and c.from_residual.result c.from_residual.ensures.1 in
     rw (q.1, q.2) (counts-cause _ _ _ 0 refl (cause-lost _ _ (same-cause (g.D.Disks.view c.args.disks.now))))
+
+pub returns-clause-asked : goal.returns-clause-asked
+returns-clause-asked g c = c.go_on_in_line.ensures.stays.asked
+
+pub returns-clause-shape : goal.returns-clause-shape
+returns-clause-shape g c = c.go_on_in_line.ensures.stays.shape

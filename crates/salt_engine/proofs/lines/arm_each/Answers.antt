@@ -1,6 +1,6 @@
 use Rattle.salt_engine.proofs.Decided.{stored-still}
 use Rattle.salt_engine.proofs.LineArms.{every-at}
-use Rattle.salt_engine.proofs.engine.Engine.arm_each.Goals as goal
+use Rattle.salt_engine.proofs.lines.arm_each.Goals as goal
 use Rattle.std.proofs.Common.{arith, subst, sym, ◌∙◌}
 use Rattle.std.specs.Prelude.{IsTrue, refl, ℕ, ◌≤◌}
 
@@ -10,9 +10,6 @@ loop-pair-init g c = record {
   stops = omega arith;
   faults = refl;
   shape = record { count = refl; can_stop = refl; told = refl; limit = λ dev. refl };
-  stage = refl;
-  single = refl;
-  flies = refl;
   asked = refl;
 }
 
@@ -35,9 +32,6 @@ loop-pair-preserved g c =
         told = c.arm.ensures.shape.told ∙ i.shape.told;
         limit = λ dev. c.arm.ensures.shape.limit dev ∙ i.shape.limit dev;
       };
-      stage = i.stage;
-      single = i.single;
-      flies = i.flies;
       asked = c.arm.ensures.asked ∙ i.asked;
     }
 

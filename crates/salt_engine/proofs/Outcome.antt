@@ -1,0 +1,89 @@
+-- How what was meant comes out: as a call has answered, and in other words.
+use Rattle.salt_books.specs.Coming.{event_meant}
+use Rattle.salt_books.specs.declared.coming.Coming.{Coming}
+use Rattle.salt_disk.specs.Disks.{SameShape, View}
+use Rattle.salt_engine.proofs.Broken.{breaks-before}
+use Rattle.salt_engine.proofs.Plain.{plain-unarmed}
+use Rattle.salt_engine.specs.Performing.{BreaksOff, ComesOut, IsLost, Stays, is_prepared}
+use Rattle.salt_engine.specs.declared.flights.InFlight.{InFlight}
+use Rattle.salt_engine.specs.declared.stage.Stage.{Stage}
+use Rattle.salt_keeps.specs.Readings.{Reading}
+use Rattle.salt_keeps.specs.States.{State}
+use Rattle.salt_model.specs.Kept.{Kept}
+use Rattle.salt_model.specs.declared.events.Event.{Event}
+use Rattle.salt_steps.specs.Counting.{armed_at}
+use Rattle.salt_storage.specs.Writing.{Written}
+use Rattle.salt_storage.specs.declared.halt.Halt.TheVariants.{Memory}
+use Rattle.salt_storage.specs.declared.halt.Halt.{Halt}
+use Rattle.salt_values.specs.declared.placement.Shape.{Shape}
+use Rattle.std.proofs.Common.{ap, subst, sym, ◌∙◌}
+use Rattle.std.specs.Prelude.{Err, IfErr, IfOk, Ok, Option, Result, false, refl, ℕ, ◌≡◌}
+use Rattle.std.specs.Result.{IsErrAnd, MatchResult}
+
+module _ {H T : Type 0} (given : T → Option Event) (seen : Option Event → State → Type 0) (leaves : Kept → Kept → Type 0) (fills : Written → ℕ → Type 0) (stage : Stage H) (in_flight : Option InFlight) where
+  -- it is broken off
+  pub comes-broken : (meant : Option Event) (s : State) (halt : Halt) (result : Result T Halt) → IsErrAnd result (λ told. told ≡ halt) →
+      BreaksOff leaves fills halt stage in_flight meant s.units → ComesOut given seen leaves fills stage in_flight meant s result
+  comes-broken meant s halt (Ok e) never b = absurd never
+  comes-broken meant s halt (Err told) is b = subst (λ (h : Halt). BreaksOff leaves fills h stage in_flight meant s.units) (sym is) b
+
+  -- memory ran out before it
+  pub comes-lost : (meant : Option Event) (s : State) (result : Result T Halt) → IsErrAnd result (λ told. told ≡ Memory) → leaves s.units.kept s.units.kept →
+      IsLost stage in_flight → ComesOut given seen leaves fills stage in_flight meant s result
+  comes-lost meant s result is left lost = comes-broken meant s Memory result is (breaks-before leaves fills stage in_flight meant s.units left lost)
+
+  -- what was meant in other words
+  pub comes-same : (meant other : Option Event) (s : State) (result : Result T Halt) → other ≡ meant → ComesOut given seen leaves fills stage in_flight other s result →
+      ComesOut given seen leaves fills stage in_flight meant s result
+  comes-same meant other s result same comes = subst (λ (m : Option Event). ComesOut given seen leaves fills stage in_flight m s result) same comes
+
+  -- of what is to come in other words
+  pub comes-as : (ready : Coming → State → Type 0) (c d : Coming) (result : Result T Halt) → c ≡ d →
+      ((s : State) → ready d s → ComesOut given seen leaves fills stage in_flight (event_meant s.units d) s result) →
+      (s : State) → ready c s → ComesOut given seen leaves fills stage in_flight (event_meant s.units c) s result
+  comes-as ready c d result is comes =
+      subst (λ (k : Coming). (s : State) → ready k s → ComesOut given seen leaves fills stage in_flight (event_meant s.units k) s result) (sym is) comes
+
+  -- what is no preparation arms nothing
+  pub comes-unarmed : (meant : Option Event) (s : State) (result : Result T Halt) → is_prepared meant ≡ false → ComesOut given seen leaves fills stage in_flight meant s result →
+      IfOk result (λ x. armed_at (given x) ≡ 0)
+  comes-unarmed meant s (Ok x) plain p = ap armed_at p.told ∙ plain-unarmed meant plain
+  comes-unarmed meant s (Err halt) plain b = tt
+
+-- in the one case, and in the other
+
+pub when-ok : {T E : Type 0} (P : State → Type 0) (Q : (s : State) → Reading s.watch → T → Type 0) (R : (s : State) → Reading s.watch → E → Type 0) (result : Result T E) →
+    ((s : State) (r : Reading s.watch) → P s → MatchResult result (Q s r) (R s r)) → IfOk result (λ given. (s : State) (r : Reading s.watch) → P s → Q s r given)
+when-ok P Q R (Ok given) comes = comes
+when-ok P Q R (Err halt) comes = tt
+
+pub when-err : {T E : Type 0} (P : State → Type 0) (Q : (s : State) → Reading s.watch → T → Type 0) (R : (s : State) → Reading s.watch → E → Type 0) (result : Result T E) →
+    ((s : State) (r : Reading s.watch) → P s → MatchResult result (Q s r) (R s r)) → IfErr result (λ halt. (s : State) (r : Reading s.watch) → P s → R s r halt)
+when-err P Q R (Ok given) comes = tt
+when-err P Q R (Err halt) comes = comes
+
+pub when-opened : {T E : Type 0} (P : State → Type 0) (Q : State → T → Type 0) (R : State → E → Type 0) (result : Result T E) →
+    ((s : State) → P s → MatchResult result (Q s) (R s)) → IfOk result (λ given. (s : State) → P s → Q s given)
+when-opened P Q R (Ok given) comes = comes
+when-opened P Q R (Err halt) comes = tt
+
+-- an error gives nothing
+pub not-ok : {T E : Type 0} (P : T → Type 0) (Q : E → Type 0) (result : Result T E) → IsErrAnd result Q → IfOk result P
+not-ok P Q (Ok x) never = absurd never
+not-ok P Q (Err e) is = tt
+
+pub is-err : {T E : Type 0} (P : E → Type 0) (result : Result T E) → IsErrAnd result P → IfErr result P
+is-err P (Ok x) never = absurd never
+is-err P (Err e) is = is
+
+pub by-err : {T E : Type 0} (P : E → Type 0) (result : Result T E) (e : E) → IsErrAnd result (λ told. told ≡ e) → P e → IfErr result P
+by-err P (Ok x) e never h = absurd never
+by-err P (Err told) e is h = subst P (sym is) h
+
+-- nothing was called
+
+pub shape-same : (d : View) → SameShape d d
+shape-same d = record { count = refl; can_stop = refl; told = refl; limit = λ dev. refl }
+
+pub stays-same : {A : Type 0} (noted : A) (asked : Shape) (d : View) → Stays noted noted asked asked d d
+stays-same noted asked d = record { noted = refl; asked = refl; shape = shape-same d }

@@ -1,0 +1,29 @@
+use Rattle.salt_engine.proofs.LineDefines.{no-definition, program-allows, table-allows}
+use Rattle.salt_engine.proofs.lines.defined.Goals as goal
+use Rattle.salt_judge.specs.Refusals.{HasFewParts}
+use Rattle.std.proofs.Common.{subst}
+use Rattle.std.proofs.lemmas.Result.{IfOk-weaker}
+
+pub table_defined-requires-clause-allowed : goal.table_defined-requires-clause-allowed
+table_defined-requires-clause-allowed c = c.requires.allowed
+
+pub table_defined-requires-clause-line : goal.table_defined-requires-clause-line
+table_defined-requires-clause-line c = c.in-Table.is
+
+pub program_defined-requires-clause-allowed : goal.program_defined-requires-clause-allowed
+program_defined-requires-clause-allowed c = c.requires.allowed
+
+pub program_defined-requires-clause-line : goal.program_defined-requires-clause-line
+program_defined-requires-clause-line c = c.in-Program.is
+
+pub program_defined-requires-clause-parts : goal.program_defined-requires-clause-parts
+program_defined-requires-clause-parts c = subst HasFewParts c.in-Program.is c.requires.parts
+
+pub returns-in-Table : goal.returns-in-Table
+returns-in-Table c = IfOk-weaker c.table_defined.result _ _ (λ e. table-allows c.args.line.now c.args.scheduler.now c.table_defined.new.self e c.in-Table.def c.in-Table.is) c.table_defined.ensures
+
+pub returns-in-Program : goal.returns-in-Program
+returns-in-Program c = IfOk-weaker c.program_defined.result _ _ (λ e. program-allows c.args.line.now c.args.scheduler.now c.program_defined.new.self e c.in-Program.def c.in-Program.is) c.program_defined.ensures
+
+pub unreachable-requires : goal.unreachable-requires
+unreachable-requires c = no-definition c.args.line.now (λ d is. c.in_default.not-Table d is) (λ p is. c.in_default.not-Program p is) c.requires.definition
