@@ -1,0 +1,14 @@
+pub mod Keys
+pub mod Values
+pub mod Partitions
+pub mod Ranges
+pub mod Tokens
+pub mod Lines
+pub mod Faults
+pub mod Bytes
+pub mod Locks
+pub mod Circles
+pub mod Releases
+pub mod Events
+pub mod Words
+pub mod Workload

@@ -1,0 +1,30 @@
+-- Words of the program, beside those that stand with the definitions.
+use Rattle.salt_words.specs.Words.{all_given, command_said, folder_named}
+use Rattle.salt_words.specs.declared.command.Command.TheVariants.{Run}
+use Rattle.salt_words.specs.declared.command.Command.{Command}
+use Rattle.std.specs.Prelude.{List, None, Option, Some, [], codes, refl, ℕ, ◌∷◌, ◌≡◌}
+
+-- the command, and the folder of a run
+abbrev said : List (List ℕ) → Option Command × Option (List ℕ)
+said words = (command_said words, folder_named words)
+
+-- an é in two bytes
+folder_outside_ascii : said (codes "run" ∷ codes "--dir" ∷ (195 ∷ 169 ∷ []) ∷ []) ≡ (Some (Run 2), Some (195 ∷ 169 ∷ []))
+unfolding all_given
+folder_outside_ascii = refl
+
+folder_first : said (codes "run" ∷ codes "--dir=data/a" ∷ codes "--parts=8" ∷ []) ≡ (Some (Run 8), Some (codes "data/a"))
+unfolding all_given
+folder_first = refl
+
+word_alone : said (codes "run" ∷ codes "data" ∷ []) ≡ (None, None)
+unfolding all_given
+word_alone = refl
+
+parts_below_0 : said (codes "run" ∷ codes "--parts" ∷ codes "-2" ∷ []) ≡ (None, None)
+unfolding all_given
+parts_below_0 = refl
+
+folders_in_both_forms : said (codes "run" ∷ codes "--dir" ∷ codes "a" ∷ codes "--dir=b" ∷ []) ≡ (None, None)
+unfolding all_given
+folders_in_both_forms = refl
