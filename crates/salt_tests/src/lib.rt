@@ -1,23 +1,9 @@
-//! Tests of crates that take long to prove, through what they export: there they would have their crate proved twice.
+//! Tests of crates with bodies, through what they export: in those crates each would have its crate proved twice.
 #![tactic(auto)]
 
 #[cfg(test)]
-mod ast;
+mod printing;
 #[cfg(test)]
-mod deps;
+mod streams;
 #[cfg(test)]
-mod eval;
-#[cfg(test)]
-mod io;
-#[cfg(test)]
-mod locks;
-#[cfg(test)]
-mod model;
-#[cfg(test)]
-mod parse;
-#[cfg(test)]
-mod schema;
-#[cfg(test)]
-mod script;
-#[cfg(test)]
-mod watch;
+mod tokens;
