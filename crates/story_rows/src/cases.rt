@@ -1,7 +1,13 @@
 //! Scripts and their stories, and what became of them.
 
-use crate::runs::other_story;
+use crate::runs::{DEVICES, LIMIT, outcome_of};
+use salt_disk::MemDisks;
+use salt_run::Status;
 use std::alloc::{AllocError, Global};
+
+/// The words for the numbers of partitions over which a script is run. Stops are counted by the calls of two, so a script that arms some is
+/// run over those alone.
+const PARTS: [&str; 4] = ["--parts=2", "--parts=1", "--parts=3", "--parts=8"];
 
 /// A script, and the story that it is to tell.
 #[derive(Drop)]
@@ -49,6 +55,44 @@ fn add_line(text: &mut Vec<u8>, line: &[u8]) -> Result<(), AllocError> {
     text.extend_from_slice(line)?;
     text.push(b'\n')?;
     Ok(())
+}
+
+/// Whether a line of the script arms stops.
+fn arms_stops(script: &[u8]) -> bool {
+    for (at, _) in script.iter().enumerate() {
+        if script
+            .get(at..)
+            .unwrap_or_default()
+            .starts_with(b"\ncrash ")
+        {
+            return true;
+        }
+    }
+    false
+}
+
+/// The story that a run of the script over so many partitions writes; behind it the number of its status, where the run is not done.
+fn story_of(alloc: Global, script: &[u8], parts: &str) -> Result<Vec<u8>, AllocError> {
+    let mut disks = MemDisks::new(alloc, DEVICES, LIMIT)?;
+    let outcome = outcome_of(alloc, &["run", parts], script, &mut disks)?;
+    let mut story = Vec::from_slice(alloc, outcome.text.as_slice())?;
+    if outcome.status != Status::Done {
+        let line = format!(in alloc; "status {}\n", outcome.status.number())?;
+        story.extend_from_slice(line.as_bytes())?;
+    }
+    Ok(story)
+}
+
+/// The story of the script over some number of partitions that is another than this one.
+fn other_story(alloc: Global, script: &[u8], story: &[u8]) -> Result<Option<Vec<u8>>, AllocError> {
+    let is_stopped = arms_stops(script);
+    for parts in &PARTS[..if is_stopped { 1 } else { 4 }] {
+        let told = story_of(alloc, script, parts)?;
+        if told.as_slice() != story {
+            return Ok(Some(told));
+        }
+    }
+    Ok(None)
 }
 
 impl Cases {

@@ -1,83 +1,109 @@
-//! What a script tells.
+//! A run over devices in memory.
 
-ghost use Rattle.std.specs.Prelude.{◌≡◌};
+ghost use Rattle.salt_disk.specs.Disks.{SameShape};
 ghost use Rattle.salt_values.specs.Placement.{IsParts, place_of};
+ghost use Rattle.std.specs.Prelude.{◌≡◌, ◌≤◌};
 
-use salt_disk::MemDisks;
+use salt_disk::Disks;
 use salt_io::{MemSink, MemSource};
+use salt_model::Flight;
 use salt_run::{Status, run};
 use salt_values::{Key, PlaceKind, Placement, place_of};
 use std::alloc::{AllocError, Global};
 
+pub const DEVICES: u32 = 26;
+
+pub const LIMIT: u64 = 67_108_864;
+
 /// The most bytes of a story.
-const ROOM: usize = 1_048_576;
+pub const ROOM: usize = 1_048_576;
 
-const DEVICES: u32 = 26;
-
-const LIMIT: u64 = 67_108_864;
-
-/// The numbers of partitions over which a script is run. Stops are counted by the calls of two, so a script that arms some is run over
-/// those alone.
-const PARTS: [u8; 4] = [2, 1, 3, 8];
-
-/// Whether a line of the script arms stops.
-fn arms_stops(script: &[u8]) -> bool {
-    for (at, _) in script.iter().enumerate() {
-        if script
-            .get(at..)
-            .unwrap_or_default()
-            .starts_with(b"\ncrash ")
-        {
-            return true;
-        }
-    }
-    false
+/// What came of a run.
+#[derive(Drop)]
+pub struct Outcome {
+    pub status: Status,
+    pub text: Vec<u8>,
+    pub flight: Option<Flight>,
 }
 
-/// The story of the script over some number of partitions that is another than this one.
-pub fn other_story(
-    alloc: Global,
-    script: &[u8],
-    story: &[u8],
-) -> Result<Option<Vec<u8>>, AllocError> {
-    for parts in PARTS {
-        if parts == 2 || !arms_stops(script) {
-            let told = story_of(alloc, script, parts)?;
-            if told.as_slice() != story {
-                return Ok(Some(told));
+impl Outcome {
+    /// How often these bytes stand in what was written.
+    pub fn count(&self, bytes: &[u8]) -> u64 {
+        let text = self.text.as_slice();
+        let mut count: u64 = 0;
+        for (at, _) in text.iter().enumerate() {
+            if text.get(at..).unwrap_or_default().starts_with(bytes) {
+                count = count.saturating_add(1);
             }
         }
+        count
     }
-    Ok(None)
+
+    /// What stands behind the last of these bytes, up to the end of its line; nothing, where they do not stand.
+    pub fn last_behind(&self, bytes: &[u8]) -> &[u8] {
+        let text = self.text.as_slice();
+        let mut last: &[u8] = b"";
+        for (at, _) in text.iter().enumerate() {
+            let rest = text.get(at..).unwrap_or_default();
+            if rest.starts_with(bytes) {
+                last = first_line(rest.get(bytes.len()..).unwrap_or_default());
+            }
+        }
+        last
+    }
 }
 
-/// The story that a run of the script over so many partitions writes; behind it the number of its status, where the run is not done.
-fn story_of(alloc: Global, script: &[u8], parts: u8) -> Result<Vec<u8>, AllocError> {
-    let mut words = Vec::new(alloc);
-    words.push(String::from_str(alloc, "run")?)?;
-    words.push(format!(in alloc; "--parts={parts}")?)?;
-    let mut disks = MemDisks::new(alloc, DEVICES, LIMIT)?;
-    let mut source = MemSource::new(alloc, script)?;
-    let mut sink = MemSink::new(alloc, ROOM)?;
+/// The bytes before the first line's end.
+fn first_line(text: &[u8]) -> &[u8] {
+    for (at, byte) in text.iter().enumerate() {
+        if *byte == b'\n' {
+            return text.get(..at).unwrap_or_default();
+        }
+    }
+    text
+}
+
+/// Runs what the words say over these streams, and over the devices, which are started again before.
+pub fn outcome_between<D: Disks>(
+    alloc: Global,
+    words: &[&str],
+    source: &mut MemSource,
+    sink: &mut MemSink,
+    disks: &mut D,
+) -> Result<Outcome, AllocError>
+    requires { 26 ≤ (D.view disks.old).count }
+    ensures { SameShape (D.view disks.old) (D.view disks.new) }
+{
+    let mut list = Vec::new(alloc);
+    for word in words {
+        list.push(String::from_str(alloc, word)?)?;
+    }
     let place = Placement::new(
         |kind: PlaceKind, key: &Key, parts: u32| -> u32
             requires { IsParts parts }
             ensures { result ≡ place_of kind key.now parts }
         { place_of(kind, key, parts) },
     );
-    let status = run(
-        alloc,
-        words.as_slice(),
-        &mut source,
-        &mut sink,
-        &mut disks,
-        &place,
-    )
-    .status;
-    let mut story = Vec::from_slice(alloc, sink.bytes())?;
-    if status != Status::Done {
-        let number = status.number();
-        story.extend_from_slice(format!(in alloc; "status {number}\n")?.as_bytes())?;
-    }
-    Ok(story)
+    disks.restart();
+    let ended = run(alloc, list.as_slice(), source, sink, disks, &place);
+    Ok(Outcome {
+        status: ended.status,
+        text: Vec::from_slice(alloc, sink.bytes())?,
+        flight: ended.flight,
+    })
+}
+
+/// Runs a script by these words over the devices, which are started again before.
+pub fn outcome_of<D: Disks>(
+    alloc: Global,
+    words: &[&str],
+    script: &[u8],
+    disks: &mut D,
+) -> Result<Outcome, AllocError>
+    requires { 26 ≤ (D.view disks.old).count }
+    ensures { SameShape (D.view disks.old) (D.view disks.new) }
+{
+    let mut source = MemSource::new(alloc, script)?;
+    let mut sink = MemSink::new(alloc, ROOM)?;
+    outcome_between(alloc, words, &mut source, &mut sink, disks)
 }

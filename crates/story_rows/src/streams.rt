@@ -7,9 +7,10 @@ use salt_io::{MemSink, MemSource};
 use salt_run::Status;
 use std::alloc::{AllocError, Global};
 
-/// The most bytes of a line with its end, and how many such lines are as long as a script may be.
+/// The most bytes of a line.
 const LINE: usize = 65_536;
 
+/// How many lines of so many bytes, with their ends, are as long as a script may be.
 const LINES: usize = 256;
 
 /// A table, a row, and a row that is there already.
@@ -96,20 +97,34 @@ pub fn writes_that_fail(alloc: Global) -> Result<Table, AllocError> {
     Ok(table)
 }
 
-/// A line that does nothing, as long as a line may be with its end.
-fn longest_line(alloc: Global) -> Result<Vec<u8>, AllocError> {
+/// A line that does nothing, of so many bytes, with its end.
+fn line_of(alloc: Global, bytes: usize) -> Result<Vec<u8>, AllocError> {
     let mut line = Vec::from_slice(alloc, b"--")?;
-    for _ in 0..LINE - 3 {
+    for _ in 2..bytes {
         line.push(b'x')?;
     }
     line.push(b'\n')?;
     Ok(line)
 }
 
+/// A line of as many bytes as one may have, and of one more.
+pub fn longest_lines(alloc: Global) -> Result<Table, AllocError> {
+    let mut table = Table::new();
+    let cases: [(usize, &[u8]); 2] = [
+        (LINE, b"opened 1 0\nready\n"),
+        (LINE + 1, b"opened 1 0\nready\nrefused 1 long\n"),
+    ];
+    for (bytes, told) in cases {
+        let outcome = told_of(alloc, &line_of(alloc, bytes)?)?;
+        table.add(outcome.status == Status::Done && outcome.text.as_slice() == told);
+    }
+    Ok(table)
+}
+
 /// As many bytes as a script may have, and one more.
 pub fn most_bytes(alloc: Global) -> Result<Table, AllocError> {
     let mut table = Table::new();
-    let line = longest_line(alloc)?;
+    let line = line_of(alloc, LINE - 1)?;
     let mut bytes = Vec::new(alloc);
     for _ in 0..LINES {
         bytes.extend_from_slice(&line)?;

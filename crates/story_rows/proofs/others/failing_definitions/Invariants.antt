@@ -1,4 +1,4 @@
-use Rattle.stop_rows.proofs.others.failing_definitions.Given as goal
+use Rattle.story_rows.proofs.others.failing_definitions.Given as goal
 use Rattle.salt_disk.specs.MemDisks.{seen}
 use Rattle.std.proofs.Common.{◌≡◌}
 
