@@ -4,4 +4,12 @@
 #[cfg(test)]
 mod decisions;
 #[cfg(test)]
+mod disks;
+#[cfg(test)]
+mod fake_files;
+#[cfg(test)]
+mod files;
+#[cfg(test)]
 mod partition;
+#[cfg(test)]
+mod rows;
