@@ -10,6 +10,3 @@ pub mod take;
 pub use error::{RowErr, TakeErr};
 pub use moves::{put_move, take_cont, take_move};
 pub use rows::{put_row, take_row};
-
-#[cfg(test)]
-mod tests;

@@ -10,6 +10,3 @@ mod memory;
 
 pub use disks::{DiskErr, Disks, write_and_sync};
 pub use memory::MemDisks;
-
-#[cfg(test)]
-mod tests;

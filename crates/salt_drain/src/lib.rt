@@ -14,6 +14,3 @@ pub use conts::open_conts;
 pub use definitions::open_definitions;
 pub use error::{ContErr, DefinitionErr, RecoverErr};
 pub use recovery::{Recovered, recover};
-
-#[cfg(test)]
-mod tests;

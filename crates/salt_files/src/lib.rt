@@ -8,8 +8,3 @@ mod opening;
 
 pub use file_disks::FileDisks;
 pub use holding::TryHold;
-
-#[cfg(test)]
-mod fake_files;
-#[cfg(test)]
-mod tests;

@@ -4,8 +4,6 @@
 mod limits;
 mod lines;
 mod places;
-#[cfg(test)]
-mod tests;
 mod trees;
 mod workload;
 

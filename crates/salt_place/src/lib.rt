@@ -5,6 +5,3 @@ mod part;
 
 pub use part::one_part;
 pub use salt_values::{PlaceKind, Placement, Shape};
-
-#[cfg(test)]
-mod tests;

@@ -5,7 +5,5 @@ mod events;
 mod names;
 mod parts;
 mod shown;
-#[cfg(test)]
-mod tests;
 
 pub use events::{print, print_story};

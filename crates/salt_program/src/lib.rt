@@ -6,8 +6,6 @@ mod catalogue;
 mod error;
 mod refusal;
 mod statements;
-#[cfg(test)]
-mod tests;
 
 pub use catalogue::Catalogue;
 pub use error::DefineErr;

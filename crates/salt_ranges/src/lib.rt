@@ -4,6 +4,3 @@
 mod range;
 
 pub use range::KeyRange;
-
-#[cfg(test)]
-mod tests;

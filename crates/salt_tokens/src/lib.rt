@@ -17,6 +17,3 @@ pub use lexeme::{Lexeme, lexemes};
 pub use scanner::scan;
 pub use sign::Sign;
 pub use token::{Token, TokenKind, Tokens};
-
-#[cfg(test)]
-mod tests;

@@ -19,6 +19,3 @@ pub use placement::{PlaceKind, Placement, Shape, place_of};
 pub use steps::Steps;
 pub use text::{Text, TextErr};
 pub use value::{Bytes, Key, Name, Names, Row, Rows, Value};
-
-#[cfg(test)]
-mod tests;

@@ -8,6 +8,3 @@ mod walk;
 
 pub use laws::victims_fit;
 pub use units::{WaitUnit, victim};
-
-#[cfg(test)]
-mod tests;

@@ -10,6 +10,3 @@ pub use command::{Command, command_in, folder_of};
 pub use laws::{
     folders_are_of_commands, settings_are_spelled, settings_in_any_order, settings_in_either_form,
 };
-
-#[cfg(test)]
-mod tests;
