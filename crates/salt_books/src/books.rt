@@ -30,7 +30,6 @@ use std::alloc::{AllocError, Global};
 
 /// The open units in order of their names, how many units and programs have begun in this boot, the programs to which `go all`
 /// has still to turn, and what is known of the database. An `AllocError` leaves them in no state that is told.
-#[derive(Drop)]
 pub struct Books {
     pub(crate) alloc: Global,
     pub(crate) known: Known,
@@ -38,6 +37,19 @@ pub struct Books {
     pub(crate) unit_count: u64,
     pub(crate) base_count: u64,
     pub(crate) to_go: Vec<Id>,
+}
+
+impl Drop for Books {
+    fn drop(self) {
+        let Books {
+            alloc: _alloc,
+            known: _known,
+            units: _units,
+            unit_count: _unit_count,
+            base_count: _base_count,
+            to_go: _to_go,
+        } = self;
+    }
 }
 
 fn place_in(units: &[Held], unit: Id) -> Option<usize>
@@ -75,9 +87,12 @@ impl Books {
         ensures begun { result.1 ≡ self.unit_count }
     {
         let Books {
+            alloc: _alloc,
             known,
+            units: _units,
             unit_count,
-            ..
+            base_count: _base_count,
+            to_go: _to_go,
         } = self;
         (known, unit_count)
     }

@@ -32,7 +32,6 @@ use std::alloc::{AllocError, Global};
 
 /// What is known in memory of a database: the tables and programs defined, and where programs go on, beside the boot and the
 /// number of the last decision. The rows stand in a storage. An error leaves it in no state that is told.
-#[derive(Drop)]
 pub struct Known {
     alloc: Global,
     schema: Schema,
@@ -40,6 +39,19 @@ pub struct Known {
     conts: Conts,
     boot: u64,
     decisions: u64,
+}
+
+impl Drop for Known {
+    fn drop(self) {
+        let Known {
+            alloc: _alloc,
+            schema: _schema,
+            catalogue: _catalogue,
+            conts: _conts,
+            boot: _boot,
+            decisions: _decisions,
+        } = self;
+    }
 }
 
 /// The number of a decision and the canonical text of what it defines.
@@ -76,11 +88,12 @@ impl Known {
         ensures decisions { result.3 ≡ self.decisions }
     {
         let Known {
+            alloc: _alloc,
             schema,
             catalogue,
+            conts: _conts,
             boot,
             decisions,
-            ..
         } = self;
         (schema, catalogue, boot, decisions)
     }

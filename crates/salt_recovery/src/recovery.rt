@@ -12,13 +12,23 @@ use std::alloc::Global;
 
 /// Keeps the units of an opening in memory, and chooses what comes next. With an event at hand it has done that event, and knows
 /// what follows it.
-#[derive(Drop)]
 pub struct Recovery {
     pub(crate) alloc: Global,
     pub(crate) books: Books,
     pub(crate) behind: Behind,
     /// Whether the last line that was asked is one statement: a unit that begins notes it.
     pub(crate) single: bool,
+}
+
+impl Drop for Recovery {
+    fn drop(self) {
+        let Recovery {
+            alloc: _alloc,
+            books: _books,
+            behind: _behind,
+            single: _single,
+        } = self;
+    }
 }
 
 impl Recovery {

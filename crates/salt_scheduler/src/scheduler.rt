@@ -19,13 +19,24 @@ use std::alloc::{AllocError, Global};
 
 /// Keeps units, locks and programs in memory, and chooses what comes next. With an event at hand it has done that event, and
 /// knows what follows it. An `AllocError` leaves it in no state that is told.
-#[derive(Drop)]
 pub struct Scheduler {
     pub(crate) alloc: Global,
     pub(crate) books: Books,
     pub(crate) watch: Watching,
     pub(crate) called: CalledNames,
     pub(crate) follow: Follow,
+}
+
+impl Drop for Scheduler {
+    fn drop(self) {
+        let Scheduler {
+            alloc: _alloc,
+            books: _books,
+            watch: _watch,
+            called: _called,
+            follow: _follow,
+        } = self;
+    }
 }
 
 impl Scheduler {
@@ -55,7 +66,13 @@ impl Scheduler {
     pub fn into_books(self) -> Books
         ensures { result ≡ self.books }
     {
-        let Scheduler { books, .. } = self;
+        let Scheduler {
+            alloc: _alloc,
+            books,
+            watch: _watch,
+            called: _called,
+            follow: _follow,
+        } = self;
         books
     }
 

@@ -39,7 +39,6 @@ use std::alloc::{AllocError, Global};
 
 /// The locks that are held and how many were taken, the waiting units, the longest first, the accepted programs that are not
 /// released, in order of their names, and who wrote, read and has finished. A call that wants memory may leave it anywhere.
-#[derive(Drop)]
 pub struct Watching {
     alloc: Global,
     locks: LockTable,
@@ -47,6 +46,19 @@ pub struct Watching {
     waits: Vec<Waiter>,
     programs: Vec<Id>,
     deps: Deps,
+}
+
+impl Drop for Watching {
+    fn drop(self) {
+        let Watching {
+            alloc: _alloc,
+            locks: _locks,
+            taken: _taken,
+            waits: _waits,
+            programs: _programs,
+            deps: _deps,
+        } = self;
+    }
 }
 
 /// Locks of these programs go.
