@@ -9,7 +9,7 @@ use Rattle.salt_engine.proofs.Decided.{stored-behind}
 use Rattle.salt_engine.proofs.Flying.{undecided-keeps}
 use Rattle.salt_engine.specs.Deciding.{ComesNext, IsBefore}
 use Rattle.salt_engine.specs.Performing.{IsPlayedBefore, Performs}
-use Rattle.salt_engine.specs.Standing.{OpensIn, SeesIn}
+use Rattle.salt_engine.specs.Standing.{SeesIn}
 use Rattle.salt_engine.specs.Stored.{Stored}
 use Rattle.salt_engine.specs.declared.flights.InFlight.{InFlight}
 use Rattle.salt_engine.specs.declared.stage.Stage.TheVariants as at
@@ -22,11 +22,9 @@ use Rattle.salt_keeps.specs.Steps.{units_after}
 use Rattle.salt_keeps.specs.Told.{commits_in, does_in}
 use Rattle.salt_model.specs.Kept.{Kept}
 use Rattle.salt_model.specs.Next.{decision_in}
-use Rattle.salt_model.specs.Phases.{Opening, Serving}
+use Rattle.salt_model.specs.Phases.{Serving}
 use Rattle.salt_model.specs.Trace.{◌says◌}
 use Rattle.salt_model.specs.declared.events.Event.{Event}
-use Rattle.salt_recovery.specs.Recovering as recovering
-use Rattle.salt_recovery.specs.declared.recovery.Recovery.{Recovery}
 use Rattle.salt_scheduler.specs.Standing as scheduling
 use Rattle.salt_scheduler.specs.declared.scheduler.Scheduler.{Scheduler}
 use Rattle.salt_values.specs.declared.id.Id.{Id}
@@ -63,20 +61,6 @@ unit-there s u h = by (unit_named u s.units) h refl
 
 pub have-unit : (x : Books) (s : UnitState) (u : Id) (o : OpenUnit) → AreBooks x s → unit_named u s.units ≡ Some o → HaveUnit x u
 have-unit x s u o books named = record { state = s; books = books; named = subst (λ (q : Option OpenUnit). IsSome q) (sym named) refl }
-
--- by a recovery
-pub opens-by : (holds : Kept → Type 0) (is_new : Id → Type 0) (stage : Stage Recovery) (in_flight : Option InFlight) (meant : Option Event) (s : State) → in_flight ≡ None →
-    (x : Recovery) (e given : Event) → stage ≡ at.Going x → meant ≡ Some e → recovering.Gives s (Some e) x (Some given) → s.units.phase ≡ Opening → Stored holds is_new (units_after e s.units) →
-    Performs (OpensIn holds is_new stage) in_flight meant (Some given) s
-opens-by holds is_new stage in_flight meant s none x e given there is g opens stored =
-    let t = g.done.0 in
-    let d = g.done.1 in
-    let same : t.units ≡ units_after e s.units = d.after.units ∙ ap (λ (f : Event). units_after f s.units) (same-some given e g.told) in
-    record {
-      told = g.told ∙ sym is;
-      sees = subst (λ (q : Stage Recovery). OpensIn holds is_new q (Some given) s) (sym there) (t, d, subst (Stored holds is_new) (sym same) stored, opens);
-      none = none;
-    }
 
 -- by a scheduler
 pub serves-by : (holds : Kept → Type 0) (is_new : Id → Type 0) (stage : Stage Scheduler) (in_flight : Option InFlight) (meant : Option Event) (s : State) → in_flight ≡ None →

@@ -1,11 +1,11 @@
 -- What follows in a line is no preparation, and neither is the first event of a line that prepares nothing.
-use Rattle.salt_ast.specs.declared.lines.Act.TheVariants.{Begin, Call, Commit, Do, Rollback, Step}
 use Rattle.salt_ast.specs.declared.lines.Act.{Act}
-use Rattle.salt_ast.specs.declared.lines.Line.TheVariants.{Crash, Go, GoAll, Nothing, Program, Session, ShowBases, ShowLocks, Table}
+use Rattle.salt_ast.specs.declared.lines.Act.TheVariants.{Begin, Call, Commit, Do, Rollback, Step}
 use Rattle.salt_ast.specs.declared.lines.Line.{Line}
+use Rattle.salt_ast.specs.declared.lines.Line.TheVariants.{Crash, Go, GoAll, Nothing, Program, Session, ShowBases, ShowLocks, Table}
 use Rattle.salt_ast.specs.declared.programs.ProgramDef.{ProgramDef}
 use Rattle.salt_ast.specs.declared.trees.Statement.{Statement}
-use Rattle.salt_engine.proofs.Resting.{done-plain, either-plain, finish-plain, serves-plain}
+use Rattle.salt_engine.proofs.Unprepared.{done-plain, either-plain, finish-plain, serves-plain}
 use Rattle.salt_engine.specs.Performing.{is_prepared, is_prepared_line}
 use Rattle.salt_keeps.specs.Follows.{settles_in}
 use Rattle.salt_keeps.specs.OpenUnits.{OpenUnit, UnitState, asks_next, unit_named, unit_of_program, unit_of_session}
@@ -14,14 +14,14 @@ use Rattle.salt_keeps.specs.States.{State}
 use Rattle.salt_keeps.specs.Told.{Beside, Clashes, Items, act_in, asks_in, begins_in, calls_in, commits_in, go_in, goes_on_in, kind_called_in, line_in, settle_in, turn_in, turn_of_in}
 use Rattle.salt_model.specs.Kept.{cont_of, kept_program}
 use Rattle.salt_model.specs.Turns.{releases}
-use Rattle.salt_model.specs.declared.events.Event.TheVariants.{Armed, Defined}
 use Rattle.salt_model.specs.declared.events.Event.{Event}
+use Rattle.salt_model.specs.declared.events.Event.TheVariants.{Armed, Defined}
 use Rattle.salt_model.specs.declared.events.Owner.{Owner}
 use Rattle.salt_model.specs.declared.events.UnitKind.TheVariants.{Later}
 use Rattle.salt_scheduler.specs.Follows.{event_of}
 use Rattle.salt_scheduler.specs.Standing.{behind_in}
-use Rattle.salt_scheduler.specs.declared.follow.Follow.TheVariants as follow
 use Rattle.salt_scheduler.specs.declared.follow.Follow.{Follow}
+use Rattle.salt_scheduler.specs.declared.follow.Follow.TheVariants as follow
 use Rattle.salt_steps.specs.Counting.{armed_at}
 use Rattle.salt_values.specs.declared.cont.Cont.{Cont}
 use Rattle.salt_values.specs.declared.id.Id.{Id}

@@ -1,7 +1,7 @@
 -- At which stage an engine is, by the phase of the state that it sees; and what it has at hand there.
 use Rattle.salt_engine.proofs.Going.{says-keeps}
 use Rattle.salt_engine.proofs.Waiting.{goes-behind, left-now}
-use Rattle.salt_engine.specs.Standing.{IsGoingStage, OpensIn, SeesIn, goes_in, waits_in}
+use Rattle.salt_engine.specs.Standing.{IsGoingStage, SeesIn, goes_in, waits_in}
 use Rattle.salt_engine.specs.declared.stage.Stage.TheVariants as at
 use Rattle.salt_engine.specs.declared.stage.Stage.{Stage}
 use Rattle.salt_keeps.specs.Points.{Point}
@@ -9,7 +9,6 @@ use Rattle.salt_keeps.specs.Settling.{to_come, waiters}
 use Rattle.salt_keeps.specs.States.{State}
 use Rattle.salt_model.specs.Kept.{Kept}
 use Rattle.salt_model.specs.declared.events.Event.{Event}
-use Rattle.salt_recovery.specs.declared.recovery.Recovery.{Recovery}
 use Rattle.salt_scheduler.proofs.Following.{not-of-run}
 use Rattle.salt_scheduler.specs.declared.scheduler.Scheduler.{Scheduler}
 use Rattle.salt_steps.specs.Standing.{IsSoundPoint, left_to_come}
@@ -22,19 +21,10 @@ serves-now holds is_new (at.Going x) given s h = tt
 serves-now holds is_new (at.Down books) given s h = absurd h
 serves-now holds is_new at.Lost given s h = absurd h
 
-pub opens-now : (holds : Kept → Type 0) (is_new : Id → Type 0) (stage : Stage Recovery) (given : Option Event) (s : State) → OpensIn holds is_new stage given s → IsGoingStage stage
-opens-now holds is_new (at.Going x) given s h = tt
-opens-now holds is_new (at.Down books) given s h = absurd h
-opens-now holds is_new at.Lost given s h = absurd h
-
 -- by the stage that was taken out
 pub seen-at : (holds : Kept → Type 0) (is_new : Id → Type 0) (stage now : Stage Scheduler) (given : Option Event) (s : State) → stage ≡ now → SeesIn holds is_new stage given s →
     SeesIn holds is_new now given s
 seen-at holds is_new stage now given s same h = subst (λ (q : Stage Scheduler). SeesIn holds is_new q given s) same h
-
-pub opened-at : (holds : Kept → Type 0) (is_new : Id → Type 0) (stage now : Stage Recovery) (given : Option Event) (s : State) → stage ≡ now → OpensIn holds is_new stage given s →
-    OpensIn holds is_new now given s
-opened-at holds is_new stage now given s same h = subst (λ (q : Stage Recovery). OpensIn holds is_new q given s) same h
 
 -- what is still to come, and where `go all` has still to turn
 

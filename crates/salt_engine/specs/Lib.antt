@@ -3,5 +3,4 @@ pub mod Deciding
 pub mod Flights
 pub mod Standing
 pub mod Performing
-pub mod Finding
-pub mod Halves
+pub mod Engines

@@ -29,10 +29,6 @@ use Rattle.salt_model.specs.Words.{Every}
 use Rattle.salt_model.specs.declared.events.Event.TheVariants.{Armed, Defined, Refused}
 use Rattle.salt_model.specs.declared.events.Event.{Event}
 use Rattle.salt_model.specs.declared.events.Refusal.{Refusal}
-use Rattle.salt_openings.specs.Draining.{statements_at}
-use Rattle.salt_recovery.specs.Follows.{comes_behind}
-use Rattle.salt_recovery.specs.Recovering as recovering
-use Rattle.salt_recovery.specs.declared.recovery.Recovery.{Recovery}
 use Rattle.salt_scheduler.specs.Standing as scheduling
 use Rattle.salt_scheduler.specs.Standing.{Does, ServesAllowed, ServesLine, behind_in}
 use Rattle.salt_scheduler.specs.declared.scheduler.Scheduler.{Scheduler}
@@ -46,7 +42,7 @@ use Rattle.salt_types.specs.Typed.{IsTyped}
 use Rattle.salt_values.specs.declared.id.Id.{Id}
 use Rattle.salt_values.specs.declared.placement.Shape.{Shape}
 use Rattle.std.specs.Result.{MatchResult}
-use Rattle.std.specs.Prelude.{Bool, IsSome, None, Option, Result, Some, false, true, ℕ, ◌+◌, ◌≡◌, ◌≤◌, ◌⊎◌}
+use Rattle.std.specs.Prelude.{Bool, None, Option, Result, Some, false, true, ℕ, ◌≡◌, ◌≤◌, ◌⊎◌}
 
 -- this comes next in a state of a played trace, of a typed start and over lines whose tables have keys
 pub record IsPlayedBefore (comes : Option Event) (s : State) : Type 0 where
@@ -68,25 +64,6 @@ is_prepared e = false
 abbrev pub StoredAt : (holds : Kept → Type 0) (is_new : Id → Type 0) → Coming → State → Type 0
 StoredAt holds is_new (coming.Told e) s = Stored holds is_new (units_after e s.units)
 StoredAt holds is_new c s = Stored holds is_new s.units
-
--- a recovery is ready for an event of its opening, over a storage that holds what its state keeps
-pub record IsToOpen (holds : Kept → Type 0) (is_new : Id → Type 0) (x : Recovery) (c : Coming) (s : State) : Type 0 where
-  pub played : IsPlayedBefore (event_meant s.units c) s
-  pub opens : s.units.phase ≡ phases.Opening
-  pub comes : IsSome (event_meant s.units c)
-  pub plain : is_prepared (event_meant s.units c) ≡ false
-  pub ready : recovering.IsReady x s c
-  pub stored : StoredAt holds is_new c s
-
--- a recovery stands for a state behind an event of an opening, and what comes behind that comes next
-pub record GoesOnOpening (holds : Kept → Type 0) (is_new : Id → Type 0) (x : Recovery) (s : State) : Type 0 where
-  pub played : IsPlayedBefore (comes_behind x.behind s.units) s
-  pub stands : recovering.Stands x s
-  pub stored : Stored holds is_new s.units
-
--- a step was taken where what was meant is a statement, or it was not come to
-abbrev pub MayStep : Option Event → (old new : ℕ) → Type 0
-MayStep meant old new = (new ≡ old) ⊎ (new ≡ old + statements_at meant)
 
 -- a scheduler is ready for what follows in a line, which is no preparation
 pub record IsToServe (holds : Kept → Type 0) (is_new : Id → Type 0) (x : Scheduler) (c : Coming) (s : State) : Type 0 where

@@ -1,8 +1,7 @@
--- What an engine and an opening stand for: a state, over a storage that holds what that keeps; broken off, a point at which it can be
--- opened.
+-- What an engine stands for: a state, over a storage that holds what that keeps; broken off, a point at which it can be opened.
 use Rattle.salt_ast.specs.declared.programs.ProgramDef.{ProgramDef}
 use Rattle.salt_ast.specs.declared.trees.TableDef.{TableDef}
-use Rattle.salt_books.specs.Books.{AreBooks, seen}
+use Rattle.salt_books.specs.Books.{AreBooks}
 use Rattle.salt_books.specs.declared.books.Books.{Books}
 use Rattle.salt_engine.specs.Flights.{IsInFlight}
 use Rattle.salt_engine.specs.Stored.{IsLeft, IsNumbered, Stored}
@@ -17,18 +16,13 @@ use Rattle.salt_known.specs.Known.{AllLeadOn}
 use Rattle.salt_model.specs.Kept.{Kept, programs_of, schema_of}
 use Rattle.salt_model.specs.Phases as phases
 use Rattle.salt_model.specs.Turns.{is_statement_line}
-use Rattle.salt_model.specs.declared.events.Event.TheVariants.{Ready}
 use Rattle.salt_model.specs.declared.events.Event.{Event}
-use Rattle.salt_openings.specs.Draining.{done_now, is_earlier, opening_stage, rests_of}
-use Rattle.salt_recovery.specs.Recovering as recovering
-use Rattle.salt_recovery.specs.declared.recovery.Recovery.{Recovery}
 use Rattle.salt_scheduler.specs.Standing as scheduling
 use Rattle.salt_scheduler.specs.declared.scheduler.Scheduler.{Scheduler}
 use Rattle.salt_storage.specs.Storing.{IsSoundKept}
 use Rattle.salt_storage.specs.declared.found.Numbers.{Numbers}
 use Rattle.salt_values.specs.declared.id.Id.{Id}
-use Rattle.std.specs.List.{filter}
-use Rattle.std.specs.Prelude.{Bool, List, None, Option, Some, [], false, length, map, true, ℕ, ⊤, ◌*◌, ◌+◌, ◌-◌, ◌≡◌, ◌⊎◌}
+use Rattle.std.specs.Prelude.{Bool, List, None, Option, Some, [], map, ℕ, ⊤, ◌≡◌, ◌⊎◌}
 
 -- THE STAGES. With the event at hand, which the half in memory has done, it stands for the state before that.
 
@@ -37,21 +31,6 @@ abbrev pub SeesIn : (holds : Kept → Type 0) (is_new : Id → Type 0) → Stage
 SeesIn holds is_new (Going x) None s = scheduling.Stands x s × Stored holds is_new s.units
 SeesIn holds is_new (Going x) (Some e) s = (t : State) × scheduling.HasDone x e s t × Stored holds is_new t.units × (s.units.phase ≡ phases.Serving)
 SeesIn holds is_new stage next s = ⊥
-
--- the books of an opening that is done: behind its Ready nothing is open and nothing is watched, and no accepted program is unfinished
-pub record AreOpened (x : Books) (s : State) : Type 0 where
-  pub books : AreBooks x s.units
-  pub units : s.units.units ≡ []
-  pub bases : s.units.base_count ≡ 0
-  pub conts : s.units.kept.conts ≡ []
-  pub to_go : s.units.to_go ≡ []
-  pub watch : s.watch ≡ empty_watch 0
-
--- of a recovery, an opening goes on, or is done
-abbrev pub OpensIn : (holds : Kept → Type 0) (is_new : Id → Type 0) → Stage Recovery → Option Event → State → Type 0
-OpensIn holds is_new (Going x) None s = AreOpened x.books s × Stored holds is_new s.units
-OpensIn holds is_new (Going x) (Some e) s = (t : State) × recovering.HasDone x e s t × Stored holds is_new t.units × (s.units.phase ≡ phases.Opening)
-OpensIn holds is_new stage next s = ⊥
 
 -- beside what is seen: whether stops can be armed, whether the last line is one statement, and that nothing is in flight
 pub record Sees (sees : Option Event → State → Type 0) (stoppable single : Bool) (in_flight : Option InFlight) (next : Option Event) (s : State) : Type 0 where
@@ -68,11 +47,6 @@ IsGoingStage stage = ⊥
 abbrev pub IsBrokenStage : {H : Type 0} → Stage H → Type 0
 IsBrokenStage (Down x) = ⊤
 IsBrokenStage stage = ⊥
-
--- what the storage holds is found, and no boot has begun over it
-abbrev pub IsFoundStage : Option Numbers → Stage Recovery → Type 0
-IsFoundStage (Some n) (Down x) = ⊤
-IsFoundStage found stage = ⊥
 
 -- AN ENGINE is made behind a Ready.
 
@@ -105,9 +79,6 @@ books_in books Lost = None
 abbrev pub serving_books : Stage Scheduler → Option Books
 serving_books stage = books_in (λ (x : Scheduler). x.books) stage
 
-abbrev pub opening_books : Stage Recovery → Option Books
-opening_books stage = books_in (λ (x : Recovery). x.books) stage
-
 -- They have the units and know what is kept; an opening counts units and programs anew. To the programs of a `go all` it goes no more,
 -- or as it went.
 pub record KnowUnits (x : Books) (s : UnitState) : Type 0 where
@@ -135,12 +106,6 @@ pub record Lies (holds : Kept → Type 0) (leaves : Kept → Kept → Type 0) (s
   pub line : single ≡ is_statement_line p.state.units.line
   pub flies : IsInFlight in_flight p.flight p.state.units
 
--- for it to be opened: what the storage holds is found, or it was broken off, and a stop has left something there
-abbrev pub CanFind : (settled : Type 0) (leaves : Kept → Kept → Type 0) → Option Numbers → Stage Recovery → Type 0
-CanFind settled leaves (Some n) (Down x) = ⊤
-CanFind settled leaves None (Down x) = settled × ((a b : Kept) × leaves a b)
-CanFind settled leaves found stage = ⊥
-
 -- WHAT IS STILL TO COME.
 
 -- the waiting units, and the programs to which `go all` has still to turn
@@ -151,17 +116,3 @@ waits_in stage = []
 abbrev pub goes_in : Stage Scheduler → List Id
 goes_in (Going x) = x.books.to_go.items
 goes_in stage = []
-
--- the units that an opening has still to cut, and the statements that it may still do, by its books
-abbrev pub left_by : Books → ℕ
-left_by x =
-    let units = map seen x.units.items in
-    length (filter (is_earlier x.known.boot) units) + (rests_of x.known.catalogue x.known.conts - done_now x.known.boot units)
-
-abbrev pub left_in : Stage Recovery → Option Event → ℕ
-left_in (Going x) (Some e) = 8 * left_by x.books + opening_stage e
-left_in stage next = 0
-
-abbrev pub is_ready : Event → Bool
-is_ready Ready = true
-is_ready e = false

@@ -34,9 +34,23 @@ pub struct Engine<S> {
     pub(crate) no_tables: Schema,
 }
 
+/// What an engine leaves that is given up.
+#[derive(Drop)]
+pub struct GivenUp<S> {
+    pub alloc: Global,
+    pub storage: S,
+    /// Its books, unless memory ran out.
+    pub books: Option<Books>,
+    /// Whether the last line that was asked is one statement.
+    pub single: bool,
+    /// What was asked of the storage when it halted.
+    pub in_flight: Option<InFlight>,
+}
+
 impl<S: Drop> Engine<S> {
     /// An engine over a storage behind the Ready of an opening: the number of the last decision that is kept, the tables and the
-    /// programs that are defined, the boot, and how many units were begun in it. No accepted program is unfinished.
+    /// programs that are defined, the boot, how many units were begun in it, and whether the last line that was asked is one
+    /// statement. No accepted program is unfinished.
     pub fn new(
         alloc: Global,
         store: S,
@@ -45,9 +59,11 @@ impl<S: Drop> Engine<S> {
         catalogue: Catalogue,
         boot: u64,
         begun: u64,
+        single: bool,
     ) -> Engine<S>
         ensures store { result.storage ≡ store }
         ensures serves { (s : State) → IsReadyOver kept.now schema catalogue boot begun s → ServesFrom result.stage s }
+        ensures single { result.single ≡ single }
         ensures none { result.in_flight ≡ None }
     {
         let conts = Items::new(alloc);
@@ -57,7 +73,7 @@ impl<S: Drop> Engine<S> {
             alloc,
             storage: store,
             stage: Stage::Going(scheduler),
-            single: false,
+            single,
             in_flight: None,
             no_tables: Schema::new(alloc),
         }
@@ -71,6 +87,30 @@ impl<S: Drop> Engine<S> {
             Stage::Going(scheduler) => scheduler.books().known().schema(),
             Stage::Down(books) => books.known().schema(),
             Stage::Lost => &self.no_tables,
+        }
+    }
+
+    /// It is given up for an opening.
+    pub fn given_up(self) -> GivenUp<S>
+        ensures storage { result.storage ≡ self.storage }
+        ensures books { result.books ≡ serving_books self.stage }
+        ensures single { result.single ≡ self.single }
+        ensures flies { result.in_flight ≡ self.in_flight }
+    {
+        let Engine {
+            alloc,
+            storage,
+            stage,
+            single,
+            in_flight,
+            ..
+        } = self;
+        GivenUp {
+            alloc,
+            storage,
+            books: stage.into_books(),
+            single,
+            in_flight,
         }
     }
 

@@ -1,17 +1,12 @@
 //! What a half in memory is doing: that of an engine, or that of an opening.
 
 ghost use Rattle.salt_engine.specs.Performing.{WasBroken};
-ghost use Rattle.salt_engine.specs.Standing.{IsBrokenStage, IsGoingStage, KnowUnits, KnowsUnits, opening_books, serving_books};
+ghost use Rattle.salt_engine.specs.Standing.{IsBrokenStage, IsGoingStage, serving_books};
 ghost use Rattle.salt_engine.specs.declared.stage.Stage.TheVariants.{Down, Going, Lost};
-ghost use Rattle.salt_keeps.specs.OpenUnits.{UnitState};
-ghost use Rattle.salt_keeps.specs.Steps.{units_after};
-ghost use Rattle.salt_model.specs.declared.events.Event.{Event};
-ghost use Rattle.salt_model.specs.declared.events.Why.{Why};
 ghost use Rattle.std.specs.Prelude.{None, ◌≡◌};
 
 use crate::flights::InFlight;
 use salt_books::Books;
-use salt_recovery::Recovery;
 use salt_scheduler::Scheduler;
 use salt_storage::Halt;
 
@@ -83,37 +78,14 @@ impl<H: Drop> Stage<H> {
 }
 
 impl Stage<Scheduler> {
-    /// What an engine leaves for an opening: its books.
-    pub fn given_up(self) -> Stage<Recovery>
-        ensures { opening_books result ≡ serving_books self }
+    /// The books that an engine has, unless memory ran out.
+    pub(crate) fn into_books(self) -> Option<Books>
+        ensures { result ≡ serving_books self }
     {
         match self {
-            Stage::Going(scheduler) => Stage::Down(scheduler.into_books()),
-            Stage::Down(books) => Stage::Down(books),
-            Stage::Lost => Stage::Lost,
-        }
-    }
-}
-
-/// The books of a run that has fallen.
-fn books_fallen(books: Books) -> Books
-    ensures { (s : UnitState) (why : Why) → KnowUnits books s → KnowUnits result (units_after (Event.Down why) s) }
-{
-    let mut books = books;
-    books.fall();
-    books
-}
-
-impl Stage<Recovery> {
-    /// What is left of an opening behind a fall: the books, which go to no further program of a `go all`.
-    pub fn fallen(self) -> Stage<Recovery>
-        ensures books { (s : UnitState) (why : Why) → KnowsUnits (opening_books self) s → KnowsUnits (opening_books result) (units_after (Event.Down why) s) }
-        ensures down { IsGoingStage result → ⊥ }
-    {
-        match self {
-            Stage::Going(recovery) => Stage::Down(books_fallen(recovery.into_books())),
-            Stage::Down(books) => Stage::Down(books_fallen(books)),
-            Stage::Lost => Stage::Lost,
+            Stage::Going(scheduler) => Some(scheduler.into_books()),
+            Stage::Down(books) => Some(books),
+            Stage::Lost => None,
         }
     }
 }

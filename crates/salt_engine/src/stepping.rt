@@ -25,7 +25,7 @@ use salt_values::{Id, Key, PlaceKind, Placement};
 use std::mem;
 
 impl<S: Storage + Drop> Stepping for Engine<S> {
-    ghost use Rattle.salt_engine.specs.Halves.{engine_left, engine_lies, engine_sees};
+    ghost use Rattle.salt_engine.specs.Engines.{engine_left, engine_lies, engine_sees};
 
     ghost sees = { λ d e next s. engine_sees (S.holds d) (S.is_new d) d.can_stop e next s };
 

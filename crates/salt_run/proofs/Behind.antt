@@ -1,5 +1,5 @@
 -- What is kept behind a trace, as a point of it has it, and its numbers.
-use Rattle.salt_engine.proofs.Falling.{IsCounted, counts}
+use Rattle.salt_database.proofs.Falling.{IsCounted, counts}
 use Rattle.salt_engine.specs.Flights.{IsInFlight}
 use Rattle.salt_engine.specs.Stored.{IsLeft, kept_behind, raised}
 use Rattle.salt_engine.specs.declared.flights.InFlight.{InFlight}

@@ -1,18 +1,19 @@
 -- A run, by what is found at first and by how its database ends.
 use Rattle.salt_books.specs.declared.books.Books.{Books}
+use Rattle.salt_database.specs.Halves.{IfEither, by_half, database_left, database_lies, no_shape}
+use Rattle.salt_database.specs.Standing.{opening_books}
+use Rattle.salt_database.specs.declared.database.Database.{Database}
+use Rattle.salt_database.specs.declared.database.Database.TheVariants.{Closed, Moving, Open}
 use Rattle.salt_devices.specs.Filling.{FillsIn}
 use Rattle.salt_devices.specs.Holding.{CanStart}
 use Rattle.salt_devices.specs.Leaving.{StandsFor}
 use Rattle.salt_devices.specs.Refusing.{Finds, RefusedAs, Refuses}
 use Rattle.salt_devices.specs.Standing.{StandsHeld, StandsLeft}
+use Rattle.salt_devices.specs.declared.devices.Devices.{Devices}
 use Rattle.salt_devices.specs.declared.pending.Pending.{Pending}
 use Rattle.salt_disk.specs.Disks.{AreUnchanged, View}
 use Rattle.salt_disk.specs.declared.disks.DiskErr.{DiskErr}
-use Rattle.salt_devices.specs.declared.devices.Devices.{Devices}
-use Rattle.salt_engine.specs.Halves.{IfEither, by_half, database_left, database_lies, no_shape}
-use Rattle.salt_engine.specs.Standing.{Left, Lies, opening_books, serving_books}
-use Rattle.salt_engine.specs.declared.database.Database.TheVariants.{Closed, Moving, Open}
-use Rattle.salt_engine.specs.declared.database.Database.{Database}
+use Rattle.salt_engine.specs.Standing.{Left, Lies, serving_books}
 use Rattle.salt_engine.specs.declared.flights.InFlight.{InFlight}
 use Rattle.salt_keeps.specs.Points.{Point}
 use Rattle.salt_model.specs.Ends.{MayLeave}
@@ -39,8 +40,8 @@ use Rattle.salt_serving.specs.Loading.{IsPlayedLoad}
 use Rattle.salt_serving.specs.Run.{IsRun, leave_of}
 use Rattle.salt_serving.specs.Serving.{IsToBegin}
 use Rattle.salt_serving.specs.Stopping.{status_opening}
-use Rattle.salt_serving.specs.declared.status.Status.TheVariants.{DeviceFull, Done, Memory, NotSalt, NumbersSpent, OtherShape, WriteFault}
 use Rattle.salt_serving.specs.declared.status.Status.{Status}
+use Rattle.salt_serving.specs.declared.status.Status.TheVariants.{DeviceFull, Done, Memory, NotSalt, NumbersSpent, OtherShape, WriteFault}
 use Rattle.salt_steps.proofs.AtFirst.{down-at-first}
 use Rattle.salt_steps.specs.Counting.{CountsOpening, armed_in, stopped_in}
 use Rattle.salt_steps.specs.Opening.{FailsToFind, IsOpenedFirst, IsUnfound}
@@ -49,12 +50,12 @@ use Rattle.salt_storage.specs.Storing.{IsSoundKept}
 use Rattle.salt_storage.specs.Writing.{OfOpening}
 use Rattle.salt_storage.specs.declared.found.Numbers.{Numbers}
 use Rattle.salt_storage.specs.declared.halt.Halt.TheVariants as halt
-use Rattle.salt_storage.specs.declared.open.OpenErr.TheVariants as open_err
 use Rattle.salt_storage.specs.declared.open.OpenErr.{OpenErr}
+use Rattle.salt_storage.specs.declared.open.OpenErr.TheVariants as open_err
 use Rattle.salt_summary.specs.Summary.{summary_text}
 use Rattle.salt_values.specs.declared.placement.Shape.{Shape}
-use Rattle.salt_words.specs.declared.command.Command.TheVariants.{Load, Run}
 use Rattle.salt_words.specs.declared.command.Command.{Command}
+use Rattle.salt_words.specs.declared.command.Command.TheVariants.{Load, Run}
 use Rattle.std.proofs.Common.{ap, inl, inr, subst, sym, ◌∙◌}
 use Rattle.std.specs.Prelude.{Bool, IsTrue, List, None, Option, [], false, refl, true, ℕ, ◌+◌, ◌≡◌, ◌⊎◌}
 

@@ -22,9 +22,9 @@ ghost use Rattle.salt_words.specs.declared.command.Command.TheVariants.{Load, Ru
 ghost use Rattle.std.specs.Prelude.{List, Option, ℕ, ◌+◌, ◌≡◌, ◌≢◌, ◌≤◌, ◌⊎◌};
 
 use crate::ended::Ended;
+use salt_database::{Database, Opening};
 use salt_devices::Devices;
 use salt_disk::Disks;
-use salt_engine::{Database, Opening};
 use salt_io::{Sink, Source};
 use salt_model::{Flight, Story};
 use salt_serving::{Loaded, Status, Stop, load, serve, status_of, stop_opening, tell_unfound};

@@ -1,9 +1,9 @@
+use Rattle.salt_database.proofs.FindDone.{found-finds}
+use Rattle.salt_database.proofs.Lying.{opened-first}
+use Rattle.salt_database.specs.Halves.{database_flight}
 use Rattle.salt_devices.specs.Standing.{StandsHeld}
 use Rattle.salt_devices.specs.declared.devices.Devices.{Devices}
-use Rattle.salt_engine.proofs.FindDone.{found-finds}
-use Rattle.salt_engine.proofs.Lying.{opened-first}
 use Rattle.salt_engine.specs.Flights.{flight_of}
-use Rattle.salt_engine.specs.Halves.{database_flight}
 use Rattle.salt_model.specs.Trace.{Start}
 use Rattle.salt_run.proofs.EngineEnds.{any-start, as-told, begins-over, behind-faults, flight-none, found-counts, found-is, nothing, nothing-begun, over-refused, refused-as, script-over, unfound-counts}
 use Rattle.salt_run.proofs.Replayed.{script-replays}

@@ -1,0 +1,45 @@
+-- A run falls: the storage can be started again, and what it asks for to be found is there; and the tables that are known.
+use Rattle.salt_ast.specs.declared.trees.TableDef.{TableDef}
+use Rattle.salt_books.specs.declared.books.Books.{Books}
+use Rattle.salt_database.proofs.Lying.{left-stops}
+use Rattle.salt_database.specs.Standing.{CanFind, opening_books}
+use Rattle.salt_engine.specs.Standing.{IsGoingStage, KnowsUnits, Lies, SeesIn, serving_books}
+use Rattle.salt_engine.specs.declared.flights.InFlight.{InFlight}
+use Rattle.salt_engine.specs.declared.stage.Stage.{Stage}
+use Rattle.salt_engine.specs.declared.stage.Stage.TheVariants as at
+use Rattle.salt_keeps.specs.OpenUnits.{UnitState}
+use Rattle.salt_keeps.specs.Points.{Point}
+use Rattle.salt_keeps.specs.States.{State}
+use Rattle.salt_model.specs.Kept.{Kept, schema_of}
+use Rattle.salt_recovery.specs.declared.recovery.Recovery.{Recovery}
+use Rattle.salt_scheduler.specs.declared.scheduler.Scheduler.{Scheduler}
+use Rattle.salt_storage.specs.declared.found.Numbers.{Numbers}
+use Rattle.salt_values.specs.declared.id.Id.{Id}
+use Rattle.std.proofs.Common.{◌∙◌}
+use Rattle.std.specs.Prelude.{Bool, List, None, Option, Some, refl, ℕ, ◌≡◌}
+
+pub down-finds : (settled : Type 0) (leaves : Kept → Kept → Type 0) (stage : Stage Recovery) (s : UnitState) → (IsGoingStage stage → ⊥) → KnowsUnits (opening_books stage) s → settled →
+    ((a b : Kept) × leaves a b) → CanFind settled leaves None stage
+down-finds settled leaves (at.Going x) s down k t h = absurd (down tt)
+down-finds settled leaves (at.Down books) s down k t h = (t, h)
+down-finds settled leaves at.Lost s down k t h = let none = k.1 in cc
+
+-- a stop leaves something
+pub leaves-some : (holds : Kept → Type 0) (leaves : Kept → Kept → Type 0) (stoppable : Bool) (found : Option Numbers) (books : Option Books) (single : Bool) (in_flight : Option InFlight)
+    (room : ℕ) (p : Point) → ((k : Kept) → holds k → leaves k k) → Lies holds leaves stoppable found books single in_flight room p → (a b : Kept) × leaves a b
+leaves-some holds leaves stoppable found books single in_flight room p stays h =
+    let l = left-stops holds leaves found room p stays h.left in
+    (l.0, l.1, l.2)
+
+-- THE TABLES, by what is answered where there are books
+
+pub lies-schema : (holds : Kept → Type 0) (leaves : Kept → Kept → Type 0) (stoppable : Bool) (found : Option Numbers) (books : Option Books) (single : Bool) (in_flight : Option InFlight)
+    (room : ℕ) (p : Point) (schema : List TableDef) → ((x : Books) → books ≡ Some x → schema ≡ x.known.schema) → Lies holds leaves stoppable found books single in_flight room p →
+    schema ≡ schema_of p.state.units.kept
+lies-schema holds leaves stoppable found books single in_flight room p schema tells h = tells h.knows.0 h.knows.1 ∙ h.knows.2.are.known.schema
+
+pub seen-schema : (holds : Kept → Type 0) (is_new : Id → Type 0) (stage : Stage Scheduler) (s : State) (schema : List TableDef) →
+    ((x : Books) → serving_books stage ≡ Some x → schema ≡ x.known.schema) → SeesIn holds is_new stage None s → schema ≡ schema_of s.units.kept
+seen-schema holds is_new (at.Going x) s schema tells h = tells x.books refl ∙ h.0.books.known.schema
+seen-schema holds is_new (at.Down books) s schema tells h = absurd h
+seen-schema holds is_new at.Lost s schema tells h = absurd h

@@ -1,0 +1,97 @@
+-- What the storage holds is found again behind a fall: what stays of an opening, and what it stands for.
+use Rattle.salt_books.specs.declared.books.Books.{Books}
+use Rattle.salt_database.proofs.Lying.{found-left}
+use Rattle.salt_database.specs.Finding.{IsFoundAgain}
+use Rattle.salt_database.specs.Standing.{CanFind, IsFoundStage, opening_books}
+use Rattle.salt_engine.specs.Flights.{IsInFlight}
+use Rattle.salt_engine.specs.Standing.{IsBrokenStage, KnowsUnits, Left, Lies}
+use Rattle.salt_engine.specs.Stored.{IsLeft}
+use Rattle.salt_engine.specs.declared.flights.InFlight.{InFlight}
+use Rattle.salt_engine.specs.declared.stage.Stage.{Stage}
+use Rattle.salt_engine.specs.declared.stage.Stage.TheVariants as at
+use Rattle.salt_keeps.specs.Points.{Point}
+use Rattle.salt_model.specs.Kept.{Kept}
+use Rattle.salt_recovery.specs.declared.recovery.Recovery.{Recovery}
+use Rattle.salt_storage.specs.declared.found.Numbers.{Numbers}
+use Rattle.std.proofs.Common.{subst, sym, ◌∙◌}
+use Rattle.std.specs.Prelude.{Bool, Err, None, Ok, OnErr, OnOk, Option, Result, Some, refl, ℕ, ◌≡◌}
+
+-- BEHIND A FALL
+
+pub left-behind : (holds : Kept → Type 0) (leaves : Kept → Kept → Type 0) (found : Option Numbers) (room : ℕ) (p : Point) → found ≡ None → Left holds leaves found room p →
+    (a b : Kept) × leaves a b × IsLeft room p a × IsLeft room p b
+left-behind holds leaves found room p none h = subst (λ (f : Option Numbers). Left holds leaves f room p) none h
+
+broken-finds : (settled : Type 0) (leaves : Kept → Kept → Type 0) (stage : Stage Recovery) → CanFind settled leaves None stage → settled × ((a b : Kept) × leaves a b) × IsBrokenStage stage
+broken-finds settled leaves (at.Going x) h = absurd h
+broken-finds settled leaves (at.Down x) h = (h.0, h.1, tt)
+broken-finds settled leaves at.Lost h = absurd h
+
+pub can-find : (settled : Type 0) (leaves : Kept → Kept → Type 0) (found : Option Numbers) (stage : Stage Recovery) → found ≡ None → CanFind settled leaves found stage →
+    settled × ((a b : Kept) × leaves a b) × IsBrokenStage stage
+can-find settled leaves found stage none h = broken-finds settled leaves stage (subst (λ (f : Option Numbers). CanFind settled leaves f stage) none h)
+
+some-found : (settled : Type 0) (leaves : Kept → Kept → Type 0) (n : Numbers) (stage : Stage Recovery) → CanFind settled leaves (Some n) stage → IsFoundStage (Some n) stage
+some-found settled leaves n (at.Going x) h = absurd h
+some-found settled leaves n (at.Down x) h = tt
+some-found settled leaves n at.Lost h = absurd h
+
+pub was-found : (settled : Type 0) (leaves : Kept → Kept → Type 0) (found : Option Numbers) (n : Numbers) (stage : Stage Recovery) → found ≡ Some n → CanFind settled leaves found stage →
+    IsFoundStage found stage
+was-found settled leaves found n stage is h =
+    subst (λ (f : Option Numbers). IsFoundStage f stage) (sym is) (some-found settled leaves n stage (subst (λ (f : Option Numbers). CanFind settled leaves f stage) is h))
+
+-- what was found needs no looking for
+pub found-finds : (settled : Type 0) (leaves : Kept → Kept → Type 0) (found : Option Numbers) (stage : Stage Recovery) → IsFoundStage found stage → CanFind settled leaves found stage
+found-finds settled leaves (Some n) (at.Down x) h = tt
+found-finds settled leaves (Some n) (at.Going x) h = absurd h
+found-finds settled leaves (Some n) at.Lost h = absurd h
+found-finds settled leaves None stage h = absurd h
+
+pub broken-books : (stage : Stage Recovery) → IsBrokenStage stage → (x : Books) × (stage ≡ at.Down x)
+broken-books (at.Going x) h = absurd h
+broken-books (at.Down x) h = (x, refl)
+broken-books at.Lost h = absurd h
+
+pub again-found : (holds : Kept → Type 0) (x : Books) (a b : Kept) (found : Option Numbers) (stage : Stage Recovery) → IsFoundAgain holds x a b found stage → IsFoundStage found stage
+again-found holds x a b found stage f =
+    subst (λ (n : Option Numbers). IsFoundStage n stage) (sym f.is) (subst (λ (s : Stage Recovery). IsFoundStage (Some f.numbers) s) (sym f.there) tt)
+
+module _ (holds now : Kept → Type 0) (leaves again : Kept → Kept → Type 0) (old stoppable : Bool) (found later : Option Numbers) (stage after : Stage Recovery) (was single : Bool)
+    (flew in_flight : Option InFlight) (unfound : found ≡ None) (stays : after ≡ stage) (room : ℕ) (p : Point)
+    (lies : Lies holds leaves old found (opening_books stage) was flew room p) where
+  here : (a b : Kept) × leaves a b × IsLeft room p a × IsLeft room p b
+  here = left-behind holds leaves found room p unfound lies.left
+
+  lies-with : Left now again later room p → stoppable ≡ old → single ≡ was → in_flight ≡ flew → Lies now again stoppable later (opening_books after) single in_flight room p
+  lies-with left same line flies = record {
+    left = left;
+    knows = subst (λ (s : Stage Recovery). KnowsUnits (opening_books s) p.state.units) (sym stays) lies.knows;
+    sound = lies.sound;
+    can_stop = lies.can_stop ∙ sym same;
+    line = line ∙ lies.line;
+    flies = subst (λ (i : Option InFlight). IsInFlight i p.flight p.state.units) (sym flies) lies.flies;
+  }
+
+  -- it was found
+  pub left-found : (x : Books) → ((a b : Kept) → leaves a b → IsFoundAgain now x a b later after) → Left now again later room p
+  left-found x again-is = found-left now again x here.0 here.1 later after room p (again-is here.0 here.1 here.2) here.3 here.4
+
+  pub found-lies : (x : Books) → ((a b : Kept) → leaves a b → IsFoundAgain now x a b later after) → stoppable ≡ old → single ≡ was → in_flight ≡ flew →
+      Lies now again stoppable later (opening_books after) single in_flight room p
+  found-lies x again-is same line flies = lies-with (left-found x again-is) same line flies
+
+  -- it was not found: it stays as it was
+  pub left-still : later ≡ found → ((a b : Kept) → leaves a b → again a b) → Left now again later room p
+  left-still none more = subst (λ (f : Option Numbers). Left now again f room p) (sym (none ∙ unfound)) (here.0, here.1, more here.0 here.1 here.2, here.3, here.4)
+
+  pub lies-still : later ≡ found → ((a b : Kept) → leaves a b → again a b) → stoppable ≡ old → single ≡ was → in_flight ≡ flew →
+      Lies now again stoppable later (opening_books after) single in_flight room p
+  lies-still none more same line flies = lies-with (left-still none more) same line flies
+
+-- BY WHAT a call answers
+
+module _ {T E : Type 0} where
+  pub either-way : {X : Type 0} (r : Result T E) (A B C : Type 0) → (A → X) → (B → C → X) → OnOk r A → OnErr r B → OnErr r C → X
+  either-way (Ok x) A B C f g a b c = f a
+  either-way (Err e) A B C f g a b c = g b c

@@ -1,0 +1,120 @@
+-- A database is as its opening is, or its engine; and goes from the one to the other.
+use Rattle.salt_ast.specs.declared.lines.Line.{Line}
+use Rattle.salt_books.specs.declared.books.Books.{Books}
+use Rattle.salt_database.specs.Halves.{IsBehind, IsLeftBy, by_half, database_lies, database_sees, opening_lies, opening_sees}
+use Rattle.salt_database.specs.Standing.{AreOpened, OpensIn}
+use Rattle.salt_database.specs.declared.database.Database.{Database}
+use Rattle.salt_database.specs.declared.database.Database.TheVariants.{Closed, Moving, Open}
+use Rattle.salt_database.specs.declared.opening.Opening.{Opening}
+use Rattle.salt_engine.specs.Engines.{engine_lies, engine_sees}
+use Rattle.salt_engine.specs.Flights.{IsInFlight}
+use Rattle.salt_engine.specs.Standing.{KnowsUnits, Left, SeesIn, ServesFrom}
+use Rattle.salt_engine.specs.Stored.{Stored}
+use Rattle.salt_engine.specs.declared.engine.Engine.{Engine}
+use Rattle.salt_engine.specs.declared.flights.InFlight.{InFlight}
+use Rattle.salt_engine.specs.declared.stage.Stage.{Stage}
+use Rattle.salt_engine.specs.declared.stage.Stage.TheVariants as at
+use Rattle.salt_keeps.specs.Points.{Point}
+use Rattle.salt_keeps.specs.States.{State}
+use Rattle.salt_model.specs.Kept.{Kept}
+use Rattle.salt_model.specs.declared.events.Event.{Event}
+use Rattle.salt_recovery.specs.declared.recovery.Recovery.{Recovery}
+use Rattle.salt_scheduler.specs.declared.scheduler.Scheduler.{Scheduler}
+use Rattle.salt_steps.specs.Opening.{OpensAt}
+use Rattle.salt_steps.specs.Standing.{IsAt, IsIdleAt, IsOpeningAt}
+use Rattle.salt_storage.specs.declared.found.Numbers.{Numbers}
+use Rattle.salt_values.specs.declared.id.Id.{Id}
+use Rattle.std.proofs.Common.{ap, refl, subst, sym, ◌∙◌}
+use Rattle.std.specs.Prelude.{Bool, List, None, Option, Some, ℕ, ◌≡◌}
+
+module _ {S : Type 0} (holds : S → Kept → Type 0) (is_new : S → Id → Type 0) (stoppable : Bool) where
+  abbrev of_database : Database S → Option Event → State → Type 0
+  of_database x next s = database_sees holds is_new stoppable x next s
+
+  abbrev of_engine : Engine S → Option Event → State → Type 0
+  of_engine e next s = engine_sees holds is_new stoppable e next s
+
+  abbrev of_opening : Opening S → Option Event → State → Type 0
+  of_opening o next s = opening_sees holds is_new stoppable o next s
+
+  -- IT IS OPEN
+
+  pub open-at : (x : Database S) (e : Engine S) (line : Line) (next : Option Event) (p : Point) → x ≡ Open e → IsAt of_database line x next p → IsAt of_engine line e next p
+  open-at x e line next p is h =
+      record { state = subst (λ (y : Database S). of_database y next p.state) is h.state; comes = h.comes; serves = h.serves; line = h.line }
+
+  pub at-open : (e : Engine S) (line : Line) (next : Option Event) (p : Point) → IsAt of_engine line e next p → IsAt of_database line (Open e) next p
+  at-open e line next p h = record { state = h.state; comes = h.comes; serves = h.serves; line = h.line }
+
+  pub open-idle : (x : Database S) (e : Engine S) (p : Point) → x ≡ Open e → IsIdleAt of_database x p → IsIdleAt of_engine e p
+  open-idle x e p is h = record { state = subst (λ (y : Database S). of_database y None p.state) is h.state; idle = h.idle }
+
+  -- IT IS CLOSED
+
+  pub closed-at : (x : Database S) (o : Opening S) (e : Event) (p : Point) → x ≡ Closed o → IsOpeningAt of_database x (Some e) p → IsOpeningAt of_opening o (Some e) p
+  closed-at x o e p is h =
+      record { state = subst (λ (y : Database S). of_database y (Some e) p.state) is h.state; comes = h.comes; opening = h.opening }
+
+  pub at-closed : (o : Opening S) (e : Event) (p : Point) → IsOpeningAt of_opening o (Some e) p → IsOpeningAt of_database (Closed o) (Some e) p
+  at-closed o e p h = record { state = h.state; comes = h.comes; opening = h.opening }
+
+  pub opens-at : (o : Opening S) (room : ℕ) (p : Point) (story told : List Event) (next : Event) → OpensAt of_opening room p story o next told → OpensAt of_database room p story (Closed o) next told
+  opens-at o room p story told next h = record { has = h.has; stands = at-closed o next h.has.point h.stands; tells = h.tells }
+
+  -- IT IS OPENED: an engine is made of its opening.
+
+  opened-going : (holds : Kept → Type 0) (is_new : Id → Type 0) (stage : Stage Recovery) (s : State) → OpensIn holds is_new stage None s →
+      (x : Recovery) × (stage ≡ at.Going x) × AreOpened x.books s × Stored holds is_new s.units
+  opened-going holds is_new (at.Going x) s h = (x, refl, h.0, h.1)
+  opened-going holds is_new (at.Down books) s h = absurd h
+  opened-going holds is_new at.Lost s h = absurd h
+
+  pub is-opened : (o : Opening S) (s : State) → of_opening o None s → (x : Recovery) × (s : State) × (o.stage ≡ at.Going x) × AreOpened x.books s
+  is-opened o s h = let g = opened-going (holds o.storage) (is_new o.storage) o.stage s h.0.seen in (g.0, s, g.1, g.2)
+
+  pub engine-sees : (o : Opening S) (e : Engine S) (s : State) → e.storage ≡ o.storage → ((x : Recovery) (s : State) → o.stage ≡ at.Going x → AreOpened x.books s → ServesFrom e.stage s) →
+      e.single ≡ o.single → e.in_flight ≡ None → of_opening o None s → of_engine e None s
+  engine-sees o e s stored serves single none h =
+      let g = opened-going (holds o.storage) (is_new o.storage) o.stage s h.0.seen in
+      let f = serves g.0 s g.1 g.2 in
+      record {
+        seen =
+            subst (λ (t : S). SeesIn (holds t) (is_new t) e.stage None s) (sym stored)
+            (subst (λ (k : Stage Scheduler). SeesIn (holds o.storage) (is_new o.storage) k None s) (sym f.1) (f.2, g.3));
+        can_stop = h.0.can_stop;
+        line = single ∙ h.0.line;
+        none = none;
+      }
+
+-- WHAT CAN BE OPENED
+
+module _ {S : Type 0} (holds : S → Kept → Type 0) (leaves : S → Kept → Kept → Type 0) (stoppable : Bool) (room : ℕ) (p : Point) where
+  pub closed-lies : (x : Database S) (o : Opening S) → x ≡ Closed o → database_lies holds leaves stoppable x room p → opening_lies holds leaves stoppable o room p
+  closed-lies x o is h = subst (λ (y : Database S). database_lies holds leaves stoppable y room p) is h
+
+  behind-lies : (e : Engine S) (o : Opening S) → IsBehind e o → engine_lies holds leaves stoppable e room p → opening_lies holds leaves stoppable o room p
+  behind-lies e o b h = record {
+    left =
+        subst (λ (t : S). Left (holds t) (leaves t) o.found room p) (sym b.storage)
+        (subst (λ (f : Option Numbers). Left (holds e.storage) (leaves e.storage) f room p) (sym b.found) h.left);
+    knows = subst (λ (books : Option Books). KnowsUnits books p.state.units) (sym b.books) h.knows;
+    sound = h.sound;
+    can_stop = h.can_stop;
+    line = b.single ∙ h.line;
+    flies = subst (λ (i : Option InFlight). IsInFlight i p.flight p.state.units) (sym b.flies) h.flies;
+  }
+
+  pub left-by : (x : Database S) (o : Opening S) → IsLeftBy x o → database_lies holds leaves stoppable x room p → opening_lies holds leaves stoppable o room p
+  left-by (Closed was) o is h = subst (λ (y : Opening S). opening_lies holds leaves stoppable y room p) (sym is) h
+  left-by (Open e) o b h = behind-lies e o b h
+  left-by Moving o b h = absurd h
+
+-- what is read off the half that it has
+
+pub open-same : {S A : Type 0} (closed : Opening S → A) (served : Engine S → A) (moving : A) (x : Database S) (e now : Engine S) → x ≡ Open e → served now ≡ served e →
+    by_half closed served moving (Open now) ≡ by_half closed served moving x
+open-same closed served moving x e now is same = same ∙ sym (ap (by_half closed served moving) is)
+
+pub closed-same : {S A : Type 0} (closed : Opening S → A) (served : Engine S → A) (moving : A) (x : Database S) (o now : Opening S) → x ≡ Closed o → closed now ≡ closed o →
+    by_half closed served moving (Closed now) ≡ by_half closed served moving x
+closed-same closed served moving x o now is same = same ∙ sym (ap (by_half closed served moving) is)

@@ -1,0 +1,97 @@
+-- What can be opened at a point: at first, and behind a fall.
+use Rattle.salt_books.specs.declared.books.Books.{Books}
+use Rattle.salt_database.proofs.Falling.{flies-fallen, left-fallen}
+use Rattle.salt_database.specs.Finding.{IsFoundAgain, IsNew}
+use Rattle.salt_database.specs.Standing.{opening_books}
+use Rattle.salt_engine.proofs.Halting.{is-left}
+use Rattle.salt_engine.specs.Flights.{IsInFlight}
+use Rattle.salt_engine.specs.Standing.{KnowsUnits, Left, Lies}
+use Rattle.salt_engine.specs.Stored.{IsEither, IsLeft}
+use Rattle.salt_engine.specs.declared.flights.InFlight.{InFlight}
+use Rattle.salt_engine.specs.declared.stage.Stage.{Stage}
+use Rattle.salt_keeps.specs.OpenUnits.{UnitState}
+use Rattle.salt_keeps.specs.Points.{Point}
+use Rattle.salt_keeps.specs.Steps.{units_after}
+use Rattle.salt_known.specs.Known.{IsKnown}
+use Rattle.salt_model.specs.Kept.{Kept}
+use Rattle.salt_model.specs.Turns.{is_statement_line}
+use Rattle.salt_model.specs.declared.events.Event.{Event}
+use Rattle.salt_model.specs.declared.events.Event.TheVariants.{Down}
+use Rattle.salt_model.specs.declared.events.Why.{Why}
+use Rattle.salt_recovery.specs.declared.recovery.Recovery.{Recovery}
+use Rattle.salt_steps.specs.Opening.{IsFallenFrom, IsOpenedFirst}
+use Rattle.salt_storage.specs.Storing.{IsSoundKept}
+use Rattle.salt_storage.specs.declared.found.Numbers.{Numbers}
+use Rattle.std.proofs.Common.{ap, inl, inr, subst, sym, ◌∙◌}
+use Rattle.std.specs.Prelude.{Bool, None, Option, Some, [], refl, ℕ, ◌≡◌}
+
+-- AT FIRST
+
+pub opened-first : (holds : Kept → Type 0) (leaves : Kept → Kept → Type 0) (stoppable : Bool) (found : Option Numbers) (stage : Stage Recovery) (single : Bool)
+    (in_flight : Option InFlight) (k : Kept) → IsNew k found stage single in_flight → holds k → IsSoundKept k →
+    IsOpenedFirst (Lies holds leaves stoppable found (opening_books stage) single in_flight) k stoppable
+opened-first holds leaves stoppable found stage single in_flight k new holding sound p u =
+    let taken = new.taken in
+    let books = taken.fresh p.state.units.phase p.state.units.line in
+    record {
+      left = subst (λ (f : Option Numbers). Left holds leaves f 0 p) (sym taken.is) (k, holding, is-left p k (inl (sym u.kept)), taken.numbered);
+      knows = (
+        taken.books,
+        ap opening_books taken.there,
+        record {
+          units = 0;
+          bases = 0;
+          goes = [];
+          are = record {
+            known = subst (IsKnown taken.books.known) (sym u.kept) books.known;
+            units = books.units ∙ sym u.units;
+            unit_count = books.unit_count;
+            base_count = books.base_count;
+            to_go = books.to_go;
+          };
+          going = inl refl;
+        },
+      );
+      sound = subst IsSoundKept (sym u.kept) sound;
+      can_stop = u.can_stop;
+      line = new.line ∙ sym (ap is_statement_line u.line);
+      flies = subst (λ (i : Option InFlight). IsInFlight i p.flight p.state.units) (sym new.none) u.flight;
+    }
+
+-- BEHIND A FALL the one or the other is found.
+
+pub found-left : (holds : Kept → Type 0) (leaves : Kept → Kept → Type 0) (books : Books) (a b : Kept) (found : Option Numbers) (stage : Stage Recovery) (room : ℕ) (p : Point) →
+    IsFoundAgain holds books a b found stage → IsLeft room p a → IsLeft room p b → Left holds leaves found room p
+found-left holds leaves books a b found stage room p f is_a is_b =
+    subst (λ (n : Option Numbers). Left holds leaves n room p) (sym f.is) (f.kept, f.holding, by f.either, f.numbered)
+  where
+    by : IsEither a b f.kept → IsLeft room p f.kept
+    by (inl e) = subst (IsLeft room p) (sym e) is_a
+    by (inr e) = subst (IsLeft room p) (sym e) is_b
+
+-- WHAT IS LEFT, whether it was found since or not: a stop leaves it
+
+pub left-stops : (holds : Kept → Type 0) (leaves : Kept → Kept → Type 0) (found : Option Numbers) (room : ℕ) (p : Point) → ((k : Kept) → holds k → leaves k k) →
+    Left holds leaves found room p → (a b : Kept) × leaves a b × IsLeft room p a × IsLeft room p b
+left-stops holds leaves None room p stays h = h
+left-stops holds leaves (Some n) room p stays h = (h.0, h.0, stays h.0 h.1, h.2, h.2)
+
+-- BEHIND A DOWN
+
+pub fallen-lies : (holds now : Kept → Type 0) (leaves again : Kept → Kept → Type 0) (old stoppable : Bool) (found : Option Numbers) (books later : Option Books) (single : Bool)
+    (in_flight : Option InFlight) (room : ℕ) (p q : Point) → Lies holds leaves old found books single in_flight room p → IsFallenFrom p q → stoppable ≡ old →
+    ((k : Kept) → holds k → leaves k k) → ((a b : Kept) → leaves a b → again a b) →
+    ((s : UnitState) (why : Why) → KnowsUnits books s → KnowsUnits later (units_after (Down why) s)) → Lies now again stoppable None later single in_flight room q
+fallen-lies holds now leaves again old stoppable found books later single in_flight room p q h fell same stays left knows =
+    let l = left-stops holds leaves found room p stays h.left in
+    let units = fell.after.units in
+    record {
+      left = (l.0, l.1, left l.0 l.1 l.2, left-fallen in_flight room p q l.0 h.flies fell l.3, left-fallen in_flight room p q l.1 h.flies fell l.4);
+      knows = subst (KnowsUnits later) (sym units) (knows p.state.units fell.why h.knows);
+      sound = subst (λ (s : UnitState). IsSoundKept s.kept) (sym units) h.sound;
+      can_stop = fell.after.can_stop ∙ h.can_stop ∙ sym same;
+      line = h.line ∙ sym (ap (λ (s : UnitState). is_statement_line s.line) units);
+      flies =
+          subst (λ (f : Option Event). IsInFlight in_flight f q.state.units) (sym fell.flight)
+          (subst (IsInFlight in_flight p.flight) (sym units) (flies-fallen in_flight p.flight fell.why p.state.units h.flies));
+    }

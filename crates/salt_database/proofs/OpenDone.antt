@@ -1,0 +1,166 @@
+-- A run that is down is opened over what was found, or it is not, and can be opened again.
+use Rattle.salt_books.specs.declared.books.Books.{Books}
+use Rattle.salt_database.proofs.Opened.{FoundAt, found-at, has-opened, opened-by, state}
+use Rattle.salt_database.proofs.OpenedOn.{first-stored}
+use Rattle.salt_database.specs.Finding.{IsOpenedBy, IsOpeningWith}
+use Rattle.salt_database.specs.Standing.{IsFoundStage, OpensIn, opening_books}
+use Rattle.salt_disk.specs.Disks.{HasCause, View}
+use Rattle.salt_engine.proofs.Counted.{cause-lost}
+use Rattle.salt_engine.specs.Flights.{IsInFlight}
+use Rattle.salt_engine.specs.Standing.{IsBrokenStage, KnowUnits, KnowsUnits, Left, Lies, Sees}
+use Rattle.salt_engine.specs.Stored.{IsLeft, IsNumbered, kept_behind, raised}
+use Rattle.salt_engine.specs.declared.flights.InFlight.{InFlight}
+use Rattle.salt_engine.specs.declared.stage.Stage.{Stage}
+use Rattle.salt_engine.specs.declared.stage.Stage.TheVariants as at
+use Rattle.salt_keeps.specs.OpenUnits.{UnitState}
+use Rattle.salt_keeps.specs.Points.{Point}
+use Rattle.salt_keeps.specs.States.{State}
+use Rattle.salt_model.specs.Kept.{Kept}
+use Rattle.salt_model.specs.Phases.{Fallen}
+use Rattle.salt_model.specs.Turns.{is_statement_line}
+use Rattle.salt_model.specs.declared.events.Event.{Event}
+use Rattle.salt_model.specs.declared.events.Event.TheVariants.{Opened}
+use Rattle.salt_recovery.specs.declared.recovery.Recovery.{Recovery}
+use Rattle.salt_stands.specs.Stands.{are_spent}
+use Rattle.salt_steps.specs.Opening.{OpensAt}
+use Rattle.salt_steps.specs.Standing.{IsSoundPoint}
+use Rattle.salt_storage.specs.Answers.{disk_err, disk_err_of}
+use Rattle.salt_storage.specs.Storing.{booted}
+use Rattle.salt_storage.specs.declared.found.Numbers.{Numbers}
+use Rattle.salt_storage.specs.declared.halt.Halt.{Halt}
+use Rattle.salt_storage.specs.declared.halt.Halt.TheVariants.{DeviceFull, Memory}
+use Rattle.salt_values.specs.declared.id.Id.{Id}
+use Rattle.std.proofs.Common.{ap, arith, inl, inr, subst, sym, ◌∙◌}
+use Rattle.std.specs.Prelude.{Bool, Err, IfErr, IfOk, List, None, Ok, OnOk, Option, Result, Some, [], false, refl, ℕ, ◌+◌, ◌++◌, ◌∷◌, ◌≡◌, ◌⊎◌}
+
+-- the books that there are
+pub known-by : (books : Option Books) (x : Books) (s : UnitState) → books ≡ Some x → KnowsUnits books s → KnowUnits x s
+known-by books x s e k =
+    let of : Some x ≡ Some k.0 = sym e ∙ k.1 in
+    let same : x ≡ k.0 = cc in
+    subst (λ (y : Books). KnowUnits y s) (sym same) k.2
+
+-- what was found
+
+pub found-broken : (found : Option Numbers) (stage : Stage Recovery) → IsFoundStage found stage → IsBrokenStage stage
+found-broken (Some n) (at.Down x) h = tt
+found-broken (Some n) (at.Going x) h = absurd h
+found-broken (Some n) at.Lost h = absurd h
+found-broken None stage h = absurd h
+
+pub never-found : (found : Option Numbers) (stage : Stage Recovery) → ((n : Numbers) → found ≡ Some n → ⊥) → IsFoundStage found stage → ⊥
+never-found None stage nowhere h = h
+never-found (Some n) stage nowhere h = nowhere n refl
+
+-- its numbers are not spent
+pub unspent : (n : Numbers) (k : Kept) → IsNumbered n k → are_spent k.boot k.decisions ≡ false
+unspent n k h = (λ i. are_spent (sym h.boot i) (sym h.decisions i)) ∙ h.unspent
+
+-- what is left one boot later, or as it is
+rises : (m : Kept) (n : ℕ) → booted (raised n m) ≡ raised (n + 1) m
+rises m n = let same : m.boot + n + 1 ≡ m.boot + (n + 1) = omega arith in λ i. record m { boot = same i }
+
+pub left-more : (room : ℕ) (p : Point) (k : Kept) → IsLeft room p k → IsLeft (room + 1) p k
+left-more room p k h = record { boots = h.boots; most = let m = h.most in omega arith; is = h.is }
+
+pub left-booted : (room : ℕ) (p : Point) (k : Kept) → IsLeft room p k → IsLeft (room + 1) p (booted k)
+left-booted room p k h = record { boots = h.boots + 1; most = let m = h.most in omega arith; is = by h.is }
+  where
+    later : (m : Kept) → k ≡ raised h.boots m → booted k ≡ raised (h.boots + 1) m
+    later m e = ap booted e ∙ rises m h.boots
+
+    by : (k ≡ raised h.boots p.state.units.kept) ⊎ (k ≡ raised h.boots (kept_behind p.flight p.state.units)) →
+        (booted k ≡ raised (h.boots + 1) p.state.units.kept) ⊎ (booted k ≡ raised (h.boots + 1) (kept_behind p.flight p.state.units))
+    by (inl e) = inl (later p.state.units.kept e)
+    by (inr e) = inr (later (kept_behind p.flight p.state.units) e)
+
+module _ (holds : Kept → Type 0) (leaves : Kept → Kept → Type 0) (old : Bool) (found : Option Numbers) (stage : Stage Recovery) (was : Bool) (flew : Option InFlight) (x : Books)
+    (n : Numbers) (is : found ≡ Some n) (there : stage ≡ at.Down x) (room : ℕ) (p : Point) (lies : Lies holds leaves old found (opening_books stage) was flew room p) where
+  pub found-here : (k : Kept) × holds k × IsLeft room p k × IsNumbered n k
+  found-here = subst (λ (f : Option Numbers). Left holds leaves f room p) is lies.left
+
+  abbrev pub kept-found : Kept
+  kept-found = found-here.0
+
+  pub holding-found : holds kept-found
+  holding-found = found-here.1
+
+  pub unspent-found : are_spent kept-found.boot kept-found.decisions ≡ false
+  unspent-found = unspent n kept-found found-here.3
+
+  pub found-there : FoundAt room p kept-found n.decisions
+  found-there = found-at flew room p n kept-found lies.flies found-here.2 found-here.3
+
+  pub knows-found : KnowUnits x p.state.units
+  knows-found = known-by (opening_books stage) x p.state.units (ap opening_books there) lies.knows
+
+  -- a boot has begun
+  pub begun-by : (sound : IsSoundPoint p) (fallen : p.state.units.phase ≡ Fallen) (boot : ℕ) (next : boot ≡ kept-found.boot + 1) →
+      IsOpenedBy x was flew p.flight boot n.decisions p.state (state p sound fallen room kept-found n.decisions boot found-there next)
+  begun-by sound fallen boot next =
+      opened-by p sound fallen room kept-found n.decisions boot found-there next x was flew knows-found lies.line lies.flies lies.sound
+
+  -- or not
+  pub booted-left : (now : Kept → Type 0) (again : Kept → Kept → Type 0) (later : Option Numbers) (a b : Kept) → later ≡ None → (a ≡ kept-found) ⊎ (a ≡ booted kept-found) →
+      (b ≡ kept-found) ⊎ (b ≡ booted kept-found) → again a b → Left now again later (room + 1) p
+  booted-left now again later a b none is_a is_b left = subst (λ (f : Option Numbers). Left now again f (room + 1) p) (sym none) (a, b, left, one a is_a, one b is_b)
+    where
+      one : (k : Kept) → (k ≡ kept-found) ⊎ (k ≡ booted kept-found) → IsLeft (room + 1) p k
+      one k (inl e) = subst (IsLeft (room + 1) p) (sym e) (left-more room p kept-found found-here.2)
+      one k (inr e) = subst (IsLeft (room + 1) p) (sym e) (left-booted room p kept-found found-here.2)
+
+  pub down-lies : (now : Kept → Type 0) (again : Kept → Kept → Type 0) (stoppable : Bool) (later : Option Numbers) (books : Option Books) (single : Bool) (in_flight : Option InFlight) →
+      later ≡ None → books ≡ Some x → again kept-found (booted kept-found) → stoppable ≡ old → single ≡ was → in_flight ≡ flew →
+      Lies now again stoppable later books single in_flight (room + 1) p
+  down-lies now again stoppable later books single in_flight none stays left same line flies = record {
+    left = booted-left now again later kept-found (booted kept-found) none (inl refl) (inr refl) left;
+    knows = (x, stays, knows-found);
+    sound = lies.sound;
+    can_stop = lies.can_stop ∙ sym same;
+    line = line ∙ lies.line;
+    flies = subst (λ (i : Option InFlight). IsInFlight i p.flight p.state.units) (sym flies) lies.flies;
+  }
+
+-- IT IS OPENED
+
+module _ (p : Point) (sound : IsSoundPoint p) (fallen : p.state.units.phase ≡ Fallen) (room : ℕ) (k : Kept) (number boot : ℕ) (f : FoundAt room p k number)
+    (next_boot : boot ≡ k.boot + 1) where
+  abbrev pub its : State
+  its = state p sound fallen room k number boot f next_boot
+
+  pub opening-sees : (holds : Kept → Type 0) (is_new : Id → Type 0) (old stoppable was single : Bool) (stage : Stage Recovery) (in_flight : Option InFlight) (next : Event) →
+      IsOpeningWith p.flight number its stage next → holds (booted k) → ((u : Id) → u.boot ≡ boot → is_new u) → p.state.can_stop ≡ old → stoppable ≡ old →
+      was ≡ is_statement_line p.state.units.line → single ≡ was → in_flight ≡ None → Sees (OpensIn holds is_new stage) stoppable single in_flight (Some next) its
+  opening-sees holds is_new old stoppable was single stage in_flight next o holding new can same line kept none =
+      let t = o.begins.done.0 in
+      let d = o.begins.done.1 in
+      record {
+        seen =
+            subst (λ (s : Stage Recovery). OpensIn holds is_new s (Some next) its) (sym o.there)
+            (t, d, first-stored p sound fallen room k number boot f next_boot next o.begins.told holds is_new t.units d.after.units holding new, refl);
+        can_stop = can ∙ sym same;
+        line = kept ∙ line;
+        none = none;
+      }
+
+  pub opening-at : {E : Type 0} (sees : E → Option Event → State → Type 0) (e : E) (next : Event) (stage : Stage Recovery) (story told : List Event) → IsOpeningWith p.flight number its stage next →
+      sees e (Some next) its → told ≡ story ++ Opened boot number ∷ [] → OpensAt sees room p story e next told
+  unfolding has-opened
+  opening-at sees e next stage story told o seen tells = record {
+    has = has-opened p sound fallen room k number boot f next_boot;
+    stands = record { state = seen; comes = sym o.begins.told; opening = refl };
+    tells = tells;
+  }
+
+-- BY WHAT a call answers
+
+pub ok-with : {T E : Type 0} (r : Result T E) (P Q : T → Type 0) (A B : Type 0) → ((x : T) → P x → A → B → Q x) → IfOk r P → OnOk r A → OnOk r B → IfOk r Q
+ok-with (Ok x) P Q A B f h a b = f x h a b
+ok-with (Err e) P Q A B f h a b = tt
+
+pub never-full : {T : Type 0} (r : Result T Halt) (dev : ℕ) → IfErr r (λ h. h ≡ Memory) → r ≡ Err (DeviceFull dev) → ⊥
+never-full r dev h is = let memory : DeviceFull dev ≡ Memory = subst (λ (q : Result _ Halt). IfErr q (λ h. h ≡ Memory)) is h in cc
+
+pub memory-cause : {T : Type 0} (old new : View) (r : Result T Halt) → IfErr r (λ h. h ≡ Memory) → HasCause old new None → HasCause old new (disk_err r)
+memory-cause old new (Ok x) h cause = cause
+memory-cause old new (Err e) h cause = subst (λ (q : Halt). HasCause old new (Some (disk_err_of q))) (sym h) (cause-lost old new cause)

@@ -1,0 +1,27 @@
+use Rattle.salt_database.proofs.Halved.{closed-lies, closed-same}
+use Rattle.salt_database.proofs.database.DatabaseOpenable.find.Goals as goal
+
+pub returns-clause-again : goal.returns-clause-again
+returns-clause-again g c = λ other room p sound fallen lies.
+    c.find.ensures.again other room p sound fallen (closed-lies _ _ _ room p c.args.self.now c.in-Closed.opening c.in-Closed.is lies)
+
+pub find-requires-clause-callable : goal.find-requires-clause-callable
+find-requires-clause-callable g c = c.requires.callable
+
+pub find-requires-clause-answers : goal.find-requires-clause-answers
+find-requires-clause-answers g c = c.requires.answers
+
+pub returns-clause-asked : goal.returns-clause-asked
+returns-clause-asked g c = closed-same _ _ _ c.args.self.now c.in-Closed.opening c.find.new.self c.in-Closed.is c.find.ensures.asked
+
+pub returns-clause-shape : goal.returns-clause-shape
+returns-clause-shape g c = c.find.ensures.shape
+
+pub returns-clause-counts : goal.returns-clause-counts
+returns-clause-counts g c = c.find.ensures.counts
+
+pub returns-clause-full : goal.returns-clause-full
+returns-clause-full g c = c.find.ensures.full
+
+pub returns-clause-found : goal.returns-clause-found
+returns-clause-found g c = c.find.ensures.found

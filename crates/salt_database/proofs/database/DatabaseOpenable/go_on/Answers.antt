@@ -1,0 +1,69 @@
+use Rattle.salt_database.proofs.Halved.{at-closed, closed-at, engine-sees, is-opened}
+use Rattle.salt_database.proofs.database.DatabaseOpenable.go_on.Goals as goal
+use Rattle.salt_database.specs.Halves.{opening_sees}
+use Rattle.salt_model.specs.declared.events.Event.{Event}
+use Rattle.salt_steps.specs.Standing.{IsOpenedOn}
+use Rattle.std.proofs.Common.{subst, sym, ◌∙◌}
+use Rattle.std.specs.Prelude.{Option}
+
+pub go_on-requires-clause-stands : goal.go_on-requires-clause-stands
+go_on-requires-clause-stands g c =
+    let s = c.requires.stands in
+    let is = sym c.replace.ensures.value ∙ c.closed-opening.ensures in
+    (s.0, s.1, closed-at _ _ _ c.args.self.now c.closed-opening.result c.args.event s.0 is s.2)
+
+pub into_engine-requires : goal.into_engine-requires
+into_engine-requires g c =
+    let now = g.D.Disks.view c.go_on.new.disks in
+    let s = c.requires.stands in
+    let is = sym c.replace.ensures.value ∙ c.closed-opening.ensures in
+    let m = c.in-Ok-None.ensures.moves s.0 s.1 (closed-at _ _ _ c.args.self.now c.closed-opening.result c.args.event s.0 is s.2) in
+    let sees = opening_sees (g.S.Storage.holds now) (g.S.Storage.is_new now) now.can_stop in
+    let idle = subst (λ (next : Option Event). IsOpenedOn sees c.go_on.new.self next m.0) c.in-Ok-None.field-0-is m.2 in
+    is-opened (g.S.Storage.holds now) (g.S.Storage.is_new now) now.can_stop c.go_on.new.self m.0.state idle.state
+
+pub returns-in-Ok-None-clause-moves : goal.returns-in-Ok-None-clause-moves
+returns-in-Ok-None-clause-moves g c = λ p sound at.
+    let now = g.D.Disks.view c.go_on.new.disks in
+    let is = sym c.replace.ensures.value ∙ c.closed-opening.ensures in
+    let m = c.in-Ok-None.ensures.moves p sound (closed-at _ _ _ c.args.self.now c.closed-opening.result c.args.event p is at) in
+    let sees = opening_sees (g.S.Storage.holds now) (g.S.Storage.is_new now) now.can_stop in
+    let idle = subst (λ (next : Option Event). IsOpenedOn sees c.go_on.new.self next m.0) c.in-Ok-None.field-0-is m.2 in
+    let e = c.into_engine.ensures in (
+      m.0,
+      m.1,
+      record {
+        state =
+            engine-sees (g.S.Storage.holds now) (g.S.Storage.is_new now) now.can_stop c.go_on.new.self c.into_engine.result m.0.state e.storage e.serves e.single e.none idle.state;
+        idle = idle.idle;
+      },
+    )
+
+pub returns-in-Ok-Some-clause-moves : goal.returns-in-Ok-Some-clause-moves
+returns-in-Ok-Some-clause-moves g c = λ p sound at.
+    let now = g.D.Disks.view c.go_on.new.disks in
+    let is = sym c.replace.ensures.value ∙ c.closed-opening.ensures in
+    let m = c.in-Ok-Some.ensures.moves p sound (closed-at _ _ _ c.args.self.now c.closed-opening.result c.args.event p is at) in
+    let sees = opening_sees (g.S.Storage.holds now) (g.S.Storage.is_new now) now.can_stop in
+    let goes = subst (λ (next : Option Event). IsOpenedOn sees c.go_on.new.self next m.0) c.in-Ok-Some.field-0-is m.2 in
+    (m.0, m.1, at-closed (g.S.Storage.holds now) (g.S.Storage.is_new now) now.can_stop c.go_on.new.self c.in-Ok-Some.next m.0 goes)
+
+pub returns-in-Err-clause-halts : goal.returns-in-Err-clause-halts
+returns-in-Err-clause-halts g c = λ p sound at.
+    let is = sym c.replace.ensures.value ∙ c.closed-opening.ensures in
+    c.in-Err.ensures.halts p sound (closed-at _ _ _ c.args.self.now c.closed-opening.result c.args.event p is at)
+
+pub go_on-requires-clause-callable : goal.go_on-requires-clause-callable
+go_on-requires-clause-callable g c = c.requires.callable
+
+pub go_on-requires-clause-answers : goal.go_on-requires-clause-answers
+go_on-requires-clause-answers g c = c.requires.answers
+
+pub returns-in-Ok-None-clause-shape : goal.returns-in-Ok-None-clause-shape
+returns-in-Ok-None-clause-shape g c = c.go_on.ensures.shape
+
+pub returns-in-Ok-Some-clause-shape : goal.returns-in-Ok-Some-clause-shape
+returns-in-Ok-Some-clause-shape g c = c.go_on.ensures.shape
+
+pub returns-in-Err-clause-shape : goal.returns-in-Err-clause-shape
+returns-in-Err-clause-shape g c = c.go_on.ensures.shape

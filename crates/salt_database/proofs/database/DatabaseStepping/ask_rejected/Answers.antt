@@ -1,0 +1,25 @@
+use Rattle.salt_ast.specs.declared.lines.Line.TheVariants.{Nothing}
+use Rattle.salt_database.proofs.Halved.{at-open, open-idle, open-same}
+use Rattle.salt_database.proofs.database.DatabaseStepping.ask_rejected.Goals as goal
+use Rattle.std.proofs.lemmas.Result.{IfErr-weaker, IfOk-weaker}
+
+pub ask_rejected-requires : goal.ask_rejected-requires
+ask_rejected-requires g c = let s = c.requires in (s.0, s.1, open-idle _ _ _ c.args.self.now c.in-Open.engine s.0 c.in-Open.is s.2)
+
+pub returns-clause-moves : goal.returns-clause-moves
+returns-clause-moves g c = IfOk-weaker c.ask_rejected.result _ _ (λ next moves p sound at.
+    let m = moves p sound (open-idle _ _ _ c.args.self.now c.in-Open.engine p c.in-Open.is at) in
+    (m.0, m.1, at-open _ _ _ c.ask_rejected.new.self Nothing next m.0 m.2)) c.ask_rejected.ensures.moves
+
+pub returns-clause-halts : goal.returns-clause-halts
+returns-clause-halts g c =
+    IfErr-weaker c.ask_rejected.result _ _ (λ halt halts p sound at. halts p sound (open-idle _ _ _ c.args.self.now c.in-Open.engine p c.in-Open.is at)) c.ask_rejected.ensures.halts
+
+pub returns-clause-asked : goal.returns-clause-asked
+returns-clause-asked g c = open-same _ _ _ c.args.self.now c.in-Open.engine c.ask_rejected.new.self c.in-Open.is c.ask_rejected.ensures.asked
+
+pub returns-clause-shape : goal.returns-clause-shape
+returns-clause-shape g c = c.ask_rejected.ensures.shape
+
+pub returns-clause-counts : goal.returns-clause-counts
+returns-clause-counts g c = c.ask_rejected.ensures.counts

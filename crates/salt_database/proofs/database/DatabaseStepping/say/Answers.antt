@@ -1,0 +1,31 @@
+use Rattle.salt_database.proofs.Halved.{at-open, open-at, open-same}
+use Rattle.salt_database.proofs.database.DatabaseStepping.say.Goals as goal
+use Rattle.std.proofs.lemmas.Result.{IfOk-weaker}
+
+pub say-requires-clause-stands : goal.say-requires-clause-stands
+say-requires-clause-stands g c =
+    let s = c.requires.stands in
+    (s.0, s.1, open-at _ _ _ c.args.self.now c.in-Open.engine c.args.line.now _ s.0 c.in-Open.is s.2)
+
+pub returns-clause-moves : goal.returns-clause-moves
+returns-clause-moves g c = IfOk-weaker c.say.result _ _ (λ next moves p sound at.
+    let m = moves p sound (open-at _ _ _ c.args.self.now c.in-Open.engine c.args.line.now _ p c.in-Open.is at) in
+    (m.0, m.1, at-open _ _ _ c.say.new.self c.args.line.now next m.0 m.2)) c.say.ensures.moves
+
+pub say-requires-clause-callable : goal.say-requires-clause-callable
+say-requires-clause-callable g c = c.requires.callable
+
+pub say-requires-clause-answers : goal.say-requires-clause-answers
+say-requires-clause-answers g c = c.requires.answers
+
+pub returns-clause-asked : goal.returns-clause-asked
+returns-clause-asked g c = open-same _ _ _ c.args.self.now c.in-Open.engine c.say.new.self c.in-Open.is c.say.ensures.asked
+
+pub returns-clause-shape : goal.returns-clause-shape
+returns-clause-shape g c = c.say.ensures.shape
+
+pub returns-clause-counts : goal.returns-clause-counts
+returns-clause-counts g c = c.say.ensures.counts
+
+pub returns-clause-tells : goal.returns-clause-tells
+returns-clause-tells g c = c.say.ensures.tells

@@ -1,0 +1,147 @@
+use Rattle.salt_database.proofs.GoDone.{comes-ready, done-ready, opening-less, opens-halts, opens-short, opens-there, ready-idles, ready-is, ready-less, ready-sees, says-ready, untold-lost}
+use Rattle.salt_database.proofs.OpeningGoes.{goes-on, opened-on}
+use Rattle.salt_database.proofs.Stages.{opened-at, opens-now}
+use Rattle.salt_database.proofs.opening.Opening.go_on.Goals as goal
+use Rattle.salt_engine.proofs.Counted.{cause-lost, same-cause}
+use Rattle.salt_engine.proofs.LineAsked.{counts-same}
+use Rattle.salt_engine.specs.Standing.{IsGoingStage}
+use Rattle.salt_steps.proofs.Counted.{counts-cause}
+use Rattle.std.proofs.Common.{ap, inl, refl, subst, sym, ◌∙◌}
+use Rattle.std.proofs.lemmas.Result.{err_from_is_err_and}
+use Rattle.std.specs.Prelude.{Some}
+
+pub going-recovery-requires : goal.going-recovery-requires
+going-recovery-requires g c =
+    let p = c.requires.stands.0 in
+    let at = c.requires.stands.2 in
+    subst IsGoingStage (sym c.replace.ensures.value) (opens-now _ _ c.args.self.now.stage (Some c.args.event) p.state at.state.0.seen)
+
+pub go_on_in_opening-requires-clause-none : goal.go_on_in_opening-requires-clause-none
+go_on_in_opening-requires-clause-none g c = c.requires.stands.2.state.0.none
+
+pub go_on_in_opening-requires-clause-stands : goal.go_on_in_opening-requires-clause-stands
+go_on_in_opening-requires-clause-stands g c =
+    let p = c.requires.stands.0 in
+    let at = c.requires.stands.2 in
+    let there = sym c.replace.ensures.value ∙ c.going-recovery.ensures in
+    let going = sym c.is_ready-ready.ensures ∙ c.if-ready.false in
+    let h = opened-at _ _ _ _ _ p.state there at.state.0.seen in
+    (h.0, goes-on c.going-recovery.result c.args.event p c.requires.stands.1 h.0 h.1 at.comes going _ _ h.2)
+
+pub returns-then-ready-clause-moves : goal.returns-then-ready-clause-moves
+returns-then-ready-clause-moves g c = λ p sound at.
+    let there = sym c.replace.ensures.value ∙ c.going-recovery.ensures in
+    let x = c.going-recovery.result in
+    let e = c.args.event in
+    let is = ready-is e (sym c.is_ready-ready.ensures ∙ c.if-ready.true) in
+    let h = opened-at _ _ _ _ _ p.state there at.state.0.seen in
+    let d = done-ready x e p.state h.0 is h.1 in
+    let comes = comes-ready p e is at.comes in
+    says-ready _ _ e p is (ready-idles x p sound h.0 d comes at.opening _ _
+    (ready-sees x p sound h.0 d comes at.opening _ _ _ _ _ _ _ _ refl h.2 at.state.0.can_stop refl at.state.0.line refl at.state.0.none, at.state.1))
+
+pub returns-then-ready-clause-less : goal.returns-then-ready-clause-less
+returns-then-ready-clause-less g c =
+    ready-less _ _ c.going-recovery.result c.going-recovery.result c.args.event (sym c.replace.ensures.value ∙ c.going-recovery.ensures) (ready-is c.args.event (sym c.is_ready-ready.ensures ∙ c.if-ready.true)) refl
+
+pub returns-then-ready-clause-counts : goal.returns-then-ready-clause-counts
+returns-then-ready-clause-counts g c = counts-same _ 0 refl
+
+pub returns-in_ok-go_on_in_opening-clause-moves : goal.returns-in_ok-go_on_in_opening-clause-moves
+returns-in_ok-go_on_in_opening-clause-moves g c = λ p sound at.
+    let there = sym c.replace.ensures.value ∙ c.going-recovery.ensures in
+    let x = c.going-recovery.result in
+    let e = c.args.event in
+    let going = sym c.is_ready-ready.ensures ∙ c.if-ready.false in
+    let h = opened-at _ _ _ _ _ p.state there at.state.0.seen in
+    let d = c.in_ok-go_on_in_opening.ensures.comes h.0 (goes-on x e p sound h.0 h.1 at.comes going _ _ h.2) in
+    opens-there x e p sound h.0 h.1 at.comes going _ _ _ (
+      (opened-on x e p sound h.0 h.1 at.comes going _ _ _ _ _ _ _ _ _ d at.state.0.can_stop c.go_on_in_opening.ensures.stays.shape.can_stop at.state.0.line (ap (λ n. n.0) c.go_on_in_opening.ensures.stays.noted)).0,
+      (ap (λ n. n.1) c.go_on_in_opening.ensures.stays.noted) ∙ at.state.1,
+    ) d.told
+
+pub returns-in_ok-go_on_in_opening-clause-less : goal.returns-in_ok-go_on_in_opening-clause-less
+returns-in_ok-go_on_in_opening-clause-less g c =
+    let p = c.requires.stands.0 in
+    let sound = c.requires.stands.1 in
+    let at = c.requires.stands.2 in
+    let there = sym c.replace.ensures.value ∙ c.going-recovery.ensures in
+    let x = c.going-recovery.result in
+    let e = c.args.event in
+    let going = sym c.is_ready-ready.ensures ∙ c.if-ready.false in
+    let h = opened-at _ _ _ _ _ p.state there at.state.0.seen in
+    let d = c.in_ok-go_on_in_opening.ensures.comes h.0 (goes-on x e p sound h.0 h.1 at.comes going _ _ h.2) in
+    opening-less _ _ _ _ x e _ p sound h.0 h.1 at.comes going there d.sees (c.stands.ensures.sound h.0.units.kept h.2.holding) d.told
+
+pub returns-in_ok-go_on_in_opening-clause-counts : goal.returns-in_ok-go_on_in_opening-clause-counts
+returns-in_ok-go_on_in_opening-clause-counts g c = counts-cause _ _ _ 0 refl c.in_ok-go_on_in_opening.ensures.cause
+
+pub returns-in_err-go_on_in_opening-clause-halts : goal.returns-in_err-go_on_in_opening-clause-halts
+returns-in_err-go_on_in_opening-clause-halts g c =
+    let q = err_from_is_err_and c.from_residual-in_err-go_on_in_opening.result c.from_residual-in_err-go_on_in_opening.ensures.1 in
+    rw (q.1, q.2) (λ p sound at.
+    let there = sym c.replace.ensures.value ∙ c.going-recovery.ensures in
+    let x = c.going-recovery.result in
+    let e = c.args.event in
+    let going = sym c.is_ready-ready.ensures ∙ c.if-ready.false in
+    let h = opened-at _ _ _ _ _ p.state there at.state.0.seen in
+    let b = c.in_err-go_on_in_opening.ensures.comes h.0 (goes-on x e p sound h.0 h.1 at.comes going _ _ h.2) in
+    opens-halts x e p sound h.0 h.1 at.comes going _ _ _ _ _ _ _ ((ap (λ n. n.1) c.go_on_in_opening.ensures.stays.noted) ∙ at.state.1) _ _ _ _ c.args.story.now c.push.new.self b at.state.0.can_stop c.go_on_in_opening.ensures.stays.shape.can_stop at.state.0.line
+    (ap (λ n. n.0) c.go_on_in_opening.ensures.stays.noted) (c.stands.ensures.sound h.0.units.kept h.2.holding) c.in_ok-push.ensures.ok)
+
+pub returns-in_err-go_on_in_opening-clause-counts : goal.returns-in_err-go_on_in_opening-clause-counts
+returns-in_err-go_on_in_opening-clause-counts g c =
+    let q = err_from_is_err_and c.from_residual-in_err-go_on_in_opening.result c.from_residual-in_err-go_on_in_opening.ensures.1 in
+    rw (q.1, q.2) (counts-cause _ _ _ 0 refl c.in_err-go_on_in_opening.ensures.cause)
+
+pub returns-in_err-push-clause-halts : goal.returns-in_err-push-clause-halts
+returns-in_err-push-clause-halts g c =
+    let q = err_from_is_err_and c.from_residual.result c.from_residual.ensures.1 in
+    rw (q.1, q.2) (λ p sound at.
+    let there = sym c.replace.ensures.value ∙ c.going-recovery.ensures in
+    let h = opened-at _ _ _ _ _ p.state there at.state.0.seen in
+    untold-lost c.going-recovery.result c.args.event p sound h.0 h.1 at.comes at.opening _ _ _ _ _ at.state.1 _ _ _ c.args.story.now c.push.new.self
+    (c.stands.ensures.stays h.0.units.kept h.2.holding) (record { there = c.replace.ensures.after; none = at.state.0.none }) c.in_err-push.ensures.err)
+
+pub returns-in_err-push-clause-counts : goal.returns-in_err-push-clause-counts
+returns-in_err-push-clause-counts g c =
+    let q = err_from_is_err_and c.from_residual.result c.from_residual.ensures.1 in
+    rw (q.1, q.2) (counts-cause _ _ _ 0 refl (cause-lost _ _ (same-cause (g.D.Disks.view c.args.disks.now))))
+
+pub returns-in_err-go_on_in_opening-clause-short : goal.returns-in_err-go_on_in_opening-clause-short
+returns-in_err-go_on_in_opening-clause-short g c =
+    let q = err_from_is_err_and c.from_residual-in_err-go_on_in_opening.result c.from_residual-in_err-go_on_in_opening.ensures.1 in
+    rw q.1 (λ p sound at.
+    let there = sym c.replace.ensures.value ∙ c.going-recovery.ensures in
+    let x = c.going-recovery.result in
+    let e = c.args.event in
+    let going = sym c.is_ready-ready.ensures ∙ c.if-ready.false in
+    let h = opened-at _ _ _ _ _ p.state there at.state.0.seen in
+    opens-short x e p sound h.0 h.1 at.comes going c.args.story.now c.push.new.self c.args.steps.now c.go_on_in_opening.new.steps
+    (c.in_err-go_on_in_opening.ensures.short h.0 (goes-on x e p sound h.0 h.1 at.comes going _ _ h.2)) c.in_ok-push.ensures.ok)
+
+pub returns-in_err-push-clause-short : goal.returns-in_err-push-clause-short
+returns-in_err-push-clause-short g c =
+    let q = err_from_is_err_and c.from_residual.result c.from_residual.ensures.1 in
+    rw q.1 (λ p sound at. inl refl)
+
+pub returns-in_ok-go_on_in_opening-clause-asked : goal.returns-in_ok-go_on_in_opening-clause-asked
+returns-in_ok-go_on_in_opening-clause-asked g c = c.go_on_in_opening.ensures.stays.asked
+
+pub returns-in_ok-go_on_in_opening-clause-shape : goal.returns-in_ok-go_on_in_opening-clause-shape
+returns-in_ok-go_on_in_opening-clause-shape g c = c.go_on_in_opening.ensures.stays.shape
+
+pub returns-in_err-go_on_in_opening-clause-asked : goal.returns-in_err-go_on_in_opening-clause-asked
+returns-in_err-go_on_in_opening-clause-asked g c = c.go_on_in_opening.ensures.stays.asked
+
+pub returns-in_err-go_on_in_opening-clause-shape : goal.returns-in_err-go_on_in_opening-clause-shape
+returns-in_err-go_on_in_opening-clause-shape g c = c.go_on_in_opening.ensures.stays.shape
+
+pub go_on_in_opening-requires-clause-callable : goal.go_on_in_opening-requires-clause-callable
+go_on_in_opening-requires-clause-callable g c = c.requires.callable
+
+pub go_on_in_opening-requires-clause-answers : goal.go_on_in_opening-requires-clause-answers
+go_on_in_opening-requires-clause-answers g c = c.requires.answers
+
+pub go_on_in_opening-requires-clause-lost : goal.go_on_in_opening-requires-clause-lost
+go_on_in_opening-requires-clause-lost g c = c.replace.ensures.after

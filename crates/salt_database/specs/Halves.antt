@@ -1,0 +1,86 @@
+-- What an opening, and a database that is one or an engine, stand for, over storages.
+use Rattle.salt_database.specs.Standing.{OpensIn, opening_books}
+use Rattle.salt_database.specs.declared.database.Database.{Database}
+use Rattle.salt_database.specs.declared.database.Database.TheVariants.{Closed, Moving, Open}
+use Rattle.salt_database.specs.declared.opening.Opening.{Opening}
+use Rattle.salt_engine.specs.Engines.{engine_left, engine_lies, engine_sees}
+use Rattle.salt_engine.specs.Flights.{flight_of}
+use Rattle.salt_engine.specs.Standing.{Left, Lies, Sees, serving_books}
+use Rattle.salt_engine.specs.declared.engine.Engine.{Engine}
+use Rattle.salt_keeps.specs.Points.{Point}
+use Rattle.salt_keeps.specs.States.{State}
+use Rattle.salt_model.specs.Kept.{Kept}
+use Rattle.salt_model.specs.declared.events.Event.{Event}
+use Rattle.salt_model.specs.declared.events.Flight.{Flight}
+use Rattle.salt_values.specs.declared.id.Id.{Id}
+use Rattle.salt_values.specs.declared.placement.PlaceKind.TheVariants.{Remainder}
+use Rattle.salt_values.specs.declared.placement.Shape.{Shape}
+use Rattle.std.specs.Prelude.{Bool, None, Option, Some, ℕ, ⊤, ◌≡◌}
+
+-- AN OPENING
+
+abbrev pub opening_sees : {S : Type 0} → (holds : S → Kept → Type 0) (is_new : S → Id → Type 0) → Bool → Opening S → Option Event → State → Type 0
+opening_sees holds is_new stoppable o next s = Sees (OpensIn (holds o.storage) (is_new o.storage) o.stage) stoppable o.single o.in_flight next s × (o.found ≡ None)
+
+abbrev pub opening_lies : {S : Type 0} → (holds : S → Kept → Type 0) (leaves : S → Kept → Kept → Type 0) → Bool → Opening S → ℕ → Point → Type 0
+opening_lies holds leaves stoppable o room p = Lies (holds o.storage) (leaves o.storage) stoppable o.found (opening_books o.stage) o.single o.in_flight room p
+
+abbrev pub opening_left : {S : Type 0} → (holds : S → Kept → Type 0) (leaves : S → Kept → Kept → Type 0) → Opening S → ℕ → Point → Type 0
+opening_left holds leaves o room p = Left (holds o.storage) (leaves o.storage) o.found room p
+
+-- A DATABASE is closed, and opened by an opening, or open, and served by an engine.
+
+abbrev pub by_half : {S A : Type 0} → (Opening S → A) → (Engine S → A) → A → Database S → A
+by_half closed served moving (Closed o) = closed o
+by_half closed served moving (Open e) = served e
+by_half closed served moving Moving = moving
+
+abbrev pub IfEither : {S : Type 0} → (Opening S → Type 0) → (Engine S → Type 0) → Database S → Type 0
+IfEither P Q (Closed o) = P o
+IfEither P Q (Open e) = Q e
+IfEither P Q Moving = ⊥
+
+abbrev pub IfClosed : {S : Type 0} → (Opening S → Type 0) → Database S → Type 0
+IfClosed P (Closed o) = P o
+IfClosed P x = ⊥
+
+abbrev pub database_flight : {S : Type 0} → Database S → Option Flight
+database_flight x = by_half (λ o. flight_of o.in_flight) (λ e. flight_of e.in_flight) None x
+
+-- it is the one or the other
+abbrev pub IsMade : {S : Type 0} → Database S → Type 0
+IsMade Moving = ⊥
+IsMade x = ⊤
+
+-- an opening of what an engine has left: its storage, its books and what is in flight
+pub record IsBehind {S : Type 0} (e : Engine S) (o : Opening S) : Type 0 where
+  pub storage : o.storage ≡ e.storage
+  pub books : opening_books o.stage ≡ serving_books e.stage
+  pub found : o.found ≡ None
+  pub single : o.single ≡ e.single
+  pub flies : o.in_flight ≡ e.in_flight
+
+-- what is opened behind a fall
+abbrev pub IsLeftBy : {S : Type 0} → Database S → Opening S → Type 0
+IsLeftBy (Closed was) o = o ≡ was
+IsLeftBy (Open e) o = IsBehind e o
+IsLeftBy Moving o = ⊥
+
+-- the shape of one that is neither
+abbrev pub no_shape : Shape
+no_shape = record { parts = 1; kind = Remainder }
+
+abbrev pub database_sees : {S : Type 0} → (holds : S → Kept → Type 0) (is_new : S → Id → Type 0) → Bool → Database S → Option Event → State → Type 0
+database_sees holds is_new stoppable (Open e) next s = engine_sees holds is_new stoppable e next s
+database_sees holds is_new stoppable (Closed o) (Some e) s = opening_sees holds is_new stoppable o (Some e) s
+database_sees holds is_new stoppable x next s = ⊥
+
+abbrev pub database_lies : {S : Type 0} → (holds : S → Kept → Type 0) (leaves : S → Kept → Kept → Type 0) → Bool → Database S → ℕ → Point → Type 0
+database_lies holds leaves stoppable (Open e) room p = engine_lies holds leaves stoppable e room p
+database_lies holds leaves stoppable (Closed o) room p = opening_lies holds leaves stoppable o room p
+database_lies holds leaves stoppable Moving room p = ⊥
+
+abbrev pub database_left : {S : Type 0} → (holds : S → Kept → Type 0) (leaves : S → Kept → Kept → Type 0) → Database S → ℕ → Point → Type 0
+database_left holds leaves (Open e) room p = engine_left holds leaves e room p
+database_left holds leaves (Closed o) room p = opening_left holds leaves o room p
+database_left holds leaves Moving room p = ⊥

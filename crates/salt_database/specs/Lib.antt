@@ -1,0 +1,4 @@
+pub mod Standing
+pub mod Performing
+pub mod Finding
+pub mod Halves

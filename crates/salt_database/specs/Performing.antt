@@ -1,0 +1,34 @@
+-- What is to come in an opening is performed, over the recovery that has chosen it.
+use Rattle.salt_books.specs.Coming.{event_meant}
+use Rattle.salt_books.specs.declared.coming.Coming.{Coming}
+use Rattle.salt_engine.specs.Performing.{IsPlayedBefore, StoredAt, is_prepared}
+use Rattle.salt_engine.specs.Stored.{Stored}
+use Rattle.salt_keeps.specs.States.{State}
+use Rattle.salt_model.specs.Kept.{Kept}
+use Rattle.salt_model.specs.Phases as phases
+use Rattle.salt_model.specs.declared.events.Event.{Event}
+use Rattle.salt_openings.specs.Draining.{statements_at}
+use Rattle.salt_recovery.specs.Follows.{comes_behind}
+use Rattle.salt_recovery.specs.Recovering as recovering
+use Rattle.salt_recovery.specs.declared.recovery.Recovery.{Recovery}
+use Rattle.salt_values.specs.declared.id.Id.{Id}
+use Rattle.std.specs.Prelude.{IsSome, Option, false, ℕ, ◌+◌, ◌≡◌, ◌⊎◌}
+
+-- a recovery is ready for an event of its opening, over a storage that holds what its state keeps
+pub record IsToOpen (holds : Kept → Type 0) (is_new : Id → Type 0) (x : Recovery) (c : Coming) (s : State) : Type 0 where
+  pub played : IsPlayedBefore (event_meant s.units c) s
+  pub opens : s.units.phase ≡ phases.Opening
+  pub comes : IsSome (event_meant s.units c)
+  pub plain : is_prepared (event_meant s.units c) ≡ false
+  pub ready : recovering.IsReady x s c
+  pub stored : StoredAt holds is_new c s
+
+-- a recovery stands for a state behind an event of an opening, and what comes behind that comes next
+pub record GoesOnOpening (holds : Kept → Type 0) (is_new : Id → Type 0) (x : Recovery) (s : State) : Type 0 where
+  pub played : IsPlayedBefore (comes_behind x.behind s.units) s
+  pub stands : recovering.Stands x s
+  pub stored : Stored holds is_new s.units
+
+-- a step was taken where what was meant is a statement, or it was not come to
+abbrev pub MayStep : Option Event → (old new : ℕ) → Type 0
+MayStep meant old new = (new ≡ old) ⊎ (new ≡ old + statements_at meant)

@@ -1,0 +1,66 @@
+-- What an opening stands for: a state, over a storage that holds what that keeps; and what it finds to be opened.
+use Rattle.salt_books.specs.Books.{AreBooks, seen}
+use Rattle.salt_books.specs.declared.books.Books.{Books}
+use Rattle.salt_engine.specs.Standing.{books_in}
+use Rattle.salt_engine.specs.Stored.{Stored}
+use Rattle.salt_engine.specs.declared.stage.Stage.{Stage}
+use Rattle.salt_engine.specs.declared.stage.Stage.TheVariants.{Down, Going}
+use Rattle.salt_keeps.specs.States.{State}
+use Rattle.salt_keeps.specs.Watches.{empty_watch}
+use Rattle.salt_model.specs.Kept.{Kept}
+use Rattle.salt_model.specs.Phases as phases
+use Rattle.salt_model.specs.declared.events.Event.{Event}
+use Rattle.salt_model.specs.declared.events.Event.TheVariants.{Ready}
+use Rattle.salt_openings.specs.Draining.{done_now, is_earlier, opening_stage, rests_of}
+use Rattle.salt_recovery.specs.Recovering as recovering
+use Rattle.salt_recovery.specs.declared.recovery.Recovery.{Recovery}
+use Rattle.salt_storage.specs.declared.found.Numbers.{Numbers}
+use Rattle.salt_values.specs.declared.id.Id.{Id}
+use Rattle.std.specs.List.{filter}
+use Rattle.std.specs.Prelude.{Bool, None, Option, Some, [], false, length, map, true, ℕ, ⊤, ◌*◌, ◌+◌, ◌-◌, ◌≡◌}
+
+-- the books of an opening that is done: behind its Ready nothing is open and nothing is watched, and no accepted program is unfinished
+pub record AreOpened (x : Books) (s : State) : Type 0 where
+  pub books : AreBooks x s.units
+  pub units : s.units.units ≡ []
+  pub bases : s.units.base_count ≡ 0
+  pub conts : s.units.kept.conts ≡ []
+  pub to_go : s.units.to_go ≡ []
+  pub watch : s.watch ≡ empty_watch 0
+
+-- of a recovery, an opening goes on, or is done
+abbrev pub OpensIn : (holds : Kept → Type 0) (is_new : Id → Type 0) → Stage Recovery → Option Event → State → Type 0
+OpensIn holds is_new (Going x) None s = AreOpened x.books s × Stored holds is_new s.units
+OpensIn holds is_new (Going x) (Some e) s = (t : State) × recovering.HasDone x e s t × Stored holds is_new t.units × (s.units.phase ≡ phases.Opening)
+OpensIn holds is_new stage next s = ⊥
+
+-- what the storage holds is found, and no boot has begun over it
+abbrev pub IsFoundStage : Option Numbers → Stage Recovery → Type 0
+IsFoundStage (Some n) (Down x) = ⊤
+IsFoundStage found stage = ⊥
+
+-- the books that it has
+abbrev pub opening_books : Stage Recovery → Option Books
+opening_books stage = books_in (λ (x : Recovery). x.books) stage
+
+-- for it to be opened: what the storage holds is found, or it was broken off, and a stop has left something there
+abbrev pub CanFind : (settled : Type 0) (leaves : Kept → Kept → Type 0) → Option Numbers → Stage Recovery → Type 0
+CanFind settled leaves (Some n) (Down x) = ⊤
+CanFind settled leaves None (Down x) = settled × ((a b : Kept) × leaves a b)
+CanFind settled leaves found stage = ⊥
+
+-- WHAT IS STILL TO COME.
+
+-- the units that an opening has still to cut, and the statements that it may still do, by its books
+abbrev pub left_by : Books → ℕ
+left_by x =
+    let units = map seen x.units.items in
+    length (filter (is_earlier x.known.boot) units) + (rests_of x.known.catalogue x.known.conts - done_now x.known.boot units)
+
+abbrev pub left_in : Stage Recovery → Option Event → ℕ
+left_in (Going x) (Some e) = 8 * left_by x.books + opening_stage e
+left_in stage next = 0
+
+abbrev pub is_ready : Event → Bool
+is_ready Ready = true
+is_ready e = false

@@ -1,0 +1,87 @@
+//! A boot begins over what was found.
+
+ghost use Rattle.salt_database.specs.Finding.{BeginsOpening, Flies, IsOpenedBy, Rests, RestsOrFlies, first_in};
+ghost use Rattle.salt_keeps.specs.States.{State};
+ghost use Rattle.salt_model.specs.declared.events.Event.{Event};
+ghost use Rattle.salt_recovery.specs.Follows.{rest_in};
+ghost use Rattle.salt_recovery.specs.Recovering.{Gives};
+ghost use Rattle.std.specs.Prelude.{IfOk, Option, Some};
+
+use salt_books::{Books, Coming};
+use salt_engine::InFlight;
+use salt_model::Event;
+use salt_recovery::Recovery;
+use std::alloc::{AllocError, Global};
+
+/// The decision that was in flight stands: it is told.
+fn flown(recovery: &mut Recovery, in_flight: &InFlight) -> Result<Event, AllocError>
+    requires { (s : State) × (f : Event) × Flies recovery.old in_flight.now f s }
+    ensures { IfOk result (λ e. (s : State) (f : Event) → Flies recovery.old in_flight.now f s → Gives s (Some f) recovery.new (Some e)) }
+{
+    match in_flight {
+        InFlight::Commit(unit) => {
+            let made = recovery.books().move_of_commit(*unit)?;
+            recovery.committed(*unit, made)
+        }
+        InFlight::Branch { unit, base, cause } => {
+            let made = recovery.books().move_of_branch(*unit)?;
+            recovery.branched(*unit, *base, *cause, made)
+        }
+        InFlight::Table { def, .. } => recovery.table_defined(def),
+        InFlight::Program { def, .. } => recovery.program_defined(def),
+    }
+}
+
+/// No decision in flight stands: a unit is cut, or a program goes on, or the opening is done.
+fn resting(recovery: &mut Recovery) -> Result<Event, AllocError>
+    requires { (s : State) × Rests recovery.old s }
+    ensures { IfOk result (λ e. (s : State) → Rests recovery.old s → Gives s (rest_in s.units) recovery.new (Some e)) }
+{
+    let coming = recovery.opened()?;
+    match coming {
+        Coming::Told(event) => Ok(event),
+        _ => unreachable!(),
+    }
+}
+
+/// The first event of an opening, where the decision number that was found is above the last that is known, or not.
+fn first(
+    recovery: &mut Recovery,
+    in_flight: &Option<InFlight>,
+    later: bool,
+) -> Result<Event, AllocError>
+    requires { (s : State) × (f : Option Event) × RestsOrFlies recovery.old in_flight.now f s }
+    ensures { IfOk result (λ e. (s : State) (f : Option Event) → RestsOrFlies recovery.old in_flight.now f s → Gives s (first_in later f s.units) recovery.new (Some e)) }
+{
+    match in_flight {
+        Some(in_flight) => {
+            if later {
+                flown(recovery, in_flight)
+            } else {
+                resting(recovery)
+            }
+        }
+        None => resting(recovery),
+    }
+}
+
+/// Behind an Opened with this boot and this decision number: the recovery, and the first event, which it has done.
+pub fn begin(
+    alloc: Global,
+    books: Books,
+    single: bool,
+    in_flight: &Option<InFlight>,
+    boot: u64,
+    number: u64,
+) -> Result<(Recovery, Event), AllocError>
+    requires { (f : Option Event) × (old : State) × (new : State) × IsOpenedBy books single in_flight.now f boot number old new }
+    ensures { IfOk result (λ r. (f : Option Event) (old new : State) → IsOpenedBy books single in_flight.now f boot number old new
+        → BeginsOpening f number new r.0 r.1) }
+{
+    let mut books = books;
+    let later = number > books.known().decisions();
+    books.begin_boot(boot);
+    let mut recovery = Recovery::new(alloc, books, single);
+    let first = first(&mut recovery, in_flight, later)?;
+    Ok((recovery, first))
+}

@@ -1,0 +1,94 @@
+//! What the storage holds is found again behind a fall, and opened.
+
+ghost use Rattle.salt_books.specs.declared.books.Books.{Books};
+ghost use Rattle.salt_database.specs.Finding.{IsFoundAgain, IsOpenedBy, IsOpeningWith};
+ghost use Rattle.salt_disk.specs.Disks.{HasCause, SameShape};
+ghost use Rattle.salt_engine.specs.Standing.{IsBrokenStage};
+ghost use Rattle.salt_engine.specs.declared.stage.Stage.TheVariants.{Down, Lost};
+ghost use Rattle.salt_keeps.specs.States.{State};
+ghost use Rattle.salt_model.specs.Kept.{Kept};
+ghost use Rattle.salt_model.specs.declared.events.Event.{Event};
+ghost use Rattle.salt_storage.specs.Answers.{MayFail, open_disk_err};
+ghost use Rattle.salt_storage.specs.declared.halt.Halt.TheVariants.{DeviceFull, Memory};
+ghost use Rattle.salt_storage.specs.declared.open.OpenErr.{OpenErr};
+ghost use Rattle.salt_values.specs.Placement.{GivesPlaceOf, TakesEachKey};
+ghost use Rattle.std.specs.Prelude.{Err, IfErr, IfOk, None, OnErr, OnOk, Option, ℕ, [], ◌++◌, ◌∷◌, ◌≡◌};
+
+use crate::beginning::begin;
+use crate::opening::Opening;
+use salt_books::Books;
+use salt_disk::Disks;
+use salt_engine::Stage;
+use salt_model::{Event, Story};
+use salt_storage::{Halt, OpenErr, Storage};
+use salt_values::{Key, PlaceKind, Placement};
+
+impl<S: Storage> Opening<S> {
+    /// Finds behind a fall what the storage holds: the books stay.
+    pub(crate) fn find_behind<D: Disks, F: Fn(PlaceKind, &Key, u32) -> u32>(
+        &mut self,
+        disks: &mut D,
+        place: &Placement<F>,
+    ) -> Result<(), OpenErr>
+        requires callable { TakesEachKey (F.pre place.now.place) }
+        requires answers { GivesPlaceOf (F.post place.now.place) }
+        requires settled { S.settled (D.view disks.old) self.old.storage }
+        requires down { IsBrokenStage self.old.stage }
+        requires left { (a b : Kept) × S.leaves (D.view disks.old) self.old.storage a b }
+        ensures found { OnOk result ((x : Books) (a b : Kept) → self.old.stage ≡ Down x → S.leaves (D.view disks.old) self.old.storage a b →
+            IsFoundAgain (S.holds (D.view disks.new) self.new.storage) x a b self.new.found self.new.stage) }
+        ensures stage { self.new.stage ≡ self.old.stage }
+        ensures unfound { OnErr result (self.new.found ≡ self.old.found) }
+        ensures leaves { OnErr result ((a b : Kept) → S.leaves (D.view disks.old) self.old.storage a b → S.leaves (D.view disks.new) self.new.storage a b) }
+        ensures known { IfErr result (λ e. (a b : Kept) → S.leaves (D.view disks.old) self.old.storage a b → MayFail a b e) }
+        ensures full { (dev : ℕ) → result ≡ Err (OpenErr.Halted (DeviceFull dev)) → ⊥ }
+        ensures single { self.new.single ≡ self.old.single }
+        ensures flies { self.new.in_flight ≡ self.old.in_flight }
+        ensures asked { S.asked self.new.storage ≡ S.asked self.old.storage }
+        ensures shape { SameShape (D.view disks.old) (D.view disks.new) }
+        ensures cause { HasCause (D.view disks.old) (D.view disks.new) (open_disk_err result) }
+    {
+        let numbers = self.storage.reopen(disks, place)?;
+        self.found = Some(numbers);
+        Ok(())
+    }
+
+    /// A boot of this number has begun: its first event is done, and the Opened is told. An error leaves the story as it was.
+    pub(crate) fn open_boot(
+        &mut self,
+        books: Books,
+        boot: u64,
+        number: u64,
+        story: &mut Story,
+    ) -> Result<Event, Halt>
+        requires lost { self.old.stage ≡ Lost }
+        requires opened { (f : Option Event) × (old : State) × (new : State) × IsOpenedBy books self.old.single self.old.in_flight f boot number old new }
+        ensures opens { IfOk result (λ e. (f : Option Event) (old new : State) → IsOpenedBy books self.old.single self.old.in_flight f boot number old new
+            → IsOpeningWith f number new self.new.stage e) }
+        ensures none { OnOk result (self.new.in_flight ≡ None) }
+        ensures tells { OnOk result (story.new ≡ story.old ++ Event.Opened boot number ∷ []) }
+        ensures memory { IfErr result (λ halt. halt ≡ Memory) }
+        ensures lost { OnErr result (self.new.stage ≡ Lost) }
+        ensures flies { OnErr result (self.new.in_flight ≡ self.old.in_flight) }
+        ensures untold { OnErr result (story.new ≡ story.old) }
+        ensures storage { self.new.storage ≡ self.old.storage }
+        ensures found { self.new.found ≡ self.old.found }
+        ensures single { self.new.single ≡ self.old.single }
+    {
+        let (recovery, first) = begin(
+            self.alloc,
+            books,
+            self.single,
+            &self.in_flight,
+            boot,
+            number,
+        )?;
+        story.push(Event::Opened {
+            boot,
+            decisions: number,
+        })?;
+        self.in_flight = None;
+        self.stage = Stage::Going(recovery);
+        Ok(first)
+    }
+}

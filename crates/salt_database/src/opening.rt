@@ -1,0 +1,124 @@
+//! An opening: what stands over a storage before an engine is made over it.
+
+ghost use Rattle.salt_database.specs.Finding.{IsNew};
+ghost use Rattle.salt_database.specs.Standing.{AreOpened, IsFoundStage, OpensIn, opening_books};
+ghost use Rattle.salt_engine.specs.Standing.{ServesFrom, serving_books};
+ghost use Rattle.salt_engine.specs.declared.stage.Stage.TheVariants.{Going};
+ghost use Rattle.salt_keeps.specs.States.{State};
+ghost use Rattle.salt_model.specs.Kept.{Kept};
+ghost use Rattle.salt_recovery.specs.declared.recovery.Recovery.{Recovery};
+ghost use Rattle.salt_stands.specs.Stands.{are_spent};
+ghost use Rattle.salt_storage.specs.Storing.{IsFound, IsSoundKept};
+ghost use Rattle.std.specs.Prelude.{None, false, ◌≡◌};
+
+use salt_books::Books;
+use salt_engine::{Engine, GivenUp, InFlight, Stage};
+use salt_known::Known;
+use salt_recovery::Recovery;
+use salt_schema::Schema;
+use salt_storage::{Found, Numbers};
+use std::alloc::Global;
+
+/// An opening over a storage: at first over what was found there, and behind each fall over what an engine has left. It begins a
+/// boot, and goes on with what programs have left; behind its Ready an engine is made of it.
+#[derive(Drop)]
+pub struct Opening<S> {
+    pub(crate) alloc: Global,
+    pub(crate) storage: S,
+    pub(crate) stage: Stage<Recovery>,
+    /// The numbers of what the storage holds, where that is found and no boot has begun over it.
+    pub(crate) found: Option<Numbers>,
+    /// Whether the last line that was asked is one statement: the units of an opening note it.
+    pub(crate) single: bool,
+    /// What was asked of the storage when it halted.
+    pub(crate) in_flight: Option<InFlight>,
+    /// The tables where memory ran out: none.
+    pub(crate) no_tables: Schema,
+}
+
+/// What an engine has left that was given up: its books, if it has them.
+fn left_with(books: Option<Books>) -> Stage<Recovery>
+    ensures { opening_books result ≡ books }
+{
+    match books {
+        Some(books) => Stage::Down(books),
+        None => Stage::Lost,
+    }
+}
+
+impl<S: Drop> Opening<S> {
+    /// An opening over what was found on a storage, whose numbers are not spent. No boot has begun.
+    pub fn new(alloc: Global, storage: S, found: Found) -> Opening<S>
+        requires { are_spent found.boot found.decisions ≡ false }
+        ensures storage { result.storage ≡ storage }
+        ensures found { IsFoundStage result.found result.stage }
+        ensures is_new { (k : Kept) → IsFound found k → IsSoundKept k → IsNew k result.found result.stage result.single result.in_flight }
+    {
+        let Found {
+            schema,
+            catalogue,
+            conts,
+            boot,
+            decisions,
+        } = found;
+        let known = Known::new(alloc, schema, catalogue, conts, boot, decisions);
+        Opening {
+            alloc,
+            storage,
+            stage: Stage::Down(Books::new(alloc, known, 0)),
+            found: Some(Numbers { boot, decisions }),
+            single: false,
+            in_flight: None,
+            no_tables: Schema::new(alloc),
+        }
+    }
+
+    /// An opening of what an engine has left that is given up.
+    pub fn behind(engine: Engine<S>) -> Opening<S>
+        ensures storage { result.storage ≡ engine.storage }
+        ensures books { opening_books result.stage ≡ serving_books engine.stage }
+        ensures found { result.found ≡ None }
+        ensures single { result.single ≡ engine.single }
+        ensures flies { result.in_flight ≡ engine.in_flight }
+    {
+        let GivenUp {
+            alloc,
+            storage,
+            books,
+            single,
+            in_flight,
+        } = engine.given_up();
+        Opening {
+            alloc,
+            storage,
+            stage: left_with(books),
+            found: None,
+            single,
+            in_flight,
+            no_tables: Schema::new(alloc),
+        }
+    }
+
+    /// An engine over what an opening has left that is done.
+    pub fn into_engine(self) -> Engine<S>
+        requires { (x : Recovery) × (s : State) × (self.stage ≡ Going x) × AreOpened x.books s }
+        ensures storage { result.storage ≡ self.storage }
+        ensures serves { (x : Recovery) (s : State) → self.stage ≡ Going x → AreOpened x.books s → ServesFrom result.stage s }
+        ensures single { result.single ≡ self.single }
+        ensures none { result.in_flight ≡ None }
+    {
+        let Opening {
+            alloc,
+            storage,
+            stage,
+            single,
+            ..
+        } = self;
+        let (known, begun) = stage.going().into_books().into_parts();
+        let (schema, catalogue, boot, decisions) = known.into_parts();
+        let kept = Numbers { boot, decisions };
+        Engine::new(
+            alloc, storage, &kept, schema, catalogue, boot, begun, single,
+        )
+    }
+}

@@ -1,0 +1,209 @@
+//! What an opening does, as its moves from point to point.
+
+ghost use Rattle.salt_books.specs.declared.books.Books.{Books};
+ghost use Rattle.salt_database.specs.Standing.{CanFind, IsFoundStage, is_ready, left_in, opening_books};
+ghost use Rattle.salt_disk.specs.Disks.{SameShape};
+ghost use Rattle.salt_engine.specs.Flights.{flight_of};
+ghost use Rattle.salt_engine.specs.Standing.{IsGoingStage, KnowUnits, KnowsUnits};
+ghost use Rattle.salt_keeps.specs.OpenUnits.{UnitState};
+ghost use Rattle.salt_keeps.specs.Points.{Moves, Point, Say};
+ghost use Rattle.salt_keeps.specs.Steps.{units_after};
+ghost use Rattle.salt_model.specs.Phases.{Fallen};
+ghost use Rattle.salt_model.specs.declared.events.Event.{Event};
+ghost use Rattle.salt_model.specs.declared.events.Why.{Why};
+ghost use Rattle.salt_openings.specs.Draining.{statements_at};
+ghost use Rattle.salt_steps.specs.Counting.{CountsStops, armed_at, stops_armed};
+ghost use Rattle.salt_steps.specs.Draining.{MayTick};
+ghost use Rattle.salt_steps.specs.Opening.{IsFallenFrom, MayFailAt, OpensAt};
+ghost use Rattle.salt_steps.specs.Standing.{BreaksAt, IsOpenedOn, IsOpeningAt, IsSoundPoint};
+ghost use Rattle.salt_storage.specs.Answers.{disk_err, open_disk_err};
+ghost use Rattle.salt_storage.specs.Writing.{OfBoot};
+ghost use Rattle.salt_storage.specs.declared.halt.Halt.TheVariants.{DeviceFull, Memory};
+ghost use Rattle.salt_storage.specs.declared.open.OpenErr.{OpenErr};
+ghost use Rattle.salt_values.specs.Placement.{GivesPlaceOf, TakesEachKey};
+ghost use Rattle.std.specs.Prelude.{Err, IfErr, IfOk, OnErr, OnOk, Some, ℕ, [], ◌++◌, ◌+◌, ◌<◌, ◌∷◌, ◌≡◌};
+
+use crate::opening::Opening;
+use salt_books::Books;
+use salt_disk::Disks;
+use salt_engine::{Stage, flight_of};
+use salt_model::{Event, Flight, Story};
+use salt_recovery::Recovery;
+use salt_schema::Schema;
+use salt_storage::{Halt, OpenErr, Storage};
+use salt_values::{Key, PlaceKind, Placement, Steps};
+use std::mem;
+use std::sync::ledger::Ledger;
+
+/// Whether an opening is done.
+fn is_ready(event: &Event) -> bool
+    ensures { result ≡ is_ready event.now }
+{
+    match event {
+        Event::Ready => true,
+        _ => false,
+    }
+}
+
+/// The books of a run that has fallen.
+fn books_fallen(books: Books) -> Books
+    ensures { (s : UnitState) (why : Why) → KnowUnits books s → KnowUnits result (units_after (Event.Down why) s) }
+{
+    let mut books = books;
+    books.fall();
+    books
+}
+
+/// What is left of an opening behind a fall: the books, which go to no further program of a `go all`.
+fn fallen(stage: Stage<Recovery>) -> Stage<Recovery>
+    ensures books { (s : UnitState) (why : Why) → KnowsUnits (opening_books stage) s → KnowsUnits (opening_books result) (units_after (Event.Down why) s) }
+    ensures down { IsGoingStage result → ⊥ }
+{
+    match &stage {
+        Stage::Going(_) => Stage::Down(books_fallen(stage.going().into_books())),
+        Stage::Down(_) => Stage::Down(books_fallen(stage.down())),
+        Stage::Lost => Stage::Lost,
+    }
+}
+
+impl<S: Storage + Drop> Opening<S> {
+    ghost use Rattle.salt_database.specs.Halves.{opening_left, opening_lies, opening_sees};
+
+    /// Finds behind a fall what its devices stand for. What is found already is not looked for again.
+    pub(crate) fn find<D: Disks, F: Fn(PlaceKind, &Key, u32) -> u32>(
+        &mut self,
+        disks: &mut D,
+        place: &Placement<F>,
+    ) -> Result<(), OpenErr>
+        requires callable { TakesEachKey (F.pre place.now.place) }
+        requires answers { GivesPlaceOf (F.post place.now.place) }
+        requires settled { CanFind (S.settled (D.view disks.old) self.old.storage) (S.leaves (D.view disks.old) self.old.storage) self.old.found self.old.stage }
+        ensures found { OnOk result (IsFoundStage self.new.found self.new.stage) }
+        ensures again { (result ≡ Err (OpenErr.Halted Memory) → ⊥) → (room : ℕ) (p : Point) → IsSoundPoint p → p.state.units.phase ≡ Fallen → opening_lies (S.holds (D.view disks.old)) (S.leaves (D.view disks.old)) (D.view disks.old).can_stop self.old room p →
+            opening_lies (S.holds (D.view disks.new)) (S.leaves (D.view disks.new)) (D.view disks.new).can_stop self.new room p }
+        ensures left { (room : ℕ) (p : Point) → IsSoundPoint p → p.state.units.phase ≡ Fallen → opening_lies (S.holds (D.view disks.old)) (S.leaves (D.view disks.old)) (D.view disks.old).can_stop self.old room p → opening_left (S.holds (D.view disks.new)) (S.leaves (D.view disks.new)) self.new room p }
+        ensures later { IfErr result (λ e. (room : ℕ) (p : Point) → IsSoundPoint p → p.state.units.phase ≡ Fallen → opening_lies (S.holds (D.view disks.old)) (S.leaves (D.view disks.old)) (D.view disks.old).can_stop self.old room p → MayFailAt room p e) }
+        ensures flies { flight_of self.new.in_flight ≡ flight_of self.old.in_flight }
+        ensures full { (dev : ℕ) → result ≡ Err (OpenErr.Halted (DeviceFull dev)) → ⊥ }
+        ensures asked { S.asked self.new.storage ≡ S.asked self.old.storage }
+        ensures shape { SameShape (D.view disks.old) (D.view disks.new) }
+        ensures counts { CountsStops (D.view disks.old) (D.view disks.new) (open_disk_err result) 0 0 }
+    {
+        match self.found {
+            Some(_numbers) => Ok(()),
+            None => self.find_behind(disks, place),
+        }
+    }
+
+    /// Opens over what it has found, and tells that it has: a new boot begins. It gives the first event of the opening. An error leaves
+    /// the story as it was.
+    pub(crate) fn open<D: Disks>(&mut self, disks: &mut D, story: &mut Story) -> Result<Event, Halt>
+        requires found { IsFoundStage self.old.found self.old.stage }
+        requires lies { (room : ℕ) × (p : Point) × IsSoundPoint p × (p.state.units.phase ≡ Fallen) × opening_lies (S.holds (D.view disks.old)) (S.leaves (D.view disks.old)) (D.view disks.old).can_stop self.old room p }
+        ensures opens { IfOk result (λ next. (room : ℕ) (p : Point) → IsSoundPoint p → p.state.units.phase ≡ Fallen → opening_lies (S.holds (D.view disks.old)) (S.leaves (D.view disks.old)) (D.view disks.old).can_stop self.old room p →
+            OpensAt (opening_sees (S.holds (D.view disks.new)) (S.is_new (D.view disks.new)) (D.view disks.new).can_stop) room p story.old self.new next story.new) }
+        ensures lies { IfErr result (λ halt. (halt ≡ Memory → ⊥) → (room : ℕ) (p : Point) → IsSoundPoint p → p.state.units.phase ≡ Fallen → opening_lies (S.holds (D.view disks.old)) (S.leaves (D.view disks.old)) (D.view disks.old).can_stop self.old room p →
+            opening_lies (S.holds (D.view disks.new)) (S.leaves (D.view disks.new)) (D.view disks.new).can_stop self.new (room + 1) p) }
+        ensures left { OnErr result ((room : ℕ) (p : Point) → IsSoundPoint p → p.state.units.phase ≡ Fallen → opening_lies (S.holds (D.view disks.old)) (S.leaves (D.view disks.old)) (D.view disks.old).can_stop self.old room p →
+            opening_left (S.holds (D.view disks.new)) (S.leaves (D.view disks.new)) self.new (room + 1) p) }
+        ensures flies { OnErr result (flight_of self.new.in_flight ≡ flight_of self.old.in_flight) }
+        ensures untold { OnErr result (story.new ≡ story.old) }
+        ensures full { (dev : ℕ) → result ≡ Err (DeviceFull dev) → S.fills (D.view disks.new) self.new.storage OfBoot dev }
+        ensures asked { S.asked self.new.storage ≡ S.asked self.old.storage }
+        ensures shape { SameShape (D.view disks.old) (D.view disks.new) }
+        ensures unarmed { IfOk result (λ next. stops_armed next ≡ 0) }
+        ensures counts { CountsStops (D.view disks.old) (D.view disks.new) (disk_err result) 0 0 }
+    {
+        let Some(numbers) = self.found else {
+            unreachable!()
+        };
+        self.found = None;
+        let books = mem::replace(&mut self.stage, Stage::Lost).down();
+        match self.storage.boot(disks) {
+            Ok(boot) => {
+                self.storage.stands(disks);
+                self.open_boot(books, boot, numbers.decisions, story)
+            }
+            Err(halt) => {
+                self.stage = Stage::Down(books);
+                Err(halt)
+            }
+        }
+    }
+
+    /// Tells what comes next in an opening, and gives what comes after it, none behind its end: a step where that is a statement, which
+    /// is done then. An error leaves the story as it was, or with this event.
+    pub(crate) fn go_on<D: Disks, F: Fn(PlaceKind, &Key, u32) -> u32, L: Ledger>(
+        &mut self,
+        disks: &mut D,
+        place: &Placement<F>,
+        event: Event,
+        story: &mut Story,
+        steps: &mut Steps<L>,
+    ) -> Result<Option<Event>, Halt>
+        requires callable { TakesEachKey (F.pre place.now.place) }
+        requires answers { GivesPlaceOf (F.post place.now.place) }
+        requires stands { (p : Point) × IsSoundPoint p × IsOpeningAt (opening_sees (S.holds (D.view disks.old)) (S.is_new (D.view disks.old)) (D.view disks.old).can_stop) self.old (Some event) p }
+        ensures moves { IfOk result (λ next. (p : Point) → IsSoundPoint p → IsOpeningAt (opening_sees (S.holds (D.view disks.old)) (S.is_new (D.view disks.old)) (D.view disks.old).can_stop) self.old (Some event) p →
+            (q : Point) × Moves (Say event) p q × IsOpenedOn (opening_sees (S.holds (D.view disks.new)) (S.is_new (D.view disks.new)) (D.view disks.new).can_stop) self.new next q) }
+        ensures tells { OnOk result (story.new ≡ story.old ++ event ∷ []) }
+        ensures halts { IfErr result (λ halt. (p : Point) → IsSoundPoint p → IsOpeningAt (opening_sees (S.holds (D.view disks.old)) (S.is_new (D.view disks.old)) (D.view disks.old).can_stop) self.old (Some event) p →
+            BreaksAt (opening_lies (S.holds (D.view disks.new)) (S.leaves (D.view disks.new)) (D.view disks.new).can_stop self.new 0) (opening_left (S.holds (D.view disks.new)) (S.leaves (D.view disks.new)) self.new 0) (S.fills (D.view disks.new) self.new.storage) (flight_of self.new.in_flight) halt p event story.old story.new) }
+        ensures ticks { IfOk result (λ next. steps.new ≡ steps.old + statements_at next) }
+        ensures short { OnErr result ((p : Point) → IsSoundPoint p → IsOpeningAt (opening_sees (S.holds (D.view disks.old)) (S.is_new (D.view disks.old)) (D.view disks.old).can_stop) self.old (Some event) p →
+            MayTick p event story.old story.new steps.old steps.new) }
+        ensures less { IfOk result (λ next. left_in self.new.stage next < left_in self.old.stage (Some event)) }
+        ensures asked { S.asked self.new.storage ≡ S.asked self.old.storage }
+        ensures shape { SameShape (D.view disks.old) (D.view disks.new) }
+        ensures unarmed { IfOk result (λ next. armed_at next ≡ 0) }
+        ensures counts { CountsStops (D.view disks.old) (D.view disks.new) (disk_err result) 0 0 }
+    {
+        self.storage.stands(disks);
+        let recovery = mem::replace(&mut self.stage, Stage::Lost).going();
+        let ready = is_ready(&event);
+        story.push(event)?;
+        if ready {
+            self.stage = Stage::Going(recovery);
+            Ok(None)
+        } else {
+            Ok(Some(self.go_on_in_opening(disks, place, recovery, steps)?))
+        }
+    }
+
+    /// Falls: the devices are started again.
+    pub(crate) fn fall<D: Disks>(&mut self, disks: &mut D)
+        requires { (room : ℕ) × ((p : Point) × opening_lies (S.holds (D.view disks.old)) (S.leaves (D.view disks.old)) (D.view disks.old).can_stop self.old room p) }
+        ensures lies { (room : ℕ) (p q : Point) → opening_lies (S.holds (D.view disks.old)) (S.leaves (D.view disks.old)) (D.view disks.old).can_stop self.old room p → IsFallenFrom p q → opening_lies (S.holds (D.view disks.new)) (S.leaves (D.view disks.new)) (D.view disks.new).can_stop self.new room q }
+        ensures settled { CanFind (S.settled (D.view disks.new) self.new.storage) (S.leaves (D.view disks.new) self.new.storage) self.new.found self.new.stage }
+        ensures flies { flight_of self.new.in_flight ≡ flight_of self.old.in_flight }
+        ensures asked { S.asked self.new.storage ≡ S.asked self.old.storage }
+        ensures shape { SameShape (D.view disks.old) (D.view disks.new) }
+        ensures faults { (D.view disks.new).faults ≡ (D.view disks.old).faults }
+        ensures stops { (D.view disks.new).stops_left ≡ (D.view disks.old).stops_left }
+    {
+        self.storage.stands(disks);
+        self.storage.restart(disks);
+        self.storage.stands(disks);
+        self.found = None;
+        self.stage = fallen(mem::replace(&mut self.stage, Stage::Lost));
+    }
+
+    /// The tables that are defined, unless memory ran out.
+    pub fn schema(&self) -> &Schema
+        ensures { (x : Books) → opening_books self.now.stage ≡ Some x → result.now ≡ x.known.schema }
+    {
+        match &self.stage {
+            Stage::Going(recovery) => recovery.books().known().schema(),
+            Stage::Down(books) => books.known().schema(),
+            Stage::Lost => &self.no_tables,
+        }
+    }
+
+    /// It is given up: what was in flight where it was broken off.
+    pub fn flight(self) -> Option<Flight>
+        ensures { result ≡ flight_of self.in_flight }
+    {
+        let Opening { in_flight, .. } = self;
+        flight_of(in_flight)
+    }
+}
