@@ -117,8 +117,8 @@ impl<S: Drop> Opening<S> {
         let (known, begun) = stage.going().into_books().into_parts();
         let (schema, catalogue, boot, decisions) = known.into_parts();
         let kept = Numbers { boot, decisions };
-        Engine::new(
-            alloc, storage, &kept, schema, catalogue, boot, begun, single,
-        )
+        let mut engine = Engine::new(alloc, storage, &kept, schema, catalogue, boot, begun);
+        engine.single = single;
+        engine
     }
 }

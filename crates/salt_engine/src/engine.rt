@@ -26,8 +26,9 @@ pub struct Engine<S> {
     pub(crate) alloc: Global,
     pub(crate) storage: S,
     pub(crate) stage: Stage<Scheduler>,
-    /// Whether the last line that was asked is one statement: the units of an opening note it.
-    pub(crate) single: bool,
+    /// Whether the last line that was asked is one statement: the units of an opening note it. The opening before says it, and no line
+    /// that is served depends on it.
+    pub single: bool,
     /// What was asked of the storage when it halted.
     pub(crate) in_flight: Option<InFlight>,
     /// The tables where memory ran out: none.
@@ -49,8 +50,7 @@ pub struct GivenUp<S> {
 
 impl<S: Drop> Engine<S> {
     /// An engine over a storage behind the Ready of an opening: the number of the last decision that is kept, the tables and the
-    /// programs that are defined, the boot, how many units were begun in it, and whether the last line that was asked is one
-    /// statement. No accepted program is unfinished.
+    /// programs that are defined, the boot, and how many units were begun in it. No accepted program is unfinished.
     pub fn new(
         alloc: Global,
         store: S,
@@ -59,11 +59,9 @@ impl<S: Drop> Engine<S> {
         catalogue: Catalogue,
         boot: u64,
         begun: u64,
-        single: bool,
     ) -> Engine<S>
         ensures store { result.storage ≡ store }
         ensures serves { (s : State) → IsReadyOver kept.now schema catalogue boot begun s → ServesFrom result.stage s }
-        ensures single { result.single ≡ single }
         ensures none { result.in_flight ≡ None }
     {
         let conts = Items::new(alloc);
@@ -73,7 +71,7 @@ impl<S: Drop> Engine<S> {
             alloc,
             storage: store,
             stage: Stage::Going(scheduler),
-            single,
+            single: false,
             in_flight: None,
             no_tables: Schema::new(alloc),
         }
