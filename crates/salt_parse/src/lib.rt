@@ -11,6 +11,7 @@ mod program;
 mod quoted;
 mod read;
 mod scan;
+mod sealed;
 mod statement;
 mod symbols;
 mod table;

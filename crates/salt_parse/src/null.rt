@@ -9,6 +9,7 @@ ghost use Rattle.salt_parse.specs.StatementReading.{value_at};
 use crate::built::{Built, Unary};
 use crate::error::ParseErr;
 use crate::parser::Parser;
+use crate::sealed::Sealed;
 use salt_ast::Expr;
 use salt_tokens::Keyword;
 use salt_values::Value;
@@ -41,12 +42,12 @@ impl<'a> Parser<'a> {
     }
 
     /// What a column takes: an expression, or `null`.
-    pub fn value(&mut self, room: u32) -> Result<Expr, ParseErr>
+    pub fn value(&mut self, room: u32) -> Result<Sealed<Expr>, ParseErr>
         ensures reads { Reads result (value_at (within_at room)) self.old self.new }
         ensures shrinks { OnOk result (length self.new.left < length self.old.left) }
     {
         if self.skip_key(Keyword::Null) {
-            return Ok(Expr::Lit(Value::Null));
+            return Ok(Sealed::new(Expr::Lit(Value::Null)));
         }
         self.whole(room)
     }

@@ -11,6 +11,7 @@ ghost use Rattle.salt_tokens.specs.Symbols.{symbols_in, undoubled};
 
 use crate::built::{Built, Unary};
 use crate::quoted::{content, content_len};
+use crate::sealed::Sealed;
 use salt_ast::{Expr, LimitName, Op};
 use salt_tokens::Lexeme;
 use salt_values::limits::{DEPTH_MOST, NAME_MOST, TEXT_MOST};
@@ -20,10 +21,10 @@ use std::alloc::{AllocError, Global};
 use std::marker::Model;
 
 /// What is built where a limit is passed, so that nothing grows from there on.
-fn stand_in() -> Expr
+fn stand_in() -> Sealed<Expr>
     ensures { result ≡ stand_in }
 {
-    Expr::Lit(Value::Int(0))
+    Sealed::new(Expr::Lit(Value::Int(0)))
 }
 
 /// A number, where it has 64 bits, behind a minus sign or not.
@@ -34,20 +35,20 @@ pub fn signed(minus: bool, number: u64) -> Option<i64>
     i64::try_from(if minus { -number } else { number }).ok()
 }
 
-fn int_tree(number: Option<i64>) -> Expr
+fn int_tree(number: Option<i64>) -> Sealed<Expr>
     ensures { result ≡ int_tree number }
 {
     match number {
-        Some(number) => Expr::Lit(Value::Int(number)),
+        Some(number) => Sealed::new(Expr::Lit(Value::Int(number))),
         None => stand_in(),
     }
 }
 
-fn text_tree(alloc: Global, bytes: &[u8]) -> Result<Expr, AllocError>
+fn text_tree(alloc: Global, bytes: &[u8]) -> Result<Sealed<Expr>, AllocError>
     ensures { IfOk result (λ e. e ≡ text_tree bytes.now) }
 {
     match Text::new(alloc, bytes) {
-        Ok(text) => Ok(Expr::Lit(Value::Text(text))),
+        Ok(text) => Ok(Sealed::new(Expr::Lit(Value::Text(text)))),
         Err(TextErr::NotText) => Ok(stand_in()),
         Err(TextErr::Memory) => Err(AllocError),
     }
@@ -58,17 +59,17 @@ fn binary(
     alloc: Global,
     is_clear: bool,
     op: Op,
-    left: Expr,
-    right: Expr,
-) -> Result<Expr, AllocError>
+    left: Sealed<Expr>,
+    right: Sealed<Expr>,
+) -> Result<Sealed<Expr>, AllocError>
     ensures { IfOk result (λ e. e ≡ (if is_clear then operation op left right else stand_in)) }
 {
     if !is_clear {
         return Ok(stand_in());
     }
-    let left = Boxed::new(alloc, left)?;
-    let right = Boxed::new(alloc, right)?;
-    Ok(Expr::Binary { op, left, right })
+    let left = Boxed::new(alloc, left.into_inner())?;
+    let right = Boxed::new(alloc, right.into_inner())?;
+    Ok(Sealed::new(Expr::Binary { op, left, right }))
 }
 
 /// The operation around its operand.
@@ -89,13 +90,19 @@ fn node(op: Unary, operand: Boxed<Expr>) -> Expr
 }
 
 /// An operation on one operand, while nothing is passed.
-fn unary(alloc: Global, is_clear: bool, op: Unary, operand: Expr) -> Result<Expr, AllocError>
+fn unary(
+    alloc: Global,
+    is_clear: bool,
+    op: Unary,
+    operand: Sealed<Expr>,
+) -> Result<Sealed<Expr>, AllocError>
     ensures { IfOk result (λ e. e ≡ (if is_clear then node_of op operand else stand_in)) }
 {
     if !is_clear {
         return Ok(stand_in());
     }
-    Ok(node(op, Boxed::new(alloc, operand)?))
+    let operand = Boxed::new(alloc, operand.into_inner())?;
+    Ok(Sealed::new(node(op, operand)))
 }
 
 /// What reads tokens one after the other: those that are left, and what the others passed.
@@ -192,7 +199,7 @@ impl<'a> Parser<'a> {
     {
         let name = self.name_of(name)?;
         Ok(Built {
-            tree: Expr::Column(name),
+            tree: Sealed::new(Expr::Column(name)),
             height: 1,
         })
     }
@@ -204,7 +211,7 @@ impl<'a> Parser<'a> {
     {
         let name = self.name_of(name)?;
         Ok(Built {
-            tree: Expr::Variable(name),
+            tree: Sealed::new(Expr::Variable(name)),
             height: 1,
         })
     }

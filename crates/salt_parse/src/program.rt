@@ -14,6 +14,7 @@ ghost use Rattle.salt_values.specs.declared.limits.TheConstants as most;
 
 use crate::error::ParseErr;
 use crate::parser::Parser;
+use crate::sealed::Sealed;
 use salt_ast::{
     Body, Field, Fields, LimitName, Next, PartDef, Parts, ProgramDef, Statement, Statements,
 };
@@ -94,7 +95,7 @@ impl<'a> Parser<'a> {
         room: u32,
         deeper: u32,
         count: usize,
-    ) -> Result<Statement, ParseErr>
+    ) -> Result<Sealed<Statement>, ParseErr>
         ensures reads { Reads result (counted_at most.STATEMENTS_MOST limits.Statements (statement_at (within_at room) (within_at deeper)) count) self.old self.new }
         ensures shrinks { OnOk result (length self.new.left < length self.old.left) }
     {
@@ -109,10 +110,10 @@ impl<'a> Parser<'a> {
     {
         let mut statements = Items::new(self.alloc());
         let first = self.counted_statement(room, deeper, 0)?;
-        statements.push(first)?;
+        first.push_to(&mut statements)?;
         while self.skip_sign(Sign::Semicolon) {
             let statement = self.counted_statement(room, deeper, statements.len())?;
-            statements.push(statement)?;
+            statement.push_to(&mut statements)?;
         }
         Ok(statements)
     }
@@ -203,23 +204,28 @@ impl<'a> Parser<'a> {
     }
 
     /// What stands behind `part`.
-    fn part(&mut self, room: u32, deeper: u32) -> Result<PartDef, ParseErr>
+    fn part(&mut self, room: u32, deeper: u32) -> Result<Sealed<PartDef>, ParseErr>
         ensures reads { Reads result (part_at (within_at room) (within_at deeper)) self.old self.new }
         ensures shrinks { OnOk result (length self.new.left < length self.old.left) }
     {
         let block = self.block(room, deeper)?;
         let then = self.on_commit()?;
         let (retry, on_failure) = self.on_failure()?;
-        Ok(PartDef {
+        Ok(Sealed::new(PartDef {
             block,
             then,
             retry,
             on_failure,
-        })
+        }))
     }
 
     /// The part that stands behind so many others.
-    fn counted_part(&mut self, room: u32, deeper: u32, count: usize) -> Result<PartDef, ParseErr>
+    fn counted_part(
+        &mut self,
+        room: u32,
+        deeper: u32,
+        count: usize,
+    ) -> Result<Sealed<PartDef>, ParseErr>
         ensures reads { Reads result (counted_at most.PARTS_MOST limits.Parts (part_at (within_at room) (within_at deeper)) count) self.old self.new }
         ensures shrinks { OnOk result (length self.new.left < length self.old.left) }
     {
@@ -233,10 +239,10 @@ impl<'a> Parser<'a> {
     {
         let mut parts = Items::new(self.alloc());
         let first = self.counted_part(room, deeper, 0)?;
-        parts.push(first)?;
+        first.push_to(&mut parts)?;
         while self.skip_key(Keyword::Part) {
             let part = self.counted_part(room, deeper, parts.len())?;
-            parts.push(part)?;
+            part.push_to(&mut parts)?;
         }
         Ok(parts)
     }
@@ -262,7 +268,7 @@ impl<'a> Parser<'a> {
 
     /// A program, with room for so many parentheses in its expressions, and for so many in those of INSERT.
     #[tactic(auto, unfolding(crate::specs::ProgramReading::program_at))]
-    pub fn program(&mut self, room: u32, deeper: u32) -> Result<ProgramDef, ParseErr>
+    pub fn program(&mut self, room: u32, deeper: u32) -> Result<Sealed<ProgramDef>, ParseErr>
         ensures { Reads result (program_at (within_at room) (within_at deeper)) self.old self.new }
     {
         self.take_key(Keyword::Program)?;
@@ -272,11 +278,11 @@ impl<'a> Parser<'a> {
         let vars = self.variables()?;
         let body = self.body(room, deeper)?;
         self.take_key(Keyword::End)?;
-        Ok(ProgramDef {
+        Ok(Sealed::new(ProgramDef {
             name,
             params,
             vars,
             body,
-        })
+        }))
     }
 }

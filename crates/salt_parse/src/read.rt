@@ -59,7 +59,7 @@ fn attempt<'a, T: Tree>(
 {
     let mut parser = Parser::new(alloc, rest);
     let tree = T::read(&mut parser, room, inside)?;
-    finish(parser, tree)
+    finish(parser, tree.into_inner())
 }
 
 /// The tree of a whole row, or why there is none: only where a shallow one is not found, a deep one is looked for.

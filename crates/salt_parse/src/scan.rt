@@ -3,12 +3,13 @@
 ghost use Rattle.std.specs.Prelude.{◌<◌, ◌≤◌, OnOk, length};
 ghost use Rattle.salt_parse.specs.Parsing.{Reads};
 ghost use Rattle.salt_parse.specs.Reading.{conjunction_at, expression_at, sum_at, within_at};
-ghost use Rattle.salt_parse.specs.StatementReading.{and_at, bound_at, name_at, scan_at, tree_at};
+ghost use Rattle.salt_parse.specs.StatementReading.{and_at, between_at, bound_at, name_at, scan_at, tree_at};
 
 use crate::built::Built;
 use crate::error::ParseErr;
 use crate::expr::Level;
 use crate::parser::Parser;
+use crate::sealed::Sealed;
 use salt_ast::{Bound, Expr, Scan};
 use salt_tokens::{Keyword, Lexeme, Sign};
 use salt_values::Name;
@@ -27,7 +28,7 @@ impl<'a> Parser<'a> {
     }
 
     /// An expression.
-    pub fn whole(&mut self, room: u32) -> Result<Expr, ParseErr>
+    pub fn whole(&mut self, room: u32) -> Result<Sealed<Expr>, ParseErr>
         ensures reads { Reads result (tree_at (expression_at (within_at room))) self.old self.new }
         ensures shrinks { OnOk result (length self.new.left < length self.old.left) }
     {
@@ -36,7 +37,7 @@ impl<'a> Parser<'a> {
     }
 
     /// An expression that is no comparison.
-    pub fn operand(&mut self, room: u32) -> Result<Expr, ParseErr>
+    pub fn operand(&mut self, room: u32) -> Result<Sealed<Expr>, ParseErr>
         ensures reads { Reads result (tree_at (sum_at (within_at room))) self.old self.new }
         ensures shrinks { OnOk result (length self.new.left < length self.old.left) }
     {
@@ -45,7 +46,7 @@ impl<'a> Parser<'a> {
     }
 
     /// An expression without `or`.
-    pub fn conjunct(&mut self, room: u32) -> Result<Expr, ParseErr>
+    pub fn conjunct(&mut self, room: u32) -> Result<Sealed<Expr>, ParseErr>
         ensures reads { Reads result (tree_at (conjunction_at (within_at room))) self.old self.new }
         ensures shrinks { OnOk result (length self.new.left < length self.old.left) }
     {
@@ -54,58 +55,67 @@ impl<'a> Parser<'a> {
     }
 
     /// `and` and a filter, or nothing.
-    fn and_filter(&mut self, room: u32) -> Result<Option<Expr>, ParseErr>
+    fn and_filter(&mut self, room: u32) -> Result<Sealed<Option<Expr>>, ParseErr>
         ensures reads { Reads result (and_at (within_at room)) self.old self.new }
         ensures shrinks { OnOk result (length self.new.left ≤ length self.old.left) }
     {
         if !self.skip_key(Keyword::And) {
-            return Ok(None);
+            return Ok(Sealed::new(None));
         }
-        Ok(Some(self.conjunct(room)?))
+        let filter = self.conjunct(room)?;
+        Ok(Sealed::new(Some(filter.into_inner())))
+    }
+
+    /// What stands behind `where key between`.
+    fn between(&mut self, room: u32) -> Result<Sealed<Scan>, ParseErr>
+        ensures reads { Reads result (between_at (within_at room)) self.old self.new }
+        ensures shrinks { OnOk result (length self.new.left < length self.old.left) }
+    {
+        let low = self.operand(room)?;
+        self.take_key(Keyword::And)?;
+        let high = self.operand(room)?;
+        let filter = self.and_filter(room)?;
+        Ok(Sealed::new(Scan {
+            bound: Bound::Between(low.into_inner(), high.into_inner()),
+            filter: filter.into_inner(),
+        }))
     }
 
     /// What stands behind `where key`.
-    fn bounded(&mut self, room: u32) -> Result<Scan, ParseErr>
+    fn bounded(&mut self, room: u32) -> Result<Sealed<Scan>, ParseErr>
         ensures reads { Reads result (bound_at (within_at room)) self.old self.new }
         ensures shrinks { OnOk result (length self.new.left < length self.old.left) }
     {
         if self.skip_key(Keyword::Between) {
-            let low = self.operand(room)?;
-            self.take_key(Keyword::And)?;
-            let high = self.operand(room)?;
-            let filter = self.and_filter(room)?;
-            return Ok(Scan {
-                bound: Bound::Between(low, high),
-                filter,
-            });
+            return self.between(room);
         }
         self.take_sign(Sign::Equal)?;
         let key = self.operand(room)?;
         let filter = self.and_filter(room)?;
-        Ok(Scan {
-            bound: Bound::Key(key),
-            filter,
-        })
+        Ok(Sealed::new(Scan {
+            bound: Bound::Key(key.into_inner()),
+            filter: filter.into_inner(),
+        }))
     }
 
     /// Which rows: `where` and what stands behind it, or all rows.
-    pub fn scan(&mut self, room: u32) -> Result<Scan, ParseErr>
+    pub fn scan(&mut self, room: u32) -> Result<Sealed<Scan>, ParseErr>
         ensures reads { Reads result (scan_at (within_at room)) self.old self.new }
         ensures shrinks { OnOk result (length self.new.left ≤ length self.old.left) }
     {
         if !self.skip_key(Keyword::Where) {
-            return Ok(Scan {
+            return Ok(Sealed::new(Scan {
                 bound: Bound::All,
                 filter: None,
-            });
+            }));
         }
         if self.skip_key(Keyword::Key) {
             return self.bounded(room);
         }
         let filter = self.whole(room)?;
-        Ok(Scan {
+        Ok(Sealed::new(Scan {
             bound: Bound::All,
-            filter: Some(filter),
-        })
+            filter: Some(filter.into_inner()),
+        }))
     }
 }

@@ -8,6 +8,7 @@ ghost use Rattle.salt_parse.specs.StatementReading.{select_at, select_into_at, s
 
 use crate::error::ParseErr;
 use crate::parser::Parser;
+use crate::sealed::Sealed;
 use salt_ast::{Expr, Exprs, Set, Sets, Statement, What};
 use salt_tokens::{Keyword, Lexeme, Sign};
 use salt_values::{Name, Names};
@@ -20,9 +21,11 @@ impl<'a> Parser<'a> {
         ensures shrinks { OnOk result (length self.new.left < length self.old.left) }
     {
         let mut values = Items::new(self.alloc());
-        values.push(self.value(room)?)?;
+        let first = self.value(room)?;
+        first.push_to(&mut values)?;
         while self.skip_sign(Sign::Comma) {
-            values.push(self.value(room)?)?;
+            let value = self.value(room)?;
+            value.push_to(&mut values)?;
         }
         Ok(values)
     }
@@ -41,14 +44,17 @@ impl<'a> Parser<'a> {
     }
 
     /// A column and the value that it takes.
-    fn set(&mut self, room: u32) -> Result<Set, ParseErr>
+    fn set(&mut self, room: u32) -> Result<Sealed<Set>, ParseErr>
         ensures reads { Reads result (set_at (within_at room)) self.old self.new }
         ensures shrinks { OnOk result (length self.new.left < length self.old.left) }
     {
         let column = self.name()?;
         self.take_sign(Sign::Equal)?;
         let value = self.value(room)?;
-        Ok(Set { column, value })
+        Ok(Sealed::new(Set {
+            column,
+            value: value.into_inner(),
+        }))
     }
 
     /// Columns and their values, with commas between them.
@@ -57,9 +63,11 @@ impl<'a> Parser<'a> {
         ensures shrinks { OnOk result (length self.new.left < length self.old.left) }
     {
         let mut sets = Items::new(self.alloc());
-        sets.push(self.set(room)?)?;
+        let first = self.set(room)?;
+        first.push_to(&mut sets)?;
         while self.skip_sign(Sign::Comma) {
-            sets.push(self.set(room)?)?;
+            let set = self.set(room)?;
+            set.push_to(&mut sets)?;
         }
         Ok(sets)
     }
@@ -110,7 +118,7 @@ impl<'a> Parser<'a> {
     }
 
     /// What stands behind `insert`.
-    fn insert(&mut self, room: u32) -> Result<Statement, ParseErr>
+    fn insert(&mut self, room: u32) -> Result<Sealed<Statement>, ParseErr>
         ensures reads { Reads result (insert_at (within_at room)) self.old self.new }
         ensures shrinks { OnOk result (length self.new.left < length self.old.left) }
     {
@@ -120,7 +128,7 @@ impl<'a> Parser<'a> {
         self.take_sign(Sign::Open)?;
         let values = self.values(room)?;
         self.take_sign(Sign::Close)?;
-        Ok(Statement::Insert { table, values })
+        Ok(Sealed::new(Statement::Insert { table, values }))
     }
 
     /// Whether a name and `into` come next.
@@ -143,7 +151,7 @@ impl<'a> Parser<'a> {
     }
 
     /// A key alone, behind a table's name.
-    fn only_key(&mut self, room: u32) -> Result<Expr, ParseErr>
+    fn only_key(&mut self, room: u32) -> Result<Sealed<Expr>, ParseErr>
         ensures reads { Reads result (only_key_at (within_at room)) self.old self.new }
         ensures shrinks { OnOk result (length self.new.left < length self.old.left) }
     {
@@ -153,7 +161,7 @@ impl<'a> Parser<'a> {
         self.operand(room)
     }
 
-    fn select_into(&mut self, room: u32) -> Result<Statement, ParseErr>
+    fn select_into(&mut self, room: u32) -> Result<Sealed<Statement>, ParseErr>
         ensures reads { Reads result (select_into_at (within_at room)) self.old self.new }
         ensures shrinks { OnOk result (length self.new.left < length self.old.left) }
     {
@@ -161,15 +169,15 @@ impl<'a> Parser<'a> {
         self.take_key(Keyword::From)?;
         let table = self.name()?;
         let key = self.only_key(room)?;
-        Ok(Statement::SelectInto {
+        Ok(Sealed::new(Statement::SelectInto {
             column,
             var,
             table,
-            key,
-        })
+            key: key.into_inner(),
+        }))
     }
 
-    fn select_rows(&mut self, room: u32) -> Result<Statement, ParseErr>
+    fn select_rows(&mut self, room: u32) -> Result<Sealed<Statement>, ParseErr>
         ensures reads { Reads result (select_rows_at (within_at room)) self.old self.new }
         ensures shrinks { OnOk result (length self.new.left < length self.old.left) }
     {
@@ -177,11 +185,15 @@ impl<'a> Parser<'a> {
         self.take_key(Keyword::From)?;
         let table = self.name()?;
         let scan = self.scan(room)?;
-        Ok(Statement::Select { what, table, scan })
+        Ok(Sealed::new(Statement::Select {
+            what,
+            table,
+            scan: scan.into_inner(),
+        }))
     }
 
     /// What stands behind `select`.
-    fn select(&mut self, room: u32) -> Result<Statement, ParseErr>
+    fn select(&mut self, room: u32) -> Result<Sealed<Statement>, ParseErr>
         ensures reads { Reads result (select_at (within_at room)) self.old self.new }
         ensures shrinks { OnOk result (length self.new.left < length self.old.left) }
     {
@@ -193,7 +205,7 @@ impl<'a> Parser<'a> {
     }
 
     /// What stands behind `update`.
-    fn update(&mut self, room: u32) -> Result<Statement, ParseErr>
+    fn update(&mut self, room: u32) -> Result<Sealed<Statement>, ParseErr>
         ensures reads { Reads result (update_at (within_at room)) self.old self.new }
         ensures shrinks { OnOk result (length self.new.left < length self.old.left) }
     {
@@ -201,22 +213,29 @@ impl<'a> Parser<'a> {
         self.take_key(Keyword::Set)?;
         let sets = self.sets(room)?;
         let scan = self.scan(room)?;
-        Ok(Statement::Update { table, sets, scan })
+        Ok(Sealed::new(Statement::Update {
+            table,
+            sets,
+            scan: scan.into_inner(),
+        }))
     }
 
     /// What stands behind `delete`.
-    fn delete(&mut self, room: u32) -> Result<Statement, ParseErr>
+    fn delete(&mut self, room: u32) -> Result<Sealed<Statement>, ParseErr>
         ensures reads { Reads result (delete_at (within_at room)) self.old self.new }
         ensures shrinks { OnOk result (length self.new.left < length self.old.left) }
     {
         self.take_key(Keyword::From)?;
         let table = self.name()?;
         let scan = self.scan(room)?;
-        Ok(Statement::Delete { table, scan })
+        Ok(Sealed::new(Statement::Delete {
+            table,
+            scan: scan.into_inner(),
+        }))
     }
 
     /// UPDATE, DELETE or ENSURE.
-    fn change(&mut self, room: u32) -> Result<Statement, ParseErr>
+    fn change(&mut self, room: u32) -> Result<Sealed<Statement>, ParseErr>
         ensures reads { Reads result (change_at (within_at room)) self.old self.new }
         ensures shrinks { OnOk result (length self.new.left < length self.old.left) }
     {
@@ -227,12 +246,13 @@ impl<'a> Parser<'a> {
             return self.delete(room);
         }
         self.take_key(Keyword::Ensure)?;
-        Ok(Statement::Ensure(self.whole(room)?))
+        let condition = self.whole(room)?;
+        Ok(Sealed::new(Statement::Ensure(condition.into_inner())))
     }
 
     /// A statement, with room for so many parentheses in its expressions, and for so many in those of INSERT.
     #[tactic(auto, unfolding(crate::specs::StatementReading::statement_at))]
-    pub fn statement(&mut self, room: u32, deeper: u32) -> Result<Statement, ParseErr>
+    pub fn statement(&mut self, room: u32, deeper: u32) -> Result<Sealed<Statement>, ParseErr>
         ensures reads { Reads result (statement_at (within_at room) (within_at deeper)) self.old self.new }
         ensures shrinks { OnOk result (length self.new.left < length self.old.left) }
     {

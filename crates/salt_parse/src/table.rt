@@ -7,6 +7,7 @@ ghost use Rattle.salt_parse.specs.TableReading.{check_at, checks_at, definition_
 
 use crate::error::ParseErr;
 use crate::parser::Parser;
+use crate::sealed::Sealed;
 use salt_ast::{ColType, Expr, Exprs, Field, Fields, LimitName, TableDef};
 use salt_tokens::{Keyword, Lexeme, Sign};
 use salt_values::limits::{CHECKS_MOST, COLUMNS_MOST};
@@ -95,7 +96,7 @@ impl<'a> Parser<'a> {
     }
 
     /// The check that stands behind so many others.
-    fn check(&mut self, room: u32, count: usize) -> Result<Expr, ParseErr>
+    fn check(&mut self, room: u32, count: usize) -> Result<Sealed<Expr>, ParseErr>
         ensures reads { Reads result (check_at (within_at room) count) self.old self.new }
         ensures shrinks { OnOk result (length self.new.left < length self.old.left) }
     {
@@ -111,13 +112,13 @@ impl<'a> Parser<'a> {
         let mut checks = Items::new(self.alloc());
         while self.skip_sign(Sign::Comma) {
             let check = self.check(room, checks.len())?;
-            checks.push(check)?;
+            check.push_to(&mut checks)?;
         }
         Ok(checks)
     }
 
     /// What stands behind `create table`.
-    fn definition(&mut self, room: u32) -> Result<TableDef, ParseErr>
+    fn definition(&mut self, room: u32) -> Result<Sealed<TableDef>, ParseErr>
         ensures { Reads result (definition_at (within_at room)) self.old self.new }
     {
         let name = self.name()?;
@@ -125,16 +126,16 @@ impl<'a> Parser<'a> {
         let columns = self.fields()?;
         let checks = self.checks(room)?;
         self.take_sign(Sign::Close)?;
-        Ok(TableDef {
+        Ok(Sealed::new(TableDef {
             name,
             columns,
             checks,
-        })
+        }))
     }
 
     /// A table, with room for so many parentheses in its checks.
     #[tactic(auto, unfolding(crate::specs::TableReading::table_at))]
-    pub fn table(&mut self, room: u32) -> Result<TableDef, ParseErr>
+    pub fn table(&mut self, room: u32) -> Result<Sealed<TableDef>, ParseErr>
         ensures { Reads result (table_at (within_at room)) self.old self.new }
     {
         self.take_key(Keyword::Create)?;

@@ -9,6 +9,7 @@ ghost use Rattle.salt_parse.specs.TableReading.{table_within};
 
 use crate::error::ParseErr;
 use crate::parser::Parser;
+use crate::sealed::Sealed;
 use salt_ast::{ProgramDef, Statement, TableDef};
 
 /// A tree that a whole text may spell.
@@ -17,14 +18,14 @@ pub trait Tree: Drop {
     ghost reading: { ℕ → ℕ → Reader Self };
 
     /// Reads it from what is left.
-    fn read(parser: &mut Parser<'_>, room: u32, inside: u32) -> Result<Self, ParseErr>
+    fn read(parser: &mut Parser<'_>, room: u32, inside: u32) -> Result<Sealed<Self>, ParseErr>
         ensures { Reads result (reading room inside) parser.old parser.new };
 }
 
 impl Tree for Statement {
     ghost reading = { statement_within };
 
-    fn read(parser: &mut Parser<'_>, room: u32, inside: u32) -> Result<Self, ParseErr> {
+    fn read(parser: &mut Parser<'_>, room: u32, inside: u32) -> Result<Sealed<Self>, ParseErr> {
         parser.statement(room, inside)
     }
 }
@@ -32,7 +33,7 @@ impl Tree for Statement {
 impl Tree for TableDef {
     ghost reading = { table_within };
 
-    fn read(parser: &mut Parser<'_>, _room: u32, inside: u32) -> Result<Self, ParseErr> {
+    fn read(parser: &mut Parser<'_>, _room: u32, inside: u32) -> Result<Sealed<Self>, ParseErr> {
         parser.table(inside)
     }
 }
@@ -40,7 +41,7 @@ impl Tree for TableDef {
 impl Tree for ProgramDef {
     ghost reading = { program_within };
 
-    fn read(parser: &mut Parser<'_>, room: u32, inside: u32) -> Result<Self, ParseErr> {
+    fn read(parser: &mut Parser<'_>, room: u32, inside: u32) -> Result<Sealed<Self>, ParseErr> {
         parser.program(room, inside)
     }
 }

@@ -5,6 +5,6 @@ use Rattle.salt_parse.proofs.parser.binary.Goals as goal
 
 pub returns : goal.returns
 returns c =
-    let l : c.in_ok-left.left ≡ c.args.left = c.in_ok-left.ensures in
-    let r : c.in_ok-right.right ≡ c.args.right = c.in_ok-right.ensures in
-    rw c.if-not-is_clear.false (operation_node c.args.op c.in_ok-left.left c.in_ok-right.right ∙ λ i. operation c.args.op (l i) (r i))
+    let l : c.in_ok-left.left ≡ c.args.left = c.in_ok-left.ensures ∙ c.into_inner.ensures in
+    let r : c.in_ok-right.right ≡ c.args.right = c.in_ok-right.ensures ∙ c.into_inner-2.ensures in
+    rw c.if-not-is_clear.false (c.new-3.ensures ∙ operation_node c.args.op c.in_ok-left.left c.in_ok-right.right ∙ λ i. operation c.args.op (l i) (r i))

@@ -15,7 +15,7 @@ returns-in_err-check c =
 
 pub loop-self-preserved : goal.loop-self-preserved
 loop-self-preserved c =
-    let more : c.push.new.self ≡ c.loop-self.checks ++ c.in_ok-check.check ∷ [] = c.in_ok-push.ensures.ok in
+    let more : c.push_to.new.items ≡ c.loop-self.checks ++ c.in_ok-check.check ∷ [] = c.in_ok-push_to.ensures in
     rw more (IsListing-goes_on comma
     (check_at (within_at c.args.room)) comma_shortens c.loop-self.checks c.len.result c.loop-self.self c.skip_sign.new.self c.check.new.self
     c.in_ok-check.check _ c.len.ensures c.loop-self.invariant c.loop-self-test.ensures.reads c.loop-self-test.ensures.flags

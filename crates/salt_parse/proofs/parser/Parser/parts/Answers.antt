@@ -19,7 +19,7 @@ returns-in_err-part c =
 
 pub loop-self-preserved : goal.loop-self-preserved
 loop-self-preserved c =
-    let more : c.push-in-loop-self.new.self ≡ c.loop-self.parts ++ c.in_ok-part.part ∷ [] = c.in_ok-push-2.ensures.ok in
+    let more : c.push_to-in-loop-self.new.items ≡ c.loop-self.parts ++ c.in_ok-part.part ∷ [] = c.in_ok-push_to-2.ensures in
     rw more (IsListing-goes_on (after (key word.Part)) (counted_at PARTS_MOST limit.Parts (part_at (within_at c.args.room) (within_at c.args.deeper))) (after_shortens (key word.Part)) c.loop-self.parts
     c.len.result c.loop-self.self c.skip_key.new.self c.counted_part-in-loop-self.new.self c.in_ok-part.part _ c.len.ensures
     c.loop-self.invariant c.loop-self-test.ensures.reads c.loop-self-test.ensures.flags c.in_ok-part.ensures.reads c.in_ok-part.ensures.shrinks)

@@ -6,27 +6,27 @@ use Rattle.salt_parse.specs.StatementReading.{set_at}
 use Rattle.salt_parse.proofs.Listing.{IsListing-ends, IsListing-fails, IsListing-goes_on, comma_shortens}
 use Rattle.salt_parse.proofs.parser.Parser.sets.Goals as goal
 
-pub returns-in_err-set-2 : goal.returns-in_err-set-2
-returns-in_err-set-2 c =
-    let p = err_from_is_err_and c.from_residual-in_err-set-2.result c.from_residual-in_err-set-2.ensures.1 in
+pub returns-in_err-set : goal.returns-in_err-set
+returns-in_err-set c =
+    let p = err_from_is_err_and c.from_residual-in_err-set.result c.from_residual-in_err-set.ensures.1 in
     rw (p.1, p.2) (record {
-      reads = IsListing-fails comma (λ n. set_at (within_at c.args.room)) comma_shortens c.loop-sets.sets
-          (length c.loop-sets.sets) c.loop-sets.self c.skip_sign.new.self _ _ refl c.loop-sets.invariant.listing c.loop-sets-test.ensures.reads
-          c.loop-sets-test.ensures.flags c.in_err-set-2.ensures.reads;
+      reads = IsListing-fails comma (λ n. set_at (within_at c.args.room)) comma_shortens c.loop-self.sets
+          (length c.loop-self.sets) c.loop-self.self c.skip_sign.new.self _ _ refl c.loop-self.invariant.listing c.loop-self-test.ensures.reads
+          c.loop-self-test.ensures.flags c.in_err-set.ensures.reads;
       shrinks = tt;
     })
 
-pub loop-sets-preserved : goal.loop-sets-preserved
-loop-sets-preserved c =
-    let more : c.push-in-loop-sets.new.self ≡ c.loop-sets.sets ++ c.in_ok-set-2.field-0 ∷ [] = c.in_ok-push-2.ensures.ok in
+pub loop-self-preserved : goal.loop-self-preserved
+loop-self-preserved c =
+    let more : c.push_to-in-loop-self.new.items ≡ c.loop-self.sets ++ c.in_ok-set.set ∷ [] = c.in_ok-push_to-2.ensures in
     record {
-      listing = rw more (IsListing-goes_on comma (λ n. set_at (within_at c.args.room)) comma_shortens c.loop-sets.sets
-          (length c.loop-sets.sets) c.loop-sets.self c.skip_sign.new.self c.set-in-loop-sets.new.self c.in_ok-set-2.field-0 _ refl c.loop-sets.invariant.listing
-          c.loop-sets-test.ensures.reads c.loop-sets-test.ensures.flags c.in_ok-set-2.ensures.reads c.in_ok-set-2.ensures.shrinks);
-      shorter = omega (arith, c.in_ok-set-2.ensures.shrinks, c.loop-sets-test.ensures.shrinks, c.loop-sets.invariant.shorter);
+      listing = rw more (IsListing-goes_on comma (λ n. set_at (within_at c.args.room)) comma_shortens c.loop-self.sets
+          (length c.loop-self.sets) c.loop-self.self c.skip_sign.new.self c.set-in-loop-self.new.self c.in_ok-set.set _ refl c.loop-self.invariant.listing
+          c.loop-self-test.ensures.reads c.loop-self-test.ensures.flags c.in_ok-set.ensures.reads c.in_ok-set.ensures.shrinks);
+      shorter = omega (arith, c.in_ok-set.ensures.shrinks, c.loop-self-test.ensures.shrinks, c.loop-self.invariant.shorter);
     }
 
 pub returns-clause-reads : goal.returns-clause-reads
-returns-clause-reads c = rw (c.loop-sets-test.ensures.stays refl)
-    (IsListing-ends comma (λ n. set_at (within_at c.args.room)) comma_shortens c.loop-sets.sets c.loop-sets.self _ c.loop-sets.invariant.listing
-    c.loop-sets-test.ensures.reads)
+returns-clause-reads c = rw (c.loop-self-test.ensures.stays refl)
+    (IsListing-ends comma (λ n. set_at (within_at c.args.room)) comma_shortens c.loop-self.sets c.loop-self.self _ c.loop-self.invariant.listing
+    c.loop-self-test.ensures.reads)

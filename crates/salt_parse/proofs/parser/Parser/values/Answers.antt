@@ -6,27 +6,27 @@ use Rattle.salt_parse.specs.StatementReading.{value_at}
 use Rattle.salt_parse.proofs.Listing.{IsListing-ends, IsListing-fails, IsListing-goes_on, comma_shortens}
 use Rattle.salt_parse.proofs.parser.Parser.values.Goals as goal
 
-pub returns-in_err-value-2 : goal.returns-in_err-value-2
-returns-in_err-value-2 c =
-    let p = err_from_is_err_and c.from_residual-in_err-value-2.result c.from_residual-in_err-value-2.ensures.1 in
+pub returns-in_err-value : goal.returns-in_err-value
+returns-in_err-value c =
+    let p = err_from_is_err_and c.from_residual-in_err-value.result c.from_residual-in_err-value.ensures.1 in
     rw (p.1, p.2) (record {
-      reads = IsListing-fails comma (λ n. value_at (within_at c.args.room)) comma_shortens c.loop-values.values
-          (length c.loop-values.values) c.loop-values.self c.skip_sign.new.self _ _ refl c.loop-values.invariant.listing c.loop-values-test.ensures.reads
-          c.loop-values-test.ensures.flags c.in_err-value-2.ensures.reads;
+      reads = IsListing-fails comma (λ n. value_at (within_at c.args.room)) comma_shortens c.loop-self.values
+          (length c.loop-self.values) c.loop-self.self c.skip_sign.new.self _ _ refl c.loop-self.invariant.listing c.loop-self-test.ensures.reads
+          c.loop-self-test.ensures.flags c.in_err-value.ensures.reads;
       shrinks = tt;
     })
 
-pub loop-values-preserved : goal.loop-values-preserved
-loop-values-preserved c =
-    let more : c.push-in-loop-values.new.self ≡ c.loop-values.values ++ c.in_ok-value-2.field-0 ∷ [] = c.in_ok-push-2.ensures.ok in
+pub loop-self-preserved : goal.loop-self-preserved
+loop-self-preserved c =
+    let more : c.push_to-in-loop-self.new.items ≡ c.loop-self.values ++ c.in_ok-value.value ∷ [] = c.in_ok-push_to-2.ensures in
     record {
-      listing = rw more (IsListing-goes_on comma (λ n. value_at (within_at c.args.room)) comma_shortens c.loop-values.values
-          (length c.loop-values.values) c.loop-values.self c.skip_sign.new.self c.value-in-loop-values.new.self c.in_ok-value-2.field-0 _ refl
-          c.loop-values.invariant.listing c.loop-values-test.ensures.reads c.loop-values-test.ensures.flags c.in_ok-value-2.ensures.reads c.in_ok-value-2.ensures.shrinks);
-      shorter = omega (arith, c.in_ok-value-2.ensures.shrinks, c.loop-values-test.ensures.shrinks, c.loop-values.invariant.shorter);
+      listing = rw more (IsListing-goes_on comma (λ n. value_at (within_at c.args.room)) comma_shortens c.loop-self.values
+          (length c.loop-self.values) c.loop-self.self c.skip_sign.new.self c.value-in-loop-self.new.self c.in_ok-value.value _ refl
+          c.loop-self.invariant.listing c.loop-self-test.ensures.reads c.loop-self-test.ensures.flags c.in_ok-value.ensures.reads c.in_ok-value.ensures.shrinks);
+      shorter = omega (arith, c.in_ok-value.ensures.shrinks, c.loop-self-test.ensures.shrinks, c.loop-self.invariant.shorter);
     }
 
 pub returns-clause-reads : goal.returns-clause-reads
-returns-clause-reads c = rw (c.loop-values-test.ensures.stays refl)
-    (IsListing-ends comma (λ n. value_at (within_at c.args.room)) comma_shortens c.loop-values.values c.loop-values.self _
-    c.loop-values.invariant.listing c.loop-values-test.ensures.reads)
+returns-clause-reads c = rw (c.loop-self-test.ensures.stays refl)
+    (IsListing-ends comma (λ n. value_at (within_at c.args.room)) comma_shortens c.loop-self.values c.loop-self.self _
+    c.loop-self.invariant.listing c.loop-self-test.ensures.reads)

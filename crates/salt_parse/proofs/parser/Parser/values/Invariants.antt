@@ -5,11 +5,11 @@ use Rattle.salt_parse.specs.StatementReading.{value_at, values_at}
 use Rattle.salt_parse.proofs.Listing.{IsListing}
 use Rattle.salt_parse.proofs.parser.Parser.values.Given as goal
 
-abbrev pub invariant-loop-values : goal.invariant-loop-values
-invariant-loop-values l = record {
+abbrev pub invariant-loop-self : goal.invariant-loop-self
+invariant-loop-self l = record {
   listing : IsListing comma (λ n. value_at (within_at l.room)) l.values l.self (values_at (within_at l.room) l.fn.self.flags l.fn.self.left);
   shorter : length l.self.left < length l.fn.self.left;
 }
 
-abbrev pub decreases-loop-values : goal.decreases-loop-values
-decreases-loop-values l = length l.self.left
+abbrev pub decreases-loop-self : goal.decreases-loop-self
+decreases-loop-self l = length l.self.left
