@@ -1,15 +1,14 @@
 -- Readers one behind the other: what is found is spelled so, what is spelled so is found, and what is passed is noted.
-use Rattle.std.proofs.Common.{◌≡◌, ℕ, Bool, false, true, List, [], ◌∷◌, ◌++◌, ◌||◌, Option, Some, None, refl, sym, ap, subst, ◌∙◌, append_assoc}
+use Rattle.std.proofs.Common.{◌≡◌, false, true, [], ◌∷◌, ◌++◌, ◌||◌, Some, None, refl, sym, ap, ◌∙◌, append_assoc}
 use denote.Enum.Bare.{true_same}
 use Rattle.std.specs.Option.{option_or}
 use Rattle.salt_parse.specs.Combining.{before_at, behind_at, both_at, choice_at, made_at, nothing_at}
-use Rattle.salt_parse.specs.Flags.{Flags, clear, note}
-use Rattle.salt_parse.specs.Reading.{Read, Reader, after, either, is_same}
-use Rattle.salt_parse.specs.Settling.{ArePrintable}
-use Rattle.salt_parse.proofs.ExpressionLaws.{bind_some, either_is, some_is}
+use Rattle.salt_parse.specs.Flags.{Flags, clear}
+use Rattle.salt_parse.specs.Reading.{Reader, after, either}
+use Rattle.salt_parse.proofs.ExpressionLaws.{bind_some, either_is}
 use Rattle.salt_parse.proofs.ListLaws.{CompleteFor, SoundFor, renamed}
 use Rattle.salt_parse.proofs.Loop.{after_is}
-use Rattle.salt_parse.proofs.Mirror.{Agrees, AgreesAll, AreKept, Marks, after_printable, agrees_after, agrees_bind, agrees_either, clear_before}
+use Rattle.salt_parse.proofs.Mirror.{AgreesAll, AreKept, Marks, after_printable, agrees_after, agrees_bind, agrees_either, clear_before}
 use Rattle.salt_parse.proofs.Mirror.{note_note, noted}
 use Rattle.salt_parse.proofs.MirrorLists.{done, note_none}
 use Rattle.salt_parse.proofs.Trees.{TreeReader}

@@ -19,14 +19,12 @@ use Rattle.salt_ast.specs.declared.programs.ProgramDef.{ProgramDef}
 use Rattle.salt_ast.specs.declared.trees.Expr.{Expr}
 use Rattle.salt_ast.specs.declared.trees.Field.{Field}
 use Rattle.salt_ast.specs.declared.trees.Statement.{Statement}
-use Rattle.salt_parse.specs.Combining.{before_at, behind_at, both_at, choice_at, made_at, nothing_at}
+use Rattle.salt_parse.specs.Combining.{before_at, behind_at, both_at, made_at, nothing_at}
 use Rattle.salt_parse.specs.Flags.{BuiltTree, Flags, clear, note}
-use Rattle.salt_parse.specs.Lists.{comma}
 use Rattle.salt_parse.specs.ProgramReading.{base_at, block_at, body_at, branch_at, fields_within, kept_retry, number_at, on_commit_at, on_failure_at}
 use Rattle.salt_parse.specs.ProgramReading.{parameters_at, part_at, part_def, parts_at, program_at, program_def, rest_at, retry_at, statements_at}
 use Rattle.salt_parse.specs.ProgramReading.{tried, untried, variables_at, way_at}
-use Rattle.salt_parse.specs.Reading.{Reader, after}
-use Rattle.salt_parse.specs.Settling.{ArePrintable}
+use Rattle.salt_parse.specs.Reading.{Reader}
 use Rattle.salt_parse.specs.StatementReading.{name_at, statement_at}
 use Rattle.salt_parse.specs.TableReading.{field_at}
 use Rattle.salt_parse.proofs.Combined.{before_agrees, before_of, behind_agrees, behind_of, both_agrees, both_marks, both_of, choice_agrees}
@@ -38,7 +36,7 @@ use Rattle.salt_parse.proofs.ProgramTrees.{base_of, block_of, body_of, branch_of
 use Rattle.salt_parse.proofs.ProgramTrees.{parameters_of, part_of, parts_of, program_of, rest_of, retried_of, statements_of, variables_of, way_of}
 use Rattle.salt_parse.proofs.StatementTrees.{field_of, name_of, statement_of}
 use Rattle.salt_parse.proofs.Trees.{TreeReader}
-use Rattle.salt_tokens.specs.Symbols.{Symbols, int, key, name, sign, text}
+use Rattle.salt_tokens.specs.Symbols.{int, key, name, sign, text}
 use Rattle.salt_tokens.specs.declared.keyword.Keyword.TheVariants as word
 use Rattle.salt_tokens.specs.declared.sign.Sign.TheVariants as mark
 

@@ -1,5 +1,5 @@
 -- The programs that are found are spelled so, those that are spelled so are found, and fewer parentheses spell the same.
-use Rattle.std.proofs.Common.{◌≡◌, ℕ, List, [], ◌∷◌, ◌++◌, Option, Some, None, refl, sym, ap, subst, ◌∙◌, append_assoc, arith}
+use Rattle.std.proofs.Common.{◌≡◌, ℕ, List, [], ◌∷◌, ◌++◌, Option, Some, None, refl, subst, append_assoc, arith}
 use Rattle.std.proofs.lemmas.List.{append-nil}
 use Rattle.salt_ast.specs.Programs as form
 use Rattle.salt_ast.specs.Programs.{AnyListed, AreVariables, IsBlock, IsBody, IsOnFailure, IsPart, IsProgram, IsThen, IsWay, Several}
@@ -23,7 +23,7 @@ use Rattle.salt_parse.proofs.Combined.{Before, Behind, Both, Choice, Made, Nothi
 use Rattle.salt_parse.proofs.Combined.{before_complete, before_of, before_sound, behind_complete, behind_of, behind_sound, both_complete, both_of, both_sound}
 use Rattle.salt_parse.proofs.Combined.{choice_complete, choice_sound, complete_as, key_opens, made_complete, made_of, made_sound, nothing_complete}
 use Rattle.salt_parse.proofs.Combined.{nothing_of, nothing_sound, sign_opens, sound_as}
-use Rattle.salt_parse.proofs.ExpressionLaws.{Complete, Sound, some_is}
+use Rattle.salt_parse.proofs.ExpressionLaws.{Complete, Sound}
 use Rattle.salt_parse.proofs.ListLaws.{CompleteFor, FollowingOf, ListedOf, SoundFor, listed, listed_by_sign, listed_complete, listed_of_sign, listed_sound}
 use Rattle.salt_parse.proofs.ListLaws.{none_follow, one_follows, renamed}
 use Rattle.salt_parse.proofs.Loop.{after_is}
@@ -31,10 +31,10 @@ use Rattle.salt_parse.proofs.ProgramTrees.{base_of, block_of, body_of, branch_of
 use Rattle.salt_parse.proofs.ProgramTrees.{parameters_of, part_of, parts_of, program_of, rest_of, retried_of, statements_of, variables_of, way_of}
 use Rattle.salt_parse.proofs.StatementComplete.{Ends, comma_opens, field_complete, name_complete, statement_complete}
 use Rattle.salt_parse.proofs.StatementSound.{comma_is, field_sound, name_sound, statement_sound}
-use Rattle.salt_parse.proofs.StatementTrees.{field_of, listed_of, name_of, statement_of}
+use Rattle.salt_parse.proofs.StatementTrees.{field_of, name_of, statement_of}
 use Rattle.salt_parse.proofs.Trees.{TreeReader}
 use Rattle.salt_parse.proofs.Up.{Upwards, listed_up, statement_up}
-use Rattle.salt_tokens.specs.Symbols.{Symbols, int, key, name, sign, text}
+use Rattle.salt_tokens.specs.Symbols.{Symbols, int, key, name, sign}
 use Rattle.salt_tokens.specs.declared.keyword.Keyword.TheVariants as word
 use Rattle.salt_tokens.specs.declared.sign.Sign.TheVariants as mark
 

@@ -1,15 +1,11 @@
 -- The statements and tables that are spelled so are found.
-use Rattle.std.proofs.Common.{◌≡◌, ℕ, suc, zero, false, List, [], ◌∷◌, ◌++◌, ◌≤◌, ◌<◌, length, Option, Some, None, refl, append_assoc, arith, length-append}
-use Rattle.salt_ast.specs.Grammar.{Expression}
-use Rattle.salt_ast.specs.Operators.{operator, precedence}
+use Rattle.std.proofs.Common.{◌≡◌, false, List, [], ◌∷◌, ◌++◌, Option, Some, None, refl, append_assoc, arith}
 use Rattle.salt_ast.specs.Statements as form
 use Rattle.salt_ast.specs.Statements.{ColumnValue, Following, IsAnd, IsName, IsScan, IsSet, IsStatement, IsWhat, Listed}
 use Rattle.salt_ast.specs.Tables as table
 use Rattle.salt_ast.specs.Tables.{IsCheck, IsColumn, IsField, IsTable}
 use Rattle.salt_ast.specs.declared.trees.Expr.{Expr}
 use Rattle.salt_ast.specs.declared.trees.Field.{Field}
-use Rattle.salt_ast.specs.declared.trees.Op.{Op}
-use Rattle.salt_ast.specs.declared.trees.Op.TheVariants as op
 use Rattle.salt_ast.specs.declared.trees.Scan.{Scan}
 use Rattle.salt_ast.specs.declared.trees.Set.{Set}
 use Rattle.salt_ast.specs.declared.trees.TableDef.{TableDef}
@@ -23,7 +19,7 @@ use Rattle.salt_parse.proofs.ListLaws.{CompleteFor, following_complete, listed_c
 use Rattle.salt_parse.proofs.ExpressionLaws.{expression_begins, expression_complete, sum_complete}
 use Rattle.salt_parse.proofs.StatementTrees.{and_of, check_of, column_of, field_of, listed_of, name_of, scan_of, set_of, sets_of, statement_of}
 use Rattle.salt_parse.proofs.StatementTrees.{table_of, value_of, values_of, what_of}
-use Rattle.salt_parse.proofs.Trees.{TreeReader, expression_of}
+use Rattle.salt_parse.proofs.Trees.{TreeReader}
 use Rattle.salt_tokens.specs.Symbols.{Symbols, key, name, sign}
 use Rattle.salt_tokens.specs.declared.keyword.Keyword.TheVariants as word
 use Rattle.salt_tokens.specs.declared.sign.Sign.TheVariants as mark

@@ -1,7 +1,6 @@
 -- The statements and tables that are found are spelled so.
-use Rattle.std.proofs.Common.{◌≡◌, ℕ, suc, zero, Bool, true, false, cond, List, [], ◌∷◌, ◌++◌, length, Option, Some, None, refl, sym, ap, subst, ◌∙◌}
+use Rattle.std.proofs.Common.{◌≡◌, ℕ, Bool, true, false, cond, List, [], ◌∷◌, ◌++◌, length, Option, Some, None, refl, sym, ap, ◌∙◌}
 use Rattle.std.proofs.Common.{append_assoc}
-use Rattle.salt_ast.specs.Grammar.{Expression}
 use Rattle.salt_ast.specs.Statements as form
 use Rattle.salt_ast.specs.Statements.{ColumnValue, Following, IsAnd, IsName, IsScan, IsSet, IsStatement, IsWhat, Listed}
 use Rattle.salt_ast.specs.Tables as table

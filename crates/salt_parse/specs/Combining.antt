@@ -2,7 +2,7 @@
 use Rattle.salt_parse.specs.Reading.{Reader, after, either}
 use Rattle.salt_tokens.specs.Scanning.{◌>>=◌}
 use Rattle.salt_tokens.specs.Symbols.{Symbol}
-use Rattle.std.specs.Prelude.{Option, Some}
+use Rattle.std.specs.Prelude.{Some}
 
 -- nothing is read
 abbrev pub nothing_at : {A : Type 0} → A → Reader A

@@ -1,4 +1,4 @@
-use Rattle.std.proofs.Common.{◌<◌, length}
+use Rattle.std.proofs.Common.{length}
 use Rattle.salt_parse.specs.Lists.{comma, counted_at}
 use Rattle.salt_parse.specs.ProgramReading.{fields_within}
 use Rattle.salt_parse.specs.TableReading.{field_at}

@@ -1,4 +1,4 @@
-use Rattle.std.proofs.Common.{◌<◌, length}
+use Rattle.std.proofs.Common.{length}
 use Rattle.salt_parse.specs.Lists.{counted_at}
 use Rattle.salt_parse.specs.Reading.{after, within_at}
 use Rattle.salt_ast.specs.declared.limit.LimitName.TheVariants as limit
