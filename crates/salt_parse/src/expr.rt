@@ -2,7 +2,7 @@
 
 ghost use Rattle.std.specs.Prelude.{◌≡◌, ◌<◌, OnOk, length};
 ghost use Rattle.salt_parse.specs.Parsing.{ReadsBuilt};
-ghost use Rattle.salt_parse.specs.Reading.{atom_at, comparison_at, level_at, level_precedence, negation_at, operand_at, paren_at, within_at};
+ghost use Rattle.salt_parse.specs.Reading.{atom_at, colon_at, comparison_at, level_at, level_precedence, minus_at, negation_at, operand_at, paren_at, within_at};
 
 use crate::built::{Built, Unary};
 use crate::error::ParseErr;
@@ -98,6 +98,30 @@ impl<'a> Parser<'a> {
         }
     }
 
+    /// What stands behind a minus sign.
+    fn negative(&mut self) -> Result<Built, ParseErr>
+        ensures reads { ReadsBuilt result minus_at self.old self.new }
+        ensures shrinks { OnOk result (length self.new.left < length self.old.left) }
+    {
+        let [Lexeme::Int(number), rest @ ..] = self.rest else {
+            return Err(ParseErr::Syntax);
+        };
+        self.rest = rest;
+        Ok(self.number(signed(true, *number)))
+    }
+
+    /// What stands behind a colon.
+    fn named(&mut self) -> Result<Built, ParseErr>
+        ensures reads { ReadsBuilt result colon_at self.old self.new }
+        ensures shrinks { OnOk result (length self.new.left < length self.old.left) }
+    {
+        let [Lexeme::Name(name), rest @ ..] = self.rest else {
+            return Err(ParseErr::Syntax);
+        };
+        self.rest = rest;
+        self.variable(name)
+    }
+
     /// A literal, a name, or what stands in parentheses.
     #[cycle(expr)]
     #[tactic(auto, unfolding(crate::specs::Reading::atom_at))]
@@ -105,31 +129,17 @@ impl<'a> Parser<'a> {
         ensures reads { ReadsBuilt result (atom_at (within_at room)) self.old self.new }
         ensures shrinks { OnOk result (length self.new.left < length self.old.left) }
     {
-        match self.rest {
-            [Lexeme::Int(number), rest @ ..] => {
-                self.rest = rest;
-                Ok(self.number(signed(false, *number)))
-            }
-            [Lexeme::Text(quoted), rest @ ..] => {
-                self.rest = rest;
-                Ok(self.text(quoted)?)
-            }
-            [Lexeme::Name(name), rest @ ..] => {
-                self.rest = rest;
-                Ok(self.column(name)?)
-            }
-            [Lexeme::Sign(Sign::Minus), Lexeme::Int(number), rest @ ..] => {
-                self.rest = rest;
-                Ok(self.number(signed(true, *number)))
-            }
-            [Lexeme::Sign(Sign::Colon), Lexeme::Name(name), rest @ ..] => {
-                self.rest = rest;
-                Ok(self.variable(name)?)
-            }
-            [Lexeme::Sign(Sign::Open), rest @ ..] => {
-                self.rest = rest;
-                self.parenthesized(room)
-            }
+        let [first, rest @ ..] = self.rest else {
+            return Err(ParseErr::Syntax);
+        };
+        self.rest = rest;
+        match first {
+            Lexeme::Int(number) => Ok(self.number(signed(false, *number))),
+            Lexeme::Text(quoted) => self.text(quoted),
+            Lexeme::Name(name) => self.column(name),
+            Lexeme::Sign(Sign::Minus) => self.negative(),
+            Lexeme::Sign(Sign::Colon) => self.named(),
+            Lexeme::Sign(Sign::Open) => self.parenthesized(room),
             _ => Err(ParseErr::Syntax),
         }
     }

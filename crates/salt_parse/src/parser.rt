@@ -6,10 +6,12 @@ ghost use Rattle.std.specs.Bool.{then_some};
 ghost use Rattle.salt_parse.specs.Attempts.{limit_in};
 ghost use Rattle.salt_parse.specs.Flags.{around_flags, around_tree, built_of, clear, join_flags, no_flags, node_of, note, note_height};
 ghost use Rattle.salt_parse.specs.Flags.{int_tree, join_tree, kept_name, signed, stand_in, text_tree};
+ghost use Rattle.salt_parse.specs.Parsing.{ReadsBuilt};
 ghost use Rattle.salt_parse.specs.Reading.{column_at, int_at, name_flags, named_at, text_at};
 ghost use Rattle.salt_tokens.specs.Symbols.{symbols_in, undoubled};
 
 use crate::built::{Built, Unary};
+use crate::error::ParseErr;
 use crate::quoted::{content, content_len};
 use crate::sealed::Sealed;
 use salt_ast::{Expr, LimitName, Op};
@@ -193,8 +195,8 @@ impl<'a> Parser<'a> {
     }
 
     /// A column's name.
-    pub fn column(&mut self, name: &[u8]) -> Result<Built, AllocError>
-        ensures leaf { IfOk result (λ b. column_at name.now self.old.flags self.old.left ≡ Some (built_of b, self.new.flags, self.new.left)) }
+    pub fn column(&mut self, name: &[u8]) -> Result<Built, ParseErr>
+        ensures reads { ReadsBuilt result (column_at name.now) self.old self.new }
         ensures left { self.new.left ≡ self.old.left }
     {
         let name = self.name_of(name)?;
@@ -205,8 +207,8 @@ impl<'a> Parser<'a> {
     }
 
     /// The name of a parameter or a variable.
-    pub fn variable(&mut self, name: &[u8]) -> Result<Built, AllocError>
-        ensures leaf { IfOk result (λ b. named_at name.now self.old.flags self.old.left ≡ Some (built_of b, self.new.flags, self.new.left)) }
+    pub fn variable(&mut self, name: &[u8]) -> Result<Built, ParseErr>
+        ensures reads { ReadsBuilt result (named_at name.now) self.old self.new }
         ensures left { self.new.left ≡ self.old.left }
     {
         let name = self.name_of(name)?;
@@ -230,8 +232,8 @@ impl<'a> Parser<'a> {
 
     /// The text between these quotes.
     #[tactic(auto, unfolding(crate::specs::Reading::text_at))]
-    pub fn text(&mut self, quoted: &[u8]) -> Result<Built, AllocError>
-        ensures leaf { IfOk result (λ b. text_at (undoubled quoted.now) self.old.flags self.old.left ≡ Some (built_of b, self.new.flags, self.new.left)) }
+    pub fn text(&mut self, quoted: &[u8]) -> Result<Built, ParseErr>
+        ensures reads { ReadsBuilt result (text_at (undoubled quoted.now)) self.old self.new }
         ensures left { self.new.left ≡ self.old.left }
     {
         self.note(TEXT_MOST < content_len(quoted), LimitName::Text);
