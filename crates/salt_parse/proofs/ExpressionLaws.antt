@@ -59,6 +59,12 @@ pub bind_some : {A B : Type 0} (o : Option A) (f : A → Option B) (y : B) → (
 bind_some None f y e = absurd cc
 bind_some (Some x) f y e = (x, refl, e)
 
+-- the same, for what follows from it
+pub bind_is : {A B : Type 0} (o : Option A) (f : A → Option B) (y : B) (C : Type 0) → (o >>= f) ≡ Some y →
+    ((x : A) → o ≡ Some x → f x ≡ Some y → C) → C
+bind_is None f y C e k = absurd cc
+bind_is (Some x) f y C e k = k x refl e
+
 abbrev pub found : {A : Type 0} → A → Option A
 found x = Some x
 
