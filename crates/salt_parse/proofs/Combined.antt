@@ -5,7 +5,7 @@ use Rattle.std.specs.Option.{option_or}
 use Rattle.salt_parse.specs.Combining.{before_at, behind_at, both_at, choice_at, made_at, nothing_at}
 use Rattle.salt_parse.specs.Flags.{Flags, clear}
 use Rattle.salt_parse.specs.Reading.{Reader, after, either}
-use Rattle.salt_parse.proofs.ExpressionLaws.{bind_some, either_is}
+use Rattle.salt_parse.proofs.ExpressionLaws.{bind_is, either_is}
 use Rattle.salt_parse.proofs.ListLaws.{CompleteFor, SoundFor, renamed}
 use Rattle.salt_parse.proofs.Loop.{after_is}
 use Rattle.salt_parse.proofs.Mirror.{AgreesAll, AreKept, Marks, after_printable, agrees_after, agrees_bind, agrees_either, clear_before}
@@ -68,34 +68,34 @@ nothing_sound x ts y rest h = renamed (Nothing x) ts [] x ts y rest h refl nothi
 module _ {A : Type 0} (G : Symbols → A → Type 0) (find : TreeReader A) (s : SoundFor G find) where
   pub behind_sound : (t : Symbol) → SoundFor (Behind t G) (behind_of t find)
   behind_sound t ts x rest h =
-      let b = bind_some (after t ts) (λ us. find us) (x, rest) h in
-      let r = s b.0 x rest b.2 in
-      (t ∷ r.0, after_is t ts b.0 b.1 ∙ ap (λ (z : Symbols). t ∷ z) r.1, behind r.2)
+      bind_is (after t ts) (λ us. find us) (x, rest) _ h (λ b b_is b_goes.
+      let r = s b x rest b_goes in
+      (t ∷ r.0, after_is t ts b b_is ∙ ap (λ (z : Symbols). t ∷ z) r.1, behind r.2))
 
   pub before_sound : (t : Symbol) → SoundFor (Before G t) (before_of find t)
   before_sound t ts x rest h =
-      let b = bind_some (find ts) (λ y. after t y.1 >>= λ us. Some (y.0, us)) (x, rest) h in
-      let c = bind_some (after t b.0.1) (λ us. Some (b.0.0, us)) (x, rest) b.2 in
-      let r = s ts b.0.0 b.0.1 b.1 in
-      let whole : ts ≡ (r.0 ++ t ∷ []) ++ c.0 = r.1 ∙ ap (λ (z : Symbols). r.0 ++ z) (after_is t b.0.1 c.0 c.1) ∙ sym (append_assoc r.0 (t ∷ []) c.0) in
-      renamed (Before G t) ts (r.0 ++ t ∷ []) b.0.0 c.0 x rest c.2 whole (before r.2)
+      bind_is (find ts) (λ y. after t y.1 >>= λ us. Some (y.0, us)) (x, rest) _ h (λ b b_is b_goes.
+      bind_is (after t b.1) (λ us. Some (b.0, us)) (x, rest) _ b_goes (λ c c_is c_goes.
+      let r = s ts b.0 b.1 b_is in
+      let whole : ts ≡ (r.0 ++ t ∷ []) ++ c = r.1 ∙ ap (λ (z : Symbols). r.0 ++ z) (after_is t b.1 c c_is) ∙ sym (append_assoc r.0 (t ∷ []) c) in
+      renamed (Before G t) ts (r.0 ++ t ∷ []) b.0 c x rest c_goes whole (before r.2)))
 
   pub made_sound : {B : Type 0} (form : A → B) → SoundFor (Made form G) (made_of form find)
   made_sound form ts y rest h =
-      let b = bind_some (find ts) (λ x. Some (form x.0, x.1)) (y, rest) h in
-      let r = s ts b.0.0 b.0.1 b.1 in
-      renamed (Made form G) ts r.0 (form b.0.0) b.0.1 y rest b.2 r.1 (made r.2)
+      bind_is (find ts) (λ x. Some (form x.0, x.1)) (y, rest) _ h (λ b b_is b_goes.
+      let r = s ts b.0 b.1 b_is in
+      renamed (Made form G) ts r.0 (form b.0) b.1 y rest b_goes r.1 (made r.2))
 
 module _ {A B : Type 0} (G : Symbols → A → Type 0) (H : Symbols → B → Type 0) (find : TreeReader A) (next : TreeReader B) (s : SoundFor G find)
     (n : SoundFor H next) where
   pub both_sound : SoundFor (Both G H) (both_of find next)
   both_sound ts x rest h =
-      let b = bind_some (find ts) (λ y. next y.1 >>= λ z. Some ((y.0, z.0), z.1)) (x, rest) h in
-      let c = bind_some (next b.0.1) (λ z. Some ((b.0.0, z.0), z.1)) (x, rest) b.2 in
-      let r = s ts b.0.0 b.0.1 b.1 in
-      let q = n b.0.1 c.0.0 c.0.1 c.1 in
-      let whole : ts ≡ (r.0 ++ q.0) ++ c.0.1 = r.1 ∙ ap (λ (z : Symbols). r.0 ++ z) q.1 ∙ sym (append_assoc r.0 q.0 c.0.1) in
-      renamed (Both G H) ts (r.0 ++ q.0) (b.0.0, c.0.0) c.0.1 x rest c.2 whole (both r.2 q.2)
+      bind_is (find ts) (λ y. next y.1 >>= λ z. Some ((y.0, z.0), z.1)) (x, rest) _ h (λ b b_is b_goes.
+      bind_is (next b.1) (λ z. Some ((b.0, z.0), z.1)) (x, rest) _ b_goes (λ c c_is c_goes.
+      let r = s ts b.0 b.1 b_is in
+      let q = n b.1 c.0 c.1 c_is in
+      let whole : ts ≡ (r.0 ++ q.0) ++ c.1 = r.1 ∙ ap (λ (z : Symbols). r.0 ++ z) q.1 ∙ sym (append_assoc r.0 q.0 c.1) in
+      renamed (Both G H) ts (r.0 ++ q.0) (b.0, c.0) c.1 x rest c_goes whole (both r.2 q.2)))
 
 module _ {A : Type 0} (t : Symbol) (G H : Symbols → A → Type 0) (find next : TreeReader A) (s : SoundFor G find) (n : SoundFor H next) where
   pub choice_sound : SoundFor (Choice (Behind t G) H) (choice_of t find next)

@@ -3,7 +3,7 @@ use Rattle.std.proofs.Common.{◌≡◌, ℕ, suc, zero, List, [], ◌∷◌, �
 use Rattle.std.proofs.Common.{length-append}
 use Rattle.salt_ast.specs.Statements as form
 use Rattle.salt_ast.specs.Statements.{FollowingBy, ListedBy}
-use Rattle.salt_parse.proofs.ExpressionLaws.{bind_some, either_is, some_is}
+use Rattle.salt_parse.proofs.ExpressionLaws.{bind_is, either_is, some_is}
 use Rattle.salt_parse.proofs.StatementTrees.{ahead, following_of, listed_of}
 use Rattle.salt_parse.proofs.Trees.{TreeReader}
 use Rattle.salt_tokens.specs.Scanning.{◌>>=◌}
@@ -64,22 +64,22 @@ module _ {A : Type 0} (t : Symbol) (separator : Symbols → Option Symbols) (sep
       either_is (separator ts) (Some ([], ts)) (λ us. find us >>= λ x. ahead (x.0 ∷ []) (following_of separator find room x.1)) (xs, rest) _ h
       (λ none e. renamed (FollowingOf t G) ts [] [] ts xs rest e refl none_follow)
       (λ us some e.
-      let b = bind_some (find us) (λ x. ahead (x.0 ∷ []) (following_of separator find room x.1)) (xs, rest) e in
-      let k = bind_some (following_of separator find room b.0.1) (λ y. Some (b.0.0 ∷ y.0, y.1)) (xs, rest) b.2 in
-      let r = s us b.0.0 b.0.1 b.1 in
-      let q = following_sound room b.0.1 k.0.0 k.0.1 k.1 in
-      let is : us ≡ (r.0 ++ q.0) ++ k.0.1 = r.1 ∙ ap (λ (x : Symbols). r.0 ++ x) q.1 ∙ sym (append_assoc r.0 q.0 k.0.1) in
-      renamed (FollowingOf t G) ts (t ∷ (r.0 ++ q.0)) (b.0.0 ∷ k.0.0) k.0.1 xs rest k.2
-      (separates ts us some ∙ ap (λ (x : Symbols). t ∷ x) is) (one_follows r.2 q.2))
+      bind_is (find us) (λ x. ahead (x.0 ∷ []) (following_of separator find room x.1)) (xs, rest) _ e (λ b b_is b_goes.
+      bind_is (following_of separator find room b.1) (λ y. Some (b.0 ∷ y.0, y.1)) (xs, rest) _ b_goes (λ k k_is k_goes.
+      let r = s us b.0 b.1 b_is in
+      let q = following_sound room b.1 k.0 k.1 k_is in
+      let is : us ≡ (r.0 ++ q.0) ++ k.1 = r.1 ∙ ap (λ (x : Symbols). r.0 ++ x) q.1 ∙ sym (append_assoc r.0 q.0 k.1) in
+      renamed (FollowingOf t G) ts (t ∷ (r.0 ++ q.0)) (b.0 ∷ k.0) k.1 xs rest k_goes
+      (separates ts us some ∙ ap (λ (x : Symbols). t ∷ x) is) (one_follows r.2 q.2))))
 
   pub listed_sound : SoundFor (ListedOf t G) (listed_of separator find)
   listed_sound ts xs rest h =
-      let b = bind_some (find ts) (λ x. ahead (x.0 ∷ []) (following_of separator find (length x.1) x.1)) (xs, rest) h in
-      let k = bind_some (following_of separator find (length b.0.1) b.0.1) (λ y. Some (b.0.0 ∷ y.0, y.1)) (xs, rest) b.2 in
-      let r = s ts b.0.0 b.0.1 b.1 in
-      let q = following_sound (length b.0.1) b.0.1 k.0.0 k.0.1 k.1 in
-      renamed (ListedOf t G) ts (r.0 ++ q.0) (b.0.0 ∷ k.0.0) k.0.1 xs rest k.2
-      (r.1 ∙ ap (λ (x : Symbols). r.0 ++ x) q.1 ∙ sym (append_assoc r.0 q.0 k.0.1)) (listed r.2 q.2)
+      bind_is (find ts) (λ x. ahead (x.0 ∷ []) (following_of separator find (length x.1) x.1)) (xs, rest) _ h (λ b b_is b_goes.
+      bind_is (following_of separator find (length b.1) b.1) (λ y. Some (b.0 ∷ y.0, y.1)) (xs, rest) _ b_goes (λ k k_is k_goes.
+      let r = s ts b.0 b.1 b_is in
+      let q = following_sound (length b.1) b.1 k.0 k.1 k_is in
+      renamed (ListedOf t G) ts (r.0 ++ q.0) (b.0 ∷ k.0) k.1 xs rest k_goes
+      (r.1 ∙ ap (λ (x : Symbols). r.0 ++ x) q.1 ∙ sym (append_assoc r.0 q.0 k.1)) (listed r.2 q.2)))
 
 -- ---- what is spelled so is found
 
