@@ -21,7 +21,7 @@ const DEVICES: u32 = 26;
 
 const LIMIT: u64 = 67_108_864;
 
-/// The words behind the program's name.
+/// The words behind the program's name. `InvalidData` where one of them, or the name, is not UTF-8.
 fn words(rt: &(impl Env + AllocGlobal)) -> io::Result<Vec<String>> {
     let mut words = Vec::new(rt.alloc());
     for word in env::args(rt)?.skip(1) {
@@ -75,10 +75,19 @@ fn run_words(rt: &HostRuntime, words: &[String]) -> Result<Status, AllocError> {
     }
 }
 
+/// How a run ends without its words: a word that is not UTF-8 is of no command, and else there was no memory to copy them.
+fn status_without_words(error: &io::Error) -> Status {
+    if error.kind() == io::ErrorKind::InvalidData {
+        Status::Usage
+    } else {
+        Status::Memory
+    }
+}
+
 fn main(rt: HostRuntime) -> ExitCode {
     let status = match words(&rt) {
         Ok(words) => run_words(&rt, words.as_slice()).unwrap_or(Status::Memory),
-        Err(_) => Status::Memory,
+        Err(error) => status_without_words(&error),
     };
     if status != Status::Done {
         let _ = eprintln!(rt; "salt: {status}");
