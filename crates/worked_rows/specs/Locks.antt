@@ -14,7 +14,7 @@ use Rattle.salt_model.specs.declared.locks.Mode.{Mode}
 use Rattle.salt_model.specs.declared.locks.Reach.{Reach}
 use Rattle.salt_values.specs.declared.id.Id.{Id}
 use Rattle.salt_values.specs.declared.value.Value.{Value}
-use Rattle.std.specs.List.{filter}
+use Rattle.std.specs.List.{filter, range_with_len}
 use Rattle.std.specs.Prelude.{List, Option, Some, [], map, refl, ℕ, ◌∷◌, ◌≡◌}
 use Rattle.worked_rows.specs.Keys.{at, from_to}
 
@@ -92,3 +92,14 @@ they_stand_by_their_keys = refl
 
 near_a_key : map (λ (l : Lock). l.range.lo) (filter (is_near 1 (from_to (at 7) (at 7))) (locks_in in_turns)) ≡ Some (at 6) ∷ Some (at 7) ∷ []
 near_a_key = refl
+
+-- ---- of a thousand locks, each on a key of its own from 1 up, ten are near the keys up to 10
+
+abbrev on_key : ℕ → Lock
+on_key k = lock_of (unit k) Acid (reach 1 Write k k)
+
+abbrev thousand : List Lock
+thousand = map on_key (range_with_len 1 1000)
+
+near_ten_keys : filter (is_near 1 (from_to (at 4) (at 10))) thousand ≡ map on_key (1 ∷ 2 ∷ 3 ∷ 4 ∷ 5 ∷ 6 ∷ 7 ∷ 8 ∷ 9 ∷ 10 ∷ [])
+near_ten_keys = refl
