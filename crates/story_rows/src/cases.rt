@@ -1,13 +1,18 @@
 //! Scripts and their stories, and what became of them.
 
-use crate::runs::{DEVICES, LIMIT, outcome_of};
-use salt_disk::MemDisks;
+use crate::devices::{Devices, ROOM};
+use crate::outcome::Outcome;
 use salt_run::Status;
 use std::alloc::{AllocError, Global};
 
-/// The words for the numbers of partitions over which a script is run. Stops are counted by the calls of two, so a script that arms some is
-/// run over those alone.
-const PARTS: [&str; 4] = ["--parts=2", "--parts=1", "--parts=3", "--parts=8"];
+/// The words for the numbers of partitions over which a script is run.
+const EACH: &[&str] = &["--parts=2", "--parts=1", "--parts=3", "--parts=8"];
+
+const TWO: &[&str] = &["--parts=2"];
+
+/// The most bytes of a script that is run over each number of partitions. A longer one is long for what is counted in memory, where there are no
+/// partitions.
+const SHORT: usize = 16_384;
 
 /// A script, and the story that it is to tell.
 #[derive(Drop)]
@@ -71,24 +76,38 @@ fn arms_stops(script: &[u8]) -> bool {
     false
 }
 
-/// The story that a run of the script over so many partitions writes; behind it the number of its status, where the run is not done.
-fn story_of(alloc: Global, script: &[u8], parts: &str) -> Result<Vec<u8>, AllocError> {
-    let mut disks = MemDisks::new(alloc, DEVICES, LIMIT)?;
-    let outcome = outcome_of(alloc, &["run", parts], script, &mut disks)?;
-    let mut story = Vec::from_slice(alloc, outcome.text.as_slice())?;
-    if outcome.status != Status::Done {
-        let line = format!(in alloc; "status {}\n", outcome.status.number())?;
+/// The story that a run has written; behind it the number of its status, where the run is not done.
+fn story_in(alloc: Global, outcome: &Outcome) -> Result<Vec<u8>, AllocError> {
+    let mut story = Vec::from_slice(alloc, outcome.text())?;
+    if !outcome.is(Status::Done) {
+        let line = format!(in alloc; "status {}\n", outcome.status().number())?;
         story.extend_from_slice(line.as_bytes())?;
     }
     Ok(story)
 }
 
-/// The story of the script over some number of partitions that is another than this one.
-fn other_story(alloc: Global, script: &[u8], story: &[u8]) -> Result<Option<Vec<u8>>, AllocError> {
-    let is_stopped = arms_stops(script);
-    for parts in &PARTS[..if is_stopped { 1 } else { 4 }] {
-        let told = story_of(alloc, script, parts)?;
-        if told.as_slice() != story {
+/// The story of the script over so many partitions. It has room for more than the script is to tell.
+fn story_over(alloc: Global, case: &Case, parts: &str) -> Result<Vec<u8>, AllocError> {
+    let room = case.story.len().saturating_add(ROOM);
+    let mut devices = Devices::new(alloc)?;
+    let outcome = devices.run_within(alloc, room, &["run", parts], &case.script)?;
+    story_in(alloc, &outcome)
+}
+
+/// The words for the numbers of partitions over which a script is run. Stops are counted by the calls of two.
+fn parts_of(script: &[u8]) -> &'static [&'static str] {
+    if script.len() > SHORT || arms_stops(script) {
+        TWO
+    } else {
+        EACH
+    }
+}
+
+/// The story of the script over some number of partitions that is another than it is to tell.
+fn other_story(alloc: Global, case: &Case) -> Result<Option<Vec<u8>>, AllocError> {
+    for parts in parts_of(&case.script) {
+        let told = story_over(alloc, case, parts)?;
+        if told != case.story {
             return Ok(Some(told));
         }
     }
@@ -152,7 +171,7 @@ impl Cases {
         }
         let whole = self.whole()?;
         self.case = Case::new(self.alloc);
-        let Some(story) = other_story(self.alloc, &whole.script, &whole.story)? else {
+        let Some(story) = other_story(self.alloc, &whole)? else {
             self.told = self.told.saturating_add(1);
             return Ok(());
         };

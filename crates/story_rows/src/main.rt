@@ -15,14 +15,15 @@
 #![tactic(auto)]
 
 mod cases;
+mod devices;
 mod others;
-mod runs;
+mod outcome;
 mod streams;
 mod tables;
 mod words;
 
 use cases::Cases;
-use others::{changed_devices, failing_definitions, foreign_devices};
+use others::by_devices;
 use salt_io::{LineErr, Lines, Next, Source, StdSink, StdSource, write_whole};
 use std::alloc::{AllocError, Global};
 use std::io;
@@ -35,6 +36,44 @@ use words::{by_words, statuses};
 
 /// The most lines of a source: each takes a byte.
 const LINES_MOST: u32 = 16_777_216;
+
+/// What is told.
+#[derive(Clone, Copy)]
+enum Part {
+    Stories,
+    Statuses,
+    Words,
+    Devices,
+    OneStop,
+    TwoStops,
+    StopAtFirst,
+    OneWriteFails,
+    OneReadFails,
+    AllWritesFail,
+    CutScripts,
+    ReadsThatFail,
+    WritesThatFail,
+    LongestLines,
+    MostBytes,
+}
+
+const PARTS: [Part; 15] = [
+    Part::Stories,
+    Part::Statuses,
+    Part::Words,
+    Part::Devices,
+    Part::OneStop,
+    Part::TwoStops,
+    Part::StopAtFirst,
+    Part::OneWriteFails,
+    Part::OneReadFails,
+    Part::AllWritesFail,
+    Part::CutScripts,
+    Part::ReadsThatFail,
+    Part::WritesThatFail,
+    Part::LongestLines,
+    Part::MostBytes,
+];
 
 /// Runs the scripts of a source. A row that is too long counts as a line of a story that is told otherwise.
 fn judge<S: Source>(alloc: Global, source: &mut S) -> Result<Cases, LineErr> {
@@ -61,59 +100,72 @@ fn stories(rt: &HostRuntime) -> Result<Vec<u8>, AllocError> {
     }
 }
 
-/// A line of the output.
-fn tell(rt: &HostRuntime, name: &str, table: Result<Table, AllocError>) -> io::Result<()> {
-    match table {
-        Ok(Table { runs, right }) => println!(rt; "{name}: {right} of {runs}"),
-        Err(_) => println!(rt; "{name}: no memory"),
-    }
+/// The line that tells of a table.
+fn line_of(
+    alloc: Global,
+    name: &str,
+    table: Result<Table, AllocError>,
+) -> Result<Vec<u8>, AllocError> {
+    let Table { runs, right } = table?;
+    Ok(format!(in alloc; "{name}: {right} of {runs}\n")?.into_bytes())
 }
 
-/// The lines that were told.
-fn tell_lines(rt: &HostRuntime, lines: Result<Vec<u8>, AllocError>) -> io::Result<()> {
-    match lines {
-        Ok(text) => {
-            let mut sink = StdSink::new(io::writer(rt));
-            let _written = write_whole(&mut sink, &text);
-            Ok(())
-        }
-        Err(_) => println!(rt; "no memory"),
-    }
-}
-
-/// All that is told, one after another.
-fn tell_all(rt: &HostRuntime) -> io::Result<()> {
+/// The lines of a part.
+fn lines_of(rt: &HostRuntime, part: Part) -> Result<Vec<u8>, AllocError> {
     let alloc = rt.alloc();
-    tell_lines(rt, stories(rt))?;
-    tell_lines(rt, statuses(alloc))?;
-    tell_lines(rt, by_words(alloc))?;
-    tell_lines(rt, failing_definitions(alloc))?;
-    tell_lines(rt, foreign_devices(alloc))?;
-    tell_lines(rt, changed_devices(alloc))?;
-    tell(rt, "a stop", one_stop(alloc))?;
-    tell(rt, "a stop in the opening behind another", two_stops(alloc))?;
-    tell(rt, "a stop in the first opening", stop_at_first(alloc))?;
-    tell(rt, "a write that fails", one_write_fails(alloc))?;
-    tell(rt, "a read that fails", one_read_fails(alloc))?;
-    tell(rt, "writes that fail from one on", all_writes_fail(alloc))?;
-    tell(rt, "a script that is cut", cut_scripts(alloc))?;
-    tell(
-        rt,
-        "a read of the script that fails",
-        reads_that_fail(alloc),
-    )?;
-    tell(
-        rt,
-        "a write of the output that fails",
-        writes_that_fail(alloc),
-    )?;
-    tell(rt, "lines of the most bytes", longest_lines(alloc))?;
-    tell(rt, "scripts of the most bytes", most_bytes(alloc))
+    match part {
+        Part::Stories => stories(rt),
+        Part::Statuses => statuses(alloc),
+        Part::Words => by_words(alloc),
+        Part::Devices => by_devices(alloc),
+        Part::OneStop => line_of(alloc, "a stop", one_stop(alloc)),
+        Part::TwoStops => line_of(
+            alloc,
+            "a stop in the opening behind another",
+            two_stops(alloc),
+        ),
+        Part::StopAtFirst => line_of(alloc, "a stop in the first opening", stop_at_first(alloc)),
+        Part::OneWriteFails => line_of(alloc, "a write that fails", one_write_fails(alloc)),
+        Part::OneReadFails => line_of(alloc, "a read that fails", one_read_fails(alloc)),
+        Part::AllWritesFail => line_of(
+            alloc,
+            "writes that fail from one on",
+            all_writes_fail(alloc),
+        ),
+        Part::CutScripts => line_of(alloc, "a script that is cut", cut_scripts(alloc)),
+        Part::ReadsThatFail => line_of(
+            alloc,
+            "a read of the script that fails",
+            reads_that_fail(alloc),
+        ),
+        Part::WritesThatFail => line_of(
+            alloc,
+            "a write of the output that fails",
+            writes_that_fail(alloc),
+        ),
+        Part::LongestLines => line_of(alloc, "lines of the most bytes", longest_lines(alloc)),
+        Part::MostBytes => line_of(alloc, "scripts of the most bytes", most_bytes(alloc)),
+    }
+}
+
+/// Writes the lines of each part. Whether all were had, and written.
+fn tell(rt: &HostRuntime) -> bool {
+    let mut sink = StdSink::new(io::writer(rt));
+    for part in PARTS {
+        let Ok(lines) = lines_of(rt, part) else {
+            return false;
+        };
+        if write_whole(&mut sink, &lines).is_err() {
+            return false;
+        }
+    }
+    true
 }
 
 fn main(rt: HostRuntime) -> ExitCode {
-    match tell_all(&rt) {
-        Ok(()) => ExitCode::SUCCESS,
-        Err(_) => ExitCode::FAILURE,
+    if tell(&rt) {
+        ExitCode::SUCCESS
+    } else {
+        ExitCode::FAILURE
     }
 }

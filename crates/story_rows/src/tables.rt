@@ -1,10 +1,9 @@
 //! Tables of runs that stop or fail at one call after another, each with what must come of it.
 
-ghost use Rattle.salt_disk.specs.MemDisks.{seen};
-ghost use Rattle.std.specs.Prelude.{IfOk, ◌≡◌};
+ghost use Rattle.std.specs.Prelude.{◌≤◌};
 
-use crate::runs::{DEVICES, LIMIT, Outcome, outcome_of};
-use salt_disk::{Disks, MemDisks};
+use crate::devices::{Devices, Failing, told_of};
+use crate::outcome::Outcome;
 use salt_run::Status;
 use std::alloc::{AllocError, Global};
 
@@ -58,33 +57,44 @@ impl Table {
     }
 }
 
-fn run_new(alloc: Global, script: &str) -> Result<Outcome, AllocError> {
-    let mut disks = MemDisks::new(alloc, DEVICES, LIMIT)?;
-    outcome_of(alloc, &["run"], script.as_bytes(), &mut disks)
-}
-
-/// The script with transfers, in which a line arms these stops.
-fn stopped_at(alloc: Global, stops: &str) -> Result<Outcome, AllocError> {
-    let script = format!(in alloc; "{ACCOUNTS}crash {stops}\n{TRANSFERS}")?;
-    run_new(alloc, script.as_str())
-}
-
 /// The run ends well, stops so often, and nothing of the accounts is lost.
 fn stops_well(outcome: &Outcome, stops: u64) -> bool {
-    outcome.status == Status::Done
-        && outcome.count(STOPPED) == stops
-        && outcome.count(SUM_KEPT) == 1
+    outcome.is(Status::Done) && outcome.count(STOPPED) == stops && outcome.count(SUM_KEPT) == 1
+}
+
+/// A script with transfers, in which a line arms this stop behind others.
+fn ends_well(
+    alloc: Global,
+    others: &str,
+    call: u64,
+    pick: u8,
+    stops: u64,
+) -> Result<bool, AllocError> {
+    let script = format!(in alloc; "{ACCOUNTS}crash {others}{call} {pick}\n{TRANSFERS}")?;
+    let outcome = told_of(alloc, script.as_bytes())?;
+    Ok(stops_well(&outcome, stops))
+}
+
+/// A stop with each pick.
+fn each_pick(
+    alloc: Global,
+    table: &mut Table,
+    others: &str,
+    call: u64,
+    stops: u64,
+) -> Result<(), AllocError> {
+    for pick in 0..5 {
+        table.add(ends_well(alloc, others, call, pick, stops)?);
+    }
+    Ok(())
 }
 
 /// A stop at each of the calls behind the line that arms it, and at one that does not come any more.
 pub fn one_stop(alloc: Global) -> Result<Table, AllocError> {
     let mut table = Table::new();
     for call in 1..38 {
-        for pick in 0..5 {
-            let stops = format!(in alloc; "{call} {pick}")?;
-            let outcome = stopped_at(alloc, stops.as_str())?;
-            table.add(stops_well(&outcome, if call < 37 { 1 } else { 0 }));
-        }
+        let stops = if call < 37 { 1 } else { 0 };
+        each_pick(alloc, &mut table, "", call, stops)?;
     }
     Ok(table)
 }
@@ -93,12 +103,25 @@ pub fn one_stop(alloc: Global) -> Result<Table, AllocError> {
 pub fn two_stops(alloc: Global) -> Result<Table, AllocError> {
     let mut table = Table::new();
     for call in 1..21 {
-        for pick in 0..5 {
-            let stops = format!(in alloc; "16 1 {call} {pick}")?;
-            table.add(stops_well(&stopped_at(alloc, stops.as_str())?, 2));
-        }
+        each_pick(alloc, &mut table, "16 1 ", call, 2)?;
     }
     Ok(table)
+}
+
+/// A first opening that stops is told, and the next one is ready.
+fn opens_well(alloc: Global, call: u64, pick: u8) -> Result<bool, AllocError>
+    requires { pick ≤ 4 }
+{
+    let mut devices = Devices::new(alloc)?;
+    devices.arm(call, pick)?;
+    let outcome = devices.run(alloc, b"")?;
+    let text = outcome.text();
+    Ok(
+        outcome.is(Status::Done)
+            && text.starts_with(b"down stopped\nopened ")
+            && text.ends_with(b" 0\nready\n")
+            && outcome.count(STOPPED) == 1,
+    )
 }
 
 /// A stop in the first opening, armed before the run.
@@ -106,51 +129,16 @@ pub fn stop_at_first(alloc: Global) -> Result<Table, AllocError> {
     let mut table = Table::new();
     for call in 1..29 {
         for pick in 0..5 {
-            let mut disks = MemDisks::new(alloc, DEVICES, LIMIT)?;
-            disks.arm(call, pick)?;
-            let outcome = outcome_of(alloc, &["run"], b"", &mut disks)?;
-            let text = outcome.text.as_slice();
-            table.add(
-                outcome.status == Status::Done
-                    && text.starts_with(b"down stopped\nopened ")
-                    && text.ends_with(b" 0\nready\n")
-                    && outcome.count(STOPPED) == 1,
-            );
+            table.add(opens_well(alloc, call, pick)?);
         }
     }
     Ok(table)
 }
 
-/// Which calls fail.
-#[derive(Clone, Copy)]
-enum Failing {
-    Write(u64),
-    Read(u64),
-    From(u64),
-}
-
-fn failing_disks(alloc: Global, failing: Failing) -> Result<MemDisks, AllocError>
-    ensures { IfOk result (λ disks. (seen disks).count ≡ 26) }
-{
-    let mut disks = MemDisks::new(alloc, DEVICES, LIMIT)?;
-    match failing {
-        Failing::Write(call) => disks.fail_write(call)?,
-        Failing::Read(call) => disks.fail_read(call)?,
-        Failing::From(call) => disks.fail_from(call),
-    }
-    Ok(disks)
-}
-
-/// Disks on which no call fails, with the bytes of these.
-fn copied(alloc: Global, disks: &MemDisks) -> Result<MemDisks, AllocError>
-    requires { (seen disks.now).count ≡ 26 }
-    ensures { IfOk result (λ disks. (seen disks).count ≡ 26) }
-{
-    let mut copy = MemDisks::new(alloc, DEVICES, LIMIT)?;
-    for dev in 0..DEVICES {
-        copy.set_bytes(dev, disks.bytes(dev))?;
-    }
-    Ok(copy)
+fn failing_devices(alloc: Global, failing: Failing) -> Result<Devices, AllocError> {
+    let mut devices = Devices::new(alloc)?;
+    devices.fail(failing)?;
+    Ok(devices)
 }
 
 /// The rows that a run gives last, or nothing, where it gives none.
@@ -159,58 +147,53 @@ fn rows_of(outcome: &Outcome) -> &[u8] {
 }
 
 /// A call fails: the run ends well or fails in an opening. Where it ends well, a second run over its devices gives the rows that the first
-/// would have given.
-fn fails_well(alloc: Global, failing: Failing) -> Result<bool, AllocError> {
-    let script = format!(in alloc; "{ACCOUNTS}{TRANSFER}")?;
-    let mut disks = failing_disks(alloc, failing)?;
-    let first = outcome_of(alloc, &["run"], script.as_bytes(), &mut disks)?;
-    if first.status == Status::DiskFault {
+/// has given.
+fn fails_well(alloc: Global, script: &str, failing: Failing) -> Result<bool, AllocError> {
+    let mut devices = failing_devices(alloc, failing)?;
+    let first = devices.run(alloc, script.as_bytes())?;
+    if first.is(Status::DiskFault) {
         return Ok(true);
     }
-    disks.restart();
-    let mut again = copied(alloc, &disks)?;
-    let second = outcome_of(alloc, &["run"], ROWS.as_bytes(), &mut again)?;
-    let longer = format!(in alloc; "{ACCOUNTS}{TRANSFER}{ROWS}")?;
-    let mut others = failing_disks(alloc, failing)?;
-    let whole = outcome_of(alloc, &["run"], longer.as_bytes(), &mut others)?;
-    Ok(
-        first.status == Status::Done
-            && second.status == Status::Done
-            && rows_of(&second) == rows_of(&whole),
-    )
+    let second = devices.copied(alloc)?.run(alloc, ROWS.as_bytes())?;
+    Ok(first.is(Status::Done) && second.is(Status::Done) && rows_of(&second) == rows_of(&first))
 }
 
 /// Each write or sync fails in turn.
 pub fn one_write_fails(alloc: Global) -> Result<Table, AllocError> {
+    let script = format!(in alloc; "{ACCOUNTS}{TRANSFER}{ROWS}")?;
     let mut table = Table::new();
     for call in 1..81 {
-        table.add(fails_well(alloc, Failing::Write(call))?);
+        table.add(fails_well(alloc, script.as_str(), Failing::Write(call))?);
     }
     Ok(table)
 }
 
 /// Each read fails in turn.
 pub fn one_read_fails(alloc: Global) -> Result<Table, AllocError> {
+    let script = format!(in alloc; "{ACCOUNTS}{TRANSFER}{ROWS}")?;
     let mut table = Table::new();
     for call in 1..41 {
-        table.add(fails_well(alloc, Failing::Read(call))?);
+        table.add(fails_well(alloc, script.as_str(), Failing::Read(call))?);
     }
     Ok(table)
 }
 
 /// All writes fail from one on: what was told to be accepted is finished by a second run.
+fn keeps_accepted(alloc: Global, script: &str, call: u64) -> Result<bool, AllocError> {
+    let mut devices = failing_devices(alloc, Failing::From(call))?;
+    let first = devices.run(alloc, script.as_bytes())?;
+    let second = devices.copied(alloc)?.run(alloc, SUM.as_bytes())?;
+    let may_end = first.is(Status::Done) || first.is(Status::DiskFault);
+    let is_kept = first.count(b"b1.1 accepted\n") == 0 || second.count(SUM_KEPT) == 1;
+    Ok(may_end && second.is(Status::Done) && is_kept)
+}
+
+/// From each write or sync on all fail.
 pub fn all_writes_fail(alloc: Global) -> Result<Table, AllocError> {
+    let script = format!(in alloc; "{ACCOUNTS}{TRANSFER}")?;
     let mut table = Table::new();
     for call in 1..81 {
-        let script = format!(in alloc; "{ACCOUNTS}{TRANSFER}")?;
-        let mut disks = failing_disks(alloc, Failing::From(call))?;
-        let first = outcome_of(alloc, &["run"], script.as_bytes(), &mut disks)?;
-        disks.restart();
-        let mut again = copied(alloc, &disks)?;
-        let second = outcome_of(alloc, &["run"], SUM.as_bytes(), &mut again)?;
-        let may_end = matches!(first.status, Status::Done | Status::DiskFault);
-        let is_kept = first.count(b"b1.1 accepted\n") == 0 || second.count(SUM_KEPT) == 1;
-        table.add(may_end && second.status == Status::Done && is_kept);
+        table.add(keeps_accepted(alloc, script.as_str(), call)?);
     }
     Ok(table)
 }

@@ -1,7 +1,7 @@
 //! What the program does by its words, and what it says of how it ended.
 
-use crate::runs::{DEVICES, LIMIT, outcome_of};
-use salt_disk::MemDisks;
+use crate::devices::{Devices, ROOM};
+use crate::outcome::Outcome;
 use salt_run::Status;
 use salt_values::{PlaceKind, Shape};
 use std::alloc::{AllocError, Global};
@@ -9,7 +9,7 @@ use std::alloc::{AllocError, Global};
 const SCRIPT: &str = "create table t (id int key)\n";
 
 /// Words that are no command, a run, and workloads.
-const WORDS: [&[&str]; 18] = [
+const WORDS: [&[&str]; 20] = [
     &[],
     &["run", "run"],
     &["run", "--parts", "9"],
@@ -28,6 +28,8 @@ const WORDS: [&[&str]; 18] = [
     &["load", "1"],
     &["load", "008"],
     &["load", "50"],
+    &["load", "2000"],
+    &["load", "2000"],
 ];
 
 /// Each way in which a run ends, with its number and its line.
@@ -63,18 +65,28 @@ pub fn statuses(alloc: Global) -> Result<Vec<u8>, AllocError> {
     Ok(text)
 }
 
-/// What a run by these words tells, behind them and its status.
-fn told_by(alloc: Global, words: &[&str]) -> Result<Vec<u8>, AllocError> {
-    let mut disks = MemDisks::new(alloc, DEVICES, LIMIT)?;
-    let outcome = outcome_of(alloc, words, SCRIPT.as_bytes(), &mut disks)?;
+/// These words, each behind a blank.
+fn words_text(alloc: Global, words: &[&str]) -> Result<Vec<u8>, AllocError> {
     let mut text = Vec::new(alloc);
     for word in words {
-        text.extend_from_slice(b" ")?;
+        text.push(b' ')?;
         text.extend_from_slice(word.as_bytes())?;
     }
-    let line = format!(in alloc; ": {}\n", outcome.status.number())?;
-    text.extend_from_slice(line.as_bytes())?;
-    text.extend_from_slice(outcome.text.as_slice())?;
+    Ok(text)
+}
+
+fn outcome_by(alloc: Global, words: &[&str]) -> Result<Outcome, AllocError> {
+    let mut devices = Devices::new(alloc)?;
+    devices.run_within(alloc, ROOM, words, SCRIPT.as_bytes())
+}
+
+/// What a run by these words tells, behind them and its status.
+fn told_by(alloc: Global, words: &[&str]) -> Result<Vec<u8>, AllocError> {
+    let outcome = outcome_by(alloc, words)?;
+    let mut text = words_text(alloc, words)?;
+    let status = format!(in alloc; ": {}\n", outcome.status().number())?;
+    text.extend_from_slice(status.as_bytes())?;
+    text.extend_from_slice(outcome.text())?;
     Ok(text)
 }
 
