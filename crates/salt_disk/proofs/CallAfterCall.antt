@@ -1,6 +1,7 @@
 -- How what several calls did goes together.
-use Rattle.std.proofs.Common.{◌≡◌, ℕ, ◌≤◌, List, Option, Some, None, refl, sym, ◌∙◌, arith}
-use Rattle.salt_disk.specs.Disks.{View, SameShape, Shrinks, IsUnchanged, UnlessDown, KeepsBut, HasCause, EachImage, FullExactly, NeverFull}
+use Rattle.salt_disk.proofs.Coming.{come_as, none_came, none_come}
+use Rattle.std.proofs.Common.{◌≡◌, ℕ, ◌≤◌, List, Option, Some, None, refl, subst, sym, ◌∙◌, arith}
+use Rattle.salt_disk.specs.Disks.{View, SameShape, Shrinks, IsUnchanged, UnlessDown, KeepsBut, HasCause, HaveCome, Rose, EachImage, FullExactly, NeverFull, stops_in}
 use Rattle.salt_disk.specs.declared.disks.DiskErr.{DiskErr}
 use Rattle.salt_disk.specs.declared.disks.DiskErr.TheVariants.{Failed, Stopped, Full, Memory}
 
@@ -48,8 +49,27 @@ pub cause_on : (a b c : View) (answer : Option DiskErr) → HasCause a b None �
 cause_on a b c answer p q = record {
   later = omega (arith, p.later, q.later);
   failed = λ is. omega (arith, p.later, q.failed is);
-  stops = omega (arith, p.stops, q.stops);
+  stops = subst (λ (armed : List (ℕ × ℕ)). HaveCome (stops_in answer) armed c.armed) (none_came a.armed b.armed p.stops) q.stops;
 }
+
+-- a call at which no stop has come
+pub cause_unstopped : (a b : View) (answer : Option DiskErr) → stops_in answer ≡ 0 → a.faults ≤ b.faults → (answer ≡ Some Failed → Rose a.faults b.faults) → b.armed ≡ a.armed → HasCause a b answer
+cause_unstopped a b answer unstopped later failed same = record {
+  later = later;
+  failed = failed;
+  stops = come_as 0 (stops_in answer) a.armed b.armed (sym unstopped) (none_come a.armed b.armed same);
+}
+
+-- no call at all
+pub cause_none : (a : View) → HasCause a a None
+cause_none a = record { later = omega arith; failed = λ is. cc; stops = none_come a.armed a.armed refl }
+
+-- with an answer that tells of no stop and of no fault
+pub cause_as : (a b : View) (answer : Option DiskErr) → stops_in answer ≡ 0 → (answer ≡ Some Failed → ⊥) → HasCause a b None → HasCause a b answer
+cause_as a b answer unstopped unfailed p = cause_unstopped a b answer unstopped p.later (λ is. absurd (unfailed is)) (none_came a.armed b.armed p.stops)
+
+pub cause_memory : (a b : View) → HasCause a b None → HasCause a b (Some Memory)
+cause_memory a b p = cause_as a b (Some Memory) refl (λ is. cc) p
 
 -- what holds of each image goes on where images only fall away
 pub each_shrinks : (a b : View) (dev : ℕ) (P : List ℕ → Type 0) → SameShape a b → Shrinks a b dev → EachImage a dev P → EachImage b dev P

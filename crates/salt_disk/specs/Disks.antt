@@ -16,7 +16,12 @@ pub record View : Type 1 where
   -- what a stop may leave of the device
   pub image : ℕ → List ℕ → Type 0
   pub faults : ℕ
-  pub stops_left : ℕ
+  -- the stops that are armed, the next one first: at which write or sync each comes, counted from when its turn comes, and what it picks
+  pub armed : List (ℕ × ℕ)
+
+-- how many stops are armed
+abbrev pub stops_left : View → ℕ
+stops_left d = length d.armed
 
 -- No call changes these.
 pub record SameShape (old new : View) : Type 0 where
@@ -86,11 +91,17 @@ stops_in (Some (Full dev)) = 0
 stops_in (Some Memory) = 0
 stops_in None = 0
 
--- `Failed` comes only where the disks have failed, and `Stopped` only where a stop was left, which it used up.
+-- Stops come in the order in which they were armed: these are left where so many have come.
+pub record HaveCome (came : ℕ) (old new : List (ℕ × ℕ)) : Type 0 where
+  pub come : List (ℕ × ℕ)
+  pub many : length come ≡ came
+  pub is : old ≡ come ++ new
+
+-- `Failed` comes only where the disks have failed, and `Stopped` only where a stop was armed, which it used up.
 pub record HasCause (old new : View) (answer : Option DiskErr) : Type 0 where
   pub later : old.faults ≤ new.faults
   pub failed : answer ≡ Some Failed → Rose old.faults new.faults
-  pub stops : old.stops_left ≡ stops_in answer + new.stops_left
+  pub stops : HaveCome (stops_in answer) old.armed new.armed
 
 -- `Full` comes exactly where the end of the write passes the limit, unless memory runs out.
 abbrev pub FullExactly : ℕ → ℕ → ℕ → Option DiskErr → Type 0
@@ -154,7 +165,7 @@ EachImage d dev P = IsTrue d.told → (c : List ℕ) → d.image dev c → P c
 pub record IsRestarted (old new : View) : Type 0 where
   pub shape : SameShape old new
   pub faults : new.faults ≡ old.faults
-  pub stops : new.stops_left ≡ old.stops_left
+  pub stops : new.armed ≡ old.armed
   pub settled : (dev : ℕ) → dev < old.count → IsSettled new dev
   pub one_of : IsTrue old.told → (dev : ℕ) → dev < old.count → old.image dev (new.bytes dev)
 

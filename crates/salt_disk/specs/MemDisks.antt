@@ -1,5 +1,5 @@
 -- What contracts see of disks in memory, and what is done to them beside the calls of the trait.
-use Rattle.std.specs.Prelude.{IsTrue, List, None, Option, Some, [], if◌then◌else◌, length, nat_le, ℕ, ◌<◌, ◌≡◌, ◌≢◌, ◌∷◌}
+use Rattle.std.specs.Prelude.{IsTrue, List, None, Option, Some, [], if◌then◌else◌, nat_le, ℕ, ◌<◌, ◌≡◌, ◌≢◌, ◌∷◌}
 use Rattle.salt_disk.specs.Calls.{one_more}
 use Rattle.salt_disk.specs.Devices.{ChangesAt, ChangesEach, Stops, Writes, view_of}
 use Rattle.salt_disk.specs.Disks.{IsSettled, IsUnchanged, SameShape, View}
@@ -9,7 +9,7 @@ use Rattle.salt_disk.specs.declared.memory.Stop.{Stop}
 
 -- what contracts see of them
 abbrev pub seen : MemDisks → View
-seen m = view_of m.devices.items m.faults (length m.stops.items)
+seen m = view_of m.devices.items m.faults m.stops.items
 
 -- so many devices without a byte and with this limit, on which nothing has happened
 pub record AreNew (d : View) (count limit : ℕ) : Type 0 where
@@ -20,12 +20,12 @@ pub record AreNew (d : View) (count limit : ℕ) : Type 0 where
   pub bytes : (dev : ℕ) → d.bytes dev ≡ []
   pub settled : (dev : ℕ) → IsSettled d dev
   pub faults : d.faults ≡ 0
-  pub stops : d.stops_left ≡ 0
+  pub stops : d.armed ≡ []
 
 -- no count has changed
 pub record SameCounts (old new : View) : Type 0 where
   pub faults : new.faults ≡ old.faults
-  pub stops : new.stops_left ≡ old.stops_left
+  pub stops : new.armed ≡ old.armed
 
 -- one device has another limit, and all else is as it was
 pub record HasLimit (old new : View) (dev limit : ℕ) : Type 0 where

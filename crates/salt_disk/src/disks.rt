@@ -1,5 +1,5 @@
 //! What every layer above sees of the devices.
-ghost use Rattle.std.specs.Prelude.{Err, ◌≡◌, ℕ, ◌+◌, ◌^◌, ◌<◌, ◌≤◌, IsTrue, false, length, IfOk, OnOk, OnErr};
+ghost use Rattle.std.specs.Prelude.{Err, ◌≡◌, ℕ, ◌+◌, ◌^◌, ◌<◌, ◌≤◌, ◌++◌, ◌∷◌, [], IsTrue, false, length, IfOk, OnOk, OnErr};
 ghost use Rattle.std.specs.Result.{result_err};
 ghost use Rattle.salt_disk.specs.Disks.{View, IsSettled, Shrinks, AreUnchanged, KeepsOthers, KeepsAll, IfNothingDone, IsUnchanged};
 ghost use Rattle.salt_disk.specs.Disks.{HasCause, FullExactly, NeverFull, OnlyFails, Rose, written, Tears, IsRead, IsRestarted};
@@ -39,7 +39,7 @@ impl<T: Drop> From<AllocFailed<T>> for DiskErr {
 /// Devices of bytes, by number from 0. What a write leaves of a device before the next sync of it,
 /// where a stop cuts it short, is one of the device's images.
 pub trait Disks {
-    /// What contracts see: the bytes and the images of each device, and counts of faults and stops.
+    /// What contracts see: the bytes and the images of each device, the count of faults, and the stops that are armed.
     ghost view: { Self → View };
 
     /// Puts the device's bytes from `at` on at the start of `buf`, and gives how many: fewer than
@@ -94,8 +94,8 @@ pub trait Disks {
     fn arm(&mut self, calls: u64, pick: u8) -> Result<(), AllocError>
         requires able { IsTrue (view self.old).can_stop }
         requires pick { pick ≤ 4 }
-        ensures ok { OnOk result ((view self.new).stops_left ≡ (view self.old).stops_left + 1) }
-        ensures err { OnErr result ((view self.new).stops_left ≡ (view self.old).stops_left) }
+        ensures ok { OnOk result ((view self.new).armed ≡ (view self.old).armed ++ (calls, pick) ∷ []) }
+        ensures err { OnErr result ((view self.new).armed ≡ (view self.old).armed) }
         ensures faults { (view self.new).faults ≡ (view self.old).faults }
         ensures kept { AreUnchanged (view self.old) (view self.new) };
 
@@ -104,7 +104,7 @@ pub trait Disks {
         requires { (view self.old).told ≡ false }
         ensures faults { Rose (view self.old).faults (view self.new).faults }
         ensures later { (view self.old).faults ≤ (view self.new).faults }
-        ensures stops { (view self.new).stops_left ≡ (view self.old).stops_left }
+        ensures stops { (view self.new).armed ≡ (view self.old).armed }
         ensures kept { AreUnchanged (view self.old) (view self.new) };
 }
 

@@ -17,5 +17,5 @@ untold folder = record {
   bytes = λ _. [];
   image = λ _ _. ⊥;
   faults = folder.faults;
-  stops_left = 0;
+  armed = [];
 }

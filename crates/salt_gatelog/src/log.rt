@@ -21,7 +21,8 @@ pub struct GateLog {
 }
 
 /// Leaves an empty log on a device on which nothing is pending. A first byte that is there and is not 1 is a closed gate, and
-/// then no byte is written. Whatever it answers, each image of the device is blank or has the bytes that it had.
+/// then no byte is written. Whatever it answers, each image of the device is blank or has the bytes that it had. `Full` leaves
+/// the device as it was.
 pub fn create<D: Disks>(disks: &mut D, dev: u32) -> Result<GateLog, DiskErr>
     requires known { dev < (D.view disks.old).count }
     requires settled { IsSettled (D.view disks.old) dev }
@@ -35,6 +36,7 @@ pub fn create<D: Disks>(disks: &mut D, dev: u32) -> Result<GateLog, DiskErr>
     ensures others { KeepsOthers dev (D.view disks.old) (D.view disks.new) (result_err result) }
     ensures cause { HasCause (D.view disks.old) (D.view disks.new) (result_err result) }
     ensures full { FullOnly dev ((D.view disks.old).limit dev) 1 (result_err result) }
+    ensures untouched { (n : ℕ) → result ≡ Err (Full n) → IsUnchanged (D.view disks.old) (D.view disks.new) dev }
 {
     let mut first = [1; 1];
     let count = disks.read(dev, 0, &mut first)?;
