@@ -9,21 +9,24 @@ use Rattle.salt_decisions.proofs.Contents.{log_bytes}
 use Rattle.salt_decisions.proofs.Moving.{moved_by_moves}
 use Rattle.salt_decisions.specs.Decisions.{AreOpen, HoldsLog, IsCounting, IsDecisions}
 use Rattle.salt_decisions.specs.Moves.{moved_by}
-use Rattle.salt_decisions.specs.Opened.{IsBlankImage, IsFirstImage, IsOfCoordinator, begun, first_payload}
+use Rattle.salt_decisions.specs.Opened.{FullAtFirst, IsBlankImage, IsFirstImage, IsOfCoordinator, begun, first_payload}
 use Rattle.salt_decisions.specs.Pair.{IsCounted}
 use Rattle.salt_decisions.specs.Read.{IsOf}
 use Rattle.salt_decisions.specs.Which.{which_in}
 use Rattle.salt_decisions.specs.declared.decisions.Decisions.{Decisions}
 use Rattle.salt_decisions.specs.declared.read.ReadLog.{ReadLog}
 use Rattle.salt_disk.proofs.CallAfterCall.{each_shrinks, keeps_on, keeps_wider}
-use Rattle.salt_disk.specs.Disks.{EachImage, IsSettled, IsUnchanged, KeepsAll, KeepsBut, KeepsOthers, SameShape, View}
+use Rattle.salt_disk.specs.Disks.{EachImage, FullOnly, IsSettled, IsUnchanged, KeepsAll, KeepsBut, KeepsOthers, OnlyFails, SameShape, View}
+use Rattle.salt_disk.specs.declared.disks.DiskErr.TheVariants.{Failed, Full, Memory, Stopped}
 use Rattle.salt_disk.specs.declared.disks.DiskErr.{DiskErr}
 use Rattle.salt_gatelog.specs.Log as gates
-use Rattle.salt_gatelog.specs.Log.{IsLog}
+use Rattle.salt_gatelog.specs.Log.{HasClosedGate, IsLog}
 use Rattle.salt_gatelog.specs.declared.log.GateLog.{GateLog}
-use Rattle.salt_stands.specs.Coordinator.{coordinator_pair, device_of}
+use Rattle.salt_stands.proofs.FirstOpening.{is_created}
+use Rattle.salt_stands.proofs.Pairs.{pair_same}
+use Rattle.salt_stands.specs.Coordinator.{Logs, coordinator_pair, device_of}
 use Rattle.salt_stands.specs.CoordinatorLog.{CoordinatorLog, coordinator_generation, coordinator_in, heard, told_by_header, with_told}
-use Rattle.salt_stands.specs.FirstOpening.{first_header}
+use Rattle.salt_stands.specs.FirstOpening.{IsCreated, first_header}
 use Rattle.salt_stands.specs.OpenConts.{do_rise}
 use Rattle.salt_stands.specs.Pieces.{other_log}
 use Rattle.salt_stands.specs.Stands.{is_same_kind, is_same_shape, logs_of}
@@ -33,7 +36,7 @@ use Rattle.salt_values.specs.declared.cont.Cont.{Cont}
 use Rattle.salt_values.specs.declared.placement.PlaceKind.TheVariants.{Bands, Remainder}
 use Rattle.salt_values.specs.declared.placement.PlaceKind.{PlaceKind}
 use Rattle.salt_values.specs.declared.placement.Shape.{Shape}
-use Rattle.std.proofs.Common.{Bool, IsTrue, List, None, Option, Some, [], ap, arith, false, inl, inr, refl, subst, sym, true, ℕ, ◌<◌, ◌≡◌, ◌≢◌, ◌⊎◌, ◌∙◌, ◌∷◌}
+use Rattle.std.proofs.Common.{Bool, IsTrue, List, None, Option, Some, [], ap, arith, false, inl, inr, length, refl, subst, sym, true, ℕ, ◌+◌, ◌<◌, ◌≡◌, ◌≢◌, ◌≤◌, ◌⊎◌, ◌∙◌, ◌∷◌}
 use Rattle.std.proofs.lemmas.Bool.Decides.{Decides-eqb, nat_tests}
 use Rattle.std.specs.Prelude.{◌&&◌}
 
@@ -151,6 +154,48 @@ module _ (asked : Shape) (d0 d1 d2 d3 : View) (other gate gate' : GateLog) (payl
 
   pub begun_keeps : KeepsBut IsOfCoordinator d0 d3 None
   begun_keeps = keeps_on IsOfCoordinator d0 d2 d3 None (keeps_on IsOfCoordinator d0 d1 d2 None (keeps_of_b d0 d1 None first) (keeps_of_a d1 d2 None second)) (keeps_of_a d2 d3 None third)
+
+-- WHERE A DEVICE IS FULL nothing was begun
+
+-- log B is created there
+pub full_b : (d e : View) (payload : List ℕ) (answer : Option DiskErr) → SameShape d e → (HasClosedGate (d.bytes 1) → OnlyFails answer) → ((n : ℕ) → answer ≡ Some (Full n) → IsUnchanged d e 1) → FullOnly 1 (d.limit 1) 1 answer
+    → FullAtFirst e payload answer
+full_b d e payload None shape closed same full = tt
+full_b d e payload (Some Failed) shape closed same full = tt
+full_b d e payload (Some Stopped) shape closed same full = tt
+full_b d e payload (Some (Full n)) shape closed same full =
+    inl (full.0, subst IsCreated (sym (same n refl).bytes) (is_created (d.bytes 1) (λ gate rest shut is. closed (record { gate = gate; rest = rest; is_closed = shut; bytes_are = is }))), omega (arith, full.1, shape.limit 1))
+full_b d e payload (Some Memory) shape closed same full = tt
+
+-- log A is made behind it
+pub full_a : (d e : View) (payload : List ℕ) (end : ℕ) (answer : Option DiskErr) → SameShape d e → end ≤ 10 + length payload → FullOnly 0 (d.limit 0) end answer → FullAtFirst e payload answer
+full_a d e payload end None shape short full = tt
+full_a d e payload end (Some Failed) shape short full = tt
+full_a d e payload end (Some Stopped) shape short full = tt
+full_a d e payload end (Some (Full n)) shape short full = inr (full.0, omega (arith, full.1, short, shape.limit 0))
+full_a d e payload end (Some Memory) shape short full = tt
+
+pub both_made_blank : (logs : Logs) → logs 0 ≡ Some [] → logs 1 ≡ Some [] → coordinator_pair logs ≡ BothBlank
+both_made_blank logs a b =
+    ap (λ o. pair_of coordinator_generation (content_of coordinator_in o) (content_of coordinator_in (logs 1))) a
+    ∙ ap (λ o. pair_of coordinator_generation (content_of coordinator_in (Some [])) (content_of coordinator_in o)) b
+
+-- the pair is blank yet behind a log that was made blank
+pub blank_with_b : (d e : View) (log : GateLog) → KeepsOthers 1 d e None → gates.device_of log ≡ 1 → IsLog e log [] → IsTrue d.told → coordinator_pair (logs_of d.bytes) ≡ BothBlank
+    → coordinator_pair (logs_of e.bytes) ≡ BothBlank
+blank_with_b d e log keeps device is told blank =
+    both_made_blank (logs_of e.bytes) (ap entries_in (keeps.kept 0 zero_one).bytes ∙ blank_a d.bytes blank)
+    (ap (λ dev. entries_in (e.bytes dev)) (sym device) ∙ log_bytes e log [] (keeps.shape.told ∙ told) is)
+
+pub blank_with_a : (d e : View) (log : GateLog) → KeepsOthers 0 d e None → gates.device_of log ≡ 0 → IsLog e log [] → IsTrue d.told → coordinator_pair (logs_of d.bytes) ≡ BothBlank
+    → coordinator_pair (logs_of e.bytes) ≡ BothBlank
+blank_with_a d e log keeps device is told blank =
+    both_made_blank (logs_of e.bytes) (ap (λ dev. entries_in (e.bytes dev)) (sym device) ∙ log_bytes e log [] (keeps.shape.told ∙ told) is)
+    (ap entries_in (keeps.kept 1 one_zero).bytes ∙ blank_b d.bytes blank)
+
+-- and where both devices are as they were
+pub blank_stays : (d e : View) → e.bytes 0 ≡ d.bytes 0 → e.bytes 1 ≡ d.bytes 1 → coordinator_pair (logs_of d.bytes) ≡ BothBlank → coordinator_pair (logs_of e.bytes) ≡ BothBlank
+blank_stays d e first second blank = pair_same coordinator_generation coordinator_in 0 (logs_of d.bytes) (logs_of e.bytes) (ap entries_in first) (ap entries_in second) ∙ blank
 
 pub nothing_open : (conts : List Cont) (asked : Shape) → conts ≡ [] → AreOpen conts (begun asked)
 nothing_open conts asked none rise cs e = none ∙ is

@@ -2,10 +2,8 @@
 use Rattle.salt_decisions.specs.Read.{HearsAll, HearsOne}
 use Rattle.salt_decisions.specs.Said.{Says}
 use Rattle.salt_decisions.specs.declared.said.Said.{Said}
-use Rattle.salt_disk.proofs.CallAfterCall.{cause_on, same_shape}
-use Rattle.salt_disk.specs.Disks.{HasCause, KeepsAll, Rose, View}
-use Rattle.salt_disk.specs.declared.disks.DiskErr.TheVariants.{Failed}
-use Rattle.salt_disk.specs.declared.disks.DiskErr.{DiskErr}
+use Rattle.salt_disk.proofs.CallAfterCall.{cause_on, cause_none, same_shape}
+use Rattle.salt_disk.specs.Disks.{HasCause, KeepsAll, View}
 use Rattle.salt_gatelog.proofs.Entries.{keeps_then}
 use Rattle.salt_gatelog.specs.Entry.{HasMoved}
 use Rattle.salt_gatelog.specs.Log.{IsLog, count_of}
@@ -66,12 +64,6 @@ pub record HearsSoFar (d0 d : View) (gate0 gate : GateLog) (parts : ℕ) (said0 
 pub keeps_itself : (d : View) → KeepsAll d d None
 keeps_itself d = record { shape = same_shape d; kept = λ dev none. record { bytes = refl; images = λ c left. left }; images = λ dev none c left. left }
 
-pub causes_nothing : (d : View) → HasCause d d None
-causes_nothing d = record { later = omega arith; failed = never; stops = omega arith }
-  where
-    never : ◌≡◌ {A = Option DiskErr} None (Some Failed) → Rose d.faults d.faults
-    never e = cc
-
 first_none : {A : Type 0} (xs : List A) → [] ≡ drop 1 (take 1 xs)
 first_none [] = refl
 first_none (x ∷ xs) = refl
@@ -80,7 +72,7 @@ pub starts : (d : View) (gate : GateLog) (parts : ℕ) (said : Said) → HearsSo
 starts d gate parts said = record {
   first = omega arith;
   keeps = keeps_itself d;
-  cause = causes_nothing d;
+  cause = cause_none d;
   same = record { device = refl; gate = refl; count = refl };
   logs = λ entries is. is;
   hears = λ t h. record { payloads = []; now = t; is_heard = refl; says = h; stand = λ entries is told. first_none entries };

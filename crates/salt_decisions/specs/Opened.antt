@@ -14,7 +14,7 @@ use Rattle.salt_disk.specs.declared.disks.DiskErr.TheVariants as disk
 use Rattle.salt_disk.specs.declared.disks.DiskErr.{DiskErr}
 use Rattle.salt_stands.specs.Coordinator.{coordinator_pair, device_of}
 use Rattle.salt_stands.specs.CoordinatorLog.{CoordinatorLog, told_by_header}
-use Rattle.salt_stands.specs.FirstOpening.{first_header}
+use Rattle.salt_stands.specs.FirstOpening.{IsCreated, first_header}
 use Rattle.salt_stands.specs.Stands.{are_spent, is_same_shape, logs_of}
 use Rattle.salt_values.specs.declared.placement.Shape.{Shape}
 use Rattle.std.specs.Prelude.{Err, IsTrue, List, None, Ok, Option, Result, Some, [], false, length, true, ℕ, ⊤, ◌+◌, ◌<◌, ◌∷◌, ◌≡◌, ◌⊎◌}
@@ -112,10 +112,10 @@ IsFirstImage asked bytes = (entries_in bytes ≡ Some []) ⊎ (entries_in bytes 
 abbrev pub IsBlankImage : List ℕ → Type 0
 IsBlankImage bytes = entries_in bytes ≡ Some []
 
--- `Full` comes only where the first byte of log B, or the header in log A, passes the limit
-abbrev pub FullAtFirst : (limit : ℕ → ℕ) → (payload : List ℕ) → Option DiskErr → Type 0
-FullAtFirst limit payload None = ⊤
-FullAtFirst limit payload (Some disk.Failed) = ⊤
-FullAtFirst limit payload (Some disk.Stopped) = ⊤
-FullAtFirst limit payload (Some (disk.Full dev)) = ((dev ≡ 1) × (limit 1 < 1)) ⊎ ((dev ≡ 0) × (limit 0 < 10 + length payload))
-FullAtFirst limit payload (Some disk.Memory) = ⊤
+-- `Full` comes only where log B is created there and its byte passes the limit, or the header in log A does
+abbrev pub FullAtFirst : View → (payload : List ℕ) → Option DiskErr → Type 0
+FullAtFirst d payload None = ⊤
+FullAtFirst d payload (Some disk.Failed) = ⊤
+FullAtFirst d payload (Some disk.Stopped) = ⊤
+FullAtFirst d payload (Some (disk.Full dev)) = ((dev ≡ 1) × IsCreated (d.bytes 1) × (d.limit 1 < 1)) ⊎ ((dev ≡ 0) × (d.limit 0 < 10 + length payload))
+FullAtFirst d payload (Some disk.Memory) = ⊤

@@ -8,12 +8,13 @@ ghost use Rattle.salt_decisions.specs.Opened.{FullAtFirst, IsBlankImage, IsFirst
 ghost use Rattle.salt_decisions.specs.Read.{IsOf};
 ghost use Rattle.salt_decisions.specs.Which.{which_in};
 ghost use Rattle.salt_disk.specs.Disks.{EachImage, HasCause, IsSettled, KeepsAll, KeepsBut};
+ghost use Rattle.salt_disk.specs.declared.disks.DiskErr.TheVariants.{Full};
 ghost use Rattle.salt_stands.specs.Coordinator.{coordinator_pair, device_of};
 ghost use Rattle.salt_stands.specs.CoordinatorLog.{CoordinatorLog};
 ghost use Rattle.salt_stands.specs.Stands.{are_spent, is_same_kind, is_same_shape, logs_of};
 ghost use Rattle.salt_values.specs.Placement.{IsParts};
 ghost use Rattle.salt_values.specs.declared.placement.Shape.{Shape};
-ghost use Rattle.std.specs.Prelude.{IfErr, IfOk, IsTrue, Some, [], ◌<◌, ◌≡◌};
+ghost use Rattle.std.specs.Prelude.{Err, IfErr, IfOk, IsTrue, Some, [], ℕ, ◌<◌, ◌≡◌};
 ghost use Rattle.std.specs.Result.{result_err};
 
 use crate::decisions::Decisions;
@@ -164,7 +165,8 @@ fn begin<D: Disks>(alloc: Global, disks: &mut D, shape: Shape) -> Result<Decisio
     ensures images_b { EachImage (D.view disks.new) 1 IsBlankImage }
     ensures others { KeepsBut IsOfCoordinator (D.view disks.old) (D.view disks.new) (result_err result) }
     ensures cause { HasCause (D.view disks.old) (D.view disks.new) (result_err result) }
-    ensures full { FullAtFirst (D.view disks.old).limit (first_payload shape) (result_err result) }
+    ensures full { IsTrue (D.view disks.old).told → FullAtFirst (D.view disks.new) (first_payload shape) (result_err result) }
+    ensures blank { (dev : ℕ) → result ≡ Err (Full dev) → IsTrue (D.view disks.old).told → coordinator_pair (logs_of (D.view disks.new).bytes) ≡ BothBlank }
 {
     let payload = header_payload(alloc, 1, shape, 0, 0, &[], &[])?;
     let _other = create(disks, 1)?;
@@ -226,7 +228,8 @@ pub fn open_decisions<D: Disks>(
     ensures images_b { coordinator_pair (logs_of (D.view disks.old).bytes) ≡ BothBlank → EachImage (D.view disks.new) 1 IsBlankImage }
     ensures others { KeepsBut IsOfCoordinator (D.view disks.old) (D.view disks.new) (open_err result) }
     ensures cause { HasCause (D.view disks.old) (D.view disks.new) (open_err result) }
-    ensures full { IsTrue (D.view disks.old).told → FullAtFirst (D.view disks.old).limit (first_payload shape) (open_err result) }
+    ensures full { IsTrue (D.view disks.old).told → FullAtFirst (D.view disks.new) (first_payload shape) (open_err result) }
+    ensures blank { (dev : ℕ) → result ≡ Err (OpenErr.Full dev) → IsTrue (D.view disks.old).told → coordinator_pair (logs_of (D.view disks.new).bytes) ≡ BothBlank }
 {
     match read_pair(alloc, disks)? {
         LogPair::BothBlank => {

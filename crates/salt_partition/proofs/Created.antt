@@ -4,20 +4,23 @@ use Rattle.salt_bytes.specs.Generations.{content_of, pair_of, read_or_outside}
 use Rattle.salt_bytes.specs.Log.{entries_in}
 use Rattle.salt_bytes.specs.Partition.{partition_header_in, spell_partition_header}
 use Rattle.salt_disk.proofs.CallAfterCall.{keeps_on, keeps_wider, kept_on}
-use Rattle.salt_disk.specs.Disks.{IsSettled, IsUnchanged, KeepsBut, KeepsOthers, View}
-use Rattle.salt_gatelog.specs.Log.{IsLog}
+use Rattle.salt_disk.specs.Disks.{FullExactly, FullOnly, IsSettled, IsUnchanged, KeepsBut, KeepsOthers, OnlyFails, SameShape, View}
+use Rattle.salt_disk.specs.declared.disks.DiskErr.TheVariants.{Failed, Full, Memory, Stopped}
+use Rattle.salt_disk.specs.declared.disks.DiskErr.{DiskErr}
+use Rattle.salt_gatelog.specs.Log.{HasClosedGate, IsLog}
 use Rattle.salt_gatelog.specs.declared.log.GateLog.{GateLog}
 use Rattle.salt_model.specs.Tables.{no_rows, with_changes}
 use Rattle.salt_partition.proofs.Lasts.{no_last}
 use Rattle.salt_partition.proofs.Standing.{entries_stand, settled_kept}
-use Rattle.salt_partition.specs.Openings.{IsLogDevice}
+use Rattle.salt_partition.specs.Openings.{FullAtLogs, IsLogDevice}
 use Rattle.salt_partition.specs.Partitions.{IsPartition}
 use Rattle.salt_partition.specs.declared.partition.Partition.{Partition}
-use Rattle.salt_stands.specs.FirstOpening.{first_part_header, first_view}
+use Rattle.salt_stands.proofs.FirstOpening.{is_created}
+use Rattle.salt_stands.specs.FirstOpening.{IsCreated, first_part_header, first_view}
 use Rattle.salt_stands.specs.Partition.{pages_device, part_device}
 use Rattle.salt_stands.specs.PartitionLog.{own_log, partition_generation, partition_in, with_prepared}
 use Rattle.salt_stands.specs.Words.{and_then, given}
-use Rattle.std.proofs.Common.{Bool, List, None, Some, [], ap, arith, inl, inr, refl, subst, sym, true, ℕ, ◌+◌, ◌++◌, ◌<◌, ◌≡◌, ◌∙◌, ◌∷◌}
+use Rattle.std.proofs.Common.{Bool, List, None, Some, [], ap, arith, inl, inr, refl, subst, sym, true, ℕ, ◌+◌, ◌++◌, ◌<◌, ◌≡◌, ◌≤◌, ◌∙◌, ◌∷◌}
 use Rattle.std.proofs.lemmas.Bool.{eq-eqb}
 
 no_changes : [] ≡ (with_changes [] no_rows).list
@@ -74,3 +77,31 @@ module _ (d0 d1 d2 e : View) (part : ℕ) (first : KeepsOthers (part_device part
                   ∙ ap (λ o. pair_of partition_generation (read_or_outside o) (content_of (partition_in part) (Some []))) reads;
             };
       }
+
+-- WHICH LIMIT IS PASSED, where a call ends with this error
+
+module _ (d e : View) (a end : ℕ) (shape : SameShape d e) where
+  -- the byte by which log B is created
+  pub full_other : (b : ℕ) (error : DiskErr) → b ≡ a + 1 → FullOnly b (d.limit b) 1 (Some error) → (HasClosedGate (d.bytes b) → OnlyFails (Some error)) → ((n : ℕ) → error ≡ Full n → IsUnchanged d e b)
+      → FullAtLogs e a end (Some error)
+  full_other b Failed at full closed untouched = tt
+  full_other b Stopped at full closed untouched = tt
+  full_other b Memory at full closed untouched = tt
+  full_other b (Full n) at full closed untouched =
+      let same : e.bytes n ≡ d.bytes b = ap e.bytes full.0 ∙ (untouched n refl).bytes in
+      let created : IsCreated (d.bytes b) = is_created (d.bytes b) (λ gate rest shut is. closed (record { gate = gate; rest = rest; is_closed = shut; bytes_are = is })) in
+      inr (full.0 ∙ at, subst IsCreated (sym same) created, omega (arith, full.1, ap e.limit full.0, shape.limit b))
+
+  -- that by which log A is
+  pub full_first : (k : ℕ) (error : DiskErr) → k ≡ a → 1 ≤ end → FullOnly k (d.limit k) 1 (Some error) → FullAtLogs e a end (Some error)
+  full_first k Failed at some full = tt
+  full_first k Stopped at some full = tt
+  full_first k Memory at some full = tt
+  full_first k (Full n) at some full = inl (full.0 ∙ at, omega (arith, full.1, ap e.limit full.0, shape.limit k, some))
+
+  -- the header that is appended there
+  pub full_appended : (k there : ℕ) (error : DiskErr) → k ≡ a → there ≡ end → FullExactly k (d.limit k) there (Some error) → FullAtLogs e a end (Some error)
+  full_appended k there Failed at is full = tt
+  full_appended k there Stopped at is full = tt
+  full_appended k there Memory at is full = tt
+  full_appended k there (Full n) at is full = inl (full.0 ∙ at, omega (arith, full.1, is, ap e.limit full.0, shape.limit k))

@@ -12,6 +12,7 @@ use Rattle.salt_partition.specs.declared.open.OpenErr.TheVariants.{Disk, NotSalt
 use Rattle.salt_partition.specs.declared.open.OpenErr.{OpenErr}
 use Rattle.salt_partition.specs.declared.partition.Partition.{Partition}
 use Rattle.salt_stands.specs.Coordinator.{device_of}
+use Rattle.salt_stands.specs.FirstOpening.{IsCreated}
 use Rattle.salt_stands.specs.OpenedPart.{is_known_log}
 use Rattle.salt_stands.specs.Partition.{pages_device, part_device, part_pair}
 use Rattle.salt_stands.specs.PartitionLog.{PartitionLog}
@@ -65,10 +66,10 @@ disk_err (Ok x) = None
 disk_err (Err (NotSalt dev)) = None
 disk_err (Err (Disk e)) = Some e
 
--- `Full` comes only where the device's limit is below the end of the last write to it
-abbrev pub FullAtLogs : (limit : ℕ → ℕ) → (a end_a end_b : ℕ) → Option DiskErr → Type 0
-FullAtLogs limit a end_a end_b None = ⊤
-FullAtLogs limit a end_a end_b (Some Failed) = ⊤
-FullAtLogs limit a end_a end_b (Some Stopped) = ⊤
-FullAtLogs limit a end_a end_b (Some Memory) = ⊤
-FullAtLogs limit a end_a end_b (Some (Full dev)) = ((dev ≡ a) × (limit a < end_a)) ⊎ ((dev ≡ a + 1) × (limit (a + 1) < end_b))
+-- `Full` comes only where log B is created there and its byte passes the limit, or the header in log A does
+abbrev pub FullAtLogs : View → (a end : ℕ) → Option DiskErr → Type 0
+FullAtLogs d a end None = ⊤
+FullAtLogs d a end (Some Failed) = ⊤
+FullAtLogs d a end (Some Stopped) = ⊤
+FullAtLogs d a end (Some Memory) = ⊤
+FullAtLogs d a end (Some (Full dev)) = ((dev ≡ a) × (d.limit dev < end)) ⊎ ((dev ≡ a + 1) × IsCreated (d.bytes dev) × (d.limit dev < 1))

@@ -8,7 +8,7 @@ ghost use Rattle.salt_partition.specs.Openings.{FullAtLogs, IsLogDevice};
 ghost use Rattle.salt_partition.specs.Partitions.{IsPartition};
 ghost use Rattle.salt_stands.specs.FirstOpening.{first_part_header, first_view};
 ghost use Rattle.salt_stands.specs.Partition.{pages_device, part_device};
-ghost use Rattle.std.specs.Prelude.{IfOk, Some, [], length, ◌+◌, ◌<◌, ◌≡◌, ◌⊎◌};
+ghost use Rattle.std.specs.Prelude.{IfOk, IsTrue, Some, [], length, ◌+◌, ◌<◌, ◌≡◌, ◌⊎◌};
 ghost use Rattle.std.specs.Result.{result_err};
 
 use crate::devices::log_a;
@@ -49,7 +49,7 @@ pub fn create_partition<D: Disks>(
     ensures image_b { EachImage (D.view disks.new) (part_device part + 1) (λ c. (entries_in c ≡ Some []) ⊎ (c ≡ (D.view disks.old).bytes (part_device part + 1))) }
     ensures others { KeepsBut (IsLogDevice part) (D.view disks.old) (D.view disks.new) (result_err result) }
     ensures cause { HasCause (D.view disks.old) (D.view disks.new) (result_err result) }
-    ensures full { FullAtLogs (D.view disks.old).limit (part_device part) (10 + length (spell_partition_header (first_part_header 2 part))) 1 (result_err result) }
+    ensures full { IsTrue (D.view disks.old).told → FullAtLogs (D.view disks.new) (part_device part) (10 + length (spell_partition_header (first_part_header 2 part))) (result_err result) }
 {
     let header = first_header(alloc, part)?;
     create(disks, log_a(part) + 1)?;

@@ -6,7 +6,7 @@ use Rattle.salt_stands.proofs.Prepared.{sound_log}
 use Rattle.salt_stands.specs.Commits.{Stood, each_tables, found_of}
 use Rattle.salt_stands.specs.Coordinator.{Logs, judge_coordinator}
 use Rattle.salt_stands.specs.CoordinatorLog.{coordinator_generation, coordinator_in, told_by_header, with_told}
-use Rattle.salt_stands.specs.FirstOpening.{AreBlank, AreMade, first_coordinator, first_header, first_part_header, first_view}
+use Rattle.salt_stands.specs.FirstOpening.{AreBlank, AreMade, IsCreated, first_coordinator, first_header, first_part_header, first_view}
 use Rattle.salt_stands.specs.Partition.{is_format_under, part_device}
 use Rattle.salt_stands.specs.PartitionLog.{partition_generation, partition_in}
 use Rattle.salt_stands.specs.Pieces.{CoordinatorStands, PartStands, listed}
@@ -15,7 +15,8 @@ use Rattle.salt_stands.specs.Stands.{nothing_found, stands_in, with_parts}
 use Rattle.salt_stands.specs.Tables.{joined}
 use Rattle.salt_stands.specs.Words.{and_then, if_sound}
 use Rattle.salt_values.specs.declared.placement.Shape.{Shape}
-use Rattle.std.proofs.Common.{List, Ok, Some, [], ap, refl, suc, true, zero, ℕ, ◌+◌, ◌<◌, ◌≡◌, ◌∙◌}
+use Rattle.std.proofs.Common.{List, Ok, Some, [], ap, inl, inr, refl, suc, true, zero, ℕ, ◌+◌, ◌<◌, ◌≡◌, ◌≢◌, ◌∙◌, ◌∷◌}
+use Rattle.std.proofs.lemmas.Bool.{cases_eq}
 
 no_tables : (T : ℕ → Tables) → ((k : ℕ) → T k ≡ no_rows) → (p n : ℕ) → joined (listed T p n) ≡ no_rows
 unfolding joined
@@ -25,6 +26,14 @@ no_tables T none p (suc n) = ap (λ (t : Tables). Rattle.salt_stands.specs.Table
 empty_changes : with_changes [] no_rows ≡ no_rows
 unfolding with_changes
 empty_changes = refl
+
+-- a log is created where no closed gate is there
+pub is_created : (bytes : List ℕ) → ((gate : ℕ) (rest : List ℕ) → gate ≢ 1 → bytes ≡ gate ∷ rest → ⊥) → IsCreated bytes
+is_created [] unclosed = tt
+is_created (gate ∷ bytes) unclosed = elim (cases_eq gate 1) [
+  | inl open_gate ↦ open_gate
+  | inr shut ↦ absurd (unclosed gate bytes shut refl)
+]
 
 module _ {D : Type 0} (r : Reading D) where
   pub blank_stands : (logs : Logs) (devices : ℕ → List ℕ) (asked : Shape) → AreBlank logs → stands_in r logs devices asked ≡ Ok (nothing_found asked)

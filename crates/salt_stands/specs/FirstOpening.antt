@@ -7,7 +7,7 @@ use Rattle.salt_stands.specs.CoordinatorLog.{told_by_header}
 use Rattle.salt_stands.specs.Partition.{part_device}
 use Rattle.salt_stands.specs.Pieces.{PartView}
 use Rattle.salt_values.specs.declared.placement.Shape.{Shape}
-use Rattle.std.specs.Prelude.{List, Some, [], ℕ, ◌+◌, ◌<◌, ◌∷◌, ◌≡◌}
+use Rattle.std.specs.Prelude.{List, Some, [], ℕ, ⊤, ◌+◌, ◌<◌, ◌∷◌, ◌≡◌}
 
 -- both coordinator devices are blank
 pub record AreBlank (logs : Logs) : Type 0 where
@@ -25,6 +25,11 @@ first_coordinator shape format = record { log = record { header = first_header s
 
 abbrev pub first_view : ℕ → ℕ → PartView
 first_view format p = record { which = LogA; log = record { header = first_part_header format p; prepared = [] }; rows = [] }
+
+-- a log is created by one byte, unless a closed gate is there already
+abbrev pub IsCreated : List ℕ → Type 0
+IsCreated [] = ⊤
+IsCreated (gate ∷ bytes) = gate ≡ 1
 
 -- each log A has its header alone, each log B is blank
 pub record AreMade (logs : Logs) (shape : Shape) (format part_format : ℕ) (coordinator : List ℕ) (part : ℕ → List ℕ) : Type 0 where

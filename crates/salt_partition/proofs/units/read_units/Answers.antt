@@ -19,6 +19,11 @@ returns-in_err-unit-clause-kept g c =
     let p = err_from_is_err_and c.from_residual.result c.from_residual.ensures.1 in
     rw (p.1, p.2) (keeps_then (g.D.Disks.view c.args.disks.now) (g.D.Disks.view c.loop-i.disks) (g.D.Disks.view c.unit_at.new.disks) (Some c.in_err-unit.field-0.0) c.loop-i.invariant.keeps c.in_err-unit.ensures.kept)
 
+pub returns-in_err-unit-clause-cause : goal.returns-in_err-unit-clause-cause
+returns-in_err-unit-clause-cause g c =
+    let p = err_from_is_err_and c.from_residual.result c.from_residual.ensures.1 in
+    rw (p.1, p.2) (cause_on (g.D.Disks.view c.args.disks.now) (g.D.Disks.view c.loop-i.disks) (g.D.Disks.view c.unit_at.new.disks) (Some c.in_err-unit.field-0.0) c.loop-i.invariant.cause c.in_err-unit.ensures.cause)
+
 pub returns-in_err-push-in-Some-clause-kept : goal.returns-in_err-push-in-Some-clause-kept
 returns-in_err-push-in-Some-clause-kept g c =
     let d0 = g.D.Disks.view c.args.disks.now in
