@@ -4,7 +4,7 @@ use Rattle.salt_commit.proofs.Standing.{if_some, make_some}
 use Rattle.salt_commit.specs.Prepares.{AreSharesLast, IsShareLast, applied_with_shares}
 use Rattle.salt_commit.specs.Shares.{applied_with, share_at}
 use Rattle.salt_commit.specs.Stores.{ArePartitions}
-use Rattle.salt_disk.proofs.CallAfterCall.{cause_on, keeps_on, same_shape}
+use Rattle.salt_disk.proofs.CallAfterCall.{cause_on, cause_none, keeps_on, same_shape}
 use Rattle.salt_disk.specs.Disks.{HasCause, KeepsAll, View}
 use Rattle.salt_partition.proofs.Framed.{partition_kept}
 use Rattle.salt_partition.specs.Partitions.{IsPartition}
@@ -32,7 +32,7 @@ none_yet d parts u shares = record {
   done = λ v applied are last p h. absurd (omega (arith, h));
   rest = λ v applied are p h. are.each p;
   keeps = record { shape = same_shape d; kept = λ dev other. record { bytes = refl; images = λ c left. left }; images = λ dev other c left. left };
-  cause = record { later = omega arith; failed = λ is. cc; stops = omega arith };
+  cause = cause_none d;
 }
 
 module _ (d0 d : View) (parts0 parts : List Partition) (u : Id) (shares : List (List Change)) (n : ℕ) (so_far : AppliedSoFar d0 d parts0 parts u shares n) (x : Partition) (within : n < length parts) (read : x ≡ get_or parts n x) where

@@ -7,13 +7,13 @@ use Rattle.salt_commit.proofs.Standing.{if_some, make_some, part_at}
 use Rattle.salt_commit.specs.Openings.{IsPartLog, IsStoreLog, LeavesPages, OpensStore}
 use Rattle.salt_commit.specs.Stores.{ArePartitions, IsSound, decided_by, reading}
 use Rattle.salt_commit.specs.declared.store.Store.{Store}
-use Rattle.salt_decisions.proofs.Begun.{blank_a, blank_b, first_log}
+use Rattle.salt_decisions.proofs.Begun.{blank_a, blank_b, both_made_blank, first_log}
 use Rattle.salt_decisions.specs.Errors.{disk_err_in, open_err, open_err_of}
 use Rattle.salt_decisions.specs.Opened.{IsBlankImage, IsFirstImage, IsOfCoordinator, IsOpened, IsStood, begun, first_payload}
 use Rattle.salt_decisions.specs.declared.error.OpenErr.{OpenErr}
 use Rattle.salt_decisions.specs.declared.kept.Kept.{Kept}
 use Rattle.salt_disk.proofs.CallAfterCall.{keeps_on, keeps_wider}
-use Rattle.salt_disk.specs.Disks.{EachImage, IsImage, IsSettled, KeepsBut, View}
+use Rattle.salt_disk.specs.Disks.{EachImage, IsImage, IsSettled, IsUnchanged, KeepsBut, View}
 use Rattle.salt_disk.specs.declared.disks.DiskErr.TheVariants.{Failed, Full, Memory, Stopped}
 use Rattle.salt_disk.specs.declared.disks.DiskErr.{DiskErr}
 use Rattle.salt_model.specs.Kept.{Definition}
@@ -28,7 +28,7 @@ use Rattle.salt_stands.proofs.Pairs.{pair_same}
 use Rattle.salt_stands.proofs.Prepared.{sound_log}
 use Rattle.salt_stands.proofs.Stores.{stood_stands}
 use Rattle.salt_stands.specs.Commits.{PartSame, Stood, found_of}
-use Rattle.salt_stands.specs.Coordinator.{Coordinator, Logs, coordinator_pair, judge_coordinator}
+use Rattle.salt_stands.specs.Coordinator.{Coordinator, coordinator_pair, judge_coordinator}
 use Rattle.salt_stands.specs.CoordinatorLog.{CoordinatorLog, coordinator_generation, coordinator_in}
 use Rattle.salt_stands.specs.FirstOpening.{first_coordinator, first_view}
 use Rattle.salt_stands.specs.Partition.{part_device}
@@ -62,11 +62,6 @@ or_true : (b : Bool) → (b || true) ≡ true
 or_true true = refl
 or_true false = refl
 
-both_blank : (logs : Logs) → logs 0 ≡ Some [] → logs 1 ≡ Some [] → coordinator_pair logs ≡ BothBlank
-both_blank logs a b =
-    ap (λ o. pair_of coordinator_generation (content_of coordinator_in o) (content_of coordinator_in (logs 1))) a
-    ∙ ap (λ o. pair_of coordinator_generation (content_of coordinator_in (Some [])) (content_of coordinator_in o)) b
-
 -- blank devices of the coordinator leave no pages
 pub blank_unnamed : (asked : Shape) (image : ℕ → List ℕ) (dev : ℕ) → coordinator_pair (logs_of image) ≡ BothBlank → LeavesPages asked image dev → ⊥
 blank_unnamed asked image dev blank leaves =
@@ -78,7 +73,7 @@ blank_unnamed asked image dev blank leaves =
 pub still_blank_image : (d e : View) (n : ℕ) (answer : Option DiskErr) → KeepsBut (IsPartLog n) d e answer → 1 < d.count → IsSettled d 0 → IsSettled d 1
     → coordinator_pair (logs_of d.bytes) ≡ BothBlank → (image : ℕ → List ℕ) → IsImage e image → coordinator_pair (logs_of image) ≡ BothBlank
 still_blank_image d e n answer keeps known first second blank image left =
-    both_blank (logs_of image)
+    both_made_blank (logs_of image)
     (ap entries_in (first (image 0) (keeps.images 0 (no_part_log n 0 (omega arith)) (image 0) (left 0 (omega (arith, known, keeps.shape.count))))) ∙ blank_a d.bytes blank)
     (ap entries_in (second (image 1) (keeps.images 1 (no_part_log n 1 (omega arith)) (image 1) (left 1 (omega (arith, known, keeps.shape.count))))) ∙ blank_b d.bytes blank)
 
@@ -90,9 +85,9 @@ blank_image r asked d e n answer keeps known first second blank image left = bla
 })
 
 -- and are so where only partitions' logs are written
-pub still_blank : (d b : View) (n : ℕ) → KeepsBut (IsPartLog n) d b None → coordinator_pair (logs_of d.bytes) ≡ BothBlank → coordinator_pair (logs_of b.bytes) ≡ BothBlank
-still_blank d b n keeps blank = pair_same coordinator_generation coordinator_in 0 (logs_of d.bytes) (logs_of b.bytes)
-    (ap entries_in (keeps.kept 0 (no_part_log n 0 (omega arith))).bytes) (ap entries_in (keeps.kept 1 (no_part_log n 1 (omega arith))).bytes) ∙ blank
+pub still_blank : (d b : View) (n : ℕ) → ((dev : ℕ) → ¬ IsPartLog n dev → IsUnchanged d b dev) → coordinator_pair (logs_of d.bytes) ≡ BothBlank → coordinator_pair (logs_of b.bytes) ≡ BothBlank
+still_blank d b n kept blank = pair_same coordinator_generation coordinator_in 0 (logs_of d.bytes) (logs_of b.bytes)
+    (ap entries_in (kept 0 (no_part_log n 0 (omega arith))).bytes) (ap entries_in (kept 1 (no_part_log n 1 (omega arith))).bytes) ∙ blank
 
 -- the coordinator's devices are blank, or log A has its header
 module _ {D : Type 0} (r : Reading D) (asked : Shape) (parts : IsParts asked.parts) (d e : View) (answer : Option DiskErr) (keeps : KeepsBut IsOfCoordinator d e answer) (ps : List Partition) (size : length ps ≡ asked.parts)
@@ -147,7 +142,7 @@ module _ {D : Type 0} (r : Reading D) (asked : Shape) (parts : IsParts asked.par
   begun_unnamed first second image left dev leaves = by (first now (image 0) (left 0 (omega (arith, known, keeps.shape.count))))
     where
       by : IsFirstImage asked (image 0) → ⊥
-      by (inl a) = blank_unnamed asked image dev (both_blank (logs_of image) a (second now (image 1) (left 1 (omega (arith, known, keeps.shape.count))))) leaves
+      by (inl a) = blank_unnamed asked image dev (both_made_blank (logs_of image) a (second now (image 1) (left 1 (omega (arith, known, keeps.shape.count))))) leaves
       by (inr a) = no_names image leaves.p dev LogA (first_view 2 leaves.p).log (part_left image left leaves.p leaves.low).counts refl leaves.names
 
 -- where nothing was prepared, it does not matter which units are applied
@@ -206,7 +201,7 @@ begins asked d b e x kept first second blank size are opened = record {
     begun_log told = by (opened.stood (first.shape.told ∙ told))
       where
         by : IsStood (coordinator_pair (logs_of b.bytes)) asked opened.which opened.log → opened.log ≡ begun asked
-        by (inl counts) = absurd (none (coordinator_pair (logs_of b.bytes)) (still_blank d b asked.parts first (blank told)) counts)
+        by (inl counts) = absurd (none (coordinator_pair (logs_of b.bytes)) (still_blank d b asked.parts first.kept (blank told)) counts)
           where
             none : (pr : Rattle.salt_bytes.specs.Generations.Pair CoordinatorLog) → pr ≡ BothBlank → pr ≡ Counts opened.which opened.log → ⊥
             none pr x y = cc

@@ -11,8 +11,7 @@ use Rattle.salt_stands.specs.Pieces.{listed}
 use Rattle.salt_stands.specs.Placed.{changes_at}
 use Rattle.salt_values.specs.declared.change.Change.{Change}
 use Rattle.salt_values.specs.declared.placement.Shape.{Shape}
-use Rattle.std.proofs.Common.{Err, IsTrue, List, None, Ok, Option, Some, [], ap, arith, inl, inr, length, refl, subst, sym, ℕ, ◌+◌, ◌<◌, ◌≡◌, ◌≤◌, ◌⊎◌, ◌∙◌, ◌∷◌}
-use Rattle.std.proofs.lemmas.Option.{slice_get_past}
+use Rattle.std.proofs.Common.{Err, IsTrue, List, Ok, Some, [], ap, arith, inl, inr, length, refl, subst, sym, ℕ, ◌+◌, ◌<◌, ◌≡◌, ◌≤◌, ◌⊎◌, ◌∙◌, ◌∷◌}
 use Rattle.std.specs.Prelude.{Bool, IfOk, Result, map, slice_get, suc, zero, ◌↔◌}
 
 -- the rows of these partitions are what shares of changes make of those, where they are tables

@@ -4,7 +4,7 @@ use Rattle.salt_bytes.specs.Partition.{Prepared}
 use Rattle.salt_commit.proofs.Fit.{all_next, all_taken, one_fails}
 use Rattle.salt_commit.specs.Openings.{HasTables}
 use Rattle.salt_commit.specs.Stores.{reading}
-use Rattle.salt_disk.proofs.CallAfterCall.{cause_on, keeps_on, same_shape}
+use Rattle.salt_disk.proofs.CallAfterCall.{cause_on, cause_none, keeps_on, same_shape}
 use Rattle.salt_disk.specs.Disks.{HasCause, KeepsAll, UnlessDown, View}
 use Rattle.salt_disk.specs.declared.disks.DiskErr.{DiskErr}
 use Rattle.salt_model.specs.Kept.{Definition}
@@ -31,7 +31,7 @@ pub none_fits : (d : View) (x : Partition) (schema : List TableDef) (shape : Sha
 none_fits d x schema shape part = record {
   stands = λ p v applied is. is;
   keeps = record { shape = same_shape d; kept = λ dev other. record { bytes = refl; images = λ c left. left }; images = λ dev other c left. left };
-  cause = record { later = omega arith; failed = λ is. cc; stops = omega arith };
+  cause = cause_none d;
   fit = λ v applied is told c has. refl;
 }
 

@@ -29,3 +29,4 @@ mod Loaded
 mod Shown
 mod Sound
 mod Reopened
+pub mod Limits

@@ -9,7 +9,7 @@ use Rattle.salt_commit.proofs.Undecided.{decisions_kept}
 use Rattle.salt_commit.specs.Loads.{IsPartOf, IsRowAt, shown_in_all}
 use Rattle.salt_commit.specs.Stores.{IsStore, Stands, decided_by, reading, rows_of_store}
 use Rattle.salt_commit.specs.declared.store.Store.{Store}
-use Rattle.salt_disk.proofs.CallAfterCall.{cause_on, keeps_on, same_shape}
+use Rattle.salt_disk.proofs.CallAfterCall.{cause_on, cause_none, keeps_on, same_shape}
 use Rattle.salt_disk.specs.Disks.{HasCause, IsUnchanged, KeepsAll, SameShape, UnlessDown, View}
 use Rattle.salt_disk.specs.declared.disks.DiskErr.TheVariants.{Failed, Full, Memory, Stopped}
 use Rattle.salt_disk.specs.declared.disks.DiskErr.{DiskErr}
@@ -31,7 +31,7 @@ use Rattle.salt_stands.specs.Coordinator.{Coordinator}
 use Rattle.salt_stands.specs.Partition.{part_device}
 use Rattle.salt_stands.specs.Pieces.{PartView}
 use Rattle.salt_values.specs.declared.value.Value.{Value}
-use Rattle.std.proofs.Common.{List, None, Option, Some, [], ap, append_assoc, arith, length, refl, subst, sym, true, ℕ, ◌+◌, ◌++◌, ◌<◌, ◌≡◌, ◌∙◌, ◌∷◌}
+use Rattle.std.proofs.Common.{List, None, Option, Some, [], ap, append_assoc, length, refl, subst, sym, true, ℕ, ◌+◌, ◌++◌, ◌<◌, ◌≡◌, ◌∙◌, ◌∷◌}
 use Rattle.std.proofs.lemmas.List.{append-nil}
 use Rattle.std.specs.BTreeMap.{insert_entry}
 use Rattle.std.specs.FinMap.Entries.{below_all, find, find-where_key, is_sorted, is_sorted-where_key}
@@ -107,7 +107,7 @@ pub none_loaded : (d : View) (x : Store) (t : ℕ) (range : KeyRange) (schema : 
 none_loaded d x t range schema rows none = subst (λ (l : List Entry). LoadedSoFar d d x x t range schema l None) (sym none) (record {
   is = λ which c v is. is;
   keeps = record { shape = same_shape d; kept = λ dev other. record { bytes = refl; images = λ c left. left }; images = λ dev other c left. left };
-  cause = record { later = omega arith; failed = λ is. cc; stops = omega arith };
+  cause = cause_none d;
   rest = λ which c v is. refl;
   typed = tt;
   stay = refl;

@@ -1,7 +1,7 @@
 -- The first n partitions are made.
 use Rattle.salt_commit.proofs.Standing.{if_some, make_some}
 use Rattle.salt_commit.specs.Openings.{HasRoom, IsPartLog}
-use Rattle.salt_disk.proofs.CallAfterCall.{cause_on, keeps_on, keeps_wider, same_shape}
+use Rattle.salt_disk.proofs.CallAfterCall.{cause_on, cause_none, keeps_on, keeps_wider, same_shape}
 use Rattle.salt_disk.specs.Disks.{HasCause, IsSettled, IsUnchanged, KeepsBut, View}
 use Rattle.salt_disk.specs.declared.disks.DiskErr.TheVariants.{Memory}
 use Rattle.salt_disk.specs.declared.disks.DiskErr.{DiskErr}
@@ -35,7 +35,7 @@ none_made d = record {
   size = refl;
   each = λ p. tt;
   others = record { shape = same_shape d; kept = λ dev other. record { bytes = refl; images = λ c left. left }; images = λ dev other c left. left };
-  cause = record { later = omega arith; failed = λ is. cc; stops = omega arith };
+  cause = cause_none d;
 }
 
 other_part : (p q dev : ℕ) → (dev ≡ part_device p) ⊎ (dev ≡ part_device p + 1) → IsLogDevice q dev → p ≡ q

@@ -12,7 +12,7 @@ use Rattle.salt_decisions.specs.Kept.{IsKept}
 use Rattle.salt_decisions.specs.declared.error.OpenErr.TheVariants.{Failed, Full, Memory, NotSalt, NumbersSpent, OtherShape, Stopped}
 use Rattle.salt_decisions.specs.declared.error.OpenErr.{OpenErr}
 use Rattle.salt_decisions.specs.declared.kept.Kept.{Kept}
-use Rattle.salt_disk.proofs.CallAfterCall.{cause_on, keeps_on, same_shape}
+use Rattle.salt_disk.proofs.CallAfterCall.{cause_on, cause_none, keeps_on, same_shape}
 use Rattle.salt_disk.specs.Disks.{HasCause, KeepsAll, View}
 use Rattle.salt_model.specs.Kept.{Definition}
 use Rattle.salt_partition.proofs.Framed.{part_stands, partition_kept, sound_log}
@@ -133,7 +133,7 @@ pub record OpenedSoFar (d0 d : View) (schema : List TableDef) (shape : Shape) (k
 pub none_opened : (d : View) (schema : List TableDef) (shape : Shape) (kept : Kept) (some : ℕ → PartView) → OpenedSoFar d d schema shape kept [] 0
 none_opened d schema shape kept some = record {
   keeps = record { shape = same_shape d; kept = λ dev other. record { bytes = refl; images = λ c left. left }; images = λ dev other c left. left };
-  cause = record { later = omega arith; failed = λ is. cc; stops = omega arith };
+  cause = cause_none d;
   all = λ c k. record { size = refl; view = some; are = record { each = λ p. tt }; nulls = λ p low. absurd (omega (arith, low)); stand = λ told has p low. absurd (omega (arith, low)) };
 }
 

@@ -9,7 +9,7 @@ use Rattle.salt_commit.specs.Shares.{MayPrepareShare, share_at, with_share}
 use Rattle.salt_commit.specs.Stores.{ArePartitions}
 use Rattle.salt_decisions.proofs.Contents.{log_bytes}
 use Rattle.salt_decisions.specs.Decisions.{IsBeforeOrWith}
-use Rattle.salt_disk.proofs.CallAfterCall.{cause_on, each_shrinks, kept_on, keeps_on, keeps_wider, same_shape}
+use Rattle.salt_disk.proofs.CallAfterCall.{cause_on, cause_none, each_shrinks, kept_on, keeps_on, keeps_wider, same_shape}
 use Rattle.salt_disk.specs.Disks.{EachImage, HasCause, IsUnchanged, KeepsBut, View}
 use Rattle.salt_disk.specs.declared.disks.DiskErr.TheVariants.{Failed, Full, Memory, Stopped}
 use Rattle.salt_disk.specs.declared.disks.DiskErr.{DiskErr}
@@ -92,7 +92,7 @@ at_first d parts u shares = record {
       let is = if_some (slice_get parts p) found.0 (λ x. IsPartition d x p (v p) (applied p)) found.1 (are.each p) in
       inl (ap entries_in (is.is_log.settled c (subst (λ dev. d.image dev c) (sym is.device) left) ∙ ap d.bytes is.device));
   others = record { shape = same_shape d; kept = λ dev other. record { bytes = refl; images = λ c left. left }; images = λ dev other c left. left };
-  cause = record { later = omega arith; failed = λ is. cc; stops = omega arith };
+  cause = cause_none d;
   stay = refl;
 }
 

@@ -49,7 +49,7 @@ bytes (suc (suc zero)) = spelled (header ∷ []) ++ 0 ∷ []
 bytes (suc (suc (suc dev))) = []
 
 abbrev view : View
-view = record { count = 5; limit = λ dev. 1000; can_stop = false; told = true; bytes = bytes; image = λ dev c. c ≡ bytes dev; faults = 0; stops_left = 0 }
+view = record { count = 5; limit = λ dev. 1000; can_stop = false; told = true; bytes = bytes; image = λ dev c. c ≡ bytes dev; faults = 0; armed = [] }
 
 abbrev gate : GateLog
 gate = record { dev = 0; end = 57; count = 1; next = 0; place = 0 }

@@ -21,7 +21,7 @@ use Rattle.salt_partition.specs.declared.partition.Partition.{Partition}
 use Rattle.salt_stands.specs.Commits.{found_of, parts_of}
 use Rattle.salt_stands.specs.Coordinator.{Coordinator, coordinator_at, coordinator_of, coordinator_pair}
 use Rattle.salt_stands.specs.CoordinatorLog.{CoordinatorLog}
-use Rattle.salt_stands.specs.FirstOpening.{first_part_header}
+use Rattle.salt_stands.specs.FirstOpening.{IsCreated, first_part_header}
 use Rattle.salt_stands.specs.Partition.{pages_device, part_at, part_device, part_pair}
 use Rattle.salt_stands.specs.PartitionLog.{PartitionLog}
 use Rattle.salt_stands.specs.Pieces.{PartStands, PartView}
@@ -73,15 +73,16 @@ PartFails bytes boot decided p e = RefusesWhere (λ dev. part_fault boot decided
 
 -- WHAT A FIRST OPENING WRITES passes the limit of a device
 
--- of a partition's log: its one byte, or its header
-pub record PartPassesLimit (limit : ℕ → ℕ) (n dev : ℕ) : Type 0 where
+-- of a partition's logs: the header of A, or the byte by which B is created there
+pub record PartPassesLimit (d : View) (n dev : ℕ) : Type 0 where
   pub p : ℕ
   pub low : p < n
-  pub passes : ((dev ≡ part_device p) × (limit (part_device p) < 10 + length (spell_partition_header (first_part_header 2 p)))) ⊎ ((dev ≡ part_device p + 1) × (limit (part_device p + 1) < 1))
+  pub passes : ((dev ≡ part_device p) × (d.limit dev < 10 + length (spell_partition_header (first_part_header 2 p)))) ⊎ ((dev ≡ part_device p + 1) × IsCreated (d.bytes dev) × (d.limit dev < 1))
 
--- or of one of the coordinator's
-abbrev pub StorePassesLimit : (limit : ℕ → ℕ) → Shape → ℕ → Type 0
-StorePassesLimit limit asked dev = FullAtFirst limit (first_payload asked) (Some (disk.Full dev)) ⊎ PartPassesLimit limit asked.parts dev
+-- or of one of the coordinator's; both of these are blank
+pub record StorePassesLimit (d : View) (asked : Shape) (dev : ℕ) : Type 0 where
+  pub blank : coordinator_pair (logs_of d.bytes) ≡ BothBlank
+  pub passes : FullAtFirst d (first_payload asked) (Some (disk.Full dev)) ⊎ PartPassesLimit d asked.parts dev
 
 -- the disks or memory failed: nothing is refused
 abbrev pub IsNoRefusal : OpenErr → Type 0

@@ -29,7 +29,7 @@ fn create_all<D: Disks>(alloc: Global, disks: &mut D, parts: u8) -> Result<Vec<P
     ensures made { IfOk result (λ made. (length made.items ≡ parts) × ArePartitions (D.view disks.new) made.items (first_view 2) (λ p. [])) }
     ensures others { KeepsBut (IsPartLog parts) (D.view disks.old) (D.view disks.new) (result_err result) }
     ensures cause { HasCause (D.view disks.old) (D.view disks.new) (result_err result) }
-    ensures full { FullWhere (PartPassesLimit (D.view disks.old).limit parts) (result_err result) }
+    ensures full { IsTrue (D.view disks.old).told → FullWhere (PartPassesLimit (D.view disks.new) parts) (result_err result) }
 {
     let mut made = Vec::new(alloc);
     for part in 0..parts {
@@ -55,7 +55,7 @@ fn begin_store<D: Disks>(
     ensures pages { IsTrue (D.view disks.old).told → (image : ℕ → List ℕ) → IsImage (D.view disks.new) image → (dev : ℕ) → LeavesPages shape image dev → ⊥ }
     ensures others { KeepsBut (IsStoreLog shape.parts) (D.view disks.old) (D.view disks.new) (open_err result) }
     ensures cause { HasCause (D.view disks.old) (D.view disks.new) (open_err result) }
-    ensures full { IsTrue (D.view disks.old).told → FullWhere (StorePassesLimit (D.view disks.old).limit shape) (open_err result) }
+    ensures full { IsTrue (D.view disks.old).told → FullWhere (StorePassesLimit (D.view disks.new) shape) (open_err result) }
 {
     let parts = create_all(alloc, disks, shape.parts)?;
     let (decisions, kept) = open_decisions(alloc, disks, shape)?;
@@ -132,7 +132,7 @@ pub fn open_store<D: Disks, F: Fn(PlaceKind, &Key, u32) -> u32>(
 
     ensures others { KeepsBut (IsStoreLog shape.parts) (D.view disks.old) (D.view disks.new) (open_err result) }
     ensures cause { HasCause (D.view disks.old) (D.view disks.new) (open_err result) }
-    ensures full { IsTrue (D.view disks.old).told → FullWhere (StorePassesLimit (D.view disks.old).limit shape) (open_err result) }
+    ensures full { IsTrue (D.view disks.old).told → FullWhere (StorePassesLimit (D.view disks.new) shape) (open_err result) }
 {
     if peek(alloc, disks)?.is_none() {
         return begin_store(alloc, disks, shape);

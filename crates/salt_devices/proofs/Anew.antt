@@ -4,14 +4,17 @@ use Rattle.salt_commit.specs.Openings.{HasRoom}
 use Rattle.salt_commit.specs.declared.store.Store.{Store}
 use Rattle.salt_decisions.specs.Decisions.{shape_of}
 use Rattle.salt_definitions.specs.Fitting.{kept_in}
+use Rattle.salt_devices.proofs.Answered.{same_finds}
 use Rattle.salt_devices.proofs.Known.{stands_fails}
+use Rattle.salt_devices.proofs.Opening.{alike_below}
 use Rattle.salt_devices.proofs.Reheld.{held_again_mute}
 use Rattle.salt_devices.proofs.Refound.{Tells}
 use Rattle.salt_devices.proofs.Remembered.{held_rows}
 use Rattle.salt_devices.specs.Leaving.{IsLeft, Leaves, LeavesAs, StandsFor}
 use Rattle.salt_devices.specs.Opened.{IsHeldAgain, OpensAs}
 use Rattle.salt_devices.specs.Refusing.{RefusedAs}
-use Rattle.salt_devices.specs.Remembering.{AreNumbersOf, IsFoundAgain, Recalls, Remembers}
+use Rattle.salt_devices.specs.Remembering.{AreNumbersOf, IsFoundAgain, MayTell, Recalls, Remembers}
+use Rattle.salt_devices.specs.Standing.{RestsAs}
 use Rattle.salt_devices.specs.declared.pending.Pending.TheVariants.{Lost}
 use Rattle.salt_devices.specs.declared.pending.Pending.{Pending}
 use Rattle.salt_disk.specs.Disks.{KeepsAll, SameShape, View}
@@ -20,15 +23,16 @@ use Rattle.salt_gatelog.proofs.Entries.{not_told}
 use Rattle.salt_model.specs.Kept.{Kept}
 use Rattle.salt_stands.specs.Coordinator.{coordinator_pair}
 use Rattle.salt_stands.specs.Stands.{logs_of}
-use Rattle.salt_storage.specs.Answers.{MayFail}
+use Rattle.salt_storage.specs.Answers.{IsSpent, MayFail}
 use Rattle.salt_storage.specs.Storing.{IsSoundKept}
 use Rattle.salt_storage.specs.declared.found.Found as storage
 use Rattle.salt_storage.specs.declared.found.Numbers.{Numbers}
 use Rattle.salt_storage.specs.declared.halt.Halt.TheVariants.{DeviceFull}
 use Rattle.salt_storage.specs.declared.open.OpenErr.TheVariants.{Halted, NotSalt, NumbersSpent, OtherShape}
 use Rattle.salt_storage.specs.declared.open.OpenErr.{OpenErr}
+use Rattle.salt_values.specs.Placement.{IsParts}
 use Rattle.salt_values.specs.declared.placement.Shape.{Shape}
-use Rattle.std.proofs.Common.{Bool, IsTrue, List, Ok, Option, Some, ap, arith, false, inl, inr, refl, subst, sym, true, ℕ, ◌≡◌, ◌⊎◌, ◌∙◌}
+use Rattle.std.proofs.Common.{Bool, IsTrue, List, Ok, Option, Some, ap, arith, false, inl, inr, refl, subst, sym, true, ℕ, ◌<◌, ◌≡◌, ◌⊎◌, ◌∙◌}
 
 -- where nothing was written, what may come now came before
 pub still_left : (d e : View) (shape : Shape) (n : ℕ) (answer : Option DiskErr) → HasRoom d n → KeepsAll d e answer → (a b : Kept) → LeavesAs true d shape a b → Leaves e shape a b
@@ -57,7 +61,7 @@ recalled shape x n p a b not (inr r) = r
 
 -- HOW AN OPENING MAY FAIL there
 
-swapped : (a b : Kept) (e : OpenErr) → MayFail b a e → MayFail a b e
+swapped : (a b : Kept) (e : OpenErr) → MayTell b a e → MayTell a b e
 swapped a b (NotSalt dev) h = h
 swapped a b (OtherShape kept asked) h = h
 swapped a b (NumbersSpent boot decisions) h = (h.0, by h.1)
@@ -67,10 +71,10 @@ swapped a b (NumbersSpent boot decisions) h = (h.0, by h.1)
     by (inr s) = inl s
 swapped a b (Halted e) h = tt
 
-pub left_fails : (d : View) (shape : Shape) (a b : Kept) (e : OpenErr) → LeavesAs true d shape a b → IsTrue d.told → RefusedAs shape d.bytes e → MayFail a b e
+pub left_fails : (d : View) (shape : Shape) (a b : Kept) (e : OpenErr) → LeavesAs true d shape a b → IsTrue d.told → RefusedAs shape d.bytes e → MayTell a b e
 left_fails d shape a b e h told refused = by (left_bytes d shape a b h told).stands
   where
-    by : StandsFor shape d.bytes a ⊎ StandsFor shape d.bytes b → MayFail a b e
+    by : StandsFor shape d.bytes a ⊎ StandsFor shape d.bytes b → MayTell a b e
     by (inl s) = stands_fails shape d.bytes a b e s refused
     by (inr s) = swapped a b e (stands_fails shape d.bytes b a e s refused)
 
@@ -82,11 +86,49 @@ unwritten_left d e shape n answer room same kept a b h told image left =
     still_left d e shape n answer room (kept was (left_bytes d shape a b h was).begun) a b h told image left
 
 -- what an opening may not answer is not told
-pub not_left : (d : View) (shape : Shape) (a b : Kept) (e : OpenErr) → LeavesAs true d shape a b → (MayFail a b e → (dev : ℕ) × (e ≡ Halted (DeviceFull dev))) → (IsTrue d.told → RefusedAs shape d.bytes e)
+pub not_left : (d : View) (shape : Shape) (a b : Kept) (e : OpenErr) → LeavesAs true d shape a b → (MayTell a b e → (dev : ℕ) × (e ≡ Halted (DeviceFull dev))) → (IsTrue d.told → RefusedAs shape d.bytes e)
     → ((dev : ℕ) → e ≡ Halted (DeviceFull dev) → IsTrue d.told → coordinator_pair (logs_of d.bytes) ≡ BothBlank) → IsTrue d.told → ⊥
 not_left d shape a b e h not refused blank told =
     let full = not (left_fails d shape a b e h told (refused told)) in
     (left_bytes d shape a b h told).begun (blank full.0 full.1 told)
+
+-- WHAT IS LEFT where it fails so: nothing was written, so what stands there is all that a stop may leave
+module _ (d e : View) (shape : Shape) (parts : IsParts shape.parts) (room : HasRoom d shape.parts) (a b : Kept) (h : LeavesAs true d shape a b) where
+  rests_still : (answer : Option DiskErr) → KeepsAll d e answer → IsTrue d.told → (k : Kept) → StandsFor shape d.bytes k → Leaves e shape k k
+  rests_still answer keeps told k s now image left =
+      let same : (dev : ℕ) → dev < d.count → image dev ≡ d.bytes dev = λ dev low. room.settled dev low (image dev) (keeps.images dev (λ none. none) (image dev) (left dev (omega (arith, low, keeps.shape.count)))) in
+      let alike = alike_below shape d.count image d.bytes parts room.known (λ dev low. sym (same dev low)) in
+      record { begun = (h told image same).begun; stands = inl ((same_finds shape image d.bytes alike).finds_no_more k s) }
+
+  pub fails_known : (answer : Option DiskErr) (err : OpenErr) → SameShape d e → (IsTrue d.told → ¬ (coordinator_pair (logs_of d.bytes) ≡ BothBlank) → KeepsAll d e answer) → (IsTrue d.told → RefusedAs shape d.bytes err) → MayTell a b err
+      → MayFail (RestsAs shape false e) a b err
+  fails_known answer (NotSalt dev) same kept refused tells = tells
+  fails_known answer (OtherShape other asked) same kept refused tells = tells
+  fails_known answer (NumbersSpent boot decisions) same kept refused tells = by d.told refl
+    where
+      known : (k : Kept) → (k ≡ a) ⊎ (k ≡ b) → Leaves e shape k k → (boot ≡ k.boot) × (decisions ≡ k.decisions) → IsSpent (RestsAs shape false e) a b boot decisions
+      known k either rests is = record { kept = k; either = either; resting = record { rests = rests }; boot_is = is.0; decisions_are = is.1; spent = tells.0 }
+
+      numbers : IsTrue d.told → (k : Kept) → StandsFor shape d.bytes k → (boot ≡ k.boot) × (decisions ≡ k.decisions)
+      numbers told k s = one (stands_fails shape d.bytes k k (NumbersSpent boot decisions) s (refused told)).1
+        where
+          one : ((boot ≡ k.boot) × (decisions ≡ k.decisions)) ⊎ ((boot ≡ k.boot) × (decisions ≡ k.decisions)) → (boot ≡ k.boot) × (decisions ≡ k.decisions)
+          one (inl is) = is
+          one (inr is) = is
+
+      there : IsTrue d.told → StandsFor shape d.bytes a ⊎ StandsFor shape d.bytes b → IsSpent (RestsAs shape false e) a b boot decisions
+      there told (inl s) = known a (inl refl) (rests_still answer (kept told (left_bytes d shape a b h told).begun) told a s) (numbers told a s)
+      there told (inr s) = known b (inr refl) (rests_still answer (kept told (left_bytes d shape a b h told).begun) told b s) (numbers told b s)
+
+      -- where the disks do not tell, nothing is said of what rests
+      untold : d.told ≡ false → ((boot ≡ a.boot) × (decisions ≡ a.decisions)) ⊎ ((boot ≡ b.boot) × (decisions ≡ b.decisions)) → IsSpent (RestsAs shape false e) a b boot decisions
+      untold mute (inl is) = known a (inl refl) (mute_left e shape a a (same.told ∙ mute)) is
+      untold mute (inr is) = known b (inr refl) (mute_left e shape b b (same.told ∙ mute)) is
+
+      by : (t : Bool) → d.told ≡ t → IsSpent (RestsAs shape false e) a b boot decisions
+      by true told = there told (left_bytes d shape a b h told).stands
+      by false mute = untold mute tells.1
+  fails_known answer (Halted halt) same kept refused tells = tt
 
 pub never : (b : Bool) (P : Type 0) → b ≡ false → (P → IsTrue b) → P → ⊥
 never b P not holds h = let both : IsTrue b = holds h in cc (both, not)

@@ -1,7 +1,9 @@
 -- A first opening, by what it may come upon.
 use Rattle.salt_commit.specs.Openings.{StorePassesLimit}
 use Rattle.salt_commit.specs.declared.store.Store.{Store}
+use Rattle.salt_devices.proofs.Answered.{same_finds}
 use Rattle.salt_devices.proofs.Known.{stands_fails}
+use Rattle.salt_devices.proofs.Opening.{alike_below}
 use Rattle.salt_devices.proofs.Started.{able_on}
 use Rattle.salt_devices.specs.Filling.{FillsIn}
 use Rattle.salt_devices.specs.Holding.{IsAble}
@@ -15,7 +17,8 @@ use Rattle.salt_disk.specs.Disks.{IsImage, SameShape, View}
 use Rattle.salt_model.specs.Kept.{Kept}
 use Rattle.salt_storage.specs.Writing.{FindsNoMore, OfOpening}
 use Rattle.salt_storage.specs.declared.found.Found.{Found}
-use Rattle.salt_storage.specs.Answers.{IsLater, MayFail}
+use Rattle.salt_devices.specs.Remembering.{MayTell}
+use Rattle.salt_storage.specs.Answers.{IsLater}
 use Rattle.salt_storage.specs.declared.halt.Halt.TheVariants.{Stopped}
 use Rattle.salt_storage.specs.declared.open.OpenErr.TheVariants.{Halted, NotSalt, NumbersSpent, OtherShape}
 use Rattle.salt_storage.specs.declared.open.OpenErr.{OpenErr}
@@ -26,11 +29,15 @@ use Rattle.std.proofs.Common.{Bool, IsTrue, List, Some, false, inl, inr, refl, s
 pub upon_bytes : (d : View) (started : Bool) (P : (ℕ → List ℕ) → Type 0) → started ≡ true → P d.bytes → ComesUpon d started P
 upon_bytes d started P is h = subst (λ (b : Bool). ComesUpon d b P) (sym is) (record { image = d.bytes; comes = λ dev low. refl; is = h })
 
--- a limit is the same behind a call
-pub passes_on : (d e : View) (shape : Shape) (dev : ℕ) → SameShape d e → (IsTrue d.told → StorePassesLimit d.limit shape dev) → FillsIn e shape OfOpening dev
-passes_on d e shape dev same h told =
-    let limits : d.limit ≡ e.limit = λ i k. sym (same.limit k) i in
-    subst (λ (limit : ℕ → ℕ). StorePassesLimit limit shape dev) limits (h (sym same.told ∙ told))
+-- what it refuses of that which may come upon it, it refuses of the bytes
+pub refused_bytes : (d : View) (shape : Shape) (started : Bool) (refusal : OpenErr) → started ≡ true → IsAble shape d → ComesUpon d started (λ image. RefusedAs shape image refusal) → RefusedAs shape d.bytes refusal
+refused_bytes d shape started refusal is able h =
+    let u = subst (λ (b : Bool). ComesUpon d b (λ image. RefusedAs shape image refusal)) is h in
+    (same_finds shape d.bytes u.image (alike_below shape d.count d.bytes u.image able.parts able.room u.comes)).refuses_no_more refusal u.is
+
+-- told as it was before the call
+pub passes_on : (d e : View) (shape : Shape) (dev : ℕ) → SameShape d e → (IsTrue d.told → StorePassesLimit e shape dev) → FillsIn e shape OfOpening dev
+passes_on d e shape dev same h told = h (sym same.told ∙ told)
 
 -- behind an opening that failed, an image refuses and finds what the bytes did
 module _ (d e : View) (shape : Shape) (same : SameShape d e) (was now : Bool) (started : was ≡ true) (called : now ≡ false)
@@ -77,7 +84,7 @@ pub opens_behind : (d e : View) (shape : Shape) (p : Pending) (err : OpenErr) �
 opens_behind d e shape p err same (inl h) stopped is told image comes = stopped h.1 (sym same.told ∙ told) image comes
 opens_behind d e shape p err same (inr h) stopped is told image comes = absurd (cc (h.0, is))
 
-later_of : (a b : Kept) (err : OpenErr) → MayFail a b err → IsLater err
+later_of : (a b : Kept) (err : OpenErr) → MayTell a b err → IsLater err
 later_of a b (NotSalt dev) h = h
 later_of a b (OtherShape kept asked) h = h
 later_of a b (NumbersSpent boot decisions) h = tt

@@ -3,7 +3,7 @@ use Rattle.salt_commit.specs.Errors as commit
 use Rattle.salt_commit.specs.declared.error.StoreErr.TheVariants.{Failed, Full, Memory, Stopped}
 use Rattle.salt_commit.specs.declared.error.StoreErr.{StoreErr}
 use Rattle.salt_devices.specs.Errors.{halt_of}
-use Rattle.salt_disk.specs.Disks.{HasCause, OnlyFails, View}
+use Rattle.salt_disk.specs.Disks.{HasCause, KeepsAll, OnlyFails, View}
 use Rattle.salt_disk.specs.declared.disks.DiskErr.{DiskErr}
 use Rattle.salt_storage.specs.Answers as storage
 use Rattle.salt_storage.specs.declared.halt.Halt.TheVariants.{DeviceFull}
@@ -31,3 +31,6 @@ never_full Failed dev h is = absurd cc
 never_full Stopped dev h is = h
 never_full (Full n) dev h is = h
 never_full Memory dev h is = absurd cc
+
+pub same_kept : (d f : View) (e : StoreErr) → KeepsAll d f (Some (commit.disk_err_of e)) → KeepsAll d f (Some (storage.disk_err_of (halt_of e)))
+same_kept d f e h = subst (λ (a : DiskErr). KeepsAll d f (Some a)) (sym (same_answer e)) h

@@ -8,7 +8,7 @@ use Rattle.salt_model.specs.Kept.{Kept}
 use Rattle.salt_stands.specs.CoordinatorLog.{CoordinatorLog}
 use Rattle.salt_stands.specs.Stands as opening
 use Rattle.salt_stands.specs.Stands.{are_spent, opening_of}
-use Rattle.salt_storage.specs.Answers.{MayFail}
+use Rattle.salt_devices.specs.Remembering.{MayTell}
 use Rattle.salt_storage.specs.declared.open.OpenErr.TheVariants.{Halted, NotSalt, NumbersSpent, OtherShape}
 use Rattle.salt_storage.specs.declared.open.OpenErr.{OpenErr}
 use Rattle.salt_values.specs.declared.placement.Shape.{Shape}
@@ -28,10 +28,10 @@ not_older shape bytes a s dev o = by (judged_as bytes shape s.found s.is)
         omega (arith, format, older, is)
 
 -- by spent numbers alone, or halted
-pub stands_fails : (shape : Shape) (bytes : ℕ → List ℕ) (a b : Kept) (e : OpenErr) → StandsFor shape bytes a → RefusedAs shape bytes e → MayFail a b e
+pub stands_fails : (shape : Shape) (bytes : ℕ → List ℕ) (a b : Kept) (e : OpenErr) → StandsFor shape bytes a → RefusedAs shape bytes e → MayTell a b e
 stands_fails shape bytes a b e s = by e (judged_opens bytes shape s.found s.is s.has_shape)
   where
-    by : (e : OpenErr) → (opening_of reading bytes shape ≡ opening.Stands s.found) ⊎ AreSpent bytes shape s.found → RefusedAs shape bytes e → MayFail a b e
+    by : (e : OpenErr) → (opening_of reading bytes shape ≡ opening.Stands s.found) ⊎ AreSpent bytes shape s.found → RefusedAs shape bytes e → MayTell a b e
     by (NotSalt dev) (inl opens) (inl is) = let both : opening.Stands s.found ≡ opening.NotSalt dev = sym opens ∙ is in cc both
     by (NotSalt dev) (inr sp) (inl is) = let both : opening.NumbersSpent s.found.kept.boot s.found.kept.decisions ≡ opening.NotSalt dev = sym sp.opens ∙ is in cc both
     by (NotSalt dev) o (inr (inl pages)) = s.no_pages dev pages

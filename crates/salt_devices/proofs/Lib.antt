@@ -26,3 +26,4 @@ mod Reheld
 mod Refound
 mod Anew
 mod Refused
+mod Within

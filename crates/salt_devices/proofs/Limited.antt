@@ -1,18 +1,17 @@
 -- A unit's commit that met a limit left the pair of the log that was full as it was.
 use Rattle.salt_bytes.specs.Generations.{Counts, LogA, LogB, WhichLog}
-use Rattle.salt_commit.proofs.Standing.{apart_from_other, apart_from_part, if_some, part_at}
-use Rattle.salt_commit.specs.Commits.{IsCommitLog, shares_in}
-use Rattle.salt_commit.specs.Prepares.{IsLogOfShares}
+use Rattle.salt_commit.proofs.Standing.{apart_from_other, apart_from_part, part_at}
+use Rattle.salt_commit.specs.Commits.{IsCommitLog}
 use Rattle.salt_commit.specs.Stores.{decided_by}
 use Rattle.salt_commit.specs.declared.store.Store.{Store}
 use Rattle.salt_devices.proofs.Untouched.{entry_stays, share_stays}
+use Rattle.salt_devices.proofs.Within.{share_device}
 use Rattle.salt_devices.specs.Filling.{EntryFills, FillsIn, ShareFills, next_decision}
 use Rattle.salt_devices.specs.Holding.{IsHeld}
 use Rattle.salt_disk.specs.Disks.{IsUnchanged, KeepsBut, View}
 use Rattle.salt_disk.specs.declared.disks.DiskErr.TheVariants.{Full}
 use Rattle.salt_bytes.specs.declared.moves.Move.{Move}
 use Rattle.salt_model.specs.Kept.{Kept}
-use Rattle.salt_partition.specs.Partitions.{IsPartition}
 use Rattle.salt_stands.specs.Coordinator.{device_of}
 use Rattle.salt_stands.specs.Partition.{part_device}
 use Rattle.salt_stands.specs.Pieces.{other_log}
@@ -20,7 +19,7 @@ use Rattle.salt_storage.specs.Writing.{OfUnit}
 use Rattle.salt_values.specs.declared.change.Change.{Change}
 use Rattle.salt_values.specs.declared.id.Id.{Id}
 use Rattle.salt_values.specs.declared.placement.Shape.{Shape}
-use Rattle.std.proofs.Common.{IsTrue, List, Some, ap, arith, inl, inr, length, slice_get, sym, ℕ, ◌+◌, ◌<◌, ◌≡◌, ◌≢◌, ◌⊎◌, ◌∙◌}
+use Rattle.std.proofs.Common.{IsTrue, List, Some, ap, arith, inl, inr, length, sym, ℕ, ◌+◌, ◌<◌, ◌≡◌, ◌≢◌, ◌⊎◌, ◌∙◌}
 
 same_which : {L : Type 0} (w z : WhichLog) (x y : L) → Counts w x ≡ Counts z y → w ≡ z
 same_which w z x y is = cc
@@ -41,18 +40,15 @@ differs LogA a is = omega (arith, is)
 differs LogB a is = omega (arith, is)
 
 module _ (d e : View) (shape : Shape) (x : Store) (k : Kept) (h : IsHeld d shape x k) (cs : List Change) (n : ℕ) (others : KeepsBut (IsCommitLog x cs) d e (Some (Full n))) (same : IsUnchanged d e n) where
-  share_device : (dev : ℕ) (t : IsLogOfShares x.parts.items (shares_in x cs) (length x.parts.items) dev) → dev ≡ device_of (part_device t.p) (h.v t.p).which
-  share_device dev t = t.log.device ∙ (if_some (slice_get x.parts.items t.p) t.x (λ y. IsPartition d y t.p (h.v t.p) (decided_by h.c t.p)) t.at (h.is.parts.each t.p)).device
-
   -- the log of a pair that does not count is written by no commit
   coordinator_apart : ¬ IsCommitLog x cs (device_of 0 (other_log h.which))
   coordinator_apart (inl is) = apart_from_other h.which (is ∙ h.is.decisions.counting.device)
-  coordinator_apart (inr t) = apart_from_parts (other_log h.which) t.p (h.v t.p).which (share_device (device_of 0 (other_log h.which)) t)
+  coordinator_apart (inr t) = apart_from_parts (other_log h.which) t.p (h.v t.p).which (share_device d shape x k h cs (device_of 0 (other_log h.which)) t)
 
   part_apart : (p : ℕ) → ¬ IsCommitLog x cs (device_of (part_device p) (other_log (h.v p).which))
   part_apart p (inl is) = apart_from_parts h.which p (other_log (h.v p).which) (sym h.is.decisions.counting.device ∙ sym is)
   part_apart p (inr t) =
-      let is : device_of (part_device p) (other_log (h.v p).which) ≡ device_of (part_device t.p) (h.v t.p).which = share_device (device_of (part_device p) (other_log (h.v p).which)) t in
+      let is : device_of (part_device p) (other_log (h.v p).which) ≡ device_of (part_device t.p) (h.v t.p).which = share_device d shape x k h cs (device_of (part_device p) (other_log (h.v p).which)) t in
       let one : p ≡ t.p = one_part p t.p (other_log (h.v p).which) (h.v t.p).which is in
       differs (h.v p).which (part_device p) (is ∙ ap (λ q. device_of (part_device q) (h.v q).which) (sym one))
 

@@ -25,6 +25,7 @@ use Rattle.salt_model.specs.Kept.{Definition}
 use Rattle.salt_stands.specs.Commits.{found_of}
 use Rattle.salt_stands.specs.Coordinator.{coordinator_pair}
 use Rattle.salt_stands.specs.CoordinatorLog.{CoordinatorLog}
+use Rattle.salt_stands.specs.Partition.{pages_device}
 use Rattle.salt_stands.specs.Stands as opening
 use Rattle.salt_stands.specs.Stands.{judged, logs_of, nothing_found}
 use Rattle.salt_storage.specs.Answers.{open_disk_err_of}
@@ -111,21 +112,22 @@ opened_newest schema d e shape x kept o told newest = o.keeps.format ∙ by (ope
 
 -- DEVICES
 
+-- bytes that are the same on each device there is say the same
+pub alike_below : (shape : Shape) (count : ℕ) (bytes image : ℕ → List ℕ) → IsParts shape.parts → ((p : ℕ) → p < shape.parts → pages_device p < count) → ((dev : ℕ) → dev < count → image dev ≡ bytes dev) → AreAlike shape bytes image
+alike_below shape count bytes image parts room same =
+    let some = room 0 (omega (arith, parts.0)) in
+    record {
+      first = same 0 (omega (arith, some));
+      second = same 1 (omega (arith, some));
+      part_a = λ p low. let k = room p low in same (2 + 3 * p) (omega (arith, k));
+      part_b = λ p low. let k = room p low in same (2 + 3 * p + 1) (omega (arith, k));
+      pages = λ p low. same (4 + 3 * p) (room p low);
+    }
+
 -- where nothing is pending, each image that is left is what a read gives
 alike : (d e : View) (shape : Shape) → IsParts shape.parts → HasRoom d shape.parts → e.count ≡ d.count → ((dev : ℕ) → Shrinks d e dev) → (image : ℕ → List ℕ) → IsImage e image → AreAlike shape d.bytes image
-alike d e shape parts room count there image left = record {
-  first = same 0 (omega (arith, known));
-  second = same 1 known;
-  part_a = λ p low. let k = room.known p low in same (2 + 3 * p) (omega (arith, k));
-  part_b = λ p low. let k = room.known p low in same (2 + 3 * p + 1) (omega (arith, k));
-  pages = λ p low. same (4 + 3 * p) (room.known p low);
-}
-  where
-    known : 1 < d.count
-    known = omega (arith, room.known 0 (omega (arith, parts.0)))
-
-    same : (dev : ℕ) → dev < d.count → image dev ≡ d.bytes dev
-    same dev low = room.settled dev low (image dev) (there dev (image dev) (left dev (omega (arith, low, count))))
+alike d e shape parts room count there image left =
+    alike_below shape d.count d.bytes image parts room.known (λ dev low. room.settled dev low (image dev) (there dev (image dev) (left dev (omega (arith, low, count)))))
 
 module _ (d : View) (shape : Shape) (parts : IsParts shape.parts) (room : HasRoom d shape.parts) where
   -- behind a call that writes nothing

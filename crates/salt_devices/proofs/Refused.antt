@@ -1,37 +1,47 @@
--- Where an opening refuses what stands on the devices, it has written nothing.
+-- Where an opening refuses what stands on the devices, it writes nothing.
 use Rattle.salt_bytes.specs.Generations.{BothBlank, Counts}
 use Rattle.salt_commit.specs.Stores.{reading}
 use Rattle.salt_devices.specs.Refusing.{RefusedAs}
-use Rattle.salt_disk.specs.Disks.{AreUnchanged, KeepsAll, View}
+use Rattle.salt_disk.specs.Disks.{KeepsAll, View}
+use Rattle.salt_disk.specs.declared.disks.DiskErr.TheVariants as disk
+use Rattle.salt_disk.specs.declared.disks.DiskErr.{DiskErr}
 use Rattle.salt_stands.specs.Coordinator.{coordinator_pair, judge_coordinator}
 use Rattle.salt_stands.specs.Stands as opening
 use Rattle.salt_stands.specs.Stands.{logs_of, nothing_found, of_coordinator, opening_of}
-use Rattle.salt_storage.specs.Answers.{IfRefused, open_disk_err_of}
+use Rattle.salt_storage.specs.Answers.{IsRefusal, WritesNothing, open_disk_err_of}
+use Rattle.salt_storage.specs.declared.halt.Halt.TheVariants.{DeviceFull, DiskFault, Memory, Stopped}
 use Rattle.salt_storage.specs.declared.open.OpenErr.TheVariants.{Halted, NotSalt, NumbersSpent, OtherShape}
 use Rattle.salt_storage.specs.declared.open.OpenErr.{OpenErr}
 use Rattle.salt_values.specs.declared.placement.Shape.{Shape}
-use Rattle.std.proofs.Common.{IsTrue, List, None, Ok, Some, ap, inl, inr, sym, ℕ, ◌≡◌, ◌∙◌}
+use Rattle.std.proofs.Common.{List, None, Ok, Option, Some, ap, inl, inr, refl, sym, ℕ, ◌≡◌, ◌∙◌}
 
 -- blank devices are refused by nothing
 module _ (shape : Shape) (bytes : ℕ → List ℕ) (blank : coordinator_pair (logs_of bytes) ≡ BothBlank) where
   opens : opening_of reading bytes shape ≡ opening.Stands (nothing_found shape)
   opens = ap (λ pair. of_coordinator reading bytes shape (judge_coordinator reading pair)) blank
 
-  salt_there : (dev : ℕ) → RefusedAs shape bytes (NotSalt dev) → ⊥
-  salt_there dev (inl is) = let no : opening.Stands (nothing_found shape) ≡ opening.NotSalt dev = sym opens ∙ is in cc
-  salt_there dev (inr (inl pages)) =
-      let no : Ok None ≡ Ok (Some pages.c) = sym (ap (λ pair. judge_coordinator reading pair) blank) ∙ pages.found in cc
-  salt_there dev (inr (inr older)) = let no : BothBlank ≡ Counts older.which older.log = sym blank ∙ older.counts in cc
+  not_refused : (refusal : OpenErr) → IsRefusal refusal → RefusedAs shape bytes refusal → ⊥
+  not_refused (NotSalt dev) is (inl told) = let both : opening.Stands (nothing_found shape) ≡ opening.NotSalt dev = sym opens ∙ told in cc
+  not_refused (NotSalt dev) is (inr (inl pages)) =
+      let both : Ok None ≡ Ok (Some pages.c) = sym (ap (λ pair. judge_coordinator reading pair) blank) ∙ pages.found in cc
+  not_refused (NotSalt dev) is (inr (inr older)) = let both : BothBlank ≡ Counts older.which older.log = sym blank ∙ older.counts in cc
+  not_refused (OtherShape kept asked) is told = let both : opening.Stands (nothing_found shape) ≡ opening.OtherShape kept asked = sym opens ∙ told in cc
+  not_refused (NumbersSpent boot decisions) is told = let both : opening.Stands (nothing_found shape) ≡ opening.NumbersSpent boot decisions = sym opens ∙ told in cc
+  not_refused (Halted halt) is told = is
 
-  shape_there : (kept asked : Shape) → RefusedAs shape bytes (OtherShape kept asked) → ⊥
-  shape_there kept asked is = let no : opening.Stands (nothing_found shape) ≡ opening.OtherShape kept asked = sym opens ∙ is in cc
+-- and on others no opening writes
+pub writes_nothing : (d e : View) (shape : Shape) (answer : Option DiskErr) (refusal : OpenErr) → IsRefusal refusal → RefusedAs shape d.bytes refusal → (¬ (coordinator_pair (logs_of d.bytes) ≡ BothBlank) → KeepsAll d e answer)
+    → (answer ≡ Some disk.Stopped → coordinator_pair (logs_of d.bytes) ≡ BothBlank) → WritesNothing d e answer
+writes_nothing d e shape answer refusal is refused kept stopped = record {
+  keeps = kept (λ blank. not_refused shape d.bytes blank refusal is refused);
+  unstopped = λ stop. not_refused shape d.bytes (stopped stop) refusal is refused;
+}
 
-unchanged : (d e : View) → KeepsAll d e None → AreUnchanged d e
-unchanged d e k = record { shape = k.shape; each = λ dev. k.kept dev (λ never. never) }
-
-pub refused_unchanged : (d e : View) (shape : Shape) (err : OpenErr) → (IsTrue d.told → RefusedAs shape d.bytes err) →
-    (IsTrue d.told → ¬ (coordinator_pair (logs_of d.bytes) ≡ BothBlank) → KeepsAll d e (open_disk_err_of err)) → IfRefused err (IsTrue d.told → AreUnchanged d e)
-refused_unchanged d e shape (NotSalt dev) refused kept = λ told. unchanged d e (kept told (λ blank. salt_there shape d.bytes blank dev (refused told)))
-refused_unchanged d e shape (OtherShape kept_shape asked) refused kept = λ told. unchanged d e (kept told (λ blank. shape_there shape d.bytes blank kept_shape asked (refused told)))
-refused_unchanged d e shape (NumbersSpent boot decisions) refused kept = tt
-refused_unchanged d e shape (Halted halt) refused kept = tt
+pub stopped_err : (err : OpenErr) → open_disk_err_of err ≡ Some disk.Stopped → err ≡ Halted Stopped
+stopped_err (NotSalt dev) stop = absurd (cc stop)
+stopped_err (OtherShape kept asked) stop = absurd (cc stop)
+stopped_err (NumbersSpent boot decisions) stop = absurd (cc stop)
+stopped_err (Halted DiskFault) stop = absurd (cc stop)
+stopped_err (Halted Stopped) stop = refl
+stopped_err (Halted (DeviceFull dev)) stop = absurd (cc stop)
+stopped_err (Halted Memory) stop = absurd (cc stop)

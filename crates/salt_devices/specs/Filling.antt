@@ -59,7 +59,7 @@ abbrev pub next_decision : Shape → Id → List Change → Move → Coordinator
 next_decision shape u cs m log = Decides (record { number = log.told.decisions + 1; unit = u; mask = mask_of (shares_of shape cs); move = spell_move FORMAT m })
 
 abbrev pub Fills : View → Shape → Written → ℕ → Type 0
-Fills d shape OfOpening dev = StorePassesLimit d.limit shape dev
+Fills d shape OfOpening dev = StorePassesLimit d shape dev
 Fills d shape OfBoot dev = EntryFills d next_boot dev
 Fills d shape (OfDefinition text) dev = EntryFills d (next_definition text) dev
 Fills d shape (OfUnit u cs m) dev = EntryFills d (next_decision shape u cs m) dev ⊎ ShareFills d shape u cs dev

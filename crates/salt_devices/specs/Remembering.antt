@@ -8,13 +8,16 @@ use Rattle.salt_model.specs.Kept.{Definition, Kept}
 use Rattle.salt_model.specs.Tables.{Entry, Tables}
 use Rattle.salt_stands.specs.Pieces.{listed}
 use Rattle.salt_stands.specs.Placed.{IsPlaced}
+use Rattle.salt_stands.specs.Stands.{are_spent}
 use Rattle.salt_stands.specs.Tables.{joined}
 use Rattle.salt_storage.specs.Storing.{IsSoundKept, booted, decided, defined}
 use Rattle.salt_storage.specs.declared.found.Numbers.{Numbers}
+use Rattle.salt_storage.specs.declared.open.OpenErr.TheVariants.{Halted, NotSalt, NumbersSpent, OtherShape}
+use Rattle.salt_storage.specs.declared.open.OpenErr.{OpenErr}
 use Rattle.salt_values.specs.declared.change.Change.{Change}
 use Rattle.salt_values.specs.declared.cont.Cont.{Cont}
 use Rattle.salt_values.specs.declared.placement.Shape.{Shape}
-use Rattle.std.specs.Prelude.{List, None, Option, Some, [], ℕ, ◌+◌, ◌<◌, ◌≡◌, ◌⊎◌}
+use Rattle.std.specs.Prelude.{List, None, Option, Some, [], true, ℕ, ⊤, ◌+◌, ◌<◌, ◌≡◌, ◌⊎◌}
 
 abbrev pub entries_of : Tables → List Entry
 entries_of t = t.list
@@ -51,6 +54,14 @@ pub record Recalls (shape : Shape) (x : Store) (n : Numbers) (p : Pending) (a b 
 abbrev pub Remembers : Shape → Option Store → Numbers → Pending → Kept → Kept → Type 0
 Remembers shape None n p a b = ⊥
 Remembers shape (Some x) n p a b = (p ≡ Lost) ⊎ Recalls shape x n p a b
+
+-- how an opening of what is remembered may fail: by the spent numbers of the one or the other, or halted
+abbrev pub MayTell : (a b : Kept) → OpenErr → Type 0
+MayTell a b (NotSalt dev) = ⊥
+MayTell a b (OtherShape kept asked) = ⊥
+MayTell a b (NumbersSpent boot decisions) = (are_spent boot decisions ≡ true) ×
+    (((boot ≡ a.boot) × (decisions ≡ a.decisions)) ⊎ ((boot ≡ b.boot) × (decisions ≡ b.decisions)))
+MayTell a b (Halted e) = ⊤
 
 -- WHAT IS FOUND again
 

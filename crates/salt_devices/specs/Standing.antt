@@ -33,3 +33,7 @@ module _ (shape : Shape) (started : Bool) where
     pub settled : AreSettled d
     pub started_now : started ≡ true
     pub opens : CanOpen p started d shape
+
+  -- whatever the next opening may come upon stands for this, where the disks tell
+  pub record RestsAs (d : View) (k : Kept) : Type 0 where
+    pub rests : LeavesAs started d shape k k

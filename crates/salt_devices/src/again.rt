@@ -4,11 +4,13 @@ ghost use Rattle.salt_commit.specs.Openings.{HasRoom};
 ghost use Rattle.salt_decisions.specs.Decisions.{shape_of};
 ghost use Rattle.salt_devices.specs.Leaving.{Leaves, LeavesAs};
 ghost use Rattle.salt_devices.specs.Opened.{IsHeldAgain};
-ghost use Rattle.salt_devices.specs.Remembering.{AreNumbersOf, Follow, IsFoundAgain, MayFollow, Recalls, Remembers};
-ghost use Rattle.salt_disk.specs.Disks.{HasCause, SameShape};
+ghost use Rattle.salt_devices.specs.Remembering.{AreNumbersOf, Follow, IsFoundAgain, MayFollow, MayTell, Recalls, Remembers};
+ghost use Rattle.salt_devices.specs.Standing.{RestsAs};
+ghost use Rattle.salt_disk.specs.Disks.{HasCause};
 ghost use Rattle.salt_model.specs.Kept.{Kept};
 ghost use Rattle.salt_stands.specs.Stands.{are_spent};
 ghost use Rattle.salt_storage.specs.Answers.{MayFail, open_disk_err};
+ghost use Rattle.salt_storage.specs.Staying.{StaysWithin};
 ghost use Rattle.salt_storage.specs.declared.halt.Halt.TheVariants.{DeviceFull};
 ghost use Rattle.salt_storage.specs.declared.open.OpenErr.TheVariants.{Halted};
 ghost use Rattle.salt_values.specs.Placement.{GivesPlaceOf, IsParts, TakesEachKey};
@@ -87,8 +89,8 @@ fn is_remembered<F: Fn(PlaceKind, &Key, u32) -> u32>(
 /// Whether an opening of what is remembered may answer so: its numbers are spent, or it was broken off. There is no write that
 /// would pass a limit.
 fn may_answer(e: OpenErr, numbers: Numbers, pending: &Pending) -> bool
-    ensures may { IsTrue result → (a b : Kept) → AreNumbersOf numbers a → MayFollow pending.now a b → MayFail a b e }
-    ensures not { result ≡ false → (a b : Kept) → AreNumbersOf numbers a → MayFollow pending.now a b → MayFail a b e → (dev : ℕ) × (e ≡ Halted (DeviceFull dev)) }
+    ensures may { IsTrue result → (a b : Kept) → AreNumbersOf numbers a → MayFollow pending.now a b → MayTell a b e }
+    ensures not { result ≡ false → (a b : Kept) → AreNumbersOf numbers a → MayFollow pending.now a b → MayTell a b e → (dev : ℕ) × (e ≡ Halted (DeviceFull dev)) }
     ensures full { (dev : ℕ) → IsTrue result → e ≡ Halted (DeviceFull dev) → ⊥ }
 {
     match e {
@@ -124,9 +126,9 @@ pub fn open_again<D: Disks, F: Fn(PlaceKind, &Key, u32) -> u32>(
         → IsHeldAgain (D.view disks.new) shape made.0 made.1 a ⊎ IsHeldAgain (D.view disks.new) shape made.0 made.1 b) }
     ensures numbers { IfOk result (λ made. are_spent made.1.boot made.1.decisions ≡ false) }
     ensures leaves { OnErr result ((a b : Kept) → LeavesAs true (D.view disks.old) shape a b → Leaves (D.view disks.new) shape a b) }
-    ensures known { IfErr result (λ e. (a b : Kept) → LeavesAs true (D.view disks.old) shape a b → Remembers shape (Some before.now) numbers pending.now a b → MayFail a b e) }
+    ensures known { IfErr result (λ e. (a b : Kept) → LeavesAs true (D.view disks.old) shape a b → Remembers shape (Some before.now) numbers pending.now a b → MayFail (RestsAs shape false (D.view disks.new)) a b e) }
     ensures full { (dev : ℕ) → result ≡ Err (Halted (DeviceFull dev)) → ⊥ }
-    ensures shape { SameShape (D.view disks.old) (D.view disks.new) }
+    ensures within { StaysWithin shape shape (D.view disks.old) (D.view disks.new) }
     ensures cause { HasCause (D.view disks.old) (D.view disks.new) (open_disk_err result) }
 {
     if pending.is_lost() {

@@ -57,12 +57,14 @@ impl Storage for Devices {
     ghost use Rattle.salt_devices.specs.Filling.{FillsIn};
     ghost use Rattle.salt_devices.specs.Holding.{CanStart, IsNewTo};
     ghost use Rattle.salt_devices.specs.Refusing.{Finds, Refuses};
-    ghost use Rattle.salt_devices.specs.Standing.{StandsHeld, StandsLeft, StandsStarted};
+    ghost use Rattle.salt_devices.specs.Standing.{RestsAs, StandsHeld, StandsLeft, StandsStarted};
     ghost use Rattle.salt_devices.specs.declared.pending.Pending.TheVariants.{Opening};
 
     ghost holds = { λ d x k. StandsHeld x.shape x.started x.store x.numbers x.pending d k };
 
     ghost leaves = { λ d x a b. StandsLeft x.shape x.started x.store x.numbers x.pending d a b };
+
+    ghost rests = { λ d x k. RestsAs x.shape x.started d k };
 
     ghost settled = { λ d x. StandsStarted x.shape x.started x.pending d };
 

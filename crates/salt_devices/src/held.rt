@@ -7,11 +7,12 @@ ghost use Rattle.salt_devices.specs.Filling.{FillsIn};
 ghost use Rattle.salt_commit.specs.Stores.{rows_of_store};
 ghost use Rattle.salt_devices.specs.Holding.{IsHeld, IsNewTo};
 ghost use Rattle.salt_devices.specs.Leaving.{Leaves};
-ghost use Rattle.salt_disk.specs.Disks.{HasCause, SameShape};
+ghost use Rattle.salt_disk.specs.Disks.{HasCause, KeepsAll};
 ghost use Rattle.salt_model.specs.Kept.{Definition, Kept, schema_of};
 ghost use Rattle.salt_model.specs.Tables.{Tables};
 ghost use Rattle.salt_stands.specs.Stands.{are_spent};
 ghost use Rattle.salt_storage.specs.Answers.{disk_err};
+ghost use Rattle.salt_storage.specs.Staying.{StaysWithin};
 ghost use Rattle.salt_storage.specs.Storing.{IsPartOf, MayDecide, MayDefine, booted, decided, defined};
 ghost use Rattle.salt_storage.specs.Writing.{OfBoot, OfDefinition, OfUnit};
 ghost use Rattle.salt_storage.specs.declared.halt.Halt.TheVariants.{DeviceFull, Memory};
@@ -51,7 +52,7 @@ fn halt_of(e: StoreErr) -> Halt
     }
 }
 
-/// The rows of a reach, each of which meets its table.
+/// The rows of a reach, each of which meets its table. Nothing is written.
 pub fn load_rows<D: Disks, F: Fn(PlaceKind, &Key, u32) -> u32>(
     store: &mut Store,
     disks: &mut D,
@@ -68,7 +69,7 @@ pub fn load_rows<D: Disks, F: Fn(PlaceKind, &Key, u32) -> u32>(
     ensures leaves { OnErr result ((shape : Shape) (k : Kept) → IsHeld (D.view disks.old) shape store.old k → Leaves (D.view disks.new) shape k k) }
     ensures stay { rows_of_store store.new ≡ rows_of_store store.old }
     ensures full { (dev : ℕ) → result ≡ Err (DeviceFull dev) → ⊥ }
-    ensures shape { SameShape (D.view disks.old) (D.view disks.new) }
+    ensures kept { KeepsAll (D.view disks.old) (D.view disks.new) (disk_err result) }
     ensures cause { HasCause (D.view disks.old) (D.view disks.new) (disk_err result) }
 {
     match store.load(disks, place, schema, reach) {
@@ -86,7 +87,7 @@ pub fn begin_boot<D: Disks>(store: &mut Store, disks: &mut D) -> Result<u64, Hal
     ensures leaves { (shape : Shape) (k : Kept) → IsHeld (D.view disks.old) shape store.old k → Leaves (D.view disks.new) shape k (booted k) }
     ensures stay { rows_of_store store.new ≡ rows_of_store store.old }
     ensures full { (dev : ℕ) → result ≡ Err (DeviceFull dev) → (shape : Shape) (k : Kept) → IsHeld (D.view disks.old) shape store.old k → FillsIn (D.view disks.new) shape OfBoot dev }
-    ensures shape { SameShape (D.view disks.old) (D.view disks.new) }
+    ensures within { (shape : Shape) (k : Kept) → IsHeld (D.view disks.old) shape store.old k → StaysWithin shape shape (D.view disks.old) (D.view disks.new) }
     ensures cause { HasCause (D.view disks.old) (D.view disks.new) (disk_err result) }
 {
     match store.boot(disks) {
@@ -110,7 +111,7 @@ pub fn decide_definition<D: Disks>(
         → Leaves (D.view disks.new) shape k (defined k d) }
     ensures stay { rows_of_store store.new ≡ rows_of_store store.old }
     ensures full { (dev : ℕ) → result ≡ Err (DeviceFull dev) → (shape : Shape) (k : Kept) → IsHeld (D.view disks.old) shape store.old k → FillsIn (D.view disks.new) shape (OfDefinition text.now) dev }
-    ensures shape { SameShape (D.view disks.old) (D.view disks.new) }
+    ensures within { (shape : Shape) (k : Kept) → IsHeld (D.view disks.old) shape store.old k → StaysWithin shape shape (D.view disks.old) (D.view disks.new) }
     ensures cause { HasCause (D.view disks.old) (D.view disks.new) (disk_err result) }
 {
     if store.decisions() == u64::MAX {
@@ -145,7 +146,7 @@ pub fn decide_unit<D: Disks, F: Fn(PlaceKind, &Key, u32) -> u32>(
         → Leaves (D.view disks.new) shape k (decided k changes.now conts) }
     ensures stay { (e : Halt) → result ≡ Err e → e ≢ Memory → rows_of_store store.new ≡ rows_of_store store.old }
     ensures full { (dev : ℕ) → result ≡ Err (DeviceFull dev) → (shape : Shape) (k : Kept) → IsHeld (D.view disks.old) shape store.old k → FillsIn (D.view disks.new) shape (OfUnit unit changes.now made.now) dev }
-    ensures shape { SameShape (D.view disks.old) (D.view disks.new) }
+    ensures within { (shape : Shape) (k : Kept) → IsHeld (D.view disks.old) shape store.old k → StaysWithin shape shape (D.view disks.old) (D.view disks.new) }
     ensures cause { HasCause (D.view disks.old) (D.view disks.new) (disk_err result) }
 {
     if store.decisions() == u64::MAX {

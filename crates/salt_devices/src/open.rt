@@ -9,16 +9,18 @@ ghost use Rattle.salt_devices.specs.Leaving.{CanOpen, Stands, StandsFor};
 ghost use Rattle.salt_devices.specs.Opened.{HoldsFound, IsNewest, IsNewestOf, IsNewestWhere, IsOpen, IsUnread, OpensAs};
 ghost use Rattle.salt_devices.specs.Refusing.{RefusedAs};
 ghost use Rattle.salt_devices.specs.declared.pending.Pending.TheVariants.{Opening};
-ghost use Rattle.salt_disk.specs.Disks.{AreUnchanged, HasCause, IsImage, IsSettled, KeepsAll, KeepsBut, SameShape};
+ghost use Rattle.salt_disk.specs.Disks.{HasCause, IsImage, IsSettled, KeepsAll, KeepsBut};
 ghost use Rattle.salt_model.specs.Kept.{Definition};
 ghost use Rattle.salt_stands.specs.Coordinator.{Coordinator, coordinator_pair};
 ghost use Rattle.salt_stands.specs.CoordinatorLog.{CoordinatorLog};
 ghost use Rattle.salt_stands.specs.Pieces.{PartView};
 ghost use Rattle.salt_stands.specs.Stands.{are_spent, logs_of};
-ghost use Rattle.salt_storage.specs.Answers.{IfRefused, IsLater, open_disk_err, open_disk_err_of};
+ghost use Rattle.salt_storage.specs.Answers.{IsLater, IsRefusal, WritesNothing, open_disk_err, open_disk_err_of};
+ghost use Rattle.salt_storage.specs.Staying.{StaysWithin};
 ghost use Rattle.salt_storage.specs.Writing.{FindsNoMore};
 ghost use Rattle.salt_storage.specs.declared.halt.Halt.TheVariants.{DeviceFull, DiskFault, Memory, Stopped};
 ghost use Rattle.salt_storage.specs.declared.open.OpenErr.TheVariants.{Halted, NotSalt};
+ghost use Rattle.salt_storage.specs.declared.open.OpenErr.{OpenErr};
 ghost use Rattle.salt_values.specs.Placement.{GivesPlaceOf, IsParts, TakesEachKey};
 ghost use Rattle.salt_values.specs.declared.placement.Shape.{Shape};
 ghost use Rattle.std.specs.Prelude.{Err, IfErr, IfOk, IfSome, IsTrue, List, None, Ok, OnErr, false, true, ℕ, ◌<◌, ◌≡◌, ◌⊎◌};
@@ -172,10 +174,11 @@ pub fn open_devices<D: Disks, F: Fn(PlaceKind, &Key, u32) -> u32>(
 
     ensures stopped { result ≡ Err (Halted Stopped) → IsTrue (D.view disks.old).told → (image : ℕ → List ℕ) → IsImage (D.view disks.new) image → Stands shape image }
 
-    ensures unchanged { IfErr result (λ e. IfRefused e (IsTrue (D.view disks.old).told → AreUnchanged (D.view disks.old) (D.view disks.new))) }
+    ensures unwritten { (refusal : OpenErr) → IsRefusal refusal → RefusedAs shape (D.view disks.old).bytes refusal → IsTrue (D.view disks.old).told
+        → WritesNothing (D.view disks.old) (D.view disks.new) (open_disk_err result) }
 
     ensures blank { (dev : ℕ) → result ≡ Err (Halted (DeviceFull dev)) → IsTrue (D.view disks.old).told → coordinator_pair (logs_of (D.view disks.old).bytes) ≡ BothBlank }
-    ensures full { (dev : ℕ) → result ≡ Err (Halted (DeviceFull dev)) → IsTrue (D.view disks.old).told → StorePassesLimit (D.view disks.old).limit shape dev }
+    ensures full { (dev : ℕ) → result ≡ Err (Halted (DeviceFull dev)) → IsTrue (D.view disks.old).told → StorePassesLimit (D.view disks.new) shape dev }
     ensures others { KeepsBut (IsStoreLog shape.parts) (D.view disks.old) (D.view disks.new) (open_disk_err result) }
     ensures cause { HasCause (D.view disks.old) (D.view disks.new) (open_disk_err result) }
 {
@@ -220,9 +223,10 @@ pub fn open_first<D: Disks, F: Fn(PlaceKind, &Key, u32) -> u32>(
         → FindsNoMore (RefusedAs shape (D.view disks.old).bytes) (StandsFor shape (D.view disks.old).bytes) (RefusedAs shape image) (StandsFor shape image)) }
     ensures stopped { result ≡ Err (Halted Stopped) → IsTrue (D.view disks.old).told → (image : ℕ → List ℕ) → IsImage (D.view disks.new) image → Stands shape image }
     ensures later { pending.now ≡ Opening → IfErr result IsLater }
-    ensures unchanged { IfErr result (λ e. IfRefused e (IsTrue (D.view disks.old).told → AreUnchanged (D.view disks.old) (D.view disks.new))) }
-    ensures full { (dev : ℕ) → result ≡ Err (Halted (DeviceFull dev)) → IsTrue (D.view disks.old).told → StorePassesLimit (D.view disks.old).limit shape dev }
-    ensures shape { SameShape (D.view disks.old) (D.view disks.new) }
+    ensures unwritten { (refusal : OpenErr) → IsRefusal refusal → RefusedAs shape (D.view disks.old).bytes refusal → IsTrue (D.view disks.old).told
+        → WritesNothing (D.view disks.old) (D.view disks.new) (open_disk_err result) }
+    ensures full { (dev : ℕ) → result ≡ Err (Halted (DeviceFull dev)) → IsTrue (D.view disks.old).told → StorePassesLimit (D.view disks.new) shape dev }
+    ensures within { StaysWithin shape shape (D.view disks.old) (D.view disks.new) }
     ensures cause { HasCause (D.view disks.old) (D.view disks.new) (open_disk_err result) }
 {
     match open_devices(alloc, disks, place, shape) {

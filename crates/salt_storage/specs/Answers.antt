@@ -1,13 +1,15 @@
 -- What calls on a storage answer.
+use Rattle.salt_disk.specs.Disks.{KeepsAll, View}
 use Rattle.salt_disk.specs.declared.disks.DiskErr.TheVariants as disk
 use Rattle.salt_disk.specs.declared.disks.DiskErr.{DiskErr}
 use Rattle.salt_model.specs.Kept.{Kept}
 use Rattle.salt_stands.specs.Stands.{are_spent}
+use Rattle.salt_storage.specs.declared.found.Numbers.{Numbers}
 use Rattle.salt_storage.specs.declared.halt.Halt.TheVariants.{DeviceFull, DiskFault, Memory, Stopped}
 use Rattle.salt_storage.specs.declared.halt.Halt.{Halt}
 use Rattle.salt_storage.specs.declared.open.OpenErr.TheVariants.{Halted, NotSalt, NumbersSpent, OtherShape}
 use Rattle.salt_storage.specs.declared.open.OpenErr.{OpenErr}
-use Rattle.std.specs.Prelude.{Err, None, Ok, Option, Result, Some, true, ⊤, ◌≡◌, ◌⊎◌}
+use Rattle.std.specs.Prelude.{Err, None, Ok, Option, Result, Some, true, ℕ, ⊤, ◌≡◌, ◌⊎◌}
 
 -- what the device call answered that broke off, or would have for want of memory
 abbrev pub disk_err_of : Halt → DiskErr
@@ -31,13 +33,21 @@ abbrev pub open_disk_err : {T : Type 0} → Result T OpenErr → Option DiskErr
 open_disk_err (Ok x) = None
 open_disk_err (Err e) = open_disk_err_of e
 
+-- the one or the other is all that a stop may leave, and these are its numbers, which are spent
+pub record IsSpent (rests : Kept → Type 0) (a b : Kept) (boot decisions : ℕ) : Type 0 where
+  pub kept : Kept
+  pub either : (kept ≡ a) ⊎ (kept ≡ b)
+  pub resting : rests kept
+  pub boot_is : boot ≡ kept.boot
+  pub decisions_are : decisions ≡ kept.decisions
+  pub spent : are_spent boot decisions ≡ true
+
 -- how an opening may fail where what stands on the devices is known: by spent numbers, or halted
-abbrev pub MayFail : (a b : Kept) → OpenErr → Type 0
-MayFail a b (NotSalt dev) = ⊥
-MayFail a b (OtherShape kept asked) = ⊥
-MayFail a b (NumbersSpent boot decisions) = (are_spent boot decisions ≡ true) ×
-    (((boot ≡ a.boot) × (decisions ≡ a.decisions)) ⊎ ((boot ≡ b.boot) × (decisions ≡ b.decisions)))
-MayFail a b (Halted e) = ⊤
+abbrev pub MayFail : (rests : Kept → Type 0) → (a b : Kept) → OpenErr → Type 0
+MayFail rests a b (NotSalt dev) = ⊥
+MayFail rests a b (OtherShape kept asked) = ⊥
+MayFail rests a b (NumbersSpent boot decisions) = IsSpent rests a b boot decisions
+MayFail rests a b (Halted e) = ⊤
 
 -- where an opening finds what it may find, only spent numbers or a halt keep it from being opened
 abbrev pub IsLater : OpenErr → Type 0
@@ -46,9 +56,23 @@ IsLater (OtherShape kept asked) = ⊥
 IsLater (NumbersSpent boot decisions) = ⊤
 IsLater (Halted halt) = ⊤
 
--- of an opening that refuses what it has come upon
-abbrev pub IfRefused : OpenErr → Type 0 → Type 0
-IfRefused (NotSalt dev) P = P
-IfRefused (OtherShape kept asked) P = P
-IfRefused (NumbersSpent boot decisions) P = ⊤
-IfRefused (Halted halt) P = ⊤
+-- an opening refuses what it has come upon
+abbrev pub IsRefusal : OpenErr → Type 0
+IsRefusal (NotSalt dev) = ⊤
+IsRefusal (OtherShape kept asked) = ⊤
+IsRefusal (NumbersSpent boot decisions) = ⊤
+IsRefusal (Halted halt) = ⊥
+
+-- it has written nothing, so no stop has come
+pub record WritesNothing (old new : View) (answer : Option DiskErr) : Type 0 where
+  pub keeps : KeepsAll old new answer
+  pub unstopped : answer ≡ Some disk.Stopped → ⊥
+
+-- the numbers that a refusal tells
+abbrev pub numbers_of : OpenErr → Option Numbers
+numbers_of (NumbersSpent boot decisions) = Some (record { boot = boot; decisions = decisions })
+numbers_of e = None
+
+abbrev pub numbers_told : {T : Type 0} → Result T OpenErr → Option Numbers
+numbers_told (Ok x) = None
+numbers_told (Err e) = numbers_of e

@@ -1,3 +1,4 @@
 pub mod Storing
 pub mod Answers
 pub mod Writing
+pub mod Staying

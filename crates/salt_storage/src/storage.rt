@@ -2,10 +2,11 @@
 
 ghost use Rattle.salt_bytes.specs.declared.moves.Move.{Move};
 ghost use Rattle.salt_canonical.specs.Texts.{definition_in};
-ghost use Rattle.salt_disk.specs.Disks.{AreUnchanged, HasCause, SameShape, View};
+ghost use Rattle.salt_disk.specs.Disks.{HasCause, KeepsAll, View};
 ghost use Rattle.salt_model.specs.Kept.{Definition, Kept, schema_of};
 ghost use Rattle.salt_model.specs.Tables.{Tables};
-ghost use Rattle.salt_storage.specs.Answers.{IfRefused, IsLater, MayFail, disk_err, open_disk_err};
+ghost use Rattle.salt_storage.specs.Answers.{IsLater, IsRefusal, MayFail, WritesNothing, disk_err, open_disk_err};
+ghost use Rattle.salt_storage.specs.Staying.{StaysWithin};
 ghost use Rattle.salt_storage.specs.Storing.{IsFound, IsPartOf, IsSoundKept, MayDecide, MayDefine, Reopens, booted, decided, defined};
 ghost use Rattle.salt_storage.specs.Writing.{FindsNoMore, OfBoot, OfDefinition, OfOpening, OfUnit, Written};
 ghost use Rattle.salt_storage.specs.declared.halt.Halt.TheVariants.{DeviceFull, Stopped};
@@ -16,7 +17,7 @@ ghost use Rattle.salt_values.specs.Placement.{GivesPlaceOf, TakesEachKey};
 ghost use Rattle.salt_values.specs.declared.cont.Cont.{Cont};
 ghost use Rattle.salt_values.specs.declared.id.Id.{Id};
 ghost use Rattle.salt_values.specs.declared.placement.Shape.{Shape};
-ghost use Rattle.std.specs.Prelude.{Err, IfErr, IfOk, IsTrue, List, OnErr, OnOk, Some, false, length, ℕ, ◌+◌, ◌<◌, ◌≡◌, ◌≤◌, ◌⊎◌};
+ghost use Rattle.std.specs.Prelude.{Err, IfErr, IfOk, IsTrue, List, OnErr, OnOk, Some, [], false, length, ℕ, ◌++◌, ◌+◌, ◌<◌, ◌∷◌, ◌≡◌, ◌≤◌, ◌⊎◌};
 
 use crate::found::{Found, Numbers};
 use crate::halt::Halt;
@@ -37,6 +38,9 @@ pub trait Storage {
 
     /// Whatever a stop leaves of the devices, an opening finds the one or the other kept there.
     ghost leaves: { View → Self → Kept → Kept → Type 0 };
+
+    /// Whatever a stop leaves of the devices, an opening finds this kept there.
+    ghost rests: { View → Self → Kept → Type 0 };
 
     /// Its devices are there, and nothing is pending on them.
     ghost settled: { View → Self → Type 0 };
@@ -82,11 +86,11 @@ pub trait Storage {
         ensures unopened { OnErr result (unopened self.new) }
         ensures tried { result ≡ Err (OpenErr.Halted Stopped) → tried (D.view disks.new) self.new }
         ensures later { tried (D.view disks.old) self.old → IfErr result IsLater }
-        ensures unchanged { IfErr result (λ e. IfRefused e (IsTrue (D.view disks.old).told → AreUnchanged (D.view disks.old) (D.view disks.new))) }
+        ensures unwritten { (refusal : OpenErr) → IsRefusal refusal → refuses (D.view disks.old) self.old refusal → IsTrue (D.view disks.old).told
+            → WritesNothing (D.view disks.old) (D.view disks.new) (open_disk_err result) }
         ensures able { OnErr result (able (D.view disks.new) self.new) }
         ensures full { (dev : ℕ) → result ≡ Err (OpenErr.Halted (DeviceFull dev)) → fills (D.view disks.new) self.new OfOpening dev }
-        ensures asked { asked self.new ≡ asked self.old }
-        ensures shape { SameShape (D.view disks.old) (D.view disks.new) }
+        ensures within { StaysWithin (asked self.old) (asked self.new) (D.view disks.old) (D.view disks.new) }
         ensures cause { HasCause (D.view disks.old) (D.view disks.new) (open_disk_err result) };
 
     /// Opens it anew, after a restart, and gives the numbers that it has found.
@@ -103,10 +107,9 @@ pub trait Storage {
             Reopens (holds (D.view disks.new) self.new) found a ⊎ Reopens (holds (D.view disks.new) self.new) found b) }
         ensures numbers { IfOk result (λ found. are_spent found.boot found.decisions ≡ false) }
         ensures leaves { OnErr result ((a b : Kept) → leaves (D.view disks.old) self.old a b → leaves (D.view disks.new) self.new a b) }
-        ensures known { IfErr result (λ e. (a b : Kept) → leaves (D.view disks.old) self.old a b → MayFail a b e) }
+        ensures known { IfErr result (λ e. (a b : Kept) → leaves (D.view disks.old) self.old a b → MayFail (rests (D.view disks.new) self.new) a b e) }
         ensures full { (dev : ℕ) → result ≡ Err (OpenErr.Halted (DeviceFull dev)) → ⊥ }
-        ensures asked { asked self.new ≡ asked self.old }
-        ensures shape { SameShape (D.view disks.old) (D.view disks.new) }
+        ensures within { StaysWithin (asked self.old) (asked self.new) (D.view disks.old) (D.view disks.new) }
         ensures cause { HasCause (D.view disks.old) (D.view disks.new) (open_disk_err result) };
 
     /// Begins the next boot, and gives its number. Each unit of this boot is new.
@@ -117,11 +120,10 @@ pub trait Storage {
         ensures is_new { IfOk result (λ boot. (u : Id) → u.boot ≡ boot → is_new (D.view disks.new) self.new u) }
         ensures leaves { OnErr result ((k : Kept) → holds (D.view disks.old) self.old k → leaves (D.view disks.new) self.new k (booted k)) }
         ensures full { (dev : ℕ) → result ≡ Err (DeviceFull dev) → fills (D.view disks.new) self.new OfBoot dev }
-        ensures asked { asked self.new ≡ asked self.old }
-        ensures shape { SameShape (D.view disks.old) (D.view disks.new) }
+        ensures within { StaysWithin (asked self.old) (asked self.new) (D.view disks.old) (D.view disks.new) }
         ensures cause { HasCause (D.view disks.old) (D.view disks.new) (disk_err result) };
 
-    /// The rows of a reach, whose table is defined.
+    /// The rows of a reach, whose table is defined. Nothing is written.
     fn load<D: Disks, F: Fn(PlaceKind, &Key, u32) -> u32>(
         &mut self,
         disks: &mut D,
@@ -137,8 +139,8 @@ pub trait Storage {
         ensures is_new { OnOk result ((u : Id) → is_new (D.view disks.old) self.old u → is_new (D.view disks.new) self.new u) }
         ensures leaves { OnErr result ((k : Kept) → holds (D.view disks.old) self.old k → leaves (D.view disks.new) self.new k k) }
         ensures full { (dev : ℕ) → result ≡ Err (DeviceFull dev) → ⊥ }
-        ensures asked { asked self.new ≡ asked self.old }
-        ensures shape { SameShape (D.view disks.old) (D.view disks.new) }
+        ensures unwritten { KeepsAll (D.view disks.old) (D.view disks.new) (disk_err result) }
+        ensures within { StaysWithin (asked self.old) (asked self.new) (D.view disks.old) (D.view disks.new) }
         ensures cause { HasCause (D.view disks.old) (D.view disks.new) (disk_err result) };
 
     /// Decides a unit with its changes and its program's move, and gives the number of the decision.
@@ -161,8 +163,7 @@ pub trait Storage {
         ensures leaves { OnErr result ((k : Kept) (conts : List Cont) → holds (D.view disks.old) self.old k → MayDecide k unit changes.now made.now conts
             → leaves (D.view disks.new) self.new k (decided k changes.now conts)) }
         ensures full { (dev : ℕ) → result ≡ Err (DeviceFull dev) → fills (D.view disks.new) self.new (OfUnit unit changes.now made.now) dev }
-        ensures asked { asked self.new ≡ asked self.old }
-        ensures shape { SameShape (D.view disks.old) (D.view disks.new) }
+        ensures within { StaysWithin (asked self.old) (asked self.new) (D.view disks.old) (D.view disks.new) }
         ensures cause { HasCause (D.view disks.old) (D.view disks.new) (disk_err result) };
 
     /// Decides a definition by its canonical text, and gives the number of the decision.
@@ -175,19 +176,17 @@ pub trait Storage {
         ensures leaves { OnErr result ((k : Kept) (d : Definition) → holds (D.view disks.old) self.old k → definition_in text.now ≡ Some d → MayDefine k d
             → leaves (D.view disks.new) self.new k (defined k d)) }
         ensures full { (dev : ℕ) → result ≡ Err (DeviceFull dev) → fills (D.view disks.new) self.new (OfDefinition text.now) dev }
-        ensures asked { asked self.new ≡ asked self.old }
-        ensures shape { SameShape (D.view disks.old) (D.view disks.new) }
+        ensures within { StaysWithin (asked self.old) (asked self.new) (D.view disks.old) (D.view disks.new) }
         ensures cause { HasCause (D.view disks.old) (D.view disks.new) (disk_err result) };
 
     /// Arms a stop at the n-th write or sync from when its turn comes; `pick` chooses the image that it leaves.
     fn arm<D: Disks>(&mut self, disks: &mut D, calls: u64, pick: u8) -> Result<(), AllocError>
         requires able { IsTrue (D.view disks.old).can_stop }
         requires pick { pick ≤ 4 }
-        ensures ok { OnOk result ((D.view disks.new).stops_left ≡ (D.view disks.old).stops_left + 1) }
-        ensures err { OnErr result ((D.view disks.new).stops_left ≡ (D.view disks.old).stops_left) }
+        ensures ok { OnOk result ((D.view disks.new).armed ≡ (D.view disks.old).armed ++ (calls, pick) ∷ []) }
+        ensures err { OnErr result ((D.view disks.new).armed ≡ (D.view disks.old).armed) }
         ensures faults { (D.view disks.new).faults ≡ (D.view disks.old).faults }
-        ensures asked { asked self.new ≡ asked self.old }
-        ensures shape { SameShape (D.view disks.old) (D.view disks.new) }
+        ensures within { StaysWithin (asked self.old) (asked self.new) (D.view disks.old) (D.view disks.new) }
         ensures holds { (k : Kept) → holds (D.view disks.old) self.old k → holds (D.view disks.new) self.new k }
         ensures is_new { (u : Id) → is_new (D.view disks.old) self.old u → is_new (D.view disks.new) self.new u };
 
@@ -200,9 +199,8 @@ pub trait Storage {
         ensures tried { tried (D.view disks.old) self.old → tried (D.view disks.new) self.new }
         ensures leaves { (a b : Kept) → leaves (D.view disks.old) self.old a b → leaves (D.view disks.new) self.new a b }
         ensures faults { (D.view disks.new).faults ≡ (D.view disks.old).faults }
-        ensures stops { (D.view disks.new).stops_left ≡ (D.view disks.old).stops_left }
-        ensures asked { asked self.new ≡ asked self.old }
-        ensures shape { SameShape (D.view disks.old) (D.view disks.new) };
+        ensures stops { (D.view disks.new).armed ≡ (D.view disks.old).armed }
+        ensures within { StaysWithin (asked self.old) (asked self.new) (D.view disks.old) (D.view disks.new) };
 
     /// A law: what it holds may be kept, and a stop leaves it; and what is left can be started again.
     fn stands<D: Disks>(&self, disks: &D)

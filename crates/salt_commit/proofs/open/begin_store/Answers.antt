@@ -1,8 +1,9 @@
 use Rattle.salt_commit.proofs.Beginning.{begins, begun_image, begun_unnamed, blank_image, blank_unnamed, open_answer, still_blank, still_blank_image, wider_opened, wider_parts}
+use Rattle.salt_commit.proofs.Limits.{decisions_full, parts_full}
 use Rattle.salt_commit.proofs.open.begin_store.Goals as goal
 use Rattle.salt_commit.specs.Stores.{reading}
 use Rattle.salt_decisions.specs.Errors.{open_err}
-use Rattle.std.proofs.Common.{None, Some, arith, ◌<◌, ◌∙◌}
+use Rattle.std.proofs.Common.{Err, None, Some, ap, arith, ◌<◌, ◌∙◌}
 use Rattle.std.proofs.lemmas.Result.{err_from_is_err_and}
 use Rattle.std.specs.Result.{result_err}
 
@@ -23,7 +24,7 @@ returns-in_err-decisions-clause-images g c told image left =
     let b = g.D.Disks.view c.create_all.new.disks in
     let keeps = c.in_ok-parts.ensures.others in
     let known : 1 < b.count = omega (arith, c.requires.room.known 0 (omega (arith, c.requires.parts.0)), keeps.shape.count) in
-    let blank = still_blank d b c.args.shape.parts keeps (c.requires.blank told) in
+    let blank = still_blank d b c.args.shape.parts keeps.kept (c.requires.blank told) in
     begun_image reading c.args.shape c.requires.parts b (g.D.Disks.view c.open_decisions.new.disks) (open_err c.open_decisions.result) c.open_decisions.ensures.others c.in_ok-parts.parts.items c.in_ok-parts.ensures.made.0 c.in_ok-parts.ensures.made.1 (keeps.shape.told ∙ told) known
     (c.open_decisions.ensures.images_a blank) (c.open_decisions.ensures.images_b blank) image left
 
@@ -43,7 +44,7 @@ returns-clause-images g c told image left =
     let b = g.D.Disks.view c.create_all.new.disks in
     let keeps = c.in_ok-parts.ensures.others in
     let known : 1 < b.count = omega (arith, c.requires.room.known 0 (omega (arith, c.requires.parts.0)), keeps.shape.count) in
-    let blank = still_blank d b c.args.shape.parts keeps (c.requires.blank told) in
+    let blank = still_blank d b c.args.shape.parts keeps.kept (c.requires.blank told) in
     begun_image reading c.args.shape c.requires.parts b (g.D.Disks.view c.open_decisions.new.disks) (open_err c.open_decisions.result) c.open_decisions.ensures.others c.in_ok-parts.parts.items c.in_ok-parts.ensures.made.0 c.in_ok-parts.ensures.made.1 (keeps.shape.told ∙ told) known
     (c.open_decisions.ensures.images_a blank) (c.open_decisions.ensures.images_b blank) image left
 
@@ -63,7 +64,7 @@ returns-in_err-decisions-clause-pages g c told image left dev leaves =
     let b = g.D.Disks.view c.create_all.new.disks in
     let keeps = c.in_ok-parts.ensures.others in
     let known : 1 < b.count = omega (arith, c.requires.room.known 0 (omega (arith, c.requires.parts.0)), keeps.shape.count) in
-    let blank = still_blank d b c.args.shape.parts keeps (c.requires.blank told) in
+    let blank = still_blank d b c.args.shape.parts keeps.kept (c.requires.blank told) in
     begun_unnamed reading c.args.shape c.requires.parts b (g.D.Disks.view c.open_decisions.new.disks) (open_err c.open_decisions.result) c.open_decisions.ensures.others c.in_ok-parts.parts.items c.in_ok-parts.ensures.made.0 c.in_ok-parts.ensures.made.1 (keeps.shape.told ∙ told) known
     (c.open_decisions.ensures.images_a blank) (c.open_decisions.ensures.images_b blank) image left dev leaves
 
@@ -73,6 +74,19 @@ returns-clause-pages g c told image left dev leaves =
     let b = g.D.Disks.view c.create_all.new.disks in
     let keeps = c.in_ok-parts.ensures.others in
     let known : 1 < b.count = omega (arith, c.requires.room.known 0 (omega (arith, c.requires.parts.0)), keeps.shape.count) in
-    let blank = still_blank d b c.args.shape.parts keeps (c.requires.blank told) in
+    let blank = still_blank d b c.args.shape.parts keeps.kept (c.requires.blank told) in
     begun_unnamed reading c.args.shape c.requires.parts b (g.D.Disks.view c.open_decisions.new.disks) (open_err c.open_decisions.result) c.open_decisions.ensures.others c.in_ok-parts.parts.items c.in_ok-parts.ensures.made.0 c.in_ok-parts.ensures.made.1 (keeps.shape.told ∙ told) known
     (c.open_decisions.ensures.images_a blank) (c.open_decisions.ensures.images_b blank) image left dev leaves
+
+pub returns-in_err-parts-clause-full : goal.returns-in_err-parts-clause-full
+returns-in_err-parts-clause-full g c told =
+    let d = g.D.Disks.view c.args.disks.now in
+    let b = g.D.Disks.view c.create_all.new.disks in
+    let p = err_from_is_err_and c.from_residual.result c.from_residual.ensures.1 in
+    rw (open_answer c.from_residual.result p.0 c.in_err-parts.field-0.0 p.1 p.2) (parts_full d b c.args.shape (Some c.in_err-parts.field-0.0) c.in_err-parts.ensures.others (c.requires.blank told) (c.in_err-parts.ensures.full told))
+
+pub returns-in_err-decisions-clause-full : goal.returns-in_err-decisions-clause-full
+returns-in_err-decisions-clause-full g c told =
+    let told_b = c.in_ok-parts.ensures.others.shape.told ∙ told in
+    let p = err_from_is_err_and c.from_residual-in_err-decisions.result c.from_residual-in_err-decisions.ensures.1 in
+    rw (p.1, p.2) (decisions_full (g.D.Disks.view c.open_decisions.new.disks) c.args.shape c.in_err-decisions.field-0.0 (c.in_err-decisions.ensures.full told_b) (λ dev is. c.in_err-decisions.ensures.blank dev (ap Err is) told_b))

@@ -1,10 +1,8 @@
 use Rattle.salt_commit.proofs.Compared.{IsMadeOf, MadeBelow, all_made, as_many, none_made, one_is, one_more_made, others_long}
 use Rattle.salt_commit.proofs.Sharing.{share_read}
 use Rattle.salt_commit.proofs.same.have_rows_with.Goals as goal
-use Rattle.salt_commit.specs.Shares.{share_at}
 use Rattle.salt_model.specs.Tables.{with_changes}
-use Rattle.salt_partition.specs.Partitions.{rows_in}
-use Rattle.std.proofs.Common.{Some, ap, arith, length, refl, subst, sym, ◌<◌, ◌≡◌, ◌∙◌}
+use Rattle.std.proofs.Common.{Some, ap, arith, length, refl, subst, sym, ◌≡◌, ◌∙◌}
 use Rattle.std.proofs.lemmas.Option.{slice_get_read}
 use Rattle.std.specs.Prelude.{slice_get}
 

@@ -1,7 +1,8 @@
-use Rattle.salt_devices.proofs.Anew.{has_shape, holds_there, mute_left, mute_there, never, not_left, recalled, unwritten_left}
+use Rattle.salt_devices.proofs.Anew.{fails_known, has_shape, holds_there, mute_left, mute_there, never, not_left, recalled, unwritten_left}
+use Rattle.salt_devices.proofs.Within.{nothing_within, store_within, within_on}
 use Rattle.salt_devices.proofs.again.open_again.Goals as goal
 use Rattle.salt_devices.specs.declared.pending.Pending.TheVariants.{Lost}
-use Rattle.salt_disk.proofs.CallAfterCall.{cause_on, shape_goes_on}
+use Rattle.salt_disk.proofs.CallAfterCall.{cause_on}
 use Rattle.salt_gatelog.proofs.Entries.{not_told}
 use Rattle.salt_storage.specs.Answers.{open_disk_err_of}
 use Rattle.salt_values.specs.Placement.{IsParts}
@@ -33,10 +34,6 @@ returns-in-Ok-false-clause-leaves g c a b h =
     (c.fault.ensures.kept.shape.told
     ∙ mute_there (g.D.Disks.view c.args.disks.now) (g.D.Disks.view c.open_devices.new.disks) c.args.shape c.in-Ok.store c.in-Ok.found c.in-Ok.ensures.ok c.in-Ok.ensures.others.shape l.0 l.1 l.2
     c.args.before.now c.args.numbers c.args.pending.now c.in-Ok-false.field-0 c.in-Ok-false.field-0-test c.in-Ok-false.ensures not l.3)
-
-pub returns-in-Ok-false-clause-shape : goal.returns-in-Ok-false-clause-shape
-returns-in-Ok-false-clause-shape g c =
-    shape_goes_on (g.D.Disks.view c.args.disks.now) (g.D.Disks.view c.open_devices.new.disks) (g.D.Disks.view c.fault.new.disks) c.in-Ok.ensures.others.shape c.fault.ensures.kept.shape
 
 pub returns-in-Ok-false-clause-cause : goal.returns-in-Ok-false-clause-cause
 returns-in-Ok-false-clause-cause g c =
@@ -75,3 +72,31 @@ returns-else-may_answer-clause-leaves g c a b h =
     (c.fault-in-Err.ensures.kept.shape.told ∙ not_told e.told (λ now.
     let told : IsTrue d.told = sym c.in-Err.ensures.others.shape.told ∙ now in
     not_left d c.args.shape l.0 l.1 c.in-Err.e l.2 (c.may_answer.ensures.not c.if-may_answer.false l.0 l.1 r.numbers r.follows) c.in-Err.ensures.err (λ dev is. c.in-Err.ensures.blank dev (ap Err is)) told))
+
+pub returns-then-may_answer-clause-known : goal.returns-then-may_answer-clause-known
+returns-then-may_answer-clause-known g c a b h remembers =
+    let r = recalled c.args.shape c.args.before.now c.args.numbers c.args.pending.now a b (never c.is_lost.result (c.args.pending.now ≡ Lost) c.if-is_lost.false c.is_lost.ensures.1) remembers in
+    fails_known (g.D.Disks.view c.args.disks.now) (g.D.Disks.view c.open_devices.new.disks) c.args.shape c.requires.parts c.requires.room a b h (open_disk_err_of c.in-Err.e) c.in-Err.e c.in-Err.ensures.others.shape c.in-Err.ensures.kept c.in-Err.ensures.err
+    (c.may_answer.ensures.may c.if-may_answer.true a b r.numbers r.follows)
+
+pub returns-then-is_lost-clause-within : goal.returns-then-is_lost-clause-within
+returns-then-is_lost-clause-within g c = nothing_within (g.D.Disks.view c.args.disks.now) c.args.shape
+
+pub returns-in-Ok-true-clause-within : goal.returns-in-Ok-true-clause-within
+returns-in-Ok-true-clause-within g c = store_within (g.D.Disks.view c.args.disks.now) (g.D.Disks.view c.open_devices.new.disks) c.args.shape None c.in-Ok.ensures.others
+
+pub returns-in-Ok-false-clause-within : goal.returns-in-Ok-false-clause-within
+returns-in-Ok-false-clause-within g c =
+    within_on (g.D.Disks.view c.args.disks.now) (g.D.Disks.view c.open_devices.new.disks) c.args.shape (g.D.Disks.view c.fault.new.disks) (open_disk_err_of c.fault.result)
+    (store_within (g.D.Disks.view c.args.disks.now) (g.D.Disks.view c.open_devices.new.disks) c.args.shape None c.in-Ok.ensures.others) c.fault.ensures.kept
+
+pub returns-in-Err-is_remembered-clause-within : goal.returns-in-Err-is_remembered-clause-within
+returns-in-Err-is_remembered-clause-within g c = store_within (g.D.Disks.view c.args.disks.now) (g.D.Disks.view c.open_devices.new.disks) c.args.shape None c.in-Ok.ensures.others
+
+pub returns-then-may_answer-clause-within : goal.returns-then-may_answer-clause-within
+returns-then-may_answer-clause-within g c = store_within (g.D.Disks.view c.args.disks.now) (g.D.Disks.view c.open_devices.new.disks) c.args.shape (open_disk_err_of c.in-Err.e) c.in-Err.ensures.others
+
+pub returns-else-may_answer-clause-within : goal.returns-else-may_answer-clause-within
+returns-else-may_answer-clause-within g c =
+    within_on (g.D.Disks.view c.args.disks.now) (g.D.Disks.view c.open_devices.new.disks) c.args.shape (g.D.Disks.view c.fault-in-Err.new.disks) (open_disk_err_of c.fault-in-Err.result)
+    (store_within (g.D.Disks.view c.args.disks.now) (g.D.Disks.view c.open_devices.new.disks) c.args.shape (open_disk_err_of c.in-Err.e) c.in-Err.ensures.others) c.fault-in-Err.ensures.kept

@@ -3,6 +3,7 @@ use Rattle.salt_devices.proofs.Entered.{boot_held, boot_leaves}
 use Rattle.salt_devices.proofs.Filled.{boot_fills}
 use Rattle.salt_devices.proofs.Halts.{full_is, same_cause}
 use Rattle.salt_devices.proofs.Stores.{held_stands}
+use Rattle.salt_devices.proofs.Within.{entry_within}
 use Rattle.salt_devices.proofs.held.begin_boot.Goals as goal
 use Rattle.salt_commit.specs.Errors.{disk_err_of}
 use Rattle.salt_commit.specs.Stores.{coordinator_device, coordinator_gate, last_boot}
@@ -62,3 +63,9 @@ returns-in-Err-clause-full g c dev is shape k h =
 pub returns-in-Err-clause-cause : goal.returns-in-Err-clause-cause
 returns-in-Err-clause-cause g c =
     rw c.halt_of.ensures (same_cause (g.D.Disks.view c.args.disks.now) (g.D.Disks.view c.boot.new.disks) c.in-Err.e c.in-Err.ensures.cause)
+
+pub returns-in-Ok-clause-within : goal.returns-in-Ok-clause-within
+returns-in-Ok-clause-within g c shape k h = entry_within (g.D.Disks.view c.args.disks.now) (g.D.Disks.view c.boot.new.disks) shape c.args.store.now k h None c.in-Ok.ensures.others
+
+pub returns-in-Err-clause-within : goal.returns-in-Err-clause-within
+returns-in-Err-clause-within g c shape k h = entry_within (g.D.Disks.view c.args.disks.now) (g.D.Disks.view c.boot.new.disks) shape c.args.store.now k h (Some (disk_err_of c.in-Err.e)) c.in-Err.ensures.others

@@ -7,6 +7,7 @@ use Rattle.salt_devices.proofs.Entered.{definition_held, definition_leaves, may_
 use Rattle.salt_devices.proofs.Filled.{definition_fills}
 use Rattle.salt_devices.proofs.Halts.{full_is, same_cause}
 use Rattle.salt_devices.proofs.Stores.{entered_new, held_leaves}
+use Rattle.salt_devices.proofs.Within.{entry_within, nothing_within}
 use Rattle.salt_devices.proofs.held.decide_definition.Goals as goal
 use Rattle.salt_disk.proofs.CallAfterCall.{same_shape}
 use Rattle.salt_devices.proofs.Untouched.{all_bytes, definition_stays}
@@ -64,3 +65,12 @@ returns-in-Err-clause-cause g c =
 
 pub returns-then-decisions-eq18446744073709551615-clause-leaves : goal.returns-then-decisions-eq18446744073709551615-clause-leaves
 returns-then-decisions-eq18446744073709551615-clause-leaves g c shape k def h reads may = held_leaves (g.D.Disks.view c.args.disks.now) shape c.args.store.now k h (defined k def)
+
+pub returns-then-decisions-eq18446744073709551615-clause-within : goal.returns-then-decisions-eq18446744073709551615-clause-within
+returns-then-decisions-eq18446744073709551615-clause-within g c shape k h = nothing_within (g.D.Disks.view c.args.disks.now) shape
+
+pub returns-in-Ok-clause-within : goal.returns-in-Ok-clause-within
+returns-in-Ok-clause-within g c shape k h = entry_within (g.D.Disks.view c.args.disks.now) (g.D.Disks.view c.define.new.disks) shape c.args.store.now k h None c.in-Ok.ensures.others
+
+pub returns-in-Err-clause-within : goal.returns-in-Err-clause-within
+returns-in-Err-clause-within g c shape k h = entry_within (g.D.Disks.view c.args.disks.now) (g.D.Disks.view c.define.new.disks) shape c.args.store.now k h (Some (disk_err_of c.in-Err.e)) c.in-Err.ensures.others

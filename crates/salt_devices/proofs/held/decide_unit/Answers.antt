@@ -11,6 +11,7 @@ use Rattle.salt_devices.proofs.Filled.{unit_fills}
 use Rattle.salt_devices.proofs.Halts.{full_is}
 use Rattle.salt_devices.proofs.Limited.{unit_stays}
 use Rattle.salt_devices.proofs.Stores.{held_leaves}
+use Rattle.salt_devices.proofs.Within.{commit_within, nothing_within}
 use Rattle.salt_devices.proofs.held.decide_unit.Goals as goal
 use Rattle.salt_disk.specs.Disks.{KeepsBut}
 use Rattle.salt_model.specs.Kept.{Definition}
@@ -20,7 +21,7 @@ use Rattle.salt_storage.specs.Storing.{decided}
 use Rattle.salt_types.specs.Typed.{AreChangesOf}
 use Rattle.salt_values.specs.Value.{IsValue}
 use Rattle.salt_values.specs.declared.change.Change.{Change}
-use Rattle.std.proofs.Common.{Err, Some, ap, subst, sym, true, ◌++◌, ◌≡◌, ◌∙◌}
+use Rattle.std.proofs.Common.{Err, None, Some, ap, subst, sym, true, ◌++◌, ◌≡◌, ◌∙◌}
 use Rattle.std.specs.List.{list_all}
 
 pub put_move-requires : goal.put_move-requires
@@ -96,3 +97,16 @@ returns-clause-full g c dev is shape k h =
     let others = subst (λ z. KeepsBut (IsCommitLog x cs) d f (Some (disk_err_of z))) e c.in-Err.ensures.others in
     unit_stays d f shape x k h cs dev others (c.in-Err.ensures.untouched dev (ap Err e)) c.args.unit made
     (unit_fills d shape x k h c.args.unit cs made dev (subst (λ b. CommitPassesLimit d.limit x c.args.unit cs b dev) spells full))
+
+pub returns-then-decisions-eq18446744073709551615-clause-within : goal.returns-then-decisions-eq18446744073709551615-clause-within
+returns-then-decisions-eq18446744073709551615-clause-within g c shape k h = nothing_within (g.D.Disks.view c.args.disks.now) shape
+
+pub returns-in_err-put_move-clause-within : goal.returns-in_err-put_move-clause-within
+returns-in_err-put_move-clause-within g c shape k h = nothing_within (g.D.Disks.view c.args.disks.now) shape
+
+pub returns-in-Ok-clause-within : goal.returns-in-Ok-clause-within
+returns-in-Ok-clause-within g c shape k h = commit_within (g.D.Disks.view c.args.disks.now) (g.D.Disks.view c.commit.new.disks) shape c.args.store.now k h c.args.changes.now None c.in-Ok.ensures.others
+
+pub returns-clause-within : goal.returns-clause-within
+returns-clause-within g c shape k h =
+    commit_within (g.D.Disks.view c.args.disks.now) (g.D.Disks.view c.commit.new.disks) shape c.args.store.now k h c.args.changes.now (Some (disk_err_of c.in-Err.e)) c.in-Err.ensures.others

@@ -1,7 +1,7 @@
 use Rattle.salt_commit.specs.Loads.{IsPartOf}
 use Rattle.salt_devices.proofs.Entered.{leaves_on}
 use Rattle.salt_devices.proofs.Loading.{same_part}
-use Rattle.salt_devices.proofs.Halts.{never_full, same_cause}
+use Rattle.salt_devices.proofs.Halts.{never_full, same_cause, same_kept}
 use Rattle.salt_devices.proofs.Stores.{held_again, held_leaves, held_schema, held_stands, new_again, one_schema}
 use Rattle.salt_devices.proofs.held.load_rows.Goals as goal
 use Rattle.salt_eval.specs.Views as view
@@ -44,3 +44,6 @@ returns-in-Err-clause-full g c dev is = never_full c.in-Err.e dev c.in-Err.ensur
 pub returns-in-Err-clause-cause : goal.returns-in-Err-clause-cause
 returns-in-Err-clause-cause g c =
     rw c.halt_of.ensures (same_cause (g.D.Disks.view c.args.disks.now) (g.D.Disks.view c.load.new.disks) c.in-Err.e c.in-Err.ensures.cause)
+
+pub returns-in-Err-clause-kept : goal.returns-in-Err-clause-kept
+returns-in-Err-clause-kept g c = rw c.halt_of.ensures (same_kept (g.D.Disks.view c.args.disks.now) (g.D.Disks.view c.load.new.disks) c.in-Err.e c.in-Err.ensures.kept)

@@ -2,19 +2,21 @@ use Rattle.salt_bytes.specs.Generations.{BothBlank}
 use Rattle.salt_commit.proofs.Opened.{same_bytes}
 use Rattle.salt_commit.proofs.Opening.{nothing, opens_at}
 use Rattle.salt_commit.proofs.Standing.{if_some}
-use Rattle.salt_commit.specs.Openings.{IsStoreLog}
+use Rattle.salt_commit.specs.Openings.{IsStoreLog, StorePassesLimit}
 use Rattle.salt_decisions.specs.Errors.{disk_err_in}
-use Rattle.salt_devices.proofs.Opening.{disk_answer, is_open, new_stands, opened_newest, opens_as, refused_as, still_opened, still_unwritten, stopped_blank}
+use Rattle.salt_devices.proofs.Opening.{disk_answer, full_is, is_open, new_stands, opened_newest, opens_as, refused_as, still_opened, still_unwritten, stopped_blank}
 use Rattle.salt_devices.proofs.open.open_devices.Goals as goal
-use Rattle.salt_devices.proofs.Refused.{refused_unchanged}
+use Rattle.salt_devices.proofs.Refused.{stopped_err, writes_nothing}
 use Rattle.salt_devices.specs.Errors.{open_err_of}
 use Rattle.salt_devices.specs.Refusing.{RefusedAs}
-use Rattle.salt_disk.proofs.CallAfterCall.{keeps_on, shape_goes_on}
-use Rattle.salt_disk.specs.Disks.{KeepsAll}
+use Rattle.salt_disk.proofs.CallAfterCall.{cause_memory, cause_on, keeps_on, shape_goes_on}
+use Rattle.salt_disk.specs.Disks.{HasCause, KeepsAll}
+use Rattle.salt_disk.specs.declared.disks.DiskErr.TheVariants.{Failed, Memory, Stopped}
 use Rattle.salt_gatelog.proofs.Entries.{not_told}
 use Rattle.salt_stands.specs.Coordinator.{coordinator_pair}
 use Rattle.salt_stands.specs.Stands.{logs_of}
-use Rattle.std.proofs.Common.{IsTrue, List, None, Ok, ap, subst, sym, ℕ, ◌≡◌, ◌∙◌}
+use Rattle.salt_storage.specs.Answers.{open_disk_err_of}
+use Rattle.std.proofs.Common.{Err, IsTrue, List, None, Ok, Some, ap, subst, sym, ℕ, ◌≡◌, ◌∙◌}
 use Rattle.std.proofs.lemmas.Result.{err_from_is_err_and}
 
 pub returns-in_err-schema-clause-err : goal.returns-in_err-schema-clause-err
@@ -137,6 +139,55 @@ returns-clause-stopped g c is told image left =
     let blank = stopped_blank c.args.shape b.bytes c.in-Err.e (sym c.open_err_of.ensures ∙ cc is) (c.in-Err.ensures.err told_b) in
     new_stands c.args.shape image (c.in-Err.ensures.images told_b blank image left) (c.in-Err.ensures.pages told_b blank image left)
 
-pub returns-clause-unchanged : goal.returns-clause-unchanged
-returns-clause-unchanged g c =
-    refused_unchanged (g.D.Disks.view c.args.disks.now) (g.D.Disks.view c.open_store.new.disks) c.args.shape c.open_err_of.result (returns-clause-err g c) (returns-clause-kept g c)
+pub returns-clause-full : goal.returns-clause-full
+returns-clause-full g c dev is told =
+    full_is (StorePassesLimit (g.D.Disks.view c.open_store.new.disks) c.args.shape) c.in-Err.e dev (sym c.open_err_of.ensures ∙ cc is) (c.in-Err.ensures.full (c.in_ok-schema.ensures.kept.shape.told ∙ told))
+
+pub returns-in_err-schema-clause-unwritten : goal.returns-in_err-schema-clause-unwritten
+returns-in_err-schema-clause-unwritten g c refusal is refused told =
+    let p = err_from_is_err_and c.from_residual.result c.from_residual.ensures.1 in
+    rw (p.1, p.2) (record { keeps = c.in_err-schema.ensures.kept; unstopped = λ stop. c.in_err-schema.ensures.stopped (ap Err (stopped_err c.in_err-schema.field-0.0 stop)) told })
+
+pub returns-in-Ok-Some-clause-unwritten : goal.returns-in-Ok-Some-clause-unwritten
+returns-in-Ok-Some-clause-unwritten g c refusal is refused told =
+    writes_nothing (g.D.Disks.view c.args.disks.now) (g.D.Disks.view c.open_store.new.disks) c.args.shape None refusal is refused (returns-in-Ok-Some-clause-kept g c told) (λ stop. absurd (cc stop))
+
+pub returns-in-Ok-None-clause-unwritten : goal.returns-in-Ok-None-clause-unwritten
+returns-in-Ok-None-clause-unwritten g c refusal is refused told =
+    writes_nothing (g.D.Disks.view c.args.disks.now) (g.D.Disks.view c.fault.new.disks) c.args.shape (open_disk_err_of c.fault.result) refusal is refused (returns-in-Ok-None-clause-kept g c told)
+    (λ stop. let both : Some Failed ≡ Some Stopped = sym (ap open_disk_err_of c.fault.ensures.fault) ∙ stop in absurd (cc both))
+
+pub returns-in-Ok-clause-unwritten : goal.returns-in-Ok-clause-unwritten
+returns-in-Ok-clause-unwritten g c refusal is refused told =
+    writes_nothing (g.D.Disks.view c.args.disks.now) (g.D.Disks.view c.open_store.new.disks) c.args.shape (open_disk_err_of c.into.result) refusal is refused (returns-in-Ok-clause-kept g c told)
+    (λ stop. let both : Some Memory ≡ Some Stopped = sym (ap open_disk_err_of c.into.ensures) ∙ stop in absurd (cc both))
+
+pub returns-clause-unwritten : goal.returns-clause-unwritten
+returns-clause-unwritten g c refusal is refused told =
+    let d = g.D.Disks.view c.args.disks.now in
+    let b = g.D.Disks.view c.schema_of_log.new.disks in
+    let first = c.in_ok-schema.ensures.kept in
+    let same : coordinator_pair (logs_of b.bytes) ≡ coordinator_pair (logs_of d.bytes) = ap (λ (bytes : ℕ → List ℕ). coordinator_pair (logs_of bytes)) (same_bytes d b first) in
+    writes_nothing d (g.D.Disks.view c.open_store.new.disks) c.args.shape (open_disk_err_of c.open_err_of.result) refusal is refused (returns-clause-kept g c told)
+    (λ stop. sym same ∙ stopped_blank c.args.shape b.bytes c.in-Err.e (sym c.open_err_of.ensures ∙ stopped_err c.open_err_of.result stop) (c.in-Err.ensures.err (first.shape.told ∙ told)))
+
+pub returns-in-Ok-None-clause-cause : goal.returns-in-Ok-None-clause-cause
+returns-in-Ok-None-clause-cause g c =
+    let d = g.D.Disks.view c.args.disks.now in
+    let b = g.D.Disks.view c.schema_of_log.new.disks in
+    let e = g.D.Disks.view c.open_store.new.disks in
+    cause_on d e (g.D.Disks.view c.fault.new.disks) (open_disk_err_of c.fault.result) (cause_on d b e None c.in_ok-schema.ensures.cause c.in-Ok.ensures.cause) c.fault.ensures.cause
+
+pub returns-in-Ok-clause-cause : goal.returns-in-Ok-clause-cause
+returns-in-Ok-clause-cause g c =
+    let d = g.D.Disks.view c.args.disks.now in
+    let b = g.D.Disks.view c.schema_of_log.new.disks in
+    let e = g.D.Disks.view c.open_store.new.disks in
+    rw c.into.ensures (cause_memory d e (cause_on d b e None c.in_ok-schema.ensures.cause c.in-Ok.ensures.cause))
+
+pub returns-clause-cause : goal.returns-clause-cause
+returns-clause-cause g c =
+    let d = g.D.Disks.view c.args.disks.now in
+    let b = g.D.Disks.view c.schema_of_log.new.disks in
+    let e = g.D.Disks.view c.open_store.new.disks in
+    rw c.open_err_of.ensures (subst (HasCause d e) (sym (disk_answer c.in-Err.e)) (cause_on d b e (disk_err_in c.in-Err.e) c.in_ok-schema.ensures.cause c.in-Err.ensures.cause))

@@ -1,7 +1,9 @@
 use Rattle.salt_devices.proofs.Begun.{not_refused}
+use Rattle.salt_devices.proofs.Within.{store_within, within_on}
 use Rattle.salt_devices.proofs.open.open_first.Goals as goal
 use Rattle.salt_gatelog.proofs.Entries.{not_told}
-use Rattle.std.proofs.Common.{IsTrue, sym, ◌∙◌}
+use Rattle.salt_storage.specs.Answers.{open_disk_err_of}
+use Rattle.std.proofs.Common.{IsTrue, None, sym, ◌∙◌}
 
 pub fault-requires : goal.fault-requires
 fault-requires g c =
@@ -15,3 +17,22 @@ pub returns-then-refuses-clause-still : goal.returns-then-refuses-clause-still
 returns-then-refuses-clause-still g c told image left =
     let d = g.D.Disks.view c.args.disks.now in
     absurd (c.refuses.ensures.refused c.if-refuses.true (not_refused d c.args.shape c.args.pending.now c.in-Err.e c.requires.opens (c.is_opening.ensures.0 c.if-not-is_opening.false) told (c.in-Err.ensures.err told)))
+
+pub returns-then-refuses-clause-unwritten : goal.returns-then-refuses-clause-unwritten
+returns-then-refuses-clause-unwritten g c refusal is refused told =
+    let d = g.D.Disks.view c.args.disks.now in
+    absurd (c.refuses.ensures.refused c.if-refuses.true (not_refused d c.args.shape c.args.pending.now c.in-Err.e c.requires.opens (c.is_opening.ensures.0 c.if-not-is_opening.false) told (c.in-Err.ensures.err told)))
+
+pub returns-in-Ok-clause-within : goal.returns-in-Ok-clause-within
+returns-in-Ok-clause-within g c = store_within (g.D.Disks.view c.args.disks.now) (g.D.Disks.view c.open_devices.new.disks) c.args.shape None c.in-Ok.ensures.others
+
+pub returns-then-not-is_opening-clause-within : goal.returns-then-not-is_opening-clause-within
+returns-then-not-is_opening-clause-within g c = store_within (g.D.Disks.view c.args.disks.now) (g.D.Disks.view c.open_devices.new.disks) c.args.shape (open_disk_err_of c.in-Err.e) c.in-Err.ensures.others
+
+pub returns-then-refuses-clause-within : goal.returns-then-refuses-clause-within
+returns-then-refuses-clause-within g c =
+    within_on (g.D.Disks.view c.args.disks.now) (g.D.Disks.view c.open_devices.new.disks) c.args.shape (g.D.Disks.view c.fault.new.disks) (open_disk_err_of c.fault.result)
+    (store_within (g.D.Disks.view c.args.disks.now) (g.D.Disks.view c.open_devices.new.disks) c.args.shape (open_disk_err_of c.in-Err.e) c.in-Err.ensures.others) c.fault.ensures.kept
+
+pub returns-else-refuses-clause-within : goal.returns-else-refuses-clause-within
+returns-else-refuses-clause-within g c = store_within (g.D.Disks.view c.args.disks.now) (g.D.Disks.view c.open_devices.new.disks) c.args.shape (open_disk_err_of c.in-Err.e) c.in-Err.ensures.others

@@ -22,7 +22,7 @@ use Rattle.salt_entries.specs.Entries.{IsTold}
 use Rattle.salt_stands.specs.Commits.{found_after, found_of}
 use Rattle.salt_stands.specs.Coordinator.{device_of}
 use Rattle.salt_values.specs.declared.change.Change.{Change}
-use Rattle.std.proofs.Common.{Err, List, Some, ap, arith, inl, length, refl, subst, sym, ℕ, ◌+◌, ◌<◌, ◌^◌, ◌≡◌, ◌∙◌}
+use Rattle.std.proofs.Common.{Err, List, None, Some, ap, arith, inl, length, refl, subst, sym, ℕ, ◌+◌, ◌<◌, ◌^◌, ◌≡◌, ◌∙◌}
 use Rattle.std.proofs.lemmas.Result.{err_from_is_err_and}
 use Rattle.std.specs.Result.{result_err}
 
@@ -179,6 +179,14 @@ returns-in_err-apply_all-clause-others g c =
     let shared : c.deref-2.result.now ≡ shares_in x cs = c.deref-2.ensures.value ∙ c.in_ok-shares.ensures ∙ ap (λ s. shares_of s c.as_slice-2.result.now) c.shape-shape.ensures ∙ ap (shares_of (decisions.shape_of x.decisions)) c.as_slice-2.ensures in
     let p = err_from_is_err_and c.from_residual-in_err-apply_all.result c.from_residual-in_err-apply_all.ensures.1 in
     rw (answer_is c.from_residual-in_err-apply_all.result p.0 c.in_err-apply_all.field-0.0 p.1 p.2) (wider_apply x cs c.deref-2.result.now shared d (g.D.Disks.view c.prepare_all.new.disks) (g.D.Disks.view c.decide.new.disks) (g.D.Disks.view c.apply_all.new.disks) (Some c.in_err-apply_all.field-0.0) c.in_ok-prepare_all.ensures.others c.in_ok-number.ensures.others c.in_err-apply_all.ensures.kept)
+
+pub returns-clause-others : goal.returns-clause-others
+returns-clause-others g c =
+    let x = c.args.self.now in
+    let d = g.D.Disks.view c.args.disks.now in
+    let cs = c.args.changes.now in
+    let shared : c.deref-2.result.now ≡ shares_in x cs = c.deref-2.ensures.value ∙ c.in_ok-shares.ensures ∙ ap (λ s. shares_of s c.as_slice-2.result.now) c.shape-shape.ensures ∙ ap (shares_of (decisions.shape_of x.decisions)) c.as_slice-2.ensures in
+    wider_apply x cs c.deref-2.result.now shared d (g.D.Disks.view c.prepare_all.new.disks) (g.D.Disks.view c.decide.new.disks) (g.D.Disks.view c.apply_all.new.disks) None c.in_ok-prepare_all.ensures.others c.in_ok-number.ensures.others c.in_ok-apply_all.ensures.kept
 
 pub returns-clause-ok : goal.returns-clause-ok
 returns-clause-ok g c which co v m conts is may =

@@ -1,4 +1,5 @@
 use Rattle.salt_devices.proofs.Standing.{armed, stays_new}
+use Rattle.salt_devices.proofs.Within.{unchanged_within}
 use Rattle.salt_devices.proofs.devices.DevicesStorage.arm.Goals as goal
 
 pub returns-clause-holds : goal.returns-clause-holds
@@ -6,3 +7,6 @@ returns-clause-holds g c k h = armed _ _ _ _ _ (g.D.Disks.view c.args.disks.now)
 
 pub returns-clause-is_new : goal.returns-clause-is_new
 returns-clause-is_new g c u new = stays_new (g.D.Disks.view c.args.disks.now) (g.D.Disks.view c.arm.new.self) c.arm.ensures.kept u new
+
+pub returns-clause-within : goal.returns-clause-within
+returns-clause-within g c = unchanged_within (g.D.Disks.view c.args.disks.now) (g.D.Disks.view c.arm.new.self) c.args.self.now.shape c.arm.ensures.kept

@@ -13,11 +13,17 @@ begin_boot-requires g c =
 pub returns-in-Ok-clause-holds : goal.returns-in-Ok-clause-holds
 returns-in-Ok-clause-holds g c k h =
     let held = the_store _ _ _ _ _ _ c.in-Some.store c.in-Some.is k h in
-    goes_on _ _ _ _ _ _ c.in-Some.store c.in-Some.is k h (g.D.Disks.view c.begin_boot.new.disks) c.begin_boot.new.store _ (booted k) c.in-Ok.ensures.shape
+    goes_on _ _ _ _ _ _ c.in-Some.store c.in-Some.is k h (g.D.Disks.view c.begin_boot.new.disks) c.begin_boot.new.store _ (booted k) (c.in-Ok.ensures.within c.args.self.now.shape k held).shape
     (c.in-Ok.ensures.holds c.args.self.now.shape k held) (record { boot = c.in-Ok.ensures.number c.args.self.now.shape k held; decisions = h.numbers.decisions })
 
 pub returns-in-Err-clause-leaves : goal.returns-in-Err-clause-leaves
 returns-in-Err-clause-leaves g c k h =
     let held = the_store _ _ _ _ _ _ c.in-Some.store c.in-Some.is k h in
-    breaks_off _ _ _ _ _ _ c.in-Some.store c.in-Some.is k h (g.D.Disks.view c.begin_boot.new.disks) c.begin_boot.new.store Boot (booted k) c.in-Err.ensures.shape
+    breaks_off _ _ _ _ _ _ c.in-Some.store c.in-Some.is k h (g.D.Disks.view c.begin_boot.new.disks) c.begin_boot.new.store Boot (booted k) (c.in-Err.ensures.within c.args.self.now.shape k held).shape
     (c.in-Err.ensures.leaves c.args.self.now.shape k held) c.in-Err.ensures.stay refl (booted_sound k held.kept)
+
+pub returns-in-Ok-clause-within : goal.returns-in-Ok-clause-within
+returns-in-Ok-clause-within g c = let r = c.requires in c.in-Ok.ensures.within c.args.self.now.shape r.0 (the_store _ _ _ _ _ _ c.in-Some.store c.in-Some.is r.0 r.1)
+
+pub returns-in-Err-clause-within : goal.returns-in-Err-clause-within
+returns-in-Err-clause-within g c = let r = c.requires in c.in-Err.ensures.within c.args.self.now.shape r.0 (the_store _ _ _ _ _ _ c.in-Some.store c.in-Some.is r.0 r.1)

@@ -1,5 +1,6 @@
-use Rattle.salt_devices.proofs.Standing.{the_store, unit_breaks_off}
+use Rattle.salt_devices.proofs.Standing.{goes_on, the_store, unit_breaks_off}
 use Rattle.salt_devices.proofs.devices.DevicesStorage.commit.Goals as goal
+use Rattle.salt_storage.specs.Storing.{decided}
 use Rattle.std.proofs.Common.{refl}
 
 pub decide_unit-requires-clause-held : goal.decide_unit-requires-clause-held
@@ -10,10 +11,23 @@ decide_unit-requires-clause-held g c =
 pub returns-in-Err-clause-leaves : goal.returns-in-Err-clause-leaves
 returns-in-Err-clause-leaves g c k conts h may =
     let held = the_store _ _ _ _ _ _ c.in-Some.store c.in-Some.is k h in
-    unit_breaks_off _ _ _ _ _ _ c.in-Some.store c.in-Some.is k h (g.D.Disks.view c.decide_unit.new.disks) c.decide_unit.new.store _ c.args.changes.now conts c.in-Err.e c.in-Err.ensures.shape
+    unit_breaks_off _ _ _ _ _ _ c.in-Some.store c.in-Some.is k h (g.D.Disks.view c.decide_unit.new.disks) c.decide_unit.new.store _ c.args.changes.now conts c.in-Err.e (c.in-Err.ensures.within c.args.self.now.shape k held).shape
     (c.in-Err.ensures.leaves c.args.self.now.shape k conts held may) c.pending_unit.ensures (λ not. c.in-Err.ensures.stay c.in-Err.e refl not) may.sound
 
 pub returns-in-Err-clause-full : goal.returns-in-Err-clause-full
 returns-in-Err-clause-full g c dev is =
     let r = c.requires.may in
     c.in-Err.ensures.full dev is c.args.self.now.shape r.0 (the_store _ _ _ _ _ _ c.in-Some.store c.in-Some.is r.0 r.1)
+
+pub returns-in-Ok-clause-within : goal.returns-in-Ok-clause-within
+returns-in-Ok-clause-within g c = let r = c.requires.may in c.in-Ok.ensures.within c.args.self.now.shape r.0 (the_store _ _ _ _ _ _ c.in-Some.store c.in-Some.is r.0 r.1)
+
+pub returns-in-Err-clause-within : goal.returns-in-Err-clause-within
+returns-in-Err-clause-within g c = let r = c.requires.may in c.in-Err.ensures.within c.args.self.now.shape r.0 (the_store _ _ _ _ _ _ c.in-Some.store c.in-Some.is r.0 r.1)
+
+pub returns-in-Ok-clause-holds : goal.returns-in-Ok-clause-holds
+returns-in-Ok-clause-holds g c k conts h may =
+    let x = c.args.self.now in
+    let held = the_store _ _ _ _ _ _ c.in-Some.store c.in-Some.is k h in
+    goes_on _ _ _ _ _ _ c.in-Some.store c.in-Some.is k h (g.D.Disks.view c.decide_unit.new.disks) c.decide_unit.new.store _ (decided k c.args.changes.now conts) (c.in-Ok.ensures.within x.shape k held).shape
+    (c.in-Ok.ensures.holds x.shape k conts held may) (record { boot = h.numbers.boot; decisions = c.in-Ok.ensures.number x.shape k held })

@@ -1,7 +1,8 @@
 use Rattle.salt_devices.proofs.Standing.{breaks_off, goes_on, the_store}
+use Rattle.salt_devices.proofs.Within.{kept_within}
 use Rattle.salt_devices.proofs.devices.DevicesStorage.load.Goals as goal
 use Rattle.salt_devices.specs.Remembering.{MayFollow}
-use Rattle.std.proofs.Common.{refl, subst, sym}
+use Rattle.std.proofs.Common.{None, refl, subst, sym}
 
 pub load_rows-requires-clause-held : goal.load_rows-requires-clause-held
 load_rows-requires-clause-held g c =
@@ -11,11 +12,17 @@ load_rows-requires-clause-held g c =
 pub returns-in-Ok-clause-holds : goal.returns-in-Ok-clause-holds
 returns-in-Ok-clause-holds g c k h =
     let held = the_store _ _ _ _ _ _ c.in-Some.store c.in-Some.is k h in
-    goes_on _ _ _ _ _ _ c.in-Some.store c.in-Some.is k h (g.D.Disks.view c.load_rows.new.disks) c.load_rows.new.store _ k c.in-Ok.ensures.shape
+    goes_on _ _ _ _ _ _ c.in-Some.store c.in-Some.is k h (g.D.Disks.view c.load_rows.new.disks) c.load_rows.new.store _ k c.in-Ok.ensures.kept.shape
     (c.in-Ok.ensures.holds c.args.self.now.shape k held) h.numbers
 
 pub returns-in-Err-clause-leaves : goal.returns-in-Err-clause-leaves
 returns-in-Err-clause-leaves g c k h =
     let held = the_store _ _ _ _ _ _ c.in-Some.store c.in-Some.is k h in
-    breaks_off _ _ _ _ _ _ c.in-Some.store c.in-Some.is k h (g.D.Disks.view c.load_rows.new.disks) c.load_rows.new.store _ k c.in-Err.ensures.shape
+    breaks_off _ _ _ _ _ _ c.in-Some.store c.in-Some.is k h (g.D.Disks.view c.load_rows.new.disks) c.load_rows.new.store _ k c.in-Err.ensures.kept.shape
     (c.in-Err.ensures.leaves c.args.self.now.shape k held) c.in-Err.ensures.stay (subst (λ q. MayFollow q k k) (sym h.nothing) refl) held.kept
+
+pub returns-in-Ok-clause-within : goal.returns-in-Ok-clause-within
+returns-in-Ok-clause-within g c = kept_within (g.D.Disks.view c.args.disks.now) (g.D.Disks.view c.load_rows.new.disks) c.args.self.now.shape None c.in-Ok.ensures.kept
+
+pub returns-in-Err-clause-within : goal.returns-in-Err-clause-within
+returns-in-Err-clause-within g c = kept_within (g.D.Disks.view c.args.disks.now) (g.D.Disks.view c.load_rows.new.disks) c.args.self.now.shape _ c.in-Err.ensures.kept

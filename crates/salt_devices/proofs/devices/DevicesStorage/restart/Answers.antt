@@ -1,4 +1,5 @@
 use Rattle.salt_devices.proofs.Standing.{found_again, left_again, starts}
+use Rattle.salt_devices.proofs.Within.{restarted_within}
 use Rattle.salt_devices.proofs.devices.DevicesStorage.restart.Goals as goal
 
 pub returns-clause-settled : goal.returns-clause-settled
@@ -9,3 +10,6 @@ returns-clause-still g c = found_again _ _ c.args.self.now.store c.args.self.now
 
 pub returns-clause-leaves : goal.returns-clause-leaves
 returns-clause-leaves g c a b h = left_again _ _ _ _ _ (g.D.Disks.view c.args.disks.now) (g.D.Disks.view c.restart.new.self) c.restart.ensures c.requires a b h
+
+pub returns-clause-within : goal.returns-clause-within
+returns-clause-within g c = restarted_within (g.D.Disks.view c.args.disks.now) (g.D.Disks.view c.restart.new.self) c.args.self.now.shape c.restart.ensures

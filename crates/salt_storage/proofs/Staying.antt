@@ -1,0 +1,27 @@
+-- Calls one behind the other stay within a shape.
+use Rattle.salt_disk.specs.Disks.{View}
+use Rattle.salt_storage.specs.Staying.{StaysWithin, devices_of}
+use Rattle.salt_values.specs.declared.placement.Shape.{Shape}
+use Rattle.std.proofs.Common.{subst, sym, ◌∙◌}
+use Rattle.std.specs.Prelude.{IsTrue, refl, ℕ, ◌<◌, ◌≤◌}
+
+pub stays-same : (shape : Shape) (v : View) → StaysWithin shape shape v v
+stays-same shape v = record {
+  asked = refl;
+  shape = record { count = refl; can_stop = refl; told = refl; limit = λ dev. refl };
+  others = λ told dev low out bytes image. image;
+}
+
+pub stays-behind : {first mid last : Shape} {a b c : View} → StaysWithin first mid a b → StaysWithin mid last b c → StaysWithin first last a c
+stays-behind g h = record {
+  asked = h.asked ∙ g.asked;
+  shape = record {
+    count = h.shape.count ∙ g.shape.count;
+    can_stop = h.shape.can_stop ∙ g.shape.can_stop;
+    told = h.shape.told ∙ g.shape.told;
+    limit = λ dev. h.shape.limit dev ∙ g.shape.limit dev;
+  };
+  others = λ told dev low out bytes image.
+      g.others told dev low out bytes
+      (h.others (subst IsTrue (sym g.shape.told) told) dev (subst (λ (n : ℕ). dev < n) (sym g.shape.count) low) (subst (λ (s : Shape). devices_of s ≤ dev) (sym g.asked) out) bytes image);
+}
