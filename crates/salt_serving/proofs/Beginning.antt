@@ -8,6 +8,7 @@ use Rattle.salt_keeps.specs.States.{State}
 use Rattle.salt_model.specs.After.{kept}
 use Rattle.salt_model.specs.Ends.{MayLeave, flight_told, is_serving}
 use Rattle.salt_model.specs.EventTexts.{story_text}
+use Rattle.salt_model.specs.Everywhere.{Each}
 use Rattle.salt_model.specs.Kept.{schema_of}
 use Rattle.salt_model.specs.Lines.{AskInOrder}
 use Rattle.salt_model.specs.Next.{flight}
@@ -30,6 +31,7 @@ use Rattle.salt_serving.specs.Serving.{EndsWriting, GainsAtEnd, IsAt, IsBegun, I
 use Rattle.salt_serving.specs.Stopping.{IsLaterStop, IsOfDevices, outcome, status_of, status_opening, stop_opening}
 use Rattle.salt_serving.specs.declared.stop.Stop.TheVariants as stop
 use Rattle.salt_serving.specs.declared.stop.Stop.{Stop}
+use Rattle.salt_stands.specs.Unspent.{OpensUnspent}
 use Rattle.salt_steps.specs.Opening.{IsUnfound, fallen_often}
 use Rattle.salt_steps.specs.Reopening.{Reopens}
 use Rattle.salt_steps.specs.Standing.{IsIdleAt, IsSoundPoint}
@@ -39,10 +41,15 @@ use Rattle.salt_storage.specs.declared.halt.Halt.TheVariants as halt
 use Rattle.salt_storage.specs.declared.open.OpenErr.TheVariants.{Halted, NotSalt, NumbersSpent, OtherShape}
 use Rattle.salt_storage.specs.declared.open.OpenErr.{OpenErr}
 use Rattle.std.proofs.Common.{ap, arith, inl, inr, subst, suc, sym, zero, ◌∙◌}
+use Rattle.salt_storage.specs.declared.found.Numbers.{Numbers}
 use Rattle.std.specs.Prelude.{Err, List, None, Ok, Option, Result, Some, [], false, refl, true, ℕ, ◌++◌, ◌∷◌, ◌≡◌, ◌⊎◌}
 use Rattle.std.specs.Result.{IfErr, OnOk}
 
 -- A RUN THAT HAS ONLY FALLEN
+
+pub often-unspent : (start : Start) (times : ℕ) → Each OpensUnspent (fallen_often start times)
+often-unspent start zero = tt
+often-unspent start (suc times) = (often-unspent start times, tt)
 
 pub often-begins : (start : Start) (times : ℕ) → start_of (fallen_often start times) ≡ start
 often-begins start zero = refl
@@ -143,9 +150,9 @@ early-written (stop.NumbersSpent boot decisions) before held text g = g
 
 -- so it is a run of the script
 pub early-run : (s : Stop) → IsEarly s → (flies : Option Flight) (start : Start) (trace : Trace) (story : List Event) (script rest before held : Option (List ℕ)) → Tells start trace story →
-    trace_words.lines_of trace ≡ [] → MayLeave (leave_of (status_of s)) trace → IsFlightAt (status_of s) trace flies → GainsAtEnd s before (text_under trace story) held →
+    trace_words.lines_of trace ≡ [] → MayLeave (leave_of (status_of s)) trace → IsFlightAt (status_of s) trace flies → Each OpensUnspent trace → GainsAtEnd s before (text_under trace story) held →
     (run : IsRun start (status_of s) flies script rest before story held) × (run.played.trace ≡ trace)
-early-run s early flies start trace story script rest before held tells unasked leaves flown gained = (
+early-run s early flies start trace story script rest before held tells unasked leaves flown unspent gained = (
   record {
     played = record {
       trace = trace;
@@ -155,6 +162,7 @@ early-run s early flies start trace story script rest before held tells unasked 
       lines = early-lines s early script rest;
       leaves = leaves;
       flies = flown;
+      unspent = unspent;
     };
     told = subst (λ es. IsWritten (status_of s) before (text_under trace es) (text_under trace (story_of trace)) held) (sym (unasked-before trace unasked))
         (subst (λ es. IsWritten (status_of s) before [] (text_under trace es) held) (sym tells.told) (early-written s before held (text_under trace story) gained));
@@ -162,11 +170,11 @@ early-run s early flies start trace story script rest before held tells unasked 
   refl,
 )
 
-pub early-ends : (lies left : ℕ → Point → Type 0) (fills : Written → ℕ → Type 0) (flies : Option Flight) (s : Stop) → IsEarly s → (start : Start) (trace : Trace) (story : List Event)
+pub early-ends : (lies : ℕ → Point → Type 0) (left : Option Numbers → ℕ → Point → Type 0) (fills : Written → ℕ → Type 0) (flies : Option Flight) (s : Stop) → IsEarly s → (start : Start) (trace : Trace) (story : List Event)
     (script rest before held : Option (List ℕ)) → LeavesAt lies left fills flies (status_of s) start trace story → trace_words.lines_of trace ≡ [] → GainsAtEnd s before (text_under trace story) held →
     EndsServing lies left fills flies start (status_of s) script rest before story held
 early-ends lies left fills flies s early start trace story script rest before held x unasked gained =
-    let r = early-run s early flies start trace story script rest before held x.tells unasked x.leaves x.flies gained in
+    let r = early-run s early flies start trace story script rest before held x.tells unasked x.leaves x.flies x.fits.unspent gained in
     (r.0, subst (EndsFound lies left fills (status_of s)) (sym r.1) x.ends)
 
 -- WHAT IS TOLD OF THE BEGINNING
@@ -222,7 +230,7 @@ module _ (reason : OpenErr) (story : List Event) (unfound : IsUnfound story) (em
       IsRun start (status_of s) None script rest before story held
   unfound-run schema script rest before held gained =
       (early-run s (early-of (stop_opening reason) s (of-reason reason) how) None start fallen story script rest before held (often-tells start story unfound) (often-asked start unfound.0)
-      unfound-leaves unfound-flies (gains-under s before held _ _ (λ some. unfound-text schema) gained)).0
+      unfound-leaves unfound-flies (often-unspent start unfound.0) (gains-under s before held _ _ (λ some. unfound-text schema) gained)).0
 
 module _ (reason : OpenErr) (story : List Event) (unfound : IsUnfound story) (empty : (story ≡ []) ⊎ IsLater reason) (e : Stop) (is : e ≡ stop_opening reason) (schema : List TableDef)
     (before held : Option (List ℕ)) where
@@ -254,9 +262,10 @@ module _ (reason : OpenErr) (story : List Event) (unfound : IsUnfound story) (em
 
 -- OVER WHAT WAS FOUND
 
-module _ {E : Type 0} (sees : E → Option Event → State → Type 0) (lies left : ℕ → Point → Type 0) (fills : Written → ℕ → Type 0) (flies : Option Flight) (new : E)
+module _ {E : Type 0} (sees : E → Option Event → State → Type 0) (lies : ℕ → Point → Type 0) (left : Option Numbers → ℕ → Point → Type 0) (fills : Written → ℕ → Type 0) (flies : Option Flight) (new : E)
     (idle : (p : Point) → IsSoundPoint p → IsIdleAt sees new p → lies 0 p) (flown : (p : Point) → IsSoundPoint p → IsIdleAt sees new p → flies ≡ None)
-    (leaves : (room : ℕ) (p : Point) → lies room p → left room p)
+    (leaves : (room : ℕ) (p : Point) → lies room p → left None room p)
+    (forgets : (numbers : Numbers) (room : ℕ) (p : Point) → left (Some numbers) room p → left None room p)
     (schema : List TableDef) (serving : (p : Point) → IsSoundPoint p → sees new None p.state → schema ≡ schema_of p.state.units.kept)
     (lying : (room : ℕ) (p : Point) → IsSoundPoint p → lies room p → schema ≡ schema_of p.state.units.kept)
     (story told : List Event) (before held : Option (List ℕ)) (start : Start) (trace : Trace) (unasked : trace_words.lines_of trace ≡ []) where
@@ -292,7 +301,7 @@ module _ {E : Type 0} (sees : E → Option Event → State → Type 0) (lies lef
 
     pub broken-unwritten : (e ≡ stop.Memory → ⊥) → GainsShort before (story_text schema told) held → Ends stop.WriteFault
     broken-unwritten some short script rest =
-        early-ends lies left fills flies stop.WriteFault (inr refl) start x.after told script rest before held (leaves-unwritten lies left fills flies start x.after told e later some x.ends) (x.lines ∙ unasked)
+        early-ends lies left fills flies stop.WriteFault (inr refl) start x.after told script rest before held (leaves-unwritten lies left fills flies forgets start x.after told e later some x.ends) (x.lines ∙ unasked)
         (subst (λ t. GainsShort before t held) (tables some told) short)
 
   pub begun-err : (d r : Result (Unit {0}) Stop) → OnOk d (Reopens sees start trace story new told) → IfErr d (λ e. EndsOpening lies left fills flies e start trace told) → IfErr d IsLaterStop →

@@ -15,6 +15,7 @@ use Rattle.salt_storage.specs.Writing.{Written}
 use Rattle.salt_storage.specs.declared.halt.Halt.TheVariants.{Memory}
 use Rattle.salt_storage.specs.declared.halt.Halt.{Halt}
 use Rattle.std.proofs.Common.{ap, append-nil, append_assoc, inl, inr, sym, ◌∙◌}
+use Rattle.salt_storage.specs.declared.found.Numbers.{Numbers}
 use Rattle.std.specs.Prelude.{Err, List, None, Ok, Option, Result, [], refl, ℕ, ◌++◌, ◌∷◌, ◌≡◌, ◌⊎◌}
 use Rattle.std.specs.Result.{IfErr, OnOk}
 
@@ -37,10 +38,10 @@ breaks-by lies left fills flies halt start trace text asked story told asks b = 
     by (inr m) = inr m
 
 -- memory ran out before the line was read
-pub breaks-unread : {E : Type 0} (sees : E → Option Event → State → Type 0) (lies left : ℕ → Point → Type 0) (fills : Written → ℕ → Type 0) (flies : Option Flight) (e : E) →
+pub breaks-unread : {E : Type 0} (sees : E → Option Event → State → Type 0) (lies : ℕ → Point → Type 0) (left : Option Numbers → ℕ → Point → Type 0) (fills : Written → ℕ → Type 0) (flies : Option Flight) (e : E) →
     ((p : Point) → IsSoundPoint p → IsIdleAt sees e p → lies 0 p) → ((p : Point) → IsSoundPoint p → IsIdleAt sees e p → flies ≡ None) →
-    ((room : ℕ) (p : Point) → lies room p → left room p) → (start : Start) (trace : Trace) (text : Option (List ℕ)) (story : List Event) → Serves sees start e story trace →
-    BreaksIn (lies 0) (left 0) fills flies Memory start trace text story story
+    ((room : ℕ) (p : Point) → lies room p → left None room p) → (start : Start) (trace : Trace) (text : Option (List ℕ)) (story : List Event) → Serves sees start e story trace →
+    BreaksIn (lies 0) (left None 0) fills flies Memory start trace text story story
 breaks-unread sees lies left fills flies e idle flown leaves start trace text story s = record {
   after = trace;
   asks = inr (refl, refl);
@@ -57,7 +58,7 @@ module _ (old_lies old_left : Point → Type 0) (old_fills : Written → ℕ →
       by (inl more) = asks-still text trace b.after r.after r.lines more
       by (inr m) = absurd (some m.0)
 
-  pub ends-behind : (lies left : ℕ → Point → Type 0) (fills : Written → ℕ → Type 0) (flies : Option Flight) (s : Stop) → EndsBehind lies left fills flies halt s start b.after mid told →
+  pub ends-behind : (lies : ℕ → Point → Type 0) (left : Option Numbers → ℕ → Point → Type 0) (fills : Written → ℕ → Type 0) (flies : Option Flight) (s : Stop) → EndsBehind lies left fills flies halt s start b.after mid told →
       EndsIn lies left fills flies s start trace text story told
   ends-behind lies left fills flies s x = record { after = x.after; asks = by b.asks; ends = x.ends; grows = grown story mid told b.grows x.grows }
     where

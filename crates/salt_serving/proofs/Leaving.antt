@@ -18,7 +18,7 @@ use Rattle.salt_model.specs.declared.events.Flight.{Flight}
 use Rattle.salt_serving.specs.Ending.{EndsFound, EndsOpening, LeavesAt, MayEndAt}
 use Rattle.salt_serving.specs.Run.{IsFlightAt, leave_of}
 use Rattle.salt_serving.specs.Serving.{EndsBehind}
-use Rattle.salt_serving.specs.Stopping.{IsLaterStop, answer_of, status_of, status_opening, stop_opening}
+use Rattle.salt_serving.specs.Stopping.{IsLaterStop, answer_of, numbers_told, status_of, status_opening, stop_opening}
 use Rattle.salt_serving.specs.declared.status.Status.TheVariants.{DeviceFull, Done, Memory, ReadFault, ScriptTooLong, WriteFault}
 use Rattle.salt_serving.specs.declared.status.Status.{Status}
 use Rattle.salt_serving.specs.declared.stop.Stop.TheVariants as stop
@@ -29,13 +29,14 @@ use Rattle.salt_steps.specs.Reopening.{BreaksOpening, EndsWithin, NotBegun, With
 use Rattle.salt_steps.specs.Serving.{Halts, Serves}
 use Rattle.salt_steps.specs.Standing.{IsIdleAt, IsSoundPoint}
 use Rattle.salt_steps.specs.Writing.{IsWrittenAt}
-use Rattle.salt_storage.specs.Answers.{IsLater, open_disk_err_of}
+use Rattle.salt_storage.specs.Answers.{IsLater, numbers_of, open_disk_err_of}
 use Rattle.salt_storage.specs.Writing.{OfBoot, Written}
 use Rattle.salt_storage.specs.declared.halt.Halt.TheVariants as halt
 use Rattle.salt_storage.specs.declared.halt.Halt.{Halt}
 use Rattle.salt_storage.specs.declared.open.OpenErr.TheVariants.{Halted, NotSalt, NumbersSpent, OtherShape}
 use Rattle.salt_storage.specs.declared.open.OpenErr.{OpenErr}
 use Rattle.std.proofs.Common.{ap, append-nil, arith, inl, inr, subst, sym, ◌∙◌}
+use Rattle.salt_storage.specs.declared.found.Numbers.{Numbers}
 use Rattle.std.specs.Prelude.{Bool, Err, IsTrue, List, None, Ok, Option, Result, Some, [], false, not, refl, true, ℕ, ◌||◌, ◌≡◌, ◌⊎◌}
 use Rattle.std.specs.Result.{IfErr, OnOk}
 
@@ -101,9 +102,25 @@ may-halt room p halt.DiskFault = tt
 may-halt room p (halt.DeviceFull dev) = tt
 may-halt room p halt.Memory = tt
 
+-- the numbers that are told
+
+same-numbers : (e : OpenErr) → numbers_of e ≡ numbers_told (status_opening e)
+same-numbers (NotSalt dev) = refl
+same-numbers (OtherShape kept asked) = refl
+same-numbers (NumbersSpent boot decisions) = refl
+same-numbers (Halted halt.Stopped) = refl
+same-numbers (Halted halt.DiskFault) = refl
+same-numbers (Halted (halt.DeviceFull dev)) = refl
+same-numbers (Halted halt.Memory) = refl
+
+untold : (left : Option Numbers → ℕ → Point → Type 0) → ((numbers : Numbers) (room : ℕ) (p : Point) → left (Some numbers) room p → left None room p) → (told : Option Numbers) (room : ℕ) (p : Point) →
+    left told room p → left None room p
+untold left forgets None room p h = h
+untold left forgets (Some numbers) room p h = forgets numbers room p h
+
 -- AN OPENING
 
-module _ (lies left : ℕ → Point → Type 0) (fills : Written → ℕ → Type 0) (flies : Option Flight) (e : OpenErr) (start : Start) (trace : Trace) (story told : List Event)
+module _ (lies : ℕ → Point → Type 0) (left : Option Numbers → ℕ → Point → Type 0) (fills : Written → ℕ → Type 0) (flies : Option Flight) (e : OpenErr) (start : Start) (trace : Trace) (story told : List Event)
     (b : BreaksOpening lies left fills flies e start trace story told) where
   not-begun : NotBegun lies left fills flies e b.after b.point → LeavesAt lies left fills flies (status_opening e) start b.after told
   not-begun n = record {
@@ -118,7 +135,7 @@ module _ (lies left : ℕ → Point → Type 0) (fills : Written → ℕ → Typ
       boots = n.boots;
       may = may-fail n.room b.point e fell n.fails;
       again = λ some. n.again (λ m. some (ap status_opening m));
-      stands = n.stays;
+      stands = subst (λ (told : Option Numbers). left told n.room b.point) (same-numbers e) n.stays;
       full = λ dev is. (OfBoot, inr (fell, refl), n.full dev (full-reason e dev is));
     };
   }
@@ -139,7 +156,7 @@ module _ (lies left : ℕ → Point → Type 0) (fills : Written → ℕ → Typ
       boots = omega arith;
       may = subst (λ x. MayEndAt 0 b.point (status_opening x)) (sym w.halted) (may-halt 0 b.point w.halt);
       again = λ some. w.halts.again (λ m. some (ap status_opening (w.halted ∙ ap Halted m)));
-      stands = w.halts.stays;
+      stands = subst (λ (told : Option Numbers). left told 0 b.point) (sym (ap numbers_of w.halted) ∙ same-numbers e) w.halts.stays;
       full = λ dev is. by dev (w.halts.full dev (halted-so w.halt (halt.DeviceFull dev) (sym w.halted ∙ full-reason e dev is)));
     };
   }
@@ -189,8 +206,8 @@ device-next p trace e k sound comes devices =
     let good = good-event trace e (replays trace sound.played) (may-stand trace e (is-of-units p.state.units e devices) here) in
     ap (is_device_next trace) here ∙ devices-told p.state.units trace e k.state.units sound.played good ∙ devices
 
-module _ (lies left : ℕ → Point → Type 0) (fills : Written → ℕ → Type 0) (flies : Option Flight) (start : Start) (trace : Trace) (story : List Event) where
-  pub halts-full : (dev : ℕ) → Halts (lies 0) (left 0) fills flies (halt.DeviceFull dev) start story trace → EndsBehind lies left fills flies (halt.DeviceFull dev) (stop.DeviceFull dev) start trace story story
+module _ (lies : ℕ → Point → Type 0) (left : Option Numbers → ℕ → Point → Type 0) (fills : Written → ℕ → Type 0) (flies : Option Flight) (start : Start) (trace : Trace) (story : List Event) where
+  pub halts-full : (dev : ℕ) → Halts (lies 0) (left None 0) fills flies (halt.DeviceFull dev) start story trace → EndsBehind lies left fills flies (halt.DeviceFull dev) (stop.DeviceFull dev) start trace story story
   halts-full dev h = record {
     after = trace;
     lines = refl;
@@ -235,7 +252,7 @@ module _ (lies left : ℕ → Point → Type 0) (fills : Written → ℕ → Typ
           (x : Written) × (IsWrittenAt h.point x ⊎ ((h.point.state.units.phase ≡ Fallen) × (x ≡ OfBoot))) × fills x d
       by d x = (x.0, inl x.1, x.2)
 
-  pub halts-short : Halts (lies 0) (left 0) fills flies halt.Memory start story trace → EndsBehind lies left fills flies halt.Memory stop.Memory start trace story story
+  pub halts-short : Halts (lies 0) (left None 0) fills flies halt.Memory start story trace → EndsBehind lies left fills flies halt.Memory stop.Memory start trace story story
   halts-short h = record {
     after = trace;
     lines = refl;
@@ -282,11 +299,11 @@ complete-flight (trace says Down why) c = absurd (fell c.0)
 complete-flight (trace says Opened boot n) c = decision-none (next (trace says Opened boot n)) c.1
 complete-flight (trace says e) c = decision-none (next (trace says e)) c.1
 
-module _ {E : Type 0} (sees : E → Option Event → State → Type 0) (lies left : ℕ → Point → Type 0) (fills : Written → ℕ → Type 0) (flies : Option Flight) (e : E)
+module _ {E : Type 0} (sees : E → Option Event → State → Type 0) (lies : ℕ → Point → Type 0) (left : Option Numbers → ℕ → Point → Type 0) (fills : Written → ℕ → Type 0) (flies : Option Flight) (e : E)
     (idle : (p : Point) → IsSoundPoint p → IsIdleAt sees e p → lies 0 p) (flown : (p : Point) → IsSoundPoint p → IsIdleAt sees e p → flies ≡ None)
-    (leaves : (room : ℕ) (p : Point) → lies room p → left room p) (start : Start) (trace : Trace) (story : List Event) (s : Serves sees start e story trace) where
-  ends-idle : (status : Status) → ((room : ℕ) (p : Point) → MayEndAt room p status) → ((dev : ℕ) → status ≡ DeviceFull dev → ⊥) → EndsFound lies left fills status trace
-  ends-idle status may never =
+    (leaves : (room : ℕ) (p : Point) → lies room p → left None room p) (start : Start) (trace : Trace) (story : List Event) (s : Serves sees start e story trace) where
+  ends-idle : (status : Status) → ((room : ℕ) (p : Point) → MayEndAt room p status) → ((dev : ℕ) → status ≡ DeviceFull dev → ⊥) → numbers_told status ≡ None → EndsFound lies left fills status trace
+  ends-idle status may never none =
       let at = idle s.point (serves-at sees sees start e story trace s) s.stands in
       record {
         room = 0;
@@ -295,7 +312,7 @@ module _ {E : Type 0} (sees : E → Option Event → State → Type 0) (lies lef
         boots = omega arith;
         may = may 0 s.point;
         again = λ some. at;
-        stands = leaves 0 s.point at;
+        stands = subst (λ (told : Option Numbers). left told 0 s.point) (sym none) (leaves 0 s.point at);
         full = λ dev is. absurd (never dev is);
       }
 
@@ -303,16 +320,16 @@ module _ {E : Type 0} (sees : E → Option Event → State → Type 0) (lies lef
   none-flown = flown s.point (serves-at sees sees start e story trace s) s.stands
 
   pub done-leaves : LeavesAt lies left fills flies Done start trace story
-  done-leaves = record { tells = s.tells; fits = s.fits; leaves = s.complete; flies = none-flown; ends = ends-idle Done (λ room p. tt) (λ dev is. cc) }
+  done-leaves = record { tells = s.tells; fits = s.fits; leaves = s.complete; flies = none-flown; ends = ends-idle Done (λ room p. tt) (λ dev is. cc) refl }
 
   pub fault-leaves : LeavesAt lies left fills flies ReadFault start trace story
-  fault-leaves = record { tells = s.tells; fits = s.fits; leaves = s.complete; flies = none-flown; ends = ends-idle ReadFault (λ room p. tt) (λ dev is. cc) }
+  fault-leaves = record { tells = s.tells; fits = s.fits; leaves = s.complete; flies = none-flown; ends = ends-idle ReadFault (λ room p. tt) (λ dev is. cc) refl }
 
   pub long-leaves : LeavesAt lies left fills flies ScriptTooLong start trace story
-  long-leaves = record { tells = s.tells; fits = s.fits; leaves = s.complete; flies = none-flown; ends = ends-idle ScriptTooLong (λ room p. tt) (λ dev is. cc) }
+  long-leaves = record { tells = s.tells; fits = s.fits; leaves = s.complete; flies = none-flown; ends = ends-idle ScriptTooLong (λ room p. tt) (λ dev is. cc) refl }
 
   pub short-leaves : LeavesAt lies left fills flies Memory start trace story
-  short-leaves = record { tells = s.tells; fits = s.fits; leaves = tt; flies = inl none-flown; ends = ends-idle Memory (λ room p. tt) (λ dev is. cc) }
+  short-leaves = record { tells = s.tells; fits = s.fits; leaves = tt; flies = inl none-flown; ends = ends-idle Memory (λ room p. tt) (λ dev is. cc) refl }
 
   pub unwritten-leaves : LeavesAt lies left fills flies WriteFault start trace story
   unwritten-leaves = record {
@@ -320,11 +337,11 @@ module _ {E : Type 0} (sees : E → Option Event → State → Type 0) (lies lef
     fits = s.fits;
     leaves = inl s.complete;
     flies = none-flown ∙ sym (ap flight_told (complete-flight trace s.complete));
-    ends = ends-idle WriteFault (λ room p. tt) (λ dev is. cc);
+    ends = ends-idle WriteFault (λ room p. tt) (λ dev is. cc) refl;
   }
 
   -- for want of memory it is halted there
-  pub idle-halts : Halts (lies 0) (left 0) fills flies halt.Memory start story trace
+  pub idle-halts : Halts (lies 0) (left None 0) fills flies halt.Memory start story trace
   idle-halts = record {
     tells = s.tells;
     fits = s.fits;
@@ -345,7 +362,7 @@ module _ {E : Type 0} (sees : E → Option Event → State → Type 0) (lies lef
 
 -- THE SINK FAILED
 
-module _ (lies left : ℕ → Point → Type 0) (fills : Written → ℕ → Type 0) (flies : Option Flight) (start : Start) (trace : Trace) (story : List Event) where
+module _ (lies : ℕ → Point → Type 0) (left : Option Numbers → ℕ → Point → Type 0) (fills : Written → ℕ → Type 0) (flies : Option Flight) (forgets : (numbers : Numbers) (room : ℕ) (p : Point) → left (Some numbers) room p → left None room p) (start : Start) (trace : Trace) (story : List Event) where
   ends-unwritten : (status : Status) → (status ≡ Memory → ⊥) → EndsFound lies left fills status trace → EndsFound lies left fills WriteFault trace
   ends-unwritten status some x = record {
     room = x.room;
@@ -354,7 +371,7 @@ module _ (lies left : ℕ → Point → Type 0) (fills : Written → ℕ → Typ
     boots = x.boots;
     may = tt;
     again = λ other. x.again some;
-    stands = x.stands;
+    stands = untold left forgets (numbers_told status) x.room x.point x.stands;
     full = λ dev is. absurd (never dev is);
   }
     where
@@ -384,11 +401,11 @@ answers-opening (Halted halt.Memory) some = refl
 
 -- either way a stop leaves of the devices what is kept there
 
-pub left-there : {E T : Type 0} (sees : E → Option Event → State → Type 0) (lies left : ℕ → Point → Type 0) (fills : Written → ℕ → Type 0) (flies : Option Flight) (e : E)
+pub left-there : {E T : Type 0} (sees : E → Option Event → State → Type 0) (lies : ℕ → Point → Type 0) (left : Option Numbers → ℕ → Point → Type 0) (fills : Written → ℕ → Type 0) (flies : Option Flight) (e : E)
     (idle : (p : Point) → IsSoundPoint p → IsIdleAt sees e p → lies 0 p) (flown : (p : Point) → IsSoundPoint p → IsIdleAt sees e p → flies ≡ None)
-    (leaves : (room : ℕ) (p : Point) → lies room p → left room p) (start : Start) (told : List Event) (done : Result T Stop) → OnOk done ((trace : Trace) × Serves sees start e told trace) →
-    IfErr done (λ s. (trace : Trace) × LeavesAt lies left fills flies (status_of s) start trace told) → (room : ℕ) × ((p : Point) × left room p)
-left-there sees lies left fills flies e idle flown leaves start told (Ok x) ok err =
+    (leaves : (room : ℕ) (p : Point) → lies room p → left None room p) (forgets : (numbers : Numbers) (room : ℕ) (p : Point) → left (Some numbers) room p → left None room p) (start : Start) (told : List Event) (done : Result T Stop) → OnOk done ((trace : Trace) × Serves sees start e told trace) →
+    IfErr done (λ s. (trace : Trace) × LeavesAt lies left fills flies (status_of s) start trace told) → (room : ℕ) × ((p : Point) × left None room p)
+left-there sees lies left fills flies e idle flown leaves forgets start told (Ok x) ok err =
     let ends = (unwritten-leaves sees lies left fills flies e idle flown leaves start ok.0 told ok.1).ends in
     (ends.room, (ends.point, ends.stands))
-left-there sees lies left fills flies e idle flown leaves start told (Err s) ok err = let ends = err.1.ends in (ends.room, (ends.point, ends.stands))
+left-there sees lies left fills flies e idle flown leaves forgets start told (Err s) ok err = let ends = err.1.ends in (ends.room, (ends.point, untold left forgets (numbers_told (status_of s)) ends.room ends.point ends.stands))

@@ -9,7 +9,7 @@ use Rattle.salt_model.specs.Trace.{Asked, Start, Trace, Tree, lines_of}
 use Rattle.salt_model.specs.Words.{Every}
 use Rattle.salt_model.specs.declared.events.Event.{Event}
 use Rattle.salt_model.specs.declared.events.Flight.{Flight}
-use Rattle.salt_serving.proofs.Beginning.{of-reason, often-asked, often-tells, unfound-flies, unfound-leaves}
+use Rattle.salt_serving.proofs.Beginning.{of-reason, often-asked, often-tells, often-unspent, unfound-flies, unfound-leaves}
 use Rattle.salt_serving.proofs.Leaving.{done-leaves, short-leaves}
 use Rattle.salt_serving.proofs.Texts.{of-later}
 use Rattle.salt_serving.specs.Ending.{EndsOpening, LeavesAt}
@@ -34,6 +34,7 @@ use Rattle.salt_types.specs.Played.{HasKey}
 use Rattle.std.proofs.Common.{ap, arith, get_or, inl, inr, subst, suc, sym, take, zero, ◌∙◌}
 use Rattle.std.proofs.lemmas.List.{take_all, take_more}
 use Rattle.std.specs.List.{flat_map, range_with_len}
+use Rattle.salt_storage.specs.declared.found.Numbers.{Numbers}
 use Rattle.std.specs.Prelude.{Bool, List, None, Option, Some, [], cond, drop, eqb, false, length, map, refl, slice_get, true, ℕ, ◌%◌, ◌+◌, ◌++◌, ◌<◌, ◌∷◌, ◌≡◌, ◌≤◌, ◌⊎◌}
 
 -- each may be asked, and has a key where it is a table
@@ -143,11 +144,11 @@ early-load-lines stop.ReadFault of n lines none = absurd of
 early-load-lines stop.WriteFault of n lines none = absurd of
 early-load-lines stop.ScriptTooLong of n lines none = absurd of
 
-loads-at : (lies left : ℕ → Point → Type 0) (fills : Written → ℕ → Type 0) (flies : Option Flight) (ends : Status) (start : Start) (trace : Trace) (story : List Event) (n done : ℕ) →
+loads-at : (lies : ℕ → Point → Type 0) (left : Option Numbers → ℕ → Point → Type 0) (fills : Written → ℕ → Type 0) (flies : Option Flight) (ends : Status) (start : Start) (trace : Trace) (story : List Event) (n done : ℕ) →
     LeavesAt lies left fills flies ends start trace story → AreLoadLines ends n (lines_of trace) → ((ends ≡ status.Memory → ⊥) → length (lines_of trace) ≡ done) →
     EndsLoading lies left fills flies start ends n done story
 loads-at lies left fills flies ends start trace story n done x lines count =
-    (record { trace = trace; tells = x.tells; lines = lines; count = count; leaves = x.leaves; flies = x.flies }, x.ends)
+    (record { trace = trace; tells = x.tells; lines = lines; count = count; leaves = x.leaves; flies = x.flies; unspent = x.fits.unspent }, x.ends)
 
 -- so many lines are as many
 
@@ -158,8 +159,8 @@ length-asked (x ∷ xs) zero h = refl
 length-asked (x ∷ xs) (suc i) h = let e = length-asked xs i (omega (arith, h)) in omega arith
 
 module _ {E : Type 0} (old_sees : E → Option Event → State → Type 0) (start : Start) (n i : ℕ) (old : E) (story : List Event) (loading : IsLoading old_sees start n i old story) where
-  module _ (lies left : ℕ → Point → Type 0) (fills : Written → ℕ → Type 0) (flies : Option Flight) (idle : (p : Point) → IsSoundPoint p → IsIdleAt old_sees old p → lies 0 p)
-      (flown : (p : Point) → IsSoundPoint p → IsIdleAt old_sees old p → flies ≡ None) (leaves : (room : ℕ) (p : Point) → lies room p → left room p) where
+  module _ (lies : ℕ → Point → Type 0) (left : Option Numbers → ℕ → Point → Type 0) (fills : Written → ℕ → Type 0) (flies : Option Flight) (idle : (p : Point) → IsSoundPoint p → IsIdleAt old_sees old p → lies 0 p)
+      (flown : (p : Point) → IsSoundPoint p → IsIdleAt old_sees old p → flies ≡ None) (leaves : (room : ℕ) (p : Point) → lies room p → left None room p) where
     -- memory ran out between lines
     pub short-loading : (done : ℕ) → EndsLoading lies left fills flies start status.Memory n done story
     short-loading done =
@@ -191,7 +192,7 @@ module _ {E : Type 0} (old_sees : E → Option Event → State → Type 0) (star
           by (inl more) = asked-here b.after more
           by (inr m) = absurd (some m.0)
 
-      pub ends-loading : (lies left : ℕ → Point → Type 0) (fills : Written → ℕ → Type 0) (flies : Option Flight) (s : Stop) → IsLaterStop s → EndsBehind lies left fills flies halt s start b.after mid told →
+      pub ends-loading : (lies : ℕ → Point → Type 0) (left : Option Numbers → ℕ → Point → Type 0) (fills : Written → ℕ → Type 0) (flies : Option Flight) (s : Stop) → IsLaterStop s → EndsBehind lies left fills flies halt s start b.after mid told →
           EndsLoading lies left fills flies start (status_of s) n (i + 1) told
       ends-loading lies left fills flies s later x =
           loads-at lies left fills flies (status_of s) start x.after told n (i + 1) x.ends (lines-behind s later n (lines_of x.after) (subst (λ ls. IsFrontOf ls (asked_by_load n)) (sym x.lines) (by b.asks)))
@@ -216,7 +217,7 @@ pub loading-begun : {E : Type 0} (sees : E → Option Event → State → Type 0
 loading-begun sees n start trace e story told unasked b =
     record { trace = b.after; serves = b.serves; lines = b.lines ∙ unasked ∙ sym (ap (map Tree) (take-none (load_lines n))) }
 
-pub not-begun : (lies left : ℕ → Point → Type 0) (fills : Written → ℕ → Type 0) (flies : Option Flight) (n : ℕ) (start : Start) (trace : Trace) (told : List Event) (e : Stop) → IsLaterStop e →
+pub not-begun : (lies : ℕ → Point → Type 0) (left : Option Numbers → ℕ → Point → Type 0) (fills : Written → ℕ → Type 0) (flies : Option Flight) (n : ℕ) (start : Start) (trace : Trace) (told : List Event) (e : Stop) → IsLaterStop e →
     lines_of trace ≡ [] → EndsOpening lies left fills flies e start trace told → EndsLoading lies left fills flies start (status_of e) n 0 told
 not-begun lies left fills flies n start trace told e later unasked x =
     let none = x.lines ∙ unasked in
@@ -234,4 +235,5 @@ unfound-loaded reason n story u empty start =
       count = λ some. ap length asked;
       leaves = unfound-leaves reason story u empty e (inl refl) start;
       flies = unfound-flies reason story u empty e (inl refl) start;
+      unspent = often-unspent start u.0;
     }

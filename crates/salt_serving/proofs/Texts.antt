@@ -23,7 +23,8 @@ use Rattle.salt_steps.specs.Serving.{Serves}
 use Rattle.salt_steps.specs.Standing.{IsSoundPoint}
 use Rattle.salt_storage.specs.Writing.{Written}
 use Rattle.std.proofs.Common.{ap, inl, inr, subst, sym, ◌∙◌}
-use Rattle.std.specs.Prelude.{Err, List, None, Ok, Option, Result, drop, false, length, refl, true, ℕ, ◌≡◌, ◌⊎◌}
+use Rattle.salt_storage.specs.declared.found.Numbers.{Numbers}
+use Rattle.std.specs.Prelude.{Err, List, None, Ok, Option, Result, Some, drop, false, length, refl, true, ℕ, ◌≡◌, ◌⊎◌}
 use Rattle.std.specs.Result.{IfErr, IsErrAnd}
 
 pub memory-status : (s : Stop) → status_of s ≡ status.Memory → s ≡ Memory
@@ -143,7 +144,7 @@ counts-written done (Err s) before held text P weak p w = by w.0
     by (inl is) = subst (λ d. P (outcome d)) is p
     by (inr w) = subst (λ x. P (status_of x)) (sym w.0) (short done w.1 p)
 
-module _ {E : Type 0} (sees : E → Option Event → State → Type 0) (lies left : ℕ → Point → Type 0) (fills : Written → ℕ → Type 0) (flies : Option Flight) (new : E)
+module _ {E : Type 0} (sees : E → Option Event → State → Type 0) (lies : ℕ → Point → Type 0) (left : Option Numbers → ℕ → Point → Type 0) (fills : Written → ℕ → Type 0) (flies : Option Flight) (new : E)
     (schema : List TableDef) (serving : (p : Point) → IsSoundPoint p → sees new None p.state → schema ≡ schema_of p.state.units.kept)
     (lying : (room : ℕ) (p : Point) → IsSoundPoint p → lies room p → schema ≡ schema_of p.state.units.kept) where
   -- the tables that the database knows are those defined at the end of its trace
@@ -180,10 +181,10 @@ module _ {E : Type 0} (sees : E → Option Event → State → Type 0) (lies lef
     }
 
     -- or behind one in which the run ends
-    pub end-unwritten : (s : Stop) → IsLaterStop s → (s ≡ Memory → ⊥) → EndsIn lies left fills flies s start trace text story told → GainsShort before (story_text schema events) held →
+    pub end-unwritten : ((numbers : Numbers) (room : ℕ) (p : Point) → left (Some numbers) room p → left None room p) → (s : Stop) → IsLaterStop s → (s ≡ Memory → ⊥) → EndsIn lies left fills flies s start trace text story told → GainsShort before (story_text schema events) held →
         EndsTelling lies left fills flies WriteFault start trace text story told before held
-    end-unwritten s later some x g = record {
-      ends = record { after = x.after; asks = by x.asks; ends = leaves-unwritten lies left fills flies start x.after told s later some x.ends; grows = x.grows };
+    end-unwritten forgets s later some x g = record {
+      ends = record { after = x.after; asks = by x.asks; ends = leaves-unwritten lies left fills flies forgets start x.after told s later some x.ends; grows = x.grows };
       written = subst (λ t. GainsShort before t held) (text-is x.after (tables-lying start x.after told (status_of s) x.ends (λ m. some (memory-status s m)))) g;
     }
       where

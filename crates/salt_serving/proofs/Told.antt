@@ -18,12 +18,14 @@ use Rattle.salt_steps.specs.Serving.{Serves}
 use Rattle.salt_steps.specs.Standing.{IsIdleAt, IsSoundPoint}
 use Rattle.salt_storage.specs.Writing.{Written}
 use Rattle.std.proofs.Common.{ap, inl, inr, subst, sym}
-use Rattle.std.specs.Prelude.{Err, List, None, Ok, Option, Result, drop, length, ℕ, ◌≡◌, ◌⊎◌}
+use Rattle.salt_storage.specs.declared.found.Numbers.{Numbers}
+use Rattle.std.specs.Prelude.{Err, List, None, Ok, Option, Result, Some, drop, length, ℕ, ◌≡◌, ◌⊎◌}
 use Rattle.std.specs.Result.{IfErr, OnOk}
 
-module _ {E : Type 0} (old_sees sees : E → Option Event → State → Type 0) (lies left : ℕ → Point → Type 0) (fills : Written → ℕ → Type 0) (flies : Option Flight) (old new : E)
+module _ {E : Type 0} (old_sees sees : E → Option Event → State → Type 0) (lies : ℕ → Point → Type 0) (left : Option Numbers → ℕ → Point → Type 0) (fills : Written → ℕ → Type 0) (flies : Option Flight) (old new : E)
     (idle : (p : Point) → IsSoundPoint p → IsIdleAt sees new p → lies 0 p) (flown : (p : Point) → IsSoundPoint p → IsIdleAt sees new p → flies ≡ None)
-    (leaves : (room : ℕ) (p : Point) → lies room p → left room p)
+    (leaves : (room : ℕ) (p : Point) → lies room p → left None room p)
+    (forgets : (numbers : Numbers) (room : ℕ) (p : Point) → left (Some numbers) room p → left None room p)
     (schema : List TableDef) (serving : (p : Point) → IsSoundPoint p → sees new None p.state → schema ≡ schema_of p.state.units.kept)
     (lying : (room : ℕ) (p : Point) → IsSoundPoint p → lies room p → schema ≡ schema_of p.state.units.kept)
     (text : Option (List ℕ)) (story told events : List Event) (before held : Option (List ℕ)) (are : events ≡ drop (length story) told) where
@@ -50,7 +52,7 @@ module _ {E : Type 0} (old_sees sees : E → Option Event → State → Type 0) 
       line-unwritten sees lies left fills flies new schema serving lying start trace text story told events before held are c
       (unwritten-leaves sees lies left fills flies new idle flown leaves start c.after told c.serves) g
   short (Err e) some ok err later g = λ start trace s.
-      end-unwritten sees lies left fills flies new schema serving lying start trace text story told events before held are e later (λ m. some (ap Err m)) (err start trace s) g
+      end-unwritten sees lies left fills flies new schema serving lying start trace text story told events before held are forgets e later (λ m. some (ap Err m)) (err start trace s) g
 
   pub told-err : (done r : Result (Unit {0}) Stop) → OnOk done Done → IfErr done Ends → IfErr done IsLaterStop → EndsWriting done (story_text schema events) before held r → IfErr r EndsTold
   told-err done (Ok x) ok err later w = tt

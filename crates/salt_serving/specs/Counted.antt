@@ -1,15 +1,15 @@
 -- Faults and stops, as they are counted over a run.
 use Rattle.salt_disk.specs.Disks.{Rose, View}
-use Rattle.salt_model.specs.declared.events.Event.TheVariants.{Down}
+use Rattle.salt_model.specs.declared.events.Event.TheVariants.{Armed, Down}
 use Rattle.salt_model.specs.declared.events.Event.{Event}
 use Rattle.salt_model.specs.declared.events.Why.TheVariants as why
 use Rattle.salt_serving.specs.Stopping.{answer_of}
 use Rattle.salt_serving.specs.declared.status.Status.TheVariants.{DeviceFull, DiskFault, Memory}
 use Rattle.salt_serving.specs.declared.status.Status.{Status}
-use Rattle.salt_steps.specs.Counting.{CountsFall, CountsStops, armed_in, stopped_in}
+use Rattle.salt_steps.specs.Counting.{CountsFall, CountsStops}
 use Rattle.salt_storage.specs.declared.halt.Halt.TheVariants as halt
 use Rattle.salt_storage.specs.declared.halt.Halt.{Halt}
-use Rattle.std.specs.Prelude.{List, None, [], ℕ, ◌+◌, ◌++◌, ◌∷◌, ◌≡◌, ◌≤◌}
+use Rattle.std.specs.Prelude.{List, None, Option, Some, [], ℕ, ◌++◌, ◌∷◌, ◌≡◌, ◌≤◌}
 
 -- up to an event the faults do not fall; before a fall by a fault they rise
 abbrev pub AreMet : Event → ℕ → ℕ → Type 0
@@ -26,12 +26,32 @@ abbrev pub AreFaultsOf : Status → ℕ → List Event → ℕ → Type 0
 AreFaultsOf DiskFault first story last = (n : ℕ) × AreFaults first story n × (n ≤ last) × Rose n last
 AreFaultsOf status first story last = AreFaults first story last
 
--- Unless memory ran out, the stops that are left and those that were told are those that were left at first and those that were armed; and
--- no more were told in any case.
+-- the stops that are armed behind an event, of these before it: behind those stand the ones that it arms; and of a stop the first has come,
+-- if there was one
+abbrev pub behind_first : List (ℕ × ℕ) → Option (List (ℕ × ℕ))
+behind_first [] = None
+behind_first (first ∷ stops) = Some stops
+
+abbrev pub armed_after : Event → List (ℕ × ℕ) → Option (List (ℕ × ℕ))
+armed_after (Armed pairs) stops = Some (stops ++ pairs)
+armed_after (Down why.Stopped) stops = behind_first stops
+armed_after e stops = Some stops
+
+-- behind a story; none where a stop comes that was not armed
+abbrev pub armed_behind : List Event → Option (List (ℕ × ℕ)) → Option (List (ℕ × ℕ))
+armed_behind story None = None
+armed_behind [] (Some stops) = Some stops
+armed_behind (e ∷ es) (Some stops) = armed_behind es (armed_after e stops)
+
+-- each stop was armed before it came; and unless memory ran out, these are armed at last
+pub record AreStopsOf (status : Status) (first : List (ℕ × ℕ)) (story : List Event) (last : List (ℕ × ℕ)) : Type 0 where
+  pub stops : List (ℕ × ℕ)
+  pub behind : armed_behind story (Some first) ≡ Some stops
+  pub are : (status ≡ Memory → ⊥) → last ≡ stops
+
 pub record CountsRun (old new : View) (status : Status) (story : List Event) : Type 0 where
   pub faults : AreFaultsOf status old.faults story new.faults
-  pub stops : (status ≡ Memory → ⊥) → old.stops_left + armed_in story ≡ stopped_in story + new.stops_left
-  pub most : stopped_in story ≤ old.stops_left + armed_in story
+  pub stops : AreStopsOf status old.armed story new.armed
 
 -- over the events by which a story has grown
 pub record CountsAdded (old new : View) (status : Status) (story told : List Event) : Type 0 where
@@ -42,7 +62,7 @@ pub record CountsAdded (old new : View) (status : Status) (story told : List Eve
 -- nothing is told, and nothing counted
 pub record CountsNothing (old new : View) (story told : List Event) : Type 0 where
   pub untold : told ≡ story
-  pub counts : CountsStops old new None 0 0
+  pub counts : CountsStops old new None [] 0
 
 -- over what follows where a line was broken off
 abbrev pub CountsResumed : Halt → (old new : View) → Status → (story told : List Event) → Type 0

@@ -3,6 +3,7 @@ use Rattle.salt_keeps.specs.Points.{Point}
 use Rattle.salt_keeps.specs.States.{State}
 use Rattle.salt_load.specs.Workload.{load_lines}
 use Rattle.salt_model.specs.Ends.{MayLeave}
+use Rattle.salt_model.specs.Everywhere.{Each}
 use Rattle.salt_model.specs.Played.{Tells}
 use Rattle.salt_model.specs.Trace.{Asked, Start, Trace, Tree, lines_of}
 use Rattle.salt_model.specs.declared.events.Event.{Event}
@@ -11,8 +12,10 @@ use Rattle.salt_serving.specs.Ending.{EndsFound}
 use Rattle.salt_serving.specs.Run.{IsFlightAt, IsFrontOf, leave_of}
 use Rattle.salt_serving.specs.declared.status.Status.{Status}
 use Rattle.salt_serving.specs.declared.status.Status.TheVariants.{DeviceFull, DiskFault, Done, Memory, NotSalt, NumbersSpent, OtherShape, ReadFault, ScriptTooLong, Usage, WriteFault}
+use Rattle.salt_stands.specs.Unspent.{OpensUnspent}
 use Rattle.salt_steps.specs.Serving.{Serves}
 use Rattle.salt_storage.specs.Writing.{Written}
+use Rattle.salt_storage.specs.declared.found.Numbers.{Numbers}
 use Rattle.std.specs.Prelude.{List, Option, length, map, take, ℕ, [], ◌≡◌}
 
 -- what the lines of the workload with so many calls ask
@@ -35,7 +38,7 @@ AreLoadLines ReadFault calls lines = ⊥
 AreLoadLines ScriptTooLong calls lines = ⊥
 
 -- The story is that of a trace which is played from this start, and whose lines are the workload's. Unless memory ran out, there are so
--- many of them.
+-- many of them. No opening goes on from spent numbers.
 pub record IsPlayedLoad (start : Start) (status : Status) (told : Option Flight) (calls done : ℕ) (story : List Event) : Type 0 where
   pub trace : Trace
   pub tells : Tells start trace story
@@ -43,9 +46,10 @@ pub record IsPlayedLoad (start : Start) (status : Status) (told : Option Flight)
   pub count : (status ≡ Memory → ⊥) → length (lines_of trace) ≡ done
   pub leaves : MayLeave (leave_of status) trace
   pub flies : IsFlightAt status trace told
+  pub unspent : Each OpensUnspent trace
 
 -- so ends the run of a workload from this start
-abbrev pub EndsLoading : (lies left : ℕ → Point → Type 0) → (Written → ℕ → Type 0) → Option Flight → Start → Status → (calls done : ℕ) → List Event → Type 0
+abbrev pub EndsLoading : (lies : ℕ → Point → Type 0) (left : Option Numbers → ℕ → Point → Type 0) → (Written → ℕ → Type 0) → Option Flight → Start → Status → (calls done : ℕ) → List Event → Type 0
 EndsLoading lies left fills flight start status calls done story =
     (run : IsPlayedLoad start status flight calls done story) × EndsFound lies left fills status run.trace
 

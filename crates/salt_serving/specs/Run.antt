@@ -5,6 +5,7 @@ use Rattle.salt_io.specs.Streams.{Gains, GainsShort, GainsSome, bytes_before}
 use Rattle.salt_model.specs.After.{kept}
 use Rattle.salt_model.specs.Ends.{AnyPlace, AtDevices, AtLineEnd, AtOutput, InAnOpening, Leave, MayLeave, NotBegun, flight_told}
 use Rattle.salt_model.specs.EventTexts.{story_text}
+use Rattle.salt_model.specs.Everywhere.{Each}
 use Rattle.salt_model.specs.Kept.{schema_of}
 use Rattle.salt_model.specs.Lines.{AskInOrder}
 use Rattle.salt_model.specs.Next.{flight}
@@ -15,6 +16,7 @@ use Rattle.salt_model.specs.declared.events.Event.{Event}
 use Rattle.salt_model.specs.declared.events.Flight.{Flight}
 use Rattle.salt_serving.specs.declared.status.Status.{Status}
 use Rattle.salt_serving.specs.declared.status.Status.TheVariants.{DeviceFull, DiskFault, Done, Memory, NotSalt, NumbersSpent, OtherShape, ReadFault, ScriptTooLong, Usage, WriteFault}
+use Rattle.salt_stands.specs.Unspent.{OpensUnspent}
 use Rattle.std.specs.Prelude.{List, None, Option, Some, [], length, take, ℕ, ⊤, ◌++◌, ◌<◌, ◌≡◌, ◌≤◌, ◌⊎◌}
 
 -- these come first
@@ -81,7 +83,8 @@ IsFlightAt (DeviceFull dev) trace told = told ≡ flight_told (flight trace)
 IsFlightAt (NumbersSpent boot decisions) trace told = told ≡ flight_told (flight trace)
 IsFlightAt status trace told = told ≡ None
 
--- The story is that of a trace which is played from this start, and whose lines are what the lines that were done of the script ask.
+-- The story is that of a trace which is played from this start, and whose lines are what the lines that were done of the script ask; and no
+-- opening goes on from spent numbers.
 pub record IsPlayedRun (start : Start) (status : Status) (told : Option Flight) (script left : Option (List ℕ)) (story : List Event) : Type 0 where
   pub trace : Trace
   pub texts : List (List ℕ)
@@ -90,6 +93,7 @@ pub record IsPlayedRun (start : Start) (status : Status) (told : Option Flight) 
   pub lines : AreLinesOf status script left texts
   pub leaves : MayLeave (leave_of status) trace
   pub flies : IsFlightAt status trace told
+  pub unspent : Each OpensUnspent trace
 
 -- the story before the last line
 abbrev pub story_before_line : Trace → List Event

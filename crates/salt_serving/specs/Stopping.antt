@@ -6,6 +6,7 @@ use Rattle.salt_serving.specs.declared.status.Status.TheVariants as status
 use Rattle.salt_serving.specs.declared.status.Status.{Status}
 use Rattle.salt_serving.specs.declared.stop.Stop.TheVariants.{DeviceFull, DiskFault, Memory, NotSalt, NumbersSpent, OtherShape, ReadFault, ScriptTooLong, WriteFault}
 use Rattle.salt_serving.specs.declared.stop.Stop.{Stop}
+use Rattle.salt_storage.specs.declared.found.Numbers.{Numbers}
 use Rattle.salt_storage.specs.declared.halt.Halt.TheVariants as halt
 use Rattle.salt_storage.specs.declared.halt.Halt.{Halt}
 use Rattle.salt_storage.specs.declared.open.OpenErr.TheVariants as opening
@@ -85,3 +86,8 @@ answer_of status.DiskFault = Some disk.Failed
 answer_of (status.DeviceFull dev) = Some (disk.Full dev)
 answer_of status.Memory = Some disk.Memory
 answer_of s = None
+
+-- the numbers that a status tells
+abbrev pub numbers_told : Status → Option Numbers
+numbers_told (status.NumbersSpent boot decisions) = Some (record { boot = boot; decisions = decisions })
+numbers_told s = None

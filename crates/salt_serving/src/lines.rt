@@ -1,7 +1,6 @@
 //! A line of a run: it is asked, the run is opened anew where it is broken off, and what is told is written.
 
 ghost use Rattle.salt_ast.specs.declared.lines.Line.{Line};
-ghost use Rattle.salt_disk.specs.Disks.{SameShape};
 ghost use Rattle.salt_io.specs.Streams.{Rose};
 ghost use Rattle.salt_model.specs.Trace.{Start, Trace};
 ghost use Rattle.salt_serving.specs.Counted.{CountsAdded, CountsResumed};
@@ -12,6 +11,7 @@ ghost use Rattle.salt_steps.specs.Opening.{halt_of};
 ghost use Rattle.salt_steps.specs.Reopening.{Reopens};
 ghost use Rattle.salt_steps.specs.Serving.{Halts, Serves};
 ghost use Rattle.salt_storage.specs.Answers.{disk_err};
+ghost use Rattle.salt_storage.specs.Staying.{StaysWithin};
 ghost use Rattle.salt_storage.specs.declared.halt.Halt.TheVariants.{Memory};
 ghost use Rattle.salt_values.specs.Placement.{GivesPlaceOf, TakesEachKey};
 ghost use Rattle.std.specs.Option.{option_copied};
@@ -45,10 +45,9 @@ fn ask_line<E: Openable, D: Disks, F: Fn(PlaceKind, &Key, u32) -> u32>(
     ensures ok { OnOk result ((start : Start) (trace : Trace) → Serves (E.sees (D.view disks.old)) start database.old story.old trace →
         Continues (E.sees (D.view disks.new)) start trace (option_copied text.entry) story.old database.new story.new) }
     ensures err { IfErr result (λ halt. (start : Start) (trace : Trace) → Serves (E.sees (D.view disks.old)) start database.old story.old trace →
-        BreaksIn (E.lies (D.view disks.new) database.new 0) (E.left (D.view disks.new) database.new 0) (E.fills (D.view disks.new) database.new) (E.flight database.new) halt start
+        BreaksIn (E.lies (D.view disks.new) database.new 0) (E.left (D.view disks.new) database.new None 0) (E.fills (D.view disks.new) database.new) (E.flight database.new) halt start
         trace (option_copied text.entry) story.old story.new) }
-    ensures asked { E.asked database.new ≡ E.asked database.old }
-    ensures shape { SameShape (D.view disks.old) (D.view disks.new) }
+    ensures within { StaysWithin (E.asked database.old) (E.asked database.new) (D.view disks.old) (D.view disks.new) }
     ensures counts { CountsMore (D.view disks.old) (D.view disks.new) (disk_err result) None story.old story.new }
 {
     // For the proof alone: what a line of the grammar asks is spelled.
@@ -78,14 +77,13 @@ fn recover<E: Openable, D: Disks, F: Fn(PlaceKind, &Key, u32) -> u32>(
 ) -> Result<(), Stop>
     requires callable { TakesEachKey (F.pre place.now.place) }
     requires answers { GivesPlaceOf (F.post place.now.place) }
-    requires halted { (start : Start) × (trace : Trace) × Halts (E.lies (D.view disks.old) database.old 0) (E.left (D.view disks.old) database.old 0) (E.fills (D.view disks.old) database.old) (E.flight database.old) (halt_of why) start story.old trace }
-    ensures ok { OnOk result ((start : Start) (trace : Trace) → Halts (E.lies (D.view disks.old) database.old 0) (E.left (D.view disks.old) database.old 0) (E.fills (D.view disks.old) database.old) (E.flight database.old) (halt_of why) start story.old trace →
+    requires halted { (start : Start) × (trace : Trace) × Halts (E.lies (D.view disks.old) database.old 0) (E.left (D.view disks.old) database.old None 0) (E.fills (D.view disks.old) database.old) (E.flight database.old) (halt_of why) start story.old trace }
+    ensures ok { OnOk result ((start : Start) (trace : Trace) → Halts (E.lies (D.view disks.old) database.old 0) (E.left (D.view disks.old) database.old None 0) (E.fills (D.view disks.old) database.old) (E.flight database.old) (halt_of why) start story.old trace →
         Reopens (E.sees (D.view disks.new)) start trace story.old database.new story.new) }
-    ensures err { IfErr result (λ stop. (start : Start) (trace : Trace) → Halts (E.lies (D.view disks.old) database.old 0) (E.left (D.view disks.old) database.old 0) (E.fills (D.view disks.old) database.old) (E.flight database.old) (halt_of why) start story.old trace →
+    ensures err { IfErr result (λ stop. (start : Start) (trace : Trace) → Halts (E.lies (D.view disks.old) database.old 0) (E.left (D.view disks.old) database.old None 0) (E.fills (D.view disks.old) database.old) (E.flight database.old) (halt_of why) start story.old trace →
         EndsBehind (E.lies (D.view disks.new) database.new) (E.left (D.view disks.new) database.new) (E.fills (D.view disks.new) database.new) (E.flight database.new) (halt_of why) stop start trace story.old story.new) }
     ensures later { IfErr result IsLaterStop }
-    ensures asked { E.asked database.new ≡ E.asked database.old }
-    ensures shape { SameShape (D.view disks.old) (D.view disks.new) }
+    ensures within { StaysWithin (E.asked database.old) (E.asked database.new) (D.view disks.old) (D.view disks.new) }
     ensures counts { CountsFall why (D.view disks.old) (D.view disks.new) (answer_of (outcome result)) story.old story.new }
 {
     match salt_steps::recover(database, disks, place, why, story) {
@@ -104,15 +102,14 @@ pub fn resume<E: Openable, D: Disks, F: Fn(PlaceKind, &Key, u32) -> u32>(
 ) -> Result<(), Stop>
     requires callable { TakesEachKey (F.pre place.now.place) }
     requires answers { GivesPlaceOf (F.post place.now.place) }
-    requires halted { (start : Start) × (trace : Trace) × Halts (E.lies (D.view disks.old) database.old 0) (E.left (D.view disks.old) database.old 0) (E.fills (D.view disks.old) database.old) (E.flight database.old) halt start story.old trace }
-    ensures ok { OnOk result ((start : Start) (trace : Trace) → Halts (E.lies (D.view disks.old) database.old 0) (E.left (D.view disks.old) database.old 0) (E.fills (D.view disks.old) database.old) (E.flight database.old) halt start story.old trace →
+    requires halted { (start : Start) × (trace : Trace) × Halts (E.lies (D.view disks.old) database.old 0) (E.left (D.view disks.old) database.old None 0) (E.fills (D.view disks.old) database.old) (E.flight database.old) halt start story.old trace }
+    ensures ok { OnOk result ((start : Start) (trace : Trace) → Halts (E.lies (D.view disks.old) database.old 0) (E.left (D.view disks.old) database.old None 0) (E.fills (D.view disks.old) database.old) (E.flight database.old) halt start story.old trace →
         Reopens (E.sees (D.view disks.new)) start trace story.old database.new story.new) }
-    ensures err { IfErr result (λ stop. (start : Start) (trace : Trace) → Halts (E.lies (D.view disks.old) database.old 0) (E.left (D.view disks.old) database.old 0) (E.fills (D.view disks.old) database.old) (E.flight database.old) halt start story.old trace →
+    ensures err { IfErr result (λ stop. (start : Start) (trace : Trace) → Halts (E.lies (D.view disks.old) database.old 0) (E.left (D.view disks.old) database.old None 0) (E.fills (D.view disks.old) database.old) (E.flight database.old) halt start story.old trace →
         EndsBehind (E.lies (D.view disks.new) database.new) (E.left (D.view disks.new) database.new) (E.fills (D.view disks.new) database.new) (E.flight database.new) halt stop start trace story.old story.new) }
     ensures later { IfErr result IsLaterStop }
     ensures memory { halt ≡ Memory → OnOk result ⊥ }
-    ensures asked { E.asked database.new ≡ E.asked database.old }
-    ensures shape { SameShape (D.view disks.old) (D.view disks.new) }
+    ensures within { StaysWithin (E.asked database.old) (E.asked database.new) (D.view disks.old) (D.view disks.new) }
     ensures counts { CountsResumed halt (D.view disks.old) (D.view disks.new) (outcome result) story.old story.new }
 {
     match halt {
@@ -142,8 +139,7 @@ fn do_line<E: Openable, D: Disks, F: Fn(PlaceKind, &Key, u32) -> u32>(
         EndsIn (E.lies (D.view disks.new) database.new) (E.left (D.view disks.new) database.new) (E.fills (D.view disks.new) database.new) (E.flight database.new) stop start trace
         (option_copied text.entry) story.old story.new) }
     ensures later { IfErr result IsLaterStop }
-    ensures asked { E.asked database.new ≡ E.asked database.old }
-    ensures shape { SameShape (D.view disks.old) (D.view disks.new) }
+    ensures within { StaysWithin (E.asked database.old) (E.asked database.new) (D.view disks.old) (D.view disks.new) }
     ensures counts { CountsAdded (D.view disks.old) (D.view disks.new) (outcome result) story.old story.new }
 {
     match ask_line(alloc, database, disks, place, text, story) {
@@ -175,8 +171,7 @@ pub fn tell_line<E: Openable, D: Disks, K: Sink, F: Fn(PlaceKind, &Key, u32) -> 
     ensures fault { result ≡ Err Stop.WriteFault → Rose (K.faults sink.old) (K.faults sink.new) }
     ensures no_fault { result ≢ Err Stop.WriteFault → K.faults sink.new ≡ K.faults sink.old }
     ensures later { K.faults sink.old ≤ K.faults sink.new }
-    ensures asked { E.asked database.new ≡ E.asked database.old }
-    ensures shape { SameShape (D.view disks.old) (D.view disks.new) }
+    ensures within { StaysWithin (E.asked database.old) (E.asked database.new) (D.view disks.old) (D.view disks.new) }
     ensures counts { CountsAdded (D.view disks.old) (D.view disks.new) (outcome result) story.old story.new }
 {
     let told = story.len();

@@ -1,7 +1,6 @@
 //! The run of a workload: its opening, and its lines.
 
 ghost use Rattle.salt_ast.specs.declared.lines.Line.{Line};
-ghost use Rattle.salt_disk.specs.Disks.{SameShape};
 ghost use Rattle.salt_load.specs.Workload.{load_lines};
 ghost use Rattle.salt_load.specs.declared.limits.TheConstants.{CALLS_MOST};
 ghost use Rattle.salt_model.specs.Trace.{Start, Trace};
@@ -9,6 +8,7 @@ ghost use Rattle.salt_serving.specs.Counted.{CountsAdded};
 ghost use Rattle.salt_serving.specs.Loading.{EndsLoading, IsLoading};
 ghost use Rattle.salt_serving.specs.Serving.{IsAskable, IsToBegin};
 ghost use Rattle.salt_serving.specs.Stopping.{IsLaterStop, outcome, status_of};
+ghost use Rattle.salt_storage.specs.Staying.{StaysWithin};
 ghost use Rattle.salt_values.specs.Placement.{GivesPlaceOf, TakesEachKey};
 ghost use Rattle.std.specs.Prelude.{IfErr, OnOk, Some, length, slice_get, ◌+◌, ◌<◌, ◌≡◌, ◌≤◌};
 
@@ -53,8 +53,7 @@ fn load_one<E: Openable, D: Disks, F: Fn(PlaceKind, &Key, u32) -> u32>(
         EndsLoading (E.lies (D.view disks.new) database.new) (E.left (D.view disks.new) database.new) (E.fills (D.view disks.new) database.new) (E.flight database.new) start
         (status_of stop) calls (i + 1) story.new) }
     ensures later { IfErr result IsLaterStop }
-    ensures asked { E.asked database.new ≡ E.asked database.old }
-    ensures shape { SameShape (D.view disks.old) (D.view disks.new) }
+    ensures within { StaysWithin (E.asked database.old) (E.asked database.new) (D.view disks.old) (D.view disks.new) }
     ensures counts { CountsAdded (D.view disks.old) (D.view disks.new) (outcome result) story.old story.new }
 {
     // For the proof alone: texts spell what the workload defines.
@@ -88,8 +87,7 @@ fn serve_load_line<E: Openable, D: Disks, F: Fn(PlaceKind, &Key, u32) -> u32>(
         EndsLoading (E.lies (D.view disks.new) database.new) (E.left (D.view disks.new) database.new) (E.fills (D.view disks.new) database.new) (E.flight database.new) start
         (status_of stop) calls (i + 1) story.new) }
     ensures later { IfErr result IsLaterStop }
-    ensures asked { E.asked database.new ≡ E.asked database.old }
-    ensures shape { SameShape (D.view disks.old) (D.view disks.new) }
+    ensures within { StaysWithin (E.asked database.old) (E.asked database.new) (D.view disks.old) (D.view disks.new) }
     ensures counts { CountsAdded (D.view disks.old) (D.view disks.new) (outcome result) story.old story.new }
 {
     database.stands(disks);
@@ -119,8 +117,7 @@ pub fn load<E: Openable, D: Disks, F: Fn(PlaceKind, &Key, u32) -> u32>(
         EndsLoading (E.lies (D.view disks.new) database.new) (E.left (D.view disks.new) database.new) (E.fills (D.view disks.new) database.new) (E.flight database.new) start
         (outcome result.done) calls result.lines story.new }
     ensures later { IfErr result.done IsLaterStop }
-    ensures asked { E.asked database.new ≡ E.asked database.old }
-    ensures shape { SameShape (D.view disks.old) (D.view disks.new) }
+    ensures within { StaysWithin (E.asked database.old) (E.asked database.new) (D.view disks.old) (D.view disks.new) }
     ensures counts { CountsAdded (D.view disks.old) (D.view disks.new) (outcome result.done) story.old story.new }
 {
     if let Err(stop) = start(database, disks, place, story) {

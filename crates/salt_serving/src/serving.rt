@@ -1,13 +1,13 @@
 //! The run of a script: its opening, and its lines.
 
 ghost use Rattle.salt_ast.specs.declared.lines.Line.{Line};
-ghost use Rattle.salt_disk.specs.Disks.{SameShape};
 ghost use Rattle.salt_io.specs.Streams.{IsAtEnd, Rose};
 ghost use Rattle.salt_model.specs.Trace.{Start, Trace};
 ghost use Rattle.salt_serving.specs.Counted.{CountsAdded};
 ghost use Rattle.salt_serving.specs.Ending.{EndsServing};
 ghost use Rattle.salt_serving.specs.Serving.{IsAfterLine, IsAskable, IsBegun, IsServing, IsToBegin, text_of};
 ghost use Rattle.salt_serving.specs.Stopping.{outcome, status_of};
+ghost use Rattle.salt_storage.specs.Staying.{StaysWithin};
 ghost use Rattle.salt_values.specs.Placement.{GivesPlaceOf, TakesEachKey};
 ghost use Rattle.salt_values.specs.declared.limits.TheConstants.{SCRIPT_MOST};
 ghost use Rattle.std.specs.Option.{option_copied};
@@ -68,15 +68,14 @@ impl Serving {
             EndsServing (E.lies (D.view disks.new) database.new) (E.left (D.view disks.new) database.new) (E.fills (D.view disks.new) database.new)
             (E.flight database.new) start (status_of stop) script (S.left source.new) before story.new (K.held sink.new)) }
         ensures nearer { result ≡ Ok true → self.old.lines.taken < self.new.lines.taken }
-        ensures within { self.new.lines.taken ≤ SCRIPT_MOST }
+        ensures most { self.new.lines.taken ≤ SCRIPT_MOST }
         ensures read_fault { result ≡ Err Stop.ReadFault → Rose (S.faults source.old) (S.faults source.new) }
         ensures write_fault { result ≡ Err Stop.WriteFault → Rose (K.faults sink.old) (K.faults sink.new) }
         ensures no_read_fault { result ≢ Err Stop.ReadFault → S.faults source.new ≡ S.faults source.old }
         ensures no_write_fault { result ≢ Err Stop.WriteFault → K.faults sink.new ≡ K.faults sink.old }
         ensures reads_later { S.faults source.old ≤ S.faults source.new }
         ensures writes_later { K.faults sink.old ≤ K.faults sink.new }
-        ensures asked { E.asked database.new ≡ E.asked database.old }
-        ensures shape { SameShape (D.view disks.old) (D.view disks.new) }
+        ensures within { StaysWithin (E.asked database.old) (E.asked database.new) (D.view disks.old) (D.view disks.new) }
         ensures counts { CountsAdded (D.view disks.old) (D.view disks.new) (outcome result) story.old story.new }
     {
         database.stands(disks);
@@ -111,8 +110,7 @@ fn begin<E: Openable, D: Disks, K: Sink, F: Fn(PlaceKind, &Key, u32) -> u32>(
     ensures write_fault { result ≡ Err Stop.WriteFault → Rose (K.faults sink.old) (K.faults sink.new) }
     ensures no_write_fault { result ≢ Err Stop.WriteFault → K.faults sink.new ≡ K.faults sink.old }
     ensures writes_later { K.faults sink.old ≤ K.faults sink.new }
-    ensures asked { E.asked database.new ≡ E.asked database.old }
-    ensures shape { SameShape (D.view disks.old) (D.view disks.new) }
+    ensures within { StaysWithin (E.asked database.old) (E.asked database.new) (D.view disks.old) (D.view disks.new) }
     ensures counts { CountsAdded (D.view disks.old) (D.view disks.new) (outcome result) story.old story.new }
 {
     let done = start(database, disks, place, story);
@@ -145,8 +143,7 @@ pub fn serve<E: Openable, D: Disks, S: Source, K: Sink, F: Fn(PlaceKind, &Key, u
     ensures no_write_fault { result ≢ Err Stop.WriteFault → K.faults sink.new ≡ K.faults sink.old }
     ensures reads_later { S.faults source.old ≤ S.faults source.new }
     ensures writes_later { K.faults sink.old ≤ K.faults sink.new }
-    ensures asked { E.asked database.new ≡ E.asked database.old }
-    ensures shape { SameShape (D.view disks.old) (D.view disks.new) }
+    ensures within { StaysWithin (E.asked database.old) (E.asked database.new) (D.view disks.old) (D.view disks.new) }
     ensures counts { CountsAdded (D.view disks.old) (D.view disks.new) (outcome result) story.old story.new }
 {
     begin(database, disks, place, sink, story)?;

@@ -1,6 +1,5 @@
 //! A run begins over what was found; or nothing was.
 
-ghost use Rattle.salt_disk.specs.Disks.{SameShape};
 ghost use Rattle.salt_io.specs.Streams.{Rose};
 ghost use Rattle.salt_model.specs.Trace.{Start, Trace};
 ghost use Rattle.salt_serving.specs.Ending.{EndsOpening, IsStatusOf};
@@ -11,6 +10,7 @@ ghost use Rattle.salt_steps.specs.Opening.{IsUnfound};
 ghost use Rattle.salt_steps.specs.Reopening.{Reopens};
 ghost use Rattle.salt_steps.specs.Serving.{IsDown};
 ghost use Rattle.salt_storage.specs.Answers.{IsLater};
+ghost use Rattle.salt_storage.specs.Staying.{StaysWithin};
 ghost use Rattle.salt_storage.specs.declared.halt.Halt.TheVariants.{Stopped};
 ghost use Rattle.salt_storage.specs.declared.open.OpenErr.TheVariants.{Halted};
 ghost use Rattle.salt_values.specs.Placement.{GivesPlaceOf, TakesEachKey};
@@ -43,8 +43,7 @@ pub fn start<E: Openable, D: Disks, F: Fn(PlaceKind, &Key, u32) -> u32>(
     ensures err { IfErr result (λ stop. (start : Start) (trace : Trace) → IsDown (E.lies (D.view disks.old) database.old) (E.flight database.old) start story.old trace →
         EndsOpening (E.lies (D.view disks.new) database.new) (E.left (D.view disks.new) database.new) (E.fills (D.view disks.new) database.new) (E.flight database.new) stop start trace story.new) }
     ensures later { IfErr result IsLaterStop }
-    ensures asked { E.asked database.new ≡ E.asked database.old }
-    ensures shape { SameShape (D.view disks.old) (D.view disks.new) }
+    ensures within { StaysWithin (E.asked database.old) (E.asked database.new) (D.view disks.old) (D.view disks.new) }
     ensures counts { CountsOpening (D.view disks.old) (D.view disks.new) (answer_of (outcome result)) story.old story.new }
 {
     match salt_steps::open(database, disks, place, story) {

@@ -87,6 +87,14 @@ sound-asked asked p q key s n =
 pub stop-at : (lies left : Point → Type 0) (fills : Written → ℕ → Type 0) (flight : Option Flight) (halt : Halt) (q : Point) (told : List Event) → HaltsAt lies left fills flight halt q → StopsWithin lies left fills flight halt q told told
 stop-at lies left fills flight halt q told h = record { moves = []; point = q; runs = refl; inside = tt; tells = sym (no-more told); halts = h }
 
+-- it broke off in the first event
+pub stop-first : (lies left : Point → Type 0) (fills : Written → ℕ → Type 0) (flight : Option Flight) (halt : Halt) (event : Event) (q : Point) (story told : List Event) → BreaksAt lies left fills flight halt q event story told →
+    StopsWithin lies left fills flight halt q story told
+stop-first lies left fills flight halt event q story told (inl short) =
+    subst (λ (es : List Event). StopsWithin lies left fills flight halt q story es) (sym short.0) (stop-at lies left fills flight halt q story short.1)
+stop-first lies left fills flight halt event q story told (inr said) =
+    let r = said.1 in record { moves = Say event ∷ []; point = r.0; runs = (r.0, r.1, refl); inside = (tt, tt); tells = said.0; halts = r.2 }
+
 module _ {E : Type 0} (sees : E → Option Event → State → Type 0) (line : Line) where
   pub advance-none : (p : Point) (story : List Event) (e : E) (next : Option Event) → IsAt sees line e next p → Advances sees line p story e next story
   advance-none p story e next at = record { moves = []; point = p; runs = refl; inside = tt; stands = at; tells = sym (no-more story) }

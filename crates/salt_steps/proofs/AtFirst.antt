@@ -2,6 +2,7 @@
 use Rattle.salt_keeps.specs.Laws.{IsSound}
 use Rattle.salt_keeps.specs.Points.{KeepsPoint, Point}
 use Rattle.salt_model.specs.Ends.{flight_told}
+use Rattle.salt_model.specs.Everywhere.{Each}
 use Rattle.salt_model.specs.Kept.{Kept, WellKept}
 use Rattle.salt_model.specs.Phases.{Fallen, downs, has_opened, phase}
 use Rattle.salt_model.specs.Trace.{Start, Trace, lines_of, start_of}
@@ -16,13 +17,13 @@ use Rattle.salt_steps.proofs.Falling.{fallen_point}
 use Rattle.salt_steps.specs.Opening.{FailsToFind, FindsFirst, IsOpenedFirst, IsUnfound, IsUnopened, fallen_often, starting}
 use Rattle.salt_steps.specs.Serving.{IsDown}
 use Rattle.salt_stands.specs.Stands.{are_spent}
+use Rattle.salt_stands.specs.Unspent.{OpensUnspent}
 use Rattle.salt_storage.specs.Storing.{IsFound, IsSoundKept}
 use Rattle.salt_storage.specs.declared.found.Found.{Found}
-use Rattle.salt_disk.specs.Disks.{AreUnchanged, View}
-use Rattle.salt_storage.specs.Answers.{IfRefused, IsLater}
+use Rattle.salt_disk.specs.Disks.{View}
+use Rattle.salt_storage.specs.Answers.{IsLater, IsRefusal}
 use Rattle.salt_storage.specs.Writing.{FindsNoMore, OfOpening, Written}
 use Rattle.salt_storage.specs.declared.halt.Halt.TheVariants.{DeviceFull, Memory}
-use Rattle.salt_storage.specs.declared.open.OpenErr.TheVariants as open_err
 use Rattle.salt_storage.specs.declared.open.OpenErr.TheVariants.{Halted}
 use Rattle.salt_storage.specs.declared.open.OpenErr.{OpenErr}
 use Rattle.salt_types.specs.Played.{HasKey}
@@ -44,6 +45,10 @@ often-asked start (suc times) = often-asked start times
 often-unopened : (start : Start) (times : ℕ) → has_opened (fallen_often start times) ≡ false
 often-unopened start zero = refl
 often-unopened start (suc times) = often-unopened start times
+
+often-unspent : (start : Start) (times : ℕ) → Each OpensUnspent (fallen_often start times)
+often-unspent start zero = tt
+often-unspent start (suc times) = (often-unspent start times, tt)
 
 -- it lies there as it fell first
 unfound-point : (start : Start) → WellKept start.kept → (times : ℕ) →
@@ -73,7 +78,7 @@ down-at-first k can_stop lies flies story u sound opens none =
       record {
         tells = record { begins = often-begins start times; told = u.1 start; played = x.2.played };
         fallen = often-down start times;
-        fits = record { well = sound.well; typed = sound.typed; keyed = subst (Every HasKey) (sym (often-asked start times)) tt };
+        fits = record { well = sound.well; typed = sound.typed; keyed = subst (Every HasKey) (sym (often-asked start times)) tt; unspent = often-unspent start times };
         point = x.0;
         keeps = x.1;
         room = 0;
@@ -123,19 +128,15 @@ pub later-by : (story : List Event) (tried : Type 0) (e : OpenErr) → (story �
 later-by story tried e (inl none) later = inl none
 later-by story tried e (inr t) later = inr (later t)
 
--- behind a stop nothing is refused
-pub later-unrefused : (e : OpenErr) (P : Type 0) → IsLater e → IfRefused e P
-later-unrefused (open_err.NotSalt dev) P l = absurd l
-later-unrefused (open_err.OtherShape kept asked) P l = absurd l
-later-unrefused (open_err.NumbersSpent boot decisions) P l = tt
-later-unrefused (open_err.Halted h) P l = tt
-
--- where what is there is refused, nothing was called before
-pub unchanged-by : {D : Type 0} (view : D → View) (first mid now : D) (tried : Type 0) (e : OpenErr) → (mid ≡ first) ⊎ tried → (tried → IsLater e) →
-    IfRefused e (IsTrue (view mid).told → AreUnchanged (view mid) (view now)) → IfRefused e (IsTrue (view first).told → AreUnchanged (view first) (view now))
-unchanged-by view first mid now tried e (inl same) later h =
-    subst (λ d. IfRefused e (IsTrue (view d).told → AreUnchanged (view d) (view now))) same h
-unchanged-by view first mid now tried e (inr t) later h = later-unrefused e _ (later t)
+-- where what is there is refused, this is the first call; none comes behind it
+pub at-first : {D S : Type 0} (view : D → View) (refuses : View → S → OpenErr → Type 0) (first now : D) (old new : S) (P : View → Type 0) →
+    ((now ≡ first) × (new ≡ old)) ⊎ ((refusal : OpenErr) → IsRefusal refusal → refuses (view first) old refusal → IsTrue (view first).told → ⊥) →
+    ((refusal : OpenErr) → IsRefusal refusal → refuses (view now) new refusal → IsTrue (view now).told → P (view now)) →
+    (refusal : OpenErr) → IsRefusal refusal → refuses (view first) old refusal → IsTrue (view first).told → P (view first)
+at-first {D} {S} view refuses first now old new P (inl same) h =
+    subst (λ (s : S). (refusal : OpenErr) → IsRefusal refusal → refuses (view first) s refusal → IsTrue (view first).told → P (view first)) same.1
+    (subst (λ (d : D). (refusal : OpenErr) → IsRefusal refusal → refuses (view d) new refusal → IsTrue (view d).told → P (view d)) same.0 h)
+at-first view refuses first now old new P (inr never) h = λ refusal is refused told. absurd (never refusal is refused told)
 
 -- what an opening gives
 pub finds-by : (finds holds : Kept → Type 0) (x : Found) → ((k : Kept) × holds k × IsFound x k × finds k) → ((k : Kept) → holds k → IsSoundKept k) → are_spent x.boot x.decisions ≡ false →

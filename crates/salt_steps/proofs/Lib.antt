@@ -5,3 +5,4 @@ pub mod Openings
 pub mod Draining
 pub mod Falling
 pub mod AtFirst
+pub mod Refusing

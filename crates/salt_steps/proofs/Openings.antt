@@ -20,14 +20,15 @@ use Rattle.salt_model.specs.declared.events.Event.{Event}
 use Rattle.salt_model.specs.declared.events.Flight.{Flight}
 use Rattle.salt_openings.proofs.Opening.{opens-point}
 use Rattle.salt_steps.proofs.Advancing.{append-both, inside-both, lines-on, runs-both, tells-both}
-use Rattle.salt_steps.proofs.Segments.{sound-at, sound-of}
+use Rattle.salt_steps.proofs.Segments.{sound-at, sound-of, unspent-on}
 use Rattle.salt_steps.specs.Draining.{BreaksWithin}
 use Rattle.salt_steps.specs.Opening.{HasOpened, MayFailAt}
 use Rattle.salt_steps.specs.Reopening.{BreaksOpening, EndsWithin, Reopens}
 use Rattle.salt_steps.specs.Serving.{IsDown, IsFitting}
 use Rattle.salt_steps.specs.Standing.{BreaksAt, HaltsAt, IsInside, IsSoundPoint, OpensOn}
-use Rattle.salt_storage.specs.Answers.{IsLater}
+use Rattle.salt_storage.specs.Answers.{IsLater, numbers_of}
 use Rattle.salt_storage.specs.Writing.{OfBoot, Written}
+use Rattle.salt_storage.specs.declared.found.Numbers.{Numbers}
 use Rattle.salt_storage.specs.declared.halt.Halt.TheVariants.{DeviceFull, Memory}
 use Rattle.salt_storage.specs.declared.halt.Halt.{Halt}
 use Rattle.salt_storage.specs.declared.open.OpenErr.TheVariants.{Halted, NotSalt, NumbersSpent, OtherShape}
@@ -115,11 +116,12 @@ module _ (lies : ℕ → Point → Type 0) (flies : Option Flight) (start : Star
   abbrev behind : HasOpened d.room d.point → List Move → Trace
   behind h ms = trace_on (trace says Opened h.boot h.number) ms
 
-  behind-fits : (h : HasOpened d.room d.point) (ms : List Move) → Every IsInside ms → IsFitting start (behind h ms)
-  behind-fits h ms inside = record {
+  behind-fits : (h : HasOpened d.room d.point) (ms : List Move) (q : Point) → Runs h.point ms q → Every IsInside ms → IsFitting start (behind h ms)
+  behind-fits h ms q runs inside = record {
     well = d.fits.well;
     typed = d.fits.typed;
     keyed = subst (Every HasKey) (sym (lines-on ms (trace says Opened h.boot h.number) inside)) d.fits.keyed;
+    unspent = unspent-on ms h.point q (trace says Opened h.boot h.number) runs (d.fits.unspent, h.unspent);
   }
 
   behind-keeps : (h : HasOpened d.room d.point) (ms : List Move) (q : Point) → Runs h.point ms q → KeepsPoint q (behind h ms) × IsSound (behind h ms)
@@ -151,7 +153,7 @@ module _ (lies : ℕ → Point → Type 0) (flies : Option Flight) (start : Star
         serves = record {
           tells = record { begins = start-on ms (trace says Opened h.boot h.number) ∙ d.tells.begins; told = behind-told h ms told on.tells; played = k.1.played };
           complete = idle-complete on.point (behind h ms) k.0 on.stands.idle;
-          fits = behind-fits h ms on.inside;
+          fits = behind-fits h ms on.point on.runs on.inside;
           point = on.point;
           keeps = k.0;
           stands = on.stands;
@@ -161,8 +163,8 @@ module _ (lies : ℕ → Point → Type 0) (flies : Option Flight) (start : Star
 
   -- it breaks off: before it was begun
 
-  pub opening-fails : (now left : ℕ → Point → Type 0) (fills : Written → ℕ → Type 0) (flight : Option Flight) (halt : Halt) (told : List Event) → told ≡ story → flight ≡ flies →
-      ((dev : ℕ) → halt ≡ DeviceFull dev → fills OfBoot dev) → ((halt ≡ Memory → ⊥) → now (d.room + 1) d.point) → left (d.room + 1) d.point →
+  pub opening-fails : (now : ℕ → Point → Type 0) (left : Option Numbers → ℕ → Point → Type 0) (fills : Written → ℕ → Type 0) (flight : Option Flight) (halt : Halt) (told : List Event) → told ≡ story → flight ≡ flies →
+      ((dev : ℕ) → halt ≡ DeviceFull dev → fills OfBoot dev) → ((halt ≡ Memory → ⊥) → now (d.room + 1) d.point) → left None (d.room + 1) d.point →
       BreaksOpening now left fills flight (Halted halt) start trace story told
   opening-fails now left fills flight halt told same keeps full again stays = record {
     after = trace;
@@ -187,8 +189,8 @@ module _ (lies : ℕ → Point → Type 0) (flies : Option Flight) (start : Star
 
   -- or at an event
 
-  breaks-here : (now left : ℕ → Point → Type 0) (fills : Written → ℕ → Type 0) (flight : Option Flight) (halt : Halt) (h : HasOpened d.room d.point) (ms : List Move) (q : Point) (told : List Event) →
-      Runs h.point ms q → Every IsInside ms → told ≡ (story ++ Opened h.boot h.number ∷ []) ++ told_by ms → HaltsAt (now 0) (left 0) fills flight halt q →
+  breaks-here : (now : ℕ → Point → Type 0) (left : Option Numbers → ℕ → Point → Type 0) (fills : Written → ℕ → Type 0) (flight : Option Flight) (halt : Halt) (h : HasOpened d.room d.point) (ms : List Move) (q : Point) (told : List Event) →
+      Runs h.point ms q → Every IsInside ms → told ≡ (story ++ Opened h.boot h.number ∷ []) ++ told_by ms → HaltsAt (now 0) (left None 0) fills flight halt q →
       (halt ≡ Memory) ⊎ EndsWithin (behind h ms) → BreaksOpening now left fills flight (Halted halt) start trace story told
   breaks-here now left fills flight halt h ms q told runs inside tells halts place =
       let k = behind-keeps h ms q runs in
@@ -196,7 +198,7 @@ module _ (lies : ℕ → Point → Type 0) (flies : Option Flight) (start : Star
         after = behind h ms;
         lines = lines-on ms (trace says Opened h.boot h.number) inside;
         tells = record { begins = start-on ms (trace says Opened h.boot h.number) ∙ d.tells.begins; told = behind-told h ms told tells; played = k.1.played };
-        fits = behind-fits h ms inside;
+        fits = behind-fits h ms q runs inside;
         point = q;
         keeps = k.0;
         grows = behind-grows h ms told tells;
@@ -211,8 +213,8 @@ module _ (lies : ℕ → Point → Type 0) (flies : Option Flight) (start : Star
       go t [] = refl
       go t (m ∷ ms) = go (moved t m) ms
 
-  pub opening-breaks : (now left : ℕ → Point → Type 0) (fills : Written → ℕ → Type 0) (flight : Option Flight) (halt : Halt) (h : HasOpened d.room d.point) (opened told : List Event) →
-      opened ≡ story ++ Opened h.boot h.number ∷ [] → BreaksWithin (now 0) (left 0) fills flight halt h.point opened told → BreaksOpening now left fills flight (Halted halt) start trace story told
+  pub opening-breaks : (now : ℕ → Point → Type 0) (left : Option Numbers → ℕ → Point → Type 0) (fills : Written → ℕ → Type 0) (flight : Option Flight) (halt : Halt) (h : HasOpened d.room d.point) (opened told : List Event) →
+      opened ≡ story ++ Opened h.boot h.number ∷ [] → BreaksWithin (now 0) (left None 0) fills flight halt h.point opened told → BreaksOpening now left fills flight (Halted halt) start trace story told
   opening-breaks now left fills flight halt h opened told same b = by b.breaks
     where
       tells : b.before ≡ (story ++ Opened h.boot h.number ∷ []) ++ told_by b.moves
@@ -229,7 +231,7 @@ module _ (lies : ℕ → Point → Type 0) (flies : Option Flight) (start : Star
         plain = m.1;
       })
 
-      by : BreaksAt (now 0) (left 0) fills flight halt b.point b.event b.before told → BreaksOpening now left fills flight (Halted halt) start trace story told
+      by : BreaksAt (now 0) (left None 0) fills flight halt b.point b.event b.before told → BreaksOpening now left fills flight (Halted halt) start trace story told
       by (inl short) =
           subst (λ es. BreaksOpening now left fills flight (Halted halt) start trace story es) (sym short.0)
           (breaks-here now left fills flight halt h b.moves b.point b.before b.runs b.inside tells short.1 (inl short.2))
@@ -272,10 +274,10 @@ fails-later room p (OtherShape kept asked) h = h
 fails-later room p (NumbersSpent boot decisions) h = tt
 fails-later room p (Halted halt) h = tt
 
-pub finding-fails : (lies now left : ℕ → Point → Type 0) (fills : Written → ℕ → Type 0) (flies known : Option Flight) (e : OpenErr) (start : Start) (story : List Event) (trace : Trace) →
+pub finding-fails : (lies now : ℕ → Point → Type 0) (left : Option Numbers → ℕ → Point → Type 0) (fills : Written → ℕ → Type 0) (flies known : Option Flight) (e : OpenErr) (start : Start) (story : List Event) (trace : Trace) →
     (d : IsDown lies flies start story trace) →
     ((e ≡ Halted Memory → ⊥) → (room : ℕ) (p : Point) → IsSoundPoint p → p.state.units.phase ≡ Fallen → lies room p → now room p) →
-    ((room : ℕ) (p : Point) → IsSoundPoint p → p.state.units.phase ≡ Fallen → lies room p → left room p) → known ≡ flies →
+    ((room : ℕ) (p : Point) → IsSoundPoint p → p.state.units.phase ≡ Fallen → lies room p → left (numbers_of e) room p) → known ≡ flies →
     ((room : ℕ) (p : Point) → IsSoundPoint p → p.state.units.phase ≡ Fallen → lies room p → MayFailAt room p e) →
     ((dev : ℕ) → e ≡ Halted (DeviceFull dev) → ⊥) → BreaksOpening now left fills known e start trace story story
 finding-fails lies now left fills flies known e start story trace d found stays same fails full =

@@ -4,6 +4,7 @@ use Rattle.salt_keeps.proofs.PointsGoOn.{idle-complete, no-more, runs-point, sta
 use Rattle.salt_keeps.specs.Laws.{IsSound, is_of_run}
 use Rattle.salt_keeps.specs.Points.{Ask, KeepsPoint, Move, Moves, Point, Runs, Say, Turn, told_by, trace_on}
 use Rattle.salt_keeps.specs.States.{State}
+use Rattle.salt_model.specs.Everywhere.{Each}
 use Rattle.salt_model.specs.Kept.{WellKept}
 use Rattle.salt_model.specs.Phases.{Serving, phase}
 use Rattle.salt_model.specs.Played.{IsPlayed}
@@ -12,6 +13,7 @@ use Rattle.salt_model.specs.Words.{Every}
 use Rattle.salt_model.specs.declared.events.Event.{Event}
 use Rattle.salt_model.specs.declared.events.Event.TheVariants.{Down, Opened, Ready}
 use Rattle.salt_model.specs.declared.events.Flight.{Flight}
+use Rattle.salt_stands.specs.Unspent.{OpensUnspent}
 use Rattle.salt_steps.proofs.Advancing.{every-last, lines-on, stop-at}
 use Rattle.salt_steps.specs.Serving.{Breaks, Goes, IsFitting, Serves}
 use Rattle.salt_steps.specs.Standing.{Finishes, HaltsAt, IsInside, IsSoundPoint, RunsShort, StopsWithin}
@@ -58,12 +60,25 @@ sound-at start trace p begins played f k = record {
   keyed = f.keyed;
 }
 
-fits-on : (start : Start) (trace : Trace) (asked : Asked) (ms : List Move) → Every IsInside ms → HasKey asked → IsFitting start trace →
+-- nor does it open the run
+
+unspent-says : (e : Event) (trace : Trace) → is_of_run e ≡ false → OpensUnspent trace e
+unspent-says (Opened boot n) trace r = cc
+unspent-says e trace r = tt
+
+pub unspent-on : (ms : List Move) (p q : Point) (trace : Trace) → Runs p ms q → Each OpensUnspent trace → Each OpensUnspent (trace_on trace ms)
+unspent-on [] p q trace r h = h
+unspent-on (Ask asked ∷ ms) p q trace r h = unspent-on ms r.0 q (trace asks asked) r.2 h
+unspent-on (Turn b ∷ ms) p q trace r h = unspent-on ms r.0 q (trace turns b) r.2 h
+unspent-on (Say e ∷ ms) p q trace r h = unspent-on ms r.0 q (trace says e) r.2 (h, unspent-says e trace r.1.1)
+
+fits-on : (start : Start) (trace : Trace) (asked : Asked) (ms : List Move) (p q : Point) → Runs p ms q → Every IsInside ms → HasKey asked → IsFitting start trace →
     IsFitting start (trace_on (trace asks asked) ms)
-fits-on start trace asked ms inside key f = record {
+fits-on start trace asked ms p q runs inside key f = record {
   well = f.well;
   typed = f.typed;
   keyed = subst (Every HasKey) (sym (lines-on ms (trace asks asked) inside)) (every-last asked (lines_of trace) f.keyed key);
+  unspent = unspent-on ms p q (trace asks asked) runs f.unspent;
 }
 
 module _ {E : Type 0} (old_sees new_sees : E → Option Event → State → Type 0) (start : Start) where
@@ -84,7 +99,7 @@ module _ {E : Type 0} (old_sees new_sees : E → Option Event → State → Type
         serves = record {
           tells = record { begins = start-on ms trace ∙ s.tells.begins; told = story-on ms trace ∙ ap (λ es. es ++ told_by a.moves) s.tells.told ∙ sym a.tells; played = k.1.played };
           complete = idle-complete a.point (trace_on trace ms) k.0 f.idle;
-          fits = fits-on start trace asked a.moves a.inside key s.fits;
+          fits = fits-on start trace asked a.moves q a.point a.runs a.inside key s.fits;
           point = a.point;
           keeps = k.0;
           stands = record { state = a.stands.state; idle = f.idle };
@@ -105,7 +120,7 @@ module _ {E : Type 0} (old_sees new_sees : E → Option Event → State → Type
         before = inl (before-on a.moves q a.point (trace asks asked) a.runs a.inside ∙ s.tells.told);
         halts = record {
           tells = record { begins = start-on ms trace ∙ s.tells.begins; told = story-on ms trace ∙ ap (λ es. es ++ told_by a.moves) s.tells.told ∙ sym a.tells; played = k.1.played };
-          fits = fits-on start trace asked a.moves a.inside key s.fits;
+          fits = fits-on start trace asked a.moves q a.point a.runs a.inside key s.fits;
           point = a.point;
           keeps = k.0;
           serving = serving-on a.moves q a.point (trace asks asked) a.runs a.inside (s.keeps.state.units.phase ∙ s.stands.idle.serves);

@@ -1,17 +1,17 @@
 -- Stops that are armed and used up, and faults, as they are counted.
-use Rattle.salt_disk.specs.Disks.{Rose, SameShape, View, stops_in}
+use Rattle.salt_disk.specs.Disks.{HaveCome, Rose, View, stops_in, stops_left}
 use Rattle.salt_disk.specs.declared.disks.DiskErr.TheVariants.{Failed, Memory}
 use Rattle.salt_disk.specs.declared.disks.DiskErr.{DiskErr}
 use Rattle.salt_model.specs.declared.events.Event.TheVariants.{Armed, Down}
 use Rattle.salt_model.specs.declared.events.Event.{Event}
 use Rattle.salt_model.specs.declared.events.Why.TheVariants.{Fault, Stopped}
 use Rattle.salt_model.specs.declared.events.Why.{Why}
-use Rattle.std.specs.Prelude.{Err, List, None, Ok, Option, Result, Some, [], length, ℕ, ◌+◌, ◌++◌, ◌∷◌, ◌≡◌, ◌≤◌, ◌⊎◌}
+use Rattle.std.specs.Prelude.{Err, List, None, Ok, Option, Result, Some, [], ℕ, ◌+◌, ◌++◌, ◌∷◌, ◌≡◌, ◌≤◌, ◌⊎◌}
 
--- the stops that an event arms, and those that have come where it stands
-abbrev pub stops_armed : Event → ℕ
-stops_armed (Armed pairs) = length pairs
-stops_armed e = 0
+-- the stops that an event arms, and how many have come where it stands
+abbrev pub stops_armed : Event → List (ℕ × ℕ)
+stops_armed (Armed pairs) = pairs
+stops_armed e = []
 
 abbrev pub stops_of : Why → ℕ
 stops_of Stopped = 1
@@ -21,9 +21,9 @@ abbrev pub stops_told : Event → ℕ
 stops_told (Down why) = stops_of why
 stops_told e = 0
 
-abbrev pub armed_in : List Event → ℕ
-armed_in [] = 0
-armed_in (e ∷ es) = stops_armed e + armed_in es
+abbrev pub armed_in : List Event → List (ℕ × ℕ)
+armed_in [] = []
+armed_in (e ∷ es) = stops_armed e ++ armed_in es
 
 abbrev pub stopped_in : List Event → ℕ
 stopped_in [] = 0
@@ -43,48 +43,54 @@ faulted_in [] = 0
 faulted_in (e ∷ es) = faults_told e + faulted_in es
 
 -- those that the event at hand has armed
-abbrev pub armed_at : Option Event → ℕ
-armed_at None = 0
+abbrev pub armed_at : Option Event → List (ℕ × ℕ)
+armed_at None = []
 armed_at (Some e) = stops_armed e
 
--- `Failed` comes only where the disks have failed. Unless memory ran out, the stops that are left and those that have come are those that
--- were left and those that were armed.
-pub record CountsStops (old new : View) (answer : Option DiskErr) (armed told : ℕ) : Type 0 where
+-- `Failed` comes only where the disks have failed.
+pub record CountsFaults (old new : View) (answer : Option DiskErr) : Type 0 where
   pub later : old.faults ≤ new.faults
   pub failed : answer ≡ Some Failed → Rose old.faults new.faults
-  pub stops : (answer ≡ Some Memory → ⊥) → old.stops_left + armed ≡ (stops_in answer + told) + new.stops_left
+
+-- Unless memory ran out: behind those that were armed already stand these, and of them all the first have come, as many as are told, and
+-- one more where a stop is the answer.
+pub record CountsStops (old new : View) (answer : Option DiskErr) (armed : List (ℕ × ℕ)) (told : ℕ) : Type 0 where
+  pub faults : CountsFaults old new answer
+  pub stops : (answer ≡ Some Memory → ⊥) → HaveCome (stops_in answer + told) (old.armed ++ armed) new.armed
 
 -- those that are armed in the event that a call gives
-abbrev pub armed_by : {H : Type 0} → Result (Option Event) H → ℕ
+abbrev pub armed_by : {H : Type 0} → Result (Option Event) H → List (ℕ × ℕ)
 armed_by (Ok next) = armed_at next
-armed_by (Err e) = 0
+armed_by (Err e) = []
 
--- so it is for the events by which a story has grown, of which the first was at hand before; and none is a fall
+-- So it is for the events by which a story has grown, of which the first was at hand before: what that has armed stands last already. And
+-- none is a fall.
 pub record CountsMore (old new : View) (answer : Option DiskErr) (first : Option Event) (story told : List Event) : Type 0 where
   pub more : List Event
   pub grows : told ≡ story ++ more
   pub unfaulted : faulted_in more ≡ 0
   pub unstopped : stopped_in more ≡ 0
-  pub counts : CountsStops old new answer (armed_in more) (stopped_in more + armed_at first)
+  pub faults : CountsFaults old new answer
+  pub stops : (answer ≡ Some Memory → ⊥) → (before : List (ℕ × ℕ)) → old.armed ≡ before ++ armed_at first → HaveCome (stops_in answer) (before ++ armed_in more) new.armed
 
 -- up to an event that is at hand
 pub record CountsSoFar (old new : View) (first : Option Event) (story told : List Event) (next : Option Event) : Type 0 where
-  pub shape : SameShape old new
   pub more : List Event
   pub grows : told ≡ story ++ more
   pub unfaulted : faulted_in more ≡ 0
   pub unstopped : stopped_in more ≡ 0
-  pub counts : CountsStops old new None (armed_in more + armed_at next) (stopped_in more + armed_at first)
+  pub faults : CountsFaults old new None
+  pub stops : (before : List (ℕ × ℕ)) → old.armed ≡ before ++ armed_at first → new.armed ≡ before ++ armed_in more ++ armed_at next
 
 -- The events of openings and falls arm no stops, and none is a fall by a fault. Also where memory ran out, no more stops are told than
 -- were left.
 pub record CountsOpening (old new : View) (answer : Option DiskErr) (story told : List Event) : Type 0 where
   pub more : List Event
   pub grows : told ≡ story ++ more
-  pub unarmed : armed_in more ≡ 0
+  pub unarmed : armed_in more ≡ []
   pub unfaulted : faulted_in more ≡ 0
-  pub most : stopped_in more ≤ old.stops_left
-  pub counts : CountsStops old new answer 0 (stopped_in more)
+  pub most : stopped_in more ≤ stops_left old
+  pub counts : CountsStops old new answer [] (stopped_in more)
 
 -- these come behind a fall, and none of them is one by a fault
 pub record FallsFirst (why : Why) (more : List Event) : Type 0 where
@@ -96,7 +102,8 @@ pub record FallsFirst (why : Why) (more : List Event) : Type 0 where
 pub record CountsFall (why : Why) (old new : View) (answer : Option DiskErr) (story told : List Event) : Type 0 where
   pub more : List Event
   pub grows : told ≡ story ++ more
-  pub unarmed : armed_in more ≡ 0
-  pub falls : (more ≡ []) ⊎ FallsFirst why more
-  pub most : stopped_in more ≤ stops_of why + old.stops_left
-  pub counts : CountsStops old new answer (stops_of why) (stopped_in more)
+  pub unarmed : armed_in more ≡ []
+  pub falls : ((more ≡ []) × (answer ≡ Some Memory)) ⊎ FallsFirst why more
+  pub most : stopped_in more ≤ stops_of why + stops_left old
+  pub faults : CountsFaults old new answer
+  pub stops : (answer ≡ Some Memory → ⊥) → (came : ℕ) → stopped_in more ≡ stops_of why + came → HaveCome (stops_in answer + came) old.armed new.armed

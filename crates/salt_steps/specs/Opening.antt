@@ -20,7 +20,7 @@ use Rattle.salt_storage.specs.declared.halt.Halt.TheVariants.{DeviceFull, DiskFa
 use Rattle.salt_storage.specs.declared.halt.Halt.{Halt}
 use Rattle.salt_storage.specs.declared.open.OpenErr.TheVariants.{Halted, NotSalt, NumbersSpent, OtherShape}
 use Rattle.salt_storage.specs.declared.open.OpenErr.{OpenErr}
-use Rattle.std.specs.Prelude.{Bool, IsSome, List, None, Option, Some, false, suc, true, zero, ℕ, [], ⊤, ◌++◌, ◌+◌, ◌<◌, ◌∷◌, ◌≡◌, ◌≤◌, ◌⊎◌}
+use Rattle.std.specs.Prelude.{Bool, IsSome, List, None, Option, Some, false, suc, true, zero, ℕ, [], ⊤, ◌++◌, ◌+◌, ◌-◌, ◌<◌, ◌∷◌, ◌≡◌, ◌≤◌, ◌⊎◌}
 
 -- the point of a run that has begun, but was not opened
 abbrev pub starting : Start → Point
@@ -32,8 +32,8 @@ pub record IsFallenFrom (p q : Point) : Type 0 where
   pub after : After (Down why) p.state q.state
   pub flight : q.flight ≡ p.flight
 
--- A run that fell at this point is opened: the boot is above the last one, but not by more than the openings that failed; and the
--- decision number is the last one, or that of the flight.
+-- A run that fell at this point is opened: the boot is above the last one, but not by more than the openings that failed; the decision
+-- number is the last one, or that of the flight; and the numbers that it goes on from are not spent.
 pub record HasOpened (room : ℕ) (p : Point) : Type 0 where
   pub boot : ℕ
   pub number : ℕ
@@ -42,6 +42,7 @@ pub record HasOpened (room : ℕ) (p : Point) : Type 0 where
   pub above : p.state.units.kept.boot < boot
   pub most : boot ≤ p.state.units.kept.boot + (room + 1)
   pub stands_for : (number ≡ p.state.units.kept.decisions) ⊎ (IsSome p.flight × (number ≡ p.state.units.kept.decisions + 1))
+  pub unspent : are_spent (boot - 1) number ≡ false
 
 -- by an engine, which tells it
 pub record OpensAt {E : Type 0} (sees : E → Option Event → State → Type 0) (room : ℕ) (p : Point) (story : List Event) (e : E)

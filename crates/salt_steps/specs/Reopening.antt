@@ -11,13 +11,14 @@ use Rattle.salt_model.specs.declared.events.Flight.{Flight}
 use Rattle.salt_steps.specs.Opening.{MayFailAt}
 use Rattle.salt_steps.specs.Serving.{Grows, IsDown, IsFitting, Serves}
 use Rattle.salt_steps.specs.Standing.{HaltsAt}
-use Rattle.salt_storage.specs.Answers.{IsLater}
+use Rattle.salt_storage.specs.Answers.{IsLater, numbers_of}
 use Rattle.salt_storage.specs.Writing.{OfBoot, Written}
 use Rattle.salt_storage.specs.declared.halt.Halt.TheVariants.{DeviceFull, Memory}
 use Rattle.salt_storage.specs.declared.halt.Halt.{Halt}
 use Rattle.salt_storage.specs.declared.open.OpenErr.TheVariants.{Halted}
 use Rattle.salt_storage.specs.declared.open.OpenErr.{OpenErr}
-use Rattle.std.specs.Prelude.{Bool, List, Option, false, if◌then◌else◌, true, ℕ, ◌+◌, ◌≡◌, ◌≤◌, ◌⊎◌}
+use Rattle.salt_storage.specs.declared.found.Numbers.{Numbers}
+use Rattle.std.specs.Prelude.{Bool, List, None, Option, false, if◌then◌else◌, true, ℕ, ◌+◌, ◌≡◌, ◌≤◌, ◌⊎◌}
 
 -- the trace goes on to the end of an opening
 pub record Reopens {E : Type 0} (sees : E → Option Event → State → Type 0) (start : Start) (trace : Trace) (story : List Event) (e : E)
@@ -29,14 +30,14 @@ pub record Reopens {E : Type 0} (sees : E → Option Event → State → Type 0)
 
 -- An opening was not begun: what is left of the devices stands here, where they may have one boot more; and unless memory ran out the
 -- engine can be opened. It failed by spent numbers, or halted. Where a device was full, the next boot was to be written there.
-pub record NotBegun (lies left : ℕ → Point → Type 0) (fills : Written → ℕ → Type 0) (flight : Option Flight) (e : OpenErr) (trace : Trace) (p : Point) : Type 0 where
+pub record NotBegun (lies : ℕ → Point → Type 0) (left : Option Numbers → ℕ → Point → Type 0) (fills : Written → ℕ → Type 0) (flight : Option Flight) (e : OpenErr) (trace : Trace) (p : Point) : Type 0 where
   pub fallen : phase trace ≡ Fallen
   pub room : ℕ
   pub boots : room ≤ downs trace + (if has_opened trace then 0 else 1)
   pub fails : MayFailAt room p e
   pub full : (dev : ℕ) → e ≡ Halted (DeviceFull dev) → fills OfBoot dev
   pub again : (e ≡ Halted Memory → ⊥) → lies room p
-  pub stays : left room p
+  pub stays : left (numbers_of e) room p
   pub flies : flight ≡ flight_told p.flight
 
 -- the trace ends within an opening, behind an event of that
@@ -48,14 +49,14 @@ pub record EndsWithin (trace : Trace) : Type 0 where
   pub plain : is_of_run event ≡ false
 
 -- or it was broken off within it
-pub record WithinOpening (lies left : ℕ → Point → Type 0) (fills : Written → ℕ → Type 0) (flight : Option Flight) (e : OpenErr) (trace : Trace) (p : Point) : Type 0 where
+pub record WithinOpening (lies : ℕ → Point → Type 0) (left : Option Numbers → ℕ → Point → Type 0) (fills : Written → ℕ → Type 0) (flight : Option Flight) (e : OpenErr) (trace : Trace) (p : Point) : Type 0 where
   pub halt : Halt
   pub halted : e ≡ Halted halt
-  pub halts : HaltsAt (lies 0) (left 0) fills flight halt p
+  pub halts : HaltsAt (lies 0) (left None 0) fills flight halt p
   pub place : (halt ≡ Memory) ⊎ EndsWithin trace
 
 -- an opening ends early: the trace has gone on by a front of it
-pub record BreaksOpening (lies left : ℕ → Point → Type 0) (fills : Written → ℕ → Type 0) (flight : Option Flight) (e : OpenErr) (start : Start)
+pub record BreaksOpening (lies : ℕ → Point → Type 0) (left : Option Numbers → ℕ → Point → Type 0) (fills : Written → ℕ → Type 0) (flight : Option Flight) (e : OpenErr) (start : Start)
     (trace : Trace) (story told : List Event) : Type 0 where
   pub after : Trace
   pub lines : lines_of after ≡ lines_of trace

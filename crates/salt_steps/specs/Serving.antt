@@ -2,6 +2,7 @@
 use Rattle.salt_keeps.specs.Points.{KeepsPoint, Point}
 use Rattle.salt_keeps.specs.States.{State}
 use Rattle.salt_model.specs.Ends.{flight_told}
+use Rattle.salt_model.specs.Everywhere.{Each}
 use Rattle.salt_model.specs.Kept.{WellKept}
 use Rattle.salt_model.specs.Phases.{Fallen, Serving, downs, has_opened, phase}
 use Rattle.salt_model.specs.Played.{Tells}
@@ -10,6 +11,7 @@ use Rattle.salt_model.specs.Trace.{Asked, Start, Trace, lines_of, story_before}
 use Rattle.salt_model.specs.Words.{Every}
 use Rattle.salt_model.specs.declared.events.Event.{Event}
 use Rattle.salt_model.specs.declared.events.Flight.{Flight}
+use Rattle.salt_stands.specs.Unspent.{OpensUnspent}
 use Rattle.salt_steps.specs.Standing.{HaltsAt, IsIdleAt}
 use Rattle.salt_storage.specs.Writing.{Written}
 use Rattle.salt_storage.specs.declared.halt.Halt.TheVariants.{Memory}
@@ -18,11 +20,13 @@ use Rattle.salt_types.specs.Played.{HasKey}
 use Rattle.salt_types.specs.Typed.{IsTyped}
 use Rattle.std.specs.Prelude.{List, Option, [], if◌then◌else◌, ℕ, ◌+◌, ◌++◌, ◌∷◌, ◌≡◌, ◌≤◌, ◌⊎◌}
 
--- a start that may be kept and fits its definitions, and lines whose tables have keys: so the laws hold of what is played of them
+-- a start that may be kept and fits its definitions, and lines whose tables have keys: so the laws hold of what is played of them; and no
+-- opening goes on from spent numbers
 pub record IsFitting (start : Start) (trace : Trace) : Type 0 where
   pub well : WellKept start.kept
   pub typed : IsTyped start.kept
   pub keyed : Every HasKey (lines_of trace)
+  pub unspent : Each OpensUnspent trace
 
 -- the engine and the story are those of a trace that is played from this start and complete
 pub record Serves {E : Type 0} (sees : E → Option Event → State → Type 0) (start : Start) (e : E) (story : List Event) (trace : Trace) : Type 0 where

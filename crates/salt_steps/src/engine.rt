@@ -2,21 +2,25 @@
 
 ghost use Rattle.salt_ast.specs.declared.lines.Line.TheVariants.{Nothing};
 ghost use Rattle.salt_ast.specs.declared.lines.Line.{Line};
-ghost use Rattle.salt_disk.specs.Disks.{SameShape, View};
+ghost use Rattle.salt_disk.specs.Disks.{View};
 ghost use Rattle.salt_keeps.specs.Nexts.{next_turn_of};
 ghost use Rattle.salt_keeps.specs.Points.{Ask, Moves, Point, Say, Turn};
 ghost use Rattle.salt_keeps.specs.States.{State};
 ghost use Rattle.salt_model.specs.Trace.{Rejected, Tree};
+ghost use Rattle.salt_model.specs.declared.events.Event.TheVariants.{Refused};
 ghost use Rattle.salt_model.specs.declared.events.Event.{Event};
 ghost use Rattle.salt_model.specs.declared.events.Flight.{Flight};
+ghost use Rattle.salt_model.specs.declared.events.Refusal.{Refusal};
 ghost use Rattle.salt_steps.specs.Counting.{CountsStops, armed_by};
 ghost use Rattle.salt_steps.specs.Standing.{BreaksAt, HaltsAt, IsAt, IsIdleAt, IsSoundPoint, RunsShort, left_to_come};
 ghost use Rattle.salt_storage.specs.Answers.{disk_err};
+ghost use Rattle.salt_storage.specs.Staying.{StaysWithin};
 ghost use Rattle.salt_storage.specs.Writing.{Written};
+ghost use Rattle.salt_storage.specs.declared.found.Numbers.{Numbers};
 ghost use Rattle.salt_values.specs.Placement.{GivesPlaceOf, TakesEachKey};
 ghost use Rattle.salt_values.specs.declared.id.Id.{Id};
 ghost use Rattle.salt_values.specs.declared.placement.Shape.{Shape};
-ghost use Rattle.std.specs.Prelude.{IfErr, IfOk, List, None, OnOk, Option, Some, length, ℕ, [], ◌++◌, ◌+◌, ◌<◌, ◌∷◌, ◌≡◌, ◌⊎◌};
+ghost use Rattle.std.specs.Prelude.{IfErr, IfOk, List, None, Ok, OnOk, Option, Some, length, ℕ, [], ◌++◌, ◌+◌, ◌<◌, ◌∷◌, ◌≡◌, ◌⊎◌};
 
 use salt_ast::Line;
 use salt_disk::Disks;
@@ -35,9 +39,9 @@ pub trait Stepping {
     /// by so many boots.
     ghost lies: { View → Self → ℕ → Point → Type 0 };
 
-    /// Whatever a stop leaves of its devices stands for what is kept at this point, or for that with the flight; with so many boots
-    /// more.
-    ghost left: { View → Self → ℕ → Point → Type 0 };
+    /// Whatever a stop leaves of its devices stands for what is kept at this point, or, where a flight is told, for that with the
+    /// flight; with so many boots more. Where numbers are told, it is one of these alone, and they are its own.
+    ghost left: { View → Self → Option Numbers → ℕ → Point → Type 0 };
 
     /// What was in flight where it was broken off.
     ghost flight: { Self → Option Flight };
@@ -70,11 +74,11 @@ pub trait Stepping {
         requires stands { (p : Point) × IsSoundPoint p × IsIdleAt (sees (D.view disks.old)) self.old p }
         ensures moves { IfOk result (λ next. (p : Point) → IsSoundPoint p → IsIdleAt (sees (D.view disks.old)) self.old p →
             (q : Point) × Moves (Ask (Tree line.now)) p q × IsAt (sees (D.view disks.new)) line.now self.new next q) }
+        ensures refused { (refusal : Refusal) → result ≡ Ok (Some (Refused refusal)) → disks.new ≡ disks.old }
         ensures halts { IfErr result (λ halt. (p : Point) → IsSoundPoint p → IsIdleAt (sees (D.view disks.old)) self.old p →
-            RunsShort (lies (D.view disks.new) self.new 0) (left (D.view disks.new) self.new 0) (fills (D.view disks.new) self.new) (flight self.new) halt p ⊎
-            ((q : Point) × Moves (Ask (Tree line.now)) p q × HaltsAt (lies (D.view disks.new) self.new 0) (left (D.view disks.new) self.new 0) (fills (D.view disks.new) self.new) (flight self.new) halt q)) }
-        ensures asked { asked self.new ≡ asked self.old }
-        ensures shape { SameShape (D.view disks.old) (D.view disks.new) }
+            RunsShort (lies (D.view disks.new) self.new 0) (left (D.view disks.new) self.new None 0) (fills (D.view disks.new) self.new) (flight self.new) halt p ⊎
+            ((q : Point) × Moves (Ask (Tree line.now)) p q × HaltsAt (lies (D.view disks.new) self.new 0) (left (D.view disks.new) self.new None 0) (fills (D.view disks.new) self.new) (flight self.new) halt q)) }
+        ensures within { StaysWithin (asked self.old) (asked self.new) (D.view disks.old) (D.view disks.new) }
         ensures counts { CountsStops (D.view disks.old) (D.view disks.new) (disk_err result) (armed_by result) 0 };
 
     /// Begins a line whose text is refused, and gives its first event.
@@ -84,13 +88,13 @@ pub trait Stepping {
         refusal: Refusal,
     ) -> Result<Option<Event>, Halt>
         requires { (p : Point) × IsSoundPoint p × IsIdleAt (sees (D.view disks.old)) self.old p }
+        ensures unwritten { disks.new ≡ disks.old }
         ensures moves { IfOk result (λ next. (p : Point) → IsSoundPoint p → IsIdleAt (sees (D.view disks.old)) self.old p →
             (q : Point) × Moves (Ask (Rejected refusal)) p q × IsAt (sees (D.view disks.new)) Nothing self.new next q) }
         ensures halts { IfErr result (λ halt. (p : Point) → IsSoundPoint p → IsIdleAt (sees (D.view disks.old)) self.old p →
-            RunsShort (lies (D.view disks.new) self.new 0) (left (D.view disks.new) self.new 0) (fills (D.view disks.new) self.new) (flight self.new) halt p ⊎
-            ((q : Point) × Moves (Ask (Rejected refusal)) p q × HaltsAt (lies (D.view disks.new) self.new 0) (left (D.view disks.new) self.new 0) (fills (D.view disks.new) self.new) (flight self.new) halt q)) }
-        ensures asked { asked self.new ≡ asked self.old }
-        ensures shape { SameShape (D.view disks.old) (D.view disks.new) }
+            RunsShort (lies (D.view disks.new) self.new 0) (left (D.view disks.new) self.new None 0) (fills (D.view disks.new) self.new) (flight self.new) halt p ⊎
+            ((q : Point) × Moves (Ask (Rejected refusal)) p q × HaltsAt (lies (D.view disks.new) self.new 0) (left (D.view disks.new) self.new None 0) (fills (D.view disks.new) self.new) (flight self.new) halt q)) }
+        ensures within { StaysWithin (asked self.old) (asked self.new) (D.view disks.old) (D.view disks.new) }
         ensures counts { CountsStops (D.view disks.old) (D.view disks.new) (disk_err result) (armed_by result) 0 };
 
     /// The program to which `go all` turns next.
@@ -111,11 +115,10 @@ pub trait Stepping {
         ensures moves { IfOk result (λ next. (p : Point) → IsSoundPoint p → IsAt (sees (D.view disks.old)) line.now self.old None p → next_turn_of p.state ≡ Some base →
             (q : Point) × Moves (Turn base) p q × IsAt (sees (D.view disks.new)) line.now self.new next q) }
         ensures halts { IfErr result (λ halt. (p : Point) → IsSoundPoint p → IsAt (sees (D.view disks.old)) line.now self.old None p → next_turn_of p.state ≡ Some base →
-            RunsShort (lies (D.view disks.new) self.new 0) (left (D.view disks.new) self.new 0) (fills (D.view disks.new) self.new) (flight self.new) halt p ⊎
-            ((q : Point) × Moves (Turn base) p q × HaltsAt (lies (D.view disks.new) self.new 0) (left (D.view disks.new) self.new 0) (fills (D.view disks.new) self.new) (flight self.new) halt q)) }
+            RunsShort (lies (D.view disks.new) self.new 0) (left (D.view disks.new) self.new None 0) (fills (D.view disks.new) self.new) (flight self.new) halt p ⊎
+            ((q : Point) × Moves (Turn base) p q × HaltsAt (lies (D.view disks.new) self.new 0) (left (D.view disks.new) self.new None 0) (fills (D.view disks.new) self.new) (flight self.new) halt q)) }
         ensures fewer { OnOk result (length (turns self.new) < length (turns self.old)) }
-        ensures asked { asked self.new ≡ asked self.old }
-        ensures shape { SameShape (D.view disks.old) (D.view disks.new) }
+        ensures within { StaysWithin (asked self.old) (asked self.new) (D.view disks.old) (D.view disks.new) }
         ensures counts { CountsStops (D.view disks.old) (D.view disks.new) (disk_err result) (armed_by result) 0 };
 
     /// Tells what comes next, and gives what comes after it. An error leaves the story as it was, or with this event.
@@ -133,18 +136,19 @@ pub trait Stepping {
         ensures moves { IfOk result (λ next. (p : Point) → IsSoundPoint p → IsAt (sees (D.view disks.old)) line.now self.old (Some event) p →
             (q : Point) × Moves (Say event) p q × IsAt (sees (D.view disks.new)) line.now self.new next q) }
         ensures tells { OnOk result (story.new ≡ story.old ++ event ∷ []) }
+        ensures refused { (refusal : Refusal) → event ≡ Refused refusal → disks.new ≡ disks.old }
         ensures halts { IfErr result (λ halt. (p : Point) → IsSoundPoint p → IsAt (sees (D.view disks.old)) line.now self.old (Some event) p →
-            BreaksAt (lies (D.view disks.new) self.new 0) (left (D.view disks.new) self.new 0) (fills (D.view disks.new) self.new) (flight self.new) halt p event story.old story.new) }
+            BreaksAt (lies (D.view disks.new) self.new 0) (left (D.view disks.new) self.new None 0) (fills (D.view disks.new) self.new) (flight self.new) halt p event story.old story.new) }
         ensures less { IfOk result (λ next. left_to_come (waiting self.new) next < left_to_come (waiting self.old) (Some event)) }
         ensures turns { OnOk result (turns self.new ≡ turns self.old) }
-        ensures asked { asked self.new ≡ asked self.old }
-        ensures shape { SameShape (D.view disks.old) (D.view disks.new) }
+        ensures within { StaysWithin (asked self.old) (asked self.new) (D.view disks.old) (D.view disks.new) }
         ensures counts { CountsStops (D.view disks.old) (D.view disks.new) (disk_err result) (armed_by result) 0 };
 
-    /// A law: between lines it can be opened anew, and nothing is in flight; and where it can be opened, what is left of its devices
-    /// stands.
+    /// A law: between lines it can be opened anew, and nothing is in flight; where it can be opened, what is left of its devices
+    /// stands; and so it does where numbers are told.
     fn stands<D: Disks>(&self, disks: &D)
         ensures idle { (p : Point) → IsSoundPoint p → IsIdleAt (sees (D.view disks.now)) self.now p → lies (D.view disks.now) self.now 0 p }
         ensures flown { (p : Point) → IsSoundPoint p → IsIdleAt (sees (D.view disks.now)) self.now p → flight self.now ≡ None }
-        ensures left { (room : ℕ) (p : Point) → lies (D.view disks.now) self.now room p → left (D.view disks.now) self.now room p };
+        ensures left { (room : ℕ) (p : Point) → lies (D.view disks.now) self.now room p → left (D.view disks.now) self.now None room p }
+        ensures told { (numbers : Numbers) (room : ℕ) (p : Point) → left (D.view disks.now) self.now (Some numbers) room p → left (D.view disks.now) self.now None room p };
 }

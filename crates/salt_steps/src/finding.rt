@@ -1,9 +1,10 @@
 //! What a storage stands on is found at first, through the stops that come meanwhile.
 
-ghost use Rattle.salt_disk.specs.Disks.{AreUnchanged, SameShape};
+ghost use Rattle.salt_disk.specs.Disks.{KeepsAll, stops_left};
 ghost use Rattle.salt_steps.specs.Counting.{CountsOpening};
 ghost use Rattle.salt_steps.specs.Opening.{FailsToFind, FallsUnfound, FindsFirst, IsUnfound};
-ghost use Rattle.salt_storage.specs.Answers.{IfRefused, IsLater, open_disk_err};
+ghost use Rattle.salt_storage.specs.Answers.{IsLater, IsRefusal, WritesNothing, open_disk_err};
+ghost use Rattle.salt_storage.specs.Staying.{StaysWithin};
 ghost use Rattle.salt_storage.specs.Writing.{FindsNoMore, OfOpening};
 ghost use Rattle.salt_storage.specs.declared.found.Found.{Found};
 ghost use Rattle.salt_storage.specs.declared.halt.Halt.TheVariants.{DeviceFull, Memory, Stopped};
@@ -36,19 +37,19 @@ fn try_find<S: Storage, D: Disks, F: Fn(PlaceKind, &Key, u32) -> u32>(
     ensures settled { result ≡ Ok None → S.settled (D.view disks.new) storage.new }
     ensures falls { result ≡ Ok None → FallsUnfound (S.refuses (D.view disks.old) storage.old) (S.finds (D.view disks.old) storage.old)
         (S.refuses (D.view disks.new) storage.new) (S.finds (D.view disks.new) storage.new) story.old story.new }
-    ensures fewer { result ≡ Ok None → (D.view disks.new).stops_left < (D.view disks.old).stops_left }
+    ensures fewer { result ≡ Ok None → stops_left (D.view disks.new) < stops_left (D.view disks.old) }
     ensures refuses { IfErr result (λ e. S.refuses (D.view disks.old) storage.old e ⊎ (e ≡ Halted Memory)) }
     ensures unrefused { OnErr result (story.new ≡ story.old) }
     ensures stays { OnErr result (S.unopened storage.new) }
     ensures able { OnErr result (S.able (D.view disks.new) storage.new) }
-    ensures unchanged { IfErr result (λ e. IfRefused e (IsTrue (D.view disks.old).told → AreUnchanged (D.view disks.old) (D.view disks.new))) }
+    ensures unwritten { (refusal : OpenErr) → IsRefusal refusal → S.refuses (D.view disks.old) storage.old refusal → IsTrue (D.view disks.old).told
+        → WritesNothing (D.view disks.old) (D.view disks.new) (open_disk_err result) × (result ≡ Ok None → ⊥) }
     ensures still { OnErr result (FindsNoMore (S.refuses (D.view disks.old) storage.old) (S.finds (D.view disks.old) storage.old)
         (S.refuses (D.view disks.new) storage.new) (S.finds (D.view disks.new) storage.new)) }
     ensures later { S.tried (D.view disks.old) storage.old → IfErr result IsLater }
     ensures full { (dev : ℕ) → result ≡ Err (OpenErr.Halted (DeviceFull dev)) → S.fills (D.view disks.new) storage.new OfOpening dev }
     ensures unstopped { result ≡ Err (Halted Stopped) → ⊥ }
-    ensures asked { S.asked storage.new ≡ S.asked storage.old }
-    ensures shape { SameShape (D.view disks.old) (D.view disks.new) }
+    ensures within { StaysWithin (S.asked storage.old) (S.asked storage.new) (D.view disks.old) (D.view disks.new) }
     ensures counts { CountsOpening (D.view disks.old) (D.view disks.new) (open_disk_err result) story.old story.new }
 {
     match storage.open(disks, place) {
@@ -84,10 +85,10 @@ pub fn find<S: Storage, D: Disks, F: Fn(PlaceKind, &Key, u32) -> u32>(
         (S.refuses (D.view disks.new) storage.new) (S.finds (D.view disks.new) storage.new) (S.fills (D.view disks.new) storage.new) e story.new) }
     ensures stays { OnErr result (S.unopened storage.new) }
     ensures able { OnErr result (S.able (D.view disks.new) storage.new) }
-    ensures unchanged { IfErr result (λ e. IfRefused e (IsTrue (D.view disks.old).told → AreUnchanged (D.view disks.old) (D.view disks.new))) }
+    ensures unwritten { (refusal : OpenErr) → IsRefusal refusal → S.refuses (D.view disks.old) storage.old refusal → IsTrue (D.view disks.old).told
+        → KeepsAll (D.view disks.old) (D.view disks.new) (open_disk_err result) }
     ensures unstopped { result ≡ Err (Halted Stopped) → ⊥ }
-    ensures asked { S.asked storage.new ≡ S.asked storage.old }
-    ensures shape { SameShape (D.view disks.old) (D.view disks.new) }
+    ensures within { StaysWithin (S.asked storage.old) (S.asked storage.new) (D.view disks.old) (D.view disks.new) }
     ensures counts { CountsOpening (D.view disks.old) (D.view disks.new) (open_disk_err result) [] story.new }
 {
     'stops: loop {

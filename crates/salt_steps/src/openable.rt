@@ -1,6 +1,6 @@
 //! What stands over devices and is opened: at first, and anew behind each fall.
 
-ghost use Rattle.salt_disk.specs.Disks.{SameShape, View};
+ghost use Rattle.salt_disk.specs.Disks.{View};
 ghost use Rattle.salt_keeps.specs.Points.{Moves, Point, Say};
 ghost use Rattle.salt_model.specs.Kept.{schema_of};
 ghost use Rattle.salt_model.specs.Phases.{Fallen};
@@ -11,7 +11,8 @@ ghost use Rattle.salt_openings.specs.Draining.{statements_at};
 ghost use Rattle.salt_steps.specs.Draining.{MayTick};
 ghost use Rattle.salt_steps.specs.Opening.{IsFallenFrom, MayFailAt, OpensAt};
 ghost use Rattle.salt_steps.specs.Standing.{BreaksAt, IsOpenedOn, IsOpeningAt, IsSoundPoint};
-ghost use Rattle.salt_storage.specs.Answers.{disk_err, open_disk_err};
+ghost use Rattle.salt_storage.specs.Answers.{disk_err, numbers_told, open_disk_err};
+ghost use Rattle.salt_storage.specs.Staying.{StaysWithin};
 ghost use Rattle.salt_storage.specs.Writing.{OfBoot};
 ghost use Rattle.salt_storage.specs.declared.halt.Halt.TheVariants.{DeviceFull, Memory};
 ghost use Rattle.salt_storage.specs.declared.open.OpenErr.{OpenErr};
@@ -51,13 +52,12 @@ pub trait Openable: Stepping {
         ensures found { OnOk result (is_found (D.view disks.new) self.new) }
         ensures again { (result ≡ Err (OpenErr.Halted Memory) → ⊥) → (room : ℕ) (p : Point) → IsSoundPoint p → p.state.units.phase ≡ Fallen → Self.lies (D.view disks.old) self.old room p →
             Self.lies (D.view disks.new) self.new room p }
-        ensures left { (room : ℕ) (p : Point) → IsSoundPoint p → p.state.units.phase ≡ Fallen → Self.lies (D.view disks.old) self.old room p → Self.left (D.view disks.new) self.new room p }
+        ensures left { (room : ℕ) (p : Point) → IsSoundPoint p → p.state.units.phase ≡ Fallen → Self.lies (D.view disks.old) self.old room p → Self.left (D.view disks.new) self.new (numbers_told result) room p }
         ensures later { IfErr result (λ e. (room : ℕ) (p : Point) → IsSoundPoint p → p.state.units.phase ≡ Fallen → Self.lies (D.view disks.old) self.old room p → MayFailAt room p e) }
         ensures flies { Self.flight self.new ≡ Self.flight self.old }
         ensures full { (dev : ℕ) → result ≡ Err (OpenErr.Halted (DeviceFull dev)) → ⊥ }
-        ensures asked { Self.asked self.new ≡ Self.asked self.old }
-        ensures shape { SameShape (D.view disks.old) (D.view disks.new) }
-        ensures counts { CountsStops (D.view disks.old) (D.view disks.new) (open_disk_err result) 0 0 };
+        ensures within { StaysWithin (Self.asked self.old) (Self.asked self.new) (D.view disks.old) (D.view disks.new) }
+        ensures counts { CountsStops (D.view disks.old) (D.view disks.new) (open_disk_err result) [] 0 };
 
     /// Opens over what it has found, and tells that it has: a new boot begins. It gives the first event of the opening. An error leaves
     /// the story as it was.
@@ -69,14 +69,13 @@ pub trait Openable: Stepping {
         ensures lies { IfErr result (λ halt. (halt ≡ Memory → ⊥) → (room : ℕ) (p : Point) → IsSoundPoint p → p.state.units.phase ≡ Fallen → Self.lies (D.view disks.old) self.old room p →
             Self.lies (D.view disks.new) self.new (room + 1) p) }
         ensures left { OnErr result ((room : ℕ) (p : Point) → IsSoundPoint p → p.state.units.phase ≡ Fallen → Self.lies (D.view disks.old) self.old room p →
-            Self.left (D.view disks.new) self.new (room + 1) p) }
+            Self.left (D.view disks.new) self.new None (room + 1) p) }
         ensures flies { OnErr result (Self.flight self.new ≡ Self.flight self.old) }
         ensures untold { OnErr result (story.new ≡ story.old) }
         ensures full { (dev : ℕ) → result ≡ Err (DeviceFull dev) → Self.fills (D.view disks.new) self.new OfBoot dev }
-        ensures asked { Self.asked self.new ≡ Self.asked self.old }
-        ensures shape { SameShape (D.view disks.old) (D.view disks.new) }
-        ensures unarmed { IfOk result (λ next. stops_armed next ≡ 0) }
-        ensures counts { CountsStops (D.view disks.old) (D.view disks.new) (disk_err result) 0 0 };
+        ensures within { StaysWithin (Self.asked self.old) (Self.asked self.new) (D.view disks.old) (D.view disks.new) }
+        ensures unarmed { IfOk result (λ next. stops_armed next ≡ []) }
+        ensures counts { CountsStops (D.view disks.old) (D.view disks.new) (disk_err result) [] 0 };
 
     /// Tells what comes next in an opening, and gives what comes after it, none behind its end: a step where that is a statement, which
     /// is done then. An error leaves the story as it was, or with this event.
@@ -95,15 +94,14 @@ pub trait Openable: Stepping {
             (q : Point) × Moves (Say event) p q × IsOpenedOn (Self.sees (D.view disks.new)) self.new next q) }
         ensures tells { OnOk result (story.new ≡ story.old ++ event ∷ []) }
         ensures halts { IfErr result (λ halt. (p : Point) → IsSoundPoint p → IsOpeningAt (Self.sees (D.view disks.old)) self.old (Some event) p →
-            BreaksAt (Self.lies (D.view disks.new) self.new 0) (Self.left (D.view disks.new) self.new 0) (Self.fills (D.view disks.new) self.new) (Self.flight self.new) halt p event story.old story.new) }
+            BreaksAt (Self.lies (D.view disks.new) self.new 0) (Self.left (D.view disks.new) self.new None 0) (Self.fills (D.view disks.new) self.new) (Self.flight self.new) halt p event story.old story.new) }
         ensures ticks { IfOk result (λ next. steps.new ≡ steps.old + statements_at next) }
         ensures short { OnErr result ((p : Point) → IsSoundPoint p → IsOpeningAt (Self.sees (D.view disks.old)) self.old (Some event) p →
             MayTick p event story.old story.new steps.old steps.new) }
         ensures less { IfOk result (λ next. to_open self.new next < to_open self.old (Some event)) }
-        ensures asked { Self.asked self.new ≡ Self.asked self.old }
-        ensures shape { SameShape (D.view disks.old) (D.view disks.new) }
-        ensures unarmed { IfOk result (λ next. armed_at next ≡ 0) }
-        ensures counts { CountsStops (D.view disks.old) (D.view disks.new) (disk_err result) 0 0 };
+        ensures within { StaysWithin (Self.asked self.old) (Self.asked self.new) (D.view disks.old) (D.view disks.new) }
+        ensures unarmed { IfOk result (λ next. armed_at next ≡ []) }
+        ensures counts { CountsStops (D.view disks.old) (D.view disks.new) (disk_err result) [] 0 };
 
     /// Falls: the devices are started again.
     fn fall<D: Disks>(&mut self, disks: &mut D)
@@ -111,14 +109,13 @@ pub trait Openable: Stepping {
         ensures lies { (room : ℕ) (p q : Point) → Self.lies (D.view disks.old) self.old room p → IsFallenFrom p q → Self.lies (D.view disks.new) self.new room q }
         ensures settled { settled (D.view disks.new) self.new }
         ensures flies { Self.flight self.new ≡ Self.flight self.old }
-        ensures asked { Self.asked self.new ≡ Self.asked self.old }
-        ensures shape { SameShape (D.view disks.old) (D.view disks.new) }
+        ensures within { StaysWithin (Self.asked self.old) (Self.asked self.new) (D.view disks.old) (D.view disks.new) }
         ensures faults { (D.view disks.new).faults ≡ (D.view disks.old).faults }
-        ensures stops { (D.view disks.new).stops_left ≡ (D.view disks.old).stops_left };
+        ensures stops { (D.view disks.new).armed ≡ (D.view disks.old).armed };
 
     /// The tables that are defined, unless memory ran out.
     fn schema<D: Disks>(&self, disks: &D) -> &Schema
-        requires left { (room : ℕ) × ((p : Point) × Self.left (D.view disks.now) self.now room p) }
+        requires left { (room : ℕ) × ((p : Point) × Self.left (D.view disks.now) self.now None room p) }
         ensures serves { (p : Point) → IsSoundPoint p → Self.sees (D.view disks.now) self.now None p.state → result.now ≡ schema_of p.state.units.kept }
         ensures lies { (room : ℕ) (p : Point) → IsSoundPoint p → Self.lies (D.view disks.now) self.now room p → result.now ≡ schema_of p.state.units.kept };
 

@@ -1,6 +1,6 @@
 //! A run is opened, at first and behind a fall, and through the stops that come meanwhile.
 
-ghost use Rattle.salt_disk.specs.Disks.{SameShape};
+ghost use Rattle.salt_disk.specs.Disks.{stops_left};
 ghost use Rattle.salt_keeps.specs.Points.{Point};
 ghost use Rattle.salt_keeps.specs.Steps.{units_after};
 ghost use Rattle.salt_model.specs.Trace.{Start, Trace};
@@ -13,10 +13,11 @@ ghost use Rattle.salt_steps.specs.Reopening.{BreaksOpening, OpensOrFalls, Reopen
 ghost use Rattle.salt_steps.specs.Serving.{Halts, IsDown};
 ghost use Rattle.salt_steps.specs.Standing.{IsOpeningAt, IsSoundPoint, OpensOn};
 ghost use Rattle.salt_storage.specs.Answers.{disk_err, open_disk_err};
+ghost use Rattle.salt_storage.specs.Staying.{StaysWithin};
 ghost use Rattle.salt_storage.specs.declared.halt.Halt.TheVariants.{Stopped};
 ghost use Rattle.salt_storage.specs.declared.open.OpenErr.TheVariants.{Halted};
 ghost use Rattle.salt_values.specs.Placement.{GivesPlaceOf, TakesEachKey};
-ghost use Rattle.std.specs.Prelude.{Err, IfErr, IfOk, List, None, Ok, OnErr, OnOk, Some, drop, false, ◌++◌, ◌+◌, ◌<◌, ◌≡◌, ◌≤◌};
+ghost use Rattle.std.specs.Prelude.{Err, IfErr, IfOk, List, None, Ok, OnErr, OnOk, Some, [], drop, false, ◌++◌, ◌+◌, ◌<◌, ◌≡◌, ◌≤◌};
 
 use crate::openable::Openable;
 use salt_disk::Disks;
@@ -69,18 +70,17 @@ pub fn drain<E: Openable, D: Disks, F: Fn(PlaceKind, &Key, u32) -> u32, L: Ledge
     requires callable { TakesEachKey (F.pre place.now.place) }
     requires answers { GivesPlaceOf (F.post place.now.place) }
     requires stands { (p : Point) × IsSoundPoint p × IsOpeningAt (E.sees (D.view disks.old)) database.old (Some first) p }
-    requires unarmed { stops_armed first ≡ 0 }
+    requires unarmed { stops_armed first ≡ [] }
     ensures ok { OnOk result ((p : Point) → IsSoundPoint p → IsOpeningAt (E.sees (D.view disks.old)) database.old (Some first) p →
         OpensOn (E.sees (D.view disks.new)) p story.old database.new None story.new) }
     ensures err { IfErr result (λ halt. (p : Point) → IsSoundPoint p → IsOpeningAt (E.sees (D.view disks.old)) database.old (Some first) p →
-        BreaksWithin (E.lies (D.view disks.new) database.new 0) (E.left (D.view disks.new) database.new 0) (E.fills (D.view disks.new) database.new) (E.flight database.new) halt p story.old story.new) }
+        BreaksWithin (E.lies (D.view disks.new) database.new 0) (E.left (D.view disks.new) database.new None 0) (E.fills (D.view disks.new) database.new) (E.flight database.new) halt p story.old story.new) }
     ensures units { IfOk result (λ units. (more : List Event) → story.new ≡ story.old ++ more → units ≡ units_told more) }
     ensures ticks { OnOk result (CountsSteps first story.old story.new steps.old steps.new 0) }
     ensures short { OnErr result (CountsOff first story.old story.new steps.old steps.new) }
     ensures most { (p : Point) → IsSoundPoint p → IsOpeningAt (E.sees (D.view disks.old)) database.old (Some first) p →
         CanDrain (units_after first p.state.units).kept → steps.new ≤ steps.old + rests_behind first p.state.units }
-    ensures asked { E.asked database.new ≡ E.asked database.old }
-    ensures shape { SameShape (D.view disks.old) (D.view disks.new) }
+    ensures within { StaysWithin (E.asked database.old) (E.asked database.new) (D.view disks.old) (D.view disks.new) }
     ensures counts { CountsOpening (D.view disks.old) (D.view disks.new) (disk_err result) story.old story.new }
 {
     let told = story.len();
@@ -103,16 +103,15 @@ fn finish_opening<E: Openable, D: Disks, F: Fn(PlaceKind, &Key, u32) -> u32, L: 
     requires callable { TakesEachKey (F.pre place.now.place) }
     requires answers { GivesPlaceOf (F.post place.now.place) }
     requires stands { (p : Point) × IsSoundPoint p × IsOpeningAt (E.sees (D.view disks.old)) database.old (Some first) p }
-    requires unarmed { stops_armed first ≡ 0 }
+    requires unarmed { stops_armed first ≡ [] }
     requires name { blank.name ≡ L.name }
     requires parts { blank.parts ≡ L.parts }
     requires some { 0 < blank.parts }
     ensures ok { OnOk result ((p : Point) → IsSoundPoint p → IsOpeningAt (E.sees (D.view disks.old)) database.old (Some first) p →
         OpensOn (E.sees (D.view disks.new)) p story.old database.new None story.new) }
     ensures err { IfErr result (λ halt. (p : Point) → IsSoundPoint p → IsOpeningAt (E.sees (D.view disks.old)) database.old (Some first) p →
-        BreaksWithin (E.lies (D.view disks.new) database.new 0) (E.left (D.view disks.new) database.new 0) (E.fills (D.view disks.new) database.new) (E.flight database.new) halt p story.old story.new) }
-    ensures asked { E.asked database.new ≡ E.asked database.old }
-    ensures shape { SameShape (D.view disks.old) (D.view disks.new) }
+        BreaksWithin (E.lies (D.view disks.new) database.new 0) (E.left (D.view disks.new) database.new None 0) (E.fills (D.view disks.new) database.new) (E.flight database.new) halt p story.old story.new) }
+    ensures within { StaysWithin (E.asked database.old) (E.asked database.new) (D.view disks.old) (D.view disks.new) }
     ensures counts { CountsOpening (D.view disks.old) (D.view disks.new) (disk_err result) story.old story.new }
 {
     let mut steps = Steps::<L>::new(blank);
@@ -135,8 +134,7 @@ pub fn open_found<E: Openable, D: Disks, F: Fn(PlaceKind, &Key, u32) -> u32>(
         Reopens (E.sees (D.view disks.new)) start trace story.old database.new story.new) }
     ensures err { IfErr result (λ halt. (start : Start) (trace : Trace) → IsDown (E.lies (D.view disks.old) database.old) (E.flight database.old) start story.old trace →
         BreaksOpening (E.lies (D.view disks.new) database.new) (E.left (D.view disks.new) database.new) (E.fills (D.view disks.new) database.new) (E.flight database.new) (Halted halt) start trace story.old story.new) }
-    ensures asked { E.asked database.new ≡ E.asked database.old }
-    ensures shape { SameShape (D.view disks.old) (D.view disks.new) }
+    ensures within { StaysWithin (E.asked database.old) (E.asked database.new) (D.view disks.old) (D.view disks.new) }
     ensures counts { CountsOpening (D.view disks.old) (D.view disks.new) (disk_err result) story.old story.new }
 {
     let first = database.open(disks, story)?;
@@ -158,8 +156,7 @@ fn open_once<E: Openable, D: Disks, F: Fn(PlaceKind, &Key, u32) -> u32>(
         Reopens (E.sees (D.view disks.new)) start trace story.old database.new story.new) }
     ensures err { IfErr result (λ e. (start : Start) (trace : Trace) → IsDown (E.lies (D.view disks.old) database.old) (E.flight database.old) start story.old trace →
         BreaksOpening (E.lies (D.view disks.new) database.new) (E.left (D.view disks.new) database.new) (E.fills (D.view disks.new) database.new) (E.flight database.new) e start trace story.old story.new) }
-    ensures asked { E.asked database.new ≡ E.asked database.old }
-    ensures shape { SameShape (D.view disks.old) (D.view disks.new) }
+    ensures within { StaysWithin (E.asked database.old) (E.asked database.new) (D.view disks.old) (D.view disks.new) }
     ensures counts { CountsOpening (D.view disks.old) (D.view disks.new) (open_disk_err result) story.old story.new }
 {
     database.find(disks, place)?;
@@ -181,12 +178,11 @@ fn try_open<E: Openable, D: Disks, F: Fn(PlaceKind, &Key, u32) -> u32>(
     ensures ok { IfOk result (λ opened. (start : Start) (trace : Trace) → IsDown (E.lies (D.view disks.old) database.old) (E.flight database.old) start story.old trace →
         OpensOrFalls opened (E.sees (D.view disks.new)) (E.lies (D.view disks.new) database.new) (E.flight database.new) start trace story.old database.new story.new) }
     ensures settled { result ≡ Ok false → E.settled (D.view disks.new) database.new }
-    ensures fewer { result ≡ Ok false → (D.view disks.new).stops_left < (D.view disks.old).stops_left }
+    ensures fewer { result ≡ Ok false → stops_left (D.view disks.new) < stops_left (D.view disks.old) }
     ensures err { IfErr result (λ e. (start : Start) (trace : Trace) → IsDown (E.lies (D.view disks.old) database.old) (E.flight database.old) start story.old trace →
         BreaksOpening (E.lies (D.view disks.new) database.new) (E.left (D.view disks.new) database.new) (E.fills (D.view disks.new) database.new) (E.flight database.new) e start trace story.old story.new) }
     ensures unstopped { result ≡ Err (Halted Stopped) → ⊥ }
-    ensures asked { E.asked database.new ≡ E.asked database.old }
-    ensures shape { SameShape (D.view disks.old) (D.view disks.new) }
+    ensures within { StaysWithin (E.asked database.old) (E.asked database.new) (D.view disks.old) (D.view disks.new) }
     ensures counts { CountsOpening (D.view disks.old) (D.view disks.new) (open_disk_err result) story.old story.new }
 {
     match open_once(database, disks, place, story) {
@@ -217,8 +213,7 @@ pub fn open<E: Openable, D: Disks, F: Fn(PlaceKind, &Key, u32) -> u32>(
     ensures err { IfErr result (λ e. (start : Start) (trace : Trace) → IsDown (E.lies (D.view disks.old) database.old) (E.flight database.old) start story.old trace →
         BreaksOpening (E.lies (D.view disks.new) database.new) (E.left (D.view disks.new) database.new) (E.fills (D.view disks.new) database.new) (E.flight database.new) e start trace story.old story.new) }
     ensures unstopped { result ≡ Err (Halted Stopped) → ⊥ }
-    ensures asked { E.asked database.new ≡ E.asked database.old }
-    ensures shape { SameShape (D.view disks.old) (D.view disks.new) }
+    ensures within { StaysWithin (E.asked database.old) (E.asked database.new) (D.view disks.old) (D.view disks.new) }
     ensures counts { CountsOpening (D.view disks.old) (D.view disks.new) (open_disk_err result) story.old story.new }
 {
     'stops: while !try_open(database, disks, place, story)? {}
@@ -236,14 +231,13 @@ pub fn recover<E: Openable, D: Disks, F: Fn(PlaceKind, &Key, u32) -> u32>(
 ) -> Result<(), OpenErr>
     requires callable { TakesEachKey (F.pre place.now.place) }
     requires answers { GivesPlaceOf (F.post place.now.place) }
-    requires halted { (start : Start) × (trace : Trace) × Halts (E.lies (D.view disks.old) database.old 0) (E.left (D.view disks.old) database.old 0) (E.fills (D.view disks.old) database.old) (E.flight database.old) (halt_of why) start story.old trace }
-    ensures ok { OnOk result ((start : Start) (trace : Trace) → Halts (E.lies (D.view disks.old) database.old 0) (E.left (D.view disks.old) database.old 0) (E.fills (D.view disks.old) database.old) (E.flight database.old) (halt_of why) start story.old trace →
+    requires halted { (start : Start) × (trace : Trace) × Halts (E.lies (D.view disks.old) database.old 0) (E.left (D.view disks.old) database.old None 0) (E.fills (D.view disks.old) database.old) (E.flight database.old) (halt_of why) start story.old trace }
+    ensures ok { OnOk result ((start : Start) (trace : Trace) → Halts (E.lies (D.view disks.old) database.old 0) (E.left (D.view disks.old) database.old None 0) (E.fills (D.view disks.old) database.old) (E.flight database.old) (halt_of why) start story.old trace →
         Reopens (E.sees (D.view disks.new)) start trace story.old database.new story.new) }
-    ensures err { IfErr result (λ e. (start : Start) (trace : Trace) → Halts (E.lies (D.view disks.old) database.old 0) (E.left (D.view disks.old) database.old 0) (E.fills (D.view disks.old) database.old) (E.flight database.old) (halt_of why) start story.old trace →
+    ensures err { IfErr result (λ e. (start : Start) (trace : Trace) → Halts (E.lies (D.view disks.old) database.old 0) (E.left (D.view disks.old) database.old None 0) (E.fills (D.view disks.old) database.old) (E.flight database.old) (halt_of why) start story.old trace →
         BreaksOpening (E.lies (D.view disks.new) database.new) (E.left (D.view disks.new) database.new) (E.fills (D.view disks.new) database.new) (E.flight database.new) e start trace story.old story.new) }
     ensures unstopped { result ≡ Err (Halted Stopped) → ⊥ }
-    ensures asked { E.asked database.new ≡ E.asked database.old }
-    ensures shape { SameShape (D.view disks.old) (D.view disks.new) }
+    ensures within { StaysWithin (E.asked database.old) (E.asked database.new) (D.view disks.old) (D.view disks.new) }
     ensures counts { CountsFall why (D.view disks.old) (D.view disks.new) (open_disk_err result) story.old story.new }
 {
     story.push(Event::Down(why))?;

@@ -1,12 +1,12 @@
 //! A line is asked, its events are told until none comes next, and so is each turn of `go all`.
 
-ghost use Rattle.salt_disk.specs.Disks.{SameShape};
 ghost use Rattle.salt_keeps.specs.Points.{Point};
 ghost use Rattle.salt_model.specs.Trace.{Rejected, Start, Trace, Tree};
 ghost use Rattle.salt_steps.specs.Counting.{CountsMore};
 ghost use Rattle.salt_steps.specs.Serving.{BreaksOff, GoesOn, Serves};
 ghost use Rattle.salt_steps.specs.Standing.{Advances, Finishes, IsAt, IsSoundPoint, StopsWithin};
 ghost use Rattle.salt_storage.specs.Answers.{disk_err};
+ghost use Rattle.salt_storage.specs.Staying.{StaysWithin};
 ghost use Rattle.salt_types.specs.Played.{HasKey};
 ghost use Rattle.salt_values.specs.Placement.{GivesPlaceOf, TakesEachKey};
 ghost use Rattle.std.specs.Prelude.{IfErr, None, OnOk, ◌≡◌};
@@ -33,10 +33,9 @@ fn settle<E: Stepping, D: Disks, F: Fn(PlaceKind, &Key, u32) -> u32>(
     ensures ok { OnOk result ((p : Point) → IsSoundPoint p → IsAt (E.sees (D.view disks.old)) line.now engine.old first p →
         Advances (E.sees (D.view disks.new)) line.now p story.old engine.new None story.new) }
     ensures err { IfErr result (λ halt. (p : Point) → IsSoundPoint p → IsAt (E.sees (D.view disks.old)) line.now engine.old first p →
-        StopsWithin (E.lies (D.view disks.new) engine.new 0) (E.left (D.view disks.new) engine.new 0) (E.fills (D.view disks.new) engine.new) (E.flight engine.new) halt p story.old story.new) }
+        StopsWithin (E.lies (D.view disks.new) engine.new 0) (E.left (D.view disks.new) engine.new None 0) (E.fills (D.view disks.new) engine.new) (E.flight engine.new) halt p story.old story.new) }
     ensures turns { OnOk result (E.turns engine.new ≡ E.turns engine.old) }
-    ensures asked { E.asked engine.new ≡ E.asked engine.old }
-    ensures shape { SameShape (D.view disks.old) (D.view disks.new) }
+    ensures within { StaysWithin (E.asked engine.old) (E.asked engine.new) (D.view disks.old) (D.view disks.new) }
     ensures counts { CountsMore (D.view disks.old) (D.view disks.new) (disk_err result) first story.old story.new }
 {
     let mut next = first;
@@ -61,9 +60,8 @@ fn finish<E: Stepping, D: Disks, F: Fn(PlaceKind, &Key, u32) -> u32>(
     ensures ok { OnOk result ((p : Point) → IsSoundPoint p → IsAt (E.sees (D.view disks.old)) line.now engine.old first p →
         Finishes (E.sees (D.view disks.new)) line.now p story.old engine.new story.new) }
     ensures err { IfErr result (λ halt. (p : Point) → IsSoundPoint p → IsAt (E.sees (D.view disks.old)) line.now engine.old first p →
-        StopsWithin (E.lies (D.view disks.new) engine.new 0) (E.left (D.view disks.new) engine.new 0) (E.fills (D.view disks.new) engine.new) (E.flight engine.new) halt p story.old story.new) }
-    ensures asked { E.asked engine.new ≡ E.asked engine.old }
-    ensures shape { SameShape (D.view disks.old) (D.view disks.new) }
+        StopsWithin (E.lies (D.view disks.new) engine.new 0) (E.left (D.view disks.new) engine.new None 0) (E.fills (D.view disks.new) engine.new) (E.flight engine.new) halt p story.old story.new) }
+    ensures within { StaysWithin (E.asked engine.old) (E.asked engine.new) (D.view disks.old) (D.view disks.new) }
     ensures counts { CountsMore (D.view disks.old) (D.view disks.new) (disk_err result) first story.old story.new }
 {
     settle(engine, disks, place, line, story, first)?;
@@ -89,16 +87,15 @@ pub fn step<E: Stepping, D: Disks, F: Fn(PlaceKind, &Key, u32) -> u32>(
     requires key { HasKey (Tree line.now) }
     requires stands { (start : Start) × (trace : Trace) × Serves (E.sees (D.view disks.old)) start engine.old story.old trace }
     ensures segment { OnOk result (GoesOn (E.sees (D.view disks.old)) (E.sees (D.view disks.new)) engine.old story.old (Tree line.now) engine.new story.new) }
-    ensures broken_off { IfErr result (λ halt. BreaksOff (E.sees (D.view disks.old)) (E.lies (D.view disks.new) engine.new 0) (E.left (D.view disks.new) engine.new 0) (E.fills (D.view disks.new) engine.new) (E.flight engine.new) halt engine.old story.old (Tree line.now) story.new) }
-    ensures asked { E.asked engine.new ≡ E.asked engine.old }
-    ensures shape { SameShape (D.view disks.old) (D.view disks.new) }
+    ensures broken_off { IfErr result (λ halt. BreaksOff (E.sees (D.view disks.old)) (E.lies (D.view disks.new) engine.new 0) (E.left (D.view disks.new) engine.new None 0) (E.fills (D.view disks.new) engine.new) (E.flight engine.new) halt engine.old story.old (Tree line.now) story.new) }
+    ensures within { StaysWithin (E.asked engine.old) (E.asked engine.new) (D.view disks.old) (D.view disks.new) }
     ensures counts { CountsMore (D.view disks.old) (D.view disks.new) (disk_err result) None story.old story.new }
 {
     let first = engine.ask(disks, place, line)?;
     finish(engine, disks, place, line, story, first)
 }
 
-/// Does a line whose text is refused, likewise.
+/// Does a line whose text is refused, likewise: its segment is its refusal alone. No device is called.
 pub fn refuse<E: Stepping, D: Disks, F: Fn(PlaceKind, &Key, u32) -> u32>(
     engine: &mut E,
     disks: &mut D,
@@ -110,11 +107,14 @@ pub fn refuse<E: Stepping, D: Disks, F: Fn(PlaceKind, &Key, u32) -> u32>(
     requires answers { GivesPlaceOf (F.post place.now.place) }
     requires stands { (start : Start) × (trace : Trace) × Serves (E.sees (D.view disks.old)) start engine.old story.old trace }
     ensures segment { OnOk result (GoesOn (E.sees (D.view disks.old)) (E.sees (D.view disks.new)) engine.old story.old (Rejected refusal) engine.new story.new) }
-    ensures broken_off { IfErr result (λ halt. BreaksOff (E.sees (D.view disks.old)) (E.lies (D.view disks.new) engine.new 0) (E.left (D.view disks.new) engine.new 0) (E.fills (D.view disks.new) engine.new) (E.flight engine.new) halt engine.old story.old (Rejected refusal) story.new) }
-    ensures asked { E.asked engine.new ≡ E.asked engine.old }
-    ensures shape { SameShape (D.view disks.old) (D.view disks.new) }
+    ensures broken_off { IfErr result (λ halt. BreaksOff (E.sees (D.view disks.old)) (E.lies (D.view disks.new) engine.new 0) (E.left (D.view disks.new) engine.new None 0) (E.fills (D.view disks.new) engine.new) (E.flight engine.new) halt engine.old story.old (Rejected refusal) story.new) }
+    ensures unwritten { disks.new ≡ disks.old }
+    ensures within { StaysWithin (E.asked engine.old) (E.asked engine.new) (D.view disks.old) (D.view disks.new) }
     ensures counts { CountsMore (D.view disks.old) (D.view disks.new) (disk_err result) None story.old story.new }
 {
     let first = engine.ask_rejected(disks, refusal)?;
-    finish(engine, disks, place, &Line::Nothing, story, first)
+    if let Some(event) = first {
+        engine.say(disks, place, &Line::Nothing, event, story)?;
+    }
+    Ok(())
 }

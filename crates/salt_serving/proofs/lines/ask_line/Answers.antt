@@ -9,7 +9,7 @@ use Rattle.salt_steps.specs.Serving.{Serves}
 use Rattle.std.proofs.Common.{ap, subst, sym}
 use Rattle.std.proofs.lemmas.Result.{IfErr-weaker, on_ok_weaker}
 use Rattle.std.specs.Option.{option_copied}
-use Rattle.std.specs.Prelude.{Err, List, Option, refl, ℕ}
+use Rattle.std.specs.Prelude.{Err, List, None, Option, refl, ℕ}
 use Rattle.std.specs.Result.{IfErr, OnOk}
 
 pub refuse-requires-clause-stands : goal.refuse-requires-clause-stands
@@ -27,7 +27,7 @@ returns-in_default-clause-err g c =
     let view = g.D.Disks.view c.refuse.new.disks in
     let e = c.refuse.new.engine in
     subst (λ (text : Option (List ℕ)). IfErr c.refuse.result (λ halt. (start : Start) (trace : Trace) → Serves (g.E.Stepping.sees (g.D.Disks.view c.args.disks.now)) start c.args.database.now c.args.story.now trace →
-    BreaksIn (g.E.Stepping.lies view e 0) (g.E.Stepping.left view e 0) (g.E.Stepping.fills view e) (g.E.Stepping.flight e) halt start trace text c.args.story.now c.refuse.new.story)) (sym (ap option_copied c.in_default.is))
+    BreaksIn (g.E.Stepping.lies view e 0) (g.E.Stepping.left view e None 0) (g.E.Stepping.fills view e) (g.E.Stepping.flight e) halt start trace text c.args.story.now c.refuse.new.story)) (sym (ap option_copied c.in_default.is))
     (IfErr-weaker c.refuse.result _ _ (λ halt breaks start trace s. breaks-by _ _ _ _ halt start trace _ (Rejected Long) _ _ refl (breaks start trace s)) c.refuse.ensures.broken_off)
 
 pub step-requires-clause-served : goal.step-requires-clause-served
@@ -54,7 +54,7 @@ returns-in-Ok-clause-err g c =
     let view = g.D.Disks.view c.step.new.disks in
     let e = c.step.new.engine in
     subst (λ (text : Option (List ℕ)). IfErr c.step.result (λ halt. (start : Start) (trace : Trace) → Serves (g.E.Stepping.sees (g.D.Disks.view c.args.disks.now)) start c.args.database.now c.args.story.now trace →
-    BreaksIn (g.E.Stepping.lies view e 0) (g.E.Stepping.left view e 0) (g.E.Stepping.fills view e) (g.E.Stepping.flight e) halt start trace text c.args.story.now c.step.new.story)) (sym (ap option_copied c.in-Some.is))
+    BreaksIn (g.E.Stepping.lies view e 0) (g.E.Stepping.left view e None 0) (g.E.Stepping.fills view e) (g.E.Stepping.flight e) halt start trace text c.args.story.now c.step.new.story)) (sym (ap option_copied c.in-Some.is))
     (IfErr-weaker c.step.result _ _ (λ halt breaks start trace s. breaks-by _ _ _ _ halt start trace _ (Tree c.in-Ok.line) _ _ c.in-Ok.ensures.line (breaks start trace s)) c.step.ensures.broken_off)
 
 pub refuse-requires-in-Err-Refused-clause-stands : goal.refuse-requires-in-Err-Refused-clause-stands
@@ -76,7 +76,7 @@ returns-in-Err-Refused-clause-err g c =
     let refusal = c.in-Err-Refused.refusal in
     let asks = c.in-Err-Refused.ensures.refused refusal (ap Err c.in-Err-Refused.field-0-is) in
     subst (λ (text : Option (List ℕ)). IfErr c.refuse-in-Err-Refused.result (λ halt. (start : Start) (trace : Trace) → Serves (g.E.Stepping.sees (g.D.Disks.view c.args.disks.now)) start c.args.database.now c.args.story.now trace →
-    BreaksIn (g.E.Stepping.lies view e 0) (g.E.Stepping.left view e 0) (g.E.Stepping.fills view e) (g.E.Stepping.flight e) halt start trace text c.args.story.now c.refuse-in-Err-Refused.new.story)) (sym (ap option_copied c.in-Some.is))
+    BreaksIn (g.E.Stepping.lies view e 0) (g.E.Stepping.left view e None 0) (g.E.Stepping.fills view e) (g.E.Stepping.flight e) halt start trace text c.args.story.now c.refuse-in-Err-Refused.new.story)) (sym (ap option_copied c.in-Some.is))
     (IfErr-weaker c.refuse-in-Err-Refused.result _ _ (λ halt breaks start trace s. breaks-by _ _ _ _ halt start trace _ (Rejected refusal) _ _ asks (breaks start trace s)) c.refuse-in-Err-Refused.ensures.broken_off)
 
 pub returns-in-Err-Memory-clause-err : goal.returns-in-Err-Memory-clause-err

@@ -2,7 +2,7 @@ use Rattle.salt_serving.proofs.Counts.{halt-counted, line-counted}
 use Rattle.salt_serving.proofs.Continuing.{continues-behind, ends-behind, on-ok-both}
 use Rattle.salt_serving.proofs.lines.do_line.Goals as goal
 use Rattle.salt_serving.specs.Stopping.{outcome}
-use Rattle.salt_steps.proofs.Counted.{shapes}
+use Rattle.salt_storage.proofs.Staying.{stays-behind}
 use Rattle.std.proofs.lemmas.Result.{IfErr-weaker}
 
 pub returns-in-Ok-clause-counts : goal.returns-in-Ok-clause-counts
@@ -21,9 +21,8 @@ returns-in-Err-clause-err g c = IfErr-weaker c.resume.result _ _ (λ stop ends s
     let b = c.in-Err.ensures.err start trace s in
     ends-behind _ _ _ _ c.in-Err.halt start trace _ _ _ _ b _ _ _ _ stop (ends start b.after b.halts)) c.resume.ensures.err
 
-pub returns-in-Err-clause-shape : goal.returns-in-Err-clause-shape
-returns-in-Err-clause-shape g c =
-    let view = g.D.Disks.view in shapes (view c.args.disks.now) (view c.ask_line.new.disks) (view c.resume.new.disks) c.ask_line.ensures.shape c.resume.ensures.shape
+pub returns-in-Err-clause-within : goal.returns-in-Err-clause-within
+returns-in-Err-clause-within g c = stays-behind c.ask_line.ensures.within c.resume.ensures.within
 
 pub returns-in-Err-clause-counts : goal.returns-in-Err-clause-counts
 returns-in-Err-clause-counts g c =

@@ -5,8 +5,8 @@ use Rattle.salt_serving.proofs.loading.load.Goals as goal
 use Rattle.salt_serving.specs.Counted.{CountsAdded}
 use Rattle.salt_serving.specs.Stopping.{outcome, status_of}
 use Rattle.salt_serving.specs.declared.status.Status.{Status}
-use Rattle.salt_steps.proofs.Counted.{shapes}
-use Rattle.std.proofs.Common.{arith, subst, ◌∙◌}
+use Rattle.salt_storage.proofs.Staying.{stays-behind}
+use Rattle.std.proofs.Common.{arith, subst}
 
 pub start-requires-clause-down : goal.start-requires-clause-down
 start-requires-clause-down g c = let b = c.requires.begins in (b.0, b.1, b.2.down)
@@ -30,8 +30,7 @@ loop-i-init g c =
       over = λ start trace begins.
           loading-begun (g.E.Stepping.sees (view c.start.new.disks)) c.args.calls start trace c.start.new.database c.args.story.now c.start.new.story begins.unasked
           (was-ok c.start.result _ c.in_default.not-Err c.start.ensures.ok start trace begins.down);
-      asked = c.start.ensures.asked;
-      shape = c.start.ensures.shape;
+      within = c.start.ensures.within;
       counts = subst (λ (s : Status). CountsAdded (view c.args.disks.now) (view c.start.new.disks) s c.args.story.now c.start.new.story) (done-outcome c.start.result c.in_default.not-Err)
           (added-opened (view c.args.disks.now) (view c.start.new.disks) (outcome c.start.result) c.args.story.now c.start.new.story c.start.ensures.counts);
     }
@@ -42,8 +41,8 @@ serve_load_line-requires-clause-stands g c = let b = c.requires.begins in (b.0, 
 pub returns-in-Err-serve_load_line-clause-ended : goal.returns-in-Err-serve_load_line-clause-ended
 returns-in-Err-serve_load_line-clause-ended g c = λ start trace begins. c.in-Err-serve_load_line.ensures.err start (c.loop-i.invariant.over start trace begins)
 
-pub returns-in-Err-serve_load_line-clause-asked : goal.returns-in-Err-serve_load_line-clause-asked
-returns-in-Err-serve_load_line-clause-asked g c = c.serve_load_line.ensures.asked ∙ c.loop-i.invariant.asked
+pub returns-in-Err-serve_load_line-clause-within : goal.returns-in-Err-serve_load_line-clause-within
+returns-in-Err-serve_load_line-clause-within g c = stays-behind c.loop-i.invariant.within c.serve_load_line.ensures.within
 
 pub returns-in-Err-serve_load_line-clause-counts : goal.returns-in-Err-serve_load_line-clause-counts
 returns-in-Err-serve_load_line-clause-counts g c =
@@ -51,18 +50,12 @@ returns-in-Err-serve_load_line-clause-counts g c =
     added-both (view c.args.disks.now) (view c.loop-i.disks) (view c.serve_load_line.new.disks) _ c.args.story.now c.loop-i.story c.serve_load_line.new.story c.loop-i.invariant.counts
     c.in-Err-serve_load_line.ensures.counts
 
-pub returns-in-Err-serve_load_line-clause-shape : goal.returns-in-Err-serve_load_line-clause-shape
-returns-in-Err-serve_load_line-clause-shape g c =
-    let view = g.D.Disks.view in
-    shapes (view c.args.disks.now) (view c.loop-i.disks) (view c.serve_load_line.new.disks) c.loop-i.invariant.shape c.serve_load_line.ensures.shape
-
 pub loop-i-preserved : goal.loop-i-preserved
 loop-i-preserved g c =
     let view = g.D.Disks.view in
     record {
       over = λ start trace begins. was-ok c.serve_load_line.result _ c.in_default-serve_load_line.not-Err c.serve_load_line.ensures.ok start (c.loop-i.invariant.over start trace begins);
-      asked = c.serve_load_line.ensures.asked ∙ c.loop-i.invariant.asked;
-      shape = shapes (view c.args.disks.now) (view c.loop-i.disks) (view c.serve_load_line.new.disks) c.loop-i.invariant.shape c.serve_load_line.ensures.shape;
+      within = stays-behind c.loop-i.invariant.within c.serve_load_line.ensures.within;
       counts = added-both (view c.args.disks.now) (view c.loop-i.disks) (view c.serve_load_line.new.disks) _ c.args.story.now c.loop-i.story c.serve_load_line.new.story c.loop-i.invariant.counts
           (subst (λ (s : Status). CountsAdded (view c.loop-i.disks) (view c.serve_load_line.new.disks) s c.loop-i.story c.serve_load_line.new.story)
           (done-outcome c.serve_load_line.result c.in_default-serve_load_line.not-Err) c.serve_load_line.ensures.counts);
@@ -75,5 +68,5 @@ returns-clause-ended g c = λ start trace begins.
     all-loaded (g.E.Stepping.sees now) start c.args.calls c.loop-i.i e c.loop-i.story (c.loop-i.invariant.over start trace begins) (g.E.Stepping.lies now e) (g.E.Stepping.left now e) (g.E.Stepping.fills now e)
     (g.E.Stepping.flight e) c.stands.ensures.idle c.stands.ensures.flown c.stands.ensures.left (omega arith) c.line_count.result c.line_count.ensures
 
-pub returns-clause-asked : goal.returns-clause-asked
-returns-clause-asked g c = c.loop-i.invariant.asked
+pub returns-clause-within : goal.returns-clause-within
+returns-clause-within g c = c.loop-i.invariant.within

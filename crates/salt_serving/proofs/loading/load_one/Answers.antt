@@ -4,7 +4,7 @@ use Rattle.salt_serving.proofs.LoadSpelled.{account-spelled, transfer-spelled}
 use Rattle.salt_serving.proofs.Loads.{asked-by-load, ends-loading, line-loaded, loaded-behind}
 use Rattle.salt_serving.proofs.loading.load_one.Goals as goal
 use Rattle.salt_serving.specs.Stopping.{outcome}
-use Rattle.salt_steps.proofs.Counted.{shapes}
+use Rattle.salt_storage.proofs.Staying.{stays-behind}
 
 pub step-requires-clause-served : goal.step-requires-clause-served
 step-requires-clause-served g c =
@@ -45,9 +45,8 @@ returns-in-Err-clause-err g c = IfErr-both c.resume.result _ _ _ (λ stop ends l
     ends-loading (g.E.Stepping.sees (view c.args.disks.now)) start c.args.calls c.args.i c.args.database.now c.args.story.now loading c.args.line.now c.requires.within c.requires.is _ _ _ _ c.in-Err.halt c.step.new.story c.resume.new.story b
     _ _ _ _ stop later (ends start b.after b.halts)) c.resume.ensures.err c.resume.ensures.later
 
-pub returns-in-Err-clause-shape : goal.returns-in-Err-clause-shape
-returns-in-Err-clause-shape g c =
-    let view = g.D.Disks.view in shapes (view c.args.disks.now) (view c.step.new.disks) (view c.resume.new.disks) c.step.ensures.shape c.resume.ensures.shape
+pub returns-in-Err-clause-within : goal.returns-in-Err-clause-within
+returns-in-Err-clause-within g c = stays-behind c.step.ensures.within c.resume.ensures.within
 
 pub returns-in-Err-clause-counts : goal.returns-in-Err-clause-counts
 returns-in-Err-clause-counts g c =

@@ -29,7 +29,7 @@ schema-requires g c =
     let b = c.requires.begins in
     record {
       left =
-          left-there (g.E.Stepping.sees now) (g.E.Stepping.lies now e) (g.E.Stepping.left now e) (g.E.Stepping.fills now e) (g.E.Stepping.flight e) e c.stands.ensures.idle c.stands.ensures.flown c.stands.ensures.left
+          left-there (g.E.Stepping.sees now) (g.E.Stepping.lies now e) (g.E.Stepping.left now e) (g.E.Stepping.fills now e) (g.E.Stepping.flight e) e c.stands.ensures.idle c.stands.ensures.flown c.stands.ensures.left c.stands.ensures.told
           b.0 c.start-done.new.story c.start-done.result (on_ok_weaker c.start-done.result (λ opened. let o = opened b.0 b.1 b.2.down in (o.after, o.serves)) c.start-done.ensures.ok)
           (IfErr-weaker c.start-done.result _ _ (λ stop ends. let x = ends b.0 b.1 b.2.down in (x.after, x.ends)) c.start-done.ensures.err);
     }
@@ -41,7 +41,7 @@ returns-clause-ok g c =
     let e = c.start-done.new.database in
     ok-for-all Start Trace (λ start trace. IsToBegin (g.E.Stepping.lies old c.args.database.now) (g.E.Stepping.flight c.args.database.now) start c.args.story.now trace) c.write_done.result
     (λ start trace. IsBegun (g.E.Stepping.sees now) start e c.start-done.new.story (g.K.Sink.held c.args.sink.now) (g.K.Sink.held c.write_done.new.sink)) (λ start trace begins.
-    begun-ok (g.E.Stepping.sees now) (g.E.Stepping.lies now e) (g.E.Stepping.left now e) (g.E.Stepping.fills now e) (g.E.Stepping.flight e) e c.stands.ensures.idle c.stands.ensures.flown c.stands.ensures.left
+    begun-ok (g.E.Stepping.sees now) (g.E.Stepping.lies now e) (g.E.Stepping.left now e) (g.E.Stepping.fills now e) (g.E.Stepping.flight e) e c.stands.ensures.idle c.stands.ensures.flown c.stands.ensures.left c.stands.ensures.told
     c.schema.result.now c.schema.ensures.serves c.schema.ensures.lies c.args.story.now c.start-done.new.story (g.K.Sink.held c.args.sink.now) (g.K.Sink.held c.write_done.new.sink) start trace begins.unasked
     c.start-done.result c.write_done.result (on_ok_weaker c.start-done.result (λ opened. opened start trace begins.down) c.start-done.ensures.ok)
     (subst (λ (es : List Event). EndsWriting c.start-done.result (story_text c.schema.result.now es) (g.K.Sink.held c.args.sink.now) (g.K.Sink.held c.write_done.new.sink) c.write_done.result)
@@ -55,7 +55,7 @@ returns-clause-stops g c =
     err-for-all Start Trace (λ start trace. IsToBegin (g.E.Stepping.lies old c.args.database.now) (g.E.Stepping.flight c.args.database.now) start c.args.story.now trace) c.write_done.result
     (λ start trace stop. (script rest : Option (List ℕ)) → EndsServing (g.E.Stepping.lies now e) (g.E.Stepping.left now e) (g.E.Stepping.fills now e) (g.E.Stepping.flight e) start (status_of stop) script rest
     (g.K.Sink.held c.args.sink.now) c.start-done.new.story (g.K.Sink.held c.write_done.new.sink)) (λ start trace begins.
-    begun-err (g.E.Stepping.sees now) (g.E.Stepping.lies now e) (g.E.Stepping.left now e) (g.E.Stepping.fills now e) (g.E.Stepping.flight e) e c.stands.ensures.idle c.stands.ensures.flown c.stands.ensures.left
+    begun-err (g.E.Stepping.sees now) (g.E.Stepping.lies now e) (g.E.Stepping.left now e) (g.E.Stepping.fills now e) (g.E.Stepping.flight e) e c.stands.ensures.idle c.stands.ensures.flown c.stands.ensures.left c.stands.ensures.told
     c.schema.result.now c.schema.ensures.serves c.schema.ensures.lies c.args.story.now c.start-done.new.story (g.K.Sink.held c.args.sink.now) (g.K.Sink.held c.write_done.new.sink) start trace begins.unasked
     c.start-done.result c.write_done.result (on_ok_weaker c.start-done.result (λ opened. opened start trace begins.down) c.start-done.ensures.ok)
     (IfErr-weaker c.start-done.result _ _ (λ stop ends. ends start trace begins.down) c.start-done.ensures.err) c.start-done.ensures.later

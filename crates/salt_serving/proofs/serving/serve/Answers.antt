@@ -6,7 +6,7 @@ use Rattle.salt_serving.specs.Counted.{CountsAdded}
 use Rattle.salt_serving.specs.Ending.{EndsServing}
 use Rattle.salt_serving.specs.Serving.{IsAfterLine}
 use Rattle.salt_serving.specs.declared.status.Status.{Status}
-use Rattle.salt_steps.proofs.Counted.{shapes}
+use Rattle.salt_storage.proofs.Staying.{stays-behind}
 use Rattle.std.proofs.Common.{refl, subst, ◌∙◌}
 use Rattle.std.specs.Prelude.{Bool}
 
@@ -32,9 +32,8 @@ lines-init g c =
           serving-begun (g.E.Stepping.sees (view c.begin.new.disks)) start c.begin.new.database c.new.result (g.S.Source.left c.args.source.now) (g.K.Sink.held c.args.sink.now) (g.K.Sink.held c.begin.new.sink)
           c.begin.new.story (c.in_ok-begin.ensures.ok start trace begins) c.new.ensures;
       reads = refl;
-      asked = c.begin.ensures.asked;
+      within = c.begin.ensures.within;
       writes = c.in_ok-begin.ensures.no_write_fault (λ e. cc);
-      shape = c.begin.ensures.shape;
       counts = c.in_ok-begin.ensures.counts;
     }
 
@@ -71,8 +70,7 @@ lines-preserved g c =
           (c.in_ok-serve_line.ensures.goes start (g.S.Source.left c.args.source.now) (g.K.Sink.held c.args.sink.now) (c.lines.invariant.over start trace begins));
       reads = c.in_ok-serve_line.ensures.no_read_fault (λ x. cc) ∙ c.lines.invariant.reads;
       writes = c.in_ok-serve_line.ensures.no_write_fault (λ x. cc) ∙ c.lines.invariant.writes;
-      asked = c.serve_line.ensures.asked ∙ c.lines.invariant.asked;
-      shape = shapes old (view c.lines.disks) now c.lines.invariant.shape c.serve_line.ensures.shape;
+      within = stays-behind c.lines.invariant.within c.serve_line.ensures.within;
       counts = added-both old (view c.lines.disks) now _ c.args.story.now c.lines.story c.serve_line.new.story c.lines.invariant.counts c.in_ok-serve_line.ensures.counts;
     }
 
@@ -98,11 +96,8 @@ returns-clause-counts g c =
     let view = g.D.Disks.view in
     added-both (view c.args.disks.now) (view c.lines.disks) (view c.serve_line.new.disks) _ c.args.story.now c.lines.story c.serve_line.new.story c.lines.invariant.counts c.in_ok-serve_line.ensures.counts
 
-pub returns-clause-shape : goal.returns-clause-shape
-returns-clause-shape g c = let view = g.D.Disks.view in shapes (view c.args.disks.now) (view c.lines.disks) (view c.serve_line.new.disks) c.lines.invariant.shape c.serve_line.ensures.shape
+pub returns-clause-within : goal.returns-clause-within
+returns-clause-within g c = stays-behind c.lines.invariant.within c.serve_line.ensures.within
 
-pub returns-in_err-serve_line-clause-asked : goal.returns-in_err-serve_line-clause-asked
-returns-in_err-serve_line-clause-asked g c = c.serve_line.ensures.asked ∙ c.lines.invariant.asked
-
-pub returns-clause-asked : goal.returns-clause-asked
-returns-clause-asked g c = c.serve_line.ensures.asked ∙ c.lines.invariant.asked
+pub returns-in_err-serve_line-clause-within : goal.returns-in_err-serve_line-clause-within
+returns-in_err-serve_line-clause-within g c = stays-behind c.lines.invariant.within c.serve_line.ensures.within

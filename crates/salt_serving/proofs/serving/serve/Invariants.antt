@@ -1,9 +1,9 @@
-use Rattle.salt_disk.specs.Disks.{SameShape}
 use Rattle.salt_model.specs.Trace.{Start, Trace}
 use Rattle.salt_serving.proofs.serving.serve.Given as goal
 use Rattle.salt_serving.specs.Counted.{CountsAdded}
 use Rattle.salt_serving.specs.Serving.{IsServing, IsToBegin}
 use Rattle.salt_serving.specs.declared.status.Status.TheVariants.{Done}
+use Rattle.salt_storage.specs.Staying.{StaysWithin}
 use Rattle.salt_values.specs.declared.limits.TheConstants.{SCRIPT_MOST}
 use Rattle.std.proofs.Common.{◌-◌, ◌≡◌}
 
@@ -13,8 +13,7 @@ invariant-lines g l = record {
       IsServing (g.E.Stepping.sees (g.D.Disks.view l.disks)) start (g.S.Source.left l.fn.source) (g.K.Sink.held l.fn.sink) l.database l.serving.lines (g.S.Source.left l.source) l.story (g.K.Sink.held l.sink);
   reads : g.S.Source.faults l.source ≡ g.S.Source.faults l.fn.source;
   writes : g.K.Sink.faults l.sink ≡ g.K.Sink.faults l.fn.sink;
-  asked : g.E.Stepping.asked l.database ≡ g.E.Stepping.asked l.fn.database;
-  shape : SameShape (g.D.Disks.view l.fn.disks) (g.D.Disks.view l.disks);
+  within : StaysWithin (g.E.Stepping.asked l.fn.database) (g.E.Stepping.asked l.database) (g.D.Disks.view l.fn.disks) (g.D.Disks.view l.disks);
   counts : CountsAdded (g.D.Disks.view l.fn.disks) (g.D.Disks.view l.disks) Done l.fn.story l.story;
 }
 

@@ -1,10 +1,12 @@
+use Rattle.salt_disk.specs.Disks.{KeepsAll}
 use Rattle.salt_model.specs.declared.events.Event.{Event}
-use Rattle.salt_steps.proofs.Counted.{opening-join, opening-none, same-shape, shapes}
-use Rattle.salt_steps.proofs.AtFirst.{fails-to-find, falls-unfound, first-before, later-by, no-more-behind, none-told, same-found, unchanged-by}
+use Rattle.salt_steps.proofs.Counted.{opening-join, opening-none}
+use Rattle.salt_steps.proofs.AtFirst.{at-first, fails-to-find, falls-unfound, first-before, later-by, no-more-behind, none-told, same-found}
 use Rattle.salt_steps.proofs.finding.find.Goals as goal
 use Rattle.salt_steps.specs.Counting.{CountsOpening}
 use Rattle.salt_steps.specs.Opening.{IsUnfound}
-use Rattle.std.proofs.Common.{ap, inl, inr, subst, sym, ◌∙◌}
+use Rattle.salt_storage.proofs.Staying.{stays-behind, stays-same}
+use Rattle.std.proofs.Common.{ap, inl, inr, subst, sym}
 use Rattle.std.proofs.lemmas.Result.{err_from_is_err_and}
 use Rattle.std.specs.Prelude.{Err, List, None, Ok, [], refl}
 
@@ -18,10 +20,9 @@ stops-init g c =
       unfound = none-told c.args.story.now c.requires.empty;
       less = same-found (g.S.Storage.refuses v s) (g.S.Storage.finds v s);
       counts = subst (λ (told : List Event). CountsOpening v v None [] told) (sym c.requires.empty) (opening-none v []);
-      shape = same-shape v;
       untold = inl c.requires.empty;
-      untouched = inl refl;
-      asked = refl;
+      untouched = inl (refl, refl);
+      within = stays-same (g.S.Storage.asked s) v;
     }
 
 pub stops-preserved : goal.stops-preserved
@@ -36,10 +37,10 @@ stops-preserved g c =
       unfound = falls-unfound c.stops.story c.try_find.new.story known.unfound f.falls;
       less = no-more-behind _ _ _ _ _ _ known.less f.less;
       counts = opening-join (view c.args.disks.now) (view c.stops.disks) (view c.try_find.new.disks) _ [] c.stops.story c.try_find.new.story known.counts c.in_ok-found.ensures.counts;
-      shape = shapes (view c.args.disks.now) (view c.stops.disks) (view c.try_find.new.disks) known.shape c.in_ok-found.ensures.shape;
       untold = inr (c.in_ok-found.ensures.tried no);
-      untouched = inr (c.in_ok-found.ensures.tried no);
-      asked = c.in_ok-found.ensures.asked ∙ known.asked;
+      untouched = inr (at-first view (g.S.Storage.refuses) c.args.disks.now c.stops.disks c.args.storage.now c.stops.storage (λ v. ⊥) known.untouched
+          (λ refusal is refused told. (c.in_ok-found.ensures.unwritten refusal is refused told).1 no));
+      within = stays-behind known.within c.in_ok-found.ensures.within;
     }
 
 pub returns-in-Some-clause-found : goal.returns-in-Some-clause-found
@@ -58,13 +59,14 @@ returns-in-Some-clause-counts g c =
     let view = g.D.Disks.view in
     opening-join (view c.args.disks.now) (view c.stops.disks) (view c.try_find.new.disks) _ [] c.stops.story c.try_find.new.story c.stops.invariant.counts c.in_ok-found.ensures.counts
 
-pub returns-in-Some-clause-asked : goal.returns-in-Some-clause-asked
-returns-in-Some-clause-asked g c = c.in_ok-found.ensures.asked ∙ c.stops.invariant.asked
+pub returns-in-Some-clause-within : goal.returns-in-Some-clause-within
+returns-in-Some-clause-within g c = stays-behind c.stops.invariant.within c.in_ok-found.ensures.within
 
-pub returns-in-Some-clause-shape : goal.returns-in-Some-clause-shape
-returns-in-Some-clause-shape g c =
+pub returns-in-Some-clause-unwritten : goal.returns-in-Some-clause-unwritten
+returns-in-Some-clause-unwritten g c =
     let view = g.D.Disks.view in
-    shapes (view c.args.disks.now) (view c.stops.disks) (view c.try_find.new.disks) c.stops.invariant.shape c.in_ok-found.ensures.shape
+    at-first view (g.S.Storage.refuses) c.args.disks.now c.stops.disks c.args.storage.now c.stops.storage (λ v. KeepsAll v (view c.try_find.new.disks) None) c.stops.invariant.untouched
+    (λ refusal is refused told. (c.in_ok-found.ensures.unwritten refusal is refused told).0.keeps)
 
 pub returns-in_err-found-clause-err : goal.returns-in_err-found-clause-err
 returns-in_err-found-clause-err g c =
@@ -85,11 +87,5 @@ returns-in_err-found-clause-counts g c =
     let p = err_from_is_err_and c.from_residual.result c.from_residual.ensures.1 in
     rw (p.1, p.2) (opening-join (view c.args.disks.now) (view c.stops.disks) (view c.try_find.new.disks) _ [] c.stops.story c.try_find.new.story c.stops.invariant.counts c.in_err-found.ensures.counts)
 
-pub returns-in_err-found-clause-unchanged : goal.returns-in_err-found-clause-unchanged
-returns-in_err-found-clause-unchanged g c =
-    let p = err_from_is_err_and c.from_residual.result c.from_residual.ensures.1 in
-    rw (p.1, p.2) (unchanged-by g.D.Disks.view c.args.disks.now c.stops.disks c.try_find.new.disks (g.S.Storage.tried (g.D.Disks.view c.stops.disks) c.stops.storage) _ c.stops.invariant.untouched
-    c.in_err-found.ensures.later c.in_err-found.ensures.unchanged)
-
-pub returns-in_err-found-clause-asked : goal.returns-in_err-found-clause-asked
-returns-in_err-found-clause-asked g c = c.in_err-found.ensures.asked ∙ c.stops.invariant.asked
+pub returns-in_err-found-clause-within : goal.returns-in_err-found-clause-within
+returns-in_err-found-clause-within g c = stays-behind c.stops.invariant.within c.in_err-found.ensures.within

@@ -1,9 +1,12 @@
-use Rattle.salt_disk.specs.Disks.{SameShape}
+use Rattle.salt_disk.specs.Disks.{stops_left}
 use Rattle.salt_steps.proofs.finding.find.Given as goal
 use Rattle.salt_steps.specs.Counting.{CountsOpening}
 use Rattle.salt_steps.specs.Opening.{IsUnfound}
+use Rattle.salt_storage.specs.Answers.{IsRefusal}
 use Rattle.salt_storage.specs.Writing.{FindsNoMore}
-use Rattle.std.specs.Prelude.{None, [], ◌≡◌, ◌⊎◌}
+use Rattle.salt_storage.specs.Staying.{StaysWithin}
+use Rattle.salt_storage.specs.declared.open.OpenErr.{OpenErr}
+use Rattle.std.specs.Prelude.{IsTrue, None, [], ◌≡◌, ◌⊎◌}
 
 abbrev pub invariant-stops : goal.invariant-stops
 invariant-stops g l = record {
@@ -13,11 +16,11 @@ invariant-stops g l = record {
   less : FindsNoMore (g.S.Storage.refuses (g.D.Disks.view l.fn.disks) l.fn.storage) (g.S.Storage.finds (g.D.Disks.view l.fn.disks) l.fn.storage)
       (g.S.Storage.refuses (g.D.Disks.view l.disks) l.storage) (g.S.Storage.finds (g.D.Disks.view l.disks) l.storage);
   counts : CountsOpening (g.D.Disks.view l.fn.disks) (g.D.Disks.view l.disks) None [] l.story;
-  shape : SameShape (g.D.Disks.view l.fn.disks) (g.D.Disks.view l.disks);
   untold : (l.story ≡ []) ⊎ g.S.Storage.tried (g.D.Disks.view l.disks) l.storage;
-  untouched : (l.disks ≡ l.fn.disks) ⊎ g.S.Storage.tried (g.D.Disks.view l.disks) l.storage;
-  asked : g.S.Storage.asked l.storage ≡ g.S.Storage.asked l.fn.storage;
+  untouched : ((l.disks ≡ l.fn.disks) × (l.storage ≡ l.fn.storage)) ⊎
+      ((refusal : OpenErr) → IsRefusal refusal → g.S.Storage.refuses (g.D.Disks.view l.fn.disks) l.fn.storage refusal → IsTrue (g.D.Disks.view l.fn.disks).told → ⊥);
+  within : StaysWithin (g.S.Storage.asked l.fn.storage) (g.S.Storage.asked l.storage) (g.D.Disks.view l.fn.disks) (g.D.Disks.view l.disks);
 }
 
 abbrev pub decreases-stops : goal.decreases-stops
-decreases-stops g l = (g.D.Disks.view l.disks).stops_left
+decreases-stops g l = stops_left (g.D.Disks.view l.disks)

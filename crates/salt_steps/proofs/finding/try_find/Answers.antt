@@ -1,8 +1,9 @@
-use Rattle.salt_steps.proofs.Counted.{fewer-stops, opening-fallen, opening_cause, shapes, short-counts}
+use Rattle.salt_steps.proofs.Counted.{fewer-stops, opening-fallen, opening_cause, short-counts}
 use Rattle.salt_steps.proofs.AtFirst.{finds-by, no-more-behind, same-some}
 use Rattle.salt_steps.proofs.finding.try_find.Goals as goal
 use Rattle.salt_steps.specs.Counting.{CountsOpening}
 use Rattle.salt_steps.specs.Opening.{FindsFirst}
+use Rattle.salt_storage.proofs.Staying.{stays-behind}
 use Rattle.salt_storage.specs.Answers.{open_disk_err_of}
 use Rattle.salt_storage.specs.declared.open.OpenErr.TheVariants.{Halted}
 use Rattle.salt_storage.specs.declared.open.OpenErr.{OpenErr}
@@ -49,9 +50,8 @@ returns-in_ok-push-in-Err-Halted-Stopped-clause-fewer g c = λ is.
     (opening_cause (view c.args.disks.now) (view c.open.new.disks) _ story stop.ensures.cause))
     c.restart.ensures.stops
 
-pub returns-in_ok-push-in-Err-Halted-Stopped-clause-shape : goal.returns-in_ok-push-in-Err-Halted-Stopped-clause-shape
-returns-in_ok-push-in-Err-Halted-Stopped-clause-shape g c =
-    shapes (g.D.Disks.view c.args.disks.now) (g.D.Disks.view c.open.new.disks) (g.D.Disks.view c.restart.new.disks) c.in-Err-Halted-Stopped.ensures.shape c.restart.ensures.shape
+pub returns-in_ok-push-in-Err-Halted-Stopped-clause-within : goal.returns-in_ok-push-in-Err-Halted-Stopped-clause-within
+returns-in_ok-push-in-Err-Halted-Stopped-clause-within g c = stays-behind c.in-Err-Halted-Stopped.ensures.within c.restart.ensures.within
 
 pub returns-in_err-push-in-Err-Halted-Stopped-clause-counts : goal.returns-in_err-push-in-Err-Halted-Stopped-clause-counts
 returns-in_err-push-in-Err-Halted-Stopped-clause-counts g c =
@@ -62,3 +62,16 @@ returns-in_err-push-in-Err-Halted-Stopped-clause-counts g c =
     rw (p.1, p.2) (short-counts (view c.args.disks.now) (view c.open.new.disks) _ story story c.push.new.self
     (opening_cause (view c.args.disks.now) (view c.open.new.disks) _ story stop.ensures.cause)
     c.in_err-push-in-Err-Halted-Stopped.ensures.err (ap open_disk_err_of (stop.field-0-is ∙ ap Halted stop.field-0-0-is)))
+
+pub returns-in-Ok-clause-unwritten : goal.returns-in-Ok-clause-unwritten
+returns-in-Ok-clause-unwritten g c = λ refusal is refused told. (c.in-Ok.ensures.unwritten refusal is refused told, λ h. cc)
+
+pub returns-in_ok-push-in-Err-Halted-Stopped-clause-unwritten : goal.returns-in_ok-push-in-Err-Halted-Stopped-clause-unwritten
+returns-in_ok-push-in-Err-Halted-Stopped-clause-unwritten g c = λ refusal is refused told.
+    let stop = c.in-Err-Halted-Stopped in
+    absurd ((stop.ensures.unwritten refusal is refused told).unstopped (ap open_disk_err_of (stop.field-0-is ∙ ap Halted stop.field-0-0-is)))
+
+pub returns-in_err-push-in-Err-Halted-Stopped-clause-unwritten : goal.returns-in_err-push-in-Err-Halted-Stopped-clause-unwritten
+returns-in_err-push-in-Err-Halted-Stopped-clause-unwritten g c = λ refusal is refused told.
+    let stop = c.in-Err-Halted-Stopped in
+    absurd ((stop.ensures.unwritten refusal is refused told).unstopped (ap open_disk_err_of (stop.field-0-is ∙ ap Halted stop.field-0-0-is)))

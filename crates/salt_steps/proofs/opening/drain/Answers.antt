@@ -1,20 +1,20 @@
 use Rattle.salt_steps.proofs.Advancing.{broken-by, none-of, sound-on}
-use Rattle.salt_steps.proofs.Counted.{not-faulted, not-told, opening-join, opening-none, opening-said, opening-stop, same-shape, shapes}
+use Rattle.salt_steps.proofs.Counted.{not-faulted, not-told, opening-join, opening-none, opening-said, opening-stop}
 use Rattle.salt_steps.proofs.Draining.{Drains, drains-breaks, drains-counted, drains-most, drains-none, drains-on, drains-short, units-behind}
 use Rattle.salt_steps.proofs.opening.drain.Goals as goal
 use Rattle.salt_steps.specs.Counting.{armed_at}
-use Rattle.std.proofs.Common.{refl, subst, sym, ◌∙◌}
+use Rattle.salt_storage.proofs.Staying.{stays-behind, stays-same}
+use Rattle.std.proofs.Common.{subst, sym}
 use Rattle.std.proofs.lemmas.Result.{err_from_is_err_and}
-use Rattle.std.specs.Prelude.{None, ◌<◌, ◌≡◌}
+use Rattle.std.specs.Prelude.{None, [], ◌<◌, ◌≡◌}
 
 pub loop-next-init : goal.loop-next-init
 loop-next-init g c =
     let view = g.D.Disks.view c.args.disks.now in (
       λ p sound at. drains-none (g.E.Stepping.sees view) p c.args.first c.args.story.now c.args.database.now c.args.steps.now at,
       opening-none view c.args.story.now,
-      same-shape view,
       c.requires.unarmed,
-      refl,
+      stays-same (g.E.Stepping.asked c.args.database.now) view,
     )
 
 pub go_on-requires-clause-stands : goal.go_on-requires-clause-stands
@@ -48,10 +48,9 @@ loop-next-preserved g c =
           c.go_on.new.steps m.0 m.1 m.2 c.in_ok-next.ensures.tells c.in_ok-next.ensures.ticks,
       opening-join (view c.args.disks.now) (view c.loop-next.disks) (view c.go_on.new.disks) None story c.loop-next.story c.go_on.new.story known.1
           (opening-said (view c.loop-next.disks) (view c.go_on.new.disks) None c.loop-next.story c.go_on.new.story e c.in_ok-next.ensures.counts
-          (subst (λ o. armed_at o ≡ 0) c.in-Some.is known.3) (not-told e moved.1.1) (not-faulted e moved.1.1) c.in_ok-next.ensures.tells),
-      shapes (view c.args.disks.now) (view c.loop-next.disks) (view c.go_on.new.disks) known.2 c.in_ok-next.ensures.shape,
+          (subst (λ o. armed_at o ≡ []) c.in-Some.is known.2) (not-told e moved.1.1) (not-faulted e moved.1.1) c.in_ok-next.ensures.tells),
       c.in_ok-next.ensures.unarmed,
-      c.in_ok-next.ensures.asked ∙ known.4,
+      stays-behind known.3 c.in_ok-next.ensures.within,
     )
 
 pub returns-clause-ok : goal.returns-clause-ok
@@ -75,14 +74,8 @@ returns-clause-ticks g c =
 pub returns-clause-most : goal.returns-clause-most
 returns-clause-most g c = λ p sound at can. (c.loop-next.invariant.0 p sound at).most can
 
-pub returns-clause-shape : goal.returns-clause-shape
-returns-clause-shape g c = c.loop-next.invariant.2
-
 pub returns-clause-counts : goal.returns-clause-counts
 returns-clause-counts g c = c.loop-next.invariant.1
-
-pub returns-clause-asked : goal.returns-clause-asked
-returns-clause-asked g c = c.loop-next.invariant.4
 
 pub returns-in_err-next-clause-err : goal.returns-in_err-next-clause-err
 returns-in_err-next-clause-err g c =
@@ -93,7 +86,7 @@ returns-in_err-next-clause-err g c =
     let sees = g.E.Stepping.sees (g.D.Disks.view c.loop-next.disks) in
     let d = subst (λ o. Drains sees p c.args.first c.args.story.now c.loop-next.database o c.loop-next.story c.args.steps.now c.loop-next.steps) c.in-Some.is (c.loop-next.invariant.0 p sound at) in
     drains-breaks sees p sound c.args.first at.comes at.opening c.args.story.now c.loop-next.database c.in-Some.event c.loop-next.story c.args.steps.now c.loop-next.steps d (g.E.Stepping.lies view f 0)
-    (g.E.Stepping.left view f 0) (g.E.Stepping.fills view f) (g.E.Stepping.flight f) _ c.go_on.new.story
+    (g.E.Stepping.left view f None 0) (g.E.Stepping.fills view f) (g.E.Stepping.flight f) _ c.go_on.new.story
     (c.in_err-next.ensures.halts d.on.point (sound-on d.on.moves p d.on.point sound d.on.inside d.on.runs) d.on.stands))
 
 pub returns-in_err-next-clause-short : goal.returns-in_err-next-clause-short
@@ -108,7 +101,7 @@ returns-in_err-next-clause-short g c =
     let here = sound-on d.on.moves r.0 d.on.point r.1 d.on.inside d.on.runs in
     rw q.1
     (drains-short sees r.0 r.1 c.args.first r.2.comes r.2.opening c.args.story.now c.loop-next.database c.in-Some.event c.loop-next.story c.args.steps.now c.loop-next.steps d (g.E.Stepping.lies view f 0)
-    (g.E.Stepping.left view f 0) (g.E.Stepping.fills view f) (g.E.Stepping.flight f) _ c.go_on.new.story c.go_on.new.steps
+    (g.E.Stepping.left view f None 0) (g.E.Stepping.fills view f) (g.E.Stepping.flight f) _ c.go_on.new.story c.go_on.new.steps
     (c.in_err-next.ensures.halts d.on.point here d.on.stands) (c.in_err-next.ensures.short d.on.point here d.on.stands))
 
 pub returns-in_err-next-clause-most : goal.returns-in_err-next-clause-most
@@ -117,10 +110,6 @@ returns-in_err-next-clause-most g c = λ p sound at can.
     let d = subst (λ o. Drains sees p c.args.first c.args.story.now c.loop-next.database o c.loop-next.story c.args.steps.now c.loop-next.steps) c.in-Some.is (c.loop-next.invariant.0 p sound at) in
     drains-most sees p sound c.args.first at.comes at.opening c.args.story.now c.loop-next.database c.in-Some.event c.loop-next.story c.args.steps.now c.loop-next.steps d c.go_on.new.story
     c.go_on.new.steps (c.in_err-next.ensures.short d.on.point (sound-on d.on.moves p d.on.point sound d.on.inside d.on.runs) d.on.stands) can
-
-pub returns-in_err-next-clause-shape : goal.returns-in_err-next-clause-shape
-returns-in_err-next-clause-shape g c =
-    shapes (g.D.Disks.view c.args.disks.now) (g.D.Disks.view c.loop-next.disks) (g.D.Disks.view c.go_on.new.disks) c.loop-next.invariant.2 c.in_err-next.ensures.shape
 
 pub returns-in_err-next-clause-counts : goal.returns-in_err-next-clause-counts
 returns-in_err-next-clause-counts g c =
@@ -133,7 +122,10 @@ returns-in_err-next-clause-counts g c =
     let broken = c.in_err-next.ensures.halts d.on.point (sound-on d.on.moves r.0 d.on.point r.1 d.on.inside d.on.runs) d.on.stands in
     let q = err_from_is_err_and c.from_residual.result c.from_residual.ensures.1 in
     rw (q.1, q.2) (opening-stop (view c.args.disks.now) (view c.loop-next.disks) (view c.go_on.new.disks) _ story c.loop-next.story c.go_on.new.story c.in-Some.event known.1 c.in_err-next.ensures.counts
-    (subst (λ o. armed_at o ≡ 0) c.in-Some.is known.3) (broken-by _ _ _ _ _ d.on.point c.in-Some.event c.loop-next.story c.go_on.new.story broken))
+    (subst (λ o. armed_at o ≡ []) c.in-Some.is known.2) (broken-by _ _ _ _ _ d.on.point c.in-Some.event c.loop-next.story c.go_on.new.story broken))
 
-pub returns-in_err-next-clause-asked : goal.returns-in_err-next-clause-asked
-returns-in_err-next-clause-asked g c = c.in_err-next.ensures.asked ∙ c.loop-next.invariant.4
+pub returns-clause-within : goal.returns-clause-within
+returns-clause-within g c = c.loop-next.invariant.3
+
+pub returns-in_err-next-clause-within : goal.returns-in_err-next-clause-within
+returns-in_err-next-clause-within g c = stays-behind c.loop-next.invariant.3 c.in_err-next.ensures.within

@@ -1,8 +1,9 @@
-use Rattle.salt_steps.proofs.Counted.{opening-join, shapes}
+use Rattle.salt_steps.proofs.Counted.{opening-join}
 use Rattle.salt_steps.proofs.Falling.{breaks-behind, falls-behind, reopens-behind}
 use Rattle.salt_steps.proofs.opening.open.Goals as goal
 use Rattle.salt_steps.specs.Reopening.{OpensOrFalls}
-use Rattle.std.proofs.Common.{ap, subst, ◌∙◌}
+use Rattle.salt_storage.proofs.Staying.{stays-behind}
+use Rattle.std.proofs.Common.{ap, subst}
 use Rattle.std.proofs.lemmas.Result.{err_from_is_err_and}
 use Rattle.std.specs.Prelude.{Bool, Ok}
 
@@ -40,8 +41,7 @@ stops-preserved g c =
           falls-behind _ lies _ flies start trace told c.stops.story c.try_open.new.story f
           (subst (λ (b : Bool). OpensOrFalls b (g.E.Stepping.sees (view c.try_open.new.disks)) lies flies start f.after c.stops.story c.try_open.new.database c.try_open.new.story) fell (c.in_ok-try_open.ensures.ok start f.after f.down))),
       opening-join (view c.args.disks.now) (view c.stops.disks) (view c.try_open.new.disks) _ told c.stops.story c.try_open.new.story c.stops.invariant.2 c.in_ok-try_open.ensures.counts,
-      shapes (view c.args.disks.now) (view c.stops.disks) (view c.try_open.new.disks) c.stops.invariant.3 c.in_ok-try_open.ensures.shape,
-      c.in_ok-try_open.ensures.asked ∙ c.stops.invariant.4,
+      stays-behind c.stops.invariant.3 c.in_ok-try_open.ensures.within,
     )
 
 pub returns-clause-ok : goal.returns-clause-ok
@@ -59,8 +59,8 @@ returns-clause-counts g c =
     let view = g.D.Disks.view in
     opening-join (view c.args.disks.now) (view c.stops.disks) (view c.try_open.new.disks) _ c.args.story.now c.stops.story c.try_open.new.story c.stops.invariant.2 c.in_ok-try_open.ensures.counts
 
-pub returns-in_err-try_open-clause-asked : goal.returns-in_err-try_open-clause-asked
-returns-in_err-try_open-clause-asked g c = c.in_err-try_open.ensures.asked ∙ c.stops.invariant.4
+pub returns-in_err-try_open-clause-within : goal.returns-in_err-try_open-clause-within
+returns-in_err-try_open-clause-within g c = stays-behind c.stops.invariant.3 c.in_err-try_open.ensures.within
 
-pub returns-clause-asked : goal.returns-clause-asked
-returns-clause-asked g c = c.in_ok-try_open.ensures.asked ∙ c.stops.invariant.4
+pub returns-clause-within : goal.returns-clause-within
+returns-clause-within g c = stays-behind c.stops.invariant.3 c.in_ok-try_open.ensures.within

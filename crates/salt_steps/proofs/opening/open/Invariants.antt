@@ -1,10 +1,11 @@
-use Rattle.salt_disk.specs.Disks.{SameShape}
+use Rattle.salt_disk.specs.Disks.{stops_left}
 use Rattle.salt_model.specs.Trace.{Start, Trace}
 use Rattle.salt_steps.proofs.opening.open.Given as goal
 use Rattle.salt_steps.specs.Counting.{CountsOpening}
 use Rattle.salt_steps.specs.Reopening.{FallsAnew}
 use Rattle.salt_steps.specs.Serving.{IsDown}
-use Rattle.std.specs.Prelude.{None, ◌≡◌}
+use Rattle.salt_storage.specs.Staying.{StaysWithin}
+use Rattle.std.specs.Prelude.{None}
 
 abbrev pub invariant-stops : goal.invariant-stops
 invariant-stops g l =
@@ -12,8 +13,7 @@ invariant-stops g l =
     × ((start : Start) (trace : Trace) → IsDown (g.E.Stepping.lies (g.D.Disks.view l.fn.disks) l.fn.database) (g.E.Stepping.flight l.fn.database) start l.fn.story trace →
     FallsAnew (g.E.Stepping.lies (g.D.Disks.view l.disks) l.database) (g.E.Stepping.flight l.database) start trace l.fn.story l.story)
     × CountsOpening (g.D.Disks.view l.fn.disks) (g.D.Disks.view l.disks) None l.fn.story l.story
-    × SameShape (g.D.Disks.view l.fn.disks) (g.D.Disks.view l.disks)
-    × (g.E.Stepping.asked l.database ≡ g.E.Stepping.asked l.fn.database)
+    × StaysWithin (g.E.Stepping.asked l.fn.database) (g.E.Stepping.asked l.database) (g.D.Disks.view l.fn.disks) (g.D.Disks.view l.disks)
 
 abbrev pub decreases-stops : goal.decreases-stops
-decreases-stops g l = (g.D.Disks.view l.disks).stops_left
+decreases-stops g l = stops_left (g.D.Disks.view l.disks)

@@ -1,8 +1,9 @@
 use Rattle.salt_model.specs.declared.events.Event.TheVariants.{Opened}
-use Rattle.salt_steps.proofs.Counted.{opening-join, opening-said, opening-untold, shapes}
+use Rattle.salt_steps.proofs.Counted.{opening-join, opening-said, opening-untold}
 use Rattle.salt_steps.proofs.Openings.{behind-opened, down-fallen, down-sound, opened-sound, opening-breaks, opening-ends, opening-fails}
 use Rattle.salt_steps.proofs.opening.open_found.Goals as goal
-use Rattle.std.proofs.Common.{ap, refl, ◌∙◌}
+use Rattle.salt_storage.proofs.Staying.{stays-behind}
+use Rattle.std.proofs.Common.{ap, refl}
 use Rattle.std.proofs.lemmas.Result.{IfErr-weaker, err_from_is_err_and, on_ok_weaker}
 use Rattle.std.specs.Prelude.{Err, None}
 
@@ -49,12 +50,8 @@ returns-clause-err g c = IfErr-weaker c.finish_opening.result _ _ (λ halt break
     opening-breaks lies flies start story trace d _ _ _ _ halt o.has c.open.new.story c.finish_opening.new.story o.tells
     (breaks o.has.point (opened-sound lies flies start story trace d o.has) o.stands)) c.finish_opening.ensures.err
 
-pub returns-clause-shape : goal.returns-clause-shape
-returns-clause-shape g c =
-    shapes (g.D.Disks.view c.args.disks.now) (g.D.Disks.view c.open.new.disks) (g.D.Disks.view c.finish_opening.new.disks) c.in_ok-first.ensures.shape c.finish_opening.ensures.shape
-
-pub returns-clause-asked : goal.returns-clause-asked
-returns-clause-asked g c = c.finish_opening.ensures.asked ∙ c.in_ok-first.ensures.asked
+pub returns-clause-within : goal.returns-clause-within
+returns-clause-within g c = stays-behind c.in_ok-first.ensures.within c.finish_opening.ensures.within
 
 pub returns-clause-counts : goal.returns-clause-counts
 returns-clause-counts g c =

@@ -1,6 +1,7 @@
-use Rattle.salt_steps.proofs.Counted.{opening-join, opening-untold, shapes}
+use Rattle.salt_steps.proofs.Counted.{opening-join, opening-untold}
 use Rattle.salt_steps.proofs.Openings.{finding-fails, found-down, not-short}
 use Rattle.salt_steps.proofs.opening.open_once.Goals as goal
+use Rattle.salt_storage.proofs.Staying.{stays-behind}
 use Rattle.std.proofs.lemmas.Result.{err_from_is_err_and}
 use Rattle.std.proofs.Common.{ap}
 use Rattle.std.specs.Prelude.{Err, None, refl}
@@ -22,9 +23,8 @@ returns-clause-ok g c = λ start trace d.
     (found-down (g.E.Stepping.lies (view c.args.disks.now) c.args.database.now) (g.E.Stepping.lies (view c.find.new.disks) c.find.new.self) (g.E.Stepping.flight c.args.database.now) (g.E.Stepping.flight c.find.new.self)
     start c.args.story.now trace d (c.in_ok-find.ensures.again (λ never. cc)) c.find.ensures.flies)
 
-pub returns-clause-shape : goal.returns-clause-shape
-returns-clause-shape g c =
-    shapes (g.D.Disks.view c.args.disks.now) (g.D.Disks.view c.find.new.disks) (g.D.Disks.view c.open_found.new.disks) c.find.ensures.shape c.open_found.ensures.shape
+pub returns-clause-within : goal.returns-clause-within
+returns-clause-within g c = stays-behind c.find.ensures.within c.open_found.ensures.within
 
 pub returns-in_err-find-clause-err : goal.returns-in_err-find-clause-err
 returns-in_err-find-clause-err g c =

@@ -1,11 +1,12 @@
-use Rattle.salt_steps.proofs.Counted.{fall-short}
+use Rattle.salt_steps.proofs.Counted.{fall-counts, fall-short}
 use Rattle.salt_steps.proofs.Falling.{breaks-behind, falls-served, halted-short, no-short-fall, reopens-behind}
 use Rattle.salt_steps.proofs.opening.recover.Goals as goal
 use Rattle.salt_steps.specs.Counting.{CountsFall}
 use Rattle.salt_model.specs.declared.events.Event.{Event}
+use Rattle.salt_storage.proofs.Staying.{stays-behind, stays-same}
 use Rattle.std.proofs.Common.{subst, sym}
 use Rattle.std.proofs.lemmas.Result.{IfErr-weaker, err_from_is_err_and, on_ok_weaker}
-use Rattle.std.specs.Prelude.{List}
+use Rattle.std.specs.Prelude.{List, None}
 
 pub returns-in_err-push-clause-err : goal.returns-in_err-push-clause-err
 returns-in_err-push-clause-err g c =
@@ -28,7 +29,7 @@ open-requires-clause-down g c =
     let view = g.D.Disks.view in
     let h = c.requires.halted in
     let f =
-    falls-served (g.E.Stepping.lies (view c.args.disks.now) c.args.database.now 0) (g.E.Stepping.left (view c.args.disks.now) c.args.database.now 0) (g.E.Stepping.fills (view c.args.disks.now) c.args.database.now) (g.E.Stepping.flight c.args.database.now) c.args.why h.0 h.1 c.args.story.now h.2
+    falls-served (g.E.Stepping.lies (view c.args.disks.now) c.args.database.now 0) (g.E.Stepping.left (view c.args.disks.now) c.args.database.now None 0) (g.E.Stepping.fills (view c.args.disks.now) c.args.database.now) (g.E.Stepping.flight c.args.database.now) c.args.why h.0 h.1 c.args.story.now h.2
     (g.E.Stepping.lies (view c.fall.new.disks) c.fall.new.self) (g.E.Stepping.flight c.fall.new.self) c.push.new.self (c.fall.ensures.lies 0) c.fall.ensures.flies c.in_ok-push.ensures.ok in
     (h.0, f.after, f.down)
 
@@ -38,7 +39,7 @@ returns-clause-ok g c = on_ok_weaker c.open.result (λ done start trace h.
     let lies = g.E.Stepping.lies (view c.fall.new.disks) c.fall.new.self in
     let flies = g.E.Stepping.flight c.fall.new.self in
     let f =
-    falls-served (g.E.Stepping.lies (view c.args.disks.now) c.args.database.now 0) (g.E.Stepping.left (view c.args.disks.now) c.args.database.now 0) (g.E.Stepping.fills (view c.args.disks.now) c.args.database.now) (g.E.Stepping.flight c.args.database.now) c.args.why start trace c.args.story.now h
+    falls-served (g.E.Stepping.lies (view c.args.disks.now) c.args.database.now 0) (g.E.Stepping.left (view c.args.disks.now) c.args.database.now None 0) (g.E.Stepping.fills (view c.args.disks.now) c.args.database.now) (g.E.Stepping.flight c.args.database.now) c.args.why start trace c.args.story.now h
     lies flies c.push.new.self (c.fall.ensures.lies 0) c.fall.ensures.flies c.in_ok-push.ensures.ok in
     reopens-behind lies lies flies flies start trace c.args.story.now c.push.new.self c.open.new.story f (g.E.Stepping.sees (view c.open.new.disks)) c.open.new.database (done start f.after f.down)) c.open.ensures.ok
 
@@ -48,7 +49,19 @@ returns-clause-err g c = IfErr-weaker c.open.result _ _ (λ e broken start trace
     let lies = g.E.Stepping.lies (view c.fall.new.disks) c.fall.new.self in
     let flies = g.E.Stepping.flight c.fall.new.self in
     let f =
-    falls-served (g.E.Stepping.lies (view c.args.disks.now) c.args.database.now 0) (g.E.Stepping.left (view c.args.disks.now) c.args.database.now 0) (g.E.Stepping.fills (view c.args.disks.now) c.args.database.now) (g.E.Stepping.flight c.args.database.now) c.args.why start trace c.args.story.now h
+    falls-served (g.E.Stepping.lies (view c.args.disks.now) c.args.database.now 0) (g.E.Stepping.left (view c.args.disks.now) c.args.database.now None 0) (g.E.Stepping.fills (view c.args.disks.now) c.args.database.now) (g.E.Stepping.flight c.args.database.now) c.args.why start trace c.args.story.now h
     lies flies c.push.new.self (c.fall.ensures.lies 0) c.fall.ensures.flies c.in_ok-push.ensures.ok in
     breaks-behind lies (g.E.Stepping.lies (view c.open.new.disks) c.open.new.database) flies (g.E.Stepping.flight c.open.new.database) start trace c.args.story.now c.push.new.self c.open.new.story f _ _ e
     (broken start f.after f.down)) c.open.ensures.err
+
+pub returns-clause-counts : goal.returns-clause-counts
+returns-clause-counts g c =
+    let view = g.D.Disks.view in
+    fall-counts c.args.why (view c.args.disks.now) (view c.fall.new.disks) (view c.open.new.disks) _ c.args.story.now c.push.new.self c.open.new.story c.fall.ensures.faults c.fall.ensures.stops
+    c.in_ok-push.ensures.ok c.open.ensures.counts
+
+pub returns-clause-within : goal.returns-clause-within
+returns-clause-within g c = stays-behind c.fall.ensures.within c.open.ensures.within
+
+pub returns-in_err-push-clause-within : goal.returns-in_err-push-clause-within
+returns-in_err-push-clause-within g c = stays-same (g.E.Stepping.asked c.args.database.now) (g.D.Disks.view c.args.disks.now)

@@ -1,7 +1,8 @@
-use Rattle.salt_steps.proofs.Counted.{fewer-stops, opening-fallen, shapes, short-counts}
+use Rattle.salt_steps.proofs.Counted.{fewer-stops, opening-fallen, short-counts}
 use Rattle.salt_steps.proofs.Falling.{breaks-short, falls-anew, lies-somewhere}
 use Rattle.salt_steps.proofs.opening.try_open.Goals as goal
 use Rattle.salt_steps.specs.Counting.{CountsOpening}
+use Rattle.salt_storage.proofs.Staying.{stays-behind}
 use Rattle.salt_storage.specs.Answers.{open_disk_err_of}
 use Rattle.salt_storage.specs.declared.open.OpenErr.TheVariants.{Halted}
 use Rattle.salt_storage.specs.declared.open.OpenErr.{OpenErr}
@@ -49,9 +50,8 @@ returns-in_ok-push-in-Err-Halted-Stopped-clause-fewer g c = λ is.
     (subst (λ (e : OpenErr). CountsOpening (view c.args.disks.now) (view c.open_once.new.disks) (open_disk_err_of e) c.args.story.now c.open_once.new.story) (stop.field-0-is ∙ ap Halted stop.field-0-0-is) stop.ensures.counts)
     c.fall.ensures.stops
 
-pub returns-in_ok-push-in-Err-Halted-Stopped-clause-shape : goal.returns-in_ok-push-in-Err-Halted-Stopped-clause-shape
-returns-in_ok-push-in-Err-Halted-Stopped-clause-shape g c =
-    shapes (g.D.Disks.view c.args.disks.now) (g.D.Disks.view c.open_once.new.disks) (g.D.Disks.view c.fall.new.disks) c.in-Err-Halted-Stopped.ensures.shape c.fall.ensures.shape
+pub returns-in_ok-push-in-Err-Halted-Stopped-clause-within : goal.returns-in_ok-push-in-Err-Halted-Stopped-clause-within
+returns-in_ok-push-in-Err-Halted-Stopped-clause-within g c = stays-behind c.in-Err-Halted-Stopped.ensures.within c.fall.ensures.within
 
 pub returns-in_err-push-in-Err-Halted-Stopped-clause-counts : goal.returns-in_err-push-in-Err-Halted-Stopped-clause-counts
 returns-in_err-push-in-Err-Halted-Stopped-clause-counts g c =

@@ -1,8 +1,9 @@
 use Rattle.std.proofs.lemmas.Result.{err_from_is_err_and}
 use Rattle.salt_keeps.specs.Points.{Turn}
 use Rattle.salt_steps.proofs.Advancing.{finish-where, none-of, sound-moved, sound-on, stop-turned, stop-turning, turn-on}
-use Rattle.salt_steps.proofs.Counted.{count-all, count-join, count-short, count-so-far, count-turn, shapes}
+use Rattle.salt_steps.proofs.Counted.{count-all, count-join, count-short, count-so-far, count-turn}
 use Rattle.salt_steps.proofs.serving.finish.Goals as goal
+use Rattle.salt_storage.proofs.Staying.{stays-behind}
 use Rattle.std.proofs.Common.{ap, subst, sym, ◌∙◌}
 use Rattle.std.specs.Prelude.{None, length, ◌<◌}
 
@@ -12,8 +13,8 @@ settle-requires-clause-stands g c = c.requires.stands
 pub loop-base-init : goal.loop-base-init
 loop-base-init g c = (
   c.in_ok-settle.ensures.ok,
-  count-so-far (g.D.Disks.view c.args.disks.now) (g.D.Disks.view c.settle.new.disks) c.args.first c.args.story.now c.settle.new.story c.in_ok-settle.ensures.shape c.in_ok-settle.ensures.counts,
-  c.in_ok-settle.ensures.asked,
+  count-so-far (g.D.Disks.view c.args.disks.now) (g.D.Disks.view c.settle.new.disks) c.args.first c.args.story.now c.settle.new.story c.in_ok-settle.ensures.counts,
+  c.in_ok-settle.ensures.within,
 )
 
 pub turn-requires-clause-stands : goal.turn-requires-clause-stands
@@ -44,12 +45,10 @@ loop-base-preserved g c =
           turn-on (g.E.Stepping.sees (view c.settle-in-Some.new.disks)) c.args.line.now (g.E.Stepping.sees (view c.loop-base.disks)) c.in-Some.base p r.0 c.args.story.now c.loop-base.story c.settle-in-Some.new.story c.loop-base.engine c.settle-in-Some.new.engine here r.1
           (c.in_ok-settle-2.ensures.ok r.0 (sound-moved (Turn c.in-Some.base) here.point r.0 tt sound r.1) r.2),
       count-so-far (view c.args.disks.now) (view c.settle-in-Some.new.disks) c.args.first c.args.story.now c.settle-in-Some.new.story
-          (shapes (view c.args.disks.now) (view c.turn.new.disks) (view c.settle-in-Some.new.disks)
-          (shapes (view c.args.disks.now) (view c.loop-base.disks) (view c.turn.new.disks) known.1.shape c.in_ok-next.ensures.shape) c.in_ok-settle-2.ensures.shape)
           (count-join (view c.args.disks.now) (view c.turn.new.disks) (view c.settle-in-Some.new.disks) None c.args.first c.in_ok-next.next c.args.story.now c.loop-base.story c.settle-in-Some.new.story
-          (count-turn (view c.args.disks.now) (view c.loop-base.disks) (view c.turn.new.disks) c.args.first c.args.story.now c.loop-base.story c.in_ok-next.next known.1 c.in_ok-next.ensures.shape c.in_ok-next.ensures.counts)
+          (count-turn (view c.args.disks.now) (view c.loop-base.disks) (view c.turn.new.disks) c.args.first c.args.story.now c.loop-base.story c.in_ok-next.next known.1 c.in_ok-next.ensures.counts)
           c.in_ok-settle-2.ensures.counts),
-      c.in_ok-settle-2.ensures.asked ∙ (c.in_ok-next.ensures.asked ∙ known.2),
+      stays-behind (stays-behind known.2 c.in_ok-next.ensures.within) c.in_ok-settle-2.ensures.within,
     )
 
 pub returns-clause-ok : goal.returns-clause-ok
@@ -58,9 +57,6 @@ returns-clause-ok g c = λ p starts at.
     let sound = sound-on here.moves p here.point starts here.inside here.runs in
     finish-where (g.E.Stepping.sees (g.D.Disks.view c.loop-base.disks)) c.args.line.now p c.args.story.now c.loop-base.story c.loop-base.engine here
     (sym (c.next_turn.ensures here.point sound here.stands.state) ∙ none-of c.next_turn.result c.in_default.not-Some)
-
-pub returns-clause-shape : goal.returns-clause-shape
-returns-clause-shape g c = c.loop-base.invariant.1.shape
 
 pub returns-clause-counts : goal.returns-clause-counts
 returns-clause-counts g c =
@@ -92,10 +88,6 @@ returns-in_err-next-clause-counts g c =
     let p = err_from_is_err_and c.from_residual-in_err-next.result c.from_residual-in_err-next.ensures.1 in
     rw (p.1, p.2) (count-short (view c.args.disks.now) (view c.loop-base.disks) (view c.turn.new.disks) _ c.args.first c.args.story.now c.loop-base.story c.loop-base.invariant.1 c.in_err-next.ensures.counts)
 
-pub returns-in_err-next-clause-shape : goal.returns-in_err-next-clause-shape
-returns-in_err-next-clause-shape g c =
-    shapes (g.D.Disks.view c.args.disks.now) (g.D.Disks.view c.loop-base.disks) (g.D.Disks.view c.turn.new.disks) c.loop-base.invariant.1.shape c.in_err-next.ensures.shape
-
 pub returns-in_err-settle-2-clause-err : goal.returns-in_err-settle-2-clause-err
 returns-in_err-settle-2-clause-err g c =
     let p = err_from_is_err_and c.from_residual-in_err-settle-2.result c.from_residual-in_err-settle-2.ensures.1 in
@@ -111,20 +103,14 @@ returns-in_err-settle-2-clause-counts g c =
     let view = g.D.Disks.view in
     let p = err_from_is_err_and c.from_residual-in_err-settle-2.result c.from_residual-in_err-settle-2.ensures.1 in
     rw (p.1, p.2) (count-join (view c.args.disks.now) (view c.turn.new.disks) (view c.settle-in-Some.new.disks) _ c.args.first c.in_ok-next.next c.args.story.now c.loop-base.story c.settle-in-Some.new.story
-    (count-turn (view c.args.disks.now) (view c.loop-base.disks) (view c.turn.new.disks) c.args.first c.args.story.now c.loop-base.story c.in_ok-next.next c.loop-base.invariant.1 c.in_ok-next.ensures.shape c.in_ok-next.ensures.counts)
+    (count-turn (view c.args.disks.now) (view c.loop-base.disks) (view c.turn.new.disks) c.args.first c.args.story.now c.loop-base.story c.in_ok-next.next c.loop-base.invariant.1 c.in_ok-next.ensures.counts)
     c.in_err-settle-2.ensures.counts)
 
-pub returns-in_err-settle-2-clause-shape : goal.returns-in_err-settle-2-clause-shape
-returns-in_err-settle-2-clause-shape g c =
-    let view = g.D.Disks.view in
-    shapes (view c.args.disks.now) (view c.turn.new.disks) (view c.settle-in-Some.new.disks)
-    (shapes (view c.args.disks.now) (view c.loop-base.disks) (view c.turn.new.disks) c.loop-base.invariant.1.shape c.in_ok-next.ensures.shape) c.in_err-settle-2.ensures.shape
+pub returns-clause-within : goal.returns-clause-within
+returns-clause-within g c = c.loop-base.invariant.2
 
-pub returns-in_err-next-clause-asked : goal.returns-in_err-next-clause-asked
-returns-in_err-next-clause-asked g c = c.in_err-next.ensures.asked ∙ c.loop-base.invariant.2
+pub returns-in_err-next-clause-within : goal.returns-in_err-next-clause-within
+returns-in_err-next-clause-within g c = stays-behind c.loop-base.invariant.2 c.in_err-next.ensures.within
 
-pub returns-in_err-settle-2-clause-asked : goal.returns-in_err-settle-2-clause-asked
-returns-in_err-settle-2-clause-asked g c = c.in_err-settle-2.ensures.asked ∙ (c.in_ok-next.ensures.asked ∙ c.loop-base.invariant.2)
-
-pub returns-clause-asked : goal.returns-clause-asked
-returns-clause-asked g c = c.loop-base.invariant.2
+pub returns-in_err-settle-2-clause-within : goal.returns-in_err-settle-2-clause-within
+returns-in_err-settle-2-clause-within g c = stays-behind (stays-behind c.loop-base.invariant.2 c.in_ok-next.ensures.within) c.in_err-settle-2.ensures.within

@@ -1,10 +1,11 @@
 use Rattle.std.proofs.lemmas.Result.{err_from_is_err_and}
 use Rattle.salt_keeps.specs.Points.{Say}
 use Rattle.salt_steps.proofs.Advancing.{advance-none, advance-on, advance-once, broken-by, none-of, sound-on, stop-saying}
-use Rattle.salt_steps.proofs.Counted.{count-all, count-none, count-on, count-stop, shapes}
+use Rattle.salt_steps.proofs.Counted.{count-all, count-none, count-on, count-stop}
 use Rattle.salt_steps.proofs.serving.settle.Goals as goal
 use Rattle.salt_steps.specs.Counting.{CountsSoFar}
 use Rattle.salt_steps.specs.Standing.{Advances, IsAt, left_to_come}
+use Rattle.salt_storage.proofs.Staying.{stays-behind, stays-same}
 use Rattle.std.proofs.Common.{subst, sym, ◌∙◌}
 use Rattle.std.specs.Prelude.{Some, refl, ◌<◌}
 
@@ -13,7 +14,7 @@ loop-next-init g c = (
   λ p sound at. advance-none (g.E.Stepping.sees (g.D.Disks.view c.args.disks.now)) c.args.line.now p c.args.story.now c.args.engine.now c.args.first at,
   count-none (g.D.Disks.view c.args.disks.now) c.args.first c.args.story.now,
   refl,
-  refl,
+  stays-same (g.E.Stepping.asked c.args.engine.now) (g.D.Disks.view c.args.disks.now),
 )
 
 pub say-requires-clause-stands : goal.say-requires-clause-stands
@@ -45,9 +46,9 @@ loop-next-preserved g c =
           (advance-once (g.E.Stepping.sees (view c.say.new.disks)) line (Say c.in-Some.event) tt here.point r.0 c.loop-next.story c.say.new.story c.say.new.self c.in_ok-next.next r.1 r.2 c.in_ok-next.ensures.tells),
       count-on (view c.args.disks.now) (view c.loop-next.disks) (view c.say.new.disks) c.args.first c.args.story.now c.loop-next.story c.say.new.story c.in-Some.event c.in_ok-next.next
           (subst (λ o. CountsSoFar (view c.args.disks.now) (view c.loop-next.disks) c.args.first c.args.story.now c.loop-next.story o) c.in-Some.is known.1)
-          c.in_ok-next.ensures.shape c.in_ok-next.ensures.counts moved.1.1 c.in_ok-next.ensures.tells,
+          c.in_ok-next.ensures.counts moved.1.1 c.in_ok-next.ensures.tells,
       c.in_ok-next.ensures.turns ∙ known.2,
-      c.in_ok-next.ensures.asked ∙ known.3,
+      stays-behind known.3 c.in_ok-next.ensures.within,
     )
 
 pub returns-clause-ok : goal.returns-clause-ok
@@ -57,9 +58,6 @@ returns-clause-ok g c = λ p sound starts.
 
 pub returns-clause-turns : goal.returns-clause-turns
 returns-clause-turns g c = c.loop-next.invariant.2
-
-pub returns-clause-shape : goal.returns-clause-shape
-returns-clause-shape g c = c.loop-next.invariant.1.shape
 
 pub returns-clause-counts : goal.returns-clause-counts
 returns-clause-counts g c =
@@ -92,12 +90,8 @@ returns-in_err-next-clause-counts g c =
     (subst (λ o. CountsSoFar (view c.args.disks.now) (view c.loop-next.disks) c.args.first c.args.story.now c.loop-next.story o) c.in-Some.is known.1)
     c.in_err-next.ensures.counts (broken-by _ _ _ _ _ here.point c.in-Some.event c.loop-next.story c.say.new.story broken))
 
-pub returns-in_err-next-clause-shape : goal.returns-in_err-next-clause-shape
-returns-in_err-next-clause-shape g c =
-    shapes (g.D.Disks.view c.args.disks.now) (g.D.Disks.view c.loop-next.disks) (g.D.Disks.view c.say.new.disks) c.loop-next.invariant.1.shape c.in_err-next.ensures.shape
+pub returns-in_err-next-clause-within : goal.returns-in_err-next-clause-within
+returns-in_err-next-clause-within g c = stays-behind c.loop-next.invariant.3 c.in_err-next.ensures.within
 
-pub returns-in_err-next-clause-asked : goal.returns-in_err-next-clause-asked
-returns-in_err-next-clause-asked g c = c.in_err-next.ensures.asked ∙ c.loop-next.invariant.3
-
-pub returns-clause-asked : goal.returns-clause-asked
-returns-clause-asked g c = c.loop-next.invariant.3
+pub returns-clause-within : goal.returns-clause-within
+returns-clause-within g c = c.loop-next.invariant.3

@@ -2,6 +2,7 @@ use Rattle.salt_keeps.specs.Points.{Point}
 use Rattle.salt_steps.proofs.serving.settle.Given as goal
 use Rattle.salt_steps.specs.Standing.{Advances, IsAt, IsSoundPoint, left_to_come}
 use Rattle.salt_steps.specs.Counting.{CountsSoFar}
+use Rattle.salt_storage.specs.Staying.{StaysWithin}
 use Rattle.std.specs.Prelude.{◌≡◌}
 
 abbrev pub invariant-loop-next : goal.invariant-loop-next
@@ -10,7 +11,7 @@ invariant-loop-next g l =
     Advances (g.E.Stepping.sees (g.D.Disks.view l.disks)) l.line p l.initial.story l.engine l.next l.story)
     × CountsSoFar (g.D.Disks.view l.initial.disks) (g.D.Disks.view l.disks) l.initial.next l.initial.story l.story l.next
     × (g.E.Stepping.turns l.engine ≡ g.E.Stepping.turns l.initial.engine)
-    × (g.E.Stepping.asked l.engine ≡ g.E.Stepping.asked l.initial.engine)
+    × StaysWithin (g.E.Stepping.asked l.initial.engine) (g.E.Stepping.asked l.engine) (g.D.Disks.view l.initial.disks) (g.D.Disks.view l.disks)
 
 abbrev pub decreases-loop-next : goal.decreases-loop-next
 decreases-loop-next g l = left_to_come (g.E.Stepping.waiting l.engine) l.next

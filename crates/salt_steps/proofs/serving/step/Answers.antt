@@ -1,9 +1,10 @@
 use Rattle.std.proofs.lemmas.Result.{err_from_is_err_and}
 use Rattle.salt_model.specs.Trace.{Tree}
 use Rattle.salt_steps.proofs.Advancing.{sound-asked}
-use Rattle.salt_steps.proofs.Counted.{count-join, count-none, count-short, count-turn, shapes}
+use Rattle.salt_steps.proofs.Counted.{count-join, count-none, count-short, count-turn}
 use Rattle.salt_steps.proofs.Segments.{breaks-by, breaks-untold, goes-by, serves-at}
 use Rattle.salt_steps.proofs.serving.step.Goals as goal
+use Rattle.salt_storage.proofs.Staying.{stays-behind}
 use Rattle.std.proofs.lemmas.Result.{IfErr-weaker, on_ok_weaker}
 use Rattle.std.specs.Prelude.{None}
 
@@ -37,12 +38,11 @@ returns-clause-broken_off g c = IfErr-weaker c.finish.result _ _ (λ halt stoppe
     let asked = Tree c.args.line.now in
     let sound = serves-at old old start c.args.engine.now c.args.story.now trace s in
     let r = c.in_ok-first.ensures.moves s.point sound s.stands in
-    breaks-by old old start (g.E.Stepping.lies (view c.finish.new.disks) c.finish.new.engine 0) (g.E.Stepping.left (view c.finish.new.disks) c.finish.new.engine 0) (g.E.Stepping.fills (view c.finish.new.disks) c.finish.new.engine) (g.E.Stepping.flight c.finish.new.engine) halt trace asked c.args.engine.now c.args.story.now c.finish.new.story s r.0 c.requires.key r.1
+    breaks-by old old start (g.E.Stepping.lies (view c.finish.new.disks) c.finish.new.engine 0) (g.E.Stepping.left (view c.finish.new.disks) c.finish.new.engine None 0) (g.E.Stepping.fills (view c.finish.new.disks) c.finish.new.engine) (g.E.Stepping.flight c.finish.new.engine) halt trace asked c.args.engine.now c.args.story.now c.finish.new.story s r.0 c.requires.key r.1
     (stopped r.0 (sound-asked asked s.point r.0 c.requires.key sound r.1) r.2)) c.finish.ensures.err
 
-pub returns-clause-shape : goal.returns-clause-shape
-returns-clause-shape g c =
-    shapes (g.D.Disks.view c.args.disks.now) (g.D.Disks.view c.ask.new.disks) (g.D.Disks.view c.finish.new.disks) c.in_ok-first.ensures.shape c.finish.ensures.shape
+pub returns-clause-within : goal.returns-clause-within
+returns-clause-within g c = stays-behind c.in_ok-first.ensures.within c.finish.ensures.within
 
 pub returns-clause-counts : goal.returns-clause-counts
 returns-clause-counts g c =
@@ -50,7 +50,7 @@ returns-clause-counts g c =
     let story = c.args.story.now in
     count-join (view c.args.disks.now) (view c.ask.new.disks) (view c.finish.new.disks) _ None c.in_ok-first.first story story c.finish.new.story
     (count-turn (view c.args.disks.now) (view c.args.disks.now) (view c.ask.new.disks) None story story c.in_ok-first.first
-    (count-none (view c.args.disks.now) None story) c.in_ok-first.ensures.shape c.in_ok-first.ensures.counts)
+    (count-none (view c.args.disks.now) None story) c.in_ok-first.ensures.counts)
     c.finish.ensures.counts
 
 pub returns-in_err-first-clause-broken_off : goal.returns-in_err-first-clause-broken_off
