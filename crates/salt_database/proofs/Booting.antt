@@ -2,6 +2,8 @@
 use Rattle.salt_books.specs.Books.{AreBooks}
 use Rattle.salt_books.specs.declared.books.Books.{Books}
 use Rattle.salt_database.proofs.Draining.{can-drain}
+use Rattle.salt_database.proofs.Falling.{IsCounted, counts}
+use Rattle.salt_database.proofs.Resting.{is_resting, rests-only}
 use Rattle.salt_database.specs.Finding.{BeginsOpening, Flies, IsOpenedBy, RestsOrFlies, first_in}
 use Rattle.salt_engine.specs.Deciding.{branches_in}
 use Rattle.salt_engine.specs.Flights.{IsInFlight}
@@ -15,11 +17,13 @@ use Rattle.salt_keeps.specs.OpenUnits.{UnitState}
 use Rattle.salt_keeps.specs.States.{State}
 use Rattle.salt_keeps.specs.Steps.{units_after}
 use Rattle.salt_keeps.specs.Told.{commits_in, next_decision}
+use Rattle.salt_model.specs.Next.{decision_in}
 use Rattle.salt_model.specs.Phases.{Opening}
 use Rattle.salt_model.specs.Trace.{Trace, ◌says◌}
 use Rattle.salt_model.specs.Turns.{is_statement_line}
+use Rattle.salt_model.specs.declared.events.End.TheVariants.{Cut}
 use Rattle.salt_model.specs.declared.events.Event.{Event}
-use Rattle.salt_model.specs.declared.events.Event.TheVariants.{Defined, Opened, Released}
+use Rattle.salt_model.specs.declared.events.Event.TheVariants.{Began, Defined, Ended, Opened, Ready, Released}
 use Rattle.salt_openings.proofs.Moving.{units-stand}
 use Rattle.salt_openings.proofs.Resting.{opening-comes}
 use Rattle.salt_recovery.proofs.Chosen.{gives-same}
@@ -33,7 +37,7 @@ use Rattle.std.proofs.Common.{ap, arith, inl, inr, subst, sym, ◌∙◌}
 use Rattle.std.proofs.lemmas.Bool.Decides.{nat_tests}
 use Rattle.std.specs.Bool.{then_some}
 use Rattle.std.specs.Option.{option_or}
-use Rattle.std.specs.Prelude.{Bool, IsSome, List, None, Option, Some, [], false, nat_lt, refl, true, ℕ, ◌+◌, ◌<◌, ◌==◌, ◌≡◌, ◌⊎◌, ◌≤◌}
+use Rattle.std.specs.Prelude.{Bool, IsSome, List, None, Option, Some, [], false, if◌then◌else◌, nat_lt, refl, true, ℕ, ◌+◌, ◌<◌, ◌==◌, ◌≡◌, ◌⊎◌, ◌≤◌}
 
 goes-as : (s : UnitState) (goes : List Id) → (goes ≡ []) ⊎ (goes ≡ s.to_go) → s.to_go ≡ [] → goes ≡ s.to_go
 goes-as s goes (inl e) none = e ∙ sym none
@@ -107,19 +111,20 @@ later-number m n flight (inr e) t = e.1
 no-later-number : (m n : ℕ) → nat_lt m n ≡ false → n < m + 1
 no-later-number m n t = let less = not-below m n t in omega arith
 
--- so what is given first is what is told behind the Opened
-pub begins : (x : Books) (single : Bool) (in_flight : Option InFlight) (f : Option Event) (boot n : ℕ) (old new : State) (later : Bool) (d : ℕ) (r : Recovery) (first : Event) →
-    (o : IsOpenedBy x single in_flight f boot n old new) → d ≡ x.known.decisions → later ≡ nat_lt d n → Gives new (first_in later f new.units) r (Some first) →
-    BeginsOpening f n new r first
-begins x single in_flight f boot n old new later d r first o same is given =
-    let known : d ≡ old.units.kept.decisions = same ∙ o.knows.are.known.decisions in
+pub first-told : (x : Books) (single : Bool) (in_flight : Option InFlight) (f : Option Event) (boot n : ℕ) (old new : State) (later : Bool) →
+    IsOpenedBy x single in_flight f boot n old new → later ≡ nat_lt x.known.decisions n → first_in later f new.units ≡ opened_in new.units n f
+first-told x single in_flight f boot n old new later o is =
     let now : next_decision new.units ≡ old.units.kept.decisions + 1 = ap next_decision o.after.units in
-    let test : later ≡ nat_lt old.units.kept.decisions n = is ∙ ap (λ m. nat_lt m n) known in
-    gives-same new (first_in later f new.units) (opened_in new.units n f) (Some first) r
-    (first-is later n f new.units
+    let test : later ≡ nat_lt old.units.kept.decisions n = is ∙ ap (λ m. nat_lt m n) o.knows.are.known.decisions in
+    first-is later n f new.units
     (λ t. later-number old.units.kept.decisions n f o.stands_for (sym test ∙ t) ∙ sym now)
-    (λ t. subst (λ m. n < m) (sym now) (no-later-number old.units.kept.decisions n (sym test ∙ t))))
-    given
+    (λ t. subst (λ m. n < m) (sym now) (no-later-number old.units.kept.decisions n (sym test ∙ t)))
+
+-- so what is given first is what is told behind the Opened
+pub begins : (x : Books) (single : Bool) (in_flight : Option InFlight) (f : Option Event) (boot n : ℕ) (old new : State) (later : Bool) (r : Recovery) (first : Event) →
+    IsOpenedBy x single in_flight f boot n old new → later ≡ nat_lt x.known.decisions n → Gives new (first_in later f new.units) r (Some first) → BeginsOpening f n new r first
+begins x single in_flight f boot n old new later r first o is given =
+    gives-same new (first_in later f new.units) (opened_in new.units n f) (Some first) r (first-told x single in_flight f boot n old new later o is) given
 
 -- THE FIRST EVENT, by what is in flight
 
@@ -155,3 +160,35 @@ first-rests x later in_flight f s none h =
     by : (later : Bool) → rest_in s.units ≡ first_in later None s.units
     by true = refl
     by false = refl
+
+-- WHAT IS STILL IN FLIGHT: the decision that was, where it is told first
+
+resting-undecided : (e : Event) → is_resting e ≡ true → decision_in (Some e) ≡ None
+resting-undecided (Ended u Cut) h = refl
+resting-undecided (Began u kind) h = refl
+resting-undecided Ready h = refl
+resting-undecided e h = cc
+
+rests-undecided : (s : UnitState) (e : Event) → Some e ≡ rest_in s → IsInFlight None (decision_in (Some e)) s
+rests-undecided s e told = resting-undecided e (rests-only s e told)
+
+pub first-still : (later : Bool) (i : Option InFlight) (f : Option Event) (s : UnitState) (e : Event) → IsInFlight i f s → Some e ≡ first_in later f s →
+    IsInFlight (if later then i else None) (decision_in (Some e)) s
+first-still false i f s e flies told = rests-undecided s e (told ∙ sym (first-untold false f s refl))
+first-still true None f s e flies told = rests-undecided s e (told ∙ ap (λ (o : Option Event). first_in true o s) flies)
+first-still true (Some i) f s e flies told = by (counts (Some i) f s flies)
+  where
+    by : (f ≡ None) ⊎ ((d : Event) × (f ≡ Some d) × IsCounted s d) → IsInFlight (Some i) (decision_in (Some e)) s
+    by (inl none) = let no = sym (flies-event i f s flies).1 ∙ none in cc
+    by (inr c) =
+        let is : Some e ≡ Some c.0 = told ∙ ap (λ (o : Option Event). first_in true o s) c.1 in
+        let decision : f ≡ decision_in (Some e) = c.1 ∙ ap (λ t. then_some t c.0) (sym c.2.decides) ∙ ap decision_in (sym is) in
+        subst (λ (o : Option Event). IsInFlight (Some i) o s) decision flies
+
+pub still-flies : (x : Books) (single : Bool) (in_flight still : Option InFlight) (f : Option Event) (boot n : ℕ) (old new : State) (later : Bool) (r : Recovery) (e : Event) →
+    IsOpenedBy x single in_flight f boot n old new → later ≡ nat_lt x.known.decisions n → BeginsOpening f n new r e → still ≡ (if later then in_flight else None) →
+    IsInFlight still (decision_in (Some e)) new.units
+still-flies x single in_flight still f boot n old new later r e o is begins same =
+    subst (λ (i : Option InFlight). IsInFlight i (decision_in (Some e)) new.units) (sym same)
+    (first-still later in_flight f new.units e (subst (IsInFlight in_flight f) (sym o.after.units) (flies-opened in_flight f boot n old.units o.flies))
+    (begins.told ∙ sym (first-told x single in_flight f boot n old new later o is)))

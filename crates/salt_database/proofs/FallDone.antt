@@ -16,7 +16,7 @@ use Rattle.salt_scheduler.specs.declared.scheduler.Scheduler.{Scheduler}
 use Rattle.salt_storage.specs.declared.found.Numbers.{Numbers}
 use Rattle.salt_values.specs.declared.id.Id.{Id}
 use Rattle.std.proofs.Common.{◌∙◌}
-use Rattle.std.specs.Prelude.{Bool, List, None, Option, Some, refl, ℕ, ◌≡◌}
+use Rattle.std.specs.Prelude.{Bool, IsSome, List, None, Option, Some, refl, ℕ, ◌≡◌}
 
 pub down-finds : (settled : Type 0) (leaves : Kept → Kept → Type 0) (stage : Stage Recovery) (s : UnitState) → (IsGoingStage stage → ⊥) → KnowsUnits (opening_books stage) s → settled →
     ((a b : Kept) × leaves a b) → CanFind settled leaves None stage
@@ -28,7 +28,7 @@ down-finds settled leaves at.Lost s down k t h = let none = k.1 in cc
 pub leaves-some : (holds : Kept → Type 0) (leaves : Kept → Kept → Type 0) (stoppable : Bool) (found : Option Numbers) (books : Option Books) (single : Bool) (in_flight : Option InFlight)
     (room : ℕ) (p : Point) → ((k : Kept) → holds k → leaves k k) → Lies holds leaves stoppable found books single in_flight room p → (a b : Kept) × leaves a b
 leaves-some holds leaves stoppable found books single in_flight room p stays h =
-    let l = left-stops holds leaves found room p stays h.left in
+    let l = left-stops holds leaves (IsSome in_flight) found room p stays h.left in
     (l.0, l.1, l.2)
 
 -- THE TABLES, by what is answered where there are books

@@ -1,7 +1,7 @@
 -- A run that has fallen: what is left, and what is in flight, stay.
 use Rattle.salt_engine.proofs.Decided.{named-own}
 use Rattle.salt_engine.specs.Flights.{IsInFlight}
-use Rattle.salt_engine.specs.Stored.{IsLeft, kept_behind, raised}
+use Rattle.salt_engine.specs.Stored.{IsLeft, MayBeOther, kept_behind, raised}
 use Rattle.salt_engine.specs.declared.flights.InFlight.{InFlight}
 use Rattle.salt_engine.specs.declared.flights.InFlight.TheVariants as asked
 use Rattle.salt_keeps.specs.Laws.{IsSound}
@@ -77,8 +77,8 @@ behind-fallen i f why s h = by (counts i f s h)
         ap (λ (g : Option Event). kept_behind g (units_after (Down why) s)) c.1 ∙ fallen-same s c.0 why c.2.decides
         ∙ sym (ap (λ (g : Option Event). kept_behind g s) c.1)
 
-pub left-fallen : (i : Option InFlight) (room : ℕ) (p q : Point) (k : Kept) → IsInFlight i p.flight p.state.units → IsFallenFrom p q → IsLeft room p k → IsLeft room q k
-left-fallen i room p q k flies fell left = record { boots = left.boots; most = left.most; is = by left.is }
+pub left-fallen : (doubt : Type 0) (i : Option InFlight) (room : ℕ) (p q : Point) (k : Kept) → IsInFlight i p.flight p.state.units → IsFallenFrom p q → IsLeft doubt room p k → IsLeft doubt room q k
+left-fallen doubt i room p q k flies fell left = record { boots = left.boots; most = left.most; is = by left.is }
   where
     kept : q.state.units.kept ≡ p.state.units.kept
     kept = ap (λ (s : UnitState). s.kept) fell.after.units
@@ -86,10 +86,10 @@ left-fallen i room p q k flies fell left = record { boots = left.boots; most = l
     behind : kept_behind q.flight q.state.units ≡ kept_behind p.flight p.state.units
     behind = (λ j. kept_behind (fell.flight j) (fell.after.units j)) ∙ behind-fallen i p.flight fell.why p.state.units flies
 
-    by : (k ≡ raised left.boots p.state.units.kept) ⊎ (k ≡ raised left.boots (kept_behind p.flight p.state.units)) →
-        (k ≡ raised left.boots q.state.units.kept) ⊎ (k ≡ raised left.boots (kept_behind q.flight q.state.units))
+    by : MayBeOther doubt (raised left.boots p.state.units.kept) (raised left.boots (kept_behind p.flight p.state.units)) k →
+        MayBeOther doubt (raised left.boots q.state.units.kept) (raised left.boots (kept_behind q.flight q.state.units)) k
     by (inl e) = inl (e ∙ ap (raised left.boots) (sym kept))
-    by (inr e) = inr (e ∙ ap (raised left.boots) (sym behind))
+    by (inr e) = inr (e.0, e.1 ∙ ap (raised left.boots) (sym behind))
 
 -- A RUN THAT IS DOWN may fall again so often, and stays at its point.
 

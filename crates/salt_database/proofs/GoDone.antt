@@ -3,11 +3,12 @@ use Rattle.salt_database.proofs.OpeningGoes.{leaves-less, meant, moves, point, s
 use Rattle.salt_database.proofs.ReadyDone.{ready-after, ready-bases, ready-books, ready-conts, ready-moves, ready-point, ready-state, ready-turns, ready-units}
 use Rattle.salt_database.specs.Performing.{MayStep}
 use Rattle.salt_database.specs.Standing.{OpensIn, is_ready, left_in, opening_books}
-use Rattle.salt_engine.proofs.Flying.{flight-next, kept-decided}
+use Rattle.salt_engine.proofs.Broken.{noted}
+use Rattle.salt_engine.proofs.Flying.{flight-next, kept-decided, none-flies}
 use Rattle.salt_engine.proofs.Going.{flight-decides, onwards-line, reads}
 use Rattle.salt_engine.proofs.Halting.{halts, memory-at}
-use Rattle.salt_engine.specs.Flights.{flight_of}
-use Rattle.salt_engine.specs.Performing.{BreaksOff, IsLost}
+use Rattle.salt_engine.specs.Flights.{IsInFlight, flight_of}
+use Rattle.salt_engine.specs.Performing.{BreaksOff}
 use Rattle.salt_engine.specs.Standing.{Left, Lies, Sees}
 use Rattle.salt_engine.specs.Stored.{Stored, kept_behind}
 use Rattle.salt_engine.specs.declared.flights.InFlight.{InFlight}
@@ -35,7 +36,7 @@ use Rattle.salt_storage.specs.declared.halt.Halt.{Halt}
 use Rattle.salt_storage.specs.declared.halt.Halt.TheVariants.{Memory}
 use Rattle.salt_values.specs.declared.id.Id.{Id}
 use Rattle.std.proofs.Common.{ap, arith, inl, inr, subst, sym, ◌∙◌}
-use Rattle.std.specs.Prelude.{Bool, List, None, Option, Some, [], false, refl, true, ℕ, ◌++◌, ◌<◌, ◌∷◌, ◌≡◌}
+use Rattle.std.specs.Prelude.{Bool, IsSome, List, None, Option, Some, [], false, refl, true, ℕ, ⊤, ◌++◌, ◌<◌, ◌∷◌, ◌≡◌}
 
 never-down : (p : Point) → p.state.units.phase ≡ Opening → p.state.units.phase ≡ Fallen → ⊥
 never-down p opening fallen = let no = sym opening ∙ fallen in cc
@@ -44,14 +45,19 @@ never-down p opening fallen = let no = sym opening ∙ fallen in cc
 
 pub untold-lost : (x : Recovery) (e : Event) (p : Point) (sound : IsSoundPoint p) (t : State) → HasDone x e p.state t → p.next ≡ Some e → p.state.units.phase ≡ Opening →
     (holds : Kept → Type 0) (leaves : Kept → Kept → Type 0) (fills : Written → ℕ → Type 0) (stoppable : Bool) (found : Option Numbers) → found ≡ None → (single : Bool)
-    (stage : Stage Recovery) (in_flight : Option InFlight) (story told : List Event) → leaves t.units.kept t.units.kept → IsLost stage in_flight → told ≡ story →
-    BreaksAt (λ p. Lies holds leaves stoppable found (opening_books stage) single in_flight 0 p) (λ p. Left holds leaves found 0 p) fills (flight_of in_flight) Memory p e story told
-untold-lost x e p sound t d comes opening holds leaves fills stoppable found unfound single stage in_flight story told left lost same = inl (
-  same,
-  memory-at (λ (x : Recovery). x.books) holds leaves fills stoppable found unfound stage single in_flight p t.units.kept (flight-next p sound.trace sound.keeps (never-down p opening)) left
-      (inr (ap (λ (s : UnitState). s.kept) d.after.units ∙ kept-decided e p.state.units d.plain ∙ ap (λ (o : Option Event). kept_behind (decision_in o) p.state.units) (sym comes))) lost,
-  refl,
-)
+    (stage : Stage Recovery) (in_flight : Option InFlight) (story told : List Event) → leaves t.units.kept t.units.kept → stage ≡ at.Lost → IsInFlight in_flight (decision_in (Some e)) p.state.units →
+    told ≡ story →
+    BreaksAt (λ p. Lies holds leaves stoppable found (opening_books stage) single in_flight 0 p) (λ p. Left holds leaves (IsSome in_flight) found 0 p × ⊤) fills (flight_of in_flight) Memory p e story told
+untold-lost x e p sound t d comes opening holds leaves fills stoppable found unfound single stage in_flight story told left there flies same =
+    let flown : IsInFlight in_flight (decision_in p.next) p.state.units = subst (λ (m : Option Event). IsInFlight in_flight (decision_in m) p.state.units) (sym comes) flies in
+    let behind : t.units.kept ≡ kept_behind (decision_in p.next) p.state.units =
+    ap (λ (s : UnitState). s.kept) d.after.units ∙ kept-decided e p.state.units d.plain ∙ ap (λ (o : Option Event). kept_behind (decision_in o) p.state.units) (sym comes) in
+    inl (
+      same,
+      memory-at (λ (x : Recovery). x.books) holds leaves fills stoppable found unfound stage single in_flight p t.units.kept (flight-next p sound.trace sound.keeps (never-down p opening)) left
+          (noted in_flight (decision_in p.next) p.state.units t.units.kept flown (inr (tt, behind))) (record { there = there; flies = inr flown }),
+      refl,
+    )
 
 -- IT GOES ON
 
@@ -73,7 +79,7 @@ module _ (x : Recovery) (e : Event) (p : Point) (sound : IsSoundPoint p) (t : St
   pub opens-halts : (holds : Kept → Type 0) (leaves : Kept → Kept → Type 0) (fills : Written → ℕ → Type 0) (halt : Halt) (old stoppable : Bool) (found : Option Numbers) → found ≡ None →
       (was single : Bool) (stage : Stage Recovery) (in_flight : Option InFlight) (story told : List Event) → BreaksOff leaves fills halt stage in_flight wanted t.units → p.state.can_stop ≡ old → stoppable ≡ old →
       was ≡ is_statement_line p.state.units.line → single ≡ was → IsSoundKept t.units.kept → told ≡ story ++ e ∷ [] →
-      BreaksAt (λ p. Lies holds leaves stoppable found (opening_books stage) single in_flight 0 p) (λ p. Left holds leaves found 0 p) fills (flight_of in_flight) halt p e story told
+      BreaksAt (λ p. Lies holds leaves stoppable found (opening_books stage) single in_flight 0 p) (λ p. Left holds leaves (IsSome in_flight) found 0 p × ⊤) fills (flight_of in_flight) halt p e story told
   opens-halts holds leaves fills halt old stoppable found unfound was single stage in_flight story told b can same lined kept may tells = inr (
     tells,
     (
@@ -120,7 +126,7 @@ module _ (x : Recovery) (p : Point) (sound : IsSoundPoint p) (t : State) (d : Ha
     );
     can_stop = d.after.can_stop ∙ can ∙ sym same;
     line = kept ∙ line ∙ ap is_statement_line (sym (onwards-line p sound Ready there refl comes (ready-after x p sound t d comes opening)));
-    none = none;
+    flies = none-flies in_flight None there.units none refl;
   }
 
 -- BY WHAT is at hand

@@ -6,6 +6,8 @@ use Rattle.salt_database.specs.Standing.{AreOpened, OpensIn}
 use Rattle.salt_database.specs.declared.database.Database.{Database}
 use Rattle.salt_database.specs.declared.database.Database.TheVariants.{Closed, Moving, Open}
 use Rattle.salt_database.specs.declared.opening.Opening.{Opening}
+use Rattle.salt_disk.specs.Disks.{View}
+use Rattle.salt_engine.proofs.Flying.{none-flies}
 use Rattle.salt_engine.specs.Engines.{engine_lies, engine_sees}
 use Rattle.salt_engine.specs.Flights.{IsInFlight}
 use Rattle.salt_engine.specs.Standing.{KnowsUnits, Left, SeesIn, ServesFrom}
@@ -22,10 +24,12 @@ use Rattle.salt_recovery.specs.declared.recovery.Recovery.{Recovery}
 use Rattle.salt_scheduler.specs.declared.scheduler.Scheduler.{Scheduler}
 use Rattle.salt_steps.specs.Opening.{OpensAt}
 use Rattle.salt_steps.specs.Standing.{IsAt, IsIdleAt, IsOpeningAt}
+use Rattle.salt_storage.specs.Staying.{StaysWithin}
 use Rattle.salt_storage.specs.declared.found.Numbers.{Numbers}
 use Rattle.salt_values.specs.declared.id.Id.{Id}
+use Rattle.salt_values.specs.declared.placement.Shape.{Shape}
 use Rattle.std.proofs.Common.{ap, refl, subst, sym, ◌∙◌}
-use Rattle.std.specs.Prelude.{Bool, List, None, Option, Some, ℕ, ◌≡◌}
+use Rattle.std.specs.Prelude.{Bool, IsSome, List, None, Option, Some, ℕ, ◌≡◌}
 
 module _ {S : Type 0} (holds : S → Kept → Type 0) (is_new : S → Id → Type 0) (stoppable : Bool) where
   abbrev of_database : Database S → Option Event → State → Type 0
@@ -83,7 +87,7 @@ module _ {S : Type 0} (holds : S → Kept → Type 0) (is_new : S → Id → Typ
             (subst (λ (k : Stage Scheduler). SeesIn (holds o.storage) (is_new o.storage) k None s) (sym f.1) (f.2, g.3));
         can_stop = h.0.can_stop;
         line = single ∙ h.0.line;
-        none = none;
+        flies = none-flies e.in_flight None s.units none refl;
       }
 
 -- WHAT CAN BE OPENED
@@ -95,8 +99,9 @@ module _ {S : Type 0} (holds : S → Kept → Type 0) (leaves : S → Kept → K
   behind-lies : (e : Engine S) (o : Opening S) → IsBehind e o → engine_lies holds leaves stoppable e room p → opening_lies holds leaves stoppable o room p
   behind-lies e o b h = record {
     left =
-        subst (λ (t : S). Left (holds t) (leaves t) o.found room p) (sym b.storage)
-        (subst (λ (f : Option Numbers). Left (holds e.storage) (leaves e.storage) f room p) (sym b.found) h.left);
+        subst (λ (i : Option InFlight). Left (holds o.storage) (leaves o.storage) (IsSome i) o.found room p) (sym b.flies)
+        (subst (λ (t : S). Left (holds t) (leaves t) (IsSome e.in_flight) o.found room p) (sym b.storage)
+        (subst (λ (f : Option Numbers). Left (holds e.storage) (leaves e.storage) (IsSome e.in_flight) f room p) (sym b.found) h.left));
     knows = subst (λ (books : Option Books). KnowsUnits books p.state.units) (sym b.books) h.knows;
     sound = h.sound;
     can_stop = h.can_stop;
@@ -118,3 +123,13 @@ open-same closed served moving x e now is same = same ∙ sym (ap (by_half close
 pub closed-same : {S A : Type 0} (closed : Opening S → A) (served : Engine S → A) (moving : A) (x : Database S) (o now : Opening S) → x ≡ Closed o → closed now ≡ closed o →
     by_half closed served moving (Closed now) ≡ by_half closed served moving x
 closed-same closed served moving x o now is same = same ∙ sym (ap (by_half closed served moving) is)
+
+pub half-within : {S : Type 0} (closed : Opening S → Shape) (served : Engine S → Shape) (moving : Shape) (x y : Database S) (is : Shape) (old new : View) → x ≡ y →
+    StaysWithin (by_half closed served moving y) is old new → StaysWithin (by_half closed served moving x) is old new
+half-within closed served moving x y is old new same h = subst (λ (z : Database _). StaysWithin (by_half closed served moving z) is old new) (sym same) h
+
+pub left-within : {S : Type 0} (asked : S → Shape) (moving : Shape) (x : Database S) (o : Opening S) (is : Shape) (old new : View) → IsLeftBy x o → StaysWithin (asked o.storage) is old new →
+    StaysWithin (by_half (λ o. asked o.storage) (λ e. asked e.storage) moving x) is old new
+left-within asked moving (Closed was) o is old new left h = subst (λ (b : Opening _). StaysWithin (asked b.storage) is old new) left h
+left-within asked moving (Open e) o is old new b h = subst (λ t. StaysWithin (asked t) is old new) b.storage h
+left-within asked moving Moving o is old new left h = absurd left

@@ -23,7 +23,7 @@ use Rattle.salt_steps.specs.Opening.{IsFallenFrom, IsOpenedFirst}
 use Rattle.salt_storage.specs.Storing.{IsSoundKept}
 use Rattle.salt_storage.specs.declared.found.Numbers.{Numbers}
 use Rattle.std.proofs.Common.{ap, inl, inr, subst, sym, ◌∙◌}
-use Rattle.std.specs.Prelude.{Bool, None, Option, Some, [], refl, ℕ, ◌≡◌}
+use Rattle.std.specs.Prelude.{Bool, IsSome, None, Option, Some, [], refl, ℕ, ◌≡◌}
 
 -- AT FIRST
 
@@ -34,7 +34,7 @@ opened-first holds leaves stoppable found stage single in_flight k new holding s
     let taken = new.taken in
     let books = taken.fresh p.state.units.phase p.state.units.line in
     record {
-      left = subst (λ (f : Option Numbers). Left holds leaves f 0 p) (sym taken.is) (k, holding, is-left p k (inl (sym u.kept)), taken.numbered);
+      left = subst (λ (f : Option Numbers). Left holds leaves (IsSome in_flight) f 0 p) (sym taken.is) (k, holding, is-left (IsSome in_flight) p k (inl (sym u.kept)), taken.numbered);
       knows = (
         taken.books,
         ap opening_books taken.there,
@@ -60,21 +60,21 @@ opened-first holds leaves stoppable found stage single in_flight k new holding s
 
 -- BEHIND A FALL the one or the other is found.
 
-pub found-left : (holds : Kept → Type 0) (leaves : Kept → Kept → Type 0) (books : Books) (a b : Kept) (found : Option Numbers) (stage : Stage Recovery) (room : ℕ) (p : Point) →
-    IsFoundAgain holds books a b found stage → IsLeft room p a → IsLeft room p b → Left holds leaves found room p
-found-left holds leaves books a b found stage room p f is_a is_b =
-    subst (λ (n : Option Numbers). Left holds leaves n room p) (sym f.is) (f.kept, f.holding, by f.either, f.numbered)
-  where
-    by : IsEither a b f.kept → IsLeft room p f.kept
-    by (inl e) = subst (IsLeft room p) (sym e) is_a
-    by (inr e) = subst (IsLeft room p) (sym e) is_b
+pub left-either : (doubt : Type 0) (room : ℕ) (p : Point) (a b k : Kept) → IsLeft doubt room p a → IsLeft doubt room p b → IsEither a b k → IsLeft doubt room p k
+left-either doubt room p a b k is_a is_b (inl e) = subst (IsLeft doubt room p) (sym e) is_a
+left-either doubt room p a b k is_a is_b (inr e) = subst (IsLeft doubt room p) (sym e) is_b
+
+pub found-left : (holds : Kept → Type 0) (leaves : Kept → Kept → Type 0) (books : Books) (a b : Kept) (found : Option Numbers) (stage : Stage Recovery) (doubt : Type 0) (room : ℕ) (p : Point) →
+    IsFoundAgain holds books a b found stage → IsLeft doubt room p a → IsLeft doubt room p b → Left holds leaves doubt found room p
+found-left holds leaves books a b found stage doubt room p f is_a is_b =
+    subst (λ (n : Option Numbers). Left holds leaves doubt n room p) (sym f.is) (f.kept, f.holding, left-either doubt room p a b f.kept is_a is_b f.either, f.numbered)
 
 -- WHAT IS LEFT, whether it was found since or not: a stop leaves it
 
-pub left-stops : (holds : Kept → Type 0) (leaves : Kept → Kept → Type 0) (found : Option Numbers) (room : ℕ) (p : Point) → ((k : Kept) → holds k → leaves k k) →
-    Left holds leaves found room p → (a b : Kept) × leaves a b × IsLeft room p a × IsLeft room p b
-left-stops holds leaves None room p stays h = h
-left-stops holds leaves (Some n) room p stays h = (h.0, h.0, stays h.0 h.1, h.2, h.2)
+pub left-stops : (holds : Kept → Type 0) (leaves : Kept → Kept → Type 0) (doubt : Type 0) (found : Option Numbers) (room : ℕ) (p : Point) → ((k : Kept) → holds k → leaves k k) →
+    Left holds leaves doubt found room p → (a b : Kept) × leaves a b × IsLeft doubt room p a × IsLeft doubt room p b
+left-stops holds leaves doubt None room p stays h = h
+left-stops holds leaves doubt (Some n) room p stays h = (h.0, h.0, stays h.0 h.1, h.2, h.2)
 
 -- BEHIND A DOWN
 
@@ -83,10 +83,16 @@ pub fallen-lies : (holds now : Kept → Type 0) (leaves again : Kept → Kept �
     ((k : Kept) → holds k → leaves k k) → ((a b : Kept) → leaves a b → again a b) →
     ((s : UnitState) (why : Why) → KnowsUnits books s → KnowsUnits later (units_after (Down why) s)) → Lies now again stoppable None later single in_flight room q
 fallen-lies holds now leaves again old stoppable found books later single in_flight room p q h fell same stays left knows =
-    let l = left-stops holds leaves found room p stays h.left in
+    let l = left-stops holds leaves (IsSome in_flight) found room p stays h.left in
     let units = fell.after.units in
     record {
-      left = (l.0, l.1, left l.0 l.1 l.2, left-fallen in_flight room p q l.0 h.flies fell l.3, left-fallen in_flight room p q l.1 h.flies fell l.4);
+      left = (
+        l.0,
+        l.1,
+        left l.0 l.1 l.2,
+        left-fallen (IsSome in_flight) in_flight room p q l.0 h.flies fell l.3,
+        left-fallen (IsSome in_flight) in_flight room p q l.1 h.flies fell l.4,
+      );
       knows = subst (KnowsUnits later) (sym units) (knows p.state.units fell.why h.knows);
       sound = subst (λ (s : UnitState). IsSoundKept s.kept) (sym units) h.sound;
       can_stop = fell.after.can_stop ∙ h.can_stop ∙ sym same;

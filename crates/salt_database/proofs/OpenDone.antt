@@ -8,7 +8,7 @@ use Rattle.salt_disk.specs.Disks.{HasCause, View}
 use Rattle.salt_engine.proofs.Counted.{cause-lost}
 use Rattle.salt_engine.specs.Flights.{IsInFlight}
 use Rattle.salt_engine.specs.Standing.{IsBrokenStage, KnowUnits, KnowsUnits, Left, Lies, Sees}
-use Rattle.salt_engine.specs.Stored.{IsLeft, IsNumbered, kept_behind, raised}
+use Rattle.salt_engine.specs.Stored.{IsLeft, IsNumbered, MayBeOther, kept_behind, raised}
 use Rattle.salt_engine.specs.declared.flights.InFlight.{InFlight}
 use Rattle.salt_engine.specs.declared.stage.Stage.{Stage}
 use Rattle.salt_engine.specs.declared.stage.Stage.TheVariants as at
@@ -31,7 +31,7 @@ use Rattle.salt_storage.specs.declared.halt.Halt.{Halt}
 use Rattle.salt_storage.specs.declared.halt.Halt.TheVariants.{DeviceFull, Memory}
 use Rattle.salt_values.specs.declared.id.Id.{Id}
 use Rattle.std.proofs.Common.{ap, arith, inl, inr, subst, sym, ◌∙◌}
-use Rattle.std.specs.Prelude.{Bool, Err, IfErr, IfOk, List, None, Ok, OnOk, Option, Result, Some, [], false, refl, ℕ, ◌+◌, ◌++◌, ◌∷◌, ◌≡◌, ◌⊎◌}
+use Rattle.std.specs.Prelude.{Bool, Err, IfErr, IfOk, IsSome, List, None, Ok, OnOk, Option, Result, Some, [], false, refl, ℕ, ◌+◌, ◌++◌, ◌∷◌, ◌≡◌, ◌⊎◌}
 
 -- the books that there are
 pub known-by : (books : Option Books) (x : Books) (s : UnitState) → books ≡ Some x → KnowsUnits books s → KnowUnits x s
@@ -60,24 +60,24 @@ unspent n k h = (λ i. are_spent (sym h.boot i) (sym h.decisions i)) ∙ h.unspe
 rises : (m : Kept) (n : ℕ) → booted (raised n m) ≡ raised (n + 1) m
 rises m n = let same : m.boot + n + 1 ≡ m.boot + (n + 1) = omega arith in λ i. record m { boot = same i }
 
-pub left-more : (room : ℕ) (p : Point) (k : Kept) → IsLeft room p k → IsLeft (room + 1) p k
-left-more room p k h = record { boots = h.boots; most = let m = h.most in omega arith; is = h.is }
+pub left-more : (doubt : Type 0) (room : ℕ) (p : Point) (k : Kept) → IsLeft doubt room p k → IsLeft doubt (room + 1) p k
+left-more doubt room p k h = record { boots = h.boots; most = let m = h.most in omega arith; is = h.is }
 
-pub left-booted : (room : ℕ) (p : Point) (k : Kept) → IsLeft room p k → IsLeft (room + 1) p (booted k)
-left-booted room p k h = record { boots = h.boots + 1; most = let m = h.most in omega arith; is = by h.is }
+pub left-booted : (doubt : Type 0) (room : ℕ) (p : Point) (k : Kept) → IsLeft doubt room p k → IsLeft doubt (room + 1) p (booted k)
+left-booted doubt room p k h = record { boots = h.boots + 1; most = let m = h.most in omega arith; is = by h.is }
   where
     later : (m : Kept) → k ≡ raised h.boots m → booted k ≡ raised (h.boots + 1) m
     later m e = ap booted e ∙ rises m h.boots
 
-    by : (k ≡ raised h.boots p.state.units.kept) ⊎ (k ≡ raised h.boots (kept_behind p.flight p.state.units)) →
-        (booted k ≡ raised (h.boots + 1) p.state.units.kept) ⊎ (booted k ≡ raised (h.boots + 1) (kept_behind p.flight p.state.units))
+    by : MayBeOther doubt (raised h.boots p.state.units.kept) (raised h.boots (kept_behind p.flight p.state.units)) k →
+        MayBeOther doubt (raised (h.boots + 1) p.state.units.kept) (raised (h.boots + 1) (kept_behind p.flight p.state.units)) (booted k)
     by (inl e) = inl (later p.state.units.kept e)
-    by (inr e) = inr (later (kept_behind p.flight p.state.units) e)
+    by (inr e) = inr (e.0, later (kept_behind p.flight p.state.units) e.1)
 
 module _ (holds : Kept → Type 0) (leaves : Kept → Kept → Type 0) (old : Bool) (found : Option Numbers) (stage : Stage Recovery) (was : Bool) (flew : Option InFlight) (x : Books)
     (n : Numbers) (is : found ≡ Some n) (there : stage ≡ at.Down x) (room : ℕ) (p : Point) (lies : Lies holds leaves old found (opening_books stage) was flew room p) where
-  pub found-here : (k : Kept) × holds k × IsLeft room p k × IsNumbered n k
-  found-here = subst (λ (f : Option Numbers). Left holds leaves f room p) is lies.left
+  pub found-here : (k : Kept) × holds k × IsLeft (IsSome flew) room p k × IsNumbered n k
+  found-here = subst (λ (f : Option Numbers). Left holds leaves (IsSome flew) f room p) is lies.left
 
   abbrev pub kept-found : Kept
   kept-found = found-here.0
@@ -89,7 +89,7 @@ module _ (holds : Kept → Type 0) (leaves : Kept → Kept → Type 0) (old : Bo
   unspent-found = unspent n kept-found found-here.3
 
   pub found-there : FoundAt room p kept-found n.decisions
-  found-there = found-at flew room p n kept-found lies.flies found-here.2 found-here.3
+  found-there = found-at (IsSome flew) flew room p n kept-found lies.flies found-here.2 found-here.3
 
   pub knows-found : KnowUnits x p.state.units
   knows-found = known-by (opening_books stage) x p.state.units (ap opening_books there) lies.knows
@@ -101,19 +101,21 @@ module _ (holds : Kept → Type 0) (leaves : Kept → Kept → Type 0) (old : Bo
       opened-by p sound fallen room kept-found n.decisions boot found-there next x was flew knows-found lies.line lies.flies lies.sound
 
   -- or not
-  pub booted-left : (now : Kept → Type 0) (again : Kept → Kept → Type 0) (later : Option Numbers) (a b : Kept) → later ≡ None → (a ≡ kept-found) ⊎ (a ≡ booted kept-found) →
-      (b ≡ kept-found) ⊎ (b ≡ booted kept-found) → again a b → Left now again later (room + 1) p
-  booted-left now again later a b none is_a is_b left = subst (λ (f : Option Numbers). Left now again f (room + 1) p) (sym none) (a, b, left, one a is_a, one b is_b)
+  pub booted-left : (now : Kept → Type 0) (again : Kept → Kept → Type 0) (later : Option Numbers) (in_flight : Option InFlight) (a b : Kept) → later ≡ None → in_flight ≡ flew →
+      (a ≡ kept-found) ⊎ (a ≡ booted kept-found) → (b ≡ kept-found) ⊎ (b ≡ booted kept-found) → again a b → Left now again (IsSome in_flight) later (room + 1) p
+  booted-left now again later in_flight a b none flies is_a is_b left =
+      subst (λ (i : Option InFlight). Left now again (IsSome i) later (room + 1) p) (sym flies)
+      (subst (λ (f : Option Numbers). Left now again (IsSome flew) f (room + 1) p) (sym none) (a, b, left, one a is_a, one b is_b))
     where
-      one : (k : Kept) → (k ≡ kept-found) ⊎ (k ≡ booted kept-found) → IsLeft (room + 1) p k
-      one k (inl e) = subst (IsLeft (room + 1) p) (sym e) (left-more room p kept-found found-here.2)
-      one k (inr e) = subst (IsLeft (room + 1) p) (sym e) (left-booted room p kept-found found-here.2)
+      one : (k : Kept) → (k ≡ kept-found) ⊎ (k ≡ booted kept-found) → IsLeft (IsSome flew) (room + 1) p k
+      one k (inl e) = subst (IsLeft (IsSome flew) (room + 1) p) (sym e) (left-more (IsSome flew) room p kept-found found-here.2)
+      one k (inr e) = subst (IsLeft (IsSome flew) (room + 1) p) (sym e) (left-booted (IsSome flew) room p kept-found found-here.2)
 
   pub down-lies : (now : Kept → Type 0) (again : Kept → Kept → Type 0) (stoppable : Bool) (later : Option Numbers) (books : Option Books) (single : Bool) (in_flight : Option InFlight) →
       later ≡ None → books ≡ Some x → again kept-found (booted kept-found) → stoppable ≡ old → single ≡ was → in_flight ≡ flew →
       Lies now again stoppable later books single in_flight (room + 1) p
   down-lies now again stoppable later books single in_flight none stays left same line flies = record {
-    left = booted-left now again later kept-found (booted kept-found) none (inl refl) (inr refl) left;
+    left = booted-left now again later in_flight kept-found (booted kept-found) none flies (inl refl) (inr refl) left;
     knows = (x, stays, knows-found);
     sound = lies.sound;
     can_stop = lies.can_stop ∙ sym same;
@@ -129,9 +131,9 @@ module _ (p : Point) (sound : IsSoundPoint p) (fallen : p.state.units.phase ≡ 
   its = state p sound fallen room k number boot f next_boot
 
   pub opening-sees : (holds : Kept → Type 0) (is_new : Id → Type 0) (old stoppable was single : Bool) (stage : Stage Recovery) (in_flight : Option InFlight) (next : Event) →
-      IsOpeningWith p.flight number its stage next → holds (booted k) → ((u : Id) → u.boot ≡ boot → is_new u) → p.state.can_stop ≡ old → stoppable ≡ old →
-      was ≡ is_statement_line p.state.units.line → single ≡ was → in_flight ≡ None → Sees (OpensIn holds is_new stage) stoppable single in_flight (Some next) its
-  opening-sees holds is_new old stoppable was single stage in_flight next o holding new can same line kept none =
+      IsOpeningWith p.flight number its stage in_flight next → holds (booted k) → ((u : Id) → u.boot ≡ boot → is_new u) → p.state.can_stop ≡ old → stoppable ≡ old →
+      was ≡ is_statement_line p.state.units.line → single ≡ was → Sees (OpensIn holds is_new stage) stoppable single in_flight (Some next) its
+  opening-sees holds is_new old stoppable was single stage in_flight next o holding new can same line kept =
       let t = o.begins.done.0 in
       let d = o.begins.done.1 in
       record {
@@ -140,13 +142,13 @@ module _ (p : Point) (sound : IsSoundPoint p) (fallen : p.state.units.phase ≡ 
             (t, d, first-stored p sound fallen room k number boot f next_boot next o.begins.told holds is_new t.units d.after.units holding new, refl);
         can_stop = can ∙ sym same;
         line = kept ∙ line;
-        none = none;
+        flies = o.flies;
       }
 
-  pub opening-at : {E : Type 0} (sees : E → Option Event → State → Type 0) (e : E) (next : Event) (stage : Stage Recovery) (story told : List Event) → IsOpeningWith p.flight number its stage next →
+  pub opening-at : {E : Type 0} (sees : E → Option Event → State → Type 0) (e : E) (next : Event) (stage : Stage Recovery) (in_flight : Option InFlight) (story told : List Event) → IsOpeningWith p.flight number its stage in_flight next →
       sees e (Some next) its → told ≡ story ++ Opened boot number ∷ [] → OpensAt sees room p story e next told
   unfolding has-opened
-  opening-at sees e next stage story told o seen tells = record {
+  opening-at sees e next stage in_flight story told o seen tells = record {
     has = has-opened p sound fallen room k number boot f next_boot;
     stands = record { state = seen; comes = sym o.begins.told; opening = refl };
     tells = tells;
@@ -154,9 +156,9 @@ module _ (p : Point) (sound : IsSoundPoint p) (fallen : p.state.units.phase ≡ 
 
 -- BY WHAT a call answers
 
-pub ok-with : {T E : Type 0} (r : Result T E) (P Q : T → Type 0) (A B : Type 0) → ((x : T) → P x → A → B → Q x) → IfOk r P → OnOk r A → OnOk r B → IfOk r Q
-ok-with (Ok x) P Q A B f h a b = f x h a b
-ok-with (Err e) P Q A B f h a b = tt
+pub ok-with : {T E : Type 0} (r : Result T E) (P Q : T → Type 0) (A : Type 0) → ((x : T) → P x → A → Q x) → IfOk r P → OnOk r A → IfOk r Q
+ok-with (Ok x) P Q A f h a = f x h a
+ok-with (Err e) P Q A f h a = tt
 
 pub never-full : {T : Type 0} (r : Result T Halt) (dev : ℕ) → IfErr r (λ h. h ≡ Memory) → r ≡ Err (DeviceFull dev) → ⊥
 never-full r dev h is = let memory : DeviceFull dev ≡ Memory = subst (λ (q : Result _ Halt). IfErr q (λ h. h ≡ Memory)) is h in cc

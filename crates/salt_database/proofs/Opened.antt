@@ -4,7 +4,7 @@ use Rattle.salt_database.proofs.Falling.{IsCounted, counts, downs-more, fallen_m
 use Rattle.salt_database.specs.Finding.{IsOpenedBy}
 use Rattle.salt_engine.specs.Flights.{IsInFlight}
 use Rattle.salt_engine.specs.Standing.{KnowUnits}
-use Rattle.salt_engine.specs.Stored.{IsLeft, IsNumbered, kept_behind, raised}
+use Rattle.salt_engine.specs.Stored.{IsLeft, IsNumbered, MayBeOther, kept_behind, raised}
 use Rattle.salt_engine.specs.declared.flights.InFlight.{InFlight}
 use Rattle.salt_keeps.proofs.StatesGoOn.{states-say}
 use Rattle.salt_keeps.specs.Follows.{opened_in}
@@ -25,13 +25,14 @@ use Rattle.salt_model.specs.declared.events.Event.TheVariants.{Opened}
 use Rattle.salt_openings.proofs.Leaving.{leaves}
 use Rattle.salt_openings.proofs.Opening.{none-to-go}
 use Rattle.salt_openings.specs.Openings.{Leaves}
+use Rattle.salt_stands.specs.Stands.{are_spent}
 use Rattle.salt_steps.specs.Opening.{HasOpened}
 use Rattle.salt_steps.specs.Standing.{IsSoundPoint}
 use Rattle.salt_storage.specs.Storing.{IsSoundKept}
 use Rattle.salt_storage.specs.declared.found.Numbers.{Numbers}
 use Rattle.salt_watch.proofs.Readable.{readable}
 use Rattle.std.proofs.Common.{ap, arith, inl, inr, subst, sym, ◌∙◌}
-use Rattle.std.specs.Prelude.{Bool, IsSome, None, Option, Some, false, if◌then◌else◌, refl, true, ℕ, ◌+◌, ◌<◌, ◌≡◌, ◌⊎◌, ◌≤◌}
+use Rattle.std.specs.Prelude.{Bool, IsSome, None, Option, Some, false, if◌then◌else◌, refl, true, ℕ, ◌+◌, ◌-◌, ◌<◌, ◌≡◌, ◌⊎◌, ◌≤◌}
 
 -- WHAT WAS FOUND, by its decision number: what is kept at the point, or that with the decision in flight
 
@@ -48,23 +49,29 @@ pub record IsWith (boots : ℕ) (p : Point) (k : Kept) (number : ℕ) : Type 0 w
 pub record FoundAt (room : ℕ) (p : Point) (k : Kept) (number : ℕ) : Type 0 where
   pub boots : ℕ
   pub most : boots ≤ room
+  pub unspent : are_spent k.boot number ≡ false
   pub how : IsWithout boots p k number ⊎ IsWith boots p k number
 
-pub found-at : (i : Option InFlight) (room : ℕ) (p : Point) (n : Numbers) (k : Kept) → IsInFlight i p.flight p.state.units → IsLeft room p k → IsNumbered n k →
+pub found-at : (doubt : Type 0) (i : Option InFlight) (room : ℕ) (p : Point) (n : Numbers) (k : Kept) → IsInFlight i p.flight p.state.units → IsLeft doubt room p k → IsNumbered n k →
     FoundAt room p k n.decisions
-found-at i room p n k flies left numbers = record { boots = left.boots; most = left.most; how = by left.is (counts i p.flight p.state.units flies) }
+found-at doubt i room p n k flies left numbers = record {
+  boots = left.boots;
+  most = left.most;
+  unspent = ap (λ b. are_spent b n.decisions) (sym numbers.boot) ∙ numbers.unspent;
+  how = by left.is (counts i p.flight p.state.units flies);
+}
   where
     number : (m : Kept) → k ≡ raised left.boots m → n.decisions ≡ m.decisions
     number m e = numbers.decisions ∙ ap (λ (x : Kept). x.decisions) e
 
-    by : (k ≡ raised left.boots p.state.units.kept) ⊎ (k ≡ raised left.boots (kept_behind p.flight p.state.units)) →
+    by : MayBeOther doubt (raised left.boots p.state.units.kept) (raised left.boots (kept_behind p.flight p.state.units)) k →
         (p.flight ≡ None) ⊎ ((e : Event) × (p.flight ≡ Some e) × IsCounted p.state.units e) → IsWithout left.boots p k n.decisions ⊎ IsWith left.boots p k n.decisions
     by (inl e) c = inl (number p.state.units.kept e, e)
     by (inr e) (inl none) =
-        let same : k ≡ raised left.boots p.state.units.kept = e ∙ ap (λ (f : Option Event). raised left.boots (kept_behind f p.state.units)) none in
+        let same : k ≡ raised left.boots p.state.units.kept = e.1 ∙ ap (λ (f : Option Event). raised left.boots (kept_behind f p.state.units)) none in
         inl (number p.state.units.kept same, same)
     by (inr e) (inr c) =
-        let same : k ≡ raised left.boots (units_after c.0 p.state.units).kept = e ∙ ap (λ (f : Option Event). raised left.boots (kept_behind f p.state.units)) c.1 in
+        let same : k ≡ raised left.boots (units_after c.0 p.state.units).kept = e.1 ∙ ap (λ (f : Option Event). raised left.boots (kept_behind f p.state.units)) c.1 in
         inr (record { event = c.0; flies = c.1; counted = c.2; numbered = number (units_after c.0 p.state.units).kept same ∙ c.2.decisions; is = same })
 
 pub found-boot : (room : ℕ) (p : Point) (k : Kept) (number : ℕ) → (f : FoundAt room p k number) → k.boot ≡ p.state.units.kept.boot + f.boots
@@ -87,6 +94,9 @@ module _ (p : Point) (sound : IsSoundPoint p) (fallen : p.state.units.phase ≡ 
 
   pub most : boot ≤ p.state.units.kept.boot + (room + 1)
   most = let e = boot-is in let m = f.most in omega arith
+
+  pub before-it : boot - 1 ≡ k.boot
+  before-it = let e = next_boot in omega arith
 
   pub stands-for : (number ≡ p.state.units.kept.decisions) ⊎ (IsSome p.flight × (number ≡ p.state.units.kept.decisions + 1))
   stands-for = by f.how
@@ -167,4 +177,5 @@ module _ (p : Point) (sound : IsSoundPoint p) (fallen : p.state.units.phase ≡ 
     above = above;
     most = most;
     stands_for = stands-for;
+    unspent = ap (λ b. are_spent b number) before-it ∙ f.unspent;
   }

@@ -23,7 +23,7 @@ use Rattle.salt_values.specs.declared.id.Id.{Id}
 use Rattle.std.proofs.Common.{ap, arith, inl, inr, subst, sym, ◌∙◌}
 use Rattle.std.specs.Bool.{then_some}
 use Rattle.std.specs.Option.{option_or}
-use Rattle.std.specs.Prelude.{None, Option, Some, refl, true, ℕ, ◌+◌, ◌≡◌, ◌⊎◌}
+use Rattle.std.specs.Prelude.{None, Option, Some, [], refl, true, ℕ, ◌+◌, ◌≡◌, ◌⊎◌}
 
 -- EVENTS THAT REST keep what is kept, and arm nothing.
 
@@ -33,11 +33,11 @@ resting-keeps s (Began u kind) h = refl
 resting-keeps s Ready h = refl
 resting-keeps s e h = cc
 
-resting-unarmed : (e : Event) → is_resting e ≡ true → stops_armed e ≡ 0
+resting-unarmed : (e : Event) → is_resting e ≡ true → stops_armed e ≡ []
 resting-unarmed (Armed pairs) h = cc
 resting-unarmed e h = refl
 
-decided-unarmed : (e : Event) → is_decision e ≡ true → stops_armed e ≡ 0
+decided-unarmed : (e : Event) → is_decision e ≡ true → stops_armed e ≡ []
 decided-unarmed (Armed pairs) h = cc
 decided-unarmed e h = refl
 
@@ -74,10 +74,10 @@ module _ (p : Point) (sound : IsSoundPoint p) (fallen : p.state.units.phase ≡ 
             ap (λ (e : Event). (units_after e s).kept) is ∙ opened-same p.state.units w.event boot number w.counted.decides
             ∙ later-boot (units_after w.event p.state.units).kept w.counted.boot ∙ ap booted (sym w.is)
 
-    pub first-unarmed : stops_armed first ≡ 0
+    pub first-unarmed : stops_armed first ≡ []
     first-unarmed = by f.how
       where
-        by : IsWithout f.boots p k number ⊎ IsWith f.boots p k number → stops_armed first ≡ 0
+        by : IsWithout f.boots p k number ⊎ IsWith f.boots p k number → stops_armed first ≡ []
         by (inl w) = resting-unarmed first (rests-only s first (told ∙ without w.0))
         by (inr w) = ap stops_armed (same-some first w.event (told ∙ with-flight w.event w.flies w.numbered)) ∙ decided-unarmed w.event w.counted.decides
 

@@ -14,10 +14,11 @@ use Rattle.salt_database.specs.Performing.{GoesOnOpening, IsToOpen}
 use Rattle.salt_database.specs.Standing.{OpensIn}
 use Rattle.salt_engine.proofs.Broken.{breaks, breaks-behind}
 use Rattle.salt_engine.proofs.Decided.{named-unit}
-use Rattle.salt_engine.proofs.Flying.{kept-decided}
+use Rattle.salt_engine.proofs.Flying.{kept-decided, none-flies}
 use Rattle.salt_engine.proofs.Judging.{keys-left}
 use Rattle.salt_engine.proofs.Performed.{acts-meant, comes-next, commits-meant, have-unit, is-before, stored-plain, unit-there}
 use Rattle.salt_engine.specs.Deciding.{IsBefore, Undone, branches_in}
+use Rattle.salt_engine.specs.Flights.{IsInFlight}
 use Rattle.salt_engine.specs.Performing.{BreaksOff, IsPlayedBefore, Performs, StoredAt, WasBroken, is_prepared}
 use Rattle.salt_engine.specs.Stored.{Stored}
 use Rattle.salt_engine.specs.declared.flights.InFlight.{InFlight}
@@ -29,7 +30,7 @@ use Rattle.salt_keeps.specs.States.{State}
 use Rattle.salt_keeps.specs.Steps.{units_after}
 use Rattle.salt_keeps.specs.Told.{commits_in, does_in}
 use Rattle.salt_model.specs.Kept.{Kept}
-use Rattle.salt_model.specs.Next.{flight}
+use Rattle.salt_model.specs.Next.{decision_in, flight}
 use Rattle.salt_model.specs.declared.events.Cause.{Cause}
 use Rattle.salt_model.specs.declared.events.Event.{Event}
 use Rattle.salt_model.specs.declared.events.Event.TheVariants.{Armed}
@@ -46,7 +47,7 @@ use Rattle.salt_storage.specs.declared.halt.Halt.TheVariants.{Memory}
 use Rattle.salt_units.specs.Acting.{leaves_keys}
 use Rattle.salt_values.specs.declared.id.Id.{Id}
 use Rattle.std.proofs.Common.{ap, subst, sym, ◌∙◌}
-use Rattle.std.specs.Prelude.{Err, IsSome, List, None, Ok, OnErr, Option, Result, Some, false, refl, true, ℕ, ◌≡◌}
+use Rattle.std.specs.Prelude.{Err, IsSome, List, None, Ok, OnErr, Option, Result, Some, [], false, refl, true, ℕ, ◌≡◌}
 
 pub recovers : (holds : Kept → Type 0) (is_new : Id → Type 0) (x : Recovery) (c : Coming) (s : State) → IsToOpen holds is_new x c s → recovering.Stands x s → recovering.IsRecovering s
 recovers holds is_new x c s h stands = record { sound = record { trace = h.played.trace; keeps = h.played.keeps; sound = h.played.sound }; phase = stands.opening }
@@ -91,14 +92,14 @@ module _ (holds : Kept → Type 0) (is_new : Id → Type 0) (x : Recovery) (a : 
   pub act-performs : (now : Kept → Type 0) (new_now : Id → Type 0) (stage : Stage Recovery) (in_flight : Option InFlight) (y : Recovery) (given : Event) → in_flight ≡ None → stage ≡ at.Going y →
       Stored now new_now s.units → recovering.Gives s (Some act-event) y (Some given) → Performs (OpensIn now new_now stage) in_flight (event_meant s.units (coming.Act a)) (Some given) s
   act-performs now new_now stage in_flight y given none there stored gives =
-      opens-by now new_now stage in_flight (event_meant s.units (coming.Act a)) s none y act-event given there act-meant gives h.opens
+      opens-by now new_now stage in_flight (event_meant s.units (coming.Act a)) s y act-event given (none-flies in_flight None s.units none refl) there act-meant gives h.opens
       (stored-plain now new_now act-event (event_meant s.units (coming.Act a)) s h.played act-meant refl refl stored)
 
-  pub act-breaks : (leaves : Kept → Kept → Type 0) (fills : Written → ℕ → Type 0) (halt : Halt) (stage : Stage Recovery) (in_flight : Option InFlight) (y : Books) → y ≡ x.books →
-      Undone leaves fills halt s.units act-event → WasBroken halt y None stage in_flight → BreaksOff leaves fills halt stage in_flight (event_meant s.units (coming.Act a)) s.units
-  act-breaks leaves fills halt stage in_flight y same undone broken =
-      breaks leaves fills stage in_flight (event_meant s.units (coming.Act a)) s.units halt y None act-event act-meant (kept-decided act-event s.units refl) undone broken
-      (subst (λ (z : Books). AreBooks z s.units) (sym same) act-stands.books) refl
+  pub act-breaks : (leaves : Kept → Kept → Type 0) (fills : Written → ℕ → Type 0) (halt : Halt) (stage : Stage Recovery) (in_flight : Option InFlight) → in_flight ≡ None → (y : Books) →
+      y ≡ x.books → Undone leaves fills halt s.units act-event → WasBroken halt y stage → BreaksOff leaves fills halt stage in_flight (event_meant s.units (coming.Act a)) s.units
+  act-breaks leaves fills halt stage in_flight none y same undone broken =
+      breaks leaves fills stage in_flight (event_meant s.units (coming.Act a)) s.units act-event act-meant (kept-decided act-event s.units refl) (none-flies in_flight None s.units none refl)
+      halt y undone broken (subst (λ (z : Books). AreBooks z s.units) (sym same) act-stands.books)
 
 -- A COMMIT
 
@@ -129,26 +130,31 @@ module _ (holds : Kept → Type 0) (is_new : Id → Type 0) (x : Recovery) (u : 
   pub commit-there : HaveUnit x.books u
   commit-there = have-unit x.books s.units u commit-unit commit-stands.books commit-named
 
-  pub commit-performs : (now : Kept → Type 0) (new_now : Id → Type 0) (stage : Stage Recovery) (in_flight : Option InFlight) (y : Recovery) (given : Event) → in_flight ≡ None → stage ≡ at.Going y →
+  abbrev commit-asked : Option InFlight
+  commit-asked = Some (asked.Commit u)
+
+  commit-flies : IsInFlight commit-asked (decision_in (Some (commits_in s.units commit-unit))) s.units
+  commit-flies = (commit-unit, commit-named, refl)
+
+  pub commit-performs : (now : Kept → Type 0) (new_now : Id → Type 0) (stage : Stage Recovery) (y : Recovery) (given : Event) → stage ≡ at.Going y →
       Stored now new_now (units_after (commits_in s.units commit-unit) s.units) → recovering.Gives s (Some (commits_in s.units commit-unit)) y (Some given) →
-      Performs (OpensIn now new_now stage) in_flight (event_meant s.units (coming.Commit u)) (Some given) s
-  commit-performs now new_now stage in_flight y given none there stored gives =
-      opens-by now new_now stage in_flight (event_meant s.units (coming.Commit u)) s none y (commits_in s.units commit-unit) given there commit-meant gives h.opens stored
+      Performs (OpensIn now new_now stage) commit-asked (event_meant s.units (coming.Commit u)) (Some given) s
+  commit-performs now new_now stage y given there stored gives =
+      opens-by now new_now stage commit-asked (event_meant s.units (coming.Commit u)) s y (commits_in s.units commit-unit) given commit-flies there commit-meant gives h.opens stored
 
-  pub commit-breaks : (leaves : Kept → Kept → Type 0) (fills : Written → ℕ → Type 0) (halt : Halt) (stage : Stage Recovery) (in_flight : Option InFlight) (y : Books) → y ≡ x.books →
-      Undone leaves fills halt s.units (commits_in s.units commit-unit) → WasBroken halt y (Some (asked.Commit u)) stage in_flight →
-      BreaksOff leaves fills halt stage in_flight (event_meant s.units (coming.Commit u)) s.units
-  commit-breaks leaves fills halt stage in_flight y same undone broken =
-      breaks leaves fills stage in_flight (event_meant s.units (coming.Commit u)) s.units halt y (Some (asked.Commit u)) (commits_in s.units commit-unit) commit-meant
-      (kept-decided (commits_in s.units commit-unit) s.units refl) undone broken
-      (subst (λ (z : Books). AreBooks z s.units) (sym same) commit-stands.books) (commit-unit, commit-named, refl)
+  pub commit-breaks : (leaves : Kept → Kept → Type 0) (fills : Written → ℕ → Type 0) (halt : Halt) (stage : Stage Recovery) (y : Books) → y ≡ x.books →
+      Undone leaves fills halt s.units (commits_in s.units commit-unit) → WasBroken halt y stage →
+      BreaksOff leaves fills halt stage commit-asked (event_meant s.units (coming.Commit u)) s.units
+  commit-breaks leaves fills halt stage y same undone broken =
+      breaks leaves fills stage commit-asked (event_meant s.units (coming.Commit u)) s.units (commits_in s.units commit-unit) commit-meant
+      (kept-decided (commits_in s.units commit-unit) s.units refl) commit-flies halt y undone broken (subst (λ (z : Books). AreBooks z s.units) (sym same) commit-stands.books)
 
-  pub commit-lost : (leaves : Kept → Kept → Type 0) (fills : Written → ℕ → Type 0) (stage : Stage Recovery) (in_flight : Option InFlight) →
-      leaves (units_after (commits_in s.units commit-unit) s.units).kept (units_after (commits_in s.units commit-unit) s.units).kept → stage ≡ at.Lost → in_flight ≡ None →
-      BreaksOff leaves fills Memory stage in_flight (event_meant s.units (coming.Commit u)) s.units
-  commit-lost leaves fills stage in_flight left there none =
-      breaks-behind leaves fills stage in_flight (event_meant s.units (coming.Commit u)) s.units (commits_in s.units commit-unit) commit-meant
-      (kept-decided (commits_in s.units commit-unit) s.units refl) left (record { there = there; none = none })
+  pub commit-lost : (leaves : Kept → Kept → Type 0) (fills : Written → ℕ → Type 0) (stage : Stage Recovery) →
+      leaves (units_after (commits_in s.units commit-unit) s.units).kept (units_after (commits_in s.units commit-unit) s.units).kept → stage ≡ at.Lost →
+      BreaksOff leaves fills Memory stage commit-asked (event_meant s.units (coming.Commit u)) s.units
+  commit-lost leaves fills stage left there =
+      breaks-behind leaves fills stage commit-asked (event_meant s.units (coming.Commit u)) s.units (commits_in s.units commit-unit) commit-meant
+      (kept-decided (commits_in s.units commit-unit) s.units refl) commit-flies left there
 
 -- A BRANCH
 
@@ -173,26 +179,31 @@ module _ (holds : Kept → Type 0) (is_new : Id → Type 0) (x : Recovery) (u ba
   branch-stored now new_now stored =
       subst (λ v. Stored now new_now (units_after (branches_in s.units v cause) s.units)) (named-unit u s.units.units branch-unit.unit branch-unit.named) stored
 
-  pub branch-performs : (now : Kept → Type 0) (new_now : Id → Type 0) (stage : Stage Recovery) (in_flight : Option InFlight) (y : Recovery) (given : Event) → in_flight ≡ None → stage ≡ at.Going y →
+  abbrev branch-asked : Option InFlight
+  branch-asked = Some (asked.Branch u base cause)
+
+  branch-flies : IsInFlight branch-asked (decision_in (Some (branches_in s.units u cause))) s.units
+  branch-flies = (branch-unit, refl)
+
+  pub branch-performs : (now : Kept → Type 0) (new_now : Id → Type 0) (stage : Stage Recovery) (y : Recovery) (given : Event) → stage ≡ at.Going y →
       Stored now new_now (units_after (branches_in s.units u cause) s.units) → recovering.Gives s (Some (branches_in s.units u cause)) y (Some given) →
-      Performs (OpensIn now new_now stage) in_flight (event_meant s.units (coming.Branch u base cause)) (Some given) s
-  branch-performs now new_now stage in_flight y given none there stored gives =
-      opens-by now new_now stage in_flight (event_meant s.units (coming.Branch u base cause)) s none y (branches_in s.units u cause) given there refl gives h.opens stored
+      Performs (OpensIn now new_now stage) branch-asked (event_meant s.units (coming.Branch u base cause)) (Some given) s
+  branch-performs now new_now stage y given there stored gives =
+      opens-by now new_now stage branch-asked (event_meant s.units (coming.Branch u base cause)) s y (branches_in s.units u cause) given branch-flies there refl gives h.opens stored
 
-  pub branch-breaks : (leaves : Kept → Kept → Type 0) (fills : Written → ℕ → Type 0) (halt : Halt) (stage : Stage Recovery) (in_flight : Option InFlight) (y : Books) → y ≡ x.books →
-      Undone leaves fills halt s.units (branches_in s.units u cause) → WasBroken halt y (Some (asked.Branch u base cause)) stage in_flight →
-      BreaksOff leaves fills halt stage in_flight (event_meant s.units (coming.Branch u base cause)) s.units
-  branch-breaks leaves fills halt stage in_flight y same undone broken =
-      breaks leaves fills stage in_flight (event_meant s.units (coming.Branch u base cause)) s.units halt y (Some (asked.Branch u base cause)) (branches_in s.units u cause) refl
-      (kept-decided (branches_in s.units u cause) s.units refl) undone broken
-      (subst (λ (z : Books). AreBooks z s.units) (sym same) branch-stands.books) (branch-unit, refl)
+  pub branch-breaks : (leaves : Kept → Kept → Type 0) (fills : Written → ℕ → Type 0) (halt : Halt) (stage : Stage Recovery) (y : Books) → y ≡ x.books →
+      Undone leaves fills halt s.units (branches_in s.units u cause) → WasBroken halt y stage →
+      BreaksOff leaves fills halt stage branch-asked (event_meant s.units (coming.Branch u base cause)) s.units
+  branch-breaks leaves fills halt stage y same undone broken =
+      breaks leaves fills stage branch-asked (event_meant s.units (coming.Branch u base cause)) s.units (branches_in s.units u cause) refl
+      (kept-decided (branches_in s.units u cause) s.units refl) branch-flies halt y undone broken (subst (λ (z : Books). AreBooks z s.units) (sym same) branch-stands.books)
 
-  pub branch-lost : (leaves : Kept → Kept → Type 0) (fills : Written → ℕ → Type 0) (stage : Stage Recovery) (in_flight : Option InFlight) →
-      leaves (units_after (branches_in s.units u cause) s.units).kept (units_after (branches_in s.units u cause) s.units).kept → stage ≡ at.Lost → in_flight ≡ None →
-      BreaksOff leaves fills Memory stage in_flight (event_meant s.units (coming.Branch u base cause)) s.units
-  branch-lost leaves fills stage in_flight left there none =
-      breaks-behind leaves fills stage in_flight (event_meant s.units (coming.Branch u base cause)) s.units (branches_in s.units u cause) refl
-      (kept-decided (branches_in s.units u cause) s.units refl) left (record { there = there; none = none })
+  pub branch-lost : (leaves : Kept → Kept → Type 0) (fills : Written → ℕ → Type 0) (stage : Stage Recovery) →
+      leaves (units_after (branches_in s.units u cause) s.units).kept (units_after (branches_in s.units u cause) s.units).kept → stage ≡ at.Lost →
+      BreaksOff leaves fills Memory stage branch-asked (event_meant s.units (coming.Branch u base cause)) s.units
+  branch-lost leaves fills stage left there =
+      breaks-behind leaves fills stage branch-asked (event_meant s.units (coming.Branch u base cause)) s.units (branches_in s.units u cause) refl
+      (kept-decided (branches_in s.units u cause) s.units refl) branch-flies left there
 
 -- WHAT IS DONE ALREADY
 
@@ -200,7 +211,8 @@ pub told-performs : (holds : Kept → Type 0) (is_new : Id → Type 0) (x : Reco
     in_flight ≡ None → stage ≡ at.Going x → IsToOpen holds is_new x c s → Performs (OpensIn holds is_new stage) in_flight (event_meant s.units c) (Some e) s
 told-performs holds is_new x c e s stage in_flight is none there h =
     let t : IsToOpen holds is_new x (coming.Told e) s = subst (λ (d : Coming). IsToOpen holds is_new x d s) is h in
-    opens-by holds is_new stage in_flight (event_meant s.units c) s none x e e there (ap (event_meant s.units) is) (record { told = refl; done = t.ready.0 }) t.opens t.stored
+    opens-by holds is_new stage in_flight (event_meant s.units c) s x e e (none-flies in_flight (decision_in (Some e)) s.units none t.ready.1.0) there (ap (event_meant s.units) is)
+    (record { told = refl; done = t.ready.0 }) t.opens t.stored
 
 pub told-step : (holds : Kept → Type 0) (is_new : Id → Type 0) (x : Recovery) (c : Coming) (e : Event) (s : State) → c ≡ coming.Told e → IsToOpen holds is_new x c s → statements_in e ≡ 0
 told-step holds is_new x c e s is h =
@@ -244,11 +256,11 @@ goes-to-open holds is_new x y c s h may b = record {
     by (coming.Arm pairs) meant r = h.stored
 
 -- what was given arms no stop
-plain-unarmed : (e : Event) → is_prepared (Some e) ≡ false → stops_armed e ≡ 0
+plain-unarmed : (e : Event) → is_prepared (Some e) ≡ false → stops_armed e ≡ []
 plain-unarmed (Armed pairs) h = cc
 plain-unarmed e h = refl
 
-pub meant-unarmed : (e : Event) (meant : Option Event) → Some e ≡ meant → is_prepared meant ≡ false → stops_armed e ≡ 0
+pub meant-unarmed : (e : Event) (meant : Option Event) → Some e ≡ meant → is_prepared meant ≡ false → stops_armed e ≡ []
 meant-unarmed e meant told plain = plain-unarmed e (ap is_prepared told ∙ plain)
 
 -- no other is chosen in an opening

@@ -66,7 +66,7 @@ module _ (x : Recovery) (e : Event) (p : Point) (sound : IsSoundPoint p) (t : St
       seen = h.sees;
       can_stop = d.after.can_stop ∙ can ∙ sym same;
       line = kept ∙ line ∙ ap is_statement_line (sym (onwards-line p sound e t d.plain comes d.after));
-      none = h.none;
+      flies = h.flies;
     },
     sym h.told,
     stands.opening,

@@ -1,5 +1,6 @@
 -- At which stage an opening is, by what it sees; and an event of it that is performed by its recovery.
 use Rattle.salt_database.specs.Standing.{OpensIn}
+use Rattle.salt_engine.specs.Flights.{IsInFlight}
 use Rattle.salt_engine.specs.Performing.{Performs}
 use Rattle.salt_engine.specs.Standing.{IsGoingStage}
 use Rattle.salt_engine.specs.Stored.{Stored}
@@ -9,13 +10,14 @@ use Rattle.salt_engine.specs.declared.stage.Stage.TheVariants as at
 use Rattle.salt_keeps.specs.States.{State}
 use Rattle.salt_keeps.specs.Steps.{units_after}
 use Rattle.salt_model.specs.Kept.{Kept}
+use Rattle.salt_model.specs.Next.{decision_in}
 use Rattle.salt_model.specs.Phases.{Opening}
 use Rattle.salt_model.specs.declared.events.Event.{Event}
 use Rattle.salt_recovery.specs.Recovering as recovering
 use Rattle.salt_recovery.specs.declared.recovery.Recovery.{Recovery}
 use Rattle.salt_values.specs.declared.id.Id.{Id}
 use Rattle.std.proofs.Common.{ap, subst, sym, ◌∙◌}
-use Rattle.std.specs.Prelude.{None, Option, Some, ◌≡◌}
+use Rattle.std.specs.Prelude.{Option, Some, ◌≡◌}
 
 pub opens-now : (holds : Kept → Type 0) (is_new : Id → Type 0) (stage : Stage Recovery) (given : Option Event) (s : State) → OpensIn holds is_new stage given s → IsGoingStage stage
 opens-now holds is_new (at.Going x) given s h = tt
@@ -31,15 +33,16 @@ same-some : {A : Type 0} (x y : A) → Some x ≡ Some y → x ≡ y
 same-some x y h = cc
 
 -- by a recovery
-pub opens-by : (holds : Kept → Type 0) (is_new : Id → Type 0) (stage : Stage Recovery) (in_flight : Option InFlight) (meant : Option Event) (s : State) → in_flight ≡ None →
-    (x : Recovery) (e given : Event) → stage ≡ at.Going x → meant ≡ Some e → recovering.Gives s (Some e) x (Some given) → s.units.phase ≡ Opening → Stored holds is_new (units_after e s.units) →
+pub opens-by : (holds : Kept → Type 0) (is_new : Id → Type 0) (stage : Stage Recovery) (in_flight : Option InFlight) (meant : Option Event) (s : State) (x : Recovery) (e given : Event) →
+    IsInFlight in_flight (decision_in (Some e)) s.units → stage ≡ at.Going x → meant ≡ Some e → recovering.Gives s (Some e) x (Some given) → s.units.phase ≡ Opening → Stored holds is_new (units_after e s.units) →
     Performs (OpensIn holds is_new stage) in_flight meant (Some given) s
-opens-by holds is_new stage in_flight meant s none x e given there is g opens stored =
+opens-by holds is_new stage in_flight meant s x e given flies there is g opens stored =
     let t = g.done.0 in
     let d = g.done.1 in
-    let same : t.units ≡ units_after e s.units = d.after.units ∙ ap (λ (f : Event). units_after f s.units) (same-some given e g.told) in
+    let told = same-some given e g.told in
+    let same : t.units ≡ units_after e s.units = d.after.units ∙ ap (λ (f : Event). units_after f s.units) told in
     record {
       told = g.told ∙ sym is;
       sees = subst (λ (q : Stage Recovery). OpensIn holds is_new q (Some given) s) (sym there) (t, d, subst (Stored holds is_new) (sym same) stored, opens);
-      none = none;
+      flies = subst (λ (f : Event). IsInFlight in_flight (decision_in (Some f)) s.units) (sym told) flies;
     }

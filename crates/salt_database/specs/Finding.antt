@@ -13,6 +13,7 @@ use Rattle.salt_keeps.specs.Laws.{IsSound}
 use Rattle.salt_keeps.specs.OpenUnits.{UnitState}
 use Rattle.salt_keeps.specs.States.{After, Keeps, State}
 use Rattle.salt_model.specs.Kept.{Kept}
+use Rattle.salt_model.specs.Next.{decision_in}
 use Rattle.salt_model.specs.Phases.{Phase}
 use Rattle.salt_model.specs.Trace.{Trace, ◌says◌}
 use Rattle.salt_model.specs.Turns.{is_statement_line}
@@ -102,8 +103,9 @@ first_in later flight s = rest_in s
 abbrev pub BeginsOpening : Option Event → ℕ → State → Recovery → Event → Type 0
 BeginsOpening flight number new x e = recovering.Gives new (opened_in new.units number flight) x (Some e)
 
--- so it is in an opening
-pub record IsOpeningWith (flight : Option Event) (number : ℕ) (new : State) (stage : Stage Recovery) (e : Event) : Type 0 where
+-- so it is in an opening; the decision that was in flight still is where it is at hand
+pub record IsOpeningWith (flight : Option Event) (number : ℕ) (new : State) (stage : Stage Recovery) (in_flight : Option InFlight) (e : Event) : Type 0 where
   pub recovery : Recovery
   pub there : stage ≡ Going recovery
   pub begins : BeginsOpening flight number new recovery e
+  pub flies : IsInFlight in_flight (decision_in (Some e)) new.units

@@ -6,16 +6,18 @@ use Rattle.salt_database.specs.declared.opening.Opening.{Opening}
 use Rattle.salt_engine.specs.Engines.{engine_left, engine_lies, engine_sees}
 use Rattle.salt_engine.specs.Flights.{flight_of}
 use Rattle.salt_engine.specs.Standing.{Left, Lies, Sees, serving_books}
+use Rattle.salt_engine.specs.Stored.{IsAlone}
 use Rattle.salt_engine.specs.declared.engine.Engine.{Engine}
 use Rattle.salt_keeps.specs.Points.{Point}
 use Rattle.salt_keeps.specs.States.{State}
 use Rattle.salt_model.specs.Kept.{Kept}
 use Rattle.salt_model.specs.declared.events.Event.{Event}
 use Rattle.salt_model.specs.declared.events.Flight.{Flight}
+use Rattle.salt_storage.specs.declared.found.Numbers.{Numbers}
 use Rattle.salt_values.specs.declared.id.Id.{Id}
 use Rattle.salt_values.specs.declared.placement.PlaceKind.TheVariants.{Remainder}
 use Rattle.salt_values.specs.declared.placement.Shape.{Shape}
-use Rattle.std.specs.Prelude.{Bool, None, Option, Some, ℕ, ⊤, ◌≡◌}
+use Rattle.std.specs.Prelude.{Bool, IsSome, None, Option, Some, ℕ, ⊤, ◌≡◌}
 
 -- AN OPENING
 
@@ -25,8 +27,8 @@ opening_sees holds is_new stoppable o next s = Sees (OpensIn (holds o.storage) (
 abbrev pub opening_lies : {S : Type 0} → (holds : S → Kept → Type 0) (leaves : S → Kept → Kept → Type 0) → Bool → Opening S → ℕ → Point → Type 0
 opening_lies holds leaves stoppable o room p = Lies (holds o.storage) (leaves o.storage) stoppable o.found (opening_books o.stage) o.single o.in_flight room p
 
-abbrev pub opening_left : {S : Type 0} → (holds : S → Kept → Type 0) (leaves : S → Kept → Kept → Type 0) → Opening S → ℕ → Point → Type 0
-opening_left holds leaves o room p = Left (holds o.storage) (leaves o.storage) o.found room p
+abbrev pub opening_left : {S : Type 0} → (holds : S → Kept → Type 0) (leaves : S → Kept → Kept → Type 0) (rests : S → Kept → Type 0) → Opening S → Option Numbers → ℕ → Point → Type 0
+opening_left holds leaves rests o numbers room p = Left (holds o.storage) (leaves o.storage) (IsSome o.in_flight) o.found room p × IsAlone (rests o.storage) numbers room p
 
 -- A DATABASE is closed, and opened by an opening, or open, and served by an engine.
 
@@ -80,7 +82,7 @@ database_lies holds leaves stoppable (Open e) room p = engine_lies holds leaves 
 database_lies holds leaves stoppable (Closed o) room p = opening_lies holds leaves stoppable o room p
 database_lies holds leaves stoppable Moving room p = ⊥
 
-abbrev pub database_left : {S : Type 0} → (holds : S → Kept → Type 0) (leaves : S → Kept → Kept → Type 0) → Database S → ℕ → Point → Type 0
-database_left holds leaves (Open e) room p = engine_left holds leaves e room p
-database_left holds leaves (Closed o) room p = opening_left holds leaves o room p
-database_left holds leaves Moving room p = ⊥
+abbrev pub database_left : {S : Type 0} → (holds : S → Kept → Type 0) (leaves : S → Kept → Kept → Type 0) (rests : S → Kept → Type 0) → Database S → Option Numbers → ℕ → Point → Type 0
+database_left holds leaves rests (Open e) numbers room p = engine_left holds leaves rests e numbers room p
+database_left holds leaves rests (Closed o) numbers room p = opening_left holds leaves rests o numbers room p
+database_left holds leaves rests Moving numbers room p = ⊥

@@ -5,7 +5,7 @@ ghost use Rattle.salt_keeps.specs.States.{State};
 ghost use Rattle.salt_model.specs.declared.events.Event.{Event};
 ghost use Rattle.salt_recovery.specs.Follows.{rest_in};
 ghost use Rattle.salt_recovery.specs.Recovering.{Gives};
-ghost use Rattle.std.specs.Prelude.{IfOk, Option, Some};
+ghost use Rattle.std.specs.Prelude.{IfOk, Option, Some, nat_lt, ℕ, ◌≡◌};
 
 use salt_books::{Books, Coming};
 use salt_engine::InFlight;
@@ -65,21 +65,21 @@ fn first(
     }
 }
 
-/// Behind an Opened with this boot and this decision number: the recovery, and the first event, which it has done.
+/// Behind an Opened with this boot, whose decision number is above the last that is known, or not: the recovery, and the first event,
+/// which it has done.
 pub fn begin(
     alloc: Global,
     books: Books,
     single: bool,
     in_flight: &Option<InFlight>,
     boot: u64,
-    number: u64,
+    later: bool,
 ) -> Result<(Recovery, Event), AllocError>
-    requires { (f : Option Event) × (old : State) × (new : State) × IsOpenedBy books single in_flight.now f boot number old new }
-    ensures { IfOk result (λ r. (f : Option Event) (old new : State) → IsOpenedBy books single in_flight.now f boot number old new
-        → BeginsOpening f number new r.0 r.1) }
+    requires { (f : Option Event) × (number : ℕ) × (old : State) × (new : State) × IsOpenedBy books single in_flight.now f boot number old new }
+    ensures { IfOk result (λ r. (f : Option Event) (number : ℕ) (old new : State) → IsOpenedBy books single in_flight.now f boot number old new
+        → later ≡ nat_lt books.known.decisions number → BeginsOpening f number new r.0 r.1) }
 {
     let mut books = books;
-    let later = number > books.known().decisions();
     books.begin_boot(boot);
     let mut recovery = Recovery::new(alloc, books, single);
     let first = first(&mut recovery, in_flight, later)?;

@@ -72,7 +72,7 @@ impl<S: Storage + Drop> Stepping for Database<S> {
 
     ghost lies = { λ d x room p. database_lies (S.holds d) (S.leaves d) d.can_stop x room p };
 
-    ghost left = { λ d x room p. database_left (S.holds d) (S.leaves d) x room p };
+    ghost left = { λ d x numbers room p. database_left (S.holds d) (S.leaves d) (S.rests d) x numbers room p };
 
     ghost flight = { database_flight };
 

@@ -2,26 +2,35 @@
 
 ghost use Rattle.salt_books.specs.declared.books.Books.{Books};
 ghost use Rattle.salt_database.specs.Finding.{IsFoundAgain, IsOpenedBy, IsOpeningWith};
-ghost use Rattle.salt_disk.specs.Disks.{HasCause, SameShape};
+ghost use Rattle.salt_disk.specs.Disks.{HasCause};
 ghost use Rattle.salt_engine.specs.Standing.{IsBrokenStage};
 ghost use Rattle.salt_engine.specs.declared.stage.Stage.TheVariants.{Down, Lost};
 ghost use Rattle.salt_keeps.specs.States.{State};
 ghost use Rattle.salt_model.specs.Kept.{Kept};
 ghost use Rattle.salt_model.specs.declared.events.Event.{Event};
 ghost use Rattle.salt_storage.specs.Answers.{MayFail, open_disk_err};
+ghost use Rattle.salt_storage.specs.Staying.{StaysWithin};
 ghost use Rattle.salt_storage.specs.declared.halt.Halt.TheVariants.{DeviceFull, Memory};
 ghost use Rattle.salt_storage.specs.declared.open.OpenErr.{OpenErr};
 ghost use Rattle.salt_values.specs.Placement.{GivesPlaceOf, TakesEachKey};
-ghost use Rattle.std.specs.Prelude.{Err, IfErr, IfOk, None, OnErr, OnOk, Option, ℕ, [], ◌++◌, ◌∷◌, ◌≡◌};
+ghost use Rattle.std.specs.Prelude.{Err, IfErr, IfOk, None, OnErr, OnOk, Option, ℕ, [], if◌then◌else◌, ◌++◌, ◌∷◌, ◌≡◌};
 
 use crate::beginning::begin;
 use crate::opening::Opening;
 use salt_books::Books;
 use salt_disk::Disks;
-use salt_engine::Stage;
+use salt_engine::{InFlight, Stage};
 use salt_model::{Event, Story};
 use salt_storage::{Halt, OpenErr, Storage};
 use salt_values::{Key, PlaceKind, Placement};
+use std::mem;
+
+/// What is in flight behind an Opened: the decision that was, where it stands, until it is told.
+fn still_in_flight(in_flight: Option<InFlight>, stands: bool) -> Option<InFlight>
+    ensures { result ≡ (if stands then in_flight else None) }
+{
+    if stands { in_flight } else { None }
+}
 
 impl<S: Storage> Opening<S> {
     /// Finds behind a fall what the storage holds: the books stay.
@@ -40,12 +49,11 @@ impl<S: Storage> Opening<S> {
         ensures stage { self.new.stage ≡ self.old.stage }
         ensures unfound { OnErr result (self.new.found ≡ self.old.found) }
         ensures leaves { OnErr result ((a b : Kept) → S.leaves (D.view disks.old) self.old.storage a b → S.leaves (D.view disks.new) self.new.storage a b) }
-        ensures known { IfErr result (λ e. (a b : Kept) → S.leaves (D.view disks.old) self.old.storage a b → MayFail a b e) }
+        ensures known { IfErr result (λ e. (a b : Kept) → S.leaves (D.view disks.old) self.old.storage a b → MayFail (S.rests (D.view disks.new) self.new.storage) a b e) }
         ensures full { (dev : ℕ) → result ≡ Err (OpenErr.Halted (DeviceFull dev)) → ⊥ }
         ensures single { self.new.single ≡ self.old.single }
         ensures flies { self.new.in_flight ≡ self.old.in_flight }
-        ensures asked { S.asked self.new.storage ≡ S.asked self.old.storage }
-        ensures shape { SameShape (D.view disks.old) (D.view disks.new) }
+        ensures within { StaysWithin (S.asked self.old.storage) (S.asked self.new.storage) (D.view disks.old) (D.view disks.new) }
         ensures cause { HasCause (D.view disks.old) (D.view disks.new) (open_disk_err result) }
     {
         let numbers = self.storage.reopen(disks, place)?;
@@ -53,7 +61,8 @@ impl<S: Storage> Opening<S> {
         Ok(())
     }
 
-    /// A boot of this number has begun: its first event is done, and the Opened is told. An error leaves the story as it was.
+    /// A boot of this number has begun: its first event is done, and the Opened is told. Where that event is the decision in flight, it
+    /// stays there until it is told. An error leaves the story as it was.
     pub(crate) fn open_boot(
         &mut self,
         books: Books,
@@ -64,8 +73,7 @@ impl<S: Storage> Opening<S> {
         requires lost { self.old.stage ≡ Lost }
         requires opened { (f : Option Event) × (old : State) × (new : State) × IsOpenedBy books self.old.single self.old.in_flight f boot number old new }
         ensures opens { IfOk result (λ e. (f : Option Event) (old new : State) → IsOpenedBy books self.old.single self.old.in_flight f boot number old new
-            → IsOpeningWith f number new self.new.stage e) }
-        ensures none { OnOk result (self.new.in_flight ≡ None) }
+            → IsOpeningWith f number new self.new.stage self.new.in_flight e) }
         ensures tells { OnOk result (story.new ≡ story.old ++ Event.Opened boot number ∷ []) }
         ensures memory { IfErr result (λ halt. halt ≡ Memory) }
         ensures lost { OnErr result (self.new.stage ≡ Lost) }
@@ -75,19 +83,20 @@ impl<S: Storage> Opening<S> {
         ensures found { self.new.found ≡ self.old.found }
         ensures single { self.new.single ≡ self.old.single }
     {
+        let stands = number > books.known().decisions();
         let (recovery, first) = begin(
             self.alloc,
             books,
             self.single,
             &self.in_flight,
             boot,
-            number,
+            stands,
         )?;
         story.push(Event::Opened {
             boot,
             decisions: number,
         })?;
-        self.in_flight = None;
+        self.in_flight = still_in_flight(mem::replace(&mut self.in_flight, None), stands);
         self.stage = Stage::Going(recovery);
         Ok(first)
     }

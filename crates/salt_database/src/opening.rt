@@ -1,7 +1,7 @@
 //! An opening: what stands over a storage before an engine is made over it.
 
 ghost use Rattle.salt_database.specs.Finding.{IsNew};
-ghost use Rattle.salt_database.specs.Standing.{AreOpened, IsFoundStage, OpensIn, opening_books};
+ghost use Rattle.salt_database.specs.Standing.{AreOpened, IsFoundStage, opening_books};
 ghost use Rattle.salt_engine.specs.Standing.{ServesFrom, serving_books};
 ghost use Rattle.salt_engine.specs.declared.stage.Stage.TheVariants.{Going};
 ghost use Rattle.salt_keeps.specs.States.{State};
@@ -30,7 +30,7 @@ pub struct Opening<S> {
     pub(crate) found: Option<Numbers>,
     /// Whether the last line that was asked is one statement: the units of an opening note it.
     pub(crate) single: bool,
-    /// What was asked of the storage when it halted.
+    /// The decision that was asked of the storage, until it is told.
     pub(crate) in_flight: Option<InFlight>,
     /// The tables where memory ran out: none.
     pub(crate) no_tables: Schema,

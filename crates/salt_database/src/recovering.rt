@@ -14,7 +14,7 @@ ghost use Rattle.salt_steps.specs.Counting.{stops_armed};
 ghost use Rattle.salt_storage.specs.Answers.{disk_err};
 ghost use Rattle.salt_storage.specs.declared.found.Numbers.{Numbers};
 ghost use Rattle.salt_values.specs.Placement.{GivesPlaceOf, TakesEachKey};
-ghost use Rattle.std.specs.Prelude.{Bool, IfOk, None, OnErr, Option, Some, ◌+◌, ◌≡◌};
+ghost use Rattle.std.specs.Prelude.{Bool, IfOk, None, OnErr, Option, Some, [], ◌+◌, ◌≡◌};
 
 use crate::opening::Opening;
 use salt_books::{Asking, Coming};
@@ -64,10 +64,7 @@ impl<S: Storage> Opening<S> {
                 self.stage = Stage::Going(recovery);
                 Ok(event)
             }
-            Err(halt) => Err(
-                self.stage
-                    .break_off(&mut self.in_flight, recovery.into_books(), halt, None),
-            ),
+            Err(halt) => Err(self.stage.break_off(recovery.into_books(), halt)),
         }
     }
 
@@ -90,6 +87,7 @@ impl<S: Storage> Opening<S> {
         ensures cause { HasCause (D.view disks.old) (D.view disks.new) (disk_err result) }
     {
         let mut recovery = recovery;
+        self.in_flight = Some(InFlight::Commit(unit));
         match commit(
             self.alloc,
             &mut self.storage,
@@ -104,14 +102,7 @@ impl<S: Storage> Opening<S> {
                 self.stage = Stage::Going(recovery);
                 Ok(event)
             }
-            Err(halt) => Err(
-                self.stage.break_off(
-                    &mut self.in_flight,
-                    recovery.into_books(),
-                    halt,
-                    Some(InFlight::Commit(unit)),
-                ),
-            ),
+            Err(halt) => Err(self.stage.break_off(recovery.into_books(), halt)),
         }
     }
 
@@ -136,6 +127,7 @@ impl<S: Storage> Opening<S> {
         ensures cause { HasCause (D.view disks.old) (D.view disks.new) (disk_err result) }
     {
         let mut recovery = recovery;
+        self.in_flight = Some(InFlight::Branch { unit, base, cause });
         match branch(
             self.alloc,
             &mut self.storage,
@@ -150,17 +142,7 @@ impl<S: Storage> Opening<S> {
                 self.stage = Stage::Going(recovery);
                 Ok(event)
             }
-            Err(halt) => {
-                let asked = InFlight::Branch { unit, base, cause };
-                Err(
-                    self.stage.break_off(
-                        &mut self.in_flight,
-                        recovery.into_books(),
-                        halt,
-                        Some(asked),
-                    ),
-                )
-            }
+            Err(halt) => Err(self.stage.break_off(recovery.into_books(), halt)),
         }
     }
 
@@ -220,7 +202,7 @@ impl<S: Storage> Opening<S> {
         ensures ticks { IfOk result (λ e. steps.new ≡ steps.old + statements_in e) }
         ensures short { OnErr result ((s : State) → GoesOnOpening (S.holds (D.view disks.old) self.old.storage) (S.is_new (D.view disks.old) self.old.storage) recovery s
             → MayStep (comes_behind recovery.behind s.units) steps.old steps.new) }
-        ensures unarmed { IfOk result (λ e. stops_armed e ≡ 0) }
+        ensures unarmed { IfOk result (λ e. stops_armed e ≡ []) }
         ensures stays { Stays {A = Bool × Option Numbers} (self.old.single, self.old.found) (self.new.single, self.new.found) (S.asked self.old.storage) (S.asked self.new.storage) (D.view disks.old) (D.view disks.new) }
         ensures cause { HasCause (D.view disks.old) (D.view disks.new) (disk_err result) }
     {

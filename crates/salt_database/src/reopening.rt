@@ -2,7 +2,6 @@
 
 ghost use Rattle.salt_books.specs.declared.books.Books.{Books};
 ghost use Rattle.salt_database.specs.Standing.{CanFind, IsFoundStage, is_ready, left_in, opening_books};
-ghost use Rattle.salt_disk.specs.Disks.{SameShape};
 ghost use Rattle.salt_engine.specs.Flights.{flight_of};
 ghost use Rattle.salt_engine.specs.Standing.{IsGoingStage, KnowUnits, KnowsUnits};
 ghost use Rattle.salt_keeps.specs.OpenUnits.{UnitState};
@@ -16,12 +15,13 @@ ghost use Rattle.salt_steps.specs.Counting.{CountsStops, armed_at, stops_armed};
 ghost use Rattle.salt_steps.specs.Draining.{MayTick};
 ghost use Rattle.salt_steps.specs.Opening.{IsFallenFrom, MayFailAt, OpensAt};
 ghost use Rattle.salt_steps.specs.Standing.{BreaksAt, IsOpenedOn, IsOpeningAt, IsSoundPoint};
-ghost use Rattle.salt_storage.specs.Answers.{disk_err, open_disk_err};
+ghost use Rattle.salt_storage.specs.Answers.{disk_err, numbers_told, open_disk_err};
+ghost use Rattle.salt_storage.specs.Staying.{StaysWithin};
 ghost use Rattle.salt_storage.specs.Writing.{OfBoot};
 ghost use Rattle.salt_storage.specs.declared.halt.Halt.TheVariants.{DeviceFull, Memory};
 ghost use Rattle.salt_storage.specs.declared.open.OpenErr.{OpenErr};
 ghost use Rattle.salt_values.specs.Placement.{GivesPlaceOf, TakesEachKey};
-ghost use Rattle.std.specs.Prelude.{Err, IfErr, IfOk, OnErr, OnOk, Some, ℕ, [], ◌++◌, ◌+◌, ◌<◌, ◌∷◌, ◌≡◌};
+ghost use Rattle.std.specs.Prelude.{Err, IfErr, IfOk, None, OnErr, OnOk, Some, ℕ, [], ◌++◌, ◌+◌, ◌<◌, ◌∷◌, ◌≡◌};
 
 use crate::opening::Opening;
 use salt_books::Books;
@@ -81,13 +81,12 @@ impl<S: Storage + Drop> Opening<S> {
         ensures found { OnOk result (IsFoundStage self.new.found self.new.stage) }
         ensures again { (result ≡ Err (OpenErr.Halted Memory) → ⊥) → (room : ℕ) (p : Point) → IsSoundPoint p → p.state.units.phase ≡ Fallen → opening_lies (S.holds (D.view disks.old)) (S.leaves (D.view disks.old)) (D.view disks.old).can_stop self.old room p →
             opening_lies (S.holds (D.view disks.new)) (S.leaves (D.view disks.new)) (D.view disks.new).can_stop self.new room p }
-        ensures left { (room : ℕ) (p : Point) → IsSoundPoint p → p.state.units.phase ≡ Fallen → opening_lies (S.holds (D.view disks.old)) (S.leaves (D.view disks.old)) (D.view disks.old).can_stop self.old room p → opening_left (S.holds (D.view disks.new)) (S.leaves (D.view disks.new)) self.new room p }
+        ensures left { (room : ℕ) (p : Point) → IsSoundPoint p → p.state.units.phase ≡ Fallen → opening_lies (S.holds (D.view disks.old)) (S.leaves (D.view disks.old)) (D.view disks.old).can_stop self.old room p → opening_left (S.holds (D.view disks.new)) (S.leaves (D.view disks.new)) (S.rests (D.view disks.new)) self.new (numbers_told result) room p }
         ensures later { IfErr result (λ e. (room : ℕ) (p : Point) → IsSoundPoint p → p.state.units.phase ≡ Fallen → opening_lies (S.holds (D.view disks.old)) (S.leaves (D.view disks.old)) (D.view disks.old).can_stop self.old room p → MayFailAt room p e) }
         ensures flies { flight_of self.new.in_flight ≡ flight_of self.old.in_flight }
         ensures full { (dev : ℕ) → result ≡ Err (OpenErr.Halted (DeviceFull dev)) → ⊥ }
-        ensures asked { S.asked self.new.storage ≡ S.asked self.old.storage }
-        ensures shape { SameShape (D.view disks.old) (D.view disks.new) }
-        ensures counts { CountsStops (D.view disks.old) (D.view disks.new) (open_disk_err result) 0 0 }
+        ensures within { StaysWithin (S.asked self.old.storage) (S.asked self.new.storage) (D.view disks.old) (D.view disks.new) }
+        ensures counts { CountsStops (D.view disks.old) (D.view disks.new) (open_disk_err result) [] 0 }
     {
         match self.found {
             Some(_numbers) => Ok(()),
@@ -105,14 +104,13 @@ impl<S: Storage + Drop> Opening<S> {
         ensures lies { IfErr result (λ halt. (halt ≡ Memory → ⊥) → (room : ℕ) (p : Point) → IsSoundPoint p → p.state.units.phase ≡ Fallen → opening_lies (S.holds (D.view disks.old)) (S.leaves (D.view disks.old)) (D.view disks.old).can_stop self.old room p →
             opening_lies (S.holds (D.view disks.new)) (S.leaves (D.view disks.new)) (D.view disks.new).can_stop self.new (room + 1) p) }
         ensures left { OnErr result ((room : ℕ) (p : Point) → IsSoundPoint p → p.state.units.phase ≡ Fallen → opening_lies (S.holds (D.view disks.old)) (S.leaves (D.view disks.old)) (D.view disks.old).can_stop self.old room p →
-            opening_left (S.holds (D.view disks.new)) (S.leaves (D.view disks.new)) self.new (room + 1) p) }
+            opening_left (S.holds (D.view disks.new)) (S.leaves (D.view disks.new)) (S.rests (D.view disks.new)) self.new None (room + 1) p) }
         ensures flies { OnErr result (flight_of self.new.in_flight ≡ flight_of self.old.in_flight) }
         ensures untold { OnErr result (story.new ≡ story.old) }
         ensures full { (dev : ℕ) → result ≡ Err (DeviceFull dev) → S.fills (D.view disks.new) self.new.storage OfBoot dev }
-        ensures asked { S.asked self.new.storage ≡ S.asked self.old.storage }
-        ensures shape { SameShape (D.view disks.old) (D.view disks.new) }
-        ensures unarmed { IfOk result (λ next. stops_armed next ≡ 0) }
-        ensures counts { CountsStops (D.view disks.old) (D.view disks.new) (disk_err result) 0 0 }
+        ensures within { StaysWithin (S.asked self.old.storage) (S.asked self.new.storage) (D.view disks.old) (D.view disks.new) }
+        ensures unarmed { IfOk result (λ next. stops_armed next ≡ []) }
+        ensures counts { CountsStops (D.view disks.old) (D.view disks.new) (disk_err result) [] 0 }
     {
         let Some(numbers) = self.found else {
             unreachable!()
@@ -148,20 +146,20 @@ impl<S: Storage + Drop> Opening<S> {
             (q : Point) × Moves (Say event) p q × IsOpenedOn (opening_sees (S.holds (D.view disks.new)) (S.is_new (D.view disks.new)) (D.view disks.new).can_stop) self.new next q) }
         ensures tells { OnOk result (story.new ≡ story.old ++ event ∷ []) }
         ensures halts { IfErr result (λ halt. (p : Point) → IsSoundPoint p → IsOpeningAt (opening_sees (S.holds (D.view disks.old)) (S.is_new (D.view disks.old)) (D.view disks.old).can_stop) self.old (Some event) p →
-            BreaksAt (opening_lies (S.holds (D.view disks.new)) (S.leaves (D.view disks.new)) (D.view disks.new).can_stop self.new 0) (opening_left (S.holds (D.view disks.new)) (S.leaves (D.view disks.new)) self.new 0) (S.fills (D.view disks.new) self.new.storage) (flight_of self.new.in_flight) halt p event story.old story.new) }
+            BreaksAt (opening_lies (S.holds (D.view disks.new)) (S.leaves (D.view disks.new)) (D.view disks.new).can_stop self.new 0) (opening_left (S.holds (D.view disks.new)) (S.leaves (D.view disks.new)) (S.rests (D.view disks.new)) self.new None 0) (S.fills (D.view disks.new) self.new.storage) (flight_of self.new.in_flight) halt p event story.old story.new) }
         ensures ticks { IfOk result (λ next. steps.new ≡ steps.old + statements_at next) }
         ensures short { OnErr result ((p : Point) → IsSoundPoint p → IsOpeningAt (opening_sees (S.holds (D.view disks.old)) (S.is_new (D.view disks.old)) (D.view disks.old).can_stop) self.old (Some event) p →
             MayTick p event story.old story.new steps.old steps.new) }
         ensures less { IfOk result (λ next. left_in self.new.stage next < left_in self.old.stage (Some event)) }
-        ensures asked { S.asked self.new.storage ≡ S.asked self.old.storage }
-        ensures shape { SameShape (D.view disks.old) (D.view disks.new) }
-        ensures unarmed { IfOk result (λ next. armed_at next ≡ 0) }
-        ensures counts { CountsStops (D.view disks.old) (D.view disks.new) (disk_err result) 0 0 }
+        ensures within { StaysWithin (S.asked self.old.storage) (S.asked self.new.storage) (D.view disks.old) (D.view disks.new) }
+        ensures unarmed { IfOk result (λ next. armed_at next ≡ []) }
+        ensures counts { CountsStops (D.view disks.old) (D.view disks.new) (disk_err result) [] 0 }
     {
         self.storage.stands(disks);
         let recovery = mem::replace(&mut self.stage, Stage::Lost).going();
         let ready = is_ready(&event);
         story.push(event)?;
+        self.in_flight = None;
         if ready {
             self.stage = Stage::Going(recovery);
             Ok(None)
@@ -176,10 +174,9 @@ impl<S: Storage + Drop> Opening<S> {
         ensures lies { (room : ℕ) (p q : Point) → opening_lies (S.holds (D.view disks.old)) (S.leaves (D.view disks.old)) (D.view disks.old).can_stop self.old room p → IsFallenFrom p q → opening_lies (S.holds (D.view disks.new)) (S.leaves (D.view disks.new)) (D.view disks.new).can_stop self.new room q }
         ensures settled { CanFind (S.settled (D.view disks.new) self.new.storage) (S.leaves (D.view disks.new) self.new.storage) self.new.found self.new.stage }
         ensures flies { flight_of self.new.in_flight ≡ flight_of self.old.in_flight }
-        ensures asked { S.asked self.new.storage ≡ S.asked self.old.storage }
-        ensures shape { SameShape (D.view disks.old) (D.view disks.new) }
+        ensures within { StaysWithin (S.asked self.old.storage) (S.asked self.new.storage) (D.view disks.old) (D.view disks.new) }
         ensures faults { (D.view disks.new).faults ≡ (D.view disks.old).faults }
-        ensures stops { (D.view disks.new).stops_left ≡ (D.view disks.old).stops_left }
+        ensures stops { (D.view disks.new).armed ≡ (D.view disks.old).armed }
     {
         self.storage.stands(disks);
         self.storage.restart(disks);

@@ -37,7 +37,7 @@ use Rattle.salt_values.specs.Id.{is_same_id}
 use Rattle.salt_values.specs.declared.id.Id.{Id}
 use Rattle.salt_watch.proofs.Readable.{readable}
 use Rattle.std.proofs.Common.{arith, inl, inr, subst, sym, ◌∙◌}
-use Rattle.std.specs.Prelude.{Bool, Err, IfOk, List, None, Ok, OnOk, Option, Result, Some, [], cond, false, length, refl, true, ℕ, ◌<◌, ◌∷◌, ◌≡◌}
+use Rattle.std.specs.Prelude.{Bool, Err, IfOk, IsSome, List, None, Ok, OnOk, Option, Result, Some, [], cond, false, length, refl, true, ℕ, ⊤, ◌<◌, ◌∷◌, ◌≡◌}
 
 pub sound-here : (p : Point) → IsSoundPoint p → IsSoundState p.state
 sound-here p sound = record { trace = sound.trace; keeps = sound.keeps.state; sound = sound.sound }
@@ -84,7 +84,7 @@ module _ (holds : Kept → Type 0) (leaves : Kept → Kept → Type 0) (fills : 
     (in_flight : Option InFlight) (p : Point) (sound : IsSoundPoint p) (can : p.state.can_stop ≡ old) (same : stoppable ≡ old) (kept : IsSoundKept p.state.units.kept) where
   pub asked-halts : (asked : Asked) (idle : IsIdle p) (r : Reading p.state.watch) → BreaksOff leaves fills halt stage in_flight (asked_next p.state r asked) (asked_of asked p.state).units →
       single ≡ is_statement_line (line_asked asked) →
-      (q : Point) × Moves (Ask asked) p q × HaltsAt (λ p. Lies holds leaves stoppable None (serving_books stage) single in_flight 0 p) (λ p. Left holds leaves None 0 p) fills (flight_of in_flight) halt q
+      (q : Point) × Moves (Ask asked) p q × HaltsAt (λ p. Lies holds leaves stoppable None (serving_books stage) single in_flight 0 p) (λ p. Left holds leaves (IsSome in_flight) None 0 p × ⊤) fills (flight_of in_flight) halt q
   asked-halts asked idle r b line = (
     asked_to asked p sound idle r,
     asked-moves asked p sound idle r,
@@ -93,7 +93,7 @@ module _ (holds : Kept → Type 0) (leaves : Kept → Kept → Type 0) (fills : 
 
   pub turned-halts : (b : Id) (serves : p.state.units.phase ≡ Serving) (none : p.next ≡ None) (turn : next_turn_of p.state ≡ Some b) (r : Reading p.state.watch) →
       BreaksOff leaves fills halt stage in_flight (turned_next p.state r b) (turned_to b p.state).units → single ≡ is_statement_line p.state.units.line →
-      (q : Point) × Moves (Turn b) p q × HaltsAt (λ p. Lies holds leaves stoppable None (serving_books stage) single in_flight 0 p) (λ p. Left holds leaves None 0 p) fills (flight_of in_flight) halt q
+      (q : Point) × Moves (Turn b) p q × HaltsAt (λ p. Lies holds leaves stoppable None (serving_books stage) single in_flight 0 p) (λ p. Left holds leaves (IsSome in_flight) None 0 p × ⊤) fills (flight_of in_flight) halt q
   turned-halts b serves none turn r broken line = (
     turned_at b p sound serves none turn r,
     turned-moves b p sound serves none turn r,
@@ -125,7 +125,7 @@ pub turned-sees : (holds : Kept → Type 0) (is_new : Id → Type 0) (old now wa
     Performs (SeesIn holds is_new stage) in_flight meant given (turned_to b s) → s.can_stop ≡ old → now ≡ old → was ≡ is_statement_line s.units.line → single ≡ was →
     Sees (SeesIn holds is_new stage) now single in_flight given (turned_to b s)
 turned-sees holds is_new old now was single stage in_flight meant given b s h can same line kept =
-    record { seen = h.sees; can_stop = can ∙ sym same; line = kept ∙ line; none = h.none }
+    record { seen = h.sees; can_stop = can ∙ sym same; line = kept ∙ line; flies = h.flies }
 
 -- the programs to which it has still to turn are fewer
 

@@ -1,4 +1,5 @@
 -- Stops and faults, as a call of the storage counts them.
+use Rattle.salt_disk.proofs.Coming.{none_come}
 use Rattle.salt_disk.specs.Disks.{HasCause, View}
 use Rattle.salt_disk.specs.declared.disks.DiskErr.TheVariants.{Memory}
 use Rattle.salt_model.specs.declared.events.Event.{Event}
@@ -7,12 +8,12 @@ use Rattle.salt_steps.specs.Counting.{CountsStops, armed_by}
 use Rattle.salt_storage.specs.Answers.{disk_err, disk_err_of}
 use Rattle.salt_storage.specs.declared.halt.Halt.{Halt}
 use Rattle.std.proofs.Common.{arith, subst, sym}
-use Rattle.std.specs.Prelude.{Err, None, Ok, Option, Result, Some, refl, ℕ, ◌+◌, ◌≡◌}
+use Rattle.std.specs.Prelude.{Err, List, None, Ok, Option, Result, Some, [], refl, ℕ, ◌++◌, ◌≡◌}
 use Rattle.std.specs.Result.{IsErrAnd}
 
 -- a call that was not made
 pub same-cause : (d : View) → HasCause d d None
-same-cause d = record { later = omega arith; failed = λ h. cc; stops = omega arith }
+same-cause d = record { later = omega arith; failed = λ h. cc; stops = none_come d.armed d.armed refl }
 
 -- what was done was for nothing, since memory ran out behind it
 pub cause-lost : (old new : View) → HasCause old new None → HasCause old new (Some Memory)
@@ -23,7 +24,7 @@ pub counts-broken : (old new : View) (result : Result (Option Event) Halt) (halt
     CountsStops old new (disk_err result) (armed_by result) 0
 counts-broken old new (Ok e) halt never h = absurd never
 counts-broken old new (Err told) halt is h =
-    counts-cause old new (Some (disk_err_of told)) 0 refl (subst (λ (t : Halt). HasCause old new (Some (disk_err_of t))) (sym is) h)
+    counts-cause old new (Some (disk_err_of told)) [] refl (subst (λ (t : Halt). HasCause old new (Some (disk_err_of t))) (sym is) h)
 
 pub cause-told : (old new : View) (halt told : Halt) → told ≡ halt → HasCause old new (Some (disk_err_of halt)) → HasCause old new (Some (disk_err_of told))
 cause-told old new halt told is h = subst (λ (t : Halt). HasCause old new (Some (disk_err_of t))) (sym is) h
@@ -33,12 +34,11 @@ pub cause-broken : {T : Type 0} (old new : View) (result : Result T Halt) (halt 
 cause-broken old new (Ok e) halt never h = absurd never
 cause-broken old new (Err told) halt is h = subst (λ (t : Halt). HasCause old new (Some (disk_err_of t))) (sym is) h
 
-pub counts-armed : (old new : View) (armed : ℕ) → new.faults ≡ old.faults → new.stops_left ≡ old.stops_left + armed → CountsStops old new None armed 0
+pub counts-armed : (old new : View) (armed : List (ℕ × ℕ)) → new.faults ≡ old.faults → new.armed ≡ old.armed ++ armed → CountsStops old new None armed 0
 counts-armed old new armed faults stops = record {
-  later = let f = faults in omega arith;
-  failed = λ h. cc;
-  stops = λ other. let s = stops in omega arith;
+  faults = record { later = let f = faults in omega arith; failed = λ h. cc };
+  stops = λ other. none_come (old.armed ++ armed) new.armed stops;
 }
 
-pub counts-lost : (old new : View) (armed : ℕ) → new.faults ≡ old.faults → CountsStops old new (Some Memory) armed 0
-counts-lost old new armed faults = record { later = let f = faults in omega arith; failed = λ h. cc; stops = λ other. absurd (other refl) }
+pub counts-lost : (old new : View) (armed : List (ℕ × ℕ)) → new.faults ≡ old.faults → CountsStops old new (Some Memory) armed 0
+counts-lost old new armed faults = record { faults = record { later = let f = faults in omega arith; failed = λ h. cc }; stops = λ other. absurd (other refl) }

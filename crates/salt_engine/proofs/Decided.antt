@@ -110,7 +110,7 @@ module _ (holds : Kept → Type 0) (is_new : Id → Type 0) (x : Books) (s : Uni
       leaves s.kept (units_after (Ended o.unit end) s).kept → ((w : Written) → w ≡ OfUnit u cs m → IsWrittenBy s (Some (Ended o.unit end)) w) →
       ((dev : ℕ) → halt ≡ DeviceFull dev → fills (OfUnit u cs m) dev) → Undone leaves fills halt s (Ended o.unit end)
   ended-undone leaves fills halt cs m devices left written full = record {
-    left = record { one = s.kept; other = (units_after (Ended o.unit end) s).kept; left = left; is_one = inl refl; is_other = inr refl };
+    left = record { one = s.kept; other = (units_after (Ended o.unit end) s).kept; left = left; is_one = inl refl; is_other = inr (tt, refl) };
     reason = inr devices;
     full = λ dev h. (OfUnit u cs m, written (OfUnit u cs m) refl, full dev h);
   }

@@ -1,5 +1,8 @@
 -- What is in flight while a run is up: the decision that comes next; and what an event keeps.
+use Rattle.salt_engine.specs.Flights.{IsInFlight}
 use Rattle.salt_engine.specs.Stored.{kept_behind}
+use Rattle.salt_engine.specs.declared.flights.InFlight.TheVariants as asked
+use Rattle.salt_engine.specs.declared.flights.InFlight.{InFlight}
 use Rattle.salt_keeps.specs.Laws.{is_of_run}
 use Rattle.salt_keeps.specs.OpenUnits.{UnitState}
 use Rattle.salt_keeps.specs.Points.{KeepsPoint, Point}
@@ -10,7 +13,7 @@ use Rattle.salt_model.specs.Trace.{Trace, from, ◌asks◌, ◌says◌, ◌turns
 use Rattle.salt_model.specs.declared.events.End.TheVariants.{Branched, Committed, Cut, Failed, RolledBack, Victim}
 use Rattle.salt_model.specs.declared.events.Event.TheVariants.{Down, Ended, Opened}
 use Rattle.salt_model.specs.declared.events.Event.{Event}
-use Rattle.std.proofs.Common.{ap, sym, ◌∙◌}
+use Rattle.std.proofs.Common.{ap, subst, sym, ◌∙◌}
 use Rattle.std.specs.Prelude.{None, Option, Some, false, refl, ◌≡◌}
 
 flight-comes : (trace : Trace) → (phase trace ≡ Fallen → ⊥) → flight trace ≡ decision_in (next trace)
@@ -38,3 +41,15 @@ kept-decided e s h = refl
 -- an event that no decision makes keeps what is kept
 pub undecided-keeps : (e : Event) (s : UnitState) → is_of_run e ≡ false → decision_in (Some e) ≡ None → (units_after e s).kept ≡ s.kept
 undecided-keeps e s plain none = kept-decided e s plain ∙ ap (λ (o : Option Event). kept_behind o s) none
+
+-- NOTHING IS IN FLIGHT where no decision is
+
+pub none-flies : (i : Option InFlight) (d : Option Event) (s : UnitState) → i ≡ None → d ≡ None → IsInFlight i d s
+none-flies i d s none undecided = subst (λ (j : Option InFlight). IsInFlight j d s) (sym none) undecided
+
+pub flies-none : (i : Option InFlight) (s : UnitState) → IsInFlight i None s → i ≡ None
+flies-none None s h = refl
+flies-none (Some (asked.Commit u)) s h = let no = h.2 in cc
+flies-none (Some (asked.Branch u b cause)) s h = let no = h.1 in cc
+flies-none (Some (asked.Table d text)) s h = let no = h.2 in cc
+flies-none (Some (asked.Program p text)) s h = let no = h.2 in cc

@@ -4,7 +4,7 @@ use Rattle.salt_books.specs.declared.books.Books.{Books}
 use Rattle.salt_engine.specs.Flights.{IsInFlight, flight_of}
 use Rattle.salt_engine.specs.Performing.{BreaksOff, IsHalted, IsLost}
 use Rattle.salt_engine.specs.Standing.{KnowUnits, Left, Lies, books_in}
-use Rattle.salt_engine.specs.Stored.{IsEither, IsLeft, LeavesEither, kept_behind, raised}
+use Rattle.salt_engine.specs.Stored.{IsLeft, LeavesEither, MayBeOther, kept_behind, raised}
 use Rattle.salt_engine.specs.declared.flights.InFlight.TheVariants as asked
 use Rattle.salt_engine.specs.declared.flights.InFlight.{InFlight}
 use Rattle.salt_engine.specs.declared.stage.Stage.{Stage}
@@ -26,7 +26,7 @@ use Rattle.salt_storage.specs.Writing.{Written}
 use Rattle.salt_storage.specs.declared.halt.Halt.TheVariants.{Memory}
 use Rattle.salt_storage.specs.declared.halt.Halt.{Halt}
 use Rattle.std.proofs.Common.{ap, arith, inl, inr, subst, sym, ◌∙◌}
-use Rattle.std.specs.Prelude.{Bool, None, Option, Some, refl, ℕ, ◌+◌, ◌≡◌, ◌⊎◌}
+use Rattle.std.specs.Prelude.{Bool, IsSome, None, Option, Some, refl, ℕ, ⊤, ◌+◌, ◌≡◌, ◌⊎◌}
 
 plus-none : (n : ℕ) → n ≡ n + 0
 plus-none n = omega arith
@@ -36,16 +36,16 @@ raised-none k = λ i. record k { boot = plus-none k.boot i }
 
 -- what is left of the devices stands at the point
 
-pub left-here : (a b k : Kept) → IsEither a b k → IsEither (raised 0 a) (raised 0 b) k
-left-here a b k (inl e) = inl (e ∙ raised-none a)
-left-here a b k (inr e) = inr (e ∙ raised-none b)
+pub left-here : (doubt : Type 0) (a b k : Kept) → MayBeOther doubt a b k → MayBeOther doubt (raised 0 a) (raised 0 b) k
+left-here doubt a b k (inl e) = inl (e ∙ raised-none a)
+left-here doubt a b k (inr e) = inr (e.0, e.1 ∙ raised-none b)
 
-pub is-left : (p : Point) (k : Kept) → IsEither p.state.units.kept (kept_behind p.flight p.state.units) k → IsLeft 0 p k
-is-left p k e = record { boots = 0; most = omega arith; is = left-here p.state.units.kept (kept_behind p.flight p.state.units) k e }
+pub is-left : (doubt : Type 0) (p : Point) (k : Kept) → MayBeOther doubt p.state.units.kept (kept_behind p.flight p.state.units) k → IsLeft doubt 0 p k
+is-left doubt p k e = record { boots = 0; most = omega arith; is = left-here doubt p.state.units.kept (kept_behind p.flight p.state.units) k e }
 
-pub either-left : (leaves : Kept → Kept → Type 0) (p : Point) → LeavesEither leaves p.state.units.kept (kept_behind p.flight p.state.units) →
-    (a b : Kept) × leaves a b × IsLeft 0 p a × IsLeft 0 p b
-either-left leaves p e = (e.one, e.other, e.left, is-left p e.one e.is_one, is-left p e.other e.is_other)
+pub either-left : (leaves : Kept → Kept → Type 0) (doubt : Type 0) (p : Point) → LeavesEither leaves doubt p.state.units.kept (kept_behind p.flight p.state.units) →
+    (a b : Kept) × leaves a b × IsLeft doubt 0 p a × IsLeft doubt 0 p b
+either-left leaves doubt p e = (e.one, e.other, e.left, is-left doubt p e.one e.is_one, is-left doubt p e.other e.is_other)
 
 -- what is told of the decision in flight
 
@@ -64,22 +64,29 @@ module _ {H : Type 0} (books_of : H → Books) (holds : Kept → Type 0) (leaves
   where
     abbrev Halts : Type 0
     Halts =
-        HaltsAt (λ p. Lies holds leaves stoppable found (books_in books_of stage) single in_flight 0 p) (λ p. Left holds leaves found 0 p) fills (flight_of in_flight) halt q
+        HaltsAt (λ p. Lies holds leaves stoppable found (books_in books_of stage) single in_flight 0 p) (λ p. Left holds leaves (IsSome in_flight) found 0 p × ⊤) fills (flight_of in_flight) halt q
 
-    left : LeavesEither leaves q.state.units.kept (kept_behind q.flight q.state.units)
-    left = subst (λ (f : Option Event). LeavesEither leaves q.state.units.kept (kept_behind f q.state.units)) (sym flight) b.left
+    left : LeavesEither leaves (IsSome in_flight) q.state.units.kept (kept_behind q.flight q.state.units)
+    left = subst (λ (f : Option Event). LeavesEither leaves (IsSome in_flight) q.state.units.kept (kept_behind f q.state.units)) (sym flight) b.left
 
-    stays : Left holds leaves found 0 q
-    stays = subst (λ (f : Option Numbers). Left holds leaves f 0 q) (sym unfound) (either-left leaves q left)
+    stays : Left holds leaves (IsSome in_flight) found 0 q
+    stays = subst (λ (f : Option Numbers). Left holds leaves (IsSome in_flight) f 0 q) (sym unfound) (either-left leaves (IsSome in_flight) q left)
 
-    pub lost : halt ≡ Memory → IsLost stage in_flight → Halts
+    told : IsInFlight in_flight (decision_in q.next) q.state.units → flight_of in_flight ≡ flight_told q.flight
+    told flies = flight-told in_flight q.flight q.state.units (subst (λ (f : Option Event). IsInFlight in_flight f q.state.units) (sym flight) flies)
+
+    pub lost : halt ≡ Memory → IsLost stage in_flight q.next q.state.units → Halts
     lost memory l = record {
       reason = inl memory;
-      flies = inl (memory, ap flight_of l.none);
+      flies = by l.flies;
       full = λ dev h. cc;
       again = λ other. absurd (other memory);
-      stays = stays;
+      stays = (stays, tt);
     }
+      where
+        by : (in_flight ≡ None) ⊎ IsInFlight in_flight (decision_in q.next) q.state.units → ((halt ≡ Memory) × (flight_of in_flight ≡ None)) ⊎ (flight_of in_flight ≡ flight_told q.flight)
+        by (inl none) = inl (memory, ap flight_of none)
+        by (inr flies) = inr (told flies)
 
     down : q.state.can_stop ≡ stoppable → single ≡ is_statement_line q.state.units.line → IsSoundKept q.state.units.kept →
         IsHalted fills halt stage in_flight q.next q.state.units → Halts
@@ -87,7 +94,7 @@ module _ {H : Type 0} (books_of : H → Books) (holds : Kept → Type 0) (leaves
         let flies : IsInFlight in_flight q.flight q.state.units = subst (λ (f : Option Event). IsInFlight in_flight f q.state.units) (sym flight) h.flies in
         record {
           reason = inr (h.event, h.is, h.devices);
-          flies = inr (flight-told in_flight q.flight q.state.units flies);
+          flies = inr (told h.flies);
           full = λ dev is. let w = h.full dev is in (w.0, subst (λ (m : Option Event). IsWrittenBy q.state.units m w.0) (sym h.is) w.1, w.2);
           again = λ other. record {
             left = stays;
@@ -97,20 +104,20 @@ module _ {H : Type 0} (books_of : H → Books) (holds : Kept → Type 0) (leaves
             line = line;
             flies = flies;
           };
-          stays = stays;
+          stays = (stays, tt);
         }
 
     pub halts : q.state.can_stop ≡ stoppable → single ≡ is_statement_line q.state.units.line → IsSoundKept q.state.units.kept → Halts
     halts stops line kept = by b.how
       where
-        by : ((halt ≡ Memory) × IsLost stage in_flight) ⊎ IsHalted fills halt stage in_flight q.next q.state.units → Halts
+        by : ((halt ≡ Memory) × IsLost stage in_flight q.next q.state.units) ⊎ IsHalted fills halt stage in_flight q.next q.state.units → Halts
         by (inl l) = lost l.0 l.1
         by (inr h) = down stops line kept h
 
 -- memory ran out here, where this is left
 pub memory-at : {H : Type 0} (books_of : H → Books) (holds : Kept → Type 0) (leaves : Kept → Kept → Type 0) (fills : Written → ℕ → Type 0) (stoppable : Bool)
     (found : Option Numbers) → found ≡ None → (stage : Stage H) (single : Bool) (in_flight : Option InFlight) (p : Point) (k : Kept) → p.flight ≡ decision_in p.next → leaves k k →
-    (k ≡ p.state.units.kept) ⊎ (k ≡ kept_behind (decision_in p.next) p.state.units) → IsLost stage in_flight →
-    HaltsAt (λ p. Lies holds leaves stoppable found (books_in books_of stage) single in_flight 0 p) (λ p. Left holds leaves found 0 p) fills (flight_of in_flight) Memory p
+    MayBeOther (IsSome in_flight) p.state.units.kept (kept_behind (decision_in p.next) p.state.units) k → IsLost stage in_flight p.next p.state.units →
+    HaltsAt (λ p. Lies holds leaves stoppable found (books_in books_of stage) single in_flight 0 p) (λ p. Left holds leaves (IsSome in_flight) found 0 p × ⊤) fills (flight_of in_flight) Memory p
 memory-at books_of holds leaves fills stoppable found unfound stage single in_flight p k flight left is l =
     lost books_of holds leaves fills Memory stoppable found unfound stage single in_flight p (breaks-lost leaves fills stage in_flight p.next p.state.units k left is l) flight refl l

@@ -1,6 +1,7 @@
 -- A line that is not refused arms stops.
 use Rattle.salt_ast.specs.declared.lines.Line.TheVariants.{Crash}
 use Rattle.salt_ast.specs.declared.lines.Line.{Line}
+use Rattle.salt_engine.proofs.Flying.{none-flies}
 use Rattle.salt_engine.proofs.Performed.{serves-by, stored-plain}
 use Rattle.salt_engine.specs.Performing.{AsksLine, IsServed, Performs}
 use Rattle.salt_engine.specs.Stored.{Stored}
@@ -21,8 +22,8 @@ use Rattle.salt_scheduler.specs.Standing as scheduling
 use Rattle.salt_scheduler.specs.declared.scheduler.Scheduler.{Scheduler}
 use Rattle.salt_steps.specs.Counting.{armed_at}
 use Rattle.salt_values.specs.declared.id.Id.{Id}
-use Rattle.std.proofs.Common.{ap, arith, subst, sym, ◌∙◌}
-use Rattle.std.specs.Prelude.{Bool, IsTrue, List, None, Option, Some, [], false, get_or, length, not, refl, suc, true, zero, ℕ, ◌<◌, ◌∷◌, ◌≡◌, ◌≤◌}
+use Rattle.std.proofs.Common.{ap, append_assoc, arith, subst, sym, take, ◌∙◌}
+use Rattle.std.specs.Prelude.{Bool, IsTrue, List, None, Option, Some, [], false, get_or, length, not, refl, suc, true, zero, ℕ, ◌+◌, ◌++◌, ◌<◌, ◌∷◌, ◌≡◌, ◌≤◌}
 use Rattle.salt_engine.specs.Standing.{SeesIn}
 
 unless-not : (b : Bool) → not b ≡ false → b ≡ true
@@ -46,14 +47,27 @@ module _ (holds : Kept → Type 0) (is_new : Id → Type 0) (stoppable : Bool) (
       in_flight ≡ None → stage ≡ at.Going y → Stored now new_now s.units → (r : Reading s.watch) → scheduling.Gives s (Some (Armed told)) y (Some e) →
       Performs (SeesIn now new_now stage) in_flight (line_in s.units (clash_by s) (items_by s r) line) (Some e) s
   arms-performs now new_now stage in_flight y e told same none there stored r g =
-      serves-by now new_now stage in_flight (line_in s.units (clash_by s) (items_by s r) line) s none y (Armed told) e there (arms-meant told same r) g h.allowed.serves.phase
+      serves-by now new_now stage in_flight (line_in s.units (clash_by s) (items_by s r) line) s y (Armed told) e (none-flies in_flight None s.units none refl) there (arms-meant told same r) g h.allowed.serves.phase
       (stored-plain now new_now (Armed told) (line_in s.units (clash_by s) (items_by s r) line) s (h.played r) (arms-meant told same r) refl refl stored)
 
-  pub arms-armed : (y : Scheduler) (e : Event) (told : List (ℕ × ℕ)) → told ≡ pairs → scheduling.Gives s (Some (Armed told)) y (Some e) → armed_at (Some e) ≡ length pairs
-  arms-armed y e told same g = ap armed_at g.told ∙ ap length same
+  pub arms-armed : (y : Scheduler) (e : Event) (told : List (ℕ × ℕ)) → told ≡ pairs → scheduling.Gives s (Some (Armed told)) y (Some e) → armed_at (Some e) ≡ pairs
+  arms-armed y e told same g = ap armed_at g.told ∙ same
 
 -- each pair of a list picks so
 pub every-at : {A : Type 0} (P : A → Type 0) (xs : List A) (i : ℕ) (d : A) → i < length xs → Every P xs → P (get_or xs i d)
 every-at P [] i d h e = absurd (omega arith)
 every-at P (x ∷ xs) zero d h e = e.0
 every-at P (x ∷ xs) (suc i) d h e = every-at P xs i d (omega arith) e.1
+
+-- one more is armed behind those that were
+pub armed-on : (old mid new : List (ℕ × ℕ)) (pairs : List (ℕ × ℕ)) (i : ℕ) (d : ℕ × ℕ) → i < length pairs → mid ≡ old ++ take i pairs → new ≡ mid ++ get_or pairs i d ∷ [] →
+    new ≡ old ++ take (i + 1) pairs
+armed-on old mid new pairs i d within before one =
+    one ∙ ap (λ (l : List (ℕ × ℕ)). l ++ get_or pairs i d ∷ []) before ∙ append_assoc old (take i pairs) (get_or pairs i d ∷ []) ∙ ap (λ (l : List (ℕ × ℕ)). old ++ l) (taken pairs i within)
+  where
+    taken : (ps : List (ℕ × ℕ)) (i : ℕ) → i < length ps → take i ps ++ get_or ps i d ∷ [] ≡ take (i + 1) ps
+    taken [] i h = absurd (omega arith)
+    taken (p ∷ ps) zero h = refl
+    taken (p ∷ ps) (suc i) h =
+        let next : suc (i + 1) ≡ suc i + 1 = omega arith in
+        subst (λ n. take (suc i) (p ∷ ps) ++ get_or (p ∷ ps) (suc i) d ∷ [] ≡ take n (p ∷ ps)) next (ap (λ (l : List (ℕ × ℕ)). p ∷ l) (taken ps i (omega arith)))

@@ -5,8 +5,10 @@ use Rattle.salt_ast.specs.declared.programs.ProgramDef.{ProgramDef}
 use Rattle.salt_ast.specs.declared.trees.TableDef.{TableDef}
 use Rattle.salt_disk.specs.Disks.{View}
 use Rattle.salt_engine.proofs.Counted.{same-cause}
+use Rattle.salt_engine.proofs.Flying.{none-flies}
 use Rattle.salt_engine.proofs.Performed.{serves-by, stored-plain}
-use Rattle.salt_engine.specs.Performing.{AsksLine, IsPlayedBefore, IsRefused, IsRejected, IsServed, IsToAsk, Performs, is_prepared_line}
+use Rattle.salt_engine.proofs.Plain.{first-plain}
+use Rattle.salt_engine.specs.Performing.{AsksLine, ComesOut, IsPlayedBefore, IsRefused, IsRejected, IsServed, IsToAsk, Performs, is_prepared, is_prepared_line}
 use Rattle.salt_engine.specs.Stored.{Stored}
 use Rattle.salt_engine.specs.declared.flights.InFlight.{InFlight}
 use Rattle.salt_engine.specs.declared.stage.Stage.{Stage}
@@ -15,7 +17,8 @@ use Rattle.salt_keeps.specs.Nexts.{asked_next, refusal_of}
 use Rattle.salt_keeps.specs.Points.{Point}
 use Rattle.salt_keeps.specs.Readings.{Reading, clash_by, items_by}
 use Rattle.salt_keeps.specs.States.{State, asked_of}
-use Rattle.salt_keeps.specs.Told.{line_in}
+use Rattle.salt_keeps.specs.OpenUnits.{UnitState}
+use Rattle.salt_keeps.specs.Told.{Clashes, Items, line_in}
 use Rattle.salt_model.specs.Kept.{Kept}
 use Rattle.salt_model.specs.Trace.{Rejected, Tree}
 use Rattle.salt_model.specs.declared.events.Event.TheVariants.{Refused}
@@ -26,10 +29,13 @@ use Rattle.salt_scheduler.specs.declared.scheduler.Scheduler.{Scheduler}
 use Rattle.salt_sound.proofs.Reading.{few-parts}
 use Rattle.salt_steps.proofs.Counted.{counts-cause}
 use Rattle.salt_steps.specs.Counting.{CountsStops, armed_at, armed_by}
+use Rattle.salt_storage.specs.Writing.{Written}
+use Rattle.salt_storage.specs.declared.halt.Halt.{Halt}
 use Rattle.salt_values.specs.declared.id.Id.{Id}
-use Rattle.std.proofs.Common.{ap, subst}
+use Rattle.std.proofs.Common.{ap, subst, sym, ◌∙◌}
 use Rattle.std.specs.Option.{option_or}
-use Rattle.std.specs.Prelude.{Bool, Err, IfOk, List, None, Ok, Option, Result, Some, false, option_map, refl, ℕ, ◌≡◌}
+use Rattle.std.specs.Prelude.{Bool, Err, IfOk, List, None, Ok, Option, Result, Some, [], false, option_map, refl, true, ℕ, ◌≡◌}
+use Rattle.std.specs.Result.{IsErrAnd}
 use Rattle.salt_engine.specs.Standing.{SeesIn}
 
 pub few-of : (line : Line) → IsServed line → HasFewParts line
@@ -44,11 +50,30 @@ plain-line (Program p) no_table no_program no_crash = absurd (no_program p refl)
 plain-line (Crash pairs) no_table no_program no_crash = absurd (no_crash pairs refl)
 plain-line line no_table no_program no_crash = refl
 
-pub armed-none : {H : Type 0} (r : Result (Option Event) H) → IfOk r (λ e. armed_at e ≡ 0) → armed_by r ≡ 0
+pub armed-none : {H : Type 0} (r : Result (Option Event) H) → IfOk r (λ e. armed_at e ≡ []) → armed_by r ≡ []
 armed-none (Ok e) h = h
 armed-none (Err e) h = refl
 
 -- NOT REFUSED
+
+never-refused : (s : UnitState) (clash : Clashes) (items : Items) (line : Line) (refusal : Refusal) → line_in s clash items line ≡ Some (Refused refusal) → ⊥
+never-refused s clash items (Table d) refusal h = cc
+never-refused s clash items (Program p) refusal h = cc
+never-refused s clash items (Crash pairs) refusal h = cc
+never-refused s clash items line refusal h = let no : true ≡ false = ap is_prepared (sym h) ∙ first-plain s clash items line refl in cc
+
+-- what a line brings is no refusal
+pub begun-unrefused : (seen : Option Event → State → Type 0) (leaves : Kept → Kept → Type 0) (fills : Written → ℕ → Type 0) (stage : Stage Scheduler) (in_flight : Option InFlight) (s : State)
+    (r : Reading s.watch) (line : Line) (result : Result (Option Event) Halt) → ComesOut (λ e. e) seen leaves fills stage in_flight (line_in s.units (clash_by s) (items_by s r) line) s result →
+    (refusal : Refusal) → result ≡ Ok (Some (Refused refusal)) → ⊥
+begun-unrefused seen leaves fills stage in_flight s r line (Ok given) performs refusal is =
+    let same : given ≡ Some (Refused refusal) = cc in never-refused s.units (clash_by s) (items_by s r) line refusal (sym performs.told ∙ same)
+begun-unrefused seen leaves fills stage in_flight s r line (Err halt) broken refusal is = cc
+
+-- nothing is given by an error
+pub err-unrefused : (P : Halt → Type 0) (X : Type 0) (result : Result (Option Event) Halt) → IsErrAnd result P → (refusal : Refusal) → result ≡ Ok (Some (Refused refusal)) → X
+err-unrefused P X (Ok given) never refusal is = absurd never
+err-unrefused P X (Err halt) told refusal is = cc
 
 module _ (holds : Kept → Type 0) (is_new : Id → Type 0) (stoppable : Bool) (line : Line) (x : Scheduler) (s : State) (h : IsToAsk holds is_new stoppable line x s) where
   abbrev pub now : State
@@ -76,11 +101,11 @@ module _ (holds : Kept → Type 0) (is_new : Id → Type 0) (stoppable : Bool) (
     pub refused-performs : (stage : Stage Scheduler) (in_flight : Option InFlight) (e : Event) (y : Scheduler) → IsRefused line refusal y stage e → scheduling.Stands y now → in_flight ≡ None →
         (r : Reading s.watch) → Performs (SeesIn holds is_new stage) in_flight (asked_next s r (Tree line)) (Some e) now
     refused-performs stage in_flight e y f stands none r =
-        serves-by holds is_new stage in_flight (asked_next s r (Tree line)) now none f.scheduler (Refused refusal) e f.there (is-refused r) (f.refuses now r stands h.serves) h.serves.phase
+        serves-by holds is_new stage in_flight (asked_next s r (Tree line)) now f.scheduler (Refused refusal) e (none-flies in_flight None now.units none refl) f.there (is-refused r) (f.refuses now r stands h.serves) h.serves.phase
         (stored-plain holds is_new (Refused refusal) (asked_next s r (Tree line)) now (h.played r) (is-refused r) refl refl
         (record { holding = h.stored.holding; new = h.stored.new }))
 
-    pub refused-unarmed : (stage : Stage Scheduler) (e : Event) (y : Scheduler) → IsRefused line refusal y stage e → scheduling.Stands y now → (r : Reading s.watch) → armed_at (Some e) ≡ 0
+    pub refused-unarmed : (stage : Stage Scheduler) (e : Event) (y : Scheduler) → IsRefused line refusal y stage e → scheduling.Stands y now → (r : Reading s.watch) → armed_at (Some e) ≡ []
     refused-unarmed stage e y f stands r = ap armed_at (f.refuses now r stands h.serves).told
 
 -- A TEXT that is refused
@@ -93,13 +118,13 @@ module _ (holds : Kept → Type 0) (is_new : Id → Type 0) (refusal : Refusal) 
       scheduling.ServesLine Nothing rejected → IsPlayedBefore (asked_next p.state r (Rejected refusal)) rejected → Stored holds is_new p.state.units → in_flight ≡ None →
       Performs (SeesIn holds is_new stage) in_flight (asked_next p.state r (Rejected refusal)) (Some e) rejected
   rejected-performs stage in_flight e r f stands serves played stored none =
-      serves-by holds is_new stage in_flight (asked_next p.state r (Rejected refusal)) rejected none f.scheduler (Refused refusal) e f.there refl (f.refuses p.state r stands serves) serves.phase
+      serves-by holds is_new stage in_flight (asked_next p.state r (Rejected refusal)) rejected f.scheduler (Refused refusal) e (none-flies in_flight None rejected.units none refl) f.there refl (f.refuses p.state r stands serves) serves.phase
       (stored-plain holds is_new (Refused refusal) (asked_next p.state r (Rejected refusal)) rejected played refl refl refl (record { holding = stored.holding; new = stored.new }))
 
   pub rejected-unarmed : (stage : Stage Scheduler) (e : Event) (r : Reading p.state.watch) → IsRejected refusal x stage e → scheduling.Stands x p.state →
-      scheduling.ServesLine Nothing rejected → armed_at (Some e) ≡ 0
+      scheduling.ServesLine Nothing rejected → armed_at (Some e) ≡ []
   rejected-unarmed stage e r f stands serves = ap armed_at (f.refuses p.state r stands serves).told
 
 -- no call of the storage was made
-pub counts-same : (d : View) (armed : ℕ) → armed ≡ 0 → CountsStops d d None armed 0
+pub counts-same : (d : View) (armed : List (ℕ × ℕ)) → armed ≡ [] → CountsStops d d None armed 0
 counts-same d armed none = counts-cause d d None armed none (same-cause d)

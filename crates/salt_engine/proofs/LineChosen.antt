@@ -2,7 +2,8 @@
 use Rattle.salt_books.specs.Coming.{event_meant}
 use Rattle.salt_books.specs.declared.coming.Coming.TheVariants as coming
 use Rattle.salt_books.specs.declared.coming.Coming.{Coming}
-use Rattle.salt_engine.proofs.Performed.{stored-plain}
+use Rattle.salt_engine.proofs.Flying.{none-flies}
+use Rattle.salt_engine.proofs.Performed.{acts-meant, commits-meant, stored-plain, unit-there}
 use Rattle.salt_engine.specs.Performing.{IsPlayedBefore, IsToServe, Performs, StoredAt, is_prepared}
 use Rattle.salt_engine.specs.Stored.{Stored}
 use Rattle.salt_engine.specs.declared.flights.InFlight.{InFlight}
@@ -10,6 +11,7 @@ use Rattle.salt_engine.specs.declared.stage.Stage.TheVariants as at
 use Rattle.salt_engine.specs.declared.stage.Stage.{Stage}
 use Rattle.salt_keeps.specs.States.{State}
 use Rattle.salt_model.specs.Kept.{Kept}
+use Rattle.salt_model.specs.Next.{decision_in}
 use Rattle.salt_model.specs.Phases.{Serving}
 use Rattle.salt_model.specs.declared.events.Event.{Event}
 use Rattle.salt_scheduler.proofs.Following.{not-of-run}
@@ -45,7 +47,7 @@ to-serve holds is_new x c meant s played serves plain b stored = record {
 
 pub performs-same : (holds : Kept → Type 0) (is_new : Id → Type 0) (stage : Stage Scheduler) (in_flight : Option InFlight) (meant other given : Option Event) (s : State) → other ≡ meant →
     Performs (SeesIn holds is_new stage) in_flight other given s → Performs (SeesIn holds is_new stage) in_flight meant given s
-performs-same holds is_new stage in_flight meant other given s same p = record { told = p.told ∙ same; sees = p.sees; none = p.none }
+performs-same holds is_new stage in_flight meant other given s same p = record { told = p.told ∙ same; sees = p.sees; flies = p.flies }
 
 -- BY WHAT is to come: nothing, or an event that the scheduler has done
 
@@ -57,7 +59,7 @@ pub nothing-performs : (holds : Kept → Type 0) (is_new : Id → Type 0) (x : S
 nothing-performs holds is_new x c in_flight s is h none =
     let k = serve-as holds is_new x c coming.Nothing s is h in
     performs-same holds is_new (at.Going x) in_flight (event_meant s.units c) None None s (ap (event_meant s.units) (sym is))
-    (record { told = refl; sees = (k.ready.0, k.stored); none = none })
+    (record { told = refl; sees = (k.ready.0, k.stored); flies = none-flies in_flight None s.units none refl })
 
 pub told-performs : (holds : Kept → Type 0) (is_new : Id → Type 0) (x : Scheduler) (c : Coming) (e : Event) (in_flight : Option InFlight) (s : State) → c ≡ coming.Told e →
     IsToServe holds is_new x c s → in_flight ≡ None → Performs (SeesIn holds is_new (at.Going x)) in_flight (event_meant s.units c) (Some e) s
@@ -65,7 +67,18 @@ told-performs holds is_new x c e in_flight s is h none =
     let k = serve-as holds is_new x c (coming.Told e) s is h in
     let done = k.ready.0 in
     performs-same holds is_new (at.Going x) in_flight (event_meant s.units c) (Some e) (Some e) s (ap (event_meant s.units) (sym is))
-    (record { told = refl; sees = (done.0, done.1, subst (Stored holds is_new) (sym done.1.after.units) k.stored, k.serves); none = none })
+    (record { told = refl; sees = (done.0, done.1, subst (Stored holds is_new) (sym done.1.after.units) k.stored, k.serves); flies = none-flies in_flight (decision_in (Some e)) s.units none k.ready.1 })
+
+-- where nothing is meant, nothing is to come
+pub nothing-comes : (s : State) (x : Scheduler) (c : Coming) (meant : Option Event) → scheduling.Brings s meant x c → meant ≡ None → c ≡ coming.Nothing
+nothing-comes s x coming.Nothing meant b none = refl
+nothing-comes s x (coming.Told e) meant b none = let no : Some e ≡ None = b.meant ∙ none in cc
+nothing-comes s x (coming.Act a) meant b none = let no = sym (acts-meant s.units a b.ready.1.0 b.ready.1.1) ∙ b.meant ∙ none in cc
+nothing-comes s x (coming.Commit u) meant b none =
+    let there = unit-there s.units u b.ready.1 in let no = sym (commits-meant s.units u there.0 there.1) ∙ b.meant ∙ none in cc
+nothing-comes s x (coming.Branch u base cause) meant b none = let no = b.meant ∙ none in cc
+nothing-comes s x (coming.Define text) meant b none = let no = b.meant ∙ none in cc
+nothing-comes s x (coming.Arm pairs) meant b none = let no = b.meant ∙ none in cc
 
 -- a definition, and stops that are armed, are to be prepared
 pub never-prepared : (holds : Kept → Type 0) (is_new : Id → Type 0) (x : Scheduler) (c d : Coming) (s : State) → c ≡ d → is_prepared (event_meant s.units d) ≡ true →

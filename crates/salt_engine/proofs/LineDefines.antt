@@ -12,7 +12,7 @@ use Rattle.salt_engine.proofs.Decided.{stored-behind}
 use Rattle.salt_engine.proofs.Performed.{serves-by}
 use Rattle.salt_engine.specs.Deciding.{Undone}
 use Rattle.salt_engine.specs.Flights.{IsInFlight, definition_of, text_of}
-use Rattle.salt_engine.specs.Performing.{AsksLine, BreaksOff, IsLost, Performs, WasBroken, is_definition}
+use Rattle.salt_engine.specs.Performing.{AsksLine, BreaksOff, Performs, WasBroken, is_definition}
 use Rattle.salt_engine.specs.Stored.{Stored}
 use Rattle.salt_engine.specs.declared.flights.InFlight.TheVariants as asked
 use Rattle.salt_engine.specs.declared.flights.InFlight.{InFlight}
@@ -46,7 +46,7 @@ use Rattle.salt_storage.specs.declared.halt.Halt.TheVariants.{DeviceFull, Memory
 use Rattle.salt_storage.specs.declared.halt.Halt.{Halt}
 use Rattle.salt_values.specs.declared.id.Id.{Id}
 use Rattle.std.proofs.Common.{ap, inl, inr, subst, sym, ◌∙◌}
-use Rattle.std.specs.Prelude.{Bool, None, Option, Some, refl, true, ℕ, ◌≡◌}
+use Rattle.std.specs.Prelude.{Bool, None, Option, Some, [], refl, true, ℕ, ◌≡◌}
 use Rattle.salt_engine.specs.Standing.{SeesIn}
 
 -- the laws of definitions of salt_sound
@@ -116,25 +116,24 @@ module _ (holds : Kept → Type 0) (is_new : Id → Type 0) (stoppable : Bool) (
       stored-behind holds now is_new new_now s.units (h.played r).trace event (h.played r).keeps.units (sound-behind r) refl h.stored
       (subst now d.may.leaves holding) (λ u i n. stays u n)
 
-  pub defined-performs : (now : Kept → Type 0) (new_now : Id → Type 0) (in_flight : Option InFlight) (y : Scheduler) (e : Event) (r : Reading s.watch) → in_flight ≡ None →
-      now (defined s.units.kept d.definition) → ((u : Id) → is_new u → new_now u) →
-      scheduling.Gives s (line_in s.units (clash_by s) (items_by s r) line) y (Some e) →
-      Performs (SeesIn now new_now (at.Going y)) in_flight (line_in s.units (clash_by s) (items_by s r) line) (Some e) s
-  defined-performs now new_now in_flight y e r none holding stays g =
-      serves-by now new_now (at.Going y) in_flight (line_in s.units (clash_by s) (items_by s r) line) s none y event e refl (d.meant r)
+  pub defined-performs : (now : Kept → Type 0) (new_now : Id → Type 0) (y : Scheduler) (e : Event) (r : Reading s.watch) → now (defined s.units.kept d.definition) →
+      ((u : Id) → is_new u → new_now u) → scheduling.Gives s (line_in s.units (clash_by s) (items_by s r) line) y (Some e) →
+      Performs (SeesIn now new_now (at.Going y)) (Some f) (line_in s.units (clash_by s) (items_by s r) line) (Some e) s
+  defined-performs now new_now y e r holding stays g =
+      serves-by now new_now (at.Going y) (Some f) (line_in s.units (clash_by s) (items_by s r) line) s y event e d.flies refl (d.meant r)
       (subst (λ (m : Option Event). scheduling.Gives s m y (Some e)) (d.meant r) g) h.allowed.serves.phase (defined-stored now new_now r holding stays)
 
   -- it arms nothing
-  pub defined-unarmed : (y : Scheduler) (e : Event) (r : Reading s.watch) → scheduling.Gives s (line_in s.units (clash_by s) (items_by s r) line) y (Some e) → armed_at (Some e) ≡ 0
+  pub defined-unarmed : (y : Scheduler) (e : Event) (r : Reading s.watch) → scheduling.Gives s (line_in s.units (clash_by s) (items_by s r) line) y (Some e) → armed_at (Some e) ≡ []
   defined-unarmed y e r g = ap armed_at (g.told ∙ d.meant r)
 
-  module _ (leaves : Kept → Kept → Type 0) (fills : Written → ℕ → Type 0) (stage : Stage Scheduler) (in_flight : Option InFlight) (r : Reading s.watch) where
+  module _ (leaves : Kept → Kept → Type 0) (fills : Written → ℕ → Type 0) (stage : Stage Scheduler) (r : Reading s.watch) where
     -- memory ran out behind it
-    pub defined-lost : IsLost stage in_flight → leaves (defined s.units.kept d.definition) (defined s.units.kept d.definition) →
-        BreaksOff leaves fills Memory stage in_flight (line_in s.units (clash_by s) (items_by s r) line) s.units
-    defined-lost lost left =
-        breaks-behind leaves fills stage in_flight (line_in s.units (clash_by s) (items_by s r) line) s.units event (d.meant r) refl
-        (subst (λ (k : Kept). leaves k k) d.may.leaves left) lost
+    pub defined-lost : stage ≡ at.Lost → leaves (defined s.units.kept d.definition) (defined s.units.kept d.definition) →
+        BreaksOff leaves fills Memory stage (Some f) (line_in s.units (clash_by s) (items_by s r) line) s.units
+    defined-lost there left =
+        breaks-behind leaves fills stage (Some f) (line_in s.units (clash_by s) (items_by s r) line) s.units event (d.meant r) refl d.flies
+        (subst (λ (k : Kept). leaves k k) d.may.leaves left) there
 
     undone : (halt : Halt) → leaves s.units.kept (defined s.units.kept d.definition) → ((dev : ℕ) → halt ≡ DeviceFull dev → fills (OfDefinition (text_of f)) dev) →
         Undone leaves fills halt s.units event
@@ -144,18 +143,18 @@ module _ (holds : Kept → Type 0) (is_new : Id → Type 0) (stoppable : Bool) (
         other = (units_after event s.units).kept;
         left = subst (leaves s.units.kept) d.may.leaves left;
         is_one = inl refl;
-        is_other = inr refl;
+        is_other = inr (tt, refl);
       };
       reason = inr refl;
       full = λ dev is. (OfDefinition (text_of f), refl, full dev is);
     }
 
     pub defined-breaks : (halt : Halt) (y : Books) → y ≡ x.books → leaves s.units.kept (defined s.units.kept d.definition) →
-        ((dev : ℕ) → halt ≡ DeviceFull dev → fills (OfDefinition (text_of f)) dev) → WasBroken halt y (Some f) stage in_flight →
-        BreaksOff leaves fills halt stage in_flight (line_in s.units (clash_by s) (items_by s r) line) s.units
+        ((dev : ℕ) → halt ≡ DeviceFull dev → fills (OfDefinition (text_of f)) dev) → WasBroken halt y stage →
+        BreaksOff leaves fills halt stage (Some f) (line_in s.units (clash_by s) (items_by s r) line) s.units
     defined-breaks halt y same left full broken =
-        breaks leaves fills stage in_flight (line_in s.units (clash_by s) (items_by s r) line) s.units halt y (Some f) event (d.meant r) refl (undone halt left full) broken
-        (subst (λ (z : Books). AreBooks z s.units) (sym same) h.stands.books) d.flies
+        breaks leaves fills stage (Some f) (line_in s.units (clash_by s) (items_by s r) line) s.units event (d.meant r) refl d.flies halt y (undone halt left full) broken
+        (subst (λ (z : Books). AreBooks z s.units) (sym same) h.stands.books)
 
 -- WHAT IS TOLD of a definition is what its line brings
 

@@ -67,7 +67,7 @@ module _ (asked : Asked) (p : Point) (sound : IsSoundPoint p) (idle : IsIdle p) 
   pub asked-at : (holds : Kept → Type 0) (is_new : Id → Type 0) (old now single : Bool) (stage : Stage Scheduler) (in_flight : Option InFlight) (given : Option Event) (r : Reading p.state.watch) →
       Performs (SeesIn holds is_new stage) in_flight (asked_next p.state r asked) given (asked_of asked p.state) → p.state.can_stop ≡ old → now ≡ old →
       single ≡ is_statement_line (line_asked asked) → Sees (SeesIn holds is_new stage) now single in_flight given (asked_of asked p.state)
-  asked-at holds is_new old now single stage in_flight given r h can same line = record { seen = h.sees; can_stop = can ∙ sym same; line = line; none = h.none }
+  asked-at holds is_new old now single stage in_flight given r h can same line = record { seen = h.sees; can_stop = can ∙ sym same; line = line; flies = h.flies }
 
 -- A TURN
 

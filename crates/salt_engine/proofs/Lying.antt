@@ -11,12 +11,13 @@ use Rattle.salt_keeps.specs.States.{State}
 use Rattle.salt_model.specs.Kept.{Kept}
 use Rattle.salt_model.specs.Next.{decision_in}
 use Rattle.salt_model.specs.Phases.{Fallen, Serving}
+use Rattle.salt_model.specs.declared.events.Event.{Event}
 use Rattle.salt_scheduler.specs.declared.scheduler.Scheduler.{Scheduler}
 use Rattle.salt_steps.specs.Standing.{IsSoundPoint}
 use Rattle.salt_storage.specs.Storing.{IsSoundKept}
 use Rattle.salt_values.specs.declared.id.Id.{Id}
 use Rattle.std.proofs.Common.{ap, inl, subst, sym, ◌∙◌}
-use Rattle.std.specs.Prelude.{Bool, None, Option, refl, ◌≡◌}
+use Rattle.std.specs.Prelude.{Bool, IsSome, None, Option, refl, ◌≡◌}
 
 idle-knows : (holds : Kept → Type 0) (is_new : Id → Type 0) (stage : Stage Scheduler) (s : State) → SeesIn holds is_new stage None s →
     KnowsUnits (serving_books stage) s.units × holds s.units.kept
@@ -34,12 +35,12 @@ idle-lies holds is_new leaves stoppable stage single in_flight p sound sees idle
     let k = p.state.units.kept in
     let knows = idle-knows holds is_new stage p.state sees.seen in
     record {
-      left = (k, k, stays k knows.1, is-left p k (inl refl), is-left p k (inl refl));
+      left = (k, k, stays k knows.1, is-left (IsSome in_flight) p k (inl refl), is-left (IsSome in_flight) p k (inl refl));
       knows = knows.0;
       sound = may k knows.1;
       can_stop = sees.can_stop;
       line = sees.line;
       flies =
-          subst (λ (i : Option InFlight). IsInFlight i p.flight p.state.units) (sym sees.none)
-          (flight-next p sound.trace sound.keeps (up p idle.serves) ∙ ap decision_in idle.next);
+          subst (λ (f : Option Event). IsInFlight in_flight f p.state.units) (sym (flight-next p sound.trace sound.keeps (up p idle.serves) ∙ ap decision_in idle.next))
+          sees.flies;
     }

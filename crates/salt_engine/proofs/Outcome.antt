@@ -1,7 +1,7 @@
 -- How what was meant comes out: as a call has answered, and in other words.
 use Rattle.salt_books.specs.Coming.{event_meant}
 use Rattle.salt_books.specs.declared.coming.Coming.{Coming}
-use Rattle.salt_disk.specs.Disks.{SameShape, View}
+use Rattle.salt_disk.specs.Disks.{View}
 use Rattle.salt_engine.proofs.Broken.{breaks-before}
 use Rattle.salt_engine.proofs.Plain.{plain-unarmed}
 use Rattle.salt_engine.specs.Performing.{BreaksOff, ComesOut, IsLost, Stays, is_prepared}
@@ -12,12 +12,13 @@ use Rattle.salt_keeps.specs.States.{State}
 use Rattle.salt_model.specs.Kept.{Kept}
 use Rattle.salt_model.specs.declared.events.Event.{Event}
 use Rattle.salt_steps.specs.Counting.{armed_at}
+use Rattle.salt_storage.proofs.Staying as within
 use Rattle.salt_storage.specs.Writing.{Written}
 use Rattle.salt_storage.specs.declared.halt.Halt.TheVariants.{Memory}
 use Rattle.salt_storage.specs.declared.halt.Halt.{Halt}
 use Rattle.salt_values.specs.declared.placement.Shape.{Shape}
 use Rattle.std.proofs.Common.{ap, subst, sym, ◌∙◌}
-use Rattle.std.specs.Prelude.{Err, IfErr, IfOk, Ok, Option, Result, false, refl, ℕ, ◌≡◌}
+use Rattle.std.specs.Prelude.{Err, IfErr, IfOk, Ok, Option, Result, [], false, refl, ℕ, ◌≡◌}
 use Rattle.std.specs.Result.{IsErrAnd, MatchResult}
 
 module _ {H T : Type 0} (given : T → Option Event) (seen : Option Event → State → Type 0) (leaves : Kept → Kept → Type 0) (fills : Written → ℕ → Type 0) (stage : Stage H) (in_flight : Option InFlight) where
@@ -29,7 +30,7 @@ module _ {H T : Type 0} (given : T → Option Event) (seen : Option Event → St
 
   -- memory ran out before it
   pub comes-lost : (meant : Option Event) (s : State) (result : Result T Halt) → IsErrAnd result (λ told. told ≡ Memory) → leaves s.units.kept s.units.kept →
-      IsLost stage in_flight → ComesOut given seen leaves fills stage in_flight meant s result
+      IsLost stage in_flight meant s.units → ComesOut given seen leaves fills stage in_flight meant s result
   comes-lost meant s result is left lost = comes-broken meant s Memory result is (breaks-before leaves fills stage in_flight meant s.units left lost)
 
   -- what was meant in other words
@@ -46,7 +47,7 @@ module _ {H T : Type 0} (given : T → Option Event) (seen : Option Event → St
 
   -- what is no preparation arms nothing
   pub comes-unarmed : (meant : Option Event) (s : State) (result : Result T Halt) → is_prepared meant ≡ false → ComesOut given seen leaves fills stage in_flight meant s result →
-      IfOk result (λ x. armed_at (given x) ≡ 0)
+      IfOk result (λ x. armed_at (given x) ≡ [])
   comes-unarmed meant s (Ok x) plain p = ap armed_at p.told ∙ plain-unarmed meant plain
   comes-unarmed meant s (Err halt) plain b = tt
 
@@ -82,8 +83,5 @@ by-err P (Err told) e is h = subst P (sym is) h
 
 -- nothing was called
 
-pub shape-same : (d : View) → SameShape d d
-shape-same d = record { count = refl; can_stop = refl; told = refl; limit = λ dev. refl }
-
 pub stays-same : {A : Type 0} (noted : A) (asked : Shape) (d : View) → Stays noted noted asked asked d d
-stays-same noted asked d = record { noted = refl; asked = refl; shape = shape-same d }
+stays-same noted asked d = record { noted = refl; within = within.stays-same asked d }

@@ -8,6 +8,7 @@ use Rattle.salt_books.specs.declared.coming.Coming.TheVariants as coming
 use Rattle.salt_engine.proofs.Decided.{stored-behind}
 use Rattle.salt_engine.proofs.Flying.{undecided-keeps}
 use Rattle.salt_engine.specs.Deciding.{ComesNext, IsBefore}
+use Rattle.salt_engine.specs.Flights.{IsInFlight}
 use Rattle.salt_engine.specs.Performing.{IsPlayedBefore, Performs}
 use Rattle.salt_engine.specs.Standing.{SeesIn}
 use Rattle.salt_engine.specs.Stored.{Stored}
@@ -63,17 +64,18 @@ pub have-unit : (x : Books) (s : UnitState) (u : Id) (o : OpenUnit) → AreBooks
 have-unit x s u o books named = record { state = s; books = books; named = subst (λ (q : Option OpenUnit). IsSome q) (sym named) refl }
 
 -- by a scheduler
-pub serves-by : (holds : Kept → Type 0) (is_new : Id → Type 0) (stage : Stage Scheduler) (in_flight : Option InFlight) (meant : Option Event) (s : State) → in_flight ≡ None →
-    (x : Scheduler) (e given : Event) → stage ≡ at.Going x → meant ≡ Some e → scheduling.Gives s (Some e) x (Some given) → s.units.phase ≡ Serving → Stored holds is_new (units_after e s.units) →
+pub serves-by : (holds : Kept → Type 0) (is_new : Id → Type 0) (stage : Stage Scheduler) (in_flight : Option InFlight) (meant : Option Event) (s : State) (x : Scheduler) (e given : Event) →
+    IsInFlight in_flight (decision_in (Some e)) s.units → stage ≡ at.Going x → meant ≡ Some e → scheduling.Gives s (Some e) x (Some given) → s.units.phase ≡ Serving → Stored holds is_new (units_after e s.units) →
     Performs (SeesIn holds is_new stage) in_flight meant (Some given) s
-serves-by holds is_new stage in_flight meant s none x e given there is g serves stored =
+serves-by holds is_new stage in_flight meant s x e given flies there is g serves stored =
     let t = g.done.0 in
     let d = g.done.1 in
-    let same : t.units ≡ units_after e s.units = d.after.units ∙ ap (λ (f : Event). units_after f s.units) (same-some given e g.told) in
+    let told = same-some given e g.told in
+    let same : t.units ≡ units_after e s.units = d.after.units ∙ ap (λ (f : Event). units_after f s.units) told in
     record {
       told = g.told ∙ sym is;
       sees = subst (λ (q : Stage Scheduler). SeesIn holds is_new q (Some given) s) (sym there) (t, d, subst (Stored holds is_new) (sym same) stored, serves);
-      none = none;
+      flies = subst (λ (f : Event). IsInFlight in_flight (decision_in (Some f)) s.units) (sym told) flies;
     }
 
 -- an event that no decision makes leaves what a storage holds

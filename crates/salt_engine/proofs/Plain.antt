@@ -15,7 +15,7 @@ use Rattle.salt_keeps.specs.Told.{Beside, Clashes, Items, act_in, asks_in, begin
 use Rattle.salt_model.specs.Kept.{cont_of, kept_program}
 use Rattle.salt_model.specs.Turns.{releases}
 use Rattle.salt_model.specs.declared.events.Event.{Event}
-use Rattle.salt_model.specs.declared.events.Event.TheVariants.{Armed, Defined}
+use Rattle.salt_model.specs.declared.events.Event.TheVariants.{Armed, Defined, Refused}
 use Rattle.salt_model.specs.declared.events.Owner.{Owner}
 use Rattle.salt_model.specs.declared.events.UnitKind.TheVariants.{Later}
 use Rattle.salt_scheduler.specs.Follows.{event_of}
@@ -26,7 +26,7 @@ use Rattle.salt_steps.specs.Counting.{armed_at}
 use Rattle.salt_values.specs.declared.cont.Cont.{Cont}
 use Rattle.salt_values.specs.declared.id.Id.{Id}
 use Rattle.salt_values.specs.declared.value.Value.{Value}
-use Rattle.std.specs.Prelude.{List, None, Option, Some, [], false, option_and_then, option_map, refl, ◌∷◌, ◌≡◌, ℕ}
+use Rattle.std.specs.Prelude.{List, None, Option, Some, [], false, option_and_then, option_map, refl, ℕ, ◌∷◌, ◌≡◌}
 
 mapped-plain : {A : Type 0} (f : A → Event) → ((x : A) → is_prepared (Some (f x)) ≡ false) → (o : Option A) → is_prepared (option_map f o) ≡ false
 mapped-plain f h None = refl
@@ -102,11 +102,12 @@ first-plain s clash items ShowLocks h = refl
 first-plain s clash items ShowBases h = refl
 first-plain s clash items (Crash pairs) h = cc
 
-pub plain-unarmed : (e : Option Event) → is_prepared e ≡ false → armed_at e ≡ 0
+pub plain-unarmed : (e : Option Event) → is_prepared e ≡ false → armed_at e ≡ []
 plain-unarmed None h = refl
 plain-unarmed (Some e) h = by e h
   where
-    by : (e : Event) → is_prepared (Some e) ≡ false → armed_at (Some e) ≡ 0
+    by : (e : Event) → is_prepared (Some e) ≡ false → armed_at (Some e) ≡ []
+    by (Refused refusal) h = cc
     by (Armed pairs) h = cc
     by (Defined n text) h = cc
     by e h = refl

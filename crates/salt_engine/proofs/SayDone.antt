@@ -1,15 +1,17 @@
 -- An event of a line is said: what was performed behind it is a move of the engine's point, or it broke off there.
 use Rattle.salt_ast.specs.declared.lines.Line.{Line}
+use Rattle.salt_engine.proofs.Broken.{noted}
 use Rattle.salt_engine.proofs.Flying.{flight-next, kept-decided}
 use Rattle.salt_engine.proofs.Going.{flight-decides}
 use Rattle.salt_engine.proofs.Halting.{halts, memory-at}
 use Rattle.salt_engine.proofs.ServingGoes.{goes, meant, moves, plain, point, read, serves, serves-on}
 use Rattle.salt_engine.proofs.Stages.{goes-now, left-at, serves-now}
-use Rattle.salt_engine.specs.Flights.{flight_of}
-use Rattle.salt_engine.specs.Performing.{BreaksOff, GoesOnServing, IsLost, Performs}
+use Rattle.salt_engine.specs.Flights.{IsInFlight, flight_of}
+use Rattle.salt_engine.specs.Performing.{BreaksOff, GoesOnServing, Performs}
 use Rattle.salt_engine.specs.Standing.{IsGoingStage, Left, Lies, Sees, SeesIn, goes_in, waits_in, serving_books}
 use Rattle.salt_engine.specs.Stored.{Stored, kept_behind}
 use Rattle.salt_engine.specs.declared.flights.InFlight.{InFlight}
+use Rattle.salt_engine.specs.declared.stage.Stage.TheVariants as at
 use Rattle.salt_engine.specs.declared.stage.Stage.{Stage}
 use Rattle.salt_keeps.proofs.SettlingEnds.{to-come-falls}
 use Rattle.salt_keeps.specs.Points.{Moves, Point, Say}
@@ -21,11 +23,14 @@ use Rattle.salt_model.specs.Kept.{Kept}
 use Rattle.salt_model.specs.Next.{decision_in}
 use Rattle.salt_model.specs.Phases.{Fallen, Serving}
 use Rattle.salt_model.specs.Turns.{is_statement_line}
+use Rattle.salt_model.specs.declared.events.Event.TheVariants.{Refused}
 use Rattle.salt_model.specs.declared.events.Event.{Event}
+use Rattle.salt_model.specs.declared.events.Refusal.{Refusal}
 use Rattle.salt_scheduler.proofs.Following.{not-of-run}
 use Rattle.salt_scheduler.specs.Standing.{HasDone}
 use Rattle.salt_scheduler.specs.declared.scheduler.Scheduler.{Scheduler}
 use Rattle.salt_steps.proofs.Advancing.{sound-moved}
+use Rattle.salt_steps.proofs.Refusing.{refused-rests}
 use Rattle.salt_steps.specs.Standing.{BreaksAt, IsAt, IsSoundPoint, left_to_come}
 use Rattle.salt_storage.specs.Storing.{IsSoundKept}
 use Rattle.salt_storage.specs.Writing.{Written}
@@ -33,7 +38,7 @@ use Rattle.salt_storage.specs.declared.halt.Halt.TheVariants.{Memory}
 use Rattle.salt_storage.specs.declared.halt.Halt.{Halt}
 use Rattle.salt_values.specs.declared.id.Id.{Id}
 use Rattle.std.proofs.Common.{ap, inl, inr, subst, sym, ◌∙◌}
-use Rattle.std.specs.Prelude.{Bool, List, Option, Some, [], refl, ℕ, ◌++◌, ◌<◌, ◌∷◌, ◌≡◌, None}
+use Rattle.std.specs.Prelude.{Bool, IsSome, List, None, Option, Some, [], refl, ℕ, ⊤, ◌++◌, ◌<◌, ◌∷◌, ◌≡◌}
 
 -- while it serves it has not fallen
 pub never-fallen : (p : Point) → p.state.units.phase ≡ Serving → p.state.units.phase ≡ Fallen → ⊥
@@ -82,7 +87,7 @@ module _ (line : Line) (x : Scheduler) (e : Event) (p : Point) (sound : IsSoundP
   pub said-halts : (holds : Kept → Type 0) (leaves : Kept → Kept → Type 0) (fills : Written → ℕ → Type 0) (halt : Halt) (old stoppable : Bool) (was single : Bool) (stage : Stage Scheduler)
       (in_flight : Option InFlight) (story told : List Event) → BreaksOff leaves fills halt stage in_flight wanted t.units → p.state.can_stop ≡ old → stoppable ≡ old →
       was ≡ is_statement_line p.state.units.line → single ≡ was → IsSoundKept t.units.kept → told ≡ story ++ e ∷ [] →
-      BreaksAt (λ p. Lies holds leaves stoppable None (serving_books stage) single in_flight 0 p) (λ p. Left holds leaves None 0 p) fills (flight_of in_flight) halt p e story told
+      BreaksAt (λ p. Lies holds leaves stoppable None (serving_books stage) single in_flight 0 p) (λ p. Left holds leaves (IsSome in_flight) None 0 p × ⊤) fills (flight_of in_flight) halt p e story told
   said-halts holds leaves fills halt old stoppable was single stage in_flight story told b can same lined kept may tells = inr (
     tells,
     (now, moves line x e p sound t d comes phase served, halts (λ (x : Scheduler). x.books) holds leaves fills halt stoppable None refl stage single in_flight now b now-flies (d.after.can_stop ∙ can ∙ sym same) (line-now was single lined kept) may),
@@ -90,14 +95,16 @@ module _ (line : Line) (x : Scheduler) (e : Event) (p : Point) (sound : IsSoundP
 
   -- or before it was told
   pub said-lost : (holds : Kept → Type 0) (leaves : Kept → Kept → Type 0) (fills : Written → ℕ → Type 0) (stoppable : Bool) (single : Bool) (stage : Stage Scheduler)
-      (in_flight : Option InFlight) (story told : List Event) → leaves t.units.kept t.units.kept → IsLost stage in_flight → told ≡ story →
-      BreaksAt (λ p. Lies holds leaves stoppable None (serving_books stage) single in_flight 0 p) (λ p. Left holds leaves None 0 p) fills (flight_of in_flight) Memory p e story told
-  said-lost holds leaves fills stoppable single stage in_flight story told left lost same = inl (
-    same,
-    memory-at (λ (x : Scheduler). x.books) holds leaves fills stoppable None refl stage single in_flight p t.units.kept (flight-next p sound.trace sound.keeps (never-fallen p phase)) left
-        (inr (kept-behind-next p sound e t x comes d phase)) lost,
-    refl,
-  )
+      (in_flight : Option InFlight) (story told : List Event) → leaves t.units.kept t.units.kept → stage ≡ at.Lost → IsInFlight in_flight (decision_in (Some e)) p.state.units → told ≡ story →
+      BreaksAt (λ p. Lies holds leaves stoppable None (serving_books stage) single in_flight 0 p) (λ p. Left holds leaves (IsSome in_flight) None 0 p × ⊤) fills (flight_of in_flight) Memory p e story told
+  said-lost holds leaves fills stoppable single stage in_flight story told left there flies same =
+      let flown : IsInFlight in_flight (decision_in p.next) p.state.units = subst (λ (m : Option Event). IsInFlight in_flight (decision_in m) p.state.units) (sym comes) flies in
+      inl (
+        same,
+        memory-at (λ (x : Scheduler). x.books) holds leaves fills stoppable None refl stage single in_flight p t.units.kept (flight-next p sound.trace sound.keeps (never-fallen p phase)) left
+            (noted in_flight (decision_in p.next) p.state.units t.units.kept flown (inr (tt, kept-behind-next p sound e t x comes d phase))) (record { there = there; flies = inr flown }),
+        refl,
+      )
 
   -- less is still to come, and it has still to turn to as many programs
 
@@ -126,3 +133,7 @@ module _ (line : Line) (x : Scheduler) (e : Event) (p : Point) (sound : IsSoundP
       goes-now later new_later stage given t sees (stage-now later new_later stage given sees)
       ∙ ap (λ (s : UnitState). s.to_go) d.after.units ∙ to-go-stays e p.state.units (plain line x e p sound t d comes phase served)
       ∙ sym (goes-now holds is_new old (Some e) p.state seen (serves-now holds is_new old (Some e) p.state seen))
+
+  -- behind a refusal nothing comes
+  pub said-rests : (r : Refusal) → e ≡ Refused r → wanted ≡ None
+  said-rests r is = refused-rests r p now sound phase (subst (λ (f : Event). Moves (Say f) p now) is (moves line x e p sound t d comes phase served))

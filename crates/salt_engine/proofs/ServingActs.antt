@@ -9,10 +9,11 @@ use Rattle.salt_books.specs.declared.coming.Coming.TheVariants as coming
 use Rattle.salt_ast.specs.declared.trees.TableDef.{TableDef}
 use Rattle.salt_engine.proofs.Broken.{breaks, breaks-before, breaks-behind}
 use Rattle.salt_engine.proofs.Decided.{named-unit}
-use Rattle.salt_engine.proofs.Flying.{kept-decided}
+use Rattle.salt_engine.proofs.Flying.{kept-decided, none-flies}
 use Rattle.salt_engine.proofs.Judging.{keys-left}
 use Rattle.salt_engine.proofs.Performed.{acts-meant, comes-next, commits-meant, have-unit, is-before, serves-by, stored-plain, unit-there}
 use Rattle.salt_engine.specs.Deciding.{IsBefore, Undone, branches_in}
+use Rattle.salt_engine.specs.Flights.{IsInFlight}
 use Rattle.salt_engine.specs.Performing.{BreaksOff, IsLost, IsPlayedBefore, IsToServe, Performs, WasBroken}
 use Rattle.salt_engine.specs.Stored.{Stored}
 use Rattle.salt_engine.specs.declared.flights.InFlight.TheVariants as asked
@@ -24,6 +25,7 @@ use Rattle.salt_keeps.specs.States.{State}
 use Rattle.salt_keeps.specs.Steps.{units_after}
 use Rattle.salt_keeps.specs.Told.{commits_in, does_in}
 use Rattle.salt_model.specs.Kept.{Kept}
+use Rattle.salt_model.specs.Next.{decision_in}
 use Rattle.salt_model.specs.declared.events.Cause.{Cause}
 use Rattle.salt_model.specs.declared.events.Event.{Event}
 use Rattle.salt_scheduler.specs.Standing as scheduling
@@ -76,18 +78,18 @@ module _ (holds : Kept → Type 0) (is_new : Id → Type 0) (x : Scheduler) (a :
       stage ≡ at.Going y → Stored now new_now s.units → scheduling.Gives s (Some act-event) y (Some e) →
       Performs (SeesIn now new_now stage) in_flight (event_meant s.units (coming.Act a)) (Some e) s
   act-done now new_now stage in_flight y e none there stored g =
-      serves-by now new_now stage in_flight (event_meant s.units (coming.Act a)) s none y act-event e there act-meant g h.serves
+      serves-by now new_now stage in_flight (event_meant s.units (coming.Act a)) s y act-event e (none-flies in_flight None s.units none refl) there act-meant g h.serves
       (stored-plain now new_now act-event (event_meant s.units (coming.Act a)) s h.played act-meant refl refl stored)
 
   module _ (leaves : Kept → Kept → Type 0) (fills : Written → ℕ → Type 0) (stage : Stage Scheduler) (in_flight : Option InFlight) where
-    pub act-lost : IsLost stage in_flight → leaves s.units.kept s.units.kept → BreaksOff leaves fills Memory stage in_flight (event_meant s.units (coming.Act a)) s.units
+    pub act-lost : IsLost stage in_flight (event_meant s.units (coming.Act a)) s.units → leaves s.units.kept s.units.kept → BreaksOff leaves fills Memory stage in_flight (event_meant s.units (coming.Act a)) s.units
     act-lost lost left = breaks-before leaves fills stage in_flight (event_meant s.units (coming.Act a)) s.units left lost
 
-    pub act-breaks : (halt : Halt) (y : Books) → y ≡ x.books → Undone leaves fills halt s.units act-event → WasBroken halt y None stage in_flight →
+    pub act-breaks : in_flight ≡ None → (halt : Halt) (y : Books) → y ≡ x.books → Undone leaves fills halt s.units act-event → WasBroken halt y stage →
         BreaksOff leaves fills halt stage in_flight (event_meant s.units (coming.Act a)) s.units
-    act-breaks halt y same undone broken =
-        breaks leaves fills stage in_flight (event_meant s.units (coming.Act a)) s.units halt y None act-event act-meant (kept-decided act-event s.units refl) undone broken
-        (act-books y same) refl
+    act-breaks none halt y same undone broken =
+        breaks leaves fills stage in_flight (event_meant s.units (coming.Act a)) s.units act-event act-meant (kept-decided act-event s.units refl) (none-flies in_flight None s.units none refl)
+        halt y undone broken (act-books y same)
 
 -- A COMMIT
 
@@ -119,24 +121,28 @@ module _ (holds : Kept → Type 0) (is_new : Id → Type 0) (x : Scheduler) (u :
   pub commit-there : HaveUnit x.books u
   commit-there = have-unit x.books s.units u commit-unit commit-stands.books commit-named
 
-  pub commit-done : (now : Kept → Type 0) (new_now : Id → Type 0) (stage : Stage Scheduler) (in_flight : Option InFlight) (y : Scheduler) (e : Event) → in_flight ≡ None →
-      stage ≡ at.Going y → Stored now new_now (units_after commit-event s.units) → scheduling.Gives s (Some commit-event) y (Some e) →
-      Performs (SeesIn now new_now stage) in_flight (event_meant s.units (coming.Commit u)) (Some e) s
-  commit-done now new_now stage in_flight y e none there stored g =
-      serves-by now new_now stage in_flight (event_meant s.units (coming.Commit u)) s none y commit-event e there commit-meant g h.serves stored
+  commit-flies : IsInFlight (Some (asked.Commit u)) (decision_in (Some commit-event)) s.units
+  commit-flies = (commit-unit, commit-named, refl)
 
-  module _ (leaves : Kept → Kept → Type 0) (fills : Written → ℕ → Type 0) (stage : Stage Scheduler) (in_flight : Option InFlight) where
+  pub commit-done : (now : Kept → Type 0) (new_now : Id → Type 0) (stage : Stage Scheduler) (y : Scheduler) (e : Event) → stage ≡ at.Going y →
+      Stored now new_now (units_after commit-event s.units) → scheduling.Gives s (Some commit-event) y (Some e) →
+      Performs (SeesIn now new_now stage) (Some (asked.Commit u)) (event_meant s.units (coming.Commit u)) (Some e) s
+  commit-done now new_now stage y e there stored g =
+      serves-by now new_now stage (Some (asked.Commit u)) (event_meant s.units (coming.Commit u)) s y commit-event e commit-flies there commit-meant g h.serves stored
+
+  module _ (leaves : Kept → Kept → Type 0) (fills : Written → ℕ → Type 0) (stage : Stage Scheduler) where
     -- memory ran out behind the decision
-    pub commit-lost : IsLost stage in_flight → leaves (units_after commit-event s.units).kept (units_after commit-event s.units).kept →
-        BreaksOff leaves fills Memory stage in_flight (event_meant s.units (coming.Commit u)) s.units
-    commit-lost lost left =
-        breaks-behind leaves fills stage in_flight (event_meant s.units (coming.Commit u)) s.units commit-event commit-meant (kept-decided commit-event s.units refl) left lost
+    pub commit-lost : stage ≡ at.Lost → leaves (units_after commit-event s.units).kept (units_after commit-event s.units).kept →
+        BreaksOff leaves fills Memory stage (Some (asked.Commit u)) (event_meant s.units (coming.Commit u)) s.units
+    commit-lost there left =
+        breaks-behind leaves fills stage (Some (asked.Commit u)) (event_meant s.units (coming.Commit u)) s.units commit-event commit-meant (kept-decided commit-event s.units refl)
+        commit-flies left there
 
-    pub commit-breaks : (halt : Halt) (y : Books) → y ≡ x.books → Undone leaves fills halt s.units commit-event →
-        WasBroken halt y (Some (asked.Commit u)) stage in_flight → BreaksOff leaves fills halt stage in_flight (event_meant s.units (coming.Commit u)) s.units
+    pub commit-breaks : (halt : Halt) (y : Books) → y ≡ x.books → Undone leaves fills halt s.units commit-event → WasBroken halt y stage →
+        BreaksOff leaves fills halt stage (Some (asked.Commit u)) (event_meant s.units (coming.Commit u)) s.units
     commit-breaks halt y same undone broken =
-        breaks leaves fills stage in_flight (event_meant s.units (coming.Commit u)) s.units halt y (Some (asked.Commit u)) commit-event commit-meant
-        (kept-decided commit-event s.units refl) undone broken (commit-books y same) (commit-unit, commit-named, refl)
+        breaks leaves fills stage (Some (asked.Commit u)) (event_meant s.units (coming.Commit u)) s.units commit-event commit-meant (kept-decided commit-event s.units refl)
+        commit-flies halt y undone broken (commit-books y same)
 
 -- A BRANCH
 
@@ -166,21 +172,25 @@ module _ (holds : Kept → Type 0) (is_new : Id → Type 0) (x : Scheduler) (u b
   branch-stored now new_now stored =
       subst (λ v. Stored now new_now (units_after (branches_in s.units v cause) s.units)) (named-unit u s.units.units branch-unit.unit branch-unit.named) stored
 
-  pub branch-done : (now : Kept → Type 0) (new_now : Id → Type 0) (stage : Stage Scheduler) (in_flight : Option InFlight) (y : Scheduler) (e : Event) → in_flight ≡ None →
-      stage ≡ at.Going y → Stored now new_now (units_after (branches_in s.units branch-unit.unit.unit cause) s.units) →
-      scheduling.Gives s (Some branch-event) y (Some e) → Performs (SeesIn now new_now stage) in_flight (event_meant s.units (coming.Branch u base cause)) (Some e) s
-  branch-done now new_now stage in_flight y e none there stored g =
-      serves-by now new_now stage in_flight (event_meant s.units (coming.Branch u base cause)) s none y branch-event e there refl g h.serves (branch-stored now new_now stored)
+  branch-flies : IsInFlight (Some (asked.Branch u base cause)) (decision_in (Some branch-event)) s.units
+  branch-flies = (branch-unit, refl)
 
-  module _ (leaves : Kept → Kept → Type 0) (fills : Written → ℕ → Type 0) (stage : Stage Scheduler) (in_flight : Option InFlight) where
-    pub branch-lost : IsLost stage in_flight → leaves (units_after branch-event s.units).kept (units_after branch-event s.units).kept →
-        BreaksOff leaves fills Memory stage in_flight (event_meant s.units (coming.Branch u base cause)) s.units
-    branch-lost lost left =
-        breaks-behind leaves fills stage in_flight (event_meant s.units (coming.Branch u base cause)) s.units branch-event refl (kept-decided branch-event s.units refl) left lost
+  pub branch-done : (now : Kept → Type 0) (new_now : Id → Type 0) (stage : Stage Scheduler) (y : Scheduler) (e : Event) → stage ≡ at.Going y →
+      Stored now new_now (units_after (branches_in s.units branch-unit.unit.unit cause) s.units) → scheduling.Gives s (Some branch-event) y (Some e) →
+      Performs (SeesIn now new_now stage) (Some (asked.Branch u base cause)) (event_meant s.units (coming.Branch u base cause)) (Some e) s
+  branch-done now new_now stage y e there stored g =
+      serves-by now new_now stage (Some (asked.Branch u base cause)) (event_meant s.units (coming.Branch u base cause)) s y branch-event e branch-flies there refl g h.serves
+      (branch-stored now new_now stored)
 
-    pub branch-breaks : (halt : Halt) (y : Books) → y ≡ x.books → Undone leaves fills halt s.units branch-event →
-        WasBroken halt y (Some (asked.Branch u base cause)) stage in_flight →
-        BreaksOff leaves fills halt stage in_flight (event_meant s.units (coming.Branch u base cause)) s.units
+  module _ (leaves : Kept → Kept → Type 0) (fills : Written → ℕ → Type 0) (stage : Stage Scheduler) where
+    pub branch-lost : stage ≡ at.Lost → leaves (units_after branch-event s.units).kept (units_after branch-event s.units).kept →
+        BreaksOff leaves fills Memory stage (Some (asked.Branch u base cause)) (event_meant s.units (coming.Branch u base cause)) s.units
+    branch-lost there left =
+        breaks-behind leaves fills stage (Some (asked.Branch u base cause)) (event_meant s.units (coming.Branch u base cause)) s.units branch-event refl
+        (kept-decided branch-event s.units refl) branch-flies left there
+
+    pub branch-breaks : (halt : Halt) (y : Books) → y ≡ x.books → Undone leaves fills halt s.units branch-event → WasBroken halt y stage →
+        BreaksOff leaves fills halt stage (Some (asked.Branch u base cause)) (event_meant s.units (coming.Branch u base cause)) s.units
     branch-breaks halt y same undone broken =
-        breaks leaves fills stage in_flight (event_meant s.units (coming.Branch u base cause)) s.units halt y (Some (asked.Branch u base cause)) branch-event refl
-        (kept-decided branch-event s.units refl) undone broken (branch-books y same) (branch-unit, refl)
+        breaks leaves fills stage (Some (asked.Branch u base cause)) (event_meant s.units (coming.Branch u base cause)) s.units branch-event refl
+        (kept-decided branch-event s.units refl) branch-flies halt y undone broken (branch-books y same)

@@ -77,5 +77,5 @@ module _ (line : Line) (x : Scheduler) (e : Event) (p : Point) (sound : IsSoundP
     seen = h.sees;
     can_stop = d.after.can_stop ∙ can ∙ sym same;
     line = kept ∙ line ∙ ap is_statement_line (sym (onwards-line p sound e t plain comes d.after));
-    none = h.none;
+    flies = h.flies;
   }

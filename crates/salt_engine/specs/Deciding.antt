@@ -25,7 +25,7 @@ use Rattle.salt_storage.specs.declared.halt.Halt.{Halt}
 use Rattle.salt_types.specs.Played.{HasKey}
 use Rattle.salt_types.specs.Typed.{IsTyped}
 use Rattle.salt_values.specs.declared.id.Id.{Id}
-use Rattle.std.specs.Prelude.{Some, false, true, ℕ, ◌≡◌, ◌⊎◌}
+use Rattle.std.specs.Prelude.{Some, false, true, ℕ, ⊤, ◌≡◌, ◌⊎◌}
 
 -- the units of a played trace, of a typed start and over lines whose tables have keys, where this comes next; and not as a decision
 -- that was in flight
@@ -60,6 +60,6 @@ pub record IsBranched (holds : Kept → Type 0) (is_new : Id → Type 0) (m : Mo
 -- An event was to come next, and was broken off: a stop leaves what is kept before or behind it; unless memory ran out it is at the
 -- devices; and where a device was full, by what was to be written of it.
 pub record Undone (leaves : Kept → Kept → Type 0) (fills : Written → ℕ → Type 0) (halt : Halt) (s : UnitState) (e : Event) : Type 0 where
-  pub left : LeavesEither leaves s.kept (units_after e s).kept
+  pub left : LeavesEither leaves ⊤ s.kept (units_after e s).kept
   pub reason : (halt ≡ Memory) ⊎ (at_devices_in s e ≡ true)
   pub full : (dev : ℕ) → halt ≡ DeviceFull dev → (w : Written) × IsWrittenBy s (Some e) w × fills w dev

@@ -6,7 +6,7 @@ use Rattle.salt_books.specs.Coming.{event_meant}
 use Rattle.salt_books.specs.declared.books.Books.{Books}
 use Rattle.salt_books.specs.declared.coming.Coming.TheVariants as coming
 use Rattle.salt_books.specs.declared.coming.Coming.{Coming}
-use Rattle.salt_disk.specs.Disks.{SameShape, View}
+use Rattle.salt_disk.specs.Disks.{View}
 use Rattle.salt_engine.specs.Flights.{IsInFlight}
 use Rattle.salt_engine.specs.Stored.{LeavesEither, Stored, kept_behind}
 use Rattle.salt_engine.specs.declared.flights.InFlight.{InFlight}
@@ -34,6 +34,7 @@ use Rattle.salt_scheduler.specs.Standing.{Does, ServesAllowed, ServesLine, behin
 use Rattle.salt_scheduler.specs.declared.scheduler.Scheduler.{Scheduler}
 use Rattle.salt_sound.specs.Spelled.{IsSpelledLine}
 use Rattle.salt_steps.specs.Writing.{IsWrittenBy}
+use Rattle.salt_storage.specs.Staying.{StaysWithin}
 use Rattle.salt_storage.specs.Writing.{Written}
 use Rattle.salt_storage.specs.declared.halt.Halt.TheVariants.{DeviceFull, Memory}
 use Rattle.salt_storage.specs.declared.halt.Halt.{Halt}
@@ -42,7 +43,7 @@ use Rattle.salt_types.specs.Typed.{IsTyped}
 use Rattle.salt_values.specs.declared.id.Id.{Id}
 use Rattle.salt_values.specs.declared.placement.Shape.{Shape}
 use Rattle.std.specs.Result.{MatchResult}
-use Rattle.std.specs.Prelude.{Bool, None, Option, Result, Some, false, true, ℕ, ◌≡◌, ◌≤◌, ◌⊎◌}
+use Rattle.std.specs.Prelude.{Bool, IsSome, None, Option, Result, Some, false, true, ℕ, ◌≡◌, ◌≤◌, ◌⊎◌}
 
 -- this comes next in a state of a played trace, of a typed start and over lines whose tables have keys
 pub record IsPlayedBefore (comes : Option Event) (s : State) : Type 0 where
@@ -54,8 +55,9 @@ pub record IsPlayedBefore (comes : Option Event) (s : State) : Type 0 where
   pub next : next trace ≡ comes
   pub late : is_just_opened trace ≡ false
 
--- a line, a definition and stops that are armed are prepared before anything of a unit comes
+-- a refusal, a definition and stops that are armed are prepared before anything of a unit comes
 abbrev pub is_prepared : Option Event → Bool
+is_prepared (Some (Refused refusal)) = true
 is_prepared (Some (Armed pairs)) = true
 is_prepared (Some (Defined n text)) = true
 is_prepared e = false
@@ -128,11 +130,11 @@ pub record IsToAsk (holds : Kept → Type 0) (is_new : Id → Type 0) (stoppable
   pub served : IsServed line
   pub can_stop : s.can_stop ≡ stoppable
 
--- the event that was meant is given, and the engine has done it
+-- the event that was meant is given, and the engine has done it; a decision is in flight until it is told
 pub record Performs (seen : Option Event → State → Type 0) (in_flight : Option InFlight) (meant given : Option Event) (s : State) : Type 0 where
   pub told : given ≡ meant
   pub sees : seen given s
-  pub none : in_flight ≡ None
+  pub flies : IsInFlight in_flight (decision_in given) s.units
 
 -- The storage halted: what was to come is at the devices, and a full device is told by what was to be written of it; the books are
 -- those of the state, and what is in flight is known.
@@ -148,20 +150,20 @@ pub record IsHalted {H : Type 0} (fills : Written → ℕ → Type 0) (halt : Ha
   pub are : AreBooks books s
   pub flies : IsInFlight in_flight (decision_in meant) s
 
-pub record IsLost {H : Type 0} (stage : Stage H) (in_flight : Option InFlight) : Type 0 where
+-- memory ran out: what was asked by then is known
+pub record IsLost {H : Type 0} (stage : Stage H) (in_flight : Option InFlight) (meant : Option Event) (s : UnitState) : Type 0 where
   pub there : stage ≡ Lost
-  pub none : in_flight ≡ None
+  pub flies : (in_flight ≡ None) ⊎ IsInFlight in_flight (decision_in meant) s
 
--- or memory ran out; either way a stop leaves what is kept, or that with the decision that was to come
+-- or memory ran out; either way a stop leaves what is kept, or, where the decision that was to come was asked, that with it
 pub record BreaksOff {H : Type 0} (leaves : Kept → Kept → Type 0) (fills : Written → ℕ → Type 0) (halt : Halt) (stage : Stage H) (in_flight : Option InFlight)
     (meant : Option Event) (s : UnitState) : Type 0 where
-  pub left : LeavesEither leaves s.kept (kept_behind (decision_in meant) s)
-  pub how : ((halt ≡ Memory) × IsLost stage in_flight) ⊎ IsHalted fills halt stage in_flight meant s
+  pub left : LeavesEither leaves (IsSome in_flight) s.kept (kept_behind (decision_in meant) s)
+  pub how : ((halt ≡ Memory) × IsLost stage in_flight meant s) ⊎ IsHalted fills halt stage in_flight meant s
 
--- by what the storage answered: these books stay, and what was asked of it
-abbrev pub WasBroken : {H : Type 0} → Halt → Books → Option InFlight → Stage H → Option InFlight → Type 0
-WasBroken halt books asked stage in_flight =
-    ((halt ≡ Memory) × IsLost stage in_flight) ⊎ ((halt ≡ Memory → ⊥) × (stage ≡ Down books) × (in_flight ≡ asked))
+-- by what the storage answered: unless memory ran out, these books stay
+abbrev pub WasBroken : {H : Type 0} → Halt → Books → Stage H → Type 0
+WasBroken halt books stage = ((halt ≡ Memory) × (stage ≡ Lost)) ⊎ ((halt ≡ Memory → ⊥) × (stage ≡ Down books))
 
 -- How it comes out: what was meant is given, and done; or it is broken off.
 abbrev pub ComesOut : {H T : Type 0} → (given : T → Option Event) (seen : Option Event → State → Type 0) (leaves : Kept → Kept → Type 0) (fills : Written → ℕ → Type 0) → Stage H →
@@ -169,11 +171,10 @@ abbrev pub ComesOut : {H T : Type 0} → (given : T → Option Event) (seen : Op
 ComesOut given seen leaves fills stage in_flight meant s result =
     MatchResult result (λ x. Performs seen in_flight meant (given x) s) (λ halt. BreaksOff leaves fills halt stage in_flight meant s.units)
 
--- No call changes these: what is noted beside the stage, the shape that the storage is asked for, and that of the devices.
+-- No call changes these: what is noted beside the stage, the shape that the storage is asked for, and devices that are not of it.
 pub record Stays {A : Type 0} (before now : A) (was is : Shape) (old new : View) : Type 0 where
   pub noted : now ≡ before
-  pub asked : is ≡ was
-  pub shape : SameShape old new
+  pub within : StaysWithin was is old new
 
 -- a line is refused, and the scheduler has told it
 pub record IsRefused (line : Line) (refusal : Refusal) (x : Scheduler) (stage : Stage Scheduler) (e : Event) : Type 0 where

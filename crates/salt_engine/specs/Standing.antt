@@ -14,6 +14,7 @@ use Rattle.salt_keeps.specs.States.{State}
 use Rattle.salt_keeps.specs.Watches.{empty_watch}
 use Rattle.salt_known.specs.Known.{AllLeadOn}
 use Rattle.salt_model.specs.Kept.{Kept, programs_of, schema_of}
+use Rattle.salt_model.specs.Next.{decision_in}
 use Rattle.salt_model.specs.Phases as phases
 use Rattle.salt_model.specs.Turns.{is_statement_line}
 use Rattle.salt_model.specs.declared.events.Event.{Event}
@@ -22,7 +23,7 @@ use Rattle.salt_scheduler.specs.declared.scheduler.Scheduler.{Scheduler}
 use Rattle.salt_storage.specs.Storing.{IsSoundKept}
 use Rattle.salt_storage.specs.declared.found.Numbers.{Numbers}
 use Rattle.salt_values.specs.declared.id.Id.{Id}
-use Rattle.std.specs.Prelude.{Bool, List, None, Option, Some, [], map, ℕ, ⊤, ◌≡◌, ◌⊎◌}
+use Rattle.std.specs.Prelude.{Bool, IsSome, List, None, Option, Some, [], map, ℕ, ⊤, ◌≡◌, ◌⊎◌}
 
 -- THE STAGES. With the event at hand, which the half in memory has done, it stands for the state before that.
 
@@ -32,12 +33,12 @@ SeesIn holds is_new (Going x) None s = scheduling.Stands x s × Stored holds is_
 SeesIn holds is_new (Going x) (Some e) s = (t : State) × scheduling.HasDone x e s t × Stored holds is_new t.units × (s.units.phase ≡ phases.Serving)
 SeesIn holds is_new stage next s = ⊥
 
--- beside what is seen: whether stops can be armed, whether the last line is one statement, and that nothing is in flight
+-- beside what is seen: whether stops can be armed, whether the last line is one statement, and what is in flight, which is the decision at hand
 pub record Sees (sees : Option Event → State → Type 0) (stoppable single : Bool) (in_flight : Option InFlight) (next : Option Event) (s : State) : Type 0 where
   pub seen : sees next s
   pub can_stop : s.can_stop ≡ stoppable
   pub line : single ≡ is_statement_line s.units.line
-  pub none : in_flight ≡ None
+  pub flies : IsInFlight in_flight (decision_in next) s.units
 
 abbrev pub IsGoingStage : {H : Type 0} → Stage H → Type 0
 IsGoingStage (Going x) = ⊤
@@ -91,15 +92,16 @@ pub record KnowUnits (x : Books) (s : UnitState) : Type 0 where
 abbrev pub KnowsUnits : Option Books → UnitState → Type 0
 KnowsUnits books s = (x : Books) × (books ≡ Some x) × KnowUnits x s
 
--- what a stop leaves of the devices stands for what is kept at this point, or for that with the flight; where it is found which, for that
-abbrev pub Left : (holds : Kept → Type 0) (leaves : Kept → Kept → Type 0) → Option Numbers → ℕ → Point → Type 0
-Left holds leaves None room p = (a b : Kept) × leaves a b × IsLeft room p a × IsLeft room p b
-Left holds leaves (Some numbers) room p = (k : Kept) × holds k × IsLeft room p k × IsNumbered numbers k
+-- what a stop leaves of the devices stands for what is kept at this point, or, where a decision is in flight, for that with it; where it is
+-- found which, for that
+abbrev pub Left : (holds : Kept → Type 0) (leaves : Kept → Kept → Type 0) → (doubt : Type 0) → (found : Option Numbers) → ℕ → Point → Type 0
+Left holds leaves doubt None room p = (a b : Kept) × leaves a b × IsLeft doubt room p a × IsLeft doubt room p b
+Left holds leaves doubt (Some numbers) room p = (k : Kept) × holds k × IsLeft doubt room p k × IsNumbered numbers k
 
 -- it can be opened at this point
 pub record Lies (holds : Kept → Type 0) (leaves : Kept → Kept → Type 0) (stoppable : Bool) (found : Option Numbers) (books : Option Books) (single : Bool)
     (in_flight : Option InFlight) (room : ℕ) (p : Point) : Type 0 where
-  pub left : Left holds leaves found room p
+  pub left : Left holds leaves (IsSome in_flight) found room p
   pub knows : KnowsUnits books p.state.units
   pub sound : IsSoundKept p.state.units.kept
   pub can_stop : p.state.can_stop ≡ stoppable

@@ -8,7 +8,7 @@ use Rattle.salt_sound.specs.Naming.{IsToCome}
 use Rattle.salt_stands.specs.Stands.{are_spent}
 use Rattle.salt_storage.specs.declared.found.Numbers.{Numbers}
 use Rattle.salt_values.specs.declared.id.Id.{Id}
-use Rattle.std.specs.Prelude.{None, Option, Some, false, ℕ, ◌+◌, ◌≡◌, ◌≤◌, ◌⊎◌}
+use Rattle.std.specs.Prelude.{None, Option, Some, false, ℕ, ⊤, ◌+◌, ◌≡◌, ◌≤◌, ◌⊎◌}
 
 -- it holds what the state keeps, and each unit of this boot that is open or may still begin is new to it
 pub record Stored (holds : Kept → Type 0) (is_new : Id → Type 0) (s : UnitState) : Type 0 where
@@ -28,19 +28,35 @@ raised n k = record k { boot = k.boot + n }
 abbrev pub IsEither : (a b k : Kept) → Type 0
 IsEither a b k = (k ≡ a) ⊎ (k ≡ b)
 
--- what is kept at a point, or that with the flight; at most so many boots later
-pub record IsLeft (room : ℕ) (p : Point) (k : Kept) : Type 0 where
+-- the one, or, where that is in doubt, the other
+abbrev pub MayBeOther : (doubt : Type 0) → (a b k : Kept) → Type 0
+MayBeOther doubt a b k = (k ≡ a) ⊎ (doubt × (k ≡ b))
+
+-- what is kept at a point, or, where that is in doubt, that with the flight; at most so many boots later
+pub record IsLeft (doubt : Type 0) (room : ℕ) (p : Point) (k : Kept) : Type 0 where
   pub boots : ℕ
   pub most : boots ≤ room
-  pub is : IsEither (raised boots p.state.units.kept) (raised boots (kept_behind p.flight p.state.units)) k
+  pub is : MayBeOther doubt (raised boots p.state.units.kept) (raised boots (kept_behind p.flight p.state.units)) k
 
--- a stop leaves one of these
-pub record LeavesEither (leaves : Kept → Kept → Type 0) (a b : Kept) : Type 0 where
+-- it is that alone, and these are its numbers
+pub record IsLeftAlone (rests : Kept → Type 0) (numbers : Numbers) (room : ℕ) (p : Point) : Type 0 where
+  pub kept : Kept
+  pub resting : rests kept
+  pub left : IsLeft ⊤ room p kept
+  pub boot_is : numbers.boot ≡ kept.boot
+  pub decisions_are : numbers.decisions ≡ kept.decisions
+
+abbrev pub IsAlone : (rests : Kept → Type 0) → Option Numbers → ℕ → Point → Type 0
+IsAlone rests None room p = ⊤
+IsAlone rests (Some numbers) room p = IsLeftAlone rests numbers room p
+
+-- a stop leaves the one, or, where that is in doubt, the other
+pub record LeavesEither (leaves : Kept → Kept → Type 0) (doubt : Type 0) (a b : Kept) : Type 0 where
   pub one : Kept
   pub other : Kept
   pub left : leaves one other
-  pub is_one : IsEither a b one
-  pub is_other : IsEither a b other
+  pub is_one : MayBeOther doubt a b one
+  pub is_other : MayBeOther doubt a b other
 
 -- the numbers of what is kept, which are not spent
 pub record IsNumbered (n : Numbers) (k : Kept) : Type 0 where

@@ -3,7 +3,7 @@
 ghost use Rattle.salt_books.specs.Asking.{IsAskedBy};
 ghost use Rattle.salt_books.specs.Books.{AreBooks, AreLoaded};
 ghost use Rattle.salt_books.specs.Coming.{IsLaterUnit};
-ghost use Rattle.salt_disk.specs.Disks.{HasCause, SameShape};
+ghost use Rattle.salt_disk.specs.Disks.{HasCause};
 ghost use Rattle.salt_engine.specs.Deciding.{IsBefore, IsBranched, IsCommitted, Undone, branches_in};
 ghost use Rattle.salt_engine.specs.Stored.{Stored};
 ghost use Rattle.salt_eval.specs.Scans.{IsKeyed};
@@ -13,6 +13,7 @@ ghost use Rattle.salt_keeps.specs.Told.{commits_in, does_in};
 ghost use Rattle.salt_model.specs.declared.events.Cause.{Cause};
 ghost use Rattle.salt_steps.specs.Writing.{change_of};
 ghost use Rattle.salt_storage.specs.Answers.{disk_err};
+ghost use Rattle.salt_storage.specs.Staying.{StaysWithin};
 ghost use Rattle.salt_values.specs.Placement.{GivesPlaceOf, TakesEachKey};
 ghost use Rattle.salt_values.specs.declared.id.Id.{Id};
 ghost use Rattle.std.specs.Prelude.{IfErr, IfOk, OnOk, Some, map, ◌≡◌};
@@ -46,8 +47,7 @@ pub fn load<S: Storage, D: Disks, F: Fn(PlaceKind, &Key, u32) -> u32>(
         → Stored (S.holds (D.view disks.new) storage.new) (S.is_new (D.view disks.new) storage.new) s) }
     ensures undone { IfErr result (λ halt. (s : UnitState) (o : OpenUnit) → IsBefore (S.holds (D.view disks.old) storage.old) (S.is_new (D.view disks.old) storage.old) books.now (does_in s o asking.now.statement) s → IsAskedBy asking.now s o
         → Undone (S.leaves (D.view disks.new) storage.new) (S.fills (D.view disks.new) storage.new) halt s (does_in s o asking.now.statement)) }
-    ensures asked { S.asked storage.new ≡ S.asked storage.old }
-    ensures shape { SameShape (D.view disks.old) (D.view disks.new) }
+    ensures within { StaysWithin (S.asked storage.old) (S.asked storage.new) (D.view disks.old) (D.view disks.new) }
     ensures cause { HasCause (D.view disks.old) (D.view disks.new) (disk_err result) }
 {
     storage.stands(disks);
@@ -112,8 +112,7 @@ pub fn commit<S: Storage, D: Disks, F: Fn(PlaceKind, &Key, u32) -> u32>(
         → IsCommitted (S.holds (D.view disks.new) storage.new) (S.is_new (D.view disks.new) storage.new) made s o) }
     ensures undone { IfErr result (λ halt. (s : UnitState) (o : OpenUnit) → IsBefore (S.holds (D.view disks.old) storage.old) (S.is_new (D.view disks.old) storage.old) books.now (commits_in s o) s → unit_named unit s.units ≡ Some o
         → Undone (S.leaves (D.view disks.new) storage.new) (S.fills (D.view disks.new) storage.new) halt s (commits_in s o)) }
-    ensures asked { S.asked storage.new ≡ S.asked storage.old }
-    ensures shape { SameShape (D.view disks.old) (D.view disks.new) }
+    ensures within { StaysWithin (S.asked storage.old) (S.asked storage.new) (D.view disks.old) (D.view disks.new) }
     ensures cause { HasCause (D.view disks.old) (D.view disks.new) (disk_err result) }
 {
     decided_ends_may_be_kept();
@@ -140,8 +139,7 @@ pub fn branch<S: Storage, D: Disks, F: Fn(PlaceKind, &Key, u32) -> u32>(
         → IsBranched (S.holds (D.view disks.new) storage.new) (S.is_new (D.view disks.new) storage.new) made s later.unit cause) }
     ensures undone { IfErr result (λ halt. (s : UnitState) (base : Id) (cause : Cause) → IsBefore (S.holds (D.view disks.old) storage.old) (S.is_new (D.view disks.old) storage.old) books.now (branches_in s unit cause) s → IsLaterUnit s unit base
         → Undone (S.leaves (D.view disks.new) storage.new) (S.fills (D.view disks.new) storage.new) halt s (branches_in s unit cause)) }
-    ensures asked { S.asked storage.new ≡ S.asked storage.old }
-    ensures shape { SameShape (D.view disks.old) (D.view disks.new) }
+    ensures within { StaysWithin (S.asked storage.old) (S.asked storage.new) (D.view disks.old) (D.view disks.new) }
     ensures cause { HasCause (D.view disks.old) (D.view disks.new) (disk_err result) }
 {
     decided_ends_may_be_kept();

@@ -29,7 +29,7 @@ pub struct Engine<S> {
     /// Whether the last line that was asked is one statement: the units of an opening note it. The opening before says it, and no line
     /// that is served depends on it.
     pub single: bool,
-    /// What was asked of the storage when it halted.
+    /// The decision that was asked of the storage, until it is told.
     pub(crate) in_flight: Option<InFlight>,
     /// The tables where memory ran out: none.
     pub(crate) no_tables: Schema,
@@ -44,7 +44,7 @@ pub struct GivenUp<S> {
     pub books: Option<Books>,
     /// Whether the last line that was asked is one statement.
     pub single: bool,
-    /// What was asked of the storage when it halted.
+    /// The decision that was asked of the storage, until it is told.
     pub in_flight: Option<InFlight>,
 }
 

@@ -1,7 +1,6 @@
 //! A line is begun.
 
 ghost use Rattle.salt_ast.specs.declared.lines.Line.TheVariants as line_of;
-ghost use Rattle.salt_disk.specs.Disks.{SameShape};
 ghost use Rattle.salt_engine.specs.Flights.{definition_of};
 ghost use Rattle.salt_engine.specs.Performing.{AsksLine, ComesOut, IsRefused, IsRejected, IsToAsk, Stays, is_definition, is_prepared_line};
 ghost use Rattle.salt_engine.specs.Stored.{Stored};
@@ -17,11 +16,14 @@ ghost use Rattle.salt_keeps.specs.Told.{line_in};
 ghost use Rattle.salt_model.specs.Trace.{Tree};
 ghost use Rattle.salt_model.specs.Turns.{is_statement_line};
 ghost use Rattle.salt_model.specs.Words.{Every};
+ghost use Rattle.salt_model.specs.declared.events.Event.TheVariants.{Refused};
+ghost use Rattle.salt_model.specs.declared.events.Refusal.{Refusal};
 ghost use Rattle.salt_steps.specs.Counting.{CountsStops, armed_by};
 ghost use Rattle.salt_scheduler.specs.Standing.{Allows, IsAllowed, Stands};
 ghost use Rattle.salt_storage.specs.Answers.{disk_err};
+ghost use Rattle.salt_storage.specs.Staying.{StaysWithin};
 ghost use Rattle.salt_values.specs.Placement.{GivesPlaceOf, TakesEachKey};
-ghost use Rattle.std.specs.Prelude.{IfOk, IsTrue, None, OnErr, OnOk, Some, false, length, true, ℕ, ◌+◌, ◌≡◌, ◌≤◌};
+ghost use Rattle.std.specs.Prelude.{IfOk, IsTrue, None, Ok, OnErr, OnOk, Some, false, true, ℕ, ◌++◌, ◌≡◌, ◌≤◌};
 
 use crate::engine::Engine;
 use crate::flights::InFlight;
@@ -106,10 +108,9 @@ fn arm_each<S: Storage, D: Disks>(
     requires able { IsTrue (D.view disks.old).can_stop }
     requires picks { Every (λ (p : ℕ × ℕ). p.1 ≤ 4) pairs.now }
     ensures stored { (s : UnitState) → Stored (S.holds (D.view disks.old) storage.old) (S.is_new (D.view disks.old) storage.old) s → Stored (S.holds (D.view disks.new) storage.new) (S.is_new (D.view disks.new) storage.new) s }
-    ensures ok { OnOk result ((D.view disks.new).stops_left ≡ (D.view disks.old).stops_left + length pairs.now) }
+    ensures ok { OnOk result ((D.view disks.new).armed ≡ (D.view disks.old).armed ++ pairs.now) }
     ensures faults { (D.view disks.new).faults ≡ (D.view disks.old).faults }
-    ensures asked { S.asked storage.new ≡ S.asked storage.old }
-    ensures shape { SameShape (D.view disks.old) (D.view disks.new) }
+    ensures within { StaysWithin (S.asked storage.old) (S.asked storage.new) (D.view disks.old) (D.view disks.new) }
 {
     for pair in pairs {
         storage.arm(disks, pair.0, pair.1)?;
@@ -141,18 +142,15 @@ impl<S: Storage> Engine<S> {
         match self.storage.define(disks, asked.text()) {
             Ok(_number) => {
                 self.storage.stands(disks);
+                self.in_flight = Some(asked);
                 let event = defined(&mut scheduler, line)?;
                 self.stage = Stage::Going(scheduler);
                 Ok(Some(event))
             }
-            Err(halt) => Err(
-                self.stage.break_off(
-                    &mut self.in_flight,
-                    scheduler.into_books(),
-                    halt,
-                    Some(asked),
-                ),
-            ),
+            Err(halt) => {
+                self.in_flight = Some(asked);
+                Err(self.stage.break_off(scheduler.into_books(), halt))
+            }
         }
     }
 
@@ -291,6 +289,7 @@ impl<S: Storage> Engine<S> {
         ensures comes { (s : State) (r : Reading s.watch) → IsToAsk (S.holds (D.view disks.old) self.old.storage) (S.is_new (D.view disks.old) self.old.storage) (D.view disks.old).can_stop line.now scheduler s
             → ComesOut (λ e. e) (SeesIn (S.holds (D.view disks.new) self.new.storage) (S.is_new (D.view disks.new) self.new.storage) self.new.stage) (S.leaves (D.view disks.new) self.new.storage) (S.fills (D.view disks.new) self.new.storage) self.new.stage self.new.in_flight (asked_next s r (Tree line.now)) (asked_of (Tree line.now) s) result }
         ensures stays { Stays self.old.single self.new.single (S.asked self.old.storage) (S.asked self.new.storage) (D.view disks.old) (D.view disks.new) }
+        ensures refused { (refusal : Refusal) → result ≡ Ok (Some (Refused refusal)) → disks.new ≡ disks.old }
         ensures counts { CountsStops (D.view disks.old) (D.view disks.new) (disk_err result) (armed_by result) 0 }
     {
         let mut scheduler = scheduler;

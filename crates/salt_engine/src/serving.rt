@@ -2,6 +2,7 @@
 
 ghost use Rattle.salt_books.specs.Coming.{event_meant};
 ghost use Rattle.salt_books.specs.declared.coming.Coming.TheVariants as coming;
+ghost use Rattle.salt_books.specs.declared.coming.Coming.TheVariants.{Nothing};
 ghost use Rattle.salt_disk.specs.Disks.{HasCause};
 ghost use Rattle.salt_engine.specs.Performing.{ComesOut, GoesOnServing, IsToServe, Stays, Turns, TurnsTo};
 ghost use Rattle.salt_engine.specs.Standing.{SeesIn};
@@ -13,7 +14,7 @@ ghost use Rattle.salt_scheduler.specs.Standing.{Brings, behind_in};
 ghost use Rattle.salt_steps.specs.Counting.{armed_at};
 ghost use Rattle.salt_storage.specs.Answers.{disk_err};
 ghost use Rattle.salt_values.specs.Placement.{GivesPlaceOf, TakesEachKey};
-ghost use Rattle.std.specs.Prelude.{IfOk, None, ◌≡◌};
+ghost use Rattle.std.specs.Prelude.{IfOk, None, [], ◌≡◌};
 
 use crate::deciding::{branch, commit, load};
 use crate::engine::Engine;
@@ -72,10 +73,7 @@ impl<S: Storage> Engine<S> {
                 self.stage = Stage::Going(scheduler);
                 Ok(Some(event))
             }
-            Err(halt) => Err(
-                self.stage
-                    .break_off(&mut self.in_flight, scheduler.into_books(), halt, None),
-            ),
+            Err(halt) => Err(self.stage.break_off(scheduler.into_books(), halt)),
         }
     }
 
@@ -98,6 +96,7 @@ impl<S: Storage> Engine<S> {
         ensures cause { HasCause (D.view disks.old) (D.view disks.new) (disk_err result) }
     {
         let mut scheduler = scheduler;
+        self.in_flight = Some(InFlight::Commit(unit));
         match commit(
             self.alloc,
             &mut self.storage,
@@ -112,14 +111,7 @@ impl<S: Storage> Engine<S> {
                 self.stage = Stage::Going(scheduler);
                 Ok(Some(event))
             }
-            Err(halt) => Err(
-                self.stage.break_off(
-                    &mut self.in_flight,
-                    scheduler.into_books(),
-                    halt,
-                    Some(InFlight::Commit(unit)),
-                ),
-            ),
+            Err(halt) => Err(self.stage.break_off(scheduler.into_books(), halt)),
         }
     }
 
@@ -144,6 +136,7 @@ impl<S: Storage> Engine<S> {
         ensures cause { HasCause (D.view disks.old) (D.view disks.new) (disk_err result) }
     {
         let mut scheduler = scheduler;
+        self.in_flight = Some(InFlight::Branch { unit, base, cause });
         match branch(
             self.alloc,
             &mut self.storage,
@@ -158,17 +151,7 @@ impl<S: Storage> Engine<S> {
                 self.stage = Stage::Going(scheduler);
                 Ok(Some(event))
             }
-            Err(halt) => {
-                let asked = InFlight::Branch { unit, base, cause };
-                Err(
-                    self.stage.break_off(
-                        &mut self.in_flight,
-                        scheduler.into_books(),
-                        halt,
-                        Some(asked),
-                    ),
-                )
-            }
+            Err(halt) => Err(self.stage.break_off(scheduler.into_books(), halt)),
         }
     }
 
@@ -189,6 +172,7 @@ impl<S: Storage> Engine<S> {
             → ComesOut (λ e. e) (SeesIn (S.holds (D.view disks.new) self.new.storage) (S.is_new (D.view disks.new) self.new.storage) self.new.stage) (S.leaves (D.view disks.new) self.new.storage) (S.fills (D.view disks.new) self.new.storage) self.new.stage self.new.in_flight (event_meant s.units coming) s result }
         ensures stays { Stays self.old.single self.new.single (S.asked self.old.storage) (S.asked self.new.storage) (D.view disks.old) (D.view disks.new) }
         ensures cause { HasCause (D.view disks.old) (D.view disks.new) (disk_err result) }
+        ensures still { coming ≡ Nothing → disks.new ≡ disks.old }
     {
         match coming {
             Coming::Nothing => {
@@ -226,7 +210,9 @@ impl<S: Storage> Engine<S> {
             → ComesOut (λ e. e) (SeesIn (S.holds (D.view disks.new) self.new.storage) (S.is_new (D.view disks.new) self.new.storage) self.new.stage) (S.leaves (D.view disks.new) self.new.storage) (S.fills (D.view disks.new) self.new.storage) self.new.stage self.new.in_flight (behind_in s r scheduler.follow) s result }
         ensures stays { Stays self.old.single self.new.single (S.asked self.old.storage) (S.asked self.new.storage) (D.view disks.old) (D.view disks.new) }
         ensures cause { HasCause (D.view disks.old) (D.view disks.new) (disk_err result) }
-        ensures unarmed { IfOk result (λ next. armed_at next ≡ 0) }
+        ensures unarmed { IfOk result (λ next. armed_at next ≡ []) }
+        ensures still { (s : State) (r : Reading s.watch) → GoesOnServing (S.holds (D.view disks.old) self.old.storage) (S.is_new (D.view disks.old) self.old.storage) line.now scheduler s
+            → behind_in s r scheduler.follow ≡ None → disks.new ≡ disks.old }
     {
         let mut scheduler = scheduler;
         self.storage.stands(disks);
@@ -252,7 +238,7 @@ impl<S: Storage> Engine<S> {
             → ComesOut (λ e. e) (SeesIn (S.holds (D.view disks.new) self.new.storage) (S.is_new (D.view disks.new) self.new.storage) self.new.stage) (S.leaves (D.view disks.new) self.new.storage) (S.fills (D.view disks.new) self.new.storage) self.new.stage self.new.in_flight (turned_next s r base) (turned_to base s) result }
         ensures stays { Stays self.old.single self.new.single (S.asked self.old.storage) (S.asked self.new.storage) (D.view disks.old) (D.view disks.new) }
         ensures cause { HasCause (D.view disks.old) (D.view disks.new) (disk_err result) }
-        ensures unarmed { IfOk result (λ next. armed_at next ≡ 0) }
+        ensures unarmed { IfOk result (λ next. armed_at next ≡ []) }
     {
         let mut scheduler = scheduler;
         self.storage.stands(disks);

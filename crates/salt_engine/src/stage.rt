@@ -3,9 +3,8 @@
 ghost use Rattle.salt_engine.specs.Performing.{WasBroken};
 ghost use Rattle.salt_engine.specs.Standing.{IsBrokenStage, IsGoingStage, serving_books};
 ghost use Rattle.salt_engine.specs.declared.stage.Stage.TheVariants.{Down, Going, Lost};
-ghost use Rattle.std.specs.Prelude.{None, ◌≡◌};
+ghost use Rattle.std.specs.Prelude.{◌≡◌};
 
-use crate::flights::InFlight;
 use salt_books::Books;
 use salt_scheduler::Scheduler;
 use salt_storage::Halt;
@@ -53,24 +52,16 @@ impl<H: Drop> Stage<H> {
         }
     }
 
-    /// The call of the storage was broken off that this was asked by: unless memory ran out, the books stay.
-    pub fn break_off(
-        &mut self,
-        in_flight: &mut Option<InFlight>,
-        books: Books,
-        halt: Halt,
-        asked: Option<InFlight>,
-    ) -> Halt
-        requires lost { self.old ≡ Lost }
-        requires none { in_flight.old ≡ None }
+    /// A call of the storage was broken off: unless memory ran out, the books stay.
+    pub fn break_off(&mut self, books: Books, halt: Halt) -> Halt
+        requires { self.old ≡ Lost }
         ensures halt { result ≡ halt }
-        ensures broken { WasBroken halt books asked self.new in_flight.new }
+        ensures broken { WasBroken halt books self.new }
     {
         match halt {
             Halt::Memory => {}
             _ => {
                 *self = Stage::Down(books);
-                *in_flight = asked;
             }
         }
         halt

@@ -1,6 +1,5 @@
 //! The engine's moves at a line, at a turn of `go all` and at an event.
 
-ghost use Rattle.salt_disk.specs.Disks.{SameShape};
 ghost use Rattle.salt_engine.specs.Flights.{flight_of};
 ghost use Rattle.salt_engine.specs.Performing.{IsServed};
 ghost use Rattle.salt_engine.specs.Standing.{goes_in, waits_in};
@@ -9,6 +8,7 @@ ghost use Rattle.salt_steps.specs.Counting.{CountsMore};
 ghost use Rattle.salt_steps.specs.Serving.{BreaksOff, GoesOn, Serves};
 ghost use Rattle.salt_storage.specs.Answers.{disk_err};
 ghost use Rattle.salt_types.specs.Played.{HasKey};
+ghost use Rattle.salt_storage.specs.Staying.{StaysWithin};
 ghost use Rattle.salt_values.specs.Placement.{GivesPlaceOf, TakesEachKey};
 ghost use Rattle.std.specs.Prelude.{IfErr, None, OnOk, ◌≡◌};
 
@@ -31,7 +31,7 @@ impl<S: Storage + Drop> Stepping for Engine<S> {
 
     ghost lies = { λ d e room p. engine_lies (S.holds d) (S.leaves d) d.can_stop e room p };
 
-    ghost left = { λ d e room p. engine_left (S.holds d) (S.leaves d) e room p };
+    ghost left = { λ d e numbers room p. engine_left (S.holds d) (S.leaves d) (S.rests d) e numbers room p };
 
     ghost flight = { λ e. flight_of e.in_flight };
 
@@ -99,6 +99,7 @@ impl<S: Storage + Drop> Stepping for Engine<S> {
         self.storage.stands(disks);
         let scheduler = mem::replace(&mut self.stage, Stage::Lost).going();
         story.push(event)?;
+        self.in_flight = None;
         self.go_on_in_line(disks, place, scheduler, line)
     }
 
@@ -124,9 +125,8 @@ impl<S: Storage + Drop> Engine<S> {
         requires stands { (start : Start) × (trace : Trace) × Serves (⟦<Engine<S> as Stepping>⟧.sees (D.view disks.old)) start self.old story.old trace }
         ensures segment { OnOk result (GoesOn (⟦<Engine<S> as Stepping>⟧.sees (D.view disks.old)) (⟦<Engine<S> as Stepping>⟧.sees (D.view disks.new)) self.old story.old (Tree line.now) self.new story.new) }
         ensures broken_off { IfErr result (λ halt. BreaksOff (⟦<Engine<S> as Stepping>⟧.sees (D.view disks.old)) (⟦<Engine<S> as Stepping>⟧.lies (D.view disks.new) self.new 0)
-            (⟦<Engine<S> as Stepping>⟧.left (D.view disks.new) self.new 0) (⟦<Engine<S> as Stepping>⟧.fills (D.view disks.new) self.new) (flight_of self.new.in_flight) halt self.old story.old (Tree line.now) story.new) }
-        ensures asked { S.asked self.new.storage ≡ S.asked self.old.storage }
-        ensures shape { SameShape (D.view disks.old) (D.view disks.new) }
+            (⟦<Engine<S> as Stepping>⟧.left (D.view disks.new) self.new None 0) (⟦<Engine<S> as Stepping>⟧.fills (D.view disks.new) self.new) (flight_of self.new.in_flight) halt self.old story.old (Tree line.now) story.new) }
+        ensures within { StaysWithin (S.asked self.old.storage) (S.asked self.new.storage) (D.view disks.old) (D.view disks.new) }
         ensures counts { CountsMore (D.view disks.old) (D.view disks.new) (disk_err result) None story.old story.new }
     {
         salt_steps::step(self, disks, place, line, story)

@@ -1,12 +1,13 @@
 use Rattle.salt_engine.proofs.Counted.{cause-broken, cause-lost, same-cause}
-use Rattle.salt_engine.proofs.Outcome.{by-err, not-ok, shape-same}
+use Rattle.salt_engine.proofs.Outcome.{by-err, not-ok}
 use Rattle.salt_engine.proofs.Committing.{branch-done, branch-may, branch-moves, branch-new, branch-undone, own-branch, own-undone}
 use Rattle.salt_engine.proofs.Decided.{undone-before}
 use Rattle.salt_engine.proofs.Performed.{have-unit}
 use Rattle.salt_engine.proofs.deciding.branch.Goals as goal
 use Rattle.salt_model.specs.Kept.{conts_branched}
+use Rattle.salt_storage.proofs.Staying.{stays-same}
 use Rattle.std.proofs.Common.{ap}
-use Rattle.std.specs.Prelude.{Err, refl}
+use Rattle.std.specs.Prelude.{Err}
 
 pub move_of_branch-requires : goal.move_of_branch-requires
 move_of_branch-requires g c = have-unit c.args.books.now c.requires.ready.0 c.args.unit c.requires.ready.4.unit c.requires.ready.3.books c.requires.ready.4.named
@@ -80,11 +81,8 @@ returns-in_err-_number-clause-undone g c =
 pub returns-in_err-made-clause-branched : goal.returns-in_err-made-clause-branched
 returns-in_err-made-clause-branched g c = not-ok _ _ c.from_residual.result c.from_residual.ensures.1
 
-pub returns-in_err-made-clause-asked : goal.returns-in_err-made-clause-asked
-returns-in_err-made-clause-asked g c = refl
-
-pub returns-in_err-made-clause-shape : goal.returns-in_err-made-clause-shape
-returns-in_err-made-clause-shape g c = shape-same (g.D.Disks.view c.args.disks.now)
+pub returns-in_err-made-clause-within : goal.returns-in_err-made-clause-within
+returns-in_err-made-clause-within g c = stays-same _ (g.D.Disks.view c.args.disks.now)
 
 pub returns-in_err-made-clause-cause : goal.returns-in_err-made-clause-cause
 returns-in_err-made-clause-cause g c = cause-broken _ _ c.from_residual.result _ c.from_residual.ensures.1 (cause-lost _ _ (same-cause (g.D.Disks.view c.args.disks.now)))
@@ -92,20 +90,14 @@ returns-in_err-made-clause-cause g c = cause-broken _ _ c.from_residual.result _
 pub returns-in_err-_number-clause-branched : goal.returns-in_err-_number-clause-branched
 returns-in_err-_number-clause-branched g c = not-ok _ _ c.from_residual-in_err-_number.result c.from_residual-in_err-_number.ensures.1
 
-pub returns-in_err-_number-clause-asked : goal.returns-in_err-_number-clause-asked
-returns-in_err-_number-clause-asked g c = c.commit.ensures.asked
-
-pub returns-in_err-_number-clause-shape : goal.returns-in_err-_number-clause-shape
-returns-in_err-_number-clause-shape g c = c.commit.ensures.shape
+pub returns-in_err-_number-clause-within : goal.returns-in_err-_number-clause-within
+returns-in_err-_number-clause-within g c = c.commit.ensures.within
 
 pub returns-in_err-_number-clause-cause : goal.returns-in_err-_number-clause-cause
 returns-in_err-_number-clause-cause g c = cause-broken _ _ c.from_residual-in_err-_number.result _ c.from_residual-in_err-_number.ensures.1 c.in_err-_number.ensures.cause
 
-pub returns-clause-asked : goal.returns-clause-asked
-returns-clause-asked g c = c.commit.ensures.asked
-
-pub returns-clause-shape : goal.returns-clause-shape
-returns-clause-shape g c = c.commit.ensures.shape
+pub returns-clause-within : goal.returns-clause-within
+returns-clause-within g c = c.commit.ensures.within
 
 pub returns-clause-cause : goal.returns-clause-cause
 returns-clause-cause g c = c.in_ok-_number.ensures.cause

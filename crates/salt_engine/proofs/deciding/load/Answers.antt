@@ -1,11 +1,12 @@
 use Rattle.salt_engine.proofs.Counted.{cause-broken, same-cause}
-use Rattle.salt_engine.proofs.Outcome.{by-err, not-ok, shape-same}
+use Rattle.salt_engine.proofs.Outcome.{by-err, not-ok}
 use Rattle.salt_engine.proofs.Decided.{stored-still}
 use Rattle.salt_engine.proofs.Loading.{may-load, rows-keyed, rows-loaded, unloaded}
 use Rattle.salt_engine.proofs.deciding.load.Goals as goal
 use Rattle.salt_known.specs.declared.known.Known.{Known}
+use Rattle.salt_storage.proofs.Staying.{stays-same}
 use Rattle.std.proofs.Common.{ap, ◌∙◌}
-use Rattle.std.specs.Prelude.{Err, refl}
+use Rattle.std.specs.Prelude.{Err}
 
 pub load-requires-clause-reach : goal.load-requires-clause-reach
 load-requires-clause-reach g c =
@@ -35,17 +36,11 @@ returns-in_err-rows-in-Some-clause-undone g c =
     unloaded (g.S.Storage.holds view c.args.storage.now) (g.S.Storage.is_new view c.args.storage.now) c.args.books.now c.args.asking.now s o c.in-Some.reach b asked c.in-Some.is
     _ _ _ (c.in_err-rows-in-Some.ensures.leaves s.kept b.stored.holding) (λ dev is. c.in_err-rows-in-Some.ensures.full dev (ap Err is)))
 
-pub returns-in_ok-rows-in-Some-clause-asked : goal.returns-in_ok-rows-in-Some-clause-asked
-returns-in_ok-rows-in-Some-clause-asked g c = c.load.ensures.asked
+pub returns-in_ok-rows-in-Some-clause-within : goal.returns-in_ok-rows-in-Some-clause-within
+returns-in_ok-rows-in-Some-clause-within g c = c.load.ensures.within
 
-pub returns-in_ok-rows-in-Some-clause-shape : goal.returns-in_ok-rows-in-Some-clause-shape
-returns-in_ok-rows-in-Some-clause-shape g c = c.load.ensures.shape
-
-pub returns-in_err-rows-in-Some-clause-asked : goal.returns-in_err-rows-in-Some-clause-asked
-returns-in_err-rows-in-Some-clause-asked g c = c.load.ensures.asked
-
-pub returns-in_err-rows-in-Some-clause-shape : goal.returns-in_err-rows-in-Some-clause-shape
-returns-in_err-rows-in-Some-clause-shape g c = c.load.ensures.shape
+pub returns-in_err-rows-in-Some-clause-within : goal.returns-in_err-rows-in-Some-clause-within
+returns-in_err-rows-in-Some-clause-within g c = c.load.ensures.within
 
 pub returns-in_ok-rows-in-Some-clause-cause : goal.returns-in_ok-rows-in-Some-clause-cause
 returns-in_ok-rows-in-Some-clause-cause g c = c.in_ok-rows-in-Some.ensures.cause
@@ -65,11 +60,8 @@ returns-in_err-rows-in-Some-clause-stored g c = not-ok _ _ c.from_residual.resul
 pub returns-in-None-clause-stored : goal.returns-in-None-clause-stored
 returns-in-None-clause-stored g c = λ s h. h
 
-pub returns-in-None-clause-asked : goal.returns-in-None-clause-asked
-returns-in-None-clause-asked g c = refl
-
-pub returns-in-None-clause-shape : goal.returns-in-None-clause-shape
-returns-in-None-clause-shape g c = shape-same (g.D.Disks.view c.args.disks.now)
+pub returns-in-None-clause-within : goal.returns-in-None-clause-within
+returns-in-None-clause-within g c = stays-same _ (g.D.Disks.view c.args.disks.now)
 
 pub returns-in-None-clause-cause : goal.returns-in-None-clause-cause
 returns-in-None-clause-cause g c = same-cause (g.D.Disks.view c.args.disks.now)

@@ -1,4 +1,4 @@
-use Rattle.salt_database.proofs.Halved.{left-by}
+use Rattle.salt_database.proofs.Halved.{left-by, left-within}
 use Rattle.salt_database.proofs.database.DatabaseOpenable.fall.Goals as goal
 use Rattle.salt_database.specs.Halves.{IsLeftBy}
 use Rattle.std.proofs.Common.{subst}
@@ -10,8 +10,9 @@ pub returns-clause-lies : goal.returns-clause-lies
 returns-clause-lies g c = λ room p q lies fell.
     c.fall.ensures.lies room p q (left-by _ _ _ room p c.args.self.now _ (subst (λ x. IsLeftBy x c.into_opening-opening.result) c.replace.ensures.value c.into_opening-opening.ensures) lies) fell
 
-pub returns-clause-shape : goal.returns-clause-shape
-returns-clause-shape g c = c.fall.ensures.shape
+pub returns-clause-within : goal.returns-clause-within
+returns-clause-within g c =
+    left-within g.S.Storage.asked _ c.args.self.now _ _ _ _ (subst (λ x. IsLeftBy x c.into_opening-opening.result) c.replace.ensures.value c.into_opening-opening.ensures) c.fall.ensures.within
 
 pub returns-clause-faults : goal.returns-clause-faults
 returns-clause-faults g c = c.fall.ensures.faults

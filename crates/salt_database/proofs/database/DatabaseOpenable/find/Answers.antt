@@ -1,4 +1,4 @@
-use Rattle.salt_database.proofs.Halved.{closed-lies, closed-same}
+use Rattle.salt_database.proofs.Halved.{closed-lies, half-within}
 use Rattle.salt_database.proofs.database.DatabaseOpenable.find.Goals as goal
 
 pub returns-clause-again : goal.returns-clause-again
@@ -11,11 +11,8 @@ find-requires-clause-callable g c = c.requires.callable
 pub find-requires-clause-answers : goal.find-requires-clause-answers
 find-requires-clause-answers g c = c.requires.answers
 
-pub returns-clause-asked : goal.returns-clause-asked
-returns-clause-asked g c = closed-same _ _ _ c.args.self.now c.in-Closed.opening c.find.new.self c.in-Closed.is c.find.ensures.asked
-
-pub returns-clause-shape : goal.returns-clause-shape
-returns-clause-shape g c = c.find.ensures.shape
+pub returns-clause-within : goal.returns-clause-within
+returns-clause-within g c = half-within _ _ _ c.args.self.now _ _ _ _ c.in-Closed.is c.find.ensures.within
 
 pub returns-clause-counts : goal.returns-clause-counts
 returns-clause-counts g c = c.find.ensures.counts

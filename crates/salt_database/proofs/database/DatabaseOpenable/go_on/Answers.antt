@@ -1,8 +1,9 @@
-use Rattle.salt_database.proofs.Halved.{at-closed, closed-at, engine-sees, is-opened}
+use Rattle.salt_database.proofs.Halved.{at-closed, closed-at, engine-sees, half-within, is-opened}
 use Rattle.salt_database.proofs.database.DatabaseOpenable.go_on.Goals as goal
 use Rattle.salt_database.specs.Halves.{opening_sees}
 use Rattle.salt_model.specs.declared.events.Event.{Event}
 use Rattle.salt_steps.specs.Standing.{IsOpenedOn}
+use Rattle.salt_storage.specs.Staying.{StaysWithin}
 use Rattle.std.proofs.Common.{subst, sym, ◌∙◌}
 use Rattle.std.specs.Prelude.{Option}
 
@@ -59,11 +60,13 @@ go_on-requires-clause-callable g c = c.requires.callable
 pub go_on-requires-clause-answers : goal.go_on-requires-clause-answers
 go_on-requires-clause-answers g c = c.requires.answers
 
-pub returns-in-Ok-None-clause-shape : goal.returns-in-Ok-None-clause-shape
-returns-in-Ok-None-clause-shape g c = c.go_on.ensures.shape
+pub returns-in-Ok-None-clause-within : goal.returns-in-Ok-None-clause-within
+returns-in-Ok-None-clause-within g c =
+    half-within _ _ _ c.args.self.now _ _ _ _ (sym c.replace.ensures.value ∙ c.closed-opening.ensures)
+    (subst (λ (st : g.row.S.Denot). StaysWithin (g.S.Storage.asked c.closed-opening.result.storage) (g.S.Storage.asked st) (g.D.Disks.view c.args.disks.now) (g.D.Disks.view c.go_on.new.disks)) (sym c.into_engine.ensures.storage) c.go_on.ensures.within)
 
-pub returns-in-Ok-Some-clause-shape : goal.returns-in-Ok-Some-clause-shape
-returns-in-Ok-Some-clause-shape g c = c.go_on.ensures.shape
+pub returns-in-Ok-Some-clause-within : goal.returns-in-Ok-Some-clause-within
+returns-in-Ok-Some-clause-within g c = half-within _ _ _ c.args.self.now _ _ _ _ (sym c.replace.ensures.value ∙ c.closed-opening.ensures) c.go_on.ensures.within
 
-pub returns-in-Err-clause-shape : goal.returns-in-Err-clause-shape
-returns-in-Err-clause-shape g c = c.go_on.ensures.shape
+pub returns-in-Err-clause-within : goal.returns-in-Err-clause-within
+returns-in-Err-clause-within g c = half-within _ _ _ c.args.self.now _ _ _ _ (sym c.replace.ensures.value ∙ c.closed-opening.ensures) c.go_on.ensures.within

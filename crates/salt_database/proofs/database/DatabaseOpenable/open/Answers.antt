@@ -1,4 +1,4 @@
-use Rattle.salt_database.proofs.Halved.{closed-lies, closed-same, opens-at}
+use Rattle.salt_database.proofs.Halved.{closed-lies, half-within, opens-at}
 use Rattle.salt_database.proofs.database.DatabaseOpenable.open.Goals as goal
 use Rattle.std.proofs.lemmas.Result.{IfErr-weaker, IfOk-weaker}
 
@@ -16,11 +16,8 @@ pub returns-clause-lies : goal.returns-clause-lies
 returns-clause-lies g c = IfErr-weaker c.open.result _ _ (λ halt again other room p sound fallen lies.
     again other room p sound fallen (closed-lies _ _ _ room p c.args.self.now c.in-Closed.opening c.in-Closed.is lies)) c.open.ensures.lies
 
-pub returns-clause-asked : goal.returns-clause-asked
-returns-clause-asked g c = closed-same _ _ _ c.args.self.now c.in-Closed.opening c.open.new.self c.in-Closed.is c.open.ensures.asked
-
-pub returns-clause-shape : goal.returns-clause-shape
-returns-clause-shape g c = c.open.ensures.shape
+pub returns-clause-within : goal.returns-clause-within
+returns-clause-within g c = half-within _ _ _ c.args.self.now _ _ _ _ c.in-Closed.is c.open.ensures.within
 
 pub returns-clause-counts : goal.returns-clause-counts
 returns-clause-counts g c = c.open.ensures.counts

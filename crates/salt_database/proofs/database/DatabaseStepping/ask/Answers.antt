@@ -1,4 +1,4 @@
-use Rattle.salt_database.proofs.Halved.{at-open, open-idle, open-same}
+use Rattle.salt_database.proofs.Halved.{at-open, half-within, open-idle}
 use Rattle.salt_database.proofs.database.DatabaseStepping.ask.Goals as goal
 use Rattle.std.proofs.lemmas.Result.{IfErr-weaker, IfOk-weaker}
 
@@ -24,11 +24,11 @@ ask-requires-clause-answers g c = c.requires.answers
 pub ask-requires-clause-served : goal.ask-requires-clause-served
 ask-requires-clause-served g c = c.requires.served
 
-pub returns-clause-asked : goal.returns-clause-asked
-returns-clause-asked g c = open-same _ _ _ c.args.self.now c.in-Open.engine c.ask.new.self c.in-Open.is c.ask.ensures.asked
-
-pub returns-clause-shape : goal.returns-clause-shape
-returns-clause-shape g c = c.ask.ensures.shape
+pub returns-clause-within : goal.returns-clause-within
+returns-clause-within g c = half-within _ _ _ c.args.self.now _ _ _ _ c.in-Open.is c.ask.ensures.within
 
 pub returns-clause-counts : goal.returns-clause-counts
 returns-clause-counts g c = c.ask.ensures.counts
+
+pub returns-clause-refused : goal.returns-clause-refused
+returns-clause-refused g c = c.ask.ensures.refused

@@ -1,5 +1,5 @@
 use Rattle.salt_ast.specs.declared.lines.Line.TheVariants.{Nothing}
-use Rattle.salt_database.proofs.Halved.{at-open, open-idle, open-same}
+use Rattle.salt_database.proofs.Halved.{at-open, half-within, open-idle}
 use Rattle.salt_database.proofs.database.DatabaseStepping.ask_rejected.Goals as goal
 use Rattle.std.proofs.lemmas.Result.{IfErr-weaker, IfOk-weaker}
 
@@ -15,11 +15,11 @@ pub returns-clause-halts : goal.returns-clause-halts
 returns-clause-halts g c =
     IfErr-weaker c.ask_rejected.result _ _ (λ halt halts p sound at. halts p sound (open-idle _ _ _ c.args.self.now c.in-Open.engine p c.in-Open.is at)) c.ask_rejected.ensures.halts
 
-pub returns-clause-asked : goal.returns-clause-asked
-returns-clause-asked g c = open-same _ _ _ c.args.self.now c.in-Open.engine c.ask_rejected.new.self c.in-Open.is c.ask_rejected.ensures.asked
-
-pub returns-clause-shape : goal.returns-clause-shape
-returns-clause-shape g c = c.ask_rejected.ensures.shape
+pub returns-clause-within : goal.returns-clause-within
+returns-clause-within g c = half-within _ _ _ c.args.self.now _ _ _ _ c.in-Open.is c.ask_rejected.ensures.within
 
 pub returns-clause-counts : goal.returns-clause-counts
 returns-clause-counts g c = c.ask_rejected.ensures.counts
+
+pub returns-clause-unwritten : goal.returns-clause-unwritten
+returns-clause-unwritten g c = c.ask_rejected.ensures.unwritten

@@ -1,4 +1,4 @@
-use Rattle.salt_database.proofs.Halved.{at-open, open-at, open-same}
+use Rattle.salt_database.proofs.Halved.{at-open, half-within, open-at}
 use Rattle.salt_database.proofs.database.DatabaseStepping.say.Goals as goal
 use Rattle.std.proofs.lemmas.Result.{IfOk-weaker}
 
@@ -18,14 +18,14 @@ say-requires-clause-callable g c = c.requires.callable
 pub say-requires-clause-answers : goal.say-requires-clause-answers
 say-requires-clause-answers g c = c.requires.answers
 
-pub returns-clause-asked : goal.returns-clause-asked
-returns-clause-asked g c = open-same _ _ _ c.args.self.now c.in-Open.engine c.say.new.self c.in-Open.is c.say.ensures.asked
-
-pub returns-clause-shape : goal.returns-clause-shape
-returns-clause-shape g c = c.say.ensures.shape
+pub returns-clause-within : goal.returns-clause-within
+returns-clause-within g c = half-within _ _ _ c.args.self.now _ _ _ _ c.in-Open.is c.say.ensures.within
 
 pub returns-clause-counts : goal.returns-clause-counts
 returns-clause-counts g c = c.say.ensures.counts
 
 pub returns-clause-tells : goal.returns-clause-tells
 returns-clause-tells g c = c.say.ensures.tells
+
+pub returns-clause-refused : goal.returns-clause-refused
+returns-clause-refused g c = c.say.ensures.refused

@@ -1,4 +1,4 @@
-use Rattle.salt_database.proofs.Halved.{at-open, open-at, open-same}
+use Rattle.salt_database.proofs.Halved.{at-open, half-within, open-at}
 use Rattle.salt_database.proofs.database.DatabaseStepping.turn.Goals as goal
 use Rattle.std.proofs.lemmas.Result.{IfErr-weaker, IfOk-weaker}
 
@@ -22,11 +22,8 @@ turn-requires-clause-callable g c = c.requires.callable
 pub turn-requires-clause-answers : goal.turn-requires-clause-answers
 turn-requires-clause-answers g c = c.requires.answers
 
-pub returns-clause-asked : goal.returns-clause-asked
-returns-clause-asked g c = open-same _ _ _ c.args.self.now c.in-Open.engine c.turn.new.self c.in-Open.is c.turn.ensures.asked
-
-pub returns-clause-shape : goal.returns-clause-shape
-returns-clause-shape g c = c.turn.ensures.shape
+pub returns-clause-within : goal.returns-clause-within
+returns-clause-within g c = half-within _ _ _ c.args.self.now _ _ _ _ c.in-Open.is c.turn.ensures.within
 
 pub returns-clause-counts : goal.returns-clause-counts
 returns-clause-counts g c = c.turn.ensures.counts

@@ -31,11 +31,8 @@ done-requires-clause-there g c = act-there _ _ c.args.recovery c.args.asking c.r
 pub done-requires-clause-leaves_keys : goal.done-requires-clause-leaves_keys
 done-requires-clause-leaves_keys g c = act-leaves _ _ c.args.recovery c.args.asking c.requires.ready.0 c.requires.ready.1
 
-pub break_off-requires-clause-lost : goal.break_off-requires-clause-lost
-break_off-requires-clause-lost g c = c.requires.lost
-
-pub break_off-requires-clause-none : goal.break_off-requires-clause-none
-break_off-requires-clause-none g c = c.requires.none
+pub break_off-requires : goal.break_off-requires
+break_off-requires g c = c.requires.lost
 
 pub returns-in_ok-event-in-Ok-clause-comes : goal.returns-in_ok-event-in-Ok-clause-comes
 returns-in_ok-event-in-Ok-clause-comes g c = λ s h.
@@ -66,13 +63,13 @@ returns-in_err-event-in-Ok-clause-short g c =
 pub returns-in_err-event-in-Ok-clause-comes : goal.returns-in_err-event-in-Ok-clause-comes
 returns-in_err-event-in-Ok-clause-comes g c = λ s h.
     comes-lost _ _ _ _ _ _ _ s c.from_residual.result c.from_residual.ensures.1 (c.stands.ensures.stays s.units.kept (c.in-Ok.ensures.stored s.units h.stored).holding)
-    (record { there = c.requires.lost; none = c.requires.none })
+    (record { there = c.requires.lost; flies = inl c.requires.none })
 
 pub returns-in_err-event-in-Ok-clause-stays : goal.returns-in_err-event-in-Ok-clause-stays
-returns-in_err-event-in-Ok-clause-stays g c = record { noted = refl; asked = c.load.ensures.asked; shape = c.load.ensures.shape }
+returns-in_err-event-in-Ok-clause-stays g c = record { noted = refl; within = c.load.ensures.within }
 
 pub returns-in_ok-event-in-Ok-clause-stays : goal.returns-in_ok-event-in-Ok-clause-stays
-returns-in_ok-event-in-Ok-clause-stays g c = record { noted = refl; asked = c.load.ensures.asked; shape = c.load.ensures.shape }
+returns-in_ok-event-in-Ok-clause-stays g c = record { noted = refl; within = c.load.ensures.within }
 
 pub returns-in_ok-event-in-Ok-clause-cause : goal.returns-in_ok-event-in-Ok-clause-cause
 returns-in_ok-event-in-Ok-clause-cause g c = c.in-Ok.ensures.cause
@@ -85,11 +82,11 @@ returns-in-Err-clause-comes g c = λ s h.
     let x = c.args.recovery in
     let a = c.args.asking in
     broken-as _ _ _ _ _ s.units c.in-Err.halt c.break_off.result c.break_off.ensures.halt
-    (act-breaks _ _ x a s h _ _ _ _ _ c.into_books.result c.into_books.ensures
+    (act-breaks _ _ x a s h _ _ _ _ _ c.requires.none c.into_books.result c.into_books.ensures
     (c.in-Err.ensures.undone s.units (act-unit _ _ x a s h) (act-before _ _ x a s h c.books.result.now c.books.ensures) (act-asked _ _ x a s h)) c.break_off.ensures.broken)
 
 pub returns-in-Err-clause-stays : goal.returns-in-Err-clause-stays
-returns-in-Err-clause-stays g c = record { noted = refl; asked = c.load.ensures.asked; shape = c.load.ensures.shape }
+returns-in-Err-clause-stays g c = record { noted = refl; within = c.load.ensures.within }
 
 pub returns-in-Err-clause-cause : goal.returns-in-Err-clause-cause
 returns-in-Err-clause-cause g c = cause-told _ _ c.in-Err.halt c.break_off.result c.break_off.ensures.halt c.in-Err.ensures.cause

@@ -26,11 +26,8 @@ commit-requires-clause-ready g c =
 pub committed-requires : goal.committed-requires
 committed-requires g c = commit-there _ _ c.args.recovery c.args.unit c.requires.ready.0 c.requires.ready.1
 
-pub break_off-requires-clause-lost : goal.break_off-requires-clause-lost
-break_off-requires-clause-lost g c = c.requires.lost
-
-pub break_off-requires-clause-none : goal.break_off-requires-clause-none
-break_off-requires-clause-none g c = c.requires.none
+pub break_off-requires : goal.break_off-requires
+break_off-requires g c = c.requires.lost
 
 pub returns-in_ok-event-in-Ok-clause-comes : goal.returns-in_ok-event-in-Ok-clause-comes
 returns-in_ok-event-in-Ok-clause-comes g c = λ s h.
@@ -38,7 +35,7 @@ returns-in_ok-event-in-Ok-clause-comes g c = λ s h.
     let u = c.args.unit in
     let o = commit-unit _ _ x u s h in
     let done = c.in-Ok.ensures.committed s.units o (commit-before _ _ x u s h c.books.result.now c.books.ensures) (commit-named _ _ x u s h) in
-    commit-performs _ _ x u s h _ _ _ _ c.committed.new.self c.in_ok-event-in-Ok.event c.requires.none refl done.stored
+    commit-performs _ _ x u s h _ _ _ c.committed.new.self c.in_ok-event-in-Ok.event refl done.stored
     (c.in_ok-event-in-Ok.ensures s o (commit-stands _ _ x u s h) (recovers _ _ x (Commit u) s h (commit-stands _ _ x u s h)) (commit-named _ _ x u s h) done.moves)
 
 pub returns-in_err-event-in-Ok-clause-comes : goal.returns-in_err-event-in-Ok-clause-comes
@@ -47,13 +44,13 @@ returns-in_err-event-in-Ok-clause-comes g c = λ s h.
     let u = c.args.unit in
     let done = c.in-Ok.ensures.committed s.units (commit-unit _ _ x u s h) (commit-before _ _ x u s h c.books.result.now c.books.ensures) (commit-named _ _ x u s h) in
     comes-broken _ _ _ _ _ _ _ s _ c.from_residual.result c.from_residual.ensures.1
-    (commit-lost _ _ x u s h _ _ _ _ (c.stands.ensures.stays _ done.stored.holding) c.requires.lost c.requires.none)
+    (commit-lost _ _ x u s h _ _ _ (c.stands.ensures.stays _ done.stored.holding) c.requires.lost)
 
 pub returns-in_err-event-in-Ok-clause-stays : goal.returns-in_err-event-in-Ok-clause-stays
-returns-in_err-event-in-Ok-clause-stays g c = record { noted = refl; asked = c.commit.ensures.asked; shape = c.commit.ensures.shape }
+returns-in_err-event-in-Ok-clause-stays g c = record { noted = refl; within = c.commit.ensures.within }
 
 pub returns-in_ok-event-in-Ok-clause-stays : goal.returns-in_ok-event-in-Ok-clause-stays
-returns-in_ok-event-in-Ok-clause-stays g c = record { noted = refl; asked = c.commit.ensures.asked; shape = c.commit.ensures.shape }
+returns-in_ok-event-in-Ok-clause-stays g c = record { noted = refl; within = c.commit.ensures.within }
 
 pub returns-in_ok-event-in-Ok-clause-cause : goal.returns-in_ok-event-in-Ok-clause-cause
 returns-in_ok-event-in-Ok-clause-cause g c = c.in-Ok.ensures.cause
@@ -66,11 +63,11 @@ returns-in-Err-clause-comes g c = λ s h.
     let x = c.args.recovery in
     let u = c.args.unit in
     broken-as _ _ _ _ _ s.units c.in-Err.halt c.break_off.result c.break_off.ensures.halt
-    (commit-breaks _ _ x u s h _ _ _ _ _ c.into_books.result c.into_books.ensures
+    (commit-breaks _ _ x u s h _ _ _ _ c.into_books.result c.into_books.ensures
     (c.in-Err.ensures.undone s.units (commit-unit _ _ x u s h) (commit-before _ _ x u s h c.books.result.now c.books.ensures) (commit-named _ _ x u s h)) c.break_off.ensures.broken)
 
 pub returns-in-Err-clause-stays : goal.returns-in-Err-clause-stays
-returns-in-Err-clause-stays g c = record { noted = refl; asked = c.commit.ensures.asked; shape = c.commit.ensures.shape }
+returns-in-Err-clause-stays g c = record { noted = refl; within = c.commit.ensures.within }
 
 pub returns-in-Err-clause-cause : goal.returns-in-Err-clause-cause
 returns-in-Err-clause-cause g c = cause-told _ _ c.in-Err.halt c.break_off.result c.break_off.ensures.halt c.in-Err.ensures.cause

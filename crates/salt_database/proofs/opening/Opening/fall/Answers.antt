@@ -16,7 +16,7 @@ restart-requires g c =
 
 pub returns-clause-lies : goal.returns-clause-lies
 returns-clause-lies g c = λ room p q lies fell.
-    fallen-lies _ _ _ _ _ _ _ _ _ _ _ room p q lies fell c.restart.ensures.shape.can_stop c.stands.ensures.stays c.restart.ensures.leaves
+    fallen-lies _ _ _ _ _ _ _ _ _ _ _ room p q lies fell c.restart.ensures.within.shape.can_stop c.stands.ensures.stays c.restart.ensures.leaves
     (λ s why k. c.fallen.ensures.books s why (subst (λ (stage : Stage Recovery). KnowsUnits (opening_books stage) s) (sym c.replace.ensures.value) k))
 
 pub returns-clause-settled : goal.returns-clause-settled
@@ -27,11 +27,8 @@ returns-clause-settled g c =
     down-finds _ _ _ _ c.fallen.ensures.down (c.fallen.ensures.books units Stopped (subst (λ (stage : Stage Recovery). KnowsUnits (opening_books stage) units) (sym c.replace.ensures.value) l.1.1.knows))
     c.restart.ensures.settled (e.0, e.1, c.restart.ensures.leaves e.0 e.1 e.2)
 
-pub returns-clause-asked : goal.returns-clause-asked
-returns-clause-asked g c = c.restart.ensures.asked
-
-pub returns-clause-shape : goal.returns-clause-shape
-returns-clause-shape g c = c.restart.ensures.shape
+pub returns-clause-within : goal.returns-clause-within
+returns-clause-within g c = c.restart.ensures.within
 
 pub returns-clause-faults : goal.returns-clause-faults
 returns-clause-faults g c = c.restart.ensures.faults

@@ -1,11 +1,11 @@
-use Rattle.salt_database.proofs.FindDone.{again-found, broken-books, can-find, either-way, found-lies, left-behind, left-found, left-still, lies-still, was-found}
+use Rattle.salt_database.proofs.FindDone.{again-found, alone-there, broken-books, can-find, either-way, found-lies, left-behind, left-found, left-still, lies-still, was-found}
 use Rattle.salt_database.proofs.Spent.{may-fail-at}
 use Rattle.salt_database.proofs.opening.Opening.find.Goals as goal
 use Rattle.salt_engine.proofs.Counted.{same-cause}
-use Rattle.salt_engine.proofs.Outcome.{shape-same}
 use Rattle.salt_engine.specs.Flights.{flight_of}
 use Rattle.salt_steps.proofs.Counted.{counts-cause}
-use Rattle.std.proofs.Common.{ap, refl}
+use Rattle.salt_storage.proofs.Staying.{stays-same}
+use Rattle.std.proofs.Common.{[], ap, refl}
 use Rattle.std.proofs.lemmas.Result.{IfErr-weaker, on_ok_weaker}
 
 -- BEHIND A FALL
@@ -29,7 +29,7 @@ pub returns-in-None-clause-again : goal.returns-in-None-clause-again
 returns-in-None-clause-again g c = λ other room p sound fallen lies.
     let h = can-find _ _ c.args.self.now.found c.args.self.now.stage c.in-None.is c.requires.settled in
     let b = broken-books c.args.self.now.stage h.2 in
-    let same = c.find_behind.ensures.shape.can_stop in
+    let same = c.find_behind.ensures.within.shape.can_stop in
     either-way c.find_behind.result _ _ _
     (λ f. found-lies _ _ _ _ _ _ _ _ _ _ _ _ _ _ c.in-None.is c.find_behind.ensures.stage room p lies b.0 (λ l m left. f b.0 l m b.1 left) same c.find_behind.ensures.single c.find_behind.ensures.flies)
     (λ unfound leaves. lies-still _ _ _ _ _ _ _ _ _ _ _ _ _ _ c.in-None.is c.find_behind.ensures.stage room p lies unfound leaves same c.find_behind.ensures.single c.find_behind.ensures.flies)
@@ -47,21 +47,25 @@ returns-in-None-clause-left g c = λ room p sound fallen lies.
     let stoppable = (view c.find_behind.new.disks).can_stop in
     let single = c.find_behind.new.self.single in
     let in_flight = c.find_behind.new.self.in_flight in
-    either-way c.find_behind.result _ _ _
-    (λ f. left-found holds now leaves again _ stoppable _ c.find_behind.new.self.found _ _ _ single _ in_flight c.in-None.is c.find_behind.ensures.stage room p lies b.0 (λ l m left. f b.0 l m b.1 left))
-    (λ unfound more. left-still holds now leaves again _ stoppable _ c.find_behind.new.self.found _ _ _ single _ in_flight c.in-None.is c.find_behind.ensures.stage room p lies unfound more)
-    c.find_behind.ensures.found c.find_behind.ensures.unfound c.find_behind.ensures.leaves
+    let flies = c.find_behind.ensures.flies in (
+      either-way c.find_behind.result _ _ _
+          (λ f. left-found holds now leaves again _ stoppable _ c.find_behind.new.self.found _ _ _ single _ in_flight c.in-None.is c.find_behind.ensures.stage room p lies flies b.0 (λ l m left. f b.0 l m b.1 left))
+          (λ unfound more. left-still holds now leaves again _ stoppable _ c.find_behind.new.self.found _ _ _ single _ in_flight c.in-None.is c.find_behind.ensures.stage room p lies flies unfound more)
+          c.find_behind.ensures.found c.find_behind.ensures.unfound c.find_behind.ensures.leaves,
+      alone-there holds now leaves again _ stoppable _ c.find_behind.new.self.found _ _ _ single _ in_flight c.in-None.is c.find_behind.ensures.stage room p lies
+          (g.S.Storage.rests (view c.find_behind.new.disks) c.find_behind.new.self.storage) c.find_behind.result c.find_behind.ensures.known,
+    )
 
 pub returns-in-None-clause-later : goal.returns-in-None-clause-later
 returns-in-None-clause-later g c = IfErr-weaker c.find_behind.result _ _ (λ e h room p sound fallen lies.
-    let l = left-behind _ _ c.args.self.now.found room p c.in-None.is lies.left in
-    may-fail-at c.args.self.now.in_flight room p l.0 l.1 e lies.flies l.3 l.4 (h l.0 l.1 l.2)) c.find_behind.ensures.known
+    let l = left-behind _ _ _ c.args.self.now.found room p c.in-None.is lies.left in
+    may-fail-at _ _ c.args.self.now.in_flight room p l.0 l.1 e lies.flies l.3 l.4 (h l.0 l.1 l.2)) c.find_behind.ensures.known
 
 pub returns-in-None-clause-flies : goal.returns-in-None-clause-flies
 returns-in-None-clause-flies g c = ap flight_of c.find_behind.ensures.flies
 
 pub returns-in-None-clause-counts : goal.returns-in-None-clause-counts
-returns-in-None-clause-counts g c = counts-cause _ _ _ 0 refl c.find_behind.ensures.cause
+returns-in-None-clause-counts g c = counts-cause _ _ _ [] refl c.find_behind.ensures.cause
 
 -- IT WAS FOUND already
 
@@ -72,10 +76,10 @@ pub returns-in-Some-clause-again : goal.returns-in-Some-clause-again
 returns-in-Some-clause-again g c = λ other room p sound fallen lies. lies
 
 pub returns-in-Some-clause-left : goal.returns-in-Some-clause-left
-returns-in-Some-clause-left g c = λ room p sound fallen lies. lies.left
+returns-in-Some-clause-left g c = λ room p sound fallen lies. (lies.left, tt)
 
 pub returns-in-Some-clause-counts : goal.returns-in-Some-clause-counts
-returns-in-Some-clause-counts g c = counts-cause _ _ _ 0 refl (same-cause (g.D.Disks.view c.args.disks.now))
+returns-in-Some-clause-counts g c = counts-cause _ _ _ [] refl (same-cause (g.D.Disks.view c.args.disks.now))
 
 pub find_behind-requires-clause-callable : goal.find_behind-requires-clause-callable
 find_behind-requires-clause-callable g c = c.requires.callable
@@ -83,20 +87,14 @@ find_behind-requires-clause-callable g c = c.requires.callable
 pub find_behind-requires-clause-answers : goal.find_behind-requires-clause-answers
 find_behind-requires-clause-answers g c = c.requires.answers
 
-pub returns-in-None-clause-asked : goal.returns-in-None-clause-asked
-returns-in-None-clause-asked g c = c.find_behind.ensures.asked
-
-pub returns-in-None-clause-shape : goal.returns-in-None-clause-shape
-returns-in-None-clause-shape g c = c.find_behind.ensures.shape
+pub returns-in-None-clause-within : goal.returns-in-None-clause-within
+returns-in-None-clause-within g c = c.find_behind.ensures.within
 
 pub returns-in-None-clause-full : goal.returns-in-None-clause-full
 returns-in-None-clause-full g c = c.find_behind.ensures.full
 
-pub returns-in-Some-clause-asked : goal.returns-in-Some-clause-asked
-returns-in-Some-clause-asked g c = refl
+pub returns-in-Some-clause-within : goal.returns-in-Some-clause-within
+returns-in-Some-clause-within g c = stays-same _ (g.D.Disks.view c.args.disks.now)
 
 pub returns-in-Some-clause-flies : goal.returns-in-Some-clause-flies
 returns-in-Some-clause-flies g c = refl
-
-pub returns-in-Some-clause-shape : goal.returns-in-Some-clause-shape
-returns-in-Some-clause-shape g c = shape-same (g.D.Disks.view c.args.disks.now)

@@ -25,11 +25,8 @@ returns-in_err-numbers-clause-single g c = refl
 pub returns-in_err-numbers-clause-flies : goal.returns-in_err-numbers-clause-flies
 returns-in_err-numbers-clause-flies g c = refl
 
-pub returns-in_err-numbers-clause-asked : goal.returns-in_err-numbers-clause-asked
-returns-in_err-numbers-clause-asked g c = c.reopen.ensures.asked
-
-pub returns-in_err-numbers-clause-shape : goal.returns-in_err-numbers-clause-shape
-returns-in_err-numbers-clause-shape g c = c.reopen.ensures.shape
+pub returns-in_err-numbers-clause-within : goal.returns-in_err-numbers-clause-within
+returns-in_err-numbers-clause-within g c = c.reopen.ensures.within
 
 pub returns-clause-stage : goal.returns-clause-stage
 returns-clause-stage g c = refl
@@ -40,11 +37,8 @@ returns-clause-single g c = refl
 pub returns-clause-flies : goal.returns-clause-flies
 returns-clause-flies g c = refl
 
-pub returns-clause-asked : goal.returns-clause-asked
-returns-clause-asked g c = c.reopen.ensures.asked
-
-pub returns-clause-shape : goal.returns-clause-shape
-returns-clause-shape g c = c.reopen.ensures.shape
+pub returns-clause-within : goal.returns-clause-within
+returns-clause-within g c = c.reopen.ensures.within
 
 pub returns-clause-cause : goal.returns-clause-cause
 returns-clause-cause g c = c.in_ok-numbers.ensures.cause

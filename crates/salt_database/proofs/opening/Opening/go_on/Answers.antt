@@ -8,7 +8,7 @@ use Rattle.salt_engine.specs.Standing.{IsGoingStage}
 use Rattle.salt_steps.proofs.Counted.{counts-cause}
 use Rattle.std.proofs.Common.{ap, inl, refl, subst, sym, ◌∙◌}
 use Rattle.std.proofs.lemmas.Result.{err_from_is_err_and}
-use Rattle.std.specs.Prelude.{Some}
+use Rattle.std.specs.Prelude.{Some, []}
 
 pub going-recovery-requires : goal.going-recovery-requires
 going-recovery-requires g c =
@@ -17,7 +17,7 @@ going-recovery-requires g c =
     subst IsGoingStage (sym c.replace.ensures.value) (opens-now _ _ c.args.self.now.stage (Some c.args.event) p.state at.state.0.seen)
 
 pub go_on_in_opening-requires-clause-none : goal.go_on_in_opening-requires-clause-none
-go_on_in_opening-requires-clause-none g c = c.requires.stands.2.state.0.none
+go_on_in_opening-requires-clause-none g c = refl
 
 pub go_on_in_opening-requires-clause-stands : goal.go_on_in_opening-requires-clause-stands
 go_on_in_opening-requires-clause-stands g c =
@@ -38,14 +38,14 @@ returns-then-ready-clause-moves g c = λ p sound at.
     let d = done-ready x e p.state h.0 is h.1 in
     let comes = comes-ready p e is at.comes in
     says-ready _ _ e p is (ready-idles x p sound h.0 d comes at.opening _ _
-    (ready-sees x p sound h.0 d comes at.opening _ _ _ _ _ _ _ _ refl h.2 at.state.0.can_stop refl at.state.0.line refl at.state.0.none, at.state.1))
+    (ready-sees x p sound h.0 d comes at.opening _ _ _ _ _ _ _ _ refl h.2 at.state.0.can_stop refl at.state.0.line refl refl, at.state.1))
 
 pub returns-then-ready-clause-less : goal.returns-then-ready-clause-less
 returns-then-ready-clause-less g c =
     ready-less _ _ c.going-recovery.result c.going-recovery.result c.args.event (sym c.replace.ensures.value ∙ c.going-recovery.ensures) (ready-is c.args.event (sym c.is_ready-ready.ensures ∙ c.if-ready.true)) refl
 
 pub returns-then-ready-clause-counts : goal.returns-then-ready-clause-counts
-returns-then-ready-clause-counts g c = counts-same _ 0 refl
+returns-then-ready-clause-counts g c = counts-same _ [] refl
 
 pub returns-in_ok-go_on_in_opening-clause-moves : goal.returns-in_ok-go_on_in_opening-clause-moves
 returns-in_ok-go_on_in_opening-clause-moves g c = λ p sound at.
@@ -56,7 +56,7 @@ returns-in_ok-go_on_in_opening-clause-moves g c = λ p sound at.
     let h = opened-at _ _ _ _ _ p.state there at.state.0.seen in
     let d = c.in_ok-go_on_in_opening.ensures.comes h.0 (goes-on x e p sound h.0 h.1 at.comes going _ _ h.2) in
     opens-there x e p sound h.0 h.1 at.comes going _ _ _ (
-      (opened-on x e p sound h.0 h.1 at.comes going _ _ _ _ _ _ _ _ _ d at.state.0.can_stop c.go_on_in_opening.ensures.stays.shape.can_stop at.state.0.line (ap (λ n. n.0) c.go_on_in_opening.ensures.stays.noted)).0,
+      (opened-on x e p sound h.0 h.1 at.comes going _ _ _ _ _ _ _ _ _ d at.state.0.can_stop c.go_on_in_opening.ensures.stays.within.shape.can_stop at.state.0.line (ap (λ n. n.0) c.go_on_in_opening.ensures.stays.noted)).0,
       (ap (λ n. n.1) c.go_on_in_opening.ensures.stays.noted) ∙ at.state.1,
     ) d.told
 
@@ -74,7 +74,7 @@ returns-in_ok-go_on_in_opening-clause-less g c =
     opening-less _ _ _ _ x e _ p sound h.0 h.1 at.comes going there d.sees (c.stands.ensures.sound h.0.units.kept h.2.holding) d.told
 
 pub returns-in_ok-go_on_in_opening-clause-counts : goal.returns-in_ok-go_on_in_opening-clause-counts
-returns-in_ok-go_on_in_opening-clause-counts g c = counts-cause _ _ _ 0 refl c.in_ok-go_on_in_opening.ensures.cause
+returns-in_ok-go_on_in_opening-clause-counts g c = counts-cause _ _ _ [] refl c.in_ok-go_on_in_opening.ensures.cause
 
 pub returns-in_err-go_on_in_opening-clause-halts : goal.returns-in_err-go_on_in_opening-clause-halts
 returns-in_err-go_on_in_opening-clause-halts g c =
@@ -86,13 +86,13 @@ returns-in_err-go_on_in_opening-clause-halts g c =
     let going = sym c.is_ready-ready.ensures ∙ c.if-ready.false in
     let h = opened-at _ _ _ _ _ p.state there at.state.0.seen in
     let b = c.in_err-go_on_in_opening.ensures.comes h.0 (goes-on x e p sound h.0 h.1 at.comes going _ _ h.2) in
-    opens-halts x e p sound h.0 h.1 at.comes going _ _ _ _ _ _ _ ((ap (λ n. n.1) c.go_on_in_opening.ensures.stays.noted) ∙ at.state.1) _ _ _ _ c.args.story.now c.push.new.self b at.state.0.can_stop c.go_on_in_opening.ensures.stays.shape.can_stop at.state.0.line
+    opens-halts x e p sound h.0 h.1 at.comes going _ _ _ _ _ _ _ ((ap (λ n. n.1) c.go_on_in_opening.ensures.stays.noted) ∙ at.state.1) _ _ _ _ c.args.story.now c.push.new.self b at.state.0.can_stop c.go_on_in_opening.ensures.stays.within.shape.can_stop at.state.0.line
     (ap (λ n. n.0) c.go_on_in_opening.ensures.stays.noted) (c.stands.ensures.sound h.0.units.kept h.2.holding) c.in_ok-push.ensures.ok)
 
 pub returns-in_err-go_on_in_opening-clause-counts : goal.returns-in_err-go_on_in_opening-clause-counts
 returns-in_err-go_on_in_opening-clause-counts g c =
     let q = err_from_is_err_and c.from_residual-in_err-go_on_in_opening.result c.from_residual-in_err-go_on_in_opening.ensures.1 in
-    rw (q.1, q.2) (counts-cause _ _ _ 0 refl c.in_err-go_on_in_opening.ensures.cause)
+    rw (q.1, q.2) (counts-cause _ _ _ [] refl c.in_err-go_on_in_opening.ensures.cause)
 
 pub returns-in_err-push-clause-halts : goal.returns-in_err-push-clause-halts
 returns-in_err-push-clause-halts g c =
@@ -101,12 +101,12 @@ returns-in_err-push-clause-halts g c =
     let there = sym c.replace.ensures.value ∙ c.going-recovery.ensures in
     let h = opened-at _ _ _ _ _ p.state there at.state.0.seen in
     untold-lost c.going-recovery.result c.args.event p sound h.0 h.1 at.comes at.opening _ _ _ _ _ at.state.1 _ _ _ c.args.story.now c.push.new.self
-    (c.stands.ensures.stays h.0.units.kept h.2.holding) (record { there = c.replace.ensures.after; none = at.state.0.none }) c.in_err-push.ensures.err)
+    (c.stands.ensures.stays h.0.units.kept h.2.holding) c.replace.ensures.after at.state.0.flies c.in_err-push.ensures.err)
 
 pub returns-in_err-push-clause-counts : goal.returns-in_err-push-clause-counts
 returns-in_err-push-clause-counts g c =
     let q = err_from_is_err_and c.from_residual.result c.from_residual.ensures.1 in
-    rw (q.1, q.2) (counts-cause _ _ _ 0 refl (cause-lost _ _ (same-cause (g.D.Disks.view c.args.disks.now))))
+    rw (q.1, q.2) (counts-cause _ _ _ [] refl (cause-lost _ _ (same-cause (g.D.Disks.view c.args.disks.now))))
 
 pub returns-in_err-go_on_in_opening-clause-short : goal.returns-in_err-go_on_in_opening-clause-short
 returns-in_err-go_on_in_opening-clause-short g c =
@@ -125,17 +125,11 @@ returns-in_err-push-clause-short g c =
     let q = err_from_is_err_and c.from_residual.result c.from_residual.ensures.1 in
     rw q.1 (λ p sound at. inl refl)
 
-pub returns-in_ok-go_on_in_opening-clause-asked : goal.returns-in_ok-go_on_in_opening-clause-asked
-returns-in_ok-go_on_in_opening-clause-asked g c = c.go_on_in_opening.ensures.stays.asked
+pub returns-in_ok-go_on_in_opening-clause-within : goal.returns-in_ok-go_on_in_opening-clause-within
+returns-in_ok-go_on_in_opening-clause-within g c = c.go_on_in_opening.ensures.stays.within
 
-pub returns-in_ok-go_on_in_opening-clause-shape : goal.returns-in_ok-go_on_in_opening-clause-shape
-returns-in_ok-go_on_in_opening-clause-shape g c = c.go_on_in_opening.ensures.stays.shape
-
-pub returns-in_err-go_on_in_opening-clause-asked : goal.returns-in_err-go_on_in_opening-clause-asked
-returns-in_err-go_on_in_opening-clause-asked g c = c.go_on_in_opening.ensures.stays.asked
-
-pub returns-in_err-go_on_in_opening-clause-shape : goal.returns-in_err-go_on_in_opening-clause-shape
-returns-in_err-go_on_in_opening-clause-shape g c = c.go_on_in_opening.ensures.stays.shape
+pub returns-in_err-go_on_in_opening-clause-within : goal.returns-in_err-go_on_in_opening-clause-within
+returns-in_err-go_on_in_opening-clause-within g c = c.go_on_in_opening.ensures.stays.within
 
 pub go_on_in_opening-requires-clause-callable : goal.go_on_in_opening-requires-clause-callable
 go_on_in_opening-requires-clause-callable g c = c.requires.callable

@@ -7,7 +7,7 @@ use Rattle.salt_steps.proofs.Counted.{counts-cause}
 use Rattle.salt_storage.specs.Storing.{booted}
 use Rattle.std.proofs.Common.{ap, inl, inr, refl, subst, sym, ◌∙◌}
 use Rattle.std.proofs.lemmas.Result.{IfErr-weaker, IfOk-weaker, on_err_weaker}
-use Rattle.std.specs.Prelude.{None}
+use Rattle.std.specs.Prelude.{None, []}
 
 pub unreachable-requires : goal.unreachable-requires
 unreachable-requires g c = never-found c.args.self.now.found c.args.self.now.stage c.in_default.not-Some c.requires.found
@@ -38,7 +38,7 @@ open_boot-requires-clause-opened g c =
     (p.flight, p.state, _, begun-by _ _ _ _ _ _ _ _ _ c.in-Some.is there room p lies sound fallen c.in-Ok.boot next)
 
 pub returns-in-Ok-clause-opens : goal.returns-in-Ok-clause-opens
-returns-in-Ok-clause-opens g c = ok-with c.open_boot.result _ _ _ _ (λ next o none tells room p sound fallen lies.
+returns-in-Ok-clause-opens g c = ok-with c.open_boot.result _ _ _ (λ next o tells room p sound fallen lies.
     let there = sym c.replace.ensures.value ∙ c.down-books.ensures in
     let k = kept-found _ _ _ _ _ _ _ _ _ c.in-Some.is there room p lies in
     let holding = holding-found _ _ _ _ _ _ _ _ _ c.in-Some.is there room p lies in
@@ -47,23 +47,23 @@ returns-in-Ok-clause-opens g c = ok-with c.open_boot.result _ _ _ _ (λ next o n
     let w = o p.flight p.state _ (begun-by _ _ _ _ _ _ _ _ _ c.in-Some.is there room p lies sound fallen c.in-Ok.boot next_boot) in
     let view = g.D.Disks.view in
     let same = sym c.open_boot.ensures.storage in
-    opening-at p sound fallen room k _ c.in-Ok.boot f next_boot _ c.open_boot.new.self next _ _ _ w (
+    opening-at p sound fallen room k _ c.in-Ok.boot f next_boot _ c.open_boot.new.self next _ _ _ _ w (
       opening-sees p sound fallen room k _ c.in-Ok.boot f next_boot _ _ _ _ _ _ _ _ next w
           (subst (λ (st : g.row.S.Denot). g.S.Storage.holds (view c.boot.new.disks) st (booted k)) same (c.in-Ok.ensures.holds k holding))
-          (λ u is. subst (λ (st : g.row.S.Denot). g.S.Storage.is_new (view c.boot.new.disks) st u) same (c.in-Ok.ensures.is_new u is)) lies.can_stop c.in-Ok.ensures.shape.can_stop lies.line
-          c.open_boot.ensures.single none,
+          (λ u is. subst (λ (st : g.row.S.Denot). g.S.Storage.is_new (view c.boot.new.disks) st u) same (c.in-Ok.ensures.is_new u is)) lies.can_stop c.in-Ok.ensures.within.shape.can_stop lies.line
+          c.open_boot.ensures.single,
       c.open_boot.ensures.found,
-    ) tells) c.open_boot.ensures.opens c.open_boot.ensures.none c.open_boot.ensures.tells
+    ) tells) c.open_boot.ensures.opens c.open_boot.ensures.tells
 
 pub returns-in-Ok-clause-lies : goal.returns-in-Ok-clause-lies
 returns-in-Ok-clause-lies g c = IfErr-weaker c.open_boot.result _ _ (λ halt memory other room p sound fallen lies. absurd (other memory)) c.open_boot.ensures.memory
 
 pub returns-in-Ok-clause-left : goal.returns-in-Ok-clause-left
-returns-in-Ok-clause-left g c = rw c.open_boot.ensures.storage (on_err_weaker c.open_boot.result (λ lost room p sound fallen lies.
+returns-in-Ok-clause-left g c = rw c.open_boot.ensures.storage (on_err_weaker c.open_boot.result (λ flies room p sound fallen lies.
     let there = sym c.replace.ensures.value ∙ c.down-books.ensures in
     let k = kept-found _ _ _ _ _ _ _ _ _ c.in-Some.is there room p lies in
     let holding = holding-found _ _ _ _ _ _ _ _ _ c.in-Some.is there room p lies in
-    booted-left _ _ _ _ _ _ _ _ _ c.in-Some.is there room p lies _ _ _ _ _ c.open_boot.ensures.found (inr refl) (inr refl) (c.stands.ensures.stays _ (c.in-Ok.ensures.holds k holding))) c.open_boot.ensures.lost)
+    (booted-left _ _ _ _ _ _ _ _ _ c.in-Some.is there room p lies _ _ _ _ _ _ c.open_boot.ensures.found flies (inr refl) (inr refl) (c.stands.ensures.stays _ (c.in-Ok.ensures.holds k holding)), tt)) c.open_boot.ensures.flies)
 
 pub returns-in-Ok-clause-flies : goal.returns-in-Ok-clause-flies
 returns-in-Ok-clause-flies g c = on_err_weaker c.open_boot.result (λ same. ap flight_of same) c.open_boot.ensures.flies
@@ -85,26 +85,28 @@ returns-in-Ok-clause-unarmed g c = IfOk-weaker c.open_boot.result _ _ (λ next o
     first-unarmed p sound fallen room k _ c.in-Ok.boot (found-there _ _ _ _ _ _ _ _ _ c.in-Some.is there room p lies) next_boot next w.begins.told) c.open_boot.ensures.opens
 
 pub returns-in-Ok-clause-counts : goal.returns-in-Ok-clause-counts
-returns-in-Ok-clause-counts g c = counts-cause _ _ _ 0 refl (memory-cause _ _ c.open_boot.result c.open_boot.ensures.memory c.in-Ok.ensures.cause)
+returns-in-Ok-clause-counts g c = counts-cause _ _ _ [] refl (memory-cause _ _ c.open_boot.result c.open_boot.ensures.memory c.in-Ok.ensures.cause)
 
 pub returns-in-Err-clause-lies : goal.returns-in-Err-clause-lies
 returns-in-Err-clause-lies g c = λ other room p sound fallen lies.
     let there = sym c.replace.ensures.value ∙ c.down-books.ensures in
     let k = kept-found _ _ _ _ _ _ _ _ _ c.in-Some.is there room p lies in
     let holding = holding-found _ _ _ _ _ _ _ _ _ c.in-Some.is there room p lies in
-    down-lies _ _ _ _ _ _ _ _ _ c.in-Some.is there room p lies _ _ _ _ _ _ _ refl refl (c.in-Err.ensures.leaves k holding) c.in-Err.ensures.shape.can_stop refl refl
+    down-lies _ _ _ _ _ _ _ _ _ c.in-Some.is there room p lies _ _ _ _ _ _ _ refl refl (c.in-Err.ensures.leaves k holding) c.in-Err.ensures.within.shape.can_stop refl refl
 
 pub returns-in-Err-clause-left : goal.returns-in-Err-clause-left
 returns-in-Err-clause-left g c = λ room p sound fallen lies.
     let view = g.D.Disks.view in
     let there = sym c.replace.ensures.value ∙ c.down-books.ensures in
     let k = kept-found _ _ _ _ _ _ _ _ _ c.in-Some.is there room p lies in
-    let holding = holding-found _ _ _ _ _ _ _ _ _ c.in-Some.is there room p lies in
-    booted-left _ _ _ _ _ _ _ _ _ c.in-Some.is there room p lies (g.S.Storage.holds (view c.boot.new.disks) c.boot.new.self) (g.S.Storage.leaves (view c.boot.new.disks) c.boot.new.self)
-    None k (booted k) refl (inl refl) (inr refl) (c.in-Err.ensures.leaves k holding)
+    let holding = holding-found _ _ _ _ _ _ _ _ _ c.in-Some.is there room p lies in (
+      booted-left _ _ _ _ _ _ _ _ _ c.in-Some.is there room p lies (g.S.Storage.holds (view c.boot.new.disks) c.boot.new.self) (g.S.Storage.leaves (view c.boot.new.disks) c.boot.new.self)
+          None c.args.self.now.in_flight k (booted k) refl refl (inl refl) (inr refl) (c.in-Err.ensures.leaves k holding),
+      tt,
+    )
 
 pub returns-in-Err-clause-counts : goal.returns-in-Err-clause-counts
-returns-in-Err-clause-counts g c = counts-cause _ _ _ 0 refl c.in-Err.ensures.cause
+returns-in-Err-clause-counts g c = counts-cause _ _ _ [] refl c.in-Err.ensures.cause
 
 pub open_boot-requires-clause-lost : goal.open_boot-requires-clause-lost
 open_boot-requires-clause-lost g c = c.replace.ensures.after
@@ -112,17 +114,11 @@ open_boot-requires-clause-lost g c = c.replace.ensures.after
 pub returns-in-Ok-clause-untold : goal.returns-in-Ok-clause-untold
 returns-in-Ok-clause-untold g c = c.open_boot.ensures.untold
 
-pub returns-in-Ok-clause-asked : goal.returns-in-Ok-clause-asked
-returns-in-Ok-clause-asked g c = ap g.S.Storage.asked c.open_boot.ensures.storage ∙ c.boot.ensures.asked
+pub returns-in-Ok-clause-within : goal.returns-in-Ok-clause-within
+returns-in-Ok-clause-within g c = rw c.open_boot.ensures.storage c.boot.ensures.within
 
-pub returns-in-Ok-clause-shape : goal.returns-in-Ok-clause-shape
-returns-in-Ok-clause-shape g c = c.boot.ensures.shape
-
-pub returns-in-Err-clause-asked : goal.returns-in-Err-clause-asked
-returns-in-Err-clause-asked g c = c.boot.ensures.asked
-
-pub returns-in-Err-clause-shape : goal.returns-in-Err-clause-shape
-returns-in-Err-clause-shape g c = c.boot.ensures.shape
+pub returns-in-Err-clause-within : goal.returns-in-Err-clause-within
+returns-in-Err-clause-within g c = c.boot.ensures.within
 
 pub returns-in-Err-clause-flies : goal.returns-in-Err-clause-flies
 returns-in-Err-clause-flies g c = refl

@@ -5,8 +5,8 @@ use Rattle.salt_engine.proofs.LineDefines.{reads-there}
 use Rattle.salt_engine.proofs.Outcome.{comes-lost, stays-same}
 use Rattle.salt_engine.proofs.engine.Engine.arm.Goals as goal
 use Rattle.salt_model.specs.Words.{Every}
-use Rattle.std.proofs.Common.{ap, subst, sym, ◌∙◌}
-use Rattle.std.specs.Prelude.{length, refl, ℕ, ◌+◌, ◌≤◌}
+use Rattle.std.proofs.Common.{ap, inl, sym, subst, ◌∙◌}
+use Rattle.std.specs.Prelude.{List, [], refl, ℕ, ◌++◌, ◌≤◌}
 
 pub arm_each-requires-clause-able : goal.arm_each-requires-clause-able
 arm_each-requires-clause-able g c = arms-able _ _ _ c.args.line.now c.args.scheduler c.requires.ready.0 c.requires.ready.1 c.args.pairs.now c.requires.line
@@ -22,7 +22,7 @@ returns-in-Ok-clause-comes g c = λ s r h.
     (c.arm_each.ensures.stored s.units h.stored) r (c.armed-event.ensures s r h.stands h.allowed.serves)
 
 pub returns-in-Ok-clause-stays : goal.returns-in-Ok-clause-stays
-returns-in-Ok-clause-stays g c = record { noted = refl; asked = c.arm_each.ensures.asked; shape = c.arm_each.ensures.shape }
+returns-in-Ok-clause-stays g c = record { noted = refl; within = c.arm_each.ensures.within }
 
 pub returns-in-Ok-clause-counts : goal.returns-in-Ok-clause-counts
 returns-in-Ok-clause-counts g c =
@@ -32,22 +32,22 @@ returns-in-Ok-clause-counts g c =
     let armed =
     arms-armed _ _ _ c.args.line.now c.args.scheduler s h c.args.pairs.now c.requires.line c.armed-event.new.self c.armed-event.result c.in_ok-told.told (c.in_ok-told.ensures ∙ c.as_slice.ensures) (c.armed-event.ensures s r h.stands h.allowed.serves) in
     counts-armed _ _ _ c.arm_each.ensures.faults
-    (c.in-Ok.ensures.ok ∙ ap (λ (n : ℕ). (g.D.Disks.view c.args.disks.now).stops_left + n) (ap length c.as_slice-2.ensures ∙ sym armed))
+    (c.in-Ok.ensures.ok ∙ ap (λ (l : List (ℕ × ℕ)). (g.D.Disks.view c.args.disks.now).armed ++ l) (c.as_slice-2.ensures ∙ sym armed))
 
 pub returns-in-Err-clause-comes : goal.returns-in-Err-clause-comes
 returns-in-Err-clause-comes g c = λ s r h.
     breaks-before _ _ _ _ _ s.units (c.stands-in-Err.ensures.stays s.units.kept (c.arm_each.ensures.stored s.units h.stored).holding)
-    (record { there = c.requires.lost; none = c.requires.none })
+    (record { there = c.requires.lost; flies = inl c.requires.none })
 
 pub returns-in-Err-clause-stays : goal.returns-in-Err-clause-stays
-returns-in-Err-clause-stays g c = record { noted = refl; asked = c.arm_each.ensures.asked; shape = c.arm_each.ensures.shape }
+returns-in-Err-clause-stays g c = record { noted = refl; within = c.arm_each.ensures.within }
 
 pub returns-in-Err-clause-counts : goal.returns-in-Err-clause-counts
-returns-in-Err-clause-counts g c = counts-lost _ _ 0 c.arm_each.ensures.faults
+returns-in-Err-clause-counts g c = counts-lost _ _ [] c.arm_each.ensures.faults
 
 pub returns-in_err-told-clause-comes : goal.returns-in_err-told-clause-comes
 returns-in_err-told-clause-comes g c = λ s r h.
-    comes-lost _ _ _ _ _ _ _ s c.from_residual.result c.from_residual.ensures.1 (c.stands.ensures.stays s.units.kept h.stored.holding) (record { there = c.requires.lost; none = c.requires.none })
+    comes-lost _ _ _ _ _ _ _ s c.from_residual.result c.from_residual.ensures.1 (c.stands.ensures.stays s.units.kept h.stored.holding) (record { there = c.requires.lost; flies = inl c.requires.none })
 
 pub returns-in_err-told-clause-stays : goal.returns-in_err-told-clause-stays
 returns-in_err-told-clause-stays g c = stays-same _ _ _

@@ -1,11 +1,11 @@
 use Rattle.salt_engine.proofs.Counted.{cause-lost, counts-broken, same-cause}
-use Rattle.salt_engine.proofs.LineAsked.{asks-line, counts-same, few-of, refused-performs, refused-unarmed, unrefused}
+use Rattle.salt_engine.proofs.LineAsked.{asks-line, begun-unrefused, counts-same, err-unrefused, few-of, refused-performs, refused-unarmed, unrefused}
 use Rattle.salt_engine.proofs.Outcome.{comes-lost, comes-same, stays-same}
 use Rattle.salt_engine.proofs.engine.Engine.ask_line.Goals as goal
 use Rattle.salt_keeps.specs.States.{asked_of}
 use Rattle.salt_model.specs.Trace.{Tree}
 use Rattle.salt_scheduler.proofs.SoundFacts.{reads}
-use Rattle.std.proofs.Common.{sym, ◌∙◌}
+use Rattle.std.proofs.Common.{inl, sym, ◌∙◌}
 
 pub ask-requires : goal.ask-requires
 ask-requires g c = few-of c.args.line.now c.requires.ready.1.served
@@ -56,10 +56,22 @@ returns-in-None-clause-counts g c = c.begin_line.ensures.counts
 
 pub returns-in_err-refusal-clause-comes : goal.returns-in_err-refusal-clause-comes
 returns-in_err-refusal-clause-comes g c = λ s r h.
-    comes-lost _ _ _ _ _ _ _ (asked_of (Tree c.args.line.now) s) c.from_residual.result c.from_residual.ensures.1 (c.stands.ensures.stays s.units.kept h.stored.holding) (record { there = c.requires.lost; none = c.requires.none })
+    comes-lost _ _ _ _ _ _ _ (asked_of (Tree c.args.line.now) s) c.from_residual.result c.from_residual.ensures.1 (c.stands.ensures.stays s.units.kept h.stored.holding) (record { there = c.requires.lost; flies = inl c.requires.none })
 
 pub returns-in_err-refusal-clause-stays : goal.returns-in_err-refusal-clause-stays
 returns-in_err-refusal-clause-stays g c = stays-same _ _ _
 
 pub returns-in_err-refusal-clause-counts : goal.returns-in_err-refusal-clause-counts
 returns-in_err-refusal-clause-counts g c = counts-broken _ _ c.from_residual.result _ c.from_residual.ensures.1 (cause-lost _ _ (same-cause (g.D.Disks.view c.args.disks.now)))
+
+pub returns-in-None-clause-refused : goal.returns-in-None-clause-refused
+returns-in-None-clause-refused g c = λ refusal is.
+    let s = c.requires.ready.0 in
+    let h = c.requires.ready.1 in
+    let t = asked_of (Tree c.args.line.now) s in
+    let asks = c.in_ok-refusal.ensures s h.stands (h.can_stop ∙ sym c.can_stop.ensures) h.distinct in
+    let r = reads t h.serves.sound in
+    absurd (begun-unrefused _ _ _ _ _ t r c.args.line.now c.begin_line.result (c.begin_line.ensures.comes t r (asks-line _ _ _ c.args.line.now _ s h _ (sym asks.0 ∙ c.in-None.is) asks.1)) refusal is)
+
+pub returns-in_err-refusal-clause-refused : goal.returns-in_err-refusal-clause-refused
+returns-in_err-refusal-clause-refused g c = λ refusal is. err-unrefused _ _ c.from_residual.result c.from_residual.ensures.1 refusal is

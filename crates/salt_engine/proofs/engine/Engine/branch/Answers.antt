@@ -25,11 +25,8 @@ branch-made-requires-clause-ready g c =
 pub branched-requires : goal.branched-requires
 branched-requires g c = branch-there _ _ c.args.scheduler c.args.unit c.args.base c.args.cause c.requires.ready.0 c.requires.ready.1
 
-pub break_off-requires-clause-lost : goal.break_off-requires-clause-lost
-break_off-requires-clause-lost g c = c.requires.lost
-
-pub break_off-requires-clause-none : goal.break_off-requires-clause-none
-break_off-requires-clause-none g c = c.requires.none
+pub break_off-requires : goal.break_off-requires
+break_off-requires g c = c.requires.lost
 
 pub returns-in_ok-event-in_Ok-made-clause-comes : goal.returns-in_ok-event-in_Ok-made-clause-comes
 returns-in_ok-event-in_Ok-made-clause-comes g c = λ s h.
@@ -39,7 +36,7 @@ returns-in_ok-event-in_Ok-made-clause-comes g c = λ s h.
     let cause = c.args.cause in
     let later = branch-unit _ _ x u b cause s h in
     let done = c.in_Ok-made.ensures.branched s.units b cause (branch-before _ _ x u b cause s h c.books.result.now c.books.ensures) later in
-    branch-done _ _ x u b cause s h _ _ _ _ _ _ c.requires.none refl done.stored
+    branch-done _ _ x u b cause s h _ _ _ _ _ refl done.stored
     (c.in_ok-event-in_Ok-made.ensures s later.unit later.part (branch-stands _ _ x u b cause s h) (sound-state _ s h.played) later.named later.kind done.moves)
 
 pub returns-in_err-event-in_Ok-made-clause-comes : goal.returns-in_err-event-in_Ok-made-clause-comes
@@ -50,14 +47,14 @@ returns-in_err-event-in_Ok-made-clause-comes g c = λ s h.
     let cause = c.args.cause in
     let done = c.in_Ok-made.ensures.branched s.units b cause (branch-before _ _ x u b cause s h c.books.result.now c.books.ensures) (branch-unit _ _ x u b cause s h) in
     comes-broken _ _ _ _ _ _ _ s _ c.from_residual.result c.from_residual.ensures.1
-    (branch-lost _ _ x u b cause s h _ _ _ _ (record { there = c.requires.lost; none = c.requires.none })
+    (branch-lost _ _ x u b cause s h _ _ _ c.requires.lost
     (c.stands.ensures.stays _ (branch-stored _ _ x u b cause s h _ _ done.stored).holding))
 
 pub returns-in_err-event-in_Ok-made-clause-stays : goal.returns-in_err-event-in_Ok-made-clause-stays
-returns-in_err-event-in_Ok-made-clause-stays g c = record { noted = refl; asked = c.branch-made.ensures.asked; shape = c.branch-made.ensures.shape }
+returns-in_err-event-in_Ok-made-clause-stays g c = record { noted = refl; within = c.branch-made.ensures.within }
 
 pub returns-in_ok-event-in_Ok-made-clause-stays : goal.returns-in_ok-event-in_Ok-made-clause-stays
-returns-in_ok-event-in_Ok-made-clause-stays g c = record { noted = refl; asked = c.branch-made.ensures.asked; shape = c.branch-made.ensures.shape }
+returns-in_ok-event-in_Ok-made-clause-stays g c = record { noted = refl; within = c.branch-made.ensures.within }
 
 pub returns-in_ok-event-in_Ok-made-clause-cause : goal.returns-in_ok-event-in_Ok-made-clause-cause
 returns-in_ok-event-in_Ok-made-clause-cause g c = c.in_Ok-made.ensures.cause
@@ -72,11 +69,11 @@ returns-in_Err-made-clause-comes g c = λ s h.
     let b = c.args.base in
     let cause = c.args.cause in
     broken-as _ _ _ _ _ s.units c.in_Err-made.halt c.break_off.result c.break_off.ensures.halt
-    (branch-breaks _ _ x u b cause s h _ _ _ _ c.in_Err-made.halt c.into_books.result c.into_books.ensures
+    (branch-breaks _ _ x u b cause s h _ _ _ c.in_Err-made.halt c.into_books.result c.into_books.ensures
     (c.in_Err-made.ensures.undone s.units b cause (branch-before _ _ x u b cause s h c.books.result.now c.books.ensures) (branch-unit _ _ x u b cause s h)) c.break_off.ensures.broken)
 
 pub returns-in_Err-made-clause-stays : goal.returns-in_Err-made-clause-stays
-returns-in_Err-made-clause-stays g c = record { noted = refl; asked = c.branch-made.ensures.asked; shape = c.branch-made.ensures.shape }
+returns-in_Err-made-clause-stays g c = record { noted = refl; within = c.branch-made.ensures.within }
 
 pub returns-in_Err-made-clause-cause : goal.returns-in_Err-made-clause-cause
 returns-in_Err-made-clause-cause g c = cause-told _ _ c.in_Err-made.halt c.break_off.result c.break_off.ensures.halt c.in_Err-made.ensures.cause

@@ -7,7 +7,7 @@ use Rattle.salt_engine.proofs.Outcome.{comes-broken, comes-lost, stays-same}
 use Rattle.salt_engine.proofs.engine.Engine.define.Goals as goal
 use Rattle.salt_steps.proofs.Counted.{counts-cause}
 use Rattle.salt_storage.specs.Writing.{OfDefinition}
-use Rattle.std.proofs.Common.{ap, subst, ◌∙◌}
+use Rattle.std.proofs.Common.{ap, inl, subst, ◌∙◌}
 use Rattle.std.specs.Prelude.{Err, List, refl, ℕ}
 
 pub define-requires : goal.define-requires
@@ -29,12 +29,12 @@ defined-requires-clause-parts g c = few-of c.args.line.now c.requires.ready.1.se
 pub returns-in_ok-event-in-Ok-clause-comes : goal.returns-in_ok-event-in-Ok-clause-comes
 returns-in_ok-event-in-Ok-clause-comes g c = λ s r h.
     let d = defines _ _ _ c.args.scheduler s c.definitions_may_be_kept.ensures.table c.definitions_may_be_kept.ensures.program c.stands.ensures.sound c.args.line.now c.in_ok-asked.asked h c.in_ok-asked.ensures in
-    defined-performs _ _ _ c.args.line.now c.args.scheduler s h c.in_ok-asked.asked d _ _ _ c.defined.new.scheduler c.in_ok-event-in-Ok.event r c.requires.none
+    defined-performs _ _ _ c.args.line.now c.args.scheduler s h c.in_ok-asked.asked d _ _ c.defined.new.scheduler c.in_ok-event-in-Ok.event r
     (c.in-Ok.ensures.holds s.units.kept d.definition h.stored.holding (ap definition_in c.text.ensures ∙ d.may.reads) d.may.may) c.in-Ok.ensures.is_new
     (c.in_ok-event-in-Ok.ensures s r h.stands h.allowed)
 
 pub returns-in_ok-event-in-Ok-clause-stays : goal.returns-in_ok-event-in-Ok-clause-stays
-returns-in_ok-event-in-Ok-clause-stays g c = record { noted = refl; asked = c.define.ensures.asked; shape = c.define.ensures.shape }
+returns-in_ok-event-in-Ok-clause-stays g c = record { noted = refl; within = c.define.ensures.within }
 
 pub returns-in_ok-event-in-Ok-clause-counts : goal.returns-in_ok-event-in-Ok-clause-counts
 returns-in_ok-event-in-Ok-clause-counts g c =
@@ -48,11 +48,11 @@ pub returns-in_err-event-in-Ok-clause-comes : goal.returns-in_err-event-in-Ok-cl
 returns-in_err-event-in-Ok-clause-comes g c = λ s r h.
     let d = defines _ _ _ c.args.scheduler s c.definitions_may_be_kept.ensures.table c.definitions_may_be_kept.ensures.program c.stands.ensures.sound c.args.line.now c.in_ok-asked.asked h c.in_ok-asked.ensures in
     comes-broken _ _ _ _ _ _ _ s _ c.from_residual-in_err-event-in-Ok.result c.from_residual-in_err-event-in-Ok.ensures.1
-    (defined-lost _ _ _ c.args.line.now c.args.scheduler s h c.in_ok-asked.asked d _ _ _ _ r (record { there = c.requires.lost; none = c.requires.none })
+    (defined-lost _ _ _ c.args.line.now c.args.scheduler s h c.in_ok-asked.asked d _ _ _ r c.requires.lost
     (c.stands-in-Ok.ensures.stays _ (c.in-Ok.ensures.holds s.units.kept d.definition h.stored.holding (ap definition_in c.text.ensures ∙ d.may.reads) d.may.may)))
 
 pub returns-in_err-event-in-Ok-clause-stays : goal.returns-in_err-event-in-Ok-clause-stays
-returns-in_err-event-in-Ok-clause-stays g c = record { noted = refl; asked = c.define.ensures.asked; shape = c.define.ensures.shape }
+returns-in_err-event-in-Ok-clause-stays g c = record { noted = refl; within = c.define.ensures.within }
 
 pub returns-in_err-event-in-Ok-clause-counts : goal.returns-in_err-event-in-Ok-clause-counts
 returns-in_err-event-in-Ok-clause-counts g c =
@@ -62,20 +62,20 @@ pub returns-in-Err-clause-comes : goal.returns-in-Err-clause-comes
 returns-in-Err-clause-comes g c = λ s r h.
     let d = defines _ _ _ c.args.scheduler s c.definitions_may_be_kept.ensures.table c.definitions_may_be_kept.ensures.program c.stands.ensures.sound c.args.line.now c.in_ok-asked.asked h c.in_ok-asked.ensures in
     broken-as _ _ _ _ _ s.units c.in-Err.halt c.break_off.result c.break_off.ensures.halt
-    (defined-breaks _ _ _ c.args.line.now c.args.scheduler s h c.in_ok-asked.asked d _ _ _ _ r c.in-Err.halt c.into_books.result c.into_books.ensures
+    (defined-breaks _ _ _ c.args.line.now c.args.scheduler s h c.in_ok-asked.asked d _ _ _ r c.in-Err.halt c.into_books.result c.into_books.ensures
     (c.in-Err.ensures.leaves s.units.kept d.definition h.stored.holding (ap definition_in c.text.ensures ∙ d.may.reads) d.may.may)
     (λ dev is. subst (λ (t : List ℕ). g.S.Storage.fills (g.D.Disks.view c.define.new.disks) c.define.new.self (OfDefinition t) dev) c.text.ensures (c.in-Err.ensures.full dev (ap Err is)))
     c.break_off.ensures.broken)
 
 pub returns-in-Err-clause-stays : goal.returns-in-Err-clause-stays
-returns-in-Err-clause-stays g c = record { noted = refl; asked = c.define.ensures.asked; shape = c.define.ensures.shape }
+returns-in-Err-clause-stays g c = record { noted = refl; within = c.define.ensures.within }
 
 pub returns-in-Err-clause-counts : goal.returns-in-Err-clause-counts
 returns-in-Err-clause-counts g c = counts-broken _ _ (Err c.break_off.result) c.in-Err.halt c.break_off.ensures.halt c.in-Err.ensures.cause
 
 pub returns-in_err-asked-clause-comes : goal.returns-in_err-asked-clause-comes
 returns-in_err-asked-clause-comes g c = λ s r h.
-    comes-lost _ _ _ _ _ _ _ s c.from_residual.result c.from_residual.ensures.1 (c.stands.ensures.stays s.units.kept h.stored.holding) (record { there = c.requires.lost; none = c.requires.none })
+    comes-lost _ _ _ _ _ _ _ s c.from_residual.result c.from_residual.ensures.1 (c.stands.ensures.stays s.units.kept h.stored.holding) (record { there = c.requires.lost; flies = inl c.requires.none })
 
 pub returns-in_err-asked-clause-stays : goal.returns-in_err-asked-clause-stays
 returns-in_err-asked-clause-stays g c = stays-same _ _ _

@@ -7,6 +7,7 @@ use Rattle.salt_engine.proofs.engine.Engine.follow_line.Goals as goal
 use Rattle.salt_keeps.specs.Readings.{clash_by, items_by}
 use Rattle.salt_scheduler.proofs.SoundFacts.{reads}
 use Rattle.salt_steps.proofs.Counted.{counts-cause}
+use Rattle.std.proofs.Common.{inl}
 
 pub first_of-requires : goal.first_of-requires
 first_of-requires g c = (c.requires.ready.0, c.requires.ready.1.stands, c.requires.ready.1.allowed)
@@ -56,7 +57,7 @@ returns-clause-counts g c =
 
 pub returns-in_err-coming-clause-comes : goal.returns-in_err-coming-clause-comes
 returns-in_err-coming-clause-comes g c = λ s r h.
-    comes-lost _ _ _ _ _ _ _ s c.from_residual.result c.from_residual.ensures.1 (c.stands.ensures.stays s.units.kept h.stored.holding) (record { there = c.requires.lost; none = c.requires.none })
+    comes-lost _ _ _ _ _ _ _ s c.from_residual.result c.from_residual.ensures.1 (c.stands.ensures.stays s.units.kept h.stored.holding) (record { there = c.requires.lost; flies = inl c.requires.none })
 
 pub returns-in_err-coming-clause-stays : goal.returns-in_err-coming-clause-stays
 returns-in_err-coming-clause-stays g c = stays-same _ _ _

@@ -1,9 +1,10 @@
 use Rattle.salt_engine.proofs.Counted.{cause-broken, cause-lost, same-cause}
-use Rattle.salt_engine.proofs.LineChosen.{to-serve}
+use Rattle.salt_engine.proofs.LineChosen.{nothing-comes, to-serve}
 use Rattle.salt_engine.proofs.Outcome.{comes-lost, comes-same, comes-unarmed, not-ok, stays-same}
 use Rattle.salt_engine.proofs.Plain.{line-plain}
 use Rattle.salt_engine.proofs.engine.Engine.go_on_in_line.Goals as goal
 use Rattle.salt_scheduler.proofs.SoundFacts.{reads}
+use Rattle.std.proofs.Common.{inl}
 
 pub go_on-requires : goal.go_on-requires
 go_on-requires g c = (c.requires.ready.0, c.requires.ready.1.stands, c.requires.ready.1.serves)
@@ -49,7 +50,7 @@ returns-clause-unarmed g c =
 
 pub returns-in_err-coming-clause-comes : goal.returns-in_err-coming-clause-comes
 returns-in_err-coming-clause-comes g c = λ s r h.
-    comes-lost _ _ _ _ _ _ _ s c.from_residual.result c.from_residual.ensures.1 (c.stands.ensures.stays s.units.kept h.stored.holding) (record { there = c.requires.lost; none = c.requires.none })
+    comes-lost _ _ _ _ _ _ _ s c.from_residual.result c.from_residual.ensures.1 (c.stands.ensures.stays s.units.kept h.stored.holding) (record { there = c.requires.lost; flies = inl c.requires.none })
 
 pub returns-in_err-coming-clause-stays : goal.returns-in_err-coming-clause-stays
 returns-in_err-coming-clause-stays g c = stays-same _ _ _
@@ -59,3 +60,6 @@ returns-in_err-coming-clause-cause g c = cause-broken _ _ c.from_residual.result
 
 pub returns-in_err-coming-clause-unarmed : goal.returns-in_err-coming-clause-unarmed
 returns-in_err-coming-clause-unarmed g c = not-ok _ _ c.from_residual.result c.from_residual.ensures.1
+
+pub returns-clause-still : goal.returns-clause-still
+returns-clause-still g c = λ s r h none. c.perform.ensures.still (nothing-comes s _ _ _ (c.in_ok-coming.ensures s r h.stands h.serves) none)

@@ -3,6 +3,7 @@ use Rattle.salt_engine.proofs.Counted.{same-cause}
 use Rattle.salt_engine.proofs.Outcome.{comes-as, stays-same}
 use Rattle.salt_engine.proofs.engine.Engine.perform.Goals as goal
 use Rattle.salt_engine.specs.Performing.{IsToServe}
+use Rattle.std.proofs.Common.{sym, ◌∙◌}
 use Rattle.std.specs.Prelude.{refl}
 
 pub returns-in-Nothing-clause-comes : goal.returns-in-Nothing-clause-comes
@@ -112,3 +113,12 @@ unreachable-requires g c = never-prepared _ _ c.args.scheduler c.args.coming _ c
 
 pub unreachable-requires-in-Arm : goal.unreachable-requires-in-Arm
 unreachable-requires-in-Arm g c = never-prepared _ _ c.args.scheduler c.args.coming _ c.requires.ready.0 c.in-Arm.is refl c.requires.ready.1
+
+pub returns-in-Act-clause-still : goal.returns-in-Act-clause-still
+returns-in-Act-clause-still g c = λ is. let no = sym is ∙ c.in-Act.is in cc
+
+pub returns-in-Commit-clause-still : goal.returns-in-Commit-clause-still
+returns-in-Commit-clause-still g c = λ is. let no = sym is ∙ c.in-Commit.is in cc
+
+pub returns-in-Branch-clause-still : goal.returns-in-Branch-clause-still
+returns-in-Branch-clause-still g c = λ is. let no = sym is ∙ c.in-Branch.is in cc

@@ -6,6 +6,7 @@ use Rattle.salt_engine.proofs.engine.Engine.turn_in_line.Goals as goal
 use Rattle.salt_keeps.specs.Readings.{clash_by}
 use Rattle.salt_keeps.specs.States.{turned_to}
 use Rattle.salt_scheduler.proofs.SoundFacts.{reads}
+use Rattle.std.proofs.Common.{inl}
 
 pub turn_to-requires : goal.turn_to-requires
 turn_to-requires g c = (c.requires.ready.0, c.requires.ready.1.turns)
@@ -59,7 +60,7 @@ returns-clause-unarmed g c =
 
 pub returns-in_err-coming-clause-comes : goal.returns-in_err-coming-clause-comes
 returns-in_err-coming-clause-comes g c = λ s r h.
-    comes-lost _ _ _ _ _ _ _ (turned_to c.args.base s) c.from_residual.result c.from_residual.ensures.1 (c.stands.ensures.stays s.units.kept h.stored.holding) (record { there = c.requires.lost; none = c.requires.none })
+    comes-lost _ _ _ _ _ _ _ (turned_to c.args.base s) c.from_residual.result c.from_residual.ensures.1 (c.stands.ensures.stays s.units.kept h.stored.holding) (record { there = c.requires.lost; flies = inl c.requires.none })
 
 pub returns-in_err-coming-clause-stays : goal.returns-in_err-coming-clause-stays
 returns-in_err-coming-clause-stays g c = stays-same _ _ _

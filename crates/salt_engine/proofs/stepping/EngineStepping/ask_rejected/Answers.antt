@@ -1,6 +1,6 @@
 use Rattle.salt_engine.proofs.AskDone.{asked-there, reads-here}
 use Rattle.salt_engine.proofs.Counted.{cause-lost, same-cause}
-use Rattle.salt_engine.proofs.Flying.{flight-next}
+use Rattle.salt_engine.proofs.Flying.{flies-none, flight-next}
 use Rattle.salt_engine.proofs.Halting.{memory-at}
 use Rattle.salt_engine.proofs.LineAsked.{counts-same, rejected-performs, rejected-unarmed}
 use Rattle.salt_engine.proofs.LineGoes.{asked-at, asked-played, asked-serves}
@@ -14,7 +14,7 @@ use Rattle.salt_scheduler.specs.declared.scheduler.Scheduler.{Scheduler}
 use Rattle.salt_steps.proofs.Counted.{counts-cause}
 use Rattle.std.proofs.Common.{inl, refl, subst, sym, ◌∙◌}
 use Rattle.std.proofs.lemmas.Result.{err_from_is_err_and}
-use Rattle.std.specs.Prelude.{None}
+use Rattle.std.specs.Prelude.{None, []}
 
 pub going-scheduler-requires : goal.going-scheduler-requires
 going-scheduler-requires g c =
@@ -30,7 +30,7 @@ returns-clause-moves g c = λ p sound at.
     let h = seen-at _ _ _ _ _ p.state there at.state.seen in
     let d = rejected-performs _ _ c.args.refusal c.going-scheduler.result p _ _ _ r c.in_ok-reject_line.ensures.told h.0 (asked-serves asked p sound at.idle) (asked-played asked p sound at.idle tt r)
     (subst (λ (st : g.row.S.Denot). Stored (g.S.Storage.holds (view c.args.disks.now) st) (g.S.Storage.is_new (view c.args.disks.now) st) p.state.units) (sym c.reject_line.ensures.storage) h.1)
-    (c.reject_line.ensures.flies ∙ at.state.none) in
+    (c.reject_line.ensures.flies ∙ flies-none c.args.self.now.in_flight p.state.units at.state.flies) in
     asked-there _ c.reject_line.new.self asked p sound at.idle r _ (asked-at asked p sound at.idle _ _ _ _ _ _ _ _ r d at.state.can_stop refl c.reject_line.ensures.single) d.told
 
 pub returns-clause-counts : goal.returns-clause-counts
@@ -53,10 +53,10 @@ returns-in_err-reject_line-clause-halts g c =
     inl (
       refl,
       memory-at (λ (x : Scheduler). x.books) _ _ _ _ None refl _ _ _ p p.state.units.kept (flight-next p sound.trace sound.keeps (never-fallen p at.idle.serves)) (c.stands.ensures.stays p.state.units.kept h.1.holding) (inl refl)
-          (record { there = c.in_err-reject_line.ensures.stage ∙ c.replace.ensures.after; none = c.reject_line.ensures.flies ∙ at.state.none }),
+          (record { there = c.in_err-reject_line.ensures.stage ∙ c.replace.ensures.after; flies = inl (c.reject_line.ensures.flies ∙ flies-none c.args.self.now.in_flight p.state.units at.state.flies) }),
     ))
 
 pub returns-in_err-reject_line-clause-counts : goal.returns-in_err-reject_line-clause-counts
 returns-in_err-reject_line-clause-counts g c =
     let q = err_from_is_err_and c.from_residual.result c.from_residual.ensures.1 in
-    rw (q.1, q.2) (counts-cause _ _ _ 0 refl (cause-lost _ _ (same-cause (g.D.Disks.view c.args.disks.now))))
+    rw (q.1, q.2) (counts-cause _ _ _ [] refl (cause-lost _ _ (same-cause (g.D.Disks.view c.args.disks.now))))

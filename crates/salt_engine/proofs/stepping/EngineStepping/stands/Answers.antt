@@ -1,3 +1,4 @@
+use Rattle.salt_engine.proofs.Flying.{flies-none}
 use Rattle.salt_engine.proofs.Lying.{idle-lies}
 use Rattle.salt_engine.proofs.stepping.EngineStepping.stands.Goals as goal
 use Rattle.salt_engine.specs.Flights.{flight_of}
@@ -7,7 +8,10 @@ pub returns-clause-idle : goal.returns-clause-idle
 returns-clause-idle g c = λ p sound at. idle-lies _ _ _ _ _ _ _ p sound at.state at.idle c.stands.ensures.stays c.stands.ensures.sound
 
 pub returns-clause-flown : goal.returns-clause-flown
-returns-clause-flown g c = λ p sound at. ap flight_of at.state.none
+returns-clause-flown g c = λ p sound at. ap flight_of (flies-none c.args.self.now.in_flight p.state.units at.state.flies)
 
 pub returns-clause-left : goal.returns-clause-left
-returns-clause-left g c = λ room p lies. lies.left
+returns-clause-left g c = λ room p lies. (lies.left, tt)
+
+pub returns-clause-told : goal.returns-clause-told
+returns-clause-told g c = λ numbers room p left. (left.0, tt)

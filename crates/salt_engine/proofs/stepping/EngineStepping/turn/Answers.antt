@@ -1,4 +1,5 @@
 use Rattle.salt_engine.proofs.AskDone.{on-ok, reads-here, to-turn, turned-fewer, turned-halts, turned-sees, turned-there}
+use Rattle.salt_engine.proofs.Flying.{flies-none}
 use Rattle.salt_engine.proofs.LineAsked.{armed-none}
 use Rattle.salt_engine.proofs.Outcome.{when-err, when-ok}
 use Rattle.salt_engine.proofs.Stages.{seen-at, serves-now}
@@ -24,7 +25,7 @@ pub turn_in_line-requires-clause-lost : goal.turn_in_line-requires-clause-lost
 turn_in_line-requires-clause-lost g c = c.replace.ensures.after
 
 pub turn_in_line-requires-clause-none : goal.turn_in_line-requires-clause-none
-turn_in_line-requires-clause-none g c = c.requires.stands.2.state.none
+turn_in_line-requires-clause-none g c = flies-none c.args.self.now.in_flight c.requires.stands.0.state.units c.requires.stands.2.state.flies
 
 pub turn_in_line-requires-clause-ready : goal.turn_in_line-requires-clause-ready
 turn_in_line-requires-clause-ready g c =
@@ -39,7 +40,7 @@ returns-clause-moves g c = IfOk-weaker c.turn_in_line.result _ _ (λ next done p
     let r = reads-here p sound in
     let d = done p.state r (to-turn _ _ _ c.args.line.now c.args.base c.going-scheduler.result p sound at.serves at.line at.comes turn at.state.seen there) in
     turned-there _ _ c.args.line.now c.args.base p sound at.serves at.comes turn r next at.line
-    (turned-sees _ _ _ _ _ _ _ _ _ next c.args.base p.state d at.state.can_stop c.turn_in_line.ensures.stays.shape.can_stop at.state.line c.turn_in_line.ensures.stays.noted) d.told)
+    (turned-sees _ _ _ _ _ _ _ _ _ next c.args.base p.state d at.state.can_stop c.turn_in_line.ensures.stays.within.shape.can_stop at.state.line c.turn_in_line.ensures.stays.noted) d.told)
     (when-ok _ _ _ c.turn_in_line.result c.turn_in_line.ensures.comes)
 
 pub returns-clause-halts : goal.returns-clause-halts
@@ -48,7 +49,7 @@ returns-clause-halts g c = IfErr-weaker c.turn_in_line.result _ _ (λ halt broke
     let r = reads-here p sound in
     let b = broken p.state r (to-turn _ _ _ c.args.line.now c.args.base c.going-scheduler.result p sound at.serves at.line at.comes turn at.state.seen there) in
     let kept = c.stands.ensures.sound p.state.units.kept (seen-at _ _ _ _ _ p.state there at.state.seen).1.holding in
-    inr (turned-halts _ _ _ halt _ _ _ _ _ p sound at.state.can_stop c.turn_in_line.ensures.stays.shape.can_stop kept c.args.base at.serves at.comes turn r b (c.turn_in_line.ensures.stays.noted ∙ at.state.line)))
+    inr (turned-halts _ _ _ halt _ _ _ _ _ p sound at.state.can_stop c.turn_in_line.ensures.stays.within.shape.can_stop kept c.args.base at.serves at.comes turn r b (c.turn_in_line.ensures.stays.noted ∙ at.state.line)))
     (when-err _ _ _ c.turn_in_line.result c.turn_in_line.ensures.comes)
 
 pub returns-clause-fewer : goal.returns-clause-fewer
@@ -65,8 +66,5 @@ returns-clause-fewer g c = on-ok c.turn_in_line.result _ (λ next done.
 pub returns-clause-counts : goal.returns-clause-counts
 returns-clause-counts g c = counts-cause _ _ _ _ (armed-none c.turn_in_line.result c.turn_in_line.ensures.unarmed) c.turn_in_line.ensures.cause
 
-pub returns-clause-asked : goal.returns-clause-asked
-returns-clause-asked g c = c.turn_in_line.ensures.stays.asked
-
-pub returns-clause-shape : goal.returns-clause-shape
-returns-clause-shape g c = c.turn_in_line.ensures.stays.shape
+pub returns-clause-within : goal.returns-clause-within
+returns-clause-within g c = c.turn_in_line.ensures.stays.within
