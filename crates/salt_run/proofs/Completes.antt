@@ -3,9 +3,11 @@ use Rattle.salt_devices.proofs.Answered.{AreAlike, same_finds}
 use Rattle.salt_devices.proofs.Known.{stands_fails}
 use Rattle.salt_devices.specs.Leaving.{MayCome}
 use Rattle.salt_devices.specs.Refusing.{Finds, Refuses}
+use Rattle.salt_devices.specs.Remembering.{MayTell}
 use Rattle.salt_disk.specs.Disks.{Rose, SameShape, View}
 use Rattle.salt_model.specs.Kept.{Kept}
-use Rattle.salt_model.specs.Trace.{Trace}
+use Rattle.salt_model.specs.Lines.{AskInOrder}
+use Rattle.salt_model.specs.Trace.{Trace, lines_of}
 use Rattle.salt_model.specs.declared.events.Event.TheVariants.{Down}
 use Rattle.salt_model.specs.declared.events.Event.{Event}
 use Rattle.salt_model.specs.declared.events.Flight.{Flight}
@@ -13,16 +15,15 @@ use Rattle.salt_model.specs.declared.events.Why.TheVariants as why
 use Rattle.salt_run.proofs.EngineEnds.{refused-so}
 use Rattle.salt_run.proofs.Said.{IsCommand, parts-of-command}
 use Rattle.salt_run.specs.Commands.{shape_of}
-use Rattle.salt_run.specs.Completing.{MeetsNothing}
+use Rattle.salt_run.specs.Completing.{AskFirst, IsWithin, MeetsNothing}
 use Rattle.salt_run.specs.Doing.{Does, Streams}
 use Rattle.salt_run.specs.Running.{Runs, WasRefused}
 use Rattle.salt_serving.specs.Counted.{AreFaults, AreFaultsOf, AreMet}
 use Rattle.salt_serving.specs.Ending.{IsStatusOf}
-use Rattle.salt_serving.specs.Run.{AreLinesDone, AreLinesOf}
+use Rattle.salt_serving.specs.Run.{AreFirstLines, AreLinesOf}
 use Rattle.salt_serving.specs.declared.status.Status.TheVariants.{DeviceFull, DiskFault, Done, Memory, NotSalt, NumbersSpent, OtherShape, ReadFault, ScriptTooLong, Usage, WriteFault}
 use Rattle.salt_serving.specs.declared.status.Status.{Status}
 use Rattle.salt_stands.specs.Stands.{are_spent}
-use Rattle.salt_storage.specs.Answers.{MayFail}
 use Rattle.salt_storage.specs.declared.halt.Halt.TheVariants as halt
 use Rattle.salt_storage.specs.declared.open.OpenErr.TheVariants as open_err
 use Rattle.salt_storage.specs.declared.open.OpenErr.{OpenErr}
@@ -30,8 +31,8 @@ use Rattle.salt_values.specs.Placement.{IsParts}
 use Rattle.salt_values.specs.declared.placement.Shape.{Shape}
 use Rattle.salt_words.specs.declared.command.Command.TheVariants.{Load, Run}
 use Rattle.salt_words.specs.declared.command.Command.{Command}
-use Rattle.std.proofs.Common.{arith, inl, inr, subst, sym, ◌∙◌}
-use Rattle.std.specs.Prelude.{Bool, IsTrue, List, Option, [], false, refl, true, ℕ, ◌*◌, ◌+◌, ◌<◌, ◌∷◌, ◌≡◌, ◌≤◌, ◌⊎◌}
+use Rattle.std.proofs.Common.{arith, inl, inr, sym, ◌∙◌}
+use Rattle.std.specs.Prelude.{Bool, IsTrue, List, None, Option, Some, [], false, refl, true, ℕ, ⊤, ◌*◌, ◌+◌, ◌<◌, ◌∷◌, ◌≡◌, ◌≤◌, ◌⊎◌}
 
 -- WHAT STANDS is refused by spent numbers alone
 
@@ -47,7 +48,7 @@ alike d shape parts count image other h g = record {
     same : (dev : ℕ) → dev < d.count → image dev ≡ other dev
     same dev low = h dev low ∙ sym (g dev low)
 
-met : (d : View) (shape : Shape) → IsParts shape.parts → 26 ≤ d.count → IsTrue d.told → (k : Kept) (e : OpenErr) → Finds d true shape k → Refuses d true shape e → MayFail k k e
+met : (d : View) (shape : Shape) → IsParts shape.parts → 26 ≤ d.count → IsTrue d.told → (k : Kept) (e : OpenErr) → Finds d true shape k → Refuses d true shape e → MayTell k k e
 met d shape parts count told k e finds refuses =
     let f = finds told in
     let r = refuses told in
@@ -95,20 +96,42 @@ never-long (open_err.Halted halt.Memory) (inl is) = cc
 not-spent : (b : Bool) → b ≡ true → b ≡ false → ⊥
 not-spent b t f = let both : true ≡ false = sym t ∙ f in cc
 
+-- first lines of a script, where it is told
+abbrev AreFirstOf : Option (List ℕ) → List (List ℕ) → Type 0
+AreFirstOf None texts = ⊤
+AreFirstOf (Some script) texts = AreFirstLines script texts
+
 module _ (command : Command) (within : IsCommand command) (d e : View) (same : SameShape d e) (count : 26 ≤ d.count) (reads_then reads_now writes_then writes_now : ℕ) (f : Option Flight) (s : Streams)
     (story : List Event) (m : MeetsNothing command d e reads_then reads_now writes_then writes_now s.script story) where
   told-now : IsTrue e.told
   told-now = same.told ∙ m.told
 
-  fails : (r : OpenErr) → Refuses d true (shape_of command) r → MayFail m.kept m.kept r
+  fails : (r : OpenErr) → Refuses d true (shape_of command) r → MayTell m.kept m.kept r
   fails r h = met d (shape_of command) (parts-of-command command within) count m.told m.kept r m.stood h
 
-  full : (dev : ℕ) → Runs command d e (DeviceFull dev) f s story → ⊥
-  full dev (inl x) = m.room x.start x.replays.trace dev x.stood x.replays.played (x.ends.full dev refl told-now)
-  full dev (inr y) = m.room_at_first dev (y.full dev refl told-now)
+  -- its lines are first ones
+  script-first : (o : Option (List ℕ)) (texts : List (List ℕ)) (trace : Trace) (parts : ℕ) → AskInOrder texts (lines_of trace) → AreFirstOf o texts → AskFirst (Run parts) o (lines_of trace)
+  script-first None texts trace parts reads h = tt
+  script-first (Some script) texts trace parts reads h = (texts, reads, h)
 
-  spent-first : (boot decisions : ℕ) → MayFail m.kept m.kept (open_err.NumbersSpent boot decisions) → ⊥
-  spent-first boot decisions h = by h.1
+  full-first : (c : Command) (dev : ℕ) (trace : Trace) → Does c (DeviceFull dev) s trace → AskFirst c s.script (lines_of trace)
+  full-first (Run parts) dev trace h = script-first s.script h.0.texts trace parts h.0.reads (by s.script h.0.lines)
+    where
+      by : (o : Option (List ℕ)) → AreLinesOf (DeviceFull dev) o s.left h.0.texts → AreFirstOf o h.0.texts
+      by None l = tt
+      by (Some script) l = l
+  full-first (Load calls) dev trace h = h.0
+
+  spent-first : (c : Command) (boot decisions : ℕ) (trace : Trace) → Does c (NumbersSpent boot decisions) s trace → AskFirst c s.script (lines_of trace)
+  spent-first (Run parts) boot decisions trace h = script-first s.script h.0.texts trace parts h.0.reads (by s.script h.0.lines)
+    where
+      by : (o : Option (List ℕ)) → AreLinesOf (NumbersSpent boot decisions) o s.left h.0.texts → AreFirstOf o h.0.texts
+      by None l = tt
+      by (Some script) l = l
+  spent-first (Load calls) boot decisions trace h = h.0
+
+  spent-first-of : (boot decisions : ℕ) → MayTell m.kept m.kept (open_err.NumbersSpent boot decisions) → ⊥
+  spent-first-of boot decisions h = by h.1
     where
       at : (boot ≡ m.kept.boot) → (decisions ≡ m.kept.decisions) → ⊥
       at b n = not-spent (are_spent m.kept.boot m.kept.decisions) ((λ i. are_spent (sym b i) (sym n i)) ∙ h.0) m.unspent
@@ -117,24 +140,29 @@ module _ (command : Command) (within : IsCommand command) (d e : View) (same : S
       by (inl x) = at x.0 x.1
       by (inr x) = at x.0 x.1
 
+  full : (dev : ℕ) → Runs command d e (DeviceFull dev) f s story → ⊥
+  full dev (inl x) =
+      m.room x.replays.trace dev (record { start = x.start; stood = x.stood; tells = x.replays.played; lines = full-first command dev x.replays.trace x.replays.does }) (x.ends.full dev refl told-now)
+  full dev (inr y) = m.room_at_first dev (y.full dev refl told-now)
+
   spent : (boot decisions : ℕ) → Runs command d e (NumbersSpent boot decisions) f s story → ⊥
   spent boot decisions (inl x) =
-      let h = x.ends.spent boot decisions refl in
-      not-spent (are_spent boot decisions) h.0 (m.numbers x.start x.replays.trace boot decisions x.stood x.replays.played h.1)
+      m.numbers x.replays.trace boot decisions (record { start = x.start; stood = x.stood; tells = x.replays.played; lines = spent-first command boot decisions x.replays.trace x.replays.does })
+      (x.ends.spent boot decisions refl)
   spent boot decisions (inr y) =
-      spent-first boot decisions (fails (open_err.NumbersSpent boot decisions)
+      spent-first-of boot decisions (fails (open_err.NumbersSpent boot decisions)
       (refused-so d (shape_of command) y.reason (open_err.NumbersSpent boot decisions) (spent-reason y.reason boot decisions y.is) (λ halted. cc) y.refused))
 
-  long-does : (c : Command) (trace : Trace) → Does c ScriptTooLong s trace → ⊥
-  long-does (Run parts) trace h =
-      let x : AreLinesDone ScriptTooLong m.bytes s.left h.0.texts = subst (λ (b : Option (List ℕ)). AreLinesOf ScriptTooLong b s.left h.0.texts) m.is_told h.0.lines in
-      let y = x.1 in
-      let z = m.within in
-      omega arith
-  long-does (Load calls) trace h = h.0
+  long-does : (c : Command) (trace : Trace) → IsWithin c s.script → Does c ScriptTooLong s trace → ⊥
+  long-does (Run parts) trace w h = by s.script w h.0.lines
+    where
+      by : (o : Option (List ℕ)) → IsWithin (Run parts) o → AreLinesOf ScriptTooLong o s.left h.0.texts → ⊥
+      by None w l = w
+      by (Some script) w l = let over = l.1 in omega arith
+  long-does (Load calls) trace w h = h.0
 
   long : Runs command d e ScriptTooLong f s story → ⊥
-  long (inl x) = long-does command x.replays.trace x.replays.does
+  long (inl x) = long-does command x.replays.trace m.within x.replays.does
   long (inr y) = never-long y.reason y.is
 
   pub completes : (status : Status) → (status ≡ Usage → ⊥) → (status ≡ ReadFault → Rose reads_then reads_now) → (status ≡ WriteFault → Rose writes_then writes_now) →

@@ -1,6 +1,6 @@
 -- A run, by what is found at first and by how its database ends.
 use Rattle.salt_books.specs.declared.books.Books.{Books}
-use Rattle.salt_database.specs.Halves.{IfEither, by_half, database_left, database_lies, no_shape}
+use Rattle.salt_database.specs.Halves.{IfEither, by_half, database_flight, database_left, database_lies, no_shape}
 use Rattle.salt_database.specs.Standing.{opening_books}
 use Rattle.salt_database.specs.declared.database.Database.{Database}
 use Rattle.salt_database.specs.declared.database.Database.TheVariants.{Closed, Moving, Open}
@@ -8,12 +8,14 @@ use Rattle.salt_devices.specs.Filling.{FillsIn}
 use Rattle.salt_devices.specs.Holding.{CanStart}
 use Rattle.salt_devices.specs.Leaving.{StandsFor}
 use Rattle.salt_devices.specs.Refusing.{Finds, RefusedAs, Refuses}
-use Rattle.salt_devices.specs.Standing.{StandsHeld, StandsLeft}
+use Rattle.salt_devices.specs.Standing.{RestsAs, StandsHeld, StandsLeft}
 use Rattle.salt_devices.specs.declared.devices.Devices.{Devices}
 use Rattle.salt_devices.specs.declared.pending.Pending.{Pending}
-use Rattle.salt_disk.specs.Disks.{AreUnchanged, View}
+use Rattle.salt_disk.specs.Disks.{AreUnchanged, IsUnchanged, KeepsAll, SameShape, View}
 use Rattle.salt_disk.specs.declared.disks.DiskErr.{DiskErr}
+use Rattle.salt_engine.specs.Flights.{flight_of}
 use Rattle.salt_engine.specs.Standing.{Left, Lies, serving_books}
+use Rattle.salt_engine.specs.Stored.{IsAlone}
 use Rattle.salt_engine.specs.declared.flights.InFlight.{InFlight}
 use Rattle.salt_keeps.specs.Points.{Point}
 use Rattle.salt_model.specs.Ends.{MayLeave}
@@ -23,29 +25,30 @@ use Rattle.salt_model.specs.Trace.{Start, Trace, start_of, story_of}
 use Rattle.salt_model.specs.declared.events.Event.{Event}
 use Rattle.salt_model.specs.declared.events.Flight.{Flight}
 use Rattle.salt_run.proofs.Images.{may-come}
-use Rattle.salt_run.proofs.Over.{ends-behind, unwritten-behind}
+use Rattle.salt_run.proofs.Over.{ends-behind}
 use Rattle.salt_run.proofs.Replayed.{load-replays, script-replays}
 use Rattle.salt_run.proofs.Unwritten.{load-unwritten}
 use Rattle.salt_run.specs.Commands.{shape_of}
 use Rattle.salt_run.specs.Doing.{Streams}
 use Rattle.salt_run.specs.Ending.{EndsBehind, flight_at}
 use Rattle.salt_run.specs.Promises.{Promises}
-use Rattle.salt_run.specs.Running.{FindsNothing, Replays, Runs, RunsOver, WasRefused}
+use Rattle.salt_run.specs.Running.{AreAsBefore, FindsNothing, Replays, Runs, RunsOver, WasRefused, may_have_failed}
 use Rattle.salt_run.specs.Summing.{IsSummary}
 use Rattle.salt_serving.proofs.Counts.{run-added, run-opened, run-unwritten}
 use Rattle.salt_serving.proofs.Leaving.{answers-opening, full-reason}
-use Rattle.salt_serving.specs.Counted.{AreFaultsOf, CountsAdded, CountsRun}
+use Rattle.salt_serving.specs.Counted.{AreFaultsOf, AreStopsOf, CountsAdded, CountsRun, armed_behind}
 use Rattle.salt_serving.specs.Ending.{EndsFound, IsStatusOf, MayEndAt}
 use Rattle.salt_serving.specs.Loading.{IsPlayedLoad}
 use Rattle.salt_serving.specs.Run.{IsRun, leave_of}
 use Rattle.salt_serving.specs.Serving.{IsToBegin}
-use Rattle.salt_serving.specs.Stopping.{status_opening}
+use Rattle.salt_serving.specs.Stopping.{numbers_told, status_opening}
 use Rattle.salt_serving.specs.declared.status.Status.{Status}
 use Rattle.salt_serving.specs.declared.status.Status.TheVariants.{DeviceFull, Done, Memory, NotSalt, NumbersSpent, OtherShape, WriteFault}
 use Rattle.salt_steps.proofs.AtFirst.{down-at-first}
-use Rattle.salt_steps.specs.Counting.{CountsOpening, armed_in, stopped_in}
+use Rattle.salt_stands.specs.Stands.{are_spent}
+use Rattle.salt_steps.specs.Counting.{CountsOpening}
 use Rattle.salt_steps.specs.Opening.{FailsToFind, IsOpenedFirst, IsUnfound}
-use Rattle.salt_storage.specs.Answers.{IfRefused, open_disk_err_of}
+use Rattle.salt_storage.specs.Answers.{IsRefusal, open_disk_err_of}
 use Rattle.salt_storage.specs.Storing.{IsSoundKept}
 use Rattle.salt_storage.specs.Writing.{OfOpening}
 use Rattle.salt_storage.specs.declared.found.Numbers.{Numbers}
@@ -57,7 +60,7 @@ use Rattle.salt_values.specs.declared.placement.Shape.{Shape}
 use Rattle.salt_words.specs.declared.command.Command.{Command}
 use Rattle.salt_words.specs.declared.command.Command.TheVariants.{Load, Run}
 use Rattle.std.proofs.Common.{ap, inl, inr, subst, sym, ◌∙◌}
-use Rattle.std.specs.Prelude.{Bool, IsTrue, List, None, Option, [], false, refl, true, ℕ, ◌+◌, ◌≡◌, ◌⊎◌}
+use Rattle.std.specs.Prelude.{Bool, IsSome, IsTrue, List, None, Option, Some, [], false, refl, true, ℕ, ◌≡◌, ◌⊎◌}
 
 -- THE STATUS, and the one of its engine: the same, or the sink failed behind it
 
@@ -100,14 +103,38 @@ refused-so d shape reason r is other (inl h) = subst (Refuses d true shape) is h
 refused-so d shape reason r is other (inr m) = absurd (other (sym is ∙ m))
 
 nothing-refused : (d e : View) (shape : Shape) (story : List Event) (reason : OpenErr) (status : Status) (trace : Trace) → IsStatusOf reason status →
-    Refuses d true shape reason ⊎ (reason ≡ open_err.Halted halt.Memory) → story_of trace ≡ story → MayLeave (leave_of status) trace → IfRefused reason (IsTrue d.told → AreUnchanged d e) → WasRefused d e shape story status
-nothing-refused d e shape story reason (NotSalt dev) trace is refused told leaves unchanged =
-    let r = salt-reason reason dev is in
-    (refused-so d shape reason (open_err.NotSalt dev) r (λ m. cc) refused, sym told ∙ leaves, subst (λ (x : OpenErr). IfRefused x (IsTrue d.told → AreUnchanged d e)) r unchanged)
-nothing-refused d e shape story reason (OtherShape kept asked) trace is refused told leaves unchanged =
-    let r = shape-reason reason kept asked is in
-    (refused-so d shape reason (open_err.OtherShape kept asked) r (λ m. cc) refused, sym told ∙ leaves, subst (λ (x : OpenErr). IfRefused x (IsTrue d.told → AreUnchanged d e)) r unchanged)
-nothing-refused d e shape story reason status trace is refused told leaves unchanged = tt
+    Refuses d true shape reason ⊎ (reason ≡ open_err.Halted halt.Memory) → story_of trace ≡ story → MayLeave (leave_of status) trace →
+    ((refusal : OpenErr) → IsRefusal refusal → Refuses d true shape refusal → IsTrue d.told → AreAsBefore (may_have_failed status) d e) → WasRefused d e shape story status
+nothing-refused d e shape story reason (NotSalt dev) trace is refused told leaves unwritten =
+    let h = refused-so d shape reason (open_err.NotSalt dev) (salt-reason reason dev is) (λ m. cc) refused in
+    (h, sym told ∙ leaves, λ tells. (unwritten (open_err.NotSalt dev) tt h tells).unchanged refl)
+nothing-refused d e shape story reason (OtherShape kept asked) trace is refused told leaves unwritten =
+    let h = refused-so d shape reason (open_err.OtherShape kept asked) (shape-reason reason kept asked is) (λ m. cc) refused in
+    (h, sym told ∙ leaves, λ tells. (unwritten (open_err.OtherShape kept asked) tt h tells).unchanged refl)
+nothing-refused d e shape story reason status trace is refused told leaves unwritten = tt
+
+-- what was not written is as it was, unless the devices failed
+same-as-before : (d e : View) → SameShape d e → ((dev : ℕ) → ¬ ⊥ → IsUnchanged d e dev) → AreUnchanged d e
+same-as-before d e shape each = record { shape = shape; each = λ dev. each dev (λ x. x) }
+
+as-before : (d e : View) (reason : OpenErr) (status : Status) → IsStatusOf reason status → KeepsAll d e (open_disk_err_of reason) → AreAsBefore (may_have_failed status) d e
+as-before d e reason status how k = record { images = λ dev. k.images dev (λ x. x); unchanged = by reason how k }
+  where
+    never : true ≡ false → AreUnchanged d e
+    never h = absurd (cc h)
+
+    of-reason : (r : OpenErr) → KeepsAll d e (open_disk_err_of r) → may_have_failed (status_opening r) ≡ false → AreUnchanged d e
+    of-reason (open_err.NotSalt dev) k h = same-as-before d e k.shape k.kept
+    of-reason (open_err.OtherShape kept asked) k h = same-as-before d e k.shape k.kept
+    of-reason (open_err.NumbersSpent boot decisions) k h = same-as-before d e k.shape k.kept
+    of-reason (open_err.Halted halt.Stopped) k h = never h
+    of-reason (open_err.Halted halt.DiskFault) k h = never h
+    of-reason (open_err.Halted (halt.DeviceFull dev)) k h = same-as-before d e k.shape k.kept
+    of-reason (open_err.Halted halt.Memory) k h = same-as-before d e k.shape k.kept
+
+    by : (r : OpenErr) → IsStatusOf r status → KeepsAll d e (open_disk_err_of r) → may_have_failed status ≡ false → AreUnchanged d e
+    by r (inl same) k h = of-reason r k (ap may_have_failed (sym same) ∙ h)
+    by r (inr w) k h = never (ap may_have_failed (sym w.0) ∙ h)
 
 pub behind-refused : (d e : View) (shape : Shape) (story : List Event) (old status : Status) → IsBehind old status → WasRefused d e shape story old → WasRefused d e shape story status
 behind-refused d e shape story old status (inl same) h = subst (WasRefused d e shape story) (sym same) h
@@ -127,9 +154,16 @@ module _ (command : Command) (d : View) (started0 : Bool) (shape0 : Shape) (was 
 
   -- nothing: it was refused, and what is refused now would have been
   module _ (e : View) (shape : Shape) (started : Bool) (q : Pending) (asked : shape ≡ shape0) (able : CanStart shape started q e) (reason : OpenErr) (story : List Event)
-      (x : FailsToFind (Refuses d started0 shape0) (Finds d started0 shape0) (Refuses e started shape) (Finds e started shape) (FillsIn e shape) reason story) where
+      (x : FailsToFind (Refuses d started0 shape0) (Finds d started0 shape0) (Refuses e started shape) (Finds e started shape) (FillsIn e shape) reason story)
+      (kept : (refusal : OpenErr) → IsRefusal refusal → Refuses d started0 shape0 refusal → IsTrue d.told → KeepsAll d e (open_disk_err_of reason)) where
     now : shape ≡ shape_of command
     now = asked ∙ asked0
+
+    refuses-then : (r : OpenErr) → Refuses d true (shape_of command) r → Refuses d started0 shape0 r
+    refuses-then r h = subst (λ (s : Shape). Refuses d started0 s r) (sym asked0) (subst (λ (b : Bool). Refuses d b (shape_of command) r) (sym was) h)
+
+    unwritten : (status : Status) → IsStatusOf reason status → (refusal : OpenErr) → IsRefusal refusal → Refuses d true (shape_of command) refusal → IsTrue d.told → AreAsBefore (may_have_failed status) d e
+    unwritten status is r refusal h tells = as-before d e reason status is (kept r refusal (refuses-then r h) tells)
 
     was-refused : Refuses d true (shape_of command) reason ⊎ (reason ≡ open_err.Halted halt.Memory)
     was-refused = elim x.refused [ inl h ↦ inl (refuses-first reason h) | inr m ↦ inr m ]
@@ -147,15 +181,15 @@ module _ (command : Command) (d : View) (started0 : Bool) (shape0 : Shape) (was 
       no_more_stands = λ told image left k h.
           found-is k (x.less.finds_no_more k (λ t. record { image = image; comes = may-come e started able.settled image left; is = subst (λ (s : Shape). StandsFor s image k) (sym now) h }));
       full = λ dev full. by dev full is;
+      unwritten = unwritten status is;
     }
       where
         by : (dev : ℕ) → status ≡ DeviceFull dev → IsStatusOf reason status → FillsIn e (shape_of command) OfOpening dev
         by dev full (inl same) = subst (λ (s : Shape). FillsIn e s OfOpening dev) now (x.full dev (full-reason reason dev (sym same ∙ full)))
         by dev full (inr w) = absurd (not-full status dev w.0 full)
 
-    pub nothing-begun : (status : Status) (trace : Trace) → IsStatusOf reason status → story_of trace ≡ story → MayLeave (leave_of status) trace → IfRefused reason (IsTrue d.told → AreUnchanged d e) →
-        WasRefused d e (shape_of command) story status
-    nothing-begun status trace is told leaves unchanged = nothing-refused d e (shape_of command) story reason status trace is was-refused told leaves unchanged
+    pub nothing-begun : (status : Status) (trace : Trace) → IsStatusOf reason status → story_of trace ≡ story → MayLeave (leave_of status) trace → WasRefused d e (shape_of command) story status
+    nothing-begun status trace is told leaves = nothing-refused d e (shape_of command) story reason status trace is was-refused told leaves (unwritten status is)
 
 -- a run over it begins
 pub begins-over : (k : Kept) (now : Bool) (lies : ℕ → Point → Type 0) (flies : Option Flight) (story : List Event) → IsUnfound story → IsSoundKept k → IsOpenedFirst lies k now → flies ≡ None →
@@ -174,63 +208,87 @@ module _ (e : View) where
   abbrev left : Devices → Kept → Kept → Type 0
   left x a b = StandsLeft x.shape x.started x.store x.numbers x.pending e a b
 
+  abbrev rested : Devices → Kept → Type 0
+  rested x k = RestsAs x.shape x.started e k
+
   ends-over : (x : Devices) (target : Shape) → x.shape ≡ target → (found : Option Numbers) (books : Option Books) (single : Bool) (i : Option InFlight) (status : Status) (trace : Trace) →
-      IsPlayed trace → EndsFound (Lies (held x) (left x) e.can_stop found books single i) (Left (held x) (left x) found) (FillsIn e x.shape) status trace → EndsBehind e target status trace
+      IsPlayed trace → EndsFound (Lies (held x) (left x) e.can_stop found books single i)
+      (λ numbers room p. Left (held x) (left x) (IsSome i) found room p × IsAlone (rested x) numbers room p) (FillsIn e x.shape) status trace → EndsBehind e target status (flight_at status (flight_of i)) trace
   ends-over x target same found books single i status trace played f =
-      subst (λ (s : Shape). EndsBehind e s status trace) same (ends-behind x.shape x.started x.store x.numbers x.pending e found books single i status trace played f)
+      subst (λ (s : Shape). EndsBehind e s status (flight_at status (flight_of i)) trace) same (ends-behind x.shape x.started x.store x.numbers x.pending e found books single i status trace played f)
+
+  abbrev LeftIn : Database Devices → Option Numbers → ℕ → Point → Type 0
+  LeftIn x numbers room p = database_left held left rested x numbers room p
 
   abbrev FoundAt : Database Devices → Status → Trace → Type 0
   FoundAt x status trace =
-      EndsFound (λ room p. database_lies held left e.can_stop x room p) (λ room p. database_left held left x room p) (λ w dev. IfEither (λ o. FillsIn e o.storage.shape w dev) (λ g. FillsIn e g.storage.shape w dev) x)
+      EndsFound (λ room p. database_lies held left e.can_stop x room p) (LeftIn x) (λ w dev. IfEither (λ o. FillsIn e o.storage.shape w dev) (λ g. FillsIn e g.storage.shape w dev) x)
       status trace
 
   -- whether it is closed or open there
   pub ends-there : (x : Database Devices) (target : Shape) → by_half (λ o. o.storage.shape) (λ g. g.storage.shape) no_shape x ≡ target → (status : Status) (trace : Trace) → IsPlayed trace →
-      FoundAt x status trace → EndsBehind e target status trace
+      FoundAt x status trace → EndsBehind e target status (flight_at status (database_flight x)) trace
   ends-there (Closed o) target same status trace played f = ends-over o.storage target same o.found (opening_books o.stage) o.single o.in_flight status trace played f
   ends-there (Open g) target same status trace played f = ends-over g.storage target same None (serving_books g.stage) g.single g.in_flight status trace played f
   ends-there Moving target same status trace played f = absurd f.stands
 
+  -- and where the sink failed behind it
+  told-none : (x : Database Devices) (numbers : Option Numbers) (room : ℕ) (p : Point) → LeftIn x numbers room p → LeftIn x None room p
+  told-none (Closed o) numbers room p h = (h.0, tt)
+  told-none (Open g) numbers room p h = (h.0, tt)
+  told-none Moving numbers room p h = h
+
+  unwritten-there : (x : Database Devices) (old : Status) (trace : Trace) → (old ≡ Memory → ⊥) → FoundAt x old trace → FoundAt x WriteFault trace
+  unwritten-there x old trace some f = record {
+    room = f.room;
+    point = f.point;
+    keeps = f.keeps;
+    boots = f.boots;
+    may = tt;
+    again = λ never. f.again some;
+    stands = told-none x (numbers_told old) f.room f.point f.stands;
+    full = λ dev is. absurd (cc is);
+  }
+
 module _ (d e : View) (x : Database Devices) where
-  module _ (promised : (trace : Trace) → IsPlayed trace → WellKept (start_of trace).kept → Promises trace) (start : Start) (sound : IsSoundKept start.kept) (stops : start.can_stop ≡ d.can_stop)
-      (f : Option Flight) (s : Streams) (story : List Event) where
+  module _ (promised : (trace : Trace) → IsPlayed trace → WellKept (start_of trace).kept → Promises trace) (start : Start) (sound : IsSoundKept start.kept) (unspent : are_spent start.kept.boot start.kept.decisions ≡ false)
+      (stops : start.can_stop ≡ d.can_stop) (s : Streams) (story : List Event) where
     module _ (parts : ℕ) (asked : by_half (λ o. o.storage.shape) (λ g. g.storage.shape) no_shape x ≡ shape_of (Run parts)) (stood : Finds d true (shape_of (Run parts)) start.kept) (status : Status)
-        (y : (run : IsRun start status f s.script s.left s.before story s.now) × FoundAt e x status run.played.trace) where
-      pub script-over : RunsOver (Run parts) d e status (flight_at status f) s story
+        (y : (run : IsRun start status (database_flight x) s.script s.left s.before story s.now) × FoundAt e x status run.played.trace) where
+      pub script-over : RunsOver (Run parts) d e status (flight_at status (database_flight x)) s story
       script-over = record {
         start = start;
         stood = stood;
         sound = sound;
+        unspent = unspent;
         stops = stops;
-        replays = script-replays promised parts status f s story start sound.well y.0;
+        replays = script-replays promised parts status (database_flight x) s story start sound.well y.0;
         ends = ends-there e x (shape_of (Run parts)) asked status y.0.played.trace y.0.played.tells.played y.1;
       }
 
     module _ (calls done : ℕ) (asked : by_half (λ o. o.storage.shape) (λ g. g.storage.shape) no_shape x ≡ shape_of (Load calls)) (stood : Finds d true (shape_of (Load calls)) start.kept) (old status : Status) (how : IsBehind old status)
-        (summed : IsSummary status (summary_text calls done story) s.before s.now) (y : (run : IsPlayedLoad start old f calls done story) × FoundAt e x old run.trace) where
+        (summed : IsSummary status (summary_text calls done story) s.before s.now) (y : (run : IsPlayedLoad start old (database_flight x) calls done story) × FoundAt e x old run.trace) where
       abbrev Loaded : Status → Type 0
-      Loaded t = (r : IsPlayedLoad start t f calls done story) × EndsBehind e (shape_of (Load calls)) t r.trace
+      Loaded t = (r : IsPlayedLoad start t (database_flight x) calls done story) × FoundAt e x t r.trace
 
       loaded : Loaded status
       loaded = by how
         where
-          there : Loaded old
-          there = (y.0, ends-there e x (shape_of (Load calls)) asked old y.0.trace y.0.tells.played y.1)
-
           by : IsBehind old status → Loaded status
-          by (inl same) = subst Loaded (sym same) there
+          by (inl same) = subst Loaded (sym same) y
           by (inr w) =
               subst Loaded (sym w.0)
-              (load-unwritten start old f calls done story w.1 there.0, unwritten-behind e (shape_of (Load calls)) old there.0.trace there.1)
+              (load-unwritten start old (database_flight x) calls done story w.1 y.0, unwritten-there e x old y.0.trace w.1 y.1)
 
-      pub load-over : RunsOver (Load calls) d e status (flight_at status f) s story
+      pub load-over : RunsOver (Load calls) d e status (flight_at status (database_flight x)) s story
       load-over = record {
         start = start;
         stood = stood;
         sound = sound;
+        unspent = unspent;
         stops = stops;
-        replays = load-replays promised calls done status f s story start sound.well loaded.0 summed;
-        ends = loaded.1;
+        replays = load-replays promised calls done status (database_flight x) s story start sound.well loaded.0 summed;
+        ends = ends-there e x (shape_of (Load calls)) asked status loaded.0.trace loaded.0.tells.played loaded.1;
       }
 
 -- a workload that was not begun
@@ -290,6 +348,10 @@ pub behind-faults : (d e : View) (story : List Event) (old status : Status) → 
 behind-faults d e story old status (inl same) h = subst (λ (t : Status). AreFaultsOf t d.faults story e.faults) (sym same) h.faults
 behind-faults d e story old status (inr w) h = subst (λ (t : Status). AreFaultsOf t d.faults story e.faults) (sym w.0) (run-unwritten d e old story w.1 h).faults
 
-pub behind-stops : (d e : View) (story : List Event) (old status : Status) → IsBehind old status → CountsRun d e old story → (status ≡ Memory → ⊥) → d.stops_left + armed_in story ≡ stopped_in story + e.stops_left
-behind-stops d e story old status (inl same) h some = h.stops (λ m. some (same ∙ m))
-behind-stops d e story old status (inr w) h some = h.stops w.1
+pub behind-stops : (d e : View) (story : List Event) (old status : Status) → IsBehind old status → CountsRun d e old story → AreStopsOf status d.armed story e.armed
+behind-stops d e story old status (inl same) h = subst (λ (t : Status). AreStopsOf t d.armed story e.armed) (sym same) h.stops
+behind-stops d e story old status (inr w) h = subst (λ (t : Status). AreStopsOf t d.armed story e.armed) (sym w.0) (run-unwritten d e old story w.1 h).stops
+
+-- where nothing is told, those are armed that were
+pub none-come : (status : Status) (stops : List (ℕ × ℕ)) (story : List Event) → story ≡ [] → AreStopsOf status stops story stops
+none-come status stops story none = record { stops = stops; behind = ap (λ (es : List Event). armed_behind es (Some stops)) none; are = λ other. refl }

@@ -7,3 +7,4 @@ mod EngineEnds
 mod Said
 mod Completes
 mod Commanded
+pub mod Staying

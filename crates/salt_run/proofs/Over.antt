@@ -2,55 +2,68 @@
 use Rattle.salt_books.specs.declared.books.Books.{Books}
 use Rattle.salt_commit.specs.declared.store.Store.{Store}
 use Rattle.salt_devices.specs.Filling.{FillsIn}
-use Rattle.salt_devices.specs.Standing.{StandsHeld, StandsLeft}
+use Rattle.salt_devices.specs.Standing.{RestsAs, StandsHeld, StandsLeft}
 use Rattle.salt_devices.specs.declared.pending.Pending.{Pending}
 use Rattle.salt_disk.specs.Disks.{IsImage, View}
+use Rattle.salt_engine.specs.Flights.{flight_of}
 use Rattle.salt_engine.specs.Standing.{Left, Lies}
+use Rattle.salt_engine.specs.Stored.{IsAlone}
 use Rattle.salt_engine.specs.declared.flights.InFlight.{InFlight}
+use Rattle.salt_keeps.specs.Points.{Point}
 use Rattle.salt_model.specs.Played.{IsPlayed}
 use Rattle.salt_model.specs.Trace.{Trace}
-use Rattle.salt_run.proofs.Behind.{is-behind, numbers-behind}
-use Rattle.salt_run.proofs.Images.{StandsAt, stands-left}
-use Rattle.salt_run.specs.Ending.{AreNumbersBehind, EndsBehind, IsFullBehind, StandsBehind}
+use Rattle.salt_run.proofs.Behind.{is-behind}
+use Rattle.salt_run.proofs.Images.{StandsAt, stands-alone, stands-left}
+use Rattle.salt_run.specs.Ending.{AreSpentBehind, EndsBehind, IsFullBehind, StandsBehind, flight_at}
 use Rattle.salt_serving.specs.Ending.{EndsFound, MayEndAt}
-use Rattle.salt_serving.specs.declared.status.Status.TheVariants.{DeviceFull, Memory, NumbersSpent, WriteFault}
+use Rattle.salt_serving.specs.Stopping.{numbers_told}
+use Rattle.salt_serving.specs.declared.status.Status.TheVariants.{DeviceFull, NumbersSpent}
 use Rattle.salt_serving.specs.declared.status.Status.{Status}
-use Rattle.salt_stands.specs.Stands.{are_spent}
 use Rattle.salt_storage.specs.declared.found.Numbers.{Numbers}
 use Rattle.salt_values.specs.declared.placement.Shape.{Shape}
-use Rattle.std.proofs.Common.{subst, sym, ◌∙◌}
-use Rattle.std.specs.Prelude.{Bool, IsTrue, List, Option, true, ℕ, ◌≡◌}
+use Rattle.std.proofs.Common.{subst, ◌∙◌}
+use Rattle.std.specs.Prelude.{Bool, IsSome, IsTrue, List, None, Option, Some, refl, ℕ, ⊤, ◌≡◌}
+
+-- what is in flight is told
+told-some : (i : Option InFlight) → IsSome i → IsSome (flight_of i)
+told-some (Some f) h = refl
+told-some None h = h
 
 module _ (shape : Shape) (started : Bool) (o : Option Store) (n : Numbers) (q : Pending) (d : View)
-    (found : Option Numbers) (books : Option Books) (single : Bool) (i : Option InFlight) (status : Status) (trace : Trace) (played : IsPlayed trace)
-    (x : EndsFound (Lies (StandsHeld shape started o n q d) (StandsLeft shape started o n q d) d.can_stop found books single i)
-    (Left (StandsHeld shape started o n q d) (StandsLeft shape started o n q d) found) (FillsIn d shape) status trace) where
-  images : IsTrue d.told → (image : ℕ → List ℕ) → IsImage d image → StandsBehind shape trace image
-  images told image is =
-      let s : StandsAt shape x.room x.point image = stands-left shape started o n q d told x.room x.point image is found x.stands in
-      record { found = s.found; stands = s.stands; is = is-behind trace played x.point x.keeps x.room s.found x.boots s.left }
+    (found : Option Numbers) (books : Option Books) (single : Bool) (i : Option InFlight) (status : Status) (trace : Trace) (played : IsPlayed trace) where
+  abbrev LeftAt : Option Numbers → ℕ → Point → Type 0
+  LeftAt numbers room p = Left (StandsHeld shape started o n q d) (StandsLeft shape started o n q d) (IsSome i) found room p × IsAlone (RestsAs shape started d) numbers room p
 
-  spent : (boot decisions : ℕ) → status ≡ NumbersSpent boot decisions → (are_spent boot decisions ≡ true) × AreNumbersBehind trace boot decisions
-  spent boot decisions is =
-      let m : MayEndAt x.room x.point (NumbersSpent boot decisions) = subst (MayEndAt x.room x.point) is x.may in
-      let lies = x.again (other boot decisions is) in
-      (m.1.spent, numbers-behind trace played x.point x.keeps i lies.flies x.room x.boots boot decisions m.1)
-    where
-      other : (boot decisions : ℕ) → status ≡ NumbersSpent boot decisions → status ≡ Memory → ⊥
-      other boot decisions is m = let both : NumbersSpent boot decisions ≡ Memory = sym is ∙ m in cc
+  module _ (x : EndsFound (Lies (StandsHeld shape started o n q d) (StandsLeft shape started o n q d) d.can_stop found books single i) LeftAt (FillsIn d shape) status trace) where
+    images : IsTrue d.told → (image : ℕ → List ℕ) → IsImage d image → StandsBehind shape status (flight_at status (flight_of i)) trace image
+    images told image is = by status x.stands
+      where
+        by : (t : Status) → LeftAt (numbers_told t) x.room x.point → StandsBehind shape t (flight_at t (flight_of i)) trace image
+        by (NumbersSpent boot decisions) h = record {
+          found = h.1.kept;
+          stands = stands-alone shape started o n q d told (IsSome i) x.room x.point image is found h.0 h.1.kept h.1.resting;
+          is = is-behind trace played x.point x.keeps ⊤ ⊤ (λ v. v) x.room h.1.kept x.boots h.1.left;
+          numbers = (h.1.boot_is, h.1.decisions_are);
+        }
+        by t h =
+            let s : StandsAt shape (IsSome i) x.room x.point image = stands-left shape started o n q d told (IsSome i) x.room x.point image is found h.0 in
+            record { found = s.found; stands = s.stands; is = is-behind trace played x.point x.keeps (IsSome i) (IsSome (flight_of i)) (told-some i) x.room s.found x.boots s.left; numbers = tt }
 
-  full : (dev : ℕ) → status ≡ DeviceFull dev → IsTrue d.told → IsFullBehind d shape trace dev
-  full dev is told = let f = x.full dev is in record { point = x.point; keeps = x.keeps; next = f.0; writes = f.1; fills = f.2 told }
+    spent : (boot decisions : ℕ) → status ≡ NumbersSpent boot decisions → AreSpentBehind trace boot decisions
+    spent boot decisions is =
+        let m : MayEndAt x.room x.point (NumbersSpent boot decisions) = subst (MayEndAt x.room x.point) is x.may in
+        let h : LeftAt (numbers_told (NumbersSpent boot decisions)) x.room x.point = subst (λ (t : Status). LeftAt (numbers_told t) x.room x.point) is x.stands in
+        record {
+          down = x.keeps.state.units.phase ∙ m.0;
+          spent = m.1.spent;
+          found = h.1.kept;
+          is = is-behind trace played x.point x.keeps ⊤ ⊤ (λ v. v) x.room h.1.kept x.boots h.1.left;
+          boot_is = h.1.boot_is;
+          decisions_are = h.1.decisions_are;
+        }
 
-  pub ends-behind : EndsBehind d shape status trace
-  ends-behind = record { images = images; spent = spent; full = full }
+    full : (dev : ℕ) → status ≡ DeviceFull dev → IsTrue d.told → IsFullBehind d shape trace dev
+    full dev is told = let f = x.full dev is in record { point = x.point; keeps = x.keeps; next = f.0; writes = f.1; fills = f.2 told }
 
--- and where the sink failed behind it
-pub unwritten-behind : (d : View) (shape : Shape) (status : Status) (trace : Trace) → EndsBehind d shape status trace → EndsBehind d shape WriteFault trace
-unwritten-behind d shape status trace x = record { images = x.images; spent = λ boot decisions is. absurd (spent boot decisions is); full = λ dev is. absurd (full dev is) }
-  where
-    spent : (boot decisions : ℕ) → WriteFault ≡ NumbersSpent boot decisions → ⊥
-    spent boot decisions is = cc
-
-    full : (dev : ℕ) → WriteFault ≡ DeviceFull dev → ⊥
-    full dev is = cc
+    pub ends-behind : EndsBehind d shape status (flight_at status (flight_of i)) trace
+    ends-behind = record { images = images; spent = spent; full = full }

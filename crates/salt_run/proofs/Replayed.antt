@@ -34,6 +34,7 @@ module _ (promised : (trace : Trace) → IsPlayed trace → WellKept (start_of t
         trace = p.trace;
         played = p.tells;
         promises = keeps start p.trace story well p.tells;
+        unspent = p.unspent;
         does = (record { texts = p.texts; reads = p.reads; lines = p.lines }, x.told);
         leaves = p.leaves;
         flies = flies-told status p.trace f p.flies;
@@ -50,6 +51,7 @@ module _ (promised : (trace : Trace) → IsPlayed trace → WellKept (start_of t
     trace = x.trace;
     played = x.tells;
     promises = keeps start x.trace story well x.tells;
+    unspent = x.unspent;
     does = (
       x.lines,
       summed-as status (summary_text calls done story) (summary_text calls (length (lines_of x.trace)) (story_of x.trace)) s.before s.now

@@ -81,4 +81,5 @@ load-unwritten start status told calls done story some x = record {
   count = λ other. x.count some;
   leaves = leaves-output x.trace x.tells.played calls status some x.lines x.leaves;
   flies = flies-output x.trace x.tells.played calls status told some x.lines x.leaves x.flies;
+  unspent = x.unspent;
 }

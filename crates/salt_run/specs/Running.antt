@@ -1,10 +1,11 @@
 -- What a run has to be: its start, its trace, what it writes, and what it leaves.
 use Rattle.salt_devices.specs.Filling.{FillsIn}
 use Rattle.salt_devices.specs.Refusing.{Finds, Refuses}
-use Rattle.salt_disk.specs.Disks.{AreUnchanged, IsImage, View}
+use Rattle.salt_disk.specs.Disks.{AreUnchanged, IsImage, Shrinks, View}
 use Rattle.salt_devices.specs.Leaving.{StandsFor}
 use Rattle.salt_devices.specs.Refusing.{RefusedAs}
 use Rattle.salt_model.specs.Ends.{MayLeave}
+use Rattle.salt_model.specs.Everywhere.{Each}
 use Rattle.salt_model.specs.Kept.{Kept, WellKept}
 use Rattle.salt_model.specs.Played.{Tells}
 use Rattle.salt_model.specs.Trace.{Start, Trace}
@@ -16,9 +17,12 @@ use Rattle.salt_run.specs.Ending.{EndsBehind, IsFlightTold}
 use Rattle.salt_run.specs.Promises.{Promises}
 use Rattle.salt_serving.specs.Ending.{IsStatusOf}
 use Rattle.salt_serving.specs.Run.{leave_of}
-use Rattle.salt_serving.specs.declared.status.Status.TheVariants.{DeviceFull, NotSalt, OtherShape}
+use Rattle.salt_serving.specs.declared.status.Status.TheVariants.{DeviceFull, DiskFault, NotSalt, OtherShape, WriteFault}
 use Rattle.salt_serving.specs.declared.status.Status.{Status}
+use Rattle.salt_stands.specs.Stands.{are_spent}
+use Rattle.salt_stands.specs.Unspent.{OpensUnspent}
 use Rattle.salt_steps.specs.Opening.{IsUnfound}
+use Rattle.salt_storage.specs.Answers.{IsRefusal}
 use Rattle.salt_storage.specs.Storing.{IsSoundKept}
 use Rattle.salt_storage.specs.Writing.{OfOpening}
 use Rattle.salt_storage.specs.declared.halt.Halt.TheVariants as halt
@@ -27,29 +31,44 @@ use Rattle.salt_storage.specs.declared.open.OpenErr.TheVariants.{Halted}
 use Rattle.salt_storage.specs.declared.open.OpenErr.{OpenErr}
 use Rattle.salt_values.specs.declared.placement.Shape.{Shape}
 use Rattle.salt_words.specs.declared.command.Command.{Command}
-use Rattle.std.specs.Prelude.{IsTrue, List, Option, [], true, ℕ, ⊤, ◌≡◌, ◌⊎◌}
+use Rattle.std.specs.Prelude.{Bool, IsTrue, List, Option, [], false, true, ℕ, ⊤, ◌≡◌, ◌⊎◌}
 
--- The story is that of a trace which is played from this start and keeps each promise; the command's lines are done, and what is told
--- of them is written.
+-- The story is that of a trace which is played from this start and keeps each promise; no opening goes on from spent numbers; the command's
+-- lines are done, and what is told of them is written.
 pub record Replays (command : Command) (status : Status) (flight : Option Flight) (s : Streams) (story : List Event) (start : Start) : Type 0 where
   pub trace : Trace
   pub played : Tells start trace story
   pub promises : Promises trace
+  pub unspent : Each OpensUnspent trace
   pub does : Does command status s trace
   pub leaves : MayLeave (leave_of status) trace
   pub flies : IsFlightTold status trace flight
 
--- A run over what the devices stood for when it began, blank ones for nothing, if they tell; and whether they can be stopped.
+-- A run over what the devices stood for when it began, blank ones for nothing, if they tell, with numbers that are not spent; and whether
+-- they can be stopped.
 pub record RunsOver (command : Command) (old new : View) (status : Status) (flight : Option Flight) (s : Streams) (story : List Event) : Type 0 where
   pub start : Start
   pub stood : Finds old true (shape_of command) start.kept
   pub sound : IsSoundKept start.kept
+  pub unspent : are_spent start.kept.boot start.kept.decisions ≡ false
   pub stops : start.can_stop ≡ old.can_stop
   pub replays : Replays command status flight s story start
-  pub ends : EndsBehind new (shape_of command) status replays.trace
+  pub ends : EndsBehind new (shape_of command) status flight replays.trace
+
+-- where the devices may have failed, also if the sink failed behind that
+abbrev pub may_have_failed : Status → Bool
+may_have_failed DiskFault = true
+may_have_failed WriteFault = true
+may_have_failed status = false
+
+-- nothing was written: each image is one from before, and unless the devices may have failed, they are as they were
+pub record AreAsBefore (failed : Bool) (old new : View) : Type 0 where
+  pub images : (dev : ℕ) → Shrinks old new dev
+  pub unchanged : failed ≡ false → AreUnchanged old new
 
 -- Or an opening did not find what they stood for: it was refused, failed, or memory ran out. Nothing is told but stops, so that it replays
--- from each start; what the devices are refused as now, or stand for, they were or did when it began.
+-- from each start; what the devices are refused as now, or stand for, they were or did when it began; and where they were refused, nothing
+-- was written.
 pub record FindsNothing (command : Command) (old new : View) (status : Status) (flight : Option Flight) (s : Streams) (story : List Event) : Type 0 where
   pub reason : OpenErr
   pub is : IsStatusOf reason status
@@ -59,6 +78,7 @@ pub record FindsNothing (command : Command) (old new : View) (status : Status) (
   pub no_more_refused : IsTrue new.told → (image : ℕ → List ℕ) → IsImage new image → (e : OpenErr) → RefusedAs (shape_of command) image e → Refuses old true (shape_of command) e
   pub no_more_stands : IsTrue new.told → (image : ℕ → List ℕ) → IsImage new image → (k : Kept) → StandsFor (shape_of command) image k → Finds old true (shape_of command) k
   pub full : (dev : ℕ) → status ≡ DeviceFull dev → FillsIn new (shape_of command) OfOpening dev
+  pub unwritten : (refusal : OpenErr) → IsRefusal refusal → Refuses old true (shape_of command) refusal → IsTrue old.told → AreAsBefore (may_have_failed status) old new
 
 abbrev pub Runs : Command → (old new : View) → Status → Option Flight → Streams → List Event → Type 0
 Runs command old new status flight s story =

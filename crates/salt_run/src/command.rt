@@ -8,15 +8,15 @@ ghost use Rattle.salt_run.specs.Commands.{shape_of};
 ghost use Rattle.salt_run.specs.Completing.{MeetsNothing};
 ghost use Rattle.salt_run.specs.Doing.{streams};
 ghost use Rattle.salt_run.specs.Running.{FindsNothing, Runs};
-ghost use Rattle.salt_serving.specs.Counted.{AreFaultsOf};
-ghost use Rattle.salt_steps.specs.Counting.{armed_in, stopped_in};
+ghost use Rattle.salt_serving.specs.Counted.{AreFaultsOf, AreStopsOf};
+ghost use Rattle.salt_storage.specs.Staying.{StaysWithin};
 ghost use Rattle.salt_storage.specs.declared.open.OpenErr.TheVariants.{NotSalt, NumbersSpent, OtherShape};
 ghost use Rattle.salt_values.specs.Placement.{GivesPlaceOf, TakesEachKey};
 ghost use Rattle.salt_values.specs.declared.placement.Shape.{Shape};
 ghost use Rattle.salt_words.specs.Words.{command_of};
 ghost use Rattle.salt_words.specs.declared.command.Command.TheVariants.{Load, Run};
 ghost use Rattle.salt_words.specs.declared.command.Command.{Command};
-ghost use Rattle.std.specs.Prelude.{[], IsTrue, List, None, Option, Some, true, ℕ, ◌+◌, ◌↔◌, ◌≡◌, ◌≢◌, ◌≤◌, ◌⊎◌};
+ghost use Rattle.std.specs.Prelude.{[], IsTrue, List, None, Option, Some, true, ℕ, ◌↔◌, ◌≡◌, ◌≢◌, ◌≤◌, ◌⊎◌};
 
 use crate::ended::Ended;
 use crate::promises::played_keeps_promises;
@@ -51,7 +51,7 @@ pub fn run<S: Source, K: Sink, D: Disks, F: Fn(PlaceKind, &Key, u32) -> u32>(
     // The words are no command, and then nothing is touched.
     ensures usage { (result.status ≡ Status.Usage) ↔ (command_of words.now ≡ None) }
     ensures untouched { result.status ≡ Status.Usage
-        → (source.new ≡ source.old) × (sink.new ≡ sink.old) × (disks.new ≡ disks.old) × (result.story ≡ []) }
+        → (source.new ≡ source.old) × (sink.new ≡ sink.old) × (disks.new ≡ disks.old) × (result.story ≡ []) × (result.flight ≡ None) }
 
     // The story replays from what the devices stood for, keeps each promise, and is written; and what a stop may leave of the devices
     // stands for what is kept behind it. Or an opening did not find what they stood for.
@@ -82,10 +82,13 @@ pub fn run<S: Source, K: Sink, D: Disks, F: Fn(PlaceKind, &Key, u32) -> u32>(
         → (result.status ≡ Status.Done) ⊎ (result.status ≡ Status.Memory) }
 
     // Faults and stops of the devices are those that are told: a fall by a fault comes where their count rose, and so does the end of a
-    // run within an opening; and a stop comes only of those that were left at first, or that a line armed.
+    // run within an opening. A stop comes only of those that were armed at first, or that a line armed before, in their order; and unless
+    // memory ran out, the others are armed still.
     ensures downs { AreFaultsOf result.status (D.view disks.old).faults result.story (D.view disks.new).faults }
-    ensures stops { result.status ≢ Status.Memory
-        → (D.view disks.old).stops_left + armed_in result.story ≡ stopped_in result.story + (D.view disks.new).stops_left }
+    ensures stops { AreStopsOf result.status (D.view disks.old).armed result.story (D.view disks.new).armed }
+
+    // No device is written that is not of the shape that the command asks for.
+    ensures within { (command : Command) → command_of words.now ≡ Some command → StaysWithin (shape_of command) (shape_of command) (D.view disks.old) (D.view disks.new) }
     ensures shape { SameShape (D.view disks.old) (D.view disks.new) }
 {
     // For the proof alone: what holds of each story.

@@ -1,7 +1,7 @@
 //! The runs that commands ask for, each over a database of its own.
 
 ghost use Rattle.salt_devices.specs.Settling.{AreSettled};
-ghost use Rattle.salt_disk.specs.Disks.{Rose, SameShape};
+ghost use Rattle.salt_disk.specs.Disks.{Rose};
 ghost use Rattle.salt_io.specs.Streams.{IsAtEnd};
 ghost use Rattle.salt_load.specs.declared.limits.TheConstants.{CALLS_MOST};
 ghost use Rattle.salt_model.specs.Kept.{WellKept};
@@ -13,13 +13,13 @@ ghost use Rattle.salt_run.specs.Ending.{flight_at};
 ghost use Rattle.salt_run.specs.Promises.{Promises};
 ghost use Rattle.salt_run.specs.Running.{Runs, WasRefused};
 ghost use Rattle.salt_run.specs.Summing.{IsSummary};
-ghost use Rattle.salt_serving.specs.Counted.{AreFaultsOf};
+ghost use Rattle.salt_serving.specs.Counted.{AreFaultsOf, AreStopsOf};
 ghost use Rattle.salt_serving.specs.Stopping.{outcome};
-ghost use Rattle.salt_steps.specs.Counting.{armed_in, stopped_in};
+ghost use Rattle.salt_storage.specs.Staying.{StaysWithin};
 ghost use Rattle.salt_summary.specs.Summary.{summary_text};
 ghost use Rattle.salt_values.specs.Placement.{GivesPlaceOf, IsParts, TakesEachKey};
 ghost use Rattle.salt_words.specs.declared.command.Command.TheVariants.{Load, Run};
-ghost use Rattle.std.specs.Prelude.{List, Option, ℕ, ◌+◌, ◌≡◌, ◌≢◌, ◌≤◌, ◌⊎◌};
+ghost use Rattle.std.specs.Prelude.{List, Option, ℕ, ◌≡◌, ◌≢◌, ◌≤◌, ◌⊎◌};
 
 use crate::ended::Ended;
 use salt_database::{Database, Opening};
@@ -94,9 +94,8 @@ pub fn run_script<S: Source, K: Sink, D: Disks, F: Fn(PlaceKind, &Key, u32) -> u
     ensures reads_later { S.faults source.old ≤ S.faults source.new }
     ensures writes_later { K.faults sink.old ≤ K.faults sink.new }
     ensures downs { AreFaultsOf result.status (D.view disks.old).faults result.story (D.view disks.new).faults }
-    ensures stops { result.status ≢ Status.Memory
-        → (D.view disks.old).stops_left + armed_in result.story ≡ stopped_in result.story + (D.view disks.new).stops_left }
-    ensures shape { SameShape (D.view disks.old) (D.view disks.new) }
+    ensures stops { AreStopsOf result.status (D.view disks.old).armed result.story (D.view disks.new).armed }
+    ensures within { StaysWithin (shape_of (Run parts)) (shape_of (Run parts)) (D.view disks.old) (D.view disks.new) }
 {
     let mut story = Items::new(alloc);
     let mut devices = Devices::new(alloc, shape_of(parts));
@@ -168,9 +167,8 @@ pub fn run_load<K: Sink, D: Disks, F: Fn(PlaceKind, &Key, u32) -> u32>(
     ensures no_write_fault { result.status ≢ Status.WriteFault → K.faults sink.new ≡ K.faults sink.old }
     ensures writes_later { K.faults sink.old ≤ K.faults sink.new }
     ensures downs { AreFaultsOf result.status (D.view disks.old).faults result.story (D.view disks.new).faults }
-    ensures stops { result.status ≢ Status.Memory
-        → (D.view disks.old).stops_left + armed_in result.story ≡ stopped_in result.story + (D.view disks.new).stops_left }
-    ensures shape { SameShape (D.view disks.old) (D.view disks.new) }
+    ensures stops { AreStopsOf result.status (D.view disks.old).armed result.story (D.view disks.new).armed }
+    ensures within { StaysWithin (shape_of (Load calls)) (shape_of (Load calls)) (D.view disks.old) (D.view disks.new) }
 {
     let mut story = Items::new(alloc);
     let mut devices = Devices::new(alloc, shape_of(PARTS));

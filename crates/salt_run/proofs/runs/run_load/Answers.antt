@@ -7,6 +7,7 @@ use Rattle.salt_engine.specs.Flights.{flight_of}
 use Rattle.salt_model.specs.Trace.{Start}
 use Rattle.salt_run.proofs.EngineEnds.{any-start, as-told, begins-over, behind-faults, behind-outcome, behind-refused, behind-stops, flight-none, found-counts, found-is, load-over, nothing, nothing-begun, over-refused, unfound-counts, unfound-load, unfound-status}
 use Rattle.salt_run.proofs.Replayed.{load-replays}
+use Rattle.salt_run.proofs.Staying.{stays-as, stays-from}
 use Rattle.salt_run.proofs.runs.run_load.Goals as goal
 use Rattle.salt_run.specs.Commands.{shape_of}
 use Rattle.salt_run.specs.Doing.{streams}
@@ -14,6 +15,8 @@ use Rattle.salt_run.specs.Ending.{flight_at}
 use Rattle.salt_serving.proofs.Loads.{unfound-loaded}
 use Rattle.salt_serving.specs.Loading.{IsPlayedLoad}
 use Rattle.salt_serving.specs.Stopping.{outcome, status_of, status_opening}
+use Rattle.salt_stands.specs.Stands.{are_spent}
+use Rattle.salt_storage.proofs.Staying.{stays-behind}
 use Rattle.salt_words.specs.declared.command.Command.TheVariants.{Load}
 use Rattle.std.proofs.Common.{ap, inl, inr, refl, subst, sym, ◌∙◌}
 use Rattle.std.specs.Prelude.{Err, None}
@@ -51,8 +54,8 @@ returns-in-Ok-clause-runs g c left =
     let b = begins-over f.kept mid.can_stop _ _ c.find.new.story c.find.ensures.unfound f.sound opens (ap flight_of new.none) in
     let asked = c.new-devices.ensures.shape ∙ c.shape_of.ensures in
     as-told (Load c.args.calls) d e s c.load-lines.new.story status status flies c.flight_at.result refl (c.flight_at.ensures ∙ ap (flight_at status) c.flight.ensures)
-    (inl (load-over d e x c.requires.promised start f.sound c.find.ensures.shape.can_stop flies s c.load-lines.new.story
-    c.args.calls r.lines (c.load-lines.ensures.asked ∙ (λ i. (c.new-opening.ensures.storage i).shape) ∙ c.find.ensures.asked ∙ asked)
+    (inl (load-over d e x c.requires.promised start f.sound ((λ i. are_spent (sym f.is.boot i) (sym f.is.decisions i)) ∙ f.unspent) c.find.ensures.within.shape.can_stop s c.load-lines.new.story
+    c.args.calls r.lines (c.load-lines.ensures.within.asked ∙ (λ i. (c.new-opening.ensures.storage i).shape) ∙ c.find.ensures.within.asked ∙ asked)
     (found-is (Load c.args.calls) d z.started z.shape c.new-devices.ensures.started asked f.kept f.found) (outcome r.done) status
     (behind-outcome (outcome r.done) c.status_behind.result status c.status_behind.ensures c.write_summary-status.ensures.written) c.write_summary-status.ensures.summed (c.load-lines.ensures.ended start b.0 b.1)))
 
@@ -91,6 +94,12 @@ returns-in-Ok-clause-stops g c =
     (behind-outcome (outcome r.done) c.status_behind.result status c.status_behind.ensures c.write_summary-status.ensures.written)
     (found-counts (view c.args.disks.now) (view c.find.new.disks) (view c.load-lines.new.disks) (outcome r.done) c.find.new.story c.load-lines.new.story c.in-Ok.ensures.counts c.load-lines.ensures.counts)
 
+pub returns-in-Ok-clause-within : goal.returns-in-Ok-clause-within
+returns-in-Ok-clause-within g c =
+    let view = g.D.Disks.view in
+    stays-as c.new-devices.result.shape _ (shape_of (Load c.args.calls)) (view c.args.disks.now) (view c.load-lines.new.disks) (c.new-devices.ensures.shape ∙ c.shape_of.ensures)
+    (stays-behind c.find.ensures.within (stays-from (view c.find.new.disks) (view c.load-lines.new.disks) (λ i. (c.new-opening.ensures.storage i).shape) c.load-lines.ensures.within))
+
 -- NOTHING WAS FOUND
 
 pub stop_opening-requires : goal.stop_opening-requires
@@ -108,8 +117,8 @@ returns-in-Err-clause-runs g c left =
     let how = behind-outcome old c.status_of.result status (c.status_of.ensures ∙ ap status_of c.stop_opening.ensures.is) c.write_summary.ensures.written in
     let run : (start : Start) → IsPlayedLoad start status None c.args.calls 0 c.find.new.story = λ start. unfound-load c.args.calls old status how start c.find.new.story (unfound-loaded c.in-Err.reason c.args.calls c.find.new.story c.find.ensures.unfound c.in-Err.ensures.err.empty start) in
     as-told (Load c.args.calls) d e s c.find.new.story status status None None refl (sym (flight-none status))
-    (inr (nothing (Load c.args.calls) d z.started z.shape c.new-devices.ensures.started (c.new-devices.ensures.shape ∙ c.shape_of.ensures) e y.shape y.started y.pending c.find.ensures.asked c.in-Err.ensures.able
-    c.in-Err.reason c.find.new.story c.in-Err.ensures.err status (flight_at status None) s (unfound-status c.in-Err.reason old status refl how) c.find.ensures.unfound
+    (inr (nothing (Load c.args.calls) d z.started z.shape c.new-devices.ensures.started (c.new-devices.ensures.shape ∙ c.shape_of.ensures) e y.shape y.started y.pending c.find.ensures.within.asked c.in-Err.ensures.able
+    c.in-Err.reason c.find.new.story c.in-Err.ensures.err c.in-Err.ensures.unwritten status (flight_at status None) s (unfound-status c.in-Err.reason old status refl how) c.find.ensures.unfound
     (λ start well. load-replays c.requires.promised c.args.calls 0 status None s c.find.new.story start well (run start) c.write_summary.ensures.summed)))
 
 pub returns-in-Err-clause-refused : goal.returns-in-Err-clause-refused
@@ -122,8 +131,8 @@ returns-in-Err-clause-refused g c =
     let old = status_opening c.in-Err.reason in
     let how = behind-outcome old c.status_of.result status (c.status_of.ensures ∙ ap status_of c.stop_opening.ensures.is) c.write_summary.ensures.written in
     let p = unfound-load c.args.calls old status how any-start c.find.new.story (unfound-loaded c.in-Err.reason c.args.calls c.find.new.story c.find.ensures.unfound c.in-Err.ensures.err.empty any-start) in
-    nothing-begun (Load c.args.calls) d z.started z.shape c.new-devices.ensures.started (c.new-devices.ensures.shape ∙ c.shape_of.ensures) e y.shape y.started y.pending c.find.ensures.asked c.in-Err.ensures.able
-    c.in-Err.reason c.find.new.story c.in-Err.ensures.err status p.trace (unfound-status c.in-Err.reason old status refl how) p.tells.told p.leaves c.in-Err.ensures.unchanged
+    nothing-begun (Load c.args.calls) d z.started z.shape c.new-devices.ensures.started (c.new-devices.ensures.shape ∙ c.shape_of.ensures) e y.shape y.started y.pending c.find.ensures.within.asked c.in-Err.ensures.able
+    c.in-Err.reason c.find.new.story c.in-Err.ensures.err c.in-Err.ensures.unwritten status p.trace (unfound-status c.in-Err.reason old status refl how) p.tells.told p.leaves
 
 pub returns-in-Err-clause-downs : goal.returns-in-Err-clause-downs
 returns-in-Err-clause-downs g c =
@@ -142,3 +151,8 @@ returns-in-Err-clause-stops g c =
     let how = behind-outcome old c.status_of.result status (c.status_of.ensures ∙ ap status_of c.stop_opening.ensures.is) c.write_summary.ensures.written in
     (unfound-counts (view c.args.disks.now) (view c.find.new.disks) c.in-Err.reason status c.find.new.story (λ is. c.find.ensures.unstopped (c.in-Err.is ∙ ap Err is)) c.in-Err.ensures.counts
     (unfound-status c.in-Err.reason old status refl how)).stops
+
+pub returns-in-Err-clause-within : goal.returns-in-Err-clause-within
+returns-in-Err-clause-within g c =
+    let view = g.D.Disks.view in
+    stays-as c.new-devices.result.shape _ (shape_of (Load c.args.calls)) (view c.args.disks.now) (view c.find.new.disks) (c.new-devices.ensures.shape ∙ c.shape_of.ensures) c.find.ensures.within

@@ -5,13 +5,16 @@ use Rattle.salt_devices.specs.Standing.{StandsHeld}
 use Rattle.salt_devices.specs.declared.devices.Devices.{Devices}
 use Rattle.salt_engine.specs.Flights.{flight_of}
 use Rattle.salt_model.specs.Trace.{Start}
-use Rattle.salt_run.proofs.EngineEnds.{any-start, as-told, begins-over, behind-faults, flight-none, found-counts, found-is, nothing, nothing-begun, over-refused, refused-as, script-over, unfound-counts}
+use Rattle.salt_run.proofs.EngineEnds.{any-start, as-told, begins-over, behind-faults, behind-stops, flight-none, found-counts, found-is, nothing, nothing-begun, over-refused, refused-as, script-over, unfound-counts}
 use Rattle.salt_run.proofs.Replayed.{script-replays}
+use Rattle.salt_run.proofs.Staying.{stays-as, stays-from}
 use Rattle.salt_run.proofs.runs.run_script.Goals as goal
 use Rattle.salt_run.specs.Commands.{shape_of}
 use Rattle.salt_run.specs.Doing.{streams}
 use Rattle.salt_run.specs.Ending.{flight_at}
 use Rattle.salt_serving.specs.Stopping.{outcome}
+use Rattle.salt_stands.specs.Stands.{are_spent}
+use Rattle.salt_storage.proofs.Staying.{stays-behind}
 use Rattle.salt_words.specs.declared.command.Command.TheVariants.{Run}
 use Rattle.std.proofs.Common.{ap, inl, inr, subst, sym, ◌∙◌}
 use Rattle.std.specs.Prelude.{Err, None}
@@ -49,8 +52,8 @@ returns-in-Ok-clause-runs g c =
     let asked = c.new-devices.ensures.shape ∙ c.shape_of.ensures in
     as-told (Run c.args.parts) d e s c.serve-done.new.story (outcome c.serve-done.result) status flies c.flight_at.result c.status_behind-status.ensures
     (c.flight_at.ensures ∙ ap (flight_at status) c.flight.ensures)
-    (inl (script-over d e x c.requires.promised start f.sound c.find.ensures.shape.can_stop flies s c.serve-done.new.story
-    c.args.parts (c.serve-done.ensures.asked ∙ (λ i. (c.new-opening.ensures.storage i).shape) ∙ c.find.ensures.asked ∙ asked)
+    (inl (script-over d e x c.requires.promised start f.sound ((λ i. are_spent (sym f.is.boot i) (sym f.is.decisions i)) ∙ f.unspent) c.find.ensures.within.shape.can_stop s c.serve-done.new.story
+    c.args.parts (c.serve-done.ensures.within.asked ∙ (λ i. (c.new-opening.ensures.storage i).shape) ∙ c.find.ensures.within.asked ∙ asked)
     (found-is (Run c.args.parts) d z.started z.shape c.new-devices.ensures.started asked f.kept f.found) (outcome c.serve-done.result) (c.serve-done.ensures.ended start b.0 b.1)))
 
 pub returns-in-Ok-clause-refused : goal.returns-in-Ok-clause-refused
@@ -74,10 +77,16 @@ returns-in-Ok-clause-downs g c =
     (found-counts (view c.args.disks.now) (view c.find.new.disks) (view c.serve-done.new.disks) (outcome c.serve-done.result) c.find.new.story c.serve-done.new.story c.in-Ok.ensures.counts c.serve-done.ensures.counts)
 
 pub returns-in-Ok-clause-stops : goal.returns-in-Ok-clause-stops
-returns-in-Ok-clause-stops g c = λ some.
+returns-in-Ok-clause-stops g c =
     let view = g.D.Disks.view in
-    (found-counts (view c.args.disks.now) (view c.find.new.disks) (view c.serve-done.new.disks) (outcome c.serve-done.result) c.find.new.story c.serve-done.new.story c.in-Ok.ensures.counts c.serve-done.ensures.counts).stops
-    (λ m. some (c.status_behind-status.ensures ∙ m))
+    behind-stops (view c.args.disks.now) (view c.serve-done.new.disks) c.serve-done.new.story (outcome c.serve-done.result) c.status_behind-status.result (inl c.status_behind-status.ensures)
+    (found-counts (view c.args.disks.now) (view c.find.new.disks) (view c.serve-done.new.disks) (outcome c.serve-done.result) c.find.new.story c.serve-done.new.story c.in-Ok.ensures.counts c.serve-done.ensures.counts)
+
+pub returns-in-Ok-clause-within : goal.returns-in-Ok-clause-within
+returns-in-Ok-clause-within g c =
+    let view = g.D.Disks.view in
+    stays-as c.new-devices.result.shape _ (shape_of (Run c.args.parts)) (view c.args.disks.now) (view c.serve-done.new.disks) (c.new-devices.ensures.shape ∙ c.shape_of.ensures)
+    (stays-behind c.find.ensures.within (stays-from (view c.find.new.disks) (view c.serve-done.new.disks) (λ i. (c.new-opening.ensures.storage i).shape) c.serve-done.ensures.within))
 
 -- NOTHING WAS FOUND
 
@@ -97,8 +106,8 @@ returns-in-Err-clause-runs g c =
     let s = streams (g.S.Source.left c.args.source.now) (g.S.Source.left c.args.source.now) (g.K.Sink.held c.args.sink.now) (g.K.Sink.held c.tell_unfound.new.sink) in
     let now = outcome c.tell_unfound.result in
     as-told (Run c.args.parts) d e s c.find.new.story now status None None c.status_behind.ensures (sym (flight-none status))
-    (inr (nothing (Run c.args.parts) d z.started z.shape c.new-devices.ensures.started (c.new-devices.ensures.shape ∙ c.shape_of.ensures) e y.shape y.started y.pending c.find.ensures.asked c.in-Err.ensures.able
-    c.in-Err.reason c.find.new.story c.in-Err.ensures.err now (flight_at now None) s c.tell_unfound.ensures.is c.find.ensures.unfound
+    (inr (nothing (Run c.args.parts) d z.started z.shape c.new-devices.ensures.started (c.new-devices.ensures.shape ∙ c.shape_of.ensures) e y.shape y.started y.pending c.find.ensures.within.asked c.in-Err.ensures.able
+    c.in-Err.reason c.find.new.story c.in-Err.ensures.err c.in-Err.ensures.unwritten now (flight_at now None) s c.tell_unfound.ensures.is c.find.ensures.unfound
     (λ start well. script-replays c.requires.promised c.args.parts now None s c.find.new.story start well (c.tell_unfound.ensures.run start (g.S.Source.left c.args.source.now) (g.S.Source.left c.args.source.now)))))
 
 pub returns-in-Err-clause-refused : goal.returns-in-Err-clause-refused
@@ -110,8 +119,8 @@ returns-in-Err-clause-refused g c =
     let now = outcome c.tell_unfound.result in
     let p = (c.tell_unfound.ensures.run any-start (g.S.Source.left c.args.source.now) (g.S.Source.left c.args.source.now)).played in
     refused-as d e (shape_of (Run c.args.parts)) c.find.new.story now c.status_behind.result c.status_behind.ensures
-    (nothing-begun (Run c.args.parts) d z.started z.shape c.new-devices.ensures.started (c.new-devices.ensures.shape ∙ c.shape_of.ensures) e y.shape y.started y.pending c.find.ensures.asked c.in-Err.ensures.able
-    c.in-Err.reason c.find.new.story c.in-Err.ensures.err now p.trace c.tell_unfound.ensures.is p.tells.told p.leaves c.in-Err.ensures.unchanged)
+    (nothing-begun (Run c.args.parts) d z.started z.shape c.new-devices.ensures.started (c.new-devices.ensures.shape ∙ c.shape_of.ensures) e y.shape y.started y.pending c.find.ensures.within.asked c.in-Err.ensures.able
+    c.in-Err.reason c.find.new.story c.in-Err.ensures.err c.in-Err.ensures.unwritten now p.trace c.tell_unfound.ensures.is p.tells.told p.leaves)
 
 pub returns-in-Err-clause-downs : goal.returns-in-Err-clause-downs
 returns-in-Err-clause-downs g c =
@@ -121,7 +130,13 @@ returns-in-Err-clause-downs g c =
     c.tell_unfound.ensures.is)
 
 pub returns-in-Err-clause-stops : goal.returns-in-Err-clause-stops
-returns-in-Err-clause-stops g c = λ some.
+returns-in-Err-clause-stops g c =
     let view = g.D.Disks.view in
+    behind-stops (view c.args.disks.now) (view c.find.new.disks) c.find.new.story (outcome c.tell_unfound.result) c.status_behind.result (inl c.status_behind.ensures)
     (unfound-counts (view c.args.disks.now) (view c.find.new.disks) c.in-Err.reason (outcome c.tell_unfound.result) c.find.new.story (λ is. c.find.ensures.unstopped (c.in-Err.is ∙ ap Err is)) c.in-Err.ensures.counts
-    c.tell_unfound.ensures.is).stops (λ m. some (c.status_behind.ensures ∙ m))
+    c.tell_unfound.ensures.is)
+
+pub returns-in-Err-clause-within : goal.returns-in-Err-clause-within
+returns-in-Err-clause-within g c =
+    let view = g.D.Disks.view in
+    stays-as c.new-devices.result.shape _ (shape_of (Run c.args.parts)) (view c.args.disks.now) (view c.find.new.disks) (c.new-devices.ensures.shape ∙ c.shape_of.ensures) c.find.ensures.within
