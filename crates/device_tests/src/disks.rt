@@ -40,6 +40,30 @@ fn picks_are_made_by_the_table(rt: HostRuntime) -> Result<(), Fail> {
     Ok(())
 }
 
+#[test]
+fn writes_go_over_each_other(rt: HostRuntime) -> Result<(), Fail> {
+    let cases: [(u8, &[u8]); 5] = [
+        (0, b"abcdefgh"),
+        (1, b"aXYPQRSTUV"),
+        (2, b"aXYPQfgh\0\0"),
+        (3, b"a\x01\x01\x01\x01\x01\x01\x01\x01\x01"),
+        (4, b"a\xff\xff\xff\xff\xff\xff\xff\xff\xff"),
+    ];
+    for (pick, want) in cases {
+        let mut disks = MemDisks::new(rt.alloc(), 1, 100)?;
+        disks.set_bytes(0, b"abcdefgh")?;
+        disks.arm(6, pick)?;
+        assert_eq!(rt; write(&mut disks, 8, b"pq"), Ok(()));
+        assert_eq!(rt; write(&mut disks, 1, b"XYZ"), Ok(()));
+        assert_eq!(rt; write(&mut disks, 3, b"PQRSTUV"), Ok(()));
+        assert_eq!(rt; write(&mut disks, 5, b""), Ok(()));
+        assert_eq!(rt; write(&mut disks, 10, b""), Ok(()));
+        assert_eq!(rt; disks.sync(0), Err(DiskErr::Stopped));
+        assert_eq!(rt; disks.bytes(0), want);
+    }
+    Ok(())
+}
+
 // A write that is refused for its length is no call.
 #[test]
 fn writes_are_counted(rt: HostRuntime) -> Result<(), Fail> {
