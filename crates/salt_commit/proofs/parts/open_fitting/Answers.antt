@@ -3,7 +3,8 @@ use Rattle.salt_commit.proofs.Opened.{both_stand, entries_not, fails_as, low_for
 use Rattle.salt_commit.proofs.parts.open_fitting.Goals as goal
 use Rattle.salt_commit.specs.Stores.{decided_by}
 use Rattle.salt_stands.specs.Partition.{is_format_under}
-use Rattle.std.proofs.Common.{ap, sym, ◌∙◌}
+use Rattle.salt_disk.proofs.CallAfterCall.{cause_on, keeps_on}
+use Rattle.std.proofs.Common.{None, ap, sym, ◌∙◌}
 use Rattle.std.proofs.lemmas.Result.{err_from_is_err_and}
 use Rattle.std.specs.Prelude.{nat_lt, ◌||◌}
 
@@ -49,3 +50,35 @@ returns-clause-opens g c c' k =
           (ap (λ f. is_format_under f own) (sym k.format) ∙ sym (c.is_format_under.ensures.told own (c.nulls.ensures ∙ nulls_are c' d e x c.args.part keeps opens told) (low_format c' d e x c.args.part keeps opens told)) ∙ c.if-not-is_format_under.false)
           (sym (c.in_ok-entries_fit.ensures.fit opens.view (decided_by c' c.args.part) opens.is (keeps.shape.told ∙ told) c' has) ∙ c.if-not-branch.false);
     }
+
+pub returns-then-not-is_format_under-clause-cause : goal.returns-then-not-is_format_under-clause-cause
+returns-then-not-is_format_under-clause-cause g c =
+    c.in_ok-partition.ensures.cause
+
+pub returns-then-not-branch-clause-cause : goal.returns-then-not-branch-clause-cause
+returns-then-not-branch-clause-cause g c =
+    let d = g.D.Disks.view c.args.disks.now in
+    let b = g.D.Disks.view c.open_part.new.disks in
+    let e = g.D.Disks.view c.entries_fit.new.disks in
+    cause_on d b e None c.in_ok-partition.ensures.cause c.in_ok-entries_fit.ensures.cause
+
+pub returns-clause-cause : goal.returns-clause-cause
+returns-clause-cause g c =
+    let d = g.D.Disks.view c.args.disks.now in
+    let b = g.D.Disks.view c.open_part.new.disks in
+    let e = g.D.Disks.view c.entries_fit.new.disks in
+    cause_on d b e None c.in_ok-partition.ensures.cause c.in_ok-entries_fit.ensures.cause
+
+pub returns-then-not-branch-clause-kept : goal.returns-then-not-branch-clause-kept
+returns-then-not-branch-clause-kept g c =
+    let d = g.D.Disks.view c.args.disks.now in
+    let b = g.D.Disks.view c.open_part.new.disks in
+    let e = g.D.Disks.view c.entries_fit.new.disks in
+    keeps_on (λ _. ⊥) d b e None c.in_ok-partition.ensures.kept c.in_ok-entries_fit.ensures.kept
+
+pub returns-clause-kept : goal.returns-clause-kept
+returns-clause-kept g c =
+    let d = g.D.Disks.view c.args.disks.now in
+    let b = g.D.Disks.view c.open_part.new.disks in
+    let e = g.D.Disks.view c.entries_fit.new.disks in
+    keeps_on (λ _. ⊥) d b e None c.in_ok-partition.ensures.kept c.in_ok-entries_fit.ensures.kept

@@ -16,6 +16,7 @@ use Rattle.salt_decisions.specs.Decisions as decisions
 use Rattle.salt_decisions.specs.Decisions.{IsBeforeOrWith, IsDecisions, decided}
 use Rattle.salt_commit.specs.Errors.{store_err_of}
 use Rattle.salt_commit.specs.declared.error.StoreErr.TheVariants as StoreErr
+use Rattle.salt_disk.proofs.CallAfterCall.{cause_on}
 use Rattle.salt_disk.specs.Disks.{EachImage, FullExactly, OnlyFails}
 use Rattle.salt_disk.specs.declared.disks.DiskErr.TheVariants.{Full}
 use Rattle.salt_entries.specs.Entries.{IsTold}
@@ -316,3 +317,34 @@ returns-in_err-apply_all-clause-stay g c e is not =
     let lacks = c.in_err-apply_all.ensures.lacks c.in_err-apply_all.field-0.0 refl in
     let memory : p.0 ≡ StoreErr.Memory = p.2 ∙ ap store_err_of lacks in
     absurd (not (cc (is, p.1, memory)))
+
+pub returns-in_err-prepare_all-clause-cause : goal.returns-in_err-prepare_all-clause-cause
+returns-in_err-prepare_all-clause-cause g c =
+    let p = err_from_is_err_and c.from_residual-in_err-prepare_all.result c.from_residual-in_err-prepare_all.ensures.1 in
+    rw (answer_is c.from_residual-in_err-prepare_all.result p.0 c.in_err-prepare_all.field-0.0 p.1 p.2) c.in_err-prepare_all.ensures.cause
+
+pub returns-in_err-number-clause-cause : goal.returns-in_err-number-clause-cause
+returns-in_err-number-clause-cause g c =
+    let d = g.D.Disks.view c.args.disks.now in
+    let b = g.D.Disks.view c.prepare_all.new.disks in
+    let e = g.D.Disks.view c.decide.new.disks in
+    let p = err_from_is_err_and c.from_residual-in_err-number.result c.from_residual-in_err-number.ensures.1 in
+    rw (answer_is c.from_residual-in_err-number.result p.0 c.in_err-number.field-0.0 p.1 p.2) (cause_on d b e (Some c.in_err-number.field-0.0) c.in_ok-prepare_all.ensures.cause c.in_err-number.ensures.cause)
+
+pub returns-in_err-apply_all-clause-cause : goal.returns-in_err-apply_all-clause-cause
+returns-in_err-apply_all-clause-cause g c =
+    let d = g.D.Disks.view c.args.disks.now in
+    let b = g.D.Disks.view c.prepare_all.new.disks in
+    let e = g.D.Disks.view c.decide.new.disks in
+    let f = g.D.Disks.view c.apply_all.new.disks in
+    let p = err_from_is_err_and c.from_residual-in_err-apply_all.result c.from_residual-in_err-apply_all.ensures.1 in
+    rw (answer_is c.from_residual-in_err-apply_all.result p.0 c.in_err-apply_all.field-0.0 p.1 p.2)
+    (cause_on d e f (Some c.in_err-apply_all.field-0.0) (cause_on d b e None c.in_ok-prepare_all.ensures.cause c.in_ok-number.ensures.cause) c.in_err-apply_all.ensures.cause)
+
+pub returns-clause-cause : goal.returns-clause-cause
+returns-clause-cause g c =
+    let d = g.D.Disks.view c.args.disks.now in
+    let b = g.D.Disks.view c.prepare_all.new.disks in
+    let e = g.D.Disks.view c.decide.new.disks in
+    let f = g.D.Disks.view c.apply_all.new.disks in
+    cause_on d e f None (cause_on d b e None c.in_ok-prepare_all.ensures.cause c.in_ok-number.ensures.cause) c.in_ok-apply_all.ensures.cause

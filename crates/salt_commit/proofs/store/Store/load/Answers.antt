@@ -4,6 +4,8 @@ use Rattle.salt_commit.proofs.Sound.{next_meets}
 use Rattle.salt_commit.proofs.store.Store.load.Goals as goal
 use Rattle.salt_eval.specs.Views.{next_row}
 use Rattle.salt_gatelog.proofs.Entries.{not_told}
+use Rattle.salt_commit.specs.Errors.{disk_err_of}
+use Rattle.salt_disk.proofs.CallAfterCall.{cause_memory, cause_on}
 use Rattle.std.proofs.Common.{None, Some, ap, refl, sym, ◌∙◌}
 use Rattle.std.proofs.lemmas.Result.{err_from_is_err_and}
 
@@ -88,3 +90,37 @@ returns-in_err-put_row-clause-stay g c = c.next_in.ensures.stay ∙ c.loop-after
 
 pub returns-clause-stay : goal.returns-clause-stay
 returns-clause-stay g c = c.next_in.ensures.stay ∙ c.loop-after.invariant.stay
+
+pub returns-in_err-row-clause-cause : goal.returns-in_err-row-clause-cause
+returns-in_err-row-clause-cause g c =
+    let d0 = g.D.Disks.view c.args.disks.now in
+    let l = g.D.Disks.view c.loop-after.disks in
+    let b = g.D.Disks.view c.next_in.new.disks in
+    let p = err_from_is_err_and c.from_residual.result c.from_residual.ensures.1 in
+    rw (p.1, p.2) (cause_on d0 l b (Some (disk_err_of c.in_err-row.field-0.0)) c.loop-after.invariant.cause c.in_err-row.ensures.cause)
+
+pub returns-in_err-judge-clause-cause : goal.returns-in_err-judge-clause-cause
+returns-in_err-judge-clause-cause g c =
+    let d0 = g.D.Disks.view c.args.disks.now in
+    let l = g.D.Disks.view c.loop-after.disks in
+    let b = g.D.Disks.view c.next_in.new.disks in
+    let e = g.D.Disks.view c.judge.new.disks in
+    let p = err_from_is_err_and c.from_residual-in_err-judge.result c.from_residual-in_err-judge.ensures.1 in
+    rw (answer_is c.from_residual-in_err-judge.result p.0 c.in_err-judge.field-0.0 p.1 p.2)
+    (cause_on d0 b e (Some c.in_err-judge.field-0.0) (cause_on d0 l b None c.loop-after.invariant.cause c.in_ok-row.ensures.cause) c.in_err-judge.ensures.cause)
+
+pub returns-in_err-put_row-clause-cause : goal.returns-in_err-put_row-clause-cause
+returns-in_err-put_row-clause-cause g c =
+    let d0 = g.D.Disks.view c.args.disks.now in
+    let l = g.D.Disks.view c.loop-after.disks in
+    let b = g.D.Disks.view c.next_in.new.disks in
+    let e = g.D.Disks.view c.judge.new.disks in
+    let p = err_from_is_err_and c.from_residual-in_err-put_row.result c.from_residual-in_err-put_row.ensures.1 in
+    rw (p.1, p.2) (cause_memory d0 e (cause_on d0 b e None (cause_on d0 l b None c.loop-after.invariant.cause c.in_ok-row.ensures.cause) c.in_ok-judge.ensures.cause))
+
+pub returns-clause-cause : goal.returns-clause-cause
+returns-clause-cause g c =
+    let d0 = g.D.Disks.view c.args.disks.now in
+    let l = g.D.Disks.view c.loop-after.disks in
+    let b = g.D.Disks.view c.next_in.new.disks in
+    cause_on d0 l b None c.loop-after.invariant.cause c.in_ok-row.ensures.cause
