@@ -4,9 +4,9 @@ use Rattle.salt_commit.specs.Openings.{HasRoom}
 use Rattle.salt_commit.specs.declared.store.Store.{Store}
 use Rattle.salt_decisions.specs.Decisions.{shape_of}
 use Rattle.salt_definitions.specs.Fitting.{kept_in}
-use Rattle.salt_devices.proofs.Answered.{same_finds}
+use Rattle.salt_devices.proofs.Answered.{like_stands}
 use Rattle.salt_devices.proofs.Known.{stands_fails}
-use Rattle.salt_devices.proofs.Opening.{alike_below}
+use Rattle.salt_devices.proofs.Opening.{like_unwritten}
 use Rattle.salt_devices.proofs.Reheld.{held_again_mute}
 use Rattle.salt_devices.proofs.Refound.{Tells}
 use Rattle.salt_devices.proofs.Remembered.{held_rows}
@@ -32,7 +32,7 @@ use Rattle.salt_storage.specs.declared.open.OpenErr.TheVariants.{Halted, NotSalt
 use Rattle.salt_storage.specs.declared.open.OpenErr.{OpenErr}
 use Rattle.salt_values.specs.Placement.{IsParts}
 use Rattle.salt_values.specs.declared.placement.Shape.{Shape}
-use Rattle.std.proofs.Common.{Bool, IsTrue, List, Ok, Option, Some, ap, arith, false, inl, inr, refl, subst, sym, true, ℕ, ◌<◌, ◌≡◌, ◌⊎◌, ◌∙◌}
+use Rattle.std.proofs.Common.{Bool, IsTrue, List, Ok, Option, Some, ap, arith, false, inl, inr, refl, subst, sym, true, ℕ, ◌≡◌, ◌⊎◌, ◌∙◌}
 
 -- where nothing was written, what may come now came before
 pub still_left : (d e : View) (shape : Shape) (n : ℕ) (answer : Option DiskErr) → HasRoom d n → KeepsAll d e answer → (a b : Kept) → LeavesAs true d shape a b → Leaves e shape a b
@@ -94,11 +94,15 @@ not_left d shape a b e h not refused blank told =
 
 -- WHAT IS LEFT where it fails so: nothing was written, so what stands there is all that a stop may leave
 module _ (d e : View) (shape : Shape) (parts : IsParts shape.parts) (room : HasRoom d shape.parts) (a b : Kept) (h : LeavesAs true d shape a b) where
-  rests_still : (answer : Option DiskErr) → KeepsAll d e answer → IsTrue d.told → (k : Kept) → StandsFor shape d.bytes k → Leaves e shape k k
-  rests_still answer keeps told k s now image left =
-      let same : (dev : ℕ) → dev < d.count → image dev ≡ d.bytes dev = λ dev low. room.settled dev low (image dev) (keeps.images dev (λ none. none) (image dev) (left dev (omega (arith, low, keeps.shape.count)))) in
-      let alike = alike_below shape d.count image d.bytes parts room.known (λ dev low. sym (same dev low)) in
-      record { begun = (h told image same).begun; stands = inl ((same_finds shape image d.bytes alike).finds_no_more k s) }
+  rests_still : (answer : Option DiskErr) → KeepsAll d e answer → (k : Kept) → StandsFor shape d.bytes k → RestsAs shape false e k
+  rests_still answer keeps k s = record {
+    settled = λ is. absurd (cc is);
+    rests = λ told image left. like_stands shape d.bytes image (like_unwritten d shape parts room e answer keeps image left) k s;
+  }
+
+  -- of disks that don't tell nothing is said
+  rests_mute : e.told ≡ false → (k : Kept) → RestsAs shape false e k
+  rests_mute mute k = record { settled = λ is. absurd (cc is); rests = λ told image left. absurd (cc (told, mute)) }
 
   pub fails_known : (answer : Option DiskErr) (err : OpenErr) → SameShape d e → (IsTrue d.told → ¬ (coordinator_pair (logs_of d.bytes) ≡ BothBlank) → KeepsAll d e answer) → (IsTrue d.told → RefusedAs shape d.bytes err) → MayTell a b err
       → MayFail (RestsAs shape false e) a b err
@@ -106,8 +110,8 @@ module _ (d e : View) (shape : Shape) (parts : IsParts shape.parts) (room : HasR
   fails_known answer (OtherShape other asked) same kept refused tells = tells
   fails_known answer (NumbersSpent boot decisions) same kept refused tells = by d.told refl
     where
-      known : (k : Kept) → (k ≡ a) ⊎ (k ≡ b) → Leaves e shape k k → (boot ≡ k.boot) × (decisions ≡ k.decisions) → IsSpent (RestsAs shape false e) a b boot decisions
-      known k either rests is = record { kept = k; either = either; resting = record { rests = rests }; boot_is = is.0; decisions_are = is.1; spent = tells.0 }
+      known : (k : Kept) → (k ≡ a) ⊎ (k ≡ b) → RestsAs shape false e k → (boot ≡ k.boot) × (decisions ≡ k.decisions) → IsSpent (RestsAs shape false e) a b boot decisions
+      known k either rests is = record { kept = k; either = either; resting = rests; boot_is = is.0; decisions_are = is.1; spent = tells.0 }
 
       numbers : IsTrue d.told → (k : Kept) → StandsFor shape d.bytes k → (boot ≡ k.boot) × (decisions ≡ k.decisions)
       numbers told k s = one (stands_fails shape d.bytes k k (NumbersSpent boot decisions) s (refused told)).1
@@ -117,13 +121,12 @@ module _ (d e : View) (shape : Shape) (parts : IsParts shape.parts) (room : HasR
           one (inr is) = is
 
       there : IsTrue d.told → StandsFor shape d.bytes a ⊎ StandsFor shape d.bytes b → IsSpent (RestsAs shape false e) a b boot decisions
-      there told (inl s) = known a (inl refl) (rests_still answer (kept told (left_bytes d shape a b h told).begun) told a s) (numbers told a s)
-      there told (inr s) = known b (inr refl) (rests_still answer (kept told (left_bytes d shape a b h told).begun) told b s) (numbers told b s)
+      there told (inl s) = known a (inl refl) (rests_still answer (kept told (left_bytes d shape a b h told).begun) a s) (numbers told a s)
+      there told (inr s) = known b (inr refl) (rests_still answer (kept told (left_bytes d shape a b h told).begun) b s) (numbers told b s)
 
-      -- where the disks do not tell, nothing is said of what rests
       untold : d.told ≡ false → ((boot ≡ a.boot) × (decisions ≡ a.decisions)) ⊎ ((boot ≡ b.boot) × (decisions ≡ b.decisions)) → IsSpent (RestsAs shape false e) a b boot decisions
-      untold mute (inl is) = known a (inl refl) (mute_left e shape a a (same.told ∙ mute)) is
-      untold mute (inr is) = known b (inr refl) (mute_left e shape b b (same.told ∙ mute)) is
+      untold mute (inl is) = known a (inl refl) (rests_mute (same.told ∙ mute) a) is
+      untold mute (inr is) = known b (inr refl) (rests_mute (same.told ∙ mute) b) is
 
       by : (t : Bool) → d.told ≡ t → IsSpent (RestsAs shape false e) a b boot decisions
       by true told = there told (left_bytes d shape a b h told).stands

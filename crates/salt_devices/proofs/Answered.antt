@@ -6,7 +6,7 @@ use Rattle.salt_commit.proofs.Opening.{of_log, same_shape_is}
 use Rattle.salt_commit.specs.Openings.{LeavesPages}
 use Rattle.salt_commit.specs.Stores.{reading}
 use Rattle.salt_definitions.specs.Fitting.{kept_in}
-use Rattle.salt_devices.specs.Leaving.{StandsFor}
+use Rattle.salt_devices.specs.Leaving.{StandsFor, StandsStill}
 use Rattle.salt_devices.specs.Refusing.{IsOlder, RefusedAs}
 use Rattle.salt_model.specs.Kept.{Definition}
 use Rattle.salt_model.specs.Tables.{Tables}
@@ -205,6 +205,15 @@ pub record AreAlike (shape : Shape) (bytes image : ℕ → List ℕ) : Type 0 wh
   pub part_b : (p : ℕ) → p < shape.parts → image (part_device p + 1) ≡ bytes (part_device p + 1)
   pub pages : (p : ℕ) → p < shape.parts → image (pages_device p) ≡ bytes (pages_device p)
 
+alike_back : (shape : Shape) (bytes image : ℕ → List ℕ) → AreAlike shape bytes image → AreAlike shape image bytes
+alike_back shape bytes image a = record {
+  first = sym a.first;
+  second = sym a.second;
+  part_a = λ p low. sym (a.part_a p low);
+  part_b = λ p low. sym (a.part_b p low);
+  pages = λ p low. sym (a.pages p low);
+}
+
 each_same : {A : Type 0} (f g : ℕ → Result A ℕ) (p n : ℕ) → ((k : ℕ) → k < n → f (p + k) ≡ g (p + k)) → each_from f p n ≡ each_from g p n
 each_same f g p zero h = refl
 each_same f g p (suc n) h =
@@ -294,12 +303,17 @@ module _ (shape : Shape) (bytes image : ℕ → List ℕ) (alike : AreAlike shap
 
 -- BLANK BYTES, and an image of a new database
 
-module _ (shape : Shape) (bytes image : ℕ → List ℕ) (blank : coordinator_pair (logs_of bytes) ≡ BothBlank) (new : judged reading image shape ≡ Ok (nothing_found shape)) (unnamed : (dev : ℕ) → LeavesPages shape image dev → ⊥) where
+pub record IsMadeNew (shape : Shape) (bytes image : ℕ → List ℕ) : Type 0 where
+  pub blank : coordinator_pair (logs_of bytes) ≡ BothBlank
+  pub new : judged reading image shape ≡ Ok (nothing_found shape)
+  pub unnamed : (dev : ℕ) → LeavesPages shape image dev → ⊥
+
+module _ (shape : Shape) (bytes image : ℕ → List ℕ) (made : IsMadeNew shape bytes image) where
   opens_new : opening_of reading image shape ≡ opening.Stands (nothing_found shape)
-  opens_new = new_opens image shape new
+  opens_new = new_opens image shape made.new
 
   not_older : (dev : ℕ) → IsOlder image dev → ⊥
-  not_older dev o = by (judged_as image shape (nothing_found shape) new)
+  not_older dev o = by (judged_as image shape (nothing_found shape) made.new)
     where
       by : IsNothing image shape (nothing_found shape) ⊎ IsCounted image (nothing_found shape) → ⊥
       by (inl none) = let both : BothBlank ≡ Counts o.which o.log = sym none.blank ∙ o.counts in absurd (cc both)
@@ -313,24 +327,40 @@ module _ (shape : Shape) (bytes image : ℕ → List ℕ) (blank : coordinator_p
 
   no_refusal : (e : OpenErr) → RefusedAs shape image e → RefusedAs shape bytes e
   no_refusal (NotSalt dev) (inl is) = absurd (cc (opens_new, is))
-  no_refusal (NotSalt dev) (inr (inl pages)) = absurd (unnamed dev pages)
+  no_refusal (NotSalt dev) (inr (inl pages)) = absurd (made.unnamed dev pages)
   no_refusal (NotSalt dev) (inr (inr older)) = absurd (not_older dev older)
   no_refusal (OtherShape kept asked) is = absurd (cc (opens_new, is))
   no_refusal (NumbersSpent boot decisions) is = absurd (cc (opens_new, is))
   no_refusal (Halted e) is = is
 
-  pub new_finds : FindsNoMore (RefusedAs shape bytes) (StandsFor shape bytes) (RefusedAs shape image) (StandsFor shape image)
+  judged_blank : judged reading bytes shape ≡ Ok (nothing_found shape)
+  judged_blank = ap (λ p. if_sound (with_parts reading (logs_of bytes) bytes shape) (judge_coordinator reading p)) made.blank
+
+  new_finds : FindsNoMore (RefusedAs shape bytes) (StandsFor shape bytes) (RefusedAs shape image) (StandsFor shape image)
   new_finds = record {
     refuses_no_more = no_refusal;
     finds_no_more = λ k s.
-        let both : Ok (nothing_found shape) ≡ Ok s.found = sym new ∙ s.is in
+        let both : Ok (nothing_found shape) ≡ Ok s.found = sym made.new ∙ s.is in
         let same : nothing_found shape ≡ s.found = cc both in
-        record {
-          found = nothing_found shape;
-          is = ap (λ p. if_sound (with_parts reading (logs_of bytes) bytes shape) (judge_coordinator reading p)) blank;
-          has_shape = refl;
-          newest = refl;
-          keeps = ap kept_in same ∙ s.keeps;
-          no_pages = λ dev. blank_unnamed shape bytes dev blank;
-        };
+        record { found = nothing_found shape; is = judged_blank; has_shape = refl; newest = refl; keeps = ap kept_in same ∙ s.keeps; no_pages = λ dev. blank_unnamed shape bytes dev made.blank };
   }
+
+  new_stands_for : StandsStill shape bytes image
+  new_stands_for k s =
+      let both : Ok (nothing_found shape) ≡ Ok s.found = sym judged_blank ∙ s.is in
+      let same : nothing_found shape ≡ s.found = cc both in
+      record { found = nothing_found shape; is = made.new; has_shape = refl; newest = refl; keeps = ap kept_in same ∙ s.keeps; no_pages = made.unnamed }
+
+-- THE ONE OR THE OTHER, as an opening that failed leaves
+
+abbrev pub IsLike : Shape → (bytes image : ℕ → List ℕ) → Type 0
+IsLike shape bytes image = AreAlike shape bytes image ⊎ IsMadeNew shape bytes image
+
+module _ (shape : Shape) (bytes image : ℕ → List ℕ) where
+  pub like_finds : IsLike shape bytes image → FindsNoMore (RefusedAs shape bytes) (StandsFor shape bytes) (RefusedAs shape image) (StandsFor shape image)
+  like_finds (inl alike) = same_finds shape bytes image alike
+  like_finds (inr made) = new_finds shape bytes image made
+
+  pub like_stands : IsLike shape bytes image → StandsStill shape bytes image
+  like_stands (inl alike) = (same_finds shape image bytes (alike_back shape bytes image alike)).finds_no_more
+  like_stands (inr made) = new_stands_for shape bytes image made

@@ -7,10 +7,10 @@ use Rattle.salt_devices.proofs.Opening.{alike_below}
 use Rattle.salt_devices.proofs.Started.{able_on}
 use Rattle.salt_devices.specs.Filling.{FillsIn}
 use Rattle.salt_devices.specs.Holding.{IsAble}
-use Rattle.salt_devices.specs.Leaving.{CanOpen, Stands, StandsFor}
+use Rattle.salt_devices.specs.Leaving.{CanOpen, MayCome, Stands, StandsFor, StandsStill}
 use Rattle.salt_devices.specs.Opened.{OpensAs}
 use Rattle.salt_devices.specs.Refusing.{ComesUpon, Finds, RefusedAs, Refuses}
-use Rattle.salt_devices.specs.Standing.{StandsHeld}
+use Rattle.salt_devices.specs.Standing.{RestsAs, StandsHeld}
 use Rattle.salt_devices.specs.declared.pending.Pending.TheVariants.{Nothing, Opening}
 use Rattle.salt_devices.specs.declared.pending.Pending.{Pending}
 use Rattle.salt_disk.specs.Disks.{IsImage, SameShape, View}
@@ -55,6 +55,22 @@ module _ (d e : View) (shape : Shape) (same : SameShape d e) (was now : Bool) (s
         upon_bytes d was (λ image. StandsFor shape image k) started ((still told u.image u.comes).finds_no_more k u.is);
   }
 
+-- and stands for what the bytes stood for
+pub rests_behind : (d e : View) (shape : Shape) → SameShape d e → IsAble shape d → (started : Bool) → started ≡ true
+    → (IsTrue d.told → (image : ℕ → List ℕ) → IsImage e image → StandsStill shape d.bytes image) → (k : Kept) → Finds d started shape k → RestsAs shape false e k
+rests_behind d e shape same able started is behind k h = record {
+  settled = λ now. absurd (cc now);
+  rests = λ told image left.
+      let was : IsTrue d.told = sym same.told ∙ told in
+      let u = subst (λ (b : Bool). ComesUpon d b (λ image. StandsFor shape image k)) is (h was) in
+      behind was image left k ((same_finds shape d.bytes u.image (alike_below shape d.count d.bytes u.image able.parts able.room u.comes)).finds_no_more k u.is);
+}
+
+-- what rests where the devices were started is found there
+pub rests_found : (d : View) (shape : Shape) (started : Bool) → started ≡ true → (k : Kept) → RestsAs shape started d k → Finds d started shape k
+rests_found d shape started is k h told =
+    upon_bytes d started (λ image. StandsFor shape image k) is (h.rests told d.bytes (subst (λ (b : Bool). MayCome d b d.bytes) (sym is) (λ dev low. refl)))
+
 -- WHAT IS OPENED is held, and was found there
 module _ (d e : View) (shape : Shape) (x : Store) (found : Found) (o : OpensAs d e shape x found) where
   pub opened_held : IsAble shape d → SameShape d e
@@ -87,7 +103,7 @@ opens_behind d e shape p err same (inr h) stopped is told image comes = absurd (
 later_of : (a b : Kept) (err : OpenErr) → MayTell a b err → IsLater err
 later_of a b (NotSalt dev) h = h
 later_of a b (OtherShape kept asked) h = h
-later_of a b (NumbersSpent boot decisions) h = tt
+later_of a b (NumbersSpent boot decisions) h = h.0
 later_of a b (Halted e) h = tt
 
 -- what stands for something is not refused

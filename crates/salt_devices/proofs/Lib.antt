@@ -11,7 +11,7 @@ mod Loading
 mod Standing
 mod Renaming
 mod Renamed
-mod Sound
+pub mod Sound
 mod Entered
 mod Booting
 mod Committing

@@ -13,10 +13,10 @@ use Rattle.salt_decisions.specs.Opened.{IsPeeked}
 use Rattle.salt_decisions.specs.declared.error.OpenErr as decisions
 use Rattle.salt_decisions.specs.declared.error.OpenErr.TheVariants.{Failed, Full, Memory, NotSalt, NumbersSpent, OtherShape, Stopped}
 use Rattle.salt_decisions.specs.declared.kept.Kept as log
-use Rattle.salt_devices.proofs.Answered.{AreAlike, IsNothing, IsOpened, counted_log, new_finds, opened_as, opened_stands, same_finds, stands_for_nothing}
+use Rattle.salt_devices.proofs.Answered.{AreAlike, IsLike, IsNothing, IsOpened, counted_log, opened_as, opened_stands, stands_for_nothing}
 use Rattle.salt_devices.specs.Errors.{open_err_of}
 use Rattle.salt_definitions.specs.Fitting.{kept_in}
-use Rattle.salt_devices.specs.Leaving.{Stands, StandsFor}
+use Rattle.salt_devices.specs.Leaving.{Stands}
 use Rattle.salt_devices.specs.Opened.{HoldsFound, IsNewestWhere, IsOpen, IsUnread, OpensAs}
 use Rattle.salt_devices.specs.Refusing.{RefusedAs}
 use Rattle.salt_disk.specs.Disks.{IsImage, KeepsAll, SameShape, Shrinks, View}
@@ -29,7 +29,6 @@ use Rattle.salt_stands.specs.Partition.{pages_device}
 use Rattle.salt_stands.specs.Stands as opening
 use Rattle.salt_stands.specs.Stands.{judged, logs_of, nothing_found}
 use Rattle.salt_storage.specs.Answers.{open_disk_err_of}
-use Rattle.salt_storage.specs.Writing.{FindsNoMore}
 use Rattle.salt_storage.specs.declared.found.Found.{Found}
 use Rattle.salt_storage.specs.declared.halt.Halt.TheVariants as halt
 use Rattle.salt_storage.specs.declared.halt.Halt.TheVariants.{DeviceFull}
@@ -131,30 +130,26 @@ alike d e shape parts room count there image left =
 
 module _ (d : View) (shape : Shape) (parts : IsParts shape.parts) (room : HasRoom d shape.parts) where
   -- behind a call that writes nothing
-  pub still_unwritten : (b : View) (answer : Option DiskErr) → KeepsAll d b answer → (image : ℕ → List ℕ) → IsImage b image → FindsNoMore (RefusedAs shape d.bytes) (StandsFor shape d.bytes) (RefusedAs shape image) (StandsFor shape image)
-  still_unwritten b answer keeps image left = same_finds shape d.bytes image (alike d b shape parts room keeps.shape.count (λ dev. keeps.images dev (λ none. none)) image left)
+  pub like_unwritten : (b : View) (answer : Option DiskErr) → KeepsAll d b answer → (image : ℕ → List ℕ) → IsImage b image → IsLike shape d.bytes image
+  like_unwritten b answer keeps image left = inl (alike d b shape parts room keeps.shape.count (λ dev. keeps.images dev (λ none. none)) image left)
 
   -- behind an opening of the store
   module _ (b e : View) (answer : Option DiskErr) (first : KeepsAll d b None) (kept : ¬ (coordinator_pair (logs_of b.bytes) ≡ BothBlank) → KeepsAll b e answer)
       (images : coordinator_pair (logs_of b.bytes) ≡ BothBlank → (image : ℕ → List ℕ) → IsImage e image → judged reading image shape ≡ Ok (nothing_found shape))
-      (pages : coordinator_pair (logs_of b.bytes) ≡ BothBlank → (image : ℕ → List ℕ) → IsImage e image → (dev : ℕ) → LeavesPages shape image dev → ⊥)
-      (count : e.count ≡ b.count) where
-    pub still_opened : (image : ℕ → List ℕ) → IsImage e image → FindsNoMore (RefusedAs shape d.bytes) (StandsFor shape d.bytes) (RefusedAs shape image) (StandsFor shape image)
-    still_opened image left = by (coordinator_pair (logs_of d.bytes)) refl
+      (pages : coordinator_pair (logs_of b.bytes) ≡ BothBlank → (image : ℕ → List ℕ) → IsImage e image → (dev : ℕ) → LeavesPages shape image dev → ⊥) where
+    pub like_opened : (image : ℕ → List ℕ) → IsImage e image → IsLike shape d.bytes image
+    like_opened image left = by (coordinator_pair (logs_of d.bytes)) refl
       where
         same_pair : coordinator_pair (logs_of b.bytes) ≡ coordinator_pair (logs_of d.bytes)
         same_pair = ap (λ (bytes : ℕ → List ℕ). coordinator_pair (logs_of bytes)) (same_bytes d b first)
 
-        written : coordinator_pair (logs_of d.bytes) ≡ BothBlank → FindsNoMore (RefusedAs shape d.bytes) (StandsFor shape d.bytes) (RefusedAs shape image) (StandsFor shape image)
-        written blank = new_finds shape d.bytes image blank (images (same_pair ∙ blank) image left) (pages (same_pair ∙ blank) image left)
-
-        unwritten : ¬ (coordinator_pair (logs_of b.bytes) ≡ BothBlank) → FindsNoMore (RefusedAs shape d.bytes) (StandsFor shape d.bytes) (RefusedAs shape image) (StandsFor shape image)
+        unwritten : ¬ (coordinator_pair (logs_of b.bytes) ≡ BothBlank) → IsLike shape d.bytes image
         unwritten some =
             let k = kept some in
-            same_finds shape d.bytes image (alike d e shape parts room (k.shape.count ∙ first.shape.count) (λ dev c there. first.images dev (λ none. none) c (k.images dev (λ none. none) c there)) image left)
+            inl (alike d e shape parts room (k.shape.count ∙ first.shape.count) (λ dev c there. first.images dev (λ none. none) c (k.images dev (λ none. none) c there)) image left)
 
-        by : (pair : Pair CoordinatorLog) → coordinator_pair (logs_of d.bytes) ≡ pair → FindsNoMore (RefusedAs shape d.bytes) (StandsFor shape d.bytes) (RefusedAs shape image) (StandsFor shape image)
-        by BothBlank is = written is
+        by : (pair : Pair CoordinatorLog) → coordinator_pair (logs_of d.bytes) ≡ pair → IsLike shape d.bytes image
+        by BothBlank is = inr (record { blank = is; new = images (same_pair ∙ is) image left; unnamed = pages (same_pair ∙ is) image left })
         by (Faulty which) is = unwritten (λ blank. let both : Faulty which ≡ BothBlank = sym is ∙ (sym same_pair ∙ blank) in absurd (cc both))
         by (Counts which log) is = unwritten (λ blank. let both : Counts which log ≡ BothBlank = sym is ∙ (sym same_pair ∙ blank) in absurd (cc both))
 

@@ -6,14 +6,14 @@ use Rattle.salt_commit.specs.declared.store.Store.{Store}
 use Rattle.salt_decisions.specs.Decisions.{IsDecisions}
 use Rattle.salt_decisions.specs.declared.decisions.Decisions.{Decisions}
 use Rattle.salt_devices.proofs.Remembered.{held_in, recalls}
-use Rattle.salt_devices.proofs.Started.{able_on, called, leaves_again, opened, opens_again, settled_again, upon_again}
+use Rattle.salt_devices.proofs.Started.{able_on, called, comes_again, leaves_again, opened, opens_again, settled_again, upon_again}
 use Rattle.salt_devices.proofs.Stores.{held_again, held_leaves}
 use Rattle.salt_devices.specs.Holding.{CanStart, HoldsIn, IsAble, IsHeld, IsNewTo}
 use Rattle.salt_devices.specs.Leaving.{Leaves, LeavesAs, StandsFor}
 use Rattle.salt_devices.specs.Opened.{IsHeldAgain}
 use Rattle.salt_devices.specs.Refusing.{Finds, RefusedAs, Refuses}
 use Rattle.salt_devices.specs.Remembering.{AreNumbersOf, MayFollow, Remembers}
-use Rattle.salt_devices.specs.Standing.{StandsHeld, StandsLeft, StandsStarted}
+use Rattle.salt_devices.specs.Standing.{RestsAs, StandsHeld, StandsLeft, StandsStarted}
 use Rattle.salt_devices.specs.declared.pending.Pending.TheVariants.{Boot, Decision, Lost, Nothing, Opening}
 use Rattle.salt_devices.specs.declared.pending.Pending.TheVariants as pending
 use Rattle.salt_devices.specs.declared.pending.Pending.{Pending}
@@ -34,7 +34,7 @@ use Rattle.salt_values.specs.declared.change.Change.{Change}
 use Rattle.salt_values.specs.declared.cont.Cont.{Cont}
 use Rattle.salt_values.specs.declared.id.Id.{Id}
 use Rattle.salt_values.specs.declared.placement.Shape.{Shape}
-use Rattle.std.proofs.Common.{Bool, List, None, Option, Some, ap, arith, false, inl, inr, refl, subst, sym, true, ℕ, ◌+◌, ◌≡◌, ◌≢◌, ◌⊎◌, ◌∙◌}
+use Rattle.std.proofs.Common.{Bool, IsTrue, List, None, Option, Some, ap, arith, false, inl, inr, refl, subst, sym, true, ℕ, ◌+◌, ◌≡◌, ◌≢◌, ◌⊎◌, ◌∙◌}
 
 -- behind what was being written over a store
 pub not_opening : (q : Pending) (a b : Kept) → MayFollow q a b → q ≡ Opening → ⊥
@@ -153,6 +153,12 @@ module _ (shape : Shape) (started : Bool) (o : Option Store) (n : Numbers) (p : 
     found_again = record {
       refuses_no_more = λ r h. upon_again d e again started can.settled (λ image. RefusedAs shape image r) h;
       finds_no_more = λ k h. upon_again d e again started can.settled (λ image. StandsFor shape image k) h;
+    }
+
+    pub rested_again : (k : Kept) → RestsAs shape started d k → RestsAs shape true e k
+    rested_again k h = record {
+      settled = λ is. settled_again d e again;
+      rests = λ told image comes. let was : IsTrue d.told = sym again.shape.told ∙ told in h.rests was image (comes_again d e again started h.settled was image comes);
     }
 
     pub left_again : (a b : Kept) → StandsLeft shape started o n p d a b → StandsLeft shape true o n p e a b

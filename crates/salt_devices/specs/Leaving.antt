@@ -21,6 +21,10 @@ pub record StandsFor (shape : Shape) (image : ℕ → List ℕ) (k : Kept) : Typ
   pub keeps : kept_in found ≡ k
   pub no_pages : (dev : ℕ) → LeavesPages shape image dev → ⊥
 
+-- the image stands for whatever the bytes stand for
+abbrev pub StandsStill : Shape → (bytes image : ℕ → List ℕ) → Type 0
+StandsStill shape bytes image = (k : Kept) → StandsFor shape bytes k → StandsFor shape image k
+
 -- What the next opening may come upon: what the devices hold, where they were started and nothing was called since; else what a
 -- stop may leave of them.
 abbrev pub MayCome : View → (started : Bool) → (ℕ → List ℕ) → Type 0

@@ -1,7 +1,7 @@
 -- How a database stands on its devices: held, left by a call that was broken off, or started.
 use Rattle.salt_commit.specs.declared.store.Store.{Store}
 use Rattle.salt_devices.specs.Holding.{CanStart, HoldsIn, IsAble}
-use Rattle.salt_devices.specs.Leaving.{CanOpen, LeavesAs}
+use Rattle.salt_devices.specs.Leaving.{CanOpen, LeavesAs, MayCome, StandsFor}
 use Rattle.salt_devices.specs.Remembering.{AreNumbersOf, Remembers}
 use Rattle.salt_devices.specs.Settling.{AreSettled}
 use Rattle.salt_devices.specs.declared.pending.Pending.TheVariants.{Nothing}
@@ -10,7 +10,7 @@ use Rattle.salt_disk.specs.Disks.{View}
 use Rattle.salt_model.specs.Kept.{Kept}
 use Rattle.salt_storage.specs.declared.found.Numbers.{Numbers}
 use Rattle.salt_values.specs.declared.placement.Shape.{Shape}
-use Rattle.std.specs.Prelude.{Bool, Option, false, true, ◌≡◌}
+use Rattle.std.specs.Prelude.{Bool, IsTrue, List, Option, false, true, ℕ, ◌≡◌}
 
 module _ (shape : Shape) (started : Bool) where
   -- a store is held, its numbers are known, and nothing is pending
@@ -36,4 +36,5 @@ module _ (shape : Shape) (started : Bool) where
 
   -- whatever the next opening may come upon stands for this, where the disks tell
   pub record RestsAs (d : View) (k : Kept) : Type 0 where
-    pub rests : LeavesAs started d shape k k
+    pub settled : started ≡ true → AreSettled d
+    pub rests : IsTrue d.told → (image : ℕ → List ℕ) → MayCome d started image → StandsFor shape image k

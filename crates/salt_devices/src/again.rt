@@ -49,7 +49,7 @@ fn follow(numbers: Numbers, pending: &Pending, found: Numbers) -> bool
 }
 
 /// Whether numbers are too high to be opened.
-fn are_spent(numbers: Numbers) -> bool
+pub fn are_spent(numbers: Numbers) -> bool
     ensures { result ≡ are_spent numbers.boot numbers.decisions }
 {
     numbers.boot >= 1 << 63 || numbers.decisions >= 1 << 63

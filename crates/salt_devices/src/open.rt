@@ -5,7 +5,7 @@ ghost use Rattle.salt_commit.specs.Openings.{HasRoom, IsStoreLog, StorePassesLim
 ghost use Rattle.salt_decisions.specs.Decisions.{shape_of};
 ghost use Rattle.salt_decisions.specs.Kept.{IsKept};
 ghost use Rattle.salt_devices.specs.Errors.{open_err_of};
-ghost use Rattle.salt_devices.specs.Leaving.{CanOpen, Stands, StandsFor};
+ghost use Rattle.salt_devices.specs.Leaving.{CanOpen, Stands, StandsFor, StandsStill};
 ghost use Rattle.salt_devices.specs.Opened.{HoldsFound, IsNewest, IsNewestOf, IsNewestWhere, IsOpen, IsUnread, OpensAs};
 ghost use Rattle.salt_devices.specs.Refusing.{RefusedAs};
 ghost use Rattle.salt_devices.specs.declared.pending.Pending.TheVariants.{Opening};
@@ -25,6 +25,7 @@ ghost use Rattle.salt_values.specs.Placement.{GivesPlaceOf, IsParts, TakesEachKe
 ghost use Rattle.salt_values.specs.declared.placement.Shape.{Shape};
 ghost use Rattle.std.specs.Prelude.{Err, IfErr, IfOk, IfSome, IsTrue, List, None, Ok, OnErr, false, true, ℕ, ◌<◌, ◌≡◌, ◌⊎◌};
 
+use crate::again::are_spent;
 use crate::held::FORMAT;
 use crate::pending::Pending;
 use salt_canonical::definitions_are_read;
@@ -33,7 +34,7 @@ use salt_disk::Disks;
 use salt_drain::{RecoverErr, Recovered, recover};
 use salt_partition::rejected;
 use salt_schema::Schema;
-use salt_storage::{Found, Halt, OpenErr};
+use salt_storage::{Found, Halt, Numbers, OpenErr};
 use salt_types::spelled_tables_have_keys;
 use salt_values::{Key, PlaceKind, Placement, Shape};
 use std::alloc::{AllocError, Global};
@@ -152,7 +153,7 @@ fn fitting<D: Disks, F: Fn(PlaceKind, &Key, u32) -> u32>(
 }
 
 /// Opens devices on which nothing is pending, in this shape; blank ones are made new ones. What an error leaves of them refuses
-/// and finds nothing that they did not before.
+/// and finds nothing that they did not before, and stands for what they stood for.
 pub fn open_devices<D: Disks, F: Fn(PlaceKind, &Key, u32) -> u32>(
     alloc: Global,
     disks: &mut D,
@@ -171,6 +172,7 @@ pub fn open_devices<D: Disks, F: Fn(PlaceKind, &Key, u32) -> u32>(
     ensures kept { IsTrue (D.view disks.old).told → ¬ (coordinator_pair (logs_of (D.view disks.old).bytes) ≡ BothBlank) → KeepsAll (D.view disks.old) (D.view disks.new) (open_disk_err result) }
     ensures still { OnErr result (IsTrue (D.view disks.old).told → (image : ℕ → List ℕ) → IsImage (D.view disks.new) image
         → FindsNoMore (RefusedAs shape (D.view disks.old).bytes) (StandsFor shape (D.view disks.old).bytes) (RefusedAs shape image) (StandsFor shape image)) }
+    ensures rests { OnErr result (IsTrue (D.view disks.old).told → (image : ℕ → List ℕ) → IsImage (D.view disks.new) image → StandsStill shape (D.view disks.old).bytes image) }
 
     ensures stopped { result ≡ Err (Halted Stopped) → IsTrue (D.view disks.old).told → (image : ℕ → List ℕ) → IsImage (D.view disks.new) image → Stands shape image }
 
@@ -193,12 +195,16 @@ pub fn open_devices<D: Disks, F: Fn(PlaceKind, &Key, u32) -> u32>(
     }
 }
 
-/// Whether an opening refuses what it has come upon.
+/// Whether an opening refuses what it has come upon, and not by numbers that are spent.
 fn refuses(e: OpenErr) -> bool
     ensures refused { IsTrue result → IsLater e → ⊥ }
     ensures later { result ≡ false → IsLater e }
 {
-    matches!(e, OpenErr::NotSalt(_) | OpenErr::OtherShape { .. })
+    match e {
+        OpenErr::NotSalt(_) | OpenErr::OtherShape { .. } => true,
+        OpenErr::NumbersSpent { boot, decisions } => !are_spent(Numbers { boot, decisions }),
+        OpenErr::Halted(_) => false,
+    }
 }
 
 /// Opens devices at first, as `open_devices`. Behind an opening that a stop has broken off nothing is refused: only disks can bring
@@ -221,6 +227,7 @@ pub fn open_first<D: Disks, F: Fn(PlaceKind, &Key, u32) -> u32>(
     ensures err { IsTrue (D.view disks.old).told → IfErr result (RefusedAs shape (D.view disks.old).bytes) }
     ensures still { OnErr result (IsTrue (D.view disks.old).told → (image : ℕ → List ℕ) → IsImage (D.view disks.new) image
         → FindsNoMore (RefusedAs shape (D.view disks.old).bytes) (StandsFor shape (D.view disks.old).bytes) (RefusedAs shape image) (StandsFor shape image)) }
+    ensures rests { OnErr result (IsTrue (D.view disks.old).told → (image : ℕ → List ℕ) → IsImage (D.view disks.new) image → StandsStill shape (D.view disks.old).bytes image) }
     ensures stopped { result ≡ Err (Halted Stopped) → IsTrue (D.view disks.old).told → (image : ℕ → List ℕ) → IsImage (D.view disks.new) image → Stands shape image }
     ensures later { pending.now ≡ Opening → IfErr result IsLater }
     ensures unwritten { (refusal : OpenErr) → IsRefusal refusal → RefusedAs shape (D.view disks.old).bytes refusal → IsTrue (D.view disks.old).told

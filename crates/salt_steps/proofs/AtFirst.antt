@@ -128,15 +128,17 @@ pub later-by : (story : List Event) (tried : Type 0) (e : OpenErr) → (story �
 later-by story tried e (inl none) later = inl none
 later-by story tried e (inr t) later = inr (later t)
 
--- where what is there is refused, this is the first call; none comes behind it
-pub at-first : {D S : Type 0} (view : D → View) (refuses : View → S → OpenErr → Type 0) (first now : D) (old new : S) (P : View → Type 0) →
-    ((now ≡ first) × (new ≡ old)) ⊎ ((refusal : OpenErr) → IsRefusal refusal → refuses (view first) old refusal → IsTrue (view first).told → ⊥) →
+-- where what is there is refused, this is the first call, and nothing is told; none comes behind it
+pub at-first : {D S : Type 0} (view : D → View) (refuses : View → S → OpenErr → Type 0) (first now : D) (old new : S) (story : List Event) (P : View → Type 0) →
+    ((now ≡ first) × (new ≡ old) × (story ≡ [])) ⊎ ((refusal : OpenErr) → IsRefusal refusal → refuses (view first) old refusal → IsTrue (view first).told → ⊥) →
     ((refusal : OpenErr) → IsRefusal refusal → refuses (view now) new refusal → IsTrue (view now).told → P (view now)) →
-    (refusal : OpenErr) → IsRefusal refusal → refuses (view first) old refusal → IsTrue (view first).told → P (view first)
-at-first {D} {S} view refuses first now old new P (inl same) h =
-    subst (λ (s : S). (refusal : OpenErr) → IsRefusal refusal → refuses (view first) s refusal → IsTrue (view first).told → P (view first)) same.1
-    (subst (λ (d : D). (refusal : OpenErr) → IsRefusal refusal → refuses (view d) new refusal → IsTrue (view d).told → P (view d)) same.0 h)
-at-first view refuses first now old new P (inr never) h = λ refusal is refused told. absurd (never refusal is refused told)
+    (refusal : OpenErr) → IsRefusal refusal → refuses (view first) old refusal → IsTrue (view first).told → P (view first) × (story ≡ [])
+at-first {D} {S} view refuses first now old new story P (inl same) h = λ refusal is refused told. (
+  subst (λ (s : S). (refusal : OpenErr) → IsRefusal refusal → refuses (view first) s refusal → IsTrue (view first).told → P (view first)) same.1
+      (subst (λ (d : D). (refusal : OpenErr) → IsRefusal refusal → refuses (view d) new refusal → IsTrue (view d).told → P (view d)) same.0 h) refusal is refused told,
+  same.2,
+)
+at-first view refuses first now old new story P (inr never) h = λ refusal is refused told. absurd (never refusal is refused told)
 
 -- what an opening gives
 pub finds-by : (finds holds : Kept → Type 0) (x : Found) → ((k : Kept) × holds k × IsFound x k × finds k) → ((k : Kept) → holds k → IsSoundKept k) → are_spent x.boot x.decisions ≡ false →

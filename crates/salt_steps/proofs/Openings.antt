@@ -271,7 +271,7 @@ found-down lies now flies known start story trace d found same = record {
 fails-later : (room : ℕ) (p : Point) (e : OpenErr) → MayFailAt room p e → IsLater e
 fails-later room p (NotSalt dev) h = h
 fails-later room p (OtherShape kept asked) h = h
-fails-later room p (NumbersSpent boot decisions) h = tt
+fails-later room p (NumbersSpent boot decisions) h = h.spent
 fails-later room p (Halted halt) h = tt
 
 pub finding-fails : (lies now : ℕ → Point → Type 0) (left : Option Numbers → ℕ → Point → Type 0) (fills : Written → ℕ → Type 0) (flies known : Option Flight) (e : OpenErr) (start : Start) (story : List Event) (trace : Trace) →

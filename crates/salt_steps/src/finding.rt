@@ -1,6 +1,7 @@
 //! What a storage stands on is found at first, through the stops that come meanwhile.
 
 ghost use Rattle.salt_disk.specs.Disks.{KeepsAll, stops_left};
+ghost use Rattle.salt_model.specs.Kept.{Kept};
 ghost use Rattle.salt_steps.specs.Counting.{CountsOpening};
 ghost use Rattle.salt_steps.specs.Opening.{FailsToFind, FallsUnfound, FindsFirst, IsUnfound};
 ghost use Rattle.salt_storage.specs.Answers.{IsLater, IsRefusal, WritesNothing, open_disk_err};
@@ -44,6 +45,8 @@ fn try_find<S: Storage, D: Disks, F: Fn(PlaceKind, &Key, u32) -> u32>(
     ensures able { OnErr result (S.able (D.view disks.new) storage.new) }
     ensures unwritten { (refusal : OpenErr) → IsRefusal refusal → S.refuses (D.view disks.old) storage.old refusal → IsTrue (D.view disks.old).told
         → WritesNothing (D.view disks.old) (D.view disks.new) (open_disk_err result) × (result ≡ Ok None → ⊥) }
+    ensures rests { OnErr result ((k : Kept) → S.finds (D.view disks.old) storage.old k → S.rests (D.view disks.new) storage.new k) }
+    ensures finds { result ≡ Ok None → (k : Kept) → S.finds (D.view disks.old) storage.old k → S.finds (D.view disks.new) storage.new k }
     ensures still { OnErr result (FindsNoMore (S.refuses (D.view disks.old) storage.old) (S.finds (D.view disks.old) storage.old)
         (S.refuses (D.view disks.new) storage.new) (S.finds (D.view disks.new) storage.new)) }
     ensures later { S.tried (D.view disks.old) storage.old → IfErr result IsLater }
@@ -60,6 +63,7 @@ fn try_find<S: Storage, D: Disks, F: Fn(PlaceKind, &Key, u32) -> u32>(
         Err(OpenErr::Halted(Halt::Stopped)) => {
             story.push(Event::Down(Why::Stopped))?;
             storage.restart(disks);
+            storage.stands(disks);
             Ok(None)
         }
         Err(e) => Err(e),
@@ -86,7 +90,8 @@ pub fn find<S: Storage, D: Disks, F: Fn(PlaceKind, &Key, u32) -> u32>(
     ensures stays { OnErr result (S.unopened storage.new) }
     ensures able { OnErr result (S.able (D.view disks.new) storage.new) }
     ensures unwritten { (refusal : OpenErr) → IsRefusal refusal → S.refuses (D.view disks.old) storage.old refusal → IsTrue (D.view disks.old).told
-        → KeepsAll (D.view disks.old) (D.view disks.new) (open_disk_err result) }
+        → KeepsAll (D.view disks.old) (D.view disks.new) (open_disk_err result) × (story.new ≡ []) }
+    ensures rests { OnErr result ((k : Kept) → S.finds (D.view disks.old) storage.old k → S.rests (D.view disks.new) storage.new k) }
     ensures unstopped { result ≡ Err (Halted Stopped) → ⊥ }
     ensures within { StaysWithin (S.asked storage.old) (S.asked storage.new) (D.view disks.old) (D.view disks.new) }
     ensures counts { CountsOpening (D.view disks.old) (D.view disks.new) (open_disk_err result) [] story.new }

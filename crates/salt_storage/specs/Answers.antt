@@ -53,7 +53,7 @@ MayFail rests a b (Halted e) = ⊤
 abbrev pub IsLater : OpenErr → Type 0
 IsLater (NotSalt dev) = ⊥
 IsLater (OtherShape kept asked) = ⊥
-IsLater (NumbersSpent boot decisions) = ⊤
+IsLater (NumbersSpent boot decisions) = are_spent boot decisions ≡ true
 IsLater (Halted halt) = ⊤
 
 -- an opening refuses what it has come upon

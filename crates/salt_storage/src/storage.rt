@@ -83,6 +83,7 @@ pub trait Storage {
         ensures numbers { IfOk result (λ found. are_spent found.boot found.decisions ≡ false) }
         ensures refuses { IfErr result (refuses (D.view disks.old) self.old) }
         ensures still { OnErr result (FindsNoMore (refuses (D.view disks.old) self.old) (finds (D.view disks.old) self.old) (refuses (D.view disks.new) self.new) (finds (D.view disks.new) self.new)) }
+        ensures rests { OnErr result ((k : Kept) → finds (D.view disks.old) self.old k → rests (D.view disks.new) self.new k) }
         ensures unopened { OnErr result (unopened self.new) }
         ensures tried { result ≡ Err (OpenErr.Halted Stopped) → tried (D.view disks.new) self.new }
         ensures later { tried (D.view disks.old) self.old → IfErr result IsLater }
@@ -197,15 +198,17 @@ pub trait Storage {
         ensures still { FindsNoMore (refuses (D.view disks.old) self.old) (finds (D.view disks.old) self.old) (refuses (D.view disks.new) self.new) (finds (D.view disks.new) self.new) }
         ensures unopened { unopened self.old → unopened self.new }
         ensures tried { tried (D.view disks.old) self.old → tried (D.view disks.new) self.new }
+        ensures rests { (k : Kept) → rests (D.view disks.old) self.old k → rests (D.view disks.new) self.new k }
         ensures leaves { (a b : Kept) → leaves (D.view disks.old) self.old a b → leaves (D.view disks.new) self.new a b }
         ensures faults { (D.view disks.new).faults ≡ (D.view disks.old).faults }
         ensures stops { (D.view disks.new).armed ≡ (D.view disks.old).armed }
         ensures within { StaysWithin (asked self.old) (asked self.new) (D.view disks.old) (D.view disks.new) };
 
-    /// A law: what it holds may be kept, and a stop leaves it; and what is left can be started again.
+    /// A law: what it holds may be kept, and a stop leaves it; what is left can be started again; and what rests there is found.
     fn stands<D: Disks>(&self, disks: &D)
         ensures sound { (k : Kept) → holds (D.view disks.now) self.now k → IsSoundKept k }
         ensures stays { (k : Kept) → holds (D.view disks.now) self.now k → leaves (D.view disks.now) self.now k k }
         ensures able { (a b : Kept) → leaves (D.view disks.now) self.now a b → able (D.view disks.now) self.now }
-        ensures settled { settled (D.view disks.now) self.now → able (D.view disks.now) self.now };
+        ensures settled { settled (D.view disks.now) self.now → able (D.view disks.now) self.now }
+        ensures finds { (k : Kept) → settled (D.view disks.now) self.now → rests (D.view disks.now) self.now k → finds (D.view disks.now) self.now k };
 }

@@ -4,7 +4,8 @@ use Rattle.salt_commit.proofs.Opening.{nothing, opens_at}
 use Rattle.salt_commit.proofs.Standing.{if_some}
 use Rattle.salt_commit.specs.Openings.{IsStoreLog, StorePassesLimit}
 use Rattle.salt_decisions.specs.Errors.{disk_err_in}
-use Rattle.salt_devices.proofs.Opening.{disk_answer, full_is, is_open, new_stands, opened_newest, opens_as, refused_as, still_opened, still_unwritten, stopped_blank}
+use Rattle.salt_devices.proofs.Answered.{like_finds, like_stands}
+use Rattle.salt_devices.proofs.Opening.{disk_answer, full_is, is_open, like_opened, like_unwritten, new_stands, opened_newest, opens_as, refused_as, stopped_blank}
 use Rattle.salt_devices.proofs.open.open_devices.Goals as goal
 use Rattle.salt_devices.proofs.Refused.{stopped_err, writes_nothing}
 use Rattle.salt_devices.specs.Errors.{open_err_of}
@@ -27,7 +28,14 @@ returns-in_err-schema-clause-err g c told =
 pub returns-in_err-schema-clause-still : goal.returns-in_err-schema-clause-still
 returns-in_err-schema-clause-still g c =
     let p = err_from_is_err_and c.from_residual.result c.from_residual.ensures.1 in
-    rw p.1 (λ told image left. still_unwritten (g.D.Disks.view c.args.disks.now) c.args.shape c.requires.parts c.requires.room (g.D.Disks.view c.schema_of_log.new.disks) _ c.in_err-schema.ensures.kept image left)
+    let d = g.D.Disks.view c.args.disks.now in
+    rw p.1 (λ told image left. like_finds c.args.shape d.bytes image (like_unwritten d c.args.shape c.requires.parts c.requires.room (g.D.Disks.view c.schema_of_log.new.disks) _ c.in_err-schema.ensures.kept image left))
+
+pub returns-in_err-schema-clause-rests : goal.returns-in_err-schema-clause-rests
+returns-in_err-schema-clause-rests g c =
+    let p = err_from_is_err_and c.from_residual.result c.from_residual.ensures.1 in
+    let d = g.D.Disks.view c.args.disks.now in
+    rw p.1 (λ told image left. like_stands c.args.shape d.bytes image (like_unwritten d c.args.shape c.requires.parts c.requires.room (g.D.Disks.view c.schema_of_log.new.disks) _ c.in_err-schema.ensures.kept image left))
 
 pub returns-in-Ok-Some-clause-ok : goal.returns-in-Ok-Some-clause-ok
 returns-in-Ok-Some-clause-ok g c =
@@ -87,6 +95,16 @@ returns-in-Ok-None-clause-still g c told image left =
     let now : IsTrue e.told = c.in-Ok.ensures.others.shape.told ∙ (first.shape.told ∙ told) in
     absurd (c.in-Ok-None.ensures.none (ap Ok c.in-Ok-None.field-0-is) c.args.shape o.c o.v (is_open d e c.args.shape c.in-Ok.store c.in-Ok.kept o) now (opened_newest c.in_ok-schema.schema d e c.args.shape c.in-Ok.store c.in-Ok.kept o told (c.in_ok-schema.ensures.schema told)))
 
+pub returns-in-Ok-None-clause-rests : goal.returns-in-Ok-None-clause-rests
+returns-in-Ok-None-clause-rests g c told image left =
+    let d = g.D.Disks.view c.args.disks.now in
+    let b = g.D.Disks.view c.schema_of_log.new.disks in
+    let e = g.D.Disks.view c.open_store.new.disks in
+    let first = c.in_ok-schema.ensures.kept in
+    let o = opens_at c.args.shape d b e c.in-Ok.store c.in-Ok.kept first c.in-Ok.ensures.ok in
+    let now : IsTrue e.told = c.in-Ok.ensures.others.shape.told ∙ (first.shape.told ∙ told) in
+    absurd (c.in-Ok-None.ensures.none (ap Ok c.in-Ok-None.field-0-is) c.args.shape o.c o.v (is_open d e c.args.shape c.in-Ok.store c.in-Ok.kept o) now (opened_newest c.in_ok-schema.schema d e c.args.shape c.in-Ok.store c.in-Ok.kept o told (c.in_ok-schema.ensures.schema told)))
+
 pub returns-in-Ok-clause-kept : goal.returns-in-Ok-clause-kept
 returns-in-Ok-clause-kept g c told some =
     let d = g.D.Disks.view c.args.disks.now in
@@ -103,8 +121,17 @@ returns-in-Ok-clause-still g c told image left =
     let b = g.D.Disks.view c.schema_of_log.new.disks in
     let e = g.D.Disks.view c.open_store.new.disks in
     let first = c.in_ok-schema.ensures.kept in
-    still_opened d c.args.shape c.requires.parts c.requires.room b e None first (c.in-Ok.ensures.kept (first.shape.told ∙ told)) (c.in-Ok.ensures.images (first.shape.told ∙ told)) (c.in-Ok.ensures.pages (first.shape.told ∙ told))
-    c.in-Ok.ensures.others.shape.count image left
+    like_finds c.args.shape d.bytes image
+    (like_opened d c.args.shape c.requires.parts c.requires.room b e None first (c.in-Ok.ensures.kept (first.shape.told ∙ told)) (c.in-Ok.ensures.images (first.shape.told ∙ told)) (c.in-Ok.ensures.pages (first.shape.told ∙ told)) image left)
+
+pub returns-in-Ok-clause-rests : goal.returns-in-Ok-clause-rests
+returns-in-Ok-clause-rests g c told image left =
+    let d = g.D.Disks.view c.args.disks.now in
+    let b = g.D.Disks.view c.schema_of_log.new.disks in
+    let e = g.D.Disks.view c.open_store.new.disks in
+    let first = c.in_ok-schema.ensures.kept in
+    like_stands c.args.shape d.bytes image
+    (like_opened d c.args.shape c.requires.parts c.requires.room b e None first (c.in-Ok.ensures.kept (first.shape.told ∙ told)) (c.in-Ok.ensures.images (first.shape.told ∙ told)) (c.in-Ok.ensures.pages (first.shape.told ∙ told)) image left)
 
 pub returns-clause-err : goal.returns-clause-err
 returns-clause-err g c told =
@@ -129,8 +156,17 @@ returns-clause-still g c told image left =
     let b = g.D.Disks.view c.schema_of_log.new.disks in
     let e = g.D.Disks.view c.open_store.new.disks in
     let first = c.in_ok-schema.ensures.kept in
-    still_opened d c.args.shape c.requires.parts c.requires.room b e (disk_err_in c.in-Err.e) first (c.in-Err.ensures.kept (first.shape.told ∙ told)) (c.in-Err.ensures.images (first.shape.told ∙ told)) (c.in-Err.ensures.pages (first.shape.told ∙ told))
-    c.in-Err.ensures.others.shape.count image left
+    like_finds c.args.shape d.bytes image
+    (like_opened d c.args.shape c.requires.parts c.requires.room b e (disk_err_in c.in-Err.e) first (c.in-Err.ensures.kept (first.shape.told ∙ told)) (c.in-Err.ensures.images (first.shape.told ∙ told)) (c.in-Err.ensures.pages (first.shape.told ∙ told)) image left)
+
+pub returns-clause-rests : goal.returns-clause-rests
+returns-clause-rests g c told image left =
+    let d = g.D.Disks.view c.args.disks.now in
+    let b = g.D.Disks.view c.schema_of_log.new.disks in
+    let e = g.D.Disks.view c.open_store.new.disks in
+    let first = c.in_ok-schema.ensures.kept in
+    like_stands c.args.shape d.bytes image
+    (like_opened d c.args.shape c.requires.parts c.requires.room b e (disk_err_in c.in-Err.e) first (c.in-Err.ensures.kept (first.shape.told ∙ told)) (c.in-Err.ensures.images (first.shape.told ∙ told)) (c.in-Err.ensures.pages (first.shape.told ∙ told)) image left)
 
 pub returns-clause-stopped : goal.returns-clause-stopped
 returns-clause-stopped g c is told image left =

@@ -18,6 +18,11 @@ returns-then-refuses-clause-still g c told image left =
     let d = g.D.Disks.view c.args.disks.now in
     absurd (c.refuses.ensures.refused c.if-refuses.true (not_refused d c.args.shape c.args.pending.now c.in-Err.e c.requires.opens (c.is_opening.ensures.0 c.if-not-is_opening.false) told (c.in-Err.ensures.err told)))
 
+pub returns-then-refuses-clause-rests : goal.returns-then-refuses-clause-rests
+returns-then-refuses-clause-rests g c told image left =
+    let d = g.D.Disks.view c.args.disks.now in
+    absurd (c.refuses.ensures.refused c.if-refuses.true (not_refused d c.args.shape c.args.pending.now c.in-Err.e c.requires.opens (c.is_opening.ensures.0 c.if-not-is_opening.false) told (c.in-Err.ensures.err told)))
+
 pub returns-then-refuses-clause-unwritten : goal.returns-then-refuses-clause-unwritten
 returns-then-refuses-clause-unwritten g c refusal is refused told =
     let d = g.D.Disks.view c.args.disks.now in

@@ -6,7 +6,7 @@ use Rattle.salt_steps.proofs.finding.find.Goals as goal
 use Rattle.salt_steps.specs.Counting.{CountsOpening}
 use Rattle.salt_steps.specs.Opening.{IsUnfound}
 use Rattle.salt_storage.proofs.Staying.{stays-behind, stays-same}
-use Rattle.std.proofs.Common.{ap, inl, inr, subst, sym}
+use Rattle.std.proofs.Common.{ap, inl, inr, subst, sym, ◌∙◌}
 use Rattle.std.proofs.lemmas.Result.{err_from_is_err_and}
 use Rattle.std.specs.Prelude.{Err, List, None, Ok, [], refl}
 
@@ -21,7 +21,8 @@ stops-init g c =
       less = same-found (g.S.Storage.refuses v s) (g.S.Storage.finds v s);
       counts = subst (λ (told : List Event). CountsOpening v v None [] told) (sym c.requires.empty) (opening-none v []);
       untold = inl c.requires.empty;
-      untouched = inl (refl, refl);
+      finds = λ k h. h;
+      untouched = inl (refl, refl, c.requires.empty);
       within = stays-same (g.S.Storage.asked s) v;
     }
 
@@ -38,8 +39,9 @@ stops-preserved g c =
       less = no-more-behind _ _ _ _ _ _ known.less f.less;
       counts = opening-join (view c.args.disks.now) (view c.stops.disks) (view c.try_find.new.disks) _ [] c.stops.story c.try_find.new.story known.counts c.in_ok-found.ensures.counts;
       untold = inr (c.in_ok-found.ensures.tried no);
-      untouched = inr (at-first view (g.S.Storage.refuses) c.args.disks.now c.stops.disks c.args.storage.now c.stops.storage (λ v. ⊥) known.untouched
-          (λ refusal is refused told. (c.in_ok-found.ensures.unwritten refusal is refused told).1 no));
+      finds = λ k h. c.in_ok-found.ensures.finds no k (known.finds k h);
+      untouched = inr (λ refusal is refused told. (at-first view (g.S.Storage.refuses) c.args.disks.now c.stops.disks c.args.storage.now c.stops.storage c.stops.story (λ v. ⊥) known.untouched
+          (λ refusal is refused told. (c.in_ok-found.ensures.unwritten refusal is refused told).1 no) refusal is refused told).0);
       within = stays-behind known.within c.in_ok-found.ensures.within;
     }
 
@@ -65,8 +67,10 @@ returns-in-Some-clause-within g c = stays-behind c.stops.invariant.within c.in_o
 pub returns-in-Some-clause-unwritten : goal.returns-in-Some-clause-unwritten
 returns-in-Some-clause-unwritten g c =
     let view = g.D.Disks.view in
-    at-first view (g.S.Storage.refuses) c.args.disks.now c.stops.disks c.args.storage.now c.stops.storage (λ v. KeepsAll v (view c.try_find.new.disks) None) c.stops.invariant.untouched
-    (λ refusal is refused told. (c.in_ok-found.ensures.unwritten refusal is refused told).0.keeps)
+    λ refusal is refused told.
+    let first = at-first view (g.S.Storage.refuses) c.args.disks.now c.stops.disks c.args.storage.now c.stops.storage c.stops.story (λ v. KeepsAll v (view c.try_find.new.disks) None) c.stops.invariant.untouched
+    (λ refusal is refused told. (c.in_ok-found.ensures.unwritten refusal is refused told).0.keeps) refusal is refused told in
+    (first.0, c.in_ok-found.ensures.untold c.in-Some.found (ap Ok c.in-Some.is) ∙ first.1)
 
 pub returns-in_err-found-clause-err : goal.returns-in_err-found-clause-err
 returns-in_err-found-clause-err g c =
@@ -80,6 +84,11 @@ returns-in_err-found-clause-err g c =
 
 pub returns-in_err-found-clause-unfound : goal.returns-in_err-found-clause-unfound
 returns-in_err-found-clause-unfound g c = subst IsUnfound (sym c.in_err-found.ensures.unrefused) c.stops.invariant.unfound
+
+pub returns-in_err-found-clause-rests : goal.returns-in_err-found-clause-rests
+returns-in_err-found-clause-rests g c =
+    let p = err_from_is_err_and c.from_residual.result c.from_residual.ensures.1 in
+    rw p.1 (λ k h. c.in_err-found.ensures.rests k (c.stops.invariant.finds k h))
 
 pub returns-in_err-found-clause-counts : goal.returns-in_err-found-clause-counts
 returns-in_err-found-clause-counts g c =

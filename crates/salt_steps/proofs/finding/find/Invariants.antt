@@ -1,4 +1,5 @@
 use Rattle.salt_disk.specs.Disks.{stops_left}
+use Rattle.salt_model.specs.Kept.{Kept}
 use Rattle.salt_steps.proofs.finding.find.Given as goal
 use Rattle.salt_steps.specs.Counting.{CountsOpening}
 use Rattle.salt_steps.specs.Opening.{IsUnfound}
@@ -17,7 +18,8 @@ invariant-stops g l = record {
       (g.S.Storage.refuses (g.D.Disks.view l.disks) l.storage) (g.S.Storage.finds (g.D.Disks.view l.disks) l.storage);
   counts : CountsOpening (g.D.Disks.view l.fn.disks) (g.D.Disks.view l.disks) None [] l.story;
   untold : (l.story ≡ []) ⊎ g.S.Storage.tried (g.D.Disks.view l.disks) l.storage;
-  untouched : ((l.disks ≡ l.fn.disks) × (l.storage ≡ l.fn.storage)) ⊎
+  finds : (k : Kept) → g.S.Storage.finds (g.D.Disks.view l.fn.disks) l.fn.storage k → g.S.Storage.finds (g.D.Disks.view l.disks) l.storage k;
+  untouched : ((l.disks ≡ l.fn.disks) × (l.storage ≡ l.fn.storage) × (l.story ≡ [])) ⊎
       ((refusal : OpenErr) → IsRefusal refusal → g.S.Storage.refuses (g.D.Disks.view l.fn.disks) l.fn.storage refusal → IsTrue (g.D.Disks.view l.fn.disks).told → ⊥);
   within : StaysWithin (g.S.Storage.asked l.fn.storage) (g.S.Storage.asked l.storage) (g.D.Disks.view l.fn.disks) (g.D.Disks.view l.disks);
 }

@@ -1,4 +1,4 @@
-use Rattle.salt_devices.proofs.Begun.{no_more, opened_finds, opened_held, opens_behind, passes_on, refused_bytes, tried_behind, upon_bytes}
+use Rattle.salt_devices.proofs.Begun.{no_more, opened_finds, opened_held, opens_behind, passes_on, refused_bytes, rests_behind, tried_behind, upon_bytes}
 use Rattle.salt_devices.proofs.Started.{called}
 use Rattle.salt_devices.proofs.devices.DevicesStorage.open.Goals as goal
 use Rattle.salt_devices.specs.Leaving.{CanOpen}
@@ -31,6 +31,11 @@ returns-in-Err-clause-refuses g c told = upon_bytes (g.D.Disks.view c.args.disks
 pub returns-in-Err-clause-still : goal.returns-in-Err-clause-still
 returns-in-Err-clause-still g c =
     no_more (g.D.Disks.view c.args.disks.now) (g.D.Disks.view c.open_first.new.disks) c.args.self.now.shape c.in-Err.ensures.within.shape c.args.self.now.started _ c.requires.settled.started_now refl c.in-Err.ensures.still
+
+pub returns-in-Err-clause-rests : goal.returns-in-Err-clause-rests
+returns-in-Err-clause-rests g c k h =
+    let x = c.args.self.now in
+    rests_behind (g.D.Disks.view c.args.disks.now) (g.D.Disks.view c.open_first.new.disks) x.shape c.in-Err.ensures.within.shape c.requires.settled.able x.started c.requires.settled.started_now c.in-Err.ensures.rests k h
 
 pub returns-in-Err-clause-tried : goal.returns-in-Err-clause-tried
 returns-in-Err-clause-tried g c is = tried_behind _ c.in-Err.e c.pending_opening.ensures (cc is)

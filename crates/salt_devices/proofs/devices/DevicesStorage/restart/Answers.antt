@@ -1,4 +1,4 @@
-use Rattle.salt_devices.proofs.Standing.{found_again, left_again, starts}
+use Rattle.salt_devices.proofs.Standing.{found_again, left_again, rested_again, starts}
 use Rattle.salt_devices.proofs.Within.{restarted_within}
 use Rattle.salt_devices.proofs.devices.DevicesStorage.restart.Goals as goal
 
@@ -7,6 +7,9 @@ returns-clause-settled g c = starts _ _ c.args.self.now.store c.args.self.now.nu
 
 pub returns-clause-still : goal.returns-clause-still
 returns-clause-still g c = found_again _ _ c.args.self.now.store c.args.self.now.numbers _ (g.D.Disks.view c.args.disks.now) (g.D.Disks.view c.restart.new.self) c.restart.ensures c.requires
+
+pub returns-clause-rests : goal.returns-clause-rests
+returns-clause-rests g c k h = rested_again _ _ c.args.self.now.store c.args.self.now.numbers _ (g.D.Disks.view c.args.disks.now) (g.D.Disks.view c.restart.new.self) c.restart.ensures c.requires k h
 
 pub returns-clause-leaves : goal.returns-clause-leaves
 returns-clause-leaves g c a b h = left_again _ _ _ _ _ (g.D.Disks.view c.args.disks.now) (g.D.Disks.view c.restart.new.self) c.restart.ensures c.requires a b h
