@@ -22,11 +22,12 @@ use Rattle.salt_model.specs.declared.events.Event.TheVariants.{Down}
 use Rattle.salt_model.specs.declared.events.Event.{Event}
 use Rattle.salt_model.specs.declared.events.Flight.{Flight}
 use Rattle.salt_model.specs.declared.events.Why.TheVariants.{Stopped}
+use Rattle.salt_promise.specs.Doing.{AreFirstLines, GainsFrom, story_before_line, text_under}
 use Rattle.salt_serving.proofs.Leaving.{at-devices, leaves-later, leaves-unwritten, unwritten-leaves}
 use Rattle.salt_serving.proofs.Stories.{text-append}
 use Rattle.salt_serving.proofs.Texts.{gains-under, memory-status, of-later, tables-lying, tables-serving}
 use Rattle.salt_serving.specs.Ending.{EndsFound, EndsOpening, EndsServing, IsStatusOf, LeavesAt}
-use Rattle.salt_serving.specs.Run.{AreFirstLines, AreLinesOf, GainsFrom, IsFlightAt, IsRun, IsWritten, leave_of, story_before_line, text_under}
+use Rattle.salt_serving.specs.Run.{AreLinesOf, IsFlightAt, IsRun, IsWritten, leave_of}
 use Rattle.salt_serving.specs.Serving.{EndsWriting, GainsAtEnd, IsAt, IsBegun, IsServing}
 use Rattle.salt_serving.specs.Stopping.{IsLaterStop, IsOfDevices, outcome, status_of, status_opening, stop_opening}
 use Rattle.salt_serving.specs.declared.stop.Stop.TheVariants as stop
@@ -90,7 +91,7 @@ leaves-unfound : (e : OpenErr) (story : List Event) → (story ≡ []) ⊎ IsLat
 leaves-unfound e story (inr l) trace told down = leaves-later e l trace down
 leaves-unfound (NotSalt dev) story (inl none) trace told down = told ∙ none
 leaves-unfound (OtherShape kept asked) story (inl none) trace told down = told ∙ none
-leaves-unfound (NumbersSpent boot decisions) story (inl none) trace told down = leaves-later (NumbersSpent boot decisions) tt trace down
+leaves-unfound (NumbersSpent boot decisions) story (inl none) trace told down = down
 leaves-unfound (Halted h) story (inl none) trace told down = leaves-later (Halted h) tt trace down
 
 flies-unfound : (e : OpenErr) (trace : Trace) (flies : Option Flight) → flies ≡ None → flight trace ≡ None → IsFlightAt (status_opening e) trace flies

@@ -7,12 +7,13 @@ use Rattle.salt_model.specs.declared.events.Event.TheVariants.{Armed, Down}
 use Rattle.salt_model.specs.declared.events.Event.{Event}
 use Rattle.salt_model.specs.declared.events.Why.TheVariants as why
 use Rattle.salt_model.specs.declared.events.Why.{Why}
-use Rattle.salt_serving.specs.Counted.{AreFaults, AreFaultsOf, AreMet, AreStopsOf, CountsAdded, CountsNothing, CountsResumed, CountsRun, armed_after, armed_behind, behind_first}
+use Rattle.salt_serving.specs.Counted.{AreFaults, AreFaultsOf, AreMet, AreStopsOf, CountsAdded, CountsNothing, CountsResumed, CountsRun}
 use Rattle.salt_io.specs.declared.lines.LineErr.{LineErr}
+use Rattle.salt_promise.specs.Counting.{armed_after, armed_behind, behind_first}
+use Rattle.salt_promise.specs.declared.status.Status.{Status}
+use Rattle.salt_promise.specs.declared.status.Status.TheVariants.{DeviceFull, DiskFault, Done, Memory, NotSalt, NumbersSpent, OtherShape, ReadFault, ScriptTooLong, Usage, WriteFault}
 use Rattle.salt_serving.specs.Stopping.{answer_of, outcome, status_of, stop_of}
 use Rattle.salt_serving.specs.declared.stop.Stop.{Stop}
-use Rattle.salt_serving.specs.declared.status.Status.TheVariants.{DeviceFull, DiskFault, Done, Memory, NotSalt, NumbersSpent, OtherShape, ReadFault, ScriptTooLong, Usage, WriteFault}
-use Rattle.salt_serving.specs.declared.status.Status.{Status}
 use Rattle.salt_steps.proofs.Counted.{come-same, counts-none}
 use Rattle.salt_steps.specs.Counting.{CountsFall, CountsMore, CountsOpening, FallsFirst, armed_in, faulted_in, faults_told, stopped_in, stops_of}
 use Rattle.salt_storage.specs.Answers.{disk_err_of}

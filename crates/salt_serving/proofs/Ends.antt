@@ -14,16 +14,17 @@ use Rattle.salt_model.specs.Trace as trace_words
 use Rattle.salt_model.specs.Trace.{Asked, Start, Trace, story_of}
 use Rattle.salt_model.specs.declared.events.Event.{Event}
 use Rattle.salt_model.specs.declared.events.Flight.{Flight}
+use Rattle.salt_promise.specs.Doing.{GainsFrom, GainsShortFrom, IsFrontOf, story_before_line, text_under}
+use Rattle.salt_promise.specs.declared.status.Status.{Status}
+use Rattle.salt_promise.specs.declared.status.Status.TheVariants.{Done, Memory, ReadFault, ScriptTooLong}
 use Rattle.salt_serving.proofs.Extends.{before-line}
 use Rattle.salt_serving.proofs.Leaving.{done-leaves, fault-leaves, long-leaves, short-leaves}
 use Rattle.salt_serving.proofs.Places.{end-place, fault-place, first-place, long-place, next-place, over-before}
 use Rattle.salt_serving.proofs.Stories.{grown-text, text-begins}
 use Rattle.salt_serving.specs.Ending.{EndsServing, LeavesAt}
-use Rattle.salt_serving.specs.Run.{AreLinesOf, GainsFrom, GainsShortFrom, IsFrontOf, IsTold, IsWritten, story_before_line, text_under}
+use Rattle.salt_serving.specs.Run.{AreLinesOf, IsTold, IsWritten}
 use Rattle.salt_serving.specs.Serving.{AsksMore, EndsTelling, GainsAtEnd, IsAt, IsServing, IsToldLine, TextAsks, added_text, rest_of, text_of}
 use Rattle.salt_serving.specs.Stopping.{IsOfLine, outcome, status_of, stop_of}
-use Rattle.salt_serving.specs.declared.status.Status.TheVariants.{Done, Memory, ReadFault, ScriptTooLong}
-use Rattle.salt_serving.specs.declared.status.Status.{Status}
 use Rattle.salt_serving.specs.declared.stop.Stop.TheVariants as stop
 use Rattle.salt_serving.specs.declared.stop.Stop.{Stop}
 use Rattle.salt_steps.specs.Serving.{Grows}

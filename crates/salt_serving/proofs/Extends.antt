@@ -11,7 +11,7 @@ use Rattle.salt_model.specs.Turns.{next_turn}
 use Rattle.salt_model.specs.declared.events.Event.{Event}
 use Rattle.salt_model.specs.declared.events.Event.TheVariants.{Down, Opened}
 use Rattle.salt_model.specs.declared.events.Why.{Why}
-use Rattle.salt_serving.specs.Run.{story_before_line}
+use Rattle.salt_promise.specs.Doing.{story_before_line}
 use Rattle.salt_values.specs.declared.id.Id.{Id}
 use Rattle.std.proofs.Common.{ap, subst, sym, ◌∙◌}
 use Rattle.std.specs.Prelude.{IsTrue, List, None, Option, Some, [], false, refl, true, ℕ, ◌++◌, ◌∷◌, ◌≡◌}

@@ -15,12 +15,12 @@ use Rattle.salt_model.specs.Trace.{Start, Trace, from, ◌asks◌, ◌says◌, �
 use Rattle.salt_model.specs.declared.events.Event.TheVariants.{Down, Opened}
 use Rattle.salt_model.specs.declared.events.Event.{Event}
 use Rattle.salt_model.specs.declared.events.Flight.{Flight}
+use Rattle.salt_promise.specs.declared.status.Status.{Status}
+use Rattle.salt_promise.specs.declared.status.Status.TheVariants.{DeviceFull, Done, Memory, ReadFault, ScriptTooLong, WriteFault}
 use Rattle.salt_serving.specs.Ending.{EndsFound, EndsOpening, LeavesAt, MayEndAt}
 use Rattle.salt_serving.specs.Run.{IsFlightAt, leave_of}
 use Rattle.salt_serving.specs.Serving.{EndsBehind}
 use Rattle.salt_serving.specs.Stopping.{IsLaterStop, answer_of, numbers_told, status_of, status_opening, stop_opening}
-use Rattle.salt_serving.specs.declared.status.Status.TheVariants.{DeviceFull, Done, Memory, ReadFault, ScriptTooLong, WriteFault}
-use Rattle.salt_serving.specs.declared.status.Status.{Status}
 use Rattle.salt_serving.specs.declared.stop.Stop.TheVariants as stop
 use Rattle.salt_serving.specs.declared.stop.Stop.{Stop}
 use Rattle.salt_steps.proofs.Segments.{serves-at, sound-of}

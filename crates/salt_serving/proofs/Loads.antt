@@ -9,16 +9,16 @@ use Rattle.salt_model.specs.Trace.{Asked, Start, Trace, Tree, lines_of}
 use Rattle.salt_model.specs.Words.{Every}
 use Rattle.salt_model.specs.declared.events.Event.{Event}
 use Rattle.salt_model.specs.declared.events.Flight.{Flight}
+use Rattle.salt_promise.specs.Doing.{IsFrontOf}
+use Rattle.salt_promise.specs.declared.status.Status.{Status}
+use Rattle.salt_promise.specs.declared.status.Status.TheVariants as status
 use Rattle.salt_serving.proofs.Beginning.{of-reason, often-asked, often-tells, often-unspent, unfound-flies, unfound-leaves}
 use Rattle.salt_serving.proofs.Leaving.{done-leaves, short-leaves}
 use Rattle.salt_serving.proofs.Texts.{of-later}
 use Rattle.salt_serving.specs.Ending.{EndsOpening, LeavesAt}
 use Rattle.salt_serving.specs.Loading.{AreLoadLines, EndsLoading, IsLoading, IsPlayedLoad, asked_by_load}
-use Rattle.salt_serving.specs.Run.{IsFrontOf}
 use Rattle.salt_serving.specs.Serving.{EndsBehind, IsAskable}
 use Rattle.salt_serving.specs.Stopping.{IsLaterStop, IsOfDevices, status_of, stop_opening}
-use Rattle.salt_serving.specs.declared.status.Status.TheVariants as status
-use Rattle.salt_serving.specs.declared.status.Status.{Status}
 use Rattle.salt_serving.specs.declared.stop.Stop.TheVariants as stop
 use Rattle.salt_serving.specs.declared.stop.Stop.{Stop}
 use Rattle.salt_steps.specs.Opening.{IsUnfound, fallen_often}

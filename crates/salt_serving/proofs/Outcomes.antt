@@ -1,6 +1,6 @@
 -- What a call gives, by whether it is an error.
+use Rattle.salt_promise.specs.declared.status.Status.TheVariants.{Done}
 use Rattle.salt_serving.specs.Stopping.{outcome}
-use Rattle.salt_serving.specs.declared.status.Status.TheVariants.{Done}
 use Rattle.salt_serving.specs.declared.stop.Stop.{Stop}
 use Rattle.std.specs.Prelude.{Err, Ok, Result, refl, ◌≡◌}
 use Rattle.std.specs.Result.{IfErr, OnOk}

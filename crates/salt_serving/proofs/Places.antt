@@ -3,10 +3,11 @@ use Rattle.salt_values.specs.declared.limits.TheConstants.{SCRIPT_MOST}
 use Rattle.salt_io.proofs.ScriptLaws.{script_of-append}
 use Rattle.salt_io.specs.Lines.{IsCutOff, IsLineOf, IsReadingOf, Reading, TakesLine, TakesNoLine, lines_of, script_of, with_rest}
 use Rattle.salt_io.specs.Streams.{IsAtEnd, Takes, bytes_before}
-use Rattle.salt_serving.specs.Run.{AreFirstLines, AreLinesOf, IsFrontOf}
+use Rattle.salt_promise.specs.Doing.{AreFirstLines, IsFrontOf}
+use Rattle.salt_promise.specs.declared.status.Status.TheVariants.{Done, ReadFault, ScriptTooLong}
+use Rattle.salt_serving.specs.Run.{AreLinesOf}
 use Rattle.salt_serving.specs.Serving.{IsAt, IsAtLine, rest_of}
 use Rattle.salt_serving.specs.Stopping.{IsOfLine, status_of}
-use Rattle.salt_serving.specs.declared.status.Status.TheVariants.{Done, ReadFault, ScriptTooLong}
 use Rattle.salt_serving.specs.declared.stop.Stop.TheVariants as stop
 use Rattle.salt_serving.specs.declared.stop.Stop.{Stop}
 use Rattle.std.proofs.Common.{ap, append-nil, append_assoc, arith, inl, inr, length-append, subst, sym, ◌∙◌}

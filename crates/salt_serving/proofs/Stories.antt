@@ -7,8 +7,8 @@ use Rattle.salt_model.specs.Kept.{WellKept, schema_of}
 use Rattle.salt_model.specs.Played.{IsPlayed, Tells}
 use Rattle.salt_model.specs.Trace.{Asked, Start, Trace, from, lines_of, start_of, story_of, ◌asks◌, ◌says◌, ◌turns◌}
 use Rattle.salt_model.specs.declared.events.Event.{Event}
+use Rattle.salt_promise.specs.Doing.{IsFrontOf, story_before_line, text_under}
 use Rattle.salt_serving.proofs.Extends.{extends}
-use Rattle.salt_serving.specs.Run.{IsFrontOf, story_before_line, text_under}
 use Rattle.salt_steps.specs.Serving.{Grows as HasGrown}
 use Rattle.salt_told.proofs.ShownWithin.{shown-within}
 use Rattle.salt_told.proofs.Stays.{story-stays}

@@ -9,13 +9,13 @@ use Rattle.salt_model.specs.Kept.{schema_of}
 use Rattle.salt_model.specs.Trace.{Start, Trace}
 use Rattle.salt_model.specs.declared.events.Event.{Event}
 use Rattle.salt_model.specs.declared.events.Flight.{Flight}
+use Rattle.salt_promise.specs.declared.status.Status.{Status}
+use Rattle.salt_promise.specs.declared.status.Status.TheVariants as status
 use Rattle.salt_serving.proofs.Leaving.{leaves-unwritten}
 use Rattle.salt_serving.specs.Ending.{LeavesAt}
 use Rattle.salt_serving.specs.Serving.{Continues, EndsIn, EndsTelling, EndsWriting, GainsAtEnd, IsToldLine, added_text}
 use Rattle.salt_serving.specs.Stopping.{IsLaterStop, IsOfDevices, IsOfLine, is_memory, outcome, ran_short, status_of}
 use Rattle.salt_serving.specs.Telling.{StopsWriting}
-use Rattle.salt_serving.specs.declared.status.Status.TheVariants as status
-use Rattle.salt_serving.specs.declared.status.Status.{Status}
 use Rattle.salt_serving.specs.declared.stop.Stop.TheVariants.{DeviceFull, DiskFault, Memory, NotSalt, NumbersSpent, OtherShape, ReadFault, ScriptTooLong, WriteFault}
 use Rattle.salt_serving.specs.declared.stop.Stop.{Stop}
 use Rattle.salt_steps.proofs.Segments.{serves-at, sound-at}

@@ -1,15 +1,16 @@
 -- Faults and stops, as they are counted over a run.
 use Rattle.salt_disk.specs.Disks.{Rose, View}
-use Rattle.salt_model.specs.declared.events.Event.TheVariants.{Armed, Down}
+use Rattle.salt_model.specs.declared.events.Event.TheVariants.{Down}
 use Rattle.salt_model.specs.declared.events.Event.{Event}
 use Rattle.salt_model.specs.declared.events.Why.TheVariants as why
+use Rattle.salt_promise.specs.Counting.{armed_behind}
+use Rattle.salt_promise.specs.declared.status.Status.{Status}
+use Rattle.salt_promise.specs.declared.status.Status.TheVariants.{DeviceFull, DiskFault, Memory}
 use Rattle.salt_serving.specs.Stopping.{answer_of}
-use Rattle.salt_serving.specs.declared.status.Status.TheVariants.{DeviceFull, DiskFault, Memory}
-use Rattle.salt_serving.specs.declared.status.Status.{Status}
 use Rattle.salt_steps.specs.Counting.{CountsFall, CountsStops}
 use Rattle.salt_storage.specs.declared.halt.Halt.TheVariants as halt
 use Rattle.salt_storage.specs.declared.halt.Halt.{Halt}
-use Rattle.std.specs.Prelude.{List, None, Option, Some, [], ℕ, ◌++◌, ◌∷◌, ◌≡◌, ◌≤◌}
+use Rattle.std.specs.Prelude.{List, None, Some, [], ℕ, ◌++◌, ◌∷◌, ◌≡◌, ◌≤◌}
 
 -- up to an event the faults do not fall; before a fall by a fault they rise
 abbrev pub AreMet : Event → ℕ → ℕ → Type 0
@@ -25,23 +26,6 @@ AreFaults first (e ∷ es) last = (n : ℕ) × AreMet e first n × AreFaults n e
 abbrev pub AreFaultsOf : Status → ℕ → List Event → ℕ → Type 0
 AreFaultsOf DiskFault first story last = (n : ℕ) × AreFaults first story n × (n ≤ last) × Rose n last
 AreFaultsOf status first story last = AreFaults first story last
-
--- the stops that are armed behind an event, of these before it: behind those stand the ones that it arms; and of a stop the first has come,
--- if there was one
-abbrev pub behind_first : List (ℕ × ℕ) → Option (List (ℕ × ℕ))
-behind_first [] = None
-behind_first (first ∷ stops) = Some stops
-
-abbrev pub armed_after : Event → List (ℕ × ℕ) → Option (List (ℕ × ℕ))
-armed_after (Armed pairs) stops = Some (stops ++ pairs)
-armed_after (Down why.Stopped) stops = behind_first stops
-armed_after e stops = Some stops
-
--- behind a story; none where a stop comes that was not armed
-abbrev pub armed_behind : List Event → Option (List (ℕ × ℕ)) → Option (List (ℕ × ℕ))
-armed_behind story None = None
-armed_behind [] (Some stops) = Some stops
-armed_behind (e ∷ es) (Some stops) = armed_behind es (armed_after e stops)
 
 -- each stop was armed before it came; and unless memory ran out, these are armed at last
 pub record AreStopsOf (status : Status) (first : List (ℕ × ℕ)) (story : List Event) (last : List (ℕ × ℕ)) : Type 0 where

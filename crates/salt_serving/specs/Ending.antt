@@ -6,10 +6,10 @@ use Rattle.salt_model.specs.Played.{Tells}
 use Rattle.salt_model.specs.Trace.{Start, Trace, lines_of}
 use Rattle.salt_model.specs.declared.events.Event.{Event}
 use Rattle.salt_model.specs.declared.events.Flight.{Flight}
+use Rattle.salt_promise.specs.declared.status.Status.{Status}
+use Rattle.salt_promise.specs.declared.status.Status.TheVariants.{DeviceFull, Memory, NotSalt, NumbersSpent, OtherShape, Usage, WriteFault}
 use Rattle.salt_serving.specs.Run.{IsFlightAt, IsRun, leave_of}
 use Rattle.salt_serving.specs.Stopping.{numbers_told, status_of, status_opening}
-use Rattle.salt_serving.specs.declared.status.Status.TheVariants.{DeviceFull, Memory, NotSalt, NumbersSpent, OtherShape, Usage, WriteFault}
-use Rattle.salt_serving.specs.declared.status.Status.{Status}
 use Rattle.salt_serving.specs.declared.stop.Stop.{Stop}
 use Rattle.salt_steps.specs.Opening.{AreSpentAt}
 use Rattle.salt_steps.specs.Serving.{IsFitting}

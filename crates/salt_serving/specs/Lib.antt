@@ -1,4 +1,3 @@
-pub mod Status
 pub mod Stopping
 pub mod Run
 pub mod Counted

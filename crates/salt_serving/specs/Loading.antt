@@ -8,10 +8,11 @@ use Rattle.salt_model.specs.Played.{Tells}
 use Rattle.salt_model.specs.Trace.{Asked, Start, Trace, Tree, lines_of}
 use Rattle.salt_model.specs.declared.events.Event.{Event}
 use Rattle.salt_model.specs.declared.events.Flight.{Flight}
+use Rattle.salt_promise.specs.Doing.{IsFrontOf}
+use Rattle.salt_promise.specs.declared.status.Status.{Status}
+use Rattle.salt_promise.specs.declared.status.Status.TheVariants.{DeviceFull, DiskFault, Done, Memory, NotSalt, NumbersSpent, OtherShape, ReadFault, ScriptTooLong, Usage, WriteFault}
 use Rattle.salt_serving.specs.Ending.{EndsFound}
-use Rattle.salt_serving.specs.Run.{IsFlightAt, IsFrontOf, leave_of}
-use Rattle.salt_serving.specs.declared.status.Status.{Status}
-use Rattle.salt_serving.specs.declared.status.Status.TheVariants.{DeviceFull, DiskFault, Done, Memory, NotSalt, NumbersSpent, OtherShape, ReadFault, ScriptTooLong, Usage, WriteFault}
+use Rattle.salt_serving.specs.Run.{IsFlightAt, leave_of}
 use Rattle.salt_stands.specs.Unspent.{OpensUnspent}
 use Rattle.salt_steps.specs.Serving.{Serves}
 use Rattle.salt_storage.specs.Writing.{Written}

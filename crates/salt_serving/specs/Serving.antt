@@ -14,10 +14,10 @@ use Rattle.salt_model.specs.Words.{Every}
 use Rattle.salt_model.specs.declared.events.Event.{Event}
 use Rattle.salt_model.specs.declared.events.Flight.{Flight}
 use Rattle.salt_model.specs.declared.events.Refusal.TheVariants.{Long}
+use Rattle.salt_promise.specs.Doing.{text_under}
+use Rattle.salt_promise.specs.declared.status.Status.TheVariants as status
 use Rattle.salt_serving.specs.Ending.{EndsServing, LeavesAt}
-use Rattle.salt_serving.specs.Run.{text_under}
 use Rattle.salt_serving.specs.Stopping.{status_of}
-use Rattle.salt_serving.specs.declared.status.Status.TheVariants as status
 use Rattle.salt_serving.specs.declared.stop.Stop.TheVariants.{Memory, WriteFault}
 use Rattle.salt_serving.specs.declared.stop.Stop.{Stop}
 use Rattle.salt_sound.specs.Spelled.{IsSpelledLine}

@@ -2,8 +2,8 @@
 use Rattle.salt_disk.specs.declared.disks.DiskErr.TheVariants as disk
 use Rattle.salt_disk.specs.declared.disks.DiskErr.{DiskErr}
 use Rattle.salt_io.specs.declared.lines.LineErr.{LineErr}
-use Rattle.salt_serving.specs.declared.status.Status.TheVariants as status
-use Rattle.salt_serving.specs.declared.status.Status.{Status}
+use Rattle.salt_promise.specs.declared.status.Status.{Status}
+use Rattle.salt_promise.specs.declared.status.Status.TheVariants as status
 use Rattle.salt_serving.specs.declared.stop.Stop.TheVariants.{DeviceFull, DiskFault, Memory, NotSalt, NumbersSpent, OtherShape, ReadFault, ScriptTooLong, WriteFault}
 use Rattle.salt_serving.specs.declared.stop.Stop.{Stop}
 use Rattle.salt_storage.specs.declared.found.Numbers.{Numbers}

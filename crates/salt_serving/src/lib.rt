@@ -5,12 +5,11 @@ mod lines;
 mod loading;
 mod serving;
 mod starting;
-mod status;
 mod stop;
 mod telling;
 
 pub use loading::{Loaded, load};
+pub use salt_promise::Status;
 pub use serving::serve;
 pub use starting::tell_unfound;
-pub use status::Status;
 pub use stop::{Stop, status_of, stop_opening};

@@ -6,8 +6,8 @@ ghost use Rattle.salt_storage.specs.declared.halt.Halt.TheVariants.{Stopped};
 ghost use Rattle.salt_storage.specs.declared.open.OpenErr.TheVariants.{Halted};
 ghost use Rattle.std.specs.Prelude.{◌≡◌, ◌≢◌};
 
-use crate::status::Status;
 use salt_io::{IoFailed, LineErr};
+use salt_promise::Status;
 use salt_storage::{Halt, OpenErr};
 use salt_values::Shape;
 use std::alloc::AllocError;

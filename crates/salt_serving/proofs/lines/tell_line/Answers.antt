@@ -1,10 +1,10 @@
+use Rattle.salt_promise.specs.declared.status.Status.{Status}
 use Rattle.salt_serving.proofs.Counts.{added-unwritten}
 use Rattle.salt_serving.proofs.Leaving.{left-there}
 use Rattle.salt_serving.proofs.Texts.{counts-written, of-devices, of-line}
 use Rattle.salt_serving.proofs.Told.{told-err, told-ok}
 use Rattle.salt_serving.proofs.lines.tell_line.Goals as goal
 use Rattle.salt_serving.specs.Counted.{CountsAdded}
-use Rattle.salt_serving.specs.declared.status.Status.{Status}
 use Rattle.std.proofs.Common.{ap, drop, ◌∙◌}
 use Rattle.std.proofs.lemmas.Result.{IfErr-weaker, on_ok_weaker}
 use Rattle.std.specs.Option.{option_copied}

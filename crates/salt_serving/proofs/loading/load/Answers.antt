@@ -1,10 +1,10 @@
+use Rattle.salt_promise.specs.declared.status.Status.{Status}
 use Rattle.salt_serving.proofs.Counts.{added-both, added-opened}
 use Rattle.salt_serving.proofs.Loads.{all-loaded, loading-begun, not-begun}
 use Rattle.salt_serving.proofs.Outcomes.{done-outcome, was-ok}
 use Rattle.salt_serving.proofs.loading.load.Goals as goal
 use Rattle.salt_serving.specs.Counted.{CountsAdded}
 use Rattle.salt_serving.specs.Stopping.{outcome, status_of}
-use Rattle.salt_serving.specs.declared.status.Status.{Status}
 use Rattle.salt_storage.proofs.Staying.{stays-behind}
 use Rattle.std.proofs.Common.{arith, subst}
 

@@ -1,9 +1,9 @@
 use Rattle.salt_model.specs.Trace.{Start, Trace}
+use Rattle.salt_promise.specs.declared.status.Status.TheVariants.{Done}
 use Rattle.salt_serving.proofs.loading.load.Given as goal
 use Rattle.salt_serving.specs.Counted.{CountsAdded}
 use Rattle.salt_serving.specs.Loading.{IsLoading}
 use Rattle.salt_serving.specs.Serving.{IsToBegin}
-use Rattle.salt_serving.specs.declared.status.Status.TheVariants.{Done}
 use Rattle.salt_storage.specs.Staying.{StaysWithin}
 
 abbrev pub invariant-loop-i : goal.invariant-loop-i

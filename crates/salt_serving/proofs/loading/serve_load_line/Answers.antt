@@ -1,11 +1,11 @@
 use Rattle.salt_load.specs.Workload.{load_lines}
+use Rattle.salt_promise.specs.declared.status.Status.{Status}
+use Rattle.salt_promise.specs.declared.status.Status.TheVariants as status
 use Rattle.salt_serving.proofs.Counts.{run-none}
 use Rattle.salt_serving.proofs.Ends.{if_err_gives, outcome-of}
 use Rattle.salt_serving.proofs.Loads.{not-none, short-loading}
 use Rattle.salt_serving.proofs.loading.serve_load_line.Goals as goal
 use Rattle.salt_serving.specs.Counted.{CountsAdded}
-use Rattle.salt_serving.specs.declared.status.Status.TheVariants as status
-use Rattle.salt_serving.specs.declared.status.Status.{Status}
 use Rattle.salt_serving.specs.declared.stop.Stop.TheVariants.{Memory}
 use Rattle.std.proofs.Common.{sym, ◌+◌, ◌∙◌}
 

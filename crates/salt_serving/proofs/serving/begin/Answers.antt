@@ -1,6 +1,7 @@
 use Rattle.salt_model.specs.EventTexts.{story_text}
 use Rattle.salt_model.specs.Trace.{Start, Trace}
 use Rattle.salt_model.specs.declared.events.Event.{Event}
+use Rattle.salt_promise.specs.declared.status.Status.{Status}
 use Rattle.salt_serving.proofs.Beginning.{begun-err, begun-ok, never-read}
 use Rattle.salt_serving.proofs.Counts.{added-opened, added-unwritten}
 use Rattle.salt_serving.proofs.Leaving.{left-there}
@@ -11,7 +12,6 @@ use Rattle.salt_serving.specs.Counted.{CountsAdded}
 use Rattle.salt_serving.specs.Ending.{EndsServing}
 use Rattle.salt_serving.specs.Serving.{EndsWriting, IsBegun, IsToBegin}
 use Rattle.salt_serving.specs.Stopping.{outcome, status_of}
-use Rattle.salt_serving.specs.declared.status.Status.{Status}
 use Rattle.std.proofs.Common.{subst}
 use Rattle.std.proofs.lemmas.Result.{IfErr-weaker, on_ok_weaker}
 use Rattle.std.specs.Prelude.{List, Option, ℕ}

@@ -1,3 +1,4 @@
+use Rattle.salt_promise.specs.declared.status.Status.{Status}
 use Rattle.salt_serving.proofs.Beginning.{serving-begun}
 use Rattle.salt_serving.proofs.Counts.{added-both}
 use Rattle.salt_serving.proofs.Ends.{outcome-of}
@@ -5,7 +6,6 @@ use Rattle.salt_serving.proofs.serving.serve.Goals as goal
 use Rattle.salt_serving.specs.Counted.{CountsAdded}
 use Rattle.salt_serving.specs.Ending.{EndsServing}
 use Rattle.salt_serving.specs.Serving.{IsAfterLine}
-use Rattle.salt_serving.specs.declared.status.Status.{Status}
 use Rattle.salt_storage.proofs.Staying.{stays-behind}
 use Rattle.std.proofs.Common.{refl, subst, ◌∙◌}
 use Rattle.std.specs.Prelude.{Bool}

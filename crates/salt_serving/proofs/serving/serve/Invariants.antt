@@ -1,8 +1,8 @@
 use Rattle.salt_model.specs.Trace.{Start, Trace}
+use Rattle.salt_promise.specs.declared.status.Status.TheVariants.{Done}
 use Rattle.salt_serving.proofs.serving.serve.Given as goal
 use Rattle.salt_serving.specs.Counted.{CountsAdded}
 use Rattle.salt_serving.specs.Serving.{IsServing, IsToBegin}
-use Rattle.salt_serving.specs.declared.status.Status.TheVariants.{Done}
 use Rattle.salt_storage.specs.Staying.{StaysWithin}
 use Rattle.salt_values.specs.declared.limits.TheConstants.{SCRIPT_MOST}
 use Rattle.std.proofs.Common.{◌-◌, ◌≡◌}

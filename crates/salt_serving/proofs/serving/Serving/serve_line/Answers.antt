@@ -1,11 +1,11 @@
 use Rattle.salt_io.specs.declared.lines.Next.TheVariants.{End}
+use Rattle.salt_promise.specs.declared.status.Status.{Status}
 use Rattle.salt_serving.proofs.Counts.{added-none, reading-counted}
 use Rattle.salt_serving.proofs.Ends.{HasTaken, done-ends, if_err_gives, line-done, next-taken, outcome-of, reading-stops, telling-ends}
 use Rattle.salt_serving.proofs.serving.Serving.serve_line.Goals as goal
 use Rattle.salt_serving.specs.Counted.{CountsAdded}
 use Rattle.salt_serving.specs.Serving.{rest_of, text_of}
 use Rattle.salt_serving.specs.Stopping.{stop_of}
-use Rattle.salt_serving.specs.declared.status.Status.{Status}
 use Rattle.std.proofs.Common.{Err, Ok, ap, subst, sym, ◌∙◌, ◌≡◌}
 use Rattle.std.specs.Option.{option_copied}
 

@@ -1,6 +1,6 @@
 -- The exit status of each way in which a run ends.
-use Rattle.salt_serving.specs.declared.status.Status.{Status}
-use Rattle.salt_serving.specs.declared.status.Status.TheVariants.{DeviceFull, DiskFault, Done, Memory, NotSalt, NumbersSpent, OtherShape, ReadFault, ScriptTooLong, Usage, WriteFault}
+use Rattle.salt_promise.specs.declared.status.Status.{Status}
+use Rattle.salt_promise.specs.declared.status.Status.TheVariants.{DeviceFull, DiskFault, Done, Memory, NotSalt, NumbersSpent, OtherShape, ReadFault, ScriptTooLong, Usage, WriteFault}
 use Rattle.std.specs.Prelude.{ℕ}
 
 abbrev pub number_of : Status → ℕ

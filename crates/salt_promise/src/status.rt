@@ -1,7 +1,7 @@
 //! How a run ends.
 
 ghost use Rattle.std.specs.Prelude.{◌≡◌};
-ghost use Rattle.salt_serving.specs.Status.{number_of};
+ghost use Rattle.salt_promise.specs.Status.{number_of};
 
 use salt_values::{PlaceKind, Shape};
 use std::fmt;

@@ -1,0 +1,9 @@
+pub mod Devices
+pub mod OneLine
+pub mod OneAnswer
+pub mod Completes
+pub mod Wrong
+pub mod Opens
+pub mod Refused
+pub mod Void
+pub mod Unhindered

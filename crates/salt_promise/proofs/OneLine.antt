@@ -1,0 +1,96 @@
+-- A run of one line over blank devices of one partition: the line's byte 200 is refused, and told. Each part of what a run promises is
+-- computed; the reader of definitions and the laws of played traces are given.
+use Rattle.salt_disk.specs.Disks.{IsImage}
+use Rattle.salt_model.specs.Computing.{computing}
+use Rattle.salt_model.specs.Kept.{Definition, WellKept, nothing_kept}
+use Rattle.salt_model.specs.Lines.{AskInOrder, has_other_byte}
+use Rattle.salt_model.specs.Played.{IsPlayed}
+use Rattle.salt_model.specs.Segments.{IsComplete}
+use Rattle.salt_model.specs.Trace as trace_words
+use Rattle.salt_model.specs.Trace.{Rejected, Start, Trace, from, start_of, ◌asks◌, ◌says◌}
+use Rattle.salt_model.specs.declared.events.Event.TheVariants.{Opened, Ready, Refused}
+use Rattle.salt_model.specs.declared.events.Refusal.TheVariants.{Byte}
+use Rattle.salt_promise.proofs.Devices.{blank-unnamed, opened-beyond, opened-stands, opened-unnamed, opened_found}
+use Rattle.salt_promise.specs.Worked.{after, blank, one_line, one_part, printed, script}
+use Rattle.salt_promise.specs.Doing.{AreLinesIn, IsWritten, story_before_line, text_under}
+use Rattle.salt_promise.specs.Ending.{StandsBehind}
+use Rattle.salt_promise.specs.Promises.{Promises}
+use Rattle.salt_promise.specs.Runs.{Runs, runs_as}
+use Rattle.salt_promise.specs.Standing.{IsReader, OpenAs}
+use Rattle.salt_promise.specs.Ways.{AllLines, Whole}
+use Rattle.salt_stands.specs.Stands.{nothing_found}
+use Rattle.salt_bytes.specs.Log.{entries_in}
+use Rattle.std.proofs.Common.{arith, inl, inr, ◌∙◌}
+use Rattle.std.specs.Prelude.{List, Option, Some, [], refl, true, ℕ, ◌∷◌}
+
+abbrev pub start : Start
+start = record { kept = nothing_kept; can_stop = true }
+
+abbrev pub served : Trace
+served = from start says Opened 1 0 says Ready
+
+abbrev pub trace : Trace
+trace = served asks Rejected Byte says Refused Byte
+
+opens : (read : List ℕ → Option Definition) → IsReader read → OpenAs one_part blank nothing_kept
+unfolding entries_in
+opens read is = record { found = nothing_found one_part; answers = record { read = read; reads = is; is = (refl, refl, blank-unnamed read) }; keeps = refl }
+
+pub served-complete : IsComplete served
+unfolding computing
+served-complete = (refl, refl, refl)
+
+pub complete : IsComplete trace
+unfolding computing
+complete = (refl, refl, refl)
+
+pub played : IsPlayed trace
+unfolding computing
+played = ((((tt, (omega arith, omega arith, inl refl)), refl), served-complete), refl)
+
+asked : AskInOrder ((200 ∷ []) ∷ []) (trace_words.lines_of trace)
+asked = (has_other_byte (omega arith) refl refl, tt)
+
+lines : AreLinesIn AllLines (Some script) (Some []) ((200 ∷ []) ∷ [])
+lines = (refl, omega arith, refl)
+
+written : IsWritten Whole (Some []) (text_under trace (story_before_line trace)) (text_under trace (trace_words.story_of trace)) (Some printed)
+unfolding computing
+written = refl
+
+images : (read : List ℕ → Option Definition) → IsReader read → (image : ℕ → List ℕ) → IsImage after.devices image → StandsBehind one_line one_part trace image
+images read reads image is = record {
+  kept = record { boot = 1; decisions = 0; definitions = []; tables = nothing_kept.tables; conts = [] };
+  stands = record { read = read; reads = reads; found = opened_found; is = opened-stands read image is; has_shape = refl; newest = refl; no_pages = opened-unnamed read image is; keeps = refl };
+  is = record { boots = 0; most = omega arith; is = inl refl };
+  numbers = tt;
+}
+
+-- it is as promised
+pub meets : (read : List ℕ → Option Definition) → IsReader read → ((t : Trace) → IsPlayed t → WellKept (start_of t).kept → Promises t) → Runs one_line
+meets read reads law = runs_as refl (record {
+  goes = inr (record {
+    start = start;
+    trace = trace;
+    opens = λ told. opens read reads;
+    well = well;
+    can_stop = refl;
+    tells = record { begins = refl; told = refl; played = played };
+    promises = law trace played well;
+    unspent = (((tt, refl), tt), tt);
+    does = record { texts = (200 ∷ []) ∷ []; asked = asked; lines = lines; written = written };
+    may = tt;
+    leaves = complete;
+    flies = refl;
+    ends = record { images = λ told image is. images read reads image is; spent = λ boot decisions e. absurd cc; full = λ dev e told. absurd cc };
+  });
+  source = refl;
+  sink = refl;
+  downs = (0, omega arith, (0, omega arith, (0, omega arith, omega arith)));
+  stops = record { stops = []; behind = refl; are = refl };
+  shape = record { count = refl; can_stop = refl; told = refl; limit = λ dev. refl };
+  others = λ told dev low out c h. h ∙ opened-beyond dev out;
+})
+  where
+    well : WellKept nothing_kept
+    well = record { boots = tt; accepted = tt; defined = tt; tries = tt }

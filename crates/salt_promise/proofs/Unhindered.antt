@@ -1,0 +1,118 @@
+-- `MeetsNothing` is met: by the run of an empty script over blank devices.
+use Rattle.salt_bytes.specs.Log.{entries_in}
+use Rattle.salt_disk.specs.Disks.{Rose}
+use Rattle.salt_model.specs.Kept.{Definition, nothing_kept}
+use Rattle.salt_model.specs.Lines.{AskInOrder}
+use Rattle.salt_model.specs.Next.{next}
+use Rattle.salt_model.specs.Phases.{Fallen, Serving, phase}
+use Rattle.salt_model.specs.Played.{IsPlayed}
+use Rattle.salt_model.specs.Trace.{Asked, Trace, from, line_of, lines_of, story_of, ◌asks◌, ◌says◌, ◌turns◌}
+use Rattle.salt_model.specs.Turns.{can_go, ids_after, next_turn, still_to_go}
+use Rattle.salt_values.specs.declared.id.Id.{Id}
+use Rattle.std.specs.List.{find}
+use Rattle.salt_model.specs.declared.events.Event.TheVariants.{Down, Opened, Ready}
+use Rattle.salt_model.specs.declared.events.Event.{Event}
+use Rattle.salt_ast.specs.declared.lines.Line.TheVariants.{Nothing}
+use Rattle.salt_promise.proofs.Devices.{blank-unnamed}
+use Rattle.salt_promise.specs.Completing.{MayTell, MeetsNothing}
+use Rattle.salt_promise.specs.Ending.{AreSpentBehind}
+use Rattle.salt_promise.specs.Filling.{IsFullBehind, NextFills}
+use Rattle.salt_promise.specs.Given.{DoScript, Run}
+use Rattle.salt_promise.specs.declared.status.Status.TheVariants.{Done}
+use Rattle.salt_promise.specs.Standing.{IsReader, OpenAs}
+use Rattle.salt_promise.specs.Worked.{ample, blank, holding, one_part, opened}
+use Rattle.salt_stands.specs.Stands.{nothing_found}
+use Rattle.std.proofs.Common.{ap, arith, subst, sym, ◌∙◌}
+use Rattle.std.specs.Prelude.{List, None, Option, Some, [], codes, refl, ℕ, ◌++◌, ◌∷◌, ◌≡◌}
+
+abbrev empty : Run
+empty = record {
+  command = Some (DoScript one_part);
+  before = record { source = record { bytes = Some []; faults = 0 }; sink = record { bytes = Some []; faults = 0 }; devices = holding ample blank [] };
+  after = record { source = record { bytes = Some []; faults = 0 }; sink = record { bytes = Some (codes "opened 1 0" ++ 10 ∷ (codes "ready" ++ 10 ∷ [])); faults = 0 }; devices = holding ample opened [] };
+  status = Done;
+  flight = None;
+  story = Opened 1 0 ∷ Ready ∷ [];
+}
+
+-- no text is a line of it
+front-of-none : (xs more : List (List ℕ)) → [] ≡ xs ++ more → xs ≡ []
+front-of-none [] more e = refl
+front-of-none (x ∷ xs) more e = absurd cc
+
+none-asked : (texts : List (List ℕ)) (asked : List Asked) → texts ≡ [] → AskInOrder texts asked → asked ≡ []
+none-asked [] [] e h = refl
+none-asked [] (a ∷ asked) e h = absurd h
+none-asked (t ∷ texts) asked e h = absurd cc
+
+no-lines : (t : Trace) → MayTell empty (DoScript one_part) t → lines_of t ≡ []
+no-lines t m = none-asked m.lines.0 (lines_of t) (front-of-none m.lines.0 m.lines.2.first.0 m.lines.2.first.1) m.lines.1
+
+not-last : {A : Type 0} (xs : List A) (x : A) → xs ++ x ∷ [] ≡ [] → ⊥
+not-last [] x e = cc
+not-last (y ∷ xs) x e = cc
+
+in-no-line : (t : Trace) → lines_of t ≡ [] → line_of t ≡ Nothing
+in-no-line (from k) e = refl
+in-no-line (t asks a) e = absurd (not-last (lines_of t) a e)
+in-no-line (t turns b) e = in-no-line t e
+in-no-line (t says a) e = in-no-line t e
+
+last-is : (xs : List Event) (e : Event) → xs ++ e ∷ [] ≡ Opened 1 0 ∷ Ready ∷ [] → e ≡ Ready
+last-is [] e h = absurd cc
+last-is (x ∷ []) e h = cc
+last-is (x ∷ y ∷ []) e h = absurd cc
+last-is (x ∷ y ∷ z ∷ xs) e h = absurd cc
+
+-- no line turns to a program
+none-to-go : (t : Trace) → lines_of t ≡ [] → still_to_go t ≡ []
+none-to-go (from k) e = refl
+none-to-go (t asks a) e = absurd (not-last (lines_of t) a e)
+none-to-go (t turns b) e = ap (ids_after b) (none-to-go t e)
+none-to-go (t says Down why) e = refl
+none-to-go (t says a) e = none-to-go t e
+
+no-turn : (t : Trace) (b : Id) → lines_of t ≡ [] → next_turn t ≡ Some b → ⊥
+no-turn t b e h = let both : None ≡ Some b = sym (ap (λ ids. find (can_go t) ids) (none-to-go t e)) ∙ h in cc
+
+-- behind its story nothing is next, and it serves
+record IsServed (t : Trace) : Type 0 where
+  serves : phase t ≡ Serving
+  nothing : next t ≡ None
+
+served : (t : Trace) → lines_of t ≡ [] → story_of t ≡ empty.story → IsPlayed t → IsServed t
+served (from k) n s p = absurd cc
+served (t asks a) n s p = absurd (not-last (lines_of t) a n)
+served (t turns b) n s p = absurd (no-turn t b n p.3)
+served (t says e) n s p = subst (λ a. IsServed (t says a)) (sym (last-is (story_of t) e s)) (record { serves = refl; nothing = refl })
+
+module _ (read : List ℕ → Option Definition) (reads : IsReader read) where
+  opens : OpenAs one_part blank nothing_kept
+  unfolding entries_in
+  opens = record { found = nothing_found one_part; answers = record { read = read; reads = reads; is = (refl, refl, blank-unnamed read) }; keeps = refl }
+
+  behind : (t : Trace) → MayTell empty (DoScript one_part) t → IsServed t
+  behind t m = served t (no-lines t m) m.tells.told m.tells.played
+
+  not-spent : (t : Trace) (boot decisions : ℕ) → IsServed t → AreSpentBehind t boot decisions → ⊥
+  not-spent t boot decisions s h = let both : Serving ≡ Fallen = sym s.serves ∙ h.down in cc
+
+  has-room : (t : Trace) (dev : ℕ) → IsServed t → IsFullBehind empty.after.devices one_part t dev → ⊥
+  has-room t dev s h =
+      subst (λ e. NextFills empty.after.devices one_part t Serving e dev) s.nothing (subst (λ p. NextFills empty.after.devices one_part t p (next t) dev) s.serves h)
+
+  unrisen : Rose 0 0 → ⊥
+  unrisen h = omega arith
+
+  pub unhindered : MeetsNothing empty (DoScript one_part)
+  unhindered = record {
+    told = refl;
+    kept = nothing_kept;
+    opens = opens;
+    reads = unrisen;
+    writes = unrisen;
+    devices = unrisen;
+    unspent = λ t boot decisions m h. not-spent t boot decisions (behind t m) h;
+    room = λ t dev m h. has-room t dev (behind t m) h;
+    script = omega arith;
+  }

@@ -1,0 +1,353 @@
+-- Wrong runs, one for each way in which a definition could be too wide: none of them is as promised.
+use Rattle.salt_bytes.specs.Coordinator.{Boots, Decides, spell_entry, spell_header}
+use Rattle.salt_bytes.specs.Partition.{spell_partition_header}
+use Rattle.salt_stands.specs.FirstOpening.{first_header, first_part_header}
+use Rattle.salt_stands.specs.Partition.{part_device}
+use Rattle.salt_bytes.specs.Generations.{BothBlank, Counts, LogA, WhichLog}
+use Rattle.salt_bytes.specs.Log.{entries_in, entries_up_to, framed, split_payload}
+use Rattle.salt_definitions.specs.Fitting.{definitions_reading, kept_in}
+use Rattle.salt_disk.specs.Disks.{View}
+use Rattle.salt_ast.specs.Trees.{number, operation}
+use Rattle.salt_ast.specs.declared.trees.Op.TheVariants as op
+use Rattle.salt_ast.specs.declared.trees.Statement.TheVariants.{Ensure}
+use Rattle.salt_ast.specs.declared.trees.Statement.{Statement}
+use Rattle.salt_model.specs.After.{Stage, keep, kept, stage}
+use Rattle.salt_model.specs.Ends.{kept_with}
+use Rattle.salt_model.specs.declared.events.Answer.TheVariants as answer
+use Rattle.salt_model.specs.declared.events.End.TheVariants as end
+use Rattle.salt_model.specs.declared.events.UnitKind.TheVariants as kind
+use Rattle.salt_values.specs.declared.id.Id.{Id}
+use Rattle.salt_model.specs.Everywhere.{Each}
+use Rattle.salt_model.specs.Kept.{Definition, Kept, nothing_kept}
+use Rattle.salt_model.specs.Next.{flight, is_decision, next}
+use Rattle.salt_model.specs.Phases.{Fallen, phase}
+use Rattle.salt_model.specs.Tables.{no_rows, with_changes}
+use Rattle.salt_model.specs.Trace.{Trace, from, start_of, story_of, ◌asks◌, ◌says◌, ◌turns◌}
+use Rattle.salt_model.specs.Words.{Every}
+use Rattle.salt_model.specs.declared.events.Event.TheVariants.{Armed, Began, Defined, Did, Down, Ended, Opened, Ready}
+use Rattle.salt_model.specs.declared.events.Event.{Event}
+use Rattle.salt_model.specs.declared.events.Flight.{Flight}
+use Rattle.salt_model.specs.declared.events.Why.TheVariants as why
+use Rattle.salt_promise.specs.Worked.{ample, begun, blank, header_at, holding, on, one_part}
+use Rattle.salt_promise.specs.Counting.{armed_behind}
+use Rattle.salt_promise.specs.Ending.{IsLeftBehind, StandsBehind, raised}
+use Rattle.salt_promise.specs.Filling.{IsFullBehind, NewPairFills, NextFills, coordinator_format, partition_format}
+use Rattle.salt_promise.specs.Given.{Command, DoLoad, DoScript, Run}
+use Rattle.salt_promise.specs.declared.status.Status.TheVariants.{DeviceFull, Done, Memory, NumbersSpent}
+use Rattle.salt_promise.specs.declared.status.Status.{Status}
+use Rattle.salt_promise.specs.Completing.{IsWithin}
+use Rattle.salt_promise.specs.Runs.{EndsRefused, FindsNothing, RunsAs, RunsOver, Runs, runs_as, says_nothing}
+use Rattle.salt_promise.specs.Standing.{OpenAs, StandFor}
+use Rattle.salt_stands.specs.Coordinator.{coordinator_pair, device_of}
+use Rattle.salt_stands.specs.CoordinatorLog.{CoordinatorLog}
+use Rattle.salt_stands.specs.Stands as opening
+use Rattle.salt_stands.specs.Stands.{Found, Opening, Stands, judged, logs_of, nothing_found, opening_of}
+use Rattle.salt_stands.specs.Tables.{joined}
+use Rattle.salt_stands.specs.Unspent.{OpensUnspent}
+use Rattle.std.proofs.Common.{ap, arith, inl, inr, subst, sym, ◌∙◌}
+use Rattle.std.specs.Prelude.{List, None, Ok, Option, Result, Some, [], codes, false, pos, refl, suc, true, zero, ℕ, ◌+◌, ◌++◌, ◌-◌, ◌^◌, ◌<◌, ◌∷◌, ◌≡◌, ◌⊎◌}
+
+abbrev half : ℕ
+half = 2 ^ 63
+
+-- over one partition, of an empty script, with this printed
+abbrev run : (before after : View) → Status → Option Flight → List Event → List ℕ → Run
+run before after status flight story printed = record {
+  command = Some (DoScript one_part);
+  before = record { source = record { bytes = Some []; faults = 0 }; sink = record { bytes = Some []; faults = 0 }; devices = before };
+  after = record { source = record { bytes = Some []; faults = 0 }; sink = record { bytes = Some printed; faults = 0 }; devices = after };
+  status = status;
+  flight = flight;
+  story = story;
+}
+
+one-command : (c d : Command) → Some c ≡ Some d → c ≡ d
+one-command c d e = cc
+
+of-script : (r : Run) → r.command ≡ Some (DoScript one_part) → (RunsAs r (DoScript one_part) → ⊥) → Runs r → ⊥
+of-script r is not (says_nothing e u) = let both : None ≡ Some (DoScript one_part) = sym e ∙ is in cc
+of-script r is not (runs_as {command} e x) = not (subst (λ c. RunsAs r c) (one-command command (DoScript one_part) (sym e ∙ is)) x)
+
+-- SPENT NUMBERS, at first: the devices have boot 2^63, and it is served on
+
+abbrev spent_run : Run
+spent_run = run (holding ample (begun (header_at half) []) []) (holding ample (begun (header_at half) (spell_entry (Boots (half + 1)) ∷ [])) []) Done None
+    (Opened (half + 1) 0 ∷ Ready ∷ []) (codes "opened 9223372036854775809 0" ++ 10 ∷ (codes "ready" ++ 10 ∷ []))
+
+spent-answer : (read : List ℕ → Option Definition) → opening_of (definitions_reading read) (begun (header_at half) []) one_part ≡ opening.NumbersSpent half 0
+unfolding entries_in entries_up_to split_payload framed
+spent-answer read = refl
+
+spent-at-first : Runs spent_run → ⊥
+spent-at-first = of-script spent_run refl (λ x. by x.goes)
+  where
+    no : (k : Kept) → OpenAs one_part (begun (header_at half) []) k → ⊥
+    no k o = let both : opening.NumbersSpent half 0 ≡ Stands o.found = sym (spent-answer o.answers.read) ∙ o.answers.is.0 in cc
+
+    by : FindsNothing spent_run (DoScript one_part) ⊎ RunsOver spent_run (DoScript one_part) → ⊥
+    by (inl f) = let e = f.story in cc
+    by (inr o) = no o.start.kept (o.opens refl)
+
+-- and behind a fall: no trace of a story with such an opening is as promised
+
+same-unspent : (t u : Trace) (e : Event) → OpensUnspent t e → OpensUnspent u e
+same-unspent t u (Opened boot n) h = h
+same-unspent t u e h = h
+
+every-more : {A : Type 0} (P : A → Type 0) (xs : List A) (x : A) → Every P xs → P x → Every P (xs ++ x ∷ [])
+every-more P [] x h p = (p, tt)
+every-more P (y ∷ xs) x h p = (h.0, every-more P xs x h.1 p)
+
+each-unspent : (u t : Trace) → Each OpensUnspent t → Every (OpensUnspent u) (story_of t)
+each-unspent u (from k) h = tt
+each-unspent u (t asks a) h = each-unspent u t h
+each-unspent u (t turns b) h = each-unspent u t h
+each-unspent u (t says e) h = every-more (OpensUnspent u) (story_of t) e (each-unspent u t h.0) (same-unspent t u e h.1)
+
+abbrev spent_later_story : List Event
+spent_later_story = Opened half 0 ∷ Ready ∷ Down why.Fault ∷ Opened (half + 1) 0 ∷ Ready ∷ []
+
+spent-later : (r : Run) → r.command ≡ Some (DoScript one_part) → r.story ≡ spent_later_story → Runs r → ⊥
+spent-later r is told = of-script r is (λ x. by x.goes)
+  where
+    unspent : (t : Trace) → Every (OpensUnspent t) spent_later_story → ⊥
+    unspent t h = let e = h.1.1.1.0 in cc
+
+    by : FindsNothing r (DoScript one_part) ⊎ RunsOver r (DoScript one_part) → ⊥
+    by (inl f) = let both : spent_later_story ≡ [] = sym told ∙ f.story in cc
+    by (inr o) = unspent o.trace (subst (Every (OpensUnspent o.trace)) (o.tells.told ∙ told) (each-unspent o.trace o.trace o.unspent))
+
+-- A FULL DEVICE at a first opening
+
+-- device 1 has no room
+abbrev tight : ℕ → ℕ
+tight zero = 67108864
+tight (suc zero) = 0
+tight (suc (suc dev)) = 67108864
+
+-- of devices that stand: no byte of log B is written
+abbrev full_run : (bytes : ℕ → List ℕ) → Run
+full_run bytes = run (holding tight bytes []) (holding tight bytes []) (DeviceFull 1) None [] []
+
+fallen-untold : (t : Trace) → story_of t ≡ [] → phase t ≡ Fallen
+fallen-untold (from k) e = refl
+fallen-untold (t asks a) e = fallen-untold t e
+fallen-untold (t turns b) e = fallen-untold t e
+fallen-untold (t says a) e = absurd (more (story_of t) e)
+  where
+    more : (es : List Event) → es ++ a ∷ [] ≡ [] → ⊥
+    more [] h = cc
+    more (x ∷ es) h = cc
+
+at-first : (bytes : ℕ → List ℕ) → (NextFills (full_run bytes).after.devices one_part (from (record { kept = nothing_kept; can_stop = true })) Fallen None 1 → ⊥) → Runs (full_run bytes) → ⊥
+at-first bytes never = of-script (full_run bytes) refl (λ x. by x.goes)
+  where
+    refused : (a : Opening Definition) → EndsRefused a (DeviceFull 1) → ⊥
+    refused (Stands found) h = h
+    refused (opening.NotSalt dev) h = cc
+    refused (opening.OtherShape kept asked) h = cc
+    refused (opening.NumbersSpent boot decisions) h = cc
+
+    fills : (t : Trace) → phase t ≡ Fallen → IsFullBehind (full_run bytes).after.devices one_part t 1 → ⊥
+    fills t e h = never (subst (λ p. NextFills (full_run bytes).after.devices one_part t p (next t) 1) e h)
+
+    by : FindsNothing (full_run bytes) (DoScript one_part) ⊎ RunsOver (full_run bytes) (DoScript one_part) → ⊥
+    by (inl f) = refused f.answer f.ends
+    by (inr o) = fills o.trace (fallen-untold o.trace o.tells.told) (o.ends.full 1 refl refl)
+
+abbrev stand : ℕ → List ℕ
+stand = begun (header_at 7) []
+
+abbrev stood : CoordinatorLog
+stood = record { header = header_at 7; told = record { boot = 7; decisions = 0; definitions = []; decided = [] } }
+
+stand-counts : coordinator_pair (logs_of stand) ≡ Counts LogA stood
+unfolding entries_in entries_up_to split_payload framed
+stand-counts = refl
+
+full-of-standing : Runs (full_run stand) → ⊥
+full-of-standing = at-first stand never
+  where
+    which-log : (w : WhichLog) (log told : CoordinatorLog) → Counts w log ≡ Counts LogA told → w ≡ LogA
+    which-log w log told e = cc
+
+    apart : ◌≡◌ {A = ℕ} 1 0 → ⊥
+    apart e = omega arith
+
+    never : NextFills (full_run stand).after.devices one_part (from (record { kept = nothing_kept; can_stop = true })) Fallen None 1 → ⊥
+    never (inl f) = let both : BothBlank ≡ Counts LogA stood = sym f.blank ∙ stand-counts in cc
+    never (inr f) =
+        let a : f.which ≡ LogA = which-log f.which f.log stood (sym f.counts ∙ stand-counts) in
+        apart (subst (λ w. 1 ≡ device_of 0 w) a f.device)
+
+-- of blank ones whose log B has a closed gate: none is written
+abbrev closed : ℕ → List ℕ
+closed = on ([] ∷ (0 ∷ []) ∷ [])
+
+closed-blank : coordinator_pair (logs_of closed) ≡ BothBlank
+unfolding entries_in
+closed-blank = refl
+
+full-of-closed : Runs (full_run closed) → ⊥
+full-of-closed = at-first closed never
+  where
+    part : (p : ℕ) (header : List ℕ) → NewPairFills (full_run closed).after.devices (part_device p) header 1 → ⊥
+    part p header (inl h) = let e = h.0 in omega arith
+    part p header (inr h) = let e = h.0 in omega arith
+
+    coordinator : (header : List ℕ) → NewPairFills (full_run closed).after.devices 0 header 1 → ⊥
+    coordinator header (inl h) = let e : 0 ≡ 1 = h.1 in omega arith
+    coordinator header (inr h) = let e = h.0 in omega arith
+
+    first : ((p : ℕ) × (p < 1) × NewPairFills (full_run closed).after.devices (part_device p) (spell_partition_header (first_part_header partition_format p)) 1)
+        ⊎ NewPairFills (full_run closed).after.devices 0 (spell_header (first_header one_part coordinator_format)) 1 → ⊥
+    first (inl h) = part h.0 (spell_partition_header (first_part_header partition_format h.0)) h.2
+    first (inr h) = coordinator (spell_header (first_header one_part coordinator_format)) h
+
+    never : NextFills (full_run closed).after.devices one_part (from (record { kept = nothing_kept; can_stop = true })) Fallen None 1 → ⊥
+    never (inl f) = first f.fills
+    never (inr f) = let both : Counts f.which f.log ≡ BothBlank = sym f.counts ∙ closed-blank in cc
+
+-- THE NUMBERS OF STATUS 10 are those of each image: here its boot is one more than the devices have
+
+abbrev spent_bytes : ℕ → List ℕ
+spent_bytes = begun (header_at half) []
+
+abbrev spent_found : Found Definition
+spent_found = record { shape = one_part; format = 3; kept = record { boot = half; decisions = 0; definitions = []; tables = no_rows; conts = [] } }
+
+spent-stands : (read : List ℕ → Option Definition) → judged (definitions_reading read) spent_bytes one_part ≡ Ok spent_found
+unfolding entries_in entries_up_to split_payload framed with_changes joined
+spent-stands read = refl
+
+ok-one : {x y : Found Definition} → ◌≡◌ {A = Result (Found Definition) ℕ} (Ok x) (Ok y) → x ≡ y
+ok-one h = cc
+
+-- what the bytes stand for, by any reader
+stood-for : (bytes : ℕ → List ℕ) (found : Found Definition) → ((read : List ℕ → Option Definition) → judged (definitions_reading read) bytes one_part ≡ Ok found) → (k : Kept) → StandFor one_part bytes k → kept_in found ≡ k
+stood-for bytes found is k s = ap kept_in (ok-one (sym (is s.read) ∙ s.is)) ∙ s.keeps
+
+-- two stops fell as boot 2^63 was begun over boot 2^63 - 1
+abbrev other_numbers : Run
+other_numbers = run (holding ample (begun (header_at (half - 1)) []) ((1, 0) ∷ (1, 0) ∷ [])) (holding ample spent_bytes []) (NumbersSpent (half + 1) 0) None
+    (Down why.Stopped ∷ Down why.Stopped ∷ []) (codes "down stopped" ++ 10 ∷ (codes "down stopped" ++ 10 ∷ []))
+
+other-numbers : Runs other_numbers → ⊥
+other-numbers = of-script other_numbers refl (λ x. by x.goes)
+  where
+    apart : half ≡ half + 1 → ⊥
+    apart e = omega arith
+
+    behind : (t : Trace) → StandsBehind other_numbers one_part t spent_bytes → ⊥
+    behind t b = apart (ap (λ k. k.boot) (stood-for spent_bytes spent_found spent-stands b.kept b.stands) ∙ b.numbers.0)
+
+    by : FindsNothing other_numbers (DoScript one_part) ⊎ RunsOver other_numbers (DoScript one_part) → ⊥
+    by (inl f) = let e = f.story in let both : Down why.Stopped ∷ Down why.Stopped ∷ [] ≡ [] = e in cc
+    by (inr o) = behind o.trace (o.ends.images refl spent_bytes (λ dev low. refl))
+
+-- WANT OF MEMORY with nothing told in flight: the devices may not have the unit that was
+
+abbrev made_bytes : ℕ → List ℕ
+made_bytes = begun (header_at 0) (spell_entry (Boots 1) ∷ spell_entry (Decides (record { number = 1; unit = record { boot = 1; seq = 1 }; mask = 0; move = 0 ∷ [] })) ∷ [])
+
+abbrev made_found : Found Definition
+made_found = record { shape = one_part; format = 3; kept = record { boot = 1; decisions = 1; definitions = []; tables = no_rows; conts = [] } }
+
+made-stands : (read : List ℕ → Option Definition) → judged (definitions_reading read) made_bytes one_part ≡ Ok made_found
+unfolding entries_in entries_up_to split_payload framed with_changes joined
+made-stands read = refl
+
+nothing-stands : (read : List ℕ → Option Definition) → opening_of (definitions_reading read) blank one_part ≡ Stands (nothing_found one_part)
+unfolding entries_in
+nothing-stands read = refl
+
+-- `ensure 1 = 1` in a unit of its own
+abbrev truth : Statement
+truth = Ensure (operation op.Equal (number (pos 1)) (number (pos 1)))
+
+abbrev unit : Id
+unit = record { boot = 1; seq = 1 }
+
+abbrev untold_story : List Event
+untold_story = Opened 1 0 ∷ Ready ∷ Began unit (kind.Acid 1) ∷ Did unit truth answer.Held ∷ []
+
+-- its commit was decided, and memory ran out as it was applied
+abbrev untold_run : Run
+untold_run = run (holding ample blank []) (holding ample made_bytes []) Memory None untold_story []
+
+-- events without a decision leave the number of the last
+keeps-number : (t : Trace) (e : Event) (s : Stage) → is_decision e ≡ false → (keep t e s).decisions ≡ s.kept.decisions
+keeps-number t (Ended u (end.Committed n)) s h = absurd cc
+keeps-number t (Ended u (end.Branched n c)) s h = absurd cc
+keeps-number t (Defined n text) s h = absurd cc
+keeps-number t (Opened boot n) s h = refl
+keeps-number t e s h = refl
+
+split-last : (xs : List Event) (e : Event) → Every (λ a. is_decision a ≡ false) (xs ++ e ∷ []) → Every (λ a. is_decision a ≡ false) xs × (is_decision e ≡ false)
+split-last [] e h = (tt, h.0)
+split-last (x ∷ xs) e h = let more = split-last xs e h.1 in ((h.0, more.0), more.1)
+
+same-number : (t : Trace) → Every (λ a. is_decision a ≡ false) (story_of t) → (kept t).decisions ≡ (start_of t).kept.decisions
+same-number (from k) h = refl
+same-number (t asks a) h = same-number t h
+same-number (t turns b) h = same-number t h
+same-number (t says e) h = let both = split-last (story_of t) e h in keeps-number t e (stage t) both.1 ∙ same-number t both.0
+
+in-flight-untold : Runs untold_run → ⊥
+in-flight-untold = of-script untold_run refl (λ x. by x.goes)
+  where
+    apart : ◌≡◌ {A = ℕ} 1 0 → ⊥
+    apart e = omega arith
+
+    ok : {x y : Found Definition} → ◌≡◌ {A = Opening Definition} (Stands x) (Stands y) → x ≡ y
+    ok h = cc
+
+    started : (k : Kept) → OpenAs one_part blank k → k.decisions ≡ 0
+    started k o = sym (ap (λ f. (kept_in f).decisions) (ok (sym (nothing-stands o.answers.read) ∙ o.answers.is.0)) ∙ ap (λ x. x.decisions) o.keeps)
+
+    left : (t : Trace) (k : Kept) → k.decisions ≡ 1 → (kept t).decisions ≡ 0 → IsLeftBehind ⊥ t k → ⊥
+    left t k one none b = by b.is
+      where
+        by : (k ≡ raised b.boots (kept t)) ⊎ (⊥ × (k ≡ raised b.boots (kept_with t (flight t)))) → ⊥
+        by (inl e) = apart (sym one ∙ ap (λ x. x.decisions) e ∙ none)
+        by (inr e) = e.0
+
+    behind : (t : Trace) → (kept t).decisions ≡ 0 → StandsBehind untold_run one_part t made_bytes → ⊥
+    behind t none b = left t b.kept (sym (ap (λ k. k.decisions) (stood-for made_bytes made_found made-stands b.kept b.stands))) none b.is
+
+    undecided : Every (λ a. is_decision a ≡ false) untold_story
+    undecided = (refl, (refl, (refl, (refl, tt))))
+
+    number-of : (o : RunsOver untold_run (DoScript one_part)) → (kept o.trace).decisions ≡ 0
+    number-of o =
+        same-number o.trace (subst (Every (λ a. is_decision a ≡ false)) (sym o.tells.told) undecided)
+        ∙ ap (λ s. s.kept.decisions) o.tells.begins ∙ started o.start.kept (o.opens refl)
+
+    by : FindsNothing untold_run (DoScript one_part) ⊎ RunsOver untold_run (DoScript one_part) → ⊥
+    by (inl f) = let both : untold_story ≡ [] = f.story in cc
+    by (inr o) = behind o.trace (number-of o) (o.ends.images refl made_bytes (λ dev low. refl))
+
+-- A STOP that no line has armed yet, and that was not left at first
+
+early_story : List Event
+early_story = Opened 1 0 ∷ Ready ∷ Down why.Stopped ∷ Opened 2 0 ∷ Ready ∷ Armed ((1, 0) ∷ []) ∷ []
+
+early-stop : (first : List (ℕ × ℕ)) → first ≡ [] → armed_behind early_story (Some first) ≡ None
+unfolding early_story
+early-stop first e = ap (λ stops. armed_behind early_story (Some stops)) e
+
+stop-before-armed : (r : Run) → r.command ≡ Some (DoScript one_part) → r.before.devices.armed ≡ [] → r.story ≡ early_story → Runs r → ⊥
+stop-before-armed r is none told = of-script r is no-stop
+  where
+    no-stop : RunsAs r (DoScript one_part) → ⊥
+    no-stop x = let both : None ≡ Some x.stops.stops = sym (ap (λ s. armed_behind s (Some r.before.devices.armed)) told ∙ early-stop r.before.devices.armed none) ∙ x.stops.behind in cc
+
+-- WRONG WORDS with something in flight
+
+usage-in-flight : (r : Run) (f : Flight) → r.command ≡ None → r.flight ≡ Some f → Runs r → ⊥
+usage-in-flight r f is flies (says_nothing e u) = let both : Some f ≡ None = sym flies ∙ u.flight in cc
+usage-in-flight r f is flies (runs_as {command} e x) = let both : Some command ≡ None = sym e ∙ is in cc
+
+-- A LOAD is complete also where no source tells
+load-needs-no-source : (calls : ℕ) (source : Option (List ℕ)) → IsWithin (DoLoad calls) source
+load-needs-no-source calls source = tt

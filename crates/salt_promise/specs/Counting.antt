@@ -1,0 +1,56 @@
+-- Faults and stops, as they are counted over a run.
+use Rattle.salt_disk.specs.Disks.{Rose}
+use Rattle.salt_model.specs.declared.events.Event.TheVariants.{Armed, Down}
+use Rattle.salt_model.specs.declared.events.Event.{Event}
+use Rattle.salt_model.specs.declared.events.Why.TheVariants.{Fault, Stopped}
+use Rattle.salt_promise.specs.Given.{Stream}
+use Rattle.salt_promise.specs.declared.status.Status.TheVariants.{DiskFault, Memory}
+use Rattle.salt_promise.specs.declared.status.Status.{Status}
+use Rattle.std.specs.Prelude.{Bool, List, None, Option, Some, [], false, true, ℕ, ⊤, ◌++◌, ◌∷◌, ◌≡◌, ◌≤◌}
+
+-- A stream fails only where the run ends by that.
+abbrev pub FailsOnly : Bool → (before after : Stream) → Type 0
+FailsOnly false before after = after.faults ≡ before.faults
+FailsOnly true before after = (before.faults ≤ after.faults) × Rose before.faults after.faults
+
+-- DOWNS: the faults of the devices rise before each fall by a fault, and behind the last event where the run ends by one. (That they rise
+-- within the same line is said of each line, below.)
+abbrev pub RiseTo : Event → ℕ → ℕ → Type 0
+RiseTo (Down Fault) before now = (before ≤ now) × Rose before now
+RiseTo e before now = before ≤ now
+
+abbrev pub RiseBehind : Status → ℕ → ℕ → Type 0
+RiseBehind DiskFault before now = (before ≤ now) × Rose before now
+RiseBehind status before now = before ≤ now
+
+abbrev pub Downs : Status → (first : ℕ) → List Event → (last : ℕ) → Type 0
+Downs status first [] last = RiseBehind status first last
+Downs status first (e ∷ es) last = (n : ℕ) × RiseTo e first n × Downs status n es last
+
+-- STOPS come in the order in which they were armed. The stops that are armed behind an event, of these before it: behind them stand the ones
+-- that it arms; and of a stop the first has come, if there was one.
+abbrev pub behind_first : List (ℕ × ℕ) → Option (List (ℕ × ℕ))
+behind_first [] = None
+behind_first (first ∷ stops) = Some stops
+
+abbrev pub armed_after : Event → List (ℕ × ℕ) → Option (List (ℕ × ℕ))
+armed_after (Armed pairs) stops = Some (stops ++ pairs)
+armed_after (Down Stopped) stops = behind_first stops
+armed_after e stops = Some stops
+
+-- behind a story; none where a stop comes that was not armed
+abbrev pub armed_behind : List Event → Option (List (ℕ × ℕ)) → Option (List (ℕ × ℕ))
+armed_behind story None = None
+armed_behind [] (Some stops) = Some stops
+armed_behind (e ∷ es) (Some stops) = armed_behind es (armed_after e stops)
+
+-- what want of memory leaves of them is free
+abbrev pub AreArmed : Status → (told last : List (ℕ × ℕ)) → Type 0
+AreArmed Memory told last = ⊤
+AreArmed status told last = last ≡ told
+
+-- each stop was armed before it came; and unless memory ran out, those are armed at last that the story leaves
+pub record Stops (status : Status) (first : List (ℕ × ℕ)) (story : List Event) (last : List (ℕ × ℕ)) : Type 0 where
+  pub stops : List (ℕ × ℕ)
+  pub behind : armed_behind story (Some first) ≡ Some stops
+  pub are : AreArmed status stops last

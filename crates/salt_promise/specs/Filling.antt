@@ -1,0 +1,115 @@
+-- Where a device is full: what comes next behind a trace is written there, and would pass its limit.
+use Rattle.salt_bytes.specs.Conts.{spell_move}
+use Rattle.salt_bytes.specs.Coordinator.{Boots, CoordinatorEntry, Decides, Defines, spell_entry, spell_header}
+use Rattle.salt_bytes.specs.Generations.{BothBlank, Counts, WhichLog}
+use Rattle.salt_bytes.specs.Log.{entries_in, spelled}
+use Rattle.salt_bytes.specs.Partition.{spell_partition_header, spell_prepared}
+use Rattle.salt_bytes.specs.declared.moves.Move.{Move}
+use Rattle.salt_disk.specs.Disks.{View}
+use Rattle.salt_model.specs.After.{kept, run_of}
+use Rattle.salt_model.specs.Next.{next}
+use Rattle.salt_model.specs.Phases.{Fallen, Phase, phase}
+use Rattle.salt_model.specs.Trace.{Trace, ◌says◌}
+use Rattle.salt_model.specs.Words.{is_empty}
+use Rattle.salt_model.specs.declared.events.End.TheVariants.{Branched, Committed}
+use Rattle.salt_model.specs.declared.events.Event.TheVariants.{Defined, Ended}
+use Rattle.salt_model.specs.declared.events.Event.{Event}
+use Rattle.salt_stands.specs.Coordinator.{coordinator_pair, device_of}
+use Rattle.salt_stands.specs.CoordinatorLog.{CoordinatorLog}
+use Rattle.salt_stands.specs.FirstOpening.{IsCreated, first_header, first_part_header}
+use Rattle.salt_stands.specs.OpenConts.{make_move}
+use Rattle.salt_stands.specs.Partition.{part_device, part_pair}
+use Rattle.salt_stands.specs.PartitionLog.{PartitionLog}
+use Rattle.salt_stands.specs.Placed.{changes_at}
+use Rattle.salt_stands.specs.Stands.{logs_of}
+use Rattle.salt_stands.specs.Words.{has_bit}
+use Rattle.salt_values.specs.declared.change.Change.{Change}
+use Rattle.salt_values.specs.declared.id.Id.{Id}
+use Rattle.salt_values.specs.declared.placement.Shape.{Shape}
+use Rattle.std.specs.Prelude.{List, None, Option, Some, [], false, length, map, not, ℕ, ◌+◌, ◌<◌, ◌≡◌, ◌⊎◌}
+
+-- the format of the coordinator's entries, and that of a new partition's log
+abbrev pub coordinator_format : ℕ
+coordinator_format = 3
+
+abbrev pub partition_format : ℕ
+partition_format = 2
+
+-- WRITES THAT WOULD PASS A LIMIT
+
+-- an entry with this payload, behind those of the device: its gate, its length, itself, and the next closed gate
+pub record IsTooLong (d : View) (dev : ℕ) (payload : List ℕ) : Type 0 where
+  pub entries : List (List ℕ)
+  pub reads : entries_in (d.bytes dev) ≡ Some entries
+  pub over : d.limit dev < length (spelled entries) + 10 + length payload
+
+-- a new pair of logs, of which A is this device: B is created, and A gets its header
+abbrev pub NewPairFills : View → (a : ℕ) → (header : List ℕ) → (dev : ℕ) → Type 0
+NewPairFills d a header dev =
+    ((dev ≡ a + 1) × IsCreated (d.bytes dev) × (d.limit dev < 1)) ⊎ ((dev ≡ a) × (d.limit dev < 10 + length header))
+
+-- WHAT IS WRITTEN
+
+-- a first opening, of blank coordinator devices: a pair for each partition, and then the coordinator's
+pub record FirstFills (d : View) (shape : Shape) (dev : ℕ) : Type 0 where
+  pub blank : coordinator_pair (logs_of d.bytes) ≡ BothBlank
+  pub fills : ((p : ℕ) × (p < shape.parts) × NewPairFills d (part_device p) (spell_partition_header (first_part_header partition_format p)) dev)
+      ⊎ NewPairFills d 0 (spell_header (first_header shape coordinator_format)) dev
+
+-- an entry in the coordinator's log that counts
+pub record EntryFills (d : View) (entry : CoordinatorLog → CoordinatorEntry) (dev : ℕ) : Type 0 where
+  pub which : WhichLog
+  pub log : CoordinatorLog
+  pub counts : coordinator_pair (logs_of d.bytes) ≡ Counts which log
+  pub device : dev ≡ device_of 0 which
+  pub over : IsTooLong d dev (spell_entry (entry log))
+
+-- a unit's changes in a partition, in the log of it that counts
+pub record ShareFills (d : View) (shape : Shape) (u : Id) (changes : List Change) (dev : ℕ) : Type 0 where
+  pub p : ℕ
+  pub low : p < shape.parts
+  pub which : WhichLog
+  pub log : PartitionLog
+  pub counts : part_pair p (logs_of d.bytes) ≡ Counts which log
+  pub device : dev ≡ device_of (part_device p) which
+  pub changed : is_empty (changes_at shape p changes) ≡ false
+  pub over : IsTooLong d dev (spell_prepared (record { unit = u; changes = changes_at shape p changes }))
+
+-- what comes next in the log: a boot; a definition; a decision, with the bits of the partitions that it changes
+abbrev pub next_boot : CoordinatorLog → CoordinatorEntry
+next_boot log = Boots (log.told.boot + 1)
+
+abbrev pub next_definition : List ℕ → CoordinatorLog → CoordinatorEntry
+next_definition text log = Defines (record { number = log.told.decisions + 1; text = text })
+
+abbrev pub next_decision : Id → (mask : ℕ) → Move → CoordinatorLog → CoordinatorEntry
+next_decision u mask move log = Decides (record { number = log.told.decisions + 1; unit = u; mask = mask; move = spell_move coordinator_format move })
+
+-- a unit's decision, with the bits of the partitions that it changes, and with its program's move: from the continuations that are open
+-- before it to those that are open behind it
+pub record DecisionFills (d : View) (shape : Shape) (trace : Trace) (e : Event) (u : Id) (changes : List Change) (dev : ℕ) : Type 0 where
+  pub mask : ℕ
+  pub bits : (p : ℕ) → p < shape.parts → has_bit mask p ≡ not (is_empty (changes_at shape p changes))
+  pub move : Move
+  pub moves : make_move (kept trace).conts move ≡ Some (kept (trace says e)).conts
+  pub fills : EntryFills d (next_decision u mask move) dev
+
+-- WHAT COMES NEXT
+
+-- what the statements of an open unit change, in order of tables and keys
+abbrev pub changes_of : Id → Trace → List Change
+changes_of u trace = map (λ d. record { table = d.0.table; key = d.0.key; row = d.1 }) (run_of u trace).changes.list
+
+-- of a run that is down an opening; else the decision that comes next
+abbrev pub NextFills : View → Shape → Trace → Phase → Option Event → (dev : ℕ) → Type 0
+NextFills d shape trace Fallen e dev = FirstFills d shape dev ⊎ EntryFills d next_boot dev
+NextFills d shape trace phase None dev = ⊥
+NextFills d shape trace phase (Some (Defined n text)) dev = EntryFills d (next_definition text) dev
+NextFills d shape trace phase (Some (Ended u (Committed n))) dev =
+    ShareFills d shape u (changes_of u trace) dev ⊎ DecisionFills d shape trace (Ended u (Committed n)) u (changes_of u trace) dev
+NextFills d shape trace phase (Some (Ended u (Branched n cause))) dev = DecisionFills d shape trace (Ended u (Branched n cause)) u [] dev
+NextFills d shape trace phase (Some e) dev = ⊥
+
+-- the device is full behind the trace
+abbrev pub IsFullBehind : View → Shape → Trace → (dev : ℕ) → Type 0
+IsFullBehind d shape trace dev = NextFills d shape trace (phase trace) (next trace) dev

@@ -1,0 +1,37 @@
+-- A run: what is asked of it, what is there before it and after it, and what it answers.
+use Rattle.salt_disk.specs.Disks.{View}
+use Rattle.salt_model.specs.declared.events.Event.{Event}
+use Rattle.salt_model.specs.declared.events.Flight.{Flight}
+use Rattle.salt_promise.specs.declared.status.Status.{Status}
+use Rattle.salt_values.specs.declared.placement.PlaceKind.TheVariants.{Remainder}
+use Rattle.salt_values.specs.declared.placement.Shape.{Shape}
+use Rattle.std.specs.Prelude.{List, Option, ℕ}
+
+-- a source with the bytes that it has left, or a sink with those that it holds, where it tells them; and how often it has failed
+pub record Stream : Type 0 where
+  pub bytes : Option (List ℕ)
+  pub faults : ℕ
+
+-- what a run reads from, writes to, and keeps its database on
+pub record World : Type 1 where
+  pub source : Stream
+  pub sink : Stream
+  pub devices : View
+
+-- do the lines of the source over devices of this shape; or the lines of the workload with so many calls, over two partitions
+pub data Command : Type 0 where
+  DoScript : Shape → Command
+  DoLoad : ℕ → Command
+
+abbrev pub shape_of : Command → Shape
+shape_of (DoScript shape) = shape
+shape_of (DoLoad calls) = record { parts = 2; kind = Remainder }
+
+-- no command, where the words say none
+pub record Run : Type 1 where
+  pub command : Option Command
+  pub before : World
+  pub after : World
+  pub status : Status
+  pub flight : Option Flight
+  pub story : List Event

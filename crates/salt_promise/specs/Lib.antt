@@ -1,0 +1,12 @@
+pub mod Status
+pub mod Given
+pub mod Ways
+pub mod Standing
+pub mod Doing
+pub mod Promises
+pub mod Filling
+pub mod Ending
+pub mod Counting
+pub mod Runs
+pub mod Completing
+pub mod Worked
