@@ -14,7 +14,7 @@ use Rattle.salt_model.specs.Next.{flight, is_decision}
 use Rattle.salt_model.specs.Played.{IsPlayed}
 use Rattle.salt_model.specs.Trace.{Trace}
 use Rattle.salt_model.specs.declared.events.Event.{Event}
-use Rattle.salt_run.specs.Ending.{IsKeptBehind, boots_untold}
+use Rattle.salt_promise.specs.Ending.{IsLeftBehind, boots_untold}
 use Rattle.std.proofs.Common.{ap, arith, inl, inr, sym, ◌∙◌}
 use Rattle.std.specs.Prelude.{None, Option, Some, true, ℕ, ◌≡◌, ◌≤◌}
 
@@ -35,7 +35,7 @@ module _ (trace : Trace) (played : IsPlayed trace) (p : Point) (keeps : KeepsPoi
       with-one p.state.units trace (flight trace) inv.base inv.flying keeps.state.units ∙ ap (λ o. kept_behind o p.state.units) keeps.flight
 
   -- what is left at a point is kept behind its trace
-  pub is-behind : (doubt told : Type 0) → (doubt → told) → (room : ℕ) (k : Kept) → room ≤ boots_untold trace → IsLeft doubt room p k → IsKeptBehind told trace k
+  pub is-behind : (doubt told : Type 0) → (doubt → told) → (room : ℕ) (k : Kept) → room ≤ boots_untold trace → IsLeft doubt room p k → IsLeftBehind told trace k
   is-behind doubt told to room k few left = record {
     boots = left.boots;
     most = let l = left.most in omega arith;

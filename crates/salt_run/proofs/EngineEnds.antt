@@ -5,12 +5,10 @@ use Rattle.salt_database.specs.Standing.{opening_books}
 use Rattle.salt_database.specs.declared.database.Database.{Database}
 use Rattle.salt_database.specs.declared.database.Database.TheVariants.{Closed, Moving, Open}
 use Rattle.salt_devices.specs.Filling.{FillsIn}
-use Rattle.salt_devices.specs.Holding.{CanStart}
 use Rattle.salt_devices.specs.Leaving.{StandsFor}
-use Rattle.salt_devices.specs.Refusing.{Finds, RefusedAs, Refuses}
+use Rattle.salt_devices.specs.Refusing.{Finds, Refuses}
 use Rattle.salt_devices.specs.Standing.{RestsAs, StandsHeld, StandsLeft}
 use Rattle.salt_devices.specs.declared.devices.Devices.{Devices}
-use Rattle.salt_devices.specs.declared.pending.Pending.{Pending}
 use Rattle.salt_disk.specs.Disks.{AreUnchanged, IsUnchanged, KeepsAll, SameShape, View}
 use Rattle.salt_disk.specs.declared.disks.DiskErr.{DiskErr}
 use Rattle.salt_engine.specs.Flights.{flight_of}
@@ -18,32 +16,32 @@ use Rattle.salt_engine.specs.Standing.{Left, Lies, serving_books}
 use Rattle.salt_engine.specs.Stored.{IsAlone}
 use Rattle.salt_engine.specs.declared.flights.InFlight.{InFlight}
 use Rattle.salt_keeps.specs.Points.{Point}
-use Rattle.salt_model.specs.Ends.{MayLeave}
 use Rattle.salt_model.specs.Kept.{Kept, WellKept, nothing_kept}
 use Rattle.salt_model.specs.Played.{IsPlayed}
-use Rattle.salt_model.specs.Trace.{Start, Trace, start_of, story_of}
+use Rattle.salt_model.specs.Trace.{Start, Trace, start_of}
 use Rattle.salt_model.specs.declared.events.Event.{Event}
 use Rattle.salt_model.specs.declared.events.Flight.{Flight}
-use Rattle.salt_run.proofs.Images.{may-come}
+use Rattle.salt_promise.specs.Promises.{Promises}
+use Rattle.salt_promise.specs.Runs.{AreAsBefore, IsNoRefusal, may_have_failed}
+use Rattle.salt_promise.specs.declared.status.Status.{Status}
+use Rattle.salt_promise.specs.declared.status.Status.TheVariants.{DeviceFull, Done, Memory, NotSalt, NumbersSpent, OtherShape, Usage, WriteFault}
+use Rattle.salt_run.proofs.Images.{stands-alone}
 use Rattle.salt_run.proofs.Over.{ends-behind}
 use Rattle.salt_run.proofs.Replayed.{load-replays, script-replays}
 use Rattle.salt_run.proofs.Unwritten.{load-unwritten}
 use Rattle.salt_run.specs.Commands.{shape_of}
 use Rattle.salt_run.specs.Doing.{Streams}
 use Rattle.salt_run.specs.Ending.{EndsBehind, flight_at}
-use Rattle.salt_run.specs.Promises.{Promises}
-use Rattle.salt_run.specs.Running.{AreAsBefore, FindsNothing, Replays, Runs, RunsOver, WasRefused, may_have_failed}
+use Rattle.salt_run.specs.Running.{FindsNothing, Replays, Runs, RunsOver}
 use Rattle.salt_run.specs.Summing.{IsSummary}
 use Rattle.salt_serving.proofs.Counts.{run-added, run-opened, run-unwritten}
 use Rattle.salt_serving.proofs.Leaving.{answers-opening, full-reason}
-use Rattle.salt_serving.specs.Counted.{AreFaultsOf, AreStopsOf, CountsAdded, CountsRun, armed_behind}
+use Rattle.salt_serving.specs.Counted.{AreFaultsOf, AreStopsOf, CountsAdded, CountsRun}
 use Rattle.salt_serving.specs.Ending.{EndsFound, IsStatusOf, MayEndAt}
 use Rattle.salt_serving.specs.Loading.{IsPlayedLoad}
-use Rattle.salt_serving.specs.Run.{IsRun, leave_of}
+use Rattle.salt_serving.specs.Run.{IsRun}
 use Rattle.salt_serving.specs.Serving.{IsToBegin}
 use Rattle.salt_serving.specs.Stopping.{numbers_told, status_opening}
-use Rattle.salt_serving.specs.declared.status.Status.{Status}
-use Rattle.salt_serving.specs.declared.status.Status.TheVariants.{DeviceFull, Done, Memory, NotSalt, NumbersSpent, OtherShape, WriteFault}
 use Rattle.salt_steps.proofs.AtFirst.{down-at-first}
 use Rattle.salt_stands.specs.Stands.{are_spent}
 use Rattle.salt_steps.specs.Counting.{CountsOpening}
@@ -60,7 +58,7 @@ use Rattle.salt_values.specs.declared.placement.Shape.{Shape}
 use Rattle.salt_words.specs.declared.command.Command.{Command}
 use Rattle.salt_words.specs.declared.command.Command.TheVariants.{Load, Run}
 use Rattle.std.proofs.Common.{ap, inl, inr, subst, sym, ◌∙◌}
-use Rattle.std.specs.Prelude.{Bool, IsSome, IsTrue, List, None, Option, Some, [], false, refl, true, ℕ, ◌≡◌, ◌⊎◌}
+use Rattle.std.specs.Prelude.{Bool, IsSome, IsTrue, List, None, Option, [], false, refl, true, ℕ, ◌≡◌, ◌⊎◌}
 
 -- THE STATUS, and the one of its engine: the same, or the sink failed behind it
 
@@ -70,48 +68,18 @@ IsBehind old status = (status ≡ old) ⊎ ((status ≡ WriteFault) × (old ≡ 
 not-full : (status : Status) (dev : ℕ) → status ≡ WriteFault → status ≡ DeviceFull dev → ⊥
 not-full status dev w f = let both : WriteFault ≡ DeviceFull dev = sym w ∙ f in cc
 
+-- over what was found it ends by no refusal of that
+may-end : (room : ℕ) (p : Point) (status : Status) → MayEndAt room p status → IsNoRefusal status
+may-end room p Usage h = h
+may-end room p (NotSalt dev) h = h
+may-end room p (OtherShape kept asked) h = h
+may-end room p status h = tt
+
 -- WHAT IS REFUSED
-
-pub over-refused : (d e : View) (shape : Shape) (story : List Event) (room : ℕ) (p : Point) (status : Status) → MayEndAt room p status → WasRefused d e shape story status
-over-refused d e shape story room p (NotSalt dev) h = absurd h
-over-refused d e shape story room p (OtherShape kept asked) h = absurd h
-over-refused d e shape story room p status h = tt
-
--- its status tells the reason
-salt-reason : (reason : OpenErr) (dev : ℕ) → IsStatusOf reason (NotSalt dev) → reason ≡ open_err.NotSalt dev
-salt-reason reason dev (inr w) = absurd cc
-salt-reason (open_err.NotSalt k) dev (inl is) = cc
-salt-reason (open_err.OtherShape kept asked) dev (inl is) = absurd cc
-salt-reason (open_err.NumbersSpent boot decisions) dev (inl is) = absurd cc
-salt-reason (open_err.Halted halt.Stopped) dev (inl is) = absurd cc
-salt-reason (open_err.Halted halt.DiskFault) dev (inl is) = absurd cc
-salt-reason (open_err.Halted (halt.DeviceFull k)) dev (inl is) = absurd cc
-salt-reason (open_err.Halted halt.Memory) dev (inl is) = absurd cc
-
-shape-reason : (reason : OpenErr) (kept asked : Shape) → IsStatusOf reason (OtherShape kept asked) → reason ≡ open_err.OtherShape kept asked
-shape-reason reason kept asked (inr w) = absurd cc
-shape-reason (open_err.NotSalt k) kept asked (inl is) = absurd cc
-shape-reason (open_err.OtherShape k a) kept asked (inl is) = cc
-shape-reason (open_err.NumbersSpent boot decisions) kept asked (inl is) = absurd cc
-shape-reason (open_err.Halted halt.Stopped) kept asked (inl is) = absurd cc
-shape-reason (open_err.Halted halt.DiskFault) kept asked (inl is) = absurd cc
-shape-reason (open_err.Halted (halt.DeviceFull k)) kept asked (inl is) = absurd cc
-shape-reason (open_err.Halted halt.Memory) kept asked (inl is) = absurd cc
 
 pub refused-so : (d : View) (shape : Shape) (reason r : OpenErr) → reason ≡ r → (r ≡ open_err.Halted halt.Memory → ⊥) → Refuses d true shape reason ⊎ (reason ≡ open_err.Halted halt.Memory) → Refuses d true shape r
 refused-so d shape reason r is other (inl h) = subst (Refuses d true shape) is h
 refused-so d shape reason r is other (inr m) = absurd (other (sym is ∙ m))
-
-nothing-refused : (d e : View) (shape : Shape) (story : List Event) (reason : OpenErr) (status : Status) (trace : Trace) → IsStatusOf reason status →
-    Refuses d true shape reason ⊎ (reason ≡ open_err.Halted halt.Memory) → story_of trace ≡ story → MayLeave (leave_of status) trace →
-    ((refusal : OpenErr) → IsRefusal refusal → Refuses d true shape refusal → IsTrue d.told → AreAsBefore (may_have_failed status) d e) → WasRefused d e shape story status
-nothing-refused d e shape story reason (NotSalt dev) trace is refused told leaves unwritten =
-    let h = refused-so d shape reason (open_err.NotSalt dev) (salt-reason reason dev is) (λ m. cc) refused in
-    (h, sym told ∙ leaves, λ tells. (unwritten (open_err.NotSalt dev) tt h tells).unchanged refl)
-nothing-refused d e shape story reason (OtherShape kept asked) trace is refused told leaves unwritten =
-    let h = refused-so d shape reason (open_err.OtherShape kept asked) (shape-reason reason kept asked is) (λ m. cc) refused in
-    (h, sym told ∙ leaves, λ tells. (unwritten (open_err.OtherShape kept asked) tt h tells).unchanged refl)
-nothing-refused d e shape story reason status trace is refused told leaves unwritten = tt
 
 -- what was not written is as it was, unless the devices failed
 same-as-before : (d e : View) → SameShape d e → ((dev : ℕ) → ¬ ⊥ → IsUnchanged d e dev) → AreUnchanged d e
@@ -136,11 +104,7 @@ as-before d e reason status how k = record { images = λ dev. k.images dev (λ x
     by r (inl same) k h = of-reason r k (ap may_have_failed (sym same) ∙ h)
     by r (inr w) k h = never (ap may_have_failed (sym w.0) ∙ h)
 
-pub behind-refused : (d e : View) (shape : Shape) (story : List Event) (old status : Status) → IsBehind old status → WasRefused d e shape story old → WasRefused d e shape story status
-behind-refused d e shape story old status (inl same) h = subst (WasRefused d e shape story) (sym same) h
-behind-refused d e shape story old status (inr w) h = subst (WasRefused d e shape story) (sym w.0) tt
-
-pub any-start : Start
+abbrev pub any-start : Start
 any-start = record { kept = nothing_kept; can_stop = false }
 
 -- WHAT WAS FOUND AT FIRST, by a shape that was not tried before
@@ -152,18 +116,21 @@ module _ (command : Command) (d : View) (started0 : Bool) (shape0 : Shape) (was 
   refuses-first : (r : OpenErr) → Refuses d started0 shape0 r → Refuses d true (shape_of command) r
   refuses-first r h = subst (λ (b : Bool). Refuses d b (shape_of command) r) was (subst (λ (s : Shape). Refuses d started0 s r) asked0 h)
 
-  -- nothing: it was refused, and what is refused now would have been
-  module _ (e : View) (shape : Shape) (started : Bool) (q : Pending) (asked : shape ≡ shape0) (able : CanStart shape started q e) (reason : OpenErr) (story : List Event)
+  -- nothing: what they stood for rests there
+  module _ (e : View) (shape : Shape) (started : Bool) (asked : shape ≡ shape0) (rests : (k : Kept) → Finds d started0 shape0 k → RestsAs shape started e k) (reason : OpenErr) (story : List Event)
       (x : FailsToFind (Refuses d started0 shape0) (Finds d started0 shape0) (Refuses e started shape) (Finds e started shape) (FillsIn e shape) reason story)
-      (kept : (refusal : OpenErr) → IsRefusal refusal → Refuses d started0 shape0 refusal → IsTrue d.told → KeepsAll d e (open_disk_err_of reason)) where
+      (kept : (refusal : OpenErr) → IsRefusal refusal → Refuses d started0 shape0 refusal → IsTrue d.told → KeepsAll d e (open_disk_err_of reason) × (story ≡ [])) where
     now : shape ≡ shape_of command
     now = asked ∙ asked0
 
     refuses-then : (r : OpenErr) → Refuses d true (shape_of command) r → Refuses d started0 shape0 r
     refuses-then r h = subst (λ (s : Shape). Refuses d started0 s r) (sym asked0) (subst (λ (b : Bool). Refuses d b (shape_of command) r) (sym was) h)
 
-    unwritten : (status : Status) → IsStatusOf reason status → (refusal : OpenErr) → IsRefusal refusal → Refuses d true (shape_of command) refusal → IsTrue d.told → AreAsBefore (may_have_failed status) d e
-    unwritten status is r refusal h tells = as-before d e reason status is (kept r refusal (refuses-then r h) tells)
+    unwritten : (status : Status) → IsStatusOf reason status → (refusal : OpenErr) → IsRefusal refusal → Refuses d true (shape_of command) refusal → IsTrue d.told → AreAsBefore (may_have_failed status) d e × (story ≡ [])
+    unwritten status is r refusal h tells = let k = kept r refusal (refuses-then r h) tells in (as-before d e reason status is k.0, k.1)
+
+    finds-then : (k : Kept) → Finds d true (shape_of command) k → Finds d started0 shape0 k
+    finds-then k h = subst (λ (s : Shape). Finds d started0 s k) (sym asked0) (subst (λ (b : Bool). Finds d b (shape_of command) k) (sym was) h)
 
     was-refused : Refuses d true (shape_of command) reason ⊎ (reason ≡ open_err.Halted halt.Memory)
     was-refused = elim x.refused [ inl h ↦ inl (refuses-first reason h) | inr m ↦ inr m ]
@@ -176,10 +143,8 @@ module _ (command : Command) (d : View) (started0 : Bool) (shape0 : Shape) (was 
       refused = was-refused;
       unfound = unfound;
       replays = replays;
-      no_more_refused = λ told image left r h.
-          refuses-first r (x.less.refuses_no_more r (λ t. record { image = image; comes = may-come e started able.settled image left; is = subst (λ (s : Shape). RefusedAs s image r) (sym now) h }));
-      no_more_stands = λ told image left k h.
-          found-is k (x.less.finds_no_more k (λ t. record { image = image; comes = may-come e started able.settled image left; is = subst (λ (s : Shape). StandsFor s image k) (sym now) h }));
+      empty = x.empty;
+      rests = λ k h told image left. subst (λ (s : Shape). StandsFor s image k) now (stands-alone shape started e k (rests k (finds-then k h)) told image left);
       full = λ dev full. by dev full is;
       unwritten = unwritten status is;
     }
@@ -187,9 +152,6 @@ module _ (command : Command) (d : View) (started0 : Bool) (shape0 : Shape) (was 
         by : (dev : ℕ) → status ≡ DeviceFull dev → IsStatusOf reason status → FillsIn e (shape_of command) OfOpening dev
         by dev full (inl same) = subst (λ (s : Shape). FillsIn e s OfOpening dev) now (x.full dev (full-reason reason dev (sym same ∙ full)))
         by dev full (inr w) = absurd (not-full status dev w.0 full)
-
-    pub nothing-begun : (status : Status) (trace : Trace) → IsStatusOf reason status → story_of trace ≡ story → MayLeave (leave_of status) trace → WasRefused d e (shape_of command) story status
-    nothing-begun status trace is told leaves = nothing-refused d e (shape_of command) story reason status trace is was-refused told leaves (unwritten status is)
 
 -- a run over it begins
 pub begins-over : (k : Kept) (now : Bool) (lies : ℕ → Point → Type 0) (flies : Option Flight) (story : List Event) → IsUnfound story → IsSoundKept k → IsOpenedFirst lies k now → flies ≡ None →
@@ -262,6 +224,7 @@ module _ (d e : View) (x : Database Devices) where
         sound = sound;
         unspent = unspent;
         stops = stops;
+        may = may-end y.1.room y.1.point status y.1.may;
         replays = script-replays promised parts status (database_flight x) s story start sound.well y.0;
         ends = ends-there e x (shape_of (Run parts)) asked status y.0.played.trace y.0.played.tells.played y.1;
       }
@@ -287,6 +250,7 @@ module _ (d e : View) (x : Database Devices) where
         sound = sound;
         unspent = unspent;
         stops = stops;
+        may = may-end loaded.1.room loaded.1.point status loaded.1.may;
         replays = load-replays promised calls done status (database_flight x) s story start sound.well loaded.0 summed;
         ends = ends-there e x (shape_of (Load calls)) asked status loaded.0.trace loaded.0.tells.played loaded.1;
       }
@@ -338,9 +302,6 @@ pub as-told : (command : Command) (d e : View) (s : Streams) (story : List Event
 as-told command d e s story old status f told same is h =
     subst (λ (x : Option Flight). Runs command d e status x s story) (sym is) (subst (λ (t : Status). Runs command d e t (flight_at t f) s story) (sym same) h)
 
-pub refused-as : (d e : View) (shape : Shape) (story : List Event) (old status : Status) → status ≡ old → WasRefused d e shape story old → WasRefused d e shape story status
-refused-as d e shape story old status same h = subst (WasRefused d e shape story) (sym same) h
-
 pub behind-outcome : (old mid status : Status) → mid ≡ old → (status ≡ mid) ⊎ ((status ≡ WriteFault) × (mid ≡ Memory → ⊥)) → IsBehind old status
 behind-outcome old mid status same h = subst (λ (t : Status). IsBehind t status) same h
 
@@ -351,7 +312,3 @@ behind-faults d e story old status (inr w) h = subst (λ (t : Status). AreFaults
 pub behind-stops : (d e : View) (story : List Event) (old status : Status) → IsBehind old status → CountsRun d e old story → AreStopsOf status d.armed story e.armed
 behind-stops d e story old status (inl same) h = subst (λ (t : Status). AreStopsOf t d.armed story e.armed) (sym same) h.stops
 behind-stops d e story old status (inr w) h = subst (λ (t : Status). AreStopsOf t d.armed story e.armed) (sym w.0) (run-unwritten d e old story w.1 h).stops
-
--- where nothing is told, those are armed that were
-pub none-come : (status : Status) (stops : List (ℕ × ℕ)) (story : List Event) → story ≡ [] → AreStopsOf status stops story stops
-none-come status stops story none = record { stops = stops; behind = ap (λ (es : List Event). armed_behind es (Some stops)) none; are = λ other. refl }

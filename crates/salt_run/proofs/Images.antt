@@ -13,7 +13,7 @@ use Rattle.salt_keeps.specs.Points.{Point}
 use Rattle.salt_model.specs.Kept.{Kept}
 use Rattle.salt_storage.specs.declared.found.Numbers.{Numbers}
 use Rattle.salt_values.specs.declared.placement.Shape.{Shape}
-use Rattle.std.proofs.Common.{inl, inr, sym, ◌∙◌}
+use Rattle.std.proofs.Common.{inl, inr}
 use Rattle.std.specs.Prelude.{Bool, IsTrue, List, None, Option, Some, false, refl, true, ℕ, ◌≡◌}
 
 -- an image stands for something that is left at a point
@@ -50,12 +50,6 @@ module _ (shape : Shape) (started : Bool) (o : Option Store) (n : Numbers) (q : 
   stands-left (Some numbers) h = held h.0 h.1 h.2
   stands-left None h = either h.0 h.1 h.2 h.3 h.4
 
-  -- nothing is pending where the devices were started
-  settled : (found : Option Numbers) → LeftHere found → started ≡ true → AreSettled d
-  settled (Some numbers) h = λ is. let both : false ≡ true = sym h.1.called ∙ is in absurd (cc both)
-  settled None h = h.2.can.settled
-
-  -- what is left alone
-  pub stands-alone : (found : Option Numbers) → LeftHere found → (k : Kept) → RestsAs shape started d k → StandsFor shape image k
-  stands-alone found h k rests =
-      elim (rests.rests told image (may-come d started (settled found h) image left)).stands [ inl s ↦ s | inr s ↦ s ]
+-- and for what rests there
+pub stands-alone : (shape : Shape) (started : Bool) (d : View) (k : Kept) → RestsAs shape started d k → IsTrue d.told → (image : ℕ → List ℕ) → IsImage d image → StandsFor shape image k
+stands-alone shape started d k rests told image left = rests.rests told image (may-come d started rests.settled image left)

@@ -5,6 +5,16 @@ mod Unwritten
 mod Replayed
 mod EngineEnds
 mod Said
-mod Completes
-mod Commanded
 pub mod Staying
+mod Ways
+mod Tallied
+mod Standing
+mod Summed
+mod Full
+mod Left
+mod Promised
+mod Answering
+mod Refused
+mod Unopened
+mod Goes
+mod Running

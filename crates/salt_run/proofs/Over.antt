@@ -12,22 +12,24 @@ use Rattle.salt_engine.specs.declared.flights.InFlight.{InFlight}
 use Rattle.salt_keeps.specs.Points.{Point}
 use Rattle.salt_model.specs.Played.{IsPlayed}
 use Rattle.salt_model.specs.Trace.{Trace}
+use Rattle.salt_promise.specs.Ending.{AreSpentBehind, IsInDoubt}
+use Rattle.salt_promise.specs.declared.status.Status.{Status}
+use Rattle.salt_promise.specs.declared.status.Status.TheVariants.{DeviceFull, NumbersSpent}
 use Rattle.salt_run.proofs.Behind.{is-behind}
 use Rattle.salt_run.proofs.Images.{StandsAt, stands-alone, stands-left}
-use Rattle.salt_run.specs.Ending.{AreSpentBehind, EndsBehind, IsFullBehind, StandsBehind, flight_at}
+use Rattle.salt_run.specs.Ending.{EndsBehind, IsFullBehind, StandsBehind, flight_at}
 use Rattle.salt_serving.specs.Ending.{EndsFound, MayEndAt}
 use Rattle.salt_serving.specs.Stopping.{numbers_told}
-use Rattle.salt_serving.specs.declared.status.Status.TheVariants.{DeviceFull, NumbersSpent}
-use Rattle.salt_serving.specs.declared.status.Status.{Status}
 use Rattle.salt_storage.specs.declared.found.Numbers.{Numbers}
 use Rattle.salt_values.specs.declared.placement.Shape.{Shape}
-use Rattle.std.proofs.Common.{subst, ◌∙◌}
-use Rattle.std.specs.Prelude.{Bool, IsSome, IsTrue, List, None, Option, Some, refl, ℕ, ⊤, ◌≡◌}
+use Rattle.std.proofs.Common.{subst, sym, ◌∙◌}
+use Rattle.std.specs.Prelude.{Bool, IsSome, IsTrue, List, None, Option, Some, ℕ, ⊤, ◌≡◌}
 
--- what is in flight is told
-told-some : (i : Option InFlight) → IsSome i → IsSome (flight_of i)
-told-some (Some f) h = refl
-told-some None h = h
+-- what is in flight is told, and so in doubt
+in-doubt : (status : Status) (i : Option InFlight) → IsSome i → IsInDoubt status (flight_of i)
+in-doubt (NumbersSpent boot decisions) i h = tt
+in-doubt status (Some f) h = tt
+in-doubt status None h = absurd (cc h)
 
 module _ (shape : Shape) (started : Bool) (o : Option Store) (n : Numbers) (q : Pending) (d : View)
     (found : Option Numbers) (books : Option Books) (single : Bool) (i : Option InFlight) (status : Status) (trace : Trace) (played : IsPlayed trace) where
@@ -41,13 +43,13 @@ module _ (shape : Shape) (started : Bool) (o : Option Store) (n : Numbers) (q : 
         by : (t : Status) → LeftAt (numbers_told t) x.room x.point → StandsBehind shape t (flight_at t (flight_of i)) trace image
         by (NumbersSpent boot decisions) h = record {
           found = h.1.kept;
-          stands = stands-alone shape started o n q d told (IsSome i) x.room x.point image is found h.0 h.1.kept h.1.resting;
+          stands = stands-alone shape started d h.1.kept h.1.resting told image is;
           is = is-behind trace played x.point x.keeps ⊤ ⊤ (λ v. v) x.room h.1.kept x.boots h.1.left;
-          numbers = (h.1.boot_is, h.1.decisions_are);
+          numbers = (sym h.1.boot_is, sym h.1.decisions_are);
         }
         by t h =
             let s : StandsAt shape (IsSome i) x.room x.point image = stands-left shape started o n q d told (IsSome i) x.room x.point image is found h.0 in
-            record { found = s.found; stands = s.stands; is = is-behind trace played x.point x.keeps (IsSome i) (IsSome (flight_of i)) (told-some i) x.room s.found x.boots s.left; numbers = tt }
+            record { found = s.found; stands = s.stands; is = is-behind trace played x.point x.keeps (IsSome i) (IsInDoubt t (flight_of i)) (in-doubt t i) x.room s.found x.boots s.left; numbers = tt }
 
     spent : (boot decisions : ℕ) → status ≡ NumbersSpent boot decisions → AreSpentBehind trace boot decisions
     spent boot decisions is =
@@ -56,10 +58,10 @@ module _ (shape : Shape) (started : Bool) (o : Option Store) (n : Numbers) (q : 
         record {
           down = x.keeps.state.units.phase ∙ m.0;
           spent = m.1.spent;
-          found = h.1.kept;
+          kept = h.1.kept;
           is = is-behind trace played x.point x.keeps ⊤ ⊤ (λ v. v) x.room h.1.kept x.boots h.1.left;
-          boot_is = h.1.boot_is;
-          decisions_are = h.1.decisions_are;
+          boot_is = sym h.1.boot_is;
+          decisions_are = sym h.1.decisions_are;
         }
 
     full : (dev : ℕ) → status ≡ DeviceFull dev → IsTrue d.told → IsFullBehind d shape trace dev

@@ -4,15 +4,15 @@ use Rattle.salt_model.specs.Played.{IsPlayed, Tells}
 use Rattle.salt_model.specs.Trace.{Start, Trace, lines_of, start_of, story_of}
 use Rattle.salt_model.specs.declared.events.Event.{Event}
 use Rattle.salt_model.specs.declared.events.Flight.{Flight}
+use Rattle.salt_promise.specs.Promises.{Promises}
+use Rattle.salt_promise.specs.declared.status.Status.{Status}
+use Rattle.salt_promise.specs.declared.status.Status.TheVariants.{Memory, NumbersSpent}
 use Rattle.salt_run.specs.Doing.{Streams}
 use Rattle.salt_run.specs.Ending.{IsFlightTold, flight_at}
-use Rattle.salt_run.specs.Promises.{Promises}
 use Rattle.salt_run.specs.Running.{Replays}
 use Rattle.salt_run.specs.Summing.{IsSummary}
 use Rattle.salt_serving.specs.Loading.{IsPlayedLoad}
 use Rattle.salt_serving.specs.Run.{IsFlightAt, IsRun}
-use Rattle.salt_serving.specs.declared.status.Status.TheVariants.{Memory, NumbersSpent}
-use Rattle.salt_serving.specs.declared.status.Status.{Status}
 use Rattle.salt_summary.specs.Summary.{summary_text}
 use Rattle.salt_words.specs.declared.command.Command.TheVariants.{Load, Run}
 use Rattle.std.proofs.Common.{subst, sym}

@@ -6,17 +6,18 @@ use Rattle.salt_model.specs.Played.{IsPlayed}
 use Rattle.salt_model.specs.Trace.{Asked, Start, Trace, from, lines_of, story_of, ◌asks◌, ◌says◌, ◌turns◌}
 use Rattle.salt_model.specs.declared.events.Event.{Event}
 use Rattle.salt_model.specs.declared.events.Flight.{Flight}
+use Rattle.salt_promise.specs.Doing.{IsFrontOf}
+use Rattle.salt_promise.specs.declared.status.Status.{Status}
+use Rattle.salt_promise.specs.declared.status.Status.TheVariants.{DeviceFull, DiskFault, Done, Memory, NotSalt, NumbersSpent, OtherShape, ReadFault, ScriptTooLong, Usage, WriteFault}
 use Rattle.salt_serving.proofs.Leaving.{at-devices, complete-flight}
 use Rattle.salt_serving.specs.Loading.{AreLoadLines, IsPlayedLoad, asked_by_load}
-use Rattle.salt_serving.specs.Run.{IsFlightAt, IsFrontOf, leave_of}
-use Rattle.salt_serving.specs.declared.status.Status.TheVariants.{DeviceFull, DiskFault, Done, Memory, NotSalt, NumbersSpent, OtherShape, ReadFault, ScriptTooLong, Usage, WriteFault}
-use Rattle.salt_serving.specs.declared.status.Status.{Status}
+use Rattle.salt_serving.specs.Run.{IsFlightAt, leave_of}
 use Rattle.std.proofs.Common.{ap, append-nil, inl, inr, sym, ◌∙◌}
 use Rattle.std.specs.Prelude.{List, None, Option, [], refl, ℕ, ◌++◌, ◌∷◌, ◌≡◌}
 
 -- WHERE NOTHING WAS ASKED OR TOLD
 
-not-nil : {A : Type 0} (xs : List A) (x : A) → xs ++ x ∷ [] ≡ [] → ⊥
+pub not-nil : {A : Type 0} (xs : List A) (x : A) → xs ++ x ∷ [] ≡ [] → ⊥
 not-nil [] x e = cc
 not-nil (y ∷ ys) x e = cc
 

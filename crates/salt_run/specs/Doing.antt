@@ -1,10 +1,12 @@
 -- What a command does: the lines of its trace, and what is written of it.
+use Rattle.salt_disk.specs.Disks.{View}
 use Rattle.salt_model.specs.Lines.{AskInOrder}
 use Rattle.salt_model.specs.Trace.{Trace, lines_of}
+use Rattle.salt_promise.specs.Given.{World}
+use Rattle.salt_promise.specs.declared.status.Status.{Status}
 use Rattle.salt_run.specs.Summing.{IsSummed}
 use Rattle.salt_serving.specs.Loading.{AreLoadLines}
 use Rattle.salt_serving.specs.Run.{AreLinesOf, IsTold}
-use Rattle.salt_serving.specs.declared.status.Status.{Status}
 use Rattle.salt_words.specs.declared.command.Command.TheVariants.{Load, Run}
 use Rattle.salt_words.specs.declared.command.Command.{Command}
 use Rattle.std.specs.Prelude.{List, Option, ℕ}
@@ -29,3 +31,7 @@ Does (Load calls) status s trace = AreLoadLines status calls (lines_of trace) ×
 
 abbrev pub streams : (script left before now : Option (List ℕ)) → Streams
 streams script left before now = record { script = script; left = left; before = before; now = now }
+
+-- what a run is given, or leaves
+abbrev pub world : (left : Option (List ℕ)) → (reads : ℕ) → (held : Option (List ℕ)) → (writes : ℕ) → View → World
+world left reads held writes devices = record { source = record { bytes = left; faults = reads }; sink = record { bytes = held; faults = writes }; devices = devices }

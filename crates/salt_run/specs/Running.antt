@@ -1,9 +1,8 @@
 -- What a run has to be: its start, its trace, what it writes, and what it leaves.
 use Rattle.salt_devices.specs.Filling.{FillsIn}
 use Rattle.salt_devices.specs.Refusing.{Finds, Refuses}
-use Rattle.salt_disk.specs.Disks.{AreUnchanged, IsImage, Shrinks, View}
+use Rattle.salt_disk.specs.Disks.{IsImage, View}
 use Rattle.salt_devices.specs.Leaving.{StandsFor}
-use Rattle.salt_devices.specs.Refusing.{RefusedAs}
 use Rattle.salt_model.specs.Ends.{MayLeave}
 use Rattle.salt_model.specs.Everywhere.{Each}
 use Rattle.salt_model.specs.Kept.{Kept, WellKept}
@@ -11,27 +10,26 @@ use Rattle.salt_model.specs.Played.{Tells}
 use Rattle.salt_model.specs.Trace.{Start, Trace}
 use Rattle.salt_model.specs.declared.events.Event.{Event}
 use Rattle.salt_model.specs.declared.events.Flight.{Flight}
+use Rattle.salt_promise.specs.Promises.{Promises}
+use Rattle.salt_promise.specs.Runs.{AreAsBefore, IsNoRefusal, may_have_failed}
+use Rattle.salt_promise.specs.declared.status.Status.{Status}
+use Rattle.salt_promise.specs.declared.status.Status.TheVariants.{DeviceFull}
 use Rattle.salt_run.specs.Commands.{shape_of}
 use Rattle.salt_run.specs.Doing.{Does, Streams}
 use Rattle.salt_run.specs.Ending.{EndsBehind, IsFlightTold}
-use Rattle.salt_run.specs.Promises.{Promises}
 use Rattle.salt_serving.specs.Ending.{IsStatusOf}
 use Rattle.salt_serving.specs.Run.{leave_of}
-use Rattle.salt_serving.specs.declared.status.Status.TheVariants.{DeviceFull, DiskFault, NotSalt, OtherShape, WriteFault}
-use Rattle.salt_serving.specs.declared.status.Status.{Status}
 use Rattle.salt_stands.specs.Stands.{are_spent}
 use Rattle.salt_stands.specs.Unspent.{OpensUnspent}
 use Rattle.salt_steps.specs.Opening.{IsUnfound}
-use Rattle.salt_storage.specs.Answers.{IsRefusal}
+use Rattle.salt_storage.specs.Answers.{IsLater, IsRefusal}
 use Rattle.salt_storage.specs.Storing.{IsSoundKept}
 use Rattle.salt_storage.specs.Writing.{OfOpening}
 use Rattle.salt_storage.specs.declared.halt.Halt.TheVariants as halt
-use Rattle.salt_storage.specs.declared.open.OpenErr.TheVariants as open_err
 use Rattle.salt_storage.specs.declared.open.OpenErr.TheVariants.{Halted}
 use Rattle.salt_storage.specs.declared.open.OpenErr.{OpenErr}
-use Rattle.salt_values.specs.declared.placement.Shape.{Shape}
 use Rattle.salt_words.specs.declared.command.Command.{Command}
-use Rattle.std.specs.Prelude.{Bool, IsTrue, List, Option, [], false, true, ℕ, ⊤, ◌≡◌, ◌⊎◌}
+use Rattle.std.specs.Prelude.{IsTrue, List, Option, [], false, true, ℕ, ◌≡◌, ◌⊎◌}
 
 -- The story is that of a trace which is played from this start and keeps each promise; no opening goes on from spent numbers; the command's
 -- lines are done, and what is told of them is written.
@@ -52,42 +50,23 @@ pub record RunsOver (command : Command) (old new : View) (status : Status) (flig
   pub sound : IsSoundKept start.kept
   pub unspent : are_spent start.kept.boot start.kept.decisions ≡ false
   pub stops : start.can_stop ≡ old.can_stop
+  pub may : IsNoRefusal status
   pub replays : Replays command status flight s story start
   pub ends : EndsBehind new (shape_of command) status flight replays.trace
 
--- where the devices may have failed, also if the sink failed behind that
-abbrev pub may_have_failed : Status → Bool
-may_have_failed DiskFault = true
-may_have_failed WriteFault = true
-may_have_failed status = false
-
--- nothing was written: each image is one from before, and unless the devices may have failed, they are as they were
-pub record AreAsBefore (failed : Bool) (old new : View) : Type 0 where
-  pub images : (dev : ℕ) → Shrinks old new dev
-  pub unchanged : failed ≡ false → AreUnchanged old new
-
 -- Or an opening did not find what they stood for: it was refused, failed, or memory ran out. Nothing is told but stops, so that it replays
--- from each start; what the devices are refused as now, or stand for, they were or did when it began; and where they were refused, nothing
--- was written.
+-- from each start; what the devices stood for when it began, they stand for still; and where they were refused, nothing was written or told.
 pub record FindsNothing (command : Command) (old new : View) (status : Status) (flight : Option Flight) (s : Streams) (story : List Event) : Type 0 where
   pub reason : OpenErr
   pub is : IsStatusOf reason status
   pub refused : Refuses old true (shape_of command) reason ⊎ (reason ≡ Halted halt.Memory)
   pub unfound : IsUnfound story
+  pub empty : (story ≡ []) ⊎ IsLater reason
   pub replays : (start : Start) → WellKept start.kept → Replays command status flight s story start
-  pub no_more_refused : IsTrue new.told → (image : ℕ → List ℕ) → IsImage new image → (e : OpenErr) → RefusedAs (shape_of command) image e → Refuses old true (shape_of command) e
-  pub no_more_stands : IsTrue new.told → (image : ℕ → List ℕ) → IsImage new image → (k : Kept) → StandsFor (shape_of command) image k → Finds old true (shape_of command) k
+  pub rests : (k : Kept) → Finds old true (shape_of command) k → IsTrue new.told → (image : ℕ → List ℕ) → IsImage new image → StandsFor (shape_of command) image k
   pub full : (dev : ℕ) → status ≡ DeviceFull dev → FillsIn new (shape_of command) OfOpening dev
-  pub unwritten : (refusal : OpenErr) → IsRefusal refusal → Refuses old true (shape_of command) refusal → IsTrue old.told → AreAsBefore (may_have_failed status) old new
+  pub unwritten : (refusal : OpenErr) → IsRefusal refusal → Refuses old true (shape_of command) refusal → IsTrue old.told → AreAsBefore (may_have_failed status) old new × (story ≡ [])
 
 abbrev pub Runs : Command → (old new : View) → Status → Option Flight → Streams → List Event → Type 0
 Runs command old new status flight s story =
     RunsOver command old new status flight s story ⊎ FindsNothing command old new status flight s story
-
--- what stood on the devices was refused, where it is no database's or of another shape, before anything was told or changed
-abbrev pub WasRefused : (old new : View) → Shape → List Event → Status → Type 0
-WasRefused old new shape story (NotSalt dev) =
-    Refuses old true shape (open_err.NotSalt dev) × (story ≡ []) × (IsTrue old.told → AreUnchanged old new)
-WasRefused old new shape story (OtherShape kept asked) =
-    Refuses old true shape (open_err.OtherShape kept asked) × (story ≡ []) × (IsTrue old.told → AreUnchanged old new)
-WasRefused old new shape story status = ⊤

@@ -1,20 +1,18 @@
 -- What the sink gains in a run of the workload.
-use Rattle.salt_io.specs.Streams.{Gains, GainsShort}
 use Rattle.salt_model.specs.Trace.{Trace, lines_of, story_of}
-use Rattle.salt_serving.specs.declared.status.Status.TheVariants.{Memory, WriteFault}
-use Rattle.salt_serving.specs.declared.status.Status.{Status}
+use Rattle.salt_promise.specs.Doing as promise
+use Rattle.salt_promise.specs.Ways.{way_of}
+use Rattle.salt_promise.specs.declared.status.Status.{Status}
 use Rattle.salt_summary.specs.Summary.{summary_text}
-use Rattle.std.specs.Prelude.{List, Option, length, ℕ, ◌≡◌}
+use Rattle.std.specs.Prelude.{List, Option, length, ℕ}
 
 -- the summary of a trace: of its story and its lines, also the one in which it ends
 abbrev pub summary_of : ℕ → Trace → List ℕ
 summary_of calls trace = summary_text calls (length (lines_of trace)) (story_of trace)
 
--- a part of the summary, where the sink failed; nothing, where memory ran out before; else all of it
+-- how much of it is written, as the table of statuses has it
 abbrev pub IsSummary : Status → List ℕ → Option (List ℕ) → Option (List ℕ) → Type 0
-IsSummary WriteFault summary before now = GainsShort before summary now
-IsSummary Memory summary before now = now ≡ before
-IsSummary status summary before now = Gains before summary now
+IsSummary status summary before now = promise.IsSummed (way_of status).text before summary now
 
 abbrev pub IsSummed : Status → ℕ → Trace → Option (List ℕ) → Option (List ℕ) → Type 0
 IsSummed status calls trace before now = IsSummary status (summary_of calls trace) before now

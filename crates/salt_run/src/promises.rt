@@ -3,7 +3,7 @@
 ghost use Rattle.salt_model.specs.Kept.{WellKept};
 ghost use Rattle.salt_model.specs.Played.{IsPlayed};
 ghost use Rattle.salt_model.specs.Trace.{Trace, start_of};
-ghost use Rattle.salt_run.specs.Promises.{Promises};
+ghost use Rattle.salt_promise.specs.Promises.{Promises};
 
 use salt_laws::{
     held_locks_stand_together, played_is_continued, played_is_declared, played_is_honest,

@@ -10,8 +10,8 @@ ghost use Rattle.salt_model.specs.Trace.{Trace, start_of};
 ghost use Rattle.salt_run.specs.Commands.{shape_of};
 ghost use Rattle.salt_run.specs.Doing.{streams};
 ghost use Rattle.salt_run.specs.Ending.{flight_at};
-ghost use Rattle.salt_run.specs.Promises.{Promises};
-ghost use Rattle.salt_run.specs.Running.{Runs, WasRefused};
+ghost use Rattle.salt_promise.specs.Promises.{Promises};
+ghost use Rattle.salt_run.specs.Running.{Runs};
 ghost use Rattle.salt_run.specs.Summing.{IsSummary};
 ghost use Rattle.salt_serving.specs.Counted.{AreFaultsOf, AreStopsOf};
 ghost use Rattle.salt_serving.specs.Stopping.{outcome};
@@ -85,7 +85,6 @@ pub fn run_script<S: Source, K: Sink, D: Disks, F: Fn(PlaceKind, &Key, u32) -> u
     ensures runs { Runs (Run parts) (D.view disks.old) (D.view disks.new) result.status result.flight
         (streams (S.left source.old) (S.left source.new) (K.held sink.old) (K.held sink.new)) result.story }
     ensures right { result.status ≢ Status.Usage }
-    ensures refused { WasRefused (D.view disks.old) (D.view disks.new) (shape_of (Run parts)) result.story result.status }
     ensures done { result.status ≡ Status.Done → IsAtEnd (S.left source.new) }
     ensures read_fault { result.status ≡ Status.ReadFault → Rose (S.faults source.old) (S.faults source.new) }
     ensures write_fault { result.status ≡ Status.WriteFault → Rose (K.faults sink.old) (K.faults sink.new) }
@@ -162,7 +161,6 @@ pub fn run_load<K: Sink, D: Disks, F: Fn(PlaceKind, &Key, u32) -> u32>(
         (streams left left (K.held sink.old) (K.held sink.new)) result.story }
     ensures right { result.status ≢ Status.Usage }
     ensures unread { result.status ≢ Status.ReadFault }
-    ensures refused { WasRefused (D.view disks.old) (D.view disks.new) (shape_of (Load calls)) result.story result.status }
     ensures write_fault { result.status ≡ Status.WriteFault → Rose (K.faults sink.old) (K.faults sink.new) }
     ensures no_write_fault { result.status ≢ Status.WriteFault → K.faults sink.new ≡ K.faults sink.old }
     ensures writes_later { K.faults sink.old ≤ K.faults sink.new }

@@ -5,7 +5,7 @@ use Rattle.salt_devices.specs.Standing.{StandsHeld}
 use Rattle.salt_devices.specs.declared.devices.Devices.{Devices}
 use Rattle.salt_engine.specs.Flights.{flight_of}
 use Rattle.salt_model.specs.Trace.{Start}
-use Rattle.salt_run.proofs.EngineEnds.{any-start, as-told, begins-over, behind-faults, behind-outcome, behind-refused, behind-stops, flight-none, found-counts, found-is, load-over, nothing, nothing-begun, over-refused, unfound-counts, unfound-load, unfound-status}
+use Rattle.salt_run.proofs.EngineEnds.{as-told, begins-over, behind-faults, behind-outcome, behind-stops, flight-none, found-counts, found-is, load-over, nothing, unfound-counts, unfound-load, unfound-status}
 use Rattle.salt_run.proofs.Replayed.{load-replays}
 use Rattle.salt_run.proofs.Staying.{stays-as, stays-from}
 use Rattle.salt_run.proofs.runs.run_load.Goals as goal
@@ -59,23 +59,6 @@ returns-in-Ok-clause-runs g c left =
     (found-is (Load c.args.calls) d z.started z.shape c.new-devices.ensures.started asked f.kept f.found) (outcome r.done) status
     (behind-outcome (outcome r.done) c.status_behind.result status c.status_behind.ensures c.write_summary-status.ensures.written) c.write_summary-status.ensures.summed (c.load-lines.ensures.ended start b.0 b.1)))
 
-pub returns-in-Ok-clause-refused : goal.returns-in-Ok-clause-refused
-returns-in-Ok-clause-refused g c =
-    let d = g.D.Disks.view c.args.disks.now in
-    let mid = g.D.Disks.view c.find.new.disks in
-    let e = g.D.Disks.view c.load-lines.new.disks in
-    let f = c.in-Ok.ensures.found in
-    let r = c.load-lines.result in
-    let status = c.write_summary-status.result in
-    let start : Start = record { kept = f.kept; can_stop = mid.can_stop } in
-    let new = c.new-opening.ensures.is_new f.kept f.is f.sound in
-    let opens = opened-first _ _ mid.can_stop _ _ _ _ f.kept new (subst (λ (x : Devices). StandsHeld x.shape x.started x.store x.numbers x.pending mid f.kept) (sym c.new-opening.ensures.storage) f.holding) f.sound in
-    let b = begins-over f.kept mid.can_stop _ _ c.find.new.story c.find.ensures.unfound f.sound opens (ap flight_of new.none) in
-    let ends = (c.load-lines.ensures.ended start b.0 b.1).1 in
-    behind-refused d e (shape_of (Load c.args.calls)) c.load-lines.new.story (outcome r.done) status
-    (behind-outcome (outcome r.done) c.status_behind.result status c.status_behind.ensures c.write_summary-status.ensures.written)
-    (over-refused d e (shape_of (Load c.args.calls)) c.load-lines.new.story ends.room ends.point (outcome r.done) ends.may)
-
 pub returns-in-Ok-clause-downs : goal.returns-in-Ok-clause-downs
 returns-in-Ok-clause-downs g c =
     let view = g.D.Disks.view in
@@ -117,22 +100,9 @@ returns-in-Err-clause-runs g c left =
     let how = behind-outcome old c.status_of.result status (c.status_of.ensures ∙ ap status_of c.stop_opening.ensures.is) c.write_summary.ensures.written in
     let run : (start : Start) → IsPlayedLoad start status None c.args.calls 0 c.find.new.story = λ start. unfound-load c.args.calls old status how start c.find.new.story (unfound-loaded c.in-Err.reason c.args.calls c.find.new.story c.find.ensures.unfound c.in-Err.ensures.err.empty start) in
     as-told (Load c.args.calls) d e s c.find.new.story status status None None refl (sym (flight-none status))
-    (inr (nothing (Load c.args.calls) d z.started z.shape c.new-devices.ensures.started (c.new-devices.ensures.shape ∙ c.shape_of.ensures) e y.shape y.started y.pending c.find.ensures.within.asked c.in-Err.ensures.able
+    (inr (nothing (Load c.args.calls) d z.started z.shape c.new-devices.ensures.started (c.new-devices.ensures.shape ∙ c.shape_of.ensures) e y.shape y.started c.find.ensures.within.asked c.in-Err.ensures.rests
     c.in-Err.reason c.find.new.story c.in-Err.ensures.err c.in-Err.ensures.unwritten status (flight_at status None) s (unfound-status c.in-Err.reason old status refl how) c.find.ensures.unfound
     (λ start well. load-replays c.requires.promised c.args.calls 0 status None s c.find.new.story start well (run start) c.write_summary.ensures.summed)))
-
-pub returns-in-Err-clause-refused : goal.returns-in-Err-clause-refused
-returns-in-Err-clause-refused g c =
-    let d = g.D.Disks.view c.args.disks.now in
-    let e = g.D.Disks.view c.find.new.disks in
-    let y = c.find.new.storage in
-    let z = c.new-devices.result in
-    let status = c.write_summary.result in
-    let old = status_opening c.in-Err.reason in
-    let how = behind-outcome old c.status_of.result status (c.status_of.ensures ∙ ap status_of c.stop_opening.ensures.is) c.write_summary.ensures.written in
-    let p = unfound-load c.args.calls old status how any-start c.find.new.story (unfound-loaded c.in-Err.reason c.args.calls c.find.new.story c.find.ensures.unfound c.in-Err.ensures.err.empty any-start) in
-    nothing-begun (Load c.args.calls) d z.started z.shape c.new-devices.ensures.started (c.new-devices.ensures.shape ∙ c.shape_of.ensures) e y.shape y.started y.pending c.find.ensures.within.asked c.in-Err.ensures.able
-    c.in-Err.reason c.find.new.story c.in-Err.ensures.err c.in-Err.ensures.unwritten status p.trace (unfound-status c.in-Err.reason old status refl how) p.tells.told p.leaves
 
 pub returns-in-Err-clause-downs : goal.returns-in-Err-clause-downs
 returns-in-Err-clause-downs g c =

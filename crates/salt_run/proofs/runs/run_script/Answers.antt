@@ -5,7 +5,7 @@ use Rattle.salt_devices.specs.Standing.{StandsHeld}
 use Rattle.salt_devices.specs.declared.devices.Devices.{Devices}
 use Rattle.salt_engine.specs.Flights.{flight_of}
 use Rattle.salt_model.specs.Trace.{Start}
-use Rattle.salt_run.proofs.EngineEnds.{any-start, as-told, begins-over, behind-faults, behind-stops, flight-none, found-counts, found-is, nothing, nothing-begun, over-refused, refused-as, script-over, unfound-counts}
+use Rattle.salt_run.proofs.EngineEnds.{as-told, begins-over, behind-faults, behind-stops, flight-none, found-counts, found-is, nothing, script-over, unfound-counts}
 use Rattle.salt_run.proofs.Replayed.{script-replays}
 use Rattle.salt_run.proofs.Staying.{stays-as, stays-from}
 use Rattle.salt_run.proofs.runs.run_script.Goals as goal
@@ -56,20 +56,6 @@ returns-in-Ok-clause-runs g c =
     c.args.parts (c.serve-done.ensures.within.asked ∙ (λ i. (c.new-opening.ensures.storage i).shape) ∙ c.find.ensures.within.asked ∙ asked)
     (found-is (Run c.args.parts) d z.started z.shape c.new-devices.ensures.started asked f.kept f.found) (outcome c.serve-done.result) (c.serve-done.ensures.ended start b.0 b.1)))
 
-pub returns-in-Ok-clause-refused : goal.returns-in-Ok-clause-refused
-returns-in-Ok-clause-refused g c =
-    let d = g.D.Disks.view c.args.disks.now in
-    let mid = g.D.Disks.view c.find.new.disks in
-    let e = g.D.Disks.view c.serve-done.new.disks in
-    let f = c.in-Ok.ensures.found in
-    let start : Start = record { kept = f.kept; can_stop = mid.can_stop } in
-    let new = c.new-opening.ensures.is_new f.kept f.is f.sound in
-    let opens = opened-first _ _ mid.can_stop _ _ _ _ f.kept new (subst (λ (x : Devices). StandsHeld x.shape x.started x.store x.numbers x.pending mid f.kept) (sym c.new-opening.ensures.storage) f.holding) f.sound in
-    let b = begins-over f.kept mid.can_stop _ _ c.find.new.story c.find.ensures.unfound f.sound opens (ap flight_of new.none) in
-    let ends = (c.serve-done.ensures.ended start b.0 b.1).1 in
-    refused-as d e (shape_of (Run c.args.parts)) c.serve-done.new.story (outcome c.serve-done.result) c.status_behind-status.result c.status_behind-status.ensures
-    (over-refused d e (shape_of (Run c.args.parts)) c.serve-done.new.story ends.room ends.point (outcome c.serve-done.result) ends.may)
-
 pub returns-in-Ok-clause-downs : goal.returns-in-Ok-clause-downs
 returns-in-Ok-clause-downs g c =
     let view = g.D.Disks.view in
@@ -106,21 +92,9 @@ returns-in-Err-clause-runs g c =
     let s = streams (g.S.Source.left c.args.source.now) (g.S.Source.left c.args.source.now) (g.K.Sink.held c.args.sink.now) (g.K.Sink.held c.tell_unfound.new.sink) in
     let now = outcome c.tell_unfound.result in
     as-told (Run c.args.parts) d e s c.find.new.story now status None None c.status_behind.ensures (sym (flight-none status))
-    (inr (nothing (Run c.args.parts) d z.started z.shape c.new-devices.ensures.started (c.new-devices.ensures.shape ∙ c.shape_of.ensures) e y.shape y.started y.pending c.find.ensures.within.asked c.in-Err.ensures.able
+    (inr (nothing (Run c.args.parts) d z.started z.shape c.new-devices.ensures.started (c.new-devices.ensures.shape ∙ c.shape_of.ensures) e y.shape y.started c.find.ensures.within.asked c.in-Err.ensures.rests
     c.in-Err.reason c.find.new.story c.in-Err.ensures.err c.in-Err.ensures.unwritten now (flight_at now None) s c.tell_unfound.ensures.is c.find.ensures.unfound
     (λ start well. script-replays c.requires.promised c.args.parts now None s c.find.new.story start well (c.tell_unfound.ensures.run start (g.S.Source.left c.args.source.now) (g.S.Source.left c.args.source.now)))))
-
-pub returns-in-Err-clause-refused : goal.returns-in-Err-clause-refused
-returns-in-Err-clause-refused g c =
-    let d = g.D.Disks.view c.args.disks.now in
-    let e = g.D.Disks.view c.find.new.disks in
-    let y = c.find.new.storage in
-    let z = c.new-devices.result in
-    let now = outcome c.tell_unfound.result in
-    let p = (c.tell_unfound.ensures.run any-start (g.S.Source.left c.args.source.now) (g.S.Source.left c.args.source.now)).played in
-    refused-as d e (shape_of (Run c.args.parts)) c.find.new.story now c.status_behind.result c.status_behind.ensures
-    (nothing-begun (Run c.args.parts) d z.started z.shape c.new-devices.ensures.started (c.new-devices.ensures.shape ∙ c.shape_of.ensures) e y.shape y.started y.pending c.find.ensures.within.asked c.in-Err.ensures.able
-    c.in-Err.reason c.find.new.story c.in-Err.ensures.err c.in-Err.ensures.unwritten now p.trace c.tell_unfound.ensures.is p.tells.told p.leaves)
 
 pub returns-in-Err-clause-downs : goal.returns-in-Err-clause-downs
 returns-in-Err-clause-downs g c =

@@ -1,0 +1,142 @@
+-- Where a device is full: what is written next, told by the trace.
+use Rattle.salt_bytes.specs.Coordinator.{CoordinatorEntry, spell_header}
+use Rattle.salt_bytes.specs.Partition.{spell_partition_header}
+use Rattle.salt_commit.proofs.Shared.{mask_bit, share_is}
+use Rattle.salt_commit.specs.Openings.{PartPassesLimit, StorePassesLimit}
+use Rattle.salt_commit.specs.Shares.{has_changes, mask_of, shares_of}
+use Rattle.salt_decisions.specs.Opened.{FullAtFirst, first_payload}
+use Rattle.salt_devices.specs.Filling as filling
+use Rattle.salt_devices.specs.Filling.{Fills}
+use Rattle.salt_disk.specs.Disks.{View}
+use Rattle.salt_disk.specs.declared.disks.DiskErr.TheVariants.{Full}
+use Rattle.salt_keeps.proofs.KeptAfter.{kept-says, open-listed}
+use Rattle.salt_keeps.specs.OpenUnits.{UnitState, unit_named}
+use Rattle.salt_keeps.specs.Points.{KeepsPoint, Point}
+use Rattle.salt_laws.proofs.Coming.{Good}
+use Rattle.salt_laws.proofs.Due.{nothing-fallen}
+use Rattle.salt_laws.proofs.Every.{IfSome}
+use Rattle.salt_laws.proofs.Replays.{Ground, replays}
+use Rattle.salt_model.specs.Kept.{Kept}
+use Rattle.salt_model.specs.Next.{next}
+use Rattle.salt_model.specs.Phases.{Fallen, Phase, phase}
+use Rattle.salt_model.specs.Played.{IsPlayed}
+use Rattle.salt_model.specs.Trace.{Trace}
+use Rattle.salt_model.specs.Words.{is_empty}
+use Rattle.salt_model.specs.declared.events.End.TheVariants.{Branched, Committed}
+use Rattle.salt_model.specs.declared.events.End.{End}
+use Rattle.salt_model.specs.declared.events.Event.TheVariants.{Defined, Ended}
+use Rattle.salt_model.specs.declared.events.Event.{Event}
+use Rattle.salt_promise.specs.Filling.{DecisionFills, FirstFills, NewPairFills, NextFills, changes_of, coordinator_format, next_boot, next_decision, next_definition, partition_format}
+use Rattle.salt_promise.specs.Filling as promise
+use Rattle.salt_run.specs.Ending.{IsFullBehind}
+use Rattle.salt_serving.specs.Ending.{MayBeWritten}
+use Rattle.salt_stands.specs.CoordinatorLog.{CoordinatorLog}
+use Rattle.salt_stands.specs.FirstOpening.{IsCreated, first_header, first_part_header}
+use Rattle.salt_stands.specs.OpenConts.{make_move}
+use Rattle.salt_stands.specs.Partition.{part_device}
+use Rattle.salt_stands.specs.Placed.{changes_at}
+use Rattle.salt_stands.specs.Words.{has_bit}
+use Rattle.salt_steps.specs.Writing.{IsUnitWritten, IsWrittenBy, change_of, changes_decided}
+use Rattle.salt_storage.specs.Writing.{OfUnit, Written}
+use Rattle.salt_values.specs.declared.change.Change.{Change}
+use Rattle.salt_values.specs.declared.id.Id.{Id}
+use Rattle.salt_values.specs.declared.placement.Shape.{Shape}
+use Rattle.std.proofs.Common.{ap, inl, inr, subst, sym, ◌∙◌}
+use Rattle.std.specs.Prelude.{List, None, Option, Some, [], false, length, map, not, refl, true, ℕ, ◌+◌, ◌<◌, ◌∷◌, ◌≡◌, ◌⊎◌}
+
+-- WHICH SHARES have changes
+
+has-not-empty : (cs : List Change) → has_changes cs ≡ not (is_empty cs)
+has-not-empty [] = refl
+has-not-empty (c ∷ cs) = refl
+
+not-empty : (cs : List Change) → has_changes cs ≡ true → is_empty cs ≡ false
+not-empty [] h = absurd (cc h)
+not-empty (c ∷ cs) h = refl
+
+bits-of : (shape : Shape) (cs : List Change) (p : ℕ) → p < shape.parts → has_bit (mask_of (shares_of shape cs)) p ≡ not (is_empty (changes_at shape p cs))
+bits-of shape cs p low = mask_bit (shares_of shape cs) p ∙ ap has_changes (share_is shape cs p low) ∙ has-not-empty (changes_at shape p cs)
+
+-- WHAT WOULD PASS A LIMIT
+
+module _ (d : View) (shape : Shape) (dev : ℕ) where
+  entry-fills : (entry : CoordinatorLog → CoordinatorEntry) → filling.EntryFills d entry dev → promise.EntryFills d entry dev
+  entry-fills entry f = record { which = f.which; log = f.log; counts = f.counts; device = f.device; over = record { entries = f.over.entries; reads = f.over.reads; over = f.over.over } }
+
+  share-fills : (u : Id) (cs : List Change) → filling.ShareFills d shape u cs dev → promise.ShareFills d shape u cs dev
+  share-fills u cs f = record {
+    p = f.p;
+    low = f.low;
+    which = f.which;
+    log = f.log;
+    counts = f.counts;
+    device = f.device;
+    changed = not-empty (changes_at shape f.p cs) f.changed;
+    over = record { entries = f.over.entries; reads = f.over.reads; over = f.over.over };
+  }
+
+  no-share : (u : Id) → promise.ShareFills d shape u [] dev → ⊥
+  no-share u f = let changed : true ≡ false = f.changed in cc changed
+
+  -- a first opening
+  pub first-fills : StorePassesLimit d shape dev → FirstFills d shape dev
+  first-fills f = record { blank = f.blank; fills = elim f.passes [ inl c ↦ inr (own c) | inr p ↦ inl (p.p, p.low, part p) ] }
+    where
+      own : FullAtFirst d (first_payload shape) (Some (Full dev)) → NewPairFills d 0 (spell_header (first_header shape coordinator_format)) dev
+      own (inl b) = inl (b.0, subst (λ (n : ℕ). IsCreated (d.bytes n)) (sym b.0) b.1, subst (λ (n : ℕ). d.limit n < 1) (sym b.0) b.2)
+      own (inr a) = inr (a.0, subst (λ (n : ℕ). d.limit n < 10 + length (first_payload shape)) (sym a.0) a.1)
+
+      part : (p : PartPassesLimit d shape.parts dev) → NewPairFills d (part_device p.p) (spell_partition_header (first_part_header partition_format p.p)) dev
+      part p = elim p.passes [ inl a ↦ inr a | inr b ↦ inl b ]
+
+  -- WHAT COMES NEXT
+
+  module _ (trace : Trace) (played : IsPlayed trace) (p : Point) (keeps : KeepsPoint p trace) where
+    abbrev s : UnitState
+    s = p.state.units
+
+    ground : Ground trace
+    ground = (replays trace played).base
+
+    -- what a commit decides is what its statements changed
+    committed : (u : Id) (n : ℕ) → Good trace (Ended u (Committed n)) → changes_decided (Committed n) (unit_named u s.units) ≡ changes_of u trace
+    committed u n good =
+        let r = open-listed s trace u ground keeps.state.units good.0 in
+        ap (changes_decided (Committed n)) r.1 ∙ ap (map change_of) (sym r.3.changes) ∙ ap (λ (v : Id). changes_of v trace) r.2
+
+    decision : (u : Id) (end : End) (cs : List Change) → Good trace (Ended u end) → (w : Written) → Fills d shape w dev → IsUnitWritten s u end w → changes_decided end (unit_named u s.units) ≡ cs →
+        promise.ShareFills d shape u cs dev ⊎ DecisionFills d shape trace (Ended u end) u cs dev
+    decision u end cs good w fills x same = elim written [ inl f ↦ inr (decides f) | inr f ↦ inl (share-fills u cs f) ]
+      where
+        written : filling.EntryFills d (filling.next_decision shape u cs x.made) dev ⊎ filling.ShareFills d shape u cs dev
+        written = subst (λ (l : List Change). Fills d shape (OfUnit u l x.made) dev) same (subst (λ (v : Written). Fills d shape v dev) x.writes fills)
+
+        decides : filling.EntryFills d (filling.next_decision shape u cs x.made) dev → DecisionFills d shape trace (Ended u end) u cs dev
+        decides f = record {
+          mask = mask_of (shares_of shape cs);
+          bits = bits-of shape cs;
+          move = x.made;
+          moves =
+              ap (λ (k : Kept). make_move k.conts x.made) keeps.state.units.kept ∙ x.moves
+              ∙ ap (λ (k : Kept). Some k.conts) (sym (kept-says s trace (Ended u end) ground good keeps.state.units));
+          fills = entry-fills (next_decision u (mask_of (shares_of shape cs)) x.made) f;
+        }
+
+    told-next : (ph : Phase) → phase trace ≡ ph → (o : Option Event) → next trace ≡ o → IfSome (Good trace) o → (w : Written) → IsWrittenBy s o w → Fills d shape w dev → NextFills d shape trace ph o dev
+    told-next Fallen is None comes good w h fills = absurd h
+    told-next Fallen is (Some e) comes good w h fills = let both : None ≡ Some e = sym (nothing-fallen trace played is) ∙ comes in absurd (cc both)
+    told-next ph is (Some (Ended u (Committed n))) comes good w h fills = decision u (Committed n) (changes_of u trace) good w fills h (committed u n good)
+    told-next ph is (Some (Ended u (Branched n cause))) comes good w h fills = elim (decision u (Branched n cause) [] good w fills h refl) [ inl f ↦ absurd (no-share u f) | inr f ↦ f ]
+    told-next ph is (Some (Defined n text)) comes good w h fills = entry-fills (next_definition text) (subst (λ (v : Written). Fills d shape v dev) h fills)
+    told-next ph is o comes good w h fills = absurd h
+
+pub full-behind : (d : View) (shape : Shape) (trace : Trace) (dev : ℕ) → IsPlayed trace → IsFullBehind d shape trace dev → promise.IsFullBehind d shape trace dev
+full-behind d shape trace dev played f = by f.writes
+  where
+    by : MayBeWritten f.point f.next → promise.IsFullBehind d shape trace dev
+    by (inl h) =
+        told-next d shape dev trace played f.point f.keeps (phase trace) refl (next trace) refl (replays trace played).coming f.next
+        (subst (λ (o : Option Event). IsWrittenBy f.point.state.units o f.next) (sym f.keeps.next) h) f.fills
+    by (inr h) =
+        subst (λ (ph : Phase). NextFills d shape trace ph (next trace) dev) (sym (f.keeps.state.units.phase ∙ h.0))
+        (inr (entry-fills d shape dev next_boot (subst (λ (v : Written). Fills d shape v dev) h.1 f.fills)))
