@@ -2,11 +2,11 @@
 """Times logs and a partition on devices in memory: a million appends to logs of 1,000 to 1,000,000 entries, openings of logs of 1,000 to
 100,000, and a partition of 1,000 to 100,000 rows that is opened and read by key.
 
-The program `device_bench` does each so often that a run takes long enough; of openings and reads the time of a run that does none is taken
+The program `bench_devices` does each so often that a run takes long enough; of openings and reads the time of a run that does none is taken
 off. Ends with 1 where an append to the longest log, an entry of it, or a row of the largest partition costs more than so many times one of
 the smallest.
 
-    bench/devices.py [OTHER]     with the device_bench of another commit, the same by both, in turns
+    bench/devices.py [OTHER]     with the bench_devices of another commit, the same by both, in turns
 """
 import subprocess, sys
 
@@ -53,7 +53,7 @@ def each_of(name, program, what, thing, growth):
 
 def main():
     even = True
-    for name, program in compared("device_bench"):
+    for name, program in compared("bench_devices"):
         kept = [
             appends(name, program),
             each_of(name, program, "open", "entries", OPEN_GROWTH),

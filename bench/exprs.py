@@ -1,10 +1,10 @@
 #!/usr/bin/env python3
 """Times the proved evaluator: 100,000 rows through a filter of 1, 4 and 16 terms, whose names are found once for all rows.
 
-The program `eval_bench` makes the rows and goes over them so often; the time of a run that goes over them never is taken off. Ends with
+The program `bench_eval` makes the rows and goes over them so often; the time of a run that goes over them never is taken off. Ends with
 1 where the time for a row and a term grew by more than 1.1 from 4 terms to 16.
 
-    bench/exprs.py [OTHER]     with the eval_bench of another commit, the same filters by both, in turns
+    bench/exprs.py [OTHER]     with the bench_eval of another commit, the same filters by both, in turns
 """
 import subprocess, sys
 
@@ -42,7 +42,7 @@ def measured(program, terms, count):
 
 
 def main():
-    programs = compared("eval_bench")
+    programs = compared("bench_eval")
     grew = False
     for kind, terms in KINDS:
         for name, program in programs:

@@ -7,10 +7,10 @@
 - programs: 10 to 1,000 that read from each other in a chain, or all from one, from the first reading to the end of the last
 - waits: the victim of 63 units that wait each for the next, each for all later ones, and in one circle
 
-The program `keeps_bench` makes them and asks so often; for locks and waits the time of a run that asks never is taken off. Ends with 1
+The program `bench_keeps` makes them and asks so often; for locks and waits the time of a run that asks never is taken off. Ends with 1
 where an answer is wrong.
 
-    bench/keeps.py [OTHER]     with the keeps_bench of another commit, the same by both, in turns
+    bench/keeps.py [OTHER]     with the bench_keeps of another commit, the same by both, in turns
 """
 import subprocess, sys
 
@@ -61,7 +61,7 @@ def locks(programs, key, many):
 
 
 def main():
-    programs = compared("keeps_bench")
+    programs = compared("bench_keeps")
     for key in ["least", "greatest"]:
         for many in LOCKS:
             locks(programs, key, many)

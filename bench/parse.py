@@ -2,11 +2,11 @@
 """Times the proved parser: 100,000 statements of mixed kinds and 20,000 programs, one expression of 16, 32 and 64 terms, and lines of
 up to 65,536 bytes with one list each.
 
-The program `parse_bench` reads a statement or a program from each line. Beside it stands `explain` of the same statements in sqlite3,
+The program `bench_parse` reads a statement or a program from each line. Beside it stands `explain` of the same statements in sqlite3,
 which parses and plans them (`key` is the column `id` there, ENSURE a SELECT, and INTO is left out). Ends with 1 where the time for
 a term grew by more than 1.1 from 16 terms to 64, or that for a byte by more than 1.3 from a quarter of the longest line to the whole.
 
-    bench/parse.py [OTHER]     with the parse_bench of another commit, the same statements by both, in turns
+    bench/parse.py [OTHER]     with the bench_parse of another commit, the same statements by both, in turns
 """
 import random, shutil, subprocess, sys
 
@@ -21,7 +21,7 @@ LINE = 65_536
 LINES = 40
 BYTE_GROWTH = 1.3
 TURNS = 3
-PROGRAM = CRATES / "parse_bench/out/parse_bench"
+PROGRAM = CRATES / "bench_parse/out/bench_parse"
 
 FORMS = [
     "insert into t values ({0}, 'it''s', {1} + 2 * {0})",
@@ -103,7 +103,7 @@ def beside(other, lines):
 
 
 def main():
-    made("parse_bench")
+    made("bench_parse")
     mixed = statements()
     took = seconds([PROGRAM], script(mixed))
     print(f"salt     {STATEMENTS} statements {took:8.3f} s {STATEMENTS / took:10.0f} statements/s", flush=True)

@@ -1,15 +1,16 @@
 //! Salt's program: `salt run` reads a script from standard input and prints its story; `salt load N` does a workload and prints its summary.
 #![tactic(auto)]
 
-ghost use Rattle.salt_devices.specs.Settling.{AreSettled};
-ghost use Rattle.salt_values.specs.Placement.{IsParts, place_of};
+ghost use Rattle.salt_disk.specs.Settling.{AreSettled};
+ghost use Rattle.salt_place.specs.Placement.{IsParts, place_of};
 ghost use Rattle.std.specs.Prelude.{◌≡◌, ◌≤◌};
 
 use salt_disk::{Disks, MemDisks};
 use salt_files::FileDisks;
 use salt_io::{StdSink, StdSource};
 use salt_run::{Status, folder_of, run};
-use salt_values::{Key, PlaceKind, Placement, place_of};
+use salt_values::Key;
+use salt_place::{PlaceKind, Placement, place_of};
 use std::alloc::AllocError;
 use std::fs::File;
 use std::process::ExitCode;

@@ -1,14 +1,14 @@
 -- A unit of a later part is of the part at which its program stands.
 use Rattle.salt_books.specs.Books.{IsUnitAtPart}
-use Rattle.salt_keeps.specs.Keeps.{KeepsUnit, KeepsUnits}
-use Rattle.salt_keeps.specs.Laws.{IsSound}
-use Rattle.salt_keeps.specs.OpenUnits.{OpenUnit, UnitState, names_in, unit_named}
-use Rattle.salt_laws.proofs.Ids.{is_same_id-refl, is_same_id-true}
-use Rattle.salt_laws.proofs.Lists.{In, either, in-filter}
-use Rattle.salt_laws.proofs.NextFits.{Fits}
-use Rattle.salt_laws.proofs.Salted.{OfBoots, holds, may-fit}
-use Rattle.salt_laws.proofs.Sound.{Sound, cont-stays, of-program, open-back}
-use Rattle.salt_laws.proofs.WellKept.{of-start}
+use Rattle.law_states.specs.Keeps.{KeepsUnit, KeepsUnits}
+use Rattle.law_states.specs.Laws.{IsSound}
+use Rattle.law_states.specs.OpenUnits.{OpenUnit, UnitState, names_in, unit_named}
+use Rattle.law_story.proofs.Ids.{is_same_id-refl, is_same_id-true}
+use Rattle.law_story.proofs.Lists.{In, either, in-filter}
+use Rattle.law_story.proofs.NextFits.{Fits}
+use Rattle.law_story.proofs.Salted.{OfBoots, holds, may-fit}
+use Rattle.law_story.proofs.Sound.{Sound, cont-stays, of-program, open-back}
+use Rattle.law_story.proofs.WellKept.{of-start}
 use Rattle.salt_model.specs.After.{kept}
 use Rattle.salt_model.specs.Continuing.{part_due}
 use Rattle.salt_model.specs.Kept.{Kept, cont_of}
@@ -20,7 +20,7 @@ use Rattle.salt_model.specs.declared.events.Event.TheVariants.{Began, Ended}
 use Rattle.salt_model.specs.declared.events.Event.{Event}
 use Rattle.salt_model.specs.declared.events.UnitKind.TheVariants.{Acid, Call, First, Later}
 use Rattle.salt_model.specs.declared.events.UnitKind.{UnitKind}
-use Rattle.salt_known.specs.Moves.{IsAtPart}
+use Rattle.salt_books.specs.Moves.{IsAtPart}
 use Rattle.salt_values.specs.Id.{is_same_id}
 use Rattle.salt_values.specs.declared.cont.Cont.{Cont}
 use Rattle.salt_values.specs.declared.id.Id.{Id}

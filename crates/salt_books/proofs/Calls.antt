@@ -1,7 +1,7 @@
 -- Names of programs where one is dropped, and called anew.
 use Rattle.salt_books.specs.Called.{name_called}
 use Rattle.salt_books.specs.declared.called.Called.{Called}
-use Rattle.salt_laws.proofs.Ids.{is_same_id-true}
+use Rattle.law_story.proofs.Ids.{is_same_id-true}
 use Rattle.salt_values.specs.Id.{is_same_id}
 use Rattle.salt_values.specs.declared.id.Id.{Id}
 use Rattle.std.proofs.Common.{ap, subst, ◌∙◌}

@@ -1,15 +1,15 @@
 -- Open units may move their programs' continuations: those that are kept are accepted by decisions so far, and none is of a program in its first part.
 use Rattle.salt_books.proofs.AtParts.{found}
-use Rattle.salt_keeps.specs.Keeps.{KeepsUnit, KeepsUnits}
-use Rattle.salt_keeps.specs.Laws.{IsSound}
-use Rattle.salt_keeps.specs.OpenUnits.{OpenUnit, UnitState, names_in, unit_named}
-use Rattle.salt_known.specs.Moves.{CanMove, IsNew}
-use Rattle.salt_laws.proofs.Ids.{is_same_id-refl}
-use Rattle.salt_laws.proofs.Lists.{In, either, in-filter}
-use Rattle.salt_laws.proofs.NextFits.{Fits}
-use Rattle.salt_laws.proofs.Salted.{OfBoots, holds, may-fit}
-use Rattle.salt_laws.proofs.Sound.{Old, OldAt, Sound, cont-stays, due-in, of-program, old-not, open-back}
-use Rattle.salt_laws.proofs.WellKept.{kept-well, of-start}
+use Rattle.law_states.specs.Keeps.{KeepsUnit, KeepsUnits}
+use Rattle.law_states.specs.Laws.{IsSound}
+use Rattle.law_states.specs.OpenUnits.{OpenUnit, UnitState, names_in, unit_named}
+use Rattle.salt_books.specs.Moves.{CanMove, IsNew}
+use Rattle.law_story.proofs.Ids.{is_same_id-refl}
+use Rattle.law_story.proofs.Lists.{In, either, in-filter}
+use Rattle.law_story.proofs.NextFits.{Fits}
+use Rattle.law_story.proofs.Salted.{OfBoots, holds, may-fit}
+use Rattle.law_story.proofs.Sound.{Old, OldAt, Sound, cont-stays, due-in, of-program, old-not, open-back}
+use Rattle.law_story.proofs.WellKept.{kept-well, of-start}
 use Rattle.salt_model.specs.After.{kept}
 use Rattle.salt_model.specs.Kept.{Kept, Rise, cont_of}
 use Rattle.salt_model.specs.Phases.{Fallen, phase}

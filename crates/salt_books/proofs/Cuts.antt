@@ -2,10 +2,11 @@
 use Rattle.salt_books.specs.Books.{seen}
 use Rattle.salt_books.specs.declared.held.Held.{Held}
 use Rattle.salt_books.proofs.LookUps.{names-seen}
-use Rattle.salt_keeps.specs.OpenUnits.{names_in}
-use Rattle.salt_keeps.specs.Rising.{Rising}
-use Rattle.salt_laws.proofs.Every.{every-filter}
-use Rattle.salt_model.specs.Words.{Every, first_of_list, in_order, insert_id}
+use Rattle.law_states.specs.OpenUnits.{names_in}
+use Rattle.law_states.specs.Rising.{Rising}
+use Rattle.law_story.proofs.Every.{every-filter}
+use Rattle.salt_model.specs.Words.{Every, first_of_list}
+use Rattle.salt_values.specs.Id.{in_order, insert_id}
 use Rattle.salt_values.specs.Id.{is_older, is_same_id}
 use Rattle.salt_values.specs.declared.id.Id.{Id}
 use Rattle.std.proofs.Common.{ap, sym, ◌∙◌}

@@ -1,7 +1,7 @@
 -- An end of a unit that no decision makes leaves what is kept.
 use Rattle.salt_books.specs.Ends.{IsUndecided}
-use Rattle.salt_keeps.specs.OpenUnits.{OpenUnit}
-use Rattle.salt_keeps.specs.Steps.{kept_ended}
+use Rattle.law_states.specs.OpenUnits.{OpenUnit}
+use Rattle.law_states.specs.Steps.{kept_ended}
 use Rattle.salt_model.specs.Kept.{Kept}
 use Rattle.salt_model.specs.declared.events.End.TheVariants.{Branched, Committed, Cut, Failed, RolledBack, Victim}
 use Rattle.salt_model.specs.declared.events.End.{End}

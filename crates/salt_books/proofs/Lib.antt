@@ -3,9 +3,14 @@ pub mod Calls
 pub mod CanMoves
 pub mod Cuts
 pub mod Decided
+pub mod Defining
+pub mod Found
 pub mod Loaded
 pub mod LookUps
+pub mod Made
 pub mod Meant
+pub mod Moving
 pub mod Named
 pub mod OneHeld
 pub mod Phases
+pub mod Replaced

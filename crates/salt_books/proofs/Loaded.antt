@@ -1,6 +1,6 @@
 -- Rows that are loaded for a reach, under a unit's edits, are a view of the tables there.
 use Rattle.salt_books.specs.Books.{AreLoaded}
-use Rattle.salt_keeps.specs.Overlays.{AreInOrder, Edit, Views, with_edits}
+use Rattle.law_states.specs.Overlays.{AreInOrder, Edit, Views, with_edits}
 use Rattle.salt_model.specs.Tables.{Tables, is_within, row_at}
 use Rattle.salt_model.specs.declared.locks.Reach.{Reach}
 use Rattle.salt_model.specs.declared.places.Place.{Place}

@@ -1,9 +1,9 @@
 -- Units that are looked up among those that are held.
 use Rattle.salt_books.specs.Books.{seen}
 use Rattle.salt_books.specs.declared.held.Held.{Held}
-use Rattle.salt_keeps.specs.OpenUnits.{OpenUnit, names_in, unit_named}
-use Rattle.salt_keeps.specs.Readings.{first_parts}
-use Rattle.salt_laws.proofs.Ids.{is_same_id-true}
+use Rattle.law_states.specs.OpenUnits.{OpenUnit, names_in, unit_named}
+use Rattle.law_states.specs.Readings.{first_parts}
+use Rattle.law_story.proofs.Ids.{is_same_id-true}
 use Rattle.salt_model.specs.Units.{program_begun}
 use Rattle.salt_values.specs.Id.{is_same_id}
 use Rattle.salt_values.specs.declared.id.Id.{Id}

@@ -3,8 +3,8 @@ use Rattle.salt_books.proofs.Named.{is-some}
 use Rattle.salt_books.specs.Coming.{CanCome, event_meant}
 use Rattle.salt_books.specs.declared.coming.Coming.TheVariants as coming
 use Rattle.salt_books.specs.declared.coming.Coming.{Coming}
-use Rattle.salt_keeps.specs.OpenUnits.{OpenUnit, UnitState, unit_named}
-use Rattle.salt_keeps.specs.Told.{commits_in, does_in}
+use Rattle.law_states.specs.OpenUnits.{OpenUnit, UnitState, unit_named}
+use Rattle.law_states.specs.Told.{commits_in, does_in}
 use Rattle.salt_model.specs.declared.events.Event.{Event}
 use Rattle.std.specs.Option.{option_or}
 use Rattle.std.specs.Prelude.{IsSome, None, Option, Some, option_map, refl, ◌≡◌}

@@ -1,13 +1,13 @@
 -- Units that names find, and what a sound state gives of them.
 use Rattle.salt_books.specs.Ends.{done_of}
 use Rattle.salt_books.specs.Sound.{IsSoundState}
-use Rattle.salt_keeps.proofs.Rising.{names-rise}
-use Rattle.salt_keeps.specs.OpenUnits.{OpenUnit, UnitState, names_in, unit_named}
-use Rattle.salt_keeps.specs.Rising.{Rising}
-use Rattle.salt_keeps.specs.States.{State}
-use Rattle.salt_keeps.specs.Told.{fails_in, next_decision}
-use Rattle.salt_laws.proofs.Ids.{is_same_id-true}
-use Rattle.salt_laws.proofs.NextFits.{find-in}
+use Rattle.law_states.proofs.Rising.{names-rise}
+use Rattle.law_states.specs.OpenUnits.{OpenUnit, UnitState, names_in, unit_named}
+use Rattle.law_states.specs.Rising.{Rising}
+use Rattle.law_states.specs.States.{State}
+use Rattle.law_states.specs.Told.{fails_in, next_decision}
+use Rattle.law_story.proofs.Ids.{is_same_id-true}
+use Rattle.law_story.proofs.NextFits.{find-in}
 use Rattle.salt_model.specs.declared.events.Cause.{Cause}
 use Rattle.salt_model.specs.declared.events.End.TheVariants.{Branched}
 use Rattle.salt_model.specs.declared.events.Event.TheVariants.{Ended}

@@ -1,10 +1,10 @@
 -- The one unit of a name among those that are held: what changes there, and what is left without it.
 use Rattle.salt_books.specs.Books.{seen}
 use Rattle.salt_books.specs.declared.held.Held.{Held}
-use Rattle.salt_keeps.proofs.Held.{changed-one, left-one, seen-at, within}
-use Rattle.salt_keeps.proofs.Rising.{named-at}
-use Rattle.salt_keeps.specs.OpenUnits.{OpenUnit, change_unit, names_in, unit_named, without_unit}
-use Rattle.salt_keeps.specs.Rising.{Rising}
+use Rattle.law_states.proofs.Held.{changed-one, left-one, seen-at, within}
+use Rattle.law_states.proofs.Rising.{named-at}
+use Rattle.law_states.specs.OpenUnits.{OpenUnit, change_unit, names_in, unit_named, without_unit}
+use Rattle.law_states.specs.Rising.{Rising}
 use Rattle.salt_values.specs.declared.id.Id.{Id}
 use Rattle.std.proofs.Common.{ap, subst, sym, ◌∙◌}
 use Rattle.std.specs.List.{remove}

@@ -1,7 +1,7 @@
 -- Books see no phase: what they are of a state they are of it in each.
 use Rattle.salt_books.specs.Books.{AreBooks}
 use Rattle.salt_books.specs.declared.books.Books.{Books}
-use Rattle.salt_keeps.specs.OpenUnits.{UnitState}
+use Rattle.law_states.specs.OpenUnits.{UnitState}
 use Rattle.salt_model.specs.Phases.{Phase}
 
 pub in-each-phase : (x : Books) (s : UnitState) (p : Phase) → AreBooks x s → AreBooks x (record s { phase = p })

@@ -1,7 +1,7 @@
 -- What an open unit asks for.
 use Rattle.salt_books.specs.declared.asking.Asking.{Asking}
-use Rattle.salt_keeps.specs.OpenUnits.{OpenUnit, UnitState, asks_next, unit_named}
-use Rattle.salt_keeps.specs.UnitFacts.{reach_under}
+use Rattle.law_states.specs.OpenUnits.{OpenUnit, UnitState, asks_next, unit_named}
+use Rattle.law_states.specs.UnitFacts.{reach_under}
 use Rattle.salt_model.specs.Locks.{family_of}
 use Rattle.salt_model.specs.Units.{program_of_kind}
 use Rattle.salt_values.specs.declared.id.Id.{Id}

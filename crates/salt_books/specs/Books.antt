@@ -2,11 +2,11 @@
 use Rattle.salt_ast.specs.declared.trees.Statement.{Statement}
 use Rattle.salt_books.specs.declared.books.Books.{Books}
 use Rattle.salt_books.specs.declared.held.Held.{Held}
-use Rattle.salt_keeps.specs.OpenUnits.{OpenUnit, UnitState, belongs_to_program, belongs_to_session, unit_named}
-use Rattle.salt_keeps.specs.Overlays.{edits_of}
-use Rattle.salt_keeps.specs.Steps.{doing_one, outcome_under}
-use Rattle.salt_known.specs.Known.{IsKnown}
-use Rattle.salt_known.specs.Moves.{IsAtPart}
+use Rattle.law_states.specs.OpenUnits.{OpenUnit, UnitState, belongs_to_program, belongs_to_session, unit_named}
+use Rattle.law_states.specs.Overlays.{edits_of}
+use Rattle.law_states.specs.Steps.{doing_one, outcome_under}
+use Rattle.salt_books.specs.Known.{IsKnown}
+use Rattle.salt_books.specs.Moves.{IsAtPart}
 use Rattle.salt_model.specs.Kept.{Kept}
 use Rattle.salt_model.specs.Tables.{Tables, is_within, row_at}
 use Rattle.salt_model.specs.declared.events.Answer.{Answer}

@@ -2,8 +2,8 @@
 use Rattle.salt_books.specs.Asking.{IsAskedBy}
 use Rattle.salt_books.specs.declared.coming.Coming.TheVariants as coming
 use Rattle.salt_books.specs.declared.coming.Coming.{Coming}
-use Rattle.salt_keeps.specs.OpenUnits.{OpenUnit, UnitState, unit_named}
-use Rattle.salt_keeps.specs.Told.{commits_in, does_in, next_decision}
+use Rattle.law_states.specs.OpenUnits.{OpenUnit, UnitState, unit_named}
+use Rattle.law_states.specs.Told.{commits_in, does_in, next_decision}
 use Rattle.salt_model.specs.declared.events.End.TheVariants.{Branched}
 use Rattle.salt_model.specs.declared.events.Event.TheVariants.{Armed, Defined, Ended}
 use Rattle.salt_model.specs.declared.events.Event.{Event}

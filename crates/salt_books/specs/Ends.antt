@@ -1,6 +1,6 @@
 -- How units end.
-use Rattle.salt_keeps.specs.OpenUnits.{OpenUnit, UnitState}
-use Rattle.salt_keeps.specs.Told.{commits_in, fails_in, is_at_end_in}
+use Rattle.law_states.specs.OpenUnits.{OpenUnit, UnitState}
+use Rattle.law_states.specs.Told.{commits_in, fails_in, is_at_end_in}
 use Rattle.salt_model.specs.Kept.{block_of_kind}
 use Rattle.salt_model.specs.declared.events.Cause.{Cause}
 use Rattle.salt_model.specs.declared.events.End.{End}

@@ -1,6 +1,6 @@
 -- States of traces that are played.
-use Rattle.salt_keeps.specs.Laws.{IsSound}
-use Rattle.salt_keeps.specs.States.{Keeps, State}
+use Rattle.law_states.specs.Laws.{IsSound}
+use Rattle.law_states.specs.States.{Keeps, State}
 use Rattle.salt_model.specs.Trace.{Trace}
 
 -- it is that of a sound trace

@@ -1,6 +1,6 @@
 //! What an open unit asks for.
 
-ghost use Rattle.salt_keeps.specs.OpenUnits.{UnitState};
+ghost use Rattle.law_states.specs.OpenUnits.{UnitState};
 ghost use Rattle.std.specs.Prelude.{IfOk, ◌≡◌};
 
 use crate::books::Books;

@@ -1,10 +1,10 @@
 //! The books, and how units begin and wait.
 
 ghost use Rattle.salt_books.specs.Books.{AreBooks, HaveUnit, seen};
-ghost use Rattle.salt_keeps.specs.OpenUnits.{UnitState, names_in};
-ghost use Rattle.salt_keeps.specs.Rising.{Rising};
-ghost use Rattle.salt_keeps.specs.Steps.{units_after};
-ghost use Rattle.salt_keeps.specs.Told.{next_unit};
+ghost use Rattle.law_states.specs.OpenUnits.{UnitState, names_in};
+ghost use Rattle.law_states.specs.Rising.{Rising};
+ghost use Rattle.law_states.specs.Steps.{units_after};
+ghost use Rattle.law_states.specs.Told.{next_unit};
 ghost use Rattle.salt_model.specs.Kept.{Kept};
 ghost use Rattle.salt_model.specs.Turns.{is_statement_line};
 ghost use Rattle.salt_model.specs.Phases.{Phase};
@@ -13,7 +13,7 @@ ghost use Rattle.salt_model.specs.declared.events.Event.{Event};
 ghost use Rattle.salt_model.specs.declared.events.Owner.{Owner};
 ghost use Rattle.salt_ast.specs.declared.lines.Line.{Line};
 ghost use Rattle.salt_books.specs.declared.held.Held.{Held};
-ghost use Rattle.salt_known.specs.Known.{IsKnown};
+ghost use Rattle.salt_books.specs.Known.{IsKnown};
 ghost use Rattle.salt_values.specs.Id.{is_same_id};
 ghost use Rattle.std.specs.List.{position};
 ghost use Rattle.salt_values.specs.declared.id.Id.{Id};
@@ -21,8 +21,8 @@ ghost use Rattle.std.specs.Prelude.{IfOk, List, OnOk, [], get_or, length, â—Œ<â—
 
 use crate::held::{Held, count_bases};
 use salt_ast::Statement;
-use salt_ids::next_number;
-use salt_known::Known;
+use salt_values::next_number;
+use crate::known::Known;
 use salt_model::UnitKind;
 use salt_units::OpenUnit;
 use salt_values::Id;

@@ -1,12 +1,12 @@
 //! The names by which programs were called.
 
-ghost use Rattle.salt_model.specs.Words.{has_id};
+ghost use Rattle.salt_values.specs.Id.{has_id};
 ghost use Rattle.salt_values.specs.Id.{is_same_id};
 ghost use Rattle.std.specs.List.{filter};
 ghost use Rattle.std.specs.Option.{option_copied};
 ghost use Rattle.std.specs.Prelude.{None, OnOk, Some, if◌then◌else◌, not, ◌≡◌};
 
-use salt_ids::is_same_id;
+use salt_values::is_same_id;
 use salt_values::{Id, Name, TryCopy};
 use std::alloc::{AllocError, Global};
 

@@ -4,11 +4,11 @@ ghost use Rattle.salt_books.specs.Books.{AreBooks, AreLoaded, HaveUnit, IsUnitAt
 ghost use Rattle.salt_books.specs.Ends.{IsUndecided};
 ghost use Rattle.salt_eval.specs.Scans.{IsKeyed};
 ghost use Rattle.salt_eval.specs.Views.{tables_of};
-ghost use Rattle.salt_keeps.specs.OpenUnits.{OpenUnit, UnitState, names_in, unit_named};
-ghost use Rattle.salt_keeps.specs.Rising.{Rising};
-ghost use Rattle.salt_keeps.specs.Steps.{outcome_under, units_after};
-ghost use Rattle.salt_keeps.specs.Told.{next_decision};
-ghost use Rattle.salt_known.specs.Moves.{CanMove, MovesTo};
+ghost use Rattle.law_states.specs.OpenUnits.{OpenUnit, UnitState, names_in, unit_named};
+ghost use Rattle.law_states.specs.Rising.{Rising};
+ghost use Rattle.law_states.specs.Steps.{outcome_under, units_after};
+ghost use Rattle.law_states.specs.Told.{next_decision};
+ghost use Rattle.salt_books.specs.Moves.{CanMove, MovesTo};
 ghost use Rattle.salt_model.specs.Kept.{conts_branched, conts_committed, schema_of};
 ghost use Rattle.salt_model.specs.Reaches.{reach};
 ghost use Rattle.salt_model.specs.declared.events.Answer.{Answer};

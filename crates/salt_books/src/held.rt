@@ -2,7 +2,7 @@
 
 ghost use Rattle.salt_eval.specs.Scans.{IsKeyed};
 ghost use Rattle.salt_eval.specs.Views.{tables_of};
-ghost use Rattle.salt_keeps.specs.OpenUnits.{count_on};
+ghost use Rattle.law_states.specs.OpenUnits.{count_on};
 ghost use Rattle.salt_model.specs.Kept.{Kept, schema_of};
 ghost use Rattle.salt_model.specs.Reaches.{reach};
 ghost use Rattle.salt_model.specs.Units.{program_begun};
@@ -13,8 +13,8 @@ ghost use Rattle.std.specs.Prelude.{IfOk, if◌then◌else◌, is_some, nat_lt, 
 use crate::kinds::program_begun;
 use salt_ast::Statement;
 use salt_eval::{MapView, Tables, ViewErr};
-use salt_ids::{is_same_id, next_number};
-use salt_keeps::statements_are_done_under_edits;
+use salt_values::{is_same_id, next_number};
+use law_states::statements_are_done_under_edits;
 use salt_model::{Answer, UnitKind};
 use salt_schema::Schema;
 use salt_units::OpenUnit;

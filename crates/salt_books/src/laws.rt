@@ -1,10 +1,10 @@
 //! What a played trace gives of the state that the books tell.
 
 ghost use Rattle.salt_books.specs.Books.{IsUnitAtPart};
-ghost use Rattle.salt_keeps.specs.Keeps.{KeepsUnits};
-ghost use Rattle.salt_keeps.specs.Laws.{IsSound};
-ghost use Rattle.salt_keeps.specs.OpenUnits.{OpenUnit, UnitState, unit_named};
-ghost use Rattle.salt_known.specs.Moves.{CanMove};
+ghost use Rattle.law_states.specs.Keeps.{KeepsUnits};
+ghost use Rattle.law_states.specs.Laws.{IsSound};
+ghost use Rattle.law_states.specs.OpenUnits.{OpenUnit, UnitState, unit_named};
+ghost use Rattle.salt_books.specs.Moves.{CanMove};
 ghost use Rattle.salt_model.specs.Trace.{Trace};
 ghost use Rattle.salt_stands.specs.OpenConts.{do_rise};
 ghost use Rattle.salt_values.specs.declared.id.Id.{Id};

@@ -3,15 +3,22 @@
 #![tactic(auto)]
 
 mod asking;
+mod bindings;
+mod blocks;
 mod books;
 mod called;
 mod coming;
+mod conts;
 mod ends;
 mod held;
+mod ids;
 mod kinds;
+mod known;
 mod laws;
 mod looks;
+mod moves;
 mod openings;
+mod texts;
 mod turns;
 
 pub use asking::Asking;
@@ -20,4 +27,6 @@ pub use called::CalledNames;
 pub use coming::Coming;
 pub use held::Held;
 pub use kinds::{cause_of, family_of, program_begun, program_of};
+pub use known::{Defined, Known};
 pub use laws::{later_units_stand_at_their_parts, units_can_move};
+pub use texts::{program_text, table_text};

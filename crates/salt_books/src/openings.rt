@@ -2,10 +2,10 @@
 
 ghost use Rattle.salt_books.specs.Books.{AreBooks, seen};
 ghost use Rattle.salt_books.specs.declared.held.Held.{Held};
-ghost use Rattle.salt_keeps.specs.Follows.{cut_in};
-ghost use Rattle.salt_keeps.specs.OpenUnits.{UnitState, names_in};
-ghost use Rattle.salt_keeps.specs.Rising.{Rising};
-ghost use Rattle.salt_keeps.specs.Steps.{units_after};
+ghost use Rattle.law_states.specs.Follows.{cut_in};
+ghost use Rattle.law_states.specs.OpenUnits.{UnitState, names_in};
+ghost use Rattle.law_states.specs.Rising.{Rising};
+ghost use Rattle.law_states.specs.Steps.{units_after};
 ghost use Rattle.salt_model.specs.Words.{first_of_list};
 ghost use Rattle.salt_model.specs.declared.events.Event.{Event};
 ghost use Rattle.salt_model.specs.declared.events.Why.{Why};

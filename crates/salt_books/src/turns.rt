@@ -4,9 +4,9 @@ ghost use Rattle.salt_ast.specs.ProgramTexts.{program_text};
 ghost use Rattle.salt_ast.specs.Texts.{table_text};
 ghost use Rattle.salt_ast.specs.declared.lines.Line.TheVariants.{Program, Table};
 ghost use Rattle.salt_books.specs.Books.{AreBooks, seen};
-ghost use Rattle.salt_keeps.specs.OpenUnits.{UnitState};
-ghost use Rattle.salt_keeps.specs.Steps.{to_go_by, units_after, units_asked, units_turned};
-ghost use Rattle.salt_keeps.specs.Told.{can_go_in, is_not_waiting, next_decision, next_turn_in};
+ghost use Rattle.law_states.specs.OpenUnits.{UnitState};
+ghost use Rattle.law_states.specs.Steps.{to_go_by, units_after, units_asked, units_turned};
+ghost use Rattle.law_states.specs.Told.{can_go_in, is_not_waiting, next_decision, next_turn_in};
 ghost use Rattle.salt_model.specs.Trace.{Tree};
 ghost use Rattle.salt_model.specs.Turns.{ids_after};
 ghost use Rattle.salt_model.specs.declared.events.Event.{Event};
@@ -18,8 +18,8 @@ ghost use Rattle.std.specs.Prelude.{IfOk, None, OnOk, is_some, length, option_ma
 use crate::books::Books;
 use crate::held::Held;
 use salt_ast::{Line, ProgramDef, TableDef};
-use salt_ids::is_same_id;
-use salt_known::Defined;
+use salt_values::is_same_id;
+use crate::known::Defined;
 use salt_values::{Cont, Id};
 use std::alloc::{AllocError, Global};
 

@@ -15,8 +15,8 @@ use Rattle.salt_bytes.specs.Partition.{PartitionHeader, Prepared, partition_head
 use Rattle.salt_bytes.specs.Spellable.{Every, IsSpellableChange, IsSpellableCont, IsSpellableDecision, IsSpellableEntry, IsSpellableHeader, IsSpellableMove, IsSpellableNumbered, IsSpellablePartitionHeader, IsSpellablePrepared, IsSpellableTableRow, IsSpellableTo}
 use Rattle.salt_bytes.specs.Taking.{Take, take_byte, then_take}
 use Rattle.salt_bytes.specs.Values.{key_of, spell_row}
-use Rattle.salt_values.specs.declared.placement.PlaceKind.TheVariants.{Bands, Remainder}
-use Rattle.salt_values.specs.declared.placement.PlaceKind.{PlaceKind}
+use Rattle.salt_place.specs.declared.placement.PlaceKind.TheVariants.{Bands, Remainder}
+use Rattle.salt_place.specs.declared.placement.PlaceKind.{PlaceKind}
 use Rattle.std.proofs.Common.{Bool, List, false, length, refl, subst, ℕ, ◌≡◌, ◌++◌, ◌∷◌, ◌<◌, ◌^◌, Some, None, Option, codes}
 
 takes_text : (text : List ℕ) → length text < 2 ^ 64 → Takes take_text (spell_text text) text

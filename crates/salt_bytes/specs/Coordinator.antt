@@ -6,9 +6,9 @@ use Rattle.salt_bytes.specs.Ids.{spell_id, take_id}
 use Rattle.salt_bytes.specs.Numbers.{spell_64, spell_counted, take_64, take_counted}
 use Rattle.salt_bytes.specs.Taking.{Take, give, only_if, take_byte, take_bytes, then_take, whole}
 use Rattle.salt_values.specs.declared.id.Id.{Id}
-use Rattle.salt_values.specs.declared.placement.PlaceKind.TheVariants.{Bands, Remainder}
-use Rattle.salt_values.specs.declared.placement.PlaceKind.{PlaceKind}
-use Rattle.salt_values.specs.declared.placement.Shape.{Shape}
+use Rattle.salt_place.specs.declared.placement.PlaceKind.TheVariants.{Bands, Remainder}
+use Rattle.salt_place.specs.declared.placement.PlaceKind.{PlaceKind}
+use Rattle.salt_place.specs.declared.placement.Shape.{Shape}
 use Rattle.std.specs.Prelude.{Bool, List, None, Option, Some, [], codes, length, nat_le, nat_lt, suc, zero, ℕ, ◌&&◌, ◌++◌, ◌==◌, ◌^◌, ◌∷◌}
 
 -- bytes behind their length

@@ -9,7 +9,7 @@ use Rattle.salt_bytes.specs.Partition.{partition_header_in, prepared_in}
 use Rattle.salt_bytes.specs.Values.{spell_row, take_row}
 use Rattle.salt_bytes.specs.declared.moves.Move.TheVariants.{Continue, Finish, Plain}
 use Rattle.salt_values.specs.declared.cont.Cont.{Cont}
-use Rattle.salt_values.specs.declared.placement.PlaceKind.TheVariants.{Bands}
+use Rattle.salt_place.specs.declared.placement.PlaceKind.TheVariants.{Bands}
 use Rattle.salt_values.specs.declared.value.Value.TheVariants.{Int, Null, Text}
 use Rattle.std.specs.Prelude.{List, None, Some, [], codes, false, negsuc, pos, refl, replicate, true, ℕ, ◌++◌, ◌-◌, ◌^◌, ◌∷◌, ◌≡◌}
 

@@ -1,2 +1,4 @@
-pub mod Taking
+pub mod Entries
+pub mod EntryTaking
 pub mod Moves
+pub mod Taking

@@ -32,11 +32,11 @@ use Rattle.salt_stands.specs.Pieces.{PartView, with_decision}
 use Rattle.salt_stands.specs.Placed.{changes_at}
 use Rattle.salt_stands.specs.Reading.{Reading}
 use Rattle.salt_stands.specs.Stands.{judged}
-use Rattle.salt_values.specs.Placement.{IsParts}
+use Rattle.salt_place.specs.Placement.{IsParts}
 use Rattle.salt_values.specs.declared.change.Change.{Change}
 use Rattle.salt_values.specs.declared.cont.Cont.{Cont}
 use Rattle.salt_values.specs.declared.id.Id.{Id}
-use Rattle.salt_values.specs.declared.placement.Shape.{Shape}
+use Rattle.salt_place.specs.declared.placement.Shape.{Shape}
 use Rattle.std.proofs.Common.{Err, IsTrue, List, None, Ok, Option, Result, Some, ap, arith, inl, inr, length, refl, subst, sym, true, ℕ, ◌*◌, ◌+◌, ◌<◌, ◌^◌, ◌≡◌, ◌≤◌, ◌∙◌}
 use Rattle.std.proofs.lemmas.Bool.Decides.{nat_tests}
 use Rattle.std.specs.Prelude.{nat_lt, slice_get}

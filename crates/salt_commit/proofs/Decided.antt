@@ -30,8 +30,8 @@ use Rattle.salt_stands.specs.Pieces.{HasOneMore, IsSameAt, PartStands, PartView,
 use Rattle.salt_stands.specs.Reading.{Reading}
 use Rattle.salt_stands.specs.Stands.{found_with, logs_of}
 use Rattle.salt_stands.specs.Words.{has_bit}
-use Rattle.salt_model.specs.Words.{has_id}
-use Rattle.salt_values.specs.Placement.{IsParts}
+use Rattle.salt_values.specs.Id.{has_id}
+use Rattle.salt_place.specs.Placement.{IsParts}
 use Rattle.salt_values.specs.declared.change.Change.{Change}
 use Rattle.salt_values.specs.declared.cont.Cont.{Cont}
 use Rattle.salt_values.specs.declared.id.Id.{Id}

@@ -8,7 +8,7 @@ use Rattle.salt_disk.specs.Disks.{View}
 use Rattle.salt_stands.proofs.Prepared.{sound_log}
 use Rattle.salt_stands.specs.FirstOpening.{first_coordinator, first_view}
 use Rattle.salt_stands.specs.Reading.{Reading}
-use Rattle.salt_values.specs.declared.placement.Shape.{Shape}
+use Rattle.salt_place.specs.declared.placement.Shape.{Shape}
 use Rattle.std.proofs.Common.{[], length, refl, ◌≡◌}
 
 -- a new coordinator and new partitions are a store

@@ -5,7 +5,7 @@ use Rattle.salt_ast.specs.declared.trees.Field.{Field}
 use Rattle.salt_ast.specs.declared.trees.TableDef.{TableDef}
 use Rattle.salt_commit.specs.Openings.{HasTables}
 use Rattle.salt_commit.specs.Stores.{reading}
-use Rattle.salt_definitions.specs.Fitting.{are_of_columns, at_place, is_key_of, is_of_column, is_row_of, passes_checks, tables_of}
+use Rattle.salt_stands.specs.Fitting.{are_of_columns, at_place, is_key_of, is_of_column, is_row_of, passes_checks, tables_of}
 use Rattle.salt_eval.specs.Meets as eval
 use Rattle.salt_eval.specs.Meets.{meets_found, meets_table}
 use Rattle.salt_model.specs.Kept.{Definition}
@@ -13,7 +13,7 @@ use Rattle.salt_model.specs.Tables.{changed_at}
 use Rattle.salt_stands.specs.Coordinator.{Coordinator}
 use Rattle.salt_stands.specs.Partition.{is_sound_change, is_sound_to, part_of_key}
 use Rattle.salt_values.specs.declared.change.Change.{Change}
-use Rattle.salt_values.specs.declared.placement.Shape.{Shape}
+use Rattle.salt_place.specs.declared.placement.Shape.{Shape}
 use Rattle.salt_values.specs.declared.value.Value.TheVariants.{Int, Null, Text}
 use Rattle.salt_values.specs.declared.value.Value.{Value}
 use Rattle.std.proofs.Common.{Bool, List, None, Option, Some, [], ap, arith, false, length, refl, slice_get, sym, true, ℕ, ◌≡◌, ◌∙◌, ◌∷◌}

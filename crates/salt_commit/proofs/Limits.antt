@@ -16,7 +16,7 @@ use Rattle.salt_stands.specs.Coordinator.{coordinator_pair}
 use Rattle.salt_stands.specs.FirstOpening.{first_part_header}
 use Rattle.salt_stands.specs.Partition.{part_device}
 use Rattle.salt_stands.specs.Stands.{logs_of}
-use Rattle.salt_values.specs.declared.placement.Shape.{Shape}
+use Rattle.salt_place.specs.declared.placement.Shape.{Shape}
 use Rattle.std.proofs.Common.{None, Option, Some, inl, inr, length, refl, ℕ, ◌+◌, ◌<◌, ◌≡◌}
 
 -- a log of a partition

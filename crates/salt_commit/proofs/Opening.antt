@@ -33,9 +33,9 @@ use Rattle.salt_stands.specs.Stands as opening
 use Rattle.salt_stands.specs.Stands.{Opening, Stands, are_spent, is_same_kind, is_same_shape, logs_of, of_coordinator, of_parts, opening_of, parts_at}
 use Rattle.salt_stands.specs.Words.{and_then, each_from, given, if_sound, or_fault}
 use Rattle.salt_values.specs.declared.cont.Cont.{Cont}
-use Rattle.salt_values.specs.declared.placement.PlaceKind.TheVariants.{Bands, Remainder}
-use Rattle.salt_values.specs.declared.placement.PlaceKind.{PlaceKind}
-use Rattle.salt_values.specs.declared.placement.Shape.{Shape}
+use Rattle.salt_place.specs.declared.placement.PlaceKind.TheVariants.{Bands, Remainder}
+use Rattle.salt_place.specs.declared.placement.PlaceKind.{PlaceKind}
+use Rattle.salt_place.specs.declared.placement.Shape.{Shape}
 use Rattle.std.proofs.Common.{Bool, Err, IsTrue, List, None, Ok, Option, Result, Some, [], ap, arith, false, inl, inr, refl, subst, sym, true, ℕ, ◌+◌, ◌<◌, ◌≡◌, ◌∙◌, ◌∷◌}
 use Rattle.std.proofs.lemmas.Bool.Decides.{Decides-eqb}
 use Rattle.std.specs.List.{list_all}
@@ -151,7 +151,7 @@ pub record Whose (told : Bool) (schema : List TableDef) (log : CoordinatorLog) :
   pub c : Coordinator Definition
   pub log_is : c.log ≡ log
   pub reads : IsTrue told → coordinator_of reading log ≡ Some c
-  pub tables : IsTrue told → Rattle.salt_definitions.specs.Fitting.tables_of c.definitions ≡ schema
+  pub tables : IsTrue told → Rattle.salt_stands.specs.Fitting.tables_of c.definitions ≡ schema
 
 pub whose : (told : Bool) (schema : List TableDef) (log : CoordinatorLog) → (IsTrue told → IsSchemaOf schema log) → Whose told schema log
 whose false schema log h = record { c = record { log = log; definitions = []; conts = [] }; log_is = refl; reads = λ t. absurd (cc t); tables = λ t. absurd (cc t) }

@@ -28,7 +28,7 @@ use Rattle.salt_stands.specs.PartitionLog.{PartitionLog}
 use Rattle.salt_stands.specs.Pieces.{IsSameAt, PartStands, PartView, other_log}
 use Rattle.salt_stands.specs.Reading.{Reading}
 use Rattle.salt_stands.specs.Stands.{logs_of}
-use Rattle.salt_values.specs.Placement.{IsParts}
+use Rattle.salt_place.specs.Placement.{IsParts}
 use Rattle.salt_values.specs.declared.change.Change.{Change}
 use Rattle.salt_values.specs.declared.cont.Cont.{Cont}
 use Rattle.salt_values.specs.declared.id.Id.{Id}

@@ -9,7 +9,7 @@ use Rattle.salt_commit.proofs.Standing.{if_some, stood}
 use Rattle.salt_commit.specs.Loads.{AreInPlace, IsRowAt, fits_place}
 use Rattle.salt_commit.specs.Stores.{IsStore, decided_by, reading}
 use Rattle.salt_commit.specs.declared.store.Store.{Store}
-use Rattle.salt_definitions.specs.Fitting.{tables_of}
+use Rattle.salt_stands.specs.Fitting.{tables_of}
 use Rattle.salt_disk.specs.Disks.{View}
 use Rattle.salt_eval.proofs.InOrder.{less_is, parted}
 use Rattle.salt_eval.specs.Meets.{meets_table}
@@ -28,7 +28,7 @@ use Rattle.salt_stands.specs.Partition.{part_of_key}
 use Rattle.salt_stands.specs.Pieces.{PartView, listed}
 use Rattle.salt_stands.specs.Stands.{logs_of}
 use Rattle.salt_stands.specs.Tables.{joined}
-use Rattle.salt_values.specs.declared.placement.Shape.{Shape}
+use Rattle.salt_place.specs.declared.placement.Shape.{Shape}
 use Rattle.salt_values.specs.declared.value.Value.{Value}
 use Rattle.std.proofs.Common.{Bool, IsTrue, List, None, Option, Some, [], ap, arith, false, inl, inr, refl, subst, sym, true, ℕ, ◌+◌, ◌<◌, ◌≡◌, ◌≤◌, ◌⊎◌, ◌∙◌, ◌∷◌}
 use Rattle.std.proofs.lemmas.Bool.Decides.{Decides-eqb}

@@ -5,11 +5,11 @@ use Rattle.salt_ast.specs.declared.trees.ColType.TheVariants as kind
 use Rattle.salt_ast.specs.declared.trees.TableDef.{TableDef}
 use Rattle.salt_bytes.specs.Coordinator.{NumberedText}
 use Rattle.salt_bytes.specs.Generations.{Counts, LogA, WhichLog}
-use Rattle.salt_canonical.specs.Texts.{definition_in}
+use Rattle.law_definitions.specs.Texts.{definition_in}
 use Rattle.salt_commit.specs.Openings.{IsSchemaWhere}
 use Rattle.salt_commit.specs.Stores.{IsStore, MayDefine, reading}
 use Rattle.salt_commit.specs.declared.store.Store.{Store}
-use Rattle.salt_definitions.specs.Fitting.{is_refused, tables_of}
+use Rattle.salt_stands.specs.Fitting.{is_refused, tables_of}
 use Rattle.salt_disk.specs.Disks.{View}
 use Rattle.salt_model.specs.Kept.{Definition, OfTable}
 use Rattle.salt_parse.specs.Lists.{following_at}
@@ -23,8 +23,8 @@ use Rattle.salt_stands.specs.Stands.{logs_of}
 use Rattle.salt_stands.specs.Words.{and_then, given}
 use Rattle.salt_tokens.specs.Scanning.{first_at, lex, quoted_at}
 use Rattle.salt_tokens.specs.Spelling.{keyword_of, sign_of}
-use Rattle.salt_values.specs.declared.placement.PlaceKind.TheVariants.{Remainder}
-use Rattle.salt_values.specs.declared.placement.Shape.{Shape}
+use Rattle.salt_place.specs.declared.placement.PlaceKind.TheVariants.{Remainder}
+use Rattle.salt_place.specs.declared.placement.Shape.{Shape}
 use Rattle.std.proofs.Common.{IsTrue, List, Some, [], ap, false, refl, subst, sym, ℕ, ◌++◌, ◌≡◌, ◌∙◌, ◌∷◌}
 use Rattle.std.specs.Prelude.{codes, not}
 

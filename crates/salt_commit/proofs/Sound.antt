@@ -7,14 +7,14 @@ use Rattle.salt_commit.proofs.Keyed.{store_keyed}
 use Rattle.salt_commit.proofs.Standing.{part_at}
 use Rattle.salt_commit.specs.Stores.{IsStore, decided_by, reading}
 use Rattle.salt_commit.specs.declared.store.Store.{Store}
-use Rattle.salt_definitions.specs.Fitting.{tables_of}
+use Rattle.salt_stands.specs.Fitting.{tables_of}
 use Rattle.salt_disk.specs.Disks.{View}
 use Rattle.salt_eval.proofs.Scanning.{first-found, rows_after-next}
 use Rattle.salt_eval.specs.Meets.{meets_table}
 use Rattle.salt_eval.specs.Views.{is_next, next_row, rows_after}
 use Rattle.salt_model.specs.Kept.{Definition}
 use Rattle.salt_model.specs.Tables.{Tables, changed_at, key_of, make_change, no_rows, place, place_cmp, row_at, with_changes}
-use Rattle.salt_model.specs.Words.{has_id}
+use Rattle.salt_values.specs.Id.{has_id}
 use Rattle.salt_model.specs.declared.places.Place.{Place}
 use Rattle.salt_ranges.specs.declared.range.KeyRange.{KeyRange}
 use Rattle.salt_stands.proofs.Booleans.{left, right}

@@ -20,8 +20,8 @@ use Rattle.salt_decisions.specs.Decisions.{IsBeforeOrWith, IsDecisions}
 use Rattle.salt_decisions.specs.declared.decisions.Decisions.{Decisions}
 use Rattle.salt_disk.specs.Disks.{EachImage, IsImage, IsSettled, IsUnchanged, KeepsBut, SameShape, View}
 use Rattle.salt_disk.specs.declared.disks.DiskErr.{DiskErr}
-use Rattle.salt_entries.proofs.Puttable.{read_again}
-use Rattle.salt_entries.specs.Entries.{IsTold}
+use Rattle.salt_codec.proofs.Puttable.{read_again}
+use Rattle.salt_codec.specs.Entries.{IsTold}
 use Rattle.salt_gatelog.proofs.Frame.{log_kept}
 use Rattle.salt_partition.specs.Partitions.{IsPartition, MayPrepare, prepared}
 use Rattle.salt_partition.specs.declared.partition.Partition.{Partition}
@@ -36,12 +36,12 @@ use Rattle.salt_stands.specs.Pieces.{IsSameAt, PartView, other_log}
 use Rattle.salt_stands.specs.Placed.{AreOfParts, changes_at, is_of_part}
 use Rattle.salt_stands.specs.Reading.{Reading}
 use Rattle.salt_stands.specs.Stands.{judged, logs_of}
-use Rattle.salt_values.proofs.Places.{place_of-below}
-use Rattle.salt_values.specs.Placement.{IsParts}
+use Rattle.salt_place.proofs.Places.{place_of-below}
+use Rattle.salt_place.specs.Placement.{IsParts}
 use Rattle.salt_values.specs.declared.change.Change.{Change}
 use Rattle.salt_values.specs.declared.cont.Cont.{Cont}
 use Rattle.salt_values.specs.declared.id.Id.{Id}
-use Rattle.salt_values.specs.declared.placement.Shape.{Shape}
+use Rattle.salt_place.specs.declared.placement.Shape.{Shape}
 use Rattle.std.proofs.Common.{IsTrue, List, Ok, Option, Some, [], ap, arith, false, inl, inr, length, refl, subst, sym, true, ℕ, ◌*◌, ◌+◌, ◌<◌, ◌^◌, ◌≡◌, ◌≢◌, ◌≤◌, ◌⊎◌, ◌∙◌, ◌∷◌}
 use Rattle.std.proofs.lemmas.Bool.Decides.{nat_tests}
 use Rattle.std.specs.List.{filter, list_all}

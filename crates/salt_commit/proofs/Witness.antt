@@ -29,8 +29,8 @@ use Rattle.salt_stands.specs.Partition.{part_tables}
 use Rattle.salt_stands.specs.PartitionLog.{own_log, partition_generation, partition_in}
 use Rattle.salt_stands.specs.Stands.{logs_of}
 use Rattle.salt_stands.specs.Words.{and_then}
-use Rattle.salt_values.specs.declared.placement.PlaceKind.TheVariants.{Remainder}
-use Rattle.salt_values.specs.declared.placement.Shape.{Shape}
+use Rattle.salt_place.specs.declared.placement.PlaceKind.TheVariants.{Remainder}
+use Rattle.salt_place.specs.declared.placement.Shape.{Shape}
 use Rattle.std.proofs.Common.{List, Some, [], ap, arith, false, refl, suc, true, zero, ℕ, ◌++◌, ◌≡◌, ◌∙◌, ◌∷◌}
 use Rattle.salt_model.specs.Tables.{with_changes}
 use Rattle.std.proofs.Common.{subst, sym}

@@ -12,9 +12,9 @@ use Rattle.salt_commit.specs.Stores.{IsStore, coordinator_device, coordinator_ga
 use Rattle.salt_commit.specs.declared.store.Store.{Store}
 use Rattle.salt_decisions.specs.Decisions as decisions
 use Rattle.salt_disk.specs.Disks.{View}
-use Rattle.salt_entries.specs.Entries.{IsPut}
+use Rattle.salt_codec.specs.Entries.{IsPut}
 use Rattle.salt_model.specs.Kept.{Definition}
-use Rattle.salt_model.specs.Words.{has_id}
+use Rattle.salt_values.specs.Id.{has_id}
 use Rattle.salt_stands.specs.Commits.{parts_of}
 use Rattle.salt_stands.specs.Coordinator.{Coordinator, is_sound_cont}
 use Rattle.salt_stands.specs.OpenConts.{conts_of_move, make_move}

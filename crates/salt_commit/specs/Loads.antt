@@ -1,6 +1,6 @@
 -- Rows that are loaded, and rows that were read.
 use Rattle.salt_ast.specs.declared.trees.TableDef.{TableDef}
-use Rattle.salt_definitions.specs.Fitting.{at_place, is_row_of}
+use Rattle.salt_stands.specs.Fitting.{at_place, is_row_of}
 use Rattle.salt_eval.specs.Meets.{meets_table}
 use Rattle.salt_eval.specs.Views.{tables_of}
 use Rattle.salt_model.specs.Kept.{Definition}
@@ -15,7 +15,7 @@ use Rattle.salt_stands.specs.Partition.{part_of_key}
 use Rattle.salt_stands.specs.Pieces.{PartView}
 use Rattle.salt_stands.specs.Placed.{IsPlaced}
 use Rattle.salt_stands.specs.Tables.{joined}
-use Rattle.salt_values.specs.declared.placement.Shape.{Shape}
+use Rattle.salt_place.specs.declared.placement.Shape.{Shape}
 use Rattle.salt_values.specs.declared.value.Value.{Value}
 use Rattle.std.specs.Prelude.{Bool, List, None, if◌then◌else◌, map, true, ℕ, ◌&&◌, ◌<◌, ◌==◌, ◌≡◌}
 

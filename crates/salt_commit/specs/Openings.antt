@@ -10,7 +10,7 @@ use Rattle.salt_decisions.specs.Opened.{FullAtFirst, IsOfCoordinator, first_payl
 use Rattle.salt_decisions.specs.declared.error.OpenErr.TheVariants.{Failed, Full, Memory, NotSalt, NumbersSpent, OtherShape, Stopped}
 use Rattle.salt_decisions.specs.declared.error.OpenErr.{OpenErr}
 use Rattle.salt_decisions.specs.declared.kept.Kept.{Kept}
-use Rattle.salt_definitions.specs.Fitting.{tables_of}
+use Rattle.salt_stands.specs.Fitting.{tables_of}
 use Rattle.salt_disk.specs.Disks.{IsSettled, View}
 use Rattle.salt_disk.specs.declared.disks.DiskErr.TheVariants as disk
 use Rattle.salt_model.specs.Kept.{Definition}
@@ -29,7 +29,7 @@ use Rattle.salt_stands.specs.Stands as opening
 use Rattle.salt_stands.specs.Stands.{Stands, are_spent, logs_of, opening_of}
 use Rattle.salt_stands.specs.Words.{has_bit}
 use Rattle.salt_values.specs.declared.id.Id.{Id}
-use Rattle.salt_values.specs.declared.placement.Shape.{Shape}
+use Rattle.salt_place.specs.declared.placement.Shape.{Shape}
 use Rattle.std.specs.Prelude.{Bool, Err, IsTrue, List, Ok, Some, [], false, if◌then◌else◌, length, nat_lt, true, ℕ, ⊤, ◌+◌, ◌<◌, ◌≡◌, ◌⊎◌, ◌∷◌, ◌||◌}
 
 -- there are devices for n partitions, and nothing is pending on any device

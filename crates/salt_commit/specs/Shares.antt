@@ -6,7 +6,7 @@ use Rattle.salt_stands.specs.Pieces.{PartView, listed, with_prepared_unit}
 use Rattle.salt_stands.specs.Placed.{changes_at}
 use Rattle.salt_values.specs.declared.change.Change.{Change}
 use Rattle.salt_values.specs.declared.id.Id.{Id}
-use Rattle.salt_values.specs.declared.placement.Shape.{Shape}
+use Rattle.salt_place.specs.declared.placement.Shape.{Shape}
 use Rattle.std.specs.Prelude.{Bool, List, [], false, if◌then◌else◌, suc, true, zero, ℕ, ◌*◌, ◌+◌, ◌++◌, ◌∷◌, ◌≡◌}
 
 -- the changes of each partition, in order of their numbers

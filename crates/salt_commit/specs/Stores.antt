@@ -1,11 +1,11 @@
 -- When a value is a store that stands on the devices, and what a definition needs to be added to it.
 use Rattle.salt_bytes.specs.Coordinator.{NumberedText}
 use Rattle.salt_bytes.specs.Generations.{WhichLog}
-use Rattle.salt_canonical.specs.Texts.{definition_in}
+use Rattle.law_definitions.specs.Texts.{definition_in}
 use Rattle.salt_commit.specs.declared.store.Store.{Store}
 use Rattle.salt_decisions.specs.Decisions as decisions
 use Rattle.salt_decisions.specs.Decisions.{IsDecisions}
-use Rattle.salt_definitions.specs.Fitting.{definitions_reading}
+use Rattle.salt_stands.specs.Fitting.{definitions_reading}
 use Rattle.salt_disk.specs.Disks.{IsImage, View}
 use Rattle.salt_model.specs.Kept.{Definition}
 use Rattle.salt_model.specs.Tables.{Entry, Tables, place, row_at, with_changes}
@@ -20,7 +20,7 @@ use Rattle.salt_stands.specs.Reading.{Reading}
 use Rattle.salt_stands.specs.Stands.{Found, judged}
 use Rattle.salt_values.specs.declared.change.Change.{Change}
 use Rattle.salt_values.specs.declared.id.Id.{Id}
-use Rattle.salt_values.specs.declared.placement.Shape.{Shape}
+use Rattle.salt_place.specs.declared.placement.Shape.{Shape}
 use Rattle.salt_values.specs.declared.value.Value.{Value}
 use Rattle.std.specs.Prelude.{Option, IfSome, IsTrue, List, Ok, Some, false, length, map, slice_get, true, ℕ, ◌+◌, ◌<◌, ◌≡◌, ◌⊎◌}
 

@@ -14,7 +14,7 @@ ghost use Rattle.salt_model.specs.Kept.{Definition};
 ghost use Rattle.salt_stands.specs.Commits.{found_after, found_of, parts_of, view_after};
 ghost use Rattle.salt_stands.specs.Coordinator.{Coordinator};
 ghost use Rattle.salt_stands.specs.Pieces.{PartView, with_decision};
-ghost use Rattle.salt_values.specs.Placement.{GivesPlaceOf, TakesEachKey};
+ghost use Rattle.salt_place.specs.Placement.{GivesPlaceOf, TakesEachKey};
 ghost use Rattle.salt_values.specs.declared.cont.Cont.{Cont};
 ghost use Rattle.std.specs.Prelude.{Err, IfOk, IsTrue, List, OnOk, ℕ, ◌+◌, ◌-◌, ◌<◌, ◌^◌, ◌≡◌, ◌≢◌};
 

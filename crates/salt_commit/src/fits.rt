@@ -3,7 +3,7 @@
 ghost use Rattle.salt_bytes.specs.Formats.{has_nulls};
 ghost use Rattle.salt_commit.specs.Openings.{HasTables};
 ghost use Rattle.salt_commit.specs.Stores.{reading};
-ghost use Rattle.salt_definitions.specs.Fitting.{is_key_of};
+ghost use Rattle.salt_stands.specs.Fitting.{is_key_of};
 ghost use Rattle.salt_disk.specs.Disks.{HasCause, KeepsAll, OnlyFails, UnlessDown};
 ghost use Rattle.salt_model.specs.Kept.{Definition};
 ghost use Rattle.salt_partition.specs.Partitions.{IsPartition, Stands};
@@ -11,7 +11,7 @@ ghost use Rattle.salt_stands.specs.Coordinator.{Coordinator};
 ghost use Rattle.salt_stands.specs.OpenedPart.{fits_definitions};
 ghost use Rattle.salt_stands.specs.Partition.{is_format_under, is_sound_change};
 ghost use Rattle.salt_stands.specs.Pieces.{PartView};
-ghost use Rattle.salt_values.specs.Placement.{GivesPlaceOf, IsParts, TakesEachKey};
+ghost use Rattle.salt_place.specs.Placement.{GivesPlaceOf, IsParts, TakesEachKey};
 ghost use Rattle.salt_values.specs.declared.id.Id.{Id};
 ghost use Rattle.std.specs.List.{list_all};
 ghost use Rattle.std.specs.Prelude.{IfOk, IsTrue, List, nat_lt, slice_get, ℕ, ◌<◌, ◌≡◌, ◌||◌};

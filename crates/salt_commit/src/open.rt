@@ -9,7 +9,7 @@ ghost use Rattle.salt_disk.specs.Disks.{HasCause, IsImage, KeepsAll, KeepsBut};
 ghost use Rattle.salt_stands.specs.Coordinator.{coordinator_pair};
 ghost use Rattle.salt_stands.specs.FirstOpening.{first_view};
 ghost use Rattle.salt_stands.specs.Stands.{judged, logs_of, nothing_found};
-ghost use Rattle.salt_values.specs.Placement.{GivesPlaceOf, IsParts, TakesEachKey};
+ghost use Rattle.salt_place.specs.Placement.{GivesPlaceOf, IsParts, TakesEachKey};
 ghost use Rattle.std.specs.Prelude.{IfErr, IfOk, IsTrue, List, Ok, [], length, ℕ, ◌≡◌};
 ghost use Rattle.std.specs.Result.{result_err};
 

@@ -9,7 +9,7 @@ ghost use Rattle.salt_partition.specs.Openings.{OpensAs};
 ghost use Rattle.salt_stands.specs.Coordinator.{Coordinator, decided_for};
 ghost use Rattle.salt_stands.specs.CoordinatorLog.{CoordinatorLog};
 ghost use Rattle.salt_stands.specs.Partition.{pages_device, part_device};
-ghost use Rattle.salt_values.specs.Placement.{GivesPlaceOf, IsParts, TakesEachKey};
+ghost use Rattle.salt_place.specs.Placement.{GivesPlaceOf, IsParts, TakesEachKey};
 ghost use Rattle.std.specs.Prelude.{IfErr, IfOk, IsTrue, ◌+◌, ◌<◌};
 
 use crate::fits::{entries_fit, is_format_under};

@@ -4,11 +4,11 @@ ghost use Rattle.salt_bytes.specs.Generations.{WhichLog};
 ghost use Rattle.salt_commit.specs.Loads.{AreInPlace, fits_place};
 ghost use Rattle.salt_commit.specs.Stores.{IsStore, reading};
 ghost use Rattle.salt_decisions.specs.Decisions.{shape_of};
-ghost use Rattle.salt_definitions.specs.Fitting.{tables_of};
+ghost use Rattle.salt_stands.specs.Fitting.{tables_of};
 ghost use Rattle.salt_model.specs.Kept.{Definition};
 ghost use Rattle.salt_stands.specs.Coordinator.{Coordinator};
 ghost use Rattle.salt_stands.specs.Pieces.{PartView};
-ghost use Rattle.salt_values.specs.Placement.{GivesPlaceOf, IsParts, TakesEachKey};
+ghost use Rattle.salt_place.specs.Placement.{GivesPlaceOf, IsParts, TakesEachKey};
 ghost use Rattle.std.specs.List.{list_all};
 ghost use Rattle.std.specs.Prelude.{IfOk, IsTrue, true, ℕ, ◌≡◌};
 

@@ -5,7 +5,7 @@ ghost use Rattle.salt_commit.specs.Stores.{each_changed, rows_of_all, rows_of_st
 ghost use Rattle.salt_decisions.specs.Decisions.{shape_of};
 ghost use Rattle.salt_model.specs.Tables.{Tables, with_changes};
 ghost use Rattle.salt_partition.specs.Partitions.{rows_in};
-ghost use Rattle.salt_values.specs.Placement.{GivesPlaceOf, IsParts, TakesEachKey};
+ghost use Rattle.salt_place.specs.Placement.{GivesPlaceOf, IsParts, TakesEachKey};
 ghost use Rattle.std.specs.Prelude.{IfOk, IsTrue, length, map, ℕ, ◌↔◌, ◌≡◌};
 
 use crate::shares::shares_of;

@@ -3,7 +3,7 @@
 ghost use Rattle.salt_commit.specs.Shares.{mask_of, shares_of};
 ghost use Rattle.salt_stands.specs.Partition.{part_of_key};
 ghost use Rattle.salt_stands.specs.Placed.{changes_at};
-ghost use Rattle.salt_values.specs.Placement.{GivesPlaceOf, IsParts, TakesEachKey};
+ghost use Rattle.salt_place.specs.Placement.{GivesPlaceOf, IsParts, TakesEachKey};
 ghost use Rattle.std.specs.Prelude.{IfOk, length, ◌<◌, ◌^◌, ◌≡◌, ◌≤◌};
 
 use salt_partition::change_copied;

@@ -14,7 +14,7 @@ ghost use Rattle.std.specs.Prelude.{Err, IfOk, IsTrue, OnOk, length, ℕ, ◌+�
 
 use crate::error::StoreErr;
 use salt_decisions::Decisions;
-use salt_definitions::what_fits_still_fits;
+use salt_stands::what_fits_still_fits;
 use salt_disk::Disks;
 use salt_partition::Partition;
 use std::alloc::Global;

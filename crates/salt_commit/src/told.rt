@@ -1,7 +1,7 @@
 //! What each change in hand tells of itself.
 
 ghost use Rattle.salt_bytes.specs.Spellable.{Every};
-ghost use Rattle.salt_entries.specs.Entries.{IsTold};
+ghost use Rattle.salt_codec.specs.Entries.{IsTold};
 ghost use Rattle.salt_values.specs.Value.{IsValue};
 
 use salt_values::{Change, Value};

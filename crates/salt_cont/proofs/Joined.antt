@@ -5,7 +5,7 @@ use Rattle.salt_ast.specs.declared.programs.Body.{Body}
 use Rattle.salt_ast.specs.declared.programs.ProgramDef.{ProgramDef}
 use Rattle.salt_cont.specs.Continued.{StandsAt, after_move}
 use Rattle.salt_cont.specs.Moves.{move_on, move_to, parts_if_defined, parts_named}
-use Rattle.salt_laws.proofs.Ids.{is_same_id-true}
+use Rattle.law_story.proofs.Ids.{is_same_id-true}
 use Rattle.salt_model.specs.Kept.{Kept, branch_of, change_cont, cont_in, cont_of, conts_branched, conts_committed, kept_program, moved, parts_of, programs_of, then_of, tries_left, values_kept, without_cont}
 use Rattle.salt_model.specs.declared.events.UnitKind.TheVariants.{Later}
 use Rattle.salt_model.specs.declared.vars.Binding.{Binding}

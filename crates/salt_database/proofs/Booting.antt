@@ -10,13 +10,13 @@ use Rattle.salt_engine.specs.Flights.{IsInFlight}
 use Rattle.salt_engine.specs.Standing.{KnowUnits}
 use Rattle.salt_engine.specs.declared.flights.InFlight.{InFlight}
 use Rattle.salt_engine.specs.declared.flights.InFlight.TheVariants as asked
-use Rattle.salt_keeps.specs.Follows.{opened_in}
-use Rattle.salt_keeps.specs.Keeps.{KeepsUnits}
-use Rattle.salt_keeps.specs.Laws.{IsSound}
-use Rattle.salt_keeps.specs.OpenUnits.{UnitState}
-use Rattle.salt_keeps.specs.States.{State}
-use Rattle.salt_keeps.specs.Steps.{units_after}
-use Rattle.salt_keeps.specs.Told.{commits_in, next_decision}
+use Rattle.law_states.specs.Follows.{opened_in}
+use Rattle.law_states.specs.Keeps.{KeepsUnits}
+use Rattle.law_states.specs.Laws.{IsSound}
+use Rattle.law_states.specs.OpenUnits.{UnitState}
+use Rattle.law_states.specs.States.{State}
+use Rattle.law_states.specs.Steps.{units_after}
+use Rattle.law_states.specs.Told.{commits_in, next_decision}
 use Rattle.salt_model.specs.Next.{decision_in}
 use Rattle.salt_model.specs.Phases.{Opening}
 use Rattle.salt_model.specs.Trace.{Trace, ◌says◌}
@@ -24,13 +24,13 @@ use Rattle.salt_model.specs.Turns.{is_statement_line}
 use Rattle.salt_model.specs.declared.events.End.TheVariants.{Cut}
 use Rattle.salt_model.specs.declared.events.Event.{Event}
 use Rattle.salt_model.specs.declared.events.Event.TheVariants.{Began, Defined, Ended, Opened, Ready, Released}
-use Rattle.salt_openings.proofs.Moving.{units-stand}
-use Rattle.salt_openings.proofs.Resting.{opening-comes}
-use Rattle.salt_recovery.proofs.Chosen.{gives-same}
-use Rattle.salt_recovery.specs.Follows.{rest_in}
-use Rattle.salt_recovery.specs.Recovering.{Gives, Stands}
-use Rattle.salt_recovery.specs.declared.recovery.Recovery.{Recovery}
-use Rattle.salt_sound.proofs.Starting.{kept-later}
+use Rattle.law_openings.proofs.Moving.{units-stand}
+use Rattle.law_openings.proofs.Resting.{opening-comes}
+use Rattle.salt_drain.proofs.Chosen.{gives-same}
+use Rattle.salt_drain.specs.Follows.{rest_in}
+use Rattle.salt_drain.specs.Recovering.{Gives, Stands}
+use Rattle.salt_drain.specs.declared.recovery.Recovery.{Recovery}
+use Rattle.law_decisions.proofs.Starting.{kept-later}
 use Rattle.salt_storage.specs.Storing.{IsSoundKept}
 use Rattle.salt_values.specs.declared.id.Id.{Id}
 use Rattle.std.proofs.Common.{ap, arith, inl, inr, subst, sym, ◌∙◌}

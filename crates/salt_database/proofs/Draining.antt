@@ -11,18 +11,18 @@ use Rattle.salt_ast.specs.declared.trees.Expr.{Expr}
 use Rattle.salt_ast.specs.declared.trees.TableDef.{TableDef}
 use Rattle.salt_cont.proofs.Defined.{of-named}
 use Rattle.salt_cont.specs.Moves.{LeadOn}
-use Rattle.salt_definitions.specs.Fitting.{is_cont_of, stands_at_part}
-use Rattle.salt_known.specs.Known.{AllLeadOn}
+use Rattle.salt_stands.specs.Fitting.{is_cont_of, stands_at_part}
+use Rattle.salt_books.specs.Known.{AllLeadOn}
 use Rattle.salt_model.specs.Kept.{Definition, Kept, OfProgram, OfTable, kept_program, parts_of, program_of_definition, programs_of, schema_of}
 use Rattle.salt_model.specs.Printable.{IsSpelledProgram}
 use Rattle.salt_model.specs.Words.{Every}
-use Rattle.salt_openings.specs.Draining.{CanDrain, LeadsOn, StandsAtPart}
+use Rattle.law_openings.specs.Draining.{CanDrain, LeadsOn, StandsAtPart}
 use Rattle.salt_program.specs.Refusals.{parts_in}
-use Rattle.salt_sound.proofs.Reading.{few-parts}
+use Rattle.law_decisions.proofs.Reading.{few-parts}
 use Rattle.salt_storage.specs.Storing.{IsSoundKept, IsSpelledDefinition}
 use Rattle.salt_tokens.specs.Symbols.{Symbols}
 use Rattle.salt_tokens.specs.declared.sign.Sign.{Sign}
-use Rattle.salt_types.specs.Typed.{IsContOf, IsProperProgram}
+use Rattle.law_types.specs.Typed.{IsContOf, IsProperProgram}
 use Rattle.salt_values.specs.declared.cont.Cont.{Cont}
 use Rattle.std.proofs.Common.{arith, subst}
 use Rattle.std.specs.List.{filter_map}

@@ -7,11 +7,11 @@ use Rattle.salt_engine.specs.Standing.{IsGoingStage, KnowsUnits, Lies, SeesIn, s
 use Rattle.salt_engine.specs.declared.flights.InFlight.{InFlight}
 use Rattle.salt_engine.specs.declared.stage.Stage.{Stage}
 use Rattle.salt_engine.specs.declared.stage.Stage.TheVariants as at
-use Rattle.salt_keeps.specs.OpenUnits.{UnitState}
-use Rattle.salt_keeps.specs.Points.{Point}
-use Rattle.salt_keeps.specs.States.{State}
+use Rattle.law_states.specs.OpenUnits.{UnitState}
+use Rattle.law_states.specs.Points.{Point}
+use Rattle.law_states.specs.States.{State}
 use Rattle.salt_model.specs.Kept.{Kept, schema_of}
-use Rattle.salt_recovery.specs.declared.recovery.Recovery.{Recovery}
+use Rattle.salt_drain.specs.declared.recovery.Recovery.{Recovery}
 use Rattle.salt_scheduler.specs.declared.scheduler.Scheduler.{Scheduler}
 use Rattle.salt_storage.specs.declared.found.Numbers.{Numbers}
 use Rattle.salt_values.specs.declared.id.Id.{Id}

@@ -4,12 +4,12 @@ use Rattle.salt_engine.specs.Flights.{IsInFlight}
 use Rattle.salt_engine.specs.Stored.{IsLeft, MayBeOther, kept_behind, raised}
 use Rattle.salt_engine.specs.declared.flights.InFlight.{InFlight}
 use Rattle.salt_engine.specs.declared.flights.InFlight.TheVariants as asked
-use Rattle.salt_keeps.specs.Laws.{IsSound}
-use Rattle.salt_keeps.specs.OpenUnits.{OpenUnit, UnitState, unit_named}
-use Rattle.salt_keeps.specs.Points.{KeepsPoint, Point}
-use Rattle.salt_keeps.specs.Steps.{kept_ended, units_after}
-use Rattle.salt_keeps.specs.Told.{commits_in, next_decision}
-use Rattle.salt_keeps.specs.UnitFacts.{facts_in}
+use Rattle.law_states.specs.Laws.{IsSound}
+use Rattle.law_states.specs.OpenUnits.{OpenUnit, UnitState, unit_named}
+use Rattle.law_states.specs.Points.{KeepsPoint, Point}
+use Rattle.law_states.specs.Steps.{kept_ended, units_after}
+use Rattle.law_states.specs.Told.{commits_in, next_decision}
+use Rattle.law_states.specs.UnitFacts.{facts_in}
 use Rattle.salt_model.specs.Kept.{Kept}
 use Rattle.salt_model.specs.Next.{is_decision, next}
 use Rattle.salt_model.specs.Phases.{Fallen, downs}
@@ -20,13 +20,13 @@ use Rattle.salt_model.specs.declared.events.Event.{Event}
 use Rattle.salt_model.specs.declared.events.Event.TheVariants.{Down, Ended}
 use Rattle.salt_model.specs.declared.events.Why.{Why}
 use Rattle.salt_model.specs.declared.events.Why.TheVariants.{Stopped}
-use Rattle.salt_openings.proofs.Opening.{falls-again, none-to-go}
-use Rattle.salt_openings.specs.Openings.{FallsAgain}
-use Rattle.salt_sound.proofs.Flying.{fallen-same}
-use Rattle.salt_sound.proofs.Owning.{fallen-none}
-use Rattle.salt_steps.specs.Opening.{IsFallenFrom}
+use Rattle.law_openings.proofs.Opening.{falls-again, none-to-go}
+use Rattle.law_openings.specs.Openings.{FallsAgain}
+use Rattle.law_decisions.proofs.Flying.{fallen-same}
+use Rattle.law_decisions.proofs.Owning.{fallen-none}
+use Rattle.salt_driver.specs.Opening.{IsFallenFrom}
 use Rattle.salt_values.specs.declared.id.Id.{Id}
-use Rattle.salt_watch.proofs.Others.{others}
+use Rattle.salt_conflicts.proofs.Others.{others}
 use Rattle.std.proofs.Common.{ap, arith, inl, inr, sym, ◌∙◌}
 use Rattle.std.specs.Prelude.{None, Option, Some, refl, suc, true, zero, ℕ, ◌+◌, ◌≡◌, ◌⊎◌}
 

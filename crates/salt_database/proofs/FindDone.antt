@@ -10,9 +10,9 @@ use Rattle.salt_engine.specs.Stored.{IsAlone, IsLeft}
 use Rattle.salt_engine.specs.declared.flights.InFlight.{InFlight}
 use Rattle.salt_engine.specs.declared.stage.Stage.{Stage}
 use Rattle.salt_engine.specs.declared.stage.Stage.TheVariants as at
-use Rattle.salt_keeps.specs.Points.{Point}
+use Rattle.law_states.specs.Points.{Point}
 use Rattle.salt_model.specs.Kept.{Kept}
-use Rattle.salt_recovery.specs.declared.recovery.Recovery.{Recovery}
+use Rattle.salt_drain.specs.declared.recovery.Recovery.{Recovery}
 use Rattle.salt_storage.specs.Answers.{MayFail, numbers_told}
 use Rattle.salt_storage.specs.declared.found.Numbers.{Numbers}
 use Rattle.salt_storage.specs.declared.open.OpenErr.{OpenErr}

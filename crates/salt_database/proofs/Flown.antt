@@ -14,18 +14,18 @@ use Rattle.salt_engine.specs.Deciding.{branches_in}
 use Rattle.salt_engine.specs.Flights.{IsInFlight, IsProgramToCome, IsTableToCome}
 use Rattle.salt_engine.specs.declared.flights.InFlight.{InFlight}
 use Rattle.salt_engine.specs.declared.flights.InFlight.TheVariants as asked
-use Rattle.salt_keeps.specs.OpenUnits.{OpenUnit, UnitState, unit_named}
-use Rattle.salt_keeps.specs.States.{State}
-use Rattle.salt_keeps.specs.Told.{commits_in, next_decision}
-use Rattle.salt_known.specs.Moves.{CanMove}
+use Rattle.law_states.specs.OpenUnits.{OpenUnit, UnitState, unit_named}
+use Rattle.law_states.specs.States.{State}
+use Rattle.law_states.specs.Told.{commits_in, next_decision}
+use Rattle.salt_books.specs.Moves.{CanMove}
 use Rattle.salt_model.specs.Kept.{conts_branched, conts_committed}
 use Rattle.salt_model.specs.declared.events.Cause.{Cause}
 use Rattle.salt_model.specs.declared.events.Event.{Event}
 use Rattle.salt_model.specs.declared.events.Event.TheVariants.{Defined}
 use Rattle.salt_program.specs.Refusals.{program_refusal}
-use Rattle.salt_recovery.proofs.Chosen.{gives-same}
-use Rattle.salt_recovery.specs.Recovering.{Gives}
-use Rattle.salt_recovery.specs.declared.recovery.Recovery.{Recovery}
+use Rattle.salt_drain.proofs.Chosen.{gives-same}
+use Rattle.salt_drain.specs.Recovering.{Gives}
+use Rattle.salt_drain.specs.declared.recovery.Recovery.{Recovery}
 use Rattle.salt_schema.specs.Refusals.{table_refusal}
 use Rattle.salt_stands.specs.OpenConts.{make_move}
 use Rattle.salt_values.specs.declared.id.Id.{Id}

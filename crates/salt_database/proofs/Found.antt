@@ -7,11 +7,11 @@ use Rattle.salt_database.specs.Finding.{IsFoundAgain, IsTakenOn}
 use Rattle.salt_engine.specs.Stored.{IsEither}
 use Rattle.salt_engine.specs.declared.stage.Stage.{Stage}
 use Rattle.salt_engine.specs.declared.stage.Stage.TheVariants as at
-use Rattle.salt_known.specs.Known.{AllLeadOn, IsKnown}
-use Rattle.salt_known.specs.declared.known.Known.{Known}
+use Rattle.salt_books.specs.Known.{AllLeadOn, IsKnown}
+use Rattle.salt_books.specs.declared.known.Known.{Known}
 use Rattle.salt_model.specs.Kept.{Kept, programs_of, schema_of}
 use Rattle.salt_model.specs.Phases.{Phase}
-use Rattle.salt_recovery.specs.declared.recovery.Recovery.{Recovery}
+use Rattle.salt_drain.specs.declared.recovery.Recovery.{Recovery}
 use Rattle.salt_stands.specs.Stands.{are_spent}
 use Rattle.salt_storage.specs.Storing.{IsFound, IsSoundKept, Reopens}
 use Rattle.salt_storage.specs.declared.found.Found.{Found}

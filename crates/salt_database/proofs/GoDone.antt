@@ -14,21 +14,21 @@ use Rattle.salt_engine.specs.Stored.{Stored, kept_behind}
 use Rattle.salt_engine.specs.declared.flights.InFlight.{InFlight}
 use Rattle.salt_engine.specs.declared.stage.Stage.{Stage}
 use Rattle.salt_engine.specs.declared.stage.Stage.TheVariants as at
-use Rattle.salt_keeps.specs.OpenUnits.{UnitState}
-use Rattle.salt_keeps.specs.Points.{Moves, Point, Say}
-use Rattle.salt_keeps.specs.Readings.{Reading}
-use Rattle.salt_keeps.specs.States.{State}
+use Rattle.law_states.specs.OpenUnits.{UnitState}
+use Rattle.law_states.specs.Points.{Moves, Point, Say}
+use Rattle.law_states.specs.Readings.{Reading}
+use Rattle.law_states.specs.States.{State}
 use Rattle.salt_model.specs.Kept.{Kept}
 use Rattle.salt_model.specs.Next.{decision_in}
 use Rattle.salt_model.specs.Phases.{Fallen, Opening}
 use Rattle.salt_model.specs.Turns.{is_statement_line}
 use Rattle.salt_model.specs.declared.events.Event.{Event}
 use Rattle.salt_model.specs.declared.events.Event.TheVariants.{Ready}
-use Rattle.salt_openings.proofs.Opening.{ready-idle}
-use Rattle.salt_recovery.specs.Recovering.{HasDone}
-use Rattle.salt_recovery.specs.declared.recovery.Recovery.{Recovery}
-use Rattle.salt_steps.specs.Draining.{MayTick}
-use Rattle.salt_steps.specs.Standing.{BreaksAt, IsOpenedOn, IsSoundPoint}
+use Rattle.law_openings.proofs.Opening.{ready-idle}
+use Rattle.salt_drain.specs.Recovering.{HasDone}
+use Rattle.salt_drain.specs.declared.recovery.Recovery.{Recovery}
+use Rattle.salt_driver.specs.Draining.{MayTick}
+use Rattle.salt_driver.specs.Standing.{BreaksAt, IsOpenedOn, IsSoundPoint}
 use Rattle.salt_storage.specs.Storing.{IsSoundKept}
 use Rattle.salt_storage.specs.Writing.{Written}
 use Rattle.salt_storage.specs.declared.found.Numbers.{Numbers}

@@ -16,18 +16,18 @@ use Rattle.salt_engine.specs.declared.engine.Engine.{Engine}
 use Rattle.salt_engine.specs.declared.flights.InFlight.{InFlight}
 use Rattle.salt_engine.specs.declared.stage.Stage.{Stage}
 use Rattle.salt_engine.specs.declared.stage.Stage.TheVariants as at
-use Rattle.salt_keeps.specs.Points.{Point}
-use Rattle.salt_keeps.specs.States.{State}
+use Rattle.law_states.specs.Points.{Point}
+use Rattle.law_states.specs.States.{State}
 use Rattle.salt_model.specs.Kept.{Kept}
 use Rattle.salt_model.specs.declared.events.Event.{Event}
-use Rattle.salt_recovery.specs.declared.recovery.Recovery.{Recovery}
+use Rattle.salt_drain.specs.declared.recovery.Recovery.{Recovery}
 use Rattle.salt_scheduler.specs.declared.scheduler.Scheduler.{Scheduler}
-use Rattle.salt_steps.specs.Opening.{OpensAt}
-use Rattle.salt_steps.specs.Standing.{IsAt, IsIdleAt, IsOpeningAt}
+use Rattle.salt_driver.specs.Opening.{OpensAt}
+use Rattle.salt_driver.specs.Standing.{IsAt, IsIdleAt, IsOpeningAt}
 use Rattle.salt_storage.specs.Staying.{StaysWithin}
 use Rattle.salt_storage.specs.declared.found.Numbers.{Numbers}
 use Rattle.salt_values.specs.declared.id.Id.{Id}
-use Rattle.salt_values.specs.declared.placement.Shape.{Shape}
+use Rattle.salt_place.specs.declared.placement.Shape.{Shape}
 use Rattle.std.proofs.Common.{ap, refl, subst, sym, ◌∙◌}
 use Rattle.std.specs.Prelude.{Bool, IsSome, List, None, Option, Some, ℕ, ◌≡◌}
 

@@ -3,14 +3,14 @@ use Rattle.salt_books.specs.Books.{AreBooks}
 use Rattle.salt_books.specs.declared.books.Books.{Books}
 use Rattle.salt_database.specs.Standing.{left_by, left_in}
 use Rattle.salt_engine.specs.declared.stage.Stage.TheVariants.{Going}
-use Rattle.salt_keeps.specs.OpenUnits.{UnitState}
-use Rattle.salt_keeps.specs.States.{State}
-use Rattle.salt_keeps.specs.Steps.{units_after}
+use Rattle.law_states.specs.OpenUnits.{UnitState}
+use Rattle.law_states.specs.States.{State}
+use Rattle.law_states.specs.Steps.{units_after}
 use Rattle.salt_model.specs.declared.events.Event.{Event}
 use Rattle.salt_model.specs.declared.events.Event.TheVariants.{Ready}
-use Rattle.salt_openings.specs.Draining.{done_now, is_earlier, left_to_open, opening_stage, rests_of, statements_left, units_to_cut}
-use Rattle.salt_recovery.specs.Recovering.{HasDone, StandsBehind}
-use Rattle.salt_recovery.specs.declared.recovery.Recovery.{Recovery}
+use Rattle.law_openings.specs.Draining.{done_now, is_earlier, left_to_open, opening_stage, rests_of, statements_left, units_to_cut}
+use Rattle.salt_drain.specs.Recovering.{HasDone, StandsBehind}
+use Rattle.salt_drain.specs.declared.recovery.Recovery.{Recovery}
 use Rattle.std.proofs.Common.{ap, subst}
 use Rattle.std.specs.List.{filter}
 use Rattle.std.specs.Prelude.{Some, length, ℕ, ◌*◌, ◌+◌, ◌-◌, ◌≡◌}

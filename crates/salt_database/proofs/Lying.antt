@@ -9,17 +9,17 @@ use Rattle.salt_engine.specs.Standing.{KnowsUnits, Left, Lies}
 use Rattle.salt_engine.specs.Stored.{IsEither, IsLeft}
 use Rattle.salt_engine.specs.declared.flights.InFlight.{InFlight}
 use Rattle.salt_engine.specs.declared.stage.Stage.{Stage}
-use Rattle.salt_keeps.specs.OpenUnits.{UnitState}
-use Rattle.salt_keeps.specs.Points.{Point}
-use Rattle.salt_keeps.specs.Steps.{units_after}
-use Rattle.salt_known.specs.Known.{IsKnown}
+use Rattle.law_states.specs.OpenUnits.{UnitState}
+use Rattle.law_states.specs.Points.{Point}
+use Rattle.law_states.specs.Steps.{units_after}
+use Rattle.salt_books.specs.Known.{IsKnown}
 use Rattle.salt_model.specs.Kept.{Kept}
 use Rattle.salt_model.specs.Turns.{is_statement_line}
 use Rattle.salt_model.specs.declared.events.Event.{Event}
 use Rattle.salt_model.specs.declared.events.Event.TheVariants.{Down}
 use Rattle.salt_model.specs.declared.events.Why.{Why}
-use Rattle.salt_recovery.specs.declared.recovery.Recovery.{Recovery}
-use Rattle.salt_steps.specs.Opening.{IsFallenFrom, IsOpenedFirst}
+use Rattle.salt_drain.specs.declared.recovery.Recovery.{Recovery}
+use Rattle.salt_driver.specs.Opening.{IsFallenFrom, IsOpenedFirst}
 use Rattle.salt_storage.specs.Storing.{IsSoundKept}
 use Rattle.salt_storage.specs.declared.found.Numbers.{Numbers}
 use Rattle.std.proofs.Common.{ap, inl, inr, subst, sym, ◌∙◌}

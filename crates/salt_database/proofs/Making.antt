@@ -6,9 +6,9 @@ use Rattle.salt_database.specs.Standing.{AreOpened}
 use Rattle.salt_engine.specs.Standing.{IsReadyOver}
 use Rattle.salt_engine.specs.declared.stage.Stage.{Stage}
 use Rattle.salt_engine.specs.declared.stage.Stage.TheVariants as at
-use Rattle.salt_keeps.specs.States.{State}
-use Rattle.salt_known.specs.declared.known.Known.{Known}
-use Rattle.salt_recovery.specs.declared.recovery.Recovery.{Recovery}
+use Rattle.law_states.specs.States.{State}
+use Rattle.salt_books.specs.declared.known.Known.{Known}
+use Rattle.salt_drain.specs.declared.recovery.Recovery.{Recovery}
 use Rattle.std.proofs.Common.{ap, sym, ◌∙◌}
 use Rattle.std.specs.Prelude.{List, ℕ, ◌≡◌}
 

@@ -6,13 +6,13 @@ use Rattle.salt_engine.specs.Flights.{IsInFlight}
 use Rattle.salt_engine.specs.Standing.{KnowUnits}
 use Rattle.salt_engine.specs.Stored.{IsLeft, IsNumbered, MayBeOther, kept_behind, raised}
 use Rattle.salt_engine.specs.declared.flights.InFlight.{InFlight}
-use Rattle.salt_keeps.proofs.StatesGoOn.{states-say}
-use Rattle.salt_keeps.specs.Follows.{opened_in}
-use Rattle.salt_keeps.specs.Laws.{IsSound}
-use Rattle.salt_keeps.specs.Points.{KeepsPoint, Point}
-use Rattle.salt_keeps.specs.Readings.{Reading}
-use Rattle.salt_keeps.specs.States.{Keeps, State, named_by}
-use Rattle.salt_keeps.specs.Steps.{units_after}
+use Rattle.law_states.proofs.StatesGoOn.{states-say}
+use Rattle.law_states.specs.Follows.{opened_in}
+use Rattle.law_states.specs.Laws.{IsSound}
+use Rattle.law_states.specs.Points.{KeepsPoint, Point}
+use Rattle.law_states.specs.Readings.{Reading}
+use Rattle.law_states.specs.States.{Keeps, State, named_by}
+use Rattle.law_states.specs.Steps.{units_after}
 use Rattle.salt_model.specs.After.{kept}
 use Rattle.salt_model.specs.Kept.{Kept}
 use Rattle.salt_model.specs.Next.{decision_in, flight}
@@ -22,15 +22,15 @@ use Rattle.salt_model.specs.Trace.{Trace, ◌says◌}
 use Rattle.salt_model.specs.Turns.{is_statement_line}
 use Rattle.salt_model.specs.declared.events.Event.{Event}
 use Rattle.salt_model.specs.declared.events.Event.TheVariants.{Opened}
-use Rattle.salt_openings.proofs.Leaving.{leaves}
-use Rattle.salt_openings.proofs.Opening.{none-to-go}
-use Rattle.salt_openings.specs.Openings.{Leaves}
+use Rattle.law_openings.proofs.Leaving.{leaves}
+use Rattle.law_openings.proofs.Opening.{none-to-go}
+use Rattle.law_openings.specs.Openings.{Leaves}
 use Rattle.salt_stands.specs.Stands.{are_spent}
-use Rattle.salt_steps.specs.Opening.{HasOpened}
-use Rattle.salt_steps.specs.Standing.{IsSoundPoint}
+use Rattle.salt_driver.specs.Opening.{HasOpened}
+use Rattle.salt_driver.specs.Standing.{IsSoundPoint}
 use Rattle.salt_storage.specs.Storing.{IsSoundKept}
 use Rattle.salt_storage.specs.declared.found.Numbers.{Numbers}
-use Rattle.salt_watch.proofs.Readable.{readable}
+use Rattle.salt_conflicts.proofs.Readable.{readable}
 use Rattle.std.proofs.Common.{ap, arith, inl, inr, subst, sym, ◌∙◌}
 use Rattle.std.specs.Prelude.{Bool, IsSome, None, Option, Some, false, if◌then◌else◌, refl, true, ℕ, ◌+◌, ◌-◌, ◌<◌, ◌≡◌, ◌⊎◌, ◌≤◌}
 

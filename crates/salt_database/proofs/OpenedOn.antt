@@ -3,21 +3,21 @@ use Rattle.salt_database.proofs.Booting.{is-number, no-number}
 use Rattle.salt_database.proofs.Opened.{FoundAt, IsWith, IsWithout, boot-is}
 use Rattle.salt_database.proofs.Resting.{is_resting, rests-only}
 use Rattle.salt_engine.specs.Stored.{Stored, raised}
-use Rattle.salt_keeps.specs.Follows.{opened_in}
-use Rattle.salt_keeps.specs.OpenUnits.{UnitState}
-use Rattle.salt_keeps.specs.Points.{Point}
-use Rattle.salt_keeps.specs.Steps.{units_after}
-use Rattle.salt_keeps.specs.Told.{next_decision}
+use Rattle.law_states.specs.Follows.{opened_in}
+use Rattle.law_states.specs.OpenUnits.{UnitState}
+use Rattle.law_states.specs.Points.{Point}
+use Rattle.law_states.specs.Steps.{units_after}
+use Rattle.law_states.specs.Told.{next_decision}
 use Rattle.salt_model.specs.Kept.{Kept}
 use Rattle.salt_model.specs.Next.{is_decision}
 use Rattle.salt_model.specs.Phases.{Fallen}
 use Rattle.salt_model.specs.declared.events.End.TheVariants.{Cut}
 use Rattle.salt_model.specs.declared.events.Event.{Event}
 use Rattle.salt_model.specs.declared.events.Event.TheVariants.{Armed, Began, Ended, Opened, Ready}
-use Rattle.salt_recovery.specs.Follows.{rest_in}
-use Rattle.salt_sound.proofs.Flying.{opened-same}
-use Rattle.salt_steps.specs.Counting.{stops_armed}
-use Rattle.salt_steps.specs.Standing.{IsSoundPoint}
+use Rattle.salt_drain.specs.Follows.{rest_in}
+use Rattle.law_decisions.proofs.Flying.{opened-same}
+use Rattle.salt_driver.specs.Counting.{stops_armed}
+use Rattle.salt_driver.specs.Standing.{IsSoundPoint}
 use Rattle.salt_storage.specs.Storing.{booted}
 use Rattle.salt_values.specs.declared.id.Id.{Id}
 use Rattle.std.proofs.Common.{ap, arith, inl, inr, subst, sym, ◌∙◌}

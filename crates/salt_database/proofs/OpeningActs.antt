@@ -25,21 +25,21 @@ use Rattle.salt_engine.specs.declared.flights.InFlight.{InFlight}
 use Rattle.salt_engine.specs.declared.flights.InFlight.TheVariants as asked
 use Rattle.salt_engine.specs.declared.stage.Stage.{Stage}
 use Rattle.salt_engine.specs.declared.stage.Stage.TheVariants as at
-use Rattle.salt_keeps.specs.OpenUnits.{OpenUnit, unit_named}
-use Rattle.salt_keeps.specs.States.{State}
-use Rattle.salt_keeps.specs.Steps.{units_after}
-use Rattle.salt_keeps.specs.Told.{commits_in, does_in}
+use Rattle.law_states.specs.OpenUnits.{OpenUnit, unit_named}
+use Rattle.law_states.specs.States.{State}
+use Rattle.law_states.specs.Steps.{units_after}
+use Rattle.law_states.specs.Told.{commits_in, does_in}
 use Rattle.salt_model.specs.Kept.{Kept}
 use Rattle.salt_model.specs.Next.{decision_in, flight}
 use Rattle.salt_model.specs.declared.events.Cause.{Cause}
 use Rattle.salt_model.specs.declared.events.Event.{Event}
 use Rattle.salt_model.specs.declared.events.Event.TheVariants.{Armed}
-use Rattle.salt_openings.proofs.Resting.{never-rests}
-use Rattle.salt_openings.specs.Draining.{statements_at, statements_in}
-use Rattle.salt_recovery.specs.Follows.{comes_behind}
-use Rattle.salt_recovery.specs.Recovering as recovering
-use Rattle.salt_recovery.specs.declared.recovery.Recovery.{Recovery}
-use Rattle.salt_steps.specs.Counting.{stops_armed}
+use Rattle.law_openings.proofs.Resting.{never-rests}
+use Rattle.law_openings.specs.Draining.{statements_at, statements_in}
+use Rattle.salt_drain.specs.Follows.{comes_behind}
+use Rattle.salt_drain.specs.Recovering as recovering
+use Rattle.salt_drain.specs.declared.recovery.Recovery.{Recovery}
+use Rattle.salt_driver.specs.Counting.{stops_armed}
 use Rattle.salt_storage.specs.Storing.{IsSoundKept}
 use Rattle.salt_storage.specs.Writing.{Written}
 use Rattle.salt_storage.specs.declared.halt.Halt.{Halt}

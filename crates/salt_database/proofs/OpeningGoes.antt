@@ -10,23 +10,23 @@ use Rattle.salt_engine.specs.Stored.{Stored}
 use Rattle.salt_engine.specs.declared.flights.InFlight.{InFlight}
 use Rattle.salt_engine.specs.declared.stage.Stage.{Stage}
 use Rattle.salt_engine.specs.declared.stage.Stage.TheVariants as at
-use Rattle.salt_keeps.specs.Nexts.{said_next}
-use Rattle.salt_keeps.specs.OpenUnits.{UnitState}
-use Rattle.salt_keeps.specs.Points.{Moves, Point, Say}
-use Rattle.salt_keeps.specs.Readings.{Reading}
-use Rattle.salt_keeps.specs.States.{State}
+use Rattle.law_states.specs.Nexts.{said_next}
+use Rattle.law_states.specs.OpenUnits.{UnitState}
+use Rattle.law_states.specs.Points.{Moves, Point, Say}
+use Rattle.law_states.specs.Readings.{Reading}
+use Rattle.law_states.specs.States.{State}
 use Rattle.salt_model.specs.Kept.{Kept}
 use Rattle.salt_model.specs.Phases.{Opening}
 use Rattle.salt_model.specs.Turns.{is_statement_line}
 use Rattle.salt_model.specs.declared.events.Event.{Event}
 use Rattle.salt_model.specs.declared.events.Event.TheVariants.{Ready}
-use Rattle.salt_openings.proofs.Moving.{says-falls, units-stand}
-use Rattle.salt_openings.proofs.Opening.{said-in-opening}
-use Rattle.salt_openings.specs.Draining.{left_to_open}
-use Rattle.salt_recovery.specs.Follows.{comes_behind, rest_in}
-use Rattle.salt_recovery.specs.Recovering.{HasDone, Stands, StandsBehind, StandsFor}
-use Rattle.salt_recovery.specs.declared.recovery.Recovery.{Recovery}
-use Rattle.salt_steps.specs.Standing.{IsSoundPoint}
+use Rattle.law_openings.proofs.Moving.{says-falls, units-stand}
+use Rattle.law_openings.proofs.Opening.{said-in-opening}
+use Rattle.law_openings.specs.Draining.{left_to_open}
+use Rattle.salt_drain.specs.Follows.{comes_behind, rest_in}
+use Rattle.salt_drain.specs.Recovering.{HasDone, Stands, StandsBehind, StandsFor}
+use Rattle.salt_drain.specs.declared.recovery.Recovery.{Recovery}
+use Rattle.salt_driver.specs.Standing.{IsSoundPoint}
 use Rattle.salt_storage.specs.Storing.{IsSoundKept}
 use Rattle.salt_values.specs.declared.id.Id.{Id}
 use Rattle.std.proofs.Common.{ap, subst, sym, ◌∙◌}

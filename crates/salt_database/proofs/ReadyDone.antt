@@ -1,23 +1,23 @@
 -- An opening is done: behind its Ready nothing is open, and nothing is watched.
 use Rattle.salt_books.specs.Books.{AreBooks}
 use Rattle.salt_engine.proofs.Going.{onwards, says-keeps, says-moves, says-sound}
-use Rattle.salt_keeps.proofs.KeptPrograms.{ready-empty}
-use Rattle.salt_keeps.proofs.NextTold.{may-stand}
-use Rattle.salt_keeps.specs.Follows.{said_in, unit_of}
-use Rattle.salt_keeps.specs.Keeps.{KeepsUnits}
-use Rattle.salt_keeps.specs.KeptLocks.{Numbered, on_lock}
-use Rattle.salt_keeps.specs.Laws.{IsSound}
-use Rattle.salt_keeps.specs.Members.{In}
-use Rattle.salt_keeps.specs.Nexts.{said_next}
-use Rattle.salt_keeps.specs.OpenUnits.{OpenUnit, UnitState, names_in}
-use Rattle.salt_keeps.specs.Points.{Moves, Point, Say}
-use Rattle.salt_keeps.specs.Readings.{Reading, beside_by}
-use Rattle.salt_keeps.specs.States.{After, State}
-use Rattle.salt_keeps.specs.UnitFacts.{UnitFacts, facts_in}
-use Rattle.salt_keeps.specs.WatchSteps.{WatchBy, fate_by}
-use Rattle.salt_keeps.specs.Watches.{Watch, empty_watch}
-use Rattle.salt_laws.proofs.Salted.{holds, may-fit}
-use Rattle.salt_laws.proofs.WellKept.{of-start}
+use Rattle.law_states.proofs.KeptPrograms.{ready-empty}
+use Rattle.law_states.proofs.NextTold.{may-stand}
+use Rattle.law_states.specs.Follows.{said_in, unit_of}
+use Rattle.law_states.specs.Keeps.{KeepsUnits}
+use Rattle.law_states.specs.KeptLocks.{Numbered, on_lock}
+use Rattle.law_states.specs.Laws.{IsSound}
+use Rattle.law_states.specs.Members.{In}
+use Rattle.law_states.specs.Nexts.{said_next}
+use Rattle.law_states.specs.OpenUnits.{OpenUnit, UnitState, names_in}
+use Rattle.law_states.specs.Points.{Moves, Point, Say}
+use Rattle.law_states.specs.Readings.{Reading, beside_by}
+use Rattle.law_states.specs.States.{After, State}
+use Rattle.law_states.specs.UnitFacts.{UnitFacts, facts_in}
+use Rattle.law_states.specs.WatchSteps.{WatchBy, fate_by}
+use Rattle.law_states.specs.Watches.{Watch, empty_watch}
+use Rattle.law_story.proofs.Salted.{holds, may-fit}
+use Rattle.law_story.proofs.WellKept.{of-start}
 use Rattle.salt_model.specs.Kept.{Kept, WellKept}
 use Rattle.salt_model.specs.Phases.{Opening, Phase, phase}
 use Rattle.salt_model.specs.Played.{IsPlayed}
@@ -25,10 +25,10 @@ use Rattle.salt_model.specs.Trace.{Trace, from, start_of, ◌asks◌, ◌says◌
 use Rattle.salt_model.specs.Units.{base_count}
 use Rattle.salt_model.specs.declared.events.Event.TheVariants.{Began, Down, Opened, Ready}
 use Rattle.salt_model.specs.declared.events.UnitKind.TheVariants.{First}
-use Rattle.salt_openings.proofs.Opening.{none-to-go, serves-not}
-use Rattle.salt_recovery.specs.Recovering.{HasDone}
-use Rattle.salt_recovery.specs.declared.recovery.Recovery.{Recovery}
-use Rattle.salt_steps.specs.Standing.{IsSoundPoint}
+use Rattle.law_openings.proofs.Opening.{none-to-go, serves-not}
+use Rattle.salt_drain.specs.Recovering.{HasDone}
+use Rattle.salt_drain.specs.declared.recovery.Recovery.{Recovery}
+use Rattle.salt_driver.specs.Standing.{IsSoundPoint}
 use Rattle.std.proofs.Common.{ap, inr, subst, sym, ◌∙◌}
 use Rattle.std.specs.List.{filter_map}
 use Rattle.std.specs.Prelude.{List, None, Some, [], refl, ◌++◌, ◌∷◌, ◌≡◌}

@@ -4,19 +4,19 @@ use Rattle.salt_books.specs.declared.coming.Coming.{Coming}
 use Rattle.salt_books.specs.declared.coming.Coming.TheVariants as coming
 use Rattle.salt_engine.proofs.Unprepared.{done-plain, either-plain, finish-plain, serves-plain}
 use Rattle.salt_engine.specs.Performing.{is_prepared}
-use Rattle.salt_keeps.specs.Follows.{cut_in, cuts_or_drains_in, drains_in}
-use Rattle.salt_keeps.specs.OpenUnits.{OpenUnit, UnitState, unit_named}
-use Rattle.salt_keeps.specs.States.{State}
-use Rattle.salt_keeps.specs.Told.{commits_in, does_in, next_decision, serve_in}
+use Rattle.law_states.specs.Follows.{cut_in, cuts_or_drains_in, drains_in}
+use Rattle.law_states.specs.OpenUnits.{OpenUnit, UnitState, unit_named}
+use Rattle.law_states.specs.States.{State}
+use Rattle.law_states.specs.Told.{commits_in, does_in, next_decision, serve_in}
 use Rattle.salt_model.specs.Words.{is_empty}
 use Rattle.salt_model.specs.declared.events.End.TheVariants.{Branched, Cut}
 use Rattle.salt_model.specs.declared.events.Event.{Event}
 use Rattle.salt_model.specs.declared.events.Event.TheVariants.{Armed, Began, Defined, Ended, Ready}
-use Rattle.salt_recovery.specs.Follows.{comes_behind, event_of, rest_in}
-use Rattle.salt_recovery.specs.Recovering.{Brings}
-use Rattle.salt_recovery.specs.declared.behind.Behind.{Behind}
-use Rattle.salt_recovery.specs.declared.behind.Behind.TheVariants.{Accept, Done, Finish, Nothing, Turn}
-use Rattle.salt_recovery.specs.declared.recovery.Recovery.{Recovery}
+use Rattle.salt_drain.specs.Follows.{comes_behind, event_of, rest_in}
+use Rattle.salt_drain.specs.Recovering.{Brings}
+use Rattle.salt_drain.specs.declared.behind.Behind.{Behind}
+use Rattle.salt_drain.specs.declared.behind.Behind.TheVariants.{Accept, Done, Finish, Nothing, Turn}
+use Rattle.salt_drain.specs.declared.recovery.Recovery.{Recovery}
 use Rattle.salt_values.specs.declared.cont.Cont.{Cont}
 use Rattle.salt_values.specs.declared.id.Id.{Id}
 use Rattle.std.proofs.Common.{ap, sym, ◌∙◌}

@@ -4,12 +4,12 @@ use Rattle.salt_database.proofs.Lying.{left-either}
 use Rattle.salt_engine.specs.Flights.{IsInFlight}
 use Rattle.salt_engine.specs.Stored.{IsAlone, IsLeft, MayBeOther, kept_behind, raised}
 use Rattle.salt_engine.specs.declared.flights.InFlight.{InFlight}
-use Rattle.salt_keeps.specs.Points.{Point}
-use Rattle.salt_keeps.specs.Steps.{units_after}
+use Rattle.law_states.specs.Points.{Point}
+use Rattle.law_states.specs.Steps.{units_after}
 use Rattle.salt_model.specs.Kept.{Kept}
 use Rattle.salt_model.specs.declared.events.Event.{Event}
 use Rattle.salt_stands.specs.Stands.{are_spent}
-use Rattle.salt_steps.specs.Opening.{AreSpentAt, MayFailAt}
+use Rattle.salt_driver.specs.Opening.{AreSpentAt, MayFailAt}
 use Rattle.salt_storage.specs.Answers.{MayFail, numbers_of}
 use Rattle.salt_storage.specs.declared.open.OpenErr.{OpenErr}
 use Rattle.salt_storage.specs.declared.open.OpenErr.TheVariants as open_err

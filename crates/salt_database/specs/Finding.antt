@@ -8,10 +8,10 @@ use Rattle.salt_engine.specs.Stored.{IsEither, IsNumbered}
 use Rattle.salt_engine.specs.declared.flights.InFlight.{InFlight}
 use Rattle.salt_engine.specs.declared.stage.Stage.{Stage}
 use Rattle.salt_engine.specs.declared.stage.Stage.TheVariants.{Down, Going}
-use Rattle.salt_keeps.specs.Follows.{opened_in}
-use Rattle.salt_keeps.specs.Laws.{IsSound}
-use Rattle.salt_keeps.specs.OpenUnits.{UnitState}
-use Rattle.salt_keeps.specs.States.{After, Keeps, State}
+use Rattle.law_states.specs.Follows.{opened_in}
+use Rattle.law_states.specs.Laws.{IsSound}
+use Rattle.law_states.specs.OpenUnits.{UnitState}
+use Rattle.law_states.specs.States.{After, Keeps, State}
 use Rattle.salt_model.specs.Kept.{Kept}
 use Rattle.salt_model.specs.Next.{decision_in}
 use Rattle.salt_model.specs.Phases.{Phase}
@@ -19,9 +19,9 @@ use Rattle.salt_model.specs.Trace.{Trace, ◌says◌}
 use Rattle.salt_model.specs.Turns.{is_statement_line}
 use Rattle.salt_model.specs.declared.events.Event.{Event}
 use Rattle.salt_model.specs.declared.events.Event.TheVariants.{Opened}
-use Rattle.salt_recovery.specs.Follows.{rest_in}
-use Rattle.salt_recovery.specs.Recovering as recovering
-use Rattle.salt_recovery.specs.declared.recovery.Recovery.{Recovery}
+use Rattle.salt_drain.specs.Follows.{rest_in}
+use Rattle.salt_drain.specs.Recovering as recovering
+use Rattle.salt_drain.specs.declared.recovery.Recovery.{Recovery}
 use Rattle.salt_storage.specs.Storing.{IsSoundKept}
 use Rattle.salt_storage.specs.declared.found.Numbers.{Numbers}
 use Rattle.std.specs.Prelude.{Bool, IsSome, None, Option, Some, [], false, true, ℕ, ◌+◌, ◌<◌, ◌≡◌, ◌⊎◌}

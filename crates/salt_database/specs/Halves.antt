@@ -8,15 +8,15 @@ use Rattle.salt_engine.specs.Flights.{flight_of}
 use Rattle.salt_engine.specs.Standing.{Left, Lies, Sees, serving_books}
 use Rattle.salt_engine.specs.Stored.{IsAlone}
 use Rattle.salt_engine.specs.declared.engine.Engine.{Engine}
-use Rattle.salt_keeps.specs.Points.{Point}
-use Rattle.salt_keeps.specs.States.{State}
+use Rattle.law_states.specs.Points.{Point}
+use Rattle.law_states.specs.States.{State}
 use Rattle.salt_model.specs.Kept.{Kept}
 use Rattle.salt_model.specs.declared.events.Event.{Event}
 use Rattle.salt_model.specs.declared.events.Flight.{Flight}
 use Rattle.salt_storage.specs.declared.found.Numbers.{Numbers}
 use Rattle.salt_values.specs.declared.id.Id.{Id}
-use Rattle.salt_values.specs.declared.placement.PlaceKind.TheVariants.{Remainder}
-use Rattle.salt_values.specs.declared.placement.Shape.{Shape}
+use Rattle.salt_place.specs.declared.placement.PlaceKind.TheVariants.{Remainder}
+use Rattle.salt_place.specs.declared.placement.Shape.{Shape}
 use Rattle.std.specs.Prelude.{Bool, IsSome, None, Option, Some, ℕ, ⊤, ◌≡◌}
 
 -- AN OPENING

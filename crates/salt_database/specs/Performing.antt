@@ -3,14 +3,14 @@ use Rattle.salt_books.specs.Coming.{event_meant}
 use Rattle.salt_books.specs.declared.coming.Coming.{Coming}
 use Rattle.salt_engine.specs.Performing.{IsPlayedBefore, StoredAt, is_prepared}
 use Rattle.salt_engine.specs.Stored.{Stored}
-use Rattle.salt_keeps.specs.States.{State}
+use Rattle.law_states.specs.States.{State}
 use Rattle.salt_model.specs.Kept.{Kept}
 use Rattle.salt_model.specs.Phases as phases
 use Rattle.salt_model.specs.declared.events.Event.{Event}
-use Rattle.salt_openings.specs.Draining.{statements_at}
-use Rattle.salt_recovery.specs.Follows.{comes_behind}
-use Rattle.salt_recovery.specs.Recovering as recovering
-use Rattle.salt_recovery.specs.declared.recovery.Recovery.{Recovery}
+use Rattle.law_openings.specs.Draining.{statements_at}
+use Rattle.salt_drain.specs.Follows.{comes_behind}
+use Rattle.salt_drain.specs.Recovering as recovering
+use Rattle.salt_drain.specs.declared.recovery.Recovery.{Recovery}
 use Rattle.salt_values.specs.declared.id.Id.{Id}
 use Rattle.std.specs.Prelude.{IsSome, Option, false, ℕ, ◌+◌, ◌≡◌, ◌⊎◌}
 

@@ -5,15 +5,15 @@ use Rattle.salt_engine.specs.Standing.{books_in}
 use Rattle.salt_engine.specs.Stored.{Stored}
 use Rattle.salt_engine.specs.declared.stage.Stage.{Stage}
 use Rattle.salt_engine.specs.declared.stage.Stage.TheVariants.{Down, Going}
-use Rattle.salt_keeps.specs.States.{State}
-use Rattle.salt_keeps.specs.Watches.{empty_watch}
+use Rattle.law_states.specs.States.{State}
+use Rattle.law_states.specs.Watches.{empty_watch}
 use Rattle.salt_model.specs.Kept.{Kept}
 use Rattle.salt_model.specs.Phases as phases
 use Rattle.salt_model.specs.declared.events.Event.{Event}
 use Rattle.salt_model.specs.declared.events.Event.TheVariants.{Ready}
-use Rattle.salt_openings.specs.Draining.{done_now, is_earlier, opening_stage, rests_of}
-use Rattle.salt_recovery.specs.Recovering as recovering
-use Rattle.salt_recovery.specs.declared.recovery.Recovery.{Recovery}
+use Rattle.law_openings.specs.Draining.{done_now, is_earlier, opening_stage, rests_of}
+use Rattle.salt_drain.specs.Recovering as recovering
+use Rattle.salt_drain.specs.declared.recovery.Recovery.{Recovery}
 use Rattle.salt_storage.specs.declared.found.Numbers.{Numbers}
 use Rattle.salt_values.specs.declared.id.Id.{Id}
 use Rattle.std.specs.List.{filter}

@@ -1,16 +1,16 @@
 //! A boot begins over what was found.
 
 ghost use Rattle.salt_database.specs.Finding.{BeginsOpening, Flies, IsOpenedBy, Rests, RestsOrFlies, first_in};
-ghost use Rattle.salt_keeps.specs.States.{State};
+ghost use Rattle.law_states.specs.States.{State};
 ghost use Rattle.salt_model.specs.declared.events.Event.{Event};
-ghost use Rattle.salt_recovery.specs.Follows.{rest_in};
-ghost use Rattle.salt_recovery.specs.Recovering.{Gives};
+ghost use Rattle.salt_drain.specs.Follows.{rest_in};
+ghost use Rattle.salt_drain.specs.Recovering.{Gives};
 ghost use Rattle.std.specs.Prelude.{IfOk, Option, Some, nat_lt, ℕ, ◌≡◌};
 
 use salt_books::{Books, Coming};
 use salt_engine::InFlight;
 use salt_model::Event;
-use salt_recovery::Recovery;
+use salt_drain::Recovery;
 use std::alloc::{AllocError, Global};
 
 /// The decision that was in flight stands: it is told.

@@ -11,9 +11,10 @@ use salt_disk::Disks;
 use salt_engine::Engine;
 use salt_model::{Event, Flight, Refusal, Story};
 use salt_schema::Schema;
-use salt_steps::{Openable, Stepping};
+use salt_driver::{Openable, Stepping};
 use salt_storage::{Halt, OpenErr, Storage};
-use salt_values::{Id, Key, PlaceKind, Placement, Steps};
+use salt_values::{Id, Key, Steps};
+use salt_place::{PlaceKind, Placement};
 use std::mem;
 use std::sync::ledger::Ledger;
 

@@ -5,14 +5,14 @@ ghost use Rattle.salt_database.specs.Finding.{IsFoundAgain, IsOpenedBy, IsOpenin
 ghost use Rattle.salt_disk.specs.Disks.{HasCause};
 ghost use Rattle.salt_engine.specs.Standing.{IsBrokenStage};
 ghost use Rattle.salt_engine.specs.declared.stage.Stage.TheVariants.{Down, Lost};
-ghost use Rattle.salt_keeps.specs.States.{State};
+ghost use Rattle.law_states.specs.States.{State};
 ghost use Rattle.salt_model.specs.Kept.{Kept};
 ghost use Rattle.salt_model.specs.declared.events.Event.{Event};
 ghost use Rattle.salt_storage.specs.Answers.{MayFail, open_disk_err};
 ghost use Rattle.salt_storage.specs.Staying.{StaysWithin};
 ghost use Rattle.salt_storage.specs.declared.halt.Halt.TheVariants.{DeviceFull, Memory};
 ghost use Rattle.salt_storage.specs.declared.open.OpenErr.{OpenErr};
-ghost use Rattle.salt_values.specs.Placement.{GivesPlaceOf, TakesEachKey};
+ghost use Rattle.salt_place.specs.Placement.{GivesPlaceOf, TakesEachKey};
 ghost use Rattle.std.specs.Prelude.{Err, IfErr, IfOk, None, OnErr, OnOk, Option, ℕ, [], if◌then◌else◌, ◌++◌, ◌∷◌, ◌≡◌};
 
 use crate::beginning::begin;
@@ -22,7 +22,8 @@ use salt_disk::Disks;
 use salt_engine::{InFlight, Stage};
 use salt_model::{Event, Story};
 use salt_storage::{Halt, OpenErr, Storage};
-use salt_values::{Key, PlaceKind, Placement};
+use salt_values::Key;
+use salt_place::{PlaceKind, Placement};
 use std::mem;
 
 /// What is in flight behind an Opened: the decision that was, where it stands, until it is told.

@@ -7,13 +7,13 @@ ghost use Rattle.salt_database.specs.Standing.{OpensIn};
 ghost use Rattle.salt_disk.specs.Disks.{HasCause};
 ghost use Rattle.salt_engine.specs.Performing.{ComesOut, Stays};
 ghost use Rattle.salt_engine.specs.declared.stage.Stage.TheVariants.{Lost};
-ghost use Rattle.salt_keeps.specs.States.{State};
-ghost use Rattle.salt_openings.specs.Draining.{statements_in};
-ghost use Rattle.salt_recovery.specs.Follows.{comes_behind};
-ghost use Rattle.salt_steps.specs.Counting.{stops_armed};
+ghost use Rattle.law_states.specs.States.{State};
+ghost use Rattle.law_openings.specs.Draining.{statements_in};
+ghost use Rattle.salt_drain.specs.Follows.{comes_behind};
+ghost use Rattle.salt_driver.specs.Counting.{stops_armed};
 ghost use Rattle.salt_storage.specs.Answers.{disk_err};
 ghost use Rattle.salt_storage.specs.declared.found.Numbers.{Numbers};
-ghost use Rattle.salt_values.specs.Placement.{GivesPlaceOf, TakesEachKey};
+ghost use Rattle.salt_place.specs.Placement.{GivesPlaceOf, TakesEachKey};
 ghost use Rattle.std.specs.Prelude.{Bool, IfOk, None, OnErr, Option, Some, [], ◌+◌, ◌≡◌};
 
 use crate::opening::Opening;
@@ -21,9 +21,10 @@ use salt_books::{Asking, Coming};
 use salt_disk::Disks;
 use salt_engine::{InFlight, Stage, branch, commit, load};
 use salt_model::{Cause, Event};
-use salt_recovery::Recovery;
+use salt_drain::Recovery;
 use salt_storage::{Halt, Storage};
-use salt_values::{Id, Key, PlaceKind, Placement, Steps};
+use salt_values::{Id, Key, Steps};
+use salt_place::{PlaceKind, Placement};
 use std::sync::ledger::Ledger;
 
 impl<S: Storage> Opening<S> {

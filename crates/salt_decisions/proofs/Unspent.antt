@@ -1,8 +1,8 @@
 -- What the test of this crate needs: numbers that are not spent, and the bits of two partitions.
 use Rattle.salt_stands.proofs.Booleans.{left}
 use Rattle.salt_stands.specs.Stands.{are_spent, is_same_kind, is_same_shape}
-use Rattle.salt_values.specs.declared.placement.PlaceKind.TheVariants.{Bands}
-use Rattle.salt_values.specs.declared.placement.Shape.{Shape}
+use Rattle.salt_place.specs.declared.placement.PlaceKind.TheVariants.{Bands}
+use Rattle.salt_place.specs.declared.placement.Shape.{Shape}
 use Rattle.std.proofs.Common.{ap, arith, false, true, ℕ, ◌<◌, ◌^◌, ◌≡◌, ◌∙◌}
 use Rattle.std.proofs.lemmas.Bool.Decides.{Decides-eqb, nat_tests}
 use Rattle.std.specs.Prelude.{nat_lt, ◌==◌}

@@ -5,7 +5,7 @@ use Rattle.salt_bytes.specs.Numbers.{take_64, take_counted}
 use Rattle.salt_bytes.specs.Taking.{Take, give, only_if, take_byte, then_take}
 use Rattle.salt_decisions.specs.declared.header.Definition.{Definition}
 use Rattle.salt_decisions.specs.declared.header.Header.{Header}
-use Rattle.salt_values.specs.declared.placement.Shape.{Shape}
+use Rattle.salt_place.specs.declared.placement.Shape.{Shape}
 use Rattle.std.specs.Prelude.{List, codes, map, ℕ}
 
 abbrev pub mark : List ℕ

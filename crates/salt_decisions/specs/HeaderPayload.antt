@@ -4,7 +4,7 @@ use Rattle.salt_decisions.specs.Header.{numbered_of}
 use Rattle.salt_decisions.specs.declared.header.Definition.{Definition}
 use Rattle.salt_decisions.specs.declared.header_payload.TheConstants.{FORMAT}
 use Rattle.salt_values.specs.declared.cont.Cont.{Cont}
-use Rattle.salt_values.specs.declared.placement.Shape.{Shape}
+use Rattle.salt_place.specs.declared.placement.Shape.{Shape}
 use Rattle.std.specs.Prelude.{List, map, ℕ}
 
 abbrev pub header_with : (generation : ℕ) (shape : Shape) (boot decisions : ℕ) → List Definition → List Cont → CoordinatorHeader

@@ -16,7 +16,7 @@ use Rattle.salt_stands.specs.Coordinator.{coordinator_pair, device_of}
 use Rattle.salt_stands.specs.CoordinatorLog.{CoordinatorLog, told_by_header}
 use Rattle.salt_stands.specs.FirstOpening.{IsCreated, first_header}
 use Rattle.salt_stands.specs.Stands.{are_spent, is_same_shape, logs_of}
-use Rattle.salt_values.specs.declared.placement.Shape.{Shape}
+use Rattle.salt_place.specs.declared.placement.Shape.{Shape}
 use Rattle.std.specs.Prelude.{Err, IsTrue, List, None, Ok, Option, Result, Some, [], false, length, true, ℕ, ⊤, ◌+◌, ◌<◌, ◌∷◌, ◌≡◌, ◌⊎◌}
 
 -- the pair's fault counts against this device

@@ -5,7 +5,7 @@ ghost use Rattle.salt_decisions.specs.declared.error.OpenErr.TheVariants.{Memory
 ghost use Rattle.std.specs.Prelude.{◌≡◌};
 
 use salt_disk::DiskErr;
-use salt_values::Shape;
+use salt_place::Shape;
 use std::alloc::AllocError;
 
 /// Why devices are not opened.

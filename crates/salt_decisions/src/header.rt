@@ -5,13 +5,14 @@ ghost use Rattle.salt_bytes.specs.Numbers.{take_counted};
 ghost use Rattle.salt_bytes.specs.Taking.{take_each};
 ghost use Rattle.salt_decisions.specs.Header.{header_of, mark, numbered_of, take_lists, take_numbers, take_shape};
 ghost use Rattle.salt_codec.specs.Taking.{Takes, TakesAs, TakesBytes};
-ghost use Rattle.salt_values.specs.declared.placement.PlaceKind.{PlaceKind};
+ghost use Rattle.salt_place.specs.declared.placement.PlaceKind.{PlaceKind};
 ghost use Rattle.std.specs.Prelude.{IfOk, IfSome, map, option_map, true, ◌≡◌};
 
 use crate::conts::take_conts;
 use salt_codec::TakeErr;
 use salt_codec::take::{take_byte, take_bytes, take_u64};
-use salt_values::{Bytes, Conts, PlaceKind, Shape};
+use salt_values::{Bytes, Conts};
+use salt_place::{PlaceKind, Shape};
 use sqlite_items::Items;
 use std::alloc::{AllocError, Global};
 

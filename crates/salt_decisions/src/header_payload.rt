@@ -9,12 +9,13 @@ ghost use Rattle.salt_bytes.specs.Values.{spell_values};
 ghost use Rattle.salt_decisions.specs.Header.{mark, numbered_of};
 ghost use Rattle.salt_decisions.specs.HeaderPayload.{header_with};
 ghost use Rattle.salt_decisions.specs.declared.header_payload.TheConstants.{FORMAT};
-ghost use Rattle.salt_values.specs.declared.placement.PlaceKind.{PlaceKind};
+ghost use Rattle.salt_place.specs.declared.placement.PlaceKind.{PlaceKind};
 ghost use Rattle.std.specs.Prelude.{IfOk, OnOk, [], length, map, nat_le, true, ◌++◌, ◌∷◌, ◌≡◌};
 
 use crate::header::{Definition, MARK};
 use salt_codec::put::{with_byte, with_bytes, with_id, with_text, with_u32, with_u64, with_values};
-use salt_values::{Cont, Name, PlaceKind, Row, Shape};
+use salt_values::{Cont, Name, Row};
+use salt_place::{PlaceKind, Shape};
 use std::alloc::{AllocError, Global};
 
 /// The format of each header that is written.

@@ -12,8 +12,8 @@ ghost use Rattle.salt_disk.specs.declared.disks.DiskErr.TheVariants.{Full};
 ghost use Rattle.salt_stands.specs.Coordinator.{coordinator_pair, device_of};
 ghost use Rattle.salt_stands.specs.CoordinatorLog.{CoordinatorLog};
 ghost use Rattle.salt_stands.specs.Stands.{are_spent, is_same_kind, is_same_shape, logs_of};
-ghost use Rattle.salt_values.specs.Placement.{IsParts};
-ghost use Rattle.salt_values.specs.declared.placement.Shape.{Shape};
+ghost use Rattle.salt_place.specs.Placement.{IsParts};
+ghost use Rattle.salt_place.specs.declared.placement.Shape.{Shape};
 ghost use Rattle.std.specs.Prelude.{Err, IfErr, IfOk, IsTrue, Some, [], ℕ, ◌<◌, ◌≡◌};
 ghost use Rattle.std.specs.Result.{result_err};
 
@@ -28,7 +28,7 @@ use crate::said::Said;
 use crate::which::Which;
 use salt_disk::{DiskErr, Disks};
 use salt_gatelog::create;
-use salt_values::{PlaceKind, Shape};
+use salt_place::{PlaceKind, Shape};
 use sqlite_items::Items;
 use std::alloc::{AllocError, Global};
 

@@ -4,12 +4,12 @@ use Rattle.salt_deps.specs.Due.{AreSettled}
 use Rattle.salt_deps.specs.Kept.{kept_of}
 use Rattle.salt_deps.specs.Maps.{is_source}
 use Rattle.salt_deps.specs.Reads.{AreFresh, reads_entry}
-use Rattle.salt_keeps.specs.DependencyCalls.{HasFinished}
-use Rattle.salt_keeps.specs.KeptSources.{WritesIn, itself, unless_among}
-use Rattle.salt_laws.proofs.Ids.{and_left, and_right, is_same_id-refl, is_same_id-sym, is_same_id-true}
-use Rattle.salt_laws.proofs.Lists.{either, or_cases, or_left_true}
+use Rattle.law_states.specs.DependencyCalls.{HasFinished}
+use Rattle.law_states.specs.KeptSources.{WritesIn, itself, unless_among}
+use Rattle.law_story.proofs.Ids.{and_left, and_right, is_same_id-refl, is_same_id-sym, is_same_id-true}
+use Rattle.law_story.proofs.Lists.{either, or_cases, or_left_true}
 use Rattle.salt_model.specs.Tables.{place, place_cmp, place_total}
-use Rattle.salt_model.specs.Words.{has_id}
+use Rattle.salt_values.specs.Id.{has_id}
 use Rattle.salt_model.specs.declared.locks.Mode.{Mode}
 use Rattle.salt_model.specs.declared.places.Place.{Place}
 use Rattle.salt_ranges.specs.declared.range.KeyRange.{KeyRange}

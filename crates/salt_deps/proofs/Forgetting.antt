@@ -1,7 +1,7 @@
 -- The last writers that are left where programs are dropped.
-use Rattle.salt_keeps.specs.KeptSources.{unless_among}
+use Rattle.law_states.specs.KeptSources.{unless_among}
 use Rattle.salt_model.specs.Tables.{place_cmp, place_total}
-use Rattle.salt_model.specs.Words.{has_id}
+use Rattle.salt_values.specs.Id.{has_id}
 use Rattle.salt_model.specs.declared.places.Place.{Place}
 use Rattle.salt_values.specs.declared.id.Id.{Id}
 use Rattle.std.proofs.Common.{◌∙◌}

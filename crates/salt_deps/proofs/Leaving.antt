@@ -1,10 +1,10 @@
 -- Which of those that are looked at are left.
-use Rattle.salt_laws.proofs.Ids.{is_same_id-true}
-use Rattle.salt_laws.proofs.Lists.{all-in, either, has-in, in-cases, in-filter, in-has, in-left, in-right, into-filter, not-true, or_cases}
+use Rattle.law_story.proofs.Ids.{is_same_id-true}
+use Rattle.law_story.proofs.Lists.{all-in, either, has-in, in-cases, in-filter, in-has, in-left, in-right, into-filter, not-true, or_cases}
 use Rattle.salt_deps.specs.Due.{AreComers, AreHeld, AreSettled, IsHeld, IsOpen, IsSettled, SettledComeTo}
-use Rattle.salt_keeps.specs.KeptSources.{Through, itself, through}
-use Rattle.salt_keeps.specs.Members.{In}
-use Rattle.salt_model.specs.Words.{has_id}
+use Rattle.law_states.specs.KeptSources.{Through, itself, through}
+use Rattle.law_states.specs.Members.{In}
+use Rattle.salt_values.specs.Id.{has_id}
 use Rattle.salt_values.specs.Id.{is_same_id}
 use Rattle.salt_values.specs.declared.id.Id.{Id}
 use Rattle.std.proofs.Common.{inl, inr, subst, sym, ◌∙◌}

@@ -1,10 +1,10 @@
 -- What changes of the two maps make of who reads from whom.
-use Rattle.salt_laws.proofs.Ids.{and_left, and_right, is_same_id-sym, is_same_id-true}
-use Rattle.salt_laws.proofs.Lists.{has-in, in-filter, in-has, into-filter, or_right_true}
+use Rattle.law_story.proofs.Ids.{and_left, and_right, is_same_id-sym, is_same_id-true}
+use Rattle.law_story.proofs.Lists.{has-in, in-filter, in-has, into-filter, or_right_true}
 use Rattle.salt_deps.proofs.Names.{has-key, same-at}
 use Rattle.salt_deps.specs.Maps.{is_listed, is_source, items_in, keys_in, readers_at, sources_at}
 use Rattle.salt_deps.specs.Order.{id_cmp}
-use Rattle.salt_model.specs.Words.{has_id}
+use Rattle.salt_values.specs.Id.{has_id}
 use Rattle.salt_values.specs.Id.{is_same_id}
 use Rattle.salt_values.specs.declared.id.Id.{Id}
 use Rattle.std.proofs.Common.{ap, subst, sym, ◌∙◌}

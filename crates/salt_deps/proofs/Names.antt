@@ -1,8 +1,8 @@
 -- Names by their order and by their test.
 use Rattle.salt_deps.specs.Order.{id_cmp}
-use Rattle.salt_model.specs.Words.{has_id}
-use Rattle.salt_keeps.specs.Rising.{Rising}
-use Rattle.salt_laws.proofs.Lists.{or_left_true, or_right_true}
+use Rattle.salt_values.specs.Id.{has_id}
+use Rattle.law_states.specs.Rising.{Rising}
+use Rattle.law_story.proofs.Lists.{or_left_true, or_right_true}
 use Rattle.salt_model.specs.Words.{Every}
 use Rattle.salt_values.specs.Id.{is_older, is_same_id}
 use Rattle.salt_values.specs.declared.id.Id.{Id}

@@ -1,13 +1,13 @@
 -- The pairs that a read adds are those with the last writers in its range.
 use Rattle.salt_deps.specs.Reads.{AreFresh, AreRead, is_read, reads_entry}
-use Rattle.salt_keeps.proofs.Closures.{any-in, into-any}
-use Rattle.salt_keeps.specs.KeptSources.{WritesIn}
-use Rattle.salt_keeps.specs.Members.{In}
-use Rattle.salt_laws.proofs.Ids.{and_left, and_right, is_same_id-refl, is_same_id-sym, is_same_id-true}
-use Rattle.salt_laws.proofs.Lists.{not-true}
-use Rattle.salt_laws.proofs.Places.{place_same}
+use Rattle.law_states.proofs.Closures.{any-in, into-any}
+use Rattle.law_states.specs.KeptSources.{WritesIn}
+use Rattle.law_states.specs.Members.{In}
+use Rattle.law_story.proofs.Ids.{and_left, and_right, is_same_id-refl, is_same_id-sym, is_same_id-true}
+use Rattle.law_story.proofs.Lists.{not-true}
+use Rattle.law_story.proofs.Places.{place_same}
 use Rattle.salt_model.specs.Tables.{place, place_cmp, place_total}
-use Rattle.salt_model.specs.Words.{has_id}
+use Rattle.salt_values.specs.Id.{has_id}
 use Rattle.salt_model.specs.declared.locks.Mode.{Mode}
 use Rattle.salt_model.specs.declared.places.Place.{Place}
 use Rattle.salt_ranges.specs.Ranges.{has_key}

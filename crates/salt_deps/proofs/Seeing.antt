@@ -1,9 +1,9 @@
 -- Names are seen, one after another.
-use Rattle.salt_laws.proofs.Ids.{is_same_id-refl, is_same_id-sym, is_same_id-true}
-use Rattle.salt_laws.proofs.Lists.{either, in-cases, in-left, in-right, or_cases, or_right_true}
+use Rattle.law_story.proofs.Ids.{is_same_id-refl, is_same_id-sym, is_same_id-true}
+use Rattle.law_story.proofs.Lists.{either, in-cases, in-left, in-right, or_cases, or_right_true}
 use Rattle.salt_deps.specs.Walks.{Sees, SeesAll, one_if, unseen}
-use Rattle.salt_keeps.specs.Members.{In}
-use Rattle.salt_model.specs.Words.{has_id}
+use Rattle.law_states.specs.Members.{In}
+use Rattle.salt_values.specs.Id.{has_id}
 use Rattle.salt_values.specs.Id.{is_same_id}
 use Rattle.salt_values.specs.declared.id.Id.{Id}
 use Rattle.std.proofs.Common.{ap, arith, get_or, inl, inr, length-append, subst, suc, sym, take, take-suc, ◌∙◌}

@@ -1,11 +1,11 @@
 -- Between finishes no program comes to finished ones alone.
 use Rattle.salt_deps.specs.Due.{NoneSettled, SettledComeTo}
-use Rattle.salt_keeps.specs.DependencyCalls.{HasFinished}
-use Rattle.salt_keeps.specs.KeptSources.{Dependencies, Through, itself, through}
-use Rattle.salt_keeps.proofs.NoneDue.{finish-leaves-none}
-use Rattle.salt_laws.proofs.Ids.{is_same_id-true}
-use Rattle.salt_laws.proofs.Lists.{either, or_cases}
-use Rattle.salt_model.specs.Words.{has_id}
+use Rattle.law_states.specs.DependencyCalls.{HasFinished}
+use Rattle.law_states.specs.KeptSources.{Dependencies, Through, itself, through}
+use Rattle.law_states.proofs.NoneDue.{finish-leaves-none}
+use Rattle.law_story.proofs.Ids.{is_same_id-true}
+use Rattle.law_story.proofs.Lists.{either, or_cases}
+use Rattle.salt_values.specs.Id.{has_id}
 use Rattle.salt_values.specs.Id.{is_same_id}
 use Rattle.salt_values.specs.declared.id.Id.{Id}
 use Rattle.std.proofs.Common.{inl, inr, subst, ◌∙◌}

@@ -2,8 +2,8 @@
 use Rattle.salt_deps.proofs.Reading.{IsReading}
 use Rattle.salt_deps.specs.Ends.{first_place, last_place}
 use Rattle.salt_deps.specs.Reads.{is_read, reads_entry}
-use Rattle.salt_laws.proofs.Ids.{and_left, and_right}
-use Rattle.salt_laws.proofs.Lists.{not-true}
+use Rattle.law_story.proofs.Ids.{and_left, and_right}
+use Rattle.law_story.proofs.Lists.{not-true}
 use Rattle.salt_model.specs.Tables.{place, place_cmp}
 use Rattle.salt_model.specs.declared.places.Place.{Place}
 use Rattle.salt_ranges.specs.Ranges.{ends_meet, has_key, is_above_low, is_below_high, is_range_empty}

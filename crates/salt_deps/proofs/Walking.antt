@@ -1,14 +1,14 @@
 -- A walk sees all to which steps lead from where it starts.
-use Rattle.salt_laws.proofs.Ids.{is_same_id-true}
-use Rattle.salt_laws.proofs.Lists.{either, has-in, in-cases, in-has, in-left, in-right, or_cases, or_left_true, or_right_true}
+use Rattle.law_story.proofs.Ids.{is_same_id-true}
+use Rattle.law_story.proofs.Lists.{either, has-in, in-cases, in-has, in-left, in-right, or_cases, or_left_true, or_right_true}
 use Rattle.salt_deps.proofs.Names.{same-at}
 use Rattle.salt_deps.specs.Due.{AreComers, AreReached, IsOpen}
 use Rattle.salt_deps.specs.Maps.{is_source, keys_in}
 use Rattle.salt_deps.specs.Order.{id_cmp}
 use Rattle.salt_deps.specs.Walks.{Sees, SeesAll, unseen}
-use Rattle.salt_keeps.specs.KeptSources.{Through, itself, through}
-use Rattle.salt_keeps.specs.Members.{In}
-use Rattle.salt_model.specs.Words.{has_id}
+use Rattle.law_states.specs.KeptSources.{Through, itself, through}
+use Rattle.law_states.specs.Members.{In}
+use Rattle.salt_values.specs.Id.{has_id}
 use Rattle.salt_values.specs.Id.{is_same_id}
 use Rattle.salt_values.specs.declared.id.Id.{Id}
 use Rattle.std.proofs.Common.{ap, arith, inl, inr, length-append, subst, sym, ◌∙◌}

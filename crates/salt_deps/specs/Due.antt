@@ -1,7 +1,7 @@
 -- What programs come to by reading, and which finished ones come to finished ones alone.
-use Rattle.salt_keeps.specs.KeptSources.{Through}
-use Rattle.salt_keeps.specs.Members.{In}
-use Rattle.salt_model.specs.Words.{has_id}
+use Rattle.law_states.specs.KeptSources.{Through}
+use Rattle.law_states.specs.Members.{In}
+use Rattle.salt_values.specs.Id.{has_id}
 use Rattle.salt_values.specs.declared.id.Id.{Id}
 use Rattle.std.specs.Prelude.{Bool, List, false, true, ◌↔◌, ◌≡◌, ◌⊎◌}
 

@@ -1,9 +1,9 @@
 -- What is kept, seen by its tests.
 use Rattle.salt_deps.specs.Maps.{is_source}
 use Rattle.salt_deps.specs.declared.deps.Deps.{Deps}
-use Rattle.salt_keeps.specs.KeptSources.{Dependencies}
+use Rattle.law_states.specs.KeptSources.{Dependencies}
 use Rattle.salt_model.specs.Tables.{place_cmp}
-use Rattle.salt_model.specs.Words.{has_id}
+use Rattle.salt_values.specs.Id.{has_id}
 use Rattle.salt_model.specs.declared.places.Place.{Place}
 use Rattle.salt_values.specs.declared.id.Id.{Id}
 use Rattle.std.specs.BTreeMap.{BTreeMap, get}

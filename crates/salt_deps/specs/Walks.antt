@@ -1,6 +1,6 @@
 -- Steps of a walk along names.
-use Rattle.salt_keeps.specs.Members.{In}
-use Rattle.salt_model.specs.Words.{has_id}
+use Rattle.law_states.specs.Members.{In}
+use Rattle.salt_values.specs.Id.{has_id}
 use Rattle.salt_values.specs.Id.{is_same_id}
 use Rattle.salt_values.specs.declared.id.Id.{Id}
 use Rattle.std.specs.Prelude.{Bool, List, [], false, if◌then◌else◌, length, not, true, ℕ, ◌+◌, ◌++◌, ◌∷◌, ◌≡◌, ◌≤◌, ◌||◌, ◌⊎◌}

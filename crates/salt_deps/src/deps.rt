@@ -31,10 +31,10 @@ pub struct Deps {
 
 impl Deps {
     ghost use Rattle.salt_deps.specs.Kept.{dependencies};
-    ghost use Rattle.salt_keeps.specs.DependencyCalls.{AreSame, HasAbandoned, HasFinished, HasRead, Wrote};
-    ghost use Rattle.salt_keeps.specs.KeptSources.{Through, no_dependencies};
-    ghost use Rattle.salt_keeps.specs.Members.{In};
-    ghost use Rattle.salt_keeps.specs.Rising.{Rising};
+    ghost use Rattle.law_states.specs.DependencyCalls.{AreSame, HasAbandoned, HasFinished, HasRead, Wrote};
+    ghost use Rattle.law_states.specs.KeptSources.{Through, no_dependencies};
+    ghost use Rattle.law_states.specs.Members.{In};
+    ghost use Rattle.law_states.specs.Rising.{Rising};
     ghost use Rattle.salt_model.specs.Tables.{place};
     ghost use Rattle.salt_model.specs.declared.locks.Mode.{Mode};
     ghost use Rattle.salt_values.specs.declared.id.Id.{Id};

@@ -2,7 +2,7 @@
 
 ghost use Rattle.salt_deps.specs.Due.{AreHeld, AreSettled, IsHeld, SettledComeTo};
 ghost use Rattle.salt_deps.specs.Maps.{is_source};
-ghost use Rattle.salt_model.specs.Words.{has_id};
+ghost use Rattle.salt_values.specs.Id.{has_id};
 ghost use Rattle.salt_values.specs.declared.id.Id.{Id};
 ghost use Rattle.std.specs.Prelude.{IfOk, IsTrue, [], not, ◌&&◌, ◌∷◌, ◌≡◌};
 

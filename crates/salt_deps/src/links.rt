@@ -1,7 +1,7 @@
 //! Which programs read from which.
 
 ghost use Rattle.salt_deps.specs.Maps.{is_listed, is_source, items_in, readers_at};
-ghost use Rattle.salt_model.specs.Words.{has_id};
+ghost use Rattle.salt_values.specs.Id.{has_id};
 ghost use Rattle.salt_values.specs.Id.{is_same_id};
 ghost use Rattle.salt_values.specs.declared.id.Id.{Id};
 ghost use Rattle.std.specs.Prelude.{◌≡◌, ◌&&◌, ◌||◌, IfOk, OnErr, OnOk, false, filter, not, true};

@@ -1,8 +1,8 @@
 //! Sets of names, and steps of a walk.
 
-ghost use Rattle.salt_model.specs.Words.{has_id};
+ghost use Rattle.salt_values.specs.Id.{has_id};
 ghost use Rattle.salt_deps.specs.Walks.{Sees, SeesAll};
-ghost use Rattle.salt_keeps.specs.Rising.{Rising};
+ghost use Rattle.law_states.specs.Rising.{Rising};
 ghost use Rattle.salt_values.specs.declared.id.Id.{Id};
 ghost use Rattle.std.specs.List.{list_all};
 ghost use Rattle.std.specs.Prelude.{◌≡◌, ◌&&◌, IfOk, OnOk, not};

@@ -2,9 +2,9 @@
 
 ghost use Rattle.salt_deps.specs.Maps.{is_source};
 ghost use Rattle.salt_deps.specs.Reads.{AreFresh, AreRead, is_read, reads_entry};
-ghost use Rattle.salt_keeps.specs.KeptSources.{unless_among};
+ghost use Rattle.law_states.specs.KeptSources.{unless_among};
 ghost use Rattle.salt_model.specs.Tables.{place_cmp};
-ghost use Rattle.salt_model.specs.Words.{has_id};
+ghost use Rattle.salt_values.specs.Id.{has_id};
 ghost use Rattle.salt_model.specs.declared.places.Place.{Place};
 ghost use Rattle.salt_ranges.specs.Ranges.{is_range_empty};
 ghost use Rattle.salt_values.specs.declared.id.Id.{Id};

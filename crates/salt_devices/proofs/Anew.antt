@@ -3,7 +3,7 @@ use Rattle.salt_bytes.specs.Generations.{BothBlank}
 use Rattle.salt_commit.specs.Openings.{HasRoom}
 use Rattle.salt_commit.specs.declared.store.Store.{Store}
 use Rattle.salt_decisions.specs.Decisions.{shape_of}
-use Rattle.salt_definitions.specs.Fitting.{kept_in}
+use Rattle.salt_stands.specs.Fitting.{kept_in}
 use Rattle.salt_devices.proofs.Answered.{like_stands}
 use Rattle.salt_devices.proofs.Known.{stands_fails}
 use Rattle.salt_devices.proofs.Opening.{like_unwritten}
@@ -30,8 +30,8 @@ use Rattle.salt_storage.specs.declared.found.Numbers.{Numbers}
 use Rattle.salt_storage.specs.declared.halt.Halt.TheVariants.{DeviceFull}
 use Rattle.salt_storage.specs.declared.open.OpenErr.TheVariants.{Halted, NotSalt, NumbersSpent, OtherShape}
 use Rattle.salt_storage.specs.declared.open.OpenErr.{OpenErr}
-use Rattle.salt_values.specs.Placement.{IsParts}
-use Rattle.salt_values.specs.declared.placement.Shape.{Shape}
+use Rattle.salt_place.specs.Placement.{IsParts}
+use Rattle.salt_place.specs.declared.placement.Shape.{Shape}
 use Rattle.std.proofs.Common.{Bool, IsTrue, List, Ok, Option, Some, ap, arith, false, inl, inr, refl, subst, sym, true, ℕ, ◌≡◌, ◌⊎◌, ◌∙◌}
 
 -- where nothing was written, what may come now came before

@@ -22,7 +22,7 @@ use Rattle.salt_storage.specs.Answers.{IsLater}
 use Rattle.salt_storage.specs.declared.halt.Halt.TheVariants.{Stopped}
 use Rattle.salt_storage.specs.declared.open.OpenErr.TheVariants.{Halted, NotSalt, NumbersSpent, OtherShape}
 use Rattle.salt_storage.specs.declared.open.OpenErr.{OpenErr}
-use Rattle.salt_values.specs.declared.placement.Shape.{Shape}
+use Rattle.salt_place.specs.declared.placement.Shape.{Shape}
 use Rattle.std.proofs.Common.{Bool, IsTrue, List, Some, false, inl, inr, refl, subst, sym, true, ℕ, ◌≡◌, ◌≢◌, ◌⊎◌, ◌∙◌}
 
 -- what was started holds its bytes

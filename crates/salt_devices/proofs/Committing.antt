@@ -13,10 +13,10 @@ use Rattle.salt_codec.specs.Moves.{IsShort, IsShortMove}
 use Rattle.salt_commit.specs.Commits.{MayCommitUnit, fits_its_part}
 use Rattle.salt_commit.specs.Shares.{next_decision}
 use Rattle.salt_commit.specs.Stores.{reading}
-use Rattle.salt_definitions.specs.Fitting.{are_of_columns, at_place, is_cont_of, is_key_of, is_row_of, passes_checks, programs_of, tables_of}
+use Rattle.salt_stands.specs.Fitting.{are_of_columns, at_place, is_cont_of, is_key_of, is_row_of, passes_checks, programs_of, tables_of}
 use Rattle.salt_devices.proofs.Limits.{arguments_length, at_every, columns_length, few_columns, few_params, few_vars, short_name}
 use Rattle.salt_devices.specs.Holding.{IsFresh, Keeps}
-use Rattle.salt_entries.specs.Entries.{IsPut, MayStand}
+use Rattle.salt_codec.specs.Entries.{IsPut, MayStand}
 use Rattle.salt_model.specs.Kept.{Definition, Kept, OfProgram, OfTable, Rise, cont_in, schema_of}
 use Rattle.salt_model.specs.Tables.{changed_at}
 use Rattle.salt_model.specs.Words.{Every}
@@ -28,13 +28,13 @@ use Rattle.salt_stands.specs.Placed.{changes_at, is_of_part}
 use Rattle.salt_stands.specs.Words.{given}
 use Rattle.salt_storage.specs.Storing.{IsSoundKept, IsSpelledDefinition, MayDecide, decided}
 use Rattle.salt_tokens.specs.Spelling.{same_bytes}
-use Rattle.salt_types.specs.Typed.{AreChangesOf, FitsAt, IsContOf, IsProperTable, has_key}
+use Rattle.law_types.specs.Typed.{AreChangesOf, FitsAt, IsContOf, IsProperTable, has_key}
 use Rattle.salt_values.specs.Id.{is_same_id}
 use Rattle.salt_values.specs.Value.{is_null}
 use Rattle.salt_values.specs.declared.change.Change.{Change}
 use Rattle.salt_values.specs.declared.cont.Cont.{Cont}
 use Rattle.salt_values.specs.declared.id.Id.{Id}
-use Rattle.salt_values.specs.declared.placement.Shape.{Shape}
+use Rattle.salt_place.specs.declared.placement.Shape.{Shape}
 use Rattle.salt_values.specs.declared.value.Value.TheVariants.{Int, Null, Text}
 use Rattle.salt_values.specs.declared.value.Value.{Value}
 use Rattle.std.proofs.Common.{Bool, List, None, Option, Some, [], ap, arith, false, length, refl, subst, sym, true, ℕ, ◌+◌, ◌++◌, ◌≡◌, ◌≤◌, ◌∙◌, ◌∷◌}
@@ -136,7 +136,7 @@ put_row schema table row plain fits = by (at_place schema table) refl fits
 put_change : (schema : List TableDef) (c : Change) → Every IsPlain schema → FitsAt schema (changed_at c) c.row → IsPut true c
 put_change schema c plain fits = by c.row fits
   where
-    by : (o : Option (List Value)) → FitsAt schema (changed_at c) o → Rattle.salt_entries.specs.Entries.IsPutTo true c.key o
+    by : (o : Option (List Value)) → FitsAt schema (changed_at c) o → Rattle.salt_codec.specs.Entries.IsPutTo true c.key o
     by None h = key_is_some (at_place schema c.table) c.key h
     by (Some row) h = (put_row schema c.table row plain h.fits, same row h.key, all_stand row)
       where

@@ -12,7 +12,8 @@ use Rattle.salt_devices.specs.Leaving.{Leaves}
 use Rattle.salt_disk.specs.Disks.{IsImage, SameShape, View}
 use Rattle.salt_model.specs.Kept.{Definition, Kept}
 use Rattle.salt_model.specs.Tables.{Tables, with_changes}
-use Rattle.salt_model.specs.Words.{Every, has_id}
+use Rattle.salt_model.specs.Words.{Every}
+use Rattle.salt_values.specs.Id.{has_id}
 use Rattle.salt_stands.proofs.Commits.{listed_same}
 use Rattle.salt_stands.proofs.Decided.{decided_with, decided_without}
 use Rattle.salt_stands.proofs.Joined.{joined_changes, placed_changes}
@@ -24,14 +25,14 @@ use Rattle.salt_stands.specs.Placed.{AreOfParts, IsPlaced, changes_at}
 use Rattle.salt_stands.specs.Tables.{joined}
 use Rattle.salt_stands.specs.Words.{has_bit}
 use Rattle.salt_storage.specs.Storing.{MayDecide, decided}
-use Rattle.salt_values.proofs.Places.{place_of-below}
+use Rattle.salt_place.proofs.Places.{place_of-below}
 use Rattle.salt_values.specs.Id.{is_same_id}
-use Rattle.salt_values.specs.Placement.{IsParts}
+use Rattle.salt_place.specs.Placement.{IsParts}
 use Rattle.salt_values.specs.Value.{IsValue}
 use Rattle.salt_values.specs.declared.change.Change.{Change}
 use Rattle.salt_values.specs.declared.cont.Cont.{Cont}
 use Rattle.salt_values.specs.declared.id.Id.{Id}
-use Rattle.salt_values.specs.declared.placement.Shape.{Shape}
+use Rattle.salt_place.specs.declared.placement.Shape.{Shape}
 use Rattle.salt_bytes.specs.declared.moves.Move.{Move}
 use Rattle.std.proofs.Common.{Bool, IsTrue, List, [], ap, arith, false, refl, subst, sym, true, ℕ, ◌+◌, ◌++◌, ◌<◌, ◌≡◌, ◌∙◌, ◌∷◌}
 use Rattle.std.specs.Prelude.{if◌then◌else◌, ◌||◌}

@@ -8,7 +8,7 @@ use Rattle.salt_commit.specs.Openings.{NamesPages}
 use Rattle.salt_commit.specs.Shares.{next_decision}
 use Rattle.salt_commit.specs.Stores.{IsStore, StandForEither, reading}
 use Rattle.salt_commit.specs.declared.store.Store.{Store}
-use Rattle.salt_definitions.specs.Fitting.{tables_of}
+use Rattle.salt_stands.specs.Fitting.{tables_of}
 use Rattle.salt_devices.proofs.Committing.{may_commit_unit}
 use Rattle.salt_devices.proofs.Decided.{unit_held, unit_leaves, unit_new}
 use Rattle.salt_devices.proofs.Renamed.{IsHeldWithout, held_without}
@@ -22,14 +22,14 @@ use Rattle.salt_stands.specs.Commits.{found_after, found_of, parts_of, view_afte
 use Rattle.salt_stands.specs.Coordinator.{Coordinator}
 use Rattle.salt_stands.specs.Pieces.{PartView, with_decision}
 use Rattle.salt_storage.specs.Storing.{MayDecide, decided}
-use Rattle.salt_types.specs.Typed.{AreChangesOf}
+use Rattle.law_types.specs.Typed.{AreChangesOf}
 use Rattle.salt_values.specs.Id.{is_same_id}
-use Rattle.salt_values.specs.Placement.{IsParts}
+use Rattle.salt_place.specs.Placement.{IsParts}
 use Rattle.salt_values.specs.Value.{IsValue}
 use Rattle.salt_values.specs.declared.change.Change.{Change}
 use Rattle.salt_values.specs.declared.cont.Cont.{Cont}
 use Rattle.salt_values.specs.declared.id.Id.{Id}
-use Rattle.salt_values.specs.declared.placement.Shape.{Shape}
+use Rattle.salt_place.specs.declared.placement.Shape.{Shape}
 use Rattle.std.proofs.Common.{IsTrue, List, Some, arith, ap, false, subst, sym, true, ℕ, ◌<◌, ◌≡◌, ◌≤◌, ◌∙◌}
 use Rattle.std.proofs.lemmas.Bool.Decides.{nat_tests}
 use Rattle.std.specs.List.{list_all}

@@ -4,8 +4,8 @@ use Rattle.salt_commit.specs.Openings.{LeavesPages, NamesPages}
 use Rattle.salt_commit.specs.Stores.{IsStore, StandForEither, coordinator_device, next_text, reading}
 use Rattle.salt_commit.specs.Stores as commit
 use Rattle.salt_commit.specs.declared.store.Store.{Store}
-use Rattle.salt_canonical.specs.Texts.{definition_in}
-use Rattle.salt_definitions.specs.Fitting.{is_refused, kept_in}
+use Rattle.law_definitions.specs.Texts.{definition_in}
+use Rattle.salt_stands.specs.Fitting.{is_refused, kept_in}
 use Rattle.salt_devices.proofs.Stores.{IsJudged, held_is, is_begun, no_pages_left}
 use Rattle.salt_devices.proofs.Kept.{booted_sound}
 use Rattle.salt_devices.specs.Holding.{IsHeld, Keeps}
@@ -19,7 +19,7 @@ use Rattle.salt_stands.specs.Partition.{part_device}
 use Rattle.salt_stands.specs.Pieces.{PartView, with_boot, with_definition}
 use Rattle.salt_stands.specs.Stands.{Found, judged}
 use Rattle.salt_storage.specs.Storing.{MayDefine, booted, defined}
-use Rattle.salt_values.specs.declared.placement.Shape.{Shape}
+use Rattle.salt_place.specs.declared.placement.Shape.{Shape}
 use Rattle.std.proofs.Common.{IsTrue, List, Ok, Option, Some, [], ap, arith, inl, inr, sym, ℕ, ◌+◌, ◌*◌, ◌++◌, ◌<◌, ◌≡◌, ◌⊎◌, ◌∙◌, ◌∷◌}
 
 -- images shrink

@@ -27,7 +27,7 @@ use Rattle.salt_stands.specs.Placed.{changes_at}
 use Rattle.salt_storage.specs.Writing.{OfBoot, OfDefinition, OfUnit}
 use Rattle.salt_values.specs.declared.change.Change.{Change}
 use Rattle.salt_values.specs.declared.id.Id.{Id}
-use Rattle.salt_values.specs.declared.placement.Shape.{Shape}
+use Rattle.salt_place.specs.declared.placement.Shape.{Shape}
 use Rattle.std.proofs.lemmas.Option.{slice_get_within}
 use Rattle.std.proofs.Common.{IsTrue, List, ap, arith, inl, inr, length, refl, slice_get, subst, sym, ℕ, ◌+◌, ◌<◌, ◌≡◌, ◌∙◌}
 

@@ -1,7 +1,7 @@
 -- What is recovered of a store's log, with rows that fit, may be kept, and is what an opening finds.
 use Rattle.salt_bytes.specs.Formats.{has_nulls}
 use Rattle.salt_bytes.specs.Generations.{WhichLog}
-use Rattle.salt_canonical.specs.Texts.{IsTextOf, definition_in}
+use Rattle.law_definitions.specs.Texts.{IsTextOf, definition_in}
 use Rattle.salt_commit.proofs.Opening.{IsOfLog, of_log}
 use Rattle.salt_commit.specs.Loads as loads
 use Rattle.salt_commit.specs.Loads.{AreInPlace}
@@ -9,13 +9,13 @@ use Rattle.salt_commit.specs.Stores.{ArePartitions, IsSound, IsStore, reading}
 use Rattle.salt_commit.specs.declared.store.Store.{Store}
 use Rattle.salt_decisions.specs.Decisions.{IsDecisions}
 use Rattle.salt_decisions.specs.declared.kept.Kept as log
-use Rattle.salt_definitions.specs.Fitting.{kept_in, tables_of}
+use Rattle.salt_stands.specs.Fitting.{kept_in, tables_of}
 use Rattle.salt_devices.proofs.Sound.{sound_kept}
 use Rattle.salt_devices.specs.Holding.{IsHeld, Keeps}
 use Rattle.salt_devices.specs.Opened.{HoldsFound, IsNewest, IsOpen}
 use Rattle.salt_disk.specs.Disks.{View}
-use Rattle.salt_drain.specs.Recovered.{IsRecovered}
-use Rattle.salt_drain.specs.declared.recovery.Recovered.{Recovered}
+use Rattle.salt_found.specs.Recovered.{IsRecovered}
+use Rattle.salt_found.specs.declared.recovery.Recovered.{Recovered}
 use Rattle.salt_model.specs.Kept.{Definition, Kept, OfTable}
 use Rattle.salt_model.specs.Tables.{Entry}
 use Rattle.salt_model.specs.Words.{Every}
@@ -28,9 +28,9 @@ use Rattle.salt_stands.specs.CoordinatorLog.{CoordinatorLog}
 use Rattle.salt_stands.specs.Pieces.{PartView}
 use Rattle.salt_stands.specs.Placed.{IsPlaced}
 use Rattle.salt_storage.specs.declared.found.Found.{Found}
-use Rattle.salt_types.proofs.Found.{IsFoundTyped, coordinator-typed}
-use Rattle.salt_types.specs.Typed.{IsRowAt, IsTyped, has_key}
-use Rattle.salt_values.specs.declared.placement.Shape.{Shape}
+use Rattle.law_types.proofs.Found.{IsFoundTyped, coordinator-typed}
+use Rattle.law_types.specs.Typed.{IsRowAt, IsTyped, has_key}
+use Rattle.salt_place.specs.declared.placement.Shape.{Shape}
 use Rattle.std.proofs.Common.{IsTrue, List, Some, ap, arith, refl, subst, sym, true, ℕ, ◌<◌, ◌≡◌, ◌∙◌}
 use Rattle.std.specs.Prelude.{nat_lt, ◌||◌, [], ◌∷◌}
 

@@ -1,6 +1,7 @@
 -- What may be kept stays so behind a boot, and names that no entry has.
 use Rattle.salt_model.specs.Kept.{Kept}
-use Rattle.salt_model.specs.Words.{Every, has_id}
+use Rattle.salt_model.specs.Words.{Every}
+use Rattle.salt_values.specs.Id.{has_id}
 use Rattle.salt_storage.specs.Storing.{IsSoundKept, booted}
 use Rattle.salt_values.specs.declared.cont.Cont.{Cont}
 use Rattle.salt_values.specs.declared.id.Id.{Id}

@@ -11,7 +11,7 @@ use Rattle.salt_stands.specs.Stands.{are_spent, opening_of}
 use Rattle.salt_devices.specs.Remembering.{MayTell}
 use Rattle.salt_storage.specs.declared.open.OpenErr.TheVariants.{Halted, NotSalt, NumbersSpent, OtherShape}
 use Rattle.salt_storage.specs.declared.open.OpenErr.{OpenErr}
-use Rattle.salt_values.specs.declared.placement.Shape.{Shape}
+use Rattle.salt_place.specs.declared.placement.Shape.{Shape}
 use Rattle.std.proofs.Common.{List, ap, arith, inl, inr, sym, ℕ, ◌<◌, ◌≡◌, ◌⊎◌, ◌∙◌}
 
 not_older : (shape : Shape) (bytes : ℕ → List ℕ) (a : Kept) (s : StandsFor shape bytes a) (dev : ℕ) → IsOlder bytes dev → ⊥

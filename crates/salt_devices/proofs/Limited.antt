@@ -18,7 +18,7 @@ use Rattle.salt_stands.specs.Pieces.{other_log}
 use Rattle.salt_storage.specs.Writing.{OfUnit}
 use Rattle.salt_values.specs.declared.change.Change.{Change}
 use Rattle.salt_values.specs.declared.id.Id.{Id}
-use Rattle.salt_values.specs.declared.placement.Shape.{Shape}
+use Rattle.salt_place.specs.declared.placement.Shape.{Shape}
 use Rattle.std.proofs.Common.{IsTrue, List, Some, ap, arith, inl, inr, length, sym, ℕ, ◌+◌, ◌<◌, ◌≡◌, ◌≢◌, ◌⊎◌, ◌∙◌}
 
 same_which : {L : Type 0} (w z : WhichLog) (x y : L) → Counts w x ≡ Counts z y → w ≡ z

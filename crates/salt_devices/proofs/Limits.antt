@@ -6,7 +6,7 @@ use Rattle.salt_ast.specs.declared.limit.LimitName.{LimitName}
 use Rattle.salt_ast.specs.declared.programs.ProgramDef.{ProgramDef}
 use Rattle.salt_ast.specs.declared.trees.Field.{Field}
 use Rattle.salt_ast.specs.declared.trees.TableDef.{TableDef}
-use Rattle.salt_definitions.specs.Fitting.{are_of_columns, at_place}
+use Rattle.salt_stands.specs.Fitting.{are_of_columns, at_place}
 use Rattle.salt_model.specs.Words.{Every}
 use Rattle.salt_values.specs.declared.value.Value.{Value}
 use Rattle.std.proofs.Common.{Bool, List, None, Option, Some, [], ap, arith, false, length, refl, subst, true, ℕ, ◌≡◌, ◌≤◌, ◌∷◌}

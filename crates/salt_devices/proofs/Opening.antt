@@ -15,7 +15,7 @@ use Rattle.salt_decisions.specs.declared.error.OpenErr.TheVariants.{Failed, Full
 use Rattle.salt_decisions.specs.declared.kept.Kept as log
 use Rattle.salt_devices.proofs.Answered.{AreAlike, IsLike, IsNothing, IsOpened, counted_log, opened_as, opened_stands, stands_for_nothing}
 use Rattle.salt_devices.specs.Errors.{open_err_of}
-use Rattle.salt_definitions.specs.Fitting.{kept_in}
+use Rattle.salt_stands.specs.Fitting.{kept_in}
 use Rattle.salt_devices.specs.Leaving.{Stands}
 use Rattle.salt_devices.specs.Opened.{HoldsFound, IsNewestWhere, IsOpen, IsUnread, OpensAs}
 use Rattle.salt_devices.specs.Refusing.{RefusedAs}
@@ -34,8 +34,8 @@ use Rattle.salt_storage.specs.declared.halt.Halt.TheVariants as halt
 use Rattle.salt_storage.specs.declared.halt.Halt.TheVariants.{DeviceFull}
 use Rattle.salt_storage.specs.declared.open.OpenErr.TheVariants as storage
 use Rattle.salt_storage.specs.declared.open.OpenErr.{OpenErr}
-use Rattle.salt_values.specs.Placement.{IsParts}
-use Rattle.salt_values.specs.declared.placement.Shape.{Shape}
+use Rattle.salt_place.specs.Placement.{IsParts}
+use Rattle.salt_place.specs.declared.placement.Shape.{Shape}
 use Rattle.std.proofs.Common.{IsTrue, List, None, Ok, Option, ap, arith, inl, inr, refl, subst, sym, ℕ, ◌*◌, ◌+◌, ◌<◌, ◌≡◌, ◌⊎◌, ◌∙◌}
 use Rattle.std.specs.Prelude.{Err, IfErr, Result}
 

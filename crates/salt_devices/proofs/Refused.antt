@@ -12,7 +12,7 @@ use Rattle.salt_storage.specs.Answers.{IsRefusal, WritesNothing, open_disk_err_o
 use Rattle.salt_storage.specs.declared.halt.Halt.TheVariants.{DeviceFull, DiskFault, Memory, Stopped}
 use Rattle.salt_storage.specs.declared.open.OpenErr.TheVariants.{Halted, NotSalt, NumbersSpent, OtherShape}
 use Rattle.salt_storage.specs.declared.open.OpenErr.{OpenErr}
-use Rattle.salt_values.specs.declared.placement.Shape.{Shape}
+use Rattle.salt_place.specs.declared.placement.Shape.{Shape}
 use Rattle.std.proofs.Common.{List, None, Ok, Option, Some, ap, inl, inr, refl, sym, ℕ, ◌≡◌, ◌∙◌}
 
 -- blank devices are refused by nothing

@@ -10,10 +10,10 @@ use Rattle.salt_devices.proofs.Renaming.{coordinator_renamed, decided_renamed, d
 use Rattle.salt_devices.proofs.Stores.{logs_of_store}
 use Rattle.salt_devices.specs.Holding.{IsFresh, IsHeld, IsNewTo, Keeps}
 use Rattle.salt_disk.specs.Disks.{View}
-use Rattle.salt_entries.specs.declared.prepared.PreparedUnit.{PreparedUnit}
+use Rattle.salt_codec.specs.declared.prepared.PreparedUnit.{PreparedUnit}
 use Rattle.salt_model.specs.Kept.{Definition, Kept}
 use Rattle.salt_model.specs.Tables.{no_rows, with_changes}
-use Rattle.salt_model.specs.Words.{has_id}
+use Rattle.salt_values.specs.Id.{has_id}
 use Rattle.salt_partition.specs.Contents.{AreKeyed}
 use Rattle.salt_partition.specs.Partitions.{IsLastKept, IsPartition}
 use Rattle.salt_partition.specs.declared.partition.Partition.{Partition}
@@ -29,7 +29,7 @@ use Rattle.salt_stands.specs.Words.{has_bit}
 use Rattle.salt_values.specs.Id.{is_same_id}
 use Rattle.salt_values.specs.declared.cont.Cont.{Cont}
 use Rattle.salt_values.specs.declared.id.Id.{Id}
-use Rattle.salt_values.specs.declared.placement.Shape.{Shape}
+use Rattle.salt_place.specs.declared.placement.Shape.{Shape}
 use Rattle.std.proofs.Common.{Bool, IsTrue, List, Option, Some, [], ap, arith, false, refl, slice_get, subst, sym, true, ℕ, ◌+◌, ◌++◌, ◌≡◌, ◌∙◌, ◌∷◌}
 use Rattle.std.proofs.lemmas.Bool.Decides.{Decides-eqb}
 use Rattle.std.specs.List.{filter}

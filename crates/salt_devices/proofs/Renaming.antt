@@ -3,7 +3,7 @@ use Rattle.salt_bytes.specs.Coordinator.{Decision}
 use Rattle.salt_bytes.specs.Partition.{Prepared}
 use Rattle.salt_commit.specs.Stores.{decided_by}
 use Rattle.salt_model.specs.Kept.{Definition}
-use Rattle.salt_model.specs.Words.{has_id}
+use Rattle.salt_values.specs.Id.{has_id}
 use Rattle.salt_stands.specs.Coordinator.{Coordinator}
 use Rattle.salt_stands.specs.Pieces.{PartView}
 use Rattle.salt_values.specs.declared.id.Id.{Id}

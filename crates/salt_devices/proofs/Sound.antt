@@ -4,9 +4,9 @@ use Rattle.salt_ast.specs.ProgramJudgement.{are_arguments, program_named}
 use Rattle.salt_ast.specs.declared.programs.ProgramDef.{ProgramDef}
 use Rattle.salt_bytes.specs.Conts.{move_in}
 use Rattle.salt_bytes.specs.Coordinator.{Decision, NumberedText}
-use Rattle.salt_canonical.specs.Texts.{IsTextOf, definition_in}
+use Rattle.law_definitions.specs.Texts.{IsTextOf, definition_in}
 use Rattle.salt_commit.specs.Stores.{reading}
-use Rattle.salt_definitions.specs.Fitting.{is_cont_of, programs_of, stands_at_part}
+use Rattle.salt_stands.specs.Fitting.{is_cont_of, programs_of, stands_at_part}
 use Rattle.salt_model.specs.Kept.{Definition, Kept, OfProgram, OfTable, Rise, WellKept, kept_program, parts_of, retries_of}
 use Rattle.salt_model.specs.Words.{Every}
 use Rattle.salt_stands.proofs.Booleans.{all_weaker, left, right}
@@ -16,7 +16,7 @@ use Rattle.salt_stands.specs.OpenConts.{conts_of_move, do_rise, is_later_than, i
 use Rattle.salt_stands.specs.Pieces.{IsCoordinator}
 use Rattle.salt_stands.specs.Words.{and_then, given}
 use Rattle.salt_storage.specs.Storing.{IsSoundKept, IsSpelledDefinition}
-use Rattle.salt_types.specs.Typed.{IsTyped}
+use Rattle.law_types.specs.Typed.{IsTyped}
 use Rattle.salt_values.specs.declared.cont.Cont.{Cont}
 use Rattle.std.proofs.Common.{Bool, List, None, Option, Some, [], ap, arith, false, refl, subst, sym, true, ℕ, ◌++◌, ◌<◌, ◌≡◌, ◌≤◌, ◌∙◌, ◌∷◌}
 use Rattle.std.proofs.lemmas.Bool.Decides.{nat_tests}

@@ -2,12 +2,12 @@
 use Rattle.salt_devices.specs.Holding.{CanStart, IsAble}
 use Rattle.salt_devices.specs.Leaving.{CanOpen, LeavesAs, MayCome}
 use Rattle.salt_devices.specs.Refusing.{ComesUpon}
-use Rattle.salt_devices.specs.Settling.{AreSettled}
+use Rattle.salt_disk.specs.Settling.{AreSettled}
 use Rattle.salt_devices.specs.declared.pending.Pending.TheVariants.{Opening}
 use Rattle.salt_devices.specs.declared.pending.Pending.{Pending}
 use Rattle.salt_disk.specs.Disks.{IsRestarted, SameShape, View}
 use Rattle.salt_model.specs.Kept.{Kept}
-use Rattle.salt_values.specs.declared.placement.Shape.{Shape}
+use Rattle.salt_place.specs.declared.placement.Shape.{Shape}
 use Rattle.std.proofs.Common.{Bool, IsTrue, List, arith, false, refl, subst, sym, true, ℕ, ◌≡◌, ◌∙◌}
 
 pub able_on : (shape : Shape) (d e : View) → SameShape d e → IsAble shape d → IsAble shape e

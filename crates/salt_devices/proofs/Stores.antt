@@ -5,13 +5,13 @@ use Rattle.salt_commit.proofs.Standing.{part_at, unchanged_images}
 use Rattle.salt_commit.specs.Openings.{NamesPages}
 use Rattle.salt_commit.specs.Stores.{IsStore, Stands, decided_by, next_text, reading}
 use Rattle.salt_commit.specs.declared.store.Store.{Store}
-use Rattle.salt_definitions.specs.Fitting.{kept_in, tables_of}
+use Rattle.salt_stands.specs.Fitting.{kept_in, tables_of}
 use Rattle.salt_devices.specs.Holding.{AreLogsOf, IsFresh, IsHeld, IsNewTo}
 use Rattle.salt_devices.specs.Leaving.{IsLeft, Leaves, StandsFor}
 use Rattle.salt_disk.proofs.CallAfterCall.{same_shape}
 use Rattle.salt_disk.specs.Disks.{IsImage, SameShape, Shrinks, View}
 use Rattle.salt_model.specs.Kept.{Definition, Kept, schema_of}
-use Rattle.salt_model.specs.Words.{has_id}
+use Rattle.salt_values.specs.Id.{has_id}
 use Rattle.salt_partition.proofs.Framed.{logs_settled}
 use Rattle.salt_partition.specs.Openings.{are_some, has_pages}
 use Rattle.salt_stands.proofs.Pairs.{pair_same}
@@ -24,7 +24,7 @@ use Rattle.salt_stands.specs.Pieces.{PartView, is_prepared_in, with_definition}
 use Rattle.salt_stands.specs.Stands.{Found, judged, logs_of, nothing_found, with_parts}
 use Rattle.salt_stands.specs.Words.{if_sound}
 use Rattle.salt_values.specs.declared.id.Id.{Id}
-use Rattle.salt_values.specs.declared.placement.Shape.{Shape}
+use Rattle.salt_place.specs.declared.placement.Shape.{Shape}
 use Rattle.std.proofs.Common.{IsTrue, List, Ok, Some, [], ap, arith, false, inl, sym, true, ℕ, ◌+◌, ◌<◌, ◌≡◌, ◌∙◌}
 
 pub same_of_some : {A : Type 0} (x y : A) → Some x ≡ Some y → x ≡ y

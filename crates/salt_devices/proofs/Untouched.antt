@@ -14,7 +14,7 @@ use Rattle.salt_stands.specs.Stands.{logs_of}
 use Rattle.salt_storage.specs.Writing.{OfBoot, OfDefinition}
 use Rattle.salt_values.specs.declared.change.Change.{Change}
 use Rattle.salt_values.specs.declared.id.Id.{Id}
-use Rattle.salt_values.specs.declared.placement.Shape.{Shape}
+use Rattle.salt_place.specs.declared.placement.Shape.{Shape}
 use Rattle.std.proofs.Common.{List, Some, ap, arith, inl, inr, sym, ℕ, ◌+◌, ◌≡◌, ◌≢◌, ◌⊎◌, ◌∙◌}
 use Rattle.std.proofs.lemmas.Bool.{cases_eq}
 

@@ -18,7 +18,7 @@ use Rattle.salt_stands.specs.Coordinator.{device_of}
 use Rattle.salt_stands.specs.Partition.{part_device}
 use Rattle.salt_storage.specs.Staying.{StaysWithin, devices_of}
 use Rattle.salt_values.specs.declared.change.Change.{Change}
-use Rattle.salt_values.specs.declared.placement.Shape.{Shape}
+use Rattle.salt_place.specs.declared.placement.Shape.{Shape}
 use Rattle.std.proofs.Common.{List, Option, ap, arith, inl, inr, length, refl, slice_get, subst, sym, ℕ, ◌≡◌, ◌≤◌, ◌∙◌}
 
 pub nothing_within : (d : View) (shape : Shape) → StaysWithin shape shape d d

@@ -18,7 +18,7 @@ use Rattle.salt_stands.specs.Stands.{logs_of}
 use Rattle.salt_storage.specs.Writing.{OfBoot, OfDefinition, OfOpening, OfUnit, Written}
 use Rattle.salt_values.specs.declared.change.Change.{Change}
 use Rattle.salt_values.specs.declared.id.Id.{Id}
-use Rattle.salt_values.specs.declared.placement.Shape.{Shape}
+use Rattle.salt_place.specs.declared.placement.Shape.{Shape}
 use Rattle.std.specs.Prelude.{IsTrue, List, Some, length, true, ℕ, ◌+◌, ◌<◌, ◌≡◌, ◌⊎◌}
 
 -- behind the entries of the device there is no room for one with this payload, and the next closed gate

@@ -4,11 +4,11 @@ use Rattle.salt_bytes.specs.Generations.{Counts, WhichLog}
 use Rattle.salt_commit.specs.Stores.{IsStore, decided_by, reading}
 use Rattle.salt_commit.specs.declared.store.Store.{Store}
 use Rattle.salt_devices.specs.Leaving.{CanOpen}
-use Rattle.salt_devices.specs.Settling.{AreSettled}
+use Rattle.salt_disk.specs.Settling.{AreSettled}
 use Rattle.salt_devices.specs.declared.pending.Pending.{Pending}
 use Rattle.salt_disk.specs.Disks.{View}
 use Rattle.salt_model.specs.Kept.{Definition, Kept}
-use Rattle.salt_model.specs.Words.{has_id}
+use Rattle.salt_values.specs.Id.{has_id}
 use Rattle.salt_stands.specs.Commits.{each_tables, found_of, parts_of}
 use Rattle.salt_stands.specs.Coordinator.{Coordinator, coordinator_pair}
 use Rattle.salt_stands.specs.Partition.{pages_device, part_pair}
@@ -16,9 +16,9 @@ use Rattle.salt_stands.specs.Pieces.{PartView, is_prepared_in}
 use Rattle.salt_stands.specs.Placed.{IsPlaced}
 use Rattle.salt_stands.specs.Stands.{logs_of}
 use Rattle.salt_storage.specs.Storing.{IsSoundKept}
-use Rattle.salt_values.specs.Placement.{IsParts}
+use Rattle.salt_place.specs.Placement.{IsParts}
 use Rattle.salt_values.specs.declared.id.Id.{Id}
-use Rattle.salt_values.specs.declared.placement.Shape.{Shape}
+use Rattle.salt_place.specs.declared.placement.Shape.{Shape}
 use Rattle.std.specs.Prelude.{Bool, IsTrue, None, Option, Some, false, true, ℕ, ◌<◌, ◌≡◌}
 
 -- there are devices for each part

@@ -2,14 +2,14 @@
 use Rattle.salt_bytes.specs.Generations.{BothBlank}
 use Rattle.salt_commit.specs.Openings.{LeavesPages}
 use Rattle.salt_commit.specs.Stores.{reading}
-use Rattle.salt_definitions.specs.Fitting.{kept_in}
+use Rattle.salt_stands.specs.Fitting.{kept_in}
 use Rattle.salt_devices.specs.declared.pending.Pending.TheVariants.{Opening}
 use Rattle.salt_devices.specs.declared.pending.Pending.{Pending}
 use Rattle.salt_disk.specs.Disks.{IsImage, View}
 use Rattle.salt_model.specs.Kept.{Definition, Kept}
 use Rattle.salt_stands.specs.Coordinator.{coordinator_pair}
 use Rattle.salt_stands.specs.Stands.{Found, judged, logs_of}
-use Rattle.salt_values.specs.declared.placement.Shape.{Shape}
+use Rattle.salt_place.specs.declared.placement.Shape.{Shape}
 use Rattle.std.specs.Prelude.{Bool, IsTrue, List, Ok, false, true, ℕ, ◌<◌, ◌≡◌, ◌⊎◌}
 
 -- the devices stand for what is kept, in this shape and the newest format; no pages are left there

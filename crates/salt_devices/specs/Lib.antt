@@ -5,5 +5,4 @@ pub mod Leaving
 pub mod Opened
 pub mod Refusing
 pub mod Remembering
-pub mod Settling
 pub mod Standing

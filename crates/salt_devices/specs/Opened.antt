@@ -6,13 +6,13 @@ use Rattle.salt_commit.specs.Stores.{IsStore, reading}
 use Rattle.salt_commit.specs.declared.store.Store.{Store}
 use Rattle.salt_decisions.specs.Kept.{IsKept}
 use Rattle.salt_decisions.specs.declared.kept.Kept as log
-use Rattle.salt_definitions.specs.Fitting.{kept_in}
+use Rattle.salt_stands.specs.Fitting.{kept_in}
 use Rattle.salt_devices.specs.Holding.{IsHeld}
 use Rattle.salt_devices.specs.Leaving.{StandsFor}
 use Rattle.salt_devices.specs.Remembering.{AreNumbersOf}
 use Rattle.salt_disk.specs.Disks.{View}
-use Rattle.salt_drain.specs.Recovered.{IsRecovered}
-use Rattle.salt_drain.specs.declared.recovery.Recovered.{Recovered}
+use Rattle.salt_found.specs.Recovered.{IsRecovered}
+use Rattle.salt_found.specs.declared.recovery.Recovered.{Recovered}
 use Rattle.salt_model.specs.Kept.{Definition, Kept}
 use Rattle.salt_stands.specs.Commits.{found_of, parts_of}
 use Rattle.salt_stands.specs.Coordinator.{Coordinator, coordinator_of}
@@ -21,7 +21,7 @@ use Rattle.salt_stands.specs.Pieces.{PartView}
 use Rattle.salt_storage.specs.Storing.{IsFound}
 use Rattle.salt_storage.specs.declared.found.Found.{Found}
 use Rattle.salt_storage.specs.declared.found.Numbers.{Numbers}
-use Rattle.salt_values.specs.declared.placement.Shape.{Shape}
+use Rattle.salt_place.specs.declared.placement.Shape.{Shape}
 use Rattle.std.specs.Prelude.{IsTrue, List, None, true, ℕ, ⊤, ◌<◌, ◌≡◌, ◌≢◌, ◌⊎◌}
 
 -- THE LOG that is opened

@@ -16,7 +16,7 @@ use Rattle.salt_storage.specs.declared.open.OpenErr.TheVariants.{Halted, NotSalt
 use Rattle.salt_storage.specs.declared.open.OpenErr.{OpenErr}
 use Rattle.salt_values.specs.declared.change.Change.{Change}
 use Rattle.salt_values.specs.declared.cont.Cont.{Cont}
-use Rattle.salt_values.specs.declared.placement.Shape.{Shape}
+use Rattle.salt_place.specs.declared.placement.Shape.{Shape}
 use Rattle.std.specs.Prelude.{List, None, Option, Some, [], true, ℕ, ⊤, ◌+◌, ◌<◌, ◌≡◌, ◌⊎◌}
 
 abbrev pub entries_of : Tables → List Entry

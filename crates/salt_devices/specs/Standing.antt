@@ -3,13 +3,13 @@ use Rattle.salt_commit.specs.declared.store.Store.{Store}
 use Rattle.salt_devices.specs.Holding.{CanStart, HoldsIn, IsAble}
 use Rattle.salt_devices.specs.Leaving.{CanOpen, LeavesAs, MayCome, StandsFor}
 use Rattle.salt_devices.specs.Remembering.{AreNumbersOf, Remembers}
-use Rattle.salt_devices.specs.Settling.{AreSettled}
+use Rattle.salt_disk.specs.Settling.{AreSettled}
 use Rattle.salt_devices.specs.declared.pending.Pending.TheVariants.{Nothing}
 use Rattle.salt_devices.specs.declared.pending.Pending.{Pending}
 use Rattle.salt_disk.specs.Disks.{View}
 use Rattle.salt_model.specs.Kept.{Kept}
 use Rattle.salt_storage.specs.declared.found.Numbers.{Numbers}
-use Rattle.salt_values.specs.declared.placement.Shape.{Shape}
+use Rattle.salt_place.specs.declared.placement.Shape.{Shape}
 use Rattle.std.specs.Prelude.{Bool, IsTrue, List, Option, false, true, ℕ, ◌≡◌}
 
 module _ (shape : Shape) (started : Bool) where

@@ -13,8 +13,8 @@ ghost use Rattle.salt_storage.specs.Answers.{MayFail, open_disk_err};
 ghost use Rattle.salt_storage.specs.Staying.{StaysWithin};
 ghost use Rattle.salt_storage.specs.declared.halt.Halt.TheVariants.{DeviceFull};
 ghost use Rattle.salt_storage.specs.declared.open.OpenErr.TheVariants.{Halted};
-ghost use Rattle.salt_values.specs.Placement.{GivesPlaceOf, IsParts, TakesEachKey};
-ghost use Rattle.salt_values.specs.declared.placement.Shape.{Shape};
+ghost use Rattle.salt_place.specs.Placement.{GivesPlaceOf, IsParts, TakesEachKey};
+ghost use Rattle.salt_place.specs.declared.placement.Shape.{Shape};
 ghost use Rattle.std.specs.Prelude.{Err, IfErr, IfOk, IsTrue, OnErr, Some, false, true, ℕ, ◌+◌, ◌↔◌, ◌≡◌, ◌⊎◌};
 
 use crate::open::{fault, open_devices};
@@ -23,7 +23,8 @@ use crate::told::told_keys;
 use salt_commit::Store;
 use salt_disk::Disks;
 use salt_storage::{Halt, Numbers, OpenErr};
-use salt_values::{Changes, Key, PlaceKind, Placement, Shape};
+use salt_values::{Changes, Key};
+use salt_place::{PlaceKind, Placement, Shape};
 use std::alloc::{AllocError, Global};
 
 /// Whether the one number comes next behind the other.

@@ -1,7 +1,7 @@
 //! What is done in a store that stands.
 
 ghost use Rattle.salt_bytes.specs.declared.moves.Move.{Move};
-ghost use Rattle.salt_canonical.specs.Texts.{definition_in};
+ghost use Rattle.law_definitions.specs.Texts.{definition_in};
 ghost use Rattle.salt_devices.specs.Errors.{halt_of};
 ghost use Rattle.salt_devices.specs.Filling.{FillsIn};
 ghost use Rattle.salt_commit.specs.Stores.{rows_of_store};
@@ -18,10 +18,10 @@ ghost use Rattle.salt_storage.specs.Writing.{OfBoot, OfDefinition, OfUnit};
 ghost use Rattle.salt_storage.specs.declared.halt.Halt.TheVariants.{DeviceFull, Memory};
 ghost use Rattle.salt_storage.specs.declared.halt.Halt.{Halt};
 ghost use Rattle.salt_values.specs.Id.{is_same_id};
-ghost use Rattle.salt_values.specs.Placement.{GivesPlaceOf, TakesEachKey};
+ghost use Rattle.salt_place.specs.Placement.{GivesPlaceOf, TakesEachKey};
 ghost use Rattle.salt_values.specs.declared.cont.Cont.{Cont};
 ghost use Rattle.salt_values.specs.declared.id.Id.{Id};
-ghost use Rattle.salt_values.specs.declared.placement.Shape.{Shape};
+ghost use Rattle.salt_place.specs.declared.placement.Shape.{Shape};
 ghost use Rattle.std.specs.Prelude.{Err, IfOk, List, OnErr, OnOk, Some, false, length, ℕ, ◌+◌, ◌<◌, ◌≡◌, ◌≢◌};
 
 use crate::told::{told_keys, told_move};
@@ -33,8 +33,9 @@ use salt_eval::Tables;
 use salt_model::Reach;
 use salt_schema::Schema;
 use salt_storage::Halt;
-use salt_types::typed_changes_are_sound;
-use salt_values::{Changes, Id, Key, PlaceKind, Placement, Shape};
+use law_types::typed_changes_are_sound;
+use salt_values::{Changes, Id, Key};
+use salt_place::{PlaceKind, Placement, Shape};
 use std::alloc::Global;
 
 /// The format under which moves are spelled, the newest.

@@ -21,22 +21,23 @@ ghost use Rattle.salt_storage.specs.Writing.{FindsNoMore};
 ghost use Rattle.salt_storage.specs.declared.halt.Halt.TheVariants.{DeviceFull, DiskFault, Memory, Stopped};
 ghost use Rattle.salt_storage.specs.declared.open.OpenErr.TheVariants.{Halted, NotSalt};
 ghost use Rattle.salt_storage.specs.declared.open.OpenErr.{OpenErr};
-ghost use Rattle.salt_values.specs.Placement.{GivesPlaceOf, IsParts, TakesEachKey};
-ghost use Rattle.salt_values.specs.declared.placement.Shape.{Shape};
+ghost use Rattle.salt_place.specs.Placement.{GivesPlaceOf, IsParts, TakesEachKey};
+ghost use Rattle.salt_place.specs.declared.placement.Shape.{Shape};
 ghost use Rattle.std.specs.Prelude.{Err, IfErr, IfOk, IfSome, IsTrue, List, None, Ok, OnErr, false, true, ℕ, ◌<◌, ◌≡◌, ◌⊎◌};
 
 use crate::again::are_spent;
 use crate::held::FORMAT;
 use crate::pending::Pending;
-use salt_canonical::definitions_are_read;
+use law_definitions::definitions_are_read;
 use salt_commit::{Kept, OpenErr as StoreOpenErr, Store, open_store, peek};
 use salt_disk::Disks;
-use salt_drain::{RecoverErr, Recovered, recover};
+use salt_found::{RecoverErr, Recovered, recover};
 use salt_partition::rejected;
 use salt_schema::Schema;
 use salt_storage::{Found, Halt, Numbers, OpenErr};
-use salt_types::spelled_tables_have_keys;
-use salt_values::{Key, PlaceKind, Placement, Shape};
+use law_types::spelled_tables_have_keys;
+use salt_values::Key;
+use salt_place::{PlaceKind, Placement, Shape};
 use std::alloc::{AllocError, Global};
 
 /// Why a store was not opened.

@@ -1,5 +1,5 @@
-mod Spelled
-mod Refusals
-pub mod Defining
-mod Following
-mod Recovering
+pub mod Asked
+pub mod Chosen
+pub mod Done
+pub mod Follows
+pub mod Sound

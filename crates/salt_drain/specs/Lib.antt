@@ -1,5 +1,2 @@
-pub mod Errors
-pub mod Definitions
-pub mod Conts
-pub mod Moves
-pub mod Recovered
+pub mod Follows
+pub mod Recovering

@@ -1,41 +1,68 @@
-//! What a coordinator's log keeps is recovered.
+//! The recovery: the books of an opening, and what follows its last event.
 
-ghost use Rattle.salt_decisions.specs.Kept.{IsKept};
-ghost use Rattle.salt_drain.specs.Definitions.{reading};
-ghost use Rattle.salt_drain.specs.Recovered.{Recovers};
-ghost use Rattle.salt_stands.specs.Coordinator.{coordinator_of};
-ghost use Rattle.salt_stands.specs.CoordinatorLog.{CoordinatorLog};
+ghost use Rattle.salt_books.specs.Books.{AreBooks};
+ghost use Rattle.law_states.specs.States.{State};
+ghost use Rattle.salt_model.specs.Phases.{Opening};
+ghost use Rattle.salt_model.specs.Turns.{is_statement_line};
+ghost use Rattle.std.specs.Prelude.{◌≡◌};
 
-use crate::conts::open_conts;
-use crate::definitions::open_definitions;
-use crate::error::RecoverErr;
-use salt_decisions::Kept;
-use salt_program::Catalogue;
-use salt_schema::Schema;
-use salt_values::Conts;
+use crate::behind::Behind;
+use salt_books::Books;
 use std::alloc::Global;
 
-/// What the log of a coordinator stands for.
-#[derive(Drop)]
-pub struct Recovered {
-    /// The tables of its definitions.
-    pub schema: Schema,
-    /// The programs of its definitions.
-    pub catalogue: Catalogue,
-    /// Where BASE programs go on, in the order of acceptance.
-    pub conts: Conts,
+/// Keeps the units of an opening in memory, and chooses what comes next. With an event at hand it has done that event, and knows
+/// what follows it.
+pub struct Recovery {
+    pub(crate) alloc: Global,
+    pub(crate) books: Books,
+    pub(crate) behind: Behind,
+    /// Whether the last line that was asked is one statement: a unit that begins notes it.
+    pub(crate) single: bool,
 }
 
-/// What the log stands for that keeps this. `NotSalt` exactly where it stands for nothing: a text is that of no definition or of
-/// one that is refused, or the continuations are none that the programs have.
-pub fn recover(alloc: Global, kept: &Kept) -> Result<Recovered, RecoverErr>
-    ensures { (log : CoordinatorLog) → IsKept kept.now log → Recovers result (coordinator_of reading log) }
-{
-    let (schema, catalogue) = open_definitions(alloc, &kept.definitions)?;
-    let conts = open_conts(alloc, &catalogue, kept)?;
-    Ok(Recovered {
-        schema,
-        catalogue,
-        conts,
-    })
+impl Drop for Recovery {
+    fn drop(self) {
+        let Recovery {
+            alloc: _alloc,
+            books: _books,
+            behind: _behind,
+            single: _single,
+        } = self;
+    }
+}
+
+impl Recovery {
+    ghost use Rattle.salt_drain.specs.Recovering.{Stands};
+
+    /// Behind an Opened: the books of its boot, and whether the last line that was asked is one statement.
+    pub fn new(alloc: Global, books: Books, single: bool) -> Recovery
+        ensures { (s : State) → AreBooks books s.units → s.units.phase ≡ Opening → single ≡ is_statement_line s.units.line → Stands result s }
+    {
+        Recovery {
+            alloc,
+            books,
+            behind: Behind::Nothing,
+            single,
+        }
+    }
+
+    /// The books.
+    pub fn books(&self) -> &Books
+        ensures { result.now ≡ self.now.books }
+    {
+        &self.books
+    }
+
+    /// The books alone.
+    pub fn into_books(self) -> Books
+        ensures { result ≡ self.books }
+    {
+        let Recovery {
+            alloc: _alloc,
+            books,
+            behind: _behind,
+            single: _single,
+        } = self;
+        books
+    }
 }

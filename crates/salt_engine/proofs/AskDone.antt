@@ -11,14 +11,14 @@ use Rattle.salt_engine.specs.declared.flights.InFlight.{InFlight}
 use Rattle.salt_engine.specs.declared.stage.Stage.TheVariants as at
 use Rattle.salt_engine.specs.declared.stage.Stage.{Stage}
 use Rattle.salt_books.specs.Sound.{IsSoundState}
-use Rattle.salt_keeps.specs.Members.{In}
-use Rattle.salt_keeps.specs.Nexts.{asked_next, next_turn_of, turned_next}
-use Rattle.salt_keeps.specs.Points.{Ask, IsIdle, Moves, Point, Turn}
-use Rattle.salt_keeps.specs.Readings.{Reading}
-use Rattle.salt_keeps.specs.States.{State, asked_of, turned_to}
-use Rattle.salt_keeps.specs.Told.{can_go_in}
-use Rattle.salt_laws.proofs.Ids.{is_same_id-refl}
-use Rattle.salt_laws.proofs.NextFits.{find-in}
+use Rattle.law_states.specs.Members.{In}
+use Rattle.law_states.specs.Nexts.{asked_next, next_turn_of, turned_next}
+use Rattle.law_states.specs.Points.{Ask, IsIdle, Moves, Point, Turn}
+use Rattle.law_states.specs.Readings.{Reading}
+use Rattle.law_states.specs.States.{State, asked_of, turned_to}
+use Rattle.law_states.specs.Told.{can_go_in}
+use Rattle.law_story.proofs.Ids.{is_same_id-refl}
+use Rattle.law_story.proofs.NextFits.{find-in}
 use Rattle.salt_model.specs.Kept.{Kept}
 use Rattle.salt_model.specs.Phases.{Serving}
 use Rattle.salt_model.specs.Trace.{Asked, Tree, line_asked}
@@ -26,16 +26,16 @@ use Rattle.salt_model.specs.Turns.{ids_after, is_statement_line}
 use Rattle.salt_model.specs.declared.events.Event.{Event}
 use Rattle.salt_scheduler.proofs.Counting.{programs-apart}
 use Rattle.salt_scheduler.specs.declared.scheduler.Scheduler.{Scheduler}
-use Rattle.salt_sound.specs.Spelled.{IsSpelledLine}
-use Rattle.salt_steps.proofs.Advancing.{sound-moved}
-use Rattle.salt_steps.specs.Standing.{HaltsAt, IsAt, IsSoundPoint}
+use Rattle.law_decisions.specs.Spelled.{IsSpelledLine}
+use Rattle.salt_driver.proofs.Advancing.{sound-moved}
+use Rattle.salt_driver.specs.Standing.{HaltsAt, IsAt, IsSoundPoint}
 use Rattle.salt_storage.specs.Storing.{IsSoundKept}
 use Rattle.salt_storage.specs.Writing.{Written}
 use Rattle.salt_storage.specs.declared.halt.Halt.{Halt}
-use Rattle.salt_types.specs.Played.{HasKey}
+use Rattle.law_types.specs.Played.{HasKey}
 use Rattle.salt_values.specs.Id.{is_same_id}
 use Rattle.salt_values.specs.declared.id.Id.{Id}
-use Rattle.salt_watch.proofs.Readable.{readable}
+use Rattle.salt_conflicts.proofs.Readable.{readable}
 use Rattle.std.proofs.Common.{arith, inl, inr, subst, sym, ◌∙◌}
 use Rattle.std.specs.Prelude.{Bool, Err, IfOk, IsSome, List, None, Ok, OnOk, Option, Result, Some, [], cond, false, length, refl, true, ℕ, ⊤, ◌<◌, ◌∷◌, ◌≡◌}
 

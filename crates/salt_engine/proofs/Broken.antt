@@ -8,9 +8,9 @@ use Rattle.salt_engine.specs.Stored.{LeavesEither, MayBeOther, kept_behind}
 use Rattle.salt_engine.specs.declared.flights.InFlight.{InFlight}
 use Rattle.salt_engine.specs.declared.stage.Stage.{Stage}
 use Rattle.salt_engine.specs.declared.stage.Stage.TheVariants.{Lost}
-use Rattle.salt_keeps.specs.OpenUnits.{UnitState}
-use Rattle.salt_keeps.specs.Steps.{units_after}
-use Rattle.salt_keeps.specs.Told.{at_devices_in}
+use Rattle.law_states.specs.OpenUnits.{UnitState}
+use Rattle.law_states.specs.Steps.{units_after}
+use Rattle.law_states.specs.Told.{at_devices_in}
 use Rattle.salt_model.specs.Kept.{Kept}
 use Rattle.salt_model.specs.Next.{decision_in}
 use Rattle.salt_model.specs.declared.events.Event.{Event}

@@ -7,17 +7,17 @@ use Rattle.salt_books.specs.declared.books.Books.{Books}
 use Rattle.salt_bytes.specs.declared.moves.Move.{Move}
 use Rattle.salt_engine.proofs.Decided.{branch-written, commit-written, edits-back, ended-stored, ended-undone, ends-next, is-new-unit, named-unit}
 use Rattle.salt_engine.specs.Deciding.{IsBefore, IsBranched, IsCommitted, Undone, branches_in}
-use Rattle.salt_keeps.specs.OpenUnits.{OpenUnit, UnitState, unit_named}
-use Rattle.salt_keeps.specs.Overlays.{edits_of}
-use Rattle.salt_keeps.specs.Told.{commits_in, next_decision}
-use Rattle.salt_known.specs.Moves.{CanMove}
+use Rattle.law_states.specs.OpenUnits.{OpenUnit, UnitState, unit_named}
+use Rattle.law_states.specs.Overlays.{edits_of}
+use Rattle.law_states.specs.Told.{commits_in, next_decision}
+use Rattle.salt_books.specs.Moves.{CanMove}
 use Rattle.salt_model.specs.Kept.{Kept, conts_branched, conts_committed}
 use Rattle.salt_model.specs.Trace.{Trace}
 use Rattle.salt_model.specs.declared.events.Cause.{Cause}
 use Rattle.salt_model.specs.declared.events.End.TheVariants.{Branched, Committed}
-use Rattle.salt_sound.specs.Ending.{EndsNext, MayEnd}
+use Rattle.law_decisions.specs.Ending.{EndsNext, MayEnd}
 use Rattle.salt_stands.specs.OpenConts.{make_move}
-use Rattle.salt_steps.specs.Writing.{change_of}
+use Rattle.salt_driver.specs.Writing.{change_of}
 use Rattle.salt_storage.specs.Storing.{IsSoundKept, MayDecide, decided}
 use Rattle.salt_storage.specs.Writing.{OfUnit, Written}
 use Rattle.salt_storage.specs.declared.halt.Halt.TheVariants.{DeviceFull}
@@ -29,7 +29,7 @@ use Rattle.salt_values.specs.declared.id.Id.{Id}
 use Rattle.std.proofs.Common.{ap, subst, sym, ◌∙◌}
 use Rattle.std.specs.Prelude.{List, Some, [], false, map, refl, ℕ, ◌≡◌}
 
--- the law of commits, and of branches, of salt_sound
+-- the law of commits, and of branches, of law_decisions
 abbrev pub CommitLaw : Type 0
 CommitLaw = (s : UnitState) (trace : Trace) (o : OpenUnit) (cs : List Change) (m : Move) (conts : List Cont) →
     EndsNext s trace o (Committed (next_decision s)) → edits_of cs ≡ o.changes → make_move s.kept.conts m ≡ Some conts →

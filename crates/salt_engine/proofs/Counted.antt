@@ -3,8 +3,8 @@ use Rattle.salt_disk.proofs.Coming.{none_come}
 use Rattle.salt_disk.specs.Disks.{HasCause, View}
 use Rattle.salt_disk.specs.declared.disks.DiskErr.TheVariants.{Memory}
 use Rattle.salt_model.specs.declared.events.Event.{Event}
-use Rattle.salt_steps.proofs.Counted.{counts-cause}
-use Rattle.salt_steps.specs.Counting.{CountsStops, armed_by}
+use Rattle.salt_driver.proofs.Counted.{counts-cause}
+use Rattle.salt_driver.specs.Counting.{CountsStops, armed_by}
 use Rattle.salt_storage.specs.Answers.{disk_err, disk_err_of}
 use Rattle.salt_storage.specs.declared.halt.Halt.{Halt}
 use Rattle.std.proofs.Common.{arith, subst, sym}

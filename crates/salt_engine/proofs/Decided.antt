@@ -3,14 +3,14 @@ use Rattle.salt_books.specs.declared.books.Books.{Books}
 use Rattle.salt_bytes.specs.declared.moves.Move.{Move}
 use Rattle.salt_engine.specs.Deciding.{IsBefore, Undone, branches_in}
 use Rattle.salt_engine.specs.Stored.{Stored}
-use Rattle.salt_keeps.specs.Keeps.{KeepsUnits}
-use Rattle.salt_keeps.specs.Laws.{IsSound, is_of_run}
-use Rattle.salt_keeps.specs.OpenUnits.{OpenUnit, UnitState, unit_named}
-use Rattle.salt_keeps.specs.Overlays.{Edit, edits_of}
-use Rattle.salt_keeps.specs.Steps.{kept_ended, units_after}
-use Rattle.salt_keeps.specs.Told.{at_devices_in, commits_in, next_decision}
-use Rattle.salt_laws.proofs.Ids.{is_same_id-true}
-use Rattle.salt_laws.proofs.NextFits.{find-in}
+use Rattle.law_states.specs.Keeps.{KeepsUnits}
+use Rattle.law_states.specs.Laws.{IsSound, is_of_run}
+use Rattle.law_states.specs.OpenUnits.{OpenUnit, UnitState, unit_named}
+use Rattle.law_states.specs.Overlays.{Edit, edits_of}
+use Rattle.law_states.specs.Steps.{kept_ended, units_after}
+use Rattle.law_states.specs.Told.{at_devices_in, commits_in, next_decision}
+use Rattle.law_story.proofs.Ids.{is_same_id-true}
+use Rattle.law_story.proofs.NextFits.{find-in}
 use Rattle.salt_model.specs.Kept.{Kept, conts_branched, conts_committed}
 use Rattle.salt_model.specs.Next.{is_decision}
 use Rattle.salt_model.specs.Trace.{Trace, ◌says◌}
@@ -19,11 +19,11 @@ use Rattle.salt_model.specs.declared.events.End.TheVariants.{Branched, Committed
 use Rattle.salt_model.specs.declared.events.End.{End}
 use Rattle.salt_model.specs.declared.events.Event.TheVariants.{Ended}
 use Rattle.salt_model.specs.declared.events.Event.{Event}
-use Rattle.salt_sound.proofs.Naming.{decided-boot, may-be-before, may-no-more, open-may}
-use Rattle.salt_sound.specs.Ending.{EndsNext}
-use Rattle.salt_sound.specs.Naming.{IsToCome}
+use Rattle.law_decisions.proofs.Naming.{decided-boot, may-be-before, may-no-more, open-may}
+use Rattle.law_decisions.specs.Ending.{EndsNext}
+use Rattle.law_decisions.specs.Naming.{IsToCome}
 use Rattle.salt_stands.specs.OpenConts.{make_move}
-use Rattle.salt_steps.specs.Writing.{IsWrittenBy, change_of, changes_decided}
+use Rattle.salt_driver.specs.Writing.{IsWrittenBy, change_of, changes_decided}
 use Rattle.salt_storage.specs.Storing.{IsSoundKept}
 use Rattle.salt_storage.specs.Writing.{OfUnit, Written}
 use Rattle.salt_storage.specs.declared.halt.Halt.TheVariants.{DeviceFull, Memory}

@@ -3,10 +3,10 @@ use Rattle.salt_engine.specs.Flights.{IsInFlight}
 use Rattle.salt_engine.specs.Stored.{kept_behind}
 use Rattle.salt_engine.specs.declared.flights.InFlight.TheVariants as asked
 use Rattle.salt_engine.specs.declared.flights.InFlight.{InFlight}
-use Rattle.salt_keeps.specs.Laws.{is_of_run}
-use Rattle.salt_keeps.specs.OpenUnits.{UnitState}
-use Rattle.salt_keeps.specs.Points.{KeepsPoint, Point}
-use Rattle.salt_keeps.specs.Steps.{units_after}
+use Rattle.law_states.specs.Laws.{is_of_run}
+use Rattle.law_states.specs.OpenUnits.{UnitState}
+use Rattle.law_states.specs.Points.{KeepsPoint, Point}
+use Rattle.law_states.specs.Steps.{units_after}
 use Rattle.salt_model.specs.Next.{decision_in, flight, next}
 use Rattle.salt_model.specs.Phases.{Fallen, phase}
 use Rattle.salt_model.specs.Trace.{Trace, from, ◌asks◌, ◌says◌, ◌turns◌}

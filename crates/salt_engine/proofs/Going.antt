@@ -1,23 +1,23 @@
 -- How a point goes on by an event that is said.
 use Rattle.salt_engine.specs.Performing.{IsPlayedBefore}
-use Rattle.salt_keeps.proofs.NextTold.{may-stand}
-use Rattle.salt_keeps.proofs.PointsGoOn.{said-kept}
-use Rattle.salt_keeps.proofs.StatesGoOn.{states-say}
-use Rattle.salt_keeps.specs.Laws.{IsSound, is_of_run}
-use Rattle.salt_keeps.specs.Nexts.{flight_next, said_next}
-use Rattle.salt_keeps.specs.OpenUnits.{UnitState}
-use Rattle.salt_keeps.specs.Points.{Moves, Point, Say}
-use Rattle.salt_keeps.specs.Readings.{Reading}
-use Rattle.salt_keeps.specs.States.{After, Keeps, State}
-use Rattle.salt_keeps.specs.Steps.{units_after}
+use Rattle.law_states.proofs.NextTold.{may-stand}
+use Rattle.law_states.proofs.PointsGoOn.{said-kept}
+use Rattle.law_states.proofs.StatesGoOn.{states-say}
+use Rattle.law_states.specs.Laws.{IsSound, is_of_run}
+use Rattle.law_states.specs.Nexts.{flight_next, said_next}
+use Rattle.law_states.specs.OpenUnits.{UnitState}
+use Rattle.law_states.specs.Points.{Moves, Point, Say}
+use Rattle.law_states.specs.Readings.{Reading}
+use Rattle.law_states.specs.States.{After, Keeps, State}
+use Rattle.law_states.specs.Steps.{units_after}
 use Rattle.salt_model.specs.Next.{decision_in, next}
 use Rattle.salt_model.specs.Played.{IsPlayed}
 use Rattle.salt_model.specs.Trace.{◌says◌}
 use Rattle.salt_model.specs.declared.events.Event.TheVariants.{Down, Opened}
 use Rattle.salt_model.specs.declared.events.Event.{Event}
-use Rattle.salt_openings.proofs.Opening.{said-last}
-use Rattle.salt_steps.specs.Standing.{IsSoundPoint}
-use Rattle.salt_watch.proofs.Readable.{readable}
+use Rattle.law_openings.proofs.Opening.{said-last}
+use Rattle.salt_driver.specs.Standing.{IsSoundPoint}
+use Rattle.salt_conflicts.proofs.Readable.{readable}
 use Rattle.std.proofs.Common.{ap, sym, ◌∙◌}
 use Rattle.std.specs.Prelude.{Option, Some, false, refl, ◌≡◌}
 

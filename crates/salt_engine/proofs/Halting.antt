@@ -10,16 +10,16 @@ use Rattle.salt_engine.specs.declared.flights.InFlight.{InFlight}
 use Rattle.salt_engine.specs.declared.stage.Stage.{Stage}
 use Rattle.salt_engine.proofs.Broken.{breaks-lost}
 use Rattle.salt_engine.proofs.Decided.{named-unit}
-use Rattle.salt_keeps.specs.OpenUnits.{UnitState}
-use Rattle.salt_keeps.specs.Points.{Point}
+use Rattle.law_states.specs.OpenUnits.{UnitState}
+use Rattle.law_states.specs.Points.{Point}
 use Rattle.salt_model.specs.Ends.{flight_told}
 use Rattle.salt_model.specs.Kept.{Kept}
 use Rattle.salt_model.specs.Next.{decision_in}
 use Rattle.salt_model.specs.Turns.{is_statement_line}
 use Rattle.salt_model.specs.declared.events.Event.{Event}
 use Rattle.salt_model.specs.declared.events.Flight.TheVariants as flight
-use Rattle.salt_steps.specs.Standing.{HaltsAt}
-use Rattle.salt_steps.specs.Writing.{IsWrittenBy}
+use Rattle.salt_driver.specs.Standing.{HaltsAt}
+use Rattle.salt_driver.specs.Writing.{IsWrittenBy}
 use Rattle.salt_storage.specs.Storing.{IsSoundKept}
 use Rattle.salt_storage.specs.declared.found.Numbers.{Numbers}
 use Rattle.salt_storage.specs.Writing.{Written}

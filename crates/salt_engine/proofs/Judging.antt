@@ -2,12 +2,12 @@
 use Rattle.salt_ast.specs.declared.trees.Statement.{Statement}
 use Rattle.salt_books.proofs.AtParts.{found}
 use Rattle.salt_engine.specs.Deciding.{ComesNext}
-use Rattle.salt_keeps.specs.Keeps.{KeepsUnit}
-use Rattle.salt_keeps.specs.OpenUnits.{OpenUnit, UnitState, unit_named}
-use Rattle.salt_keeps.specs.Told.{does_in}
+use Rattle.law_states.specs.Keeps.{KeepsUnit}
+use Rattle.law_states.specs.OpenUnits.{OpenUnit, UnitState, unit_named}
+use Rattle.law_states.specs.Told.{does_in}
 use Rattle.salt_model.specs.Kept.{Kept, schema_of}
-use Rattle.salt_types.proofs.AllTyped.{each-judged}
-use Rattle.salt_types.specs.Typed.{scope_of_kind}
+use Rattle.law_types.proofs.AllTyped.{each-judged}
+use Rattle.law_types.specs.Typed.{scope_of_kind}
 use Rattle.salt_units.proofs.Keeping.{judged-leave}
 use Rattle.salt_units.specs.Acting.{leaves_keys}
 use Rattle.salt_values.specs.declared.id.Id.{Id}

@@ -8,10 +8,10 @@ use Rattle.salt_engine.specs.Stored.{Stored}
 use Rattle.salt_engine.specs.declared.flights.InFlight.{InFlight}
 use Rattle.salt_engine.specs.declared.stage.Stage.TheVariants as at
 use Rattle.salt_engine.specs.declared.stage.Stage.{Stage}
-use Rattle.salt_keeps.specs.Readings.{Reading, clash_by, items_by, under_way_of}
-use Rattle.salt_keeps.specs.Refused.{refusal_in, refused_in}
-use Rattle.salt_keeps.specs.States.{State}
-use Rattle.salt_keeps.specs.Told.{line_in}
+use Rattle.law_states.specs.Readings.{Reading, clash_by, items_by, under_way_of}
+use Rattle.law_states.specs.Refused.{refusal_in, refused_in}
+use Rattle.law_states.specs.States.{State}
+use Rattle.law_states.specs.Told.{line_in}
 use Rattle.salt_model.specs.Kept.{Kept}
 use Rattle.salt_model.specs.Trace.{Tree}
 use Rattle.salt_model.specs.Words.{Every}
@@ -20,7 +20,7 @@ use Rattle.salt_model.specs.declared.events.Event.{Event}
 use Rattle.salt_scheduler.proofs.Allowing.{allowed-right}
 use Rattle.salt_scheduler.specs.Standing as scheduling
 use Rattle.salt_scheduler.specs.declared.scheduler.Scheduler.{Scheduler}
-use Rattle.salt_steps.specs.Counting.{armed_at}
+use Rattle.salt_driver.specs.Counting.{armed_at}
 use Rattle.salt_values.specs.declared.id.Id.{Id}
 use Rattle.std.proofs.Common.{ap, append_assoc, arith, subst, sym, take, ◌∙◌}
 use Rattle.std.specs.Prelude.{Bool, IsTrue, List, None, Option, Some, [], false, get_or, length, not, refl, suc, true, zero, ℕ, ◌+◌, ◌++◌, ◌<◌, ◌∷◌, ◌≡◌, ◌≤◌}

@@ -12,13 +12,13 @@ use Rattle.salt_engine.specs.Performing.{AsksLine, ComesOut, IsPlayedBefore, IsR
 use Rattle.salt_engine.specs.Stored.{Stored}
 use Rattle.salt_engine.specs.declared.flights.InFlight.{InFlight}
 use Rattle.salt_engine.specs.declared.stage.Stage.{Stage}
-use Rattle.salt_judge.specs.Refusals.{HasFewParts}
-use Rattle.salt_keeps.specs.Nexts.{asked_next, refusal_of}
-use Rattle.salt_keeps.specs.Points.{Point}
-use Rattle.salt_keeps.specs.Readings.{Reading, clash_by, items_by}
-use Rattle.salt_keeps.specs.States.{State, asked_of}
-use Rattle.salt_keeps.specs.OpenUnits.{UnitState}
-use Rattle.salt_keeps.specs.Told.{Clashes, Items, line_in}
+use Rattle.salt_scheduler.specs.Refusals.{HasFewParts}
+use Rattle.law_states.specs.Nexts.{asked_next, refusal_of}
+use Rattle.law_states.specs.Points.{Point}
+use Rattle.law_states.specs.Readings.{Reading, clash_by, items_by}
+use Rattle.law_states.specs.States.{State, asked_of}
+use Rattle.law_states.specs.OpenUnits.{UnitState}
+use Rattle.law_states.specs.Told.{Clashes, Items, line_in}
 use Rattle.salt_model.specs.Kept.{Kept}
 use Rattle.salt_model.specs.Trace.{Rejected, Tree}
 use Rattle.salt_model.specs.declared.events.Event.TheVariants.{Refused}
@@ -26,9 +26,9 @@ use Rattle.salt_model.specs.declared.events.Event.{Event}
 use Rattle.salt_model.specs.declared.events.Refusal.{Refusal}
 use Rattle.salt_scheduler.specs.Standing as scheduling
 use Rattle.salt_scheduler.specs.declared.scheduler.Scheduler.{Scheduler}
-use Rattle.salt_sound.proofs.Reading.{few-parts}
-use Rattle.salt_steps.proofs.Counted.{counts-cause}
-use Rattle.salt_steps.specs.Counting.{CountsStops, armed_at, armed_by}
+use Rattle.law_decisions.proofs.Reading.{few-parts}
+use Rattle.salt_driver.proofs.Counted.{counts-cause}
+use Rattle.salt_driver.specs.Counting.{CountsStops, armed_at, armed_by}
 use Rattle.salt_storage.specs.Writing.{Written}
 use Rattle.salt_storage.specs.declared.halt.Halt.{Halt}
 use Rattle.salt_values.specs.declared.id.Id.{Id}

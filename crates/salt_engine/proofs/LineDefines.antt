@@ -18,14 +18,14 @@ use Rattle.salt_engine.specs.declared.flights.InFlight.TheVariants as asked
 use Rattle.salt_engine.specs.declared.flights.InFlight.{InFlight}
 use Rattle.salt_engine.specs.declared.stage.Stage.TheVariants as at
 use Rattle.salt_engine.specs.declared.stage.Stage.{Stage}
-use Rattle.salt_keeps.proofs.NextTold.{may-stand}
-use Rattle.salt_keeps.specs.Laws.{IsSound}
-use Rattle.salt_keeps.specs.OpenUnits.{UnitState}
-use Rattle.salt_keeps.specs.Readings.{Reading, clash_by, items_by, under_way_of}
-use Rattle.salt_keeps.specs.Refused.{known_in}
-use Rattle.salt_keeps.specs.States.{State}
-use Rattle.salt_keeps.specs.Steps.{units_after}
-use Rattle.salt_keeps.specs.Told.{line_in, next_decision}
+use Rattle.law_states.proofs.NextTold.{may-stand}
+use Rattle.law_states.specs.Laws.{IsSound}
+use Rattle.law_states.specs.OpenUnits.{UnitState}
+use Rattle.law_states.specs.Readings.{Reading, clash_by, items_by, under_way_of}
+use Rattle.law_states.specs.Refused.{known_in}
+use Rattle.law_states.specs.States.{State}
+use Rattle.law_states.specs.Steps.{units_after}
+use Rattle.law_states.specs.Told.{line_in, next_decision}
 use Rattle.salt_model.specs.Kept.{Definition, Kept, OfProgram, OfTable, programs_of, schema_of}
 use Rattle.salt_model.specs.Printable.{IsSpelledProgram, IsSpelledTable}
 use Rattle.salt_model.specs.Trace.{◌says◌}
@@ -37,9 +37,9 @@ use Rattle.salt_scheduler.proofs.SoundFacts.{reads}
 use Rattle.salt_scheduler.specs.Standing as scheduling
 use Rattle.salt_scheduler.specs.declared.scheduler.Scheduler.{Scheduler}
 use Rattle.salt_schema.specs.Refusals.{table_refusal}
-use Rattle.salt_sound.proofs.Reading.{few-parts}
-use Rattle.salt_sound.specs.Defining.{MayBeDefined}
-use Rattle.salt_steps.specs.Counting.{armed_at}
+use Rattle.law_decisions.proofs.Reading.{few-parts}
+use Rattle.law_decisions.specs.Defining.{MayBeDefined}
+use Rattle.salt_driver.specs.Counting.{armed_at}
 use Rattle.salt_storage.specs.Storing.{IsSoundKept, defined}
 use Rattle.salt_storage.specs.Writing.{OfDefinition, Written}
 use Rattle.salt_storage.specs.declared.halt.Halt.TheVariants.{DeviceFull, Memory}
@@ -49,7 +49,7 @@ use Rattle.std.proofs.Common.{ap, inl, inr, subst, sym, ◌∙◌}
 use Rattle.std.specs.Prelude.{Bool, None, Option, Some, [], refl, true, ℕ, ◌≡◌}
 use Rattle.salt_engine.specs.Standing.{SeesIn}
 
--- the laws of definitions of salt_sound
+-- the laws of definitions of law_decisions
 abbrev pub TableLaw : Type 0
 TableLaw = (s : UnitState) (d : TableDef) → IsSoundKept s.kept → s.line ≡ line_of.Table d → IsSpelledTable d → table_refusal (schema_of s.kept) d ≡ None → MayBeDefined s (table_text d) (OfTable d)
 

@@ -4,13 +4,13 @@ use Rattle.salt_engine.specs.Performing.{IsPlayedBefore, Performs}
 use Rattle.salt_engine.specs.Standing.{Sees, SeesIn}
 use Rattle.salt_engine.specs.declared.flights.InFlight.{InFlight}
 use Rattle.salt_engine.specs.declared.stage.Stage.{Stage}
-use Rattle.salt_keeps.proofs.PointsGoOn.{asked-kept, idle-complete, turn-kept, turned-kept}
-use Rattle.salt_keeps.proofs.StatesGoOn.{states-ask, states-turn}
-use Rattle.salt_keeps.specs.Laws.{IsSound}
-use Rattle.salt_keeps.specs.Nexts.{asked_next, next_turn_of, turned_next}
-use Rattle.salt_keeps.specs.Points.{Ask, IsIdle, Moves, Point, Turn}
-use Rattle.salt_keeps.specs.Readings.{Reading}
-use Rattle.salt_keeps.specs.States.{Keeps, asked_of, turned_to}
+use Rattle.law_states.proofs.PointsGoOn.{asked-kept, idle-complete, turn-kept, turned-kept}
+use Rattle.law_states.proofs.StatesGoOn.{states-ask, states-turn}
+use Rattle.law_states.specs.Laws.{IsSound}
+use Rattle.law_states.specs.Nexts.{asked_next, next_turn_of, turned_next}
+use Rattle.law_states.specs.Points.{Ask, IsIdle, Moves, Point, Turn}
+use Rattle.law_states.specs.Readings.{Reading}
+use Rattle.law_states.specs.States.{Keeps, asked_of, turned_to}
 use Rattle.salt_model.specs.Next.{decision_in}
 use Rattle.salt_model.specs.Kept.{Kept}
 use Rattle.salt_model.specs.Phases.{Serving}
@@ -19,10 +19,10 @@ use Rattle.salt_model.specs.Turns.{is_statement_line}
 use Rattle.salt_model.specs.Words.{Every}
 use Rattle.salt_model.specs.declared.events.Event.{Event}
 use Rattle.salt_scheduler.specs.Standing.{ServesLine}
-use Rattle.salt_steps.specs.Standing.{IsSoundPoint}
-use Rattle.salt_types.specs.Played.{HasKey}
+use Rattle.salt_driver.specs.Standing.{IsSoundPoint}
+use Rattle.law_types.specs.Played.{HasKey}
 use Rattle.salt_values.specs.declared.id.Id.{Id}
-use Rattle.salt_watch.proofs.Readable.{readable}
+use Rattle.salt_conflicts.proofs.Readable.{readable}
 use Rattle.std.proofs.Common.{sym, ◌∙◌}
 use Rattle.std.specs.Prelude.{Bool, List, None, Option, Some, [], refl, ◌++◌, ◌∷◌, ◌≡◌}
 use Rattle.salt_scheduler.specs.declared.scheduler.Scheduler.{Scheduler}

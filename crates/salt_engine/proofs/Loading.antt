@@ -11,9 +11,9 @@ use Rattle.salt_engine.specs.Deciding.{IsBefore, Undone}
 use Rattle.salt_eval.proofs.InOrder.{in_order, tables_of-list}
 use Rattle.salt_eval.specs.Scans.{IsKeyed}
 use Rattle.salt_eval.specs.Views.{tables_of}
-use Rattle.salt_keeps.specs.OpenUnits.{OpenUnit, UnitState, unit_named}
-use Rattle.salt_keeps.specs.Told.{at_devices_in, does_in}
-use Rattle.salt_keeps.specs.UnitFacts.{reach_under}
+use Rattle.law_states.specs.OpenUnits.{OpenUnit, UnitState, unit_named}
+use Rattle.law_states.specs.Told.{at_devices_in, does_in}
+use Rattle.law_states.specs.UnitFacts.{reach_under}
 use Rattle.salt_model.specs.Kept.{Kept, schema_of}
 use Rattle.salt_model.specs.Reaches.{first_value, key_reached, no_row, range_of, reach, reach_at, reach_in, reached, table_for, table_from, table_named}
 use Rattle.salt_model.specs.Tables.{Entry, Tables, is_within, key_of, place_cmp, row_at}
@@ -33,7 +33,7 @@ use Rattle.salt_storage.specs.Writing.{Written}
 use Rattle.salt_storage.specs.declared.halt.Halt.TheVariants.{DeviceFull}
 use Rattle.salt_storage.specs.declared.halt.Halt.{Halt}
 use Rattle.salt_tokens.specs.Spelling.{same_bytes}
-use Rattle.salt_types.specs.Typed.{AreRowsOf, IsRowAt}
+use Rattle.law_types.specs.Typed.{AreRowsOf, IsRowAt}
 use Rattle.salt_values.specs.declared.id.Id.{Id}
 use Rattle.salt_values.specs.declared.value.Value.{Value}
 use Rattle.std.proofs.Common.{ap, arith, inl, inr, subst, sym, ◌∙◌}

@@ -6,14 +6,14 @@ use Rattle.salt_engine.specs.Standing.{KnowsUnits, Lies, Sees, SeesIn, serving_b
 use Rattle.salt_engine.specs.declared.flights.InFlight.{InFlight}
 use Rattle.salt_engine.specs.declared.stage.Stage.TheVariants as at
 use Rattle.salt_engine.specs.declared.stage.Stage.{Stage}
-use Rattle.salt_keeps.specs.Points.{IsIdle, Point}
-use Rattle.salt_keeps.specs.States.{State}
+use Rattle.law_states.specs.Points.{IsIdle, Point}
+use Rattle.law_states.specs.States.{State}
 use Rattle.salt_model.specs.Kept.{Kept}
 use Rattle.salt_model.specs.Next.{decision_in}
 use Rattle.salt_model.specs.Phases.{Fallen, Serving}
 use Rattle.salt_model.specs.declared.events.Event.{Event}
 use Rattle.salt_scheduler.specs.declared.scheduler.Scheduler.{Scheduler}
-use Rattle.salt_steps.specs.Standing.{IsSoundPoint}
+use Rattle.salt_driver.specs.Standing.{IsSoundPoint}
 use Rattle.salt_storage.specs.Storing.{IsSoundKept}
 use Rattle.salt_values.specs.declared.id.Id.{Id}
 use Rattle.std.proofs.Common.{ap, inl, subst, sym, ◌∙◌}

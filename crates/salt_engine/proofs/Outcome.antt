@@ -7,16 +7,16 @@ use Rattle.salt_engine.proofs.Plain.{plain-unarmed}
 use Rattle.salt_engine.specs.Performing.{BreaksOff, ComesOut, IsLost, Stays, is_prepared}
 use Rattle.salt_engine.specs.declared.flights.InFlight.{InFlight}
 use Rattle.salt_engine.specs.declared.stage.Stage.{Stage}
-use Rattle.salt_keeps.specs.Readings.{Reading}
-use Rattle.salt_keeps.specs.States.{State}
+use Rattle.law_states.specs.Readings.{Reading}
+use Rattle.law_states.specs.States.{State}
 use Rattle.salt_model.specs.Kept.{Kept}
 use Rattle.salt_model.specs.declared.events.Event.{Event}
-use Rattle.salt_steps.specs.Counting.{armed_at}
+use Rattle.salt_driver.specs.Counting.{armed_at}
 use Rattle.salt_storage.proofs.Staying as within
 use Rattle.salt_storage.specs.Writing.{Written}
 use Rattle.salt_storage.specs.declared.halt.Halt.TheVariants.{Memory}
 use Rattle.salt_storage.specs.declared.halt.Halt.{Halt}
-use Rattle.salt_values.specs.declared.placement.Shape.{Shape}
+use Rattle.salt_place.specs.declared.placement.Shape.{Shape}
 use Rattle.std.proofs.Common.{ap, subst, sym, ◌∙◌}
 use Rattle.std.specs.Prelude.{Err, IfErr, IfOk, Ok, Option, Result, [], false, refl, ℕ, ◌≡◌}
 use Rattle.std.specs.Result.{IsErrAnd, MatchResult}

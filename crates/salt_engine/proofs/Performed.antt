@@ -15,12 +15,12 @@ use Rattle.salt_engine.specs.Stored.{Stored}
 use Rattle.salt_engine.specs.declared.flights.InFlight.{InFlight}
 use Rattle.salt_engine.specs.declared.stage.Stage.TheVariants as at
 use Rattle.salt_engine.specs.declared.stage.Stage.{Stage}
-use Rattle.salt_keeps.proofs.NextTold.{may-stand}
-use Rattle.salt_keeps.specs.Laws.{IsSound, is_of_run}
-use Rattle.salt_keeps.specs.OpenUnits.{OpenUnit, UnitState, unit_named}
-use Rattle.salt_keeps.specs.States.{State}
-use Rattle.salt_keeps.specs.Steps.{units_after}
-use Rattle.salt_keeps.specs.Told.{commits_in, does_in}
+use Rattle.law_states.proofs.NextTold.{may-stand}
+use Rattle.law_states.specs.Laws.{IsSound, is_of_run}
+use Rattle.law_states.specs.OpenUnits.{OpenUnit, UnitState, unit_named}
+use Rattle.law_states.specs.States.{State}
+use Rattle.law_states.specs.Steps.{units_after}
+use Rattle.law_states.specs.Told.{commits_in, does_in}
 use Rattle.salt_model.specs.Kept.{Kept}
 use Rattle.salt_model.specs.Next.{decision_in}
 use Rattle.salt_model.specs.Phases.{Serving}

@@ -7,11 +7,11 @@ use Rattle.salt_ast.specs.declared.programs.ProgramDef.{ProgramDef}
 use Rattle.salt_ast.specs.declared.trees.Statement.{Statement}
 use Rattle.salt_engine.proofs.Unprepared.{done-plain, either-plain, finish-plain, serves-plain}
 use Rattle.salt_engine.specs.Performing.{is_prepared, is_prepared_line}
-use Rattle.salt_keeps.specs.Follows.{settles_in}
-use Rattle.salt_keeps.specs.OpenUnits.{OpenUnit, UnitState, asks_next, unit_named, unit_of_program, unit_of_session}
-use Rattle.salt_keeps.specs.Readings.{Reading, beside_by}
-use Rattle.salt_keeps.specs.States.{State}
-use Rattle.salt_keeps.specs.Told.{Beside, Clashes, Items, act_in, asks_in, begins_in, calls_in, commits_in, go_in, goes_on_in, kind_called_in, line_in, settle_in, turn_in, turn_of_in}
+use Rattle.law_states.specs.Follows.{settles_in}
+use Rattle.law_states.specs.OpenUnits.{OpenUnit, UnitState, asks_next, unit_named, unit_of_program, unit_of_session}
+use Rattle.law_states.specs.Readings.{Reading, beside_by}
+use Rattle.law_states.specs.States.{State}
+use Rattle.law_states.specs.Told.{Beside, Clashes, Items, act_in, asks_in, begins_in, calls_in, commits_in, go_in, goes_on_in, kind_called_in, line_in, settle_in, turn_in, turn_of_in}
 use Rattle.salt_model.specs.Kept.{cont_of, kept_program}
 use Rattle.salt_model.specs.Turns.{releases}
 use Rattle.salt_model.specs.declared.events.Event.{Event}
@@ -22,7 +22,7 @@ use Rattle.salt_scheduler.specs.Follows.{event_of}
 use Rattle.salt_scheduler.specs.Standing.{behind_in}
 use Rattle.salt_scheduler.specs.declared.follow.Follow.{Follow}
 use Rattle.salt_scheduler.specs.declared.follow.Follow.TheVariants as follow
-use Rattle.salt_steps.specs.Counting.{armed_at}
+use Rattle.salt_driver.specs.Counting.{armed_at}
 use Rattle.salt_values.specs.declared.cont.Cont.{Cont}
 use Rattle.salt_values.specs.declared.id.Id.{Id}
 use Rattle.salt_values.specs.declared.value.Value.{Value}

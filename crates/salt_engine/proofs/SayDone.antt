@@ -13,12 +13,12 @@ use Rattle.salt_engine.specs.Stored.{Stored, kept_behind}
 use Rattle.salt_engine.specs.declared.flights.InFlight.{InFlight}
 use Rattle.salt_engine.specs.declared.stage.Stage.TheVariants as at
 use Rattle.salt_engine.specs.declared.stage.Stage.{Stage}
-use Rattle.salt_keeps.proofs.SettlingEnds.{to-come-falls}
-use Rattle.salt_keeps.specs.Points.{Moves, Point, Say}
-use Rattle.salt_keeps.specs.Settling.{to_come, waiters}
-use Rattle.salt_keeps.specs.States.{State}
+use Rattle.law_states.proofs.SettlingEnds.{to-come-falls}
+use Rattle.law_states.specs.Points.{Moves, Point, Say}
+use Rattle.law_states.specs.Settling.{to_come, waiters}
+use Rattle.law_states.specs.States.{State}
 use Rattle.salt_engine.proofs.Waiting.{to-go-stays}
-use Rattle.salt_keeps.specs.OpenUnits.{UnitState}
+use Rattle.law_states.specs.OpenUnits.{UnitState}
 use Rattle.salt_model.specs.Kept.{Kept}
 use Rattle.salt_model.specs.Next.{decision_in}
 use Rattle.salt_model.specs.Phases.{Fallen, Serving}
@@ -29,9 +29,9 @@ use Rattle.salt_model.specs.declared.events.Refusal.{Refusal}
 use Rattle.salt_scheduler.proofs.Following.{not-of-run}
 use Rattle.salt_scheduler.specs.Standing.{HasDone}
 use Rattle.salt_scheduler.specs.declared.scheduler.Scheduler.{Scheduler}
-use Rattle.salt_steps.proofs.Advancing.{sound-moved}
-use Rattle.salt_steps.proofs.Refusing.{refused-rests}
-use Rattle.salt_steps.specs.Standing.{BreaksAt, IsAt, IsSoundPoint, left_to_come}
+use Rattle.salt_driver.proofs.Advancing.{sound-moved}
+use Rattle.salt_driver.proofs.Refusing.{refused-rests}
+use Rattle.salt_driver.specs.Standing.{BreaksAt, IsAt, IsSoundPoint, left_to_come}
 use Rattle.salt_storage.specs.Storing.{IsSoundKept}
 use Rattle.salt_storage.specs.Writing.{Written}
 use Rattle.salt_storage.specs.declared.halt.Halt.TheVariants.{Memory}

@@ -6,13 +6,13 @@ use Rattle.salt_engine.specs.Standing.{Sees, SeesIn}
 use Rattle.salt_engine.specs.Stored.{Stored}
 use Rattle.salt_engine.specs.declared.flights.InFlight.{InFlight}
 use Rattle.salt_engine.specs.declared.stage.Stage.{Stage}
-use Rattle.salt_keeps.specs.Laws.{is_of_run}
-use Rattle.salt_keeps.specs.Nexts.{said_next}
-use Rattle.salt_keeps.specs.OpenUnits.{UnitState}
-use Rattle.salt_keeps.specs.Points.{Moves, Point, Say}
-use Rattle.salt_keeps.specs.Readings.{Reading}
-use Rattle.salt_keeps.specs.States.{State}
-use Rattle.salt_keeps.specs.Steps.{units_after}
+use Rattle.law_states.specs.Laws.{is_of_run}
+use Rattle.law_states.specs.Nexts.{said_next}
+use Rattle.law_states.specs.OpenUnits.{UnitState}
+use Rattle.law_states.specs.Points.{Moves, Point, Say}
+use Rattle.law_states.specs.Readings.{Reading}
+use Rattle.law_states.specs.States.{State}
+use Rattle.law_states.specs.Steps.{units_after}
 use Rattle.salt_model.specs.Kept.{Kept}
 use Rattle.salt_model.specs.Phases.{Serving}
 use Rattle.salt_model.specs.Trace.{◌says◌}
@@ -23,7 +23,7 @@ use Rattle.salt_scheduler.proofs.Following.{goes-on, not-of-run}
 use Rattle.salt_scheduler.specs.Serving.{is_served}
 use Rattle.salt_scheduler.specs.Standing.{HasDone, ServesLine, behind_in}
 use Rattle.salt_scheduler.specs.declared.scheduler.Scheduler.{Scheduler}
-use Rattle.salt_steps.specs.Standing.{IsSoundPoint}
+use Rattle.salt_driver.specs.Standing.{IsSoundPoint}
 use Rattle.salt_values.specs.declared.id.Id.{Id}
 use Rattle.std.proofs.Common.{ap, sym, ◌∙◌}
 use Rattle.std.specs.Prelude.{Bool, Option, Some, false, true, ◌≡◌}

@@ -4,14 +4,14 @@ use Rattle.salt_engine.proofs.Waiting.{goes-behind, left-now}
 use Rattle.salt_engine.specs.Standing.{IsGoingStage, SeesIn, goes_in, waits_in}
 use Rattle.salt_engine.specs.declared.stage.Stage.TheVariants as at
 use Rattle.salt_engine.specs.declared.stage.Stage.{Stage}
-use Rattle.salt_keeps.specs.Points.{Point}
-use Rattle.salt_keeps.specs.Settling.{to_come, waiters}
-use Rattle.salt_keeps.specs.States.{State}
+use Rattle.law_states.specs.Points.{Point}
+use Rattle.law_states.specs.Settling.{to_come, waiters}
+use Rattle.law_states.specs.States.{State}
 use Rattle.salt_model.specs.Kept.{Kept}
 use Rattle.salt_model.specs.declared.events.Event.{Event}
 use Rattle.salt_scheduler.proofs.Following.{not-of-run}
 use Rattle.salt_scheduler.specs.declared.scheduler.Scheduler.{Scheduler}
-use Rattle.salt_steps.specs.Standing.{IsSoundPoint, left_to_come}
+use Rattle.salt_driver.specs.Standing.{IsSoundPoint, left_to_come}
 use Rattle.salt_values.specs.declared.id.Id.{Id}
 use Rattle.std.proofs.Common.{subst}
 use Rattle.std.specs.Prelude.{None, Option, Some, refl, ◌≡◌}

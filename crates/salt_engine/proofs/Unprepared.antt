@@ -2,8 +2,8 @@
 use Rattle.salt_ast.specs.declared.trees.Statement.{Statement}
 use Rattle.salt_books.specs.Ends.{done_of}
 use Rattle.salt_engine.specs.Performing.{is_prepared}
-use Rattle.salt_keeps.specs.OpenUnits.{OpenUnit, UnitState, asks_next}
-use Rattle.salt_keeps.specs.Told.{commits_in, does_in, fails_in, finishes_in, serve_in}
+use Rattle.law_states.specs.OpenUnits.{OpenUnit, UnitState, asks_next}
+use Rattle.law_states.specs.Told.{commits_in, does_in, fails_in, finishes_in, serve_in}
 use Rattle.salt_model.specs.Kept.{cont_of}
 use Rattle.salt_model.specs.declared.events.Cause.{Cause}
 use Rattle.salt_model.specs.declared.events.Event.{Event}

@@ -1,13 +1,13 @@
 -- The units that wait, and the programs to which `go all` has still to turn, are those of the engine's point.
 use Rattle.salt_engine.specs.Standing.{waits_in}
 use Rattle.salt_engine.specs.declared.stage.Stage.TheVariants.{Going}
-use Rattle.salt_keeps.specs.Laws.{is_of_run}
-use Rattle.salt_keeps.specs.KeptWaits.{Asker, asker}
-use Rattle.salt_keeps.specs.OpenUnits.{UnitState}
-use Rattle.salt_keeps.specs.Settling.{stage, to_come, waiters, waiters_after}
-use Rattle.salt_keeps.specs.States.{Keeps, State}
-use Rattle.salt_keeps.specs.Steps.{units_after}
-use Rattle.salt_keeps.specs.Watches.{Watch}
+use Rattle.law_states.specs.Laws.{is_of_run}
+use Rattle.law_states.specs.KeptWaits.{Asker, asker}
+use Rattle.law_states.specs.OpenUnits.{UnitState}
+use Rattle.law_states.specs.Settling.{stage, to_come, waiters, waiters_after}
+use Rattle.law_states.specs.States.{Keeps, State}
+use Rattle.law_states.specs.Steps.{units_after}
+use Rattle.law_states.specs.Watches.{Watch}
 use Rattle.salt_model.specs.Trace.{Trace, ◌says◌}
 use Rattle.salt_model.specs.Units.{wait_list}
 use Rattle.salt_model.specs.declared.events.Event.TheVariants.{Began, Defined, Did, Down, Ended, Opened, Ready, Waits}
@@ -17,11 +17,11 @@ use Rattle.salt_scheduler.specs.Standing.{HasDone, StandsBehind, watched_by}
 use Rattle.salt_scheduler.specs.declared.follow.Follow.TheVariants.{Release}
 use Rattle.salt_scheduler.specs.declared.follow.Follow.{Follow}
 use Rattle.salt_scheduler.specs.declared.scheduler.Scheduler.{Scheduler}
-use Rattle.salt_steps.specs.Standing.{left_to_come}
+use Rattle.salt_driver.specs.Standing.{left_to_come}
 use Rattle.salt_values.specs.declared.id.Id.{Id}
-use Rattle.salt_watch.specs.Waiters.{waiter_of}
-use Rattle.salt_watch.specs.declared.waiters.Waiter.{Waiter}
-use Rattle.salt_watch.specs.declared.watching.Watching.{Watching}
+use Rattle.salt_conflicts.specs.Waiters.{waiter_of}
+use Rattle.salt_conflicts.specs.declared.waiters.Waiter.{Waiter}
+use Rattle.salt_conflicts.specs.declared.watching.Watching.{Watching}
 use Rattle.std.proofs.Common.{ap, sym, ◌∙◌}
 use Rattle.std.specs.Prelude.{List, Some, [], false, length, map, refl, ◌*◌, ◌+◌, ◌∷◌, ◌≡◌}
 

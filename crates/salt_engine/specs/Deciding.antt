@@ -3,11 +3,11 @@ use Rattle.salt_books.specs.Books.{AreBooks}
 use Rattle.salt_books.specs.declared.books.Books.{Books}
 use Rattle.salt_bytes.specs.declared.moves.Move.{Move}
 use Rattle.salt_engine.specs.Stored.{LeavesEither, Stored}
-use Rattle.salt_keeps.specs.Keeps.{KeepsUnits}
-use Rattle.salt_keeps.specs.Laws.{IsSound}
-use Rattle.salt_keeps.specs.OpenUnits.{OpenUnit, UnitState}
-use Rattle.salt_keeps.specs.Steps.{units_after}
-use Rattle.salt_keeps.specs.Told.{at_devices_in, commits_in, next_decision}
+use Rattle.law_states.specs.Keeps.{KeepsUnits}
+use Rattle.law_states.specs.Laws.{IsSound}
+use Rattle.law_states.specs.OpenUnits.{OpenUnit, UnitState}
+use Rattle.law_states.specs.Steps.{units_after}
+use Rattle.law_states.specs.Told.{at_devices_in, commits_in, next_decision}
 use Rattle.salt_model.specs.Kept.{Kept, conts_branched, conts_committed}
 use Rattle.salt_model.specs.Next.{next}
 use Rattle.salt_model.specs.Stops.{is_just_opened}
@@ -18,12 +18,12 @@ use Rattle.salt_model.specs.declared.events.End.TheVariants.{Branched}
 use Rattle.salt_model.specs.declared.events.Event.TheVariants.{Ended}
 use Rattle.salt_model.specs.declared.events.Event.{Event}
 use Rattle.salt_stands.specs.OpenConts.{make_move}
-use Rattle.salt_steps.specs.Writing.{IsWrittenBy}
+use Rattle.salt_driver.specs.Writing.{IsWrittenBy}
 use Rattle.salt_storage.specs.Writing.{Written}
 use Rattle.salt_storage.specs.declared.halt.Halt.TheVariants.{DeviceFull, Memory}
 use Rattle.salt_storage.specs.declared.halt.Halt.{Halt}
-use Rattle.salt_types.specs.Played.{HasKey}
-use Rattle.salt_types.specs.Typed.{IsTyped}
+use Rattle.law_types.specs.Played.{HasKey}
+use Rattle.law_types.specs.Typed.{IsTyped}
 use Rattle.salt_values.specs.declared.id.Id.{Id}
 use Rattle.std.specs.Prelude.{Some, false, true, ℕ, ⊤, ◌≡◌, ◌⊎◌}
 

@@ -2,8 +2,8 @@
 use Rattle.salt_engine.specs.Standing.{Left, Lies, Sees, SeesIn, serving_books}
 use Rattle.salt_engine.specs.Stored.{IsAlone}
 use Rattle.salt_engine.specs.declared.engine.Engine.{Engine}
-use Rattle.salt_keeps.specs.Points.{Point}
-use Rattle.salt_keeps.specs.States.{State}
+use Rattle.law_states.specs.Points.{Point}
+use Rattle.law_states.specs.States.{State}
 use Rattle.salt_model.specs.Kept.{Kept}
 use Rattle.salt_model.specs.declared.events.Event.{Event}
 use Rattle.salt_storage.specs.declared.found.Numbers.{Numbers}

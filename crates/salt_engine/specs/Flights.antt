@@ -9,8 +9,8 @@ use Rattle.salt_books.specs.Coming.{IsLaterUnit}
 use Rattle.salt_engine.specs.Deciding.{branches_in}
 use Rattle.salt_engine.specs.declared.flights.InFlight.TheVariants.{Branch, Commit, Program, Table}
 use Rattle.salt_engine.specs.declared.flights.InFlight.{InFlight}
-use Rattle.salt_keeps.specs.OpenUnits.{OpenUnit, UnitState, unit_named}
-use Rattle.salt_keeps.specs.Told.{commits_in, next_decision}
+use Rattle.law_states.specs.OpenUnits.{OpenUnit, UnitState, unit_named}
+use Rattle.law_states.specs.Told.{commits_in, next_decision}
 use Rattle.salt_model.specs.Kept.{programs_of, schema_of}
 use Rattle.salt_model.specs.declared.events.Event.TheVariants.{Defined}
 use Rattle.salt_model.specs.declared.events.Event.{Event}

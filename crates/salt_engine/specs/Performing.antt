@@ -12,14 +12,14 @@ use Rattle.salt_engine.specs.Stored.{LeavesEither, Stored, kept_behind}
 use Rattle.salt_engine.specs.declared.flights.InFlight.{InFlight}
 use Rattle.salt_engine.specs.declared.stage.Stage.TheVariants.{Down, Going, Lost}
 use Rattle.salt_engine.specs.declared.stage.Stage.{Stage}
-use Rattle.salt_keeps.specs.KeptWaits.{AreDistinct}
-use Rattle.salt_keeps.specs.Laws.{IsSound}
-use Rattle.salt_keeps.specs.Nexts.{asked_next, next_turn_of, turned_next}
-use Rattle.salt_keeps.specs.OpenUnits.{UnitState}
-use Rattle.salt_keeps.specs.Readings.{Reading, clash_by, items_by}
-use Rattle.salt_keeps.specs.States.{Keeps, State, asked_of, turned_to}
-use Rattle.salt_keeps.specs.Steps.{units_after}
-use Rattle.salt_keeps.specs.Told.{at_devices_in, line_in}
+use Rattle.law_states.specs.KeptWaits.{AreDistinct}
+use Rattle.law_states.specs.Laws.{IsSound}
+use Rattle.law_states.specs.Nexts.{asked_next, next_turn_of, turned_next}
+use Rattle.law_states.specs.OpenUnits.{UnitState}
+use Rattle.law_states.specs.Readings.{Reading, clash_by, items_by}
+use Rattle.law_states.specs.States.{Keeps, State, asked_of, turned_to}
+use Rattle.law_states.specs.Steps.{units_after}
+use Rattle.law_states.specs.Told.{at_devices_in, line_in}
 use Rattle.salt_model.specs.Kept.{Kept}
 use Rattle.salt_model.specs.Next.{decision_in, next}
 use Rattle.salt_model.specs.Phases as phases
@@ -32,16 +32,16 @@ use Rattle.salt_model.specs.declared.events.Refusal.{Refusal}
 use Rattle.salt_scheduler.specs.Standing as scheduling
 use Rattle.salt_scheduler.specs.Standing.{Does, ServesAllowed, ServesLine, behind_in}
 use Rattle.salt_scheduler.specs.declared.scheduler.Scheduler.{Scheduler}
-use Rattle.salt_sound.specs.Spelled.{IsSpelledLine}
-use Rattle.salt_steps.specs.Writing.{IsWrittenBy}
+use Rattle.law_decisions.specs.Spelled.{IsSpelledLine}
+use Rattle.salt_driver.specs.Writing.{IsWrittenBy}
 use Rattle.salt_storage.specs.Staying.{StaysWithin}
 use Rattle.salt_storage.specs.Writing.{Written}
 use Rattle.salt_storage.specs.declared.halt.Halt.TheVariants.{DeviceFull, Memory}
 use Rattle.salt_storage.specs.declared.halt.Halt.{Halt}
-use Rattle.salt_types.specs.Played.{HasKey}
-use Rattle.salt_types.specs.Typed.{IsTyped}
+use Rattle.law_types.specs.Played.{HasKey}
+use Rattle.law_types.specs.Typed.{IsTyped}
 use Rattle.salt_values.specs.declared.id.Id.{Id}
-use Rattle.salt_values.specs.declared.placement.Shape.{Shape}
+use Rattle.salt_place.specs.declared.placement.Shape.{Shape}
 use Rattle.std.specs.Result.{MatchResult}
 use Rattle.std.specs.Prelude.{Bool, IsSome, None, Option, Result, Some, false, true, ℕ, ◌≡◌, ◌≤◌, ◌⊎◌}
 

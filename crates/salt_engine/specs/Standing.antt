@@ -8,11 +8,11 @@ use Rattle.salt_engine.specs.Stored.{IsLeft, IsNumbered, Stored}
 use Rattle.salt_engine.specs.declared.flights.InFlight.{InFlight}
 use Rattle.salt_engine.specs.declared.stage.Stage.TheVariants.{Down, Going, Lost}
 use Rattle.salt_engine.specs.declared.stage.Stage.{Stage}
-use Rattle.salt_keeps.specs.OpenUnits.{UnitState}
-use Rattle.salt_keeps.specs.Points.{Point}
-use Rattle.salt_keeps.specs.States.{State}
-use Rattle.salt_keeps.specs.Watches.{empty_watch}
-use Rattle.salt_known.specs.Known.{AllLeadOn}
+use Rattle.law_states.specs.OpenUnits.{UnitState}
+use Rattle.law_states.specs.Points.{Point}
+use Rattle.law_states.specs.States.{State}
+use Rattle.law_states.specs.Watches.{empty_watch}
+use Rattle.salt_books.specs.Known.{AllLeadOn}
 use Rattle.salt_model.specs.Kept.{Kept, programs_of, schema_of}
 use Rattle.salt_model.specs.Next.{decision_in}
 use Rattle.salt_model.specs.Phases as phases

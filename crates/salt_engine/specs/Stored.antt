@@ -1,10 +1,10 @@
 -- What a storage holds beside an engine's state, and what a stop leaves of it.
-use Rattle.salt_keeps.specs.OpenUnits.{UnitState}
-use Rattle.salt_keeps.specs.Points.{Point}
-use Rattle.salt_keeps.specs.Steps.{units_after}
+use Rattle.law_states.specs.OpenUnits.{UnitState}
+use Rattle.law_states.specs.Points.{Point}
+use Rattle.law_states.specs.Steps.{units_after}
 use Rattle.salt_model.specs.Kept.{Kept}
 use Rattle.salt_model.specs.declared.events.Event.{Event}
-use Rattle.salt_sound.specs.Naming.{IsToCome}
+use Rattle.law_decisions.specs.Naming.{IsToCome}
 use Rattle.salt_stands.specs.Stands.{are_spent}
 use Rattle.salt_storage.specs.declared.found.Numbers.{Numbers}
 use Rattle.salt_values.specs.declared.id.Id.{Id}

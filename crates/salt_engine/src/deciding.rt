@@ -8,13 +8,13 @@ ghost use Rattle.salt_engine.specs.Deciding.{IsBefore, IsBranched, IsCommitted, 
 ghost use Rattle.salt_engine.specs.Stored.{Stored};
 ghost use Rattle.salt_eval.specs.Scans.{IsKeyed};
 ghost use Rattle.salt_eval.specs.Views.{tables_of};
-ghost use Rattle.salt_keeps.specs.OpenUnits.{OpenUnit, UnitState, unit_named};
-ghost use Rattle.salt_keeps.specs.Told.{commits_in, does_in};
+ghost use Rattle.law_states.specs.OpenUnits.{OpenUnit, UnitState, unit_named};
+ghost use Rattle.law_states.specs.Told.{commits_in, does_in};
 ghost use Rattle.salt_model.specs.declared.events.Cause.{Cause};
-ghost use Rattle.salt_steps.specs.Writing.{change_of};
+ghost use Rattle.salt_driver.specs.Writing.{change_of};
 ghost use Rattle.salt_storage.specs.Answers.{disk_err};
 ghost use Rattle.salt_storage.specs.Staying.{StaysWithin};
-ghost use Rattle.salt_values.specs.Placement.{GivesPlaceOf, TakesEachKey};
+ghost use Rattle.salt_place.specs.Placement.{GivesPlaceOf, TakesEachKey};
 ghost use Rattle.salt_values.specs.declared.id.Id.{Id};
 ghost use Rattle.std.specs.Prelude.{IfErr, IfOk, OnOk, Some, map, ◌≡◌};
 
@@ -22,9 +22,10 @@ use salt_books::{Asking, Books};
 use salt_cont::Move;
 use salt_disk::Disks;
 use salt_eval::Tables;
-use salt_sound::decided_ends_may_be_kept;
+use law_decisions::decided_ends_may_be_kept;
 use salt_storage::{Halt, Storage};
-use salt_values::{Change, Changes, Id, Key, PlaceKind, Placement, TryCopy};
+use salt_values::{Change, Changes, Id, Key, TryCopy};
+use salt_place::{PlaceKind, Placement};
 use sqlite_items::Items;
 use std::alloc::{AllocError, Global};
 

@@ -3,13 +3,13 @@
 ghost use Rattle.salt_books.specs.declared.books.Books.{Books};
 ghost use Rattle.salt_engine.specs.Flights.{flight_of};
 ghost use Rattle.salt_engine.specs.Standing.{IsReadyOver, ServesFrom, serving_books};
-ghost use Rattle.salt_keeps.specs.States.{State};
+ghost use Rattle.law_states.specs.States.{State};
 ghost use Rattle.std.specs.Prelude.{None, Some, ◌≡◌};
 
 use crate::flights::{InFlight, flight_of};
 use crate::stage::Stage;
 use salt_books::Books;
-use salt_known::Known;
+use salt_books::Known;
 use salt_model::Flight;
 use salt_program::Catalogue;
 use salt_scheduler::Scheduler;

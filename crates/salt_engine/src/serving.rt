@@ -7,13 +7,13 @@ ghost use Rattle.salt_disk.specs.Disks.{HasCause};
 ghost use Rattle.salt_engine.specs.Performing.{ComesOut, GoesOnServing, IsToServe, Stays, Turns, TurnsTo};
 ghost use Rattle.salt_engine.specs.Standing.{SeesIn};
 ghost use Rattle.salt_engine.specs.declared.stage.Stage.TheVariants.{Lost};
-ghost use Rattle.salt_keeps.specs.Nexts.{turned_next};
-ghost use Rattle.salt_keeps.specs.Readings.{Reading};
-ghost use Rattle.salt_keeps.specs.States.{State, turned_to};
+ghost use Rattle.law_states.specs.Nexts.{turned_next};
+ghost use Rattle.law_states.specs.Readings.{Reading};
+ghost use Rattle.law_states.specs.States.{State, turned_to};
 ghost use Rattle.salt_scheduler.specs.Standing.{Brings, behind_in};
-ghost use Rattle.salt_steps.specs.Counting.{armed_at};
+ghost use Rattle.salt_driver.specs.Counting.{armed_at};
 ghost use Rattle.salt_storage.specs.Answers.{disk_err};
-ghost use Rattle.salt_values.specs.Placement.{GivesPlaceOf, TakesEachKey};
+ghost use Rattle.salt_place.specs.Placement.{GivesPlaceOf, TakesEachKey};
 ghost use Rattle.std.specs.Prelude.{IfOk, None, [], ◌≡◌};
 
 use crate::deciding::{branch, commit, load};
@@ -26,7 +26,8 @@ use salt_disk::Disks;
 use salt_model::{Cause, Event};
 use salt_scheduler::Scheduler;
 use salt_storage::{Halt, Storage};
-use salt_values::{Id, Key, PlaceKind, Placement};
+use salt_values::{Id, Key};
+use salt_place::{PlaceKind, Placement};
 use std::alloc::AllocError;
 
 /// `go all` turns to a program: what that brings.

@@ -4,12 +4,12 @@ ghost use Rattle.salt_engine.specs.Flights.{flight_of};
 ghost use Rattle.salt_engine.specs.Performing.{IsServed};
 ghost use Rattle.salt_engine.specs.Standing.{goes_in, waits_in};
 ghost use Rattle.salt_model.specs.Trace.{Start, Trace, Tree};
-ghost use Rattle.salt_steps.specs.Counting.{CountsMore};
-ghost use Rattle.salt_steps.specs.Serving.{BreaksOff, GoesOn, Serves};
+ghost use Rattle.salt_driver.specs.Counting.{CountsMore};
+ghost use Rattle.salt_driver.specs.Serving.{BreaksOff, GoesOn, Serves};
 ghost use Rattle.salt_storage.specs.Answers.{disk_err};
-ghost use Rattle.salt_types.specs.Played.{HasKey};
+ghost use Rattle.law_types.specs.Played.{HasKey};
 ghost use Rattle.salt_storage.specs.Staying.{StaysWithin};
-ghost use Rattle.salt_values.specs.Placement.{GivesPlaceOf, TakesEachKey};
+ghost use Rattle.salt_place.specs.Placement.{GivesPlaceOf, TakesEachKey};
 ghost use Rattle.std.specs.Prelude.{IfErr, None, OnOk, ◌≡◌};
 
 use crate::engine::Engine;
@@ -18,10 +18,11 @@ use crate::stage::Stage;
 use salt_ast::Line;
 use salt_disk::Disks;
 use salt_model::{Event, Refusal, Story};
-use salt_sound::read_lines_are_spelled;
-use salt_steps::Stepping;
+use law_decisions::read_lines_are_spelled;
+use salt_driver::Stepping;
 use salt_storage::{Halt, Storage};
-use salt_values::{Id, Key, PlaceKind, Placement};
+use salt_values::{Id, Key};
+use salt_place::{PlaceKind, Placement};
 use std::mem;
 
 impl<S: Storage + Drop> Stepping for Engine<S> {
@@ -129,6 +130,6 @@ impl<S: Storage + Drop> Engine<S> {
         ensures within { StaysWithin (S.asked self.old.storage) (S.asked self.new.storage) (D.view disks.old) (D.view disks.new) }
         ensures counts { CountsMore (D.view disks.old) (D.view disks.new) (disk_err result) None story.old story.new }
     {
-        salt_steps::step(self, disks, place, line, story)
+        salt_driver::step(self, disks, place, line, story)
     }
 }

@@ -1,6 +1,6 @@
 -- Where tables agree on a reach, they have the same rows in it.
 use Rattle.salt_eval.specs.Frames.{AgreeOn}
-use Rattle.salt_laws.proofs.Places.{agree-rows}
+use Rattle.law_story.proofs.Places.{agree-rows}
 use Rattle.salt_model.specs.Tables.{Tables, rows_in}
 use Rattle.salt_model.specs.declared.locks.Reach.{Reach}
 use Rattle.std.specs.Prelude.{None, Option, Some, refl, ◌≡◌}

@@ -1,6 +1,6 @@
 -- Why what is marked as clear is so.
-use Rattle.salt_keeps.specs.KeptLocks.{is_owned_by}
-use Rattle.salt_laws.proofs.Lists.{either}
+use Rattle.law_states.specs.KeptLocks.{is_owned_by}
+use Rattle.law_story.proofs.Lists.{either}
 use Rattle.salt_locks.proofs.Near.{parted, up_to_below, up_to_low}
 use Rattle.salt_locks.proofs.Orders.{IsClosedBack, every_at, low_closed, no_later-other, up_to_cases, up_to_earlier, value_chain, value_other}
 use Rattle.salt_locks.specs.Clear.{IsMarked, ends_by, ends_no_later, is_high_at_most, is_reaching}

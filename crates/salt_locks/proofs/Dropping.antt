@@ -1,5 +1,5 @@
 -- Locks that are taken out of a list one after another, with what stands beside them.
-use Rattle.salt_keeps.specs.KeptLocks.{Numbered, is_owned_by}
+use Rattle.law_states.specs.KeptLocks.{Numbered, is_owned_by}
 use Rattle.salt_locks.proofs.Puts.{is_left}
 use Rattle.salt_locks.specs.Clear.{IsMarked, ends_by}
 use Rattle.salt_locks.specs.Places.{AreInOrder, NoLater}

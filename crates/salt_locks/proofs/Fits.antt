@@ -1,8 +1,8 @@
 -- The calls by the members of what they leave.
-use Rattle.salt_keeps.specs.KeptLocks.{Numbered, is_owned_by, saline_of}
-use Rattle.salt_keeps.specs.LockCalls.{HasDropped, HasSalted, HasTaken}
-use Rattle.salt_keeps.specs.Members.{In}
-use Rattle.salt_laws.proofs.Lists.{either, in-filter, in-map, into-filter, into-map}
+use Rattle.law_states.specs.KeptLocks.{Numbered, is_owned_by, saline_of}
+use Rattle.law_states.specs.LockCalls.{HasDropped, HasSalted, HasTaken}
+use Rattle.law_states.specs.Members.{In}
+use Rattle.law_story.proofs.Lists.{either, in-filter, in-map, into-filter, into-map}
 use Rattle.salt_locks.specs.Places.{is_no_later}
 use Rattle.salt_locks.specs.Tables.{is_of_another, put, salted}
 use Rattle.salt_model.specs.declared.events.Owner.{Owner}

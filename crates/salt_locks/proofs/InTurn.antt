@@ -1,9 +1,9 @@
 -- An owner's locks by their numbers ascend, and are all that it holds.
-use Rattle.salt_keeps.proofs.Ascending.{every-in}
-use Rattle.salt_keeps.proofs.KeptTable.{keeps-shown}
-use Rattle.salt_keeps.specs.KeptLocks.{KeepsLocks, Numbered, Sooner, is_owned_by}
-use Rattle.salt_keeps.specs.Members.{Ascends, In}
-use Rattle.salt_laws.proofs.Lists.{either, in-filter, into-filter}
+use Rattle.law_states.proofs.Ascending.{every-in}
+use Rattle.law_states.proofs.KeptTable.{keeps-shown}
+use Rattle.law_states.specs.KeptLocks.{KeepsLocks, Numbered, Sooner, is_owned_by}
+use Rattle.law_states.specs.Members.{Ascends, In}
+use Rattle.law_story.proofs.Lists.{either, in-filter, into-filter}
 use Rattle.salt_locks.specs.Tables.{numbered}
 use Rattle.salt_locks.specs.Turns.{in_turn, is_of, locks_in_turn, numbered_of, put_in_turn}
 use Rattle.salt_locks.specs.declared.turns.TakenLock.{TakenLock}

@@ -1,5 +1,5 @@
 -- A part of a list in which all stand that pass a test.
-use Rattle.salt_laws.proofs.Lists.{or_right_true}
+use Rattle.law_story.proofs.Lists.{or_right_true}
 use Rattle.salt_locks.proofs.Near.{end_closed, filter_twice, parted, up_to_end}
 use Rattle.salt_locks.specs.Clear.{is_met, is_reaching}
 use Rattle.salt_locks.specs.Places.{AreInOrder, is_near}

@@ -1,5 +1,5 @@
 -- Numbers that are left, moved to the front one after another.
-use Rattle.salt_keeps.specs.KeptLocks.{is_owned_by}
+use Rattle.law_states.specs.KeptLocks.{is_owned_by}
 use Rattle.salt_locks.proofs.Puts.{numbers_left}
 use Rattle.salt_model.specs.declared.events.Owner.{Owner}
 use Rattle.salt_model.specs.declared.locks.Lock.{Lock}

@@ -1,5 +1,5 @@
 -- The part of an ordered list that passes one test on its way and no longer another.
-use Rattle.salt_laws.proofs.Lists.{either}
+use Rattle.law_story.proofs.Lists.{either}
 use Rattle.salt_locks.proofs.Orders.{IsClosedBack, every_at, every_map, less_up_to, low_chain, low_meets, up_to_cases, up_to_earlier}
 use Rattle.salt_locks.proofs.Puts.{one_more}
 use Rattle.salt_locks.specs.Places.{AreInOrder, NoLater, is_low_at_most, is_near, is_up_to}

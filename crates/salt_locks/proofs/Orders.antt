@@ -1,5 +1,5 @@
 -- The order of lower ends, and of locks.
-use Rattle.salt_laws.proofs.Lists.{either, or_right_true}
+use Rattle.law_story.proofs.Lists.{either, or_right_true}
 use Rattle.salt_locks.specs.Places.{NoLater, is_low_at_most, is_no_later, is_up_to}
 use Rattle.salt_model.specs.Words.{Every}
 use Rattle.salt_model.specs.declared.locks.Lock.{Lock}

@@ -1,5 +1,5 @@
 -- Locks and numbers beside them, and what becomes of both.
-use Rattle.salt_keeps.specs.KeptLocks.{is_owned_by}
+use Rattle.law_states.specs.KeptLocks.{is_owned_by}
 use Rattle.salt_locks.proofs.Orders.{every_map, no_later-chain, no_later-other}
 use Rattle.salt_locks.specs.Places.{AreInOrder, NoLater, is_low_at_most, is_no_later, is_up_to}
 use Rattle.salt_locks.specs.Tables.{is_of_another, locks_in, numbered, numbers_in, put, salted, salted_lock}

@@ -1,5 +1,5 @@
 -- The order in which locks stand, and the part of them that is near a range.
-use Rattle.salt_keeps.specs.Members.{Ascends}
+use Rattle.law_states.specs.Members.{Ascends}
 use Rattle.salt_model.specs.declared.locks.Lock.{Lock}
 use Rattle.salt_ranges.specs.Ranges.{ends_meet}
 use Rattle.salt_ranges.specs.declared.range.KeyRange.{KeyRange}

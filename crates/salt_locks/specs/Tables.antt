@@ -1,5 +1,5 @@
 -- A table of locks with their numbers, and what the calls make of it.
-use Rattle.salt_keeps.specs.KeptLocks.{Numbered, is_owned_by, saline_of}
+use Rattle.law_states.specs.KeptLocks.{Numbered, is_owned_by, saline_of}
 use Rattle.salt_locks.specs.Places.{is_no_later}
 use Rattle.salt_locks.specs.declared.table.TakeErr.{TakeErr}
 use Rattle.salt_locks.specs.declared.table.TakeErr.TheVariants.{Conflict, Memory}

@@ -1,5 +1,5 @@
 -- The locks of one owner, by the numbers of their statements.
-use Rattle.salt_keeps.specs.KeptLocks.{Numbered, is_owned_by}
+use Rattle.law_states.specs.KeptLocks.{Numbered, is_owned_by}
 use Rattle.salt_locks.specs.declared.turns.TakenLock.{TakenLock}
 use Rattle.salt_model.specs.declared.events.Owner.{Owner}
 use Rattle.std.specs.List.{filter}

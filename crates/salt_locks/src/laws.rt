@@ -1,8 +1,8 @@
 //! The calls on a table are those that the definitions of what is kept ask for.
 
-ghost use Rattle.salt_keeps.specs.KeptLocks.{KeepsLocks, Numbered, is_owned_by};
-ghost use Rattle.salt_keeps.specs.KeptWaits.{Asker, clash_owners};
-ghost use Rattle.salt_keeps.specs.LockCalls.{HasDropped, HasSalted, HasTaken};
+ghost use Rattle.law_states.specs.KeptLocks.{KeepsLocks, Numbered, is_owned_by};
+ghost use Rattle.law_states.specs.KeptWaits.{Asker, clash_owners};
+ghost use Rattle.law_states.specs.LockCalls.{HasDropped, HasSalted, HasTaken};
 ghost use Rattle.salt_locks.specs.Tables.{is_of_another, owners_against, put, salted};
 ghost use Rattle.salt_locks.specs.Turns.{locks_in_turn};
 ghost use Rattle.salt_model.specs.declared.events.Owner.{Owner};

@@ -1,7 +1,7 @@
 //! Owners of locks, each once and in order.
 
 ghost use Rattle.salt_model.specs.Locks.{is_same_owner};
-ghost use Rattle.salt_model.specs.Words.{insert_id};
+ghost use Rattle.salt_values.specs.Id.{insert_id};
 ghost use Rattle.salt_model.specs.declared.events.Owner.{Owner};
 ghost use Rattle.salt_values.specs.Id.{is_older, is_same_id};
 ghost use Rattle.std.specs.Prelude.{IfOk, OnOk, map, ◌++◌, ◌≡◌};

@@ -1,6 +1,6 @@
 //! The lock table.
 
-ghost use Rattle.salt_keeps.specs.KeptLocks.{Numbered};
+ghost use Rattle.law_states.specs.KeptLocks.{Numbered};
 ghost use Rattle.salt_locks.specs.Places.{AreInOrder, is_near};
 ghost use Rattle.salt_locks.specs.Tables.{Answers, is_of_another, locks_in, numbered, numbers_in, owners_against, put, salted, salted_lock};
 ghost use Rattle.salt_locks.specs.Turns.{locks_in_turn, numbered_of};
@@ -49,7 +49,7 @@ pub struct LockTable {
 }
 
 impl Model for LockTable {
-    ghost use Rattle.salt_keeps.specs.KeptLocks.{Numbered};
+    ghost use Rattle.law_states.specs.KeptLocks.{Numbered};
     ghost use Rattle.salt_locks.specs.Clear.{IsMarked};
     ghost use Rattle.salt_locks.specs.Places.{AreInOrder};
     ghost use Rattle.salt_locks.specs.Tables.{numbered};

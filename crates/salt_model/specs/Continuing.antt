@@ -1,7 +1,8 @@
 -- Each program goes along its declared path, and each opening brings all of them to their ends.
 use Rattle.salt_values.specs.declared.cont.Cont.{Cont}
 use Rattle.std.specs.Bool.{then_some}
-use Rattle.salt_model.specs.Words.{Every, has_id}
+use Rattle.salt_model.specs.Words.{Every}
+use Rattle.salt_values.specs.Id.{has_id}
 use Rattle.salt_model.specs.Programs.{accepted_in, finished_in}
 use Rattle.salt_model.specs.After.{kept}
 use Rattle.salt_model.specs.Kept.{cont_of}

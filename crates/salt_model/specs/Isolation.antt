@@ -7,7 +7,7 @@ use Rattle.salt_model.specs.Units.{Over, Standing, is_open_standing, program_of,
 use Rattle.salt_model.specs.Everywhere.{Each}
 use Rattle.salt_model.specs.Reads.{writers_in}
 use Rattle.salt_model.specs.Waiting.{is_acid}
-use Rattle.salt_model.specs.Words.{has_id}
+use Rattle.salt_values.specs.Id.{has_id}
 use Rattle.salt_model.specs.declared.events.End.TheVariants.{Committed}
 use Rattle.salt_model.specs.declared.events.Event.TheVariants.{Did}
 use Rattle.salt_model.specs.declared.events.Event.{Event}

@@ -37,11 +37,3 @@ pub mod Summary
 pub mod Walk
 pub mod Computing
 pub mod Scripts
-pub mod SessionRows
-pub mod ProgramRows
-pub mod WaitRows
-pub mod StopRows
-pub mod RefusalRows
-pub mod NullRows
-pub mod RetryRows
-pub mod LineRows

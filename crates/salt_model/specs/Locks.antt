@@ -5,7 +5,8 @@ use Rattle.salt_model.specs.After.{reach_now}
 use Rattle.salt_model.specs.Trace.{Trace, from, ◌asks◌, ◌says◌, ◌turns◌}
 use Rattle.salt_model.specs.Programs.{released_in}
 use Rattle.salt_model.specs.Units.{Over, Running, Standing, Waiting, kind_of, program_of_kind, standing}
-use Rattle.salt_model.specs.Words.{Every, has_id, in_order}
+use Rattle.salt_model.specs.Words.{Every}
+use Rattle.salt_values.specs.Id.{has_id, in_order}
 use Rattle.salt_model.specs.declared.events.End.TheVariants.{Committed}
 use Rattle.salt_model.specs.declared.events.Event.TheVariants.{Did}
 use Rattle.salt_model.specs.declared.events.Owner.TheVariants.{Base, Unit}

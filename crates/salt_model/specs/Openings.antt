@@ -5,7 +5,8 @@ use Rattle.salt_model.specs.After.{kept}
 use Rattle.salt_model.specs.Trace.{Trace}
 use Rattle.salt_model.specs.Units.{kind_of, open_units}
 use Rattle.salt_model.specs.Turns.{after_did, after_end, begins, finishes, next_number, does_next}
-use Rattle.salt_model.specs.Words.{in_order, is_empty}
+use Rattle.salt_model.specs.Words.{is_empty}
+use Rattle.salt_values.specs.Id.{in_order}
 use Rattle.salt_model.specs.declared.events.Answer.{Answer}
 use Rattle.salt_model.specs.declared.events.End.TheVariants.{Cut}
 use Rattle.salt_model.specs.declared.events.Event.TheVariants.{Accepted, Began, Did, Ended, Ready}

@@ -1,7 +1,7 @@
 -- The BASE programs: accepted, finished, released, and those that are under way.
 use Rattle.salt_model.specs.Trace.{Trace, from, ◌asks◌, ◌says◌, ◌turns◌}
 use Rattle.salt_model.specs.Units.{kind_of, open_units, program_begun, program_of_kind}
-use Rattle.salt_model.specs.Words.{in_order, without}
+use Rattle.salt_values.specs.Id.{in_order, without}
 use Rattle.salt_model.specs.declared.events.Event.TheVariants.{Accepted, Began, Finished, Ready, Released}
 use Rattle.salt_values.specs.declared.id.Id.{Id}
 use Rattle.std.specs.List.{filter_map}

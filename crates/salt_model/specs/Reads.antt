@@ -6,7 +6,8 @@ use Rattle.salt_model.specs.After.{changes_now, reach_now}
 use Rattle.salt_model.specs.Trace.{Trace, from, ◌asks◌, ◌says◌, ◌turns◌}
 use Rattle.salt_model.specs.Programs.{accepted_in, finished_in, released_in}
 use Rattle.salt_model.specs.Units.{is_of_program, program_of}
-use Rattle.salt_model.specs.Words.{has_id, in_order, shrink, widened, without}
+use Rattle.salt_model.specs.Words.{shrink, widened}
+use Rattle.salt_values.specs.Id.{has_id, in_order, without}
 use Rattle.salt_model.specs.declared.events.End.TheVariants.{Committed}
 use Rattle.salt_model.specs.declared.events.Event.TheVariants.{Did, Ended}
 use Rattle.salt_model.specs.declared.locks.Reach.{Reach}

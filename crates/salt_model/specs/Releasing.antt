@@ -6,7 +6,7 @@ use Rattle.salt_model.specs.Phases.{Phase, Serving, phase}
 use Rattle.salt_model.specs.Everywhere.{Each}
 use Rattle.salt_model.specs.Reads.{read_directly, to_release}
 use Rattle.salt_model.specs.Turns.{releases}
-use Rattle.salt_model.specs.Words.{has_id}
+use Rattle.salt_values.specs.Id.{has_id}
 use Rattle.salt_model.specs.declared.events.Event.TheVariants.{Finished, Released}
 use Rattle.salt_model.specs.declared.events.Event.{Event}
 use Rattle.salt_values.specs.declared.id.Id.{Id}

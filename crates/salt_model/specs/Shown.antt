@@ -6,7 +6,7 @@ use Rattle.salt_model.specs.Trace.{Trace, from, ◌asks◌, ◌says◌, ◌turns
 use Rattle.salt_model.specs.Units.{open_units}
 use Rattle.salt_model.specs.Programs.{under_way, unreleased}
 use Rattle.salt_model.specs.Reads.{is_finished}
-use Rattle.salt_model.specs.Words.{in_order}
+use Rattle.salt_values.specs.Id.{in_order}
 use Rattle.salt_model.specs.declared.events.Event.TheVariants.{Began}
 use Rattle.salt_model.specs.declared.events.Owner.TheVariants.{Base, Unit}
 use Rattle.salt_model.specs.declared.events.UnitKind.TheVariants.{First}

@@ -17,7 +17,7 @@ use Rattle.salt_model.specs.Shown.{base_items, lock_items}
 use Rattle.salt_ast.specs.ProgramTexts.{program_text}
 use Rattle.salt_ast.specs.Texts.{table_text}
 use Rattle.salt_model.specs.Waiting.{asked_by, block_of, next_unblocked, victim}
-use Rattle.salt_model.specs.Words.{in_order}
+use Rattle.salt_values.specs.Id.{in_order}
 use Rattle.salt_model.specs.declared.events.Answer.TheVariants.{Failed}
 use Rattle.salt_model.specs.declared.events.Answer.{Answer}
 use Rattle.salt_model.specs.declared.events.Cause.{Cause}

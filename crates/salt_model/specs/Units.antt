@@ -4,7 +4,8 @@ use Rattle.std.specs.Option.{option_or}
 use Rattle.salt_ast.specs.declared.lines.Line.TheVariants.{Nothing}
 use Rattle.salt_ast.specs.declared.lines.Line.{Line}
 use Rattle.salt_ast.specs.declared.trees.Statement.{Statement}
-use Rattle.salt_model.specs.Words.{first_of_list, without}
+use Rattle.salt_model.specs.Words.{first_of_list}
+use Rattle.salt_values.specs.Id.{without}
 use Rattle.salt_model.specs.declared.events.Answer.{Answer}
 use Rattle.salt_model.specs.declared.events.End.{End}
 use Rattle.salt_model.specs.declared.events.Event.TheVariants.{Began, Did, Ended, Opened, Waits}

@@ -11,7 +11,8 @@ use Rattle.salt_model.specs.Locks.{clashing}
 use Rattle.salt_model.specs.Trace.{Trace, line_of}
 use Rattle.salt_model.specs.Units.{Standing, Waiting, done_of, is_of_program, kind_of, line_waited, program_of, standing, wait_list}
 use Rattle.salt_model.specs.Reads.{is_finished, sources}
-use Rattle.salt_model.specs.Words.{greatest, has_id, is_empty, widened}
+use Rattle.salt_model.specs.Words.{greatest, is_empty, widened}
+use Rattle.salt_values.specs.Id.{has_id}
 use Rattle.salt_model.specs.declared.events.Owner.TheVariants.{Base, Unit}
 use Rattle.salt_model.specs.declared.events.Owner.{Owner}
 use Rattle.salt_values.specs.Id.{is_same_id}

@@ -1,5 +1,5 @@
 -- Small words on lists, names and numbers of units.
-use Rattle.salt_values.specs.Id.{is_older, is_same_id}
+use Rattle.salt_values.specs.Id.{in_order, is_older}
 use Rattle.salt_values.specs.declared.id.Id.{Id}
 use Rattle.std.specs.List.{filter, flat_map, list_all, list_any}
 use Rattle.std.specs.Prelude.{Bool, Err, List, None, Ok, Option, Result, Some, [], false, if◌then◌else◌, not, suc, true, zero, ℕ, ⊤, ◌++◌, ◌∷◌}
@@ -17,26 +17,9 @@ abbrev pub and_then : {A B E : Type 0} → Result A E → (A → Result B E) →
 and_then (Ok x) f = f x
 and_then (Err e) f = Err e
 
-abbrev pub has_id : Id → List Id → Bool
-has_id u ids = list_any (is_same_id u) ids
-
--- u put into a list in order of names, once
-abbrev pub insert_id : Id → List Id → List Id
-insert_id u [] = u ∷ []
-insert_id u (v ∷ vs) = if is_older u v then u ∷ v ∷ vs else (if is_same_id u v then v ∷ vs else v ∷ insert_id u vs)
-
--- the names in order, each once
-abbrev pub in_order : List Id → List Id
-in_order [] = []
-in_order (u ∷ us) = insert_id u (in_order us)
-
 abbrev pub greatest : List Id → Option Id
 greatest [] = None
 greatest (u ∷ us) = elim (greatest us) [ None ↦ Some u | Some v ↦ Some (if is_older u v then v else u) ]
-
--- the elements of the second list that are not in the first
-abbrev pub without : List Id → List Id → List Id
-without seen ids = filter (λ u. not (has_id u seen)) ids
 
 -- the names, and all to which `next` leads from them in at most that many steps
 abbrev pub widened : (Id → List Id) → ℕ → List Id → List Id

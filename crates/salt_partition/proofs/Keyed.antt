@@ -8,11 +8,11 @@ use Rattle.salt_bytes.specs.Spellable.{Every}
 use Rattle.salt_bytes.specs.Taking.{give, if_all, only_if, take_byte, take_each, then_take}
 use Rattle.salt_bytes.specs.Values.{key_of, take_row, take_value}
 use Rattle.salt_disk.specs.Disks.{View}
-use Rattle.salt_entries.specs.Entries.{IsPut, IsPutTo, prepared_of}
-use Rattle.salt_entries.specs.declared.prepared.PreparedUnit.{PreparedUnit}
+use Rattle.salt_codec.specs.Entries.{IsPut, IsPutTo, prepared_of}
+use Rattle.salt_codec.specs.declared.prepared.PreparedUnit.{PreparedUnit}
 use Rattle.salt_eval.specs.Scans.{IsKeyed}
 use Rattle.salt_model.specs.Tables.{Tables, changed_at, make_change, no_rows, place_cmp, row_at, with_changes}
-use Rattle.salt_model.specs.Words.{has_id}
+use Rattle.salt_values.specs.Id.{has_id}
 use Rattle.salt_model.specs.declared.places.Place.{Place}
 use Rattle.salt_partition.specs.Contents.{AreKeyed, HasKey, HasKeyTo}
 use Rattle.salt_partition.specs.Partitions.{IsPartition}

@@ -1,8 +1,8 @@
 -- The unit that was prepared last, which is kept until it is applied.
 use Rattle.salt_bytes.specs.Partition.{Prepared}
-use Rattle.salt_entries.specs.Entries.{prepared_of}
-use Rattle.salt_entries.specs.declared.prepared.PreparedUnit.{PreparedUnit}
-use Rattle.salt_model.specs.Words.{has_id}
+use Rattle.salt_codec.specs.Entries.{prepared_of}
+use Rattle.salt_codec.specs.declared.prepared.PreparedUnit.{PreparedUnit}
+use Rattle.salt_values.specs.Id.{has_id}
 use Rattle.salt_partition.proofs.Seeing.{units_push}
 use Rattle.salt_partition.specs.Contents.{units_of}
 use Rattle.salt_partition.specs.Partitions.{IsLastKept, IsPreparedLast, prepared}

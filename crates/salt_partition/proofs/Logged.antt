@@ -1,8 +1,8 @@
 -- The units that a partition's log spells.
 use Rattle.salt_bytes.specs.Partition.{prepared_in}
 use Rattle.salt_disk.specs.Disks.{View}
-use Rattle.salt_entries.specs.Entries.{prepared_of}
-use Rattle.salt_entries.specs.declared.prepared.PreparedUnit.{PreparedUnit}
+use Rattle.salt_codec.specs.Entries.{prepared_of}
+use Rattle.salt_codec.specs.declared.prepared.PreparedUnit.{PreparedUnit}
 use Rattle.salt_partition.proofs.Gathered.{got_at, logged_at, logged_count, past}
 use Rattle.salt_partition.specs.Contents.{SpellsUnit}
 use Rattle.salt_partition.specs.Partitions.{IsPartition, changes_in}

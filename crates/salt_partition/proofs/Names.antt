@@ -1,7 +1,7 @@
 -- Names of units put into a set.
-use Rattle.salt_entries.specs.declared.prepared.PreparedUnit.{PreparedUnit}
-use Rattle.salt_laws.proofs.Ids.{is_same_id-sym}
-use Rattle.salt_model.specs.Words.{has_id}
+use Rattle.salt_codec.specs.declared.prepared.PreparedUnit.{PreparedUnit}
+use Rattle.law_story.proofs.Ids.{is_same_id-sym}
+use Rattle.salt_values.specs.Id.{has_id}
 use Rattle.salt_partition.specs.Contents.{units_of}
 use Rattle.salt_stands.specs.Partition.{unit_prepared}
 use Rattle.salt_stands.specs.Pieces.{is_prepared_in}

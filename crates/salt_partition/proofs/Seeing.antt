@@ -1,10 +1,10 @@
 -- Facts of units that were read, as facts of what they are seen as.
 use Rattle.salt_bytes.specs.Partition.{Prepared}
-use Rattle.salt_entries.specs.Entries.{prepared_of}
-use Rattle.salt_entries.specs.declared.prepared.PreparedUnit.{PreparedUnit}
+use Rattle.salt_codec.specs.Entries.{prepared_of}
+use Rattle.salt_codec.specs.declared.prepared.PreparedUnit.{PreparedUnit}
 use Rattle.salt_partition.specs.Contents.{units_of}
 use Rattle.salt_model.specs.Tables.{Entry, Tables, no_rows, with_changes}
-use Rattle.salt_model.specs.Words.{has_id}
+use Rattle.salt_values.specs.Id.{has_id}
 use Rattle.salt_stands.proofs.Decided.{changes_push, with_changes_append}
 use Rattle.salt_stands.specs.Partition.{changes_if, decided_changes}
 use Rattle.salt_values.specs.declared.id.Id.{Id}

@@ -5,15 +5,15 @@ use Rattle.salt_bytes.specs.Log.{entries_in}
 use Rattle.salt_bytes.specs.Partition.{Prepared, prepared_in, spell_prepared}
 use Rattle.salt_bytes.specs.Spellable.{Every}
 use Rattle.salt_disk.specs.Disks.{IsSettled, IsUnchanged, KeepsOthers, SameShape, View}
-use Rattle.salt_entries.specs.Entries.{IsPut, prepared_of}
-use Rattle.salt_entries.specs.declared.prepared.PreparedUnit.{PreparedUnit}
+use Rattle.salt_codec.specs.Entries.{IsPut, prepared_of}
+use Rattle.salt_codec.specs.declared.prepared.PreparedUnit.{PreparedUnit}
 use Rattle.salt_eval.proofs.InOrder.{tables_of-list}
 use Rattle.salt_eval.specs.Views.{tables_of}
 use Rattle.salt_gatelog.proofs.Bytes.{entries_in-closed}
 use Rattle.salt_gatelog.specs.Log.{IsLog}
 use Rattle.salt_gatelog.specs.declared.log.GateLog.{GateLog}
 use Rattle.salt_model.specs.Tables.{Entry, Tables, no_rows, place_cmp, with_changes}
-use Rattle.salt_model.specs.Words.{has_id}
+use Rattle.salt_values.specs.Id.{has_id}
 use Rattle.salt_partition.proofs.Keyed.{all_put_keyed, every_push}
 use Rattle.salt_partition.proofs.Lasts.{applied_last, last_put}
 use Rattle.salt_partition.specs.Contents.{AreKeyed}

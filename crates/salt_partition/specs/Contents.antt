@@ -5,8 +5,8 @@ use Rattle.salt_bytes.specs.Partition.{Prepared, prepared_in}
 use Rattle.salt_bytes.specs.Spellable.{Every}
 use Rattle.salt_bytes.specs.Values.{key_of}
 use Rattle.salt_disk.specs.Disks.{View}
-use Rattle.salt_entries.specs.Entries.{header_of, prepared_of}
-use Rattle.salt_entries.specs.declared.prepared.PreparedUnit.{PreparedUnit}
+use Rattle.salt_codec.specs.Entries.{header_of, prepared_of}
+use Rattle.salt_codec.specs.declared.prepared.PreparedUnit.{PreparedUnit}
 use Rattle.salt_gatelog.specs.Log.{IsLog}
 use Rattle.salt_gatelog.specs.declared.log.GateLog.{GateLog}
 use Rattle.salt_partition.specs.declared.contents.LogContent.TheVariants as found

@@ -5,11 +5,11 @@ use Rattle.salt_bytes.specs.Generations.{Counts}
 use Rattle.salt_bytes.specs.Partition.{Prepared}
 use Rattle.salt_bytes.specs.Spellable.{Every}
 use Rattle.salt_disk.specs.Disks.{IsSettled, View}
-use Rattle.salt_entries.specs.Entries.{IsPut, prepared_of}
-use Rattle.salt_entries.specs.declared.prepared.PreparedUnit.{PreparedUnit}
+use Rattle.salt_codec.specs.Entries.{IsPut, prepared_of}
+use Rattle.salt_codec.specs.declared.prepared.PreparedUnit.{PreparedUnit}
 use Rattle.salt_gatelog.specs.Log.{IsLog}
 use Rattle.salt_model.specs.Tables.{Entry}
-use Rattle.salt_model.specs.Words.{has_id}
+use Rattle.salt_values.specs.Id.{has_id}
 use Rattle.salt_partition.specs.Contents.{AreKeyed}
 use Rattle.salt_partition.specs.declared.partition.Partition.{Partition}
 use Rattle.salt_stands.specs.Coordinator.{device_of}

@@ -1,6 +1,6 @@
 //! What is known of a log by the coordinator's boot and the units that are decided.
 
-ghost use Rattle.salt_model.specs.Words.{has_id};
+ghost use Rattle.salt_values.specs.Id.{has_id};
 ghost use Rattle.salt_partition.specs.Contents.{log_of, units_of};
 ghost use Rattle.salt_stands.specs.OpenedPart.{is_known_log, is_of_boot};
 ghost use Rattle.salt_stands.specs.Partition.{are_there};
@@ -11,7 +11,7 @@ ghost use Rattle.std.specs.Prelude.{IfOk, nat_le, ◌≡◌};
 
 use crate::contents::ReadLog;
 use crate::sets::{is_in, prepared_set};
-use salt_entries::PreparedUnit;
+use salt_codec::PreparedUnit;
 use salt_values::Id;
 use std::alloc::{AllocError, Global};
 use std::collections::BTreeSet;

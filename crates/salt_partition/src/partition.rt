@@ -21,7 +21,7 @@ use crate::copies::changes_copied;
 use crate::rows::make_changes;
 use crate::units::unit_told;
 use salt_disk::{DiskErr, Disks};
-use salt_entries::{PreparedUnit, spell_prepared};
+use salt_codec::{PreparedUnit, spell_prepared};
 use salt_eval::{MapView, RowView, Tables};
 use salt_gatelog::GateLog;
 use salt_ranges::KeyRange;

@@ -7,7 +7,7 @@ ghost use Rattle.salt_stands.specs.Partition.{decided_changes};
 ghost use Rattle.std.specs.Prelude.{IfOk, OnOk, ◌≡◌};
 
 use crate::sets::{is_in, set_of};
-use salt_entries::PreparedUnit;
+use salt_codec::PreparedUnit;
 use salt_eval::Tables;
 use salt_model::Place;
 use salt_values::{Change, Id};

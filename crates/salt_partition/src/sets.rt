@@ -1,12 +1,12 @@
 //! Sets of units.
 
-ghost use Rattle.salt_model.specs.Words.{has_id};
+ghost use Rattle.salt_values.specs.Id.{has_id};
 ghost use Rattle.salt_partition.specs.Contents.{units_of};
 ghost use Rattle.salt_stands.specs.Pieces.{is_prepared_in};
 ghost use Rattle.salt_values.specs.declared.id.Id.{Id};
 ghost use Rattle.std.specs.Prelude.{IfOk, ◌≡◌};
 
-use salt_entries::PreparedUnit;
+use salt_codec::PreparedUnit;
 use salt_values::Id;
 use std::alloc::{AllocError, Global};
 use std::collections::BTreeSet;

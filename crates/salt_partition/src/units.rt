@@ -3,7 +3,7 @@
 ghost use Rattle.salt_bytes.specs.Partition.{partition_header_in, prepared_in};
 ghost use Rattle.salt_bytes.specs.Spellable.{Every};
 ghost use Rattle.salt_disk.specs.Disks.{HasCause, KeepsAll, OnlyFails, UnlessDown};
-ghost use Rattle.salt_entries.specs.Entries.{header_of, prepared_of};
+ghost use Rattle.salt_codec.specs.Entries.{header_of, prepared_of};
 ghost use Rattle.salt_gatelog.specs.Entry.{HasMoved};
 ghost use Rattle.salt_gatelog.specs.Log.{IsLog, count_of};
 ghost use Rattle.salt_disk.specs.declared.disks.DiskErr.TheVariants.{Failed};
@@ -14,7 +14,7 @@ ghost use Rattle.std.specs.Prelude.{IfOk, IfSome, IsTrue, List, Some, [], drop, 
 ghost use Rattle.std.specs.Result.{result_err};
 
 use salt_disk::{DiskErr, Disks};
-use salt_entries::{Header, PreparedUnit, read_header, read_prepared};
+use salt_codec::{Header, PreparedUnit, read_header, read_prepared};
 use salt_gatelog::GateLog;
 use std::alloc::Global;
 

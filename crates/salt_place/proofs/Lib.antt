@@ -1,1 +1,2 @@
 mod Together
+pub mod Places

@@ -1,10 +1,10 @@
 -- Keys between two that stand together stand with them.
 use Rattle.salt_place.specs.OneParts.{are_together, band, is_one_band}
 use Rattle.salt_ranges.specs.Ranges.{has_key}
-use Rattle.salt_values.specs.Placement.{place_of, remainder}
+use Rattle.salt_place.specs.Placement.{place_of, remainder}
 use Rattle.salt_values.specs.Value.{is_same_value, is_value_at_most, value_cmp, value_total}
-use Rattle.salt_values.specs.declared.placement.PlaceKind.TheVariants.{Bands, Remainder}
-use Rattle.salt_values.specs.declared.placement.PlaceKind.{PlaceKind}
+use Rattle.salt_place.specs.declared.placement.PlaceKind.TheVariants.{Bands, Remainder}
+use Rattle.salt_place.specs.declared.placement.PlaceKind.{PlaceKind}
 use Rattle.salt_values.specs.declared.value.Value.TheVariants.{Int, Null, Text}
 use Rattle.salt_values.specs.declared.value.Value.{Value}
 use Rattle.std.proofs.Common.{Bool, None, Option, Some, ap, arith, false, negsuc, pos, refl, sym, true, ℕ, ℤ, ◌/◌, ◌<ℤ◌, ◌≡◌, ◌≤◌, ◌∙◌, ◌⊎◌, inl, inr}

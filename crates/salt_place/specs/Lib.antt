@@ -1,1 +1,2 @@
 pub mod OneParts
+pub mod Placement

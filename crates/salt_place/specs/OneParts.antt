@@ -1,11 +1,11 @@
 -- Which ranges lie in one partition, and in which.
 use Rattle.salt_ranges.specs.Ranges.{is_range_empty}
 use Rattle.salt_ranges.specs.declared.range.KeyRange.{KeyRange}
-use Rattle.salt_values.specs.Placement.{place_of}
+use Rattle.salt_place.specs.Placement.{place_of}
 use Rattle.salt_values.specs.Value.{is_same_value}
-use Rattle.salt_values.specs.declared.placement.PlaceKind.TheVariants.{Bands, Remainder}
-use Rattle.salt_values.specs.declared.placement.PlaceKind.{PlaceKind}
-use Rattle.salt_values.specs.declared.placement.Shape.{Shape}
+use Rattle.salt_place.specs.declared.placement.PlaceKind.TheVariants.{Bands, Remainder}
+use Rattle.salt_place.specs.declared.placement.PlaceKind.{PlaceKind}
+use Rattle.salt_place.specs.declared.placement.Shape.{Shape}
 use Rattle.salt_values.specs.declared.value.Value.TheVariants.{Int, Null, Text}
 use Rattle.salt_values.specs.declared.value.Value.{Value}
 use Rattle.std.specs.Int.{int_div_euclid}

@@ -2,13 +2,14 @@
 
 ghost use Rattle.salt_place.specs.OneParts.{are_together, band, is_one_band, one_part, part_of_ends};
 ghost use Rattle.salt_ranges.specs.Ranges.{has_key};
-ghost use Rattle.salt_values.specs.Placement.{GivesPlaceOf, IsParts, TakesEachKey, place_of};
+ghost use Rattle.salt_place.specs.Placement.{GivesPlaceOf, IsParts, TakesEachKey, place_of};
 ghost use Rattle.salt_values.specs.Value.{IsKey};
 ghost use Rattle.salt_values.specs.declared.value.Value.{Value};
 ghost use Rattle.std.specs.Prelude.{IfSome, true, ◌≡◌};
 
 use salt_ranges::KeyRange;
-use salt_values::{Key, PlaceKind, Placement, Shape, Value};
+use salt_values::{Key, Value};
+use crate::placement::{PlaceKind, Placement, Shape};
 
 /// Whether two keys are numbers of one band of 1,024.
 fn is_one_band(lo: &Key, hi: &Key) -> bool

@@ -14,7 +14,7 @@ use Rattle.salt_promise.specs.declared.status.Status.TheVariants.{DeviceFull, Di
 use Rattle.salt_promise.specs.declared.status.Status.{Status}
 use Rattle.salt_promise.specs.Runs.{EndsRefused, FindsNothing, IsNoRefusal, RunsAs, RunsOver, ends_reading, ends_writing}
 use Rattle.salt_promise.specs.Ways.{FirstLines, LinesWithin, way_of}
-use Rattle.salt_load.specs.Workload.{load_lines}
+use Rattle.salt_promise.specs.Workload.{load_lines}
 use Rattle.salt_stands.specs.Stands.{Opening, Stands}
 use Rattle.std.proofs.Common.{ap, arith, inl, inr, subst, sym}
 use Rattle.std.specs.Prelude.{IsTrue, List, None, Option, Some, [], map, refl, ℕ, ◌∷◌, ◌≡◌, ◌≤◌, ◌⊎◌}

@@ -3,7 +3,7 @@ use Rattle.salt_bytes.specs.Coordinator.{Boots, spell_entry, spell_header}
 use Rattle.salt_bytes.specs.Generations.{Counts, LogA, Pair, content_of, pair_of}
 use Rattle.salt_bytes.specs.Log.{entries_in, entries_up_to, framed, spelled, split_payload}
 use Rattle.salt_bytes.specs.Partition.{spell_partition_header}
-use Rattle.salt_definitions.specs.Fitting.{definitions_reading}
+use Rattle.salt_stands.specs.Fitting.{definitions_reading}
 use Rattle.salt_model.specs.Kept.{Definition}
 use Rattle.salt_model.specs.Tables.{Tables, no_rows, with_changes}
 use Rattle.salt_model.specs.Words.{is_empty}

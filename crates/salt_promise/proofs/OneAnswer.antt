@@ -1,7 +1,7 @@
 -- Whatever reads definitions, devices stand for one thing and open in one way.
 use Rattle.salt_bytes.specs.Coordinator.{NumberedText}
 use Rattle.salt_bytes.specs.Generations.{BothBlank, Counts, Faulty, Pair, WhichLog}
-use Rattle.salt_definitions.specs.Fitting.{definitions_reading, kept_in}
+use Rattle.salt_stands.specs.Fitting.{definitions_reading, kept_in}
 use Rattle.salt_model.specs.Kept.{Definition, Kept}
 use Rattle.salt_promise.specs.Standing.{AnswersTo, IsOlder, IsReader, NamesPages, StandFor}
 use Rattle.salt_stands.specs.Coordinator.{Coordinator, are_sound, coordinator_of, coordinator_pair, define, defined_by, device_of, judge_coordinator}
@@ -13,7 +13,7 @@ use Rattle.salt_stands.specs.Stands as opening
 use Rattle.salt_stands.specs.Stands.{Found, Opening, Stands, are_spent, found_with, is_same_shape, judged, logs_of, of_coordinator, of_parts, opening_of, parts_at, with_parts}
 use Rattle.salt_stands.specs.Words.{and_then, given, if_sound, or_fault}
 use Rattle.salt_values.specs.declared.cont.Cont.{Cont}
-use Rattle.salt_values.specs.declared.placement.Shape.{Shape}
+use Rattle.salt_place.specs.declared.placement.Shape.{Shape}
 use Rattle.std.proofs.Common.{ap, arith, inl, inr, sym, ◌∙◌}
 use Rattle.std.specs.Prelude.{Bool, Err, List, None, Ok, Option, Result, Some, [], false, not, option_map, refl, true, ℕ, ◌++◌, ◌∷◌, ◌≡◌, ◌⊎◌}
 

@@ -1,5 +1,5 @@
 -- What stands, and whose numbers are not spent, opens.
-use Rattle.salt_definitions.specs.Fitting.{definitions_reading}
+use Rattle.salt_stands.specs.Fitting.{definitions_reading}
 use Rattle.salt_model.specs.Kept.{Definition, Kept}
 use Rattle.salt_promise.specs.Standing.{OpenAs, StandFor}
 use Rattle.salt_stands.specs.Coordinator.{Coordinator, coordinator_at}
@@ -8,9 +8,9 @@ use Rattle.salt_stands.specs.Reading.{Reading}
 use Rattle.salt_stands.specs.Stands as opening
 use Rattle.salt_stands.specs.Stands.{Found, Opening, Stands, are_spent, found_with, is_same_kind, is_same_shape, judged, logs_of, nothing_found, of_coordinator, of_parts, opening_of, parts_at, with_parts}
 use Rattle.salt_stands.specs.Words.{if_sound}
-use Rattle.salt_values.specs.declared.placement.PlaceKind.TheVariants.{Bands, Remainder}
-use Rattle.salt_values.specs.declared.placement.PlaceKind.{PlaceKind}
-use Rattle.salt_values.specs.declared.placement.Shape.{Shape}
+use Rattle.salt_place.specs.declared.placement.PlaceKind.TheVariants.{Bands, Remainder}
+use Rattle.salt_place.specs.declared.placement.PlaceKind.{PlaceKind}
+use Rattle.salt_place.specs.declared.placement.Shape.{Shape}
 use Rattle.std.proofs.Common.{ap, arith, ◌∙◌, ◌&&◌}
 use Rattle.std.specs.Prelude.{Bool, Err, List, None, Ok, Option, Result, Some, false, refl, true, ℕ, ◌==◌, ◌≡◌}
 

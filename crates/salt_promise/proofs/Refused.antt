@@ -1,7 +1,7 @@
 -- Two more runs that are as promised: the first device of the partition is full; and numbers are spent.
 use Rattle.salt_bytes.specs.Generations.{content_of, pair_of}
 use Rattle.salt_bytes.specs.Log.{entries_in, entries_up_to, framed, split_payload}
-use Rattle.salt_definitions.specs.Fitting.{definitions_reading}
+use Rattle.salt_stands.specs.Fitting.{definitions_reading}
 use Rattle.salt_disk.specs.Disks.{AreUnchanged, IsImage, View}
 use Rattle.salt_model.specs.Kept.{Definition, WellKept, nothing_kept}
 use Rattle.salt_model.specs.Played.{IsPlayed}

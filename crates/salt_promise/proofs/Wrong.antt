@@ -5,7 +5,7 @@ use Rattle.salt_stands.specs.FirstOpening.{first_header, first_part_header}
 use Rattle.salt_stands.specs.Partition.{part_device}
 use Rattle.salt_bytes.specs.Generations.{BothBlank, Counts, LogA, WhichLog}
 use Rattle.salt_bytes.specs.Log.{entries_in, entries_up_to, framed, split_payload}
-use Rattle.salt_definitions.specs.Fitting.{definitions_reading, kept_in}
+use Rattle.salt_stands.specs.Fitting.{definitions_reading, kept_in}
 use Rattle.salt_disk.specs.Disks.{View}
 use Rattle.salt_ast.specs.Trees.{number, operation}
 use Rattle.salt_ast.specs.declared.trees.Op.TheVariants as op

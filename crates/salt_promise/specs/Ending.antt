@@ -14,7 +14,7 @@ use Rattle.salt_promise.specs.declared.status.Status.{Status}
 use Rattle.salt_promise.specs.Standing.{StandFor}
 use Rattle.salt_promise.specs.Ways.{MayBeTold, Telling, Told, Untold}
 use Rattle.salt_stands.specs.Stands.{are_spent}
-use Rattle.salt_values.specs.declared.placement.Shape.{Shape}
+use Rattle.salt_place.specs.declared.placement.Shape.{Shape}
 use Rattle.std.specs.Prelude.{IsTrue, List, None, Option, Some, if◌then◌else◌, true, ℕ, ⊤, ◌+◌, ◌≡◌, ◌≤◌, ◌⊎◌}
 
 -- what is told to be in flight at the end of a trace

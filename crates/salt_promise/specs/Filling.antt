@@ -25,7 +25,7 @@ use Rattle.salt_stands.specs.Stands.{logs_of}
 use Rattle.salt_stands.specs.Words.{has_bit}
 use Rattle.salt_values.specs.declared.change.Change.{Change}
 use Rattle.salt_values.specs.declared.id.Id.{Id}
-use Rattle.salt_values.specs.declared.placement.Shape.{Shape}
+use Rattle.salt_place.specs.declared.placement.Shape.{Shape}
 use Rattle.std.specs.Prelude.{List, None, Option, Some, [], false, length, map, not, ℕ, ◌+◌, ◌<◌, ◌≡◌, ◌⊎◌}
 
 -- the format of the coordinator's entries, and that of a new partition's log

@@ -3,8 +3,8 @@ use Rattle.salt_disk.specs.Disks.{View}
 use Rattle.salt_model.specs.declared.events.Event.{Event}
 use Rattle.salt_model.specs.declared.events.Flight.{Flight}
 use Rattle.salt_promise.specs.declared.status.Status.{Status}
-use Rattle.salt_values.specs.declared.placement.PlaceKind.TheVariants.{Remainder}
-use Rattle.salt_values.specs.declared.placement.Shape.{Shape}
+use Rattle.salt_place.specs.declared.placement.PlaceKind.TheVariants.{Remainder}
+use Rattle.salt_place.specs.declared.placement.Shape.{Shape}
 use Rattle.std.specs.Prelude.{List, Option, ℕ}
 
 -- a source with the bytes that it has left, or a sink with those that it holds, where it tells them; and how often it has failed

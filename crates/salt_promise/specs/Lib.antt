@@ -10,3 +10,5 @@ pub mod Counting
 pub mod Runs
 pub mod Completing
 pub mod Worked
+pub mod Workload
+pub mod WorkloadRows

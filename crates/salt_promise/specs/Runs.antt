@@ -18,7 +18,7 @@ use Rattle.salt_stands.specs.Partition.{part_device}
 use Rattle.salt_stands.specs.Stands as opening
 use Rattle.salt_stands.specs.Stands.{Opening}
 use Rattle.salt_stands.specs.Unspent.{OpensUnspent}
-use Rattle.salt_values.specs.declared.placement.Shape.{Shape}
+use Rattle.salt_place.specs.declared.placement.Shape.{Shape}
 use Rattle.std.specs.Prelude.{Bool, IsTrue, None, Some, [], false, true, ℕ, ⊤, ◌<◌, ◌≡◌, ◌≤◌, ◌⊎◌}
 
 -- 1. THE WORDS SAY NO COMMAND

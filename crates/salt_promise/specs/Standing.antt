@@ -2,7 +2,7 @@
 use Rattle.salt_ast.specs.ProgramTexts.{program_text}
 use Rattle.salt_ast.specs.Texts.{table_text}
 use Rattle.salt_bytes.specs.Generations.{Counts, WhichLog}
-use Rattle.salt_definitions.specs.Fitting.{definitions_reading, kept_in}
+use Rattle.salt_stands.specs.Fitting.{definitions_reading, kept_in}
 use Rattle.salt_model.specs.Kept.{Definition, Kept, OfProgram, OfTable}
 use Rattle.salt_model.specs.Printable.{IsSpelledProgram, IsSpelledTable}
 use Rattle.salt_model.specs.Tables.{Tables}
@@ -13,7 +13,7 @@ use Rattle.salt_stands.specs.Partition.{pages_device, part_at, part_pair}
 use Rattle.salt_stands.specs.PartitionLog.{PartitionLog}
 use Rattle.salt_stands.specs.Stands as opening
 use Rattle.salt_stands.specs.Stands.{Found, Opening, Stands, judged, logs_of, opening_of}
-use Rattle.salt_values.specs.declared.placement.Shape.{Shape}
+use Rattle.salt_place.specs.declared.placement.Shape.{Shape}
 use Rattle.std.specs.Prelude.{List, Ok, Option, Some, false, ℕ, ◌<◌, ◌↔◌, ◌≡◌, ◌⊎◌}
 
 -- the canonical text of a definition, which some text spells within the limits

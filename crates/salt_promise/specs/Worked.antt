@@ -8,8 +8,8 @@ use Rattle.salt_model.specs.declared.events.Refusal.TheVariants.{Byte}
 use Rattle.salt_promise.specs.Given.{DoScript, Run, World}
 use Rattle.salt_promise.specs.declared.status.Status.TheVariants.{Done}
 use Rattle.salt_stands.specs.FirstOpening.{first_part_header}
-use Rattle.salt_values.specs.declared.placement.PlaceKind.TheVariants.{Remainder}
-use Rattle.salt_values.specs.declared.placement.Shape.{Shape}
+use Rattle.salt_place.specs.declared.placement.PlaceKind.TheVariants.{Remainder}
+use Rattle.salt_place.specs.declared.placement.Shape.{Shape}
 use Rattle.std.specs.Prelude.{List, None, Some, [], codes, suc, true, zero, ℕ, ◌++◌, ◌∷◌, ◌≡◌}
 
 abbrev pub one_part : Shape

@@ -3,7 +3,7 @@
 ghost use Rattle.std.specs.Prelude.{◌≡◌};
 ghost use Rattle.salt_promise.specs.Status.{number_of};
 
-use salt_values::{PlaceKind, Shape};
+use salt_place::{PlaceKind, Shape};
 use std::fmt;
 
 /// How a run ends, and with which number as the program's exit status.

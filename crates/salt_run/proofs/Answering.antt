@@ -1,12 +1,12 @@
 -- Whatever devices hold, they open or are refused.
 use Rattle.salt_bytes.specs.Generations.{BothBlank, Counts, Faulty, Pair, WhichLog}
-use Rattle.salt_canonical.specs.Texts.{definition_in}
+use Rattle.law_definitions.specs.Texts.{definition_in}
 use Rattle.salt_commit.proofs.Beginning.{blank_unnamed}
 use Rattle.salt_commit.proofs.Formats.{counted_format}
 use Rattle.salt_commit.proofs.Opening.{of_log, same_shape_is}
 use Rattle.salt_commit.specs.Openings.{LeavesPages, NamesPages}
 use Rattle.salt_commit.specs.Stores.{reading}
-use Rattle.salt_definitions.specs.Fitting.{kept_in}
+use Rattle.salt_stands.specs.Fitting.{kept_in}
 use Rattle.salt_devices.proofs.Answered.{IsNothing, IsOpened, counted_log, opened_as, opened_stands}
 use Rattle.salt_devices.proofs.Sound.{well}
 use Rattle.salt_devices.specs.Leaving.{StandsFor}
@@ -25,7 +25,7 @@ use Rattle.salt_stands.specs.Words.{each_from, if_sound, or_fault}
 use Rattle.salt_storage.specs.Answers.{IsRefusal}
 use Rattle.salt_storage.specs.declared.open.OpenErr.TheVariants.{Halted, NotSalt, NumbersSpent, OtherShape}
 use Rattle.salt_storage.specs.declared.open.OpenErr.{OpenErr}
-use Rattle.salt_values.specs.declared.placement.Shape.{Shape}
+use Rattle.salt_place.specs.declared.placement.Shape.{Shape}
 use Rattle.std.proofs.Common.{ap, arith, eq-or-lt_of_le, inl, inr, subst, sym, ◌∙◌}
 use Rattle.std.specs.Prelude.{Bool, Err, List, Ok, Option, Result, Some, false, option_map, refl, suc, true, zero, ℕ, ◌+◌, ◌<◌, ◌∷◌, ◌≡◌, ◌⊎◌}
 

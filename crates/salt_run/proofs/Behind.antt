@@ -1,12 +1,12 @@
 -- What is kept behind a trace, as a point of it has it.
 use Rattle.salt_engine.specs.Stored.{IsLeft, kept_behind, raised}
-use Rattle.salt_keeps.proofs.KeptAfter.{kept-says}
-use Rattle.salt_keeps.specs.Keeps.{KeepsUnits}
-use Rattle.salt_keeps.specs.OpenUnits.{UnitState}
-use Rattle.salt_keeps.specs.Points.{KeepsPoint, Point}
-use Rattle.salt_laws.proofs.Coming.{Good}
-use Rattle.salt_laws.proofs.Every.{IfSome}
-use Rattle.salt_laws.proofs.Replays.{Ground, replays}
+use Rattle.law_states.proofs.KeptAfter.{kept-says}
+use Rattle.law_states.specs.Keeps.{KeepsUnits}
+use Rattle.law_states.specs.OpenUnits.{UnitState}
+use Rattle.law_states.specs.Points.{KeepsPoint, Point}
+use Rattle.law_story.proofs.Coming.{Good}
+use Rattle.law_story.proofs.Every.{IfSome}
+use Rattle.law_story.proofs.Replays.{Ground, replays}
 use Rattle.salt_model.specs.After.{kept}
 use Rattle.salt_model.specs.Ends.{kept_with}
 use Rattle.salt_model.specs.Kept.{Kept}

@@ -15,7 +15,7 @@ use Rattle.salt_engine.specs.Flights.{flight_of}
 use Rattle.salt_engine.specs.Standing.{Left, Lies, serving_books}
 use Rattle.salt_engine.specs.Stored.{IsAlone}
 use Rattle.salt_engine.specs.declared.flights.InFlight.{InFlight}
-use Rattle.salt_keeps.specs.Points.{Point}
+use Rattle.law_states.specs.Points.{Point}
 use Rattle.salt_model.specs.Kept.{Kept, WellKept, nothing_kept}
 use Rattle.salt_model.specs.Played.{IsPlayed}
 use Rattle.salt_model.specs.Trace.{Start, Trace, start_of}
@@ -34,18 +34,18 @@ use Rattle.salt_run.specs.Doing.{Streams}
 use Rattle.salt_run.specs.Ending.{EndsBehind, flight_at}
 use Rattle.salt_run.specs.Running.{FindsNothing, Replays, Runs, RunsOver}
 use Rattle.salt_run.specs.Summing.{IsSummary}
-use Rattle.salt_serving.proofs.Counts.{run-added, run-opened, run-unwritten}
-use Rattle.salt_serving.proofs.Leaving.{answers-opening, full-reason}
-use Rattle.salt_serving.specs.Counted.{AreFaultsOf, AreStopsOf, CountsAdded, CountsRun}
-use Rattle.salt_serving.specs.Ending.{EndsFound, IsStatusOf, MayEndAt}
-use Rattle.salt_serving.specs.Loading.{IsPlayedLoad}
-use Rattle.salt_serving.specs.Run.{IsRun}
-use Rattle.salt_serving.specs.Serving.{IsToBegin}
-use Rattle.salt_serving.specs.Stopping.{numbers_told, status_opening}
-use Rattle.salt_steps.proofs.AtFirst.{down-at-first}
+use Rattle.salt_loop.proofs.Counts.{run-added, run-opened, run-unwritten}
+use Rattle.salt_loop.proofs.Leaving.{answers-opening, full-reason}
+use Rattle.salt_loop.specs.Counted.{AreFaultsOf, AreStopsOf, CountsAdded, CountsRun}
+use Rattle.salt_loop.specs.Ending.{EndsFound, IsStatusOf, MayEndAt}
+use Rattle.salt_loop.specs.Loading.{IsPlayedLoad}
+use Rattle.salt_loop.specs.Run.{IsRun}
+use Rattle.salt_loop.specs.Serving.{IsToBegin}
+use Rattle.salt_loop.specs.Stopping.{numbers_told, status_opening}
+use Rattle.salt_driver.proofs.AtFirst.{down-at-first}
 use Rattle.salt_stands.specs.Stands.{are_spent}
-use Rattle.salt_steps.specs.Counting.{CountsOpening}
-use Rattle.salt_steps.specs.Opening.{FailsToFind, IsOpenedFirst, IsUnfound}
+use Rattle.salt_driver.specs.Counting.{CountsOpening}
+use Rattle.salt_driver.specs.Opening.{FailsToFind, IsOpenedFirst, IsUnfound}
 use Rattle.salt_storage.specs.Answers.{IsRefusal, open_disk_err_of}
 use Rattle.salt_storage.specs.Storing.{IsSoundKept}
 use Rattle.salt_storage.specs.Writing.{OfOpening}
@@ -53,8 +53,8 @@ use Rattle.salt_storage.specs.declared.found.Numbers.{Numbers}
 use Rattle.salt_storage.specs.declared.halt.Halt.TheVariants as halt
 use Rattle.salt_storage.specs.declared.open.OpenErr.{OpenErr}
 use Rattle.salt_storage.specs.declared.open.OpenErr.TheVariants as open_err
-use Rattle.salt_summary.specs.Summary.{summary_text}
-use Rattle.salt_values.specs.declared.placement.Shape.{Shape}
+use Rattle.salt_workload.specs.Summary.{summary_text}
+use Rattle.salt_place.specs.declared.placement.Shape.{Shape}
 use Rattle.salt_words.specs.declared.command.Command.{Command}
 use Rattle.salt_words.specs.declared.command.Command.TheVariants.{Load, Run}
 use Rattle.std.proofs.Common.{ap, inl, inr, subst, sym, ◌∙◌}

@@ -9,13 +9,13 @@ use Rattle.salt_devices.specs.Filling as filling
 use Rattle.salt_devices.specs.Filling.{Fills}
 use Rattle.salt_disk.specs.Disks.{View}
 use Rattle.salt_disk.specs.declared.disks.DiskErr.TheVariants.{Full}
-use Rattle.salt_keeps.proofs.KeptAfter.{kept-says, open-listed}
-use Rattle.salt_keeps.specs.OpenUnits.{UnitState, unit_named}
-use Rattle.salt_keeps.specs.Points.{KeepsPoint, Point}
-use Rattle.salt_laws.proofs.Coming.{Good}
-use Rattle.salt_laws.proofs.Due.{nothing-fallen}
-use Rattle.salt_laws.proofs.Every.{IfSome}
-use Rattle.salt_laws.proofs.Replays.{Ground, replays}
+use Rattle.law_states.proofs.KeptAfter.{kept-says, open-listed}
+use Rattle.law_states.specs.OpenUnits.{UnitState, unit_named}
+use Rattle.law_states.specs.Points.{KeepsPoint, Point}
+use Rattle.law_story.proofs.Coming.{Good}
+use Rattle.law_story.proofs.Due.{nothing-fallen}
+use Rattle.law_story.proofs.Every.{IfSome}
+use Rattle.law_story.proofs.Replays.{Ground, replays}
 use Rattle.salt_model.specs.Kept.{Kept}
 use Rattle.salt_model.specs.Next.{next}
 use Rattle.salt_model.specs.Phases.{Fallen, Phase, phase}
@@ -29,18 +29,18 @@ use Rattle.salt_model.specs.declared.events.Event.{Event}
 use Rattle.salt_promise.specs.Filling.{DecisionFills, FirstFills, NewPairFills, NextFills, changes_of, coordinator_format, next_boot, next_decision, next_definition, partition_format}
 use Rattle.salt_promise.specs.Filling as promise
 use Rattle.salt_run.specs.Ending.{IsFullBehind}
-use Rattle.salt_serving.specs.Ending.{MayBeWritten}
+use Rattle.salt_loop.specs.Ending.{MayBeWritten}
 use Rattle.salt_stands.specs.CoordinatorLog.{CoordinatorLog}
 use Rattle.salt_stands.specs.FirstOpening.{IsCreated, first_header, first_part_header}
 use Rattle.salt_stands.specs.OpenConts.{make_move}
 use Rattle.salt_stands.specs.Partition.{part_device}
 use Rattle.salt_stands.specs.Placed.{changes_at}
 use Rattle.salt_stands.specs.Words.{has_bit}
-use Rattle.salt_steps.specs.Writing.{IsUnitWritten, IsWrittenBy, change_of, changes_decided}
+use Rattle.salt_driver.specs.Writing.{IsUnitWritten, IsWrittenBy, change_of, changes_decided}
 use Rattle.salt_storage.specs.Writing.{OfUnit, Written}
 use Rattle.salt_values.specs.declared.change.Change.{Change}
 use Rattle.salt_values.specs.declared.id.Id.{Id}
-use Rattle.salt_values.specs.declared.placement.Shape.{Shape}
+use Rattle.salt_place.specs.declared.placement.Shape.{Shape}
 use Rattle.std.proofs.Common.{ap, inl, inr, subst, sym, ◌∙◌}
 use Rattle.std.specs.Prelude.{List, None, Option, Some, [], false, length, map, not, refl, true, ℕ, ◌+◌, ◌<◌, ◌∷◌, ◌≡◌, ◌⊎◌}
 

@@ -1,7 +1,7 @@
 -- How a run goes: its devices are refused, or it runs over what they stand for.
 use Rattle.salt_bytes.specs.Log.{entries_in}
-use Rattle.salt_canonical.specs.Texts.{definition_in}
-use Rattle.salt_definitions.specs.Fitting.{kept_in}
+use Rattle.law_definitions.specs.Texts.{definition_in}
+use Rattle.salt_stands.specs.Fitting.{kept_in}
 use Rattle.salt_devices.specs.Refusing.{RefusedAs, Refuses}
 use Rattle.salt_disk.specs.Disks.{SameShape}
 use Rattle.salt_model.specs.Kept.{Definition, Kept, WellKept, nothing_kept}
@@ -23,7 +23,7 @@ use Rattle.salt_run.proofs.Unopened.{IsEndOver, ended-spent, halted, unopened}
 use Rattle.salt_run.specs.Commands.{shape_of}
 use Rattle.salt_run.specs.Doing.{Does}
 use Rattle.salt_run.specs.Running.{FindsNothing, Runs}
-use Rattle.salt_serving.specs.Ending.{IsStatusOf}
+use Rattle.salt_loop.specs.Ending.{IsStatusOf}
 use Rattle.salt_stands.proofs.Pairs.{pair_same}
 use Rattle.salt_stands.specs.CoordinatorLog.{coordinator_generation, coordinator_in}
 use Rattle.salt_stands.specs.Stands as opening
@@ -33,8 +33,8 @@ use Rattle.salt_storage.specs.declared.halt.Halt.TheVariants as halt
 use Rattle.salt_storage.specs.declared.halt.Halt.{Halt}
 use Rattle.salt_storage.specs.declared.open.OpenErr.TheVariants.{Halted, NotSalt, NumbersSpent, OtherShape}
 use Rattle.salt_storage.specs.declared.open.OpenErr.{OpenErr}
-use Rattle.salt_values.specs.Placement.{IsParts}
-use Rattle.salt_values.specs.declared.placement.Shape.{Shape}
+use Rattle.salt_place.specs.Placement.{IsParts}
+use Rattle.salt_place.specs.declared.placement.Shape.{Shape}
 use Rattle.salt_words.specs.declared.command.Command.{Command}
 use Rattle.std.proofs.Common.{ap, inl, inr, subst, sym, ◌∙◌}
 use Rattle.std.specs.Prelude.{Bool, IsTrue, [], false, refl, true, ℕ, ◌≡◌, ◌≤◌, ◌⊎◌}

@@ -2,17 +2,17 @@
 use Rattle.salt_devices.proofs.Stores.{held_image}
 use Rattle.salt_devices.specs.Holding.{HoldsIn}
 use Rattle.salt_devices.specs.Leaving.{MayCome, StandsFor}
-use Rattle.salt_devices.specs.Settling.{AreSettled}
+use Rattle.salt_disk.specs.Settling.{AreSettled}
 use Rattle.salt_devices.specs.Standing.{RestsAs, StandsHeld, StandsLeft}
 use Rattle.salt_devices.specs.declared.pending.Pending.{Pending}
 use Rattle.salt_commit.specs.declared.store.Store.{Store}
 use Rattle.salt_disk.specs.Disks.{IsImage, View}
 use Rattle.salt_engine.specs.Standing.{Left}
 use Rattle.salt_engine.specs.Stored.{IsLeft}
-use Rattle.salt_keeps.specs.Points.{Point}
+use Rattle.law_states.specs.Points.{Point}
 use Rattle.salt_model.specs.Kept.{Kept}
 use Rattle.salt_storage.specs.declared.found.Numbers.{Numbers}
-use Rattle.salt_values.specs.declared.placement.Shape.{Shape}
+use Rattle.salt_place.specs.declared.placement.Shape.{Shape}
 use Rattle.std.proofs.Common.{inl, inr}
 use Rattle.std.specs.Prelude.{Bool, IsTrue, List, None, Option, Some, false, refl, true, ℕ, ◌≡◌}
 

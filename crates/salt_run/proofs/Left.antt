@@ -1,5 +1,5 @@
 -- What a run leaves of its devices is as promised.
-use Rattle.salt_canonical.specs.Texts.{definition_in}
+use Rattle.law_definitions.specs.Texts.{definition_in}
 use Rattle.salt_model.specs.Played.{IsPlayed}
 use Rattle.salt_model.specs.Trace.{Trace}
 use Rattle.salt_promise.specs.Ending.{Ends}
@@ -8,7 +8,7 @@ use Rattle.salt_promise.specs.Standing.{IsReader}
 use Rattle.salt_run.proofs.Full.{full-behind}
 use Rattle.salt_run.proofs.Standing.{stand-for}
 use Rattle.salt_run.specs.Ending.{EndsBehind}
-use Rattle.salt_values.specs.declared.placement.Shape.{Shape}
+use Rattle.salt_place.specs.declared.placement.Shape.{Shape}
 
 pub ends-as : IsReader definition_in → (r : Run) (shape : Shape) (trace : Trace) → IsPlayed trace → EndsBehind r.after.devices shape r.status r.flight trace → Ends r shape trace
 ends-as reads r shape trace played x = record {

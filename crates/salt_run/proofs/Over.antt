@@ -9,7 +9,7 @@ use Rattle.salt_engine.specs.Flights.{flight_of}
 use Rattle.salt_engine.specs.Standing.{Left, Lies}
 use Rattle.salt_engine.specs.Stored.{IsAlone}
 use Rattle.salt_engine.specs.declared.flights.InFlight.{InFlight}
-use Rattle.salt_keeps.specs.Points.{Point}
+use Rattle.law_states.specs.Points.{Point}
 use Rattle.salt_model.specs.Played.{IsPlayed}
 use Rattle.salt_model.specs.Trace.{Trace}
 use Rattle.salt_promise.specs.Ending.{AreSpentBehind, IsInDoubt}
@@ -18,10 +18,10 @@ use Rattle.salt_promise.specs.declared.status.Status.TheVariants.{DeviceFull, Nu
 use Rattle.salt_run.proofs.Behind.{is-behind}
 use Rattle.salt_run.proofs.Images.{StandsAt, stands-alone, stands-left}
 use Rattle.salt_run.specs.Ending.{EndsBehind, IsFullBehind, StandsBehind, flight_at}
-use Rattle.salt_serving.specs.Ending.{EndsFound, MayEndAt}
-use Rattle.salt_serving.specs.Stopping.{numbers_told}
+use Rattle.salt_loop.specs.Ending.{EndsFound, MayEndAt}
+use Rattle.salt_loop.specs.Stopping.{numbers_told}
 use Rattle.salt_storage.specs.declared.found.Numbers.{Numbers}
-use Rattle.salt_values.specs.declared.placement.Shape.{Shape}
+use Rattle.salt_place.specs.declared.placement.Shape.{Shape}
 use Rattle.std.proofs.Common.{subst, sym, ◌∙◌}
 use Rattle.std.specs.Prelude.{Bool, IsSome, IsTrue, List, None, Option, Some, ℕ, ⊤, ◌≡◌}
 

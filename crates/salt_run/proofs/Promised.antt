@@ -1,5 +1,5 @@
 -- A run over what its devices stood for is as promised.
-use Rattle.salt_canonical.specs.Texts.{definition_in}
+use Rattle.law_definitions.specs.Texts.{definition_in}
 use Rattle.salt_io.specs.Streams.{IsAtEnd}
 use Rattle.salt_model.specs.Trace.{Trace, lines_of, story_of}
 use Rattle.salt_promise.specs.Doing.{DoesLoad, DoesScript, story_before_line, text_under}
@@ -19,8 +19,8 @@ use Rattle.salt_run.specs.Commands.{shape_of}
 use Rattle.salt_run.specs.Doing.{Does, Streams, streams}
 use Rattle.salt_run.specs.Running.{RunsOver}
 use Rattle.salt_run.specs.Summing.{IsSummary}
-use Rattle.salt_values.specs.Placement.{IsParts}
-use Rattle.salt_values.specs.declared.placement.Shape.{Shape}
+use Rattle.salt_place.specs.Placement.{IsParts}
+use Rattle.salt_place.specs.declared.placement.Shape.{Shape}
 use Rattle.salt_words.specs.declared.command.Command.TheVariants as words
 use Rattle.salt_words.specs.declared.command.Command.{Command}
 use Rattle.std.proofs.Common.{subst}

@@ -1,5 +1,5 @@
 -- A run whose devices were refused is as promised.
-use Rattle.salt_canonical.specs.Texts.{definition_in}
+use Rattle.law_definitions.specs.Texts.{definition_in}
 use Rattle.salt_devices.specs.Refusing.{RefusedAs, Refuses}
 use Rattle.salt_model.specs.Kept.{Definition, WellKept, nothing_kept}
 use Rattle.salt_model.specs.Phases.{Fallen, Serving, phase}
@@ -22,16 +22,16 @@ use Rattle.salt_run.specs.Commands.{shape_of}
 use Rattle.salt_run.specs.Doing.{Does}
 use Rattle.salt_run.specs.Ending.{IsFlightTold}
 use Rattle.salt_run.specs.Running.{FindsNothing, Replays}
-use Rattle.salt_serving.specs.Ending.{IsStatusOf}
-use Rattle.salt_serving.specs.Stopping.{status_opening}
+use Rattle.salt_loop.specs.Ending.{IsStatusOf}
+use Rattle.salt_loop.specs.Stopping.{status_opening}
 use Rattle.salt_stands.specs.Stands as opening
 use Rattle.salt_stands.specs.Stands.{Opening}
 use Rattle.salt_storage.specs.Answers.{IsRefusal}
 use Rattle.salt_storage.specs.declared.halt.Halt.TheVariants as halt
 use Rattle.salt_storage.specs.declared.open.OpenErr.TheVariants as open_err
 use Rattle.salt_storage.specs.declared.open.OpenErr.{OpenErr}
-use Rattle.salt_values.specs.Placement.{IsParts}
-use Rattle.salt_values.specs.declared.placement.Shape.{Shape}
+use Rattle.salt_place.specs.Placement.{IsParts}
+use Rattle.salt_place.specs.declared.placement.Shape.{Shape}
 use Rattle.salt_words.specs.declared.command.Command.{Command}
 use Rattle.std.proofs.Common.{ap, inl, inr, subst, sym, ◌∙◌}
 use Rattle.std.specs.Prelude.{IsTrue, List, None, Option, [], refl, true, ℕ, ◌≡◌, ◌≤◌}

@@ -11,9 +11,9 @@ use Rattle.salt_run.specs.Doing.{Streams}
 use Rattle.salt_run.specs.Ending.{IsFlightTold, flight_at}
 use Rattle.salt_run.specs.Running.{Replays}
 use Rattle.salt_run.specs.Summing.{IsSummary}
-use Rattle.salt_serving.specs.Loading.{IsPlayedLoad}
-use Rattle.salt_serving.specs.Run.{IsFlightAt, IsRun}
-use Rattle.salt_summary.specs.Summary.{summary_text}
+use Rattle.salt_loop.specs.Loading.{IsPlayedLoad}
+use Rattle.salt_loop.specs.Run.{IsFlightAt, IsRun}
+use Rattle.salt_workload.specs.Summary.{summary_text}
 use Rattle.salt_words.specs.declared.command.Command.TheVariants.{Load, Run}
 use Rattle.std.proofs.Common.{subst, sym}
 use Rattle.std.specs.Prelude.{List, Option, length, refl, ℕ, ◌≡◌}

@@ -1,5 +1,5 @@
 -- A run is as promised: what it is given, what it leaves, and what is counted of it.
-use Rattle.salt_canonical.specs.Texts.{definition_in}
+use Rattle.law_definitions.specs.Texts.{definition_in}
 use Rattle.salt_disk.specs.Disks.{Rose}
 use Rattle.salt_io.specs.Streams.{IsAtEnd}
 use Rattle.salt_model.specs.Trace.{Trace}
@@ -19,9 +19,9 @@ use Rattle.salt_run.proofs.Tallied.{downs-of, stops-of}
 use Rattle.salt_run.specs.Commands.{asked_by, shape_of}
 use Rattle.salt_run.specs.Doing.{Does}
 use Rattle.salt_run.specs.Running.{Runs}
-use Rattle.salt_serving.specs.Counted.{AreFaultsOf, AreStopsOf}
+use Rattle.salt_loop.specs.Counted.{AreFaultsOf, AreStopsOf}
 use Rattle.salt_storage.specs.Staying.{StaysWithin, devices_of}
-use Rattle.salt_values.specs.declared.placement.Shape.{Shape}
+use Rattle.salt_place.specs.declared.placement.Shape.{Shape}
 use Rattle.salt_words.specs.declared.command.Command.TheVariants as words
 use Rattle.salt_words.specs.declared.command.Command.{Command}
 use Rattle.std.proofs.Common.{subst, sym}

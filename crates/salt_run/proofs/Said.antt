@@ -1,7 +1,7 @@
 -- The numbers of a command are within their limits.
-use Rattle.salt_load.specs.declared.limits.TheConstants.{CALLS_MOST}
+use Rattle.salt_values.specs.declared.limits.TheConstants.{CALLS_MOST}
 use Rattle.salt_run.specs.Commands.{parts_of}
-use Rattle.salt_values.specs.Placement.{IsParts}
+use Rattle.salt_place.specs.Placement.{IsParts}
 use Rattle.salt_values.specs.declared.limits.TheConstants.{PARTITIONS_MOST}
 use Rattle.salt_words.specs.Words.{Given, Settings, all_given, command_of, command_said, count_said, folder_said, is_count, load_said, parts_said, run_said, settings_given, settings_of, settings_said, values_of}
 use Rattle.salt_words.specs.declared.command.Command.TheVariants.{Load, Run}

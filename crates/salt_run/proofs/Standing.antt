@@ -1,5 +1,5 @@
 -- What devices stand for, and how they open, by the reader that there is.
-use Rattle.salt_canonical.specs.Texts.{definition_in}
+use Rattle.law_definitions.specs.Texts.{definition_in}
 use Rattle.salt_commit.specs.Openings.{LeavesPages}
 use Rattle.salt_devices.proofs.Answered.{AreAlike, same_finds}
 use Rattle.salt_devices.specs.Leaving.{MayCome, StandsFor}
@@ -14,8 +14,8 @@ use Rattle.salt_stands.specs.Stands as opening
 use Rattle.salt_stands.specs.Stands.{Opening, are_spent}
 use Rattle.salt_storage.specs.declared.open.OpenErr.TheVariants as open_err
 use Rattle.salt_storage.specs.declared.open.OpenErr.{OpenErr}
-use Rattle.salt_values.specs.Placement.{IsParts}
-use Rattle.salt_values.specs.declared.placement.Shape.{Shape}
+use Rattle.salt_place.specs.Placement.{IsParts}
+use Rattle.salt_place.specs.declared.placement.Shape.{Shape}
 use Rattle.std.proofs.Common.{arith, inl, inr, sym, ◌∙◌}
 use Rattle.std.specs.Prelude.{IsTrue, List, [], false, refl, true, ℕ, ◌*◌, ◌+◌, ◌<◌, ◌∷◌, ◌≡◌, ◌≤◌}
 

@@ -1,7 +1,7 @@
 -- A run stays within the shape that it was asked for.
 use Rattle.salt_disk.specs.Disks.{View}
 use Rattle.salt_storage.specs.Staying.{StaysWithin, devices_of}
-use Rattle.salt_values.specs.declared.placement.Shape.{Shape}
+use Rattle.salt_place.specs.declared.placement.Shape.{Shape}
 use Rattle.std.proofs.Common.{subst, sym}
 use Rattle.std.specs.Prelude.{refl, ◌≡◌, ◌≤◌}
 

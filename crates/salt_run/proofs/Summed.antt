@@ -6,8 +6,8 @@ use Rattle.salt_model.specs.declared.events.Answer.{Answer}
 use Rattle.salt_model.specs.declared.events.End.TheVariants.{Committed, Victim}
 use Rattle.salt_model.specs.declared.events.Event.TheVariants.{Accepted, Began, Did, Ended, Released, Waits}
 use Rattle.salt_model.specs.declared.events.Event.{Event}
-use Rattle.salt_summary.specs.Summary as printed
-use Rattle.salt_summary.specs.Summary.{answers_in, counted, total_of, total_text, value_in}
+use Rattle.salt_workload.specs.Summary as printed
+use Rattle.salt_workload.specs.Summary.{answers_in, counted, total_of, total_text, value_in}
 use Rattle.salt_values.specs.declared.value.Value.{Value}
 use Rattle.std.proofs.Common.{ap, append_assoc, arith, length-append, ◌∙◌}
 use Rattle.std.specs.Fmt.{decimal}

@@ -6,7 +6,7 @@ use Rattle.salt_model.specs.declared.events.Why.TheVariants as why
 use Rattle.salt_promise.specs.Counting.{AreArmed, Downs, RiseBehind, RiseTo, Stops}
 use Rattle.salt_promise.specs.declared.status.Status.{Status}
 use Rattle.salt_promise.specs.declared.status.Status.TheVariants.{DiskFault, Memory}
-use Rattle.salt_serving.specs.Counted.{AreFaults, AreFaultsOf, AreMet, AreStopsOf}
+use Rattle.salt_loop.specs.Counted.{AreFaults, AreFaultsOf, AreMet, AreStopsOf}
 use Rattle.std.proofs.Common.{arith}
 use Rattle.std.specs.Prelude.{List, [], ℕ, ◌∷◌, ◌≡◌, ◌≤◌}
 

@@ -1,5 +1,5 @@
 -- A run that ends in its first opening, over devices that open or do not tell: it is as promised.
-use Rattle.salt_canonical.specs.Texts.{definition_in}
+use Rattle.law_definitions.specs.Texts.{definition_in}
 use Rattle.salt_devices.specs.Leaving.{StandsFor}
 use Rattle.salt_disk.specs.Disks.{IsImage}
 use Rattle.salt_model.specs.After.{kept}
@@ -28,14 +28,14 @@ use Rattle.salt_run.proofs.Unwritten.{not-nil}
 use Rattle.salt_run.specs.Commands.{shape_of}
 use Rattle.salt_run.specs.Doing.{Does}
 use Rattle.salt_run.specs.Running.{FindsNothing, Replays}
-use Rattle.salt_serving.specs.Ending.{IsStatusOf}
+use Rattle.salt_loop.specs.Ending.{IsStatusOf}
 use Rattle.salt_stands.specs.Stands.{are_spent}
-use Rattle.salt_steps.specs.Opening.{fallen_often}
+use Rattle.salt_driver.specs.Opening.{fallen_often}
 use Rattle.salt_storage.specs.declared.halt.Halt.TheVariants as halt
 use Rattle.salt_storage.specs.declared.halt.Halt.{Halt}
 use Rattle.salt_storage.specs.declared.open.OpenErr.TheVariants as open_err
 use Rattle.salt_storage.specs.declared.open.OpenErr.TheVariants.{Halted}
-use Rattle.salt_values.specs.declared.placement.Shape.{Shape}
+use Rattle.salt_place.specs.declared.placement.Shape.{Shape}
 use Rattle.salt_words.specs.declared.command.Command.{Command}
 use Rattle.std.proofs.Common.{ap, arith, inl, inr, subst, sym, ◌∙◌}
 use Rattle.std.specs.Prelude.{IsTrue, List, [], refl, suc, true, zero, ℕ, ◌+◌, ◌++◌, ◌∷◌, ◌≡◌}

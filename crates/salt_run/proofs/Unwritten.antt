@@ -9,9 +9,9 @@ use Rattle.salt_model.specs.declared.events.Flight.{Flight}
 use Rattle.salt_promise.specs.Doing.{IsFrontOf}
 use Rattle.salt_promise.specs.declared.status.Status.{Status}
 use Rattle.salt_promise.specs.declared.status.Status.TheVariants.{DeviceFull, DiskFault, Done, Memory, NotSalt, NumbersSpent, OtherShape, ReadFault, ScriptTooLong, Usage, WriteFault}
-use Rattle.salt_serving.proofs.Leaving.{at-devices, complete-flight}
-use Rattle.salt_serving.specs.Loading.{AreLoadLines, IsPlayedLoad, asked_by_load}
-use Rattle.salt_serving.specs.Run.{IsFlightAt, leave_of}
+use Rattle.salt_loop.proofs.Leaving.{at-devices, complete-flight}
+use Rattle.salt_loop.specs.Loading.{AreLoadLines, IsPlayedLoad, asked_by_load}
+use Rattle.salt_loop.specs.Run.{IsFlightAt, leave_of}
 use Rattle.std.proofs.Common.{ap, append-nil, inl, inr, sym, ◌∙◌}
 use Rattle.std.specs.Prelude.{List, None, Option, [], refl, ℕ, ◌++◌, ◌∷◌, ◌≡◌}
 

@@ -1,13 +1,13 @@
 -- The lines that are done of a command are those that the table of statuses tells.
 use Rattle.salt_io.specs.Streams.{IsAtEnd}
-use Rattle.salt_load.specs.Workload.{load_lines}
+use Rattle.salt_promise.specs.Workload.{load_lines}
 use Rattle.salt_model.specs.Trace.{Asked, Tree}
 use Rattle.salt_promise.specs.Doing as promise
 use Rattle.salt_promise.specs.Ways.{way_of}
 use Rattle.salt_promise.specs.declared.status.Status.TheVariants.{Done, Usage}
 use Rattle.salt_promise.specs.declared.status.Status.{Status}
-use Rattle.salt_serving.specs.Loading.{AreLoadLines}
-use Rattle.salt_serving.specs.Run.{AreLinesOf}
+use Rattle.salt_loop.specs.Loading.{AreLoadLines}
+use Rattle.salt_loop.specs.Run.{AreLinesOf}
 use Rattle.std.specs.Prelude.{List, None, Option, Some, map, refl, ℕ, ◌≡◌}
 
 -- a script that is done is read to its end

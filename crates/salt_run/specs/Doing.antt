@@ -5,8 +5,8 @@ use Rattle.salt_model.specs.Trace.{Trace, lines_of}
 use Rattle.salt_promise.specs.Given.{World}
 use Rattle.salt_promise.specs.declared.status.Status.{Status}
 use Rattle.salt_run.specs.Summing.{IsSummed}
-use Rattle.salt_serving.specs.Loading.{AreLoadLines}
-use Rattle.salt_serving.specs.Run.{AreLinesOf, IsTold}
+use Rattle.salt_loop.specs.Loading.{AreLoadLines}
+use Rattle.salt_loop.specs.Run.{AreLinesOf, IsTold}
 use Rattle.salt_words.specs.declared.command.Command.TheVariants.{Load, Run}
 use Rattle.salt_words.specs.declared.command.Command.{Command}
 use Rattle.std.specs.Prelude.{List, Option, ℕ}

@@ -2,7 +2,7 @@
 use Rattle.salt_devices.specs.Filling.{Fills}
 use Rattle.salt_devices.specs.Leaving.{StandsFor}
 use Rattle.salt_disk.specs.Disks.{IsImage, View}
-use Rattle.salt_keeps.specs.Points.{KeepsPoint, Point}
+use Rattle.law_states.specs.Points.{KeepsPoint, Point}
 use Rattle.salt_model.specs.Kept.{Kept}
 use Rattle.salt_model.specs.Trace.{Trace}
 use Rattle.salt_model.specs.declared.events.Flight.{Flight}
@@ -10,9 +10,9 @@ use Rattle.salt_promise.specs.Ending.{AreSpentBehind, Flies, HasNumbers, IsInDou
 use Rattle.salt_promise.specs.Ways.{way_of}
 use Rattle.salt_promise.specs.declared.status.Status.{Status}
 use Rattle.salt_promise.specs.declared.status.Status.TheVariants.{DeviceFull, NumbersSpent}
-use Rattle.salt_serving.specs.Ending.{MayBeWritten}
+use Rattle.salt_loop.specs.Ending.{MayBeWritten}
 use Rattle.salt_storage.specs.Writing.{Written}
-use Rattle.salt_values.specs.declared.placement.Shape.{Shape}
+use Rattle.salt_place.specs.declared.placement.Shape.{Shape}
 use Rattle.std.specs.Prelude.{IsTrue, List, None, Option, ℕ, ◌≡◌}
 
 -- an image of the devices stands for what is left, with the numbers that the status tells

@@ -17,11 +17,11 @@ use Rattle.salt_promise.specs.declared.status.Status.TheVariants.{DeviceFull}
 use Rattle.salt_run.specs.Commands.{shape_of}
 use Rattle.salt_run.specs.Doing.{Does, Streams}
 use Rattle.salt_run.specs.Ending.{EndsBehind, IsFlightTold}
-use Rattle.salt_serving.specs.Ending.{IsStatusOf}
-use Rattle.salt_serving.specs.Run.{leave_of}
+use Rattle.salt_loop.specs.Ending.{IsStatusOf}
+use Rattle.salt_loop.specs.Run.{leave_of}
 use Rattle.salt_stands.specs.Stands.{are_spent}
 use Rattle.salt_stands.specs.Unspent.{OpensUnspent}
-use Rattle.salt_steps.specs.Opening.{IsUnfound}
+use Rattle.salt_driver.specs.Opening.{IsUnfound}
 use Rattle.salt_storage.specs.Answers.{IsLater, IsRefusal}
 use Rattle.salt_storage.specs.Storing.{IsSoundKept}
 use Rattle.salt_storage.specs.Writing.{OfOpening}

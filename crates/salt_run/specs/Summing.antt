@@ -3,7 +3,7 @@ use Rattle.salt_model.specs.Trace.{Trace, lines_of, story_of}
 use Rattle.salt_promise.specs.Doing as promise
 use Rattle.salt_promise.specs.Ways.{way_of}
 use Rattle.salt_promise.specs.declared.status.Status.{Status}
-use Rattle.salt_summary.specs.Summary.{summary_text}
+use Rattle.salt_workload.specs.Summary.{summary_text}
 use Rattle.std.specs.Prelude.{List, Option, length, ℕ}
 
 -- the summary of a trace: of its story and its lines, also the one in which it ends

@@ -1,21 +1,22 @@
 //! The top call.
 
-ghost use Rattle.salt_devices.specs.Settling.{AreSettled};
+ghost use Rattle.salt_disk.specs.Settling.{AreSettled};
 ghost use Rattle.salt_promise.specs.Runs.{Runs};
 ghost use Rattle.salt_run.specs.Commands.{asked_by};
 ghost use Rattle.salt_run.specs.Doing.{world};
-ghost use Rattle.salt_values.specs.Placement.{GivesPlaceOf, TakesEachKey};
+ghost use Rattle.salt_place.specs.Placement.{GivesPlaceOf, TakesEachKey};
 ghost use Rattle.salt_words.specs.Words.{command_of};
 ghost use Rattle.std.specs.Prelude.{option_map, ◌≡◌, ◌≤◌};
 
 use crate::ended::Ended;
 use crate::promises::played_keeps_promises;
 use crate::runs::{run_load, run_script};
-use salt_canonical::definitions_are_read;
+use law_definitions::definitions_are_read;
 use salt_disk::Disks;
 use salt_io::{Sink, Source};
-use salt_serving::Status;
-use salt_values::{Key, PlaceKind, Placement};
+use salt_loop::Status;
+use salt_values::Key;
+use salt_place::{PlaceKind, Placement};
 use salt_words::{Command, command_in};
 use sqlite_items::Items;
 use std::alloc::Global;

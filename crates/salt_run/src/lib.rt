@@ -8,5 +8,5 @@ mod runs;
 
 pub use command::run;
 pub use ended::Ended;
-pub use salt_serving::Status;
+pub use salt_loop::Status;
 pub use salt_words::folder_of;

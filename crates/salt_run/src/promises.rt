@@ -5,7 +5,7 @@ ghost use Rattle.salt_model.specs.Played.{IsPlayed};
 ghost use Rattle.salt_model.specs.Trace.{Trace, start_of};
 ghost use Rattle.salt_promise.specs.Promises.{Promises};
 
-use salt_laws::{
+use law_story::{
     held_locks_stand_together, played_is_continued, played_is_declared, played_is_honest,
     played_is_kept, played_is_salted, played_is_whole, played_releases_exactly,
 };

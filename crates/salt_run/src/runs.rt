@@ -1,9 +1,9 @@
 //! The runs that commands ask for, each over a database of its own.
 
-ghost use Rattle.salt_devices.specs.Settling.{AreSettled};
+ghost use Rattle.salt_disk.specs.Settling.{AreSettled};
 ghost use Rattle.salt_disk.specs.Disks.{Rose};
 ghost use Rattle.salt_io.specs.Streams.{IsAtEnd};
-ghost use Rattle.salt_load.specs.declared.limits.TheConstants.{CALLS_MOST};
+ghost use Rattle.salt_values.specs.declared.limits.TheConstants.{CALLS_MOST};
 ghost use Rattle.salt_model.specs.Kept.{WellKept};
 ghost use Rattle.salt_model.specs.Played.{IsPlayed};
 ghost use Rattle.salt_model.specs.Trace.{Trace, start_of};
@@ -13,11 +13,11 @@ ghost use Rattle.salt_run.specs.Ending.{flight_at};
 ghost use Rattle.salt_promise.specs.Promises.{Promises};
 ghost use Rattle.salt_run.specs.Running.{Runs};
 ghost use Rattle.salt_run.specs.Summing.{IsSummary};
-ghost use Rattle.salt_serving.specs.Counted.{AreFaultsOf, AreStopsOf};
-ghost use Rattle.salt_serving.specs.Stopping.{outcome};
+ghost use Rattle.salt_loop.specs.Counted.{AreFaultsOf, AreStopsOf};
+ghost use Rattle.salt_loop.specs.Stopping.{outcome};
 ghost use Rattle.salt_storage.specs.Staying.{StaysWithin};
-ghost use Rattle.salt_summary.specs.Summary.{summary_text};
-ghost use Rattle.salt_values.specs.Placement.{GivesPlaceOf, IsParts, TakesEachKey};
+ghost use Rattle.salt_workload.specs.Summary.{summary_text};
+ghost use Rattle.salt_place.specs.Placement.{GivesPlaceOf, IsParts, TakesEachKey};
 ghost use Rattle.salt_words.specs.declared.command.Command.TheVariants.{Load, Run};
 ghost use Rattle.std.specs.Prelude.{List, Option, ℕ, ◌≡◌, ◌≢◌, ◌≤◌, ◌⊎◌};
 
@@ -27,10 +27,11 @@ use salt_devices::Devices;
 use salt_disk::Disks;
 use salt_io::{Sink, Source};
 use salt_model::{Flight, Story};
-use salt_serving::{Loaded, Status, Stop, load, serve, status_of, stop_opening, tell_unfound};
-use salt_steps::{Openable, find};
-use salt_summary::print_summary;
-use salt_values::{Key, PlaceKind, Placement, Shape};
+use salt_loop::{Loaded, Status, Stop, load, serve, status_of, stop_opening, tell_unfound};
+use salt_driver::{Openable, find};
+use salt_workload::print_summary;
+use salt_values::Key;
+use salt_place::{PlaceKind, Placement, Shape};
 use sqlite_items::Items;
 use std::alloc::Global;
 

@@ -14,15 +14,15 @@ use Rattle.salt_books.specs.declared.coming.Coming.TheVariants as coming
 use Rattle.salt_books.specs.declared.asking.Asking.{Asking}
 use Rattle.salt_scheduler.specs.declared.scheduler.Scheduler.{Scheduler}
 use Rattle.salt_scheduler.specs.declared.follow.Follow.TheVariants.{Done, Nothing}
-use Rattle.salt_keeps.specs.KeptLocks.{clash_in}
-use Rattle.salt_keeps.specs.Members.{In}
-use Rattle.salt_keeps.specs.OpenUnits.{OpenUnit, UnitState, asks_next, unit_named}
-use Rattle.salt_keeps.specs.Readings.{clash_by, locks_in}
-use Rattle.salt_keeps.specs.States.{State}
-use Rattle.salt_keeps.specs.Steps.{doing_one, outcome_under, units_after, waiting_by}
-use Rattle.salt_keeps.specs.Told.{Clashes, asks_in, does_in, serve_in, turn_of_in}
-use Rattle.salt_keeps.specs.UnitFacts.{UnitFacts, asker_in, facts_in, reach_under}
-use Rattle.salt_keeps.specs.WatchSteps.{base_by}
+use Rattle.law_states.specs.KeptLocks.{clash_in}
+use Rattle.law_states.specs.Members.{In}
+use Rattle.law_states.specs.OpenUnits.{OpenUnit, UnitState, asks_next, unit_named}
+use Rattle.law_states.specs.Readings.{clash_by, locks_in}
+use Rattle.law_states.specs.States.{State}
+use Rattle.law_states.specs.Steps.{doing_one, outcome_under, units_after, waiting_by}
+use Rattle.law_states.specs.Told.{Clashes, asks_in, does_in, serve_in, turn_of_in}
+use Rattle.law_states.specs.UnitFacts.{UnitFacts, asker_in, facts_in, reach_under}
+use Rattle.law_states.specs.WatchSteps.{base_by}
 use Rattle.salt_model.specs.Honest.{cause_in}
 use Rattle.salt_model.specs.Locks.{family_of, owners_of}
 use Rattle.salt_model.specs.declared.events.Answer.{Answer}
@@ -30,8 +30,8 @@ use Rattle.salt_model.specs.declared.events.Event.TheVariants.{Did, Waits}
 use Rattle.salt_model.specs.declared.events.Event.{Event}
 use Rattle.salt_model.specs.declared.events.Owner.{Owner}
 use Rattle.salt_values.specs.declared.id.Id.{Id}
-use Rattle.salt_watch.specs.Waiters.{waiter_of}
-use Rattle.salt_watch.specs.Watched.{GoesBy, IsWatch}
+use Rattle.salt_conflicts.specs.Waiters.{waiter_of}
+use Rattle.salt_conflicts.specs.Watched.{GoesBy, IsWatch}
 use Rattle.std.proofs.Common.{ap, subst, sym, ◌∙◌}
 use Rattle.std.specs.Prelude.{List, Option, Some, [], option_and_then, option_map, refl, ◌∷◌, ◌≡◌}
 

@@ -5,8 +5,8 @@ use Rattle.salt_ast.specs.declared.lines.Line.TheVariants.{Program, Table}
 use Rattle.salt_ast.specs.declared.lines.Line.{Line}
 use Rattle.salt_ast.specs.declared.programs.ProgramDef.{ProgramDef}
 use Rattle.salt_ast.specs.declared.trees.TableDef.{TableDef}
-use Rattle.salt_keeps.specs.OpenUnits.{UnitState}
-use Rattle.salt_keeps.specs.Refused.{UnderWay, busy_in, known_in, refused_in, wrong_in}
+use Rattle.law_states.specs.OpenUnits.{UnitState}
+use Rattle.law_states.specs.Refused.{UnderWay, busy_in, known_in, refused_in, wrong_in}
 use Rattle.salt_model.specs.Refusals.{defines, refusal_by}
 use Rattle.salt_program.specs.Refusals.{program_refusal}
 use Rattle.salt_schema.specs.Refusals.{table_refusal}

@@ -6,23 +6,23 @@ use Rattle.salt_books.specs.declared.coming.Coming.TheVariants as coming
 use Rattle.salt_scheduler.specs.Standing.{Brings, Gives, Stands, StandsWith, accepting, bases_called, watched_by}
 use Rattle.salt_scheduler.specs.declared.scheduler.Scheduler.{Scheduler}
 use Rattle.salt_scheduler.specs.declared.follow.Follow.TheVariants.{Accept, Finish, Nothing, Release}
-use Rattle.salt_keeps.specs.Members.{In}
-use Rattle.salt_keeps.specs.Readings.{Reading}
-use Rattle.salt_keeps.specs.States.{State}
-use Rattle.salt_keeps.specs.Told.{finishes_in}
-use Rattle.salt_keeps.specs.UnitFacts.{facts_in}
-use Rattle.salt_keeps.specs.WatchSteps.{WatchBy}
-use Rattle.salt_keeps.specs.Watches.{Watch}
+use Rattle.law_states.specs.Members.{In}
+use Rattle.law_states.specs.Readings.{Reading}
+use Rattle.law_states.specs.States.{State}
+use Rattle.law_states.specs.Told.{finishes_in}
+use Rattle.law_states.specs.UnitFacts.{facts_in}
+use Rattle.law_states.specs.WatchSteps.{WatchBy}
+use Rattle.law_states.specs.Watches.{Watch}
 use Rattle.salt_model.specs.Kept.{cont_of}
 use Rattle.salt_model.specs.Turns.{releases}
-use Rattle.salt_model.specs.Words.{in_order, insert_id}
+use Rattle.salt_values.specs.Id.{in_order, insert_id}
 use Rattle.salt_model.specs.declared.events.Event.TheVariants.{Accepted, Finished, Released}
 use Rattle.salt_model.specs.declared.events.Event.{Event}
 use Rattle.salt_values.specs.declared.cont.Cont.{Cont}
 use Rattle.salt_values.specs.Id.{is_older, is_same_id}
 use Rattle.salt_values.specs.declared.id.Id.{Id}
-use Rattle.salt_watch.proofs.Others.{marks}
-use Rattle.salt_watch.specs.Watched.{GoesBy, IsFinishing, IsWatch}
+use Rattle.salt_conflicts.proofs.Others.{marks}
+use Rattle.salt_conflicts.specs.Watched.{GoesBy, IsFinishing, IsWatch}
 use Rattle.std.proofs.Common.{ap, inl, inr, subst, sym, ◌∙◌}
 use Rattle.std.specs.Bool.{then_some}
 use Rattle.std.specs.List.{filter}

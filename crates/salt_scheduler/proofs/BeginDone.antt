@@ -12,13 +12,13 @@ use Rattle.salt_scheduler.specs.Standing.{Gives, Stands, accepting, bases_called
 use Rattle.salt_scheduler.specs.declared.scheduler.Scheduler.{Scheduler}
 use Rattle.salt_scheduler.specs.declared.follow.Follow.TheVariants.{Nothing, Turn}
 use Rattle.salt_scheduler.specs.declared.follow.Follow.{Follow}
-use Rattle.salt_keeps.specs.Members.{In}
-use Rattle.salt_keeps.specs.Readings.{first_parts}
-use Rattle.salt_keeps.specs.States.{State, named_by}
-use Rattle.salt_keeps.specs.Steps.{begun, units_after}
-use Rattle.salt_keeps.specs.Told.{begins_in, next_unit}
-use Rattle.salt_keeps.specs.UnitFacts.{facts_in}
-use Rattle.salt_laws.proofs.Ids.{is_same_id-refl}
+use Rattle.law_states.specs.Members.{In}
+use Rattle.law_states.specs.Readings.{first_parts}
+use Rattle.law_states.specs.States.{State, named_by}
+use Rattle.law_states.specs.Steps.{begun, units_after}
+use Rattle.law_states.specs.Told.{begins_in, next_unit}
+use Rattle.law_states.specs.UnitFacts.{facts_in}
+use Rattle.law_story.proofs.Ids.{is_same_id-refl}
 use Rattle.salt_model.specs.Units.{program_begun}
 use Rattle.salt_model.specs.declared.events.Event.TheVariants.{Began}
 use Rattle.salt_model.specs.declared.events.Event.{Event}
@@ -26,8 +26,8 @@ use Rattle.salt_model.specs.declared.events.UnitKind.TheVariants.{Acid, Call, Fi
 use Rattle.salt_model.specs.declared.events.UnitKind.{UnitKind}
 use Rattle.salt_values.specs.Id.{is_same_id}
 use Rattle.salt_values.specs.declared.id.Id.{Id}
-use Rattle.salt_watch.proofs.Others.{others}
-use Rattle.salt_watch.specs.Watched.{IsWatch}
+use Rattle.salt_conflicts.proofs.Others.{others}
+use Rattle.salt_conflicts.specs.Watched.{IsWatch}
 use Rattle.std.proofs.Common.{ap, inl, inr, subst, sym, ◌∙◌}
 use Rattle.std.specs.Prelude.{Bool, List, Option, Some, [], false, if◌then◌else◌, refl, true, ℕ, ◌≡◌, ◌⊎◌}
 

@@ -1,7 +1,7 @@
 -- The programs in their first part, as units begin, change and end.
-use Rattle.salt_keeps.specs.OpenUnits.{OpenUnit, change_unit, unit_named, without_unit}
-use Rattle.salt_keeps.specs.Readings.{first_parts}
-use Rattle.salt_keeps.specs.Members.{In}
+use Rattle.law_states.specs.OpenUnits.{OpenUnit, change_unit, unit_named, without_unit}
+use Rattle.law_states.specs.Readings.{first_parts}
+use Rattle.law_states.specs.Members.{In}
 use Rattle.salt_model.specs.Units.{program_begun}
 use Rattle.salt_values.specs.Id.{is_same_id}
 use Rattle.salt_values.specs.declared.id.Id.{Id}

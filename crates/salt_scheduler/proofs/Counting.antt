@@ -1,13 +1,13 @@
 -- How many names two lists have together.
-use Rattle.salt_keeps.proofs.Ascending.{Older, every-in, older-strict, order-ascends}
-use Rattle.salt_keeps.specs.KeptWaits.{AreDistinct}
-use Rattle.salt_keeps.specs.Members.{Ascends, In}
-use Rattle.salt_keeps.specs.States.{State}
+use Rattle.law_states.proofs.Ascending.{Older, every-in, older-strict, order-ascends}
+use Rattle.law_states.specs.KeptWaits.{AreDistinct}
+use Rattle.law_states.specs.Members.{Ascends, In}
+use Rattle.law_states.specs.States.{State}
 use Rattle.salt_model.specs.Programs.{accepted_in, released_in, unreleased}
 use Rattle.salt_books.specs.Sound.{IsSoundState}
-use Rattle.salt_laws.proofs.Ids.{is_same_id-refl, is_same_id-true}
-use Rattle.salt_laws.proofs.Lists.{has-in, in-cases, in-has, in-order, in-right, into-order}
-use Rattle.salt_model.specs.Words.{has_id, in_order, insert_id, without}
+use Rattle.law_story.proofs.Ids.{is_same_id-refl, is_same_id-true}
+use Rattle.law_story.proofs.Lists.{has-in, in-cases, in-has, in-order, in-right, into-order}
+use Rattle.salt_values.specs.Id.{has_id, in_order, insert_id, without}
 use Rattle.salt_values.specs.Id.{is_older, is_same_id}
 use Rattle.salt_values.specs.declared.id.Id.{Id}
 use Rattle.std.proofs.Common.{ap, arith, inl, inr, subst, sym, ◌∙◌}

@@ -9,18 +9,18 @@ use Rattle.salt_books.specs.declared.coming.Coming.{Coming}
 use Rattle.salt_scheduler.specs.declared.scheduler.Scheduler.{Scheduler}
 use Rattle.salt_scheduler.specs.declared.follow.Follow.TheVariants.{Nothing}
 use Rattle.salt_scheduler.specs.declared.follow.Follow.{Follow}
-use Rattle.salt_keeps.specs.Members.{In}
-use Rattle.salt_keeps.specs.OpenUnits.{UnitState}
-use Rattle.salt_keeps.specs.Readings.{first_parts}
-use Rattle.salt_keeps.specs.States.{State, named_by}
-use Rattle.salt_keeps.specs.Steps.{units_after}
-use Rattle.salt_keeps.specs.UnitFacts.{facts_in}
-use Rattle.salt_keeps.specs.WatchSteps.{WatchBy}
-use Rattle.salt_keeps.specs.Watches.{Watch}
+use Rattle.law_states.specs.Members.{In}
+use Rattle.law_states.specs.OpenUnits.{UnitState}
+use Rattle.law_states.specs.Readings.{first_parts}
+use Rattle.law_states.specs.States.{State, named_by}
+use Rattle.law_states.specs.Steps.{units_after}
+use Rattle.law_states.specs.UnitFacts.{facts_in}
+use Rattle.law_states.specs.WatchSteps.{WatchBy}
+use Rattle.law_states.specs.Watches.{Watch}
 use Rattle.salt_model.specs.declared.events.Event.{Event}
 use Rattle.salt_model.specs.declared.events.Event.TheVariants.{Began, Defined, Did, Down, Ended, Opened, Ready, Waits}
 use Rattle.salt_values.specs.declared.id.Id.{Id}
-use Rattle.salt_watch.specs.declared.watching.Watching.{Watching}
+use Rattle.salt_conflicts.specs.declared.watching.Watching.{Watching}
 use Rattle.salt_model.specs.Next.{decision_in}
 use Rattle.std.proofs.Common.{ap, inl, inr, subst, sym, ◌∙◌}
 use Rattle.std.specs.Prelude.{List, None, Option, Some, [], refl, true, ◌++◌, ◌∷◌, ◌≡◌, ◌⊎◌}

@@ -17,16 +17,16 @@ use Rattle.salt_scheduler.specs.Standing.{Brings, Gives, Stands, accepting, base
 use Rattle.salt_books.specs.declared.coming.Coming.TheVariants as coming
 use Rattle.salt_scheduler.specs.declared.scheduler.Scheduler.{Scheduler}
 use Rattle.salt_scheduler.specs.declared.follow.Follow.TheVariants.{Finish, Nothing}
-use Rattle.salt_keeps.specs.DependencyCalls.{IsCommitted}
-use Rattle.salt_keeps.specs.Members.{In}
-use Rattle.salt_keeps.specs.OpenUnits.{OpenUnit, UnitState, unit_named}
-use Rattle.salt_keeps.specs.Overlays.{Edit, edits_of}
-use Rattle.salt_keeps.specs.States.{State}
-use Rattle.salt_keeps.specs.Steps.{units_after}
-use Rattle.salt_keeps.specs.Told.{commits_in, fails_in, is_at_end_in, next_decision}
-use Rattle.salt_keeps.specs.UnitFacts.{UnitFacts, facts_in, facts_of}
-use Rattle.salt_keeps.specs.WatchSteps.{base_by, first_by}
-use Rattle.salt_keeps.specs.Watches.{Watch}
+use Rattle.law_states.specs.DependencyCalls.{IsCommitted}
+use Rattle.law_states.specs.Members.{In}
+use Rattle.law_states.specs.OpenUnits.{OpenUnit, UnitState, unit_named}
+use Rattle.law_states.specs.Overlays.{Edit, edits_of}
+use Rattle.law_states.specs.States.{State}
+use Rattle.law_states.specs.Steps.{units_after}
+use Rattle.law_states.specs.Told.{commits_in, fails_in, is_at_end_in, next_decision}
+use Rattle.law_states.specs.UnitFacts.{UnitFacts, facts_in, facts_of}
+use Rattle.law_states.specs.WatchSteps.{base_by, first_by}
+use Rattle.law_states.specs.Watches.{Watch}
 use Rattle.salt_model.specs.Kept.{block_of_kind}
 use Rattle.salt_model.specs.Units.{program_begun, program_of_kind}
 use Rattle.salt_model.specs.declared.events.Cause.{Cause}
@@ -38,8 +38,8 @@ use Rattle.salt_model.specs.declared.events.UnitKind.TheVariants.{Acid, Call, Fi
 use Rattle.salt_model.specs.declared.events.UnitKind.{UnitKind}
 use Rattle.salt_values.specs.declared.change.Change.{Change}
 use Rattle.salt_values.specs.declared.id.Id.{Id}
-use Rattle.salt_watch.specs.Watched.{GoesBy, IsWatch, place_of}
-use Rattle.salt_watch.specs.declared.watching.Watching.{Watching}
+use Rattle.salt_conflicts.specs.Watched.{GoesBy, IsWatch, place_of}
+use Rattle.salt_conflicts.specs.declared.watching.Watching.{Watching}
 use Rattle.std.proofs.Common.{Bor, ap, inl, inr, subst, sym, ◌∙◌}
 use Rattle.std.specs.Prelude.{List, None, Option, Some, [], false, is_some, map, option_map, refl, true, ℕ, ◌∷◌, ◌≡◌}
 

@@ -1,7 +1,7 @@
 -- What an event takes of its unit.
 use Rattle.salt_ast.specs.declared.trees.Statement.{Statement}
-use Rattle.salt_keeps.specs.OpenUnits.{OpenUnit, UnitState, unit_named}
-use Rattle.salt_keeps.specs.UnitFacts.{asker_in, facts_in, facts_of, reach_under}
+use Rattle.law_states.specs.OpenUnits.{OpenUnit, UnitState, unit_named}
+use Rattle.law_states.specs.UnitFacts.{asker_in, facts_in, facts_of, reach_under}
 use Rattle.salt_model.specs.declared.events.Answer.{Answer}
 use Rattle.salt_model.specs.declared.events.End.{End}
 use Rattle.salt_model.specs.declared.events.Event.TheVariants.{Did, Ended, Waits}

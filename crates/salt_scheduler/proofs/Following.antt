@@ -2,12 +2,12 @@
 use Rattle.salt_scheduler.specs.Follows.{FollowsOn, event_of}
 use Rattle.salt_scheduler.specs.Serving.{is_served}
 use Rattle.salt_scheduler.specs.declared.follow.Follow.{Follow}
-use Rattle.salt_keeps.specs.Follows.{settles_in}
-use Rattle.salt_keeps.specs.Laws.{is_of_run}
-use Rattle.salt_keeps.specs.Nexts.{said_next}
-use Rattle.salt_keeps.specs.Readings.{Reading, beside_by}
-use Rattle.salt_keeps.specs.States.{State}
-use Rattle.salt_keeps.specs.Follows.{said_in, unit_of}
+use Rattle.law_states.specs.Follows.{settles_in}
+use Rattle.law_states.specs.Laws.{is_of_run}
+use Rattle.law_states.specs.Nexts.{said_next}
+use Rattle.law_states.specs.Readings.{Reading, beside_by}
+use Rattle.law_states.specs.States.{State}
+use Rattle.law_states.specs.Follows.{said_in, unit_of}
 use Rattle.salt_model.specs.Phases.{Serving}
 use Rattle.salt_model.specs.declared.events.Event.{Event}
 use Rattle.salt_model.specs.declared.events.Event.TheVariants.{Down, Opened, Ready}

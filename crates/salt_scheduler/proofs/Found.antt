@@ -1,7 +1,7 @@
 -- A unit that is found in a list whose names rise is the one of its name.
-use Rattle.salt_keeps.proofs.Rising.{named-at}
-use Rattle.salt_keeps.specs.OpenUnits.{OpenUnit, names_in, unit_named}
-use Rattle.salt_keeps.specs.Rising.{Rising}
+use Rattle.law_states.proofs.Rising.{named-at}
+use Rattle.law_states.specs.OpenUnits.{OpenUnit, names_in, unit_named}
+use Rattle.law_states.specs.Rising.{Rising}
 use Rattle.std.proofs.Common.{ap, arith, subst}
 use Rattle.std.specs.List.{find}
 use Rattle.std.specs.Prelude.{Bool, List, None, Some, [], cond, false, get_or, length, suc, true, zero, ℕ, ◌<◌, ◌∷◌, ◌≡◌}

@@ -8,9 +8,9 @@ use Rattle.salt_ast.specs.declared.lines.Act.TheVariants.{Begin, Call}
 use Rattle.salt_ast.specs.declared.lines.Line.{Line}
 use Rattle.salt_ast.specs.declared.lines.Line.TheVariants.{Session}
 use Rattle.salt_ast.specs.declared.trees.Statement.{Statement}
-use Rattle.salt_keeps.specs.Follows.{follow_in}
-use Rattle.salt_keeps.specs.OpenUnits.{OpenUnit, UnitState, unit_named}
-use Rattle.salt_keeps.specs.Told.{Clashes, after_began_in, after_end_in, turn_in, turn_of_in}
+use Rattle.law_states.specs.Follows.{follow_in}
+use Rattle.law_states.specs.OpenUnits.{OpenUnit, UnitState, unit_named}
+use Rattle.law_states.specs.Told.{Clashes, after_began_in, after_end_in, turn_in, turn_of_in}
 use Rattle.salt_model.specs.Honest.{cause_in}
 use Rattle.salt_model.specs.declared.events.Answer.{Answer}
 use Rattle.salt_model.specs.declared.events.Answer.TheVariants.{Failed}

@@ -1,19 +1,20 @@
-pub mod Following
-mod InTurn
-mod Found
-mod Facts
-mod Beginning
-pub mod Allowing
-pub mod Done
-pub mod SoundFacts
-mod BeginDone
 pub mod ActDone
-pub mod EndsDone
+pub mod Allowing
 mod BasesDone
-mod SettleDone
-mod UnderWay
-mod ShownDone
-mod Refusing
-mod Starting
-mod LinesDone
+mod BeginDone
+mod Beginning
 pub mod Counting
+pub mod Done
+pub mod EndsDone
+mod Facts
+pub mod Following
+mod Found
+mod InTurn
+mod LinesDone
+mod Refusing
+mod SettleDone
+mod ShownDone
+pub mod SoundFacts
+mod Starting
+pub mod Told
+mod UnderWay

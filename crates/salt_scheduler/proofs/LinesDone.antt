@@ -18,15 +18,15 @@ use Rattle.salt_books.specs.Sound.{IsSoundState}
 use Rattle.salt_scheduler.specs.Standing.{Gives, IsAllowed, Stands}
 use Rattle.salt_scheduler.specs.declared.scheduler.Scheduler.{Scheduler}
 use Rattle.salt_scheduler.specs.declared.follow.Follow.TheVariants.{Nothing}
-use Rattle.salt_keeps.proofs.Rising.{names-rise}
-use Rattle.salt_keeps.specs.Members.{In}
-use Rattle.salt_keeps.specs.OpenUnits.{OpenUnit, UnitState, unit_named}
-use Rattle.salt_keeps.specs.Readings.{first_parts, under_way_of}
-use Rattle.salt_keeps.specs.Refused.{known_in}
-use Rattle.salt_keeps.specs.States.{State, named_by}
-use Rattle.salt_keeps.specs.Steps.{units_after}
-use Rattle.salt_keeps.specs.Told.{Clashes, act_in, begins_in, calls_in, goes_on_in, kind_called_in, turn_of_in}
-use Rattle.salt_keeps.specs.UnitFacts.{facts_in}
+use Rattle.law_states.proofs.Rising.{names-rise}
+use Rattle.law_states.specs.Members.{In}
+use Rattle.law_states.specs.OpenUnits.{OpenUnit, UnitState, unit_named}
+use Rattle.law_states.specs.Readings.{first_parts, under_way_of}
+use Rattle.law_states.specs.Refused.{known_in}
+use Rattle.law_states.specs.States.{State, named_by}
+use Rattle.law_states.specs.Steps.{units_after}
+use Rattle.law_states.specs.Told.{Clashes, act_in, begins_in, calls_in, goes_on_in, kind_called_in, turn_of_in}
+use Rattle.law_states.specs.UnitFacts.{facts_in}
 use Rattle.salt_model.specs.Kept.{Kept, cont_of, kept_program}
 use Rattle.salt_model.specs.declared.events.End.TheVariants.{RolledBack}
 use Rattle.salt_model.specs.declared.events.Event.{Event}
@@ -35,13 +35,13 @@ use Rattle.salt_model.specs.declared.events.UnitKind.{UnitKind}
 use Rattle.salt_model.specs.declared.events.UnitKind.TheVariants.{Acid, Later}
 use Rattle.salt_program.specs.Refusals.{program_refusal}
 use Rattle.salt_schema.specs.Refusals.{table_refusal}
-use Rattle.salt_known.specs.Known.{IsKnown}
-use Rattle.salt_known.specs.declared.known.Known.{Known}
+use Rattle.salt_books.specs.Known.{IsKnown}
+use Rattle.salt_books.specs.declared.known.Known.{Known}
 use Rattle.salt_values.specs.declared.cont.Cont.{Cont}
 use Rattle.salt_values.specs.declared.id.Id.{Id}
 use Rattle.salt_values.specs.declared.value.Value.{Value}
-use Rattle.salt_watch.proofs.Others.{others}
-use Rattle.salt_watch.specs.Watched.{IsOfNoWatch, IsWatch}
+use Rattle.salt_conflicts.proofs.Others.{others}
+use Rattle.salt_conflicts.specs.Watched.{IsOfNoWatch, IsWatch}
 use Rattle.std.proofs.Common.{ap, subst, sym, ◌∙◌}
 use Rattle.std.specs.List.{find}
 use Rattle.std.specs.Prelude.{Bool, List, None, Option, Some, option_map, refl, true, ℕ, ◌≡◌}

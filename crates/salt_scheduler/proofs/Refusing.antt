@@ -4,15 +4,15 @@ use Rattle.salt_ast.specs.declared.lines.Line.{Line}
 use Rattle.salt_ast.specs.declared.programs.ProgramDef.{ProgramDef}
 use Rattle.salt_ast.specs.declared.trees.TableDef.{TableDef}
 use Rattle.salt_scheduler.specs.Refused.{refusal_by_state}
-use Rattle.salt_judge.specs.Refusals.{known_by, line_refusal, told}
-use Rattle.salt_keeps.specs.Nexts.{refusal_of}
-use Rattle.salt_keeps.specs.Readings.{under_way_of}
-use Rattle.salt_keeps.specs.Refused.{known_in}
-use Rattle.salt_keeps.specs.States.{State}
+use Rattle.salt_scheduler.specs.Refusals.{known_by, line_refusal, told}
+use Rattle.law_states.specs.Nexts.{refusal_of}
+use Rattle.law_states.specs.Readings.{under_way_of}
+use Rattle.law_states.specs.Refused.{known_in}
+use Rattle.law_states.specs.States.{State}
 use Rattle.salt_model.specs.Trace.{Tree}
 use Rattle.salt_model.specs.declared.events.Refusal.{Refusal}
-use Rattle.salt_known.specs.Known.{IsKnown}
-use Rattle.salt_known.specs.declared.known.Known.{Known}
+use Rattle.salt_books.specs.Known.{IsKnown}
+use Rattle.salt_books.specs.declared.known.Known.{Known}
 use Rattle.salt_values.specs.declared.cont.Cont.{Cont}
 use Rattle.std.proofs.Common.{◌∙◌}
 use Rattle.std.specs.Option.{option_or}

@@ -7,11 +7,11 @@ use Rattle.salt_books.specs.declared.coming.Coming.TheVariants as coming
 use Rattle.salt_books.specs.declared.coming.Coming.{Coming}
 use Rattle.salt_scheduler.specs.declared.scheduler.Scheduler.{Scheduler}
 use Rattle.salt_scheduler.specs.declared.follow.Follow.{Follow}
-use Rattle.salt_keeps.specs.Follows.{settles_in}
-use Rattle.salt_keeps.specs.OpenUnits.{OpenUnit, UnitState, unit_named}
-use Rattle.salt_keeps.specs.Readings.{Reading, beside_by}
-use Rattle.salt_keeps.specs.States.{State}
-use Rattle.salt_keeps.specs.Told.{Beside, serve_in, settle_in}
+use Rattle.law_states.specs.Follows.{settles_in}
+use Rattle.law_states.specs.OpenUnits.{OpenUnit, UnitState, unit_named}
+use Rattle.law_states.specs.Readings.{Reading, beside_by}
+use Rattle.law_states.specs.States.{State}
+use Rattle.law_states.specs.Told.{Beside, serve_in, settle_in}
 use Rattle.salt_model.specs.declared.events.End.TheVariants.{Victim}
 use Rattle.salt_model.specs.declared.events.Event.TheVariants.{Ended}
 use Rattle.salt_model.specs.declared.events.Event.{Event}

@@ -5,18 +5,18 @@ use Rattle.salt_scheduler.specs.Standing.{Gives, Stands, bases_called}
 use Rattle.salt_scheduler.specs.declared.scheduler.Scheduler.{Scheduler}
 use Rattle.salt_scheduler.specs.declared.follow.Follow.{Follow}
 use Rattle.salt_scheduler.specs.declared.follow.Follow.TheVariants.{Nothing}
-use Rattle.salt_keeps.specs.Members.{In}
-use Rattle.salt_keeps.specs.Readings.{base_at_by, base_item_by, first_parts, under_way_by}
-use Rattle.salt_keeps.specs.States.{State}
-use Rattle.salt_keeps.specs.UnitFacts.{facts_in}
-use Rattle.salt_laws.proofs.Lists.{in-cases, in-order}
+use Rattle.law_states.specs.Members.{In}
+use Rattle.law_states.specs.Readings.{base_at_by, base_item_by, first_parts, under_way_by}
+use Rattle.law_states.specs.States.{State}
+use Rattle.law_states.specs.UnitFacts.{facts_in}
+use Rattle.law_story.proofs.Lists.{in-cases, in-order}
 use Rattle.salt_model.specs.Words.{Every}
 use Rattle.salt_model.specs.declared.events.Event.TheVariants.{Shown}
 use Rattle.salt_model.specs.declared.shown.BaseAt.{BaseAt}
 use Rattle.salt_model.specs.declared.shown.Item.{Item}
 use Rattle.salt_values.specs.declared.id.Id.{Id}
-use Rattle.salt_watch.proofs.Others.{others}
-use Rattle.salt_watch.specs.Watched.{IsWatch}
+use Rattle.salt_conflicts.proofs.Others.{others}
+use Rattle.salt_conflicts.specs.Watched.{IsWatch}
 use Rattle.std.proofs.Common.{ap, arith, get_or, inl, inr, refl, ◌∙◌}
 use Rattle.std.specs.Prelude.{List, None, Some, [], length, suc, zero, ℕ, ◌++◌, ◌<◌, ◌∷◌, ◌≡◌, ◌⊎◌}
 

@@ -1,9 +1,9 @@
 -- What a sound state gives.
 use Rattle.salt_books.specs.Sound.{IsSoundState}
-use Rattle.salt_keeps.specs.KeptWaits.{AreDistinct, Asker}
-use Rattle.salt_keeps.specs.Readings.{Reading}
-use Rattle.salt_keeps.specs.States.{State}
-use Rattle.salt_watch.proofs.Readable.{distinct, readable}
+use Rattle.law_states.specs.KeptWaits.{AreDistinct, Asker}
+use Rattle.law_states.specs.Readings.{Reading}
+use Rattle.law_states.specs.States.{State}
+use Rattle.salt_conflicts.proofs.Readable.{distinct, readable}
 use Rattle.std.specs.Prelude.{false, map, true, ◌≡◌}
 
 pub reads : (s : State) → IsSoundState s → Reading s.watch

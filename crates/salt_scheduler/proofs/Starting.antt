@@ -1,16 +1,16 @@
 -- A scheduler over books without a unit, which watches nothing.
 use Rattle.salt_books.specs.Books.{AreBooks}
-use Rattle.salt_keeps.specs.Members.{In}
-use Rattle.salt_keeps.specs.OpenUnits.{OpenUnit}
-use Rattle.salt_keeps.specs.Readings.{first_parts}
-use Rattle.salt_keeps.specs.States.{State}
-use Rattle.salt_keeps.specs.Watches.{Watch, empty_watch}
+use Rattle.law_states.specs.Members.{In}
+use Rattle.law_states.specs.OpenUnits.{OpenUnit}
+use Rattle.law_states.specs.Readings.{first_parts}
+use Rattle.law_states.specs.States.{State}
+use Rattle.law_states.specs.Watches.{Watch, empty_watch}
 use Rattle.salt_scheduler.specs.Standing.{IsTurning, Stands, bases_called}
 use Rattle.salt_scheduler.specs.declared.follow.Follow.TheVariants as follow
 use Rattle.salt_scheduler.specs.declared.follow.Follow.{Follow}
 use Rattle.salt_scheduler.specs.declared.scheduler.Scheduler.{Scheduler}
 use Rattle.salt_values.specs.declared.id.Id.{Id}
-use Rattle.salt_watch.specs.Watched.{IsWatch}
+use Rattle.salt_conflicts.specs.Watched.{IsWatch}
 use Rattle.std.proofs.Common.{subst, sym}
 use Rattle.std.specs.Prelude.{List, [], ◌++◌, ◌≡◌}
 

@@ -2,9 +2,9 @@
 use Rattle.salt_books.specs.Called.{name_told}
 use Rattle.salt_books.specs.declared.called.CalledNames.{CalledNames}
 use Rattle.salt_scheduler.specs.Calling.{Forgets, is_under_way}
-use Rattle.salt_laws.proofs.Ids.{is_same_id-refl, is_same_id-true}
-use Rattle.salt_laws.proofs.Lists.{In, in-cases, in-has, in-left, in-right, or_left_true, or_right_true}
-use Rattle.salt_model.specs.Words.{has_id}
+use Rattle.law_story.proofs.Ids.{is_same_id-refl, is_same_id-true}
+use Rattle.law_story.proofs.Lists.{In, in-cases, in-has, in-left, in-right, or_left_true, or_right_true}
+use Rattle.salt_values.specs.Id.{has_id}
 use Rattle.salt_values.specs.Id.{is_same_id}
 use Rattle.salt_values.specs.declared.id.Id.{Id}
 use Rattle.std.proofs.Common.{ap, inl, inr, subst, sym, ◌∙◌}

@@ -3,17 +3,17 @@ use Rattle.salt_books.specs.Books.{AreBooks}
 use Rattle.salt_books.specs.Called.{name_told}
 use Rattle.salt_books.specs.declared.books.Books.{Books}
 use Rattle.salt_books.specs.declared.called.CalledNames.{CalledNames}
-use Rattle.salt_keeps.specs.Members.{In}
-use Rattle.salt_keeps.specs.OpenUnits.{UnitState}
-use Rattle.salt_keeps.specs.Readings.{first_parts}
-use Rattle.salt_keeps.specs.Watches.{Watch}
-use Rattle.salt_model.specs.Words.{has_id}
+use Rattle.law_states.specs.Members.{In}
+use Rattle.law_states.specs.OpenUnits.{UnitState}
+use Rattle.law_states.specs.Readings.{first_parts}
+use Rattle.law_states.specs.Watches.{Watch}
+use Rattle.salt_values.specs.Id.{has_id}
 use Rattle.salt_model.specs.declared.events.UnitKind.TheVariants.{First}
 use Rattle.salt_model.specs.declared.events.UnitKind.{UnitKind}
 use Rattle.salt_values.specs.Id.{is_same_id}
 use Rattle.salt_values.specs.declared.id.Id.{Id}
-use Rattle.salt_watch.specs.Watched.{IsWatch}
-use Rattle.salt_watch.specs.declared.watching.Watching.{Watching}
+use Rattle.salt_conflicts.specs.Watched.{IsWatch}
+use Rattle.salt_conflicts.specs.declared.watching.Watching.{Watching}
 use Rattle.std.specs.Prelude.{Bool, List, None, Option, Some, [], false, if◌then◌else◌, true, ◌||◌, ◌∷◌, ◌≡◌}
 
 -- a unit of this kind calls a program, if it begins one

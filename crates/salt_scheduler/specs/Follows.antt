@@ -5,9 +5,9 @@ use Rattle.salt_ast.specs.declared.lines.Line.{Line}
 use Rattle.salt_books.specs.Ends.{done_of}
 use Rattle.salt_scheduler.specs.declared.follow.Follow.{Follow}
 use Rattle.salt_scheduler.specs.declared.follow.Follow.TheVariants.{Accept, Done, Finish, Nothing, Release, Turn}
-use Rattle.salt_keeps.specs.Follows.{follow_in, unit_of}
-use Rattle.salt_keeps.specs.OpenUnits.{UnitState, unit_named}
-use Rattle.salt_keeps.specs.Told.{Beside, finishes_in, turn_of_in}
+use Rattle.law_states.specs.Follows.{follow_in, unit_of}
+use Rattle.law_states.specs.OpenUnits.{UnitState, unit_named}
+use Rattle.law_states.specs.Told.{Beside, finishes_in, turn_of_in}
 use Rattle.salt_model.specs.Turns.{releases}
 use Rattle.salt_model.specs.declared.events.Event.{Event}
 use Rattle.salt_model.specs.declared.events.Event.TheVariants.{Accepted}

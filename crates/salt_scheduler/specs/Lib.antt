@@ -1,5 +1,6 @@
-pub mod Follows
-pub mod Serving
 pub mod Calling
-pub mod Standing
+pub mod Follows
+pub mod Refusals
 pub mod Refused
+pub mod Serving
+pub mod Standing

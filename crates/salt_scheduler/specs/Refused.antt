@@ -1,8 +1,8 @@
 -- What is refused of a line.
 use Rattle.salt_ast.specs.declared.lines.Line.{Line}
-use Rattle.salt_keeps.specs.Readings.{under_way_of}
-use Rattle.salt_keeps.specs.Refused.{busy_in, wrong_in}
-use Rattle.salt_keeps.specs.States.{State}
+use Rattle.law_states.specs.Readings.{under_way_of}
+use Rattle.law_states.specs.Refused.{busy_in, wrong_in}
+use Rattle.law_states.specs.States.{State}
 use Rattle.salt_model.specs.Refusals.{defines}
 use Rattle.salt_model.specs.declared.events.Refusal.{Refusal}
 use Rattle.salt_model.specs.declared.events.Refusal.TheVariants as refused

@@ -4,13 +4,13 @@ use Rattle.salt_ast.specs.declared.lines.Line.{Line}
 use Rattle.salt_books.specs.Books.{AreBooks}
 use Rattle.salt_books.specs.Called.{name_told}
 use Rattle.salt_books.specs.Coming.{CanCome, event_meant}
-use Rattle.salt_keeps.specs.Follows.{settles_in}
-use Rattle.salt_keeps.specs.Members.{In}
-use Rattle.salt_keeps.specs.OpenUnits.{UnitState}
-use Rattle.salt_keeps.specs.Readings.{Reading, beside_by, first_parts, under_way_of}
-use Rattle.salt_keeps.specs.Refused.{refusal_in}
-use Rattle.salt_keeps.specs.States.{After, State}
-use Rattle.salt_keeps.specs.Watches.{Watch}
+use Rattle.law_states.specs.Follows.{settles_in}
+use Rattle.law_states.specs.Members.{In}
+use Rattle.law_states.specs.OpenUnits.{UnitState}
+use Rattle.law_states.specs.Readings.{Reading, beside_by, first_parts, under_way_of}
+use Rattle.law_states.specs.Refused.{refusal_in}
+use Rattle.law_states.specs.States.{After, State}
+use Rattle.law_states.specs.Watches.{Watch}
 use Rattle.salt_model.specs.Next.{decision_in}
 use Rattle.salt_model.specs.Phases.{Serving}
 use Rattle.salt_model.specs.Trace.{Tree}
@@ -24,8 +24,8 @@ use Rattle.salt_scheduler.specs.declared.follow.Follow.TheVariants.{Accept, Rele
 use Rattle.salt_scheduler.specs.declared.follow.Follow.{Follow}
 use Rattle.salt_scheduler.specs.declared.scheduler.Scheduler.{Scheduler}
 use Rattle.salt_values.specs.declared.id.Id.{Id}
-use Rattle.salt_watch.specs.Watched.{IsFinishing, IsWatch}
-use Rattle.salt_watch.specs.declared.watching.Watching.{Watching}
+use Rattle.salt_conflicts.specs.Watched.{IsFinishing, IsWatch}
+use Rattle.salt_conflicts.specs.declared.watching.Watching.{Watching}
 use Rattle.std.specs.Option.{option_or}
 use Rattle.std.specs.Prelude.{List, None, Option, Some, [], true, ◌++◌, ◌∷◌, ◌≡◌, ◌⊎◌}
 

@@ -5,15 +5,19 @@
 //! decided it or given its rows.
 #![tactic(auto)]
 
+mod answers;
 mod called;
 mod ends;
 mod follow;
+mod judge;
 mod kinds;
 mod lines;
 mod names;
+mod programs;
 mod refusal;
 mod scheduler;
 mod shows;
 mod turns;
 
+pub use judge::line_refusal;
 pub use scheduler::Scheduler;

@@ -5,13 +5,13 @@ ghost use Rattle.std.specs.Prelude.{◌≡◌, ◌<◌, ◌^◌, IfOk, Option, S
 ghost use Rattle.salt_ast.specs.declared.lines.Act.{Act};
 ghost use Rattle.salt_ast.specs.declared.lines.Line.{Line};
 ghost use Rattle.salt_books.specs.Books.{seen};
-ghost use Rattle.salt_keeps.specs.OpenUnits.{unit_of_session};
-ghost use Rattle.salt_keeps.specs.Readings.{clash_by, items_by};
-ghost use Rattle.salt_keeps.specs.States.{State};
+ghost use Rattle.law_states.specs.OpenUnits.{unit_of_session};
+ghost use Rattle.law_states.specs.Readings.{clash_by, items_by};
+ghost use Rattle.law_states.specs.States.{State};
 ghost use Rattle.salt_program.specs.Refusals.{parts_in};
 ghost use Rattle.salt_ast.specs.ProgramTexts.{program_text};
 ghost use Rattle.salt_ast.specs.Texts.{table_text};
-ghost use Rattle.salt_keeps.specs.Told.{act_in, calls_in, go_in, kind_called_in, line_in, next_decision};
+ghost use Rattle.law_states.specs.Told.{act_in, calls_in, go_in, kind_called_in, line_in, next_decision};
 ghost use Rattle.salt_model.specs.Kept.{kept_program};
 ghost use Rattle.salt_model.specs.declared.events.Event.{Event};
 
@@ -19,7 +19,7 @@ use crate::follow::Follow;
 use crate::scheduler::Scheduler;
 use salt_ast::{Act, Body, Line, Pairs, ProgramDef, TableDef};
 use salt_books::{Coming, Held};
-use salt_known::{program_text, table_text};
+use salt_books::{program_text, table_text};
 use salt_model::{End, Event, Refusal, UnitKind};
 use salt_values::{Id, Name, Row, TryCopy};
 use sqlite_items::Items;

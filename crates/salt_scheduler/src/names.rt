@@ -1,10 +1,10 @@
 //! Names counted.
 
 ghost use Rattle.std.specs.Prelude.{◌≡◌, ◌++◌, IfOk, length};
-ghost use Rattle.salt_keeps.specs.KeptWaits.{AreDistinct};
-ghost use Rattle.salt_model.specs.Words.{in_order};
+ghost use Rattle.law_states.specs.KeptWaits.{AreDistinct};
+ghost use Rattle.salt_values.specs.Id.{in_order};
 
-use salt_ids::{drop_ids, in_order};
+use salt_values::{drop_ids, in_order};
 use salt_values::Id;
 use std::alloc::{AllocError, Global};
 

@@ -4,12 +4,12 @@ ghost use Rattle.std.specs.Prelude.{◌≡◌, IfOk};
 ghost use Rattle.salt_ast.specs.ProgramJudgement.{line_fault};
 ghost use Rattle.salt_books.specs.Books.{seen};
 ghost use Rattle.salt_scheduler.specs.Refused.{refusal_by_state};
-ghost use Rattle.salt_judge.specs.Refusals.{HasFewParts, told};
-ghost use Rattle.salt_keeps.specs.KeptWaits.{AreDistinct};
-ghost use Rattle.salt_keeps.specs.Nexts.{refusal_of};
-ghost use Rattle.salt_keeps.specs.Readings.{under_way_of};
-ghost use Rattle.salt_keeps.specs.Refused.{busy_in, known_in, wrong_for, wrong_in};
-ghost use Rattle.salt_keeps.specs.States.{State};
+ghost use Rattle.salt_scheduler.specs.Refusals.{HasFewParts, told};
+ghost use Rattle.law_states.specs.KeptWaits.{AreDistinct};
+ghost use Rattle.law_states.specs.Nexts.{refusal_of};
+ghost use Rattle.law_states.specs.Readings.{under_way_of};
+ghost use Rattle.law_states.specs.Refused.{busy_in, known_in, wrong_for, wrong_in};
+ghost use Rattle.law_states.specs.States.{State};
 ghost use Rattle.salt_model.specs.Refusals.{defines, has_block};
 ghost use Rattle.salt_model.specs.Trace.{Tree};
 
@@ -17,7 +17,7 @@ use crate::names::count_both;
 use crate::scheduler::Scheduler;
 use salt_ast::{Act, Line};
 use salt_books::Held;
-use salt_judge::line_refusal;
+use crate::judge::line_refusal;
 use salt_model::{Refusal, UnitKind};
 use std::alloc::AllocError;
 

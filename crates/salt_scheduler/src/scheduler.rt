@@ -1,10 +1,10 @@
 //! The scheduler: units, locks and programs together.
 
 ghost use Rattle.salt_books.specs.Books.{AreBooks};
-ghost use Rattle.salt_keeps.specs.Nexts.{next_turn_of};
-ghost use Rattle.salt_keeps.specs.OpenUnits.{UnitState};
-ghost use Rattle.salt_keeps.specs.States.{State, asked_of, turned_to};
-ghost use Rattle.salt_keeps.specs.Watches.{empty_watch};
+ghost use Rattle.law_states.specs.Nexts.{next_turn_of};
+ghost use Rattle.law_states.specs.OpenUnits.{UnitState};
+ghost use Rattle.law_states.specs.States.{State, asked_of, turned_to};
+ghost use Rattle.law_states.specs.Watches.{empty_watch};
 ghost use Rattle.salt_model.specs.Kept.{schema_of};
 ghost use Rattle.salt_model.specs.Trace.{Tree};
 ghost use Rattle.std.specs.Prelude.{OnOk, Some, [], ◌≡◌};
@@ -14,7 +14,7 @@ use salt_ast::Line;
 use salt_books::{Books, CalledNames};
 use salt_schema::Schema;
 use salt_values::Id;
-use salt_watch::Watching;
+use salt_conflicts::Watching;
 use std::alloc::{AllocError, Global};
 
 /// Keeps units, locks and programs in memory, and chooses what comes next. With an event at hand it has done that event, and

@@ -1,16 +1,16 @@
 //! What `show locks` and `show bases` show.
 
 ghost use Rattle.std.specs.Prelude.{◌≡◌, IfOk, Some, map};
-ghost use Rattle.salt_keeps.specs.Members.{In};
-ghost use Rattle.salt_keeps.specs.Readings.{base_at_by, base_item_by, items_by, under_way_by};
-ghost use Rattle.salt_keeps.specs.States.{State};
+ghost use Rattle.law_states.specs.Members.{In};
+ghost use Rattle.law_states.specs.Readings.{base_at_by, base_item_by, items_by, under_way_by};
+ghost use Rattle.law_states.specs.States.{State};
 ghost use Rattle.salt_model.specs.Words.{Every};
 ghost use Rattle.salt_model.specs.declared.events.Event.{Event};
 
 use crate::follow::Follow;
 use crate::scheduler::Scheduler;
 use salt_ast::Line;
-use salt_ids::{both_in_order, in_order};
+use salt_values::{both_in_order, in_order};
 use salt_model::{BaseAt, Event, Item, Items};
 use salt_values::{Id, TryCopy};
 use std::alloc::AllocError;

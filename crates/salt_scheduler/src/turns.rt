@@ -7,10 +7,10 @@ ghost use Rattle.salt_eval.specs.Scans.{IsKeyed};
 ghost use Rattle.salt_eval.specs.Views.{tables_of};
 ghost use Rattle.salt_books.specs.Asking.{IsAskedBy};
 ghost use Rattle.salt_books.specs.Sound.{IsSoundState};
-ghost use Rattle.salt_keeps.specs.OpenUnits.{OpenUnit, unit_named};
-ghost use Rattle.salt_keeps.specs.Readings.{clash_by};
-ghost use Rattle.salt_keeps.specs.States.{State};
-ghost use Rattle.salt_keeps.specs.Told.{begins_in, does_in, serve_in, turn_of_in};
+ghost use Rattle.law_states.specs.OpenUnits.{OpenUnit, unit_named};
+ghost use Rattle.law_states.specs.Readings.{clash_by};
+ghost use Rattle.law_states.specs.States.{State};
+ghost use Rattle.law_states.specs.Told.{begins_in, does_in, serve_in, turn_of_in};
 ghost use Rattle.salt_model.specs.declared.events.Event.{Event};
 ghost use Rattle.salt_units.specs.Acting.{leaves_keys};
 
@@ -23,7 +23,7 @@ use salt_books::{Asking, Coming, cause_of};
 use salt_eval::Tables;
 use salt_model::{Event, Owners, UnitKind};
 use salt_values::Id;
-use salt_watch::Waiter;
+use salt_conflicts::Waiter;
 use std::alloc::AllocError;
 
 impl Scheduler {

@@ -9,7 +9,7 @@ use Rattle.salt_stands.specs.Pieces.{CoordinatorStands, PartStands, PartView, li
 use Rattle.salt_stands.specs.Reading.{Reading}
 use Rattle.salt_stands.specs.Stands.{found_with, stands_in, with_parts}
 use Rattle.salt_stands.specs.Words.{each_from, given, if_sound, or_fault}
-use Rattle.salt_values.specs.declared.placement.Shape.{Shape}
+use Rattle.salt_place.specs.declared.placement.Shape.{Shape}
 use Rattle.std.proofs.Common.{List, Ok, Result, ap, arith, refl, suc, zero, ℕ, ◌+◌, ◌<◌, ◌≡◌, ◌≤◌, ◌∙◌, ◌∷◌}
 use Rattle.std.specs.Prelude.{option_map}
 

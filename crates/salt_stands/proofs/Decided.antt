@@ -1,6 +1,6 @@
 -- Units that are decided, and the changes of their entries.
 use Rattle.salt_model.specs.Tables.{Tables, make_change, with_changes}
-use Rattle.salt_model.specs.Words.{has_id}
+use Rattle.salt_values.specs.Id.{has_id}
 use Rattle.salt_values.specs.declared.change.Change.{Change}
 use Rattle.salt_bytes.specs.Coordinator.{Decision}
 use Rattle.salt_bytes.specs.Partition.{Prepared}

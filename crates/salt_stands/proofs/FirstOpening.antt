@@ -14,7 +14,7 @@ use Rattle.salt_stands.specs.Reading.{Reading}
 use Rattle.salt_stands.specs.Stands.{nothing_found, stands_in, with_parts}
 use Rattle.salt_stands.specs.Tables.{joined}
 use Rattle.salt_stands.specs.Words.{and_then, if_sound}
-use Rattle.salt_values.specs.declared.placement.Shape.{Shape}
+use Rattle.salt_place.specs.declared.placement.Shape.{Shape}
 use Rattle.std.proofs.Common.{List, Ok, Some, [], ap, inl, inr, refl, suc, true, zero, ℕ, ◌+◌, ◌<◌, ◌≡◌, ◌≢◌, ◌∙◌, ◌∷◌}
 use Rattle.std.proofs.lemmas.Bool.{cases_eq}
 

@@ -8,7 +8,7 @@ use Rattle.salt_stands.specs.Partition.{part_of_key}
 use Rattle.salt_stands.specs.Pieces.{listed}
 use Rattle.salt_stands.specs.Tables.{joined}
 use Rattle.salt_stands.specs.Placed.{AreOfParts, IsPlaced, changes_at, is_of_part}
-use Rattle.salt_values.specs.declared.placement.Shape.{Shape}
+use Rattle.salt_place.specs.declared.placement.Shape.{Shape}
 use Rattle.std.proofs.Common.{Bool, List, None, Option, Some, [], ap, arith, false, refl, suc, sym, true, zero, ℕ, ◌+◌, ◌<◌, ◌≡◌, ◌≢◌, ◌≤◌, ◌∙◌, ◌∷◌, ◌⊎◌, inl, inr}
 use Rattle.std.proofs.lemmas.Bool.Decides.{Decides-eqb, nat_tests}
 use Rattle.std.specs.Ordering.{is_eq}

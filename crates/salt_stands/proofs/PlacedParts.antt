@@ -1,6 +1,6 @@
 -- Each row of a partition that stands is of that partition.
 use Rattle.salt_model.specs.Tables.{Tables, changed_at, make_change, no_rows, place_cmp, row_at, with_changes}
-use Rattle.salt_model.specs.Words.{has_id}
+use Rattle.salt_values.specs.Id.{has_id}
 use Rattle.salt_model.specs.declared.places.Place.{Place}
 use Rattle.salt_values.specs.declared.change.Change.{Change}
 use Rattle.salt_values.specs.declared.value.Value.{Value}

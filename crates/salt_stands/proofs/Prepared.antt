@@ -1,6 +1,6 @@
 -- A prepared unit behind a partition's entries, and units that are decided.
 use Rattle.salt_model.specs.Tables.{no_rows, with_changes}
-use Rattle.salt_model.specs.Words.{has_id}
+use Rattle.salt_values.specs.Id.{has_id}
 use Rattle.salt_values.specs.declared.cont.Cont.{Cont}
 use Rattle.salt_bytes.specs.Coordinator.{Decision}
 use Rattle.salt_bytes.specs.Formats.{has_nulls}

@@ -15,7 +15,7 @@ use Rattle.salt_stands.specs.Partition.{is_format_under, pages_device}
 use Rattle.salt_stands.specs.Pieces.{CoordinatorStands, Grows, HasOneMore, IsSameAt, PartStands, PartView, ReadsSamePages, checkpointed, next_header, next_part_header, other_log, tables_of, with_boot, with_definition, with_snapshot}
 use Rattle.salt_stands.specs.Reading.{Reading}
 use Rattle.salt_stands.specs.Stands.{found_with, stands_in}
-use Rattle.salt_values.specs.declared.placement.Shape.{Shape}
+use Rattle.salt_place.specs.declared.placement.Shape.{Shape}
 use Rattle.std.proofs.Common.{Bool, List, Ok, Some, [], ap, arith, false, inl, inr, refl, subst, sym, true, ℕ, ◌+◌, ◌++◌, ◌<◌, ◌≡◌, ◌≢◌, ◌⊎◌, ◌∙◌, ◌∷◌}
 use Rattle.std.proofs.lemmas.Bool.Decides.{Decides-eqb}
 use Rattle.std.specs.Prelude.{if◌then◌else◌, ◌==◌}

@@ -1,7 +1,7 @@
 -- A unit's commit: what it needs, and what the logs may be during it and after it.
 use Rattle.salt_bytes.specs.declared.moves.Move.{Move}
 use Rattle.salt_model.specs.Tables.{Tables, no_rows, with_changes}
-use Rattle.salt_model.specs.Words.{has_id}
+use Rattle.salt_values.specs.Id.{has_id}
 use Rattle.salt_values.specs.declared.change.Change.{Change}
 use Rattle.salt_values.specs.declared.cont.Cont.{Cont}
 use Rattle.salt_bytes.specs.Conts.{move_in}

@@ -6,7 +6,7 @@ use Rattle.salt_stands.specs.Coordinator.{Coordinator, Logs}
 use Rattle.salt_stands.specs.CoordinatorLog.{told_by_header}
 use Rattle.salt_stands.specs.Partition.{part_device}
 use Rattle.salt_stands.specs.Pieces.{PartView}
-use Rattle.salt_values.specs.declared.placement.Shape.{Shape}
+use Rattle.salt_place.specs.declared.placement.Shape.{Shape}
 use Rattle.std.specs.Prelude.{List, Some, [], ℕ, ⊤, ◌+◌, ◌<◌, ◌∷◌, ◌≡◌}
 
 -- both coordinator devices are blank

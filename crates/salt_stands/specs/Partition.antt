@@ -1,6 +1,6 @@
 -- What a partition's devices stand for, under a coordinator.
 use Rattle.salt_model.specs.Tables.{Tables, changed_at, no_rows, place_cmp, with_changes}
-use Rattle.salt_model.specs.Words.{has_id}
+use Rattle.salt_values.specs.Id.{has_id}
 use Rattle.salt_model.specs.declared.places.Place.{Place}
 use Rattle.salt_values.specs.declared.change.Change.{Change}
 use Rattle.salt_values.specs.declared.value.Value.{Value}
@@ -13,9 +13,9 @@ use Rattle.salt_stands.specs.PartitionLog.{PartitionLog, partition_generation, p
 use Rattle.salt_stands.specs.Reading.{Reading}
 use Rattle.salt_stands.specs.Tables.{change_of_row}
 use Rattle.salt_stands.specs.Words.{and_then, given, if_sound, or_fault}
-use Rattle.salt_values.specs.Placement.{place_of}
+use Rattle.salt_place.specs.Placement.{place_of}
 use Rattle.salt_values.specs.declared.id.Id.{Id}
-use Rattle.salt_values.specs.declared.placement.Shape.{Shape}
+use Rattle.salt_place.specs.declared.placement.Shape.{Shape}
 use Rattle.std.specs.List.{list_all}
 use Rattle.std.specs.Ordering.{is_eq}
 use Rattle.std.specs.Prelude.{Bool, Err, List, None, Option, Result, Some, [], drop, false, map, nat_le, nat_lt, not, option_map, suc, true, ℕ, ◌&&◌, ◌*◌, ◌+◌, ◌++◌, ◌==◌, ◌∷◌, ◌||◌}

@@ -1,6 +1,6 @@
 -- The parts of what stands, as facts: what each crate's value is tied to.
 use Rattle.salt_model.specs.Tables.{Tables}
-use Rattle.salt_model.specs.Words.{has_id}
+use Rattle.salt_values.specs.Id.{has_id}
 use Rattle.salt_values.specs.declared.change.Change.{Change}
 use Rattle.salt_values.specs.declared.cont.Cont.{Cont}
 use Rattle.salt_values.specs.declared.value.Value.{Value}

@@ -4,7 +4,7 @@ use Rattle.salt_model.specs.declared.places.Place.{Place}
 use Rattle.salt_values.specs.declared.change.Change.{Change}
 use Rattle.salt_values.specs.declared.value.Value.{Value}
 use Rattle.salt_stands.specs.Partition.{part_of_key}
-use Rattle.salt_values.specs.declared.placement.Shape.{Shape}
+use Rattle.salt_place.specs.declared.placement.Shape.{Shape}
 use Rattle.std.specs.List.{filter}
 use Rattle.std.specs.Prelude.{Bool, List, Some, [], ℕ, ⊤, ◌<◌, ◌==◌, ◌∷◌, ◌≡◌}
 

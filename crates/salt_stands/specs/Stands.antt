@@ -7,9 +7,9 @@ use Rattle.salt_stands.specs.Partition.{part_at}
 use Rattle.salt_stands.specs.Reading.{Reading}
 use Rattle.salt_stands.specs.Tables.{joined}
 use Rattle.salt_stands.specs.Words.{each_from, if_sound}
-use Rattle.salt_values.specs.declared.placement.PlaceKind.TheVariants.{Bands, Remainder}
-use Rattle.salt_values.specs.declared.placement.PlaceKind.{PlaceKind}
-use Rattle.salt_values.specs.declared.placement.Shape.{Shape}
+use Rattle.salt_place.specs.declared.placement.PlaceKind.TheVariants.{Bands, Remainder}
+use Rattle.salt_place.specs.declared.placement.PlaceKind.{PlaceKind}
+use Rattle.salt_place.specs.declared.placement.Shape.{Shape}
 use Rattle.std.specs.Prelude.{Bool, Err, List, None, Ok, Option, Result, Some, [], false, nat_le, true, ℕ, ◌&&◌, ◌==◌, ◌^◌, ◌||◌}
 
 pub record Kept (D : Type 0) : Type 0 where

@@ -14,7 +14,7 @@ ghost use Rattle.salt_stands.specs.Partition.{is_format_under, pages_device};
 ghost use Rattle.salt_stands.specs.Pieces.{Grows, HasOneMore, IsSameAt, PartView, ReadsSamePages, checkpointed, next_header, next_part_header, other_log, with_boot, with_decision, with_definition, with_snapshot};
 ghost use Rattle.salt_stands.specs.Reading.{Reading};
 ghost use Rattle.salt_stands.specs.Stands.{nothing_found, stands_in};
-ghost use Rattle.salt_values.specs.declared.placement.Shape.{Shape};
+ghost use Rattle.salt_place.specs.declared.placement.Shape.{Shape};
 
 /// During a commit, before its decision, each image stands for what stood before: each partition may have the unit's entry.
 pub fn undecided_units_change_nothing()

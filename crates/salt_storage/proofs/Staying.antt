@@ -1,7 +1,7 @@
 -- Calls one behind the other stay within a shape.
 use Rattle.salt_disk.specs.Disks.{View}
 use Rattle.salt_storage.specs.Staying.{StaysWithin, devices_of}
-use Rattle.salt_values.specs.declared.placement.Shape.{Shape}
+use Rattle.salt_place.specs.declared.placement.Shape.{Shape}
 use Rattle.std.proofs.Common.{subst, sym, ◌∙◌}
 use Rattle.std.specs.Prelude.{IsTrue, refl, ℕ, ◌<◌, ◌≤◌}
 

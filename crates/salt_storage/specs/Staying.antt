@@ -1,6 +1,6 @@
 -- Where a call on a database may write.
 use Rattle.salt_disk.specs.Disks.{SameShape, Shrinks, View}
-use Rattle.salt_values.specs.declared.placement.Shape.{Shape}
+use Rattle.salt_place.specs.declared.placement.Shape.{Shape}
 use Rattle.std.specs.Prelude.{IsTrue, ℕ, ◌+◌, ◌*◌, ◌<◌, ◌≡◌, ◌≤◌}
 
 -- the devices of a shape: two of the coordinator, and three of each partition

@@ -1,7 +1,7 @@
 -- What is kept in a storage, what may be decided over it, and what that makes of it.
 use Rattle.salt_bytes.specs.Changes.{are_in_order}
 use Rattle.salt_bytes.specs.declared.moves.Move.{Move}
-use Rattle.salt_definitions.specs.Fitting.{is_refused}
+use Rattle.salt_stands.specs.Fitting.{is_refused}
 use Rattle.salt_model.specs.Kept.{Definition, Kept, OfProgram, OfTable, WellKept, programs_of, schema_of}
 use Rattle.salt_model.specs.Printable.{IsSpelledProgram, IsSpelledTable}
 use Rattle.salt_model.specs.Tables.{Tables, is_within, row_at, with_changes}
@@ -11,7 +11,7 @@ use Rattle.salt_model.specs.declared.places.Place.{Place}
 use Rattle.salt_stands.specs.OpenConts.{do_rise, make_move}
 use Rattle.salt_storage.specs.declared.found.Found.{Found}
 use Rattle.salt_storage.specs.declared.found.Numbers.{Numbers}
-use Rattle.salt_types.specs.Typed.{AreChangesOf, IsTyped}
+use Rattle.law_types.specs.Typed.{AreChangesOf, IsTyped}
 use Rattle.salt_values.specs.declared.change.Change.{Change}
 use Rattle.salt_values.specs.declared.cont.Cont.{Cont}
 use Rattle.salt_values.specs.declared.id.Id.{Id}

@@ -5,7 +5,7 @@ ghost use Rattle.salt_storage.specs.declared.open.OpenErr.TheVariants.{Halted};
 ghost use Rattle.salt_storage.specs.declared.halt.Halt.TheVariants.{Memory};
 
 use crate::halt::Halt;
-use salt_values::Shape;
+use salt_place::Shape;
 use std::alloc::AllocError;
 use thiserror::Error;
 

@@ -1,7 +1,7 @@
 //! The storage of a database.
 
 ghost use Rattle.salt_bytes.specs.declared.moves.Move.{Move};
-ghost use Rattle.salt_canonical.specs.Texts.{definition_in};
+ghost use Rattle.law_definitions.specs.Texts.{definition_in};
 ghost use Rattle.salt_disk.specs.Disks.{HasCause, KeepsAll, View};
 ghost use Rattle.salt_model.specs.Kept.{Definition, Kept, schema_of};
 ghost use Rattle.salt_model.specs.Tables.{Tables};
@@ -13,10 +13,10 @@ ghost use Rattle.salt_storage.specs.declared.halt.Halt.TheVariants.{DeviceFull, 
 ghost use Rattle.salt_storage.specs.declared.open.OpenErr.{OpenErr};
 ghost use Rattle.salt_stands.specs.Stands.{are_spent};
 ghost use Rattle.salt_values.specs.Id.{is_same_id};
-ghost use Rattle.salt_values.specs.Placement.{GivesPlaceOf, TakesEachKey};
+ghost use Rattle.salt_place.specs.Placement.{GivesPlaceOf, TakesEachKey};
 ghost use Rattle.salt_values.specs.declared.cont.Cont.{Cont};
 ghost use Rattle.salt_values.specs.declared.id.Id.{Id};
-ghost use Rattle.salt_values.specs.declared.placement.Shape.{Shape};
+ghost use Rattle.salt_place.specs.declared.placement.Shape.{Shape};
 ghost use Rattle.std.specs.Prelude.{Err, IfErr, IfOk, IsTrue, List, OnErr, OnOk, Some, [], false, length, ℕ, ◌++◌, ◌+◌, ◌<◌, ◌∷◌, ◌≡◌, ◌≤◌, ◌⊎◌};
 
 use crate::found::{Found, Numbers};
@@ -27,7 +27,8 @@ use salt_disk::Disks;
 use salt_eval::Tables;
 use salt_model::Reach;
 use salt_schema::Schema;
-use salt_values::{Changes, Id, Key, PlaceKind, Placement};
+use salt_values::{Changes, Id, Key};
+use salt_place::{PlaceKind, Placement};
 use std::alloc::AllocError;
 
 /// What a database stands on. After an error of a call it is opened anew before it is used. Contracts see the devices by their

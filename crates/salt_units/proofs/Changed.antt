@@ -1,7 +1,7 @@
 -- Edits of changes: what is at a place, and the first at a place that passes a test.
 use Rattle.salt_eval.proofs.InOrder.{joined, less_is, parted}
-use Rattle.salt_keeps.specs.Overlays.{AreInOrder, edits_of}
-use Rattle.salt_laws.proofs.Places.{equal-is, place_same}
+use Rattle.law_states.specs.Overlays.{AreInOrder, edits_of}
+use Rattle.law_story.proofs.Places.{equal-is, place_same}
 use Rattle.salt_model.specs.Tables.{changed_at, place_cmp, place_total}
 use Rattle.salt_model.specs.declared.places.Place.{Place}
 use Rattle.salt_units.proofs.Firsts.{below-less, below-none}

@@ -1,6 +1,6 @@
 -- Changes in order, cut where a test that the first of them pass ends: what is looked for stands there, or nowhere.
 use Rattle.salt_eval.proofs.InOrder.{less_is, parted}
-use Rattle.salt_keeps.specs.Overlays.{AreInOrder, edits_of}
+use Rattle.law_states.specs.Overlays.{AreInOrder, edits_of}
 use Rattle.salt_model.specs.Tables.{changed_at, place_cmp}
 use Rattle.salt_model.specs.declared.places.Place.{Place}
 use Rattle.salt_units.specs.Putting.{ArePassed}

@@ -1,7 +1,7 @@
 -- The first of the places that pass which has a row, of a list in order and of its rows by place.
 use Rattle.salt_eval.proofs.InOrder.{joined, less_is, parted}
 use Rattle.salt_eval.proofs.Scanning.{first-found, first-passes}
-use Rattle.salt_laws.proofs.Places.{place_same}
+use Rattle.law_story.proofs.Places.{place_same}
 use Rattle.salt_model.specs.Tables.{Entry, place_cmp, place_total}
 use Rattle.salt_model.specs.Words.{first_of_list}
 use Rattle.salt_model.specs.declared.places.Place.{Place}

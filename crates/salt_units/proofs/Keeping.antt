@@ -12,7 +12,7 @@ use Rattle.salt_eval.proofs.Collected.{HasKeys, head-key, tail-keys}
 use Rattle.salt_eval.proofs.InOrder.{parted}
 use Rattle.salt_eval.proofs.Nexts.{both_true}
 use Rattle.salt_eval.specs.Scans.{IsKeyed}
-use Rattle.salt_laws.proofs.Every.{IfOk, IfSome, every-collect, every-filter, ok-all, ok-bind, ok-map}
+use Rattle.law_story.proofs.Every.{IfOk, IfSome, every-collect, every-filter, ok-all, ok-bind, ok-map}
 use Rattle.salt_model.specs.Eval.{Visible, holds, passes, value_of, values_of}
 use Rattle.salt_model.specs.Reaches.{in_row, no_row, range_of, reach, table_for, table_from}
 use Rattle.salt_model.specs.Statements.{Done, answering, change_to, changing, checked, collect, do_at, do_in, done, inserted, on_match, outcome_of, removed, seen, set_field, shown, stored, updated, with_sets}

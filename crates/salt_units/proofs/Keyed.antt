@@ -1,8 +1,8 @@
 -- Rows stand at the places of their keys under edits that put each row at its own.
 use Rattle.salt_eval.specs.Scans.{IsKeyed}
-use Rattle.salt_keeps.proofs.Overlays.{edited-row}
-use Rattle.salt_keeps.specs.Overlays.{AreInOrder, Edit, over, put_all, with_edits}
-use Rattle.salt_laws.proofs.Places.{equal-is, place_same}
+use Rattle.law_states.proofs.Overlays.{edited-row}
+use Rattle.law_states.specs.Overlays.{AreInOrder, Edit, over, put_all, with_edits}
+use Rattle.law_story.proofs.Places.{equal-is, place_same}
 use Rattle.salt_model.specs.Tables.{Tables, changed_at, key_of, place_cmp, place_total, row_at}
 use Rattle.salt_model.specs.Words.{Every}
 use Rattle.salt_model.specs.declared.places.Place.{Place}

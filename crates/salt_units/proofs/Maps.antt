@@ -2,7 +2,7 @@
 use Rattle.salt_eval.proofs.InOrder.{row_at-tables_of}
 use Rattle.salt_eval.specs.Scans.{IsKeyed}
 use Rattle.salt_eval.specs.Views.{tables_of}
-use Rattle.salt_laws.proofs.Places.{equal-is, place_same}
+use Rattle.law_story.proofs.Places.{equal-is, place_same}
 use Rattle.salt_model.specs.Tables.{Entry, key_of, place_cmp}
 use Rattle.salt_model.specs.declared.places.Place.{Place}
 use Rattle.salt_values.specs.declared.value.Value.{Value}

@@ -3,9 +3,9 @@ use Rattle.salt_eval.proofs.Nexts.{both_true, same_table}
 use Rattle.salt_eval.proofs.Scanning.{next-behind}
 use Rattle.salt_eval.specs.Scans.{IsKeyed}
 use Rattle.salt_eval.specs.Views.{is_behind, is_next, next_row, rows_after}
-use Rattle.salt_keeps.proofs.Overlays.{edited-row}
-use Rattle.salt_keeps.specs.Overlays.{AreInOrder, edits_of, over, with_edits}
-use Rattle.salt_laws.proofs.Places.{place_same}
+use Rattle.law_states.proofs.Overlays.{edited-row}
+use Rattle.law_states.specs.Overlays.{AreInOrder, edits_of, over, with_edits}
+use Rattle.law_story.proofs.Places.{place_same}
 use Rattle.salt_model.specs.Tables.{Entry, Tables, changed_at, key_of, place, place_cmp, place_total, row_at}
 use Rattle.salt_model.specs.Words.{first_of_list}
 use Rattle.salt_model.specs.declared.places.Place.{Place}

@@ -1,6 +1,6 @@
 -- Changes put into changes in order.
-use Rattle.salt_keeps.specs.Overlays.{AreInOrder, Edit, edit_of, edits_of, put_all}
-use Rattle.salt_laws.proofs.Places.{equal-is, place_same}
+use Rattle.law_states.specs.Overlays.{AreInOrder, Edit, edit_of, edits_of, put_all}
+use Rattle.law_story.proofs.Places.{equal-is, place_same}
 use Rattle.salt_model.specs.Tables.{changed_at, place_cmp, place_total}
 use Rattle.salt_units.proofs.Searches.{at-place, is_there}
 use Rattle.salt_units.specs.Putting.{ArePassed, is_before, put_change, put_each}

@@ -4,7 +4,7 @@ use Rattle.salt_ast.specs.declared.trees.Statement.TheVariants.{Delete, Ensure, 
 use Rattle.salt_ast.specs.declared.trees.Statement.{Statement}
 use Rattle.salt_ast.specs.declared.trees.TableDef.{TableDef}
 use Rattle.salt_exprs.specs.Names.{is_named}
-use Rattle.salt_laws.proofs.Every.{IfOk, ok-all, ok-bind}
+use Rattle.law_story.proofs.Every.{IfOk, ok-all, ok-bind}
 use Rattle.salt_model.specs.Eval.{holds, value_of, values_of}
 use Rattle.salt_model.specs.Reaches.{in_row, no_row, range_of, reach, table_for}
 use Rattle.salt_model.specs.Statements.{Done, answering, change_to, changing, checked, collect, do_at, do_in, done, inserted, on_match, outcome_of, removed, seen, set_var, shown, stored, updated}

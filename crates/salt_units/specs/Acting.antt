@@ -4,7 +4,7 @@ use Rattle.salt_ast.specs.declared.trees.Set.{Set}
 use Rattle.salt_ast.specs.declared.trees.Statement.TheVariants.{Delete, Ensure, Insert, Select, SelectInto, Update}
 use Rattle.salt_ast.specs.declared.trees.Statement.{Statement}
 use Rattle.salt_ast.specs.declared.trees.TableDef.{TableDef}
-use Rattle.salt_keeps.specs.Overlays.{Edit, put_all}
+use Rattle.law_states.specs.Overlays.{Edit, put_all}
 use Rattle.salt_model.specs.Statements.{Done, set_var}
 use Rattle.salt_model.specs.Tables.{key_of}
 use Rattle.salt_model.specs.declared.events.Answer.TheVariants.{Stored}

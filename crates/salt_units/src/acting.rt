@@ -4,7 +4,7 @@ ghost use Rattle.std.specs.Prelude.{◌≡◌, IfOk};
 ghost use Rattle.salt_eval.specs.Effects.{IsEffect};
 ghost use Rattle.salt_eval.specs.Scans.{IsKeyed};
 ghost use Rattle.salt_eval.specs.Views.{CountsFaults};
-ghost use Rattle.salt_keeps.specs.Overlays.{AreInOrder, edits_of, with_edits};
+ghost use Rattle.law_states.specs.Overlays.{AreInOrder, edits_of, with_edits};
 ghost use Rattle.salt_model.specs.Statements.{outcome_of};
 ghost use Rattle.salt_units.specs.Acting.{HaveTheirKeys};
 

@@ -3,7 +3,7 @@
 ghost use Rattle.std.specs.Prelude.{◌≡◌, ◌≤◌, IfOk, find, length};
 ghost use Rattle.std.specs.Option.{option_copied};
 ghost use Rattle.salt_eval.specs.Views.{is_behind};
-ghost use Rattle.salt_keeps.specs.Overlays.{AreInOrder, edits_of};
+ghost use Rattle.law_states.specs.Overlays.{AreInOrder, edits_of};
 ghost use Rattle.salt_model.specs.Tables.{changed_at, place, place_cmp};
 ghost use Rattle.salt_ranges.specs.Ranges.{is_above_low};
 ghost use Rattle.salt_units.specs.Edited.{is_change_at, is_next_change, is_passed, is_sooner};

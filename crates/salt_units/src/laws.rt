@@ -6,7 +6,7 @@ ghost use Rattle.salt_ast.specs.declared.trees.Scope.{Scope};
 ghost use Rattle.salt_ast.specs.declared.trees.Statement.{Statement};
 ghost use Rattle.salt_ast.specs.declared.trees.TableDef.{TableDef};
 ghost use Rattle.salt_eval.specs.Scans.{IsKeyed};
-ghost use Rattle.salt_keeps.specs.Overlays.{AreInOrder, Edit, put_all, with_edits};
+ghost use Rattle.law_states.specs.Overlays.{AreInOrder, Edit, put_all, with_edits};
 ghost use Rattle.salt_model.specs.Statements.{outcome_of};
 ghost use Rattle.salt_model.specs.Tables.{Tables};
 ghost use Rattle.salt_model.specs.Words.{Every};

@@ -4,7 +4,7 @@ ghost use Rattle.std.specs.Prelude.{◌≡◌, IfOk};
 ghost use Rattle.std.specs.Option.{option_copied};
 ghost use Rattle.salt_eval.specs.Scans.{IsKeyed};
 ghost use Rattle.salt_eval.specs.Views.{CountsFaults, next_row};
-ghost use Rattle.salt_keeps.specs.Overlays.{AreInOrder, edits_of, with_edits};
+ghost use Rattle.law_states.specs.Overlays.{AreInOrder, edits_of, with_edits};
 
 use crate::edits::{is_sooner, next_change};
 use salt_eval::{RowView, ViewErr};

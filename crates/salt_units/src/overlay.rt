@@ -3,7 +3,7 @@
 ghost use Rattle.std.specs.Borrow.{GName};
 ghost use Rattle.std.specs.Option.{ForSome};
 ghost use Rattle.std.specs.Prelude.{◌≡◌};
-ghost use Rattle.salt_keeps.specs.Overlays.{AreInOrder, edits_of, with_edits};
+ghost use Rattle.law_states.specs.Overlays.{AreInOrder, edits_of, with_edits};
 ghost use Rattle.salt_model.specs.Tables.{Tables, key_of, row_at};
 ghost use Rattle.salt_model.specs.declared.places.Place.{Place};
 

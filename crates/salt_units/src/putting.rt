@@ -1,7 +1,7 @@
 //! Changes put into changes that are in order of their places.
 
 ghost use Rattle.std.specs.Prelude.{◌≡◌, ◌<◌, ◌≤◌, ◌+◌, IfOk, IsOk, OnErr, OnOk, reverse, vec_capacity, vec_len};
-ghost use Rattle.salt_keeps.specs.Overlays.{AreInOrder, edits_of, put_all};
+ghost use Rattle.law_states.specs.Overlays.{AreInOrder, edits_of, put_all};
 ghost use Rattle.salt_units.specs.Putting.{put_change, put_each};
 
 use crate::edits::{count_before, is_change_at};

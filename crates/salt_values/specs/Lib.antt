@@ -1,4 +1,3 @@
 pub mod Id
 pub mod Text
 pub mod Value
-pub mod Placement

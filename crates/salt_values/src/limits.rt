@@ -62,3 +62,6 @@ pub const BASES_MOST: usize = 1_024;
 
 /// The partitions; the least is 1.
 pub const PARTITIONS_MOST: u32 = 8;
+
+/// The calls of a workload; the least is 1.
+pub const CALLS_MOST: u64 = 20_000;

@@ -1,7 +1,7 @@
 -- The right victim of units with different names is the one that the story's definitions compute.
-use Rattle.salt_keeps.specs.KeptWaits.{AreDistinct}
-use Rattle.salt_keeps.specs.PairClosures.{LeadsBack}
-use Rattle.salt_laws.proofs.Lists.{In, in-filter, in-map, into-filter, into-map}
+use Rattle.law_states.specs.KeptWaits.{AreDistinct}
+use Rattle.law_states.specs.PairClosures.{LeadsBack}
+use Rattle.law_story.proofs.Lists.{In, in-filter, in-map, into-filter, into-map}
 use Rattle.salt_model.specs.Waiting as story
 use Rattle.salt_model.specs.Waiting.{is_on_cycle, names_of, victim_of}
 use Rattle.salt_model.specs.Words.{greatest}

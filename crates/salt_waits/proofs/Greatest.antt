@@ -1,6 +1,6 @@
 -- The greatest of some names.
-use Rattle.salt_laws.proofs.Lists.{In}
-use Rattle.salt_laws.proofs.NextFits.{greatest-in}
+use Rattle.law_story.proofs.Lists.{In}
+use Rattle.law_story.proofs.NextFits.{greatest-in}
 use Rattle.salt_model.specs.Words.{greatest}
 use Rattle.salt_values.specs.Id.{is_older}
 use Rattle.salt_values.specs.declared.id.Id.{Id}

@@ -1,8 +1,8 @@
 -- The victim of a list is that of the graph of the story.
-use Rattle.salt_keeps.specs.KeptWaits.{AreDistinct}
-use Rattle.salt_keeps.specs.PairClosures.{Leads, here, on}
-use Rattle.salt_laws.proofs.Ids.{is_same_id-refl, is_same_id-true}
-use Rattle.salt_laws.proofs.Lists.{In, into-map, or_cases, or_left_true, or_right_true}
+use Rattle.law_states.specs.KeptWaits.{AreDistinct}
+use Rattle.law_states.specs.PairClosures.{Leads, here, on}
+use Rattle.law_story.proofs.Ids.{is_same_id-refl, is_same_id-true}
+use Rattle.law_story.proofs.Lists.{In, into-map, or_cases, or_left_true, or_right_true}
 use Rattle.salt_model.specs.Waiting.{edges_in}
 use Rattle.salt_values.specs.Id.{is_same_id}
 use Rattle.salt_values.specs.declared.id.Id.{Id}

@@ -1,5 +1,5 @@
 -- The words that a program was called with, and the command that they say.
-use Rattle.salt_load.specs.declared.limits.TheConstants.{CALLS_MOST}
+use Rattle.salt_values.specs.declared.limits.TheConstants.{CALLS_MOST}
 use Rattle.salt_values.specs.declared.limits.TheConstants.{PARTITIONS_MOST}
 use Rattle.salt_words.specs.declared.command.Command.TheVariants.{Load, Run}
 use Rattle.salt_words.specs.declared.command.Command.{Command}

@@ -6,7 +6,7 @@ ghost use Rattle.std.specs.Prelude.{◌≡◌};
 
 use crate::counts::count_in;
 use crate::settings::settings_in;
-use salt_load::CALLS_MOST;
+use salt_values::limits::CALLS_MOST;
 
 /// What the program is to do.
 #[derive(Clone, Copy, Debug, PartialEq, Eq)]

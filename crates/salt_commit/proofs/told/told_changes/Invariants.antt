@@ -1,6 +1,6 @@
 use Rattle.salt_bytes.specs.Spellable.{Every}
 use Rattle.salt_commit.proofs.told.told_changes.Given as goal
-use Rattle.salt_entries.specs.Entries.{IsTold}
+use Rattle.salt_codec.specs.Entries.{IsTold}
 use Rattle.std.proofs.Common.{take}
 
 abbrev pub invariant-loop-change : goal.invariant-loop-change

@@ -1,6 +1,6 @@
 use Rattle.salt_database.proofs.Booting.{first-flies, first-rests, first-untold, flies-some}
 use Rattle.salt_database.proofs.beginning.first.Goals as goal
-use Rattle.salt_recovery.proofs.Chosen.{gives-same}
+use Rattle.salt_drain.proofs.Chosen.{gives-same}
 use Rattle.std.proofs.lemmas.Result.{IfOk-weaker}
 
 pub flown-requires : goal.flown-requires

@@ -1,8 +1,8 @@
 use Rattle.salt_books.specs.declared.coming.Coming.{Coming}
 use Rattle.salt_database.proofs.Resting.{rest-told, told-event}
 use Rattle.salt_database.proofs.beginning.resting.Goals as goal
-use Rattle.salt_recovery.specs.Follows.{rest_in}
-use Rattle.salt_recovery.specs.Recovering.{Brings}
+use Rattle.salt_drain.specs.Follows.{rest_in}
+use Rattle.salt_drain.specs.Recovering.{Brings}
 use Rattle.std.proofs.Common.{subst}
 
 pub unreachable-requires : goal.unreachable-requires

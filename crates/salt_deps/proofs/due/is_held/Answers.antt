@@ -1,7 +1,7 @@
 use Rattle.salt_deps.proofs.Leaving.{held-by-sources}
 use Rattle.salt_deps.proofs.due.is_held.Goals as goal
 use Rattle.salt_deps.specs.Maps.{is_source}
-use Rattle.salt_model.specs.Words.{has_id}
+use Rattle.salt_values.specs.Id.{has_id}
 use Rattle.std.proofs.Common.{ap, sym, ◌∙◌, ◌∷◌}
 
 pub returns : goal.returns

@@ -2,7 +2,7 @@ use Rattle.salt_deps.proofs.Leaving.{are-settled}
 use Rattle.salt_deps.proofs.due.settled_from.Goals as goal
 use Rattle.salt_deps.specs.Due.{AreComers, AreHeld, AreSettled}
 use Rattle.salt_deps.specs.Maps.{is_source}
-use Rattle.salt_model.specs.Words.{has_id}
+use Rattle.salt_values.specs.Id.{has_id}
 use Rattle.std.proofs.Common.{not, rules, subst, sym, ◌∙◌, ◌∷◌}
 use Rattle.std.proofs.lemmas.Fn.{filter_same}
 

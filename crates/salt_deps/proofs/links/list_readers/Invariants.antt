@@ -1,6 +1,6 @@
 use Rattle.salt_deps.proofs.links.list_readers.Given as goal
 use Rattle.salt_deps.specs.Maps.{is_listed}
-use Rattle.salt_model.specs.Words.{has_id}
+use Rattle.salt_values.specs.Id.{has_id}
 use Rattle.salt_values.specs.Id.{is_same_id}
 use Rattle.salt_values.specs.declared.id.Id.{Id}
 use Rattle.std.proofs.Common.{take, ◌&&◌, ◌||◌, ◌≡◌}

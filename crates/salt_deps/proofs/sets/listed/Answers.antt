@@ -1,7 +1,7 @@
 use Rattle.salt_deps.proofs.Names.{rising}
 use Rattle.salt_deps.proofs.Seeing.{append-none}
 use Rattle.salt_deps.proofs.sets.listed.Goals as goal
-use Rattle.salt_keeps.specs.Rising.{Rising}
+use Rattle.law_states.specs.Rising.{Rising}
 use Rattle.salt_values.specs.declared.id.Id.{Id}
 use Rattle.std.proofs.Common.{List, ap, subst, sym, ◌++◌, ◌∙◌}
 

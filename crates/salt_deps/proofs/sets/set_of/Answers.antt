@@ -1,7 +1,7 @@
 use Rattle.salt_deps.proofs.Linking.{put-in}
 use Rattle.salt_deps.proofs.Seeing.{has-next, take-next}
 use Rattle.salt_deps.proofs.sets.set_of.Goals as goal
-use Rattle.salt_model.specs.Words.{has_id}
+use Rattle.salt_values.specs.Id.{has_id}
 use Rattle.salt_values.specs.declared.id.Id.{Id}
 use Rattle.std.proofs.Common.{ap, get_or, take, ◌∙◌}
 

@@ -1,7 +1,7 @@
 use Rattle.salt_deps.proofs.Linking.{taken-out, takes-next, takes-none}
 use Rattle.salt_deps.proofs.Seeing.{take-next}
 use Rattle.salt_deps.proofs.sets.take_out.Goals as goal
-use Rattle.salt_model.specs.Words.{has_id}
+use Rattle.salt_values.specs.Id.{has_id}
 use Rattle.salt_values.specs.declared.id.Id.{Id}
 use Rattle.std.proofs.Common.{get_or, not, subst, take, ◌&&◌, ◌≡◌}
 

@@ -1,5 +1,5 @@
 use Rattle.salt_deps.proofs.sets.take_out.Given as goal
-use Rattle.salt_model.specs.Words.{has_id}
+use Rattle.salt_values.specs.Id.{has_id}
 use Rattle.salt_values.specs.declared.id.Id.{Id}
 use Rattle.std.proofs.Common.{not, take, ◌&&◌, ◌≡◌}
 

@@ -2,7 +2,7 @@ use Rattle.salt_deps.proofs.Walking.{IsWalk, against, are-comers, nil-from, read
 use Rattle.salt_deps.proofs.walks.comers.Goals as goal
 use Rattle.salt_deps.specs.Maps.{is_source}
 use Rattle.salt_deps.specs.Walks.{unseen}
-use Rattle.salt_model.specs.Words.{has_id}
+use Rattle.salt_values.specs.Id.{has_id}
 use Rattle.salt_values.specs.declared.id.Id.{Id}
 use Rattle.std.proofs.Common.{List, ap, arith, length, subst, sym, ◌+◌, ◌<◌, ◌∙◌}
 use Rattle.std.specs.Map.{keys_of}

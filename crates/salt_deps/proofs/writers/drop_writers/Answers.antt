@@ -1,6 +1,6 @@
 use Rattle.salt_deps.proofs.Forgetting.{writers-kept}
 use Rattle.salt_deps.proofs.writers.drop_writers.Goals as goal
-use Rattle.salt_model.specs.Words.{has_id}
+use Rattle.salt_values.specs.Id.{has_id}
 use Rattle.std.proofs.Common.{not, rules}
 use Rattle.std.proofs.lemmas.Map.Made.{filter_same_pairs}
 

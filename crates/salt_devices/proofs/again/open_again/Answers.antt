@@ -5,8 +5,8 @@ use Rattle.salt_devices.specs.declared.pending.Pending.TheVariants.{Lost}
 use Rattle.salt_disk.proofs.CallAfterCall.{cause_on}
 use Rattle.salt_gatelog.proofs.Entries.{not_told}
 use Rattle.salt_storage.specs.Answers.{open_disk_err_of}
-use Rattle.salt_values.specs.Placement.{IsParts}
-use Rattle.salt_values.specs.declared.placement.Shape.{Shape}
+use Rattle.salt_place.specs.Placement.{IsParts}
+use Rattle.salt_place.specs.declared.placement.Shape.{Shape}
 use Rattle.std.proofs.Common.{Err, IsTrue, None, ap, subst, sym, ◌≡◌, ◌∙◌}
 
 pub is_remembered-requires-clause-parts : goal.is_remembered-requires-clause-parts

@@ -1,10 +1,10 @@
 use Rattle.salt_bytes.specs.Conts.{move_in, spell_move}
-use Rattle.salt_canonical.specs.Texts.{definition_in}
+use Rattle.law_definitions.specs.Texts.{definition_in}
 use Rattle.salt_commit.specs.Commits.{CommitPassesLimit, IsCommitLog, fits_its_part}
 use Rattle.salt_commit.specs.Errors.{disk_err_of}
 use Rattle.salt_commit.specs.Prepares.{FullWhere}
 use Rattle.salt_commit.specs.Stores.{reading}
-use Rattle.salt_definitions.specs.Fitting.{tables_of}
+use Rattle.salt_stands.specs.Fitting.{tables_of}
 use Rattle.salt_devices.proofs.Committing.{short_move}
 use Rattle.salt_devices.proofs.Deciding.{others_stay_new, stands_to_commit, unit_holds, unit_leaves_either}
 use Rattle.salt_devices.proofs.Filled.{unit_fills}
@@ -18,7 +18,7 @@ use Rattle.salt_model.specs.Kept.{Definition}
 use Rattle.salt_model.specs.Words.{Every}
 use Rattle.salt_stands.specs.Coordinator.{Coordinator}
 use Rattle.salt_storage.specs.Storing.{decided}
-use Rattle.salt_types.specs.Typed.{AreChangesOf}
+use Rattle.law_types.specs.Typed.{AreChangesOf}
 use Rattle.salt_values.specs.Value.{IsValue}
 use Rattle.salt_values.specs.declared.change.Change.{Change}
 use Rattle.std.proofs.Common.{Err, None, Some, ap, subst, sym, true, ◌++◌, ◌≡◌, ◌∙◌}

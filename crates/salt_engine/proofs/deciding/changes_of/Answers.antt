@@ -1,8 +1,8 @@
 use Rattle.salt_books.specs.Books.{seen}
 use Rattle.salt_engine.proofs.Decided.{changes-back}
 use Rattle.salt_engine.proofs.deciding.changes_of.Goals as goal
-use Rattle.salt_keeps.specs.OpenUnits.{OpenUnit}
-use Rattle.salt_steps.specs.Writing.{change_of}
+use Rattle.law_states.specs.OpenUnits.{OpenUnit}
+use Rattle.salt_driver.specs.Writing.{change_of}
 use Rattle.std.proofs.Common.{ap, sym, ◌∙◌}
 use Rattle.std.proofs.lemmas.Result.{IfOk-weaker}
 use Rattle.std.specs.Prelude.{Some, map, ◌≡◌}

@@ -4,7 +4,7 @@ use Rattle.salt_engine.proofs.Committing.{commit-done, commit-may, commit-moves,
 use Rattle.salt_engine.proofs.Decided.{undone-before}
 use Rattle.salt_engine.proofs.Performed.{have-unit}
 use Rattle.salt_engine.proofs.deciding.commit.Goals as goal
-use Rattle.salt_keeps.specs.Told.{next_decision}
+use Rattle.law_states.specs.Told.{next_decision}
 use Rattle.salt_model.specs.Kept.{conts_committed}
 use Rattle.salt_storage.proofs.Staying.{stays-same}
 use Rattle.std.proofs.Common.{ap}

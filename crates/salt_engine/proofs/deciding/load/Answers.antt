@@ -3,7 +3,7 @@ use Rattle.salt_engine.proofs.Outcome.{by-err, not-ok}
 use Rattle.salt_engine.proofs.Decided.{stored-still}
 use Rattle.salt_engine.proofs.Loading.{may-load, rows-keyed, rows-loaded, unloaded}
 use Rattle.salt_engine.proofs.deciding.load.Goals as goal
-use Rattle.salt_known.specs.declared.known.Known.{Known}
+use Rattle.salt_books.specs.declared.known.Known.{Known}
 use Rattle.salt_storage.proofs.Staying.{stays-same}
 use Rattle.std.proofs.Common.{ap, ◌∙◌}
 use Rattle.std.specs.Prelude.{Err}

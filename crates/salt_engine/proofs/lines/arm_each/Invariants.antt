@@ -1,6 +1,6 @@
 use Rattle.salt_engine.proofs.lines.arm_each.Given as goal
 use Rattle.salt_engine.specs.Stored.{Stored}
-use Rattle.salt_keeps.specs.OpenUnits.{UnitState}
+use Rattle.law_states.specs.OpenUnits.{UnitState}
 use Rattle.salt_storage.specs.Staying.{StaysWithin}
 use Rattle.std.proofs.Common.{take, ◌++◌, ◌≡◌}
 

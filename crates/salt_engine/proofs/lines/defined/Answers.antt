@@ -1,6 +1,6 @@
 use Rattle.salt_engine.proofs.LineDefines.{no-definition, program-allows, table-allows}
 use Rattle.salt_engine.proofs.lines.defined.Goals as goal
-use Rattle.salt_judge.specs.Refusals.{HasFewParts}
+use Rattle.salt_scheduler.specs.Refusals.{HasFewParts}
 use Rattle.std.proofs.Common.{subst}
 use Rattle.std.proofs.lemmas.Result.{IfOk-weaker}
 

@@ -1,5 +1,5 @@
 use Rattle.salt_engine.proofs.serving.turn_to.Goals as goal
-use Rattle.salt_keeps.specs.States.{turned_to}
+use Rattle.law_states.specs.States.{turned_to}
 use Rattle.std.proofs.lemmas.Result.{IfOk-weaker}
 
 pub go-requires : goal.go-requires

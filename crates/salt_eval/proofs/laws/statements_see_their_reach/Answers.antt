@@ -1,6 +1,6 @@
 use Rattle.salt_eval.proofs.Framing.{rows-agree}
 use Rattle.salt_eval.proofs.laws.statements_see_their_reach.Goals as goal
-use Rattle.salt_laws.proofs.Writes.{statement-frame}
+use Rattle.law_story.proofs.Writes.{statement-frame}
 use Rattle.salt_model.specs.Reaches.{reach}
 
 pub returns : goal.returns

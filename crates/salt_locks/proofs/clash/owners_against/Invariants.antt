@@ -1,6 +1,6 @@
 use Rattle.salt_locks.proofs.clash.owners_against.Given as goal
 use Rattle.salt_model.specs.Locks.{base_owner, clashes, unit_owner}
-use Rattle.salt_model.specs.Words.{in_order}
+use Rattle.salt_values.specs.Id.{in_order}
 use Rattle.std.proofs.Common.{length, ◌≡◌, ◌≤◌}
 use Rattle.std.specs.List.{filter, filter_map}
 use Rattle.std.specs.Prelude.{drop}

@@ -1,5 +1,5 @@
 use Rattle.salt_locks.proofs.owners.insert_id.Given as goal
-use Rattle.salt_model.specs.Words.{insert_id}
+use Rattle.salt_values.specs.Id.{insert_id}
 use Rattle.std.proofs.Common.{length, ◌-◌, ◌++◌, ◌≡◌, ◌≤◌}
 use Rattle.std.specs.Prelude.{drop, take}
 

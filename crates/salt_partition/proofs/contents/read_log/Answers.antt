@@ -1,6 +1,6 @@
 use Rattle.salt_bytes.specs.Formats.{has_nulls}
 use Rattle.salt_bytes.specs.Partition.{partition_header_in}
-use Rattle.salt_entries.specs.Entries.{header_of}
+use Rattle.salt_codec.specs.Entries.{header_of}
 use Rattle.salt_gatelog.proofs.Entries.{keeps_then}
 use Rattle.salt_partition.proofs.contents.read_log.Goals as goal
 use Rattle.salt_bytes.specs.Spellable.{Every}

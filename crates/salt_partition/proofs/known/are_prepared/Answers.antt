@@ -1,4 +1,4 @@
-use Rattle.salt_model.specs.Words.{has_id}
+use Rattle.salt_values.specs.Id.{has_id}
 use Rattle.salt_partition.proofs.Seeing.{all_alike}
 use Rattle.salt_partition.proofs.known.are_prepared.Goals as goal
 use Rattle.salt_partition.specs.Contents.{units_of}

@@ -1,4 +1,4 @@
-use Rattle.salt_entries.specs.declared.prepared.PreparedUnit.{PreparedUnit}
+use Rattle.salt_codec.specs.declared.prepared.PreparedUnit.{PreparedUnit}
 use Rattle.salt_partition.proofs.Names.{prepared_next}
 use Rattle.salt_partition.proofs.sets.prepared_set.Goals as goal
 use Rattle.salt_partition.specs.Contents.{units_of}

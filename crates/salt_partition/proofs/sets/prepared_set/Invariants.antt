@@ -1,4 +1,4 @@
-use Rattle.salt_model.specs.Words.{has_id}
+use Rattle.salt_values.specs.Id.{has_id}
 use Rattle.salt_partition.proofs.sets.prepared_set.Given as goal
 use Rattle.salt_partition.specs.Contents.{units_of}
 use Rattle.salt_stands.specs.Pieces.{is_prepared_in}

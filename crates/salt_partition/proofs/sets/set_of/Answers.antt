@@ -1,4 +1,4 @@
-use Rattle.salt_model.specs.Words.{has_id}
+use Rattle.salt_values.specs.Id.{has_id}
 use Rattle.salt_partition.proofs.Names.{put_next}
 use Rattle.salt_partition.proofs.sets.set_of.Goals as goal
 use Rattle.salt_values.specs.declared.id.Id.{Id}

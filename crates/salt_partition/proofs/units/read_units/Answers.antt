@@ -1,6 +1,6 @@
 use Rattle.salt_bytes.specs.Partition.{prepared_in}
 use Rattle.salt_disk.proofs.CallAfterCall.{cause_on}
-use Rattle.salt_entries.specs.Entries.{prepared_of}
+use Rattle.salt_codec.specs.Entries.{prepared_of}
 use Rattle.salt_gatelog.proofs.Entries.{keeps_then, keeps_without_memory}
 use Rattle.salt_partition.proofs.Gathered.{gathered_fails, gathered_next}
 use Rattle.salt_bytes.specs.Spellable.{Every}

@@ -12,9 +12,9 @@ use Rattle.salt_run.proofs.runs.run_load.Goals as goal
 use Rattle.salt_run.specs.Commands.{shape_of}
 use Rattle.salt_run.specs.Doing.{streams}
 use Rattle.salt_run.specs.Ending.{flight_at}
-use Rattle.salt_serving.proofs.Loads.{unfound-loaded}
-use Rattle.salt_serving.specs.Loading.{IsPlayedLoad}
-use Rattle.salt_serving.specs.Stopping.{outcome, status_of, status_opening}
+use Rattle.salt_loop.proofs.Loads.{unfound-loaded}
+use Rattle.salt_loop.specs.Loading.{IsPlayedLoad}
+use Rattle.salt_loop.specs.Stopping.{outcome, status_of, status_opening}
 use Rattle.salt_stands.specs.Stands.{are_spent}
 use Rattle.salt_storage.proofs.Staying.{stays-behind}
 use Rattle.salt_words.specs.declared.command.Command.TheVariants.{Load}

@@ -12,7 +12,7 @@ use Rattle.salt_run.proofs.runs.run_script.Goals as goal
 use Rattle.salt_run.specs.Commands.{shape_of}
 use Rattle.salt_run.specs.Doing.{streams}
 use Rattle.salt_run.specs.Ending.{flight_at}
-use Rattle.salt_serving.specs.Stopping.{outcome}
+use Rattle.salt_loop.specs.Stopping.{outcome}
 use Rattle.salt_stands.specs.Stands.{are_spent}
 use Rattle.salt_storage.proofs.Staying.{stays-behind}
 use Rattle.salt_words.specs.declared.command.Command.TheVariants.{Run}

@@ -1,6 +1,6 @@
 use Rattle.salt_scheduler.proofs.called.forget.Goals as goal
 use Rattle.salt_scheduler.specs.Calling.{Forgets}
-use Rattle.salt_keeps.specs.Readings.{first_parts}
+use Rattle.law_states.specs.Readings.{first_parts}
 use Rattle.std.proofs.Common.{subst, ◌∙◌}
 
 pub returns : goal.returns

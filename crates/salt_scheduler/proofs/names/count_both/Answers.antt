@@ -1,6 +1,6 @@
 use Rattle.salt_scheduler.proofs.Counting.{counted}
 use Rattle.salt_scheduler.proofs.names.count_both.Goals as goal
-use Rattle.salt_model.specs.Words.{without}
+use Rattle.salt_values.specs.Id.{without}
 use Rattle.std.proofs.Common.{ap, arith, ◌∙◌}
 use Rattle.std.specs.Prelude.{length}
 

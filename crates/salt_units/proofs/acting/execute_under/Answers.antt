@@ -1,4 +1,4 @@
-use Rattle.salt_keeps.specs.Overlays.{edits_of}
+use Rattle.law_states.specs.Overlays.{edits_of}
 use Rattle.salt_units.proofs.Keyed.{keyed-under}
 use Rattle.salt_units.proofs.Overlaid.{rows-keyed}
 use Rattle.salt_units.proofs.acting.execute_under.Goals as goal

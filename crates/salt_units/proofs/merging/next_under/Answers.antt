@@ -1,5 +1,5 @@
 use Rattle.salt_eval.specs.Views.{next_row}
-use Rattle.salt_keeps.specs.Overlays.{edits_of, with_edits}
+use Rattle.law_states.specs.Overlays.{edits_of, with_edits}
 use Rattle.salt_units.proofs.Fewer.{fewer-behind}
 use Rattle.salt_units.proofs.Overlaid.{next-below, next-put, next-skipped, sooner-next}
 use Rattle.salt_units.proofs.merging.next_under.Goals as goal

@@ -1,4 +1,4 @@
-use Rattle.salt_keeps.specs.Overlays.{AreInOrder, edits_of}
+use Rattle.law_states.specs.Overlays.{AreInOrder, edits_of}
 use Rattle.salt_model.specs.Tables.{changed_at}
 use Rattle.salt_units.proofs.Places.{before, behind, in-order-put, placed-at, set-parts, there}
 use Rattle.salt_units.proofs.putting.put_change.Goals as goal

@@ -1,4 +1,4 @@
-use Rattle.salt_keeps.specs.Overlays.{edits_of}
+use Rattle.law_states.specs.Overlays.{edits_of}
 use Rattle.salt_units.proofs.Places.{each-edits}
 use Rattle.salt_units.proofs.putting.put_changes.Goals as goal
 use Rattle.salt_units.specs.Putting.{put_each}

@@ -1,4 +1,4 @@
-use Rattle.salt_keeps.specs.Overlays.{AreInOrder, edits_of}
+use Rattle.law_states.specs.Overlays.{AreInOrder, edits_of}
 use Rattle.salt_units.proofs.putting.put_waiting.Given as goal
 use Rattle.salt_units.specs.Putting.{put_each}
 use Rattle.std.proofs.Common.{reverse, vec_capacity, vec_len, ◌+◌, ◌≡◌, ◌≤◌}

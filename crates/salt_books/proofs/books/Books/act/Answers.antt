@@ -2,8 +2,8 @@ use Rattle.salt_books.proofs.OneHeld.{changed, held-named}
 use Rattle.salt_books.proofs.books.Books.act.Goals as goal
 use Rattle.salt_books.specs.Books.{AreLoaded, seen}
 use Rattle.salt_eval.specs.Views.{tables_of}
-use Rattle.salt_keeps.specs.OpenUnits.{OpenUnit}
-use Rattle.salt_keeps.specs.Steps.{doing_one, outcome_under}
+use Rattle.law_states.specs.OpenUnits.{OpenUnit}
+use Rattle.law_states.specs.Steps.{doing_one, outcome_under}
 use Rattle.salt_model.specs.Kept.{schema_of}
 use Rattle.salt_model.specs.Reaches.{reach}
 use Rattle.std.proofs.Common.{Some, ap, subst, sym, ◌∙◌, ◌≡◌}

@@ -1,6 +1,6 @@
 use Rattle.salt_books.proofs.books.Books.asks_next.Goals as goal
 use Rattle.salt_books.specs.Books.{seen}
-use Rattle.salt_keeps.specs.OpenUnits.{asking}
+use Rattle.law_states.specs.OpenUnits.{asking}
 use Rattle.std.proofs.Common.{◌∙◌}
 
 pub returns : goal.returns

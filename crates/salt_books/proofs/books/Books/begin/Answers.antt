@@ -1,7 +1,7 @@
 use Rattle.salt_books.proofs.books.Books.begin.Goals as goal
 use Rattle.salt_books.specs.Books.{seen}
-use Rattle.salt_keeps.specs.Overlays.{edits_of}
-use Rattle.salt_keeps.specs.Told.{next_unit}
+use Rattle.law_states.specs.Overlays.{edits_of}
+use Rattle.law_states.specs.Told.{next_unit}
 use Rattle.salt_model.specs.Units.{program_begun}
 use Rattle.salt_values.specs.declared.id.Id.{Id}
 use Rattle.std.proofs.Common.{None, [], ap, false, ◌+◌, ◌++◌, ◌∙◌, ◌∷◌, ◌≡◌}

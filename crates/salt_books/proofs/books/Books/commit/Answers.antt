@@ -1,10 +1,10 @@
 use Rattle.salt_books.proofs.OneHeld.{left}
 use Rattle.salt_books.proofs.books.Books.commit.Goals as goal
 use Rattle.salt_books.specs.Books.{seen}
-use Rattle.salt_keeps.specs.Overlays.{with_edits}
-use Rattle.salt_keeps.specs.Steps.{kept_ended}
-use Rattle.salt_keeps.specs.Told.{next_decision}
-use Rattle.salt_known.specs.Known.{IsKnown}
+use Rattle.law_states.specs.Overlays.{with_edits}
+use Rattle.law_states.specs.Steps.{kept_ended}
+use Rattle.law_states.specs.Told.{next_decision}
+use Rattle.salt_books.specs.Known.{IsKnown}
 use Rattle.salt_model.specs.Kept.{Kept}
 use Rattle.salt_model.specs.declared.events.End.TheVariants.{Committed}
 use Rattle.std.proofs.Common.{ap, subst, sym, ◌+◌, ◌∙◌}

@@ -1,5 +1,5 @@
 use Rattle.salt_books.proofs.books.Books.define_program.Goals as goal
-use Rattle.salt_known.specs.Known.{IsKnown}
+use Rattle.salt_books.specs.Known.{IsKnown}
 use Rattle.salt_model.specs.After.{defined_by}
 use Rattle.salt_model.specs.Kept.{Definition}
 use Rattle.std.proofs.Common.{List, ap, subst, sym, ◌+◌, ◌++◌, ◌∙◌}

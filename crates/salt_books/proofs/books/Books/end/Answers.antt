@@ -2,8 +2,8 @@ use Rattle.salt_books.proofs.Decided.{undecided}
 use Rattle.salt_books.proofs.OneHeld.{left}
 use Rattle.salt_books.proofs.books.Books.end.Goals as goal
 use Rattle.salt_books.specs.Books.{seen}
-use Rattle.salt_keeps.specs.OpenUnits.{unit_named}
-use Rattle.salt_known.specs.Known.{IsKnown}
+use Rattle.law_states.specs.OpenUnits.{unit_named}
+use Rattle.salt_books.specs.Known.{IsKnown}
 use Rattle.salt_model.specs.Kept.{Kept}
 use Rattle.std.proofs.Common.{ap, subst, sym, ◌∙◌}
 use Rattle.std.specs.Prelude.{map}

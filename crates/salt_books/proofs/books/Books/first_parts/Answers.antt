@@ -1,7 +1,7 @@
 use Rattle.salt_books.proofs.LookUps.{parts-seen}
 use Rattle.salt_books.proofs.books.Books.first_parts.Goals as goal
 use Rattle.salt_books.specs.Books.{seen}
-use Rattle.salt_keeps.specs.Readings.{first_parts}
+use Rattle.law_states.specs.Readings.{first_parts}
 use Rattle.std.proofs.Common.{ap, ◌∙◌}
 use Rattle.std.specs.Prelude.{map}
 

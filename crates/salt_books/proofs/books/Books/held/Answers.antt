@@ -1,6 +1,6 @@
 use Rattle.salt_books.proofs.books.Books.held.Goals as goal
 use Rattle.salt_books.specs.Books.{seen}
-use Rattle.salt_keeps.specs.OpenUnits.{unit_named}
+use Rattle.law_states.specs.OpenUnits.{unit_named}
 use Rattle.std.proofs.Common.{None, ap, subst, sym, ◌∙◌, ◌≡◌}
 use Rattle.std.specs.Option.{option_copied}
 use Rattle.std.specs.Prelude.{IsSome, option_map}

@@ -1,6 +1,6 @@
 use Rattle.salt_books.proofs.books.Books.is_at_end.Goals as goal
 use Rattle.salt_books.specs.Books.{seen}
-use Rattle.salt_keeps.specs.Told.{is_at_end_in}
+use Rattle.law_states.specs.Told.{is_at_end_in}
 use Rattle.std.proofs.Common.{ap, ◌∙◌}
 
 pub returns : goal.returns

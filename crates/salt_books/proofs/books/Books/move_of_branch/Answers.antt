@@ -1,8 +1,8 @@
 use Rattle.salt_books.proofs.books.Books.move_of_branch.Goals as goal
 use Rattle.salt_books.specs.Books.{seen}
-use Rattle.salt_keeps.specs.OpenUnits.{OpenUnit}
-use Rattle.salt_known.specs.Known.{AllLeadOn}
-use Rattle.salt_known.specs.Moves.{CanMove}
+use Rattle.law_states.specs.OpenUnits.{OpenUnit}
+use Rattle.salt_books.specs.Known.{AllLeadOn}
+use Rattle.salt_books.specs.Moves.{CanMove}
 use Rattle.salt_model.specs.Kept.{conts_branched}
 use Rattle.std.proofs.Common.{Some, ap, subst, sym, ◌∙◌, ◌≡◌}
 use Rattle.std.proofs.lemmas.Result.{IfOk-weaker}

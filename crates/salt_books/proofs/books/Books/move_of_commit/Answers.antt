@@ -1,9 +1,9 @@
 use Rattle.salt_books.proofs.books.Books.move_of_commit.Goals as goal
 use Rattle.salt_books.specs.Books.{seen}
-use Rattle.salt_keeps.specs.OpenUnits.{OpenUnit}
-use Rattle.salt_keeps.specs.Told.{next_decision}
-use Rattle.salt_known.specs.Known.{AllLeadOn}
-use Rattle.salt_known.specs.Moves.{CanMove}
+use Rattle.law_states.specs.OpenUnits.{OpenUnit}
+use Rattle.law_states.specs.Told.{next_decision}
+use Rattle.salt_books.specs.Known.{AllLeadOn}
+use Rattle.salt_books.specs.Moves.{CanMove}
 use Rattle.salt_model.specs.Kept.{conts_committed}
 use Rattle.std.proofs.Common.{Some, ap, subst, sym, ◌∙◌, ◌≡◌}
 use Rattle.std.proofs.lemmas.Result.{IfOk-weaker}

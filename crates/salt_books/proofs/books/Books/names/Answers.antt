@@ -1,6 +1,6 @@
 use Rattle.salt_books.proofs.LookUps.{names-seen}
 use Rattle.salt_books.proofs.books.Books.names.Goals as goal
-use Rattle.salt_keeps.specs.OpenUnits.{names_in}
+use Rattle.law_states.specs.OpenUnits.{names_in}
 use Rattle.salt_books.specs.Books.{seen}
 use Rattle.std.proofs.Common.{ap, ◌∙◌}
 use Rattle.std.specs.Prelude.{map}

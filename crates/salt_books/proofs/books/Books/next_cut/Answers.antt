@@ -2,9 +2,10 @@ use Rattle.salt_books.proofs.Cuts.{first-cut}
 use Rattle.salt_books.proofs.books.Books.next_cut.Goals as goal
 use Rattle.salt_books.specs.Books.{seen}
 use Rattle.salt_books.specs.declared.held.Held.{Held}
-use Rattle.salt_keeps.specs.OpenUnits.{OpenUnit, names_in}
-use Rattle.salt_keeps.specs.Rising.{Rising}
-use Rattle.salt_model.specs.Words.{first_of_list, in_order}
+use Rattle.law_states.specs.OpenUnits.{OpenUnit, names_in}
+use Rattle.law_states.specs.Rising.{Rising}
+use Rattle.salt_model.specs.Words.{first_of_list}
+use Rattle.salt_values.specs.Id.{in_order}
 use Rattle.salt_values.specs.declared.id.Id.{Id}
 use Rattle.std.proofs.Common.{Bor, List, Option, ap, subst, sym, ◌∙◌}
 use Rattle.std.specs.List.{filter, find}

@@ -1,7 +1,7 @@
 use Rattle.salt_books.proofs.books.Books.next_turn.Given as goal
 use Rattle.salt_books.specs.Books.{AreBooks}
-use Rattle.salt_keeps.specs.OpenUnits.{UnitState}
-use Rattle.salt_keeps.specs.Told.{can_go_in}
+use Rattle.law_states.specs.OpenUnits.{UnitState}
+use Rattle.law_states.specs.Told.{can_go_in}
 use Rattle.std.proofs.Common.{drop, ◌≡◌}
 use Rattle.std.specs.List.{find}
 

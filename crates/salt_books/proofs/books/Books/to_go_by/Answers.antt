@@ -1,7 +1,7 @@
 use Rattle.salt_ast.specs.declared.lines.Line.TheVariants.{Crash, Go, GoAll, Nothing, Program, Session, ShowBases, ShowLocks, Table}
 use Rattle.salt_ast.specs.declared.lines.Line.{Line}
 use Rattle.salt_books.proofs.books.Books.to_go_by.Goals as goal
-use Rattle.salt_keeps.specs.Steps.{to_go_by}
+use Rattle.law_states.specs.Steps.{to_go_by}
 use Rattle.salt_model.specs.Kept.{Kept}
 use Rattle.salt_model.specs.Trace.{Tree}
 use Rattle.std.proofs.Common.{[], refl, ◌∙◌, ◌≡◌}

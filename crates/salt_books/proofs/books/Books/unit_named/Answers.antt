@@ -1,7 +1,7 @@
 use Rattle.salt_books.proofs.LookUps.{find-seen}
 use Rattle.salt_books.proofs.books.Books.unit_named.Goals as goal
 use Rattle.salt_books.specs.Books.{seen}
-use Rattle.salt_keeps.specs.OpenUnits.{OpenUnit}
+use Rattle.law_states.specs.OpenUnits.{OpenUnit}
 use Rattle.salt_values.specs.Id.{is_same_id}
 use Rattle.std.proofs.Common.{List, ap, ◌∙◌}
 use Rattle.std.specs.List.{find}

@@ -1,7 +1,7 @@
 use Rattle.salt_books.proofs.LookUps.{find-seen}
 use Rattle.salt_books.proofs.books.Books.unit_of_program.Goals as goal
 use Rattle.salt_books.specs.Books.{is_of_program, seen}
-use Rattle.salt_keeps.specs.OpenUnits.{OpenUnit, belongs_to_program}
+use Rattle.law_states.specs.OpenUnits.{OpenUnit, belongs_to_program}
 use Rattle.std.proofs.Common.{List, ap, ◌∙◌}
 use Rattle.std.specs.List.{find}
 use Rattle.std.specs.Prelude.{map, option_map}

@@ -1,8 +1,8 @@
 use Rattle.salt_books.proofs.OneHeld.{changed}
 use Rattle.salt_books.proofs.books.Books.wait.Goals as goal
 use Rattle.salt_books.specs.Books.{seen}
-use Rattle.salt_keeps.specs.OpenUnits.{OpenUnit}
-use Rattle.salt_keeps.specs.Steps.{waiting_by}
+use Rattle.law_states.specs.OpenUnits.{OpenUnit}
+use Rattle.law_states.specs.Steps.{waiting_by}
 use Rattle.std.specs.Prelude.{true}
 
 pub returns : goal.returns

@@ -1,6 +1,6 @@
 use Rattle.salt_books.proofs.called.CalledNames.forget_all.Given as goal
 use Rattle.salt_books.specs.Called.{name_told}
-use Rattle.salt_model.specs.Words.{has_id}
+use Rattle.salt_values.specs.Id.{has_id}
 use Rattle.salt_values.specs.declared.id.Id.{Id}
 use Rattle.std.proofs.Common.{None, take, ◌≡◌}
 use Rattle.std.specs.Prelude.{if◌then◌else◌}

@@ -3,9 +3,9 @@ use Rattle.salt_books.proofs.held.Held.act.Goals as goal
 use Rattle.salt_books.specs.Books.{seen}
 use Rattle.salt_eval.specs.Scans.{IsKeyed}
 use Rattle.salt_eval.specs.Views.{tables_of}
-use Rattle.salt_keeps.specs.OpenUnits.{OpenUnit}
-use Rattle.salt_keeps.specs.Overlays.{put_all, with_edits}
-use Rattle.salt_keeps.specs.Steps.{outcome_under}
+use Rattle.law_states.specs.OpenUnits.{OpenUnit}
+use Rattle.law_states.specs.Overlays.{put_all, with_edits}
+use Rattle.law_states.specs.Steps.{outcome_under}
 use Rattle.salt_model.specs.Statements.{Done, outcome_of}
 use Rattle.std.proofs.Common.{None, ap, false, subst, sym, ◌∙◌, ◌≡◌}
 

@@ -19,7 +19,7 @@ use Rattle.salt_commit.specs.declared.error.StoreErr.TheVariants as StoreErr
 use Rattle.salt_disk.proofs.CallAfterCall.{cause_on}
 use Rattle.salt_disk.specs.Disks.{EachImage, FullExactly, OnlyFails}
 use Rattle.salt_disk.specs.declared.disks.DiskErr.TheVariants.{Full}
-use Rattle.salt_entries.specs.Entries.{IsTold}
+use Rattle.salt_codec.specs.Entries.{IsTold}
 use Rattle.salt_stands.specs.Commits.{found_after, found_of}
 use Rattle.salt_stands.specs.Coordinator.{device_of}
 use Rattle.salt_values.specs.declared.change.Change.{Change}

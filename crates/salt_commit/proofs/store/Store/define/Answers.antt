@@ -1,4 +1,4 @@
-use Rattle.salt_canonical.specs.Texts.{definition_in}
+use Rattle.law_definitions.specs.Texts.{definition_in}
 use Rattle.salt_commit.proofs.Entered.{definition_images, definition_ok}
 use Rattle.salt_commit.proofs.store.Store.define.Goals as goal
 use Rattle.salt_commit.specs.Stores.{last_decision, reading}

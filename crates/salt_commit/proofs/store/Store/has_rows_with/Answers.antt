@@ -2,7 +2,7 @@ use Rattle.salt_commit.proofs.Compared.{SaysMade, all_say}
 use Rattle.salt_commit.proofs.store.Store.has_rows_with.Goals as goal
 use Rattle.salt_commit.specs.Shares.{shares_of}
 use Rattle.salt_partition.specs.declared.partition.Partition.{Partition}
-use Rattle.salt_values.specs.declared.placement.Shape.{Shape}
+use Rattle.salt_place.specs.declared.placement.Shape.{Shape}
 use Rattle.std.proofs.Common.{List, ap, subst, ◌∙◌}
 use Rattle.std.specs.Prelude.{IfOk}
 

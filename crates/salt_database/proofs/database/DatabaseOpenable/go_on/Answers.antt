@@ -2,7 +2,7 @@ use Rattle.salt_database.proofs.Halved.{at-closed, closed-at, engine-sees, half-
 use Rattle.salt_database.proofs.database.DatabaseOpenable.go_on.Goals as goal
 use Rattle.salt_database.specs.Halves.{opening_sees}
 use Rattle.salt_model.specs.declared.events.Event.{Event}
-use Rattle.salt_steps.specs.Standing.{IsOpenedOn}
+use Rattle.salt_driver.specs.Standing.{IsOpenedOn}
 use Rattle.salt_storage.specs.Staying.{StaysWithin}
 use Rattle.std.proofs.Common.{subst, sym, ◌∙◌}
 use Rattle.std.specs.Prelude.{Option}

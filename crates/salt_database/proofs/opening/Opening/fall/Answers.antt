@@ -5,7 +5,7 @@ use Rattle.salt_database.specs.Standing.{opening_books}
 use Rattle.salt_engine.specs.Standing.{KnowsUnits}
 use Rattle.salt_engine.specs.declared.stage.Stage.{Stage}
 use Rattle.salt_model.specs.declared.events.Why.TheVariants.{Stopped}
-use Rattle.salt_recovery.specs.declared.recovery.Recovery.{Recovery}
+use Rattle.salt_drain.specs.declared.recovery.Recovery.{Recovery}
 use Rattle.std.proofs.Common.{refl, subst, sym}
 
 pub restart-requires : goal.restart-requires

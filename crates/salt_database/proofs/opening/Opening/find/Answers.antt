@@ -3,7 +3,7 @@ use Rattle.salt_database.proofs.Spent.{may-fail-at}
 use Rattle.salt_database.proofs.opening.Opening.find.Goals as goal
 use Rattle.salt_engine.proofs.Counted.{same-cause}
 use Rattle.salt_engine.specs.Flights.{flight_of}
-use Rattle.salt_steps.proofs.Counted.{counts-cause}
+use Rattle.salt_driver.proofs.Counted.{counts-cause}
 use Rattle.salt_storage.proofs.Staying.{stays-same}
 use Rattle.std.proofs.Common.{[], ap, refl}
 use Rattle.std.proofs.lemmas.Result.{IfErr-weaker, on_ok_weaker}

@@ -5,7 +5,7 @@ use Rattle.salt_database.proofs.opening.Opening.go_on.Goals as goal
 use Rattle.salt_engine.proofs.Counted.{cause-lost, same-cause}
 use Rattle.salt_engine.proofs.LineAsked.{counts-same}
 use Rattle.salt_engine.specs.Standing.{IsGoingStage}
-use Rattle.salt_steps.proofs.Counted.{counts-cause}
+use Rattle.salt_driver.proofs.Counted.{counts-cause}
 use Rattle.std.proofs.Common.{ap, inl, refl, subst, sym, ◌∙◌}
 use Rattle.std.proofs.lemmas.Result.{err_from_is_err_and}
 use Rattle.std.specs.Prelude.{Some, []}

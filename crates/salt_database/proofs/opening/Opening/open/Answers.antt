@@ -3,7 +3,7 @@ use Rattle.salt_database.proofs.OpenedOn.{first-unarmed}
 use Rattle.salt_database.proofs.opening.Opening.open.Goals as goal
 use Rattle.salt_engine.specs.Flights.{flight_of}
 use Rattle.salt_engine.specs.Standing.{IsBrokenStage}
-use Rattle.salt_steps.proofs.Counted.{counts-cause}
+use Rattle.salt_driver.proofs.Counted.{counts-cause}
 use Rattle.salt_storage.specs.Storing.{booted}
 use Rattle.std.proofs.Common.{ap, inl, inr, refl, subst, sym, ◌∙◌}
 use Rattle.std.proofs.lemmas.Result.{IfErr-weaker, IfOk-weaker, on_err_weaker}

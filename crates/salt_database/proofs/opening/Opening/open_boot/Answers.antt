@@ -3,7 +3,7 @@ use Rattle.salt_database.proofs.OpeningActs.{on-err}
 use Rattle.salt_database.proofs.opening.Opening.open_boot.Goals as goal
 use Rattle.salt_engine.proofs.Outcome.{is-err, not-ok}
 use Rattle.salt_engine.specs.declared.flights.InFlight.{InFlight}
-use Rattle.salt_known.specs.declared.known.Known.{Known}
+use Rattle.salt_books.specs.declared.known.Known.{Known}
 use Rattle.std.proofs.Common.{ap, refl, ◌∙◌}
 use Rattle.std.specs.Prelude.{None, Option, if◌then◌else◌, nat_lt}
 

@@ -2,9 +2,9 @@ use Rattle.salt_deps.proofs.Calls.{abandoned}
 use Rattle.salt_deps.proofs.Settling.{one-unread}
 use Rattle.salt_deps.proofs.deps.Deps.abandon.Goals as goal
 use Rattle.salt_deps.specs.Maps.{is_source}
-use Rattle.salt_laws.proofs.Ids.{and_left, and_right}
-use Rattle.salt_laws.proofs.Lists.{not-true}
-use Rattle.salt_model.specs.Words.{has_id}
+use Rattle.law_story.proofs.Ids.{and_left, and_right}
+use Rattle.law_story.proofs.Lists.{not-true}
+use Rattle.salt_values.specs.Id.{has_id}
 use Rattle.std.proofs.Common.{not, refl, sym, ◌∙◌}
 
 pub returns : goal.returns

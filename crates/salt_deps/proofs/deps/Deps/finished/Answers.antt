@@ -4,8 +4,8 @@ use Rattle.salt_deps.proofs.Settling.{none-left, settled-come}
 use Rattle.salt_deps.proofs.deps.Deps.finished.Goals as goal
 use Rattle.salt_deps.specs.Kept.{kept_of}
 use Rattle.salt_deps.specs.Maps.{is_source}
-use Rattle.salt_keeps.specs.DependencyCalls.{HasFinished}
-use Rattle.salt_keeps.specs.Rising.{Rising}
+use Rattle.law_states.specs.DependencyCalls.{HasFinished}
+use Rattle.law_states.specs.Rising.{Rising}
 use Rattle.std.proofs.Common.{subst, sym}
 
 pub due-requires : goal.due-requires

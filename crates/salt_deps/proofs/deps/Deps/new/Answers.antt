@@ -1,7 +1,7 @@
 use Rattle.salt_deps.proofs.deps.Deps.new.Goals as goal
-use Rattle.salt_keeps.specs.KeptSources.{itself}
+use Rattle.law_states.specs.KeptSources.{itself}
 use Rattle.salt_model.specs.Tables.{place_cmp}
-use Rattle.salt_model.specs.Words.{has_id}
+use Rattle.salt_values.specs.Id.{has_id}
 use Rattle.salt_model.specs.declared.places.Place.{Place}
 use Rattle.salt_values.specs.declared.id.Id.{Id}
 use Rattle.std.proofs.Common.{List, [], ap, subst, true, ◌≡◌}

@@ -3,7 +3,7 @@ use Rattle.salt_deps.proofs.Settling.{more-read}
 use Rattle.salt_deps.proofs.Spanning.{none-inside}
 use Rattle.salt_deps.proofs.deps.Deps.read.Goals as goal
 use Rattle.salt_deps.specs.Maps.{is_source}
-use Rattle.salt_model.specs.Words.{has_id}
+use Rattle.salt_values.specs.Id.{has_id}
 use Rattle.salt_values.specs.Id.{is_same_id}
 use Rattle.salt_values.specs.declared.id.Id.{Id}
 use Rattle.std.proofs.Common.{⊎_elim, inl, refl, subst, sym, ◌&&◌, ◌||◌, ◌∙◌, ◌≡◌}

@@ -1,7 +1,7 @@
 use Rattle.salt_deps.proofs.deps.Deps.sources.Goals as goal
 use Rattle.salt_deps.specs.Due.{AreReached}
 use Rattle.salt_deps.specs.Maps.{is_source}
-use Rattle.salt_keeps.specs.Rising.{Rising}
+use Rattle.law_states.specs.Rising.{Rising}
 use Rattle.std.proofs.Common.{subst, sym, ◌∙◌}
 
 pub returns-clause-all : goal.returns-clause-all

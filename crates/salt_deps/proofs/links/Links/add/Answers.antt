@@ -1,7 +1,7 @@
 use Rattle.salt_deps.proofs.Errs.{on_err}
 use Rattle.salt_deps.proofs.Linking.{linked, listed-more, sources-kept}
 use Rattle.salt_deps.proofs.links.Links.add.Goals as goal
-use Rattle.salt_model.specs.Words.{has_id}
+use Rattle.salt_values.specs.Id.{has_id}
 use Rattle.salt_values.specs.Id.{is_same_id}
 use Rattle.salt_values.specs.declared.id.Id.{Id}
 use Rattle.std.proofs.Common.{Bool, Err, List, Ok, Result, ap, refl, ◌&&◌, ◌++◌, ◌||◌, ◌∙◌, ◌≡◌}

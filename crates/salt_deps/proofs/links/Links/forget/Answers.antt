@@ -1,7 +1,7 @@
 use Rattle.salt_deps.proofs.Linking.{forgotten, listed-left, unread}
 use Rattle.salt_deps.proofs.links.Links.forget.Goals as goal
 use Rattle.salt_deps.specs.Maps.{is_source, items_in, readers_at}
-use Rattle.salt_model.specs.Words.{has_id}
+use Rattle.salt_values.specs.Id.{has_id}
 use Rattle.salt_values.specs.Id.{is_same_id}
 use Rattle.salt_values.specs.declared.id.Id.{Id}
 use Rattle.std.proofs.Common.{ap, not, subst, ◌&&◌, ◌∙◌, ◌≡◌}

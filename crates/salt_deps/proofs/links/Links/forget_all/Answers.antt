@@ -2,7 +2,7 @@ use Rattle.salt_deps.proofs.Linking.{forgets-next, forgets-none}
 use Rattle.salt_deps.proofs.Seeing.{take-next}
 use Rattle.salt_deps.proofs.links.Links.forget_all.Goals as goal
 use Rattle.salt_deps.specs.Maps.{is_source}
-use Rattle.salt_model.specs.Words.{has_id}
+use Rattle.salt_values.specs.Id.{has_id}
 use Rattle.salt_values.specs.declared.id.Id.{Id}
 use Rattle.std.proofs.Common.{get_or, not, subst, take, ◌&&◌, ◌||◌, ◌≡◌}
 

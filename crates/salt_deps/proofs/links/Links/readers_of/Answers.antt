@@ -1,7 +1,7 @@
 use Rattle.salt_deps.proofs.Linking.{still-reading}
 use Rattle.salt_deps.proofs.links.Links.readers_of.Goals as goal
 use Rattle.salt_deps.specs.Maps.{is_source, readers_at}
-use Rattle.salt_model.specs.Words.{has_id}
+use Rattle.salt_values.specs.Id.{has_id}
 use Rattle.salt_values.specs.declared.id.Id.{Id}
 use Rattle.std.proofs.Common.{List, ap, filter, ◌∙◌}
 

@@ -2,7 +2,7 @@ use Rattle.salt_engine.proofs.Counted.{cause-lost, counts-broken, same-cause}
 use Rattle.salt_engine.proofs.LineAsked.{asks-line, begun-unrefused, counts-same, err-unrefused, few-of, refused-performs, refused-unarmed, unrefused}
 use Rattle.salt_engine.proofs.Outcome.{comes-lost, comes-same, stays-same}
 use Rattle.salt_engine.proofs.engine.Engine.ask_line.Goals as goal
-use Rattle.salt_keeps.specs.States.{asked_of}
+use Rattle.law_states.specs.States.{asked_of}
 use Rattle.salt_model.specs.Trace.{Tree}
 use Rattle.salt_scheduler.proofs.SoundFacts.{reads}
 use Rattle.std.proofs.Common.{inl, sym, ◌∙◌}

@@ -1,11 +1,11 @@
 use Rattle.salt_engine.proofs.Broken.{broken-as}
-use Rattle.salt_canonical.specs.Texts.{definition_in}
+use Rattle.law_definitions.specs.Texts.{definition_in}
 use Rattle.salt_engine.proofs.Counted.{cause-lost, counts-broken, same-cause}
 use Rattle.salt_engine.proofs.LineAsked.{few-of}
 use Rattle.salt_engine.proofs.LineDefines.{defined-breaks, defined-lost, defined-performs, defined-unarmed, defines, reads-there}
 use Rattle.salt_engine.proofs.Outcome.{comes-broken, comes-lost, stays-same}
 use Rattle.salt_engine.proofs.engine.Engine.define.Goals as goal
-use Rattle.salt_steps.proofs.Counted.{counts-cause}
+use Rattle.salt_driver.proofs.Counted.{counts-cause}
 use Rattle.salt_storage.specs.Writing.{OfDefinition}
 use Rattle.std.proofs.Common.{ap, inl, subst, ◌∙◌}
 use Rattle.std.specs.Prelude.{Err, List, refl, ℕ}

@@ -4,9 +4,9 @@ use Rattle.salt_engine.proofs.LineChosen.{to-serve}
 use Rattle.salt_engine.proofs.Outcome.{comes-lost, comes-same, comes-unarmed, stays-same}
 use Rattle.salt_engine.proofs.Plain.{first-plain}
 use Rattle.salt_engine.proofs.engine.Engine.follow_line.Goals as goal
-use Rattle.salt_keeps.specs.Readings.{clash_by, items_by}
+use Rattle.law_states.specs.Readings.{clash_by, items_by}
 use Rattle.salt_scheduler.proofs.SoundFacts.{reads}
-use Rattle.salt_steps.proofs.Counted.{counts-cause}
+use Rattle.salt_driver.proofs.Counted.{counts-cause}
 use Rattle.std.proofs.Common.{inl}
 
 pub first_of-requires : goal.first_of-requires

@@ -3,8 +3,8 @@ use Rattle.salt_engine.proofs.LineChosen.{to-serve}
 use Rattle.salt_engine.proofs.Outcome.{comes-lost, comes-same, comes-unarmed, not-ok, stays-same}
 use Rattle.salt_engine.proofs.Plain.{go-plain}
 use Rattle.salt_engine.proofs.engine.Engine.turn_in_line.Goals as goal
-use Rattle.salt_keeps.specs.Readings.{clash_by}
-use Rattle.salt_keeps.specs.States.{turned_to}
+use Rattle.law_states.specs.Readings.{clash_by}
+use Rattle.law_states.specs.States.{turned_to}
 use Rattle.salt_scheduler.proofs.SoundFacts.{reads}
 use Rattle.std.proofs.Common.{inl}
 

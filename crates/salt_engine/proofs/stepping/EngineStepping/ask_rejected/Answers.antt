@@ -11,7 +11,7 @@ use Rattle.salt_engine.specs.Standing.{IsGoingStage}
 use Rattle.salt_engine.specs.Stored.{Stored}
 use Rattle.salt_model.specs.Trace.{Rejected}
 use Rattle.salt_scheduler.specs.declared.scheduler.Scheduler.{Scheduler}
-use Rattle.salt_steps.proofs.Counted.{counts-cause}
+use Rattle.salt_driver.proofs.Counted.{counts-cause}
 use Rattle.std.proofs.Common.{inl, refl, subst, sym, ◌∙◌}
 use Rattle.std.proofs.lemmas.Result.{err_from_is_err_and}
 use Rattle.std.specs.Prelude.{None, []}

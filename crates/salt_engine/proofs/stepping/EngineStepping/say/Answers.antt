@@ -7,7 +7,7 @@ use Rattle.salt_engine.proofs.Outcome.{when-err, when-ok}
 use Rattle.salt_engine.proofs.Stages.{seen-at, serves-now}
 use Rattle.salt_engine.proofs.stepping.EngineStepping.say.Goals as goal
 use Rattle.salt_engine.specs.Standing.{IsGoingStage}
-use Rattle.salt_steps.proofs.Counted.{counts-cause}
+use Rattle.salt_driver.proofs.Counted.{counts-cause}
 use Rattle.std.proofs.Common.{[], refl, subst, sym, ◌∙◌}
 use Rattle.std.proofs.lemmas.Result.{IfErr-weaker, IfOk-weaker, err_from_is_err_and}
 

@@ -5,7 +5,7 @@ use Rattle.salt_engine.proofs.Outcome.{when-err, when-ok}
 use Rattle.salt_engine.proofs.Stages.{seen-at, serves-now}
 use Rattle.salt_engine.proofs.stepping.EngineStepping.turn.Goals as goal
 use Rattle.salt_engine.specs.Standing.{IsGoingStage}
-use Rattle.salt_steps.proofs.Counted.{counts-cause}
+use Rattle.salt_driver.proofs.Counted.{counts-cause}
 use Rattle.std.proofs.Common.{inr, subst, sym, ◌∙◌}
 use Rattle.std.proofs.lemmas.Result.{IfErr-weaker, IfOk-weaker}
 use Rattle.std.specs.Prelude.{None}

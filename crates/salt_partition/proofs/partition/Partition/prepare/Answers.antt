@@ -2,7 +2,7 @@ use Rattle.salt_bytes.specs.Changes.{are_in_order}
 use Rattle.salt_bytes.specs.Partition.{prepared_in, spell_prepared}
 use Rattle.salt_bytes.specs.Spellable.{Every}
 use Rattle.salt_disk.specs.Disks.{EachImage}
-use Rattle.salt_entries.specs.Entries.{IsPut}
+use Rattle.salt_codec.specs.Entries.{IsPut}
 use Rattle.salt_gatelog.specs.Log.{IsBeforeOrWith, IsLog}
 use Rattle.salt_partition.proofs.Standing.{entries_stand, with_unit}
 use Rattle.salt_partition.proofs.Steps.{on_ok}

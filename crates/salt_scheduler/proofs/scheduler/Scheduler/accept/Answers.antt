@@ -1,6 +1,6 @@
 use Rattle.salt_scheduler.proofs.scheduler.Scheduler.accept.Goals as goal
 use Rattle.std.specs.Prelude.{refl}
-use Rattle.salt_keeps.specs.UnitFacts.{facts_in}
+use Rattle.law_states.specs.UnitFacts.{facts_in}
 use Rattle.salt_scheduler.proofs.BasesDone.{accept-gives}
 use Rattle.salt_model.specs.declared.events.Event.TheVariants.{Accepted}
 

@@ -2,9 +2,9 @@ use Rattle.salt_ast.specs.declared.lines.Act.{Act}
 use Rattle.salt_scheduler.proofs.Done.{brings-same, brings-told}
 use Rattle.salt_scheduler.proofs.LinesDone.{does-alone, does-within, name-told, named-so, none-so, rolls-back}
 use Rattle.salt_scheduler.proofs.scheduler.Scheduler.act_of.Goals as goal
-use Rattle.salt_keeps.specs.OpenUnits.{belongs_to_session, unit_of_session}
-use Rattle.salt_keeps.specs.Readings.{clash_by}
-use Rattle.salt_keeps.specs.Told.{act_in, commits_in, turn_of_in}
+use Rattle.law_states.specs.OpenUnits.{belongs_to_session, unit_of_session}
+use Rattle.law_states.specs.Readings.{clash_by}
+use Rattle.law_states.specs.Told.{act_in, commits_in, turn_of_in}
 use Rattle.std.proofs.Common.{ap, sym, ◌∙◌}
 use Rattle.std.proofs.lemmas.Result.{IfOk-weaker}
 use Rattle.std.specs.Option.{option_copied}

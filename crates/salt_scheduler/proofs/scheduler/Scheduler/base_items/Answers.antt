@@ -1,7 +1,7 @@
 use Rattle.salt_scheduler.proofs.ShownDone.{every-at}
 use Rattle.salt_scheduler.proofs.scheduler.Scheduler.base_items.Goals as goal
-use Rattle.salt_keeps.specs.Members.{In}
-use Rattle.salt_keeps.specs.Readings.{base_item_by, under_way_by}
+use Rattle.law_states.specs.Members.{In}
+use Rattle.law_states.specs.Readings.{base_item_by, under_way_by}
 use Rattle.std.proofs.Common.{[], sym, ◌++◌, ◌∙◌, ◌∷◌}
 use Rattle.std.proofs.lemmas.List.{map_more}
 

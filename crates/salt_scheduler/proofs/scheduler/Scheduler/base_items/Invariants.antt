@@ -1,8 +1,8 @@
 use Rattle.salt_scheduler.proofs.scheduler.Scheduler.base_items.Given as goal
 use Rattle.salt_scheduler.specs.Standing.{Stands}
-use Rattle.salt_keeps.specs.Members.{In}
-use Rattle.salt_keeps.specs.Readings.{base_item_by, under_way_by}
-use Rattle.salt_keeps.specs.States.{State}
+use Rattle.law_states.specs.Members.{In}
+use Rattle.law_states.specs.Readings.{base_item_by, under_way_by}
+use Rattle.law_states.specs.States.{State}
 use Rattle.salt_model.specs.Words.{Every}
 use Rattle.std.proofs.Common.{take, ◌≡◌}
 use Rattle.std.specs.Prelude.{map}

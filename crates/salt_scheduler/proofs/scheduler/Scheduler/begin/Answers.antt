@@ -1,6 +1,6 @@
 use Rattle.salt_scheduler.proofs.scheduler.Scheduler.begin.Goals as goal
 use Rattle.std.specs.Prelude.{Some}
-use Rattle.salt_keeps.specs.Told.{next_unit}
+use Rattle.law_states.specs.Told.{next_unit}
 use Rattle.salt_model.specs.declared.events.Event.TheVariants.{Began}
 use Rattle.salt_model.specs.Turns.{is_statement_line}
 use Rattle.salt_scheduler.proofs.BeginDone.{begin-gives, follows-alone, follows-turn}

@@ -3,11 +3,11 @@ use Rattle.std.specs.Prelude.{Some, refl}
 use Rattle.salt_model.specs.Kept.{conts_branched}
 use Rattle.salt_model.specs.Units.{program_begun}
 use Rattle.salt_model.specs.declared.events.Event.TheVariants.{Ended}
-use Rattle.salt_keeps.specs.Told.{next_decision}
+use Rattle.law_states.specs.Told.{next_decision}
 use Rattle.salt_model.specs.declared.events.End.TheVariants.{Branched}
 use Rattle.salt_model.specs.declared.events.End.{End}
 use Rattle.salt_books.proofs.Named.{rising}
-use Rattle.salt_keeps.specs.UnitFacts.{facts_in}
+use Rattle.law_states.specs.UnitFacts.{facts_in}
 use Rattle.salt_scheduler.proofs.EndsDone.{branch-gives, ended-first}
 use Rattle.std.proofs.Common.{ap, ◌∙◌}
 

@@ -1,6 +1,6 @@
 use Rattle.salt_scheduler.proofs.scheduler.Scheduler.commit_at_end.Goals as goal
 use Rattle.std.proofs.Common.{sym}
-use Rattle.salt_keeps.specs.OpenUnits.{unit_named}
+use Rattle.law_states.specs.OpenUnits.{unit_named}
 use Rattle.salt_scheduler.proofs.EndsDone.{commit-brings, done-at-end}
 use Rattle.salt_books.specs.Books.{seen}
 

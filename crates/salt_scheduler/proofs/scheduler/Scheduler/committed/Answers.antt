@@ -1,8 +1,8 @@
 use Rattle.salt_scheduler.proofs.scheduler.Scheduler.committed.Goals as goal
 use Rattle.salt_books.specs.Books.{seen}
-use Rattle.salt_keeps.specs.OpenUnits.{OpenUnit}
-use Rattle.salt_keeps.specs.Told.{next_decision}
-use Rattle.salt_keeps.specs.UnitFacts.{facts_in}
+use Rattle.law_states.specs.OpenUnits.{OpenUnit}
+use Rattle.law_states.specs.Told.{next_decision}
+use Rattle.law_states.specs.UnitFacts.{facts_in}
 use Rattle.salt_model.specs.Kept.{conts_committed}
 use Rattle.salt_model.specs.Units.{program_of_kind}
 use Rattle.salt_model.specs.declared.events.End.TheVariants.{Committed}
@@ -10,7 +10,7 @@ use Rattle.salt_model.specs.declared.events.Event.TheVariants.{Ended}
 use Rattle.salt_scheduler.proofs.EndsDone.{commit-gives, ended-base, ended-places, one-found}
 use Rattle.salt_books.proofs.Named.{rising}
 use Rattle.salt_scheduler.specs.Follows.{behind_commit}
-use Rattle.salt_watch.specs.Watched.{place_of}
+use Rattle.salt_conflicts.specs.Watched.{place_of}
 use Rattle.std.proofs.Common.{ap, sym, ◌∙◌}
 use Rattle.std.specs.Prelude.{Some, map, refl, ◌≡◌}
 

@@ -1,6 +1,6 @@
 use Rattle.salt_scheduler.proofs.scheduler.Scheduler.count_under_way.Goals as goal
-use Rattle.salt_keeps.specs.KeptWaits.{AreDistinct}
-use Rattle.salt_model.specs.Words.{in_order}
+use Rattle.law_states.specs.KeptWaits.{AreDistinct}
+use Rattle.salt_values.specs.Id.{in_order}
 use Rattle.std.proofs.Common.{subst, sym, ◌++◌, ◌∙◌}
 use Rattle.std.proofs.lemmas.Result.{IfOk-weaker}
 use Rattle.std.specs.Prelude.{length}

@@ -6,7 +6,7 @@ use Rattle.salt_books.proofs.Named.{rising}
 use Rattle.salt_model.specs.declared.events.Event.TheVariants.{Did}
 use Rattle.salt_model.specs.declared.locks.Reach.{Reach}
 use Rattle.salt_scheduler.proofs.ActDone.{act-gives, did-base, did-family, did-reach}
-use Rattle.salt_keeps.specs.UnitFacts.{facts_in}
+use Rattle.law_states.specs.UnitFacts.{facts_in}
 use Rattle.std.proofs.Common.{ap, subst, sym, ◌∙◌}
 use Rattle.salt_scheduler.specs.declared.follow.Follow.TheVariants.{Done}
 

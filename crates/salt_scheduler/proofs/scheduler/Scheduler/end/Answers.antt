@@ -1,13 +1,13 @@
 use Rattle.salt_scheduler.proofs.scheduler.Scheduler.end.Goals as goal
 use Rattle.std.specs.Prelude.{refl}
-use Rattle.salt_keeps.specs.UnitFacts.{facts_in}
+use Rattle.law_states.specs.UnitFacts.{facts_in}
 use Rattle.salt_books.specs.Books.{seen}
 use Rattle.salt_books.proofs.Named.{rising}
-use Rattle.salt_keeps.specs.Steps.{units_after}
+use Rattle.law_states.specs.Steps.{units_after}
 use Rattle.salt_model.specs.declared.events.Event.TheVariants.{Ended}
 use Rattle.salt_scheduler.proofs.Done.{state_by, under-way-at}
 use Rattle.salt_scheduler.proofs.UnderWay.{under-way}
-use Rattle.salt_keeps.specs.Readings.{first_parts}
+use Rattle.law_states.specs.Readings.{first_parts}
 use Rattle.std.proofs.Common.{sym, ◌∙◌}
 use Rattle.salt_scheduler.proofs.EndsDone.{books-unended, end-gives, ended-first, ended-first-none, have-named, undecided-free}
 

@@ -2,7 +2,7 @@ use Rattle.salt_scheduler.proofs.scheduler.Scheduler.fail.Goals as goal
 use Rattle.salt_books.specs.Books.{seen}
 use Rattle.salt_scheduler.proofs.EndsDone.{branch-brings, done-failed}
 use Rattle.salt_scheduler.proofs.Done.{brings-same, brings-told}
-use Rattle.salt_keeps.specs.OpenUnits.{OpenUnit}
+use Rattle.law_states.specs.OpenUnits.{OpenUnit}
 use Rattle.std.proofs.Common.{sym}
 use Rattle.std.specs.Prelude.{refl}
 

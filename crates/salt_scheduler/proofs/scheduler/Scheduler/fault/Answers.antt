@@ -1,7 +1,7 @@
 use Rattle.salt_scheduler.proofs.Refusing.{judged}
 use Rattle.salt_scheduler.proofs.scheduler.Scheduler.fault.Goals as goal
-use Rattle.salt_known.specs.Known.{IsKnown}
-use Rattle.salt_known.specs.declared.known.Known.{Known}
+use Rattle.salt_books.specs.Known.{IsKnown}
+use Rattle.salt_books.specs.declared.known.Known.{Known}
 use Rattle.std.proofs.Common.{subst, sym, ◌∙◌}
 use Rattle.std.proofs.lemmas.Result.{IfOk-weaker}
 

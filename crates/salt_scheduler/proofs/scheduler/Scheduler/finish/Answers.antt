@@ -1,7 +1,7 @@
-use Rattle.salt_known.specs.declared.known.Known.{Known}
+use Rattle.salt_books.specs.declared.known.Known.{Known}
 use Rattle.salt_scheduler.proofs.scheduler.Scheduler.finish.Goals as goal
 use Rattle.salt_scheduler.proofs.EndsDone.{copied-none}
-use Rattle.salt_known.specs.Known.{IsKnown}
+use Rattle.salt_books.specs.Known.{IsKnown}
 use Rattle.salt_model.specs.Kept.{cont_of}
 use Rattle.salt_scheduler.proofs.BasesDone.{finish-brings}
 use Rattle.std.proofs.Common.{subst, sym}

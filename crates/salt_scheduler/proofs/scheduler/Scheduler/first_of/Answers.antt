@@ -1,7 +1,7 @@
 use Rattle.salt_scheduler.proofs.Done.{brings-same, brings-told}
 use Rattle.salt_scheduler.proofs.scheduler.Scheduler.first_of.Goals as goal
-use Rattle.salt_keeps.specs.Readings.{clash_by, items_by}
-use Rattle.salt_keeps.specs.Told.{line_in}
+use Rattle.law_states.specs.Readings.{clash_by, items_by}
+use Rattle.law_states.specs.Told.{line_in}
 use Rattle.std.proofs.Common.{ap}
 use Rattle.std.proofs.lemmas.Result.{IfOk-weaker}
 use Rattle.std.specs.Prelude.{refl}

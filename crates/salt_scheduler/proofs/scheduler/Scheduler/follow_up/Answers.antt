@@ -1,7 +1,7 @@
 use Rattle.salt_scheduler.proofs.scheduler.Scheduler.follow_up.Goals as goal
 use Rattle.salt_scheduler.proofs.SettleDone.{behind-at}
 use Rattle.salt_scheduler.specs.Follows.{event_of}
-use Rattle.salt_keeps.specs.Readings.{beside_by}
+use Rattle.law_states.specs.Readings.{beside_by}
 use Rattle.salt_scheduler.proofs.Done.{brings-same, brings-told}
 use Rattle.std.proofs.lemmas.Result.{IfOk-weaker}
 use Rattle.std.proofs.Common.{ap}

@@ -1,9 +1,9 @@
 use Rattle.salt_scheduler.proofs.Done.{brings-same, brings-told}
 use Rattle.salt_scheduler.proofs.LinesDone.{goes-later, goes-within, name-told, named-so, none-so, known-lent}
 use Rattle.salt_scheduler.proofs.scheduler.Scheduler.go.Goals as goal
-use Rattle.salt_keeps.specs.OpenUnits.{belongs_to_program, unit_of_program}
-use Rattle.salt_keeps.specs.Readings.{clash_by}
-use Rattle.salt_keeps.specs.Told.{turn_of_in}
+use Rattle.law_states.specs.OpenUnits.{belongs_to_program, unit_of_program}
+use Rattle.law_states.specs.Readings.{clash_by}
+use Rattle.law_states.specs.Told.{turn_of_in}
 use Rattle.std.proofs.Common.{ap, sym, ◌∙◌}
 use Rattle.std.proofs.lemmas.Result.{IfOk-weaker}
 use Rattle.std.specs.Option.{option_copied}

@@ -1,7 +1,7 @@
 use Rattle.salt_scheduler.proofs.Done.{brings-same}
 use Rattle.salt_scheduler.proofs.scheduler.Scheduler.go_on_behind.Goals as goal
 use Rattle.salt_books.specs.Ends.{done_of}
-use Rattle.salt_keeps.specs.OpenUnits.{unit_named}
+use Rattle.law_states.specs.OpenUnits.{unit_named}
 use Rattle.std.proofs.Common.{ap}
 use Rattle.std.proofs.lemmas.Result.{IfOk-weaker}
 

@@ -3,10 +3,10 @@ use Rattle.salt_scheduler.proofs.SoundFacts.{never-true}
 use Rattle.std.specs.Prelude.{refl}
 use Rattle.salt_scheduler.proofs.BasesDone.{release-brings}
 use Rattle.salt_model.specs.declared.events.Event.TheVariants.{Released}
-use Rattle.salt_keeps.specs.UnitFacts.{facts_in}
+use Rattle.law_states.specs.UnitFacts.{facts_in}
 use Rattle.salt_scheduler.proofs.Done.{state_by, under-way-at}
 use Rattle.salt_scheduler.proofs.UnderWay.{under-way}
-use Rattle.salt_keeps.specs.Readings.{first_parts}
+use Rattle.law_states.specs.Readings.{first_parts}
 use Rattle.salt_scheduler.specs.declared.follow.Follow.TheVariants.{Release}
 use Rattle.salt_scheduler.proofs.SettleDone.{behind-at}
 

@@ -1,6 +1,6 @@
 use Rattle.salt_scheduler.proofs.scheduler.Scheduler.settle.Goals as goal
 use Rattle.salt_scheduler.proofs.SoundFacts.{waits-apart}
-use Rattle.salt_keeps.specs.Readings.{beside_by}
+use Rattle.law_states.specs.Readings.{beside_by}
 use Rattle.salt_scheduler.proofs.Done.{brings-none, brings-same, brings-told}
 use Rattle.salt_scheduler.proofs.SettleDone.{none-of, settles-nothing, settles-serves, settles-victim}
 use Rattle.std.proofs.lemmas.Result.{IfOk-weaker}

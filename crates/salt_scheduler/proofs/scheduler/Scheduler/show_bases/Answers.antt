@@ -1,7 +1,7 @@
 use Rattle.salt_scheduler.proofs.ShownDone.{every-in, shown}
 use Rattle.salt_scheduler.proofs.scheduler.Scheduler.show_bases.Goals as goal
-use Rattle.salt_keeps.specs.Members.{In}
-use Rattle.salt_keeps.specs.Readings.{base_item_by, under_way_by}
+use Rattle.law_states.specs.Members.{In}
+use Rattle.law_states.specs.Readings.{base_item_by, under_way_by}
 use Rattle.salt_model.specs.Words.{Every}
 use Rattle.std.proofs.Common.{ap, subst, sym, ◌∙◌}
 use Rattle.std.specs.Prelude.{map}

@@ -1,7 +1,7 @@
 use Rattle.salt_scheduler.proofs.ShownDone.{shown}
 use Rattle.salt_scheduler.proofs.scheduler.Scheduler.show_locks.Goals as goal
-use Rattle.salt_keeps.specs.Readings.{locks_by}
-use Rattle.salt_model.specs.Words.{in_order}
+use Rattle.law_states.specs.Readings.{locks_by}
+use Rattle.salt_values.specs.Id.{in_order}
 use Rattle.salt_model.specs.declared.events.Owner.{Owner}
 use Rattle.salt_model.specs.declared.shown.Item.{Item}
 use Rattle.salt_values.specs.declared.id.Id.{Id}

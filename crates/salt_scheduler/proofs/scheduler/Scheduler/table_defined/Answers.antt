@@ -1,7 +1,7 @@
 use Rattle.salt_ast.specs.Texts.{table_text}
 use Rattle.salt_scheduler.proofs.LinesDone.{quiet, table-may}
 use Rattle.salt_scheduler.proofs.scheduler.Scheduler.table_defined.Goals as goal
-use Rattle.salt_keeps.specs.Told.{next_decision}
+use Rattle.law_states.specs.Told.{next_decision}
 use Rattle.salt_model.specs.declared.events.Event.TheVariants.{Defined}
 use Rattle.std.proofs.Common.{◌∙◌}
 use Rattle.std.specs.Prelude.{Some, refl}

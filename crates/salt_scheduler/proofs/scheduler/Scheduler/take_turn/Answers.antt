@@ -1,7 +1,7 @@
 use Rattle.salt_scheduler.proofs.scheduler.Scheduler.take_turn.Goals as goal
 use Rattle.salt_scheduler.proofs.SoundFacts.{never-true}
 use Rattle.std.specs.Prelude.{Some, refl}
-use Rattle.salt_keeps.specs.Readings.{clash_by}
+use Rattle.law_states.specs.Readings.{clash_by}
 use Rattle.std.proofs.Common.{ap, ◌∙◌}
 use Rattle.salt_scheduler.proofs.Done.{brings-same, brings-told}
 use Rattle.salt_scheduler.proofs.ActDone.{act-brings, asked-at, asked-name, asks-does, asks-waits, clashes-told, have-asked, turn-asked}

@@ -3,7 +3,7 @@ use Rattle.std.specs.Prelude.{refl}
 use Rattle.salt_books.proofs.Named.{rising}
 use Rattle.salt_model.specs.Waiting.{statement_of_line}
 use Rattle.salt_model.specs.declared.events.Event.TheVariants.{Waits}
-use Rattle.salt_keeps.specs.UnitFacts.{asker_in, facts_in}
+use Rattle.law_states.specs.UnitFacts.{asker_in, facts_in}
 use Rattle.std.proofs.Common.{ap, sym, ◌∙◌}
 use Rattle.salt_scheduler.proofs.ActDone.{wait-gives, waits-asks, waits-waiter}
 

@@ -1,5 +1,5 @@
 use Rattle.salt_eval.specs.Effects.{IsEffect}
-use Rattle.salt_keeps.specs.Overlays.{AreInOrder, Edit, edits_of, put_all, with_edits}
+use Rattle.law_states.specs.Overlays.{AreInOrder, Edit, edits_of, put_all, with_edits}
 use Rattle.salt_model.specs.Statements.{outcome_of}
 use Rattle.salt_model.specs.Words.{Every}
 use Rattle.salt_model.specs.declared.vars.Binding.{Binding}

@@ -1,6 +1,0 @@
-use Rattle.device_bench.proofs.part.gotten.Given as goal
-use Rattle.salt_disk.specs.MemDisks.{seen}
-use Rattle.salt_partition.specs.Partitions.{Stands}
-
-abbrev pub invariant-loop-time : goal.invariant-loop-time
-invariant-loop-time l = Stands (seen l.disks) l.part

@@ -1,6 +1,0 @@
-use Rattle.device_bench.proofs.part.unit_changes.Given as goal
-use Rattle.salt_bytes.specs.Spellable.{Every}
-use Rattle.salt_entries.specs.Entries.{HasRow}
-
-abbrev pub invariant-loop-i : goal.invariant-loop-i
-invariant-loop-i l = Every HasRow l.changes.items

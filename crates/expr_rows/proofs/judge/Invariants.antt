@@ -1,5 +1,0 @@
-use Rattle.expr_rows.proofs.judge.Given as goal
-use Rattle.salt_io.specs.Lines.{IsReadingOf}
-
-abbrev pub invariant-loop : goal.invariant-loop
-invariant-loop g l = IsReadingOf l.lines (g.S.Source.left l.source)

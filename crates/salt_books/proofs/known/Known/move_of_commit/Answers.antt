@@ -1,0 +1,10 @@
+use Rattle.salt_books.proofs.known.Known.move_of_commit.Goals as goal
+use Rattle.salt_model.specs.Kept.{conts_committed}
+use Rattle.std.proofs.Common.{Some, ap, ◌+◌, ◌∙◌}
+use Rattle.std.proofs.lemmas.Result.{IfOk-weaker}
+
+pub returns : goal.returns
+returns c = IfOk-weaker c.move_of_commit.result _ _ (λ made f k same at can.
+    let number = c.in_ok-number.ensures ∙ ap (λ n. n + 1) same.decisions in
+    f k same.catalogue (c.as_slice.ensures ∙ same.conts) number at can
+    ∙ ap (λ n. Some (conts_committed k n c.args.kind.now c.args.vars.now)) number) c.move_of_commit.ensures

@@ -1,0 +1,8 @@
+use Rattle.law_states.specs.KeptWaits.{served_in}
+use Rattle.salt_locks.specs.Tables.{locks_in}
+use Rattle.salt_conflicts.proofs.served.served.Given as goal
+use Rattle.salt_conflicts.specs.Waiters.{askers}
+use Rattle.std.proofs.Common.{drop, ◌≡◌}
+
+abbrev pub invariant-loop-waiter : goal.invariant-loop-waiter
+invariant-loop-waiter l = served_in (locks_in l.locks) (askers l.waits) ≡ served_in (locks_in l.locks) (askers (drop l.waiter-index l.waits))

@@ -1,0 +1,15 @@
+use Rattle.salt_deps.specs.Kept.{dependencies}
+use Rattle.salt_conflicts.specs.declared.watching.Watching.{Watching}
+use Rattle.salt_model.specs.declared.events.Event.TheVariants.{Accepted}
+use Rattle.salt_conflicts.proofs.Goes.{accept-leaves, goes, kept, plus-none}
+use Rattle.salt_conflicts.proofs.watching.Watching.accept.Goals as goal
+use Rattle.std.proofs.lemmas.Result.{on_ok_weaker}
+
+pub returns : goal.returns
+returns c =
+    let old = c.args.self.now in
+    let new : Watching = record { alloc = old.alloc; locks = old.locks; taken = old.taken; waits = old.waits; programs = c.insert_id.new.ids; deps = old.deps } in
+    let d = dependencies old.deps in
+    on_ok_weaker c.insert_id.result
+    (λ h w f s. goes d old new w f (Accepted c.args.base) s (kept old.locks) (plus-none old.taken) s.waits h (accept-leaves f c.args.base d))
+    c.insert_id.ensures

@@ -1,0 +1,15 @@
+use Rattle.salt_conflicts.proofs.Told.{items-told}
+use Rattle.salt_conflicts.proofs.watching.Watching.lock_items.Goals as goal
+use Rattle.salt_conflicts.specs.Shown.{owned_by_bases, owned_by_units}
+use Rattle.std.proofs.Common.{ap, ◌++◌, ◌∙◌}
+use Rattle.std.proofs.lemmas.Result.{IfOk-weaker}
+
+pub returns : goal.returns
+returns c =
+    let x = c.args.self.now in
+    IfOk-weaker c.lock_items.result _ _
+    (λ items h w r s.
+    h
+    ∙ (ap (λ bs. owned_by_bases x.locks bs ++ owned_by_units x.locks c.args.units.now) c.deref.ensures.value
+    ∙ items-told w r x.locks x.programs.items c.args.units.now s.table s.programs))
+    c.lock_items.ensures

@@ -1,0 +1,14 @@
+use Rattle.salt_deps.specs.Kept.{dependencies}
+use Rattle.law_states.specs.DependencyCalls.{AreSame}
+use Rattle.salt_conflicts.proofs.Same.{itself}
+use Rattle.salt_conflicts.proofs.watching.Watching.new.Goals as goal
+use Rattle.std.proofs.Common.{refl, subst, sym}
+
+pub returns : goal.returns
+returns c = record {
+  table = sym c.new.ensures;
+  taken = refl;
+  waits = sym c.new-2.ensures.items;
+  programs = refl;
+  dependencies = subst (AreSame (dependencies c.new-3.result)) c.new-3.ensures (itself (dependencies c.new-3.result));
+}

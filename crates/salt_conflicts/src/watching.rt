@@ -1,0 +1,274 @@
+//! Locks, waits, unreleased programs, and who reads from whom.
+
+ghost use Rattle.salt_ast.specs.declared.trees.Statement.{Statement};
+ghost use Rattle.salt_deps.specs.Kept.{dependencies};
+ghost use Rattle.law_states.specs.DependencyCalls.{IsCommitted, WroteAll};
+ghost use Rattle.law_states.specs.KeptLocks.{clash_in};
+ghost use Rattle.law_states.specs.KeptSources.{no_dependencies};
+ghost use Rattle.law_states.specs.KeptWaits.{Asker, AreDistinct, served_in, victim_in};
+ghost use Rattle.law_states.specs.Readings.{Reading, locks_by, locks_in};
+ghost use Rattle.law_states.specs.UnitFacts.{UnitFacts};
+ghost use Rattle.law_states.specs.WatchSteps.{base_by, first_by};
+ghost use Rattle.law_states.specs.Watches.{Watch};
+ghost use Rattle.salt_model.specs.Locks.{family_of, owners_of};
+ghost use Rattle.salt_values.specs.Id.{in_order};
+ghost use Rattle.salt_model.specs.declared.events.Answer.{Answer};
+ghost use Rattle.salt_model.specs.declared.events.End.{End};
+ghost use Rattle.salt_model.specs.declared.events.End.TheVariants.{Committed};
+ghost use Rattle.salt_model.specs.declared.events.Event.TheVariants.{Accepted, Did, Ended, Released, Waits};
+ghost use Rattle.salt_model.specs.declared.events.Owner.{Owner};
+ghost use Rattle.salt_model.specs.declared.shown.Item.{Item};
+ghost use Rattle.salt_conflicts.specs.Calls.{HasGivenUp, HasReached, HasReadBy, handed_over, is_unreleased};
+ghost use Rattle.salt_conflicts.specs.Waiters.{waiter_of};
+ghost use Rattle.salt_conflicts.specs.Watched.{GoesBy, IsFinishing, IsWatch, place_of};
+ghost use Rattle.std.specs.List.{filter, flat_map};
+ghost use Rattle.std.specs.Option.{option_copied};
+ghost use Rattle.std.specs.Prelude.{IfOk, List, OnOk, [], map, ℕ, ◌++◌, ◌∷◌, ◌≡◌};
+
+use crate::graph::wait_graph;
+use crate::served::{clashing, served};
+use crate::shown::lock_items;
+use crate::waiters::{Waiter, leave};
+use salt_deps::Deps;
+use salt_values::{drop_ids, insert_id, next_number};
+use salt_locks::LockTable;
+use salt_model::{Family, Items, Owner, Owners, Reach};
+use salt_values::{Change, Id, Ids};
+use salt_waits::victim;
+use std::alloc::{AllocError, Global};
+
+/// The locks that are held and how many were taken, the waiting units, the longest first, the accepted programs that are not
+/// released, in order of their names, and who wrote, read and has finished. A call that wants memory may leave it anywhere.
+pub struct Watching {
+    alloc: Global,
+    locks: LockTable,
+    taken: u64,
+    waits: Vec<Waiter>,
+    programs: Vec<Id>,
+    deps: Deps,
+}
+
+impl Drop for Watching {
+    fn drop(self) {
+        let Watching {
+            alloc: _alloc,
+            locks: _locks,
+            taken: _taken,
+            waits: _waits,
+            programs: _programs,
+            deps: _deps,
+        } = self;
+    }
+}
+
+/// Locks of these programs go.
+fn release(locks: &mut LockTable, bases: &[Id])
+    ensures { locks.new ≡ filter (is_unreleased bases.now) locks.old }
+{
+    for base in bases {
+        locks.drop_owner(Owner::Base(*base));
+    }
+}
+
+/// A unit that commits hands its locks over to its program; those of an ACID unit go.
+fn hand_over(locks: &mut LockTable, unit: Id, base: Option<Id>)
+    ensures { locks.new ≡ handed_over unit base locks.old }
+{
+    match base {
+        Some(base) => locks.to_saline(unit, base),
+        None => locks.drop_owner(Owner::Unit(unit)),
+    }
+}
+
+/// A unit of the program, or an ACID one, that commits has changed these places.
+fn wrote(deps: &mut Deps, base: Option<Id>, changes: &[Change]) -> Result<(), AllocError>
+    ensures { OnOk result (WroteAll base (map place_of changes.now) (dependencies deps.old) (dependencies deps.new)) }
+{
+    for change in changes {
+        deps.wrote(base, change.table, &change.key)?;
+    }
+    Ok(())
+}
+
+/// A program's unit reads what is reached; an ACID unit has no sources.
+fn read(deps: &mut Deps, base: Option<Id>, reach: &Reach) -> Result<(), AllocError>
+    ensures { OnOk result (HasReadBy base reach.now (dependencies deps.old) (dependencies deps.new)) }
+{
+    match base {
+        Some(base) => deps.read(base, reach.table, &reach.range),
+        None => Ok(()),
+    }
+}
+
+/// A program whose first part ends without a commit reads nothing.
+fn give_up(deps: &mut Deps, first: Option<Id>)
+    ensures { HasGivenUp first (dependencies deps.old) (dependencies deps.new) }
+{
+    match first {
+        Some(base) => deps.abandon(base),
+        None => {}
+    }
+}
+
+impl Watching {
+    /// Nothing is held, waits or was read, and these programs, in order of their names, are not released.
+    pub fn new(alloc: Global, programs: Vec<Id>) -> Watching
+        ensures { IsWatch result (record { table = []; taken = 0; waits = []; programs = programs.items; dependencies = no_dependencies }) }
+    {
+        Watching {
+            alloc,
+            locks: LockTable::new(alloc),
+            taken: 0,
+            waits: Vec::new(alloc),
+            programs,
+            deps: Deps::new(alloc),
+        }
+    }
+
+    /// What a unit's statement reached is locked with the next number, and read by its program.
+    fn reached(
+        &mut self,
+        unit: Id,
+        base: Option<Id>,
+        family: Family,
+        reach: &Reach,
+    ) -> Result<(), AllocError>
+        ensures { OnOk result (HasReached unit base family reach.now self.old self.new) }
+    {
+        let next = next_number(self.taken)?;
+        self.locks
+            .grant(self.alloc, self.taken, Owner::Unit(unit), family, reach)?;
+        self.taken = next;
+        read(&mut self.deps, base, reach)
+    }
+
+    /// A unit's statement, that clashed with nothing, is done: it waits no more, and what was reached is locked and read by its
+    /// program. Want of memory also where no greater number of a lock is left.
+    pub fn did(
+        &mut self,
+        unit: Id,
+        base: Option<Id>,
+        family: Family,
+        reach: Option<&Reach>,
+    ) -> Result<(), AllocError>
+        ensures { OnOk result ((w : Watch) (f : UnitFacts) (st : Statement) (a : Answer) → IsWatch self.old w → base_by f ≡ base →
+            family_of f.kind ≡ family → f.reach ≡ option_copied reach.entry → GoesBy f (Did unit st a) w self.new) }
+    {
+        leave(&mut self.waits, unit);
+        match reach {
+            Some(reach) => self.reached(unit, base, family, reach),
+            None => Ok(()),
+        }
+    }
+
+    /// A unit waits from now on.
+    pub fn wait(&mut self, waiter: Waiter) -> Result<(), AllocError>
+        ensures { OnOk result ((w : Watch) (f : UnitFacts) (a : Asker) (owners : List Owner) → IsWatch self.old w → f.asks ≡ a ∷ [] →
+            waiter_of a ≡ waiter → GoesBy f (Waits waiter.unit owners) w self.new) }
+    {
+        leave(&mut self.waits, waiter.unit);
+        self.waits.push(waiter)?;
+        Ok(())
+    }
+
+    /// A unit commits these changes: it waits no more, its locks are its program's, and that is the last writer of the changed
+    /// keys. Of an ACID unit locks go, and the keys have no last writer.
+    pub fn commit(
+        &mut self,
+        unit: Id,
+        base: Option<Id>,
+        changes: &[Change],
+    ) -> Result<(), AllocError>
+        ensures { OnOk result ((w : Watch) (f : UnitFacts) (n : ℕ) → IsWatch self.old w → base_by f ≡ base →
+            map (λ e. e.0) f.changes ≡ map place_of changes.now → GoesBy f (Ended unit (Committed n)) w self.new) }
+    {
+        leave(&mut self.waits, unit);
+        hand_over(&mut self.locks, unit, base);
+        wrote(&mut self.deps, base, changes)
+    }
+
+    /// A unit ends without a commit: it waits no more, and its locks go. The program whose first part it is, if any, is given up.
+    pub fn end(&mut self, unit: Id, first: Option<Id>)
+        ensures { (w : Watch) (f : UnitFacts) (end : End) → IsWatch self.old w → (IsCommitted end → ⊥) → first_by f ≡ first →
+            GoesBy f (Ended unit end) w self.new }
+    {
+        leave(&mut self.waits, unit);
+        self.locks.drop_owner(Owner::Unit(unit));
+        give_up(&mut self.deps, first);
+    }
+
+    /// A program is accepted.
+    pub fn accept(&mut self, base: Id) -> Result<(), AllocError>
+        ensures { OnOk result ((w : Watch) (f : UnitFacts) → IsWatch self.old w → GoesBy f (Accepted base) w self.new) }
+    {
+        insert_id(&mut self.programs, base)
+    }
+
+    /// A program has come to its end: those that are released by this, in order of their names. They are forgotten, and their locks
+    /// go; where there is none, only the program's mark is set.
+    pub fn finish(&mut self, base: Id) -> Result<Ids, AllocError>
+        ensures due { IfOk result (λ due. (w : Watch) (r : Reading w) → IsFinishing base self.old w → due ≡ in_order r.due) }
+        ensures none { IfOk result (λ due. (w : Watch) → IsFinishing base self.old w → due ≡ [] → IsWatch self.new w) }
+        ensures released { IfOk result (λ due. (w : Watch) (f : UnitFacts) → IsFinishing base self.old w → GoesBy f (Released due) w self.new) }
+    {
+        let due = self.deps.finished(base)?;
+        release(&mut self.locks, due.as_slice());
+        drop_ids(&mut self.programs, due.as_slice());
+        Ok(due)
+    }
+
+    /// The owners whose locks clash with what a unit asks, units before programs, each in order of their names.
+    pub fn clashing(
+        &self,
+        unit: Id,
+        family: Family,
+        reach: Option<&Reach>,
+    ) -> Result<Owners, AllocError>
+        ensures { IfOk result (λ owners. (w : Watch) → IsWatch self.now w →
+            owners ≡ owners_of (clash_in (Owner.Unit unit) family (option_copied reach.entry) (locks_in w))) }
+    {
+        clashing(self.alloc, &self.locks, unit, family, reach)
+    }
+
+    /// The unit that has waited longest of those that clash with nothing any more.
+    pub fn served(&self) -> Result<Option<Id>, AllocError>
+        ensures { IfOk result (λ unit. (w : Watch) → IsWatch self.now w → unit ≡ served_in (locks_in w) w.waits) }
+    {
+        served(self.alloc, &self.locks, &self.waits)
+    }
+
+    /// The unit to be given up where units wait for each other in a circle. That no unit waits twice comes from the law
+    /// `waiting_units_are_distinct`.
+    pub fn victim(&self) -> Result<Option<Id>, AllocError>
+        ensures { IfOk result (λ unit. (w : Watch) (r : Reading w) → IsWatch self.now w → AreDistinct (map (λ (a : Asker). a.unit) w.waits) →
+            unit ≡ victim_in w.dependencies (locks_in w) w.waits r.sources) }
+    {
+        if self.waits.is_empty() {
+            return Ok(None);
+        }
+        let graph = wait_graph(self.alloc, &self.locks, &self.deps, &self.waits)?;
+        victim(self.alloc, &graph)
+    }
+
+    /// The locks of the unreleased programs and then those of these units, of each owner in the order taken.
+    pub fn lock_items(&self, units: &[Id]) -> Result<Items, AllocError>
+        ensures { IfOk result (λ items. (w : Watch) (r : Reading w) → IsWatch self.now w → items ≡
+            map Item.Lock (flat_map (λ b. locks_by r (Owner.Base b)) w.programs) ++ map Item.Lock (flat_map (λ u. locks_by r (Owner.Unit u)) units.now)) }
+    {
+        lock_items(self.alloc, &self.locks, &self.programs, units)
+    }
+
+    /// The accepted programs that are not released, in order of their names.
+    pub fn programs(&self) -> &[Id]
+        ensures { (w : Watch) → IsWatch self.now w → result.now ≡ w.programs }
+    {
+        &self.programs
+    }
+
+    /// Whether the program has come to its end and is not yet released.
+    pub fn is_finished(&self, base: Id) -> bool
+        ensures { (w : Watch) → IsWatch self.now w → result ≡ w.dependencies.finished base }
+    {
+        self.deps.is_finished(base)
+    }
+}

@@ -1,6 +1,0 @@
-use Rattle.salt_drain.proofs.Following.{find_cont}
-use Rattle.salt_drain.proofs.moves.cont_in.Goals as goal
-use Rattle.std.proofs.Common.{◌∙◌}
-
-pub returns : goal.returns
-returns c = c.first_of.ensures ∙ find_cont c.args.base c.args.conts.now

@@ -1,0 +1,135 @@
+//! What is done once the devices have given its rows, or have decided it.
+
+ghost use Rattle.salt_ast.specs.ProgramTexts.{program_text};
+ghost use Rattle.salt_ast.specs.Texts.{table_text};
+ghost use Rattle.salt_ast.specs.declared.lines.Line.TheVariants.{Program, Table};
+ghost use Rattle.salt_books.specs.Asking.{IsAskedBy};
+ghost use Rattle.salt_books.specs.Books.{AreLoaded, HaveUnit};
+ghost use Rattle.salt_eval.specs.Scans.{IsKeyed};
+ghost use Rattle.salt_eval.specs.Views.{tables_of};
+ghost use Rattle.law_states.specs.OpenUnits.{OpenUnit, unit_named};
+ghost use Rattle.law_states.specs.States.{State};
+ghost use Rattle.salt_books.specs.Moves.{MovesTo};
+ghost use Rattle.law_states.specs.Told.{commits_in, does_in, next_decision};
+ghost use Rattle.salt_model.specs.Kept.{conts_branched, conts_committed};
+ghost use Rattle.salt_model.specs.declared.events.End.{End};
+ghost use Rattle.salt_model.specs.declared.events.Event.{Event};
+ghost use Rattle.salt_model.specs.declared.events.UnitKind.TheVariants.{Later};
+ghost use Rattle.salt_program.specs.Refusals.{parts_in, program_refusal};
+ghost use Rattle.salt_schema.specs.Refusals.{table_refusal};
+ghost use Rattle.salt_units.specs.Acting.{leaves_keys};
+ghost use Rattle.std.specs.Prelude.{IfOk, None, Some, length, true, ℕ, ◌+◌, ◌<◌, ◌^◌, ◌≡◌};
+
+use crate::behind::{Behind, behind_commit};
+use crate::recovery::Recovery;
+use salt_ast::{ProgramDef, TableDef};
+use salt_books::{Asking, cause_of};
+use salt_cont::Move;
+use salt_eval::Tables;
+use salt_model::{Cause, End, Event};
+use salt_values::{Id, Steps};
+use std::alloc::AllocError;
+use std::sync::ledger::Ledger;
+
+impl Recovery {
+    ghost use Rattle.salt_drain.specs.Recovering.{Gives, IsOfPart, IsRecovering, Stands};
+
+    /// A unit that goes on with a program does the statement that it asks for, over the rows that this reaches: one step, whatever it
+    /// answers.
+    pub fn done<L: Ledger>(
+        &mut self,
+        asking: Asking,
+        rows: &Tables,
+        steps: &mut Steps<L>,
+    ) -> Result<Event, AllocError>
+        requires there { HaveUnit self.old.books asking.unit }
+        requires leaves_keys { leaves_keys self.old.books.known.schema asking.statement ≡ true }
+        requires keyed { IsKeyed (tables_of rows.now.entries) }
+        ensures gives { IfOk result (λ e. (s : State) (o : OpenUnit) → Stands self.old s → IsRecovering s → IsAskedBy asking s.units o → IsOfPart o
+            → AreLoaded asking.reach (tables_of rows.now.entries) s.units.kept.tables → Gives s (Some (does_in s.units o asking.statement)) self.new (Some e)) }
+        ensures ticks { steps.new ≡ steps.old + 1 }
+    {
+        let Asking {
+            unit,
+            base: _base,
+            family: _family,
+            statement,
+            reach: _reach,
+        } = asking;
+        steps.tick();
+        let answer = self.books.act(unit, rows, &statement)?;
+        self.behind = Behind::Done {
+            unit,
+            failed: cause_of(&answer),
+        };
+        Ok(Event::Did {
+            unit,
+            statement,
+            answer,
+        })
+    }
+
+    /// The commit of a unit has been decided, with this move of its program: it commits.
+    pub fn committed(&mut self, unit: Id, made: Move) -> Result<Event, AllocError>
+        requires { HaveUnit self.old.books unit }
+        ensures { IfOk result (λ e. (s : State) (o : OpenUnit) → Stands self.old s → IsRecovering s → unit_named unit s.units.units ≡ Some o
+            → MovesTo made s.units.kept (conts_committed s.units.kept (next_decision s.units) o.kind o.vars)
+            → Gives s (Some (commits_in s.units o)) self.new (Some e)) }
+    {
+        let Some(held) = self.books.unit_named(unit) else {
+            unreachable!()
+        };
+        let behind = behind_commit(&held.kind);
+        let number = self.books.commit(unit, made)?;
+        self.behind = behind;
+        Ok(Event::Ended {
+            unit,
+            end: End::Committed(number),
+        })
+    }
+
+    /// The failure of a later part has been decided, with this move of its program: the program tries it again, or goes on at
+    /// its branch.
+    pub fn branched(
+        &mut self,
+        unit: Id,
+        base: Id,
+        cause: Cause,
+        made: Move,
+    ) -> Result<Event, AllocError>
+        requires { HaveUnit self.old.books unit }
+        ensures { IfOk result (λ e. (s : State) (o : OpenUnit) (part : ℕ) → Stands self.old s → IsRecovering s → unit_named unit s.units.units ≡ Some o
+            → o.kind ≡ Later base part → MovesTo made s.units.kept (conts_branched s.units.kept o.kind)
+            → Gives s (Some (Event.Ended unit (End.Branched (next_decision s.units) cause))) self.new (Some e)) }
+    {
+        let number = self.books.branch(unit, made)?;
+        self.behind = Behind::Finish(base);
+        Ok(Event::Ended {
+            unit,
+            end: End::Branched(number, cause),
+        })
+    }
+
+    /// The table of the last line has been decided: it is defined.
+    pub fn table_defined(&mut self, def: &TableDef) -> Result<Event, AllocError>
+        requires { table_refusal self.old.books.known.schema def.now ≡ None }
+        ensures { IfOk result (λ e. (s : State) → Stands self.old s → IsRecovering s → s.units.line ≡ Table def.now
+            → Gives s (Some (Event.Defined (next_decision s.units) (table_text def.now))) self.new (Some e)) }
+    {
+        let (number, text) = self.books.define_table(def)?;
+        self.behind = Behind::Nothing;
+        Ok(Event::Defined { number, text })
+    }
+
+    /// The program of the last line has been decided: it is defined.
+    pub fn program_defined(&mut self, def: &ProgramDef) -> Result<Event, AllocError>
+        requires parts { length (parts_in def.now.body) < 2 ^ 32 }
+        requires allowed { program_refusal self.old.books.known.schema self.old.books.known.catalogue def.now ≡ None }
+        ensures { IfOk result (λ e. (s : State) → Stands self.old s → IsRecovering s → s.units.line ≡ Program def.now
+            → Gives s (Some (Event.Defined (next_decision s.units) (program_text def.now))) self.new (Some e)) }
+    {
+        let (number, text) = self.books.define_program(def)?;
+        self.behind = Behind::Nothing;
+        Ok(Event::Defined { number, text })
+    }
+}

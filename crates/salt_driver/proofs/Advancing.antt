@@ -1,0 +1,184 @@
+-- Moves that are told one after another, within a segment.
+use Rattle.salt_ast.specs.declared.lines.Line.{Line}
+use Rattle.salt_disk.specs.declared.disks.DiskErr.TheVariants as disk
+use Rattle.law_states.proofs.PointsGoOn.{no-more, runs-point, start-on}
+use Rattle.law_states.specs.Laws.{is_of_run}
+use Rattle.law_states.specs.Nexts.{next_turn_of}
+use Rattle.law_states.specs.Points.{Ask, Move, Moves, Point, Runs, Say, Turn, told_by, trace_on}
+use Rattle.law_states.specs.States.{State}
+use Rattle.salt_model.specs.Trace.{Asked, Start, Trace, lines_of, start_of, ◌asks◌, ◌says◌, ◌turns◌}
+use Rattle.salt_model.specs.Words.{Every}
+use Rattle.salt_model.specs.declared.events.Event.{Event}
+use Rattle.salt_model.specs.declared.events.Flight.{Flight}
+use Rattle.salt_driver.specs.Standing.{Advances, BreaksAt, Finishes, HaltsAt, IsAt, IsInside, IsSoundPoint, RunsShort, StopsWithin}
+use Rattle.salt_storage.specs.Answers.{disk_err_of}
+use Rattle.salt_storage.specs.Writing.{Written}
+use Rattle.salt_storage.specs.declared.halt.Halt.{Halt}
+use Rattle.law_types.specs.Played.{HasKey}
+use Rattle.law_types.specs.Typed.{IsTyped}
+use Rattle.salt_values.specs.declared.id.Id.{Id}
+use Rattle.std.proofs.Common.{ap, inl, inr, subst, sym, ◌∙◌}
+use Rattle.std.specs.Prelude.{List, None, Option, Some, [], false, refl, ℕ, ◌++◌, ◌∷◌, ◌≡◌, ◌⊎◌}
+
+pub append-both : (es fs gs : List Event) → (es ++ fs) ++ gs ≡ es ++ (fs ++ gs)
+append-both [] fs gs = refl
+append-both (e ∷ es) fs gs = ap (λ l. e ∷ l) (append-both es fs gs)
+
+pub runs-both : (ms ns : List Move) (p q r : Point) → Runs p ms q → Runs q ns r → Runs p (ms ++ ns) r
+runs-both [] ns p q r f g = subst (λ x. Runs x ns r) (sym f) g
+runs-both (m ∷ ms) ns p q r f g = (f.0, f.1, runs-both ms ns f.0 q r f.2 g)
+
+pub told-both : (ms ns : List Move) → told_by (ms ++ ns) ≡ told_by ms ++ told_by ns
+told-both [] ns = refl
+told-both (Say e ∷ ms) ns = ap (λ es. e ∷ es) (told-both ms ns)
+told-both (Ask asked ∷ ms) ns = told-both ms ns
+told-both (Turn b ∷ ms) ns = told-both ms ns
+
+pub inside-both : (ms ns : List Move) → Every IsInside ms → Every IsInside ns → Every IsInside (ms ++ ns)
+inside-both [] ns f g = g
+inside-both (m ∷ ms) ns f g = (f.0, inside-both ms ns f.1 g)
+
+pub tells-both : (story told now : List Event) (ms ns : List Move) → told ≡ story ++ told_by ms → now ≡ told ++ told_by ns → now ≡ story ++ told_by (ms ++ ns)
+tells-both story told now ms ns t u =
+    u ∙ ap (λ es. es ++ told_by ns) t ∙ append-both story (told_by ms) (told_by ns) ∙ ap (λ es. story ++ es) (sym (told-both ms ns))
+
+-- lines are asked by Ask alone
+pub lines-on : (ms : List Move) (trace : Trace) → Every IsInside ms → lines_of (trace_on trace ms) ≡ lines_of trace
+lines-on [] trace h = refl
+lines-on (Ask asked ∷ ms) trace h = absurd h.0
+lines-on (Turn b ∷ ms) trace h = lines-on ms (trace turns b) h.1
+lines-on (Say e ∷ ms) trace h = lines-on ms (trace says e) h.1
+
+typed-on : (ms : List Move) (trace : Trace) → IsTyped (start_of trace).kept → IsTyped (start_of (trace_on trace ms)).kept
+typed-on ms trace h = subst (λ (s : Start). IsTyped s.kept) (sym (start-on ms trace)) h
+
+-- the point that moves lead to is sound
+pub sound-on : (ms : List Move) (p q : Point) → IsSoundPoint p → Every IsInside ms → Runs p ms q → IsSoundPoint q
+sound-on ms p q s inside r =
+    let k = runs-point ms p q s.trace s.keeps s.sound r in
+    record {
+      trace = trace_on s.trace ms;
+      keeps = k.0;
+      sound = k.1;
+      typed = typed-on ms s.trace s.typed;
+      keyed = subst (Every HasKey) (sym (lines-on ms s.trace inside)) s.keyed;
+    }
+
+pub sound-moved : (m : Move) (p q : Point) → IsInside m → IsSoundPoint p → Moves m p q → IsSoundPoint q
+sound-moved m p q i s n = sound-on (m ∷ []) p q s (i, tt) (q, n, refl)
+
+-- behind a line whose table has a key, if it defines one
+pub every-last : (asked : Asked) (lines : List Asked) → Every HasKey lines → HasKey asked → Every HasKey (lines ++ asked ∷ [])
+every-last asked [] h k = (k, tt)
+every-last asked (l ∷ ls) h k = (h.0, every-last asked ls h.1 k)
+
+pub sound-asked : (asked : Asked) (p q : Point) → HasKey asked → IsSoundPoint p → Moves (Ask asked) p q → IsSoundPoint q
+sound-asked asked p q key s n =
+    let k = runs-point (Ask asked ∷ []) p q s.trace s.keeps s.sound (q, n, refl) in
+    record {
+      trace = s.trace asks asked;
+      keeps = k.0;
+      sound = k.1;
+      typed = s.typed;
+      keyed = every-last asked (lines_of s.trace) s.keyed key;
+    }
+
+-- nothing more is told
+pub stop-at : (lies left : Point → Type 0) (fills : Written → ℕ → Type 0) (flight : Option Flight) (halt : Halt) (q : Point) (told : List Event) → HaltsAt lies left fills flight halt q → StopsWithin lies left fills flight halt q told told
+stop-at lies left fills flight halt q told h = record { moves = []; point = q; runs = refl; inside = tt; tells = sym (no-more told); halts = h }
+
+-- it broke off in the first event
+pub stop-first : (lies left : Point → Type 0) (fills : Written → ℕ → Type 0) (flight : Option Flight) (halt : Halt) (event : Event) (q : Point) (story told : List Event) → BreaksAt lies left fills flight halt q event story told →
+    StopsWithin lies left fills flight halt q story told
+stop-first lies left fills flight halt event q story told (inl short) =
+    subst (λ (es : List Event). StopsWithin lies left fills flight halt q story es) (sym short.0) (stop-at lies left fills flight halt q story short.1)
+stop-first lies left fills flight halt event q story told (inr said) =
+    let r = said.1 in record { moves = Say event ∷ []; point = r.0; runs = (r.0, r.1, refl); inside = (tt, tt); tells = said.0; halts = r.2 }
+
+module _ {E : Type 0} (sees : E → Option Event → State → Type 0) (line : Line) where
+  pub advance-none : (p : Point) (story : List Event) (e : E) (next : Option Event) → IsAt sees line e next p → Advances sees line p story e next story
+  advance-none p story e next at = record { moves = []; point = p; runs = refl; inside = tt; stands = at; tells = sym (no-more story) }
+
+  pub advance-once : (m : Move) → IsInside m → (p q : Point) (told now : List Event) (e : E) (next : Option Event) → Moves m p q → IsAt sees line e next q →
+      now ≡ told ++ told_by (m ∷ []) → Advances sees line p told e next now
+  advance-once m i p q told now e next moves at tells = record { moves = m ∷ []; point = q; runs = (q, moves, refl); inside = (i, tt); stands = at; tells = tells }
+
+  pub advance-on : (old : E → Option Event → State → Type 0) (p : Point) (story told now : List Event) (e new : E) (next later : Option Event) →
+      (a : Advances old line p story e next told) → Advances sees line a.point told new later now → Advances sees line p story new later now
+  advance-on old p story told now e new next later a b = record {
+    moves = a.moves ++ b.moves;
+    point = b.point;
+    runs = runs-both a.moves b.moves p a.point b.point a.runs b.runs;
+    inside = inside-both a.moves b.moves a.inside b.inside;
+    stands = b.stands;
+    tells = tells-both story told now a.moves b.moves a.tells b.tells;
+  }
+
+  -- a turn is told, and settles
+  pub turn-on : (old : E → Option Event → State → Type 0) (b : Id) (p q : Point) (story told now : List Event) (e new : E) →
+      (a : Advances old line p story e None told) → Moves (Turn b) a.point q →
+      Advances sees line q told new None now → Advances sees line p story new None now
+  turn-on old b p q story told now e new a m s = record {
+    moves = a.moves ++ Turn b ∷ s.moves;
+    point = s.point;
+    runs = runs-both a.moves (Turn b ∷ s.moves) p a.point s.point a.runs (q, m, s.runs);
+    inside = inside-both a.moves (Turn b ∷ s.moves) a.inside (tt, s.inside);
+    stands = s.stands;
+    tells = tells-both story told now a.moves (Turn b ∷ s.moves) a.tells s.tells;
+  }
+
+  pub finish-where : (p : Point) (story told : List Event) (e : E) → (a : Advances sees line p story e None told) → next_turn_of a.point.state ≡ None →
+      Finishes sees line p story e told
+  finish-where p story told e a t = record { advances = a; idle = record { serves = a.stands.serves; next = a.stands.comes; turn = t } }
+
+  -- BROKEN OFF
+
+  -- for want of memory, before a move
+  pub stop-here : (lies left : Point → Type 0) (fills : Written → ℕ → Type 0) (flight : Option Flight) (halt : Halt) (p : Point) (story told : List Event) (e : E) (next : Option Event) →
+      (a : Advances sees line p story e next told) → HaltsAt lies left fills flight halt a.point → StopsWithin lies left fills flight halt p story told
+  stop-here lies left fills flight halt p story told e next a h = record { moves = a.moves; point = a.point; runs = a.runs; inside = a.inside; tells = a.tells; halts = h }
+
+  -- in telling an event
+  pub stop-saying : (lies left : Point → Type 0) (fills : Written → ℕ → Type 0) (flight : Option Flight) (halt : Halt) (e : E) (event : Event) (p : Point) (story told now : List Event) →
+      (a : Advances sees line p story e (Some event) told) → BreaksAt lies left fills flight halt a.point event told now → StopsWithin lies left fills flight halt p story now
+  stop-saying lies left fills flight halt e event p story told now a (inl same) =
+      subst (λ es. StopsWithin lies left fills flight halt p story es) (sym same.0) (stop-here lies left fills flight halt p story told e (Some event) a same.1)
+  stop-saying lies left fills flight halt e event p story told now a (inr said) =
+      let r = said.1 in
+      record {
+        moves = a.moves ++ Say event ∷ [];
+        point = r.0;
+        runs = runs-both a.moves (Say event ∷ []) p a.point r.0 a.runs (r.0, r.1, refl);
+        inside = inside-both a.moves (Say event ∷ []) a.inside (tt, tt);
+        tells = tells-both story told now a.moves (Say event ∷ []) a.tells said.0;
+        halts = r.2;
+      }
+
+  -- in a turn
+  pub stop-turned : (lies left : Point → Type 0) (fills : Written → ℕ → Type 0) (flight : Option Flight) (halt : Halt) (b : Id) (p q : Point) (story told now : List Event) (e : E) →
+      (a : Advances sees line p story e None told) → Moves (Turn b) a.point q → StopsWithin lies left fills flight halt q told now → StopsWithin lies left fills flight halt p story now
+  stop-turned lies left fills flight halt b p q story told now e a m s = record {
+    moves = a.moves ++ Turn b ∷ s.moves;
+    point = s.point;
+    runs = runs-both a.moves (Turn b ∷ s.moves) p a.point s.point a.runs (q, m, s.runs);
+    inside = inside-both a.moves (Turn b ∷ s.moves) a.inside (tt, s.inside);
+    tells = tells-both story told now a.moves (Turn b ∷ s.moves) a.tells s.tells;
+    halts = s.halts;
+  }
+
+  -- for want of memory before it, or at its first event
+  pub stop-turning : (lies left : Point → Type 0) (fills : Written → ℕ → Type 0) (flight : Option Flight) (halt : Halt) (b : Id) (p : Point) (story told : List Event) (e : E) →
+      (a : Advances sees line p story e None told) →
+      RunsShort lies left fills flight halt a.point ⊎ ((q : Point) × Moves (Turn b) a.point q × HaltsAt lies left fills flight halt q) → StopsWithin lies left fills flight halt p story told
+  stop-turning lies left fills flight halt b p story told e a (inl short) = stop-here lies left fills flight halt p story told e None a short.1
+  stop-turning lies left fills flight halt b p story told e a (inr r) = stop-turned lies left fills flight halt b p r.0 story told told e a r.1 (stop-at lies left fills flight halt r.0 told r.2)
+
+pub none-of : {A : Type 0} (o : Option A) → ((x : A) → o ≡ Some x → ⊥) → o ≡ None
+none-of None h = refl
+none-of (Some x) h = absurd (h x refl)
+
+-- what broken off in an event tells of the story
+pub broken-by : (lies left : Point → Type 0) (fills : Written → ℕ → Type 0) (flight : Option Flight) (halt : Halt) (p : Point) (e : Event) (story told : List Event) →
+    BreaksAt lies left fills flight halt p e story told → ((told ≡ story) × (Some (disk_err_of halt) ≡ Some disk.Memory)) ⊎ ((told ≡ story ++ e ∷ []) × (is_of_run e ≡ false))
+broken-by lies left fills flight halt p e story told (inl h) = inl (h.0, ap (λ x. Some (disk_err_of x)) h.2)
+broken-by lies left fills flight halt p e story told (inr h) = inr (h.0, h.1.1.1)

@@ -1,0 +1,274 @@
+-- A run that was broken off in an opening falls again, and can be opened there.
+use Rattle.law_states.proofs.PointsFall.{falls-point}
+use Rattle.law_states.proofs.PointsGoOn.{no-more}
+use Rattle.law_states.specs.Laws.{IsSound}
+use Rattle.law_states.specs.Points.{KeepsPoint, Point}
+use Rattle.law_states.specs.States.{State, named_by}
+use Rattle.law_states.specs.Steps.{units_after}
+use Rattle.law_states.specs.Told.{at_devices_in}
+use Rattle.salt_model.specs.Ends.{flight_told}
+use Rattle.salt_model.specs.Phases.{downs, has_opened}
+use Rattle.salt_model.specs.Trace.{Start, Trace, start_of, story_of, ◌says◌}
+use Rattle.salt_model.specs.declared.events.Event.TheVariants.{Down}
+use Rattle.salt_model.specs.declared.events.Event.{Event}
+use Rattle.salt_model.specs.declared.events.Flight.{Flight}
+use Rattle.salt_model.specs.declared.events.Why.TheVariants.{Fault, Stopped}
+use Rattle.salt_model.specs.declared.events.Why.{Why}
+use Rattle.law_openings.proofs.Leaving.{leaves}
+use Rattle.law_openings.proofs.Opening.{falls-again, falls-in-opening}
+use Rattle.law_openings.specs.Openings.{FallsInOpening, Leaves}
+use Rattle.salt_driver.proofs.Segments.{sound-of}
+use Rattle.salt_driver.specs.Opening.{IsFallenFrom, halt_of}
+use Rattle.salt_driver.specs.Reopening.{BreaksOpening, EndsWithin, FallsAnew, NotBegun, Reopens, WithinOpening}
+use Rattle.salt_driver.specs.Serving.{Grows, Halts, IsDown, IsFitting}
+use Rattle.salt_storage.specs.Answers.{numbers_of}
+use Rattle.salt_storage.specs.Writing.{Written}
+use Rattle.salt_storage.specs.declared.found.Numbers.{Numbers}
+use Rattle.salt_storage.specs.declared.halt.Halt.TheVariants as halt
+use Rattle.salt_storage.specs.declared.halt.Halt.{Halt}
+use Rattle.salt_storage.specs.declared.open.OpenErr.TheVariants.{Halted}
+use Rattle.salt_storage.specs.declared.open.OpenErr.{OpenErr}
+use Rattle.std.proofs.Common.{ap, arith, inl, inr, subst, sym, ◌∙◌}
+use Rattle.std.specs.Prelude.{Bool, List, None, Option, Some, [], false, if◌then◌else◌, refl, true, ℕ, ◌+◌, ◌++◌, ◌∷◌, ◌≡◌, ◌≤◌, ◌⊎◌}
+
+-- the point behind a Down
+unfoldable pub fallen_point : (why : Why) (p : Point) → Leaves (Down why) p.state → Point
+fallen_point why p l = record {
+  state = record { units = units_after (Down why) p.state.units; watch = l.watch; names = named_by (Down why) p.state.names; can_stop = p.state.can_stop };
+  next = None;
+  flight = p.flight;
+}
+
+pub fell-from : (why : Why) (p : Point) → (l : Leaves (Down why) p.state) → IsFallenFrom p (fallen_point why p l)
+unfolding fallen_point
+fell-from why p l = record { why = why; after = l.after; flight = refl }
+
+appended : (es fs gs : List Event) → (es ++ fs) ++ gs ≡ es ++ (fs ++ gs)
+appended [] fs gs = refl
+appended (e ∷ es) fs gs = ap (λ l. e ∷ l) (appended es fs gs)
+
+-- a trace that goes on by a Down, at whose end the run can be opened
+pub down-behind : (why : Why) (lies : ℕ → Point → Type 0) (flies : Option Flight) (start : Start) (told now : List Event) (trace : Trace) (q : Point) (room : ℕ) →
+    start_of trace ≡ start → story_of trace ≡ told → IsFitting start trace → KeepsPoint q (trace says Down why) × IsSound (trace says Down why) →
+    now ≡ told ++ Down why ∷ [] → room ≤ downs trace + (if has_opened trace then 0 else 1) → lies room q → flies ≡ flight_told q.flight →
+    IsDown lies flies start now (trace says Down why)
+down-behind why lies flies start told now trace q room begins tells fits k grows boots again known = record {
+  tells = record { begins = begins; told = ap (λ es. es ++ Down why ∷ []) tells ∙ sym grows; played = k.1.played };
+  fallen = refl;
+  fits = record { well = fits.well; typed = fits.typed; keyed = fits.keyed; unspent = (fits.unspent, tt) };
+  point = q;
+  keeps = k.0;
+  room = room;
+  boots = one-more (has_opened trace) boots;
+  again = again;
+  flies = known;
+}
+  where
+    one-more : (b : Bool) → room ≤ downs trace + (if b then 0 else 1) → room + 1 ≤ (downs trace + 1) + (if b then 0 else 1)
+    one-more true h = omega arith
+    one-more false h = omega arith
+
+halted-so : (e : OpenErr) (h : Halt) → e ≡ Halted h → e ≡ Halted halt.Stopped → h ≡ halt.Stopped
+halted-so e h a b = cc
+
+memory-is-no-device : (dev : ℕ) → halt.Memory ≡ halt.DeviceFull dev → ⊥
+memory-is-no-device dev h = cc
+
+memory-is-not-full : (dev : ℕ) → Halted halt.Memory ≡ Halted (halt.DeviceFull dev) → ⊥
+memory-is-not-full dev h = cc
+
+not-memory : (e : OpenErr) → e ≡ Halted halt.Stopped → e ≡ Halted halt.Memory → ⊥
+not-memory e a b = cc
+
+no-memory : (h : Halt) → h ≡ halt.Stopped → h ≡ halt.Memory → ⊥
+no-memory h a b = cc
+
+module _ (lies : ℕ → Point → Type 0) (left : Option Numbers → ℕ → Point → Type 0) (again : ℕ → Point → Type 0) (fills : Written → ℕ → Type 0) (flies known : Option Flight) (e : OpenErr) (start : Start) (trace : Trace) (story told now : List Event)
+    (stopped : e ≡ Halted halt.Stopped) (falls : (room : ℕ) (p q : Point) → lies room p → IsFallenFrom p q → again room q) (same : known ≡ flies)
+    (grows : now ≡ told ++ Down Stopped ∷ []) where
+  anew : (b : BreaksOpening lies left fills flies e start trace story told) → IsDown again known start now (b.after says Down Stopped) → FallsAnew again known start trace story now
+  anew b down = record {
+    after = b.after says Down Stopped;
+    lines = b.lines;
+    down = down;
+    grows = (b.grows.0 ++ Down Stopped ∷ [], grows ∙ ap (λ es. es ++ Down Stopped ∷ []) b.grows.1 ∙ appended story b.grows.0 (Down Stopped ∷ []));
+  }
+
+  not-begun : (b : BreaksOpening lies left fills flies e start trace story told) → NotBegun lies left fills flies e b.after b.point → IsDown again known start now (b.after says Down Stopped)
+  unfolding fallen_point
+  not-begun b n =
+      let sound = sound-of start b.after b.tells.begins b.tells.played b.fits in
+      let l = leaves b.point.state b.after (Down Stopped) b.keeps.state sound in
+      let q = fallen_point Stopped b.point l in
+      down-behind Stopped again known start told now b.after q n.room b.tells.begins b.tells.told b.fits
+      (falls-again b.point q b.after b.keeps sound (record { fallen = sym b.keeps.state.units.phase ∙ n.fallen; after = l.after; next = refl; flight = refl }))
+      grows n.boots (falls n.room b.point q (n.again (not-memory e stopped)) (fell-from Stopped b.point l)) (same ∙ n.flies)
+
+  within-at : (b : BreaksOpening lies left fills flies e start trace story told) (w : WithinOpening lies left fills flies e b.after b.point) (at : EndsWithin b.after) (ev : Event) →
+      b.point.next ≡ Some ev → at_devices_in b.point.state.units ev ≡ true → flies ≡ flight_told b.point.flight → IsDown again known start now (b.after says Down Stopped)
+  unfolding fallen_point
+  within-at b w at ev comes devices flown =
+      let sound = sound-of start b.after b.tells.begins b.tells.played b.fits in
+      let l = leaves b.point.state b.after (Down Stopped) b.keeps.state sound in
+      let q = fallen_point Stopped b.point l in
+      let fell : FallsInOpening b.point q = record { opening = sym b.keeps.state.units.phase ∙ at.opening; event = ev; comes = comes; devices = devices; after = l.after; next = refl; flight = refl } in
+      let kept = falls-in-opening b.point q at.before at.event (subst (λ t. KeepsPoint b.point t) at.behind b.keeps) (subst IsSound at.behind sound) at.plain fell in
+      let back = subst (λ t. KeepsPoint q (t says Down Stopped) × IsSound (t says Down Stopped)) (sym at.behind) kept in
+      down-behind Stopped again known start told now b.after q 0 b.tells.begins b.tells.told b.fits back grows (omega arith)
+      (falls 0 b.point q (w.halts.again (no-memory w.halt (halted-so e w.halt w.halted stopped))) (fell-from Stopped b.point l)) (same ∙ flown)
+
+  within : (b : BreaksOpening lies left fills flies e start trace story told) → WithinOpening lies left fills flies e b.after b.point → IsDown again known start now (b.after says Down Stopped)
+  within b w = by w.place w.halts.reason w.halts.flies
+    where
+      is : w.halt ≡ halt.Stopped
+      is = halted-so e w.halt w.halted stopped
+
+      by : (w.halt ≡ halt.Memory) ⊎ EndsWithin b.after → (w.halt ≡ halt.Memory) ⊎ ((ev : Event) × (b.point.next ≡ Some ev) × (at_devices_in b.point.state.units ev ≡ true)) →
+          ((w.halt ≡ halt.Memory) × (flies ≡ None)) ⊎ (flies ≡ flight_told b.point.flight) → IsDown again known start now (b.after says Down Stopped)
+      by (inl m) r f = absurd (no-memory w.halt is m)
+      by (inr at) (inl m) f = absurd (no-memory w.halt is m)
+      by (inr at) (inr r) (inl m) = absurd (no-memory w.halt is m.0)
+      by (inr at) (inr r) (inr f) = within-at b w at r.0 r.1 r.2 f
+
+  pub falls-anew : BreaksOpening lies left fills flies e start trace story told → FallsAnew again known start trace story now
+  falls-anew b = anew b (by b.stops)
+    where
+      by : NotBegun lies left fills flies e b.after b.point ⊎ WithinOpening lies left fills flies e b.after b.point → IsDown again known start now (b.after says Down Stopped)
+      by (inl n) = not-begun b n
+      by (inr w) = within b w
+
+-- where it was stopped it can be opened
+pub lies-somewhere : (lies : ℕ → Point → Type 0) (left : Option Numbers → ℕ → Point → Type 0) (fills : Written → ℕ → Type 0) (flies : Option Flight) (e : OpenErr) (start : Start) (trace : Trace) (story told : List Event) →
+    e ≡ Halted halt.Stopped → BreaksOpening lies left fills flies e start trace story told → (room : ℕ) × ((p : Point) × lies room p)
+lies-somewhere lies left fills flies e start trace story told stopped b = by b.stops
+  where
+    by : NotBegun lies left fills flies e b.after b.point ⊎ WithinOpening lies left fills flies e b.after b.point → (room : ℕ) × ((p : Point) × lies room p)
+    by (inl n) = (n.room, (b.point, n.again (not-memory e stopped)))
+    by (inr w) = (0, (b.point, w.halts.again (no-memory w.halt (halted-so e w.halt w.halted stopped))))
+
+-- for want of memory it does not even fall
+pub breaks-short : (lies : ℕ → Point → Type 0) (left : Option Numbers → ℕ → Point → Type 0) (fills : Written → ℕ → Type 0) (flies : Option Flight) (e : OpenErr) (start : Start) (trace : Trace) (story told now : List Event) →
+    e ≡ Halted halt.Stopped → now ≡ told → BreaksOpening lies left fills flies e start trace story told → BreaksOpening lies left fills flies (Halted halt.Memory) start trace story now
+breaks-short lies left fills flies e start trace story told now stopped is b = record {
+  after = b.after;
+  lines = b.lines;
+  tells = record { begins = b.tells.begins; told = b.tells.told ∙ sym is; played = b.tells.played };
+  fits = b.fits;
+  point = b.point;
+  keeps = b.keeps;
+  grows = (b.grows.0, is ∙ b.grows.1);
+  later = tt;
+  stops = by b.stops;
+}
+  where
+    flown : (h : Halt) → h ≡ halt.Stopped → ((h ≡ halt.Memory) × (flies ≡ None)) ⊎ (flies ≡ flight_told b.point.flight) → flies ≡ flight_told b.point.flight
+    flown h a (inl m) = absurd (no-memory h a m.0)
+    flown h a (inr f) = f
+
+    by : NotBegun lies left fills flies e b.after b.point ⊎ WithinOpening lies left fills flies e b.after b.point →
+        NotBegun lies left fills flies (Halted halt.Memory) b.after b.point ⊎ WithinOpening lies left fills flies (Halted halt.Memory) b.after b.point
+    by (inl n) = inl (record {
+      fallen = n.fallen;
+      room = n.room;
+      boots = n.boots;
+      fails = tt;
+      full = λ dev is. absurd (memory-is-not-full dev is);
+      again = λ some. absurd (some refl);
+      stays = subst (λ (x : OpenErr). left (numbers_of x) n.room b.point) stopped n.stays;
+      flies = n.flies;
+    })
+    by (inr w) = inr (record {
+      halt = halt.Memory;
+      halted = refl;
+      halts = record {
+        reason = inl refl;
+        flies = inr (flown w.halt (halted-so e w.halt w.halted stopped) w.halts.flies);
+        full = λ dev is. absurd (memory-is-no-device dev is);
+        again = λ some. absurd (some refl);
+        stays = w.halts.stays;
+      };
+      place = inl refl;
+    })
+
+-- A RUN THAT BROKE OFF IN A LINE
+
+pub no-short-fall : (why : Why) → halt_of why ≡ halt.Memory → ⊥
+no-short-fall Stopped h = cc
+no-short-fall Fault h = cc
+
+module _ (lies left : Point → Type 0) (fills : Written → ℕ → Type 0) (flies : Option Flight) (why : Why) (start : Start) (trace : Trace) (story : List Event)
+    (h : Halts lies left fills flies (halt_of why) start story trace) where
+  pub falls-served : (again : ℕ → Point → Type 0) (known : Option Flight) (now : List Event) → ((p q : Point) → lies p → IsFallenFrom p q → again 0 q) → known ≡ flies →
+      now ≡ story ++ Down why ∷ [] → FallsAnew again known start trace story now
+  unfolding fallen_point
+  falls-served again known now falls same grows =
+      record { after = trace says Down why; lines = refl; down = by h.halts.reason h.halts.flies; grows = (Down why ∷ [], grows) }
+    where
+      by : (halt_of why ≡ halt.Memory) ⊎ ((ev : Event) × (h.point.next ≡ Some ev) × (at_devices_in h.point.state.units ev ≡ true)) →
+          ((halt_of why ≡ halt.Memory) × (flies ≡ None)) ⊎ (flies ≡ flight_told h.point.flight) → IsDown again known start now (trace says Down why)
+      by (inl m) f = absurd (no-short-fall why m)
+      by (inr r) (inl m) = absurd (no-short-fall why m.0)
+      by (inr r) (inr f) =
+          let sound = sound-of start trace h.tells.begins h.tells.played h.fits in
+          let l = leaves h.point.state trace (Down why) h.keeps.state sound in
+          let q = fallen_point why h.point l in
+          let kept = falls-point why h.point q trace h.keeps sound
+          (record { serves = sym h.keeps.state.units.phase ∙ h.serving; event = r.0; comes = r.1; devices = r.2; after = l.after; next = refl; flight = refl }) in
+          down-behind why again known start story now trace q 0 h.tells.begins h.tells.told h.fits kept grows (omega arith)
+          (falls h.point q (h.halts.again (no-short-fall why)) (fell-from why h.point l)) (same ∙ f)
+
+-- for want of memory it does not fall
+pub halted-short : (lies : ℕ → Point → Type 0) (left : Option Numbers → ℕ → Point → Type 0) (fills filled : Written → ℕ → Type 0) (flies : Option Flight) (why : Why) (start : Start) (trace : Trace) (story now : List Event) → now ≡ story →
+    Halts (lies 0) (left None 0) fills flies (halt_of why) start story trace → BreaksOpening lies left filled flies (Halted halt.Memory) start trace story now
+halted-short lies left fills filled flies why start trace story now same h = record {
+  after = trace;
+  lines = refl;
+  tells = record { begins = h.tells.begins; told = h.tells.told ∙ sym same; played = h.tells.played };
+  fits = h.fits;
+  point = h.point;
+  keeps = h.keeps;
+  grows = ([], same ∙ sym (no-more story));
+  later = tt;
+  stops = inr (record {
+    halt = halt.Memory;
+    halted = refl;
+    halts = record {
+      reason = inl refl;
+      flies = inr (flown h.halts.flies);
+      full = λ dev is. absurd (memory-is-no-device dev is);
+      again = λ some. absurd (some refl);
+      stays = h.halts.stays;
+    };
+    place = inl refl;
+  });
+}
+  where
+    flown : ((halt_of why ≡ halt.Memory) × (flies ≡ None)) ⊎ (flies ≡ flight_told h.point.flight) → flies ≡ flight_told h.point.flight
+    flown (inl m) = absurd (no-short-fall why m.0)
+    flown (inr f) = f
+
+-- THROUGH SEVERAL FALLS
+
+grows-both : (story told now : List Event) → Grows story told → Grows told now → Grows story now
+grows-both story told now a b = (a.0 ++ b.0, b.1 ∙ ap (λ es. es ++ b.0) a.1 ∙ appended story a.0 b.0)
+
+module _ (lies again : ℕ → Point → Type 0) (flies known : Option Flight) (start : Start) (trace : Trace) (story told now : List Event)
+    (f : FallsAnew lies flies start trace story told) where
+  pub falls-behind : FallsAnew again known start f.after told now → FallsAnew again known start trace story now
+  falls-behind g = record { after = g.after; lines = g.lines ∙ f.lines; down = g.down; grows = grows-both story told now f.grows g.grows }
+
+  pub breaks-behind : (left : Option Numbers → ℕ → Point → Type 0) (fills : Written → ℕ → Type 0) (e : OpenErr) → BreaksOpening again left fills known e start f.after told now → BreaksOpening again left fills known e start trace story now
+  breaks-behind left fills e b = record {
+    after = b.after;
+    lines = b.lines ∙ f.lines;
+    tells = b.tells;
+    fits = b.fits;
+    point = b.point;
+    keeps = b.keeps;
+    grows = grows-both story told now f.grows b.grows;
+    later = b.later;
+    stops = b.stops;
+  }
+
+  pub reopens-behind : {E : Type 0} → (sees : E → Option Event → State → Type 0) (e : E) → Reopens sees start f.after told e now → Reopens sees start trace story e now
+  reopens-behind sees e r = record { after = r.after; lines = r.lines ∙ f.lines; serves = r.serves; grows = grows-both story told now f.grows r.grows }

@@ -1,0 +1,305 @@
+-- A run that is down goes on to the end of an opening, or breaks off in it.
+use Rattle.law_states.proofs.PointsGoOn.{idle-complete, no-more, runs-point, start-on, story-on}
+use Rattle.law_states.specs.Laws.{IsSound, is_of_run}
+use Rattle.law_states.specs.Follows.{said_in, unit_of}
+use Rattle.law_states.specs.OpenUnits.{UnitState}
+use Rattle.law_states.specs.Points.{KeepsPoint, Move, Moves, Point, Runs, Say, moved, told_by, trace_on}
+use Rattle.law_states.specs.Readings.{beside_by}
+use Rattle.law_states.specs.States.{State}
+use Rattle.law_states.specs.Steps.{units_after}
+use Rattle.law_states.specs.Told.{at_devices_in}
+use Rattle.salt_model.specs.After.{kept}
+use Rattle.salt_model.specs.Kept.{Kept}
+use Rattle.salt_model.specs.Next.{flight}
+use Rattle.salt_model.specs.Phases.{Fallen, Opening, Phase, downs, has_opened}
+use Rattle.salt_model.specs.Stops.{MayOpen}
+use Rattle.salt_model.specs.Trace.{Start, Trace, story_of, ◌says◌}
+use Rattle.salt_model.specs.Words.{Every}
+use Rattle.salt_model.specs.declared.events.Event.TheVariants.{Down, Opened, Ready}
+use Rattle.salt_model.specs.declared.events.Event.{Event}
+use Rattle.salt_model.specs.declared.events.Flight.{Flight}
+use Rattle.law_openings.proofs.Opening.{opens-point}
+use Rattle.salt_driver.proofs.Advancing.{append-both, inside-both, lines-on, runs-both, tells-both}
+use Rattle.salt_driver.proofs.Segments.{sound-at, sound-of, unspent-on}
+use Rattle.salt_driver.specs.Draining.{BreaksWithin}
+use Rattle.salt_driver.specs.Opening.{HasOpened, MayFailAt}
+use Rattle.salt_driver.specs.Reopening.{BreaksOpening, EndsWithin, Reopens}
+use Rattle.salt_driver.specs.Serving.{IsDown, IsFitting}
+use Rattle.salt_driver.specs.Standing.{BreaksAt, HaltsAt, IsInside, IsSoundPoint, OpensOn}
+use Rattle.salt_storage.specs.Answers.{IsLater, numbers_of}
+use Rattle.salt_storage.specs.Writing.{OfBoot, Written}
+use Rattle.salt_storage.specs.declared.found.Numbers.{Numbers}
+use Rattle.salt_storage.specs.declared.halt.Halt.TheVariants.{DeviceFull, Memory}
+use Rattle.salt_storage.specs.declared.halt.Halt.{Halt}
+use Rattle.salt_storage.specs.declared.open.OpenErr.TheVariants.{Halted, NotSalt, NumbersSpent, OtherShape}
+use Rattle.salt_storage.specs.declared.open.OpenErr.{OpenErr}
+use Rattle.law_types.specs.Played.{HasKey}
+use Rattle.law_types.specs.Typed.{IsTyped}
+use Rattle.std.proofs.Common.{ap, arith, inl, inr, subst, sym, ◌∙◌}
+use Rattle.std.specs.Prelude.{Err, IsSome, List, None, Option, Result, Some, [], false, if◌then◌else◌, refl, true, ℕ, ◌+◌, ◌++◌, ◌<◌, ◌∷◌, ◌≡◌, ◌≤◌, ◌⊎◌}
+
+pub down-sound : (lies : ℕ → Point → Type 0) (flight : Option Flight) (start : Start) (story : List Event) (trace : Trace) → (d : IsDown lies flight start story trace) →
+    IsSoundPoint d.point
+down-sound lies flight start story trace d = sound-at start trace d.point d.tells.begins d.tells.played d.fits d.keeps
+
+pub down-fallen : (lies : ℕ → Point → Type 0) (flight : Option Flight) (start : Start) (story : List Event) (trace : Trace) → (d : IsDown lies flight start story trace) →
+    d.point.state.units.phase ≡ Fallen
+down-fallen lies flight start story trace d = sym d.keeps.state.units.phase ∙ d.fallen
+
+-- it may be opened so
+may-open : (lies : ℕ → Point → Type 0) (flies : Option Flight) (start : Start) (story : List Event) (trace : Trace) → (d : IsDown lies flies start story trace) →
+    (h : HasOpened d.room d.point) → MayOpen Fallen trace h.boot h.number
+may-open lies flies start story trace d h = (above, most, by h.stands_for)
+  where
+    same : kept trace ≡ d.point.state.units.kept
+    same = d.keeps.state.units.kept
+
+    above : (kept trace).boot < h.boot
+    above = subst (λ (k : Kept). k.boot < h.boot) (sym same) h.above
+
+    most : h.boot ≤ (kept trace).boot + (downs trace + (if has_opened trace then 0 else 1))
+    most =
+        subst (λ (k : Kept). h.boot ≤ k.boot + (downs trace + (if has_opened trace then 0 else 1))) (sym same)
+        (let a = h.most in let b = d.boots in omega arith)
+
+    by : (h.number ≡ d.point.state.units.kept.decisions) ⊎ (IsSome d.point.flight × (h.number ≡ d.point.state.units.kept.decisions + 1)) →
+        (h.number ≡ (kept trace).decisions) ⊎ (IsSome (flight trace) × (h.number ≡ (kept trace).decisions + 1))
+    by (inl e) = inl (subst (λ (k : Kept). h.number ≡ k.decisions) (sym same) e)
+    by (inr e) = inr (subst (λ (f : Option Event). IsSome f) (sym d.keeps.flight) e.0, subst (λ (k : Kept). h.number ≡ k.decisions + 1) (sym same) e.1)
+
+opened-keeps : (lies : ℕ → Point → Type 0) (flies : Option Flight) (start : Start) (story : List Event) (trace : Trace) → (d : IsDown lies flies start story trace) →
+    (h : HasOpened d.room d.point) → KeepsPoint h.point (trace says Opened h.boot h.number) × IsSound (trace says Opened h.boot h.number)
+opened-keeps lies flies start story trace d h =
+    opens-point h.boot h.number d.point h.point trace d.keeps (sound-of start trace d.tells.begins d.tells.played d.fits) (may-open lies flies start story trace d h) h.opens
+
+pub opened-sound : (lies : ℕ → Point → Type 0) (flies : Option Flight) (start : Start) (story : List Event) (trace : Trace) → (d : IsDown lies flies start story trace) →
+    (h : HasOpened d.room d.point) → IsSoundPoint h.point
+opened-sound lies flies start story trace d h =
+    let k = opened-keeps lies flies start story trace d h in
+    record {
+      trace = trace says Opened h.boot h.number;
+      keeps = k.0;
+      sound = k.1;
+      typed = subst (λ (x : Start). IsTyped x.kept) (sym d.tells.begins) d.fits.typed;
+      keyed = d.fits.keyed;
+    }
+
+phase-stays : (e : Event) (s : UnitState) → is_of_run e ≡ false → (e ≡ Ready → ⊥) → s.phase ≡ Opening → (units_after e s).phase ≡ Opening
+phase-stays (Down why) s h r p = cc
+phase-stays (Opened boot n) s h r p = cc
+phase-stays Ready s h r p = absurd (r refl)
+phase-stays e s h r p = p
+
+-- behind a Ready nothing comes next
+ready-rests : (p q : Point) → Moves (Say Ready) p q → q.next ≡ None
+ready-rests p q m =
+    m.0.next ∙ ap (λ (f : Phase). said_in f q.state.units (beside_by q.state m.0.read) Ready (unit_of Ready p.state.units q.state.units))
+    (ap (λ (s : UnitState). s.phase) m.0.after.units)
+
+is-ready : (e : Event) → (e ≡ Ready) ⊎ (e ≡ Ready → ⊥)
+is-ready Ready = inl refl
+is-ready e = inr (λ h. cc)
+
+pub opening-on : (e : Event) (p q : Point) (event : Event) → p.state.units.phase ≡ Opening → Moves (Say e) p q → q.next ≡ Some event → q.state.units.phase ≡ Opening
+opening-on e p q event opening m comes = by (is-ready e)
+  where
+    by : (e ≡ Ready) ⊎ (e ≡ Ready → ⊥) → q.state.units.phase ≡ Opening
+    by (inl same) = let none = ready-rests p q (subst (λ x. Moves (Say x) p q) same m) in cc
+    by (inr other) = ap (λ (s : UnitState). s.phase) m.0.after.units ∙ phase-stays e p.state.units m.1 other opening
+
+-- what is told of the halt
+pub same-halt : (a b : Halt) → Halted a ≡ Halted b → a ≡ b
+same-halt a b h = cc
+
+module _ (lies : ℕ → Point → Type 0) (flies : Option Flight) (start : Start) (story : List Event) (trace : Trace) (d : IsDown lies flies start story trace) where
+  -- the trace with moves of the opening
+  abbrev behind : HasOpened d.room d.point → List Move → Trace
+  behind h ms = trace_on (trace says Opened h.boot h.number) ms
+
+  behind-fits : (h : HasOpened d.room d.point) (ms : List Move) (q : Point) → Runs h.point ms q → Every IsInside ms → IsFitting start (behind h ms)
+  behind-fits h ms q runs inside = record {
+    well = d.fits.well;
+    typed = d.fits.typed;
+    keyed = subst (Every HasKey) (sym (lines-on ms (trace says Opened h.boot h.number) inside)) d.fits.keyed;
+    unspent = unspent-on ms h.point q (trace says Opened h.boot h.number) runs (d.fits.unspent, h.unspent);
+  }
+
+  behind-keeps : (h : HasOpened d.room d.point) (ms : List Move) (q : Point) → Runs h.point ms q → KeepsPoint q (behind h ms) × IsSound (behind h ms)
+  behind-keeps h ms q runs =
+      let k = opened-keeps lies flies start story trace d h in
+      runs-point ms h.point q (trace says Opened h.boot h.number) k.0 k.1 runs
+
+  behind-told : (h : HasOpened d.room d.point) (ms : List Move) (told : List Event) → told ≡ (story ++ Opened h.boot h.number ∷ []) ++ told_by ms → story_of (behind h ms) ≡ told
+  behind-told h ms told tells =
+      story-on ms (trace says Opened h.boot h.number) ∙ ap (λ es. (es ++ Opened h.boot h.number ∷ []) ++ told_by ms) d.tells.told ∙ sym tells
+
+  behind-grows : (h : HasOpened d.room d.point) (ms : List Move) (told : List Event) → told ≡ (story ++ Opened h.boot h.number ∷ []) ++ told_by ms →
+      (more : List Event) × (told ≡ story ++ more)
+  behind-grows h ms told tells = (Opened h.boot h.number ∷ told_by ms, tells ∙ append-both story (Opened h.boot h.number ∷ []) (told_by ms))
+
+  -- what is told behind the Opened is told behind what was told before
+  pub behind-opened : {E : Type 0} (sees : E → Option Event → State → Type 0) (h : HasOpened d.room d.point) (e : E) (opened told : List Event) → opened ≡ story ++ Opened h.boot h.number ∷ [] →
+      OpensOn sees h.point opened e None told → OpensOn sees h.point (story ++ Opened h.boot h.number ∷ []) e None told
+  behind-opened sees h e opened told tells on = subst (λ es. OpensOn sees h.point es e None told) tells on
+
+  pub opening-ends : {E : Type 0} (sees : E → Option Event → State → Type 0) (h : HasOpened d.room d.point) (e : E) (told : List Event) →
+      OpensOn sees h.point (story ++ Opened h.boot h.number ∷ []) e None told → Reopens sees start trace story e told
+  opening-ends sees h e told on =
+      let ms = on.moves in
+      let k = behind-keeps h ms on.point on.runs in
+      record {
+        after = behind h ms;
+        lines = lines-on ms (trace says Opened h.boot h.number) on.inside;
+        serves = record {
+          tells = record { begins = start-on ms (trace says Opened h.boot h.number) ∙ d.tells.begins; told = behind-told h ms told on.tells; played = k.1.played };
+          complete = idle-complete on.point (behind h ms) k.0 on.stands.idle;
+          fits = behind-fits h ms on.point on.runs on.inside;
+          point = on.point;
+          keeps = k.0;
+          stands = on.stands;
+        };
+        grows = behind-grows h ms told on.tells;
+      }
+
+  -- it breaks off: before it was begun
+
+  pub opening-fails : (now : ℕ → Point → Type 0) (left : Option Numbers → ℕ → Point → Type 0) (fills : Written → ℕ → Type 0) (flight : Option Flight) (halt : Halt) (told : List Event) → told ≡ story → flight ≡ flies →
+      ((dev : ℕ) → halt ≡ DeviceFull dev → fills OfBoot dev) → ((halt ≡ Memory → ⊥) → now (d.room + 1) d.point) → left None (d.room + 1) d.point →
+      BreaksOpening now left fills flight (Halted halt) start trace story told
+  opening-fails now left fills flight halt told same keeps full again stays = record {
+    after = trace;
+    lines = refl;
+    tells = record { begins = d.tells.begins; told = d.tells.told ∙ sym same; played = d.tells.played };
+    fits = d.fits;
+    point = d.point;
+    keeps = d.keeps;
+    grows = ([], same ∙ sym (no-more story));
+    later = tt;
+    stops = inl (record {
+      fallen = d.fallen;
+      room = d.room + 1;
+      boots = d.boots;
+      fails = tt;
+      full = λ dev is. full dev (same-halt halt (DeviceFull dev) is);
+      again = λ some. again (λ is. some (ap Halted is));
+      stays = stays;
+      flies = keeps ∙ d.flies;
+    });
+  }
+
+  -- or at an event
+
+  breaks-here : (now : ℕ → Point → Type 0) (left : Option Numbers → ℕ → Point → Type 0) (fills : Written → ℕ → Type 0) (flight : Option Flight) (halt : Halt) (h : HasOpened d.room d.point) (ms : List Move) (q : Point) (told : List Event) →
+      Runs h.point ms q → Every IsInside ms → told ≡ (story ++ Opened h.boot h.number ∷ []) ++ told_by ms → HaltsAt (now 0) (left None 0) fills flight halt q →
+      (halt ≡ Memory) ⊎ EndsWithin (behind h ms) → BreaksOpening now left fills flight (Halted halt) start trace story told
+  breaks-here now left fills flight halt h ms q told runs inside tells halts place =
+      let k = behind-keeps h ms q runs in
+      record {
+        after = behind h ms;
+        lines = lines-on ms (trace says Opened h.boot h.number) inside;
+        tells = record { begins = start-on ms (trace says Opened h.boot h.number) ∙ d.tells.begins; told = behind-told h ms told tells; played = k.1.played };
+        fits = behind-fits h ms q runs inside;
+        point = q;
+        keeps = k.0;
+        grows = behind-grows h ms told tells;
+        later = tt;
+        stops = inr (record { halt = halt; halted = refl; halts = halts; place = place });
+      }
+
+  last-of : (h : HasOpened d.room d.point) (ms : List Move) (e : Event) → behind h (ms ++ Say e ∷ []) ≡ (behind h ms says e)
+  last-of h ms e = go (trace says Opened h.boot h.number) ms
+    where
+      go : (t : Trace) (ms : List Move) → trace_on t (ms ++ Say e ∷ []) ≡ (trace_on t ms says e)
+      go t [] = refl
+      go t (m ∷ ms) = go (moved t m) ms
+
+  pub opening-breaks : (now : ℕ → Point → Type 0) (left : Option Numbers → ℕ → Point → Type 0) (fills : Written → ℕ → Type 0) (flight : Option Flight) (halt : Halt) (h : HasOpened d.room d.point) (opened told : List Event) →
+      opened ≡ story ++ Opened h.boot h.number ∷ [] → BreaksWithin (now 0) (left None 0) fills flight halt h.point opened told → BreaksOpening now left fills flight (Halted halt) start trace story told
+  opening-breaks now left fills flight halt h opened told same b = by b.breaks
+    where
+      tells : b.before ≡ (story ++ Opened h.boot h.number ∷ []) ++ told_by b.moves
+      tells = b.tells ∙ ap (λ es. es ++ told_by b.moves) same
+
+      place : (q : Point) → KeepsPoint q (behind h (b.moves ++ Say b.event ∷ [])) → Moves (Say b.event) b.point q →
+          (halt ≡ Memory) ⊎ ((f : Event) × (q.next ≡ Some f) × (at_devices_in q.state.units f ≡ true)) → (halt ≡ Memory) ⊎ EndsWithin (behind h (b.moves ++ Say b.event ∷ []))
+      place q k m (inl memory) = inl memory
+      place q k m (inr f) = inr (record {
+        opening = k.state.units.phase ∙ opening-on b.event b.point q f.0 b.opening m f.1;
+        before = behind h b.moves;
+        event = b.event;
+        behind = last-of h b.moves b.event;
+        plain = m.1;
+      })
+
+      by : BreaksAt (now 0) (left None 0) fills flight halt b.point b.event b.before told → BreaksOpening now left fills flight (Halted halt) start trace story told
+      by (inl short) =
+          subst (λ es. BreaksOpening now left fills flight (Halted halt) start trace story es) (sym short.0)
+          (breaks-here now left fills flight halt h b.moves b.point b.before b.runs b.inside tells short.1 (inl short.2))
+      by (inr said) =
+          let q = said.1.0 in
+          let m = said.1.1 in
+          let ms = b.moves ++ Say b.event ∷ [] in
+          let runs = runs-both b.moves (Say b.event ∷ []) h.point b.point q b.runs (q, m, refl) in
+          let inside = inside-both b.moves (Say b.event ∷ []) b.inside (tt, tt) in
+          let k = behind-keeps h ms q runs in
+          breaks-here now left fills flight halt h ms q told runs inside
+          (tells-both (story ++ Opened h.boot h.number ∷ []) b.before told b.moves (Say b.event ∷ []) tells said.0) said.1.2 (place q k.0 m said.1.2.reason)
+
+-- FINDING what devices stand for
+
+same-err : {A : Type 0} (a b : OpenErr) → ◌≡◌ {A = Result A OpenErr} (Err a) (Err b) → a ≡ b
+same-err a b h = cc
+
+pub not-short : {A : Type 0} (e : OpenErr) → (e ≡ Halted Memory → ⊥) → ◌≡◌ {A = Result A OpenErr} (Err e) (Err (Halted Memory)) → ⊥
+not-short e some is = some (same-err e (Halted Memory) is)
+
+pub found-down : (lies now : ℕ → Point → Type 0) (flies known : Option Flight) (start : Start) (story : List Event) (trace : Trace) →
+    (d : IsDown lies flies start story trace) → ((room : ℕ) (p : Point) → IsSoundPoint p → p.state.units.phase ≡ Fallen → lies room p → now room p) → known ≡ flies →
+    IsDown now known start story trace
+found-down lies now flies known start story trace d found same = record {
+  tells = d.tells;
+  fallen = d.fallen;
+  fits = d.fits;
+  point = d.point;
+  keeps = d.keeps;
+  room = d.room;
+  boots = d.boots;
+  again = found d.room d.point (down-sound lies flies start story trace d) (down-fallen lies flies start story trace d) d.again;
+  flies = same ∙ d.flies;
+}
+
+fails-later : (room : ℕ) (p : Point) (e : OpenErr) → MayFailAt room p e → IsLater e
+fails-later room p (NotSalt dev) h = h
+fails-later room p (OtherShape kept asked) h = h
+fails-later room p (NumbersSpent boot decisions) h = h.spent
+fails-later room p (Halted halt) h = tt
+
+pub finding-fails : (lies now : ℕ → Point → Type 0) (left : Option Numbers → ℕ → Point → Type 0) (fills : Written → ℕ → Type 0) (flies known : Option Flight) (e : OpenErr) (start : Start) (story : List Event) (trace : Trace) →
+    (d : IsDown lies flies start story trace) →
+    ((e ≡ Halted Memory → ⊥) → (room : ℕ) (p : Point) → IsSoundPoint p → p.state.units.phase ≡ Fallen → lies room p → now room p) →
+    ((room : ℕ) (p : Point) → IsSoundPoint p → p.state.units.phase ≡ Fallen → lies room p → left (numbers_of e) room p) → known ≡ flies →
+    ((room : ℕ) (p : Point) → IsSoundPoint p → p.state.units.phase ≡ Fallen → lies room p → MayFailAt room p e) →
+    ((dev : ℕ) → e ≡ Halted (DeviceFull dev) → ⊥) → BreaksOpening now left fills known e start trace story story
+finding-fails lies now left fills flies known e start story trace d found stays same fails full =
+    let sound = down-sound lies flies start story trace d in
+    let fallen = down-fallen lies flies start story trace d in
+    record {
+      after = trace;
+      lines = refl;
+      tells = d.tells;
+      fits = d.fits;
+      point = d.point;
+      keeps = d.keeps;
+      grows = ([], sym (no-more story));
+      later = fails-later d.room d.point e (fails d.room d.point sound fallen d.again);
+      stops = inl (record {
+        fallen = d.fallen;
+        room = d.room;
+        boots = let b = d.boots in omega arith;
+        fails = fails d.room d.point sound fallen d.again;
+        full = λ dev is. absurd (full dev is);
+        again = λ some. found some d.room d.point sound fallen d.again;
+        stays = stays d.room d.point sound fallen d.again;
+        flies = same ∙ d.flies;
+      });
+    }

@@ -1,0 +1,66 @@
+use Rattle.salt_driver.proofs.Counted.{opening-join}
+use Rattle.salt_driver.proofs.Falling.{breaks-behind, falls-behind, reopens-behind}
+use Rattle.salt_driver.proofs.opening.open.Goals as goal
+use Rattle.salt_driver.specs.Reopening.{OpensOrFalls}
+use Rattle.salt_storage.proofs.Staying.{stays-behind}
+use Rattle.std.proofs.Common.{ap, subst}
+use Rattle.std.proofs.lemmas.Result.{err_from_is_err_and}
+use Rattle.std.specs.Prelude.{Bool, Ok}
+
+pub try_open-requires-clause-down : goal.try_open-requires-clause-down
+try_open-requires-clause-down g c =
+    let d = c.requires.down in
+    let f = c.stops.invariant.1 d.0 d.1 d.2 in
+    (d.0, f.after, f.down)
+
+pub returns-in_err-try_open-clause-err : goal.returns-in_err-try_open-clause-err
+returns-in_err-try_open-clause-err g c =
+    let view = g.D.Disks.view in
+    let p = err_from_is_err_and c.from_residual.result c.from_residual.ensures.1 in
+    rw (p.1, p.2) (λ start trace d.
+    let f = c.stops.invariant.1 start trace d in
+    breaks-behind _ (g.E.Stepping.lies (view c.try_open.new.disks) c.try_open.new.database) _ (g.E.Stepping.flight c.try_open.new.database) start trace c.args.story.now c.stops.story c.try_open.new.story f _ _ _
+    (c.in_err-try_open.ensures.err start f.after f.down))
+
+pub returns-in_err-try_open-clause-counts : goal.returns-in_err-try_open-clause-counts
+returns-in_err-try_open-clause-counts g c =
+    let view = g.D.Disks.view in
+    let p = err_from_is_err_and c.from_residual.result c.from_residual.ensures.1 in
+    rw (p.1, p.2) (opening-join (view c.args.disks.now) (view c.stops.disks) (view c.try_open.new.disks) _ c.args.story.now c.stops.story c.try_open.new.story c.stops.invariant.2 c.in_err-try_open.ensures.counts)
+
+pub stops-preserved : goal.stops-preserved
+stops-preserved g c =
+    let view = g.D.Disks.view in
+    let lies = g.E.Stepping.lies (view c.try_open.new.disks) c.try_open.new.database in
+    let flies = g.E.Stepping.flight c.try_open.new.database in
+    let fell = c.if-not-branch.true in
+    let told = c.args.story.now in (
+      c.in_ok-try_open.ensures.settled (ap Ok fell),
+      (λ start trace d.
+          let f = c.stops.invariant.1 start trace d in
+          falls-behind _ lies _ flies start trace told c.stops.story c.try_open.new.story f
+          (subst (λ (b : Bool). OpensOrFalls b (g.E.Stepping.sees (view c.try_open.new.disks)) lies flies start f.after c.stops.story c.try_open.new.database c.try_open.new.story) fell (c.in_ok-try_open.ensures.ok start f.after f.down))),
+      opening-join (view c.args.disks.now) (view c.stops.disks) (view c.try_open.new.disks) _ told c.stops.story c.try_open.new.story c.stops.invariant.2 c.in_ok-try_open.ensures.counts,
+      stays-behind c.stops.invariant.3 c.in_ok-try_open.ensures.within,
+    )
+
+pub returns-clause-ok : goal.returns-clause-ok
+returns-clause-ok g c = λ start trace d.
+    let view = g.D.Disks.view in
+    let f = c.stops.invariant.1 start trace d in
+    let sees = g.E.Stepping.sees (view c.try_open.new.disks) in
+    let lies = g.E.Stepping.lies (view c.try_open.new.disks) c.try_open.new.database in
+    let flies = g.E.Stepping.flight c.try_open.new.database in
+    reopens-behind _ lies _ flies start trace c.args.story.now c.stops.story c.try_open.new.story f sees c.try_open.new.database
+    (subst (λ (b : Bool). OpensOrFalls b sees lies flies start f.after c.stops.story c.try_open.new.database c.try_open.new.story) c.if-not-branch.false (c.in_ok-try_open.ensures.ok start f.after f.down))
+
+pub returns-clause-counts : goal.returns-clause-counts
+returns-clause-counts g c =
+    let view = g.D.Disks.view in
+    opening-join (view c.args.disks.now) (view c.stops.disks) (view c.try_open.new.disks) _ c.args.story.now c.stops.story c.try_open.new.story c.stops.invariant.2 c.in_ok-try_open.ensures.counts
+
+pub returns-in_err-try_open-clause-within : goal.returns-in_err-try_open-clause-within
+returns-in_err-try_open-clause-within g c = stays-behind c.stops.invariant.3 c.in_err-try_open.ensures.within
+
+pub returns-clause-within : goal.returns-clause-within
+returns-clause-within g c = stays-behind c.stops.invariant.3 c.in_ok-try_open.ensures.within

@@ -1,0 +1,69 @@
+use Rattle.salt_driver.proofs.Counted.{opening-join, opening-untold}
+use Rattle.salt_driver.proofs.Openings.{finding-fails, found-down, not-short}
+use Rattle.salt_driver.proofs.opening.open_once.Goals as goal
+use Rattle.salt_storage.proofs.Staying.{stays-behind}
+use Rattle.std.proofs.lemmas.Result.{err_from_is_err_and}
+use Rattle.std.proofs.Common.{ap}
+use Rattle.std.specs.Prelude.{Err, None, refl}
+
+pub open_found-requires-clause-down : goal.open_found-requires-clause-down
+open_found-requires-clause-down g c =
+    let view = g.D.Disks.view in
+    let d = c.requires.down.2 in (
+      c.requires.down.0,
+      c.requires.down.1,
+      found-down (g.E.Stepping.lies (view c.args.disks.now) c.args.database.now) (g.E.Stepping.lies (view c.find.new.disks) c.find.new.self) (g.E.Stepping.flight c.args.database.now) (g.E.Stepping.flight c.find.new.self)
+          c.requires.down.0 c.args.story.now c.requires.down.1 d (c.in_ok-find.ensures.again (λ never. cc)) c.find.ensures.flies,
+    )
+
+pub returns-clause-ok : goal.returns-clause-ok
+returns-clause-ok g c = λ start trace d.
+    let view = g.D.Disks.view in
+    c.in_ok-open_found.ensures.ok start trace
+    (found-down (g.E.Stepping.lies (view c.args.disks.now) c.args.database.now) (g.E.Stepping.lies (view c.find.new.disks) c.find.new.self) (g.E.Stepping.flight c.args.database.now) (g.E.Stepping.flight c.find.new.self)
+    start c.args.story.now trace d (c.in_ok-find.ensures.again (λ never. cc)) c.find.ensures.flies)
+
+pub returns-clause-within : goal.returns-clause-within
+returns-clause-within g c = stays-behind c.find.ensures.within c.open_found.ensures.within
+
+pub returns-in_err-find-clause-err : goal.returns-in_err-find-clause-err
+returns-in_err-find-clause-err g c =
+    let p = err_from_is_err_and c.from_residual.result c.from_residual.ensures.1 in
+    rw (p.1, p.2) (λ start trace d.
+    let view = g.D.Disks.view in
+    finding-fails (g.E.Stepping.lies (view c.args.disks.now) c.args.database.now) (g.E.Stepping.lies (view c.find.new.disks) c.find.new.self) (g.E.Stepping.left (view c.find.new.disks) c.find.new.self) _
+    (g.E.Stepping.flight c.args.database.now) (g.E.Stepping.flight c.find.new.self) _ start c.args.story.now trace d (λ some. c.in_err-find.ensures.again (not-short _ some)) c.in_err-find.ensures.left
+    c.find.ensures.flies c.in_err-find.ensures.later (λ dev is. c.in_err-find.ensures.full dev (ap Err is)))
+
+pub returns-in_err-open_found-clause-err : goal.returns-in_err-open_found-clause-err
+returns-in_err-open_found-clause-err g c =
+    let p = err_from_is_err_and c.from_residual-in_err-open_found.result c.from_residual-in_err-open_found.ensures.1 in
+    rw (p.1, p.2) (λ start trace d.
+    let view = g.D.Disks.view in
+    c.in_err-open_found.ensures.err start trace
+    (found-down (g.E.Stepping.lies (view c.args.disks.now) c.args.database.now) (g.E.Stepping.lies (view c.find.new.disks) c.find.new.self) (g.E.Stepping.flight c.args.database.now) (g.E.Stepping.flight c.find.new.self)
+    start c.args.story.now trace d (c.in_ok-find.ensures.again (λ never. cc)) c.find.ensures.flies))
+
+pub returns-in_err-find-clause-counts : goal.returns-in_err-find-clause-counts
+returns-in_err-find-clause-counts g c =
+    let view = g.D.Disks.view in
+    let story = c.args.story.now in
+    let p = err_from_is_err_and c.from_residual.result c.from_residual.ensures.1 in
+    rw (p.1, p.2) (opening-untold (view c.args.disks.now) (view c.find.new.disks) _ story story c.in_err-find.ensures.counts refl)
+
+pub returns-in_err-open_found-clause-counts : goal.returns-in_err-open_found-clause-counts
+returns-in_err-open_found-clause-counts g c =
+    let view = g.D.Disks.view in
+    let story = c.args.story.now in
+    let p = err_from_is_err_and c.from_residual-in_err-open_found.result c.from_residual-in_err-open_found.ensures.1 in
+    rw (p.1, p.2) (opening-join (view c.args.disks.now) (view c.find.new.disks) (view c.open_found.new.disks) _ story story c.open_found.new.story
+    (opening-untold (view c.args.disks.now) (view c.find.new.disks) None story story c.in_ok-find.ensures.counts refl)
+    c.in_err-open_found.ensures.counts)
+
+pub returns-clause-counts : goal.returns-clause-counts
+returns-clause-counts g c =
+    let view = g.D.Disks.view in
+    let story = c.args.story.now in
+    opening-join (view c.args.disks.now) (view c.find.new.disks) (view c.open_found.new.disks) None story story c.open_found.new.story
+    (opening-untold (view c.args.disks.now) (view c.find.new.disks) None story story c.in_ok-find.ensures.counts refl)
+    c.in_ok-open_found.ensures.counts

@@ -1,0 +1,67 @@
+use Rattle.salt_driver.proofs.Counted.{fall-counts, fall-short}
+use Rattle.salt_driver.proofs.Falling.{breaks-behind, falls-served, halted-short, no-short-fall, reopens-behind}
+use Rattle.salt_driver.proofs.opening.recover.Goals as goal
+use Rattle.salt_driver.specs.Counting.{CountsFall}
+use Rattle.salt_model.specs.declared.events.Event.{Event}
+use Rattle.salt_storage.proofs.Staying.{stays-behind, stays-same}
+use Rattle.std.proofs.Common.{subst, sym}
+use Rattle.std.proofs.lemmas.Result.{IfErr-weaker, err_from_is_err_and, on_ok_weaker}
+use Rattle.std.specs.Prelude.{List, None}
+
+pub returns-in_err-push-clause-err : goal.returns-in_err-push-clause-err
+returns-in_err-push-clause-err g c =
+    let p = err_from_is_err_and c.from_residual.result c.from_residual.ensures.1 in
+    rw (p.1, p.2) (λ start trace h.
+    halted-short (g.E.Stepping.lies (g.D.Disks.view c.args.disks.now) c.args.database.now) (g.E.Stepping.left (g.D.Disks.view c.args.disks.now) c.args.database.now) (g.E.Stepping.fills (g.D.Disks.view c.args.disks.now) c.args.database.now) _ (g.E.Stepping.flight c.args.database.now) c.args.why start trace c.args.story.now c.push.new.self
+    c.in_err-push.ensures.err h)
+
+pub returns-in_err-push-clause-counts : goal.returns-in_err-push-clause-counts
+returns-in_err-push-clause-counts g c =
+    let p = err_from_is_err_and c.from_residual.result c.from_residual.ensures.1 in
+    let v = g.D.Disks.view c.args.disks.now in
+    rw (p.1, p.2) (subst (λ (told : List Event). CountsFall c.args.why v v _ c.args.story.now told) (sym c.in_err-push.ensures.err) (fall-short c.args.why v c.args.story.now))
+
+pub fall-requires : goal.fall-requires
+fall-requires g c = let h = c.requires.halted.2 in (0, (h.point, h.halts.again (no-short-fall c.args.why)))
+
+pub open-requires-clause-down : goal.open-requires-clause-down
+open-requires-clause-down g c =
+    let view = g.D.Disks.view in
+    let h = c.requires.halted in
+    let f =
+    falls-served (g.E.Stepping.lies (view c.args.disks.now) c.args.database.now 0) (g.E.Stepping.left (view c.args.disks.now) c.args.database.now None 0) (g.E.Stepping.fills (view c.args.disks.now) c.args.database.now) (g.E.Stepping.flight c.args.database.now) c.args.why h.0 h.1 c.args.story.now h.2
+    (g.E.Stepping.lies (view c.fall.new.disks) c.fall.new.self) (g.E.Stepping.flight c.fall.new.self) c.push.new.self (c.fall.ensures.lies 0) c.fall.ensures.flies c.in_ok-push.ensures.ok in
+    (h.0, f.after, f.down)
+
+pub returns-clause-ok : goal.returns-clause-ok
+returns-clause-ok g c = on_ok_weaker c.open.result (λ done start trace h.
+    let view = g.D.Disks.view in
+    let lies = g.E.Stepping.lies (view c.fall.new.disks) c.fall.new.self in
+    let flies = g.E.Stepping.flight c.fall.new.self in
+    let f =
+    falls-served (g.E.Stepping.lies (view c.args.disks.now) c.args.database.now 0) (g.E.Stepping.left (view c.args.disks.now) c.args.database.now None 0) (g.E.Stepping.fills (view c.args.disks.now) c.args.database.now) (g.E.Stepping.flight c.args.database.now) c.args.why start trace c.args.story.now h
+    lies flies c.push.new.self (c.fall.ensures.lies 0) c.fall.ensures.flies c.in_ok-push.ensures.ok in
+    reopens-behind lies lies flies flies start trace c.args.story.now c.push.new.self c.open.new.story f (g.E.Stepping.sees (view c.open.new.disks)) c.open.new.database (done start f.after f.down)) c.open.ensures.ok
+
+pub returns-clause-err : goal.returns-clause-err
+returns-clause-err g c = IfErr-weaker c.open.result _ _ (λ e broken start trace h.
+    let view = g.D.Disks.view in
+    let lies = g.E.Stepping.lies (view c.fall.new.disks) c.fall.new.self in
+    let flies = g.E.Stepping.flight c.fall.new.self in
+    let f =
+    falls-served (g.E.Stepping.lies (view c.args.disks.now) c.args.database.now 0) (g.E.Stepping.left (view c.args.disks.now) c.args.database.now None 0) (g.E.Stepping.fills (view c.args.disks.now) c.args.database.now) (g.E.Stepping.flight c.args.database.now) c.args.why start trace c.args.story.now h
+    lies flies c.push.new.self (c.fall.ensures.lies 0) c.fall.ensures.flies c.in_ok-push.ensures.ok in
+    breaks-behind lies (g.E.Stepping.lies (view c.open.new.disks) c.open.new.database) flies (g.E.Stepping.flight c.open.new.database) start trace c.args.story.now c.push.new.self c.open.new.story f _ _ e
+    (broken start f.after f.down)) c.open.ensures.err
+
+pub returns-clause-counts : goal.returns-clause-counts
+returns-clause-counts g c =
+    let view = g.D.Disks.view in
+    fall-counts c.args.why (view c.args.disks.now) (view c.fall.new.disks) (view c.open.new.disks) _ c.args.story.now c.push.new.self c.open.new.story c.fall.ensures.faults c.fall.ensures.stops
+    c.in_ok-push.ensures.ok c.open.ensures.counts
+
+pub returns-clause-within : goal.returns-clause-within
+returns-clause-within g c = stays-behind c.fall.ensures.within c.open.ensures.within
+
+pub returns-in_err-push-clause-within : goal.returns-in_err-push-clause-within
+returns-in_err-push-clause-within g c = stays-same (g.E.Stepping.asked c.args.database.now) (g.D.Disks.view c.args.disks.now)

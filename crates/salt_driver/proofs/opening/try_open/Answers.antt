@@ -1,0 +1,62 @@
+use Rattle.salt_driver.proofs.Counted.{fewer-stops, opening-fallen, short-counts}
+use Rattle.salt_driver.proofs.Falling.{breaks-short, falls-anew, lies-somewhere}
+use Rattle.salt_driver.proofs.opening.try_open.Goals as goal
+use Rattle.salt_driver.specs.Counting.{CountsOpening}
+use Rattle.salt_storage.proofs.Staying.{stays-behind}
+use Rattle.salt_storage.specs.Answers.{open_disk_err_of}
+use Rattle.salt_storage.specs.declared.open.OpenErr.TheVariants.{Halted}
+use Rattle.salt_storage.specs.declared.open.OpenErr.{OpenErr}
+use Rattle.std.proofs.Common.{ap, subst, ◌∙◌}
+use Rattle.std.proofs.lemmas.Result.{err_from_is_err_and}
+
+pub fall-requires : goal.fall-requires
+fall-requires g c =
+    let down = c.requires.down in
+    let view = g.D.Disks.view c.open_once.new.disks in
+    let e = c.open_once.new.database in
+    lies-somewhere (g.E.Stepping.lies view e) (g.E.Stepping.left view e) (g.E.Stepping.fills view e) (g.E.Stepping.flight e) c.in-Err-Halted-Stopped.field-0 down.0 down.1 c.args.story.now c.open_once.new.story
+    (c.in-Err-Halted-Stopped.field-0-is ∙ ap Halted c.in-Err-Halted-Stopped.field-0-0-is) (c.in-Err-Halted-Stopped.ensures.err down.0 down.1 down.2)
+
+pub returns-in_err-push-in-Err-Halted-Stopped-clause-err : goal.returns-in_err-push-in-Err-Halted-Stopped-clause-err
+returns-in_err-push-in-Err-Halted-Stopped-clause-err g c =
+    let p = err_from_is_err_and c.from_residual.result c.from_residual.ensures.1 in
+    rw (p.1, p.2) (λ start trace d.
+    let view = g.D.Disks.view c.open_once.new.disks in
+    let e = c.open_once.new.database in
+    let stop = c.in-Err-Halted-Stopped in
+    breaks-short (g.E.Stepping.lies view e) (g.E.Stepping.left view e) (g.E.Stepping.fills view e) (g.E.Stepping.flight e) stop.field-0 start trace c.args.story.now c.open_once.new.story c.push.new.self (stop.field-0-is ∙ ap Halted stop.field-0-0-is)
+    c.in_err-push-in-Err-Halted-Stopped.ensures.err (stop.ensures.err start trace d))
+
+pub returns-in_ok-push-in-Err-Halted-Stopped-clause-ok : goal.returns-in_ok-push-in-Err-Halted-Stopped-clause-ok
+returns-in_ok-push-in-Err-Halted-Stopped-clause-ok g c = λ start trace d.
+    let stop = c.in-Err-Halted-Stopped in
+    falls-anew (g.E.Stepping.lies (g.D.Disks.view c.open_once.new.disks) c.open_once.new.database) (g.E.Stepping.left (g.D.Disks.view c.open_once.new.disks) c.open_once.new.database) (g.E.Stepping.lies (g.D.Disks.view c.fall.new.disks) c.fall.new.self) (g.E.Stepping.fills (g.D.Disks.view c.open_once.new.disks) c.open_once.new.database) (g.E.Stepping.flight c.open_once.new.database) (g.E.Stepping.flight c.fall.new.self)
+    stop.field-0 start trace c.args.story.now c.open_once.new.story c.push.new.self (stop.field-0-is ∙ ap Halted stop.field-0-0-is) c.fall.ensures.lies c.fall.ensures.flies
+    c.in_ok-push-in-Err-Halted-Stopped.ensures.ok (stop.ensures.err start trace d)
+
+pub returns-in_ok-push-in-Err-Halted-Stopped-clause-counts : goal.returns-in_ok-push-in-Err-Halted-Stopped-clause-counts
+returns-in_ok-push-in-Err-Halted-Stopped-clause-counts g c =
+    let view = g.D.Disks.view in
+    let stop = c.in-Err-Halted-Stopped in
+    opening-fallen (view c.args.disks.now) (view c.open_once.new.disks) (view c.fall.new.disks) c.args.story.now c.open_once.new.story c.push.new.self
+    (subst (λ (e : OpenErr). CountsOpening (view c.args.disks.now) (view c.open_once.new.disks) (open_disk_err_of e) c.args.story.now c.open_once.new.story) (stop.field-0-is ∙ ap Halted stop.field-0-0-is) stop.ensures.counts)
+    c.fall.ensures.faults c.fall.ensures.stops c.in_ok-push-in-Err-Halted-Stopped.ensures.ok
+
+pub returns-in_ok-push-in-Err-Halted-Stopped-clause-fewer : goal.returns-in_ok-push-in-Err-Halted-Stopped-clause-fewer
+returns-in_ok-push-in-Err-Halted-Stopped-clause-fewer g c = λ is.
+    let view = g.D.Disks.view in
+    let stop = c.in-Err-Halted-Stopped in
+    fewer-stops (view c.args.disks.now) (view c.open_once.new.disks) (view c.fall.new.disks) c.args.story.now c.open_once.new.story
+    (subst (λ (e : OpenErr). CountsOpening (view c.args.disks.now) (view c.open_once.new.disks) (open_disk_err_of e) c.args.story.now c.open_once.new.story) (stop.field-0-is ∙ ap Halted stop.field-0-0-is) stop.ensures.counts)
+    c.fall.ensures.stops
+
+pub returns-in_ok-push-in-Err-Halted-Stopped-clause-within : goal.returns-in_ok-push-in-Err-Halted-Stopped-clause-within
+returns-in_ok-push-in-Err-Halted-Stopped-clause-within g c = stays-behind c.in-Err-Halted-Stopped.ensures.within c.fall.ensures.within
+
+pub returns-in_err-push-in-Err-Halted-Stopped-clause-counts : goal.returns-in_err-push-in-Err-Halted-Stopped-clause-counts
+returns-in_err-push-in-Err-Halted-Stopped-clause-counts g c =
+    let view = g.D.Disks.view in
+    let stop = c.in-Err-Halted-Stopped in
+    let p = err_from_is_err_and c.from_residual.result c.from_residual.ensures.1 in
+    rw (p.1, p.2) (short-counts (view c.args.disks.now) (view c.open_once.new.disks) _ c.args.story.now c.open_once.new.story c.push.new.self stop.ensures.counts
+    c.in_err-push-in-Err-Halted-Stopped.ensures.err (ap open_disk_err_of (stop.field-0-is ∙ ap Halted stop.field-0-0-is)))

@@ -1,0 +1,116 @@
+use Rattle.std.proofs.lemmas.Result.{err_from_is_err_and}
+use Rattle.law_states.specs.Points.{Turn}
+use Rattle.salt_driver.proofs.Advancing.{finish-where, none-of, sound-moved, sound-on, stop-turned, stop-turning, turn-on}
+use Rattle.salt_driver.proofs.Counted.{count-all, count-join, count-short, count-so-far, count-turn}
+use Rattle.salt_driver.proofs.serving.finish.Goals as goal
+use Rattle.salt_storage.proofs.Staying.{stays-behind}
+use Rattle.std.proofs.Common.{ap, subst, sym, ◌∙◌}
+use Rattle.std.specs.Prelude.{None, length, ◌<◌}
+
+pub settle-requires-clause-stands : goal.settle-requires-clause-stands
+settle-requires-clause-stands g c = c.requires.stands
+
+pub loop-base-init : goal.loop-base-init
+loop-base-init g c = (
+  c.in_ok-settle.ensures.ok,
+  count-so-far (g.D.Disks.view c.args.disks.now) (g.D.Disks.view c.settle.new.disks) c.args.first c.args.story.now c.settle.new.story c.in_ok-settle.ensures.counts,
+  c.in_ok-settle.ensures.within,
+)
+
+pub turn-requires-clause-stands : goal.turn-requires-clause-stands
+turn-requires-clause-stands g c =
+    let here = c.loop-base.invariant.0 c.requires.stands.0 c.requires.stands.1 c.requires.stands.2 in
+    let sound = sound-on here.moves c.requires.stands.0 here.point c.requires.stands.1 here.inside here.runs in
+    (here.point, sound, here.stands, sym (c.next_turn.ensures here.point sound here.stands.state) ∙ c.in-Some.is)
+
+pub settle-requires-in-Some-clause-stands : goal.settle-requires-in-Some-clause-stands
+settle-requires-in-Some-clause-stands g c =
+    let here = c.loop-base.invariant.0 c.requires.stands.0 c.requires.stands.1 c.requires.stands.2 in
+    let sound = sound-on here.moves c.requires.stands.0 here.point c.requires.stands.1 here.inside here.runs in
+    let r = c.in_ok-next.ensures.moves here.point sound here.stands (sym (c.next_turn.ensures here.point sound here.stands.state) ∙ c.in-Some.is) in
+    (r.0, sound-moved (Turn c.in-Some.base) here.point r.0 tt sound r.1, r.2)
+
+pub loop-base-smaller : goal.loop-base-smaller
+loop-base-smaller g c =
+    subst (λ n. n < length (g.E.Stepping.turns c.loop-base.engine)) (sym (ap length c.in_ok-settle-2.ensures.turns)) c.in_ok-next.ensures.fewer
+
+pub loop-base-preserved : goal.loop-base-preserved
+loop-base-preserved g c =
+    let view = g.D.Disks.view in
+    let known = c.loop-base.invariant in (
+      λ p starts at.
+          let here = known.0 p starts at in
+          let sound = sound-on here.moves p here.point starts here.inside here.runs in
+          let r = c.in_ok-next.ensures.moves here.point sound here.stands (sym (c.next_turn.ensures here.point sound here.stands.state) ∙ c.in-Some.is) in
+          turn-on (g.E.Stepping.sees (view c.settle-in-Some.new.disks)) c.args.line.now (g.E.Stepping.sees (view c.loop-base.disks)) c.in-Some.base p r.0 c.args.story.now c.loop-base.story c.settle-in-Some.new.story c.loop-base.engine c.settle-in-Some.new.engine here r.1
+          (c.in_ok-settle-2.ensures.ok r.0 (sound-moved (Turn c.in-Some.base) here.point r.0 tt sound r.1) r.2),
+      count-so-far (view c.args.disks.now) (view c.settle-in-Some.new.disks) c.args.first c.args.story.now c.settle-in-Some.new.story
+          (count-join (view c.args.disks.now) (view c.turn.new.disks) (view c.settle-in-Some.new.disks) None c.args.first c.in_ok-next.next c.args.story.now c.loop-base.story c.settle-in-Some.new.story
+          (count-turn (view c.args.disks.now) (view c.loop-base.disks) (view c.turn.new.disks) c.args.first c.args.story.now c.loop-base.story c.in_ok-next.next known.1 c.in_ok-next.ensures.counts)
+          c.in_ok-settle-2.ensures.counts),
+      stays-behind (stays-behind known.2 c.in_ok-next.ensures.within) c.in_ok-settle-2.ensures.within,
+    )
+
+pub returns-clause-ok : goal.returns-clause-ok
+returns-clause-ok g c = λ p starts at.
+    let here = c.loop-base.invariant.0 p starts at in
+    let sound = sound-on here.moves p here.point starts here.inside here.runs in
+    finish-where (g.E.Stepping.sees (g.D.Disks.view c.loop-base.disks)) c.args.line.now p c.args.story.now c.loop-base.story c.loop-base.engine here
+    (sym (c.next_turn.ensures here.point sound here.stands.state) ∙ none-of c.next_turn.result c.in_default.not-Some)
+
+pub returns-clause-counts : goal.returns-clause-counts
+returns-clause-counts g c =
+    let view = g.D.Disks.view in
+    count-all (view c.args.disks.now) (view c.loop-base.disks) c.args.first c.args.story.now c.loop-base.story c.loop-base.invariant.1
+
+pub returns-in_err-settle-clause-err : goal.returns-in_err-settle-clause-err
+returns-in_err-settle-clause-err g c =
+    let p = err_from_is_err_and c.from_residual.result c.from_residual.ensures.1 in
+    rw (p.1, p.2) c.in_err-settle.ensures.err
+
+pub returns-in_err-settle-clause-counts : goal.returns-in_err-settle-clause-counts
+returns-in_err-settle-clause-counts g c =
+    let p = err_from_is_err_and c.from_residual.result c.from_residual.ensures.1 in
+    rw (p.1, p.2) c.in_err-settle.ensures.counts
+
+pub returns-in_err-next-clause-err : goal.returns-in_err-next-clause-err
+returns-in_err-next-clause-err g c =
+    let p = err_from_is_err_and c.from_residual-in_err-next.result c.from_residual-in_err-next.ensures.1 in
+    rw (p.1, p.2) (λ p starts at.
+    let here = c.loop-base.invariant.0 p starts at in
+    let sound = sound-on here.moves p here.point starts here.inside here.runs in
+    stop-turning (g.E.Stepping.sees (g.D.Disks.view c.loop-base.disks)) c.args.line.now _ _ _ _ _ c.in-Some.base p c.args.story.now c.loop-base.story c.loop-base.engine here
+    (c.in_err-next.ensures.halts here.point sound here.stands (sym (c.next_turn.ensures here.point sound here.stands.state) ∙ c.in-Some.is)))
+
+pub returns-in_err-next-clause-counts : goal.returns-in_err-next-clause-counts
+returns-in_err-next-clause-counts g c =
+    let view = g.D.Disks.view in
+    let p = err_from_is_err_and c.from_residual-in_err-next.result c.from_residual-in_err-next.ensures.1 in
+    rw (p.1, p.2) (count-short (view c.args.disks.now) (view c.loop-base.disks) (view c.turn.new.disks) _ c.args.first c.args.story.now c.loop-base.story c.loop-base.invariant.1 c.in_err-next.ensures.counts)
+
+pub returns-in_err-settle-2-clause-err : goal.returns-in_err-settle-2-clause-err
+returns-in_err-settle-2-clause-err g c =
+    let p = err_from_is_err_and c.from_residual-in_err-settle-2.result c.from_residual-in_err-settle-2.ensures.1 in
+    rw (p.1, p.2) (λ p starts at.
+    let here = c.loop-base.invariant.0 p starts at in
+    let sound = sound-on here.moves p here.point starts here.inside here.runs in
+    let r = c.in_ok-next.ensures.moves here.point sound here.stands (sym (c.next_turn.ensures here.point sound here.stands.state) ∙ c.in-Some.is) in
+    stop-turned (g.E.Stepping.sees (g.D.Disks.view c.loop-base.disks)) c.args.line.now _ _ _ _ _ c.in-Some.base p r.0 c.args.story.now c.loop-base.story c.settle-in-Some.new.story c.loop-base.engine here r.1
+    (c.in_err-settle-2.ensures.err r.0 (sound-moved (Turn c.in-Some.base) here.point r.0 tt sound r.1) r.2))
+
+pub returns-in_err-settle-2-clause-counts : goal.returns-in_err-settle-2-clause-counts
+returns-in_err-settle-2-clause-counts g c =
+    let view = g.D.Disks.view in
+    let p = err_from_is_err_and c.from_residual-in_err-settle-2.result c.from_residual-in_err-settle-2.ensures.1 in
+    rw (p.1, p.2) (count-join (view c.args.disks.now) (view c.turn.new.disks) (view c.settle-in-Some.new.disks) _ c.args.first c.in_ok-next.next c.args.story.now c.loop-base.story c.settle-in-Some.new.story
+    (count-turn (view c.args.disks.now) (view c.loop-base.disks) (view c.turn.new.disks) c.args.first c.args.story.now c.loop-base.story c.in_ok-next.next c.loop-base.invariant.1 c.in_ok-next.ensures.counts)
+    c.in_err-settle-2.ensures.counts)
+
+pub returns-clause-within : goal.returns-clause-within
+returns-clause-within g c = c.loop-base.invariant.2
+
+pub returns-in_err-next-clause-within : goal.returns-in_err-next-clause-within
+returns-in_err-next-clause-within g c = stays-behind c.loop-base.invariant.2 c.in_err-next.ensures.within
+
+pub returns-in_err-settle-2-clause-within : goal.returns-in_err-settle-2-clause-within
+returns-in_err-settle-2-clause-within g c = stays-behind (stays-behind c.loop-base.invariant.2 c.in_ok-next.ensures.within) c.in_err-settle-2.ensures.within

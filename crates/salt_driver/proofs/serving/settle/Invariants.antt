@@ -1,0 +1,17 @@
+use Rattle.law_states.specs.Points.{Point}
+use Rattle.salt_driver.proofs.serving.settle.Given as goal
+use Rattle.salt_driver.specs.Standing.{Advances, IsAt, IsSoundPoint, left_to_come}
+use Rattle.salt_driver.specs.Counting.{CountsSoFar}
+use Rattle.salt_storage.specs.Staying.{StaysWithin}
+use Rattle.std.specs.Prelude.{◌≡◌}
+
+abbrev pub invariant-loop-next : goal.invariant-loop-next
+invariant-loop-next g l =
+    ((p : Point) → IsSoundPoint p → IsAt (g.E.Stepping.sees (g.D.Disks.view l.initial.disks)) l.line l.initial.engine l.initial.next p →
+    Advances (g.E.Stepping.sees (g.D.Disks.view l.disks)) l.line p l.initial.story l.engine l.next l.story)
+    × CountsSoFar (g.D.Disks.view l.initial.disks) (g.D.Disks.view l.disks) l.initial.next l.initial.story l.story l.next
+    × (g.E.Stepping.turns l.engine ≡ g.E.Stepping.turns l.initial.engine)
+    × StaysWithin (g.E.Stepping.asked l.initial.engine) (g.E.Stepping.asked l.engine) (g.D.Disks.view l.initial.disks) (g.D.Disks.view l.disks)
+
+abbrev pub decreases-loop-next : goal.decreases-loop-next
+decreases-loop-next g l = left_to_come (g.E.Stepping.waiting l.engine) l.next

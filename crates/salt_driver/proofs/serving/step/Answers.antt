@@ -1,0 +1,69 @@
+use Rattle.std.proofs.lemmas.Result.{err_from_is_err_and}
+use Rattle.salt_model.specs.Trace.{Tree}
+use Rattle.salt_driver.proofs.Advancing.{sound-asked}
+use Rattle.salt_driver.proofs.Counted.{count-join, count-none, count-short, count-turn}
+use Rattle.salt_driver.proofs.Segments.{breaks-by, breaks-untold, goes-by, serves-at}
+use Rattle.salt_driver.proofs.serving.step.Goals as goal
+use Rattle.salt_storage.proofs.Staying.{stays-behind}
+use Rattle.std.proofs.lemmas.Result.{IfErr-weaker, on_ok_weaker}
+use Rattle.std.specs.Prelude.{None}
+
+pub ask-requires-clause-stands : goal.ask-requires-clause-stands
+ask-requires-clause-stands g c =
+    let sees = g.E.Stepping.sees (g.D.Disks.view c.args.disks.now) in
+    let s = c.requires.stands.2 in (s.point, serves-at sees sees c.requires.stands.0 c.args.engine.now c.args.story.now c.requires.stands.1 s, s.stands)
+
+pub finish-requires-clause-stands : goal.finish-requires-clause-stands
+finish-requires-clause-stands g c =
+    let sees = g.E.Stepping.sees (g.D.Disks.view c.args.disks.now) in
+    let s = c.requires.stands.2 in
+    let sound = serves-at sees sees c.requires.stands.0 c.args.engine.now c.args.story.now c.requires.stands.1 s in
+    let r = c.in_ok-first.ensures.moves s.point sound s.stands in
+    (r.0, sound-asked (Tree c.args.line.now) s.point r.0 c.requires.key sound r.1, r.2)
+
+pub returns-clause-segment : goal.returns-clause-segment
+returns-clause-segment g c = on_ok_weaker c.finish.result (λ done start trace s.
+    let view = g.D.Disks.view in
+    let old = g.E.Stepping.sees (view c.args.disks.now) in
+    let asked = Tree c.args.line.now in
+    let sound = serves-at old old start c.args.engine.now c.args.story.now trace s in
+    let r = c.in_ok-first.ensures.moves s.point sound s.stands in
+    goes-by old (g.E.Stepping.sees (view c.finish.new.disks)) start trace asked c.args.line.now c.args.engine.now c.finish.new.engine c.args.story.now c.finish.new.story s r.0 c.requires.key r.1
+    (done r.0 (sound-asked asked s.point r.0 c.requires.key sound r.1) r.2)) c.finish.ensures.ok
+
+pub returns-clause-broken_off : goal.returns-clause-broken_off
+returns-clause-broken_off g c = IfErr-weaker c.finish.result _ _ (λ halt stopped start trace s.
+    let view = g.D.Disks.view in
+    let old = g.E.Stepping.sees (view c.args.disks.now) in
+    let asked = Tree c.args.line.now in
+    let sound = serves-at old old start c.args.engine.now c.args.story.now trace s in
+    let r = c.in_ok-first.ensures.moves s.point sound s.stands in
+    breaks-by old old start (g.E.Stepping.lies (view c.finish.new.disks) c.finish.new.engine 0) (g.E.Stepping.left (view c.finish.new.disks) c.finish.new.engine None 0) (g.E.Stepping.fills (view c.finish.new.disks) c.finish.new.engine) (g.E.Stepping.flight c.finish.new.engine) halt trace asked c.args.engine.now c.args.story.now c.finish.new.story s r.0 c.requires.key r.1
+    (stopped r.0 (sound-asked asked s.point r.0 c.requires.key sound r.1) r.2)) c.finish.ensures.err
+
+pub returns-clause-within : goal.returns-clause-within
+returns-clause-within g c = stays-behind c.in_ok-first.ensures.within c.finish.ensures.within
+
+pub returns-clause-counts : goal.returns-clause-counts
+returns-clause-counts g c =
+    let view = g.D.Disks.view in
+    let story = c.args.story.now in
+    count-join (view c.args.disks.now) (view c.ask.new.disks) (view c.finish.new.disks) _ None c.in_ok-first.first story story c.finish.new.story
+    (count-turn (view c.args.disks.now) (view c.args.disks.now) (view c.ask.new.disks) None story story c.in_ok-first.first
+    (count-none (view c.args.disks.now) None story) c.in_ok-first.ensures.counts)
+    c.finish.ensures.counts
+
+pub returns-in_err-first-clause-broken_off : goal.returns-in_err-first-clause-broken_off
+returns-in_err-first-clause-broken_off g c =
+    let p = err_from_is_err_and c.from_residual.result c.from_residual.ensures.1 in
+    rw (p.1, p.2) (λ start trace s.
+    let old = g.E.Stepping.sees (g.D.Disks.view c.args.disks.now) in
+    let sound = serves-at old old start c.args.engine.now c.args.story.now trace s in
+    breaks-untold old old start _ _ _ _ _ trace (Tree c.args.line.now) c.args.engine.now c.args.story.now s c.requires.key (c.in_err-first.ensures.halts s.point sound s.stands))
+
+pub returns-in_err-first-clause-counts : goal.returns-in_err-first-clause-counts
+returns-in_err-first-clause-counts g c =
+    let view = g.D.Disks.view in
+    let story = c.args.story.now in
+    let p = err_from_is_err_and c.from_residual.result c.from_residual.ensures.1 in
+    rw (p.1, p.2) (count-short (view c.args.disks.now) (view c.args.disks.now) (view c.ask.new.disks) _ None story story (count-none (view c.args.disks.now) None story) c.in_err-first.ensures.counts)

@@ -1,0 +1,126 @@
+//! What stands over devices and is opened: at first, and anew behind each fall.
+
+ghost use Rattle.salt_disk.specs.Disks.{View};
+ghost use Rattle.law_states.specs.Points.{Moves, Point, Say};
+ghost use Rattle.salt_model.specs.Kept.{schema_of};
+ghost use Rattle.salt_model.specs.Phases.{Fallen};
+ghost use Rattle.salt_model.specs.declared.events.Event.{Event};
+ghost use Rattle.salt_model.specs.declared.events.Flight.{Flight};
+ghost use Rattle.salt_driver.specs.Counting.{CountsStops, armed_at, stops_armed};
+ghost use Rattle.law_openings.specs.Draining.{statements_at};
+ghost use Rattle.salt_driver.specs.Draining.{MayTick};
+ghost use Rattle.salt_driver.specs.Opening.{IsFallenFrom, MayFailAt, OpensAt};
+ghost use Rattle.salt_driver.specs.Standing.{BreaksAt, IsOpenedOn, IsOpeningAt, IsSoundPoint};
+ghost use Rattle.salt_storage.specs.Answers.{disk_err, numbers_told, open_disk_err};
+ghost use Rattle.salt_storage.specs.Staying.{StaysWithin};
+ghost use Rattle.salt_storage.specs.Writing.{OfBoot};
+ghost use Rattle.salt_storage.specs.declared.halt.Halt.TheVariants.{DeviceFull, Memory};
+ghost use Rattle.salt_storage.specs.declared.open.OpenErr.{OpenErr};
+ghost use Rattle.salt_place.specs.Placement.{GivesPlaceOf, TakesEachKey};
+ghost use Rattle.std.specs.Prelude.{Err, IfErr, IfOk, None, OnErr, OnOk, Option, Some, ℕ, [], ◌++◌, ◌+◌, ◌<◌, ◌∷◌, ◌≡◌};
+
+use crate::engine::Stepping;
+use salt_disk::Disks;
+use salt_model::{Event, Flight, Story};
+use salt_schema::Schema;
+use salt_storage::{Halt, OpenErr};
+use salt_values::{Key, Steps};
+use salt_place::{PlaceKind, Placement};
+use std::sync::ledger::Ledger;
+
+/// What stands over devices, and is opened before it serves lines: behind a fall what the devices stand for is found first, and then
+/// a boot begins, in which it goes on with what programs have left. After a `Halt` it falls, and is opened anew before it is asked
+/// again; after want of memory it is not asked again.
+pub trait Openable: Stepping {
+    /// What its devices stand for is found.
+    ghost is_found: { View → Self → Type 0 };
+
+    /// What its devices stand for is found, or can be looked for: they are there, and nothing is pending on them.
+    ghost settled: { View → Self → Type 0 };
+
+    /// What is left of an opening, with this event at hand, as a number.
+    ghost to_open: { Self → Option Event → ℕ };
+
+    /// Finds behind a fall what its devices stand for. What is found already is not looked for again.
+    fn find<D: Disks, F: Fn(PlaceKind, &Key, u32) -> u32>(
+        &mut self,
+        disks: &mut D,
+        place: &Placement<F>,
+    ) -> Result<(), OpenErr>
+        requires callable { TakesEachKey (F.pre place.now.place) }
+        requires answers { GivesPlaceOf (F.post place.now.place) }
+        requires settled { settled (D.view disks.old) self.old }
+        ensures found { OnOk result (is_found (D.view disks.new) self.new) }
+        ensures again { (result ≡ Err (OpenErr.Halted Memory) → ⊥) → (room : ℕ) (p : Point) → IsSoundPoint p → p.state.units.phase ≡ Fallen → Self.lies (D.view disks.old) self.old room p →
+            Self.lies (D.view disks.new) self.new room p }
+        ensures left { (room : ℕ) (p : Point) → IsSoundPoint p → p.state.units.phase ≡ Fallen → Self.lies (D.view disks.old) self.old room p → Self.left (D.view disks.new) self.new (numbers_told result) room p }
+        ensures later { IfErr result (λ e. (room : ℕ) (p : Point) → IsSoundPoint p → p.state.units.phase ≡ Fallen → Self.lies (D.view disks.old) self.old room p → MayFailAt room p e) }
+        ensures flies { Self.flight self.new ≡ Self.flight self.old }
+        ensures full { (dev : ℕ) → result ≡ Err (OpenErr.Halted (DeviceFull dev)) → ⊥ }
+        ensures within { StaysWithin (Self.asked self.old) (Self.asked self.new) (D.view disks.old) (D.view disks.new) }
+        ensures counts { CountsStops (D.view disks.old) (D.view disks.new) (open_disk_err result) [] 0 };
+
+    /// Opens over what it has found, and tells that it has: a new boot begins. It gives the first event of the opening. An error leaves
+    /// the story as it was.
+    fn open<D: Disks>(&mut self, disks: &mut D, story: &mut Story) -> Result<Event, Halt>
+        requires found { is_found (D.view disks.old) self.old }
+        requires lies { (room : ℕ) × (p : Point) × IsSoundPoint p × (p.state.units.phase ≡ Fallen) × Self.lies (D.view disks.old) self.old room p }
+        ensures opens { IfOk result (λ next. (room : ℕ) (p : Point) → IsSoundPoint p → p.state.units.phase ≡ Fallen → Self.lies (D.view disks.old) self.old room p →
+            OpensAt (Self.sees (D.view disks.new)) room p story.old self.new next story.new) }
+        ensures lies { IfErr result (λ halt. (halt ≡ Memory → ⊥) → (room : ℕ) (p : Point) → IsSoundPoint p → p.state.units.phase ≡ Fallen → Self.lies (D.view disks.old) self.old room p →
+            Self.lies (D.view disks.new) self.new (room + 1) p) }
+        ensures left { OnErr result ((room : ℕ) (p : Point) → IsSoundPoint p → p.state.units.phase ≡ Fallen → Self.lies (D.view disks.old) self.old room p →
+            Self.left (D.view disks.new) self.new None (room + 1) p) }
+        ensures flies { OnErr result (Self.flight self.new ≡ Self.flight self.old) }
+        ensures untold { OnErr result (story.new ≡ story.old) }
+        ensures full { (dev : ℕ) → result ≡ Err (DeviceFull dev) → Self.fills (D.view disks.new) self.new OfBoot dev }
+        ensures within { StaysWithin (Self.asked self.old) (Self.asked self.new) (D.view disks.old) (D.view disks.new) }
+        ensures unarmed { IfOk result (λ next. stops_armed next ≡ []) }
+        ensures counts { CountsStops (D.view disks.old) (D.view disks.new) (disk_err result) [] 0 };
+
+    /// Tells what comes next in an opening, and gives what comes after it, none behind its end: a step where that is a statement, which
+    /// is done then. An error leaves the story as it was, or with this event.
+    fn go_on<D: Disks, F: Fn(PlaceKind, &Key, u32) -> u32, L: Ledger>(
+        &mut self,
+        disks: &mut D,
+        place: &Placement<F>,
+        event: Event,
+        story: &mut Story,
+        steps: &mut Steps<L>,
+    ) -> Result<Option<Event>, Halt>
+        requires callable { TakesEachKey (F.pre place.now.place) }
+        requires answers { GivesPlaceOf (F.post place.now.place) }
+        requires stands { (p : Point) × IsSoundPoint p × IsOpeningAt (Self.sees (D.view disks.old)) self.old (Some event) p }
+        ensures moves { IfOk result (λ next. (p : Point) → IsSoundPoint p → IsOpeningAt (Self.sees (D.view disks.old)) self.old (Some event) p →
+            (q : Point) × Moves (Say event) p q × IsOpenedOn (Self.sees (D.view disks.new)) self.new next q) }
+        ensures tells { OnOk result (story.new ≡ story.old ++ event ∷ []) }
+        ensures halts { IfErr result (λ halt. (p : Point) → IsSoundPoint p → IsOpeningAt (Self.sees (D.view disks.old)) self.old (Some event) p →
+            BreaksAt (Self.lies (D.view disks.new) self.new 0) (Self.left (D.view disks.new) self.new None 0) (Self.fills (D.view disks.new) self.new) (Self.flight self.new) halt p event story.old story.new) }
+        ensures ticks { IfOk result (λ next. steps.new ≡ steps.old + statements_at next) }
+        ensures short { OnErr result ((p : Point) → IsSoundPoint p → IsOpeningAt (Self.sees (D.view disks.old)) self.old (Some event) p →
+            MayTick p event story.old story.new steps.old steps.new) }
+        ensures less { IfOk result (λ next. to_open self.new next < to_open self.old (Some event)) }
+        ensures within { StaysWithin (Self.asked self.old) (Self.asked self.new) (D.view disks.old) (D.view disks.new) }
+        ensures unarmed { IfOk result (λ next. armed_at next ≡ []) }
+        ensures counts { CountsStops (D.view disks.old) (D.view disks.new) (disk_err result) [] 0 };
+
+    /// Falls: the devices are started again.
+    fn fall<D: Disks>(&mut self, disks: &mut D)
+        requires { (room : ℕ) × ((p : Point) × Self.lies (D.view disks.old) self.old room p) }
+        ensures lies { (room : ℕ) (p q : Point) → Self.lies (D.view disks.old) self.old room p → IsFallenFrom p q → Self.lies (D.view disks.new) self.new room q }
+        ensures settled { settled (D.view disks.new) self.new }
+        ensures flies { Self.flight self.new ≡ Self.flight self.old }
+        ensures within { StaysWithin (Self.asked self.old) (Self.asked self.new) (D.view disks.old) (D.view disks.new) }
+        ensures faults { (D.view disks.new).faults ≡ (D.view disks.old).faults }
+        ensures stops { (D.view disks.new).armed ≡ (D.view disks.old).armed };
+
+    /// The tables that are defined, unless memory ran out.
+    fn schema<D: Disks>(&self, disks: &D) -> &Schema
+        requires left { (room : ℕ) × ((p : Point) × Self.left (D.view disks.now) self.now None room p) }
+        ensures serves { (p : Point) → IsSoundPoint p → Self.sees (D.view disks.now) self.now None p.state → result.now ≡ schema_of p.state.units.kept }
+        ensures lies { (room : ℕ) (p : Point) → IsSoundPoint p → Self.lies (D.view disks.now) self.now room p → result.now ≡ schema_of p.state.units.kept };
+
+    /// It is given up: what was in flight where it was broken off.
+    fn flight(self) -> Option<Flight>
+        ensures { result ≡ Self.flight self };
+}

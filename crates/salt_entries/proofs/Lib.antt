@@ -1,4 +1,0 @@
-mod Lists
-mod Orders
-mod Words
-pub mod Puttable

@@ -1,0 +1,5 @@
+mod Spelled
+mod Refusals
+pub mod Defining
+mod Following
+mod Recovering

@@ -1,0 +1,12 @@
+-- The answer of a move that is followed.
+use Rattle.salt_found.specs.declared.error.ContErr.TheVariants.{Memory, NotMove}
+use Rattle.salt_found.specs.declared.error.ContErr.{ContErr}
+use Rattle.salt_stands.specs.OpenConts.{do_rise}
+use Rattle.salt_values.specs.declared.cont.Cont.{Cont}
+use Rattle.std.specs.Prelude.{Err, List, None, Ok, Option, Result, Some, true, ⊤, ◌≡◌}
+
+-- these continuations are left, and they rise
+abbrev pub Follows : {A : Type 0} → Result A ContErr → List Cont → Option (List Cont) → Type 0
+Follows (Ok x) conts going = (going ≡ Some conts) × (do_rise conts ≡ true)
+Follows (Err NotMove) conts going = going ≡ None
+Follows (Err Memory) conts going = ⊤

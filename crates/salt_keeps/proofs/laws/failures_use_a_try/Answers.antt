@@ -1,5 +1,0 @@
-use Rattle.salt_keeps.proofs.TriesLeft.{tries-left}
-use Rattle.salt_keeps.proofs.laws.failures_use_a_try.Goals as goal
-
-pub returns : goal.returns
-returns c = (λ s trace o b part n tries x d keeps k h kind here left. tries-left s trace o b part n tries x d keeps k h.played h.well kind here left)

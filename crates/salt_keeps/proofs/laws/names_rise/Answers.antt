@@ -1,5 +1,0 @@
-use Rattle.salt_keeps.proofs.Rising.{names-rise}
-use Rattle.salt_keeps.proofs.laws.names_rise.Goals as goal
-
-pub returns : goal.returns
-returns c = (λ s trace keeps h. names-rise s trace keeps h.played h.well)

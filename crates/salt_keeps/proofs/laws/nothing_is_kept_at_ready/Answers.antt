@@ -1,7 +1,0 @@
-use Rattle.salt_keeps.proofs.KeptPrograms.{ready-empty}
-use Rattle.salt_laws.proofs.WellKept.{of-start}
-use Rattle.salt_model.specs.Trace.{start_of}
-use Rattle.salt_keeps.proofs.laws.nothing_is_kept_at_ready.Goals as goal
-
-pub returns : goal.returns
-returns c = (λ trace h. ready-empty trace h.played (of-start (start_of trace).kept h.well))

@@ -1,5 +1,0 @@
-use Rattle.salt_keeps.proofs.Closures.{release-from}
-use Rattle.salt_keeps.proofs.laws.releases_come_from_what_is_kept.Goals as goal
-
-pub returns : goal.returns
-returns c = (λ trace d bs h k due. release-from trace d h.played h.well k bs due)

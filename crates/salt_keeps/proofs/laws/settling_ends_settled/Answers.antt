@@ -1,7 +1,0 @@
-use Rattle.salt_keeps.proofs.Settled.{settled}
-use Rattle.salt_laws.proofs.WellKept.{of-start}
-use Rattle.salt_model.specs.Trace.{start_of}
-use Rattle.salt_keeps.proofs.laws.settling_ends_settled.Goals as goal
-
-pub returns : goal.returns
-returns c = (λ trace h. settled trace h.played (of-start (start_of trace).kept h.well))

@@ -1,7 +1,0 @@
-use Rattle.salt_keeps.proofs.KeptPrograms.{busy-by, unreleased-says}
-use Rattle.salt_laws.proofs.WellKept.{of-start}
-use Rattle.salt_model.specs.Trace.{start_of}
-use Rattle.salt_keeps.proofs.laws.unreleased_programs_change.Goals as goal
-
-pub returns : goal.returns
-returns c = record { change = (λ trace e h. unreleased-says trace e h.played (of-start (start_of trace).kept h.well)); busy = busy-by }

@@ -1,6 +1,0 @@
-use Rattle.salt_model.specs.Kept.{zeros}
-use Rattle.salt_known.proofs.bindings.zeros.Given as goal
-use Rattle.std.proofs.Common.{take, ◌≡◌}
-
-abbrev pub invariant-loop-field : goal.invariant-loop-field
-invariant-loop-field l = l.row ≡ zeros (take l.field-index l.fields)

@@ -1,7 +1,0 @@
-use Rattle.salt_laws.proofs.Continues.{continued-played}
-use Rattle.salt_laws.proofs.laws.played_is_continued.Goals as goal
-use Rattle.salt_laws.proofs.WellKept.{of-start}
-use Rattle.salt_model.specs.Trace.{start_of}
-
-pub returns : goal.returns
-returns c = (λ trace p w. continued-played trace p (of-start (start_of trace).kept w) w.accepted)

@@ -1,7 +1,0 @@
-use Rattle.salt_laws.proofs.FinishedSources.{releases-played}
-use Rattle.salt_laws.proofs.laws.played_releases_exactly.Goals as goal
-use Rattle.salt_laws.proofs.WellKept.{of-start}
-use Rattle.salt_model.specs.Trace.{start_of}
-
-pub returns : goal.returns
-returns c = (λ trace p w. releases-played trace p (of-start (start_of trace).kept w))

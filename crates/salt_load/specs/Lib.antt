@@ -1,3 +1,0 @@
-pub mod Workload
-pub mod Places
-pub mod WorkloadRows

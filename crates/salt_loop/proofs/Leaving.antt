@@ -1,0 +1,411 @@
+-- Where a run ends: behind an opening that breaks off, in a line, or between lines.
+use Rattle.law_states.proofs.NextTold.{devices-told, may-stand}
+use Rattle.law_states.specs.Laws.{IsSound, is_of_run}
+use Rattle.law_states.specs.OpenUnits.{UnitState}
+use Rattle.law_states.specs.Points.{KeepsPoint, Point}
+use Rattle.law_states.specs.States.{State}
+use Rattle.law_states.specs.Told.{at_devices_in}
+use Rattle.law_story.proofs.Replays.{good-event, replays}
+use Rattle.salt_model.specs.Ends.{MayLeave, flight_told, is_serving}
+use Rattle.salt_model.specs.Next.{decision_in, flight, next}
+use Rattle.salt_model.specs.Phases.{Fallen, Serving, phase}
+use Rattle.salt_model.specs.Segments.{IsComplete}
+use Rattle.salt_model.specs.Stops.{is_device_next}
+use Rattle.salt_model.specs.Trace.{Start, Trace, from, ◌asks◌, ◌says◌, ◌turns◌}
+use Rattle.salt_model.specs.declared.events.Event.TheVariants.{Down, Opened}
+use Rattle.salt_model.specs.declared.events.Event.{Event}
+use Rattle.salt_model.specs.declared.events.Flight.{Flight}
+use Rattle.salt_promise.specs.declared.status.Status.{Status}
+use Rattle.salt_promise.specs.declared.status.Status.TheVariants.{DeviceFull, Done, Memory, ReadFault, ScriptTooLong, WriteFault}
+use Rattle.salt_loop.specs.Ending.{EndsFound, EndsOpening, LeavesAt, MayEndAt}
+use Rattle.salt_loop.specs.Run.{IsFlightAt, leave_of}
+use Rattle.salt_loop.specs.Serving.{EndsBehind}
+use Rattle.salt_loop.specs.Stopping.{IsLaterStop, answer_of, numbers_told, status_of, status_opening, stop_opening}
+use Rattle.salt_loop.specs.declared.stop.Stop.TheVariants as stop
+use Rattle.salt_loop.specs.declared.stop.Stop.{Stop}
+use Rattle.salt_driver.proofs.Segments.{serves-at, sound-of}
+use Rattle.salt_driver.specs.Opening.{MayFailAt}
+use Rattle.salt_driver.specs.Reopening.{BreaksOpening, EndsWithin, NotBegun, WithinOpening}
+use Rattle.salt_driver.specs.Serving.{Halts, Serves}
+use Rattle.salt_driver.specs.Standing.{IsIdleAt, IsSoundPoint}
+use Rattle.salt_driver.specs.Writing.{IsWrittenAt}
+use Rattle.salt_storage.specs.Answers.{IsLater, numbers_of, open_disk_err_of}
+use Rattle.salt_storage.specs.Writing.{OfBoot, Written}
+use Rattle.salt_storage.specs.declared.halt.Halt.TheVariants as halt
+use Rattle.salt_storage.specs.declared.halt.Halt.{Halt}
+use Rattle.salt_storage.specs.declared.open.OpenErr.TheVariants.{Halted, NotSalt, NumbersSpent, OtherShape}
+use Rattle.salt_storage.specs.declared.open.OpenErr.{OpenErr}
+use Rattle.std.proofs.Common.{ap, append-nil, arith, inl, inr, subst, sym, ◌∙◌}
+use Rattle.salt_storage.specs.declared.found.Numbers.{Numbers}
+use Rattle.std.specs.Prelude.{Bool, Err, IsTrue, List, None, Ok, Option, Result, Some, [], false, not, refl, true, ℕ, ◌||◌, ◌≡◌, ◌⊎◌}
+use Rattle.std.specs.Result.{IfErr, OnOk}
+
+-- THE PLACE
+
+pub at-devices : (trace : Trace) → is_serving (phase trace) ≡ false → IsTrue (not (is_serving (phase trace)) || is_device_next trace (next trace))
+at-devices trace h = subst (λ (b : Bool). IsTrue (not b || is_device_next trace (next trace))) (sym h) refl
+
+or-true : (b : Bool) → IsTrue (b || true)
+or-true true = refl
+or-true false = refl
+
+pub leaves-later : (e : OpenErr) → IsLater e → (trace : Trace) → is_serving (phase trace) ≡ false → MayLeave (leave_of (status_opening e)) trace
+leaves-later (NotSalt dev) l trace h = absurd l
+leaves-later (OtherShape kept asked) l trace h = absurd l
+leaves-later (NumbersSpent boot decisions) l trace h = h
+leaves-later (Halted halt.Stopped) l trace h = h
+leaves-later (Halted halt.DiskFault) l trace h = h
+leaves-later (Halted (halt.DeviceFull dev)) l trace h = at-devices trace h
+leaves-later (Halted halt.Memory) l trace h = tt
+
+flies-later : (e : OpenErr) → IsLater e → (trace : Trace) (flies : Option Flight) → flies ≡ flight_told (flight trace) → IsFlightAt (status_opening e) trace flies
+flies-later (NotSalt dev) l trace flies h = absurd l
+flies-later (OtherShape kept asked) l trace flies h = absurd l
+flies-later (NumbersSpent boot decisions) l trace flies h = h
+flies-later (Halted halt.Stopped) l trace flies h = h
+flies-later (Halted halt.DiskFault) l trace flies h = h
+flies-later (Halted (halt.DeviceFull dev)) l trace flies h = h
+flies-later (Halted halt.Memory) l trace flies h = inr h
+
+pub later-stop : (e : OpenErr) → IsLater e → IsLaterStop (stop_opening e)
+later-stop (NotSalt dev) l = absurd l
+later-stop (OtherShape kept asked) l = absurd l
+later-stop (NumbersSpent boot decisions) l = tt
+later-stop (Halted halt.Stopped) l = tt
+later-stop (Halted halt.DiskFault) l = tt
+later-stop (Halted (halt.DeviceFull dev)) l = tt
+later-stop (Halted halt.Memory) l = tt
+
+pub full-reason : (e : OpenErr) (dev : ℕ) → status_opening e ≡ DeviceFull dev → e ≡ Halted (halt.DeviceFull dev)
+full-reason (NotSalt d) dev h = absurd cc
+full-reason (OtherShape kept asked) dev h = absurd cc
+full-reason (NumbersSpent boot decisions) dev h = absurd cc
+full-reason (Halted halt.Stopped) dev h = absurd cc
+full-reason (Halted halt.DiskFault) dev h = absurd cc
+full-reason (Halted (halt.DeviceFull d)) dev h = cc
+full-reason (Halted halt.Memory) dev h = absurd cc
+
+-- how it may fail there
+
+may-fail : (room : ℕ) (p : Point) (e : OpenErr) → p.state.units.phase ≡ Fallen → MayFailAt room p e → MayEndAt room p (status_opening e)
+may-fail room p (NotSalt dev) fell h = h
+may-fail room p (OtherShape kept asked) fell h = h
+may-fail room p (NumbersSpent boot decisions) fell h = (fell, h)
+may-fail room p (Halted halt.Stopped) fell h = tt
+may-fail room p (Halted halt.DiskFault) fell h = tt
+may-fail room p (Halted (halt.DeviceFull dev)) fell h = tt
+may-fail room p (Halted halt.Memory) fell h = tt
+
+may-halt : (room : ℕ) (p : Point) (h : Halt) → MayEndAt room p (status_opening (Halted h))
+may-halt room p halt.Stopped = tt
+may-halt room p halt.DiskFault = tt
+may-halt room p (halt.DeviceFull dev) = tt
+may-halt room p halt.Memory = tt
+
+-- the numbers that are told
+
+same-numbers : (e : OpenErr) → numbers_of e ≡ numbers_told (status_opening e)
+same-numbers (NotSalt dev) = refl
+same-numbers (OtherShape kept asked) = refl
+same-numbers (NumbersSpent boot decisions) = refl
+same-numbers (Halted halt.Stopped) = refl
+same-numbers (Halted halt.DiskFault) = refl
+same-numbers (Halted (halt.DeviceFull dev)) = refl
+same-numbers (Halted halt.Memory) = refl
+
+untold : (left : Option Numbers → ℕ → Point → Type 0) → ((numbers : Numbers) (room : ℕ) (p : Point) → left (Some numbers) room p → left None room p) → (told : Option Numbers) (room : ℕ) (p : Point) →
+    left told room p → left None room p
+untold left forgets None room p h = h
+untold left forgets (Some numbers) room p h = forgets numbers room p h
+
+-- AN OPENING
+
+module _ (lies : ℕ → Point → Type 0) (left : Option Numbers → ℕ → Point → Type 0) (fills : Written → ℕ → Type 0) (flies : Option Flight) (e : OpenErr) (start : Start) (trace : Trace) (story told : List Event)
+    (b : BreaksOpening lies left fills flies e start trace story told) where
+  not-begun : NotBegun lies left fills flies e b.after b.point → LeavesAt lies left fills flies (status_opening e) start b.after told
+  not-begun n = record {
+    tells = b.tells;
+    fits = b.fits;
+    leaves = leaves-later e b.later b.after (ap is_serving n.fallen);
+    flies = flies-later e b.later b.after flies (n.flies ∙ ap flight_told (sym b.keeps.flight));
+    ends = record {
+      room = n.room;
+      point = b.point;
+      keeps = b.keeps;
+      boots = n.boots;
+      may = may-fail n.room b.point e fell n.fails;
+      again = λ some. n.again (λ m. some (ap status_opening m));
+      stands = subst (λ (told : Option Numbers). left told n.room b.point) (same-numbers e) n.stays;
+      full = λ dev is. (OfBoot, inr (fell, refl), n.full dev (full-reason e dev is));
+    };
+  }
+    where
+      fell : b.point.state.units.phase ≡ Fallen
+      fell = sym b.keeps.state.units.phase ∙ n.fallen
+
+  within : WithinOpening lies left fills flies e b.after b.point → LeavesAt lies left fills flies (status_opening e) start b.after told
+  within w = record {
+    tells = b.tells;
+    fits = b.fits;
+    leaves = place w.place;
+    flies = flown w.halts.flies;
+    ends = record {
+      room = 0;
+      point = b.point;
+      keeps = b.keeps;
+      boots = omega arith;
+      may = subst (λ x. MayEndAt 0 b.point (status_opening x)) (sym w.halted) (may-halt 0 b.point w.halt);
+      again = λ some. w.halts.again (λ m. some (ap status_opening (w.halted ∙ ap Halted m)));
+      stands = subst (λ (told : Option Numbers). left told 0 b.point) (sym (ap numbers_of w.halted) ∙ same-numbers e) w.halts.stays;
+      full = λ dev is. by dev (w.halts.full dev (halted-so w.halt (halt.DeviceFull dev) (sym w.halted ∙ full-reason e dev is)));
+    };
+  }
+    where
+      halted-so : (g h : Halt) → Halted g ≡ Halted h → g ≡ h
+      halted-so g h same = cc
+
+      short : w.halt ≡ halt.Memory → e ≡ Halted halt.Memory
+      short m = w.halted ∙ ap Halted m
+
+      place : (w.halt ≡ halt.Memory) ⊎ EndsWithin b.after → MayLeave (leave_of (status_opening e)) b.after
+      place (inl m) = subst (λ x. MayLeave (leave_of (status_opening x)) b.after) (sym (short m)) tt
+      place (inr within) = leaves-later e b.later b.after (ap is_serving within.opening)
+
+      flown : ((w.halt ≡ halt.Memory) × (flies ≡ None)) ⊎ (flies ≡ flight_told b.point.flight) → IsFlightAt (status_opening e) b.after flies
+      flown (inl m) = subst (λ x. IsFlightAt (status_opening x) b.after flies) (sym (short m.0)) (inl m.1)
+      flown (inr f) = flies-later e b.later b.after flies (f ∙ ap flight_told (sym b.keeps.flight))
+
+      by : (dev : ℕ) → (x : Written) × IsWrittenAt b.point x × fills x dev →
+          (x : Written) × (IsWrittenAt b.point x ⊎ ((b.point.state.units.phase ≡ Fallen) × (x ≡ OfBoot))) × fills x dev
+      by dev x = (x.0, inl x.1, x.2)
+
+  pub leaves-opening : LeavesAt lies left fills flies (status_opening e) start b.after told
+  leaves-opening = by b.stops
+    where
+      by : NotBegun lies left fills flies e b.after b.point ⊎ WithinOpening lies left fills flies e b.after b.point → LeavesAt lies left fills flies (status_opening e) start b.after told
+      by (inl n) = not-begun n
+      by (inr w) = within w
+
+  pub ends-early : EndsOpening lies left fills flies (stop_opening e) start trace told
+  ends-early = record { after = b.after; lines = b.lines; ends = leaves-opening }
+
+  pub ends-opening : (h : Halt) → (h ≡ halt.Memory → ⊥) → EndsBehind lies left fills flies h (stop_opening e) start trace story told
+  ends-opening h some = record { after = b.after; lines = b.lines; short = λ m. absurd (some m); ends = leaves-opening; grows = b.grows }
+
+-- A LINE
+
+is-of-units : (s : UnitState) (e : Event) → at_devices_in s e ≡ true → is_of_run e ≡ false
+is-of-units s (Down why) h = cc
+is-of-units s (Opened boot n) h = cc
+is-of-units s e h = refl
+
+device-next : (p : Point) (trace : Trace) (e : Event) → KeepsPoint p trace → IsSound trace → p.next ≡ Some e → at_devices_in p.state.units e ≡ true →
+    is_device_next trace (next trace) ≡ true
+device-next p trace e k sound comes devices =
+    let here : next trace ≡ Some e = k.next ∙ comes in
+    let good = good-event trace e (replays trace sound.played) (may-stand trace e (is-of-units p.state.units e devices) here) in
+    ap (is_device_next trace) here ∙ devices-told p.state.units trace e k.state.units sound.played good ∙ devices
+
+module _ (lies : ℕ → Point → Type 0) (left : Option Numbers → ℕ → Point → Type 0) (fills : Written → ℕ → Type 0) (flies : Option Flight) (start : Start) (trace : Trace) (story : List Event) where
+  pub halts-full : (dev : ℕ) → Halts (lies 0) (left None 0) fills flies (halt.DeviceFull dev) start story trace → EndsBehind lies left fills flies (halt.DeviceFull dev) (stop.DeviceFull dev) start trace story story
+  halts-full dev h = record {
+    after = trace;
+    lines = refl;
+    short = λ m. absurd (never m);
+    ends = record {
+      tells = h.tells;
+      fits = h.fits;
+      leaves = place h.halts.reason;
+      flies = flown h.halts.flies;
+      ends = record {
+        room = 0;
+        point = h.point;
+        keeps = h.keeps;
+        boots = omega arith;
+        may = tt;
+        again = λ some. h.halts.again (λ m. cc);
+        stands = h.halts.stays;
+        full = λ d is. by d (h.halts.full d (same d is));
+      };
+    };
+    grows = ([], sym (append-nil story));
+  }
+    where
+      never : halt.DeviceFull dev ≡ halt.Memory → ⊥
+      never e = cc
+
+      same : (d : ℕ) → DeviceFull dev ≡ DeviceFull d → halt.DeviceFull dev ≡ halt.DeviceFull d
+      same d is = cc
+
+      place : (halt.DeviceFull dev ≡ halt.Memory) ⊎ ((e : Event) × (h.point.next ≡ Some e) × (at_devices_in h.point.state.units e ≡ true)) →
+          IsTrue (not (is_serving (phase trace)) || is_device_next trace (next trace))
+      place (inl m) = absurd (never m)
+      place (inr r) =
+          subst (λ (b : Bool). IsTrue (not (is_serving (phase trace)) || b)) (sym (device-next h.point trace r.0 h.keeps (sound-of start trace h.tells.begins h.tells.played h.fits) r.1 r.2))
+          (or-true (not (is_serving (phase trace))))
+
+      flown : ((halt.DeviceFull dev ≡ halt.Memory) × (flies ≡ None)) ⊎ (flies ≡ flight_told h.point.flight) → flies ≡ flight_told (flight trace)
+      flown (inl m) = absurd (never m.0)
+      flown (inr f) = f ∙ ap flight_told (sym h.keeps.flight)
+
+      by : (d : ℕ) → (x : Written) × IsWrittenAt h.point x × fills x d →
+          (x : Written) × (IsWrittenAt h.point x ⊎ ((h.point.state.units.phase ≡ Fallen) × (x ≡ OfBoot))) × fills x d
+      by d x = (x.0, inl x.1, x.2)
+
+  pub halts-short : Halts (lies 0) (left None 0) fills flies halt.Memory start story trace → EndsBehind lies left fills flies halt.Memory stop.Memory start trace story story
+  halts-short h = record {
+    after = trace;
+    lines = refl;
+    short = λ m. (refl, refl);
+    ends = record {
+      tells = h.tells;
+      fits = h.fits;
+      leaves = tt;
+      flies = flown h.halts.flies;
+      ends = record {
+        room = 0;
+        point = h.point;
+        keeps = h.keeps;
+        boots = omega arith;
+        may = tt;
+        again = λ some. absurd (some refl);
+        stands = h.halts.stays;
+        full = λ d is. absurd (never d is);
+      };
+    };
+    grows = ([], sym (append-nil story));
+  }
+    where
+      never : (d : ℕ) → Memory ≡ DeviceFull d → ⊥
+      never d is = cc
+
+      flown : ((halt.Memory ≡ halt.Memory) × (flies ≡ None)) ⊎ (flies ≡ flight_told h.point.flight) → (flies ≡ None) ⊎ (flies ≡ flight_told (flight trace))
+      flown (inl m) = inl m.1
+      flown (inr f) = inr (f ∙ ap flight_told (sym h.keeps.flight))
+
+-- BETWEEN LINES
+
+decision-none : (o : Option Event) → o ≡ None → decision_in o ≡ None
+decision-none o h = ap decision_in h
+
+pub complete-flight : (trace : Trace) → IsComplete trace → flight trace ≡ None
+complete-flight (from k) c = refl
+complete-flight (trace asks asked) c = decision-none (next (trace asks asked)) c.1
+complete-flight (trace turns b) c = decision-none (next (trace turns b)) c.1
+complete-flight (trace says Down why) c = absurd (fell c.0)
+  where
+    fell : Fallen ≡ Serving → ⊥
+    fell e = cc
+complete-flight (trace says Opened boot n) c = decision-none (next (trace says Opened boot n)) c.1
+complete-flight (trace says e) c = decision-none (next (trace says e)) c.1
+
+module _ {E : Type 0} (sees : E → Option Event → State → Type 0) (lies : ℕ → Point → Type 0) (left : Option Numbers → ℕ → Point → Type 0) (fills : Written → ℕ → Type 0) (flies : Option Flight) (e : E)
+    (idle : (p : Point) → IsSoundPoint p → IsIdleAt sees e p → lies 0 p) (flown : (p : Point) → IsSoundPoint p → IsIdleAt sees e p → flies ≡ None)
+    (leaves : (room : ℕ) (p : Point) → lies room p → left None room p) (start : Start) (trace : Trace) (story : List Event) (s : Serves sees start e story trace) where
+  ends-idle : (status : Status) → ((room : ℕ) (p : Point) → MayEndAt room p status) → ((dev : ℕ) → status ≡ DeviceFull dev → ⊥) → numbers_told status ≡ None → EndsFound lies left fills status trace
+  ends-idle status may never none =
+      let at = idle s.point (serves-at sees sees start e story trace s) s.stands in
+      record {
+        room = 0;
+        point = s.point;
+        keeps = s.keeps;
+        boots = omega arith;
+        may = may 0 s.point;
+        again = λ some. at;
+        stands = subst (λ (told : Option Numbers). left told 0 s.point) (sym none) (leaves 0 s.point at);
+        full = λ dev is. absurd (never dev is);
+      }
+
+  none-flown : flies ≡ None
+  none-flown = flown s.point (serves-at sees sees start e story trace s) s.stands
+
+  pub done-leaves : LeavesAt lies left fills flies Done start trace story
+  done-leaves = record { tells = s.tells; fits = s.fits; leaves = s.complete; flies = none-flown; ends = ends-idle Done (λ room p. tt) (λ dev is. cc) refl }
+
+  pub fault-leaves : LeavesAt lies left fills flies ReadFault start trace story
+  fault-leaves = record { tells = s.tells; fits = s.fits; leaves = s.complete; flies = none-flown; ends = ends-idle ReadFault (λ room p. tt) (λ dev is. cc) refl }
+
+  pub long-leaves : LeavesAt lies left fills flies ScriptTooLong start trace story
+  long-leaves = record { tells = s.tells; fits = s.fits; leaves = s.complete; flies = none-flown; ends = ends-idle ScriptTooLong (λ room p. tt) (λ dev is. cc) refl }
+
+  pub short-leaves : LeavesAt lies left fills flies Memory start trace story
+  short-leaves = record { tells = s.tells; fits = s.fits; leaves = tt; flies = inl none-flown; ends = ends-idle Memory (λ room p. tt) (λ dev is. cc) refl }
+
+  pub unwritten-leaves : LeavesAt lies left fills flies WriteFault start trace story
+  unwritten-leaves = record {
+    tells = s.tells;
+    fits = s.fits;
+    leaves = inl s.complete;
+    flies = none-flown ∙ sym (ap flight_told (complete-flight trace s.complete));
+    ends = ends-idle WriteFault (λ room p. tt) (λ dev is. cc) refl;
+  }
+
+  -- for want of memory it is halted there
+  pub idle-halts : Halts (lies 0) (left None 0) fills flies halt.Memory start story trace
+  idle-halts = record {
+    tells = s.tells;
+    fits = s.fits;
+    point = s.point;
+    keeps = s.keeps;
+    serving = s.complete.0;
+    halts = record {
+      reason = inl refl;
+      flies = inl (refl, none-flown);
+      full = λ dev is. absurd (never dev is);
+      again = λ some. idle s.point (serves-at sees sees start e story trace s) s.stands;
+      stays = leaves 0 s.point (idle s.point (serves-at sees sees start e story trace s) s.stands);
+    };
+  }
+    where
+      never : (dev : ℕ) → halt.Memory ≡ halt.DeviceFull dev → ⊥
+      never dev is = cc
+
+-- THE SINK FAILED
+
+module _ (lies : ℕ → Point → Type 0) (left : Option Numbers → ℕ → Point → Type 0) (fills : Written → ℕ → Type 0) (flies : Option Flight) (forgets : (numbers : Numbers) (room : ℕ) (p : Point) → left (Some numbers) room p → left None room p) (start : Start) (trace : Trace) (story : List Event) where
+  ends-unwritten : (status : Status) → (status ≡ Memory → ⊥) → EndsFound lies left fills status trace → EndsFound lies left fills WriteFault trace
+  ends-unwritten status some x = record {
+    room = x.room;
+    point = x.point;
+    keeps = x.keeps;
+    boots = x.boots;
+    may = tt;
+    again = λ other. x.again some;
+    stands = untold left forgets (numbers_told status) x.room x.point x.stands;
+    full = λ dev is. absurd (never dev is);
+  }
+    where
+      never : (dev : ℕ) → WriteFault ≡ DeviceFull dev → ⊥
+      never dev is = cc
+
+  pub leaves-unwritten : (s : Stop) → IsLaterStop s → (s ≡ stop.Memory → ⊥) → LeavesAt lies left fills flies (status_of s) start trace story → LeavesAt lies left fills flies WriteFault start trace story
+  leaves-unwritten stop.Memory l some x = absurd (some refl)
+  leaves-unwritten stop.DiskFault l some x =
+      record { tells = x.tells; fits = x.fits; leaves = inr (at-devices trace x.leaves); flies = x.flies; ends = ends-unwritten (status_of stop.DiskFault) (λ m. cc) x.ends }
+  leaves-unwritten (stop.DeviceFull dev) l some x =
+      record { tells = x.tells; fits = x.fits; leaves = inr x.leaves; flies = x.flies; ends = ends-unwritten (DeviceFull dev) (λ m. cc) x.ends }
+  leaves-unwritten (stop.NumbersSpent boot decisions) l some x =
+      record { tells = x.tells; fits = x.fits; leaves = inr (at-devices trace x.leaves); flies = x.flies; ends = ends-unwritten (status_of (stop.NumbersSpent boot decisions)) (λ m. cc) x.ends }
+  leaves-unwritten s l some x = absurd l
+
+-- THE ANSWER OF A DEVICE
+
+pub answers-opening : (e : OpenErr) → (e ≡ Halted halt.Stopped → ⊥) → open_disk_err_of e ≡ answer_of (status_opening e)
+answers-opening (NotSalt dev) some = refl
+answers-opening (OtherShape kept asked) some = refl
+answers-opening (NumbersSpent boot decisions) some = refl
+answers-opening (Halted halt.Stopped) some = absurd (some refl)
+answers-opening (Halted halt.DiskFault) some = refl
+answers-opening (Halted (halt.DeviceFull dev)) some = refl
+answers-opening (Halted halt.Memory) some = refl
+
+-- either way a stop leaves of the devices what is kept there
+
+pub left-there : {E T : Type 0} (sees : E → Option Event → State → Type 0) (lies : ℕ → Point → Type 0) (left : Option Numbers → ℕ → Point → Type 0) (fills : Written → ℕ → Type 0) (flies : Option Flight) (e : E)
+    (idle : (p : Point) → IsSoundPoint p → IsIdleAt sees e p → lies 0 p) (flown : (p : Point) → IsSoundPoint p → IsIdleAt sees e p → flies ≡ None)
+    (leaves : (room : ℕ) (p : Point) → lies room p → left None room p) (forgets : (numbers : Numbers) (room : ℕ) (p : Point) → left (Some numbers) room p → left None room p) (start : Start) (told : List Event) (done : Result T Stop) → OnOk done ((trace : Trace) × Serves sees start e told trace) →
+    IfErr done (λ s. (trace : Trace) × LeavesAt lies left fills flies (status_of s) start trace told) → (room : ℕ) × ((p : Point) × left None room p)
+left-there sees lies left fills flies e idle flown leaves forgets start told (Ok x) ok err =
+    let ends = (unwritten-leaves sees lies left fills flies e idle flown leaves start ok.0 told ok.1).ends in
+    (ends.room, (ends.point, ends.stands))
+left-there sees lies left fills flies e idle flown leaves forgets start told (Err s) ok err = let ends = err.1.ends in (ends.room, (ends.point, untold left forgets (numbers_told (status_of s)) ends.room ends.point ends.stands))

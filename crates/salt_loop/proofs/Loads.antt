@@ -1,0 +1,239 @@
+-- The lines of a workload, one after another.
+use Rattle.salt_ast.specs.Sample.{transfer}
+use Rattle.salt_ast.specs.declared.lines.Line.{Line}
+use Rattle.law_states.specs.Points.{Point}
+use Rattle.law_states.specs.States.{State}
+use Rattle.salt_promise.specs.Workload.{account_def, balance, behind, behind_eighth, behind_fiftieth, call_lines, calls, closing, deposit, load_lines, opening, turn}
+use Rattle.salt_model.specs.Printable.{IsSpelledProgram, IsSpelledTable}
+use Rattle.salt_model.specs.Trace.{Asked, Start, Trace, Tree, lines_of}
+use Rattle.salt_model.specs.Words.{Every}
+use Rattle.salt_model.specs.declared.events.Event.{Event}
+use Rattle.salt_model.specs.declared.events.Flight.{Flight}
+use Rattle.salt_promise.specs.Doing.{IsFrontOf}
+use Rattle.salt_promise.specs.declared.status.Status.{Status}
+use Rattle.salt_promise.specs.declared.status.Status.TheVariants as status
+use Rattle.salt_loop.proofs.Beginning.{of-reason, often-asked, often-tells, often-unspent, unfound-flies, unfound-leaves}
+use Rattle.salt_loop.proofs.Leaving.{done-leaves, short-leaves}
+use Rattle.salt_loop.proofs.Texts.{of-later}
+use Rattle.salt_loop.specs.Ending.{EndsOpening, LeavesAt}
+use Rattle.salt_loop.specs.Loading.{AreLoadLines, EndsLoading, IsLoading, IsPlayedLoad, asked_by_load}
+use Rattle.salt_loop.specs.Serving.{EndsBehind, IsAskable}
+use Rattle.salt_loop.specs.Stopping.{IsLaterStop, IsOfDevices, status_of, stop_opening}
+use Rattle.salt_loop.specs.declared.stop.Stop.TheVariants as stop
+use Rattle.salt_loop.specs.declared.stop.Stop.{Stop}
+use Rattle.salt_driver.specs.Opening.{IsUnfound, fallen_often}
+use Rattle.salt_driver.specs.Reopening.{Reopens}
+use Rattle.salt_driver.specs.Serving.{Breaks, Goes}
+use Rattle.salt_driver.specs.Standing.{IsIdleAt, IsSoundPoint}
+use Rattle.salt_storage.specs.Answers.{IsLater}
+use Rattle.salt_storage.specs.Writing.{Written}
+use Rattle.salt_storage.specs.declared.halt.Halt.TheVariants.{Memory}
+use Rattle.salt_storage.specs.declared.halt.Halt.{Halt}
+use Rattle.salt_storage.specs.declared.open.OpenErr.{OpenErr}
+use Rattle.law_types.specs.Played.{HasKey}
+use Rattle.std.proofs.Common.{ap, arith, get_or, inl, inr, subst, suc, sym, take, zero, ◌∙◌}
+use Rattle.std.proofs.lemmas.List.{take_all, take_more}
+use Rattle.std.specs.List.{flat_map, range_with_len}
+use Rattle.salt_storage.specs.declared.found.Numbers.{Numbers}
+use Rattle.std.specs.Prelude.{Bool, List, None, Option, Some, [], cond, drop, eqb, false, length, map, refl, slice_get, true, ℕ, ◌%◌, ◌+◌, ◌++◌, ◌<◌, ◌∷◌, ◌≡◌, ◌≤◌, ◌⊎◌}
+
+-- each may be asked, and has a key where it is a table
+
+abbrev MayBeAsked : Line → Type 0
+MayBeAsked line = IsAskable line × HasKey (Tree line)
+
+each-both : (xs ys : List Line) → Every MayBeAsked xs → Every MayBeAsked ys → Every MayBeAsked (xs ++ ys)
+each-both [] ys f g = g
+each-both (x ∷ xs) ys f g = (f.0, each-both xs ys f.1 g)
+
+each-deposit : (ks : List ℕ) → Every MayBeAsked (map deposit ks)
+each-deposit [] = tt
+each-deposit (k ∷ ks) = ((tt, tt), each-deposit ks)
+
+each-where : (t : Bool) (xs : List Line) → Every MayBeAsked xs → Every MayBeAsked (cond t xs [])
+each-where true xs h = h
+each-where false xs h = tt
+
+each-behind : (i : ℕ) → Every MayBeAsked (behind i)
+each-behind i =
+    each-both (behind_eighth i) (behind_fiftieth i) (each-where (eqb (i % 8) 0) (turn ∷ []) ((tt, tt), tt))
+    (each-where (eqb (i % 50) 0) (balance ∷ turn ∷ turn ∷ []) ((tt, tt), ((tt, tt), ((tt, tt), tt))))
+
+each-calls : (is : List ℕ) → Every MayBeAsked (flat_map call_lines is)
+each-calls [] = tt
+each-calls (i ∷ is) = each-both (call_lines i) (flat_map call_lines is) ((tt, tt), each-behind i) (each-calls is)
+
+module _ (table : IsSpelledTable account_def) (program : IsSpelledProgram transfer) where
+  each-opening : Every MayBeAsked opening
+  unfolding opening
+  each-opening = ((table, refl), ((program, tt), each-deposit (range_with_len 0 100)))
+
+  each-line : (n : ℕ) → Every MayBeAsked (load_lines n)
+  each-line n = each-both opening (calls n ++ closing) each-opening (each-both (calls n) closing (each-calls (range_with_len 1 n)) ((tt, tt), ((tt, tt), ((tt, tt), tt))))
+
+  of-each : (xs : List Line) (i : ℕ) (line : Line) → Every MayBeAsked xs → Some line ≡ slice_get xs i → MayBeAsked line
+  of-each [] i line h e = absurd cc
+  of-each (x ∷ xs) zero line h e = subst MayBeAsked (same x line e) h.0
+    where
+      same : (a b : Line) → Some b ≡ Some a → a ≡ b
+      same a b e = cc
+  of-each (x ∷ xs) (suc i) line h e = of-each xs i line h.1 e
+
+  pub asked-by-load : (n i : ℕ) (line : Line) → Some line ≡ slice_get (load_lines n) i → IsAskable line × HasKey (Tree line)
+  asked-by-load n i line e = of-each (load_lines n) i line (each-line n) e
+
+-- one line more
+
+got : (xs : List Line) (i : ℕ) (x : Line) → Some x ≡ slice_get xs i → get_or xs i x ≡ x
+got [] i x e = absurd cc
+got (y ∷ xs) zero x e = cc
+got (y ∷ xs) (suc i) x e = got xs i x e
+
+pub not-none : (xs : List Line) (i : ℕ) → i < length xs → None ≡ slice_get xs i → ⊥
+not-none [] i within e = omega (arith, within)
+not-none (x ∷ xs) zero within e = cc
+not-none (x ∷ xs) (suc i) within e = not-none xs i (omega (arith, within)) e
+
+map-append : (xs ys : List Line) → map Tree (xs ++ ys) ≡ map Tree xs ++ map Tree ys
+map-append [] ys = refl
+map-append (x ∷ xs) ys = ap (λ l. Tree x ∷ l) (map-append xs ys)
+
+asked-more : (n i : ℕ) (line : Line) → i < length (load_lines n) → Some line ≡ slice_get (load_lines n) i →
+    map Tree (take (i + 1) (load_lines n)) ≡ map Tree (take i (load_lines n)) ++ Tree line ∷ []
+asked-more n i line within e =
+    ap (map Tree) (take_more (load_lines n) i line within ∙ ap (λ x. take i (load_lines n) ++ x ∷ []) (got (load_lines n) i line e))
+    ∙ map-append (take i (load_lines n)) (line ∷ [])
+
+take-drop : (xs : List Line) (i : ℕ) → xs ≡ take i xs ++ drop i xs
+take-drop [] zero = refl
+take-drop [] (suc i) = refl
+take-drop (x ∷ xs) zero = refl
+take-drop (x ∷ xs) (suc i) = ap (λ l. x ∷ l) (take-drop xs i)
+
+-- the first lines, and those behind them
+front-of-load : (n i : ℕ) → asked_by_load n ≡ map Tree (take i (load_lines n)) ++ map Tree (drop i (load_lines n))
+front-of-load n i = ap (map Tree) (take-drop (load_lines n) i) ∙ map-append (take i (load_lines n)) (drop i (load_lines n))
+
+-- so many lines are the first ones
+pub front-lines : (n i : ℕ) (lines : List Asked) → lines ≡ map Tree (take i (load_lines n)) → IsFrontOf lines (asked_by_load n)
+front-lines n i lines is = (map Tree (drop i (load_lines n)), front-of-load n i ∙ ap (λ ls. ls ++ map Tree (drop i (load_lines n))) (sym is))
+
+-- so the lines of a run are that ends behind some of them
+lines-behind : (s : Stop) → IsLaterStop s → (n : ℕ) (lines : List Asked) → IsFrontOf lines (asked_by_load n) → AreLoadLines (status_of s) n lines
+lines-behind stop.Memory later n lines f = f
+lines-behind stop.DiskFault later n lines f = f
+lines-behind (stop.DeviceFull dev) later n lines f = f
+lines-behind (stop.NumbersSpent boot decisions) later n lines f = f
+lines-behind stop.ReadFault later n lines f = absurd later
+lines-behind stop.WriteFault later n lines f = absurd later
+lines-behind (stop.NotSalt dev) later n lines f = absurd later
+lines-behind (stop.OtherShape kept asked) later n lines f = absurd later
+lines-behind stop.ScriptTooLong later n lines f = absurd later
+
+none-asked : (n : ℕ) (lines : List Asked) → lines ≡ [] → IsFrontOf lines (asked_by_load n)
+none-asked n lines none = subst (λ ls. IsFrontOf ls (asked_by_load n)) (sym none) (asked_by_load n, refl)
+
+early-load-lines : (s : Stop) → IsOfDevices s → (n : ℕ) (lines : List Asked) → lines ≡ [] → AreLoadLines (status_of s) n lines
+early-load-lines stop.Memory of n lines none = none-asked n lines none
+early-load-lines stop.DiskFault of n lines none = none-asked n lines none
+early-load-lines (stop.DeviceFull dev) of n lines none = none-asked n lines none
+early-load-lines (stop.NumbersSpent boot decisions) of n lines none = none-asked n lines none
+early-load-lines (stop.NotSalt dev) of n lines none = none
+early-load-lines (stop.OtherShape kept asked) of n lines none = none
+early-load-lines stop.ReadFault of n lines none = absurd of
+early-load-lines stop.WriteFault of n lines none = absurd of
+early-load-lines stop.ScriptTooLong of n lines none = absurd of
+
+loads-at : (lies : ℕ → Point → Type 0) (left : Option Numbers → ℕ → Point → Type 0) (fills : Written → ℕ → Type 0) (flies : Option Flight) (ends : Status) (start : Start) (trace : Trace) (story : List Event) (n done : ℕ) →
+    LeavesAt lies left fills flies ends start trace story → AreLoadLines ends n (lines_of trace) → ((ends ≡ status.Memory → ⊥) → length (lines_of trace) ≡ done) →
+    EndsLoading lies left fills flies start ends n done story
+loads-at lies left fills flies ends start trace story n done x lines count =
+    (record { trace = trace; tells = x.tells; lines = lines; count = count; leaves = x.leaves; flies = x.flies; unspent = x.fits.unspent }, x.ends)
+
+-- so many lines are as many
+
+length-asked : (xs : List Line) (i : ℕ) → i ≤ length xs → length (map Tree (take i xs)) ≡ i
+length-asked [] zero h = refl
+length-asked [] (suc i) h = absurd (omega (arith, h))
+length-asked (x ∷ xs) zero h = refl
+length-asked (x ∷ xs) (suc i) h = let e = length-asked xs i (omega (arith, h)) in omega arith
+
+module _ {E : Type 0} (old_sees : E → Option Event → State → Type 0) (start : Start) (n i : ℕ) (old : E) (story : List Event) (loading : IsLoading old_sees start n i old story) where
+  module _ (lies : ℕ → Point → Type 0) (left : Option Numbers → ℕ → Point → Type 0) (fills : Written → ℕ → Type 0) (flies : Option Flight) (idle : (p : Point) → IsSoundPoint p → IsIdleAt old_sees old p → lies 0 p)
+      (flown : (p : Point) → IsSoundPoint p → IsIdleAt old_sees old p → flies ≡ None) (leaves : (room : ℕ) (p : Point) → lies room p → left None room p) where
+    -- memory ran out between lines
+    pub short-loading : (done : ℕ) → EndsLoading lies left fills flies start status.Memory n done story
+    short-loading done =
+        loads-at lies left fills flies status.Memory start loading.trace story n done (short-leaves old_sees lies left fills flies old idle flown leaves start loading.trace story loading.serves)
+        (front-lines n i (lines_of loading.trace) loading.lines) (λ some. absurd (some refl))
+
+    -- all lines are done
+    pub all-loaded : length (load_lines n) ≤ i → (done : ℕ) → done ≡ length (load_lines n) → EndsLoading lies left fills flies start status.Done n done story
+    all-loaded past done all =
+        let whole = take_all i (load_lines n) past in
+        let here : lines_of loading.trace ≡ map Tree (load_lines n) = loading.lines ∙ ap (map Tree) whole in
+        loads-at lies left fills flies status.Done start loading.trace story n done (done-leaves old_sees lies left fills flies old idle flown leaves start loading.trace story loading.serves)
+        here
+        (λ some. ap length (here ∙ sym (ap (map Tree) (take_all (length (load_lines n)) (load_lines n) (omega arith)))) ∙ length-asked (load_lines n) (length (load_lines n)) (omega arith) ∙ sym all)
+
+  module _ (line : Line) (within : i < length (load_lines n)) (is : Some line ≡ slice_get (load_lines n) i) where
+    asked-here : (after : Trace) → lines_of after ≡ lines_of loading.trace ++ Tree line ∷ [] → lines_of after ≡ map Tree (take (i + 1) (load_lines n))
+    asked-here after lines = lines ∙ ap (λ ls. ls ++ Tree line ∷ []) loading.lines ∙ sym (asked-more n i line within is)
+
+    pub line-loaded : {F : Type 0} (sees : F → Option Event → State → Type 0) (new : F) (told : List Event) → Goes sees start loading.trace (Tree line) story new told → IsLoading sees start n (i + 1) new told
+    line-loaded sees new told g = record { trace = g.after; serves = g.serves; lines = asked-here g.after g.asks }
+
+    module _ (old_lies old_left : Point → Type 0) (old_fills : Written → ℕ → Type 0) (old_flies : Option Flight) (halt : Halt) (mid told : List Event)
+        (b : Breaks old_lies old_left old_fills old_flies halt start loading.trace (Tree line) story mid) where
+      pub loaded-behind : {F : Type 0} (sees : F → Option Event → State → Type 0) (new : F) → (halt ≡ Memory → ⊥) → Reopens sees start b.after mid new told → IsLoading sees start n (i + 1) new told
+      loaded-behind sees new some r = record { trace = r.after; serves = r.serves; lines = r.lines ∙ by b.asks }
+        where
+          by : (lines_of b.after ≡ lines_of loading.trace ++ Tree line ∷ []) ⊎ ((halt ≡ Memory) × (b.after ≡ loading.trace)) → lines_of b.after ≡ map Tree (take (i + 1) (load_lines n))
+          by (inl more) = asked-here b.after more
+          by (inr m) = absurd (some m.0)
+
+      pub ends-loading : (lies : ℕ → Point → Type 0) (left : Option Numbers → ℕ → Point → Type 0) (fills : Written → ℕ → Type 0) (flies : Option Flight) (s : Stop) → IsLaterStop s → EndsBehind lies left fills flies halt s start b.after mid told →
+          EndsLoading lies left fills flies start (status_of s) n (i + 1) told
+      ends-loading lies left fills flies s later x =
+          loads-at lies left fills flies (status_of s) start x.after told n (i + 1) x.ends (lines-behind s later n (lines_of x.after) (subst (λ ls. IsFrontOf ls (asked_by_load n)) (sym x.lines) (by b.asks)))
+          (λ some. ap length x.lines ∙ many some b.asks)
+        where
+          many : (status_of s ≡ status.Memory → ⊥) → (lines_of b.after ≡ lines_of loading.trace ++ Tree line ∷ []) ⊎ ((halt ≡ Memory) × (b.after ≡ loading.trace)) → length (lines_of b.after) ≡ i + 1
+          many some (inl more) = ap length (asked-here b.after more) ∙ length-asked (load_lines n) (i + 1) (omega (arith, within))
+          many some (inr m) = absurd (some (ap status_of (x.short m.0).0))
+
+          by : (lines_of b.after ≡ lines_of loading.trace ++ Tree line ∷ []) ⊎ ((halt ≡ Memory) × (b.after ≡ loading.trace)) → IsFrontOf (lines_of b.after) (asked_by_load n)
+          by (inl more) = front-lines n (i + 1) (lines_of b.after) (asked-here b.after more)
+          by (inr m) = front-lines n i (lines_of b.after) (ap lines_of m.1 ∙ loading.lines)
+
+-- the opening
+
+take-none : (xs : List Line) → take 0 xs ≡ []
+take-none [] = refl
+take-none (x ∷ xs) = refl
+
+pub loading-begun : {E : Type 0} (sees : E → Option Event → State → Type 0) (n : ℕ) (start : Start) (trace : Trace) (e : E) (story told : List Event) → lines_of trace ≡ [] →
+    Reopens sees start trace story e told → IsLoading sees start n 0 e told
+loading-begun sees n start trace e story told unasked b =
+    record { trace = b.after; serves = b.serves; lines = b.lines ∙ unasked ∙ sym (ap (map Tree) (take-none (load_lines n))) }
+
+pub not-begun : (lies : ℕ → Point → Type 0) (left : Option Numbers → ℕ → Point → Type 0) (fills : Written → ℕ → Type 0) (flies : Option Flight) (n : ℕ) (start : Start) (trace : Trace) (told : List Event) (e : Stop) → IsLaterStop e →
+    lines_of trace ≡ [] → EndsOpening lies left fills flies e start trace told → EndsLoading lies left fills flies start (status_of e) n 0 told
+not-begun lies left fills flies n start trace told e later unasked x =
+    let none = x.lines ∙ unasked in
+    loads-at lies left fills flies (status_of e) start x.after told n 0 x.ends (early-load-lines e (of-later e later) n (lines_of x.after) none) (λ some. ap length none)
+
+-- nothing was found
+pub unfound-loaded : (reason : OpenErr) (n : ℕ) (story : List Event) → IsUnfound story → (story ≡ []) ⊎ IsLater reason → (start : Start) → IsPlayedLoad start (status_of (stop_opening reason)) None n 0 story
+unfound-loaded reason n story u empty start =
+    let e = stop_opening reason in
+    let asked = often-asked start u.0 in
+    record {
+      trace = fallen_often start u.0;
+      tells = often-tells start story u;
+      lines = early-load-lines e (of-reason reason) n (lines_of (fallen_often start u.0)) asked;
+      count = λ some. ap length asked;
+      leaves = unfound-leaves reason story u empty e (inl refl) start;
+      flies = unfound-flies reason story u empty e (inl refl) start;
+      unspent = often-unspent start u.0;
+    }

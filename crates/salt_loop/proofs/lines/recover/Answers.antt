@@ -1,0 +1,39 @@
+use Rattle.salt_loop.proofs.Leaving.{answers-opening, ends-opening, later-stop}
+use Rattle.salt_loop.proofs.lines.recover.Goals as goal
+use Rattle.salt_driver.proofs.Falling.{no-short-fall}
+use Rattle.salt_driver.specs.Counting.{CountsFall}
+use Rattle.salt_driver.specs.Opening.{halt_of}
+use Rattle.salt_loop.specs.Serving.{EndsBehind}
+use Rattle.salt_loop.specs.Stopping.{IsLaterStop, answer_of, status_of}
+use Rattle.salt_loop.specs.declared.stop.Stop.{Stop}
+use Rattle.salt_disk.specs.declared.disks.DiskErr.{DiskErr}
+use Rattle.salt_storage.specs.declared.halt.Halt.TheVariants.{Stopped}
+use Rattle.salt_storage.specs.declared.open.OpenErr.TheVariants.{Halted}
+use Rattle.std.proofs.Common.{ap, subst, sym, ◌∙◌}
+use Rattle.std.specs.Prelude.{Err, Option, ◌≡◌}
+
+pub stop_opening-requires : goal.stop_opening-requires
+stop_opening-requires g c = λ is. c.recover.ensures.unstopped (c.in-Err.is ∙ ap Err is)
+
+pub returns-in-Err-clause-err : goal.returns-in-Err-clause-err
+returns-in-Err-clause-err g c = λ start trace h.
+    let view = g.D.Disks.view c.recover.new.disks in
+    let e = c.recover.new.database in
+    let lies = g.E.Stepping.lies view e in
+    let left = g.E.Stepping.left view e in
+    let fills = g.E.Stepping.fills view e in
+    let flies = g.E.Stepping.flight e in
+    subst (λ (s : Stop). EndsBehind lies left fills flies (halt_of c.args.why) s start trace c.args.story.now c.recover.new.story) (sym c.stop_opening.ensures.is)
+    (ends-opening lies left fills flies c.in-Err.e start trace c.args.story.now c.recover.new.story (c.in-Err.ensures.err start trace h) (halt_of c.args.why) (no-short-fall c.args.why))
+
+pub returns-in-Err-clause-later : goal.returns-in-Err-clause-later
+returns-in-Err-clause-later g c =
+    let h = c.requires.halted in
+    subst IsLaterStop (sym c.stop_opening.ensures.is) (later-stop c.in-Err.e (c.in-Err.ensures.err h.0 h.1 h.2).later)
+
+pub returns-in-Err-clause-counts : goal.returns-in-Err-clause-counts
+returns-in-Err-clause-counts g c =
+    let view = g.D.Disks.view in
+    let never : c.in-Err.e ≡ Halted Stopped → ⊥ = λ is. c.recover.ensures.unstopped (c.in-Err.is ∙ ap Err is) in
+    subst (λ (a : Option DiskErr). CountsFall c.args.why (view c.args.disks.now) (view c.recover.new.disks) a c.args.story.now c.recover.new.story)
+    (answers-opening c.in-Err.e never ∙ sym (ap (λ (s : Stop). answer_of (status_of s)) c.stop_opening.ensures.is)) c.in-Err.ensures.counts

@@ -1,0 +1,61 @@
+-- What the run of a workload has to be: its story, and how far it came.
+use Rattle.law_states.specs.Points.{Point}
+use Rattle.law_states.specs.States.{State}
+use Rattle.salt_promise.specs.Workload.{load_lines}
+use Rattle.salt_model.specs.Ends.{MayLeave}
+use Rattle.salt_model.specs.Everywhere.{Each}
+use Rattle.salt_model.specs.Played.{Tells}
+use Rattle.salt_model.specs.Trace.{Asked, Start, Trace, Tree, lines_of}
+use Rattle.salt_model.specs.declared.events.Event.{Event}
+use Rattle.salt_model.specs.declared.events.Flight.{Flight}
+use Rattle.salt_promise.specs.Doing.{IsFrontOf}
+use Rattle.salt_promise.specs.declared.status.Status.{Status}
+use Rattle.salt_promise.specs.declared.status.Status.TheVariants.{DeviceFull, DiskFault, Done, Memory, NotSalt, NumbersSpent, OtherShape, ReadFault, ScriptTooLong, Usage, WriteFault}
+use Rattle.salt_loop.specs.Ending.{EndsFound}
+use Rattle.salt_loop.specs.Run.{IsFlightAt, leave_of}
+use Rattle.salt_stands.specs.Unspent.{OpensUnspent}
+use Rattle.salt_driver.specs.Serving.{Serves}
+use Rattle.salt_storage.specs.Writing.{Written}
+use Rattle.salt_storage.specs.declared.found.Numbers.{Numbers}
+use Rattle.std.specs.Prelude.{List, Option, length, map, take, ℕ, [], ◌≡◌}
+
+-- what the lines of the workload with so many calls ask
+abbrev pub asked_by_load : ℕ → List Asked
+asked_by_load calls = map Tree (load_lines calls)
+
+-- what is asked in a run of the workload that ends so: all of its lines; the first of them where memory ran out, the devices end the run,
+-- or what was done could not be written; or none, where it was not begun. It reads no script.
+abbrev pub AreLoadLines : Status → ℕ → List Asked → Type 0
+AreLoadLines Done calls lines = lines ≡ asked_by_load calls
+AreLoadLines WriteFault calls lines = IsFrontOf lines (asked_by_load calls)
+AreLoadLines Memory calls lines = IsFrontOf lines (asked_by_load calls)
+AreLoadLines DiskFault calls lines = IsFrontOf lines (asked_by_load calls)
+AreLoadLines (DeviceFull dev) calls lines = IsFrontOf lines (asked_by_load calls)
+AreLoadLines (NumbersSpent boot decisions) calls lines = IsFrontOf lines (asked_by_load calls)
+AreLoadLines (NotSalt dev) calls lines = lines ≡ []
+AreLoadLines (OtherShape kept asked) calls lines = lines ≡ []
+AreLoadLines Usage calls lines = ⊥
+AreLoadLines ReadFault calls lines = ⊥
+AreLoadLines ScriptTooLong calls lines = ⊥
+
+-- The story is that of a trace which is played from this start, and whose lines are the workload's. Unless memory ran out, there are so
+-- many of them. No opening goes on from spent numbers.
+pub record IsPlayedLoad (start : Start) (status : Status) (told : Option Flight) (calls done : ℕ) (story : List Event) : Type 0 where
+  pub trace : Trace
+  pub tells : Tells start trace story
+  pub lines : AreLoadLines status calls (lines_of trace)
+  pub count : (status ≡ Memory → ⊥) → length (lines_of trace) ≡ done
+  pub leaves : MayLeave (leave_of status) trace
+  pub flies : IsFlightAt status trace told
+  pub unspent : Each OpensUnspent trace
+
+-- so ends the run of a workload from this start
+abbrev pub EndsLoading : (lies : ℕ → Point → Type 0) (left : Option Numbers → ℕ → Point → Type 0) → (Written → ℕ → Type 0) → Option Flight → Start → Status → (calls done : ℕ) → List Event → Type 0
+EndsLoading lies left fills flight start status calls done story =
+    (run : IsPlayedLoad start status flight calls done story) × EndsFound lies left fills status run.trace
+
+-- a run of the workload of which so many lines are done
+pub record IsLoading {E : Type 0} (sees : E → Option Event → State → Type 0) (start : Start) (calls done : ℕ) (e : E) (story : List Event) : Type 0 where
+  pub trace : Trace
+  pub serves : Serves sees start e story trace
+  pub lines : lines_of trace ≡ map Tree (take done (load_lines calls))

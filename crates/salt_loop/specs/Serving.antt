@@ -1,0 +1,158 @@
+-- What holds of a run between its lines, and what a line adds.
+use Rattle.salt_ast.specs.declared.lines.Line.TheVariants.{Crash}
+use Rattle.salt_ast.specs.declared.lines.Line.{Line}
+use Rattle.salt_io.specs.Lines.{IsReadingOf, Reading, lines_of, script_of}
+use Rattle.salt_io.specs.Streams.{Gains, GainsShort, IsAtEnd, bytes_before}
+use Rattle.salt_io.specs.declared.lines.Next.TheVariants.{TooLong}
+use Rattle.salt_io.specs.declared.lines.Next.{Next}
+use Rattle.law_states.specs.Points.{Point}
+use Rattle.law_states.specs.States.{State}
+use Rattle.salt_model.specs.Lines.{AskInOrder, Asks}
+use Rattle.salt_model.specs.Trace as trace_words
+use Rattle.salt_model.specs.Trace.{Asked, Rejected, Start, Trace}
+use Rattle.salt_model.specs.Words.{Every}
+use Rattle.salt_model.specs.declared.events.Event.{Event}
+use Rattle.salt_model.specs.declared.events.Flight.{Flight}
+use Rattle.salt_model.specs.declared.events.Refusal.TheVariants.{Long}
+use Rattle.salt_promise.specs.Doing.{text_under}
+use Rattle.salt_promise.specs.declared.status.Status.TheVariants as status
+use Rattle.salt_loop.specs.Ending.{EndsServing, LeavesAt}
+use Rattle.salt_loop.specs.Stopping.{status_of}
+use Rattle.salt_loop.specs.declared.stop.Stop.TheVariants.{Memory, WriteFault}
+use Rattle.salt_loop.specs.declared.stop.Stop.{Stop}
+use Rattle.law_decisions.specs.Spelled.{IsSpelledLine}
+use Rattle.salt_driver.specs.Serving.{Grows, Halts, IsDown, Serves}
+use Rattle.salt_storage.specs.Writing.{Written}
+use Rattle.salt_storage.specs.declared.halt.Halt.TheVariants as halting
+use Rattle.salt_storage.specs.declared.halt.Halt.{Halt}
+use Rattle.salt_values.specs.declared.limits.TheConstants.{PICK_MOST, SCRIPT_MOST}
+use Rattle.salt_storage.specs.declared.found.Numbers.{Numbers}
+use Rattle.std.specs.Prelude.{Bool, Err, List, None, Ok, Option, Result, Some, [], drop, false, length, true, ℕ, ⊤, ◌++◌, ◌∷◌, ◌≡◌, ◌≤◌, ◌⊎◌}
+
+-- The texts are the lines of the bytes that were given of a script, and the rest of it begins a line, or the source has told its end.
+pub record IsAtLine (script : List ℕ) (reading : Reading) (rest : Option (List ℕ)) (texts : List (List ℕ)) : Type 0 where
+  pub given : List ℕ
+  pub whole : Some script ≡ bytes_before given rest
+  pub counted : length given ≡ reading.taken
+  pub lines : texts ≡ lines_of given
+  pub at_start : ((script_of given).rest ≡ []) ⊎ (reading.ended ≡ true)
+
+-- where the source tells its bytes
+abbrev pub IsAt : Option (List ℕ) → Reading → Option (List ℕ) → List (List ℕ) → Type 0
+IsAt None reading rest texts = ⊤
+IsAt (Some script) reading rest texts = IsAtLine script reading rest texts
+
+-- the bytes that a reader has taken and not given, and those that its source has left
+abbrev pub rest_of : Reading → Option (List ℕ) → Option (List ℕ)
+rest_of reading left = bytes_before reading.kept left
+
+-- a run between its lines, from this start: of a script, over a sink that held these bytes
+pub record IsServing {E : Type 0} (sees : E → Option Event → State → Type 0) (start : Start) (script before : Option (List ℕ)) (e : E)
+    (reading : Reading) (left : Option (List ℕ)) (story : List Event) (held : Option (List ℕ)) : Type 0 where
+  pub trace : Trace
+  pub texts : List (List ℕ)
+  pub serves : Serves sees start e story trace
+  pub reads : AskInOrder texts (trace_words.lines_of trace)
+  pub of : IsReadingOf reading left
+  pub place : IsAt script reading (rest_of reading left) texts
+  pub written : Gains before (text_under trace story) held
+  pub within : reading.taken ≤ SCRIPT_MOST
+
+-- a line's text asks; one that is too long has none here, and is told so
+abbrev pub TextAsks : Option (List ℕ) → Asked → Type 0
+TextAsks (Some text) asked = Asks text asked
+TextAsks None asked = asked ≡ Rejected Long
+
+-- the text of a line that was taken
+abbrev pub text_of : Next → List ℕ → Option (List ℕ)
+text_of TooLong line = None
+text_of next line = Some line
+
+-- the lines that texts ask: a definition is spelled, and a stop picks one of the images that there are
+abbrev pub IsAskable : Line → Type 0
+IsAskable (Crash pairs) = Every (λ (p : ℕ × ℕ). p.1 ≤ PICK_MOST) pairs
+IsAskable line = IsSpelledLine line
+
+-- a trace has one line more, which asks what this text does
+abbrev pub AsksMore : Option (List ℕ) → Trace → Trace → Type 0
+AsksMore text trace after = (asked : Asked) × TextAsks text asked × (trace_words.lines_of after ≡ trace_words.lines_of trace ++ asked ∷ [])
+
+-- A line was done: the trace goes on by its segment, or by a front of that, a fall and the opening behind it.
+pub record Continues {E : Type 0} (sees : E → Option Event → State → Type 0) (start : Start) (trace : Trace) (text : Option (List ℕ)) (story : List Event)
+    (e : E) (told : List Event) : Type 0 where
+  pub after : Trace
+  pub asks : AsksMore text trace after
+  pub serves : Serves sees start e told after
+  pub grows : Grows story told
+
+-- It is broken off in a line, or, for want of memory, before that was asked.
+pub record BreaksIn (lies left : Point → Type 0) (fills : Written → ℕ → Type 0) (flight : Option Flight) (halt : Halt) (start : Start) (trace : Trace)
+    (text : Option (List ℕ)) (story told : List Event) : Type 0 where
+  pub after : Trace
+  pub asks : AsksMore text trace after ⊎ ((halt ≡ halting.Memory) × (after ≡ trace))
+  pub halts : Halts lies left fills flight halt start told after
+  pub grows : Grows story told
+
+-- a run that was broken off so ends, within the opening behind that or before it; for want of memory it goes no further
+pub record EndsBehind (lies : ℕ → Point → Type 0) (left : Option Numbers → ℕ → Point → Type 0) (fills : Written → ℕ → Type 0) (flight : Option Flight) (halt : Halt) (stop : Stop) (start : Start)
+    (trace : Trace) (story told : List Event) : Type 0 where
+  pub after : Trace
+  pub lines : trace_words.lines_of after ≡ trace_words.lines_of trace
+  pub short : halt ≡ halting.Memory → (stop ≡ Memory) × (after ≡ trace)
+  pub ends : LeavesAt lies left fills flight (status_of stop) start after told
+  pub grows : Grows story told
+
+-- so a run ends in a line, or, for want of memory, before that was asked
+pub record EndsIn (lies : ℕ → Point → Type 0) (left : Option Numbers → ℕ → Point → Type 0) (fills : Written → ℕ → Type 0) (flight : Option Flight) (stop : Stop) (start : Start) (trace : Trace)
+    (text : Option (List ℕ)) (story told : List Event) : Type 0 where
+  pub after : Trace
+  pub asks : AsksMore text trace after ⊎ ((stop ≡ Memory) × (after ≡ trace))
+  pub ends : LeavesAt lies left fills flight (status_of stop) start after told
+  pub grows : Grows story told
+
+-- the text of what a line has added, under the tables that are defined at the trace's end
+abbrev pub added_text : Trace → (story told : List Event) → List ℕ
+added_text trace story told = text_under trace (drop (length story) told)
+
+-- what the sink has gained where a run ends in a line: nothing where memory ran out; a part of what was added where it failed; else all
+abbrev pub GainsAtEnd : Stop → Option (List ℕ) → List ℕ → Option (List ℕ) → Type 0
+GainsAtEnd Memory before added held = held ≡ before
+GainsAtEnd WriteFault before added held = GainsShort before added held
+GainsAtEnd stop before added held = Gains before added held
+
+-- what was done is told to the sink, and this is the answer
+abbrev pub EndsWriting : Result (Unit {0}) Stop → List ℕ → (before held : Option (List ℕ)) → Result (Unit {0}) Stop → Type 0
+EndsWriting done text before held (Ok x) = (done ≡ Ok x) × Gains before text held
+EndsWriting done text before held (Err stop) =
+    ((done ≡ Err stop) ⊎ ((stop ≡ WriteFault) × (done ≡ Err Memory → ⊥))) × GainsAtEnd stop before text held
+
+-- a line was done, and is told
+pub record IsToldLine {E : Type 0} (sees : E → Option Event → State → Type 0) (start : Start) (trace : Trace) (text : Option (List ℕ)) (story : List Event)
+    (e : E) (told : List Event) (before held : Option (List ℕ)) : Type 0 where
+  pub goes : Continues sees start trace text story e told
+  pub written : Gains before (added_text goes.after story told) held
+
+-- or a run ends in it
+pub record EndsTelling (lies : ℕ → Point → Type 0) (left : Option Numbers → ℕ → Point → Type 0) (fills : Written → ℕ → Type 0) (flight : Option Flight) (stop : Stop) (start : Start) (trace : Trace)
+    (text : Option (List ℕ)) (story told : List Event) (before held : Option (List ℕ)) : Type 0 where
+  pub ends : EndsIn lies left fills flight stop start trace text story told
+  pub written : GainsAtEnd stop before (added_text ends.after story told) held
+
+-- a run is down, and was asked nothing yet
+pub record IsToBegin (lies : ℕ → Point → Type 0) (flight : Option Flight) (start : Start) (story : List Event) (trace : Trace) : Type 0 where
+  pub down : IsDown lies flight start story trace
+  pub unasked : trace_words.lines_of trace ≡ []
+
+-- it has begun, and its opening is told
+pub record IsBegun {E : Type 0} (sees : E → Option Event → State → Type 0) (start : Start) (e : E) (story : List Event) (before held : Option (List ℕ)) : Type 0 where
+  pub trace : Trace
+  pub lines : trace_words.lines_of trace ≡ []
+  pub serves : Serves sees start e story trace
+  pub written : Gains before (text_under trace story) held
+
+-- after a line: the run goes on, or the script was at its end
+abbrev pub IsAfterLine : {E : Type 0} → Bool → (E → Option Event → State → Type 0) → (lies : ℕ → Point → Type 0) (left : Option Numbers → ℕ → Point → Type 0) → (Written → ℕ → Type 0) → Option Flight →
+    Start → (script before : Option (List ℕ)) → E → Reading → Option (List ℕ) → List Event → Option (List ℕ) → Type 0
+IsAfterLine true sees lies left fills flight start script before e reading rest story held = IsServing sees start script before e reading rest story held
+IsAfterLine false sees lies left fills flight start script before e reading rest story held =
+    EndsServing lies left fills flight start status.Done script rest before story held × IsAtEnd rest

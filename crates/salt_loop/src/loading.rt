@@ -1,0 +1,143 @@
+//! The run of a workload: its opening, and its lines.
+
+ghost use Rattle.salt_ast.specs.declared.lines.Line.{Line};
+ghost use Rattle.salt_promise.specs.Workload.{load_lines};
+ghost use Rattle.salt_values.specs.declared.limits.TheConstants.{CALLS_MOST};
+ghost use Rattle.salt_model.specs.Trace.{Start, Trace};
+ghost use Rattle.salt_loop.specs.Counted.{CountsAdded};
+ghost use Rattle.salt_loop.specs.Loading.{EndsLoading, IsLoading};
+ghost use Rattle.salt_loop.specs.Serving.{IsAskable, IsToBegin};
+ghost use Rattle.salt_loop.specs.Stopping.{IsLaterStop, outcome, status_of};
+ghost use Rattle.salt_storage.specs.Staying.{StaysWithin};
+ghost use Rattle.salt_place.specs.Placement.{GivesPlaceOf, TakesEachKey};
+ghost use Rattle.std.specs.Prelude.{IfErr, OnOk, Some, length, slice_get, ◌+◌, ◌<◌, ◌≡◌, ◌≤◌};
+
+use crate::lines::resume;
+use crate::starting::start;
+use crate::stop::Stop;
+use salt_ast::Line;
+use law_definitions::definitions_are_read;
+use salt_disk::Disks;
+use salt_workload::{line_count, load_line};
+use salt_model::Story;
+use salt_driver::Openable;
+use salt_values::Key;
+use salt_place::{PlaceKind, Placement};
+use std::alloc::Global;
+
+/// How the run of a workload has ended, and how many of its lines were done, the one in which it ended among them.
+#[derive(Drop)]
+pub struct Loaded {
+    pub lines: u64,
+    pub done: Result<(), Stop>,
+}
+
+/// Does a line of the workload, and opens the run anew where it is broken off by a stop or a fault.
+fn load_one<E: Openable, D: Disks, F: Fn(PlaceKind, &Key, u32) -> u32>(
+    database: &mut E,
+    disks: &mut D,
+    place: &Placement<F>,
+    calls: u64,
+    i: u64,
+    line: &Line,
+    story: &mut Story,
+) -> Result<(), Stop>
+    requires callable { TakesEachKey (F.pre place.now.place) }
+    requires answers { GivesPlaceOf (F.post place.now.place) }
+    requires within { i < length (load_lines calls) }
+    requires is { Some line.now ≡ slice_get (load_lines calls) i }
+    requires serves { (line : Line) → IsAskable line → E.serves line }
+    requires stands { (start : Start) × IsLoading (E.sees (D.view disks.old)) start calls i database.old story.old }
+    ensures ok { OnOk result ((start : Start) → IsLoading (E.sees (D.view disks.old)) start calls i database.old story.old →
+        IsLoading (E.sees (D.view disks.new)) start calls (i + 1) database.new story.new) }
+    ensures err { IfErr result (λ stop. (start : Start) → IsLoading (E.sees (D.view disks.old)) start calls i database.old story.old →
+        EndsLoading (E.lies (D.view disks.new) database.new) (E.left (D.view disks.new) database.new) (E.fills (D.view disks.new) database.new) (E.flight database.new) start
+        (status_of stop) calls (i + 1) story.new) }
+    ensures later { IfErr result IsLaterStop }
+    ensures within { StaysWithin (E.asked database.old) (E.asked database.new) (D.view disks.old) (D.view disks.new) }
+    ensures counts { CountsAdded (D.view disks.old) (D.view disks.new) (outcome result) story.old story.new }
+{
+    // For the proof alone: texts spell what the workload defines.
+    definitions_are_read();
+    match salt_driver::step(database, disks, place, line, story) {
+        Ok(()) => Ok(()),
+        Err(halt) => resume(database, disks, place, halt, story),
+    }
+}
+
+/// Does line i, from 0, of the workload with so many calls.
+fn serve_load_line<E: Openable, D: Disks, F: Fn(PlaceKind, &Key, u32) -> u32>(
+    alloc: Global,
+    database: &mut E,
+    disks: &mut D,
+    place: &Placement<F>,
+    calls: u64,
+    i: u64,
+    story: &mut Story,
+) -> Result<(), Stop>
+    requires callable { TakesEachKey (F.pre place.now.place) }
+    requires answers { GivesPlaceOf (F.post place.now.place) }
+    requires least { 1 ≤ calls }
+    requires most { calls ≤ CALLS_MOST }
+    requires within { i < length (load_lines calls) }
+    requires serves { (line : Line) → IsAskable line → E.serves line }
+    requires stands { (start : Start) × IsLoading (E.sees (D.view disks.old)) start calls i database.old story.old }
+    ensures ok { OnOk result ((start : Start) → IsLoading (E.sees (D.view disks.old)) start calls i database.old story.old →
+        IsLoading (E.sees (D.view disks.new)) start calls (i + 1) database.new story.new) }
+    ensures err { IfErr result (λ stop. (start : Start) → IsLoading (E.sees (D.view disks.old)) start calls i database.old story.old →
+        EndsLoading (E.lies (D.view disks.new) database.new) (E.left (D.view disks.new) database.new) (E.fills (D.view disks.new) database.new) (E.flight database.new) start
+        (status_of stop) calls (i + 1) story.new) }
+    ensures later { IfErr result IsLaterStop }
+    ensures within { StaysWithin (E.asked database.old) (E.asked database.new) (D.view disks.old) (D.view disks.new) }
+    ensures counts { CountsAdded (D.view disks.old) (D.view disks.new) (outcome result) story.old story.new }
+{
+    database.stands(disks);
+    match load_line(alloc, calls, i)? {
+        Some(line) => load_one(database, disks, place, calls, i, &line, story),
+        None => Ok(()),
+    }
+}
+
+/// Opens a run that is down, and does the lines of the workload with so many calls.
+pub fn load<E: Openable, D: Disks, F: Fn(PlaceKind, &Key, u32) -> u32>(
+    alloc: Global,
+    database: &mut E,
+    disks: &mut D,
+    place: &Placement<F>,
+    calls: u64,
+    story: &mut Story,
+) -> Loaded
+    requires callable { TakesEachKey (F.pre place.now.place) }
+    requires answers { GivesPlaceOf (F.post place.now.place) }
+    requires least { 1 ≤ calls }
+    requires most { calls ≤ CALLS_MOST }
+    requires serves { (line : Line) → IsAskable line → E.serves line }
+    requires settled { E.settled (D.view disks.old) database.old }
+    requires begins { (start : Start) × (trace : Trace) × IsToBegin (E.lies (D.view disks.old) database.old) (E.flight database.old) start story.old trace }
+    ensures ended { (start : Start) (trace : Trace) → IsToBegin (E.lies (D.view disks.old) database.old) (E.flight database.old) start story.old trace →
+        EndsLoading (E.lies (D.view disks.new) database.new) (E.left (D.view disks.new) database.new) (E.fills (D.view disks.new) database.new) (E.flight database.new) start
+        (outcome result.done) calls result.lines story.new }
+    ensures later { IfErr result.done IsLaterStop }
+    ensures within { StaysWithin (E.asked database.old) (E.asked database.new) (D.view disks.old) (D.view disks.new) }
+    ensures counts { CountsAdded (D.view disks.old) (D.view disks.new) (outcome result.done) story.old story.new }
+{
+    if let Err(stop) = start(database, disks, place, story) {
+        return Loaded {
+            lines: 0,
+            done: Err(stop),
+        };
+    }
+    for i in 0..line_count(calls) {
+        if let Err(stop) = serve_load_line(alloc, database, disks, place, calls, i, story) {
+            return Loaded {
+                lines: i + 1,
+                done: Err(stop),
+            };
+        }
+    }
+    database.stands(disks);
+    Loaded {
+        lines: line_count(calls),
+        done: Ok(()),
+    }
+}

@@ -1,5 +1,0 @@
-use Rattle.salt_openings.proofs.Resting.{never-rests}
-use Rattle.salt_openings.proofs.laws.drains_never_rest.Goals as goal
-
-pub returns : goal.returns
-returns c = never-rests

@@ -1,5 +1,0 @@
-use Rattle.salt_openings.proofs.Leaving.{leaves}
-use Rattle.salt_openings.proofs.laws.events_leave_a_state.Goals as goal
-
-pub returns : goal.returns
-returns c = leaves

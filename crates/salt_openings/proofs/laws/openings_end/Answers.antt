@@ -1,5 +1,0 @@
-use Rattle.salt_openings.proofs.Ending.{openings-end}
-use Rattle.salt_openings.proofs.laws.openings_end.Goals as goal
-
-pub returns : goal.returns
-returns c = openings-end

@@ -1,5 +1,0 @@
-use Rattle.salt_openings.proofs.Staying.{can-stay}
-use Rattle.salt_openings.proofs.laws.what_can_be_drained_stays.Goals as goal
-
-pub returns : goal.returns
-returns c = can-stay

@@ -1,5 +1,0 @@
-use Rattle.salt_sound.proofs.Flying.{fallen-same, opened-same}
-use Rattle.salt_sound.proofs.laws.flights_leave_the_same.Goals as goal
-
-pub returns : goal.returns
-returns c = record { fallen = fallen-same; opened = opened-same }

@@ -1,5 +1,0 @@
-use Rattle.salt_texts.proofs.Twinned.{wide_value_twins}
-use Rattle.salt_texts.proofs.premises.wide_values_have_twins.Goals as goal
-
-pub returns : goal.returns
-returns c = wide_value_twins

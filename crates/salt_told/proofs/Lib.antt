@@ -1,4 +1,0 @@
-pub mod Showing
-pub mod WithinSchema
-pub mod ShownWithin
-pub mod Stays

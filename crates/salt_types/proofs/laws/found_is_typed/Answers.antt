@@ -1,5 +1,0 @@
-use Rattle.salt_types.proofs.Found.{found-typed}
-use Rattle.salt_types.proofs.laws.found_is_typed.Goals as goal
-
-pub returns : goal.returns
-returns c = found-typed

@@ -1,5 +1,0 @@
-use Rattle.salt_types.proofs.Told.{table-key}
-use Rattle.salt_types.proofs.laws.spelled_tables_have_keys.Goals as goal
-
-pub returns : goal.returns
-returns c = λ bytes d spells. table-key _ _ d spells.spelled

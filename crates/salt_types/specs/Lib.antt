@@ -1,4 +1,0 @@
-pub mod Typed
-pub mod Examples
-pub mod Played
-pub mod States

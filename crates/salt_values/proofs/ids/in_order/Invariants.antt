@@ -1,0 +1,9 @@
+use Rattle.salt_values.proofs.ids.in_order.Given as goal
+use Rattle.salt_values.specs.Id.{in_order}
+use Rattle.std.proofs.Common.{drop, length, ◌≡◌, ◌≤◌}
+
+abbrev pub invariant-loop-left : goal.invariant-loop-left
+invariant-loop-left l = (l.left ≤ length l.ids) × (l.ordered.items ≡ in_order (drop l.left l.ids))
+
+abbrev pub decreases-loop-left : goal.decreases-loop-left
+decreases-loop-left l = l.left

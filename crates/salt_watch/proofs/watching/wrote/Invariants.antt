@@ -1,8 +1,0 @@
-use Rattle.salt_deps.specs.Kept.{dependencies}
-use Rattle.salt_keeps.specs.DependencyCalls.{WroteAll}
-use Rattle.salt_watch.proofs.watching.wrote.Given as goal
-use Rattle.salt_watch.specs.Watched.{place_of}
-use Rattle.std.proofs.Common.{map, take}
-
-abbrev pub invariant-loop-change : goal.invariant-loop-change
-invariant-loop-change l = WroteAll l.base (map place_of (take l.change-index l.changes)) (dependencies l.initial.deps) (dependencies l.deps)

@@ -1,0 +1,92 @@
+-- Counting one event more.
+use Rattle.salt_model.specs.declared.events.Event.{Event}
+use Rattle.salt_model.specs.declared.events.Event.TheVariants.{Did}
+use Rattle.salt_model.specs.declared.events.Answer.{Answer}
+use Rattle.salt_workload.specs.Counts.{AreCounts}
+use Rattle.salt_workload.specs.Summary.{answer_in, answers_in, total_of, value_after, value_in, count_of, is_accepted, is_began, is_committed, is_victim, is_waits, released_count, released_in}
+use Rattle.salt_workload.specs.declared.counts.Counts.{Counts}
+use Rattle.salt_values.specs.declared.value.Value.{Value}
+use Rattle.std.proofs.Common.{ap, append-nil, arith, get_or, length-append, length-take, take, subst, sym, ◌∙◌}
+use Rattle.std.proofs.lemmas.List.{take_more}
+use Rattle.std.proofs.lemmas.List.Elements.{filter_map-append}
+use Rattle.std.specs.List.{filter, flat_map}
+use Rattle.std.specs.Prelude.{Bool, List, Option, Some, [], cond, false, length, option_and_then, refl, slice_get, true, ℕ, ◌+◌, ◌++◌, ◌-◌, ◌<◌, ◌^◌, ◌∷◌, ◌≡◌, ◌≤◌}
+
+count-more : (is : Event → Bool) (story : List Event) (e : Event) → count_of is (story ++ e ∷ []) ≡ count_of is story + count_of is (e ∷ [])
+count-more is [] e = omega arith
+count-more is (x ∷ story) e = by (is x) (count-more is story e)
+  where
+    by : (t : Bool) → count_of is (story ++ e ∷ []) ≡ count_of is story + count_of is (e ∷ []) →
+        length (cond t (x ∷ filter is (story ++ e ∷ [])) (filter is (story ++ e ∷ []))) ≡ length (cond t (x ∷ filter is story) (filter is story)) + count_of is (e ∷ [])
+    by true h = omega (arith, h)
+    by false h = h
+
+count-most : (is : Event → Bool) (story : List Event) → count_of is story ≤ length story
+count-most is [] = omega arith
+count-most is (x ∷ story) = by (is x) (count-most is story)
+  where
+    by : (t : Bool) → count_of is story ≤ length story → length (cond t (x ∷ filter is story) (filter is story)) ≤ length (x ∷ story)
+    by true h = omega (arith, h)
+    by false h = omega (arith, h)
+
+-- a count of events leaves room for one more
+pub fits-one : (is : Event → Bool) (n : ℕ) (story : List Event) → n ≡ count_of is story → length story < 2 ^ 64 - 1 → n + 1 < 2 ^ 64
+fits-one is n story same few = let most = count-most is story in omega (arith, same, few, most)
+
+pub fits-released : (c : Counts) (story : List Event) (n : ℕ) → AreCounts c story → length story < 2 ^ 64 - 1 → n < 2 ^ 64 → c.released + n < 2 ^ 128
+fits-released c story n are few m = let most = are.few in omega (arith, few, m, most)
+
+released-more : (story : List Event) (e : Event) → released_count (story ++ e ∷ []) ≡ released_count story + length (released_in e)
+released-more [] e = let l = ap length (append-nil (released_in e)) in omega (arith, l)
+released-more (x ∷ story) e =
+    let l = length-append (released_in x) (flat_map released_in (story ++ e ∷ [])) in
+    let m = length-append (released_in x) (flat_map released_in story) in
+    let h = released-more story e in
+    omega (arith, l, m, h)
+
+pub counts-more : (c d : Counts) (e : Event) (story : List Event) → AreCounts c story → d.units ≡ c.units + count_of is_began (e ∷ []) →
+    d.committed ≡ c.committed + count_of is_committed (e ∷ []) → d.accepted ≡ c.accepted + count_of is_accepted (e ∷ []) →
+    d.waits ≡ c.waits + count_of is_waits (e ∷ []) → d.victims ≡ c.victims + count_of is_victim (e ∷ []) →
+    d.released ≡ c.released + length (released_in e) → length (released_in e) < 2 ^ 64 → AreCounts d (story ++ e ∷ [])
+counts-more c d e story are units committed accepted waits victims released few = record {
+  units = units ∙ ap (λ n. n + count_of is_began (e ∷ [])) are.units ∙ sym (count-more is_began story e);
+  committed = committed ∙ ap (λ n. n + count_of is_committed (e ∷ [])) are.committed ∙ sym (count-more is_committed story e);
+  accepted = accepted ∙ ap (λ n. n + count_of is_accepted (e ∷ [])) are.accepted ∙ sym (count-more is_accepted story e);
+  waits = waits ∙ ap (λ n. n + count_of is_waits (e ∷ [])) are.waits ∙ sym (count-more is_waits story e);
+  victims = victims ∙ ap (λ n. n + count_of is_victim (e ∷ [])) are.victims ∙ sym (count-more is_victim story e);
+  released = released ∙ ap (λ n. n + length (released_in e)) are.released ∙ sym (released-more story e);
+  few = let l = length-append story (e ∷ []) in let most = are.few in omega (arith, l, most, few, released);
+}
+
+-- the last of answers
+
+get-last : {A : Type 0} (xs : List A) (x : A) → slice_get (xs ++ x ∷ []) (length (xs ++ x ∷ []) - 1) ≡ Some x
+get-last {A = A} xs x = ap (λ n. slice_get (xs ++ x ∷ []) n) at ∙ here xs
+  where
+    at : length (xs ++ x ∷ []) - 1 ≡ length xs
+    at = let l = length-append xs (x ∷ []) in omega (arith, l)
+
+    here : (ys : List A) → slice_get (ys ++ x ∷ []) (length ys) ≡ Some x
+    here [] = refl
+    here (y ∷ ys) = here ys
+
+abbrev value_at_end : List Answer → Option Value
+value_at_end found = option_and_then value_in (slice_get found (length found - 1))
+
+-- the value of the last answer, with one event more
+total-more : (story : List Event) (e : Event) → total_of (story ++ e ∷ []) ≡ value_after e (total_of story)
+total-more story (Did u st a) =
+    ap value_at_end (filter_map-append answer_in story (Did u st a ∷ [])) ∙ ap (option_and_then value_in) (get-last (answers_in story) a)
+total-more story e = ap value_at_end (filter_map-append answer_in story (e ∷ []) ∙ append-nil (answers_in story))
+
+pub total-taken : (story : List Event) (i : ℕ) (e : Event) (found : Option Value) → i < length story → e ≡ get_or story i e → found ≡ value_after e (total_of (take i story)) →
+    found ≡ total_of (take (i + 1) story)
+total-taken story i e found within is told =
+    told ∙ sym (total-more (take i story) e) ∙ ap (λ x. total_of (take i story ++ x ∷ [])) is ∙ ap total_of (sym (take_more story i e within))
+
+pub counts-taken : (c : Counts) (story : List Event) (i : ℕ) (e : Event) → i < length story → e ≡ get_or story i e → AreCounts c (take i story ++ e ∷ []) → AreCounts c (take (i + 1) story)
+counts-taken c story i e within is are =
+    subst (AreCounts c) (sym (take_more story i e within)) (subst (λ x. AreCounts c (take i story ++ x ∷ [])) is are)
+
+pub few-taken : (story : List Event) (i : ℕ) → i < length story → length story < 2 ^ 64 → length (take i story) < 2 ^ 64 - 1
+few-taken story i within few = let l = length-take i story in omega (arith, l, within, few)
