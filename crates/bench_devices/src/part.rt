@@ -8,8 +8,8 @@ ghost use Rattle.salt_gatelog.specs.Log.{IsLog};
 ghost use Rattle.salt_partition.specs.Partitions.{Stands};
 ghost use Rattle.std.specs.Prelude.{IfOk, List, OnOk, ℕ, ◌<◌, ◌≡◌};
 
-use salt_disk::{DiskErr, Disks, MemDisks};
 use salt_codec::{Header, spell_header, spell_prepared};
+use salt_disk::{DiskErr, Disks, MemDisks};
 use salt_gatelog::{GateLog, create};
 use salt_partition::{OpenErr, Partition, open_partition};
 use salt_values::{Change, Id, Ids, Row, Value};

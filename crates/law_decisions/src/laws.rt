@@ -44,8 +44,8 @@ ghost use Rattle.std.specs.Prelude.{List, None, Some, [], false, length, true, â
 use law_definitions::definitions_are_read;
 use law_states::{edits_make_the_tables, names_rise, units_go_on};
 use law_story::kept_stays_well_kept;
-use salt_parse::{row_program, row_table};
 use law_types::{definitions_keep_types, spelled_tables_have_keys, states_are_of_their_types};
+use salt_parse::{row_program, row_table};
 
 /// Nothing kept may be kept, and so may what is kept under a later boot.
 pub fn starts_may_be_kept()

@@ -4,9 +4,9 @@ ghost use Rattle.salt_place.specs.Placement.{GivesPlaceOf, TakesEachKey};
 ghost use Rattle.std.specs.Prelude.{IsTrue, ◌≡◌, ◌≤◌};
 
 use salt_disk::Disks;
+use salt_place::{PlaceKind, Placement};
 use salt_storage::{OpenErr, Storage};
 use salt_values::Key;
-use salt_place::{PlaceKind, Placement};
 
 /// How many boots are kept, where a stop at this write or sync was armed before the second boot. If it came, that is what an
 /// opening finds behind a restart.

@@ -9,9 +9,9 @@ mod boots;
 use boots::boots_kept;
 use salt_devices::Devices;
 use salt_disk::MemDisks;
+use salt_place::{PlaceKind, Placement, Shape, place_of};
 use salt_storage::OpenErr;
 use salt_values::Key;
-use salt_place::{PlaceKind, Placement, Shape, place_of};
 use std::alloc::Global;
 use std::io;
 

@@ -11,8 +11,8 @@ use salt_decisions::{OpenErr, open_decisions};
 use salt_disk::DiskErr;
 use salt_gatelog::create;
 use salt_partition::{Partition, create_partition};
-use salt_values::{Change, Changes, Id, Value};
 use salt_place::{PlaceKind, Shape};
+use salt_values::{Change, Changes, Id, Value};
 use sqlite_items::Items;
 use std::alloc::{AllocError, Global};
 

@@ -3,9 +3,9 @@
 use crate::outcome::Outcome;
 use salt_disk::{Disks, MemDisks};
 use salt_io::{MemSink, MemSource};
+use salt_place::{PlaceKind, Placement, place_of};
 use salt_run::run;
 use salt_values::Key;
-use salt_place::{PlaceKind, Placement, place_of};
 use std::alloc::{AllocError, Global};
 use std::marker::Model;
 

@@ -2,8 +2,8 @@
 
 use crate::devices::{Devices, ROOM};
 use crate::outcome::Outcome;
-use salt_run::Status;
 use salt_place::{PlaceKind, Shape};
+use salt_run::Status;
 use std::alloc::{AllocError, Global};
 
 const SCRIPT: &str = "create table t (id int key)\n";

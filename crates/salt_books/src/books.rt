@@ -20,12 +20,11 @@ ghost use Rattle.salt_values.specs.declared.id.Id.{Id};
 ghost use Rattle.std.specs.Prelude.{IfOk, List, OnOk, [], get_or, length, ◌<◌, ◌≡◌};
 
 use crate::held::{Held, count_bases};
-use salt_ast::Statement;
-use salt_values::next_number;
 use crate::known::Known;
+use salt_ast::Statement;
 use salt_model::UnitKind;
 use salt_units::OpenUnit;
-use salt_values::Id;
+use salt_values::{Id, next_number};
 use std::alloc::{AllocError, Global};
 
 /// The open units in order of their names, how many units and programs have begun in this boot, the programs to which `go all`

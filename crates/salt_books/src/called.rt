@@ -6,8 +6,7 @@ ghost use Rattle.std.specs.List.{filter};
 ghost use Rattle.std.specs.Option.{option_copied};
 ghost use Rattle.std.specs.Prelude.{None, OnOk, Some, if◌then◌else◌, not, ◌≡◌};
 
-use salt_values::is_same_id;
-use salt_values::{Id, Name, TryCopy};
+use salt_values::{Id, Name, TryCopy, is_same_id};
 use std::alloc::{AllocError, Global};
 
 /// A program under way, and the name by which it was called.

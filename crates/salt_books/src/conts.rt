@@ -9,8 +9,7 @@ ghost use Rattle.std.specs.Option.{option_copied};
 ghost use Rattle.std.specs.Prelude.{IfOk, List, OnOk, Some, is_some, ◌≡◌};
 
 use salt_cont::Move;
-use salt_values::is_same_id;
-use salt_values::{Cont, Conts, Id, TryCopy};
+use salt_values::{Cont, Conts, Id, TryCopy, is_same_id};
 use std::alloc::{AllocError, Global};
 
 /// The continuation of a program.

@@ -11,14 +11,13 @@ ghost use Rattle.salt_values.specs.Id.{is_same_id};
 ghost use Rattle.std.specs.Prelude.{IfOk, if◌then◌else◌, is_some, nat_lt, true, ◌+◌, ◌≡◌};
 
 use crate::kinds::program_begun;
+use law_states::statements_are_done_under_edits;
 use salt_ast::Statement;
 use salt_eval::{MapView, Tables, ViewErr};
-use salt_values::{is_same_id, next_number};
-use law_states::statements_are_done_under_edits;
 use salt_model::{Answer, UnitKind};
 use salt_schema::Schema;
 use salt_units::OpenUnit;
-use salt_values::Id;
+use salt_values::{Id, is_same_id, next_number};
 use std::alloc::{AllocError, Global};
 
 /// A unit that runs or waits.

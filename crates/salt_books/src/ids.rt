@@ -4,8 +4,7 @@ ghost use Rattle.salt_values.specs.Id.{in_order};
 ghost use Rattle.salt_values.specs.declared.cont.Cont.{Cont};
 ghost use Rattle.std.specs.Prelude.{IfOk, map, ◌≡◌};
 
-use salt_values::insert_id;
-use salt_values::{Cont, Id};
+use salt_values::{Cont, Id, insert_id};
 use std::alloc::{AllocError, Global};
 
 /// The names of programs that go on, in order, each once.

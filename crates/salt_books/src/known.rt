@@ -22,11 +22,10 @@ use crate::moves::{move_of_branch, move_of_commit};
 use crate::texts::{program_text, table_text};
 use salt_ast::{ProgramDef, Statement, TableDef};
 use salt_cont::Move;
-use salt_values::next_number;
 use salt_model::{UnitKind, Vars};
 use salt_program::Catalogue;
 use salt_schema::Schema;
-use salt_values::{Bytes, Cont, Conts, Id, Name, Row, TryCopy};
+use salt_values::{Bytes, Cont, Conts, Id, Name, Row, TryCopy, next_number};
 use sqlite_items::Items;
 use std::alloc::{AllocError, Global};
 

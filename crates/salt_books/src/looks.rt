@@ -18,11 +18,10 @@ ghost use Rattle.std.specs.Prelude.{IfOk, None, length, map, option_map, ◌≡�
 use crate::books::Books;
 use crate::held::Held;
 use crate::kinds::program_begun;
-use salt_ast::{Act, Line, Statement};
-use salt_values::next_number;
 use crate::known::Known;
+use salt_ast::{Act, Line, Statement};
 use salt_model::Reach;
-use salt_values::Id;
+use salt_values::{Id, next_number};
 use std::alloc::{AllocError, Global};
 
 /// The statement of a session's line.

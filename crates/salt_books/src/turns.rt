@@ -17,10 +17,9 @@ ghost use Rattle.std.specs.Prelude.{IfOk, None, OnOk, is_some, length, option_ma
 
 use crate::books::Books;
 use crate::held::Held;
-use salt_ast::{Line, ProgramDef, TableDef};
-use salt_values::is_same_id;
 use crate::known::Defined;
-use salt_values::{Cont, Id};
+use salt_ast::{Line, ProgramDef, TableDef};
+use salt_values::{Cont, Id, is_same_id};
 use std::alloc::{AllocError, Global};
 
 /// The names behind the first that is this one.

@@ -8,11 +8,11 @@ ghost use Rattle.salt_codec.specs.Taking.{TakesAs};
 ghost use Rattle.std.specs.Prelude.{Bool, IfOk, Some, option_map, true, ◌≡◌};
 
 use crate::changes::{take_changes, with_changes};
-use crate::order::are_in_order;
-use crate::told::told_changes;
 use crate::error::TakeErr;
+use crate::order::are_in_order;
 use crate::put::{with_byte, with_id};
 use crate::take::{take_byte, take_id};
+use crate::told::told_changes;
 use salt_values::{Change, Id};
 use std::alloc::{AllocError, Global};
 

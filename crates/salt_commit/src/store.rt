@@ -14,9 +14,9 @@ ghost use Rattle.std.specs.Prelude.{Err, IfOk, IsTrue, OnOk, length, ℕ, ◌+�
 
 use crate::error::StoreErr;
 use salt_decisions::Decisions;
-use salt_stands::what_fits_still_fits;
 use salt_disk::Disks;
 use salt_partition::Partition;
+use salt_stands::what_fits_still_fits;
 use std::alloc::Global;
 
 /// A database on its devices: the coordinator's log, and the partitions in order of their numbers. After an error of a call on

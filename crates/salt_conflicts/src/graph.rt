@@ -13,10 +13,9 @@ ghost use Rattle.std.specs.Prelude.{IfOk, List, OnOk, map, not, ◌&&◌, ◌++�
 use crate::served::against;
 use crate::waiters::Waiter;
 use salt_deps::Deps;
-use salt_values::has_id;
 use salt_locks::LockTable;
 use salt_model::Owner;
-use salt_values::{Id, Ids};
+use salt_values::{Id, Ids, has_id};
 use salt_waits::WaitUnit;
 use std::alloc::{AllocError, Global};
 

@@ -30,10 +30,9 @@ use crate::served::{clashing, served};
 use crate::shown::lock_items;
 use crate::waiters::{Waiter, leave};
 use salt_deps::Deps;
-use salt_values::{drop_ids, insert_id, next_number};
 use salt_locks::LockTable;
 use salt_model::{Family, Items, Owner, Owners, Reach};
-use salt_values::{Change, Id, Ids};
+use salt_values::{Change, Id, Ids, drop_ids, insert_id, next_number};
 use salt_waits::victim;
 use std::alloc::{AllocError, Global};
 

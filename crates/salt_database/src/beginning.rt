@@ -8,9 +8,9 @@ ghost use Rattle.salt_drain.specs.Recovering.{Gives};
 ghost use Rattle.std.specs.Prelude.{IfOk, Option, Some, nat_lt, ℕ, ◌≡◌};
 
 use salt_books::{Books, Coming};
+use salt_drain::Recovery;
 use salt_engine::InFlight;
 use salt_model::Event;
-use salt_drain::Recovery;
 use std::alloc::{AllocError, Global};
 
 /// The decision that was in flight stands: it is told.

@@ -8,13 +8,13 @@ ghost use Rattle.std.specs.Prelude.{[], ⊤, ◌≡◌};
 use crate::opening::Opening;
 use salt_ast::Line;
 use salt_disk::Disks;
+use salt_driver::{Openable, Stepping};
 use salt_engine::Engine;
 use salt_model::{Event, Flight, Refusal, Story};
+use salt_place::{PlaceKind, Placement};
 use salt_schema::Schema;
-use salt_driver::{Openable, Stepping};
 use salt_storage::{Halt, OpenErr, Storage};
 use salt_values::{Id, Key, Steps};
-use salt_place::{PlaceKind, Placement};
 use std::mem;
 use std::sync::ledger::Ledger;
 

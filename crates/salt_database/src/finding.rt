@@ -21,9 +21,9 @@ use salt_books::Books;
 use salt_disk::Disks;
 use salt_engine::{InFlight, Stage};
 use salt_model::{Event, Story};
+use salt_place::{PlaceKind, Placement};
 use salt_storage::{Halt, OpenErr, Storage};
 use salt_values::Key;
-use salt_place::{PlaceKind, Placement};
 use std::mem;
 
 /// What is in flight behind an Opened: the decision that was, where it stands, until it is told.

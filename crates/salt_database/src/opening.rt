@@ -11,10 +11,9 @@ ghost use Rattle.salt_stands.specs.Stands.{are_spent};
 ghost use Rattle.salt_storage.specs.Storing.{IsFound, IsSoundKept};
 ghost use Rattle.std.specs.Prelude.{None, false, ◌≡◌};
 
-use salt_books::Books;
-use salt_engine::{Engine, GivenUp, InFlight, Stage};
-use salt_books::Known;
+use salt_books::{Books, Known};
 use salt_drain::Recovery;
+use salt_engine::{Engine, GivenUp, InFlight, Stage};
 use salt_schema::Schema;
 use salt_storage::{Found, Numbers};
 use std::alloc::Global;

@@ -19,12 +19,12 @@ ghost use Rattle.std.specs.Prelude.{Bool, IfOk, None, OnErr, Option, Some, [], â
 use crate::opening::Opening;
 use salt_books::{Asking, Coming};
 use salt_disk::Disks;
+use salt_drain::Recovery;
 use salt_engine::{InFlight, Stage, branch, commit, load};
 use salt_model::{Cause, Event};
-use salt_drain::Recovery;
+use salt_place::{PlaceKind, Placement};
 use salt_storage::{Halt, Storage};
 use salt_values::{Id, Key, Steps};
-use salt_place::{PlaceKind, Placement};
 use std::sync::ledger::Ledger;
 
 impl<S: Storage> Opening<S> {

@@ -26,13 +26,13 @@ ghost use Rattle.std.specs.Prelude.{Err, IfErr, IfOk, None, OnErr, OnOk, Some, â
 use crate::opening::Opening;
 use salt_books::Books;
 use salt_disk::Disks;
+use salt_drain::Recovery;
 use salt_engine::{Stage, flight_of};
 use salt_model::{Event, Flight, Story};
-use salt_drain::Recovery;
+use salt_place::{PlaceKind, Placement};
 use salt_schema::Schema;
 use salt_storage::{Halt, OpenErr, Storage};
 use salt_values::{Key, Steps};
-use salt_place::{PlaceKind, Placement};
 use std::mem;
 use std::sync::ledger::Ledger;
 

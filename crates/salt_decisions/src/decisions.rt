@@ -21,8 +21,8 @@ use crate::payload::{boot_payload, decision_payload, definition_payload};
 use crate::which::Which;
 use salt_disk::{DiskErr, Disks};
 use salt_gatelog::{GateLog, create};
-use salt_values::{Cont, Conts, Id};
 use salt_place::Shape;
+use salt_values::{Cont, Conts, Id};
 use sqlite_items::Items;
 use std::alloc::Global;
 

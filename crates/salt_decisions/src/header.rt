@@ -11,8 +11,8 @@ ghost use Rattle.std.specs.Prelude.{IfOk, IfSome, map, option_map, true, ◌≡�
 use crate::conts::take_conts;
 use salt_codec::TakeErr;
 use salt_codec::take::{take_byte, take_bytes, take_u64};
-use salt_values::{Bytes, Conts};
 use salt_place::{PlaceKind, Shape};
+use salt_values::{Bytes, Conts};
 use sqlite_items::Items;
 use std::alloc::{AllocError, Global};
 

@@ -14,8 +14,8 @@ ghost use Rattle.std.specs.Prelude.{IfOk, OnOk, [], length, map, nat_le, true, â
 
 use crate::header::{Definition, MARK};
 use salt_codec::put::{with_byte, with_bytes, with_id, with_text, with_u32, with_u64, with_values};
-use salt_values::{Cont, Name, Row};
 use salt_place::{PlaceKind, Shape};
+use salt_values::{Cont, Name, Row};
 use std::alloc::{AllocError, Global};
 
 /// The format of each header that is written.

@@ -16,8 +16,8 @@ use crate::header::{Header, read_header};
 use crate::said::Said;
 use salt_disk::{DiskErr, Disks};
 use salt_gatelog::{GateLog, LogErr, open_log};
-use salt_values::Conts;
 use salt_place::Shape;
+use salt_values::Conts;
 use sqlite_items::Items;
 use std::alloc::Global;
 

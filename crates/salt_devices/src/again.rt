@@ -22,9 +22,9 @@ use crate::pending::Pending;
 use crate::told::told_keys;
 use salt_commit::Store;
 use salt_disk::Disks;
+use salt_place::{PlaceKind, Placement, Shape};
 use salt_storage::{Halt, Numbers, OpenErr};
 use salt_values::{Changes, Key};
-use salt_place::{PlaceKind, Placement, Shape};
 use std::alloc::{AllocError, Global};
 
 /// Whether the one number comes next behind the other.

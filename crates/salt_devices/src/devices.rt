@@ -12,10 +12,10 @@ use salt_commit::Store;
 use salt_disk::Disks;
 use salt_eval::Tables;
 use salt_model::Reach;
+use salt_place::{PlaceKind, Placement, Shape};
 use salt_schema::Schema;
 use salt_storage::{Found, Halt, Numbers, OpenErr, Storage};
 use salt_values::{Changes, Id, Key};
-use salt_place::{PlaceKind, Placement, Shape};
 use std::alloc::{AllocError, Global};
 
 /// A database over devices, in the shape that is asked for: a store that stands on them, once it is opened. Behind an error the

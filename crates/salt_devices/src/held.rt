@@ -25,17 +25,17 @@ ghost use Rattle.salt_place.specs.declared.placement.Shape.{Shape};
 ghost use Rattle.std.specs.Prelude.{Err, IfOk, List, OnErr, OnOk, Some, false, length, ℕ, ◌+◌, ◌<◌, ◌≡◌, ◌≢◌};
 
 use crate::told::{told_keys, told_move};
+use law_types::typed_changes_are_sound;
 use salt_bytes::{Move, moves_are_read};
 use salt_codec::put_move;
 use salt_commit::{Store, StoreErr};
 use salt_disk::Disks;
 use salt_eval::Tables;
 use salt_model::Reach;
+use salt_place::{PlaceKind, Placement, Shape};
 use salt_schema::Schema;
 use salt_storage::Halt;
-use law_types::typed_changes_are_sound;
 use salt_values::{Changes, Id, Key};
-use salt_place::{PlaceKind, Placement, Shape};
 use std::alloc::Global;
 
 /// The format under which moves are spelled, the newest.

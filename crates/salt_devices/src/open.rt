@@ -29,15 +29,15 @@ use crate::again::are_spent;
 use crate::held::FORMAT;
 use crate::pending::Pending;
 use law_definitions::definitions_are_read;
+use law_types::spelled_tables_have_keys;
 use salt_commit::{Kept, OpenErr as StoreOpenErr, Store, open_store, peek};
 use salt_disk::Disks;
 use salt_found::{RecoverErr, Recovered, recover};
 use salt_partition::rejected;
+use salt_place::{PlaceKind, Placement, Shape};
 use salt_schema::Schema;
 use salt_storage::{Found, Halt, Numbers, OpenErr};
-use law_types::spelled_tables_have_keys;
 use salt_values::Key;
-use salt_place::{PlaceKind, Placement, Shape};
 use std::alloc::{AllocError, Global};
 
 /// Why a store was not opened.

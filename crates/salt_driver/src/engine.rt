@@ -25,9 +25,9 @@ ghost use Rattle.std.specs.Prelude.{IfErr, IfOk, List, None, Ok, OnOk, Option, S
 use salt_ast::Line;
 use salt_disk::Disks;
 use salt_model::{Event, Flight, Refusal, Story};
+use salt_place::{PlaceKind, Placement};
 use salt_storage::Halt;
 use salt_values::{Id, Key};
-use salt_place::{PlaceKind, Placement};
 
 /// An engine over devices, by what it does at each move of a run. It has moved by an event already when it gives it as what comes
 /// next: `say` tells this event, and moves by the one after it. The line that is being done is lent to each call. After a `Halt`

@@ -16,9 +16,9 @@ ghost use Rattle.std.specs.Prelude.{Err, IfErr, IfOk, IsTrue, None, Ok, OnErr, S
 
 use salt_disk::Disks;
 use salt_model::{Event, Story, Why};
+use salt_place::{PlaceKind, Placement};
 use salt_storage::{Found, Halt, OpenErr, Storage};
 use salt_values::Key;
-use salt_place::{PlaceKind, Placement};
 
 /// Opens a storage at first. None where a stop came meanwhile, and the run has fallen.
 #[tactic(auto, using(crate::proofs::Counted::opening_cause))]

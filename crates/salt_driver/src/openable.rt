@@ -22,10 +22,10 @@ ghost use Rattle.std.specs.Prelude.{Err, IfErr, IfOk, None, OnErr, OnOk, Option,
 use crate::engine::Stepping;
 use salt_disk::Disks;
 use salt_model::{Event, Flight, Story};
+use salt_place::{PlaceKind, Placement};
 use salt_schema::Schema;
 use salt_storage::{Halt, OpenErr};
 use salt_values::{Key, Steps};
-use salt_place::{PlaceKind, Placement};
 use std::sync::ledger::Ledger;
 
 /// What stands over devices, and is opened before it serves lines: behind a fall what the devices stand for is found first, and then

@@ -22,9 +22,9 @@ ghost use Rattle.std.specs.Prelude.{Err, IfErr, IfOk, List, None, Ok, OnErr, OnO
 use crate::openable::Openable;
 use salt_disk::Disks;
 use salt_model::{Event, Story, Why};
+use salt_place::{PlaceKind, Placement};
 use salt_storage::{Halt, OpenErr};
 use salt_values::{Key, Steps};
-use salt_place::{PlaceKind, Placement};
 use std::alloc::AllocError;
 use std::marker::Brand;
 use std::sync::ledger::{Blank, Ledger};

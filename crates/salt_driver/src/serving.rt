@@ -15,9 +15,9 @@ use crate::engine::Stepping;
 use salt_ast::Line;
 use salt_disk::Disks;
 use salt_model::{Event, Refusal, Story};
+use salt_place::{PlaceKind, Placement};
 use salt_storage::Halt;
 use salt_values::Key;
-use salt_place::{PlaceKind, Placement};
 
 /// Tells events until none comes next.
 fn settle<E: Stepping, D: Disks, F: Fn(PlaceKind, &Key, u32) -> u32>(

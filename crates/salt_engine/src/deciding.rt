@@ -18,14 +18,14 @@ ghost use Rattle.salt_place.specs.Placement.{GivesPlaceOf, TakesEachKey};
 ghost use Rattle.salt_values.specs.declared.id.Id.{Id};
 ghost use Rattle.std.specs.Prelude.{IfErr, IfOk, OnOk, Some, map, ◌≡◌};
 
+use law_decisions::decided_ends_may_be_kept;
 use salt_books::{Asking, Books};
 use salt_cont::Move;
 use salt_disk::Disks;
 use salt_eval::Tables;
-use law_decisions::decided_ends_may_be_kept;
+use salt_place::{PlaceKind, Placement};
 use salt_storage::{Halt, Storage};
 use salt_values::{Change, Changes, Id, Key, TryCopy};
-use salt_place::{PlaceKind, Placement};
 use sqlite_items::Items;
 use std::alloc::{AllocError, Global};
 

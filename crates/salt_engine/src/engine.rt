@@ -8,8 +8,7 @@ ghost use Rattle.std.specs.Prelude.{None, Some, ◌≡◌};
 
 use crate::flights::{InFlight, flight_of};
 use crate::stage::Stage;
-use salt_books::Books;
-use salt_books::Known;
+use salt_books::{Books, Known};
 use salt_model::Flight;
 use salt_program::Catalogue;
 use salt_scheduler::Scheduler;

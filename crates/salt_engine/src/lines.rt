@@ -28,15 +28,15 @@ ghost use Rattle.std.specs.Prelude.{IfOk, IsTrue, None, Ok, OnErr, OnOk, Some, f
 use crate::engine::Engine;
 use crate::flights::InFlight;
 use crate::stage::Stage;
-use salt_ast::{Act, Line, Pairs};
-use salt_disk::Disks;
-use salt_books::{program_text, table_text};
-use salt_model::{Event, Refusal};
-use salt_scheduler::Scheduler;
 use law_decisions::definitions_may_be_kept;
+use salt_ast::{Act, Line, Pairs};
+use salt_books::{program_text, table_text};
+use salt_disk::Disks;
+use salt_model::{Event, Refusal};
+use salt_place::{PlaceKind, Placement};
+use salt_scheduler::Scheduler;
 use salt_storage::{Halt, Storage};
 use salt_values::{Key, TryCopy};
-use salt_place::{PlaceKind, Placement};
 use sqlite_items::Items;
 use std::alloc::{AllocError, Global};
 

@@ -24,10 +24,10 @@ use salt_ast::Line;
 use salt_books::{Asking, Coming};
 use salt_disk::Disks;
 use salt_model::{Cause, Event};
+use salt_place::{PlaceKind, Placement};
 use salt_scheduler::Scheduler;
 use salt_storage::{Halt, Storage};
 use salt_values::{Id, Key};
-use salt_place::{PlaceKind, Placement};
 use std::alloc::AllocError;
 
 /// `go all` turns to a program: what that brings.

@@ -15,14 +15,14 @@ ghost use Rattle.std.specs.Prelude.{IfErr, None, OnOk, ◌≡◌};
 use crate::engine::Engine;
 use crate::lines::is_statement_line;
 use crate::stage::Stage;
+use law_decisions::read_lines_are_spelled;
 use salt_ast::Line;
 use salt_disk::Disks;
-use salt_model::{Event, Refusal, Story};
-use law_decisions::read_lines_are_spelled;
 use salt_driver::Stepping;
+use salt_model::{Event, Refusal, Story};
+use salt_place::{PlaceKind, Placement};
 use salt_storage::{Halt, Storage};
 use salt_values::{Id, Key};
-use salt_place::{PlaceKind, Placement};
 use std::mem;
 
 impl<S: Storage + Drop> Stepping for Engine<S> {

@@ -19,15 +19,15 @@ ghost use Rattle.std.specs.Prelude.{Err, IfErr, None, OnOk, ◌≡◌, ◌≢◌
 
 use crate::stop::{Stop, stop_opening};
 use crate::telling::write_done;
+use law_decisions::read_lines_are_spelled;
 use salt_disk::Disks;
+use salt_driver::{Openable, events_behind};
 use salt_io::Sink;
 use salt_model::{Refusal, Story, Why};
+use salt_place::{PlaceKind, Placement};
 use salt_script::{ReadErr, read_line};
-use law_decisions::read_lines_are_spelled;
-use salt_driver::{Openable, events_behind};
 use salt_storage::Halt;
 use salt_values::Key;
-use salt_place::{PlaceKind, Placement};
 use std::alloc::Global;
 
 /// Asks a line: of this text, or, where there is none, one that is too long.

@@ -15,14 +15,14 @@ ghost use Rattle.std.specs.Prelude.{IfErr, OnOk, Some, length, slice_get, â—Œ+â—
 use crate::lines::resume;
 use crate::starting::start;
 use crate::stop::Stop;
-use salt_ast::Line;
 use law_definitions::definitions_are_read;
+use salt_ast::Line;
 use salt_disk::Disks;
-use salt_workload::{line_count, load_line};
-use salt_model::Story;
 use salt_driver::Openable;
-use salt_values::Key;
+use salt_model::Story;
 use salt_place::{PlaceKind, Placement};
+use salt_values::Key;
+use salt_workload::{line_count, load_line};
 use std::alloc::Global;
 
 /// How the run of a workload has ended, and how many of its lines were done, the one in which it ended among them.

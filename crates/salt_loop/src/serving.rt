@@ -18,12 +18,12 @@ use crate::starting::start;
 use crate::stop::Stop;
 use crate::telling::write_done;
 use salt_disk::Disks;
+use salt_driver::Openable;
 use salt_io::{Lines, Next, Sink, Source};
 use salt_model::Story;
-use salt_driver::Openable;
-use salt_values::limits::SCRIPT_MOST;
-use salt_values::Key;
 use salt_place::{PlaceKind, Placement};
+use salt_values::Key;
+use salt_values::limits::SCRIPT_MOST;
 use std::alloc::Global;
 
 /// The text of a line that was taken; none where it is too long.

@@ -19,13 +19,13 @@ ghost use Rattle.std.specs.Prelude.{Err, IfErr, List, None, OnOk, Option, ℕ, [
 use crate::stop::{Stop, stop_opening};
 use crate::telling::write_done;
 use salt_disk::Disks;
+use salt_driver::Openable;
 use salt_io::Sink;
 use salt_model::Story;
+use salt_place::{PlaceKind, Placement};
 use salt_schema::Schema;
-use salt_driver::Openable;
 use salt_storage::OpenErr;
 use salt_values::Key;
-use salt_place::{PlaceKind, Placement};
 use std::alloc::Global;
 
 /// Opens a run that is down.

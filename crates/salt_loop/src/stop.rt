@@ -7,9 +7,9 @@ ghost use Rattle.salt_storage.specs.declared.open.OpenErr.TheVariants.{Halted};
 ghost use Rattle.std.specs.Prelude.{◌≡◌, ◌≢◌};
 
 use salt_io::{IoFailed, LineErr};
+use salt_place::Shape;
 use salt_promise::Status;
 use salt_storage::{Halt, OpenErr};
-use salt_place::Shape;
 use std::alloc::AllocError;
 
 /// Why a run ends before its lines do.

@@ -8,8 +8,8 @@ ghost use Rattle.std.specs.Prelude.{IfOk, IsTrue, List, length, ℕ, ◌<◌, �
 ghost use Rattle.std.specs.Result.{result_err};
 
 use crate::units::{header_at, read_units};
-use salt_disk::{DiskErr, Disks};
 use salt_codec::{Header, PreparedUnit};
+use salt_disk::{DiskErr, Disks};
 use salt_gatelog::{GateLog, LogErr, open_log};
 use std::alloc::Global;
 

@@ -13,8 +13,8 @@ ghost use Rattle.std.specs.Result.{result_err};
 
 use crate::devices::log_a;
 use crate::partition::Partition;
-use salt_disk::{DiskErr, Disks};
 use salt_codec::{Header, spell_header};
+use salt_disk::{DiskErr, Disks};
 use salt_gatelog::create;
 use sqlite_items::Items;
 use std::alloc::{AllocError, Global};

@@ -13,8 +13,8 @@ ghost use Rattle.salt_stands.specs.Words.{and_then};
 ghost use Rattle.std.specs.Prelude.{IfOk, IfSome, IsTrue, List, Some, [], drop, false, option_map, slice_get, ℕ, ◌<◌, ◌≡◌};
 ghost use Rattle.std.specs.Result.{result_err};
 
-use salt_disk::{DiskErr, Disks};
 use salt_codec::{Header, PreparedUnit, read_header, read_prepared};
+use salt_disk::{DiskErr, Disks};
 use salt_gatelog::GateLog;
 use std::alloc::Global;
 

@@ -1,8 +1,8 @@
 //! Which partition a key's row stands in, and which ranges of keys lie in one.
 #![tactic(auto)]
 
-mod placement;
 mod part;
+mod placement;
 
-pub use placement::{PlaceKind, Placement, Shape, place_of};
 pub use part::one_part;
+pub use placement::{PlaceKind, Placement, Shape, place_of};

@@ -7,9 +7,9 @@ ghost use Rattle.salt_values.specs.Value.{IsKey};
 ghost use Rattle.salt_values.specs.declared.value.Value.{Value};
 ghost use Rattle.std.specs.Prelude.{IfSome, true, ◌≡◌};
 
+use crate::placement::{PlaceKind, Placement, Shape};
 use salt_ranges::KeyRange;
 use salt_values::{Key, Value};
-use crate::placement::{PlaceKind, Placement, Shape};
 
 /// Whether two keys are numbers of one band of 1,024.
 fn is_one_band(lo: &Key, hi: &Key) -> bool

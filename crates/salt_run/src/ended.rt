@@ -1,7 +1,7 @@
 //! What a run leaves.
 
-use salt_model::{Flight, Story};
 use salt_loop::Status;
+use salt_model::{Flight, Story};
 
 /// How a run ended, the story that it told, and the decision that was in flight.
 #[derive(Drop)]

@@ -25,13 +25,13 @@ use crate::ended::Ended;
 use salt_database::{Database, Opening};
 use salt_devices::Devices;
 use salt_disk::Disks;
-use salt_io::{Sink, Source};
-use salt_model::{Flight, Story};
-use salt_loop::{Loaded, Status, Stop, load, serve, status_of, stop_opening, tell_unfound};
 use salt_driver::{Openable, find};
-use salt_workload::print_summary;
-use salt_values::Key;
+use salt_io::{Sink, Source};
+use salt_loop::{Loaded, Status, Stop, load, serve, status_of, stop_opening, tell_unfound};
+use salt_model::{Flight, Story};
 use salt_place::{PlaceKind, Placement, Shape};
+use salt_values::Key;
+use salt_workload::print_summary;
 use sqlite_items::Items;
 use std::alloc::Global;
 

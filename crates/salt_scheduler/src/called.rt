@@ -4,10 +4,9 @@ ghost use Rattle.std.specs.Prelude.{◌≡◌, OnOk};
 ghost use Rattle.salt_scheduler.specs.Calling.{Forgets, ForgetsIdle, IsCalled, is_under_way, listed};
 
 use salt_books::{Books, CalledNames};
-use salt_values::has_id;
-use salt_model::UnitKind;
-use salt_values::Id;
 use salt_conflicts::Watching;
+use salt_model::UnitKind;
+use salt_values::{Id, has_id};
 use std::alloc::AllocError;
 
 /// Notes the name by which a program is called that a unit of this kind begins.

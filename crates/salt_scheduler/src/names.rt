@@ -4,8 +4,7 @@ ghost use Rattle.std.specs.Prelude.{◌≡◌, ◌++◌, IfOk, length};
 ghost use Rattle.law_states.specs.KeptWaits.{AreDistinct};
 ghost use Rattle.salt_values.specs.Id.{in_order};
 
-use salt_values::{drop_ids, in_order};
-use salt_values::Id;
+use salt_values::{Id, drop_ids, in_order};
 use std::alloc::{AllocError, Global};
 
 /// How many names two lists have together, where the first has none twice.

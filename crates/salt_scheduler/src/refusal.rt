@@ -13,11 +13,11 @@ ghost use Rattle.law_states.specs.States.{State};
 ghost use Rattle.salt_model.specs.Refusals.{defines, has_block};
 ghost use Rattle.salt_model.specs.Trace.{Tree};
 
+use crate::judge::line_refusal;
 use crate::names::count_both;
 use crate::scheduler::Scheduler;
 use salt_ast::{Act, Line};
 use salt_books::Held;
-use crate::judge::line_refusal;
 use salt_model::{Refusal, UnitKind};
 use std::alloc::AllocError;
 

@@ -12,9 +12,9 @@ ghost use Rattle.std.specs.Prelude.{OnOk, Some, [], ◌≡◌};
 use crate::follow::Follow;
 use salt_ast::Line;
 use salt_books::{Books, CalledNames};
+use salt_conflicts::Watching;
 use salt_schema::Schema;
 use salt_values::Id;
-use salt_conflicts::Watching;
 use std::alloc::{AllocError, Global};
 
 /// Keeps units, locks and programs in memory, and chooses what comes next. With an event at hand it has done that event, and

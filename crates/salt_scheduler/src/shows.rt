@@ -10,9 +10,8 @@ ghost use Rattle.salt_model.specs.declared.events.Event.{Event};
 use crate::follow::Follow;
 use crate::scheduler::Scheduler;
 use salt_ast::Line;
-use salt_values::{both_in_order, in_order};
 use salt_model::{BaseAt, Event, Item, Items};
-use salt_values::{Id, TryCopy};
+use salt_values::{Id, TryCopy, both_in_order, in_order};
 use std::alloc::AllocError;
 
 impl Scheduler {

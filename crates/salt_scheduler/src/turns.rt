@@ -20,10 +20,10 @@ use crate::kinds::{copy_kind, copy_statement, is_statement_line};
 use crate::scheduler::Scheduler;
 use salt_ast::Line;
 use salt_books::{Asking, Coming, cause_of};
+use salt_conflicts::Waiter;
 use salt_eval::Tables;
 use salt_model::{Event, Owners, UnitKind};
 use salt_values::Id;
-use salt_conflicts::Waiter;
 use std::alloc::AllocError;
 
 impl Scheduler {

@@ -26,9 +26,9 @@ use salt_bytes::Move;
 use salt_disk::Disks;
 use salt_eval::Tables;
 use salt_model::Reach;
+use salt_place::{PlaceKind, Placement};
 use salt_schema::Schema;
 use salt_values::{Changes, Id, Key};
-use salt_place::{PlaceKind, Placement};
 use std::alloc::AllocError;
 
 /// What a database stands on. After an error of a call it is opened anew before it is used. Contracts see the devices by their

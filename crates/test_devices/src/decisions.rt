@@ -3,8 +3,8 @@ ghost use Rattle.std.specs.Prelude.{◌<◌};
 
 use salt_decisions::{OpenErr, open_decisions};
 use salt_disk::{Disks, MemDisks};
-use salt_values::Id;
 use salt_place::{PlaceKind, Shape};
+use salt_values::Id;
 use std::alloc::Global;
 use std::test::Fail;
 
