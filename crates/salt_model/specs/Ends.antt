@@ -2,7 +2,7 @@
 use Rattle.salt_model.specs.After.{keep, kept, stage}
 use Rattle.salt_model.specs.Kept.{Kept}
 use Rattle.salt_model.specs.Trace.{Trace, story_of}
-use Rattle.salt_model.specs.Next.{flight, next}
+use Rattle.salt_model.specs.Next.{next}
 use Rattle.salt_model.specs.Phases.{Phase, Serving, phase}
 use Rattle.salt_model.specs.Segments.{IsComplete}
 use Rattle.salt_model.specs.Stops.{is_device_next}
@@ -42,14 +42,3 @@ flight_told e = None
 abbrev pub kept_with : Trace → Option Event → Kept
 kept_with trace None = kept trace
 kept_with trace (Some e) = keep trace e (stage trace)
-
-abbrev pub IsSameKept : Kept → Kept → Type 0
-IsSameKept a b = (a.decisions ≡ b.decisions) × (a.definitions ≡ b.definitions) × (a.tables ≡ b.tables) × (a.conts ≡ b.conts)
-
--- the images of devices and what they stand for are the disk's: parameters here
-module _ (Image : Type 0) (stands : Image → Option Kept) where
-  abbrev pub StandsFor : Image → Kept → Type 0
-  StandsFor b k = (found : Kept) × (stands b ≡ Some found) × IsSameKept found k
-
-  abbrev pub ImagesStand : (Image → Type 0) → Trace → Type 0
-  ImagesStand may_be trace = (b : Image) → may_be b → StandsFor b (kept trace) ⊎ StandsFor b (kept_with trace (flight trace))

@@ -3,4 +3,4 @@
 
 mod range;
 
-pub use range::KeyRange;
+pub use range::{KeyRange, ends_meet, is_above_low};

@@ -19,7 +19,7 @@ impl Drop for KeyRange {
 }
 
 /// Whether the lower end is at most the upper one; an open end is no bound.
-fn ends_meet(lo: &Option<Key>, hi: &Option<Key>) -> bool
+pub fn ends_meet(lo: &Option<Key>, hi: &Option<Key>) -> bool
     ensures { result ≡ ends_meet lo.now hi.now }
 {
     match (lo, hi) {
@@ -29,7 +29,7 @@ fn ends_meet(lo: &Option<Key>, hi: &Option<Key>) -> bool
 }
 
 /// Whether the lower end leaves the key inside.
-fn is_above_low(lo: &Option<Key>, key: &Key) -> bool
+pub fn is_above_low(lo: &Option<Key>, key: &Key) -> bool
     ensures { result ≡ is_above_low lo.now key.now }
 {
     match lo {

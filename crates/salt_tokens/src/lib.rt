@@ -14,6 +14,7 @@ pub use error::ScanErr;
 pub use keyword::Keyword;
 pub use laws::{keyword_spellings, one_row, quoted_text, sign_spellings, written_number};
 pub use lexeme::{Lexeme, lexemes};
-pub use scanner::scan;
+pub use same::same_bytes;
+pub use scanner::{is_blank, scan};
 pub use sign::Sign;
 pub use token::{Token, TokenKind, Tokens};

@@ -25,14 +25,8 @@ pub fn same_in_any_case(bytes: &[u8], spelling: &[u8]) -> bool
 }
 
 /// Whether the bytes are those of the spelling.
-pub fn same(bytes: &[u8], spelling: &[u8]) -> bool
+pub fn same_bytes(bytes: &[u8], spelling: &[u8]) -> bool
     ensures { result ≡ same_bytes bytes.now spelling.now }
 {
-    let [first, rest @ ..] = bytes else {
-        return spelling.is_empty();
-    };
-    let [letter, letters @ ..] = spelling else {
-        return false;
-    };
-    *first == *letter && same(rest, letters)
+    bytes == spelling
 }

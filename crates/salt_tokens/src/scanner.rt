@@ -15,7 +15,8 @@ use crate::token::{Token, TokenKind, Tokens};
 use sqlite_items::Items;
 use std::alloc::Global;
 
-fn is_blank(b: u8) -> bool
+/// Whether the byte is a space or a tab.
+pub fn is_blank(b: u8) -> bool
     ensures { result ≡ is_blank b }
 {
     b == b' ' || b == b'\t'

@@ -3,7 +3,7 @@
 ghost use Rattle.std.specs.Prelude.{◌≡◌};
 ghost use Rattle.salt_tokens.specs.Spelling.{sign_spelling, sign_of};
 
-use crate::same::same;
+use crate::same::same_bytes;
 
 /// A sign of one byte or of two.
 #[derive(Clone, Copy, Debug, PartialEq, Eq)]
@@ -86,6 +86,6 @@ impl Sign {
     {
         ALL.iter()
             .copied()
-            .find(|sign| same(bytes, sign.spelling()))
+            .find(|sign| same_bytes(bytes, sign.spelling()))
     }
 }

@@ -1,7 +1,9 @@
 //! What a unit changes.
 
+use crate::copy::TryCopy;
 use crate::value::{Key, Row};
 use sqlite_items::Items;
+use std::alloc::{AllocError, Global};
 
 /// What becomes of the row of a key: its new row, or its removal.
 #[derive(Drop)]
@@ -10,6 +12,16 @@ pub struct Change {
     pub table: u16,
     pub key: Key,
     pub row: Option<Row>,
+}
+
+impl TryCopy for Change {
+    fn copy(&self, alloc: Global) -> Result<Change, AllocError> {
+        Ok(Change {
+            table: self.table,
+            key: self.key.copy(alloc)?,
+            row: self.row.copy(alloc)?,
+        })
+    }
 }
 
 /// Changes, one a place, in order of table and key where a unit commits them.

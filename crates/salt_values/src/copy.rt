@@ -18,12 +18,28 @@ impl TryCopy for u8 {
     }
 }
 
+/// Copies, in their order.
+pub fn copies<T: TryCopy + Drop>(alloc: Global, items: &[T]) -> Result<Items<T>, AllocError>
+    ensures { IfOk result (λ made. made ≡ items.now) }
+{
+    let mut made = Items::new(alloc);
+    for item in items {
+        made.push(item.copy(alloc)?)?;
+    }
+    Ok(made)
+}
+
 impl<T: TryCopy + Drop> TryCopy for Items<T> {
     fn copy(&self, alloc: Global) -> Result<Items<T>, AllocError> {
-        let mut made = Items::new(alloc);
-        for item in self.as_slice() {
-            made.push(item.copy(alloc)?)?;
+        copies(alloc, self.as_slice())
+    }
+}
+
+impl<T: TryCopy + Drop> TryCopy for Option<T> {
+    fn copy(&self, alloc: Global) -> Result<Option<T>, AllocError> {
+        match self {
+            Some(value) => Ok(Some(value.copy(alloc)?)),
+            None => Ok(None),
         }
-        Ok(made)
     }
 }

@@ -1,7 +1,6 @@
 //! Lists of names.
 
-ghost use Rattle.salt_values.specs.Id.{has_id, in_order, insert_id, without};
-ghost use Rattle.salt_values.specs.Id.{is_same_id};
+ghost use Rattle.salt_values.specs.Id.{has_id, in_order, insert_id, is_older, is_same_id, without};
 ghost use Rattle.std.specs.Prelude.{IfOk, OnOk, ◌+◌, ◌++◌, ◌≡◌};
 
 use crate::id::Id;
@@ -19,6 +18,13 @@ pub fn is_same_id(left: Id, right: Id) -> bool
     ensures { result ≡ is_same_id left right }
 {
     left.boot == right.boot && left.seq == right.seq
+}
+
+/// Whether the first name is the older one.
+pub fn is_older(left: Id, right: Id) -> bool
+    ensures { result ≡ is_older left right }
+{
+    left.boot < right.boot || (left.boot == right.boot && left.seq < right.seq)
 }
 
 /// Whether the name is among these.
