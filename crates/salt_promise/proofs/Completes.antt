@@ -9,7 +9,9 @@ use Rattle.salt_promise.proofs.OneAnswer.{one_answer}
 use Rattle.salt_promise.specs.Completing.{AsksFirst, IsWithin, MayTell, MeetsNothing}
 use Rattle.salt_promise.specs.Counting.{Downs, FailsOnly, RiseTo}
 use Rattle.salt_promise.specs.Doing.{AreLinesIn, AreLoadLines, Does}
-use Rattle.salt_promise.specs.Given.{Command, DoLoad, DoScript, Run, shape_of}
+use Rattle.salt_promise.specs.Given.{Run, shape_of}
+use Rattle.salt_promise.specs.declared.command.Command.TheVariants.{Load, Script}
+use Rattle.salt_promise.specs.declared.command.Command.{Command}
 use Rattle.salt_promise.specs.declared.status.Status.TheVariants.{DeviceFull, DiskFault, Done, Memory, NotSalt, NumbersSpent, OtherShape, ReadFault, ScriptTooLong, Usage, WriteFault}
 use Rattle.salt_promise.specs.declared.status.Status.{Status}
 use Rattle.salt_promise.specs.Runs.{EndsRefused, FindsNothing, IsNoRefusal, RunsAs, RunsOver, ends_reading, ends_writing}
@@ -36,22 +38,22 @@ rose (e ∷ es) first last h = rose-from first h.0 last (later e first h.0 h.1) 
 -- A SCRIPT within its size is not too long
 
 not-too-long : (r : Run) (command : Command) (trace : Trace) → r.status ≡ ScriptTooLong → Does command r trace → IsWithin command r.before.source.bytes → ⊥
-not-too-long r (DoScript shape) trace e d w = go r.before.source.bytes w (subst (λ s. AreLinesIn (way_of s).lines r.before.source.bytes r.after.source.bytes d.texts) e d.lines)
+not-too-long r (Script shape) trace e d w = go r.before.source.bytes w (subst (λ s. AreLinesIn (way_of s).lines r.before.source.bytes r.after.source.bytes d.texts) e d.lines)
   where
-    go : (o : Option (List ℕ)) → IsWithin (DoScript shape) o → AreLinesIn LinesWithin o r.after.source.bytes d.texts → ⊥
+    go : (o : Option (List ℕ)) → IsWithin (Script shape) o → AreLinesIn LinesWithin o r.after.source.bytes d.texts → ⊥
     go None h g = h
     go (Some script) h g = let over = g.1 in omega arith
-not-too-long r (DoLoad calls) trace e d w = subst (λ s. AreLoadLines (way_of s).lines (map Tree (load_lines calls)) (lines_of trace)) e d.lines
+not-too-long r (Load calls) trace e d w = subst (λ s. AreLoadLines (way_of s).lines (map Tree (load_lines calls)) (lines_of trace)) e d.lines
 
 -- FIRST LINES of the command
 
 first-lines : (r : Run) (command : Command) (trace : Trace) → (way_of r.status).lines ≡ FirstLines → Does command r trace → AsksFirst command r.before.source.bytes trace
-first-lines r (DoScript shape) trace e d = (d.texts, d.asked, go r.before.source.bytes (subst (λ x. AreLinesIn x r.before.source.bytes r.after.source.bytes d.texts) e d.lines))
+first-lines r (Script shape) trace e d = (d.texts, d.asked, go r.before.source.bytes (subst (λ x. AreLinesIn x r.before.source.bytes r.after.source.bytes d.texts) e d.lines))
   where
     go : (o : Option (List ℕ)) → AreLinesIn FirstLines o r.after.source.bytes d.texts → AreLinesIn FirstLines o None d.texts
     go None h = tt
     go (Some script) h = h
-first-lines r (DoLoad calls) trace e d = subst (λ x. AreLoadLines x (map Tree (load_lines calls)) (lines_of trace)) e d.lines
+first-lines r (Load calls) trace e d = subst (λ x. AreLoadLines x (map Tree (load_lines calls)) (lines_of trace)) e d.lines
 
 module _ (r : Run) (command : Command) (x : RunsAs r command) (m : MeetsNothing r command) where
   stands : (a : Opening Definition) (s : Status) → a ≡ Stands m.opens.found → EndsRefused a s → ⊥

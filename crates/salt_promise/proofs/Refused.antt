@@ -9,7 +9,8 @@ use Rattle.salt_model.specs.Trace.{Start, Trace, from, start_of}
 use Rattle.salt_promise.proofs.Devices.{blank-unnamed, four-beyond, unnamed}
 use Rattle.salt_promise.specs.Ending.{StandsBehind}
 use Rattle.salt_promise.specs.Filling.{FirstFills}
-use Rattle.salt_promise.specs.Given.{DoScript, Run, Stream}
+use Rattle.salt_promise.specs.Given.{Run, Stream}
+use Rattle.salt_promise.specs.declared.command.Command.TheVariants.{Script}
 use Rattle.salt_promise.specs.declared.status.Status.TheVariants.{DeviceFull, NumbersSpent}
 use Rattle.salt_promise.specs.declared.status.Status.{Status}
 use Rattle.salt_promise.specs.Promises.{Promises}
@@ -30,7 +31,7 @@ quiet = record { bytes = Some []; faults = 0 }
 -- over these devices, of an empty script, with nothing told
 abbrev run : (before after : View) → Status → Run
 run before after status = record {
-  command = Some (DoScript one_part);
+  command = Some (Script one_part);
   before = record { source = quiet; sink = quiet; devices = before };
   after = record { source = quiet; sink = quiet; devices = after };
   status = status;

@@ -17,7 +17,8 @@ use Rattle.salt_promise.proofs.Devices.{blank-unnamed}
 use Rattle.salt_promise.specs.Completing.{MayTell, MeetsNothing}
 use Rattle.salt_promise.specs.Ending.{AreSpentBehind}
 use Rattle.salt_promise.specs.Filling.{IsFullBehind, NextFills}
-use Rattle.salt_promise.specs.Given.{DoScript, Run}
+use Rattle.salt_promise.specs.Given.{Run}
+use Rattle.salt_promise.specs.declared.command.Command.TheVariants.{Script}
 use Rattle.salt_promise.specs.declared.status.Status.TheVariants.{Done}
 use Rattle.salt_promise.specs.Standing.{IsReader, OpenAs}
 use Rattle.salt_promise.specs.Worked.{ample, blank, holding, one_part, opened}
@@ -27,7 +28,7 @@ use Rattle.std.specs.Prelude.{List, None, Option, Some, [], codes, refl, ℕ, �
 
 abbrev empty : Run
 empty = record {
-  command = Some (DoScript one_part);
+  command = Some (Script one_part);
   before = record { source = record { bytes = Some []; faults = 0 }; sink = record { bytes = Some []; faults = 0 }; devices = holding ample blank [] };
   after = record { source = record { bytes = Some []; faults = 0 }; sink = record { bytes = Some (codes "opened 1 0" ++ 10 ∷ (codes "ready" ++ 10 ∷ [])); faults = 0 }; devices = holding ample opened [] };
   status = Done;
@@ -45,7 +46,7 @@ none-asked [] [] e h = refl
 none-asked [] (a ∷ asked) e h = absurd h
 none-asked (t ∷ texts) asked e h = absurd cc
 
-no-lines : (t : Trace) → MayTell empty (DoScript one_part) t → lines_of t ≡ []
+no-lines : (t : Trace) → MayTell empty (Script one_part) t → lines_of t ≡ []
 no-lines t m = none-asked m.lines.0 (lines_of t) (front-of-none m.lines.0 m.lines.2.first.0 m.lines.2.first.1) m.lines.1
 
 not-last : {A : Type 0} (xs : List A) (x : A) → xs ++ x ∷ [] ≡ [] → ⊥
@@ -91,7 +92,7 @@ module _ (read : List ℕ → Option Definition) (reads : IsReader read) where
   unfolding entries_in
   opens = record { found = nothing_found one_part; answers = record { read = read; reads = reads; is = (refl, refl, blank-unnamed read) }; keeps = refl }
 
-  behind : (t : Trace) → MayTell empty (DoScript one_part) t → IsServed t
+  behind : (t : Trace) → MayTell empty (Script one_part) t → IsServed t
   behind t m = served t (no-lines t m) m.tells.told m.tells.played
 
   not-spent : (t : Trace) (boot decisions : ℕ) → IsServed t → AreSpentBehind t boot decisions → ⊥
@@ -104,7 +105,7 @@ module _ (read : List ℕ → Option Definition) (reads : IsReader read) where
   unrisen : Rose 0 0 → ⊥
   unrisen h = omega arith
 
-  pub unhindered : MeetsNothing empty (DoScript one_part)
+  pub unhindered : MeetsNothing empty (Script one_part)
   unhindered = record {
     told = refl;
     kept = nothing_kept;

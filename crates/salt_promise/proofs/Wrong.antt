@@ -32,7 +32,9 @@ use Rattle.salt_promise.specs.Worked.{ample, begun, blank, header_at, holding, o
 use Rattle.salt_promise.specs.Counting.{armed_behind}
 use Rattle.salt_promise.specs.Ending.{IsLeftBehind, StandsBehind, raised}
 use Rattle.salt_promise.specs.Filling.{IsFullBehind, NewPairFills, NextFills, coordinator_format, partition_format}
-use Rattle.salt_promise.specs.Given.{Command, DoLoad, DoScript, Run}
+use Rattle.salt_promise.specs.Given.{Run}
+use Rattle.salt_promise.specs.declared.command.Command.TheVariants.{Load, Script}
+use Rattle.salt_promise.specs.declared.command.Command.{Command}
 use Rattle.salt_promise.specs.declared.status.Status.TheVariants.{DeviceFull, Done, Memory, NumbersSpent}
 use Rattle.salt_promise.specs.declared.status.Status.{Status}
 use Rattle.salt_promise.specs.Completing.{IsWithin}
@@ -53,7 +55,7 @@ half = 2 ^ 63
 -- over one partition, of an empty script, with this printed
 abbrev run : (before after : View) → Status → Option Flight → List Event → List ℕ → Run
 run before after status flight story printed = record {
-  command = Some (DoScript one_part);
+  command = Some (Script one_part);
   before = record { source = record { bytes = Some []; faults = 0 }; sink = record { bytes = Some []; faults = 0 }; devices = before };
   after = record { source = record { bytes = Some []; faults = 0 }; sink = record { bytes = Some printed; faults = 0 }; devices = after };
   status = status;
@@ -64,9 +66,9 @@ run before after status flight story printed = record {
 one-command : (c d : Command) → Some c ≡ Some d → c ≡ d
 one-command c d e = cc
 
-of-script : (r : Run) → r.command ≡ Some (DoScript one_part) → (RunsAs r (DoScript one_part) → ⊥) → Runs r → ⊥
-of-script r is not (says_nothing e u) = let both : None ≡ Some (DoScript one_part) = sym e ∙ is in cc
-of-script r is not (runs_as {command} e x) = not (subst (λ c. RunsAs r c) (one-command command (DoScript one_part) (sym e ∙ is)) x)
+of-script : (r : Run) → r.command ≡ Some (Script one_part) → (RunsAs r (Script one_part) → ⊥) → Runs r → ⊥
+of-script r is not (says_nothing e u) = let both : None ≡ Some (Script one_part) = sym e ∙ is in cc
+of-script r is not (runs_as {command} e x) = not (subst (λ c. RunsAs r c) (one-command command (Script one_part) (sym e ∙ is)) x)
 
 -- SPENT NUMBERS, at first: the devices have boot 2^63, and it is served on
 
@@ -84,7 +86,7 @@ spent-at-first = of-script spent_run refl (λ x. by x.goes)
     no : (k : Kept) → OpenAs one_part (begun (header_at half) []) k → ⊥
     no k o = let both : opening.NumbersSpent half 0 ≡ Stands o.found = sym (spent-answer o.answers.read) ∙ o.answers.is.0 in cc
 
-    by : FindsNothing spent_run (DoScript one_part) ⊎ RunsOver spent_run (DoScript one_part) → ⊥
+    by : FindsNothing spent_run (Script one_part) ⊎ RunsOver spent_run (Script one_part) → ⊥
     by (inl f) = let e = f.story in cc
     by (inr o) = no o.start.kept (o.opens refl)
 
@@ -107,13 +109,13 @@ each-unspent u (t says e) h = every-more (OpensUnspent u) (story_of t) e (each-u
 abbrev spent_later_story : List Event
 spent_later_story = Opened half 0 ∷ Ready ∷ Down why.Fault ∷ Opened (half + 1) 0 ∷ Ready ∷ []
 
-spent-later : (r : Run) → r.command ≡ Some (DoScript one_part) → r.story ≡ spent_later_story → Runs r → ⊥
+spent-later : (r : Run) → r.command ≡ Some (Script one_part) → r.story ≡ spent_later_story → Runs r → ⊥
 spent-later r is told = of-script r is (λ x. by x.goes)
   where
     unspent : (t : Trace) → Every (OpensUnspent t) spent_later_story → ⊥
     unspent t h = let e = h.1.1.1.0 in cc
 
-    by : FindsNothing r (DoScript one_part) ⊎ RunsOver r (DoScript one_part) → ⊥
+    by : FindsNothing r (Script one_part) ⊎ RunsOver r (Script one_part) → ⊥
     by (inl f) = let both : spent_later_story ≡ [] = sym told ∙ f.story in cc
     by (inr o) = unspent o.trace (subst (Every (OpensUnspent o.trace)) (o.tells.told ∙ told) (each-unspent o.trace o.trace o.unspent))
 
@@ -151,7 +153,7 @@ at-first bytes never = of-script (full_run bytes) refl (λ x. by x.goes)
     fills : (t : Trace) → phase t ≡ Fallen → IsFullBehind (full_run bytes).after.devices one_part t 1 → ⊥
     fills t e h = never (subst (λ p. NextFills (full_run bytes).after.devices one_part t p (next t) 1) e h)
 
-    by : FindsNothing (full_run bytes) (DoScript one_part) ⊎ RunsOver (full_run bytes) (DoScript one_part) → ⊥
+    by : FindsNothing (full_run bytes) (Script one_part) ⊎ RunsOver (full_run bytes) (Script one_part) → ⊥
     by (inl f) = refused f.answer f.ends
     by (inr o) = fills o.trace (fallen-untold o.trace o.tells.told) (o.ends.full 1 refl refl)
 
@@ -241,7 +243,7 @@ other-numbers = of-script other_numbers refl (λ x. by x.goes)
     behind : (t : Trace) → StandsBehind other_numbers one_part t spent_bytes → ⊥
     behind t b = apart (ap (λ k. k.boot) (stood-for spent_bytes spent_found spent-stands b.kept b.stands) ∙ b.numbers.0)
 
-    by : FindsNothing other_numbers (DoScript one_part) ⊎ RunsOver other_numbers (DoScript one_part) → ⊥
+    by : FindsNothing other_numbers (Script one_part) ⊎ RunsOver other_numbers (Script one_part) → ⊥
     by (inl f) = let e = f.story in let both : Down why.Stopped ∷ Down why.Stopped ∷ [] ≡ [] = e in cc
     by (inr o) = behind o.trace (o.ends.images refl spent_bytes (λ dev low. refl))
 
@@ -318,12 +320,12 @@ in-flight-untold = of-script untold_run refl (λ x. by x.goes)
     undecided : Every (λ a. is_decision a ≡ false) untold_story
     undecided = (refl, (refl, (refl, (refl, tt))))
 
-    number-of : (o : RunsOver untold_run (DoScript one_part)) → (kept o.trace).decisions ≡ 0
+    number-of : (o : RunsOver untold_run (Script one_part)) → (kept o.trace).decisions ≡ 0
     number-of o =
         same-number o.trace (subst (Every (λ a. is_decision a ≡ false)) (sym o.tells.told) undecided)
         ∙ ap (λ s. s.kept.decisions) o.tells.begins ∙ started o.start.kept (o.opens refl)
 
-    by : FindsNothing untold_run (DoScript one_part) ⊎ RunsOver untold_run (DoScript one_part) → ⊥
+    by : FindsNothing untold_run (Script one_part) ⊎ RunsOver untold_run (Script one_part) → ⊥
     by (inl f) = let both : untold_story ≡ [] = f.story in cc
     by (inr o) = behind o.trace (number-of o) (o.ends.images refl made_bytes (λ dev low. refl))
 
@@ -336,10 +338,10 @@ early-stop : (first : List (ℕ × ℕ)) → first ≡ [] → armed_behind early
 unfolding early_story
 early-stop first e = ap (λ stops. armed_behind early_story (Some stops)) e
 
-stop-before-armed : (r : Run) → r.command ≡ Some (DoScript one_part) → r.before.devices.armed ≡ [] → r.story ≡ early_story → Runs r → ⊥
+stop-before-armed : (r : Run) → r.command ≡ Some (Script one_part) → r.before.devices.armed ≡ [] → r.story ≡ early_story → Runs r → ⊥
 stop-before-armed r is none told = of-script r is no-stop
   where
-    no-stop : RunsAs r (DoScript one_part) → ⊥
+    no-stop : RunsAs r (Script one_part) → ⊥
     no-stop x = let both : None ≡ Some x.stops.stops = sym (ap (λ s. armed_behind s (Some r.before.devices.armed)) told ∙ early-stop r.before.devices.armed none) ∙ x.stops.behind in cc
 
 -- WRONG WORDS with something in flight
@@ -349,5 +351,5 @@ usage-in-flight r f is flies (says_nothing e u) = let both : Some f ≡ None = s
 usage-in-flight r f is flies (runs_as {command} e x) = let both : Some command ≡ None = sym e ∙ is in cc
 
 -- A LOAD is complete also where no source tells
-load-needs-no-source : (calls : ℕ) (source : Option (List ℕ)) → IsWithin (DoLoad calls) source
+load-needs-no-source : (calls : ℕ) (source : Option (List ℕ)) → IsWithin (Load calls) source
 load-needs-no-source calls source = tt

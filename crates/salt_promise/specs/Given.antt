@@ -2,6 +2,8 @@
 use Rattle.salt_disk.specs.Disks.{View}
 use Rattle.salt_model.specs.declared.events.Event.{Event}
 use Rattle.salt_model.specs.declared.events.Flight.{Flight}
+use Rattle.salt_promise.specs.declared.command.Command.TheVariants.{Load, Script}
+use Rattle.salt_promise.specs.declared.command.Command.{Command}
 use Rattle.salt_promise.specs.declared.status.Status.{Status}
 use Rattle.salt_place.specs.declared.placement.PlaceKind.TheVariants.{Remainder}
 use Rattle.salt_place.specs.declared.placement.Shape.{Shape}
@@ -18,14 +20,10 @@ pub record World : Type 1 where
   pub sink : Stream
   pub devices : View
 
--- do the lines of the source over devices of this shape; or the lines of the workload with so many calls, over two partitions
-pub data Command : Type 0 where
-  DoScript : Shape → Command
-  DoLoad : ℕ → Command
-
+-- the shape of the devices that a command asks for
 abbrev pub shape_of : Command → Shape
-shape_of (DoScript shape) = shape
-shape_of (DoLoad calls) = record { parts = 2; kind = Remainder }
+shape_of (Script shape) = shape
+shape_of (Load calls) = record { parts = 2; kind = Remainder }
 
 -- no command, where the words say none
 pub record Run : Type 1 where

@@ -1,4 +1,5 @@
 pub mod Status
+pub mod Words
 pub mod Given
 pub mod Ways
 pub mod Standing

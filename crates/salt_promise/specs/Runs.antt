@@ -8,7 +8,8 @@ use Rattle.salt_model.specs.Trace.{Start, Trace, from}
 use Rattle.salt_promise.specs.Counting.{Downs, FailsOnly, Stops}
 use Rattle.salt_promise.specs.Doing.{Does}
 use Rattle.salt_promise.specs.Ending.{Ends, Flies}
-use Rattle.salt_promise.specs.Given.{Command, Run, shape_of}
+use Rattle.salt_promise.specs.Given.{Run, shape_of}
+use Rattle.salt_promise.specs.declared.command.Command.{Command}
 use Rattle.salt_promise.specs.declared.status.Status.TheVariants.{DiskFault, Memory, NotSalt, NumbersSpent, OtherShape, ReadFault, Usage, WriteFault}
 use Rattle.salt_promise.specs.declared.status.Status.{Status}
 use Rattle.salt_promise.specs.Promises.{Promises}

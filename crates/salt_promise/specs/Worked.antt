@@ -5,7 +5,8 @@ use Rattle.salt_bytes.specs.Partition.{spell_partition_header}
 use Rattle.salt_disk.specs.Disks.{View}
 use Rattle.salt_model.specs.declared.events.Event.TheVariants.{Opened, Ready, Refused}
 use Rattle.salt_model.specs.declared.events.Refusal.TheVariants.{Byte}
-use Rattle.salt_promise.specs.Given.{DoScript, Run, World}
+use Rattle.salt_promise.specs.Given.{Run, World}
+use Rattle.salt_promise.specs.declared.command.Command.TheVariants.{Script}
 use Rattle.salt_promise.specs.declared.status.Status.TheVariants.{Done}
 use Rattle.salt_stands.specs.FirstOpening.{first_part_header}
 use Rattle.salt_place.specs.declared.placement.PlaceKind.TheVariants.{Remainder}
@@ -79,7 +80,7 @@ after = record {
 
 abbrev pub one_line : Run
 one_line = record {
-  command = Some (DoScript one_part);
+  command = Some (Script one_part);
   before = before;
   after = after;
   status = Done;

@@ -29,7 +29,7 @@ use Rattle.salt_run.proofs.Images.{stands-alone}
 use Rattle.salt_run.proofs.Over.{ends-behind}
 use Rattle.salt_run.proofs.Replayed.{load-replays, script-replays}
 use Rattle.salt_run.proofs.Unwritten.{load-unwritten}
-use Rattle.salt_run.specs.Commands.{shape_of}
+use Rattle.salt_promise.specs.Given.{shape_of}
 use Rattle.salt_run.specs.Doing.{Streams}
 use Rattle.salt_run.specs.Ending.{EndsBehind, flight_at}
 use Rattle.salt_run.specs.Running.{FindsNothing, Replays, Runs, RunsOver}
@@ -55,8 +55,8 @@ use Rattle.salt_storage.specs.declared.open.OpenErr.{OpenErr}
 use Rattle.salt_storage.specs.declared.open.OpenErr.TheVariants as open_err
 use Rattle.salt_workload.specs.Summary.{summary_text}
 use Rattle.salt_place.specs.declared.placement.Shape.{Shape}
-use Rattle.salt_words.specs.declared.command.Command.{Command}
-use Rattle.salt_words.specs.declared.command.Command.TheVariants.{Load, Run}
+use Rattle.salt_promise.specs.declared.command.Command.{Command}
+use Rattle.salt_promise.specs.declared.command.Command.TheVariants.{Load, Script}
 use Rattle.std.proofs.Common.{ap, inl, inr, subst, sym, ◌∙◌}
 use Rattle.std.specs.Prelude.{Bool, IsSome, IsTrue, List, None, Option, [], false, refl, true, ℕ, ◌≡◌, ◌⊎◌}
 
@@ -215,9 +215,9 @@ module _ (e : View) where
 module _ (d e : View) (x : Database Devices) where
   module _ (promised : (trace : Trace) → IsPlayed trace → WellKept (start_of trace).kept → Promises trace) (start : Start) (sound : IsSoundKept start.kept) (unspent : are_spent start.kept.boot start.kept.decisions ≡ false)
       (stops : start.can_stop ≡ d.can_stop) (s : Streams) (story : List Event) where
-    module _ (parts : ℕ) (asked : by_half (λ o. o.storage.shape) (λ g. g.storage.shape) no_shape x ≡ shape_of (Run parts)) (stood : Finds d true (shape_of (Run parts)) start.kept) (status : Status)
+    module _ (shape : Shape) (asked : by_half (λ o. o.storage.shape) (λ g. g.storage.shape) no_shape x ≡ shape) (stood : Finds d true shape start.kept) (status : Status)
         (y : (run : IsRun start status (database_flight x) s.script s.left s.before story s.now) × FoundAt e x status run.played.trace) where
-      pub script-over : RunsOver (Run parts) d e status (flight_at status (database_flight x)) s story
+      pub script-over : RunsOver (Script shape) d e status (flight_at status (database_flight x)) s story
       script-over = record {
         start = start;
         stood = stood;
@@ -225,8 +225,8 @@ module _ (d e : View) (x : Database Devices) where
         unspent = unspent;
         stops = stops;
         may = may-end y.1.room y.1.point status y.1.may;
-        replays = script-replays promised parts status (database_flight x) s story start sound.well y.0;
-        ends = ends-there e x (shape_of (Run parts)) asked status y.0.played.trace y.0.played.tells.played y.1;
+        replays = script-replays promised shape status (database_flight x) s story start sound.well y.0;
+        ends = ends-there e x shape asked status y.0.played.trace y.0.played.tells.played y.1;
       }
 
     module _ (calls done : ℕ) (asked : by_half (λ o. o.storage.shape) (λ g. g.storage.shape) no_shape x ≡ shape_of (Load calls)) (stood : Finds d true (shape_of (Load calls)) start.kept) (old status : Status) (how : IsBehind old status)

@@ -7,11 +7,10 @@ use Rattle.salt_disk.specs.Disks.{SameShape}
 use Rattle.salt_model.specs.Kept.{Definition, Kept, WellKept, nothing_kept}
 use Rattle.salt_model.specs.Trace.{Trace}
 use Rattle.salt_promise.specs.Doing as promise
-use Rattle.salt_promise.specs.Given as given
-use Rattle.salt_promise.specs.Given.{Run}
+use Rattle.salt_promise.specs.Given.{Run, shape_of}
 use Rattle.salt_promise.specs.Runs as promised
 use Rattle.salt_promise.specs.Runs.{AreAsBefore, EndsRefused, may_have_failed}
-use Rattle.salt_promise.specs.Standing.{AnswersTo, IsReader, OpenAs}
+use Rattle.salt_promise.specs.Standing.{AnswersTo, IsReader}
 use Rattle.salt_promise.specs.declared.status.Status.TheVariants.{DeviceFull}
 use Rattle.salt_promise.specs.declared.status.Status.{Status}
 use Rattle.salt_run.proofs.Answering.{OpensHere, RefusedHere, answered, blank-opens, opens-here, stands-here, well-here}
@@ -20,14 +19,13 @@ use Rattle.salt_run.proofs.Promised.{over, streams_of}
 use Rattle.salt_run.proofs.Refused.{by-reason, nothing, nothing-well}
 use Rattle.salt_run.proofs.Standing.{answers-salt, answers-shape, answers-spent}
 use Rattle.salt_run.proofs.Unopened.{IsEndOver, ended-spent, halted, unopened}
-use Rattle.salt_run.specs.Commands.{shape_of}
 use Rattle.salt_run.specs.Doing.{Does}
 use Rattle.salt_run.specs.Running.{FindsNothing, Runs}
 use Rattle.salt_loop.specs.Ending.{IsStatusOf}
 use Rattle.salt_stands.proofs.Pairs.{pair_same}
 use Rattle.salt_stands.specs.CoordinatorLog.{coordinator_generation, coordinator_in}
 use Rattle.salt_stands.specs.Stands as opening
-use Rattle.salt_stands.specs.Stands.{Opening, are_spent, logs_of}
+use Rattle.salt_stands.specs.Stands.{Opening, logs_of}
 use Rattle.salt_storage.specs.Answers.{IsLater, IsRefusal}
 use Rattle.salt_storage.specs.declared.halt.Halt.TheVariants as halt
 use Rattle.salt_storage.specs.declared.halt.Halt.{Halt}
@@ -35,7 +33,7 @@ use Rattle.salt_storage.specs.declared.open.OpenErr.TheVariants.{Halted, NotSalt
 use Rattle.salt_storage.specs.declared.open.OpenErr.{OpenErr}
 use Rattle.salt_place.specs.Placement.{IsParts}
 use Rattle.salt_place.specs.declared.placement.Shape.{Shape}
-use Rattle.salt_words.specs.declared.command.Command.{Command}
+use Rattle.salt_promise.specs.declared.command.Command.{Command}
 use Rattle.std.proofs.Common.{ap, inl, inr, subst, sym, ◌∙◌}
 use Rattle.std.specs.Prelude.{Bool, IsTrue, [], false, refl, true, ℕ, ◌≡◌, ◌≤◌, ◌⊎◌}
 
@@ -56,21 +54,21 @@ ends-anyway halt.DiskFault status (inl is) full = subst EndsAnyway (sym is) (rec
 ends-anyway (halt.DeviceFull dev) status (inl is) full = absurd (full dev is)
 ends-anyway halt.Memory status (inl is) full = subst EndsAnyway (sym is) (record { salt = λ dev. tt; shape = λ kept asked. tt; numbers = λ boot decisions. tt })
 
-module _ (reads : IsReader definition_in) (r : Run) (command : Command) (target : given.Command) (same : shape_of command ≡ given.shape_of target) (parts : IsParts (shape_of command).parts)
-    (count : 26 ≤ r.before.devices.count) (shape : SameShape r.before.devices r.after.devices) (does : (trace : Trace) → Does command r.status (streams_of r) trace → promise.Does target r trace) where
+module _ (reads : IsReader definition_in) (r : Run) (command : Command) (parts : IsParts (shape_of command).parts)
+    (count : 26 ≤ r.before.devices.count) (shape : SameShape r.before.devices r.after.devices) (does : (trace : Trace) → Does command r.status (streams_of r) trace → promise.Does command r trace) where
   abbrev Goes : Type 0
-  Goes = promised.FindsNothing r target ⊎ promised.RunsOver r target
+  Goes = promised.FindsNothing r command ⊎ promised.RunsOver r command
 
   -- NOTHING WAS FOUND
   module _ (x : FindsNothing command r.before.devices r.after.devices r.status r.flight (streams_of r) r.story) where
     -- its reason is a refusal, and nothing was told
     refused : (reason : OpenErr) → x.reason ≡ reason → IsRefusal reason → r.story ≡ [] → Goes
-    refused reason is some empty = inl (by-reason r command target does reads same parts count x empty reason is some)
+    refused reason is some empty = inl (by-reason r command does reads parts count x empty reason is some)
 
     -- of devices that do not tell nothing is known
     mute : r.before.devices.told ≡ false → (k : Kept) → WellKept k → IsEndOver k r.status → Goes
     mute none k well ends =
-        inr (unopened reads r command target same does x k well ends (λ told. absurd (not-told r.before.devices.told none told))
+        inr (unopened reads r command does x k well ends (λ told. absurd (not-told r.before.devices.told none told))
         (λ told. absurd (not-told r.before.devices.told none (sym shape.told ∙ told))))
 
     at-once : (reason : OpenErr) → x.reason ≡ reason → (IsLater reason → ⊥) → r.story ≡ []
@@ -99,8 +97,8 @@ module _ (reads : IsReader definition_in) (r : Run) (command : Command) (target 
       -- they open
       opened : OpensHere (shape_of command) r.before.devices.bytes → Goes
       opened h =
-          inr (unopened reads r command target same does x (kept_in h.found) (well-here (shape_of command) r.before.devices.bytes h) (halted (kept_in h.found) e r.status status)
-          (λ told. subst (λ (s : Shape). OpenAs s r.before.devices.bytes (kept_in h.found)) same (opens-here (shape_of command) r.before.devices.bytes reads h))
+          inr (unopened reads r command does x (kept_in h.found) (well-here (shape_of command) r.before.devices.bytes h) (halted (kept_in h.found) e r.status status)
+          (λ told. opens-here (shape_of command) r.before.devices.bytes reads h)
           (x.rests (kept_in h.found) (λ told. record { image = r.before.devices.bytes; comes = λ dev low. refl; is = stands-here (shape_of command) r.before.devices.bytes h })))
 
       -- they are refused
@@ -120,7 +118,7 @@ module _ (reads : IsReader definition_in) (r : Run) (command : Command) (target 
 
         answer : (a : Opening Definition) → AnswersTo (shape_of command) r.before.devices.bytes a → EndsRefused a r.status → Goes
         answer a answers ended =
-            inl (nothing r command target does (x.replays any-start nothing-well) before.1 a (λ t. subst (λ (s : Shape). AnswersTo s r.before.devices.bytes a) same answers) ended (λ t. before.0))
+            inl (nothing r command does (x.replays any-start nothing-well) before.1 a (λ t. answers) ended (λ t. before.0))
 
         by-refusal : (refusal : OpenErr) → IsRefusal refusal → RefusedAs (shape_of command) r.before.devices.bytes refusal → Goes
         by-refusal (NotSalt dev) some so = answer (opening.NotSalt dev) (answers-salt reads (shape_of command) r.before.devices.bytes dev so) (ends.salt dev)
@@ -142,5 +140,5 @@ module _ (reads : IsReader definition_in) (r : Run) (command : Command) (target 
     found-nothing (Halted e) is = of-halt e is
 
   pub goes : Runs command r.before.devices r.after.devices r.status r.flight (streams_of r) r.story → Goes
-  goes (inl x) = inr (over r reads command target same parts count x.may x (does x.replays.trace x.replays.does))
+  goes (inl x) = inr (over r reads command parts count x.may x (does x.replays.trace x.replays.does))
   goes (inr x) = found-nothing x x.reason refl

@@ -2,27 +2,24 @@
 use Rattle.law_definitions.specs.Texts.{definition_in}
 use Rattle.salt_io.specs.Streams.{IsAtEnd}
 use Rattle.salt_model.specs.Trace.{Trace, lines_of, story_of}
-use Rattle.salt_promise.specs.Doing.{DoesLoad, DoesScript, story_before_line, text_under}
+use Rattle.salt_promise.specs.Doing.{DoesLoad, DoesScript}
 use Rattle.salt_promise.specs.Doing as promise
-use Rattle.salt_promise.specs.Ending.{Ends}
-use Rattle.salt_promise.specs.Given.{Run}
-use Rattle.salt_promise.specs.Given as given
+use Rattle.salt_promise.specs.Given.{Run, shape_of}
 use Rattle.salt_promise.specs.Runs.{IsNoRefusal}
 use Rattle.salt_promise.specs.Runs as promised
-use Rattle.salt_promise.specs.Standing.{IsReader, OpenAs}
+use Rattle.salt_promise.specs.Standing.{IsReader}
 use Rattle.salt_promise.specs.declared.status.Status.TheVariants.{Done}
 use Rattle.salt_run.proofs.Left.{ends-as}
 use Rattle.salt_run.proofs.Standing.{open-as}
 use Rattle.salt_run.proofs.Summed.{summary-same}
 use Rattle.salt_run.proofs.Ways.{lines-way, load-lines-way}
-use Rattle.salt_run.specs.Commands.{shape_of}
 use Rattle.salt_run.specs.Doing.{Does, Streams, streams}
 use Rattle.salt_run.specs.Running.{RunsOver}
 use Rattle.salt_run.specs.Summing.{IsSummary}
 use Rattle.salt_place.specs.Placement.{IsParts}
 use Rattle.salt_place.specs.declared.placement.Shape.{Shape}
-use Rattle.salt_words.specs.declared.command.Command.TheVariants as words
-use Rattle.salt_words.specs.declared.command.Command.{Command}
+use Rattle.salt_promise.specs.declared.command.Command.TheVariants.{Load, Script}
+use Rattle.salt_promise.specs.declared.command.Command.{Command}
 use Rattle.std.proofs.Common.{subst}
 use Rattle.std.specs.Prelude.{List, length, ℕ, ◌≡◌, ◌≤◌}
 
@@ -30,27 +27,27 @@ module _ (r : Run) where
   abbrev pub streams_of : Streams
   streams_of = streams r.before.source.bytes r.after.source.bytes r.before.sink.bytes r.after.sink.bytes
 
-  pub script-does : (parts : ℕ) (trace : Trace) → (r.status ≡ Done → IsAtEnd r.after.source.bytes) → Does (words.Run parts) r.status streams_of trace → DoesScript r trace
-  script-does parts trace end h = record {
+  pub script-does : (shape : Shape) (trace : Trace) → (r.status ≡ Done → IsAtEnd r.after.source.bytes) → Does (Script shape) r.status streams_of trace → DoesScript r trace
+  script-does shape trace end h = record {
     texts = h.0.texts;
     asked = h.0.reads;
     lines = lines-way r.status r.before.source.bytes r.after.source.bytes h.0.texts end h.0.lines;
     written = h.1;
   }
 
-  pub load-does : (calls : ℕ) (trace : Trace) → r.after.source ≡ r.before.source → Does (words.Load calls) r.status streams_of trace → DoesLoad r calls trace
+  pub load-does : (calls : ℕ) (trace : Trace) → r.after.source ≡ r.before.source → Does (Load calls) r.status streams_of trace → DoesLoad r calls trace
   load-does calls trace unread h = record {
     unread = unread;
     lines = load-lines-way r.status calls (lines_of trace) h.0;
     written = subst (λ (t : List ℕ). IsSummary r.status t r.before.sink.bytes r.after.sink.bytes) (summary-same calls (length (lines_of trace)) (story_of trace)) h.1;
   }
 
-  module _ (reads : IsReader definition_in) (command : Command) (target : given.Command) (same : shape_of command ≡ given.shape_of target) (parts : IsParts (shape_of command).parts) (count : 26 ≤ r.before.devices.count) where
-    pub over : IsNoRefusal r.status → (x : RunsOver command r.before.devices r.after.devices r.status r.flight streams_of r.story) → promise.Does target r x.replays.trace → promised.RunsOver r target
+  module _ (reads : IsReader definition_in) (command : Command) (parts : IsParts (shape_of command).parts) (count : 26 ≤ r.before.devices.count) where
+    pub over : IsNoRefusal r.status → (x : RunsOver command r.before.devices r.after.devices r.status r.flight streams_of r.story) → promise.Does command r x.replays.trace → promised.RunsOver r command
     over may x does = record {
       start = x.start;
       trace = x.replays.trace;
-      opens = λ told. subst (λ (s : Shape). OpenAs s r.before.devices.bytes x.start.kept) same (open-as reads r.before.devices (shape_of command) parts count x.start.kept x.unspent x.stood told);
+      opens = λ told. open-as reads r.before.devices (shape_of command) parts count x.start.kept x.unspent x.stood told;
       well = x.sound.well;
       can_stop = x.stops;
       tells = x.replays.played;
@@ -60,5 +57,5 @@ module _ (r : Run) where
       may = may;
       leaves = x.replays.leaves;
       flies = x.replays.flies;
-      ends = subst (λ (s : Shape). Ends r s x.replays.trace) same (ends-as reads r (shape_of command) x.replays.trace x.replays.played.played x.ends);
+      ends = ends-as reads r (shape_of command) x.replays.trace x.replays.played.played x.ends;
     }

@@ -7,8 +7,7 @@ use Rattle.salt_model.specs.Played.{IsPlayed}
 use Rattle.salt_model.specs.Trace.{Start, Trace, from, start_of, story_of, ◌asks◌, ◌says◌, ◌turns◌}
 use Rattle.salt_model.specs.declared.events.Flight.{Flight}
 use Rattle.salt_promise.specs.Doing as promise
-use Rattle.salt_promise.specs.Given.{Run}
-use Rattle.salt_promise.specs.Given as given
+use Rattle.salt_promise.specs.Given.{Run, shape_of}
 use Rattle.salt_promise.specs.Runs.{AreAsBefore, EndsRefused, may_have_failed}
 use Rattle.salt_promise.specs.Runs as promised
 use Rattle.salt_promise.specs.Standing.{AnswersTo, IsReader}
@@ -18,7 +17,6 @@ use Rattle.salt_run.proofs.EngineEnds.{any-start, refused-so}
 use Rattle.salt_run.proofs.Promised.{streams_of}
 use Rattle.salt_run.proofs.Standing.{answers-salt, answers-shape, answers-spent, refuses-held}
 use Rattle.salt_run.proofs.Unwritten.{not-nil}
-use Rattle.salt_run.specs.Commands.{shape_of}
 use Rattle.salt_run.specs.Doing.{Does}
 use Rattle.salt_run.specs.Ending.{IsFlightTold}
 use Rattle.salt_run.specs.Running.{FindsNothing, Replays}
@@ -31,8 +29,7 @@ use Rattle.salt_storage.specs.declared.halt.Halt.TheVariants as halt
 use Rattle.salt_storage.specs.declared.open.OpenErr.TheVariants as open_err
 use Rattle.salt_storage.specs.declared.open.OpenErr.{OpenErr}
 use Rattle.salt_place.specs.Placement.{IsParts}
-use Rattle.salt_place.specs.declared.placement.Shape.{Shape}
-use Rattle.salt_words.specs.declared.command.Command.{Command}
+use Rattle.salt_promise.specs.declared.command.Command.{Command}
 use Rattle.std.proofs.Common.{ap, inl, inr, subst, sym, ◌∙◌}
 use Rattle.std.specs.Prelude.{IsTrue, List, None, Option, [], refl, true, ℕ, ◌≡◌, ◌≤◌}
 
@@ -64,25 +61,25 @@ untold (NumbersSpent boot decisions) k told h = h
 pub nothing-well : WellKept nothing_kept
 nothing-well = record { boots = tt; accepted = tt; defined = tt; tries = tt }
 
-module _ (r : Run) (command : Command) (target : given.Command) (does : (trace : Trace) → Does command r.status (streams_of r) trace → promise.Does target r trace) where
+module _ (r : Run) (command : Command) (does : (trace : Trace) → Does command r.status (streams_of r) trace → promise.Does command r trace) where
   -- nothing was told, and so it replays from any start
   module _ (replays : Replays command r.status r.flight (streams_of r) r.story any-start) (empty : r.story ≡ []) where
     begun : replays.trace ≡ from any-start
     begun = unbegun replays.trace replays.played.played (replays.played.told ∙ empty) ∙ ap from replays.played.begins
 
-    pub nothing : (answer : Opening Definition) → (IsTrue r.before.devices.told → AnswersTo (given.shape_of target) r.before.devices.bytes answer) → EndsRefused answer r.status →
-        (IsTrue r.before.devices.told → AreAsBefore (may_have_failed r.status) r.before.devices r.after.devices) → promised.FindsNothing r target
+    pub nothing : (answer : Opening Definition) → (IsTrue r.before.devices.told → AnswersTo (shape_of command) r.before.devices.bytes answer) → EndsRefused answer r.status →
+        (IsTrue r.before.devices.told → AreAsBefore (may_have_failed r.status) r.before.devices r.after.devices) → promised.FindsNothing r command
     nothing answer is ends before = record {
       answer = answer;
       is = is;
       ends = ends;
       story = empty;
       flight = untold r.status any-start r.flight (subst (λ (t : Trace). IsFlightTold r.status t r.flight) begun replays.flies);
-      does = subst (promise.Does target r) begun (does replays.trace replays.does);
+      does = subst (promise.Does command r) begun (does replays.trace replays.does);
       devices = before;
     }
 
-  module _ (reads : IsReader definition_in) (same : shape_of command ≡ given.shape_of target) (parts : IsParts (shape_of command).parts) (count : 26 ≤ r.before.devices.count)
+  module _ (reads : IsReader definition_in) (parts : IsParts (shape_of command).parts) (count : 26 ≤ r.before.devices.count)
       (x : FindsNothing command r.before.devices r.after.devices r.status r.flight (streams_of r) r.story) (empty : r.story ≡ []) where
     -- its refusal, by the bytes that were there
     module _ (reason : OpenErr) (is : x.reason ≡ reason) (some : reason ≡ open_err.Halted halt.Memory → ⊥) (refusal : IsRefusal reason) where
@@ -90,10 +87,10 @@ module _ (r : Run) (command : Command) (target : given.Command) (does : (trace :
       refused = refused-so r.before.devices (shape_of command) x.reason reason is some x.refused
 
       pub by-answer : (answer : Opening Definition) → ((bytes : ℕ → List ℕ) → RefusedAs (shape_of command) bytes reason → AnswersTo (shape_of command) bytes answer) →
-          EndsRefused answer (status_opening reason) → EndsRefused answer WriteFault → promised.FindsNothing r target
+          EndsRefused answer (status_opening reason) → EndsRefused answer WriteFault → promised.FindsNothing r command
       by-answer answer answers own failed =
           nothing (x.replays any-start nothing-well) empty answer
-          (λ told. subst (λ (s : Shape). AnswersTo s r.before.devices.bytes answer) same (answers r.before.devices.bytes (refuses-held r.before.devices (shape_of command) parts count told reason refused)))
+          (λ told. answers r.before.devices.bytes (refuses-held r.before.devices (shape_of command) parts count told reason refused))
           (ends (subst (λ (e : OpenErr). IsStatusOf e r.status) is x.is))
           (λ told. (x.unwritten reason refusal refused told).0)
         where
@@ -101,7 +98,7 @@ module _ (r : Run) (command : Command) (target : given.Command) (does : (trace :
           ends (inl e) = subst (EndsRefused answer) (sym e) own
           ends (inr w) = subst (EndsRefused answer) (sym w.0) failed
 
-    pub by-reason : (reason : OpenErr) → x.reason ≡ reason → IsRefusal reason → promised.FindsNothing r target
+    pub by-reason : (reason : OpenErr) → x.reason ≡ reason → IsRefusal reason → promised.FindsNothing r command
     by-reason (open_err.NotSalt dev) is h = by-answer (open_err.NotSalt dev) is (λ m. cc) h (opening.NotSalt dev) (λ bytes. answers-salt reads (shape_of command) bytes dev) refl tt
     by-reason (open_err.OtherShape kept asked) is h = by-answer (open_err.OtherShape kept asked) is (λ m. cc) h (opening.OtherShape kept asked) (λ bytes. answers-shape reads (shape_of command) bytes kept asked) refl tt
     by-reason (open_err.NumbersSpent boot decisions) is h = by-answer (open_err.NumbersSpent boot decisions) is (λ m. cc) h (opening.NumbersSpent boot decisions) (λ bytes. answers-spent reads (shape_of command) bytes boot decisions) refl tt

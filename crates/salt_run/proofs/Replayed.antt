@@ -13,8 +13,9 @@ use Rattle.salt_run.specs.Running.{Replays}
 use Rattle.salt_run.specs.Summing.{IsSummary}
 use Rattle.salt_loop.specs.Loading.{IsPlayedLoad}
 use Rattle.salt_loop.specs.Run.{IsFlightAt, IsRun}
+use Rattle.salt_place.specs.declared.placement.Shape.{Shape}
 use Rattle.salt_workload.specs.Summary.{summary_text}
-use Rattle.salt_words.specs.declared.command.Command.TheVariants.{Load, Run}
+use Rattle.salt_promise.specs.declared.command.Command.TheVariants.{Load, Script}
 use Rattle.std.proofs.Common.{subst, sym}
 use Rattle.std.specs.Prelude.{List, Option, length, refl, ℕ, ◌≡◌}
 
@@ -26,9 +27,9 @@ module _ (promised : (trace : Trace) → IsPlayed trace → WellKept (start_of t
   pub keeps : (start : Start) (trace : Trace) (story : List Event) → WellKept start.kept → Tells start trace story → Promises trace
   keeps start trace story well tells = promised trace tells.played (subst (λ (s : Start). WellKept s.kept) (sym tells.begins) well)
 
-  abbrev pub script-replays : (parts : ℕ) (status : Status) (f : Option Flight) (s : Streams) (story : List Event) (start : Start) → WellKept start.kept →
-      IsRun start status f s.script s.left s.before story s.now → Replays (Run parts) status (flight_at status f) s story start
-  script-replays parts status f s story start well x =
+  abbrev pub script-replays : (shape : Shape) (status : Status) (f : Option Flight) (s : Streams) (story : List Event) (start : Start) → WellKept start.kept →
+      IsRun start status f s.script s.left s.before story s.now → Replays (Script shape) status (flight_at status f) s story start
+  script-replays shape status f s story start well x =
       let p = x.played in
       record {
         trace = p.trace;

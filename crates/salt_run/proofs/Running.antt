@@ -5,10 +5,9 @@ use Rattle.salt_io.specs.Streams.{IsAtEnd}
 use Rattle.salt_model.specs.Trace.{Trace}
 use Rattle.salt_promise.specs.Counting.{FailsOnly}
 use Rattle.salt_promise.specs.Doing as promise
-use Rattle.salt_promise.specs.Given as given
-use Rattle.salt_promise.specs.Given.{Run, Stream, World}
+use Rattle.salt_promise.specs.Given.{Run, Stream, shape_of}
 use Rattle.salt_promise.specs.Runs as promised
-use Rattle.salt_promise.specs.Runs.{IsUsage, RunsAs, ends_reading, ends_writing, runs_as, says_nothing}
+use Rattle.salt_promise.specs.Runs.{RunsAs, ends_reading, ends_writing, runs_as}
 use Rattle.salt_promise.specs.Standing.{IsReader}
 use Rattle.salt_promise.specs.declared.status.Status.TheVariants.{Done, ReadFault, WriteFault}
 use Rattle.salt_promise.specs.declared.status.Status.{Status}
@@ -16,15 +15,13 @@ use Rattle.salt_run.proofs.Goes.{goes}
 use Rattle.salt_run.proofs.Promised.{load-does, script-does, streams_of}
 use Rattle.salt_run.proofs.Said.{IsCommand, parts-of-command}
 use Rattle.salt_run.proofs.Tallied.{downs-of, stops-of}
-use Rattle.salt_run.specs.Commands.{asked_by, shape_of}
 use Rattle.salt_run.specs.Doing.{Does}
 use Rattle.salt_run.specs.Running.{Runs}
 use Rattle.salt_loop.specs.Counted.{AreFaultsOf, AreStopsOf}
-use Rattle.salt_storage.specs.Staying.{StaysWithin, devices_of}
+use Rattle.salt_storage.specs.Staying.{StaysWithin}
 use Rattle.salt_place.specs.declared.placement.Shape.{Shape}
-use Rattle.salt_words.specs.declared.command.Command.TheVariants as words
-use Rattle.salt_words.specs.declared.command.Command.{Command}
-use Rattle.std.proofs.Common.{subst, sym}
+use Rattle.salt_promise.specs.declared.command.Command.TheVariants.{Load, Script}
+use Rattle.salt_promise.specs.declared.command.Command.{Command}
 use Rattle.std.specs.Prelude.{Some, refl, ℕ, ◌≡◌, ◌≤◌}
 
 -- STREAMS fail only where the run ends by that
@@ -46,24 +43,22 @@ module _ (reads : IsReader definition_in) (r : Run) (count : 26 ≤ r.before.dev
     (write_fault : r.status ≡ WriteFault → Rose r.before.sink.faults r.after.sink.faults) (no_write_fault : (r.status ≡ WriteFault → ⊥) → r.after.sink.faults ≡ r.before.sink.faults)
     (writes_later : r.before.sink.faults ≤ r.after.sink.faults)
     (downs : AreFaultsOf r.status r.before.devices.faults r.story r.after.devices.faults) (stops : AreStopsOf r.status r.before.devices.armed r.story r.after.devices.armed) where
-  counted : (command : Command) (target : given.Command) → shape_of command ≡ given.shape_of target → IsCommand command → StaysWithin (shape_of command) (given.shape_of target) r.before.devices r.after.devices →
-      ((trace : Trace) → Does command r.status (streams_of r) trace → promise.Does target r trace) → Runs command r.before.devices r.after.devices r.status r.flight (streams_of r) r.story → RunsAs r target
-  counted command target same limits within does runs = record {
-    goes = goes reads r command target same (parts-of-command command limits) count within.shape does runs;
+  counted : (command : Command) → IsCommand command → StaysWithin (shape_of command) (shape_of command) r.before.devices r.after.devices →
+      ((trace : Trace) → Does command r.status (streams_of r) trace → promise.Does command r trace) → Runs command r.before.devices r.after.devices r.status r.flight (streams_of r) r.story → RunsAs r command
+  counted command limits within does runs = record {
+    goes = goes reads r command (parts-of-command command limits) count within.shape does runs;
     source = reads-fail r.status r.before.source r.after.source read_fault no_read_fault reads_later;
     sink = writes-fail r.status r.before.sink r.after.sink write_fault no_write_fault writes_later;
     downs = downs-of r.status r.before.devices.faults r.story r.after.devices.faults downs;
     stops = stops-of r.status r.before.devices.armed r.story r.after.devices.armed stops;
     shape = within.shape;
-    others = λ told dev low out. within.others told dev low (subst (λ (s : Shape). devices_of s ≤ dev) (sym same) out);
+    others = λ told dev low out. within.others told dev low out;
   }
 
-  pub script-runs : (parts : ℕ) → r.command ≡ Some (asked_by (words.Run parts)) → IsCommand (words.Run parts) → StaysWithin (shape_of (words.Run parts)) (shape_of (words.Run parts)) r.before.devices r.after.devices →
-      (r.status ≡ Done → IsAtEnd r.after.source.bytes) → Runs (words.Run parts) r.before.devices r.after.devices r.status r.flight (streams_of r) r.story → promised.Runs r
-  script-runs parts is limits within end runs =
-      runs_as is (counted (words.Run parts) (asked_by (words.Run parts)) refl limits within (λ trace. script-does r parts trace end) runs)
+  pub script-runs : (shape : Shape) → r.command ≡ Some (Script shape) → IsCommand (Script shape) → StaysWithin shape shape r.before.devices r.after.devices →
+      (r.status ≡ Done → IsAtEnd r.after.source.bytes) → Runs (Script shape) r.before.devices r.after.devices r.status r.flight (streams_of r) r.story → promised.Runs r
+  script-runs shape is limits within end runs = runs_as is (counted (Script shape) limits within (λ trace. script-does r shape trace end) runs)
 
-  pub load-runs : (calls : ℕ) → r.command ≡ Some (asked_by (words.Load calls)) → IsCommand (words.Load calls) → StaysWithin (shape_of (words.Load calls)) (shape_of (words.Load calls)) r.before.devices r.after.devices →
-      r.after.source ≡ r.before.source → Runs (words.Load calls) r.before.devices r.after.devices r.status r.flight (streams_of r) r.story → promised.Runs r
-  load-runs calls is limits within unread runs =
-      runs_as is (counted (words.Load calls) (asked_by (words.Load calls)) refl limits within (λ trace. load-does r calls trace unread) runs)
+  pub load-runs : (calls : ℕ) → r.command ≡ Some (Load calls) → IsCommand (Load calls) → StaysWithin (shape_of (Load calls)) (shape_of (Load calls)) r.before.devices r.after.devices →
+      r.after.source ≡ r.before.source → Runs (Load calls) r.before.devices r.after.devices r.status r.flight (streams_of r) r.story → promised.Runs r
+  load-runs calls is limits within unread runs = runs_as is (counted (Load calls) limits within (λ trace. load-does r calls trace unread) runs)

@@ -1,12 +1,12 @@
 -- The numbers of a command are within their limits.
 use Rattle.salt_values.specs.declared.limits.TheConstants.{CALLS_MOST}
-use Rattle.salt_run.specs.Commands.{parts_of}
+use Rattle.salt_promise.specs.Given.{shape_of}
 use Rattle.salt_place.specs.Placement.{IsParts}
 use Rattle.salt_values.specs.declared.limits.TheConstants.{PARTITIONS_MOST}
-use Rattle.salt_words.specs.Words.{Given, Settings, all_given, command_of, command_said, count_said, folder_said, is_count, load_said, parts_said, run_said, settings_given, settings_of, settings_said, values_of}
-use Rattle.salt_words.specs.declared.command.Command.TheVariants.{Load, Run}
-use Rattle.salt_words.specs.declared.command.Command.{Command}
-use Rattle.salt_words.specs.declared.settings.Setting.TheVariants.{Folder, Parts}
+use Rattle.salt_promise.specs.Words.{Given, Settings, all_given, command_of, command_said, count_said, folder_said, is_count, load_said, parts_said, run_said, script_with, settings_given, settings_of, settings_said, values_of}
+use Rattle.salt_promise.specs.declared.command.Command.TheVariants.{Load, Script}
+use Rattle.salt_promise.specs.declared.command.Command.{Command}
+use Rattle.salt_promise.specs.declared.command.Setting.TheVariants.{Folder, Parts}
 use Rattle.std.proofs.Common.{ap, arith, subst}
 use Rattle.std.specs.Bool.{then_some}
 use Rattle.std.specs.Char.{is_ascii_digit}
@@ -56,13 +56,13 @@ given-within (Some gs) s e = parts-within (values_of Parts gs) s.parts (settings
 
 -- the limits of a command
 abbrev pub IsCommand : Command → Type 0
-IsCommand (Run parts) = IsParts parts
+IsCommand (Script shape) = IsParts shape.parts
 IsCommand (Load calls) = IsWithin CALLS_MOST calls
 
-run-within : (o : Option Settings) → ((s : Settings) → o ≡ Some s → IsParts s.parts) → (c : Command) → option_map (λ (s : Settings). Run s.parts) o ≡ Some c → IsCommand c
+run-within : (o : Option Settings) → ((s : Settings) → o ≡ Some s → IsParts s.parts) → (c : Command) → option_map script_with o ≡ Some c → IsCommand c
 run-within None h c e = absurd cc
 run-within (Some s) h c e =
-    let same : Run s.parts ≡ c = cc in
+    let same : script_with s ≡ c = cc in
     subst IsCommand same (h s refl)
 
 load-count : (o : Option ℕ) → ((n : ℕ) → o ≡ Some n → IsWithin CALLS_MOST n) → (c : Command) → option_map Load o ≡ Some c → IsCommand c
@@ -89,6 +89,6 @@ pub command-within : (words : List (String Global)) (c : Command) → command_of
 command-within words c e = said-within (map string_bytes words) c e
 
 -- it has one partition to eight
-pub parts-of-command : (c : Command) → IsCommand c → IsParts (parts_of c)
-parts-of-command (Run parts) h = h
+pub parts-of-command : (c : Command) → IsCommand c → IsParts (shape_of c).parts
+parts-of-command (Script shape) h = h
 parts-of-command (Load calls) h = (omega arith, omega arith)

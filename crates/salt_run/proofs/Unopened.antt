@@ -14,18 +14,16 @@ use Rattle.salt_model.specs.declared.events.Why.TheVariants as why
 use Rattle.salt_promise.specs.Doing as promise
 use Rattle.salt_promise.specs.Ending.{AreSpentBehind, HasNumbers, IsInDoubt, IsLeftBehind, raised}
 use Rattle.salt_promise.specs.Filling.{IsFullBehind, NextFills}
-use Rattle.salt_promise.specs.Given as given
-use Rattle.salt_promise.specs.Given.{Run}
+use Rattle.salt_promise.specs.Given.{Run, shape_of}
 use Rattle.salt_promise.specs.Runs as promised
 use Rattle.salt_promise.specs.Runs.{IsNoRefusal}
-use Rattle.salt_promise.specs.Standing.{IsReader, OpenAs, StandFor}
+use Rattle.salt_promise.specs.Standing.{IsReader, OpenAs}
 use Rattle.salt_promise.specs.declared.status.Status.TheVariants.{DeviceFull, DiskFault, Memory, NumbersSpent, WriteFault}
 use Rattle.salt_promise.specs.declared.status.Status.{Status}
 use Rattle.salt_run.proofs.Full.{first-fills}
 use Rattle.salt_run.proofs.Promised.{streams_of}
 use Rattle.salt_run.proofs.Standing.{stand-for}
 use Rattle.salt_run.proofs.Unwritten.{not-nil}
-use Rattle.salt_run.specs.Commands.{shape_of}
 use Rattle.salt_run.specs.Doing.{Does}
 use Rattle.salt_run.specs.Running.{FindsNothing, Replays}
 use Rattle.salt_loop.specs.Ending.{IsStatusOf}
@@ -35,8 +33,7 @@ use Rattle.salt_storage.specs.declared.halt.Halt.TheVariants as halt
 use Rattle.salt_storage.specs.declared.halt.Halt.{Halt}
 use Rattle.salt_storage.specs.declared.open.OpenErr.TheVariants as open_err
 use Rattle.salt_storage.specs.declared.open.OpenErr.TheVariants.{Halted}
-use Rattle.salt_place.specs.declared.placement.Shape.{Shape}
-use Rattle.salt_words.specs.declared.command.Command.{Command}
+use Rattle.salt_promise.specs.declared.command.Command.{Command}
 use Rattle.std.proofs.Common.{ap, arith, inl, inr, subst, sym, ◌∙◌}
 use Rattle.std.specs.Prelude.{IsTrue, List, [], refl, suc, true, zero, ℕ, ◌+◌, ◌++◌, ◌∷◌, ◌≡◌}
 
@@ -101,10 +98,10 @@ ended-spent k status spent (inl is) = halted-as k status (NumbersSpent k.boot k.
 unraised : (k : Kept) → k ≡ raised 0 k
 unraised k = let same : k.boot ≡ k.boot + 0 = omega arith in ap (λ (n : ℕ). record k { boot = n }) same
 
-module _ (reads : IsReader definition_in) (r : Run) (command : Command) (target : given.Command) (same : shape_of command ≡ given.shape_of target)
-    (does : (trace : Trace) → Does command r.status (streams_of r) trace → promise.Does target r trace)
+module _ (reads : IsReader definition_in) (r : Run) (command : Command)
+    (does : (trace : Trace) → Does command r.status (streams_of r) trace → promise.Does command r trace)
     (x : FindsNothing command r.before.devices r.after.devices r.status r.flight (streams_of r) r.story)
-    (k : Kept) (well : WellKept k) (ends : IsEndOver k r.status) (opens : IsTrue r.before.devices.told → OpenAs (given.shape_of target) r.before.devices.bytes k)
+    (k : Kept) (well : WellKept k) (ends : IsEndOver k r.status) (opens : IsTrue r.before.devices.told → OpenAs (shape_of command) r.before.devices.bytes k)
     (rests : IsTrue r.after.devices.told → (image : ℕ → List ℕ) → IsImage r.after.devices image → StandsFor (shape_of command) image k) where
   abbrev start : Start
   start = record { kept = k; can_stop = r.before.devices.can_stop }
@@ -121,11 +118,10 @@ module _ (reads : IsReader definition_in) (r : Run) (command : Command) (target 
   left : IsLeftBehind (IsInDoubt r.status r.flight) replays.trace k
   left = record { boots = 0; most = omega arith; is = inl (unraised k ∙ ap (raised 0) (sym keeps)) }
 
-  full : (shape : Shape) → shape_of command ≡ shape → (dev : ℕ) → r.status ≡ DeviceFull dev → IsTrue r.after.devices.told → IsFullBehind r.after.devices shape replays.trace dev
-  full shape is dev so told =
-      subst (λ (s : Shape). IsFullBehind r.after.devices s replays.trace dev) is
-      (subst (λ (ph : Phase). NextFills r.after.devices (shape_of command) replays.trace ph (next replays.trace) dev) (sym is-still.down)
-      (inl (first-fills r.after.devices (shape_of command) dev (x.full dev so told))))
+  full : (dev : ℕ) → r.status ≡ DeviceFull dev → IsTrue r.after.devices.told → IsFullBehind r.after.devices (shape_of command) replays.trace dev
+  full dev so told =
+      subst (λ (ph : Phase). NextFills r.after.devices (shape_of command) replays.trace ph (next replays.trace) dev) (sym is-still.down)
+      (inl (first-fills r.after.devices (shape_of command) dev (x.full dev so told)))
 
   spent-behind : (boot decisions : ℕ) → r.status ≡ NumbersSpent boot decisions → AreSpentBehind replays.trace boot decisions
   spent-behind boot decisions is =
@@ -139,7 +135,7 @@ module _ (reads : IsReader definition_in) (r : Run) (command : Command) (target 
         decisions_are = numbers.1;
       }
 
-  pub unopened : promised.RunsOver r target
+  pub unopened : promised.RunsOver r command
   unopened = record {
     start = start;
     trace = replays.trace;
@@ -156,11 +152,11 @@ module _ (reads : IsReader definition_in) (r : Run) (command : Command) (target 
     ends = record {
       images = λ told image is. record {
         kept = k;
-        stands = subst (λ (s : Shape). StandFor s image k) same (stand-for reads (shape_of command) image k (rests told image is));
+        stands = stand-for reads (shape_of command) image k (rests told image is);
         is = left;
         numbers = ends.numbers;
       };
       spent = spent-behind;
-      full = full (given.shape_of target) same;
+      full = full;
     };
   }

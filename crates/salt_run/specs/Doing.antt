@@ -7,8 +7,8 @@ use Rattle.salt_promise.specs.declared.status.Status.{Status}
 use Rattle.salt_run.specs.Summing.{IsSummed}
 use Rattle.salt_loop.specs.Loading.{AreLoadLines}
 use Rattle.salt_loop.specs.Run.{AreLinesOf, IsTold}
-use Rattle.salt_words.specs.declared.command.Command.TheVariants.{Load, Run}
-use Rattle.salt_words.specs.declared.command.Command.{Command}
+use Rattle.salt_promise.specs.declared.command.Command.TheVariants.{Load, Script}
+use Rattle.salt_promise.specs.declared.command.Command.{Command}
 use Rattle.std.specs.Prelude.{List, Option, ℕ}
 
 -- the bytes that a source tells, at first and at last, and those that a sink held and holds
@@ -26,7 +26,7 @@ pub record DoesLines (status : Status) (script left : Option (List ℕ)) (trace 
 
 -- a run does the lines of the script, and writes its story; a load does those of the workload, and writes the summary
 abbrev pub Does : Command → Status → Streams → Trace → Type 0
-Does (Run parts) status s trace = DoesLines status s.script s.left trace × IsTold status s.before trace s.now
+Does (Script shape) status s trace = DoesLines status s.script s.left trace × IsTold status s.before trace s.now
 Does (Load calls) status s trace = AreLoadLines status calls (lines_of trace) × IsSummed status calls trace s.before s.now
 
 abbrev pub streams : (script left before now : Option (List ℕ)) → Streams

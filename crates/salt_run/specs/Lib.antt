@@ -1,4 +1,3 @@
-pub mod Commands
 pub mod Doing
 pub mod Ending
 pub mod Running

@@ -14,7 +14,7 @@ use Rattle.salt_promise.specs.Promises.{Promises}
 use Rattle.salt_promise.specs.Runs.{AreAsBefore, IsNoRefusal, may_have_failed}
 use Rattle.salt_promise.specs.declared.status.Status.{Status}
 use Rattle.salt_promise.specs.declared.status.Status.TheVariants.{DeviceFull}
-use Rattle.salt_run.specs.Commands.{shape_of}
+use Rattle.salt_promise.specs.Given.{shape_of}
 use Rattle.salt_run.specs.Doing.{Does, Streams}
 use Rattle.salt_run.specs.Ending.{EndsBehind, IsFlightTold}
 use Rattle.salt_loop.specs.Ending.{IsStatusOf}
@@ -28,7 +28,7 @@ use Rattle.salt_storage.specs.Writing.{OfOpening}
 use Rattle.salt_storage.specs.declared.halt.Halt.TheVariants as halt
 use Rattle.salt_storage.specs.declared.open.OpenErr.TheVariants.{Halted}
 use Rattle.salt_storage.specs.declared.open.OpenErr.{OpenErr}
-use Rattle.salt_words.specs.declared.command.Command.{Command}
+use Rattle.salt_promise.specs.declared.command.Command.{Command}
 use Rattle.std.specs.Prelude.{IsTrue, List, Option, [], false, true, ℕ, ◌≡◌, ◌⊎◌}
 
 -- The story is that of a trace which is played from this start and keeps each promise; no opening goes on from spent numbers; the command's

@@ -2,11 +2,10 @@
 
 ghost use Rattle.salt_disk.specs.Settling.{AreSettled};
 ghost use Rattle.salt_promise.specs.Runs.{Runs};
-ghost use Rattle.salt_run.specs.Commands.{asked_by};
 ghost use Rattle.salt_run.specs.Doing.{world};
 ghost use Rattle.salt_place.specs.Placement.{GivesPlaceOf, TakesEachKey};
-ghost use Rattle.salt_words.specs.Words.{command_of};
-ghost use Rattle.std.specs.Prelude.{option_map, ◌≡◌, ◌≤◌};
+ghost use Rattle.salt_promise.specs.Words.{command_of};
+ghost use Rattle.std.specs.Prelude.{◌≡◌, ◌≤◌};
 
 use crate::ended::Ended;
 use crate::promises::played_keeps_promises;
@@ -16,8 +15,9 @@ use salt_disk::Disks;
 use salt_io::{Sink, Source};
 use salt_loop::Status;
 use salt_place::{PlaceKind, Placement};
+use salt_promise::Command;
 use salt_values::Key;
-use salt_words::{Command, command_in};
+use salt_words::command_in;
 use sqlite_items::Items;
 use std::alloc::Global;
 
@@ -42,7 +42,7 @@ pub fn run<S: Source, K: Sink, D: Disks, F: Fn(PlaceKind, &Key, u32) -> u32>(
 
     // What a run promises, of what it was given and what it leaves; and where the words are no command, nothing is touched.
     ensures runs { Runs (record {
-      command = option_map asked_by (command_of words.now);
+      command = command_of words.now;
       before = world (S.left source.old) (S.faults source.old) (K.held sink.old) (K.faults sink.old) (D.view disks.old);
       after = world (S.left source.new) (S.faults source.new) (K.held sink.new) (K.faults sink.new) (D.view disks.new);
       status = result.status;
@@ -55,7 +55,7 @@ pub fn run<S: Source, K: Sink, D: Disks, F: Fn(PlaceKind, &Key, u32) -> u32>(
     played_keeps_promises();
     definitions_are_read();
     match command_in(words) {
-        Some(Command::Run { parts }) => run_script(alloc, parts, source, sink, disks, place),
+        Some(Command::Script(shape)) => run_script(alloc, shape, source, sink, disks, place),
         Some(Command::Load(calls)) => run_load(alloc, calls, sink, disks, place),
         None => Ended {
             status: Status::Usage,

@@ -7,7 +7,7 @@ ghost use Rattle.salt_values.specs.declared.limits.TheConstants.{CALLS_MOST};
 ghost use Rattle.salt_model.specs.Kept.{WellKept};
 ghost use Rattle.salt_model.specs.Played.{IsPlayed};
 ghost use Rattle.salt_model.specs.Trace.{Trace, start_of};
-ghost use Rattle.salt_run.specs.Commands.{shape_of};
+ghost use Rattle.salt_promise.specs.Given.{shape_of};
 ghost use Rattle.salt_run.specs.Doing.{streams};
 ghost use Rattle.salt_run.specs.Ending.{flight_at};
 ghost use Rattle.salt_promise.specs.Promises.{Promises};
@@ -18,7 +18,7 @@ ghost use Rattle.salt_loop.specs.Stopping.{outcome};
 ghost use Rattle.salt_storage.specs.Staying.{StaysWithin};
 ghost use Rattle.salt_workload.specs.Summary.{summary_text};
 ghost use Rattle.salt_place.specs.Placement.{GivesPlaceOf, IsParts, TakesEachKey};
-ghost use Rattle.salt_words.specs.declared.command.Command.TheVariants.{Load, Run};
+ghost use Rattle.salt_promise.specs.declared.command.Command.TheVariants.{Load, Script};
 ghost use Rattle.std.specs.Prelude.{List, Option, ℕ, ◌≡◌, ◌≢◌, ◌≤◌, ◌⊎◌};
 
 use crate::ended::Ended;
@@ -30,23 +30,11 @@ use salt_io::{Sink, Source};
 use salt_loop::{Loaded, Status, Stop, load, serve, status_of, stop_opening, tell_unfound};
 use salt_model::{Flight, Story};
 use salt_place::{PlaceKind, Placement, Shape};
+use salt_promise::Command;
 use salt_values::Key;
 use salt_workload::print_summary;
 use sqlite_items::Items;
 use std::alloc::Global;
-
-/// How many partitions there are in a run of the workload.
-const PARTS: u8 = 2;
-
-/// So many partitions, by remainders.
-fn shape_of(parts: u8) -> Shape
-    ensures { result ≡ shape_of (Run parts) }
-{
-    Shape {
-        parts,
-        kind: PlaceKind::Remainder,
-    }
-}
 
 /// The decision that was in flight where a run ends so. Where numbers are spent, they tell themselves whether it was made.
 fn flight_at(status: Status, flight: Option<Flight>) -> Option<Flight>
@@ -68,22 +56,22 @@ fn status_behind(done: Result<(), Stop>) -> Status
     }
 }
 
-/// Runs the script of the source over the devices, with so many partitions, and writes its story to the sink.
+/// Runs the script of the source over devices of this shape, and writes its story to the sink.
 pub fn run_script<S: Source, K: Sink, D: Disks, F: Fn(PlaceKind, &Key, u32) -> u32>(
     alloc: Global,
-    parts: u8,
+    shape: Shape,
     source: &mut S,
     sink: &mut K,
     disks: &mut D,
     place: &Placement<F>,
 ) -> Ended
-    requires parts { IsParts parts }
+    requires parts { IsParts shape.parts }
     requires devices { 26 ≤ (D.view disks.old).count }
     requires settled { AreSettled (D.view disks.old) }
     requires callable { TakesEachKey (F.pre place.now.place) }
     requires answers { GivesPlaceOf (F.post place.now.place) }
     requires promised { (trace : Trace) → IsPlayed trace → WellKept (start_of trace).kept → Promises trace }
-    ensures runs { Runs (Run parts) (D.view disks.old) (D.view disks.new) result.status result.flight
+    ensures runs { Runs (Script shape) (D.view disks.old) (D.view disks.new) result.status result.flight
         (streams (S.left source.old) (S.left source.new) (K.held sink.old) (K.held sink.new)) result.story }
     ensures right { result.status ≢ Status.Usage }
     ensures done { result.status ≡ Status.Done → IsAtEnd (S.left source.new) }
@@ -95,10 +83,10 @@ pub fn run_script<S: Source, K: Sink, D: Disks, F: Fn(PlaceKind, &Key, u32) -> u
     ensures writes_later { K.faults sink.old ≤ K.faults sink.new }
     ensures downs { AreFaultsOf result.status (D.view disks.old).faults result.story (D.view disks.new).faults }
     ensures stops { AreStopsOf result.status (D.view disks.old).armed result.story (D.view disks.new).armed }
-    ensures within { StaysWithin (shape_of (Run parts)) (shape_of (Run parts)) (D.view disks.old) (D.view disks.new) }
+    ensures within { StaysWithin shape shape (D.view disks.old) (D.view disks.new) }
 {
     let mut story = Items::new(alloc);
-    let mut devices = Devices::new(alloc, shape_of(parts));
+    let mut devices = Devices::new(alloc, shape);
     match find(&mut devices, disks, place, &mut story) {
         Ok(found) => {
             let opening = Opening::new(alloc, devices, found);
@@ -170,7 +158,7 @@ pub fn run_load<K: Sink, D: Disks, F: Fn(PlaceKind, &Key, u32) -> u32>(
     ensures within { StaysWithin (shape_of (Load calls)) (shape_of (Load calls)) (D.view disks.old) (D.view disks.new) }
 {
     let mut story = Items::new(alloc);
-    let mut devices = Devices::new(alloc, shape_of(PARTS));
+    let mut devices = Devices::new(alloc, Command::Load(calls).shape());
     match find(&mut devices, disks, place, &mut story) {
         Ok(found) => {
             let opening = Opening::new(alloc, devices, found);

@@ -1,8 +1,8 @@
 -- A setting in one word and in two.
 use Rattle.salt_words.proofs.Givens.{none-given, one-given, two-given}
-use Rattle.salt_words.specs.Words.{Given, all_given, begins_with_dash, given, given_by, given_in, given_to, is_equals_sign, name_of, settings_given, settings_said}
-use Rattle.salt_words.specs.declared.settings.Setting.TheVariants.{Folder, Parts}
-use Rattle.salt_words.specs.declared.settings.Setting.{Setting}
+use Rattle.salt_promise.specs.Words.{Given, all_given, begins_with_dash, given, given_by, given_in, given_to, is_equals_sign, name_of, settings_given, settings_said}
+use Rattle.salt_promise.specs.declared.command.Setting.TheVariants.{Folder, Parts}
+use Rattle.salt_promise.specs.declared.command.Setting.{Setting}
 use Rattle.std.proofs.Common.{ap, arith, refl, sym, ◌∙◌}
 use Rattle.std.proofs.lemmas.Bool.Decides.{nat_tests}
 use Rattle.std.specs.List.{position_or_len}

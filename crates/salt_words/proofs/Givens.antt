@@ -1,5 +1,5 @@
 -- What is given first.
-use Rattle.salt_words.specs.Words.{Given, all_given, given_by, given_in}
+use Rattle.salt_promise.specs.Words.{Given, all_given, given_by, given_in}
 use Rattle.std.specs.Global.{Global}
 use Rattle.std.proofs.Common.{ap, arith, refl, sym}
 use Rattle.std.proofs.lemmas.List.{take_rest}

@@ -1,5 +1,5 @@
 -- The number that a word says.
-use Rattle.salt_words.specs.Words.{count_said, is_count}
+use Rattle.salt_promise.specs.Words.{count_said, is_count}
 use Rattle.std.proofs.Common.{arith, rules, subst, sym}
 use Rattle.std.proofs.lemmas.Bool.Decides.{nat_tests}
 use Rattle.std.proofs.lemmas.Str.Parse.{IsDigitsTest, IsNumeralModel, numerals_by_value, parse_gives}

@@ -1,8 +1,8 @@
 -- Settings behind settings.
 use Rattle.salt_words.proofs.Givens.{none-alone, none-given, one-given, two-given}
-use Rattle.salt_words.specs.Words.{Given, all_given, folder_said, given_by, given_in, is_setting, parts_said, settings_given, settings_of, settings_said, values_of}
-use Rattle.salt_words.specs.declared.settings.Setting.TheVariants.{Folder, Parts}
-use Rattle.salt_words.specs.declared.settings.Setting.{Setting}
+use Rattle.salt_promise.specs.Words.{Given, all_given, folder_said, given_by, given_in, is_setting, parts_said, settings_given, settings_of, settings_said, values_of}
+use Rattle.salt_promise.specs.declared.command.Setting.TheVariants.{Folder, Parts}
+use Rattle.salt_promise.specs.declared.command.Setting.{Setting}
 use Rattle.std.proofs.Common.{ap, append-nil, refl, subst, sym, ◌∙◌}
 use Rattle.std.proofs.lemmas.Bool.{false≢true}
 use Rattle.std.specs.Prelude.{Bool, IsSome, List, None, Option, Some, [], false, if◌then◌else◌, option_and_then, option_map, true, ℕ, ◌++◌, ◌∷◌, ◌≡◌}

@@ -2,9 +2,9 @@
 use Rattle.salt_words.proofs.Forms.{by-two, in-one, name-alone, one_word}
 use Rattle.salt_words.proofs.Givens.{none-alone, none-given, one-given, two-given}
 use Rattle.salt_words.specs.Spelling.{Spells, in_one, in_two, nothing}
-use Rattle.salt_words.specs.Words.{Given, all_given, begins_with_dash, given, given_by, given_in, given_to, is_equals_sign, name_of}
-use Rattle.salt_words.specs.declared.settings.Setting.TheVariants.{Folder, Parts}
-use Rattle.salt_words.specs.declared.settings.Setting.{Setting}
+use Rattle.salt_promise.specs.Words.{Given, all_given, begins_with_dash, given, given_by, given_in, given_to, is_equals_sign, name_of}
+use Rattle.salt_promise.specs.declared.command.Setting.TheVariants.{Folder, Parts}
+use Rattle.salt_promise.specs.declared.command.Setting.{Setting}
 use Rattle.std.proofs.Common.{ap, refl, subst, sym, ◌∙◌}
 use Rattle.std.proofs.lemmas.Bool.{eqb-true}
 use Rattle.std.proofs.lemmas.List.Quantifiers.{position-Some}

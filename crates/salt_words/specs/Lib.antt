@@ -1,4 +1,3 @@
-pub mod Words
 pub mod WordRows
 pub mod Spelling
 pub mod Meanings

@@ -1,10 +1,10 @@
 -- What the values of the program mean.
-use Rattle.salt_words.specs.Words as words
-use Rattle.salt_words.specs.Words.{folder_said, parts_said, settings_of, values_of}
+use Rattle.salt_promise.specs.Words as words
+use Rattle.salt_promise.specs.Words.{folder_said, parts_said, settings_of, values_of}
 use Rattle.salt_words.specs.declared.settings.First.{First}
 use Rattle.salt_words.specs.declared.settings.Given.{Given}
 use Rattle.salt_words.specs.declared.settings.Said.{Said}
-use Rattle.salt_words.specs.declared.settings.Setting.TheVariants.{Folder, Parts}
+use Rattle.salt_promise.specs.declared.command.Setting.TheVariants.{Folder, Parts}
 use Rattle.salt_words.specs.declared.settings.Settings.{Settings}
 use Rattle.std.specs.Option.{option_copied}
 use Rattle.std.specs.Prelude.{List, Option, option_to_list, ◌++◌}

@@ -1,6 +1,6 @@
 -- How settings are spelled.
-use Rattle.salt_words.specs.Words.{Given, begins_with_dash, given, name_of}
-use Rattle.salt_words.specs.declared.settings.Setting.{Setting}
+use Rattle.salt_promise.specs.Words.{Given, begins_with_dash, given, name_of}
+use Rattle.salt_promise.specs.declared.command.Setting.{Setting}
 use Rattle.std.specs.Prelude.{List, [], codes, false, ℕ, ◌++◌, ◌∷◌, ◌≡◌}
 
 -- words that give values to settings, each in one word, `--parts=2`, or in two, `--parts 2`

@@ -1,50 +1,55 @@
 -- Words that say a command and words that say none, computed from the definitions.
-use Rattle.salt_words.specs.Words.{all_given, command_said, folder_named}
-use Rattle.salt_words.specs.declared.command.Command.TheVariants.{Load, Run}
-use Rattle.salt_words.specs.declared.command.Command.{Command}
+use Rattle.salt_place.specs.declared.placement.PlaceKind.TheVariants.{Remainder}
+use Rattle.salt_promise.specs.Words.{all_given, command_said, folder_named}
+use Rattle.salt_promise.specs.declared.command.Command.TheVariants.{Load, Script}
+use Rattle.salt_promise.specs.declared.command.Command.{Command}
 use Rattle.std.specs.Prelude.{List, None, Option, Some, [], codes, refl, ℕ, ◌∷◌, ◌≡◌}
+
+-- the lines of a script over so many partitions
+abbrev over : ℕ → Command
+over parts = Script (record { parts = parts; kind = Remainder })
 
 -- the command, and the folder of a run
 abbrev said : List (List ℕ) → Option Command × Option (List ℕ)
 said words = (command_said words, folder_named words)
 
-one_word : said (codes "run" ∷ []) ≡ (Some (Run 2), None)
+one_word : said (codes "run" ∷ []) ≡ (Some (over 2), None)
 unfolding all_given
 one_word = refl
 
-both_apart : said (codes "run" ∷ codes "--parts" ∷ codes "3" ∷ codes "--dir" ∷ codes "data" ∷ []) ≡ (Some (Run 3), Some (codes "data"))
+both_apart : said (codes "run" ∷ codes "--parts" ∷ codes "3" ∷ codes "--dir" ∷ codes "data" ∷ []) ≡ (Some (over 3), Some (codes "data"))
 unfolding all_given
 both_apart = refl
 
-other_order : said (codes "run" ∷ codes "--dir" ∷ codes "data" ∷ codes "--parts" ∷ codes "3" ∷ []) ≡ (Some (Run 3), Some (codes "data"))
+other_order : said (codes "run" ∷ codes "--dir" ∷ codes "data" ∷ codes "--parts" ∷ codes "3" ∷ []) ≡ (Some (over 3), Some (codes "data"))
 unfolding all_given
 other_order = refl
 
-both_joined : said (codes "run" ∷ codes "--parts=8" ∷ codes "--dir=data/a" ∷ []) ≡ (Some (Run 8), Some (codes "data/a"))
+both_joined : said (codes "run" ∷ codes "--parts=8" ∷ codes "--dir=data/a" ∷ []) ≡ (Some (over 8), Some (codes "data/a"))
 unfolding all_given
 both_joined = refl
 
-one_of_each_form : said (codes "run" ∷ codes "--parts=1" ∷ codes "--dir" ∷ codes "data" ∷ []) ≡ (Some (Run 1), Some (codes "data"))
+one_of_each_form : said (codes "run" ∷ codes "--parts=1" ∷ codes "--dir" ∷ codes "data" ∷ []) ≡ (Some (over 1), Some (codes "data"))
 unfolding all_given
 one_of_each_form = refl
 
-leading_zeros : said (codes "run" ∷ codes "--parts" ∷ codes "000000000000000000000000000002" ∷ []) ≡ (Some (Run 2), None)
+leading_zeros : said (codes "run" ∷ codes "--parts" ∷ codes "000000000000000000000000000002" ∷ []) ≡ (Some (over 2), None)
 unfolding all_given
 leading_zeros = refl
 
-dashed_folder : said (codes "run" ∷ codes "--dir=-x" ∷ []) ≡ (Some (Run 2), Some (codes "-x"))
+dashed_folder : said (codes "run" ∷ codes "--dir=-x" ∷ []) ≡ (Some (over 2), Some (codes "-x"))
 unfolding all_given
 dashed_folder = refl
 
-folder_with_equals_sign : said (codes "run" ∷ codes "--dir" ∷ codes "a=b" ∷ []) ≡ (Some (Run 2), Some (codes "a=b"))
+folder_with_equals_sign : said (codes "run" ∷ codes "--dir" ∷ codes "a=b" ∷ []) ≡ (Some (over 2), Some (codes "a=b"))
 unfolding all_given
 folder_with_equals_sign = refl
 
-joined_folder_with_equals_sign : said (codes "run" ∷ codes "--dir=--parts=9" ∷ []) ≡ (Some (Run 2), Some (codes "--parts=9"))
+joined_folder_with_equals_sign : said (codes "run" ∷ codes "--dir=--parts=9" ∷ []) ≡ (Some (over 2), Some (codes "--parts=9"))
 unfolding all_given
 joined_folder_with_equals_sign = refl
 
-folder_that_is_a_command : said (codes "run" ∷ codes "--dir" ∷ codes "run" ∷ []) ≡ (Some (Run 2), Some (codes "run"))
+folder_that_is_a_command : said (codes "run" ∷ codes "--dir" ∷ codes "run" ∷ []) ≡ (Some (over 2), Some (codes "run"))
 unfolding all_given
 folder_that_is_a_command = refl
 

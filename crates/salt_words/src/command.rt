@@ -1,21 +1,14 @@
 //! The command that words say.
 
-ghost use Rattle.salt_words.specs.Words.{command_of, folder_of};
+ghost use Rattle.salt_promise.specs.Words.{command_of, folder_of};
 ghost use Rattle.std.specs.Option.{option_copied};
 ghost use Rattle.std.specs.Prelude.{◌≡◌};
 
 use crate::counts::count_in;
 use crate::settings::settings_in;
+use salt_place::{PlaceKind, Shape};
+use salt_promise::Command;
 use salt_values::limits::CALLS_MOST;
-
-/// What the program is to do.
-#[derive(Clone, Copy, Debug, PartialEq, Eq)]
-pub enum Command {
-    /// `run`: the lines of a script, over so many partitions.
-    Run { parts: u8 },
-    /// `load N`: the lines of the workload with so many calls.
-    Load(u64),
-}
 
 /// The command that the words say, if they say one: `run` and its settings, or `load` and a number of calls. It takes no memory.
 pub fn command_in(words: &[String]) -> Option<Command>
@@ -24,9 +17,10 @@ pub fn command_in(words: &[String]) -> Option<Command>
     match words {
         [word, settings @ ..] if word.as_bytes() == b"run".as_slice() => {
             let settings = settings_in(settings)?;
-            Some(Command::Run {
+            Some(Command::Script(Shape {
                 parts: settings.parts,
-            })
+                kind: PlaceKind::Remainder,
+            }))
         }
         [word, calls] if word.as_bytes() == b"load".as_slice() => {
             Some(Command::Load(count_in(CALLS_MOST, calls.as_str())?))

@@ -1,6 +1,6 @@
 //! Numbers in words.
 
-ghost use Rattle.salt_words.specs.Words.{count_said};
+ghost use Rattle.salt_promise.specs.Words.{count_said};
 ghost use Rattle.std.specs.Char.{is_ascii_digit};
 ghost use Rattle.std.specs.List.{list_all};
 ghost use Rattle.std.specs.Prelude.{◌<◌, ◌≡◌, ◌≤◌, IfSome};

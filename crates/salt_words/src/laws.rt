@@ -1,8 +1,8 @@
 //! What holds of the words of commands.
 
 ghost use Rattle.salt_words.specs.Spelling.{Spells};
-ghost use Rattle.salt_words.specs.Words.{Given, all_given, begins_with_dash, command_said, folder_named, name_of};
-ghost use Rattle.salt_words.specs.declared.settings.Setting.{Setting};
+ghost use Rattle.salt_promise.specs.Words.{Given, all_given, begins_with_dash, command_said, folder_named, name_of};
+ghost use Rattle.salt_promise.specs.declared.command.Setting.{Setting};
 ghost use Rattle.std.specs.Prelude.{◌++◌, ◌∷◌, ◌↔◌, ◌≡◌, IsSome, List, Some, codes, false, ℕ};
 
 /// What words give to settings is what they spell, and they spell it in one way only.

@@ -1,22 +1,14 @@
 //! The settings of a run.
 
-ghost use Rattle.salt_words.specs.Words.{all_given, begins_with_dash, given_by, given_in, given_to, parts_said, setting_named, settings_said};
-ghost use Rattle.salt_words.specs.Words as words;
+ghost use Rattle.salt_promise.specs.Words.{all_given, begins_with_dash, given_by, given_in, given_to, parts_said, setting_named, settings_said};
+ghost use Rattle.salt_promise.specs.Words as words;
 ghost use Rattle.salt_words.specs.Meanings.{first_meant, given_meant, settings_behind, settings_meant};
 ghost use Rattle.std.specs.Option.{option_copied};
 ghost use Rattle.std.specs.Prelude.{◌<◌, ◌≡◌, ◌∷◌, IfSome, List, MatchOption, None, Some, [], length, map, option_map, option_to_list, string_bytes};
 
 use crate::counts::count_in;
+use salt_promise::Setting;
 use salt_values::limits::PARTITIONS_MOST;
-
-/// What may be set, each by a name of its own.
-#[derive(Clone, Copy, Debug, PartialEq, Eq)]
-pub enum Setting {
-    /// `--parts`: how many partitions there are.
-    Parts,
-    /// `--dir`: the folder of their files.
-    Folder,
-}
 
 fn setting_named(name: &str) -> Option<Setting>
     ensures { result ≡ setting_named name.now }

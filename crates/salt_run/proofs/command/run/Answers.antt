@@ -2,33 +2,32 @@ use Rattle.salt_promise.specs.Given.{Run}
 use Rattle.salt_run.proofs.Running.{load-runs, script-runs}
 use Rattle.salt_run.proofs.Said.{command-within}
 use Rattle.salt_run.proofs.command.run.Goals as goal
-use Rattle.salt_run.specs.Commands.{asked_by}
 use Rattle.salt_run.specs.Doing.{world}
-use Rattle.salt_words.specs.Words.{command_of}
-use Rattle.salt_words.specs.declared.command.Command.TheVariants as words
-use Rattle.std.proofs.Common.{Some, ap, arith, refl, ◌≡◌}
-use Rattle.std.specs.Prelude.{option_map, ◌≤◌}
+use Rattle.salt_promise.specs.Words.{command_of}
+use Rattle.salt_promise.specs.declared.command.Command.TheVariants.{Load, Script}
+use Rattle.std.proofs.Common.{Some, arith, refl, ◌≡◌}
+use Rattle.std.specs.Prelude.{◌≤◌}
 
 pub run_script-requires-clause-parts : goal.run_script-requires-clause-parts
 run_script-requires-clause-parts g c =
-    let a = c.in-Some-Run.is in
-    let b = c.in-Some-Run.ensures in
-    let x = c.in-Some-Run.field-0-is in
-    let y = c.in-Some-Run.parts-is in
-    let is : command_of c.args.words.now ≡ Some (words.Run c.in-Some-Run.parts) = cc in
-    command-within c.args.words.now (words.Run c.in-Some-Run.parts) is
+    let a = c.in-Some-Script.is in
+    let b = c.in-Some-Script.ensures in
+    let x = c.in-Some-Script.field-0-is in
+    let y = c.in-Some-Script.shape-is in
+    let is : command_of c.args.words.now ≡ Some (Script c.in-Some-Script.shape) = cc in
+    command-within c.args.words.now (Script c.in-Some-Script.shape) is
 
-pub returns-in-Some-Run-clause-runs : goal.returns-in-Some-Run-clause-runs
-returns-in-Some-Run-clause-runs g c =
-    let a = c.in-Some-Run.is in
-    let b = c.in-Some-Run.ensures in
-    let x = c.in-Some-Run.field-0-is in
-    let y = c.in-Some-Run.parts-is in
-    let is : command_of c.args.words.now ≡ Some (words.Run c.in-Some-Run.parts) = cc in
+pub returns-in-Some-Script-clause-runs : goal.returns-in-Some-Script-clause-runs
+returns-in-Some-Script-clause-runs g c =
+    let a = c.in-Some-Script.is in
+    let b = c.in-Some-Script.ensures in
+    let x = c.in-Some-Script.field-0-is in
+    let y = c.in-Some-Script.shape-is in
+    let is : command_of c.args.words.now ≡ Some (Script c.in-Some-Script.shape) = cc in
     let e = c.run_script.new in
     let h = c.run_script.ensures in
     let r : Run = record {
-      command = option_map asked_by (command_of c.args.words.now);
+      command = command_of c.args.words.now;
       before = world (g.S.Source.left c.args.source.now) (g.S.Source.faults c.args.source.now) (g.K.Sink.held c.args.sink.now) (g.K.Sink.faults c.args.sink.now) (g.D.Disks.view c.args.disks.now);
       after = world (g.S.Source.left e.source) (g.S.Source.faults e.source) (g.K.Sink.held e.sink) (g.K.Sink.faults e.sink) (g.D.Disks.view e.disks);
       status = c.run_script.result.status;
@@ -36,7 +35,7 @@ returns-in-Some-Run-clause-runs g c =
       story = c.run_script.result.story;
     } in
     script-runs (record { each = c.definitions_are_read.ensures }) r c.requires.devices h.read_fault h.no_read_fault h.reads_later h.write_fault h.no_write_fault h.writes_later h.downs h.stops
-    c.in-Some-Run.parts (ap (option_map asked_by) is) (command-within c.args.words.now (words.Run c.in-Some-Run.parts) is) h.within h.done h.runs
+    c.in-Some-Script.shape is (command-within c.args.words.now (Script c.in-Some-Script.shape) is) h.within h.done h.runs
 
 pub returns-in-Some-Load-clause-runs : goal.returns-in-Some-Load-clause-runs
 returns-in-Some-Load-clause-runs g c =
@@ -44,14 +43,14 @@ returns-in-Some-Load-clause-runs g c =
     let b = c.in-Some-Load.ensures in
     let x = c.in-Some-Load.field-0-is in
     let y = c.in-Some-Load.calls-is in
-    let is : command_of c.args.words.now ≡ Some (words.Load c.in-Some-Load.calls) = cc in
+    let is : command_of c.args.words.now ≡ Some (Load c.in-Some-Load.calls) = cc in
     let e = c.run_load.new in
     let h = c.run_load.ensures in
     let left = g.S.Source.left c.args.source.now in
     let faults = g.S.Source.faults c.args.source.now in
     let still : faults ≤ faults = omega arith in
     let r : Run = record {
-      command = option_map asked_by (command_of c.args.words.now);
+      command = command_of c.args.words.now;
       before = world left faults (g.K.Sink.held c.args.sink.now) (g.K.Sink.faults c.args.sink.now) (g.D.Disks.view c.args.disks.now);
       after = world left faults (g.K.Sink.held e.sink) (g.K.Sink.faults e.sink) (g.D.Disks.view e.disks);
       status = c.run_load.result.status;
@@ -59,4 +58,4 @@ returns-in-Some-Load-clause-runs g c =
       story = c.run_load.result.story;
     } in
     load-runs (record { each = c.definitions_are_read.ensures }) r c.requires.devices (λ read. absurd (h.unread read)) (λ other. refl) still h.write_fault h.no_write_fault h.writes_later h.downs h.stops
-    c.in-Some-Load.calls (ap (option_map asked_by) is) (command-within c.args.words.now (words.Load c.in-Some-Load.calls) is) h.within refl (h.runs left)
+    c.in-Some-Load.calls is (command-within c.args.words.now (Load c.in-Some-Load.calls) is) h.within refl (h.runs left)

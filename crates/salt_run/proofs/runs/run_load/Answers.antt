@@ -9,7 +9,7 @@ use Rattle.salt_run.proofs.EngineEnds.{as-told, begins-over, behind-faults, behi
 use Rattle.salt_run.proofs.Replayed.{load-replays}
 use Rattle.salt_run.proofs.Staying.{stays-as, stays-from}
 use Rattle.salt_run.proofs.runs.run_load.Goals as goal
-use Rattle.salt_run.specs.Commands.{shape_of}
+use Rattle.salt_promise.specs.Given.{shape_of}
 use Rattle.salt_run.specs.Doing.{streams}
 use Rattle.salt_run.specs.Ending.{flight_at}
 use Rattle.salt_loop.proofs.Loads.{unfound-loaded}
@@ -17,7 +17,7 @@ use Rattle.salt_loop.specs.Loading.{IsPlayedLoad}
 use Rattle.salt_loop.specs.Stopping.{outcome, status_of, status_opening}
 use Rattle.salt_stands.specs.Stands.{are_spent}
 use Rattle.salt_storage.proofs.Staying.{stays-behind}
-use Rattle.salt_words.specs.declared.command.Command.TheVariants.{Load}
+use Rattle.salt_promise.specs.declared.command.Command.TheVariants.{Load}
 use Rattle.std.proofs.Common.{ap, inl, inr, refl, subst, sym, ◌∙◌}
 use Rattle.std.specs.Prelude.{Err, None}
 
@@ -52,7 +52,7 @@ returns-in-Ok-clause-runs g c left =
     let new = c.new-opening.ensures.is_new f.kept f.is f.sound in
     let opens = opened-first _ _ mid.can_stop _ _ _ _ f.kept new (subst (λ (x : Devices). StandsHeld x.shape x.started x.store x.numbers x.pending mid f.kept) (sym c.new-opening.ensures.storage) f.holding) f.sound in
     let b = begins-over f.kept mid.can_stop _ _ c.find.new.story c.find.ensures.unfound f.sound opens (ap flight_of new.none) in
-    let asked = c.new-devices.ensures.shape ∙ c.shape_of.ensures in
+    let asked = c.new-devices.ensures.shape ∙ c.shape.ensures in
     as-told (Load c.args.calls) d e s c.load-lines.new.story status status flies c.flight_at.result refl (c.flight_at.ensures ∙ ap (flight_at status) c.flight.ensures)
     (inl (load-over d e x c.requires.promised start f.sound ((λ i. are_spent (sym f.is.boot i) (sym f.is.decisions i)) ∙ f.unspent) c.find.ensures.within.shape.can_stop s c.load-lines.new.story
     c.args.calls r.lines (c.load-lines.ensures.within.asked ∙ (λ i. (c.new-opening.ensures.storage i).shape) ∙ c.find.ensures.within.asked ∙ asked)
@@ -80,7 +80,7 @@ returns-in-Ok-clause-stops g c =
 pub returns-in-Ok-clause-within : goal.returns-in-Ok-clause-within
 returns-in-Ok-clause-within g c =
     let view = g.D.Disks.view in
-    stays-as c.new-devices.result.shape _ (shape_of (Load c.args.calls)) (view c.args.disks.now) (view c.load-lines.new.disks) (c.new-devices.ensures.shape ∙ c.shape_of.ensures)
+    stays-as c.new-devices.result.shape _ (shape_of (Load c.args.calls)) (view c.args.disks.now) (view c.load-lines.new.disks) (c.new-devices.ensures.shape ∙ c.shape.ensures)
     (stays-behind c.find.ensures.within (stays-from (view c.find.new.disks) (view c.load-lines.new.disks) (λ i. (c.new-opening.ensures.storage i).shape) c.load-lines.ensures.within))
 
 -- NOTHING WAS FOUND
@@ -100,7 +100,7 @@ returns-in-Err-clause-runs g c left =
     let how = behind-outcome old c.status_of.result status (c.status_of.ensures ∙ ap status_of c.stop_opening.ensures.is) c.write_summary.ensures.written in
     let run : (start : Start) → IsPlayedLoad start status None c.args.calls 0 c.find.new.story = λ start. unfound-load c.args.calls old status how start c.find.new.story (unfound-loaded c.in-Err.reason c.args.calls c.find.new.story c.find.ensures.unfound c.in-Err.ensures.err.empty start) in
     as-told (Load c.args.calls) d e s c.find.new.story status status None None refl (sym (flight-none status))
-    (inr (nothing (Load c.args.calls) d z.started z.shape c.new-devices.ensures.started (c.new-devices.ensures.shape ∙ c.shape_of.ensures) e y.shape y.started c.find.ensures.within.asked c.in-Err.ensures.rests
+    (inr (nothing (Load c.args.calls) d z.started z.shape c.new-devices.ensures.started (c.new-devices.ensures.shape ∙ c.shape.ensures) e y.shape y.started c.find.ensures.within.asked c.in-Err.ensures.rests
     c.in-Err.reason c.find.new.story c.in-Err.ensures.err c.in-Err.ensures.unwritten status (flight_at status None) s (unfound-status c.in-Err.reason old status refl how) c.find.ensures.unfound
     (λ start well. load-replays c.requires.promised c.args.calls 0 status None s c.find.new.story start well (run start) c.write_summary.ensures.summed)))
 
@@ -125,4 +125,4 @@ returns-in-Err-clause-stops g c =
 pub returns-in-Err-clause-within : goal.returns-in-Err-clause-within
 returns-in-Err-clause-within g c =
     let view = g.D.Disks.view in
-    stays-as c.new-devices.result.shape _ (shape_of (Load c.args.calls)) (view c.args.disks.now) (view c.find.new.disks) (c.new-devices.ensures.shape ∙ c.shape_of.ensures) c.find.ensures.within
+    stays-as c.new-devices.result.shape _ (shape_of (Load c.args.calls)) (view c.args.disks.now) (view c.find.new.disks) (c.new-devices.ensures.shape ∙ c.shape.ensures) c.find.ensures.within

@@ -9,13 +9,12 @@ use Rattle.salt_run.proofs.EngineEnds.{as-told, begins-over, behind-faults, behi
 use Rattle.salt_run.proofs.Replayed.{script-replays}
 use Rattle.salt_run.proofs.Staying.{stays-as, stays-from}
 use Rattle.salt_run.proofs.runs.run_script.Goals as goal
-use Rattle.salt_run.specs.Commands.{shape_of}
 use Rattle.salt_run.specs.Doing.{streams}
 use Rattle.salt_run.specs.Ending.{flight_at}
 use Rattle.salt_loop.specs.Stopping.{outcome}
 use Rattle.salt_stands.specs.Stands.{are_spent}
 use Rattle.salt_storage.proofs.Staying.{stays-behind}
-use Rattle.salt_words.specs.declared.command.Command.TheVariants.{Run}
+use Rattle.salt_promise.specs.declared.command.Command.TheVariants.{Script}
 use Rattle.std.proofs.Common.{ap, inl, inr, subst, sym, ◌∙◌}
 use Rattle.std.specs.Prelude.{Err, None}
 
@@ -49,12 +48,11 @@ returns-in-Ok-clause-runs g c =
     let new = c.new-opening.ensures.is_new f.kept f.is f.sound in
     let opens = opened-first _ _ mid.can_stop _ _ _ _ f.kept new (subst (λ (x : Devices). StandsHeld x.shape x.started x.store x.numbers x.pending mid f.kept) (sym c.new-opening.ensures.storage) f.holding) f.sound in
     let b = begins-over f.kept mid.can_stop _ _ c.find.new.story c.find.ensures.unfound f.sound opens (ap flight_of new.none) in
-    let asked = c.new-devices.ensures.shape ∙ c.shape_of.ensures in
-    as-told (Run c.args.parts) d e s c.serve-done.new.story (outcome c.serve-done.result) status flies c.flight_at.result c.status_behind-status.ensures
+    as-told (Script c.args.shape) d e s c.serve-done.new.story (outcome c.serve-done.result) status flies c.flight_at.result c.status_behind-status.ensures
     (c.flight_at.ensures ∙ ap (flight_at status) c.flight.ensures)
     (inl (script-over d e x c.requires.promised start f.sound ((λ i. are_spent (sym f.is.boot i) (sym f.is.decisions i)) ∙ f.unspent) c.find.ensures.within.shape.can_stop s c.serve-done.new.story
-    c.args.parts (c.serve-done.ensures.within.asked ∙ (λ i. (c.new-opening.ensures.storage i).shape) ∙ c.find.ensures.within.asked ∙ asked)
-    (found-is (Run c.args.parts) d z.started z.shape c.new-devices.ensures.started asked f.kept f.found) (outcome c.serve-done.result) (c.serve-done.ensures.ended start b.0 b.1)))
+    c.args.shape (c.serve-done.ensures.within.asked ∙ (λ i. (c.new-opening.ensures.storage i).shape) ∙ c.find.ensures.within.asked ∙ c.new-devices.ensures.shape)
+    (found-is (Script c.args.shape) d z.started z.shape c.new-devices.ensures.started c.new-devices.ensures.shape f.kept f.found) (outcome c.serve-done.result) (c.serve-done.ensures.ended start b.0 b.1)))
 
 pub returns-in-Ok-clause-downs : goal.returns-in-Ok-clause-downs
 returns-in-Ok-clause-downs g c =
@@ -71,7 +69,7 @@ returns-in-Ok-clause-stops g c =
 pub returns-in-Ok-clause-within : goal.returns-in-Ok-clause-within
 returns-in-Ok-clause-within g c =
     let view = g.D.Disks.view in
-    stays-as c.new-devices.result.shape _ (shape_of (Run c.args.parts)) (view c.args.disks.now) (view c.serve-done.new.disks) (c.new-devices.ensures.shape ∙ c.shape_of.ensures)
+    stays-as c.new-devices.result.shape _ c.args.shape (view c.args.disks.now) (view c.serve-done.new.disks) c.new-devices.ensures.shape
     (stays-behind c.find.ensures.within (stays-from (view c.find.new.disks) (view c.serve-done.new.disks) (λ i. (c.new-opening.ensures.storage i).shape) c.serve-done.ensures.within))
 
 -- NOTHING WAS FOUND
@@ -91,10 +89,10 @@ returns-in-Err-clause-runs g c =
     let status = c.status_behind.result in
     let s = streams (g.S.Source.left c.args.source.now) (g.S.Source.left c.args.source.now) (g.K.Sink.held c.args.sink.now) (g.K.Sink.held c.tell_unfound.new.sink) in
     let now = outcome c.tell_unfound.result in
-    as-told (Run c.args.parts) d e s c.find.new.story now status None None c.status_behind.ensures (sym (flight-none status))
-    (inr (nothing (Run c.args.parts) d z.started z.shape c.new-devices.ensures.started (c.new-devices.ensures.shape ∙ c.shape_of.ensures) e y.shape y.started c.find.ensures.within.asked c.in-Err.ensures.rests
+    as-told (Script c.args.shape) d e s c.find.new.story now status None None c.status_behind.ensures (sym (flight-none status))
+    (inr (nothing (Script c.args.shape) d z.started z.shape c.new-devices.ensures.started c.new-devices.ensures.shape e y.shape y.started c.find.ensures.within.asked c.in-Err.ensures.rests
     c.in-Err.reason c.find.new.story c.in-Err.ensures.err c.in-Err.ensures.unwritten now (flight_at now None) s c.tell_unfound.ensures.is c.find.ensures.unfound
-    (λ start well. script-replays c.requires.promised c.args.parts now None s c.find.new.story start well (c.tell_unfound.ensures.run start (g.S.Source.left c.args.source.now) (g.S.Source.left c.args.source.now)))))
+    (λ start well. script-replays c.requires.promised c.args.shape now None s c.find.new.story start well (c.tell_unfound.ensures.run start (g.S.Source.left c.args.source.now) (g.S.Source.left c.args.source.now)))))
 
 pub returns-in-Err-clause-downs : goal.returns-in-Err-clause-downs
 returns-in-Err-clause-downs g c =
@@ -113,4 +111,4 @@ returns-in-Err-clause-stops g c =
 pub returns-in-Err-clause-within : goal.returns-in-Err-clause-within
 returns-in-Err-clause-within g c =
     let view = g.D.Disks.view in
-    stays-as c.new-devices.result.shape _ (shape_of (Run c.args.parts)) (view c.args.disks.now) (view c.find.new.disks) (c.new-devices.ensures.shape ∙ c.shape_of.ensures) c.find.ensures.within
+    stays-as c.new-devices.result.shape _ c.args.shape (view c.args.disks.now) (view c.find.new.disks) c.new-devices.ensures.shape c.find.ensures.within

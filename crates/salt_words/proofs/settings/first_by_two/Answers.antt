@@ -1,6 +1,6 @@
 use Rattle.salt_words.proofs.Givens.{bytes-of-front, bytes-of-none, none-alone, none-given, two-given}
 use Rattle.salt_words.proofs.settings.first_by_two.Goals as goal
-use Rattle.salt_words.specs.Words.{given, given_by}
+use Rattle.salt_promise.specs.Words.{given, given_by}
 use Rattle.std.proofs.Common.{None, Some, ap, arith, length, sym, ◌∙◌, string_bytes, ◌<◌, ◌≡◌}
 
 pub returns-in-empty-clause-all : goal.returns-in-empty-clause-all

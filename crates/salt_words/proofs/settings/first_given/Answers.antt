@@ -1,6 +1,6 @@
 use Rattle.salt_words.proofs.Givens.{bytes-of-front, one-given}
 use Rattle.salt_words.proofs.settings.first_given.Goals as goal
-use Rattle.salt_words.specs.Words.{given, given_in}
+use Rattle.salt_promise.specs.Words.{given, given_in}
 use Rattle.std.proofs.Common.{Some, ap, arith, length, sym, ◌∙◌, string_bytes, ◌<◌, ◌≡◌}
 
 pub returns-in-Some-clause-all : goal.returns-in-Some-clause-all

@@ -1,6 +1,6 @@
 use Rattle.salt_words.proofs.settings.said_in.Given as goal
 use Rattle.salt_words.specs.Meanings.{settings_behind}
-use Rattle.salt_words.specs.Words.{all_given, settings_said}
+use Rattle.salt_promise.specs.Words.{all_given, settings_said}
 use Rattle.std.proofs.Common.{length, map, ◌≡◌}
 use Rattle.std.specs.Prelude.{option_and_then, string_bytes}
 

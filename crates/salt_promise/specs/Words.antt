@@ -1,10 +1,10 @@
 -- The words that a program was called with, and the command that they say.
-use Rattle.salt_values.specs.declared.limits.TheConstants.{CALLS_MOST}
-use Rattle.salt_values.specs.declared.limits.TheConstants.{PARTITIONS_MOST}
-use Rattle.salt_words.specs.declared.command.Command.TheVariants.{Load, Run}
-use Rattle.salt_words.specs.declared.command.Command.{Command}
-use Rattle.salt_words.specs.declared.settings.Setting.TheVariants.{Folder, Parts}
-use Rattle.salt_words.specs.declared.settings.Setting.{Setting}
+use Rattle.salt_place.specs.declared.placement.PlaceKind.TheVariants.{Remainder}
+use Rattle.salt_promise.specs.declared.command.Command.TheVariants.{Load, Script}
+use Rattle.salt_promise.specs.declared.command.Command.{Command}
+use Rattle.salt_promise.specs.declared.command.Setting.TheVariants.{Folder, Parts}
+use Rattle.salt_promise.specs.declared.command.Setting.{Setting}
+use Rattle.salt_values.specs.declared.limits.TheConstants.{CALLS_MOST, PARTITIONS_MOST}
 use Rattle.std.specs.Bool.{then_some}
 use Rattle.std.specs.Char.{is_ascii_digit}
 use Rattle.std.specs.Global.{Global}
@@ -120,8 +120,12 @@ settings_said words = option_and_then settings_given (all_given words)
 
 -- ---- commands
 
+-- a run of a script spreads rows by remainders
+abbrev pub script_with : Settings → Command
+script_with settings = Script (record { parts = settings.parts; kind = Remainder })
+
 abbrev pub run_said : List (List ℕ) → Option Command
-run_said words = option_map (λ (settings : Settings). Run settings.parts) (settings_said words)
+run_said words = option_map script_with (settings_said words)
 
 abbrev pub load_said : List (List ℕ) → Option Command
 load_said [] = None
