@@ -20,6 +20,9 @@ pub record World : Type 1 where
   pub sink : Stream
   pub devices : View
 
+abbrev pub world : (left : Option (List ℕ)) → (reads : ℕ) → (held : Option (List ℕ)) → (writes : ℕ) → View → World
+world left reads held writes devices = record { source = record { bytes = left; faults = reads }; sink = record { bytes = held; faults = writes }; devices = devices }
+
 -- the shape of the devices that a command asks for
 abbrev pub shape_of : Command → Shape
 shape_of (Script shape) = shape

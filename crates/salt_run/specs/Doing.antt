@@ -1,8 +1,6 @@
 -- What a command does: the lines of its trace, and what is written of it.
-use Rattle.salt_disk.specs.Disks.{View}
 use Rattle.salt_model.specs.Lines.{AskInOrder}
 use Rattle.salt_model.specs.Trace.{Trace, lines_of}
-use Rattle.salt_promise.specs.Given.{World}
 use Rattle.salt_promise.specs.declared.status.Status.{Status}
 use Rattle.salt_run.specs.Summing.{IsSummed}
 use Rattle.salt_loop.specs.Loading.{AreLoadLines}
@@ -31,7 +29,3 @@ Does (Load calls) status s trace = AreLoadLines status calls (lines_of trace) ×
 
 abbrev pub streams : (script left before now : Option (List ℕ)) → Streams
 streams script left before now = record { script = script; left = left; before = before; now = now }
-
--- what a run is given, or leaves
-abbrev pub world : (left : Option (List ℕ)) → (reads : ℕ) → (held : Option (List ℕ)) → (writes : ℕ) → View → World
-world left reads held writes devices = record { source = record { bytes = left; faults = reads }; sink = record { bytes = held; faults = writes }; devices = devices }

@@ -2,20 +2,18 @@
 
 ghost use Rattle.salt_disk.specs.Settling.{AreSettled};
 ghost use Rattle.salt_promise.specs.Runs.{Runs};
-ghost use Rattle.salt_run.specs.Doing.{world};
+ghost use Rattle.salt_promise.specs.Given.{world};
 ghost use Rattle.salt_place.specs.Placement.{GivesPlaceOf, TakesEachKey};
 ghost use Rattle.salt_promise.specs.Words.{command_of};
 ghost use Rattle.std.specs.Prelude.{◌≡◌, ◌≤◌};
 
-use crate::ended::Ended;
 use crate::promises::played_keeps_promises;
 use crate::runs::{run_load, run_script};
 use law_definitions::definitions_are_read;
 use salt_disk::Disks;
 use salt_io::{Sink, Source};
-use salt_loop::Status;
 use salt_place::{PlaceKind, Placement};
-use salt_promise::Command;
+use salt_promise::{Command, Ended, Status};
 use salt_values::Key;
 use salt_words::command_in;
 use sqlite_items::Items;

@@ -2,11 +2,9 @@
 #![tactic(auto)]
 
 mod command;
-mod ended;
 mod promises;
 mod runs;
 
 pub use command::run;
-pub use ended::Ended;
-pub use salt_loop::Status;
+pub use salt_promise::{Ended, Status};
 pub use salt_words::folder_of;

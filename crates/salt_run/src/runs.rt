@@ -21,16 +21,15 @@ ghost use Rattle.salt_place.specs.Placement.{GivesPlaceOf, IsParts, TakesEachKey
 ghost use Rattle.salt_promise.specs.declared.command.Command.TheVariants.{Load, Script};
 ghost use Rattle.std.specs.Prelude.{List, Option, ℕ, ◌≡◌, ◌≢◌, ◌≤◌, ◌⊎◌};
 
-use crate::ended::Ended;
 use salt_database::{Database, Opening};
 use salt_devices::Devices;
 use salt_disk::Disks;
 use salt_driver::{Openable, find};
 use salt_io::{Sink, Source};
-use salt_loop::{Loaded, Status, Stop, load, serve, status_of, stop_opening, tell_unfound};
+use salt_loop::{Loaded, Stop, load, serve, status_of, stop_opening, tell_unfound};
 use salt_model::{Flight, Story};
 use salt_place::{PlaceKind, Placement, Shape};
-use salt_promise::Command;
+use salt_promise::{Command, Ended, Status};
 use salt_values::Key;
 use salt_workload::print_summary;
 use sqlite_items::Items;

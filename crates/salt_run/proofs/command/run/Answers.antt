@@ -1,8 +1,7 @@
-use Rattle.salt_promise.specs.Given.{Run}
+use Rattle.salt_promise.specs.Given.{Run, world}
 use Rattle.salt_run.proofs.Running.{load-runs, script-runs}
 use Rattle.salt_run.proofs.Said.{command-within}
 use Rattle.salt_run.proofs.command.run.Goals as goal
-use Rattle.salt_run.specs.Doing.{world}
 use Rattle.salt_promise.specs.Words.{command_of}
 use Rattle.salt_promise.specs.declared.command.Command.TheVariants.{Load, Script}
 use Rattle.std.proofs.Common.{Some, arith, refl, ◌≡◌}

@@ -1,6 +1,6 @@
 //! What a run leaves.
 
-use salt_loop::Status;
+use crate::status::Status;
 use salt_model::{Flight, Story};
 
 /// How a run ended, the story that it told, and the decision that was in flight.
