@@ -28,8 +28,8 @@ use Rattle.salt_model.specs.declared.events.Event.TheVariants.{Armed, Began, Def
 use Rattle.salt_model.specs.declared.events.Event.{Event}
 use Rattle.salt_model.specs.declared.events.Flight.{Flight}
 use Rattle.salt_model.specs.declared.events.Why.TheVariants as why
-use Rattle.salt_promise.specs.Worked.{ample, begun, blank, header_at, holding, on, one_part}
-use Rattle.salt_promise.specs.Counting.{armed_behind}
+use Rattle.salt_promise.specs.Worked.{after, ample, begun, blank, header_at, holding, on, one_line, one_part, opened}
+use Rattle.salt_promise.specs.Counting.{AreArmed, armed_behind}
 use Rattle.salt_promise.specs.Ending.{IsLeftBehind, StandsBehind, raised}
 use Rattle.salt_promise.specs.Filling.{IsFullBehind, NewPairFills, NextFills, coordinator_format, partition_format}
 use Rattle.salt_promise.specs.Given.{Run}
@@ -80,15 +80,15 @@ spent-answer : (read : List ℕ → Option Definition) → opening_of (definitio
 unfolding entries_in entries_up_to split_payload framed
 spent-answer read = refl
 
+spent-closed : (k : Kept) → OpenAs one_part (begun (header_at half) []) k → ⊥
+spent-closed k o = let both : opening.NumbersSpent half 0 ≡ Stands o.found = sym (spent-answer o.answers.read) ∙ o.answers.is.0 in cc
+
 spent-at-first : Runs spent_run → ⊥
 spent-at-first = of-script spent_run refl (λ x. by x.goes)
   where
-    no : (k : Kept) → OpenAs one_part (begun (header_at half) []) k → ⊥
-    no k o = let both : opening.NumbersSpent half 0 ≡ Stands o.found = sym (spent-answer o.answers.read) ∙ o.answers.is.0 in cc
-
     by : FindsNothing spent_run (Script one_part) ⊎ RunsOver spent_run (Script one_part) → ⊥
     by (inl f) = let e = f.story in cc
-    by (inr o) = no o.start.kept (o.opens refl)
+    by (inr o) = spent-closed o.start.kept (o.opens refl)
 
 -- and behind a fall: no trace of a story with such an opening is as promised
 
@@ -118,6 +118,35 @@ spent-later r is told = of-script r is (λ x. by x.goes)
     by : FindsNothing r (Script one_part) ⊎ RunsOver r (Script one_part) → ⊥
     by (inl f) = let both : spent_later_story ≡ [] = sym told ∙ f.story in cc
     by (inr o) = unspent o.trace (subst (Every (OpensUnspent o.trace)) (o.tells.told ∙ told) (each-unspent o.trace o.trace o.unspent))
+
+-- REFUSED DEVICES are written, however the run ends: log B of the coordinator has a byte more
+
+abbrev touched_bytes : ℕ → List ℕ
+touched_bytes = let was = begun (header_at half) [] in on (was 0 ∷ (0 ∷ 0 ∷ []) ∷ was 2 ∷ was 3 ∷ [])
+
+abbrev touched_run : Status → Run
+touched_run status = run (holding ample (begun (header_at half) []) []) (holding ample touched_bytes []) status None [] []
+
+written-where-refused : (status : Status) → Runs (touched_run status) → ⊥
+written-where-refused status = of-script (touched_run status) refl (λ x. by x.goes)
+  where
+    by : FindsNothing (touched_run status) (Script one_part) ⊎ RunsOver (touched_run status) (Script one_part) → ⊥
+    by (inl f) = let both : ◌≡◌ {A = List ℕ} (0 ∷ 0 ∷ []) (0 ∷ []) = (f.devices refl).images 1 (0 ∷ 0 ∷ []) refl in cc
+    by (inr o) = spent-closed o.start.kept (o.opens refl)
+
+-- A DEVICE BEHIND those of the one partition is written, by a run that is right else
+
+abbrev spilt_bytes : ℕ → List ℕ
+spilt_bytes = on (opened 0 ∷ opened 1 ∷ opened 2 ∷ opened 3 ∷ [] ∷ (0 ∷ []) ∷ [])
+
+abbrev spilt_run : Run
+spilt_run = record one_line { after = record after { devices = holding ample spilt_bytes [] } }
+
+written-behind : Runs spilt_run → ⊥
+written-behind = of-script spilt_run refl by
+  where
+    by : RunsAs spilt_run (Script one_part) → ⊥
+    by x = let both : ◌≡◌ {A = List ℕ} (0 ∷ []) [] = x.others refl 5 (omega arith) (omega arith) (0 ∷ []) refl in cc
 
 -- A FULL DEVICE at a first opening
 
@@ -343,6 +372,35 @@ stop-before-armed r is none told = of-script r is no-stop
   where
     no-stop : RunsAs r (Script one_part) → ⊥
     no-stop x = let both : None ≡ Some x.stops.stops = sym (ap (λ s. armed_behind s (Some r.before.devices.armed)) told ∙ early-stop r.before.devices.armed none) ∙ x.stops.behind in cc
+
+-- ANOTHER STOP is armed at last than the one that the story tells
+
+armed_story : List Event
+armed_story = Opened 1 0 ∷ Ready ∷ Armed ((7, 1) ∷ []) ∷ []
+
+told-stops : (first : List (ℕ × ℕ)) → first ≡ [] → armed_behind armed_story (Some first) ≡ Some ((7, 1) ∷ [])
+unfolding armed_story
+told-stops first e = ap (λ stops. armed_behind armed_story (Some stops)) e
+
+first-pick : List (ℕ × ℕ) → ℕ
+first-pick [] = 0
+first-pick (stop ∷ stops) = stop.1
+
+another-stop : (r : Run) → r.command ≡ Some (Script one_part) → r.status ≡ Done → r.before.devices.armed ≡ [] → r.story ≡ armed_story → r.after.devices.armed ≡ (7, 0) ∷ [] → Runs r → ⊥
+unfolding first-pick
+another-stop r is done none told left = of-script r is by
+  where
+    same : (a b : List (ℕ × ℕ)) → Some a ≡ Some b → a ≡ b
+    same a b e = cc
+
+    apart : ◌≡◌ {A = ℕ} 0 1 → ⊥
+    apart e = omega arith
+
+    by : RunsAs r (Script one_part) → ⊥
+    by x =
+        let stops = sym (ap (λ s. armed_behind s (Some r.before.devices.armed)) told ∙ told-stops r.before.devices.armed none) ∙ x.stops.behind in
+        let last : r.after.devices.armed ≡ x.stops.stops = subst (λ s. AreArmed s x.stops.stops r.after.devices.armed) done x.stops.are in
+        apart (ap first-pick (sym left ∙ last ∙ sym (same ((7, 1) ∷ []) x.stops.stops stops)))
 
 -- WRONG WORDS with something in flight
 
