@@ -8,12 +8,11 @@ ghost use Rattle.std.specs.BTreeMap.Range.{entries_between};
 ghost use Rattle.std.specs.declared.ops.Bound.TheVariants.{Unbounded};
 ghost use Rattle.salt_model.specs.Tables.{place_cmp};
 ghost use Rattle.salt_model.specs.Words.{first_of_list};
-ghost use Rattle.salt_ranges.specs.Ranges.{is_above_low};
 ghost use Rattle.salt_eval.specs.Views.{before_table, from_low, start_of, tables_of};
 
 use crate::view::{RowView, ViewErr};
 use salt_model::Place;
-use salt_ranges::KeyRange;
+use salt_ranges::{KeyRange, is_above_low};
 use salt_values::{Key, Row, TryCopy, Value};
 use std::alloc::{AllocError, Global};
 use std::collections::BTreeMap;
@@ -64,15 +63,6 @@ fn from_low(alloc: Global, table: u16, lo: &Option<Key>) -> Result<Bound<Place>,
             Ok(Bound::Included(Place { table, key }))
         }
         None => Ok(before_table(table)),
-    }
-}
-
-fn is_above_low(lo: &Option<Key>, key: &Key) -> bool
-    ensures { result ≡ is_above_low lo.now key.now }
-{
-    match lo {
-        Some(lo) => lo <= key,
-        None => true,
     }
 }
 

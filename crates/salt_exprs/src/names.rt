@@ -4,20 +4,14 @@ ghost use Rattle.std.specs.Prelude.{◌≡◌, IfOk, find, map, option_and_then,
 ghost use Rattle.std.specs.List.{position_from};
 ghost use Rattle.std.specs.Option.{option_copied};
 ghost use Rattle.salt_model.specs.Eval.{value_named};
-ghost use Rattle.salt_tokens.specs.Spelling.{same_bytes};
 ghost use Rattle.salt_exprs.specs.Names.{IsNumberOf, has_name, is_named};
 
 use salt_ast::Field;
 use salt_model::Binding;
+use salt_tokens::same_bytes;
 use salt_values::Value;
 use sqlite_items::{Items, at};
 use std::alloc::{AllocError, Global};
-
-fn same_bytes(a: &[u8], b: &[u8]) -> bool
-    ensures { result ≡ same_bytes a.now b.now }
-{
-    a == b
-}
 
 fn position_of(columns: &[Field], name: &[u8]) -> Option<usize>
     ensures { result ≡ position_from (has_name name.now) 0 columns.now }

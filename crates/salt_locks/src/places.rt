@@ -7,7 +7,7 @@ ghost use Rattle.std.specs.List.{filter, prefix_len};
 ghost use Rattle.std.specs.Prelude.{false, length, not, ◌≡◌, ◌≤◌};
 
 use salt_model::Lock;
-use salt_ranges::KeyRange;
+use salt_ranges::{KeyRange, ends_meet};
 use salt_values::Key;
 
 fn is_low_at_most(lo: &Option<Key>, other: &Option<Key>) -> bool
@@ -17,15 +17,6 @@ fn is_low_at_most(lo: &Option<Key>, other: &Option<Key>) -> bool
         (Some(lo), Some(other)) => lo <= other,
         (Some(_), None) => false,
         (None, _) => true,
-    }
-}
-
-fn ends_meet(lo: &Option<Key>, hi: &Option<Key>) -> bool
-    ensures { result ≡ ends_meet lo.now hi.now }
-{
-    match (lo, hi) {
-        (Some(lo), Some(hi)) => lo <= hi,
-        _ => true,
     }
 }
 

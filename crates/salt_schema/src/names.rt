@@ -9,6 +9,7 @@ ghost use Rattle.salt_schema.specs.Names.{variables};
 
 use crate::named::Named;
 use salt_ast::{Expr, Field, Scope};
+use salt_tokens::same_bytes;
 use salt_values::Name;
 
 /// The parameters and variables that expressions may name.
@@ -42,12 +43,6 @@ impl<'a> Bindings<'a> {
             vars: &[],
         }
     }
-}
-
-fn same_bytes(a: &[u8], b: &[u8]) -> bool
-    ensures { result ≡ same_bytes a.now b.now }
-{
-    a == b
 }
 
 /// Whether two names are one.

@@ -25,7 +25,7 @@ use crate::stops::armed_stops;
 use salt_ast::{LimitName, Line};
 use salt_model::Refusal;
 use salt_parse::{ParseErr, printable_symbols, program_in, table_in};
-use salt_tokens::{Lexeme, lexemes, one_row};
+use salt_tokens::{Lexeme, is_blank, lexemes, one_row};
 use salt_values::Id;
 use salt_values::limits::{LINE_MOST, SESSION_MOST};
 use std::alloc::Global;
@@ -134,12 +134,6 @@ fn read_tokens(alloc: Global, text: &[u8]) -> Result<Line, ParseErr>
     printable_symbols();
     let tokens = lexemes(alloc, text)?;
     line_in(alloc, tokens.as_slice())
-}
-
-fn is_blank(b: u8) -> bool
-    ensures { result ≡ is_blank b }
-{
-    b == b' ' || b == b'\t'
 }
 
 fn are_blank(bytes: &[u8]) -> bool

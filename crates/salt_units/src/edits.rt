@@ -5,11 +5,10 @@ ghost use Rattle.std.specs.Option.{option_copied};
 ghost use Rattle.salt_eval.specs.Views.{is_behind};
 ghost use Rattle.law_states.specs.Overlays.{AreInOrder, edits_of};
 ghost use Rattle.salt_model.specs.Tables.{changed_at, place, place_cmp};
-ghost use Rattle.salt_ranges.specs.Ranges.{is_above_low};
 ghost use Rattle.salt_units.specs.Edited.{is_change_at, is_next_change, is_passed, is_sooner};
 ghost use Rattle.salt_units.specs.Putting.{ArePassed, is_before};
 
-use salt_ranges::KeyRange;
+use salt_ranges::{KeyRange, is_above_low};
 use salt_values::{Change, Key, Row, TryCopy, Value};
 use sqlite_items::at;
 use std::alloc::{AllocError, Global};
@@ -58,15 +57,6 @@ pub fn change_at<'a>(changes: &'a [Change], table: u16, key: &Key) -> Option<&'a
             }
         }
         None => None,
-    }
-}
-
-fn is_above_low(lo: &Option<Key>, key: &Key) -> bool
-    ensures { result ≡ is_above_low lo.now key.now }
-{
-    match lo {
-        Some(lo) => lo <= key,
-        None => true,
     }
 }
 

@@ -4,11 +4,11 @@ ghost use Rattle.std.specs.List.{position_from};
 ghost use Rattle.std.specs.Prelude.{◌≡◌, IfOk};
 ghost use Rattle.salt_exprs.specs.Names.{is_named};
 ghost use Rattle.salt_model.specs.Statements.{set_var};
-ghost use Rattle.salt_tokens.specs.Spelling.{same_bytes};
 ghost use Rattle.salt_units.specs.Acting.{stored_by, stored_in, vars_with};
 
 use salt_ast::Statement;
 use salt_model::{Answer, Binding, Vars};
+use salt_tokens::same_bytes;
 use salt_values::{Name, TryCopy};
 use sqlite_items::Items;
 use std::alloc::{AllocError, Global};
@@ -42,12 +42,6 @@ pub fn stored_by(
         Statement::Delete { .. } => Ok(None),
         Statement::Ensure(_) => Ok(None),
     }
-}
-
-fn same_bytes(a: &[u8], b: &[u8]) -> bool
-    ensures { result ≡ same_bytes a.now b.now }
-{
-    a == b
 }
 
 fn position_of(vars: &[Binding], name: &[u8]) -> Option<usize>
