@@ -4,8 +4,9 @@ ghost use Rattle.salt_locks.specs.Tables.{owners_against};
 ghost use Rattle.salt_model.specs.Locks.{clashes, is_clash, is_read};
 ghost use Rattle.std.specs.Prelude.{IfOk, ◌≡◌};
 
-use crate::owners::{insert_id, is_same_owner, joined};
+use crate::owners::{is_same_owner, joined};
 use salt_model::{Family, Lock, Mode, Owner, Owners, Reach};
+use salt_values::insert_id;
 use std::alloc::{AllocError, Global};
 
 fn is_read(mode: Mode) -> bool

@@ -1,26 +1,12 @@
 //! Owners of locks, each once and in order.
 
 ghost use Rattle.salt_model.specs.Locks.{is_same_owner};
-ghost use Rattle.salt_values.specs.Id.{insert_id};
 ghost use Rattle.salt_model.specs.declared.events.Owner.{Owner};
-ghost use Rattle.salt_values.specs.Id.{is_older, is_same_id};
 ghost use Rattle.std.specs.Prelude.{IfOk, OnOk, map, ◌++◌, ◌≡◌};
 
 use salt_model::{Owner, Owners};
-use salt_values::Id;
+use salt_values::{Id, is_same_id};
 use std::alloc::{AllocError, Global};
-
-fn is_same_id(left: Id, right: Id) -> bool
-    ensures { result ≡ is_same_id left right }
-{
-    left.boot == right.boot && left.seq == right.seq
-}
-
-fn is_older(left: Id, right: Id) -> bool
-    ensures { result ≡ is_older left right }
-{
-    left.boot < right.boot || (left.boot == right.boot && left.seq < right.seq)
-}
 
 /// Whether both are one unit, or both one program.
 pub fn is_same_owner(left: Owner, right: Owner) -> bool
@@ -31,25 +17,6 @@ pub fn is_same_owner(left: Owner, right: Owner) -> bool
         (Owner::Base(base), Owner::Base(other)) => is_same_id(base, other),
         _ => false,
     }
-}
-
-/// Puts a name into names in their order, once.
-pub fn insert_id(ids: &mut Vec<Id>, id: Id) -> Result<(), AllocError>
-    ensures { OnOk result (ids.new.items ≡ insert_id id ids.old.items) }
-{
-    let mut at = 0;
-    while at < ids.len() {
-        let here = ids[at];
-        if is_older(id, here) {
-            break;
-        }
-        if is_same_id(id, here) {
-            return Ok(());
-        }
-        at += 1;
-    }
-    ids.insert(at, id)?;
-    Ok(())
 }
 
 fn add_units(owners: &mut Owners, units: &[Id]) -> Result<(), AllocError>
