@@ -6,7 +6,7 @@ ghost use Rattle.salt_values.specs.Id.{is_same_id};
 ghost use Rattle.salt_values.specs.declared.cont.Cont.{Cont};
 ghost use Rattle.std.specs.List.{find};
 ghost use Rattle.std.specs.Option.{option_copied};
-ghost use Rattle.std.specs.Prelude.{IfOk, List, OnOk, Some, is_some, ◌≡◌};
+ghost use Rattle.std.specs.Prelude.{List, OnOk, Some, is_some, ◌≡◌};
 
 use salt_cont::Move;
 use salt_values::{Cont, Conts, Id, TryCopy, is_same_id};
@@ -25,20 +25,6 @@ fn has_cont(conts: &[Cont], base: Id) -> bool
     cont_in(conts, base).is_some()
 }
 
-fn copy_cont(alloc: Global, cont: &Cont) -> Result<Cont, AllocError>
-    ensures { IfOk result (λ copy. copy ≡ cont.now) }
-{
-    Ok(Cont {
-        base: cont.base,
-        accepted: cont.accepted,
-        program: cont.program.copy(alloc)?,
-        args: cont.args.copy(alloc)?,
-        vars: cont.vars.copy(alloc)?,
-        next: cont.next,
-        tries: cont.tries,
-    })
-}
-
 /// Puts a continuation in the place of each one of its program.
 fn replace_cont(alloc: Global, conts: &mut Conts, cont: &Cont) -> Result<(), AllocError>
     ensures { OnOk result (conts.new ≡ replace_cont cont.now conts.old) }
@@ -46,7 +32,7 @@ fn replace_cont(alloc: Global, conts: &mut Conts, cont: &Cont) -> Result<(), All
     let mut at = 0;
     while at < conts.len() {
         if is_same_id(cont.base, conts.as_slice()[at].base) {
-            conts.set(at, copy_cont(alloc, cont)?);
+            conts.set(at, cont.copy(alloc)?);
         }
         at += 1;
     }

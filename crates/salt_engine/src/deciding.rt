@@ -25,7 +25,7 @@ use salt_disk::Disks;
 use salt_eval::Tables;
 use salt_place::{PlaceKind, Placement};
 use salt_storage::{Halt, Storage};
-use salt_values::{Change, Changes, Id, Key, TryCopy};
+use salt_values::{Changes, Id, Key, copies};
 use sqlite_items::Items;
 use std::alloc::{AllocError, Global};
 
@@ -63,36 +63,12 @@ pub fn load<S: Storage, D: Disks, F: Fn(PlaceKind, &Key, u32) -> u32>(
     }
 }
 
-fn change_copied(alloc: Global, change: &Change) -> Result<Change, AllocError>
-    ensures { IfOk result (λ copy. copy ≡ change.now) }
-{
-    Ok(Change {
-        table: change.table,
-        key: change.key.copy(alloc)?,
-        row: match &change.row {
-            Some(row) => Some(row.copy(alloc)?),
-            None => None,
-        },
-    })
-}
-
-/// A copy of changes.
-fn changes_copied(alloc: Global, changes: &[Change]) -> Result<Changes, AllocError>
-    ensures { IfOk result (λ copies. copies ≡ changes.now) }
-{
-    let mut copies = Items::new(alloc);
-    for change in changes {
-        copies.push(change_copied(alloc, change)?)?;
-    }
-    Ok(copies)
-}
-
 /// The changes of an open unit.
 fn changes_of(alloc: Global, books: &Books, unit: Id) -> Result<Changes, AllocError>
     ensures { IfOk result (λ changes. (s : UnitState) (o : OpenUnit) → AreBooks books.now s → unit_named unit s.units ≡ Some o → changes ≡ map change_of o.changes) }
 {
     match books.unit_named(unit) {
-        Some(held) => changes_copied(alloc, held.open.changes()),
+        Some(held) => copies(alloc, held.open.changes()),
         None => Ok(Items::new(alloc)),
     }
 }

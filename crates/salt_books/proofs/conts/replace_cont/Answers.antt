@@ -1,6 +1,6 @@
 use Rattle.salt_books.proofs.Replaced.{replaced-all, replaced-at, replaced-length, replaced-other, replaced-same, replaced_to}
 use Rattle.salt_books.proofs.conts.replace_cont.Goals as goal
-use Rattle.salt_books.proofs.conts.replace_cont.Goals.{else-is_same_id, then-is_same_id+in_ok-copy_cont}
+use Rattle.salt_books.proofs.conts.replace_cont.Goals.{else-is_same_id, then-is_same_id+in_ok-copy}
 use Rattle.salt_values.specs.Id.{is_same_id}
 use Rattle.salt_values.specs.declared.cont.Cont.{Cont}
 use Rattle.std.proofs.Common.{ap, arith, length, set, suc, sym, get_or, ◌+◌, ◌<◌, ◌≡◌, ◌∙◌}
@@ -27,7 +27,7 @@ loop-at-preserved c =
     record {
       within = omega (arith, within);
       so_far = elim c.if-is_same_id.branch [
-        | then-is_same_id+in_ok-copy_cont w ↦ w.conts-is ∙ w.set.ensures ∙ (λ i. set (so_far i) at (w.in_ok-copy_cont.ensures i))
+        | then-is_same_id+in_ok-copy w ↦ w.conts-is ∙ w.set.ensures ∙ (λ i. set (so_far i) at (w.in_ok-copy.ensures i))
             ∙ replaced-same cont at old one within (sym test ∙ w.if-is_same_id.true) ∙ ap (λ n. replaced_to cont n old) more
         | else-is_same_id w ↦ w.conts-is ∙ so_far ∙ replaced-other cont at old one within (sym test ∙ w.if-is_same_id.false) ∙ ap (λ n. replaced_to cont n old) more
       ];

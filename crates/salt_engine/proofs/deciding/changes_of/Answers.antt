@@ -8,7 +8,7 @@ use Rattle.std.proofs.lemmas.Result.{IfOk-weaker}
 use Rattle.std.specs.Prelude.{Some, map, ◌≡◌}
 
 pub returns-in-Some : goal.returns-in-Some
-returns-in-Some c = IfOk-weaker c.changes_copied.result _ _ (λ copies same s o books named.
+returns-in-Some c = IfOk-weaker c.copies.result _ _ (λ copies same s o books named.
     let both : Some (seen c.in-Some.held.now) ≡ Some o = c.in-Some.ensures s books ∙ named in
     let is : seen c.in-Some.held.now ≡ o = cc in
-    same ∙ c.changes.ensures.changes ∙ sym (changes-back c.in-Some.held.now.open.changes.items) ∙ ap (λ (p : OpenUnit). map change_of p.changes) is) c.changes_copied.ensures
+    same ∙ c.changes.ensures.changes ∙ sym (changes-back c.in-Some.held.now.open.changes.items) ∙ ap (λ (p : OpenUnit). map change_of p.changes) is) c.copies.ensures
