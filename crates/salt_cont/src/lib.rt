@@ -13,3 +13,4 @@ pub use places::advance;
 pub use rests::rest;
 pub use salt_bytes::Move;
 pub use salt_values::Cont;
+pub use ways::{at_number, parts_of};

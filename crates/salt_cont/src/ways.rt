@@ -4,20 +4,30 @@ ghost use Rattle.std.specs.Prelude.{◌≡◌, ◌<◌, ◌^◌};
 ghost use Rattle.std.specs.Option.{option_copied};
 ghost use Rattle.salt_ast.specs.Paths as paths;
 ghost use Rattle.salt_cont.specs.Moves.{parts_named};
+ghost use Rattle.salt_model.specs.Kept.{parts_of};
+ghost use Rattle.salt_program.specs.Refusals.{parts_in};
 
-use salt_ast::{Body, Next, PartDef};
+use salt_ast::{Body, Next, PartDef, ProgramDef};
 use salt_program::Catalogue;
 use salt_values::Name;
+
+/// The parts of a program: none where it is one ACID unit.
+pub fn parts_of(def: &ProgramDef) -> &[PartDef]
+    ensures parts { result.now ≡ parts_of def.now }
+    ensures body { result.now ≡ parts_in def.now.body }
+{
+    match &def.body {
+        Body::Acid(_) => &[],
+        Body::Base(parts) => parts.as_slice(),
+    }
+}
 
 /// The parts of the program of this name: none where no program has it, or the program has none.
 pub fn parts_named<'a>(catalogue: &'a Catalogue, name: &Name) -> &'a [PartDef]
     ensures { result.now ≡ parts_named catalogue.now name.now }
 {
     match catalogue.find(name) {
-        Some(def) => match &def.body {
-            Body::Acid(_) => &[],
-            Body::Base(parts) => parts.as_slice(),
-        },
+        Some(def) => parts_of(def),
         None => &[],
     }
 }

@@ -1,52 +1,17 @@
 //! Whether a continuation is one that a program may have.
 
-ghost use Rattle.salt_ast.specs.Paths.{at_number, retries};
-ghost use Rattle.salt_ast.specs.ProgramJudgement.{are_arguments, program_named};
+ghost use Rattle.salt_ast.specs.Paths.{retries};
+ghost use Rattle.salt_ast.specs.ProgramJudgement.{program_named};
 ghost use Rattle.salt_stands.specs.Fitting.{is_cont_of, stands_at_part};
 ghost use Rattle.salt_found.specs.Conts.{fits_kept};
-ghost use Rattle.salt_model.specs.Kept.{parts_of};
 ghost use Rattle.std.specs.Option.{option_copied};
 ghost use Rattle.std.specs.Prelude.{Some, is_some, nat_le, ◌&&◌, ◌≡◌};
 
-use salt_ast::{Body, Field, PartDef, ProgramDef};
+use salt_ast::{PartDef, ProgramDef};
+use salt_cont::{at_number, parts_of};
 use salt_decisions::Kept;
-use salt_program::Catalogue;
-use salt_schema::{same_types, value_type};
-use salt_values::{Cont, Value};
-
-/// As many values as fields, each of its field's type.
-fn are_arguments(fields: &[Field], values: &[Value]) -> bool
-    ensures { result ≡ are_arguments fields.now values.now }
-{
-    if fields.len() != values.len() {
-        return false;
-    }
-    for (at, value) in values.iter().enumerate() {
-        if !same_types(Some(fields[at].kind), value_type(value)) {
-            return false;
-        }
-    }
-    true
-}
-
-fn parts_of(def: &ProgramDef) -> &[PartDef]
-    ensures { result.now ≡ parts_of def.now }
-{
-    match &def.body {
-        Body::Acid(_) => &[],
-        Body::Base(parts) => parts.as_slice(),
-    }
-}
-
-/// The part of this number, where the first is 1.
-fn part_at(parts: &[PartDef], number: u32) -> Option<&PartDef>
-    ensures { option_copied result ≡ at_number number parts.now }
-{
-    if number == 0 {
-        return None;
-    }
-    parts.get((number - 1) as usize)
-}
+use salt_program::{Catalogue, are_arguments};
+use salt_values::Cont;
 
 /// Whether there is a part that may be tried again so often.
 fn may_be_tried(part: Option<&PartDef>, tries: u8) -> bool
@@ -62,7 +27,7 @@ fn may_be_tried(part: Option<&PartDef>, tries: u8) -> bool
 fn stands_at_part(def: &ProgramDef, part: u32, tries: u8) -> bool
     ensures { result ≡ stands_at_part def.now part tries }
 {
-    1 < part && may_be_tried(part_at(parts_of(def), part), tries)
+    1 < part && may_be_tried(at_number(parts_of(def), part as u64), tries)
 }
 
 fn is_cont_of(def: &ProgramDef, cont: &Cont) -> bool

@@ -39,7 +39,7 @@ impl Model for Catalogue {
 }
 
 /// As many values as fields, each of its field's type. NULL has no type.
-fn are_arguments(params: &[Field], args: &[Value]) -> bool
+pub fn are_arguments(params: &[Field], args: &[Value]) -> bool
     ensures { result ≡ are_arguments params.now args.now }
 {
     if params.len() != args.len() {

@@ -7,5 +7,5 @@ mod error;
 mod refusal;
 mod statements;
 
-pub use catalogue::Catalogue;
+pub use catalogue::{Catalogue, are_arguments};
 pub use error::DefineErr;
