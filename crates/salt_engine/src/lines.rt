@@ -14,7 +14,6 @@ ghost use Rattle.law_states.specs.OpenUnits.{UnitState};
 ghost use Rattle.law_states.specs.States.{State, asked_of};
 ghost use Rattle.law_states.specs.Told.{line_in};
 ghost use Rattle.salt_model.specs.Trace.{Tree};
-ghost use Rattle.salt_model.specs.Turns.{is_statement_line};
 ghost use Rattle.salt_model.specs.Words.{Every};
 ghost use Rattle.salt_model.specs.declared.events.Event.TheVariants.{Refused};
 ghost use Rattle.salt_model.specs.declared.events.Refusal.{Refusal};
@@ -29,7 +28,7 @@ use crate::engine::Engine;
 use crate::flights::InFlight;
 use crate::stage::Stage;
 use law_decisions::definitions_may_be_kept;
-use salt_ast::{Act, Line, Pairs};
+use salt_ast::{Line, Pairs};
 use salt_books::{program_text, table_text};
 use salt_disk::Disks;
 use salt_model::{Event, Refusal};
@@ -39,19 +38,6 @@ use salt_storage::{Halt, Storage};
 use salt_values::{Key, TryCopy};
 use sqlite_items::Items;
 use std::alloc::{AllocError, Global};
-
-/// Whether a line is one statement.
-pub fn is_statement_line(line: &Line) -> bool
-    ensures { result ≡ is_statement_line line.now }
-{
-    match line {
-        Line::Session { act, .. } => match act {
-            Act::Do(_) => true,
-            _ => false,
-        },
-        _ => false,
-    }
-}
 
 /// What a line asks of the storage that defines something.
 fn definition_of(alloc: Global, line: &Line) -> Result<InFlight, AllocError>

@@ -13,7 +13,6 @@ ghost use Rattle.salt_place.specs.Placement.{GivesPlaceOf, TakesEachKey};
 ghost use Rattle.std.specs.Prelude.{IfErr, None, OnOk, ◌≡◌};
 
 use crate::engine::Engine;
-use crate::lines::is_statement_line;
 use crate::stage::Stage;
 use law_decisions::read_lines_are_spelled;
 use salt_ast::Line;
@@ -21,6 +20,7 @@ use salt_disk::Disks;
 use salt_driver::Stepping;
 use salt_model::{Event, Refusal, Story};
 use salt_place::{PlaceKind, Placement};
+use salt_scheduler::is_statement_line;
 use salt_storage::{Halt, Storage};
 use salt_values::{Id, Key};
 use std::mem;

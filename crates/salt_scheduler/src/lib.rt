@@ -20,4 +20,5 @@ mod shows;
 mod turns;
 
 pub use judge::line_refusal;
+pub use kinds::is_statement_line;
 pub use scheduler::Scheduler;
