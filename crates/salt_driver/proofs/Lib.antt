@@ -6,3 +6,4 @@ pub mod Draining
 pub mod Falling
 pub mod AtFirst
 pub mod Refusing
+pub mod RefusedAlone

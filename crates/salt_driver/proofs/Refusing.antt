@@ -229,7 +229,7 @@ serving-none trace Ready = refl
 serving-none trace e = else-none (follow trace e) (settle trace) (follow-none trace e) (settle-none trace)
 
 -- so it is of a line that was asked just now
-refused-asked : (trace : Trace) (r : Refusal) → phase trace ≡ Serving → next trace ≡ Some (Refused r) → (before : Trace) × (asked : Asked) × (trace ≡ before asks asked)
+pub refused-asked : (trace : Trace) (r : Refusal) → phase trace ≡ Serving → next trace ≡ Some (Refused r) → (before : Trace) × (asked : Asked) × (trace ≡ before asks asked)
 refused-asked (from k) r serves comes = cc
 refused-asked (trace asks asked) r serves comes = (trace, asked, refl)
 refused-asked (trace turns b) r serves comes = let no : true ≡ false = ap is_refusal (sym comes) ∙ go-none (trace turns b) b in cc

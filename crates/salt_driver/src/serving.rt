@@ -2,6 +2,8 @@
 
 ghost use Rattle.law_states.specs.Points.{Point};
 ghost use Rattle.salt_model.specs.Trace.{Rejected, Start, Trace, Tree};
+ghost use Rattle.salt_model.specs.declared.events.Event.TheVariants.{Refused};
+ghost use Rattle.salt_model.specs.declared.events.Refusal.{Refusal};
 ghost use Rattle.salt_driver.specs.Counting.{CountsMore};
 ghost use Rattle.salt_driver.specs.Serving.{BreaksOff, GoesOn, Serves};
 ghost use Rattle.salt_driver.specs.Standing.{Advances, Finishes, IsAt, IsSoundPoint, StopsWithin};
@@ -9,7 +11,7 @@ ghost use Rattle.salt_storage.specs.Answers.{disk_err};
 ghost use Rattle.salt_storage.specs.Staying.{StaysWithin};
 ghost use Rattle.law_types.specs.Played.{HasKey};
 ghost use Rattle.salt_place.specs.Placement.{GivesPlaceOf, TakesEachKey};
-ghost use Rattle.std.specs.Prelude.{IfErr, None, OnOk, ◌≡◌};
+ghost use Rattle.std.specs.Prelude.{IfErr, None, OnOk, Some, [], ◌++◌, ◌∷◌, ◌≡◌};
 
 use crate::engine::Stepping;
 use salt_ast::Line;
@@ -36,6 +38,7 @@ fn settle<E: Stepping, D: Disks, F: Fn(PlaceKind, &Key, u32) -> u32>(
     ensures err { IfErr result (λ halt. (p : Point) → IsSoundPoint p → IsAt (E.sees (D.view disks.old)) line.now engine.old first p →
         StopsWithin (E.lies (D.view disks.new) engine.new 0) (E.left (D.view disks.new) engine.new None 0) (E.fills (D.view disks.new) engine.new) (E.flight engine.new) halt p story.old story.new) }
     ensures turns { OnOk result (E.turns engine.new ≡ E.turns engine.old) }
+    ensures refused { (refusal : Refusal) → first ≡ Some (Refused refusal) → disks.new ≡ disks.old }
     ensures within { StaysWithin (E.asked engine.old) (E.asked engine.new) (D.view disks.old) (D.view disks.new) }
     ensures counts { CountsMore (D.view disks.old) (D.view disks.new) (disk_err result) first story.old story.new }
 {
@@ -62,6 +65,8 @@ fn finish<E: Stepping, D: Disks, F: Fn(PlaceKind, &Key, u32) -> u32>(
         Finishes (E.sees (D.view disks.new)) line.now p story.old engine.new story.new) }
     ensures err { IfErr result (λ halt. (p : Point) → IsSoundPoint p → IsAt (E.sees (D.view disks.old)) line.now engine.old first p →
         StopsWithin (E.lies (D.view disks.new) engine.new 0) (E.left (D.view disks.new) engine.new None 0) (E.fills (D.view disks.new) engine.new) (E.flight engine.new) halt p story.old story.new) }
+    ensures refused { (refusal : Refusal) (p : Point) → IsSoundPoint p → IsAt (E.sees (D.view disks.old)) line.now engine.old first p →
+        p.state.units.to_go ≡ [] → first ≡ Some (Refused refusal) → disks.new ≡ disks.old }
     ensures within { StaysWithin (E.asked engine.old) (E.asked engine.new) (D.view disks.old) (D.view disks.new) }
     ensures counts { CountsMore (D.view disks.old) (D.view disks.new) (disk_err result) first story.old story.new }
 {
@@ -74,7 +79,7 @@ fn finish<E: Stepping, D: Disks, F: Fn(PlaceKind, &Key, u32) -> u32>(
 }
 
 /// Does a line: the trace of the engine and the story goes on by it and its whole segment. An error leaves a story that has gained a
-/// front of this segment, and an engine that is to be opened anew.
+/// front of this segment, and an engine that is to be opened anew. Where the line is refused, no device is called.
 pub fn step<E: Stepping, D: Disks, F: Fn(PlaceKind, &Key, u32) -> u32>(
     engine: &mut E,
     disks: &mut D,
@@ -89,6 +94,7 @@ pub fn step<E: Stepping, D: Disks, F: Fn(PlaceKind, &Key, u32) -> u32>(
     requires stands { (start : Start) × (trace : Trace) × Serves (E.sees (D.view disks.old)) start engine.old story.old trace }
     ensures segment { OnOk result (GoesOn (E.sees (D.view disks.old)) (E.sees (D.view disks.new)) engine.old story.old (Tree line.now) engine.new story.new) }
     ensures broken_off { IfErr result (λ halt. BreaksOff (E.sees (D.view disks.old)) (E.lies (D.view disks.new) engine.new 0) (E.left (D.view disks.new) engine.new None 0) (E.fills (D.view disks.new) engine.new) (E.flight engine.new) halt engine.old story.old (Tree line.now) story.new) }
+    ensures refused { (refusal : Refusal) → story.new ≡ story.old ++ Refused refusal ∷ [] → disks.new ≡ disks.old }
     ensures within { StaysWithin (E.asked engine.old) (E.asked engine.new) (D.view disks.old) (D.view disks.new) }
     ensures counts { CountsMore (D.view disks.old) (D.view disks.new) (disk_err result) None story.old story.new }
 {

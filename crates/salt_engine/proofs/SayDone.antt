@@ -17,7 +17,6 @@ use Rattle.law_states.proofs.SettlingEnds.{to-come-falls}
 use Rattle.law_states.specs.Points.{Moves, Point, Say}
 use Rattle.law_states.specs.Settling.{to_come, waiters}
 use Rattle.law_states.specs.States.{State}
-use Rattle.salt_engine.proofs.Waiting.{to-go-stays}
 use Rattle.law_states.specs.OpenUnits.{UnitState}
 use Rattle.salt_model.specs.Kept.{Kept}
 use Rattle.salt_model.specs.Next.{decision_in}
@@ -30,6 +29,7 @@ use Rattle.salt_scheduler.proofs.Following.{not-of-run}
 use Rattle.salt_scheduler.specs.Standing.{HasDone}
 use Rattle.salt_scheduler.specs.declared.scheduler.Scheduler.{Scheduler}
 use Rattle.salt_driver.proofs.Advancing.{sound-moved}
+use Rattle.salt_driver.proofs.RefusedAlone.{to-go-stays}
 use Rattle.salt_driver.proofs.Refusing.{refused-rests}
 use Rattle.salt_driver.specs.Standing.{BreaksAt, IsAt, IsSoundPoint, left_to_come}
 use Rattle.salt_storage.specs.Storing.{IsSoundKept}

@@ -1,40 +1,28 @@
 -- The units that wait, and the programs to which `go all` has still to turn, are those of the engine's point.
 use Rattle.salt_engine.specs.Standing.{waits_in}
 use Rattle.salt_engine.specs.declared.stage.Stage.TheVariants.{Going}
-use Rattle.law_states.specs.Laws.{is_of_run}
 use Rattle.law_states.specs.KeptWaits.{Asker, asker}
 use Rattle.law_states.specs.OpenUnits.{UnitState}
 use Rattle.law_states.specs.Settling.{stage, to_come, waiters, waiters_after}
 use Rattle.law_states.specs.States.{Keeps, State}
-use Rattle.law_states.specs.Steps.{units_after}
 use Rattle.law_states.specs.Watches.{Watch}
 use Rattle.salt_model.specs.Trace.{Trace, ◌says◌}
 use Rattle.salt_model.specs.Units.{wait_list}
-use Rattle.salt_model.specs.declared.events.Event.TheVariants.{Began, Defined, Did, Down, Ended, Opened, Ready, Waits}
+use Rattle.salt_model.specs.declared.events.Event.TheVariants.{Did, Ended, Waits}
 use Rattle.salt_model.specs.declared.events.Event.{Event}
 use Rattle.salt_scheduler.proofs.Following.{not-of-run}
 use Rattle.salt_scheduler.specs.Standing.{HasDone, StandsBehind, watched_by}
 use Rattle.salt_scheduler.specs.declared.follow.Follow.TheVariants.{Release}
 use Rattle.salt_scheduler.specs.declared.follow.Follow.{Follow}
 use Rattle.salt_scheduler.specs.declared.scheduler.Scheduler.{Scheduler}
+use Rattle.salt_driver.proofs.RefusedAlone.{to-go-stays}
 use Rattle.salt_driver.specs.Standing.{left_to_come}
 use Rattle.salt_values.specs.declared.id.Id.{Id}
 use Rattle.salt_conflicts.specs.Waiters.{waiter_of}
 use Rattle.salt_conflicts.specs.declared.waiters.Waiter.{Waiter}
 use Rattle.salt_conflicts.specs.declared.watching.Watching.{Watching}
 use Rattle.std.proofs.Common.{ap, sym, ◌∙◌}
-use Rattle.std.specs.Prelude.{List, Some, [], false, length, map, refl, ◌*◌, ◌+◌, ◌∷◌, ◌≡◌}
-
-pub to-go-stays : (e : Event) (s : UnitState) → is_of_run e ≡ false → (units_after e s).to_go ≡ s.to_go
-to-go-stays (Began u kind) s h = refl
-to-go-stays (Did u st answer) s h = refl
-to-go-stays (Waits u owners) s h = refl
-to-go-stays (Ended u end) s h = refl
-to-go-stays (Defined n text) s h = refl
-to-go-stays (Down why) s h = cc
-to-go-stays (Opened boot n) s h = cc
-to-go-stays Ready s h = refl
-to-go-stays e s h = refl
+use Rattle.std.specs.Prelude.{List, Some, [], length, map, refl, ◌*◌, ◌+◌, ◌∷◌, ◌≡◌}
 
 -- behind the event at hand it goes where it went before
 pub goes-behind : (x : Scheduler) (e : Event) (s t : State) → HasDone x e s t → x.books.to_go.items ≡ s.units.to_go

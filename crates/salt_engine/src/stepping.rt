@@ -4,13 +4,15 @@ ghost use Rattle.salt_engine.specs.Flights.{flight_of};
 ghost use Rattle.salt_engine.specs.Performing.{IsServed};
 ghost use Rattle.salt_engine.specs.Standing.{goes_in, waits_in};
 ghost use Rattle.salt_model.specs.Trace.{Start, Trace, Tree};
+ghost use Rattle.salt_model.specs.declared.events.Event.TheVariants.{Refused};
+ghost use Rattle.salt_model.specs.declared.events.Refusal.{Refusal};
 ghost use Rattle.salt_driver.specs.Counting.{CountsMore};
 ghost use Rattle.salt_driver.specs.Serving.{BreaksOff, GoesOn, Serves};
 ghost use Rattle.salt_storage.specs.Answers.{disk_err};
 ghost use Rattle.law_types.specs.Played.{HasKey};
 ghost use Rattle.salt_storage.specs.Staying.{StaysWithin};
 ghost use Rattle.salt_place.specs.Placement.{GivesPlaceOf, TakesEachKey};
-ghost use Rattle.std.specs.Prelude.{IfErr, None, OnOk, ◌≡◌};
+ghost use Rattle.std.specs.Prelude.{IfErr, None, OnOk, [], ◌++◌, ◌∷◌, ◌≡◌};
 
 use crate::engine::Engine;
 use crate::stage::Stage;
@@ -111,7 +113,7 @@ impl<S: Storage + Drop> Stepping for Engine<S> {
 
 impl<S: Storage + Drop> Engine<S> {
     /// Does a line: the trace of the engine and the story goes on by it and its whole segment. An error leaves a story that has gained
-    /// a front of this segment, and an engine that is to be given up.
+    /// a front of this segment, and an engine that is to be given up. Where the line is refused, no device is called.
     pub fn step<D: Disks, F: Fn(PlaceKind, &Key, u32) -> u32>(
         &mut self,
         disks: &mut D,
@@ -127,6 +129,7 @@ impl<S: Storage + Drop> Engine<S> {
         ensures segment { OnOk result (GoesOn (⟦<Engine<S> as Stepping>⟧.sees (D.view disks.old)) (⟦<Engine<S> as Stepping>⟧.sees (D.view disks.new)) self.old story.old (Tree line.now) self.new story.new) }
         ensures broken_off { IfErr result (λ halt. BreaksOff (⟦<Engine<S> as Stepping>⟧.sees (D.view disks.old)) (⟦<Engine<S> as Stepping>⟧.lies (D.view disks.new) self.new 0)
             (⟦<Engine<S> as Stepping>⟧.left (D.view disks.new) self.new None 0) (⟦<Engine<S> as Stepping>⟧.fills (D.view disks.new) self.new) (flight_of self.new.in_flight) halt self.old story.old (Tree line.now) story.new) }
+        ensures refused { (refusal : Refusal) → story.new ≡ story.old ++ Refused refusal ∷ [] → disks.new ≡ disks.old }
         ensures within { StaysWithin (S.asked self.old.storage) (S.asked self.new.storage) (D.view disks.old) (D.view disks.new) }
         ensures counts { CountsMore (D.view disks.old) (D.view disks.new) (disk_err result) None story.old story.new }
     {

@@ -3,6 +3,8 @@
 ghost use Rattle.salt_ast.specs.declared.lines.Line.{Line};
 ghost use Rattle.salt_io.specs.Streams.{Rose};
 ghost use Rattle.salt_model.specs.Trace.{Start, Trace};
+ghost use Rattle.salt_model.specs.declared.events.Event.TheVariants.{Refused};
+ghost use Rattle.salt_model.specs.declared.events.Refusal.{Refusal};
 ghost use Rattle.salt_loop.specs.Counted.{CountsAdded, CountsResumed};
 ghost use Rattle.salt_loop.specs.Serving.{BreaksIn, Continues, EndsBehind, EndsIn, EndsTelling, IsAskable, IsToldLine};
 ghost use Rattle.salt_loop.specs.Stopping.{IsLaterStop, IsOfLine, answer_of, outcome};
@@ -15,7 +17,7 @@ ghost use Rattle.salt_storage.specs.Staying.{StaysWithin};
 ghost use Rattle.salt_storage.specs.declared.halt.Halt.TheVariants.{Memory};
 ghost use Rattle.salt_place.specs.Placement.{GivesPlaceOf, TakesEachKey};
 ghost use Rattle.std.specs.Option.{option_copied};
-ghost use Rattle.std.specs.Prelude.{Err, IfErr, None, OnOk, ◌≡◌, ◌≢◌, ◌≤◌};
+ghost use Rattle.std.specs.Prelude.{Err, IfErr, None, OnOk, [], ◌++◌, ◌∷◌, ◌≡◌, ◌≢◌, ◌≤◌};
 
 use crate::stop::{Stop, stop_opening};
 use crate::telling::write_done;
@@ -30,7 +32,7 @@ use salt_storage::Halt;
 use salt_values::Key;
 use std::alloc::Global;
 
-/// Asks a line: of this text, or, where there is none, one that is too long.
+/// Asks a line: of this text, or, where there is none, one that is too long. Where it is refused, no device is called.
 fn ask_line<E: Openable, D: Disks, F: Fn(PlaceKind, &Key, u32) -> u32>(
     alloc: Global,
     database: &mut E,
@@ -48,6 +50,7 @@ fn ask_line<E: Openable, D: Disks, F: Fn(PlaceKind, &Key, u32) -> u32>(
     ensures err { IfErr result (λ halt. (start : Start) (trace : Trace) → Serves (E.sees (D.view disks.old)) start database.old story.old trace →
         BreaksIn (E.lies (D.view disks.new) database.new 0) (E.left (D.view disks.new) database.new None 0) (E.fills (D.view disks.new) database.new) (E.flight database.new) halt start
         trace (option_copied text.entry) story.old story.new) }
+    ensures refused { (refusal : Refusal) → story.new ≡ story.old ++ Refused refusal ∷ [] → disks.new ≡ disks.old }
     ensures within { StaysWithin (E.asked database.old) (E.asked database.new) (D.view disks.old) (D.view disks.new) }
     ensures counts { CountsMore (D.view disks.old) (D.view disks.new) (disk_err result) None story.old story.new }
 {

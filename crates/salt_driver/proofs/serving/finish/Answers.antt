@@ -2,6 +2,7 @@ use Rattle.std.proofs.lemmas.Result.{err_from_is_err_and}
 use Rattle.law_states.specs.Points.{Turn}
 use Rattle.salt_driver.proofs.Advancing.{finish-where, none-of, sound-moved, sound-on, stop-turned, stop-turning, turn-on}
 use Rattle.salt_driver.proofs.Counted.{count-all, count-join, count-short, count-so-far, count-turn}
+use Rattle.salt_driver.proofs.RefusedAlone.{turned-to-none}
 use Rattle.salt_driver.proofs.serving.finish.Goals as goal
 use Rattle.salt_storage.proofs.Staying.{stays-behind}
 use Rattle.std.proofs.Common.{ap, subst, sym, ◌∙◌}
@@ -15,6 +16,7 @@ loop-base-init g c = (
   c.in_ok-settle.ensures.ok,
   count-so-far (g.D.Disks.view c.args.disks.now) (g.D.Disks.view c.settle.new.disks) c.args.first c.args.story.now c.settle.new.story c.in_ok-settle.ensures.counts,
   c.in_ok-settle.ensures.within,
+  λ r p sound at none is. c.in_ok-settle.ensures.refused r is,
 )
 
 pub turn-requires-clause-stands : goal.turn-requires-clause-stands
@@ -49,6 +51,10 @@ loop-base-preserved g c =
           (count-turn (view c.args.disks.now) (view c.loop-base.disks) (view c.turn.new.disks) c.args.first c.args.story.now c.loop-base.story c.in_ok-next.next known.1 c.in_ok-next.ensures.counts)
           c.in_ok-settle-2.ensures.counts),
       stays-behind (stays-behind known.2 c.in_ok-next.ensures.within) c.in_ok-settle-2.ensures.within,
+      λ r p starts at none is.
+          let here = known.0 p starts at in
+          let sound = sound-on here.moves p here.point starts here.inside here.runs in
+          absurd (turned-to-none here.moves p here.point c.next_turn.result c.in-Some.base here.inside here.runs none (c.next_turn.ensures here.point sound here.stands.state) c.in-Some.is),
     )
 
 pub returns-clause-ok : goal.returns-clause-ok
@@ -62,6 +68,24 @@ pub returns-clause-counts : goal.returns-clause-counts
 returns-clause-counts g c =
     let view = g.D.Disks.view in
     count-all (view c.args.disks.now) (view c.loop-base.disks) c.args.first c.args.story.now c.loop-base.story c.loop-base.invariant.1
+
+pub returns-clause-refused : goal.returns-clause-refused
+returns-clause-refused g c = c.loop-base.invariant.3
+
+pub returns-in_err-settle-clause-refused : goal.returns-in_err-settle-clause-refused
+returns-in_err-settle-clause-refused g c = λ r p sound at none is. c.in_err-settle.ensures.refused r is
+
+pub returns-in_err-next-clause-refused : goal.returns-in_err-next-clause-refused
+returns-in_err-next-clause-refused g c = λ r p starts at none is.
+    let here = c.loop-base.invariant.0 p starts at in
+    let sound = sound-on here.moves p here.point starts here.inside here.runs in
+    absurd (turned-to-none here.moves p here.point c.next_turn.result c.in-Some.base here.inside here.runs none (c.next_turn.ensures here.point sound here.stands.state) c.in-Some.is)
+
+pub returns-in_err-settle-2-clause-refused : goal.returns-in_err-settle-2-clause-refused
+returns-in_err-settle-2-clause-refused g c = λ r p starts at none is.
+    let here = c.loop-base.invariant.0 p starts at in
+    let sound = sound-on here.moves p here.point starts here.inside here.runs in
+    absurd (turned-to-none here.moves p here.point c.next_turn.result c.in-Some.base here.inside here.runs none (c.next_turn.ensures here.point sound here.stands.state) c.in-Some.is)
 
 pub returns-in_err-settle-clause-err : goal.returns-in_err-settle-clause-err
 returns-in_err-settle-clause-err g c =

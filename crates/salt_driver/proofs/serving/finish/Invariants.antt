@@ -3,7 +3,9 @@ use Rattle.salt_driver.proofs.serving.finish.Given as goal
 use Rattle.salt_driver.specs.Counting.{CountsSoFar}
 use Rattle.salt_driver.specs.Standing.{Advances, IsAt, IsSoundPoint}
 use Rattle.salt_storage.specs.Staying.{StaysWithin}
-use Rattle.std.specs.Prelude.{None, length}
+use Rattle.salt_model.specs.declared.events.Event.TheVariants.{Refused}
+use Rattle.salt_model.specs.declared.events.Refusal.{Refusal}
+use Rattle.std.specs.Prelude.{None, Some, [], length, ◌≡◌}
 
 abbrev pub invariant-loop-base : goal.invariant-loop-base
 invariant-loop-base g l =
@@ -11,6 +13,8 @@ invariant-loop-base g l =
     Advances (g.E.Stepping.sees (g.D.Disks.view l.disks)) l.line p l.fn.story l.engine None l.story)
     × CountsSoFar (g.D.Disks.view l.fn.disks) (g.D.Disks.view l.disks) l.fn.first l.fn.story l.story None
     × StaysWithin (g.E.Stepping.asked l.fn.engine) (g.E.Stepping.asked l.engine) (g.D.Disks.view l.fn.disks) (g.D.Disks.view l.disks)
+    × ((r : Refusal) (p : Point) → IsSoundPoint p → IsAt (g.E.Stepping.sees (g.D.Disks.view l.fn.disks)) l.line l.fn.engine l.fn.first p → p.state.units.to_go ≡ [] →
+    l.fn.first ≡ Some (Refused r) → l.disks ≡ l.fn.disks)
 
 abbrev pub decreases-loop-base : goal.decreases-loop-base
 decreases-loop-base g l = length (g.E.Stepping.turns l.engine)

@@ -1,12 +1,15 @@
 use Rattle.std.proofs.lemmas.Result.{err_from_is_err_and}
-use Rattle.law_states.specs.Points.{Say}
+use Rattle.law_states.specs.Points.{Moves, Say}
 use Rattle.salt_driver.proofs.Advancing.{advance-none, advance-on, advance-once, broken-by, none-of, sound-on, stop-saying}
 use Rattle.salt_driver.proofs.Counted.{count-all, count-none, count-on, count-stop}
+use Rattle.salt_driver.proofs.RefusedAlone.{at-hand}
+use Rattle.salt_driver.proofs.Refusing.{refused-rests}
 use Rattle.salt_driver.proofs.serving.settle.Goals as goal
 use Rattle.salt_driver.specs.Counting.{CountsSoFar}
 use Rattle.salt_driver.specs.Standing.{Advances, IsAt, left_to_come}
+use Rattle.salt_model.specs.declared.events.Event.{Event}
 use Rattle.salt_storage.proofs.Staying.{stays-behind, stays-same}
-use Rattle.std.proofs.Common.{subst, sym, ◌∙◌}
+use Rattle.std.proofs.Common.{inl, inr, subst, sym, ◌∙◌}
 use Rattle.std.specs.Prelude.{Some, refl, ◌<◌}
 
 pub loop-next-init : goal.loop-next-init
@@ -15,6 +18,7 @@ loop-next-init g c = (
   count-none (g.D.Disks.view c.args.disks.now) c.args.first c.args.story.now,
   refl,
   stays-same (g.E.Stepping.asked c.args.engine.now) (g.D.Disks.view c.args.disks.now),
+  λ r is. (inl refl, refl),
 )
 
 pub say-requires-clause-stands : goal.say-requires-clause-stands
@@ -49,6 +53,12 @@ loop-next-preserved g c =
           c.in_ok-next.ensures.counts moved.1.1 c.in_ok-next.ensures.tells,
       c.in_ok-next.ensures.turns ∙ known.2,
       stays-behind known.3 c.in_ok-next.ensures.within,
+      λ r is.
+          let still = known.4 r is in
+          let event = at-hand r c.args.first c.loop-next.next c.in-Some.event is still.0 c.in-Some.is in
+          let sound = sound-on first.moves c.requires.stands.0 first.point c.requires.stands.1 first.inside first.runs in
+          let rests = refused-rests r first.point moved.0 sound at.serves (subst (λ (e : Event). Moves (Say e) first.point moved.0) event moved.1) in
+          (inr (sym moved.2.comes ∙ rests), c.in_ok-next.ensures.refused r event ∙ still.1),
     )
 
 pub returns-clause-ok : goal.returns-clause-ok
@@ -58,6 +68,14 @@ returns-clause-ok g c = λ p sound starts.
 
 pub returns-clause-turns : goal.returns-clause-turns
 returns-clause-turns g c = c.loop-next.invariant.2
+
+pub returns-clause-refused : goal.returns-clause-refused
+returns-clause-refused g c = λ r is. (c.loop-next.invariant.4 r is).1
+
+pub returns-in_err-next-clause-refused : goal.returns-in_err-next-clause-refused
+returns-in_err-next-clause-refused g c = λ r is.
+    let still = c.loop-next.invariant.4 r is in
+    c.in_err-next.ensures.refused r (at-hand r c.args.first c.loop-next.next c.in-Some.event is still.0 c.in-Some.is) ∙ still.1
 
 pub returns-clause-counts : goal.returns-clause-counts
 returns-clause-counts g c =

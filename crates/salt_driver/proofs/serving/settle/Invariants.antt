@@ -3,7 +3,9 @@ use Rattle.salt_driver.proofs.serving.settle.Given as goal
 use Rattle.salt_driver.specs.Standing.{Advances, IsAt, IsSoundPoint, left_to_come}
 use Rattle.salt_driver.specs.Counting.{CountsSoFar}
 use Rattle.salt_storage.specs.Staying.{StaysWithin}
-use Rattle.std.specs.Prelude.{◌≡◌}
+use Rattle.salt_model.specs.declared.events.Event.TheVariants.{Refused}
+use Rattle.salt_model.specs.declared.events.Refusal.{Refusal}
+use Rattle.std.specs.Prelude.{None, Some, ◌≡◌, ◌⊎◌}
 
 abbrev pub invariant-loop-next : goal.invariant-loop-next
 invariant-loop-next g l =
@@ -12,6 +14,7 @@ invariant-loop-next g l =
     × CountsSoFar (g.D.Disks.view l.initial.disks) (g.D.Disks.view l.disks) l.initial.next l.initial.story l.story l.next
     × (g.E.Stepping.turns l.engine ≡ g.E.Stepping.turns l.initial.engine)
     × StaysWithin (g.E.Stepping.asked l.initial.engine) (g.E.Stepping.asked l.engine) (g.D.Disks.view l.initial.disks) (g.D.Disks.view l.disks)
+    × ((r : Refusal) → l.initial.next ≡ Some (Refused r) → ((l.next ≡ l.initial.next) ⊎ (l.next ≡ None)) × (l.disks ≡ l.initial.disks))
 
 abbrev pub decreases-loop-next : goal.decreases-loop-next
 decreases-loop-next g l = left_to_come (g.E.Stepping.waiting l.engine) l.next

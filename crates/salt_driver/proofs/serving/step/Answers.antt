@@ -1,12 +1,15 @@
 use Rattle.std.proofs.lemmas.Result.{err_from_is_err_and}
 use Rattle.salt_model.specs.Trace.{Tree}
+use Rattle.salt_model.specs.declared.events.Event.TheVariants.{Refused}
 use Rattle.salt_driver.proofs.Advancing.{sound-asked}
 use Rattle.salt_driver.proofs.Counted.{count-join, count-none, count-short, count-turn}
+use Rattle.salt_driver.proofs.RefusedAlone.{gained-first, gained-none, gains, refused-leaves-none}
 use Rattle.salt_driver.proofs.Segments.{breaks-by, breaks-untold, goes-by, serves-at}
 use Rattle.salt_driver.proofs.serving.step.Goals as goal
 use Rattle.salt_storage.proofs.Staying.{stays-behind}
 use Rattle.std.proofs.lemmas.Result.{IfErr-weaker, on_ok_weaker}
-use Rattle.std.specs.Prelude.{None}
+use Rattle.std.proofs.Common.{ap, sym, ◌∙◌}
+use Rattle.std.specs.Prelude.{None, Ok}
 
 pub ask-requires-clause-stands : goal.ask-requires-clause-stands
 ask-requires-clause-stands g c =
@@ -40,6 +43,27 @@ returns-clause-broken_off g c = IfErr-weaker c.finish.result _ _ (λ halt stoppe
     let r = c.in_ok-first.ensures.moves s.point sound s.stands in
     breaks-by old old start (g.E.Stepping.lies (view c.finish.new.disks) c.finish.new.engine 0) (g.E.Stepping.left (view c.finish.new.disks) c.finish.new.engine None 0) (g.E.Stepping.fills (view c.finish.new.disks) c.finish.new.engine) (g.E.Stepping.flight c.finish.new.engine) halt trace asked c.args.engine.now c.args.story.now c.finish.new.story s r.0 c.requires.key r.1
     (stopped r.0 (sound-asked asked s.point r.0 c.requires.key sound r.1) r.2)) c.finish.ensures.err
+
+pub returns-clause-refused : goal.returns-clause-refused
+returns-clause-refused g c = λ refusal told.
+    let view = g.D.Disks.view in
+    let old = g.E.Stepping.sees (view c.args.disks.now) in
+    let new = view c.finish.new.disks in
+    let e = c.finish.new.engine in
+    let asked = Tree c.args.line.now in
+    let story = c.args.story.now in
+    let s = c.requires.stands.2 in
+    let sound = serves-at old old c.requires.stands.0 c.args.engine.now story c.requires.stands.1 s in
+    let r = c.in_ok-first.ensures.moves s.point sound s.stands in
+    let begun = sound-asked asked s.point r.0 c.requires.key sound r.1 in
+    let gain = gains (g.E.Stepping.sees new) c.args.line.now (g.E.Stepping.lies new e 0) (g.E.Stepping.left new e None 0) (g.E.Stepping.fills new e) (g.E.Stepping.flight e) r.0 story c.finish.new.story e
+    c.finish.result (on_ok_weaker c.finish.result (λ done. done r.0 begun r.2) c.finish.ensures.ok) (IfErr-weaker c.finish.result _ _ (λ halt stopped. stopped r.0 begun r.2) c.finish.ensures.err) in
+    let comes = gained-first refusal r.0 story c.finish.new.story begun r.2.serves gain told in
+    let first = sym r.2.comes ∙ comes in
+    c.finish.ensures.refused refusal r.0 begun r.2 (refused-leaves-none refusal c.args.line.now s.point r.0 r.1 comes) first ∙ c.in_ok-first.ensures.refused refusal (ap Ok first)
+
+pub returns-in_err-first-clause-refused : goal.returns-in_err-first-clause-refused
+returns-in_err-first-clause-refused g c = λ refusal told. absurd (gained-none c.args.story.now (Refused refusal) told)
 
 pub returns-clause-within : goal.returns-clause-within
 returns-clause-within g c = stays-behind c.in_ok-first.ensures.within c.finish.ensures.within
