@@ -101,6 +101,23 @@ goes_on d0 d e dev end next count so_far small small' past entry keeps cause = e
     differ : IsTrue d0.told → d0.told ≡ false → ⊥
     differ t u = cc
 
+-- so far each entry was one step, of at least nine bytes that the device has
+pub record Counted (d0 d : View) (dev end count before now : ℕ) : Type 0 where
+  pub opened : Opened d0 d dev end count
+  pub steps : now ≡ before + count
+  pub within : IsTrue d0.told → 9 * count ≤ length (d0.bytes dev)
+
+pub counts_on : (d0 d e : View) (dev end next count before now after : ℕ) → Counted d0 d dev end count before now → after ≡ now + 1 → next < 2 ^ 64 → end + 9 ≤ next → (IsTrue d.told → OpenEntry (drop end (d.bytes dev)) end next)
+    → KeepsAll d0 e None → HasCause d0 e None → Counted d0 e dev next (count + 1) before after
+counts_on d0 d e dev end next count before now after so_far one small past entry keeps cause = record {
+  opened = goes_on d0 d e dev end next count so_far.opened so_far.opened.small small past entry keeps cause;
+  steps = omega (arith, one, so_far.steps);
+  within = λ told.
+      let here : OpenEntry (drop end (d.bytes dev)) end next = entry (so_far.opened.keeps.shape.told ∙ told) in
+      let same : length (d.bytes dev) ≡ length (d0.bytes dev) = ap (λ (f : List ℕ). length f) (so_far.opened.keeps.kept dev (λ none. none)).bytes in
+      omega (arith, same, ap length here.bytes_are, length-append (to_be_bytes w64 here.size) here.rest, length-drop end (d.bytes dev), so_far.opened.end_is, so_far.opened.size, nine_each so_far.opened.entries);
+}
+
 module _ (d0 d e : View) (dev end count : ℕ) (so_far : Opened d0 d dev end count) (told : IsTrue d0.told) where
   same : d.bytes dev ≡ d0.bytes dev
   same = (so_far.keeps.kept dev (λ none. none)).bytes

@@ -1,15 +1,18 @@
 //! A log that a device has is opened.
-ghost use Rattle.std.specs.Prelude.{◌≡◌, ℕ, ◌+◌, ◌<◌, ◌≤◌, ◌^◌, List, length, drop, IsTrue, IfOk, IfErr, Some};
+ghost use Rattle.std.specs.Prelude.{◌≡◌, ℕ, ◌+◌, ◌<◌, ◌≤◌, ◌^◌, ◌*◌, List, length, drop, IsTrue, IfOk, IfErr, Some};
 ghost use Rattle.std.specs.Result.{result_err};
 ghost use Rattle.std.specs.Int.{w64, to_be_bytes};
 ghost use Rattle.salt_disk.specs.Disks.{IsSettled, KeepsAll, HasCause, OnlyFails};
 ghost use Rattle.salt_bytes.specs.Log.{entries_in};
-ghost use Rattle.salt_gatelog.specs.Log.{device_of};
+ghost use Rattle.salt_gatelog.specs.Log.{count_of, device_of};
 ghost use Rattle.salt_gatelog.specs.Open.{IsStep, IsPast, disk_err, IsWhy, OpensAs};
 ghost use Rattle.salt_gatelog.specs.declared.open.LogErr.TheVariants.{Disk};
 
 use crate::GateLog;
 use salt_disk::{DiskErr, Disks};
+use salt_values::Steps;
+use std::marker::Brand;
+use std::sync::ledger::{Blank, Ledger};
 
 /// Why no log is opened.
 #[derive(Clone, Copy, Debug, PartialEq, Eq)]
@@ -84,17 +87,25 @@ pub fn step_at<D: Disks>(disks: &mut D, dev: u32, at: u64) -> Result<Step, DiskE
     }
 }
 
-/// Opens the log of a device on which nothing is pending, at the cost of two small reads for each entry. It writes nothing.
-pub fn open_log<D: Disks>(disks: &mut D, dev: u32) -> Result<GateLog, LogErr>
+/// Opens a log as `open_log` does. Each place that is looked at is a step: there is one for each entry and one more for the closed
+/// gate, and never more than one above a ninth of the device's bytes.
+fn open_counted<D: Disks, L: Ledger>(
+    disks: &mut D,
+    dev: u32,
+    steps: &mut Steps<L>,
+) -> Result<GateLog, LogErr>
     requires known { dev < (D.view disks.old).count }
     requires settled { IsSettled (D.view disks.old) dev }
     ensures log { IfOk result (λ log. (device_of log ≡ dev) × OpensAs (D.view disks.old) (D.view disks.new) log) }
     ensures why { IsTrue (D.view disks.old).told → IfErr result (IsWhy ((D.view disks.old).bytes dev)) }
     ensures kept { KeepsAll (D.view disks.old) (D.view disks.new) (disk_err result) }
     ensures cause { HasCause (D.view disks.old) (D.view disks.new) (disk_err result) }
+    ensures steps { IfOk result (λ log. steps.new ≡ steps.old + count_of log + 1) }
+    ensures most { IsTrue (D.view disks.old).told → 9 * steps.new ≤ 9 * steps.old + 9 + length ((D.view disks.old).bytes dev) }
 {
     let mut end = 0;
     for count in 0..u64::MAX {
+        steps.tick();
         match step_at(disks, dev, end)? {
             Step::Closed => {
                 return if count == 0 {
@@ -121,4 +132,33 @@ pub fn open_log<D: Disks>(disks: &mut D, dev: u32) -> Result<GateLog, LogErr>
         }
     }
     Err(LogErr::NotLog)
+}
+
+/// Opens a log, and counts no steps.
+fn open_anew<D: Disks, L: Ledger>(disks: &mut D, dev: u32, blank: Blank) -> Result<GateLog, LogErr>
+    requires known { dev < (D.view disks.old).count }
+    requires settled { IsSettled (D.view disks.old) dev }
+    requires name { blank.name ≡ L.name }
+    requires parts { blank.parts ≡ L.parts }
+    requires some { 0 < blank.parts }
+    ensures log { IfOk result (λ log. (device_of log ≡ dev) × OpensAs (D.view disks.old) (D.view disks.new) log) }
+    ensures why { IsTrue (D.view disks.old).told → IfErr result (IsWhy ((D.view disks.old).bytes dev)) }
+    ensures kept { KeepsAll (D.view disks.old) (D.view disks.new) (disk_err result) }
+    ensures cause { HasCause (D.view disks.old) (D.view disks.new) (disk_err result) }
+{
+    let mut steps = Steps::<L>::new(blank);
+    open_counted(disks, dev, &mut steps)
+}
+
+/// Opens the log of a device on which nothing is pending, by two small reads for each entry and one of the closed gate. It writes
+/// nothing.
+pub fn open_log<D: Disks>(disks: &mut D, dev: u32) -> Result<GateLog, LogErr>
+    requires known { dev < (D.view disks.old).count }
+    requires settled { IsSettled (D.view disks.old) dev }
+    ensures log { IfOk result (λ log. (device_of log ≡ dev) × OpensAs (D.view disks.old) (D.view disks.new) log) }
+    ensures why { IsTrue (D.view disks.old).told → IfErr result (IsWhy ((D.view disks.old).bytes dev)) }
+    ensures kept { KeepsAll (D.view disks.old) (D.view disks.new) (disk_err result) }
+    ensures cause { HasCause (D.view disks.old) (D.view disks.new) (disk_err result) }
+{
+    open_anew::<D, Brand>(disks, dev, Blank::new(1))
 }
