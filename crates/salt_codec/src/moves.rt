@@ -17,7 +17,7 @@ use sqlite_items::Items;
 use std::alloc::{AllocError, Global};
 
 /// Whether NULL is spelled under this format.
-fn has_nulls(format: u8) -> bool
+pub fn has_nulls(format: u8) -> bool
     ensures { result ≡ has_nulls format }
 {
     2 <= format

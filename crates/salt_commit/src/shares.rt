@@ -6,9 +6,8 @@ ghost use Rattle.salt_stands.specs.Placed.{changes_at};
 ghost use Rattle.salt_place.specs.Placement.{GivesPlaceOf, IsParts, TakesEachKey};
 ghost use Rattle.std.specs.Prelude.{IfOk, length, ◌<◌, ◌^◌, ◌≡◌, ◌≤◌};
 
-use salt_partition::change_copied;
 use salt_place::{PlaceKind, Placement, Shape};
-use salt_values::{Change, Changes, Key, Value};
+use salt_values::{Change, Changes, Key, TryCopy, Value};
 use sqlite_items::Items;
 use std::alloc::{AllocError, Global};
 
@@ -47,7 +46,7 @@ fn share<F: Fn(PlaceKind, &Key, u32) -> u32>(
     let mut own = Items::new(alloc);
     for change in changes {
         if part_of(place, shape, &change.key) == part {
-            own.push(change_copied(alloc, change)?)?;
+            own.push(change.copy(alloc)?)?;
         }
     }
     Ok(own)

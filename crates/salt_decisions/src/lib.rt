@@ -21,5 +21,5 @@ pub use decisions::Decisions;
 pub use error::OpenErr;
 pub use header::Definition;
 pub use kept::{Kept, Texts};
-pub use moves::{apply_move, copy_conts};
+pub use moves::apply_move;
 pub use open::{open_decisions, peek};

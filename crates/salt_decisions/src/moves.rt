@@ -12,15 +12,8 @@ ghost use Rattle.std.specs.Prelude.{IfOk, List, OnOk, Some, true, ◌≡◌};
 
 use salt_bytes::Move;
 use salt_codec::take_move;
-use salt_values::{Bytes, Cont, Conts, Id, TryCopy};
-use sqlite_items::Items;
+use salt_values::{Bytes, Cont, Conts, Id, copies, is_same_id};
 use std::alloc::{AllocError, Global};
-
-fn is_same_id(left: Id, right: Id) -> bool
-    ensures { result ≡ is_same_id left right }
-{
-    left.boot == right.boot && left.seq == right.seq
-}
 
 /// Where the continuation of a program stands.
 fn place_of(conts: &[Cont], base: Id) -> Option<usize>
@@ -79,31 +72,6 @@ pub fn make_move(alloc: Global, format: u8, conts: &mut Conts, mv: &[u8]) -> Res
     }
 }
 
-fn copy_cont(alloc: Global, cont: &Cont) -> Result<Cont, AllocError>
-    ensures { IfOk result (λ made. made ≡ cont.now) }
-{
-    Ok(Cont {
-        base: cont.base,
-        accepted: cont.accepted,
-        program: cont.program.copy(alloc)?,
-        args: cont.args.copy(alloc)?,
-        vars: cont.vars.copy(alloc)?,
-        next: cont.next,
-        tries: cont.tries,
-    })
-}
-
-/// Copies of continuations.
-pub fn copy_conts(alloc: Global, conts: &[Cont]) -> Result<Conts, AllocError>
-    ensures { IfOk result (λ made. made ≡ conts.now) }
-{
-    let mut made = Items::new(alloc);
-    for cont in conts {
-        made.push(copy_cont(alloc, cont)?)?;
-    }
-    Ok(made)
-}
-
 /// The continuations that a header and the moves behind it leave open.
 pub fn open_conts(
     alloc: Global,
@@ -113,7 +81,7 @@ pub fn open_conts(
 ) -> Result<Conts, AllocError>
     ensures { do_rise conts.now ≡ true → (cs : List Cont) → moved_by format (Some conts.now) moves.now ≡ Some cs → IfOk result (λ made. made ≡ cs) }
 {
-    let mut made = copy_conts(alloc, conts)?;
+    let mut made = copies(alloc, conts)?;
     for mv in moves {
         make_move(alloc, format, &mut made, mv.as_slice())?;
     }

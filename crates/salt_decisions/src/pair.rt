@@ -1,6 +1,6 @@
 //! The coordinator's pair of logs, and which of them counts.
 
-ghost use Rattle.salt_bytes.specs.Generations.{follows, later_of, next_generation, pair_of};
+ghost use Rattle.salt_bytes.specs.Generations.{later_of, pair_of};
 ghost use Rattle.salt_decisions.specs.Pair.{HasPair, contents, generation_of, pair_in};
 ghost use Rattle.salt_disk.specs.Disks.{HasCause, IsSettled, KeepsAll, OnlyFails};
 ghost use Rattle.std.specs.Prelude.{IfOk, IsTrue, ◌<◌, ◌≡◌};
@@ -9,6 +9,7 @@ ghost use Rattle.std.specs.Result.{result_err};
 use crate::read::{Content, ReadLog, read_device};
 use crate::which::Which;
 use salt_disk::{DiskErr, Disks};
+use salt_gatelog::follows;
 use std::alloc::Global;
 
 /// What the pair is.
@@ -19,23 +20,6 @@ pub enum LogPair {
     Counts(Which, ReadLog),
     /// The pair's fault counts against this log.
     Faulty(Which),
-}
-
-/// The generation after another.
-pub fn next_generation(generation: u64) -> u64
-    ensures { result ≡ next_generation generation }
-{
-    if generation == u64::MAX {
-        2
-    } else {
-        generation + 1
-    }
-}
-
-fn follows(before: u64, after: u64) -> bool
-    ensures { result ≡ follows before after }
-{
-    after == next_generation(before)
 }
 
 /// Which of two logs counts, by their generations.

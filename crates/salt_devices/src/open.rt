@@ -33,7 +33,7 @@ use law_types::spelled_tables_have_keys;
 use salt_commit::{Kept, OpenErr as StoreOpenErr, Store, open_store, peek};
 use salt_disk::Disks;
 use salt_found::{RecoverErr, Recovered, recover};
-use salt_partition::rejected;
+use salt_gatelog::rejected;
 use salt_place::{PlaceKind, Placement, Shape};
 use salt_schema::Schema;
 use salt_storage::{Found, Halt, Numbers, OpenErr};

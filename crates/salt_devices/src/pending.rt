@@ -5,9 +5,8 @@ ghost use Rattle.salt_storage.specs.declared.halt.Halt.TheVariants.{Memory, Stop
 ghost use Rattle.salt_storage.specs.declared.open.OpenErr.TheVariants.{Halted};
 ghost use Rattle.std.specs.Prelude.{IfOk, IsTrue, ◌↔◌, ◌≡◌, ◌≢◌, ◌⊎◌};
 
-use salt_partition::change_copied;
 use salt_storage::{Halt, OpenErr};
-use salt_values::{Change, Changes};
+use salt_values::{Change, Changes, TryCopy};
 use std::alloc::{AllocError, Global};
 
 /// What may stand on the devices beside what was kept before, where the last call was broken off.
@@ -46,7 +45,7 @@ fn changes_copied(alloc: Global, changes: &[Change]) -> Result<Changes, AllocErr
 {
     let mut made = Changes::new(alloc);
     for change in changes {
-        made.push(change_copied(alloc, change)?)?;
+        made.push(change.copy(alloc)?)?;
     }
     Ok(made)
 }

@@ -14,9 +14,9 @@ ghost use Rattle.std.specs.Prelude.{List, Some, ◌≡◌};
 use crate::error::ContErr;
 use crate::fits::fits_kept;
 use crate::moves::follow;
-use salt_decisions::{Kept, copy_conts};
+use salt_decisions::Kept;
 use salt_program::Catalogue;
-use salt_values::{Cont, Conts};
+use salt_values::{Cont, Conts, copies};
 use std::alloc::Global;
 
 fn is_later_than(first: &Cont, cont: &Cont) -> bool
@@ -73,7 +73,7 @@ fn follow_all(alloc: Global, catalogue: &Catalogue, kept: &Kept) -> Result<Conts
     if !fits_header(catalogue, kept) {
         return Err(ContErr::NotMove);
     }
-    let mut conts = copy_conts(alloc, kept.conts.as_slice())?;
+    let mut conts = copies(alloc, kept.conts.as_slice())?;
     for mv in kept.moves.as_slice() {
         follow(alloc, catalogue, kept, &mut conts, mv.as_slice())?;
     }

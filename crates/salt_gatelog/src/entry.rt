@@ -12,7 +12,7 @@ use salt_disk::{DiskErr, Disks};
 use std::alloc::Global;
 
 /// What disks answer that gave other bytes than were written.
-fn rejected<D: Disks>(disks: &mut D) -> DiskErr
+pub fn rejected<D: Disks>(disks: &mut D) -> DiskErr
     requires { (D.view disks.old).told ≡ false }
     ensures failed { result ≡ Failed }
     ensures kept { KeepsAll (D.view disks.old) (D.view disks.new) (Some Failed) }

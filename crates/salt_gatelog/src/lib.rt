@@ -5,6 +5,9 @@
 mod entry;
 mod log;
 mod open;
+mod pair;
 
+pub use entry::rejected;
 pub use log::{GateLog, create};
 pub use open::{LogErr, open_log};
+pub use pair::{follows, next_generation};

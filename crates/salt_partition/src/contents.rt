@@ -1,6 +1,5 @@
 //! What a device of a partition's pair of logs holds.
 
-ghost use Rattle.salt_bytes.specs.Formats.{has_nulls};
 ghost use Rattle.salt_disk.specs.Disks.{HasCause, IsSettled, KeepsAll, OnlyFails};
 ghost use Rattle.salt_gatelog.specs.Log.{IsLog, device_of};
 ghost use Rattle.salt_partition.specs.Contents.{HasContent, IsContent};
@@ -8,7 +7,7 @@ ghost use Rattle.std.specs.Prelude.{IfOk, IsTrue, List, length, ℕ, ◌<◌, �
 ghost use Rattle.std.specs.Result.{result_err};
 
 use crate::units::{header_at, read_units};
-use salt_codec::{Header, PreparedUnit};
+use salt_codec::{Header, PreparedUnit, has_nulls};
 use salt_disk::{DiskErr, Disks};
 use salt_gatelog::{GateLog, LogErr, open_log};
 use std::alloc::Global;
@@ -30,13 +29,6 @@ pub enum LogContent {
     Read(ReadLog),
     /// Bytes that are neither.
     Outside,
-}
-
-/// Whether NULL is spelled under this format.
-pub fn has_nulls(format: u8) -> bool
-    ensures { result ≡ has_nulls format }
-{
-    2 <= format
 }
 
 /// The log of a device, read whole, where it is one of this partition.

@@ -1,35 +1,18 @@
 //! Which log of a pair counts.
 
-ghost use Rattle.salt_bytes.specs.Generations.{follows, next_generation, pair_of};
 ghost use Rattle.salt_partition.specs.Choices.{IsChosen};
 ghost use Rattle.salt_partition.specs.Contents.{content_seen};
 ghost use Rattle.salt_stands.specs.PartitionLog.{partition_generation};
 ghost use Rattle.std.specs.Prelude.{◌≡◌};
 
 use crate::contents::{LogContent, ReadLog};
+use salt_gatelog::follows;
 
 /// A log of a pair.
 #[derive(Clone, Copy, Debug, PartialEq, Eq)]
 pub enum Side {
     A,
     B,
-}
-
-/// After the last number comes 2.
-fn next_generation(generation: u64) -> u64
-    ensures { result ≡ next_generation generation }
-{
-    if generation == u64::MAX {
-        2
-    } else {
-        generation + 1
-    }
-}
-
-fn follows(before: u64, after: u64) -> bool
-    ensures { result ≡ follows before after }
-{
-    after == next_generation(before)
 }
 
 /// Of two logs, the one whose generation is the next after the other's.

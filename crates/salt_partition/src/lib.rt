@@ -15,8 +15,6 @@ mod rows;
 mod sets;
 mod units;
 
-pub use copies::change_copied;
 pub use create::create_partition;
 pub use open::{OpenErr, open_partition};
 pub use partition::Partition;
-pub use units::rejected;

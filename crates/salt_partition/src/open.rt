@@ -9,12 +9,13 @@ ghost use Rattle.salt_stands.specs.Partition.{pages_device, part_device};
 ghost use Rattle.salt_values.specs.declared.id.Id.{Id};
 ghost use Rattle.std.specs.Prelude.{IfErr, IfOk, IsTrue, List, ℕ, ◌+◌, ◌<◌, ◌≡◌};
 
-use crate::contents::{ReadLog, content_of, has_nulls};
+use crate::contents::{ReadLog, content_of};
 use crate::devices::{log_a, log_of, pages_of};
 use crate::generations::{Side, counting_log};
 use crate::known::is_known_log;
 use crate::partition::Partition;
 use crate::rows::rows_of;
+use salt_codec::has_nulls;
 use salt_disk::{DiskErr, Disks};
 use salt_values::{Id, Ids};
 use std::alloc::{AllocError, Global};

@@ -6,16 +6,15 @@ ghost use Rattle.salt_disk.specs.Disks.{HasCause, KeepsAll, OnlyFails, UnlessDow
 ghost use Rattle.salt_codec.specs.Entries.{header_of, prepared_of};
 ghost use Rattle.salt_gatelog.specs.Entry.{HasMoved};
 ghost use Rattle.salt_gatelog.specs.Log.{IsLog, count_of};
-ghost use Rattle.salt_disk.specs.declared.disks.DiskErr.TheVariants.{Failed};
 ghost use Rattle.salt_partition.specs.Contents.{AreKeyed, SpellsUnit, units_of};
 ghost use Rattle.salt_stands.specs.PartitionLog.{gathered};
 ghost use Rattle.salt_stands.specs.Words.{and_then};
-ghost use Rattle.std.specs.Prelude.{IfOk, IfSome, IsTrue, List, Some, [], drop, false, option_map, slice_get, ℕ, ◌<◌, ◌≡◌};
+ghost use Rattle.std.specs.Prelude.{IfOk, IfSome, IsTrue, List, Some, [], drop, option_map, slice_get, ℕ, ◌<◌, ◌≡◌};
 ghost use Rattle.std.specs.Result.{result_err};
 
 use salt_codec::{Header, PreparedUnit, read_header, read_prepared};
 use salt_disk::{DiskErr, Disks};
-use salt_gatelog::GateLog;
+use salt_gatelog::{GateLog, rejected};
 use std::alloc::Global;
 
 /// The header that entry 0 spells; `None` where it spells none.
@@ -61,17 +60,6 @@ pub fn unit_at<D: Disks>(
     let mut bytes = Vec::new(alloc);
     log.entry(alloc, disks, i, &mut bytes)?;
     Ok(read_prepared(alloc, nulls, &bytes)?)
-}
-
-/// What disks answer that gave other bytes than were written.
-pub fn rejected<D: Disks>(disks: &mut D) -> DiskErr
-    requires { (D.view disks.old).told ≡ false }
-    ensures failed { result ≡ Failed }
-    ensures kept { KeepsAll (D.view disks.old) (D.view disks.new) (Some Failed) }
-    ensures cause { HasCause (D.view disks.old) (D.view disks.new) (Some Failed) }
-{
-    disks.reject();
-    DiskErr::Failed
 }
 
 /// The prepared unit that entry `i` spells, which spells one. Disks that give other bytes have failed.
