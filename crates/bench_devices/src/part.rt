@@ -10,8 +10,8 @@ ghost use Rattle.std.specs.Prelude.{IfOk, List, OnOk, ℕ, ◌<◌, ◌≡◌};
 
 use salt_codec::{Header, spell_header, spell_prepared};
 use salt_disk::{DiskErr, Disks, MemDisks};
-use salt_gatelog::{GateLog, create};
-use salt_partition::{OpenErr, Partition, open_partition};
+use salt_gatelog::{GateLog, PairErr, create};
+use salt_partition::{Partition, open_partition};
 use salt_values::{Change, Id, Ids, Row, Value};
 use sqlite_items::Items;
 use std::alloc::{AllocError, Global};
@@ -104,7 +104,7 @@ fn decided(alloc: Global, units: u32) -> Result<Ids, AllocError> {
 }
 
 /// So often opens a partition of so many rows.
-pub fn read(alloc: Global, rows: u32, times: u32) -> Result<u64, OpenErr> {
+pub fn read(alloc: Global, rows: u32, times: u32) -> Result<u64, PairErr> {
     let units = rows / ROWS_OF_UNIT;
     let mut disks = MemDisks::new(alloc, 5, LIMIT)?;
     make_log(alloc, &mut disks, units)?;
@@ -133,7 +133,7 @@ fn found(part: &mut Partition, disks: &mut MemDisks, rows: u32) -> Result<u64, D
 }
 
 /// So often reads each row of a partition by its key.
-pub fn gotten(alloc: Global, rows: u32, times: u32) -> Result<u64, OpenErr> {
+pub fn gotten(alloc: Global, rows: u32, times: u32) -> Result<u64, PairErr> {
     let units = rows / ROWS_OF_UNIT;
     let mut disks = MemDisks::new(alloc, 5, LIMIT)?;
     make_log(alloc, &mut disks, units)?;

@@ -7,6 +7,7 @@ ghost use Rattle.std.specs.Prelude.{◌<◌, ◌≡◌};
 use crate::pairs::Pair;
 use crate::recorder::Recorder;
 use salt_decisions::{OpenErr, peek};
+use salt_gatelog::PairErr;
 use salt_partition::open_partition;
 use sqlite_items::Items;
 use std::alloc::{AllocError, Global};
@@ -39,7 +40,7 @@ fn opened(alloc: Global, disks: &mut Recorder) -> Result<String, AllocError>
     let decided = Items::new(alloc);
     match open_partition(alloc, disks, 0, 1, &decided) {
         Ok(_part) => "opened".to_string(alloc),
-        Err(salt_partition::OpenErr::NotSalt(dev)) => format!(in alloc; "not salt {dev}"),
+        Err(PairErr::NotSalt(dev)) => format!(in alloc; "not salt {dev}"),
         Err(_) => "?".to_string(alloc),
     }
 }

@@ -16,7 +16,8 @@ use crate::fits::{entries_fit, is_format_under};
 use crate::named::units_in_part;
 use salt_decisions::{Kept, OpenErr};
 use salt_disk::Disks;
-use salt_partition::{OpenErr as PartErr, Partition, open_partition};
+use salt_gatelog::PairErr;
+use salt_partition::{Partition, open_partition};
 use salt_place::{PlaceKind, Placement, Shape};
 use salt_schema::Schema;
 use salt_values::Key;
@@ -44,8 +45,8 @@ fn open_part<D: Disks>(
     let decided = units_in_part(alloc, kept.decided.as_slice(), kept.masks.as_slice(), part)?;
     match open_partition(alloc, disks, part, kept.boot, &decided) {
         Ok(opened) => Ok(opened),
-        Err(PartErr::NotSalt(dev)) => Err(OpenErr::NotSalt(dev)),
-        Err(PartErr::Disk(e)) => Err(OpenErr::from(e)),
+        Err(PairErr::NotSalt(dev)) => Err(OpenErr::NotSalt(dev)),
+        Err(PairErr::Disk(e)) => Err(OpenErr::from(e)),
     }
 }
 

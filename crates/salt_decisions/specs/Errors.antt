@@ -3,6 +3,8 @@ use Rattle.salt_decisions.specs.declared.error.OpenErr.TheVariants as opening
 use Rattle.salt_decisions.specs.declared.error.OpenErr.{OpenErr}
 use Rattle.salt_disk.specs.declared.disks.DiskErr.TheVariants.{Failed, Full, Memory, Stopped}
 use Rattle.salt_disk.specs.declared.disks.DiskErr.{DiskErr}
+use Rattle.salt_gatelog.specs.declared.pair.PairErr.TheVariants as pair
+use Rattle.salt_gatelog.specs.declared.pair.PairErr.{PairErr}
 use Rattle.std.specs.Prelude.{Err, None, Ok, Option, Result, Some}
 
 abbrev pub open_err_of : DiskErr → OpenErr
@@ -10,6 +12,11 @@ open_err_of Failed = opening.Failed
 open_err_of Stopped = opening.Stopped
 open_err_of (Full dev) = opening.Full dev
 open_err_of Memory = opening.Memory
+
+-- what is answered of a pair
+abbrev pub open_err_of_pair : PairErr → OpenErr
+open_err_of_pair (pair.NotSalt dev) = opening.NotSalt dev
+open_err_of_pair (pair.Disk e) = open_err_of e
 
 -- what a disk call answered, if that was why
 abbrev pub disk_err_in : OpenErr → Option DiskErr

@@ -1,10 +1,11 @@
 //! Why nothing is opened.
 
-ghost use Rattle.salt_decisions.specs.Errors.{open_err_of};
+ghost use Rattle.salt_decisions.specs.Errors.{open_err_of, open_err_of_pair};
 ghost use Rattle.salt_decisions.specs.declared.error.OpenErr.TheVariants.{Memory};
 ghost use Rattle.std.specs.Prelude.{◌≡◌};
 
 use salt_disk::DiskErr;
+use salt_gatelog::PairErr;
 use salt_place::Shape;
 use std::alloc::AllocError;
 
@@ -36,6 +37,17 @@ impl From<DiskErr> for OpenErr {
             DiskErr::Stopped => OpenErr::Stopped,
             DiskErr::Full(dev) => OpenErr::Full(dev),
             DiskErr::Memory => OpenErr::Memory,
+        }
+    }
+}
+
+impl From<PairErr> for OpenErr {
+    ghost from_gives = { λ e f. f ≡ open_err_of_pair e };
+
+    fn from(e: PairErr) -> OpenErr {
+        match e {
+            PairErr::NotSalt(dev) => OpenErr::NotSalt(dev),
+            PairErr::Disk(e) => OpenErr::from(e),
         }
     }
 }

@@ -10,4 +10,4 @@ mod pair;
 pub use entry::rejected;
 pub use log::{GateLog, create};
 pub use open::{LogErr, open_log};
-pub use pair::{follows, next_generation};
+pub use pair::{PairErr, follows, next_generation};

@@ -3,13 +3,13 @@ use Rattle.salt_bytes.specs.Generations.{BothBlank, Counts, Faulty, LogB, Pair}
 use Rattle.salt_disk.specs.Disks.{OnlyFails, View}
 use Rattle.salt_disk.specs.declared.disks.DiskErr.TheVariants.{Failed, Full, Memory, Stopped}
 use Rattle.salt_disk.specs.declared.disks.DiskErr.{DiskErr}
+use Rattle.salt_gatelog.specs.declared.pair.PairErr.TheVariants.{Disk, NotSalt}
+use Rattle.salt_gatelog.specs.declared.pair.PairErr.{PairErr}
 use Rattle.salt_partition.specs.Choices.{which_of}
 use Rattle.salt_partition.specs.Contents.{IsKept, log_of}
 use Rattle.salt_partition.specs.Partitions.{IsPartition}
 use Rattle.salt_partition.specs.declared.contents.ReadLog.{ReadLog}
 use Rattle.salt_partition.specs.declared.generations.Side.{Side}
-use Rattle.salt_partition.specs.declared.open.OpenErr.TheVariants.{Disk, NotSalt}
-use Rattle.salt_partition.specs.declared.open.OpenErr.{OpenErr}
 use Rattle.salt_partition.specs.declared.partition.Partition.{Partition}
 use Rattle.salt_stands.specs.Coordinator.{device_of}
 use Rattle.salt_stands.specs.FirstOpening.{IsCreated}
@@ -19,7 +19,7 @@ use Rattle.salt_stands.specs.PartitionLog.{PartitionLog}
 use Rattle.salt_stands.specs.Pieces.{PartView}
 use Rattle.salt_stands.specs.Stands.{logs_of}
 use Rattle.salt_values.specs.declared.id.Id.{Id}
-use Rattle.std.specs.Prelude.{Bool, Err, IsTrue, List, None, Ok, Option, Result, Some, [], false, if◌then◌else◌, true, ℕ, ⊤, ◌+◌, ◌<◌, ◌≡◌, ◌∷◌, ◌⊎◌}
+use Rattle.std.specs.Prelude.{Bool, IsTrue, List, None, Option, Some, [], false, if◌then◌else◌, true, ℕ, ⊤, ◌+◌, ◌<◌, ◌≡◌, ◌∷◌, ◌⊎◌}
 
 abbrev pub are_some : List ℕ → Bool
 are_some [] = false
@@ -57,14 +57,9 @@ pub record OpensAs (old new : View) (x : Partition) (boot : ℕ) (decided : List
   pub sound : IsTrue old.told → part_fault boot decided p old.bytes ≡ None
 
 -- NotSalt exactly of the device that a fault counts against
-abbrev pub IsWhy : (bytes : ℕ → List ℕ) → (boot : ℕ) → List Id → (p : ℕ) → OpenErr → Type 0
+abbrev pub IsWhy : (bytes : ℕ → List ℕ) → (boot : ℕ) → List Id → (p : ℕ) → PairErr → Type 0
 IsWhy bytes boot decided p (NotSalt dev) = part_fault boot decided p bytes ≡ Some dev
 IsWhy bytes boot decided p (Disk e) = OnlyFails (Some e)
-
-abbrev pub disk_err : {T : Type 0} → Result T OpenErr → Option DiskErr
-disk_err (Ok x) = None
-disk_err (Err (NotSalt dev)) = None
-disk_err (Err (Disk e)) = Some e
 
 -- `Full` comes only where log B is created there and its byte passes the limit, or the header in log A does
 abbrev pub FullAtLogs : View → (a end : ℕ) → Option DiskErr → Type 0

@@ -16,5 +16,5 @@ mod sets;
 mod units;
 
 pub use create::create_partition;
-pub use open::{OpenErr, open_partition};
+pub use open::open_partition;
 pub use partition::Partition;

@@ -1,10 +1,9 @@
 //! A partition is opened from the bytes of its devices.
 
 ghost use Rattle.salt_disk.specs.Disks.{HasCause, IsSettled, KeepsAll};
-ghost use Rattle.salt_partition.specs.Openings.{HasChosen, IsWhy, OpensAs, disk_err, has_pages};
+ghost use Rattle.salt_gatelog.specs.Pair.{pair_err};
+ghost use Rattle.salt_partition.specs.Openings.{HasChosen, IsWhy, OpensAs, has_pages};
 ghost use Rattle.salt_partition.specs.Contents.{log_of};
-ghost use Rattle.salt_partition.specs.declared.open.OpenErr.TheVariants.{Disk};
-ghost use Rattle.salt_disk.specs.declared.disks.DiskErr.TheVariants.{Memory};
 ghost use Rattle.salt_stands.specs.Partition.{pages_device, part_device};
 ghost use Rattle.salt_values.specs.declared.id.Id.{Id};
 ghost use Rattle.std.specs.Prelude.{IfErr, IfOk, IsTrue, List, ℕ, ◌+◌, ◌<◌, ◌≡◌};
@@ -16,50 +15,26 @@ use crate::known::is_known_log;
 use crate::partition::Partition;
 use crate::rows::rows_of;
 use salt_codec::has_nulls;
-use salt_disk::{DiskErr, Disks};
+use salt_disk::Disks;
+use salt_gatelog::PairErr;
 use salt_values::{Id, Ids};
-use std::alloc::{AllocError, Global};
-
-/// Why no partition is opened.
-#[derive(Clone, Copy, Debug, PartialEq, Eq)]
-pub enum OpenErr {
-    /// The bytes of this device are not a partition's.
-    NotSalt(u32),
-    /// A device call has not done what it was asked to, or memory ran out.
-    Disk(DiskErr),
-}
-
-impl From<DiskErr> for OpenErr {
-    ghost from_gives = { λ e r. r ≡ Disk e };
-
-    fn from(e: DiskErr) -> Self {
-        OpenErr::Disk(e)
-    }
-}
-
-impl From<AllocError> for OpenErr {
-    ghost from_gives = { λ _ r. r ≡ Disk Memory };
-
-    fn from(_: AllocError) -> Self {
-        OpenErr::Disk(DiskErr::Memory)
-    }
-}
+use std::alloc::Global;
 
 /// The log of the partition's pair that counts.
-fn chosen_log<D: Disks>(alloc: Global, disks: &mut D, part: u8) -> Result<(Side, ReadLog), OpenErr>
+fn chosen_log<D: Disks>(alloc: Global, disks: &mut D, part: u8) -> Result<(Side, ReadLog), PairErr>
     requires known { pages_device part < (D.view disks.old).count }
     requires settled_a { IsSettled (D.view disks.old) (part_device part) }
     requires settled_b { IsSettled (D.view disks.old) (part_device part + 1) }
     ensures chosen { IfOk result (λ chosen. HasChosen (D.view disks.old) (D.view disks.new) part chosen.0 chosen.1) }
     ensures why { IsTrue (D.view disks.old).told → IfErr result (λ e. (boot : ℕ) (decided : List Id) → IsWhy (D.view disks.old).bytes boot decided part e) }
-    ensures kept { KeepsAll (D.view disks.old) (D.view disks.new) (disk_err result) }
-    ensures cause { HasCause (D.view disks.old) (D.view disks.new) (disk_err result) }
+    ensures kept { KeepsAll (D.view disks.old) (D.view disks.new) (pair_err result) }
+    ensures cause { HasCause (D.view disks.old) (D.view disks.new) (pair_err result) }
 {
     let a = content_of(alloc, disks, log_a(part), part)?;
     let b = content_of(alloc, disks, log_a(part) + 1, part)?;
     match counting_log(a, b) {
         Ok(chosen) => Ok(chosen),
-        Err(side) => Err(OpenErr::NotSalt(log_of(part, side))),
+        Err(side) => Err(PairErr::NotSalt(log_of(part, side))),
     }
 }
 
@@ -80,22 +55,22 @@ pub fn open_partition<D: Disks>(
     part: u8,
     boot: u64,
     decided: &Ids,
-) -> Result<Partition, OpenErr>
+) -> Result<Partition, PairErr>
     requires known { pages_device part < (D.view disks.old).count }
     requires settled_a { IsSettled (D.view disks.old) (part_device part) }
     requires settled_b { IsSettled (D.view disks.old) (part_device part + 1) }
     ensures opens { IfOk result (λ x. OpensAs (D.view disks.old) (D.view disks.new) x boot decided.now part) }
     ensures why { IsTrue (D.view disks.old).told → IfErr result (IsWhy (D.view disks.old).bytes boot decided.now part) }
-    ensures kept { KeepsAll (D.view disks.old) (D.view disks.new) (disk_err result) }
-    ensures cause { HasCause (D.view disks.old) (D.view disks.new) (disk_err result) }
+    ensures kept { KeepsAll (D.view disks.old) (D.view disks.new) (pair_err result) }
+    ensures cause { HasCause (D.view disks.old) (D.view disks.new) (pair_err result) }
 {
     let (side, found) = chosen_log(alloc, disks, part)?;
     let known = is_known_log(alloc, boot, decided.as_slice(), &found)?;
     if !known {
-        return Err(OpenErr::NotSalt(log_of(part, side)));
+        return Err(PairErr::NotSalt(log_of(part, side)));
     }
     if has_pages(&found) {
-        return Err(OpenErr::NotSalt(pages_of(part)));
+        return Err(PairErr::NotSalt(pages_of(part)));
     }
     let ReadLog { log, header, units } = found;
     let (rows, last) = rows_of(alloc, decided.as_slice(), units)?;

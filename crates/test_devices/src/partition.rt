@@ -7,7 +7,8 @@ ghost use Rattle.salt_values.specs.declared.value.Value.TheVariants.{Int};
 ghost use Rattle.std.specs.Prelude.{IfOk, List, None, OnOk, Some, [], pos, ℕ, ◌++◌, ◌<◌, ◌∷◌, ◌≡◌};
 
 use salt_disk::{DiskErr, MemDisks};
-use salt_partition::{OpenErr, Partition, create_partition, open_partition};
+use salt_gatelog::PairErr;
+use salt_partition::{Partition, create_partition, open_partition};
 use salt_values::{Change, Changes, Id, Ids, Value};
 use sqlite_items::Items;
 use std::alloc::{AllocError, Global};
@@ -52,7 +53,7 @@ fn commit(
 }
 
 /// Whether a partition that is opened with these units decided has the row.
-fn has_row(alloc: Global, disks: &mut MemDisks, decided: &Ids) -> Result<bool, OpenErr>
+fn has_row(alloc: Global, disks: &mut MemDisks, decided: &Ids) -> Result<bool, PairErr>
     requires known { 4 < (seen disks.old).count }
     requires settled_a { IsSettled (seen disks.old) 2 }
     requires settled_b { IsSettled (seen disks.old) 3 }
@@ -88,8 +89,8 @@ fn fault_of(alloc: Global, a: &[u8], b: &[u8], boot: u64) -> Result<Option<u32>,
     let decided = Items::new(alloc);
     match open_partition(alloc, &mut disks, 0, boot, &decided) {
         Ok(_part) => Ok(None),
-        Err(OpenErr::NotSalt(dev)) => Ok(Some(dev)),
-        Err(OpenErr::Disk(_)) => Err(AllocError),
+        Err(PairErr::NotSalt(dev)) => Ok(Some(dev)),
+        Err(PairErr::Disk(_)) => Err(AllocError),
     }
 }
 
