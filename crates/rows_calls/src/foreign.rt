@@ -6,7 +6,7 @@ ghost use Rattle.std.specs.Prelude.{◌<◌, ◌≡◌};
 
 use crate::pairs::Pair;
 use crate::recorder::Recorder;
-use salt_decisions::{OpenErr, peek};
+use salt_decisions::peek;
 use salt_gatelog::PairErr;
 use salt_partition::open_partition;
 use sqlite_items::Items;
@@ -25,7 +25,7 @@ fn peeked(alloc: Global, disks: &mut Recorder) -> Result<String, AllocError>
             let (boot, decisions) = (kept.boot, kept.decisions);
             format!(in alloc; "boot {boot}, decisions {decisions}")
         }
-        Err(OpenErr::NotSalt(dev)) => format!(in alloc; "not salt {dev}"),
+        Err(PairErr::NotSalt(dev)) => format!(in alloc; "not salt {dev}"),
         Err(_) => "?".to_string(alloc),
     }
 }

@@ -9,9 +9,11 @@ use Rattle.salt_decisions.specs.declared.error.OpenErr.{OpenErr}
 use Rattle.salt_decisions.specs.declared.decisions.Decisions.{Decisions}
 use Rattle.salt_decisions.specs.declared.header_payload.TheConstants.{FORMAT}
 use Rattle.salt_decisions.specs.declared.kept.Kept.{Kept}
-use Rattle.salt_disk.specs.Disks.{View}
+use Rattle.salt_disk.specs.Disks.{OnlyFails, View}
 use Rattle.salt_disk.specs.declared.disks.DiskErr.TheVariants as disk
 use Rattle.salt_disk.specs.declared.disks.DiskErr.{DiskErr}
+use Rattle.salt_gatelog.specs.declared.pair.PairErr.TheVariants as peek
+use Rattle.salt_gatelog.specs.declared.pair.PairErr.{PairErr}
 use Rattle.salt_stands.specs.Coordinator.{coordinator_pair, device_of}
 use Rattle.salt_stands.specs.CoordinatorLog.{CoordinatorLog, told_by_header}
 use Rattle.salt_stands.specs.FirstOpening.{IsCreated, first_header}
@@ -34,17 +36,12 @@ pub record IsPeeked (shape : Shape) (kept : Kept) (pair : Pair CoordinatorLog) :
   pub keeps : IsKept kept log
   pub device : kept.device ≡ device_of 0 which
 
--- of the refusals only a fault comes; else the disks or memory failed
-abbrev pub PeekFails : OpenErr → Pair CoordinatorLog → Type 0
-PeekFails (NotSalt dev) pair = IsFaulty dev pair
-PeekFails (OtherShape kept asked) pair = ⊥
-PeekFails (NumbersSpent boot decisions) pair = ⊥
-PeekFails Failed pair = ⊤
-PeekFails Stopped pair = ⊥
-PeekFails (Full dev) pair = ⊥
-PeekFails Memory pair = ⊤
+-- a fault, or the disks or memory failed
+abbrev pub PeekFails : PairErr → Pair CoordinatorLog → Type 0
+PeekFails (peek.NotSalt dev) pair = IsFaulty dev pair
+PeekFails (peek.Disk e) pair = OnlyFails (Some e)
 
-abbrev pub Peeks : Result (Option (Shape × Kept)) OpenErr → Pair CoordinatorLog → Type 0
+abbrev pub Peeks : Result (Option (Shape × Kept)) PairErr → Pair CoordinatorLog → Type 0
 Peeks (Ok None) pair = pair ≡ BothBlank
 Peeks (Ok (Some found)) pair = IsPeeked found.0 found.1 pair
 Peeks (Err e) pair = PeekFails e pair

@@ -9,6 +9,7 @@ ghost use Rattle.salt_decisions.specs.Read.{IsOf};
 ghost use Rattle.salt_decisions.specs.Which.{which_in};
 ghost use Rattle.salt_disk.specs.Disks.{EachImage, HasCause, IsSettled, KeepsAll, KeepsBut};
 ghost use Rattle.salt_disk.specs.declared.disks.DiskErr.TheVariants.{Full};
+ghost use Rattle.salt_gatelog.specs.Pair.{pair_err};
 ghost use Rattle.salt_stands.specs.Coordinator.{coordinator_pair, device_of};
 ghost use Rattle.salt_stands.specs.CoordinatorLog.{CoordinatorLog};
 ghost use Rattle.salt_stands.specs.Stands.{are_spent, is_same_kind, is_same_shape, logs_of};
@@ -27,7 +28,7 @@ use crate::read::ReadLog;
 use crate::said::Said;
 use crate::which::Which;
 use salt_disk::{DiskErr, Disks};
-use salt_gatelog::create;
+use salt_gatelog::{PairErr, create};
 use salt_place::{PlaceKind, Shape};
 use sqlite_items::Items;
 use std::alloc::{AllocError, Global};
@@ -68,13 +69,13 @@ fn kept_of(alloc: Global, which: Which, log: ReadLog) -> Result<Kept, AllocError
 
 /// What the coordinator's log keeps, and its shape; nothing exactly where both of its devices are blank. `NotSalt` exactly where
 /// the pair is neither blank nor has a log that counts. It writes nothing. Nothing is pending on the two devices.
-pub fn peek<D: Disks>(alloc: Global, disks: &mut D) -> Result<Option<(Shape, Kept)>, OpenErr>
+pub fn peek<D: Disks>(alloc: Global, disks: &mut D) -> Result<Option<(Shape, Kept)>, PairErr>
     requires known { 1 < (D.view disks.old).count }
     requires settled_a { IsSettled (D.view disks.old) 0 }
     requires settled_b { IsSettled (D.view disks.old) 1 }
     ensures answer { IsTrue (D.view disks.old).told → Peeks result (coordinator_pair (logs_of (D.view disks.old).bytes)) }
-    ensures kept { KeepsAll (D.view disks.old) (D.view disks.new) (open_err result) }
-    ensures cause { HasCause (D.view disks.old) (D.view disks.new) (open_err result) }
+    ensures kept { KeepsAll (D.view disks.old) (D.view disks.new) (pair_err result) }
+    ensures cause { HasCause (D.view disks.old) (D.view disks.new) (pair_err result) }
 {
     match read_pair(alloc, disks)? {
         LogPair::BothBlank => Ok(None),
@@ -82,7 +83,7 @@ pub fn peek<D: Disks>(alloc: Global, disks: &mut D) -> Result<Option<(Shape, Kep
             let shape = log.shape;
             Ok(Some((shape, kept_of(alloc, which, log)?)))
         }
-        LogPair::Faulty(which) => Err(OpenErr::NotSalt(which.device())),
+        LogPair::Faulty(which) => Err(PairErr::NotSalt(which.device())),
     }
 }
 

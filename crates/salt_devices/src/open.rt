@@ -109,7 +109,7 @@ fn schema_of_log<D: Disks>(alloc: Global, disks: &mut D) -> Result<Schema, OpenE
     match peek(alloc, disks) {
         Ok(None) => Ok(Schema::new(alloc)),
         Ok(Some((_shape, kept))) => schema_kept(alloc, &kept),
-        Err(e) => Err(open_err_of(e)),
+        Err(e) => Err(open_err_of(e.into())),
     }
 }
 
