@@ -14,6 +14,7 @@ mod Merged
 pub mod Opened
 pub mod Opening
 mod Ordered
+mod Paired
 mod Pageless
 mod Placed
 mod Reading

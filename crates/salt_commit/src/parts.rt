@@ -16,7 +16,6 @@ use crate::fits::{entries_fit, is_format_under};
 use crate::named::units_in_part;
 use salt_decisions::{Kept, OpenErr};
 use salt_disk::Disks;
-use salt_gatelog::PairErr;
 use salt_partition::{Partition, open_partition};
 use salt_place::{PlaceKind, Placement, Shape};
 use salt_schema::Schema;
@@ -43,11 +42,7 @@ fn open_part<D: Disks>(
     ensures cause { HasCause (D.view disks.old) (D.view disks.new) (open_err result) }
 {
     let decided = units_in_part(alloc, kept.decided.as_slice(), kept.masks.as_slice(), part)?;
-    match open_partition(alloc, disks, part, kept.boot, &decided) {
-        Ok(opened) => Ok(opened),
-        Err(PairErr::NotSalt(dev)) => Err(OpenErr::NotSalt(dev)),
-        Err(PairErr::Disk(e)) => Err(OpenErr::from(e)),
-    }
+    Ok(open_partition(alloc, disks, part, kept.boot, &decided)?)
 }
 
 /// Opens a partition whose log fits the coordinator's and the tables. It writes nothing.

@@ -1,12 +1,16 @@
 use Rattle.salt_commit.proofs.Beginning.{blank_image, blank_unnamed, still_blank_image}
 use Rattle.salt_commit.proofs.Opened.{same_bytes}
 use Rattle.salt_commit.proofs.Opening.{map_ok, nothing, opens_at}
+use Rattle.salt_commit.proofs.Paired.{pair_answer, peek_full, peek_refused}
 use Rattle.salt_commit.proofs.open.open_store.Goals as goal
-use Rattle.salt_commit.specs.Openings.{IsPartLog, OpeningFails}
+use Rattle.salt_commit.specs.Openings.{IsPartLog, IsStoreLog, OpeningFails, StorePassesLimit}
 use Rattle.salt_commit.specs.Stores.{reading}
 use Rattle.salt_decisions.specs.Errors.{open_err}
 use Rattle.salt_disk.proofs.CallAfterCall.{keeps_on}
+use Rattle.salt_stands.specs.Coordinator.{coordinator_pair}
+use Rattle.salt_stands.specs.Stands.{logs_of}
 use Rattle.std.proofs.Common.{List, arith, subst, ℕ, ◌<◌, ◌∙◌}
+use Rattle.std.proofs.lemmas.Result.{err_from_is_err_and}
 use Rattle.std.specs.Prelude.{IfErr}
 
 pub returns-in_err-peek-clause-images : goal.returns-in_err-peek-clause-images
@@ -40,3 +44,31 @@ pub returns-clause-kept : goal.returns-clause-kept
 returns-clause-kept g c told some =
     let keeps = c.in_ok-peek.ensures.kept in
     keeps_on (λ _. ⊥) (g.D.Disks.view c.args.disks.now) (g.D.Disks.view c.peek.new.disks) (g.D.Disks.view c.open_counting.new.disks) (open_err c.open_counting.result) keeps (c.open_counting.ensures.kept (keeps.shape.told ∙ told))
+
+pub returns-in_err-peek-clause-err : goal.returns-in_err-peek-clause-err
+returns-in_err-peek-clause-err g c told =
+    let p = err_from_is_err_and c.from_residual.result c.from_residual.ensures.1 in
+    rw (p.1, p.2) (peek_refused c.args.shape (g.D.Disks.view c.args.disks.now).bytes c.in_err-peek.field-0.0 (c.in_err-peek.ensures.answer told))
+
+pub returns-in_err-peek-clause-kept : goal.returns-in_err-peek-clause-kept
+returns-in_err-peek-clause-kept g c told some =
+    let p = err_from_is_err_and c.from_residual.result c.from_residual.ensures.1 in
+    rw (pair_answer c.from_residual.result p.0 c.in_err-peek.field-0.0 p.1 p.2) c.in_err-peek.ensures.kept
+
+pub returns-in_err-peek-clause-others : goal.returns-in_err-peek-clause-others
+returns-in_err-peek-clause-others g c =
+    let d = g.D.Disks.view c.args.disks.now in
+    let a = g.D.Disks.view c.peek.new.disks in
+    let p = err_from_is_err_and c.from_residual.result c.from_residual.ensures.1 in
+    rw (pair_answer c.from_residual.result p.0 c.in_err-peek.field-0.0 p.1 p.2) (nothing (IsStoreLog c.args.shape.parts) d a _ c.in_err-peek.ensures.kept)
+
+pub returns-in_err-peek-clause-cause : goal.returns-in_err-peek-clause-cause
+returns-in_err-peek-clause-cause g c =
+    let p = err_from_is_err_and c.from_residual.result c.from_residual.ensures.1 in
+    rw (pair_answer c.from_residual.result p.0 c.in_err-peek.field-0.0 p.1 p.2) c.in_err-peek.ensures.cause
+
+pub returns-in_err-peek-clause-full : goal.returns-in_err-peek-clause-full
+returns-in_err-peek-clause-full g c told =
+    let p = err_from_is_err_and c.from_residual.result c.from_residual.ensures.1 in
+    rw (pair_answer c.from_residual.result p.0 c.in_err-peek.field-0.0 p.1 p.2)
+    (peek_full (StorePassesLimit (g.D.Disks.view c.peek.new.disks) c.args.shape) (coordinator_pair (logs_of (g.D.Disks.view c.args.disks.now).bytes)) c.in_err-peek.field-0.0 (c.in_err-peek.ensures.answer told))

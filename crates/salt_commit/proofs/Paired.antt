@@ -1,0 +1,54 @@
+-- What a pair of logs answers, as an opening of the store answers it.
+use Rattle.salt_bytes.specs.Generations.{Pair}
+use Rattle.salt_commit.specs.Openings.{OpeningFails, PartFails}
+use Rattle.salt_commit.specs.Prepares.{FullWhere}
+use Rattle.salt_commit.specs.Stores.{reading}
+use Rattle.salt_decisions.specs.Errors.{disk_err_in, open_err, open_err_of_pair}
+use Rattle.salt_decisions.specs.Opened.{PeekFails}
+use Rattle.salt_decisions.specs.declared.error.OpenErr.{OpenErr}
+use Rattle.salt_disk.specs.declared.disks.DiskErr.TheVariants.{Failed, Full, Memory, Stopped}
+use Rattle.salt_gatelog.specs.Pair.{pair_err_of}
+use Rattle.salt_gatelog.specs.declared.pair.PairErr.TheVariants.{Disk, NotSalt}
+use Rattle.salt_gatelog.specs.declared.pair.PairErr.{PairErr}
+use Rattle.salt_partition.specs.Openings.{IsWhy}
+use Rattle.salt_place.specs.declared.placement.Shape.{Shape}
+use Rattle.salt_stands.specs.Coordinator.{coordinator_pair, judge_coordinator}
+use Rattle.salt_stands.specs.CoordinatorLog.{CoordinatorLog}
+use Rattle.salt_stands.specs.Stands as opening
+use Rattle.salt_stands.specs.Stands.{logs_of, of_coordinator}
+use Rattle.salt_values.specs.declared.id.Id.{Id}
+use Rattle.std.proofs.Common.{Err, List, Result, ap, inl, refl, sym, ℕ, ◌≡◌, ◌∙◌}
+
+-- a partition's
+pub fails_so : (bytes : ℕ → List ℕ) (boot : ℕ) (us : List Id) (p : ℕ) (e : PairErr) → IsWhy bytes boot us p e → PartFails bytes boot us p (open_err_of_pair e)
+fails_so bytes boot us p (NotSalt dev) h = h
+fails_so bytes boot us p (Disk Failed) h = tt
+fails_so bytes boot us p (Disk Stopped) h = absurd h
+fails_so bytes boot us p (Disk (Full dev)) h = absurd h
+fails_so bytes boot us p (Disk Memory) h = tt
+
+same_err : (e : PairErr) → disk_err_in (open_err_of_pair e) ≡ pair_err_of e
+same_err (NotSalt dev) = refl
+same_err (Disk Failed) = refl
+same_err (Disk Stopped) = refl
+same_err (Disk (Full dev)) = refl
+same_err (Disk Memory) = refl
+
+pub pair_answer : {T : Type 0} (result : Result T OpenErr) (s : OpenErr) (e : PairErr) → result ≡ Err s → s ≡ open_err_of_pair e → open_err result ≡ pair_err_of e
+pair_answer result s e is from = ap open_err is ∙ ap disk_err_in from ∙ same_err e
+
+-- the coordinator's
+pub peek_refused : (asked : Shape) (bytes : ℕ → List ℕ) (e : PairErr) → PeekFails e (coordinator_pair (logs_of bytes)) → OpeningFails asked bytes (open_err_of_pair e)
+peek_refused asked bytes (NotSalt dev) f = inl (ap (λ pr. of_coordinator reading bytes asked (judge_coordinator reading pr)) f.is ∙ ap opening.NotSalt (sym f.device))
+peek_refused asked bytes (Disk Failed) f = tt
+peek_refused asked bytes (Disk Stopped) f = absurd f
+peek_refused asked bytes (Disk (Full dev)) f = absurd f
+peek_refused asked bytes (Disk Memory) f = tt
+
+-- nothing is written
+pub peek_full : (P : ℕ → Type 0) (pair : Pair CoordinatorLog) (e : PairErr) → PeekFails e pair → FullWhere P (pair_err_of e)
+peek_full P pair (NotSalt dev) f = tt
+peek_full P pair (Disk Failed) f = tt
+peek_full P pair (Disk Stopped) f = absurd f
+peek_full P pair (Disk (Full dev)) f = absurd f
+peek_full P pair (Disk Memory) f = tt
