@@ -5,7 +5,7 @@ ghost use Rattle.salt_ranges.specs.Ranges.{has_key};
 ghost use Rattle.salt_place.specs.Placement.{GivesPlaceOf, IsParts, TakesEachKey, place_of};
 ghost use Rattle.salt_values.specs.Value.{IsKey};
 ghost use Rattle.salt_values.specs.declared.value.Value.{Value};
-ghost use Rattle.std.specs.Prelude.{IfSome, true, ◌≡◌};
+ghost use Rattle.std.specs.Prelude.{IfSome, true, ℕ, ◌<◌, ◌≡◌};
 
 use crate::placement::{PlaceKind, Placement, Shape};
 use salt_ranges::KeyRange;
@@ -40,7 +40,8 @@ fn part_of_low<F: Fn(PlaceKind, &Key, u32) -> u32>(
     requires callable { TakesEachKey (F.pre place.now.place) }
     requires answers { GivesPlaceOf (F.post place.now.place) }
     requires parts { IsParts shape.parts }
-    ensures { result ≡ place_of shape.kind lo.now shape.parts }
+    ensures part { result ≡ place_of shape.kind lo.now shape.parts }
+    ensures below { result < shape.parts }
 {
     lo.told();
     match lo {
@@ -50,7 +51,8 @@ fn part_of_low<F: Fn(PlaceKind, &Key, u32) -> u32>(
 }
 
 /// The partition in which each key of a range stands, where the range alone tells it: there is one partition, the ends are
-/// equal, or under bands they are numbers of one band. `None` for every other range, and for one that is empty.
+/// equal, or under bands they are numbers of one band. `None` for every other range, and for one that is empty. Of the
+/// partitions there are, no other has a key of the range, whatever is taken for one.
 pub fn one_part<F: Fn(PlaceKind, &Key, u32) -> u32>(
     place: &Placement<F>,
     shape: Shape,
@@ -61,6 +63,8 @@ pub fn one_part<F: Fn(PlaceKind, &Key, u32) -> u32>(
     requires parts { IsParts shape.parts }
     ensures part { result ≡ one_part shape range.now }
     ensures each { IfSome result (λ part. (key : Value) → IsKey key → has_key range.now key ≡ true → place_of shape.kind key shape.parts ≡ part) }
+    ensures below { IfSome result (λ part. part < shape.parts) }
+    ensures alone { IfSome result (λ part. (key : Value) (p : ℕ) → p < shape.parts → has_key range.now key ≡ true → place_of shape.kind key shape.parts ≡ p → p ≡ part) }
 {
     if range.is_empty() {
         return None;
