@@ -27,6 +27,7 @@ mod Undecided
 mod Units
 mod Witness
 mod Loaded
+mod OnePart
 mod Shown
 mod Sound
 mod Reopened

@@ -7,7 +7,8 @@ use Rattle.salt_commit.proofs.Shown.{store_shown}
 use Rattle.salt_commit.proofs.Standing.{partitions_kept}
 use Rattle.salt_commit.proofs.Undecided.{decisions_kept}
 use Rattle.salt_commit.specs.Loads.{IsPartOf, IsRowAt, shown_in_all}
-use Rattle.salt_commit.specs.Stores.{IsStore, Stands, decided_by, reading, rows_of_store}
+use Rattle.salt_commit.specs.Reads.{StandsInPlace}
+use Rattle.salt_commit.specs.Stores.{IsStore, decided_by, reading, rows_of_store}
 use Rattle.salt_commit.specs.declared.store.Store.{Store}
 use Rattle.salt_disk.proofs.CallAfterCall.{cause_on, cause_none, keeps_on, same_shape}
 use Rattle.salt_disk.specs.Disks.{HasCause, IsUnchanged, KeepsAll, SameShape, UnlessDown, View}
@@ -113,9 +114,9 @@ none_loaded d x t range schema rows none = subst (λ (l : List Entry). LoadedSoF
   stay = refl;
 })
 
-module _ (d0 d : View) (x0 x : Store) (t : ℕ) (range : KeyRange) (schema : List TableDef) (rows : List Entry) (after : Option Value) (so_far : LoadedSoFar d0 d x0 x t range schema rows after) (s : Stands d0 x0) where
-  pub still_stands : Stands d x
-  still_stands = record { which = s.which; c = s.c; v = s.v; is = so_far.is s.which s.c s.v s.is }
+module _ (d0 d : View) (x0 x : Store) (t : ℕ) (range : KeyRange) (schema : List TableDef) (rows : List Entry) (after : Option Value) (so_far : LoadedSoFar d0 d x0 x t range schema rows after) (s : StandsInPlace d0 x0) where
+  pub still_stands : StandsInPlace d x
+  still_stands = record { which = s.which; c = s.c; v = s.v; is = so_far.is s.which s.c s.v s.is; placed = s.placed }
 
   -- with one row more
   module _ (row : List Value) (next : (which : WhichLog) (c : Coordinator Definition) (v : ℕ → PartView) → IsStore reading d x which c v → Some row ≡ next_row t range after (rows_of c v)) where

@@ -117,7 +117,7 @@ one_more_fits schema shape parts n x at so_far one p low = by (less_or p n)
         (subst (λ (o : Option Partition). IfSome o (λ y. list_all (fits_place schema shape n) y.rows.entries ≡ true)) (sym at) one)
 
 module _ (schema : List TableDef) (d : View) (x : Store) (which : WhichLog) (c : Coordinator Definition) (v : ℕ → PartView) (is : IsStore reading d x which c v) where
-  rows_are : (p : ℕ) (q : Partition) → slice_get x.parts.items p ≡ Some q → q.rows.entries ≡ (each_tables c v p).list
+  pub rows_are : (p : ℕ) (q : Partition) → slice_get x.parts.items p ≡ Some q → q.rows.entries ≡ (each_tables c v p).list
   rows_are p q at = (if_some (slice_get x.parts.items p) q (λ y. IsPartition d y p (v p) (decided_by c p)) at (is.parts.each p)).rows
 
   -- WHERE EACH FITS

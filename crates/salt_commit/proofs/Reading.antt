@@ -1,6 +1,6 @@
 -- A partition of a store is read.
 use Rattle.salt_bytes.specs.Generations.{WhichLog}
-use Rattle.salt_commit.proofs.Lists.{set_other, set_same}
+use Rattle.salt_commit.proofs.Lists.{map_set, set_other, set_same}
 use Rattle.salt_commit.proofs.Standing.{if_some, make_some, stood}
 use Rattle.salt_commit.proofs.Undecided.{decisions_kept}
 use Rattle.salt_commit.specs.Stores.{ArePartitions, IsStore, decided_by}
@@ -10,7 +10,7 @@ use Rattle.salt_disk.specs.declared.disks.DiskErr.TheVariants.{Failed, Full, Mem
 use Rattle.salt_disk.specs.declared.disks.DiskErr.{DiskErr}
 use Rattle.salt_model.specs.Tables.{place, row_at}
 use Rattle.salt_partition.proofs.Framed.{partition_kept}
-use Rattle.salt_partition.specs.Partitions.{IsPartition}
+use Rattle.salt_partition.specs.Partitions.{IsPartition, rows_in}
 use Rattle.salt_partition.specs.declared.partition.Partition.{Partition}
 use Rattle.salt_stands.proofs.Joined.{row_at_joined}
 use Rattle.salt_stands.proofs.PlacedParts.{placed_part}
@@ -25,13 +25,16 @@ use Rattle.std.proofs.Common.{IsTrue, List, None, Option, Some, ap, arith, get_o
 use Rattle.std.proofs.lemmas.Bool.{cases_eq}
 use Rattle.std.proofs.lemmas.List.{length-set}
 use Rattle.std.proofs.lemmas.Option.{slice_get_read}
-use Rattle.std.specs.Prelude.{IfSome, slice_get}
+use Rattle.std.specs.Prelude.{IfSome, map, slice_get}
 
 module _ {D : Type 0} (r : Reading D) (d : View) (x : Store) (which : WhichLog) (c : Coordinator D) (v : ℕ → PartView) (is : IsStore r d x which c v)
     (p : ℕ) (q : Partition) (within : p < length x.parts.items) (read : q ≡ get_or x.parts.items p q) where
   -- the one that was taken at its place
   pub taken : IsPartition d q p (v p) (decided_by c p)
   taken = if_some (slice_get x.parts.items p) q (λ z. IsPartition d z p (v p) (decided_by c p)) (slice_get_read x.parts.items (length x.parts.items) p q refl within read) (is.parts.each p)
+
+  pub same_rows : (q' : Partition) → rows_in q' ≡ rows_in q → map rows_in (slice_set x.parts.items p q') ≡ map rows_in x.parts.items
+  same_rows q' same = map_set rows_in x.parts.items p q q' (slice_get_read x.parts.items (length x.parts.items) p q refl within read) same
 
   put_back : (e : View) (y : Store) (q' : Partition) → Rattle.salt_disk.specs.Disks.SameShape d e → ((dev : ℕ) → IsUnchanged d e dev) → IsPartition e q' p (v p) (decided_by c p)
       → y.decisions ≡ x.decisions → y.parts.items ≡ slice_set x.parts.items p q' → IsStore r e y which c v

@@ -41,7 +41,7 @@ or_or : (a b c : Option (List Value)) → or_row a (or_row b c) ≡ or_row (or_r
 or_or None b c = refl
 or_or (Some x) b c = refl
 
-or_none : (a : Option (List Value)) → or_row a None ≡ a
+pub or_none : (a : Option (List Value)) → or_row a None ≡ a
 or_none None = refl
 or_none (Some x) = refl
 

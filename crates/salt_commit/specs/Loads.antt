@@ -1,6 +1,7 @@
 -- Rows that are loaded, and rows that were read.
 use Rattle.salt_ast.specs.declared.trees.TableDef.{TableDef}
 use Rattle.salt_stands.specs.Fitting.{at_place, is_row_of}
+use Rattle.salt_commit.specs.Reads.{ArePlaced}
 use Rattle.salt_eval.specs.Meets.{meets_table}
 use Rattle.salt_eval.specs.Views.{tables_of}
 use Rattle.salt_model.specs.Kept.{Definition}
@@ -9,15 +10,14 @@ use Rattle.salt_model.specs.Words.{Every}
 use Rattle.salt_model.specs.declared.locks.Reach.{Reach}
 use Rattle.salt_model.specs.declared.places.Place.{Place}
 use Rattle.salt_partition.specs.declared.partition.Partition.{Partition}
-use Rattle.salt_stands.specs.Commits.{each_tables, found_of, parts_of}
+use Rattle.salt_stands.specs.Commits.{found_of}
 use Rattle.salt_stands.specs.Coordinator.{Coordinator}
 use Rattle.salt_stands.specs.Partition.{part_of_key}
 use Rattle.salt_stands.specs.Pieces.{PartView}
-use Rattle.salt_stands.specs.Placed.{IsPlaced}
 use Rattle.salt_stands.specs.Tables.{joined}
 use Rattle.salt_place.specs.declared.placement.Shape.{Shape}
 use Rattle.salt_values.specs.declared.value.Value.{Value}
-use Rattle.std.specs.Prelude.{Bool, List, None, if◌then◌else◌, map, true, ℕ, ◌&&◌, ◌<◌, ◌==◌, ◌≡◌}
+use Rattle.std.specs.Prelude.{Bool, List, None, if◌then◌else◌, map, true, ℕ, ◌&&◌, ◌==◌, ◌≡◌}
 
 -- these are the rows of a reach, and no others
 abbrev pub IsPartOf : Reach → (part whole : Tables) → Type 0
@@ -46,4 +46,4 @@ fits_place schema shape p e = meets_table schema e.0.table e.1 && (part_of_key s
 -- each row of a store is one of these tables, and stands in the partition of its key
 pub record AreInPlace (schema : List TableDef) (c : Coordinator Definition) (v : ℕ → PartView) : Type 0 where
   pub rows : AreRowsOf schema (found_of c v).kept.tables
-  pub placed : (p : ℕ) → p < parts_of c → IsPlaced c.log.header.shape p (each_tables c v p)
+  pub placed : ArePlaced c v

@@ -3,7 +3,8 @@
 ghost use Rattle.salt_bytes.specs.Generations.{WhichLog};
 ghost use Rattle.salt_commit.specs.Errors.{store_err};
 ghost use Rattle.salt_commit.specs.Loads.{AreRowsOf, IsPartOf};
-ghost use Rattle.salt_commit.specs.Stores.{IsStore, Stands, reading, rows_of_store};
+ghost use Rattle.salt_commit.specs.Reads.{StandsInPlace};
+ghost use Rattle.salt_commit.specs.Stores.{IsStore, reading, rows_of_store};
 ghost use Rattle.salt_stands.specs.Fitting.{tables_of};
 ghost use Rattle.salt_disk.specs.Disks.{HasCause, KeepsAll, OnlyFails, UnlessDown};
 ghost use Rattle.salt_eval.specs.Meets.{meets_table};
@@ -73,8 +74,8 @@ fn judge<D: Disks>(
 }
 
 impl Store {
-    /// The rows in a reach, each of which meets its table. Each partition is asked, wherever the reach lies. Where memory runs
-    /// out the store stands as before. A row that does not meet its table, which only disks can give that don't tell their bytes,
+    /// The rows in a reach, each of which meets its table. One partition is asked where the range tells that its keys stand in
+    /// one, and else each. Where memory runs out the store stands as before. A row that does not meet its table, which only disks can give that don't tell their bytes,
     /// is answered as a failure of the disks.
     pub fn load<D: Disks, F: Fn(PlaceKind, &Key, u32) -> u32>(
         &mut self,
@@ -85,7 +86,7 @@ impl Store {
     ) -> Result<Tables, StoreErr>
         requires callable { TakesEachKey (F.pre place.now.place) }
         requires answers { GivesPlaceOf (F.post place.now.place) }
-        requires stands { Stands (D.view disks.old) self.old }
+        requires stands { StandsInPlace (D.view disks.old) self.old }
         requires table { reach.now.table < length schema.now }
         requires schema { (which : WhichLog) (c : Coordinator Definition) (v : ℕ → PartView) → IsStore reading (D.view disks.old) self.old which c v → IsTrue (D.view disks.old).told
             → schema.now ≡ tables_of c.definitions }
@@ -99,11 +100,16 @@ impl Store {
         ensures cause { HasCause (D.view disks.old) (D.view disks.new) (store_err result) }
         ensures answers { OnlyFails (store_err result) }
     {
-        let _ = place;
         let alloc = self.alloc;
         let mut rows = BTreeMap::new(alloc);
         let mut after: Option<Key> = None;
-        while let Some(row) = self.next_in(disks, reach.table, &reach.range, after.as_ref())? {
+        while let Some(row) = self.next_in(
+            disks,
+            place,
+            reach.table,
+            &reach.range,
+            after.as_ref(),
+        )? {
             judge(alloc, disks, schema, reach.table, &row)?;
             after = Some(put_row(alloc, &mut rows, reach.table, row)?);
         }

@@ -2,23 +2,24 @@
 
 ghost use Rattle.salt_bytes.specs.Generations.{WhichLog};
 ghost use Rattle.salt_commit.specs.Errors.{store_err};
+ghost use Rattle.salt_commit.specs.Reads.{StandsInPlace};
 ghost use Rattle.salt_commit.specs.Stores.{IsStore, Stands, reading, row_in, rows_of_store};
 ghost use Rattle.salt_disk.specs.Disks.{HasCause, KeepsAll, OnlyFails, UnlessDown};
 ghost use Rattle.salt_eval.specs.Views.{next_row};
 ghost use Rattle.salt_model.specs.Kept.{Definition};
-ghost use Rattle.salt_stands.specs.Commits.{found_of};
+ghost use Rattle.salt_stands.specs.Commits.{each_tables, found_of};
 ghost use Rattle.salt_stands.specs.Coordinator.{Coordinator};
 ghost use Rattle.salt_stands.specs.Pieces.{PartView};
 ghost use Rattle.salt_place.specs.Placement.{GivesPlaceOf, TakesEachKey};
 ghost use Rattle.std.specs.Option.{option_copied};
-ghost use Rattle.std.specs.Prelude.{IfOk, IsTrue, ℕ, ◌≡◌};
+ghost use Rattle.std.specs.Prelude.{IfOk, IsTrue, length, ℕ, ◌<◌, ◌≡◌};
 
 use crate::error::StoreErr;
 use crate::nexts::next_of_all;
 use crate::shares::part_of;
 use crate::store::Store;
 use salt_disk::Disks;
-use salt_place::{PlaceKind, Placement};
+use salt_place::{PlaceKind, Placement, one_part};
 use salt_ranges::KeyRange;
 use salt_values::{Key, Row};
 
@@ -48,9 +49,33 @@ impl Store {
         Ok(row)
     }
 
-    /// The row of the least key in the range that is above `after`, where one is given; `None` exactly where there is none.
-    /// Where memory runs out the store stands as before.
-    pub fn next_in<D: Disks>(
+    /// The next row of the range in one partition.
+    fn next_in_part<D: Disks>(
+        &mut self,
+        disks: &mut D,
+        number: u32,
+        table: u16,
+        range: &KeyRange,
+        after: Option<&Key>,
+    ) -> Result<Option<Row>, StoreErr>
+        requires stands { Stands (D.view disks.old) self.old }
+        requires below { number < length self.old.parts.items }
+        ensures row { (which : WhichLog) (c : Coordinator Definition) (v : ℕ → PartView) → IsStore reading (D.view disks.old) self.old which c v
+            → IfOk result (λ row. row ≡ next_row table range.now (option_copied after.entry) (each_tables c v number)) }
+        ensures stands { (which : WhichLog) (c : Coordinator Definition) (v : ℕ → PartView) → IsStore reading (D.view disks.old) self.old which c v
+            → UnlessDown (store_err result) (IsStore reading (D.view disks.new) self.new which c v) }
+        ensures stay { rows_of_store self.new ≡ rows_of_store self.old }
+        ensures kept { KeepsAll (D.view disks.old) (D.view disks.new) (store_err result) }
+        ensures cause { HasCause (D.view disks.old) (D.view disks.new) (store_err result) }
+        ensures answers { OnlyFails (store_err result) }
+    {
+        let part = &mut self.parts[number as usize];
+        let row = part.next_in(disks, table, range, after)?;
+        Ok(row)
+    }
+
+    /// The next row of the range in all partitions.
+    fn next_in_all<D: Disks>(
         &mut self,
         disks: &mut D,
         table: u16,
@@ -69,5 +94,34 @@ impl Store {
     {
         let row = next_of_all(disks, &mut self.parts, table, range, after)?;
         Ok(row)
+    }
+
+    /// The row of the least key in the range that is above `after`, where one is given; `None` exactly where there is none. One
+    /// partition is asked where the range tells that its keys stand in one, and else each. Where memory runs out the store
+    /// stands as before.
+    pub fn next_in<D: Disks, F: Fn(PlaceKind, &Key, u32) -> u32>(
+        &mut self,
+        disks: &mut D,
+        place: &Placement<F>,
+        table: u16,
+        range: &KeyRange,
+        after: Option<&Key>,
+    ) -> Result<Option<Row>, StoreErr>
+        requires callable { TakesEachKey (F.pre place.now.place) }
+        requires answers { GivesPlaceOf (F.post place.now.place) }
+        requires stands { StandsInPlace (D.view disks.old) self.old }
+        ensures row { (which : WhichLog) (c : Coordinator Definition) (v : ℕ → PartView) → IsStore reading (D.view disks.old) self.old which c v
+            → IfOk result (λ row. row ≡ next_row table range.now (option_copied after.entry) (found_of c v).kept.tables) }
+        ensures stands { (which : WhichLog) (c : Coordinator Definition) (v : ℕ → PartView) → IsStore reading (D.view disks.old) self.old which c v
+            → UnlessDown (store_err result) (IsStore reading (D.view disks.new) self.new which c v) }
+        ensures stay { rows_of_store self.new ≡ rows_of_store self.old }
+        ensures kept { KeepsAll (D.view disks.old) (D.view disks.new) (store_err result) }
+        ensures cause { HasCause (D.view disks.old) (D.view disks.new) (store_err result) }
+        ensures answers { OnlyFails (store_err result) }
+    {
+        match one_part(place, self.decisions.shape(), range) {
+            Some(number) => self.next_in_part(disks, number, table, range, after),
+            None => self.next_in_all(disks, table, range, after),
+        }
     }
 }

@@ -3,6 +3,7 @@ use Rattle.salt_bytes.specs.Generations.{BothBlank, Counts, WhichLog}
 use Rattle.salt_bytes.specs.Log.{entries_in}
 use Rattle.salt_commit.proofs.Standing.{part_at, unchanged_images}
 use Rattle.salt_commit.specs.Openings.{NamesPages}
+use Rattle.salt_commit.specs.Reads.{StandsInPlace}
 use Rattle.salt_commit.specs.Stores.{IsStore, Stands, decided_by, next_text, reading}
 use Rattle.salt_commit.specs.declared.store.Store.{Store}
 use Rattle.salt_stands.specs.Fitting.{kept_in, tables_of}
@@ -18,7 +19,7 @@ use Rattle.salt_stands.proofs.Pairs.{pair_same}
 use Rattle.salt_stands.specs.Commits.{found_of, parts_of}
 use Rattle.salt_stands.specs.Coordinator.{Coordinator, coordinator_pair, decided_for, defined_by, judge_coordinator}
 use Rattle.salt_stands.specs.CoordinatorLog.{CoordinatorLog}
-use Rattle.salt_stands.specs.Partition.{part_device, part_pair}
+use Rattle.salt_stands.specs.Partition.{part_device, part_of_key, part_pair}
 use Rattle.salt_stands.specs.PartitionLog.{PartitionLog, partition_generation, partition_in}
 use Rattle.salt_stands.specs.Pieces.{PartView, is_prepared_in, with_definition}
 use Rattle.salt_stands.specs.Stands.{Found, judged, logs_of, nothing_found, with_parts}
@@ -109,6 +110,16 @@ is_begun shape image each blank =
 module _ (d : View) (shape : Shape) (x : Store) (k : Kept) (h : IsHeld d shape x k) where
   pub held_stands : Stands d x
   held_stands = record { which = h.which; c = h.c; v = h.v; is = h.is }
+
+  -- with each row in the partition of its key
+  pub held_in_place : StandsInPlace d x
+  held_in_place = record {
+    which = h.which;
+    c = h.c;
+    v = h.v;
+    is = h.is;
+    placed = λ p low q row found. ap (λ (s : Shape). part_of_key s q.key) h.keeps.has_shape ∙ h.keeps.placed p low q row found;
+  }
 
   pub held_schema : schema_of k ≡ tables_of h.c.definitions
   held_schema = ap tables_of h.keeps.definitions

@@ -2,7 +2,7 @@ use Rattle.salt_commit.specs.Loads.{IsPartOf}
 use Rattle.salt_devices.proofs.Entered.{leaves_on}
 use Rattle.salt_devices.proofs.Loading.{same_part}
 use Rattle.salt_devices.proofs.Halts.{never_full, same_cause, same_kept}
-use Rattle.salt_devices.proofs.Stores.{held_again, held_leaves, held_schema, held_stands, new_again, one_schema}
+use Rattle.salt_devices.proofs.Stores.{held_again, held_in_place, held_leaves, held_schema, new_again, one_schema}
 use Rattle.salt_devices.proofs.held.load_rows.Goals as goal
 use Rattle.salt_eval.specs.Views as view
 use Rattle.std.proofs.Common.{subst, sym, ◌∙◌}
@@ -10,7 +10,7 @@ use Rattle.std.proofs.Common.{subst, sym, ◌∙◌}
 pub load-requires-clause-stands : goal.load-requires-clause-stands
 load-requires-clause-stands g c =
     let r = c.requires.held in
-    held_stands (g.D.Disks.view c.args.disks.now) r.0 c.args.store.now r.1 r.2
+    held_in_place (g.D.Disks.view c.args.disks.now) r.0 c.args.store.now r.1 r.2
 
 pub load-requires-clause-schema : goal.load-requires-clause-schema
 load-requires-clause-schema g c which co v is told =

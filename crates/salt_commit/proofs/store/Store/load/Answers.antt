@@ -12,7 +12,7 @@ use Rattle.std.proofs.lemmas.Result.{err_from_is_err_and}
 pub next_in-requires : goal.next_in-requires
 next_in-requires g c =
     let l = c.loop-after in
-    record { stands = still_stands (g.D.Disks.view c.args.disks.now) (g.D.Disks.view l.disks) c.args.self.now l.self c.args.reach.now.table c.args.reach.now.range c.args.schema.now l.rows.entries l.after l.invariant c.requires.stands }
+    record { callable = c.requires.callable; answers = c.requires.answers; stands = still_stands (g.D.Disks.view c.args.disks.now) (g.D.Disks.view l.disks) c.args.self.now l.self c.args.reach.now.table c.args.reach.now.range c.args.schema.now l.rows.entries l.after l.invariant c.requires.stands }
 
 pub judge-requires : goal.judge-requires
 judge-requires g c fails =

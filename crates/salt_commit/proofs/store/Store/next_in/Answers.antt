@@ -1,23 +1,32 @@
-use Rattle.salt_commit.proofs.Committed.{answer_is}
-use Rattle.salt_commit.proofs.Scanned.{store_after_reads}
+use Rattle.salt_commit.proofs.OnePart.{next_of_store}
 use Rattle.salt_commit.proofs.store.Store.next_in.Goals as goal
-use Rattle.salt_commit.specs.Stores.{decided_by, reading}
-use Rattle.salt_commit.specs.Reads.{tables_of_all}
 use Rattle.salt_eval.specs.Views.{next_row}
-use Rattle.std.proofs.Common.{None, Some, ap, refl, ◌∙◌}
-use Rattle.std.proofs.lemmas.Result.{err_from_is_err_and}
+use Rattle.salt_stands.specs.Commits.{parts_of}
+use Rattle.salt_stands.specs.Partition.{part_of_key}
+use Rattle.std.proofs.Common.{ap, arith, subst, ◌<◌, ◌≡◌, ◌∙◌}
 use Rattle.std.specs.Option.{option_copied}
+use Rattle.std.specs.Prelude.{IfOk}
 
-pub returns-in_err-row-clause-stands : goal.returns-in_err-row-clause-stands
-returns-in_err-row-clause-stands g c which co v is =
-    let e = err_from_is_err_and c.from_residual.result c.from_residual.ensures.1 in
-    rw (answer_is c.from_residual.result e.0 c.in_err-row.field-0.0 e.1 e.2)
-    (store_after_reads reading (g.D.Disks.view c.args.disks.now) (g.D.Disks.view c.next_of_all.new.disks) c.args.self.now _ which co v (Some c.in_err-row.field-0.0) is c.in_err-row.ensures.kept refl c.in_err-row.ensures.size (c.in_err-row.ensures.stands v (decided_by co) is.parts))
+pub next_in_part-requires : goal.next_in_part-requires
+next_in_part-requires g c =
+    let s = c.requires.stands in
+    let shape = c.shape.ensures ∙ s.is.decisions.holds.shape in
+    record {
+      stands = record { which = s.which; c = s.c; v = s.v; is = s.is };
+      below = omega (arith, c.in-Some.ensures.below, ap (λ k. k.parts) shape, s.is.size);
+    }
 
-pub returns-clause-row : goal.returns-clause-row
-returns-clause-row g c which co v is =
-    c.in_ok-row.ensures.row v (decided_by co) is.parts ∙ ap (λ n. next_row c.args.table c.args.range.now (option_copied c.args.after) (tables_of_all v (decided_by co) n)) is.size
+pub next_in_all-requires : goal.next_in_all-requires
+next_in_all-requires g c = let s = c.requires.stands in record { stands = record { which = s.which; c = s.c; v = s.v; is = s.is } }
 
-pub returns-clause-stands : goal.returns-clause-stands
-returns-clause-stands g c which co v is =
-    store_after_reads reading (g.D.Disks.view c.args.disks.now) (g.D.Disks.view c.next_of_all.new.disks) c.args.self.now _ which co v None is c.in_ok-row.ensures.kept refl c.in_ok-row.ensures.size (c.in_ok-row.ensures.stands v (decided_by co) is.parts)
+pub returns-in-Some-clause-row : goal.returns-in-Some-clause-row
+returns-in-Some-clause-row g c which co v is =
+    let x = c.args.self.now in
+    let d = g.D.Disks.view c.args.disks.now in
+    let p = c.in-Some.number in
+    let shape = c.shape.ensures ∙ is.decisions.holds.shape in
+    let low : p < parts_of co = omega (arith, c.in-Some.ensures.below, ap (λ k. k.parts) shape) in
+    subst (λ o. IfOk c.next_in_part.result (λ row. row ≡ o))
+    (next_of_store d x c.requires.stands which co v is c.args.table c.args.range.now (option_copied c.args.after) p low
+    (λ key k below inside at. c.in-Some.ensures.alone key k (omega (arith, below, ap (λ k. k.parts) shape)) inside (ap (λ k. part_of_key k key) shape ∙ at)))
+    (c.next_in_part.ensures.row which co v is)
