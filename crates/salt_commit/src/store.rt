@@ -7,6 +7,7 @@ ghost use Rattle.salt_commit.specs.Stores.{IsStore, MayDefine, StandForEither, S
 ghost use Rattle.salt_decisions.specs.Decisions.{next_definition};
 ghost use Rattle.salt_disk.specs.Disks.{FullExactly, HasCause, IsUnchanged, KeepsOthers};
 ghost use Rattle.salt_model.specs.Kept.{Definition};
+ghost use Rattle.salt_place.specs.Placement.{GivesPlaceOf, TakesEachKey};
 ghost use Rattle.salt_stands.specs.Commits.{found_of};
 ghost use Rattle.salt_stands.specs.Coordinator.{Coordinator};
 ghost use Rattle.salt_stands.specs.Pieces.{PartView, with_boot, with_definition};
@@ -16,7 +17,9 @@ use crate::error::StoreErr;
 use salt_decisions::Decisions;
 use salt_disk::Disks;
 use salt_partition::Partition;
+use salt_place::{PlaceKind, Placement};
 use salt_stands::what_fits_still_fits;
+use salt_values::Key;
 use std::alloc::Global;
 
 /// A database on its devices: the coordinator's log, and the partitions in order of their numbers. After an error of a call on
@@ -68,7 +71,14 @@ impl Store {
     /// Adds a definition by its canonical text, which the definitions before it do not refuse, and gives the number of its
     /// decision. After Ok it is kept. Whatever the call answers, each image of the devices stands for what stood before, or
     /// for that with the definition.
-    pub fn define<D: Disks>(&mut self, disks: &mut D, text: &[u8]) -> Result<u64, StoreErr>
+    pub fn define<D: Disks, F: Fn(PlaceKind, &Key, u32) -> u32>(
+        &mut self,
+        disks: &mut D,
+        _place: &Placement<F>,
+        text: &[u8],
+    ) -> Result<u64, StoreErr>
+        requires callable { TakesEachKey (F.pre _place.now.place) }
+        requires answers { GivesPlaceOf (F.post _place.now.place) }
         requires stands { StandsToDefine (D.view disks.old) self.old text.now }
         requires below { last_decision self.old < 2 ^ 64 - 1 }
 

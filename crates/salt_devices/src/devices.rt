@@ -191,11 +191,16 @@ impl Storage for Devices {
         }
     }
 
-    fn define<D: Disks>(&mut self, disks: &mut D, text: &[u8]) -> Result<u64, Halt> {
+    fn define<D: Disks, F: Fn(PlaceKind, &Key, u32) -> u32>(
+        &mut self,
+        disks: &mut D,
+        place: &Placement<F>,
+        text: &[u8],
+    ) -> Result<u64, Halt> {
         let Some(store) = &mut self.store else {
             unreachable!()
         };
-        match decide_definition(store, disks, text) {
+        match decide_definition(store, disks, place, text) {
             Ok(number) => {
                 self.numbers.decisions = number;
                 Ok(number)

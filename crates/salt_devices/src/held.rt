@@ -98,11 +98,14 @@ pub fn begin_boot<D: Disks>(store: &mut Store, disks: &mut D) -> Result<u64, Hal
 }
 
 /// Decides a definition by its canonical text, and gives its number. Where no number is left, want of memory is answered.
-pub fn decide_definition<D: Disks>(
+pub fn decide_definition<D: Disks, F: Fn(PlaceKind, &Key, u32) -> u32>(
     store: &mut Store,
     disks: &mut D,
+    place: &Placement<F>,
     text: &[u8],
 ) -> Result<u64, Halt>
+    requires callable { TakesEachKey (F.pre place.now.place) }
+    requires answers { GivesPlaceOf (F.post place.now.place) }
     requires held { (shape : Shape) × (k : Kept) × IsHeld (D.view disks.old) shape store.old k × ((d : Definition) × (definition_in text.now ≡ Some d) × MayDefine k d) }
     ensures number { IfOk result (λ number. (shape : Shape) (k : Kept) → IsHeld (D.view disks.old) shape store.old k → number ≡ k.decisions + 1) }
     ensures holds { OnOk result ((shape : Shape) (k : Kept) (d : Definition) → IsHeld (D.view disks.old) shape store.old k → definition_in text.now ≡ Some d → MayDefine k d
@@ -118,7 +121,7 @@ pub fn decide_definition<D: Disks>(
     if store.decisions() == u64::MAX {
         return Err(Halt::Memory);
     }
-    match store.define(disks, text) {
+    match store.define(disks, place, text) {
         Ok(number) => Ok(number),
         Err(e) => Err(halt_of(e)),
     }

@@ -107,12 +107,15 @@ fn arm_each<S: Storage, D: Disks>(
 
 impl<S: Storage> Engine<S> {
     /// The table or the program of a line is defined.
-    fn define<D: Disks>(
+    fn define<D: Disks, F: Fn(PlaceKind, &Key, u32) -> u32>(
         &mut self,
         disks: &mut D,
+        place: &Placement<F>,
         scheduler: Scheduler,
         line: &Line,
     ) -> Result<Option<Event>, Halt>
+        requires callable { TakesEachKey (F.pre place.now.place) }
+        requires answers { GivesPlaceOf (F.post place.now.place) }
         requires definition { is_definition line.now ≡ true }
         requires lost { self.old.stage ≡ Lost }
         requires none { self.old.in_flight ≡ None }
@@ -126,7 +129,7 @@ impl<S: Storage> Engine<S> {
         let mut scheduler = scheduler;
         self.storage.stands(disks);
         let asked = definition_of(self.alloc, line)?;
-        match self.storage.define(disks, asked.text()) {
+        match self.storage.define(disks, place, asked.text()) {
             Ok(_number) => {
                 self.storage.stands(disks);
                 self.in_flight = Some(asked);
@@ -218,8 +221,8 @@ impl<S: Storage> Engine<S> {
         ensures counts { CountsStops (D.view disks.old) (D.view disks.new) (disk_err result) (armed_by result) 0 }
     {
         match line {
-            Line::Table(_def) => self.define(disks, scheduler, line),
-            Line::Program(_def) => self.define(disks, scheduler, line),
+            Line::Table(_def) => self.define(disks, place, scheduler, line),
+            Line::Program(_def) => self.define(disks, place, scheduler, line),
             Line::Crash(pairs) => self.arm(disks, scheduler, line, pairs),
             _ => self.follow_line(disks, place, scheduler, line),
         }

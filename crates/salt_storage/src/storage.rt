@@ -169,8 +169,15 @@ pub trait Storage {
         ensures cause { HasCause (D.view disks.old) (D.view disks.new) (disk_err result) };
 
     /// Decides a definition by its canonical text, and gives the number of the decision.
-    fn define<D: Disks>(&mut self, disks: &mut D, text: &[u8]) -> Result<u64, Halt>
-        requires { (k : Kept) × holds (D.view disks.old) self.old k × ((d : Definition) × (definition_in text.now ≡ Some d) × MayDefine k d) }
+    fn define<D: Disks, F: Fn(PlaceKind, &Key, u32) -> u32>(
+        &mut self,
+        disks: &mut D,
+        place: &Placement<F>,
+        text: &[u8],
+    ) -> Result<u64, Halt>
+        requires callable { TakesEachKey (F.pre place.now.place) }
+        requires answers { GivesPlaceOf (F.post place.now.place) }
+        requires may { (k : Kept) × holds (D.view disks.old) self.old k × ((d : Definition) × (definition_in text.now ≡ Some d) × MayDefine k d) }
         ensures number { IfOk result (λ number. (k : Kept) → holds (D.view disks.old) self.old k → number ≡ k.decisions + 1) }
         ensures holds { OnOk result ((k : Kept) (d : Definition) → holds (D.view disks.old) self.old k → definition_in text.now ≡ Some d → MayDefine k d
             → holds (D.view disks.new) self.new (defined k d)) }

@@ -10,8 +10,8 @@ use Rattle.salt_storage.specs.Writing.{OfDefinition}
 use Rattle.std.proofs.Common.{ap, inl, subst, ◌∙◌}
 use Rattle.std.specs.Prelude.{Err, List, refl, ℕ}
 
-pub define-requires : goal.define-requires
-define-requires g c =
+pub define-requires-clause-may : goal.define-requires-clause-may
+define-requires-clause-may g c =
     let s = c.requires.ready.0 in
     let h = c.requires.ready.1 in
     let d = defines _ _ _ c.args.scheduler s c.definitions_may_be_kept.ensures.table c.definitions_may_be_kept.ensures.program c.stands.ensures.sound c.args.line.now c.in_ok-asked.asked h c.in_ok-asked.ensures in
