@@ -5,7 +5,7 @@ ghost use Rattle.salt_disk.specs.Disks.{IsSettled};
 ghost use Rattle.salt_disk.specs.MemDisks.{seen};
 ghost use Rattle.salt_codec.specs.Entries.{HasRow};
 ghost use Rattle.salt_gatelog.specs.Log.{IsLog};
-ghost use Rattle.salt_partition.specs.Partitions.{Stands};
+ghost use Rattle.salt_partition.specs.Partitions.{StandsOnDevices};
 ghost use Rattle.std.specs.Prelude.{IfOk, List, OnOk, ℕ, ◌<◌, ◌≡◌};
 
 use salt_codec::{Header, spell_header, spell_prepared};
@@ -120,8 +120,8 @@ pub fn read(alloc: Global, rows: u32, times: u32) -> Result<u64, PairErr> {
 
 /// How many of the rows are there.
 fn found(part: &mut Partition, disks: &mut MemDisks, rows: u32) -> Result<u64, DiskErr>
-    requires { Stands (seen disks.old) part.old }
-    ensures { OnOk result (Stands (seen disks.new) part.new) }
+    requires { StandsOnDevices (seen disks.old) part.old }
+    ensures { OnOk result (StandsOnDevices (seen disks.new) part.new) }
 {
     let mut count: u64 = 0;
     for key in 0..rows {

@@ -8,7 +8,7 @@ use Rattle.salt_bytes.specs.declared.moves.Move.TheVariants.{Plain}
 use Rattle.salt_commit.proofs.Firsts.{first_store}
 use Rattle.salt_commit.specs.Commits.{MayCommitUnit}
 use Rattle.salt_commit.specs.Openings.{HasRoom, IsSchemaWhere}
-use Rattle.salt_commit.specs.Stores.{ArePartitions, Stands, reading}
+use Rattle.salt_commit.specs.Stores.{ArePartitions, StandsOnDevices, reading}
 use Rattle.salt_commit.specs.declared.store.Store.{Store}
 use Rattle.salt_decisions.proofs.Begun.{first_log, nothing_open}
 use Rattle.salt_decisions.proofs.Contents.{log_bytes}
@@ -149,7 +149,7 @@ part_stands x part nulls log rows = record {
   };
 }
 
-pub store_stands : (x : Store) (q : Partition) → x.decisions ≡ counting → x.parts.items ≡ q ∷ [] → q.part ≡ 0 → q.nulls ≡ true → q.log ≡ part_gate → q.rows.entries ≡ [] → Stands view x
+pub store_stands : (x : Store) (q : Partition) → x.decisions ≡ counting → x.parts.items ≡ q ∷ [] → q.part ≡ 0 → q.nulls ≡ true → q.log ≡ part_gate → q.rows.entries ≡ [] → StandsOnDevices view x
 store_stands x q decisions parts part nulls log rows = record {
   which = LogA;
   c = first_coordinator shape 3;

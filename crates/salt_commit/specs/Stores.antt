@@ -76,7 +76,7 @@ pub record IsStore {D : Type 0} (r : Reading D) (d : View) (x : Store) (which : 
   pub sound : IsTrue d.told → IsSound r c v
 
 -- a store stands
-pub record Stands (d : View) (x : Store) : Type 0 where
+pub record StandsOnDevices (d : View) (x : Store) : Type 0 where
   pub which : WhichLog
   pub c : Coordinator Definition
   pub v : ℕ → PartView

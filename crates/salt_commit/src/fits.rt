@@ -6,7 +6,7 @@ ghost use Rattle.salt_commit.specs.Stores.{reading};
 ghost use Rattle.salt_stands.specs.Fitting.{is_key_of};
 ghost use Rattle.salt_disk.specs.Disks.{HasCause, KeepsAll, OnlyFails, UnlessDown};
 ghost use Rattle.salt_model.specs.Kept.{Definition};
-ghost use Rattle.salt_partition.specs.Partitions.{IsPartition, Stands};
+ghost use Rattle.salt_partition.specs.Partitions.{IsPartition, StandsOnDevices};
 ghost use Rattle.salt_stands.specs.Coordinator.{Coordinator};
 ghost use Rattle.salt_stands.specs.OpenedPart.{fits_definitions};
 ghost use Rattle.salt_stands.specs.Partition.{is_format_under, is_sound_change};
@@ -108,7 +108,7 @@ pub fn entries_fit<D: Disks, F: Fn(PlaceKind, &Key, u32) -> u32>(
     requires callable { TakesEachKey (F.pre place.now.place) }
     requires answers { GivesPlaceOf (F.post place.now.place) }
     requires parts { IsParts shape.parts }
-    requires stands { Stands (D.view disks.old) partition.old }
+    requires stands { StandsOnDevices (D.view disks.old) partition.old }
     ensures fit { (v : PartView) (applied : List Id) → IsPartition (D.view disks.old) partition.old part v applied → IsTrue (D.view disks.old).told → (c : Coordinator Definition) → HasTables schema.now shape c
         → IfOk result (λ fit. fit ≡ list_all (fits_definitions reading c part) v.log.prepared) }
     ensures stands { (p : ℕ) (v : PartView) (applied : List Id) → IsPartition (D.view disks.old) partition.old p v applied

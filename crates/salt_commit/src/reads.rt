@@ -3,7 +3,7 @@
 ghost use Rattle.salt_bytes.specs.Generations.{WhichLog};
 ghost use Rattle.salt_commit.specs.Errors.{store_err};
 ghost use Rattle.salt_commit.specs.Reads.{StandsInPlace};
-ghost use Rattle.salt_commit.specs.Stores.{IsStore, Stands, reading, row_in, rows_of_store};
+ghost use Rattle.salt_commit.specs.Stores.{IsStore, StandsOnDevices, reading, row_in, rows_of_store};
 ghost use Rattle.salt_disk.specs.Disks.{HasCause, KeepsAll, OnlyFails, UnlessDown};
 ghost use Rattle.salt_eval.specs.Views.{next_row};
 ghost use Rattle.salt_model.specs.Kept.{Definition};
@@ -34,7 +34,7 @@ impl Store {
     ) -> Result<Option<Row>, StoreErr>
         requires callable { TakesEachKey (F.pre place.now.place) }
         requires answers { GivesPlaceOf (F.post place.now.place) }
-        requires stands { Stands (D.view disks.old) self.old }
+        requires stands { StandsOnDevices (D.view disks.old) self.old }
         ensures row { (which : WhichLog) (c : Coordinator Definition) (v : ℕ → PartView) → IsStore reading (D.view disks.old) self.old which c v → IsTrue (D.view disks.old).told
             → IfOk result (λ row. row ≡ row_in (found_of c v) table key.now) }
         ensures stands { (which : WhichLog) (c : Coordinator Definition) (v : ℕ → PartView) → IsStore reading (D.view disks.old) self.old which c v
@@ -58,7 +58,7 @@ impl Store {
         range: &KeyRange,
         after: Option<&Key>,
     ) -> Result<Option<Row>, StoreErr>
-        requires stands { Stands (D.view disks.old) self.old }
+        requires stands { StandsOnDevices (D.view disks.old) self.old }
         requires below { number < length self.old.parts.items }
         ensures row { (which : WhichLog) (c : Coordinator Definition) (v : ℕ → PartView) → IsStore reading (D.view disks.old) self.old which c v
             → IfOk result (λ row. row ≡ next_row table range.now (option_copied after.entry) (each_tables c v number)) }
@@ -82,7 +82,7 @@ impl Store {
         range: &KeyRange,
         after: Option<&Key>,
     ) -> Result<Option<Row>, StoreErr>
-        requires stands { Stands (D.view disks.old) self.old }
+        requires stands { StandsOnDevices (D.view disks.old) self.old }
         ensures row { (which : WhichLog) (c : Coordinator Definition) (v : ℕ → PartView) → IsStore reading (D.view disks.old) self.old which c v
             → IfOk result (λ row. row ≡ next_row table range.now (option_copied after.entry) (found_of c v).kept.tables) }
         ensures stands { (which : WhichLog) (c : Coordinator Definition) (v : ℕ → PartView) → IsStore reading (D.view disks.old) self.old which c v

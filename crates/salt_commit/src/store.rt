@@ -3,7 +3,7 @@
 ghost use Rattle.salt_bytes.specs.Coordinator.{Boots, Defines, spell_entry};
 ghost use Rattle.salt_bytes.specs.Generations.{WhichLog};
 ghost use Rattle.salt_commit.specs.Errors.{store_err};
-ghost use Rattle.salt_commit.specs.Stores.{IsStore, MayDefine, StandForEither, Stands, StandsToDefine, coordinator_device, coordinator_gate, last_boot, last_decision, next_text, reading, rows_of_store};
+ghost use Rattle.salt_commit.specs.Stores.{IsStore, MayDefine, StandForEither, StandsOnDevices, StandsToDefine, coordinator_device, coordinator_gate, last_boot, last_decision, next_text, reading, rows_of_store};
 ghost use Rattle.salt_decisions.specs.Decisions.{next_definition};
 ghost use Rattle.salt_disk.specs.Disks.{FullExactly, HasCause, IsUnchanged, KeepsOthers};
 ghost use Rattle.salt_model.specs.Kept.{Definition};
@@ -49,7 +49,7 @@ impl Store {
     /// Begins the next boot, and gives its number. After Ok it is kept. Whatever the call answers, each image of the devices
     /// stands for what stood before, or for that with one boot more.
     pub fn boot<D: Disks>(&mut self, disks: &mut D) -> Result<u64, StoreErr>
-        requires stands { Stands (D.view disks.old) self.old }
+        requires stands { StandsOnDevices (D.view disks.old) self.old }
         requires below { last_boot self.old < 2 ^ 64 - 1 }
 
         ensures ok { (which : WhichLog) (c : Coordinator Definition) (v : ℕ → PartView) → IsStore reading (D.view disks.old) self.old which c v

@@ -28,7 +28,7 @@ use Rattle.law_openings.proofs.Moving.{units-stand}
 use Rattle.law_openings.proofs.Resting.{opening-comes}
 use Rattle.salt_drain.proofs.Chosen.{gives-same}
 use Rattle.salt_drain.specs.Follows.{rest_in}
-use Rattle.salt_drain.specs.Recovering.{Gives, Stands}
+use Rattle.salt_drain.specs.Recovering.{AnswersWith, StandsForState}
 use Rattle.salt_drain.specs.declared.recovery.Recovery.{Recovery}
 use Rattle.law_decisions.proofs.Starting.{kept-later}
 use Rattle.salt_storage.specs.Storing.{IsSoundKept}
@@ -63,7 +63,7 @@ rest-comes s trace boot n keeps sound opening kept =
     opening-comes s s (Released []) refl (units-stand s trace (Opened boot n) keeps sound opening) (can-drain s.kept kept)
 
 pub rests-or-flies : (x y : Books) (single : Bool) (in_flight : Option InFlight) (f : Option Event) (boot n : ℕ) (old new : State) (r : Recovery) →
-    (o : IsOpenedBy x single in_flight f boot n old new) → ((s : State) → AreBooks y s.units → s.units.phase ≡ Opening → single ≡ is_statement_line s.units.line → Stands r s) →
+    (o : IsOpenedBy x single in_flight f boot n old new) → ((s : State) → AreBooks y s.units → s.units.phase ≡ Opening → single ≡ is_statement_line s.units.line → StandsForState r s) →
     ((t : UnitState) (m : ℕ) → AreBooks x t → AreBooks y (units_after (Opened boot m) t)) → RestsOrFlies r in_flight f new
 rests-or-flies x y single in_flight f boot n old new r o stands opens =
     let same = o.after.units in
@@ -122,7 +122,7 @@ first-told x single in_flight f boot n old new later o is =
 
 -- so what is given first is what is told behind the Opened
 pub begins : (x : Books) (single : Bool) (in_flight : Option InFlight) (f : Option Event) (boot n : ℕ) (old new : State) (later : Bool) (r : Recovery) (first : Event) →
-    IsOpenedBy x single in_flight f boot n old new → later ≡ nat_lt x.known.decisions n → Gives new (first_in later f new.units) r (Some first) → BeginsOpening f n new r first
+    IsOpenedBy x single in_flight f boot n old new → later ≡ nat_lt x.known.decisions n → AnswersWith new (first_in later f new.units) r (Some first) → BeginsOpening f n new r first
 begins x single in_flight f boot n old new later r first o is given =
     gives-same new (first_in later f new.units) (opened_in new.units n f) (Some first) r (first-told x single in_flight f boot n old new later o is) given
 

@@ -3,7 +3,7 @@ use Rattle.salt_ast.specs.declared.trees.TableDef.{TableDef}
 use Rattle.salt_books.specs.declared.books.Books.{Books}
 use Rattle.salt_database.proofs.Lying.{left-stops}
 use Rattle.salt_database.specs.Standing.{CanFind, opening_books}
-use Rattle.salt_engine.specs.Standing.{IsGoingStage, KnowsUnits, Lies, SeesIn, serving_books}
+use Rattle.salt_engine.specs.Standing.{IsGoingStage, KnowsUnits, CanReopenAt, StandsAtEventIn, serving_books}
 use Rattle.salt_engine.specs.declared.flights.InFlight.{InFlight}
 use Rattle.salt_engine.specs.declared.stage.Stage.{Stage}
 use Rattle.salt_engine.specs.declared.stage.Stage.TheVariants as at
@@ -26,7 +26,7 @@ down-finds settled leaves at.Lost s down k t h = let none = k.1 in cc
 
 -- a stop leaves something
 pub leaves-some : (holds : Kept → Type 0) (leaves : Kept → Kept → Type 0) (stoppable : Bool) (found : Option Numbers) (books : Option Books) (single : Bool) (in_flight : Option InFlight)
-    (room : ℕ) (p : Point) → ((k : Kept) → holds k → leaves k k) → Lies holds leaves stoppable found books single in_flight room p → (a b : Kept) × leaves a b
+    (room : ℕ) (p : Point) → ((k : Kept) → holds k → leaves k k) → CanReopenAt holds leaves stoppable found books single in_flight room p → (a b : Kept) × leaves a b
 leaves-some holds leaves stoppable found books single in_flight room p stays h =
     let l = left-stops holds leaves (IsSome in_flight) found room p stays h.left in
     (l.0, l.1, l.2)
@@ -34,12 +34,12 @@ leaves-some holds leaves stoppable found books single in_flight room p stays h =
 -- THE TABLES, by what is answered where there are books
 
 pub lies-schema : (holds : Kept → Type 0) (leaves : Kept → Kept → Type 0) (stoppable : Bool) (found : Option Numbers) (books : Option Books) (single : Bool) (in_flight : Option InFlight)
-    (room : ℕ) (p : Point) (schema : List TableDef) → ((x : Books) → books ≡ Some x → schema ≡ x.known.schema) → Lies holds leaves stoppable found books single in_flight room p →
+    (room : ℕ) (p : Point) (schema : List TableDef) → ((x : Books) → books ≡ Some x → schema ≡ x.known.schema) → CanReopenAt holds leaves stoppable found books single in_flight room p →
     schema ≡ schema_of p.state.units.kept
 lies-schema holds leaves stoppable found books single in_flight room p schema tells h = tells h.knows.0 h.knows.1 ∙ h.knows.2.are.known.schema
 
 pub seen-schema : (holds : Kept → Type 0) (is_new : Id → Type 0) (stage : Stage Scheduler) (s : State) (schema : List TableDef) →
-    ((x : Books) → serving_books stage ≡ Some x → schema ≡ x.known.schema) → SeesIn holds is_new stage None s → schema ≡ schema_of s.units.kept
+    ((x : Books) → serving_books stage ≡ Some x → schema ≡ x.known.schema) → StandsAtEventIn holds is_new stage None s → schema ≡ schema_of s.units.kept
 seen-schema holds is_new (at.Going x) s schema tells h = tells x.books refl ∙ h.0.books.known.schema
 seen-schema holds is_new (at.Down books) s schema tells h = absurd h
 seen-schema holds is_new at.Lost s schema tells h = absurd h

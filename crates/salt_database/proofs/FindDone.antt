@@ -5,7 +5,7 @@ use Rattle.salt_database.proofs.Spent.{alone-by}
 use Rattle.salt_database.specs.Finding.{IsFoundAgain}
 use Rattle.salt_database.specs.Standing.{CanFind, IsFoundStage, opening_books}
 use Rattle.salt_engine.specs.Flights.{IsInFlight}
-use Rattle.salt_engine.specs.Standing.{IsBrokenStage, KnowsUnits, Left, Lies}
+use Rattle.salt_engine.specs.Standing.{IsBrokenStage, KnowsUnits, LeavesOnDevices, CanReopenAt}
 use Rattle.salt_engine.specs.Stored.{IsAlone, IsLeft}
 use Rattle.salt_engine.specs.declared.flights.InFlight.{InFlight}
 use Rattle.salt_engine.specs.declared.stage.Stage.{Stage}
@@ -21,9 +21,9 @@ use Rattle.std.specs.Prelude.{Bool, Err, IfErr, IsSome, None, Ok, OnErr, OnOk, O
 
 -- BEHIND A FALL
 
-pub left-behind : (holds : Kept → Type 0) (leaves : Kept → Kept → Type 0) (doubt : Type 0) (found : Option Numbers) (room : ℕ) (p : Point) → found ≡ None → Left holds leaves doubt found room p →
+pub left-behind : (holds : Kept → Type 0) (leaves : Kept → Kept → Type 0) (doubt : Type 0) (found : Option Numbers) (room : ℕ) (p : Point) → found ≡ None → LeavesOnDevices holds leaves doubt found room p →
     (a b : Kept) × leaves a b × IsLeft doubt room p a × IsLeft doubt room p b
-left-behind holds leaves doubt found room p none h = subst (λ (f : Option Numbers). Left holds leaves doubt f room p) none h
+left-behind holds leaves doubt found room p none h = subst (λ (f : Option Numbers). LeavesOnDevices holds leaves doubt f room p) none h
 
 broken-finds : (settled : Type 0) (leaves : Kept → Kept → Type 0) (stage : Stage Recovery) → CanFind settled leaves None stage → settled × ((a b : Kept) × leaves a b) × IsBrokenStage stage
 broken-finds settled leaves (at.Going x) h = absurd h
@@ -62,15 +62,15 @@ again-found holds x a b found stage f =
 
 module _ (holds now : Kept → Type 0) (leaves again : Kept → Kept → Type 0) (old stoppable : Bool) (found later : Option Numbers) (stage after : Stage Recovery) (was single : Bool)
     (flew in_flight : Option InFlight) (unfound : found ≡ None) (stays : after ≡ stage) (room : ℕ) (p : Point)
-    (lies : Lies holds leaves old found (opening_books stage) was flew room p) where
+    (lies : CanReopenAt holds leaves old found (opening_books stage) was flew room p) where
   here : (a b : Kept) × leaves a b × IsLeft (IsSome flew) room p a × IsLeft (IsSome flew) room p b
   here = left-behind holds leaves (IsSome flew) found room p unfound lies.left
 
   -- as much is in doubt
-  as-flown : in_flight ≡ flew → Left now again (IsSome flew) later room p → Left now again (IsSome in_flight) later room p
-  as-flown flies left = subst (λ (i : Option InFlight). Left now again (IsSome i) later room p) (sym flies) left
+  as-flown : in_flight ≡ flew → LeavesOnDevices now again (IsSome flew) later room p → LeavesOnDevices now again (IsSome in_flight) later room p
+  as-flown flies left = subst (λ (i : Option InFlight). LeavesOnDevices now again (IsSome i) later room p) (sym flies) left
 
-  lies-with : Left now again (IsSome in_flight) later room p → stoppable ≡ old → single ≡ was → in_flight ≡ flew → Lies now again stoppable later (opening_books after) single in_flight room p
+  lies-with : LeavesOnDevices now again (IsSome in_flight) later room p → stoppable ≡ old → single ≡ was → in_flight ≡ flew → CanReopenAt now again stoppable later (opening_books after) single in_flight room p
   lies-with left same line flies = record {
     left = left;
     knows = subst (λ (s : Stage Recovery). KnowsUnits (opening_books s) p.state.units) (sym stays) lies.knows;
@@ -81,17 +81,17 @@ module _ (holds now : Kept → Type 0) (leaves again : Kept → Kept → Type 0)
   }
 
   -- it was found
-  pub left-found : in_flight ≡ flew → (x : Books) → ((a b : Kept) → leaves a b → IsFoundAgain now x a b later after) → Left now again (IsSome in_flight) later room p
+  pub left-found : in_flight ≡ flew → (x : Books) → ((a b : Kept) → leaves a b → IsFoundAgain now x a b later after) → LeavesOnDevices now again (IsSome in_flight) later room p
   left-found flies x again-is = as-flown flies (found-left now again x here.0 here.1 later after (IsSome flew) room p (again-is here.0 here.1 here.2) here.3 here.4)
 
   pub found-lies : (x : Books) → ((a b : Kept) → leaves a b → IsFoundAgain now x a b later after) → stoppable ≡ old → single ≡ was → in_flight ≡ flew →
-      Lies now again stoppable later (opening_books after) single in_flight room p
+      CanReopenAt now again stoppable later (opening_books after) single in_flight room p
   found-lies x again-is same line flies = lies-with (left-found flies x again-is) same line flies
 
   -- it was not found: it stays as it was
-  pub left-still : in_flight ≡ flew → later ≡ found → ((a b : Kept) → leaves a b → again a b) → Left now again (IsSome in_flight) later room p
+  pub left-still : in_flight ≡ flew → later ≡ found → ((a b : Kept) → leaves a b → again a b) → LeavesOnDevices now again (IsSome in_flight) later room p
   left-still flies none more =
-      as-flown flies (subst (λ (f : Option Numbers). Left now again (IsSome flew) f room p) (sym (none ∙ unfound)) (here.0, here.1, more here.0 here.1 here.2, here.3, here.4))
+      as-flown flies (subst (λ (f : Option Numbers). LeavesOnDevices now again (IsSome flew) f room p) (sym (none ∙ unfound)) (here.0, here.1, more here.0 here.1 here.2, here.3, here.4))
 
   -- where spent numbers are told, it is one of these alone
   pub alone-there : {T : Type 0} (rests : Kept → Type 0) (r : Result T OpenErr) → IfErr r (λ e. (a b : Kept) → leaves a b → MayFail rests a b e) → IsAlone rests (numbers_told r) room p
@@ -99,7 +99,7 @@ module _ (holds now : Kept → Type 0) (leaves again : Kept → Kept → Type 0)
   alone-there rests (Err e) known = alone-by rests (IsSome flew) room p here.0 here.1 e here.3 here.4 (known here.0 here.1 here.2)
 
   pub lies-still : later ≡ found → ((a b : Kept) → leaves a b → again a b) → stoppable ≡ old → single ≡ was → in_flight ≡ flew →
-      Lies now again stoppable later (opening_books after) single in_flight room p
+      CanReopenAt now again stoppable later (opening_books after) single in_flight room p
   lies-still none more same line flies = lies-with (left-still flies none more) same line flies
 
 -- BY WHAT a call answers

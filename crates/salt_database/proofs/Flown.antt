@@ -24,7 +24,7 @@ use Rattle.salt_model.specs.declared.events.Event.{Event}
 use Rattle.salt_model.specs.declared.events.Event.TheVariants.{Defined}
 use Rattle.salt_program.specs.Refusals.{program_refusal}
 use Rattle.salt_drain.proofs.Chosen.{gives-same}
-use Rattle.salt_drain.specs.Recovering.{Gives}
+use Rattle.salt_drain.specs.Recovering.{AnswersWith}
 use Rattle.salt_drain.specs.declared.recovery.Recovery.{Recovery}
 use Rattle.salt_schema.specs.Refusals.{table_refusal}
 use Rattle.salt_stands.specs.OpenConts.{make_move}
@@ -53,7 +53,7 @@ module _ (x : Recovery) (i : InFlight) (f : Event) (s : State) (h : Flies x i f 
         (at-part s.units sound.trace u sound.keeps.units sound.sound)
         (can-move s.units sound.trace u commit-flies.0 sound.keeps.units sound.sound h.rests.sound.rise commit-flies.1)
 
-    pub commit-told : (new : Recovery) (e : Event) → Gives s (Some (commits_in s.units commit-flies.0)) new (Some e) → Gives s (Some f) new (Some e)
+    pub commit-told : (new : Recovery) (e : Event) → AnswersWith s (Some (commits_in s.units commit-flies.0)) new (Some e) → AnswersWith s (Some f) new (Some e)
     commit-told new e g = gives-same s _ _ _ new (sym commit-flies.2) g
 
   module _ (u b : Id) (cause : Cause) (is : i ≡ asked.Branch u b cause) where
@@ -76,7 +76,7 @@ module _ (x : Recovery) (i : InFlight) (f : Event) (s : State) (h : Flies x i f 
         (at-part s.units sound.trace u sound.keeps.units sound.sound)
         (can-move s.units sound.trace u branch-flies.0.unit sound.keeps.units sound.sound h.rests.sound.rise branch-flies.0.named)
 
-    pub branch-told : (new : Recovery) (e : Event) → Gives s (Some (branches_in s.units u cause)) new (Some e) → Gives s (Some f) new (Some e)
+    pub branch-told : (new : Recovery) (e : Event) → AnswersWith s (Some (branches_in s.units u cause)) new (Some e) → AnswersWith s (Some f) new (Some e)
     branch-told new e g = gives-same s _ _ _ new (sym branch-flies.1) g
 
   module _ (d : TableDef) (text : List ℕ) (is : i ≡ asked.Table d text) where
@@ -89,7 +89,7 @@ module _ (x : Recovery) (i : InFlight) (f : Event) (s : State) (h : Flies x i f 
     pub table-allowed : table_refusal x.books.known.schema d ≡ None
     table-allowed = ap (λ (ts : List TableDef). table_refusal ts d) h.rests.stands.books.known.schema ∙ table-flies.allowed
 
-    pub table-told : (new : Recovery) (e : Event) → Gives s (Some (Defined (next_decision s.units) (table_text d))) new (Some e) → Gives s (Some f) new (Some e)
+    pub table-told : (new : Recovery) (e : Event) → AnswersWith s (Some (Defined (next_decision s.units) (table_text d))) new (Some e) → AnswersWith s (Some f) new (Some e)
     table-told new e g =
         gives-same s _ _ _ new (sym (table-is.2 ∙ ap (λ (t : List ℕ). Some (Defined (next_decision s.units) t)) table-is.1)) g
 
@@ -103,6 +103,6 @@ module _ (x : Recovery) (i : InFlight) (f : Event) (s : State) (h : Flies x i f 
     pub program-allowed : program_refusal x.books.known.schema x.books.known.catalogue p ≡ None
     program-allowed = (λ i. program_refusal (h.rests.stands.books.known.schema i) (h.rests.stands.books.known.catalogue i) p) ∙ program-flies.allowed
 
-    pub program-told : (new : Recovery) (e : Event) → Gives s (Some (Defined (next_decision s.units) (program_text p))) new (Some e) → Gives s (Some f) new (Some e)
+    pub program-told : (new : Recovery) (e : Event) → AnswersWith s (Some (Defined (next_decision s.units) (program_text p))) new (Some e) → AnswersWith s (Some f) new (Some e)
     program-told new e g =
         gives-same s _ _ _ new (sym (program-is.2 ∙ ap (λ (t : List ℕ). Some (Defined (next_decision s.units) t)) program-is.1)) g

@@ -9,7 +9,7 @@ use Rattle.salt_engine.proofs.Going.{flight-decides, onwards-line, reads}
 use Rattle.salt_engine.proofs.Halting.{halts, memory-at}
 use Rattle.salt_engine.specs.Flights.{IsInFlight, flight_of}
 use Rattle.salt_engine.specs.Performing.{BreaksOff}
-use Rattle.salt_engine.specs.Standing.{Left, Lies, Sees}
+use Rattle.salt_engine.specs.Standing.{LeavesOnDevices, CanReopenAt, AgreesWithState}
 use Rattle.salt_engine.specs.Stored.{Stored, kept_behind}
 use Rattle.salt_engine.specs.declared.flights.InFlight.{InFlight}
 use Rattle.salt_engine.specs.declared.stage.Stage.{Stage}
@@ -25,12 +25,12 @@ use Rattle.salt_model.specs.Turns.{is_statement_line}
 use Rattle.salt_model.specs.declared.events.Event.{Event}
 use Rattle.salt_model.specs.declared.events.Event.TheVariants.{Ready}
 use Rattle.law_openings.proofs.Opening.{ready-idle}
-use Rattle.salt_drain.specs.Recovering.{HasDone}
+use Rattle.salt_drain.specs.Recovering.{HasDoneEvent}
 use Rattle.salt_drain.specs.declared.recovery.Recovery.{Recovery}
 use Rattle.salt_driver.specs.Draining.{MayTick}
 use Rattle.salt_driver.specs.Standing.{BreaksAt, IsOpenedOn, IsSoundPoint}
 use Rattle.salt_storage.specs.Storing.{IsSoundKept}
-use Rattle.salt_storage.specs.Writing.{Written}
+use Rattle.salt_storage.specs.Writing.{ToWrite}
 use Rattle.salt_storage.specs.declared.found.Numbers.{Numbers}
 use Rattle.salt_storage.specs.declared.halt.Halt.{Halt}
 use Rattle.salt_storage.specs.declared.halt.Halt.TheVariants.{Memory}
@@ -43,11 +43,11 @@ never-down p opening fallen = let no = sym opening ∙ fallen in cc
 
 -- BEFORE the event was told
 
-pub untold-lost : (x : Recovery) (e : Event) (p : Point) (sound : IsSoundPoint p) (t : State) → HasDone x e p.state t → p.next ≡ Some e → p.state.units.phase ≡ Opening →
-    (holds : Kept → Type 0) (leaves : Kept → Kept → Type 0) (fills : Written → ℕ → Type 0) (stoppable : Bool) (found : Option Numbers) → found ≡ None → (single : Bool)
+pub untold-lost : (x : Recovery) (e : Event) (p : Point) (sound : IsSoundPoint p) (t : State) → HasDoneEvent x e p.state t → p.next ≡ Some e → p.state.units.phase ≡ Opening →
+    (holds : Kept → Type 0) (leaves : Kept → Kept → Type 0) (fills : ToWrite → ℕ → Type 0) (stoppable : Bool) (found : Option Numbers) → found ≡ None → (single : Bool)
     (stage : Stage Recovery) (in_flight : Option InFlight) (story told : List Event) → leaves t.units.kept t.units.kept → stage ≡ at.Lost → IsInFlight in_flight (decision_in (Some e)) p.state.units →
     told ≡ story →
-    BreaksAt (λ p. Lies holds leaves stoppable found (opening_books stage) single in_flight 0 p) (λ p. Left holds leaves (IsSome in_flight) found 0 p × ⊤) fills (flight_of in_flight) Memory p e story told
+    BreaksAt (λ p. CanReopenAt holds leaves stoppable found (opening_books stage) single in_flight 0 p) (λ p. LeavesOnDevices holds leaves (IsSome in_flight) found 0 p × ⊤) fills (flight_of in_flight) Memory p e story told
 untold-lost x e p sound t d comes opening holds leaves fills stoppable found unfound single stage in_flight story told left there flies same =
     let flown : IsInFlight in_flight (decision_in p.next) p.state.units = subst (λ (m : Option Event). IsInFlight in_flight (decision_in m) p.state.units) (sym comes) flies in
     let behind : t.units.kept ≡ kept_behind (decision_in p.next) p.state.units =
@@ -61,7 +61,7 @@ untold-lost x e p sound t d comes opening holds leaves fills stoppable found unf
 
 -- IT GOES ON
 
-module _ (x : Recovery) (e : Event) (p : Point) (sound : IsSoundPoint p) (t : State) (d : HasDone x e p.state t) (comes : p.next ≡ Some e) (going : is_ready e ≡ false) where
+module _ (x : Recovery) (e : Event) (p : Point) (sound : IsSoundPoint p) (t : State) (d : HasDoneEvent x e p.state t) (comes : p.next ≡ Some e) (going : is_ready e ≡ false) where
   abbrev pub now : Point
   now = point x e p sound t d comes going
 
@@ -76,10 +76,10 @@ module _ (x : Recovery) (e : Event) (p : Point) (sound : IsSoundPoint p) (t : St
   now-flies : now.flight ≡ decision_in now.next
   now-flies = flight-decides e p.flight wanted d.plain
 
-  pub opens-halts : (holds : Kept → Type 0) (leaves : Kept → Kept → Type 0) (fills : Written → ℕ → Type 0) (halt : Halt) (old stoppable : Bool) (found : Option Numbers) → found ≡ None →
+  pub opens-halts : (holds : Kept → Type 0) (leaves : Kept → Kept → Type 0) (fills : ToWrite → ℕ → Type 0) (halt : Halt) (old stoppable : Bool) (found : Option Numbers) → found ≡ None →
       (was single : Bool) (stage : Stage Recovery) (in_flight : Option InFlight) (story told : List Event) → BreaksOff leaves fills halt stage in_flight wanted t.units → p.state.can_stop ≡ old → stoppable ≡ old →
       was ≡ is_statement_line p.state.units.line → single ≡ was → IsSoundKept t.units.kept → told ≡ story ++ e ∷ [] →
-      BreaksAt (λ p. Lies holds leaves stoppable found (opening_books stage) single in_flight 0 p) (λ p. Left holds leaves (IsSome in_flight) found 0 p × ⊤) fills (flight_of in_flight) halt p e story told
+      BreaksAt (λ p. CanReopenAt holds leaves stoppable found (opening_books stage) single in_flight 0 p) (λ p. LeavesOnDevices holds leaves (IsSome in_flight) found 0 p × ⊤) fills (flight_of in_flight) halt p e story told
   opens-halts holds leaves fills halt old stoppable found unfound was single stage in_flight story told b can same lined kept may tells = inr (
     tells,
     (
@@ -97,7 +97,7 @@ module _ (x : Recovery) (e : Event) (p : Point) (sound : IsSoundPoint p) (t : St
 
 -- IT IS DONE
 
-module _ (x : Recovery) (p : Point) (sound : IsSoundPoint p) (t : State) (d : HasDone x Ready p.state t) (comes : p.next ≡ Some Ready) (opening : p.state.units.phase ≡ Opening) where
+module _ (x : Recovery) (p : Point) (sound : IsSoundPoint p) (t : State) (d : HasDoneEvent x Ready p.state t) (comes : p.next ≡ Some Ready) (opening : p.state.units.phase ≡ Opening) where
   abbrev pub there : State
   there = ready-state x p sound t d comes opening
 
@@ -111,7 +111,7 @@ module _ (x : Recovery) (p : Point) (sound : IsSoundPoint p) (t : State) (d : Ha
 
   pub ready-sees : (holds : Kept → Type 0) (is_new : Id → Type 0) (old stoppable was single : Bool) (stage : Stage Recovery) (in_flight : Option InFlight) → stage ≡ at.Going x →
       Stored holds is_new t.units → p.state.can_stop ≡ old → stoppable ≡ old → was ≡ is_statement_line p.state.units.line → single ≡ was → in_flight ≡ None →
-      Sees (OpensIn holds is_new stage) stoppable single in_flight None there
+      AgreesWithState (OpensIn holds is_new stage) stoppable single in_flight None there
   ready-sees holds is_new old stoppable was single stage in_flight at stored can same line kept none = record {
     seen = subst (λ (s : Stage Recovery). OpensIn holds is_new s None there) (sym at) (
       record {
@@ -135,8 +135,8 @@ pub ready-is : (e : Event) → is_ready e ≡ true → e ≡ Ready
 ready-is Ready h = refl
 ready-is e h = cc
 
-pub done-ready : (x : Recovery) (e : Event) (s t : State) → e ≡ Ready → HasDone x e s t → HasDone x Ready s t
-done-ready x e s t is d = subst (λ (k : Event). HasDone x k s t) is d
+pub done-ready : (x : Recovery) (e : Event) (s t : State) → e ≡ Ready → HasDoneEvent x e s t → HasDoneEvent x Ready s t
+done-ready x e s t is d = subst (λ (k : Event). HasDoneEvent x k s t) is d
 
 pub comes-ready : (p : Point) (e : Event) → e ≡ Ready → p.next ≡ Some e → p.next ≡ Some Ready
 comes-ready p e is comes = comes ∙ ap (λ (k : Event). Some k) is
@@ -154,7 +154,7 @@ ready-less old stage x y e there is serves =
     (subst (λ (k : Event). 0 < left_in (at.Going x) (Some k)) (sym is) (omega arith)))
 
 pub opening-less : (holds : Kept → Type 0) (is_new : Id → Type 0) (old stage : Stage Recovery) (x : Recovery) (e given : Event) (p : Point) (sound : IsSoundPoint p) (t : State)
-    (d : HasDone x e p.state t) (comes : p.next ≡ Some e) (going : is_ready e ≡ false) → old ≡ at.Going x → OpensIn holds is_new stage (Some given) t →
+    (d : HasDoneEvent x e p.state t) (comes : p.next ≡ Some e) (going : is_ready e ≡ false) → old ≡ at.Going x → OpensIn holds is_new stage (Some given) t →
     IsSoundKept t.units.kept → Some given ≡ meant x e p sound t d comes going → left_in stage (Some given) < left_in old (Some e)
 opening-less holds is_new old stage x e given p sound t d comes going there seen kept told =
     subst (λ (s : Stage Recovery). left_in stage (Some given) < left_in s (Some e)) (sym there) (by stage seen)

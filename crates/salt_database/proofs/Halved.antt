@@ -10,7 +10,7 @@ use Rattle.salt_disk.specs.Disks.{View}
 use Rattle.salt_engine.proofs.Flying.{none-flies}
 use Rattle.salt_engine.specs.Engines.{engine_lies, engine_sees}
 use Rattle.salt_engine.specs.Flights.{IsInFlight}
-use Rattle.salt_engine.specs.Standing.{KnowsUnits, Left, SeesIn, ServesFrom}
+use Rattle.salt_engine.specs.Standing.{KnowsUnits, LeavesOnDevices, StandsAtEventIn, ServesFrom}
 use Rattle.salt_engine.specs.Stored.{Stored}
 use Rattle.salt_engine.specs.declared.engine.Engine.{Engine}
 use Rattle.salt_engine.specs.declared.flights.InFlight.{InFlight}
@@ -83,8 +83,8 @@ module _ {S : Type 0} (holds : S → Kept → Type 0) (is_new : S → Id → Typ
       let f = serves g.0 s g.1 g.2 in
       record {
         seen =
-            subst (λ (t : S). SeesIn (holds t) (is_new t) e.stage None s) (sym stored)
-            (subst (λ (k : Stage Scheduler). SeesIn (holds o.storage) (is_new o.storage) k None s) (sym f.1) (f.2, g.3));
+            subst (λ (t : S). StandsAtEventIn (holds t) (is_new t) e.stage None s) (sym stored)
+            (subst (λ (k : Stage Scheduler). StandsAtEventIn (holds o.storage) (is_new o.storage) k None s) (sym f.1) (f.2, g.3));
         can_stop = h.0.can_stop;
         line = single ∙ h.0.line;
         flies = none-flies e.in_flight None s.units none refl;
@@ -99,9 +99,9 @@ module _ {S : Type 0} (holds : S → Kept → Type 0) (leaves : S → Kept → K
   behind-lies : (e : Engine S) (o : Opening S) → IsBehind e o → engine_lies holds leaves stoppable e room p → opening_lies holds leaves stoppable o room p
   behind-lies e o b h = record {
     left =
-        subst (λ (i : Option InFlight). Left (holds o.storage) (leaves o.storage) (IsSome i) o.found room p) (sym b.flies)
-        (subst (λ (t : S). Left (holds t) (leaves t) (IsSome e.in_flight) o.found room p) (sym b.storage)
-        (subst (λ (f : Option Numbers). Left (holds e.storage) (leaves e.storage) (IsSome e.in_flight) f room p) (sym b.found) h.left));
+        subst (λ (i : Option InFlight). LeavesOnDevices (holds o.storage) (leaves o.storage) (IsSome i) o.found room p) (sym b.flies)
+        (subst (λ (t : S). LeavesOnDevices (holds t) (leaves t) (IsSome e.in_flight) o.found room p) (sym b.storage)
+        (subst (λ (f : Option Numbers). LeavesOnDevices (holds e.storage) (leaves e.storage) (IsSome e.in_flight) f room p) (sym b.found) h.left));
     knows = subst (λ (books : Option Books). KnowsUnits books p.state.units) (sym b.books) h.knows;
     sound = h.sound;
     can_stop = h.can_stop;

@@ -5,7 +5,7 @@ use Rattle.salt_database.specs.Finding.{IsFoundAgain, IsNew}
 use Rattle.salt_database.specs.Standing.{opening_books}
 use Rattle.salt_engine.proofs.Halting.{is-left}
 use Rattle.salt_engine.specs.Flights.{IsInFlight}
-use Rattle.salt_engine.specs.Standing.{KnowsUnits, Left, Lies}
+use Rattle.salt_engine.specs.Standing.{KnowsUnits, LeavesOnDevices, CanReopenAt}
 use Rattle.salt_engine.specs.Stored.{IsEither, IsLeft}
 use Rattle.salt_engine.specs.declared.flights.InFlight.{InFlight}
 use Rattle.salt_engine.specs.declared.stage.Stage.{Stage}
@@ -29,12 +29,12 @@ use Rattle.std.specs.Prelude.{Bool, IsSome, None, Option, Some, [], refl, ℕ, �
 
 pub opened-first : (holds : Kept → Type 0) (leaves : Kept → Kept → Type 0) (stoppable : Bool) (found : Option Numbers) (stage : Stage Recovery) (single : Bool)
     (in_flight : Option InFlight) (k : Kept) → IsNew k found stage single in_flight → holds k → IsSoundKept k →
-    IsOpenedFirst (Lies holds leaves stoppable found (opening_books stage) single in_flight) k stoppable
+    IsOpenedFirst (CanReopenAt holds leaves stoppable found (opening_books stage) single in_flight) k stoppable
 opened-first holds leaves stoppable found stage single in_flight k new holding sound p u =
     let taken = new.taken in
     let books = taken.fresh p.state.units.phase p.state.units.line in
     record {
-      left = subst (λ (f : Option Numbers). Left holds leaves (IsSome in_flight) f 0 p) (sym taken.is) (k, holding, is-left (IsSome in_flight) p k (inl (sym u.kept)), taken.numbered);
+      left = subst (λ (f : Option Numbers). LeavesOnDevices holds leaves (IsSome in_flight) f 0 p) (sym taken.is) (k, holding, is-left (IsSome in_flight) p k (inl (sym u.kept)), taken.numbered);
       knows = (
         taken.books,
         ap opening_books taken.there,
@@ -65,23 +65,23 @@ left-either doubt room p a b k is_a is_b (inl e) = subst (IsLeft doubt room p) (
 left-either doubt room p a b k is_a is_b (inr e) = subst (IsLeft doubt room p) (sym e) is_b
 
 pub found-left : (holds : Kept → Type 0) (leaves : Kept → Kept → Type 0) (books : Books) (a b : Kept) (found : Option Numbers) (stage : Stage Recovery) (doubt : Type 0) (room : ℕ) (p : Point) →
-    IsFoundAgain holds books a b found stage → IsLeft doubt room p a → IsLeft doubt room p b → Left holds leaves doubt found room p
+    IsFoundAgain holds books a b found stage → IsLeft doubt room p a → IsLeft doubt room p b → LeavesOnDevices holds leaves doubt found room p
 found-left holds leaves books a b found stage doubt room p f is_a is_b =
-    subst (λ (n : Option Numbers). Left holds leaves doubt n room p) (sym f.is) (f.kept, f.holding, left-either doubt room p a b f.kept is_a is_b f.either, f.numbered)
+    subst (λ (n : Option Numbers). LeavesOnDevices holds leaves doubt n room p) (sym f.is) (f.kept, f.holding, left-either doubt room p a b f.kept is_a is_b f.either, f.numbered)
 
 -- WHAT IS LEFT, whether it was found since or not: a stop leaves it
 
 pub left-stops : (holds : Kept → Type 0) (leaves : Kept → Kept → Type 0) (doubt : Type 0) (found : Option Numbers) (room : ℕ) (p : Point) → ((k : Kept) → holds k → leaves k k) →
-    Left holds leaves doubt found room p → (a b : Kept) × leaves a b × IsLeft doubt room p a × IsLeft doubt room p b
+    LeavesOnDevices holds leaves doubt found room p → (a b : Kept) × leaves a b × IsLeft doubt room p a × IsLeft doubt room p b
 left-stops holds leaves doubt None room p stays h = h
 left-stops holds leaves doubt (Some n) room p stays h = (h.0, h.0, stays h.0 h.1, h.2, h.2)
 
 -- BEHIND A DOWN
 
 pub fallen-lies : (holds now : Kept → Type 0) (leaves again : Kept → Kept → Type 0) (old stoppable : Bool) (found : Option Numbers) (books later : Option Books) (single : Bool)
-    (in_flight : Option InFlight) (room : ℕ) (p q : Point) → Lies holds leaves old found books single in_flight room p → IsFallenFrom p q → stoppable ≡ old →
+    (in_flight : Option InFlight) (room : ℕ) (p q : Point) → CanReopenAt holds leaves old found books single in_flight room p → IsFallenFrom p q → stoppable ≡ old →
     ((k : Kept) → holds k → leaves k k) → ((a b : Kept) → leaves a b → again a b) →
-    ((s : UnitState) (why : Why) → KnowsUnits books s → KnowsUnits later (units_after (Down why) s)) → Lies now again stoppable None later single in_flight room q
+    ((s : UnitState) (why : Why) → KnowsUnits books s → KnowsUnits later (units_after (Down why) s)) → CanReopenAt now again stoppable None later single in_flight room q
 fallen-lies holds now leaves again old stoppable found books later single in_flight room p q h fell same stays left knows =
     let l = left-stops holds leaves (IsSome in_flight) found room p stays h.left in
     let units = fell.after.units in

@@ -7,7 +7,7 @@ use Rattle.salt_database.specs.Standing.{IsFoundStage, OpensIn, opening_books}
 use Rattle.salt_disk.specs.Disks.{HasCause, View}
 use Rattle.salt_engine.proofs.Counted.{cause-lost}
 use Rattle.salt_engine.specs.Flights.{IsInFlight}
-use Rattle.salt_engine.specs.Standing.{IsBrokenStage, KnowUnits, KnowsUnits, Left, Lies, Sees}
+use Rattle.salt_engine.specs.Standing.{IsBrokenStage, KnowUnits, KnowsUnits, LeavesOnDevices, CanReopenAt, AgreesWithState}
 use Rattle.salt_engine.specs.Stored.{IsLeft, IsNumbered, MayBeOther, kept_behind, raised}
 use Rattle.salt_engine.specs.declared.flights.InFlight.{InFlight}
 use Rattle.salt_engine.specs.declared.stage.Stage.{Stage}
@@ -75,9 +75,9 @@ left-booted doubt room p k h = record { boots = h.boots + 1; most = let m = h.mo
     by (inr e) = inr (e.0, later (kept_behind p.flight p.state.units) e.1)
 
 module _ (holds : Kept → Type 0) (leaves : Kept → Kept → Type 0) (old : Bool) (found : Option Numbers) (stage : Stage Recovery) (was : Bool) (flew : Option InFlight) (x : Books)
-    (n : Numbers) (is : found ≡ Some n) (there : stage ≡ at.Down x) (room : ℕ) (p : Point) (lies : Lies holds leaves old found (opening_books stage) was flew room p) where
+    (n : Numbers) (is : found ≡ Some n) (there : stage ≡ at.Down x) (room : ℕ) (p : Point) (lies : CanReopenAt holds leaves old found (opening_books stage) was flew room p) where
   pub found-here : (k : Kept) × holds k × IsLeft (IsSome flew) room p k × IsNumbered n k
-  found-here = subst (λ (f : Option Numbers). Left holds leaves (IsSome flew) f room p) is lies.left
+  found-here = subst (λ (f : Option Numbers). LeavesOnDevices holds leaves (IsSome flew) f room p) is lies.left
 
   abbrev pub kept-found : Kept
   kept-found = found-here.0
@@ -102,10 +102,10 @@ module _ (holds : Kept → Type 0) (leaves : Kept → Kept → Type 0) (old : Bo
 
   -- or not
   pub booted-left : (now : Kept → Type 0) (again : Kept → Kept → Type 0) (later : Option Numbers) (in_flight : Option InFlight) (a b : Kept) → later ≡ None → in_flight ≡ flew →
-      (a ≡ kept-found) ⊎ (a ≡ booted kept-found) → (b ≡ kept-found) ⊎ (b ≡ booted kept-found) → again a b → Left now again (IsSome in_flight) later (room + 1) p
+      (a ≡ kept-found) ⊎ (a ≡ booted kept-found) → (b ≡ kept-found) ⊎ (b ≡ booted kept-found) → again a b → LeavesOnDevices now again (IsSome in_flight) later (room + 1) p
   booted-left now again later in_flight a b none flies is_a is_b left =
-      subst (λ (i : Option InFlight). Left now again (IsSome i) later (room + 1) p) (sym flies)
-      (subst (λ (f : Option Numbers). Left now again (IsSome flew) f (room + 1) p) (sym none) (a, b, left, one a is_a, one b is_b))
+      subst (λ (i : Option InFlight). LeavesOnDevices now again (IsSome i) later (room + 1) p) (sym flies)
+      (subst (λ (f : Option Numbers). LeavesOnDevices now again (IsSome flew) f (room + 1) p) (sym none) (a, b, left, one a is_a, one b is_b))
     where
       one : (k : Kept) → (k ≡ kept-found) ⊎ (k ≡ booted kept-found) → IsLeft (IsSome flew) (room + 1) p k
       one k (inl e) = subst (IsLeft (IsSome flew) (room + 1) p) (sym e) (left-more (IsSome flew) room p kept-found found-here.2)
@@ -113,7 +113,7 @@ module _ (holds : Kept → Type 0) (leaves : Kept → Kept → Type 0) (old : Bo
 
   pub down-lies : (now : Kept → Type 0) (again : Kept → Kept → Type 0) (stoppable : Bool) (later : Option Numbers) (books : Option Books) (single : Bool) (in_flight : Option InFlight) →
       later ≡ None → books ≡ Some x → again kept-found (booted kept-found) → stoppable ≡ old → single ≡ was → in_flight ≡ flew →
-      Lies now again stoppable later books single in_flight (room + 1) p
+      CanReopenAt now again stoppable later books single in_flight (room + 1) p
   down-lies now again stoppable later books single in_flight none stays left same line flies = record {
     left = booted-left now again later in_flight kept-found (booted kept-found) none flies (inl refl) (inr refl) left;
     knows = (x, stays, knows-found);
@@ -132,7 +132,7 @@ module _ (p : Point) (sound : IsSoundPoint p) (fallen : p.state.units.phase ≡ 
 
   pub opening-sees : (holds : Kept → Type 0) (is_new : Id → Type 0) (old stoppable was single : Bool) (stage : Stage Recovery) (in_flight : Option InFlight) (next : Event) →
       IsOpeningWith p.flight number its stage in_flight next → holds (booted k) → ((u : Id) → u.boot ≡ boot → is_new u) → p.state.can_stop ≡ old → stoppable ≡ old →
-      was ≡ is_statement_line p.state.units.line → single ≡ was → Sees (OpensIn holds is_new stage) stoppable single in_flight (Some next) its
+      was ≡ is_statement_line p.state.units.line → single ≡ was → AgreesWithState (OpensIn holds is_new stage) stoppable single in_flight (Some next) its
   opening-sees holds is_new old stoppable was single stage in_flight next o holding new can same line kept =
       let t = o.begins.done.0 in
       let d = o.begins.done.1 in

@@ -41,7 +41,7 @@ use Rattle.salt_drain.specs.Recovering as recovering
 use Rattle.salt_drain.specs.declared.recovery.Recovery.{Recovery}
 use Rattle.salt_driver.specs.Counting.{stops_armed}
 use Rattle.salt_storage.specs.Storing.{IsSoundKept}
-use Rattle.salt_storage.specs.Writing.{Written}
+use Rattle.salt_storage.specs.Writing.{ToWrite}
 use Rattle.salt_storage.specs.declared.halt.Halt.{Halt}
 use Rattle.salt_storage.specs.declared.halt.Halt.TheVariants.{Memory}
 use Rattle.salt_units.specs.Acting.{leaves_keys}
@@ -49,13 +49,13 @@ use Rattle.salt_values.specs.declared.id.Id.{Id}
 use Rattle.std.proofs.Common.{ap, subst, sym, ◌∙◌}
 use Rattle.std.specs.Prelude.{Err, IsSome, List, None, Ok, OnErr, Option, Result, Some, [], false, refl, true, ℕ, ◌≡◌}
 
-pub recovers : (holds : Kept → Type 0) (is_new : Id → Type 0) (x : Recovery) (c : Coming) (s : State) → IsToOpen holds is_new x c s → recovering.Stands x s → recovering.IsRecovering s
+pub recovers : (holds : Kept → Type 0) (is_new : Id → Type 0) (x : Recovery) (c : Coming) (s : State) → IsToOpen holds is_new x c s → recovering.StandsForState x s → recovering.IsRecovering s
 recovers holds is_new x c s h stands = record { sound = record { trace = h.played.trace; keeps = h.played.keeps; sound = h.played.sound }; phase = stands.opening }
 
 -- A STATEMENT
 
 module _ (holds : Kept → Type 0) (is_new : Id → Type 0) (x : Recovery) (a : Asking) (s : State) (h : IsToOpen holds is_new x (coming.Act a) s) where
-  pub act-stands : recovering.Stands x s
+  pub act-stands : recovering.StandsForState x s
   act-stands = h.ready.0
 
   abbrev pub act-unit : OpenUnit
@@ -90,12 +90,12 @@ module _ (holds : Kept → Type 0) (is_new : Id → Type 0) (x : Recovery) (a : 
       ∙ keys-left s.units act-unit a.statement a.unit (comes-next act-event (event_meant s.units (coming.Act a)) s h.played act-meant) act-asked.named
 
   pub act-performs : (now : Kept → Type 0) (new_now : Id → Type 0) (stage : Stage Recovery) (in_flight : Option InFlight) (y : Recovery) (given : Event) → in_flight ≡ None → stage ≡ at.Going y →
-      Stored now new_now s.units → recovering.Gives s (Some act-event) y (Some given) → Performs (OpensIn now new_now stage) in_flight (event_meant s.units (coming.Act a)) (Some given) s
+      Stored now new_now s.units → recovering.AnswersWith s (Some act-event) y (Some given) → Performs (OpensIn now new_now stage) in_flight (event_meant s.units (coming.Act a)) (Some given) s
   act-performs now new_now stage in_flight y given none there stored gives =
       opens-by now new_now stage in_flight (event_meant s.units (coming.Act a)) s y act-event given (none-flies in_flight None s.units none refl) there act-meant gives h.opens
       (stored-plain now new_now act-event (event_meant s.units (coming.Act a)) s h.played act-meant refl refl stored)
 
-  pub act-breaks : (leaves : Kept → Kept → Type 0) (fills : Written → ℕ → Type 0) (halt : Halt) (stage : Stage Recovery) (in_flight : Option InFlight) → in_flight ≡ None → (y : Books) →
+  pub act-breaks : (leaves : Kept → Kept → Type 0) (fills : ToWrite → ℕ → Type 0) (halt : Halt) (stage : Stage Recovery) (in_flight : Option InFlight) → in_flight ≡ None → (y : Books) →
       y ≡ x.books → Undone leaves fills halt s.units act-event → WasBroken halt y stage → BreaksOff leaves fills halt stage in_flight (event_meant s.units (coming.Act a)) s.units
   act-breaks leaves fills halt stage in_flight none y same undone broken =
       breaks leaves fills stage in_flight (event_meant s.units (coming.Act a)) s.units act-event act-meant (kept-decided act-event s.units refl) (none-flies in_flight None s.units none refl)
@@ -104,7 +104,7 @@ module _ (holds : Kept → Type 0) (is_new : Id → Type 0) (x : Recovery) (a : 
 -- A COMMIT
 
 module _ (holds : Kept → Type 0) (is_new : Id → Type 0) (x : Recovery) (u : Id) (s : State) (h : IsToOpen holds is_new x (coming.Commit u) s) where
-  pub commit-stands : recovering.Stands x s
+  pub commit-stands : recovering.StandsForState x s
   commit-stands = h.ready.0
 
   pub commit-open : (o : OpenUnit) × (unit_named u s.units.units ≡ Some o)
@@ -137,19 +137,19 @@ module _ (holds : Kept → Type 0) (is_new : Id → Type 0) (x : Recovery) (u : 
   commit-flies = (commit-unit, commit-named, refl)
 
   pub commit-performs : (now : Kept → Type 0) (new_now : Id → Type 0) (stage : Stage Recovery) (y : Recovery) (given : Event) → stage ≡ at.Going y →
-      Stored now new_now (units_after (commits_in s.units commit-unit) s.units) → recovering.Gives s (Some (commits_in s.units commit-unit)) y (Some given) →
+      Stored now new_now (units_after (commits_in s.units commit-unit) s.units) → recovering.AnswersWith s (Some (commits_in s.units commit-unit)) y (Some given) →
       Performs (OpensIn now new_now stage) commit-asked (event_meant s.units (coming.Commit u)) (Some given) s
   commit-performs now new_now stage y given there stored gives =
       opens-by now new_now stage commit-asked (event_meant s.units (coming.Commit u)) s y (commits_in s.units commit-unit) given commit-flies there commit-meant gives h.opens stored
 
-  pub commit-breaks : (leaves : Kept → Kept → Type 0) (fills : Written → ℕ → Type 0) (halt : Halt) (stage : Stage Recovery) (y : Books) → y ≡ x.books →
+  pub commit-breaks : (leaves : Kept → Kept → Type 0) (fills : ToWrite → ℕ → Type 0) (halt : Halt) (stage : Stage Recovery) (y : Books) → y ≡ x.books →
       Undone leaves fills halt s.units (commits_in s.units commit-unit) → WasBroken halt y stage →
       BreaksOff leaves fills halt stage commit-asked (event_meant s.units (coming.Commit u)) s.units
   commit-breaks leaves fills halt stage y same undone broken =
       breaks leaves fills stage commit-asked (event_meant s.units (coming.Commit u)) s.units (commits_in s.units commit-unit) commit-meant
       (kept-decided (commits_in s.units commit-unit) s.units refl) commit-flies halt y undone broken (subst (λ (z : Books). AreBooks z s.units) (sym same) commit-stands.books)
 
-  pub commit-lost : (leaves : Kept → Kept → Type 0) (fills : Written → ℕ → Type 0) (stage : Stage Recovery) →
+  pub commit-lost : (leaves : Kept → Kept → Type 0) (fills : ToWrite → ℕ → Type 0) (stage : Stage Recovery) →
       leaves (units_after (commits_in s.units commit-unit) s.units).kept (units_after (commits_in s.units commit-unit) s.units).kept → stage ≡ at.Lost →
       BreaksOff leaves fills Memory stage commit-asked (event_meant s.units (coming.Commit u)) s.units
   commit-lost leaves fills stage left there =
@@ -159,7 +159,7 @@ module _ (holds : Kept → Type 0) (is_new : Id → Type 0) (x : Recovery) (u : 
 -- A BRANCH
 
 module _ (holds : Kept → Type 0) (is_new : Id → Type 0) (x : Recovery) (u base : Id) (cause : Cause) (s : State) (h : IsToOpen holds is_new x (coming.Branch u base cause) s) where
-  pub branch-stands : recovering.Stands x s
+  pub branch-stands : recovering.StandsForState x s
   branch-stands = h.ready.0
 
   pub branch-unit : IsLaterUnit s.units u base
@@ -186,19 +186,19 @@ module _ (holds : Kept → Type 0) (is_new : Id → Type 0) (x : Recovery) (u ba
   branch-flies = (branch-unit, refl)
 
   pub branch-performs : (now : Kept → Type 0) (new_now : Id → Type 0) (stage : Stage Recovery) (y : Recovery) (given : Event) → stage ≡ at.Going y →
-      Stored now new_now (units_after (branches_in s.units u cause) s.units) → recovering.Gives s (Some (branches_in s.units u cause)) y (Some given) →
+      Stored now new_now (units_after (branches_in s.units u cause) s.units) → recovering.AnswersWith s (Some (branches_in s.units u cause)) y (Some given) →
       Performs (OpensIn now new_now stage) branch-asked (event_meant s.units (coming.Branch u base cause)) (Some given) s
   branch-performs now new_now stage y given there stored gives =
       opens-by now new_now stage branch-asked (event_meant s.units (coming.Branch u base cause)) s y (branches_in s.units u cause) given branch-flies there refl gives h.opens stored
 
-  pub branch-breaks : (leaves : Kept → Kept → Type 0) (fills : Written → ℕ → Type 0) (halt : Halt) (stage : Stage Recovery) (y : Books) → y ≡ x.books →
+  pub branch-breaks : (leaves : Kept → Kept → Type 0) (fills : ToWrite → ℕ → Type 0) (halt : Halt) (stage : Stage Recovery) (y : Books) → y ≡ x.books →
       Undone leaves fills halt s.units (branches_in s.units u cause) → WasBroken halt y stage →
       BreaksOff leaves fills halt stage branch-asked (event_meant s.units (coming.Branch u base cause)) s.units
   branch-breaks leaves fills halt stage y same undone broken =
       breaks leaves fills stage branch-asked (event_meant s.units (coming.Branch u base cause)) s.units (branches_in s.units u cause) refl
       (kept-decided (branches_in s.units u cause) s.units refl) branch-flies halt y undone broken (subst (λ (z : Books). AreBooks z s.units) (sym same) branch-stands.books)
 
-  pub branch-lost : (leaves : Kept → Kept → Type 0) (fills : Written → ℕ → Type 0) (stage : Stage Recovery) →
+  pub branch-lost : (leaves : Kept → Kept → Type 0) (fills : ToWrite → ℕ → Type 0) (stage : Stage Recovery) →
       leaves (units_after (branches_in s.units u cause) s.units).kept (units_after (branches_in s.units u cause) s.units).kept → stage ≡ at.Lost →
       BreaksOff leaves fills Memory stage branch-asked (event_meant s.units (coming.Branch u base cause)) s.units
   branch-lost leaves fills stage left there =
@@ -236,7 +236,7 @@ pub goes-recovers : (holds : Kept → Type 0) (is_new : Id → Type 0) (x : Reco
 goes-recovers holds is_new x s h = record { sound = record { trace = h.played.trace; keeps = h.played.keeps; sound = h.played.sound }; phase = h.stands.opening }
 
 pub goes-to-open : (holds : Kept → Type 0) (is_new : Id → Type 0) (x y : Recovery) (c : Coming) (s : State) → (h : GoesOnOpening holds is_new x s) → IsSoundKept s.units.kept →
-    recovering.Brings s (comes_behind x.behind s.units) y c → IsToOpen holds is_new y c s
+    recovering.AnswersWithComing s (comes_behind x.behind s.units) y c → IsToOpen holds is_new y c s
 goes-to-open holds is_new x y c s h may b = record {
   played = subst (λ (o : Option Event). IsPlayedBefore o s) (sym b.meant) h.played;
   opens = h.stands.opening;

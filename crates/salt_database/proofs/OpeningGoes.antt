@@ -5,7 +5,7 @@ use Rattle.salt_database.specs.Performing.{GoesOnOpening}
 use Rattle.salt_database.specs.Standing.{is_ready, left_in, OpensIn}
 use Rattle.salt_engine.proofs.Going.{onwards, onwards-line, played-before, reads, says-keeps, says-moves, says-sound}
 use Rattle.salt_engine.specs.Performing.{Performs}
-use Rattle.salt_engine.specs.Standing.{Sees}
+use Rattle.salt_engine.specs.Standing.{AgreesWithState}
 use Rattle.salt_engine.specs.Stored.{Stored}
 use Rattle.salt_engine.specs.declared.flights.InFlight.{InFlight}
 use Rattle.salt_engine.specs.declared.stage.Stage.{Stage}
@@ -24,7 +24,7 @@ use Rattle.law_openings.proofs.Moving.{says-falls, units-stand}
 use Rattle.law_openings.proofs.Opening.{said-in-opening}
 use Rattle.law_openings.specs.Draining.{left_to_open}
 use Rattle.salt_drain.specs.Follows.{comes_behind, rest_in}
-use Rattle.salt_drain.specs.Recovering.{HasDone, Stands, StandsBehind, StandsFor}
+use Rattle.salt_drain.specs.Recovering.{HasDoneEvent, StandsForState, StandsBehindEvent, StandsForUnits}
 use Rattle.salt_drain.specs.declared.recovery.Recovery.{Recovery}
 use Rattle.salt_driver.specs.Standing.{IsSoundPoint}
 use Rattle.salt_storage.specs.Storing.{IsSoundKept}
@@ -33,15 +33,15 @@ use Rattle.std.proofs.Common.{ap, subst, sym, ◌∙◌}
 use Rattle.std.specs.Option.{option_or}
 use Rattle.std.specs.Prelude.{Bool, Option, Some, false, ◌<◌, ◌≡◌}
 
-pub behind-stands : (e : Event) (x : Recovery) (s : UnitState) → is_ready e ≡ false → StandsBehind e x s → StandsFor x s
+pub behind-stands : (e : Event) (x : Recovery) (s : UnitState) → is_ready e ≡ false → StandsBehindEvent e x s → StandsForUnits x s
 behind-stands Ready x s r h = cc
 behind-stands e x s r h = h
 
-module _ (x : Recovery) (e : Event) (p : Point) (sound : IsSoundPoint p) (t : State) (d : HasDone x e p.state t) (comes : p.next ≡ Some e) (going : is_ready e ≡ false) where
+module _ (x : Recovery) (e : Event) (p : Point) (sound : IsSoundPoint p) (t : State) (d : HasDoneEvent x e p.state t) (comes : p.next ≡ Some e) (going : is_ready e ≡ false) where
   abbrev pub meant : Option Event
   meant = comes_behind x.behind t.units
 
-  pub stands : Stands x t
+  pub stands : StandsForState x t
   stands = behind-stands e x t.units going d.behind
 
   meant-is : (r : Reading t.watch) → said_next e p.state t r p.flight ≡ meant
@@ -60,7 +60,7 @@ module _ (x : Recovery) (e : Event) (p : Point) (sound : IsSoundPoint p) (t : St
 
   pub opened-on : (holds : Kept → Type 0) (is_new : Id → Type 0) (old now : Bool) (was single : Bool) (stage : Stage Recovery) (in_flight : Option InFlight) (given : Event) →
       Performs (OpensIn holds is_new stage) in_flight meant (Some given) t → p.state.can_stop ≡ old → now ≡ old → was ≡ is_statement_line p.state.units.line → single ≡ was →
-      Sees (OpensIn holds is_new stage) now single in_flight (Some given) t × (meant ≡ Some given) × (t.units.phase ≡ Opening)
+      AgreesWithState (OpensIn holds is_new stage) now single in_flight (Some given) t × (meant ≡ Some given) × (t.units.phase ≡ Opening)
   opened-on holds is_new old now was single stage in_flight given h can same line kept = (
     record {
       seen = h.sees;
@@ -79,7 +79,7 @@ module _ (x : Recovery) (e : Event) (p : Point) (sound : IsSoundPoint p) (t : St
       (can-drain t.units.kept kept)
 
   -- what is left of the opening is less
-  pub leaves-less : (y : Recovery) (given : Event) → IsSoundKept t.units.kept → Some given ≡ meant → ((u : State) × HasDone y given t u) →
+  pub leaves-less : (y : Recovery) (given : Event) → IsSoundKept t.units.kept → Some given ≡ meant → ((u : State) × HasDoneEvent y given t u) →
       left_in (at.Going y) (Some given) < left_in (at.Going x) (Some e)
   leaves-less y given kept told u =
       subst (λ n. n < left_in (at.Going x) (Some e)) (sym (left-at y given t u.0 u.1))

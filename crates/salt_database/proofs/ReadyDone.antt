@@ -26,7 +26,7 @@ use Rattle.salt_model.specs.Units.{base_count}
 use Rattle.salt_model.specs.declared.events.Event.TheVariants.{Began, Down, Opened, Ready}
 use Rattle.salt_model.specs.declared.events.UnitKind.TheVariants.{First}
 use Rattle.law_openings.proofs.Opening.{none-to-go, serves-not}
-use Rattle.salt_drain.specs.Recovering.{HasDone}
+use Rattle.salt_drain.specs.Recovering.{HasDoneEvent}
 use Rattle.salt_drain.specs.declared.recovery.Recovery.{Recovery}
 use Rattle.salt_driver.specs.Standing.{IsSoundPoint}
 use Rattle.std.proofs.Common.{ap, inr, subst, sym, ◌∙◌}
@@ -80,7 +80,7 @@ none-unfinished p sound comes =
     ap (λ (k : Kept). k.conts) (sym sound.keeps.state.units.kept)
     ∙ (may-fit trace Ready (holds trace sound.sound.played (of-start (start_of trace).kept sound.sound.well)).comes (may-stand trace Ready refl next)).1
 
-module _ (x : Recovery) (p : Point) (sound : IsSoundPoint p) (t : State) (d : HasDone x Ready p.state t) (comes : p.next ≡ Some Ready) (opening : p.state.units.phase ≡ Opening) where
+module _ (x : Recovery) (p : Point) (sound : IsSoundPoint p) (t : State) (d : HasDoneEvent x Ready p.state t) (comes : p.next ≡ Some Ready) (opening : p.state.units.phase ≡ Opening) where
   -- the state behind it, in which nothing is watched
   abbrev pub ready-state : State
   ready-state = record { units = t.units; watch = empty_watch 0; names = t.names; can_stop = t.can_stop }

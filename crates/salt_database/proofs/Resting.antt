@@ -13,7 +13,7 @@ use Rattle.salt_model.specs.declared.events.End.TheVariants.{Branched, Cut}
 use Rattle.salt_model.specs.declared.events.Event.{Event}
 use Rattle.salt_model.specs.declared.events.Event.TheVariants.{Armed, Began, Defined, Ended, Ready}
 use Rattle.salt_drain.specs.Follows.{comes_behind, event_of, rest_in}
-use Rattle.salt_drain.specs.Recovering.{Brings}
+use Rattle.salt_drain.specs.Recovering.{AnswersWithComing}
 use Rattle.salt_drain.specs.declared.behind.Behind.{Behind}
 use Rattle.salt_drain.specs.declared.behind.Behind.TheVariants.{Accept, Done, Finish, Nothing, Turn}
 use Rattle.salt_drain.specs.declared.recovery.Recovery.{Recovery}
@@ -52,7 +52,7 @@ abbrev pub IsTold : Coming → Type 0
 IsTold (coming.Told e) = ⊤
 IsTold c = ⊥
 
-pub rest-told : (s : State) (x : Recovery) (c : Coming) → Brings s (rest_in s.units) x c → IsSome (rest_in s.units) → IsTold c
+pub rest-told : (s : State) (x : Recovery) (c : Coming) → AnswersWithComing s (rest_in s.units) x c → IsSome (rest_in s.units) → IsTold c
 rest-told s x coming.Nothing b h = none-some (rest_in s.units) b.meant h
 rest-told s x (coming.Told e) b h = tt
 rest-told s x (coming.Act a) b h =

@@ -79,7 +79,7 @@ pub record IsOpenedBy (x : Books) (single : Bool) (in_flight : Option InFlight) 
 
 -- a recovery in an opening of what may be kept
 pub record Rests (x : Recovery) (s : State) : Type 0 where
-  pub stands : recovering.Stands x s
+  pub stands : recovering.StandsForState x s
   pub recovers : recovering.IsRecovering s
   pub sound : IsSoundKept s.units.kept
   pub comes : IsSome (rest_in s.units)
@@ -101,7 +101,7 @@ first_in later flight s = rest_in s
 
 -- the first event behind an Opened is given, and the recovery has done it
 abbrev pub BeginsOpening : Option Event → ℕ → State → Recovery → Event → Type 0
-BeginsOpening flight number new x e = recovering.Gives new (opened_in new.units number flight) x (Some e)
+BeginsOpening flight number new x e = recovering.AnswersWith new (opened_in new.units number flight) x (Some e)
 
 -- so it is in an opening; the decision that was in flight still is where it is at hand
 pub record IsOpeningWith (flight : Option Event) (number : ℕ) (new : State) (stage : Stage Recovery) (in_flight : Option InFlight) (e : Event) : Type 0 where

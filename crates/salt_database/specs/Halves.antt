@@ -5,7 +5,7 @@ use Rattle.salt_database.specs.declared.database.Database.TheVariants.{Closed, M
 use Rattle.salt_database.specs.declared.opening.Opening.{Opening}
 use Rattle.salt_engine.specs.Engines.{engine_left, engine_lies, engine_sees}
 use Rattle.salt_engine.specs.Flights.{flight_of}
-use Rattle.salt_engine.specs.Standing.{Left, Lies, Sees, serving_books}
+use Rattle.salt_engine.specs.Standing.{LeavesOnDevices, CanReopenAt, AgreesWithState, serving_books}
 use Rattle.salt_engine.specs.Stored.{IsAlone}
 use Rattle.salt_engine.specs.declared.engine.Engine.{Engine}
 use Rattle.law_states.specs.Points.{Point}
@@ -22,13 +22,13 @@ use Rattle.std.specs.Prelude.{Bool, IsSome, None, Option, Some, ℕ, ⊤, ◌≡
 -- AN OPENING
 
 abbrev pub opening_sees : {S : Type 0} → (holds : S → Kept → Type 0) (is_new : S → Id → Type 0) → Bool → Opening S → Option Event → State → Type 0
-opening_sees holds is_new stoppable o next s = Sees (OpensIn (holds o.storage) (is_new o.storage) o.stage) stoppable o.single o.in_flight next s × (o.found ≡ None)
+opening_sees holds is_new stoppable o next s = AgreesWithState (OpensIn (holds o.storage) (is_new o.storage) o.stage) stoppable o.single o.in_flight next s × (o.found ≡ None)
 
 abbrev pub opening_lies : {S : Type 0} → (holds : S → Kept → Type 0) (leaves : S → Kept → Kept → Type 0) → Bool → Opening S → ℕ → Point → Type 0
-opening_lies holds leaves stoppable o room p = Lies (holds o.storage) (leaves o.storage) stoppable o.found (opening_books o.stage) o.single o.in_flight room p
+opening_lies holds leaves stoppable o room p = CanReopenAt (holds o.storage) (leaves o.storage) stoppable o.found (opening_books o.stage) o.single o.in_flight room p
 
 abbrev pub opening_left : {S : Type 0} → (holds : S → Kept → Type 0) (leaves : S → Kept → Kept → Type 0) (rests : S → Kept → Type 0) → Opening S → Option Numbers → ℕ → Point → Type 0
-opening_left holds leaves rests o numbers room p = Left (holds o.storage) (leaves o.storage) (IsSome o.in_flight) o.found room p × IsAlone (rests o.storage) numbers room p
+opening_left holds leaves rests o numbers room p = LeavesOnDevices (holds o.storage) (leaves o.storage) (IsSome o.in_flight) o.found room p × IsAlone (rests o.storage) numbers room p
 
 -- A DATABASE is closed, and opened by an opening, or open, and served by an engine.
 

@@ -26,7 +26,7 @@ pub record IsToOpen (holds : Kept → Type 0) (is_new : Id → Type 0) (x : Reco
 -- a recovery stands for a state behind an event of an opening, and what comes behind that comes next
 pub record GoesOnOpening (holds : Kept → Type 0) (is_new : Id → Type 0) (x : Recovery) (s : State) : Type 0 where
   pub played : IsPlayedBefore (comes_behind x.behind s.units) s
-  pub stands : recovering.Stands x s
+  pub stands : recovering.StandsForState x s
   pub stored : Stored holds is_new s.units
 
 -- a step was taken where what was meant is a statement, or it was not come to

@@ -31,7 +31,7 @@ pub record AreOpened (x : Books) (s : State) : Type 0 where
 -- of a recovery, an opening goes on, or is done
 abbrev pub OpensIn : (holds : Kept → Type 0) (is_new : Id → Type 0) → Stage Recovery → Option Event → State → Type 0
 OpensIn holds is_new (Going x) None s = AreOpened x.books s × Stored holds is_new s.units
-OpensIn holds is_new (Going x) (Some e) s = (t : State) × recovering.HasDone x e s t × Stored holds is_new t.units × (s.units.phase ≡ phases.Opening)
+OpensIn holds is_new (Going x) (Some e) s = (t : State) × recovering.HasDoneEvent x e s t × Stored holds is_new t.units × (s.units.phase ≡ phases.Opening)
 OpensIn holds is_new stage next s = ⊥
 
 -- what the storage holds is found, and no boot has begun over it

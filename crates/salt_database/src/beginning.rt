@@ -4,7 +4,7 @@ ghost use Rattle.salt_database.specs.Finding.{BeginsOpening, Flies, IsOpenedBy, 
 ghost use Rattle.law_states.specs.States.{State};
 ghost use Rattle.salt_model.specs.declared.events.Event.{Event};
 ghost use Rattle.salt_drain.specs.Follows.{rest_in};
-ghost use Rattle.salt_drain.specs.Recovering.{Gives};
+ghost use Rattle.salt_drain.specs.Recovering.{AnswersWith};
 ghost use Rattle.std.specs.Prelude.{IfOk, Option, Some, nat_lt, ℕ, ◌≡◌};
 
 use salt_books::{Books, Coming};
@@ -16,7 +16,7 @@ use std::alloc::{AllocError, Global};
 /// The decision that was in flight stands: it is told.
 fn flown(recovery: &mut Recovery, in_flight: &InFlight) -> Result<Event, AllocError>
     requires { (s : State) × (f : Event) × Flies recovery.old in_flight.now f s }
-    ensures { IfOk result (λ e. (s : State) (f : Event) → Flies recovery.old in_flight.now f s → Gives s (Some f) recovery.new (Some e)) }
+    ensures { IfOk result (λ e. (s : State) (f : Event) → Flies recovery.old in_flight.now f s → AnswersWith s (Some f) recovery.new (Some e)) }
 {
     match in_flight {
         InFlight::Commit(unit) => {
@@ -35,7 +35,7 @@ fn flown(recovery: &mut Recovery, in_flight: &InFlight) -> Result<Event, AllocEr
 /// No decision in flight stands: a unit is cut, or a program goes on, or the opening is done.
 fn resting(recovery: &mut Recovery) -> Result<Event, AllocError>
     requires { (s : State) × Rests recovery.old s }
-    ensures { IfOk result (λ e. (s : State) → Rests recovery.old s → Gives s (rest_in s.units) recovery.new (Some e)) }
+    ensures { IfOk result (λ e. (s : State) → Rests recovery.old s → AnswersWith s (rest_in s.units) recovery.new (Some e)) }
 {
     let coming = recovery.opened()?;
     match coming {
@@ -51,7 +51,7 @@ fn first(
     later: bool,
 ) -> Result<Event, AllocError>
     requires { (s : State) × (f : Option Event) × RestsOrFlies recovery.old in_flight.now f s }
-    ensures { IfOk result (λ e. (s : State) (f : Option Event) → RestsOrFlies recovery.old in_flight.now f s → Gives s (first_in later f s.units) recovery.new (Some e)) }
+    ensures { IfOk result (λ e. (s : State) (f : Option Event) → RestsOrFlies recovery.old in_flight.now f s → AnswersWith s (first_in later f s.units) recovery.new (Some e)) }
 {
     match in_flight {
         Some(in_flight) => {

@@ -10,7 +10,7 @@ use Rattle.salt_devices.proofs.Opening.{like_unwritten}
 use Rattle.salt_devices.proofs.Reheld.{held_again_mute}
 use Rattle.salt_devices.proofs.Refound.{Tells}
 use Rattle.salt_devices.proofs.Remembered.{held_rows}
-use Rattle.salt_devices.specs.Leaving.{IsLeft, Leaves, LeavesAs, StandsFor}
+use Rattle.salt_devices.specs.Leaving.{IsEither, LeavesEither, LeavesAs, StandsFor}
 use Rattle.salt_devices.specs.Opened.{IsHeldAgain, OpensAs}
 use Rattle.salt_devices.specs.Refusing.{RefusedAs}
 use Rattle.salt_devices.specs.Remembering.{AreNumbersOf, IsFoundAgain, MayTell, Recalls, Remembers}
@@ -35,16 +35,16 @@ use Rattle.salt_place.specs.declared.placement.Shape.{Shape}
 use Rattle.std.proofs.Common.{Bool, IsTrue, List, Ok, Option, Some, ap, arith, false, inl, inr, refl, subst, sym, true, ℕ, ◌≡◌, ◌⊎◌, ◌∙◌}
 
 -- where nothing was written, what may come now came before
-pub still_left : (d e : View) (shape : Shape) (n : ℕ) (answer : Option DiskErr) → HasRoom d n → KeepsAll d e answer → (a b : Kept) → LeavesAs true d shape a b → Leaves e shape a b
+pub still_left : (d e : View) (shape : Shape) (n : ℕ) (answer : Option DiskErr) → HasRoom d n → KeepsAll d e answer → (a b : Kept) → LeavesAs true d shape a b → LeavesEither e shape a b
 still_left d e shape n answer room keeps a b h told image left =
     h (sym keeps.shape.told ∙ told) image
     (λ dev low. room.settled dev low (image dev) (keeps.images dev (λ none. none) (image dev) (left dev (omega (arith, low, keeps.shape.count)))))
 
 -- and of disks that don't tell nothing is said
-pub mute_left : (e : View) (shape : Shape) (a b : Kept) → e.told ≡ false → Leaves e shape a b
+pub mute_left : (e : View) (shape : Shape) (a b : Kept) → e.told ≡ false → LeavesEither e shape a b
 mute_left e shape a b mute told image left = absurd (cc (told, mute))
 
-pub left_bytes : (d : View) (shape : Shape) (a b : Kept) → LeavesAs true d shape a b → IsTrue d.told → IsLeft shape d.bytes a b
+pub left_bytes : (d : View) (shape : Shape) (a b : Kept) → LeavesAs true d shape a b → IsTrue d.told → IsEither shape d.bytes a b
 left_bytes d shape a b h told = h told d.bytes (λ dev low. refl)
 
 -- what stands there is one thing
@@ -80,7 +80,7 @@ left_fails d shape a b e h told refused = by (left_bytes d shape a b h told).sta
 
 -- where a log was begun nothing is written
 pub unwritten_left : (d e : View) (shape : Shape) (n : ℕ) (answer : Option DiskErr) → HasRoom d n → SameShape d e → (IsTrue d.told → ¬ (coordinator_pair (logs_of d.bytes) ≡ BothBlank) → KeepsAll d e answer) → (a b : Kept) → LeavesAs true d shape a b
-    → Leaves e shape a b
+    → LeavesEither e shape a b
 unwritten_left d e shape n answer room same kept a b h told image left =
     let was : IsTrue d.told = sym same.told ∙ told in
     still_left d e shape n answer room (kept was (left_bytes d shape a b h was).begun) a b h told image left

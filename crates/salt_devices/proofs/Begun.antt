@@ -7,7 +7,7 @@ use Rattle.salt_devices.proofs.Opening.{alike_below}
 use Rattle.salt_devices.proofs.Started.{able_on}
 use Rattle.salt_devices.specs.Filling.{FillsIn}
 use Rattle.salt_devices.specs.Holding.{IsAble}
-use Rattle.salt_devices.specs.Leaving.{CanOpen, MayCome, Stands, StandsFor, StandsStill}
+use Rattle.salt_devices.specs.Leaving.{CanOpen, MayCome, StandsForSomething, StandsFor, StandsStill}
 use Rattle.salt_devices.specs.Opened.{OpensAs}
 use Rattle.salt_devices.specs.Refusing.{ComesUpon, Finds, RefusedAs, Refuses}
 use Rattle.salt_devices.specs.Standing.{RestsAs, StandsHeld}
@@ -96,7 +96,7 @@ tried_behind p err (inl h) is = h.0
 tried_behind p err (inr h) is = absurd (h.1 is)
 
 pub opens_behind : (d e : View) (shape : Shape) (p : Pending) (err : OpenErr) → SameShape d e → IsPending p err
-    → (err ≡ Halted Stopped → IsTrue d.told → (image : ℕ → List ℕ) → IsImage e image → Stands shape image) → CanOpen p false e shape
+    → (err ≡ Halted Stopped → IsTrue d.told → (image : ℕ → List ℕ) → IsImage e image → StandsForSomething shape image) → CanOpen p false e shape
 opens_behind d e shape p err same (inl h) stopped is told image comes = stopped h.1 (sym same.told ∙ told) image comes
 opens_behind d e shape p err same (inr h) stopped is told image comes = absurd (cc (h.0, is))
 

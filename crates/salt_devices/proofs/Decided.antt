@@ -8,7 +8,7 @@ use Rattle.salt_commit.specs.declared.store.Store.{Store}
 use Rattle.salt_devices.proofs.Entered.{leaves_either}
 use Rattle.salt_devices.proofs.Stores.{held_is, logs_of_store, one_fresh}
 use Rattle.salt_devices.specs.Holding.{IsFresh, IsHeld, IsNewTo}
-use Rattle.salt_devices.specs.Leaving.{Leaves}
+use Rattle.salt_devices.specs.Leaving.{LeavesEither}
 use Rattle.salt_disk.specs.Disks.{IsImage, SameShape, View}
 use Rattle.salt_model.specs.Kept.{Definition, Kept}
 use Rattle.salt_model.specs.Tables.{Tables, with_changes}
@@ -149,6 +149,6 @@ module _ (d e : View) (shape : Shape) (x y : Store) (k : Kept) (h : IsHeld d sha
       one_fresh e c' b v' t (logs_of_store e y h.which c' v' is now) also w (fresh_after h.c h.v u cs mv conts w other (new was h.c h.v (logs_of_store d x h.which h.c h.v h.is was)))
 
   pub unit_leaves : SameShape d e → (IsTrue d.told → StandForEither reading e (found_of h.c h.v) (found_after h.c h.v cs (next_decision h.c u cs mv) conts))
-      → (IsTrue d.told → (image : ℕ → List ℕ) → IsImage e image → (p dev : ℕ) → NamesPages image p dev → p < parts_of h.c → ⊥) → Leaves e shape k (decided k cs conts)
+      → (IsTrue d.told → (image : ℕ → List ℕ) → IsImage e image → (p dev : ℕ) → NamesPages image p dev → p < parts_of h.c → ⊥) → LeavesEither e shape k (decided k cs conts)
   unit_leaves same either no_pages = leaves_either d e shape x k h same (found_after h.c h.v cs (next_decision h.c u cs mv) conts) (decided k cs conts) h.keeps.has_shape h.keeps.format
       (λ t. ap (λ z. decided z cs conts) (held_is d shape x k h t)) either no_pages

@@ -13,7 +13,7 @@ use Rattle.salt_devices.proofs.Committing.{may_commit_unit}
 use Rattle.salt_devices.proofs.Decided.{unit_held, unit_leaves, unit_new}
 use Rattle.salt_devices.proofs.Renamed.{IsHeldWithout, held_without}
 use Rattle.salt_devices.specs.Holding.{IsHeld, IsNewTo}
-use Rattle.salt_devices.specs.Leaving.{Leaves}
+use Rattle.salt_devices.specs.Leaving.{LeavesEither}
 use Rattle.salt_disk.specs.Disks.{IsImage, SameShape, View}
 use Rattle.salt_model.specs.Kept.{Definition, Kept}
 use Rattle.salt_model.specs.Words.{Every}
@@ -74,7 +74,7 @@ module _ (d : View) (shape : Shape) (x : Store) (k : Kept) (h : IsHeld d shape x
         → StandForEither reading e (found_of c v) (found_after c v cs (next_decision c u cs mv) conts'))
         (pages : (which : WhichLog) (c : Coordinator Definition) (v : ℕ → PartView) (m' : Move) (conts' : List Cont) → IsStore reading d x which c v → MayCommitUnit reading c v u cs mv m' conts' → IsTrue d.told
         → (image : ℕ → List ℕ) → IsImage e image → (p dev : ℕ) → p < parts_of c → NamesPages image p dev → ⊥) where
-      pub unit_leaves_either : Leaves e shape k (decided k cs conts)
+      pub unit_leaves_either : LeavesEither e shape k (decided k cs conts)
       unit_leaves_either = unit_leaves d e shape x y k without.held u cs m mv conts may without.fresh parts told same
           (λ t. images without.held.which without.held.c without.held.v m conts without.held.is may_now t)
           (λ t image left p dev names low. pages without.held.which without.held.c without.held.v m conts without.held.is may_now t image left p dev low names)

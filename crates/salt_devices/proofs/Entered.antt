@@ -9,7 +9,7 @@ use Rattle.salt_stands.specs.Fitting.{is_refused, kept_in}
 use Rattle.salt_devices.proofs.Stores.{IsJudged, held_is, is_begun, no_pages_left}
 use Rattle.salt_devices.proofs.Kept.{booted_sound}
 use Rattle.salt_devices.specs.Holding.{IsHeld, Keeps}
-use Rattle.salt_devices.specs.Leaving.{Leaves, StandsFor}
+use Rattle.salt_devices.specs.Leaving.{LeavesEither, StandsFor}
 use Rattle.salt_disk.specs.Disks.{IsImage, KeepsOthers, SameShape, Shrinks, View}
 use Rattle.salt_disk.specs.declared.disks.DiskErr.{DiskErr}
 use Rattle.salt_model.specs.Kept.{Definition, Kept}
@@ -23,7 +23,7 @@ use Rattle.salt_place.specs.declared.placement.Shape.{Shape}
 use Rattle.std.proofs.Common.{IsTrue, List, Ok, Option, Some, [], ap, arith, inl, inr, sym, ℕ, ◌+◌, ◌*◌, ◌++◌, ◌<◌, ◌≡◌, ◌⊎◌, ◌∙◌, ◌∷◌}
 
 -- images shrink
-pub leaves_on : (d e : View) (shape : Shape) (a b : Kept) → SameShape d e → ((dev : ℕ) → Shrinks d e dev) → Leaves d shape a b → Leaves e shape a b
+pub leaves_on : (d e : View) (shape : Shape) (a b : Kept) → SameShape d e → ((dev : ℕ) → Shrinks d e dev) → LeavesEither d shape a b → LeavesEither e shape a b
 leaves_on d e shape a b same fewer h told image left = h (sym same.told ∙ told) image (λ dev low. fewer dev (image dev) (left dev (omega (arith, low, same.count))))
 
 module _ (d e : View) (shape : Shape) (x : Store) (k : Kept) (h : IsHeld d shape x k) (same : SameShape d e) where
@@ -31,7 +31,7 @@ module _ (d e : View) (shape : Shape) (x : Store) (k : Kept) (h : IsHeld d shape
   pub leaves_either : (after : Found Definition) (b : Kept) → after.shape ≡ shape → after.format ≡ 3 → (IsTrue d.told → kept_in after ≡ b)
       → (IsTrue d.told → StandForEither reading e (found_of h.c h.v) after)
       → (IsTrue d.told → (image : ℕ → List ℕ) → IsImage e image → (p dev : ℕ) → NamesPages image p dev → p < parts_of h.c → ⊥)
-      → Leaves e shape k b
+      → LeavesEither e shape k b
   leaves_either after b has_shape newest keeps either no_pages told image left = record { begun = is_begun shape image (λ asked. one asked (either was asked image left)); stands = by (either was shape image left) }
     where
       was : IsTrue d.told
@@ -58,10 +58,10 @@ module _ (d e : View) (shape : Shape) (x : Store) (k : Kept) (h : IsHeld d shape
         no_pages_left d x h.which h.c h.v h.is told e same image left
         (λ q. keeps.images (part_device q) (λ at. untouched q 0 (omega (arith, at)))) (λ q. keeps.images (part_device q + 1) (λ at. untouched q 1 at)) p low dev names
 
-    pub boot_leaves : (IsTrue d.told → StandForEither reading e (found_of h.c h.v) (found_of (with_boot h.c) h.v)) → Leaves e shape k (booted k)
+    pub boot_leaves : (IsTrue d.told → StandForEither reading e (found_of h.c h.v) (found_of (with_boot h.c) h.v)) → LeavesEither e shape k (booted k)
     boot_leaves either = leaves_either (found_of (with_boot h.c) h.v) (booted k) h.keeps.has_shape h.keeps.format (λ told. ap booted (held_is d shape x k h told)) either no_pages_entered
 
-    pub definition_leaves : (text : List ℕ) (def : Definition) → (IsTrue d.told → StandForEither reading e (found_of h.c h.v) (found_of (with_definition h.c (next_text h.c text) def) h.v)) → Leaves e shape k (defined k def)
+    pub definition_leaves : (text : List ℕ) (def : Definition) → (IsTrue d.told → StandForEither reading e (found_of h.c h.v) (found_of (with_definition h.c (next_text h.c text) def) h.v)) → LeavesEither e shape k (defined k def)
     definition_leaves text def either = leaves_either (found_of (with_definition h.c (next_text h.c text) def) h.v) (defined k def) h.keeps.has_shape h.keeps.format
         (λ told. ap (λ z. defined z def) (held_is d shape x k h told)) either no_pages_entered
 

@@ -16,7 +16,7 @@ use Rattle.salt_decisions.specs.declared.kept.Kept as log
 use Rattle.salt_devices.proofs.Answered.{AreAlike, IsLike, IsNothing, IsOpened, counted_log, opened_as, opened_stands, stands_for_nothing}
 use Rattle.salt_devices.specs.Errors.{open_err_of}
 use Rattle.salt_stands.specs.Fitting.{kept_in}
-use Rattle.salt_devices.specs.Leaving.{Stands}
+use Rattle.salt_devices.specs.Leaving.{StandsForSomething}
 use Rattle.salt_devices.specs.Opened.{HoldsFound, IsNewestWhere, IsOpen, IsUnread, OpensAs}
 use Rattle.salt_devices.specs.Refusing.{RefusedAs}
 use Rattle.salt_disk.specs.Disks.{IsImage, KeepsAll, SameShape, Shrinks, View}
@@ -81,7 +81,7 @@ stopped_blank shape bytes Stopped is h = h
 stopped_blank shape bytes (Full k) is h = absurd (cc is)
 stopped_blank shape bytes Memory is h = absurd (cc is)
 
-pub new_stands : (shape : Shape) (image : ℕ → List ℕ) → judged reading image shape ≡ Ok (nothing_found shape) → ((dev : ℕ) → LeavesPages shape image dev → ⊥) → Stands shape image
+pub new_stands : (shape : Shape) (image : ℕ → List ℕ) → judged reading image shape ≡ Ok (nothing_found shape) → ((dev : ℕ) → LeavesPages shape image dev → ⊥) → StandsForSomething shape image
 new_stands shape image is none = (kept_in (nothing_found shape), record { found = nothing_found shape; is = is; has_shape = refl; newest = refl; keeps = refl; no_pages = none })
 
 -- THE LOG that is peeked at

@@ -9,7 +9,7 @@ use Rattle.salt_devices.proofs.Remembered.{held_in, recalls}
 use Rattle.salt_devices.proofs.Started.{able_on, called, comes_again, leaves_again, opened, opens_again, settled_again, upon_again}
 use Rattle.salt_devices.proofs.Stores.{held_again, held_leaves}
 use Rattle.salt_devices.specs.Holding.{CanStart, HoldsIn, IsAble, IsHeld, IsNewTo}
-use Rattle.salt_devices.specs.Leaving.{Leaves, LeavesAs, StandsFor}
+use Rattle.salt_devices.specs.Leaving.{LeavesEither, LeavesAs, StandsFor}
 use Rattle.salt_devices.specs.Opened.{IsHeldAgain}
 use Rattle.salt_devices.specs.Refusing.{Finds, RefusedAs, Refuses}
 use Rattle.salt_devices.specs.Remembering.{AreNumbersOf, MayFollow, Remembers}
@@ -112,7 +112,7 @@ module _ (shape : Shape) (started : Bool) (o : Option Store) (n : Numbers) (p : 
     goes_on e y m k' same held numbers = record { able = able_on shape d e same h.able; called = h.called; nothing = h.nothing; numbers = numbers; held = held }
 
     -- behind one that did not, with what was being written
-    pub breaks_off : (e : View) (y : Store) (q : Pending) (k' : Kept) → SameShape d e → Leaves e shape k k' → rows_of_store y ≡ rows_of_store x → MayFollow q k k' → IsSoundKept k'
+    pub breaks_off : (e : View) (y : Store) (q : Pending) (k' : Kept) → SameShape d e → LeavesEither e shape k k' → rows_of_store y ≡ rows_of_store x → MayFollow q k k' → IsSoundKept k'
         → StandsLeft shape started (Some y) n q e k k'
     breaks_off e y q k' same leaves rows follows sound = record {
       can = called shape started q d e h.called same h.able (opened q started e shape (not_opening q k k' follows));
@@ -121,7 +121,7 @@ module _ (shape : Shape) (started : Bool) (o : Option Store) (n : Numbers) (p : 
     }
 
     -- and where memory ran out within it
-    pub is_lost : (e : View) (y : Store) (q : Pending) (k' : Kept) → SameShape d e → Leaves e shape k k' → q ≡ Lost → StandsLeft shape started (Some y) n q e k k'
+    pub is_lost : (e : View) (y : Store) (q : Pending) (k' : Kept) → SameShape d e → LeavesEither e shape k k' → q ≡ Lost → StandsLeft shape started (Some y) n q e k k'
     is_lost e y q k' same leaves lost = record {
       can = called shape started q d e h.called same h.able (opened q started e shape (λ is. let both : Lost ≡ Opening = sym lost ∙ is in cc both));
       leaves = subst (λ (b : Bool). LeavesAs b e shape k k') (sym h.called) leaves;
@@ -129,7 +129,7 @@ module _ (shape : Shape) (started : Bool) (o : Option Store) (n : Numbers) (p : 
     }
 
     -- of a unit: memory ran out within it, or its changes are remembered and the rows are as before
-    pub unit_breaks_off : (e : View) (y : Store) (q : Pending) (cs : List Change) (conts : List Cont) (err : Halt) → SameShape d e → Leaves e shape k (decided k cs conts)
+    pub unit_breaks_off : (e : View) (y : Store) (q : Pending) (cs : List Change) (conts : List Cont) (err : Halt) → SameShape d e → LeavesEither e shape k (decided k cs conts)
         → (q ≡ Lost) ⊎ ((q ≡ Decision cs) × (err ≢ Memory)) → (err ≢ Memory → rows_of_store y ≡ rows_of_store x) → IsSoundKept (decided k cs conts)
         → StandsLeft shape started (Some y) n q e k (decided k cs conts)
     unit_breaks_off e y q cs conts err same leaves (inl lost) rows sound = is_lost e y q (decided k cs conts) same leaves lost
@@ -183,7 +183,7 @@ module _ (shape : Shape) (started : Bool) (o : Option Store) (n : Numbers) (p : 
     not_first (inr r) first = not_opening p a b r.follows first
 
     -- what an error leaves
-    pub left_behind : (e : View) → SameShape d e → Leaves e shape a b → StandsLeft shape false o n p e a b
+    pub left_behind : (e : View) → SameShape d e → LeavesEither e shape a b → StandsLeft shape false o n p e a b
     left_behind e same leaves = record {
       can = called shape false p d e refl same h.can.able (opened p false e shape (not_first the_memory));
       leaves = leaves;

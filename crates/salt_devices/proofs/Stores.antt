@@ -4,11 +4,11 @@ use Rattle.salt_bytes.specs.Log.{entries_in}
 use Rattle.salt_commit.proofs.Standing.{part_at, unchanged_images}
 use Rattle.salt_commit.specs.Openings.{NamesPages}
 use Rattle.salt_commit.specs.Reads.{StandsInPlace}
-use Rattle.salt_commit.specs.Stores.{IsStore, Stands, decided_by, next_text, reading}
+use Rattle.salt_commit.specs.Stores.{IsStore, StandsOnDevices, decided_by, next_text, reading}
 use Rattle.salt_commit.specs.declared.store.Store.{Store}
 use Rattle.salt_stands.specs.Fitting.{kept_in, tables_of}
 use Rattle.salt_devices.specs.Holding.{AreLogsOf, IsFresh, IsHeld, IsNewTo}
-use Rattle.salt_devices.specs.Leaving.{IsLeft, Leaves, StandsFor}
+use Rattle.salt_devices.specs.Leaving.{IsEither, LeavesEither, StandsFor}
 use Rattle.salt_disk.proofs.CallAfterCall.{same_shape}
 use Rattle.salt_disk.specs.Disks.{IsImage, SameShape, Shrinks, View}
 use Rattle.salt_model.specs.Kept.{Definition, Kept, schema_of}
@@ -108,7 +108,7 @@ is_begun shape image each blank =
 
 -- A STORE THAT IS HELD
 module _ (d : View) (shape : Shape) (x : Store) (k : Kept) (h : IsHeld d shape x k) where
-  pub held_stands : Stands d x
+  pub held_stands : StandsOnDevices d x
   held_stands = record { which = h.which; c = h.c; v = h.v; is = h.is }
 
   -- with each row in the partition of its key
@@ -141,13 +141,13 @@ module _ (d : View) (shape : Shape) (x : Store) (k : Kept) (h : IsHeld d shape x
       no_pages = λ dev pages. no_pages_left d x h.which h.c h.v h.is told d (same_shape d) image left (λ q b there. there) (λ q b there. there) pages.p (omega (arith, pages.low, ap (λ (s : Shape). s.parts) h.keeps.has_shape)) dev pages.names;
     }
 
-    pub held_image_left : (b : Kept) (image : ℕ → List ℕ) → IsImage d image → IsLeft shape image k b
+    pub held_image_left : (b : Kept) (image : ℕ → List ℕ) → IsImage d image → IsEither shape image k b
     held_image_left b image left = record {
       begun = is_begun shape image (λ asked. record { found = found_of h.c h.v; has_shape = h.keeps.has_shape; is = unchanged_images reading d x h.which h.c h.v h.is told asked image left });
       stands = inl (held_image image left);
     }
 
-  pub held_leaves : (b : Kept) → Leaves d shape k b
+  pub held_leaves : (b : Kept) → LeavesEither d shape k b
   held_leaves b told image left = held_image_left told b image left
 
 -- A CALL THAT CHANGES NOTHING

@@ -15,7 +15,7 @@ use Rattle.salt_stands.specs.Partition.{part_device, part_pair}
 use Rattle.salt_stands.specs.PartitionLog.{PartitionLog}
 use Rattle.salt_stands.specs.Placed.{changes_at}
 use Rattle.salt_stands.specs.Stands.{logs_of}
-use Rattle.salt_storage.specs.Writing.{OfBoot, OfDefinition, OfOpening, OfUnit, Written}
+use Rattle.salt_storage.specs.Writing.{OfBoot, OfDefinition, OfOpening, OfUnit, ToWrite}
 use Rattle.salt_values.specs.declared.change.Change.{Change}
 use Rattle.salt_values.specs.declared.id.Id.{Id}
 use Rattle.salt_place.specs.declared.placement.Shape.{Shape}
@@ -58,12 +58,12 @@ next_definition text log = Defines (record { number = log.told.decisions + 1; te
 abbrev pub next_decision : Shape → Id → List Change → Move → CoordinatorLog → CoordinatorEntry
 next_decision shape u cs m log = Decides (record { number = log.told.decisions + 1; unit = u; mask = mask_of (shares_of shape cs); move = spell_move FORMAT m })
 
-abbrev pub Fills : View → Shape → Written → ℕ → Type 0
+abbrev pub Fills : View → Shape → ToWrite → ℕ → Type 0
 Fills d shape OfOpening dev = StorePassesLimit d shape dev
 Fills d shape OfBoot dev = EntryFills d next_boot dev
 Fills d shape (OfDefinition text) dev = EntryFills d (next_definition text) dev
 Fills d shape (OfUnit u cs m) dev = EntryFills d (next_decision shape u cs m) dev ⊎ ShareFills d shape u cs dev
 
 -- what is to be written would pass the limit of the device; of disks that do not tell their bytes nothing is said
-abbrev pub FillsIn : View → Shape → Written → ℕ → Type 0
+abbrev pub FillsIn : View → Shape → ToWrite → ℕ → Type 0
 FillsIn d shape w dev = IsTrue d.told → Fills d shape w dev

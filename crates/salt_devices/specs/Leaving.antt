@@ -32,22 +32,22 @@ MayCome d true image = (dev : ℕ) → dev < d.count → image dev ≡ d.bytes d
 MayCome d false image = IsImage d image
 
 -- a coordinator's log was begun there, so no opening writes; the devices stand for the one or the other
-pub record IsLeft (shape : Shape) (image : ℕ → List ℕ) (a b : Kept) : Type 0 where
+pub record IsEither (shape : Shape) (image : ℕ → List ℕ) (a b : Kept) : Type 0 where
   pub begun : ¬ (coordinator_pair (logs_of image) ≡ BothBlank)
   pub stands : StandsFor shape image a ⊎ StandsFor shape image b
 
 -- it is so of what the next opening may come upon, where the disks tell
 abbrev pub LeavesAs : Bool → View → Shape → Kept → Kept → Type 0
-LeavesAs started d shape a b = IsTrue d.told → (image : ℕ → List ℕ) → MayCome d started image → IsLeft shape image a b
+LeavesAs started d shape a b = IsTrue d.told → (image : ℕ → List ℕ) → MayCome d started image → IsEither shape image a b
 
 -- of devices on which something was called
-abbrev pub Leaves : View → Shape → Kept → Kept → Type 0
-Leaves = LeavesAs false
+abbrev pub LeavesEither : View → Shape → Kept → Kept → Type 0
+LeavesEither = LeavesAs false
 
 -- the image stands for something, in this shape
-abbrev pub Stands : Shape → (ℕ → List ℕ) → Type 0
-Stands shape image = (k : Kept) × StandsFor shape image k
+abbrev pub StandsForSomething : Shape → (ℕ → List ℕ) → Type 0
+StandsForSomething shape image = (k : Kept) × StandsFor shape image k
 
 -- and so does what the next opening may come upon, where a first one was broken off by a stop
 abbrev pub CanOpen : Pending → (started : Bool) → View → Shape → Type 0
-CanOpen p started d shape = p ≡ Opening → IsTrue d.told → (image : ℕ → List ℕ) → MayCome d started image → Stands shape image
+CanOpen p started d shape = p ≡ Opening → IsTrue d.told → (image : ℕ → List ℕ) → MayCome d started image → StandsForSomething shape image

@@ -2,7 +2,7 @@
 
 ghost use Rattle.salt_commit.specs.Openings.{HasRoom};
 ghost use Rattle.salt_decisions.specs.Decisions.{shape_of};
-ghost use Rattle.salt_devices.specs.Leaving.{Leaves, LeavesAs};
+ghost use Rattle.salt_devices.specs.Leaving.{LeavesEither, LeavesAs};
 ghost use Rattle.salt_devices.specs.Opened.{IsHeldAgain};
 ghost use Rattle.salt_devices.specs.Remembering.{AreNumbersOf, Follow, IsFoundAgain, MayFollow, MayTell, Recalls, Remembers};
 ghost use Rattle.salt_devices.specs.Standing.{RestsAs};
@@ -126,7 +126,7 @@ pub fn open_again<D: Disks, F: Fn(PlaceKind, &Key, u32) -> u32>(
     ensures ok { IfOk result (λ made. (a b : Kept) → LeavesAs true (D.view disks.old) shape a b → Remembers shape (Some before.now) numbers pending.now a b
         → IsHeldAgain (D.view disks.new) shape made.0 made.1 a ⊎ IsHeldAgain (D.view disks.new) shape made.0 made.1 b) }
     ensures numbers { IfOk result (λ made. are_spent made.1.boot made.1.decisions ≡ false) }
-    ensures leaves { OnErr result ((a b : Kept) → LeavesAs true (D.view disks.old) shape a b → Leaves (D.view disks.new) shape a b) }
+    ensures leaves { OnErr result ((a b : Kept) → LeavesAs true (D.view disks.old) shape a b → LeavesEither (D.view disks.new) shape a b) }
     ensures known { IfErr result (λ e. (a b : Kept) → LeavesAs true (D.view disks.old) shape a b → Remembers shape (Some before.now) numbers pending.now a b → MayFail (RestsAs shape false (D.view disks.new)) a b e) }
     ensures full { (dev : ℕ) → result ≡ Err (Halted (DeviceFull dev)) → ⊥ }
     ensures within { StaysWithin shape shape (D.view disks.old) (D.view disks.new) }

@@ -6,7 +6,7 @@ ghost use Rattle.salt_devices.specs.Errors.{halt_of};
 ghost use Rattle.salt_devices.specs.Filling.{FillsIn};
 ghost use Rattle.salt_commit.specs.Stores.{rows_of_store};
 ghost use Rattle.salt_devices.specs.Holding.{IsHeld, IsNewTo};
-ghost use Rattle.salt_devices.specs.Leaving.{Leaves};
+ghost use Rattle.salt_devices.specs.Leaving.{LeavesEither};
 ghost use Rattle.salt_disk.specs.Disks.{HasCause, KeepsAll};
 ghost use Rattle.salt_model.specs.Kept.{Definition, Kept, schema_of};
 ghost use Rattle.salt_model.specs.Tables.{Tables};
@@ -67,7 +67,7 @@ pub fn load_rows<D: Disks, F: Fn(PlaceKind, &Key, u32) -> u32>(
     ensures rows { IfOk result (λ rows. (shape : Shape) (k : Kept) → IsHeld (D.view disks.old) shape store.old k → (es : Tables) → rows.entries ≡ es.list → IsPartOf reach.now es k.tables) }
     ensures holds { OnOk result ((shape : Shape) (k : Kept) → IsHeld (D.view disks.old) shape store.old k → IsHeld (D.view disks.new) shape store.new k) }
     ensures is_new { OnOk result ((u : Id) → IsNewTo (D.view disks.old) u → IsNewTo (D.view disks.new) u) }
-    ensures leaves { OnErr result ((shape : Shape) (k : Kept) → IsHeld (D.view disks.old) shape store.old k → Leaves (D.view disks.new) shape k k) }
+    ensures leaves { OnErr result ((shape : Shape) (k : Kept) → IsHeld (D.view disks.old) shape store.old k → LeavesEither (D.view disks.new) shape k k) }
     ensures stay { rows_of_store store.new ≡ rows_of_store store.old }
     ensures full { (dev : ℕ) → result ≡ Err (DeviceFull dev) → ⊥ }
     ensures kept { KeepsAll (D.view disks.old) (D.view disks.new) (disk_err result) }
@@ -85,7 +85,7 @@ pub fn begin_boot<D: Disks>(store: &mut Store, disks: &mut D) -> Result<u64, Hal
     ensures number { IfOk result (λ boot. (shape : Shape) (k : Kept) → IsHeld (D.view disks.old) shape store.old k → boot ≡ k.boot + 1) }
     ensures holds { OnOk result ((shape : Shape) (k : Kept) → IsHeld (D.view disks.old) shape store.old k → IsHeld (D.view disks.new) shape store.new (booted k)) }
     ensures is_new { IfOk result (λ boot. (u : Id) → u.boot ≡ boot → IsNewTo (D.view disks.new) u) }
-    ensures leaves { (shape : Shape) (k : Kept) → IsHeld (D.view disks.old) shape store.old k → Leaves (D.view disks.new) shape k (booted k) }
+    ensures leaves { (shape : Shape) (k : Kept) → IsHeld (D.view disks.old) shape store.old k → LeavesEither (D.view disks.new) shape k (booted k) }
     ensures stay { rows_of_store store.new ≡ rows_of_store store.old }
     ensures full { (dev : ℕ) → result ≡ Err (DeviceFull dev) → (shape : Shape) (k : Kept) → IsHeld (D.view disks.old) shape store.old k → FillsIn (D.view disks.new) shape OfBoot dev }
     ensures within { (shape : Shape) (k : Kept) → IsHeld (D.view disks.old) shape store.old k → StaysWithin shape shape (D.view disks.old) (D.view disks.new) }
@@ -112,7 +112,7 @@ pub fn decide_definition<D: Disks, F: Fn(PlaceKind, &Key, u32) -> u32>(
         → IsHeld (D.view disks.new) shape store.new (defined k d)) }
     ensures is_new { OnOk result ((u : Id) → IsNewTo (D.view disks.old) u → IsNewTo (D.view disks.new) u) }
     ensures leaves { (shape : Shape) (k : Kept) (d : Definition) → IsHeld (D.view disks.old) shape store.old k → definition_in text.now ≡ Some d → MayDefine k d
-        → Leaves (D.view disks.new) shape k (defined k d) }
+        → LeavesEither (D.view disks.new) shape k (defined k d) }
     ensures stay { rows_of_store store.new ≡ rows_of_store store.old }
     ensures full { (dev : ℕ) → result ≡ Err (DeviceFull dev) → (shape : Shape) (k : Kept) → IsHeld (D.view disks.old) shape store.old k → FillsIn (D.view disks.new) shape (OfDefinition text.now) dev }
     ensures within { (shape : Shape) (k : Kept) → IsHeld (D.view disks.old) shape store.old k → StaysWithin shape shape (D.view disks.old) (D.view disks.new) }
@@ -147,7 +147,7 @@ pub fn decide_unit<D: Disks, F: Fn(PlaceKind, &Key, u32) -> u32>(
         → IsHeld (D.view disks.new) shape store.new (decided k changes.now conts)) }
     ensures is_new { OnOk result ((u : Id) → is_same_id u unit ≡ false → IsNewTo (D.view disks.old) u → IsNewTo (D.view disks.new) u) }
     ensures leaves { (shape : Shape) (k : Kept) (conts : List Cont) → IsHeld (D.view disks.old) shape store.old k → MayDecide k unit changes.now made.now conts
-        → Leaves (D.view disks.new) shape k (decided k changes.now conts) }
+        → LeavesEither (D.view disks.new) shape k (decided k changes.now conts) }
     ensures stay { (e : Halt) → result ≡ Err e → e ≢ Memory → rows_of_store store.new ≡ rows_of_store store.old }
     ensures full { (dev : ℕ) → result ≡ Err (DeviceFull dev) → (shape : Shape) (k : Kept) → IsHeld (D.view disks.old) shape store.old k → FillsIn (D.view disks.new) shape (OfUnit unit changes.now made.now) dev }
     ensures within { (shape : Shape) (k : Kept) → IsHeld (D.view disks.old) shape store.old k → StaysWithin shape shape (D.view disks.old) (D.view disks.new) }

@@ -5,7 +5,7 @@ ghost use Rattle.salt_commit.specs.Openings.{HasRoom, IsStoreLog, StorePassesLim
 ghost use Rattle.salt_decisions.specs.Decisions.{shape_of};
 ghost use Rattle.salt_decisions.specs.Kept.{IsKept};
 ghost use Rattle.salt_devices.specs.Errors.{open_err_of};
-ghost use Rattle.salt_devices.specs.Leaving.{CanOpen, Stands, StandsFor, StandsStill};
+ghost use Rattle.salt_devices.specs.Leaving.{CanOpen, StandsForSomething, StandsFor, StandsStill};
 ghost use Rattle.salt_devices.specs.Opened.{HoldsFound, IsNewest, IsNewestOf, IsNewestWhere, IsOpen, IsUnread, OpensAs};
 ghost use Rattle.salt_devices.specs.Refusing.{RefusedAs};
 ghost use Rattle.salt_devices.specs.declared.pending.Pending.TheVariants.{Opening};
@@ -175,7 +175,7 @@ pub fn open_devices<D: Disks, F: Fn(PlaceKind, &Key, u32) -> u32>(
         → FindsNoMore (RefusedAs shape (D.view disks.old).bytes) (StandsFor shape (D.view disks.old).bytes) (RefusedAs shape image) (StandsFor shape image)) }
     ensures rests { OnErr result (IsTrue (D.view disks.old).told → (image : ℕ → List ℕ) → IsImage (D.view disks.new) image → StandsStill shape (D.view disks.old).bytes image) }
 
-    ensures stopped { result ≡ Err (Halted Stopped) → IsTrue (D.view disks.old).told → (image : ℕ → List ℕ) → IsImage (D.view disks.new) image → Stands shape image }
+    ensures stopped { result ≡ Err (Halted Stopped) → IsTrue (D.view disks.old).told → (image : ℕ → List ℕ) → IsImage (D.view disks.new) image → StandsForSomething shape image }
 
     ensures unwritten { (refusal : OpenErr) → IsRefusal refusal → RefusedAs shape (D.view disks.old).bytes refusal → IsTrue (D.view disks.old).told
         → WritesNothing (D.view disks.old) (D.view disks.new) (open_disk_err result) }
@@ -229,7 +229,7 @@ pub fn open_first<D: Disks, F: Fn(PlaceKind, &Key, u32) -> u32>(
     ensures still { OnErr result (IsTrue (D.view disks.old).told → (image : ℕ → List ℕ) → IsImage (D.view disks.new) image
         → FindsNoMore (RefusedAs shape (D.view disks.old).bytes) (StandsFor shape (D.view disks.old).bytes) (RefusedAs shape image) (StandsFor shape image)) }
     ensures rests { OnErr result (IsTrue (D.view disks.old).told → (image : ℕ → List ℕ) → IsImage (D.view disks.new) image → StandsStill shape (D.view disks.old).bytes image) }
-    ensures stopped { result ≡ Err (Halted Stopped) → IsTrue (D.view disks.old).told → (image : ℕ → List ℕ) → IsImage (D.view disks.new) image → Stands shape image }
+    ensures stopped { result ≡ Err (Halted Stopped) → IsTrue (D.view disks.old).told → (image : ℕ → List ℕ) → IsImage (D.view disks.new) image → StandsForSomething shape image }
     ensures later { pending.now ≡ Opening → IfErr result IsLater }
     ensures unwritten { (refusal : OpenErr) → IsRefusal refusal → RefusedAs shape (D.view disks.old).bytes refusal → IsTrue (D.view disks.old).told
         → WritesNothing (D.view disks.old) (D.view disks.new) (open_disk_err result) }

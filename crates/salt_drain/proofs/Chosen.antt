@@ -26,17 +26,17 @@ use Rattle.salt_books.specs.declared.coming.Coming.{Coming}
 use Rattle.law_states.specs.OpenUnits.{OpenUnit, unit_named}
 use Rattle.law_states.specs.States.{State}
 use Rattle.salt_model.specs.declared.events.Event.{Event}
-use Rattle.salt_drain.specs.Recovering.{Brings, Gives, IsReady, Stands}
+use Rattle.salt_drain.specs.Recovering.{AnswersWithComing, AnswersWith, IsReady, StandsForState}
 use Rattle.salt_drain.specs.declared.recovery.Recovery.{Recovery}
 use Rattle.std.proofs.Common.{ap, subst, sym, ◌∙◌}
 use Rattle.std.specs.Prelude.{None, Option, Some, is_some, refl, true, ◌≡◌}
 
 -- where nothing is chosen, nothing has been done
-pub still-stands : (s : State) (a : Option Event) (x : Recovery) (c : Coming) → Brings s a x c → c ≡ coming.Nothing → Stands x s
+pub still-stands : (s : State) (a : Option Event) (x : Recovery) (c : Coming) → AnswersWithComing s a x c → c ≡ coming.Nothing → StandsForState x s
 still-stands s a x c h e = (subst (λ (c : Coming). IsReady x s c) e h.ready).0
 
 -- an event for which nothing is asked is given
-pub told : (s : State) (want : Option Event) (x : Recovery) (e : Event) → IsPlain want → Gives s want x (Some e) → Brings s want x (coming.Told e)
+pub told : (s : State) (want : Option Event) (x : Recovery) (e : Event) → IsPlain want → AnswersWith s want x (Some e) → AnswersWithComing s want x (coming.Told e)
 told s want x e plain h = record { meant = h.told; ready = (h.done, subst IsPlain (sym h.told) plain) }
 
 pub rest-plain : (s : UnitState) → IsPlain (rest_in s)
@@ -58,10 +58,10 @@ finish-plain s b = by (is_none (cont_of b s.kept))
     by true = (refl, refl)
     by false = (refl, refl)
 
-pub nothing : (s : State) (want : Option Event) (x : Recovery) → want ≡ None → Stands x s → Brings s want x coming.Nothing
+pub nothing : (s : State) (want : Option Event) (x : Recovery) → want ≡ None → StandsForState x s → AnswersWithComing s want x coming.Nothing
 nothing s want x e h = record { meant = sym e; ready = (h, tt) }
 
-pub gives-same : (s : State) (other want given : Option Event) (x : Recovery) → other ≡ want → Gives s other x given → Gives s want x given
+pub gives-same : (s : State) (other want given : Option Event) (x : Recovery) → other ≡ want → AnswersWith s other x given → AnswersWith s want x given
 gives-same s other want given x e h = record { told = h.told ∙ e; done = h.done }
 
 -- CUTS AND PROGRAMS, by the first of each.
@@ -96,8 +96,8 @@ cuts-drain s [] h none = sym (ap (λ (os : List OpenUnit). then_some (is_empty o
 
 -- WHAT FOLLOWS.
 
-pub serve-brings : (s : State) (u : Id) (found : Option Asking) (a : Asking) (x : Recovery) → found ≡ Some a → Stands x s → IsRecovering s → IsPartIfOpen s.units u →
-    IsAsked (unlined s.units) u found → Brings s (option_and_then (serve_in s.units) (unit_named u s.units.units)) x (coming.Act a)
+pub serve-brings : (s : State) (u : Id) (found : Option Asking) (a : Asking) (x : Recovery) → found ≡ Some a → StandsForState x s → IsRecovering s → IsPartIfOpen s.units u →
+    IsAsked (unlined s.units) u found → AnswersWithComing s (option_and_then (serve_in s.units) (unit_named u s.units.units)) x (coming.Act a)
 serve-brings s u found a x is stands r parts asked =
     let at : IsAsked (unlined s.units) u (Some a) = subst (λ (f : Option Asking). IsAsked (unlined s.units) u f) is asked in
     let it = asked-alike s u a r parts at in
@@ -106,8 +106,8 @@ serve-brings s u found a x is stands r parts asked =
       ready = (stands, it);
     }
 
-pub fail-brings : (s : State) (u b : Id) (part : ℕ) (o : OpenUnit) (cause : Cause) (x : Recovery) → Stands x s → unit_named u s.units.units ≡ Some o →
-    o.kind ≡ Later b part → Brings s (done_of s.units (Some cause) (unit_named u s.units.units)) x (coming.Branch u b cause)
+pub fail-brings : (s : State) (u b : Id) (part : ℕ) (o : OpenUnit) (cause : Cause) (x : Recovery) → StandsForState x s → unit_named u s.units.units ≡ Some o →
+    o.kind ≡ Later b part → AnswersWithComing s (done_of s.units (Some cause) (unit_named u s.units.units)) x (coming.Branch u b cause)
 fail-brings s u b part o cause x stands named kind = record {
   meant = sym (done-branched s.units u b part o cause named kind);
   ready = (stands, record { unit = o; part = part; named = named; kind = kind });

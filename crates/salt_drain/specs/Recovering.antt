@@ -41,35 +41,35 @@ IsOfDrain (Turn u) s = IsPartIfOpen s u
 IsOfDrain (Done u failed) s = IsPartIfOpen s u
 IsOfDrain b s = ⊤
 
-pub record StandsFor (x : Recovery) (s : UnitState) : Type 0 where
+pub record StandsForUnits (x : Recovery) (s : UnitState) : Type 0 where
   pub books : AreBooks x.books s
   pub opening : s.phase ≡ Opening
   pub single : x.single ≡ is_statement_line s.line
   pub drain : IsOfDrain x.behind s
 
-abbrev pub Stands : Recovery → State → Type 0
-Stands x s = StandsFor x s.units
+abbrev pub StandsForState : Recovery → State → Type 0
+StandsForState x s = StandsForUnits x s.units
 
 -- behind its Ready the state serves
-abbrev pub StandsBehind : Event → Recovery → UnitState → Type 0
-StandsBehind Ready x s = AreBooks x.books s × (s.phase ≡ Serving)
-StandsBehind e x s = StandsFor x s
+abbrev pub StandsBehindEvent : Event → Recovery → UnitState → Type 0
+StandsBehindEvent Ready x s = AreBooks x.books s × (s.phase ≡ Serving)
+StandsBehindEvent e x s = StandsForUnits x s
 
 -- it has done an event
-pub record HasDone (x : Recovery) (e : Event) (s t : State) : Type 0 where
+pub record HasDoneEvent (x : Recovery) (e : Event) (s t : State) : Type 0 where
   pub plain : is_of_run e ≡ false
   pub after : After e s t
-  pub behind : StandsBehind e x t.units
+  pub behind : StandsBehindEvent e x t.units
   pub follows : FollowsOn x.behind e s.units t.units
 
-abbrev pub Sees : Recovery → Option Event → State → Type 0
-Sees x None s = Stands x s
-Sees x (Some e) s = (t : State) × HasDone x e s t
+abbrev pub StandsAtEvent : Recovery → Option Event → State → Type 0
+StandsAtEvent x None s = StandsForState x s
+StandsAtEvent x (Some e) s = (t : State) × HasDoneEvent x e s t
 
 -- what is given is what the state tells, and it is done
-pub record Gives (s : State) (want : Option Event) (new : Recovery) (given : Option Event) : Type 0 where
+pub record AnswersWith (s : State) (want : Option Event) (new : Recovery) (given : Option Event) : Type 0 where
   pub told : given ≡ want
-  pub done : Sees new given s
+  pub done : StandsAtEvent new given s
 
 -- what is needed for it beside the devices; a statement is of a unit that goes on with a program
 abbrev pub CanGoOn : Coming → UnitState → Type 0
@@ -82,33 +82,33 @@ IsPlain want = (decision_in want ≡ None) × (statements_at want ≡ 0)
 
 -- it is done where it is an event that is done, for which nothing is asked; else nothing is
 abbrev pub IsReady : Recovery → State → Coming → Type 0
-IsReady x s (coming.Told e) = Sees x (Some e) s × IsPlain (Some e)
-IsReady x s c = Stands x s × CanGoOn c s.units
+IsReady x s (coming.Told e) = StandsAtEvent x (Some e) s × IsPlain (Some e)
+IsReady x s c = StandsForState x s × CanGoOn c s.units
 
 -- what is to come is what the state tells
-pub record Brings (s : State) (want : Option Event) (new : Recovery) (c : Coming) : Type 0 where
+pub record AnswersWithComing (s : State) (want : Option Event) (new : Recovery) (c : Coming) : Type 0 where
   pub meant : event_meant s.units c ≡ want
   pub ready : IsReady new s c
 
 -- what a state tells of what comes next
-abbrev pub Wanted : Type 0
-Wanted = UnitState → Option Event
+abbrev pub NextTold : Type 0
+NextTold = UnitState → Option Event
 
 -- from a recovery that stands for a state to one that has done what this tells of it
-abbrev pub Does : Wanted → Recovery → Recovery → Event → Type 0
-Does want old new e = (s : State) → Stands old s → IsRecovering s → Gives s (want s.units) new (Some e)
+abbrev pub DoesNext : NextTold → Recovery → Recovery → Event → Type 0
+DoesNext want old new e = (s : State) → StandsForState old s → IsRecovering s → AnswersWith s (want s.units) new (Some e)
 
 -- to one that is ready for what this tells
-abbrev pub Chooses : Wanted → Recovery → Recovery → Coming → Type 0
-Chooses want old new c = (s : State) → Stands old s → IsRecovering s → Brings s (want s.units) new c
+abbrev pub ChoosesNext : NextTold → Recovery → Recovery → Coming → Type 0
+ChoosesNext want old new c = (s : State) → StandsForState old s → IsRecovering s → AnswersWithComing s (want s.units) new c
 
 -- the same of a unit that goes on with a program, if it is open
-abbrev pub ChoosesOf : Id → Wanted → Recovery → Coming → Type 0
-ChoosesOf u want x c = (s : State) → Stands x s → IsRecovering s → IsPartIfOpen s.units u → Brings s (want s.units) x c
+abbrev pub ChoosesOf : Id → NextTold → Recovery → Coming → Type 0
+ChoosesOf u want x c = (s : State) → StandsForState x s → IsRecovering s → IsPartIfOpen s.units u → AnswersWithComing s (want s.units) x c
 
 -- it stands for some state in an opening
 abbrev pub IsInOpening : Recovery → Type 0
-IsInOpening x = (s : State) × Stands x s × IsRecovering s
+IsInOpening x = (s : State) × StandsForState x s × IsRecovering s
 
 abbrev pub IsInOpeningOf : Id → Recovery → Type 0
-IsInOpeningOf u x = (s : State) × Stands x s × IsRecovering s × IsPartIfOpen s.units u
+IsInOpeningOf u x = (s : State) × StandsForState x s × IsRecovering s × IsPartIfOpen s.units u

@@ -21,12 +21,12 @@ use salt_values::Id;
 use std::alloc::AllocError;
 
 impl Recovery {
-    ghost use Rattle.salt_drain.specs.Recovering.{Chooses, ChoosesOf, Does, Gives, IsInOpening, IsInOpeningOf, IsRecovering, Stands};
+    ghost use Rattle.salt_drain.specs.Recovering.{ChoosesNext, ChoosesOf, DoesNext, AnswersWith, IsInOpening, IsInOpeningOf, IsRecovering, StandsForState};
 
     /// A unit of an earlier boot is cut.
     fn cut(&mut self, unit: Id) -> Event
         requires { HaveUnit self.old.books unit }
-        ensures { Does (λ s. Some (Event.Ended unit End.Cut)) self.old self.new result }
+        ensures { DoesNext (λ s. Some (Event.Ended unit End.Cut)) self.old self.new result }
     {
         self.books.end(unit);
         self.behind = Behind::Nothing;
@@ -38,8 +38,8 @@ impl Recovery {
 
     /// A program goes on: a unit begins with its next part, where no other is open.
     fn begin(&mut self, base: Id, part: u32) -> Result<Event, AllocError>
-        ensures { IfOk result (λ e. (s : State) → Stands self.old s → IsRecovering s → s.units.units ≡ []
-            → Gives s (Some (begins_in s.units (Later base part))) self.new (Some e)) }
+        ensures { IfOk result (λ e. (s : State) → StandsForState self.old s → IsRecovering s → s.units.units ≡ []
+            → AnswersWith s (Some (begins_in s.units (Later base part))) self.new (Some e)) }
     {
         let unit = self
             .books
@@ -53,7 +53,7 @@ impl Recovery {
 
     /// The opening is done.
     fn get_ready(&mut self) -> Event
-        ensures { Does (λ s. Some Event.Ready) self.old self.new result }
+        ensures { DoesNext (λ s. Some Event.Ready) self.old self.new result }
     {
         self.behind = Behind::Nothing;
         Event::Ready
@@ -61,8 +61,8 @@ impl Recovery {
 
     /// Where no unit is open, the program goes on that was accepted first; where none is left, the opening is done.
     fn drain(&mut self) -> Result<Event, AllocError>
-        ensures { IfOk result (λ e. (s : State) → Stands self.old s → IsRecovering s → s.units.units ≡ []
-            → Gives s (Some (drains_in s.units s.units.kept.conts)) self.new (Some e)) }
+        ensures { IfOk result (λ e. (s : State) → StandsForState self.old s → IsRecovering s → s.units.units ≡ []
+            → AnswersWith s (Some (drains_in s.units s.units.kept.conts)) self.new (Some e)) }
     {
         match self.books.next_drained() {
             Some(cont) => {
@@ -78,7 +78,7 @@ impl Recovery {
     /// boot is cut, or a program goes on, or the opening is done.
     pub fn opened(&mut self) -> Result<Coming, AllocError>
         requires { IsInOpening self.old }
-        ensures { IfOk result (λ coming. Chooses (λ s. rest_in s) self.old self.new coming) }
+        ensures { IfOk result (λ coming. ChoosesNext (λ s. rest_in s) self.old self.new coming) }
     {
         match self.books.next_cut() {
             Some(unit) => Ok(Coming::Told(self.cut(unit))),
@@ -156,7 +156,7 @@ impl Recovery {
 
     /// A program is accepted.
     fn accept(&mut self, base: Id) -> Event
-        ensures { Does (λ s. Some (Event.Accepted base)) self.old self.new result }
+        ensures { DoesNext (λ s. Some (Event.Accepted base)) self.old self.new result }
     {
         self.behind = Behind::Finish(base);
         Event::Accepted(base)
@@ -164,7 +164,7 @@ impl Recovery {
 
     /// A program has come to its end, if it goes on nowhere.
     fn finish(&mut self, base: Id) -> Coming
-        ensures { Chooses (λ s. finishes_in s base) self.old self.new result }
+        ensures { ChoosesNext (λ s. finishes_in s base) self.old self.new result }
     {
         if self.books.known().cont(base).is_some() {
             return Coming::Nothing;
@@ -176,7 +176,7 @@ impl Recovery {
     /// What follows the event at hand.
     fn follow_up(&mut self) -> Result<Coming, AllocError>
         requires { IsInOpening self.old }
-        ensures { IfOk result (λ coming. Chooses (λ s. event_of self.old.behind s) self.old self.new coming) }
+        ensures { IfOk result (λ coming. ChoosesNext (λ s. event_of self.old.behind s) self.old self.new coming) }
     {
         match self.behind {
             Behind::Nothing => Ok(Coming::Nothing),
@@ -190,7 +190,7 @@ impl Recovery {
     /// What comes behind the event at hand: what follows it, or what the opening goes on with.
     pub fn go_on(&mut self) -> Result<Coming, AllocError>
         requires { IsInOpening self.old }
-        ensures { IfOk result (λ coming. Chooses (λ s. comes_behind self.old.behind s) self.old self.new coming) }
+        ensures { IfOk result (λ coming. ChoosesNext (λ s. comes_behind self.old.behind s) self.old self.new coming) }
     {
         let following = self.follow_up()?;
         match &following {

@@ -32,7 +32,7 @@ use std::alloc::AllocError;
 use std::sync::ledger::Ledger;
 
 impl Recovery {
-    ghost use Rattle.salt_drain.specs.Recovering.{Gives, IsOfPart, IsRecovering, Stands};
+    ghost use Rattle.salt_drain.specs.Recovering.{AnswersWith, IsOfPart, IsRecovering, StandsForState};
 
     /// A unit that goes on with a program does the statement that it asks for, over the rows that this reaches: one step, whatever it
     /// answers.
@@ -45,8 +45,8 @@ impl Recovery {
         requires there { HaveUnit self.old.books asking.unit }
         requires leaves_keys { leaves_keys self.old.books.known.schema asking.statement ≡ true }
         requires keyed { IsKeyed (tables_of rows.now.entries) }
-        ensures gives { IfOk result (λ e. (s : State) (o : OpenUnit) → Stands self.old s → IsRecovering s → IsAskedBy asking s.units o → IsOfPart o
-            → AreLoaded asking.reach (tables_of rows.now.entries) s.units.kept.tables → Gives s (Some (does_in s.units o asking.statement)) self.new (Some e)) }
+        ensures gives { IfOk result (λ e. (s : State) (o : OpenUnit) → StandsForState self.old s → IsRecovering s → IsAskedBy asking s.units o → IsOfPart o
+            → AreLoaded asking.reach (tables_of rows.now.entries) s.units.kept.tables → AnswersWith s (Some (does_in s.units o asking.statement)) self.new (Some e)) }
         ensures ticks { steps.new ≡ steps.old + 1 }
     {
         let Asking {
@@ -72,9 +72,9 @@ impl Recovery {
     /// The commit of a unit has been decided, with this move of its program: it commits.
     pub fn committed(&mut self, unit: Id, made: Move) -> Result<Event, AllocError>
         requires { HaveUnit self.old.books unit }
-        ensures { IfOk result (λ e. (s : State) (o : OpenUnit) → Stands self.old s → IsRecovering s → unit_named unit s.units.units ≡ Some o
+        ensures { IfOk result (λ e. (s : State) (o : OpenUnit) → StandsForState self.old s → IsRecovering s → unit_named unit s.units.units ≡ Some o
             → MovesTo made s.units.kept (conts_committed s.units.kept (next_decision s.units) o.kind o.vars)
-            → Gives s (Some (commits_in s.units o)) self.new (Some e)) }
+            → AnswersWith s (Some (commits_in s.units o)) self.new (Some e)) }
     {
         let Some(held) = self.books.unit_named(unit) else {
             unreachable!()
@@ -98,9 +98,9 @@ impl Recovery {
         made: Move,
     ) -> Result<Event, AllocError>
         requires { HaveUnit self.old.books unit }
-        ensures { IfOk result (λ e. (s : State) (o : OpenUnit) (part : ℕ) → Stands self.old s → IsRecovering s → unit_named unit s.units.units ≡ Some o
+        ensures { IfOk result (λ e. (s : State) (o : OpenUnit) (part : ℕ) → StandsForState self.old s → IsRecovering s → unit_named unit s.units.units ≡ Some o
             → o.kind ≡ Later base part → MovesTo made s.units.kept (conts_branched s.units.kept o.kind)
-            → Gives s (Some (Event.Ended unit (End.Branched (next_decision s.units) cause))) self.new (Some e)) }
+            → AnswersWith s (Some (Event.Ended unit (End.Branched (next_decision s.units) cause))) self.new (Some e)) }
     {
         let number = self.books.branch(unit, made)?;
         self.behind = Behind::Finish(base);
@@ -113,8 +113,8 @@ impl Recovery {
     /// The table of the last line has been decided: it is defined.
     pub fn table_defined(&mut self, def: &TableDef) -> Result<Event, AllocError>
         requires { table_refusal self.old.books.known.schema def.now ≡ None }
-        ensures { IfOk result (λ e. (s : State) → Stands self.old s → IsRecovering s → s.units.line ≡ Table def.now
-            → Gives s (Some (Event.Defined (next_decision s.units) (table_text def.now))) self.new (Some e)) }
+        ensures { IfOk result (λ e. (s : State) → StandsForState self.old s → IsRecovering s → s.units.line ≡ Table def.now
+            → AnswersWith s (Some (Event.Defined (next_decision s.units) (table_text def.now))) self.new (Some e)) }
     {
         let (number, text) = self.books.define_table(def)?;
         self.behind = Behind::Nothing;
@@ -125,8 +125,8 @@ impl Recovery {
     pub fn program_defined(&mut self, def: &ProgramDef) -> Result<Event, AllocError>
         requires parts { length (parts_in def.now.body) < 2 ^ 32 }
         requires allowed { program_refusal self.old.books.known.schema self.old.books.known.catalogue def.now ≡ None }
-        ensures { IfOk result (λ e. (s : State) → Stands self.old s → IsRecovering s → s.units.line ≡ Program def.now
-            → Gives s (Some (Event.Defined (next_decision s.units) (program_text def.now))) self.new (Some e)) }
+        ensures { IfOk result (λ e. (s : State) → StandsForState self.old s → IsRecovering s → s.units.line ≡ Program def.now
+            → AnswersWith s (Some (Event.Defined (next_decision s.units) (program_text def.now))) self.new (Some e)) }
     {
         let (number, text) = self.books.define_program(def)?;
         self.behind = Behind::Nothing;

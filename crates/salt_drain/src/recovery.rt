@@ -32,11 +32,11 @@ impl Drop for Recovery {
 }
 
 impl Recovery {
-    ghost use Rattle.salt_drain.specs.Recovering.{Stands};
+    ghost use Rattle.salt_drain.specs.Recovering.{StandsForState};
 
     /// Behind an Opened: the books of its boot, and whether the last line that was asked is one statement.
     pub fn new(alloc: Global, books: Books, single: bool) -> Recovery
-        ensures { (s : State) → AreBooks books s.units → s.units.phase ≡ Opening → single ≡ is_statement_line s.units.line → Stands result s }
+        ensures { (s : State) → AreBooks books s.units → s.units.phase ≡ Opening → single ≡ is_statement_line s.units.line → StandsForState result s }
     {
         Recovery {
             alloc,

@@ -12,7 +12,7 @@ use Rattle.salt_model.specs.declared.events.Event.{Event}
 use Rattle.salt_model.specs.declared.events.Flight.{Flight}
 use Rattle.salt_driver.specs.Standing.{Advances, BreaksAt, Finishes, HaltsAt, IsAt, IsInside, IsSoundPoint, RunsShort, StopsWithin}
 use Rattle.salt_storage.specs.Answers.{disk_err_of}
-use Rattle.salt_storage.specs.Writing.{Written}
+use Rattle.salt_storage.specs.Writing.{ToWrite}
 use Rattle.salt_storage.specs.declared.halt.Halt.{Halt}
 use Rattle.law_types.specs.Played.{HasKey}
 use Rattle.law_types.specs.Typed.{IsTyped}
@@ -84,11 +84,11 @@ sound-asked asked p q key s n =
     }
 
 -- nothing more is told
-pub stop-at : (lies left : Point → Type 0) (fills : Written → ℕ → Type 0) (flight : Option Flight) (halt : Halt) (q : Point) (told : List Event) → HaltsAt lies left fills flight halt q → StopsWithin lies left fills flight halt q told told
+pub stop-at : (lies left : Point → Type 0) (fills : ToWrite → ℕ → Type 0) (flight : Option Flight) (halt : Halt) (q : Point) (told : List Event) → HaltsAt lies left fills flight halt q → StopsWithin lies left fills flight halt q told told
 stop-at lies left fills flight halt q told h = record { moves = []; point = q; runs = refl; inside = tt; tells = sym (no-more told); halts = h }
 
 -- it broke off in the first event
-pub stop-first : (lies left : Point → Type 0) (fills : Written → ℕ → Type 0) (flight : Option Flight) (halt : Halt) (event : Event) (q : Point) (story told : List Event) → BreaksAt lies left fills flight halt q event story told →
+pub stop-first : (lies left : Point → Type 0) (fills : ToWrite → ℕ → Type 0) (flight : Option Flight) (halt : Halt) (event : Event) (q : Point) (story told : List Event) → BreaksAt lies left fills flight halt q event story told →
     StopsWithin lies left fills flight halt q story told
 stop-first lies left fills flight halt event q story told (inl short) =
     subst (λ (es : List Event). StopsWithin lies left fills flight halt q story es) (sym short.0) (stop-at lies left fills flight halt q story short.1)
@@ -134,12 +134,12 @@ module _ {E : Type 0} (sees : E → Option Event → State → Type 0) (line : L
   -- BROKEN OFF
 
   -- for want of memory, before a move
-  pub stop-here : (lies left : Point → Type 0) (fills : Written → ℕ → Type 0) (flight : Option Flight) (halt : Halt) (p : Point) (story told : List Event) (e : E) (next : Option Event) →
+  pub stop-here : (lies left : Point → Type 0) (fills : ToWrite → ℕ → Type 0) (flight : Option Flight) (halt : Halt) (p : Point) (story told : List Event) (e : E) (next : Option Event) →
       (a : Advances sees line p story e next told) → HaltsAt lies left fills flight halt a.point → StopsWithin lies left fills flight halt p story told
   stop-here lies left fills flight halt p story told e next a h = record { moves = a.moves; point = a.point; runs = a.runs; inside = a.inside; tells = a.tells; halts = h }
 
   -- in telling an event
-  pub stop-saying : (lies left : Point → Type 0) (fills : Written → ℕ → Type 0) (flight : Option Flight) (halt : Halt) (e : E) (event : Event) (p : Point) (story told now : List Event) →
+  pub stop-saying : (lies left : Point → Type 0) (fills : ToWrite → ℕ → Type 0) (flight : Option Flight) (halt : Halt) (e : E) (event : Event) (p : Point) (story told now : List Event) →
       (a : Advances sees line p story e (Some event) told) → BreaksAt lies left fills flight halt a.point event told now → StopsWithin lies left fills flight halt p story now
   stop-saying lies left fills flight halt e event p story told now a (inl same) =
       subst (λ es. StopsWithin lies left fills flight halt p story es) (sym same.0) (stop-here lies left fills flight halt p story told e (Some event) a same.1)
@@ -155,7 +155,7 @@ module _ {E : Type 0} (sees : E → Option Event → State → Type 0) (line : L
       }
 
   -- in a turn
-  pub stop-turned : (lies left : Point → Type 0) (fills : Written → ℕ → Type 0) (flight : Option Flight) (halt : Halt) (b : Id) (p q : Point) (story told now : List Event) (e : E) →
+  pub stop-turned : (lies left : Point → Type 0) (fills : ToWrite → ℕ → Type 0) (flight : Option Flight) (halt : Halt) (b : Id) (p q : Point) (story told now : List Event) (e : E) →
       (a : Advances sees line p story e None told) → Moves (Turn b) a.point q → StopsWithin lies left fills flight halt q told now → StopsWithin lies left fills flight halt p story now
   stop-turned lies left fills flight halt b p q story told now e a m s = record {
     moves = a.moves ++ Turn b ∷ s.moves;
@@ -167,7 +167,7 @@ module _ {E : Type 0} (sees : E → Option Event → State → Type 0) (line : L
   }
 
   -- for want of memory before it, or at its first event
-  pub stop-turning : (lies left : Point → Type 0) (fills : Written → ℕ → Type 0) (flight : Option Flight) (halt : Halt) (b : Id) (p : Point) (story told : List Event) (e : E) →
+  pub stop-turning : (lies left : Point → Type 0) (fills : ToWrite → ℕ → Type 0) (flight : Option Flight) (halt : Halt) (b : Id) (p : Point) (story told : List Event) (e : E) →
       (a : Advances sees line p story e None told) →
       RunsShort lies left fills flight halt a.point ⊎ ((q : Point) × Moves (Turn b) a.point q × HaltsAt lies left fills flight halt q) → StopsWithin lies left fills flight halt p story told
   stop-turning lies left fills flight halt b p story told e a (inl short) = stop-here lies left fills flight halt p story told e None a short.1
@@ -178,7 +178,7 @@ none-of None h = refl
 none-of (Some x) h = absurd (h x refl)
 
 -- what broken off in an event tells of the story
-pub broken-by : (lies left : Point → Type 0) (fills : Written → ℕ → Type 0) (flight : Option Flight) (halt : Halt) (p : Point) (e : Event) (story told : List Event) →
+pub broken-by : (lies left : Point → Type 0) (fills : ToWrite → ℕ → Type 0) (flight : Option Flight) (halt : Halt) (p : Point) (e : Event) (story told : List Event) →
     BreaksAt lies left fills flight halt p e story told → ((told ≡ story) × (Some (disk_err_of halt) ≡ Some disk.Memory)) ⊎ ((told ≡ story ++ e ∷ []) × (is_of_run e ≡ false))
 broken-by lies left fills flight halt p e story told (inl h) = inl (h.0, ap (λ x. Some (disk_err_of x)) h.2)
 broken-by lies left fills flight halt p e story told (inr h) = inr (h.0, h.1.1.1)

@@ -22,7 +22,7 @@ use Rattle.salt_storage.specs.Storing.{IsFound, IsSoundKept}
 use Rattle.salt_storage.specs.declared.found.Found.{Found}
 use Rattle.salt_disk.specs.Disks.{View}
 use Rattle.salt_storage.specs.Answers.{IsLater, IsRefusal}
-use Rattle.salt_storage.specs.Writing.{FindsNoMore, OfOpening, Written}
+use Rattle.salt_storage.specs.Writing.{FindsNoMore, OfOpening, ToWrite}
 use Rattle.salt_storage.specs.declared.halt.Halt.TheVariants.{DeviceFull, Memory}
 use Rattle.salt_storage.specs.declared.open.OpenErr.TheVariants.{Halted}
 use Rattle.salt_storage.specs.declared.open.OpenErr.{OpenErr}
@@ -110,7 +110,7 @@ pub first-before : (b0 b1 holds : Kept → Type 0) (r0 r1 : OpenErr → Type 0) 
 first-before b0 b1 holds r0 r1 x g f =
     record { kept = f.kept; is = f.is; found = g.finds_no_more f.kept f.found; holding = f.holding; sound = f.sound; unspent = f.unspent }
 
-pub fails-to-find : (r0 r1 r2 : OpenErr → Type 0) (b0 b1 b2 : Kept → Type 0) (fills : Written → ℕ → Type 0) (e : OpenErr) (story now : List Event) → now ≡ story → FindsNoMore r0 b0 r1 b1 →
+pub fails-to-find : (r0 r1 r2 : OpenErr → Type 0) (b0 b1 b2 : Kept → Type 0) (fills : ToWrite → ℕ → Type 0) (e : OpenErr) (story now : List Event) → now ≡ story → FindsNoMore r0 b0 r1 b1 →
     FindsNoMore r1 b1 r2 b2 → r1 e ⊎ (e ≡ Halted Memory) → (story ≡ []) ⊎ IsLater e → ((dev : ℕ) → e ≡ Halted (DeviceFull dev) → fills OfOpening dev) → FailsToFind r0 b0 r2 b2 fills e now
 fails-to-find r0 r1 r2 b0 b1 b2 fills e story now same g h refused empty full =
     record { refused = by refused; empty = untold empty; full = full; less = no-more-behind r0 r1 r2 b0 b1 b2 g h }

@@ -13,7 +13,7 @@ use Rattle.salt_driver.proofs.Advancing.{inside-both, runs-both, tells-both, tol
 use Rattle.salt_driver.proofs.Openings.{opening-on}
 use Rattle.salt_driver.specs.Draining.{BreaksWithin, CountsOff, CountsSteps, MayTick, units_in, units_told}
 use Rattle.salt_driver.specs.Standing.{BreaksAt, IsOpenedOn, IsOpeningAt, IsSoundPoint, OpensOn}
-use Rattle.salt_storage.specs.Writing.{Written}
+use Rattle.salt_storage.specs.Writing.{ToWrite}
 use Rattle.salt_storage.specs.declared.halt.Halt.{Halt}
 use Rattle.std.proofs.Common.{ap, arith, get_or, inl, inr, sym, take, ◌∙◌}
 use Rattle.std.proofs.lemmas.List.{take_more}
@@ -126,7 +126,7 @@ module _ {E : Type 0} (sees : E → Option Event → State → Type 0) (p : Poin
 
   -- IT BREAKS OFF
 
-  pub drains-breaks : (lies left : Point → Type 0) (fills : Written → ℕ → Type 0) (flight : Option Flight) (halt : Halt) (now : List Event) →
+  pub drains-breaks : (lies left : Point → Type 0) (fills : ToWrite → ℕ → Type 0) (flight : Option Flight) (halt : Halt) (now : List Event) →
       BreaksAt lies left fills flight halt d.on.point event told now → BreaksWithin lies left fills flight halt p story now
   drains-breaks lies left fills flight halt now b = record {
     moves = d.on.moves;
@@ -143,7 +143,7 @@ module _ {E : Type 0} (sees : E → Option Event → State → Type 0) (p : Poin
   grows-on : (now : List Event) → now ≡ told ++ event ∷ [] → now ≡ story ++ told_by moves-on
   grows-on now tells = tells-both story told now d.on.moves (Say event ∷ []) d.on.tells tells
 
-  pub drains-short : (lies left : Point → Type 0) (fills : Written → ℕ → Type 0) (flight : Option Flight) (halt : Halt) (now : List Event) (new : ℕ) →
+  pub drains-short : (lies left : Point → Type 0) (fills : ToWrite → ℕ → Type 0) (flight : Option Flight) (halt : Halt) (now : List Event) (new : ℕ) →
       BreaksAt lies left fills flight halt d.on.point event told now → MayTick d.on.point event told now steps new → CountsOff first story now old new
   drains-short lies left fills flight halt now new (inl short) (inl same) =
       (statements_in event, one-at-most event, record { more = told_by d.on.moves; grows = short.0 ∙ d.on.tells; ticks = let ticks = d.ticks in omega arith })

@@ -22,7 +22,7 @@ use Rattle.salt_driver.specs.Opening.{IsFallenFrom, halt_of}
 use Rattle.salt_driver.specs.Reopening.{BreaksOpening, EndsWithin, FallsAnew, NotBegun, Reopens, WithinOpening}
 use Rattle.salt_driver.specs.Serving.{Grows, Halts, IsDown, IsFitting}
 use Rattle.salt_storage.specs.Answers.{numbers_of}
-use Rattle.salt_storage.specs.Writing.{Written}
+use Rattle.salt_storage.specs.Writing.{ToWrite}
 use Rattle.salt_storage.specs.declared.found.Numbers.{Numbers}
 use Rattle.salt_storage.specs.declared.halt.Halt.TheVariants as halt
 use Rattle.salt_storage.specs.declared.halt.Halt.{Halt}
@@ -83,7 +83,7 @@ not-memory e a b = cc
 no-memory : (h : Halt) → h ≡ halt.Stopped → h ≡ halt.Memory → ⊥
 no-memory h a b = cc
 
-module _ (lies : ℕ → Point → Type 0) (left : Option Numbers → ℕ → Point → Type 0) (again : ℕ → Point → Type 0) (fills : Written → ℕ → Type 0) (flies known : Option Flight) (e : OpenErr) (start : Start) (trace : Trace) (story told now : List Event)
+module _ (lies : ℕ → Point → Type 0) (left : Option Numbers → ℕ → Point → Type 0) (again : ℕ → Point → Type 0) (fills : ToWrite → ℕ → Type 0) (flies known : Option Flight) (e : OpenErr) (start : Start) (trace : Trace) (story told now : List Event)
     (stopped : e ≡ Halted halt.Stopped) (falls : (room : ℕ) (p q : Point) → lies room p → IsFallenFrom p q → again room q) (same : known ≡ flies)
     (grows : now ≡ told ++ Down Stopped ∷ []) where
   anew : (b : BreaksOpening lies left fills flies e start trace story told) → IsDown again known start now (b.after says Down Stopped) → FallsAnew again known start trace story now
@@ -138,7 +138,7 @@ module _ (lies : ℕ → Point → Type 0) (left : Option Numbers → ℕ → Po
       by (inr w) = within b w
 
 -- where it was stopped it can be opened
-pub lies-somewhere : (lies : ℕ → Point → Type 0) (left : Option Numbers → ℕ → Point → Type 0) (fills : Written → ℕ → Type 0) (flies : Option Flight) (e : OpenErr) (start : Start) (trace : Trace) (story told : List Event) →
+pub lies-somewhere : (lies : ℕ → Point → Type 0) (left : Option Numbers → ℕ → Point → Type 0) (fills : ToWrite → ℕ → Type 0) (flies : Option Flight) (e : OpenErr) (start : Start) (trace : Trace) (story told : List Event) →
     e ≡ Halted halt.Stopped → BreaksOpening lies left fills flies e start trace story told → (room : ℕ) × ((p : Point) × lies room p)
 lies-somewhere lies left fills flies e start trace story told stopped b = by b.stops
   where
@@ -147,7 +147,7 @@ lies-somewhere lies left fills flies e start trace story told stopped b = by b.s
     by (inr w) = (0, (b.point, w.halts.again (no-memory w.halt (halted-so e w.halt w.halted stopped))))
 
 -- for want of memory it does not even fall
-pub breaks-short : (lies : ℕ → Point → Type 0) (left : Option Numbers → ℕ → Point → Type 0) (fills : Written → ℕ → Type 0) (flies : Option Flight) (e : OpenErr) (start : Start) (trace : Trace) (story told now : List Event) →
+pub breaks-short : (lies : ℕ → Point → Type 0) (left : Option Numbers → ℕ → Point → Type 0) (fills : ToWrite → ℕ → Type 0) (flies : Option Flight) (e : OpenErr) (start : Start) (trace : Trace) (story told now : List Event) →
     e ≡ Halted halt.Stopped → now ≡ told → BreaksOpening lies left fills flies e start trace story told → BreaksOpening lies left fills flies (Halted halt.Memory) start trace story now
 breaks-short lies left fills flies e start trace story told now stopped is b = record {
   after = b.after;
@@ -196,7 +196,7 @@ pub no-short-fall : (why : Why) → halt_of why ≡ halt.Memory → ⊥
 no-short-fall Stopped h = cc
 no-short-fall Fault h = cc
 
-module _ (lies left : Point → Type 0) (fills : Written → ℕ → Type 0) (flies : Option Flight) (why : Why) (start : Start) (trace : Trace) (story : List Event)
+module _ (lies left : Point → Type 0) (fills : ToWrite → ℕ → Type 0) (flies : Option Flight) (why : Why) (start : Start) (trace : Trace) (story : List Event)
     (h : Halts lies left fills flies (halt_of why) start story trace) where
   pub falls-served : (again : ℕ → Point → Type 0) (known : Option Flight) (now : List Event) → ((p q : Point) → lies p → IsFallenFrom p q → again 0 q) → known ≡ flies →
       now ≡ story ++ Down why ∷ [] → FallsAnew again known start trace story now
@@ -218,7 +218,7 @@ module _ (lies left : Point → Type 0) (fills : Written → ℕ → Type 0) (fl
           (falls h.point q (h.halts.again (no-short-fall why)) (fell-from why h.point l)) (same ∙ f)
 
 -- for want of memory it does not fall
-pub halted-short : (lies : ℕ → Point → Type 0) (left : Option Numbers → ℕ → Point → Type 0) (fills filled : Written → ℕ → Type 0) (flies : Option Flight) (why : Why) (start : Start) (trace : Trace) (story now : List Event) → now ≡ story →
+pub halted-short : (lies : ℕ → Point → Type 0) (left : Option Numbers → ℕ → Point → Type 0) (fills filled : ToWrite → ℕ → Type 0) (flies : Option Flight) (why : Why) (start : Start) (trace : Trace) (story now : List Event) → now ≡ story →
     Halts (lies 0) (left None 0) fills flies (halt_of why) start story trace → BreaksOpening lies left filled flies (Halted halt.Memory) start trace story now
 halted-short lies left fills filled flies why start trace story now same h = record {
   after = trace;
@@ -257,7 +257,7 @@ module _ (lies again : ℕ → Point → Type 0) (flies known : Option Flight) (
   pub falls-behind : FallsAnew again known start f.after told now → FallsAnew again known start trace story now
   falls-behind g = record { after = g.after; lines = g.lines ∙ f.lines; down = g.down; grows = grows-both story told now f.grows g.grows }
 
-  pub breaks-behind : (left : Option Numbers → ℕ → Point → Type 0) (fills : Written → ℕ → Type 0) (e : OpenErr) → BreaksOpening again left fills known e start f.after told now → BreaksOpening again left fills known e start trace story now
+  pub breaks-behind : (left : Option Numbers → ℕ → Point → Type 0) (fills : ToWrite → ℕ → Type 0) (e : OpenErr) → BreaksOpening again left fills known e start f.after told now → BreaksOpening again left fills known e start trace story now
   breaks-behind left fills e b = record {
     after = b.after;
     lines = b.lines ∙ f.lines;

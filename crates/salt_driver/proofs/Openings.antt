@@ -27,7 +27,7 @@ use Rattle.salt_driver.specs.Reopening.{BreaksOpening, EndsWithin, Reopens}
 use Rattle.salt_driver.specs.Serving.{IsDown, IsFitting}
 use Rattle.salt_driver.specs.Standing.{BreaksAt, HaltsAt, IsInside, IsSoundPoint, OpensOn}
 use Rattle.salt_storage.specs.Answers.{IsLater, numbers_of}
-use Rattle.salt_storage.specs.Writing.{OfBoot, Written}
+use Rattle.salt_storage.specs.Writing.{OfBoot, ToWrite}
 use Rattle.salt_storage.specs.declared.found.Numbers.{Numbers}
 use Rattle.salt_storage.specs.declared.halt.Halt.TheVariants.{DeviceFull, Memory}
 use Rattle.salt_storage.specs.declared.halt.Halt.{Halt}
@@ -163,7 +163,7 @@ module _ (lies : ℕ → Point → Type 0) (flies : Option Flight) (start : Star
 
   -- it breaks off: before it was begun
 
-  pub opening-fails : (now : ℕ → Point → Type 0) (left : Option Numbers → ℕ → Point → Type 0) (fills : Written → ℕ → Type 0) (flight : Option Flight) (halt : Halt) (told : List Event) → told ≡ story → flight ≡ flies →
+  pub opening-fails : (now : ℕ → Point → Type 0) (left : Option Numbers → ℕ → Point → Type 0) (fills : ToWrite → ℕ → Type 0) (flight : Option Flight) (halt : Halt) (told : List Event) → told ≡ story → flight ≡ flies →
       ((dev : ℕ) → halt ≡ DeviceFull dev → fills OfBoot dev) → ((halt ≡ Memory → ⊥) → now (d.room + 1) d.point) → left None (d.room + 1) d.point →
       BreaksOpening now left fills flight (Halted halt) start trace story told
   opening-fails now left fills flight halt told same keeps full again stays = record {
@@ -189,7 +189,7 @@ module _ (lies : ℕ → Point → Type 0) (flies : Option Flight) (start : Star
 
   -- or at an event
 
-  breaks-here : (now : ℕ → Point → Type 0) (left : Option Numbers → ℕ → Point → Type 0) (fills : Written → ℕ → Type 0) (flight : Option Flight) (halt : Halt) (h : HasOpened d.room d.point) (ms : List Move) (q : Point) (told : List Event) →
+  breaks-here : (now : ℕ → Point → Type 0) (left : Option Numbers → ℕ → Point → Type 0) (fills : ToWrite → ℕ → Type 0) (flight : Option Flight) (halt : Halt) (h : HasOpened d.room d.point) (ms : List Move) (q : Point) (told : List Event) →
       Runs h.point ms q → Every IsInside ms → told ≡ (story ++ Opened h.boot h.number ∷ []) ++ told_by ms → HaltsAt (now 0) (left None 0) fills flight halt q →
       (halt ≡ Memory) ⊎ EndsWithin (behind h ms) → BreaksOpening now left fills flight (Halted halt) start trace story told
   breaks-here now left fills flight halt h ms q told runs inside tells halts place =
@@ -213,7 +213,7 @@ module _ (lies : ℕ → Point → Type 0) (flies : Option Flight) (start : Star
       go t [] = refl
       go t (m ∷ ms) = go (moved t m) ms
 
-  pub opening-breaks : (now : ℕ → Point → Type 0) (left : Option Numbers → ℕ → Point → Type 0) (fills : Written → ℕ → Type 0) (flight : Option Flight) (halt : Halt) (h : HasOpened d.room d.point) (opened told : List Event) →
+  pub opening-breaks : (now : ℕ → Point → Type 0) (left : Option Numbers → ℕ → Point → Type 0) (fills : ToWrite → ℕ → Type 0) (flight : Option Flight) (halt : Halt) (h : HasOpened d.room d.point) (opened told : List Event) →
       opened ≡ story ++ Opened h.boot h.number ∷ [] → BreaksWithin (now 0) (left None 0) fills flight halt h.point opened told → BreaksOpening now left fills flight (Halted halt) start trace story told
   opening-breaks now left fills flight halt h opened told same b = by b.breaks
     where
@@ -274,7 +274,7 @@ fails-later room p (OtherShape kept asked) h = h
 fails-later room p (NumbersSpent boot decisions) h = h.spent
 fails-later room p (Halted halt) h = tt
 
-pub finding-fails : (lies now : ℕ → Point → Type 0) (left : Option Numbers → ℕ → Point → Type 0) (fills : Written → ℕ → Type 0) (flies known : Option Flight) (e : OpenErr) (start : Start) (story : List Event) (trace : Trace) →
+pub finding-fails : (lies now : ℕ → Point → Type 0) (left : Option Numbers → ℕ → Point → Type 0) (fills : ToWrite → ℕ → Type 0) (flies known : Option Flight) (e : OpenErr) (start : Start) (story : List Event) (trace : Trace) →
     (d : IsDown lies flies start story trace) →
     ((e ≡ Halted Memory → ⊥) → (room : ℕ) (p : Point) → IsSoundPoint p → p.state.units.phase ≡ Fallen → lies room p → now room p) →
     ((room : ℕ) (p : Point) → IsSoundPoint p → p.state.units.phase ≡ Fallen → lies room p → left (numbers_of e) room p) → known ≡ flies →

@@ -21,7 +21,7 @@ use Rattle.salt_model.specs.declared.events.Event.TheVariants.{Began, Defined, D
 use Rattle.salt_model.specs.declared.events.Event.{Event}
 use Rattle.salt_model.specs.declared.events.Flight.{Flight}
 use Rattle.salt_model.specs.declared.events.Refusal.{Refusal}
-use Rattle.salt_storage.specs.Writing.{Written}
+use Rattle.salt_storage.specs.Writing.{ToWrite}
 use Rattle.salt_storage.specs.declared.halt.Halt.{Halt}
 use Rattle.salt_values.specs.declared.id.Id.{Id}
 use Rattle.std.proofs.Common.{ap, append-nil, inl, inr, sym, ◌∙◌}
@@ -104,7 +104,7 @@ pub record Gains (p : Point) (story told : List Event) : Type 0 where
   pub inside : Every IsInside moves
   pub tells : told ≡ story ++ told_by moves
 
-pub gains : {E A : Type 0} (sees : E → Option Event → State → Type 0) (line : Line) (lies left : Point → Type 0) (fills : Written → ℕ → Type 0) (flight : Option Flight) (p : Point)
+pub gains : {E A : Type 0} (sees : E → Option Event → State → Type 0) (line : Line) (lies left : Point → Type 0) (fills : ToWrite → ℕ → Type 0) (flight : Option Flight) (p : Point)
     (story told : List Event) (e : E) (result : Result A Halt) → OnOk result (Finishes sees line p story e told) → IfErr result (λ halt. StopsWithin lies left fills flight halt p story told) →
     Gains p story told
 gains sees line lies left fills flight p story told e (Ok done) finishes stops = record {

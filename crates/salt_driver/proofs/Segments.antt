@@ -17,7 +17,7 @@ use Rattle.salt_stands.specs.Unspent.{OpensUnspent}
 use Rattle.salt_driver.proofs.Advancing.{every-last, lines-on, stop-at}
 use Rattle.salt_driver.specs.Serving.{Breaks, Goes, IsFitting, Serves}
 use Rattle.salt_driver.specs.Standing.{Finishes, HaltsAt, IsInside, IsSoundPoint, RunsShort, StopsWithin}
-use Rattle.salt_storage.specs.Writing.{Written}
+use Rattle.salt_storage.specs.Writing.{ToWrite}
 use Rattle.salt_storage.specs.declared.halt.Halt.{Halt}
 use Rattle.law_types.specs.Played.{HasKey}
 use Rattle.law_types.specs.Typed.{IsTyped}
@@ -108,7 +108,7 @@ module _ {E : Type 0} (old_sees new_sees : E → Option Event → State → Type
       }
 
   -- broken off after some events
-  pub breaks-by : (lies left : Point → Type 0) (fills : Written → ℕ → Type 0) (flight : Option Flight) (halt : Halt) (trace : Trace) (asked : Asked) (old : E) (story told : List Event) →
+  pub breaks-by : (lies left : Point → Type 0) (fills : ToWrite → ℕ → Type 0) (flight : Option Flight) (halt : Halt) (trace : Trace) (asked : Asked) (old : E) (story told : List Event) →
       (s : Serves old_sees start old story trace) → (q : Point) → HasKey asked → Moves (Ask asked) s.point q → StopsWithin lies left fills flight halt q story told →
       Breaks lies left fills flight halt start trace asked story told
   breaks-by lies left fills flight halt trace asked old story told s q key m a =
@@ -130,7 +130,7 @@ module _ {E : Type 0} (old_sees new_sees : E → Option Event → State → Type
       }
 
   -- before the line, or at its first event
-  pub breaks-untold : (lies left : Point → Type 0) (fills : Written → ℕ → Type 0) (flight : Option Flight) (halt : Halt) (trace : Trace) (asked : Asked) (old : E) (story : List Event) →
+  pub breaks-untold : (lies left : Point → Type 0) (fills : ToWrite → ℕ → Type 0) (flight : Option Flight) (halt : Halt) (trace : Trace) (asked : Asked) (old : E) (story : List Event) →
       (s : Serves old_sees start old story trace) → HasKey asked →
       RunsShort lies left fills flight halt s.point ⊎ ((q : Point) × Moves (Ask asked) s.point q × HaltsAt lies left fills flight halt q) → Breaks lies left fills flight halt start trace asked story story
   breaks-untold lies left fills flight halt trace asked old story s key (inl short) = record {

@@ -7,7 +7,7 @@ use Rattle.salt_model.specs.declared.events.Event.{Event}
 use Rattle.salt_model.specs.declared.events.Flight.{Flight}
 use Rattle.law_openings.specs.Draining.{statements_at, statements_in, statements_told}
 use Rattle.salt_driver.specs.Standing.{BreaksAt, IsInside}
-use Rattle.salt_storage.specs.Writing.{Written}
+use Rattle.salt_storage.specs.Writing.{ToWrite}
 use Rattle.salt_storage.specs.declared.halt.Halt.{Halt}
 use Rattle.std.specs.Prelude.{List, Option, [], ℕ, ◌++◌, ◌+◌, ◌∷◌, ◌≡◌, ◌≤◌, ◌⊎◌}
 
@@ -36,7 +36,7 @@ abbrev pub CountsOff : Event → (story told : List Event) → (old new : ℕ) �
 CountsOff first story told old new = (untold : ℕ) × (untold ≤ 1) × CountsSteps first story told old new untold
 
 -- an opening breaks off in telling an event, to which it has come from a point by moves of it
-pub record BreaksWithin (lies left : Point → Type 0) (fills : Written → ℕ → Type 0) (flight : Option Flight) (halt : Halt) (p : Point) (story told : List Event) : Type 0 where
+pub record BreaksWithin (lies left : Point → Type 0) (fills : ToWrite → ℕ → Type 0) (flight : Option Flight) (halt : Halt) (p : Point) (story told : List Event) : Type 0 where
   pub moves : List Move
   pub point : Point
   pub event : Event

@@ -14,7 +14,7 @@ use Rattle.salt_stands.specs.Stands.{are_spent}
 use Rattle.salt_driver.specs.Standing.{IsOpeningAt}
 use Rattle.salt_storage.specs.Answers.{IsLater}
 use Rattle.salt_storage.specs.Storing.{IsFound, IsSoundKept}
-use Rattle.salt_storage.specs.Writing.{FindsNoMore, OfOpening, Written}
+use Rattle.salt_storage.specs.Writing.{FindsNoMore, OfOpening, ToWrite}
 use Rattle.salt_storage.specs.declared.found.Found.{Found}
 use Rattle.salt_storage.specs.declared.halt.Halt.TheVariants.{DeviceFull, DiskFault, Memory, Stopped}
 use Rattle.salt_storage.specs.declared.halt.Halt.{Halt}
@@ -110,7 +110,7 @@ pub record FallsUnfound (old_refuses : OpenErr → Type 0) (old_finds : Kept →
 -- Nothing was found: it was refused, or memory ran out as the fall was told; behind a stop only spent numbers or a halt refuse it.
 -- Where a device was full, a first opening was to be written there. What is refused or found now would have been before.
 pub record FailsToFind (old_refuses : OpenErr → Type 0) (old_finds : Kept → Type 0) (refuses : OpenErr → Type 0) (finds : Kept → Type 0)
-    (fills : Written → ℕ → Type 0) (e : OpenErr) (story : List Event) : Type 0 where
+    (fills : ToWrite → ℕ → Type 0) (e : OpenErr) (story : List Event) : Type 0 where
   pub refused : old_refuses e ⊎ (e ≡ Halted Memory)
   pub empty : (story ≡ []) ⊎ IsLater e
   pub full : (dev : ℕ) → e ≡ Halted (DeviceFull dev) → fills OfOpening dev

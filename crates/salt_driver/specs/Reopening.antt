@@ -12,7 +12,7 @@ use Rattle.salt_driver.specs.Opening.{MayFailAt}
 use Rattle.salt_driver.specs.Serving.{Grows, IsDown, IsFitting, Serves}
 use Rattle.salt_driver.specs.Standing.{HaltsAt}
 use Rattle.salt_storage.specs.Answers.{IsLater, numbers_of}
-use Rattle.salt_storage.specs.Writing.{OfBoot, Written}
+use Rattle.salt_storage.specs.Writing.{OfBoot, ToWrite}
 use Rattle.salt_storage.specs.declared.halt.Halt.TheVariants.{DeviceFull, Memory}
 use Rattle.salt_storage.specs.declared.halt.Halt.{Halt}
 use Rattle.salt_storage.specs.declared.open.OpenErr.TheVariants.{Halted}
@@ -30,7 +30,7 @@ pub record Reopens {E : Type 0} (sees : E → Option Event → State → Type 0)
 
 -- An opening was not begun: what is left of the devices stands here, where they may have one boot more; and unless memory ran out the
 -- engine can be opened. It failed by spent numbers, or halted. Where a device was full, the next boot was to be written there.
-pub record NotBegun (lies : ℕ → Point → Type 0) (left : Option Numbers → ℕ → Point → Type 0) (fills : Written → ℕ → Type 0) (flight : Option Flight) (e : OpenErr) (trace : Trace) (p : Point) : Type 0 where
+pub record NotBegun (lies : ℕ → Point → Type 0) (left : Option Numbers → ℕ → Point → Type 0) (fills : ToWrite → ℕ → Type 0) (flight : Option Flight) (e : OpenErr) (trace : Trace) (p : Point) : Type 0 where
   pub fallen : phase trace ≡ Fallen
   pub room : ℕ
   pub boots : room ≤ downs trace + (if has_opened trace then 0 else 1)
@@ -49,14 +49,14 @@ pub record EndsWithin (trace : Trace) : Type 0 where
   pub plain : is_of_run event ≡ false
 
 -- or it was broken off within it
-pub record WithinOpening (lies : ℕ → Point → Type 0) (left : Option Numbers → ℕ → Point → Type 0) (fills : Written → ℕ → Type 0) (flight : Option Flight) (e : OpenErr) (trace : Trace) (p : Point) : Type 0 where
+pub record WithinOpening (lies : ℕ → Point → Type 0) (left : Option Numbers → ℕ → Point → Type 0) (fills : ToWrite → ℕ → Type 0) (flight : Option Flight) (e : OpenErr) (trace : Trace) (p : Point) : Type 0 where
   pub halt : Halt
   pub halted : e ≡ Halted halt
   pub halts : HaltsAt (lies 0) (left None 0) fills flight halt p
   pub place : (halt ≡ Memory) ⊎ EndsWithin trace
 
 -- an opening ends early: the trace has gone on by a front of it
-pub record BreaksOpening (lies : ℕ → Point → Type 0) (left : Option Numbers → ℕ → Point → Type 0) (fills : Written → ℕ → Type 0) (flight : Option Flight) (e : OpenErr) (start : Start)
+pub record BreaksOpening (lies : ℕ → Point → Type 0) (left : Option Numbers → ℕ → Point → Type 0) (fills : ToWrite → ℕ → Type 0) (flight : Option Flight) (e : OpenErr) (start : Start)
     (trace : Trace) (story told : List Event) : Type 0 where
   pub after : Trace
   pub lines : lines_of after ≡ lines_of trace

@@ -13,7 +13,7 @@ use Rattle.salt_model.specs.declared.events.Event.{Event}
 use Rattle.salt_model.specs.declared.events.Flight.{Flight}
 use Rattle.salt_stands.specs.Unspent.{OpensUnspent}
 use Rattle.salt_driver.specs.Standing.{HaltsAt, IsIdleAt}
-use Rattle.salt_storage.specs.Writing.{Written}
+use Rattle.salt_storage.specs.Writing.{ToWrite}
 use Rattle.salt_storage.specs.declared.halt.Halt.TheVariants.{Memory}
 use Rattle.salt_storage.specs.declared.halt.Halt.{Halt}
 use Rattle.law_types.specs.Played.{HasKey}
@@ -52,7 +52,7 @@ pub record Goes {E : Type 0} (sees : E → Option Event → State → Type 0) (s
 
 -- it breaks off in a line: the story is that of a played trace, at whose end what is left of the devices stands, and from which the run
 -- can be opened anew, unless memory ran out
-pub record Halts (lies left : Point → Type 0) (fills : Written → ℕ → Type 0) (flight : Option Flight) (halt : Halt) (start : Start) (told : List Event) (trace : Trace) : Type 0 where
+pub record Halts (lies left : Point → Type 0) (fills : ToWrite → ℕ → Type 0) (flight : Option Flight) (halt : Halt) (start : Start) (told : List Event) (trace : Trace) : Type 0 where
   pub tells : Tells start trace told
   pub fits : IsFitting start trace
   pub point : Point
@@ -61,7 +61,7 @@ pub record Halts (lies left : Point → Type 0) (fills : Written → ℕ → Typ
   pub halts : HaltsAt lies left fills flight halt point
 
 -- by a line and a front of its segment; or before it, for want of memory
-pub record Breaks (lies left : Point → Type 0) (fills : Written → ℕ → Type 0) (flight : Option Flight) (halt : Halt) (start : Start) (trace : Trace)
+pub record Breaks (lies left : Point → Type 0) (fills : ToWrite → ℕ → Type 0) (flight : Option Flight) (halt : Halt) (start : Start) (trace : Trace)
     (asked : Asked) (story told : List Event) : Type 0 where
   pub after : Trace
   pub asks : (lines_of after ≡ lines_of trace ++ asked ∷ []) ⊎ ((halt ≡ Memory) × (after ≡ trace))
@@ -75,7 +75,7 @@ GoesOn old_sees new_sees old story asked new told =
     (start : Start) (trace : Trace) → Serves old_sees start old story trace → Goes new_sees start trace asked story new told
 
 -- or breaks off in it
-abbrev pub BreaksOff : {E : Type 0} → (E → Option Event → State → Type 0) → (lies left : Point → Type 0) → (Written → ℕ → Type 0) → Option Flight → Halt → E → List Event → Asked → List Event → Type 0
+abbrev pub BreaksOff : {E : Type 0} → (E → Option Event → State → Type 0) → (lies left : Point → Type 0) → (ToWrite → ℕ → Type 0) → Option Flight → Halt → E → List Event → Asked → List Event → Type 0
 BreaksOff sees lies left fills flight halt old story asked told =
     (start : Start) (trace : Trace) → Serves sees start old story trace → Breaks lies left fills flight halt start trace asked story told
 

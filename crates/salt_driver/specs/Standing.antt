@@ -12,7 +12,7 @@ use Rattle.salt_model.specs.Words.{Every}
 use Rattle.salt_model.specs.declared.events.Event.{Event}
 use Rattle.salt_model.specs.declared.events.Flight.{Flight}
 use Rattle.salt_driver.specs.Writing.{IsWrittenAt}
-use Rattle.salt_storage.specs.Writing.{Written}
+use Rattle.salt_storage.specs.Writing.{ToWrite}
 use Rattle.salt_storage.specs.declared.halt.Halt.TheVariants.{DeviceFull, Memory}
 use Rattle.salt_storage.specs.declared.halt.Halt.{Halt}
 use Rattle.law_types.specs.Played.{HasKey}
@@ -55,21 +55,21 @@ IsOpenedOn sees e (Some event) p = IsOpeningAt sees e (Some event) p
 -- Broken off at a point: unless for want of memory, what comes next there is at the devices, and what is in flight is known. A device
 -- is told to be full by what was to be written there. What is left of the devices stands there, and unless memory ran out the run can
 -- be opened behind it.
-pub record HaltsAt (lies left : Point → Type 0) (fills : Written → ℕ → Type 0) (flight : Option Flight) (halt : Halt) (p : Point) : Type 0 where
+pub record HaltsAt (lies left : Point → Type 0) (fills : ToWrite → ℕ → Type 0) (flight : Option Flight) (halt : Halt) (p : Point) : Type 0 where
   pub reason : (halt ≡ Memory) ⊎ ((e : Event) × (p.next ≡ Some e) × (at_devices_in p.state.units e ≡ true))
   pub flies : ((halt ≡ Memory) × (flight ≡ None)) ⊎ (flight ≡ flight_told p.flight)
-  pub full : (dev : ℕ) → halt ≡ DeviceFull dev → (w : Written) × IsWrittenAt p w × fills w dev
+  pub full : (dev : ℕ) → halt ≡ DeviceFull dev → (w : ToWrite) × IsWrittenAt p w × fills w dev
   pub again : (halt ≡ Memory → ⊥) → lies p
   pub stays : left p
 
 -- in telling an event: before it was told, for want of memory, or behind it
-abbrev pub BreaksAt : (lies left : Point → Type 0) → (Written → ℕ → Type 0) → Option Flight → Halt → Point → Event → (story told : List Event) → Type 0
+abbrev pub BreaksAt : (lies left : Point → Type 0) → (ToWrite → ℕ → Type 0) → Option Flight → Halt → Point → Event → (story told : List Event) → Type 0
 BreaksAt lies left fills flight halt p e story told =
     ((told ≡ story) × HaltsAt lies left fills flight halt p × (halt ≡ Memory)) ⊎
     ((told ≡ story ++ e ∷ []) × ((q : Point) × Moves (Say e) p q × HaltsAt lies left fills flight halt q))
 
 -- for want of memory a move was not made
-abbrev pub RunsShort : (lies left : Point → Type 0) → (Written → ℕ → Type 0) → Option Flight → Halt → Point → Type 0
+abbrev pub RunsShort : (lies left : Point → Type 0) → (ToWrite → ℕ → Type 0) → Option Flight → Halt → Point → Type 0
 RunsShort lies left fills flight halt p = (halt ≡ Memory) × HaltsAt lies left fills flight halt p
 
 -- what is still to come, by these units and that event, as a number
@@ -99,7 +99,7 @@ pub record Finishes {E : Type 0} (sees : E → Option Event → State → Type 0
   pub idle : IsIdle advances.point
 
 -- or it broke off: the story has gained the events of such moves, and the engine is to be opened anew
-pub record StopsWithin (lies left : Point → Type 0) (fills : Written → ℕ → Type 0) (flight : Option Flight) (halt : Halt) (p : Point) (story told : List Event) : Type 0 where
+pub record StopsWithin (lies left : Point → Type 0) (fills : ToWrite → ℕ → Type 0) (flight : Option Flight) (halt : Halt) (p : Point) (story told : List Event) : Type 0 where
   pub moves : List Move
   pub point : Point
   pub runs : Runs p moves point

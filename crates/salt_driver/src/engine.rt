@@ -15,7 +15,7 @@ ghost use Rattle.salt_driver.specs.Counting.{CountsStops, armed_by};
 ghost use Rattle.salt_driver.specs.Standing.{BreaksAt, HaltsAt, IsAt, IsIdleAt, IsSoundPoint, RunsShort, left_to_come};
 ghost use Rattle.salt_storage.specs.Answers.{disk_err};
 ghost use Rattle.salt_storage.specs.Staying.{StaysWithin};
-ghost use Rattle.salt_storage.specs.Writing.{Written};
+ghost use Rattle.salt_storage.specs.Writing.{ToWrite};
 ghost use Rattle.salt_storage.specs.declared.found.Numbers.{Numbers};
 ghost use Rattle.salt_place.specs.Placement.{GivesPlaceOf, TakesEachKey};
 ghost use Rattle.salt_values.specs.declared.id.Id.{Id};
@@ -51,7 +51,7 @@ pub trait Stepping {
     ghost asked: { Self → Shape };
 
     /// What is written next would pass the limit of this device.
-    ghost fills: { View → Self → Written → ℕ → Type 0 };
+    ghost fills: { View → Self → ToWrite → ℕ → Type 0 };
 
     /// Its waiting units, behind the event at hand.
     ghost waiting: { Self → List Id };

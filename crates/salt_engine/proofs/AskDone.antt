@@ -6,7 +6,7 @@ use Rattle.salt_engine.proofs.LineGoes.{asked-moves, asked-played, asked-serves,
 use Rattle.salt_engine.proofs.Stages.{goes-now, seen-at, serves-now}
 use Rattle.salt_engine.specs.Flights.{flight_of}
 use Rattle.salt_engine.specs.Performing.{BreaksOff, IsServed, IsToAsk, Performs, Turns}
-use Rattle.salt_engine.specs.Standing.{Left, Lies, Sees, SeesIn, goes_in, serving_books}
+use Rattle.salt_engine.specs.Standing.{LeavesOnDevices, CanReopenAt, AgreesWithState, StandsAtEventIn, goes_in, serving_books}
 use Rattle.salt_engine.specs.declared.flights.InFlight.{InFlight}
 use Rattle.salt_engine.specs.declared.stage.Stage.TheVariants as at
 use Rattle.salt_engine.specs.declared.stage.Stage.{Stage}
@@ -30,7 +30,7 @@ use Rattle.law_decisions.specs.Spelled.{IsSpelledLine}
 use Rattle.salt_driver.proofs.Advancing.{sound-moved}
 use Rattle.salt_driver.specs.Standing.{HaltsAt, IsAt, IsSoundPoint}
 use Rattle.salt_storage.specs.Storing.{IsSoundKept}
-use Rattle.salt_storage.specs.Writing.{Written}
+use Rattle.salt_storage.specs.Writing.{ToWrite}
 use Rattle.salt_storage.specs.declared.halt.Halt.{Halt}
 use Rattle.law_types.specs.Played.{HasKey}
 use Rattle.salt_values.specs.Id.{is_same_id}
@@ -58,7 +58,7 @@ spelled-of line h = h
 -- A LINE
 
 pub to-ask : (holds : Kept → Type 0) (is_new : Id → Type 0) (stoppable : Bool) (stage : Stage Scheduler) (single : Bool) (in_flight : Option InFlight) (line : Line) (x : Scheduler) (p : Point) →
-    IsSoundPoint p → IsIdle p → IsServed line → ((line : Line) → IsSpelledLine line → HasKey (Tree line)) → Sees (SeesIn holds is_new stage) stoppable single in_flight None p.state →
+    IsSoundPoint p → IsIdle p → IsServed line → ((line : Line) → IsSpelledLine line → HasKey (Tree line)) → AgreesWithState (StandsAtEventIn holds is_new stage) stoppable single in_flight None p.state →
     stage ≡ at.Going x → IsToAsk holds is_new stoppable line x p.state
 to-ask holds is_new stoppable stage single in_flight line x p sound idle served keys sees there =
     let h = seen-at holds is_new stage (at.Going x) None p.state there sees.seen in
@@ -80,11 +80,11 @@ asked-there sees e asked p sound idle r given state told = (
   record { state = state; comes = sym told; serves = idle.serves; line = refl },
 )
 
-module _ (holds : Kept → Type 0) (leaves : Kept → Kept → Type 0) (fills : Written → ℕ → Type 0) (halt : Halt) (old stoppable : Bool) (stage : Stage Scheduler) (single : Bool)
+module _ (holds : Kept → Type 0) (leaves : Kept → Kept → Type 0) (fills : ToWrite → ℕ → Type 0) (halt : Halt) (old stoppable : Bool) (stage : Stage Scheduler) (single : Bool)
     (in_flight : Option InFlight) (p : Point) (sound : IsSoundPoint p) (can : p.state.can_stop ≡ old) (same : stoppable ≡ old) (kept : IsSoundKept p.state.units.kept) where
   pub asked-halts : (asked : Asked) (idle : IsIdle p) (r : Reading p.state.watch) → BreaksOff leaves fills halt stage in_flight (asked_next p.state r asked) (asked_of asked p.state).units →
       single ≡ is_statement_line (line_asked asked) →
-      (q : Point) × Moves (Ask asked) p q × HaltsAt (λ p. Lies holds leaves stoppable None (serving_books stage) single in_flight 0 p) (λ p. Left holds leaves (IsSome in_flight) None 0 p × ⊤) fills (flight_of in_flight) halt q
+      (q : Point) × Moves (Ask asked) p q × HaltsAt (λ p. CanReopenAt holds leaves stoppable None (serving_books stage) single in_flight 0 p) (λ p. LeavesOnDevices holds leaves (IsSome in_flight) None 0 p × ⊤) fills (flight_of in_flight) halt q
   asked-halts asked idle r b line = (
     asked_to asked p sound idle r,
     asked-moves asked p sound idle r,
@@ -93,7 +93,7 @@ module _ (holds : Kept → Type 0) (leaves : Kept → Kept → Type 0) (fills : 
 
   pub turned-halts : (b : Id) (serves : p.state.units.phase ≡ Serving) (none : p.next ≡ None) (turn : next_turn_of p.state ≡ Some b) (r : Reading p.state.watch) →
       BreaksOff leaves fills halt stage in_flight (turned_next p.state r b) (turned_to b p.state).units → single ≡ is_statement_line p.state.units.line →
-      (q : Point) × Moves (Turn b) p q × HaltsAt (λ p. Lies holds leaves stoppable None (serving_books stage) single in_flight 0 p) (λ p. Left holds leaves (IsSome in_flight) None 0 p × ⊤) fills (flight_of in_flight) halt q
+      (q : Point) × Moves (Turn b) p q × HaltsAt (λ p. CanReopenAt holds leaves stoppable None (serving_books stage) single in_flight 0 p) (λ p. LeavesOnDevices holds leaves (IsSome in_flight) None 0 p × ⊤) fills (flight_of in_flight) halt q
   turned-halts b serves none turn r broken line = (
     turned_at b p sound serves none turn r,
     turned-moves b p sound serves none turn r,
@@ -103,7 +103,7 @@ module _ (holds : Kept → Type 0) (leaves : Kept → Kept → Type 0) (fills : 
 -- A TURN
 
 pub to-turn : (holds : Kept → Type 0) (is_new : Id → Type 0) (stage : Stage Scheduler) (line : Line) (b : Id) (x : Scheduler) (p : Point) → IsSoundPoint p → p.state.units.phase ≡ Serving →
-    p.state.units.line ≡ line → p.next ≡ None → next_turn_of p.state ≡ Some b → SeesIn holds is_new stage None p.state → stage ≡ at.Going x → Turns holds is_new line b x p.state
+    p.state.units.line ≡ line → p.next ≡ None → next_turn_of p.state ≡ Some b → StandsAtEventIn holds is_new stage None p.state → stage ≡ at.Going x → Turns holds is_new line b x p.state
 to-turn holds is_new stage line b x p sound serves served none turn seen there =
     let h = seen-at holds is_new stage (at.Going x) None p.state there seen in
     record {
@@ -122,8 +122,8 @@ turned-there sees e line b p sound serves none turn r given served state told = 
 )
 
 pub turned-sees : (holds : Kept → Type 0) (is_new : Id → Type 0) (old now was single : Bool) (stage : Stage Scheduler) (in_flight : Option InFlight) (meant given : Option Event) (b : Id) (s : State) →
-    Performs (SeesIn holds is_new stage) in_flight meant given (turned_to b s) → s.can_stop ≡ old → now ≡ old → was ≡ is_statement_line s.units.line → single ≡ was →
-    Sees (SeesIn holds is_new stage) now single in_flight given (turned_to b s)
+    Performs (StandsAtEventIn holds is_new stage) in_flight meant given (turned_to b s) → s.can_stop ≡ old → now ≡ old → was ≡ is_statement_line s.units.line → single ≡ was →
+    AgreesWithState (StandsAtEventIn holds is_new stage) now single in_flight given (turned_to b s)
 turned-sees holds is_new old now was single stage in_flight meant given b s h can same line kept =
     record { seen = h.sees; can_stop = can ∙ sym same; line = kept ∙ line; flies = h.flies }
 
@@ -142,8 +142,8 @@ turn-less : (b : Id) (s : State) → next_turn_of s ≡ Some b → length (turne
 turn-less b s turn = shorter b s.units.to_go (find-in (can_go_in s.units) b s.units.to_go turn).0
 
 pub turned-fewer : (holds now : Kept → Type 0) (is_new new_now : Id → Type 0) (stage later : Stage Scheduler) (b : Id) (given : Option Event) (p : Point) (sound : IsSoundPoint p)
-    (serves : p.state.units.phase ≡ Serving) (none : p.next ≡ None) (turn : next_turn_of p.state ≡ Some b) (r : Reading p.state.watch) → SeesIn holds is_new stage None p.state →
-    SeesIn now new_now later given (turned_to b p.state) → given ≡ turned_next p.state r b → length (goes_in later) < length (goes_in stage)
+    (serves : p.state.units.phase ≡ Serving) (none : p.next ≡ None) (turn : next_turn_of p.state ≡ Some b) (r : Reading p.state.watch) → StandsAtEventIn holds is_new stage None p.state →
+    StandsAtEventIn now new_now later given (turned_to b p.state) → given ≡ turned_next p.state r b → length (goes_in later) < length (goes_in stage)
 turned-fewer holds now is_new new_now stage later b given p sound serves none turn r seen sees told =
     let q = turned_at b p sound serves none turn r in
     let moved : IsSoundPoint q = sound-moved (Turn b) p q tt sound (turned-moves b p sound serves none turn r) in

@@ -14,7 +14,7 @@ use Rattle.law_states.specs.Told.{at_devices_in}
 use Rattle.salt_model.specs.Kept.{Kept}
 use Rattle.salt_model.specs.Next.{decision_in}
 use Rattle.salt_model.specs.declared.events.Event.{Event}
-use Rattle.salt_storage.specs.Writing.{Written}
+use Rattle.salt_storage.specs.Writing.{ToWrite}
 use Rattle.salt_storage.specs.declared.halt.Halt.TheVariants.{Memory}
 use Rattle.salt_storage.specs.declared.halt.Halt.{Halt}
 use Rattle.std.proofs.Common.{ap, inl, inr, subst, sym, ◌∙◌}
@@ -36,7 +36,7 @@ noted-left leaves i d s h l = record {
   is_other = noted i d s l.other h l.is_other;
 }
 
-module _ {H : Type 0} (leaves : Kept → Kept → Type 0) (fills : Written → ℕ → Type 0) (stage : Stage H) (in_flight : Option InFlight) (meant : Option Event) (s : UnitState) where
+module _ {H : Type 0} (leaves : Kept → Kept → Type 0) (fills : ToWrite → ℕ → Type 0) (stage : Stage H) (in_flight : Option InFlight) (meant : Option Event) (s : UnitState) where
   -- memory ran out, where this is kept
   pub breaks-lost : (k : Kept) → leaves k k → MayBeOther (IsSome in_flight) s.kept (kept_behind (decision_in meant) s) k → IsLost stage in_flight meant s →
       BreaksOff leaves fills Memory stage in_flight meant s

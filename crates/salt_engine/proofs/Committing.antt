@@ -19,7 +19,7 @@ use Rattle.law_decisions.specs.Ending.{EndsNext, MayEnd}
 use Rattle.salt_stands.specs.OpenConts.{make_move}
 use Rattle.salt_driver.specs.Writing.{change_of}
 use Rattle.salt_storage.specs.Storing.{IsSoundKept, MayDecide, decided}
-use Rattle.salt_storage.specs.Writing.{OfUnit, Written}
+use Rattle.salt_storage.specs.Writing.{OfUnit, ToWrite}
 use Rattle.salt_storage.specs.declared.halt.Halt.TheVariants.{DeviceFull}
 use Rattle.salt_storage.specs.declared.halt.Halt.{Halt}
 use Rattle.salt_values.specs.Id.{is_same_id}
@@ -69,7 +69,7 @@ module _ (holds : Kept → Type 0) (is_new : Id → Type 0) (x : Books) (s : Uni
         stored = ended-stored holds is_new x s o u (Committed (next_decision s)) b named may now new_now (subst now ends.leaves holding) stays;
       }
 
-      pub commit-undone : (leaves : Kept → Kept → Type 0) (fills : Written → ℕ → Type 0) (halt : Halt) →
+      pub commit-undone : (leaves : Kept → Kept → Type 0) (fills : ToWrite → ℕ → Type 0) (halt : Halt) →
           leaves s.kept (decided s.kept cs (conts_committed s.kept (next_decision s) o.kind o.vars)) → ((dev : ℕ) → halt ≡ DeviceFull dev → fills (OfUnit u cs m) dev) →
           Undone leaves fills halt s (commits_in s o)
       commit-undone leaves fills halt left full =
@@ -102,7 +102,7 @@ module _ (holds : Kept → Type 0) (is_new : Id → Type 0) (x : Books) (s : Uni
         stored = ended-stored holds is_new x s o u (Branched (next_decision s) cause) b named may now new_now (subst now branches.leaves holding) stays;
       }
 
-      pub branch-undone : (leaves : Kept → Kept → Type 0) (fills : Written → ℕ → Type 0) (halt : Halt) →
+      pub branch-undone : (leaves : Kept → Kept → Type 0) (fills : ToWrite → ℕ → Type 0) (halt : Halt) →
           leaves s.kept (decided s.kept cs (conts_branched s.kept o.kind)) → ((dev : ℕ) → halt ≡ DeviceFull dev → fills (OfUnit u cs m) dev) →
           Undone leaves fills halt s (branches_in s o.unit cause)
       branch-undone leaves fills halt left full =
@@ -115,7 +115,7 @@ pub own-branch : (holds : Kept → Type 0) (is_new : Id → Type 0) (x : Books) 
 own-branch holds is_new x s u base cause b later =
     subst (λ v. IsBefore holds is_new x (branches_in s v cause) s) (sym (named-unit u s.units later.unit later.named)) b
 
-pub own-undone : (leaves : Kept → Kept → Type 0) (fills : Written → ℕ → Type 0) (halt : Halt) (s : UnitState) (u base : Id) (cause : Cause) → (later : IsLaterUnit s u base) →
+pub own-undone : (leaves : Kept → Kept → Type 0) (fills : ToWrite → ℕ → Type 0) (halt : Halt) (s : UnitState) (u base : Id) (cause : Cause) → (later : IsLaterUnit s u base) →
     Undone leaves fills halt s (branches_in s later.unit.unit cause) → Undone leaves fills halt s (branches_in s u cause)
 own-undone leaves fills halt s u base cause later undone =
     subst (λ v. Undone leaves fills halt s (branches_in s v cause)) (named-unit u s.units later.unit later.named) undone

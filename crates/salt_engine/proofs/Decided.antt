@@ -25,7 +25,7 @@ use Rattle.law_decisions.specs.Naming.{IsToCome}
 use Rattle.salt_stands.specs.OpenConts.{make_move}
 use Rattle.salt_driver.specs.Writing.{IsWrittenBy, change_of, changes_decided}
 use Rattle.salt_storage.specs.Storing.{IsSoundKept}
-use Rattle.salt_storage.specs.Writing.{OfUnit, Written}
+use Rattle.salt_storage.specs.Writing.{OfUnit, ToWrite}
 use Rattle.salt_storage.specs.declared.halt.Halt.TheVariants.{DeviceFull, Memory}
 use Rattle.salt_storage.specs.declared.halt.Halt.{Halt}
 use Rattle.salt_values.specs.Id.{is_same_id}
@@ -68,7 +68,7 @@ stored-still holds now is_new new_now s stored held stays = record { holding = h
 
 -- MEMORY RAN OUT before an event, or behind it
 
-pub undone-before : (leaves : Kept → Kept → Type 0) (fills : Written → ℕ → Type 0) (s : UnitState) (e : Event) → leaves s.kept s.kept →
+pub undone-before : (leaves : Kept → Kept → Type 0) (fills : ToWrite → ℕ → Type 0) (s : UnitState) (e : Event) → leaves s.kept s.kept →
     Undone leaves fills Memory s e
 undone-before leaves fills s e left = record {
   left = record { one = s.kept; other = s.kept; left = left; is_one = inl refl; is_other = inl refl };
@@ -106,8 +106,8 @@ module _ (holds : Kept → Type 0) (is_new : Id → Type 0) (x : Books) (s : Uni
       (λ v h. stays v (subst (λ w. is_same_id v w ≡ false) (named-unit u s.units o named) (may-no-more s b.comes.trace o.unit end v b.comes.keeps sound-behind h)))
 
   -- what is written of it
-  pub ended-undone : (leaves : Kept → Kept → Type 0) (fills : Written → ℕ → Type 0) (halt : Halt) (cs : List Change) (m : Move) → at_devices_in s (Ended o.unit end) ≡ true →
-      leaves s.kept (units_after (Ended o.unit end) s).kept → ((w : Written) → w ≡ OfUnit u cs m → IsWrittenBy s (Some (Ended o.unit end)) w) →
+  pub ended-undone : (leaves : Kept → Kept → Type 0) (fills : ToWrite → ℕ → Type 0) (halt : Halt) (cs : List Change) (m : Move) → at_devices_in s (Ended o.unit end) ≡ true →
+      leaves s.kept (units_after (Ended o.unit end) s).kept → ((w : ToWrite) → w ≡ OfUnit u cs m → IsWrittenBy s (Some (Ended o.unit end)) w) →
       ((dev : ℕ) → halt ≡ DeviceFull dev → fills (OfUnit u cs m) dev) → Undone leaves fills halt s (Ended o.unit end)
   ended-undone leaves fills halt cs m devices left written full = record {
     left = record { one = s.kept; other = (units_after (Ended o.unit end) s).kept; left = left; is_one = inl refl; is_other = inr (tt, refl) };
@@ -116,7 +116,7 @@ module _ (holds : Kept → Type 0) (is_new : Id → Type 0) (x : Books) (s : Uni
   }
 
 pub commit-written : (s : UnitState) (o : OpenUnit) (u : Id) (cs : List Change) (m : Move) → unit_named u s.units ≡ Some o → cs ≡ map change_of o.changes →
-    make_move s.kept.conts m ≡ Some (conts_committed s.kept (next_decision s) o.kind o.vars) → (w : Written) → w ≡ OfUnit u cs m → IsWrittenBy s (Some (commits_in s o)) w
+    make_move s.kept.conts m ≡ Some (conts_committed s.kept (next_decision s) o.kind o.vars) → (w : ToWrite) → w ≡ OfUnit u cs m → IsWrittenBy s (Some (commits_in s o)) w
 commit-written s o u cs m named are moves w is =
     let own = named-own u s.units o named in
     record {
@@ -126,7 +126,7 @@ commit-written s o u cs m named are moves w is =
     }
 
 pub branch-written : (s : UnitState) (o : OpenUnit) (u : Id) (cause : Cause) (m : Move) → unit_named u s.units ≡ Some o →
-    make_move s.kept.conts m ≡ Some (conts_branched s.kept o.kind) → (w : Written) → w ≡ OfUnit u [] m → IsWrittenBy s (Some (branches_in s o.unit cause)) w
+    make_move s.kept.conts m ≡ Some (conts_branched s.kept o.kind) → (w : ToWrite) → w ≡ OfUnit u [] m → IsWrittenBy s (Some (branches_in s o.unit cause)) w
 branch-written s o u cause m named moves w is =
     let own = named-own u s.units o named in
     record {

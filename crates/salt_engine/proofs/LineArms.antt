@@ -24,7 +24,7 @@ use Rattle.salt_driver.specs.Counting.{armed_at}
 use Rattle.salt_values.specs.declared.id.Id.{Id}
 use Rattle.std.proofs.Common.{ap, append_assoc, arith, subst, sym, take, ◌∙◌}
 use Rattle.std.specs.Prelude.{Bool, IsTrue, List, None, Option, Some, [], false, get_or, length, not, refl, suc, true, zero, ℕ, ◌+◌, ◌++◌, ◌<◌, ◌∷◌, ◌≡◌, ◌≤◌}
-use Rattle.salt_engine.specs.Standing.{SeesIn}
+use Rattle.salt_engine.specs.Standing.{StandsAtEventIn}
 
 unless-not : (b : Bool) → not b ≡ false → b ≡ true
 unless-not true h = refl
@@ -44,13 +44,13 @@ module _ (holds : Kept → Type 0) (is_new : Id → Type 0) (stoppable : Bool) (
   arms-meant told same r = ap (line_in s.units (clash_by s) (items_by s r)) is ∙ ap (λ (ps : List (ℕ × ℕ)). Some (Armed ps)) (sym same)
 
   pub arms-performs : (now : Kept → Type 0) (new_now : Id → Type 0) (stage : Stage Scheduler) (in_flight : Option InFlight) (y : Scheduler) (e : Event) (told : List (ℕ × ℕ)) → told ≡ pairs →
-      in_flight ≡ None → stage ≡ at.Going y → Stored now new_now s.units → (r : Reading s.watch) → scheduling.Gives s (Some (Armed told)) y (Some e) →
-      Performs (SeesIn now new_now stage) in_flight (line_in s.units (clash_by s) (items_by s r) line) (Some e) s
+      in_flight ≡ None → stage ≡ at.Going y → Stored now new_now s.units → (r : Reading s.watch) → scheduling.AnswersWith s (Some (Armed told)) y (Some e) →
+      Performs (StandsAtEventIn now new_now stage) in_flight (line_in s.units (clash_by s) (items_by s r) line) (Some e) s
   arms-performs now new_now stage in_flight y e told same none there stored r g =
       serves-by now new_now stage in_flight (line_in s.units (clash_by s) (items_by s r) line) s y (Armed told) e (none-flies in_flight None s.units none refl) there (arms-meant told same r) g h.allowed.serves.phase
       (stored-plain now new_now (Armed told) (line_in s.units (clash_by s) (items_by s r) line) s (h.played r) (arms-meant told same r) refl refl stored)
 
-  pub arms-armed : (y : Scheduler) (e : Event) (told : List (ℕ × ℕ)) → told ≡ pairs → scheduling.Gives s (Some (Armed told)) y (Some e) → armed_at (Some e) ≡ pairs
+  pub arms-armed : (y : Scheduler) (e : Event) (told : List (ℕ × ℕ)) → told ≡ pairs → scheduling.AnswersWith s (Some (Armed told)) y (Some e) → armed_at (Some e) ≡ pairs
   arms-armed y e told same g = ap armed_at g.told ∙ same
 
 -- each pair of a list picks so

@@ -29,14 +29,14 @@ use Rattle.salt_scheduler.specs.declared.scheduler.Scheduler.{Scheduler}
 use Rattle.law_decisions.proofs.Reading.{few-parts}
 use Rattle.salt_driver.proofs.Counted.{counts-cause}
 use Rattle.salt_driver.specs.Counting.{CountsStops, armed_at, armed_by}
-use Rattle.salt_storage.specs.Writing.{Written}
+use Rattle.salt_storage.specs.Writing.{ToWrite}
 use Rattle.salt_storage.specs.declared.halt.Halt.{Halt}
 use Rattle.salt_values.specs.declared.id.Id.{Id}
 use Rattle.std.proofs.Common.{ap, subst, sym, ◌∙◌}
 use Rattle.std.specs.Option.{option_or}
 use Rattle.std.specs.Prelude.{Bool, Err, IfOk, List, None, Ok, Option, Result, Some, [], false, option_map, refl, true, ℕ, ◌≡◌}
 use Rattle.std.specs.Result.{IsErrAnd}
-use Rattle.salt_engine.specs.Standing.{SeesIn}
+use Rattle.salt_engine.specs.Standing.{StandsAtEventIn}
 
 pub few-of : (line : Line) → IsServed line → HasFewParts line
 few-of (Program p) h = few-parts p h
@@ -63,7 +63,7 @@ never-refused s clash items (Crash pairs) refusal h = cc
 never-refused s clash items line refusal h = let no : true ≡ false = ap is_prepared (sym h) ∙ first-plain s clash items line refl in cc
 
 -- what a line brings is no refusal
-pub begun-unrefused : (seen : Option Event → State → Type 0) (leaves : Kept → Kept → Type 0) (fills : Written → ℕ → Type 0) (stage : Stage Scheduler) (in_flight : Option InFlight) (s : State)
+pub begun-unrefused : (seen : Option Event → State → Type 0) (leaves : Kept → Kept → Type 0) (fills : ToWrite → ℕ → Type 0) (stage : Stage Scheduler) (in_flight : Option InFlight) (s : State)
     (r : Reading s.watch) (line : Line) (result : Result (Option Event) Halt) → ComesOut (λ e. e) seen leaves fills stage in_flight (line_in s.units (clash_by s) (items_by s r) line) s result →
     (refusal : Refusal) → result ≡ Ok (Some (Refused refusal)) → ⊥
 begun-unrefused seen leaves fills stage in_flight s r line (Ok given) performs refusal is =
@@ -82,7 +82,7 @@ module _ (holds : Kept → Type 0) (is_new : Id → Type 0) (stoppable : Bool) (
   pub unrefused : refusal_of s (Tree line) ≡ None → (r : Reading s.watch) → asked_next s r (Tree line) ≡ line_in now.units (clash_by now) (items_by now r) line
   unrefused none r = ap (λ (o : Option Refusal). option_or (option_map Refused o) (line_in now.units (clash_by now) (items_by now r) line)) none
 
-  pub asks-line : (y : Scheduler) → refusal_of s (Tree line) ≡ None → scheduling.Stands y now → AsksLine holds is_new stoppable line y now
+  pub asks-line : (y : Scheduler) → refusal_of s (Tree line) ≡ None → scheduling.StandsForState y now → AsksLine holds is_new stoppable line y now
   asks-line y none stands = record {
     played = λ r. subst (λ (m : Option Event). IsPlayedBefore m now) (unrefused none r) (h.played r);
     allowed = record { serves = h.serves; allowed = none };
@@ -98,14 +98,14 @@ module _ (holds : Kept → Type 0) (is_new : Id → Type 0) (stoppable : Bool) (
     pub is-refused : (r : Reading s.watch) → asked_next s r (Tree line) ≡ Some (Refused refusal)
     is-refused r = ap (λ (o : Option Refusal). option_or (option_map Refused o) (line_in now.units (clash_by now) (items_by now r) line)) refused
 
-    pub refused-performs : (stage : Stage Scheduler) (in_flight : Option InFlight) (e : Event) (y : Scheduler) → IsRefused line refusal y stage e → scheduling.Stands y now → in_flight ≡ None →
-        (r : Reading s.watch) → Performs (SeesIn holds is_new stage) in_flight (asked_next s r (Tree line)) (Some e) now
+    pub refused-performs : (stage : Stage Scheduler) (in_flight : Option InFlight) (e : Event) (y : Scheduler) → IsRefused line refusal y stage e → scheduling.StandsForState y now → in_flight ≡ None →
+        (r : Reading s.watch) → Performs (StandsAtEventIn holds is_new stage) in_flight (asked_next s r (Tree line)) (Some e) now
     refused-performs stage in_flight e y f stands none r =
         serves-by holds is_new stage in_flight (asked_next s r (Tree line)) now f.scheduler (Refused refusal) e (none-flies in_flight None now.units none refl) f.there (is-refused r) (f.refuses now r stands h.serves) h.serves.phase
         (stored-plain holds is_new (Refused refusal) (asked_next s r (Tree line)) now (h.played r) (is-refused r) refl refl
         (record { holding = h.stored.holding; new = h.stored.new }))
 
-    pub refused-unarmed : (stage : Stage Scheduler) (e : Event) (y : Scheduler) → IsRefused line refusal y stage e → scheduling.Stands y now → (r : Reading s.watch) → armed_at (Some e) ≡ []
+    pub refused-unarmed : (stage : Stage Scheduler) (e : Event) (y : Scheduler) → IsRefused line refusal y stage e → scheduling.StandsForState y now → (r : Reading s.watch) → armed_at (Some e) ≡ []
     refused-unarmed stage e y f stands r = ap armed_at (f.refuses now r stands h.serves).told
 
 -- A TEXT that is refused
@@ -114,14 +114,14 @@ module _ (holds : Kept → Type 0) (is_new : Id → Type 0) (refusal : Refusal) 
   abbrev pub rejected : State
   rejected = asked_of (Rejected refusal) p.state
 
-  pub rejected-performs : (stage : Stage Scheduler) (in_flight : Option InFlight) (e : Event) (r : Reading p.state.watch) → IsRejected refusal x stage e → scheduling.Stands x p.state →
+  pub rejected-performs : (stage : Stage Scheduler) (in_flight : Option InFlight) (e : Event) (r : Reading p.state.watch) → IsRejected refusal x stage e → scheduling.StandsForState x p.state →
       scheduling.ServesLine Nothing rejected → IsPlayedBefore (asked_next p.state r (Rejected refusal)) rejected → Stored holds is_new p.state.units → in_flight ≡ None →
-      Performs (SeesIn holds is_new stage) in_flight (asked_next p.state r (Rejected refusal)) (Some e) rejected
+      Performs (StandsAtEventIn holds is_new stage) in_flight (asked_next p.state r (Rejected refusal)) (Some e) rejected
   rejected-performs stage in_flight e r f stands serves played stored none =
       serves-by holds is_new stage in_flight (asked_next p.state r (Rejected refusal)) rejected f.scheduler (Refused refusal) e (none-flies in_flight None rejected.units none refl) f.there refl (f.refuses p.state r stands serves) serves.phase
       (stored-plain holds is_new (Refused refusal) (asked_next p.state r (Rejected refusal)) rejected played refl refl refl (record { holding = stored.holding; new = stored.new }))
 
-  pub rejected-unarmed : (stage : Stage Scheduler) (e : Event) (r : Reading p.state.watch) → IsRejected refusal x stage e → scheduling.Stands x p.state →
+  pub rejected-unarmed : (stage : Stage Scheduler) (e : Event) (r : Reading p.state.watch) → IsRejected refusal x stage e → scheduling.StandsForState x p.state →
       scheduling.ServesLine Nothing rejected → armed_at (Some e) ≡ []
   rejected-unarmed stage e r f stands serves = ap armed_at (f.refuses p.state r stands serves).told
 

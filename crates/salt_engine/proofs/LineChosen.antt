@@ -20,10 +20,10 @@ use Rattle.salt_scheduler.specs.declared.scheduler.Scheduler.{Scheduler}
 use Rattle.salt_values.specs.declared.id.Id.{Id}
 use Rattle.std.proofs.Common.{ap, subst, sym, ◌∙◌}
 use Rattle.std.specs.Prelude.{None, Option, Some, false, refl, true, ◌≡◌}
-use Rattle.salt_engine.specs.Standing.{SeesIn}
+use Rattle.salt_engine.specs.Standing.{StandsAtEventIn}
 
 stored-at : (holds : Kept → Type 0) (is_new : Id → Type 0) (x : Scheduler) (c : Coming) (meant : Option Event) (s : State) → IsPlayedBefore meant s →
-    scheduling.Brings s meant x c → Stored holds is_new s.units → StoredAt holds is_new c s
+    scheduling.AnswersWithComing s meant x c → Stored holds is_new s.units → StoredAt holds is_new c s
 stored-at holds is_new x (coming.Told e) meant s played b stored =
     stored-plain holds is_new e meant s played (sym b.meant) (not-of-run e b.ready.0.1.served) b.ready.1 stored
 stored-at holds is_new x coming.Nothing meant s played b stored = stored
@@ -34,7 +34,7 @@ stored-at holds is_new x (coming.Define text) meant s played b stored = stored
 stored-at holds is_new x (coming.Arm pairs) meant s played b stored = stored
 
 pub to-serve : (holds : Kept → Type 0) (is_new : Id → Type 0) (x : Scheduler) (c : Coming) (meant : Option Event) (s : State) → IsPlayedBefore meant s →
-    s.units.phase ≡ Serving → is_prepared meant ≡ false → scheduling.Brings s meant x c → Stored holds is_new s.units → IsToServe holds is_new x c s
+    s.units.phase ≡ Serving → is_prepared meant ≡ false → scheduling.AnswersWithComing s meant x c → Stored holds is_new s.units → IsToServe holds is_new x c s
 to-serve holds is_new x c meant s played serves plain b stored = record {
   played = subst (λ (m : Option Event). IsPlayedBefore m s) (sym b.meant) played;
   serves = serves;
@@ -46,7 +46,7 @@ to-serve holds is_new x c meant s played serves plain b stored = record {
 -- what was meant in other words
 
 pub performs-same : (holds : Kept → Type 0) (is_new : Id → Type 0) (stage : Stage Scheduler) (in_flight : Option InFlight) (meant other given : Option Event) (s : State) → other ≡ meant →
-    Performs (SeesIn holds is_new stage) in_flight other given s → Performs (SeesIn holds is_new stage) in_flight meant given s
+    Performs (StandsAtEventIn holds is_new stage) in_flight other given s → Performs (StandsAtEventIn holds is_new stage) in_flight meant given s
 performs-same holds is_new stage in_flight meant other given s same p = record { told = p.told ∙ same; sees = p.sees; flies = p.flies }
 
 -- BY WHAT is to come: nothing, or an event that the scheduler has done
@@ -55,14 +55,14 @@ pub serve-as : (holds : Kept → Type 0) (is_new : Id → Type 0) (x : Scheduler
 serve-as holds is_new x c d s is h = subst (λ (k : Coming). IsToServe holds is_new x k s) is h
 
 pub nothing-performs : (holds : Kept → Type 0) (is_new : Id → Type 0) (x : Scheduler) (c : Coming) (in_flight : Option InFlight) (s : State) → c ≡ coming.Nothing →
-    IsToServe holds is_new x c s → in_flight ≡ None → Performs (SeesIn holds is_new (at.Going x)) in_flight (event_meant s.units c) None s
+    IsToServe holds is_new x c s → in_flight ≡ None → Performs (StandsAtEventIn holds is_new (at.Going x)) in_flight (event_meant s.units c) None s
 nothing-performs holds is_new x c in_flight s is h none =
     let k = serve-as holds is_new x c coming.Nothing s is h in
     performs-same holds is_new (at.Going x) in_flight (event_meant s.units c) None None s (ap (event_meant s.units) (sym is))
     (record { told = refl; sees = (k.ready.0, k.stored); flies = none-flies in_flight None s.units none refl })
 
 pub told-performs : (holds : Kept → Type 0) (is_new : Id → Type 0) (x : Scheduler) (c : Coming) (e : Event) (in_flight : Option InFlight) (s : State) → c ≡ coming.Told e →
-    IsToServe holds is_new x c s → in_flight ≡ None → Performs (SeesIn holds is_new (at.Going x)) in_flight (event_meant s.units c) (Some e) s
+    IsToServe holds is_new x c s → in_flight ≡ None → Performs (StandsAtEventIn holds is_new (at.Going x)) in_flight (event_meant s.units c) (Some e) s
 told-performs holds is_new x c e in_flight s is h none =
     let k = serve-as holds is_new x c (coming.Told e) s is h in
     let done = k.ready.0 in
@@ -70,7 +70,7 @@ told-performs holds is_new x c e in_flight s is h none =
     (record { told = refl; sees = (done.0, done.1, subst (Stored holds is_new) (sym done.1.after.units) k.stored, k.serves); flies = none-flies in_flight (decision_in (Some e)) s.units none k.ready.1 })
 
 -- where nothing is meant, nothing is to come
-pub nothing-comes : (s : State) (x : Scheduler) (c : Coming) (meant : Option Event) → scheduling.Brings s meant x c → meant ≡ None → c ≡ coming.Nothing
+pub nothing-comes : (s : State) (x : Scheduler) (c : Coming) (meant : Option Event) → scheduling.AnswersWithComing s meant x c → meant ≡ None → c ≡ coming.Nothing
 nothing-comes s x coming.Nothing meant b none = refl
 nothing-comes s x (coming.Told e) meant b none = let no : Some e ≡ None = b.meant ∙ none in cc
 nothing-comes s x (coming.Act a) meant b none = let no = sym (acts-meant s.units a b.ready.1.0 b.ready.1.1) ∙ b.meant ∙ none in cc

@@ -41,13 +41,13 @@ use Rattle.law_decisions.proofs.Reading.{few-parts}
 use Rattle.law_decisions.specs.Defining.{MayBeDefined}
 use Rattle.salt_driver.specs.Counting.{armed_at}
 use Rattle.salt_storage.specs.Storing.{IsSoundKept, defined}
-use Rattle.salt_storage.specs.Writing.{OfDefinition, Written}
+use Rattle.salt_storage.specs.Writing.{OfDefinition, ToWrite}
 use Rattle.salt_storage.specs.declared.halt.Halt.TheVariants.{DeviceFull, Memory}
 use Rattle.salt_storage.specs.declared.halt.Halt.{Halt}
 use Rattle.salt_values.specs.declared.id.Id.{Id}
 use Rattle.std.proofs.Common.{ap, inl, inr, subst, sym, ◌∙◌}
 use Rattle.std.specs.Prelude.{Bool, None, Option, Some, [], refl, true, ℕ, ◌≡◌}
-use Rattle.salt_engine.specs.Standing.{SeesIn}
+use Rattle.salt_engine.specs.Standing.{StandsAtEventIn}
 
 -- the laws of definitions of law_decisions
 abbrev pub TableLaw : Type 0
@@ -117,17 +117,17 @@ module _ (holds : Kept → Type 0) (is_new : Id → Type 0) (stoppable : Bool) (
       (subst now d.may.leaves holding) (λ u i n. stays u n)
 
   pub defined-performs : (now : Kept → Type 0) (new_now : Id → Type 0) (y : Scheduler) (e : Event) (r : Reading s.watch) → now (defined s.units.kept d.definition) →
-      ((u : Id) → is_new u → new_now u) → scheduling.Gives s (line_in s.units (clash_by s) (items_by s r) line) y (Some e) →
-      Performs (SeesIn now new_now (at.Going y)) (Some f) (line_in s.units (clash_by s) (items_by s r) line) (Some e) s
+      ((u : Id) → is_new u → new_now u) → scheduling.AnswersWith s (line_in s.units (clash_by s) (items_by s r) line) y (Some e) →
+      Performs (StandsAtEventIn now new_now (at.Going y)) (Some f) (line_in s.units (clash_by s) (items_by s r) line) (Some e) s
   defined-performs now new_now y e r holding stays g =
       serves-by now new_now (at.Going y) (Some f) (line_in s.units (clash_by s) (items_by s r) line) s y event e d.flies refl (d.meant r)
-      (subst (λ (m : Option Event). scheduling.Gives s m y (Some e)) (d.meant r) g) h.allowed.serves.phase (defined-stored now new_now r holding stays)
+      (subst (λ (m : Option Event). scheduling.AnswersWith s m y (Some e)) (d.meant r) g) h.allowed.serves.phase (defined-stored now new_now r holding stays)
 
   -- it arms nothing
-  pub defined-unarmed : (y : Scheduler) (e : Event) (r : Reading s.watch) → scheduling.Gives s (line_in s.units (clash_by s) (items_by s r) line) y (Some e) → armed_at (Some e) ≡ []
+  pub defined-unarmed : (y : Scheduler) (e : Event) (r : Reading s.watch) → scheduling.AnswersWith s (line_in s.units (clash_by s) (items_by s r) line) y (Some e) → armed_at (Some e) ≡ []
   defined-unarmed y e r g = ap armed_at (g.told ∙ d.meant r)
 
-  module _ (leaves : Kept → Kept → Type 0) (fills : Written → ℕ → Type 0) (stage : Stage Scheduler) (r : Reading s.watch) where
+  module _ (leaves : Kept → Kept → Type 0) (fills : ToWrite → ℕ → Type 0) (stage : Stage Scheduler) (r : Reading s.watch) where
     -- memory ran out behind it
     pub defined-lost : stage ≡ at.Lost → leaves (defined s.units.kept d.definition) (defined s.units.kept d.definition) →
         BreaksOff leaves fills Memory stage (Some f) (line_in s.units (clash_by s) (items_by s r) line) s.units
@@ -159,15 +159,15 @@ module _ (holds : Kept → Type 0) (is_new : Id → Type 0) (stoppable : Bool) (
 -- WHAT IS TOLD of a definition is what its line brings
 
 module _ (line : Line) (x y : Scheduler) (e : Event) where
-  pub table-allows : (d : TableDef) → line ≡ line_of.Table d → scheduling.Allows (λ s r. Some (Defined (next_decision s.units) (table_text d))) line x y e →
-      scheduling.Allows (λ s r. line_in s.units (clash_by s) (items_by s r) line) line x y e
+  pub table-allows : (d : TableDef) → line ≡ line_of.Table d → scheduling.DoesAllowed (λ s r. Some (Defined (next_decision s.units) (table_text d))) line x y e →
+      scheduling.DoesAllowed (λ s r. line_in s.units (clash_by s) (items_by s r) line) line x y e
   table-allows d is allows s r stands h =
-      subst (λ (m : Option Event). scheduling.Gives s m y (Some e)) (sym (ap (line_in s.units (clash_by s) (items_by s r)) is)) (allows s r stands h)
+      subst (λ (m : Option Event). scheduling.AnswersWith s m y (Some e)) (sym (ap (line_in s.units (clash_by s) (items_by s r)) is)) (allows s r stands h)
 
-  pub program-allows : (p : ProgramDef) → line ≡ line_of.Program p → scheduling.Allows (λ s r. Some (Defined (next_decision s.units) (program_text p))) line x y e →
-      scheduling.Allows (λ s r. line_in s.units (clash_by s) (items_by s r) line) line x y e
+  pub program-allows : (p : ProgramDef) → line ≡ line_of.Program p → scheduling.DoesAllowed (λ s r. Some (Defined (next_decision s.units) (program_text p))) line x y e →
+      scheduling.DoesAllowed (λ s r. line_in s.units (clash_by s) (items_by s r) line) line x y e
   program-allows p is allows s r stands h =
-      subst (λ (m : Option Event). scheduling.Gives s m y (Some e)) (sym (ap (line_in s.units (clash_by s) (items_by s r)) is)) (allows s r stands h)
+      subst (λ (m : Option Event). scheduling.AnswersWith s m y (Some e)) (sym (ap (line_in s.units (clash_by s) (items_by s r)) is)) (allows s r stands h)
 
 pub no-definition : (line : Line) → ((d : TableDef) → line ≡ line_of.Table d → ⊥) → ((p : ProgramDef) → line ≡ line_of.Program p → ⊥) → is_definition line ≡ true → ⊥
 no-definition (line_of.Table d) no_table no_program is = no_table d refl

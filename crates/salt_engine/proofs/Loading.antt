@@ -29,7 +29,7 @@ use Rattle.salt_ranges.specs.Ranges.{is_range_empty, one_key}
 use Rattle.salt_ranges.specs.declared.range.KeyRange.{KeyRange}
 use Rattle.salt_stands.proofs.Places.{place_same}
 use Rattle.salt_storage.specs.Storing.{IsPartOf, IsSoundKept}
-use Rattle.salt_storage.specs.Writing.{Written}
+use Rattle.salt_storage.specs.Writing.{ToWrite}
 use Rattle.salt_storage.specs.declared.halt.Halt.TheVariants.{DeviceFull}
 use Rattle.salt_storage.specs.declared.halt.Halt.{Halt}
 use Rattle.salt_tokens.specs.Spelling.{same_bytes}
@@ -143,7 +143,7 @@ module _ (holds : Kept → Type 0) (is_new : Id → Type 0) (x : Books) (a : Ask
   )
 
   -- it was not loaded
-  pub unloaded : (leaves : Kept → Kept → Type 0) (fills : Written → ℕ → Type 0) (halt : Halt) → leaves s.kept s.kept → ((dev : ℕ) → halt ≡ DeviceFull dev → ⊥) →
+  pub unloaded : (leaves : Kept → Kept → Type 0) (fills : ToWrite → ℕ → Type 0) (halt : Halt) → leaves s.kept s.kept → ((dev : ℕ) → halt ≡ DeviceFull dev → ⊥) →
       Undone leaves fills halt s (does_in s o a.statement)
   unloaded leaves fills halt left full = record {
     left = record { one = s.kept; other = s.kept; left = left; is_one = inl refl; is_other = inl refl };

@@ -2,7 +2,7 @@
 use Rattle.salt_engine.proofs.Flying.{flight-next}
 use Rattle.salt_engine.proofs.Halting.{is-left, know-units}
 use Rattle.salt_engine.specs.Flights.{IsInFlight}
-use Rattle.salt_engine.specs.Standing.{KnowsUnits, Lies, Sees, SeesIn, serving_books}
+use Rattle.salt_engine.specs.Standing.{KnowsUnits, CanReopenAt, AgreesWithState, StandsAtEventIn, serving_books}
 use Rattle.salt_engine.specs.declared.flights.InFlight.{InFlight}
 use Rattle.salt_engine.specs.declared.stage.Stage.TheVariants as at
 use Rattle.salt_engine.specs.declared.stage.Stage.{Stage}
@@ -19,7 +19,7 @@ use Rattle.salt_values.specs.declared.id.Id.{Id}
 use Rattle.std.proofs.Common.{ap, inl, subst, sym, ◌∙◌}
 use Rattle.std.specs.Prelude.{Bool, IsSome, None, Option, refl, ◌≡◌}
 
-idle-knows : (holds : Kept → Type 0) (is_new : Id → Type 0) (stage : Stage Scheduler) (s : State) → SeesIn holds is_new stage None s →
+idle-knows : (holds : Kept → Type 0) (is_new : Id → Type 0) (stage : Stage Scheduler) (s : State) → StandsAtEventIn holds is_new stage None s →
     KnowsUnits (serving_books stage) s.units × holds s.units.kept
 idle-knows holds is_new (at.Going x) s h = ((x.books, refl, know-units x.books s.units h.0.books), h.1.holding)
 idle-knows holds is_new (at.Down books) s h = absurd h
@@ -29,8 +29,8 @@ up : (p : Point) → p.state.units.phase ≡ Serving → p.state.units.phase ≡
 up p serves fallen = let no = sym serves ∙ fallen in cc
 
 pub idle-lies : (holds : Kept → Type 0) (is_new : Id → Type 0) (leaves : Kept → Kept → Type 0) (stoppable : Bool) (stage : Stage Scheduler) (single : Bool) (in_flight : Option InFlight) (p : Point) →
-    IsSoundPoint p → Sees (SeesIn holds is_new stage) stoppable single in_flight None p.state → IsIdle p → ((k : Kept) → holds k → leaves k k) → ((k : Kept) → holds k → IsSoundKept k) →
-    Lies holds leaves stoppable None (serving_books stage) single in_flight 0 p
+    IsSoundPoint p → AgreesWithState (StandsAtEventIn holds is_new stage) stoppable single in_flight None p.state → IsIdle p → ((k : Kept) → holds k → leaves k k) → ((k : Kept) → holds k → IsSoundKept k) →
+    CanReopenAt holds leaves stoppable None (serving_books stage) single in_flight 0 p
 idle-lies holds is_new leaves stoppable stage single in_flight p sound sees idle stays may =
     let k = p.state.units.kept in
     let knows = idle-knows holds is_new stage p.state sees.seen in

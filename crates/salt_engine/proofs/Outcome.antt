@@ -13,7 +13,7 @@ use Rattle.salt_model.specs.Kept.{Kept}
 use Rattle.salt_model.specs.declared.events.Event.{Event}
 use Rattle.salt_driver.specs.Counting.{armed_at}
 use Rattle.salt_storage.proofs.Staying as within
-use Rattle.salt_storage.specs.Writing.{Written}
+use Rattle.salt_storage.specs.Writing.{ToWrite}
 use Rattle.salt_storage.specs.declared.halt.Halt.TheVariants.{Memory}
 use Rattle.salt_storage.specs.declared.halt.Halt.{Halt}
 use Rattle.salt_place.specs.declared.placement.Shape.{Shape}
@@ -21,7 +21,7 @@ use Rattle.std.proofs.Common.{ap, subst, sym, ◌∙◌}
 use Rattle.std.specs.Prelude.{Err, IfErr, IfOk, Ok, Option, Result, [], false, refl, ℕ, ◌≡◌}
 use Rattle.std.specs.Result.{IsErrAnd, MatchResult}
 
-module _ {H T : Type 0} (given : T → Option Event) (seen : Option Event → State → Type 0) (leaves : Kept → Kept → Type 0) (fills : Written → ℕ → Type 0) (stage : Stage H) (in_flight : Option InFlight) where
+module _ {H T : Type 0} (given : T → Option Event) (seen : Option Event → State → Type 0) (leaves : Kept → Kept → Type 0) (fills : ToWrite → ℕ → Type 0) (stage : Stage H) (in_flight : Option InFlight) where
   -- it is broken off
   pub comes-broken : (meant : Option Event) (s : State) (halt : Halt) (result : Result T Halt) → IsErrAnd result (λ told. told ≡ halt) →
       BreaksOff leaves fills halt stage in_flight meant s.units → ComesOut given seen leaves fills stage in_flight meant s result

@@ -10,7 +10,7 @@ use Rattle.salt_engine.proofs.Flying.{undecided-keeps}
 use Rattle.salt_engine.specs.Deciding.{ComesNext, IsBefore}
 use Rattle.salt_engine.specs.Flights.{IsInFlight}
 use Rattle.salt_engine.specs.Performing.{IsPlayedBefore, Performs}
-use Rattle.salt_engine.specs.Standing.{SeesIn}
+use Rattle.salt_engine.specs.Standing.{StandsAtEventIn}
 use Rattle.salt_engine.specs.Stored.{Stored}
 use Rattle.salt_engine.specs.declared.flights.InFlight.{InFlight}
 use Rattle.salt_engine.specs.declared.stage.Stage.TheVariants as at
@@ -65,8 +65,8 @@ have-unit x s u o books named = record { state = s; books = books; named = subst
 
 -- by a scheduler
 pub serves-by : (holds : Kept → Type 0) (is_new : Id → Type 0) (stage : Stage Scheduler) (in_flight : Option InFlight) (meant : Option Event) (s : State) (x : Scheduler) (e given : Event) →
-    IsInFlight in_flight (decision_in (Some e)) s.units → stage ≡ at.Going x → meant ≡ Some e → scheduling.Gives s (Some e) x (Some given) → s.units.phase ≡ Serving → Stored holds is_new (units_after e s.units) →
-    Performs (SeesIn holds is_new stage) in_flight meant (Some given) s
+    IsInFlight in_flight (decision_in (Some e)) s.units → stage ≡ at.Going x → meant ≡ Some e → scheduling.AnswersWith s (Some e) x (Some given) → s.units.phase ≡ Serving → Stored holds is_new (units_after e s.units) →
+    Performs (StandsAtEventIn holds is_new stage) in_flight meant (Some given) s
 serves-by holds is_new stage in_flight meant s x e given flies there is g serves stored =
     let t = g.done.0 in
     let d = g.done.1 in
@@ -74,7 +74,7 @@ serves-by holds is_new stage in_flight meant s x e given flies there is g serves
     let same : t.units ≡ units_after e s.units = d.after.units ∙ ap (λ (f : Event). units_after f s.units) told in
     record {
       told = g.told ∙ sym is;
-      sees = subst (λ (q : Stage Scheduler). SeesIn holds is_new q (Some given) s) (sym there) (t, d, subst (Stored holds is_new) (sym same) stored, serves);
+      sees = subst (λ (q : Stage Scheduler). StandsAtEventIn holds is_new q (Some given) s) (sym there) (t, d, subst (Stored holds is_new) (sym same) stored, serves);
       flies = subst (λ (f : Event). IsInFlight in_flight (decision_in (Some f)) s.units) (sym told) flies;
     }
 

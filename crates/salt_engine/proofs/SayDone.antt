@@ -8,7 +8,7 @@ use Rattle.salt_engine.proofs.ServingGoes.{goes, meant, moves, plain, point, rea
 use Rattle.salt_engine.proofs.Stages.{goes-now, left-at, serves-now}
 use Rattle.salt_engine.specs.Flights.{IsInFlight, flight_of}
 use Rattle.salt_engine.specs.Performing.{BreaksOff, GoesOnServing, Performs}
-use Rattle.salt_engine.specs.Standing.{IsGoingStage, Left, Lies, Sees, SeesIn, goes_in, waits_in, serving_books}
+use Rattle.salt_engine.specs.Standing.{IsGoingStage, LeavesOnDevices, CanReopenAt, AgreesWithState, StandsAtEventIn, goes_in, waits_in, serving_books}
 use Rattle.salt_engine.specs.Stored.{Stored, kept_behind}
 use Rattle.salt_engine.specs.declared.flights.InFlight.{InFlight}
 use Rattle.salt_engine.specs.declared.stage.Stage.TheVariants as at
@@ -26,14 +26,14 @@ use Rattle.salt_model.specs.declared.events.Event.TheVariants.{Refused}
 use Rattle.salt_model.specs.declared.events.Event.{Event}
 use Rattle.salt_model.specs.declared.events.Refusal.{Refusal}
 use Rattle.salt_scheduler.proofs.Following.{not-of-run}
-use Rattle.salt_scheduler.specs.Standing.{HasDone}
+use Rattle.salt_scheduler.specs.Standing.{HasDoneEvent}
 use Rattle.salt_scheduler.specs.declared.scheduler.Scheduler.{Scheduler}
 use Rattle.salt_driver.proofs.Advancing.{sound-moved}
 use Rattle.salt_driver.proofs.RefusedAlone.{to-go-stays}
 use Rattle.salt_driver.proofs.Refusing.{refused-rests}
 use Rattle.salt_driver.specs.Standing.{BreaksAt, IsAt, IsSoundPoint, left_to_come}
 use Rattle.salt_storage.specs.Storing.{IsSoundKept}
-use Rattle.salt_storage.specs.Writing.{Written}
+use Rattle.salt_storage.specs.Writing.{ToWrite}
 use Rattle.salt_storage.specs.declared.halt.Halt.TheVariants.{Memory}
 use Rattle.salt_storage.specs.declared.halt.Halt.{Halt}
 use Rattle.salt_values.specs.declared.id.Id.{Id}
@@ -45,13 +45,13 @@ pub never-fallen : (p : Point) → p.state.units.phase ≡ Serving → p.state.u
 never-fallen p serves fallen = let no = sym serves ∙ fallen in cc
 
 -- what is kept behind an event that comes next
-pub kept-behind-next : (p : Point) (sound : IsSoundPoint p) (e : Event) (t : State) (x : Scheduler) → p.next ≡ Some e → HasDone x e p.state t → p.state.units.phase ≡ Serving →
+pub kept-behind-next : (p : Point) (sound : IsSoundPoint p) (e : Event) (t : State) (x : Scheduler) → p.next ≡ Some e → HasDoneEvent x e p.state t → p.state.units.phase ≡ Serving →
     t.units.kept ≡ kept_behind (decision_in p.next) p.state.units
 kept-behind-next p sound e t x comes d phase =
     ap (λ (s : UnitState). s.kept) d.after.units ∙ kept-decided e p.state.units (not-of-run e d.served)
     ∙ ap (λ (o : Option Event). kept_behind (decision_in o) p.state.units) (sym comes)
 
-module _ (line : Line) (x : Scheduler) (e : Event) (p : Point) (sound : IsSoundPoint p) (t : State) (d : HasDone x e p.state t) (comes : p.next ≡ Some e)
+module _ (line : Line) (x : Scheduler) (e : Event) (p : Point) (sound : IsSoundPoint p) (t : State) (d : HasDoneEvent x e p.state t) (comes : p.next ≡ Some e)
     (phase : p.state.units.phase ≡ Serving) (served : p.state.units.line ≡ line) where
   abbrev pub now : Point
   now = point line x e p sound t d comes phase served
@@ -69,8 +69,8 @@ module _ (line : Line) (x : Scheduler) (e : Event) (p : Point) (sound : IsSoundP
   said-goes holds is_new stored = goes line x e p sound t d comes phase served holds is_new stored
 
   pub said-sees : (holds : Kept → Type 0) (is_new : Id → Type 0) (old stoppable : Bool) (was single : Bool) (stage : Stage Scheduler) (in_flight : Option InFlight) (given : Option Event) →
-      Performs (SeesIn holds is_new stage) in_flight wanted given t → p.state.can_stop ≡ old → stoppable ≡ old → was ≡ is_statement_line p.state.units.line → single ≡ was →
-      Sees (SeesIn holds is_new stage) stoppable single in_flight given t
+      Performs (StandsAtEventIn holds is_new stage) in_flight wanted given t → p.state.can_stop ≡ old → stoppable ≡ old → was ≡ is_statement_line p.state.units.line → single ≡ was →
+      AgreesWithState (StandsAtEventIn holds is_new stage) stoppable single in_flight given t
   said-sees holds is_new old stoppable was single stage in_flight given h can same lined kept =
       serves-on line x e p sound t d comes phase served holds is_new old stoppable was single stage in_flight given h can same lined kept
 
@@ -84,19 +84,19 @@ module _ (line : Line) (x : Scheduler) (e : Event) (p : Point) (sound : IsSoundP
       let s = serves line x e p sound t d comes phase served in
       kept ∙ lined ∙ ap is_statement_line (served ∙ sym s.line)
 
-  pub said-halts : (holds : Kept → Type 0) (leaves : Kept → Kept → Type 0) (fills : Written → ℕ → Type 0) (halt : Halt) (old stoppable : Bool) (was single : Bool) (stage : Stage Scheduler)
+  pub said-halts : (holds : Kept → Type 0) (leaves : Kept → Kept → Type 0) (fills : ToWrite → ℕ → Type 0) (halt : Halt) (old stoppable : Bool) (was single : Bool) (stage : Stage Scheduler)
       (in_flight : Option InFlight) (story told : List Event) → BreaksOff leaves fills halt stage in_flight wanted t.units → p.state.can_stop ≡ old → stoppable ≡ old →
       was ≡ is_statement_line p.state.units.line → single ≡ was → IsSoundKept t.units.kept → told ≡ story ++ e ∷ [] →
-      BreaksAt (λ p. Lies holds leaves stoppable None (serving_books stage) single in_flight 0 p) (λ p. Left holds leaves (IsSome in_flight) None 0 p × ⊤) fills (flight_of in_flight) halt p e story told
+      BreaksAt (λ p. CanReopenAt holds leaves stoppable None (serving_books stage) single in_flight 0 p) (λ p. LeavesOnDevices holds leaves (IsSome in_flight) None 0 p × ⊤) fills (flight_of in_flight) halt p e story told
   said-halts holds leaves fills halt old stoppable was single stage in_flight story told b can same lined kept may tells = inr (
     tells,
     (now, moves line x e p sound t d comes phase served, halts (λ (x : Scheduler). x.books) holds leaves fills halt stoppable None refl stage single in_flight now b now-flies (d.after.can_stop ∙ can ∙ sym same) (line-now was single lined kept) may),
   )
 
   -- or before it was told
-  pub said-lost : (holds : Kept → Type 0) (leaves : Kept → Kept → Type 0) (fills : Written → ℕ → Type 0) (stoppable : Bool) (single : Bool) (stage : Stage Scheduler)
+  pub said-lost : (holds : Kept → Type 0) (leaves : Kept → Kept → Type 0) (fills : ToWrite → ℕ → Type 0) (stoppable : Bool) (single : Bool) (stage : Stage Scheduler)
       (in_flight : Option InFlight) (story told : List Event) → leaves t.units.kept t.units.kept → stage ≡ at.Lost → IsInFlight in_flight (decision_in (Some e)) p.state.units → told ≡ story →
-      BreaksAt (λ p. Lies holds leaves stoppable None (serving_books stage) single in_flight 0 p) (λ p. Left holds leaves (IsSome in_flight) None 0 p × ⊤) fills (flight_of in_flight) Memory p e story told
+      BreaksAt (λ p. CanReopenAt holds leaves stoppable None (serving_books stage) single in_flight 0 p) (λ p. LeavesOnDevices holds leaves (IsSome in_flight) None 0 p × ⊤) fills (flight_of in_flight) Memory p e story told
   said-lost holds leaves fills stoppable single stage in_flight story told left there flies same =
       let flown : IsInFlight in_flight (decision_in p.next) p.state.units = subst (λ (m : Option Event). IsInFlight in_flight (decision_in m) p.state.units) (sym comes) flies in
       inl (
@@ -111,11 +111,11 @@ module _ (line : Line) (x : Scheduler) (e : Event) (p : Point) (sound : IsSoundP
   now-sound : IsSoundPoint now
   now-sound = sound-moved (Say e) p now tt sound (moves line x e p sound t d comes phase served)
 
-  stage-now : (holds : Kept → Type 0) (is_new : Id → Type 0) (stage : Stage Scheduler) (given : Option Event) → SeesIn holds is_new stage given t → IsGoingStage stage
+  stage-now : (holds : Kept → Type 0) (is_new : Id → Type 0) (stage : Stage Scheduler) (given : Option Event) → StandsAtEventIn holds is_new stage given t → IsGoingStage stage
   stage-now holds is_new stage given seen = serves-now holds is_new stage given t seen
 
-  pub said-less : (holds later : Kept → Type 0) (is_new new_later : Id → Type 0) (old stage : Stage Scheduler) (given : Option Event) → SeesIn holds is_new old (Some e) p.state →
-      SeesIn later new_later stage given t → given ≡ wanted → left_to_come (waits_in stage) given < left_to_come (waits_in old) (Some e)
+  pub said-less : (holds later : Kept → Type 0) (is_new new_later : Id → Type 0) (old stage : Stage Scheduler) (given : Option Event) → StandsAtEventIn holds is_new old (Some e) p.state →
+      StandsAtEventIn later new_later stage given t → given ≡ wanted → left_to_come (waits_in stage) given < left_to_come (waits_in old) (Some e)
   said-less holds later is_new new_later old stage given seen sees told =
       let m = moves line x e p sound t d comes phase served in
       let before : left_to_come (waits_in old) (Some e) ≡ to_come (waiters p.state) (Some e) =
@@ -127,8 +127,8 @@ module _ (line : Line) (x : Scheduler) (e : Event) (p : Point) (sound : IsSoundP
       (subst (λ (o : Option Event). to_come (waiters t) o < to_come (waiters p.state) (Some e)) (sym m.0.next ∙ sym told)
       (to-come-falls e p.state t m.0.read p.flight m.1 (serves line x e p sound t d comes phase served).phase d.after)))
 
-  pub said-turns : (holds later : Kept → Type 0) (is_new new_later : Id → Type 0) (old stage : Stage Scheduler) (given : Option Event) → SeesIn holds is_new old (Some e) p.state →
-      SeesIn later new_later stage given t → given ≡ wanted → goes_in stage ≡ goes_in old
+  pub said-turns : (holds later : Kept → Type 0) (is_new new_later : Id → Type 0) (old stage : Stage Scheduler) (given : Option Event) → StandsAtEventIn holds is_new old (Some e) p.state →
+      StandsAtEventIn later new_later stage given t → given ≡ wanted → goes_in stage ≡ goes_in old
   said-turns holds later is_new new_later old stage given seen sees told =
       goes-now later new_later stage given t sees (stage-now later new_later stage given sees)
       ∙ ap (λ (s : UnitState). s.to_go) d.after.units ∙ to-go-stays e p.state.units (plain line x e p sound t d comes phase served)

@@ -30,14 +30,14 @@ use Rattle.salt_model.specs.declared.events.Cause.{Cause}
 use Rattle.salt_model.specs.declared.events.Event.{Event}
 use Rattle.salt_scheduler.specs.Standing as scheduling
 use Rattle.salt_scheduler.specs.declared.scheduler.Scheduler.{Scheduler}
-use Rattle.salt_storage.specs.Writing.{Written}
+use Rattle.salt_storage.specs.Writing.{ToWrite}
 use Rattle.salt_storage.specs.declared.halt.Halt.TheVariants.{Memory}
 use Rattle.salt_storage.specs.declared.halt.Halt.{Halt}
 use Rattle.salt_units.specs.Acting.{leaves_keys}
 use Rattle.salt_values.specs.declared.id.Id.{Id}
 use Rattle.std.proofs.Common.{subst, sym}
 use Rattle.std.specs.Prelude.{List, None, Option, Some, refl, true, ℕ, ◌≡◌}
-use Rattle.salt_engine.specs.Standing.{SeesIn}
+use Rattle.salt_engine.specs.Standing.{StandsAtEventIn}
 
 pub sound-state : (meant : Option Event) (s : State) → IsPlayedBefore meant s → IsSoundState s
 sound-state meant s p = record { trace = p.trace; keeps = p.keeps; sound = p.sound }
@@ -45,7 +45,7 @@ sound-state meant s p = record { trace = p.trace; keeps = p.keeps; sound = p.sou
 -- A STATEMENT
 
 module _ (holds : Kept → Type 0) (is_new : Id → Type 0) (x : Scheduler) (a : Asking) (s : State) (h : IsToServe holds is_new x (coming.Act a) s) where
-  pub act-stands : scheduling.Stands x s
+  pub act-stands : scheduling.StandsForState x s
   act-stands = h.ready.0
 
   abbrev pub act-unit : OpenUnit
@@ -75,13 +75,13 @@ module _ (holds : Kept → Type 0) (is_new : Id → Type 0) (x : Scheduler) (a :
       (keys-left s.units act-unit a.statement a.unit (comes-next act-event (event_meant s.units (coming.Act a)) s h.played act-meant) act-asked.named)
 
   pub act-done : (now : Kept → Type 0) (new_now : Id → Type 0) (stage : Stage Scheduler) (in_flight : Option InFlight) (y : Scheduler) (e : Event) → in_flight ≡ None →
-      stage ≡ at.Going y → Stored now new_now s.units → scheduling.Gives s (Some act-event) y (Some e) →
-      Performs (SeesIn now new_now stage) in_flight (event_meant s.units (coming.Act a)) (Some e) s
+      stage ≡ at.Going y → Stored now new_now s.units → scheduling.AnswersWith s (Some act-event) y (Some e) →
+      Performs (StandsAtEventIn now new_now stage) in_flight (event_meant s.units (coming.Act a)) (Some e) s
   act-done now new_now stage in_flight y e none there stored g =
       serves-by now new_now stage in_flight (event_meant s.units (coming.Act a)) s y act-event e (none-flies in_flight None s.units none refl) there act-meant g h.serves
       (stored-plain now new_now act-event (event_meant s.units (coming.Act a)) s h.played act-meant refl refl stored)
 
-  module _ (leaves : Kept → Kept → Type 0) (fills : Written → ℕ → Type 0) (stage : Stage Scheduler) (in_flight : Option InFlight) where
+  module _ (leaves : Kept → Kept → Type 0) (fills : ToWrite → ℕ → Type 0) (stage : Stage Scheduler) (in_flight : Option InFlight) where
     pub act-lost : IsLost stage in_flight (event_meant s.units (coming.Act a)) s.units → leaves s.units.kept s.units.kept → BreaksOff leaves fills Memory stage in_flight (event_meant s.units (coming.Act a)) s.units
     act-lost lost left = breaks-before leaves fills stage in_flight (event_meant s.units (coming.Act a)) s.units left lost
 
@@ -94,7 +94,7 @@ module _ (holds : Kept → Type 0) (is_new : Id → Type 0) (x : Scheduler) (a :
 -- A COMMIT
 
 module _ (holds : Kept → Type 0) (is_new : Id → Type 0) (x : Scheduler) (u : Id) (s : State) (h : IsToServe holds is_new x (coming.Commit u) s) where
-  pub commit-stands : scheduling.Stands x s
+  pub commit-stands : scheduling.StandsForState x s
   commit-stands = h.ready.0
 
   pub commit-open : (o : OpenUnit) × (unit_named u s.units.units ≡ Some o)
@@ -125,12 +125,12 @@ module _ (holds : Kept → Type 0) (is_new : Id → Type 0) (x : Scheduler) (u :
   commit-flies = (commit-unit, commit-named, refl)
 
   pub commit-done : (now : Kept → Type 0) (new_now : Id → Type 0) (stage : Stage Scheduler) (y : Scheduler) (e : Event) → stage ≡ at.Going y →
-      Stored now new_now (units_after commit-event s.units) → scheduling.Gives s (Some commit-event) y (Some e) →
-      Performs (SeesIn now new_now stage) (Some (asked.Commit u)) (event_meant s.units (coming.Commit u)) (Some e) s
+      Stored now new_now (units_after commit-event s.units) → scheduling.AnswersWith s (Some commit-event) y (Some e) →
+      Performs (StandsAtEventIn now new_now stage) (Some (asked.Commit u)) (event_meant s.units (coming.Commit u)) (Some e) s
   commit-done now new_now stage y e there stored g =
       serves-by now new_now stage (Some (asked.Commit u)) (event_meant s.units (coming.Commit u)) s y commit-event e commit-flies there commit-meant g h.serves stored
 
-  module _ (leaves : Kept → Kept → Type 0) (fills : Written → ℕ → Type 0) (stage : Stage Scheduler) where
+  module _ (leaves : Kept → Kept → Type 0) (fills : ToWrite → ℕ → Type 0) (stage : Stage Scheduler) where
     -- memory ran out behind the decision
     pub commit-lost : stage ≡ at.Lost → leaves (units_after commit-event s.units).kept (units_after commit-event s.units).kept →
         BreaksOff leaves fills Memory stage (Some (asked.Commit u)) (event_meant s.units (coming.Commit u)) s.units
@@ -148,7 +148,7 @@ module _ (holds : Kept → Type 0) (is_new : Id → Type 0) (x : Scheduler) (u :
 
 module _ (holds : Kept → Type 0) (is_new : Id → Type 0) (x : Scheduler) (u base : Id) (cause : Cause) (s : State)
     (h : IsToServe holds is_new x (coming.Branch u base cause) s) where
-  pub branch-stands : scheduling.Stands x s
+  pub branch-stands : scheduling.StandsForState x s
   branch-stands = h.ready.0
 
   pub branch-unit : IsLaterUnit s.units u base
@@ -176,13 +176,13 @@ module _ (holds : Kept → Type 0) (is_new : Id → Type 0) (x : Scheduler) (u b
   branch-flies = (branch-unit, refl)
 
   pub branch-done : (now : Kept → Type 0) (new_now : Id → Type 0) (stage : Stage Scheduler) (y : Scheduler) (e : Event) → stage ≡ at.Going y →
-      Stored now new_now (units_after (branches_in s.units branch-unit.unit.unit cause) s.units) → scheduling.Gives s (Some branch-event) y (Some e) →
-      Performs (SeesIn now new_now stage) (Some (asked.Branch u base cause)) (event_meant s.units (coming.Branch u base cause)) (Some e) s
+      Stored now new_now (units_after (branches_in s.units branch-unit.unit.unit cause) s.units) → scheduling.AnswersWith s (Some branch-event) y (Some e) →
+      Performs (StandsAtEventIn now new_now stage) (Some (asked.Branch u base cause)) (event_meant s.units (coming.Branch u base cause)) (Some e) s
   branch-done now new_now stage y e there stored g =
       serves-by now new_now stage (Some (asked.Branch u base cause)) (event_meant s.units (coming.Branch u base cause)) s y branch-event e branch-flies there refl g h.serves
       (branch-stored now new_now stored)
 
-  module _ (leaves : Kept → Kept → Type 0) (fills : Written → ℕ → Type 0) (stage : Stage Scheduler) where
+  module _ (leaves : Kept → Kept → Type 0) (fills : ToWrite → ℕ → Type 0) (stage : Stage Scheduler) where
     pub branch-lost : stage ≡ at.Lost → leaves (units_after branch-event s.units).kept (units_after branch-event s.units).kept →
         BreaksOff leaves fills Memory stage (Some (asked.Branch u base cause)) (event_meant s.units (coming.Branch u base cause)) s.units
     branch-lost there left =

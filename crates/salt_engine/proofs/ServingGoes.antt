@@ -2,7 +2,7 @@
 use Rattle.salt_ast.specs.declared.lines.Line.{Line}
 use Rattle.salt_engine.proofs.Going.{onwards, onwards-line, played-before, reads, says-keeps, says-moves, says-sound}
 use Rattle.salt_engine.specs.Performing.{GoesOnServing, Performs}
-use Rattle.salt_engine.specs.Standing.{Sees, SeesIn}
+use Rattle.salt_engine.specs.Standing.{AgreesWithState, StandsAtEventIn}
 use Rattle.salt_engine.specs.Stored.{Stored}
 use Rattle.salt_engine.specs.declared.flights.InFlight.{InFlight}
 use Rattle.salt_engine.specs.declared.stage.Stage.{Stage}
@@ -21,7 +21,7 @@ use Rattle.salt_model.specs.declared.events.Event.TheVariants.{Down, Opened, Rea
 use Rattle.salt_model.specs.declared.events.Event.{Event}
 use Rattle.salt_scheduler.proofs.Following.{goes-on, not-of-run}
 use Rattle.salt_scheduler.specs.Serving.{is_served}
-use Rattle.salt_scheduler.specs.Standing.{HasDone, ServesLine, behind_in}
+use Rattle.salt_scheduler.specs.Standing.{HasDoneEvent, ServesLine, behind_in}
 use Rattle.salt_scheduler.specs.declared.scheduler.Scheduler.{Scheduler}
 use Rattle.salt_driver.specs.Standing.{IsSoundPoint}
 use Rattle.salt_values.specs.declared.id.Id.{Id}
@@ -34,7 +34,7 @@ phase-stays (Opened boot n) s h p = cc
 phase-stays Ready s h p = cc
 phase-stays e s h p = p
 
-module _ (line : Line) (x : Scheduler) (e : Event) (p : Point) (sound : IsSoundPoint p) (t : State) (d : HasDone x e p.state t) (comes : p.next ≡ Some e)
+module _ (line : Line) (x : Scheduler) (e : Event) (p : Point) (sound : IsSoundPoint p) (t : State) (d : HasDoneEvent x e p.state t) (comes : p.next ≡ Some e)
     (phase : p.state.units.phase ≡ Serving) (served : p.state.units.line ≡ line) where
   pub plain : is_of_run e ≡ false
   plain = not-of-run e d.served
@@ -71,8 +71,8 @@ module _ (line : Line) (x : Scheduler) (e : Event) (p : Point) (sound : IsSoundP
 
   -- where it stands behind it
   pub serves-on : (holds : Kept → Type 0) (is_new : Id → Type 0) (old now : Bool) (was single : Bool) (stage : Stage Scheduler) (in_flight : Option InFlight) (given : Option Event) →
-      Performs (SeesIn holds is_new stage) in_flight (meant read) given t → p.state.can_stop ≡ old → now ≡ old → was ≡ is_statement_line p.state.units.line → single ≡ was →
-      Sees (SeesIn holds is_new stage) now single in_flight given t
+      Performs (StandsAtEventIn holds is_new stage) in_flight (meant read) given t → p.state.can_stop ≡ old → now ≡ old → was ≡ is_statement_line p.state.units.line → single ≡ was →
+      AgreesWithState (StandsAtEventIn holds is_new stage) now single in_flight given t
   serves-on holds is_new old now was single stage in_flight given h can same line kept = record {
     seen = h.sees;
     can_stop = d.after.can_stop ∙ can ∙ sym same;

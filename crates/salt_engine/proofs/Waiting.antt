@@ -11,7 +11,7 @@ use Rattle.salt_model.specs.Units.{wait_list}
 use Rattle.salt_model.specs.declared.events.Event.TheVariants.{Did, Ended, Waits}
 use Rattle.salt_model.specs.declared.events.Event.{Event}
 use Rattle.salt_scheduler.proofs.Following.{not-of-run}
-use Rattle.salt_scheduler.specs.Standing.{HasDone, StandsBehind, watched_by}
+use Rattle.salt_scheduler.specs.Standing.{HasDoneEvent, StandsBehindEvent, watched_by}
 use Rattle.salt_scheduler.specs.declared.follow.Follow.TheVariants.{Release}
 use Rattle.salt_scheduler.specs.declared.follow.Follow.{Follow}
 use Rattle.salt_scheduler.specs.declared.scheduler.Scheduler.{Scheduler}
@@ -25,7 +25,7 @@ use Rattle.std.proofs.Common.{ap, sym, ◌∙◌}
 use Rattle.std.specs.Prelude.{List, Some, [], length, map, refl, ◌*◌, ◌+◌, ◌∷◌, ◌≡◌}
 
 -- behind the event at hand it goes where it went before
-pub goes-behind : (x : Scheduler) (e : Event) (s t : State) → HasDone x e s t → x.books.to_go.items ≡ s.units.to_go
+pub goes-behind : (x : Scheduler) (e : Event) (s t : State) → HasDoneEvent x e s t → x.books.to_go.items ≡ s.units.to_go
 goes-behind x e s t d = d.behind.books.to_go ∙ ap (λ (u : UnitState). u.to_go) d.after.units ∙ to-go-stays e s.units (not-of-run e d.served)
 
 -- THE WAITING UNITS of a trace
@@ -51,15 +51,15 @@ watched-waits : (f : Follow) (x : Watching) (w : Watch) → watched_by f x w →
 watched-waits (Release b) x w h = h.waits
 watched-waits f x w h = h.waits
 
-waits-behind : (x : Scheduler) (s : State) → StandsBehind x s → waits_in (Going x) ≡ waiters s
+waits-behind : (x : Scheduler) (s : State) → StandsBehindEvent x s → waits_in (Going x) ≡ waiters s
 waits-behind x s h = sym (ap (map (λ (w : Waiter). w.unit)) (watched-waits x.follow x.watch s.watch h.watch)) ∙ waiters-told s.watch.waits
 
 -- as the event of a trace leaves them
-pub waits-after : (x : Scheduler) (e : Event) (s t : State) (trace : Trace) → Keeps s trace → Keeps t (trace says e) → StandsBehind x t →
+pub waits-after : (x : Scheduler) (e : Event) (s t : State) (trace : Trace) → Keeps s trace → Keeps t (trace says e) → StandsBehindEvent x t →
     waits_in (Going x) ≡ waiters_after e (waiters s)
 waits-after x e s t trace k kept h = waits-behind x t h ∙ waiters-of t (trace says e) kept ∙ waiters-say trace e ∙ ap (waiters_after e) (sym (waiters-of s trace k))
 
 -- what is still to come, as a number
-pub left-now : (x : Scheduler) (e : Event) (s t : State) (trace : Trace) → Keeps s trace → Keeps t (trace says e) → StandsBehind x t →
+pub left-now : (x : Scheduler) (e : Event) (s t : State) (trace : Trace) → Keeps s trace → Keeps t (trace says e) → StandsBehindEvent x t →
     left_to_come (waits_in (Going x)) (Some e) ≡ to_come (waiters s) (Some e)
 left-now x e s t trace k kept h = ap (λ (us : List Id). 6 * length us + stage e) (waits-after x e s t trace k kept h)

@@ -19,7 +19,7 @@ use Rattle.salt_model.specs.declared.events.Event.TheVariants.{Ended}
 use Rattle.salt_model.specs.declared.events.Event.{Event}
 use Rattle.salt_stands.specs.OpenConts.{make_move}
 use Rattle.salt_driver.specs.Writing.{IsWrittenBy}
-use Rattle.salt_storage.specs.Writing.{Written}
+use Rattle.salt_storage.specs.Writing.{ToWrite}
 use Rattle.salt_storage.specs.declared.halt.Halt.TheVariants.{DeviceFull, Memory}
 use Rattle.salt_storage.specs.declared.halt.Halt.{Halt}
 use Rattle.law_types.specs.Played.{HasKey}
@@ -59,7 +59,7 @@ pub record IsBranched (holds : Kept → Type 0) (is_new : Id → Type 0) (m : Mo
 
 -- An event was to come next, and was broken off: a stop leaves what is kept before or behind it; unless memory ran out it is at the
 -- devices; and where a device was full, by what was to be written of it.
-pub record Undone (leaves : Kept → Kept → Type 0) (fills : Written → ℕ → Type 0) (halt : Halt) (s : UnitState) (e : Event) : Type 0 where
+pub record Undone (leaves : Kept → Kept → Type 0) (fills : ToWrite → ℕ → Type 0) (halt : Halt) (s : UnitState) (e : Event) : Type 0 where
   pub left : LeavesEither leaves ⊤ s.kept (units_after e s).kept
   pub reason : (halt ≡ Memory) ⊎ (at_devices_in s e ≡ true)
-  pub full : (dev : ℕ) → halt ≡ DeviceFull dev → (w : Written) × IsWrittenBy s (Some e) w × fills w dev
+  pub full : (dev : ℕ) → halt ≡ DeviceFull dev → (w : ToWrite) × IsWrittenBy s (Some e) w × fills w dev

@@ -30,12 +30,12 @@ use Rattle.salt_model.specs.declared.events.Event.TheVariants.{Armed, Defined, R
 use Rattle.salt_model.specs.declared.events.Event.{Event}
 use Rattle.salt_model.specs.declared.events.Refusal.{Refusal}
 use Rattle.salt_scheduler.specs.Standing as scheduling
-use Rattle.salt_scheduler.specs.Standing.{Does, ServesAllowed, ServesLine, behind_in}
+use Rattle.salt_scheduler.specs.Standing.{DoesNext, ServesAllowed, ServesLine, behind_in}
 use Rattle.salt_scheduler.specs.declared.scheduler.Scheduler.{Scheduler}
 use Rattle.law_decisions.specs.Spelled.{IsSpelledLine}
 use Rattle.salt_driver.specs.Writing.{IsWrittenBy}
 use Rattle.salt_storage.specs.Staying.{StaysWithin}
-use Rattle.salt_storage.specs.Writing.{Written}
+use Rattle.salt_storage.specs.Writing.{ToWrite}
 use Rattle.salt_storage.specs.declared.halt.Halt.TheVariants.{DeviceFull, Memory}
 use Rattle.salt_storage.specs.declared.halt.Halt.{Halt}
 use Rattle.law_types.specs.Played.{HasKey}
@@ -79,14 +79,14 @@ pub record IsToServe (holds : Kept → Type 0) (is_new : Id → Type 0) (x : Sch
 pub record GoesOnServing (holds : Kept → Type 0) (is_new : Id → Type 0) (line : Line) (x : Scheduler) (s : State) : Type 0 where
   pub played : (r : Reading s.watch) → IsPlayedBefore (behind_in s r x.follow) s
   pub serves : ServesLine line s
-  pub stands : scheduling.StandsBehind x s
+  pub stands : scheduling.StandsBehindEvent x s
   pub stored : Stored holds is_new s.units
 
 -- `go all` is to turn to a program
 pub record TurnsTo (line : Line) (base : Id) (x : Scheduler) (s : State) : Type 0 where
   pub turn : next_turn_of s ≡ Some base
   pub serves : ServesLine line (turned_to base s)
-  pub stands : scheduling.Stands x s
+  pub stands : scheduling.StandsForState x s
 
 -- and what that brings comes next
 pub record Turns (holds : Kept → Type 0) (is_new : Id → Type 0) (line : Line) (base : Id) (x : Scheduler) (s : State) : Type 0 where
@@ -115,7 +115,7 @@ is_definition line = false
 pub record AsksLine (holds : Kept → Type 0) (is_new : Id → Type 0) (stoppable : Bool) (line : Line) (x : Scheduler) (s : State) : Type 0 where
   pub played : (r : Reading s.watch) → IsPlayedBefore (line_in s.units (clash_by s) (items_by s r) line) s
   pub allowed : ServesAllowed line s
-  pub stands : scheduling.Stands x s
+  pub stands : scheduling.StandsForState x s
   pub stored : Stored holds is_new s.units
   pub served : IsServed line
   pub can_stop : s.can_stop ≡ stoppable
@@ -125,7 +125,7 @@ pub record IsToAsk (holds : Kept → Type 0) (is_new : Id → Type 0) (stoppable
   pub played : (r : Reading s.watch) → IsPlayedBefore (asked_next s r (Tree line)) (asked_of (Tree line) s)
   pub distinct : AreDistinct s.watch.programs
   pub serves : ServesLine line (asked_of (Tree line) s)
-  pub stands : scheduling.Stands x s
+  pub stands : scheduling.StandsForState x s
   pub stored : Stored holds is_new s.units
   pub served : IsServed line
   pub can_stop : s.can_stop ≡ stoppable
@@ -138,13 +138,13 @@ pub record Performs (seen : Option Event → State → Type 0) (in_flight : Opti
 
 -- The storage halted: what was to come is at the devices, and a full device is told by what was to be written of it; the books are
 -- those of the state, and what is in flight is known.
-pub record IsHalted {H : Type 0} (fills : Written → ℕ → Type 0) (halt : Halt) (stage : Stage H) (in_flight : Option InFlight) (meant : Option Event)
+pub record IsHalted {H : Type 0} (fills : ToWrite → ℕ → Type 0) (halt : Halt) (stage : Stage H) (in_flight : Option InFlight) (meant : Option Event)
     (s : UnitState) : Type 0 where
   pub event : Event
   pub is : meant ≡ Some event
   pub other : halt ≡ Memory → ⊥
   pub devices : at_devices_in s event ≡ true
-  pub full : (dev : ℕ) → halt ≡ DeviceFull dev → (w : Written) × IsWrittenBy s (Some event) w × fills w dev
+  pub full : (dev : ℕ) → halt ≡ DeviceFull dev → (w : ToWrite) × IsWrittenBy s (Some event) w × fills w dev
   pub books : Books
   pub there : stage ≡ Down books
   pub are : AreBooks books s
@@ -156,7 +156,7 @@ pub record IsLost {H : Type 0} (stage : Stage H) (in_flight : Option InFlight) (
   pub flies : (in_flight ≡ None) ⊎ IsInFlight in_flight (decision_in meant) s
 
 -- or memory ran out; either way a stop leaves what is kept, or, where the decision that was to come was asked, that with it
-pub record BreaksOff {H : Type 0} (leaves : Kept → Kept → Type 0) (fills : Written → ℕ → Type 0) (halt : Halt) (stage : Stage H) (in_flight : Option InFlight)
+pub record BreaksOff {H : Type 0} (leaves : Kept → Kept → Type 0) (fills : ToWrite → ℕ → Type 0) (halt : Halt) (stage : Stage H) (in_flight : Option InFlight)
     (meant : Option Event) (s : UnitState) : Type 0 where
   pub left : LeavesEither leaves (IsSome in_flight) s.kept (kept_behind (decision_in meant) s)
   pub how : ((halt ≡ Memory) × IsLost stage in_flight meant s) ⊎ IsHalted fills halt stage in_flight meant s
@@ -166,7 +166,7 @@ abbrev pub WasBroken : {H : Type 0} → Halt → Books → Stage H → Type 0
 WasBroken halt books stage = ((halt ≡ Memory) × (stage ≡ Lost)) ⊎ ((halt ≡ Memory → ⊥) × (stage ≡ Down books))
 
 -- How it comes out: what was meant is given, and done; or it is broken off.
-abbrev pub ComesOut : {H T : Type 0} → (given : T → Option Event) (seen : Option Event → State → Type 0) (leaves : Kept → Kept → Type 0) (fills : Written → ℕ → Type 0) → Stage H →
+abbrev pub ComesOut : {H T : Type 0} → (given : T → Option Event) (seen : Option Event → State → Type 0) (leaves : Kept → Kept → Type 0) (fills : ToWrite → ℕ → Type 0) → Stage H →
     Option InFlight → (meant : Option Event) → State → Result T Halt → Type 0
 ComesOut given seen leaves fills stage in_flight meant s result =
     MatchResult result (λ x. Performs seen in_flight meant (given x) s) (λ halt. BreaksOff leaves fills halt stage in_flight meant s.units)
@@ -180,11 +180,11 @@ pub record Stays {A : Type 0} (before now : A) (was is : Shape) (old new : View)
 pub record IsRefused (line : Line) (refusal : Refusal) (x : Scheduler) (stage : Stage Scheduler) (e : Event) : Type 0 where
   pub scheduler : Scheduler
   pub there : stage ≡ Going scheduler
-  pub refuses : Does (λ s r. Some (Refused refusal)) line x scheduler e
+  pub refuses : DoesNext (λ s r. Some (Refused refusal)) line x scheduler e
 
 -- a line whose text is refused
 pub record IsRejected (refusal : Refusal) (x : Scheduler) (stage : Stage Scheduler) (e : Event) : Type 0 where
   pub scheduler : Scheduler
   pub there : stage ≡ Going scheduler
-  pub refuses : (s : State) (r : Reading s.watch) → scheduling.Stands x s → ServesLine Nothing (asked_of (Rejected refusal) s) →
-      scheduling.Gives (asked_of (Rejected refusal) s) (Some (Refused refusal)) scheduler (Some e)
+  pub refuses : (s : State) (r : Reading s.watch) → scheduling.StandsForState x s → ServesLine Nothing (asked_of (Rejected refusal) s) →
+      scheduling.AnswersWith (asked_of (Rejected refusal) s) (Some (Refused refusal)) scheduler (Some e)

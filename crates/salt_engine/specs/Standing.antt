@@ -28,13 +28,13 @@ use Rattle.std.specs.Prelude.{Bool, IsSome, List, None, Option, Some, [], map, �
 -- THE STAGES. With the event at hand, which the half in memory has done, it stands for the state before that.
 
 -- of a scheduler, lines are served
-abbrev pub SeesIn : (holds : Kept → Type 0) (is_new : Id → Type 0) → Stage Scheduler → Option Event → State → Type 0
-SeesIn holds is_new (Going x) None s = scheduling.Stands x s × Stored holds is_new s.units
-SeesIn holds is_new (Going x) (Some e) s = (t : State) × scheduling.HasDone x e s t × Stored holds is_new t.units × (s.units.phase ≡ phases.Serving)
-SeesIn holds is_new stage next s = ⊥
+abbrev pub StandsAtEventIn : (holds : Kept → Type 0) (is_new : Id → Type 0) → Stage Scheduler → Option Event → State → Type 0
+StandsAtEventIn holds is_new (Going x) None s = scheduling.StandsForState x s × Stored holds is_new s.units
+StandsAtEventIn holds is_new (Going x) (Some e) s = (t : State) × scheduling.HasDoneEvent x e s t × Stored holds is_new t.units × (s.units.phase ≡ phases.Serving)
+StandsAtEventIn holds is_new stage next s = ⊥
 
 -- beside what is seen: whether stops can be armed, whether the last line is one statement, and what is in flight, which is the decision at hand
-pub record Sees (sees : Option Event → State → Type 0) (stoppable single : Bool) (in_flight : Option InFlight) (next : Option Event) (s : State) : Type 0 where
+pub record AgreesWithState (sees : Option Event → State → Type 0) (stoppable single : Bool) (in_flight : Option InFlight) (next : Option Event) (s : State) : Type 0 where
   pub seen : sees next s
   pub can_stop : s.can_stop ≡ stoppable
   pub line : single ≡ is_statement_line s.units.line
@@ -67,7 +67,7 @@ pub record IsReadyOver (numbers : Numbers) (ts : List TableDef) (ps : List Progr
 
 -- lines are served from it on
 abbrev pub ServesFrom : Stage Scheduler → State → Type 0
-ServesFrom stage s = (x : Scheduler) × (stage ≡ Going x) × scheduling.Stands x s
+ServesFrom stage s = (x : Scheduler) × (stage ≡ Going x) × scheduling.StandsForState x s
 
 -- BROKEN OFF.
 
@@ -94,14 +94,14 @@ KnowsUnits books s = (x : Books) × (books ≡ Some x) × KnowUnits x s
 
 -- what a stop leaves of the devices stands for what is kept at this point, or, where a decision is in flight, for that with it; where it is
 -- found which, for that
-abbrev pub Left : (holds : Kept → Type 0) (leaves : Kept → Kept → Type 0) → (doubt : Type 0) → (found : Option Numbers) → ℕ → Point → Type 0
-Left holds leaves doubt None room p = (a b : Kept) × leaves a b × IsLeft doubt room p a × IsLeft doubt room p b
-Left holds leaves doubt (Some numbers) room p = (k : Kept) × holds k × IsLeft doubt room p k × IsNumbered numbers k
+abbrev pub LeavesOnDevices : (holds : Kept → Type 0) (leaves : Kept → Kept → Type 0) → (doubt : Type 0) → (found : Option Numbers) → ℕ → Point → Type 0
+LeavesOnDevices holds leaves doubt None room p = (a b : Kept) × leaves a b × IsLeft doubt room p a × IsLeft doubt room p b
+LeavesOnDevices holds leaves doubt (Some numbers) room p = (k : Kept) × holds k × IsLeft doubt room p k × IsNumbered numbers k
 
 -- it can be opened at this point
-pub record Lies (holds : Kept → Type 0) (leaves : Kept → Kept → Type 0) (stoppable : Bool) (found : Option Numbers) (books : Option Books) (single : Bool)
+pub record CanReopenAt (holds : Kept → Type 0) (leaves : Kept → Kept → Type 0) (stoppable : Bool) (found : Option Numbers) (books : Option Books) (single : Bool)
     (in_flight : Option InFlight) (room : ℕ) (p : Point) : Type 0 where
-  pub left : Left holds leaves (IsSome in_flight) found room p
+  pub left : LeavesOnDevices holds leaves (IsSome in_flight) found room p
   pub knows : KnowsUnits books p.state.units
   pub sound : IsSoundKept p.state.units.kept
   pub can_stop : p.state.can_stop ≡ stoppable

@@ -4,7 +4,7 @@ ghost use Rattle.salt_ast.specs.declared.lines.Line.TheVariants as line_of;
 ghost use Rattle.salt_engine.specs.Flights.{definition_of};
 ghost use Rattle.salt_engine.specs.Performing.{AsksLine, ComesOut, IsRefused, IsRejected, IsToAsk, Stays, is_definition, is_prepared_line};
 ghost use Rattle.salt_engine.specs.Stored.{Stored};
-ghost use Rattle.salt_engine.specs.Standing.{SeesIn};
+ghost use Rattle.salt_engine.specs.Standing.{StandsAtEventIn};
 ghost use Rattle.salt_engine.specs.declared.stage.Stage.TheVariants.{Lost};
 ghost use Rattle.salt_scheduler.specs.Refusals.{HasFewParts};
 ghost use Rattle.law_states.specs.Readings.{Reading, clash_by, items_by};
@@ -18,7 +18,7 @@ ghost use Rattle.salt_model.specs.Words.{Every};
 ghost use Rattle.salt_model.specs.declared.events.Event.TheVariants.{Refused};
 ghost use Rattle.salt_model.specs.declared.events.Refusal.{Refusal};
 ghost use Rattle.salt_driver.specs.Counting.{CountsStops, armed_by};
-ghost use Rattle.salt_scheduler.specs.Standing.{Allows, IsAllowed, Stands};
+ghost use Rattle.salt_scheduler.specs.Standing.{DoesAllowed, IsAllowed, StandsForState};
 ghost use Rattle.salt_storage.specs.Answers.{disk_err};
 ghost use Rattle.salt_storage.specs.Staying.{StaysWithin};
 ghost use Rattle.salt_place.specs.Placement.{GivesPlaceOf, TakesEachKey};
@@ -62,7 +62,7 @@ fn defined(scheduler: &mut Scheduler, line: &Line) -> Result<Event, AllocError>
     requires definition { is_definition line.now ≡ true }
     requires allowed { IsAllowed line.now scheduler.old }
     requires parts { HasFewParts line.now }
-    ensures { IfOk result (λ e. Allows (λ s r. line_in s.units (clash_by s) (items_by s r) line.now) line.now scheduler.old scheduler.new e) }
+    ensures { IfOk result (λ e. DoesAllowed (λ s r. line_in s.units (clash_by s) (items_by s r) line.now) line.now scheduler.old scheduler.new e) }
 {
     match line {
         Line::Table(def) => scheduler.table_defined(line, def),
@@ -78,8 +78,8 @@ fn ask(
     can_stop: bool,
 ) -> Result<Option<Refusal>, AllocError>
     requires { HasFewParts line.now }
-    ensures { IfOk result (λ refusal. (s : State) → Stands scheduler.old s → s.can_stop ≡ can_stop → AreDistinct s.watch.programs
-        → (refusal ≡ refusal_of s (Tree line.now)) × Stands scheduler.new (asked_of (Tree line.now) s)) }
+    ensures { IfOk result (λ refusal. (s : State) → StandsForState scheduler.old s → s.can_stop ≡ can_stop → AreDistinct s.watch.programs
+        → (refusal ≡ refusal_of s (Tree line.now)) × StandsForState scheduler.new (asked_of (Tree line.now) s)) }
 {
     let refusal = scheduler.refusal(line, can_stop)?;
     scheduler.ask(line)?;
@@ -121,7 +121,7 @@ impl<S: Storage> Engine<S> {
         requires none { self.old.in_flight ≡ None }
         requires ready { (s : State) × AsksLine (S.holds (D.view disks.old) self.old.storage) (S.is_new (D.view disks.old) self.old.storage) (D.view disks.old).can_stop line.now scheduler s }
         ensures comes { (s : State) (r : Reading s.watch) → AsksLine (S.holds (D.view disks.old) self.old.storage) (S.is_new (D.view disks.old) self.old.storage) (D.view disks.old).can_stop line.now scheduler s
-            → ComesOut (λ e. e) (SeesIn (S.holds (D.view disks.new) self.new.storage) (S.is_new (D.view disks.new) self.new.storage) self.new.stage) (S.leaves (D.view disks.new) self.new.storage) (S.fills (D.view disks.new) self.new.storage) self.new.stage self.new.in_flight (line_in s.units (clash_by s) (items_by s r) line.now) s result }
+            → ComesOut (λ e. e) (StandsAtEventIn (S.holds (D.view disks.new) self.new.storage) (S.is_new (D.view disks.new) self.new.storage) self.new.stage) (S.leaves (D.view disks.new) self.new.storage) (S.fills (D.view disks.new) self.new.storage) self.new.stage self.new.in_flight (line_in s.units (clash_by s) (items_by s r) line.now) s result }
         ensures stays { Stays self.old.single self.new.single (S.asked self.old.storage) (S.asked self.new.storage) (D.view disks.old) (D.view disks.new) }
         ensures counts { CountsStops (D.view disks.old) (D.view disks.new) (disk_err result) (armed_by result) 0 }
     {
@@ -157,7 +157,7 @@ impl<S: Storage> Engine<S> {
         requires none { self.old.in_flight ≡ None }
         requires ready { (s : State) × AsksLine (S.holds (D.view disks.old) self.old.storage) (S.is_new (D.view disks.old) self.old.storage) (D.view disks.old).can_stop line.now scheduler s }
         ensures comes { (s : State) (r : Reading s.watch) → AsksLine (S.holds (D.view disks.old) self.old.storage) (S.is_new (D.view disks.old) self.old.storage) (D.view disks.old).can_stop line.now scheduler s
-            → ComesOut (λ e. e) (SeesIn (S.holds (D.view disks.new) self.new.storage) (S.is_new (D.view disks.new) self.new.storage) self.new.stage) (S.leaves (D.view disks.new) self.new.storage) (S.fills (D.view disks.new) self.new.storage) self.new.stage self.new.in_flight (line_in s.units (clash_by s) (items_by s r) line.now) s result }
+            → ComesOut (λ e. e) (StandsAtEventIn (S.holds (D.view disks.new) self.new.storage) (S.is_new (D.view disks.new) self.new.storage) self.new.stage) (S.leaves (D.view disks.new) self.new.storage) (S.fills (D.view disks.new) self.new.storage) self.new.stage self.new.in_flight (line_in s.units (clash_by s) (items_by s r) line.now) s result }
         ensures stays { Stays self.old.single self.new.single (S.asked self.old.storage) (S.asked self.new.storage) (D.view disks.old) (D.view disks.new) }
         ensures counts { CountsStops (D.view disks.old) (D.view disks.new) (disk_err result) (armed_by result) 0 }
     {
@@ -192,7 +192,7 @@ impl<S: Storage> Engine<S> {
         requires none { self.old.in_flight ≡ None }
         requires ready { (s : State) × AsksLine (S.holds (D.view disks.old) self.old.storage) (S.is_new (D.view disks.old) self.old.storage) (D.view disks.old).can_stop line.now scheduler s }
         ensures comes { (s : State) (r : Reading s.watch) → AsksLine (S.holds (D.view disks.old) self.old.storage) (S.is_new (D.view disks.old) self.old.storage) (D.view disks.old).can_stop line.now scheduler s
-            → ComesOut (λ e. e) (SeesIn (S.holds (D.view disks.new) self.new.storage) (S.is_new (D.view disks.new) self.new.storage) self.new.stage) (S.leaves (D.view disks.new) self.new.storage) (S.fills (D.view disks.new) self.new.storage) self.new.stage self.new.in_flight (line_in s.units (clash_by s) (items_by s r) line.now) s result }
+            → ComesOut (λ e. e) (StandsAtEventIn (S.holds (D.view disks.new) self.new.storage) (S.is_new (D.view disks.new) self.new.storage) self.new.stage) (S.leaves (D.view disks.new) self.new.storage) (S.fills (D.view disks.new) self.new.storage) self.new.stage self.new.in_flight (line_in s.units (clash_by s) (items_by s r) line.now) s result }
         ensures stays { Stays self.old.single self.new.single (S.asked self.old.storage) (S.asked self.new.storage) (D.view disks.old) (D.view disks.new) }
         ensures counts { CountsStops (D.view disks.old) (D.view disks.new) (disk_err result) (armed_by result) 0 }
     {
@@ -216,7 +216,7 @@ impl<S: Storage> Engine<S> {
         requires none { self.old.in_flight ≡ None }
         requires ready { (s : State) × AsksLine (S.holds (D.view disks.old) self.old.storage) (S.is_new (D.view disks.old) self.old.storage) (D.view disks.old).can_stop line.now scheduler s }
         ensures comes { (s : State) (r : Reading s.watch) → AsksLine (S.holds (D.view disks.old) self.old.storage) (S.is_new (D.view disks.old) self.old.storage) (D.view disks.old).can_stop line.now scheduler s
-            → ComesOut (λ e. e) (SeesIn (S.holds (D.view disks.new) self.new.storage) (S.is_new (D.view disks.new) self.new.storage) self.new.stage) (S.leaves (D.view disks.new) self.new.storage) (S.fills (D.view disks.new) self.new.storage) self.new.stage self.new.in_flight (line_in s.units (clash_by s) (items_by s r) line.now) s result }
+            → ComesOut (λ e. e) (StandsAtEventIn (S.holds (D.view disks.new) self.new.storage) (S.is_new (D.view disks.new) self.new.storage) self.new.stage) (S.leaves (D.view disks.new) self.new.storage) (S.fills (D.view disks.new) self.new.storage) self.new.stage self.new.in_flight (line_in s.units (clash_by s) (items_by s r) line.now) s result }
         ensures stays { Stays self.old.single self.new.single (S.asked self.old.storage) (S.asked self.new.storage) (D.view disks.old) (D.view disks.new) }
         ensures counts { CountsStops (D.view disks.old) (D.view disks.new) (disk_err result) (armed_by result) 0 }
     {
@@ -277,7 +277,7 @@ impl<S: Storage> Engine<S> {
         requires none { self.old.in_flight ≡ None }
         requires ready { (s : State) × IsToAsk (S.holds (D.view disks.old) self.old.storage) (S.is_new (D.view disks.old) self.old.storage) (D.view disks.old).can_stop line.now scheduler s }
         ensures comes { (s : State) (r : Reading s.watch) → IsToAsk (S.holds (D.view disks.old) self.old.storage) (S.is_new (D.view disks.old) self.old.storage) (D.view disks.old).can_stop line.now scheduler s
-            → ComesOut (λ e. e) (SeesIn (S.holds (D.view disks.new) self.new.storage) (S.is_new (D.view disks.new) self.new.storage) self.new.stage) (S.leaves (D.view disks.new) self.new.storage) (S.fills (D.view disks.new) self.new.storage) self.new.stage self.new.in_flight (asked_next s r (Tree line.now)) (asked_of (Tree line.now) s) result }
+            → ComesOut (λ e. e) (StandsAtEventIn (S.holds (D.view disks.new) self.new.storage) (S.is_new (D.view disks.new) self.new.storage) self.new.stage) (S.leaves (D.view disks.new) self.new.storage) (S.fills (D.view disks.new) self.new.storage) self.new.stage self.new.in_flight (asked_next s r (Tree line.now)) (asked_of (Tree line.now) s) result }
         ensures stays { Stays self.old.single self.new.single (S.asked self.old.storage) (S.asked self.new.storage) (D.view disks.old) (D.view disks.new) }
         ensures refused { (refusal : Refusal) → result ≡ Ok (Some (Refused refusal)) → disks.new ≡ disks.old }
         ensures counts { CountsStops (D.view disks.old) (D.view disks.new) (disk_err result) (armed_by result) 0 }

@@ -37,7 +37,7 @@ use Rattle.salt_driver.specs.Opening.{IsUnfound, fallen_often}
 use Rattle.salt_driver.specs.Reopening.{Reopens}
 use Rattle.salt_driver.specs.Standing.{IsIdleAt, IsSoundPoint}
 use Rattle.salt_storage.specs.Answers.{IsLater}
-use Rattle.salt_storage.specs.Writing.{Written}
+use Rattle.salt_storage.specs.Writing.{ToWrite}
 use Rattle.salt_storage.specs.declared.halt.Halt.TheVariants as halt
 use Rattle.salt_storage.specs.declared.open.OpenErr.TheVariants.{Halted, NotSalt, NumbersSpent, OtherShape}
 use Rattle.salt_storage.specs.declared.open.OpenErr.{OpenErr}
@@ -171,7 +171,7 @@ early-run s early flies start trace story script rest before held tells unasked 
   refl,
 )
 
-pub early-ends : (lies : ℕ → Point → Type 0) (left : Option Numbers → ℕ → Point → Type 0) (fills : Written → ℕ → Type 0) (flies : Option Flight) (s : Stop) → IsEarly s → (start : Start) (trace : Trace) (story : List Event)
+pub early-ends : (lies : ℕ → Point → Type 0) (left : Option Numbers → ℕ → Point → Type 0) (fills : ToWrite → ℕ → Type 0) (flies : Option Flight) (s : Stop) → IsEarly s → (start : Start) (trace : Trace) (story : List Event)
     (script rest before held : Option (List ℕ)) → LeavesAt lies left fills flies (status_of s) start trace story → trace_words.lines_of trace ≡ [] → GainsAtEnd s before (text_under trace story) held →
     EndsServing lies left fills flies start (status_of s) script rest before story held
 early-ends lies left fills flies s early start trace story script rest before held x unasked gained =
@@ -263,7 +263,7 @@ module _ (reason : OpenErr) (story : List Event) (unfound : IsUnfound story) (em
 
 -- OVER WHAT WAS FOUND
 
-module _ {E : Type 0} (sees : E → Option Event → State → Type 0) (lies : ℕ → Point → Type 0) (left : Option Numbers → ℕ → Point → Type 0) (fills : Written → ℕ → Type 0) (flies : Option Flight) (new : E)
+module _ {E : Type 0} (sees : E → Option Event → State → Type 0) (lies : ℕ → Point → Type 0) (left : Option Numbers → ℕ → Point → Type 0) (fills : ToWrite → ℕ → Type 0) (flies : Option Flight) (new : E)
     (idle : (p : Point) → IsSoundPoint p → IsIdleAt sees new p → lies 0 p) (flown : (p : Point) → IsSoundPoint p → IsIdleAt sees new p → flies ≡ None)
     (leaves : (room : ℕ) (p : Point) → lies room p → left None room p)
     (forgets : (numbers : Numbers) (room : ℕ) (p : Point) → left (Some numbers) room p → left None room p)

@@ -11,7 +11,7 @@ use Rattle.salt_loop.specs.declared.stop.Stop.{Stop}
 use Rattle.salt_driver.specs.Reopening.{Reopens}
 use Rattle.salt_driver.specs.Serving.{Breaks, Goes, Grows, Serves}
 use Rattle.salt_driver.specs.Standing.{IsIdleAt, IsSoundPoint}
-use Rattle.salt_storage.specs.Writing.{Written}
+use Rattle.salt_storage.specs.Writing.{ToWrite}
 use Rattle.salt_storage.specs.declared.halt.Halt.TheVariants.{Memory}
 use Rattle.salt_storage.specs.declared.halt.Halt.{Halt}
 use Rattle.std.proofs.Common.{ap, append-nil, append_assoc, inl, inr, sym, ◌∙◌}
@@ -29,7 +29,7 @@ pub continues-by : {E : Type 0} (sees : E → Option Event → State → Type 0)
     TextAsks text asked → Goes sees start trace asked story e told → Continues sees start trace text story e told
 continues-by sees start trace text asked story e told asks g = record { after = g.after; asks = (asked, asks, g.asks); serves = g.serves; grows = g.grows }
 
-pub breaks-by : (lies left : Point → Type 0) (fills : Written → ℕ → Type 0) (flies : Option Flight) (halt : Halt) (start : Start) (trace : Trace) (text : Option (List ℕ)) (asked : Asked) (story told : List Event) →
+pub breaks-by : (lies left : Point → Type 0) (fills : ToWrite → ℕ → Type 0) (flies : Option Flight) (halt : Halt) (start : Start) (trace : Trace) (text : Option (List ℕ)) (asked : Asked) (story told : List Event) →
     TextAsks text asked → Breaks lies left fills flies halt start trace asked story told → BreaksIn lies left fills flies halt start trace text story told
 breaks-by lies left fills flies halt start trace text asked story told asks b = record { after = b.after; asks = by b.asks; halts = b.halts; grows = b.grows }
   where
@@ -38,7 +38,7 @@ breaks-by lies left fills flies halt start trace text asked story told asks b = 
     by (inr m) = inr m
 
 -- memory ran out before the line was read
-pub breaks-unread : {E : Type 0} (sees : E → Option Event → State → Type 0) (lies : ℕ → Point → Type 0) (left : Option Numbers → ℕ → Point → Type 0) (fills : Written → ℕ → Type 0) (flies : Option Flight) (e : E) →
+pub breaks-unread : {E : Type 0} (sees : E → Option Event → State → Type 0) (lies : ℕ → Point → Type 0) (left : Option Numbers → ℕ → Point → Type 0) (fills : ToWrite → ℕ → Type 0) (flies : Option Flight) (e : E) →
     ((p : Point) → IsSoundPoint p → IsIdleAt sees e p → lies 0 p) → ((p : Point) → IsSoundPoint p → IsIdleAt sees e p → flies ≡ None) →
     ((room : ℕ) (p : Point) → lies room p → left None room p) → (start : Start) (trace : Trace) (text : Option (List ℕ)) (story : List Event) → Serves sees start e story trace →
     BreaksIn (lies 0) (left None 0) fills flies Memory start trace text story story
@@ -49,7 +49,7 @@ breaks-unread sees lies left fills flies e idle flown leaves start trace text st
   grows = ([], sym (append-nil story));
 }
 
-module _ (old_lies old_left : Point → Type 0) (old_fills : Written → ℕ → Type 0) (old_flies : Option Flight) (halt : Halt) (start : Start) (trace : Trace) (text : Option (List ℕ))
+module _ (old_lies old_left : Point → Type 0) (old_fills : ToWrite → ℕ → Type 0) (old_flies : Option Flight) (halt : Halt) (start : Start) (trace : Trace) (text : Option (List ℕ))
     (story mid told : List Event) (b : BreaksIn old_lies old_left old_fills old_flies halt start trace text story mid) where
   pub continues-behind : {E : Type 0} (sees : E → Option Event → State → Type 0) (e : E) → (halt ≡ Memory → ⊥) → Reopens sees start b.after mid e told → Continues sees start trace text story e told
   continues-behind sees e some r = record { after = r.after; asks = by b.asks; serves = r.serves; grows = grown story mid told b.grows r.grows }
@@ -58,7 +58,7 @@ module _ (old_lies old_left : Point → Type 0) (old_fills : Written → ℕ →
       by (inl more) = asks-still text trace b.after r.after r.lines more
       by (inr m) = absurd (some m.0)
 
-  pub ends-behind : (lies : ℕ → Point → Type 0) (left : Option Numbers → ℕ → Point → Type 0) (fills : Written → ℕ → Type 0) (flies : Option Flight) (s : Stop) → EndsBehind lies left fills flies halt s start b.after mid told →
+  pub ends-behind : (lies : ℕ → Point → Type 0) (left : Option Numbers → ℕ → Point → Type 0) (fills : ToWrite → ℕ → Type 0) (flies : Option Flight) (s : Stop) → EndsBehind lies left fills flies halt s start b.after mid told →
       EndsIn lies left fills flies s start trace text story told
   ends-behind lies left fills flies s x = record { after = x.after; asks = by b.asks; ends = x.ends; grows = grown story mid told b.grows x.grows }
     where

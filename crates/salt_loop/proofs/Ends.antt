@@ -29,7 +29,7 @@ use Rattle.salt_loop.specs.declared.stop.Stop.TheVariants as stop
 use Rattle.salt_loop.specs.declared.stop.Stop.{Stop}
 use Rattle.salt_driver.specs.Serving.{Grows}
 use Rattle.salt_driver.specs.Standing.{IsIdleAt, IsSoundPoint}
-use Rattle.salt_storage.specs.Writing.{Written}
+use Rattle.salt_storage.specs.Writing.{ToWrite}
 use Rattle.std.proofs.Common.{ap, append-nil, append_assoc, inl, inr, subst, sym, ◌∙◌}
 use Rattle.salt_storage.specs.declared.found.Numbers.{Numbers}
 use Rattle.std.specs.Prelude.{Err, List, None, Ok, Option, Result, [], drop, false, length, refl, true, ℕ, ◌++◌, ◌-◌, ◌∷◌, ◌≡◌, ◌⊎◌}
@@ -81,7 +81,7 @@ pub record HasTaken (text : Option (List ℕ)) (before after : Option (List ℕ)
   pub asks : (asked : Asked) → TextAsks text asked → Asks line asked
 
 -- a run that leaves there, with its lines and its text
-pub ends-at : (lies : ℕ → Point → Type 0) (left : Option Numbers → ℕ → Point → Type 0) (fills : Written → ℕ → Type 0) (flies : Option Flight) (status : Status) (start : Start) (trace : Trace) (story : List Event)
+pub ends-at : (lies : ℕ → Point → Type 0) (left : Option Numbers → ℕ → Point → Type 0) (fills : ToWrite → ℕ → Type 0) (flies : Option Flight) (status : Status) (start : Start) (trace : Trace) (story : List Event)
     (texts : List (List ℕ)) (script rest before held : Option (List ℕ)) → LeavesAt lies left fills flies status start trace story → AskInOrder texts (trace_words.lines_of trace) →
     AreLinesOf status script rest texts → IsTold status before trace held → EndsServing lies left fills flies start status script rest before story held
 ends-at lies left fills flies status start trace story texts script rest before held x reads lines told = (
@@ -129,7 +129,7 @@ module _ {E : Type 0} (old_sees : E → Option Event → State → Type 0) (star
           within = taken.takes.within;
         }
 
-    module _ (lies : ℕ → Point → Type 0) (gone : Option Numbers → ℕ → Point → Type 0) (fills : Written → ℕ → Type 0) (flies : Option Flight) (held_after rest : Option (List ℕ)) where
+    module _ (lies : ℕ → Point → Type 0) (gone : Option Numbers → ℕ → Point → Type 0) (fills : ToWrite → ℕ → Type 0) (flies : Option Flight) (held_after rest : Option (List ℕ)) where
       line-ends : (s : Stop) → IsOfLine s → (x : EndsTelling lies gone fills flies s start serving.trace text story told held held_after) → AsksMore text serving.trace x.ends.after →
           EndsServing lies gone fills flies start (status_of s) script rest before told held_after
       line-ends s of_line x asks =
@@ -179,7 +179,7 @@ module _ {E : Type 0} (old_sees : E → Option Event → State → Type 0) (star
               short (stop.NumbersSpent boot decisions) x m same = absurd cc
 
   -- nothing more was told
-  module _ (lies : ℕ → Point → Type 0) (gone : Option Numbers → ℕ → Point → Type 0) (fills : Written → ℕ → Type 0) (flies : Option Flight) (idle : (p : Point) → IsSoundPoint p → IsIdleAt old_sees old p → lies 0 p)
+  module _ (lies : ℕ → Point → Type 0) (gone : Option Numbers → ℕ → Point → Type 0) (fills : ToWrite → ℕ → Type 0) (flies : Option Flight) (idle : (p : Point) → IsSoundPoint p → IsIdleAt old_sees old p → lies 0 p)
       (flown : (p : Point) → IsSoundPoint p → IsIdleAt old_sees old p → flies ≡ None) (leaves : (room : ℕ) (p : Point) → lies room p → gone None room p) (left_end : Option (List ℕ)) where
     pub done-ends : IsAtEnd (rest_of reading left) → EndsServing lies gone fills flies start Done script left_end before story held
     done-ends end =

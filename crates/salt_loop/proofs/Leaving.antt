@@ -30,7 +30,7 @@ use Rattle.salt_driver.specs.Serving.{Halts, Serves}
 use Rattle.salt_driver.specs.Standing.{IsIdleAt, IsSoundPoint}
 use Rattle.salt_driver.specs.Writing.{IsWrittenAt}
 use Rattle.salt_storage.specs.Answers.{IsLater, numbers_of, open_disk_err_of}
-use Rattle.salt_storage.specs.Writing.{OfBoot, Written}
+use Rattle.salt_storage.specs.Writing.{OfBoot, ToWrite}
 use Rattle.salt_storage.specs.declared.halt.Halt.TheVariants as halt
 use Rattle.salt_storage.specs.declared.halt.Halt.{Halt}
 use Rattle.salt_storage.specs.declared.open.OpenErr.TheVariants.{Halted, NotSalt, NumbersSpent, OtherShape}
@@ -120,7 +120,7 @@ untold left forgets (Some numbers) room p h = forgets numbers room p h
 
 -- AN OPENING
 
-module _ (lies : ℕ → Point → Type 0) (left : Option Numbers → ℕ → Point → Type 0) (fills : Written → ℕ → Type 0) (flies : Option Flight) (e : OpenErr) (start : Start) (trace : Trace) (story told : List Event)
+module _ (lies : ℕ → Point → Type 0) (left : Option Numbers → ℕ → Point → Type 0) (fills : ToWrite → ℕ → Type 0) (flies : Option Flight) (e : OpenErr) (start : Start) (trace : Trace) (story told : List Event)
     (b : BreaksOpening lies left fills flies e start trace story told) where
   not-begun : NotBegun lies left fills flies e b.after b.point → LeavesAt lies left fills flies (status_opening e) start b.after told
   not-begun n = record {
@@ -175,8 +175,8 @@ module _ (lies : ℕ → Point → Type 0) (left : Option Numbers → ℕ → Po
       flown (inl m) = subst (λ x. IsFlightAt (status_opening x) b.after flies) (sym (short m.0)) (inl m.1)
       flown (inr f) = flies-later e b.later b.after flies (f ∙ ap flight_told (sym b.keeps.flight))
 
-      by : (dev : ℕ) → (x : Written) × IsWrittenAt b.point x × fills x dev →
-          (x : Written) × (IsWrittenAt b.point x ⊎ ((b.point.state.units.phase ≡ Fallen) × (x ≡ OfBoot))) × fills x dev
+      by : (dev : ℕ) → (x : ToWrite) × IsWrittenAt b.point x × fills x dev →
+          (x : ToWrite) × (IsWrittenAt b.point x ⊎ ((b.point.state.units.phase ≡ Fallen) × (x ≡ OfBoot))) × fills x dev
       by dev x = (x.0, inl x.1, x.2)
 
   pub leaves-opening : LeavesAt lies left fills flies (status_opening e) start b.after told
@@ -206,7 +206,7 @@ device-next p trace e k sound comes devices =
     let good = good-event trace e (replays trace sound.played) (may-stand trace e (is-of-units p.state.units e devices) here) in
     ap (is_device_next trace) here ∙ devices-told p.state.units trace e k.state.units sound.played good ∙ devices
 
-module _ (lies : ℕ → Point → Type 0) (left : Option Numbers → ℕ → Point → Type 0) (fills : Written → ℕ → Type 0) (flies : Option Flight) (start : Start) (trace : Trace) (story : List Event) where
+module _ (lies : ℕ → Point → Type 0) (left : Option Numbers → ℕ → Point → Type 0) (fills : ToWrite → ℕ → Type 0) (flies : Option Flight) (start : Start) (trace : Trace) (story : List Event) where
   pub halts-full : (dev : ℕ) → Halts (lies 0) (left None 0) fills flies (halt.DeviceFull dev) start story trace → EndsBehind lies left fills flies (halt.DeviceFull dev) (stop.DeviceFull dev) start trace story story
   halts-full dev h = record {
     after = trace;
@@ -248,8 +248,8 @@ module _ (lies : ℕ → Point → Type 0) (left : Option Numbers → ℕ → Po
       flown (inl m) = absurd (never m.0)
       flown (inr f) = f ∙ ap flight_told (sym h.keeps.flight)
 
-      by : (d : ℕ) → (x : Written) × IsWrittenAt h.point x × fills x d →
-          (x : Written) × (IsWrittenAt h.point x ⊎ ((h.point.state.units.phase ≡ Fallen) × (x ≡ OfBoot))) × fills x d
+      by : (d : ℕ) → (x : ToWrite) × IsWrittenAt h.point x × fills x d →
+          (x : ToWrite) × (IsWrittenAt h.point x ⊎ ((h.point.state.units.phase ≡ Fallen) × (x ≡ OfBoot))) × fills x d
       by d x = (x.0, inl x.1, x.2)
 
   pub halts-short : Halts (lies 0) (left None 0) fills flies halt.Memory start story trace → EndsBehind lies left fills flies halt.Memory stop.Memory start trace story story
@@ -299,7 +299,7 @@ complete-flight (trace says Down why) c = absurd (fell c.0)
 complete-flight (trace says Opened boot n) c = decision-none (next (trace says Opened boot n)) c.1
 complete-flight (trace says e) c = decision-none (next (trace says e)) c.1
 
-module _ {E : Type 0} (sees : E → Option Event → State → Type 0) (lies : ℕ → Point → Type 0) (left : Option Numbers → ℕ → Point → Type 0) (fills : Written → ℕ → Type 0) (flies : Option Flight) (e : E)
+module _ {E : Type 0} (sees : E → Option Event → State → Type 0) (lies : ℕ → Point → Type 0) (left : Option Numbers → ℕ → Point → Type 0) (fills : ToWrite → ℕ → Type 0) (flies : Option Flight) (e : E)
     (idle : (p : Point) → IsSoundPoint p → IsIdleAt sees e p → lies 0 p) (flown : (p : Point) → IsSoundPoint p → IsIdleAt sees e p → flies ≡ None)
     (leaves : (room : ℕ) (p : Point) → lies room p → left None room p) (start : Start) (trace : Trace) (story : List Event) (s : Serves sees start e story trace) where
   ends-idle : (status : Status) → ((room : ℕ) (p : Point) → MayEndAt room p status) → ((dev : ℕ) → status ≡ DeviceFull dev → ⊥) → numbers_told status ≡ None → EndsFound lies left fills status trace
@@ -362,7 +362,7 @@ module _ {E : Type 0} (sees : E → Option Event → State → Type 0) (lies : �
 
 -- THE SINK FAILED
 
-module _ (lies : ℕ → Point → Type 0) (left : Option Numbers → ℕ → Point → Type 0) (fills : Written → ℕ → Type 0) (flies : Option Flight) (forgets : (numbers : Numbers) (room : ℕ) (p : Point) → left (Some numbers) room p → left None room p) (start : Start) (trace : Trace) (story : List Event) where
+module _ (lies : ℕ → Point → Type 0) (left : Option Numbers → ℕ → Point → Type 0) (fills : ToWrite → ℕ → Type 0) (flies : Option Flight) (forgets : (numbers : Numbers) (room : ℕ) (p : Point) → left (Some numbers) room p → left None room p) (start : Start) (trace : Trace) (story : List Event) where
   ends-unwritten : (status : Status) → (status ≡ Memory → ⊥) → EndsFound lies left fills status trace → EndsFound lies left fills WriteFault trace
   ends-unwritten status some x = record {
     room = x.room;
@@ -401,7 +401,7 @@ answers-opening (Halted halt.Memory) some = refl
 
 -- either way a stop leaves of the devices what is kept there
 
-pub left-there : {E T : Type 0} (sees : E → Option Event → State → Type 0) (lies : ℕ → Point → Type 0) (left : Option Numbers → ℕ → Point → Type 0) (fills : Written → ℕ → Type 0) (flies : Option Flight) (e : E)
+pub left-there : {E T : Type 0} (sees : E → Option Event → State → Type 0) (lies : ℕ → Point → Type 0) (left : Option Numbers → ℕ → Point → Type 0) (fills : ToWrite → ℕ → Type 0) (flies : Option Flight) (e : E)
     (idle : (p : Point) → IsSoundPoint p → IsIdleAt sees e p → lies 0 p) (flown : (p : Point) → IsSoundPoint p → IsIdleAt sees e p → flies ≡ None)
     (leaves : (room : ℕ) (p : Point) → lies room p → left None room p) (forgets : (numbers : Numbers) (room : ℕ) (p : Point) → left (Some numbers) room p → left None room p) (start : Start) (told : List Event) (done : Result T Stop) → OnOk done ((trace : Trace) × Serves sees start e told trace) →
     IfErr done (λ s. (trace : Trace) × LeavesAt lies left fills flies (status_of s) start trace told) → (room : ℕ) × ((p : Point) × left None room p)

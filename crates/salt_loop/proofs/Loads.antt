@@ -26,7 +26,7 @@ use Rattle.salt_driver.specs.Reopening.{Reopens}
 use Rattle.salt_driver.specs.Serving.{Breaks, Goes}
 use Rattle.salt_driver.specs.Standing.{IsIdleAt, IsSoundPoint}
 use Rattle.salt_storage.specs.Answers.{IsLater}
-use Rattle.salt_storage.specs.Writing.{Written}
+use Rattle.salt_storage.specs.Writing.{ToWrite}
 use Rattle.salt_storage.specs.declared.halt.Halt.TheVariants.{Memory}
 use Rattle.salt_storage.specs.declared.halt.Halt.{Halt}
 use Rattle.salt_storage.specs.declared.open.OpenErr.{OpenErr}
@@ -144,7 +144,7 @@ early-load-lines stop.ReadFault of n lines none = absurd of
 early-load-lines stop.WriteFault of n lines none = absurd of
 early-load-lines stop.ScriptTooLong of n lines none = absurd of
 
-loads-at : (lies : ℕ → Point → Type 0) (left : Option Numbers → ℕ → Point → Type 0) (fills : Written → ℕ → Type 0) (flies : Option Flight) (ends : Status) (start : Start) (trace : Trace) (story : List Event) (n done : ℕ) →
+loads-at : (lies : ℕ → Point → Type 0) (left : Option Numbers → ℕ → Point → Type 0) (fills : ToWrite → ℕ → Type 0) (flies : Option Flight) (ends : Status) (start : Start) (trace : Trace) (story : List Event) (n done : ℕ) →
     LeavesAt lies left fills flies ends start trace story → AreLoadLines ends n (lines_of trace) → ((ends ≡ status.Memory → ⊥) → length (lines_of trace) ≡ done) →
     EndsLoading lies left fills flies start ends n done story
 loads-at lies left fills flies ends start trace story n done x lines count =
@@ -159,7 +159,7 @@ length-asked (x ∷ xs) zero h = refl
 length-asked (x ∷ xs) (suc i) h = let e = length-asked xs i (omega (arith, h)) in omega arith
 
 module _ {E : Type 0} (old_sees : E → Option Event → State → Type 0) (start : Start) (n i : ℕ) (old : E) (story : List Event) (loading : IsLoading old_sees start n i old story) where
-  module _ (lies : ℕ → Point → Type 0) (left : Option Numbers → ℕ → Point → Type 0) (fills : Written → ℕ → Type 0) (flies : Option Flight) (idle : (p : Point) → IsSoundPoint p → IsIdleAt old_sees old p → lies 0 p)
+  module _ (lies : ℕ → Point → Type 0) (left : Option Numbers → ℕ → Point → Type 0) (fills : ToWrite → ℕ → Type 0) (flies : Option Flight) (idle : (p : Point) → IsSoundPoint p → IsIdleAt old_sees old p → lies 0 p)
       (flown : (p : Point) → IsSoundPoint p → IsIdleAt old_sees old p → flies ≡ None) (leaves : (room : ℕ) (p : Point) → lies room p → left None room p) where
     -- memory ran out between lines
     pub short-loading : (done : ℕ) → EndsLoading lies left fills flies start status.Memory n done story
@@ -183,7 +183,7 @@ module _ {E : Type 0} (old_sees : E → Option Event → State → Type 0) (star
     pub line-loaded : {F : Type 0} (sees : F → Option Event → State → Type 0) (new : F) (told : List Event) → Goes sees start loading.trace (Tree line) story new told → IsLoading sees start n (i + 1) new told
     line-loaded sees new told g = record { trace = g.after; serves = g.serves; lines = asked-here g.after g.asks }
 
-    module _ (old_lies old_left : Point → Type 0) (old_fills : Written → ℕ → Type 0) (old_flies : Option Flight) (halt : Halt) (mid told : List Event)
+    module _ (old_lies old_left : Point → Type 0) (old_fills : ToWrite → ℕ → Type 0) (old_flies : Option Flight) (halt : Halt) (mid told : List Event)
         (b : Breaks old_lies old_left old_fills old_flies halt start loading.trace (Tree line) story mid) where
       pub loaded-behind : {F : Type 0} (sees : F → Option Event → State → Type 0) (new : F) → (halt ≡ Memory → ⊥) → Reopens sees start b.after mid new told → IsLoading sees start n (i + 1) new told
       loaded-behind sees new some r = record { trace = r.after; serves = r.serves; lines = r.lines ∙ by b.asks }
@@ -192,7 +192,7 @@ module _ {E : Type 0} (old_sees : E → Option Event → State → Type 0) (star
           by (inl more) = asked-here b.after more
           by (inr m) = absurd (some m.0)
 
-      pub ends-loading : (lies : ℕ → Point → Type 0) (left : Option Numbers → ℕ → Point → Type 0) (fills : Written → ℕ → Type 0) (flies : Option Flight) (s : Stop) → IsLaterStop s → EndsBehind lies left fills flies halt s start b.after mid told →
+      pub ends-loading : (lies : ℕ → Point → Type 0) (left : Option Numbers → ℕ → Point → Type 0) (fills : ToWrite → ℕ → Type 0) (flies : Option Flight) (s : Stop) → IsLaterStop s → EndsBehind lies left fills flies halt s start b.after mid told →
           EndsLoading lies left fills flies start (status_of s) n (i + 1) told
       ends-loading lies left fills flies s later x =
           loads-at lies left fills flies (status_of s) start x.after told n (i + 1) x.ends (lines-behind s later n (lines_of x.after) (subst (λ ls. IsFrontOf ls (asked_by_load n)) (sym x.lines) (by b.asks)))
@@ -217,7 +217,7 @@ pub loading-begun : {E : Type 0} (sees : E → Option Event → State → Type 0
 loading-begun sees n start trace e story told unasked b =
     record { trace = b.after; serves = b.serves; lines = b.lines ∙ unasked ∙ sym (ap (map Tree) (take-none (load_lines n))) }
 
-pub not-begun : (lies : ℕ → Point → Type 0) (left : Option Numbers → ℕ → Point → Type 0) (fills : Written → ℕ → Type 0) (flies : Option Flight) (n : ℕ) (start : Start) (trace : Trace) (told : List Event) (e : Stop) → IsLaterStop e →
+pub not-begun : (lies : ℕ → Point → Type 0) (left : Option Numbers → ℕ → Point → Type 0) (fills : ToWrite → ℕ → Type 0) (flies : Option Flight) (n : ℕ) (start : Start) (trace : Trace) (told : List Event) (e : Stop) → IsLaterStop e →
     lines_of trace ≡ [] → EndsOpening lies left fills flies e start trace told → EndsLoading lies left fills flies start (status_of e) n 0 told
 not-begun lies left fills flies n start trace told e later unasked x =
     let none = x.lines ∙ unasked in

@@ -21,7 +21,7 @@ use Rattle.salt_loop.specs.declared.stop.Stop.{Stop}
 use Rattle.salt_driver.proofs.Segments.{serves-at, sound-at}
 use Rattle.salt_driver.specs.Serving.{Serves}
 use Rattle.salt_driver.specs.Standing.{IsSoundPoint}
-use Rattle.salt_storage.specs.Writing.{Written}
+use Rattle.salt_storage.specs.Writing.{ToWrite}
 use Rattle.std.proofs.Common.{ap, inl, inr, subst, sym, ◌∙◌}
 use Rattle.salt_storage.specs.declared.found.Numbers.{Numbers}
 use Rattle.std.specs.Prelude.{Err, List, None, Ok, Option, Result, Some, drop, false, length, refl, true, ℕ, ◌≡◌, ◌⊎◌}
@@ -144,7 +144,7 @@ counts-written done (Err s) before held text P weak p w = by w.0
     by (inl is) = subst (λ d. P (outcome d)) is p
     by (inr w) = subst (λ x. P (status_of x)) (sym w.0) (short done w.1 p)
 
-module _ {E : Type 0} (sees : E → Option Event → State → Type 0) (lies : ℕ → Point → Type 0) (left : Option Numbers → ℕ → Point → Type 0) (fills : Written → ℕ → Type 0) (flies : Option Flight) (new : E)
+module _ {E : Type 0} (sees : E → Option Event → State → Type 0) (lies : ℕ → Point → Type 0) (left : Option Numbers → ℕ → Point → Type 0) (fills : ToWrite → ℕ → Type 0) (flies : Option Flight) (new : E)
     (schema : List TableDef) (serving : (p : Point) → IsSoundPoint p → sees new None p.state → schema ≡ schema_of p.state.units.kept)
     (lying : (room : ℕ) (p : Point) → IsSoundPoint p → lies room p → schema ≡ schema_of p.state.units.kept) where
   -- the tables that the database knows are those defined at the end of its trace

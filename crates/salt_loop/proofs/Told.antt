@@ -16,13 +16,13 @@ use Rattle.salt_loop.specs.declared.stop.Stop.TheVariants.{Memory, WriteFault}
 use Rattle.salt_loop.specs.declared.stop.Stop.{Stop}
 use Rattle.salt_driver.specs.Serving.{Serves}
 use Rattle.salt_driver.specs.Standing.{IsIdleAt, IsSoundPoint}
-use Rattle.salt_storage.specs.Writing.{Written}
+use Rattle.salt_storage.specs.Writing.{ToWrite}
 use Rattle.std.proofs.Common.{ap, inl, inr, subst, sym}
 use Rattle.salt_storage.specs.declared.found.Numbers.{Numbers}
 use Rattle.std.specs.Prelude.{Err, List, None, Ok, Option, Result, Some, drop, length, ℕ, ◌≡◌, ◌⊎◌}
 use Rattle.std.specs.Result.{IfErr, OnOk}
 
-module _ {E : Type 0} (old_sees sees : E → Option Event → State → Type 0) (lies : ℕ → Point → Type 0) (left : Option Numbers → ℕ → Point → Type 0) (fills : Written → ℕ → Type 0) (flies : Option Flight) (old new : E)
+module _ {E : Type 0} (old_sees sees : E → Option Event → State → Type 0) (lies : ℕ → Point → Type 0) (left : Option Numbers → ℕ → Point → Type 0) (fills : ToWrite → ℕ → Type 0) (flies : Option Flight) (old new : E)
     (idle : (p : Point) → IsSoundPoint p → IsIdleAt sees new p → lies 0 p) (flown : (p : Point) → IsSoundPoint p → IsIdleAt sees new p → flies ≡ None)
     (leaves : (room : ℕ) (p : Point) → lies room p → left None room p)
     (forgets : (numbers : Numbers) (room : ℕ) (p : Point) → left (Some numbers) room p → left None room p)

@@ -14,7 +14,7 @@ use Rattle.salt_loop.specs.declared.stop.Stop.{Stop}
 use Rattle.salt_driver.specs.Opening.{AreSpentAt}
 use Rattle.salt_driver.specs.Serving.{IsFitting}
 use Rattle.salt_driver.specs.Writing.{IsWrittenAt}
-use Rattle.salt_storage.specs.Writing.{OfBoot, Written}
+use Rattle.salt_storage.specs.Writing.{OfBoot, ToWrite}
 use Rattle.salt_storage.specs.declared.halt.Halt.TheVariants as halt
 use Rattle.salt_storage.specs.declared.open.OpenErr.TheVariants.{Halted}
 use Rattle.salt_storage.specs.declared.open.OpenErr.{OpenErr}
@@ -22,7 +22,7 @@ use Rattle.salt_storage.specs.declared.found.Numbers.{Numbers}
 use Rattle.std.specs.Prelude.{List, Option, if◌then◌else◌, ℕ, ◌+◌, ◌≡◌, ◌≤◌, ◌⊎◌, ⊤}
 
 -- what may be written at a point: the decision that comes next, or, of a run that is down, the next boot
-abbrev pub MayBeWritten : Point → Written → Type 0
+abbrev pub MayBeWritten : Point → ToWrite → Type 0
 MayBeWritten p w = IsWrittenAt p w ⊎ ((p.state.units.phase ≡ Fallen) × (w ≡ OfBoot))
 
 -- how a run may end over what was found: by no refusal of that; and by spent numbers only where it is down, and they are spent
@@ -36,7 +36,7 @@ MayEndAt room p status = ⊤
 -- A run ends behind its trace: whatever a stop leaves of its devices stands for what is kept there, or for that with the flight, with
 -- no more boots than openings that failed, and with the numbers that the status tells; and unless memory ran out it can be opened there.
 -- Where a device was full, what was to be written there would not fit.
-pub record EndsFound (lies : ℕ → Point → Type 0) (left : Option Numbers → ℕ → Point → Type 0) (fills : Written → ℕ → Type 0) (status : Status) (trace : Trace) : Type 0 where
+pub record EndsFound (lies : ℕ → Point → Type 0) (left : Option Numbers → ℕ → Point → Type 0) (fills : ToWrite → ℕ → Type 0) (status : Status) (trace : Trace) : Type 0 where
   pub room : ℕ
   pub point : Point
   pub keeps : KeepsPoint point trace
@@ -44,15 +44,15 @@ pub record EndsFound (lies : ℕ → Point → Type 0) (left : Option Numbers �
   pub may : MayEndAt room point status
   pub again : (status ≡ Memory → ⊥) → lies room point
   pub stands : left (numbers_told status) room point
-  pub full : (dev : ℕ) → status ≡ DeviceFull dev → (w : Written) × MayBeWritten point w × fills w dev
+  pub full : (dev : ℕ) → status ≡ DeviceFull dev → (w : ToWrite) × MayBeWritten point w × fills w dev
 
 -- so ends the run of a script from this start
-abbrev pub EndsServing : (lies : ℕ → Point → Type 0) (left : Option Numbers → ℕ → Point → Type 0) → (Written → ℕ → Type 0) → Option Flight → Start → Status → (script rest before : Option (List ℕ)) → List Event → Option (List ℕ) → Type 0
+abbrev pub EndsServing : (lies : ℕ → Point → Type 0) (left : Option Numbers → ℕ → Point → Type 0) → (ToWrite → ℕ → Type 0) → Option Flight → Start → Status → (script rest before : Option (List ℕ)) → List Event → Option (List ℕ) → Type 0
 EndsServing lies left fills flight start status script rest before story held =
     (run : IsRun start status flight script rest before story held) × EndsFound lies left fills status run.played.trace
 
 -- the trace of a run that ends so, and where it ends
-pub record LeavesAt (lies : ℕ → Point → Type 0) (left : Option Numbers → ℕ → Point → Type 0) (fills : Written → ℕ → Type 0) (flight : Option Flight) (status : Status) (start : Start)
+pub record LeavesAt (lies : ℕ → Point → Type 0) (left : Option Numbers → ℕ → Point → Type 0) (fills : ToWrite → ℕ → Type 0) (flight : Option Flight) (status : Status) (start : Start)
     (trace : Trace) (story : List Event) : Type 0 where
   pub tells : Tells start trace story
   pub fits : IsFitting start trace
@@ -61,7 +61,7 @@ pub record LeavesAt (lies : ℕ → Point → Type 0) (left : Option Numbers →
   pub ends : EndsFound lies left fills status trace
 
 -- an opening of a run that was down ends early, and with it the run
-pub record EndsOpening (lies : ℕ → Point → Type 0) (left : Option Numbers → ℕ → Point → Type 0) (fills : Written → ℕ → Type 0) (flight : Option Flight) (stop : Stop) (start : Start) (trace : Trace)
+pub record EndsOpening (lies : ℕ → Point → Type 0) (left : Option Numbers → ℕ → Point → Type 0) (fills : ToWrite → ℕ → Type 0) (flight : Option Flight) (stop : Stop) (start : Start) (trace : Trace)
     (told : List Event) : Type 0 where
   pub after : Trace
   pub lines : lines_of after ≡ lines_of trace

@@ -15,7 +15,7 @@ use Rattle.salt_loop.specs.Ending.{EndsFound}
 use Rattle.salt_loop.specs.Run.{IsFlightAt, leave_of}
 use Rattle.salt_stands.specs.Unspent.{OpensUnspent}
 use Rattle.salt_driver.specs.Serving.{Serves}
-use Rattle.salt_storage.specs.Writing.{Written}
+use Rattle.salt_storage.specs.Writing.{ToWrite}
 use Rattle.salt_storage.specs.declared.found.Numbers.{Numbers}
 use Rattle.std.specs.Prelude.{List, Option, length, map, take, ℕ, [], ◌≡◌}
 
@@ -50,7 +50,7 @@ pub record IsPlayedLoad (start : Start) (status : Status) (told : Option Flight)
   pub unspent : Each OpensUnspent trace
 
 -- so ends the run of a workload from this start
-abbrev pub EndsLoading : (lies : ℕ → Point → Type 0) (left : Option Numbers → ℕ → Point → Type 0) → (Written → ℕ → Type 0) → Option Flight → Start → Status → (calls done : ℕ) → List Event → Type 0
+abbrev pub EndsLoading : (lies : ℕ → Point → Type 0) (left : Option Numbers → ℕ → Point → Type 0) → (ToWrite → ℕ → Type 0) → Option Flight → Start → Status → (calls done : ℕ) → List Event → Type 0
 EndsLoading lies left fills flight start status calls done story =
     (run : IsPlayedLoad start status flight calls done story) × EndsFound lies left fills status run.trace
 

@@ -22,7 +22,7 @@ use Rattle.salt_loop.specs.declared.stop.Stop.TheVariants.{Memory, WriteFault}
 use Rattle.salt_loop.specs.declared.stop.Stop.{Stop}
 use Rattle.law_decisions.specs.Spelled.{IsSpelledLine}
 use Rattle.salt_driver.specs.Serving.{Grows, Halts, IsDown, Serves}
-use Rattle.salt_storage.specs.Writing.{Written}
+use Rattle.salt_storage.specs.Writing.{ToWrite}
 use Rattle.salt_storage.specs.declared.halt.Halt.TheVariants as halting
 use Rattle.salt_storage.specs.declared.halt.Halt.{Halt}
 use Rattle.salt_values.specs.declared.limits.TheConstants.{PICK_MOST, SCRIPT_MOST}
@@ -86,7 +86,7 @@ pub record Continues {E : Type 0} (sees : E → Option Event → State → Type 
   pub grows : Grows story told
 
 -- It is broken off in a line, or, for want of memory, before that was asked.
-pub record BreaksIn (lies left : Point → Type 0) (fills : Written → ℕ → Type 0) (flight : Option Flight) (halt : Halt) (start : Start) (trace : Trace)
+pub record BreaksIn (lies left : Point → Type 0) (fills : ToWrite → ℕ → Type 0) (flight : Option Flight) (halt : Halt) (start : Start) (trace : Trace)
     (text : Option (List ℕ)) (story told : List Event) : Type 0 where
   pub after : Trace
   pub asks : AsksMore text trace after ⊎ ((halt ≡ halting.Memory) × (after ≡ trace))
@@ -94,7 +94,7 @@ pub record BreaksIn (lies left : Point → Type 0) (fills : Written → ℕ → 
   pub grows : Grows story told
 
 -- a run that was broken off so ends, within the opening behind that or before it; for want of memory it goes no further
-pub record EndsBehind (lies : ℕ → Point → Type 0) (left : Option Numbers → ℕ → Point → Type 0) (fills : Written → ℕ → Type 0) (flight : Option Flight) (halt : Halt) (stop : Stop) (start : Start)
+pub record EndsBehind (lies : ℕ → Point → Type 0) (left : Option Numbers → ℕ → Point → Type 0) (fills : ToWrite → ℕ → Type 0) (flight : Option Flight) (halt : Halt) (stop : Stop) (start : Start)
     (trace : Trace) (story told : List Event) : Type 0 where
   pub after : Trace
   pub lines : trace_words.lines_of after ≡ trace_words.lines_of trace
@@ -103,7 +103,7 @@ pub record EndsBehind (lies : ℕ → Point → Type 0) (left : Option Numbers �
   pub grows : Grows story told
 
 -- so a run ends in a line, or, for want of memory, before that was asked
-pub record EndsIn (lies : ℕ → Point → Type 0) (left : Option Numbers → ℕ → Point → Type 0) (fills : Written → ℕ → Type 0) (flight : Option Flight) (stop : Stop) (start : Start) (trace : Trace)
+pub record EndsIn (lies : ℕ → Point → Type 0) (left : Option Numbers → ℕ → Point → Type 0) (fills : ToWrite → ℕ → Type 0) (flight : Option Flight) (stop : Stop) (start : Start) (trace : Trace)
     (text : Option (List ℕ)) (story told : List Event) : Type 0 where
   pub after : Trace
   pub asks : AsksMore text trace after ⊎ ((stop ≡ Memory) × (after ≡ trace))
@@ -133,7 +133,7 @@ pub record IsToldLine {E : Type 0} (sees : E → Option Event → State → Type
   pub written : Gains before (added_text goes.after story told) held
 
 -- or a run ends in it
-pub record EndsTelling (lies : ℕ → Point → Type 0) (left : Option Numbers → ℕ → Point → Type 0) (fills : Written → ℕ → Type 0) (flight : Option Flight) (stop : Stop) (start : Start) (trace : Trace)
+pub record EndsTelling (lies : ℕ → Point → Type 0) (left : Option Numbers → ℕ → Point → Type 0) (fills : ToWrite → ℕ → Type 0) (flight : Option Flight) (stop : Stop) (start : Start) (trace : Trace)
     (text : Option (List ℕ)) (story told : List Event) (before held : Option (List ℕ)) : Type 0 where
   pub ends : EndsIn lies left fills flight stop start trace text story told
   pub written : GainsAtEnd stop before (added_text ends.after story told) held
@@ -151,7 +151,7 @@ pub record IsBegun {E : Type 0} (sees : E → Option Event → State → Type 0)
   pub written : Gains before (text_under trace story) held
 
 -- after a line: the run goes on, or the script was at its end
-abbrev pub IsAfterLine : {E : Type 0} → Bool → (E → Option Event → State → Type 0) → (lies : ℕ → Point → Type 0) (left : Option Numbers → ℕ → Point → Type 0) → (Written → ℕ → Type 0) → Option Flight →
+abbrev pub IsAfterLine : {E : Type 0} → Bool → (E → Option Event → State → Type 0) → (lies : ℕ → Point → Type 0) (left : Option Numbers → ℕ → Point → Type 0) → (ToWrite → ℕ → Type 0) → Option Flight →
     Start → (script before : Option (List ℕ)) → E → Reading → Option (List ℕ) → List Event → Option (List ℕ) → Type 0
 IsAfterLine true sees lies left fills flight start script before e reading rest story held = IsServing sees start script before e reading rest story held
 IsAfterLine false sees lies left fills flight start script before e reading rest story held =

@@ -1,7 +1,7 @@
 -- The conditions can be met: a unit of one row and one removal is prepared in a partition that was made.
 use Rattle.salt_disk.specs.Disks.{View}
 use Rattle.salt_partition.proofs.Framed.{may_apply}
-use Rattle.salt_partition.specs.Partitions.{IsPartition, MayPrepare, Stands, StandsFor, StandsWith, prepared}
+use Rattle.salt_partition.specs.Partitions.{IsPartition, MayPrepare, StandsOnDevices, StandsFor, StandsWith, prepared}
 use Rattle.salt_partition.specs.declared.partition.Partition.{Partition}
 use Rattle.salt_stands.specs.FirstOpening.{first_view}
 use Rattle.salt_stands.specs.Pieces.{with_prepared_unit}
@@ -19,7 +19,7 @@ changes = record { table = 0; key = Int (pos 1); row = Some (Int (pos 1) ∷ Nul
 may_prepare : (p : ℕ) → MayPrepare (first_view 2 p) [] unit changes
 may_prepare p = record { fresh = refl; new = refl; ordered = refl; each = ((refl, refl, (tt, (refl, tt))), (refl, tt)) }
 
-stands : (d : View) (x : Partition) (p : ℕ) → IsPartition d x p (first_view 2 p) [] → Stands d x
+stands : (d : View) (x : Partition) (p : ℕ) → IsPartition d x p (first_view 2 p) [] → StandsOnDevices d x
 stands d x p is = record { p = p; v = first_view 2 p; applied = []; is = is }
 
 stands_for : (d : View) (x : Partition) (p : ℕ) → IsPartition d x p (first_view 2 p) [] → StandsFor d x unit changes

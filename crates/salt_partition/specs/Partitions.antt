@@ -106,7 +106,7 @@ pub record StandsWith (d : View) (x : Partition) (u : Id) : Type 0 where
   pub last : IsPreparedLast v applied u
 
 -- a partition stands
-pub record Stands (d : View) (x : Partition) : Type 0 where
+pub record StandsOnDevices (d : View) (x : Partition) : Type 0 where
   pub p : ℕ
   pub v : PartView
   pub applied : List Id

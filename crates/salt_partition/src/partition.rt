@@ -8,7 +8,7 @@ ghost use Rattle.salt_disk.specs.declared.disks.DiskErr.{DiskErr};
 ghost use Rattle.salt_eval.specs.Views.{next_row};
 ghost use Rattle.salt_gatelog.specs.Log.{IsBeforeOrWith};
 ghost use Rattle.salt_model.specs.Tables.{Tables, place, row_at, with_changes};
-ghost use Rattle.salt_partition.specs.Partitions.{IsPartition, IsPreparedLast, MayPrepare, Stands, StandsFor, StandsWith, changes_in, log_device, log_gate, prepared, rows_in, spells_nulls, unit_count};
+ghost use Rattle.salt_partition.specs.Partitions.{IsPartition, IsPreparedLast, MayPrepare, StandsOnDevices, StandsFor, StandsWith, changes_in, log_device, log_gate, prepared, rows_in, spells_nulls, unit_count};
 ghost use Rattle.salt_stands.specs.Partition.{part_tables};
 ghost use Rattle.salt_stands.specs.Pieces.{PartView, with_prepared_unit};
 ghost use Rattle.salt_values.specs.declared.id.Id.{Id};
@@ -132,7 +132,7 @@ impl Partition {
         table: u16,
         key: &Key,
     ) -> Result<Option<Row>, DiskErr>
-        requires { Stands (D.view disks.old) self.old }
+        requires { StandsOnDevices (D.view disks.old) self.old }
         ensures row { (p : ℕ) (v : PartView) (applied : List Id) → IsPartition (D.view disks.old) self.old p v applied
             → IfOk result (λ row. row ≡ row_at (place table key.now) (part_tables applied v.log v.rows)) }
         ensures stands { (p : ℕ) (v : PartView) (applied : List Id) → IsPartition (D.view disks.old) self.old p v applied
@@ -158,7 +158,7 @@ impl Partition {
         range: &KeyRange,
         after: Option<&Key>,
     ) -> Result<Option<Row>, DiskErr>
-        requires { Stands (D.view disks.old) self.old }
+        requires { StandsOnDevices (D.view disks.old) self.old }
         ensures row { (p : ℕ) (v : PartView) (applied : List Id) → IsPartition (D.view disks.old) self.old p v applied
             → IfOk result (λ row. row ≡ next_row table range.now (option_copied after.entry) (part_tables applied v.log v.rows)) }
         ensures stands { (p : ℕ) (v : PartView) (applied : List Id) → IsPartition (D.view disks.old) self.old p v applied
@@ -178,7 +178,7 @@ impl Partition {
 
     /// The changes of prepared entry `i` of the log, counted from 0, `None` exactly past the last one.
     pub fn logged<D: Disks>(&mut self, disks: &mut D, i: u64) -> Result<Option<Changes>, DiskErr>
-        requires { Stands (D.view disks.old) self.old }
+        requires { StandsOnDevices (D.view disks.old) self.old }
         ensures changes { (p : ℕ) (v : PartView) (applied : List Id) → IsPartition (D.view disks.old) self.old p v applied → IsTrue (D.view disks.old).told
             → IfOk result (λ found. found ≡ option_map changes_in (slice_get v.log.prepared i)) }
         ensures stands { (p : ℕ) (v : PartView) (applied : List Id) → IsPartition (D.view disks.old) self.old p v applied

@@ -12,7 +12,7 @@ use Rattle.salt_devices.specs.declared.devices.Devices.{Devices}
 use Rattle.salt_disk.specs.Disks.{AreUnchanged, IsUnchanged, KeepsAll, SameShape, View}
 use Rattle.salt_disk.specs.declared.disks.DiskErr.{DiskErr}
 use Rattle.salt_engine.specs.Flights.{flight_of}
-use Rattle.salt_engine.specs.Standing.{Left, Lies, serving_books}
+use Rattle.salt_engine.specs.Standing.{LeavesOnDevices, CanReopenAt, serving_books}
 use Rattle.salt_engine.specs.Stored.{IsAlone}
 use Rattle.salt_engine.specs.declared.flights.InFlight.{InFlight}
 use Rattle.law_states.specs.Points.{Point}
@@ -174,8 +174,8 @@ module _ (e : View) where
   rested x k = RestsAs x.shape x.started e k
 
   ends-over : (x : Devices) (target : Shape) → x.shape ≡ target → (found : Option Numbers) (books : Option Books) (single : Bool) (i : Option InFlight) (status : Status) (trace : Trace) →
-      IsPlayed trace → EndsFound (Lies (held x) (left x) e.can_stop found books single i)
-      (λ numbers room p. Left (held x) (left x) (IsSome i) found room p × IsAlone (rested x) numbers room p) (FillsIn e x.shape) status trace → EndsBehind e target status (flight_at status (flight_of i)) trace
+      IsPlayed trace → EndsFound (CanReopenAt (held x) (left x) e.can_stop found books single i)
+      (λ numbers room p. LeavesOnDevices (held x) (left x) (IsSome i) found room p × IsAlone (rested x) numbers room p) (FillsIn e x.shape) status trace → EndsBehind e target status (flight_at status (flight_of i)) trace
   ends-over x target same found books single i status trace played f =
       subst (λ (s : Shape). EndsBehind e s status (flight_at status (flight_of i)) trace) same (ends-behind x.shape x.started x.store x.numbers x.pending e found books single i status trace played f)
 

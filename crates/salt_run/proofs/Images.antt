@@ -7,7 +7,7 @@ use Rattle.salt_devices.specs.Standing.{RestsAs, StandsHeld, StandsLeft}
 use Rattle.salt_devices.specs.declared.pending.Pending.{Pending}
 use Rattle.salt_commit.specs.declared.store.Store.{Store}
 use Rattle.salt_disk.specs.Disks.{IsImage, View}
-use Rattle.salt_engine.specs.Standing.{Left}
+use Rattle.salt_engine.specs.Standing.{LeavesOnDevices}
 use Rattle.salt_engine.specs.Stored.{IsLeft}
 use Rattle.law_states.specs.Points.{Point}
 use Rattle.salt_model.specs.Kept.{Kept}
@@ -44,7 +44,7 @@ module _ (shape : Shape) (started : Bool) (o : Option Store) (n : Numbers) (q : 
   held k h here = record { found = k; stands = in-one o k h.held; left = here }
 
   abbrev LeftHere : Option Numbers → Type 0
-  LeftHere found = Left (StandsHeld shape started o n q d) (StandsLeft shape started o n q d) doubt found room p
+  LeftHere found = LeavesOnDevices (StandsHeld shape started o n q d) (StandsLeft shape started o n q d) doubt found room p
 
   pub stands-left : (found : Option Numbers) → LeftHere found → StandsAt shape doubt room p image
   stands-left (Some numbers) h = held h.0 h.1 h.2

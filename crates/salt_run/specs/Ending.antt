@@ -11,7 +11,7 @@ use Rattle.salt_promise.specs.Ways.{way_of}
 use Rattle.salt_promise.specs.declared.status.Status.{Status}
 use Rattle.salt_promise.specs.declared.status.Status.TheVariants.{DeviceFull, NumbersSpent}
 use Rattle.salt_loop.specs.Ending.{MayBeWritten}
-use Rattle.salt_storage.specs.Writing.{Written}
+use Rattle.salt_storage.specs.Writing.{ToWrite}
 use Rattle.salt_place.specs.declared.placement.Shape.{Shape}
 use Rattle.std.specs.Prelude.{IsTrue, List, None, Option, ℕ, ◌≡◌}
 
@@ -26,7 +26,7 @@ pub record StandsBehind (shape : Shape) (status : Status) (told : Option Flight)
 pub record IsFullBehind (d : View) (shape : Shape) (trace : Trace) (dev : ℕ) : Type 0 where
   pub point : Point
   pub keeps : KeepsPoint point trace
-  pub next : Written
+  pub next : ToWrite
   pub writes : MayBeWritten point next
   pub fills : Fills d shape next dev
 

@@ -9,7 +9,7 @@ use Rattle.salt_scheduler.proofs.Facts.{facts-did, facts-waits}
 use Rattle.salt_scheduler.proofs.InTurn.{did}
 use Rattle.salt_books.proofs.Named.{is-some, named-unit}
 use Rattle.salt_books.specs.Asking.{IsAsked, IsAskedBy}
-use Rattle.salt_scheduler.specs.Standing.{Brings, Gives, Stands}
+use Rattle.salt_scheduler.specs.Standing.{AnswersWithComing, AnswersWith, StandsForState}
 use Rattle.salt_books.specs.declared.coming.Coming.TheVariants as coming
 use Rattle.salt_books.specs.declared.asking.Asking.{Asking}
 use Rattle.salt_scheduler.specs.declared.scheduler.Scheduler.{Scheduler}
@@ -61,11 +61,11 @@ waits-waiter s a o h = λ i. record {
   reach = (ap (option_and_then (reach_under s.kept o)) h.asks ∙ sym h.reach) i;
 }
 
-pub act-gives : (x new : Scheduler) (a : Asking) (answer : Answer) (s : State) (o : OpenUnit) (given : Option Event) → Stands x s →
+pub act-gives : (x new : Scheduler) (a : Asking) (answer : Answer) (s : State) (o : OpenUnit) (given : Option Event) → StandsForState x s →
     IsAskedBy a s.units o → given ≡ Some (Did a.unit a.statement answer) → answer ≡ (outcome_under s.units.kept o a.statement).answer →
     AreBooks new.books (units_after (Did a.unit a.statement answer) s.units) →
     GoesBy (facts_in s.units (Did a.unit a.statement answer)) (Did a.unit a.statement answer) s.watch new.watch → new.called ≡ x.called →
-    new.follow ≡ Done a.unit (cause_in answer) → Gives s (Some (does_in s.units o a.statement)) new given
+    new.follow ≡ Done a.unit (cause_in answer) → AnswersWith s (Some (does_in s.units o a.statement)) new given
 act-gives x new a answer s o given stands asked told answers books watch same follow =
     gives-same s (Some (does_in s.units o a.statement)) (Some (Did a.unit a.statement answer)) given new
     (λ i. Some (Did (named-unit a.unit s.units.units o asked.named i) a.statement (sym answers i)))
@@ -82,10 +82,10 @@ act-gives x new a answer s o given stands asked told answers books watch same fo
           (λ b i. subst (In b) (first-same a.unit (doing_one s.units.kept a.statement) s.units.units (λ o. refl)) i));
     })))
 
-pub wait-gives : (x new : Scheduler) (a : Asking) (owners : List Owner) (s : State) (o : OpenUnit) (given : Option Event) → Stands x s →
+pub wait-gives : (x new : Scheduler) (a : Asking) (owners : List Owner) (s : State) (o : OpenUnit) (given : Option Event) → StandsForState x s →
     IsAskedBy a s.units o → given ≡ Some (Waits a.unit owners) → AreBooks new.books (units_after (Waits a.unit owners) s.units) →
     GoesBy (facts_in s.units (Waits a.unit owners)) (Waits a.unit owners) s.watch new.watch → new.called ≡ x.called → new.follow ≡ Nothing →
-    Gives s (Some (Waits a.unit owners)) new given
+    AnswersWith s (Some (Waits a.unit owners)) new given
 wait-gives x new a owners s o given stands asked told books watch same follow =
     gives IsWatch (Waits a.unit owners) s watch.0 x new given stands told
     (at-follow Nothing (Waits a.unit owners) s watch.0 new follow (record {
@@ -113,7 +113,7 @@ serve-asked s u o st named asks = ap (option_and_then (serve_in s)) named ∙ ap
 
 -- what is asked is to be done
 
-pub have-asked : (x : Scheduler) (s : State) (a : Asking) (o : OpenUnit) → Stands x s → IsAskedBy a s.units o → HaveUnit x.books a.unit
+pub have-asked : (x : Scheduler) (s : State) (a : Asking) (o : OpenUnit) → StandsForState x s → IsAskedBy a s.units o → HaveUnit x.books a.unit
 have-asked x s a o stands asked = record { state = s.units; books = stands.books; named = is-some (unit_named a.unit s.units.units) o asked.named }
 
 pub asked-at : (s : UnitState) (u : Id) (found : Option Asking) (a : Asking) → found ≡ Some a → IsAsked s u found → IsAsked s u (Some a)
@@ -122,8 +122,8 @@ asked-at s u found a is h = subst (λ (f : Option Asking). IsAsked s u f) is h
 pub asked-name : (s : UnitState) (u : Id) (a : Asking) → (asked : IsAsked s u (Some a)) → unit_named u s.units ≡ Some asked.1.0
 asked-name s u a asked = subst (λ v. unit_named v s.units ≡ Some asked.1.0) asked.0 asked.1.1.named
 
-pub act-brings : (x : Scheduler) (s : State) (a : Asking) (o : OpenUnit) (want : Option Event) → Stands x s → IsAskedBy a s.units o →
-    want ≡ Some (does_in s.units o a.statement) → Brings s want x (coming.Act a)
+pub act-brings : (x : Scheduler) (s : State) (a : Asking) (o : OpenUnit) (want : Option Event) → StandsForState x s → IsAskedBy a s.units o →
+    want ≡ Some (does_in s.units o a.statement) → AnswersWithComing s want x (coming.Act a)
 act-brings x s a o want stands asked wanted = record {
   meant = ap (option_map (λ (o : OpenUnit). does_in s.units o a.statement)) asked.named ∙ sym wanted;
   ready = (stands, (o, asked));

@@ -3,7 +3,7 @@ use Rattle.salt_books.specs.Books.{AreBooks}
 use Rattle.salt_books.specs.Called.{name_told}
 use Rattle.salt_scheduler.proofs.Done.{IsCalledAt, at-follow, brings-plain, called-at, called-stays, gives, into-accepting, into-first, into-programs, state_by, sub-called, a_program, beginning, to_accept}
 use Rattle.salt_books.specs.declared.coming.Coming.TheVariants as coming
-use Rattle.salt_scheduler.specs.Standing.{Brings, Gives, Stands, StandsWith, accepting, bases_called, watched_by}
+use Rattle.salt_scheduler.specs.Standing.{AnswersWithComing, AnswersWith, StandsForState, StandsWith, accepting, bases_called, watched_by}
 use Rattle.salt_scheduler.specs.declared.scheduler.Scheduler.{Scheduler}
 use Rattle.salt_scheduler.specs.declared.follow.Follow.TheVariants.{Accept, Finish, Nothing, Release}
 use Rattle.law_states.specs.Members.{In}
@@ -64,9 +64,9 @@ in-filtered p b (v ∷ vs) i = by (p v) i (in-filtered p b vs)
     by true j rest = front j rest
     by false j rest = inr (rest j)
 
-pub accept-gives : (x new : Scheduler) (base : Id) (s : State) (given : Option Event) → Stands x s → x.follow ≡ Accept base → given ≡ Some (Accepted base) →
+pub accept-gives : (x new : Scheduler) (base : Id) (s : State) (given : Option Event) → StandsForState x s → x.follow ≡ Accept base → given ≡ Some (Accepted base) →
     new.books ≡ x.books → GoesBy (facts_in s.units (Accepted base)) (Accepted base) s.watch new.watch → new.called ≡ x.called → new.follow ≡ Finish base →
-    Gives s (Some (Accepted base)) new given
+    AnswersWith s (Some (Accepted base)) new given
 accept-gives x new base s given stands accepts told books watch same follow =
     gives IsWatch (Accepted base) s watch.0 x new given stands told (at-follow (Finish base) (Accepted base) s watch.0 new follow (record {
       served = refl;
@@ -95,12 +95,12 @@ accept-gives x new base s given stands accepts told books watch same follow =
 finishes-now : (s : State) (base : Id) → cont_of base s.units.kept ≡ None → finishes_in s.units base ≡ Some (Finished base)
 finishes-now s base none = ap (λ (o : Option Cont). then_some (is_none o) (Finished base)) none
 
-pub finish-brings : (x new : Scheduler) (base : Id) (s : State) → Stands x s → cont_of base s.units.kept ≡ None →
+pub finish-brings : (x new : Scheduler) (base : Id) (s : State) → StandsForState x s → cont_of base s.units.kept ≡ None →
     new.books ≡ x.books → new.watch ≡ x.watch → new.called ≡ x.called → new.follow ≡ Release base →
-    Brings s (finishes_in s.units base) new (coming.Told (Finished base))
+    AnswersWithComing s (finishes_in s.units base) new (coming.Told (Finished base))
 finish-brings x new base s stands none books watch same follow =
     brings-plain s (finishes_in s.units base) new (Finished base) refl
-    (subst (λ (want : Option Event). Gives s want new (Some (Finished base))) (sym (finishes-now s base none))
+    (subst (λ (want : Option Event). AnswersWith s want new (Some (Finished base))) (sym (finishes-now s base none))
     (gives IsWatch (Finished base) s w x new (Some (Finished base)) stands refl (at-follow (Release base) (Finished base) s w new follow (record {
       served = refl;
       follows = λ beside. refl;
@@ -127,10 +127,10 @@ pub release-brings : (x new : Scheduler) (base : Id) (s : State) (r : Reading s.
     StandsWith (watched_by (Release base)) x s → due ≡ in_order r.due → (due ≡ [] → ⊥) →
     GoesBy (facts_in s.units (Released due)) (Released due) s.watch new.watch → new.books ≡ x.books →
     ((w : Watch) (b : Id) → IsWatch new.watch w → In b (bases_called Nothing (state_by (Released due) s w)) → name_told new.called b ≡ name_told x.called b) →
-    new.follow ≡ Nothing → Brings s (releases (in_order r.due)) new (coming.Told (Released due))
+    new.follow ≡ Nothing → AnswersWithComing s (releases (in_order r.due)) new (coming.Told (Released due))
 release-brings x new base s r due stands told some watch books names follow =
     brings-plain s (releases (in_order r.due)) new (Released due) refl
-    (subst (λ (want : Option Event). Gives s want new (Some (Released due))) (sym (releases-some due some) ∙ ap releases told)
+    (subst (λ (want : Option Event). AnswersWith s want new (Some (Released due))) (sym (releases-some due some) ∙ ap releases told)
     (gives (watched_by (Release base)) (Released due) s watch.0 x new (Some (Released due)) stands refl (at-follow Nothing (Released due) s watch.0 new follow (record {
       served = refl;
       follows = λ beside. refl;

@@ -8,7 +8,7 @@ use Rattle.salt_scheduler.proofs.Done.{HasCalled, IsCalledAt, at-follow, called-
 use Rattle.salt_scheduler.proofs.InTurn.{begun-alone, begun-turns}
 use Rattle.salt_scheduler.specs.Follows.{opens_alone}
 use Rattle.salt_scheduler.specs.Calling.{IsCalled}
-use Rattle.salt_scheduler.specs.Standing.{Gives, Stands, accepting, bases_called}
+use Rattle.salt_scheduler.specs.Standing.{AnswersWith, StandsForState, accepting, bases_called}
 use Rattle.salt_scheduler.specs.declared.scheduler.Scheduler.{Scheduler}
 use Rattle.salt_scheduler.specs.declared.follow.Follow.TheVariants.{Nothing, Turn}
 use Rattle.salt_scheduler.specs.declared.follow.Follow.{Follow}
@@ -49,7 +49,7 @@ called-by (Call t n args) u b old new names h (inr begins) = cc
 called-by (Later c part) u b old new names h (inl told) = ap (λ c. name_told c b) h ∙ told
 called-by (Later c part) u b old new names h (inr begins) = cc
 
-begun-called : (f : Follow) (kind : UnitKind) (x new : Scheduler) (s : State) → accepting f ≡ [] → Stands x s → IsCalled kind x.called new.called →
+begun-called : (f : Follow) (kind : UnitKind) (x new : Scheduler) (s : State) → accepting f ≡ [] → StandsForState x s → IsCalled kind x.called new.called →
     (b : Id) → In b (bases_called f (state_by (begins_in s.units kind) s s.watch)) → name_told new.called b ≡ Some (named_by (begins_in s.units kind) s.names b)
 begun-called f kind x new s none stands called b i = by (called-at f (state_by (begins_in s.units kind) s s.watch) b i)
   where
@@ -65,10 +65,10 @@ begun-called f kind x new s none stands called b i = by (called-at f (state_by (
 abbrev pub follow_begun : Id → Bool → Follow
 follow_begun u alone = if alone then Nothing else Turn u
 
-pub begin-gives : (now : Line) (kind : UnitKind) (x new : Scheduler) (s : State) (given : Option Event) → Stands x s → s.units.line ≡ now →
+pub begin-gives : (now : Line) (kind : UnitKind) (x new : Scheduler) (s : State) (given : Option Event) → StandsForState x s → s.units.line ≡ now →
     given ≡ Some (begins_in s.units kind) → IsWatch new.watch s.watch → AreBooks new.books (units_after (begins_in s.units kind) s.units) →
     IsCalled kind x.called new.called → new.follow ≡ (if opens_alone now then Nothing else Turn (next_unit s.units)) →
-    Gives s (Some (begins_in s.units kind)) new given
+    AnswersWith s (Some (begins_in s.units kind)) new given
 begin-gives now kind x new s given stands line told watch books called follow =
     gives IsWatch (begins_in s.units kind) s s.watch x new given stands told (by (opens_alone s.units.line) refl)
   where

@@ -3,7 +3,7 @@ use Rattle.salt_books.specs.Books.{AreBooks}
 use Rattle.salt_books.specs.Called.{name_told}
 use Rattle.salt_scheduler.specs.Follows.{FollowsOn}
 use Rattle.salt_scheduler.specs.Serving.{is_served}
-use Rattle.salt_scheduler.specs.Standing.{Brings, Gives, HasDone, IsTurning, Sees, Stands, StandsWith, accepting, bases_called, watched_by}
+use Rattle.salt_scheduler.specs.Standing.{AnswersWithComing, AnswersWith, HasDoneEvent, IsTurning, StandsAtEvent, StandsForState, StandsWith, accepting, bases_called, watched_by}
 use Rattle.salt_books.specs.declared.coming.Coming.TheVariants as coming
 use Rattle.salt_books.specs.declared.coming.Coming.{Coming}
 use Rattle.salt_scheduler.specs.declared.scheduler.Scheduler.{Scheduler}
@@ -86,7 +86,7 @@ pub at-follow : (f : Follow) (e : Event) (s : State) (w : Watch) (new : Schedule
 at-follow f e s w new same h = subst (λ g. HasCalled g e s w new) (sym same) h
 
 pub done : (watched : Watching → Watch → Type 0) (e : Event) (s : State) (w : Watch) (x new : Scheduler) → StandsWith watched x s →
-    HasCalled new.follow e s w new → HasDone new e s (state_by e s w)
+    HasCalled new.follow e s w new → HasDoneEvent new e s (state_by e s w)
 done watched e s w x new stands h = record {
   served = h.served;
   after = record { units = refl; watch = h.watch; names = λ b. refl; can_stop = refl };
@@ -153,27 +153,27 @@ sub-called f g s t none programs firsts b i = by (called-at f t b i)
 
 -- an event is given that is what the state tells, and is done
 pub gives : (watched : Watching → Watch → Type 0) (e : Event) (s : State) (w : Watch) (x new : Scheduler) (given : Option Event) → StandsWith watched x s →
-    given ≡ Some e → HasCalled new.follow e s w new → Gives s (Some e) new given
+    given ≡ Some e → HasCalled new.follow e s w new → AnswersWith s (Some e) new given
 gives watched e s w x new given stands told h = record {
   told = told;
-  done = subst (λ g. Sees new g s) (sym told) (state_by e s w, done watched e s w x new stands h);
+  done = subst (λ g. StandsAtEvent new g s) (sym told) (state_by e s w, done watched e s w x new stands h);
 }
 
 -- what is told in other words
-pub gives-same : (s : State) (want other given : Option Event) (new : Scheduler) → want ≡ other → Gives s other new given → Gives s want new given
+pub gives-same : (s : State) (want other given : Option Event) (new : Scheduler) → want ≡ other → AnswersWith s other new given → AnswersWith s want new given
 gives-same s want other given new same h = record { told = h.told ∙ sym same; done = h.done }
 
 -- what is to come: an event that is done, which no decision makes
-pub brings-told : (s : State) (want : Option Event) (new : Scheduler) (e : Event) → Gives s want new (Some e) → decision_in want ≡ None → Brings s want new (coming.Told e)
+pub brings-told : (s : State) (want : Option Event) (new : Scheduler) (e : Event) → AnswersWith s want new (Some e) → decision_in want ≡ None → AnswersWithComing s want new (coming.Told e)
 brings-told s want new e h plain = record { meant = h.told; ready = (h.done, ap decision_in h.told ∙ plain) }
 
-pub brings-plain : (s : State) (want : Option Event) (new : Scheduler) (e : Event) → decision_in (Some e) ≡ None → Gives s want new (Some e) → Brings s want new (coming.Told e)
+pub brings-plain : (s : State) (want : Option Event) (new : Scheduler) (e : Event) → decision_in (Some e) ≡ None → AnswersWith s want new (Some e) → AnswersWithComing s want new (coming.Told e)
 brings-plain s want new e plain h = record { meant = h.told; ready = (h.done, plain) }
 
 -- nothing
-pub brings-none : (s : State) (want : Option Event) (new : Scheduler) → want ≡ None → Stands new s → Brings s want new coming.Nothing
+pub brings-none : (s : State) (want : Option Event) (new : Scheduler) → want ≡ None → StandsForState new s → AnswersWithComing s want new coming.Nothing
 brings-none s want new none stands = record { meant = sym none; ready = (stands, tt) }
 
 -- what is told in other words
-pub brings-same : (s : State) (want other : Option Event) (new : Scheduler) (c : Coming) → want ≡ other → Brings s other new c → Brings s want new c
+pub brings-same : (s : State) (want other : Option Event) (new : Scheduler) (c : Coming) → want ≡ other → AnswersWithComing s other new c → AnswersWithComing s want new c
 brings-same s want other new c same h = record { meant = h.meant ∙ sym same; ready = h.ready }

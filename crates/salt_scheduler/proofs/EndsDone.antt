@@ -13,7 +13,7 @@ use Rattle.salt_scheduler.proofs.InTurn.{branched, committed, undecided}
 use Rattle.salt_books.proofs.Named.{done-branched, is-some, named-unit}
 use Rattle.salt_scheduler.specs.Follows.{FollowsOn, behind_branch, behind_commit}
 use Rattle.salt_books.specs.Ends.{done_of}
-use Rattle.salt_scheduler.specs.Standing.{Brings, Gives, Stands, accepting, bases_called, watched_by}
+use Rattle.salt_scheduler.specs.Standing.{AnswersWithComing, AnswersWith, StandsForState, accepting, bases_called, watched_by}
 use Rattle.salt_books.specs.declared.coming.Coming.TheVariants as coming
 use Rattle.salt_scheduler.specs.declared.scheduler.Scheduler.{Scheduler}
 use Rattle.salt_scheduler.specs.declared.follow.Follow.TheVariants.{Finish, Nothing}
@@ -84,11 +84,11 @@ accepts-first (First t c n args) b (inl e) = ap Some e
 accepts-first (First t c n args) b (inr i) = absurd i
 accepts-first (Later c part) b i = absurd i
 
-pub commit-gives : (x new : Scheduler) (u : Id) (o : OpenUnit) (s : State) (given : Option Event) → Stands x s → unit_named u s.units.units ≡ Some o →
+pub commit-gives : (x new : Scheduler) (u : Id) (o : OpenUnit) (s : State) (given : Option Event) → StandsForState x s → unit_named u s.units.units ≡ Some o →
     given ≡ Some (Ended u (Committed (next_decision s.units))) → AreBooks new.books (units_after (Ended u (Committed (next_decision s.units))) s.units) →
     GoesBy (facts_in s.units (Ended u (Committed (next_decision s.units)))) (Ended u (Committed (next_decision s.units))) s.watch new.watch →
     new.called ≡ x.called → new.follow ≡ behind_commit o.kind →
-    Gives s (Some (commits_in s.units o)) new given
+    AnswersWith s (Some (commits_in s.units o)) new given
 commit-gives x new u o s given stands named told books watch same follow =
     gives-same s (Some (commits_in s.units o)) (Some e) given new
     (ap (λ v. Some (Ended v (Committed (next_decision s.units)))) (named-unit u s.units.units o named))
@@ -125,11 +125,11 @@ books-unended x s u end free none books =
     same : units_after (Ended u end) s ≡ s
     same = λ i. record s { kept = nothing-decided end s.kept (unit_named u s.units) free i; units = without-none u s.units none i }
 
-pub end-gives : (x new : Scheduler) (u : Id) (end : End) (s : State) (given : Option Event) → Stands x s → IsUndecided end →
+pub end-gives : (x new : Scheduler) (u : Id) (end : End) (s : State) (given : Option Event) → StandsForState x s → IsUndecided end →
     given ≡ Some (Ended u end) → AreBooks new.books (units_after (Ended u end) s.units) →
     GoesBy (facts_in s.units (Ended u end)) (Ended u end) s.watch new.watch →
     ((w : Watch) (b : Id) → IsWatch new.watch w → In b (bases_called Nothing (state_by (Ended u end) s w)) → name_told new.called b ≡ name_told x.called b) →
-    new.follow ≡ Nothing → Gives s (Some (Ended u end)) new given
+    new.follow ≡ Nothing → AnswersWith s (Some (Ended u end)) new given
 end-gives x new u end s given stands free told books watch names follow =
     gives IsWatch (Ended u end) s watch.0 x new given stands told (at-follow Nothing (Ended u end) s watch.0 new follow (record {
       served = refl;
@@ -143,12 +143,12 @@ end-gives x new u end s given stands free told books watch names follow =
 
 -- a failure of a later part
 
-pub branch-gives : (x new : Scheduler) (u base : Id) (part : ℕ) (cause : Cause) (o : OpenUnit) (s : State) (given : Option Event) → Stands x s →
+pub branch-gives : (x new : Scheduler) (u base : Id) (part : ℕ) (cause : Cause) (o : OpenUnit) (s : State) (given : Option Event) → StandsForState x s →
     unit_named u s.units.units ≡ Some o → o.kind ≡ Later base part → given ≡ Some (Ended u (Branched (next_decision s.units) cause)) →
     AreBooks new.books (units_after (Ended u (Branched (next_decision s.units) cause)) s.units) →
     GoesBy (facts_in s.units (Ended u (Branched (next_decision s.units) cause))) (Ended u (Branched (next_decision s.units) cause)) s.watch new.watch →
     new.called ≡ x.called → new.follow ≡ Finish base →
-    Gives s (Some (Ended u (Branched (next_decision s.units) cause))) new given
+    AnswersWith s (Some (Ended u (Branched (next_decision s.units) cause))) new given
 branch-gives x new u base part cause o s given stands named kind told books watch same follow =
     gives IsWatch e s watch.0 x new given stands told (at-follow (Finish base) e s watch.0 new follow (record {
       served = refl;
@@ -177,7 +177,7 @@ pub copied-none : {A : Type 0} (r : Option (Bor A)) (o : Option A) → option_co
 copied-none None o same none = sym same
 copied-none (Some x) o same none = cc
 
-pub have-named : (x : Scheduler) (s : State) (u : Id) (o : OpenUnit) → Stands x s → unit_named u s.units.units ≡ Some o → HaveUnit x.books u
+pub have-named : (x : Scheduler) (s : State) (u : Id) (o : OpenUnit) → StandsForState x s → unit_named u s.units.units ≡ Some o → HaveUnit x.books u
 have-named x s u o stands named = record { state = s.units; books = stands.books; named = is-some (unit_named u s.units.units) o named }
 
 pub undecided-free : (end : End) → IsUndecided end → IsCommitted end → ⊥
@@ -199,15 +199,15 @@ done-failed s u o c named other =
 
 -- a unit is to commit, or to go on behind its failure
 
-pub commit-brings : (x : Scheduler) (s : State) (u : Id) (o : OpenUnit) (want : Option Event) → Stands x s → unit_named u s.units.units ≡ Some o →
-    want ≡ option_map (commits_in s.units) (unit_named u s.units.units) → Brings s want x (coming.Commit u)
+pub commit-brings : (x : Scheduler) (s : State) (u : Id) (o : OpenUnit) (want : Option Event) → StandsForState x s → unit_named u s.units.units ≡ Some o →
+    want ≡ option_map (commits_in s.units) (unit_named u s.units.units) → AnswersWithComing s want x (coming.Commit u)
 commit-brings x s u o want stands named wanted = record {
   meant = sym wanted;
   ready = (stands, is-some (unit_named u s.units.units) o named);
 }
 
-pub branch-brings : (x : Scheduler) (s : State) (u b : Id) (part : ℕ) (o : OpenUnit) (c : Cause) → Stands x s → unit_named u s.units.units ≡ Some o →
-    o.kind ≡ Later b part → Brings s (done_of s.units (Some c) (unit_named u s.units.units)) x (coming.Branch u b c)
+pub branch-brings : (x : Scheduler) (s : State) (u b : Id) (part : ℕ) (o : OpenUnit) (c : Cause) → StandsForState x s → unit_named u s.units.units ≡ Some o →
+    o.kind ≡ Later b part → AnswersWithComing s (done_of s.units (Some c) (unit_named u s.units.units)) x (coming.Branch u b c)
 branch-brings x s u b part o c stands named kind = record {
   meant = sym (done-branched s.units u b part o c named kind);
   ready = (stands, record { unit = o; part = part; named = named; kind = kind });

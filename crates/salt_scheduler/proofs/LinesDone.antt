@@ -15,7 +15,7 @@ use Rattle.salt_scheduler.proofs.Found.{found-named}
 use Rattle.salt_scheduler.specs.Follows.{FollowsOn}
 use Rattle.salt_scheduler.specs.Serving.{is_served}
 use Rattle.salt_books.specs.Sound.{IsSoundState}
-use Rattle.salt_scheduler.specs.Standing.{Gives, IsAllowed, Stands}
+use Rattle.salt_scheduler.specs.Standing.{AnswersWith, IsAllowed, StandsForState}
 use Rattle.salt_scheduler.specs.declared.scheduler.Scheduler.{Scheduler}
 use Rattle.salt_scheduler.specs.declared.follow.Follow.TheVariants.{Nothing}
 use Rattle.law_states.proofs.Rising.{names-rise}
@@ -67,8 +67,8 @@ program-may line x p h same =
 -- an event of no lock, wait, unit or program, which nothing follows
 pub quiet : (e : Event) (s : State) (x new : Scheduler) (given : Option Event) → is_served e ≡ true → IsOfNoWatch e →
     FollowsOn Nothing e s.units (units_after e s.units) → (units_after e s.units).units ≡ s.units.units →
-    ((b : Id) → named_by e s.names b ≡ s.names b) → Stands x s → new.follow ≡ Nothing → new.watch ≡ x.watch → new.called ≡ x.called →
-    AreBooks new.books (units_after e s.units) → given ≡ Some e → Gives s (Some e) new given
+    ((b : Id) → named_by e s.names b ≡ s.names b) → StandsForState x s → new.follow ≡ Nothing → new.watch ≡ x.watch → new.called ≡ x.called →
+    AreBooks new.books (units_after e s.units) → given ≡ Some e → AnswersWith s (Some e) new given
 quiet e s x new given served none follows units names stands follow watch called books told =
     let t = state_by e s s.watch in
     gives IsWatch e s s.watch x new given stands told (at-follow Nothing e s s.watch new follow (record {

@@ -2,7 +2,7 @@
 use Rattle.salt_books.proofs.Meant.{meant-first}
 use Rattle.salt_books.specs.Coming.{CanCome, event_meant}
 use Rattle.salt_scheduler.specs.Follows.{event_of}
-use Rattle.salt_scheduler.specs.Standing.{Brings, IsReady, Stands, StandsBehind, StandsWith, behind_in, watched_by}
+use Rattle.salt_scheduler.specs.Standing.{AnswersWithComing, IsReady, StandsForState, StandsBehindEvent, StandsWith, behind_in, watched_by}
 use Rattle.salt_books.specs.declared.coming.Coming.TheVariants as coming
 use Rattle.salt_books.specs.declared.coming.Coming.{Coming}
 use Rattle.salt_scheduler.specs.declared.scheduler.Scheduler.{Scheduler}
@@ -41,7 +41,7 @@ settles-nothing s x victim served =
 
 -- behind an event
 
-pub behind-at : (f : Follow) (x : Scheduler) (s : State) → x.follow ≡ f → StandsBehind x s → StandsWith (watched_by f) x s
+pub behind-at : (f : Follow) (x : Scheduler) (s : State) → x.follow ≡ f → StandsBehindEvent x s → StandsWith (watched_by f) x s
 behind-at f x s is behind = subst (λ g. StandsWith (watched_by g) x s) is behind
 
 pub none-of : {A : Type 0} (o : Option A) → ((x : A) → o ≡ Some x → ⊥) → o ≡ None
@@ -53,15 +53,15 @@ may-come s x (coming.Told e) ready = tt
 may-come s x c ready = ready.1
 
 pub follows-first : (s : State) (r : Reading s.watch) (f : Follow) (new : Scheduler) (c : Coming) → (c ≡ coming.Nothing → ⊥) →
-    Brings s (event_of f s.units (beside_by s r)) new c → Brings s (behind_in s r f) new c
+    AnswersWithComing s (event_of f s.units (beside_by s r)) new c → AnswersWithComing s (behind_in s r f) new c
 follows-first s r f new c some h = record {
   meant = sym (meant-first s.units c (settles_in s.units (beside_by s r)) (may-come s new c h.ready) some) ∙ ap (λ o. option_or o (settles_in s.units (beside_by s r))) h.meant;
   ready = h.ready;
 }
 
 pub settles-then : (s : State) (r : Reading s.watch) (f : Follow) (new : Scheduler) (c : Coming) → c ≡ coming.Nothing →
-    Brings s (event_of f s.units (beside_by s r)) new c → behind_in s r f ≡ settles_in s.units (beside_by s r)
+    AnswersWithComing s (event_of f s.units (beside_by s r)) new c → behind_in s r f ≡ settles_in s.units (beside_by s r)
 settles-then s r f new c none h = ap (λ o. option_or o (settles_in s.units (beside_by s r))) (sym h.meant ∙ ap (event_meant s.units) none)
 
-pub stands-on : (s : State) (want : Option Event) (new : Scheduler) (c : Coming) → c ≡ coming.Nothing → Brings s want new c → Stands new s
+pub stands-on : (s : State) (want : Option Event) (new : Scheduler) (c : Coming) → c ≡ coming.Nothing → AnswersWithComing s want new c → StandsForState new s
 stands-on s want new c none h = let ready = subst (IsReady new s) none h.ready in ready.0

@@ -1,7 +1,7 @@
 -- What is shown is what a state tells, and nothing else is done.
 use Rattle.salt_books.specs.Called.{name_told}
 use Rattle.salt_scheduler.proofs.Done.{called-stays, gives, into-first, into-programs, state_by, sub-called}
-use Rattle.salt_scheduler.specs.Standing.{Gives, Stands, bases_called}
+use Rattle.salt_scheduler.specs.Standing.{AnswersWith, StandsForState, bases_called}
 use Rattle.salt_scheduler.specs.declared.scheduler.Scheduler.{Scheduler}
 use Rattle.salt_scheduler.specs.declared.follow.Follow.{Follow}
 use Rattle.salt_scheduler.specs.declared.follow.Follow.TheVariants.{Nothing}
@@ -20,8 +20,8 @@ use Rattle.salt_conflicts.specs.Watched.{IsWatch}
 use Rattle.std.proofs.Common.{ap, arith, get_or, inl, inr, refl, ◌∙◌}
 use Rattle.std.specs.Prelude.{List, None, Some, [], length, suc, zero, ℕ, ◌++◌, ◌<◌, ◌∷◌, ◌≡◌, ◌⊎◌}
 
-pub shown : (s : State) (x : Scheduler) (items wanted : List Item) → Stands x s → items ≡ wanted →
-    Gives s (Some (Shown wanted)) (record x { follow = Nothing }) (Some (Shown items))
+pub shown : (s : State) (x : Scheduler) (items wanted : List Item) → StandsForState x s → items ≡ wanted →
+    AnswersWith s (Some (Shown wanted)) (record x { follow = Nothing }) (Some (Shown items))
 shown s x items wanted stands same =
     let new : Scheduler = record x { follow = Nothing } in
     gives IsWatch (Shown wanted) s s.watch x new (Some (Shown items)) stands (ap (λ i. Some (Shown i)) same) (record {
@@ -56,11 +56,11 @@ every-at P (x ∷ xs) zero d h e = e.0
 every-at P (x ∷ xs) (suc i) d h e = every-at P xs i d (omega arith) e.1
 
 -- a program under way was called by some name
-pub none-called : (x : Scheduler) (s : State) (b : Id) → Stands x s → In b (under_way_by s) → name_told x.called b ≡ None → ⊥
+pub none-called : (x : Scheduler) (s : State) (b : Id) → StandsForState x s → In b (under_way_by s) → name_told x.called b ≡ None → ⊥
 none-called x s b stands i none = let some = stands.called b (is-called x.follow s b i) in cc
 
 -- a program under way as it is shown
-pub item-of : (x : Scheduler) (s : State) (b : Id) (name program : List ℕ) (at : BaseAt) → Stands x s → In b (under_way_by s) →
+pub item-of : (x : Scheduler) (s : State) (b : Id) (name program : List ℕ) (at : BaseAt) → StandsForState x s → In b (under_way_by s) →
     name_told x.called b ≡ Some name → program ≡ name → at ≡ base_at_by s b → Item.Base b program at ≡ base_item_by s b
 item-of x s b name program at stands i told same is =
     let some = stands.called b (is-called x.follow s b i) in

@@ -5,7 +5,7 @@ use Rattle.law_states.specs.OpenUnits.{OpenUnit}
 use Rattle.law_states.specs.Readings.{first_parts}
 use Rattle.law_states.specs.States.{State}
 use Rattle.law_states.specs.Watches.{Watch, empty_watch}
-use Rattle.salt_scheduler.specs.Standing.{IsTurning, Stands, bases_called}
+use Rattle.salt_scheduler.specs.Standing.{IsTurning, StandsForState, bases_called}
 use Rattle.salt_scheduler.specs.declared.follow.Follow.TheVariants as follow
 use Rattle.salt_scheduler.specs.declared.follow.Follow.{Follow}
 use Rattle.salt_scheduler.specs.declared.scheduler.Scheduler.{Scheduler}
@@ -22,7 +22,7 @@ none-called s f b nothing none watch i =
     (subst (λ (os : List OpenUnit). In b (first_parts os ++ []) → ⊥) (sym none) (λ j. j))) i
 
 pub opens : (x : Scheduler) (programs : List Id) (s : State) → x.follow ≡ follow.Nothing → programs ≡ [] → AreBooks x.books s.units → s.units.units ≡ [] →
-    s.watch ≡ empty_watch 0 → IsTurning s.units → IsWatch x.watch (record (empty_watch 0) { programs = programs }) → Stands x s
+    s.watch ≡ empty_watch 0 → IsTurning s.units → IsWatch x.watch (record (empty_watch 0) { programs = programs }) → StandsForState x s
 opens x programs s nothing no_programs books none watch turns watched = record {
   books = books;
   watch = subst (IsWatch x.watch) (sym watch) (subst (λ (bs : List Id). IsWatch x.watch (record (empty_watch 0) { programs = bs })) no_programs watched);

@@ -49,27 +49,27 @@ pub record StandsWith (watched : Watching → Watch → Type 0) (x : Scheduler) 
   pub called : (b : Id) → In b (bases_called x.follow s) → name_told x.called b ≡ Some (s.names b)
   pub turns : IsTurning s.units
 
-abbrev pub Stands : Scheduler → State → Type 0
-Stands x s = StandsWith IsWatch x s
+abbrev pub StandsForState : Scheduler → State → Type 0
+StandsForState x s = StandsWith IsWatch x s
 
 -- what is watched where this follows: of a program that has finished the releases are not yet asked for
 abbrev pub watched_by : Follow → Watching → Watch → Type 0
 watched_by (Release b) x w = IsFinishing b x w
 watched_by f x w = IsWatch x w
 
-abbrev pub StandsBehind : Scheduler → State → Type 0
-StandsBehind x s = StandsWith (watched_by x.follow) x s
+abbrev pub StandsBehindEvent : Scheduler → State → Type 0
+StandsBehindEvent x s = StandsWith (watched_by x.follow) x s
 
 -- it has done an event
-pub record HasDone (x : Scheduler) (e : Event) (s t : State) : Type 0 where
+pub record HasDoneEvent (x : Scheduler) (e : Event) (s t : State) : Type 0 where
   pub served : is_served e ≡ true
   pub after : After e s t
-  pub behind : StandsBehind x t
+  pub behind : StandsBehindEvent x t
   pub follows : FollowsOn x.follow e s.units t.units
 
-abbrev pub Sees : Scheduler → Option Event → State → Type 0
-Sees x None s = Stands x s
-Sees x (Some e) s = (t : State) × HasDone x e s t
+abbrev pub StandsAtEvent : Scheduler → Option Event → State → Type 0
+StandsAtEvent x None s = StandsForState x s
+StandsAtEvent x (Some e) s = (t : State) × HasDoneEvent x e s t
 
 -- a state in which lines are served, this one now
 pub record ServesLine (now : Line) (s : State) : Type 0 where
@@ -83,48 +83,48 @@ pub record ServesAllowed (now : Line) (s : State) : Type 0 where
   pub allowed : refusal_in s.units (under_way_of s) (Tree now) ≡ None
 
 -- what is given is what the state tells, and it is done
-pub record Gives (s : State) (want : Option Event) (new : Scheduler) (given : Option Event) : Type 0 where
+pub record AnswersWith (s : State) (want : Option Event) (new : Scheduler) (given : Option Event) : Type 0 where
   pub told : given ≡ want
-  pub done : Sees new given s
+  pub done : StandsAtEvent new given s
 
 -- it is done where it is an event that is done, which no decision makes; else nothing is
 abbrev pub IsReady : Scheduler → State → Coming → Type 0
-IsReady x s (coming.Told e) = Sees x (Some e) s × (decision_in (Some e) ≡ None)
-IsReady x s c = Stands x s × CanCome c s.units
+IsReady x s (coming.Told e) = StandsAtEvent x (Some e) s × (decision_in (Some e) ≡ None)
+IsReady x s c = StandsForState x s × CanCome c s.units
 
 -- what is to come is what the state tells
-pub record Brings (s : State) (want : Option Event) (new : Scheduler) (c : Coming) : Type 0 where
+pub record AnswersWithComing (s : State) (want : Option Event) (new : Scheduler) (c : Coming) : Type 0 where
   pub meant : event_meant s.units c ≡ want
   pub ready : IsReady new s c
 
 -- what a state tells of what comes next, in whatever way it is read
-abbrev pub Wanted : Type 0
-Wanted = (s : State) → Reading s.watch → Option Event
+abbrev pub NextTold : Type 0
+NextTold = (s : State) → Reading s.watch → Option Event
 
 -- from a scheduler that stands for a state to one that has done what this tells of it, in a line
-abbrev pub Does : Wanted → Line → Scheduler → Scheduler → Event → Type 0
-Does want now old new e = (s : State) (r : Reading s.watch) → Stands old s → ServesLine now s → Gives s (want s r) new (Some e)
+abbrev pub DoesNext : NextTold → Line → Scheduler → Scheduler → Event → Type 0
+DoesNext want now old new e = (s : State) (r : Reading s.watch) → StandsForState old s → ServesLine now s → AnswersWith s (want s r) new (Some e)
 
 -- to one that is ready for what this tells
-abbrev pub Chooses : Wanted → Line → Scheduler → Scheduler → Coming → Type 0
-Chooses want now old new c = (s : State) (r : Reading s.watch) → Stands old s → ServesLine now s → Brings s (want s r) new c
+abbrev pub ChoosesNext : NextTold → Line → Scheduler → Scheduler → Coming → Type 0
+ChoosesNext want now old new c = (s : State) (r : Reading s.watch) → StandsForState old s → ServesLine now s → AnswersWithComing s (want s r) new c
 
 -- in a line that is not refused
-abbrev pub Allows : Wanted → Line → Scheduler → Scheduler → Event → Type 0
-Allows want now old new e = (s : State) (r : Reading s.watch) → Stands old s → ServesAllowed now s → Gives s (want s r) new (Some e)
+abbrev pub DoesAllowed : NextTold → Line → Scheduler → Scheduler → Event → Type 0
+DoesAllowed want now old new e = (s : State) (r : Reading s.watch) → StandsForState old s → ServesAllowed now s → AnswersWith s (want s r) new (Some e)
 
-abbrev pub AllowsComing : Wanted → Line → Scheduler → Scheduler → Coming → Type 0
-AllowsComing want now old new c = (s : State) (r : Reading s.watch) → Stands old s → ServesAllowed now s → Brings s (want s r) new c
+abbrev pub ChoosesAllowed : NextTold → Line → Scheduler → Scheduler → Coming → Type 0
+ChoosesAllowed want now old new c = (s : State) (r : Reading s.watch) → StandsForState old s → ServesAllowed now s → AnswersWithComing s (want s r) new c
 
 -- it stands for some state in which a line is served
 abbrev pub IsServing : Line → Scheduler → Type 0
-IsServing now x = (s : State) × Stands x s × ServesLine now s
+IsServing now x = (s : State) × StandsForState x s × ServesLine now s
 
 abbrev pub IsServingBehind : Line → Scheduler → Type 0
-IsServingBehind now x = (s : State) × StandsBehind x s × ServesLine now s
+IsServingBehind now x = (s : State) × StandsBehindEvent x s × ServesLine now s
 
 abbrev pub IsAllowed : Line → Scheduler → Type 0
-IsAllowed now x = (s : State) × Stands x s × ServesAllowed now s
+IsAllowed now x = (s : State) × StandsForState x s × ServesAllowed now s
 
 -- what comes behind an event: what follows it, or what settles
 abbrev pub behind_in : (s : State) → Reading s.watch → Follow → Option Event

@@ -31,11 +31,11 @@ use salt_values::Id;
 use std::alloc::AllocError;
 
 impl Scheduler {
-    ghost use Rattle.salt_scheduler.specs.Standing.{Brings, Chooses, Does, Gives, IsServing, IsServingBehind, ServesLine, Stands, StandsBehind, behind_in};
+    ghost use Rattle.salt_scheduler.specs.Standing.{AnswersWithComing, ChoosesNext, DoesNext, AnswersWith, IsServing, IsServingBehind, ServesLine, StandsForState, StandsBehindEvent, behind_in};
 
     /// A unit is to commit, if it is open.
     pub(crate) fn commit(&self, line: &Line, unit: Id) -> Coming
-        ensures { Chooses (λ s r. option_map (commits_in s.units) (unit_named unit s.units.units)) line.now self.now self.now result }
+        ensures { ChoosesNext (λ s r. option_map (commits_in s.units) (unit_named unit s.units.units)) line.now self.now self.now result }
     {
         match self.books.unit_named(unit) {
             Some(_) => Coming::Commit(unit),
@@ -46,9 +46,9 @@ impl Scheduler {
     /// A unit that is to commit has been decided, with this move of its program: it commits.
     pub fn committed(&mut self, unit: Id, made: Move) -> Result<Event, AllocError>
         requires { HaveUnit self.old.books unit }
-        ensures { IfOk result (λ e. (s : State) (o : OpenUnit) → Stands self.old s → IsSoundState s → unit_named unit s.units.units ≡ Some o
+        ensures { IfOk result (λ e. (s : State) (o : OpenUnit) → StandsForState self.old s → IsSoundState s → unit_named unit s.units.units ≡ Some o
             → MovesTo made s.units.kept (conts_committed s.units.kept (next_decision s.units) o.kind o.vars)
-            → Gives s (Some (commits_in s.units o)) self.new (Some e)) }
+            → AnswersWith s (Some (commits_in s.units o)) self.new (Some e)) }
     {
         let Some(held) = self.books.unit_named(unit) else {
             unreachable!()
@@ -68,7 +68,7 @@ impl Scheduler {
     pub(crate) fn end(&mut self, line: &Line, unit: Id, end: End) -> Result<Event, AllocError>
         requires serving { IsServing line.now self.old }
         requires undecided { IsUndecided end }
-        ensures { IfOk result (λ e. Does (λ s r. Some (Event.Ended unit end)) line.now self.old self.new e) }
+        ensures { IfOk result (λ e. DoesNext (λ s r. Some (Event.Ended unit end)) line.now self.old self.new e) }
     {
         let Some(held) = self.books.unit_named(unit) else {
             self.watch.end(unit, None);
@@ -93,9 +93,9 @@ impl Scheduler {
         made: Move,
     ) -> Result<Event, AllocError>
         requires { HaveUnit self.old.books unit }
-        ensures { IfOk result (λ e. (s : State) (o : OpenUnit) (part : ℕ) → Stands self.old s → IsSoundState s → unit_named unit s.units.units ≡ Some o
+        ensures { IfOk result (λ e. (s : State) (o : OpenUnit) (part : ℕ) → StandsForState self.old s → IsSoundState s → unit_named unit s.units.units ≡ Some o
             → o.kind ≡ Later base part → MovesTo made s.units.kept (conts_branched s.units.kept o.kind)
-            → Gives s (Some (Event.Ended unit (End.Branched (next_decision s.units) cause))) self.new (Some e)) }
+            → AnswersWith s (Some (Event.Ended unit (End.Branched (next_decision s.units) cause))) self.new (Some e)) }
     {
         self.watch.end(unit, None);
         let number = self.books.branch(unit, made)?;
@@ -109,7 +109,7 @@ impl Scheduler {
     /// A unit whose statement has failed ends by this cause.
     fn fail(&mut self, line: &Line, unit: Id, cause: Cause) -> Result<Coming, AllocError>
         requires { IsServing line.now self.old }
-        ensures { IfOk result (λ coming. Chooses (λ s r. done_of s.units (Some cause) (unit_named unit s.units.units)) line.now self.old self.new coming) }
+        ensures { IfOk result (λ coming. ChoosesNext (λ s r. done_of s.units (Some cause) (unit_named unit s.units.units)) line.now self.old self.new coming) }
     {
         let Some(held) = self.books.unit_named(unit) else {
             return Ok(Coming::Nothing);
@@ -122,7 +122,7 @@ impl Scheduler {
 
     /// A unit whose last statement is done commits.
     fn commit_at_end(&self, line: &Line, unit: Id) -> Coming
-        ensures { Chooses (λ s r. done_of s.units None (unit_named unit s.units.units)) line.now self.now self.now result }
+        ensures { ChoosesNext (λ s r. done_of s.units None (unit_named unit s.units.units)) line.now self.now self.now result }
     {
         let Some(held) = self.books.unit_named(unit) else {
             return Coming::Nothing;
@@ -142,7 +142,7 @@ impl Scheduler {
         failed: Option<Cause>,
     ) -> Result<Coming, AllocError>
         requires { IsServing line.now self.old }
-        ensures { IfOk result (λ coming. Chooses (λ s r. done_of s.units failed (unit_named unit s.units.units)) line.now self.old self.new coming) }
+        ensures { IfOk result (λ coming. ChoosesNext (λ s r. done_of s.units failed (unit_named unit s.units.units)) line.now self.old self.new coming) }
     {
         match failed {
             Some(cause) => self.fail(line, unit, cause),
@@ -153,7 +153,7 @@ impl Scheduler {
     /// A program is accepted.
     fn accept(&mut self, line: &Line, base: Id) -> Result<Event, AllocError>
         requires { self.old.follow ≡ Accept base }
-        ensures { IfOk result (λ e. Does (λ s r. Some (Event.Accepted base)) line.now self.old self.new e) }
+        ensures { IfOk result (λ e. DoesNext (λ s r. Some (Event.Accepted base)) line.now self.old self.new e) }
     {
         self.watch.accept(base)?;
         self.follow = Follow::Finish(base);
@@ -162,7 +162,7 @@ impl Scheduler {
 
     /// A program has come to its end, if it goes on nowhere.
     fn finish(&mut self, line: &Line, base: Id) -> Coming
-        ensures { Chooses (λ s r. finishes_in s.units base) line.now self.old self.new result }
+        ensures { ChoosesNext (λ s r. finishes_in s.units base) line.now self.old self.new result }
     {
         if self.books.known().cont(base).is_some() {
             return Coming::Nothing;
@@ -174,8 +174,8 @@ impl Scheduler {
     /// The programs are released that are due now that this one has finished.
     fn release(&mut self, line: &Line, base: Id) -> Result<Coming, AllocError>
         requires { self.old.follow ≡ Release base }
-        ensures { IfOk result (λ coming. (s : State) (r : Reading s.watch) → StandsBehind self.old s → ServesLine line.now s
-            → Brings s (releases (beside_by s r).due) self.new coming) }
+        ensures { IfOk result (λ coming. (s : State) (r : Reading s.watch) → StandsBehindEvent self.old s → ServesLine line.now s
+            → AnswersWithComing s (releases (beside_by s r).due) self.new coming) }
     {
         let due = self.watch.finish(base)?;
         self.follow = Follow::Nothing;
@@ -190,7 +190,7 @@ impl Scheduler {
     /// nothing goes on.
     pub(crate) fn settle(&mut self, line: &Line) -> Result<Coming, AllocError>
         requires { IsServing line.now self.old }
-        ensures { IfOk result (λ coming. Chooses (λ s r. settles_in s.units (beside_by s r)) line.now self.old self.new coming) }
+        ensures { IfOk result (λ coming. ChoosesNext (λ s r. settles_in s.units (beside_by s r)) line.now self.old self.new coming) }
     {
         if let Some(unit) = self.watch.victim()? {
             return Ok(Coming::Told(self.end(line, unit, End::Victim)?));
@@ -204,8 +204,8 @@ impl Scheduler {
     /// What follows the event at hand in its turn.
     fn follow_up(&mut self, line: &Line) -> Result<Coming, AllocError>
         requires { IsServingBehind line.now self.old }
-        ensures { IfOk result (λ coming. (s : State) (r : Reading s.watch) → StandsBehind self.old s → ServesLine line.now s
-            → Brings s (event_of self.old.follow s.units (beside_by s r)) self.new coming) }
+        ensures { IfOk result (λ coming. (s : State) (r : Reading s.watch) → StandsBehindEvent self.old s → ServesLine line.now s
+            → AnswersWithComing s (event_of self.old.follow s.units (beside_by s r)) self.new coming) }
     {
         match self.follow {
             Follow::Nothing => Ok(Coming::Nothing),
@@ -220,8 +220,8 @@ impl Scheduler {
     /// What comes behind the event at hand: what follows it in its turn, or what settles.
     pub fn go_on(&mut self, line: &Line) -> Result<Coming, AllocError>
         requires { IsServingBehind line.now self.old }
-        ensures { IfOk result (λ coming. (s : State) (r : Reading s.watch) → StandsBehind self.old s → ServesLine line.now s
-            → Brings s (behind_in s r self.old.follow) self.new coming) }
+        ensures { IfOk result (λ coming. (s : State) (r : Reading s.watch) → StandsBehindEvent self.old s → ServesLine line.now s
+            → AnswersWithComing s (behind_in s r self.old.follow) self.new coming) }
     {
         let following = self.follow_up(line)?;
         match &following {

@@ -35,13 +35,13 @@ fn name_of(held: Option<&Held>) -> Option<Id>
 }
 
 impl Scheduler {
-    ghost use Rattle.salt_scheduler.specs.Standing.{Allows, AllowsComing, Chooses, Does, IsAllowed, IsServing, Stands};
+    ghost use Rattle.salt_scheduler.specs.Standing.{DoesAllowed, ChoosesAllowed, ChoosesNext, DoesNext, IsAllowed, IsServing, StandsForState};
 
     /// The table of a line has been decided: it is defined.
     pub fn table_defined(&mut self, line: &Line, def: &TableDef) -> Result<Event, AllocError>
         requires allowed { IsAllowed line.now self.old }
         requires line { line.now ≡ Line.Table def.now }
-        ensures { IfOk result (λ e. Allows (λ s r. Some (Event.Defined (next_decision s.units) (table_text def.now))) line.now self.old self.new e) }
+        ensures { IfOk result (λ e. DoesAllowed (λ s r. Some (Event.Defined (next_decision s.units) (table_text def.now))) line.now self.old self.new e) }
     {
         let (number, text) = self.books.define_table(def)?;
         self.follow = Follow::Nothing;
@@ -53,7 +53,7 @@ impl Scheduler {
         requires allowed { IsAllowed line.now self.old }
         requires line { line.now ≡ Line.Program def.now }
         requires parts { length (parts_in def.now.body) < 2 ^ 32 }
-        ensures { IfOk result (λ e. Allows (λ s r. Some (Event.Defined (next_decision s.units) (program_text def.now))) line.now self.old self.new e) }
+        ensures { IfOk result (λ e. DoesAllowed (λ s r. Some (Event.Defined (next_decision s.units) (program_text def.now))) line.now self.old self.new e) }
     {
         let (number, text) = self.books.define_program(def)?;
         self.follow = Follow::Nothing;
@@ -67,7 +67,7 @@ impl Scheduler {
         name: &Name,
         args: &Row,
     ) -> Result<Option<UnitKind>, AllocError>
-        ensures { IfOk result (λ kind. (s : State) → Stands self.now s
+        ensures { IfOk result (λ kind. (s : State) → StandsForState self.now s
             → kind ≡ option_map (λ p. kind_called_in s.units session name.now args.now p.body) (kept_program name.now s.units.kept)) }
     {
         let Some(def) = self.books.known().program(name) else {
@@ -98,7 +98,7 @@ impl Scheduler {
         name: &Name,
         args: &Row,
     ) -> Result<Coming, AllocError>
-        ensures { IfOk result (λ coming. Chooses (λ s r. calls_in s.units session name.now args.now) line.now self.old self.new coming) }
+        ensures { IfOk result (λ coming. ChoosesNext (λ s r. calls_in s.units session name.now args.now) line.now self.old self.new coming) }
     {
         match self.kind_called(session, name, args)? {
             Some(kind) => Ok(Coming::Told(self.begin(line, kind)?)),
@@ -109,7 +109,7 @@ impl Scheduler {
     /// What an act of a session brings.
     fn act_of(&mut self, line: &Line, session: u8, act: &Act) -> Result<Coming, AllocError>
         requires { IsServing line.now self.old }
-        ensures { IfOk result (λ coming. Chooses (λ s r. act_in s.units (clash_by s) session act.now (unit_of_session session s.units)) line.now self.old self.new coming) }
+        ensures { IfOk result (λ coming. ChoosesNext (λ s r. act_in s.units (clash_by s) session act.now (unit_of_session session s.units)) line.now self.old self.new coming) }
     {
         let open = name_of(self.books.unit_of_session(session));
         match act {
@@ -137,7 +137,7 @@ impl Scheduler {
     /// A turn of a program that goes on: of its open unit, or its next part begins.
     pub fn go(&mut self, line: &Line, base: Id) -> Result<Coming, AllocError>
         requires { IsServing line.now self.old }
-        ensures { IfOk result (λ coming. Chooses (λ s r. go_in s.units (clash_by s) base) line.now self.old self.new coming) }
+        ensures { IfOk result (λ coming. ChoosesNext (λ s r. go_in s.units (clash_by s) base) line.now self.old self.new coming) }
     {
         let open = name_of(self.books.unit_of_program(base));
         match open {
@@ -154,7 +154,7 @@ impl Scheduler {
 
     /// A line is refused.
     pub fn refuse(&mut self, line: &Line, refusal: Refusal) -> Event
-        ensures { Does (λ s r. Some (Event.Refused refusal)) line.now self.old self.new result }
+        ensures { DoesNext (λ s r. Some (Event.Refused refusal)) line.now self.old self.new result }
     {
         self.follow = Follow::Nothing;
         Event::Refused(refusal)
@@ -162,7 +162,7 @@ impl Scheduler {
 
     /// Stops have been armed.
     pub fn armed(&mut self, line: &Line, pairs: Pairs) -> Event
-        ensures { Does (λ s r. Some (Event.Armed pairs)) line.now self.old self.new result }
+        ensures { DoesNext (λ s r. Some (Event.Armed pairs)) line.now self.old self.new result }
     {
         self.follow = Follow::Nothing;
         Event::Armed(pairs)
@@ -171,7 +171,7 @@ impl Scheduler {
     /// What the first event of a line that is not refused is to be.
     pub fn first_of(&mut self, line: &Line) -> Result<Coming, AllocError>
         requires { IsAllowed line.now self.old }
-        ensures { IfOk result (λ coming. AllowsComing (λ s r. line_in s.units (clash_by s) (items_by s r) line.now) line.now self.old self.new coming) }
+        ensures { IfOk result (λ coming. ChoosesAllowed (λ s r. line_in s.units (clash_by s) (items_by s r) line.now) line.now self.old self.new coming) }
     {
         match line {
             Line::Table(def) => Ok(Coming::Define(table_text(self.alloc, def)?)),

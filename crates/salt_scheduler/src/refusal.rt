@@ -73,11 +73,11 @@ fn defines(line: &Line) -> bool
 }
 
 impl Scheduler {
-    ghost use Rattle.salt_scheduler.specs.Standing.{Stands};
+    ghost use Rattle.salt_scheduler.specs.Standing.{StandsForState};
 
     /// Whether a session, a program or the disks are in no state for a line.
     fn is_wrong(&self, line: &Line, can_stop: bool) -> bool
-        ensures { (s : State) → Stands self.now s → s.can_stop ≡ can_stop → result ≡ wrong_in s.units (under_way_of s) line.now }
+        ensures { (s : State) → StandsForState self.now s → s.can_stop ≡ can_stop → result ≡ wrong_in s.units (under_way_of s) line.now }
     {
         match line {
             Line::Session { session, act } => match self.books.unit_of_session(*session) {
@@ -95,14 +95,14 @@ impl Scheduler {
 
     /// Whether a unit is open or a program is not released: then nothing is defined.
     fn is_busy(&self) -> bool
-        ensures { (s : State) → Stands self.now s → result ≡ busy_in s.units (under_way_of s) }
+        ensures { (s : State) → StandsForState self.now s → result ≡ busy_in s.units (under_way_of s) }
     {
         self.books.count() > 0 || !self.watch.programs().is_empty()
     }
 
     /// How many programs are under way. That no program is unreleased twice comes of the order of the unreleased ones.
     fn count_under_way(&self) -> Result<usize, AllocError>
-        ensures { IfOk result (λ count. (s : State) → Stands self.now s → AreDistinct s.watch.programs → count ≡ (under_way_of s).count) }
+        ensures { IfOk result (λ count. (s : State) → StandsForState self.now s → AreDistinct s.watch.programs → count ≡ (under_way_of s).count) }
     {
         let beginning = self.books.first_parts()?;
         count_both(self.alloc, self.watch.programs(), beginning.as_slice())
@@ -111,7 +111,7 @@ impl Scheduler {
     /// What is refused of a line by what is defined and how many programs are under way.
     fn fault(&self, line: &Line) -> Result<Option<Refusal>, AllocError>
         requires { HasFewParts line.now }
-        ensures { IfOk result (λ refusal. (s : State) → Stands self.now s → AreDistinct s.watch.programs →
+        ensures { IfOk result (λ refusal. (s : State) → StandsForState self.now s → AreDistinct s.watch.programs →
             refusal ≡ told (line_fault (known_in s.units (under_way_of s)) line.now)) }
     {
         let known = self.books.known();
@@ -128,7 +128,7 @@ impl Scheduler {
 
     /// What is refused of a line without a fault, by the state of sessions, programs and disks.
     fn refusal_by_state(&self, line: &Line, can_stop: bool) -> Option<Refusal>
-        ensures { (s : State) → Stands self.now s → s.can_stop ≡ can_stop → result ≡ refusal_by_state s line.now }
+        ensures { (s : State) → StandsForState self.now s → s.can_stop ≡ can_stop → result ≡ refusal_by_state s line.now }
     {
         if self.is_wrong(line, can_stop) {
             Some(Refusal::State)
@@ -142,7 +142,7 @@ impl Scheduler {
     /// What is refused of a line that passes no limit of its text, where devices can be stopped or not.
     pub fn refusal(&self, line: &Line, can_stop: bool) -> Result<Option<Refusal>, AllocError>
         requires { HasFewParts line.now }
-        ensures { IfOk result (λ refusal. (s : State) → Stands self.now s → s.can_stop ≡ can_stop → AreDistinct s.watch.programs → refusal ≡ refusal_of s (Tree line.now)) }
+        ensures { IfOk result (λ refusal. (s : State) → StandsForState self.now s → s.can_stop ≡ can_stop → AreDistinct s.watch.programs → refusal ≡ refusal_of s (Tree line.now)) }
     {
         match self.fault(line)? {
             Some(refusal) => Ok(Some(refusal)),

@@ -40,11 +40,11 @@ impl Drop for Scheduler {
 }
 
 impl Scheduler {
-    ghost use Rattle.salt_scheduler.specs.Standing.{IsTurning, Stands};
+    ghost use Rattle.salt_scheduler.specs.Standing.{IsTurning, StandsForState};
 
     /// A scheduler over these books, which have no unit: nothing is watched, and no program has been called.
     pub fn new(alloc: Global, books: Books) -> Scheduler
-        ensures { (s : State) → AreBooks books s.units → s.units.units ≡ [] → s.watch ≡ empty_watch 0 → IsTurning s.units → Stands result s }
+        ensures { (s : State) → AreBooks books s.units → s.units.units ≡ [] → s.watch ≡ empty_watch 0 → IsTurning s.units → StandsForState result s }
     {
         Scheduler {
             alloc,
@@ -85,21 +85,21 @@ impl Scheduler {
 
     /// A line is asked, which may be refused.
     pub fn ask(&mut self, line: &Line) -> Result<(), AllocError>
-        ensures { OnOk result ((s : State) → Stands self.old s → Stands self.new (asked_of (Tree line.now) s)) }
+        ensures { OnOk result ((s : State) → StandsForState self.old s → StandsForState self.new (asked_of (Tree line.now) s)) }
     {
         self.books.ask(line)
     }
 
     /// The program to which `go all` turns next.
     pub fn next_turn(&self) -> Option<Id>
-        ensures { (s : State) → Stands self.now s → result ≡ next_turn_of s }
+        ensures { (s : State) → StandsForState self.now s → result ≡ next_turn_of s }
     {
         self.books.next_turn()
     }
 
     /// `go all` turns to the program that is next.
     pub fn turn(&mut self, base: Id) -> Result<(), AllocError>
-        ensures { OnOk result ((s : State) → Stands self.old s → next_turn_of s ≡ Some base → Stands self.new (turned_to base s)) }
+        ensures { OnOk result ((s : State) → StandsForState self.old s → next_turn_of s ≡ Some base → StandsForState self.new (turned_to base s)) }
     {
         self.books.turn(base)
     }

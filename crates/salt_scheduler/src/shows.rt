@@ -15,11 +15,11 @@ use salt_values::{Id, TryCopy, both_in_order, in_order};
 use std::alloc::AllocError;
 
 impl Scheduler {
-    ghost use Rattle.salt_scheduler.specs.Standing.{Does, IsServing, Stands};
+    ghost use Rattle.salt_scheduler.specs.Standing.{DoesNext, IsServing, StandsForState};
 
     /// The programs in their first part, or accepted and not released, in order of their names.
     pub(crate) fn under_way(&self) -> Result<Vec<Id>, AllocError>
-        ensures { IfOk result (λ bases. (s : State) → Stands self.now s → bases.items ≡ under_way_by s) }
+        ensures { IfOk result (λ bases. (s : State) → StandsForState self.now s → bases.items ≡ under_way_by s) }
     {
         let beginning = self.books.first_parts()?;
         both_in_order(self.alloc, self.watch.programs(), beginning.as_slice())
@@ -27,7 +27,7 @@ impl Scheduler {
 
     /// Where a program stands.
     fn base_at(&self, base: Id) -> BaseAt
-        ensures { (s : State) → Stands self.now s → result ≡ base_at_by s base }
+        ensures { (s : State) → StandsForState self.now s → result ≡ base_at_by s base }
     {
         match self.books.known().cont(base) {
             Some(cont) => BaseAt::Next(cont.next),
@@ -43,8 +43,8 @@ impl Scheduler {
 
     /// A program that is under way, as it is shown.
     fn base_item(&self, base: Id) -> Result<Item, AllocError>
-        requires { (s : State) × Stands self.now s × In base (under_way_by s) }
-        ensures { IfOk result (λ item. (s : State) → Stands self.now s → In base (under_way_by s) → item ≡ base_item_by s base) }
+        requires { (s : State) × StandsForState self.now s × In base (under_way_by s) }
+        ensures { IfOk result (λ item. (s : State) → StandsForState self.now s → In base (under_way_by s) → item ≡ base_item_by s base) }
     {
         let program = match self.called.name(base) {
             Some(name) => name.copy(self.alloc)?,
@@ -59,8 +59,8 @@ impl Scheduler {
 
     /// Programs that are under way, as they are shown.
     fn base_items(&self, bases: &[Id]) -> Result<Items, AllocError>
-        requires { (s : State) × Stands self.now s × Every (λ b. In b (under_way_by s)) bases.now }
-        ensures { IfOk result (λ items. (s : State) → Stands self.now s → Every (λ b. In b (under_way_by s)) bases.now → items ≡ map (base_item_by s) bases.now) }
+        requires { (s : State) × StandsForState self.now s × Every (λ b. In b (under_way_by s)) bases.now }
+        ensures { IfOk result (λ items. (s : State) → StandsForState self.now s → Every (λ b. In b (under_way_by s)) bases.now → items ≡ map (base_item_by s) bases.now) }
     {
         let mut items = Items::new(self.alloc);
         for base in bases {
@@ -72,7 +72,7 @@ impl Scheduler {
     /// The programs that are under way are shown.
     pub(crate) fn show_bases(&mut self, line: &Line) -> Result<Event, AllocError>
         requires { IsServing line.now self.old }
-        ensures { IfOk result (λ e. Does (λ s r. Some (Event.Shown (items_by s r).bases)) line.now self.old self.new e) }
+        ensures { IfOk result (λ e. DoesNext (λ s r. Some (Event.Shown (items_by s r).bases)) line.now self.old self.new e) }
     {
         let bases = self.under_way()?;
         let items = self.base_items(bases.as_slice())?;
@@ -82,7 +82,7 @@ impl Scheduler {
 
     /// The locks that are held are shown.
     pub(crate) fn show_locks(&mut self, line: &Line) -> Result<Event, AllocError>
-        ensures { IfOk result (λ e. Does (λ s r. Some (Event.Shown (items_by s r).locks)) line.now self.old self.new e) }
+        ensures { IfOk result (λ e. DoesNext (λ s r. Some (Event.Shown (items_by s r).locks)) line.now self.old self.new e) }
     {
         let units = in_order(self.alloc, self.books.names()?.as_slice())?;
         let items = self.watch.lock_items(units.as_slice())?;

@@ -27,11 +27,11 @@ use salt_values::Id;
 use std::alloc::AllocError;
 
 impl Scheduler {
-    ghost use Rattle.salt_scheduler.specs.Standing.{Chooses, Does, Gives, IsServing, ServesLine, Stands};
+    ghost use Rattle.salt_scheduler.specs.Standing.{ChoosesNext, DoesNext, AnswersWith, IsServing, ServesLine, StandsForState};
 
     /// A unit begins.
     pub(crate) fn begin(&mut self, line: &Line, kind: UnitKind) -> Result<Event, AllocError>
-        ensures { IfOk result (λ e. Does (λ s r. Some (begins_in s.units kind)) line.now self.old self.new e) }
+        ensures { IfOk result (λ e. DoesNext (λ s r. Some (begins_in s.units kind)) line.now self.old self.new e) }
     {
         let told = copy_kind(self.alloc, &kind)?;
         note_call(&mut self.called, &kind)?;
@@ -49,8 +49,8 @@ impl Scheduler {
         requires there { HaveUnit self.old.books asking.unit }
         requires leaves_keys { leaves_keys self.old.books.known.schema asking.statement ≡ true }
         requires keyed { IsKeyed (tables_of rows.now.entries) }
-        ensures { IfOk result (λ e. (s : State) (o : OpenUnit) → Stands self.old s → IsSoundState s → IsAskedBy asking s.units o
-            → AreLoaded asking.reach (tables_of rows.now.entries) s.units.kept.tables → Gives s (Some (does_in s.units o asking.statement)) self.new (Some e)) }
+        ensures { IfOk result (λ e. (s : State) (o : OpenUnit) → StandsForState self.old s → IsSoundState s → IsAskedBy asking s.units o
+            → AreLoaded asking.reach (tables_of rows.now.entries) s.units.kept.tables → AnswersWith s (Some (does_in s.units o asking.statement)) self.new (Some e)) }
     {
         let Asking {
             unit,
@@ -75,8 +75,8 @@ impl Scheduler {
     /// A unit waits for these owners.
     fn wait(&mut self, line: &Line, asking: Asking, owners: Owners) -> Result<Event, AllocError>
         requires { HaveUnit self.old.books asking.unit }
-        ensures { IfOk result (λ e. (s : State) (o : OpenUnit) → Stands self.old s → ServesLine line.now s → IsAskedBy asking s.units o
-            → Gives s (Some (Event.Waits asking.unit owners)) self.new (Some e)) }
+        ensures { IfOk result (λ e. (s : State) (o : OpenUnit) → StandsForState self.old s → ServesLine line.now s → IsAskedBy asking s.units o
+            → AnswersWith s (Some (Event.Waits asking.unit owners)) self.new (Some e)) }
     {
         let Asking {
             unit,
@@ -99,7 +99,7 @@ impl Scheduler {
     /// A unit takes a turn: it is to do its next statement, or waits for those that hold what it would reach.
     pub(crate) fn take_turn(&mut self, line: &Line, unit: Id) -> Result<Coming, AllocError>
         requires { IsServing line.now self.old }
-        ensures { IfOk result (λ coming. Chooses (λ s r. turn_of_in s.units (clash_by s) (unit_named unit s.units.units)) line.now self.old self.new coming) }
+        ensures { IfOk result (λ coming. ChoosesNext (λ s r. turn_of_in s.units (clash_by s) (unit_named unit s.units.units)) line.now self.old self.new coming) }
     {
         let Some(asking) = self.books.asking(line, unit)? else {
             return Ok(Coming::Nothing);
@@ -116,7 +116,7 @@ impl Scheduler {
 
     /// A unit that has waited is to do its statement.
     pub(crate) fn serve(&self, line: &Line, unit: Id) -> Result<Coming, AllocError>
-        ensures { IfOk result (λ coming. Chooses (λ s r. option_and_then (serve_in s.units) (unit_named unit s.units.units)) line.now self.now self.now coming) }
+        ensures { IfOk result (λ coming. ChoosesNext (λ s r. option_and_then (serve_in s.units) (unit_named unit s.units.units)) line.now self.now self.now coming) }
     {
         match self.books.asking(line, unit)? {
             Some(asking) => Ok(Coming::Act(asking)),

@@ -7,11 +7,11 @@ use Rattle.salt_values.specs.declared.id.Id.{Id}
 use Rattle.std.specs.Prelude.{List, ℕ}
 
 -- what a first opening writes, the next boot, a definition by its text, or a unit with its changes and its program's move
-pub data Written : Type 0 where
-  OfOpening : Written
-  OfBoot : Written
-  OfDefinition : List ℕ → Written
-  OfUnit : Id → List Change → Move → Written
+pub data ToWrite : Type 0 where
+  OfOpening : ToWrite
+  OfBoot : ToWrite
+  OfDefinition : List ℕ → ToWrite
+  OfUnit : Id → List Change → Move → ToWrite
 
 -- what it refuses or finds now, it would have refused or found before
 pub record FindsNoMore (old_refuses : OpenErr → Type 0) (old_finds : Kept → Type 0) (refuses : OpenErr → Type 0) (finds : Kept → Type 0) : Type 0 where

@@ -8,7 +8,7 @@ ghost use Rattle.salt_model.specs.Tables.{Tables};
 ghost use Rattle.salt_storage.specs.Answers.{IsLater, IsRefusal, MayFail, WritesNothing, disk_err, open_disk_err};
 ghost use Rattle.salt_storage.specs.Staying.{StaysWithin};
 ghost use Rattle.salt_storage.specs.Storing.{IsFound, IsPartOf, IsSoundKept, MayDecide, MayDefine, Reopens, booted, decided, defined};
-ghost use Rattle.salt_storage.specs.Writing.{FindsNoMore, OfBoot, OfDefinition, OfOpening, OfUnit, Written};
+ghost use Rattle.salt_storage.specs.Writing.{FindsNoMore, OfBoot, OfDefinition, OfOpening, OfUnit, ToWrite};
 ghost use Rattle.salt_storage.specs.declared.halt.Halt.TheVariants.{DeviceFull, Stopped};
 ghost use Rattle.salt_storage.specs.declared.open.OpenErr.{OpenErr};
 ghost use Rattle.salt_stands.specs.Stands.{are_spent};
@@ -68,7 +68,7 @@ pub trait Storage {
     ghost asked: { Self → Shape };
 
     /// What is written next would pass the limit of this device.
-    ghost fills: { View → Self → Written → ℕ → Type 0 };
+    ghost fills: { View → Self → ToWrite → ℕ → Type 0 };
 
     /// Opens it at first, and gives what it has found.
     fn open<D: Disks, F: Fn(PlaceKind, &Key, u32) -> u32>(

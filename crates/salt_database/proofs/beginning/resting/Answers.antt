@@ -2,7 +2,7 @@ use Rattle.salt_books.specs.declared.coming.Coming.{Coming}
 use Rattle.salt_database.proofs.Resting.{rest-told, told-event}
 use Rattle.salt_database.proofs.beginning.resting.Goals as goal
 use Rattle.salt_drain.specs.Follows.{rest_in}
-use Rattle.salt_drain.specs.Recovering.{Brings}
+use Rattle.salt_drain.specs.Recovering.{AnswersWithComing}
 use Rattle.std.proofs.Common.{subst}
 
 pub unreachable-requires : goal.unreachable-requires
@@ -14,5 +14,5 @@ unreachable-requires c =
 
 pub returns : goal.returns
 returns c = λ s r.
-    let b = subst (λ (x : Coming). Brings s (rest_in s.units) c.opened.new.self x) c.in-Told.is (c.in_ok-coming.ensures s r.stands r.recovers) in
+    let b = subst (λ (x : Coming). AnswersWithComing s (rest_in s.units) c.opened.new.self x) c.in-Told.is (c.in_ok-coming.ensures s r.stands r.recovers) in
     record { told = b.meant; done = b.ready.0 }
