@@ -382,12 +382,11 @@ told-stops : (first : List (ℕ × ℕ)) → first ≡ [] → armed_behind armed
 unfolding armed_story
 told-stops first e = ap (λ stops. armed_behind armed_story (Some stops)) e
 
-first-pick : List (ℕ × ℕ) → ℕ
+abbrev first-pick : List (ℕ × ℕ) → ℕ
 first-pick [] = 0
 first-pick (stop ∷ stops) = stop.1
 
 another-stop : (r : Run) → r.command ≡ Some (Script one_part) → r.status ≡ Done → r.before.devices.armed ≡ [] → r.story ≡ armed_story → r.after.devices.armed ≡ (7, 0) ∷ [] → Runs r → ⊥
-unfolding first-pick
 another-stop r is done none told left = of-script r is by
   where
     same : (a b : List (ℕ × ℕ)) → Some a ≡ Some b → a ≡ b
