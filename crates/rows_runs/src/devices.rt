@@ -79,11 +79,11 @@ impl Devices {
         self.disks.set_bytes(dev, bytes)
     }
 
-    /// One of them has no room for a byte.
-    pub fn fill(&mut self, dev: u32)
+    /// One of them has room for so many bytes.
+    pub fn limit(&mut self, dev: u32, limit: u64)
         requires { dev < 26 }
     {
-        self.disks.set_limit(dev, 0);
+        self.disks.set_limit(dev, limit);
     }
 
     /// A stop is to come.

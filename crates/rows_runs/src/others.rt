@@ -1,4 +1,4 @@
-//! Runs over devices that fail twice, are full, or hold other bytes than a database's.
+//! Runs over devices that fail twice, are or become full, or hold other bytes than a database's or numbers that are all but spent.
 
 ghost use Rattle.std.specs.Prelude.{◌<◌};
 
@@ -23,6 +23,14 @@ const CUT: &[u8] = b"\x01\0";
 const SPENT: &[u8] =
     b"\x01\0\0\0\0\0\0\0\x30SALTC\x03\0\0\0\0\0\0\0\x01\x02\0\x80\0\0\0\0\0\0\0\0\0\0\0\0\0\0\0\0\0\0\0\0\0\0\0\0\0\0\0\0\0\0\0\0";
 
+/// The same, but for its boot, which is 2^63 - 1.
+const LAST_BOOT: &[u8] =
+    b"\x01\0\0\0\0\0\0\0\x30SALTC\x03\0\0\0\0\0\0\0\x01\x02\0\x7f\xff\xff\xff\xff\xff\xff\xff\0\0\0\0\0\0\0\0\0\0\0\0\0\0\0\0\0\0\0\0\0\0\0\0\0";
+
+/// The same, where the boot is 1, and the last decision 2^63 - 1.
+const LAST_DECISION: &[u8] =
+    b"\x01\0\0\0\0\0\0\0\x30SALTC\x03\0\0\0\0\0\0\0\x01\x02\0\0\0\0\0\0\0\0\x01\x7f\xff\xff\xff\xff\xff\xff\xff\0\0\0\0\0\0\0\0\0\0\0\0\0\0\0\0\0";
+
 /// The devices on which a run begins.
 #[derive(Clone, Copy)]
 enum Start {
@@ -38,6 +46,14 @@ enum Start {
     Shorter,
     /// The same, where a partition's log is this one.
     Partition(&'static [u8]),
+    /// The same, where the coordinator's device has room for so many bytes. Its log has 223, and a gate: a header of 57, a boot of 18, a
+    /// definition of 60, and two decisions of 44 each. An entry that is appended is 9 bytes longer than its payload, and needs a gate behind it.
+    CoordinatorWithin(u64),
+    /// The same, where the device of the partition with the row has room for so many bytes. Its log has 84, and a gate: a header of 28, and a
+    /// unit of 56.
+    PartitionWithin(u64),
+    /// Those of a database that keeps nothing, where the coordinator's log is this one.
+    Empty(&'static [u8]),
 }
 
 /// A run over such devices.
@@ -51,7 +67,13 @@ struct Case {
 
 const RUN: &[&str] = &["run"];
 
-const CASES: [Case; 10] = [
+/// A definition of 27 bytes: an entry of 53, behind a boot.
+const DEFINITION: &str = "create table w (id int key)\n";
+
+/// A row of the partition of device 5: a unit of 56 bytes there, and a decision of 44, behind a boot.
+const ROW: &str = "@1 insert into t values (7, 1)\n";
+
+const CASES: [Case; 21] = [
     Case {
         name: "write 30 fails",
         start: Start::Failing(&[30]),
@@ -112,6 +134,72 @@ const CASES: [Case; 10] = [
         words: RUN,
         script: ROWS,
     },
+    Case {
+        name: "no room for a boot",
+        start: Start::CoordinatorWithin(241),
+        words: RUN,
+        script: "",
+    },
+    Case {
+        name: "no room for a definition",
+        start: Start::CoordinatorWithin(294),
+        words: RUN,
+        script: DEFINITION,
+    },
+    Case {
+        name: "room for a definition",
+        start: Start::CoordinatorWithin(295),
+        words: RUN,
+        script: DEFINITION,
+    },
+    Case {
+        name: "no room for a unit",
+        start: Start::PartitionWithin(140),
+        words: RUN,
+        script: ROW,
+    },
+    Case {
+        name: "room for a unit",
+        start: Start::PartitionWithin(141),
+        words: RUN,
+        script: ROW,
+    },
+    Case {
+        name: "no room for a decision",
+        start: Start::CoordinatorWithin(285),
+        words: RUN,
+        script: ROW,
+    },
+    Case {
+        name: "room for a decision",
+        start: Start::CoordinatorWithin(286),
+        words: RUN,
+        script: ROW,
+    },
+    Case {
+        name: "boots are spent behind a stop",
+        start: Start::Empty(LAST_BOOT),
+        words: RUN,
+        script: "crash 1 0\ncreate table t (id int key, v int)\n",
+    },
+    Case {
+        name: "decisions are spent behind a stop",
+        start: Start::Empty(LAST_DECISION),
+        words: RUN,
+        script: "create table t (id int key, v int)\ncrash 1 0\n@1 insert into t values (5, -3)\n",
+    },
+    Case {
+        name: "a definition in flight that stands spends decisions",
+        start: Start::Empty(LAST_DECISION),
+        words: RUN,
+        script: "crash 3 1\ncreate table t (id int key, v int)\n",
+    },
+    Case {
+        name: "one that does not stand spends none",
+        start: Start::Empty(LAST_DECISION),
+        words: RUN,
+        script: "crash 3 0\ncreate table t (id int key, v int)\n",
+    },
 ];
 
 /// New devices, of which these writes and syncs fail.
@@ -124,7 +212,7 @@ fn failing(alloc: Global, calls: &[u64]) -> Result<Devices, AllocError> {
 /// New devices, where no byte has room on a partition's.
 fn with_no_room(alloc: Global) -> Result<Devices, AllocError> {
     let mut devices = Devices::new(alloc)?;
-    devices.fill(2);
+    devices.limit(2, 0);
     Ok(devices)
 }
 
@@ -145,6 +233,22 @@ fn holding(
 {
     let mut devices = devices?;
     devices.set_bytes(dev, bytes)?;
+    Ok(devices)
+}
+
+/// The devices of a database that keeps nothing.
+fn with_nothing(alloc: Global) -> Result<Devices, AllocError> {
+    let mut devices = Devices::new(alloc)?;
+    let _outcome = devices.run(alloc, b"")?;
+    Ok(devices)
+}
+
+/// The devices, where one has room for so many bytes.
+fn within(devices: Result<Devices, AllocError>, dev: u32, limit: u64) -> Result<Devices, AllocError>
+    requires { dev < 26 }
+{
+    let mut devices = devices?;
+    devices.limit(dev, limit);
     Ok(devices)
 }
 
@@ -169,6 +273,9 @@ fn devices_of(alloc: Global, start: Start) -> Result<Devices, AllocError> {
         Start::Kept => with_row(alloc),
         Start::Shorter => with_row_but_a_byte(alloc),
         Start::Partition(bytes) => holding(with_row(alloc), 2, bytes),
+        Start::CoordinatorWithin(limit) => within(with_row(alloc), 0, limit),
+        Start::PartitionWithin(limit) => within(with_row(alloc), 5, limit),
+        Start::Empty(bytes) => holding(with_nothing(alloc), 0, bytes),
     }
 }
 
