@@ -65,13 +65,12 @@ fn add_act(alloc: Global, out: &mut Vec<u8>, act: &Act) -> Result<(), AllocError
     }
 }
 
-fn add_stops(alloc: Global, out: &mut Vec<u8>, stops: &[(u64, u8)]) -> Result<(), AllocError> {
-    out.extend_from_slice(b"crash")?;
-    for (call, pick) in stops {
+fn add_pairs(alloc: Global, out: &mut Vec<u8>, pairs: &[(u64, u8)]) -> Result<(), AllocError> {
+    for (first, second) in pairs {
         out.push(b' ')?;
-        add_number(alloc, out, *call)?;
+        add_number(alloc, out, *first)?;
         out.push(b' ')?;
-        add_number(alloc, out, u64::from(*pick))?;
+        add_number(alloc, out, u64::from(*second))?;
     }
     Ok(())
 }
@@ -101,7 +100,14 @@ fn add_line(alloc: Global, out: &mut Vec<u8>, line: &Line) -> Result<(), AllocEr
         Line::GoAll => out.extend_from_slice(b"go all"),
         Line::ShowLocks => out.extend_from_slice(b"show locks"),
         Line::ShowBases => out.extend_from_slice(b"show bases"),
-        Line::Crash(stops) => add_stops(alloc, out, stops.as_slice()),
+        Line::Crash(stops) => {
+            out.extend_from_slice(b"crash")?;
+            add_pairs(alloc, out, stops.as_slice())
+        }
+        Line::Net(twists) => {
+            out.extend_from_slice(b"net")?;
+            add_pairs(alloc, out, twists.as_slice())
+        }
     }
 }
 

@@ -40,6 +40,8 @@ limit_word limit.Depth = codes "depth"
 limit_word limit.Crash = codes "crash"
 limit_word limit.Pick = codes "pick"
 limit_word limit.Pairs = codes "pairs"
+limit_word limit.Net = codes "net"
+limit_word limit.Act = codes "act"
 limit_word limit.Bases = codes "bases"
 
 -- the limit that a number above `most` passes

@@ -15,7 +15,7 @@ use Rattle.salt_tokens.specs.declared.keyword.Keyword.TheVariants as word
 use Rattle.salt_tokens.specs.declared.sign.Sign.TheVariants as mark
 use Rattle.salt_values.specs.declared.value.Value.{Value}
 use Rattle.salt_values.specs.declared.value.Value.TheVariants as value
-use Rattle.std.specs.Prelude.{List, [], neg_ℤ, pos, ℕ, ◌++◌, ◌∷◌}
+use Rattle.std.specs.Prelude.{List, [], codes, neg_ℤ, pos, ℕ, ◌++◌, ◌∷◌}
 
 -- a number, perhaps behind a minus sign, or a text
 pub data IsLiteral : Symbols → Value → Type 0 where
@@ -33,7 +33,7 @@ pub data IsAct (Inner Deeper : Symbols → Expr → Type 0) : Symbols → Act �
       IsAct Inner Deeper (key word.Call ∷ name p ∷ sign mark.Open ∷ (ts ++ sign mark.Close ∷ [])) (act.Call p vs)
   does : {ts : Symbols} {st : Statement} → IsStatement Inner Deeper ts st → IsAct Inner Deeper ts (act.Do st)
 
--- the call that stops, and what it leaves
+-- the call that stops, and what it leaves; or the turn of messages, and what happens there
 pub data IsStop : Symbols → ℕ × ℕ → Type 0 where
   is_stop : {n pick : ℕ} → IsStop (int n ∷ int pick ∷ []) (n, pick)
 
@@ -49,3 +49,4 @@ pub data IsLine (Inner Deeper : Symbols → Expr → Type 0) : Symbols → Line 
   of_show_locks : IsLine Inner Deeper (key word.Show ∷ key word.Locks ∷ []) line.ShowLocks
   of_show_bases : IsLine Inner Deeper (key word.Show ∷ key word.Bases ∷ []) line.ShowBases
   of_crash : {ts : Symbols} {stops : List (ℕ × ℕ)} → Several IsStop ts stops → IsLine Inner Deeper (key word.Crash ∷ ts) (line.Crash stops)
+  of_net : {ts : Symbols} {pairs : List (ℕ × ℕ)} → Several IsStop ts pairs → IsLine Inner Deeper (name (codes "net") ∷ ts) (line.Net pairs)

@@ -112,6 +112,10 @@ crash_text : line_text (line.Crash ((1, 0) ∷ (9, 0) ∷ [])) ≡ codes "crash 
 unfolding digits
 crash_text = refl
 
+net_text : line_text (line.Net ((1, 0) ∷ (2, 1) ∷ (3, 2) ∷ [])) ≡ codes "net 1 0 2 1 3 2"
+unfolding digits
+net_text = refl
+
 table_line_text : line_text (line.Table acct_def) ≡ codes "create table acct (id int key, bal int, check ((bal >= 0) and (bal <= 1000)))"
 unfolding digits
 table_line_text = refl
@@ -234,6 +238,13 @@ stops :
     ≡ (Some limit.Crash ∷ None ∷ Some limit.Pick ∷ Some limit.Pairs ∷ [])
 unfolding line_limit
 stops = refl
+
+twists :
+    (line_limit (line.Net ((0, 0) ∷ [])) ∷ line_limit (line.Net ((1000000, 2) ∷ [])) ∷ line_limit (line.Net ((1000001, 0) ∷ [])) ∷
+    line_limit (line.Net ((1, 3) ∷ (0, 0) ∷ [])) ∷ line_limit (line.Net (replicate 8 (1, 0) ++ (0, 9) ∷ [])) ∷ [])
+    ≡ (Some limit.Net ∷ None ∷ Some limit.Net ∷ Some limit.Act ∷ Some limit.Pairs ∷ [])
+unfolding line_limit
+twists = refl
 
 -- What is refused, where the table and the two programs are defined.
 

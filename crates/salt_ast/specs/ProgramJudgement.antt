@@ -191,3 +191,4 @@ line_fault known line.GoAll = None
 line_fault known line.ShowLocks = None
 line_fault known line.ShowBases = None
 line_fault known (line.Crash stops) = None
+line_fault known (line.Net twists) = None

@@ -1,6 +1,6 @@
 -- Limits of programs and lines, and the first that a tree's text passes.
 use Rattle.salt_values.specs.declared.limits.TheConstants.{CRASH_MOST, PAIRS_MOST, PARAMETERS_MOST, PARTS_MOST}
-use Rattle.salt_values.specs.declared.limits.TheConstants.{PICK_MOST, RETRY_MOST, SESSION_MOST, STATEMENTS_MOST, VARIABLES_MOST}
+use Rattle.salt_values.specs.declared.limits.TheConstants.{PICK_MOST, RETRY_MOST, SESSION_MOST, STATEMENTS_MOST, TURN_MOST, TWIST_MOST, VARIABLES_MOST}
 use Rattle.salt_ast.specs.Limits.{above, field_passed, height_passed, name_passed, passed_in_list, statement_passed, table_passed, value_passed}
 use Rattle.salt_ast.specs.Paths.{body_statements}
 use Rattle.salt_ast.specs.Trees.{statement_exprs}
@@ -71,6 +71,10 @@ act_passed (act.Do st) = statement_passed st
 abbrev pub stop_passed : ℕ × ℕ → Option LimitName
 stop_passed stop = option_or (outside 1 CRASH_MOST limit.Crash stop.0) (above PICK_MOST limit.Pick stop.1)
 
+-- the turn at which something befalls a message, and what
+abbrev pub twist_passed : ℕ × ℕ → Option LimitName
+twist_passed twist = option_or (outside 1 TURN_MOST limit.Net twist.0) (above TWIST_MOST limit.Act twist.1)
+
 abbrev pub line_passed : Line → Option LimitName
 line_passed line.Nothing = None
 line_passed (line.Table d) = table_passed d
@@ -81,6 +85,7 @@ line_passed line.GoAll = None
 line_passed line.ShowLocks = None
 line_passed line.ShowBases = None
 line_passed (line.Crash stops) = passed_in_list PAIRS_MOST limit.Pairs stop_passed stops
+line_passed (line.Net twists) = passed_in_list PAIRS_MOST limit.Pairs twist_passed twists
 
 -- The depth, which comes after all other limits of a text.
 
@@ -106,6 +111,7 @@ line_exprs line.GoAll = []
 line_exprs line.ShowLocks = []
 line_exprs line.ShowBases = []
 line_exprs (line.Crash stops) = []
+line_exprs (line.Net twists) = []
 
 -- the first limit that a program passes by its tree
 unfoldable pub program_limit : ProgramDef → Option LimitName

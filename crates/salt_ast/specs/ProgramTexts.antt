@@ -81,7 +81,7 @@ id_text id = decimal id.boot ++ (codes "." ++ decimal id.seq)
 abbrev pub base_text : Id → List ℕ
 base_text base = codes "b" ++ id_text base
 
--- the call that stops, and what it leaves
+-- the call that stops, and what it leaves; or the turn of messages, and what happens there
 abbrev pub stop_text : ℕ × ℕ → List ℕ
 stop_text stop = decimal stop.0 ++ (codes " " ++ decimal stop.1)
 
@@ -95,3 +95,4 @@ line_text line.GoAll = codes "go all"
 line_text line.ShowLocks = codes "show locks"
 line_text line.ShowBases = codes "show bases"
 line_text (line.Crash pairs) = codes "crash" ++ preceded (codes " ") stop_text pairs
+line_text (line.Net pairs) = codes "net" ++ preceded (codes " ") stop_text pairs

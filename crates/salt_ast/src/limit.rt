@@ -38,8 +38,12 @@ pub enum LimitName {
     Crash,
     /// The number of what a stop leaves is at most 4.
     Pick,
-    /// A line arms at most 8 stops.
+    /// A line arms at most 8 stops, or pairs of messages.
     Pairs,
+    /// The number of the turn at which something befalls a message is 1 to 1,000,000.
+    Net,
+    /// The number of what befalls it is at most 2.
+    Act,
     /// At most 1,024 BASE programs are in their first part, or accepted and not yet released.
     Bases,
 }
@@ -67,6 +71,8 @@ impl LimitName {
             LimitName::Crash => b"crash",
             LimitName::Pick => b"pick",
             LimitName::Pairs => b"pairs",
+            LimitName::Net => b"net",
+            LimitName::Act => b"act",
             LimitName::Bases => b"bases",
         }
     }

@@ -5,7 +5,8 @@ use crate::trees::{Statement, TableDef};
 use salt_values::{Id, Name, Row};
 use sqlite_items::Items;
 
-/// Stops of the disks that a line arms: the number of the call that stops, and which bytes it leaves.
+/// What a line arms: stops of the disks, each by the number of the call that stops and which bytes it leaves; or what befalls messages,
+/// each by the number of the turn and what happens there.
 pub type Pairs = Items<(u64, u8)>;
 
 /// What a session is to do.
@@ -52,6 +53,8 @@ pub enum Line {
     ShowBases,
     /// Stops of the disks, in the order in which they come.
     Crash(Pairs),
+    /// What befalls the messages of commits, in the order in which it comes.
+    Net(Pairs),
 }
 
 impl Drop for Line {
@@ -69,6 +72,7 @@ impl Drop for Line {
             Line::ShowLocks => {}
             Line::ShowBases => {}
             Line::Crash(_pairs) => {}
+            Line::Net(_pairs) => {}
         }
     }
 }

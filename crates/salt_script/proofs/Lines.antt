@@ -1,10 +1,12 @@
 -- Lines: the answer for a row is that of what the row begins.
-use Rattle.std.proofs.Common.{List, None, Option, Some, [], ap, arith, length, refl, subst, sym, ℕ, ◌∙◌, ◌∷◌, ◌≡◌}
+use Rattle.std.proofs.Common.{Bool, List, None, Option, Some, [], ap, arith, codes, length, refl, subst, sym, ℕ, ◌∙◌, ◌∷◌, ◌≡◌}
 use Rattle.std.proofs.lemmas.Bool.Decides.{nat_tests}
+use Rattle.std.proofs.lemmas.Slice.Eq.{bytes_eq-Decides}
 use Rattle.std.specs.Option.{option_or}
 use Rattle.salt_model.specs.Words.{is_empty}
 use Rattle.salt_tokens.specs.declared.lexeme.Lexeme.{Lexeme}
-use Rattle.std.specs.Prelude.{Err, Ok, Result, false, option_map, true, ◌==◌}
+use Rattle.std.specs.Prelude.{Err, Ok, Result, false, if◌then◌else◌, option_map, true, ◌==◌}
+use Rattle.std.specs.Str.{bytes_eq}
 use Rattle.salt_ast.specs.Limits.{height_passed, table_limit}
 use Rattle.salt_ast.specs.Lines as form
 use Rattle.salt_ast.specs.Lines.{IsAct, IsLine, IsStop}
@@ -26,12 +28,14 @@ use Rattle.salt_parse.specs.declared.error.ParseErr.TheVariants.{Limit, Memory, 
 use Rattle.salt_parse.proofs.Whole.{statement_deepens}
 use Rattle.salt_script.proofs.Acts.{IsSettled}
 use Rattle.salt_script.specs.Answers.{GivesOrLimit}
-use Rattle.salt_script.specs.Forms.{Begins, a_program, a_table, a_turn, all_turns, an_act, go_begins, line_begins, no_line, show_begins, showing_bases}
-use Rattle.salt_script.specs.Forms.{showing_locks, stops as begins_stops}
-use Rattle.salt_script.specs.Literals.{stops_at, stops_passed}
-use Rattle.salt_script.specs.Spelled.{DeepAct, DeepLine, ShallowAct, ShallowLine, act_limit}
+use Rattle.salt_script.specs.Forms.{Begins, a_program, a_table, a_turn, all_turns, an_act, go_begins, line_begins, name_begins, no_line, show_begins}
+use Rattle.salt_script.specs.Forms.{pairs as begins_pairs, showing_bases, showing_locks}
+use Rattle.salt_script.specs.Literals.{pairs_at, pairs_passed}
+use Rattle.salt_script.specs.Spelled.{DeepAct, DeepLine, ShallowAct, ShallowLine, act_limit, line_of}
+use Rattle.salt_script.specs.declared.pairs.Armed.{Armed}
+use Rattle.salt_script.specs.declared.pairs.Armed.TheVariants.{Stops, Twists}
 use Rattle.salt_values.specs.declared.limits.TheConstants.{SESSION_MOST}
-use Rattle.salt_tokens.specs.Symbols.{Symbol, Symbols, int, key, sign, symbols_in}
+use Rattle.salt_tokens.specs.Symbols.{Symbol, Symbols, int, key, name, sign, symbols_in}
 use Rattle.salt_tokens.specs.declared.keyword.Keyword.TheVariants as word
 use Rattle.salt_tokens.specs.declared.sign.Sign.TheVariants as mark
 
@@ -66,6 +70,7 @@ no_table _ e h _ form.of_go_all = absurd cc
 no_table _ e h _ form.of_show_locks = absurd cc
 no_table _ e h _ form.of_show_bases = absurd cc
 no_table _ e h _ (form.of_crash s) = absurd cc
+no_table _ e h _ (form.of_net s) = absurd cc
 
 pub table_settles : (ts : Symbols) (r : Result TableDef ParseErr) → line_begins ts ≡ a_table → Settles table_limit ShallowTable DeepTable ts r →
     IsLineSettled ts (table_line r)
@@ -97,6 +102,7 @@ no_program _ e h _ form.of_go_all = absurd cc
 no_program _ e h _ form.of_show_locks = absurd cc
 no_program _ e h _ form.of_show_bases = absurd cc
 no_program _ e h _ (form.of_crash s) = absurd cc
+no_program _ e h _ (form.of_net s) = absurd cc
 
 pub program_settles : (ts : Symbols) (r : Result ProgramDef ParseErr) → line_begins ts ≡ a_program →
     Settles program_limit ShallowProgram DeepProgram ts r → IsLineSettled ts (program_line r)
@@ -108,6 +114,11 @@ program_settles ts (Err (Limit l)) e h = (line.Program h.0, form.of_program h.1,
 
 -- ---- what the rows are that begin so
 
+-- what the line of pairs begins with
+abbrev arming : Armed → Symbol
+arming Stops = key word.Crash
+arming Twists = name (codes "net")
+
 data BegunAs : Symbols → Begins → Type 0 where
   as_table : {us : Symbols} → BegunAs (key word.Create ∷ us) a_table
   as_program : {us : Symbols} → BegunAs (key word.Program ∷ us) a_program
@@ -116,7 +127,7 @@ data BegunAs : Symbols → Begins → Type 0 where
   as_all : BegunAs (key word.Go ∷ key word.All ∷ []) all_turns
   as_locks : BegunAs (key word.Show ∷ key word.Locks ∷ []) showing_locks
   as_bases : BegunAs (key word.Show ∷ key word.Bases ∷ []) showing_bases
-  as_stops : {us : Symbols} → BegunAs (key word.Crash ∷ us) (begins_stops us)
+  as_pairs : {armed : Armed} {us : Symbols} → BegunAs (arming armed ∷ us) (begins_pairs armed us)
   as_none : {us : Symbols} → BegunAs us no_line
 
 go_view : (us : Symbols) → BegunAs (key word.Go ∷ us) (go_begins us)
@@ -129,12 +140,20 @@ show_view (key word.Locks ∷ []) = as_locks
 show_view (key word.Bases ∷ []) = as_bases
 show_view _ = as_none
 
+name_view : (n : List ℕ) (us : Symbols) → BegunAs (name n ∷ us) (name_begins n us)
+name_view n us = by (bytes_eq n (codes "net")) (bytes_eq-Decides n (codes "net")).0
+  where
+    by : (t : Bool) → (t ≡ true → n ≡ codes "net") → BegunAs (name n ∷ us) (if t then begins_pairs Twists us else no_line)
+    by true h = subst (λ (m : List ℕ). BegunAs (name m ∷ us) (begins_pairs Twists us)) (sym (h refl)) (as_pairs {armed = Twists})
+    by false h = as_none
+
 view : (ts : Symbols) → BegunAs ts (line_begins ts)
 view (key word.Create ∷ us) = as_table
 view (key word.Program ∷ us) = as_program
 view (key word.Go ∷ us) = go_view us
 view (key word.Show ∷ us) = show_view us
-view (key word.Crash ∷ us) = as_stops
+view (key word.Crash ∷ us) = as_pairs {armed = Stops}
+view (name n ∷ us) = name_view n us
 view (sign mark.At ∷ int s ∷ us) = as_act
 view _ = as_none
 
@@ -176,6 +195,7 @@ none_settles ts e = go ts e
     go _ h _ form.of_show_locks = absurd cc
     go _ h _ form.of_show_bases = absurd cc
     go _ h _ (form.of_crash s) = absurd cc
+    go _ h _ (form.of_net s) = absurd cc
 
 -- ---- one turn
 
@@ -244,6 +264,7 @@ no_session _ us s e h _ form.of_go_all = absurd cc
 no_session _ us s e h _ form.of_show_locks = absurd cc
 no_session _ us s e h _ form.of_show_bases = absurd cc
 no_session _ us s e h _ (form.of_crash d) = absurd cc
+no_session _ us s e h _ (form.of_net d) = absurd cc
 
 pub session_within : (ts us : Symbols) (s : ℕ) (a : Act) → line_begins ts ≡ an_act s us → session_passed s ≡ None → IsSettled us (Ok a) →
     IsLineSettled ts (Ok (line.Session s a))
@@ -282,76 +303,87 @@ session_fails ts us s (Limit l) e w h = (line.Session s h.0, of_act ts us s h.0 
 pub session_is_no_line : (ts us : Symbols) (s : ℕ) → line_begins ts ≡ an_act s us → IsSettled us (Err Syntax) → IsLineSettled ts (Err Syntax)
 session_is_no_line ts us s e h = no_session ts us s e h
 
--- ---- stops
+-- ---- pairs
 
-pub stops_complete : {ts : Symbols} {xs : List (ℕ × ℕ)} → Several IsStop ts xs → stops_at ts ≡ Some xs
-unfolding stops_at
-stops_complete (last_one form.is_stop) = refl
-stops_complete (and_more (form.is_stop {n = n} {pick = pick}) d) = ap (option_map (λ stops. (n, pick) ∷ stops)) (stops_complete d)
+pub pairs_complete : {ts : Symbols} {xs : List (ℕ × ℕ)} → Several IsStop ts xs → pairs_at ts ≡ Some xs
+unfolding pairs_at
+pairs_complete (last_one form.is_stop) = refl
+pairs_complete (and_more (form.is_stop {n = n} {pick = m}) d) = ap (option_map (λ zs. (n, m) ∷ zs)) (pairs_complete d)
 
--- one stop, and those that may stand behind it
-one_stop : (n pick : ℕ) (us : Symbols) (xs ys : List (ℕ × ℕ)) → stops_at us ≡ Some ys → (n, pick) ∷ ys ≡ xs →
-    ((v : Symbol) (vs : Symbols) → us ≡ v ∷ vs → Several IsStop us ys) → Several IsStop (int n ∷ int pick ∷ us) xs
-unfolding stops_at
-one_stop n pick [] xs ys h same more =
+-- one pair, and those that may stand behind it
+one_pair : (n m : ℕ) (us : Symbols) (xs ys : List (ℕ × ℕ)) → pairs_at us ≡ Some ys → (n, m) ∷ ys ≡ xs →
+    ((v : Symbol) (vs : Symbols) → us ≡ v ∷ vs → Several IsStop us ys) → Several IsStop (int n ∷ int m ∷ us) xs
+unfolding pairs_at
+one_pair n m [] xs ys h same more =
     let none : [] ≡ ys = cc h in
-    subst (Several IsStop (int n ∷ int pick ∷ [])) (ap (λ (zs : List (ℕ × ℕ)). (n, pick) ∷ zs) none ∙ same) (last_one form.is_stop)
-one_stop n pick (v ∷ vs) xs ys h same more = subst (Several IsStop (int n ∷ int pick ∷ v ∷ vs)) same (and_more form.is_stop (more v vs refl))
+    subst (Several IsStop (int n ∷ int m ∷ [])) (ap (λ (zs : List (ℕ × ℕ)). (n, m) ∷ zs) none ∙ same) (last_one form.is_stop)
+one_pair n m (v ∷ vs) xs ys h same more = subst (Several IsStop (int n ∷ int m ∷ v ∷ vs)) same (and_more form.is_stop (more v vs refl))
 
-some_stops : (o : Option (List (ℕ × ℕ))) (n pick : ℕ) (xs : List (ℕ × ℕ)) → option_map (λ stops. (n, pick) ∷ stops) o ≡ Some xs →
-    (ys : List (ℕ × ℕ)) × (o ≡ Some ys) × ((n, pick) ∷ ys ≡ xs)
-some_stops None n pick xs h = absurd cc
-some_stops (Some ys) n pick xs h = (ys, refl, cc h)
+some_pairs : (o : Option (List (ℕ × ℕ))) (n m : ℕ) (xs : List (ℕ × ℕ)) → option_map (λ zs. (n, m) ∷ zs) o ≡ Some xs →
+    (ys : List (ℕ × ℕ)) × (o ≡ Some ys) × ((n, m) ∷ ys ≡ xs)
+some_pairs None n m xs h = absurd cc
+some_pairs (Some ys) n m xs h = (ys, refl, cc h)
 
-stops_sound : (t : Symbol) (ts : Symbols) (xs : List (ℕ × ℕ)) → stops_at (t ∷ ts) ≡ Some xs → Several IsStop (t ∷ ts) xs
-unfolding stops_at
-stops_sound (int n) (int pick ∷ []) xs h =
-    let r = some_stops (stops_at []) n pick xs h in
-    one_stop n pick [] xs r.0 r.1 r.2 (λ v vs e. absurd cc)
-stops_sound (int n) (int pick ∷ v ∷ vs) xs h =
-    let r = some_stops (stops_at (v ∷ vs)) n pick xs h in
-    one_stop n pick (v ∷ vs) xs r.0 r.1 r.2 (λ w ws e. stops_sound v vs r.0 r.1)
-stops_sound _ _ xs h = absurd cc
+pairs_sound : (t : Symbol) (ts : Symbols) (xs : List (ℕ × ℕ)) → pairs_at (t ∷ ts) ≡ Some xs → Several IsStop (t ∷ ts) xs
+unfolding pairs_at
+pairs_sound (int n) (int m ∷ []) xs h =
+    let r = some_pairs (pairs_at []) n m xs h in
+    one_pair n m [] xs r.0 r.1 r.2 (λ v vs e. absurd cc)
+pairs_sound (int n) (int m ∷ v ∷ vs) xs h =
+    let r = some_pairs (pairs_at (v ∷ vs)) n m xs h in
+    one_pair n m (v ∷ vs) xs r.0 r.1 r.2 (λ w ws e. pairs_sound v vs r.0 r.1)
+pairs_sound _ _ xs h = absurd cc
 
-at_stops : (ts us : Symbols) → line_begins ts ≡ begins_stops us → ts ≡ key word.Crash ∷ us
-at_stops ts us e = go (begun ts (begins_stops us) e)
+at_pairs : (ts us : Symbols) (armed : Armed) → line_begins ts ≡ begins_pairs armed us → ts ≡ arming armed ∷ us
+at_pairs ts us armed e = go (begun ts (begins_pairs armed us) e)
   where
-    go : {vs ws : Symbols} → BegunAs vs (begins_stops ws) → vs ≡ key word.Crash ∷ ws
-    go as_stops = refl
+    go : {vs ws : Symbols} {a : Armed} → BegunAs vs (begins_pairs a ws) → vs ≡ arming a ∷ ws
+    go as_pairs = refl
 
-no_stops : (ts us : Symbols) → line_begins ts ≡ begins_stops us → ((xs : List (ℕ × ℕ)) → Several IsStop us xs → ⊥) → (x : Line) → DeepLine ts x → ⊥
-no_stops _ us e h _ (form.of_table (is_table f fs es)) = absurd cc
-no_stops _ us e h _ (form.of_program (is_program a v b)) = absurd cc
-no_stops _ us e h _ (form.of_session a) = absurd cc
-no_stops _ us e h _ form.of_go = absurd cc
-no_stops _ us e h _ form.of_go_all = absurd cc
-no_stops _ us e h _ form.of_show_locks = absurd cc
-no_stops _ us e h _ form.of_show_bases = absurd cc
-no_stops _ us e h _ (form.of_crash {ts = ws} {stops = xs} d) =
+no_pairs : (ts us : Symbols) (armed : Armed) → line_begins ts ≡ begins_pairs armed us → ((xs : List (ℕ × ℕ)) → Several IsStop us xs → ⊥) →
+    (x : Line) → DeepLine ts x → ⊥
+no_pairs _ us armed e h _ (form.of_table (is_table f fs es)) = absurd cc
+no_pairs _ us armed e h _ (form.of_program (is_program a v b)) = absurd cc
+no_pairs _ us armed e h _ (form.of_session a) = absurd cc
+no_pairs _ us armed e h _ form.of_go = absurd cc
+no_pairs _ us armed e h _ form.of_go_all = absurd cc
+no_pairs _ us armed e h _ form.of_show_locks = absurd cc
+no_pairs _ us armed e h _ form.of_show_bases = absurd cc
+no_pairs _ us armed e h _ (form.of_crash {ts = ws} {stops = xs} d) =
+    let same : ws ≡ us = cc e in h xs (subst (λ (z : Symbols). Several IsStop z xs) same d)
+no_pairs _ us armed e h _ (form.of_net {ts = ws} {pairs = xs} d) =
     let same : ws ≡ us = cc e in h xs (subst (λ (z : Symbols). Several IsStop z xs) same d)
 
-abbrev pub stops_line : Result (Result (List (ℕ × ℕ)) LimitName) ParseErr → Result Line ParseErr
-stops_line (Ok (Ok xs)) = Ok (line.Crash xs)
-stops_line (Ok (Err l)) = Err (Limit l)
-stops_line (Err e) = Err e
+abbrev pub pairs_line : Armed → Result (Result (List (ℕ × ℕ)) LimitName) ParseErr → Result Line ParseErr
+pairs_line armed (Ok (Ok xs)) = Ok (line_of armed xs)
+pairs_line armed (Ok (Err l)) = Err (Limit l)
+pairs_line armed (Err e) = Err e
 
-of_stops : {I D : Symbols → Expr → Type 0} (ts us : Symbols) (xs : List (ℕ × ℕ)) → line_begins ts ≡ begins_stops us → Several IsStop us xs →
-    IsLine I D ts (line.Crash xs)
-of_stops {I} {D} ts us xs e d = subst (λ (z : Symbols). IsLine I D z (line.Crash xs)) (sym (at_stops ts us e)) (form.of_crash d)
+of_pairs : {I D : Symbols → Expr → Type 0} (ts us : Symbols) (armed : Armed) (xs : List (ℕ × ℕ)) → line_begins ts ≡ begins_pairs armed us →
+    Several IsStop us xs → IsLine I D ts (line_of armed xs)
+of_pairs {I} {D} ts us armed xs e d = subst (λ (z : Symbols). IsLine I D z (line_of armed xs)) (sym (at_pairs ts us armed e)) (spelled armed)
+  where
+    spelled : (a : Armed) → IsLine I D (arming a ∷ us) (line_of a xs)
+    spelled Stops = form.of_crash d
+    spelled Twists = form.of_net d
 
-stops_settle_at : (ts : Symbols) (u : Symbol) (us : Symbols) (r : Result (Result (List (ℕ × ℕ)) LimitName) ParseErr) →
-    line_begins ts ≡ begins_stops (u ∷ us) → GivesOrLimit stops_passed r (stops_at (u ∷ us)) → IsLineSettled ts (stops_line r)
+pairs_limit : (armed : Armed) (xs : List (ℕ × ℕ)) → line_limit (line_of armed xs) ≡ pairs_passed armed xs
 unfolding line_limit
-stops_settle_at ts u us (Ok (Ok xs)) e h = (of_stops ts (u ∷ us) xs e (stops_sound u us xs h.0), or_none (stops_passed xs) ∙ h.1)
-stops_settle_at ts u us (Ok (Err l)) e h =
-    (line.Crash h.0, of_stops ts (u ∷ us) h.0 e (stops_sound u us h.0 h.1), by_tree (or_none (stops_passed h.0) ∙ h.2))
-stops_settle_at ts u us (Err Memory) e h = tt
-stops_settle_at ts u us (Err Syntax) e h =
-    no_stops ts (u ∷ us) e (λ xs d. (let both : Some xs ≡ None = sym (stops_complete d) ∙ h in absurd cc))
-stops_settle_at ts u us (Err (Limit l)) e h = absurd h
+pairs_limit Stops xs = or_none (pairs_passed Stops xs)
+pairs_limit Twists xs = or_none (pairs_passed Twists xs)
 
-pub no_stop_settles : (ts : Symbols) → line_begins ts ≡ begins_stops [] → IsLineSettled ts (Err Syntax)
-no_stop_settles ts e = no_stops ts [] e none
+pairs_settle_at : (ts : Symbols) (u : Symbol) (us : Symbols) (armed : Armed) (r : Result (Result (List (ℕ × ℕ)) LimitName) ParseErr) →
+    line_begins ts ≡ begins_pairs armed (u ∷ us) → GivesOrLimit (pairs_passed armed) r (pairs_at (u ∷ us)) → IsLineSettled ts (pairs_line armed r)
+pairs_settle_at ts u us armed (Ok (Ok xs)) e h = (of_pairs ts (u ∷ us) armed xs e (pairs_sound u us xs h.0), pairs_limit armed xs ∙ h.1)
+pairs_settle_at ts u us armed (Ok (Err l)) e h =
+    (line_of armed h.0, of_pairs ts (u ∷ us) armed h.0 e (pairs_sound u us h.0 h.1), by_tree (pairs_limit armed h.0 ∙ h.2))
+pairs_settle_at ts u us armed (Err Memory) e h = tt
+pairs_settle_at ts u us armed (Err Syntax) e h =
+    no_pairs ts (u ∷ us) armed e (λ xs d. (let both : Some xs ≡ None = sym (pairs_complete d) ∙ h in absurd cc))
+pairs_settle_at ts u us armed (Err (Limit l)) e h = absurd h
+
+pub no_pair_settles : (ts : Symbols) (armed : Armed) → line_begins ts ≡ begins_pairs armed [] → IsLineSettled ts (Err Syntax)
+no_pair_settles ts armed e = no_pairs ts [] armed e none
   where
     none : (xs : List (ℕ × ℕ)) → Several IsStop [] xs → ⊥
     none xs d = go [] xs d refl
@@ -360,10 +392,10 @@ no_stop_settles ts e = no_stops ts [] e none
         go _ _ (last_one form.is_stop) h = absurd cc
         go _ _ (and_more form.is_stop d) h = absurd cc
 
-pub stops_settle : (ts us : Symbols) (r : Result (Result (List (ℕ × ℕ)) LimitName) ParseErr) → line_begins ts ≡ begins_stops us → is_empty us ≡ false →
-    GivesOrLimit stops_passed r (stops_at us) → IsLineSettled ts (stops_line r)
-stops_settle ts [] r e some h = absurd cc
-stops_settle ts (u ∷ us) r e some h = stops_settle_at ts u us r e h
+pub pairs_settle : (ts us : Symbols) (armed : Armed) (r : Result (Result (List (ℕ × ℕ)) LimitName) ParseErr) →
+    line_begins ts ≡ begins_pairs armed us → is_empty us ≡ false → GivesOrLimit (pairs_passed armed) r (pairs_at us) → IsLineSettled ts (pairs_line armed r)
+pairs_settle ts [] armed r e some h = absurd cc
+pairs_settle ts (u ∷ us) armed r e some h = pairs_settle_at ts u us armed r e h
 
 -- tokens and their symbols are as many
 pub none_left : (tokens : List Lexeme) → (length tokens == 0) ≡ true → symbols_in tokens ≡ []

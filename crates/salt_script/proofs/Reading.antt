@@ -3,7 +3,7 @@ use Rattle.std.proofs.Common.{List, None, Option, Some, [], ap, append-nil, appe
 use Rattle.std.specs.Prelude.{Err, option_map}
 use Rattle.salt_ast.specs.declared.limit.LimitName.{LimitName}
 use Rattle.salt_script.specs.Answers.{FailsToRead, GivesOrLimit}
-use Rattle.salt_script.specs.Literals.{at_item, behind_item, closed_at, comma_at, ended_at, items_at, literal_at, stop_at, stops_at}
+use Rattle.salt_script.specs.Literals.{at_item, behind_item, closed_at, comma_at, ended_at, items_at, literal_at, pair_at, pairs_at}
 use Rattle.salt_parse.specs.declared.error.ParseErr.{ParseErr}
 use Rattle.salt_parse.specs.declared.error.ParseErr.TheVariants.{Limit, Memory, Syntax}
 use Rattle.salt_tokens.specs.Symbols.{Symbols, int, sign, text}
@@ -67,17 +67,17 @@ no_comma front (sign mark.Comma ∷ vs) e = absurd cc
 no_comma front (sign mark.Close ∷ []) e = ap Some (append-nil front)
 no_comma front _ e = refl
 
--- ---- stops
+-- ---- pairs
 
-pub stop_read : (ts : Symbols) (s : ℕ × ℕ) (rest : Symbols) → stop_at ts ≡ Some (s, rest) → stops_at ts ≡ option_map (λ xs. s ∷ xs) (stops_at rest)
-unfolding stops_at
-stop_read (int n ∷ int pick ∷ us) s rest e =
-    let p : ◌≡◌ {A = (ℕ × ℕ) × Symbols} ((n, pick), us) (s, rest) = cc e in
-    ap (λ (x : (ℕ × ℕ) × Symbols). option_map (λ xs. x.0 ∷ xs) (stops_at x.1)) p
-stop_read _ s rest e = absurd cc
+pub pair_read : (ts : Symbols) (s : ℕ × ℕ) (rest : Symbols) → pair_at ts ≡ Some (s, rest) → pairs_at ts ≡ option_map (λ xs. s ∷ xs) (pairs_at rest)
+unfolding pairs_at
+pair_read (int n ∷ int m ∷ us) s rest e =
+    let p : ◌≡◌ {A = (ℕ × ℕ) × Symbols} ((n, m), us) (s, rest) = cc e in
+    ap (λ (x : (ℕ × ℕ) × Symbols). option_map (λ xs. x.0 ∷ xs) (pairs_at x.1)) p
+pair_read _ s rest e = absurd cc
 
-pub no_stop : (front : List (ℕ × ℕ)) (ts : Symbols) → stop_at ts ≡ None → with_front front (stops_at ts) ≡ ended_at front ts
-unfolding stops_at
-no_stop front [] e = ap Some (append-nil front)
-no_stop front (int n ∷ int pick ∷ us) e = absurd cc
-no_stop front _ e = refl
+pub no_pair : (front : List (ℕ × ℕ)) (ts : Symbols) → pair_at ts ≡ None → with_front front (pairs_at ts) ≡ ended_at front ts
+unfolding pairs_at
+no_pair front [] e = ap Some (append-nil front)
+no_pair front (int n ∷ int m ∷ us) e = absurd cc
+no_pair front _ e = refl

@@ -15,11 +15,11 @@ use Rattle.salt_ast.specs.declared.trees.TableDef.{TableDef}
 use Rattle.salt_parse.proofs.Whole.{row_program, row_statement, row_table}
 use Rattle.salt_parse.specs.Settling.{DeepProgram, DeepStatement, DeepTable}
 use Rattle.salt_script.proofs.Calls.{call_complete}
-use Rattle.salt_script.proofs.Lines.{stops_complete}
+use Rattle.salt_script.proofs.Lines.{pairs_complete}
 use Rattle.salt_script.specs.Forms.{ActBegins, Begins, a_call, a_program, a_statement, a_table, a_turn, a_word, act_begins, all_turns, an_act, line_begins}
-use Rattle.salt_script.specs.Forms.{no_line, showing_bases, showing_locks, stops as begins_stops}
-use Rattle.salt_script.specs.Literals.{stops_at}
-use Rattle.salt_script.specs.Spelled.{DeepAct, DeepLine, call_at}
+use Rattle.salt_script.specs.Forms.{no_line, pairs as begins_pairs, showing_bases, showing_locks}
+use Rattle.salt_script.specs.Literals.{pairs_at}
+use Rattle.salt_script.specs.Spelled.{DeepAct, DeepLine, call_at, line_of as armed_line}
 use Rattle.salt_tokens.specs.Symbols.{Symbols}
 use Rattle.salt_values.specs.declared.value.Value.{Value}
 
@@ -64,7 +64,7 @@ IsLineOf ts (a_turn boot seq) x = x ≡ line.Go (record { boot = boot; seq = seq
 IsLineOf ts all_turns x = x ≡ line.GoAll
 IsLineOf ts showing_locks x = x ≡ line.ShowLocks
 IsLineOf ts showing_bases x = x ≡ line.ShowBases
-IsLineOf ts (begins_stops us) x = (xs : List (ℕ × ℕ)) × (x ≡ line.Crash xs) × (stops_at us ≡ Some xs)
+IsLineOf ts (begins_pairs armed us) x = (xs : List (ℕ × ℕ)) × (x ≡ armed_line armed xs) × (pairs_at us ≡ Some xs)
 IsLineOf ts no_line x = ⊥
 
 line_of : (ts : Symbols) (x : Line) → DeepLine ts x → IsLineOf ts (line_begins ts) x
@@ -75,7 +75,8 @@ line_of _ _ form.of_go = refl
 line_of _ _ form.of_go_all = refl
 line_of _ _ form.of_show_locks = refl
 line_of _ _ form.of_show_bases = refl
-line_of _ _ (form.of_crash {stops = xs} d) = (xs, refl, stops_complete d)
+line_of _ _ (form.of_crash {stops = xs} d) = (xs, refl, pairs_complete d)
+line_of _ _ (form.of_net {pairs = xs} d) = (xs, refl, pairs_complete d)
 
 one_line_of : (ts : Symbols) (b : Begins) (x y : Line) → IsLineOf ts b x → IsLineOf ts b y → x ≡ y
 one_line_of ts a_table x y d e = d.1 ∙ ap line.Table (row_table ts d.0 e.0 d.2 e.2) ∙ sym e.1
@@ -85,7 +86,7 @@ one_line_of ts (a_turn boot seq) x y d e = d ∙ sym e
 one_line_of ts all_turns x y d e = d ∙ sym e
 one_line_of ts showing_locks x y d e = d ∙ sym e
 one_line_of ts showing_bases x y d e = d ∙ sym e
-one_line_of ts (begins_stops us) x y d e = d.1 ∙ ap line.Crash (some_is d.0 e.0 (sym d.2 ∙ e.2)) ∙ sym e.1
+one_line_of ts (begins_pairs armed us) x y d e = d.1 ∙ ap (armed_line armed) (some_is d.0 e.0 (sym d.2 ∙ e.2)) ∙ sym e.1
 one_line_of ts no_line x y d e = absurd d
 
 pub row_line : (ts : Symbols) (x y : Line) → DeepLine ts x → DeepLine ts y → x ≡ y

@@ -7,13 +7,16 @@ use Rattle.salt_script.specs.declared.form.ActForm.{ActForm}
 use Rattle.salt_script.specs.declared.form.ActForm.TheVariants as act_form_is
 use Rattle.salt_script.specs.declared.form.Form.{Form}
 use Rattle.salt_script.specs.declared.form.Form.TheVariants as form_is
-use Rattle.salt_tokens.specs.Symbols.{Symbols, int, key, sign, symbols_in}
+use Rattle.salt_script.specs.declared.pairs.Armed.{Armed}
+use Rattle.salt_script.specs.declared.pairs.Armed.TheVariants as armed
+use Rattle.salt_tokens.specs.Symbols.{Symbols, int, key, name, sign, symbols_in}
 use Rattle.salt_tokens.specs.declared.keyword.Keyword.{Keyword}
 use Rattle.salt_tokens.specs.declared.keyword.Keyword.TheVariants as word
 use Rattle.salt_tokens.specs.declared.sign.Sign.TheVariants as mark
-use Rattle.std.specs.Prelude.{Err, Ok, Result, [], ℕ, ◌∷◌}
+use Rattle.std.specs.Prelude.{Err, List, Ok, Result, [], codes, if◌then◌else◌, ℕ, ◌∷◌}
+use Rattle.std.specs.Str.{bytes_eq}
 
--- a line: by the keyword, or a session's act
+-- a line: by the keyword or the name, or a session's act
 pub data Begins : Type 0 where
   a_table : Begins
   a_program : Begins
@@ -22,7 +25,7 @@ pub data Begins : Type 0 where
   all_turns : Begins
   showing_locks : Begins
   showing_bases : Begins
-  stops : Symbols → Begins
+  pairs : Armed → Symbols → Begins
   no_line : Begins
 
 abbrev pub go_begins : Symbols → Begins
@@ -40,11 +43,16 @@ word_begins word.Create ts = a_table
 word_begins word.Program ts = a_program
 word_begins word.Go ts = go_begins ts
 word_begins word.Show ts = show_begins ts
-word_begins word.Crash ts = stops ts
+word_begins word.Crash ts = pairs armed.Stops ts
 word_begins _ ts = no_line
+
+-- `net` is a name, of tables too
+abbrev pub name_begins : List ℕ → Symbols → Begins
+name_begins n ts = if bytes_eq n (codes "net") then pairs armed.Twists ts else no_line
 
 abbrev pub line_begins : Symbols → Begins
 line_begins (key k ∷ ts) = word_begins k ts
+line_begins (name n ∷ ts) = name_begins n ts
 line_begins (sign mark.At ∷ int session ∷ ts) = an_act session ts
 line_begins _ = no_line
 
@@ -57,7 +65,8 @@ begun_by (form_is.Go base) = a_turn base.boot base.seq
 begun_by form_is.GoAll = all_turns
 begun_by form_is.ShowLocks = showing_locks
 begun_by form_is.ShowBases = showing_bases
-begun_by (form_is.Crash ts) = stops (symbols_in ts.now)
+begun_by (form_is.Crash ts) = pairs armed.Stops (symbols_in ts.now)
+begun_by (form_is.Net ts) = pairs armed.Twists (symbols_in ts.now)
 begun_by form_is.Other = no_line
 
 -- an act: a word alone, a call, or else a statement

@@ -1,12 +1,14 @@
--- The literals of a call, and the stops of a line: how they are read from left to right, and what is kept of them.
+-- The literals of a call, and the pairs of a line: how they are read from left to right, and what is kept of them.
 use Rattle.salt_ast.specs.Limits.{passed_in_list, value_passed}
-use Rattle.salt_ast.specs.ProgramLimits.{stop_passed}
+use Rattle.salt_ast.specs.ProgramLimits.{stop_passed, twist_passed}
 use Rattle.salt_ast.specs.Words.{first_in}
 use Rattle.salt_ast.specs.declared.limit.LimitName.{LimitName}
 use Rattle.salt_ast.specs.declared.limit.LimitName.TheVariants as limit
 use Rattle.salt_parse.specs.Settling.{ArePrintable}
 use Rattle.salt_script.specs.declared.args.Args.{Args}
-use Rattle.salt_script.specs.declared.stops.Stops.{Stops}
+use Rattle.salt_script.specs.declared.pairs.Armed.{Armed}
+use Rattle.salt_script.specs.declared.pairs.Armed.TheVariants.{Stops, Twists}
+use Rattle.salt_script.specs.declared.pairs.Arming.{Arming}
 use Rattle.salt_tokens.specs.Symbols.{Symbols, int, sign, symbols_in, text}
 use Rattle.salt_tokens.specs.declared.sign.Sign.TheVariants as mark
 use Rattle.salt_values.specs.declared.limits.TheConstants.{PAIRS_MOST}
@@ -76,29 +78,34 @@ abbrev pub closed_at : List Value → Symbols → Option (List Value)
 closed_at vs (sign mark.Close ∷ []) = Some vs
 closed_at vs _ = None
 
-abbrev pub stop_at : Symbols → Option ((ℕ × ℕ) × Symbols)
-stop_at (int n ∷ int pick ∷ ts) = Some ((n, pick), ts)
-stop_at _ = None
+abbrev pub pair_at : Symbols → Option ((ℕ × ℕ) × Symbols)
+pair_at (int n ∷ int m ∷ ts) = Some ((n, m), ts)
+pair_at _ = None
 
--- stops up to the end of the row
-unfoldable pub stops_at : Symbols → Option (List (ℕ × ℕ))
-stops_at [] = Some []
-stops_at (int n ∷ int pick ∷ ts) = option_map (λ stops. (n, pick) ∷ stops) (stops_at ts)
-stops_at _ = None
+-- pairs up to the end of the row
+unfoldable pub pairs_at : Symbols → Option (List (ℕ × ℕ))
+pairs_at [] = Some []
+pairs_at (int n ∷ int m ∷ ts) = option_map (λ pairs. (n, m) ∷ pairs) (pairs_at ts)
+pairs_at _ = None
 
-abbrev pub stops_passed : List (ℕ × ℕ) → Option LimitName
-stops_passed stops = passed_in_list PAIRS_MOST limit.Pairs stop_passed stops
+abbrev pub pair_passed : Armed → ℕ × ℕ → Option LimitName
+pair_passed Stops = stop_passed
+pair_passed Twists = twist_passed
 
-abbrev pub HoldsStops : Stops → List (ℕ × ℕ) → Type 0
-HoldsStops stops read = Holds stops_passed stops.passed stops.pairs read
+abbrev pub pairs_passed : Armed → List (ℕ × ℕ) → Option LimitName
+pairs_passed armed pairs = passed_in_list PAIRS_MOST limit.Pairs (pair_passed armed) pairs
 
--- the next stop was taken
-pub record IsStopTaken (old new : Stops) : Type 0 where
-  pub stop : ℕ × ℕ
-  pub read : stop_at (symbols_in old.rest.now) ≡ Some (stop, symbols_in new.rest.now)
-  pub holds : (stops : List (ℕ × ℕ)) → HoldsStops old stops → HoldsStops new (stops ++ stop ∷ [])
+abbrev pub HoldsPairs : Arming → List (ℕ × ℕ) → Type 0
+HoldsPairs arming read = Holds (pairs_passed arming.armed) arming.passed arming.pairs read
 
--- these stops, where nothing is left
+-- the next pair was taken
+pub record IsPairTaken (old new : Arming) : Type 0 where
+  pub armed : new.armed ≡ old.armed
+  pub pair : ℕ × ℕ
+  pub read : pair_at (symbols_in old.rest.now) ≡ Some (pair, symbols_in new.rest.now)
+  pub holds : (pairs : List (ℕ × ℕ)) → HoldsPairs old pairs → HoldsPairs new (pairs ++ pair ∷ [])
+
+-- these pairs, where nothing is left
 abbrev pub ended_at : List (ℕ × ℕ) → Symbols → Option (List (ℕ × ℕ))
-ended_at stops [] = Some stops
-ended_at stops _ = None
+ended_at pairs [] = Some pairs
+ended_at pairs _ = None

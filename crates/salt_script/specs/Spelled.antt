@@ -7,7 +7,10 @@ use Rattle.salt_ast.specs.Words.{first_in}
 use Rattle.salt_ast.specs.declared.limit.LimitName.{LimitName}
 use Rattle.salt_ast.specs.declared.lines.Act.{Act}
 use Rattle.salt_ast.specs.declared.lines.Line.{Line}
+use Rattle.salt_ast.specs.declared.lines.Line.TheVariants.{Crash, Net}
 use Rattle.salt_script.specs.Literals.{args_at}
+use Rattle.salt_script.specs.declared.pairs.Armed.{Armed}
+use Rattle.salt_script.specs.declared.pairs.Armed.TheVariants.{Stops, Twists}
 use Rattle.salt_tokens.specs.Symbols.{Symbols, name, sign}
 use Rattle.salt_tokens.specs.declared.sign.Sign.TheVariants as mark
 use Rattle.salt_values.specs.declared.limits.TheConstants.{DEPTH_MOST, PARENTHESES_MOST}
@@ -38,3 +41,8 @@ call_at _ = None
 
 abbrev pub call_passed : List ℕ × List Value → Option LimitName
 call_passed call = option_or (name_passed call.0) (first_in value_passed call.1)
+
+-- the line that arms these pairs
+abbrev pub line_of : Armed → List (ℕ × ℕ) → Line
+line_of Stops pairs = Crash pairs
+line_of Twists pairs = Net pairs

@@ -1,7 +1,7 @@
 //! What a row of tokens begins.
 
 ghost use Rattle.std.specs.Prelude.{◌≡◌};
-ghost use Rattle.salt_script.specs.Forms.{act_begins, act_begun_by, begun_by, go_begins, line_begins, show_begins};
+ghost use Rattle.salt_script.specs.Forms.{act_begins, act_begun_by, begun_by, go_begins, line_begins, name_begins, show_begins};
 ghost use Rattle.salt_tokens.specs.Symbols.{symbols_in};
 
 use salt_tokens::{Keyword, Lexeme, Sign};
@@ -20,6 +20,8 @@ pub enum Form<'a> {
     ShowBases,
     /// What stands behind `crash`.
     Crash(&'a [Lexeme<'a>]),
+    /// What stands behind `net`.
+    Net(&'a [Lexeme<'a>]),
     /// No line begins so.
     Other,
 }
@@ -49,6 +51,17 @@ fn show_form<'a>(tokens: &'a [Lexeme<'a>]) -> Form<'a>
     }
 }
 
+/// What a name begins, with what stands behind it.
+fn name_form<'a>(name: &[u8], rest: &'a [Lexeme<'a>]) -> Form<'a>
+    ensures { begun_by result ≡ name_begins name.now (symbols_in rest.now) }
+{
+    if name == b"net".as_slice() {
+        Form::Net(rest)
+    } else {
+        Form::Other
+    }
+}
+
 /// What line the tokens begin.
 pub fn line_form<'a>(tokens: &'a [Lexeme<'a>]) -> Form<'a>
     ensures { begun_by result ≡ line_begins (symbols_in tokens.now) }
@@ -59,6 +72,7 @@ pub fn line_form<'a>(tokens: &'a [Lexeme<'a>]) -> Form<'a>
         [Lexeme::Key(Keyword::Go), rest @ ..] => go_form(rest),
         [Lexeme::Key(Keyword::Show), rest @ ..] => show_form(rest),
         [Lexeme::Key(Keyword::Crash), rest @ ..] => Form::Crash(rest),
+        [Lexeme::Name(name), rest @ ..] => name_form(name, rest),
         [Lexeme::Sign(Sign::At), Lexeme::Int(session), rest @ ..] => Form::Session(*session, rest),
         _ => Form::Other,
     }

@@ -7,7 +7,7 @@ mod error;
 mod form;
 mod laws;
 mod line;
-mod stops;
+mod pairs;
 
 pub use error::ReadErr;
 pub use laws::one_line;

@@ -12,8 +12,8 @@ ghost use Rattle.salt_model.specs.Trace.{Rejected, Tree};
 ghost use Rattle.salt_model.specs.declared.events.Refusal.{Refusal};
 ghost use Rattle.salt_parse.specs.Settling.{ArePrintable, Settles};
 ghost use Rattle.salt_parse.specs.declared.error.ParseErr.TheVariants.{Limit, Syntax};
-ghost use Rattle.salt_script.specs.Forms.{a_turn, an_act, line_begins, stops as begins_stops};
-ghost use Rattle.salt_script.specs.Spelled.{DeepLine, ShallowLine};
+ghost use Rattle.salt_script.specs.Forms.{a_turn, an_act, line_begins, pairs as begins_pairs};
+ghost use Rattle.salt_script.specs.Spelled.{DeepLine, ShallowLine, line_of};
 ghost use Rattle.salt_script.specs.declared.error.ReadErr.TheVariants.{Refused};
 ghost use Rattle.salt_tokens.specs.Bytes.{is_blank};
 ghost use Rattle.salt_tokens.specs.Symbols.{Symbols, symbols_in};
@@ -21,8 +21,8 @@ ghost use Rattle.salt_tokens.specs.Symbols.{Symbols, symbols_in};
 use crate::act::act_in;
 use crate::error::{ReadErr, read_err};
 use crate::form::{Form, line_form};
-use crate::stops::armed_stops;
-use salt_ast::{LimitName, Line};
+use crate::pairs::{Armed, armed_pairs};
+use salt_ast::{LimitName, Line, Pairs};
 use salt_model::Refusal;
 use salt_parse::{ParseErr, printable_symbols, program_in, table_in};
 use salt_tokens::{Lexeme, is_blank, lexemes, one_row};
@@ -83,15 +83,25 @@ fn turn_line(base: Id) -> Result<Line, ParseErr>
     }
 }
 
-/// The line that arms stops.
-fn stops_line<'a>(alloc: Global, tokens: &'a [Lexeme<'a>]) -> Result<Line, ParseErr>
-    ensures { (ts : Symbols) → line_begins ts ≡ begins_stops (symbols_in tokens.now) → Settles line_limit ShallowLine DeepLine ts result }
+/// The line that arms these pairs.
+fn line_of(armed: Armed, pairs: Pairs) -> Line
+    ensures { result ≡ line_of armed pairs }
+{
+    match armed {
+        Armed::Stops => Line::Crash(pairs),
+        Armed::Twists => Line::Net(pairs),
+    }
+}
+
+/// The line that arms the pairs behind its first token.
+fn pairs_line<'a>(alloc: Global, armed: Armed, tokens: &'a [Lexeme<'a>]) -> Result<Line, ParseErr>
+    ensures { (ts : Symbols) → line_begins ts ≡ begins_pairs armed (symbols_in tokens.now) → Settles line_limit ShallowLine DeepLine ts result }
 {
     if tokens.is_empty() {
         return Err(ParseErr::Syntax);
     }
-    match armed_stops(alloc, tokens) {
-        Ok(Ok(pairs)) => Ok(Line::Crash(pairs)),
+    match armed_pairs(alloc, armed, tokens) {
+        Ok(Ok(pairs)) => Ok(line_of(armed, pairs)),
         Ok(Err(limit)) => Err(ParseErr::Limit(limit)),
         Err(e) => Err(e),
     }
@@ -119,7 +129,8 @@ fn line_in<'a>(alloc: Global, tokens: &'a [Lexeme<'a>]) -> Result<Line, ParseErr
         Form::GoAll => Ok(Line::GoAll),
         Form::ShowLocks => Ok(Line::ShowLocks),
         Form::ShowBases => Ok(Line::ShowBases),
-        Form::Crash(rest) => stops_line(alloc, rest),
+        Form::Crash(rest) => pairs_line(alloc, Armed::Stops, rest),
+        Form::Net(rest) => pairs_line(alloc, Armed::Twists, rest),
         Form::Other => Err(ParseErr::Syntax),
     }
 }

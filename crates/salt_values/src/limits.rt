@@ -54,8 +54,14 @@ pub const CRASH_MOST: u64 = 1_000_000;
 /// The number of what a stop leaves.
 pub const PICK_MOST: u64 = 4;
 
-/// The stops that one line arms.
+/// The stops that one line arms, and the pairs of messages.
 pub const PAIRS_MOST: usize = 8;
+
+/// The turns of messages until something befalls one; the least is 1.
+pub const TURN_MOST: u64 = 1_000_000;
+
+/// The number of what befalls a message.
+pub const TWIST_MOST: u64 = 2;
 
 /// The BASE programs in their first part, or accepted, and not released.
 pub const BASES_MOST: usize = 1_024;
