@@ -6,3 +6,4 @@ pub mod RefusalRows
 pub mod NullRows
 pub mod RetryRows
 pub mod LineRows
+pub mod EarlyRows

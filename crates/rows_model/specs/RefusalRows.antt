@@ -27,7 +27,7 @@ use Rattle.salt_model.specs.declared.events.Event.TheVariants as event
 use Rattle.salt_model.specs.declared.events.Owner.TheVariants as owner
 use Rattle.salt_model.specs.declared.events.Refusal.TheVariants as refused
 use Rattle.salt_model.specs.declared.events.UnitKind.TheVariants as unit_kind
-use Rattle.std.specs.Prelude.{List, None, Some, [], codes, drop, false, pos, refl, suc, zero, ℕ, ◌++◌, ◌∷◌, ◌≡◌}
+use Rattle.std.specs.Prelude.{List, None, Some, [], codes, drop, false, pos, refl, suc, true, zero, ℕ, ◌++◌, ◌∷◌, ◌≡◌}
 
 -- Each of these lines is refused where the accounts and the program of transfers stand.
 
@@ -89,10 +89,22 @@ unfolding computing
 rejected_printed = refl
 
 -- A stop can't be armed where the disks can't be stopped.
-unstopped : refusal (completed 9 (from (record { kept = nothing_kept; can_stop = false }) says event.Opened 1 0))
+unstopped : refusal (completed 9 (from (record { kept = nothing_kept; can_stop = false; early = false; over_net = false }) says event.Opened 1 0))
     (Tree (line.Crash ((1, 0) ∷ []))) ≡ Some refused.State
 unfolding computing
 unstopped = refl
+
+-- Pairs of messages can't be armed where commits do not go over messages; where they do, it is told as stops are.
+unsent : refusal opened (Tree (line.Net ((1, 0) ∷ []))) ≡ Some refused.State
+unfolding computing
+unsent = refl
+
+abbrev over_messages : Trace
+over_messages = completed 9 (from (record { kept = nothing_kept; can_stop = true; early = false; over_net = true }) says event.Opened 1 0)
+
+sent_printed : drop 2 (printed_of (walk_on (Tree (line.Net ((1, 0) ∷ (2, 1) ∷ (3, 2) ∷ [])) ∷ []) over_messages)) ≡ codes "armed 1 0 2 1 3 2" ∷ []
+unfolding computing
+sent_printed = refl
 
 -- At most 1,024 programs are under way.
 

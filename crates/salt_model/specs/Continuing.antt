@@ -1,22 +1,22 @@
 -- Each program goes along its declared path, and each opening brings all of them to their ends.
-use Rattle.salt_values.specs.declared.cont.Cont.{Cont}
-use Rattle.std.specs.Bool.{then_some}
-use Rattle.salt_model.specs.Words.{Every}
-use Rattle.salt_values.specs.Id.{has_id}
-use Rattle.salt_model.specs.Programs.{accepted_in, finished_in}
 use Rattle.salt_model.specs.After.{kept}
-use Rattle.salt_model.specs.Kept.{cont_of}
-use Rattle.salt_model.specs.Trace.{Trace, from, ◌asks◌, ◌says◌, ◌turns◌}
-use Rattle.salt_model.specs.Units.{kind_of, open_units, program_begun}
-use Rattle.salt_model.specs.Phases.{Opening, Phase, phase}
 use Rattle.salt_model.specs.Everywhere.{Each}
+use Rattle.salt_model.specs.Kept.{cont_of}
+use Rattle.salt_model.specs.Phases.{Opening, Phase, phase}
+use Rattle.salt_model.specs.Programs.{accepted_in, finished_in}
+use Rattle.salt_model.specs.Trace.{Trace, from, start_of, ◌asks◌, ◌says◌, ◌turns◌}
+use Rattle.salt_model.specs.Units.{kind_of, open_units, program_begun}
+use Rattle.salt_model.specs.Words.{Every}
 use Rattle.salt_model.specs.declared.events.End.TheVariants.{Branched, Committed, Victim}
-use Rattle.salt_model.specs.declared.events.Event.TheVariants.{Accepted, Armed, Began, Ended, Finished, Ready, Refused, Released, Shown, Waits}
 use Rattle.salt_model.specs.declared.events.Event.{Event}
-use Rattle.salt_model.specs.declared.events.UnitKind.TheVariants.{Acid, Call, First, Later}
+use Rattle.salt_model.specs.declared.events.Event.TheVariants.{Accepted, Armed, Began, Early, Ended, Finished, Ready, Refused, Released, Shown, Waits}
 use Rattle.salt_model.specs.declared.events.UnitKind.{UnitKind}
+use Rattle.salt_model.specs.declared.events.UnitKind.TheVariants.{Acid, Call, First, Later}
+use Rattle.salt_values.specs.Id.{has_id, in_order}
+use Rattle.salt_values.specs.declared.cont.Cont.{Cont}
 use Rattle.salt_values.specs.declared.id.Id.{Id}
-use Rattle.std.specs.Prelude.{Bool, IsTrue, None, Option, Some, [], false, is_none, not, option_and_then, option_map, suc, ℕ, ⊤, ◌&&◌, ◌≡◌, ◌≤◌}
+use Rattle.std.specs.Bool.{then_some}
+use Rattle.std.specs.Prelude.{Bool, IsTrue, List, None, Option, Some, [], false, is_none, not, option_and_then, option_map, suc, true, ℕ, ⊤, ◌&&◌, ◌≡◌, ◌≤◌}
 
 -- the last event of a trace
 abbrev pub last_said : Trace → Option Event
@@ -72,11 +72,19 @@ finished_by e = None
 abbrev pub FinishesDue : Trace → Event → Type 0
 FinishesDue trace e = finished_after trace (last_said trace) ≡ finished_by e
 
--- A PART begins where its program, accepted and unfinished, stands; at Ready no program is unfinished.
+-- A PART begins where its program, accepted and unfinished, stands; at Ready no program is unfinished; an early opening names those that are.
+
+-- in an opening that may be early: exactly the programs that are accepted and unfinished, in order of names
+pub record NamesUnfinished (trace : Trace) (bs : List Id) : Type 0 where
+  pub opening : phase trace ≡ Opening
+  pub allowed : (start_of trace).early ≡ true
+  pub names : (b : Id) → has_id b bs ≡ is_unfinished trace b
+  pub ordered : in_order bs ≡ bs
 
 abbrev pub GoesAlong : Trace → Event → Type 0
 GoesAlong trace (Began u (Later b part)) = (part_due trace b ≡ Some part) × IsTrue (is_unfinished trace b)
 GoesAlong trace Ready = (b : Id) → is_unfinished trace b ≡ false
+GoesAlong trace (Early bs) = NamesUnfinished trace bs
 GoesAlong trace e = ⊤
 
 -- A FAILURE with tries left leaves the program at its part, with one fewer, and changes no more of it.
@@ -93,9 +101,9 @@ UsesTry trace e = ⊤
 abbrev pub IsFirstAccepted : Trace → Id → Type 0
 IsFirstAccepted trace b = (c : Cont) → cont_of b (kept trace) ≡ Some c → Every (λ (d : Cont). c.accepted ≤ d.accepted) (kept trace).conts
 
--- what may stand between an Opened and its Ready
+-- what may stand between an Opened and its Ready, or its Early; where openings may be early, no part begins
 abbrev pub IsForOpening : Trace → Event → Type 0
-IsForOpening trace (Began u (Later b part)) = (open_units trace ≡ []) × IsFirstAccepted trace b
+IsForOpening trace (Began u (Later b part)) = ((start_of trace).early ≡ false) × (open_units trace ≡ []) × IsFirstAccepted trace b
 IsForOpening trace (Began u kind) = ⊥
 IsForOpening trace (Waits u owners) = ⊥
 IsForOpening trace (Ended u Victim) = ⊥
@@ -104,6 +112,7 @@ IsForOpening trace (Armed pairs) = ⊥
 IsForOpening trace (Shown items) = ⊥
 IsForOpening trace (Released bs) = ⊥
 IsForOpening trace Ready = open_units trace ≡ []
+IsForOpening trace (Early bs) = open_units trace ≡ []
 IsForOpening trace e = ⊤
 
 abbrev pub InOpening : Phase → Trace → Event → Type 0

@@ -3,35 +3,35 @@ use Rattle.salt_ast.specs.Limits.{limit_word}
 use Rattle.salt_ast.specs.ProgramTexts.{base_text, call_text, id_text, row_text, stop_text}
 use Rattle.salt_ast.specs.Texts.{preceded, statement_text, value_text}
 use Rattle.salt_ast.specs.declared.trees.TableDef.{TableDef}
-use Rattle.salt_model.specs.declared.events.Answer.TheVariants as answer
 use Rattle.salt_model.specs.declared.events.Answer.{Answer}
-use Rattle.salt_model.specs.declared.events.Cause.TheVariants as cause
 use Rattle.salt_model.specs.declared.events.Cause.{Cause}
-use Rattle.salt_model.specs.declared.events.End.TheVariants as end
 use Rattle.salt_model.specs.declared.events.End.{End}
-use Rattle.salt_model.specs.declared.events.Event.TheVariants as event
 use Rattle.salt_model.specs.declared.events.Event.{Event}
-use Rattle.salt_model.specs.declared.events.Owner.TheVariants as owner
 use Rattle.salt_model.specs.declared.events.Owner.{Owner}
-use Rattle.salt_model.specs.declared.events.Refusal.TheVariants as refused
 use Rattle.salt_model.specs.declared.events.Refusal.{Refusal}
-use Rattle.salt_model.specs.declared.events.UnitKind.TheVariants as kind
 use Rattle.salt_model.specs.declared.events.UnitKind.{UnitKind}
-use Rattle.salt_model.specs.declared.events.Why.TheVariants as why
 use Rattle.salt_model.specs.declared.events.Why.{Why}
-use Rattle.salt_model.specs.declared.locks.Family.TheVariants as family
 use Rattle.salt_model.specs.declared.locks.Family.{Family}
 use Rattle.salt_model.specs.declared.locks.Lock.{Lock}
-use Rattle.salt_model.specs.declared.locks.Mode.TheVariants as mode
 use Rattle.salt_model.specs.declared.locks.Mode.{Mode}
-use Rattle.salt_model.specs.declared.shown.BaseAt.TheVariants as place
 use Rattle.salt_model.specs.declared.shown.BaseAt.{BaseAt}
-use Rattle.salt_model.specs.declared.shown.Item.TheVariants as item
 use Rattle.salt_model.specs.declared.shown.Item.{Item}
 use Rattle.salt_values.specs.declared.id.Id.{Id}
 use Rattle.salt_values.specs.declared.value.Value.{Value}
 use Rattle.std.specs.Fmt.{decimal}
 use Rattle.std.specs.Prelude.{List, None, Option, Some, [], codes, flat_map, length, slice_get, ℕ, ⊤, ◌++◌, ◌∷◌}
+use Rattle.salt_model.specs.declared.events.Answer.TheVariants as answer
+use Rattle.salt_model.specs.declared.events.Cause.TheVariants as cause
+use Rattle.salt_model.specs.declared.events.End.TheVariants as end
+use Rattle.salt_model.specs.declared.events.Event.TheVariants as event
+use Rattle.salt_model.specs.declared.events.Owner.TheVariants as owner
+use Rattle.salt_model.specs.declared.events.Refusal.TheVariants as refused
+use Rattle.salt_model.specs.declared.events.UnitKind.TheVariants as kind
+use Rattle.salt_model.specs.declared.events.Why.TheVariants as why
+use Rattle.salt_model.specs.declared.locks.Family.TheVariants as family
+use Rattle.salt_model.specs.declared.locks.Mode.TheVariants as mode
+use Rattle.salt_model.specs.declared.shown.BaseAt.TheVariants as place
+use Rattle.salt_model.specs.declared.shown.Item.TheVariants as item
 
 -- a unit's name, as u1.2
 abbrev pub unit_text : Id → List ℕ
@@ -138,6 +138,7 @@ event_line schema (event.Released bs) = codes "released" ++ preceded (codes " ")
 event_line schema (event.Down w) = codes "down " ++ why_text w
 event_line schema (event.Opened boot n) = codes "opened " ++ (decimal boot ++ (codes " " ++ decimal n))
 event_line schema event.Ready = codes "ready"
+event_line schema (event.Early bs) = codes "early" ++ preceded (codes " ") base_text bs
 event_line schema (event.Defined n text) = codes "defined " ++ (decimal n ++ (codes " " ++ text))
 event_line schema (event.Refused r) = codes "refused " ++ refusal_text r
 event_line schema (event.Armed pairs) = codes "armed" ++ preceded (codes " ") stop_text pairs

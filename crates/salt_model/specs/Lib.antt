@@ -1,6 +1,7 @@
 pub mod Words
 pub mod Eval
 pub mod Tables
+pub mod Bounds
 pub mod Reaches
 pub mod Statements
 pub mod Kept
@@ -21,6 +22,8 @@ pub mod Openings
 pub mod Next
 pub mod Everywhere
 pub mod Stops
+pub mod Arming
+pub mod Rests
 pub mod Segments
 pub mod Played
 pub mod Honest

@@ -1,29 +1,33 @@
 -- The held locks, read off the trace, and clashes.
-use Rattle.std.specs.Bool.{then_some}
+use Rattle.salt_ast.specs.declared.programs.ProgramDef.{ProgramDef}
 use Rattle.salt_ast.specs.declared.trees.Statement.{Statement}
-use Rattle.salt_model.specs.After.{reach_now}
+use Rattle.salt_ast.specs.declared.trees.TableDef.{TableDef}
+use Rattle.salt_model.specs.After.{kept, reach_now}
+use Rattle.salt_model.specs.Kept.{Kept, parts_of, programs_of, schema_of}
+use Rattle.salt_model.specs.Programs.{named_early, released_in}
+use Rattle.salt_model.specs.Reaches.{table_in}
 use Rattle.salt_model.specs.Trace.{Trace, from, ◌asks◌, ◌says◌, ◌turns◌}
-use Rattle.salt_model.specs.Programs.{released_in}
 use Rattle.salt_model.specs.Units.{Over, Running, Standing, Waiting, kind_of, program_of_kind, standing}
-use Rattle.salt_model.specs.Words.{Every}
-use Rattle.salt_values.specs.Id.{has_id, in_order}
+use Rattle.salt_model.specs.Words.{Every, first_of_list}
 use Rattle.salt_model.specs.declared.events.End.TheVariants.{Committed}
-use Rattle.salt_model.specs.declared.events.Event.TheVariants.{Did}
-use Rattle.salt_model.specs.declared.events.Owner.TheVariants.{Base, Unit}
+use Rattle.salt_model.specs.declared.events.Event.TheVariants.{Did, Early}
 use Rattle.salt_model.specs.declared.events.Owner.{Owner}
-use Rattle.salt_model.specs.declared.events.UnitKind.TheVariants.{First, Later}
+use Rattle.salt_model.specs.declared.events.Owner.TheVariants.{Base, Unit}
 use Rattle.salt_model.specs.declared.events.UnitKind.{UnitKind}
-use Rattle.salt_model.specs.declared.locks.Family.TheVariants.{Alkaline, Saline}
+use Rattle.salt_model.specs.declared.events.UnitKind.TheVariants.{First, Later}
 use Rattle.salt_model.specs.declared.locks.Family.{Family}
+use Rattle.salt_model.specs.declared.locks.Family.TheVariants.{Alkaline, Saline}
 use Rattle.salt_model.specs.declared.locks.Lock.{Lock}
-use Rattle.salt_model.specs.declared.locks.Mode.TheVariants.{Read, Write}
 use Rattle.salt_model.specs.declared.locks.Mode.{Mode}
+use Rattle.salt_model.specs.declared.locks.Mode.TheVariants.{Read, Write}
 use Rattle.salt_model.specs.declared.locks.Reach.{Reach}
-use Rattle.salt_ranges.specs.Ranges.{meets}
-use Rattle.salt_values.specs.Id.{is_same_id}
+use Rattle.salt_ranges.specs.Ranges.{all_keys, meets}
+use Rattle.salt_tokens.specs.Spelling.{same_bytes}
+use Rattle.salt_values.specs.Id.{has_id, in_order, is_same_id}
 use Rattle.salt_values.specs.declared.id.Id.{Id}
-use Rattle.std.specs.List.{filter, filter_map}
-use Rattle.std.specs.Prelude.{Bool, List, None, Option, Some, [], false, map, not, option_and_then, true, ◌&&◌, ◌++◌, ◌==◌, ◌∷◌, ◌≡◌}
+use Rattle.std.specs.Bool.{then_some}
+use Rattle.std.specs.List.{filter, filter_map, list_any}
+use Rattle.std.specs.Prelude.{Bool, List, None, Option, Some, [], false, if◌then◌else◌, map, not, option_and_then, true, ℕ, ◌&&◌, ◌++◌, ◌+◌, ◌==◌, ◌∷◌, ◌≡◌}
 
 -- a statement done, by its unit, that reached something
 pub record Taken : Type 0 where
@@ -41,6 +45,15 @@ taken_in (trace asks asked) = taken_in trace
 taken_in (trace turns b) = taken_in trace
 taken_in (trace says Did u st answer) = taken_in trace ++ taken_by u (reach_now u trace st)
 taken_in (trace says e) = taken_in trace
+
+-- the same, since the last early opening
+abbrev pub taken_since : Trace → List Taken
+taken_since (from k) = []
+taken_since (trace asks asked) = taken_since trace
+taken_since (trace turns b) = taken_since trace
+taken_since (trace says Did u st answer) = taken_since trace ++ taken_by u (reach_now u trace st)
+taken_since (trace says Early bs) = []
+taken_since (trace says e) = taken_since trace
 
 abbrev pub family_of : Option UnitKind → Family
 family_of (Some (First s b n args)) = Alkaline
@@ -69,8 +82,38 @@ lock_by trace t s kind = None
 abbrev pub as_held : Trace → Taken → Option Lock
 as_held trace t = lock_by trace t (standing t.unit trace) (kind_of t.unit trace)
 
+-- a table is a base table where a statement of some BASE program names it
+abbrev pub is_of_table : List ℕ → Statement → Bool
+is_of_table n st = elim (table_in st) [ None ↦ false | Some m ↦ same_bytes m n ]
+
+abbrev pub names_table : List ℕ → ProgramDef → Bool
+names_table n p = list_any (λ part. list_any (is_of_table n) part.block) (parts_of p)
+
+abbrev pub is_base_table : Kept → TableDef → Bool
+is_base_table k d = list_any (names_table d.name) (programs_of k)
+
+-- the numbers of the tables that pass a test, the first having this one
+abbrev pub numbers_from : ℕ → (TableDef → Bool) → List TableDef → List ℕ
+numbers_from n test [] = []
+numbers_from n test (d ∷ ds) = if test d then n ∷ numbers_from (n + 1) test ds else numbers_from (n + 1) test ds
+
+abbrev pub base_tables : Kept → List ℕ
+base_tables k = numbers_from 0 (is_base_table k) (schema_of k)
+
+abbrev pub cover_lock : Id → ℕ → Lock
+cover_lock b n = record { owner = Base b; family = Saline; mode = Write; table = n; range = all_keys }
+
+-- with these programs released and these base tables
+abbrev pub cover_of : List Id → List ℕ → Option Id → List Lock
+cover_of released tables None = []
+cover_of released tables (Some b) = if has_id b released then [] else map (cover_lock b) tables
+
+-- the cover: the first program that the last early opening names holds all keys of each base table to write, until it is released
+abbrev pub cover : Trace → List Lock
+cover trace = cover_of (released_in trace) (base_tables (kept trace)) (first_of_list (named_early trace))
+
 abbrev pub held : Trace → List Lock
-held trace = filter_map (as_held trace) (taken_in trace)
+held trace = cover trace ++ filter_map (as_held trace) (taken_since trace)
 
 abbrev pub is_read : Mode → Bool
 is_read Read = true

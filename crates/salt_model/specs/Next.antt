@@ -1,20 +1,21 @@
 -- The next event of the segment in which the trace ends. None: the segment is complete, or `go all` turns to its next program,
 -- or the run is down and is to be opened.
-use Rattle.std.specs.Bool.{then_some}
-use Rattle.std.specs.Option.{option_or}
-use Rattle.salt_model.specs.Trace.{Trace, from, line_asked, ◌asks◌, ◌says◌, ◌turns◌}
 use Rattle.salt_model.specs.Openings.{after_opened, opening_event}
 use Rattle.salt_model.specs.Phases.{Fallen, Opening, Phase, Serving, phase}
 use Rattle.salt_model.specs.Refusals.{refusal}
+use Rattle.salt_model.specs.Trace.{Trace, from, line_asked, ◌asks◌, ◌says◌, ◌turns◌}
 use Rattle.salt_model.specs.Turns.{follow, go, line_event, settle}
 use Rattle.salt_model.specs.declared.events.End.TheVariants.{Branched, Committed}
-use Rattle.salt_model.specs.declared.events.Event.TheVariants.{Defined, Down, Ended, Opened, Ready, Refused}
 use Rattle.salt_model.specs.declared.events.Event.{Event}
+use Rattle.salt_model.specs.declared.events.Event.TheVariants.{Defined, Down, Early, Ended, Opened, Ready, Refused}
+use Rattle.std.specs.Bool.{then_some}
+use Rattle.std.specs.Option.{option_or}
 use Rattle.std.specs.Prelude.{Bool, None, Option, Some, false, option_map, true}
 
 -- while serving
 abbrev pub serving_event : Trace → Event → Option Event
 serving_event trace Ready = None
+serving_event trace (Early bs) = None
 serving_event trace e = option_or (follow trace e) (settle trace)
 
 abbrev pub said_event : Phase → Trace → Event → Option Event

@@ -1,6 +1,6 @@
 -- Where a run stands: down, within an opening, or serving.
 use Rattle.salt_model.specs.Trace.{Trace, from, ◌asks◌, ◌says◌, ◌turns◌}
-use Rattle.salt_model.specs.declared.events.Event.TheVariants.{Down, Opened, Ready}
+use Rattle.salt_model.specs.declared.events.Event.TheVariants.{Down, Early, Opened, Ready}
 use Rattle.std.specs.Prelude.{Bool, false, true, ℕ, ◌+◌}
 
 pub data Phase : Type 0 where
@@ -15,6 +15,7 @@ phase (trace turns b) = phase trace
 phase (trace says Down why) = Fallen
 phase (trace says Opened boot n) = Opening
 phase (trace says Ready) = Serving
+phase (trace says Early bs) = Serving
 phase (trace says e) = phase trace
 
 -- the Downs since the last Opened

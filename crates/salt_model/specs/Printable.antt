@@ -1,6 +1,5 @@
 -- Which stories print as what they are: the schema names its tables, the names of events are names, their statements and definitions are
 -- spelled and pass no limit, their lists are as printed forms have them, their numbers are below 2^64, and their values are values.
-use Rattle.salt_values.specs.declared.limits.TheConstants.{PARTS_MOST}
 use Rattle.salt_ast.specs.Limits.{statement_limit, table_limit}
 use Rattle.salt_ast.specs.ProgramLimits.{program_limit}
 use Rattle.salt_ast.specs.ProgramTexts.{base_text, program_text}
@@ -10,19 +9,20 @@ use Rattle.salt_ast.specs.declared.programs.ProgramDef.{ProgramDef}
 use Rattle.salt_ast.specs.declared.trees.Statement.{Statement}
 use Rattle.salt_ast.specs.declared.trees.TableDef.{TableDef}
 use Rattle.salt_model.specs.Naming.{IsName, IsNaming}
-use Rattle.salt_model.specs.Sized.{IsSizedEvent}
+use Rattle.salt_model.specs.Sized.{IsSizedEvent, IsSizedId}
 use Rattle.salt_model.specs.Words.{Every, is_empty}
-use Rattle.salt_model.specs.declared.events.Event.TheVariants as event
 use Rattle.salt_model.specs.declared.events.Event.{Event}
-use Rattle.salt_model.specs.declared.events.Refusal.TheVariants as refused
 use Rattle.salt_model.specs.declared.events.Refusal.{Refusal}
-use Rattle.salt_model.specs.declared.events.UnitKind.TheVariants as kind
 use Rattle.salt_model.specs.declared.events.UnitKind.{UnitKind}
-use Rattle.salt_model.specs.declared.shown.Item.TheVariants as item
 use Rattle.salt_model.specs.declared.shown.Item.{Item}
 use Rattle.salt_ranges.specs.declared.range.KeyRange.{KeyRange}
 use Rattle.salt_values.specs.declared.id.Id.{Id}
-use Rattle.std.specs.Prelude.{List, None, [], false, is_none, length, ℕ, ⊤, ◌<◌, ◌∷◌, ◌≡◌, ◌≤◌, ◌⊎◌}
+use Rattle.salt_values.specs.declared.limits.TheConstants.{PARTS_MOST}
+use Rattle.std.specs.Prelude.{List, None, false, is_none, length, ℕ, ⊤, ◌<◌, ◌≡◌, ◌≤◌, ◌⊎◌}
+use Rattle.salt_model.specs.declared.events.Event.TheVariants as event
+use Rattle.salt_model.specs.declared.events.Refusal.TheVariants as refused
+use Rattle.salt_model.specs.declared.events.UnitKind.TheVariants as kind
+use Rattle.salt_model.specs.declared.shown.Item.TheVariants as item
 
 -- some text spells the statement, and no limit is passed
 pub record IsSpelled (st : Statement) : Type 0 where
@@ -54,7 +54,7 @@ IsPrintableKind (kind.Later b part) = ⊤
 
 -- the details that refusals have: a name, that of a base too, and a part
 abbrev pub IsPrintableRefusal : Refusal → Type 0
-IsPrintableRefusal (refused.Unknown n) = IsName n ⊎ ((b : Id) × (n ≡ base_text b))
+IsPrintableRefusal (refused.Unknown n) = IsName n ⊎ ((b : Id) × IsSizedId b × (n ≡ base_text b))
 IsPrintableRefusal (refused.Exists n) = IsName n
 IsPrintableRefusal (refused.Branch part) = (1 ≤ part) × (part ≤ PARTS_MOST)
 IsPrintableRefusal r = ⊤
@@ -73,6 +73,7 @@ HasPrintedForm schema (event.Began u k) = IsPrintableKind k
 HasPrintedForm schema (event.Did u st answer) = IsSpelled st
 HasPrintedForm schema (event.Waits u owners) = is_empty owners ≡ false
 HasPrintedForm schema (event.Released bs) = is_empty bs ≡ false
+HasPrintedForm schema (event.Early bs) = is_empty bs ≡ false
 HasPrintedForm schema (event.Defined n text) = IsDefinition text
 HasPrintedForm schema (event.Refused r) = IsPrintableRefusal r
 HasPrintedForm schema (event.Armed pairs) = is_empty pairs ≡ false

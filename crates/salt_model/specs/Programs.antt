@@ -1,11 +1,11 @@
 -- The BASE programs: accepted, finished, released, and those that are under way.
 use Rattle.salt_model.specs.Trace.{Trace, from, ◌asks◌, ◌says◌, ◌turns◌}
 use Rattle.salt_model.specs.Units.{kind_of, open_units, program_begun, program_of_kind}
-use Rattle.salt_values.specs.Id.{in_order, without}
-use Rattle.salt_model.specs.declared.events.Event.TheVariants.{Accepted, Began, Finished, Ready, Released}
+use Rattle.salt_model.specs.declared.events.Event.TheVariants.{Accepted, Began, Early, Finished, Ready, Released}
+use Rattle.salt_values.specs.Id.{has_id, in_order, without}
 use Rattle.salt_values.specs.declared.id.Id.{Id}
-use Rattle.std.specs.List.{filter_map}
-use Rattle.std.specs.Prelude.{List, None, Some, [], map, option_and_then, ◌++◌, ◌∷◌}
+use Rattle.std.specs.List.{filter_map, list_any}
+use Rattle.std.specs.Prelude.{Bool, List, None, Some, [], if◌then◌else◌, map, option_and_then, ◌++◌, ◌∷◌}
 
 -- programs, in the order of their Accepted, Finished
 abbrev pub accepted_in : Trace → List Id
@@ -30,23 +30,62 @@ programs_in (trace turns b) = programs_in trace
 programs_in (trace says Began u kind) = elim (program_of_kind kind) [ None ↦ programs_in trace | Some b ↦ programs_in trace ++ b ∷ [] ]
 programs_in (trace says e) = programs_in trace
 
--- programs that are named by a Released, or that have an event before a Ready
+-- the programs that the last early opening names
+abbrev pub named_early : Trace → List Id
+named_early (from k) = []
+named_early (trace asks asked) = named_early trace
+named_early (trace turns b) = named_early trace
+named_early (trace says Early bs) = bs
+named_early (trace says e) = named_early trace
+
+-- the accepted programs that an early opening does not name: it found them finished, and no Released will name them
+abbrev pub left_out : Trace → List Id
+left_out (from k) = []
+left_out (trace asks asked) = left_out trace
+left_out (trace turns b) = left_out trace
+left_out (trace says Early bs) = left_out trace ++ without bs (accepted_in trace)
+left_out (trace says e) = left_out trace
+
+-- the programs that an early opening found and did not name
+abbrev pub passed_in : Trace → List Id
+passed_in (from k) = []
+passed_in (trace asks asked) = passed_in trace
+passed_in (trace turns b) = passed_in trace
+passed_in (trace says Early bs) = passed_in trace ++ without bs (programs_in trace)
+passed_in (trace says e) = passed_in trace
+
+abbrev pub shares : List Id → List Id → Bool
+shares bs cs = list_any (λ b. has_id b cs) bs
+
+-- where these are released: the programs that an early opening which names one of them found, and did not name
+abbrev pub freed_by : List Id → Trace → List Id
+freed_by bs (from k) = []
+freed_by bs (trace asks asked) = freed_by bs trace
+freed_by bs (trace turns b) = freed_by bs trace
+freed_by bs (trace says Early names) = if shares names bs then without names (programs_in trace) ++ freed_by bs trace else freed_by bs trace
+freed_by bs (trace says e) = freed_by bs trace
+
+-- programs that are named by a Released or freed by it, or that have an event before a Ready
 abbrev pub released_in : Trace → List Id
 released_in (from k) = []
 released_in (trace asks asked) = released_in trace
 released_in (trace turns b) = released_in trace
-released_in (trace says Released bs) = released_in trace ++ bs
+released_in (trace says Released bs) = freed_by bs trace ++ (released_in trace ++ bs)
 released_in (trace says Ready) = released_in trace ++ programs_in trace
 released_in (trace says e) = released_in trace
 
--- accepted and not released
+-- released, or to be so without being named
+abbrev pub over_in : Trace → List Id
+over_in trace = left_out trace ++ released_in trace
+
+-- accepted, and neither released nor left out
 abbrev pub unreleased : Trace → List Id
-unreleased trace = in_order (without (released_in trace) (accepted_in trace))
+unreleased trace = in_order (without (over_in trace) (accepted_in trace))
 
 -- in their first part
 abbrev pub in_part_1 : Trace → List Id
 in_part_1 trace = filter_map (λ u. option_and_then program_begun (kind_of u trace)) (open_units trace)
 
--- in their first part, or accepted and not released
+-- in their first part, or accepted, and neither released nor left out
 abbrev pub under_way : Trace → List Id
 under_way trace = in_order (unreleased trace ++ in_part_1 trace)

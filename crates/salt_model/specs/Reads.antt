@@ -1,21 +1,20 @@
 -- Who wrote last, who reads from whom, and what is releasable.
-use Rattle.std.specs.Ordering.{is_eq}
-use Rattle.salt_model.specs.declared.places.Place.{Place}
-use Rattle.salt_model.specs.Tables.{is_within, place, place_cmp}
 use Rattle.salt_model.specs.After.{changes_now, reach_now}
+use Rattle.salt_model.specs.Programs.{accepted_in, finished_in, left_out, released_in}
+use Rattle.salt_model.specs.Tables.{is_within, place, place_cmp}
 use Rattle.salt_model.specs.Trace.{Trace, from, ◌asks◌, ◌says◌, ◌turns◌}
-use Rattle.salt_model.specs.Programs.{accepted_in, finished_in, released_in}
 use Rattle.salt_model.specs.Units.{is_of_program, program_of}
 use Rattle.salt_model.specs.Words.{shrink, widened}
-use Rattle.salt_values.specs.Id.{has_id, in_order, without}
 use Rattle.salt_model.specs.declared.events.End.TheVariants.{Committed}
-use Rattle.salt_model.specs.declared.events.Event.TheVariants.{Did, Ended}
+use Rattle.salt_model.specs.declared.events.Event.TheVariants.{Did, Early, Ended}
 use Rattle.salt_model.specs.declared.locks.Reach.{Reach}
-use Rattle.salt_values.specs.Id.{is_same_id}
+use Rattle.salt_model.specs.declared.places.Place.{Place}
+use Rattle.salt_values.specs.Id.{has_id, in_order, is_same_id, without}
 use Rattle.salt_values.specs.declared.change.Change.{Change}
 use Rattle.salt_values.specs.declared.id.Id.{Id}
 use Rattle.salt_values.specs.declared.value.Value.{Value}
 use Rattle.std.specs.List.{filter, filter_map, find, list_all}
+use Rattle.std.specs.Ordering.{is_eq}
 use Rattle.std.specs.Prelude.{Bool, List, None, Option, Some, [], if◌then◌else◌, length, map, not, option_map, ℕ, ◌++◌, ◌||◌, ◌∷◌}
 
 -- a key that a committed unit changed
@@ -70,7 +69,7 @@ writers_in trace (Some r) = map (λ w. w.unit) (filter (is_reached r) (last_of_e
 abbrev pub programs_among : Trace → List Id → List Id
 programs_among trace us = filter_map (λ u. program_of u trace) us
 
--- the programs that program b reads from, directly
+-- the programs that program b reads from, directly; those that an early opening names count as read from by one another
 abbrev pub read_directly : Id → Trace → List Id
 read_directly b (from k) = []
 read_directly b (trace asks asked) = read_directly b trace
@@ -79,6 +78,7 @@ read_directly b (trace says Did u st answer) =
     if is_of_program b trace u
     then without (b ∷ []) (programs_among trace (writers_in trace (reach_now u trace st))) ++ read_directly b trace
     else read_directly b trace
+read_directly b (trace says Early bs) = if has_id b bs then without (b ∷ []) bs ++ read_directly b trace else read_directly b trace
 read_directly b (trace says e) = read_directly b trace
 
 -- b and the programs that it reads from, directly or through programs; a way to one needs no more steps than programs are accepted
@@ -93,7 +93,11 @@ abbrev pub reads_within : Trace → List Id → Id → Bool
 reads_within trace bs b = list_all (λ c. has_id c bs || has_id c (released_in trace)) (read_directly b trace)
 
 -- the finished programs not yet released, in order of names, without those that read from a program that stays out
-abbrev pub to_release : Trace → List Id
-to_release trace =
+abbrev pub releasable : Trace → List Id
+releasable trace =
     let due = in_order (without (released_in trace) (finished_in trace)) in
     shrink (reads_within trace) (length due) due
+
+-- without those that an early opening leaves out
+abbrev pub to_release : Trace → List Id
+to_release trace = without (left_out trace) (releasable trace)

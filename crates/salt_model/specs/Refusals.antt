@@ -1,26 +1,28 @@
 -- The refusal of a line: the first that applies, by the trace before it.
 use Rattle.salt_ast.specs.Judgement.{Fault, exists, mistyped, unknown}
 use Rattle.salt_ast.specs.ProgramJudgement.{Known, LineFault, branch, faulty, kept as of_kept, line_fault}
-use Rattle.std.specs.Bool.{then_some}
-use Rattle.std.specs.Option.{option_or}
-use Rattle.salt_ast.specs.declared.lines.Act.TheVariants.{Begin, Call, Commit, Do, Rollback, Step}
 use Rattle.salt_ast.specs.declared.lines.Act.{Act}
-use Rattle.salt_ast.specs.declared.lines.Line.TheVariants.{Crash, Go, Program, Session, Table}
+use Rattle.salt_ast.specs.declared.lines.Act.TheVariants.{Begin, Call, Commit, Do, Rollback, Step}
 use Rattle.salt_ast.specs.declared.lines.Line.{Line}
+use Rattle.salt_ast.specs.declared.lines.Line.TheVariants.{Crash, Go, Net, Program, Session, Table}
+use Rattle.salt_ast.specs.declared.programs.Body.TheVariants.{Acid, Base}
+use Rattle.salt_ast.specs.declared.programs.ProgramDef.{ProgramDef}
 use Rattle.salt_model.specs.After.{kept}
-use Rattle.salt_model.specs.Kept.{programs_of, schema_of}
+use Rattle.salt_model.specs.Kept.{kept_program, programs_of, schema_of}
 use Rattle.salt_model.specs.Locks.{is_holding}
-use Rattle.salt_model.specs.Trace.{Asked, Trace, Tree, Rejected, start_of}
-use Rattle.salt_model.specs.Programs.{accepted_in, under_way}
+use Rattle.salt_model.specs.Programs.{accepted_in, named_early, under_way}
+use Rattle.salt_model.specs.Trace.{Asked, Rejected, Trace, Tree, start_of}
 use Rattle.salt_model.specs.Units.{is_waiting, kind_of, open_units, program_unit, session_unit}
 use Rattle.salt_model.specs.Words.{is_empty}
-use Rattle.salt_model.specs.declared.events.Refusal.TheVariants as refused
 use Rattle.salt_model.specs.declared.events.Refusal.{Refusal}
-use Rattle.salt_model.specs.declared.events.UnitKind.TheVariants.{Acid}
 use Rattle.salt_model.specs.declared.events.UnitKind.{UnitKind}
+use Rattle.salt_model.specs.declared.events.UnitKind.TheVariants.{Acid}
 use Rattle.salt_values.specs.declared.id.Id.{Id}
+use Rattle.std.specs.Bool.{then_some}
 use Rattle.std.specs.List.{list_any}
+use Rattle.std.specs.Option.{option_or}
 use Rattle.std.specs.Prelude.{Bool, None, Option, Some, false, length, map, not, option_map, true, ◌&&◌, ◌||◌}
+use Rattle.salt_model.specs.declared.events.Refusal.TheVariants as refused
 
 -- By the tree, and what is known: limits of what is kept, names, types and branches.
 
@@ -72,10 +74,24 @@ abbrev pub is_waiting_unit : Trace → Option Id → Bool
 is_waiting_unit trace None = false
 is_waiting_unit trace (Some u) = is_waiting trace u
 
+-- a program that the last early opening names is not released
+abbrev pub is_covering : Trace → Bool
+is_covering trace = list_any (is_holding trace) (named_early trace)
+
+abbrev pub is_base_program : Option ProgramDef → Bool
+is_base_program None = false
+is_base_program (Some p) = elim p.body [ Acid block ↦ false | Base parts ↦ true ]
+
+-- until then no BASE program is called
+abbrev pub is_held_back : Trace → Act → Bool
+is_held_back trace (Call n args) = is_covering trace && is_base_program (kept_program n (kept trace))
+is_held_back trace act = false
+
 abbrev pub is_state_wrong : Trace → Line → Bool
-is_state_wrong trace (Session s act) = state_wrong trace (session_unit s trace) act
+is_state_wrong trace (Session s act) = state_wrong trace (session_unit s trace) act || is_held_back trace act
 is_state_wrong trace (Go b) = is_waiting_unit trace (program_unit b trace)
 is_state_wrong trace (Crash pairs) = not (start_of trace).can_stop
+is_state_wrong trace (Net pairs) = not (start_of trace).over_net
 is_state_wrong trace line = false
 
 -- a unit is open, or a program is not released

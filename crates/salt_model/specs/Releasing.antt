@@ -1,14 +1,14 @@
 -- Releases come exactly when they are due, and name exactly the programs that are releasable.
 use Rattle.salt_model.specs.Continuing.{last_said}
-use Rattle.salt_model.specs.Trace.{Trace}
-use Rattle.salt_model.specs.Programs.{finished_in, released_in}
-use Rattle.salt_model.specs.Phases.{Phase, Serving, phase}
 use Rattle.salt_model.specs.Everywhere.{Each}
+use Rattle.salt_model.specs.Phases.{Phase, Serving, phase}
+use Rattle.salt_model.specs.Programs.{finished_in, over_in}
 use Rattle.salt_model.specs.Reads.{read_directly, to_release}
+use Rattle.salt_model.specs.Trace.{Trace}
 use Rattle.salt_model.specs.Turns.{releases}
-use Rattle.salt_values.specs.Id.{has_id}
-use Rattle.salt_model.specs.declared.events.Event.TheVariants.{Finished, Released}
 use Rattle.salt_model.specs.declared.events.Event.{Event}
+use Rattle.salt_model.specs.declared.events.Event.TheVariants.{Finished, Released}
+use Rattle.salt_values.specs.Id.{has_id}
 use Rattle.salt_values.specs.declared.id.Id.{Id}
 use Rattle.std.specs.Prelude.{Bool, IsTrue, List, None, Option, Some, [], false, true, ◌↔◌, ◌≡◌}
 
@@ -45,11 +45,11 @@ abbrev pub is_finish : Phase → Option Event → Bool
 is_finish Serving (Some (Finished b)) = true
 is_finish phase e = false
 
--- directly after it the programs are released that are releasable and not yet released, and no others
+-- directly after it the programs are released that are releasable, not yet released and not left out, and no others
 abbrev pub NamesReleasable : Trace → Event → Type 0
 NamesReleasable trace e =
     IsTrue (is_finish (phase trace) (last_said trace)) →
-    (b : Id) → IsTrue (has_id b (released_names e)) ↔ ((has_id b (released_in trace) ≡ false) × IsReleasable trace b)
+    (b : Id) → IsTrue (has_id b (released_names e)) ↔ ((has_id b (over_in trace) ≡ false) × IsReleasable trace b)
 
 pub record ReleasesExactly (trace : Trace) : Type 0 where
   pub due : Each ReleasesDue trace

@@ -8,10 +8,13 @@ use Rattle.salt_model.specs.declared.events.Refusal.{Refusal}
 use Rattle.salt_values.specs.declared.id.Id.{Id}
 use Rattle.std.specs.Prelude.{Bool, List, [], ◌++◌, ◌∷◌}
 
--- what a run begins with: what is kept, and whether its disks can be stopped
+-- what a run begins with: what is kept, whether its disks can be stopped, whether an opening may leave programs unfinished, and whether
+-- its commits go over messages
 pub record Start : Type 0 where
   pub kept : Kept
   pub can_stop : Bool
+  pub early : Bool
+  pub over_net : Bool
 
 -- what a line asks: what its tree says, or, where its text is refused, this refusal
 pub data Asked : Type 0 where

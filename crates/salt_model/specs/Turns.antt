@@ -1,39 +1,39 @@
 -- What a line, a turn and settling bring next, read off the trace so far.
-use Rattle.std.specs.Bool.{then_some}
-use Rattle.salt_ast.specs.declared.lines.Act.TheVariants.{Begin, Call, Commit, Do, Rollback, Step}
+use Rattle.salt_ast.specs.ProgramTexts.{program_text}
+use Rattle.salt_ast.specs.Texts.{table_text}
 use Rattle.salt_ast.specs.declared.lines.Act.{Act}
-use Rattle.salt_ast.specs.declared.lines.Line.TheVariants.{Crash, Go, GoAll, Nothing, Program, Session, ShowBases, ShowLocks, Table}
+use Rattle.salt_ast.specs.declared.lines.Act.TheVariants.{Begin, Call, Commit, Do, Rollback, Step}
 use Rattle.salt_ast.specs.declared.lines.Line.{Line}
-use Rattle.salt_ast.specs.declared.programs.Body.TheVariants.{Acid, Base}
+use Rattle.salt_ast.specs.declared.lines.Line.TheVariants.{Crash, Go, GoAll, Net, Nothing, Program, Session, ShowBases, ShowLocks, Table}
 use Rattle.salt_ast.specs.declared.programs.Body.{Body}
+use Rattle.salt_ast.specs.declared.programs.Body.TheVariants.{Acid, Base}
 use Rattle.salt_ast.specs.declared.trees.Statement.{Statement}
 use Rattle.salt_model.specs.After.{answer_now, kept}
 use Rattle.salt_model.specs.Kept.{cont_of, kept_program}
 use Rattle.salt_model.specs.Locks.{clashing}
-use Rattle.salt_model.specs.Trace.{Trace, Tree, from, line_of, ◌asks◌, ◌says◌, ◌turns◌}
-use Rattle.salt_model.specs.Units.{base_count, done_of, is_waiting, kind_of, line_begun, program_unit, session_unit, unit_count}
+use Rattle.salt_model.specs.Programs.{named_early}
 use Rattle.salt_model.specs.Reads.{to_release}
 use Rattle.salt_model.specs.Shown.{base_items, lock_items}
-use Rattle.salt_ast.specs.ProgramTexts.{program_text}
-use Rattle.salt_ast.specs.Texts.{table_text}
+use Rattle.salt_model.specs.Trace.{Asked, Rejected, Trace, Tree, from, line_of, ◌asks◌, ◌says◌, ◌turns◌}
+use Rattle.salt_model.specs.Units.{base_count, done_of, is_waiting, kind_of, line_begun, program_unit, session_unit, unit_count}
 use Rattle.salt_model.specs.Waiting.{asked_by, block_of, next_unblocked, victim}
-use Rattle.salt_values.specs.Id.{in_order}
-use Rattle.salt_model.specs.declared.events.Answer.TheVariants.{Failed}
 use Rattle.salt_model.specs.declared.events.Answer.{Answer}
+use Rattle.salt_model.specs.declared.events.Answer.TheVariants.{Failed}
 use Rattle.salt_model.specs.declared.events.Cause.{Cause}
-use Rattle.salt_model.specs.declared.events.End.TheVariants.{Branched, Committed, Failed, RolledBack, Victim}
 use Rattle.salt_model.specs.declared.events.End.{End}
-use Rattle.salt_model.specs.declared.events.Event.TheVariants.{Accepted, Armed, Began, Defined, Did, Down, Ended, Finished, Released, Shown, Waits}
+use Rattle.salt_model.specs.declared.events.End.TheVariants.{Branched, Committed, Failed, RolledBack, Victim}
 use Rattle.salt_model.specs.declared.events.Event.{Event}
+use Rattle.salt_model.specs.declared.events.Event.TheVariants.{Accepted, Armed, Began, Defined, Did, Down, Ended, Finished, Refused, Released, Shown, Waits}
 use Rattle.salt_model.specs.declared.events.Owner.{Owner}
-use Rattle.salt_model.specs.declared.events.UnitKind.TheVariants.{Acid, Call, First, Later}
 use Rattle.salt_model.specs.declared.events.UnitKind.{UnitKind}
-use Rattle.salt_values.specs.Id.{is_same_id}
+use Rattle.salt_model.specs.declared.events.UnitKind.TheVariants.{Acid, Call, First, Later}
+use Rattle.salt_values.specs.Id.{in_order, is_same_id}
 use Rattle.salt_values.specs.declared.id.Id.{Id}
 use Rattle.salt_values.specs.declared.value.Value.{Value}
+use Rattle.std.specs.Bool.{then_some}
 use Rattle.std.specs.List.{find}
-use Rattle.std.specs.Prelude.{Bool, List, None, Option, Some, [], false, if◌then◌else◌}
-use Rattle.std.specs.Prelude.{is_none, is_some, length, map, not, option_map, true, ℕ, ◌&&◌, ◌+◌, ◌==◌, ◌∷◌}
+use Rattle.std.specs.Option.{option_or}
+use Rattle.std.specs.Prelude.{Bool, List, None, Option, Some, [], false, if◌then◌else◌, is_none, is_some, length, map, not, option_map, true, ℕ, ◌&&◌, ◌+◌, ◌==◌, ◌∷◌}
 
 -- the names that come next
 abbrev pub fresh_unit : Trace → Id
@@ -108,13 +108,14 @@ line_event trace GoAll = None
 line_event trace ShowLocks = Some (Shown (lock_items trace))
 line_event trace ShowBases = Some (Shown (base_items trace))
 line_event trace (Crash pairs) = Some (Armed pairs)
+line_event trace (Net pairs) = Some (Armed pairs)
 
 -- 2. What follows an event in its turn, given the trace with it.
 
 -- a unit's first turn comes with its Began, unless `begin` opened it
-abbrev pub after_began : Trace → Id → Line → Option Event
-after_began trace u (Session s Begin) = None
-after_began trace u line = turn trace u
+abbrev pub after_began : Trace → Id → Line → UnitKind → Option Event
+after_began trace u (Session s Begin) (Acid t) = None
+after_began trace u line kind = turn trace u
 
 abbrev pub fails : Trace → Id → Cause → Option UnitKind → Event
 fails trace u c (Some (Later b part)) = Ended u (Branched (next_number trace) c)
@@ -148,7 +149,7 @@ releases [] = None
 releases (b ∷ bs) = Some (Released (b ∷ bs))
 
 abbrev pub follow : Trace → Event → Option Event
-follow trace (Began u kind) = after_began trace u (line_of trace)
+follow trace (Began u kind) = after_began trace u (line_of trace) kind
 follow trace (Did u st answer) = after_did trace u answer
 follow trace (Ended u end) = after_end trace end (kind_of u trace)
 follow trace (Accepted b) = finishes trace b
@@ -183,5 +184,27 @@ abbrev pub can_go : Trace → Id → Bool
 can_go trace b =
     is_some (cont_of b (kept trace)) && (elim (program_unit b trace) [ None ↦ true | Some u ↦ not (is_waiting trace u) ])
 
+abbrev pub next_to_go : Trace → Option Id
+next_to_go trace = find (can_go trace) (still_to_go trace)
+
+-- a line does something, if it is not refused
+abbrev pub does_something : Asked → Bool
+does_something (Tree Nothing) = false
+does_something (Tree line) = true
+does_something (Rejected r) = false
+
+-- the line in whose segment the trace ends does something, was not refused nor cut short, and the turn behind it has not come
+abbrev pub owes_turn : Trace → Bool
+owes_turn (from k) = false
+owes_turn (trace asks asked) = does_something asked
+owes_turn (trace turns b) = owes_turn trace && is_some (next_to_go trace)
+owes_turn (trace says Refused r) = false
+owes_turn (trace says Down why) = false
+owes_turn (trace says e) = owes_turn trace
+
+-- behind such a line the least program that the last early opening names, of those that can go, has a turn
+abbrev pub turn_owed : Trace → Option Id
+turn_owed trace = if owes_turn trace then find (can_go trace) (named_early trace) else None
+
 abbrev pub next_turn : Trace → Option Id
-next_turn trace = find (can_go trace) (still_to_go trace)
+next_turn trace = option_or (next_to_go trace) (turn_owed trace)

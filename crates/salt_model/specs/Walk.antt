@@ -3,15 +3,19 @@ use Rattle.salt_ast.specs.declared.lines.Line.{Line}
 use Rattle.salt_model.specs.After.{kept}
 use Rattle.salt_model.specs.EventTexts.{event_line}
 use Rattle.salt_model.specs.Kept.{nothing_kept, schema_of}
-use Rattle.salt_model.specs.Trace.{Asked, Trace, Start, Tree, from, story_of, ◌asks◌, ◌says◌, ◌turns◌}
 use Rattle.salt_model.specs.Next.{next}
+use Rattle.salt_model.specs.Trace.{Asked, Start, Trace, Tree, from, story_of, ◌asks◌, ◌says◌, ◌turns◌}
 use Rattle.salt_model.specs.Turns.{next_turn}
 use Rattle.salt_model.specs.declared.events.Event.TheVariants.{Opened}
-use Rattle.std.specs.Prelude.{List, None, Some, [], map, suc, true, zero, ℕ, ◌∷◌}
+use Rattle.std.specs.Prelude.{List, None, Some, [], false, map, suc, true, zero, ℕ, ◌∷◌}
 
 -- an empty start, over disks that can be stopped
 abbrev pub new_database : Start
-new_database = record { kept = nothing_kept; can_stop = true }
+new_database = record { kept = nothing_kept; can_stop = true; early = false; over_net = false }
+
+-- the same, where openings may be early
+abbrev pub new_early_database : Start
+new_early_database = record { kept = nothing_kept; can_stop = true; early = true; over_net = false }
 
 abbrev pub completed : ℕ → Trace → Trace
 completed zero trace = trace
@@ -24,6 +28,9 @@ walk_on (asked ∷ more) trace = walk_on more (completed 1000 (trace asks asked)
 
 abbrev pub opened : Trace
 opened = completed 1000 (from new_database says Opened 1 0)
+
+abbrev pub opened_early : Trace
+opened_early = completed 1000 (from new_early_database says Opened 1 0)
 
 abbrev pub walk : List Line → Trace
 walk lines = walk_on (map Tree lines) opened

@@ -1,8 +1,8 @@
 -- Small words on lists, names and numbers of units.
 use Rattle.salt_values.specs.Id.{in_order, is_older}
 use Rattle.salt_values.specs.declared.id.Id.{Id}
-use Rattle.std.specs.List.{filter, flat_map, list_all, list_any}
-use Rattle.std.specs.Prelude.{Bool, Err, List, None, Ok, Option, Result, Some, [], false, if◌then◌else◌, not, suc, true, zero, ℕ, ⊤, ◌++◌, ◌∷◌}
+use Rattle.std.specs.List.{filter, flat_map, list_all}
+use Rattle.std.specs.Prelude.{Bool, Err, List, None, Ok, Option, Result, Some, [], false, if◌then◌else◌, suc, true, zero, ℕ, ⊤, ◌++◌, ◌∷◌}
 
 abbrev pub first_of_list : {A : Type 0} → List A → Option A
 first_of_list [] = None

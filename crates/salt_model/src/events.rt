@@ -210,6 +210,8 @@ pub enum Event {
     },
     /// The opening is done, and lines are served.
     Ready,
+    /// The opening is done while these BASE programs are unfinished: they are hidden until they are released, and lines are served.
+    Early(Ids),
     /// A definition was made by the decision of this number; its canonical text.
     Defined {
         number: u64,
@@ -252,6 +254,7 @@ impl Drop for Event {
                 decisions: _decisions,
             } => {}
             Event::Ready => {}
+            Event::Early(_bases) => {}
             Event::Defined {
                 number: _number,
                 text: _text,

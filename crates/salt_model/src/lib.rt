@@ -9,6 +9,6 @@ mod vars;
 
 pub use events::{Answer, Cause, End, Event, Flight, Owner, Owners, Refusal, Story, UnitKind, Why};
 pub use locks::{Family, Lock, Mode, Reach};
-pub use places::Place;
+pub use places::{Place, first_place};
 pub use shown::{BaseAt, Item, Items};
 pub use vars::{Binding, Vars};

@@ -1,12 +1,15 @@
 //! Where a row stands.
 
+ghost use Rattle.salt_model.specs.Bounds.{before_table, first_place};
 ghost use Rattle.salt_model.specs.Tables.{place_cmp, place_total};
 ghost use Rattle.std.specs.Cmp.{eq_by_cmp_equiv, partial_equiv_from_equiv, partial_order_from_total};
 ghost use Rattle.std.specs.Ordering.{as_partial_cmp, eq_by_cmp};
-ghost use Rattle.std.specs.Prelude.{refl};
+ghost use Rattle.std.specs.Prelude.{IfOk, refl, ◌≡◌};
 
-use salt_values::Key;
+use salt_values::{Key, TryCopy, Value};
+use std::alloc::{AllocError, Global};
 use std::cmp::Ordering;
+use std::ops::Bound;
 
 /// The place of a row: its table's number and its key. Places are ordered by table, then by key.
 #[derive(Debug, Drop)]
@@ -50,5 +53,32 @@ impl Ord for Place {
 
     fn cmp(&self, other: &Place) -> Ordering {
         self.table.cmp(&other.table).then(self.key.cmp(&other.key))
+    }
+}
+
+/// Behind the places of the tables before this one. No key is above NULL.
+fn before_table(table: u16) -> Bound<Place>
+    ensures { result ≡ before_table table }
+{
+    if table == 0 {
+        Bound::Unbounded
+    } else {
+        Bound::Excluded(Place {
+            table: table - 1,
+            key: Value::Null,
+        })
+    }
+}
+
+/// Where the places of a table begin, from the lower end of a range on.
+pub fn first_place(alloc: Global, table: u16, lo: &Option<Key>) -> Result<Bound<Place>, AllocError>
+    ensures { IfOk result (λ start. start ≡ first_place table lo.now) }
+{
+    match lo {
+        Some(lo) => {
+            let key = lo.copy(alloc)?;
+            Ok(Bound::Included(Place { table, key }))
+        }
+        None => Ok(before_table(table)),
     }
 }
