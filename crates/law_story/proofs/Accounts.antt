@@ -1,32 +1,31 @@
 -- Accepted programs are finished, or have a continuation: each is accounted for.
-use Rattle.salt_model.specs.Programs.{accepted_in, finished_in}
-use Rattle.salt_values.specs.declared.value.Value.{Value}
-use Rattle.std.proofs.Common.{ap, inl, inr, subst, sym, ◌∙◌}
-use Rattle.std.specs.Prelude.{Bool, List, None, Option, Some, [], false, is_none, map, not, option_and_then, option_map, refl, true, ℕ, ◌&&◌, ◌∷◌, ◌≡◌, ◌⊎◌}
-use Rattle.std.specs.Bool.{then_some}
-use Rattle.salt_ast.specs.declared.programs.ProgramDef.{ProgramDef}
 use Rattle.law_story.proofs.Due.{accepts-asks, accepts-due, accepts-turns, finishes-asks, finishes-due, finishes-turns}
 use Rattle.law_story.proofs.Ids.{is_same_id-refl, is_same_id-true}
-use Rattle.law_story.proofs.Lists.{In, either, has-in, in-cases, in-has, in-left, in-right}
+use Rattle.law_story.proofs.Lists.{In, either, has-in, in-cases, in-has, in-left, in-right, order-again}
 use Rattle.law_story.proofs.NextFits.{Fits}
-use Rattle.law_story.proofs.Salted.{OfBoots, holds}
-use Rattle.law_story.proofs.Sound.{Sound, base-begun, base-kept-begun, base-moved, bases_in, conts-kept, due-in}
+use Rattle.law_story.proofs.Sound.{Sound, base-begun, base-kept-begun, base-moved, bases-named, bases_in, conts-kept, due-in, named-bases}
+use Rattle.law_story.proofs.Upheld.{OfBoots, holds}
+use Rattle.salt_ast.specs.declared.programs.ProgramDef.{ProgramDef}
 use Rattle.salt_model.specs.After.{branched, conts_at, kept, run_of}
 use Rattle.salt_model.specs.Continuing.{AcceptsDue, FinishesDue, GoesAlong, accepted_after, finished_after, if_ended, is_unfinished, last_said, program_continued}
 use Rattle.salt_model.specs.Kept.{begun_cont, branch_of, cont_of, kept_program, moved, then_of, tries_left, values_kept}
+use Rattle.salt_model.specs.Played.{IsPlayed}
+use Rattle.salt_model.specs.Programs.{accepted_in, finished_in}
 use Rattle.salt_model.specs.Trace.{Trace, from, start_of, ◌asks◌, ◌says◌, ◌turns◌}
 use Rattle.salt_model.specs.Units.{kind_of, program_begun, program_of_kind}
-use Rattle.salt_model.specs.Played.{IsPlayed}
-use Rattle.salt_values.specs.Id.{has_id}
-use Rattle.salt_model.specs.declared.events.End.TheVariants.{Branched, Committed}
 use Rattle.salt_model.specs.declared.events.End.{End}
-use Rattle.salt_model.specs.declared.events.Event.TheVariants.{Accepted, Began, Ended, Finished, Ready}
+use Rattle.salt_model.specs.declared.events.End.TheVariants.{Branched, Committed}
 use Rattle.salt_model.specs.declared.events.Event.{Event}
-use Rattle.salt_model.specs.declared.events.UnitKind.TheVariants.{Acid, Call, First, Later}
+use Rattle.salt_model.specs.declared.events.Event.TheVariants.{Accepted, Began, Early, Ended, Finished, Ready}
 use Rattle.salt_model.specs.declared.events.UnitKind.{UnitKind}
-use Rattle.salt_values.specs.Id.{is_same_id}
+use Rattle.salt_model.specs.declared.events.UnitKind.TheVariants.{Acid, Call, First, Later}
+use Rattle.salt_values.specs.Id.{has_id, in_order, is_same_id}
 use Rattle.salt_values.specs.declared.cont.Cont.{Cont}
 use Rattle.salt_values.specs.declared.id.Id.{Id}
+use Rattle.salt_values.specs.declared.value.Value.{Value}
+use Rattle.std.proofs.Common.{ap, inl, inr, subst, sym, ◌∙◌}
+use Rattle.std.specs.Bool.{then_some}
+use Rattle.std.specs.Prelude.{Bool, List, None, Option, Some, [], false, is_none, map, not, option_and_then, option_map, refl, true, ℕ, ◌&&◌, ◌∷◌, ◌≡◌, ◌⊎◌}
 
 abbrev bases : List Cont → List Id
 bases cs = map (λ (c : Cont). c.base) cs
@@ -126,7 +125,7 @@ pub record Accounts (trace : Trace) : Type 0 where
   pub ends : (b : Id) → In b (accepted_in trace) → In b (finished_in trace) ⊎ (In b (bases_in trace) ⊎ (finished_after trace (last_said trace) ≡ Some b))
   pub begins : (b : Id) → In b (bases_in trace) → In b (accepted_in trace) ⊎ (accepted_after trace (last_said trace) ≡ Some b)
 
-none-some : {A : Type 0} {B : Type 0} (o : Option A) (x : A) → o ≡ Some x → o ≡ None → B
+pub none-some : {A : Type 0} {B : Type 0} (o : Option A) (x : A) → o ≡ Some x → o ≡ None → B
 none-some o x e n = let g : Some x ≡ None = sym e ∙ n in cc
 
 ends-step : (trace : Trace) (e : Event) → Accounts trace → FinishesDue trace e → (b : Id) → In b (accepted_in (trace says e)) → In b (finished_in (trace says e)) ⊎ (In b (bases_in (trace says e)) ⊎ (finished_after (trace says e) (Some e) ≡ Some b))
@@ -182,4 +181,20 @@ goes-along trace Ready r s f a d = λ b. by b (has_id b (accepted_in trace)) ref
     by : (b : Id) (t : Bool) → has_id b (accepted_in trace) ≡ t → is_unfinished trace b ≡ false
     by b false e = rw e refl
     by b true e = rw (e, over b (has-in b (accepted_in trace) e)) refl
+goes-along trace (Early bs) r s f a d = record { opening = f.0; allowed = f.4; names = λ b. by b (has_id b bs) refl; ordered = ap in_order f.1 ∙ order-again (bases_in trace) ∙ sym f.1 }
+  where
+    goes : (b : Id) → In b (bases_in trace) → is_unfinished trace b ≡ true
+    goes b i = both (has_id b (accepted_in trace)) (not (has_id b (finished_in trace))) (in-has b (accepted_in trace) (either (λ g. g) (λ x. none-some _ b x a) (r.begins b i))) (not-over (has_id b (finished_in trace)) refl)
+      where
+        not-over : (t : Bool) → has_id b (finished_in trace) ≡ t → not t ≡ true
+        not-over false e = refl
+        not-over true e = absurd (s.goes_on b i (inl (has-in b (finished_in trace) e)))
+
+    over : (b : Id) → has_id b bs ≡ false → (t : Bool) → has_id b (accepted_in trace) ≡ t → is_unfinished trace b ≡ false
+    over b n false e = rw e refl
+    over b n true e = rw (e, either (λ g. in-has b (finished_in trace) g) (λ g. either (λ k. let h : has_id b bs ≡ true = in-has b bs (bases-named trace bs f b k) in cc) (λ x. none-some _ b x d) g) (r.ends b (has-in b (accepted_in trace) e))) refl
+
+    by : (b : Id) (t : Bool) → has_id b bs ≡ t → has_id b bs ≡ is_unfinished trace b
+    by b true e = e ∙ sym (goes b (named-bases trace bs f b (has-in b bs e)))
+    by b false e = e ∙ sym (over b e (has_id b (accepted_in trace)) refl)
 goes-along trace e r s f a d = tt

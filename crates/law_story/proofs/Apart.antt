@@ -1,26 +1,24 @@
 -- A statement that clashes with no held lock touches nothing that another open unit reached.
-use Rattle.std.specs.Bool.{then_some}
-use Rattle.salt_ast.specs.declared.programs.Body.TheVariants.{Base}
-use Rattle.salt_ast.specs.declared.trees.Statement.{Statement}
 use Rattle.law_story.proofs.Every.{every-all, every-map}
 use Rattle.law_story.proofs.Ids.{same_sym}
 use Rattle.law_story.proofs.Opens.{Alone, Open}
 use Rattle.law_story.proofs.Places.{both_true}
 use Rattle.law_story.proofs.Runs.{NoTouch, Untouched}
-use Rattle.salt_model.specs.After.{reach_now}
-use Rattle.salt_model.specs.Locks.{Taken, as_held, base_owner, clash_locks, clashes, clashing, conflict, family_of, may_not_stand_together, is_clash, is_read, is_same_owner, lock_by, lock_of, owners_of, reach_of, saline_lock, taken_in, touches, unit_owner}
+use Rattle.salt_ast.specs.declared.programs.Body.TheVariants.{Base}
+use Rattle.salt_ast.specs.declared.trees.Statement.{Statement}
+use Rattle.salt_model.specs.After.{kept, reach_now}
+use Rattle.salt_model.specs.Locks.{Taken, as_held, base_owner, base_tables, clash_locks, clashes, clashing, conflict, cover, cover_lock, cover_of, family_of, is_clash, is_read, is_same_owner, lock_by, lock_of, may_not_stand_together, owners_of, reach_of, saline_lock, taken_since, touches, unit_owner}
+use Rattle.salt_model.specs.Programs.{named_early, released_in}
 use Rattle.salt_model.specs.Trace.{Trace}
-use Rattle.salt_model.specs.Programs.{released_in}
 use Rattle.salt_model.specs.Units.{Never, Over, Running, Standing, Waiting, is_open_standing, kind_of, program_of_kind, standing}
-use Rattle.salt_model.specs.Words.{Every}
-use Rattle.salt_values.specs.Id.{has_id, in_order, insert_id}
+use Rattle.salt_model.specs.Words.{Every, first_of_list}
 use Rattle.salt_model.specs.declared.events.End.TheVariants.{Committed}
-use Rattle.salt_model.specs.declared.events.Owner.TheVariants.{Base, Unit}
 use Rattle.salt_model.specs.declared.events.Owner.{Owner}
-use Rattle.salt_model.specs.declared.events.UnitKind.TheVariants.{First, Later}
+use Rattle.salt_model.specs.declared.events.Owner.TheVariants.{Base, Unit}
 use Rattle.salt_model.specs.declared.events.UnitKind.{UnitKind}
-use Rattle.salt_model.specs.declared.locks.Family.TheVariants.{Alkaline, Saline}
+use Rattle.salt_model.specs.declared.events.UnitKind.TheVariants.{First, Later}
 use Rattle.salt_model.specs.declared.locks.Family.{Family}
+use Rattle.salt_model.specs.declared.locks.Family.TheVariants.{Alkaline, Saline}
 use Rattle.salt_model.specs.declared.locks.Lock.{Lock}
 use Rattle.salt_model.specs.declared.locks.Mode.{Mode}
 use Rattle.salt_model.specs.declared.locks.Reach.{Reach}
@@ -28,11 +26,12 @@ use Rattle.salt_model.specs.declared.shown.BaseAt.TheVariants.{First}
 use Rattle.salt_model.specs.declared.shown.Item.TheVariants.{Base}
 use Rattle.salt_ranges.specs.Ranges.{ends_meet, meets}
 use Rattle.salt_ranges.specs.declared.range.KeyRange.{KeyRange}
-use Rattle.salt_values.specs.Id.{is_older, is_same_id}
+use Rattle.salt_values.specs.Id.{has_id, in_order, insert_id, is_older, is_same_id}
 use Rattle.salt_values.specs.declared.id.Id.{Id}
 use Rattle.std.proofs.Common.{ap, sym, ◌∙◌}
+use Rattle.std.specs.Bool.{then_some}
 use Rattle.std.specs.List.{cons_option, filter, filter_map, list_all}
-use Rattle.std.specs.Prelude.{Bool, List, None, Option, Some, [], cond, false, map, not, option_and_then, option_map, refl, true, ◌&&◌, ◌++◌, ◌==◌, ◌∷◌, ◌≡◌, option_to_list}
+use Rattle.std.specs.Prelude.{Bool, List, None, Option, Some, [], cond, false, map, not, option_and_then, option_map, option_to_list, refl, true, ℕ, ◌&&◌, ◌++◌, ◌==◌, ◌∷◌, ◌≡◌}
 
 some-owner : (lock : Lock) (locks : List Lock) → owners_of (lock ∷ locks) ≡ [] → ⊥
 some-owner lock locks h = by lock.owner h
@@ -79,9 +78,38 @@ filter-none {X} {Y} p f (x ∷ xs) h = by (f x) h (filter-none p f xs)
     by None h g = g h
     by (Some y) h g = in-cond (p y) y h g
 
+-- of two lists one after another, where none passes: none of either does
+pub filter-parts : {A : Type 0} (p : A → Bool) (xs ys : List A) → filter p (xs ++ ys) ≡ [] → (filter p xs ≡ []) × (filter p ys ≡ [])
+filter-parts p [] ys h = (refl, h)
+filter-parts {A} p (x ∷ xs) ys h = go (p x) h (filter-parts p xs ys)
+  where
+    go : (b : Bool) → cond b (x ∷ filter p (xs ++ ys)) (filter p (xs ++ ys)) ≡ [] → (filter p (xs ++ ys) ≡ [] → (filter p xs ≡ []) × (filter p ys ≡ [])) → (cond b (x ∷ filter p xs) (filter p xs) ≡ []) × (filter p ys ≡ [])
+    go true g more = cc
+    go false g more = more g
+
+pub none-passes : {A : Type 0} (p : A → Bool) (xs : List A) → filter p xs ≡ [] → Every (λ x. p x ≡ false) xs
+none-passes p [] h = tt
+none-passes {A} p (x ∷ xs) h = go (p x) refl h (none-passes p xs)
+  where
+    go : (b : Bool) → p x ≡ b → cond b (x ∷ filter p xs) (filter p xs) ≡ [] → (filter p xs ≡ [] → Every (λ x. p x ≡ false) xs) → (p x ≡ false) × Every (λ x. p x ≡ false) xs
+    go true e g more = cc
+    go false e g more = (e, more g)
+
+-- a fact of each lock of the cover
+pub each-cover : (P : Lock → Type 0) (trace : Trace) → ((b : Id) (n : ℕ) → P (cover_lock b n)) → Every P (cover trace)
+each-cover P trace f = by (first_of_list (named_early trace))
+  where
+    all : (b : Id) (ns : List ℕ) → Every P (map (cover_lock b) ns)
+    all b [] = tt
+    all b (n ∷ ns) = (f b n, all b ns)
+
+    by : (o : Option Id) → Every P (cover_of (released_in trace) (base_tables (kept trace)) o)
+    by None = tt
+    by (Some b) = elim (has_id b (released_in trace)) as (λ x. Every P (cond x [] (map (cover_lock b) (base_tables (kept trace))))) [ true ↦ tt | false ↦ all b (base_tables (kept trace)) ]
+
 -- a reach among those taken by a unit
 abbrev pub IsTaken : Trace → Id → Reach → Type 0
-IsTaken trace u r = (q : Taken → Bool) → list_all q (taken_in trace) ≡ true → q (record { unit = u; reach = r }) ≡ true
+IsTaken trace u r = (q : Taken → Bool) → list_all q (taken_since trace) ≡ true → q (record { unit = u; reach = r }) ≡ true
 
 never-saline : (k : Option UnitKind) → family_of k ≡ Saline → ⊥
 never-saline (Some (First s b n args)) h = cc
@@ -127,7 +155,7 @@ takes-apart trace u v st s none other o taken = by (reach_now u trace st) (no-ow
     by (Some r) h = (
       unclashing u v (kind_of v trace) (kind_of u trace) r s other
           (held-lock trace v s (clashes (Unit u) (family_of (kind_of u trace)) r) o
-          (taken (passes_by (clashes (Unit u) (family_of (kind_of u trace)) r) (as_held trace)) (filter-none (clashes (Unit u) (family_of (kind_of u trace)) r) (as_held trace) (taken_in trace) h))),
+          (taken (passes_by (clashes (Unit u) (family_of (kind_of u trace)) r) (as_held trace)) (filter-none (clashes (Unit u) (family_of (kind_of u trace)) r) (as_held trace) (taken_since trace) (filter-parts (clashes (Unit u) (family_of (kind_of u trace)) r) (cover trace) _ h).1))),
       tt,
     )
 
@@ -178,22 +206,37 @@ every-all-true : {A : Type 0} (p : A → Bool) (xs : List A) → list_all p xs �
 every-all-true p [] h = tt
 every-all-true p (x ∷ xs) h = let b = both_true (p x) _ h in (b.0, every-all-true p xs b.1)
 
-pub takes-clear : (trace : Trace) (u : Id) (st : Statement) → clashing trace u st ≡ [] → Every (λ s. beside (option_map (lock_of (Unit u) (family_of (kind_of u trace))) (reach_now u trace st)) (as_held trace s) ≡ true) (taken_in trace)
+pub takes-clear : (trace : Trace) (u : Id) (st : Statement) → clashing trace u st ≡ [] → Every (λ s. beside (option_map (lock_of (Unit u) (family_of (kind_of u trace))) (reach_now u trace st)) (as_held trace s) ≡ true) (taken_since trace)
 takes-clear trace u st none = by (reach_now u trace st) (no-owners _ none)
   where
     one : (r : Reach) (o : Option Lock) → elim o [ None ↦ true | Some y ↦ not (clashes (Unit u) (family_of (kind_of u trace)) r y) ] ≡ true → beside (Some (lock_of (Unit u) (family_of (kind_of u trace)) r)) o ≡ true
     one r None h = refl
     one r (Some m) h = clear-lock u (kind_of u trace) r m (unnot _ h)
 
-    by : (r : Option Reach) → clash_locks trace u (kind_of u trace) r ≡ [] → Every (λ s. beside (option_map (lock_of (Unit u) (family_of (kind_of u trace))) r) (as_held trace s) ≡ true) (taken_in trace)
-    by None h = every-all _ (λ s. refl) (taken_in trace)
+    by : (r : Option Reach) → clash_locks trace u (kind_of u trace) r ≡ [] → Every (λ s. beside (option_map (lock_of (Unit u) (family_of (kind_of u trace))) r) (as_held trace s) ≡ true) (taken_since trace)
+    by None h = every-all _ (λ s. refl) (taken_since trace)
     by (Some r) h =
-        every-map (λ s. passes_by (clashes (Unit u) (family_of (kind_of u trace)) r) (as_held trace) s ≡ true) _ (λ s e. one r (as_held trace s) e) (taken_in trace)
-        (every-all-true (passes_by (clashes (Unit u) (family_of (kind_of u trace)) r) (as_held trace)) (taken_in trace) (filter-none (clashes (Unit u) (family_of (kind_of u trace)) r) (as_held trace) (taken_in trace) h))
+        every-map (λ s. passes_by (clashes (Unit u) (family_of (kind_of u trace)) r) (as_held trace) s ≡ true) _ (λ s e. one r (as_held trace s) e) (taken_since trace)
+        (every-all-true (passes_by (clashes (Unit u) (family_of (kind_of u trace)) r) (as_held trace)) (taken_since trace) (filter-none (clashes (Unit u) (family_of (kind_of u trace)) r) (as_held trace) (taken_since trace) (filter-parts (clashes (Unit u) (family_of (kind_of u trace)) r) (cover trace) _ h).1))
+
+-- and it stands beside the cover
+pub takes-beside : (trace : Trace) (u : Id) (st : Statement) → clashing trace u st ≡ [] → Every (λ l. beside (option_map (lock_of (Unit u) (family_of (kind_of u trace))) (reach_now u trace st)) (Some l) ≡ true) (cover trace)
+takes-beside trace u st none = by (reach_now u trace st) (no-owners _ none)
+  where
+    by : (r : Option Reach) → clash_locks trace u (kind_of u trace) r ≡ [] → Every (λ l. beside (option_map (lock_of (Unit u) (family_of (kind_of u trace))) r) (Some l) ≡ true) (cover trace)
+    by None h = every-all _ (λ l. refl) (cover trace)
+    by (Some r) h = every-map (λ l. clashes (Unit u) (family_of (kind_of u trace)) r l ≡ false) _ (λ l e. clear-lock u (kind_of u trace) r l e) (cover trace) (none-passes (clashes (Unit u) (family_of (kind_of u trace)) r) (cover trace) (filter-parts (clashes (Unit u) (family_of (kind_of u trace)) r) (cover trace) _ h).0)
 
 -- a subtransaction alone among open units: what else is held is saline
-pub alone-clear : (trace : Trace) (u : Id) (st : Statement) → Alone trace u → Every (λ s. beside (option_map (lock_of (Unit u) (family_of (kind_of u trace))) (reach_now u trace st)) (as_held trace s) ≡ true) (taken_in trace)
-alone-clear trace u st alone = every-all _ (λ s. rw alone.1 (by s (reach_now u trace st) (standing s.unit trace) refl)) (taken_in trace)
+pub alone-beside : (trace : Trace) (u : Id) (st : Statement) → Alone trace u → Every (λ l. beside (option_map (lock_of (Unit u) (family_of (kind_of u trace))) (reach_now u trace st)) (Some l) ≡ true) (cover trace)
+alone-beside trace u st alone = rw alone.1 (by (reach_now u trace st))
+  where
+    by : (o : Option Reach) → Every (λ l. beside (option_map (lock_of (Unit u) Alkaline) o) (Some l) ≡ true) (cover trace)
+    by None = every-all _ (λ l. refl) (cover trace)
+    by (Some r) = each-cover (λ l. beside (Some (lock_of (Unit u) Alkaline r)) (Some l) ≡ true) trace (λ b n. refl)
+
+pub alone-clear : (trace : Trace) (u : Id) (st : Statement) → Alone trace u → Every (λ s. beside (option_map (lock_of (Unit u) (family_of (kind_of u trace))) (reach_now u trace st)) (as_held trace s) ≡ true) (taken_since trace)
+alone-clear trace u st alone = every-all _ (λ s. rw alone.1 (by s (reach_now u trace st) (standing s.unit trace) refl)) (taken_since trace)
   where
     own : (s : Taken) (r : Reach) (f : Family) → is_same_id u s.unit ≡ true → not (conflict (lock_of (Unit u) Alkaline r) (lock_of (Unit s.unit) f s.reach)) ≡ true
     own s r f e = rw e refl

@@ -1,11 +1,4 @@
 -- What comes next is asked for: a statement by the line or by its unit's block, a call's unit by a program that is kept.
-use Rattle.salt_ast.specs.declared.lines.Act.TheVariants.{Begin, Call, Commit, Do, Rollback, Step}
-use Rattle.salt_ast.specs.declared.lines.Act.{Act}
-use Rattle.salt_ast.specs.declared.lines.Line.TheVariants.{Go, Session}
-use Rattle.salt_ast.specs.declared.lines.Line.{Line}
-use Rattle.salt_ast.specs.declared.programs.Body.TheVariants.{Acid, Base}
-use Rattle.salt_ast.specs.declared.programs.Body.{Body}
-use Rattle.salt_ast.specs.declared.trees.Statement.{Statement}
 use Rattle.law_story.proofs.Coming.{neither, none-then_some}
 use Rattle.law_story.proofs.Defined.{IsKeptProgram}
 use Rattle.law_story.proofs.Fresh.{IfComes, comes-map, comes-option_or, comes-then_some, or_left, or_right, standing-other}
@@ -13,38 +6,43 @@ use Rattle.law_story.proofs.Ids.{is_same_id-refl, is_same_id-true}
 use Rattle.law_story.proofs.Lists.{In, either, in-cases, in-without}
 use Rattle.law_story.proofs.NextFits.{Drains, Fits, IsOwn, comes-map-at, comes-then_some-at, find-in, opened-in}
 use Rattle.law_story.proofs.Replays.{open-other}
-use Rattle.law_story.proofs.Sound.{Sound, none-open, not-fresh, open-named}
+use Rattle.law_story.proofs.Sound.{Sound, none-open, none-open-early, not-fresh, open-named}
 use Rattle.law_story.specs.Names.{is_unit_of}
+use Rattle.salt_ast.specs.declared.lines.Act.{Act}
+use Rattle.salt_ast.specs.declared.lines.Act.TheVariants.{Begin, Call, Commit, Do, Rollback, Step}
+use Rattle.salt_ast.specs.declared.lines.Line.{Line}
+use Rattle.salt_ast.specs.declared.lines.Line.TheVariants.{Go, Session}
+use Rattle.salt_ast.specs.declared.programs.Body.{Body}
+use Rattle.salt_ast.specs.declared.programs.Body.TheVariants.{Acid, Base}
+use Rattle.salt_ast.specs.declared.trees.Statement.{Statement}
 use Rattle.salt_model.specs.After.{kept}
 use Rattle.salt_model.specs.AsDeclared.{IsOfLine, IsOnly, IsOnlyDone}
 use Rattle.salt_model.specs.Kept.{block_of_kind, cont_of, kept_program}
 use Rattle.salt_model.specs.Locks.{clashing}
 use Rattle.salt_model.specs.Next.{decision_in, is_decision, next, said_event, serving_event}
-use Rattle.salt_model.specs.Openings.{after_opened, cuts_or_drains, drains, follow_opening, stands_now, to_cut}
+use Rattle.salt_model.specs.Openings.{after_opened, cuts_or_drains, drains, follow_opening, stands_now, to_cut, unfinished}
 use Rattle.salt_model.specs.Phases.{Fallen, Opening, Phase, Serving, phase}
 use Rattle.salt_model.specs.Reads.{to_release}
 use Rattle.salt_model.specs.Refusals.{has_block, is_called, is_state_wrong, judged, refusal, refused_line, state_wrong}
 use Rattle.salt_model.specs.Segments.{May}
-use Rattle.salt_model.specs.Trace.{Asked, Rejected, Trace, Tree, from, line_asked, line_of, ◌asks◌, ◌says◌, ◌turns◌}
+use Rattle.salt_model.specs.Trace.{Asked, Rejected, Trace, Tree, from, line_asked, line_of, start_of, ◌asks◌, ◌says◌, ◌turns◌}
 use Rattle.salt_model.specs.Turns.{act_event, after_began, after_did, after_end, asks_for, commits, does_next, fails, finishes, follow, fresh_unit, go, goes_on, is_at_end, is_statement_line, kind_called, line_event, next_number, releases, settle, settle_by, turn}
 use Rattle.salt_model.specs.Units.{Never, Over, Running, Standing, Waiting, done_of, is_of_program, is_of_session, is_open, is_open_standing, is_waiting, is_waiting_standing, kind_of, line_begun, line_waited, open_units, program_of_kind, program_unit, session_of_kind, session_unit, standing, wait_list}
 use Rattle.salt_model.specs.Waiting.{asked_by, asking_line, block_of, clashing_now, is_acid, next_unblocked, statement_in, statement_of_line, victim}
 use Rattle.salt_model.specs.Words.{is_empty}
-use Rattle.salt_values.specs.Id.{without}
-use Rattle.salt_model.specs.declared.events.Answer.TheVariants.{Failed}
 use Rattle.salt_model.specs.declared.events.Answer.{Answer}
+use Rattle.salt_model.specs.declared.events.Answer.TheVariants.{Failed}
 use Rattle.salt_model.specs.declared.events.Cause.{Cause}
-use Rattle.salt_model.specs.declared.events.End.TheVariants.{Branched, Committed}
 use Rattle.salt_model.specs.declared.events.End.{End}
-use Rattle.salt_model.specs.declared.events.Event.TheVariants.{Accepted, Began, Defined, Did, Down, Ended, Finished, Opened, Ready, Refused, Waits}
+use Rattle.salt_model.specs.declared.events.End.TheVariants.{Branched, Committed}
 use Rattle.salt_model.specs.declared.events.Event.{Event}
+use Rattle.salt_model.specs.declared.events.Event.TheVariants.{Accepted, Began, Defined, Did, Down, Early, Ended, Finished, Opened, Ready, Refused, Waits}
 use Rattle.salt_model.specs.declared.events.Owner.{Owner}
-use Rattle.salt_model.specs.declared.events.Refusal.TheVariants as refused
 use Rattle.salt_model.specs.declared.events.Refusal.{Refusal}
-use Rattle.salt_model.specs.declared.events.UnitKind.TheVariants.{Acid, Call, First, Later}
 use Rattle.salt_model.specs.declared.events.UnitKind.{UnitKind}
+use Rattle.salt_model.specs.declared.events.UnitKind.TheVariants.{Acid, Call, First, Later}
 use Rattle.salt_model.specs.declared.events.Why.{Why}
-use Rattle.salt_values.specs.Id.{is_same_id}
+use Rattle.salt_values.specs.Id.{is_same_id, without}
 use Rattle.salt_values.specs.declared.cont.Cont.{Cont}
 use Rattle.salt_values.specs.declared.id.Id.{Id}
 use Rattle.std.proofs.Common.{ap, inl, inr, subst, sym, ◌∙◌}
@@ -52,6 +50,7 @@ use Rattle.std.proofs.lemmas.Bool.{eqb-true}
 use Rattle.std.specs.Bool.{then_some}
 use Rattle.std.specs.Option.{option_or}
 use Rattle.std.specs.Prelude.{Bool, List, None, Option, Some, [], cond, false, is_none, is_some, length, not, option_and_then, option_map, refl, true, ℕ, ⊤, ◌==◌, ◌∷◌, ◌≡◌, ◌⊎◌}
+use Rattle.salt_model.specs.declared.events.Refusal.TheVariants as refused
 
 -- the unit began with a statement's line
 abbrev pub IsSingle : Trace → Id → Type 0
@@ -241,7 +240,7 @@ sessions-turns trace b h q p u o s k = record {
 }
 
 asked-line : (trace : Trace) (line : Line) → Sessions (trace asks Tree line) → phase trace ≡ Serving → refused_line trace line ≡ None → IfComes (IsAsked (trace asks Tree line)) (line_event (trace asks Tree line) line)
-asked-line trace (Session s act) h p n = asked-act (trace asks Tree (Session s act)) s act (session_unit s (trace asks Tree (Session s act))) h p refl refl refl (state-right trace (Session s act) n)
+asked-line trace (Session s act) h p n = asked-act (trace asks Tree (Session s act)) s act (session_unit s (trace asks Tree (Session s act))) h p refl refl refl (or_left (state_wrong trace (session_unit s trace) act) _ (state-right trace (Session s act) n))
 asked-line trace (Go b) h p n = asked-go (trace asks Tree (Go b)) b
 asked-line trace line h p n = tt
 
@@ -277,7 +276,7 @@ single-next (trace says Began v kind) u s p k i own = subst (IsServed (trace say
         let asked : asked_by v (trace says Began v kind) ≡ Some only = subst (λ o. statement_in v (trace says Began v kind) (option_and_then (block_of_kind (kept trace)) o) ≡ Some only) (sym k) (rw (is_same_id-refl v) (ap statement_of_line line)) in
         let e = asks_for (trace says Began v kind) v only (clashing (trace says Began v kind) v only) in
         let turned : turn (trace says Began v kind) v ≡ Some e = ap (option_map (λ st. asks_for (trace says Began v kind) v st (clashing (trace says Began v kind) v st))) asked in
-        let began : after_began (trace says Began v kind) v (line_of trace) ≡ Some e = subst (λ z. after_began (trace says Began v kind) v z ≡ Some e) (sym line) turned in
+        let began : after_began (trace says Began v kind) v (line_of trace) kind ≡ Some e = subst (λ z. after_began (trace says Began v kind) v z kind ≡ Some e) (sym line) turned in
         let served : serving_event (trace says Began v kind) (Began v kind) ≡ Some e = ap (λ o. option_or o (settle (trace says Began v kind))) began in
         (e, subst (λ q. said_event q (trace says Began v kind) (Began v kind) ≡ Some e) (sym p) served, asks-own only (clashing (trace says Began v kind) v only))
 single-next (trace says Did v st a) u s p k i own = subst (IsServed (trace says Did v st a) s) own at-own k i
@@ -396,9 +395,9 @@ asked-first trace u kind g = asked-turn (trace says Began u kind) u (λ st a. ((
           ((st, line), (λ i. (sym begun, none))),
         )
 
-asked-began : (trace : Trace) (u : Id) (kind : UnitKind) (line : Line) → IsAsked trace (Began u kind) → IfComes (IsAsked (trace says Began u kind)) (after_began (trace says Began u kind) u line)
-asked-began trace u kind (Session t Begin) g = tt
-asked-began trace u kind line g = asked-first trace u kind g
+asked-began : (trace : Trace) (u : Id) (line : Line) (kind : UnitKind) → IsAsked trace (Began u kind) → IfComes (IsAsked (trace says Began u kind)) (after_began (trace says Began u kind) u line kind)
+asked-began trace u (Session t Begin) (Acid s) g = tt
+asked-began trace u line kind g = asked-first trace u kind g
 
 all-done : (trace : Trace) (u : Id) (st : Statement) (a : Answer) → IsFromLine trace u st → (o : Option UnitKind) → kind_of u trace ≡ o →
     is_at_end (trace says Did u st a) u (option_and_then (block_of_kind (kept trace)) o) ≡ true → AllDone (trace says Did u st a) u o
@@ -440,7 +439,7 @@ asked-release trace [] = tt
 asked-release trace (b ∷ bs) = tt
 
 asked-follow : (trace : Trace) (e : Event) → IsAsked trace e → IfComes (IsAsked (trace says e)) (follow (trace says e) e)
-asked-follow trace (Began u kind) g = asked-began trace u kind (line_of trace) g
+asked-follow trace (Began u kind) g = asked-began trace u (line_of trace) kind g
 asked-follow trace (Did u st a) g = asked-did trace u st a a g
 asked-follow trace (Ended u end) g = asked-end (trace says Ended u end) end (kind_of u trace)
 asked-follow trace (Accepted b) g = asked-finish (trace says Accepted b) b
@@ -449,6 +448,7 @@ asked-follow trace e g = tt
 
 asked-serving : (trace : Trace) (e : Event) → IsAsked trace e → Sessions (trace says e) → AllWait (trace says e) → phase (trace says e) ≡ Serving → IfComes (IsAsked (trace says e)) (serving_event (trace says e) e)
 asked-serving trace Ready g h all p = tt
+asked-serving trace (Early bs) g h all p = tt
 asked-serving trace e g h all p = comes-option_or (IsAsked (trace says e)) (follow (trace says e) e) (settle (trace says e)) (asked-follow trace e g) (asked-settle (trace says e) h all p)
 
 -- OPENINGS
@@ -465,7 +465,11 @@ asked-cuts trace [] = comes-then_some (IsAsked trace) (is_empty (open_units trac
   where
     go : (cs : List Cont) → IsAsked trace (drains trace cs)
     go [] = tt
-    go (c ∷ cs) = tt
+    go (c ∷ cs) = by (start_of trace).early
+      where
+        by : (t : Bool) → IsAsked trace (unfinished t trace c cs)
+        by true = tt
+        by false = tt
 
 asked-opens : (trace : Trace) (e : Event) → IsAsked trace e → Drains (trace says e) → phase (trace says e) ≡ Opening → IfComes (IsAsked (trace says e)) (follow_opening (trace says e) e)
 asked-opens trace (Began u kind) g d p = asked-drain (trace says Began u kind) u (d p u refl)
@@ -597,6 +601,7 @@ pub sessions-says : (trace : Trace) (e : Event) → Sessions trace → Sound tra
 sessions-says trace (Down why) h s f g m p u o t k = cc
 sessions-says trace (Opened boot n) h s f g m p u o t k = cc
 sessions-says trace Ready h s f g m p u o t k = absurd (none-open trace s f u o)
+sessions-says trace (Early bs) h s f g m p u o t k = absurd (none-open-early trace bs s f u o)
 sessions-says trace (Began v kind) h s f g m p u o t k = by (is_same_id u v) refl
   where
     by : (b : Bool) → is_same_id u v ≡ b → SessionUnit (trace says Began v kind) u t

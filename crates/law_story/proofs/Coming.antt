@@ -1,52 +1,51 @@
 -- What comes next: whose it is, and why it may come.
-use Rattle.std.specs.Bool.{then_some}
-use Rattle.std.specs.Option.{option_or}
-use Rattle.salt_ast.specs.declared.lines.Act.TheVariants.{Begin, Call, Commit, Do, Rollback, Step}
-use Rattle.salt_ast.specs.declared.lines.Act.{Act}
-use Rattle.salt_ast.specs.declared.lines.Line.TheVariants.{Go, Program, Session, Table}
-use Rattle.salt_ast.specs.declared.lines.Line.{Line}
-use Rattle.salt_ast.specs.declared.trees.Statement.{Statement}
-use Rattle.law_story.proofs.Apart.{IsTaken, alone-clear, beside, takes-apart, takes-clear}
+use Rattle.law_story.proofs.Apart.{IsTaken, alone-beside, alone-clear, beside, takes-apart, takes-beside, takes-clear}
 use Rattle.law_story.proofs.Every.{IfSome, every-append, every-filter, every-map, every-passes}
 use Rattle.law_story.proofs.Ids.{is_same_id-refl}
 use Rattle.law_story.proofs.Opens.{Alone, Open, Sole, failing, is_ended, lasts}
+use Rattle.salt_ast.specs.declared.lines.Act.{Act}
+use Rattle.salt_ast.specs.declared.lines.Act.TheVariants.{Begin, Call, Commit, Do, Rollback, Step}
+use Rattle.salt_ast.specs.declared.lines.Line.{Line}
+use Rattle.salt_ast.specs.declared.lines.Line.TheVariants.{Go, Program, Session, Table}
+use Rattle.salt_ast.specs.declared.trees.Statement.{Statement}
 use Rattle.salt_model.specs.After.{answer_now, kept, reach_now}
 use Rattle.salt_model.specs.Honest.{FitsEnd, cause_in}
 use Rattle.salt_model.specs.Kept.{cont_of, kept_program}
-use Rattle.salt_model.specs.Locks.{as_held, clashing, family_of, is_holding, lock_of, taken_in, touches}
-use Rattle.salt_model.specs.Trace.{Asked, Trace, Tree, Rejected, from, line_asked, line_of, ◌asks◌, ◌says◌, ◌turns◌}
-use Rattle.salt_model.specs.Programs.{accepted_in}
-use Rattle.salt_model.specs.Units.{Running, Waiting, is_of_program, is_of_session, is_open, is_open_standing, kind_of, open_units, program_unit, session_unit, standing, units_begun, wait_list}
+use Rattle.salt_model.specs.Locks.{as_held, clashing, cover, family_of, is_holding, lock_of, taken_since, touches}
 use Rattle.salt_model.specs.Next.{serving_event}
-use Rattle.salt_model.specs.Openings.{cuts_or_drains, drains, follow_opening, opening_event, to_cut}
+use Rattle.salt_model.specs.Openings.{cuts_or_drains, drains, follow_opening, opening_event, to_cut, unfinished}
 use Rattle.salt_model.specs.Phases.{Opening, Serving, phase}
+use Rattle.salt_model.specs.Programs.{accepted_in}
 use Rattle.salt_model.specs.Reads.{to_release}
 use Rattle.salt_model.specs.Refusals.{is_busy, judged, refusal, refused_line}
-use Rattle.salt_model.specs.Turns.{act_event, after_began, after_did, after_end, asks_for, commits, does, fails, finishes, follow, fresh_unit, go, goes_on, is_at_end, line_event, next_number, releases, does_next, settle, settle_by, turn, turn_of}
+use Rattle.salt_model.specs.Trace.{Asked, Rejected, Trace, Tree, from, line_asked, line_of, start_of, ◌asks◌, ◌says◌, ◌turns◌}
+use Rattle.salt_model.specs.Turns.{act_event, after_began, after_did, after_end, asks_for, commits, does, does_next, fails, finishes, follow, fresh_unit, go, goes_on, is_at_end, line_event, next_number, releases, settle, settle_by, turn, turn_of}
+use Rattle.salt_model.specs.Units.{Running, Waiting, is_of_program, is_of_session, is_open, is_open_standing, kind_of, open_units, program_unit, session_unit, standing, units_begun, wait_list}
 use Rattle.salt_model.specs.Waiting.{WaitUnit, asked_by, block_of, clashing_now, is_on_cycle, names_of, next_unblocked, victim, wait_graph, wait_unit}
 use Rattle.salt_model.specs.Words.{Every, first_of_list, greatest, is_empty}
-use Rattle.salt_values.specs.Id.{in_order, insert_id, without}
 use Rattle.salt_model.specs.declared.events.Answer.{Answer}
 use Rattle.salt_model.specs.declared.events.Cause.{Cause}
-use Rattle.salt_model.specs.declared.events.End.TheVariants.{Branched, Committed, Cut}
 use Rattle.salt_model.specs.declared.events.End.{End}
-use Rattle.salt_model.specs.declared.events.Event.TheVariants.{Accepted, Began, Defined, Did, Down, Ended, Finished, Opened, Ready, Refused, Waits}
+use Rattle.salt_model.specs.declared.events.End.TheVariants.{Branched, Committed, Cut}
 use Rattle.salt_model.specs.declared.events.Event.{Event}
-use Rattle.salt_model.specs.declared.events.Owner.TheVariants.{Unit}
+use Rattle.salt_model.specs.declared.events.Event.TheVariants.{Accepted, Began, Defined, Did, Down, Early, Ended, Finished, Opened, Ready, Refused, Waits}
 use Rattle.salt_model.specs.declared.events.Owner.{Owner}
-use Rattle.salt_model.specs.declared.events.Refusal.TheVariants.{Busy}
+use Rattle.salt_model.specs.declared.events.Owner.TheVariants.{Unit}
 use Rattle.salt_model.specs.declared.events.Refusal.{Refusal}
-use Rattle.salt_model.specs.declared.events.UnitKind.TheVariants.{Call, First, Later}
+use Rattle.salt_model.specs.declared.events.Refusal.TheVariants.{Busy}
 use Rattle.salt_model.specs.declared.events.UnitKind.{UnitKind}
+use Rattle.salt_model.specs.declared.events.UnitKind.TheVariants.{Acid, Call, First, Later}
 use Rattle.salt_model.specs.declared.locks.Family.TheVariants.{Alkaline}
 use Rattle.salt_model.specs.declared.locks.Reach.{Reach}
 use Rattle.salt_model.specs.declared.shown.BaseAt.TheVariants.{Finished, First}
-use Rattle.salt_values.specs.Id.{is_older, is_same_id}
+use Rattle.salt_values.specs.Id.{in_order, insert_id, is_older, is_same_id, without}
 use Rattle.salt_values.specs.declared.cont.Cont.{Cont}
 use Rattle.salt_values.specs.declared.id.Id.{Id}
 use Rattle.std.proofs.Common.{subst, sym, ◌∙◌}
+use Rattle.std.specs.Bool.{then_some}
 use Rattle.std.specs.List.{filter, find, list_any}
-use Rattle.std.specs.Prelude.{Bool, List, None, Option, Some, [], cond, false, if◌then◌else◌, is_none, map, nat_lt, not, option_map, refl, true, ℕ, ⊤, ◌||◌, ◌∷◌, ◌≡◌, option_to_list}
+use Rattle.std.specs.Option.{option_or}
+use Rattle.std.specs.Prelude.{Bool, List, None, Option, Some, [], cond, false, if◌then◌else◌, is_none, map, nat_lt, not, option_map, option_to_list, refl, true, ℕ, ⊤, ◌||◌, ◌∷◌, ◌≡◌}
 
 -- what a statement would reach is free of what other open units have taken
 abbrev pub Free : Trace → Id → Statement → Type 0
@@ -54,7 +53,9 @@ Free trace u st = (v : Id) → Open trace v → is_same_id u v ≡ false → (s 
 
 -- a statement's lock would stand beside each held lock
 abbrev pub Clear : Trace → Id → Statement → Type 0
-Clear trace u st = Every (λ s. beside (option_map (lock_of (Unit u) (family_of (kind_of u trace))) (reach_now u trace st)) (as_held trace s) ≡ true) (taken_in trace)
+Clear trace u st =
+    Every (λ s. beside (option_map (lock_of (Unit u) (family_of (kind_of u trace))) (reach_now u trace st)) (as_held trace s) ≡ true) (taken_since trace) ×
+    Every (λ l. beside (option_map (lock_of (Unit u) (family_of (kind_of u trace))) (reach_now u trace st)) (Some l) ≡ true) (cover trace)
 
 abbrev pub CutFits : Trace → End → Type 0
 CutFits trace Cut = phase trace ≡ Serving → ⊥
@@ -68,6 +69,7 @@ Good trace (Ended u end) = Open trace u × FitsEnd end (failing u trace) × CutF
 Good trace (Defined n t) = open_units trace ≡ []
 Good trace (Began u kind) = (phase trace ≡ Opening → (open_units trace ≡ []) × (family_of (Some kind) ≡ Alkaline)) × (u ≡ fresh_unit trace)
 Good trace Ready = open_units trace ≡ []
+Good trace (Early bs) = (open_units trace ≡ []) × ((start_of trace).early ≡ true)
 Good trace e = ⊤
 
 pub some-option_or : {A : Type 0} (P : A → Type 0) (o other : Option A) → IfSome P o → IfSome P other → IfSome P (option_or o other)
@@ -189,7 +191,7 @@ module _ (trace : Trace) (serving : phase trace ≡ Serving) where
   not-opening e = let x : Opening ≡ Serving = sym e ∙ serving in cc
 
   good-asks : (u : Id) (st : Statement) (owners : List Owner) → Open trace u → clashing trace u st ≡ owners → (Good trace) (asks_for trace u st owners)
-  good-asks u st [] o e = (o, refl, (λ v p differ s t. takes-apart trace u v st s e differ p t), not-opening, takes-clear trace u st e)
+  good-asks u st [] o e = (o, refl, (λ v p differ s t. takes-apart trace u v st s e differ p t), not-opening, (takes-clear trace u st e, takes-beside trace u st e))
   good-asks u st (owner ∷ owners) o e = o
 
   good-turn : (u : Id) → Open trace u → IfSome (Good trace) (turn trace u)
@@ -240,9 +242,9 @@ module _ (trace : Trace) (serving : phase trace ≡ Serving) where
   good-line q (Program p) h = h
   good-line q line h = tt
 
-  good-began : (u : Id) (line : Line) → Open trace u → IfSome (Good trace) (after_began trace u line)
-  good-began u (Session s Begin) o = tt
-  good-began u line o = good-turn u o
+  good-began : (u : Id) (line : Line) (kind : UnitKind) → Open trace u → IfSome (Good trace) (after_began trace u line kind)
+  good-began u (Session s Begin) (Acid t) o = tt
+  good-began u line kind o = good-turn u o
 
   good-settle : ((u : Id) → failing u trace ≡ None) → IfSome (Good trace) (settle trace)
   good-settle q = by (victim trace) (next_unblocked trace) (victim-open trace) (some-find (Open trace) (λ u. is_empty (clashing_now trace u)) (wait_list trace) (waits-open trace))
@@ -253,7 +255,7 @@ module _ (trace : Trace) (serving : phase trace ≡ Serving) where
       by None None h g = tt
 
 good-follow : (trace : Trace) (e : Event) → phase (trace says e) ≡ Serving → IfSome (Good (trace says e)) (follow (trace says e) e)
-good-follow trace (Began u kind) p = good-began (trace says Began u kind) p u (line_of trace) (rw (is_same_id-refl u) refl)
+good-follow trace (Began u kind) p = good-began (trace says Began u kind) p u (line_of trace) kind (rw (is_same_id-refl u) refl)
 good-follow trace (Did u st a) p = good-did (trace says Did u st a) u a (rw (is_same_id-refl u) refl) (rw (is_same_id-refl u) refl)
 good-follow trace (Ended u end) p = good-end (trace says Ended u end) end (kind_of u (trace says Ended u end))
 good-follow trace (Accepted b) p = good-finishes (trace says Accepted b) b
@@ -266,6 +268,7 @@ unfailing trace v st a e u = rw e (elim (is_same_id u v) as (λ b. cond {A = Opt
 
 pub good-serving : (trace : Trace) (e : Event) → phase (trace says e) ≡ Serving → lasts e ≡ false → IfSome (Good (trace says e)) (serving_event (trace says e) e)
 good-serving trace Ready p l = tt
+good-serving trace (Early bs) p l = tt
 good-serving trace (Did v st (Answer.Failed c)) p l = good-follow trace (Did v st (Answer.Failed c)) p
 good-serving trace (Did v st a) p l =
     some-option_or (Good (trace says Did v st a)) (follow (trace says Did v st a) (Did v st a)) (settle (trace says Did v st a)) (good-follow trace (Did v st a) p) (good-settle (trace says Did v st a) p (unfailing trace v st a refl))
@@ -294,7 +297,11 @@ good-cuts trace p = by (to_cut trace) (every-order (Open trace) _ (every-filter 
     drained : (cs : List Cont) (b : Bool) → is_empty (open_units trace) ≡ b → IfSome (Good trace) (then_some b (drains trace cs))
     drained cs false e = tt
     drained [] true e = nothing (open_units trace) e
-    drained (c ∷ cs) true e = ((λ p. (nothing (open_units trace) e, refl)), refl)
+    drained (c ∷ cs) true e = early (start_of trace).early refl
+      where
+        early : (x : Bool) → (start_of trace).early ≡ x → Good trace (unfinished x trace c cs)
+        early true a = (nothing (open_units trace) e, a)
+        early false a = ((λ p. (nothing (open_units trace) e, refl)), refl)
 
     by : (us : List Id) → Every (Open trace) us → IfSome (Good trace) (cuts_or_drains trace us)
     by (u ∷ us) h = (h.0, tt, λ s. let x : Opening ≡ Serving = sym p ∙ s in cc)
@@ -304,7 +311,7 @@ free-alone : (trace : Trace) (u : Id) (st : Statement) → ((v : Id) → Open tr
 free-alone trace u st alone v o differ s t = let x = alone v o in cc
 
 alone-does_next : (trace : Trace) (u : Id) → Open trace u → Alone trace u → IfSome (Good trace) (does_next trace u)
-alone-does_next trace u o alone = some-map (Good trace) (does trace u) (asked_by u trace) (some-all _ (asked_by u trace) (λ st. (o, refl, free-alone trace u st alone.0, (λ p. alone), alone-clear trace u st alone)))
+alone-does_next trace u o alone = some-map (Good trace) (does trace u) (asked_by u trace) (some-all _ (asked_by u trace) (λ st. (o, refl, free-alone trace u st alone.0, (λ p. alone), (alone-clear trace u st alone, alone-beside trace u st alone))))
 
 good-drains : (trace : Trace) (e : Event) → Sole (trace says e) → IfSome (Good (trace says e)) (follow_opening (trace says e) e)
 good-drains trace (Began u kind) s = alone-does_next (trace says Began u kind) u (rw (is_same_id-refl u) refl) s

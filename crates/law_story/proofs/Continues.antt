@@ -4,18 +4,18 @@ use Rattle.law_story.proofs.Due.{accepts-due, finishes-due}
 use Rattle.law_story.proofs.Fresh.{IfComes}
 use Rattle.law_story.proofs.NextFits.{Comes, Fits, Within}
 use Rattle.law_story.proofs.Rising.{Rises, first-accepted, rises}
-use Rattle.law_story.proofs.Salted.{OfBoots, comes-at, each, holds, may-fit}
+use Rattle.law_story.proofs.Upheld.{OfBoots, comes-at, each, holds, may-fit}
 use Rattle.salt_model.specs.After.{kept}
 use Rattle.salt_model.specs.Continuing.{AcceptsDue, FinishesDue, GoesAlong, InOpening, IsContinued, Opens}
-use Rattle.salt_model.specs.Trace.{Trace, from, start_of, ◌asks◌, ◌says◌, ◌turns◌}
+use Rattle.salt_model.specs.Everywhere.{Each}
 use Rattle.salt_model.specs.Next.{next}
 use Rattle.salt_model.specs.Phases.{Fallen, Opening, Phase, Serving, phase}
 use Rattle.salt_model.specs.Played.{IsPlayed}
 use Rattle.salt_model.specs.Segments.{May}
-use Rattle.salt_model.specs.Everywhere.{Each}
+use Rattle.salt_model.specs.Trace.{Trace, from, start_of, ◌asks◌, ◌says◌, ◌turns◌}
 use Rattle.salt_model.specs.declared.events.End.TheVariants.{Victim}
-use Rattle.salt_model.specs.declared.events.Event.TheVariants.{Began, Down, Ended, Opened, Ready}
 use Rattle.salt_model.specs.declared.events.Event.{Event}
+use Rattle.salt_model.specs.declared.events.Event.TheVariants.{Began, Down, Early, Ended, Opened, Ready}
 use Rattle.salt_model.specs.declared.events.UnitKind.TheVariants.{Later}
 use Rattle.salt_model.specs.declared.events.Why.{Why}
 use Rattle.std.specs.Prelude.{refl, ℕ, ◌≡◌}
@@ -32,8 +32,9 @@ opens-in Fallen trace boot n = tt
 
 -- what comes within an opening comes where nothing is open, and first of the programs
 comes-in : (trace : Trace) (e : Event) → Fits trace e → Rises (kept trace) → (p : Phase) → phase trace ≡ p → Within p e → InOpening p trace e
-comes-in trace (Began u (Later b part)) f r Opening o w = let d = f.2.2 o in (d.0, first-accepted trace b r d.1)
+comes-in trace (Began u (Later b part)) f r Opening o w = let d = f.2.2 o in (d.2, d.0, first-accepted trace b r d.1)
 comes-in trace Ready f r Opening o w = f.3
+comes-in trace (Early bs) f r Opening o w = f.3
 comes-in trace (Began u kind) f r Opening o w = absurd w
 comes-in trace (Ended u Victim) f r Opening o w = absurd w
 comes-in trace e f r Opening o w = w

@@ -1,13 +1,13 @@
 -- Each statement done is the declared one, for all played traces.
-use Rattle.salt_ast.specs.declared.trees.Statement.{Statement}
 use Rattle.law_story.proofs.Asking.{AllDone, AllWait, Flying, IsAsked, IsFromLine, IsOfAcid, IsSingle, Sessions, all-wait, asked-asks, asked-go, asked-opened, asked-said, flying-down, flying-next, said_at_end, sessions-asks, sessions-says, sessions-turns, single-next}
 use Rattle.law_story.proofs.Defined.{AreDefined, IsKeptProgram, defined-kept, program-stays}
 use Rattle.law_story.proofs.Fresh.{IfComes}
 use Rattle.law_story.proofs.Ids.{is_same_id-refl}
 use Rattle.law_story.proofs.Lists.{In, either}
 use Rattle.law_story.proofs.NextFits.{Fits, IsOwn}
-use Rattle.law_story.proofs.Salted.{OfBoots, holds, may-fit}
 use Rattle.law_story.proofs.Sound.{Sound, bases_in, conts-kept, due-in, of-program, open-back}
+use Rattle.law_story.proofs.Upheld.{OfBoots, holds, may-fit}
+use Rattle.salt_ast.specs.declared.trees.Statement.{Statement}
 use Rattle.salt_model.specs.After.{kept}
 use Rattle.salt_model.specs.AsDeclared.{DoesDeclared, HasDoneAll, IsDeclared, IsDeclaredBy, IsNextOfBlock, IsWholeBlock}
 use Rattle.salt_model.specs.Kept.{Kept, block_of_call, block_of_kind, block_of_part, cont_in, kept_program}
@@ -19,10 +19,10 @@ use Rattle.salt_model.specs.Trace.{Trace, from, start_of, ◌asks◌, ◌says◌
 use Rattle.salt_model.specs.Units.{Over, Running, done_of, is_open, is_open_standing, kind_of, program_of, program_of_kind, standing}
 use Rattle.salt_model.specs.Waiting.{statement_in}
 use Rattle.salt_model.specs.declared.events.End.TheVariants.{Committed}
-use Rattle.salt_model.specs.declared.events.Event.TheVariants.{Began, Did, Down, Ended, Opened}
 use Rattle.salt_model.specs.declared.events.Event.{Event}
-use Rattle.salt_model.specs.declared.events.UnitKind.TheVariants.{Acid, Call, First, Later}
+use Rattle.salt_model.specs.declared.events.Event.TheVariants.{Began, Did, Down, Ended, Opened}
 use Rattle.salt_model.specs.declared.events.UnitKind.{UnitKind}
+use Rattle.salt_model.specs.declared.events.UnitKind.TheVariants.{Acid, Call, First, Later}
 use Rattle.salt_values.specs.Id.{is_same_id}
 use Rattle.salt_values.specs.declared.cont.Cont.{Cont}
 use Rattle.salt_values.specs.declared.id.Id.{Id}

@@ -34,7 +34,7 @@ IsKeptProgram k n = is_some (kept_program n k) ≡ true
 abbrev pub AreDefined : Kept → List Cont → Type 0
 AreDefined k cs = Every (λ (c : Cont). IsKeptProgram k c.program) cs
 
-same-bytes-true : (n m : List ℕ) → same_bytes n m ≡ true → n ≡ m
+pub same-bytes-true : (n m : List ℕ) → same_bytes n m ≡ true → n ≡ m
 same-bytes-true [] [] h = refl
 same-bytes-true [] (y ∷ ys) h = cc
 same-bytes-true (x ∷ xs) [] h = cc

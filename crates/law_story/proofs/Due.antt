@@ -1,34 +1,34 @@
 -- What is told of programs comes directly after the event that it is due to, and nowhere else.
-use Rattle.salt_model.specs.declared.events.Cause.{Cause}
-use Rattle.salt_model.specs.declared.events.End.{End}
-use Rattle.std.proofs.Common.{ap, inl, inr, sym, ◌∙◌}
-use Rattle.std.specs.Prelude.{Bool, None, Option, Some, false, is_none, option_and_then, option_map, refl, true, ℕ, ◌≡◌, ◌⊎◌}
-use Rattle.std.specs.Bool.{then_some}
-use Rattle.std.specs.Option.{option_or}
 use Rattle.law_story.proofs.Fresh.{IfComes}
 use Rattle.law_story.proofs.Ids.{and_right}
 use Rattle.law_story.proofs.Lists.{either}
 use Rattle.law_story.proofs.NextFits.{Comes, Fits, IsAcceptance, IsLastEnd, is_first_of}
-use Rattle.law_story.proofs.Salted.{may-fit, may-open}
+use Rattle.law_story.proofs.Upheld.{may-fit, may-open}
 use Rattle.salt_model.specs.After.{kept}
 use Rattle.salt_model.specs.Continuing.{AcceptsDue, FinishesDue, accepted_after, accepted_by, finished_after, finished_by, if_ended, last_said, part_due, program_continued}
 use Rattle.salt_model.specs.Kept.{cont_of}
-use Rattle.salt_model.specs.Trace.{Asked, Trace, Start, from, ◌asks◌, ◌says◌, ◌turns◌}
-use Rattle.salt_model.specs.Units.{kind_of, program_begun}
 use Rattle.salt_model.specs.Next.{next, said_event}
 use Rattle.salt_model.specs.Phases.{Fallen, Opening, Phase, Serving, phase}
 use Rattle.salt_model.specs.Played.{IsPlayed}
 use Rattle.salt_model.specs.Segments.{May}
 use Rattle.salt_model.specs.Stops.{MayFall, is_at_devices, is_device_next}
+use Rattle.salt_model.specs.Trace.{Asked, Start, Trace, from, ◌asks◌, ◌says◌, ◌turns◌}
 use Rattle.salt_model.specs.Turns.{after_end, finishes, settle}
+use Rattle.salt_model.specs.Units.{kind_of, program_begun}
+use Rattle.salt_model.specs.declared.events.Cause.{Cause}
+use Rattle.salt_model.specs.declared.events.End.{End}
 use Rattle.salt_model.specs.declared.events.End.TheVariants.{Branched, Committed}
-use Rattle.salt_model.specs.declared.events.Event.TheVariants.{Accepted, Down, Ended, Finished, Opened, Ready}
 use Rattle.salt_model.specs.declared.events.Event.{Event}
-use Rattle.salt_model.specs.declared.events.UnitKind.TheVariants.{Acid, Call, First, Later}
+use Rattle.salt_model.specs.declared.events.Event.TheVariants.{Accepted, Down, Ended, Finished, Opened, Ready}
 use Rattle.salt_model.specs.declared.events.UnitKind.{UnitKind}
+use Rattle.salt_model.specs.declared.events.UnitKind.TheVariants.{Acid, Call, First, Later}
 use Rattle.salt_model.specs.declared.events.Why.{Why}
 use Rattle.salt_values.specs.declared.cont.Cont.{Cont}
 use Rattle.salt_values.specs.declared.id.Id.{Id}
+use Rattle.std.proofs.Common.{ap, inl, inr, sym, ◌∙◌}
+use Rattle.std.specs.Bool.{then_some}
+use Rattle.std.specs.Option.{option_or}
+use Rattle.std.specs.Prelude.{Bool, None, Option, Some, false, is_none, option_and_then, option_map, refl, true, ℕ, ◌≡◌, ◌⊎◌}
 
 -- nothing comes while the run is down
 pub nothing-fallen : (trace : Trace) → IsPlayed trace → phase trace ≡ Fallen → next trace ≡ None

@@ -1,34 +1,34 @@
 -- Decision numbers, boots and what a stop leaves, for all played traces.
-use Rattle.std.specs.Bool.{then_some}
-use Rattle.std.specs.Option.{option_or}
 use Rattle.law_story.proofs.NextFits.{Fits}
 use Rattle.law_story.proofs.OfBoot.{cuts-at, owns-at}
-use Rattle.law_story.proofs.Salted.{OfBoots, each, holds, may-fit}
+use Rattle.law_story.proofs.Upheld.{OfBoots, each, holds, may-fit}
 use Rattle.salt_model.specs.After.{kept}
 use Rattle.salt_model.specs.Decided.{CutsRight, IsKept, NumbersOn, OnlyAfter, OpensRight, TellsFlight, TellsOwn, number_in}
-use Rattle.salt_model.specs.Trace.{Trace, from, start_of, ◌asks◌, ◌says◌, ◌turns◌}
-use Rattle.salt_model.specs.Units.{open_units}
+use Rattle.salt_model.specs.Everywhere.{Each}
 use Rattle.salt_model.specs.Next.{flight, next}
-use Rattle.salt_model.specs.Openings.{cuts_or_drains, drains, stands_now, to_cut}
+use Rattle.salt_model.specs.Openings.{cuts_or_drains, drains, stands_now, to_cut, unfinished}
 use Rattle.salt_model.specs.Phases.{Fallen, Opening, Phase, Serving, phase}
 use Rattle.salt_model.specs.Played.{IsPlayed}
 use Rattle.salt_model.specs.Segments.{May}
 use Rattle.salt_model.specs.Stops.{MayOpen}
-use Rattle.salt_model.specs.Everywhere.{Each}
+use Rattle.salt_model.specs.Trace.{Trace, from, start_of, ◌asks◌, ◌says◌, ◌turns◌}
 use Rattle.salt_model.specs.Turns.{begins, next_number}
+use Rattle.salt_model.specs.Units.{open_units}
 use Rattle.salt_model.specs.Words.{is_empty}
 use Rattle.salt_model.specs.declared.events.End.TheVariants.{Branched, Committed, Cut}
-use Rattle.salt_model.specs.declared.events.Event.TheVariants.{Defined, Down, Ended, Opened, Ready}
 use Rattle.salt_model.specs.declared.events.Event.{Event}
+use Rattle.salt_model.specs.declared.events.Event.TheVariants.{Defined, Down, Ended, Opened, Ready}
 use Rattle.salt_model.specs.declared.events.UnitKind.TheVariants.{Later}
 use Rattle.salt_values.specs.declared.cont.Cont.{Cont}
 use Rattle.salt_values.specs.declared.id.Id.{Id}
 use Rattle.std.proofs.Common.{ap, arith, inl, inr, subst, sym, ◌∙◌}
 use Rattle.std.proofs.lemmas.Bool.Decides.{nat_tests}
+use Rattle.std.specs.Bool.{then_some}
+use Rattle.std.specs.Option.{option_or}
 use Rattle.std.specs.Prelude.{Bool, IsSome, List, None, Option, Some, [], false, is_some, refl, true, ℕ, ◌+◌, ◌==◌, ◌∷◌, ◌≡◌, ◌⊎◌}
 
 numbers-at : (trace : Trace) (e : Event) → Fits trace e → NumbersOn trace e
-numbers-at trace (Defined n text) f = f
+numbers-at trace (Defined n text) f = f.0
 numbers-at trace (Ended u (Committed n)) f = f.1
 numbers-at trace (Ended u (Branched n c)) f = f.1
 numbers-at trace e f = tt
@@ -48,7 +48,11 @@ cuts-number trace e [] cs k h = go (is_empty (open_units trace)) cs (subst (λ l
   where
     go : (b : Bool) (cs : List Cont) → then_some b (drains trace cs) ≡ Some e → number_in e ≡ None
     go true [] g = let i : Ready ≡ e = cc in ap number_in (sym i)
-    go true (c ∷ cs) g = let i : begins trace (Later c.base c.next) ≡ e = cc in ap number_in (sym i)
+    go true (c ∷ cs) g = early (start_of trace).early g
+      where
+        early : (t : Bool) → Some (unfinished t trace c cs) ≡ Some e → number_in e ≡ None
+        early true g = let i : unfinished true trace c cs ≡ e = cc in ap number_in (sym i)
+        early false g = let i : begins trace (Later c.base c.next) ≡ e = cc in ap number_in (sym i)
     go false cs g = cc
 
 unequal-next : (n d : ℕ) → n ≡ d → (n == d + 1) ≡ true → ⊥

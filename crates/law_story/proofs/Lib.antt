@@ -11,13 +11,12 @@ pub mod Edits
 pub mod Coming
 pub mod Reached
 pub mod WholeLaw
-pub mod Unreleased
 pub mod Replays
 pub mod HonestLaw
 pub mod HeldLocks
 pub mod NextFits
 pub mod Sound
-pub mod Reading
+pub mod Upheld
 pub mod Salted
 pub mod Releasable
 pub mod OfBoot
@@ -26,6 +25,7 @@ pub mod Defined
 pub mod WellKept
 pub mod Due
 pub mod Accounts
+pub mod Hiding
 pub mod Rising
 pub mod Continues
 pub mod WrittenKeys
@@ -36,4 +36,10 @@ pub mod LastWriters
 pub mod Victims
 pub mod Asking
 pub mod Declares
+pub mod BaseTables
+pub mod Unreleased
+pub mod Reading
 pub mod Tries
+pub mod LateOpenings
+pub mod CalledNames
+pub mod Arming

@@ -1,12 +1,12 @@
 -- Membership in lists, by test and as a fact.
 use Rattle.law_story.proofs.Ids.{and_left, and_right, is_same_id-refl, is_same_id-true}
-use Rattle.salt_model.specs.Words.{shrink}
-use Rattle.salt_values.specs.Id.{has_id, in_order, insert_id, without}
-use Rattle.salt_values.specs.Id.{is_older, is_same_id}
+use Rattle.salt_model.specs.Words.{Every, shrink}
+use Rattle.salt_values.specs.Id.{has_id, in_order, insert_id, is_older, is_same_id, without}
 use Rattle.salt_values.specs.declared.id.Id.{Id}
 use Rattle.std.proofs.Common.{ap, arith, inl, inr, subst, sym, ◌∙◌}
+use Rattle.std.proofs.lemmas.Bool.Decides.{nat_tests}
 use Rattle.std.specs.List.{cons_option, filter, filter_map, list_all, list_any}
-use Rattle.std.specs.Prelude.{Bool, List, None, Option, Some, [], cond, false, length, map, not, refl, suc, true, zero, ℕ, ◌&&◌, ◌++◌, ◌<◌, ◌||◌, ◌∷◌, ◌≡◌, ◌≤◌, ◌⊎◌}
+use Rattle.std.specs.Prelude.{Bool, List, None, Option, Some, [], cond, false, length, map, not, refl, suc, true, zero, ℕ, ⊤, ◌&&◌, ◌++◌, ◌<◌, ◌||◌, ◌∷◌, ◌≡◌, ◌≤◌, ◌⊎◌}
 
 abbrev pub In : {A : Type 0} → A → List A → Type 0
 In x [] = ⊥
@@ -153,6 +153,68 @@ insert-some u (v ∷ vs) h = go (is_older u v) (is_same_id u v) h
 pub order-none : (us : List Id) → in_order us ≡ [] → us ≡ []
 order-none [] h = refl
 order-none (u ∷ us) h = absurd (insert-some u (in_order us) h)
+
+-- a list in order of names, once put in order, stays
+
+not-later : (u v : Id) → is_older u v ≡ false → is_same_id u v ≡ false → is_older v u ≡ true
+not-later u v a b = grind (arith, nat_tests)
+
+later-on : (u v w : Id) → is_older u v ≡ true → is_older v w ≡ true → is_older u w ≡ true
+later-on u v w a b = grind (arith, nat_tests)
+
+abbrev Ascends : List Id → Type 0
+Ascends [] = ⊤
+Ascends (u ∷ us) = Every (λ v. is_older u v ≡ true) us × Ascends us
+
+insert-after : (u x : Id) (vs : List Id) → is_older u x ≡ true → Every (λ v. is_older u v ≡ true) vs → Every (λ v. is_older u v ≡ true) (insert_id x vs)
+insert-after u x [] o h = (o, tt)
+insert-after u x (v ∷ vs) o h = go (is_older x v) (is_same_id x v) (insert-after u x vs o h.1)
+  where
+    go : (b c : Bool) → Every (λ v. is_older u v ≡ true) (insert_id x vs) → Every (λ v. is_older u v ≡ true) (cond b (x ∷ v ∷ vs) (cond c (v ∷ vs) (v ∷ insert_id x vs)))
+    go true c more = (o, h)
+    go false true more = h
+    go false false more = (h.0, more)
+
+all-after : (u v : Id) (vs : List Id) → is_older u v ≡ true → Every (λ w. is_older v w ≡ true) vs → Every (λ w. is_older u w ≡ true) vs
+all-after u v [] o h = tt
+all-after u v (w ∷ ws) o h = (later-on u v w o h.0, all-after u v ws o h.1)
+
+insert-ascends : (u : Id) (vs : List Id) → Ascends vs → Ascends (insert_id u vs)
+insert-ascends u [] h = (tt, tt)
+insert-ascends u (v ∷ vs) h = go (is_older u v) refl (is_same_id u v) refl (insert-ascends u vs h.1)
+  where
+    go : (b : Bool) → is_older u v ≡ b → (c : Bool) → is_same_id u v ≡ c → Ascends (insert_id u vs) → Ascends (cond b (u ∷ v ∷ vs) (cond c (v ∷ vs) (v ∷ insert_id u vs)))
+    go true e c g more = ((e, all-after u v vs e h.0), h)
+    go false e true g more = h
+    go false e false g more = (insert-after v u vs (not-later u v e g) h.0, more)
+
+order-ascends : (us : List Id) → Ascends (in_order us)
+order-ascends [] = tt
+order-ascends (u ∷ us) = insert-ascends u (in_order us) (order-ascends us)
+
+ascending-stays : (us : List Id) → Ascends us → in_order us ≡ us
+ascending-stays [] h = refl
+ascending-stays (u ∷ us) h = ap (insert_id u) (ascending-stays us h.1) ∙ first us h.0
+  where
+    first : (us : List Id) → Every (λ v. is_older u v ≡ true) us → insert_id u us ≡ u ∷ us
+    first [] g = refl
+    first (v ∷ vs) g = rw g.0 refl
+
+pub order-again : (us : List Id) → in_order (in_order us) ≡ in_order us
+order-again us = ascending-stays (in_order us) (order-ascends us)
+
+pub any-not : {A : Type 0} (p : A → Bool) (x : A) (xs : List A) → list_any p xs ≡ false → In x xs → p x ≡ false
+any-not p x [] h i = absurd i
+any-not p x (y ∷ ys) h (inl e) = subst (λ z. p z ≡ false) e (first (p y) _ h)
+  where
+    first : (a b : Bool) → (a || b) ≡ false → a ≡ false
+    first true b g = cc
+    first false b g = refl
+any-not p x (y ∷ ys) h (inr i) = any-not p x ys (rest (p y) _ h) i
+  where
+    rest : (a b : Bool) → (a || b) ≡ false → b ≡ false
+    rest true b g = cc
+    rest false b g = g
 
 -- a shrinking list comes to an end within its length
 

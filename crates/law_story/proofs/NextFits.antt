@@ -1,51 +1,53 @@
 -- What `next` gives while serving: whose unit acts, that nothing clashes where a statement is done, and where what is told of programs comes.
-use Rattle.std.specs.Bool.{then_some}
-use Rattle.std.specs.Option.{option_or}
-use Rattle.salt_ast.specs.declared.lines.Act.TheVariants.{Begin, Call, Commit, Do, Rollback, Step}
-use Rattle.salt_ast.specs.declared.lines.Act.{Act}
-use Rattle.salt_ast.specs.declared.lines.Line.TheVariants.{Go, Program, Session, Table}
-use Rattle.salt_ast.specs.declared.lines.Line.{Line}
-use Rattle.salt_ast.specs.declared.programs.Body.TheVariants.{Acid, Base}
-use Rattle.salt_ast.specs.declared.programs.Body.{Body}
-use Rattle.salt_ast.specs.declared.trees.Statement.{Statement}
 use Rattle.law_story.proofs.Fresh.{IfComes, comes-map, comes-option_or, comes-then_some, or_left}
 use Rattle.law_story.proofs.Ids.{is_same_id-refl}
-use Rattle.law_story.proofs.Lists.{In, either, in-cases, in-filter, in-map, in-order, in-without}
+use Rattle.law_story.proofs.Lists.{In, either, in-cases, in-filter, in-map, in-order, in-without, order-none}
+use Rattle.salt_ast.specs.declared.lines.Act.{Act}
+use Rattle.salt_ast.specs.declared.lines.Act.TheVariants.{Begin, Call, Commit, Do, Rollback, Step}
+use Rattle.salt_ast.specs.declared.lines.Line.{Line}
+use Rattle.salt_ast.specs.declared.lines.Line.TheVariants.{Go, Program, Session, Table}
+use Rattle.salt_ast.specs.declared.programs.Body.{Body}
+use Rattle.salt_ast.specs.declared.programs.Body.TheVariants.{Acid, Base}
+use Rattle.salt_ast.specs.declared.trees.Statement.{Statement}
 use Rattle.salt_model.specs.After.{kept}
 use Rattle.salt_model.specs.Continuing.{last_said, part_due, program_continued}
 use Rattle.salt_model.specs.Kept.{cont_in, cont_of, kept_program}
-use Rattle.salt_model.specs.Locks.{clashing}
-use Rattle.salt_model.specs.Trace.{Asked, Trace, from, line_asked, line_of, ◌asks◌, ◌says◌, ◌turns◌}
-use Rattle.salt_model.specs.Units.{Running, Waiting, is_of_program, is_of_session, is_open, is_open_standing, kind_of, open_units, program_unit, session_unit, standing, units_begun, wait_list}
+use Rattle.salt_model.specs.Locks.{clashing, is_holding}
 use Rattle.salt_model.specs.Next.{decision_in, flight, next, said_event, serving_event}
-use Rattle.salt_model.specs.Openings.{cuts_or_drains, drains, follow_opening, opening_event, stands_now, to_cut}
+use Rattle.salt_model.specs.Openings.{cuts_or_drains, drains, follow_opening, opening_event, stands_now, to_cut, unfinished}
 use Rattle.salt_model.specs.Phases.{Fallen, Opening, Phase, Serving, phase}
+use Rattle.salt_model.specs.Programs.{accepted_in}
 use Rattle.salt_model.specs.Reads.{to_release}
-use Rattle.salt_model.specs.Refusals.{refusal}
-use Rattle.salt_model.specs.Turns.{act_event, after_began, after_did, after_end, asks_for, commits, does, fails, follow, fresh_base, fresh_unit, go, goes_on, is_at_end, kind_called, line_event, next_number, releases, does_next, settle, settle_by, turn, turn_of}
+use Rattle.salt_model.specs.Refusals.{is_base_program, is_busy, is_covering, is_held_back, judged, refusal, refused_line, state_wrong}
+use Rattle.salt_model.specs.Trace.{Asked, Rejected, Trace, Tree, from, line_asked, line_of, start_of, ◌asks◌, ◌says◌, ◌turns◌}
+use Rattle.salt_model.specs.Turns.{act_event, after_began, after_did, after_end, asks_for, commits, does, does_next, fails, follow, fresh_base, fresh_unit, go, goes_on, is_at_end, kind_called, line_event, next_number, releases, settle, settle_by, turn, turn_of}
+use Rattle.salt_model.specs.Units.{Running, Waiting, is_of_program, is_of_session, is_open, is_open_standing, kind_of, open_units, program_unit, session_unit, standing, units_begun, wait_list}
 use Rattle.salt_model.specs.Waiting.{WaitUnit, asked_by, block_of, clashing_now, is_acid, is_on_cycle, names_of, next_unblocked, victim, wait_graph, wait_unit}
 use Rattle.salt_model.specs.Words.{first_of_list, greatest, is_empty}
-use Rattle.salt_values.specs.Id.{without}
-use Rattle.salt_model.specs.declared.events.Answer.TheVariants.{Failed}
 use Rattle.salt_model.specs.declared.events.Answer.{Answer}
-use Rattle.salt_model.specs.declared.events.End.TheVariants.{Branched, Committed, Cut, Failed, Victim}
+use Rattle.salt_model.specs.declared.events.Answer.TheVariants.{Failed}
 use Rattle.salt_model.specs.declared.events.End.{End}
-use Rattle.salt_model.specs.declared.events.Event.TheVariants.{Accepted, Armed, Began, Defined, Did, Ended, Finished, Opened, Ready, Refused, Released, Shown, Waits}
+use Rattle.salt_model.specs.declared.events.End.TheVariants.{Branched, Committed, Cut, Failed, Victim}
 use Rattle.salt_model.specs.declared.events.Event.{Event}
-use Rattle.salt_model.specs.declared.events.Owner.TheVariants.{Base}
+use Rattle.salt_model.specs.declared.events.Event.TheVariants.{Accepted, Armed, Began, Defined, Did, Early, Ended, Finished, Opened, Ready, Refused, Released, Shown, Waits}
 use Rattle.salt_model.specs.declared.events.Owner.{Owner}
-use Rattle.salt_model.specs.declared.events.UnitKind.TheVariants.{Acid, Call, First, Later}
+use Rattle.salt_model.specs.declared.events.Owner.TheVariants.{Base}
+use Rattle.salt_model.specs.declared.events.Refusal.{Refusal}
+use Rattle.salt_model.specs.declared.events.Refusal.TheVariants.{Busy, State}
 use Rattle.salt_model.specs.declared.events.UnitKind.{UnitKind}
+use Rattle.salt_model.specs.declared.events.UnitKind.TheVariants.{Acid, Call, First, Later}
 use Rattle.salt_model.specs.declared.locks.Family.TheVariants.{Acid}
 use Rattle.salt_model.specs.declared.shown.BaseAt.TheVariants.{Finished, First}
 use Rattle.salt_model.specs.declared.shown.Item.TheVariants.{Base}
-use Rattle.salt_values.specs.Id.{is_older, is_same_id}
+use Rattle.salt_values.specs.Id.{in_order, is_older, is_same_id, without}
 use Rattle.salt_values.specs.declared.cont.Cont.{Cont}
 use Rattle.salt_values.specs.declared.id.Id.{Id}
 use Rattle.salt_values.specs.declared.value.Value.{Value}
 use Rattle.std.proofs.Common.{ap, inl, inr, subst, sym, ◌∙◌}
-use Rattle.std.specs.List.{filter, find}
-use Rattle.std.specs.Prelude.{Bool, List, None, Option, Some, [], cond, false, if◌then◌else◌, is_none, map, nat_lt, option_and_then, option_map, refl, true, ℕ, ⊤, ◌<◌, ◌==◌, ◌∷◌, ◌≡◌, ◌⊎◌}
+use Rattle.std.specs.Bool.{then_some}
+use Rattle.std.specs.List.{filter, find, list_any}
+use Rattle.std.specs.Option.{option_or}
+use Rattle.std.specs.Prelude.{Bool, List, None, Option, Some, [], cond, false, if◌then◌else◌, is_none, map, nat_lt, not, option_and_then, option_map, refl, true, ℕ, ⊤, ◌&&◌, ◌<◌, ◌==◌, ◌||◌, ◌∷◌, ◌≡◌, ◌⊎◌}
 
 pub first-in : {A : Type 0} (x : A) (xs : List A) → first_of_list xs ≡ Some x → In x xs
 first-in x [] h = cc
@@ -127,12 +129,16 @@ abbrev pub Within : Phase → Event → Type 0
 Within Opening e = ForOpening e
 Within phase e = ⊤
 
--- nothing is open, and b's continuation is the first
+-- nothing is open, b's continuation is the first, and openings are not early
 abbrev pub DrainsFirst : Trace → Id → Type 0
-DrainsFirst trace b = (open_units trace ≡ []) × (first_of_list (map (λ (c : Cont). c.base) (kept trace).conts) ≡ Some b)
+DrainsFirst trace b = (open_units trace ≡ []) × (first_of_list (map (λ (c : Cont). c.base) (kept trace).conts) ≡ Some b) × ((start_of trace).early ≡ false)
+
+-- each accepted program is released
+abbrev pub NoneHolds : Trace → Type 0
+NoneHolds trace = list_any (is_holding trace) (accepted_in trace) ≡ false
 
 abbrev pub FitsKind : Trace → UnitKind → Type 0
-FitsKind trace (First s b n args) = (phase trace ≡ Serving) × (b ≡ fresh_base trace)
+FitsKind trace (First s b n args) = (phase trace ≡ Serving) × (b ≡ fresh_base trace) × (is_covering trace ≡ false)
 FitsKind trace (Later b part) = (program_unit b trace ≡ None) × (part_due trace b ≡ Some part) × (phase trace ≡ Opening → DrainsFirst trace b)
 FitsKind trace kind = phase trace ≡ Serving
 
@@ -150,13 +156,16 @@ abbrev pub Fits : Trace → Event → Type 0
 Fits trace (Did u st a) = (is_open trace u ≡ true) × (phase trace ≡ Opening → is_acid trace u ≡ false) × (is_acid trace u ≡ true → clashing trace u st ≡ [])
 Fits trace (Waits u owners) = is_open trace u ≡ true
 Fits trace (Ended u end) = (is_open trace u ≡ true) × FitsEnd trace u end
-Fits trace (Defined n text) = n ≡ next_number trace
+Fits trace (Defined n text) = (n ≡ next_number trace) × NoneHolds trace
 Fits trace (Began u kind) = (u ≡ fresh_unit trace) × (phase trace ≡ Fallen → ⊥) × FitsKind trace kind
 Fits trace (Accepted b) = IsAcceptance b trace (last_said trace)
 Fits trace (Finished b) = IsLastEnd b trace (last_said trace)
 Fits trace (Released bs) = (bs ≡ to_release trace) × (releases (to_release trace) ≡ Some (Released bs)) × IsAfterFinished (last_said trace) × (phase trace ≡ Serving)
 Fits trace (Opened boot n) = (phase trace ≡ Fallen) × ((kept trace).boot < boot)
 Fits trace Ready = (phase trace ≡ Opening) × ((kept trace).conts ≡ []) × (to_cut trace ≡ []) × (open_units trace ≡ [])
+Fits trace (Early bs) =
+    (phase trace ≡ Opening) × (bs ≡ in_order (map (λ (c : Cont). c.base) (kept trace).conts)) × (to_cut trace ≡ []) × (open_units trace ≡ []) ×
+    ((start_of trace).early ≡ true) × (bs ≡ [] → ⊥)
 Fits trace e = ⊤
 
 is-serving : (p : Phase) → p ≡ Serving → (p ≡ Fallen → ⊥) × (p ≡ Opening → ⊥)
@@ -165,6 +174,13 @@ is-serving p s = ((λ f. cc), (λ o. cc))
 -- the first of the open units with a test is open, and passes it
 pub opened-in : (trace : Trace) (p : Id → Bool) (u : Id) → first_of_list (filter p (open_units trace)) ≡ Some u → (is_open trace u ≡ true) × (p u ≡ true)
 opened-in trace p u h = let r = in-filter p u (open_units trace) (first-in u _ h) in ((in-filter (is_open trace) u (units_begun trace) r.0).1, r.1)
+
+-- the line calls no program that is held back, and defines where none holds
+abbrev IsNotHeld : Trace → Line → Type 0
+IsNotHeld trace (Session s act) = is_held_back trace act ≡ false
+IsNotHeld trace (Table d) = NoneHolds trace
+IsNotHeld trace (Program d) = NoneHolds trace
+IsNotHeld trace line = ⊤
 
 module _ (trace : Trace) (serving : phase trace ≡ Serving) where
   abbrev P : Event → Type 0
@@ -181,21 +197,25 @@ module _ (trace : Trace) (serving : phase trace ≡ Serving) where
   fits-turn_of None h = tt
   fits-turn_of (Some u) h = fits-turn u (h u refl)
 
-  kind-called : (s : ℕ) (n : List ℕ) (args : List Value) (body : Body) → FitsKind trace (kind_called trace s n args body)
-  kind-called s n args (Acid block) = serving
-  kind-called s n args (Base parts) = (serving, refl)
+  uncovered : (p : Bool) → (p && true) ≡ false → p ≡ false
+  uncovered true h = h
+  uncovered false h = refl
+
+  kind-called : (s : ℕ) (n : List ℕ) (args : List Value) (body : Body) → (is_covering trace && elim body [ Acid block ↦ false | Base parts ↦ true ]) ≡ false → FitsKind trace (kind_called trace s n args body)
+  kind-called s n args (Acid block) h = serving
+  kind-called s n args (Base parts) h = (serving, refl, uncovered (is_covering trace) h)
 
   not-fallen : phase trace ≡ Fallen → ⊥
   not-fallen = (is-serving (phase trace) serving).0
 
-  fits-act : (s : ℕ) (act : Act) (o : Option Id) → ((u : Id) → o ≡ Some u → is_open trace u ≡ true) → IfComes P (act_event trace s act o)
-  fits-act s Begin o h = (refl, not-fallen, serving)
-  fits-act s (Do st) None h = (refl, not-fallen, serving)
-  fits-act s (Do st) (Some u) h = fits-turn u (h u refl)
-  fits-act s (Call n args) o h = comes-map P _ (kept_program n (kept trace)) (λ p. (refl, not-fallen, kind-called s n args p.body))
-  fits-act s Step o h = fits-turn_of o h
-  fits-act s Commit o h = comes-map-at P _ o (λ u e. (h u e, refl))
-  fits-act s Rollback o h = comes-map-at P _ o (λ u e. (h u e, tt))
+  fits-act : (s : ℕ) (act : Act) (o : Option Id) → is_held_back trace act ≡ false → ((u : Id) → o ≡ Some u → is_open trace u ≡ true) → IfComes P (act_event trace s act o)
+  fits-act s Begin o f h = (refl, not-fallen, serving)
+  fits-act s (Do st) None f h = (refl, not-fallen, serving)
+  fits-act s (Do st) (Some u) f h = fits-turn u (h u refl)
+  fits-act s (Call n args) o f h = comes-map-at P _ (kept_program n (kept trace)) (λ p e. (refl, not-fallen, kind-called s n args p.body (ap (λ q. is_covering trace && is_base_program q) (sym e) ∙ f)))
+  fits-act s Step o f h = fits-turn_of o h
+  fits-act s Commit o f h = comes-map-at P _ o (λ u e. (h u e, refl))
+  fits-act s Rollback o f h = comes-map-at P _ o (λ u e. (h u e, tt))
 
   fits-goes_on : (b : Id) (o : Option Id) → program_unit b trace ≡ o → ((u : Id) → o ≡ Some u → is_open trace u ≡ true) → IfComes P (goes_on trace b o)
   fits-goes_on b (Some u) e h = fits-turn u (h u refl)
@@ -204,12 +224,12 @@ module _ (trace : Trace) (serving : phase trace ≡ Serving) where
   fits-go : (b : Id) → IfComes P (go trace b)
   fits-go b = fits-goes_on b (program_unit b trace) refl (λ u e. (opened-in trace (is_of_program b trace) u e).0)
 
-  fits-line : (line : Line) → IfComes P (line_event trace line)
-  fits-line (Session s act) = fits-act s act (session_unit s trace) (λ u e. (opened-in trace (is_of_session s trace) u e).0)
-  fits-line (Go b) = fits-go b
-  fits-line (Table d) = refl
-  fits-line (Program d) = refl
-  fits-line line = tt
+  fits-line : (line : Line) → IsNotHeld trace line → IfComes P (line_event trace line)
+  fits-line (Session s act) f = fits-act s act (session_unit s trace) f (λ u e. (opened-in trace (is_of_session s trace) u e).0)
+  fits-line (Go b) f = fits-go b
+  fits-line (Table d) f = (refl, f)
+  fits-line (Program d) f = (refl, f)
+  fits-line line f = tt
 
   fits-settle : (v s : Option Id) → ((u : Id) → v ≡ Some u → is_open trace u ≡ true) → ((u : Id) → s ≡ Some u → (is_open trace u ≡ true) × (is_empty (clashing_now trace u) ≡ true)) → IfComes P (settle_by trace v s)
   fits-settle (Some u) s h g = (h u refl, tt)
@@ -248,9 +268,9 @@ due-none trace b h = go (cont_of b (kept trace)) h
     go (Some c) h = cc
 
 -- what follows an event in its turn
-fits-began : (trace : Trace) → phase trace ≡ Serving → (u : Id) (kind : UnitKind) (line : Line) → IfComes (Fits (trace says Began u kind)) (after_began (trace says Began u kind) u line)
-fits-began trace p u kind (Session s Begin) = tt
-fits-began trace p u kind line = fits-turn (trace says Began u kind) p u (rw (is_same_id-refl u) refl)
+fits-began : (trace : Trace) → phase trace ≡ Serving → (u : Id) (line : Line) (kind : UnitKind) → IfComes (Fits (trace says Began u kind)) (after_began (trace says Began u kind) u line kind)
+fits-began trace p u (Session s Begin) (Acid t) = tt
+fits-began trace p u line kind = fits-turn (trace says Began u kind) p u (rw (is_same_id-refl u) refl)
 
 fits-did : (trace : Trace) (u : Id) (st : Statement) (answer a : Answer) → IfComes (Fits (trace says Did u st answer)) (after_did (trace says Did u st answer) u a)
 fits-did trace u st answer (Failed c) = go (kind_of u trace)
@@ -271,7 +291,7 @@ fits-releases trace p b [] h = tt
 fits-releases trace p b (c ∷ cs) h = (h, rw (← h) refl, tt, p)
 
 fits-follow : (trace : Trace) (e : Event) → phase (trace says e) ≡ Serving → IfComes (Fits (trace says e)) (follow (trace says e) e)
-fits-follow trace (Began u kind) p = fits-began trace p u kind (line_of trace)
+fits-follow trace (Began u kind) p = fits-began trace p u (line_of trace) kind
 fits-follow trace (Did u st a) p = fits-did trace u st a a
 fits-follow trace (Ended u end) p = fits-end trace u end (kind_of u trace) refl
 fits-follow trace (Accepted b) p = comes-then_some-at (Fits (trace says Accepted b)) (is_none (cont_of b (kept (trace says Accepted b)))) (Finished b) (λ h. (refl, due-none (trace says Accepted b) b h))
@@ -280,6 +300,7 @@ fits-follow trace e p = tt
 
 fits-serving : (trace : Trace) (e : Event) → phase (trace says e) ≡ Serving → IfComes (Fits (trace says e)) (serving_event (trace says e) e)
 fits-serving trace Ready p = tt
+fits-serving trace (Early bs) p = tt
 fits-serving trace e p = comes-option_or (Fits (trace says e)) (follow (trace says e) e) (settle (trace says e)) (fits-follow trace e p) (fits-settling (trace says e) p)
 
 -- in an opening
@@ -308,7 +329,14 @@ module _ (trace : Trace) (opening : phase trace ≡ Opening) where
 
   fits-drains : (cs : List Cont) → (kept trace).conts ≡ cs → to_cut trace ≡ [] → open_units trace ≡ [] → Q (drains trace cs)
   fits-drains [] e c n = ((opening, e, c, n), tt)
-  fits-drains (x ∷ cs) e c n = ((refl, open-fallen, (ap (λ us. first_of_list (filter (is_of_program x.base trace) us)) n, subst (λ (l : List Cont). option_map (λ (y : Cont). y.next) (cont_in x.base l) ≡ Some x.next) (sym e) (rw (is_same_id-refl x.base) refl), (λ o. (n, ap (λ (l : List Cont). first_of_list (map (λ (c : Cont). c.base) l)) e)))), tt)
+  fits-drains (x ∷ cs) e c n = by (start_of trace).early refl
+    where
+      some : {A : Type 0} (x : A) (xs : List A) → x ∷ xs ≡ [] → ⊥
+      some x xs h = cc
+
+      by : (t : Bool) → (start_of trace).early ≡ t → Q (unfinished t trace x cs)
+      by true a = ((opening, ap (λ (l : List Cont). in_order (map (λ (c : Cont). c.base) l)) (sym e), c, n, a, (λ g. some _ _ (order-none (map (λ (c : Cont). c.base) (x ∷ cs)) g))), tt)
+      by false a = ((refl, open-fallen, (ap (λ us. first_of_list (filter (is_of_program x.base trace) us)) n, subst (λ (l : List Cont). option_map (λ (y : Cont). y.next) (cont_in x.base l) ≡ Some x.next) (sym e) (rw (is_same_id-refl x.base) refl), (λ o. (n, ap (λ (l : List Cont). first_of_list (map (λ (c : Cont). c.base) l)) e, a)))), tt)
 
   fits-cuts : (us : List Id) → to_cut trace ≡ us → IfComes Q (cuts_or_drains trace us)
   fits-cuts [] e = comes-then_some-at Q (is_empty (open_units trace)) (drains trace (kept trace).conts) (λ n. fits-drains (kept trace).conts refl e (none (open_units trace) n))
@@ -368,7 +396,7 @@ fits-said trace e Fallen h d = tt
 abbrev pub Flies : Trace → Event → Type 0
 Flies trace (Ended u (Committed n)) = (is_open trace u ≡ true) × (n ≡ next_number trace)
 Flies trace (Ended u (Branched n c)) = (is_open trace u ≡ true) × (n ≡ next_number trace)
-Flies trace (Defined n text) = n ≡ next_number trace
+Flies trace (Defined n text) = (n ≡ next_number trace) × NoneHolds trace
 Flies trace e = ⊥
 
 pub flies-next : (trace : Trace) (o : Option Event) → IfComes (Comes trace) o → IfComes (Flies trace) (decision_in o)
@@ -388,7 +416,33 @@ flies-stands trace n (Some e) h = absurd h
 pub fits-asked : (trace : Trace) (asked : Asked) → phase trace ≡ Serving → IfComes (Comes (trace asks asked)) (next (trace asks asked))
 fits-asked trace asked s =
     let here = trace asks asked in
-    serves-next here s (comes-option_or (Fits here) (option_map Refused (refusal trace asked)) (line_event here (line_asked asked)) (comes-map (Fits here) Refused (refusal trace asked) (λ r. tt)) (fits-line here s (line_asked asked)))
+    serves-next here s (by asked (refusal trace asked) refl s)
+  where
+    none-of : (o p q : Option Refusal) → option_or o (option_or p q) ≡ None → p ≡ None
+    none-of None None q h = refl
+    none-of None (Some r) q h = cc
+    none-of (Some r) p q h = cc
+
+    not-so : {A : Type 0} (x : A) (b c : Bool) → then_some (b || c) x ≡ None → c ≡ false
+    not-so x true c h = cc
+    not-so x false true h = cc
+    not-so x false false h = refl
+
+    last-of : (o p q : Option Refusal) → option_or o (option_or p q) ≡ None → q ≡ None
+    last-of None None q h = h
+    last-of None (Some r) q h = cc
+    last-of (Some r) p q h = cc
+
+    free : (line : Line) → refused_line trace line ≡ None → IsNotHeld (trace asks Tree line) line
+    free (Table d) h = not-so _ (not (is_empty (open_units trace))) (list_any (is_holding trace) (accepted_in trace)) (last-of (judged trace (Table d)) (then_some false State) (then_some (is_busy trace) Busy) h)
+    free (Program d) h = not-so _ (not (is_empty (open_units trace))) (list_any (is_holding trace) (accepted_in trace)) (last-of (judged trace (Program d)) (then_some false State) (then_some (is_busy trace) Busy) h)
+    free (Session t act) h = not-so _ (state_wrong trace (session_unit t trace) act) (is_held_back trace act) (none-of (judged trace (Session t act)) _ _ h)
+    free line h = tt
+
+    by : (asked : Asked) (o : Option Refusal) → refusal trace asked ≡ o → phase trace ≡ Serving → IfComes (Fits (trace asks asked)) (option_or (option_map Refused o) (line_event (trace asks asked) (line_asked asked)))
+    by asked (Some r) e s = tt
+    by (Tree line) None e s = fits-line (trace asks Tree line) s line (free line e)
+    by (Rejected r) None e s = cc
 
 pub fits-turns : (trace : Trace) (b : Id) → phase trace ≡ Serving → IfComes (Comes (trace turns b)) (next (trace turns b))
 fits-turns trace b s = serves-next (trace turns b) s (fits-go (trace turns b) s b)

@@ -6,14 +6,14 @@ use Rattle.law_story.proofs.Ids.{is_same_id-true}
 use Rattle.law_story.proofs.Lists.{In, either, in-filter, in-order, into-filter, order-none}
 use Rattle.law_story.proofs.NextFits.{Fits, IsOwn, first-in}
 use Rattle.law_story.proofs.Replays.{replays}
-use Rattle.law_story.proofs.Salted.{OfBoots, holds, may-fit}
-use Rattle.law_story.proofs.Sound.{Sound, boot-ended, kind-in, none-open, open-back}
+use Rattle.law_story.proofs.Sound.{Sound, boot-ended, kind-in, none-open, none-open-early, open-back}
+use Rattle.law_story.proofs.Upheld.{OfBoots, holds, may-fit}
 use Rattle.salt_model.specs.After.{kept}
 use Rattle.salt_model.specs.Continuing.{last_said}
 use Rattle.salt_model.specs.Decided.{CutsRight, IsLeftOpen, IsOfBoot, IsOwnIn, OwnUnless, TellsOwn, counts_flight}
 use Rattle.salt_model.specs.Kept.{cont_of}
 use Rattle.salt_model.specs.Next.{flight, is_decision, next, said_event}
-use Rattle.salt_model.specs.Openings.{cuts_or_drains, drains, follow_opening, stands_now, to_cut}
+use Rattle.salt_model.specs.Openings.{cuts_or_drains, drains, follow_opening, stands_now, to_cut, unfinished}
 use Rattle.salt_model.specs.Phases.{Fallen, Opening, Phase, Serving, phase}
 use Rattle.salt_model.specs.Played.{IsPlayed}
 use Rattle.salt_model.specs.Segments.{May}
@@ -22,16 +22,15 @@ use Rattle.salt_model.specs.Turns.{after_did, after_end, commits, does, does_nex
 use Rattle.salt_model.specs.Units.{is_open, kind_of, open_units, units_begun}
 use Rattle.salt_model.specs.Waiting.{asked_by, block_of}
 use Rattle.salt_model.specs.Words.{first_of_list, is_empty}
-use Rattle.salt_values.specs.Id.{in_order, insert_id}
-use Rattle.salt_model.specs.declared.events.Answer.TheVariants.{Failed}
 use Rattle.salt_model.specs.declared.events.Answer.{Answer}
-use Rattle.salt_model.specs.declared.events.End.TheVariants.{Branched, Committed, Cut}
+use Rattle.salt_model.specs.declared.events.Answer.TheVariants.{Failed}
 use Rattle.salt_model.specs.declared.events.End.{End}
-use Rattle.salt_model.specs.declared.events.Event.TheVariants.{Accepted, Began, Did, Down, Ended, Finished, Opened, Ready, Waits}
+use Rattle.salt_model.specs.declared.events.End.TheVariants.{Branched, Committed, Cut}
 use Rattle.salt_model.specs.declared.events.Event.{Event}
-use Rattle.salt_model.specs.declared.events.UnitKind.TheVariants.{First, Later}
+use Rattle.salt_model.specs.declared.events.Event.TheVariants.{Accepted, Began, Did, Down, Early, Ended, Finished, Opened, Ready, Waits}
 use Rattle.salt_model.specs.declared.events.UnitKind.{UnitKind}
-use Rattle.salt_values.specs.Id.{is_older, is_same_id}
+use Rattle.salt_model.specs.declared.events.UnitKind.TheVariants.{First, Later}
+use Rattle.salt_values.specs.Id.{in_order, insert_id, is_older, is_same_id}
 use Rattle.salt_values.specs.declared.cont.Cont.{Cont}
 use Rattle.salt_values.specs.declared.id.Id.{Id}
 use Rattle.std.proofs.Common.{ap, arith, inl, inr, subst, sym, ◌∙◌}
@@ -99,7 +98,11 @@ cuts-own trace [] = comes-then_some (IsOfOpening trace) (is_empty (open_units tr
   where
     begun : (cs : List Cont) → IsOfOpening trace (drains trace cs)
     begun [] = tt
-    begun (c ∷ cs) = refl
+    begun (c ∷ cs) = by (start_of trace).early
+      where
+        by : (t : Bool) → IsOfOpening trace (unfinished t trace c cs)
+        by true = tt
+        by false = refl
 
 does-own : (trace : Trace) (u : Id) → u.boot ≡ (kept trace).boot → IfComes (IsOfOpening trace) (does_next trace u)
 does-own trace u h = comes-map (IsOfOpening trace) (does trace u) (asked_by u trace) (λ st. h)
@@ -188,6 +191,7 @@ open-says : (trace : Trace) (e : Event) → Sound trace → Fits trace e → Ope
 open-says trace (Down why) s f h p u o = cc
 open-says trace (Opened boot n) s f h p u o = cc
 open-says trace Ready s f h p u o = absurd (none-open trace s f u o)
+open-says trace (Early bs) s f h p u o = absurd (none-open-early trace bs s f u o)
 open-says trace (Began v kind) s f h p u o =
     either (λ q. h p u q) (λ b. ap (λ x. x.boot) (is_same_id-true u v b) ∙ ap (λ x. x.boot) f.0) (open-back trace (Began v kind) u f o)
 open-says trace (Ended v end) s f h p u o = h p u (either (λ q. q) (λ q. absurd q) (open-back trace (Ended v end) u f o)) ∙ sym (boot-ended trace v end)

@@ -1,8 +1,9 @@
 -- The sources that a program is given are those that it reads through.
+use Rattle.law_story.proofs.Defined.{AreDefined}
 use Rattle.law_story.proofs.FinishedSources.{Sources, sources-played}
 use Rattle.law_story.proofs.Ids.{is_same_id-refl}
 use Rattle.law_story.proofs.Lists.{In, either, filter-short, has-in, in-has}
-use Rattle.law_story.proofs.Salted.{OfBoots}
+use Rattle.law_story.proofs.Upheld.{OfBoots}
 use Rattle.law_story.proofs.Widening.{Path, all-come, comes-by, here, onward}
 use Rattle.law_story.specs.Rewordings.{SourcesAreReadThrough}
 use Rattle.salt_model.specs.Played.{IsPlayed}
@@ -45,5 +46,5 @@ module _ (trace : Trace) where
       from : (y : Id) × In y (b ∷ []) × Path reads y c → ReadsThrough trace b c
       from r = path-read b c (subst (λ y. Path reads y c) (sym (either (λ e. e) (λ x. absurd x) r.1)) r.2)
 
-pub sources-read : (trace : Trace) → IsPlayed trace → OfBoots (start_of trace).kept → SourcesAreReadThrough trace
-sources-read trace p w = sources-exact trace (sources-played trace p w)
+pub sources-read : (trace : Trace) → IsPlayed trace → OfBoots (start_of trace).kept → AreDefined (start_of trace).kept (start_of trace).kept.conts → SourcesAreReadThrough trace
+sources-read trace p w d = sources-exact trace (sources-played trace p w d)

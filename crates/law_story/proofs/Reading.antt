@@ -1,35 +1,33 @@
 -- What is read of whom: written keys are covered by locks, ACID units read from released programs, and a released program's sources are released.
-use Rattle.std.specs.Bool.{then_some}
-use Rattle.std.specs.Option.{option_or}
-use Rattle.salt_ast.specs.declared.trees.Statement.{Statement}
-use Rattle.law_story.proofs.Fresh.{or_left, or_right}
+use Rattle.law_story.proofs.BaseTables.{Based}
+use Rattle.law_story.proofs.Hiding.{AllFree, Hides, due-named, due-parts, found-now, found_early, freed-by-last, now-new, now-old, reads-says, releasable-reads, released-says}
 use Rattle.law_story.proofs.Ids.{and_left, and_right, is_same_id-refl, is_same_id-true, same_sym}
-use Rattle.law_story.proofs.Lists.{In, PassesSelf, all-in, either, has-in, in-cases, in-filter, in-filter_map, in-has, in-left, in-map, in-right, in-without, into-filter, into-filter_map, or_cases, or_right_true, shrink-ends}
+use Rattle.law_story.proofs.Lists.{In, any-not, either, has-in, in-cases, in-filter, in-has, in-left, in-map, in-right, into-filter, into-filter_map, or_right_true}
 use Rattle.law_story.proofs.NextFits.{Fits}
 use Rattle.law_story.proofs.Places.{meet-common}
 use Rattle.law_story.proofs.Reached.{Covers, covers-change}
-use Rattle.law_story.proofs.Sound.{Sound, committed-named, kind-some, kind-stays, not-fresh, of-program}
+use Rattle.law_story.proofs.Sound.{Sound, committed-named, freed-passed, kind-some, kind-stays, named-bases, not-fresh, of-program, releasable-finished}
 use Rattle.law_story.proofs.Unreleased.{whole-did}
+use Rattle.salt_ast.specs.declared.trees.Statement.{Statement}
 use Rattle.salt_model.specs.After.{changes_now, kept, reach_now, run_of}
 use Rattle.salt_model.specs.Isolation.{is_committed_standing, is_open_or_committed, is_program_released, is_unreleased_part, read_by, touches_unreleased}
 use Rattle.salt_model.specs.Kept.{schema_of}
 use Rattle.salt_model.specs.Locks.{Taken, is_read, taken_by, taken_in, touches}
+use Rattle.salt_model.specs.Programs.{freed_by, left_out, programs_in, released_in}
+use Rattle.salt_model.specs.Reads.{Written, is_reached, last_of_each, programs_among, read_directly, releasable, writers_in, written_by, written_in, wrote_of}
 use Rattle.salt_model.specs.Trace.{Trace, from, ◌asks◌, ◌says◌, ◌turns◌}
-use Rattle.salt_model.specs.Programs.{finished_in, programs_in, released_in}
 use Rattle.salt_model.specs.Units.{Never, Over, Running, Standing, Waiting, is_of_program, is_open, is_open_standing, kind_of, program_of, program_of_kind, standing, standing_after}
-use Rattle.salt_model.specs.Reads.{Written, is_reached, last_of_each, programs_among, read_directly, reads_within, to_release, writers_in, written_by, written_in, wrote_of}
-use Rattle.salt_values.specs.Id.{has_id, in_order, without}
 use Rattle.salt_model.specs.declared.events.Answer.{Answer}
 use Rattle.salt_model.specs.declared.events.End.TheVariants.{Committed}
-use Rattle.salt_model.specs.declared.events.Event.TheVariants.{Began, Did, Ended, Ready, Released, Waits}
 use Rattle.salt_model.specs.declared.events.Event.{Event}
+use Rattle.salt_model.specs.declared.events.Event.TheVariants.{Began, Did, Early, Ended, Ready, Released, Waits}
 use Rattle.salt_model.specs.declared.locks.Reach.{Reach}
 use Rattle.salt_ranges.specs.Ranges.{has_key, meets}
-use Rattle.salt_values.specs.Id.{is_same_id}
+use Rattle.salt_values.specs.Id.{has_id, is_same_id, without}
 use Rattle.salt_values.specs.declared.id.Id.{Id}
-use Rattle.std.proofs.Common.{ap, arith, inl, inr, subst, sym, ◌∙◌}
-use Rattle.std.specs.List.{filter, list_any}
-use Rattle.std.specs.Prelude.{Bool, List, None, Option, Some, [], cond, false, is_none, is_some, not, option_and_then, refl, true, ⊤, ◌&&◌, ◌++◌, ◌==◌, ◌||◌, ◌∷◌, ◌≡◌, ◌⊎◌}
+use Rattle.std.proofs.Common.{ap, inl, inr, subst, sym, ◌∙◌}
+use Rattle.std.specs.List.{filter}
+use Rattle.std.specs.Prelude.{Bool, List, None, Option, Some, [], cond, false, is_none, is_some, not, option_and_then, refl, true, ⊤, ◌&&◌, ◌++◌, ◌==◌, ◌∷◌, ◌≡◌, ◌⊎◌}
 
 -- reaches that cover a key to be written
 abbrev Wrote : Taken → Written → Type 0
@@ -83,7 +81,6 @@ pub record Read (trace : Trace) (u v : Id) : Type 0 where
 pub record Salty (trace : Trace) : Type 0 where
   pub written : (w : Written) → In w (written_in trace) → Covered trace w
   pub reads : (u v : Id) → In v (read_by u trace) → Read trace u v
-  pub reads_in : (b c : Id) → In c (read_directly b trace) → In c (programs_in trace)
   pub closed : (b c : Id) → In b (released_in trace) → In c (read_directly b trace) → In c (released_in trace)
 
 -- a committed unit stays committed
@@ -146,11 +143,6 @@ writer-in trace r v h =
     let i = in-filter (is_reached r) m.0 (last_of_each (written_in trace)) m.1 in
     (m.0, last-in m.0 (written_in trace) i.0, i.1, m.2)
 
-any-not : {A : Type 0} (p : A → Bool) (x : A) (xs : List A) → list_any p xs ≡ false → In x xs → p x ≡ false
-any-not p x [] h i = absurd i
-any-not p x (y ∷ ys) h (inl e) = subst (λ z. p z ≡ false) e (or_left (p y) _ h)
-any-not p x (y ∷ ys) h (inr i) = any-not p x ys (or_right (p y) _ h) i
-
 -- fact 4: whoever wrote a key that an ACID unit reaches is ACID, or of a released program
 reached-released : (trace : Trace) (r : Reach) (w : Written) → touches_unreleased trace (Some r) ≡ false → Covered trace w → is_reached r w ≡ true → is_program_released trace (program_of w.unit trace) ≡ true
 reached-released trace r w none c h =
@@ -177,20 +169,6 @@ writers-known trace (Some r) v z h = let w = writer-in trace r v h in subst (λ 
 pub writers-released : (trace : Trace) (o : Option Reach) (v : Id) → Salty trace → touches_unreleased trace o ≡ false → In v (writers_in trace o) → is_program_released trace (program_of v trace) ≡ true
 writers-released trace None v z none h = absurd h
 writers-released trace (Some r) v z none h = let w = writer-in trace r v h in subst (λ x. is_program_released trace (program_of x trace) ≡ true) w.3 (reached-released trace r w.0 none (z.written w.0 w.1) w.2)
-
--- released programs and reads stay
-released-says : (trace : Trace) (e : Event) (b : Id) → In b (released_in trace) → In b (released_in (trace says e))
-released-says trace (Released bs) b h = in-left b (released_in trace) bs h
-released-says trace Ready b h = in-left b (released_in trace) _ h
-released-says trace e b h = h
-
-reads-says : (trace : Trace) (e : Event) (b c : Id) → In c (read_directly b trace) → In c (read_directly b (trace says e))
-reads-says trace (Did u st a) b c h = go (is_of_program b trace u)
-  where
-    go : (t : Bool) → In c (cond t (without (b ∷ []) (programs_among trace (writers_in trace (reach_now u trace st))) ++ read_directly b trace) (read_directly b trace))
-    go true = in-right c _ (read_directly b trace) h
-    go false = h
-reads-says trace e b c h = h
 
 ok-says : (trace : Trace) (e : Event) (p q : Option Id) → ReadOk trace p q → ReadOk (trace says e) p q
 ok-says trace e None None h = refl
@@ -219,77 +197,58 @@ did-reads trace u st a v (Some b) (Some c) z eu ev k h = go (is_same_id c b) ref
         let apart : In c (without (b ∷ []) (programs_among trace (writers_in trace (reach_now u trace st)))) = into-filter (λ x. not (has_id x (b ∷ []))) c _ among (rw e refl) in
         inr (rw mine (in-left c _ (read_directly b trace) apart))
 
-reads-step : (trace : Trace) (e : Event) → Sound trace → Salty trace → Fits trace e → (u v : Id) → In v (read_by u (trace says e)) → Read (trace says e) u v
-reads-step trace (Did x st a) s z f u v h = go (is_same_id u x) refl h
+reads-step : (trace : Trace) (e : Event) → Sound trace → Salty trace → Hides trace → Based trace → Fits trace e → (u v : Id) → In v (read_by u (trace says e)) → Read (trace says e) u v
+reads-step trace (Did x st a) s z k b f u v h = go (is_same_id u x) refl h
   where
     new : is_same_id u x ≡ true → In v (writers_in trace (reach_now x trace st)) → Read (trace says Did x st a) u v
     new e i = subst (λ y. Read (trace says Did x st a) y v) (sym (is_same_id-true u x e)) (record {
       reader_known = s.known x f.0;
       writer_known = writers-known trace (reach_now x trace st) v z i;
-      fits = did-reads trace x st a v (program_of x trace) (program_of v trace) z refl refl (λ g. writers-released trace (reach_now x trace st) v z (whole-did trace x st (ap is_none g) (f.2 (ap is_none g))) i) i;
+      fits = did-reads trace x st a v (program_of x trace) (program_of v trace) z refl refl (λ g. writers-released trace (reach_now x trace st) v z (whole-did trace x st k b (ap is_none g) (f.2 (ap is_none g))) i) i;
     })
 
     go : (b : Bool) → is_same_id u x ≡ b → In v (cond b (writers_in trace (reach_now x trace st) ++ read_by u trace) (read_by u trace)) → Read (trace says Did x st a) u v
     go true e g = either (new e) (λ i. read-says trace (Did x st a) u v s f (z.reads u v i)) (in-cases v (writers_in trace (reach_now x trace st)) (read_by u trace) g)
     go false e g = read-says trace (Did x st a) u v s f (z.reads u v g)
-reads-step trace e s z f u v h = read-says trace e u v s f (z.reads u v h)
-
--- the program of a unit has an event
-pub program-in : (trace : Trace) (v c : Id) → program_of v trace ≡ Some c → In c (programs_in trace)
-program-in (from k) v c h = cc
-program-in (trace asks line) v c h = program-in trace v c h
-program-in (trace turns b) v c h = program-in trace v c h
-program-in (trace says Began u kind) v c h = go (program-in trace v c) (is_same_id v u) h
-  where
-    more : (o : Option Id) → In c (programs_in trace) → In c (elim o [ None ↦ programs_in trace | Some b ↦ programs_in trace ++ b ∷ [] ])
-    more None i = i
-    more (Some b) i = in-left c (programs_in trace) (b ∷ []) i
-
-    its : (o : Option Id) → o ≡ Some c → In c (elim o [ None ↦ programs_in trace | Some b ↦ programs_in trace ++ b ∷ [] ])
-    its None e = cc
-    its (Some b) e = in-right c (programs_in trace) (b ∷ []) (inl (cc))
-
-    go : (program_of v trace ≡ Some c → In c (programs_in trace)) → (t : Bool) → option_and_then program_of_kind (option_or (then_some t kind) (kind_of v trace)) ≡ Some c → In c (programs_in (trace says Began u kind))
-    go before true e = its (program_of_kind kind) e
-    go before false e = more (program_of_kind kind) (before e)
-program-in (trace says e) v c h = program-in trace v c h
-
-programs-say : (trace : Trace) (e : Event) (c : Id) → In c (programs_in trace) → In c (programs_in (trace says e))
-programs-say trace (Began u kind) c h = go (program_of_kind kind)
-  where
-    go : (o : Option Id) → In c (elim o [ None ↦ programs_in trace | Some b ↦ programs_in trace ++ b ∷ [] ])
-    go None = h
-    go (Some b) = in-left c (programs_in trace) (b ∷ []) h
-programs-say trace e c h = h
-
-reads_in-step : (trace : Trace) (e : Event) → Salty trace → (b c : Id) → In c (read_directly b (trace says e)) → In c (programs_in (trace says e))
-reads_in-step trace (Did u st a) z b c h = go (is_of_program b trace u) h
-  where
-    new : In c (without (b ∷ []) (programs_among trace (writers_in trace (reach_now u trace st)))) → In c (programs_in trace)
-    new i = let m = in-filter_map (λ x. program_of x trace) c (writers_in trace (reach_now u trace st)) (in-without c (b ∷ []) _ i).0 in program-in trace m.0 c m.2
-
-    go : (t : Bool) → In c (cond t (without (b ∷ []) (programs_among trace (writers_in trace (reach_now u trace st))) ++ read_directly b trace) (read_directly b trace)) → In c (programs_in trace)
-    go true g = either new (λ i. z.reads_in b c i) (in-cases c _ (read_directly b trace) g)
-    go false g = z.reads_in b c g
-reads_in-step trace e z b c h = programs-say trace e c (z.reads_in b c h)
+reads-step trace e s z k b f u v h = read-says trace e u v s f (z.reads u v h)
 
 -- fact 5: what a released program reads from is released
-closed-step : (trace : Trace) (e : Event) → Sound trace → Salty trace → Fits trace e → (b c : Id) → In b (released_in (trace says e)) → In c (read_directly b (trace says e)) → In c (released_in (trace says e))
-closed-step trace (Did u st a) s z f b c r h = go (is_of_program b trace u) refl h
+closed-step : (trace : Trace) (e : Event) → Sound trace → Salty trace → Hides trace → Fits trace e → (b c : Id) → In b (released_in (trace says e)) → In c (read_directly b (trace says e)) → In c (released_in (trace says e))
+closed-step trace (Did u st a) s z k f b c r h = go (is_of_program b trace u) refl h
   where
     go : (t : Bool) → is_of_program b trace u ≡ t → In c (cond t (without (b ∷ []) (programs_among trace (writers_in trace (reach_now u trace st))) ++ read_directly b trace) (read_directly b trace)) → In c (released_in trace)
-    go true e g = absurd (s.alive b u f.0 e (inr r))
+    go true e g = absurd (s.alive b u f.0 e (inr (inl r)))
     go false e g = z.closed b c r g
-closed-step trace (Released bs) s z f b c r h = either (λ i. in-left c (released_in trace) bs (z.closed b c i h)) (λ i. due (subst (In b) f.0 i)) (in-cases b (released_in trace) bs r)
+closed-step trace (Early bs) s z k f b c r h = go (has_id b bs) refl h
   where
-    due : In b (to_release trace) → In c (released_in trace ++ bs)
-    due i =
-        let all : PassesSelf (reads_within trace) (to_release trace) = shrink-ends (reads_within trace) _ (in_order (without (released_in trace) (finished_in trace))) (omega arith) in
-        let one : reads_within trace (to_release trace) b ≡ true = all-in (reads_within trace (to_release trace)) b (to_release trace) all i in
-        let mine : (has_id c (to_release trace) || has_id c (released_in trace)) ≡ true = all-in _ c (read_directly b trace) one h in
-        either (λ g. in-right c (released_in trace) bs (subst (In c) (sym f.0) (has-in c _ g))) (λ g. in-left c (released_in trace) bs (has-in c _ g)) (or_cases (has_id c (to_release trace)) _ mine)
-closed-step trace Ready s z f b c r h = in-right c (released_in trace) (programs_in trace) (z.reads_in b c h)
-closed-step trace e s z f b c r h = z.closed b c r h
+    go : (t : Bool) → has_id b bs ≡ t → In c (cond t (without (b ∷ []) bs ++ read_directly b trace) (read_directly b trace)) → In c (released_in trace)
+    go true e g = absurd (s.goes_on b (named-bases trace bs f b (has-in b bs e)) (inr (inl r)))
+    go false e g = z.closed b c r g
+closed-step trace (Released bs) s z k f b c r h = either freed (λ i. either (λ j. now-old trace bs f.0 k c (z.closed b c j h)) due (in-cases b (released_in trace) bs i)) (in-cases b (freed_by bs trace) _ r)
+  where
+    -- where the first of those that the last early opening names is released, all that it found are
+    free : (x : Id) → In x (found_early trace) → AllFree trace → In x (released_in trace)
+    free x i a = let q = k.some x i in k.together q.0 x q.1 (a q.0 q.1) i
 
-pub salty-step : (trace : Trace) (e : Event) → Sound trace → Salty trace → Fits trace e → Salty (trace says e)
-salty-step trace e s z f = record { written = written-step trace e s z f; reads = reads-step trace e s z f; reads_in = reads_in-step trace e z; closed = closed-step trace e s z f }
+    freed : In b (freed_by bs trace) → In c (released_in (trace says Released bs))
+    freed i =
+        let d = freed-by-last trace bs f.0 k b i in
+        let there : In b (found_early trace) = k.passed b (freed-passed bs trace b i) in
+        either (λ g. found-now trace bs f.0 k d.0 c d.1 d.2 g) (λ a. now-old trace bs f.0 k c (z.closed b c (free b there a) h)) (k.reads_found b c there h)
+
+    left : In b bs → In c (left_out trace) → In c (released_in (trace says Released bs))
+    left i o =
+        let fin = releasable-finished trace b (due-parts trace bs f.0 k b i).0 in
+        either (λ g. found-now trace bs f.0 k b c (due-named trace bs f.0 k b i g fin) i (k.out c o)) (λ a. now-old trace bs f.0 k c (free c (k.out c o) a)) (k.fresh b (k.accepted b (k.finished b fin)))
+
+    due : In b bs → In c (released_in (trace says Released bs))
+    due i = either (λ g. by (has_id c (left_out trace)) refl g) (λ g. now-old trace bs f.0 k c g) (releasable-reads trace b c (due-parts trace bs f.0 k b i).0 h)
+      where
+        by : (t : Bool) → has_id c (left_out trace) ≡ t → In c (releasable trace) → In c (released_in (trace says Released bs))
+        by true e g = left i (has-in c (left_out trace) e)
+        by false e g = now-new trace bs f.0 k c g (λ o. let x : has_id c (left_out trace) ≡ true = in-has c _ o in let y : true ≡ false = sym x ∙ e in cc)
+closed-step trace Ready s z k f b c r h = in-right c (released_in trace) (programs_in trace) (k.reads_in b c h)
+closed-step trace e s z k f b c r h = z.closed b c r h
+
+pub salty-step : (trace : Trace) (e : Event) → Sound trace → Salty trace → Hides trace → Based trace → Fits trace e → Salty (trace says e)
+salty-step trace e s z k b f = record { written = written-step trace e s z f; reads = reads-step trace e s z k b f; closed = closed-step trace e s z k f }

@@ -1,10 +1,4 @@
 -- Each open unit's answers, and the reaches that it holds, are those of doing its statements on the tables of the commits so far.
-use Rattle.std.specs.Bool.{then_some}
-use Rattle.std.specs.Option.{option_or}
-use Rattle.salt_ast.specs.declared.lines.Act.TheVariants.{Call}
-use Rattle.salt_ast.specs.declared.programs.Body.TheVariants.{Acid}
-use Rattle.salt_ast.specs.declared.trees.Statement.{Statement}
-use Rattle.salt_ast.specs.declared.trees.TableDef.{TableDef}
 use Rattle.law_story.proofs.Apart.{IsTaken, no-touch-swap}
 use Rattle.law_story.proofs.Coming.{Good, good-asked, good-cuts, good-opening, good-serving, good-turned, nothing, some-option_or, some-then_some}
 use Rattle.law_story.proofs.Every.{IfSome, every-append, every-map}
@@ -14,40 +8,45 @@ use Rattle.law_story.proofs.Opens.{Closes, Open, Sole, failing, is_cut, is_ended
 use Rattle.law_story.proofs.Places.{both_true}
 use Rattle.law_story.proofs.Runs.{NoTouch, Untouched, on_tables, run-beside}
 use Rattle.law_story.specs.Names.{is_unit_of}
+use Rattle.salt_ast.specs.declared.lines.Act.TheVariants.{Call}
+use Rattle.salt_ast.specs.declared.programs.Body.TheVariants.{Acid}
+use Rattle.salt_ast.specs.declared.trees.Statement.{Statement}
+use Rattle.salt_ast.specs.declared.trees.TableDef.{TableDef}
 use Rattle.salt_model.specs.After.{answer_now, branched, kept, reach_now, run_of, tables_after, vars_of}
 use Rattle.salt_model.specs.Honest.{cause_among, cause_in}
 use Rattle.salt_model.specs.Kept.{schema_of}
-use Rattle.salt_model.specs.Locks.{taken_by, taken_in}
-use Rattle.salt_model.specs.Trace.{Trace, from, ◌asks◌, ◌says◌, ◌turns◌}
-use Rattle.salt_model.specs.Units.{answers_of, done_of, is_open, kind_of, open_units, units_begun}
+use Rattle.salt_model.specs.Locks.{taken_by, taken_since}
 use Rattle.salt_model.specs.Next.{decision_in, flight, is_decision, next, said_event}
 use Rattle.salt_model.specs.Openings.{cuts_or_drains, drains, stands_now, to_cut}
 use Rattle.salt_model.specs.Phases.{Fallen, Opening, Phase, Serving, phase}
 use Rattle.salt_model.specs.Played.{IsPlayed}
-use Rattle.salt_model.specs.Segments.{May}
 use Rattle.salt_model.specs.Refusals.{refusal}
+use Rattle.salt_model.specs.Segments.{May}
 use Rattle.salt_model.specs.Statements.{Run, doing, has_failed, run_from, run_on, serial, with_done}
 use Rattle.salt_model.specs.Tables.{Tables}
+use Rattle.salt_model.specs.Trace.{Trace, from, ◌asks◌, ◌says◌, ◌turns◌}
 use Rattle.salt_model.specs.Turns.{fails, next_number}
+use Rattle.salt_model.specs.Units.{answers_of, done_of, is_open, kind_of, open_units, units_begun}
 use Rattle.salt_model.specs.Words.{Every, is_empty}
-use Rattle.salt_values.specs.Id.{has_id}
 use Rattle.salt_model.specs.declared.events.Answer.{Answer}
 use Rattle.salt_model.specs.declared.events.Cause.{Cause}
 use Rattle.salt_model.specs.declared.events.End.TheVariants.{Branched, Committed, Cut}
-use Rattle.salt_model.specs.declared.events.Event.TheVariants.{Began, Defined, Did, Down, Ended, Opened, Waits}
 use Rattle.salt_model.specs.declared.events.Event.{Event}
+use Rattle.salt_model.specs.declared.events.Event.TheVariants.{Began, Defined, Did, Down, Early, Ended, Opened, Waits}
 use Rattle.salt_model.specs.declared.events.Owner.{Owner}
-use Rattle.salt_model.specs.declared.events.UnitKind.TheVariants.{Acid, Call, First, Later}
 use Rattle.salt_model.specs.declared.events.UnitKind.{UnitKind}
+use Rattle.salt_model.specs.declared.events.UnitKind.TheVariants.{Acid, Call, First, Later}
 use Rattle.salt_model.specs.declared.events.Why.{Why}
 use Rattle.salt_model.specs.declared.locks.Family.TheVariants.{Acid}
 use Rattle.salt_model.specs.declared.locks.Reach.{Reach}
 use Rattle.salt_model.specs.declared.shown.BaseAt.TheVariants.{First}
-use Rattle.salt_values.specs.Id.{is_same_id}
+use Rattle.salt_values.specs.Id.{has_id, is_same_id}
 use Rattle.salt_values.specs.declared.id.Id.{Id}
 use Rattle.std.proofs.Common.{ap, inl, inr, subst, sym, ◌∙◌}
+use Rattle.std.specs.Bool.{then_some}
 use Rattle.std.specs.List.{filter, list_all, list_any}
-use Rattle.std.specs.Prelude.{Bool, List, None, Option, Some, [], cond, false, refl, true, ℕ, ◌++◌, ◌==◌, ◌||◌, ◌∷◌, ◌≡◌, ◌⊎◌, option_to_list}
+use Rattle.std.specs.Option.{option_or}
+use Rattle.std.specs.Prelude.{Bool, List, None, Option, Some, [], cond, false, option_to_list, refl, true, ℕ, ⊤, ◌++◌, ◌==◌, ◌||◌, ◌∷◌, ◌≡◌, ◌⊎◌}
 
 -- one statement more, where none has failed
 cause-last : (xs : List Answer) (a : Answer) → cause_among (xs ++ a ∷ []) ≡ None → cause_in a ≡ None
@@ -107,7 +106,7 @@ pub record Ground (trace : Trace) : Type 0 where
   pub sole : phase trace ≡ Opening → Sole trace
 
 -- none is open where no begun unit is
-not-open : (trace : Trace) (u : Id) → open_units trace ≡ [] → has_id u (units_begun trace) ≡ true → Open trace u → ⊥
+pub not-open : (trace : Trace) (u : Id) → open_units trace ≡ [] → has_id u (units_begun trace) ≡ true → Open trace u → ⊥
 not-open trace u none begun o = go (units_begun trace) none begun
   where
     go : (us : List Id) → filter (is_open trace) us ≡ [] → list_any (is_same_id u) us ≡ true → ⊥
@@ -168,16 +167,22 @@ all-right : {A : Type 0} (q : A → Bool) (xs ys : List A) → list_all q (xs ++
 all-right q [] ys h = h
 all-right q (x ∷ xs) ys h = all-right q xs ys (both_true (q x) _ h).1
 
-pub taken-later : (trace : Trace) (e : Event) (u : Id) (r : Reach) → IsTaken trace u r → IsTaken (trace says e) u r
-taken-later trace (Did v st a) u r t q h = t q (all-left q (taken_in trace) (taken_by v (reach_now v trace st)) h)
-taken-later trace e u r t q h = t q h
+-- the event is no early end of an opening, behind which what was taken before counts no longer
+abbrev pub IsNotEarly : Event → Type 0
+IsNotEarly (Early bs) = ⊥
+IsNotEarly e = ⊤
+
+pub taken-later : (trace : Trace) (e : Event) (u : Id) (r : Reach) → IsNotEarly e → IsTaken trace u r → IsTaken (trace says e) u r
+taken-later trace (Did v st a) u r n t q h = t q (all-left q (taken_since trace) (taken_by v (reach_now v trace st)) h)
+taken-later trace (Early bs) u r n t q h = absurd n
+taken-later trace e u r n t q h = t q h
 
 taken-now : (trace : Trace) (u : Id) (st : Statement) (a : Answer) → Every (IsTaken (trace says Did u st a) u) (option_to_list (reach_now u trace st))
 taken-now trace u st a = by (reach_now u trace st) refl
   where
     by : (o : Option Reach) → reach_now u trace st ≡ o → Every (IsTaken (trace says Did u st a) u) (option_to_list o)
     by None e = tt
-    by (Some r) e = ((λ q h. (both_true (q (record { unit = u; reach = r })) true (ap (λ o. list_all q (taken_by u o)) (sym e) ∙ all-right q (taken_in trace) (taken_by u (reach_now u trace st)) h)).0), tt)
+    by (Some r) e = ((λ q h. (both_true (q (record { unit = u; reach = r })) true (ap (λ o. list_all q (taken_by u o)) (sym e) ∙ all-right q (taken_since trace) (taken_by u (reach_now u trace st)) h)).0), tt)
 
 pub any-left : (u : Id) (us vs : List Id) → has_id u us ≡ true → has_id u (us ++ vs) ≡ true
 any-left u [] vs h = cc
@@ -205,13 +210,14 @@ Quiet trace e = (u : Id) → Open trace u → Open (trace says e) u → lasts e 
 
 -- a unit that the event is not of
 each-other : (trace : Trace) (e : Event) (u : Id) → Ground trace → Good trace e → Quiet trace e → Open trace u → Open (trace says e) u → is_unit_of u e ≡ false → Replayed (trace says e) u
+each-other trace (Early bs) u inv g quiet o p other = absurd (not-open trace u g.0 (inv.each u o).begun o)
 each-other trace e u inv g quiet o p other =
     let was = inv.each u o in
     let run = others trace e u inv g o other in
     let reaches : (run_of u trace).reaches ≡ (run_of u (trace says e)).reaches = sym (ap (λ r. r.reaches) run.1) in
     record {
       answers = answers-other trace e u other ∙ was.answers ∙ sym (ap (λ r. r.answers) run.1);
-      taken = subst (Every (IsTaken (trace says e) u)) reaches (every-map (IsTaken trace u) (IsTaken (trace says e) u) (taken-later trace e u) (run_of u trace).reaches was.taken);
+      taken = subst (Every (IsTaken (trace says e) u)) reaches (every-map (IsTaken trace u) (IsTaken (trace says e) u) (λ r t. taken-later trace e u r tt t) (run_of u trace).reaches was.taken);
       causes = ap cause_among (answers-other trace e u other) ∙ was.causes ∙ by (lasts e) refl;
       begun = begun-later trace e u was.begun;
     }
@@ -244,7 +250,7 @@ each-did trace u st a inv g quiet =
     record {
       answers = told ∙ ap (λ x. answers_of u trace ++ x ∷ []) g.1 ∙ ap (λ xs. xs ++ answer_now u trace st ∷ []) was.answers ∙ sym (ap (λ r. r.answers) run);
       taken = subst (Every (IsTaken (trace says Did u st a) u)) (sym (ap (λ r. r.reaches) run))
-          (every-append (IsTaken (trace says Did u st a) u) (run_of u trace).reaches (option_to_list (reach_now u trace st)) (every-map (IsTaken trace u) (IsTaken (trace says Did u st a) u) (taken-later trace (Did u st a) u) (run_of u trace).reaches was.taken) (taken-now trace u st a));
+          (every-append (IsTaken (trace says Did u st a) u) (run_of u trace).reaches (option_to_list (reach_now u trace st)) (every-map (IsTaken trace u) (IsTaken (trace says Did u st a) u) (λ r t. taken-later trace (Did u st a) u r tt t) (run_of u trace).reaches was.taken) (taken-now trace u st a));
       causes = ap cause_among told ∙ cause-more (answers_of u trace) a (was.causes ∙ quiet) ∙ rw (is_same_id-refl u) refl;
       begun = was.begun;
     }

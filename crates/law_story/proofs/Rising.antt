@@ -1,31 +1,31 @@
 -- Continuations stand in the order of the decisions that accepted their programs.
-use Rattle.salt_model.specs.Ends.{kept_with}
-use Rattle.std.proofs.Common.{ap, arith, subst, sym, ◌∙◌}
-use Rattle.std.specs.Prelude.{Bool, List, None, Option, Some, [], cond, false, map, option_and_then, refl, true, ℕ, ◌++◌, ◌+◌, ◌<◌, ◌∷◌, ◌≡◌, ◌≤◌}
-use Rattle.salt_ast.specs.Paths.{Position}
-use Rattle.salt_ast.specs.declared.programs.ProgramDef.{ProgramDef}
 use Rattle.law_story.proofs.Every.{every-append, every-map}
 use Rattle.law_story.proofs.Fresh.{IfComes}
 use Rattle.law_story.proofs.Ids.{is_same_id-refl}
 use Rattle.law_story.proofs.NextFits.{Fits, Flies}
-use Rattle.law_story.proofs.Salted.{OfBoots, holds, may-fit}
+use Rattle.law_story.proofs.Upheld.{OfBoots, holds, may-fit}
+use Rattle.salt_ast.specs.Paths.{Position}
+use Rattle.salt_ast.specs.declared.programs.ProgramDef.{ProgramDef}
 use Rattle.salt_model.specs.After.{branched, conts_at, kept, run_of}
 use Rattle.salt_model.specs.Continuing.{IsFirstAccepted}
+use Rattle.salt_model.specs.Ends.{kept_with}
 use Rattle.salt_model.specs.Kept.{Kept, Rise, begun_cont, branch_of, change_cont, cont_in, cont_of, kept_program, moved, then_of, tries_left, values_kept, without_cont}
+use Rattle.salt_model.specs.Played.{IsPlayed}
 use Rattle.salt_model.specs.Trace.{Trace, from, start_of, ◌asks◌, ◌says◌, ◌turns◌}
 use Rattle.salt_model.specs.Units.{kind_of}
-use Rattle.salt_model.specs.Played.{IsPlayed}
 use Rattle.salt_model.specs.Words.{Every, first_of_list}
 use Rattle.salt_model.specs.declared.events.End.TheVariants.{Branched, Committed}
-use Rattle.salt_model.specs.declared.events.Event.TheVariants.{Defined, Ended}
 use Rattle.salt_model.specs.declared.events.Event.{Event}
-use Rattle.salt_model.specs.declared.events.UnitKind.TheVariants.{Acid, Call, First, Later}
+use Rattle.salt_model.specs.declared.events.Event.TheVariants.{Defined, Ended}
 use Rattle.salt_model.specs.declared.events.UnitKind.{UnitKind}
+use Rattle.salt_model.specs.declared.events.UnitKind.TheVariants.{Acid, Call, First, Later}
 use Rattle.salt_model.specs.declared.vars.Binding.{Binding}
 use Rattle.salt_values.specs.Id.{is_same_id}
 use Rattle.salt_values.specs.declared.cont.Cont.{Cont}
 use Rattle.salt_values.specs.declared.id.Id.{Id}
 use Rattle.salt_values.specs.declared.value.Value.{Value}
+use Rattle.std.proofs.Common.{ap, arith, subst, sym, ◌∙◌}
+use Rattle.std.specs.Prelude.{Bool, List, None, Option, Some, [], cond, false, map, option_and_then, refl, true, ℕ, ◌++◌, ◌+◌, ◌<◌, ◌∷◌, ◌≡◌, ◌≤◌}
 
 -- b was accepted after a
 abbrev After : Cont → Cont → Type 0
@@ -121,7 +121,7 @@ branches-rise trace u n o e h = subst (λ m. Rises (branched (kept trace) m o)) 
 rises-step : (trace : Trace) (e : Event) → Fits trace e → Rises (kept trace) → Rises (kept (trace says e))
 rises-step trace (Ended u (Committed n)) f h = ends-rise trace u n f.1 h
 rises-step trace (Ended u (Branched n c)) f h = branches-rise trace u n (kind_of u trace) f.1 h
-rises-step trace (Defined n text) f h = subst (λ m. Rise m (kept trace).conts) (sym f) (rise-up (kept trace).decisions (kept trace).conts h)
+rises-step trace (Defined n text) f h = subst (λ m. Rise m (kept trace).conts) (sym f.0) (rise-up (kept trace).decisions (kept trace).conts h)
 rises-step trace e f h = h
 
 pub rises : (trace : Trace) → IsPlayed trace → OfBoots (start_of trace).kept → Rises (start_of trace).kept → Rises (kept trace)
@@ -135,7 +135,7 @@ pub rises-with : (trace : Trace) (o : Option Event) → IfComes (Flies trace) o 
 rises-with trace None g h = h
 rises-with trace (Some (Ended u (Committed n))) g h = ends-rise trace u n g.1 h
 rises-with trace (Some (Ended u (Branched n c))) g h = branches-rise trace u n (kind_of u trace) g.1 h
-rises-with trace (Some (Defined n text)) g h = subst (λ m. Rise m (kept trace).conts) (sym g) (rise-up (kept trace).decisions (kept trace).conts h)
+rises-with trace (Some (Defined n text)) g h = subst (λ m. Rise m (kept trace).conts) (sym g.0) (rise-up (kept trace).decisions (kept trace).conts h)
 rises-with trace (Some e) g h = absurd g
 
 -- the first continuation is that of the first accepted program

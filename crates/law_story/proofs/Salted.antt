@@ -1,67 +1,42 @@
 -- The laws of isolation, for all played traces, stops and openings included.
-use Rattle.std.specs.Option.{option_or}
+use Rattle.law_story.proofs.BaseTables.{Based, based}
+use Rattle.law_story.proofs.Defined.{AreDefined}
 use Rattle.law_story.proofs.Fresh.{IfComes}
+use Rattle.law_story.proofs.Hiding.{Hides, hides}
 use Rattle.law_story.proofs.Ids.{is_same_id-true}
-use Rattle.law_story.proofs.Lists.{In, either, has-in, in-has, or_cases}
-use Rattle.law_story.proofs.NextFits.{Comes, Fits, Flies, IsAfterFinished, fits-asked, fits-opened, fits-says, fits-turns, flies-next}
+use Rattle.law_story.proofs.Lists.{either, has-in, in-has, or_cases}
+use Rattle.law_story.proofs.NextFits.{Comes, Fits, IsAfterFinished}
 use Rattle.law_story.proofs.Reading.{Covered, ReadOk, Salty, salty-step}
-use Rattle.law_story.proofs.Sound.{Sound, sound-step}
-use Rattle.salt_model.specs.After.{kept}
+use Rattle.law_story.proofs.Sound.{Sound}
+use Rattle.law_story.proofs.Unreleased.{whole-did}
+use Rattle.law_story.proofs.Upheld.{OfBoots, comes-at, holds, may-fit, may-open}
 use Rattle.salt_model.specs.Continuing.{last_said}
-use Rattle.salt_model.specs.Releasing.{ReleasesDue, due_after, released_by}
-use Rattle.salt_model.specs.Isolation.{IsChain, IsSalted, ReadsReleased, is_linked, is_program_released, is_same_program, read_by}
-use Rattle.salt_model.specs.Kept.{Kept}
-use Rattle.salt_model.specs.Trace.{Asked, Trace, Start, from, start_of, ◌asks◌, ◌says◌, ◌turns◌}
-use Rattle.salt_model.specs.Programs.{released_in}
-use Rattle.salt_model.specs.Units.{program_of}
-use Rattle.salt_model.specs.Next.{decision_in, flight, next, said_event}
+use Rattle.salt_model.specs.Everywhere.{Each}
+use Rattle.salt_model.specs.Isolation.{IsChain, IsSalted, IsWhole, ReadsReleased, is_linked, is_program_released, is_same_program, read_by}
+use Rattle.salt_model.specs.Next.{next, said_event}
 use Rattle.salt_model.specs.Phases.{Fallen, Opening, Phase, Serving, phase}
 use Rattle.salt_model.specs.Played.{IsPlayed}
-use Rattle.salt_model.specs.Segments.{May}
-use Rattle.salt_model.specs.Stops.{MayFall, MayOpen, is_at_devices, is_device_next}
-use Rattle.salt_model.specs.Everywhere.{Each}
+use Rattle.salt_model.specs.Programs.{released_in}
 use Rattle.salt_model.specs.Reads.{Written, to_release}
+use Rattle.salt_model.specs.Releasing.{ReleasesDue, due_after, released_by}
+use Rattle.salt_model.specs.Segments.{May}
+use Rattle.salt_model.specs.Stops.{MayFall, is_at_devices, is_device_next}
+use Rattle.salt_model.specs.Trace.{Asked, Start, Trace, from, start_of, ◌asks◌, ◌says◌, ◌turns◌}
 use Rattle.salt_model.specs.Turns.{releases, settle}
-use Rattle.salt_values.specs.Id.{has_id}
-use Rattle.salt_model.specs.declared.events.End.TheVariants.{Branched, Committed}
-use Rattle.salt_model.specs.declared.events.Event.TheVariants.{Defined, Did, Down, Ended, Finished, Opened, Released}
+use Rattle.salt_model.specs.Units.{program_of}
 use Rattle.salt_model.specs.declared.events.Event.{Event}
+use Rattle.salt_model.specs.declared.events.Event.TheVariants.{Did, Down, Finished, Opened, Released}
 use Rattle.salt_model.specs.declared.events.Why.{Why}
 use Rattle.salt_model.specs.declared.shown.BaseAt.TheVariants.{Finished}
-use Rattle.salt_values.specs.declared.cont.Cont.{Cont}
+use Rattle.salt_values.specs.Id.{has_id}
 use Rattle.salt_values.specs.declared.id.Id.{Id}
 use Rattle.std.proofs.Common.{ap, subst, sym, ◌∙◌}
 use Rattle.std.specs.List.{list_all}
-use Rattle.std.specs.Prelude.{List, None, Option, Some, [], is_none, map, refl, true, ℕ, ◌<◌, ◌∷◌, ◌≡◌, ◌≤◌}
-
--- the programs that go on from a start are of its boots
-abbrev pub OfBoots : Kept → Type 0
-OfBoots k = (b : Id) → In b (map (λ (c : Cont). c.base) k.conts) → b.boot ≤ k.boot
-
-sound-start : (k : Start) → OfBoots k.kept → Sound (from k)
-sound-start k w = record {
-  known = λ u o. cc;
-  older = λ u o. cc;
-  old_units = λ b u p. cc;
-  old_conts = λ b i. w b i;
-  old_dead = λ b d. absurd (either (λ i. i) (λ i. i) d);
-  old_programs = λ b i. w b i;
-  one = λ b u v o p. cc;
-  alive = λ b u o. cc;
-  goes_on = λ b i d. either (λ i. i) (λ i. i) d;
-  quiet = λ b j. absurd j;
-  drains = λ p. cc;
-  drained = λ p. cc;
-}
+use Rattle.std.specs.Option.{option_or}
+use Rattle.std.specs.Prelude.{List, None, Option, Some, [], is_none, not, refl, true, ◌∷◌, ◌≡◌}
 
 salty-start : (k : Start) → Salty (from k)
-salty-start k = record { written = λ w h. absurd h; reads = λ u v h. absurd h; reads_in = λ b c h. absurd h; closed = λ b c r h. absurd h }
-
-sound-asks : (trace : Trace) (asked : Asked) → Sound trace → Sound (trace asks asked)
-sound-asks trace asked s = record { known = s.known; older = s.older; old_units = s.old_units; old_conts = s.old_conts; old_dead = s.old_dead; one = s.one; alive = s.alive; goes_on = s.goes_on; quiet = s.quiet; old_programs = s.old_programs; drains = s.drains; drained = s.drained }
-
-sound-turns : (trace : Trace) (b : Id) → Sound trace → Sound (trace turns b)
-sound-turns trace b s = record { known = s.known; older = s.older; old_units = s.old_units; old_conts = s.old_conts; old_dead = s.old_dead; one = s.one; alive = s.alive; goes_on = s.goes_on; quiet = s.quiet; old_programs = s.old_programs; drains = s.drains; drained = s.drained }
+salty-start k = record { written = λ w h. absurd h; reads = λ u v h. absurd h; closed = λ b c r h. absurd h }
 
 covered-asks : (trace : Trace) (asked : Asked) (w : Written) → Covered trace w → Covered (trace asks asked) w
 covered-asks trace asked w c = record { committed = c.committed; kind_known = c.kind_known; taken = c.taken }
@@ -82,51 +57,10 @@ ok-turns trace b (Some x) None h = h
 ok-turns trace b (Some x) (Some c) h = h
 
 salty-asks : (trace : Trace) (asked : Asked) → Salty trace → Salty (trace asks asked)
-salty-asks trace asked z = record { written = λ w h. covered-asks trace asked w (z.written w h); reads = λ u v h. let r = z.reads u v h in record { reader_known = r.reader_known; writer_known = r.writer_known; fits = ok-asks trace asked (program_of u trace) (program_of v trace) r.fits }; reads_in = z.reads_in; closed = z.closed }
+salty-asks trace asked z = record { written = λ w h. covered-asks trace asked w (z.written w h); reads = λ u v h. let r = z.reads u v h in record { reader_known = r.reader_known; writer_known = r.writer_known; fits = ok-asks trace asked (program_of u trace) (program_of v trace) r.fits }; closed = z.closed }
 
 salty-turns : (trace : Trace) (b : Id) → Salty trace → Salty (trace turns b)
-salty-turns trace b z = record { written = λ w h. covered-turns trace b w (z.written w h); reads = λ u v h. let r = z.reads u v h in record { reader_known = r.reader_known; writer_known = r.writer_known; fits = ok-turns trace b (program_of u trace) (program_of v trace) r.fits }; reads_in = z.reads_in; closed = z.closed }
-
--- all of it, at a place
-pub record Upheld (trace : Trace) : Type 0 where
-  pub sound : Sound trace
-  pub salty : Salty trace
-  pub comes : IfComes (Comes trace) (next trace)
-  pub flies : IfComes (Flies trace) (flight trace)
-
-pub may-open : (p : Phase) (trace : Trace) (boot n : ℕ) → MayOpen p trace boot n → (p ≡ Fallen) × ((kept trace).boot < boot)
-may-open Fallen trace boot n m = (refl, m.0)
-may-open Opening trace boot n m = absurd m
-may-open Serving trace boot n m = absurd m
-
-pub comes-at : (trace : Trace) (e : Event) → IfComes (Comes trace) (next trace) → next trace ≡ Some e → Comes trace e
-comes-at trace e c h = subst (IfComes (Comes trace)) h c
-
-pub may-fit : (trace : Trace) (e : Event) → IfComes (Comes trace) (next trace) → May trace e → Fits trace e
-may-fit trace (Down why) c m = tt
-may-fit trace (Opened boot n) c m = may-open (phase trace) trace boot n m
-may-fit trace e c m = (comes-at trace e c m).0
-
-flies-down : (trace : Trace) (why : Why) (o : Option Event) → IfComes (Flies trace) o → IfComes (Flies (trace says Down why)) o
-flies-down trace why None h = tt
-flies-down trace why (Some (Ended u (Committed m))) h = h
-flies-down trace why (Some (Ended u (Branched m c))) h = h
-flies-down trace why (Some (Defined m text)) h = h
-flies-down trace why (Some e) h = absurd h
-
-with-next : (trace : Trace) → Sound trace → Salty trace → IfComes (Comes trace) (next trace) → flight trace ≡ decision_in (next trace) → Upheld trace
-with-next trace s z c e = record { sound = s; salty = z; comes = c; flies = subst (IfComes (Flies trace)) (sym e) (flies-next trace (next trace) c) }
-
-held-says : (trace : Trace) (e : Event) → Upheld trace → Fits trace e → Upheld (trace says e)
-held-says trace (Down why) h f = record { sound = sound-step trace (Down why) h.sound f; salty = salty-step trace (Down why) h.sound h.salty f; comes = tt; flies = flies-down trace why (flight trace) h.flies }
-held-says trace (Opened boot n) h f = with-next (trace says Opened boot n) (sound-step trace (Opened boot n) h.sound f) (salty-step trace (Opened boot n) h.sound h.salty f) (fits-opened trace boot n h.flies) refl
-held-says trace e h f = let s = sound-step trace e h.sound f in with-next (trace says e) s (salty-step trace e h.sound h.salty f) (fits-says trace e s.drains) refl
-
-pub holds : (trace : Trace) → IsPlayed trace → OfBoots (start_of trace).kept → Upheld trace
-holds (from k) p w = record { sound = sound-start k w; salty = salty-start k; comes = tt; flies = tt }
-holds (trace asks asked) p w = let r = holds trace p.0 w in with-next (trace asks asked) (sound-asks trace asked r.sound) (salty-asks trace asked r.salty) (fits-asked trace asked p.1.0) refl
-holds (trace turns b) p w = let r = holds trace p.0 w in with-next (trace turns b) (sound-turns trace b r.sound) (salty-turns trace b r.salty) (fits-turns trace b p.1) refl
-holds (trace says e) p w = let r = holds trace p.0 w in held-says trace e r (may-fit trace e r.comes p.1)
+salty-turns trace b z = record { written = λ w h. covered-turns trace b w (z.written w h); reads = λ u v h. let r = z.reads u v h in record { reader_known = r.reader_known; writer_known = r.writer_known; fits = ok-turns trace b (program_of u trace) (program_of v trace) r.fits }; closed = z.closed }
 
 -- chains of readers
 
@@ -154,9 +88,9 @@ acid-good : (trace : Trace) (p : Option Id) → is_none p ≡ true → is_progra
 acid-good trace None h = refl
 acid-good trace (Some b) h = cc
 
-salted-at : (trace : Trace) (e : Event) → Sound trace → Salty trace → Fits trace e → ReadsReleased trace e
-salted-at trace (Did a st answer) s z f = λ acid chain c. good-chain (trace says Did a st answer) a chain (salty-step trace (Did a st answer) s z f) c (acid-good trace (program_of a trace) acid)
-salted-at trace e s z f = tt
+salted-at : (trace : Trace) (e : Event) → Sound trace → Salty trace → Hides trace → Based trace → Fits trace e → ReadsReleased trace e
+salted-at trace (Did a st answer) s z k b f = λ acid chain c. good-chain (trace says Did a st answer) a chain (salty-step trace (Did a st answer) s z k b f) c (acid-good trace (program_of a trace) acid)
+salted-at trace e s z k b f = tt
 
 -- releases and paths
 
@@ -240,27 +174,32 @@ due-at trace (Down why) p c m = due-falls trace why p c m
 due-at trace (Opened boot n) p c m = let f : phase trace ≡ Fallen = (may-open (phase trace) trace boot n m).0 in ap releases (due-not (phase trace) trace (last_said trace) (λ s. cc))
 due-at trace e p c m = due-comes trace e p (comes-at trace e c m).0 m
 
+-- what is read holds at each place
+pub salty : (trace : Trace) → IsPlayed trace → OfBoots (start_of trace).kept → AreDefined (start_of trace).kept (start_of trace).kept.conts → Salty trace
+salty (from k) p w d = salty-start k
+salty (trace asks asked) p w d = salty-asks trace asked (salty trace p.0 w d)
+salty (trace turns b) p w d = salty-turns trace b (salty trace p.0 w d)
+salty (trace says e) p w d = let r = holds trace p.0 w in salty-step trace e r.sound (salty trace p.0 w d) (hides trace p.0 w) (based trace p.0 w d) (may-fit trace e r.comes p.1)
+
 -- the laws at an event
-abbrev Laws : Trace → Event → Type 0
-Laws trace e = ReadsReleased trace e × ReleasesDue trace e
+pub salted-played : (trace : Trace) → IsPlayed trace → OfBoots (start_of trace).kept → AreDefined (start_of trace).kept (start_of trace).kept.conts → IsSalted trace
+salted-played (from k) p w d = tt
+salted-played (trace asks asked) p w d = salted-played trace p.0 w d
+salted-played (trace turns b) p w d = salted-played trace p.0 w d
+salted-played (trace says e) p w d = let r = holds trace p.0 w in (salted-played trace p.0 w d, salted-at trace e r.sound (salty trace p.0 w d) (hides trace p.0 w) (based trace p.0 w d) (may-fit trace e r.comes p.1))
 
-laws : (trace : Trace) → IsPlayed trace → OfBoots (start_of trace).kept → Each Laws trace
-laws (from k) p w = tt
-laws (trace asks asked) p w = laws trace p.0 w
-laws (trace turns b) p w = laws trace p.0 w
-laws (trace says e) p w =
-    let r = holds trace p.0 w in
-    let f = may-fit trace e r.comes p.1 in
-    (laws trace p.0 w, (salted-at trace e r.sound r.salty f, due-at trace e p.0 r.comes p.1))
-
-pub each : (P Q : Trace → Event → Type 0) → ((trace : Trace) (e : Event) → P trace e → Q trace e) → (trace : Trace) → Each P trace → Each Q trace
-each P Q f (from k) h = tt
-each P Q f (trace asks asked) h = each P Q f trace h
-each P Q f (trace turns b) h = each P Q f trace h
-each P Q f (trace says e) h = (each P Q f trace h.0, f trace e h.1)
-
-pub salted-played : (trace : Trace) → IsPlayed trace → OfBoots (start_of trace).kept → IsSalted trace
-salted-played trace p w = each Laws ReadsReleased (λ l e r. r.0) trace (laws trace p w)
+-- what an ACID unit touches of a program's open and committed parts, it touches when the program is released
+pub whole-played : (trace : Trace) → IsPlayed trace → OfBoots (start_of trace).kept → AreDefined (start_of trace).kept (start_of trace).kept.conts → IsWhole trace
+whole-played (from k) p w d = tt
+whole-played (trace asks asked) p w d = whole-played trace p.0 w d
+whole-played (trace turns b) p w d = whole-played trace p.0 w d
+whole-played (trace says Did a st answer) p w d =
+    let f = may-fit trace (Did a st answer) (holds trace p.0 w).comes p.1 in
+    (whole-played trace p.0 w d, λ acid. ap not (whole-did trace a st (hides trace p.0 w) (based trace p.0 w d) acid (f.2 acid)))
+whole-played (trace says e) p w d = (whole-played trace p.0 w d, tt)
 
 pub due-played : (trace : Trace) → IsPlayed trace → OfBoots (start_of trace).kept → Each ReleasesDue trace
-due-played trace p w = each Laws ReleasesDue (λ l e r. r.1) trace (laws trace p w)
+due-played (from k) p w = tt
+due-played (trace asks asked) p w = due-played trace p.0 w
+due-played (trace turns b) p w = due-played trace p.0 w
+due-played (trace says e) p w = (due-played trace p.0 w, due-at trace e p.0 (holds trace p.0 w).comes p.1)

@@ -1,44 +1,44 @@
 -- What holds at each place of a run while it serves: whose units are open, which names are taken, which programs are over.
-use Rattle.std.specs.Bool.{then_some}
-use Rattle.std.specs.Option.{option_or}
-use Rattle.salt_ast.specs.declared.lines.Act.TheVariants.{Call}
-use Rattle.salt_ast.specs.declared.programs.Body.TheVariants.{Acid}
-use Rattle.salt_ast.specs.Paths.{Position}
-use Rattle.salt_ast.specs.declared.programs.ProgramDef.{ProgramDef}
 use Rattle.law_story.proofs.Fresh.{or_left, or_right, standing-new}
 use Rattle.law_story.proofs.HeldLocks.{boot-branched}
 use Rattle.law_story.proofs.Ids.{is_same_id-refl, is_same_id-true}
-use Rattle.law_story.proofs.Lists.{In, either, in-cases, in-left, in-order, in-right, in-shrink, in-without, into-filter, or_cases, order-none}
+use Rattle.law_story.proofs.Lists.{In, either, in-cases, in-has, in-left, in-order, in-right, in-shrink, in-without, into-filter, into-order, or_cases, order-none}
 use Rattle.law_story.proofs.NextFits.{Drains, Fits, FitsKind, IsAcceptance, IsLastEnd, is_first_of}
 use Rattle.law_story.specs.Names.{is_named, is_unit_of}
+use Rattle.salt_ast.specs.Paths.{Position}
+use Rattle.salt_ast.specs.declared.lines.Act.TheVariants.{Call}
+use Rattle.salt_ast.specs.declared.programs.Body.TheVariants.{Acid}
+use Rattle.salt_ast.specs.declared.programs.ProgramDef.{ProgramDef}
 use Rattle.salt_model.specs.After.{branched, conts_at, kept, run_of}
 use Rattle.salt_model.specs.Continuing.{last_said, part_due, program_continued}
 use Rattle.salt_model.specs.Isolation.{is_committed_standing}
 use Rattle.salt_model.specs.Kept.{Kept, begun_cont, branch_of, change_cont, cont_in, cont_of, conts_branched, conts_committed, kept_program, moved, then_of, tries_left, values_kept, without_cont}
-use Rattle.salt_model.specs.Trace.{Trace, from, ◌asks◌, ◌says◌, ◌turns◌}
-use Rattle.salt_model.specs.Programs.{finished_in, programs_in, released_in}
-use Rattle.salt_model.specs.Units.{Never, Over, Running, Waiting, base_count, is_of_program, is_open, is_open_standing, kind_begun, kind_of, open_units, program_of, program_of_kind, program_unit, standing, unit_count, units_begun}
 use Rattle.salt_model.specs.Phases.{Fallen, Opening, Phase, Serving, phase}
-use Rattle.salt_model.specs.Reads.{reads_within, to_release}
+use Rattle.salt_model.specs.Programs.{finished_in, freed_by, left_out, passed_in, programs_in, released_in, shares}
+use Rattle.salt_model.specs.Reads.{reads_within, releasable, to_release}
+use Rattle.salt_model.specs.Trace.{Trace, from, ◌asks◌, ◌says◌, ◌turns◌}
 use Rattle.salt_model.specs.Turns.{fresh_base, fresh_unit}
+use Rattle.salt_model.specs.Units.{Never, Over, Running, Waiting, base_count, is_of_program, is_open, is_open_standing, kind_begun, kind_of, open_units, program_of, program_of_kind, program_unit, standing, unit_count, units_begun}
 use Rattle.salt_model.specs.Waiting.{is_acid}
 use Rattle.salt_model.specs.Words.{first_of_list}
-use Rattle.salt_model.specs.declared.events.End.TheVariants.{Branched, Committed}
 use Rattle.salt_model.specs.declared.events.End.{End}
-use Rattle.salt_model.specs.declared.events.Event.TheVariants.{Accepted, Began, Did, Down, Ended, Finished, Opened, Ready, Released, Waits}
+use Rattle.salt_model.specs.declared.events.End.TheVariants.{Branched, Committed}
 use Rattle.salt_model.specs.declared.events.Event.{Event}
-use Rattle.salt_model.specs.declared.events.UnitKind.TheVariants.{Acid, Call, First, Later}
+use Rattle.salt_model.specs.declared.events.Event.TheVariants.{Accepted, Began, Did, Down, Early, Ended, Finished, Opened, Ready, Released, Waits}
 use Rattle.salt_model.specs.declared.events.UnitKind.{UnitKind}
+use Rattle.salt_model.specs.declared.events.UnitKind.TheVariants.{Acid, Call, First, Later}
 use Rattle.salt_model.specs.declared.locks.Family.TheVariants.{Acid}
 use Rattle.salt_model.specs.declared.shown.BaseAt.TheVariants.{Finished, First}
 use Rattle.salt_model.specs.declared.vars.Binding.{Binding}
-use Rattle.salt_values.specs.Id.{is_older, is_same_id}
+use Rattle.salt_values.specs.Id.{has_id, is_older, is_same_id, without}
 use Rattle.salt_values.specs.declared.cont.Cont.{Cont}
 use Rattle.salt_values.specs.declared.id.Id.{Id}
 use Rattle.salt_values.specs.declared.value.Value.{Value}
 use Rattle.std.proofs.Common.{ap, arith, inl, inr, subst, sym, ◌∙◌}
 use Rattle.std.proofs.lemmas.Bool.Decides.{nat_tests}
+use Rattle.std.specs.Bool.{then_some}
 use Rattle.std.specs.List.{filter}
+use Rattle.std.specs.Option.{option_or}
 use Rattle.std.specs.Prelude.{Bool, List, None, Option, Some, [], cond, false, is_some, map, nat_lt, option_and_then, option_map, refl, true, ℕ, ◌++◌, ◌+◌, ◌<◌, ◌∷◌, ◌≡◌, ◌≤◌, ◌⊎◌}
 
 -- numbers of names
@@ -127,9 +127,20 @@ kind-some trace e u h = go (kind_begun u e)
     go None = h
     go (Some k) = refl
 
+pub freed-passed : (bs : List Id) (trace : Trace) (b : Id) → In b (freed_by bs trace) → In b (passed_in trace)
+freed-passed bs (from k) b h = h
+freed-passed bs (trace asks asked) b h = freed-passed bs trace b h
+freed-passed bs (trace turns c) b h = freed-passed bs trace b h
+freed-passed bs (trace says Early names) b h = go (shares names bs) h (freed-passed bs trace b)
+  where
+    go : (t : Bool) → In b (cond t (without names (programs_in trace) ++ freed_by bs trace) (freed_by bs trace)) → (In b (freed_by bs trace) → In b (passed_in trace)) → In b (passed_in trace ++ without names (programs_in trace))
+    go true g more = either (λ i. in-right b (passed_in trace) _ i) (λ i. in-left b (passed_in trace) _ (more i)) (in-cases b (without names (programs_in trace)) (freed_by bs trace) g)
+    go false g more = in-left b (passed_in trace) _ (more g)
+freed-passed bs (trace says e) b h = freed-passed bs trace b h
+
 -- programs that are over
 abbrev pub Dead : Trace → Id → Type 0
-Dead trace b = In b (finished_in trace) ⊎ In b (released_in trace)
+Dead trace b = In b (finished_in trace) ⊎ (In b (released_in trace) ⊎ In b (passed_in trace))
 
 abbrev pub bases_in : Trace → List Id
 bases_in trace = map (λ c. c.base) (kept trace).conts
@@ -225,6 +236,7 @@ older-says trace (Ended u end) v f h = subst (λ b. OldAt (phase trace) v (recor
 older-says trace (Down why) v f h = old-fallen (phase trace) v (fresh_unit trace) h
 older-says trace (Opened boot n) v f h = let l : v.boot ≤ (kept trace).boot = old-fallen (phase trace) v (fresh_unit trace) h in let g : (kept trace).boot < boot = f.1 in boot-older v boot (0 + 1) (omega arith)
 older-says trace Ready v f h = subst (λ p. OldAt p v (fresh_unit trace)) f.0 h
+older-says trace (Early bs) v f h = subst (λ p. OldAt p v (fresh_unit trace)) f.0 h
 older-says trace e v f h = h
 
 pub old-says : (trace : Trace) (e : Event) (b : Id) → Fits trace e → Old trace b → Old (trace says e) b
@@ -234,6 +246,7 @@ old-says trace (Ended u end) b f h = subst (λ x. OldAt (phase trace) b (record 
 old-says trace (Down why) b f h = old-fallen (phase trace) b (fresh_base trace) h
 old-says trace (Opened boot n) b f h = let l : b.boot ≤ (kept trace).boot = old-fallen (phase trace) b (fresh_base trace) h in let g : (kept trace).boot < boot = f.1 in boot-older b boot (0 + 1) (omega arith)
 old-says trace Ready b f h = subst (λ p. OldAt p b (fresh_base trace)) f.0 h
+old-says trace (Early bs) b f h = subst (λ p. OldAt p b (fresh_base trace)) f.0 h
 old-says trace e b f h = h
 
 older-step : (trace : Trace) (e : Event) → Sound trace → Fits trace e → (v : Id) → is_named v (trace says e) ≡ true → Named (trace says e) v
@@ -358,8 +371,11 @@ conts-back trace u end b h = inl h
 
 -- programs that are over
 
+pub releasable-finished : (trace : Trace) (b : Id) → In b (releasable trace) → In b (finished_in trace)
+releasable-finished trace b h = (in-without b (released_in trace) (finished_in trace) (in-order b _ (in-shrink (reads_within trace) _ b _ h))).0
+
 pub to_release-finished : (trace : Trace) (b : Id) → In b (to_release trace) → In b (finished_in trace)
-to_release-finished trace b h = (in-without b (released_in trace) (finished_in trace) (in-order b _ (in-shrink (reads_within trace) _ b _ h))).0
+to_release-finished trace b h = releasable-finished trace b (in-without b (left_out trace) (releasable trace) h).0
 
 pub continued-of : (o : Option UnitKind) (b : Id) → option_and_then program_continued o ≡ Some b → option_and_then program_of_kind o ≡ Some b
 continued-of (Some (Later c part)) b h = h
@@ -374,17 +390,27 @@ last-just trace b (Some (Ended u (Branched n c))) h = (of-program trace u b (con
 last-just trace b (Some (Accepted c)) h = (h.0, h.1)
 last-just trace b o h = absurd h
 
-dead-back : (trace : Trace) (e : Event) (b : Id) → (e ≡ Ready → ⊥) → Fits trace e → Dead (trace says e) b → Dead trace b ⊎ (e ≡ Finished b)
-dead-back trace (Finished c) b r f (inl h) = either (λ i. inl (inl i)) (λ o. inr (ap Finished (one-of o))) (in-cases b (finished_in trace) (c ∷ []) h)
+pub dead-back : (trace : Trace) (e : Event) (b : Id) → (e ≡ Ready → ⊥) → ((bs : List Id) → e ≡ Early bs → ⊥) → Fits trace e → Dead (trace says e) b → Dead trace b ⊎ (e ≡ Finished b)
+dead-back trace (Finished c) b r y f (inl h) = either (λ i. inl (inl i)) (λ o. inr (ap Finished (one-of o))) (in-cases b (finished_in trace) (c ∷ []) h)
   where
     one-of : In b (c ∷ []) → c ≡ b
     one-of (inl e) = e
     one-of (inr e) = absurd e
-dead-back trace (Finished c) b r f (inr h) = inl (inr h)
-dead-back trace (Released bs) b r f (inl h) = inl (inl h)
-dead-back trace (Released bs) b r f (inr h) = inl (either (λ i. inr i) (λ i. inl (to_release-finished trace b (subst (In b) f.0 i))) (in-cases b (released_in trace) bs h))
-dead-back trace Ready b r f h = absurd (r refl)
-dead-back trace e b r f h = inl h
+dead-back trace (Finished c) b r y f (inr h) = inl (inr h)
+dead-back trace (Released bs) b r y f (inl h) = inl (inl h)
+dead-back trace (Released bs) b r y f (inr (inl h)) =
+    inl (either (λ i. inr (inr (freed-passed bs trace b i))) (λ i. either (λ j. inr (inl j)) (λ j. inl (to_release-finished trace b (subst (In b) f.0 j))) (in-cases b (released_in trace) bs i)) (in-cases b (freed_by bs trace) _ h))
+dead-back trace (Released bs) b r y f (inr (inr h)) = inl (inr (inr h))
+dead-back trace Ready b r y f h = absurd (r refl)
+dead-back trace (Early bs) b r y f h = absurd (y bs refl)
+dead-back trace e b r y f h = inl h
+
+-- an early end of an opening names the programs that go on
+pub bases-named : (trace : Trace) (bs : List Id) → Fits trace (Early bs) → (b : Id) → In b (bases_in trace) → In b bs
+bases-named trace bs f b i = subst (In b) (sym f.1) (into-order b (bases_in trace) i)
+
+pub named-bases : (trace : Trace) (bs : List Id) → Fits trace (Early bs) → (b : Id) → In b bs → In b (bases_in trace)
+named-bases trace bs f b i = in-order b (bases_in trace) (subst (In b) f.1 i)
 
 -- the steps
 
@@ -424,10 +450,14 @@ dead-says trace e b s f h = either (λ d. old-says trace e b f (s.old_dead b d))
 
 old_dead-step : (trace : Trace) (e : Event) → Sound trace → Fits trace e → (b : Id) → Dead (trace says e) b → Old (trace says e) b
 old_dead-step trace Ready s f b (inl h) = old-says trace Ready b f (s.old_dead b (inl h))
-old_dead-step trace Ready s f b (inr h) = old-says trace Ready b f (either (λ r. s.old_dead b (inr r)) (λ p. s.old_programs b p) (in-cases b (released_in trace) (programs_in trace) h))
-old_dead-step trace e s f b h = dead-says trace e b s f (dead-back trace e b (λ g. cc) f h)
+old_dead-step trace Ready s f b (inr (inl h)) = old-says trace Ready b f (either (λ r. s.old_dead b (inr (inl r))) (λ p. s.old_programs b p) (in-cases b (released_in trace) (programs_in trace) h))
+old_dead-step trace Ready s f b (inr (inr h)) = old-says trace Ready b f (s.old_dead b (inr (inr h)))
+old_dead-step trace (Early bs) s f b (inl h) = old-says trace (Early bs) b f (s.old_dead b (inl h))
+old_dead-step trace (Early bs) s f b (inr (inl h)) = old-says trace (Early bs) b f (s.old_dead b (inr (inl h)))
+old_dead-step trace (Early bs) s f b (inr (inr h)) = old-says trace (Early bs) b f (either (λ r. s.old_dead b (inr (inr r))) (λ p. s.old_programs b (in-without b bs (programs_in trace) p).0) (in-cases b (passed_in trace) _ h))
+old_dead-step trace e s f b h = dead-says trace e b s f (dead-back trace e b (λ g. cc) (λ bs g. cc) f h)
 
-programs-began : (trace : Trace) (u : Id) (kind : UnitKind) (b : Id) → In b (programs_in (trace says Began u kind)) → In b (programs_in trace) ⊎ (program_of_kind kind ≡ Some b)
+pub programs-began : (trace : Trace) (u : Id) (kind : UnitKind) (b : Id) → In b (programs_in (trace says Began u kind)) → In b (programs_in trace) ⊎ (program_of_kind kind ≡ Some b)
 programs-began trace u kind b h = go (program_of_kind kind) h
   where
     single : (c : Id) → In b (c ∷ []) → c ≡ b
@@ -466,19 +496,30 @@ none-open trace s f v o = either older goes (s.drained f.0 v o)
     goes : (b : Id) × (is_of_program b trace v ≡ true) × In b (bases_in trace) → ⊥
     goes r = subst (λ (cs : List Cont). In r.0 (map (λ (c : Cont). c.base) cs)) f.1 r.2
 
+-- nor at an early end of an opening
+pub none-open-early : (trace : Trace) (bs : List Id) → Sound trace → Fits trace (Early bs) → (v : Id) → is_open trace v ≡ true → ⊥
+none-open-early trace bs s f v o = subst (In v) f.3 (into-filter (is_open trace) v (units_begun trace) (kind-in trace v (s.known v o)) o)
+
 alive-step : (trace : Trace) (e : Event) → Sound trace → Fits trace e → (b v : Id) → is_open (trace says e) v ≡ true → is_of_program b (trace says e) v ≡ true → Dead (trace says e) b → ⊥
 alive-step trace Ready s f b v o p d = none-open trace s f v o
+alive-step trace (Early bs) s f b v o p d = none-open-early trace bs s f v o
 alive-step trace (Began u kind) s f b v o p d = either (λ n. (begins-new trace u kind b s f n.1).1 d) (λ w. s.alive b v w.1 w.0 d) (opened-view trace u kind b v o p)
 alive-step trace e s f b v o p d =
     let before : is_open trace v ≡ true = either (λ o. o) (λ i. absurd i) (open-back trace e v f o) in
-    either (λ g. s.alive b v before p g) (λ g. (s.quiet b (last-just trace b (last_said trace) (subst (Fits trace) g f)).0).1 v before p) (dead-back trace e b (λ g. cc) f d)
+    either (λ g. s.alive b v before p g) (λ g. (s.quiet b (last-just trace b (last_said trace) (subst (Fits trace) g f)).0).1 v before p) (dead-back trace e b (λ g. cc) (λ bs g. cc) f d)
 
 goes_on-step : (trace : Trace) (e : Event) → Sound trace → Fits trace e → (b : Id) → In b (bases_in (trace says e)) → Dead (trace says e) b → ⊥
 goes_on-step trace Ready s f b i d = subst (λ (cs : List Cont). In b (map (λ (c : Cont). c.base) cs)) f.1 i
 goes_on-step trace (Ended u end) s f b i d = either (λ j. s.goes_on b j d) (λ p. s.alive b u f.0 p d) (conts-back trace u end b i)
-goes_on-step trace e s f b i d = either (λ g. s.goes_on b i g) (λ g. in-due b (kept trace).conts i (last-just trace b (last_said trace) (subst (Fits trace) g f)).1) (dead-back trace e b (λ g. cc) f d)
+goes_on-step trace (Early bs) s f b i (inl d) = s.goes_on b i (inl d)
+goes_on-step trace (Early bs) s f b i (inr (inl d)) = s.goes_on b i (inr (inl d))
+goes_on-step trace (Early bs) s f b i (inr (inr d)) = either (λ r. s.goes_on b i (inr (inr r))) (λ p. not-named (in-without b bs (programs_in trace) p).1) (in-cases b (passed_in trace) _ d)
+  where
+    not-named : has_id b bs ≡ false → ⊥
+    not-named n = let h : has_id b bs ≡ true = in-has b bs (bases-named trace bs f b i) in cc
+goes_on-step trace e s f b i d = either (λ g. s.goes_on b i g) (λ g. in-due b (kept trace).conts i (last-just trace b (last_said trace) (subst (Fits trace) g f)).1) (dead-back trace e b (λ g. cc) (λ bs g. cc) f d)
 
-first-program : (trace : Trace) (b : Id) (u : Id) → is_first_of b (kind_of u trace) ≡ true → is_of_program b trace u ≡ true
+pub first-program : (trace : Trace) (b : Id) (u : Id) → is_first_of b (kind_of u trace) ≡ true → is_of_program b trace u ≡ true
 first-program trace b u h = go (kind_of u trace) h
   where
     go : (o : Option UnitKind) → is_first_of b o ≡ true → elim (option_and_then program_of_kind o) [ None ↦ false | Some c ↦ is_same_id b c ] ≡ true
@@ -488,7 +529,7 @@ first-program trace b u h = go (kind_of u trace) h
     go (Some (Call s n args)) g = cc
     go None g = cc
 
-acceptance-just : (trace : Trace) (b : Id) (o : Option Event) → IsAcceptance b trace o → JustEnded b trace o
+pub acceptance-just : (trace : Trace) (b : Id) (o : Option Event) → IsAcceptance b trace o → JustEnded b trace o
 acceptance-just trace b (Some (Ended u (Committed n))) h = first-program trace b u h
 acceptance-just trace b o h = absurd h
 
@@ -610,6 +651,7 @@ drained-step : (trace : Trace) (e : Event) → Sound trace → Fits trace e → 
 drained-step trace (Opened boot n) s f p v o = inl (let l : v.boot ≤ (kept trace).boot = old-fallen (phase trace) v (fresh_unit trace) (s.older v (open-named trace v o)) in let g : (kept trace).boot < boot = f.1 in omega arith)
 drained-step trace (Down why) s f p v o = cc
 drained-step trace Ready s f p v o = cc
+drained-step trace (Early bs) s f p v o = cc
 drained-step trace (Began u kind) s f p v o = go (is_same_id v u) refl o
   where
     its : (kind : UnitKind) → FitsKind trace kind → (b : Id) × (elim (program_of_kind kind) [ None ↦ false | Some c ↦ is_same_id b c ] ≡ true) × In b (bases_in trace)

@@ -1,6 +1,4 @@
 -- No program has more tries left than the part at which it stands is tried again, and each failure uses one.
-use Rattle.salt_ast.specs.Paths.{Position, at_number, position_at, retries}
-use Rattle.salt_ast.specs.declared.programs.ProgramDef.{ProgramDef}
 use Rattle.law_story.proofs.Defined.{AreDefined, IsKeptProgram, defined-kept, named-own, named-stays}
 use Rattle.law_story.proofs.Every.{every-append, every-map}
 use Rattle.law_story.proofs.Fresh.{IfComes}
@@ -8,26 +6,26 @@ use Rattle.law_story.proofs.Ids.{is_same_id-refl}
 use Rattle.law_story.proofs.Lists.{either}
 use Rattle.law_story.proofs.NextFits.{Fits, Flies}
 use Rattle.law_story.proofs.Rising.{every-without}
-use Rattle.law_story.proofs.Salted.{OfBoots, holds, may-fit}
 use Rattle.law_story.proofs.Sound.{Sound, cont-stays, of-program, open-back}
+use Rattle.law_story.proofs.Upheld.{OfBoots, holds, may-fit}
+use Rattle.salt_ast.specs.Paths.{Position, at_number, position_at, retries}
+use Rattle.salt_ast.specs.declared.programs.ProgramDef.{ProgramDef}
 use Rattle.salt_model.specs.After.{branched, conts_at, defined_by, kept, run_of}
 use Rattle.salt_model.specs.Continuing.{UsesTry, part_due}
 use Rattle.salt_model.specs.Ends.{kept_with}
 use Rattle.salt_model.specs.Everywhere.{Always, Each}
-use Rattle.salt_model.specs.Kept.{AreTriesWithin, IsWithinTries, Kept, begun_cont, branch_of, change_cont, cont_in}
-use Rattle.salt_model.specs.Kept.{cont_of, kept_program, moved, parts_of, programs_of, retries_of, then_of, values_kept}
+use Rattle.salt_model.specs.Kept.{AreTriesWithin, IsWithinTries, Kept, begun_cont, branch_of, change_cont, cont_in, cont_of, kept_program, moved, parts_of, programs_of, retries_of, then_of, values_kept}
 use Rattle.salt_model.specs.Next.{flight}
 use Rattle.salt_model.specs.Played.{IsPlayed}
 use Rattle.salt_model.specs.Trace.{Trace, from, line_of, start_of, ◌asks◌, ◌says◌, ◌turns◌}
-use Rattle.salt_model.specs.Units.{is_open, is_open_standing, kind_of, program_of, program_of_kind, standing}
+use Rattle.salt_model.specs.Units.{Over, Running, is_open, is_open_standing, kind_of, program_of, program_of_kind, standing}
 use Rattle.salt_model.specs.Words.{Every}
 use Rattle.salt_model.specs.declared.events.End.TheVariants.{Branched, Committed}
-use Rattle.salt_model.specs.declared.events.Event.TheVariants.{Began, Defined, Ended}
 use Rattle.salt_model.specs.declared.events.Event.{Event}
-use Rattle.salt_model.specs.declared.events.UnitKind.TheVariants.{Acid, Call, First, Later}
+use Rattle.salt_model.specs.declared.events.Event.TheVariants.{Began, Defined, Ended}
 use Rattle.salt_model.specs.declared.events.UnitKind.{UnitKind}
+use Rattle.salt_model.specs.declared.events.UnitKind.TheVariants.{Acid, Call, First, Later}
 use Rattle.salt_model.specs.declared.vars.Binding.{Binding}
-use Rattle.salt_model.specs.Units.{Over, Running}
 use Rattle.salt_values.specs.Id.{is_same_id}
 use Rattle.salt_values.specs.declared.cont.Cont.{Cont}
 use Rattle.salt_values.specs.declared.id.Id.{Id}
@@ -35,8 +33,7 @@ use Rattle.salt_values.specs.declared.value.Value.{Value}
 use Rattle.std.proofs.Common.{ap, arith, subst, sym, ◌∙◌}
 use Rattle.std.specs.Bool.{then_some}
 use Rattle.std.specs.Option.{option_or}
-use Rattle.std.specs.Prelude.{Bool, List, None, Option, Some, [], cond, false, is_some, option_and_then}
-use Rattle.std.specs.Prelude.{option_map, refl, suc, true, zero, ℕ, ⊤, ◌∷◌, ◌≡◌, ◌≤◌}
+use Rattle.std.specs.Prelude.{Bool, List, None, Option, Some, [], cond, false, is_some, option_and_then, option_map, refl, suc, true, zero, ℕ, ⊤, ◌∷◌, ◌≡◌, ◌≤◌}
 
 -- AN OPEN PART is that at which its program stands.
 

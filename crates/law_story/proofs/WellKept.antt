@@ -1,25 +1,25 @@
 -- What is kept after a trace is as a start has to be.
 use Rattle.law_story.proofs.Defined.{defined-kept, defined-with}
 use Rattle.law_story.proofs.Fresh.{IfComes}
-use Rattle.law_story.proofs.Rising.{rises, rises-with}
 use Rattle.law_story.proofs.Lists.{In, either}
 use Rattle.law_story.proofs.NextFits.{Flies}
-use Rattle.law_story.proofs.Salted.{Upheld, OfBoots, holds}
-use Rattle.law_story.proofs.Tries.{tries-with, tries-within}
+use Rattle.law_story.proofs.Rising.{rises, rises-with}
 use Rattle.law_story.proofs.Sound.{Old, boot-ended, conts-back, old-fallen}
-use Rattle.salt_model.specs.Kept.{Kept, WellKept}
+use Rattle.law_story.proofs.Tries.{tries-with, tries-within}
+use Rattle.law_story.proofs.Upheld.{OfBoots, Upheld, holds}
 use Rattle.salt_model.specs.After.{kept}
 use Rattle.salt_model.specs.Ends.{kept_with}
-use Rattle.salt_model.specs.Trace.{Trace, start_of, ◌says◌}
+use Rattle.salt_model.specs.Kept.{Kept, WellKept}
 use Rattle.salt_model.specs.Next.{flight}
 use Rattle.salt_model.specs.Phases.{phase}
 use Rattle.salt_model.specs.Played.{IsPlayed}
+use Rattle.salt_model.specs.Trace.{Trace, start_of, ◌says◌}
 use Rattle.salt_model.specs.Turns.{fresh_base}
 use Rattle.salt_model.specs.Words.{Every}
-use Rattle.salt_model.specs.declared.events.End.TheVariants.{Branched, Committed}
 use Rattle.salt_model.specs.declared.events.End.{End}
-use Rattle.salt_model.specs.declared.events.Event.TheVariants.{Defined, Ended}
+use Rattle.salt_model.specs.declared.events.End.TheVariants.{Branched, Committed}
 use Rattle.salt_model.specs.declared.events.Event.{Event}
+use Rattle.salt_model.specs.declared.events.Event.TheVariants.{Defined, Ended}
 use Rattle.salt_values.specs.declared.cont.Cont.{Cont}
 use Rattle.salt_values.specs.declared.id.Id.{Id}
 use Rattle.std.proofs.Common.{inl, inr, subst}

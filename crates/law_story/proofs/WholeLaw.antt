@@ -1,38 +1,37 @@
 -- What an ACID unit touches of a program's open and committed parts, it touches when the program is released.
-use Rattle.std.specs.Bool.{then_some}
-use Rattle.salt_ast.specs.declared.lines.Act.TheVariants.{Call}
-use Rattle.salt_ast.specs.declared.programs.Body.TheVariants.{Acid, Base}
-use Rattle.salt_ast.specs.declared.trees.Statement.{Statement}
 use Rattle.law_story.proofs.Apart.{and-false, beside, touches-swap, unnot}
 use Rattle.law_story.proofs.Coming.{Good}
 use Rattle.law_story.proofs.Every.{every-map}
 use Rattle.law_story.proofs.Ids.{is_same_id-true}
 use Rattle.law_story.proofs.Replays.{good-event, replays}
+use Rattle.salt_ast.specs.declared.lines.Act.TheVariants.{Call}
+use Rattle.salt_ast.specs.declared.programs.Body.TheVariants.{Acid, Base}
+use Rattle.salt_ast.specs.declared.trees.Statement.{Statement}
 use Rattle.salt_model.specs.After.{reach_now}
 use Rattle.salt_model.specs.Isolation.{IsWhole, TouchesWhole, is_open_or_committed, is_program_released, is_unreleased_part, touches_unreleased}
-use Rattle.salt_model.specs.Locks.{Taken, as_held, family_of, lock_by, lock_of, saline_lock, taken_in, touches}
-use Rattle.salt_model.specs.Trace.{Trace, from, ◌asks◌, ◌says◌, ◌turns◌}
-use Rattle.salt_model.specs.Programs.{released_in}
-use Rattle.salt_model.specs.Units.{Over, Running, Standing, Waiting, kind_of, program_of, program_of_kind, standing}
+use Rattle.salt_model.specs.Locks.{Taken, as_held, family_of, lock_by, lock_of, saline_lock, taken_by, taken_in, taken_since, touches}
 use Rattle.salt_model.specs.Played.{IsPlayed}
+use Rattle.salt_model.specs.Programs.{released_in}
+use Rattle.salt_model.specs.Trace.{Trace, from, start_of, ◌asks◌, ◌says◌, ◌turns◌}
+use Rattle.salt_model.specs.Units.{Over, Running, Standing, Waiting, kind_of, program_of, program_of_kind, standing}
 use Rattle.salt_model.specs.Words.{Every}
-use Rattle.salt_values.specs.Id.{has_id}
 use Rattle.salt_model.specs.declared.events.Answer.{Answer}
 use Rattle.salt_model.specs.declared.events.End.TheVariants.{Committed}
-use Rattle.salt_model.specs.declared.events.Event.TheVariants.{Did}
+use Rattle.salt_model.specs.declared.events.Event.TheVariants.{Did, Early}
 use Rattle.salt_model.specs.declared.events.Owner.TheVariants.{Base, Unit}
-use Rattle.salt_model.specs.declared.events.UnitKind.TheVariants.{Acid, Call, First, Later}
 use Rattle.salt_model.specs.declared.events.UnitKind.{UnitKind}
-use Rattle.salt_model.specs.declared.locks.Family.TheVariants.{Acid, Saline}
+use Rattle.salt_model.specs.declared.events.UnitKind.TheVariants.{Acid, Call, First, Later}
 use Rattle.salt_model.specs.declared.locks.Family.{Family}
+use Rattle.salt_model.specs.declared.locks.Family.TheVariants.{Acid, Saline}
 use Rattle.salt_model.specs.declared.locks.Reach.{Reach}
 use Rattle.salt_model.specs.declared.shown.BaseAt.TheVariants.{First}
 use Rattle.salt_model.specs.declared.shown.Item.TheVariants.{Base}
-use Rattle.salt_values.specs.Id.{is_same_id}
+use Rattle.salt_values.specs.Id.{has_id, is_same_id}
 use Rattle.salt_values.specs.declared.id.Id.{Id}
 use Rattle.std.proofs.Common.{ap, subst, sym, ◌∙◌}
+use Rattle.std.specs.Bool.{then_some}
 use Rattle.std.specs.List.{list_any}
-use Rattle.std.specs.Prelude.{Bool, IsTrue, List, None, Option, Some, [], false, is_none, not, option_and_then, option_map, refl, true, ◌&&◌, ◌∷◌, ◌≡◌}
+use Rattle.std.specs.Prelude.{Bool, IsTrue, List, None, Option, Some, [], false, is_none, not, option_and_then, option_map, refl, true, ◌&&◌, ◌++◌, ◌∷◌, ◌≡◌}
 
 pub acid-family : (k : Option UnitKind) → is_none (option_and_then program_of_kind k) ≡ true → family_of k ≡ Family.Acid
 acid-family None h = refl
@@ -84,8 +83,8 @@ pub no-program : (p : Option Id) → is_none p ≡ true → p ≡ None
 no-program None e = refl
 no-program (Some b) e = cc
 
-touches-whole : (trace : Trace) (u : Id) (st : Statement) (a : Answer) → Good trace (Did u st a) → TouchesWhole trace (Did u st a)
-touches-whole trace u st a g acid = by (reach_now u trace st) g.4
+touches-whole : (trace : Trace) (u : Id) (st : Statement) (a : Answer) → taken_since trace ≡ taken_in trace → Good trace (Did u st a) → TouchesWhole trace (Did u st a)
+touches-whole trace u st a same g acid = by (reach_now u trace st) (subst (Every (λ s. beside (option_map (lock_of (Unit u) (family_of (kind_of u trace))) (reach_now u trace st)) (as_held trace s) ≡ true)) same g.4.0)
   where
     own : (t : Taken) → is_same_id u t.unit ≡ true → program_of t.unit trace ≡ None
     own t e = subst (λ v. program_of v trace ≡ None) (is_same_id-true u t.unit e) (no-program (program_of u trace) acid)
@@ -96,9 +95,18 @@ touches-whole trace u st a g acid = by (reach_now u trace st) g.4
         (every-map (λ s. beside (Some (lock_of (Unit u) (family_of (kind_of u trace)) r)) (as_held trace s) ≡ true) (λ t. (touches t.reach r && is_unreleased_part trace t) ≡ false)
         (λ t h. ap (λ b. b && is_unreleased_part trace t) (touches-swap t.reach r) ∙ untouched-part trace u r t (standing t.unit trace) (kind_of t.unit trace) (own t) (ap (λ f. beside (Some (lock_of (Unit u) f r)) (as_held trace t)) (sym (acid-family (kind_of u trace) acid)) ∙ h)) (taken_in trace) c))
 
-pub whole : (trace : Trace) → IsPlayed trace → IsWhole trace
-whole (from k) p = tt
-whole (trace asks line) p = whole trace p.0
-whole (trace turns b) p = whole trace p.0
-whole (trace says Did u st a) p = (whole trace p.0, touches-whole trace u st a (good-event trace (Did u st a) (replays trace p.0) p.1))
-whole (trace says e) p = (whole trace p.0, tt)
+-- where openings are not early all that was taken counts
+pub taken-same : (trace : Trace) → IsPlayed trace → (start_of trace).early ≡ false → taken_since trace ≡ taken_in trace
+taken-same (from k) p n = refl
+taken-same (trace asks line) p n = taken-same trace p.0 n
+taken-same (trace turns b) p n = taken-same trace p.0 n
+taken-same (trace says Did u st a) p n = ap (λ ts. ts ++ taken_by u (reach_now u trace st)) (taken-same trace p.0 n)
+taken-same (trace says Early bs) p n = let g = good-event trace (Early bs) (replays trace p.0) p.1 in let x : true ≡ false = sym g.1 ∙ n in cc
+taken-same (trace says e) p n = taken-same trace p.0 n
+
+pub whole-late : (trace : Trace) → IsPlayed trace → (start_of trace).early ≡ false → IsWhole trace
+whole-late (from k) p n = tt
+whole-late (trace asks line) p n = whole-late trace p.0 n
+whole-late (trace turns b) p n = whole-late trace p.0 n
+whole-late (trace says Did u st a) p n = (whole-late trace p.0 n, touches-whole trace u st a (taken-same trace p.0 n) (good-event trace (Did u st a) (replays trace p.0) p.1))
+whole-late (trace says e) p n = (whole-late trace p.0 n, tt)

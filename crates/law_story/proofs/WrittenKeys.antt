@@ -1,28 +1,28 @@
 -- The keys that a unit writes as its statements are done are those that its changes name when it ends.
 use Rattle.law_story.proofs.Fresh.{or_left, or_right}
-use Rattle.salt_ast.specs.declared.trees.Statement.{Statement}
 use Rattle.law_story.proofs.Ids.{is_same_id-refl, is_same_id-true}
 use Rattle.law_story.proofs.Lists.{or_right_true}
 use Rattle.law_story.proofs.NextFits.{Fits}
 use Rattle.law_story.proofs.Opens.{Open}
 use Rattle.law_story.proofs.Replays.{Inv, did-run, good-event, open-other, others, quiet, replays}
-use Rattle.law_story.proofs.Salted.{OfBoots, holds, may-fit}
 use Rattle.law_story.proofs.Sound.{Sound, not-fresh}
+use Rattle.law_story.proofs.Upheld.{OfBoots, holds, may-fit}
 use Rattle.law_story.specs.Names.{is_named, is_unit_of}
 use Rattle.law_story.specs.Rewordings.{WritesAtEnd, is_changed, is_written}
+use Rattle.salt_ast.specs.declared.trees.Statement.{Statement}
 use Rattle.salt_model.specs.After.{changes_now, run_of}
-use Rattle.salt_model.specs.Trace.{Trace, from, start_of, ◌asks◌, ◌says◌, ◌turns◌}
-use Rattle.salt_model.specs.Units.{is_open}
-use Rattle.salt_model.specs.Played.{IsPlayed}
-use Rattle.salt_model.specs.Segments.{May}
 use Rattle.salt_model.specs.Everywhere.{Each}
+use Rattle.salt_model.specs.Played.{IsPlayed}
 use Rattle.salt_model.specs.Reads.{Written, written_by, wrote_of}
+use Rattle.salt_model.specs.Segments.{May}
 use Rattle.salt_model.specs.Statements.{Run}
 use Rattle.salt_model.specs.Tables.{Edits, changed_at, place_cmp, place_total, put_change, put_changes}
+use Rattle.salt_model.specs.Trace.{Trace, from, start_of, ◌asks◌, ◌says◌, ◌turns◌}
+use Rattle.salt_model.specs.Units.{is_open}
 use Rattle.salt_model.specs.declared.events.Answer.{Answer}
 use Rattle.salt_model.specs.declared.events.End.TheVariants.{Committed}
-use Rattle.salt_model.specs.declared.events.Event.TheVariants.{Began, Did, Ended, Waits}
 use Rattle.salt_model.specs.declared.events.Event.{Event}
+use Rattle.salt_model.specs.declared.events.Event.TheVariants.{Began, Did, Ended, Waits}
 use Rattle.salt_model.specs.declared.events.UnitKind.{UnitKind}
 use Rattle.salt_model.specs.declared.places.Place.{Place}
 use Rattle.salt_values.specs.Id.{is_same_id}

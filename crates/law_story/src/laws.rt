@@ -2,6 +2,7 @@
 //! run may tell; `WellKept` is what a start has to be, and the empty one is.
 
 ghost use Rattle.salt_model.specs.After.{kept};
+ghost use Rattle.salt_model.specs.Arming.{armed_behind, armed_by_lines};
 ghost use Rattle.salt_model.specs.AsDeclared.{IsDeclared};
 ghost use Rattle.salt_model.specs.Continuing.{IsContinued, UsesTry};
 ghost use Rattle.salt_model.specs.Decided.{IsKept};
@@ -10,14 +11,17 @@ ghost use Rattle.salt_model.specs.Honest.{IsHonest};
 ghost use Rattle.salt_model.specs.Isolation.{IsSalted, IsWhole};
 ghost use Rattle.salt_model.specs.Kept.{AreTriesWithin, WellKept};
 ghost use Rattle.salt_model.specs.Locks.{NoneConflict, held};
-ghost use Rattle.salt_model.specs.Trace.{Trace, start_of};
+ghost use Rattle.salt_model.specs.Trace.{Trace, from, start_of, story_of};
 ghost use Rattle.salt_model.specs.Next.{flight};
 ghost use Rattle.salt_model.specs.Played.{IsPlayed};
 ghost use Rattle.salt_model.specs.Everywhere.{Always, Each};
 ghost use Rattle.salt_model.specs.Releasing.{ReleasesExactly};
+ghost use Rattle.law_story.specs.AsEver.{IsAsEver};
+ghost use Rattle.law_story.specs.ContNames.{AreNamed};
 ghost use Rattle.law_story.specs.Cycles.{IsRightVictim};
 ghost use Rattle.law_story.specs.Rewordings.{SourcesAreReadThrough, WritersAreLast, WritesAtEnd};
 ghost use Rattle.salt_model.specs.Waiting.{victim};
+ghost use Rattle.std.specs.Prelude.{List, Some, false, ℕ, ◌≡◌};
 
 /// The answers printed for each unit are those of doing its statements one after another on the tables of
 /// the commits so far; a failed answer is its last, and its end says so.
@@ -26,9 +30,10 @@ pub fn played_is_honest()
 {}
 
 /// What an ACID unit touches of a BASE program's open and committed parts, it touches when the program is
-/// released.
+/// released: from each start whose openings are not early, and from each that is well kept.
 pub fn played_is_whole()
-    ensures { (trace : Trace) → IsPlayed trace → IsWhole trace }
+    ensures late { (trace : Trace) → IsPlayed trace → (start_of trace).early ≡ false → IsWhole trace }
+    ensures early { (trace : Trace) → IsPlayed trace → WellKept (start_of trace).kept → IsWhole trace }
 {}
 
 /// At every place, no two held locks of different owners overlap of which one writes, but for an alkaline
@@ -99,4 +104,22 @@ pub fn writers_are_last()
 /// when it has done all that is declared.
 pub fn played_is_declared()
     ensures { (trace : Trace) → IsPlayed trace → WellKept (start_of trace).kept → IsDeclared trace }
+{}
+
+/// From a start whose openings are not early no program is named, covered, left out or freed by one: what is held,
+/// released, due, next to go and taken is said without them.
+pub fn late_openings_are_as_ever()
+    ensures { (trace : Trace) → IsPlayed trace → (start_of trace).early ≡ false → IsAsEver trace }
+{}
+
+/// A continuation has the name that its program was called by, if each of the start's has.
+pub fn continuations_keep_names()
+    ensures { (trace : Trace) → IsPlayed trace → WellKept (start_of trace).kept → AreNamed (from (start_of trace)) → AreNamed trace }
+{}
+
+/// Where commits do not go over messages, the stops that are armed behind a story are those that its lines arm: there `net` is
+/// refused, so each Armed is of a `crash`.
+pub fn stops_are_armed_by_their_lines()
+    ensures { (trace : Trace) → IsPlayed trace → (start_of trace).over_net ≡ false → (first : List (ℕ × ℕ)) →
+        armed_by_lines first trace ≡ armed_behind (story_of trace) (Some first) }
 {}

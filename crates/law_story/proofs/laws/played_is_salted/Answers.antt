@@ -1,7 +1,7 @@
 use Rattle.law_story.proofs.Salted.{salted-played}
-use Rattle.law_story.proofs.laws.played_is_salted.Goals as goal
 use Rattle.law_story.proofs.WellKept.{of-start}
 use Rattle.salt_model.specs.Trace.{start_of}
+use Rattle.law_story.proofs.laws.played_is_salted.Goals as goal
 
 pub returns : goal.returns
-returns c = (λ trace p w. salted-played trace p (of-start (start_of trace).kept w))
+returns c = (λ trace p w. salted-played trace p (of-start (start_of trace).kept w) w.defined)
