@@ -6,4 +6,5 @@ pub mod Continuations
 pub mod Moves
 pub mod Entries
 pub mod Runs
+pub mod Messages
 pub mod Witness

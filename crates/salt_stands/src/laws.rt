@@ -4,7 +4,9 @@ ghost use Rattle.salt_bytes.specs.declared.moves.Move.{Move};
 ghost use Rattle.salt_model.specs.Kept.{Definition};
 ghost use Rattle.salt_values.specs.declared.change.Change.{Change};
 ghost use Rattle.salt_values.specs.declared.cont.Cont.{Cont};
-ghost use Rattle.std.specs.Prelude.{◌≡◌, ◌≢◌, ◌⊎◌, ◌+◌, ◌++◌, ◌∷◌, ◌<◌, [], List, Ok, Some, false, true, ℕ};
+ghost use Rattle.salt_model.specs.Words.{is_empty};
+ghost use Rattle.salt_net.specs.Flags.{are_nodes, has_node};
+ghost use Rattle.std.specs.Prelude.{◌≡◌, ◌≢◌, ◌⊎◌, ◌+◌, ◌++◌, ◌∷◌, ◌<◌, ◌≤◌, [], List, Ok, Some, false, not, true, ℕ};
 ghost use Rattle.salt_bytes.specs.Coordinator.{Boots, Decision, Defines, NumberedText, entry_in, header_in};
 ghost use Rattle.salt_bytes.specs.Generations.{LogA, WhichLog};
 ghost use Rattle.salt_stands.specs.Commits.{CoordinatorBlanked, CoordinatorSame, IsCheckpointed, IsDecided, IsUndecided, MayCommit, PagesSame, PartBlanked, PartSame, Spelled, Stood, found_after, found_of, parts_of, view_after, with_view};
@@ -12,6 +14,7 @@ ghost use Rattle.salt_stands.specs.Coordinator.{Coordinator, Logs, device_of};
 ghost use Rattle.salt_stands.specs.FirstOpening.{AreBlank, AreMade, first_coordinator, first_view};
 ghost use Rattle.salt_stands.specs.Partition.{is_format_under, pages_device};
 ghost use Rattle.salt_stands.specs.Pieces.{Grows, HasOneMore, IsSameAt, PartView, ReadsSamePages, checkpointed, next_header, next_part_header, other_log, with_boot, with_decision, with_definition, with_snapshot};
+ghost use Rattle.salt_stands.specs.Placed.{changes_at, nodes_in};
 ghost use Rattle.salt_stands.specs.Reading.{Reading};
 ghost use Rattle.salt_stands.specs.Stands.{nothing_found, stands_in};
 ghost use Rattle.salt_place.specs.declared.placement.Shape.{Shape};
@@ -96,4 +99,12 @@ pub fn first_headers_stand_for_nothing()
         → is_format_under format part_format ≡ true → AreMade logs shape format part_format coordinator part
         → Stood r logs devices LogA (first_coordinator shape format) (first_view part_format) }
     ensures found { (r : Reading Definition) (shape : Shape) (part_format : ℕ) → found_of (first_coordinator shape 3) (first_view part_format) ≡ nothing_found {D = Definition} shape }
+{}
+
+/// A unit may have the nodes of its changes: none is the coordinator, and none is named twice. A partition's node is among
+/// them exactly where it has some of the changes.
+pub fn nodes_are_of_changes()
+    ensures may { (shape : Shape) (cs : List Change) → shape.parts ≤ 8 → are_nodes (nodes_in shape cs) ≡ true }
+    ensures which { (shape : Shape) (cs : List Change) (p : ℕ) → p < shape.parts →
+        has_node (p + 1) (nodes_in shape cs) ≡ not (is_empty (changes_at shape p cs)) }
 {}
