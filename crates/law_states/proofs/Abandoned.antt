@@ -1,14 +1,14 @@
 -- A program is given up where its first part ends without a commit: then no unit of it is open or committed, and it is never accepted.
 use Rattle.law_states.specs.KeptSources.{abandoned_in, first_of, given_up}
 use Rattle.law_states.specs.Members.{In}
-use Rattle.law_story.proofs.FinishedSources.{Sources, committed-back, kind-back, sources-played}
+use Rattle.law_story.proofs.FinishedSources.{committed-back, kind-back}
+use Rattle.law_story.proofs.Hiding.{hides, program-in, programs-say}
 use Rattle.law_story.proofs.Ids.{is_same_id-refl, is_same_id-true}
-use Rattle.law_story.proofs.Lists.{either, in-cases, in-left, in-right}
-use Rattle.law_story.proofs.NextFits.{Fits, IsAcceptance, IsLastEnd, is_first_of}
-use Rattle.law_story.proofs.Reading.{program-in}
-use Rattle.law_story.proofs.Salted.{OfBoots, holds, may-fit}
+use Rattle.law_story.proofs.Lists.{either, in-cases}
+use Rattle.law_story.proofs.NextFits.{Fits, IsAcceptance, is_first_of}
 use Rattle.law_story.proofs.Sound.{Old, OldAt, Sound, begins-new, of-program, old-not, open-back}
-use Rattle.salt_model.specs.Continuing.{last_said, program_continued}
+use Rattle.law_story.proofs.Upheld.{OfBoots, holds, may-fit}
+use Rattle.salt_model.specs.Continuing.{last_said}
 use Rattle.salt_model.specs.Isolation.{is_committed_standing}
 use Rattle.salt_model.specs.Phases.{phase}
 use Rattle.salt_model.specs.Played.{IsPlayed}
@@ -18,7 +18,7 @@ use Rattle.salt_model.specs.Units.{Never, Over, Running, Standing, Waiting, is_o
 use Rattle.salt_model.specs.declared.events.End.{End}
 use Rattle.salt_model.specs.declared.events.End.TheVariants.{Branched, Committed, Cut, Failed, RolledBack, Victim}
 use Rattle.salt_model.specs.declared.events.Event.{Event}
-use Rattle.salt_model.specs.declared.events.Event.TheVariants.{Accepted, Began, Ended, Finished}
+use Rattle.salt_model.specs.declared.events.Event.TheVariants.{Accepted, Began, Ended}
 use Rattle.salt_model.specs.declared.events.UnitKind.{UnitKind}
 use Rattle.salt_model.specs.declared.events.UnitKind.TheVariants.{Acid, Call, First, Later}
 use Rattle.salt_values.specs.Id.{is_same_id}
@@ -26,7 +26,7 @@ use Rattle.salt_values.specs.declared.id.Id.{Id}
 use Rattle.std.proofs.Common.{ap, inl, inr, subst, sym, ◌∙◌}
 use Rattle.std.specs.Bool.{then_some}
 use Rattle.std.specs.Option.{option_or}
-use Rattle.std.specs.Prelude.{Bool, None, Option, Some, [], cond, false, option_and_then, refl, true, ℕ, ◌++◌, ◌∷◌, ◌≡◌, ◌⊎◌}
+use Rattle.std.specs.Prelude.{Bool, None, Option, Some, [], cond, false, option_and_then, refl, true, ℕ, ◌∷◌, ◌≡◌, ◌⊎◌}
 
 -- what is known of programs in their first part, and of those given up
 pub record Firsts (trace : Trace) : Type 0 where
@@ -74,14 +74,6 @@ just-committed (trace says Ended u (Committed n)) b h = (u, rw (is_same_id-refl 
     first (Some (Call t name args)) g = cc
     first (Some (Later c part)) g = cc
 just-committed (trace says e) b h = absurd h
-
-programs-say : (trace : Trace) (e : Event) (c : Id) → In c (programs_in trace) → In c (programs_in (trace says e))
-programs-say trace (Began u kind) c h = go (program_of_kind kind)
-  where
-    go : (o : Option Id) → In c (elim o [ None ↦ programs_in trace | Some b ↦ programs_in trace ++ b ∷ [] ])
-    go None = h
-    go (Some b) = in-left c (programs_in trace) (b ∷ []) h
-programs-say trace e c h = h
 
 one-of : (b c : Id) → In b (c ∷ []) → c ≡ b
 one-of b c (inl e) = e
@@ -269,41 +261,12 @@ firsts (trace says e) p w =
       abandoned_known = firsts-abandoned trace e h;
       alone = alone-step trace e k.sound f h;
       new = new-step trace e k.sound f h;
-      open_kept = open-step trace e k.sound f h (sources-played (trace says e) p w).later;
+      open_kept = open-step trace e k.sound f h (hides (trace says e) p w).later;
       committed_kept = committed-step trace e f h;
       accepted_kept = accepted-step trace e f h;
     }
 
 -- a program that is finished is accepted
-last-accepted : (trace : Trace) (b : Id) → last_said trace ≡ Some (Accepted b) → In b (accepted_in trace)
-last-accepted (from k) b h = cc
-last-accepted (trace asks asked) b h = last-accepted trace b h
-last-accepted (trace turns c) b h = last-accepted trace b h
-last-accepted (trace says Accepted c) b h = let e : c ≡ b = cc in in-right b (accepted_in trace) (c ∷ []) (inl e)
-last-accepted (trace says e) b h = cc
-
-finish-accepted : (trace : Trace) (b : Id) → Sources trace → IsLastEnd b trace (last_said trace) → In b (accepted_in trace)
-finish-accepted trace b s h = by (last_said trace) refl h
-  where
-    ended : (u : Id) (o : Option UnitKind) → kind_of u trace ≡ o → option_and_then program_continued o ≡ Some b → In b (accepted_in trace)
-    ended u (Some (Later c part)) k e = let g : c ≡ b = cc in subst (λ x. In x (accepted_in trace)) g (s.later u c part k)
-    ended u None k e = cc
-    ended u (Some (Acid z)) k e = cc
-    ended u (Some (Call z n args)) k e = cc
-    ended u (Some (First z c n args)) k e = cc
-
-    by : (o : Option Event) → last_said trace ≡ o → IsLastEnd b trace o → In b (accepted_in trace)
-    by (Some (Ended u (Committed n))) q g = ended u (kind_of u trace) refl g.0
-    by (Some (Ended u (Branched n c))) q g = ended u (kind_of u trace) refl g.0
-    by (Some (Accepted c)) q g = last-accepted trace b (q ∙ ap (λ x. Some (Accepted x)) g.0)
-    by o q g = absurd g
-
 pub finished-accepted : (trace : Trace) → IsPlayed trace → OfBoots (start_of trace).kept → (b : Id) → In b (finished_in trace) →
     In b (accepted_in trace)
-finished-accepted (from k) p w b i = absurd i
-finished-accepted (trace asks asked) p w b i = finished-accepted trace p.0 w b i
-finished-accepted (trace turns c) p w b i = finished-accepted trace p.0 w b i
-finished-accepted (trace says Finished c) p w b i =
-    either (λ j. finished-accepted trace p.0 w b j) (λ j. finish-accepted trace b (sources-played trace p.0 w) (subst (λ x. IsLastEnd x trace (last_said trace)) (one-of b c j) (may-fit trace (Finished c) (holds trace p.0 w).comes p.1))) (in-cases b (finished_in trace) (c ∷ []) i)
-finished-accepted (trace says Accepted c) p w b i = in-left b (accepted_in trace) (c ∷ []) (finished-accepted trace p.0 w b i)
-finished-accepted (trace says e) p w b i = finished-accepted trace p.0 w b i
+finished-accepted trace p w b i = (hides trace p w).finished b i

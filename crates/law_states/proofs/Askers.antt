@@ -1,11 +1,10 @@
 -- The waiting units after each event: those left ask for what they asked for, and each asks for something.
-use Rattle.law_states.specs.WatchSteps.{waiting_after}
-use Rattle.salt_ast.specs.declared.trees.Statement.{Statement}
 use Rattle.law_states.proofs.Blocks.{asked-stays, asked-waiting, reach-stays, waits_to}
-use Rattle.law_states.proofs.KeptPrograms.{ready-empty}
+use Rattle.law_states.proofs.KeptPrograms.{none-in, ready-empty}
 use Rattle.law_states.proofs.WaitsAsk.{Asks, asks-next}
 use Rattle.law_states.specs.KeptWaits.{AreDistinct, Asker, asker, drop_asker, waiting}
 use Rattle.law_states.specs.Members.{In}
+use Rattle.law_states.specs.WatchSteps.{waiting_after}
 use Rattle.law_story.proofs.Coming.{Good}
 use Rattle.law_story.proofs.Every.{every-append, every-filter}
 use Rattle.law_story.proofs.Fresh.{IfComes, or_left}
@@ -13,9 +12,10 @@ use Rattle.law_story.proofs.Ids.{is_same_id-refl}
 use Rattle.law_story.proofs.Lists.{either, in-cases, in-filter, in-without}
 use Rattle.law_story.proofs.NextFits.{Fits, wait-open}
 use Rattle.law_story.proofs.Replays.{Ground, good-event, replays}
-use Rattle.law_story.proofs.Salted.{OfBoots, holds, may-fit}
-use Rattle.law_story.proofs.Sound.{Sound, kind-stays, not-fresh, open-named}
+use Rattle.law_story.proofs.Sound.{Sound, kind-stays, none-open-early, not-fresh, open-named}
+use Rattle.law_story.proofs.Upheld.{OfBoots, holds, may-fit}
 use Rattle.law_story.specs.Names.{is_unit_of}
+use Rattle.salt_ast.specs.declared.trees.Statement.{Statement}
 use Rattle.salt_model.specs.After.{reach_now}
 use Rattle.salt_model.specs.Locks.{family_of}
 use Rattle.salt_model.specs.Played.{IsPlayed}
@@ -23,12 +23,11 @@ use Rattle.salt_model.specs.Trace.{Asked, Trace, from, line_of, start_of, ◌ask
 use Rattle.salt_model.specs.Units.{Standing, Waiting, done_of, is_open, is_waiting, is_waiting_standing, kind_of, program_of, program_of_kind, standing, wait_list}
 use Rattle.salt_model.specs.Waiting.{asked_by, asking_line, block_of, statement_in, statement_of_line}
 use Rattle.salt_model.specs.Words.{Every}
-use Rattle.salt_values.specs.Id.{has_id, without}
 use Rattle.salt_model.specs.declared.events.Event.{Event}
-use Rattle.salt_model.specs.declared.events.Event.TheVariants.{Began, Did, Ended, Ready, Waits}
+use Rattle.salt_model.specs.declared.events.Event.TheVariants.{Began, Did, Early, Ended, Ready, Waits}
 use Rattle.salt_model.specs.declared.events.Owner.{Owner}
 use Rattle.salt_model.specs.declared.events.UnitKind.{UnitKind}
-use Rattle.salt_values.specs.Id.{is_same_id}
+use Rattle.salt_values.specs.Id.{has_id, is_same_id, without}
 use Rattle.salt_values.specs.declared.id.Id.{Id}
 use Rattle.std.proofs.Common.{ap, filter, inl, inr, subst, sym, ◌∙◌}
 use Rattle.std.specs.Prelude.{Bool, List, None, Option, Some, [], cond, false, is_some, map, not, option_and_then, refl, true, ◌++◌, ◌||◌, ◌∷◌, ◌≡◌}
@@ -153,6 +152,9 @@ waiting-says trace (Began v kind) p w =
     let a = known-at trace (Began v kind) p w in
     map-same (asker (trace says Began v kind)) (asker trace) (wait_list trace) (λ x m. asker-stays trace _ x a (wait-waiting trace p.0 w x m) (fresh-other trace v kind x a.sound a.fits (wait-open trace x m)))
 waiting-says trace Ready p w = (ready-empty trace p w).waits
+waiting-says trace (Early bs) p w =
+    let a = known-at trace (Early bs) p w in
+    ap (map (asker (trace says Early bs))) (none-in (wait_list trace) (λ u i. none-open-early trace bs a.sound a.fits u (wait-open trace u i)))
 waiting-says trace e p w =
     let a = known-at trace e p w in
     map-same (asker (trace says e)) (asker trace) (wait_list trace) (λ x m. asker-stays trace _ x a (wait-waiting trace p.0 w x m) refl)
@@ -193,6 +195,7 @@ all-ask (trace says e) p w =
     by (Did u st x) a h = every-drop u (waiting trace) h
     by (Ended u end) a h = every-drop u (waiting trace) h
     by Ready a h = tt
+    by (Early bs) a h = tt
     by e a h = h
 
 -- no unit waits twice

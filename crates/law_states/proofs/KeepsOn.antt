@@ -1,8 +1,8 @@
 -- The state after an event is that of the trace with it.
-use Rattle.salt_ast.specs.declared.lines.Line.TheVariants.{GoAll}
 use Rattle.law_states.proofs.Alike.{keeps-other}
 use Rattle.law_states.proofs.KeptAfter.{kept-says}
 use Rattle.law_states.proofs.OneUnit.{keeps-began, keeps-did, keeps-waits}
+use Rattle.law_states.proofs.Told.{next-to-go-told}
 use Rattle.law_states.proofs.UnitLists.{begun-named, every-change, every-kept, every-pair, every-unmapped, filter-both, filter-same, map-filter, names-change}
 use Rattle.law_states.specs.Keeps.{KeepsUnit, KeepsUnits}
 use Rattle.law_states.specs.OpenUnits.{OpenUnit, UnitState, names_in}
@@ -13,23 +13,24 @@ use Rattle.law_story.proofs.Ids.{is_same_id-refl, is_same_id-true}
 use Rattle.law_story.proofs.NextFits.{Fits}
 use Rattle.law_story.proofs.Opens.{Open}
 use Rattle.law_story.proofs.Replays.{Inv, did-run, good-event, quiet, replays}
-use Rattle.law_story.proofs.Salted.{holds, may-fit}
 use Rattle.law_story.proofs.Sound.{Sound, not-fresh, open-named}
+use Rattle.law_story.proofs.Upheld.{holds, may-fit}
 use Rattle.law_story.proofs.WellKept.{of-start}
 use Rattle.law_story.specs.Names.{is_named}
+use Rattle.salt_ast.specs.declared.lines.Line.TheVariants.{GoAll}
 use Rattle.salt_model.specs.After.{kept}
 use Rattle.salt_model.specs.Kept.{Kept, WellKept}
 use Rattle.salt_model.specs.Phases.{phase}
 use Rattle.salt_model.specs.Played.{IsPlayed}
+use Rattle.salt_model.specs.Programs.{named_early}
 use Rattle.salt_model.specs.Segments.{May}
 use Rattle.salt_model.specs.Trace.{Asked, Start, Trace, Tree, from, line_of, start_of, ◌asks◌, ◌says◌, ◌turns◌}
-use Rattle.salt_model.specs.Turns.{ids_after, still_to_go}
+use Rattle.salt_model.specs.Turns.{ids_after, owes_turn, still_to_go}
 use Rattle.salt_model.specs.Units.{Over, Running, Waiting, base_count, is_open, is_open_standing, open_units, program_begun, standing, unit_count, units_begun}
 use Rattle.salt_model.specs.Words.{Every}
-use Rattle.salt_values.specs.Id.{in_order}
 use Rattle.salt_model.specs.declared.events.Event.{Event}
-use Rattle.salt_model.specs.declared.events.Event.TheVariants.{Began, Did, Down, Ended, Opened, Ready, Waits}
-use Rattle.salt_values.specs.Id.{is_same_id}
+use Rattle.salt_model.specs.declared.events.Event.TheVariants.{Began, Did, Down, Early, Ended, Opened, Ready, Refused, Waits}
+use Rattle.salt_values.specs.Id.{in_order, is_same_id}
 use Rattle.salt_values.specs.declared.cont.Cont.{Cont}
 use Rattle.salt_values.specs.declared.id.Id.{Id}
 use Rattle.std.proofs.Common.{ap, subst, sym, ◌∙◌}
@@ -147,11 +148,25 @@ phase-says : (s : UnitState) (trace : Trace) (e : Event) → phase trace ≡ s.p
 phase-says s trace (Down why) h = refl
 phase-says s trace (Opened boot n) h = refl
 phase-says s trace Ready h = refl
+phase-says s trace (Early bs) h = refl
 phase-says s trace e h = h
 
 to-go-says : (s : UnitState) (trace : Trace) (e : Event) → still_to_go trace ≡ s.to_go → still_to_go (trace says e) ≡ (units_after e s).to_go
 to-go-says s trace (Down why) h = refl
 to-go-says s trace e h = h
+
+early-says : (s : UnitState) (trace : Trace) (e : Event) → (start_of trace).early ≡ s.early → (start_of trace).early ≡ (units_after e s).early
+early-says s trace (Opened boot n) h = h
+early-says s trace e h = h
+
+named-says : (s : UnitState) (trace : Trace) (e : Event) → named_early trace ≡ s.named → named_early (trace says e) ≡ (units_after e s).named
+named-says s trace (Early bs) h = refl
+named-says s trace e h = h
+
+owes-says : (s : UnitState) (trace : Trace) (e : Event) → owes_turn trace ≡ s.owes → owes_turn (trace says e) ≡ (units_after e s).owes
+owes-says s trace (Down why) h = refl
+owes-says s trace (Refused r) h = refl
+owes-says s trace e h = h
 
 to-go-asks : (trace : Trace) (asked : Asked) (k : Kept) → kept trace ≡ k → still_to_go (trace asks asked) ≡ to_go_by asked k
 to-go-asks trace (Tree GoAll) k h = ap (λ (x : Kept). in_order (map (λ (c : Cont). c.base) x.conts)) h
@@ -170,6 +185,9 @@ keeps-says s trace e keeps p w =
       phase = phase-says s trace e keeps.phase;
       line = line-says s trace e keeps.line;
       to_go = to-go-says s trace e keeps.to_go;
+      early = early-says s trace e keeps.early;
+      named = named-says s trace e keeps.named;
+      owes = owes-says s trace e keeps.owes;
       units = open-began trace e fresh good s keeps.units;
       each = each-says s trace e inv good p.1 fresh keeps (each-kept s trace keeps);
       unit_count = count-says s trace e keeps.unit_count;
@@ -187,6 +205,9 @@ keeps-asks s trace asked keeps = record {
   phase = keeps.phase;
   line = refl;
   to_go = to-go-asks trace asked s.kept keeps.kept;
+  early = keeps.early;
+  named = keeps.named;
+  owes = refl;
   units = keeps.units;
   each = same-units trace (trace asks asked) (λ o k. record { kind = k.kind; single = k.single; waiting = k.waiting; asks = k.asks; done = k.done; vars = k.vars; changes = k.changes }) s.units keeps.each;
   unit_count = keeps.unit_count;
@@ -199,14 +220,17 @@ keeps-turns s trace b keeps = record {
   phase = keeps.phase;
   line = keeps.line;
   to_go = ap (ids_after b) keeps.to_go;
+  early = keeps.early;
+  named = keeps.named;
+  owes = λ i. keeps.owes i && is_some (next-to-go-told s trace keeps i);
   units = keeps.units;
   each = same-units trace (trace turns b) (λ o k. record { kind = k.kind; single = k.single; waiting = k.waiting; asks = k.asks; done = k.done; vars = k.vars; changes = k.changes }) s.units keeps.each;
   unit_count = keeps.unit_count;
   base_count = keeps.base_count;
 }
 
-pub keeps-start : (k : Start) → KeepsUnits (units_at k.kept) (from k)
-keeps-start k = record { kept = refl; phase = refl; line = refl; to_go = refl; units = refl; each = tt; unit_count = refl; base_count = refl }
+pub keeps-start : (k : Start) → KeepsUnits (units_at k.kept k.early) (from k)
+keeps-start k = record { kept = refl; phase = refl; line = refl; to_go = refl; early = refl; named = refl; owes = refl; units = refl; each = tt; unit_count = refl; base_count = refl }
 
 -- the state that goes along with a trace keeps what is the trace's
 pub state-kept : (trace : Trace) → IsPlayed trace → WellKept (start_of trace).kept → KeepsUnits (units_of trace) trace

@@ -1,26 +1,27 @@
 -- A table of numbered locks stands for the held ones: clashes, and the locks of each owner in the order done, come from it.
-use Rattle.law_states.specs.WatchSteps.{lock_fate, lock_won, locks_after, table_after}
-use Rattle.salt_ast.specs.declared.trees.Statement.{Statement}
 use Rattle.law_states.proofs.Ascending.{Strict, in_order-same, same-ascending}
-use Rattle.law_states.specs.KeptLocks.{AreBelow, KeepsLocks, Numbered, Sooner, clash_in, is_owned_by, lock_taken, on_lock}
+use Rattle.law_states.specs.KeptLocks.{AreBelow, KeepsLocks, Numbered, Sooner, clash_in, is_owned_by, numbered_from, on_lock}
 use Rattle.law_states.specs.Members.{Ascends, In, SameMembers}
+use Rattle.law_states.specs.UnitFacts.{UnitFacts, facts_at}
+use Rattle.law_states.specs.WatchSteps.{fate_by, lock_fate, lock_won, locks_after, table_after, taken_by_now}
 use Rattle.law_story.proofs.Every.{every-append, every-filter}
 use Rattle.law_story.proofs.Lists.{either, in-cases, in-filter, in-filter_map, in-left, in-map, in-right, into-filter, into-filter_map}
+use Rattle.salt_ast.specs.declared.trees.Statement.{Statement}
 use Rattle.salt_model.specs.After.{reach_now}
 use Rattle.salt_model.specs.Locks.{base_owner, clash_locks, clashes, clashing, family_of, held, owners_of, unit_owner}
 use Rattle.salt_model.specs.Trace.{Trace}
 use Rattle.salt_model.specs.Units.{kind_of}
 use Rattle.salt_model.specs.Words.{Every}
-use Rattle.salt_values.specs.Id.{in_order}
 use Rattle.salt_model.specs.declared.events.Event.{Event}
-use Rattle.salt_model.specs.declared.events.Event.TheVariants.{Did}
+use Rattle.salt_model.specs.declared.events.Event.TheVariants.{Early, Ready}
 use Rattle.salt_model.specs.declared.events.Owner.{Owner}
 use Rattle.salt_model.specs.declared.locks.Lock.{Lock}
 use Rattle.salt_model.specs.declared.locks.Reach.{Reach}
+use Rattle.salt_values.specs.Id.{in_order}
 use Rattle.salt_values.specs.declared.id.Id.{Id}
-use Rattle.std.proofs.Common.{ap, arith, inl, inr, length, subst, sym, ℕ, ◌∙◌}
+use Rattle.std.proofs.Common.{ap, arith, inl, inr, subst, sym, ℕ, ◌∙◌}
 use Rattle.std.specs.List.{cons_option, filter, filter_map}
-use Rattle.std.specs.Prelude.{Bool, List, None, Option, Some, [], cond, false, map, option_map, refl, true, ◌++◌, ◌<◌, ◌↔◌, ◌∷◌, ◌≡◌, ◌≤◌}
+use Rattle.std.specs.Prelude.{Bool, List, None, Option, Some, [], cond, false, map, option_map, refl, true, ◌++◌, ◌+◌, ◌<◌, ◌↔◌, ◌∷◌, ◌≡◌}
 
 -- the owners of locks are told by their members
 pub owners-same : (ls ms : List Lock) → SameMembers ls ms → owners_of ls ≡ owners_of ms
@@ -97,24 +98,17 @@ map-append : {A B : Type 0} (f : A → B) (xs ys : List A) → map f (xs ++ ys) 
 map-append f [] ys = refl
 map-append f (x ∷ xs) ys = ap (λ l. f x ∷ l) (map-append f xs ys)
 
-pub append-rises : (ns : List Numbered) (ls : List Lock) (k : ℕ) → length ls ≤ 1 → Ascends Sooner ns → AreBelow k ns →
-    Ascends Sooner (ns ++ map (λ l. record { number = k; lock = l }) ls)
-append-rises [] [] k s h b = tt
-append-rises [] (l ∷ []) k s h b = (tt, tt)
-append-rises [] (l ∷ m ∷ ls) k s h b = absurd (omega arith)
-append-rises (n ∷ ns) ls k s h b = (every-append (Sooner n) ns _ h.0 (all ls), append-rises ns ls k s h.1 (λ m i. b m (inr i)))
-  where
-    all : (ls : List Lock) → Every (Sooner n) (map (λ l. record { number = k; lock = l }) ls)
-    all [] = tt
-    all (l ∷ ls) = (b n (inl refl), all ls)
+from-later : (n : Numbered) (k : ℕ) (ls : List Lock) → n.number < k → Every (Sooner n) (numbered_from k ls)
+from-later n k [] h = tt
+from-later n k (l ∷ ls) h = (h, from-later n (k + 1) ls (omega arith))
 
-pub won-one : (trace : Trace) (e : Event) → length (lock_won trace e) ≤ 1
-won-one trace (Did u st a) = by (reach_now u trace st)
-  where
-    by : (o : Option Reach) → length (lock_taken u (kind_of u trace) o) ≤ 1
-    by None = omega arith
-    by (Some r) = omega arith
-won-one trace e = omega arith
+from-rises : (k : ℕ) (ls : List Lock) → Ascends Sooner (numbered_from k ls)
+from-rises k [] = tt
+from-rises k (l ∷ ls) = (from-later (record { number = k; lock = l }) (k + 1) ls (omega arith), from-rises (k + 1) ls)
+
+pub append-rises : (ns : List Numbered) (ls : List Lock) (k : ℕ) → Ascends Sooner ns → AreBelow k ns → Ascends Sooner (ns ++ numbered_from k ls)
+append-rises [] ls k h b = from-rises k ls
+append-rises (n ∷ ns) ls k h b = (every-append (Sooner n) ns _ h.0 (from-later n k ls (b n (inl refl))), append-rises ns ls k h.1 (λ m i. b m (inr i)))
 
 pub fate-below : (g : Lock → Option Lock) (k : ℕ) (ns : List Numbered) → AreBelow k ns → AreBelow k (filter_map (on_lock g) ns)
 fate-below g k ns b n i = let m = in-filter_map (on_lock g) n ns i in by m.0 (g m.0.lock) (b m.0 m.1) m.2
@@ -123,22 +117,32 @@ fate-below g k ns b n i = let m = in-filter_map (on_lock g) n ns i in by m.0 (g 
     by m None h e = cc
     by m (Some l) h e = let s : m.number ≡ n.number = cc in subst (λ x. x < k) s h
 
+none-left : (n : Numbered) (ns : List Numbered) → In n (filter_map (on_lock (λ l. None)) ns) → ⊥
+none-left n [] i = i
+none-left n (m ∷ ns) i = none-left n ns i
+
+-- where all go the count begins anew
+pub fates-below : (f : UnitFacts) (e : Event) (k : ℕ) (ns : List Numbered) → AreBelow k ns → AreBelow (taken_by_now e k) (filter_map (on_lock (fate_by f e)) ns)
+fates-below f Ready k ns b n i = absurd (none-left n ns i)
+fates-below f (Early bs) k ns b n i = absurd (none-left n ns i)
+fates-below f e k ns b n i = fate-below (fate_by f e) k ns b n i
+
 -- a table that has the members of the table after an event keeps the locks after it
 pub keeps-after : (k : ℕ) (trace : Trace) (e : Event) (table new : List Numbered) (ls : List Lock) → KeepsLocks table ls → AreBelow k table →
     SameMembers new (table_after k trace e table) → KeepsLocks new (locks_after trace e ls)
 keeps-after k trace e table new ls h b s = record {
   in_turn = table_after k trace e h.in_turn;
-  rises = append-rises (filter_map (on_lock g) h.in_turn) (lock_won trace e) k (won-one trace e) (fate-rises g h.in_turn h.rises) (fate-below g k h.in_turn (λ n i. b n ((h.same n).1 i)));
-  locks = map-append (λ (n : Numbered). n.lock) (filter_map (on_lock g) h.in_turn) _ ∙ (λ i. (fate-locks g h.in_turn ∙ ap (filter_map g) h.locks) i ++ own (lock_won trace e) i);
+  rises = append-rises (filter_map (on_lock g) h.in_turn) (lock_won trace e) (taken_by_now e k) (fate-rises g h.in_turn h.rises) (fates-below (facts_at trace e) e k h.in_turn (λ n i. b n ((h.same n).1 i)));
+  locks = map-append (λ (n : Numbered). n.lock) (filter_map (on_lock g) h.in_turn) _ ∙ (λ i. (fate-locks g h.in_turn ∙ ap (filter_map g) h.locks) i ++ own (taken_by_now e k) (lock_won trace e) i);
   same = λ n. ((λ i. over table h.in_turn (λ m. (h.same m).0) n ((s n).0 i)), (λ i. (s n).1 (over h.in_turn table (λ m. (h.same m).1) n i)));
 }
   where
     g : Lock → Option Lock
     g = lock_fate trace e
 
-    own : (ls : List Lock) → map (λ (n : Numbered). n.lock) (map (λ l. record { number = k; lock = l }) ls) ≡ ls
-    own [] = refl
-    own (l ∷ ls) = ap (λ x. l ∷ x) (own ls)
+    own : (k : ℕ) (ls : List Lock) → map (λ (n : Numbered). n.lock) (numbered_from k ls) ≡ ls
+    own k [] = refl
+    own k (l ∷ ls) = ap (λ x. l ∷ x) (own (k + 1) ls)
 
     over : (ms ns : List Numbered) → ((m : Numbered) → In m ms → In m ns) → (n : Numbered) → In n (table_after k trace e ms) →
         In n (table_after k trace e ns)

@@ -3,6 +3,8 @@ pub mod LocksAfter
 pub mod KeptTable
 pub mod Numbering
 pub mod Abandoned
+pub mod Gone
+pub mod Begun
 pub mod Writers
 pub mod Pairs
 pub mod Closures
@@ -34,6 +36,7 @@ pub mod Held
 pub mod Entries
 pub mod OneKey
 pub mod FactsKept
+pub mod MessagesGoOn
 pub mod StatesGoOn
 pub mod BesideKept
 pub mod PointsGoOn
@@ -43,3 +46,5 @@ pub mod PointsFall
 pub mod EachTrace
 pub mod TriesLeft
 pub mod EachPoint
+pub mod EarlyKept
+pub mod Restored

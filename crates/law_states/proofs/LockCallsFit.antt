@@ -1,7 +1,6 @@
 -- The calls on a table of numbered locks make of it what the events do.
-use Rattle.salt_ast.specs.declared.trees.Statement.{Statement}
 use Rattle.law_states.specs.DependencyCalls.{IsCommitted}
-use Rattle.law_states.specs.KeptLocks.{Numbered, is_base_among, is_owned_by, lock_committed, lock_taken, on_lock, saline_of}
+use Rattle.law_states.specs.KeptLocks.{Numbered, is_base_among, is_owned_by, lock_committed, lock_taken, numbered_from, on_lock, saline_of}
 use Rattle.law_states.specs.LockCalls.{HasDropped, HasDroppedAll, HasSalted, HasTaken}
 use Rattle.law_states.specs.Members.{In, SameMembers}
 use Rattle.law_states.specs.UnitFacts.{UnitFacts}
@@ -9,8 +8,8 @@ use Rattle.law_states.specs.WatchSteps.{base_by, fate_by, table_by}
 use Rattle.law_story.proofs.Fresh.{or_left, or_right}
 use Rattle.law_story.proofs.Ids.{is_same_id-sym}
 use Rattle.law_story.proofs.Lists.{either, in-cases, in-filter_map, in-left, in-right, into-filter_map}
+use Rattle.salt_ast.specs.declared.trees.Statement.{Statement}
 use Rattle.salt_model.specs.Locks.{family_of, is_same_owner, lock_of}
-use Rattle.salt_values.specs.Id.{has_id}
 use Rattle.salt_model.specs.declared.events.Answer.{Answer}
 use Rattle.salt_model.specs.declared.events.End.{End}
 use Rattle.salt_model.specs.declared.events.End.TheVariants.{Committed}
@@ -19,12 +18,12 @@ use Rattle.salt_model.specs.declared.events.Owner.{Owner}
 use Rattle.salt_model.specs.declared.events.Owner.TheVariants.{Base, Unit}
 use Rattle.salt_model.specs.declared.locks.Lock.{Lock}
 use Rattle.salt_model.specs.declared.locks.Reach.{Reach}
-use Rattle.salt_values.specs.Id.{is_same_id}
+use Rattle.salt_values.specs.Id.{has_id, is_same_id}
 use Rattle.salt_values.specs.declared.id.Id.{Id}
 use Rattle.std.proofs.Common.{ap, append-nil, inl, inr, subst, sym, ◌∙◌}
 use Rattle.std.specs.Bool.{then_some}
 use Rattle.std.specs.List.{filter_map}
-use Rattle.std.specs.Prelude.{Bool, List, None, Option, Some, [], false, map, not, option_map, refl, true, ℕ, ◌++◌, ◌||◌, ◌↔◌, ◌∷◌, ◌≡◌, ◌⊎◌}
+use Rattle.std.specs.Prelude.{Bool, List, None, Option, Some, [], false, not, option_map, refl, true, ℕ, ◌++◌, ◌||◌, ◌↔◌, ◌∷◌, ◌≡◌, ◌⊎◌}
 
 -- the members after a fate
 in-fate : (g : Lock → Option Lock) (n : Numbered) (table : List Numbered) → In n (filter_map (on_lock g) table) →
@@ -77,8 +76,8 @@ both f g = ((λ a. g.0 (f.0 a)), (λ c. f.1 (g.1 c)))
 pub take-fits : (facts : UnitFacts) (u : Id) (st : Statement) (a : Answer) (k : ℕ) (r : Reach) (old new : List Numbered) → facts.reach ≡ Some r →
     HasTaken k (lock_of (Unit u) (family_of (facts.kind)) r) old new → SameMembers new (table_by facts k (Did u st a) old)
 take-fits facts u st a k r old new e h n = (
-  (λ i. subst (λ o. In n (all old ++ map (λ l. record { number = k; lock = l }) (lock_taken u (facts.kind) o))) (sym e) (either (λ j. in-left n (all old) _ (kept n j)) (λ q. in-right n (all old) _ (inl (sym q))) ((h n).0 i))),
-  (λ i. (h n).1 (either (λ j. inl (was n j)) (λ j. either (λ q. inr (sym q)) (λ z. absurd z) j) (in-cases n (all old) _ (subst (λ o. In n (all old ++ map (λ l. record { number = k; lock = l }) (lock_taken u (facts.kind) o))) e i)))),
+  (λ i. subst (λ o. In n (all old ++ numbered_from k (lock_taken u (facts.kind) o))) (sym e) (either (λ j. in-left n (all old) _ (kept n j)) (λ q. in-right n (all old) _ (inl (sym q))) ((h n).0 i))),
+  (λ i. (h n).1 (either (λ j. inl (was n j)) (λ j. either (λ q. inr (sym q)) (λ z. absurd z) j) (in-cases n (all old) _ (subst (λ o. In n (all old ++ numbered_from k (lock_taken u (facts.kind) o))) e i)))),
 )
   where
     all : List Numbered → List Numbered

@@ -1,15 +1,14 @@
 -- The next event of a played trace is told by its state, and by what is known beside it.
-use Rattle.salt_ast.specs.declared.trees.Statement.{Statement}
 use Rattle.law_states.proofs.Doing.{reach-kept}
 use Rattle.law_states.proofs.KeepsOn.{keeps-asks, keeps-says, keeps-turns}
 use Rattle.law_states.proofs.KeptAfter.{open-listed}
 use Rattle.law_states.proofs.LookUps.{number-kept}
 use Rattle.law_states.proofs.Told.{after-began-told, after-did-told, after-end-told, cuts-told, finishes-told, go-told, line-told, name_of, serve-told, settle-told, to-cut-told}
+use Rattle.law_states.specs.Follows.{cut_in, cuts_or_drains_in, follow_in, follow_opening_in, opened_in, said_in, serving_in, settles_in, stands_in, unit_of}
 use Rattle.law_states.specs.Keeps.{KeepsUnit, KeepsUnits}
 use Rattle.law_states.specs.Laws.{is_of_run}
 use Rattle.law_states.specs.OpenUnits.{OpenUnit, UnitState, unit_named}
 use Rattle.law_states.specs.Steps.{units_after, units_asked, units_turned}
-use Rattle.law_states.specs.Follows.{cut_in, cuts_or_drains_in, follow_in, follow_opening_in, opened_in, said_in, serving_in, settles_in, stands_in, unit_of}
 use Rattle.law_states.specs.Told.{Beside, at_devices_in, go_in, line_in, settle_in}
 use Rattle.law_story.proofs.Coming.{Good}
 use Rattle.law_story.proofs.Every.{IfSome}
@@ -17,6 +16,7 @@ use Rattle.law_story.proofs.Ids.{is_same_id-refl}
 use Rattle.law_story.proofs.NextFits.{find-in, wait-open}
 use Rattle.law_story.proofs.Opens.{Open}
 use Rattle.law_story.proofs.Replays.{Ground, good-event, replays}
+use Rattle.salt_ast.specs.declared.trees.Statement.{Statement}
 use Rattle.salt_model.specs.After.{reach_now}
 use Rattle.salt_model.specs.Kept.{WellKept, schema_of}
 use Rattle.salt_model.specs.Locks.{clashing}
@@ -37,7 +37,7 @@ use Rattle.salt_model.specs.Waiting.{clashing_now, next_unblocked, victim}
 use Rattle.salt_model.specs.Words.{is_empty}
 use Rattle.salt_model.specs.declared.events.End.{End}
 use Rattle.salt_model.specs.declared.events.Event.{Event}
-use Rattle.salt_model.specs.declared.events.Event.TheVariants.{Accepted, Began, Did, Down, Ended, Finished, Opened, Ready, Refused}
+use Rattle.salt_model.specs.declared.events.Event.TheVariants.{Accepted, Began, Did, Down, Early, Ended, Finished, Opened, Ready, Refused}
 use Rattle.salt_values.specs.declared.id.Id.{Id}
 use Rattle.std.proofs.Common.{ap, sym, ◌∙◌}
 use Rattle.std.specs.Bool.{then_some}
@@ -84,8 +84,8 @@ module _ (s : UnitState) (trace : Trace) (keeps : KeepsUnits s trace) (ground : 
       let now = trace says Began u kind in
       let a = units_after (Began u kind) s in
       let r = open-listed a now u base after (rw (is_same_id-refl u) refl) in
-      ap (λ v. after_began now v (line_of trace)) (sym r.2) ∙ ap (after_began now r.0.unit) after.line
-      ∙ after-began-told a now after x.clash is.clash r.0 r.3 s.line
+      ap (λ v. after_began now v (line_of trace) kind) (sym r.2) ∙ ap (λ l. after_began now r.0.unit l kind) after.line
+      ∙ after-began-told a now after x.clash is.clash r.0 r.3 s.line kind
       ∙ ap (follow_in a x (Began u kind)) (sym r.1)
   follow-told (Did u st answer) is base good after =
       let now = trace says Did u st answer in
@@ -102,6 +102,7 @@ module _ (s : UnitState) (trace : Trace) (keeps : KeepsUnits s trace) (ground : 
   serving-told : (e : Event) → IsBeside (trace says e) x → Ground (trace says e) → Good trace e → KeepsUnits (units_after e s) (trace says e) →
       serving_event (trace says e) e ≡ serving_in (units_after e s) x e (unit_of e s (units_after e s))
   serving-told Ready is base good after = refl
+  serving-told (Early bs) is base good after = refl
   serving-told e is base good after =
       let f = follow-told e is base good after in
       let g = settles-told (units_after e s) (trace says e) x is base after in

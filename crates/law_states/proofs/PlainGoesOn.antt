@@ -1,39 +1,37 @@
 -- The state by lists goes on as states do, and is read by closures in rounds.
 use Rattle.law_states.proofs.Closures.{any-in, into-any}
-use Rattle.law_states.proofs.KeptTable.{append-rises, fate-below, fate-rises}
+use Rattle.law_states.proofs.KeptTable.{append-rises, fate-rises, fates-below}
 use Rattle.law_states.proofs.Numbering.{below-counted}
 use Rattle.law_states.proofs.PairLists.{all_sources-exact, due_in-exact}
-use Rattle.law_states.specs.KeptLocks.{AreBelow, Numbered, Sooner, is_owned_by, lock_taken, on_lock}
+use Rattle.law_states.specs.KeptLocks.{Numbered, Sooner, is_owned_by, on_lock}
 use Rattle.law_states.specs.KeptSources.{FinishedAfter, WritesIn, given_up, unless_among}
 use Rattle.law_states.specs.Members.{Ascends, In}
 use Rattle.law_states.specs.Overlays.{Edit}
 use Rattle.law_states.specs.PairClosures.{Pair, all_sources, due_in, has_pair}
-use Rattle.law_states.specs.PlainStates.{IsInTurn, PlainState, PlainWatch, as_state, finished_after, pair_at, pair_with, pairs_after, pairs_read, state_after, watch_after, watch_of, writer_in, writers_after, written_by}
+use Rattle.law_states.specs.PlainStates.{IsInTurn, PlainState, PlainWatch, as_state, finished_after, pair_at, pair_with, pairs_after, pairs_among, pairs_read, state_after, watch_after, watch_of, writer_in, writers_after, written_by}
 use Rattle.law_states.specs.Readings.{Reading}
 use Rattle.law_states.specs.States.{After}
 use Rattle.law_states.specs.UnitFacts.{UnitFacts, facts_in}
-use Rattle.law_states.specs.WatchSteps.{ReadsBy, base_by, fate_by, first_by, won_by, writer_by}
+use Rattle.law_states.specs.WatchSteps.{ReadsBy, base_by, fate_by, first_by, taken_by_now, won_by, writer_by}
 use Rattle.law_story.proofs.Every.{every-filter}
 use Rattle.law_story.proofs.Ids.{and_left, and_right, is_same_id-refl, is_same_id-true}
 use Rattle.law_story.proofs.Lists.{either, has-in, in-cases, in-filter, in-filter_map, in-has, in-left, in-right, in-without, into-filter, into-filter_map}
 use Rattle.law_story.proofs.Places.{equal-is, place_same}
 use Rattle.salt_model.specs.Tables.{is_within, place, place_cmp}
-use Rattle.salt_values.specs.Id.{has_id, without}
 use Rattle.salt_model.specs.declared.events.End.TheVariants.{Committed}
 use Rattle.salt_model.specs.declared.events.Event.{Event}
-use Rattle.salt_model.specs.declared.events.Event.TheVariants.{Did, Ended, Finished, Ready, Released}
-use Rattle.salt_model.specs.declared.locks.Lock.{Lock}
+use Rattle.salt_model.specs.declared.events.Event.TheVariants.{Did, Early, Ended, Finished, Ready, Released}
 use Rattle.salt_model.specs.declared.locks.Reach.{Reach}
 use Rattle.salt_model.specs.declared.places.Place.{Place}
-use Rattle.salt_values.specs.Id.{is_same_id}
+use Rattle.salt_values.specs.Id.{has_id, is_same_id, without}
 use Rattle.salt_values.specs.declared.id.Id.{Id}
-use Rattle.std.proofs.Common.{ap, arith, inl, inr, subst, sym, ◌∙◌}
+use Rattle.std.proofs.Common.{ap, inl, inr, subst, sym, ◌∙◌}
 use Rattle.std.proofs.lemmas.Bool.{eq-eqb, eqb-true}
 use Rattle.std.specs.Bool.{then_some}
 use Rattle.std.specs.FinMap.Entries.{find, find-where_key, where_key}
-use Rattle.std.specs.List.{filter, filter_map}
+use Rattle.std.specs.List.{filter, filter_map, flat_map}
 use Rattle.std.specs.Ordering.{is_eq}
-use Rattle.std.specs.Prelude.{Bool, IsTrue, List, None, Option, Some, [], cond, false, is_some, length, map, not, option_and_then, refl, true, ◌&&◌, ◌++◌, ◌+◌, ◌<◌, ◌==◌, ◌↔◌, ◌∷◌, ◌≡◌, ◌≤◌, ◌⊎◌}
+use Rattle.std.specs.Prelude.{Bool, IsTrue, List, None, Option, Some, [], cond, false, is_some, map, not, option_and_then, refl, true, ◌&&◌, ◌++◌, ◌==◌, ◌↔◌, ◌∷◌, ◌≡◌, ◌⊎◌}
 
 -- last writers
 
@@ -200,6 +198,32 @@ reads-filter test ps x y = (
   (λ h. of-pair (filter test ps) x y (into-filter test (record { reader = x; source = y }) ps (pair-of ps x y h.0) h.1)),
 )
 
+-- the pairs among programs that an early opening names
+pair-with-back : (b z x y : Id) → pair_with b z ≡ Some (record { reader = x; source = y }) → (b ≡ x) × (z ≡ y) × (is_same_id z b ≡ false)
+pair-with-back b z x y h = go (is_same_id z b) refl h
+  where
+    go : (t : Bool) → is_same_id z b ≡ t → then_some {T = Pair} (not t) (record { reader = b; source = z }) ≡ Some (record { reader = x; source = y }) → (b ≡ x) × (z ≡ y) × (is_same_id z b ≡ false)
+    go true e g = cc
+    go false e g = let m : ◌≡◌ {A = Pair} (record { reader = b; source = z }) (record { reader = x; source = y }) = cc in (ap (λ (p : Pair). p.reader) m, ap (λ (p : Pair). p.source) m, e)
+
+among-rest : (bs cs : List Id) (x y : Id) → In (record { reader = x; source = y }) (flat_map (λ b. filter_map (pair_with b) bs) cs) → In x cs × In y bs × (is_same_id y x ≡ false)
+among-rest bs [] x y i = absurd i
+among-rest bs (c ∷ cs) x y i = either
+    (λ j. let m = in-filter_map (pair_with c) (record { reader = x; source = y }) bs j in let r = pair-with-back c m.0 x y m.2 in (inl r.0, subst (λ z. In z bs) r.1 m.1, subst (λ z. is_same_id y z ≡ false) r.0 (subst (λ z. is_same_id z c ≡ false) r.1 r.2)))
+    (λ j. let r = among-rest bs cs x y j in (inr r.0, r.1, r.2))
+    (in-cases (record { reader = x; source = y }) (filter_map (pair_with c) bs) _ i)
+
+among-pair : (bs : List Id) (x y : Id) → In (record { reader = x; source = y }) (pairs_among bs) → IsTrue (has_id x bs) × IsTrue (has_id y bs) × (is_same_id y x ≡ false)
+among-pair bs x y i = let r = among-rest bs bs x y i in (in-has x bs r.0, in-has y bs r.1, r.2)
+
+rest-among : (bs cs : List Id) (x y : Id) → In x cs → In y bs → is_same_id y x ≡ false → In (record { reader = x; source = y }) (flat_map (λ b. filter_map (pair_with b) bs) cs)
+rest-among bs [] x y i j n = absurd i
+rest-among bs (c ∷ cs) x y (inl e) j n = in-left (record { reader = x; source = y }) (filter_map (pair_with c) bs) _ (subst (λ z. In (record { reader = x; source = y }) (filter_map (pair_with z) bs)) (sym e) (into-filter_map (pair_with x) y (record { reader = x; source = y }) bs j (rw n refl)))
+rest-among bs (c ∷ cs) x y (inr i) j n = in-right (record { reader = x; source = y }) (filter_map (pair_with c) bs) _ (rest-among bs cs x y i j n)
+
+pair-among : (bs : List Id) (x y : Id) → IsTrue (has_id x bs) → IsTrue (has_id y bs) → is_same_id y x ≡ false → In (record { reader = x; source = y }) (pairs_among bs)
+pair-among bs x y i j n = rest-among bs bs x y (has-in x bs i) (has-in y bs j) n
+
 reads-on : (f : UnitFacts) (e : Event) (w : PlainWatch) (x y : Id) →
     IsTrue (has_pair (pairs_after f e w.writers w.pairs) x y) ↔ ReadsBy f e (watch_of w).dependencies x y
 reads-on f (Did u st a) w x y = reads-did (base_by f) f.reach w.writers w.pairs x y
@@ -210,6 +234,7 @@ reads-on f (Released bs) w x y =
     let r = reads-filter (λ p. not (has_id p.reader bs) && not (has_id p.source bs)) w.pairs x y in
     ((λ h. let m = r.0 h in (m.0, un-not _ (and_left (not (has_id x bs)) _ m.1), un-not _ (and_right (not (has_id x bs)) _ m.1))), (λ h. r.1 (h.0, both-true _ _ (ap not h.1) (ap not h.2))))
 reads-on f Ready w x y = ((λ h. cc), (λ h. absurd h))
+reads-on f (Early bs) w x y = ((λ h. among-pair bs x y (pair-of (pairs_among bs) x y h)), (λ h. of-pair (pairs_among bs) x y (pair-among bs x y h.0 h.1 h.2)))
 reads-on f e w x y = ((λ h. h), (λ h. h))
 
 finished-on : (e : Event) (w : PlainWatch) (b : Id) → IsTrue (has_id b (finished_after e w.finished)) ↔ FinishedAfter e (watch_of w).dependencies b
@@ -222,6 +247,7 @@ finished-on (Released cs) w b = (
   (λ h. in-has b (without cs w.finished) (into-filter (λ u. not (has_id u cs)) b w.finished (has-in b w.finished h.0) (ap not h.1))),
 )
 finished-on Ready w b = ((λ h. cc), (λ h. absurd h))
+finished-on (Early bs) w b = ((λ h. cc), (λ h. absurd h))
 finished-on e w b = ((λ h. h), (λ h. h))
 
 -- the whole
@@ -241,22 +267,16 @@ plain-says e p = record {
   };
   names = λ b. refl;
   can_stop = refl;
+  over_net = refl;
+  net = λ shape. refl;
 }
 
 -- locks stay in turn
 
-won-one : (f : UnitFacts) (e : Event) → length (won_by f e) ≤ 1
-won-one f (Did u st a) = by f.reach
-  where
-    by : (o : Option Reach) → length (lock_taken u f.kind o) ≤ 1
-    by None = omega arith
-    by (Some r) = omega arith
-won-one f e = omega arith
-
 pub turn-stays : (f : UnitFacts) (e : Event) (w : PlainWatch) → IsInTurn w → IsInTurn (watch_after f e w)
 turn-stays f e w h = record {
-  rises = append-rises (filter_map (on_lock (fate_by f e)) w.table) (won_by f e) w.taken (won-one f e)
-      (fate-rises (fate_by f e) w.table h.rises) (fate-below (fate_by f e) w.taken w.table h.below);
+  rises = append-rises (filter_map (on_lock (fate_by f e)) w.table) (won_by f e) (taken_by_now e w.taken)
+      (fate-rises (fate_by f e) w.table h.rises) (fates-below f e w.taken w.table h.below);
   below = below-counted f e w.taken w.table h.below;
 }
 

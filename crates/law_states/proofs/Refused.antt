@@ -1,19 +1,19 @@
 -- A line is refused as its state says.
-use Rattle.salt_ast.specs.ProgramJudgement.{line_fault}
-use Rattle.salt_ast.specs.declared.lines.Act.{Act}
-use Rattle.salt_ast.specs.declared.lines.Act.TheVariants.{Begin, Call, Commit, Do, Rollback, Step}
-use Rattle.salt_ast.specs.declared.lines.Line.{Line}
-use Rattle.salt_ast.specs.declared.lines.Line.TheVariants.{Crash, Go, Session}
 use Rattle.law_states.proofs.LookUps.{program-kept, session-kept}
 use Rattle.law_states.proofs.Told.{empty-names, every-found, name_of}
 use Rattle.law_states.specs.Keeps.{KeepsUnit, KeepsUnits}
 use Rattle.law_states.specs.OpenUnits.{OpenUnit, UnitState, unit_of_program, unit_of_session}
-use Rattle.law_states.specs.Refused.{UnderWay, busy_in, known_in, refusal_in, waits, wrong_for, wrong_in}
+use Rattle.law_states.specs.Refused.{UnderWay, busy_in, held_back_in, known_in, refusal_in, waits, wrong_for, wrong_in}
 use Rattle.law_story.proofs.Every.{IfSome}
-use Rattle.salt_model.specs.Kept.{programs_of, schema_of}
+use Rattle.salt_ast.specs.ProgramJudgement.{line_fault}
+use Rattle.salt_ast.specs.declared.lines.Act.{Act}
+use Rattle.salt_ast.specs.declared.lines.Act.TheVariants.{Begin, Call, Commit, Do, Rollback, Step}
+use Rattle.salt_ast.specs.declared.lines.Line.{Line}
+use Rattle.salt_ast.specs.declared.lines.Line.TheVariants.{Crash, Go, Net, Session}
+use Rattle.salt_model.specs.Kept.{kept_program, programs_of, schema_of}
 use Rattle.salt_model.specs.Locks.{is_holding}
 use Rattle.salt_model.specs.Programs.{accepted_in, under_way}
-use Rattle.salt_model.specs.Refusals.{defines, has_block, is_busy, is_called, is_state_wrong, is_waiting_unit, known_at, refusal, refusal_by, state_wrong}
+use Rattle.salt_model.specs.Refusals.{defines, has_block, is_base_program, is_busy, is_called, is_covering, is_held_back, is_state_wrong, is_waiting_unit, known_at, refusal, refusal_by, state_wrong}
 use Rattle.salt_model.specs.Trace.{Asked, Rejected, Trace, Tree, start_of}
 use Rattle.salt_model.specs.Words.{is_empty}
 use Rattle.salt_model.specs.declared.events.UnitKind.{UnitKind}
@@ -29,7 +29,9 @@ use Rattle.salt_model.specs.declared.events.Refusal.TheVariants as refused
 pub record IsUnderWay (trace : Trace) (w : UnderWay) : Type 0 where
   pub count : length (under_way trace) ≡ w.count
   pub holds : list_any (is_holding trace) (accepted_in trace) ≡ w.holds
+  pub covers : is_covering trace ≡ w.covers
   pub can_stop : (start_of trace).can_stop ≡ w.can_stop
+  pub over_net : (start_of trace).over_net ≡ w.over_net
 
 module _ (s : UnitState) (trace : Trace) (keeps : KeepsUnits s trace) (way : UnderWay) (ways : IsUnderWay trace way) where
   known-told : known_at trace ≡ known_in s way
@@ -56,14 +58,19 @@ module _ (s : UnitState) (trace : Trace) (keeps : KeepsUnits s trace) (way : Und
   waits-told None k = refl
   waits-told (Some o) k = k.waiting
 
+  held-back-told : (act : Act) → is_held_back trace act ≡ held_back_in s way act
+  held-back-told (Call n args) = λ i. ways.covers i && is_base_program (kept_program n (keeps.kept i))
+  held-back-told act = refl
+
   wrong-told : (line : Line) → is_state_wrong trace line ≡ wrong_in s way line
   wrong-told (Session t act) =
-      ap (λ o. state_wrong trace o act) (session-kept s trace t keeps)
-      ∙ act-wrong-told act (unit_of_session t s) (every-found (KeepsUnit trace) _ s.units keeps.each)
+      ap (λ o. state_wrong trace o act || is_held_back trace act) (session-kept s trace t keeps)
+      ∙ (λ i. act-wrong-told act (unit_of_session t s) (every-found (KeepsUnit trace) _ s.units keeps.each) i || held-back-told act i)
   wrong-told (Go b) =
       ap (is_waiting_unit trace) (program-kept s trace b keeps)
       ∙ waits-told (unit_of_program b s) (every-found (KeepsUnit trace) _ s.units keeps.each)
   wrong-told (Crash pairs) = ap not ways.can_stop
+  wrong-told (Net pairs) = ap not ways.over_net
   wrong-told line = refl
 
   busy-told : is_busy trace ≡ busy_in s way

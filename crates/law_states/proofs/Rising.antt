@@ -7,8 +7,8 @@ use Rattle.law_story.proofs.Every.{every-append, every-filter}
 use Rattle.law_story.proofs.Ids.{is_same_id-refl, is_same_id-true}
 use Rattle.law_story.proofs.Lists.{In}
 use Rattle.law_story.proofs.NextFits.{Fits}
-use Rattle.law_story.proofs.Salted.{holds, may-fit}
 use Rattle.law_story.proofs.Sound.{OldAt, Sound, older-not}
+use Rattle.law_story.proofs.Upheld.{holds, may-fit}
 use Rattle.law_story.proofs.WellKept.{of-start}
 use Rattle.salt_model.specs.Kept.{WellKept}
 use Rattle.salt_model.specs.Phases.{Fallen, Opening, Phase, Serving, phase}

@@ -1,5 +1,4 @@
 -- When settling has ended each waiting unit clashes, and no cycle is left.
-use Rattle.salt_ast.specs.declared.trees.Statement.{Statement}
 use Rattle.law_states.proofs.Askers.{all-ask, asked-asks, asked-turns, wait-waiting}
 use Rattle.law_states.proofs.LocksAfter.{held-asks, held-turns}
 use Rattle.law_states.specs.KeptWaits.{IsSettled, asker, waiting}
@@ -7,8 +6,9 @@ use Rattle.law_states.specs.Members.{In}
 use Rattle.law_story.proofs.Coming.{neither}
 use Rattle.law_story.proofs.Lists.{into-filter}
 use Rattle.law_story.proofs.NextFits.{find-in, wait-open}
-use Rattle.law_story.proofs.Salted.{OfBoots, holds, may-fit}
-use Rattle.law_story.proofs.Sound.{none-open}
+use Rattle.law_story.proofs.Sound.{none-open, none-open-early}
+use Rattle.law_story.proofs.Upheld.{OfBoots, holds, may-fit}
+use Rattle.salt_ast.specs.declared.trees.Statement.{Statement}
 use Rattle.salt_model.specs.After.{reach_now}
 use Rattle.salt_model.specs.Locks.{clash_locks, clashes, clashing, family_of, owners_of}
 use Rattle.salt_model.specs.Next.{next, said_event}
@@ -19,7 +19,7 @@ use Rattle.salt_model.specs.Turns.{does, does_next, follow, settle, settle_by}
 use Rattle.salt_model.specs.Units.{is_open, kind_of, wait_list}
 use Rattle.salt_model.specs.Waiting.{WaitUnit, asked_by, clashing_now, edges_to, is_acid, is_on_cycle, names_of, next_unblocked, victim, victim_of, wait_graph, wait_unit}
 use Rattle.salt_model.specs.Words.{Every, greatest, is_empty}
-use Rattle.salt_model.specs.declared.events.Event.TheVariants.{Down, Opened, Ready}
+use Rattle.salt_model.specs.declared.events.Event.TheVariants.{Down, Early, Opened, Ready}
 use Rattle.salt_model.specs.declared.events.Owner.{Owner}
 use Rattle.salt_model.specs.declared.events.Owner.TheVariants.{Base, Unit}
 use Rattle.salt_model.specs.declared.locks.Lock.{Lock}
@@ -133,6 +133,9 @@ none-next (trace says Down why) p w s n = cc
 none-next (trace says Opened boot m) p w s n = cc
 none-next (trace says Ready) p w s n =
     let k = holds trace p.0 w in none-waits (trace says Ready) (none-open trace k.sound (may-fit trace Ready k.comes p.1)) (wait_list trace) refl
+none-next (trace says Early bs) p w s n =
+    let k = holds trace p.0 w in
+    none-waits (trace says Early bs) (none-open-early trace bs k.sound (may-fit trace (Early bs) k.comes p.1)) (wait_list trace) refl
 none-next (trace says e) p w s n =
     settles (trace says e) (all-ask (trace says e) p w)
     (neither (follow (trace says e) e) (settle (trace says e)) (subst (λ q. said_event q (trace says e) e ≡ None) s n)).1

@@ -1,9 +1,6 @@
 -- What is still to come falls with each event.
-use Rattle.salt_ast.specs.declared.lines.Act.TheVariants.{Begin}
-use Rattle.salt_ast.specs.declared.lines.Line.{Line}
-use Rattle.salt_ast.specs.declared.lines.Line.TheVariants.{Session}
-use Rattle.salt_ast.specs.declared.trees.Statement.{Statement}
 use Rattle.law_states.proofs.UnitLists.{map-filter}
+use Rattle.law_states.specs.Follows.{follow_in, said_in, serving_in, settles_in, unit_of}
 use Rattle.law_states.specs.KeptSources.{Dependencies}
 use Rattle.law_states.specs.KeptWaits.{Asker, clash_owners, drop_asker, graph_unit, served_in, victim_in}
 use Rattle.law_states.specs.Laws.{is_of_run}
@@ -13,7 +10,6 @@ use Rattle.law_states.specs.OpenUnits.{OpenUnit, UnitState, asks_next, unit_name
 use Rattle.law_states.specs.Readings.{Reading, beside_by, locks_in}
 use Rattle.law_states.specs.Settling.{stage, to_come, waiters, waiters_after}
 use Rattle.law_states.specs.States.{After, State}
-use Rattle.law_states.specs.Follows.{follow_in, said_in, serving_in, settles_in, unit_of}
 use Rattle.law_states.specs.Told.{Beside, Clashes, after_began_in, after_did_in, after_end_in, asks_in, commits_in, does_in, fails_in, finishes_in, is_at_end_in, settle_in, turn_in}
 use Rattle.law_states.specs.UnitFacts.{UnitFacts, facts_in, facts_of, unit_before}
 use Rattle.law_states.specs.WatchSteps.{waits_by}
@@ -21,24 +17,27 @@ use Rattle.law_story.proofs.Fresh.{IfComes}
 use Rattle.law_story.proofs.Ids.{is_same_id-refl, is_same_id-true}
 use Rattle.law_story.proofs.Lists.{all-in, either, filter-less, filter-short, in-filter, in-map}
 use Rattle.law_story.proofs.NextFits.{comes-map-at, comes-then_some-at, find-in, greatest-in}
+use Rattle.salt_ast.specs.declared.lines.Act.TheVariants.{Begin}
+use Rattle.salt_ast.specs.declared.lines.Line.{Line}
+use Rattle.salt_ast.specs.declared.lines.Line.TheVariants.{Session}
+use Rattle.salt_ast.specs.declared.trees.Statement.{Statement}
 use Rattle.salt_model.specs.Kept.{block_of_kind, cont_of}
 use Rattle.salt_model.specs.Phases.{Phase, Serving}
 use Rattle.salt_model.specs.Turns.{releases}
 use Rattle.salt_model.specs.Waiting.{WaitUnit, is_on_cycle, names_of, victim_of}
 use Rattle.salt_model.specs.Words.{greatest, is_empty}
-use Rattle.salt_values.specs.Id.{has_id, without}
 use Rattle.salt_model.specs.declared.events.Answer.{Answer}
 use Rattle.salt_model.specs.declared.events.Answer.TheVariants.{Failed}
 use Rattle.salt_model.specs.declared.events.Cause.{Cause}
 use Rattle.salt_model.specs.declared.events.End.{End}
 use Rattle.salt_model.specs.declared.events.End.TheVariants.{Branched, Committed}
 use Rattle.salt_model.specs.declared.events.Event.{Event}
-use Rattle.salt_model.specs.declared.events.Event.TheVariants.{Accepted, Began, Did, Down, Ended, Finished, Opened, Ready, Waits}
+use Rattle.salt_model.specs.declared.events.Event.TheVariants.{Accepted, Began, Did, Down, Early, Ended, Finished, Opened, Ready, Waits}
 use Rattle.salt_model.specs.declared.events.Owner.{Owner}
 use Rattle.salt_model.specs.declared.events.UnitKind.{UnitKind}
-use Rattle.salt_model.specs.declared.events.UnitKind.TheVariants.{First, Later}
+use Rattle.salt_model.specs.declared.events.UnitKind.TheVariants.{Acid, First, Later}
 use Rattle.salt_model.specs.declared.locks.Lock.{Lock}
-use Rattle.salt_values.specs.Id.{is_same_id}
+use Rattle.salt_values.specs.Id.{has_id, is_same_id, without}
 use Rattle.salt_values.specs.declared.id.Id.{Id}
 use Rattle.std.proofs.Common.{ap, arith, inl, inr, subst, sym, ◌∙◌}
 use Rattle.std.proofs.lemmas.List.{length-append, length-map}
@@ -60,9 +59,9 @@ asks-cost s o st (owner ∷ owners) = omega arith
 turn-cost : (s : UnitState) (c : Clashes) (o : OpenUnit) → IfComes (λ f. cost f < 8) (turn_in s c o)
 turn-cost s c o = comes-map-at (λ f. cost f < 8) (λ st. asks_in s o st (c o st)) (asks_next s o) (λ st e. asks-cost s o st (c o st))
 
-began-cost : (s : UnitState) (c : Clashes) (o : OpenUnit) (line : Line) → IfComes (λ f. cost f < 8) (after_began_in s c o line)
-began-cost s c o (Session t Begin) = tt
-began-cost s c o line = turn-cost s c o
+began-cost : (s : UnitState) (c : Clashes) (o : OpenUnit) (line : Line) (kind : UnitKind) → IfComes (λ f. cost f < 8) (after_began_in s c o line kind)
+began-cost s c o (Session t Begin) (Acid z) = tt
+began-cost s c o line kind = turn-cost s c o
 
 fails-cost : (s : UnitState) (o : OpenUnit) (c : Cause) (kind : UnitKind) → cost (fails_in s o c kind) < 5
 fails-cost s o c (Later b part) = omega arith
@@ -90,7 +89,7 @@ release-cost [] = tt
 release-cost (b ∷ bs) = omega arith
 
 follow-cost : (s : UnitState) (x : Beside) (e : Event) (o : Option OpenUnit) → IfComes (λ f. cost f < stage e) (follow_in s x e o)
-follow-cost s x (Began u kind) (Some o) = began-cost s x.clash o s.line
+follow-cost s x (Began u kind) (Some o) = began-cost s x.clash o s.line kind
 follow-cost s x (Did u st answer) (Some o) = did-cost s o answer
 follow-cost s x (Ended u end) (Some o) = end-cost s end o.kind
 follow-cost s x (Accepted b) o = finishes-cost s b
@@ -216,6 +215,7 @@ comes-else P (Some e) p f g = f
 serving-falls : (s : State) (x : Reading s.watch) (e : Event) (o : Option OpenUnit) →
     IfComes (Falls (waiters s) (6 * length (waiters s) + stage e)) (serving_in s.units (beside_by s x) e o)
 serving-falls s x Ready o = tt
+serving-falls s x (Early bs) o = tt
 serving-falls s x e o =
     comes-else (Falls (waiters s) (6 * length (waiters s) + stage e)) (follow_in s.units (beside_by s x) e o) (settles_in s.units (beside_by s x))
     (follow-falls (waiters s) (stage e) (follow_in s.units (beside_by s x) e o) (follow-cost s.units (beside_by s x) e o))

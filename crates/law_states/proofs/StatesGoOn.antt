@@ -1,9 +1,10 @@
 -- The state of a trace goes on with each event, line and turn, and begins at a start.
 use Rattle.law_states.proofs.FactsKept.{facts-kept}
 use Rattle.law_states.proofs.KeepsOn.{keeps-asks, keeps-says, keeps-start, keeps-turns}
+use Rattle.law_states.proofs.MessagesGoOn.{net-says}
 use Rattle.law_states.proofs.WatchesGoOn.{watches-ask, watches-say, watches-turn}
 use Rattle.law_states.specs.Keeps.{KeepsUnits}
-use Rattle.law_states.specs.States.{After, Keeps, State, asked_of, named_by, started, turned_to}
+use Rattle.law_states.specs.States.{After, Keeps, State, asked_of, named_by, net_by, started, turned_to}
 use Rattle.law_states.specs.WatchSteps.{WatchBy, WatchChange}
 use Rattle.law_states.specs.Watches.{Watches}
 use Rattle.law_story.proofs.Replays.{good-event, replays}
@@ -11,6 +12,8 @@ use Rattle.salt_model.specs.Kept.{WellKept}
 use Rattle.salt_model.specs.Played.{IsPlayed}
 use Rattle.salt_model.specs.Shown.{name_of_base}
 use Rattle.salt_model.specs.Trace.{Asked, Start, Trace, from, start_of, ◌asks◌, ◌says◌, ◌turns◌}
+use Rattle.salt_place.specs.declared.placement.Shape.{Shape}
+use Rattle.salt_stands.specs.Turning.{turning}
 use Rattle.salt_values.specs.Id.{in_order, without}
 use Rattle.salt_model.specs.declared.events.Event.{Event}
 use Rattle.salt_model.specs.declared.events.Event.TheVariants.{Began}
@@ -42,7 +45,12 @@ states-say old new trace e keeps p w a = record {
   watch = watch-says old new trace e keeps p w a.watch;
   names = λ b. names-says old.names trace e keeps.names b ∙ sym (a.names b);
   can_stop = keeps.can_stop ∙ sym a.can_stop;
+  over_net = keeps.over_net ∙ sym a.over_net;
+  net = λ shape. net-now shape ∙ sym (a.net shape);
 }
+  where
+    net-now : (shape : Shape) → turning shape (trace says e) ≡ net_by e old.units old.net shape
+    net-now = net-says old.units trace keeps.units e old.net (replays trace p.0).base (good-event trace e (replays trace p.0) p.1) keeps.net
 
 -- a line, a turn
 pub states-ask : (s : State) (trace : Trace) (asked : Asked) → Keeps s trace → IsPlayed trace → WellKept (start_of trace).kept →
@@ -52,6 +60,8 @@ states-ask s trace asked keeps p w = record {
   watch = watches-ask trace asked s.watch p w keeps.watch;
   names = keeps.names;
   can_stop = keeps.can_stop;
+  over_net = keeps.over_net;
+  net = keeps.net;
 }
 
 pub states-turn : (s : State) (trace : Trace) (b : Id) → Keeps s trace → IsPlayed trace → WellKept (start_of trace).kept →
@@ -61,6 +71,8 @@ states-turn s trace b keeps p w = record {
   watch = watches-turn trace b s.watch p w keeps.watch;
   names = keeps.names;
   can_stop = keeps.can_stop;
+  over_net = keeps.over_net;
+  net = keeps.net;
 }
 
 without-none : (us : List Id) → without [] us ≡ us
@@ -84,4 +96,6 @@ states-start k = record {
   };
   names = λ b. refl;
   can_stop = refl;
+  over_net = refl;
+  net = λ shape. refl;
 }

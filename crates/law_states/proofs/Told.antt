@@ -1,4 +1,11 @@
 -- What comes next in a trace is told by its state.
+use Rattle.law_states.proofs.Doing.{answer-kept}
+use Rattle.law_states.proofs.LookUps.{asked-kept, base-name-kept, block-kept, number-kept, program-kept, session-kept, unit-name-kept}
+use Rattle.law_states.specs.Follows.{cut_in, cuts_or_drains_in, drains_in, unfinished_in}
+use Rattle.law_states.specs.Keeps.{KeepsUnit, KeepsUnits}
+use Rattle.law_states.specs.OpenUnits.{OpenUnit, UnitState, can_go_in, counted, is_not_waiting, names_in, next_to_go_in, next_turn_in, turn_owed_in, unit_of_program, unit_of_session}
+use Rattle.law_states.specs.Told.{Clashes, Items, act_in, after_began_in, after_did_in, after_end_in, asks_in, begins_in, calls_in, commits_in, does_in, fails_in, finishes_in, go_in, goes_on_in, is_at_end_in, kind_called_in, line_in, serve_in, settle_in, turn_in, turn_of_in}
+use Rattle.law_story.proofs.Every.{IfSome}
 use Rattle.salt_ast.specs.ProgramTexts.{program_text}
 use Rattle.salt_ast.specs.Texts.{table_text}
 use Rattle.salt_ast.specs.declared.lines.Act.{Act}
@@ -8,23 +15,16 @@ use Rattle.salt_ast.specs.declared.lines.Line.TheVariants.{Go, Program, Session,
 use Rattle.salt_ast.specs.declared.programs.Body.{Body}
 use Rattle.salt_ast.specs.declared.programs.Body.TheVariants.{Acid, Base}
 use Rattle.salt_ast.specs.declared.trees.Statement.{Statement}
-use Rattle.law_states.proofs.Doing.{answer-kept}
-use Rattle.law_states.proofs.LookUps.{asked-kept, base-name-kept, block-kept, number-kept, program-kept, session-kept, unit-name-kept}
-use Rattle.law_states.specs.Keeps.{KeepsUnit, KeepsUnits}
-use Rattle.law_states.specs.OpenUnits.{OpenUnit, UnitState, counted, names_in, unit_of_program, unit_of_session}
-use Rattle.law_states.specs.Follows.{cut_in, cuts_or_drains_in, drains_in}
-use Rattle.law_states.specs.Told.{Clashes, Items, act_in, after_began_in, after_did_in, after_end_in, asks_in, begins_in, calls_in, can_go_in, commits_in, does_in, fails_in, finishes_in, go_in, goes_on_in, is_at_end_in, is_not_waiting, kind_called_in, line_in, next_turn_in, serve_in, settle_in, turn_in, turn_of_in}
-use Rattle.law_story.proofs.Every.{IfSome}
 use Rattle.salt_model.specs.Kept.{block_of_kind, cont_of, kept_program}
 use Rattle.salt_model.specs.Locks.{clashing}
-use Rattle.salt_model.specs.Openings.{cuts_or_drains, drains, to_cut}
+use Rattle.salt_model.specs.Openings.{cuts_or_drains, drains, to_cut, unfinished}
+use Rattle.salt_model.specs.Programs.{named_early}
 use Rattle.salt_model.specs.Shown.{base_items, lock_items}
 use Rattle.salt_model.specs.Trace.{Trace}
-use Rattle.salt_model.specs.Turns.{act_event, after_began, after_did, after_end, asks_for, begins, calls, can_go, commits, does, does_next, fails, finishes, go, goes_on, is_at_end, kind_called, line_event, next_turn, settle_by, turn, turn_of}
+use Rattle.salt_model.specs.Turns.{act_event, after_began, after_did, after_end, asks_for, begins, calls, can_go, commits, does, does_next, fails, finishes, go, goes_on, is_at_end, kind_called, line_event, next_to_go, next_turn, settle_by, turn, turn_of, turn_owed}
 use Rattle.salt_model.specs.Units.{done_of, is_waiting, open_units, program_unit}
 use Rattle.salt_model.specs.Waiting.{block_of}
 use Rattle.salt_model.specs.Words.{Every, is_empty}
-use Rattle.salt_values.specs.Id.{in_order}
 use Rattle.salt_model.specs.declared.events.Answer.{Answer}
 use Rattle.salt_model.specs.declared.events.Answer.TheVariants.{Failed}
 use Rattle.salt_model.specs.declared.events.Cause.{Cause}
@@ -34,13 +34,15 @@ use Rattle.salt_model.specs.declared.events.Event.TheVariants.{Began, Defined, D
 use Rattle.salt_model.specs.declared.events.Owner.{Owner}
 use Rattle.salt_model.specs.declared.events.UnitKind.{UnitKind}
 use Rattle.salt_model.specs.declared.events.UnitKind.TheVariants.{Acid, First, Later}
+use Rattle.salt_values.specs.Id.{in_order}
 use Rattle.salt_values.specs.declared.cont.Cont.{Cont}
 use Rattle.salt_values.specs.declared.id.Id.{Id}
 use Rattle.salt_values.specs.declared.value.Value.{Value}
 use Rattle.std.proofs.Common.{ap, ◌∙◌}
 use Rattle.std.specs.Bool.{then_some}
 use Rattle.std.specs.List.{filter, find}
-use Rattle.std.specs.Prelude.{Bool, List, None, Option, Some, [], cond, false, is_none, is_some, length, nat_lt, not, option_map, refl, true, ℕ, ◌&&◌, ◌==◌, ◌∷◌, ◌≡◌}
+use Rattle.std.specs.Option.{option_or}
+use Rattle.std.specs.Prelude.{Bool, List, None, Option, Some, [], cond, false, if◌then◌else◌, is_none, is_some, length, nat_lt, not, option_map, refl, true, ℕ, ◌&&◌, ◌==◌, ◌∷◌, ◌≡◌}
 
 pub every-found : {A : Type 0} (P : A → Type 0) (q : A → Bool) (xs : List A) → Every P xs → IfSome P (find q xs)
 every-found P q [] h = tt
@@ -137,10 +139,10 @@ module _ (s : UnitState) (trace : Trace) (keeps : KeepsUnits s trace) where
   line-told c f items shown line = refl
 
   -- what follows a Began, a Did
-  pub after-began-told : (c : Clashes) → AreClashes c → (o : OpenUnit) → KeepsUnit trace o → (line : Line) →
-      after_began trace o.unit line ≡ after_began_in s c o line
-  after-began-told c f o k (Session t Begin) = refl
-  after-began-told c f o k line = turn-told c f o k
+  pub after-began-told : (c : Clashes) → AreClashes c → (o : OpenUnit) → KeepsUnit trace o → (line : Line) (kind : UnitKind) →
+      after_began trace o.unit line kind ≡ after_began_in s c o line kind
+  after-began-told c f o k (Session t Begin) (Acid z) = refl
+  after-began-told c f o k line kind = turn-told c f o k
 
   fails-told : (o : OpenUnit) (c : Cause) (kind : UnitKind) → fails trace o.unit c (Some kind) ≡ fails_in s o c kind
   fails-told o c (Later b part) = ap (λ n. Ended o.unit (Branched n c)) (number-kept s trace keeps)
@@ -184,9 +186,13 @@ module _ (s : UnitState) (trace : Trace) (keeps : KeepsUnits s trace) where
   pub to-cut-told : to_cut trace ≡ cut_in s
   to-cut-told = λ i. in_order (filter (λ u. nat_lt u.boot (keeps.kept i).boot) (keeps.units i))
 
+  unfinished-told : (t : Bool) (c : Cont) (cs : List Cont) → unfinished t trace c cs ≡ unfinished_in t s c cs
+  unfinished-told true c cs = refl
+  unfinished-told false c cs = begins-told (Later c.base c.next)
+
   drains-told : (cs : List Cont) → drains trace cs ≡ drains_in s cs
   drains-told [] = refl
-  drains-told (c ∷ cs) = begins-told (Later c.base c.next)
+  drains-told (c ∷ cs) = ap (λ t. unfinished t trace c cs) keeps.early ∙ unfinished-told s.early c cs
 
   pub cuts-told : (us : List Id) → cuts_or_drains trace us ≡ cuts_or_drains_in s us
   cuts-told (u ∷ us) = refl
@@ -206,5 +212,14 @@ module _ (s : UnitState) (trace : Trace) (keeps : KeepsUnits s trace) where
       ∙ ap (λ o. is_some (cont_of b s.kept) && (elim o [ None ↦ true | Some u ↦ not (is_waiting trace u) ])) (program-kept s trace b keeps)
       ∙ ap (λ t. is_some (cont_of b s.kept) && t) (still-runs (unit_of_program b s) (every-found (KeepsUnit trace) _ s.units keeps.each))
 
+  pub next-to-go-told : next_to_go trace ≡ next_to_go_in s
+  next-to-go-told = ap (find (can_go trace)) keeps.to_go ∙ find-same (can_go trace) (can_go_in s) can-go-told s.to_go
+
+  owed-found : find (can_go trace) (named_early trace) ≡ find (can_go_in s) s.named
+  owed-found = ap (find (can_go trace)) keeps.named ∙ find-same (can_go trace) (can_go_in s) can-go-told s.named
+
+  turn-owed-told : turn_owed trace ≡ turn_owed_in s
+  turn-owed-told = λ i. if keeps.owes i then owed-found i else None
+
   pub next-turn-told : next_turn trace ≡ next_turn_in s
-  next-turn-told = ap (find (can_go trace)) keeps.to_go ∙ find-same (can_go trace) (can_go_in s) can-go-told s.to_go
+  next-turn-told = λ i. option_or (next-to-go-told i) (turn-owed-told i)

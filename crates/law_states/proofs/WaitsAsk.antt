@@ -1,25 +1,27 @@
 -- A Waits comes only of a unit that runs, for the statement that it asks for, with all owners that clash.
+use Rattle.law_story.proofs.Coming.{neither}
+use Rattle.law_story.proofs.Fresh.{IfComes, comes-map, comes-option_or, comes-then_some}
+use Rattle.law_story.proofs.Ids.{and_right, is_same_id-refl}
+use Rattle.law_story.proofs.Lists.{either}
+use Rattle.law_story.proofs.NextFits.{Flies, comes-map-at, find-in}
+use Rattle.law_story.proofs.Upheld.{OfBoots, holds}
 use Rattle.salt_ast.specs.declared.lines.Act.{Act}
 use Rattle.salt_ast.specs.declared.lines.Act.TheVariants.{Begin, Call, Commit, Do, Rollback, Step}
 use Rattle.salt_ast.specs.declared.lines.Line.{Line}
 use Rattle.salt_ast.specs.declared.lines.Line.TheVariants.{Go, Session}
 use Rattle.salt_ast.specs.declared.trees.Statement.{Statement}
-use Rattle.law_story.proofs.Coming.{neither}
-use Rattle.law_story.proofs.Fresh.{IfComes, comes-map, comes-option_or, comes-then_some}
-use Rattle.law_story.proofs.Ids.{and_right, is_same_id-refl}
-use Rattle.law_story.proofs.NextFits.{Flies, comes-map-at, find-in}
-use Rattle.law_story.proofs.Salted.{OfBoots, holds}
 use Rattle.salt_model.specs.After.{kept}
 use Rattle.salt_model.specs.Kept.{cont_of, kept_program}
 use Rattle.salt_model.specs.Locks.{clashing}
 use Rattle.salt_model.specs.Next.{flight, next, said_event, serving_event}
-use Rattle.salt_model.specs.Openings.{cuts_or_drains, drains, follow_opening, stands_now, to_cut}
+use Rattle.salt_model.specs.Openings.{cuts_or_drains, drains, follow_opening, stands_now, to_cut, unfinished}
 use Rattle.salt_model.specs.Phases.{Fallen, Opening, Phase, Serving, phase}
 use Rattle.salt_model.specs.Played.{IsPlayed}
+use Rattle.salt_model.specs.Programs.{named_early}
 use Rattle.salt_model.specs.Reads.{to_release}
-use Rattle.salt_model.specs.Refusals.{is_state_wrong, is_waiting_unit, judged, refusal, state_wrong}
+use Rattle.salt_model.specs.Refusals.{is_held_back, is_state_wrong, is_waiting_unit, judged, refusal, state_wrong}
 use Rattle.salt_model.specs.Trace.{Asked, Rejected, Trace, Tree, from, line_asked, line_of, start_of, ◌asks◌, ◌says◌, ◌turns◌}
-use Rattle.salt_model.specs.Turns.{act_event, after_began, after_did, after_end, asks_for, can_go, commits, does_next, fails, finishes, follow, go, goes_on, is_at_end, line_event, next_turn, releases, settle, settle_by, still_to_go, turn}
+use Rattle.salt_model.specs.Turns.{act_event, after_began, after_did, after_end, asks_for, can_go, commits, does_next, fails, finishes, follow, go, goes_on, is_at_end, line_event, next_to_go, next_turn, owes_turn, releases, settle, settle_by, still_to_go, turn, turn_owed}
 use Rattle.salt_model.specs.Units.{is_waiting, kind_of, open_units, program_unit, session_unit}
 use Rattle.salt_model.specs.Waiting.{asked_by, block_of, next_unblocked, victim}
 use Rattle.salt_model.specs.Words.{is_empty}
@@ -29,18 +31,19 @@ use Rattle.salt_model.specs.declared.events.Cause.{Cause}
 use Rattle.salt_model.specs.declared.events.End.{End}
 use Rattle.salt_model.specs.declared.events.End.TheVariants.{Branched, Committed}
 use Rattle.salt_model.specs.declared.events.Event.{Event}
-use Rattle.salt_model.specs.declared.events.Event.TheVariants.{Accepted, Began, Defined, Did, Down, Ended, Finished, Opened, Ready, Refused, Waits}
+use Rattle.salt_model.specs.declared.events.Event.TheVariants.{Accepted, Began, Defined, Did, Down, Early, Ended, Finished, Opened, Ready, Refused, Waits}
 use Rattle.salt_model.specs.declared.events.Owner.{Owner}
 use Rattle.salt_model.specs.declared.events.Refusal.{Refusal}
 use Rattle.salt_model.specs.declared.events.Refusal.TheVariants.{State}
 use Rattle.salt_model.specs.declared.events.UnitKind.{UnitKind}
-use Rattle.salt_model.specs.declared.events.UnitKind.TheVariants.{First, Later}
+use Rattle.salt_model.specs.declared.events.UnitKind.TheVariants.{Acid, First, Later}
 use Rattle.salt_values.specs.declared.cont.Cont.{Cont}
 use Rattle.salt_values.specs.declared.id.Id.{Id}
-use Rattle.std.proofs.Common.{subst}
+use Rattle.std.proofs.Common.{inl, inr, subst}
 use Rattle.std.specs.Bool.{then_some}
+use Rattle.std.specs.List.{find}
 use Rattle.std.specs.Option.{option_or}
-use Rattle.std.specs.Prelude.{Bool, List, None, Option, Some, [], false, is_none, is_some, not, option_map, refl, true, ℕ, ⊤, ◌||◌, ◌∷◌, ◌≡◌}
+use Rattle.std.specs.Prelude.{Bool, List, None, Option, Some, [], cond, false, is_none, is_some, not, option_map, refl, true, ℕ, ⊤, ◌||◌, ◌∷◌, ◌≡◌, ◌⊎◌}
 
 -- what is known of a Waits that comes
 abbrev pub Asks : Trace → Event → Type 0
@@ -85,7 +88,7 @@ module _ (trace : Trace) where
   asks-act s Rollback o w = comes-map P _ o (λ u. tt)
 
   asks-line : (line : Line) → is_state_wrong trace line ≡ false → IfComes P (line_event trace line)
-  asks-line (Session s act) w = asks-act s act (session_unit s trace) w
+  asks-line (Session s act) w = asks-act s act (session_unit s trace) (or-first-false _ (is_held_back trace act) w)
   asks-line (Go b) w = asks-go b (λ u e. subst (λ o. is_waiting_unit trace o ≡ false) e w)
   asks-line line w = tt
 
@@ -115,9 +118,13 @@ module _ (trace : Trace) where
   asks-settle None (Some u) = asks-serve u
   asks-settle None None = tt
 
+  asks-unfinished : (t : Bool) (c : Cont) (cs : List Cont) → P (unfinished t trace c cs)
+  asks-unfinished true c cs = tt
+  asks-unfinished false c cs = tt
+
   asks-drains : (cs : List Cont) → P (drains trace cs)
   asks-drains [] = tt
-  asks-drains (c ∷ cs) = tt
+  asks-drains (c ∷ cs) = asks-unfinished (start_of trace).early c cs
 
   asks-cuts : (us : List Id) → IfComes P (cuts_or_drains trace us)
   asks-cuts (u ∷ us) = tt
@@ -129,12 +136,12 @@ module _ (trace : Trace) where
   asks-stands here n (Some (Defined m text)) h = comes-then_some P _ (Defined m text) tt
   asks-stands here n (Some e) h = absurd h
 
-  asks-began : (u : Id) (line : Line) → is_waiting trace u ≡ false → IfComes P (after_began trace u line)
-  asks-began u (Session s Begin) w = tt
-  asks-began u line w = asks-turn u w
+  asks-began : (u : Id) (line : Line) (kind : UnitKind) → is_waiting trace u ≡ false → IfComes P (after_began trace u line kind)
+  asks-began u (Session s Begin) (Acid z) w = tt
+  asks-began u line kind w = asks-turn u w
 
 asks-follow : (trace : Trace) (e : Event) → IfComes (Asks (trace says e)) (follow (trace says e) e)
-asks-follow trace (Began u kind) = asks-began (trace says Began u kind) u (line_of trace) (rw (is_same_id-refl u) refl)
+asks-follow trace (Began u kind) = asks-began (trace says Began u kind) u (line_of trace) kind (rw (is_same_id-refl u) refl)
 asks-follow trace (Did u st a) = asks-did (trace says Did u st a) u a
 asks-follow trace (Ended u end) = asks-end (trace says Ended u end) end (kind_of u trace)
 asks-follow trace (Accepted b) = asks-finishes (trace says Accepted b) b
@@ -143,6 +150,7 @@ asks-follow trace e = tt
 
 asks-serving : (trace : Trace) (e : Event) → IfComes (Asks (trace says e)) (serving_event (trace says e) e)
 asks-serving trace Ready = tt
+asks-serving trace (Early bs) = tt
 asks-serving trace e =
     comes-option_or (Asks (trace says e)) (follow (trace says e) e) (settle (trace says e)) (asks-follow trace e)
     (asks-settle (trace says e) (victim (trace says e)) (next_unblocked (trace says e)))
@@ -175,10 +183,22 @@ asks-asked trace (Tree line) None e =
     asks-line (trace asks Tree line) line
     (none-when (is_state_wrong trace line) State (neither (then_some (is_state_wrong trace line) State) _ (neither (judged trace line) _ e).1).0)
 
--- a program to which `go all` turns does not wait
+either-else : (o p : Option Id) (x : Id) → option_or o p ≡ Some x → (o ≡ Some x) ⊎ (p ≡ Some x)
+either-else None p x h = inr h
+either-else (Some y) p x h = inl h
+
+-- whose turn is next can go
+can-of : (trace : Trace) (b : Id) → next_turn trace ≡ Some b → can_go trace b ≡ true
+can-of trace b h = either (λ g. (find-in (can_go trace) b (still_to_go trace) g).1) (λ g. owed (owes_turn trace) g) (either-else (next_to_go trace) (turn_owed trace) b h)
+  where
+    owed : (t : Bool) → cond t (find (can_go trace) (named_early trace)) None ≡ Some b → can_go trace b ≡ true
+    owed true g = (find-in (can_go trace) b (named_early trace) g).1
+    owed false g = cc
+
+-- a program that has a turn does not wait
 turns-run : (trace : Trace) (b : Id) → next_turn trace ≡ Some b → (u : Id) → program_unit b trace ≡ Some u → is_waiting trace u ≡ false
 turns-run trace b h u e =
-    not-so (is_waiting trace u) (go (program_unit b trace) e (and_right (is_some (cont_of b (kept trace))) _ (find-in (can_go trace) b (still_to_go trace) h).1))
+    not-so (is_waiting trace u) (go (program_unit b trace) e (and_right (is_some (cont_of b (kept trace))) _ (can-of trace b h)))
   where
     go : (o : Option Id) → o ≡ Some u → elim o [ None ↦ true | Some v ↦ not (is_waiting trace v) ] ≡ true → not (is_waiting trace u) ≡ true
     go None q g = cc

@@ -1,5 +1,4 @@
 -- What an engine keeps goes on with each event, line and turn, and begins with nothing at a Ready.
-use Rattle.law_states.specs.WatchSteps.{WatchAfter, waiting_after}
 use Rattle.law_states.proofs.Askers.{waiting-asks, waiting-says, waiting-turns}
 use Rattle.law_states.proofs.KeptPrograms.{deps-asks, deps-turns, ready-empty, unreleased-says}
 use Rattle.law_states.proofs.KeptTable.{keeps-after}
@@ -9,6 +8,7 @@ use Rattle.law_states.proofs.Pairs.{deps-after}
 use Rattle.law_states.specs.KeptLocks.{KeepsLocks}
 use Rattle.law_states.specs.KeptPrograms.{unreleased_after}
 use Rattle.law_states.specs.UnitFacts.{facts_at}
+use Rattle.law_states.specs.WatchSteps.{WatchAfter, waiting_after}
 use Rattle.law_states.specs.Watches.{Watch, Watches, empty_watch}
 use Rattle.law_story.proofs.WellKept.{of-start}
 use Rattle.salt_model.specs.Kept.{WellKept}
@@ -19,7 +19,7 @@ use Rattle.salt_model.specs.declared.events.Event.{Event}
 use Rattle.salt_model.specs.declared.events.Event.TheVariants.{Ready}
 use Rattle.salt_values.specs.declared.id.Id.{Id}
 use Rattle.std.proofs.Common.{ap, subst, sym, ◌∙◌}
-use Rattle.std.specs.Prelude.{[], ℕ, ◌<◌, ◌≡◌}
+use Rattle.std.specs.Prelude.{[], ℕ, ◌<◌}
 
 pub watches-say : (trace : Trace) (e : Event) (old new : Watch) → IsPlayed (trace says e) → WellKept (start_of trace).kept → Watches old trace →
     WatchAfter trace e old new → Watches new (trace says e)

@@ -4,26 +4,30 @@ use Rattle.law_states.specs.Told.{Beside, after_began_in, after_did_in, after_en
 use Rattle.salt_model.specs.Phases.{Fallen, Opening, Phase, Serving}
 use Rattle.salt_model.specs.Turns.{releases}
 use Rattle.salt_model.specs.Words.{is_empty}
-use Rattle.salt_values.specs.Id.{in_order}
 use Rattle.salt_model.specs.declared.events.End.TheVariants.{Cut}
 use Rattle.salt_model.specs.declared.events.Event.{Event}
-use Rattle.salt_model.specs.declared.events.Event.TheVariants.{Accepted, Began, Did, Ended, Finished, Ready}
+use Rattle.salt_model.specs.declared.events.Event.TheVariants.{Accepted, Began, Did, Early, Ended, Finished, Ready}
 use Rattle.salt_model.specs.declared.events.UnitKind.TheVariants.{Later}
+use Rattle.salt_values.specs.Id.{in_order}
 use Rattle.salt_values.specs.declared.cont.Cont.{Cont}
 use Rattle.salt_values.specs.declared.id.Id.{Id}
 use Rattle.std.specs.Bool.{then_some}
 use Rattle.std.specs.List.{filter}
 use Rattle.std.specs.Option.{option_or}
-use Rattle.std.specs.Prelude.{List, None, Option, Some, [], nat_lt, option_and_then, ℕ, ◌==◌, ◌∷◌}
+use Rattle.std.specs.Prelude.{Bool, List, None, Option, Some, [], false, map, nat_lt, option_and_then, true, ℕ, ◌==◌, ◌∷◌}
 
 -- IN AN OPENING units of earlier boots are cut, and then programs go on, one after another.
 
 abbrev pub cut_in : UnitState → List Id
 cut_in s = in_order (filter (λ u. nat_lt u.boot s.kept.boot) (names_in s.units))
 
+abbrev pub unfinished_in : Bool → UnitState → Cont → List Cont → Event
+unfinished_in true s c cs = Early (in_order (map (λ (d : Cont). d.base) (c ∷ cs)))
+unfinished_in false s c cs = begins_in s (Later c.base c.next)
+
 abbrev pub drains_in : UnitState → List Cont → Event
 drains_in s [] = Ready
-drains_in s (c ∷ cs) = begins_in s (Later c.base c.next)
+drains_in s (c ∷ cs) = unfinished_in s.early s c cs
 
 abbrev pub cuts_or_drains_in : UnitState → List Id → Option Event
 cuts_or_drains_in s (u ∷ us) = Some (Ended u Cut)
@@ -40,7 +44,7 @@ unit_of e before after = None
 
 -- what follows an event of this unit in its turn
 abbrev pub follow_in : UnitState → Beside → Event → Option OpenUnit → Option Event
-follow_in s x (Began u kind) (Some o) = after_began_in s x.clash o s.line
+follow_in s x (Began u kind) (Some o) = after_began_in s x.clash o s.line kind
 follow_in s x (Did u st answer) (Some o) = after_did_in s o answer
 follow_in s x (Ended u end) (Some o) = after_end_in s end o.kind
 follow_in s x (Accepted b) o = finishes_in s b
@@ -52,6 +56,7 @@ settles_in s x = settle_in s x.victim (option_and_then (λ u. unit_named u s.uni
 
 abbrev pub serving_in : UnitState → Beside → Event → Option OpenUnit → Option Event
 serving_in s x Ready o = None
+serving_in s x (Early bs) o = None
 serving_in s x e o = option_or (follow_in s x e o) (settles_in s x)
 
 abbrev pub follow_opening_in : UnitState → Event → Option OpenUnit → Option Event

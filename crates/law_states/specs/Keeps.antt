@@ -1,10 +1,11 @@
 -- A state is that of a trace: of its open units, and of what is kept after it.
-use Rattle.salt_ast.specs.declared.trees.Statement.{Statement}
 use Rattle.law_states.specs.OpenUnits.{OpenUnit, UnitState, counted, names_in}
+use Rattle.salt_ast.specs.declared.trees.Statement.{Statement}
 use Rattle.salt_model.specs.After.{kept, run_of}
 use Rattle.salt_model.specs.Phases.{phase}
-use Rattle.salt_model.specs.Trace.{Trace, line_of}
-use Rattle.salt_model.specs.Turns.{is_statement_line, still_to_go}
+use Rattle.salt_model.specs.Programs.{named_early}
+use Rattle.salt_model.specs.Trace.{Trace, line_of, start_of}
+use Rattle.salt_model.specs.Turns.{is_statement_line, owes_turn, still_to_go}
 use Rattle.salt_model.specs.Units.{base_count, done_of, is_waiting, kind_of, line_begun, line_waited, open_units, unit_count}
 use Rattle.salt_model.specs.Waiting.{statement_of_line}
 use Rattle.salt_model.specs.Words.{Every}
@@ -31,6 +32,9 @@ pub record KeepsUnits (s : UnitState) (trace : Trace) : Type 0 where
   pub phase : phase trace ≡ s.phase
   pub line : line_of trace ≡ s.line
   pub to_go : still_to_go trace ≡ s.to_go
+  pub early : (start_of trace).early ≡ s.early
+  pub named : named_early trace ≡ s.named
+  pub owes : owes_turn trace ≡ s.owes
   pub units : open_units trace ≡ names_in s.units
   pub each : Every (KeepsUnit trace) s.units
   pub unit_count : unit_count trace ≡ s.unit_count

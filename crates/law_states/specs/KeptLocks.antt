@@ -1,7 +1,6 @@
 -- Locks as an engine keeps them: each with the number of its statement; and what becomes of one.
 use Rattle.law_states.specs.Members.{Ascends, In, SameMembers}
 use Rattle.salt_model.specs.Locks.{clashes, family_of, is_same_owner, lock_of}
-use Rattle.salt_values.specs.Id.{has_id}
 use Rattle.salt_model.specs.declared.events.Owner.{Owner}
 use Rattle.salt_model.specs.declared.events.Owner.TheVariants.{Base, Unit}
 use Rattle.salt_model.specs.declared.events.UnitKind.{UnitKind}
@@ -9,9 +8,10 @@ use Rattle.salt_model.specs.declared.locks.Family.{Family}
 use Rattle.salt_model.specs.declared.locks.Family.TheVariants.{Saline}
 use Rattle.salt_model.specs.declared.locks.Lock.{Lock}
 use Rattle.salt_model.specs.declared.locks.Reach.{Reach}
+use Rattle.salt_values.specs.Id.{has_id}
 use Rattle.salt_values.specs.declared.id.Id.{Id}
 use Rattle.std.specs.List.{filter}
-use Rattle.std.specs.Prelude.{Bool, List, None, Option, Some, [], false, if◌then◌else◌, map, option_map, ℕ, ◌<◌, ◌∷◌, ◌≡◌}
+use Rattle.std.specs.Prelude.{Bool, List, None, Option, Some, [], false, if◌then◌else◌, map, option_map, ℕ, ◌+◌, ◌<◌, ◌∷◌, ◌≡◌}
 
 -- the lock on what a unit's statement reaches
 abbrev pub lock_taken : Id → Option UnitKind → Option Reach → List Lock
@@ -42,6 +42,11 @@ clash_in owner family (Some r) ls = filter (clashes owner family r) ls
 pub record Numbered : Type 0 where
   pub number : ℕ
   pub lock : Lock
+
+-- locks that are won together, with numbers from this one on
+abbrev pub numbered_from : ℕ → List Lock → List Numbered
+numbered_from k [] = []
+numbered_from k (l ∷ ls) = record { number = k; lock = l } ∷ numbered_from (k + 1) ls
 
 abbrev pub Sooner : Numbered → Numbered → Type 0
 Sooner m n = m.number < n.number

@@ -1,22 +1,22 @@
 -- What is kept of writers, readers and finished programs: of the programs that are neither released nor given up, and no others.
 use Rattle.law_states.specs.Members.{In}
-use Rattle.salt_model.specs.Programs.{finished_in, released_in}
+use Rattle.salt_model.specs.Programs.{finished_in, passed_in, released_in}
 use Rattle.salt_model.specs.Reads.{last_writer, read_directly}
 use Rattle.salt_model.specs.Tables.{place}
 use Rattle.salt_model.specs.Trace.{Trace, from, ◌asks◌, ◌says◌, ◌turns◌}
-use Rattle.salt_model.specs.Units.{kind_of, program_begun, program_of}
-use Rattle.salt_values.specs.Id.{has_id}
+use Rattle.salt_model.specs.Units.{kind_of, program_begun, program_of, units_begun}
 use Rattle.salt_model.specs.declared.events.End.{End}
 use Rattle.salt_model.specs.declared.events.End.TheVariants.{Committed}
 use Rattle.salt_model.specs.declared.events.Event.{Event}
-use Rattle.salt_model.specs.declared.events.Event.TheVariants.{Ended, Finished, Ready, Released}
+use Rattle.salt_model.specs.declared.events.Event.TheVariants.{Early, Ended, Finished, Ready, Released}
 use Rattle.salt_model.specs.declared.locks.Reach.{Reach}
 use Rattle.salt_model.specs.declared.places.Place.{Place}
 use Rattle.salt_ranges.specs.Ranges.{has_key}
+use Rattle.salt_values.specs.Id.{has_id}
 use Rattle.salt_values.specs.declared.id.Id.{Id}
 use Rattle.salt_values.specs.declared.value.Value.{Value}
 use Rattle.std.specs.Bool.{then_some}
-use Rattle.std.specs.Prelude.{Bool, IsTrue, List, None, Option, Some, [], false, not, option_and_then, true, ◌++◌, ◌↔◌, ◌∷◌, ◌≡◌, ◌⊎◌}
+use Rattle.std.specs.Prelude.{Bool, IsTrue, List, None, Option, Some, [], false, if◌then◌else◌, not, option_and_then, true, ◌++◌, ◌↔◌, ◌∷◌, ◌≡◌, ◌⊎◌}
 
 -- the program that an end gives up: that of a first part which does not commit
 abbrev pub given_up : End → Option Id → List Id
@@ -35,14 +35,27 @@ abandoned_in (trace turns b) = abandoned_in trace
 abandoned_in (trace says Ended u end) = abandoned_in trace ++ given_up end (first_of u trace)
 abandoned_in (trace says e) = abandoned_in trace
 
--- not released, and not given up
+-- released, or found and not named by an early opening
+abbrev pub gone_in : Trace → List Id
+gone_in trace = passed_in trace ++ released_in trace
+
+-- neither of them, and not given up
 pub record IsKnown (trace : Trace) (b : Id) : Type 0 where
-  pub unreleased : has_id b (released_in trace) ≡ false
+  pub unreleased : has_id b (gone_in trace) ≡ false
   pub kept : has_id b (abandoned_in trace) ≡ false
 
--- the program of a unit, until that is released
+-- the units that began before the last early opening
+abbrev pub begun_early : Trace → List Id
+begun_early (from k) = []
+begun_early (trace asks asked) = begun_early trace
+begun_early (trace turns b) = begun_early trace
+begun_early (trace says Early bs) = units_begun trace
+begun_early (trace says e) = begun_early trace
+
+-- the program of a unit, until that is released; of a unit that began before an early opening none
 abbrev pub live_program : Trace → Id → Option Id
-live_program trace u = option_and_then (λ b. then_some (not (has_id b (released_in trace))) b) (program_of u trace)
+live_program trace u =
+    if has_id u (begun_early trace) then None else option_and_then (λ b. then_some (not (has_id b (released_in trace))) b) (program_of u trace)
 
 -- the program that wrote a key last; none where an ACID unit or a released program did
 abbrev pub live_writer : Trace → Place → Option Id
@@ -52,12 +65,12 @@ live_writer trace p = option_and_then (live_program trace) (last_writer trace p)
 pub record ReadsLive (trace : Trace) (x y : Id) : Type 0 where
   pub reads : In y (read_directly x trace)
   pub reader : IsKnown trace x
-  pub source : has_id y (released_in trace) ≡ false
+  pub source : has_id y (gone_in trace) ≡ false
 
--- finished and not yet released
+-- finished, and not gone
 pub record FinishedLive (trace : Trace) (b : Id) : Type 0 where
   pub finished : In b (finished_in trace)
-  pub unreleased : has_id b (released_in trace) ≡ false
+  pub unreleased : has_id b (gone_in trace) ≡ false
 
 -- what an engine keeps of them, seen by tests
 pub record Dependencies : Type 0 where
@@ -87,6 +100,7 @@ abbrev pub FinishedAfter : Event → Dependencies → Id → Type 0
 FinishedAfter (Finished c) old b = (c ≡ b) ⊎ IsTrue (old.finished b)
 FinishedAfter (Released bs) old b = IsTrue (old.finished b) × (has_id b bs ≡ false)
 FinishedAfter Ready old b = ⊥
+FinishedAfter (Early bs) old b = ⊥
 FinishedAfter e old b = IsTrue (old.finished b)
 
 -- b is c, or reads from it by kept pairs

@@ -26,3 +26,5 @@ pub mod Nexts
 pub mod Points
 pub mod Settling
 pub mod PlainStates
+pub mod KeptCover
+pub mod Restoring

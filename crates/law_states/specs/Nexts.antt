@@ -1,9 +1,10 @@
 -- What comes next, told by the states before and after an event; and where a segment stands.
+use Rattle.law_states.specs.Follows.{opened_in, said_in, unit_of}
+use Rattle.law_states.specs.OpenUnits.{next_turn_in}
 use Rattle.law_states.specs.Readings.{Reading, beside_by, under_way_of}
 use Rattle.law_states.specs.Refused.{refusal_in}
 use Rattle.law_states.specs.States.{State, asked_of, turned_to}
-use Rattle.law_states.specs.Follows.{opened_in, said_in, unit_of}
-use Rattle.law_states.specs.Told.{go_in, line_in, next_turn_in}
+use Rattle.law_states.specs.Told.{go_in, line_in}
 use Rattle.salt_model.specs.Next.{decision_in}
 use Rattle.salt_model.specs.Trace.{Asked, line_asked}
 use Rattle.salt_model.specs.declared.events.Event.{Event}

@@ -1,8 +1,8 @@
 -- Open units, and what is kept beside them: the half of an engine's state that is of units and tables.
+use Rattle.law_states.specs.Overlays.{Edit}
 use Rattle.salt_ast.specs.declared.lines.Line.{Line}
 use Rattle.salt_ast.specs.declared.trees.Statement.{Statement}
-use Rattle.law_states.specs.Overlays.{Edit}
-use Rattle.salt_model.specs.Kept.{Kept, block_of_kind}
+use Rattle.salt_model.specs.Kept.{Kept, block_of_kind, cont_of}
 use Rattle.salt_model.specs.Phases.{Phase}
 use Rattle.salt_model.specs.Units.{program_of_kind, session_of_kind}
 use Rattle.salt_model.specs.Waiting.{statement_of_line}
@@ -12,7 +12,8 @@ use Rattle.salt_model.specs.declared.vars.Binding.{Binding}
 use Rattle.salt_values.specs.Id.{is_same_id}
 use Rattle.salt_values.specs.declared.id.Id.{Id}
 use Rattle.std.specs.List.{filter, find}
-use Rattle.std.specs.Prelude.{Bool, List, None, Option, Some, false, if◌then◌else◌, map, not, slice_get, ℕ, ◌+◌, ◌==◌}
+use Rattle.std.specs.Option.{option_or}
+use Rattle.std.specs.Prelude.{Bool, List, None, Option, Some, false, if◌then◌else◌, is_some, map, not, slice_get, true, ℕ, ◌&&◌, ◌+◌, ◌==◌}
 
 -- a unit that runs or waits
 pub record OpenUnit : Type 0 where
@@ -37,6 +38,10 @@ pub record UnitState : Type 0 where
   pub line : Line
   -- the programs to which `go all` has not yet turned
   pub to_go : List Id
+  -- whether openings may be early; the programs that the last early one names; and whether a turn of theirs is to follow the line
+  pub early : Bool
+  pub named : List Id
+  pub owes : Bool
   -- the open units, in order of names
   pub units : List OpenUnit
   -- units and programs that have begun in this boot
@@ -77,6 +82,24 @@ unit_of_session s st = find (belongs_to_session s) st.units
 
 abbrev pub unit_of_program : Id → UnitState → Option OpenUnit
 unit_of_program b st = find (belongs_to_program b) st.units
+
+-- one that has finished, or waits, when its turn comes is left out
+abbrev pub is_not_waiting : Option OpenUnit → Bool
+is_not_waiting None = true
+is_not_waiting (Some o) = not o.waiting
+
+abbrev pub can_go_in : UnitState → Id → Bool
+can_go_in s b = is_some (cont_of b s.kept) && is_not_waiting (unit_of_program b s)
+
+-- the program to which `go all` turns next; then, where a turn is owed, the least of the named ones that can go
+abbrev pub next_to_go_in : UnitState → Option Id
+next_to_go_in s = find (can_go_in s) s.to_go
+
+abbrev pub turn_owed_in : UnitState → Option Id
+turn_owed_in s = if s.owes then find (can_go_in s) s.named else None
+
+abbrev pub next_turn_in : UnitState → Option Id
+next_turn_in s = option_or (next_to_go_in s) (turn_owed_in s)
 
 -- what a unit asks for: the next statement of its block; without one, that of the line, or of the one in which it began to wait
 abbrev pub asking : Line → OpenUnit → Option (List Statement) → Option Statement

@@ -7,25 +7,27 @@ use Rattle.law_states.specs.Members.{Ascends}
 use Rattle.law_states.specs.OpenUnits.{UnitState}
 use Rattle.law_states.specs.Overlays.{Edit}
 use Rattle.law_states.specs.PairClosures.{Pair, dependencies_of}
-use Rattle.law_states.specs.States.{State, name_at, named_by}
+use Rattle.law_states.specs.States.{State, name_at, named_by, net_by}
 use Rattle.law_states.specs.Steps.{units_after, units_asked, units_at, units_turned}
 use Rattle.law_states.specs.UnitFacts.{UnitFacts, facts_in}
 use Rattle.law_states.specs.WatchSteps.{base_by, counted_by, first_by, table_by, waits_by}
 use Rattle.law_states.specs.Watches.{Watch}
 use Rattle.salt_model.specs.Tables.{is_within, place_cmp}
 use Rattle.salt_model.specs.Trace.{Asked, Start, Trace, from, ◌asks◌, ◌says◌, ◌turns◌}
-use Rattle.salt_values.specs.Id.{has_id, in_order, without}
 use Rattle.salt_model.specs.declared.events.End.TheVariants.{Committed}
 use Rattle.salt_model.specs.declared.events.Event.{Event}
-use Rattle.salt_model.specs.declared.events.Event.TheVariants.{Did, Ended, Finished, Ready, Released}
+use Rattle.salt_model.specs.declared.events.Event.TheVariants.{Did, Early, Ended, Finished, Ready, Released}
 use Rattle.salt_model.specs.declared.locks.Reach.{Reach}
 use Rattle.salt_model.specs.declared.places.Place.{Place}
-use Rattle.salt_values.specs.Id.{is_same_id}
+use Rattle.salt_net.specs.Turns.{Turning}
+use Rattle.salt_place.specs.declared.placement.Shape.{Shape}
+use Rattle.salt_stands.specs.Turning.{no_turns}
+use Rattle.salt_values.specs.Id.{has_id, in_order, is_same_id, without}
 use Rattle.salt_values.specs.declared.cont.Cont.{Cont}
 use Rattle.salt_values.specs.declared.id.Id.{Id}
 use Rattle.std.specs.Bool.{then_some}
 use Rattle.std.specs.FinMap.Entries.{find, where_key}
-use Rattle.std.specs.List.{filter, filter_map}
+use Rattle.std.specs.List.{filter, filter_map, flat_map}
 use Rattle.std.specs.Prelude.{Bool, List, None, Option, Some, [], if◌then◌else◌, is_some, map, not, option_and_then, ℕ, ◌&&◌, ◌++◌, ◌∷◌}
 
 pub record PlainWatch : Type 0 where
@@ -58,6 +60,7 @@ writers_after f (Ended u (Committed n)) ws =
     written_by (base_by f) f.changes ++ where_key place_cmp (λ p. not (is_some (find place_cmp p f.changes))) ws
 writers_after f (Released bs) ws = where_key place_cmp (λ p. is_some (unless_among bs (writer_in ws p))) ws
 writers_after f Ready ws = []
+writers_after f (Early bs) ws = []
 writers_after f e ws = ws
 
 -- a program reads what another wrote last
@@ -71,17 +74,23 @@ abbrev pub pairs_read : Option Id → Option Reach → List (Place × Id) → Li
 pairs_read (Some b) (Some r) ws = filter_map (pair_at b r ws) ws
 pairs_read b r ws = []
 
+-- each of these with each other
+abbrev pub pairs_among : List Id → List Pair
+pairs_among bs = flat_map (λ x. filter_map (pair_with x) bs) bs
+
 abbrev pub pairs_after : UnitFacts → Event → List (Place × Id) → List Pair → List Pair
 pairs_after f (Did u st a) ws ps = pairs_read (base_by f) f.reach ws ++ ps
 pairs_after f (Ended u end) ws ps = filter (λ p. not (has_id p.reader (given_up end (first_by f)))) ps
 pairs_after f (Released bs) ws ps = filter (λ p. not (has_id p.reader bs) && not (has_id p.source bs)) ps
 pairs_after f Ready ws ps = []
+pairs_after f (Early bs) ws ps = pairs_among bs
 pairs_after f e ws ps = ps
 
 abbrev pub finished_after : Event → List Id → List Id
 finished_after (Finished c) bs = c ∷ bs
 finished_after (Released cs) bs = without cs bs
 finished_after Ready bs = []
+finished_after (Early cs) bs = []
 finished_after e bs = bs
 
 abbrev pub watch_after : UnitFacts → Event → PlainWatch → PlainWatch
@@ -100,9 +109,11 @@ pub record PlainState : Type 0 where
   pub watch : PlainWatch
   pub names : Id → List ℕ
   pub can_stop : Bool
+  pub over_net : Bool
+  pub net : Shape → Turning
 
 abbrev pub as_state : PlainState → State
-as_state p = record { units = p.units; watch = watch_of p.watch; names = p.names; can_stop = p.can_stop }
+as_state p = record { units = p.units; watch = watch_of p.watch; names = p.names; can_stop = p.can_stop; over_net = p.over_net; net = p.net }
 
 -- the state after an event, computed
 abbrev pub state_after : Event → PlainState → PlainState
@@ -111,6 +122,8 @@ state_after e p = record {
   watch = watch_after (facts_in p.units e) e p.watch;
   names = named_by e p.names;
   can_stop = p.can_stop;
+  over_net = p.over_net;
+  net = net_by e p.units p.net;
 }
 
 -- after a line, and after a turn of `go all`
@@ -123,7 +136,7 @@ state_turned b p = record p { units = units_turned b p.units }
 -- at a start: the programs that go on are not released, and nothing else is watched
 abbrev pub state_at : Start → PlainState
 state_at k = record {
-  units = units_at k.kept;
+  units = units_at k.kept k.early;
   watch = record {
     table = [];
     taken = 0;
@@ -135,6 +148,8 @@ state_at k = record {
   };
   names = name_at k;
   can_stop = k.can_stop;
+  over_net = k.over_net;
+  net = λ shape. no_turns;
 }
 
 -- the state that goes along with a trace

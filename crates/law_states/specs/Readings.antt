@@ -1,5 +1,4 @@
 -- What is read off a state: whom a statement clashes with, the victim, who is served, what is due, what is shown.
-use Rattle.salt_ast.specs.declared.trees.Statement.{Statement}
 use Rattle.law_states.specs.KeptLocks.{Numbered, Sooner, clash_in, is_owned_by}
 use Rattle.law_states.specs.KeptSources.{IsDue, Through}
 use Rattle.law_states.specs.KeptWaits.{served_in, victim_in}
@@ -10,17 +9,19 @@ use Rattle.law_states.specs.States.{State}
 use Rattle.law_states.specs.Told.{Beside, Items}
 use Rattle.law_states.specs.UnitFacts.{reach_under}
 use Rattle.law_states.specs.Watches.{Watch}
+use Rattle.salt_ast.specs.declared.trees.Statement.{Statement}
 use Rattle.salt_model.specs.Kept.{cont_of}
 use Rattle.salt_model.specs.Locks.{family_of, owners_of}
+use Rattle.salt_model.specs.Programs.{shares}
 use Rattle.salt_model.specs.Units.{program_begun}
 use Rattle.salt_model.specs.Words.{is_empty}
-use Rattle.salt_values.specs.Id.{in_order}
 use Rattle.salt_model.specs.declared.events.Owner.{Owner}
 use Rattle.salt_model.specs.declared.events.Owner.TheVariants.{Base, Unit}
 use Rattle.salt_model.specs.declared.locks.Lock.{Lock}
 use Rattle.salt_model.specs.declared.shown.BaseAt.{BaseAt}
 use Rattle.salt_model.specs.declared.shown.BaseAt.TheVariants.{Finished, First, Next}
 use Rattle.salt_model.specs.declared.shown.Item.{Item}
+use Rattle.salt_values.specs.Id.{in_order}
 use Rattle.salt_values.specs.declared.id.Id.{Id}
 use Rattle.std.specs.List.{filter_map, flat_map}
 use Rattle.std.specs.Prelude.{List, None, Some, if◌then◌else◌, length, map, not, true, ◌++◌, ◌↔◌, ◌≡◌}
@@ -79,4 +80,10 @@ beside_by s x = record {
 }
 
 abbrev pub under_way_of : State → UnderWay
-under_way_of s = record { count = length (under_way_by s); holds = not (is_empty s.watch.programs); can_stop = s.can_stop }
+under_way_of s = record {
+  count = length (under_way_by s);
+  holds = not (is_empty s.watch.programs);
+  covers = shares s.units.named s.watch.programs;
+  can_stop = s.can_stop;
+  over_net = s.over_net;
+}

@@ -1,12 +1,10 @@
 -- Worked rows: the state after a script, computed event by event, tells what the trace of the script tells.
-use Rattle.salt_ast.specs.Sample.{acct_def, pay}
-use Rattle.salt_ast.specs.declared.lines.Line.TheVariants as line
 use Rattle.law_states.specs.KeptWaits.{Asker, served_in, victim_in}
-use Rattle.law_states.specs.OpenUnits.{OpenUnit, names_in}
+use Rattle.law_states.specs.OpenUnits.{OpenUnit, names_in, next_turn_in}
 use Rattle.law_states.specs.PairClosures.{all_sources, due_in}
 use Rattle.law_states.specs.PlainStates.{PlainState, as_state, state_of, watch_of}
 use Rattle.law_states.specs.Readings.{locks_in, under_way_by}
-use Rattle.law_states.specs.Told.{next_turn_in}
+use Rattle.salt_ast.specs.Sample.{acct_def, pay}
 use Rattle.salt_model.specs.After.{kept}
 use Rattle.salt_model.specs.Computing.{computing}
 use Rattle.salt_model.specs.Kept.{Kept}
@@ -21,22 +19,23 @@ use Rattle.salt_model.specs.Turns.{next_turn}
 use Rattle.salt_model.specs.Units.{base_count, is_waiting, open_units, unit_count, wait_list}
 use Rattle.salt_model.specs.Waiting.{next_unblocked, victim}
 use Rattle.salt_model.specs.Walk.{completed, walk}
-use Rattle.salt_values.specs.Id.{in_order}
 use Rattle.salt_model.specs.declared.events.Event.TheVariants.{Down, Opened}
-use Rattle.salt_model.specs.declared.events.Owner.TheVariants.{Base, Unit}
 use Rattle.salt_model.specs.declared.events.Owner.{Owner}
+use Rattle.salt_model.specs.declared.events.Owner.TheVariants.{Base, Unit}
 use Rattle.salt_model.specs.declared.events.Why.TheVariants.{Stopped}
-use Rattle.salt_model.specs.declared.locks.Family.TheVariants.{Acid, Alkaline, Saline}
 use Rattle.salt_model.specs.declared.locks.Family.{Family}
+use Rattle.salt_model.specs.declared.locks.Family.TheVariants.{Acid, Alkaline, Saline}
 use Rattle.salt_model.specs.declared.locks.Lock.{Lock}
-use Rattle.salt_model.specs.declared.locks.Mode.TheVariants.{Read, Write}
 use Rattle.salt_model.specs.declared.locks.Mode.{Mode}
+use Rattle.salt_model.specs.declared.locks.Mode.TheVariants.{Read, Write}
 use Rattle.salt_ranges.specs.Ranges.{one_key}
+use Rattle.salt_values.specs.Id.{in_order}
 use Rattle.salt_values.specs.declared.cont.Cont.{Cont}
 use Rattle.salt_values.specs.declared.id.Id.{Id}
-use Rattle.salt_values.specs.declared.value.Value.TheVariants.{Int}
 use Rattle.salt_values.specs.declared.value.Value.{Value}
+use Rattle.salt_values.specs.declared.value.Value.TheVariants.{Int}
 use Rattle.std.specs.Prelude.{Bool, List, None, Option, Some, [], codes, false, map, pos, refl, true, ℕ, ◌++◌, ◌∷◌, ◌≡◌}
+use Rattle.salt_ast.specs.declared.lines.Line.TheVariants as line
 
 -- what is told of a place in a run: the rows, the last decision, where programs stand and the tries that they have left, and so on
 pub record Sight : Type 0 where

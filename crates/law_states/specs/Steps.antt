@@ -1,26 +1,26 @@
 -- What an event, a line and a turn of `go all` make of the state of units and tables.
+use Rattle.law_states.specs.OpenUnits.{OpenUnit, UnitState, change_unit, count_on, next_to_go_in, unit_named, without_unit}
+use Rattle.law_states.specs.Overlays.{put_all, with_edits}
 use Rattle.salt_ast.specs.declared.lines.Line.{Line}
 use Rattle.salt_ast.specs.declared.lines.Line.TheVariants.{GoAll, Nothing}
 use Rattle.salt_ast.specs.declared.trees.Statement.{Statement}
-use Rattle.law_states.specs.OpenUnits.{OpenUnit, UnitState, change_unit, count_on, unit_named, without_unit}
-use Rattle.law_states.specs.Overlays.{put_all, with_edits}
 use Rattle.salt_model.specs.After.{defined_by}
 use Rattle.salt_model.specs.Kept.{Kept, conts_branched, conts_committed, schema_of, vars_of_kind}
 use Rattle.salt_model.specs.Phases.{Fallen, Opening, Serving}
 use Rattle.salt_model.specs.Statements.{Done, outcome_of}
 use Rattle.salt_model.specs.Trace.{Asked, Trace, Tree, from, line_asked, ◌asks◌, ◌says◌, ◌turns◌}
-use Rattle.salt_model.specs.Turns.{ids_after, is_statement_line}
+use Rattle.salt_model.specs.Turns.{does_something, ids_after, is_statement_line}
 use Rattle.salt_model.specs.Units.{program_begun}
 use Rattle.salt_model.specs.Waiting.{statement_of_line}
-use Rattle.salt_values.specs.Id.{in_order}
 use Rattle.salt_model.specs.declared.events.End.{End}
 use Rattle.salt_model.specs.declared.events.End.TheVariants.{Branched, Committed}
 use Rattle.salt_model.specs.declared.events.Event.{Event}
-use Rattle.salt_model.specs.declared.events.Event.TheVariants.{Began, Defined, Did, Down, Ended, Opened, Ready, Waits}
+use Rattle.salt_model.specs.declared.events.Event.TheVariants.{Began, Defined, Did, Down, Early, Ended, Opened, Ready, Refused, Waits}
 use Rattle.salt_model.specs.declared.events.UnitKind.{UnitKind}
+use Rattle.salt_values.specs.Id.{in_order}
 use Rattle.salt_values.specs.declared.cont.Cont.{Cont}
 use Rattle.salt_values.specs.declared.id.Id.{Id}
-use Rattle.std.specs.Prelude.{List, None, Option, Some, [], false, if◌then◌else◌, is_some, map, true, ℕ, ◌++◌, ◌+◌, ◌∷◌}
+use Rattle.std.specs.Prelude.{Bool, List, None, Option, Some, [], false, if◌then◌else◌, is_some, map, true, ℕ, ◌&&◌, ◌++◌, ◌+◌, ◌∷◌}
 
 -- what a statement does on the tables under a unit's edits
 abbrev pub outcome_under : Kept → OpenUnit → Statement → Done
@@ -73,9 +73,11 @@ units_after (Did u st answer) s = record s { units = change_unit u (doing_one s.
 units_after (Waits u owners) s = record s { units = change_unit u (waiting_by s.line) s.units }
 units_after (Ended u end) s = record s { kept = kept_ended s.kept end (unit_named u s.units); units = without_unit u s.units }
 units_after (Defined n text) s = record s { kept = record s.kept { decisions = n; definitions = s.kept.definitions ++ defined_by s.line } }
-units_after (Down why) s = record s { phase = Fallen; to_go = [] }
+units_after (Down why) s = record s { phase = Fallen; to_go = []; owes = false }
 units_after (Opened boot n) s = record s { kept = record s.kept { boot = boot }; phase = Opening; unit_count = 0; base_count = 0 }
 units_after Ready s = record s { phase = Serving }
+units_after (Early bs) s = record s { phase = Serving; named = bs }
+units_after (Refused r) s = record s { owes = false }
 units_after e s = s
 
 -- `go all` goes to each program that goes on, in order of names
@@ -84,18 +86,18 @@ to_go_by (Tree GoAll) k = in_order (map (λ (c : Cont). c.base) k.conts)
 to_go_by asked k = []
 
 abbrev pub units_asked : Asked → UnitState → UnitState
-units_asked asked s = record s { line = line_asked asked; to_go = to_go_by asked s.kept }
+units_asked asked s = record s { line = line_asked asked; to_go = to_go_by asked s.kept; owes = does_something asked }
 
 abbrev pub units_turned : Id → UnitState → UnitState
-units_turned b s = record s { to_go = ids_after b s.to_go }
+units_turned b s = record s { to_go = ids_after b s.to_go; owes = s.owes && is_some (next_to_go_in s) }
 
 -- at a start
-abbrev pub units_at : Kept → UnitState
-units_at k = record { kept = k; phase = Fallen; line = Nothing; to_go = []; units = []; unit_count = 0; base_count = 0 }
+abbrev pub units_at : Kept → Bool → UnitState
+units_at k early = record { kept = k; phase = Fallen; line = Nothing; to_go = []; early = early; named = []; owes = false; units = []; unit_count = 0; base_count = 0 }
 
 -- the state of a trace, event by event
 abbrev pub units_of : Trace → UnitState
-units_of (from k) = units_at k.kept
+units_of (from k) = units_at k.kept k.early
 units_of (trace asks asked) = units_asked asked (units_of trace)
 units_of (trace turns b) = units_turned b (units_of trace)
 units_of (trace says e) = units_after e (units_of trace)

@@ -1,15 +1,15 @@
 -- What a line, a turn and settling bring next, told by the state of units, and by what locks, waits and releases give beside it.
+use Rattle.law_states.specs.OpenUnits.{OpenUnit, UnitState, asks_next, unit_named, unit_of_program, unit_of_session}
+use Rattle.law_states.specs.Steps.{outcome_under}
 use Rattle.salt_ast.specs.ProgramTexts.{program_text}
 use Rattle.salt_ast.specs.Texts.{table_text}
 use Rattle.salt_ast.specs.declared.lines.Act.{Act}
 use Rattle.salt_ast.specs.declared.lines.Act.TheVariants.{Begin, Call, Commit, Do, Rollback, Step}
 use Rattle.salt_ast.specs.declared.lines.Line.{Line}
-use Rattle.salt_ast.specs.declared.lines.Line.TheVariants.{Crash, Go, GoAll, Nothing, Program, Session, ShowBases, ShowLocks, Table}
+use Rattle.salt_ast.specs.declared.lines.Line.TheVariants.{Crash, Go, GoAll, Net, Nothing, Program, Session, ShowBases, ShowLocks, Table}
 use Rattle.salt_ast.specs.declared.programs.Body.{Body}
 use Rattle.salt_ast.specs.declared.programs.Body.TheVariants.{Acid, Base}
 use Rattle.salt_ast.specs.declared.trees.Statement.{Statement}
-use Rattle.law_states.specs.OpenUnits.{OpenUnit, UnitState, asks_next, unit_named, unit_of_program, unit_of_session}
-use Rattle.law_states.specs.Steps.{outcome_under}
 use Rattle.salt_model.specs.Kept.{block_of_kind, cont_of, kept_program, schema_of}
 use Rattle.salt_model.specs.Next.{is_decision}
 use Rattle.salt_model.specs.Reaches.{reach}
@@ -28,8 +28,7 @@ use Rattle.salt_values.specs.declared.cont.Cont.{Cont}
 use Rattle.salt_values.specs.declared.id.Id.{Id}
 use Rattle.salt_values.specs.declared.value.Value.{Value}
 use Rattle.std.specs.Bool.{then_some}
-use Rattle.std.specs.List.{find}
-use Rattle.std.specs.Prelude.{Bool, List, None, Option, Some, [], false, is_none, is_some, length, not, option_map, true, ℕ, ◌&&◌, ◌+◌, ◌==◌, ◌∷◌}
+use Rattle.std.specs.Prelude.{Bool, List, None, Option, Some, [], false, is_none, is_some, length, option_map, ℕ, ◌+◌, ◌==◌, ◌∷◌}
 
 -- who clashes with an open unit's statement
 abbrev pub Clashes : Type 0
@@ -116,11 +115,12 @@ line_in s clash items GoAll = None
 line_in s clash items ShowLocks = Some (Shown items.locks)
 line_in s clash items ShowBases = Some (Shown items.bases)
 line_in s clash items (Crash pairs) = Some (Armed pairs)
+line_in s clash items (Net pairs) = Some (Armed pairs)
 
 -- a unit's first turn comes with its Began, unless `begin` opened it
-abbrev pub after_began_in : UnitState → Clashes → OpenUnit → Line → Option Event
-after_began_in s clash o (Session t Begin) = None
-after_began_in s clash o line = turn_in s clash o
+abbrev pub after_began_in : UnitState → Clashes → OpenUnit → Line → UnitKind → Option Event
+after_began_in s clash o (Session t Begin) (Acid z) = None
+after_began_in s clash o line kind = turn_in s clash o
 
 abbrev pub fails_in : UnitState → OpenUnit → Cause → UnitKind → Event
 fails_in s o c (Later b part) = Ended o.unit (Branched (next_decision s) c)
@@ -148,18 +148,6 @@ abbrev pub settle_in : UnitState → Option Id → Option OpenUnit → Option Ev
 settle_in s (Some u) served = Some (Ended u Victim)
 settle_in s None (Some o) = serve_in s o
 settle_in s None None = None
-
--- one that has finished, or waits, when its turn comes is left out of `go all`
-abbrev pub is_not_waiting : Option OpenUnit → Bool
-is_not_waiting None = true
-is_not_waiting (Some o) = not o.waiting
-
-abbrev pub can_go_in : UnitState → Id → Bool
-can_go_in s b = is_some (cont_of b s.kept) && is_not_waiting (unit_of_program b s)
-
--- the program to which `go all` turns next
-abbrev pub next_turn_in : UnitState → Option Id
-next_turn_in s = find (can_go_in s) s.to_go
 
 -- whether an event is at the devices
 abbrev pub at_devices_in : UnitState → Event → Bool

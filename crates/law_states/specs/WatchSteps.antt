@@ -1,5 +1,5 @@
 -- What an event makes of locks, waits and sources, given its unit.
-use Rattle.law_states.specs.KeptLocks.{Numbered, is_base_among, is_owned_by, lock_committed, lock_taken, on_lock}
+use Rattle.law_states.specs.KeptLocks.{Numbered, is_base_among, is_owned_by, lock_committed, lock_taken, numbered_from, on_lock}
 use Rattle.law_states.specs.KeptPrograms.{unreleased_after}
 use Rattle.law_states.specs.KeptSources.{Dependencies, FinishedAfter, WritesIn, given_up, unless_among}
 use Rattle.law_states.specs.KeptWaits.{Asker, drop_asker}
@@ -10,19 +10,18 @@ use Rattle.law_states.specs.Watches.{Watch}
 use Rattle.salt_model.specs.Tables.{place_cmp}
 use Rattle.salt_model.specs.Trace.{Trace}
 use Rattle.salt_model.specs.Units.{program_begun, program_of_kind}
-use Rattle.salt_values.specs.Id.{has_id}
 use Rattle.salt_model.specs.declared.events.End.TheVariants.{Committed}
 use Rattle.salt_model.specs.declared.events.Event.{Event}
-use Rattle.salt_model.specs.declared.events.Event.TheVariants.{Did, Ended, Ready, Released, Waits}
+use Rattle.salt_model.specs.declared.events.Event.TheVariants.{Did, Early, Ended, Ready, Released, Waits}
 use Rattle.salt_model.specs.declared.events.Owner.TheVariants.{Unit}
 use Rattle.salt_model.specs.declared.locks.Lock.{Lock}
 use Rattle.salt_model.specs.declared.places.Place.{Place}
-use Rattle.salt_values.specs.Id.{is_same_id}
+use Rattle.salt_values.specs.Id.{has_id, is_same_id}
 use Rattle.salt_values.specs.declared.id.Id.{Id}
 use Rattle.std.specs.Bool.{then_some}
 use Rattle.std.specs.FinMap.Entries.{find}
 use Rattle.std.specs.List.{filter_map}
-use Rattle.std.specs.Prelude.{IsTrue, List, None, Option, Some, [], false, if◌then◌else◌, is_some, length, map, not, option_and_then, ℕ, ◌++◌, ◌+◌, ◌↔◌, ◌≡◌, ◌⊎◌}
+use Rattle.std.specs.Prelude.{IsTrue, List, None, Option, Some, [], false, if◌then◌else◌, is_some, length, not, option_and_then, ℕ, ◌++◌, ◌+◌, ◌↔◌, ◌≡◌, ◌⊎◌}
 
 -- the program of the event's unit, and the program whose first part it is
 abbrev pub base_by : UnitFacts → Option Id
@@ -38,19 +37,26 @@ fate_by f (Ended u (Committed n)) l = lock_committed u (base_by f) l
 fate_by f (Ended u end) l = then_some (not (is_owned_by (Unit u) l)) l
 fate_by f (Released bs) l = then_some (not (is_base_among bs l.owner)) l
 fate_by f Ready l = None
+fate_by f (Early bs) l = None
 fate_by f e l = Some l
 
 abbrev pub won_by : UnitFacts → Event → List Lock
 won_by f (Did u st a) = lock_taken u f.kind f.reach
+won_by f (Early bs) = f.cover
 won_by f e = []
 
+-- how many locks were taken before: behind an opening the count begins anew
+abbrev pub taken_by_now : Event → ℕ → ℕ
+taken_by_now Ready n = 0
+taken_by_now (Early bs) n = 0
+taken_by_now e n = n
+
 abbrev pub table_by : UnitFacts → ℕ → Event → List Numbered → List Numbered
-table_by f k e table = filter_map (on_lock (fate_by f e)) table ++ map (λ l. record { number = k; lock = l }) (won_by f e)
+table_by f k e table = filter_map (on_lock (fate_by f e)) table ++ numbered_from (taken_by_now e k) (won_by f e)
 
 -- how many locks were taken since the last opening
 abbrev pub counted_by : UnitFacts → Event → ℕ → ℕ
-counted_by f Ready n = 0
-counted_by f e n = n + length (won_by f e)
+counted_by f e n = taken_by_now e n + length (won_by f e)
 
 -- waits
 
@@ -59,6 +65,7 @@ waits_by f (Waits u owners) ws = drop_asker u ws ++ f.asks
 waits_by f (Did u st a) ws = drop_asker u ws
 waits_by f (Ended u end) ws = drop_asker u ws
 waits_by f Ready ws = []
+waits_by f (Early bs) ws = []
 waits_by f e ws = ws
 
 -- last writers: a commit is its program's, and an ACID unit's is forgotten; direct reads; finished programs
@@ -67,6 +74,7 @@ abbrev pub writer_by : UnitFacts → Event → (Place → Option Id) → Place �
 writer_by f (Ended u (Committed n)) old p = if is_some (find place_cmp p f.changes) then base_by f else old p
 writer_by f (Released bs) old p = unless_among bs (old p)
 writer_by f Ready old p = None
+writer_by f (Early bs) old p = None
 writer_by f e old p = old p
 
 abbrev pub ReadsBy : UnitFacts → Event → Dependencies → Id → Id → Type 0
@@ -74,6 +82,7 @@ ReadsBy f (Did u st a) old x y = IsTrue (old.reads x y) ⊎ ((base_by f ≡ Some
 ReadsBy f (Ended u end) old x y = IsTrue (old.reads x y) × (has_id x (given_up end (first_by f)) ≡ false)
 ReadsBy f (Released bs) old x y = IsTrue (old.reads x y) × (has_id x bs ≡ false) × (has_id y bs ≡ false)
 ReadsBy f Ready old x y = ⊥
+ReadsBy f (Early bs) old x y = IsTrue (has_id x bs) × IsTrue (has_id y bs) × (is_same_id y x ≡ false)
 ReadsBy f e old x y = IsTrue (old.reads x y)
 
 pub record DependenciesBy (f : UnitFacts) (e : Event) (old new : Dependencies) : Type 0 where

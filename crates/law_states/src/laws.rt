@@ -1,12 +1,15 @@
 //! The laws, each on a function that does nothing: what an engine keeps, how it goes on with each event of a played trace,
 //! and that it tells what comes next.
 
+ghost use Rattle.salt_model.specs.declared.locks.Family.{Family};
+ghost use Rattle.law_states.specs.Restoring.{AreKeys, ForgotEach, ReadEach, TakenEach, WroteEach, whole};
 ghost use Rattle.salt_ast.specs.declared.trees.Statement.{Statement};
-ghost use Rattle.law_states.specs.DependencyCalls.{HasAbandoned, HasFinished, HasRead, IsCommitted, WroteAll, marked};
+ghost use Rattle.law_states.specs.KeptCover.{KeepsCover, group_of};
+ghost use Rattle.law_states.specs.DependencyCalls.{AreSame, HasAbandoned, HasFinished, HasRead, IsCommitted, WroteAll, marked};
 ghost use Rattle.law_states.specs.Keeps.{KeepsUnit, KeepsUnits};
-ghost use Rattle.law_states.specs.KeptLocks.{AreBelow, KeepsLocks, Numbered, Sooner, clash_in, is_owned_by};
+ghost use Rattle.law_states.specs.KeptLocks.{AreBelow, KeepsLocks, Numbered, Sooner, clash_in, is_owned_by, numbered_from};
 ghost use Rattle.law_states.specs.KeptPrograms.{KeepsNothing, unreleased_after};
-ghost use Rattle.law_states.specs.KeptSources.{Dependencies, FinishedLive, IsDue, KeepsDependencies};
+ghost use Rattle.law_states.specs.KeptSources.{Dependencies, FinishedLive, IsDue, KeepsDependencies, no_dependencies};
 ghost use Rattle.law_states.specs.KeptSources.{ReadsLive, Through, first_of, live_writer};
 ghost use Rattle.law_states.specs.KeptWaits.{AreDistinct, AreSources, IsSettled, asker, clash_owners, served_in, victim_in};
 ghost use Rattle.law_states.specs.KeptWaits.{waiting};
@@ -30,7 +33,7 @@ ghost use Rattle.law_states.specs.WatchSteps.{DependenciesAfter, DependenciesBy,
 ghost use Rattle.law_states.specs.Watches.{Watch, Watches, empty_watch};
 ghost use Rattle.salt_model.specs.After.{reach_now, run_of, tables_after};
 ghost use Rattle.salt_model.specs.Kept.{Kept, cont_of};
-ghost use Rattle.salt_model.specs.Locks.{clashing, family_of, held, lock_of, owners_of};
+ghost use Rattle.salt_model.specs.Locks.{clashing, cover_lock, family_of, held, lock_of, owners_of};
 ghost use Rattle.salt_model.specs.Next.{flight, next};
 ghost use Rattle.salt_model.specs.Phases.{Serving, phase};
 ghost use Rattle.salt_model.specs.Programs.{under_way, unreleased};
@@ -49,7 +52,7 @@ ghost use Rattle.salt_model.specs.declared.events.Answer.{Answer};
 ghost use Rattle.salt_model.specs.declared.events.End.{End};
 ghost use Rattle.salt_model.specs.declared.events.End.TheVariants.{Branched, Committed};
 ghost use Rattle.salt_model.specs.declared.events.Event.{Event};
-ghost use Rattle.salt_model.specs.declared.events.Event.TheVariants.{Did, Ended, Finished, Ready, Released};
+ghost use Rattle.salt_model.specs.declared.events.Event.TheVariants.{Did, Early, Ended, Finished, Ready, Released};
 ghost use Rattle.salt_model.specs.declared.events.Owner.{Owner};
 ghost use Rattle.salt_model.specs.declared.events.Owner.TheVariants.{Unit};
 ghost use Rattle.salt_model.specs.declared.events.Why.{Why};
@@ -59,13 +62,14 @@ ghost use Rattle.salt_model.specs.declared.locks.Reach.{Reach};
 ghost use Rattle.salt_model.specs.declared.places.Place.{Place};
 ghost use Rattle.salt_ranges.specs.Ranges.{one_key};
 ghost use Rattle.salt_values.specs.declared.id.Id.{Id};
+ghost use Rattle.salt_values.specs.declared.value.Value.TheVariants.{Int};
 ghost use Rattle.salt_values.specs.declared.value.Value.{Value};
 ghost use Rattle.salt_model.specs.Shown.{base_items, lock_items};
 ghost use Rattle.salt_model.specs.declared.events.Cause.{Cause};
 ghost use Rattle.salt_model.specs.declared.events.UnitKind.TheVariants.{Later};
 ghost use Rattle.salt_values.specs.declared.cont.Cont.{Cont};
 ghost use Rattle.std.specs.List.{filter, remove};
-ghost use Rattle.std.specs.Prelude.{IsTrue, List, None, Option, Some, [], false, get_or, length, map, not, set, suc, true, ℕ};
+ghost use Rattle.std.specs.Prelude.{IsTrue, List, None, Option, Some, [], false, get_or, length, map, not, pos, set, suc, true, ℕ};
 ghost use Rattle.std.specs.Prelude.{◌++◌, ◌<◌, ◌||◌, ◌↔◌, ◌∷◌, ◌≡◌, ◌⊎◌};
 
 /// What the state of units and tables becomes by an event, a line and a turn of `go all`, and what it is at a start.
@@ -76,7 +80,7 @@ pub fn units_go_on()
         KeepsUnits (units_asked asked s) (trace asks asked) }
     ensures turns { (s : UnitState) (trace : Trace) (b : Id) → KeepsUnits s trace →
         KeepsUnits (units_turned b s) (trace turns b) }
-    ensures start { (k : Start) → KeepsUnits (units_at k.kept) (from k) }
+    ensures start { (k : Start) → KeepsUnits (units_at k.kept k.early) (from k) }
 {}
 
 /// Each trace that is played has the state that goes along with it, event by event; its locks are in the order taken.
@@ -247,13 +251,30 @@ pub fn programs_finish_once_and_first_parts_are_unseen()
 pub fn unreleased_programs_change()
     ensures change { (trace : Trace) (e : Event) → IsSound (trace says e) →
         unreleased (trace says e) ≡ unreleased_after e (unreleased trace) }
-    ensures busy { (trace : Trace) → is_busy trace
+    ensures busy { (trace : Trace) → IsSound trace → is_busy trace
         ≡ (not (is_empty (open_units trace)) || not (is_empty (unreleased trace))) }
 {}
 
 /// At a Ready no unit is open, and nothing is held, waits, is unreleased or is kept: an engine begins with nothing.
 pub fn nothing_is_kept_at_ready()
     ensures { (trace : Trace) → IsSound (trace says Ready) → KeepsNothing (trace says Ready) }
+{}
+
+/// At an Early no unit has begun in its boot and none is open, and of locks, waits and sources the cover and the group
+/// of the named programs are all that is kept: an engine that is resumed begins with these.
+pub fn cover_and_group_are_kept_at_early()
+    ensures { (trace : Trace) (bs : List Id) → IsSound (trace says Early bs) → KeepsCover (trace says Early bs) bs }
+{}
+
+/// One unit that takes each of these tables whole, and becomes the first program's, leaves the cover; where each named
+/// program writes a key of its own, each reads all of them, and then none has written, the group is left and no more.
+pub fn restoring_gives_cover_and_group()
+    ensures locks { (u b : Id) (f : Family) (ts : List ℕ) (mid new : List Numbered) → TakenEach u f 0 ts [] mid →
+        HasSalted u b mid new → SameMembers new (numbered_from 0 (map (cover_lock b) ts)) }
+    ensures group { (r : Reach) (key : ℕ → Value) (bs : List Id) (one two new : Dependencies) → AreKeys r key →
+        WroteEach r key 0 bs no_dependencies one → ReadEach r bs one two → ForgotEach r key 0 bs two new →
+        AreSame (group_of bs) new }
+    ensures keys { (t : ℕ) → AreKeys (whole t) (λ i. Int (pos i)) }
 {}
 
 /// All of it together: what an engine keeps goes on with each event, line and turn, and begins with nothing at a Ready.

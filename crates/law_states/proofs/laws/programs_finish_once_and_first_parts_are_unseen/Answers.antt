@@ -6,5 +6,5 @@ use Rattle.law_states.proofs.laws.programs_finish_once_and_first_parts_are_unsee
 pub returns : goal.returns
 returns c = record {
   once = (λ trace b h f. finishes-once trace b h.played (of-start (start_of trace).kept h.well) f);
-  unseen = (λ trace u b h o f. first-unseen trace u b h.played (of-start (start_of trace).kept h.well) o f);
+  unseen = (λ trace u b h o f. first-unseen trace u b h.played h.well o f);
 }
