@@ -21,13 +21,14 @@ use Rattle.salt_model.specs.Stops.{is_just_opened}
 use Rattle.salt_model.specs.Trace.{Trace, from, start_of, ◌asks◌, ◌says◌, ◌turns◌}
 use Rattle.salt_model.specs.Words.{Every}
 use Rattle.salt_model.specs.declared.events.Event.{Event}
-use Rattle.salt_model.specs.declared.events.Event.TheVariants.{Defined, Down, Opened, Ready}
+use Rattle.salt_model.specs.declared.events.Event.TheVariants.{Defined, Down, Early, Opened, Ready}
 use Rattle.law_openings.proofs.Draining.{Goes, cuts-follow, is_defined, opening-follows}
 use Rattle.law_openings.proofs.OneState.{one-state}
 use Rattle.law_openings.proofs.Opening.{said-last, serves-not}
 use Rattle.law_openings.proofs.Standing.{comes-weaker, decided, stands-at, told-opened, told-within}
 use Rattle.law_openings.proofs.Staying.{can-stay}
-use Rattle.law_openings.specs.Draining.{CanDrain, IsBehindFlight, LeadsOn, Stands, defined_in, rests_behind, rests_of, statements_at, statements_in, statements_left, statements_told}
+use Rattle.law_openings.specs.Draining.{CanDrain, IsBehindFlight, LeadsOn, Stands, defined_in, rests_behind, statements_at, statements_left}
+use Rattle.salt_model.specs.Rests.{rests_of, statements_in, statements_told}
 use Rattle.std.proofs.Common.{ap, arith, inl, inr, subst, sym, ◌∙◌}
 use Rattle.std.specs.Bool.{then_some}
 use Rattle.std.specs.Prelude.{Bool, List, None, Option, Some, [], false, refl, true, ℕ, ◌+◌, ◌==◌, ◌∷◌, ◌≡◌, ◌≤◌, ◌⊎◌}
@@ -62,6 +63,7 @@ drives-next : (trace : Trace) (f e : Event) → IsPlayed (trace says f) → Well
     next (trace says f) ≡ Some e → IsNoFlight (trace says f) e → Drives (units_of (trace says f)) e
 drives-next trace (Down why) e p w h n q = cc
 drives-next trace Ready e p w h n q = cc
+drives-next trace (Early bs) e p w h n q = cc
 drives-next trace (Opened boot m) e p w h n (inl q) = cc
 drives-next trace (Opened boot m) e p w h n (inr q) =
     let s = units_of (trace says Opened boot m) in
@@ -106,6 +108,7 @@ phase-on : (e : Event) (s : UnitState) → is_of_run e ≡ false → ((units_aft
 phase-on (Down why) s r = cc
 phase-on (Opened boot n) s r = cc
 phase-on Ready s r = inr refl
+phase-on (Early bs) s r = inr refl
 phase-on e s r = inl refl
 
 serves-on : (m : Move) (p q : Point) → Moves m p q → p.state.units.phase ≡ Serving → q.state.units.phase ≡ Serving

@@ -8,7 +8,7 @@ use Rattle.salt_ast.specs.declared.programs.PartDef.{PartDef}
 use Rattle.salt_ast.specs.declared.programs.ProgramDef.{ProgramDef}
 use Rattle.salt_ast.specs.declared.trees.Statement.{Statement}
 use Rattle.law_states.proofs.LookUps.{asked-within}
-use Rattle.law_states.specs.Follows.{cut_in, cuts_or_drains_in, drains_in, follow_opening_in, opening_in, unit_of}
+use Rattle.law_states.specs.Follows.{cut_in, cuts_or_drains_in, drains_in, follow_opening_in, opening_in, unfinished_in, unit_of}
 use Rattle.law_states.specs.OpenUnits.{OpenUnit, UnitState, asks_next, names_in, unit_named, without_unit}
 use Rattle.law_states.specs.Steps.{begun, doing_one, kept_ended, units_after}
 use Rattle.law_states.specs.Told.{after_did_in, after_end_in, begins_in, commits_in, does_in, fails_in, finishes_in, is_at_end_in, next_decision, next_unit, serve_in}
@@ -27,10 +27,11 @@ use Rattle.salt_model.specs.declared.events.Cause.{Cause}
 use Rattle.salt_model.specs.declared.events.End.{End}
 use Rattle.salt_model.specs.declared.events.End.TheVariants.{Branched, Committed, Cut}
 use Rattle.salt_model.specs.declared.events.Event.{Event}
-use Rattle.salt_model.specs.declared.events.Event.TheVariants.{Accepted, Began, Defined, Did, Down, Ended, Finished, Opened, Ready}
+use Rattle.salt_model.specs.declared.events.Event.TheVariants.{Accepted, Began, Defined, Did, Down, Early, Ended, Finished, Opened, Ready}
 use Rattle.salt_model.specs.declared.events.UnitKind.{UnitKind}
 use Rattle.salt_model.specs.declared.events.UnitKind.TheVariants.{First, Later}
-use Rattle.law_openings.specs.Draining.{AreEarlier, CanDrain, DrainsAt, LeadsOn, Stands, StandsAtPart, cuts_in, done_now, is_earlier, is_within, opening_stage, rest_of_cont, rests_of, statements_in, statements_left, units_to_cut}
+use Rattle.law_openings.specs.Draining.{AreEarlier, CanDrain, DrainsAt, LeadsOn, Stands, StandsAtPart, cuts_in, done_now, is_earlier, is_within, opening_stage, statements_left, units_to_cut}
+use Rattle.salt_model.specs.Rests.{rest_of_cont, rests_of, statements_in}
 use Rattle.salt_tokens.specs.Spelling.{same_bytes}
 use Rattle.salt_values.specs.Id.{is_same_id}
 use Rattle.salt_values.specs.declared.cont.Cont.{Cont}
@@ -176,8 +177,8 @@ module _ (s : UnitState) (o : OpenUnit) (c : Cont) (cs : List Cont) (boot : o.un
   left-one : (r d e n : ℕ) → d ≡ n → e ≡ n + 1 → n < r → r - e + 1 ≤ r - d
   left-one r d e n h g l = omega arith
 
-  does-goes : (f : Event) (st : Statement) → asks_next State Unit ≡ Some st → Goes f State (does_in State Unit st)
-  does-goes f st asks = record {
+  does-goes : (f : Event) (st : Statement) → s.early ≡ false → asks_next State Unit ≡ Some st → Goes f State (does_in State Unit st)
+  does-goes f st late asks = record {
     stands = record {
       unit = doing_one State.kept st Unit;
       cont = c;
@@ -186,6 +187,7 @@ module _ (s : UnitState) (o : OpenUnit) (c : Cont) (cs : List Cont) (boot : o.un
       conts = refl;
       name = refl;
       boot = boot;
+      late = late;
       within = λ block h. let l = asked-within State Unit block st h asks in omega arith;
     };
     statements = λ can. left-one (rests_of (programs_of State.kept) (c ∷ cs)) (done_now s.kept.boot State.units) (done_now s.kept.boot (units_after (does_in State Unit st) State).units) o.done done-is (rw (is_same_id-refl o.unit) (rw this-boot (omega arith)))
@@ -198,8 +200,8 @@ module _ (s : UnitState) (o : OpenUnit) (c : Cont) (cs : List Cont) (boot : o.un
     defines = refl;
   }
 
-  serve-goes : (f : Event) → IfComes (Goes f State) (serve_in State Unit)
-  serve-goes f = comes-map-at (Goes f State) (does_in State Unit) (asks_next State Unit) (λ st h. does-goes f st h)
+  serve-goes : (f : Event) → s.early ≡ false → IfComes (Goes f State) (serve_in State Unit)
+  serve-goes f late = comes-map-at (Goes f State) (does_in State Unit) (asks_next State Unit) (λ st h. does-goes f st late h)
 
   -- its end
 
@@ -278,17 +280,17 @@ module _ (s : UnitState) (o : OpenUnit) (c : Cont) (cs : List Cont) (boot : o.un
   nothing-else : (f : Event) → IfComes (Goes f State) (cuts_or_drains_in State (cut_in State))
   nothing-else f = subst (IfComes (Goes f State)) (sym no-more) tt
 
-  pub began-follows : (kind : UnitKind) → Follows (Began o.unit kind) (unit_named o.unit State.units)
-  began-follows kind =
+  pub began-follows : (kind : UnitKind) → s.early ≡ false → Follows (Began o.unit kind) (unit_named o.unit State.units)
+  began-follows kind late =
       let f = Began o.unit kind in
-      subst (Follows f) (sym found) (comes-option_or (Goes f State) (serve_in State Unit) (cuts_or_drains_in State (cut_in State)) (serve-goes f) (nothing-else f))
+      subst (Follows f) (sym found) (comes-option_or (Goes f State) (serve_in State Unit) (cuts_or_drains_in State (cut_in State)) (serve-goes f late) (nothing-else f))
 
-  pub did-follows : (st : Statement) (a : Answer) → IsWithin → Follows (Did o.unit st a) (unit_named o.unit State.units)
-  did-follows st a w =
+  pub did-follows : (st : Statement) (a : Answer) → s.early ≡ false → IsWithin → Follows (Did o.unit st a) (unit_named o.unit State.units)
+  did-follows st a late w =
       let f = Did o.unit st a in
       subst (Follows f) (sym found)
       (comes-option_or (Goes f State) (option_or (after_did_in State Unit a) (serve_in State Unit)) (cuts_or_drains_in State (cut_in State))
-      (comes-option_or (Goes f State) (after_did_in State Unit a) (serve_in State Unit) (did-goes o.unit st a a w) (serve-goes f))
+      (comes-option_or (Goes f State) (after_did_in State Unit a) (serve_in State Unit) (did-goes o.unit st a a w) (serve-goes f late))
       (nothing-else f))
 
 -- a state in which a drain's unit is open is such a state
@@ -329,9 +331,9 @@ module _ (s : UnitState) (all : AreEarlier s) where
   end-goes u (Branched n x) (Later b part) = finishes-goes (Ended u (Branched n x)) b (omega arith)
   end-goes u end kind = tt
 
-begins-at : (f : Event) (s : UnitState) (c : Cont) (cs : List Cont) → 1 < opening_stage f →
+begins-at : (f : Event) (s : UnitState) (c : Cont) (cs : List Cont) → s.early ≡ false → 1 < opening_stage f →
     let t : UnitState = record s { units = []; kept = record s.kept { conts = c ∷ cs } } in Goes f t (begins_in t (Later c.base c.next))
-begins-at f s c cs l =
+begins-at f s c cs late l =
     let t : UnitState = record s { units = []; kept = record s.kept { conts = c ∷ cs } } in
     let own : nat_lt s.kept.boot s.kept.boot ≡ false = not-below s.kept.boot s.kept.boot refl in
     record {
@@ -344,6 +346,7 @@ begins-at f s c cs l =
           conts = refl;
           name = refl;
           boot = refl;
+          late = late;
           within = λ block h. omega arith;
         },
         refl,
@@ -354,15 +357,19 @@ begins-at f s c cs l =
       defines = refl;
     }
 
-begins-goes : (f : Event) (s : UnitState) (c : Cont) (cs : List Cont) → s.units ≡ [] → s.kept.conts ≡ c ∷ cs → 1 < opening_stage f →
+begins-goes : (f : Event) (s : UnitState) (c : Cont) (cs : List Cont) → s.units ≡ [] → s.kept.conts ≡ c ∷ cs → s.early ≡ false → 1 < opening_stage f →
     Goes f s (begins_in s (Later c.base c.next))
-begins-goes f s c cs none first l =
+begins-goes f s c cs none first late l =
     subst (λ (t : UnitState). Goes f t (begins_in t (Later c.base c.next)))
-    (λ i. record s { units = sym none i; kept = record s.kept { conts = sym first i } }) (begins-at f s c cs l)
+    (λ i. record s { units = sym none i; kept = record s.kept { conts = sym first i } }) (begins-at f s c cs late l)
 
 drain-goes : (f : Event) (s : UnitState) → AreEarlier s → s.units ≡ [] → 1 < opening_stage f → (cs : List Cont) → s.kept.conts ≡ cs → Goes f s (drains_in s cs)
 drain-goes f s all none l [] e = record { stands = all; statements = λ can. omega arith; cuts = omega arith; stage = omega arith; defines = refl }
-drain-goes f s all none l (c ∷ cs) e = begins-goes f s c cs none e l
+drain-goes f s all none l (c ∷ cs) e = by s.early refl
+  where
+    by : (early : Bool) → s.early ≡ early → Goes f s (unfinished_in early s c cs)
+    by true h = record { stands = all; statements = λ can. omega arith; cuts = omega arith; stage = omega arith; defines = refl }
+    by false h = begins-goes f s c cs none e h l
 
 -- the next is cut, or the drain goes on
 pub cuts-follow : (f : Event) (s : UnitState) → AreEarlier s → 1 < opening_stage f → opening_stage f ≤ 4 → IfComes (Goes f s) (cuts_or_drains_in s (cut_in s))
@@ -390,12 +397,13 @@ pub opening-follows : (before s : UnitState) (f : Event) → is_within f ≡ tru
 opening-follows before s (Down why) w h = cc
 opening-follows before s (Opened boot n) w h = cc
 opening-follows before s Ready w h = cc
+opening-follows before s (Early bs) w h = cc
 opening-follows before s (Began u kind) w h =
     drained (λ t v. IfComes (Goes (Began v kind) t) (opening_in t (Began v kind) (unit_named v t.units))) s u h.0
-    (began-follows s h.0.unit h.0.cont h.0.others h.0.boot kind)
+    (began-follows s h.0.unit h.0.cont h.0.others h.0.boot kind h.0.late)
 opening-follows before s (Did u st a) w h =
     drained (λ t v. IfComes (Goes (Did v st a) t) (opening_in t (Did v st a) (unit_named v t.units))) s u h
-    (did-follows s h.unit h.cont h.others h.boot st a (drained-within s u h))
+    (did-follows s h.unit h.cont h.others h.boot st a h.late (drained-within s u h))
 opening-follows before s (Ended u end) w h =
     earlier-follows before s (Ended u end) h (omega arith) (omega arith) (follow-goes s h u end (unit_of (Ended u end) before s))
 opening-follows before s (Accepted b) w h =

@@ -11,7 +11,7 @@ use Rattle.law_story.proofs.Fresh.{IfComes}
 use Rattle.salt_model.specs.Phases.{Opening, Phase, phase}
 use Rattle.salt_model.specs.Trace.{Trace, ◌says◌}
 use Rattle.salt_model.specs.declared.events.Event.{Event}
-use Rattle.salt_model.specs.declared.events.Event.TheVariants.{Accepted, Began, Did, Down, Finished, Opened, Ready}
+use Rattle.salt_model.specs.declared.events.Event.TheVariants.{Accepted, Began, Did, Down, Early, Finished, Opened, Ready}
 use Rattle.law_openings.proofs.Draining.{Goes, opening-follows}
 use Rattle.law_openings.proofs.OneState.{one-state}
 use Rattle.law_openings.proofs.Opening.{said-in-opening}
@@ -26,6 +26,7 @@ stage-counts (Did u st answer) = omega arith
 stage-counts (Accepted b) = omega arith
 stage-counts (Finished b) = omega arith
 stage-counts Ready = omega arith
+stage-counts (Early bs) = omega arith
 stage-counts e = omega arith
 
 pub left-falls : (f : Event) (s : UnitState) → CanDrain s.kept → (o : Option Event) → IfComes (Goes f s) o →
@@ -54,6 +55,9 @@ openings-end (Down why) old new x flight trace r h k sound can a = cc
 openings-end (Opened boot n) old new x flight trace r h k sound can a = cc
 openings-end Ready old new x flight trace r h k sound can a =
     subst (λ (q : Phase). left_to_open new.units (said_in q new.units (beside_by new x) Ready None) < left_to_open old.units (Some Ready))
+    (sym (ap (λ (s : UnitState). s.phase) a.units)) (omega arith)
+openings-end (Early bs) old new x flight trace r h k sound can a =
+    subst (λ (q : Phase). left_to_open new.units (said_in q new.units (beside_by new x) (Early bs) None) < left_to_open old.units (Some (Early bs)))
     (sym (ap (λ (s : UnitState). s.phase) a.units)) (omega arith)
 openings-end e old new x flight trace r h k sound can a =
     falls-within e old new x flight trace r refl (k.units.phase ∙ h) (ap (λ (s : UnitState). s.phase) a.units ∙ h) k sound can a

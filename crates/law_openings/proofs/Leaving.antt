@@ -43,6 +43,8 @@ leaves s trace e keeps sound = record {
     watch = record { locks = λ n. ((λ i. i), (λ i. i)); taken = refl; waits = refl; programs = refl; dependencies = goes };
     names = λ b. refl;
     can_stop = refl;
+    over_net = refl;
+    net = λ shape. refl;
   };
 }
   where

@@ -9,3 +9,5 @@ pub mod Doing
 pub mod Moving
 pub mod Leaving
 pub mod EachOpening
+pub mod Rests
+pub mod EarlyOpening

@@ -13,7 +13,7 @@ use Rattle.salt_model.specs.Next.{decision_in, is_decision}
 use Rattle.salt_model.specs.Phases.{Opening, Phase}
 use Rattle.salt_model.specs.Trace.{Trace, ◌says◌}
 use Rattle.salt_model.specs.declared.events.Event.{Event}
-use Rattle.salt_model.specs.declared.events.Event.TheVariants.{Down, Opened, Ready}
+use Rattle.salt_model.specs.declared.events.Event.TheVariants.{Down, Early, Opened, Ready}
 use Rattle.law_openings.proofs.Draining.{Goes, opening-follows}
 use Rattle.law_openings.proofs.Ending.{left-falls}
 use Rattle.law_openings.proofs.OneState.{one-state}
@@ -22,20 +22,22 @@ use Rattle.law_openings.proofs.Resting.{opening-comes}
 use Rattle.law_openings.proofs.Standing.{StandsOn, comes-weaker, opened-follows, stands-at}
 use Rattle.law_openings.specs.Draining.{CanDrain, Stands, is_within, left_to_open, opening_stage, statements_left, units_to_cut}
 use Rattle.law_openings.specs.Openings.{Opens}
+use Rattle.salt_values.specs.declared.id.Id.{Id}
 use Rattle.std.proofs.Common.{ap, arith, subst, sym, ◌∙◌}
 use Rattle.std.specs.Bool.{then_some}
-use Rattle.std.specs.Prelude.{Bool, IsSome, None, Option, Some, false, is_some, refl, true, ℕ, ◌*◌, ◌+◌, ◌<◌, ◌≡◌}
+use Rattle.std.specs.Prelude.{Bool, IsSome, List, None, Option, Some, false, is_some, refl, true, ℕ, ◌*◌, ◌+◌, ◌<◌, ◌≡◌}
 
 pub units-stand : (s : UnitState) (trace : Trace) (e : Event) → KeepsUnits s (trace says e) → IsSound (trace says e) → s.phase ≡ Opening → Stands s e
 units-stand s trace e k sound h =
     let same : units_of (trace says e) ≡ s = one-state (trace says e) (units_of (trace says e)) s (state-kept (trace says e) sound.played sound.well) k in
     subst (λ s. Stands s e) same (stands-at trace e sound.played sound.well (k.phase ∙ h))
 
--- where the opening goes on, its Ready has not come
+-- where the opening goes on, neither its Ready nor its Early has come
 within-opening : (e : Event) (old new : UnitState) → is_of_run e ≡ false → new ≡ units_after e old → new.phase ≡ Opening → is_within e ≡ true
 within-opening (Down why) old new r a h = cc
 within-opening (Opened boot n) old new r a h = cc
 within-opening Ready old new r a h = let serving = sym (ap (λ (s : UnitState). s.phase) a) ∙ h in cc
+within-opening (Early bs) old new r a h = let serving = sym (ap (λ (s : UnitState). s.phase) a) ∙ h in cc
 within-opening e old new r a h = refl
 
 -- what comes next in an opening
@@ -78,5 +80,11 @@ opens-stand boot n f old new opened s decided h =
 pub ready-falls : (old new : Point) → Says Ready old new → left_to_open new.state.units new.next < left_to_open old.state.units old.next
 ready-falls old new said =
     let none : new.next ≡ None = said.next ∙ ap (λ (q : Phase). said_in q new.state.units (beside_by new.state said.read) Ready None) (ap (λ (s : UnitState). s.phase) said.after.units) in
+    subst (λ o. left_to_open new.state.units o < left_to_open old.state.units old.next) (sym none)
+    (subst (λ o. left_to_open new.state.units None < left_to_open old.state.units o) (sym said.comes) (omega arith))
+
+pub early-falls : (bs : List Id) (old new : Point) → Says (Early bs) old new → left_to_open new.state.units new.next < left_to_open old.state.units old.next
+early-falls bs old new said =
+    let none : new.next ≡ None = said.next ∙ ap (λ (q : Phase). said_in q new.state.units (beside_by new.state said.read) (Early bs) None) (ap (λ (s : UnitState). s.phase) said.after.units) in
     subst (λ o. left_to_open new.state.units o < left_to_open old.state.units old.next) (sym none)
     (subst (λ o. left_to_open new.state.units None < left_to_open old.state.units o) (sym said.comes) (omega arith))

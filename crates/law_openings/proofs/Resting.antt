@@ -17,7 +17,7 @@ use Rattle.salt_model.specs.Words.{Every, is_empty}
 use Rattle.salt_model.specs.declared.events.Answer.{Answer}
 use Rattle.salt_model.specs.declared.events.Answer.TheVariants.{Failed}
 use Rattle.salt_model.specs.declared.events.Event.{Event}
-use Rattle.salt_model.specs.declared.events.Event.TheVariants.{Began, Did, Down, Opened, Ready}
+use Rattle.salt_model.specs.declared.events.Event.TheVariants.{Began, Did, Down, Early, Opened, Ready}
 use Rattle.salt_model.specs.declared.events.UnitKind.{UnitKind}
 use Rattle.salt_model.specs.declared.events.UnitKind.TheVariants.{Later}
 use Rattle.law_openings.proofs.Draining.{IsWithin, State, Unit, block-counts, block-found, drained, drained-within, found}
@@ -118,6 +118,7 @@ pub opening-comes : (before s : UnitState) (f : Event) → is_within f ≡ true 
 opening-comes before s (Down why) w h can = cc
 opening-comes before s (Opened boot n) w h can = cc
 opening-comes before s Ready w h can = cc
+opening-comes before s (Early bs) w h can = cc
 opening-comes before s (Began u kind) w h can =
     drained (λ t v. CanDrain t.kept → Comes (opening_in t (Began v kind) (unit_named v t.units))) s u h.0
     (λ can. began-comes s h.0.unit h.0.cont h.0.others h.0.boot can kind h.1) can
@@ -132,6 +133,7 @@ next-comes : (trace : Trace) (f : Event) → IsPlayed (trace says f) → WellKep
     CanDrain (units_of (trace says f)).kept → Comes (next (trace says f))
 next-comes trace (Down why) p w h can = cc
 next-comes trace Ready p w h can = cc
+next-comes trace (Early bs) p w h can = cc
 next-comes trace (Opened boot n) p w h can =
     subst Comes (sym (told-opened trace boot n p w))
     (earlier-comes (units_of (trace says Opened boot n)) (stands_in (units_of (trace says Opened boot n)) n (flight trace)) (stands-at trace (Opened boot n) p w h))

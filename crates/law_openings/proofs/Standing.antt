@@ -10,7 +10,7 @@ use Rattle.law_story.proofs.Every.{IfSome, every-filter, every-map, every-passes
 use Rattle.law_story.proofs.Coming.{Good}
 use Rattle.law_story.proofs.Fresh.{IfComes, comes-option_or, comes-then_some}
 use Rattle.law_story.proofs.Replays.{replays}
-use Rattle.law_story.proofs.Salted.{holds, may-fit}
+use Rattle.law_story.proofs.Upheld.{holds, may-fit}
 use Rattle.law_story.proofs.Sound.{Sound, old-fallen, open-named}
 use Rattle.law_story.proofs.WellKept.{of-start}
 use Rattle.salt_model.specs.After.{kept}
@@ -29,7 +29,7 @@ use Rattle.salt_model.specs.Words.{Every}
 use Rattle.salt_model.specs.declared.events.End.{End}
 use Rattle.salt_model.specs.declared.events.End.TheVariants.{Branched, Committed}
 use Rattle.salt_model.specs.declared.events.Event.{Event}
-use Rattle.salt_model.specs.declared.events.Event.TheVariants.{Defined, Down, Ended, Opened, Ready}
+use Rattle.salt_model.specs.declared.events.Event.TheVariants.{Defined, Down, Early, Ended, Opened, Ready}
 use Rattle.law_openings.proofs.Draining.{Goes, cuts-follow, opening-follows}
 use Rattle.law_openings.proofs.Opening.{serves-not}
 use Rattle.law_openings.specs.Draining.{AreEarlier, Stands, is_earlier, is_within}
@@ -138,6 +138,7 @@ next-stands : (trace : Trace) (f : Event) → IsPlayed (trace says f) → WellKe
     Stands (units_of (trace says f)) f → IfComes (StandsOn (units_of (trace says f))) (next (trace says f))
 next-stands trace (Down why) p w h all = cc
 next-stands trace Ready p w h all = cc
+next-stands trace (Early bs) p w h all = cc
 next-stands trace (Opened boot n) p w h all =
     subst (IfComes (StandsOn (units_of (trace says Opened boot n)))) (sym (told-opened trace boot n p w))
     (opened-follows (units_of (trace says Opened boot n)) boot n (flight trace) all (decided (Good trace) (flight trace) (replays trace p.0).flying))
@@ -151,6 +152,7 @@ pub stands-at : (trace : Trace) (e : Event) → IsPlayed (trace says e) → Well
     Stands (units_of (trace says e)) e
 stands-at trace (Down why) p w h = cc
 stands-at trace Ready p w h = cc
+stands-at trace (Early bs) p w h = cc
 stands-at trace (Opened boot n) p w h = opened-earlier trace boot n p w
 stands-at (from k) e p w h = cc
 stands-at (trace asks asked) e p w h = absurd (serves-not (phase trace) p.0.1.0 (inr h))

@@ -8,8 +8,8 @@ use Rattle.salt_model.specs.After.{kept}
 use Rattle.salt_model.specs.Computing.{computing}
 use Rattle.salt_model.specs.Next.{next}
 use Rattle.salt_model.specs.Scripts.{at, begin, call, insert_acct, set_bal}
-use Rattle.salt_model.specs.Trace.{Trace, ◌says◌}
-use Rattle.salt_model.specs.Walk.{completed, printed_of, walk}
+use Rattle.salt_model.specs.Trace.{Trace, Tree, ◌says◌}
+use Rattle.salt_model.specs.Walk.{completed, opened_early, printed_of, walk, walk_on}
 use Rattle.salt_model.specs.declared.events.Event.TheVariants as event
 use Rattle.salt_model.specs.declared.events.Why.TheVariants as why
 use Rattle.law_openings.specs.Draining.{CanDrain, LeadsOn, left_to_open, statements_left}
@@ -72,3 +72,26 @@ reopened_left : map left_after (0 ∷ 1 ∷ 2 ∷ 3 ∷ 4 ∷ 5 ∷ 6 ∷ 7 ∷ 
     ≡ 28 ∷ 25 ∷ 21 ∷ 20 ∷ 17 ∷ 13 ∷ 12 ∷ 9 ∷ 5 ∷ 4 ∷ 2 ∷ 1 ∷ 0 ∷ []
 unfolding computing
 reopened_left = refl
+
+-- THE SAME where openings may be early: the unit is cut, and the program's statements are left to the lines behind
+
+abbrev reopened_early : Trace
+reopened_early = walk_on (map Tree accepted) opened_early says event.Down why.Stopped says event.Opened 2 5
+
+reopened_early_printed : drop 17 (printed_of (completed 20 reopened_early)) ≡ codes "opened 2 5" ∷ codes "u1.4 cut" ∷ codes "early b1.1" ∷ []
+unfolding computing
+reopened_early_printed = refl
+
+abbrev early_statements_left_after : ℕ → ℕ
+early_statements_left_after n = statements_left (units_of (completed n reopened_early))
+
+abbrev early_left_after : ℕ → ℕ
+early_left_after n = let trace = completed n reopened_early in left_to_open (units_of trace) (next trace)
+
+reopened_early_statements : map early_statements_left_after (0 ∷ 1 ∷ 2 ∷ []) ≡ 3 ∷ 3 ∷ 3 ∷ []
+unfolding computing
+reopened_early_statements = refl
+
+reopened_early_left : map early_left_after (0 ∷ 1 ∷ 2 ∷ []) ≡ 28 ∷ 25 ∷ 0 ∷ []
+unfolding computing
+reopened_early_left = refl

@@ -1,6 +1,6 @@
 -- What an opening can carry to its end, and how much is left of it: the units still to cut, and the statements of the programs that go on.
-use Rattle.salt_ast.specs.Paths.{at_number, rest_of}
-use Rattle.salt_ast.specs.ProgramJudgement.{branch_fault, program_named}
+use Rattle.salt_ast.specs.Paths.{at_number}
+use Rattle.salt_ast.specs.ProgramJudgement.{branch_fault}
 use Rattle.salt_ast.specs.declared.programs.PartDef.{PartDef}
 use Rattle.salt_ast.specs.declared.programs.ProgramDef.{ProgramDef}
 use Rattle.salt_ast.specs.declared.trees.Statement.{Statement}
@@ -9,12 +9,13 @@ use Rattle.law_states.specs.Steps.{units_after}
 use Rattle.salt_model.specs.After.{defined_by}
 use Rattle.salt_model.specs.Kept.{Kept, block_of_kind, kept_program, parts_of, program_of_definition, programs_of}
 use Rattle.salt_model.specs.Next.{decision_in}
+use Rattle.salt_model.specs.Rests.{rests_of, statements_in}
 use Rattle.salt_model.specs.Stops.{is_just_opened}
 use Rattle.salt_model.specs.Trace.{Trace}
 use Rattle.salt_model.specs.Words.{Every}
 use Rattle.salt_model.specs.declared.events.End.TheVariants.{Cut}
 use Rattle.salt_model.specs.declared.events.Event.{Event}
-use Rattle.salt_model.specs.declared.events.Event.TheVariants.{Accepted, Began, Defined, Did, Down, Ended, Finished, Opened, Ready}
+use Rattle.salt_model.specs.declared.events.Event.TheVariants.{Accepted, Began, Defined, Did, Down, Early, Ended, Finished, Opened, Ready}
 use Rattle.salt_model.specs.declared.events.UnitKind.TheVariants.{Later}
 use Rattle.salt_values.specs.declared.cont.Cont.{Cont}
 use Rattle.salt_values.specs.declared.id.Id.{Id}
@@ -37,14 +38,6 @@ pub record StandsAtPart (k : Kept) (c : Cont) : Type 0 where
 pub record CanDrain (k : Kept) : Type 0 where
   pub programs : Every LeadsOn (programs_of k)
   pub conts : Every (StandsAtPart k) k.conts
-
--- the statements that a program may still do from the part on at which it stands, at most
-abbrev pub rest_of_cont : List ProgramDef → Cont → ℕ
-rest_of_cont ps c = elim (program_named ps c.program) [ None ↦ 0 | Some p ↦ rest_of (parts_of p) (Some (record { part = c.next; tries = c.tries })) ]
-
-abbrev pub rests_of : List ProgramDef → List Cont → ℕ
-rests_of ps [] = 0
-rests_of ps (c ∷ cs) = rest_of_cont ps c + rests_of ps cs
 
 -- the rests of the programs that go on behind this event
 abbrev pub rests_behind : Event → UnitState → ℕ
@@ -73,6 +66,7 @@ opening_stage (Accepted b) = 3
 opening_stage (Finished b) = 2
 opening_stage (Began u kind) = 1
 opening_stage Ready = 1
+opening_stage (Early bs) = 1
 opening_stage e = 4
 
 -- by the units, and what comes next
@@ -80,23 +74,15 @@ abbrev pub left_to_open : UnitState → Option Event → ℕ
 left_to_open s None = 0
 left_to_open s (Some e) = 8 * (units_to_cut (units_after e s) + statements_left (units_after e s)) + opening_stage e
 
--- whether an event does a statement, and whether it cuts a unit, as a number
-abbrev pub statements_in : Event → ℕ
-statements_in (Did u st answer) = 1
-statements_in e = 0
-
--- the same of the event at hand, if there is one
+-- the statements that the event at hand does, if there is one
 abbrev pub statements_at : Option Event → ℕ
 statements_at None = 0
 statements_at (Some e) = statements_in e
 
+-- whether it cuts a unit, as a number
 abbrev pub cuts_in : Event → ℕ
 cuts_in (Ended u Cut) = 1
 cuts_in e = 0
-
-abbrev pub statements_told : List Event → ℕ
-statements_told [] = 0
-statements_told (e ∷ es) = statements_in e + statements_told es
 
 -- the programs that an event defines
 abbrev pub defined_in : UnitState → Event → List ProgramDef
@@ -109,7 +95,7 @@ IsBehindFlight trace next = (is_just_opened trace ≡ false) ⊎ (decision_in ne
 
 -- THE UNITS between two events of an opening.
 
--- a unit of the drain is open: alone, of this boot, and of the program that was accepted first, at its part
+-- a unit of the drain is open: alone, of this boot, and of the program that was accepted first, at its part; openings are not early
 pub record DrainsAt (s : UnitState) (u : Id) : Type 0 where
   pub unit : OpenUnit
   pub cont : Cont
@@ -118,6 +104,7 @@ pub record DrainsAt (s : UnitState) (u : Id) : Type 0 where
   pub conts : s.kept.conts ≡ cont ∷ others
   pub name : unit.unit ≡ u
   pub boot : unit.unit.boot ≡ s.kept.boot
+  pub late : s.early ≡ false
   pub within : (block : List Statement) → block_of_kind s.kept (Later cont.base cont.next) ≡ Some block → unit.done ≤ length block
 
 -- each open unit is of an earlier boot
@@ -135,4 +122,5 @@ abbrev pub is_within : Event → Bool
 is_within (Down why) = false
 is_within (Opened boot n) = false
 is_within Ready = false
+is_within (Early bs) = false
 is_within e = true

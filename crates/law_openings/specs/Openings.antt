@@ -2,7 +2,7 @@
 use Rattle.law_states.specs.Nexts.{flight_next, said_next}
 use Rattle.law_states.specs.Points.{Point}
 use Rattle.law_states.specs.Readings.{Reading}
-use Rattle.law_states.specs.States.{After, State, named_by}
+use Rattle.law_states.specs.States.{After, State, named_by, net_by}
 use Rattle.law_states.specs.Steps.{units_after}
 use Rattle.law_states.specs.Told.{at_devices_in}
 use Rattle.law_states.specs.Watches.{Watch}
@@ -40,4 +40,11 @@ pub record Opens (boot n : ℕ) (old new : Point) : Type 0 where
 -- an event leaves a state behind it, in which this is watched
 pub record Leaves (e : Event) (old : State) : Type 0 where
   pub watch : Watch
-  pub after : After e old (record { units = units_after e old.units; watch = watch; names = named_by e old.names; can_stop = old.can_stop })
+  pub after : After e old (record {
+    units = units_after e old.units;
+    watch = watch;
+    names = named_by e old.names;
+    can_stop = old.can_stop;
+    over_net = old.over_net;
+    net = net_by e old.units old.net;
+  })

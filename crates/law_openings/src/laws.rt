@@ -9,22 +9,25 @@ ghost use Rattle.law_states.specs.Points.{IsIdle, KeepsPoint, Move, Point, Runs,
 ghost use Rattle.law_states.specs.Readings.{Reading};
 ghost use Rattle.law_states.specs.States.{After, Keeps, State, started};
 ghost use Rattle.law_states.specs.Steps.{units_after};
+ghost use Rattle.salt_model.specs.After.{kept};
+ghost use Rattle.salt_model.specs.Everywhere.{Always};
 ghost use Rattle.salt_model.specs.Kept.{WellKept, programs_of};
 ghost use Rattle.salt_model.specs.Next.{decision_in};
 ghost use Rattle.salt_model.specs.Phases.{Fallen, Opening, Serving, phase};
 ghost use Rattle.salt_model.specs.Stops.{MayOpen};
-ghost use Rattle.salt_model.specs.Trace.{Start, Trace, from, ◌says◌};
+ghost use Rattle.salt_model.specs.Trace.{Start, Trace, from, start_of, ◌says◌};
 ghost use Rattle.salt_model.specs.declared.events.Event.{Event};
-ghost use Rattle.salt_model.specs.declared.events.Event.TheVariants.{Down, Opened, Ready};
+ghost use Rattle.salt_model.specs.declared.events.Event.TheVariants.{Down, Early, Opened, Ready};
 ghost use Rattle.salt_model.specs.declared.events.Why.TheVariants.{Stopped};
 ghost use Rattle.salt_model.specs.declared.events.Why.{Why};
 ghost use Rattle.salt_model.specs.Words.{Every};
-ghost use Rattle.law_openings.specs.Draining.{CanDrain, IsBehindFlight, LeadsOn, Stands, defined_in, left_to_open, rests_behind, rests_of};
-ghost use Rattle.law_openings.specs.Draining.{statements_in, statements_left, statements_told};
+ghost use Rattle.law_openings.specs.Draining.{CanDrain, IsBehindFlight, LeadsOn, Stands, defined_in, left_to_open, rests_behind, statements_left};
+ghost use Rattle.salt_model.specs.Rests.{DoesItsRests, done_since_opened, rests_of, statements_in, statements_told};
 ghost use Rattle.law_openings.specs.Openings.{FallsAgain, FallsInOpening, Leaves, Opens};
-ghost use Rattle.std.specs.Prelude.{IsSome, List, None, Option, Some, [], false, ℕ, ◌+◌, ◌<◌, ◌≡◌, ◌≤◌, ◌⊎◌};
+ghost use Rattle.salt_values.specs.declared.id.Id.{Id};
+ghost use Rattle.std.specs.Prelude.{IsSome, List, None, Option, Some, [], false, true, ℕ, ◌+◌, ◌<◌, ◌≡◌, ◌≤◌, ◌⊎◌};
 
-/// A run begins at its start, falls in an opening and while it is down, is opened, and is idle behind its Ready; until
+/// A run begins at its start, falls in an opening and while it is down, is opened, and is idle behind its Ready, or its Early; until
 /// then `go all` has nothing left to turn to.
 pub fn openings_go_on()
     ensures start { (k : Start) → WellKept k.kept →
@@ -38,6 +41,8 @@ pub fn openings_go_on()
         MayOpen Fallen trace boot n → Opens boot n old new →
         KeepsPoint new (trace says Opened boot n) × IsSound (trace says Opened boot n) }
     ensures ready { (old new : Point) (trace : Trace) → KeepsPoint old trace → IsSound trace → Says Ready old new → IsIdle new }
+    ensures early { (bs : List Id) (old new : Point) (trace : Trace) → KeepsPoint old trace → IsSound trace → Says (Early bs) old new →
+        IsIdle new }
     ensures none_to_go { (s : UnitState) (trace : Trace) → KeepsUnits s trace → IsSound trace →
         (s.phase ≡ Fallen) ⊎ (s.phase ≡ Opening) → s.to_go ≡ [] }
 {}
@@ -63,13 +68,13 @@ pub fn openings_tell_what_follows()
         said_next (Opened boot n) old new x flight ≡ opened_in new.units n flight }
 {}
 
-/// In an opening something comes next, until it is ready.
+/// In an opening something comes next, until it is ready or ends early.
 pub fn drains_never_rest()
     ensures { (p : Point) (trace : Trace) → KeepsPoint p trace → IsSound trace → p.state.units.phase ≡ Opening →
         CanDrain p.state.units.kept → IsSome p.next }
 {}
 
-/// What is left of an opening falls with each event, so it comes to its end.
+/// What is left of an opening falls with each event, so it comes to its end: its Ready, or its Early.
 pub fn openings_end()
     ensures { (e : Event) (old new : State) (x : Reading new.watch) (flight : Option Event) (trace : Trace) →
         is_of_run e ≡ false → old.units.phase ≡ Opening → Keeps old trace → IsSound (trace says e) →
@@ -93,6 +98,8 @@ pub fn drains_go_on()
         left_to_open new.state.units new.next < left_to_open old.state.units old.next }
     ensures ready { (old new : Point) → Says Ready old new →
         left_to_open new.state.units new.next < left_to_open old.state.units old.next }
+    ensures early { (bs : List Id) (old new : Point) → Says (Early bs) old new →
+        left_to_open new.state.units new.next < left_to_open old.state.units old.next }
 {}
 
 /// Behind the decision in flight an opening does no more statements than the rests of its continuations tell; with the one at hand,
@@ -110,6 +117,20 @@ pub fn drains_do_their_rests()
         new.state.units.phase ≡ Opening → new.next ≡ Some e →
         statements_told (told_by ms) + statements_in e ≤ rests_behind first old.state.units + statements_in first }
     ensures most { (s : UnitState) → statements_left s ≤ rests_of (programs_of s.kept) s.kept.conts }
+{}
+
+/// In each opening of a played trace no more statements are told than the programs that it found had left, where what is kept can be
+/// drained everywhere.
+pub fn openings_do_their_rests()
+    ensures { (trace : Trace) → IsSound trace → Always (λ t. CanDrain (kept t)) trace → Always DoesItsRests trace }
+{}
+
+/// Where openings may be early, they do no statement: what goes on is left to the lines behind them.
+pub fn early_openings_do_no_statement()
+    ensures one { (e : Event) (s : UnitState) (trace : Trace) → KeepsUnits s (trace says e) → IsSound (trace says e) →
+        s.phase ≡ Opening → s.early ≡ true → statements_in e ≡ 0 }
+    ensures all { (trace : Trace) → IsSound trace → (start_of trace).early ≡ true →
+        Always (λ t. phase t ≡ Opening → done_since_opened t ≡ 0) trace }
 {}
 
 /// What can be drained stays so with each event of a run, where the programs that it defines lead on.

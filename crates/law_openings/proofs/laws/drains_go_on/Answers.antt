@@ -1,4 +1,4 @@
-use Rattle.law_openings.proofs.Moving.{opens-stand, ready-falls, says-comes, says-falls, says-stand, units-stand}
+use Rattle.law_openings.proofs.Moving.{early-falls, opens-stand, ready-falls, says-comes, says-falls, says-stand, units-stand}
 use Rattle.law_openings.proofs.laws.drains_go_on.Goals as goal
 
 pub returns : goal.returns
@@ -9,4 +9,5 @@ returns c = record {
   comes = says-comes;
   falls = says-falls;
   ready = ready-falls;
+  early = early-falls;
 }
