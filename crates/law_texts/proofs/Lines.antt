@@ -286,6 +286,11 @@ module _ (laws : LawsBelow) (schema : List TableDef) (naming : IsNaming schema) 
     tt,
   )
   event_inline event.Ready g h = (known (codes "ready") refl, tt)
+  event_inline (event.Early bs) g h = (
+    lead (codes "early") (preceded (codes " ") base_text bs) refl
+        (preceded_inline (λ o. Unit {0}) base_text (λ o t. base_inline o) (codes " ") bs refl (always bs)),
+    tt,
+  )
   event_inline (event.Defined n text) g h = (
     lead (codes "defined ") (decimal n ++ (codes " " ++ text)) refl
         (run_append is_inline (decimal n) (codes " " ++ text) (decimal_inline n) (refl, definition_inline laws text g)),

@@ -3,7 +3,7 @@ use Rattle.salt_ast.specs.ProgramTexts.{base_text, id_text, stop_text}
 use Rattle.salt_model.specs.EventTexts.{owner_text, unit_text}
 use Rattle.salt_model.specs.declared.events.Owner.TheVariants as owner
 use Rattle.law_texts.proofs.Clear.{Clear, Stops, Tells, differ, first, run_one}
-use Rattle.salt_model.specs.Sized.{IsSized, IsSizedId, IsSizedOwner, IsSizedPair}
+use Rattle.salt_model.specs.Sized.{IsSized, IsSizedId, IsSizedOwner, IsSizedPair, IsSizedPart, IsSizedSession}
 use Rattle.salt_tokens.specs.Bytes.{is_digit, is_letter}
 use Rattle.salt_tokens.specs.Pieces.{NotNext, Run}
 use Rattle.std.proofs.Common.{Bool, List, [], ap, arith, cond, eqb, false, length, refl, suc, true, zero, ℕ, ◌%◌, ◌++◌, ◌/◌, ◌<◌, ◌==◌, ◌||◌, ◌∷◌}
@@ -54,6 +54,13 @@ decimal_clear = record {
       (not_digit y t) e in (decimal_injective a b g h r.0, r.1);
 }
 
+-- of 8 bits, and of 32
+pub byte_clear : Clear IsSizedSession decimal
+byte_clear = record { one = λ a b x y g h s t e. decimal_clear.one a b x y (omega (arith, g)) (omega (arith, h)) s t e }
+
+pub part_clear : Clear IsSizedPart decimal
+part_clear = record { one = λ a b x y g h s t e. decimal_clear.one a b x y (omega (arith, g)) (omega (arith, h)) s t e }
+
 -- a number begins with a digit
 pub decimal_begins : (n : ℕ) → IsSized n → (d : ℕ) × (ds : List ℕ) × (decimal n ≡ d ∷ ds) × (is_digit d ≡ true)
 decimal_begins n h = go (decimal n) refl (decimal_digits n) (decimal_nonempty n h)
@@ -101,7 +108,7 @@ stop_clear = record { one = one }
         let call = first decimal_clear a.0 b.0 (32 ∷ decimal a.1) (32 ∷ decimal b.1) x y g.0 h.0 refl refl e in
         let rest = call.1 in
         let bare : decimal a.1 ++ x ≡ decimal b.1 ++ y = cc in
-        let pick = decimal_clear.one a.1 b.1 x y g.1 h.1 s t bare in
+        let pick = byte_clear.one a.1 b.1 x y g.1 h.1 s t bare in
         let p = call.0 in
         let q = pick.0 in
         let same : a ≡ b = (λ i. (p i, q i)) in

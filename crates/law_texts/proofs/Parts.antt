@@ -14,10 +14,10 @@ use Rattle.law_texts.proofs.Clear.{Stops, TellsLine, differ, each_one, first}
 use Rattle.law_texts.specs.EventLines.{Inline}
 use Rattle.law_texts.proofs.Inline.{base_inline, line_one, name_inline}
 use Rattle.law_texts.proofs.Names.{name_clear}
-use Rattle.law_texts.proofs.Numbers.{base_clear, decimal_clear}
+use Rattle.law_texts.proofs.Numbers.{base_clear, decimal_clear, part_clear, byte_clear}
 use Rattle.law_texts.proofs.Values.{number_begins, pos_sized, row_clear, value_begins, value_clear, values_one}
 use Rattle.law_texts.proofs.Words.{cause_one, limit_one}
-use Rattle.salt_model.specs.Sized.{IsSized, IsSizedAnswer, IsSizedEnd, IsSizedKind, IsSizedPlace, IsSizedRow, IsValueIn}
+use Rattle.salt_model.specs.Sized.{IsSized, IsSizedAnswer, IsSizedEnd, IsSizedId, IsSizedKind, IsSizedPart, IsSizedPlace, IsSizedRow, IsSizedSession, IsValueIn}
 use Rattle.salt_values.specs.declared.id.Id.{Id}
 use Rattle.salt_values.specs.Value.{IsValue}
 use Rattle.salt_values.specs.declared.limits.TheConstants.{PARTS_MOST}
@@ -29,6 +29,12 @@ use Rattle.std.proofs.Common.{true≢false, ℕ, ◌++◌, ◌∙◌, ◌∷◌,
 -- a number at the end of a line
 pub number_one : TellsLine IsSized decimal
 number_one m n x y g h e = let r = decimal_clear.one m n (10 ∷ x) (10 ∷ y) g h refl refl e in (r.0, ap (drop 1) r.1)
+
+session_one : TellsLine IsSizedSession decimal
+session_one m n x y g h e = let r = byte_clear.one m n (10 ∷ x) (10 ∷ y) g h refl refl e in (r.0, ap (drop 1) r.1)
+
+part_one : TellsLine IsSizedPart decimal
+part_one m n x y g h e = let r = part_clear.one m n (10 ∷ x) (10 ∷ y) g h refl refl e in (r.0, ap (drop 1) r.1)
 
 -- ---- kinds of units
 
@@ -42,9 +48,9 @@ call_one n m xs ys x y g h s t e =
     (sym (append_assoc (between_commas value_text xs) (41 ∷ []) x) ∙ bare ∙ append_assoc (between_commas value_text ys) (41 ∷ []) y) in
     (name.0, args.0, args.1)
 
--- two numbers in front of what differs
-number_differs : (m n : ℕ) (x y : List ℕ) → IsSized m → IsSized n → Stops x → Stops y → decimal m ++ x ≡ decimal n ++ y → x ≡ y
-number_differs m n x y g h s t e = (decimal_clear.one m n x y g h s t e).1
+-- two sessions in front of what differs
+session_differs : (m n : ℕ) (x y : List ℕ) → IsSizedSession m → IsSizedSession n → Stops x → Stops y → decimal m ++ x ≡ decimal n ++ y → x ≡ y
+session_differs m n x y g h s t e = (byte_clear.one m n x y g h s t e).1
 
 call_part : List ℕ → List Value → List ℕ
 call_part n args = codes " call " ++ call_text n args
@@ -55,31 +61,31 @@ first_part b n args = codes " " ++ (base_text b ++ (codes " part 1 of " ++ call_
 pub kind_one : (a b : UnitKind) (x y : List ℕ) → IsPrintableKind a → IsPrintableKind b → IsSizedKind a → IsSizedKind b →
     kind_text a ++ (10 ∷ x) ≡ kind_text b ++ (10 ∷ y) → (a ≡ b) × (x ≡ y)
 unfolding call_part first_part
-kind_one (kind.Acid s) (kind.Acid t) x y g h p q e = let r = number_one s t x y p q (ap (drop 8) e) in (ap kind.Acid r.0, r.1)
+kind_one (kind.Acid s) (kind.Acid t) x y g h p q e = let r = session_one s t x y p q (ap (drop 8) e) in (ap kind.Acid r.0, r.1)
 kind_one (kind.Acid s) (kind.Call t m bs) x y g h p q e =
     let bare = ap (drop 8) e ∙ append_assoc (decimal t) (call_part m bs) (10 ∷ y) in
-    absurd (differ _ _ (number_differs s t (10 ∷ x) (call_part m bs ++ (10 ∷ y)) p q.0 refl refl bare) refl)
+    absurd (differ _ _ (session_differs s t (10 ∷ x) (call_part m bs ++ (10 ∷ y)) p q.0 refl refl bare) refl)
 kind_one (kind.Acid s) (kind.First t b m bs) x y g h p q e =
     let bare = ap (drop 8) e ∙ append_assoc (decimal t) (first_part b m bs) (10 ∷ y) in
-    absurd (differ _ _ (number_differs s t (10 ∷ x) (first_part b m bs ++ (10 ∷ y)) p q.0 refl refl bare) refl)
+    absurd (differ _ _ (session_differs s t (10 ∷ x) (first_part b m bs ++ (10 ∷ y)) p q.0 refl refl bare) refl)
 kind_one (kind.Call s n as_) (kind.Acid t) x y g h p q e =
     let bare = sym (append_assoc (decimal s) (call_part n as_) (10 ∷ x)) ∙ ap (drop 8) e in
-    absurd (differ _ _ (number_differs s t (call_part n as_ ++ (10 ∷ x)) (10 ∷ y) p.0 q refl refl bare) refl)
+    absurd (differ _ _ (session_differs s t (call_part n as_ ++ (10 ∷ x)) (10 ∷ y) p.0 q refl refl bare) refl)
 kind_one (kind.Call s n as_) (kind.Call t m bs) x y g h p q e =
-    let r = first decimal_clear s t (call_part n as_) (call_part m bs) (10 ∷ x) (10 ∷ y) p.0 q.0 refl refl (ap (drop 8) e) in
+    let r = first byte_clear s t (call_part n as_) (call_part m bs) (10 ∷ x) (10 ∷ y) p.0 q.0 refl refl (ap (drop 8) e) in
     let c = call_one n m as_ bs (10 ∷ x) (10 ∷ y) g h p.1 q.1 (ap (drop 6) r.1) in
     ((λ i. kind.Call (r.0 i) (c.0 i) (c.1 i)), ap (drop 1) c.2)
 kind_one (kind.Call s n as_) (kind.First t b m bs) x y g h p q e =
-    let r = first decimal_clear s t (call_part n as_) (first_part b m bs) (10 ∷ x) (10 ∷ y) p.0 q.0 refl refl (ap (drop 8) e) in
+    let r = first byte_clear s t (call_part n as_) (first_part b m bs) (10 ∷ x) (10 ∷ y) p.0 q.0 refl refl (ap (drop 8) e) in
     absurd (differ _ _ r.1 refl)
 kind_one (kind.First s c n as_) (kind.Acid t) x y g h p q e =
     let bare = sym (append_assoc (decimal s) (first_part c n as_) (10 ∷ x)) ∙ ap (drop 8) e in
-    absurd (differ _ _ (number_differs s t (first_part c n as_ ++ (10 ∷ x)) (10 ∷ y) p.0 q refl refl bare) refl)
+    absurd (differ _ _ (session_differs s t (first_part c n as_ ++ (10 ∷ x)) (10 ∷ y) p.0 q refl refl bare) refl)
 kind_one (kind.First s c n as_) (kind.Call t m bs) x y g h p q e =
-    let r = first decimal_clear s t (first_part c n as_) (call_part m bs) (10 ∷ x) (10 ∷ y) p.0 q.0 refl refl (ap (drop 8) e) in
+    let r = first byte_clear s t (first_part c n as_) (call_part m bs) (10 ∷ x) (10 ∷ y) p.0 q.0 refl refl (ap (drop 8) e) in
     absurd (differ _ _ r.1 refl)
 kind_one (kind.First s c n as_) (kind.First t b m bs) x y g h p q e =
-    let r = first decimal_clear s t (first_part c n as_) (first_part b m bs) (10 ∷ x) (10 ∷ y) p.0 q.0 refl refl (ap (drop 8) e) in
+    let r = first byte_clear s t (first_part c n as_) (first_part b m bs) (10 ∷ x) (10 ∷ y) p.0 q.0 refl refl (ap (drop 8) e) in
     let base = first base_clear c b (codes " part 1 of " ++ call_text n as_) (codes " part 1 of " ++ call_text m bs) (10 ∷ x)
     (10 ∷ y) p.1 q.1 refl refl (ap (drop 1) r.1) in
     let c = call_one n m as_ bs (10 ∷ x) (10 ∷ y) g h p.2 q.2 (ap (drop 11) base.1) in
@@ -87,7 +93,7 @@ kind_one (kind.First s c n as_) (kind.First t b m bs) x y g h p q e =
 kind_one (kind.Later c part) (kind.Later b number) x y g h p q e =
     let base = first base_clear c b (codes " part " ++ decimal part) (codes " part " ++ decimal number) (10 ∷ x) (10 ∷ y) p.0 q.0 refl refl
     (ap (drop 7) e) in
-    let r = number_one part number x y p.1 q.1 (ap (drop 6) base.1) in
+    let r = part_one part number x y p.1 q.1 (ap (drop 6) base.1) in
     ((λ i. kind.Later (base.0 i) (r.0 i)), r.1)
 kind_one a b x y g h p q e = absurd (differ _ _ e refl)
 
@@ -134,9 +140,9 @@ end_one a b x y g h e = absurd (differ _ _ e refl)
 
 -- ---- refusals
 
-pub unknown_inline : (n : List ℕ) → IsName n ⊎ ((b : Id) × (n ≡ base_text b)) → Inline n
+pub unknown_inline : (n : List ℕ) → IsName n ⊎ ((b : Id) × IsSizedId b × (n ≡ base_text b)) → Inline n
 unknown_inline n (inl h) = name_inline n h
-unknown_inline n (inr h) = subst Inline (sym h.1) (base_inline h.0)
+unknown_inline n (inr h) = subst Inline (sym h.2) (base_inline h.0)
 
 part_sized : (n : ℕ) → (1 ≤ n) × (n ≤ PARTS_MOST) → IsSized n
 part_sized n h = omega (arith, h)
@@ -162,7 +168,7 @@ refusal_one a b x y g h e = absurd (differ _ _ e refl)
 
 pub place_one : TellsLine IsSizedPlace place_text
 place_one place.First place.First x y g h e = (refl, ap (drop 6) e)
-place_one (place.Next m) (place.Next n) x y g h e = let r = number_one m n x y g h (ap (drop 5) e) in (ap place.Next r.0, r.1)
+place_one (place.Next m) (place.Next n) x y g h e = let r = part_one m n x y g h (ap (drop 5) e) in (ap place.Next r.0, r.1)
 place_one place.Finished place.Finished x y g h e = (refl, ap (drop 9) e)
 place_one a b x y g h e = absurd (differ _ _ e refl)
 

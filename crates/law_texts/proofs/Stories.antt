@@ -124,6 +124,9 @@ module _ (laws : LawsBelow) (schema : List TableDef) (naming : IsNaming schema) 
       ((λ i. event.Opened (boot.0 i) (number.0 i)), number.1)
   event_one event.Ready event.Ready x y g h p q e =
       (refl, ap (drop 6) e)
+  event_one (event.Early k) (event.Early l) x y g h p q e =
+      let bases = each_one base_clear 32 [] refl 10 (λ z. omega arith) refl k l x y p q (ap (drop 5) e) in
+      (ap event.Early bases.0, bases.1)
   event_one (event.Defined k m) (event.Defined l n) x y g h p q e =
       let number = first decimal_clear k l (32 ∷ m) (32 ∷ n) (10 ∷ x) (10 ∷ y) p q refl refl (ap (drop 8) e) in
       let text = line_one m n x y (definition_inline laws m g) (definition_inline laws n h) (ap (drop 1) number.1) in

@@ -11,7 +11,7 @@ use Rattle.law_story.proofs.Fresh.{IfComes}
 use Rattle.law_story.proofs.Ids.{is_same_id-refl, is_same_id-true}
 use Rattle.law_story.proofs.Lists.{In, either, into-filter}
 use Rattle.law_story.proofs.NextFits.{Drains, Fits, Flies}
-use Rattle.law_story.proofs.Salted.{Upheld, holds, may-fit}
+use Rattle.law_story.proofs.Upheld.{Upheld, holds, may-fit}
 use Rattle.law_story.proofs.Sound.{Sound, cont-stays, kind-in, of-program, open-back}
 use Rattle.law_story.proofs.WellKept.{of-start}
 use Rattle.salt_model.specs.After.{branched, committed, defined_by, keep, kept, run_of, stage, vars_of}

@@ -16,11 +16,11 @@ use Rattle.salt_model.specs.After.{kept}
 use Rattle.salt_model.specs.Kept.{block_of_kind, cont_of, kept_program, programs_of, schema_of}
 use Rattle.salt_model.specs.Locks.{clashing}
 use Rattle.salt_model.specs.Next.{decision_in, is_decision, next, said_event, serving_event}
-use Rattle.salt_model.specs.Openings.{after_opened, cuts_or_drains, drains, follow_opening, stands_now, to_cut}
+use Rattle.salt_model.specs.Openings.{after_opened, cuts_or_drains, drains, follow_opening, stands_now, to_cut, unfinished}
 use Rattle.salt_model.specs.Phases.{Fallen, Opening, Phase, Serving, phase}
 use Rattle.salt_model.specs.Reads.{to_release}
 use Rattle.salt_model.specs.Refusals.{defines, is_busy, is_state_wrong, judged, known_at, refusal, refusal_by, refused_line}
-use Rattle.salt_model.specs.Trace.{Asked, Rejected, Trace, Tree, line_asked, line_of, ◌asks◌, ◌says◌}
+use Rattle.salt_model.specs.Trace.{Asked, Rejected, Trace, Tree, line_asked, line_of, start_of, ◌asks◌, ◌says◌}
 use Rattle.salt_model.specs.Turns.{act_event, after_began, after_did, after_end, asks_for, commits, does_next, fails, finishes, follow, fresh_unit, go, goes_on, is_at_end, kind_called, line_event, next_number, releases, settle, settle_by, turn}
 use Rattle.salt_model.specs.Units.{Standing, Waiting, is_of_program, is_waiting, is_waiting_standing, kind_of, line_waited, open_units, program_of_kind, program_unit, session_unit, standing, wait_list}
 use Rattle.salt_model.specs.Waiting.{asked_by, asking_line, block_of, clashing_now, is_acid, next_unblocked, statement_in, statement_of_line, victim}
@@ -29,7 +29,7 @@ use Rattle.salt_model.specs.declared.events.Answer.TheVariants.{Failed}
 use Rattle.salt_model.specs.declared.events.Answer.{Answer}
 use Rattle.salt_model.specs.declared.events.End.TheVariants.{Branched, Committed}
 use Rattle.salt_model.specs.declared.events.End.{End}
-use Rattle.salt_model.specs.declared.events.Event.TheVariants.{Accepted, Began, Defined, Did, Down, Ended, Finished, Opened, Ready, Refused, Waits}
+use Rattle.salt_model.specs.declared.events.Event.TheVariants.{Accepted, Began, Defined, Did, Down, Early, Ended, Finished, Opened, Ready, Refused, Waits}
 use Rattle.salt_model.specs.declared.events.Event.{Event}
 use Rattle.salt_model.specs.declared.events.Owner.{Owner}
 use Rattle.salt_model.specs.declared.events.Refusal.TheVariants as refused
@@ -209,9 +209,9 @@ ready-first trace u x g s k =
     let acid : x ≡ kind.Acid s = cc in
     subst (λ y. IsReady trace (Began u y)) acid g
 
-ready-began : (trace : Trace) (u : Id) (x : UnitKind) (line : Line) → IsReady trace (Began u x) → WaitJudged (trace says Began u x) → IfComes (IsReady (trace says Began u x)) (after_began (trace says Began u x) u line)
-ready-began trace u x (Session t Begin) g w = tt
-ready-began trace u x line g w = ready-turn (trace says Began u x) u w (ready-first trace u x g)
+ready-began : (trace : Trace) (u : Id) (line : Line) (x : UnitKind) → IsReady trace (Began u x) → WaitJudged (trace says Began u x) → IfComes (IsReady (trace says Began u x)) (after_began (trace says Began u x) u line x)
+ready-began trace u (Session t Begin) (kind.Acid s) g w = tt
+ready-began trace u line x g w = ready-turn (trace says Began u x) u w (ready-first trace u x g)
 
 ready-did : (trace : Trace) (u : Id) (a : Answer) → IfComes (IsReady trace) (after_did trace u a)
 ready-did trace u (Failed c) = by (kind_of u trace)
@@ -235,7 +235,7 @@ ready-release trace [] = tt
 ready-release trace (b ∷ bs) = tt
 
 ready-follow : (trace : Trace) (e : Event) → IsReady trace e → WaitJudged (trace says e) → IfComes (IsReady (trace says e)) (follow (trace says e) e)
-ready-follow trace (Began u x) g w = ready-began trace u x (line_of trace) g w
+ready-follow trace (Began u x) g w = ready-began trace u (line_of trace) x g w
 ready-follow trace (Did u st a) g w = ready-did (trace says Did u st a) u a
 ready-follow trace (Ended u end) g w = ready-end (trace says Ended u end) end (kind_of u trace)
 ready-follow trace (Accepted b) g w = ready-finish (trace says Accepted b) b
@@ -244,6 +244,7 @@ ready-follow trace e g w = tt
 
 ready-serving : (trace : Trace) (e : Event) → IsReady trace e → WaitJudged (trace says e) → AllWait (trace says e) → IfComes (IsReady (trace says e)) (serving_event (trace says e) e)
 ready-serving trace Ready g w all = tt
+ready-serving trace (Early bs) g w all = tt
 ready-serving trace e g w all = comes-option_or (IsReady (trace says e)) (follow (trace says e) e) (settle (trace says e)) (ready-follow trace e g w) (ready-settle (trace says e) w all)
 
 -- OPENINGS
@@ -255,9 +256,13 @@ ready-cuts : (trace : Trace) (us : List Id) → IfComes (IsReady trace) (cuts_or
 ready-cuts trace (u ∷ us) = tt
 ready-cuts trace [] = comes-then_some (IsReady trace) (is_empty (open_units trace)) (drains trace (kept trace).conts) (by (kept trace).conts)
   where
+    by-each : (early : Bool) (c : Cont) (cs : List Cont) → IsReady trace (unfinished early trace c cs)
+    by-each true c cs = tt
+    by-each false c cs = tt
+
     by : (cs : List Cont) → IsReady trace (drains trace cs)
     by [] = tt
-    by (c ∷ cs) = tt
+    by (c ∷ cs) = by-each (start_of trace).early c cs
 
 ready-opens : (trace : Trace) (e : Event) → Drains (trace says e) → phase (trace says e) ≡ Opening → IfComes (IsReady (trace says e)) (follow_opening (trace says e) e)
 ready-opens trace (Began u x) d p = ready-drain (trace says Began u x) u (d p u refl)

@@ -1,7 +1,7 @@
 -- What is shown are the held locks, or the programs under way.
 use Rattle.salt_ast.specs.declared.lines.Act.TheVariants.{Begin, Call, Commit, Do, Rollback, Step}
 use Rattle.salt_ast.specs.declared.lines.Act.{Act}
-use Rattle.salt_ast.specs.declared.lines.Line.TheVariants.{Session, ShowBases, ShowLocks, Table, Program, Go, GoAll, Nothing, Crash}
+use Rattle.salt_ast.specs.declared.lines.Line.TheVariants.{Session, ShowBases, ShowLocks, Table, Program, Go, GoAll, Nothing, Crash, Net}
 use Rattle.salt_ast.specs.declared.lines.Line.{Line}
 use Rattle.salt_ast.specs.declared.trees.Statement.{Statement}
 use Rattle.law_story.proofs.Fresh.{IfComes, comes-map, comes-option_or, comes-then_some}
@@ -9,12 +9,12 @@ use Rattle.salt_model.specs.Kept.{cont_of, kept_program}
 use Rattle.salt_model.specs.After.{kept}
 use Rattle.salt_model.specs.Locks.{clashing}
 use Rattle.salt_model.specs.Next.{decision_in, flight, is_decision, next, said_event, serving_event}
-use Rattle.salt_model.specs.Openings.{after_opened, cuts_or_drains, drains, follow_opening, opening_event, stands_now, to_cut}
+use Rattle.salt_model.specs.Openings.{after_opened, cuts_or_drains, drains, follow_opening, opening_event, stands_now, to_cut, unfinished}
 use Rattle.salt_model.specs.Phases.{Fallen, Opening, Phase, Serving, phase}
 use Rattle.salt_model.specs.Reads.{to_release}
 use Rattle.salt_model.specs.Refusals.{refusal}
 use Rattle.salt_model.specs.Shown.{base_items, lock_items}
-use Rattle.salt_model.specs.Trace.{Trace, from, line_asked, line_of, ◌asks◌, ◌says◌, ◌turns◌}
+use Rattle.salt_model.specs.Trace.{Trace, from, line_asked, line_of, start_of, ◌asks◌, ◌says◌, ◌turns◌}
 use Rattle.salt_model.specs.Turns.{act_event, after_began, after_did, after_end, asks_for, commits, does_next, fails, finishes, follow, go, goes_on, is_at_end, line_event, next_number, releases, settle, settle_by, turn, turn_of}
 use Rattle.salt_model.specs.Units.{kind_of, open_units, program_unit, session_unit}
 use Rattle.salt_model.specs.Waiting.{asked_by, block_of, next_unblocked, victim}
@@ -24,10 +24,10 @@ use Rattle.salt_model.specs.declared.events.Answer.{Answer}
 use Rattle.salt_model.specs.declared.events.Cause.{Cause}
 use Rattle.salt_model.specs.declared.events.End.TheVariants.{Branched, Committed}
 use Rattle.salt_model.specs.declared.events.End.{End}
-use Rattle.salt_model.specs.declared.events.Event.TheVariants.{Accepted, Began, Did, Down, Ended, Finished, Opened, Ready, Refused, Shown}
+use Rattle.salt_model.specs.declared.events.Event.TheVariants.{Accepted, Began, Did, Down, Early, Ended, Finished, Opened, Ready, Refused, Shown}
 use Rattle.salt_model.specs.declared.events.Event.{Event}
 use Rattle.salt_model.specs.declared.events.Owner.{Owner}
-use Rattle.salt_model.specs.declared.events.UnitKind.TheVariants.{First, Later}
+use Rattle.salt_model.specs.declared.events.UnitKind.TheVariants.{Acid, First, Later}
 use Rattle.salt_model.specs.declared.events.UnitKind.{UnitKind}
 use Rattle.salt_values.specs.declared.cont.Cont.{Cont}
 use Rattle.salt_values.specs.declared.id.Id.{Id}
@@ -86,15 +86,16 @@ module _ (trace : Trace) where
   by-line Nothing = tt
   by-line GoAll = tt
   by-line (Crash pairs) = tt
+  by-line (Net pairs) = tt
 
   by-settle : (v s : Option Id) → IfComes P (settle_by trace v s)
   by-settle (Some u) s = tt
   by-settle None (Some u) = by-does_next u
   by-settle None None = tt
 
-  by-began : (u : Id) (line : Line) → IfComes P (after_began trace u line)
-  by-began u (Session s Begin) = tt
-  by-began u line = by-turn u
+  by-began : (u : Id) (line : Line) (kind : UnitKind) → IfComes P (after_began trace u line kind)
+  by-began u (Session s Begin) (Acid t) = tt
+  by-began u line kind = by-turn u
 
   by-fails : (u : Id) (c : Cause) (o : Option UnitKind) → P (fails trace u c o)
   by-fails u c (Some (Later b part)) = tt
@@ -118,7 +119,7 @@ module _ (trace : Trace) where
   by-releases (b ∷ bs) = tt
 
   by-follow : (e : Event) → IfComes P (follow trace e)
-  by-follow (Began u kind) = by-began u (line_of trace)
+  by-follow (Began u kind) = by-began u (line_of trace) kind
   by-follow (Did u st a) = by-did u a
   by-follow (Ended u end) = by-end end (kind_of u trace)
   by-follow (Accepted b) = by-finishes b
@@ -127,11 +128,16 @@ module _ (trace : Trace) where
 
   by-serving : (e : Event) → IfComes P (serving_event trace e)
   by-serving Ready = tt
+  by-serving (Early bs) = tt
   by-serving e = comes-option_or P (follow trace e) (settle trace) (by-follow e) (by-settle (victim trace) (next_unblocked trace))
+
+  by-unfinished : (early : Bool) (c : Cont) (cs : List Cont) → P (unfinished early trace c cs)
+  by-unfinished true c cs = tt
+  by-unfinished false c cs = tt
 
   by-drains : (cs : List Cont) → P (drains trace cs)
   by-drains [] = tt
-  by-drains (c ∷ cs) = tt
+  by-drains (c ∷ cs) = by-unfinished (start_of trace).early c cs
 
   by-cuts : (us : List Id) → IfComes P (cuts_or_drains trace us)
   by-cuts [] = comes-then_some P (is_empty (open_units trace)) (drains trace (kept trace).conts) (by-drains (kept trace).conts)

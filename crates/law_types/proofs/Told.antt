@@ -1,6 +1,6 @@
 -- What the laws tell of expressions, of variables as they are held, and of texts.
 use Rattle.salt_ast.specs.Judgement.{Kind, expr_kind, may_be_null, takes}
-use Rattle.salt_ast.specs.Lines.{IsLine, of_crash, of_go, of_go_all, of_program, of_session, of_show_bases, of_show_locks, of_table}
+use Rattle.salt_ast.specs.Lines.{IsLine, of_crash, of_go, of_go_all, of_net, of_program, of_session, of_show_bases, of_show_locks, of_table}
 use Rattle.salt_ast.specs.Tables.{IsField, IsTable, int_field, is_table, text_field}
 use Rattle.salt_ast.specs.Grammar.{Spells}
 use Rattle.salt_ast.specs.declared.lines.Line.{Line}
@@ -60,6 +60,7 @@ line-key Inner Deeper _ _ of_go_all = tt
 line-key Inner Deeper _ _ of_show_locks = tt
 line-key Inner Deeper _ _ of_show_bases = tt
 line-key Inner Deeper _ _ (of_crash s) = tt
+line-key Inner Deeper _ _ (of_net s) = tt
 
 asked-key : (text : List ℕ) (asked : Asked) → Asks text asked → HasKey asked
 asked-key text _ (is_long h) = tt

@@ -12,14 +12,15 @@ use Rattle.salt_model.specs.After.{branched, committed, defined_by, kept, reach_
 use Rattle.salt_model.specs.Eval.{value_of}
 use Rattle.salt_model.specs.Statements.{Run}
 use Rattle.salt_model.specs.Kept.{Kept, WellKept, schema_of, table_of_definition}
-use Rattle.salt_model.specs.Locks.{held}
+use Rattle.salt_model.specs.Locks.{base_tables, cover_lock, cover_of, held, is_base_table, numbers_from}
 use Rattle.salt_model.specs.Played.{IsPlayed}
 use Rattle.salt_model.specs.Reaches.{first_value, key_reached, no_row, range_of, reach, reach_at, reach_in, reached, table_for, table_from, table_in, table_named}
 use Rattle.salt_model.specs.Trace.{Trace, from, line_of, start_of, ◌asks◌, ◌says◌, ◌turns◌}
 use Rattle.salt_model.specs.Units.{kind_of}
+use Rattle.salt_model.specs.Words.{first_of_list}
 use Rattle.salt_model.specs.declared.events.Cause.{Cause}
 use Rattle.salt_model.specs.declared.events.End.TheVariants.{Branched, Committed}
-use Rattle.salt_model.specs.declared.events.Event.TheVariants.{Defined, Did, Ended, Ready, Released}
+use Rattle.salt_model.specs.declared.events.Event.TheVariants.{Defined, Did, Early, Ended, Ready, Released}
 use Rattle.salt_model.specs.declared.events.Event.{Event}
 use Rattle.salt_model.specs.declared.events.UnitKind.{UnitKind}
 use Rattle.salt_model.specs.declared.locks.Mode.{Mode}
@@ -37,7 +38,7 @@ use Rattle.salt_values.specs.declared.id.Id.{Id}
 use Rattle.std.proofs.Common.{ap, append-nil, arith, inl, inr, length-append, subst, sym, ◌∙◌}
 use Rattle.std.specs.Bool.{then_some}
 use Rattle.std.specs.List.{filter_map}
-use Rattle.std.specs.Prelude.{Bool, Err, List, None, Ok, Option, Result, Some, [], cond, false, length, not, option_and_then, option_map, refl, true, ℕ, ◌+◌, ◌<◌, ◌∷◌, ◌≡◌, ◌⊎◌}
+use Rattle.std.specs.Prelude.{Bool, Err, List, None, Ok, Option, Result, Some, [], cond, false, length, map, not, option_and_then, option_map, refl, true, ℕ, ◌+◌, ◌<◌, ◌∷◌, ◌≡◌, ◌⊎◌}
 
 from-within : (n : ℕ) (name : List ℕ) (schema : List TableDef) (x : ℕ × TableDef) → table_from n name schema ≡ Some x → x.0 < n + length schema
 from-within n name [] x h = cc
@@ -131,6 +132,25 @@ fate-table facts (Released bs) x l h = kept-table (not (is_base_among bs x.owner
 fate-table facts Ready x l h = cc
 fate-table facts e x l h = ap (λ (y : Option Lock). elim y [ None ↦ x.table | Some z ↦ z.table ]) h
 
+numbers-within : (n : ℕ) (test : TableDef → Bool) (ds : List TableDef) (m : ℕ) → In m (numbers_from n test ds) → m < n + length ds
+numbers-within n test [] m i = absurd i
+numbers-within n test (d ∷ ds) m i = by (test d) i (numbers-within (n + 1) test ds m)
+  where
+    by : (t : Bool) → In m (cond t (n ∷ numbers_from (n + 1) test ds) (numbers_from (n + 1) test ds)) → (In m (numbers_from (n + 1) test ds) → m < (n + 1) + length ds) →
+        m < n + length (d ∷ ds)
+    by true (inl q) more = subst (λ (k : ℕ). k < n + length (d ∷ ds)) q (omega arith)
+    by true (inr j) more = let k = more j in omega arith
+    by false j more = let k = more j in omega arith
+
+of-cover : (b : Id) (ns : List ℕ) (l : Lock) → In l (map (cover_lock b) ns) → In l.table ns
+of-cover b [] l i = absurd i
+of-cover b (n ∷ ns) l (inl q) = inl (ap (λ (x : Lock). x.table) q)
+of-cover b (n ∷ ns) l (inr i) = inr (of-cover b ns l i)
+
+cover-within : (k : Kept) (o : Option Id) (l : Lock) → In l (cover_of [] (base_tables k) o) → l.table < length (schema_of k)
+cover-within k None l i = absurd i
+cover-within k (Some b) l i = let m = numbers-within 0 (is_base_table k) (schema_of k) l.table (of-cover b (base_tables k) l i) in omega arith
+
 won-within : (trace : Trace) (e : Event) (l : Lock) → In l (lock_won trace e) → l.table < length (schema_of (kept trace))
 won-within trace (Did u st a) l i = by (reach_now u trace st) refl i
   where
@@ -138,6 +158,7 @@ won-within trace (Did u st a) l i = by (reach_now u trace st) refl i
     by None e i = absurd i
     by (Some r) e (inl q) = subst (λ (x : Lock). x.table < length (schema_of (kept trace))) q (reach-within (schema_of (kept trace)) (run_of u trace).vars st r e)
     by (Some r) e (inr i) = absurd i
+won-within trace (Early bs) l i = cover-within (kept trace) (first_of_list bs) l i
 won-within trace e l i = absurd i
 
 pub held-within : (trace : Trace) → IsPlayed trace → WellKept (start_of trace).kept → (l : Lock) → In l (held trace) → l.table < length (schema_of (kept trace))
