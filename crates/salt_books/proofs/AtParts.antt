@@ -6,8 +6,8 @@ use Rattle.law_states.specs.OpenUnits.{OpenUnit, UnitState, names_in, unit_named
 use Rattle.law_story.proofs.Ids.{is_same_id-refl, is_same_id-true}
 use Rattle.law_story.proofs.Lists.{In, either, in-filter}
 use Rattle.law_story.proofs.NextFits.{Fits}
-use Rattle.law_story.proofs.Salted.{OfBoots, holds, may-fit}
 use Rattle.law_story.proofs.Sound.{Sound, cont-stays, of-program, open-back}
+use Rattle.law_story.proofs.Upheld.{OfBoots, holds, may-fit}
 use Rattle.law_story.proofs.WellKept.{of-start}
 use Rattle.salt_model.specs.After.{kept}
 use Rattle.salt_model.specs.Continuing.{part_due}

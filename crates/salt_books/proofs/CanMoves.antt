@@ -7,8 +7,8 @@ use Rattle.salt_books.specs.Moves.{CanMove, IsNew}
 use Rattle.law_story.proofs.Ids.{is_same_id-refl}
 use Rattle.law_story.proofs.Lists.{In, either, in-filter}
 use Rattle.law_story.proofs.NextFits.{Fits}
-use Rattle.law_story.proofs.Salted.{OfBoots, holds, may-fit}
 use Rattle.law_story.proofs.Sound.{Old, OldAt, Sound, cont-stays, due-in, of-program, old-not, open-back}
+use Rattle.law_story.proofs.Upheld.{OfBoots, holds, may-fit}
 use Rattle.law_story.proofs.WellKept.{kept-well, of-start}
 use Rattle.salt_model.specs.After.{kept}
 use Rattle.salt_model.specs.Kept.{Kept, Rise, cont_of}

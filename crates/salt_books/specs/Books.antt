@@ -52,6 +52,9 @@ pub record AreBooks (x : Books) (s : UnitState) : Type 0 where
   pub unit_count : x.unit_count ≡ s.unit_count
   pub base_count : x.base_count ≡ s.base_count
   pub to_go : x.to_go.items ≡ s.to_go
+  pub early : x.early ≡ s.early
+  pub named : x.named ≡ s.named
+  pub owes : x.owes ≡ s.owes
 
 -- the books have an open unit of this name
 pub record HaveUnit (x : Books) (u : Id) : Type 0 where

@@ -1,6 +1,8 @@
 //! The statements of programs and of their parts.
 
 ghost use Rattle.salt_model.specs.Kept.{block_of_call, block_of_part};
+ghost use Rattle.salt_model.specs.Refusals.{is_base_program};
+ghost use Rattle.std.specs.Option.{option_copied};
 ghost use Rattle.std.specs.Prelude.{◌≡◌};
 
 use salt_ast::{Body, ProgramDef, Statement};
@@ -13,6 +15,19 @@ pub fn block_of_call(def: &ProgramDef) -> &[Statement]
     match &def.body {
         Body::Acid(block) => block.as_slice(),
         Body::Base(_) => &[],
+    }
+}
+
+/// Whether there is a program, and it is a BASE program.
+pub fn is_base_program(def: Option<&ProgramDef>) -> bool
+    ensures { result ≡ is_base_program (option_copied def.entry) }
+{
+    match def {
+        Some(def) => match &def.body {
+            Body::Acid(_) => false,
+            Body::Base(_) => true,
+        },
+        None => false,
     }
 }
 

@@ -17,18 +17,19 @@ ghost use Rattle.salt_books.specs.Known.{IsKnown};
 ghost use Rattle.salt_values.specs.Id.{is_same_id};
 ghost use Rattle.std.specs.List.{position};
 ghost use Rattle.salt_values.specs.declared.id.Id.{Id};
-ghost use Rattle.std.specs.Prelude.{IfOk, List, OnOk, [], get_or, length, ◌<◌, ◌≡◌};
+ghost use Rattle.std.specs.Prelude.{IfOk, List, OnOk, [], false, get_or, length, ◌<◌, ◌≡◌};
 
 use crate::held::{Held, count_bases};
 use crate::known::Known;
 use salt_ast::Statement;
 use salt_model::UnitKind;
 use salt_units::OpenUnit;
-use salt_values::{Id, next_number};
+use salt_values::{Id, Ids, next_number};
 use std::alloc::{AllocError, Global};
 
 /// The open units in order of their names, how many units and programs have begun in this boot, the programs to which `go all`
-/// has still to turn, and what is known of the database. An `AllocError` leaves them in no state that is told.
+/// has still to turn, whether openings may be early, the programs that the last early one names, whether one of these is to have
+/// a turn behind the line, and what is known of the database. An `AllocError` leaves them in no state that is told.
 pub struct Books {
     pub(crate) alloc: Global,
     pub(crate) known: Known,
@@ -36,6 +37,9 @@ pub struct Books {
     pub(crate) unit_count: u64,
     pub(crate) base_count: u64,
     pub(crate) to_go: Vec<Id>,
+    pub(crate) early: bool,
+    pub(crate) named: Ids,
+    pub(crate) owes: bool,
 }
 
 impl Drop for Books {
@@ -47,6 +51,9 @@ impl Drop for Books {
             unit_count: _unit_count,
             base_count: _base_count,
             to_go: _to_go,
+            early: _early,
+            named: _named,
+            owes: _owes,
         } = self;
     }
 }
@@ -58,13 +65,17 @@ fn place_in(units: &[Held], unit: Id) -> Option<usize>
 }
 
 impl Books {
-    /// No units, and what is known of a database; so many units have begun in this boot, and no program.
-    pub fn new(alloc: Global, known: Known, begun: u64) -> Books
+    /// No units, and what is known of a database; so many units have begun in this boot, and no program. Whether openings may be
+    /// early is told; none has been.
+    pub fn new(alloc: Global, known: Known, begun: u64, early: bool) -> Books
         ensures { (k : Kept) (phase : Phase) (line : Line) → IsKnown known k → AreBooks result (record {
           kept = k;
           phase = phase;
           line = line;
           to_go = [];
+          early = early;
+          named = [];
+          owes = false;
           units = [];
           unit_count = begun;
           base_count = 0;
@@ -77,6 +88,9 @@ impl Books {
             unit_count: begun,
             base_count: 0,
             to_go: Vec::new(alloc),
+            early,
+            named: Ids::new(alloc),
+            owes: false,
         }
     }
 
@@ -92,6 +106,9 @@ impl Books {
             unit_count,
             base_count: _base_count,
             to_go: _to_go,
+            early: _early,
+            named: _named,
+            owes: _owes,
         } = self;
         (known, unit_count)
     }

@@ -3,6 +3,7 @@
 ghost use Rattle.salt_ast.specs.ProgramTexts.{program_text};
 ghost use Rattle.salt_ast.specs.Texts.{table_text};
 ghost use Rattle.salt_model.specs.Kept.{Kept, OfProgram, OfTable, block_of_kind, cont_of, conts_branched, conts_committed, kept_program, programs_of, schema_of, vars_of_kind};
+ghost use Rattle.salt_model.specs.Refusals.{is_base_program};
 ghost use Rattle.salt_model.specs.Tables.{Tables};
 ghost use Rattle.salt_values.specs.Id.{in_order};
 ghost use Rattle.salt_program.specs.Refusals.{parts_in, program_refusal};
@@ -15,7 +16,7 @@ ghost use Rattle.std.specs.Option.{option_copied};
 ghost use Rattle.std.specs.Prelude.{IfOk, List, None, OnOk, [], length, map, ◌++◌, ◌+◌, ◌<◌, ◌^◌, ℕ, ◌∷◌, ◌≡◌};
 
 use crate::bindings::{vars_at_call, vars_at_cont};
-use crate::blocks::{block_of_call, block_of_part};
+use crate::blocks::{block_of_call, block_of_part, is_base_program};
 use crate::conts::{cont_in, make_move};
 use crate::ids::bases_in_order;
 use crate::moves::{move_of_branch, move_of_commit};
@@ -130,6 +131,13 @@ impl Known {
         ensures { (k : Kept) → IsKnown self.now k → option_copied result ≡ kept_program name.now k }
     {
         self.catalogue.find(name)
+    }
+
+    /// Whether the program of a name is a BASE program.
+    pub fn is_base(&self, name: &Name) -> bool
+        ensures { (k : Kept) → IsKnown self.now k → result ≡ is_base_program (kept_program name.now k) }
+    {
+        is_base_program(self.program(name))
     }
 
     /// Where a program goes on that is accepted and not finished.

@@ -15,7 +15,7 @@ ghost use Rattle.std.specs.Prelude.{nat_lt, ℕ, ◌≡◌};
 
 use crate::books::Books;
 use crate::held::Held;
-use salt_values::{Cont, Id};
+use salt_values::{Cont, Id, Ids};
 
 fn first_before(units: &[Held], boot: u64) -> Option<&Held>
     ensures { option_copied result ≡ find (λ (h : Held). nat_lt (seen h).unit.boot boot) units.now }
@@ -24,11 +24,12 @@ fn first_before(units: &[Held], boot: u64) -> Option<&Held>
 }
 
 impl Books {
-    /// The run has fallen: `go all` goes to no further program. The open units stay, until an opening cuts them.
+    /// The run has fallen: no program has a turn any more. The open units stay, until an opening cuts them.
     pub fn fall(&mut self)
         ensures { (s : UnitState) (why : Why) → AreBooks self.old s → AreBooks self.new (units_after (Event.Down why) s) }
     {
         self.to_go.clear();
+        self.owes = false;
     }
 
     /// A boot of this number begins, in which no unit and no program has begun.
@@ -46,6 +47,27 @@ impl Books {
     {
         let held = first_before(self.units.as_slice(), self.known.boot())?;
         Some(held.open.unit)
+    }
+
+    /// Whether openings may be early.
+    pub fn opens_early(&self) -> bool
+        ensures { (s : UnitState) → AreBooks self.now s → result ≡ s.early }
+    {
+        self.early
+    }
+
+    /// The programs that the last early opening names, in order of their names.
+    pub fn named(&self) -> &[Id]
+        ensures { (s : UnitState) → AreBooks self.now s → result.now ≡ s.named }
+    {
+        self.named.as_slice()
+    }
+
+    /// An opening ends while these programs are unfinished.
+    pub fn open_early(&mut self, named: Ids)
+        ensures { (s : UnitState) → AreBooks self.old s → AreBooks self.new (units_after (Event.Early named) s) }
+    {
+        self.named = named;
     }
 
     /// The program that an opening takes on next.

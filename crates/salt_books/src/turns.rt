@@ -1,17 +1,19 @@
-//! Lines, definitions and turns of `go all`.
+//! Lines, definitions and turns of programs.
 
 ghost use Rattle.salt_ast.specs.ProgramTexts.{program_text};
 ghost use Rattle.salt_ast.specs.Texts.{table_text};
 ghost use Rattle.salt_ast.specs.declared.lines.Line.TheVariants.{Program, Table};
 ghost use Rattle.salt_books.specs.Books.{AreBooks, seen};
-ghost use Rattle.law_states.specs.OpenUnits.{UnitState};
+ghost use Rattle.law_states.specs.OpenUnits.{UnitState, can_go_in, is_not_waiting, next_to_go_in, next_turn_in, turn_owed_in};
 ghost use Rattle.law_states.specs.Steps.{to_go_by, units_after, units_asked, units_turned};
-ghost use Rattle.law_states.specs.Told.{can_go_in, is_not_waiting, next_decision, next_turn_in};
+ghost use Rattle.law_states.specs.Told.{next_decision};
 ghost use Rattle.salt_model.specs.Trace.{Tree};
-ghost use Rattle.salt_model.specs.Turns.{ids_after};
+ghost use Rattle.salt_model.specs.Turns.{does_something, ids_after};
 ghost use Rattle.salt_model.specs.declared.events.Event.{Event};
+ghost use Rattle.salt_model.specs.declared.events.Refusal.{Refusal};
 ghost use Rattle.salt_program.specs.Refusals.{parts_in, program_refusal};
 ghost use Rattle.salt_schema.specs.Refusals.{table_refusal};
+ghost use Rattle.std.specs.List.{find};
 ghost use Rattle.std.specs.Option.{option_copied};
 ghost use Rattle.std.specs.Prelude.{IfOk, None, OnOk, is_some, length, option_map, ◌&&◌, ◌<◌, ◌^◌, ◌≡◌};
 
@@ -34,6 +36,16 @@ fn ids_after(alloc: Global, base: Id, ids: &[Id]) -> Result<Vec<Id>, AllocError>
         Vec::from_slice(alloc, &ids[at + 1..])
     } else {
         Ok(Vec::new(alloc))
+    }
+}
+
+/// Whether a line does something, if it is not refused.
+fn does_something(line: &Line) -> bool
+    ensures { result ≡ does_something (Tree line.now) }
+{
+    match line {
+        Line::Nothing => false,
+        _ => true,
     }
 }
 
@@ -60,25 +72,36 @@ impl Books {
         }
     }
 
-    /// A line is asked: `go all` goes to each program that goes on, and any other line to none.
+    /// A line is asked: `go all` goes to each program that goes on, and any other line to none. Behind a line that does something
+    /// one more turn is owed.
     pub fn ask(&mut self, line: &Line) -> Result<(), AllocError>
         ensures { OnOk result ((s : UnitState) → AreBooks self.old s → AreBooks self.new (units_asked (Tree line.now) s)) }
     {
         let bases = self.to_go_by(line)?;
         self.to_go = bases;
+        self.owes = does_something(line);
         Ok(())
     }
 
-    /// `go all` turns to a program.
+    /// A line is refused: no turn is owed behind it.
+    pub fn refuse(&mut self)
+        ensures { (s : UnitState) (refusal : Refusal) → AreBooks self.old s → AreBooks self.new (units_after (Event.Refused refusal) s) }
+    {
+        self.owes = false;
+    }
+
+    /// A program has its turn: one of those of `go all`, or the one owed behind the line.
     pub fn turn(&mut self, base: Id) -> Result<(), AllocError>
         ensures { OnOk result ((s : UnitState) → AreBooks self.old s → AreBooks self.new (units_turned base s)) }
     {
+        let owes = self.still_owes();
         let left = ids_after(self.alloc, base, self.to_go.as_slice())?;
         self.to_go = left;
+        self.owes = owes;
         Ok(())
     }
 
-    /// Whether `go all` does not leave a program out: it goes on, and its unit, if one is open, does not wait.
+    /// Whether a program is not left out: it goes on, and its unit, if one is open, does not wait.
     fn can_go(&self, base: Id) -> bool
         ensures { (s : UnitState) → AreBooks self.now s → result ≡ can_go_in s base }
     {
@@ -86,16 +109,51 @@ impl Books {
         is_left_to_go(cont, self.unit_of_program(base))
     }
 
-    /// The program to which `go all` turns next.
-    pub fn next_turn(&self) -> Option<Id>
-        ensures { (s : UnitState) → AreBooks self.now s → result ≡ next_turn_in s }
+    /// The first of these programs that is not left out.
+    fn first_that_goes(&self, bases: &[Id]) -> Option<Id>
+        ensures { (s : UnitState) → AreBooks self.now s → result ≡ find (can_go_in s) bases.now }
     {
-        for base in self.to_go.as_slice() {
+        for base in bases {
             if self.can_go(*base) {
                 return Some(*base);
             }
         }
         None
+    }
+
+    /// The program to which `go all` turns next.
+    fn next_to_go(&self) -> Option<Id>
+        ensures { (s : UnitState) → AreBooks self.now s → result ≡ next_to_go_in s }
+    {
+        self.first_that_goes(self.to_go.as_slice())
+    }
+
+    /// Whether a turn is owed behind the line still when a program has had its turn: where that is one of those of `go all`.
+    fn still_owes(&self) -> bool
+        ensures { (s : UnitState) → AreBooks self.now s → result ≡ (s.owes && is_some (next_to_go_in s)) }
+    {
+        self.owes && self.next_to_go().is_some()
+    }
+
+    /// The program that has the turn owed behind the line.
+    fn turn_owed(&self) -> Option<Id>
+        ensures { (s : UnitState) → AreBooks self.now s → result ≡ turn_owed_in s }
+    {
+        if self.owes {
+            self.first_that_goes(self.named.as_slice())
+        } else {
+            None
+        }
+    }
+
+    /// The program that has the next turn: one of those of `go all`, and then the one owed.
+    pub fn next_turn(&self) -> Option<Id>
+        ensures { (s : UnitState) → AreBooks self.now s → result ≡ next_turn_in s }
+    {
+        match self.next_to_go() {
+            Some(base) => Some(base),
+            None => self.turn_owed(),
+        }
     }
 
     /// Defines a table that is not refused, by the line that is its tree. The number of the decision and the canonical text.

@@ -3,7 +3,7 @@ use Rattle.salt_deps.specs.Kept.{dependencies}
 use Rattle.law_states.proofs.CallsFit.{abandon-fits, read-fits, unread-fits}
 use Rattle.law_states.proofs.LockCallsFit.{acid-fits, salt-fits, take-fits}
 use Rattle.law_states.specs.DependencyCalls.{IsCommitted}
-use Rattle.law_states.specs.KeptLocks.{Numbered, is_base_among, lock_taken, on_lock}
+use Rattle.law_states.specs.KeptLocks.{Numbered, is_base_among, lock_taken, numbered_from, on_lock}
 use Rattle.law_states.specs.KeptSources.{Dependencies, given_up}
 use Rattle.law_states.specs.LockCalls.{HasDropped, HasSalted, HasTaken}
 use Rattle.law_states.specs.KeptWaits.{Asker, drop_asker}
@@ -92,7 +92,7 @@ released f k bs table = same-members _ _ (fated bs table ∙ sym (append-nil _))
 -- of a statement
 pub unreached : (f : UnitFacts) (k : ℕ) (u : Id) (st : Statement) (a : Answer) (table : List Numbered) → f.reach ≡ None → SameMembers table (table_by f k (Did u st a) table)
 unreached f k u st a table e =
-    same-members table _ (sym (append-nil _ ∙ all-kept table) ∙ ap (λ (r : Option Reach). filter_map (on_lock (λ l. Some l)) table ++ map (λ l. record { number = k; lock = l }) (lock_taken u f.kind r)) (sym e))
+    same-members table _ (sym (append-nil _ ∙ all-kept table) ∙ ap (λ (r : Option Reach). filter_map (on_lock (λ l. Some l)) table ++ numbered_from k (lock_taken u f.kind r)) (sym e))
 
 pub reached : (f : UnitFacts) (k : ℕ) (u : Id) (st : Statement) (a : Answer) (family : Family) (r : Reach) (old new : List Numbered) → f.reach ≡ Some r →
     family_of f.kind ≡ family → new ≡ put (record { number = k; lock = lock_of (Owner.Unit u) family r }) old → SameMembers new (table_by f k (Did u st a) old)

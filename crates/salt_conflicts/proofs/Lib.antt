@@ -6,3 +6,4 @@ pub mod Steps
 pub mod Finishing
 pub mod Readable
 pub mod Others
+pub mod Resuming

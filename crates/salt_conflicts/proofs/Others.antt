@@ -7,7 +7,7 @@ use Rattle.law_states.specs.UnitFacts.{UnitFacts}
 use Rattle.law_states.specs.WatchSteps.{WatchBy}
 use Rattle.law_states.specs.Watches.{Watch}
 use Rattle.salt_model.specs.declared.events.Event.{Event}
-use Rattle.salt_model.specs.declared.events.Event.TheVariants.{Accepted, Did, Ended, Finished, Ready, Released, Waits}
+use Rattle.salt_model.specs.declared.events.Event.TheVariants.{Accepted, Did, Early, Ended, Finished, Ready, Released, Waits}
 use Rattle.salt_values.specs.declared.id.Id.{Id}
 use Rattle.salt_conflicts.proofs.Goes.{kept}
 use Rattle.salt_conflicts.proofs.Same.{itself, same-dependencies}
@@ -23,6 +23,7 @@ others w f (Accepted b) h = absurd h
 others w f (Finished b) h = absurd h
 others w f (Released bs) h = absurd h
 others w f Ready h = absurd h
+others w f (Early bs) h = absurd h
 others w f e h = record {
   locks = kept w.table;
   taken = omega arith;

@@ -8,7 +8,7 @@ use Rattle.law_states.specs.WatchSteps.{WatchBy}
 use Rattle.law_states.specs.Watches.{Watch}
 use Rattle.salt_model.specs.Tables.{place}
 use Rattle.salt_model.specs.declared.events.Event.{Event}
-use Rattle.salt_model.specs.declared.events.Event.TheVariants.{Accepted, Did, Ended, Finished, Ready, Released, Waits}
+use Rattle.salt_model.specs.declared.events.Event.TheVariants.{Accepted, Did, Early, Ended, Finished, Ready, Released, Waits}
 use Rattle.salt_model.specs.declared.places.Place.{Place}
 use Rattle.salt_values.specs.declared.change.Change.{Change}
 use Rattle.salt_values.specs.declared.id.Id.{Id}
@@ -44,6 +44,7 @@ IsOfNoWatch (Accepted b) = ⊥
 IsOfNoWatch (Finished b) = ⊥
 IsOfNoWatch (Released bs) = ⊥
 IsOfNoWatch Ready = ⊥
+IsOfNoWatch (Early bs) = ⊥
 IsOfNoWatch e = ⊤
 
 abbrev pub place_of : Change → Place

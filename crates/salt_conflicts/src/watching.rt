@@ -2,10 +2,12 @@
 
 ghost use Rattle.salt_ast.specs.declared.trees.Statement.{Statement};
 ghost use Rattle.salt_deps.specs.Kept.{dependencies};
-ghost use Rattle.law_states.specs.DependencyCalls.{IsCommitted, WroteAll};
-ghost use Rattle.law_states.specs.KeptLocks.{clash_in};
+ghost use Rattle.law_states.specs.DependencyCalls.{AreSame, IsCommitted, WroteAll};
+ghost use Rattle.law_states.specs.KeptCover.{group_of};
+ghost use Rattle.law_states.specs.KeptLocks.{clash_in, numbered_from};
 ghost use Rattle.law_states.specs.KeptSources.{no_dependencies};
 ghost use Rattle.law_states.specs.KeptWaits.{Asker, AreDistinct, served_in, victim_in};
+ghost use Rattle.law_states.specs.Members.{SameMembers};
 ghost use Rattle.law_states.specs.Readings.{Reading, locks_by, locks_in};
 ghost use Rattle.law_states.specs.UnitFacts.{UnitFacts};
 ghost use Rattle.law_states.specs.WatchSteps.{base_by, first_by};
@@ -15,7 +17,7 @@ ghost use Rattle.salt_values.specs.Id.{in_order};
 ghost use Rattle.salt_model.specs.declared.events.Answer.{Answer};
 ghost use Rattle.salt_model.specs.declared.events.End.{End};
 ghost use Rattle.salt_model.specs.declared.events.End.TheVariants.{Committed};
-ghost use Rattle.salt_model.specs.declared.events.Event.TheVariants.{Accepted, Did, Ended, Released, Waits};
+ghost use Rattle.salt_model.specs.declared.events.Event.TheVariants.{Accepted, Did, Early, Ended, Released, Waits};
 ghost use Rattle.salt_model.specs.declared.events.Owner.{Owner};
 ghost use Rattle.salt_model.specs.declared.shown.Item.{Item};
 ghost use Rattle.salt_conflicts.specs.Calls.{HasGivenUp, HasReached, HasReadBy, handed_over, is_unreleased};
@@ -23,7 +25,7 @@ ghost use Rattle.salt_conflicts.specs.Waiters.{waiter_of};
 ghost use Rattle.salt_conflicts.specs.Watched.{GoesBy, IsFinishing, IsWatch, place_of};
 ghost use Rattle.std.specs.List.{filter, flat_map};
 ghost use Rattle.std.specs.Option.{option_copied};
-ghost use Rattle.std.specs.Prelude.{IfOk, List, OnOk, [], map, ℕ, ◌++◌, ◌∷◌, ◌≡◌};
+ghost use Rattle.std.specs.Prelude.{IfOk, List, OnOk, [], length, map, ℕ, ◌++◌, ◌∷◌, ◌≡◌};
 
 use crate::graph::wait_graph;
 use crate::served::{clashing, served};
@@ -121,6 +123,28 @@ impl Watching {
             waits: Vec::new(alloc),
             programs,
             deps: Deps::new(alloc),
+        }
+    }
+
+    /// What an early opening leaves: these locks, so many, are all that is held; nothing waits; the programs that it names, in order of
+    /// their names, are not released, and each of them reads from each other one.
+    pub fn resumed(
+        alloc: Global,
+        locks: LockTable,
+        taken: u64,
+        deps: Deps,
+        programs: Vec<Id>,
+    ) -> Watching
+        ensures { (w : Watch) (f : UnitFacts) → SameMembers locks (numbered_from 0 f.cover) → taken ≡ length f.cover →
+            AreSame (group_of programs.items) (dependencies deps) → GoesBy f (Early programs.items) w result }
+    {
+        Watching {
+            alloc,
+            locks,
+            taken,
+            waits: Vec::new(alloc),
+            programs,
+            deps,
         }
     }
 

@@ -1,6 +1,7 @@
 -- The writers in a range of a table stand between its two ends.
 use Rattle.salt_deps.proofs.Reading.{IsReading}
-use Rattle.salt_deps.specs.Ends.{first_place, last_place}
+use Rattle.salt_deps.specs.Ends.{last_place}
+use Rattle.salt_model.specs.Bounds.{first_place}
 use Rattle.salt_deps.specs.Reads.{is_read, reads_entry}
 use Rattle.law_story.proofs.Ids.{and_left, and_right}
 use Rattle.law_story.proofs.Lists.{not-true}

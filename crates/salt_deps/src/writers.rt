@@ -11,10 +11,10 @@ ghost use Rattle.salt_values.specs.declared.id.Id.{Id};
 ghost use Rattle.std.specs.BTreeMap.{IsOrdered, get};
 ghost use Rattle.std.specs.Prelude.{◌≡◌, ◌||◌, IfOk, OnOk, false};
 
-use crate::ends::{first_place, last_place};
+use crate::ends::last_place;
 use crate::links::Links;
 use crate::sets::{is_in, listed};
-use salt_model::Place;
+use salt_model::{Place, first_place};
 use salt_ranges::KeyRange;
 use salt_values::Id;
 use std::alloc::{AllocError, Global};

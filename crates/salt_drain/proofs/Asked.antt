@@ -18,7 +18,16 @@ abbrev pub unlined : UnitState → UnitState
 unlined s = record s { line = Nothing }
 
 pub books-unlined : (x : Books) (s : UnitState) → AreBooks x s → AreBooks x (unlined s)
-books-unlined x s h = record { known = h.known; units = h.units; unit_count = h.unit_count; base_count = h.base_count; to_go = h.to_go }
+books-unlined x s h = record {
+  known = h.known;
+  units = h.units;
+  unit_count = h.unit_count;
+  base_count = h.base_count;
+  to_go = h.to_go;
+  early = h.early;
+  named = h.named;
+  owes = h.owes;
+}
 
 pub asks-alike : (s : State) (u : Id) (o : OpenUnit) → IsRecovering s → unit_named u s.units.units ≡ Some o → IsOfPart o →
     asks_next (unlined s.units) o ≡ asks_next s.units o

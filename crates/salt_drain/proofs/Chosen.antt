@@ -2,25 +2,26 @@
 use Rattle.salt_books.specs.Asking.{IsAsked}
 use Rattle.salt_books.specs.Ends.{done_of}
 use Rattle.salt_books.specs.declared.asking.Asking.{Asking}
-use Rattle.law_states.specs.Follows.{cut_in, cuts_or_drains_in, drains_in}
+use Rattle.law_states.specs.Follows.{cut_in, cuts_or_drains_in, drains_in, unfinished_in}
 use Rattle.law_states.specs.OpenUnits.{UnitState}
 use Rattle.law_states.specs.Told.{begins_in, finishes_in, serve_in}
 use Rattle.salt_model.specs.Kept.{cont_of}
 use Rattle.salt_model.specs.Words.{first_of_list, is_empty}
 use Rattle.salt_model.specs.declared.events.Cause.{Cause}
 use Rattle.salt_model.specs.declared.events.End.TheVariants.{Cut}
-use Rattle.salt_model.specs.declared.events.Event.TheVariants.{Ended, Finished, Ready}
+use Rattle.salt_model.specs.declared.events.Event.TheVariants.{Early, Ended, Finished, Ready}
 use Rattle.salt_model.specs.declared.events.UnitKind.TheVariants.{Later}
 use Rattle.salt_drain.proofs.Asked.{asked-alike, serves-asked, unlined}
 use Rattle.salt_books.proofs.Named.{done-branched}
 use Rattle.salt_drain.specs.Follows.{rest_in}
 use Rattle.salt_drain.specs.Recovering.{IsPartIfOpen, IsPlain, IsRecovering}
+use Rattle.salt_values.specs.Id.{in_order}
 use Rattle.salt_values.specs.declared.cont.Cont.{Cont}
 use Rattle.salt_values.specs.declared.id.Id.{Id}
 use Rattle.std.proofs.Common.{Bor, arith}
 use Rattle.std.specs.Bool.{then_some}
 use Rattle.std.specs.Option.{option_copied}
-use Rattle.std.specs.Prelude.{Bool, List, [], false, is_none, length, option_and_then, ℕ, ◌<◌, ◌∷◌, ◌≤◌}
+use Rattle.std.specs.Prelude.{Bool, List, [], false, is_none, length, map, option_and_then, ℕ, ◌<◌, ◌∷◌, ◌≤◌}
 use Rattle.salt_books.specs.declared.coming.Coming.TheVariants as coming
 use Rattle.salt_books.specs.declared.coming.Coming.{Coming}
 use Rattle.law_states.specs.OpenUnits.{OpenUnit, unit_named}
@@ -42,9 +43,13 @@ told s want x e plain h = record { meant = h.told; ready = (h.done, subst IsPlai
 pub rest-plain : (s : UnitState) → IsPlain (rest_in s)
 rest-plain s = by (cut_in s)
   where
+    unfinished : (early : Bool) (c : Cont) (cs : List Cont) → IsPlain (Some (unfinished_in early s c cs))
+    unfinished true c cs = (refl, refl)
+    unfinished false c cs = (refl, refl)
+
     drains : (b : Bool) (cs : List Cont) → IsPlain (then_some b (drains_in s cs))
     drains true [] = (refl, refl)
-    drains true (c ∷ cs) = (refl, refl)
+    drains true (c ∷ cs) = unfinished s.early c cs
     drains false cs = (refl, refl)
 
     by : (us : List Id) → IsPlain (cuts_or_drains_in s us)
@@ -66,9 +71,29 @@ gives-same s other want given x e h = record { told = h.told ∙ e; done = h.don
 
 -- CUTS AND PROGRAMS, by the first of each.
 
-pub drains-first : (s : UnitState) (c : Cont) (cs : List Cont) → Some c ≡ first_of_list cs → Some (begins_in s (Later c.base c.next)) ≡ Some (drains_in s cs)
-drains-first s c [] h = cc
-drains-first s c (d ∷ cs) h = let same : c ≡ d = cc in ap (λ (x : Cont). Some (begins_in s (Later x.base x.next))) same
+-- the first of these
+pub record IsFirst (c : Cont) (cs : List Cont) : Type 0 where
+  pub others : List Cont
+  pub all : cs ≡ c ∷ others
+
+pub first-of : (c : Cont) (cs : List Cont) → Some c ≡ first_of_list cs → IsFirst c cs
+first-of c [] h = absurd (cc)
+first-of c (d ∷ cs) h = let same : c ≡ d = cc in record { others = cs; all = ap (λ (x : Cont). x ∷ cs) (sym same) }
+
+pub drains-first : (s : UnitState) (c : Cont) (cs others : List Cont) → cs ≡ c ∷ others → Some (unfinished_in s.early s c others) ≡ Some (drains_in s cs)
+drains-first s c cs others all = ap (λ (ds : List Cont). Some (drains_in s ds)) (sym all)
+
+-- an opening that may be early names the unfinished programs; else the first of them goes on
+
+pub names-all : (s : UnitState) (c : Cont) (cs : List Cont) → s.kept.conts ≡ c ∷ cs → s.early ≡ true →
+    Some (Early (in_order (map (λ (d : Cont). d.base) s.kept.conts))) ≡ Some (unfinished_in s.early s c cs)
+names-all s c cs all early =
+    ap (λ (ds : List Cont). Some (Early (in_order (map (λ (d : Cont). d.base) ds)))) all ∙ sym (ap (λ t. Some (unfinished_in t s c cs)) early)
+
+pub begins-first : (s : UnitState) (c : Cont) (cs : List Cont) (b : Id) (part : ℕ) → c.base ≡ b → c.next ≡ part → s.early ≡ false →
+    Some (begins_in s (Later b part)) ≡ Some (unfinished_in s.early s c cs)
+begins-first s c cs b part base next early =
+    (λ i. Some (begins_in s (Later (sym base i) (sym next i)))) ∙ sym (ap (λ t. Some (unfinished_in t s c cs)) early)
 
 pub drains-none : (s : UnitState) (cs : List Cont) → first_of_list cs ≡ None → Some Ready ≡ Some (drains_in s cs)
 drains-none s [] h = refl

@@ -1,6 +1,6 @@
 -- An event that is done: what calls left of the books is what the event makes of the state.
 use Rattle.law_states.specs.Laws.{is_of_run}
-use Rattle.law_states.specs.States.{State, named_by}
+use Rattle.law_states.specs.States.{State, named_by, net_by}
 use Rattle.law_states.specs.Steps.{units_after}
 use Rattle.salt_model.specs.declared.events.Event.{Event}
 use Rattle.law_openings.proofs.Leaving.{leaves}
@@ -14,7 +14,7 @@ pub sees : (e : Event) (s : State) (new : Recovery) → IsRecovering s → is_of
     FollowsOn new.behind e s.units (units_after e s.units) → StandsAtEvent new (Some e) s
 sees e s new r plain behind follows =
     let l = leaves s r.sound.trace e r.sound.keeps r.sound.sound in (
-      record { units = units_after e s.units; watch = l.watch; names = named_by e s.names; can_stop = s.can_stop },
+      record { units = units_after e s.units; watch = l.watch; names = named_by e s.names; can_stop = s.can_stop; over_net = s.over_net; net = net_by e s.units s.net },
       record { plain = plain; after = l.after; behind = behind; follows = follows },
     )
 

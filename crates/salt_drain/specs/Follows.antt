@@ -30,7 +30,7 @@ behind_commit (First t b n args) = Accept b
 behind_commit (Later b part) = Finish b
 behind_commit kind = Nothing
 
--- what an opening goes on with where nothing follows: a unit is cut, the next part of a program begins, or it is ready
+-- what an opening goes on with where nothing follows: a unit is cut, the next part of a program begins, or it is done
 abbrev pub rest_in : UnitState → Option Event
 rest_in s = cuts_or_drains_in s (cut_in s)
 

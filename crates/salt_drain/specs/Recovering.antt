@@ -11,7 +11,7 @@ use Rattle.law_states.specs.States.{After, State}
 use Rattle.salt_model.specs.Next.{decision_in}
 use Rattle.salt_model.specs.Phases.{Opening, Serving}
 use Rattle.salt_model.specs.Turns.{is_statement_line}
-use Rattle.salt_model.specs.declared.events.Event.TheVariants.{Ready}
+use Rattle.salt_model.specs.declared.events.Event.TheVariants.{Early, Ready}
 use Rattle.salt_model.specs.declared.events.Event.{Event}
 use Rattle.salt_model.specs.declared.events.UnitKind.TheVariants.{Later}
 use Rattle.law_openings.specs.Draining.{statements_at}
@@ -50,9 +50,10 @@ pub record StandsForUnits (x : Recovery) (s : UnitState) : Type 0 where
 abbrev pub StandsForState : Recovery → State → Type 0
 StandsForState x s = StandsForUnits x s.units
 
--- behind its Ready the state serves
+-- behind its end the state serves
 abbrev pub StandsBehindEvent : Event → Recovery → UnitState → Type 0
 StandsBehindEvent Ready x s = AreBooks x.books s × (s.phase ≡ Serving)
+StandsBehindEvent (Early bs) x s = AreBooks x.books s × (s.phase ≡ Serving)
 StandsBehindEvent e x s = StandsForUnits x s
 
 -- it has done an event

@@ -5,19 +5,21 @@ ghost use Rattle.salt_books.specs.Ends.{done_of};
 ghost use Rattle.law_states.specs.OpenUnits.{unit_named};
 ghost use Rattle.law_states.specs.States.{State};
 ghost use Rattle.law_states.specs.Told.{begins_in, finishes_in, serve_in};
-ghost use Rattle.law_states.specs.Follows.{drains_in};
+ghost use Rattle.law_states.specs.Follows.{drains_in, unfinished_in};
 ghost use Rattle.salt_model.specs.declared.events.End.{End};
 ghost use Rattle.salt_model.specs.declared.events.Event.{Event};
 ghost use Rattle.salt_model.specs.declared.events.UnitKind.TheVariants.{Later};
 ghost use Rattle.salt_drain.specs.Follows.{comes_behind, event_of, rest_in};
-ghost use Rattle.std.specs.Prelude.{IfOk, Some, [], option_and_then, ◌≡◌};
+ghost use Rattle.salt_values.specs.Id.{in_order};
+ghost use Rattle.salt_values.specs.declared.cont.Cont.{Cont};
+ghost use Rattle.std.specs.Prelude.{IfOk, List, Some, [], map, option_and_then, ◌∷◌, ◌≡◌};
 
 use crate::behind::Behind;
 use crate::recovery::Recovery;
 use salt_ast::Line;
 use salt_books::Coming;
 use salt_model::{Cause, End, Event, UnitKind};
-use salt_values::Id;
+use salt_values::{Id, Ids};
 use std::alloc::AllocError;
 
 impl Recovery {
@@ -59,7 +61,31 @@ impl Recovery {
         Event::Ready
     }
 
-    /// Where no unit is open, the program goes on that was accepted first; where none is left, the opening is done.
+    /// The opening is done while programs are unfinished: it names them, in order of their names.
+    fn open_early(&mut self) -> Result<Event, AllocError>
+        ensures { IfOk result (λ e. DoesNext (λ s. Some (Event.Early (in_order (map (λ (c : Cont). c.base) s.kept.conts)))) self.old self.new e) }
+    {
+        let bases = self.books.known().bases()?;
+        let named = Ids::from_slice(self.alloc, bases.as_slice())?;
+        self.books.open_early(named);
+        self.behind = Behind::Nothing;
+        Ok(Event::Early(Ids::from_vec(bases)))
+    }
+
+    /// Where programs are unfinished, the opening is done if it may be early; else the program goes on that was accepted first, with
+    /// this part.
+    fn take_on(&mut self, base: Id, part: u32) -> Result<Event, AllocError>
+        ensures { IfOk result (λ e. (s : State) (c : Cont) (cs : List Cont) → StandsForState self.old s → IsRecovering s → s.units.units ≡ []
+            → s.units.kept.conts ≡ c ∷ cs → c.base ≡ base → c.next ≡ part → AnswersWith s (Some (unfinished_in s.units.early s.units c cs)) self.new (Some e)) }
+    {
+        if self.books.opens_early() {
+            self.open_early()
+        } else {
+            self.begin(base, part)
+        }
+    }
+
+    /// Where no unit is open, programs that are unfinished are taken on; where none is left, the opening is done.
     fn drain(&mut self) -> Result<Event, AllocError>
         ensures { IfOk result (λ e. (s : State) → StandsForState self.old s → IsRecovering s → s.units.units ≡ []
             → AnswersWith s (Some (drains_in s.units s.units.kept.conts)) self.new (Some e)) }
@@ -68,7 +94,7 @@ impl Recovery {
             Some(cont) => {
                 let base = cont.base;
                 let part = cont.next;
-                self.begin(base, part)
+                self.take_on(base, part)
             }
             None => Ok(self.get_ready()),
         }

@@ -1,6 +1,7 @@
 -- Where the next row of a range is looked for, and why it is the first from there on, or none is.
 use Rattle.salt_eval.proofs.InOrder.{first-where, if_passes, tables_of-list}
-use Rattle.salt_eval.specs.Views.{before_table, from_low, is_behind, is_next, next_row, rows_after, start_of, tables_of}
+use Rattle.salt_eval.specs.Views.{is_behind, is_next, next_row, rows_after, start_of, tables_of}
+use Rattle.salt_model.specs.Bounds.{before_table, first_place}
 use Rattle.salt_model.specs.Tables.{Entry, place, place_cmp}
 use Rattle.salt_model.specs.Words.{first_of_list}
 use Rattle.salt_model.specs.declared.places.Place.{Place}
@@ -95,7 +96,7 @@ at_least t None None x h = before-at_least t x h
 at_least t (Some l) None x h = not_before t x.table (value_cmp l x.key) h
 at_least t lo (Some a) x h = by (is_above_low lo a) lo h
   where
-    by : (b : Bool) (lo : Option Value) → is_from_start place_cmp (cond b (Excluded (place t a)) (from_low t lo)) x ≡ true → t ≤ x.table
+    by : (b : Bool) (lo : Option Value) → is_from_start place_cmp (cond b (Excluded (place t a)) (first_place t lo)) x ≡ true → t ≤ x.table
     by true lo h = not_before t x.table (value_cmp a x.key) (at_most _ h)
     by false None h = before-at_least t x h
     by false (Some l) h = not_before t x.table (value_cmp l x.key) h

@@ -2,17 +2,17 @@
 use Rattle.salt_eval.specs.declared.view.ViewErr.TheVariants.{Fault, Memory}
 use Rattle.salt_eval.specs.declared.view.ViewErr.{ViewErr}
 use Rattle.salt_io.specs.Streams.{Rose}
+use Rattle.salt_model.specs.Bounds.{first_place}
 use Rattle.salt_model.specs.Tables.{Entry, Tables, no_rows, place, place_cmp, put_row}
 use Rattle.salt_model.specs.Words.{first_of_list}
 use Rattle.salt_model.specs.declared.places.Place.{Place}
 use Rattle.salt_ranges.specs.Ranges.{has_key, is_above_low}
 use Rattle.salt_ranges.specs.declared.range.KeyRange.{KeyRange}
 use Rattle.salt_values.specs.Value.{is_value_below}
-use Rattle.salt_values.specs.declared.value.Value.TheVariants.{Null}
 use Rattle.salt_values.specs.declared.value.Value.{Value}
 use Rattle.std.specs.FinMap.Entries.{where_key}
-use Rattle.std.specs.Prelude.{Bool, Err, List, None, Ok, Option, Result, Some, [], if◌then◌else◌, option_map, true, ℕ, ◌&&◌, ◌-◌, ◌==◌, ◌∷◌, ◌≡◌}
-use Rattle.std.specs.declared.ops.Bound.TheVariants.{Excluded, Included, Unbounded}
+use Rattle.std.specs.Prelude.{Bool, Err, List, None, Ok, Option, Result, Some, [], if◌then◌else◌, option_map, true, ℕ, ◌&&◌, ◌==◌, ◌∷◌, ◌≡◌}
+use Rattle.std.specs.declared.ops.Bound.TheVariants.{Excluded}
 use Rattle.std.specs.declared.ops.Bound.{Bound}
 
 -- a fault where the count rose, and nowhere else
@@ -41,16 +41,7 @@ rows_after t range after es = where_key place_cmp (is_next t range after) es.lis
 abbrev pub next_row : ℕ → KeyRange → Option Value → Tables → Option (List Value)
 next_row t range after es = option_map (λ e. e.1) (first_of_list (rows_after t range after es))
 
--- where a map is looked at for the next row: behind the tables before this one
-abbrev pub before_table : ℕ → Bound Place
-before_table t = if t == 0 then Unbounded else Excluded (place (t - 1) Null)
-
--- from the lower end of a range on
-abbrev pub from_low : ℕ → Option Value → Bound Place
-from_low t None = before_table t
-from_low t (Some lo) = Included (place t lo)
-
--- and behind a key
+-- where a map is looked at for the next row: from the lower end of a range on, and behind a key
 abbrev pub start_of : ℕ → Option Value → Option Value → Bound Place
-start_of t lo None = from_low t lo
-start_of t lo (Some after) = if is_above_low lo after then Excluded (place t after) else from_low t lo
+start_of t lo None = first_place t lo
+start_of t lo (Some after) = if is_above_low lo after then Excluded (place t after) else first_place t lo

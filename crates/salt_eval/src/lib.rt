@@ -19,5 +19,6 @@ pub use laws::statements_see_their_reach;
 pub use map_view::{MapView, Tables};
 pub use meets::meets_table;
 pub use reaches::reach;
+pub use scan::key_of;
 pub use statements::execute;
 pub use view::{RowView, ViewErr};

@@ -8,12 +8,12 @@ ghost use Rattle.std.specs.BTreeMap.Range.{entries_between};
 ghost use Rattle.std.specs.declared.ops.Bound.TheVariants.{Unbounded};
 ghost use Rattle.salt_model.specs.Tables.{place_cmp};
 ghost use Rattle.salt_model.specs.Words.{first_of_list};
-ghost use Rattle.salt_eval.specs.Views.{before_table, from_low, start_of, tables_of};
+ghost use Rattle.salt_eval.specs.Views.{start_of, tables_of};
 
 use crate::view::{RowView, ViewErr};
-use salt_model::Place;
+use salt_model::{Place, first_place};
 use salt_ranges::{KeyRange, is_above_low};
-use salt_values::{Key, Row, TryCopy, Value};
+use salt_values::{Key, Row, TryCopy};
 use std::alloc::{AllocError, Global};
 use std::collections::BTreeMap;
 use std::ops::Bound;
@@ -39,33 +39,6 @@ impl<'a> MapView<'a> {
     }
 }
 
-/// Behind the places of the tables before this one. No key is above NULL.
-fn before_table(table: u16) -> Bound<Place>
-    ensures { result ≡ before_table table }
-{
-    if table == 0 {
-        Bound::Unbounded
-    } else {
-        Bound::Excluded(Place {
-            table: table - 1,
-            key: Value::Null,
-        })
-    }
-}
-
-/// From the lower end of a range on.
-fn from_low(alloc: Global, table: u16, lo: &Option<Key>) -> Result<Bound<Place>, AllocError>
-    ensures { IfOk result (λ start. start ≡ from_low table lo.now) }
-{
-    match lo {
-        Some(lo) => {
-            let key = lo.copy(alloc)?;
-            Ok(Bound::Included(Place { table, key }))
-        }
-        None => Ok(before_table(table)),
-    }
-}
-
 /// From the lower end of a range on, and behind a key.
 fn start_of(
     alloc: Global,
@@ -80,7 +53,7 @@ fn start_of(
             let key = after.copy(alloc)?;
             Ok(Bound::Excluded(Place { table, key }))
         }
-        _ => from_low(alloc, table, lo),
+        _ => first_place(alloc, table, lo),
     }
 }
 

@@ -67,15 +67,15 @@ follow_begun u alone = if alone then Nothing else Turn u
 
 pub begin-gives : (now : Line) (kind : UnitKind) (x new : Scheduler) (s : State) (given : Option Event) → StandsForState x s → s.units.line ≡ now →
     given ≡ Some (begins_in s.units kind) → IsWatch new.watch s.watch → AreBooks new.books (units_after (begins_in s.units kind) s.units) →
-    IsCalled kind x.called new.called → new.follow ≡ (if opens_alone now then Nothing else Turn (next_unit s.units)) →
+    IsCalled kind x.called new.called → new.follow ≡ (if opens_alone now kind then Nothing else Turn (next_unit s.units)) →
     AnswersWith s (Some (begins_in s.units kind)) new given
 begin-gives now kind x new s given stands line told watch books called follow =
-    gives IsWatch (begins_in s.units kind) s s.watch x new given stands told (by (opens_alone s.units.line) refl)
+    gives IsWatch (begins_in s.units kind) s s.watch x new given stands told (by (opens_alone s.units.line kind) refl)
   where
-    follows : new.follow ≡ follow_begun (next_unit s.units) (opens_alone s.units.line)
-    follows = follow ∙ ap (λ l. follow_begun (next_unit s.units) (opens_alone l)) (sym line)
+    follows : new.follow ≡ follow_begun (next_unit s.units) (opens_alone s.units.line kind)
+    follows = follow ∙ ap (λ l. follow_begun (next_unit s.units) (opens_alone l kind)) (sym line)
 
-    by : (t : Bool) → opens_alone s.units.line ≡ t → HasCalled new.follow (begins_in s.units kind) s s.watch new
+    by : (t : Bool) → opens_alone s.units.line kind ≡ t → HasCalled new.follow (begins_in s.units kind) s s.watch new
     by true is = at-follow Nothing (begins_in s.units kind) s s.watch new (follows ∙ ap (follow_begun (next_unit s.units)) is) (record {
       served = refl;
       follows = begun-alone (next_unit s.units) kind s.units (units_after (begins_in s.units kind) s.units) is;
@@ -93,10 +93,10 @@ begin-gives now kind x new s given stands line told watch books called follow =
       called = begun-called (Turn (next_unit s.units)) kind x new s refl stands called;
     })
 
-pub follows-alone : (now : Line) (u : Id) (f : Follow) (t : Bool) → t ≡ opens_alone now → t ≡ true → f ≡ Nothing →
-    f ≡ (if opens_alone now then Nothing else Turn u)
-follows-alone now u f t told is at = at ∙ sym (ap (follow_begun u) (sym told ∙ is))
+pub follows-alone : (now : Line) (kind : UnitKind) (u : Id) (f : Follow) (t : Bool) → t ≡ opens_alone now kind → t ≡ true → f ≡ Nothing →
+    f ≡ (if opens_alone now kind then Nothing else Turn u)
+follows-alone now kind u f t told is at = at ∙ sym (ap (follow_begun u) (sym told ∙ is))
 
-pub follows-turn : (now : Line) (u v : Id) (f : Follow) (t : Bool) → t ≡ opens_alone now → t ≡ false → v ≡ u → f ≡ Turn v →
-    f ≡ (if opens_alone now then Nothing else Turn u)
-follows-turn now u v f t told is name at = at ∙ ap Turn name ∙ sym (ap (follow_begun u) (sym told ∙ is))
+pub follows-turn : (now : Line) (kind : UnitKind) (u v : Id) (f : Follow) (t : Bool) → t ≡ opens_alone now kind → t ≡ false → v ≡ u → f ≡ Turn v →
+    f ≡ (if opens_alone now kind then Nothing else Turn u)
+follows-turn now kind u v f t told is name at = at ∙ ap Turn name ∙ sym (ap (follow_begun u) (sym told ∙ is))

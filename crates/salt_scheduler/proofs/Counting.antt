@@ -3,7 +3,7 @@ use Rattle.law_states.proofs.Ascending.{Older, every-in, older-strict, order-asc
 use Rattle.law_states.specs.KeptWaits.{AreDistinct}
 use Rattle.law_states.specs.Members.{Ascends, In}
 use Rattle.law_states.specs.States.{State}
-use Rattle.salt_model.specs.Programs.{accepted_in, released_in, unreleased}
+use Rattle.salt_model.specs.Programs.{accepted_in, over_in, unreleased}
 use Rattle.salt_books.specs.Sound.{IsSoundState}
 use Rattle.law_story.proofs.Ids.{is_same_id-refl, is_same_id-true}
 use Rattle.law_story.proofs.Lists.{has-in, in-cases, in-has, in-order, in-right, into-order}
@@ -64,4 +64,4 @@ ascends-apart (u ∷ us) h = ((λ i. older-strict.not_self u (every-in (Older u)
 -- no program is unreleased twice
 pub programs-apart : (s : State) → IsSoundState s → AreDistinct s.watch.programs
 programs-apart s h =
-    subst AreDistinct h.keeps.watch.programs (ascends-apart (unreleased h.trace) (order-ascends (without (released_in h.trace) (accepted_in h.trace))))
+    subst AreDistinct h.keeps.watch.programs (ascends-apart (unreleased h.trace) (order-ascends (without (over_in h.trace) (accepted_in h.trace))))

@@ -12,13 +12,13 @@ use Rattle.salt_scheduler.specs.declared.follow.Follow.{Follow}
 use Rattle.law_states.specs.Members.{In}
 use Rattle.law_states.specs.OpenUnits.{UnitState}
 use Rattle.law_states.specs.Readings.{first_parts}
-use Rattle.law_states.specs.States.{State, named_by}
+use Rattle.law_states.specs.States.{State, named_by, net_by}
 use Rattle.law_states.specs.Steps.{units_after}
 use Rattle.law_states.specs.UnitFacts.{facts_in}
 use Rattle.law_states.specs.WatchSteps.{WatchBy}
 use Rattle.law_states.specs.Watches.{Watch}
 use Rattle.salt_model.specs.declared.events.Event.{Event}
-use Rattle.salt_model.specs.declared.events.Event.TheVariants.{Began, Defined, Did, Down, Ended, Opened, Ready, Waits}
+use Rattle.salt_model.specs.declared.events.Event.TheVariants.{Began, Defined, Did, Down, Early, Ended, Opened, Ready, Waits}
 use Rattle.salt_values.specs.declared.id.Id.{Id}
 use Rattle.salt_conflicts.specs.declared.watching.Watching.{Watching}
 use Rattle.salt_model.specs.Next.{decision_in}
@@ -44,7 +44,7 @@ in-cases b (x ∷ xs) ys (inr i) = later (in-cases b xs ys i)
     later (inr j) = inr j
 
 abbrev pub state_by : Event → State → Watch → State
-state_by e s w = record { units = units_after e s.units; watch = w; names = named_by e s.names; can_stop = s.can_stop }
+state_by e s w = record { units = units_after e s.units; watch = w; names = named_by e s.names; can_stop = s.can_stop; over_net = s.over_net; net = net_by e s.units s.net }
 
 -- an event leaves the programs that have still to turn
 pub to-go-stays : (e : Event) (s : UnitState) → is_served e ≡ true → (units_after e s).to_go ≡ s.to_go
@@ -56,6 +56,7 @@ to-go-stays (Defined n text) s h = refl
 to-go-stays (Down why) s h = cc
 to-go-stays (Opened boot n) s h = cc
 to-go-stays Ready s h = cc
+to-go-stays (Early bs) s h = cc
 to-go-stays e s h = refl
 
 pub line-stays : (e : Event) (s : UnitState) → (units_after e s).line ≡ s.line
@@ -67,6 +68,7 @@ line-stays (Defined n text) s = refl
 line-stays (Down why) s = refl
 line-stays (Opened boot n) s = refl
 line-stays Ready s = refl
+line-stays (Early bs) s = refl
 line-stays e s = refl
 
 turns-on : (e : Event) (s : UnitState) → is_served e ≡ true → IsTurning s → IsTurning (units_after e s)
@@ -89,7 +91,7 @@ pub done : (watched : Watching → Watch → Type 0) (e : Event) (s : State) (w 
     HasCalled new.follow e s w new → HasDoneEvent new e s (state_by e s w)
 done watched e s w x new stands h = record {
   served = h.served;
-  after = record { units = refl; watch = h.watch; names = λ b. refl; can_stop = refl };
+  after = record { units = refl; watch = h.watch; names = λ b. refl; can_stop = refl; over_net = refl; net = λ shape. refl };
   behind = record {
     books = h.books;
     watch = h.watched;

@@ -11,13 +11,13 @@ use Rattle.std.proofs.Common.{ap}
 use Rattle.std.specs.Prelude.{List, None, Some, [], ◌∷◌, ◌≡◌}
 
 pub facts-did : (s : UnitState) (u : Id) (st : Statement) (a : Answer) (o : OpenUnit) → unit_named u s.units ≡ Some o →
-    facts_in s (Did u st a) ≡ record { kind = Some o.kind; reach = reach_under s.kept o st; changes = []; asks = [] }
+    facts_in s (Did u st a) ≡ record { kind = Some o.kind; reach = reach_under s.kept o st; changes = []; asks = []; cover = [] }
 facts-did s u st a o at = ap (facts_of s (Did u st a)) at
 
 pub facts-ended : (s : UnitState) (u : Id) (end : End) (o : OpenUnit) → unit_named u s.units ≡ Some o →
-    facts_in s (Ended u end) ≡ record { kind = Some o.kind; reach = None; changes = o.changes; asks = [] }
+    facts_in s (Ended u end) ≡ record { kind = Some o.kind; reach = None; changes = o.changes; asks = []; cover = [] }
 facts-ended s u end o at = ap (facts_of s (Ended u end)) at
 
 pub facts-waits : (s : UnitState) (u : Id) (owners : List Owner) (o : OpenUnit) → unit_named u s.units ≡ Some o →
-    facts_in s (Waits u owners) ≡ record { kind = Some o.kind; reach = None; changes = []; asks = asker_in s o ∷ [] }
+    facts_in s (Waits u owners) ≡ record { kind = Some o.kind; reach = None; changes = []; asks = asker_in s o ∷ []; cover = [] }
 facts-waits s u owners o at = ap (facts_of s (Waits u owners)) at

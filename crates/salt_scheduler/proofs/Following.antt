@@ -10,7 +10,7 @@ use Rattle.law_states.specs.States.{State}
 use Rattle.law_states.specs.Follows.{said_in, unit_of}
 use Rattle.salt_model.specs.Phases.{Serving}
 use Rattle.salt_model.specs.declared.events.Event.{Event}
-use Rattle.salt_model.specs.declared.events.Event.TheVariants.{Down, Opened, Ready}
+use Rattle.salt_model.specs.declared.events.Event.TheVariants.{Down, Early, Opened, Ready}
 use Rattle.std.proofs.Common.{ap, ◌∙◌}
 use Rattle.std.specs.Option.{option_or}
 use Rattle.std.specs.Prelude.{Option, false, refl, true, ◌≡◌}
@@ -26,6 +26,7 @@ pub goes-on : (e : Event) (f : Follow) (old new : State) (x : Reading new.watch)
 goes-on (Down why) f old new x flight h p g = cc
 goes-on (Opened boot n) f old new x flight h p g = cc
 goes-on Ready f old new x flight h p g = cc
+goes-on (Early bs) f old new x flight h p g = cc
 goes-on e f old new x flight h p g =
     ap (λ q. said_in q new.units (beside_by new x) e (unit_of e old.units new.units)) p
     ∙ ap (λ o. option_or o (settles_in new.units (beside_by new x))) (g (beside_by new x))

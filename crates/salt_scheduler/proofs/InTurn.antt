@@ -24,27 +24,29 @@ use Rattle.salt_values.specs.declared.id.Id.{Id}
 use Rattle.std.proofs.Common.{ap, ◌∙◌}
 use Rattle.std.specs.Prelude.{None, Option, Some, false, refl, true, ℕ, ◌≡◌}
 
-pub begun-alone : (u : Id) (kind : UnitKind) (old new : UnitState) → opens_alone new.line ≡ true → FollowsOn Nothing (Began u kind) old new
+pub begun-alone : (u : Id) (kind : UnitKind) (old new : UnitState) → opens_alone new.line kind ≡ true → FollowsOn Nothing (Began u kind) old new
 begun-alone u kind old new h x = by (unit_named u new.units)
   where
-    none : (clash : Clashes) (o : OpenUnit) (line : Line) → opens_alone line ≡ true → after_began_in new clash o line ≡ None
-    none clash o (Session t Begin) h = refl
-    none clash o line h = cc
+    none : (clash : Clashes) (o : OpenUnit) (line : Line) (k : UnitKind) → opens_alone line k ≡ true → after_began_in new clash o line k ≡ None
+    none clash o (Session t Begin) (Acid z) h = refl
+    none clash o (Session t Begin) k h = cc
+    none clash o line k h = cc
 
     by : (o : Option OpenUnit) → follow_in new x (Began u kind) o ≡ None
     by None = refl
-    by (Some o) = none x.clash o new.line h
+    by (Some o) = none x.clash o new.line kind h
 
-pub begun-turns : (u : Id) (kind : UnitKind) (old new : UnitState) → opens_alone new.line ≡ false → FollowsOn (Turn u) (Began u kind) old new
+pub begun-turns : (u : Id) (kind : UnitKind) (old new : UnitState) → opens_alone new.line kind ≡ false → FollowsOn (Turn u) (Began u kind) old new
 begun-turns u kind old new h x = by (unit_named u new.units)
   where
-    turns : (clash : Clashes) (o : OpenUnit) (line : Line) → opens_alone line ≡ false → after_began_in new clash o line ≡ turn_in new clash o
-    turns clash o (Session t Begin) h = cc
-    turns clash o line h = refl
+    turns : (clash : Clashes) (o : OpenUnit) (line : Line) (k : UnitKind) → opens_alone line k ≡ false → after_began_in new clash o line k ≡ turn_in new clash o
+    turns clash o (Session t Begin) (Acid z) h = cc
+    turns clash o (Session t Begin) k h = refl
+    turns clash o line k h = refl
 
     by : (o : Option OpenUnit) → follow_in new x (Began u kind) o ≡ turn_of_in new x.clash o
     by None = refl
-    by (Some o) = turns x.clash o new.line h
+    by (Some o) = turns x.clash o new.line kind h
 
 pub did : (u : Id) (st : Statement) (answer : Answer) (old new : UnitState) → FollowsOn (Done u (cause_in answer)) (Did u st answer) old new
 did u st answer old new x = by answer (unit_named u new.units)

@@ -11,14 +11,18 @@ use Rattle.law_states.specs.Told.{Beside, finishes_in, turn_of_in}
 use Rattle.salt_model.specs.Turns.{releases}
 use Rattle.salt_model.specs.declared.events.Event.{Event}
 use Rattle.salt_model.specs.declared.events.Event.TheVariants.{Accepted}
-use Rattle.salt_model.specs.declared.events.UnitKind.TheVariants.{First, Later}
+use Rattle.salt_model.specs.declared.events.UnitKind.TheVariants.{Acid, First, Later}
 use Rattle.salt_model.specs.declared.events.UnitKind.{UnitKind}
 use Rattle.std.specs.Prelude.{Bool, None, Option, Some, false, true, ◌≡◌}
 
--- the line lets a unit begin without a turn
-abbrev pub opens_alone : Line → Bool
-opens_alone (Session t Begin) = true
-opens_alone line = false
+-- the line lets a unit of this kind begin without a turn
+abbrev pub is_acid : UnitKind → Bool
+is_acid (Acid t) = true
+is_acid kind = false
+
+abbrev pub opens_alone : Line → UnitKind → Bool
+opens_alone (Session t Begin) kind = is_acid kind
+opens_alone line kind = false
 
 -- what it stands for, by the state behind the event
 abbrev pub event_of : Follow → UnitState → Beside → Option Event

@@ -1,7 +1,7 @@
 //! What follows an event in its turn.
 
 ghost use Rattle.std.specs.Prelude.{◌≡◌};
-ghost use Rattle.salt_scheduler.specs.Follows.{behind_commit, opens_alone};
+ghost use Rattle.salt_scheduler.specs.Follows.{behind_commit, is_acid, opens_alone};
 
 use salt_ast::{Act, Line};
 use salt_model::{Cause, UnitKind};
@@ -24,13 +24,23 @@ pub enum Follow {
     Release(Id),
 }
 
-/// Whether a line lets a unit begin without a turn.
-pub fn opens_alone(line: &Line) -> bool
-    ensures { result ≡ opens_alone line.now }
+/// Whether a unit of this kind is a session's without a program.
+fn is_acid(kind: &UnitKind) -> bool
+    ensures { result ≡ is_acid kind.now }
+{
+    match kind {
+        UnitKind::Acid { .. } => true,
+        _ => false,
+    }
+}
+
+/// Whether a line lets a unit of this kind begin without a turn: its own, and not that of a program which goes on behind the line.
+pub fn opens_alone(line: &Line, kind: &UnitKind) -> bool
+    ensures { result ≡ opens_alone line.now kind.now }
 {
     match line {
         Line::Session { act, .. } => match act {
-            Act::Begin => true,
+            Act::Begin => is_acid(kind),
             _ => false,
         },
         _ => false,

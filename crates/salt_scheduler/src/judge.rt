@@ -93,8 +93,11 @@ pub fn line_refusal(
         Line::Program(def) => program_refusal(schema, catalogue, def),
         Line::Session { act, .. } => act_refusal(alloc, schema, catalogue, unreleased, act),
         Line::Go(base) => go_refusal(alloc, conts, *base),
-        Line::Nothing | Line::GoAll | Line::ShowLocks | Line::ShowBases | Line::Crash(_) => Ok(
-            None,
-        ),
+        Line::Nothing
+        | Line::GoAll
+        | Line::ShowLocks
+        | Line::ShowBases
+        | Line::Crash(_)
+        | Line::Net(_) => Ok(None),
     }
 }

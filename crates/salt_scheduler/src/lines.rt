@@ -152,15 +152,16 @@ impl Scheduler {
         }
     }
 
-    /// A line is refused.
+    /// A line is refused: no turn is owed behind it.
     pub fn refuse(&mut self, line: &Line, refusal: Refusal) -> Event
         ensures { DoesNext (λ s r. Some (Event.Refused refusal)) line.now self.old self.new result }
     {
+        self.books.refuse();
         self.follow = Follow::Nothing;
         Event::Refused(refusal)
     }
 
-    /// Stops have been armed.
+    /// Stops have been armed, or what befalls messages.
     pub fn armed(&mut self, line: &Line, pairs: Pairs) -> Event
         ensures { DoesNext (λ s r. Some (Event.Armed pairs)) line.now self.old self.new result }
     {
@@ -183,6 +184,7 @@ impl Scheduler {
             Line::Nothing => Ok(Coming::Nothing),
             Line::GoAll => Ok(Coming::Nothing),
             Line::Crash(pairs) => Ok(Coming::Arm(Items::from_slice(self.alloc, pairs.as_slice())?)),
+            Line::Net(pairs) => Ok(Coming::Arm(Items::from_slice(self.alloc, pairs.as_slice())?)),
         }
     }
 }

@@ -8,8 +8,10 @@ ghost use Rattle.salt_scheduler.specs.Refusals.{HasFewParts, told};
 ghost use Rattle.law_states.specs.KeptWaits.{AreDistinct};
 ghost use Rattle.law_states.specs.Nexts.{refusal_of};
 ghost use Rattle.law_states.specs.Readings.{under_way_of};
-ghost use Rattle.law_states.specs.Refused.{busy_in, known_in, wrong_for, wrong_in};
+ghost use Rattle.law_states.specs.OpenUnits.{unit_of_session};
+ghost use Rattle.law_states.specs.Refused.{busy_in, held_back_in, known_in, wrong_for, wrong_in};
 ghost use Rattle.law_states.specs.States.{State};
+ghost use Rattle.salt_model.specs.Programs.{shares};
 ghost use Rattle.salt_model.specs.Refusals.{defines, has_block};
 ghost use Rattle.salt_model.specs.Trace.{Tree};
 
@@ -19,6 +21,7 @@ use crate::scheduler::Scheduler;
 use salt_ast::{Act, Line};
 use salt_books::Held;
 use salt_model::{Refusal, UnitKind};
+use salt_values::{Id, has_id};
 use std::alloc::AllocError;
 
 /// Whether a unit of this kind has the statements of a program or part.
@@ -72,23 +75,58 @@ fn defines(line: &Line) -> bool
     }
 }
 
+/// Whether some of these names is among the others.
+fn shares(ids: &[Id], others: &[Id]) -> bool
+    ensures { result ≡ shares ids.now others.now }
+{
+    ids.iter().any(|id| has_id(others, *id))
+}
+
 impl Scheduler {
     ghost use Rattle.salt_scheduler.specs.Standing.{StandsForState};
 
-    /// Whether a session, a program or the disks are in no state for a line.
-    fn is_wrong(&self, line: &Line, can_stop: bool) -> bool
-        ensures { (s : State) → StandsForState self.now s → s.can_stop ≡ can_stop → result ≡ wrong_in s.units (under_way_of s) line.now }
+    /// Whether a program that the last early opening names is not released.
+    fn covers(&self) -> bool
+        ensures { (s : State) → StandsForState self.now s → result ≡ (under_way_of s).covers }
+    {
+        shares(self.books.named(), self.watch.programs())
+    }
+
+    /// Whether an act is the call of a BASE program, for which it is too early.
+    fn is_held_back(&self, act: &Act) -> bool
+        ensures { (s : State) → StandsForState self.now s → result ≡ held_back_in s.units (under_way_of s) act.now }
+    {
+        match act {
+            Act::Call { program, .. } => self.covers() && self.books.known().is_base(program),
+            _ => false,
+        }
+    }
+
+    /// Whether an act does not fit how its session stands.
+    fn is_wrong_for(&self, session: u8, act: &Act) -> bool
+        ensures { (s : State) → StandsForState self.now s → result ≡ wrong_for (unit_of_session session s.units) act.now }
+    {
+        match self.books.unit_of_session(session) {
+            Some(held) => is_wrong_in(held, act),
+            None => is_wrong_outside(act),
+        }
+    }
+
+    /// Whether a session, a program, the disks or the messages are in no state for a line.
+    fn is_wrong(&self, line: &Line, can_stop: bool, over_net: bool) -> bool
+        ensures { (s : State) → StandsForState self.now s → s.can_stop ≡ can_stop → s.over_net ≡ over_net
+            → result ≡ wrong_in s.units (under_way_of s) line.now }
     {
         match line {
-            Line::Session { session, act } => match self.books.unit_of_session(*session) {
-                Some(held) => is_wrong_in(held, act),
-                None => is_wrong_outside(act),
-            },
+            Line::Session { session, act } => {
+                self.is_wrong_for(*session, act) || self.is_held_back(act)
+            }
             Line::Go(base) => match self.books.unit_of_program(*base) {
                 Some(held) => held.waiting,
                 None => false,
             },
             Line::Crash(_) => !can_stop,
+            Line::Net(_) => !over_net,
             _ => false,
         }
     }
@@ -126,11 +164,11 @@ impl Scheduler {
         )
     }
 
-    /// What is refused of a line without a fault, by the state of sessions, programs and disks.
-    fn refusal_by_state(&self, line: &Line, can_stop: bool) -> Option<Refusal>
-        ensures { (s : State) → StandsForState self.now s → s.can_stop ≡ can_stop → result ≡ refusal_by_state s line.now }
+    /// What is refused of a line without a fault, by the state of sessions, programs, disks and messages.
+    fn refusal_by_state(&self, line: &Line, can_stop: bool, over_net: bool) -> Option<Refusal>
+        ensures { (s : State) → StandsForState self.now s → s.can_stop ≡ can_stop → s.over_net ≡ over_net → result ≡ refusal_by_state s line.now }
     {
-        if self.is_wrong(line, can_stop) {
+        if self.is_wrong(line, can_stop, over_net) {
             Some(Refusal::State)
         } else if defines(line) && self.is_busy() {
             Some(Refusal::Busy)
@@ -139,14 +177,21 @@ impl Scheduler {
         }
     }
 
-    /// What is refused of a line that passes no limit of its text, where devices can be stopped or not.
-    pub fn refusal(&self, line: &Line, can_stop: bool) -> Result<Option<Refusal>, AllocError>
+    /// What is refused of a line that passes no limit of its text, where devices can be stopped or not, and commits go over messages
+    /// or not.
+    pub fn refusal(
+        &self,
+        line: &Line,
+        can_stop: bool,
+        over_net: bool,
+    ) -> Result<Option<Refusal>, AllocError>
         requires { HasFewParts line.now }
-        ensures { IfOk result (λ refusal. (s : State) → StandsForState self.now s → s.can_stop ≡ can_stop → AreDistinct s.watch.programs → refusal ≡ refusal_of s (Tree line.now)) }
+        ensures { IfOk result (λ refusal. (s : State) → StandsForState self.now s → s.can_stop ≡ can_stop → s.over_net ≡ over_net
+            → AreDistinct s.watch.programs → refusal ≡ refusal_of s (Tree line.now)) }
     {
         match self.fault(line)? {
             Some(refusal) => Ok(Some(refusal)),
-            None => Ok(self.refusal_by_state(line, can_stop)),
+            None => Ok(self.refusal_by_state(line, can_stop, over_net)),
         }
     }
 }

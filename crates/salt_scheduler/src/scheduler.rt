@@ -90,14 +90,14 @@ impl Scheduler {
         self.books.ask(line)
     }
 
-    /// The program to which `go all` turns next.
+    /// The program that has the next turn: one of those of `go all`, and then the one owed behind the line.
     pub fn next_turn(&self) -> Option<Id>
         ensures { (s : State) → StandsForState self.now s → result ≡ next_turn_of s }
     {
         self.books.next_turn()
     }
 
-    /// `go all` turns to the program that is next.
+    /// The program that is next has its turn.
     pub fn turn(&mut self, base: Id) -> Result<(), AllocError>
         ensures { OnOk result ((s : State) → StandsForState self.old s → next_turn_of s ≡ Some base → StandsForState self.new (turned_to base s)) }
     {

@@ -35,8 +35,9 @@ impl Scheduler {
     {
         let told = copy_kind(self.alloc, &kind)?;
         note_call(&mut self.called, &kind)?;
+        let alone = opens_alone(line, &kind);
         let unit = self.books.begin(kind, is_statement_line(line))?;
-        self.follow = if opens_alone(line) {
+        self.follow = if alone {
             Follow::Nothing
         } else {
             Follow::Turn(unit)

@@ -1,7 +1,7 @@
 use Rattle.salt_deps.proofs.Reading.{IsReading, goes-on}
 use Rattle.salt_deps.proofs.Spanning.{begins-between, forward}
 use Rattle.salt_deps.proofs.writers.writers_read.Goals as goal
-use Rattle.salt_deps.specs.Ends.{first_place}
+use Rattle.salt_model.specs.Bounds.{first_place}
 use Rattle.salt_model.specs.Tables.{place_cmp}
 use Rattle.salt_values.specs.declared.id.Id.{Id}
 use Rattle.std.proofs.Common.{List, ap, is_gt, false, subst, sym, ◌≡◌, ◌∙◌}

@@ -35,4 +35,7 @@ returns-clause-state c = λ s o answer h rises named loaded.
       unit_count = h.unit_count;
       base_count = h.base_count;
       to_go = h.to_go;
+      early = h.early;
+      named = h.named;
+      owes = h.owes;
     }

@@ -7,4 +7,7 @@ returns c = λ s h. record {
   unit_count = h.unit_count;
   base_count = h.base_count;
   to_go = c.in_ok-bases.ensures s h;
+  early = h.early;
+  named = h.named;
+  owes = c.does_something-self.ensures;
 }

@@ -36,4 +36,7 @@ returns-clause-state c = λ s h single.
       unit_count = seq;
       base_count = c.in_ok-base_count.ensures ∙ ap (λ n. if is_some (program_begun c.args.kind) then n + 1 else n) h.base_count;
       to_go = h.to_go;
+      early = h.early;
+      named = h.named;
+      owes = h.owes;
     }

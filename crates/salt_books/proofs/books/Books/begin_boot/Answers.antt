@@ -8,4 +8,7 @@ returns c = λ s decisions h. record {
   unit_count = refl;
   base_count = refl;
   to_go = h.to_go;
+  early = h.early;
+  named = h.named;
+  owes = h.owes;
 }

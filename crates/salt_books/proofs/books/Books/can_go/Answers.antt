@@ -1,5 +1,5 @@
 use Rattle.salt_books.proofs.books.Books.can_go.Goals as goal
-use Rattle.law_states.specs.Told.{is_not_waiting}
+use Rattle.law_states.specs.OpenUnits.{is_not_waiting}
 use Rattle.std.proofs.Common.{◌∙◌}
 use Rattle.std.specs.Prelude.{is_some, ◌&&◌}
 

@@ -18,4 +18,7 @@ returns c = λ s end h rises free.
       unit_count = h.unit_count;
       base_count = h.base_count;
       to_go = h.to_go;
+      early = h.early;
+      named = h.named;
+      owes = h.owes;
     }

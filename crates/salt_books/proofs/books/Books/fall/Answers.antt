@@ -1,4 +1,5 @@
 use Rattle.salt_books.proofs.books.Books.fall.Goals as goal
+use Rattle.std.proofs.Common.{refl}
 
 pub returns : goal.returns
 returns c = λ s why h. record {
@@ -7,4 +8,7 @@ returns c = λ s why h. record {
   unit_count = h.unit_count;
   base_count = h.base_count;
   to_go = c.clear.ensures.items;
+  early = h.early;
+  named = h.named;
+  owes = refl;
 }

@@ -1,4 +1,4 @@
-use Rattle.salt_ast.specs.declared.lines.Line.TheVariants.{Crash, Go, GoAll, Nothing, Program, Session, ShowBases, ShowLocks, Table}
+use Rattle.salt_ast.specs.declared.lines.Line.TheVariants.{Crash, Go, GoAll, Net, Nothing, Program, Session, ShowBases, ShowLocks, Table}
 use Rattle.salt_ast.specs.declared.lines.Line.{Line}
 use Rattle.salt_books.proofs.books.Books.to_go_by.Goals as goal
 use Rattle.law_states.specs.Steps.{to_go_by}
@@ -17,6 +17,7 @@ to-none (Go b) k h = refl
 to-none ShowLocks k h = refl
 to-none ShowBases k h = refl
 to-none (Crash pairs) k h = refl
+to-none (Net pairs) k h = refl
 
 pub returns-in_default : goal.returns-in_default
 returns-in_default c = λ s h. c.new.ensures.items ∙ to-none c.args.line.now s.kept c.in_default.not-GoAll

@@ -9,4 +9,7 @@ returns c = λ s h. record {
   unit_count = h.unit_count;
   base_count = h.base_count;
   to_go = c.in_ok-left.ensures ∙ ap (ids_after c.args.base) (c.as_slice.ensures.value ∙ h.to_go);
+  early = h.early;
+  named = h.named;
+  owes = c.still_owes-owes.ensures s h;
 }

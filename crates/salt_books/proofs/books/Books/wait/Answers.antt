@@ -16,4 +16,7 @@ returns c = λ s owners h rises same.
       unit_count = h.unit_count;
       base_count = h.base_count;
       to_go = h.to_go;
+      early = h.early;
+      named = h.named;
+      owes = h.owes;
     }

@@ -5,7 +5,7 @@ use Rattle.salt_model.specs.declared.events.Event.TheVariants.{Began}
 use Rattle.salt_model.specs.Turns.{is_statement_line}
 use Rattle.salt_scheduler.proofs.BeginDone.{begin-gives, follows-alone, follows-turn}
 use Rattle.std.proofs.Common.{ap, sym, ◌∙◌}
-use Rattle.salt_scheduler.proofs.scheduler.Scheduler.begin.Goals.{else-opens_alone, then-opens_alone}
+use Rattle.salt_scheduler.proofs.scheduler.Scheduler.begin.Goals.{else-alone, then-alone}
 
 pub returns : goal.returns
 returns c = λ s r stands serves.
@@ -15,7 +15,7 @@ returns c = λ s r stands serves.
     stands.watch
     (c.in_ok-unit.ensures.state s.units stands.books (c.is_statement_line.ensures ∙ ap is_statement_line (sym serves.line)))
     c.in_ok-note_call.ensures
-    (elim c.if-opens_alone.branch [
-      | then-opens_alone w ↦ follows-alone c.args.line.now (next_unit s.units) c.if-opens_alone.self c.opens_alone.result c.opens_alone.ensures w.if-opens_alone.true w.self-is
-      | else-opens_alone w ↦ follows-turn c.args.line.now (next_unit s.units) c.in_ok-unit.unit c.if-opens_alone.self c.opens_alone.result c.opens_alone.ensures w.if-opens_alone.false name w.self-is
+    (elim c.if-alone.branch [
+      | then-alone w ↦ follows-alone c.args.line.now c.args.kind (next_unit s.units) c.if-alone.self c.opens_alone-alone.result c.opens_alone-alone.ensures w.if-alone.true w.self-is
+      | else-alone w ↦ follows-turn c.args.line.now c.args.kind (next_unit s.units) c.in_ok-unit.unit c.if-alone.self c.opens_alone-alone.result c.opens_alone-alone.ensures w.if-alone.false name w.self-is
     ])

@@ -1,0 +1,14 @@
+use Rattle.salt_books.proofs.books.Books.refuse.Goals as goal
+use Rattle.std.proofs.Common.{refl}
+
+pub returns : goal.returns
+returns c = λ s refusal h. record {
+  known = h.known;
+  units = h.units;
+  unit_count = h.unit_count;
+  base_count = h.base_count;
+  to_go = h.to_go;
+  early = h.early;
+  named = h.named;
+  owes = refl;
+}
