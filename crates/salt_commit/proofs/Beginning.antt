@@ -4,12 +4,13 @@ use Rattle.salt_bytes.specs.Log.{entries_in}
 use Rattle.salt_commit.proofs.Opening.{same_shape_is}
 use Rattle.salt_commit.proofs.Pageless.{no_names}
 use Rattle.salt_commit.proofs.Standing.{if_some, make_some, part_at}
-use Rattle.salt_commit.specs.Openings.{IsPartLog, IsStoreLog, LeavesPages, OpensStore}
+use Rattle.salt_commit.specs.Openings.{LeavesPages, OpensStore}
+use Rattle.salt_stands.specs.LogDevices.{IsCoordinatorLog, IsPartLog, IsStoreLog}
 use Rattle.salt_commit.specs.Stores.{ArePartitions, IsSound, decided_by, reading}
 use Rattle.salt_commit.specs.declared.store.Store.{Store}
 use Rattle.salt_decisions.proofs.Begun.{blank_a, blank_b, both_made_blank, first_log}
 use Rattle.salt_decisions.specs.Errors.{disk_err_in, open_err, open_err_of}
-use Rattle.salt_decisions.specs.Opened.{IsBlankImage, IsFirstImage, IsOfCoordinator, IsOpened, IsStood, begun, first_payload}
+use Rattle.salt_decisions.specs.Opened.{IsBlankImage, IsFirstImage, IsOpened, IsStood, begun, first_payload}
 use Rattle.salt_decisions.specs.declared.error.OpenErr.{OpenErr}
 use Rattle.salt_decisions.specs.declared.kept.Kept.{Kept}
 use Rattle.salt_disk.proofs.CallAfterCall.{keeps_on, keeps_wider}
@@ -90,7 +91,7 @@ still_blank d b n kept blank = pair_same coordinator_generation coordinator_in 0
     (ap entries_in (kept 0 (no_part_log n 0 (omega arith))).bytes) (ap entries_in (kept 1 (no_part_log n 1 (omega arith))).bytes) ∙ blank
 
 -- the coordinator's devices are blank, or log A has its header
-module _ {D : Type 0} (r : Reading D) (asked : Shape) (parts : IsParts asked.parts) (d e : View) (answer : Option DiskErr) (keeps : KeepsBut IsOfCoordinator d e answer) (ps : List Partition) (size : length ps ≡ asked.parts)
+module _ {D : Type 0} (r : Reading D) (asked : Shape) (parts : IsParts asked.parts) (d e : View) (answer : Option DiskErr) (keeps : KeepsBut IsCoordinatorLog d e answer) (ps : List Partition) (size : length ps ≡ asked.parts)
     (are : ArePartitions d ps (first_view 2) (λ p. [])) (told : IsTrue d.told) (known : 1 < d.count) where
   -- the partitions stand as they were made
   part_left : (image : ℕ → List ℕ) → IsImage e image → (p : ℕ) → p < asked.parts → PartStands r (first_coordinator asked 3) (logs_of image) image p (first_view 2 p)
@@ -106,7 +107,7 @@ module _ {D : Type 0} (r : Reading D) (asked : Shape) (parts : IsParts asked.par
       one : (q : Partition) × IsPartition d q p (first_view 2 p) []
       one = part_at d ps (first_view 2) (λ p. []) are p (omega (arith, low, size))
 
-      no_coordinator : (dev : ℕ) → 1 < dev → IsOfCoordinator dev → ⊥
+      no_coordinator : (dev : ℕ) → 1 < dev → IsCoordinatorLog dev → ⊥
       no_coordinator dev h (inl is) = omega (arith, h, is)
       no_coordinator dev h (inr is) = omega (arith, h, is)
 
@@ -168,7 +169,7 @@ same_parts : (s t : Shape) → is_same_shape s t ≡ true → s.parts ≡ t.part
 same_parts s t e = (Decides-eqb s.parts t.parts).0 (left (s.parts == t.parts) (is_same_kind s.kind t.kind) e)
 
 -- AFTER OK
-pub begins : (asked : Shape) (d b e : View) (x : Store) (kept : Kept) → KeepsBut (IsPartLog asked.parts) d b None → KeepsBut IsOfCoordinator b e None → (IsTrue d.told → coordinator_pair (logs_of d.bytes) ≡ BothBlank)
+pub begins : (asked : Shape) (d b e : View) (x : Store) (kept : Kept) → KeepsBut (IsPartLog asked.parts) d b None → KeepsBut IsCoordinatorLog b e None → (IsTrue d.told → coordinator_pair (logs_of d.bytes) ≡ BothBlank)
     → length x.parts.items ≡ asked.parts → ArePartitions b x.parts.items (first_view 2) (λ p. []) → IsOpened b e asked x.decisions kept → OpensStore d e asked x kept
 begins asked d b e x kept first second blank size are opened = record {
   which = opened.which;
@@ -216,7 +217,7 @@ begins asked d b e x kept first second blank size are opened = record {
         applied_any e q p p [] (decided_by own p)
         (partition_kept b e q p (first_view 2 p) [] second.shape (second.kept (part_device p) (no_coordinator (part_device p) (omega arith))) (second.kept (part_device p + 1) (no_coordinator (part_device p + 1) (omega arith))) here)
       where
-        no_coordinator : (dev : ℕ) → 1 < dev → IsOfCoordinator dev → ⊥
+        no_coordinator : (dev : ℕ) → 1 < dev → IsCoordinatorLog dev → ⊥
         no_coordinator dev h (inl e') = omega (arith, h, e')
         no_coordinator dev h (inr e') = omega (arith, h, e')
 
@@ -224,5 +225,5 @@ begins asked d b e x kept first second blank size are opened = record {
 pub wider_parts : (n : ℕ) (d e : View) (answer : Option DiskErr) → KeepsBut (IsPartLog n) d e answer → KeepsBut (IsStoreLog n) d e answer
 wider_parts n d e answer keeps = keeps_wider (IsPartLog n) (IsStoreLog n) d e answer (λ dev t. inr t) keeps
 
-pub wider_opened : (n : ℕ) (d b e : View) (answer : Option DiskErr) → KeepsBut (IsPartLog n) d b None → KeepsBut IsOfCoordinator b e answer → KeepsBut (IsStoreLog n) d e answer
-wider_opened n d b e answer first second = keeps_on (IsStoreLog n) d b e answer (wider_parts n d b None first) (keeps_wider IsOfCoordinator (IsStoreLog n) b e answer (λ dev t. inl t) second)
+pub wider_opened : (n : ℕ) (d b e : View) (answer : Option DiskErr) → KeepsBut (IsPartLog n) d b None → KeepsBut IsCoordinatorLog b e answer → KeepsBut (IsStoreLog n) d e answer
+wider_opened n d b e answer first second = keeps_on (IsStoreLog n) d b e answer (wider_parts n d b None first) (keeps_wider IsCoordinatorLog (IsStoreLog n) b e answer (λ dev t. inl t) second)

@@ -1,12 +1,12 @@
 -- The first n partitions are made.
 use Rattle.salt_commit.proofs.Standing.{if_some, make_some}
-use Rattle.salt_commit.specs.Openings.{HasRoom, IsPartLog}
+use Rattle.salt_commit.specs.Openings.{HasRoom}
+use Rattle.salt_stands.specs.LogDevices.{IsPartLog, IsPartitionLog}
 use Rattle.salt_disk.proofs.CallAfterCall.{cause_on, cause_none, keeps_on, keeps_wider, same_shape}
 use Rattle.salt_disk.specs.Disks.{HasCause, IsSettled, IsUnchanged, KeepsBut, View}
 use Rattle.salt_disk.specs.declared.disks.DiskErr.TheVariants.{Memory}
 use Rattle.salt_disk.specs.declared.disks.DiskErr.{DiskErr}
 use Rattle.salt_partition.proofs.Framed.{partition_kept}
-use Rattle.salt_partition.specs.Openings.{IsLogDevice}
 use Rattle.salt_partition.specs.Partitions.{IsPartition}
 use Rattle.salt_partition.specs.declared.partition.Partition.{Partition}
 use Rattle.salt_stands.specs.FirstOpening.{first_view}
@@ -38,7 +38,7 @@ none_made d = record {
   cause = cause_none d;
 }
 
-other_part : (p q dev : ℕ) → (dev ≡ part_device p) ⊎ (dev ≡ part_device p + 1) → IsLogDevice q dev → p ≡ q
+other_part : (p q dev : ℕ) → (dev ≡ part_device p) ⊎ (dev ≡ part_device p + 1) → IsPartitionLog q dev → p ≡ q
 other_part p q dev (inl a) (inl b) = omega (arith, a, b)
 other_part p q dev (inl a) (inr b) = omega (arith, a, b)
 other_part p q dev (inr a) (inl b) = omega (arith, a, b)
@@ -55,13 +55,13 @@ module _ (d0 d : View) (made : List Partition) (n : ℕ) (so_far : MadeSoFar d0 
     settled_on d0 d (part_device n + 1) (so_far.others.kept (part_device n + 1) (λ t. omega (arith, other_part n t.p (part_device n + 1) (inr refl) t.is, t.low))) (room.settled (part_device n + 1) (omega (arith, room.known n low))),
   )
 
-  module _ (e : View) (answer : Option DiskErr) (others : KeepsBut (IsLogDevice n) d e answer) where
+  module _ (e : View) (answer : Option DiskErr) (others : KeepsBut (IsPartitionLog n) d e answer) where
     pub others_made : (parts : ℕ) → n < parts → KeepsBut (IsPartLog parts) d0 e answer
     others_made parts low = keeps_on (IsPartLog parts) d0 d e answer
         (keeps_wider (IsPartLog n) (IsPartLog parts) d0 d None (λ dev t. record { p = t.p; low = omega (arith, t.low, low); is = t.is }) so_far.others)
-        (keeps_wider (IsLogDevice n) (IsPartLog parts) d e answer (λ dev t. record { p = n; low = low; is = t }) others)
+        (keeps_wider (IsPartitionLog n) (IsPartLog parts) d e answer (λ dev t. record { p = n; low = low; is = t }) others)
 
-  pub one_made : (e : View) (x : Partition) → KeepsBut (IsLogDevice n) d e None → HasCause d e None → IsPartition e x n (first_view 2 n) [] → MadeSoFar d0 e (made ++ x ∷ []) (n + 1)
+  pub one_made : (e : View) (x : Partition) → KeepsBut (IsPartitionLog n) d e None → HasCause d e None → IsPartition e x n (first_view 2 n) [] → MadeSoFar d0 e (made ++ x ∷ []) (n + 1)
   one_made e x others cause is = record {
     size = longer made x ∙ ap (λ k. k + 1) so_far.size;
     each = λ p. at p;

@@ -6,13 +6,14 @@ use Rattle.salt_commit.proofs.Opened.{same_bytes}
 use Rattle.salt_commit.proofs.Pageless.{no_names}
 use Rattle.salt_commit.proofs.Standing as standing
 use Rattle.salt_commit.proofs.Undecided.{decisions_kept}
-use Rattle.salt_commit.specs.Openings.{HasRoom, HasTables, IsFirstFault, IsPartFault, IsSchemaOf, IsSchemaWhere, IsStoreLog, LeavesPages, OpeningFails, OpensAll, OpensStore, PartsRefuse}
+use Rattle.salt_commit.specs.Openings.{HasRoom, HasTables, IsFirstFault, IsPartFault, IsSchemaOf, IsSchemaWhere, LeavesPages, OpeningFails, OpensAll, OpensStore, PartsRefuse}
+use Rattle.salt_stands.specs.LogDevices.{IsCoordinatorLog, IsStoreLog}
 use Rattle.salt_commit.specs.Stores.{decided_by, reading}
 use Rattle.salt_commit.specs.declared.store.Store.{Store}
 use Rattle.salt_decisions.specs.Decisions.{IsDecisions}
 use Rattle.salt_decisions.specs.Kept.{IsKept}
 use Rattle.salt_decisions.specs.declared.decisions.Decisions.{Decisions}
-use Rattle.salt_decisions.specs.Opened.{IsOfCoordinator, IsOpened, IsStood, OpenFails}
+use Rattle.salt_decisions.specs.Opened.{IsOpened, IsStood, OpenFails}
 use Rattle.salt_decisions.specs.declared.error.OpenErr.TheVariants.{Failed, Full, Memory, NotSalt, NumbersSpent, OtherShape, Stopped}
 use Rattle.salt_decisions.specs.declared.error.OpenErr.{OpenErr}
 use Rattle.salt_decisions.specs.declared.kept.Kept.{Kept}
@@ -274,8 +275,8 @@ coordinator_refused schema asked bytes judged Memory f = f
 
 -- DEVICES
 
-pub only_coordinator : (n : ℕ) (d e : View) (answer : Option DiskErr) → KeepsBut IsOfCoordinator d e answer → KeepsBut (IsStoreLog n) d e answer
-only_coordinator n d e answer = keeps_wider IsOfCoordinator (IsStoreLog n) d e answer (λ dev is. inl is)
+pub only_coordinator : (n : ℕ) (d e : View) (answer : Option DiskErr) → KeepsBut IsCoordinatorLog d e answer → KeepsBut (IsStoreLog n) d e answer
+only_coordinator n d e answer = keeps_wider IsCoordinatorLog (IsStoreLog n) d e answer (λ dev is. inl is)
 
 pub nothing : (touched : ℕ → Type 0) (d e : View) (answer : Option DiskErr) → KeepsAll d e answer → KeepsBut touched d e answer
 nothing touched d e answer = keeps_wider (λ _. ⊥) touched d e answer (λ dev none. absurd none)
@@ -285,13 +286,13 @@ both_settled b LogA this other = (this, other)
 both_settled b LogB this other = (other, this)
 
 -- there is room still where the coordinator stands
-pub room_on : (n : ℕ) (d b : View) (x : Decisions) (which : WhichLog) (log : CoordinatorLog) → HasRoom d n → KeepsBut IsOfCoordinator d b None → IsDecisions b x which log → HasRoom b n
+pub room_on : (n : ℕ) (d b : View) (x : Decisions) (which : WhichLog) (log : CoordinatorLog) → HasRoom d n → KeepsBut IsCoordinatorLog d b None → IsDecisions b x which log → HasRoom b n
 room_on n d b x which log room keeps is = record { known = λ p low. omega (arith, room.known p low, keeps.shape.count); settled = λ dev low. at dev (omega (arith, low, keeps.shape.count)) }
   where
     both : IsSettled b 0 × IsSettled b 1
     both = both_settled b which (subst (λ (k : ℕ). IsSettled b k) is.counting.device is.counting.is_log.settled) is.counting.other
 
-    none : (dev : ℕ) → IsOfCoordinator (suc (suc dev)) → ⊥
+    none : (dev : ℕ) → IsCoordinatorLog (suc (suc dev)) → ⊥
     none dev (inl e) = omega (arith, e)
     none dev (inr e) = omega (arith, e)
 

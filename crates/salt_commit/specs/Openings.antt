@@ -6,7 +6,7 @@ use Rattle.salt_bytes.specs.Partition.{spell_partition_header}
 use Rattle.salt_commit.specs.Stores.{ArePartitions, IsStore, decided_by, reading}
 use Rattle.salt_commit.specs.declared.store.Store.{Store}
 use Rattle.salt_decisions.specs.Kept.{IsKept}
-use Rattle.salt_decisions.specs.Opened.{FullAtFirst, IsOfCoordinator, first_payload}
+use Rattle.salt_decisions.specs.Opened.{FullAtFirst, first_payload}
 use Rattle.salt_decisions.specs.declared.error.OpenErr.TheVariants.{Failed, Full, Memory, NotSalt, NumbersSpent, OtherShape, Stopped}
 use Rattle.salt_decisions.specs.declared.error.OpenErr.{OpenErr}
 use Rattle.salt_decisions.specs.declared.kept.Kept.{Kept}
@@ -15,7 +15,7 @@ use Rattle.salt_disk.specs.Disks.{IsSettled, View}
 use Rattle.salt_disk.specs.declared.disks.DiskErr.TheVariants as disk
 use Rattle.salt_model.specs.Kept.{Definition}
 use Rattle.salt_model.specs.Tables.{Tables}
-use Rattle.salt_partition.specs.Openings.{IsLogDevice, has_pages, part_fault}
+use Rattle.salt_partition.specs.Openings.{has_pages, part_fault}
 use Rattle.salt_partition.specs.Partitions.{IsPartition}
 use Rattle.salt_partition.specs.declared.partition.Partition.{Partition}
 use Rattle.salt_stands.specs.Commits.{found_of, parts_of}
@@ -36,16 +36,6 @@ use Rattle.std.specs.Prelude.{Bool, Err, IsTrue, List, Ok, Some, [], false, if�
 pub record HasRoom (d : View) (n : ℕ) : Type 0 where
   pub known : (p : ℕ) → p < n → pages_device p < d.count
   pub settled : (dev : ℕ) → dev < d.count → IsSettled d dev
-
--- the device is a log of one of the first n partitions
-pub record IsPartLog (n dev : ℕ) : Type 0 where
-  pub p : ℕ
-  pub low : p < n
-  pub is : IsLogDevice p dev
-
--- or one of the coordinator's
-abbrev pub IsStoreLog : ℕ → ℕ → Type 0
-IsStoreLog n dev = IsOfCoordinator dev ⊎ IsPartLog n dev
 
 -- a partition under a coordinator whose format is not the first spells NULL
 abbrev pub spells_under : (format : ℕ) → PartView → Bool

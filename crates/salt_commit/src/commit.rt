@@ -22,7 +22,7 @@ use crate::error::StoreErr;
 use crate::prepare::{apply_all, prepare_all};
 use crate::shares::{mask_of, shares_of};
 use crate::store::Store;
-use crate::told::told_changes;
+use salt_codec::told_changes;
 use salt_disk::Disks;
 use salt_place::{PlaceKind, Placement};
 use salt_values::{Changes, Id, Key};

@@ -16,7 +16,6 @@ mod rows;
 mod same;
 mod shares;
 mod store;
-mod told;
 
 pub use error::StoreErr;
 pub use open::open_store;

@@ -22,24 +22,14 @@ ghost use Rattle.std.specs.Result.{result_err};
 use crate::error::StoreErr;
 use crate::store::Store;
 use salt_disk::{DiskErr, Disks};
-use salt_eval::{Tables, meets_table};
+use salt_eval::{Tables, key_of, meets_table};
 use salt_gatelog::rejected;
 use salt_model::{Place, Reach};
 use salt_place::{PlaceKind, Placement};
 use salt_schema::Schema;
-use salt_values::{Key, Row, TryCopy, Value};
+use salt_values::{Key, Row, TryCopy};
 use std::alloc::{AllocError, Global};
 use std::collections::BTreeMap;
-
-/// A row's first value.
-fn key_of(alloc: Global, row: &[Value]) -> Result<Key, AllocError>
-    ensures { IfOk result (λ key. key ≡ key_of row.now) }
-{
-    match row {
-        [first, ..] => first.copy(alloc),
-        [] => Ok(Value::Int(0)),
-    }
-}
 
 /// Puts a row at the place of its key, and gives the key.
 fn put_row(alloc: Global, rows: &mut Tables, table: u16, row: Row) -> Result<Key, AllocError>

@@ -1,7 +1,8 @@
 //! A store is opened, or begun.
 
 ghost use Rattle.salt_bytes.specs.Generations.{BothBlank};
-ghost use Rattle.salt_commit.specs.Openings.{HasRoom, IsNoRefusal, IsPartLog, IsSchemaWhere, IsStoreLog, LeavesPages, OpeningFails, OpensStore, PartPassesLimit, StorePassesLimit};
+ghost use Rattle.salt_commit.specs.Openings.{HasRoom, IsNoRefusal, IsSchemaWhere, LeavesPages, OpeningFails, OpensStore, PartPassesLimit, StorePassesLimit};
+ghost use Rattle.salt_stands.specs.LogDevices.{IsPartLog, IsStoreLog};
 ghost use Rattle.salt_commit.specs.Prepares.{FullWhere};
 ghost use Rattle.salt_commit.specs.Stores.{ArePartitions, reading};
 ghost use Rattle.salt_decisions.specs.Errors.{open_err};

@@ -9,7 +9,7 @@ use Rattle.salt_decisions.proofs.Contents.{log_bytes}
 use Rattle.salt_decisions.proofs.Moving.{moved_by_moves}
 use Rattle.salt_decisions.specs.Decisions.{AreOpen, HoldsLog, IsCounting, IsDecisions}
 use Rattle.salt_decisions.specs.Moves.{moved_by}
-use Rattle.salt_decisions.specs.Opened.{FullAtFirst, IsBlankImage, IsFirstImage, IsOfCoordinator, begun, first_payload}
+use Rattle.salt_decisions.specs.Opened.{FullAtFirst, IsBlankImage, IsFirstImage, begun, first_payload}
 use Rattle.salt_decisions.specs.Pair.{IsCounted}
 use Rattle.salt_decisions.specs.Read.{IsOf}
 use Rattle.salt_decisions.specs.Which.{which_in}
@@ -27,6 +27,7 @@ use Rattle.salt_stands.proofs.Pairs.{pair_same}
 use Rattle.salt_stands.specs.Coordinator.{Logs, coordinator_pair, device_of}
 use Rattle.salt_stands.specs.CoordinatorLog.{CoordinatorLog, coordinator_generation, coordinator_in, heard, told_by_header, with_told}
 use Rattle.salt_stands.specs.FirstOpening.{IsCreated, first_header}
+use Rattle.salt_stands.specs.LogDevices.{IsCoordinatorLog}
 use Rattle.salt_stands.specs.OpenConts.{do_rise}
 use Rattle.salt_stands.specs.Pieces.{other_log}
 use Rattle.salt_stands.specs.Stands.{is_same_kind, is_same_shape, logs_of}
@@ -98,11 +99,11 @@ b_stays d e answer P keeps each = each_shrinks d e 1 P keeps.shape (keeps.images
 pub a_stays : (d e : View) (answer : Option DiskErr) (P : List ℕ → Type 0) → KeepsOthers 1 d e answer → EachImage d 0 P → EachImage e 0 P
 a_stays d e answer P keeps each = each_shrinks d e 0 P keeps.shape (keeps.images 0 zero_one) each
 
-pub keeps_of_a : (d e : View) (answer : Option DiskErr) → KeepsOthers 0 d e answer → KeepsBut IsOfCoordinator d e answer
-keeps_of_a d e answer keeps = keeps_wider (λ dev. dev ≡ 0) IsOfCoordinator d e answer (λ dev is. inl is) keeps
+pub keeps_of_a : (d e : View) (answer : Option DiskErr) → KeepsOthers 0 d e answer → KeepsBut IsCoordinatorLog d e answer
+keeps_of_a d e answer keeps = keeps_wider (λ dev. dev ≡ 0) IsCoordinatorLog d e answer (λ dev is. inl is) keeps
 
-pub keeps_of_b : (d e : View) (answer : Option DiskErr) → KeepsOthers 1 d e answer → KeepsBut IsOfCoordinator d e answer
-keeps_of_b d e answer keeps = keeps_wider (λ dev. dev ≡ 1) IsOfCoordinator d e answer (λ dev is. inr is) keeps
+pub keeps_of_b : (d e : View) (answer : Option DiskErr) → KeepsOthers 1 d e answer → KeepsBut IsCoordinatorLog d e answer
+keeps_of_b d e answer keeps = keeps_wider (λ dev. dev ≡ 1) IsCoordinatorLog d e answer (λ dev is. inr is) keeps
 
 -- THE FIRST HEADER
 
@@ -152,8 +153,8 @@ module _ (asked : Shape) (d0 d1 d2 d3 : View) (other gate gate' : GateLog) (payl
         ∙ ap (λ o. pair_of coordinator_generation (pair.IsRead (begun asked)) (content_of coordinator_in o)) (b_bytes told);
   }
 
-  pub begun_keeps : KeepsBut IsOfCoordinator d0 d3 None
-  begun_keeps = keeps_on IsOfCoordinator d0 d2 d3 None (keeps_on IsOfCoordinator d0 d1 d2 None (keeps_of_b d0 d1 None first) (keeps_of_a d1 d2 None second)) (keeps_of_a d2 d3 None third)
+  pub begun_keeps : KeepsBut IsCoordinatorLog d0 d3 None
+  begun_keeps = keeps_on IsCoordinatorLog d0 d2 d3 None (keeps_on IsCoordinatorLog d0 d1 d2 None (keeps_of_b d0 d1 None first) (keeps_of_a d1 d2 None second)) (keeps_of_a d2 d3 None third)
 
 -- WHERE A DEVICE IS FULL nothing was begun
 

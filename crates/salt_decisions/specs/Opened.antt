@@ -95,10 +95,6 @@ OpenFails asked pair Stopped = pair ≡ BothBlank
 OpenFails asked pair (Full dev) = pair ≡ BothBlank
 OpenFails asked pair Memory = ⊤
 
--- the coordinator's devices
-abbrev pub IsOfCoordinator : ℕ → Type 0
-IsOfCoordinator dev = (dev ≡ 0) ⊎ (dev ≡ 1)
-
 abbrev pub first_payload : Shape → List ℕ
 first_payload asked = spell_header (first_header asked FORMAT)
 

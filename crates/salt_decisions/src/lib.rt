@@ -20,6 +20,7 @@ mod which;
 pub use decisions::Decisions;
 pub use error::OpenErr;
 pub use header::Definition;
+pub use header_payload::FORMAT;
 pub use kept::{Kept, Texts};
 pub use moves::apply_move;
-pub use open::{open_decisions, peek};
+pub use open::{are_spent, open_decisions, peek};

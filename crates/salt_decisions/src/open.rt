@@ -4,7 +4,7 @@ ghost use Rattle.salt_bytes.specs.Generations.{BothBlank, LogA};
 ghost use Rattle.salt_decisions.specs.Decisions.{HoldsLog, IsDecisions};
 ghost use Rattle.salt_decisions.specs.Errors.{open_err};
 ghost use Rattle.salt_decisions.specs.Kept.{IsKept};
-ghost use Rattle.salt_decisions.specs.Opened.{FullAtFirst, IsBlankImage, IsFirstImage, IsOfCoordinator, IsOpened, OpenFails, Peeks, begun, first_payload};
+ghost use Rattle.salt_decisions.specs.Opened.{FullAtFirst, IsBlankImage, IsFirstImage, IsOpened, OpenFails, Peeks, begun, first_payload};
 ghost use Rattle.salt_decisions.specs.Read.{IsOf};
 ghost use Rattle.salt_decisions.specs.Which.{which_in};
 ghost use Rattle.salt_disk.specs.Disks.{EachImage, HasCause, IsSettled, KeepsAll, KeepsBut};
@@ -12,6 +12,7 @@ ghost use Rattle.salt_disk.specs.declared.disks.DiskErr.TheVariants.{Full};
 ghost use Rattle.salt_gatelog.specs.Pair.{pair_err};
 ghost use Rattle.salt_stands.specs.Coordinator.{coordinator_pair, device_of};
 ghost use Rattle.salt_stands.specs.CoordinatorLog.{CoordinatorLog};
+ghost use Rattle.salt_stands.specs.LogDevices.{IsCoordinatorLog};
 ghost use Rattle.salt_stands.specs.Stands.{are_spent, is_same_kind, is_same_shape, logs_of};
 ghost use Rattle.salt_place.specs.Placement.{IsParts};
 ghost use Rattle.salt_place.specs.declared.placement.Shape.{Shape};
@@ -164,7 +165,7 @@ fn begin<D: Disks>(alloc: Global, disks: &mut D, shape: Shape) -> Result<Decisio
     ensures ok { IfOk result (λ made. IsDecisions (D.view disks.new) made LogA (begun shape)) }
     ensures images_a { EachImage (D.view disks.new) 0 (IsFirstImage shape) }
     ensures images_b { EachImage (D.view disks.new) 1 IsBlankImage }
-    ensures others { KeepsBut IsOfCoordinator (D.view disks.old) (D.view disks.new) (result_err result) }
+    ensures others { KeepsBut IsCoordinatorLog (D.view disks.old) (D.view disks.new) (result_err result) }
     ensures cause { HasCause (D.view disks.old) (D.view disks.new) (result_err result) }
     ensures full { IsTrue (D.view disks.old).told → FullAtFirst (D.view disks.new) (first_payload shape) (result_err result) }
     ensures blank { (dev : ℕ) → result ≡ Err (Full dev) → IsTrue (D.view disks.old).told → coordinator_pair (logs_of (D.view disks.new).bytes) ≡ BothBlank }
@@ -204,7 +205,7 @@ fn is_same_shape(left: Shape, right: Shape) -> bool
 }
 
 /// Whether boots or decisions have come to 2^63.
-fn are_spent(boot: u64, decisions: u64) -> bool
+pub fn are_spent(boot: u64, decisions: u64) -> bool
     ensures { result ≡ are_spent boot decisions }
 {
     1 << 63 <= boot || 1 << 63 <= decisions
@@ -227,7 +228,7 @@ pub fn open_decisions<D: Disks>(
     ensures kept { IsTrue (D.view disks.old).told → ¬ (coordinator_pair (logs_of (D.view disks.old).bytes) ≡ BothBlank) → KeepsAll (D.view disks.old) (D.view disks.new) (open_err result) }
     ensures images_a { coordinator_pair (logs_of (D.view disks.old).bytes) ≡ BothBlank → EachImage (D.view disks.new) 0 (IsFirstImage shape) }
     ensures images_b { coordinator_pair (logs_of (D.view disks.old).bytes) ≡ BothBlank → EachImage (D.view disks.new) 1 IsBlankImage }
-    ensures others { KeepsBut IsOfCoordinator (D.view disks.old) (D.view disks.new) (open_err result) }
+    ensures others { KeepsBut IsCoordinatorLog (D.view disks.old) (D.view disks.new) (open_err result) }
     ensures cause { HasCause (D.view disks.old) (D.view disks.new) (open_err result) }
     ensures full { IsTrue (D.view disks.old).told → FullAtFirst (D.view disks.new) (first_payload shape) (open_err result) }
     ensures blank { (dev : ℕ) → result ≡ Err (OpenErr.Full dev) → IsTrue (D.view disks.old).told → coordinator_pair (logs_of (D.view disks.new).bytes) ≡ BothBlank }

@@ -14,7 +14,7 @@ use Rattle.salt_commit.specs.declared.store.Store.{Store}
 use Rattle.salt_decisions.specs.Decisions as decisions
 use Rattle.salt_devices.specs.Filling.{EntryFills, FillsIn, IsTooLong, ShareFills, next_boot, next_decision, next_definition}
 use Rattle.salt_devices.specs.Holding.{IsHeld}
-use Rattle.salt_devices.specs.declared.held.TheConstants.{FORMAT}
+use Rattle.salt_decisions.specs.declared.header_payload.TheConstants.{FORMAT}
 use Rattle.salt_disk.specs.Disks.{View}
 use Rattle.salt_gatelog.proofs.Bytes.{entries_in-closed}
 use Rattle.salt_gatelog.specs.Log as gates

@@ -2,41 +2,30 @@
 use Rattle.salt_bytes.specs.Generations.{LogA, LogB, WhichLog}
 use Rattle.salt_commit.proofs.Standing.{if_some}
 use Rattle.salt_commit.specs.Commits.{IsCommitLog, shares_in}
-use Rattle.salt_commit.specs.Openings.{IsStoreLog}
+use Rattle.salt_stands.specs.LogDevices.{IsCoordinatorLog, IsPartitionLog, IsStoreLog}
 use Rattle.salt_commit.specs.Prepares.{IsLogOfShares}
 use Rattle.salt_commit.specs.Stores.{coordinator_device, decided_by}
 use Rattle.salt_commit.specs.declared.store.Store.{Store}
-use Rattle.salt_decisions.specs.Opened.{IsOfCoordinator}
 use Rattle.salt_devices.specs.Holding.{IsHeld}
 use Rattle.salt_disk.proofs.CallAfterCall.{keeps_wider, same_shape, shape_goes_on}
 use Rattle.salt_disk.specs.Disks.{AreUnchanged, IsRestarted, KeepsAll, KeepsBut, KeepsOthers, View}
 use Rattle.salt_disk.specs.declared.disks.DiskErr.{DiskErr}
 use Rattle.salt_model.specs.Kept.{Kept}
-use Rattle.salt_partition.specs.Openings.{IsLogDevice}
 use Rattle.salt_partition.specs.Partitions.{IsPartition}
 use Rattle.salt_stands.specs.Coordinator.{device_of}
 use Rattle.salt_stands.specs.Partition.{part_device}
-use Rattle.salt_storage.specs.Staying.{StaysWithin, devices_of}
+use Rattle.salt_storage.specs.Staying.{StaysWithin}
 use Rattle.salt_values.specs.declared.change.Change.{Change}
 use Rattle.salt_place.specs.declared.placement.Shape.{Shape}
-use Rattle.std.proofs.Common.{List, Option, ap, arith, inl, inr, length, refl, slice_get, subst, sym, ℕ, ◌≡◌, ◌≤◌, ◌∙◌}
+use Rattle.std.proofs.Common.{List, Option, ap, arith, inl, inr, length, refl, slice_get, subst, sym, ℕ, ◌≡◌, ◌∙◌}
 
 pub nothing_within : (d : View) (shape : Shape) → StaysWithin shape shape d d
 nothing_within d shape = record { asked = refl; shape = same_shape d; others = λ told dev low past image left. left }
 
 module _ (d e : View) (shape : Shape) where
-  beyond : (dev : ℕ) → devices_of shape ≤ dev → IsStoreLog shape.parts dev → ⊥
-  beyond dev past (inl (inl is)) = omega (arith, past, is)
-  beyond dev past (inl (inr is)) = omega (arith, past, is)
-  beyond dev past (inr t) = by t.is
-    where
-      by : IsLogDevice t.p dev → ⊥
-      by (inl is) = omega (arith, past, is, t.low)
-      by (inr is) = omega (arith, past, is, t.low)
-
   -- a call that writes logs of the store
   pub store_within : (answer : Option DiskErr) → KeepsBut (IsStoreLog shape.parts) d e answer → StaysWithin shape shape d e
-  store_within answer keeps = record { asked = refl; shape = keeps.shape; others = λ told dev low past. keeps.images dev (beyond dev past) }
+  store_within answer keeps = record { asked = refl; shape = keeps.shape; others = λ told dev low past. keeps.images dev past }
 
   -- or nothing
   pub kept_within : (answer : Option DiskErr) → KeepsAll d e answer → StaysWithin shape shape d e
@@ -65,31 +54,31 @@ module _ (d e : View) (shape : Shape) where
 pub share_device : (d : View) (shape : Shape) (x : Store) (k : Kept) (h : IsHeld d shape x k) (cs : List Change) (dev : ℕ) (t : IsLogOfShares x.parts.items (shares_in x cs) (length x.parts.items) dev) → dev ≡ device_of (part_device t.p) (h.v t.p).which
 share_device d shape x k h cs dev t = t.log.device ∙ (if_some (slice_get x.parts.items t.p) t.x (λ y. IsPartition d y t.p (h.v t.p) (decided_by h.c t.p)) t.at (h.is.parts.each t.p)).device
 
-of_coordinator : (w : WhichLog) → IsOfCoordinator (device_of 0 w)
+of_coordinator : (w : WhichLog) → IsCoordinatorLog (device_of 0 w)
 of_coordinator LogA = inl refl
 of_coordinator LogB = inr refl
 
-of_part : (p : ℕ) (w : WhichLog) → IsLogDevice p (device_of (part_device p) w)
+of_part : (p : ℕ) (w : WhichLog) → IsPartitionLog p (device_of (part_device p) w)
 of_part p LogA = inl refl
 of_part p LogB = inr refl
 
 module _ (d e : View) (shape : Shape) (x : Store) (k : Kept) (h : IsHeld d shape x k) where
-  coordinator_log : IsOfCoordinator (coordinator_device x)
-  coordinator_log = subst IsOfCoordinator (sym h.is.decisions.counting.device) (of_coordinator h.which)
+  coordinator_log : IsCoordinatorLog (coordinator_device x)
+  coordinator_log = subst IsCoordinatorLog (sym h.is.decisions.counting.device) (of_coordinator h.which)
 
   -- a call that adds an entry to the coordinator's log
   pub entry_within : (answer : Option DiskErr) → KeepsOthers (coordinator_device x) d e answer → StaysWithin shape shape d e
   entry_within answer keeps =
-      store_within d e shape answer (keeps_wider (λ dev. dev ≡ coordinator_device x) (IsStoreLog shape.parts) d e answer (λ dev is. inl (subst IsOfCoordinator (sym is) coordinator_log)) keeps)
+      store_within d e shape answer (keeps_wider (λ dev. dev ≡ coordinator_device x) (IsStoreLog shape.parts) d e answer (λ dev is. inl (subst IsCoordinatorLog (sym is) coordinator_log)) keeps)
 
   -- a unit's commit
   pub commit_within : (cs : List Change) (answer : Option DiskErr) → KeepsBut (IsCommitLog x cs) d e answer → StaysWithin shape shape d e
   commit_within cs answer keeps = store_within d e shape answer (keeps_wider (IsCommitLog x cs) (IsStoreLog shape.parts) d e answer wider keeps)
     where
       wider : (dev : ℕ) → IsCommitLog x cs dev → IsStoreLog shape.parts dev
-      wider dev (inl is) = inl (subst IsOfCoordinator (sym is) coordinator_log)
+      wider dev (inl is) = inl (subst IsCoordinatorLog (sym is) coordinator_log)
       wider dev (inr t) = inr (record {
         p = t.p;
         low = omega (arith, t.low, h.is.size, ap (λ (s : Shape). s.parts) h.keeps.has_shape);
-        is = subst (IsLogDevice t.p) (sym (share_device d shape x k h cs dev t)) (of_part t.p (h.v t.p).which);
+        is = subst (IsPartitionLog t.p) (sym (share_device d shape x k h cs dev t)) (of_part t.p (h.v t.p).which);
       })

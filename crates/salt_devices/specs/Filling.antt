@@ -7,7 +7,7 @@ use Rattle.salt_bytes.specs.Partition.{spell_prepared}
 use Rattle.salt_bytes.specs.declared.moves.Move.{Move}
 use Rattle.salt_commit.specs.Openings.{StorePassesLimit}
 use Rattle.salt_commit.specs.Shares.{has_changes, mask_of, shares_of}
-use Rattle.salt_devices.specs.declared.held.TheConstants.{FORMAT}
+use Rattle.salt_decisions.specs.declared.header_payload.TheConstants.{FORMAT}
 use Rattle.salt_disk.specs.Disks.{View}
 use Rattle.salt_stands.specs.Coordinator.{coordinator_pair, device_of}
 use Rattle.salt_stands.specs.CoordinatorLog.{CoordinatorLog}

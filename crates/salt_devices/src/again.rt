@@ -21,6 +21,7 @@ use crate::open::{fault, open_devices};
 use crate::pending::Pending;
 use crate::told::told_keys;
 use salt_commit::Store;
+use salt_decisions::are_spent;
 use salt_disk::Disks;
 use salt_place::{PlaceKind, Placement, Shape};
 use salt_storage::{Halt, Numbers, OpenErr};
@@ -47,13 +48,6 @@ fn follow(numbers: Numbers, pending: &Pending, found: Numbers) -> bool
             found.boot == numbers.boot && is_next(numbers.decisions, found.decisions)
         }
     }
-}
-
-/// Whether numbers are too high to be opened.
-pub fn are_spent(numbers: Numbers) -> bool
-    ensures { result ≡ are_spent numbers.boot numbers.decisions }
-{
-    numbers.boot >= 1 << 63 || numbers.decisions >= 1 << 63
 }
 
 /// Whether a store was found that is remembered, by its numbers and its rows: as it was before what was being written, or as it
@@ -101,7 +95,7 @@ fn may_answer(e: OpenErr, numbers: Numbers, pending: &Pending) -> bool
         OpenErr::Halted(Halt::Stopped | Halt::DiskFault | Halt::Memory) => true,
         OpenErr::NumbersSpent { boot, decisions } => {
             let found = Numbers { boot, decisions };
-            are_spent(found) && (found == numbers || follow(numbers, pending, found))
+            are_spent(boot, decisions) && (found == numbers || follow(numbers, pending, found))
         }
     }
 }

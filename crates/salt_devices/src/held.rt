@@ -29,6 +29,7 @@ use law_types::typed_changes_are_sound;
 use salt_bytes::{Move, moves_are_read};
 use salt_codec::put_move;
 use salt_commit::{Store, StoreErr};
+use salt_decisions::FORMAT;
 use salt_disk::Disks;
 use salt_eval::Tables;
 use salt_model::Reach;
@@ -37,9 +38,6 @@ use salt_schema::Schema;
 use salt_storage::Halt;
 use salt_values::{Changes, Id, Key};
 use std::alloc::Global;
-
-/// The format under which moves are spelled, the newest.
-pub const FORMAT: u8 = 3;
 
 /// Why a call on a store was broken off.
 fn halt_of(e: StoreErr) -> Halt

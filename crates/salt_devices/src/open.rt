@@ -1,7 +1,8 @@
 //! Devices are opened.
 
 ghost use Rattle.salt_bytes.specs.Generations.{BothBlank};
-ghost use Rattle.salt_commit.specs.Openings.{HasRoom, IsStoreLog, StorePassesLimit};
+ghost use Rattle.salt_commit.specs.Openings.{HasRoom, StorePassesLimit};
+ghost use Rattle.salt_stands.specs.LogDevices.{IsStoreLog};
 ghost use Rattle.salt_decisions.specs.Decisions.{shape_of};
 ghost use Rattle.salt_decisions.specs.Kept.{IsKept};
 ghost use Rattle.salt_devices.specs.Errors.{open_err_of};
@@ -25,18 +26,17 @@ ghost use Rattle.salt_place.specs.Placement.{GivesPlaceOf, IsParts, TakesEachKey
 ghost use Rattle.salt_place.specs.declared.placement.Shape.{Shape};
 ghost use Rattle.std.specs.Prelude.{Err, IfErr, IfOk, IfSome, IsTrue, List, None, Ok, OnErr, false, true, ℕ, ◌<◌, ◌≡◌, ◌⊎◌};
 
-use crate::again::are_spent;
-use crate::held::FORMAT;
 use crate::pending::Pending;
 use law_definitions::definitions_are_read;
 use law_types::spelled_tables_have_keys;
 use salt_commit::{Kept, OpenErr as StoreOpenErr, Store, open_store, peek};
+use salt_decisions::{FORMAT, are_spent};
 use salt_disk::Disks;
 use salt_found::{RecoverErr, Recovered, recover};
 use salt_gatelog::rejected;
 use salt_place::{PlaceKind, Placement, Shape};
 use salt_schema::Schema;
-use salt_storage::{Found, Halt, Numbers, OpenErr};
+use salt_storage::{Found, Halt, OpenErr};
 use salt_values::Key;
 use std::alloc::{AllocError, Global};
 
@@ -203,7 +203,7 @@ fn refuses(e: OpenErr) -> bool
 {
     match e {
         OpenErr::NotSalt(_) | OpenErr::OtherShape { .. } => true,
-        OpenErr::NumbersSpent { boot, decisions } => !are_spent(Numbers { boot, decisions }),
+        OpenErr::NumbersSpent { boot, decisions } => !are_spent(boot, decisions),
         OpenErr::Halted(_) => false,
     }
 }

@@ -3,11 +3,11 @@
 ghost use Rattle.salt_devices.specs.declared.pending.Pending.TheVariants.{Decision, Lost, Nothing, Opening};
 ghost use Rattle.salt_storage.specs.declared.halt.Halt.TheVariants.{Memory, Stopped};
 ghost use Rattle.salt_storage.specs.declared.open.OpenErr.TheVariants.{Halted};
-ghost use Rattle.std.specs.Prelude.{IfOk, IsTrue, ◌↔◌, ◌≡◌, ◌≢◌, ◌⊎◌};
+ghost use Rattle.std.specs.Prelude.{IsTrue, ◌↔◌, ◌≡◌, ◌≢◌, ◌⊎◌};
 
 use salt_storage::{Halt, OpenErr};
-use salt_values::{Change, Changes, TryCopy};
-use std::alloc::{AllocError, Global};
+use salt_values::{Changes, TryCopy};
+use std::alloc::Global;
 
 /// What may stand on the devices beside what was kept before, where the last call was broken off.
 #[derive(Drop)]
@@ -39,17 +39,6 @@ impl Pending {
     }
 }
 
-/// A copy of changes, in their order.
-fn changes_copied(alloc: Global, changes: &[Change]) -> Result<Changes, AllocError>
-    ensures { IfOk result (λ made. made ≡ changes.now) }
-{
-    let mut made = Changes::new(alloc);
-    for change in changes {
-        made.push(change.copy(alloc)?)?;
-    }
-    Ok(made)
-}
-
 /// What is pending behind this error of a first opening.
 pub fn pending_opening(e: OpenErr) -> Pending
     ensures { ((result ≡ Opening) × (e ≡ Halted Stopped)) ⊎ ((result ≡ Nothing) × (e ≢ Halted Stopped)) }
@@ -67,7 +56,7 @@ pub fn pending_unit(alloc: Global, e: Halt, changes: &Changes) -> Pending
     if matches!(e, Halt::Memory) {
         return Pending::Lost;
     }
-    match changes_copied(alloc, changes.as_slice()) {
+    match changes.copy(alloc) {
         Ok(changes) => Pending::Decision(changes),
         Err(_) => Pending::Lost,
     }

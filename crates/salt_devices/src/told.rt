@@ -1,7 +1,7 @@
 //! What a unit in hand tells of itself.
 
 ghost use Rattle.salt_bytes.specs.Spellable.{AreSpellableValues, IsSpellableCont, IsSpellableId, IsSpellableMove};
-ghost use Rattle.salt_devices.specs.declared.held.TheConstants.{FORMAT};
+ghost use Rattle.salt_decisions.specs.declared.header_payload.TheConstants.{FORMAT};
 ghost use Rattle.salt_model.specs.Words.{Every};
 ghost use Rattle.salt_values.specs.Value.{IsValue};
 ghost use Rattle.salt_values.specs.declared.change.Change.{Change};

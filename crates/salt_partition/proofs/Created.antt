@@ -12,11 +12,12 @@ use Rattle.salt_gatelog.specs.declared.log.GateLog.{GateLog}
 use Rattle.salt_model.specs.Tables.{no_rows, with_changes}
 use Rattle.salt_partition.proofs.Lasts.{no_last}
 use Rattle.salt_partition.proofs.Standing.{entries_stand, settled_kept}
-use Rattle.salt_partition.specs.Openings.{FullAtLogs, IsLogDevice}
+use Rattle.salt_partition.specs.Openings.{FullAtLogs}
 use Rattle.salt_partition.specs.Partitions.{IsPartition}
 use Rattle.salt_partition.specs.declared.partition.Partition.{Partition}
 use Rattle.salt_stands.proofs.FirstOpening.{is_created}
 use Rattle.salt_stands.specs.FirstOpening.{IsCreated, first_part_header, first_view}
+use Rattle.salt_stands.specs.LogDevices.{IsPartitionLog}
 use Rattle.salt_stands.specs.Partition.{pages_device, part_device}
 use Rattle.salt_stands.specs.PartitionLog.{own_log, partition_generation, partition_in, with_prepared}
 use Rattle.salt_stands.specs.Words.{and_then, given}
@@ -35,10 +36,10 @@ reads_first part =
     ∙ ap (λ (b : Bool). and_then (λ own. with_prepared own (Some [])) (given b h)) (eq-eqb part part refl)
 
 module _ (d0 d1 d2 e : View) (part : ℕ) (first : KeepsOthers (part_device part + 1) d0 d1 None) (second : KeepsOthers (part_device part) d1 d2 None) (third : KeepsOthers (part_device part) d2 e None) where
-  pub made_others : KeepsBut (IsLogDevice part) d0 e None
+  pub made_others : KeepsBut (IsPartitionLog part) d0 e None
   made_others =
       let a = part_device part in
-      let logs = IsLogDevice part in
+      let logs = IsPartitionLog part in
       keeps_on logs d0 d2 e None
       (keeps_on logs d0 d1 d2 None (keeps_wider (λ dev. dev ≡ a + 1) logs d0 d1 None (λ dev is. inr is) first) (keeps_wider (λ dev. dev ≡ a) logs d1 d2 None (λ dev is. inl is) second))
       (keeps_wider (λ dev. dev ≡ a) logs d2 e None (λ dev is. inl is) third)

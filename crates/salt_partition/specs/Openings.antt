@@ -46,10 +46,6 @@ pub record HasChosen (old new : View) (p : ℕ) (side : Side) (r : ReadLog) : Ty
   pub counts : IsTrue old.told → part_pair p (logs_of old.bytes) ≡ Counts (which_of side) (log_of r)
   pub kept : IsKept new p (device_of (part_device p) (which_of side)) r
 
--- the device is a log of the partition's pair
-abbrev pub IsLogDevice : ℕ → ℕ → Type 0
-IsLogDevice p dev = (dev ≡ part_device p) ⊎ (dev ≡ part_device p + 1)
-
 -- it opens: its devices have no fault, and the decided units are applied
 pub record OpensAs (old new : View) (x : Partition) (boot : ℕ) (decided : List Id) (p : ℕ) : Type 0 where
   pub view : PartView

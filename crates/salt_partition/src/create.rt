@@ -4,9 +4,10 @@ ghost use Rattle.salt_bytes.specs.Log.{entries_in};
 ghost use Rattle.salt_bytes.specs.Partition.{spell_partition_header};
 ghost use Rattle.salt_disk.specs.Disks.{EachImage, HasCause, IsSettled, KeepsBut};
 ghost use Rattle.salt_gatelog.specs.Log.{IsBeforeOrWith};
-ghost use Rattle.salt_partition.specs.Openings.{FullAtLogs, IsLogDevice};
+ghost use Rattle.salt_partition.specs.Openings.{FullAtLogs};
 ghost use Rattle.salt_partition.specs.Partitions.{IsPartition};
 ghost use Rattle.salt_stands.specs.FirstOpening.{first_part_header, first_view};
+ghost use Rattle.salt_stands.specs.LogDevices.{IsPartitionLog};
 ghost use Rattle.salt_stands.specs.Partition.{pages_device, part_device};
 ghost use Rattle.std.specs.Prelude.{IfOk, IsTrue, Some, [], length, ◌+◌, ◌<◌, ◌≡◌, ◌⊎◌};
 ghost use Rattle.std.specs.Result.{result_err};
@@ -47,7 +48,7 @@ pub fn create_partition<D: Disks>(
     ensures made { IfOk result (λ x. IsPartition (D.view disks.new) x part (first_view 2 part) []) }
     ensures image_a { EachImage (D.view disks.new) (part_device part) (λ c. (c ≡ (D.view disks.old).bytes (part_device part)) ⊎ IsBeforeOrWith [] (spell_partition_header (first_part_header 2 part)) c) }
     ensures image_b { EachImage (D.view disks.new) (part_device part + 1) (λ c. (entries_in c ≡ Some []) ⊎ (c ≡ (D.view disks.old).bytes (part_device part + 1))) }
-    ensures others { KeepsBut (IsLogDevice part) (D.view disks.old) (D.view disks.new) (result_err result) }
+    ensures others { KeepsBut (IsPartitionLog part) (D.view disks.old) (D.view disks.new) (result_err result) }
     ensures cause { HasCause (D.view disks.old) (D.view disks.new) (result_err result) }
     ensures full { IsTrue (D.view disks.old).told → FullAtLogs (D.view disks.new) (part_device part) (10 + length (spell_partition_header (first_part_header 2 part))) (result_err result) }
 {

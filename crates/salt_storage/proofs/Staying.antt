@@ -1,9 +1,10 @@
 -- Calls one behind the other stay within a shape.
 use Rattle.salt_disk.specs.Disks.{View}
-use Rattle.salt_storage.specs.Staying.{StaysWithin, devices_of}
+use Rattle.salt_stands.specs.LogDevices.{IsStoreLog}
+use Rattle.salt_storage.specs.Staying.{StaysWithin}
 use Rattle.salt_place.specs.declared.placement.Shape.{Shape}
 use Rattle.std.proofs.Common.{subst, sym, ◌∙◌}
-use Rattle.std.specs.Prelude.{IsTrue, refl, ℕ, ◌<◌, ◌≤◌}
+use Rattle.std.specs.Prelude.{IsTrue, refl, ℕ, ◌<◌}
 
 pub stays-same : (shape : Shape) (v : View) → StaysWithin shape shape v v
 stays-same shape v = record {
@@ -23,5 +24,5 @@ stays-behind g h = record {
   };
   others = λ told dev low out bytes image.
       g.others told dev low out bytes
-      (h.others (subst IsTrue (sym g.shape.told) told) dev (subst (λ (n : ℕ). dev < n) (sym g.shape.count) low) (subst (λ (s : Shape). devices_of s ≤ dev) (sym g.asked) out) bytes image);
+      (h.others (subst IsTrue (sym g.shape.told) told) dev (subst (λ (n : ℕ). dev < n) (sym g.shape.count) low) (subst (λ (s : Shape). ¬ IsStoreLog s.parts dev) (sym g.asked) out) bytes image);
 }

@@ -1,7 +1,7 @@
 use Rattle.salt_commit.proofs.Limits.{part_full}
 use Rattle.salt_commit.proofs.Making.{as_memory, one_made, others_made}
 use Rattle.salt_commit.proofs.open.create_all.Goals as goal
-use Rattle.salt_commit.specs.Openings.{IsPartLog}
+use Rattle.salt_stands.specs.LogDevices.{IsPartLog}
 use Rattle.std.proofs.Common.{None, Some, arith, subst, sym, ◌+◌, ◌<◌, ◌∙◌}
 use Rattle.std.proofs.lemmas.Result.{err_from_is_err_and}
 

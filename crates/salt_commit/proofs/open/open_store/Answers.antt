@@ -3,7 +3,8 @@ use Rattle.salt_commit.proofs.Opened.{same_bytes}
 use Rattle.salt_commit.proofs.Opening.{map_ok, nothing, opens_at}
 use Rattle.salt_commit.proofs.Paired.{pair_answer, peek_full, peek_refused}
 use Rattle.salt_commit.proofs.open.open_store.Goals as goal
-use Rattle.salt_commit.specs.Openings.{IsPartLog, IsStoreLog, OpeningFails, StorePassesLimit}
+use Rattle.salt_commit.specs.Openings.{OpeningFails, StorePassesLimit}
+use Rattle.salt_stands.specs.LogDevices.{IsPartLog, IsStoreLog}
 use Rattle.salt_commit.specs.Stores.{reading}
 use Rattle.salt_decisions.specs.Errors.{open_err}
 use Rattle.salt_disk.proofs.CallAfterCall.{keeps_on}

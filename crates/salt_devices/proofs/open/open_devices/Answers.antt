@@ -2,7 +2,8 @@ use Rattle.salt_bytes.specs.Generations.{BothBlank}
 use Rattle.salt_commit.proofs.Opened.{same_bytes}
 use Rattle.salt_commit.proofs.Opening.{nothing, opens_at}
 use Rattle.salt_commit.proofs.Standing.{if_some}
-use Rattle.salt_commit.specs.Openings.{IsStoreLog, StorePassesLimit}
+use Rattle.salt_commit.specs.Openings.{StorePassesLimit}
+use Rattle.salt_stands.specs.LogDevices.{IsStoreLog}
 use Rattle.salt_decisions.specs.Errors.{disk_err_in}
 use Rattle.salt_devices.proofs.Answered.{like_finds, like_stands}
 use Rattle.salt_devices.proofs.Opening.{disk_answer, full_is, is_open, like_opened, like_unwritten, new_stands, opened_newest, opens_as, refused_as, stopped_blank}
