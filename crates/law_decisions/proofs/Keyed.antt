@@ -1,6 +1,6 @@
 -- A table that some text spells has a key.
 use Rattle.salt_ast.specs.Spelling.{SpellsTable}
-use Rattle.salt_ast.specs.declared.lines.Line.TheVariants.{Crash, Go, GoAll, Nothing, Program, Session, ShowBases, ShowLocks, Table}
+use Rattle.salt_ast.specs.declared.lines.Line.TheVariants.{Crash, Go, GoAll, Net, Nothing, Program, Session, ShowBases, ShowLocks, Table}
 use Rattle.salt_ast.specs.declared.lines.Line.{Line}
 use Rattle.salt_ast.specs.declared.trees.TableDef.{TableDef}
 use Rattle.salt_model.specs.Trace.{Tree}
@@ -19,3 +19,4 @@ spelled-keys keys GoAll h = tt
 spelled-keys keys ShowLocks h = tt
 spelled-keys keys ShowBases h = tt
 spelled-keys keys (Crash pairs) h = tt
+spelled-keys keys (Net pairs) h = tt

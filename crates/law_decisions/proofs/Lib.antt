@@ -8,3 +8,5 @@ pub mod Naming
 pub mod Owning
 pub mod Reading
 pub mod Starting
+pub mod Draining
+pub mod Resting

@@ -8,8 +8,8 @@ use Rattle.law_states.specs.Steps.{begun, doing_one, kept_ended, units_after, wa
 use Rattle.law_story.proofs.Ids.{is_same_id-true}
 use Rattle.law_story.proofs.Lists.{In, in-filter}
 use Rattle.law_story.proofs.NextFits.{Fits}
-use Rattle.law_story.proofs.Salted.{holds, may-fit}
 use Rattle.law_story.proofs.Sound.{Named, OldAt, old-fallen, open-named}
+use Rattle.law_story.proofs.Upheld.{holds, may-fit}
 use Rattle.law_story.proofs.WellKept.{of-start}
 use Rattle.salt_model.specs.After.{kept}
 use Rattle.salt_model.specs.Kept.{Kept}

@@ -3,8 +3,8 @@ use Rattle.law_story.proofs.Ids.{is_same_id-true}
 use Rattle.law_story.proofs.Lists.{either}
 use Rattle.law_story.proofs.NextFits.{Fits}
 use Rattle.law_story.proofs.OfBoot.{owns-at}
-use Rattle.law_story.proofs.Salted.{OfBoots, holds, may-fit}
-use Rattle.law_story.proofs.Sound.{Sound, boot-ended, none-open, open-back}
+use Rattle.law_story.proofs.Sound.{Sound, boot-ended, none-open, none-open-early, open-back}
+use Rattle.law_story.proofs.Upheld.{OfBoots, holds, may-fit}
 use Rattle.salt_model.specs.After.{kept}
 use Rattle.salt_model.specs.Decided.{IsOfBoot, IsOwnIn, OwnUnless, TellsOwn, counts_flight}
 use Rattle.salt_model.specs.Next.{is_decision, next, said_event}
@@ -15,7 +15,7 @@ use Rattle.salt_model.specs.Trace.{Trace, from, start_of, ◌asks◌, ◌says◌
 use Rattle.salt_model.specs.Units.{is_open}
 use Rattle.salt_model.specs.declared.events.End.TheVariants.{Branched, Committed}
 use Rattle.salt_model.specs.declared.events.End.{End}
-use Rattle.salt_model.specs.declared.events.Event.TheVariants.{Began, Down, Ended, Opened, Ready}
+use Rattle.salt_model.specs.declared.events.Event.TheVariants.{Began, Down, Early, Ended, Opened, Ready}
 use Rattle.salt_model.specs.declared.events.Event.{Event}
 use Rattle.salt_values.specs.declared.id.Id.{Id}
 use Rattle.std.proofs.Common.{ap, subst, sym, ◌∙◌}
@@ -30,6 +30,7 @@ own-says : (trace : Trace) (e : Event) → Sound trace → Fits trace e → Open
 own-says trace (Down why) s f h p u o = cc
 own-says trace (Opened boot n) s f h p u o = cc
 own-says trace Ready s f h p u o = absurd (none-open trace s f u o)
+own-says trace (Early bs) s f h p u o = absurd (none-open-early trace bs s f u o)
 own-says trace (Began v kind) s f h p u o =
     either (λ q. h p u q) (λ b. ap (λ x. x.boot) (is_same_id-true u v b) ∙ ap (λ x. x.boot) f.0) (open-back trace (Began v kind) u f o)
 own-says trace (Ended v end) s f h p u o = h p u (either (λ q. q) (λ q. absurd q) (open-back trace (Ended v end) u f o)) ∙ sym (boot-ended trace v end)

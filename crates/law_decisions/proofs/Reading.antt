@@ -1,7 +1,7 @@
 -- What lines of bytes ask to define, texts spell.
 use Rattle.salt_ast.specs.Grammar.{Within}
 use Rattle.salt_ast.specs.Limits.{field_passed, height_passed, name_passed, passed_in_list, table_limit}
-use Rattle.salt_ast.specs.Lines.{IsLine, of_crash, of_go, of_go_all, of_program, of_session, of_show_bases, of_show_locks, of_table}
+use Rattle.salt_ast.specs.Lines.{IsLine, of_crash, of_go, of_go_all, of_net, of_program, of_session, of_show_bases, of_show_locks, of_table}
 use Rattle.salt_ast.specs.ProgramLimits.{body_passed, line_limit, part_passed, program_exprs, program_limit, program_passed}
 use Rattle.salt_ast.specs.declared.limit.LimitName.TheVariants as limit
 use Rattle.salt_ast.specs.declared.limit.LimitName.{LimitName}
@@ -44,6 +44,7 @@ module _ (tables : (ts : Symbols) (d : TableDef) → ShallowTable ts d → DeepT
   line-spelled text tokens lexes _ _ same of_show_locks limit = tt
   line-spelled text tokens lexes _ _ same of_show_bases limit = tt
   line-spelled text tokens lexes _ _ same (of_crash s) limit = tt
+  line-spelled text tokens lexes _ _ same (of_net s) limit = tt
 
   pub asked-spelled : (text : List ℕ) (asked : Asked) → Asks text asked → IsSpelledAsked asked
   asked-spelled text _ (is_long h) = tt

@@ -57,6 +57,9 @@ sound = record {
     phase = refl;
     line = refl;
     to_go = refl;
+    early = refl;
+    named = refl;
+    owes = refl;
     units = refl;
     each = (record { kind = refl; single = refl; waiting = refl; asks = refl; done = refl; vars = refl; changes = refl }, tt);
     unit_count = refl;

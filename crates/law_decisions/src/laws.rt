@@ -13,12 +13,15 @@ ghost use Rattle.law_states.specs.OpenUnits.{OpenUnit, UnitState, unit_named};
 ghost use Rattle.law_states.specs.Overlays.{edits_of};
 ghost use Rattle.law_states.specs.Steps.{units_after};
 ghost use Rattle.law_states.specs.Told.{next_decision};
+ghost use Rattle.salt_model.specs.Rests.{DoesItsRests};
+ghost use Rattle.salt_model.specs.Everywhere.{Always};
 ghost use Rattle.salt_model.specs.Kept.{Kept, OfProgram, OfTable, conts_branched, conts_committed, nothing_kept, programs_of, schema_of};
 ghost use Rattle.salt_model.specs.Lines.{AskInOrder, Asks};
 ghost use Rattle.salt_model.specs.Next.{is_decision, next};
+ghost use Rattle.salt_model.specs.Played.{IsPlayed};
 ghost use Rattle.salt_model.specs.Printable.{IsSpelledProgram, IsSpelledTable};
 ghost use Rattle.salt_model.specs.Stops.{is_just_opened};
-ghost use Rattle.salt_model.specs.Trace.{Asked, Trace, Tree, ◌says◌};
+ghost use Rattle.salt_model.specs.Trace.{Asked, Trace, Tree, lines_of, start_of, ◌says◌};
 ghost use Rattle.salt_model.specs.Words.{Every};
 ghost use Rattle.salt_model.specs.declared.events.Cause.{Cause};
 ghost use Rattle.salt_model.specs.declared.events.End.{End};
@@ -42,9 +45,12 @@ ghost use Rattle.salt_values.specs.declared.id.Id.{Id};
 ghost use Rattle.std.specs.Prelude.{List, None, Some, [], false, length, true, ℕ, ◌<◌, ◌^◌, ◌≡◌, ◌≤◌};
 
 use law_definitions::definitions_are_read;
+use law_openings::openings_do_their_rests;
 use law_states::{edits_make_the_tables, names_rise, units_go_on};
 use law_story::kept_stays_well_kept;
-use law_types::{definitions_keep_types, spelled_tables_have_keys, states_are_of_their_types};
+use law_types::{
+    definitions_keep_types, played_is_typed, spelled_tables_have_keys, states_are_of_their_types,
+};
 use salt_parse::{row_program, row_table};
 
 /// Nothing kept may be kept, and so may what is kept under a later boot.
@@ -94,6 +100,17 @@ pub fn read_lines_are_spelled()
     row_program();
     row_table();
     spelled_tables_have_keys();
+}
+
+/// In each opening of a trace that is played from what may be kept, over lines whose definitions some text spells, no more statements are
+/// told than the programs that it found had left.
+pub fn played_does_its_rests()
+    ensures { (trace : Trace) → IsPlayed trace → IsSoundKept (start_of trace).kept → Every IsSpelledAsked (lines_of trace) →
+        Always DoesItsRests trace }
+{
+    openings_do_their_rests();
+    played_is_typed();
+    read_lines_are_spelled();
 }
 
 /// The open units of a played trace are of this boot or earlier ones, and a unit that is decided next is of this boot, unless the

@@ -11,6 +11,6 @@ mod laws;
 
 pub use laws::{
     decided_ends_may_be_kept, definitions_may_be_kept, flights_leave_the_same,
-    read_lines_are_spelled, starts_may_be_kept, units_are_decided_once,
+    played_does_its_rests, read_lines_are_spelled, starts_may_be_kept, units_are_decided_once,
     units_of_the_boot_are_named_so,
 };
