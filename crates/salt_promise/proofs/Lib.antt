@@ -1,5 +1,7 @@
 pub mod Devices
 pub mod OneLine
+pub mod InFlight
+pub mod Found
 pub mod OneAnswer
 pub mod Completes
 pub mod Wrong

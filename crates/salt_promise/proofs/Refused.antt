@@ -6,7 +6,7 @@ use Rattle.salt_disk.specs.Disks.{AreUnchanged, IsImage, View}
 use Rattle.salt_model.specs.Kept.{Definition, WellKept, nothing_kept}
 use Rattle.salt_model.specs.Played.{IsPlayed}
 use Rattle.salt_model.specs.Trace.{Start, Trace, from, start_of}
-use Rattle.salt_promise.proofs.Devices.{blank-unnamed, four-beyond, unnamed}
+use Rattle.salt_promise.proofs.Devices.{beside-logs, blank-unnamed, unnamed}
 use Rattle.salt_promise.specs.Ending.{StandsBehind}
 use Rattle.salt_promise.specs.Filling.{FirstFills}
 use Rattle.salt_promise.specs.Given.{Run, Stream}
@@ -23,7 +23,7 @@ use Rattle.salt_stands.specs.Stands as opening
 use Rattle.salt_stands.specs.Stands.{Opening, judged, logs_of, nothing_found, opening_of, with_parts}
 use Rattle.salt_stands.specs.Words.{if_sound}
 use Rattle.std.proofs.Common.{ap, arith, inl, inr, subst, ◌∙◌}
-use Rattle.std.specs.Prelude.{List, None, Ok, Option, Some, [], refl, suc, true, zero, ℕ, ◌^◌, ◌∷◌, ◌≡◌}
+use Rattle.std.specs.Prelude.{List, None, Ok, Option, Some, [], false, refl, suc, true, zero, ℕ, ◌^◌, ◌∷◌, ◌≡◌}
 
 abbrev quiet : Stream
 quiet = record { bytes = Some []; faults = 0 }
@@ -54,7 +54,7 @@ abbrev full : Run
 full = run (holding tight blank []) (holding tight created []) (DeviceFull 2)
 
 abbrev start : Start
-start = record { kept = nothing_kept; can_stop = true }
+start = record { kept = nothing_kept; can_stop = true; early = false; over_net = false }
 
 first-fills : FirstFills full.after.devices one_part 2
 unfolding entries_in
@@ -100,9 +100,13 @@ module _ (read : List ℕ → Option Definition) (reads : IsReader read) where
       opens = λ told. opens;
       well = well;
       can_stop = refl;
+      early = refl;
+      over_net = refl;
       tells = record { begins = refl; told = refl; played = tt };
       promises = law (from start) tt well;
       unspent = tt;
+      drains = λ opening. absurd (cc opening);
+      stops = record { stops = []; behind = refl; are = refl };
       does = record { texts = []; asked = tt; lines = record { got = []; front = ([], refl); within = omega arith; lines = refl; first = ([], refl) }; written = refl };
       may = tt;
       leaves = refl;
@@ -114,7 +118,7 @@ module _ (read : List ℕ → Option Definition) (reads : IsReader read) where
     downs = omega arith;
     stops = record { stops = []; behind = refl; are = refl };
     shape = record { count = refl; can_stop = refl; told = refl; limit = λ dev. refl };
-    others = λ told dev low out c h. h ∙ four-beyond [] [] [] (0 ∷ []) dev out;
+    others = λ told dev low out c h. h ∙ beside-logs [] [] [] (0 ∷ []) dev out;
   })
     where
       well : WellKept nothing_kept

@@ -7,10 +7,12 @@ use Rattle.salt_model.specs.Next.{next}
 use Rattle.salt_model.specs.Phases.{Fallen, Serving, phase}
 use Rattle.salt_model.specs.Played.{IsPlayed}
 use Rattle.salt_model.specs.Trace.{Asked, Trace, from, line_of, lines_of, story_of, ◌asks◌, ◌says◌, ◌turns◌}
-use Rattle.salt_model.specs.Turns.{can_go, ids_after, next_turn, still_to_go}
+use Rattle.salt_model.specs.Programs.{named_early}
+use Rattle.salt_model.specs.Turns.{can_go, ids_after, next_to_go, next_turn, owes_turn, still_to_go, turn_owed}
 use Rattle.salt_values.specs.declared.id.Id.{Id}
 use Rattle.std.specs.List.{find}
-use Rattle.salt_model.specs.declared.events.Event.TheVariants.{Down, Opened, Ready}
+use Rattle.std.specs.Option.{option_or}
+use Rattle.salt_model.specs.declared.events.Event.TheVariants.{Down, Opened, Ready, Refused}
 use Rattle.salt_model.specs.declared.events.Event.{Event}
 use Rattle.salt_ast.specs.declared.lines.Line.TheVariants.{Nothing}
 use Rattle.salt_promise.proofs.Devices.{blank-unnamed}
@@ -24,7 +26,7 @@ use Rattle.salt_promise.specs.Standing.{IsReader, OpenAs}
 use Rattle.salt_promise.specs.Worked.{ample, blank, holding, one_part, opened}
 use Rattle.salt_stands.specs.Stands.{nothing_found}
 use Rattle.std.proofs.Common.{ap, arith, subst, sym, ◌∙◌}
-use Rattle.std.specs.Prelude.{List, None, Option, Some, [], codes, refl, ℕ, ◌++◌, ◌∷◌, ◌≡◌}
+use Rattle.std.specs.Prelude.{List, None, Option, Some, [], codes, false, if◌then◌else◌, is_some, refl, ℕ, ◌&&◌, ◌++◌, ◌∷◌, ◌≡◌}
 
 abbrev empty : Run
 empty = record {
@@ -73,8 +75,22 @@ none-to-go (t turns b) e = ap (ids_after b) (none-to-go t e)
 none-to-go (t says Down why) e = refl
 none-to-go (t says a) e = none-to-go t e
 
+-- and none owes a turn
+none-owed : (t : Trace) → lines_of t ≡ [] → owes_turn t ≡ false
+none-owed (from k) e = refl
+none-owed (t asks a) e = absurd (not-last (lines_of t) a e)
+none-owed (t turns b) e = ap (λ owes. owes && is_some (next_to_go t)) (none-owed t e)
+none-owed (t says Down why) e = refl
+none-owed (t says Refused r) e = refl
+none-owed (t says a) e = none-owed t e
+
+turns-to-none : (t : Trace) → lines_of t ≡ [] → next_turn t ≡ None
+turns-to-none t e =
+    ap (λ o. option_or o (turn_owed t)) (ap (find (can_go t)) (none-to-go t e))
+    ∙ ap (λ owes. if owes then find (can_go t) (named_early t) else None) (none-owed t e)
+
 no-turn : (t : Trace) (b : Id) → lines_of t ≡ [] → next_turn t ≡ Some b → ⊥
-no-turn t b e h = let both : None ≡ Some b = sym (ap (λ ids. find (can_go t) ids) (none-to-go t e)) ∙ h in cc
+no-turn t b e h = let both : None ≡ Some b = sym (turns-to-none t e) ∙ h in cc
 
 -- behind its story nothing is next, and it serves
 record IsServed (t : Trace) : Type 0 where

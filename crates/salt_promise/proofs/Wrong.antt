@@ -2,12 +2,14 @@
 use Rattle.salt_bytes.specs.Coordinator.{Boots, Decides, spell_entry, spell_header}
 use Rattle.salt_bytes.specs.Partition.{spell_partition_header}
 use Rattle.salt_stands.specs.FirstOpening.{first_header, first_part_header}
+use Rattle.salt_stands.specs.LogDevices.{IsPartitionLog, IsStoreLog}
 use Rattle.salt_stands.specs.Partition.{part_device}
 use Rattle.salt_bytes.specs.Generations.{BothBlank, Counts, LogA, WhichLog}
 use Rattle.salt_bytes.specs.Log.{entries_in, entries_up_to, framed, split_payload}
 use Rattle.salt_stands.specs.Fitting.{definitions_reading, kept_in}
 use Rattle.salt_disk.specs.Disks.{View}
 use Rattle.salt_ast.specs.Trees.{number, operation}
+use Rattle.salt_ast.specs.declared.lines.Line.TheVariants.{Net}
 use Rattle.salt_ast.specs.declared.trees.Op.TheVariants as op
 use Rattle.salt_ast.specs.declared.trees.Statement.TheVariants.{Ensure}
 use Rattle.salt_ast.specs.declared.trees.Statement.{Statement}
@@ -17,19 +19,23 @@ use Rattle.salt_model.specs.declared.events.Answer.TheVariants as answer
 use Rattle.salt_model.specs.declared.events.End.TheVariants as end
 use Rattle.salt_model.specs.declared.events.UnitKind.TheVariants as kind
 use Rattle.salt_values.specs.declared.id.Id.{Id}
-use Rattle.salt_model.specs.Everywhere.{Each}
-use Rattle.salt_model.specs.Kept.{Definition, Kept, nothing_kept}
+use Rattle.salt_model.specs.Everywhere.{Always, Each}
+use Rattle.salt_model.specs.Kept.{Definition, Kept, nothing_kept, programs_of}
 use Rattle.salt_model.specs.Next.{flight, is_decision, next}
+use Rattle.salt_model.specs.Phases as phases
 use Rattle.salt_model.specs.Phases.{Fallen, phase}
+use Rattle.salt_model.specs.Rests.{DoesItsRests, done_since_opened, rests_at, rests_found, rests_of}
+use Rattle.salt_model.specs.Stops.{is_just_opened}
 use Rattle.salt_model.specs.Tables.{no_rows, with_changes}
-use Rattle.salt_model.specs.Trace.{Trace, from, start_of, story_of, ◌asks◌, ◌says◌, ◌turns◌}
+use Rattle.salt_model.specs.Trace.{Trace, Tree, from, start_of, story_of, ◌asks◌, ◌says◌, ◌turns◌}
 use Rattle.salt_model.specs.Words.{Every}
 use Rattle.salt_model.specs.declared.events.Event.TheVariants.{Armed, Began, Defined, Did, Down, Ended, Opened, Ready}
 use Rattle.salt_model.specs.declared.events.Event.{Event}
 use Rattle.salt_model.specs.declared.events.Flight.{Flight}
 use Rattle.salt_model.specs.declared.events.Why.TheVariants as why
 use Rattle.salt_promise.specs.Worked.{after, ample, begun, blank, header_at, holding, on, one_line, one_part, opened}
-use Rattle.salt_promise.specs.Counting.{AreArmed, armed_behind}
+use Rattle.salt_model.specs.Arming.{armed_behind}
+use Rattle.salt_promise.specs.Counting.{AreArmed, Stops, StopsByLines}
 use Rattle.salt_promise.specs.Ending.{IsLeftBehind, StandsBehind, raised}
 use Rattle.salt_promise.specs.Filling.{IsFullBehind, NewPairFills, NextFills, coordinator_format, partition_format}
 use Rattle.salt_promise.specs.Given.{Run}
@@ -47,7 +53,8 @@ use Rattle.salt_stands.specs.Stands.{Found, Opening, Stands, judged, logs_of, no
 use Rattle.salt_stands.specs.Tables.{joined}
 use Rattle.salt_stands.specs.Unspent.{OpensUnspent}
 use Rattle.std.proofs.Common.{ap, arith, inl, inr, subst, sym, ◌∙◌}
-use Rattle.std.specs.Prelude.{List, None, Ok, Option, Result, Some, [], codes, false, pos, refl, suc, true, zero, ℕ, ◌+◌, ◌++◌, ◌-◌, ◌^◌, ◌<◌, ◌∷◌, ◌≡◌, ◌⊎◌}
+use Rattle.std.proofs.lemmas.List.{same_from_push}
+use Rattle.std.specs.Prelude.{Bool, List, None, Ok, Option, Result, Some, [], codes, false, if◌then◌else◌, pos, refl, suc, true, zero, ℕ, ◌&&◌, ◌+◌, ◌++◌, ◌-◌, ◌^◌, ◌<◌, ◌∷◌, ◌≡◌, ◌≤◌, ◌⊎◌}
 
 abbrev half : ℕ
 half = 2 ^ 63
@@ -134,19 +141,34 @@ written-where-refused status = of-script (touched_run status) refl (λ x. by x.g
     by (inl f) = let both : ◌≡◌ {A = List ℕ} (0 ∷ 0 ∷ []) (0 ∷ []) = (f.devices refl).images 1 (0 ∷ 0 ∷ []) refl in cc
     by (inr o) = spent-closed o.start.kept (o.opens refl)
 
--- A DEVICE BEHIND those of the one partition is written, by a run that is right else
+-- A DEVICE THAT IS NO LOG of the one partition is written, by a run that is right else: one with pages, or one behind them all
 
-abbrev spilt_bytes : ℕ → List ℕ
-spilt_bytes = on (opened 0 ∷ opened 1 ∷ opened 2 ∷ opened 3 ∷ [] ∷ (0 ∷ []) ∷ [])
+abbrev beside : (pages behind : List ℕ) → ℕ → List ℕ
+beside pages behind = on (opened 0 ∷ opened 1 ∷ opened 2 ∷ opened 3 ∷ pages ∷ behind ∷ [])
 
-abbrev spilt_run : Run
-spilt_run = record one_line { after = record after { devices = holding ample spilt_bytes [] } }
+abbrev spilt_run : (ℕ → List ℕ) → Run
+spilt_run bytes = record one_line { after = record after { devices = holding ample bytes [] } }
 
-written-behind : Runs spilt_run → ⊥
-written-behind = of-script spilt_run refl by
+no-log : (dev : ℕ) → 4 ≤ dev → ¬ IsStoreLog 1 dev
+no-log dev high (inl (inl is)) = omega (arith, high, is)
+no-log dev high (inl (inr is)) = omega (arith, high, is)
+no-log dev high (inr t) = by t.is
   where
-    by : RunsAs spilt_run (Script one_part) → ⊥
-    by x = let both : ◌≡◌ {A = List ℕ} (0 ∷ []) [] = x.others refl 5 (omega arith) (omega arith) (0 ∷ []) refl in cc
+    by : IsPartitionLog t.p dev → ⊥
+    by (inl is) = omega (arith, high, is, t.low)
+    by (inr is) = omega (arith, high, is, t.low)
+
+spilt : (bytes : ℕ → List ℕ) (dev : ℕ) → 4 ≤ dev → dev < 26 → bytes dev ≡ 0 ∷ [] → Runs (spilt_run bytes) → ⊥
+spilt bytes dev high low written = of-script (spilt_run bytes) refl by
+  where
+    by : RunsAs (spilt_run bytes) (Script one_part) → ⊥
+    by x = let both : ◌≡◌ {A = List ℕ} (0 ∷ []) [] = x.others refl dev low (no-log dev high) (0 ∷ []) (sym written) in cc
+
+written-pages : Runs (spilt_run (beside (0 ∷ []) [])) → ⊥
+written-pages = spilt (beside (0 ∷ []) []) 4 (omega arith) (omega arith) refl
+
+written-behind : Runs (spilt_run (beside [] (0 ∷ []))) → ⊥
+written-behind = spilt (beside [] (0 ∷ [])) 5 (omega arith) (omega arith) refl
 
 -- A FULL DEVICE at a first opening
 
@@ -160,17 +182,20 @@ tight (suc (suc dev)) = 67108864
 abbrev full_run : (bytes : ℕ → List ℕ) → Run
 full_run bytes = run (holding tight bytes []) (holding tight bytes []) (DeviceFull 1) None [] []
 
+not-last : (es : List Event) (a : Event) → es ++ a ∷ [] ≡ [] → ⊥
+not-last [] a h = cc
+not-last (x ∷ es) a h = cc
+
 fallen-untold : (t : Trace) → story_of t ≡ [] → phase t ≡ Fallen
 fallen-untold (from k) e = refl
 fallen-untold (t asks a) e = fallen-untold t e
 fallen-untold (t turns b) e = fallen-untold t e
-fallen-untold (t says a) e = absurd (more (story_of t) e)
-  where
-    more : (es : List Event) → es ++ a ∷ [] ≡ [] → ⊥
-    more [] h = cc
-    more (x ∷ es) h = cc
+fallen-untold (t says a) e = absurd (not-last (story_of t) a e)
 
-at-first : (bytes : ℕ → List ℕ) → (NextFills (full_run bytes).after.devices one_part (from (record { kept = nothing_kept; can_stop = true })) Fallen None 1 → ⊥) → Runs (full_run bytes) → ⊥
+abbrev from_nothing : Trace
+from_nothing = from (record { kept = nothing_kept; can_stop = true; early = false; over_net = false })
+
+at-first : (bytes : ℕ → List ℕ) → (NextFills (full_run bytes).after.devices one_part from_nothing Fallen None 1 → ⊥) → Runs (full_run bytes) → ⊥
 at-first bytes never = of-script (full_run bytes) refl (λ x. by x.goes)
   where
     refused : (a : Opening Definition) → EndsRefused a (DeviceFull 1) → ⊥
@@ -205,7 +230,7 @@ full-of-standing = at-first stand never
     apart : ◌≡◌ {A = ℕ} 1 0 → ⊥
     apart e = omega arith
 
-    never : NextFills (full_run stand).after.devices one_part (from (record { kept = nothing_kept; can_stop = true })) Fallen None 1 → ⊥
+    never : NextFills (full_run stand).after.devices one_part from_nothing Fallen None 1 → ⊥
     never (inl f) = let both : BothBlank ≡ Counts LogA stood = sym f.blank ∙ stand-counts in cc
     never (inr f) =
         let a : f.which ≡ LogA = which-log f.which f.log stood (sym f.counts ∙ stand-counts) in
@@ -235,7 +260,7 @@ full-of-closed = at-first closed never
     first (inl h) = part h.0 (spell_partition_header (first_part_header partition_format h.0)) h.2
     first (inr h) = coordinator (spell_header (first_header one_part coordinator_format)) h
 
-    never : NextFills (full_run closed).after.devices one_part (from (record { kept = nothing_kept; can_stop = true })) Fallen None 1 → ⊥
+    never : NextFills (full_run closed).after.devices one_part from_nothing Fallen None 1 → ⊥
     never (inl f) = first f.fills
     never (inr f) = let both : Counts f.which f.log ≡ BothBlank = sym f.counts ∙ closed-blank in cc
 
@@ -400,6 +425,78 @@ another-stop r is done none told left = of-script r is by
         let stops = sym (ap (λ s. armed_behind s (Some r.before.devices.armed)) told ∙ told-stops r.before.devices.armed none) ∙ x.stops.behind in
         let last : r.after.devices.armed ≡ x.stops.stops = subst (λ s. AreArmed s x.stops.stops r.after.devices.armed) done x.stops.are in
         apart (ap first-pick (sym left ∙ last ∙ sym (same ((7, 1) ∷ []) x.stops.stops stops)))
+
+-- PAIRS OF MESSAGES are no stops, though the story alone does not tell them apart: here what `net` armed is taken for the stop that came. (No
+-- commit of a run goes over messages yet.)
+
+abbrev stopped_by_net : Trace
+stopped_by_net =
+    from (record { kept = nothing_kept; can_stop = true; early = false; over_net = true })
+    says Opened 1 0 says Ready asks Tree (Net ((1, 0) ∷ [])) says Armed ((1, 0) ∷ []) says Down why.Stopped
+
+by-its-story : Stops Done [] (story_of stopped_by_net) []
+by-its-story = record { stops = []; behind = refl; are = refl }
+
+twists-are-no-stops : (status : Status) (last : List (ℕ × ℕ)) → StopsByLines status [] stopped_by_net last → ⊥
+twists-are-no-stops status last h = let none : None ≡ Some h.stops = h.behind in cc
+
+-- MORE STATEMENTS in an opening than its programs had left: here over blank devices, where no program goes on
+
+abbrev undrained_story : List Event
+undrained_story = Opened 1 0 ∷ Did unit truth answer.Held ∷ []
+
+abbrev undrained_run : Run
+undrained_run = run (holding ample blank []) (holding ample opened []) Memory None undrained_story []
+
+kept-unsaid : (t : Trace) → story_of t ≡ [] → kept t ≡ (start_of t).kept
+kept-unsaid (from k) e = refl
+kept-unsaid (t asks a) e = kept-unsaid t e
+kept-unsaid (t turns b) e = kept-unsaid t e
+kept-unsaid (t says a) e = absurd (not-last (story_of t) a e)
+
+-- an opening that found no program
+record FindsNone (t : Trace) : Type 0 where
+  opening : phase t ≡ phases.Opening
+  rests : rests_found t ≡ 0
+
+finds-none : (t : Trace) → (start_of t).kept.conts ≡ [] → story_of t ≡ Opened 1 0 ∷ [] → FindsNone t
+finds-none (from k) none e = cc
+finds-none (t asks a) none e = let h = finds-none t none e in record { opening = h.opening; rests = h.rests }
+finds-none (t turns b) none e = let h = finds-none t none e in record { opening = h.opening; rests = h.rests }
+finds-none (t says a) none e =
+    let both = same_from_push (story_of t) [] a (Opened 1 0) e in
+    subst (λ b. FindsNone (t says b)) (sym both.1) (record {
+      opening = refl;
+      rests = ap (rests_of (programs_of (kept (t says Opened 1 0)))) (ap (λ k. k.conts) (kept-unsaid t both.0) ∙ none);
+    })
+
+does-more : (t : Trace) → FindsNone t → DoesItsRests (t says Did unit truth answer.Held) → ⊥
+does-more t h d = by (is_just_opened t) (d h.opening)
+  where
+    by : (just : Bool) → done_since_opened t + 1 ≤ (if just && false then rests_at (t says Did unit truth answer.Held) else rests_found t) → ⊥
+    by true more = omega (arith, more, h.rests)
+    by false more = omega (arith, more, h.rests)
+
+undrained : (t : Trace) → (start_of t).kept.conts ≡ [] → story_of t ≡ undrained_story → Always DoesItsRests t → ⊥
+undrained (from k) none e h = cc
+undrained (t asks a) none e h = undrained t none e h.0
+undrained (t turns b) none e h = undrained t none e h.0
+undrained (t says a) none e h =
+    let both = same_from_push (story_of t) (Opened 1 0 ∷ []) a (Did unit truth answer.Held) e in
+    does-more t (finds-none t none both.0) (subst (λ b. DoesItsRests (t says b)) both.1 h.1)
+
+statements-in-opening : Runs undrained_run → ⊥
+statements-in-opening = of-script undrained_run refl (λ x. by x.goes)
+  where
+    ok : {x y : Found Definition} → ◌≡◌ {A = Opening Definition} (Stands x) (Stands y) → x ≡ y
+    ok h = cc
+
+    started : (k : Kept) → OpenAs one_part blank k → k.conts ≡ []
+    started k o = sym (ap (λ f. (kept_in f).conts) (ok (sym (nothing-stands o.answers.read) ∙ o.answers.is.0)) ∙ ap (λ x. x.conts) o.keeps)
+
+    by : FindsNothing undrained_run (Script one_part) ⊎ RunsOver undrained_run (Script one_part) → ⊥
+    by (inl f) = let both : undrained_story ≡ [] = f.story in cc
+    by (inr o) = undrained o.trace (ap (λ s. s.kept.conts) o.tells.begins ∙ started o.start.kept (o.opens refl)) o.tells.told o.drains
 
 -- WRONG WORDS with something in flight
 

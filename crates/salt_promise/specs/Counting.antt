@@ -1,12 +1,14 @@
 -- Faults and stops, as they are counted over a run.
 use Rattle.salt_disk.specs.Disks.{Rose}
-use Rattle.salt_model.specs.declared.events.Event.TheVariants.{Armed, Down}
+use Rattle.salt_model.specs.Arming.{armed_behind, armed_by_lines}
+use Rattle.salt_model.specs.Trace.{Trace}
+use Rattle.salt_model.specs.declared.events.Event.TheVariants.{Down}
 use Rattle.salt_model.specs.declared.events.Event.{Event}
-use Rattle.salt_model.specs.declared.events.Why.TheVariants.{Fault, Stopped}
+use Rattle.salt_model.specs.declared.events.Why.TheVariants.{Fault}
 use Rattle.salt_promise.specs.Given.{Stream}
 use Rattle.salt_promise.specs.declared.status.Status.TheVariants.{DiskFault, Memory}
 use Rattle.salt_promise.specs.declared.status.Status.{Status}
-use Rattle.std.specs.Prelude.{Bool, List, None, Option, Some, [], false, true, ℕ, ⊤, ◌++◌, ◌∷◌, ◌≡◌, ◌≤◌}
+use Rattle.std.specs.Prelude.{Bool, List, Some, [], false, true, ℕ, ⊤, ◌∷◌, ◌≡◌, ◌≤◌}
 
 -- A stream fails only where the run ends by that.
 abbrev pub FailsOnly : Bool → (before after : Stream) → Type 0
@@ -27,22 +29,7 @@ abbrev pub Downs : Status → (first : ℕ) → List Event → (last : ℕ) → 
 Downs status first [] last = RiseBehind status first last
 Downs status first (e ∷ es) last = (n : ℕ) × RiseTo e first n × Downs status n es last
 
--- STOPS come in the order in which they were armed. The stops that are armed behind an event, of these before it: behind them stand the ones
--- that it arms; and of a stop the first has come, if there was one.
-abbrev pub behind_first : List (ℕ × ℕ) → Option (List (ℕ × ℕ))
-behind_first [] = None
-behind_first (first ∷ stops) = Some stops
-
-abbrev pub armed_after : Event → List (ℕ × ℕ) → Option (List (ℕ × ℕ))
-armed_after (Armed pairs) stops = Some (stops ++ pairs)
-armed_after (Down Stopped) stops = behind_first stops
-armed_after e stops = Some stops
-
--- behind a story; none where a stop comes that was not armed
-abbrev pub armed_behind : List Event → Option (List (ℕ × ℕ)) → Option (List (ℕ × ℕ))
-armed_behind story None = None
-armed_behind [] (Some stops) = Some stops
-armed_behind (e ∷ es) (Some stops) = armed_behind es (armed_after e stops)
+-- STOPS
 
 -- what want of memory leaves of them is free
 abbrev pub AreArmed : Status → (told last : List (ℕ × ℕ)) → Type 0
@@ -53,4 +40,10 @@ AreArmed status told last = last ≡ told
 pub record Stops (status : Status) (first : List (ℕ × ℕ)) (story : List Event) (last : List (ℕ × ℕ)) : Type 0 where
   pub stops : List (ℕ × ℕ)
   pub behind : armed_behind story (Some first) ≡ Some stops
+  pub are : AreArmed status stops last
+
+-- the same by the lines of a trace: what `net` arms befalls messages, and is no stop
+pub record StopsByLines (status : Status) (first : List (ℕ × ℕ)) (trace : Trace) (last : List (ℕ × ℕ)) : Type 0 where
+  pub stops : List (ℕ × ℕ)
+  pub behind : armed_by_lines first trace ≡ Some stops
   pub are : AreArmed status stops last

@@ -6,7 +6,7 @@ use Rattle.salt_bytes.specs.Log.{entries_in, spelled}
 use Rattle.salt_bytes.specs.Partition.{spell_partition_header, spell_prepared}
 use Rattle.salt_bytes.specs.declared.moves.Move.{Move}
 use Rattle.salt_disk.specs.Disks.{View}
-use Rattle.salt_model.specs.After.{kept, run_of}
+use Rattle.salt_model.specs.After.{kept}
 use Rattle.salt_model.specs.Next.{next}
 use Rattle.salt_model.specs.Phases.{Fallen, Phase, phase}
 use Rattle.salt_model.specs.Trace.{Trace, ◌says◌}
@@ -22,11 +22,12 @@ use Rattle.salt_stands.specs.Partition.{part_device, part_pair}
 use Rattle.salt_stands.specs.PartitionLog.{PartitionLog}
 use Rattle.salt_stands.specs.Placed.{changes_at}
 use Rattle.salt_stands.specs.Stands.{logs_of}
+use Rattle.salt_stands.specs.Turning.{changes_of}
 use Rattle.salt_stands.specs.Words.{has_bit}
 use Rattle.salt_values.specs.declared.change.Change.{Change}
 use Rattle.salt_values.specs.declared.id.Id.{Id}
 use Rattle.salt_place.specs.declared.placement.Shape.{Shape}
-use Rattle.std.specs.Prelude.{List, None, Option, Some, [], false, length, map, not, ℕ, ◌+◌, ◌<◌, ◌≡◌, ◌⊎◌}
+use Rattle.std.specs.Prelude.{List, None, Option, Some, [], false, length, not, ℕ, ◌+◌, ◌<◌, ◌≡◌, ◌⊎◌}
 
 -- the format of the coordinator's entries, and that of a new partition's log
 abbrev pub coordinator_format : ℕ
@@ -95,10 +96,6 @@ pub record DecisionFills (d : View) (shape : Shape) (trace : Trace) (e : Event) 
   pub fills : EntryFills d (next_decision u mask move) dev
 
 -- WHAT COMES NEXT
-
--- what the statements of an open unit change, in order of tables and keys
-abbrev pub changes_of : Id → Trace → List Change
-changes_of u trace = map (λ d. record { table = d.0.table; key = d.0.key; row = d.1 }) (run_of u trace).changes.list
 
 -- of a run that is down an opening; else the decision that comes next
 abbrev pub NextFills : View → Shape → Trace → Phase → Option Event → (dev : ℕ) → Type 0

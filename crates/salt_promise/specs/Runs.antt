@@ -1,11 +1,12 @@
 -- WHAT A RUN PROMISES.
 use Rattle.salt_disk.specs.Disks.{AreUnchanged, SameShape, Shrinks, View}
 use Rattle.salt_model.specs.Ends.{MayLeave}
-use Rattle.salt_model.specs.Everywhere.{Each}
+use Rattle.salt_model.specs.Everywhere.{Always, Each}
 use Rattle.salt_model.specs.Kept.{Definition, WellKept, nothing_kept}
 use Rattle.salt_model.specs.Played.{Tells}
+use Rattle.salt_model.specs.Rests.{DoesItsRests}
 use Rattle.salt_model.specs.Trace.{Start, Trace, from}
-use Rattle.salt_promise.specs.Counting.{Downs, FailsOnly, Stops}
+use Rattle.salt_promise.specs.Counting.{Downs, FailsOnly, Stops, StopsByLines}
 use Rattle.salt_promise.specs.Doing.{Does}
 use Rattle.salt_promise.specs.Ending.{Ends, Flies}
 use Rattle.salt_promise.specs.Given.{Run, shape_of}
@@ -15,12 +16,12 @@ use Rattle.salt_promise.specs.declared.status.Status.{Status}
 use Rattle.salt_promise.specs.Promises.{Promises}
 use Rattle.salt_promise.specs.Standing.{AnswersTo, OpenAs}
 use Rattle.salt_promise.specs.Ways.{way_of}
-use Rattle.salt_stands.specs.Partition.{part_device}
+use Rattle.salt_stands.specs.LogDevices.{IsStoreLog}
 use Rattle.salt_stands.specs.Stands as opening
 use Rattle.salt_stands.specs.Stands.{Opening}
 use Rattle.salt_stands.specs.Unspent.{OpensUnspent}
 use Rattle.salt_place.specs.declared.placement.Shape.{Shape}
-use Rattle.std.specs.Prelude.{Bool, IsTrue, None, Some, [], false, true, ℕ, ⊤, ◌<◌, ◌≡◌, ◌≤◌, ◌⊎◌}
+use Rattle.std.specs.Prelude.{Bool, IsTrue, None, Some, [], false, true, ℕ, ⊤, ◌<◌, ◌≡◌, ◌⊎◌}
 
 -- 1. THE WORDS SAY NO COMMAND
 
@@ -62,7 +63,7 @@ pub record FindsNothing (r : Run) (command : Command) : Type 0 where
   pub ends : EndsRefused answer r.status
   pub story : r.story ≡ []
   pub flight : r.flight ≡ None
-  pub does : Does command r (from (record { kept = nothing_kept; can_stop = false }))
+  pub does : Does command r (from (record { kept = nothing_kept; can_stop = false; early = false; over_net = false }))
   pub devices : IsTrue r.before.devices.told → AreAsBefore (may_have_failed r.status) r.before.devices r.after.devices
 
 -- 3. THE DEVICES OPEN, as they stand before the run
@@ -81,9 +82,13 @@ pub record RunsOver (r : Run) (command : Command) : Type 0 where
   pub opens : IsTrue r.before.devices.told → OpenAs (shape_of command) r.before.devices.bytes start.kept
   pub well : WellKept start.kept
   pub can_stop : start.can_stop ≡ r.before.devices.can_stop
+  pub early : start.early ≡ false
+  pub over_net : start.over_net ≡ false
   pub tells : Tells start trace r.story
   pub promises : Promises trace
   pub unspent : Each OpensUnspent trace
+  pub drains : Always DoesItsRests trace
+  pub stops : StopsByLines r.status r.before.devices.armed trace r.after.devices.armed
   pub does : Does command r trace
   pub may : IsNoRefusal r.status
   pub leaves : MayLeave (way_of r.status).leave trace
@@ -92,9 +97,9 @@ pub record RunsOver (r : Run) (command : Command) : Type 0 where
 
 -- THE RUN
 
--- each device behind those of the last partition keeps its images
+-- each device that is no log of the shape keeps its images, one with pages too
 abbrev pub AreOthersKept : Shape → (old new : View) → Type 0
-AreOthersKept shape old new = IsTrue old.told → (dev : ℕ) → dev < old.count → part_device shape.parts ≤ dev → Shrinks old new dev
+AreOthersKept shape old new = IsTrue old.told → (dev : ℕ) → dev < old.count → ¬ IsStoreLog shape.parts dev → Shrinks old new dev
 
 abbrev pub ends_reading : Status → Bool
 ends_reading ReadFault = true
