@@ -142,8 +142,11 @@ others =
     ∷ is (event.Down why.Fault) (codes "down fault")
     ∷ is (event.Opened 1 0) (codes "opened 1 0")
     ∷ is event.Ready (codes "ready")
+    ∷ is (event.Early (id 1 1 ∷ id 1 2 ∷ [])) (codes "early b1.1 b1.2")
+    ∷ is (event.Early (id 30 largest ∷ [])) (codes "early b30.18446744073709551615")
     ∷ is (event.Defined 10 (codes "create table t (k int key)")) (codes "defined 10 create table t (k int key)")
     ∷ is (event.Armed ((1, 0) ∷ (1000000, 4) ∷ [])) (codes "armed 1 0 1000000 4")
+    ∷ is (event.Armed ((1, 0) ∷ (2, 1) ∷ (3, 2) ∷ [])) (codes "armed 1 0 2 1 3 2")
     ∷ []
 
 waits_programs_and_openings : TextsAre others
@@ -188,6 +191,8 @@ limits =
     ∷ is (event.Refused (refused.Limit limit.Crash)) (codes "refused 4 limit crash")
     ∷ is (event.Refused (refused.Limit limit.Pick)) (codes "refused 4 limit pick")
     ∷ is (event.Refused (refused.Limit limit.Pairs)) (codes "refused 4 limit pairs")
+    ∷ is (event.Refused (refused.Limit limit.Net)) (codes "refused 4 limit net")
+    ∷ is (event.Refused (refused.Limit limit.Act)) (codes "refused 4 limit act")
     ∷ is (event.Refused (refused.Limit limit.Bases)) (codes "refused 4 limit bases")
     ∷ []
 

@@ -98,6 +98,7 @@ fn print_event_line<K: Sink>(out: &mut Printer<'_, K>, schema: &Schema, event: &
         }
         Event::Opened { boot, decisions } => print_opened(out, *boot, *decisions),
         Event::Ready => out.bytes(b"ready"),
+        Event::Early(bases) => print_list(out, b"early", bases.as_slice()),
         Event::Defined { number, text } => print_defined(out, *number, text),
         Event::Refused(refusal) => {
             out.bytes(b"refused ");

@@ -6,7 +6,7 @@ use Rattle.salt_model.specs.declared.events.Answer.TheVariants.{Cell, Count, Row
 use Rattle.salt_model.specs.declared.events.Cause.TheVariants.{Check}
 use Rattle.salt_model.specs.declared.events.End.TheVariants.{Branched, Committed, Victim}
 use Rattle.salt_model.specs.declared.events.Event.{Event}
-use Rattle.salt_model.specs.declared.events.Event.TheVariants.{Accepted, Began, Did, Ended, Finished, Ready, Released, Waits}
+use Rattle.salt_model.specs.declared.events.Event.TheVariants.{Accepted, Began, Did, Early, Ended, Finished, Ready, Released, Waits}
 use Rattle.salt_model.specs.declared.events.Owner.TheVariants.{Unit}
 use Rattle.salt_model.specs.declared.events.UnitKind.TheVariants.{Acid, Later}
 use Rattle.salt_workload.specs.Summary.{summary_text}
@@ -26,6 +26,12 @@ done = Ensure (Lit (Int (pos 1)))
 nothing_done : summary_text 8 0 (Ready ∷ []) ≡ codes "load 8 lines 0 units 0 committed 0 accepted 0 released 0 waits 0 victims 0 total none" ++ 10 ∷ []
 unfolding digits
 nothing_done = refl
+
+-- the programs that an early opening names are not released
+only_opened : summary_text 8 0 (Early (id_at 1 ∷ id_at 2 ∷ []) ∷ []) ≡
+    codes "load 8 lines 0 units 0 committed 0 accepted 0 released 0 waits 0 victims 0 total none" ++ 10 ∷ []
+unfolding digits
+only_opened = refl
 
 -- Two units begin, and one waits and is given up; the other commits and is accepted. A later part branches, which is no commit; two
 -- programs are released by one event.
