@@ -23,7 +23,7 @@ use Rattle.salt_model.specs.Trace.{Trace, ◌says◌}
 use Rattle.salt_model.specs.Turns.{is_statement_line}
 use Rattle.salt_model.specs.declared.events.End.TheVariants.{Cut}
 use Rattle.salt_model.specs.declared.events.Event.{Event}
-use Rattle.salt_model.specs.declared.events.Event.TheVariants.{Began, Defined, Ended, Opened, Ready, Released}
+use Rattle.salt_model.specs.declared.events.Event.TheVariants.{Began, Defined, Early, Ended, Opened, Ready, Released}
 use Rattle.law_openings.proofs.Moving.{units-stand}
 use Rattle.law_openings.proofs.Resting.{opening-comes}
 use Rattle.salt_drain.proofs.Chosen.{gives-same}
@@ -47,7 +47,16 @@ pub books-opened : (x y : Books) (boot n : ℕ) (s : UnitState) → (k : KnowUni
     ((t : UnitState) (m : ℕ) → AreBooks x t → AreBooks y (units_after (Opened boot m) t)) → AreBooks y (units_after (Opened boot n) s)
 books-opened x y boot n s k none opens =
     let h = opens (record s { unit_count = k.units; base_count = k.bases; to_go = k.goes }) n k.are in
-    record { known = h.known; units = h.units; unit_count = h.unit_count; base_count = h.base_count; to_go = h.to_go ∙ goes-as s k.goes k.going none }
+    record {
+      known = h.known;
+      units = h.units;
+      unit_count = h.unit_count;
+      base_count = h.base_count;
+      to_go = h.to_go ∙ goes-as s k.goes k.going none;
+      early = h.early;
+      named = h.named;
+      owes = h.owes;
+    }
 
 pub flies-opened : (i : Option InFlight) (f : Option Event) (boot n : ℕ) (s : UnitState) → IsInFlight i f s → IsInFlight i f (units_after (Opened boot n) s)
 flies-opened None f boot n s h = h
@@ -167,6 +176,7 @@ resting-undecided : (e : Event) → is_resting e ≡ true → decision_in (Some 
 resting-undecided (Ended u Cut) h = refl
 resting-undecided (Began u kind) h = refl
 resting-undecided Ready h = refl
+resting-undecided (Early bs) h = refl
 resting-undecided e h = cc
 
 rests-undecided : (s : UnitState) (e : Event) → Some e ≡ rest_in s → IsInFlight None (decision_in (Some e)) s

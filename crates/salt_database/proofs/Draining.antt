@@ -1,69 +1,23 @@
--- What may be kept leads on, and can be drained: programs are spelled and proper, and their continuations stand at parts of them.
-use Rattle.salt_ast.specs.Paths.{at_number}
-use Rattle.salt_ast.specs.ProgramJudgement.{are_arguments, branch_fault}
-use Rattle.salt_ast.specs.Programs.{IsBody, IsPart, IsProgram, Several, and_more, is_acid, is_base, is_block, is_part, is_program, last_one}
-use Rattle.salt_ast.specs.Statements.{ListedBy, items}
-use Rattle.salt_ast.specs.declared.programs.Body.{Body}
+-- What may be kept leads on, and can be drained.
+use Rattle.law_decisions.proofs.Draining as draining
+use Rattle.law_decisions.proofs.Draining.{every-both, spelled-programs}
+use Rattle.law_decisions.proofs.Reading.{few-parts}
+use Rattle.law_openings.specs.Draining.{CanDrain}
+use Rattle.law_types.specs.Typed.{IsProperProgram}
+use Rattle.salt_ast.specs.ProgramJudgement.{branch_fault}
 use Rattle.salt_ast.specs.declared.programs.Body.TheVariants.{Acid, Base}
-use Rattle.salt_ast.specs.declared.programs.PartDef.{PartDef}
+use Rattle.salt_ast.specs.declared.programs.Body.{Body}
 use Rattle.salt_ast.specs.declared.programs.ProgramDef.{ProgramDef}
-use Rattle.salt_ast.specs.declared.trees.Expr.{Expr}
 use Rattle.salt_ast.specs.declared.trees.TableDef.{TableDef}
+use Rattle.salt_books.specs.Known.{AllLeadOn}
 use Rattle.salt_cont.proofs.Defined.{of-named}
 use Rattle.salt_cont.specs.Moves.{LeadOn}
-use Rattle.salt_stands.specs.Fitting.{is_cont_of, stands_at_part}
-use Rattle.salt_books.specs.Known.{AllLeadOn}
-use Rattle.salt_model.specs.Kept.{Definition, Kept, OfProgram, OfTable, kept_program, parts_of, program_of_definition, programs_of, schema_of}
+use Rattle.salt_model.specs.Kept.{Kept, programs_of, schema_of}
 use Rattle.salt_model.specs.Printable.{IsSpelledProgram}
-use Rattle.salt_model.specs.Words.{Every}
-use Rattle.law_openings.specs.Draining.{CanDrain, LeadsOn, StandsAtPart}
 use Rattle.salt_program.specs.Refusals.{parts_in}
-use Rattle.law_decisions.proofs.Reading.{few-parts}
-use Rattle.salt_storage.specs.Storing.{IsSoundKept, IsSpelledDefinition}
-use Rattle.salt_tokens.specs.Symbols.{Symbols}
-use Rattle.salt_tokens.specs.declared.sign.Sign.{Sign}
-use Rattle.law_types.specs.Typed.{IsContOf, IsProperProgram}
-use Rattle.salt_values.specs.declared.cont.Cont.{Cont}
-use Rattle.std.proofs.Common.{arith, subst}
-use Rattle.std.specs.List.{filter_map}
-use Rattle.std.specs.Prelude.{Bool, List, None, Option, Some, [], false, is_some, length, nat_lt, refl, true, ◌&&◌, ◌<◌, ◌∷◌, ◌≡◌}
-
--- BLOCKS of what is spelled have a statement.
-
-listed-some : {A : Type 0} (mark : Sign) (Item : Symbols → A → Type 0) (ts : Symbols) (xs : List A) → ListedBy mark Item ts xs → 0 < length xs
-listed-some mark Item _ _ (items i l) = omega arith
-
-part-some : (Inner Deeper : Symbols → Expr → Type 0) (ts : Symbols) (p : PartDef) → IsPart Inner Deeper ts p → 0 < length p.block
-part-some Inner Deeper _ _ (is_part (is_block l) t f) = listed-some _ _ _ _ l
-
-parts-some : (Inner Deeper : Symbols → Expr → Type 0) (ts : Symbols) (ps : List PartDef) → Several (IsPart Inner Deeper) ts ps → Every (λ (p : PartDef). 0 < length p.block) ps
-parts-some Inner Deeper _ _ (last_one p) = (part-some Inner Deeper _ _ p, tt)
-parts-some Inner Deeper _ _ (and_more p s) = (part-some Inner Deeper _ _ p, parts-some Inner Deeper _ _ s)
-
-body-some : (Inner Deeper : Symbols → Expr → Type 0) (ts : Symbols) (b : Body) → IsBody Inner Deeper ts b → Every (λ (p : PartDef). 0 < length p.block) (parts_in b)
-body-some Inner Deeper _ _ (is_acid l) = tt
-body-some Inner Deeper _ _ (is_base s) = parts-some Inner Deeper _ _ s
-
-program-some : (Inner Deeper : Symbols → Expr → Type 0) (ts : Symbols) (p : ProgramDef) → IsProgram Inner Deeper ts p → Every (λ (p : PartDef). 0 < length p.block) (parts_in p.body)
-program-some Inner Deeper _ _ (is_program f v b) = body-some Inner Deeper _ _ b
-
-parts-same : (p : ProgramDef) → parts_in p.body ≡ parts_of p
-parts-same p = by p.body
-  where
-    by : (b : Body) → parts_in b ≡ elim b [ Acid block ↦ [] | Base parts ↦ parts ]
-    by (Acid block) = refl
-    by (Base parts) = refl
-
--- PROGRAMS of what may be kept
-
-spelled-programs : (ds : List Definition) → Every IsSpelledDefinition ds → Every IsSpelledProgram (filter_map program_of_definition ds)
-spelled-programs [] h = tt
-spelled-programs (OfTable d ∷ ds) h = spelled-programs ds h.1
-spelled-programs (OfProgram p ∷ ds) h = (h.0, spelled-programs ds h.1)
-
-every-both : {A : Type 0} (P Q R : A → Type 0) → ((x : A) → P x → Q x → R x) → (xs : List A) → Every P xs → Every Q xs → Every R xs
-every-both P Q R f [] h k = tt
-every-both P Q R f (x ∷ xs) h k = (f x h.0 k.0, every-both P Q R f xs h.1 k.1)
+use Rattle.salt_storage.specs.Storing.{IsSoundKept}
+use Rattle.std.proofs.Common.{arith}
+use Rattle.std.specs.Prelude.{List, None, refl, ◌≡◌}
 
 leads : (schema : List TableDef) (p : ProgramDef) → IsProperProgram schema p → IsSpelledProgram p → LeadOn (parts_in p.body)
 leads schema p proper spelled = record { few = few-parts p spelled; sound = by p.body proper.branches }
@@ -72,46 +26,10 @@ leads schema p proper spelled = record { few = few-parts p spelled; sound = by p
     by (Acid block) h = refl
     by (Base parts) h = h
 
-leads-drained : (schema : List TableDef) (p : ProgramDef) → IsProperProgram schema p → IsSpelledProgram p → LeadsOn p
-leads-drained schema p proper spelled = record {
-  ways = proper.branches;
-  blocks = subst (Every (λ (part : PartDef). 0 < length part.block)) (parts-same p) (program-some _ _ _ p spelled.spells.spelled);
-}
-
 pub leads-on : (k : Kept) → IsSoundKept k → AllLeadOn (programs_of k)
 leads-on k sound name =
     of-named LeadOn (programs_of k) name (record { few = omega arith; sound = refl })
     (every-both (IsProperProgram (schema_of k)) IsSpelledProgram (λ p. LeadOn (parts_in p.body)) (leads (schema_of k)) (programs_of k) sound.typed.programs (spelled-programs k.definitions sound.spelled))
 
--- CONTINUATIONS stand at parts.
-
-both-first : (a b : Bool) → (a && b) ≡ true → a ≡ true
-both-first true b h = refl
-both-first false b h = cc
-
-both-second : (a b : Bool) → (a && b) ≡ true → b ≡ true
-both-second true b h = h
-both-second false b h = cc
-
-stands : (k : Kept) (c : Cont) → IsContOf k c → StandsAtPart k c
-stands k c h = by (kept_program c.program k) refl h
-  where
-    at : (p : ProgramDef) → kept_program c.program k ≡ Some p → (o : Option PartDef) → at_number c.next (parts_of p) ≡ o → is_some o ≡ true → StandsAtPart k c
-    at p found None e h = absurd cc
-    at p found (Some part) e h = record { program = p; part = part; found = found; there = e }
-
-    by : (o : Option ProgramDef) → kept_program c.program k ≡ o → is_cont_of o c ≡ true → StandsAtPart k c
-    by None e h = absurd cc
-    by (Some p) e h =
-        let place = both-second (are_arguments p.vars c.vars) (stands_at_part p c.next c.tries) (both-second (are_arguments p.params c.args) _ h) in
-        at p e (at_number c.next (parts_of p)) refl (both-first (is_some (at_number c.next (parts_of p))) _ (both-second (nat_lt 1 c.next) _ place))
-
-every-stands : (k : Kept) (cs : List Cont) → Every (IsContOf k) cs → Every (StandsAtPart k) cs
-every-stands k [] h = tt
-every-stands k (c ∷ cs) h = (stands k c h.0, every-stands k cs h.1)
-
 pub can-drain : (k : Kept) → IsSoundKept k → CanDrain k
-can-drain k sound = record {
-  programs = every-both (IsProperProgram (schema_of k)) IsSpelledProgram LeadsOn (leads-drained (schema_of k)) (programs_of k) sound.typed.programs (spelled-programs k.definitions sound.spelled);
-  conts = every-stands k k.conts sound.typed.conts;
-}
+can-drain k sound = draining.can-drain k sound.typed sound.spelled

@@ -24,6 +24,7 @@ use Rattle.law_openings.proofs.Opening.{falls-again, none-to-go}
 use Rattle.law_openings.specs.Openings.{FallsAgain}
 use Rattle.law_decisions.proofs.Flying.{fallen-same}
 use Rattle.law_decisions.proofs.Owning.{fallen-none}
+use Rattle.salt_driver.proofs.PlainStarts.{owes-none}
 use Rattle.salt_driver.specs.Opening.{IsFallenFrom}
 use Rattle.salt_values.specs.declared.id.Id.{Id}
 use Rattle.salt_conflicts.proofs.Others.{others}
@@ -107,13 +108,16 @@ fallen-next p trace keeps sound fallen = by p.next keeps.next
 falls-there : (p : Point) (trace : Trace) → KeepsPoint p trace → IsSound trace → p.state.units.phase ≡ Fallen → FallsAgain p p
 falls-there p trace keeps sound fallen =
     let none = none-to-go p.state.units trace keeps.state.units sound (inl fallen) in
+    let owed = owes-none p.state.units trace keeps.state.units sound (inl fallen) in
     record {
       fallen = fallen;
       after = record {
-        units = λ i. record p.state.units { phase = fallen i; to_go = none i };
+        units = λ i. record p.state.units { phase = fallen i; to_go = none i; owes = owed i };
         watch = others p.state.watch (facts_in p.state.units (Down Stopped)) (Down Stopped) tt;
         names = λ b. refl;
         can_stop = refl;
+        over_net = refl;
+        net = λ shape. refl;
       };
       next = fallen-next p trace keeps sound fallen;
       flight = refl;

@@ -24,7 +24,7 @@ pub takes-on : (x : Found) (k : Kept) (known : Known) (books : Books) (found : O
     are_spent x.boot x.decisions ≡ false →
     (x.schema ≡ schema_of k → x.catalogue ≡ programs_of k → x.conts ≡ k.conts → x.boot ≡ k.boot → x.decisions ≡ k.decisions → AllLeadOn (programs_of k) → IsKnown known k) →
     ((phase : Phase) (line : Line) → IsKnown known k →
-    AreBooks books (record { kept = k; phase = phase; line = line; to_go = []; units = []; unit_count = 0; base_count = 0 })) →
+    AreBooks books (record { kept = k; phase = phase; line = line; to_go = []; early = false; named = []; owes = false; units = []; unit_count = 0; base_count = 0 })) →
     found ≡ Some (record { boot = x.boot; decisions = x.decisions }) → stage ≡ at.Down books → IsTakenOn k found stage
 takes-on x k known books found stage is sound unspent knows fresh numbered there =
     let it : IsKnown known k = knows is.schema is.catalogue is.conts is.boot is.decisions (leads-on k sound) in

@@ -1,8 +1,8 @@
 -- An opening goes on, or is done and lines are served: what was performed is a move of the engine's point, or it broke off there.
 use Rattle.salt_database.proofs.OpeningGoes.{leaves-less, meant, moves, point, stands}
-use Rattle.salt_database.proofs.ReadyDone.{ready-after, ready-bases, ready-books, ready-conts, ready-moves, ready-point, ready-state, ready-turns, ready-units}
+use Rattle.salt_database.proofs.ReadyDone.{ready-after, ready-bases, ready-books, ready-conts, ready-moves, ready-named, ready-owes, ready-point, ready-state, ready-turns, ready-units}
 use Rattle.salt_database.specs.Performing.{MayStep}
-use Rattle.salt_database.specs.Standing.{OpensIn, is_ready, left_in, opening_books}
+use Rattle.salt_database.specs.Standing.{OpensIn, ends_opening, left_in, opening_books}
 use Rattle.salt_engine.proofs.Broken.{noted}
 use Rattle.salt_engine.proofs.Flying.{flight-next, kept-decided, none-flies}
 use Rattle.salt_engine.proofs.Going.{flight-decides, onwards-line, reads}
@@ -23,11 +23,13 @@ use Rattle.salt_model.specs.Next.{decision_in}
 use Rattle.salt_model.specs.Phases.{Fallen, Opening}
 use Rattle.salt_model.specs.Turns.{is_statement_line}
 use Rattle.salt_model.specs.declared.events.Event.{Event}
-use Rattle.salt_model.specs.declared.events.Event.TheVariants.{Ready}
+use Rattle.salt_model.specs.declared.events.Event.TheVariants.{Early, Ready}
 use Rattle.law_openings.proofs.Opening.{ready-idle}
 use Rattle.salt_drain.specs.Recovering.{HasDoneEvent}
 use Rattle.salt_drain.specs.declared.recovery.Recovery.{Recovery}
+use Rattle.salt_driver.proofs.PlainStarts.{never-early, plain-after}
 use Rattle.salt_driver.specs.Draining.{MayTick}
+use Rattle.salt_driver.specs.Opening.{HasPlainStart}
 use Rattle.salt_driver.specs.Standing.{BreaksAt, IsOpenedOn, IsSoundPoint}
 use Rattle.salt_storage.specs.Storing.{IsSoundKept}
 use Rattle.salt_storage.specs.Writing.{ToWrite}
@@ -61,7 +63,7 @@ untold-lost x e p sound t d comes opening holds leaves fills stoppable found unf
 
 -- IT GOES ON
 
-module _ (x : Recovery) (e : Event) (p : Point) (sound : IsSoundPoint p) (t : State) (d : HasDoneEvent x e p.state t) (comes : p.next ≡ Some e) (going : is_ready e ≡ false) where
+module _ (x : Recovery) (e : Event) (p : Point) (sound : IsSoundPoint p) (t : State) (d : HasDoneEvent x e p.state t) (comes : p.next ≡ Some e) (going : ends_opening e ≡ false) where
   abbrev pub now : Point
   now = point x e p sound t d comes going
 
@@ -77,15 +79,15 @@ module _ (x : Recovery) (e : Event) (p : Point) (sound : IsSoundPoint p) (t : St
   now-flies = flight-decides e p.flight wanted d.plain
 
   pub opens-halts : (holds : Kept → Type 0) (leaves : Kept → Kept → Type 0) (fills : ToWrite → ℕ → Type 0) (halt : Halt) (old stoppable : Bool) (found : Option Numbers) → found ≡ None →
-      (was single : Bool) (stage : Stage Recovery) (in_flight : Option InFlight) (story told : List Event) → BreaksOff leaves fills halt stage in_flight wanted t.units → p.state.can_stop ≡ old → stoppable ≡ old →
+      (was single : Bool) (stage : Stage Recovery) (in_flight : Option InFlight) (story told : List Event) → BreaksOff leaves fills halt stage in_flight wanted t.units → p.state.can_stop ≡ old → HasPlainStart p.state → stoppable ≡ old →
       was ≡ is_statement_line p.state.units.line → single ≡ was → IsSoundKept t.units.kept → told ≡ story ++ e ∷ [] →
       BreaksAt (λ p. CanReopenAt holds leaves stoppable found (opening_books stage) single in_flight 0 p) (λ p. LeavesOnDevices holds leaves (IsSome in_flight) found 0 p × ⊤) fills (flight_of in_flight) halt p e story told
-  opens-halts holds leaves fills halt old stoppable found unfound was single stage in_flight story told b can same lined kept may tells = inr (
+  opens-halts holds leaves fills halt old stoppable found unfound was single stage in_flight story told b can began same lined kept may tells = inr (
     tells,
     (
       now,
       moves x e p sound t d comes going,
-      halts (λ (x : Recovery). x.books) holds leaves fills halt stoppable found unfound stage single in_flight now b now-flies (d.after.can_stop ∙ can ∙ sym same)
+      halts (λ (x : Recovery). x.books) holds leaves fills halt stoppable found unfound stage single in_flight now b now-flies (d.after.can_stop ∙ can ∙ sym same) (plain-after e p.state t d.after began)
           (kept ∙ lined ∙ ap is_statement_line (sym (onwards-line p sound e t d.plain comes d.after))) may,
     ),
   )
@@ -110,9 +112,9 @@ module _ (x : Recovery) (p : Point) (sound : IsSoundPoint p) (t : State) (d : Ha
       (ready-point x p sound t d comes opening, m, record { state = state; idle = ready-idle p (ready-point x p sound t d comes opening) sound.trace sound.keeps sound.sound m.0 })
 
   pub ready-sees : (holds : Kept → Type 0) (is_new : Id → Type 0) (old stoppable was single : Bool) (stage : Stage Recovery) (in_flight : Option InFlight) → stage ≡ at.Going x →
-      Stored holds is_new t.units → p.state.can_stop ≡ old → stoppable ≡ old → was ≡ is_statement_line p.state.units.line → single ≡ was → in_flight ≡ None →
+      Stored holds is_new t.units → p.state.can_stop ≡ old → HasPlainStart p.state → stoppable ≡ old → was ≡ is_statement_line p.state.units.line → single ≡ was → in_flight ≡ None →
       AgreesWithState (OpensIn holds is_new stage) stoppable single in_flight None there
-  ready-sees holds is_new old stoppable was single stage in_flight at stored can same line kept none = record {
+  ready-sees holds is_new old stoppable was single stage in_flight at stored can began same line kept none = record {
     seen = subst (λ (s : Stage Recovery). OpensIn holds is_new s None there) (sym at) (
       record {
         books = ready-books x p sound t d comes opening;
@@ -120,20 +122,26 @@ module _ (x : Recovery) (p : Point) (sound : IsSoundPoint p) (t : State) (d : Ha
         bases = ready-bases x p sound t d comes opening;
         conts = ready-conts x p sound t d comes opening;
         to_go = ready-turns x p sound t d comes opening;
+        early = (plain-after Ready p.state there (ready-after x p sound t d comes opening) began).early;
+        named = ready-named x p sound t d comes opening began;
+        owes = ready-owes x p sound t d comes opening;
         watch = refl;
       },
       stored,
     );
     can_stop = d.after.can_stop ∙ can ∙ sym same;
+    plain = plain-after Ready p.state there (ready-after x p sound t d comes opening) began;
     line = kept ∙ line ∙ ap is_statement_line (sym (onwards-line p sound Ready there refl comes (ready-after x p sound t d comes opening)));
     flies = none-flies in_flight None there.units none refl;
   }
 
 -- BY WHAT is at hand
 
-pub ready-is : (e : Event) → is_ready e ≡ true → e ≡ Ready
-ready-is Ready h = refl
-ready-is e h = cc
+-- no opening is early, so it ends by its Ready
+pub ends-ready : (e : Event) (p : Point) → IsSoundPoint p → HasPlainStart p.state → p.next ≡ Some e → ends_opening e ≡ true → e ≡ Ready
+ends-ready Ready p sound began comes h = refl
+ends-ready (Early bs) p sound began comes h = absurd (never-early p bs sound began comes)
+ends-ready e p sound began comes h = cc
 
 pub done-ready : (x : Recovery) (e : Event) (s t : State) → e ≡ Ready → HasDoneEvent x e s t → HasDoneEvent x Ready s t
 done-ready x e s t is d = subst (λ (k : Event). HasDoneEvent x k s t) is d
@@ -154,7 +162,7 @@ ready-less old stage x y e there is serves =
     (subst (λ (k : Event). 0 < left_in (at.Going x) (Some k)) (sym is) (omega arith)))
 
 pub opening-less : (holds : Kept → Type 0) (is_new : Id → Type 0) (old stage : Stage Recovery) (x : Recovery) (e given : Event) (p : Point) (sound : IsSoundPoint p) (t : State)
-    (d : HasDoneEvent x e p.state t) (comes : p.next ≡ Some e) (going : is_ready e ≡ false) → old ≡ at.Going x → OpensIn holds is_new stage (Some given) t →
+    (d : HasDoneEvent x e p.state t) (comes : p.next ≡ Some e) (going : ends_opening e ≡ false) → old ≡ at.Going x → OpensIn holds is_new stage (Some given) t →
     IsSoundKept t.units.kept → Some given ≡ meant x e p sound t d comes going → left_in stage (Some given) < left_in old (Some e)
 opening-less holds is_new old stage x e given p sound t d comes going there seen kept told =
     subst (λ (s : Stage Recovery). left_in stage (Some given) < left_in s (Some e)) (sym there) (by stage seen)

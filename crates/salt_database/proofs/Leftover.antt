@@ -7,8 +7,9 @@ use Rattle.law_states.specs.OpenUnits.{UnitState}
 use Rattle.law_states.specs.States.{State}
 use Rattle.law_states.specs.Steps.{units_after}
 use Rattle.salt_model.specs.declared.events.Event.{Event}
-use Rattle.salt_model.specs.declared.events.Event.TheVariants.{Ready}
-use Rattle.law_openings.specs.Draining.{done_now, is_earlier, left_to_open, opening_stage, rests_of, statements_left, units_to_cut}
+use Rattle.salt_model.specs.declared.events.Event.TheVariants.{Early, Ready}
+use Rattle.law_openings.specs.Draining.{done_now, is_earlier, left_to_open, opening_stage, statements_left, units_to_cut}
+use Rattle.salt_model.specs.Rests.{rests_of}
 use Rattle.salt_drain.specs.Recovering.{HasDoneEvent, StandsBehindEvent}
 use Rattle.salt_drain.specs.declared.recovery.Recovery.{Recovery}
 use Rattle.std.proofs.Common.{ap, subst}
@@ -22,6 +23,7 @@ left-books x s h = λ i.
 
 pub behind-books : (e : Event) (x : Recovery) (s : UnitState) → StandsBehindEvent e x s → AreBooks x.books s
 behind-books Ready x s h = h.0
+behind-books (Early bs) x s h = h.0
 behind-books e x s h = h.books
 
 pub left-at : (x : Recovery) (e : Event) (s t : State) → HasDoneEvent x e s t → left_in (Going x) (Some e) ≡ left_to_open s.units (Some e)

@@ -19,6 +19,7 @@ use Rattle.salt_model.specs.declared.events.Event.{Event}
 use Rattle.salt_model.specs.declared.events.Event.TheVariants.{Down}
 use Rattle.salt_model.specs.declared.events.Why.{Why}
 use Rattle.salt_drain.specs.declared.recovery.Recovery.{Recovery}
+use Rattle.salt_driver.proofs.PlainStarts.{plain-after}
 use Rattle.salt_driver.specs.Opening.{IsFallenFrom, IsOpenedFirst}
 use Rattle.salt_storage.specs.Storing.{IsSoundKept}
 use Rattle.salt_storage.specs.declared.found.Numbers.{Numbers}
@@ -48,12 +49,16 @@ opened-first holds leaves stoppable found stage single in_flight k new holding s
             unit_count = books.unit_count;
             base_count = books.base_count;
             to_go = books.to_go;
+            early = books.early ∙ sym u.plain.early;
+            named = books.named ∙ sym u.named;
+            owes = books.owes ∙ sym u.owes;
           };
           going = inl refl;
         },
       );
       sound = subst IsSoundKept (sym u.kept) sound;
       can_stop = u.can_stop;
+      plain = u.plain;
       line = new.line ∙ sym (ap is_statement_line u.line);
       flies = subst (λ (i : Option InFlight). IsInFlight i p.flight p.state.units) (sym new.none) u.flight;
     }
@@ -96,6 +101,7 @@ fallen-lies holds now leaves again old stoppable found books later single in_fli
       knows = subst (KnowsUnits later) (sym units) (knows p.state.units fell.why h.knows);
       sound = subst (λ (s : UnitState). IsSoundKept s.kept) (sym units) h.sound;
       can_stop = fell.after.can_stop ∙ h.can_stop ∙ sym same;
+      plain = plain-after (Down fell.why) p.state q.state fell.after h.plain;
       line = h.line ∙ sym (ap (λ (s : UnitState). is_statement_line s.line) units);
       flies =
           subst (λ (f : Option Event). IsInFlight in_flight f q.state.units) (sym fell.flight)

@@ -33,5 +33,8 @@ ready-over stage x y books known schema catalogue boot decisions begun s is_x is
       bases = o.bases;
       conts = o.conts;
       to_go = o.to_go;
+      early = o.early;
+      named = o.named;
+      owes = o.owes;
       watch = o.watch;
     }

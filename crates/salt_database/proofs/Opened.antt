@@ -11,7 +11,7 @@ use Rattle.law_states.specs.Follows.{opened_in}
 use Rattle.law_states.specs.Laws.{IsSound}
 use Rattle.law_states.specs.Points.{KeepsPoint, Point}
 use Rattle.law_states.specs.Readings.{Reading}
-use Rattle.law_states.specs.States.{Keeps, State, named_by}
+use Rattle.law_states.specs.States.{Keeps, State, named_by, net_by}
 use Rattle.law_states.specs.Steps.{units_after}
 use Rattle.salt_model.specs.After.{kept}
 use Rattle.salt_model.specs.Kept.{Kept}
@@ -137,7 +137,14 @@ module _ (p : Point) (sound : IsSoundPoint p) (fallen : p.state.units.phase ≡ 
   there = leaves p.state before (Opened boot number) kept-there.0.state kept-there.1
 
   abbrev pub state : State
-  state = record { units = units_after (Opened boot number) p.state.units; watch = there.watch; names = named_by (Opened boot number) p.state.names; can_stop = p.state.can_stop }
+  state = record {
+    units = units_after (Opened boot number) p.state.units;
+    watch = there.watch;
+    names = named_by (Opened boot number) p.state.names;
+    can_stop = p.state.can_stop;
+    over_net = p.state.over_net;
+    net = net_by (Opened boot number) p.state.units p.state.net;
+  }
 
   opened-sound : IsSound (before says Opened boot number)
   opened-sound = record { played = (kept-there.1.played, may); well = kept-there.1.well }

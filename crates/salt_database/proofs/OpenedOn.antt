@@ -13,7 +13,7 @@ use Rattle.salt_model.specs.Next.{is_decision}
 use Rattle.salt_model.specs.Phases.{Fallen}
 use Rattle.salt_model.specs.declared.events.End.TheVariants.{Cut}
 use Rattle.salt_model.specs.declared.events.Event.{Event}
-use Rattle.salt_model.specs.declared.events.Event.TheVariants.{Armed, Began, Ended, Opened, Ready}
+use Rattle.salt_model.specs.declared.events.Event.TheVariants.{Armed, Began, Early, Ended, Opened, Ready}
 use Rattle.salt_drain.specs.Follows.{rest_in}
 use Rattle.law_decisions.proofs.Flying.{opened-same}
 use Rattle.salt_driver.specs.Counting.{stops_armed}
@@ -31,6 +31,7 @@ resting-keeps : (s : UnitState) (e : Event) → is_resting e ≡ true → (units
 resting-keeps s (Ended u Cut) h = refl
 resting-keeps s (Began u kind) h = refl
 resting-keeps s Ready h = refl
+resting-keeps s (Early bs) h = refl
 resting-keeps s e h = cc
 
 resting-unarmed : (e : Event) → is_resting e ≡ true → stops_armed e ≡ []

@@ -35,7 +35,8 @@ use Rattle.salt_model.specs.declared.events.Cause.{Cause}
 use Rattle.salt_model.specs.declared.events.Event.{Event}
 use Rattle.salt_model.specs.declared.events.Event.TheVariants.{Armed}
 use Rattle.law_openings.proofs.Resting.{never-rests}
-use Rattle.law_openings.specs.Draining.{statements_at, statements_in}
+use Rattle.law_openings.specs.Draining.{statements_at}
+use Rattle.salt_model.specs.Rests.{statements_in}
 use Rattle.salt_drain.specs.Follows.{comes_behind}
 use Rattle.salt_drain.specs.Recovering as recovering
 use Rattle.salt_drain.specs.declared.recovery.Recovery.{Recovery}

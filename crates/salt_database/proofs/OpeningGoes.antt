@@ -2,7 +2,7 @@
 use Rattle.salt_database.proofs.Draining.{can-drain}
 use Rattle.salt_database.proofs.Leftover.{left-at}
 use Rattle.salt_database.specs.Performing.{GoesOnOpening}
-use Rattle.salt_database.specs.Standing.{is_ready, left_in, OpensIn}
+use Rattle.salt_database.specs.Standing.{ends_opening, left_in, OpensIn}
 use Rattle.salt_engine.proofs.Going.{onwards, onwards-line, played-before, reads, says-keeps, says-moves, says-sound}
 use Rattle.salt_engine.specs.Performing.{Performs}
 use Rattle.salt_engine.specs.Standing.{AgreesWithState}
@@ -19,13 +19,15 @@ use Rattle.salt_model.specs.Kept.{Kept}
 use Rattle.salt_model.specs.Phases.{Opening}
 use Rattle.salt_model.specs.Turns.{is_statement_line}
 use Rattle.salt_model.specs.declared.events.Event.{Event}
-use Rattle.salt_model.specs.declared.events.Event.TheVariants.{Ready}
+use Rattle.salt_model.specs.declared.events.Event.TheVariants.{Early, Ready}
 use Rattle.law_openings.proofs.Moving.{says-falls, units-stand}
 use Rattle.law_openings.proofs.Opening.{said-in-opening}
 use Rattle.law_openings.specs.Draining.{left_to_open}
 use Rattle.salt_drain.specs.Follows.{comes_behind, rest_in}
 use Rattle.salt_drain.specs.Recovering.{HasDoneEvent, StandsForState, StandsBehindEvent, StandsForUnits}
 use Rattle.salt_drain.specs.declared.recovery.Recovery.{Recovery}
+use Rattle.salt_driver.proofs.PlainStarts.{plain-after}
+use Rattle.salt_driver.specs.Opening.{HasPlainStart}
 use Rattle.salt_driver.specs.Standing.{IsSoundPoint}
 use Rattle.salt_storage.specs.Storing.{IsSoundKept}
 use Rattle.salt_values.specs.declared.id.Id.{Id}
@@ -33,11 +35,12 @@ use Rattle.std.proofs.Common.{ap, subst, sym, ◌∙◌}
 use Rattle.std.specs.Option.{option_or}
 use Rattle.std.specs.Prelude.{Bool, Option, Some, false, ◌<◌, ◌≡◌}
 
-pub behind-stands : (e : Event) (x : Recovery) (s : UnitState) → is_ready e ≡ false → StandsBehindEvent e x s → StandsForUnits x s
+pub behind-stands : (e : Event) (x : Recovery) (s : UnitState) → ends_opening e ≡ false → StandsBehindEvent e x s → StandsForUnits x s
 behind-stands Ready x s r h = cc
+behind-stands (Early bs) x s r h = cc
 behind-stands e x s r h = h
 
-module _ (x : Recovery) (e : Event) (p : Point) (sound : IsSoundPoint p) (t : State) (d : HasDoneEvent x e p.state t) (comes : p.next ≡ Some e) (going : is_ready e ≡ false) where
+module _ (x : Recovery) (e : Event) (p : Point) (sound : IsSoundPoint p) (t : State) (d : HasDoneEvent x e p.state t) (comes : p.next ≡ Some e) (going : ends_opening e ≡ false) where
   abbrev pub meant : Option Event
   meant = comes_behind x.behind t.units
 
@@ -59,12 +62,13 @@ module _ (x : Recovery) (e : Event) (p : Point) (sound : IsSoundPoint p) (t : St
   moves = let r = reads p sound e t d.plain comes d.after in says-moves p sound e t d.plain comes d.after meant r (meant-is r)
 
   pub opened-on : (holds : Kept → Type 0) (is_new : Id → Type 0) (old now : Bool) (was single : Bool) (stage : Stage Recovery) (in_flight : Option InFlight) (given : Event) →
-      Performs (OpensIn holds is_new stage) in_flight meant (Some given) t → p.state.can_stop ≡ old → now ≡ old → was ≡ is_statement_line p.state.units.line → single ≡ was →
+      Performs (OpensIn holds is_new stage) in_flight meant (Some given) t → p.state.can_stop ≡ old → HasPlainStart p.state → now ≡ old → was ≡ is_statement_line p.state.units.line → single ≡ was →
       AgreesWithState (OpensIn holds is_new stage) now single in_flight (Some given) t × (meant ≡ Some given) × (t.units.phase ≡ Opening)
-  opened-on holds is_new old now was single stage in_flight given h can same line kept = (
+  opened-on holds is_new old now was single stage in_flight given h can began same line kept = (
     record {
       seen = h.sees;
       can_stop = d.after.can_stop ∙ can ∙ sym same;
+      plain = plain-after e p.state t d.after began;
       line = kept ∙ line ∙ ap is_statement_line (sym (onwards-line p sound e t d.plain comes d.after));
       flies = h.flies;
     },

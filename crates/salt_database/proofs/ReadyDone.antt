@@ -16,22 +16,24 @@ use Rattle.law_states.specs.States.{After, State}
 use Rattle.law_states.specs.UnitFacts.{UnitFacts, facts_in}
 use Rattle.law_states.specs.WatchSteps.{WatchBy, fate_by}
 use Rattle.law_states.specs.Watches.{Watch, empty_watch}
-use Rattle.law_story.proofs.Salted.{holds, may-fit}
+use Rattle.law_story.proofs.Upheld.{holds, may-fit}
 use Rattle.law_story.proofs.WellKept.{of-start}
 use Rattle.salt_model.specs.Kept.{Kept, WellKept}
 use Rattle.salt_model.specs.Phases.{Opening, Phase, phase}
 use Rattle.salt_model.specs.Played.{IsPlayed}
 use Rattle.salt_model.specs.Trace.{Trace, from, start_of, ◌asks◌, ◌says◌, ◌turns◌}
 use Rattle.salt_model.specs.Units.{base_count}
-use Rattle.salt_model.specs.declared.events.Event.TheVariants.{Began, Down, Opened, Ready}
+use Rattle.salt_model.specs.declared.events.Event.TheVariants.{Began, Down, Early, Opened, Ready}
 use Rattle.salt_model.specs.declared.events.UnitKind.TheVariants.{First}
 use Rattle.law_openings.proofs.Opening.{none-to-go, serves-not}
 use Rattle.salt_drain.specs.Recovering.{HasDoneEvent}
 use Rattle.salt_drain.specs.declared.recovery.Recovery.{Recovery}
+use Rattle.salt_driver.proofs.PlainStarts.{names-none, owes-none}
+use Rattle.salt_driver.specs.Opening.{HasPlainStart}
 use Rattle.salt_driver.specs.Standing.{IsSoundPoint}
 use Rattle.std.proofs.Common.{ap, inr, subst, sym, ◌∙◌}
 use Rattle.std.specs.List.{filter_map}
-use Rattle.std.specs.Prelude.{List, None, Some, [], refl, ◌++◌, ◌∷◌, ◌≡◌}
+use Rattle.std.specs.Prelude.{List, None, Some, [], false, refl, ◌++◌, ◌∷◌, ◌≡◌}
 
 none-left : (f : UnitFacts) (table : List Numbered) → filter_map (on_lock (fate_by f Ready)) table ≡ []
 none-left f [] = refl
@@ -68,6 +70,7 @@ no-bases (trace turns b) p w h = absurd (serves-not (phase trace) p.1 (inr h))
 no-bases (trace says Down why) p w h = cc
 no-bases (trace says Opened boot n) p w h = refl
 no-bases (trace says Ready) p w h = cc
+no-bases (trace says Early bs) p w h = cc
 no-bases (trace says Began u (First s b n args)) p w h =
     absurd (serves-not (phase trace) (may-fit trace (Began u (First s b n args)) (holds trace p.0 (of-start (start_of trace).kept w)).comes p.1).2.0 (inr h))
 no-bases (trace says Began u kind) p w h = no-bases trace p.0 w h
@@ -83,10 +86,17 @@ none-unfinished p sound comes =
 module _ (x : Recovery) (p : Point) (sound : IsSoundPoint p) (t : State) (d : HasDoneEvent x Ready p.state t) (comes : p.next ≡ Some Ready) (opening : p.state.units.phase ≡ Opening) where
   -- the state behind it, in which nothing is watched
   abbrev pub ready-state : State
-  ready-state = record { units = t.units; watch = empty_watch 0; names = t.names; can_stop = t.can_stop }
+  ready-state = record { units = t.units; watch = empty_watch 0; names = t.names; can_stop = t.can_stop; over_net = t.over_net; net = t.net }
 
   pub ready-after : After Ready p.state ready-state
-  ready-after = record { units = d.after.units; watch = ready-watch (facts_in p.state.units Ready) p.state.watch; names = d.after.names; can_stop = d.after.can_stop }
+  ready-after = record {
+    units = d.after.units;
+    watch = ready-watch (facts_in p.state.units Ready) p.state.watch;
+    names = d.after.names;
+    can_stop = d.after.can_stop;
+    over_net = d.after.over_net;
+    net = d.after.net;
+  }
 
   pub ready-books : AreBooks x.books t.units
   ready-books = d.behind.0
@@ -97,6 +107,13 @@ module _ (x : Recovery) (p : Point) (sound : IsSoundPoint p) (t : State) (d : Ha
   -- `go all` has nothing left to turn to
   pub ready-turns : t.units.to_go ≡ []
   ready-turns = ap (λ (s : UnitState). s.to_go) d.after.units ∙ none-to-go p.state.units sound.trace sound.keeps.state.units sound.sound (inr opening)
+
+  -- no program is named, and no turn is owed
+  pub ready-named : HasPlainStart p.state → t.units.named ≡ []
+  ready-named began = ap (λ (s : UnitState). s.named) d.after.units ∙ names-none p sound began
+
+  pub ready-owes : t.units.owes ≡ false
+  ready-owes = ap (λ (s : UnitState). s.owes) d.after.units ∙ owes-none p.state.units sound.trace sound.keeps.state.units sound.sound (inr opening)
 
   -- no accepted program is unfinished
   pub ready-conts : t.units.kept.conts ≡ []

@@ -4,14 +4,14 @@ use Rattle.salt_books.specs.declared.coming.Coming.{Coming}
 use Rattle.salt_books.specs.declared.coming.Coming.TheVariants as coming
 use Rattle.salt_engine.proofs.Unprepared.{done-plain, either-plain, finish-plain, serves-plain}
 use Rattle.salt_engine.specs.Performing.{is_prepared}
-use Rattle.law_states.specs.Follows.{cut_in, cuts_or_drains_in, drains_in}
+use Rattle.law_states.specs.Follows.{cut_in, cuts_or_drains_in, drains_in, unfinished_in}
 use Rattle.law_states.specs.OpenUnits.{OpenUnit, UnitState, unit_named}
 use Rattle.law_states.specs.States.{State}
 use Rattle.law_states.specs.Told.{commits_in, does_in, next_decision, serve_in}
 use Rattle.salt_model.specs.Words.{is_empty}
 use Rattle.salt_model.specs.declared.events.End.TheVariants.{Branched, Cut}
 use Rattle.salt_model.specs.declared.events.Event.{Event}
-use Rattle.salt_model.specs.declared.events.Event.TheVariants.{Armed, Began, Defined, Ended, Ready}
+use Rattle.salt_model.specs.declared.events.Event.TheVariants.{Armed, Began, Defined, Early, Ended, Ready}
 use Rattle.salt_drain.specs.Follows.{comes_behind, event_of, rest_in}
 use Rattle.salt_drain.specs.Recovering.{AnswersWithComing}
 use Rattle.salt_drain.specs.declared.behind.Behind.{Behind}
@@ -27,14 +27,19 @@ abbrev pub is_resting : Event → Bool
 is_resting (Ended u Cut) = true
 is_resting (Began u kind) = true
 is_resting Ready = true
+is_resting (Early bs) = true
 is_resting e = false
 
 pub rests-only : (s : UnitState) (e : Event) → Some e ≡ rest_in s → is_resting e ≡ true
 rests-only s e h = by (cut_in s) h
   where
+    unfinished : (early : Bool) (c : Cont) (cs : List Cont) → is_resting (unfinished_in early s c cs) ≡ true
+    unfinished true c cs = refl
+    unfinished false c cs = refl
+
     drains : (cs : List Cont) → is_resting (drains_in s cs) ≡ true
     drains [] = refl
-    drains (c ∷ cs) = refl
+    drains (c ∷ cs) = unfinished s.early c cs
 
     on : (b : Bool) → Some e ≡ then_some b (drains_in s s.kept.conts) → is_resting e ≡ true
     on true h = let same : e ≡ drains_in s s.kept.conts = cc in ap is_resting same ∙ drains s.kept.conts
@@ -82,9 +87,13 @@ told-event (coming.Arm pairs) h = absurd h
 rest-plain : (s : UnitState) → is_prepared (rest_in s) ≡ false
 rest-plain s = by (cut_in s)
   where
+    unfinished : (early : Bool) (c : Cont) (cs : List Cont) → is_prepared (Some (unfinished_in early s c cs)) ≡ false
+    unfinished true c cs = refl
+    unfinished false c cs = refl
+
     drains : (b : Bool) (cs : List Cont) → is_prepared (then_some b (drains_in s cs)) ≡ false
     drains true [] = refl
-    drains true (c ∷ cs) = refl
+    drains true (c ∷ cs) = unfinished s.early c cs
     drains false cs = refl
 
     by : (us : List Id) → is_prepared (cuts_or_drains_in s us) ≡ false

@@ -10,8 +10,9 @@ use Rattle.law_states.specs.Watches.{empty_watch}
 use Rattle.salt_model.specs.Kept.{Kept}
 use Rattle.salt_model.specs.Phases as phases
 use Rattle.salt_model.specs.declared.events.Event.{Event}
-use Rattle.salt_model.specs.declared.events.Event.TheVariants.{Ready}
-use Rattle.law_openings.specs.Draining.{done_now, is_earlier, opening_stage, rests_of}
+use Rattle.salt_model.specs.declared.events.Event.TheVariants.{Early, Ready}
+use Rattle.law_openings.specs.Draining.{done_now, is_earlier, opening_stage}
+use Rattle.salt_model.specs.Rests.{rests_of}
 use Rattle.salt_drain.specs.Recovering as recovering
 use Rattle.salt_drain.specs.declared.recovery.Recovery.{Recovery}
 use Rattle.salt_storage.specs.declared.found.Numbers.{Numbers}
@@ -19,13 +20,17 @@ use Rattle.salt_values.specs.declared.id.Id.{Id}
 use Rattle.std.specs.List.{filter}
 use Rattle.std.specs.Prelude.{Bool, None, Option, Some, [], false, length, map, true, ℕ, ⊤, ◌*◌, ◌+◌, ◌-◌, ◌≡◌}
 
--- the books of an opening that is done: behind its Ready nothing is open and nothing is watched, and no accepted program is unfinished
+-- the books of an opening that is done: behind its Ready nothing is open and nothing is watched, no accepted program is unfinished, and no
+-- program is named
 pub record AreOpened (x : Books) (s : State) : Type 0 where
   pub books : AreBooks x s.units
   pub units : s.units.units ≡ []
   pub bases : s.units.base_count ≡ 0
   pub conts : s.units.kept.conts ≡ []
   pub to_go : s.units.to_go ≡ []
+  pub early : s.units.early ≡ false
+  pub named : s.units.named ≡ []
+  pub owes : s.units.owes ≡ false
   pub watch : s.watch ≡ empty_watch 0
 
 -- of a recovery, an opening goes on, or is done
@@ -61,6 +66,8 @@ abbrev pub left_in : Stage Recovery → Option Event → ℕ
 left_in (Going x) (Some e) = 8 * left_by x.books + opening_stage e
 left_in stage next = 0
 
-abbrev pub is_ready : Event → Bool
-is_ready Ready = true
-is_ready e = false
+-- an opening ends by this event
+abbrev pub ends_opening : Event → Bool
+ends_opening Ready = true
+ends_opening (Early bs) = true
+ends_opening e = false

@@ -64,7 +64,7 @@ impl<S: Drop> Opening<S> {
         Opening {
             alloc,
             storage,
-            stage: Stage::Down(Books::new(alloc, known, 0)),
+            stage: Stage::Down(Books::new(alloc, known, 0, false)),
             found: Some(Numbers { boot, decisions }),
             single: false,
             in_flight: None,

@@ -8,7 +8,7 @@ ghost use Rattle.salt_disk.specs.Disks.{HasCause};
 ghost use Rattle.salt_engine.specs.Performing.{ComesOut, Stays};
 ghost use Rattle.salt_engine.specs.declared.stage.Stage.TheVariants.{Lost};
 ghost use Rattle.law_states.specs.States.{State};
-ghost use Rattle.law_openings.specs.Draining.{statements_in};
+ghost use Rattle.salt_model.specs.Rests.{statements_in};
 ghost use Rattle.salt_drain.specs.Follows.{comes_behind};
 ghost use Rattle.salt_driver.specs.Counting.{stops_armed};
 ghost use Rattle.salt_storage.specs.Answers.{disk_err};

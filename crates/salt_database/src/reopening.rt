@@ -1,7 +1,7 @@
 //! What an opening does, as its moves from point to point.
 
 ghost use Rattle.salt_books.specs.declared.books.Books.{Books};
-ghost use Rattle.salt_database.specs.Standing.{CanFind, IsFoundStage, is_ready, left_in, opening_books};
+ghost use Rattle.salt_database.specs.Standing.{CanFind, IsFoundStage, ends_opening, left_in, opening_books};
 ghost use Rattle.salt_engine.specs.Flights.{flight_of};
 ghost use Rattle.salt_engine.specs.Standing.{IsGoingStage, KnowUnits, KnowsUnits};
 ghost use Rattle.law_states.specs.OpenUnits.{UnitState};
@@ -36,12 +36,13 @@ use salt_values::{Key, Steps};
 use std::mem;
 use std::sync::ledger::Ledger;
 
-/// Whether an opening is done.
-fn is_ready(event: &Event) -> bool
-    ensures { result ≡ is_ready event.now }
+/// Whether an opening ends by an event.
+fn ends_opening(event: &Event) -> bool
+    ensures { result ≡ ends_opening event.now }
 {
     match event {
         Event::Ready => true,
+        Event::Early(_bases) => true,
         _ => false,
     }
 }
@@ -158,10 +159,10 @@ impl<S: Storage + Drop> Opening<S> {
     {
         self.storage.stands(disks);
         let recovery = mem::replace(&mut self.stage, Stage::Lost).going();
-        let ready = is_ready(&event);
+        let ends = ends_opening(&event);
         story.push(event)?;
         self.in_flight = None;
-        if ready {
+        if ends {
             self.stage = Stage::Going(recovery);
             Ok(None)
         } else {

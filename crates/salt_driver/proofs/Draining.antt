@@ -8,7 +8,8 @@ use Rattle.salt_model.specs.declared.events.Event.TheVariants.{Began, Did}
 use Rattle.salt_model.specs.declared.events.Event.{Event}
 use Rattle.salt_model.specs.declared.events.Flight.{Flight}
 use Rattle.law_openings.proofs.Doing.{does-its-rests}
-use Rattle.law_openings.specs.Draining.{CanDrain, rests_behind, statements_at, statements_in, statements_told}
+use Rattle.law_openings.specs.Draining.{CanDrain, rests_behind, statements_at}
+use Rattle.salt_model.specs.Rests.{statements_in, statements_told}
 use Rattle.salt_driver.proofs.Advancing.{inside-both, runs-both, tells-both, told-both}
 use Rattle.salt_driver.proofs.Openings.{opening-on}
 use Rattle.salt_driver.specs.Draining.{BreaksWithin, CountsOff, CountsSteps, MayTick, units_in, units_told}

@@ -3,7 +3,7 @@ use Rattle.law_states.proofs.PointsFall.{falls-point}
 use Rattle.law_states.proofs.PointsGoOn.{no-more}
 use Rattle.law_states.specs.Laws.{IsSound}
 use Rattle.law_states.specs.Points.{KeepsPoint, Point}
-use Rattle.law_states.specs.States.{State, named_by}
+use Rattle.law_states.specs.States.{State, named_by, net_by}
 use Rattle.law_states.specs.Steps.{units_after}
 use Rattle.law_states.specs.Told.{at_devices_in}
 use Rattle.salt_model.specs.Ends.{flight_told}
@@ -34,7 +34,14 @@ use Rattle.std.specs.Prelude.{Bool, List, None, Option, Some, [], false, if◌th
 -- the point behind a Down
 unfoldable pub fallen_point : (why : Why) (p : Point) → Leaves (Down why) p.state → Point
 fallen_point why p l = record {
-  state = record { units = units_after (Down why) p.state.units; watch = l.watch; names = named_by (Down why) p.state.names; can_stop = p.state.can_stop };
+  state = record {
+    units = units_after (Down why) p.state.units;
+    watch = l.watch;
+    names = named_by (Down why) p.state.names;
+    can_stop = p.state.can_stop;
+    over_net = p.state.over_net;
+    net = net_by (Down why) p.state.units p.state.net;
+  };
   next = None;
   flight = p.flight;
 }

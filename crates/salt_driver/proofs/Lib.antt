@@ -6,4 +6,5 @@ pub mod Draining
 pub mod Falling
 pub mod AtFirst
 pub mod Refusing
+pub mod PlainStarts
 pub mod RefusedAlone

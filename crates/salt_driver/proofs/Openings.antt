@@ -1,7 +1,7 @@
 -- A run that is down goes on to the end of an opening, or breaks off in it.
 use Rattle.law_states.proofs.PointsGoOn.{idle-complete, no-more, runs-point, start-on, story-on}
 use Rattle.law_states.specs.Laws.{IsSound, is_of_run}
-use Rattle.law_states.specs.Follows.{said_in, unit_of}
+use Rattle.law_states.specs.Follows.{said_in}
 use Rattle.law_states.specs.OpenUnits.{UnitState}
 use Rattle.law_states.specs.Points.{KeepsPoint, Move, Moves, Point, Runs, Say, moved, told_by, trace_on}
 use Rattle.law_states.specs.Readings.{beside_by}
@@ -15,7 +15,7 @@ use Rattle.salt_model.specs.Phases.{Fallen, Opening, Phase, downs, has_opened}
 use Rattle.salt_model.specs.Stops.{MayOpen}
 use Rattle.salt_model.specs.Trace.{Start, Trace, story_of, ◌says◌}
 use Rattle.salt_model.specs.Words.{Every}
-use Rattle.salt_model.specs.declared.events.Event.TheVariants.{Down, Opened, Ready}
+use Rattle.salt_model.specs.declared.events.Event.TheVariants.{Down, Early, Opened, Ready}
 use Rattle.salt_model.specs.declared.events.Event.{Event}
 use Rattle.salt_model.specs.declared.events.Flight.{Flight}
 use Rattle.law_openings.proofs.Opening.{opens-point}
@@ -36,7 +36,7 @@ use Rattle.salt_storage.specs.declared.open.OpenErr.{OpenErr}
 use Rattle.law_types.specs.Played.{HasKey}
 use Rattle.law_types.specs.Typed.{IsTyped}
 use Rattle.std.proofs.Common.{ap, arith, inl, inr, subst, sym, ◌∙◌}
-use Rattle.std.specs.Prelude.{Err, IsSome, List, None, Option, Result, Some, [], false, if◌then◌else◌, refl, true, ℕ, ◌+◌, ◌++◌, ◌<◌, ◌∷◌, ◌≡◌, ◌≤◌, ◌⊎◌}
+use Rattle.std.specs.Prelude.{Bool, Err, IsSome, List, None, Option, Result, Some, [], false, if◌then◌else◌, refl, true, ℕ, ◌+◌, ◌++◌, ◌<◌, ◌∷◌, ◌≡◌, ◌≤◌, ◌⊎◌}
 
 pub down-sound : (lies : ℕ → Point → Type 0) (flight : Option Flight) (start : Start) (story : List Event) (trace : Trace) → (d : IsDown lies flight start story trace) →
     IsSoundPoint d.point
@@ -84,28 +84,33 @@ opened-sound lies flies start story trace d h =
       keyed = d.fits.keyed;
     }
 
-phase-stays : (e : Event) (s : UnitState) → is_of_run e ≡ false → (e ≡ Ready → ⊥) → s.phase ≡ Opening → (units_after e s).phase ≡ Opening
+-- an opening ends by this event
+abbrev ends_opening : Event → Bool
+ends_opening Ready = true
+ends_opening (Early bs) = true
+ends_opening e = false
+
+phase-stays : (e : Event) (s : UnitState) → is_of_run e ≡ false → ends_opening e ≡ false → s.phase ≡ Opening → (units_after e s).phase ≡ Opening
 phase-stays (Down why) s h r p = cc
 phase-stays (Opened boot n) s h r p = cc
-phase-stays Ready s h r p = absurd (r refl)
+phase-stays Ready s h r p = cc
+phase-stays (Early bs) s h r p = cc
 phase-stays e s h r p = p
 
--- behind a Ready nothing comes next
-ready-rests : (p q : Point) → Moves (Say Ready) p q → q.next ≡ None
-ready-rests p q m =
-    m.0.next ∙ ap (λ (f : Phase). said_in f q.state.units (beside_by q.state m.0.read) Ready (unit_of Ready p.state.units q.state.units))
-    (ap (λ (s : UnitState). s.phase) m.0.after.units)
-
-is-ready : (e : Event) → (e ≡ Ready) ⊎ (e ≡ Ready → ⊥)
-is-ready Ready = inl refl
-is-ready e = inr (λ h. cc)
+-- behind it nothing comes next
+end-rests : (e : Event) (p q : Point) → ends_opening e ≡ true → Moves (Say e) p q → q.next ≡ None
+end-rests Ready p q h m =
+    m.0.next ∙ ap (λ (f : Phase). said_in f q.state.units (beside_by q.state m.0.read) Ready None) (ap (λ (s : UnitState). s.phase) m.0.after.units)
+end-rests (Early bs) p q h m =
+    m.0.next ∙ ap (λ (f : Phase). said_in f q.state.units (beside_by q.state m.0.read) (Early bs) None) (ap (λ (s : UnitState). s.phase) m.0.after.units)
+end-rests e p q h m = cc
 
 pub opening-on : (e : Event) (p q : Point) (event : Event) → p.state.units.phase ≡ Opening → Moves (Say e) p q → q.next ≡ Some event → q.state.units.phase ≡ Opening
-opening-on e p q event opening m comes = by (is-ready e)
+opening-on e p q event opening m comes = by (ends_opening e) refl
   where
-    by : (e ≡ Ready) ⊎ (e ≡ Ready → ⊥) → q.state.units.phase ≡ Opening
-    by (inl same) = let none = ready-rests p q (subst (λ x. Moves (Say x) p q) same m) in cc
-    by (inr other) = ap (λ (s : UnitState). s.phase) m.0.after.units ∙ phase-stays e p.state.units m.1 other opening
+    by : (b : Bool) → ends_opening e ≡ b → q.state.units.phase ≡ Opening
+    by true is = let none = end-rests e p q is m in cc
+    by false is = ap (λ (s : UnitState). s.phase) m.0.after.units ∙ phase-stays e p.state.units m.1 is opening
 
 -- what is told of the halt
 pub same-halt : (a b : Halt) → Halted a ≡ Halted b → a ≡ b

@@ -5,12 +5,11 @@ use Rattle.salt_ast.specs.declared.lines.Line.{Line}
 use Rattle.law_states.proofs.PointsGoOn.{runs-point}
 use Rattle.law_states.specs.Laws.{IsSound, is_of_run}
 use Rattle.law_states.specs.Nexts.{asked_next, next_turn_of}
-use Rattle.law_states.specs.OpenUnits.{UnitState}
+use Rattle.law_states.specs.OpenUnits.{UnitState, can_go_in, next_to_go_in}
 use Rattle.law_states.specs.Points.{Ask, KeepsPoint, Move, Moves, Point, Runs, Say, Turn, told_by}
 use Rattle.law_states.specs.Readings.{Reading}
 use Rattle.law_states.specs.States.{State}
 use Rattle.law_states.specs.Steps.{to_go_by, units_after}
-use Rattle.law_states.specs.Told.{can_go_in}
 use Rattle.salt_driver.proofs.Refusing.{refused-asked}
 use Rattle.salt_driver.specs.Standing.{Finishes, IsInside, IsSoundPoint, StopsWithin}
 use Rattle.salt_model.specs.Phases.{Serving}
@@ -27,7 +26,8 @@ use Rattle.salt_values.specs.declared.id.Id.{Id}
 use Rattle.std.proofs.Common.{ap, append-nil, inl, inr, sym, ◌∙◌}
 use Rattle.std.proofs.lemmas.List.{append_cancel_left}
 use Rattle.std.specs.List.{find}
-use Rattle.std.specs.Prelude.{Err, IfErr, List, None, Ok, OnOk, Option, Result, Some, [], false, refl, ℕ, ◌++◌, ◌∷◌, ◌≡◌, ◌⊎◌}
+use Rattle.std.specs.Option.{option_or}
+use Rattle.std.specs.Prelude.{Bool, Err, IfErr, List, None, Ok, OnOk, Option, Result, Some, [], cond, false, is_some, refl, ℕ, ◌&&◌, ◌++◌, ◌∷◌, ◌≡◌, ◌⊎◌}
 
 -- no move within a segment but a line's own is one that a Refused follows
 turned-not : (r : Refusal) (ms : List Move) (p q : Point) (before : Trace) (b : Id) → KeepsPoint p (before turns b) → IsSound (before turns b) → p.state.units.phase ≡ Serving →
@@ -84,12 +84,45 @@ none-to-go (Turn b ∷ ms) p q inside runs none = none-to-go ms runs.0 q inside.
 none-to-go (Say e ∷ ms) p q inside runs none =
     none-to-go ms runs.0 q inside.1 runs.2 (ap (λ (u : UnitState). u.to_go) runs.1.0.after.units ∙ to-go-stays e p.state.units runs.1.1 ∙ none)
 
--- and within the segment none comes
-no-turn : (ms : List Move) (p q : Point) → Every IsInside ms → Runs p ms q → p.state.units.to_go ≡ [] → next_turn_of q.state ≡ None
-no-turn ms p q inside runs none = ap (find (can_go_in q.state.units)) (none-to-go ms p q inside runs none)
+-- no move within a segment brings a turn that is owed
+owes-no-more : (e : Event) (s : UnitState) → s.owes ≡ false → (units_after e s).owes ≡ false
+owes-no-more (Down why) s h = refl
+owes-no-more (Refused r) s h = refl
+owes-no-more e s h = h
 
-pub turned-to-none : (ms : List Move) (p q : Point) (turn : Option Id) (b : Id) → Every IsInside ms → Runs p ms q → p.state.units.to_go ≡ [] → turn ≡ next_turn_of q.state → turn ≡ Some b → ⊥
-turned-to-none ms p q turn b inside runs none is some = let no : Some b ≡ None = sym some ∙ is ∙ no-turn ms p q inside runs none in cc
+none-owed : (ms : List Move) (p q : Point) → Every IsInside ms → Runs p ms q → p.state.units.owes ≡ false → q.state.units.owes ≡ false
+none-owed [] p q inside runs none = sym (ap (λ (x : Point). x.state.units.owes) runs) ∙ none
+none-owed (Ask asked ∷ ms) p q inside runs none = absurd inside.0
+none-owed (Turn b ∷ ms) p q inside runs none =
+    none-owed ms runs.0 q inside.1 runs.2
+    (ap (λ (s : State). s.units.owes) runs.1.state ∙ ap (λ (t : Bool). t && is_some (next_to_go_in p.state.units)) none)
+none-owed (Say e ∷ ms) p q inside runs none =
+    none-owed ms runs.0 q inside.1 runs.2 (ap (λ (u : UnitState). u.owes) runs.1.0.after.units ∙ owes-no-more e p.state.units none)
+
+-- and behind a Refused none is
+refused-owes : (r : Refusal) (ms : List Move) (p q : Point) → Every IsInside ms → Runs p ms q → p.next ≡ Some (Refused r) → q.next ≡ None → q.state.units.owes ≡ false
+refused-owes r [] p q inside runs comes rests = let no : Some (Refused r) ≡ None = sym comes ∙ ap (λ (x : Point). x.next) runs ∙ rests in cc
+refused-owes r (Ask asked ∷ ms) p q inside runs comes rests = absurd inside.0
+refused-owes r (Turn b ∷ ms) p q inside runs comes rests = let no : Some (Refused r) ≡ None = sym comes ∙ runs.1.none in cc
+refused-owes r (Say e ∷ ms) p q inside runs comes rests =
+    let both : Some e ≡ Some (Refused r) = sym runs.1.0.comes ∙ comes in
+    let same : e ≡ Refused r = cc in
+    none-owed ms runs.0 q inside.1 runs.2
+    (ap (λ (u : UnitState). u.owes) runs.1.0.after.units ∙ ap (λ (f : Event). (units_after f p.state.units).owes) same)
+
+-- so within the segment none comes
+no-turn : (r : Refusal) (ms : List Move) (p q : Point) → Every IsInside ms → Runs p ms q → p.state.units.to_go ≡ [] → p.next ≡ Some (Refused r) → q.next ≡ None →
+    next_turn_of q.state ≡ None
+no-turn r ms p q inside runs none comes rests =
+    let s = q.state.units in
+    let goes = none-to-go ms p q inside runs none in
+    let owes = refused-owes r ms p q inside runs comes rests in
+    λ i. option_or (find (can_go_in s) (goes i)) (cond (owes i) (find (can_go_in s) s.named) None)
+
+pub turned-to-none : (r : Refusal) (ms : List Move) (p q : Point) (turn : Option Id) (b : Id) → Every IsInside ms → Runs p ms q → p.state.units.to_go ≡ [] →
+    p.next ≡ Some (Refused r) → q.next ≡ None → turn ≡ next_turn_of q.state → turn ≡ Some b → ⊥
+turned-to-none r ms p q turn b inside runs none comes rests is some =
+    let no : Some b ≡ None = sym some ∙ is ∙ no-turn r ms p q inside runs none comes rests in cc
 
 -- of a loop that tells events: what is at hand was so at first, or nothing is
 pub at-hand : (r : Refusal) (first next : Option Event) (event : Event) → first ≡ Some (Refused r) → (next ≡ first) ⊎ (next ≡ None) → next ≡ Some event → event ≡ Refused r

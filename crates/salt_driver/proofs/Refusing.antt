@@ -13,11 +13,11 @@ use Rattle.law_states.proofs.Settled.{settled}
 use Rattle.law_states.specs.KeptSources.{Dependencies, KeepsDependencies, Through}
 use Rattle.law_states.specs.KeptWaits.{Asker, IsSettled, served_in, victim_in, waiting}
 use Rattle.law_states.specs.Members.{In, SameMembers}
-use Rattle.law_states.specs.OpenUnits.{UnitState}
+use Rattle.law_states.specs.OpenUnits.{UnitState, next_turn_in}
 use Rattle.law_states.specs.Points.{Ask, IsIdle, Moves, Point, Say}
 use Rattle.law_states.specs.States.{State}
-use Rattle.law_states.specs.Told.{next_turn_in}
-use Rattle.law_story.proofs.Salted.{OfBoots}
+use Rattle.law_states.specs.Steps.{units_after}
+use Rattle.law_story.proofs.Upheld.{OfBoots}
 use Rattle.law_story.proofs.WellKept.{of-start}
 use Rattle.salt_model.specs.After.{kept}
 use Rattle.salt_model.specs.Kept.{WellKept, cont_of}
@@ -36,11 +36,11 @@ use Rattle.salt_model.specs.declared.events.Answer.{Answer}
 use Rattle.salt_model.specs.declared.events.Cause.{Cause}
 use Rattle.salt_model.specs.declared.events.End.TheVariants.{Branched, Committed}
 use Rattle.salt_model.specs.declared.events.End.{End}
-use Rattle.salt_model.specs.declared.events.Event.TheVariants.{Accepted, Began, Did, Down, Ended, Finished, Opened, Ready, Refused}
+use Rattle.salt_model.specs.declared.events.Event.TheVariants.{Accepted, Began, Did, Down, Early, Ended, Finished, Opened, Ready, Refused}
 use Rattle.salt_model.specs.declared.events.Event.{Event}
 use Rattle.salt_model.specs.declared.events.Owner.{Owner}
 use Rattle.salt_model.specs.declared.events.Refusal.{Refusal}
-use Rattle.salt_model.specs.declared.events.UnitKind.TheVariants.{First, Later}
+use Rattle.salt_model.specs.declared.events.UnitKind.TheVariants.{Acid, First, Later}
 use Rattle.salt_model.specs.declared.events.UnitKind.{UnitKind}
 use Rattle.salt_model.specs.declared.locks.Lock.{Lock}
 use Rattle.salt_driver.specs.Standing.{Finishes, IsAt, IsSoundPoint}
@@ -126,7 +126,7 @@ refused-last r p q s sound a m =
       serves = ap (λ (x : UnitState). x.phase) m.0.after.units ∙ ap (λ (x : State). x.units.phase) a.state ∙ a.idle.serves;
       next = sym k.0.next ∙ none-behind sound.trace (Rejected r) r k.1.played sound.sound.well p.state.watch.dependencies a.read.sources sound.keeps.state.watch.dependencies a.read.closes
           (sound.keeps.state.units.phase ∙ a.idle.serves) (sound.keeps.next ∙ a.idle.next);
-      turn = ap next_turn_in m.0.after.units ∙ ap (λ (x : State). next_turn_in x.units) a.state;
+      turn = ap next_turn_in m.0.after.units ∙ ap (λ (x : State). next_turn_in (units_after (Refused r) x.units)) a.state;
     }
 
 -- nothing is missing of it then
@@ -183,9 +183,9 @@ go-none trace b = by (program_unit b trace)
     by (Some u) = turn-none trace u
     by None = mapped-none (λ (c : Cont). begins trace (Later b c.next)) (λ c. refl) (cont_of b (kept trace))
 
-began-none : (trace : Trace) (u : Id) (line : Line) → is_refusal (after_began trace u line) ≡ false
-began-none trace u (Session s Begin) = refl
-began-none trace u line = turn-none trace u
+began-none : (trace : Trace) (u : Id) (line : Line) (kind : UnitKind) → is_refusal (after_began trace u line kind) ≡ false
+began-none trace u (Session s Begin) (Acid t) = refl
+began-none trace u line kind = turn-none trace u
 
 fails-none : (trace : Trace) (u : Id) (c : Cause) (kind : Option UnitKind) → is_refusal (Some (fails trace u c kind)) ≡ false
 fails-none trace u c (Some (Later b part)) = refl
@@ -209,7 +209,7 @@ releases-none [] = refl
 releases-none (b ∷ bs) = refl
 
 follow-none : (trace : Trace) (e : Event) → is_refusal (follow trace e) ≡ false
-follow-none trace (Began u kind) = began-none trace u (line_of trace)
+follow-none trace (Began u kind) = began-none trace u (line_of trace) kind
 follow-none trace (Did u st answer) = did-none trace u answer
 follow-none trace (Ended u end) = end-none trace end (kind_of u trace)
 follow-none trace (Accepted b) = finishes-none trace b
@@ -226,6 +226,7 @@ settle-none trace = by (victim trace) (next_unblocked trace)
 
 serving-none : (trace : Trace) (e : Event) → is_refusal (serving_event trace e) ≡ false
 serving-none trace Ready = refl
+serving-none trace (Early bs) = refl
 serving-none trace e = else-none (follow trace e) (settle trace) (follow-none trace e) (settle-none trace)
 
 -- so it is of a line that was asked just now

@@ -11,7 +11,7 @@ use Rattle.salt_model.specs.Played.{IsPlayed}
 use Rattle.salt_model.specs.Trace.{Asked, Start, Trace, lines_of, start_of, story_before, ◌asks◌, ◌says◌, ◌turns◌}
 use Rattle.salt_model.specs.Words.{Every}
 use Rattle.salt_model.specs.declared.events.Event.{Event}
-use Rattle.salt_model.specs.declared.events.Event.TheVariants.{Down, Opened, Ready}
+use Rattle.salt_model.specs.declared.events.Event.TheVariants.{Down, Early, Opened, Ready}
 use Rattle.salt_model.specs.declared.events.Flight.{Flight}
 use Rattle.salt_stands.specs.Unspent.{OpensUnspent}
 use Rattle.salt_driver.proofs.Advancing.{every-last, lines-on, stop-at}
@@ -40,6 +40,7 @@ serving-says : (e : Event) (trace : Trace) → is_of_run e ≡ false → phase t
 serving-says (Down why) trace r h = cc
 serving-says (Opened boot n) trace r h = cc
 serving-says Ready trace r h = refl
+serving-says (Early bs) trace r h = refl
 serving-says e trace r h = h
 
 serving-on : (ms : List Move) (p q : Point) (trace : Trace) → Runs p ms q → Every IsInside ms → phase trace ≡ Serving → phase (trace_on trace ms) ≡ Serving

@@ -5,7 +5,8 @@ use Rattle.salt_model.specs.Words.{Every}
 use Rattle.salt_model.specs.declared.events.Event.TheVariants.{Began}
 use Rattle.salt_model.specs.declared.events.Event.{Event}
 use Rattle.salt_model.specs.declared.events.Flight.{Flight}
-use Rattle.law_openings.specs.Draining.{statements_at, statements_in, statements_told}
+use Rattle.law_openings.specs.Draining.{statements_at}
+use Rattle.salt_model.specs.Rests.{statements_in, statements_told}
 use Rattle.salt_driver.specs.Standing.{BreaksAt, IsInside}
 use Rattle.salt_storage.specs.Writing.{ToWrite}
 use Rattle.salt_storage.specs.declared.halt.Halt.{Halt}

@@ -66,14 +66,26 @@ MayFailAt room p (OtherShape kept asked) = ⊥
 MayFailAt room p (NumbersSpent boot decisions) = AreSpentAt room p boot decisions
 MayFailAt room p (Halted halt) = ⊤
 
+-- the start of a run over what is kept: no opening is early, and no commit goes over messages
+abbrev pub plain_start : Kept → Bool → Start
+plain_start k can_stop = record { kept = k; can_stop = can_stop; early = false; over_net = false }
+
+-- a state of a run that began so
+pub record HasPlainStart (s : State) : Type 0 where
+  pub early : s.units.early ≡ false
+  pub over_net : s.over_net ≡ false
+
 -- a run in which nothing is told but that it fell, and this is kept
 pub record IsUnopened (k : Kept) (stoppable : Bool) (p : Point) : Type 0 where
   pub fallen : p.state.units.phase ≡ Fallen
   pub kept : p.state.units.kept ≡ k
   pub line : p.state.units.line ≡ Nothing
   pub units : p.state.units.units ≡ []
+  pub named : p.state.units.named ≡ []
+  pub owes : p.state.units.owes ≡ false
   pub flight : p.flight ≡ None
   pub can_stop : p.state.can_stop ≡ stoppable
+  pub plain : HasPlainStart p.state
 
 -- What an opening has found at first: this is held, and may be kept; its numbers are not spent.
 pub record FindsFirst (finds holds : Kept → Type 0) (x : Found) : Type 0 where

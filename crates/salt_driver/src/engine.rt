@@ -1,4 +1,4 @@
-//! What an engine does at a line, at a turn of `go all` and at an event.
+//! What an engine does at a line, at a turn behind a line and at an event.
 
 ghost use Rattle.salt_ast.specs.declared.lines.Line.TheVariants.{Nothing};
 ghost use Rattle.salt_ast.specs.declared.lines.Line.{Line};
@@ -56,7 +56,7 @@ pub trait Stepping {
     /// Its waiting units, behind the event at hand.
     ghost waiting: { Self → List Id };
 
-    /// The programs to which `go all` has not yet turned.
+    /// The turns behind the line that are still to come, each by its program.
     ghost turns: { Self → List Id };
 
     /// The lines that it can be asked.
@@ -98,7 +98,7 @@ pub trait Stepping {
         ensures within { StaysWithin (asked self.old) (asked self.new) (D.view disks.old) (D.view disks.new) }
         ensures counts { CountsStops (D.view disks.old) (D.view disks.new) (disk_err result) (armed_by result) 0 };
 
-    /// The program to which `go all` turns next.
+    /// The program whose turn behind the line comes next.
     fn next_turn<D: Disks>(&self, disks: &D) -> Option<Id>
         ensures { (p : Point) → IsSoundPoint p → sees (D.view disks.now) self.now None p.state → result ≡ next_turn_of p.state };
 

@@ -57,7 +57,7 @@ fn units_told(events: &[Event]) -> u64
     units
 }
 
-/// Tells what is left of an opening, from what comes next in it through its Ready, and gives the number of units that it began. Each
+/// Tells what is left of an opening, from what comes next in it to its end, and gives the number of units that it began. Each
 /// statement that is done is a step, and there are no more than the programs that go on have left. An error leaves a story that has
 /// gained a front of what is told of the opening, and a database that is to be opened anew.
 pub fn drain<E: Openable, D: Disks, F: Fn(PlaceKind, &Key, u32) -> u32, L: Ledger>(

@@ -1,4 +1,4 @@
-//! A line is asked, its events are told until none comes next, and so is each turn of `go all`.
+//! A line is asked, its events are told until none comes next, and so is each turn behind it.
 
 ghost use Rattle.law_states.specs.Points.{Point};
 ghost use Rattle.salt_model.specs.Trace.{Rejected, Start, Trace, Tree};
@@ -49,7 +49,7 @@ fn settle<E: Stepping, D: Disks, F: Fn(PlaceKind, &Key, u32) -> u32>(
     Ok(())
 }
 
-/// Does the rest of a line from its first event on: its own events, and each turn of `go all`.
+/// Does the rest of a line from its first event on: its own events, and each turn behind it.
 fn finish<E: Stepping, D: Disks, F: Fn(PlaceKind, &Key, u32) -> u32>(
     engine: &mut E,
     disks: &mut D,

@@ -11,23 +11,25 @@ use Rattle.salt_engine.specs.declared.flights.InFlight.{InFlight}
 use Rattle.salt_engine.specs.declared.stage.Stage.TheVariants as at
 use Rattle.salt_engine.specs.declared.stage.Stage.{Stage}
 use Rattle.salt_books.specs.Sound.{IsSoundState}
+use Rattle.law_states.proofs.PointsGoOn.{turn-kept}
 use Rattle.law_states.specs.Members.{In}
 use Rattle.law_states.specs.Nexts.{asked_next, next_turn_of, turned_next}
 use Rattle.law_states.specs.Points.{Ask, IsIdle, Moves, Point, Turn}
 use Rattle.law_states.specs.Readings.{Reading}
 use Rattle.law_states.specs.States.{State, asked_of, turned_to}
-use Rattle.law_states.specs.Told.{can_go_in}
 use Rattle.law_story.proofs.Ids.{is_same_id-refl}
+use Rattle.law_story.proofs.LateOpenings.{as-ever}
 use Rattle.law_story.proofs.NextFits.{find-in}
 use Rattle.salt_model.specs.Kept.{Kept}
 use Rattle.salt_model.specs.Phases.{Serving}
 use Rattle.salt_model.specs.Trace.{Asked, Tree, line_asked}
-use Rattle.salt_model.specs.Turns.{ids_after, is_statement_line}
+use Rattle.salt_model.specs.Turns.{can_go, ids_after, is_statement_line, still_to_go}
 use Rattle.salt_model.specs.declared.events.Event.{Event}
 use Rattle.salt_scheduler.proofs.Counting.{programs-apart}
 use Rattle.salt_scheduler.specs.declared.scheduler.Scheduler.{Scheduler}
 use Rattle.law_decisions.specs.Spelled.{IsSpelledLine}
 use Rattle.salt_driver.proofs.Advancing.{sound-moved}
+use Rattle.salt_driver.specs.Opening.{HasPlainStart}
 use Rattle.salt_driver.specs.Standing.{HaltsAt, IsAt, IsSoundPoint}
 use Rattle.salt_storage.specs.Storing.{IsSoundKept}
 use Rattle.salt_storage.specs.Writing.{ToWrite}
@@ -37,6 +39,7 @@ use Rattle.salt_values.specs.Id.{is_same_id}
 use Rattle.salt_values.specs.declared.id.Id.{Id}
 use Rattle.salt_conflicts.proofs.Readable.{readable}
 use Rattle.std.proofs.Common.{arith, inl, inr, subst, sym, ◌∙◌}
+use Rattle.std.specs.List.{find}
 use Rattle.std.specs.Prelude.{Bool, Err, IfOk, IsSome, List, None, Ok, OnOk, Option, Result, Some, [], cond, false, length, refl, true, ℕ, ⊤, ◌<◌, ◌∷◌, ◌≡◌}
 
 pub sound-here : (p : Point) → IsSoundPoint p → IsSoundState p.state
@@ -70,6 +73,7 @@ to-ask holds is_new stoppable stage single in_flight line x p sound idle served 
       stored = h.1;
       served = served;
       can_stop = sees.can_stop;
+      plain = sees.plain;
     }
 
 pub asked-there : {E : Type 0} (sees : E → Option Event → State → Type 0) (e : E) (asked : Asked) (p : Point) (sound : IsSoundPoint p) (idle : IsIdle p) (r : Reading p.state.watch)
@@ -81,14 +85,14 @@ asked-there sees e asked p sound idle r given state told = (
 )
 
 module _ (holds : Kept → Type 0) (leaves : Kept → Kept → Type 0) (fills : ToWrite → ℕ → Type 0) (halt : Halt) (old stoppable : Bool) (stage : Stage Scheduler) (single : Bool)
-    (in_flight : Option InFlight) (p : Point) (sound : IsSoundPoint p) (can : p.state.can_stop ≡ old) (same : stoppable ≡ old) (kept : IsSoundKept p.state.units.kept) where
+    (in_flight : Option InFlight) (p : Point) (sound : IsSoundPoint p) (can : p.state.can_stop ≡ old) (plain : HasPlainStart p.state) (same : stoppable ≡ old) (kept : IsSoundKept p.state.units.kept) where
   pub asked-halts : (asked : Asked) (idle : IsIdle p) (r : Reading p.state.watch) → BreaksOff leaves fills halt stage in_flight (asked_next p.state r asked) (asked_of asked p.state).units →
       single ≡ is_statement_line (line_asked asked) →
       (q : Point) × Moves (Ask asked) p q × HaltsAt (λ p. CanReopenAt holds leaves stoppable None (serving_books stage) single in_flight 0 p) (λ p. LeavesOnDevices holds leaves (IsSome in_flight) None 0 p × ⊤) fills (flight_of in_flight) halt q
   asked-halts asked idle r b line = (
     asked_to asked p sound idle r,
     asked-moves asked p sound idle r,
-    halts (λ (x : Scheduler). x.books) holds leaves fills halt stoppable None refl stage single in_flight (asked_to asked p sound idle r) b refl (can ∙ sym same) line kept,
+    halts (λ (x : Scheduler). x.books) holds leaves fills halt stoppable None refl stage single in_flight (asked_to asked p sound idle r) b refl (can ∙ sym same) (record { early = plain.early; over_net = plain.over_net }) line kept,
   )
 
   pub turned-halts : (b : Id) (serves : p.state.units.phase ≡ Serving) (none : p.next ≡ None) (turn : next_turn_of p.state ≡ Some b) (r : Reading p.state.watch) →
@@ -97,7 +101,7 @@ module _ (holds : Kept → Type 0) (leaves : Kept → Kept → Type 0) (fills : 
   turned-halts b serves none turn r broken line = (
     turned_at b p sound serves none turn r,
     turned-moves b p sound serves none turn r,
-    halts (λ (x : Scheduler). x.books) holds leaves fills halt stoppable None refl stage single in_flight (turned_at b p sound serves none turn r) broken refl (can ∙ sym same) line kept,
+    halts (λ (x : Scheduler). x.books) holds leaves fills halt stoppable None refl stage single in_flight (turned_at b p sound serves none turn r) broken refl (can ∙ sym same) (record { early = plain.early; over_net = plain.over_net }) line kept,
   )
 
 -- A TURN
@@ -122,10 +126,15 @@ turned-there sees e line b p sound serves none turn r given served state told = 
 )
 
 pub turned-sees : (holds : Kept → Type 0) (is_new : Id → Type 0) (old now was single : Bool) (stage : Stage Scheduler) (in_flight : Option InFlight) (meant given : Option Event) (b : Id) (s : State) →
-    Performs (StandsAtEventIn holds is_new stage) in_flight meant given (turned_to b s) → s.can_stop ≡ old → now ≡ old → was ≡ is_statement_line s.units.line → single ≡ was →
+    Performs (StandsAtEventIn holds is_new stage) in_flight meant given (turned_to b s) → s.can_stop ≡ old → HasPlainStart s → now ≡ old → was ≡ is_statement_line s.units.line → single ≡ was →
     AgreesWithState (StandsAtEventIn holds is_new stage) now single in_flight given (turned_to b s)
-turned-sees holds is_new old now was single stage in_flight meant given b s h can same line kept =
-    record { seen = h.sees; can_stop = can ∙ sym same; line = kept ∙ line; flies = h.flies }
+turned-sees holds is_new old now was single stage in_flight meant given b s h can plain same line kept = record {
+  seen = h.sees;
+  can_stop = can ∙ sym same;
+  plain = record { early = plain.early; over_net = plain.over_net };
+  line = kept ∙ line;
+  flies = h.flies;
+}
 
 -- the programs to which it has still to turn are fewer
 
@@ -138,17 +147,23 @@ shorter b (c ∷ bs) i = by (is_same_id b c) refl i (λ j. shorter b bs j)
     by false e (inl q) more = let t : true ≡ false = sym (subst (λ x. is_same_id b x ≡ true) (sym q) (is_same_id-refl b)) ∙ e in cc
     by false e (inr j) more = let h = more j in omega arith
 
-turn-less : (b : Id) (s : State) → next_turn_of s ≡ Some b → length (turned_to b s).units.to_go < length s.units.to_go
-turn-less b s turn = shorter b s.units.to_go (find-in (can_go_in s.units) b s.units.to_go turn).0
+-- where openings are not early, each turn is one of `go all`
+turn-goes : (b : Id) (p : Point) → IsSoundPoint p → HasPlainStart p.state → next_turn_of p.state ≡ Some b → In b p.state.units.to_go
+turn-goes b p sound plain turn =
+    let trace = sound.trace in
+    let keeps = sound.keeps.state in
+    let late = as-ever trace sound.sound.played (keeps.units.early ∙ plain.early) in
+    let goes : find (can_go trace) (still_to_go trace) ≡ Some b = sym late.turn ∙ turn-kept p.state trace keeps ∙ turn in
+    subst (In b) keeps.units.to_go (find-in (can_go trace) b (still_to_go trace) goes).0
 
 pub turned-fewer : (holds now : Kept → Type 0) (is_new new_now : Id → Type 0) (stage later : Stage Scheduler) (b : Id) (given : Option Event) (p : Point) (sound : IsSoundPoint p)
-    (serves : p.state.units.phase ≡ Serving) (none : p.next ≡ None) (turn : next_turn_of p.state ≡ Some b) (r : Reading p.state.watch) → StandsAtEventIn holds is_new stage None p.state →
-    StandsAtEventIn now new_now later given (turned_to b p.state) → given ≡ turned_next p.state r b → length (goes_in later) < length (goes_in stage)
-turned-fewer holds now is_new new_now stage later b given p sound serves none turn r seen sees told =
+    (serves : p.state.units.phase ≡ Serving) (none : p.next ≡ None) (turn : next_turn_of p.state ≡ Some b) (r : Reading p.state.watch) → HasPlainStart p.state →
+    StandsAtEventIn holds is_new stage None p.state → StandsAtEventIn now new_now later given (turned_to b p.state) → given ≡ turned_next p.state r b → length (goes_in later) < length (goes_in stage)
+turned-fewer holds now is_new new_now stage later b given p sound serves none turn r plain seen sees told =
     let q = turned_at b p sound serves none turn r in
     let moved : IsSoundPoint q = sound-moved (Turn b) p q tt sound (turned-moves b p sound serves none turn r) in
     let there = serves-now now new_now later given (turned_to b p.state) sees in
     let after : goes_in later ≡ (turned_to b p.state).units.to_go = goes-now now new_now later given (turned_to b p.state) sees there in
     let before : goes_in stage ≡ p.state.units.to_go = goes-now holds is_new stage None p.state seen (serves-now holds is_new stage None p.state seen) in
     subst (λ (us : List Id). length us < length (goes_in stage)) (sym after)
-    (subst (λ (us : List Id). length (turned_to b p.state).units.to_go < length us) (sym before) (turn-less b p.state turn))
+    (subst (λ (us : List Id). length (turned_to b p.state).units.to_go < length us) (sym before) (shorter b p.state.units.to_go (turn-goes b p sound plain turn)))

@@ -1,5 +1,5 @@
 -- A line that is not refused arms stops.
-use Rattle.salt_ast.specs.declared.lines.Line.TheVariants.{Crash}
+use Rattle.salt_ast.specs.declared.lines.Line.TheVariants.{Crash, Net}
 use Rattle.salt_ast.specs.declared.lines.Line.{Line}
 use Rattle.salt_engine.proofs.Flying.{none-flies}
 use Rattle.salt_engine.proofs.Performed.{serves-by, stored-plain}
@@ -52,6 +52,13 @@ module _ (holds : Kept → Type 0) (is_new : Id → Type 0) (stoppable : Bool) (
 
   pub arms-armed : (y : Scheduler) (e : Event) (told : List (ℕ × ℕ)) → told ≡ pairs → scheduling.AnswersWith s (Some (Armed told)) y (Some e) → armed_at (Some e) ≡ pairs
   arms-armed y e told same g = ap armed_at g.told ∙ same
+
+-- pairs of messages are armed by no line: it is refused
+pub net-refused : (holds : Kept → Type 0) (is_new : Id → Type 0) (stoppable : Bool) (line : Line) (x : Scheduler) (s : State) → AsksLine holds is_new stoppable line x s →
+    (pairs : List (ℕ × ℕ)) → line ≡ Net pairs → ⊥
+net-refused holds is_new stoppable line x s h pairs is =
+    let allowed : refused_in s.units (under_way_of s) (Net pairs) ≡ None = subst (λ (l : Line). refusal_in s.units (under_way_of s) (Tree l) ≡ None) is h.allowed.allowed in
+    let no : false ≡ true = sym h.plain.over_net ∙ unless-not s.over_net (allowed-right s.units (under_way_of s) (Net pairs) allowed) in cc
 
 -- each pair of a list picks so
 pub every-at : {A : Type 0} (P : A → Type 0) (xs : List A) (i : ℕ) (d : A) → i < length xs → Every P xs → P (get_or xs i d)

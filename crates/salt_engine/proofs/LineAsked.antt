@@ -1,5 +1,5 @@
 -- A line is asked of a scheduler: it is refused, or what it brings first comes next.
-use Rattle.salt_ast.specs.declared.lines.Line.TheVariants.{Crash, Nothing, Program, Table}
+use Rattle.salt_ast.specs.declared.lines.Line.TheVariants.{Crash, Net, Nothing, Program, Table}
 use Rattle.salt_ast.specs.declared.lines.Line.{Line}
 use Rattle.salt_ast.specs.declared.programs.ProgramDef.{ProgramDef}
 use Rattle.salt_ast.specs.declared.trees.TableDef.{TableDef}
@@ -42,13 +42,14 @@ pub few-of : (line : Line) → IsServed line → HasFewParts line
 few-of (Program p) h = few-parts p h
 few-of line h = tt
 
--- a line that is neither a definition nor arms stops
+-- a line that is no definition and arms nothing
 pub plain-line : (line : Line) → ((d : TableDef) → line ≡ Table d → ⊥) → ((p : ProgramDef) → line ≡ Program p → ⊥) →
-    ((pairs : List (ℕ × ℕ)) → line ≡ Crash pairs → ⊥) → is_prepared_line line ≡ false
-plain-line (Table d) no_table no_program no_crash = absurd (no_table d refl)
-plain-line (Program p) no_table no_program no_crash = absurd (no_program p refl)
-plain-line (Crash pairs) no_table no_program no_crash = absurd (no_crash pairs refl)
-plain-line line no_table no_program no_crash = refl
+    ((pairs : List (ℕ × ℕ)) → line ≡ Crash pairs → ⊥) → ((pairs : List (ℕ × ℕ)) → line ≡ Net pairs → ⊥) → is_prepared_line line ≡ false
+plain-line (Table d) no_table no_program no_crash no_net = absurd (no_table d refl)
+plain-line (Program p) no_table no_program no_crash no_net = absurd (no_program p refl)
+plain-line (Crash pairs) no_table no_program no_crash no_net = absurd (no_crash pairs refl)
+plain-line (Net pairs) no_table no_program no_crash no_net = absurd (no_net pairs refl)
+plain-line line no_table no_program no_crash no_net = refl
 
 pub armed-none : {H : Type 0} (r : Result (Option Event) H) → IfOk r (λ e. armed_at e ≡ []) → armed_by r ≡ []
 armed-none (Ok e) h = h
@@ -60,6 +61,7 @@ never-refused : (s : UnitState) (clash : Clashes) (items : Items) (line : Line) 
 never-refused s clash items (Table d) refusal h = cc
 never-refused s clash items (Program p) refusal h = cc
 never-refused s clash items (Crash pairs) refusal h = cc
+never-refused s clash items (Net pairs) refusal h = cc
 never-refused s clash items line refusal h = let no : true ≡ false = ap is_prepared (sym h) ∙ first-plain s clash items line refl in cc
 
 -- what a line brings is no refusal
@@ -90,6 +92,7 @@ module _ (holds : Kept → Type 0) (is_new : Id → Type 0) (stoppable : Bool) (
     stored = record { holding = h.stored.holding; new = h.stored.new };
     served = h.served;
     can_stop = h.can_stop;
+    plain = record { early = h.plain.early; over_net = h.plain.over_net };
   }
 
   -- OR IT IS

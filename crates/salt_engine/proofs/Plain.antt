@@ -2,7 +2,7 @@
 use Rattle.salt_ast.specs.declared.lines.Act.{Act}
 use Rattle.salt_ast.specs.declared.lines.Act.TheVariants.{Begin, Call, Commit, Do, Rollback, Step}
 use Rattle.salt_ast.specs.declared.lines.Line.{Line}
-use Rattle.salt_ast.specs.declared.lines.Line.TheVariants.{Crash, Go, GoAll, Nothing, Program, Session, ShowBases, ShowLocks, Table}
+use Rattle.salt_ast.specs.declared.lines.Line.TheVariants.{Crash, Go, GoAll, Net, Nothing, Program, Session, ShowBases, ShowLocks, Table}
 use Rattle.salt_ast.specs.declared.programs.ProgramDef.{ProgramDef}
 use Rattle.salt_ast.specs.declared.trees.Statement.{Statement}
 use Rattle.salt_engine.proofs.Unprepared.{done-plain, either-plain, finish-plain, serves-plain}
@@ -101,6 +101,7 @@ first-plain s clash items GoAll h = refl
 first-plain s clash items ShowLocks h = refl
 first-plain s clash items ShowBases h = refl
 first-plain s clash items (Crash pairs) h = cc
+first-plain s clash items (Net pairs) h = cc
 
 pub plain-unarmed : (e : Option Event) → is_prepared e ≡ false → armed_at e ≡ []
 plain-unarmed None h = refl

@@ -17,12 +17,14 @@ use Rattle.salt_model.specs.Kept.{Kept}
 use Rattle.salt_model.specs.Phases.{Serving}
 use Rattle.salt_model.specs.Trace.{◌says◌}
 use Rattle.salt_model.specs.Turns.{is_statement_line}
-use Rattle.salt_model.specs.declared.events.Event.TheVariants.{Down, Opened, Ready}
+use Rattle.salt_model.specs.declared.events.Event.TheVariants.{Down, Early, Opened, Ready}
 use Rattle.salt_model.specs.declared.events.Event.{Event}
 use Rattle.salt_scheduler.proofs.Following.{goes-on, not-of-run}
 use Rattle.salt_scheduler.specs.Serving.{is_served}
 use Rattle.salt_scheduler.specs.Standing.{HasDoneEvent, ServesLine, behind_in}
 use Rattle.salt_scheduler.specs.declared.scheduler.Scheduler.{Scheduler}
+use Rattle.salt_driver.proofs.PlainStarts.{plain-after}
+use Rattle.salt_driver.specs.Opening.{HasPlainStart}
 use Rattle.salt_driver.specs.Standing.{IsSoundPoint}
 use Rattle.salt_values.specs.declared.id.Id.{Id}
 use Rattle.std.proofs.Common.{ap, sym, ◌∙◌}
@@ -32,6 +34,7 @@ phase-stays : (e : Event) (s : UnitState) → is_served e ≡ true → s.phase �
 phase-stays (Down why) s h p = cc
 phase-stays (Opened boot n) s h p = cc
 phase-stays Ready s h p = cc
+phase-stays (Early bs) s h p = cc
 phase-stays e s h p = p
 
 module _ (line : Line) (x : Scheduler) (e : Event) (p : Point) (sound : IsSoundPoint p) (t : State) (d : HasDoneEvent x e p.state t) (comes : p.next ≡ Some e)
@@ -71,11 +74,12 @@ module _ (line : Line) (x : Scheduler) (e : Event) (p : Point) (sound : IsSoundP
 
   -- where it stands behind it
   pub serves-on : (holds : Kept → Type 0) (is_new : Id → Type 0) (old now : Bool) (was single : Bool) (stage : Stage Scheduler) (in_flight : Option InFlight) (given : Option Event) →
-      Performs (StandsAtEventIn holds is_new stage) in_flight (meant read) given t → p.state.can_stop ≡ old → now ≡ old → was ≡ is_statement_line p.state.units.line → single ≡ was →
+      Performs (StandsAtEventIn holds is_new stage) in_flight (meant read) given t → p.state.can_stop ≡ old → HasPlainStart p.state → now ≡ old → was ≡ is_statement_line p.state.units.line → single ≡ was →
       AgreesWithState (StandsAtEventIn holds is_new stage) now single in_flight given t
-  serves-on holds is_new old now was single stage in_flight given h can same line kept = record {
+  serves-on holds is_new old now was single stage in_flight given h can began same line kept = record {
     seen = h.sees;
     can_stop = d.after.can_stop ∙ can ∙ sym same;
+    plain = plain-after e p.state t d.after began;
     line = kept ∙ line ∙ ap is_statement_line (sym (onwards-line p sound e t plain comes d.after));
     flies = h.flies;
   }

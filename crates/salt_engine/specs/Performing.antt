@@ -1,5 +1,5 @@
 -- What is to come is performed, over the half in memory that has chosen it; or it is broken off.
-use Rattle.salt_ast.specs.declared.lines.Line.TheVariants.{Crash, Nothing, Program, Table}
+use Rattle.salt_ast.specs.declared.lines.Line.TheVariants.{Crash, Net, Nothing, Program, Table}
 use Rattle.salt_ast.specs.declared.lines.Line.{Line}
 use Rattle.salt_books.specs.Books.{AreBooks}
 use Rattle.salt_books.specs.Coming.{event_meant}
@@ -33,6 +33,7 @@ use Rattle.salt_scheduler.specs.Standing as scheduling
 use Rattle.salt_scheduler.specs.Standing.{DoesNext, ServesAllowed, ServesLine, behind_in}
 use Rattle.salt_scheduler.specs.declared.scheduler.Scheduler.{Scheduler}
 use Rattle.law_decisions.specs.Spelled.{IsSpelledLine}
+use Rattle.salt_driver.specs.Opening.{HasPlainStart}
 use Rattle.salt_driver.specs.Writing.{IsWrittenBy}
 use Rattle.salt_storage.specs.Staying.{StaysWithin}
 use Rattle.salt_storage.specs.Writing.{ToWrite}
@@ -82,7 +83,7 @@ pub record GoesOnServing (holds : Kept → Type 0) (is_new : Id → Type 0) (lin
   pub stands : scheduling.StandsBehindEvent x s
   pub stored : Stored holds is_new s.units
 
--- `go all` is to turn to a program
+-- a program is to have its turn
 pub record TurnsTo (line : Line) (base : Id) (x : Scheduler) (s : State) : Type 0 where
   pub turn : next_turn_of s ≡ Some base
   pub serves : ServesLine line (turned_to base s)
@@ -99,11 +100,12 @@ abbrev pub IsServed : Line → Type 0
 IsServed (Crash pairs) = Every (λ (p : ℕ × ℕ). p.1 ≤ 4) pairs
 IsServed line = IsSpelledLine line
 
--- lines that have to be prepared: definitions, and stops that are armed
+-- lines that have to be prepared: definitions, stops that are armed, and pairs of messages
 abbrev pub is_prepared_line : Line → Bool
 is_prepared_line (Table d) = true
 is_prepared_line (Program p) = true
 is_prepared_line (Crash pairs) = true
+is_prepared_line (Net pairs) = true
 is_prepared_line line = false
 
 abbrev pub is_definition : Line → Bool
@@ -119,6 +121,7 @@ pub record AsksLine (holds : Kept → Type 0) (is_new : Id → Type 0) (stoppabl
   pub stored : Stored holds is_new s.units
   pub served : IsServed line
   pub can_stop : s.can_stop ≡ stoppable
+  pub plain : HasPlainStart s
 
 -- before it is asked, and may be refused
 pub record IsToAsk (holds : Kept → Type 0) (is_new : Id → Type 0) (stoppable : Bool) (line : Line) (x : Scheduler) (s : State) : Type 0 where
@@ -129,6 +132,7 @@ pub record IsToAsk (holds : Kept → Type 0) (is_new : Id → Type 0) (stoppable
   pub stored : Stored holds is_new s.units
   pub served : IsServed line
   pub can_stop : s.can_stop ≡ stoppable
+  pub plain : HasPlainStart s
 
 -- the event that was meant is given, and the engine has done it; a decision is in flight until it is told
 pub record Performs (seen : Option Event → State → Type 0) (in_flight : Option InFlight) (meant given : Option Event) (s : State) : Type 0 where

@@ -20,10 +20,11 @@ use Rattle.salt_model.specs.Turns.{is_statement_line}
 use Rattle.salt_model.specs.declared.events.Event.{Event}
 use Rattle.salt_scheduler.specs.Standing as scheduling
 use Rattle.salt_scheduler.specs.declared.scheduler.Scheduler.{Scheduler}
+use Rattle.salt_driver.specs.Opening.{HasPlainStart}
 use Rattle.salt_storage.specs.Storing.{IsSoundKept}
 use Rattle.salt_storage.specs.declared.found.Numbers.{Numbers}
 use Rattle.salt_values.specs.declared.id.Id.{Id}
-use Rattle.std.specs.Prelude.{Bool, IsSome, List, None, Option, Some, [], map, ℕ, ⊤, ◌≡◌, ◌⊎◌}
+use Rattle.std.specs.Prelude.{Bool, IsSome, List, None, Option, Some, [], false, map, ℕ, ⊤, ◌≡◌, ◌⊎◌}
 
 -- THE STAGES. With the event at hand, which the half in memory has done, it stands for the state before that.
 
@@ -33,10 +34,12 @@ StandsAtEventIn holds is_new (Going x) None s = scheduling.StandsForState x s ×
 StandsAtEventIn holds is_new (Going x) (Some e) s = (t : State) × scheduling.HasDoneEvent x e s t × Stored holds is_new t.units × (s.units.phase ≡ phases.Serving)
 StandsAtEventIn holds is_new stage next s = ⊥
 
--- beside what is seen: whether stops can be armed, whether the last line is one statement, and what is in flight, which is the decision at hand
+-- beside what is seen: whether stops can be armed, how the run began, whether the last line is one statement, and what is in flight, which is
+-- the decision at hand
 pub record AgreesWithState (sees : Option Event → State → Type 0) (stoppable single : Bool) (in_flight : Option InFlight) (next : Option Event) (s : State) : Type 0 where
   pub seen : sees next s
   pub can_stop : s.can_stop ≡ stoppable
+  pub plain : HasPlainStart s
   pub line : single ≡ is_statement_line s.units.line
   pub flies : IsInFlight in_flight (decision_in next) s.units
 
@@ -63,6 +66,9 @@ pub record IsReadyOver (numbers : Numbers) (ts : List TableDef) (ps : List Progr
   pub bases : s.units.base_count ≡ 0
   pub conts : s.units.kept.conts ≡ []
   pub to_go : s.units.to_go ≡ []
+  pub early : s.units.early ≡ false
+  pub named : s.units.named ≡ []
+  pub owes : s.units.owes ≡ false
   pub watch : s.watch ≡ empty_watch 0
 
 -- lines are served from it on
@@ -105,6 +111,7 @@ pub record CanReopenAt (holds : Kept → Type 0) (leaves : Kept → Kept → Typ
   pub knows : KnowsUnits books p.state.units
   pub sound : IsSoundKept p.state.units.kept
   pub can_stop : p.state.can_stop ≡ stoppable
+  pub plain : HasPlainStart p.state
   pub line : single ≡ is_statement_line p.state.units.line
   pub flies : IsInFlight in_flight p.flight p.state.units
 

@@ -65,7 +65,7 @@ impl<S: Drop> Engine<S> {
     {
         let conts = Items::new(alloc);
         let known = Known::new(alloc, schema, catalogue, conts, boot, kept.decisions);
-        let scheduler = Scheduler::new(alloc, Books::new(alloc, known, begun));
+        let scheduler = Scheduler::new(alloc, Books::new(alloc, known, begun, false));
         Engine {
             alloc,
             storage: store,

@@ -71,17 +71,17 @@ fn defined(scheduler: &mut Scheduler, line: &Line) -> Result<Event, AllocError>
     }
 }
 
-/// A line is asked: what is refused of it.
+/// A line is asked: what is refused of it. No commit goes over messages.
 fn ask(
     scheduler: &mut Scheduler,
     line: &Line,
     can_stop: bool,
 ) -> Result<Option<Refusal>, AllocError>
     requires { HasFewParts line.now }
-    ensures { IfOk result (λ refusal. (s : State) → StandsForState scheduler.old s → s.can_stop ≡ can_stop → AreDistinct s.watch.programs
+    ensures { IfOk result (λ refusal. (s : State) → StandsForState scheduler.old s → s.can_stop ≡ can_stop → s.over_net ≡ false → AreDistinct s.watch.programs
         → (refusal ≡ refusal_of s (Tree line.now)) × StandsForState scheduler.new (asked_of (Tree line.now) s)) }
 {
-    let refusal = scheduler.refusal(line, can_stop)?;
+    let refusal = scheduler.refusal(line, can_stop, false)?;
     scheduler.ask(line)?;
     Ok(refusal)
 }
@@ -224,6 +224,7 @@ impl<S: Storage> Engine<S> {
             Line::Table(_def) => self.define(disks, place, scheduler, line),
             Line::Program(_def) => self.define(disks, place, scheduler, line),
             Line::Crash(pairs) => self.arm(disks, scheduler, line, pairs),
+            Line::Net(_pairs) => unreachable!(),
             _ => self.follow_line(disks, place, scheduler, line),
         }
     }

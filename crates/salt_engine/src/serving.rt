@@ -30,7 +30,7 @@ use salt_storage::{Halt, Storage};
 use salt_values::{Id, Key};
 use std::alloc::AllocError;
 
-/// `go all` turns to a program: what that brings.
+/// A program has its turn: what that brings.
 fn turn_to(scheduler: &mut Scheduler, line: &Line, base: Id) -> Result<Coming, AllocError>
     requires { (s : State) × TurnsTo line.now base scheduler.old s }
     ensures { IfOk result (λ coming. (s : State) (r : Reading s.watch) → TurnsTo line.now base scheduler.old s
@@ -221,7 +221,7 @@ impl<S: Storage> Engine<S> {
         self.perform(disks, place, scheduler, coming)
     }
 
-    /// `go all` turns to a program, and what that brings is performed.
+    /// A program has its turn, and what that brings is performed.
     pub(crate) fn turn_in_line<D: Disks, F: Fn(PlaceKind, &Key, u32) -> u32>(
         &mut self,
         disks: &mut D,

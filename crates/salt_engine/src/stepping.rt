@@ -1,4 +1,4 @@
-//! The engine's moves at a line, at a turn of `go all` and at an event.
+//! The engine's moves at a line, at a turn behind a line and at an event.
 
 ghost use Rattle.salt_engine.specs.Flights.{flight_of};
 ghost use Rattle.salt_engine.specs.Performing.{IsServed};

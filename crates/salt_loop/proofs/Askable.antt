@@ -3,7 +3,7 @@ use Rattle.salt_ast.specs.Limits.{above, height_passed, passed_in_list}
 use Rattle.salt_ast.specs.ProgramLimits.{line_exprs, line_limit, line_passed, stop_passed}
 use Rattle.salt_ast.specs.declared.limit.LimitName.TheVariants as limit
 use Rattle.salt_ast.specs.declared.limit.LimitName.{LimitName}
-use Rattle.salt_ast.specs.declared.lines.Line.TheVariants.{Crash, Go, GoAll, Nothing, Program, Session, ShowBases, ShowLocks, Table}
+use Rattle.salt_ast.specs.declared.lines.Line.TheVariants.{Crash, Go, GoAll, Net, Nothing, Program, Session, ShowBases, ShowLocks, Table}
 use Rattle.salt_ast.specs.declared.lines.Line.{Line}
 use Rattle.salt_model.specs.Lines.{Asks, has_other_byte, is_idle, is_line, is_long, is_no_line, passes}
 use Rattle.salt_model.specs.Trace.{Asked, Tree}
@@ -65,3 +65,4 @@ askable text (Go b) asks spelled = tt
 askable text GoAll asks spelled = tt
 askable text ShowLocks asks spelled = tt
 askable text ShowBases asks spelled = tt
+askable text (Net pairs) asks spelled = tt

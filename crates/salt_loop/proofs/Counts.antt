@@ -9,7 +9,7 @@ use Rattle.salt_model.specs.declared.events.Why.TheVariants as why
 use Rattle.salt_model.specs.declared.events.Why.{Why}
 use Rattle.salt_loop.specs.Counted.{AreFaults, AreFaultsOf, AreMet, AreStopsOf, CountsAdded, CountsNothing, CountsResumed, CountsRun}
 use Rattle.salt_io.specs.declared.lines.LineErr.{LineErr}
-use Rattle.salt_promise.specs.Counting.{armed_after, armed_behind, behind_first}
+use Rattle.salt_model.specs.Arming.{armed_after, armed_behind, behind_first}
 use Rattle.salt_promise.specs.declared.status.Status.{Status}
 use Rattle.salt_promise.specs.declared.status.Status.TheVariants.{DeviceFull, DiskFault, Done, Memory, NotSalt, NumbersSpent, OtherShape, ReadFault, ScriptTooLong, Usage, WriteFault}
 use Rattle.salt_loop.specs.Stopping.{answer_of, outcome, status_of, stop_of}

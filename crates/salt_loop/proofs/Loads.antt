@@ -39,7 +39,7 @@ use Rattle.std.specs.Prelude.{Bool, List, None, Option, Some, [], cond, drop, eq
 
 -- each may be asked, and has a key where it is a table
 
-abbrev MayBeAsked : Line → Type 0
+abbrev pub MayBeAsked : Line → Type 0
 MayBeAsked line = IsAskable line × HasKey (Tree line)
 
 each-both : (xs ys : List Line) → Every MayBeAsked xs → Every MayBeAsked ys → Every MayBeAsked (xs ++ ys)
@@ -68,7 +68,7 @@ module _ (table : IsSpelledTable account_def) (program : IsSpelledProgram transf
   unfolding opening
   each-opening = ((table, refl), ((program, tt), each-deposit (range_with_len 0 100)))
 
-  each-line : (n : ℕ) → Every MayBeAsked (load_lines n)
+  pub each-line : (n : ℕ) → Every MayBeAsked (load_lines n)
   each-line n = each-both opening (calls n ++ closing) each-opening (each-both (calls n) closing (each-calls (range_with_len 1 n)) ((tt, tt), ((tt, tt), ((tt, tt), tt))))
 
   of-each : (xs : List Line) (i : ℕ) (line : Line) → Every MayBeAsked xs → Some line ≡ slice_get xs i → MayBeAsked line

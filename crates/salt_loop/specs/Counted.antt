@@ -3,7 +3,7 @@ use Rattle.salt_disk.specs.Disks.{Rose, View}
 use Rattle.salt_model.specs.declared.events.Event.TheVariants.{Down}
 use Rattle.salt_model.specs.declared.events.Event.{Event}
 use Rattle.salt_model.specs.declared.events.Why.TheVariants as why
-use Rattle.salt_promise.specs.Counting.{armed_behind}
+use Rattle.salt_model.specs.Arming.{armed_behind}
 use Rattle.salt_promise.specs.declared.status.Status.{Status}
 use Rattle.salt_promise.specs.declared.status.Status.TheVariants.{DeviceFull, DiskFault, Memory}
 use Rattle.salt_loop.specs.Stopping.{answer_of}

@@ -26,6 +26,9 @@ returns-clause-ok g c = λ start trace d.
 pub returns-clause-within : goal.returns-clause-within
 returns-clause-within g c = stays-behind c.find.ensures.within c.open_found.ensures.within
 
+pub returns-in_err-open_found-clause-within : goal.returns-in_err-open_found-clause-within
+returns-in_err-open_found-clause-within g c = stays-behind c.find.ensures.within c.open_found.ensures.within
+
 pub returns-in_err-find-clause-err : goal.returns-in_err-find-clause-err
 returns-in_err-find-clause-err g c =
     let p = err_from_is_err_and c.from_residual.result c.from_residual.ensures.1 in

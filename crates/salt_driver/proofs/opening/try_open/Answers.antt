@@ -2,11 +2,12 @@ use Rattle.salt_driver.proofs.Counted.{fewer-stops, opening-fallen, short-counts
 use Rattle.salt_driver.proofs.Falling.{breaks-short, falls-anew, lies-somewhere}
 use Rattle.salt_driver.proofs.opening.try_open.Goals as goal
 use Rattle.salt_driver.specs.Counting.{CountsOpening}
+use Rattle.salt_driver.specs.Reopening.{BreaksOpening}
 use Rattle.salt_storage.proofs.Staying.{stays-behind}
 use Rattle.salt_storage.specs.Answers.{open_disk_err_of}
 use Rattle.salt_storage.specs.declared.open.OpenErr.TheVariants.{Halted}
 use Rattle.salt_storage.specs.declared.open.OpenErr.{OpenErr}
-use Rattle.std.proofs.Common.{ap, subst, ◌∙◌}
+use Rattle.std.proofs.Common.{ap, rules, subst, ◌∙◌}
 use Rattle.std.proofs.lemmas.Result.{err_from_is_err_and}
 
 pub fall-requires : goal.fall-requires
@@ -60,3 +61,10 @@ returns-in_err-push-in-Err-Halted-Stopped-clause-counts g c =
     let p = err_from_is_err_and c.from_residual.result c.from_residual.ensures.1 in
     rw (p.1, p.2) (short-counts (view c.args.disks.now) (view c.open_once.new.disks) _ c.args.story.now c.open_once.new.story c.push.new.self stop.ensures.counts
     c.in_err-push-in-Err-Halted-Stopped.ensures.err (ap open_disk_err_of (stop.field-0-is ∙ ap Halted stop.field-0-0-is)))
+
+pub returns-in-Err-clause-err : goal.returns-in-Err-clause-err
+returns-in-Err-clause-err g c = λ start trace d.
+    let view = g.D.Disks.view c.open_once.new.disks in
+    let e = c.open_once.new.database in
+    subst (λ (x : OpenErr). BreaksOpening (g.E.Stepping.lies view e) (g.E.Stepping.left view e) (g.E.Stepping.fills view e) (g.E.Stepping.flight e) x start trace c.args.story.now c.open_once.new.story)
+    (search rules) (c.in-Err.ensures.err start trace d)

@@ -54,7 +54,7 @@ loop-base-preserved g c =
       λ r p starts at none is.
           let here = known.0 p starts at in
           let sound = sound-on here.moves p here.point starts here.inside here.runs in
-          absurd (turned-to-none here.moves p here.point c.next_turn.result c.in-Some.base here.inside here.runs none (c.next_turn.ensures here.point sound here.stands.state) c.in-Some.is),
+          absurd (turned-to-none r here.moves p here.point c.next_turn.result c.in-Some.base here.inside here.runs none (at.comes ∙ is) here.stands.comes (c.next_turn.ensures here.point sound here.stands.state) c.in-Some.is),
     )
 
 pub returns-clause-ok : goal.returns-clause-ok
@@ -79,13 +79,13 @@ pub returns-in_err-next-clause-refused : goal.returns-in_err-next-clause-refused
 returns-in_err-next-clause-refused g c = λ r p starts at none is.
     let here = c.loop-base.invariant.0 p starts at in
     let sound = sound-on here.moves p here.point starts here.inside here.runs in
-    absurd (turned-to-none here.moves p here.point c.next_turn.result c.in-Some.base here.inside here.runs none (c.next_turn.ensures here.point sound here.stands.state) c.in-Some.is)
+    absurd (turned-to-none r here.moves p here.point c.next_turn.result c.in-Some.base here.inside here.runs none (at.comes ∙ is) here.stands.comes (c.next_turn.ensures here.point sound here.stands.state) c.in-Some.is)
 
 pub returns-in_err-settle-2-clause-refused : goal.returns-in_err-settle-2-clause-refused
 returns-in_err-settle-2-clause-refused g c = λ r p starts at none is.
     let here = c.loop-base.invariant.0 p starts at in
     let sound = sound-on here.moves p here.point starts here.inside here.runs in
-    absurd (turned-to-none here.moves p here.point c.next_turn.result c.in-Some.base here.inside here.runs none (c.next_turn.ensures here.point sound here.stands.state) c.in-Some.is)
+    absurd (turned-to-none r here.moves p here.point c.next_turn.result c.in-Some.base here.inside here.runs none (at.comes ∙ is) here.stands.comes (c.next_turn.ensures here.point sound here.stands.state) c.in-Some.is)
 
 pub returns-in_err-settle-clause-err : goal.returns-in_err-settle-clause-err
 returns-in_err-settle-clause-err g c =

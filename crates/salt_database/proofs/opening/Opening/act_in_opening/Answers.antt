@@ -4,7 +4,8 @@ use Rattle.salt_database.proofs.opening.Opening.act_in_opening.Goals as goal
 use Rattle.salt_engine.proofs.Broken.{broken-as}
 use Rattle.salt_engine.proofs.Counted.{cause-broken, cause-lost, cause-told}
 use Rattle.salt_engine.proofs.Outcome.{comes-lost}
-use Rattle.law_openings.specs.Draining.{statements_at, statements_in}
+use Rattle.law_openings.specs.Draining.{statements_at}
+use Rattle.salt_model.specs.Rests.{statements_in}
 use Rattle.std.proofs.Common.{ap, arith, inl, inr, refl, ◌≡◌}
 use Rattle.std.proofs.lemmas.Result.{err_from_is_err_and}
 

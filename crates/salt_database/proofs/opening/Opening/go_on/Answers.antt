@@ -1,4 +1,4 @@
-use Rattle.salt_database.proofs.GoDone.{comes-ready, done-ready, opening-less, opens-halts, opens-short, opens-there, ready-idles, ready-is, ready-less, ready-sees, says-ready, untold-lost}
+use Rattle.salt_database.proofs.GoDone.{comes-ready, done-ready, ends-ready, opening-less, opens-halts, opens-short, opens-there, ready-idles, ready-less, ready-sees, says-ready, untold-lost}
 use Rattle.salt_database.proofs.OpeningGoes.{goes-on, opened-on}
 use Rattle.salt_database.proofs.Stages.{opened-at, opens-now}
 use Rattle.salt_database.proofs.opening.Opening.go_on.Goals as goal
@@ -24,39 +24,41 @@ go_on_in_opening-requires-clause-stands g c =
     let p = c.requires.stands.0 in
     let at = c.requires.stands.2 in
     let there = sym c.replace.ensures.value ∙ c.going-recovery.ensures in
-    let going = sym c.is_ready-ready.ensures ∙ c.if-ready.false in
+    let going = sym c.ends_opening-ends.ensures ∙ c.if-ends.false in
     let h = opened-at _ _ _ _ _ p.state there at.state.0.seen in
     (h.0, goes-on c.going-recovery.result c.args.event p c.requires.stands.1 h.0 h.1 at.comes going _ _ h.2)
 
-pub returns-then-ready-clause-moves : goal.returns-then-ready-clause-moves
-returns-then-ready-clause-moves g c = λ p sound at.
+pub returns-then-ends-clause-moves : goal.returns-then-ends-clause-moves
+returns-then-ends-clause-moves g c = λ p sound at.
     let there = sym c.replace.ensures.value ∙ c.going-recovery.ensures in
     let x = c.going-recovery.result in
     let e = c.args.event in
-    let is = ready-is e (sym c.is_ready-ready.ensures ∙ c.if-ready.true) in
+    let is = ends-ready e p sound at.state.0.plain at.comes (sym c.ends_opening-ends.ensures ∙ c.if-ends.true) in
     let h = opened-at _ _ _ _ _ p.state there at.state.0.seen in
     let d = done-ready x e p.state h.0 is h.1 in
     let comes = comes-ready p e is at.comes in
     says-ready _ _ e p is (ready-idles x p sound h.0 d comes at.opening _ _
-    (ready-sees x p sound h.0 d comes at.opening _ _ _ _ _ _ _ _ refl h.2 at.state.0.can_stop refl at.state.0.line refl refl, at.state.1))
+    (ready-sees x p sound h.0 d comes at.opening _ _ _ _ _ _ _ _ refl h.2 at.state.0.can_stop at.state.0.plain refl at.state.0.line refl refl, at.state.1))
 
-pub returns-then-ready-clause-less : goal.returns-then-ready-clause-less
-returns-then-ready-clause-less g c =
-    ready-less _ _ c.going-recovery.result c.going-recovery.result c.args.event (sym c.replace.ensures.value ∙ c.going-recovery.ensures) (ready-is c.args.event (sym c.is_ready-ready.ensures ∙ c.if-ready.true)) refl
+pub returns-then-ends-clause-less : goal.returns-then-ends-clause-less
+returns-then-ends-clause-less g c =
+    let at = c.requires.stands.2 in
+    ready-less _ _ c.going-recovery.result c.going-recovery.result c.args.event (sym c.replace.ensures.value ∙ c.going-recovery.ensures)
+    (ends-ready c.args.event c.requires.stands.0 c.requires.stands.1 at.state.0.plain at.comes (sym c.ends_opening-ends.ensures ∙ c.if-ends.true)) refl
 
-pub returns-then-ready-clause-counts : goal.returns-then-ready-clause-counts
-returns-then-ready-clause-counts g c = counts-same _ [] refl
+pub returns-then-ends-clause-counts : goal.returns-then-ends-clause-counts
+returns-then-ends-clause-counts g c = counts-same _ [] refl
 
 pub returns-in_ok-go_on_in_opening-clause-moves : goal.returns-in_ok-go_on_in_opening-clause-moves
 returns-in_ok-go_on_in_opening-clause-moves g c = λ p sound at.
     let there = sym c.replace.ensures.value ∙ c.going-recovery.ensures in
     let x = c.going-recovery.result in
     let e = c.args.event in
-    let going = sym c.is_ready-ready.ensures ∙ c.if-ready.false in
+    let going = sym c.ends_opening-ends.ensures ∙ c.if-ends.false in
     let h = opened-at _ _ _ _ _ p.state there at.state.0.seen in
     let d = c.in_ok-go_on_in_opening.ensures.comes h.0 (goes-on x e p sound h.0 h.1 at.comes going _ _ h.2) in
     opens-there x e p sound h.0 h.1 at.comes going _ _ _ (
-      (opened-on x e p sound h.0 h.1 at.comes going _ _ _ _ _ _ _ _ _ d at.state.0.can_stop c.go_on_in_opening.ensures.stays.within.shape.can_stop at.state.0.line (ap (λ n. n.0) c.go_on_in_opening.ensures.stays.noted)).0,
+      (opened-on x e p sound h.0 h.1 at.comes going _ _ _ _ _ _ _ _ _ d at.state.0.can_stop at.state.0.plain c.go_on_in_opening.ensures.stays.within.shape.can_stop at.state.0.line (ap (λ n. n.0) c.go_on_in_opening.ensures.stays.noted)).0,
       (ap (λ n. n.1) c.go_on_in_opening.ensures.stays.noted) ∙ at.state.1,
     ) d.told
 
@@ -68,7 +70,7 @@ returns-in_ok-go_on_in_opening-clause-less g c =
     let there = sym c.replace.ensures.value ∙ c.going-recovery.ensures in
     let x = c.going-recovery.result in
     let e = c.args.event in
-    let going = sym c.is_ready-ready.ensures ∙ c.if-ready.false in
+    let going = sym c.ends_opening-ends.ensures ∙ c.if-ends.false in
     let h = opened-at _ _ _ _ _ p.state there at.state.0.seen in
     let d = c.in_ok-go_on_in_opening.ensures.comes h.0 (goes-on x e p sound h.0 h.1 at.comes going _ _ h.2) in
     opening-less _ _ _ _ x e _ p sound h.0 h.1 at.comes going there d.sees (c.stands.ensures.sound h.0.units.kept h.2.holding) d.told
@@ -83,10 +85,10 @@ returns-in_err-go_on_in_opening-clause-halts g c =
     let there = sym c.replace.ensures.value ∙ c.going-recovery.ensures in
     let x = c.going-recovery.result in
     let e = c.args.event in
-    let going = sym c.is_ready-ready.ensures ∙ c.if-ready.false in
+    let going = sym c.ends_opening-ends.ensures ∙ c.if-ends.false in
     let h = opened-at _ _ _ _ _ p.state there at.state.0.seen in
     let b = c.in_err-go_on_in_opening.ensures.comes h.0 (goes-on x e p sound h.0 h.1 at.comes going _ _ h.2) in
-    opens-halts x e p sound h.0 h.1 at.comes going _ _ _ _ _ _ _ ((ap (λ n. n.1) c.go_on_in_opening.ensures.stays.noted) ∙ at.state.1) _ _ _ _ c.args.story.now c.push.new.self b at.state.0.can_stop c.go_on_in_opening.ensures.stays.within.shape.can_stop at.state.0.line
+    opens-halts x e p sound h.0 h.1 at.comes going _ _ _ _ _ _ _ ((ap (λ n. n.1) c.go_on_in_opening.ensures.stays.noted) ∙ at.state.1) _ _ _ _ c.args.story.now c.push.new.self b at.state.0.can_stop at.state.0.plain c.go_on_in_opening.ensures.stays.within.shape.can_stop at.state.0.line
     (ap (λ n. n.0) c.go_on_in_opening.ensures.stays.noted) (c.stands.ensures.sound h.0.units.kept h.2.holding) c.in_ok-push.ensures.ok)
 
 pub returns-in_err-go_on_in_opening-clause-counts : goal.returns-in_err-go_on_in_opening-clause-counts
@@ -115,7 +117,7 @@ returns-in_err-go_on_in_opening-clause-short g c =
     let there = sym c.replace.ensures.value ∙ c.going-recovery.ensures in
     let x = c.going-recovery.result in
     let e = c.args.event in
-    let going = sym c.is_ready-ready.ensures ∙ c.if-ready.false in
+    let going = sym c.ends_opening-ends.ensures ∙ c.if-ends.false in
     let h = opened-at _ _ _ _ _ p.state there at.state.0.seen in
     opens-short x e p sound h.0 h.1 at.comes going c.args.story.now c.push.new.self c.args.steps.now c.go_on_in_opening.new.steps
     (c.in_err-go_on_in_opening.ensures.short h.0 (goes-on x e p sound h.0 h.1 at.comes going _ _ h.2)) c.in_ok-push.ensures.ok)

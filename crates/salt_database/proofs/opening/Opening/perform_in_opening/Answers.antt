@@ -3,7 +3,8 @@ use Rattle.salt_database.proofs.opening.Opening.perform_in_opening.Goals as goal
 use Rattle.salt_database.specs.Performing.{IsToOpen}
 use Rattle.salt_engine.proofs.Counted.{same-cause}
 use Rattle.salt_engine.proofs.Outcome.{comes-as, stays-same, when-opened}
-use Rattle.law_openings.specs.Draining.{statements_at, statements_in}
+use Rattle.law_openings.specs.Draining.{statements_at}
+use Rattle.salt_model.specs.Rests.{statements_in}
 use Rattle.std.proofs.Common.{ap, arith, inl, refl, ◌∙◌, ◌≡◌}
 use Rattle.std.proofs.lemmas.Result.{IfOk-weaker}
 

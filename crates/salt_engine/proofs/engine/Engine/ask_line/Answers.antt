@@ -27,26 +27,26 @@ begin_line-requires-clause-ready g c =
     let s = c.requires.ready.0 in
     let h = c.requires.ready.1 in (
       asked_of (Tree c.args.line.now) s,
-      asks-line _ _ _ c.args.line.now _ s h _ (sym (c.in_ok-refusal.ensures s h.stands (h.can_stop ∙ sym c.can_stop.ensures) h.distinct).0 ∙ c.in-None.is) (c.in_ok-refusal.ensures s h.stands (h.can_stop ∙ sym c.can_stop.ensures) h.distinct).1,
+      asks-line _ _ _ c.args.line.now _ s h _ (sym (c.in_ok-refusal.ensures s h.stands (h.can_stop ∙ sym c.can_stop.ensures) h.plain.over_net h.distinct).0 ∙ c.in-None.is) (c.in_ok-refusal.ensures s h.stands (h.can_stop ∙ sym c.can_stop.ensures) h.plain.over_net h.distinct).1,
     )
 
 pub returns-in-Some-clause-comes : goal.returns-in-Some-clause-comes
 returns-in-Some-clause-comes g c = rw c.refuse_line.ensures.storage (λ s r h.
-    refused-performs _ _ _ c.args.line.now _ s h c.in-Some.refusal (sym (c.in_ok-refusal.ensures s h.stands (h.can_stop ∙ sym c.can_stop.ensures) h.distinct).0 ∙ c.in-Some.is) _ _ _ _ c.refuse_line.ensures.stage
-    (c.in_ok-refusal.ensures s h.stands (h.can_stop ∙ sym c.can_stop.ensures) h.distinct).1 (c.refuse_line.ensures.flies ∙ c.requires.none) r)
+    refused-performs _ _ _ c.args.line.now _ s h c.in-Some.refusal (sym (c.in_ok-refusal.ensures s h.stands (h.can_stop ∙ sym c.can_stop.ensures) h.plain.over_net h.distinct).0 ∙ c.in-Some.is) _ _ _ _ c.refuse_line.ensures.stage
+    (c.in_ok-refusal.ensures s h.stands (h.can_stop ∙ sym c.can_stop.ensures) h.plain.over_net h.distinct).1 (c.refuse_line.ensures.flies ∙ c.requires.none) r)
 
 pub returns-in-Some-clause-counts : goal.returns-in-Some-clause-counts
 returns-in-Some-clause-counts g c =
     let s = c.requires.ready.0 in
     let h = c.requires.ready.1 in
-    counts-same _ _ (refused-unarmed _ _ _ c.args.line.now _ s h c.in-Some.refusal (sym (c.in_ok-refusal.ensures s h.stands (h.can_stop ∙ sym c.can_stop.ensures) h.distinct).0 ∙ c.in-Some.is) _ _ _ c.refuse_line.ensures.stage
-    (c.in_ok-refusal.ensures s h.stands (h.can_stop ∙ sym c.can_stop.ensures) h.distinct).1 (reads (asked_of (Tree c.args.line.now) s) h.serves.sound))
+    counts-same _ _ (refused-unarmed _ _ _ c.args.line.now _ s h c.in-Some.refusal (sym (c.in_ok-refusal.ensures s h.stands (h.can_stop ∙ sym c.can_stop.ensures) h.plain.over_net h.distinct).0 ∙ c.in-Some.is) _ _ _ c.refuse_line.ensures.stage
+    (c.in_ok-refusal.ensures s h.stands (h.can_stop ∙ sym c.can_stop.ensures) h.plain.over_net h.distinct).1 (reads (asked_of (Tree c.args.line.now) s) h.serves.sound))
 
 pub returns-in-None-clause-comes : goal.returns-in-None-clause-comes
 returns-in-None-clause-comes g c = λ s r h.
-    let none = sym (c.in_ok-refusal.ensures s h.stands (h.can_stop ∙ sym c.can_stop.ensures) h.distinct).0 ∙ c.in-None.is in
+    let none = sym (c.in_ok-refusal.ensures s h.stands (h.can_stop ∙ sym c.can_stop.ensures) h.plain.over_net h.distinct).0 ∙ c.in-None.is in
     comes-same _ _ _ _ _ _ _ _ (asked_of (Tree c.args.line.now) s) c.begin_line.result (sym (unrefused _ _ _ c.args.line.now _ s h none r))
-    (c.begin_line.ensures.comes (asked_of (Tree c.args.line.now) s) r (asks-line _ _ _ c.args.line.now _ s h _ none (c.in_ok-refusal.ensures s h.stands (h.can_stop ∙ sym c.can_stop.ensures) h.distinct).1))
+    (c.begin_line.ensures.comes (asked_of (Tree c.args.line.now) s) r (asks-line _ _ _ c.args.line.now _ s h _ none (c.in_ok-refusal.ensures s h.stands (h.can_stop ∙ sym c.can_stop.ensures) h.plain.over_net h.distinct).1))
 
 pub returns-in-None-clause-stays : goal.returns-in-None-clause-stays
 returns-in-None-clause-stays g c = c.begin_line.ensures.stays
@@ -69,7 +69,7 @@ returns-in-None-clause-refused g c = λ refusal is.
     let s = c.requires.ready.0 in
     let h = c.requires.ready.1 in
     let t = asked_of (Tree c.args.line.now) s in
-    let asks = c.in_ok-refusal.ensures s h.stands (h.can_stop ∙ sym c.can_stop.ensures) h.distinct in
+    let asks = c.in_ok-refusal.ensures s h.stands (h.can_stop ∙ sym c.can_stop.ensures) h.plain.over_net h.distinct in
     let r = reads t h.serves.sound in
     absurd (begun-unrefused _ _ _ _ _ t r c.args.line.now c.begin_line.result (c.begin_line.ensures.comes t r (asks-line _ _ _ c.args.line.now _ s h _ (sym asks.0 ∙ c.in-None.is) asks.1)) refusal is)
 

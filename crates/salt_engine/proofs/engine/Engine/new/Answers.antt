@@ -14,6 +14,9 @@ returns-clause-serves g c = λ s r.
             unit_count = books.unit_count ∙ r.begun;
             base_count = books.base_count ∙ sym r.bases;
             to_go = books.to_go ∙ sym r.to_go;
+            early = books.early ∙ sym r.early;
+            named = books.named ∙ sym r.named;
+            owes = books.owes ∙ sym r.owes;
           })
           r.units r.watch (inl r.to_go),
     )

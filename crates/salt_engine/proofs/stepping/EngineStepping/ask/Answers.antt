@@ -40,7 +40,7 @@ returns-clause-moves g c = IfOk-weaker c.ask_line.result _ _ (λ next done p sou
     let r = reads-here p sound in
     let d = done p.state r (to-ask _ _ _ _ _ _ c.args.line.now c.going-scheduler.result p sound at.idle c.requires.served c.read_lines_are_spelled.ensures.keys at.state there) in
     asked-there _ _ (Tree c.args.line.now) p sound at.idle r next
-    (asked-at (Tree c.args.line.now) p sound at.idle _ _ _ _ _ _ _ next r d at.state.can_stop c.ask_line.ensures.stays.within.shape.can_stop (c.ask_line.ensures.stays.noted ∙ c.is_statement_line-self.ensures)) d.told)
+    (asked-at (Tree c.args.line.now) p sound at.idle _ _ _ _ _ _ _ next r d at.state.can_stop at.state.plain c.ask_line.ensures.stays.within.shape.can_stop (c.ask_line.ensures.stays.noted ∙ c.is_statement_line-self.ensures)) d.told)
     (when-ok _ _ _ c.ask_line.result c.ask_line.ensures.comes)
 
 pub returns-clause-halts : goal.returns-clause-halts
@@ -49,7 +49,7 @@ returns-clause-halts g c = IfErr-weaker c.ask_line.result _ _ (λ halt broken p 
     let r = reads-here p sound in
     let b = broken p.state r (to-ask _ _ _ _ _ _ c.args.line.now c.going-scheduler.result p sound at.idle c.requires.served c.read_lines_are_spelled.ensures.keys at.state there) in
     let kept = c.stands.ensures.sound p.state.units.kept (seen-at _ _ _ _ _ p.state there at.state.seen).1.holding in
-    inr (asked-halts _ _ _ halt _ _ _ _ _ p sound at.state.can_stop c.ask_line.ensures.stays.within.shape.can_stop kept (Tree c.args.line.now) at.idle r b (c.ask_line.ensures.stays.noted ∙ c.is_statement_line-self.ensures)))
+    inr (asked-halts _ _ _ halt _ _ _ _ _ p sound at.state.can_stop at.state.plain c.ask_line.ensures.stays.within.shape.can_stop kept (Tree c.args.line.now) at.idle r b (c.ask_line.ensures.stays.noted ∙ c.is_statement_line-self.ensures)))
     (when-err _ _ _ c.ask_line.result c.ask_line.ensures.comes)
 
 pub returns-clause-within : goal.returns-clause-within

@@ -31,7 +31,7 @@ returns-clause-moves g c = λ p sound at.
     let d = rejected-performs _ _ c.args.refusal c.going-scheduler.result p _ _ _ r c.in_ok-reject_line.ensures.told h.0 (asked-serves asked p sound at.idle) (asked-played asked p sound at.idle tt r)
     (subst (λ (st : g.row.S.Denot). Stored (g.S.Storage.holds (view c.args.disks.now) st) (g.S.Storage.is_new (view c.args.disks.now) st) p.state.units) (sym c.reject_line.ensures.storage) h.1)
     (c.reject_line.ensures.flies ∙ flies-none c.args.self.now.in_flight p.state.units at.state.flies) in
-    asked-there _ c.reject_line.new.self asked p sound at.idle r _ (asked-at asked p sound at.idle _ _ _ _ _ _ _ _ r d at.state.can_stop refl c.reject_line.ensures.single) d.told
+    asked-there _ c.reject_line.new.self asked p sound at.idle r _ (asked-at asked p sound at.idle _ _ _ _ _ _ _ _ r d at.state.can_stop at.state.plain refl c.reject_line.ensures.single) d.told
 
 pub returns-clause-counts : goal.returns-clause-counts
 returns-clause-counts g c =

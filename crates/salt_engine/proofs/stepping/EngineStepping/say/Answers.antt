@@ -46,7 +46,7 @@ returns-clause-moves g c = IfOk-weaker c.go_on_in_line.result _ _ (λ next done 
     let h = seen-at _ _ _ _ _ p.state there at.state.seen in
     let d = done h.0 (read line x e p sound h.0 h.1 at.comes at.serves at.line) (said-goes line x e p sound h.0 h.1 at.comes at.serves at.line _ _ h.2) in
     said-there line x e p sound h.0 h.1 at.comes at.serves at.line _ _ next
-    (said-sees line x e p sound h.0 h.1 at.comes at.serves at.line _ _ _ _ _ _ _ _ next d at.state.can_stop c.go_on_in_line.ensures.stays.within.shape.can_stop at.state.line c.go_on_in_line.ensures.stays.noted) d.told)
+    (said-sees line x e p sound h.0 h.1 at.comes at.serves at.line _ _ _ _ _ _ _ _ next d at.state.can_stop at.state.plain c.go_on_in_line.ensures.stays.within.shape.can_stop at.state.line c.go_on_in_line.ensures.stays.noted) d.told)
     (when-ok _ _ _ c.go_on_in_line.result c.go_on_in_line.ensures.comes)
 
 pub returns-clause-halts : goal.returns-clause-halts
@@ -57,7 +57,7 @@ returns-clause-halts g c = IfErr-weaker c.go_on_in_line.result _ _ (λ halt brok
     let e = c.args.event in
     let h = seen-at _ _ _ _ _ p.state there at.state.seen in
     let b = broken h.0 (read line x e p sound h.0 h.1 at.comes at.serves at.line) (said-goes line x e p sound h.0 h.1 at.comes at.serves at.line _ _ h.2) in
-    said-halts line x e p sound h.0 h.1 at.comes at.serves at.line _ _ _ halt _ _ _ _ _ _ c.args.story.now c.push.new.self b at.state.can_stop c.go_on_in_line.ensures.stays.within.shape.can_stop
+    said-halts line x e p sound h.0 h.1 at.comes at.serves at.line _ _ _ halt _ _ _ _ _ _ c.args.story.now c.push.new.self b at.state.can_stop at.state.plain c.go_on_in_line.ensures.stays.within.shape.can_stop
     at.state.line c.go_on_in_line.ensures.stays.noted (c.stands.ensures.sound h.0.units.kept h.2.holding) c.in_ok-push.ensures.ok) (when-err _ _ _ c.go_on_in_line.result c.go_on_in_line.ensures.comes)
 
 pub returns-clause-less : goal.returns-clause-less

@@ -40,7 +40,7 @@ returns-clause-moves g c = IfOk-weaker c.turn_in_line.result _ _ (λ next done p
     let r = reads-here p sound in
     let d = done p.state r (to-turn _ _ _ c.args.line.now c.args.base c.going-scheduler.result p sound at.serves at.line at.comes turn at.state.seen there) in
     turned-there _ _ c.args.line.now c.args.base p sound at.serves at.comes turn r next at.line
-    (turned-sees _ _ _ _ _ _ _ _ _ next c.args.base p.state d at.state.can_stop c.turn_in_line.ensures.stays.within.shape.can_stop at.state.line c.turn_in_line.ensures.stays.noted) d.told)
+    (turned-sees _ _ _ _ _ _ _ _ _ next c.args.base p.state d at.state.can_stop at.state.plain c.turn_in_line.ensures.stays.within.shape.can_stop at.state.line c.turn_in_line.ensures.stays.noted) d.told)
     (when-ok _ _ _ c.turn_in_line.result c.turn_in_line.ensures.comes)
 
 pub returns-clause-halts : goal.returns-clause-halts
@@ -49,7 +49,7 @@ returns-clause-halts g c = IfErr-weaker c.turn_in_line.result _ _ (λ halt broke
     let r = reads-here p sound in
     let b = broken p.state r (to-turn _ _ _ c.args.line.now c.args.base c.going-scheduler.result p sound at.serves at.line at.comes turn at.state.seen there) in
     let kept = c.stands.ensures.sound p.state.units.kept (seen-at _ _ _ _ _ p.state there at.state.seen).1.holding in
-    inr (turned-halts _ _ _ halt _ _ _ _ _ p sound at.state.can_stop c.turn_in_line.ensures.stays.within.shape.can_stop kept c.args.base at.serves at.comes turn r b (c.turn_in_line.ensures.stays.noted ∙ at.state.line)))
+    inr (turned-halts _ _ _ halt _ _ _ _ _ p sound at.state.can_stop at.state.plain c.turn_in_line.ensures.stays.within.shape.can_stop kept c.args.base at.serves at.comes turn r b (c.turn_in_line.ensures.stays.noted ∙ at.state.line)))
     (when-err _ _ _ c.turn_in_line.result c.turn_in_line.ensures.comes)
 
 pub returns-clause-fewer : goal.returns-clause-fewer
@@ -61,7 +61,7 @@ returns-clause-fewer g c = on-ok c.turn_in_line.result _ (λ next done.
     let there = sym c.replace.ensures.value ∙ c.going-scheduler.ensures in
     let r = reads-here p sound in
     let d = done p.state r (to-turn _ _ _ c.args.line.now c.args.base c.going-scheduler.result p sound at.serves at.line at.comes turn at.state.seen there) in
-    turned-fewer _ _ _ _ _ _ c.args.base next p sound at.serves at.comes turn r at.state.seen d.sees d.told) (when-ok _ _ _ c.turn_in_line.result c.turn_in_line.ensures.comes)
+    turned-fewer _ _ _ _ _ _ c.args.base next p sound at.serves at.comes turn r at.state.plain at.state.seen d.sees d.told) (when-ok _ _ _ c.turn_in_line.result c.turn_in_line.ensures.comes)
 
 pub returns-clause-counts : goal.returns-clause-counts
 returns-clause-counts g c = counts-cause _ _ _ _ (armed-none c.turn_in_line.result c.turn_in_line.ensures.unarmed) c.turn_in_line.ensures.cause
