@@ -17,10 +17,12 @@ use Rattle.salt_engine.specs.Stored.{IsAlone}
 use Rattle.salt_engine.specs.declared.flights.InFlight.{InFlight}
 use Rattle.law_states.specs.Points.{Point}
 use Rattle.salt_model.specs.Kept.{Kept, WellKept, nothing_kept}
-use Rattle.salt_model.specs.Played.{IsPlayed}
-use Rattle.salt_model.specs.Trace.{Start, Trace, start_of}
+use Rattle.salt_model.specs.Lines.{AskInOrder}
+use Rattle.salt_model.specs.Played.{IsPlayed, Tells}
+use Rattle.salt_model.specs.Trace.{Start, Trace, lines_of, start_of}
 use Rattle.salt_model.specs.declared.events.Event.{Event}
 use Rattle.salt_model.specs.declared.events.Flight.{Flight}
+use Rattle.salt_promise.specs.Doing.{IsFrontOf}
 use Rattle.salt_promise.specs.Promises.{Promises}
 use Rattle.salt_promise.specs.Runs.{AreAsBefore, IsNoRefusal, may_have_failed}
 use Rattle.salt_promise.specs.declared.status.Status.{Status}
@@ -28,24 +30,24 @@ use Rattle.salt_promise.specs.declared.status.Status.TheVariants.{DeviceFull, Do
 use Rattle.salt_run.proofs.Images.{stands-alone}
 use Rattle.salt_run.proofs.Over.{ends-behind}
 use Rattle.salt_run.proofs.Replayed.{load-replays, script-replays}
-use Rattle.salt_run.proofs.Unwritten.{load-unwritten}
+use Rattle.salt_run.proofs.Unwritten.{front-lines, load-unwritten}
 use Rattle.salt_promise.specs.Given.{shape_of}
 use Rattle.salt_run.specs.Doing.{Streams}
 use Rattle.salt_run.specs.Ending.{EndsBehind, flight_at}
-use Rattle.salt_run.specs.Running.{FindsNothing, Replays, Runs, RunsOver}
+use Rattle.salt_run.specs.Running.{DoTheirRests, FindsNothing, Replays, Runs, RunsOver}
 use Rattle.salt_run.specs.Summing.{IsSummary}
 use Rattle.salt_loop.proofs.Counts.{run-added, run-opened, run-unwritten}
 use Rattle.salt_loop.proofs.Leaving.{answers-opening, full-reason}
 use Rattle.salt_loop.specs.Counted.{AreFaultsOf, AreStopsOf, CountsAdded, CountsRun}
 use Rattle.salt_loop.specs.Ending.{EndsFound, IsStatusOf, MayEndAt}
-use Rattle.salt_loop.specs.Loading.{IsPlayedLoad}
+use Rattle.salt_loop.specs.Loading.{IsPlayedLoad, asked_by_load}
 use Rattle.salt_loop.specs.Run.{IsRun}
 use Rattle.salt_loop.specs.Serving.{IsToBegin}
 use Rattle.salt_loop.specs.Stopping.{numbers_told, status_opening}
 use Rattle.salt_driver.proofs.AtFirst.{down-at-first}
 use Rattle.salt_stands.specs.Stands.{are_spent}
 use Rattle.salt_driver.specs.Counting.{CountsOpening}
-use Rattle.salt_driver.specs.Opening.{FailsToFind, IsOpenedFirst, IsUnfound}
+use Rattle.salt_driver.specs.Opening.{FailsToFind, IsOpenedFirst, IsUnfound, plain_start}
 use Rattle.salt_storage.specs.Answers.{IsRefusal, open_disk_err_of}
 use Rattle.salt_storage.specs.Storing.{IsSoundKept}
 use Rattle.salt_storage.specs.Writing.{OfOpening}
@@ -105,7 +107,7 @@ as-before d e reason status how k = record { images = λ dev. k.images dev (λ x
     by r (inr w) k h = never (ap may_have_failed (sym w.0) ∙ h)
 
 abbrev pub any-start : Start
-any-start = record { kept = nothing_kept; can_stop = false }
+any-start = record { kept = nothing_kept; can_stop = false; early = false; over_net = false }
 
 -- WHAT WAS FOUND AT FIRST, by a shape that was not tried before
 
@@ -155,7 +157,7 @@ module _ (command : Command) (d : View) (started0 : Bool) (shape0 : Shape) (was 
 
 -- a run over it begins
 pub begins-over : (k : Kept) (now : Bool) (lies : ℕ → Point → Type 0) (flies : Option Flight) (story : List Event) → IsUnfound story → IsSoundKept k → IsOpenedFirst lies k now → flies ≡ None →
-    (trace : Trace) × IsToBegin lies flies (record { kept = k; can_stop = now }) story trace
+    (trace : Trace) × IsToBegin lies flies (plain_start k now) story trace
 begins-over k now lies flies story unfound sound opens none =
     let d = down-at-first k now lies flies story unfound sound opens none in
     (d.0, record { down = d.1; unasked = d.2 })
@@ -214,8 +216,11 @@ module _ (e : View) where
 
 module _ (d e : View) (x : Database Devices) where
   module _ (promised : (trace : Trace) → IsPlayed trace → WellKept (start_of trace).kept → Promises trace) (start : Start) (sound : IsSoundKept start.kept) (unspent : are_spent start.kept.boot start.kept.decisions ≡ false)
-      (stops : start.can_stop ≡ d.can_stop) (s : Streams) (story : List Event) where
-    module _ (shape : Shape) (asked : by_half (λ o. o.storage.shape) (λ g. g.storage.shape) no_shape x ≡ shape) (stood : Finds d true shape start.kept) (status : Status)
+      (stops : start.can_stop ≡ d.can_stop) (early : start.early ≡ false) (over_net : start.over_net ≡ false) (s : Streams) (story : List Event) where
+    sound-start : (trace : Trace) → Tells start trace story → IsSoundKept (start_of trace).kept
+    sound-start trace tells = subst (λ (k : Start). IsSoundKept k.kept) (sym tells.begins) sound
+
+    module _ (drained : (texts : List (List ℕ)) → DoTheirRests (AskInOrder texts)) (shape : Shape) (asked : by_half (λ o. o.storage.shape) (λ g. g.storage.shape) no_shape x ≡ shape) (stood : Finds d true shape start.kept) (status : Status)
         (y : (run : IsRun start status (database_flight x) s.script s.left s.before story s.now) × FoundAt e x status run.played.trace) where
       pub script-over : RunsOver (Script shape) d e status (flight_at status (database_flight x)) s story
       script-over = record {
@@ -224,12 +229,15 @@ module _ (d e : View) (x : Database Devices) where
         sound = sound;
         unspent = unspent;
         stops = stops;
+        early = early;
+        over_net = over_net;
         may = may-end y.1.room y.1.point status y.1.may;
         replays = script-replays promised shape status (database_flight x) s story start sound.well y.0;
+        drains = drained y.0.played.texts y.0.played.trace y.0.played.tells.played (sound-start y.0.played.trace y.0.played.tells) y.0.played.reads;
         ends = ends-there e x shape asked status y.0.played.trace y.0.played.tells.played y.1;
       }
 
-    module _ (calls done : ℕ) (asked : by_half (λ o. o.storage.shape) (λ g. g.storage.shape) no_shape x ≡ shape_of (Load calls)) (stood : Finds d true (shape_of (Load calls)) start.kept) (old status : Status) (how : IsBehind old status)
+    module _ (calls done : ℕ) (drained : DoTheirRests (λ lines. IsFrontOf lines (asked_by_load calls))) (asked : by_half (λ o. o.storage.shape) (λ g. g.storage.shape) no_shape x ≡ shape_of (Load calls)) (stood : Finds d true (shape_of (Load calls)) start.kept) (old status : Status) (how : IsBehind old status)
         (summed : IsSummary status (summary_text calls done story) s.before s.now) (y : (run : IsPlayedLoad start old (database_flight x) calls done story) × FoundAt e x old run.trace) where
       abbrev Loaded : Status → Type 0
       Loaded t = (r : IsPlayedLoad start t (database_flight x) calls done story) × FoundAt e x t r.trace
@@ -250,8 +258,11 @@ module _ (d e : View) (x : Database Devices) where
         sound = sound;
         unspent = unspent;
         stops = stops;
+        early = early;
+        over_net = over_net;
         may = may-end loaded.1.room loaded.1.point status loaded.1.may;
         replays = load-replays promised calls done status (database_flight x) s story start sound.well loaded.0 summed;
+        drains = drained loaded.0.trace loaded.0.tells.played (sound-start loaded.0.trace loaded.0.tells) (front-lines status calls (lines_of loaded.0.trace) loaded.0.lines);
         ends = ends-there e x (shape_of (Load calls)) asked status loaded.0.trace loaded.0.tells.played loaded.1;
       }
 

@@ -26,7 +26,7 @@ use Rattle.salt_model.specs.declared.events.End.TheVariants.{Branched, Committed
 use Rattle.salt_model.specs.declared.events.End.{End}
 use Rattle.salt_model.specs.declared.events.Event.TheVariants.{Defined, Ended}
 use Rattle.salt_model.specs.declared.events.Event.{Event}
-use Rattle.salt_promise.specs.Filling.{DecisionFills, FirstFills, NewPairFills, NextFills, changes_of, coordinator_format, next_boot, next_decision, next_definition, partition_format}
+use Rattle.salt_promise.specs.Filling.{DecisionFills, FirstFills, NewPairFills, NextFills, coordinator_format, next_boot, next_decision, next_definition, partition_format}
 use Rattle.salt_promise.specs.Filling as promise
 use Rattle.salt_run.specs.Ending.{IsFullBehind}
 use Rattle.salt_loop.specs.Ending.{MayBeWritten}
@@ -35,6 +35,7 @@ use Rattle.salt_stands.specs.FirstOpening.{IsCreated, first_header, first_part_h
 use Rattle.salt_stands.specs.OpenConts.{make_move}
 use Rattle.salt_stands.specs.Partition.{part_device}
 use Rattle.salt_stands.specs.Placed.{changes_at}
+use Rattle.salt_stands.specs.Turning.{changes_of}
 use Rattle.salt_stands.specs.Words.{has_bit}
 use Rattle.salt_driver.specs.Writing.{IsUnitWritten, IsWrittenBy, change_of, changes_decided}
 use Rattle.salt_storage.specs.Writing.{OfUnit, ToWrite}

@@ -21,6 +21,7 @@ use Rattle.salt_run.proofs.Standing.{answers-salt, answers-shape, answers-spent}
 use Rattle.salt_run.proofs.Unopened.{IsEndOver, ended-spent, halted, unopened}
 use Rattle.salt_run.specs.Doing.{Does}
 use Rattle.salt_run.specs.Running.{FindsNothing, Runs}
+use Rattle.salt_promise.specs.Counting.{Stops}
 use Rattle.salt_loop.specs.Ending.{IsStatusOf}
 use Rattle.salt_stands.proofs.Pairs.{pair_same}
 use Rattle.salt_stands.specs.CoordinatorLog.{coordinator_generation, coordinator_in}
@@ -55,7 +56,8 @@ ends-anyway (halt.DeviceFull dev) status (inl is) full = absurd (full dev is)
 ends-anyway halt.Memory status (inl is) full = subst EndsAnyway (sym is) (record { salt = λ dev. tt; shape = λ kept asked. tt; numbers = λ boot decisions. tt })
 
 module _ (reads : IsReader definition_in) (r : Run) (command : Command) (parts : IsParts (shape_of command).parts)
-    (count : 26 ≤ r.before.devices.count) (shape : SameShape r.before.devices r.after.devices) (does : (trace : Trace) → Does command r.status (streams_of r) trace → promise.Does command r trace) where
+    (count : 26 ≤ r.before.devices.count) (shape : SameShape r.before.devices r.after.devices) (does : (trace : Trace) → Does command r.status (streams_of r) trace → promise.Does command r trace)
+    (stops : Stops r.status r.before.devices.armed r.story r.after.devices.armed) where
   abbrev Goes : Type 0
   Goes = promised.FindsNothing r command ⊎ promised.RunsOver r command
 
@@ -69,7 +71,7 @@ module _ (reads : IsReader definition_in) (r : Run) (command : Command) (parts :
     mute : r.before.devices.told ≡ false → (k : Kept) → WellKept k → IsEndOver k r.status → Goes
     mute none k well ends =
         inr (unopened reads r command does x k well ends (λ told. absurd (not-told r.before.devices.told none told))
-        (λ told. absurd (not-told r.before.devices.told none (sym shape.told ∙ told))))
+        (λ told. absurd (not-told r.before.devices.told none (sym shape.told ∙ told))) stops)
 
     at-once : (reason : OpenErr) → x.reason ≡ reason → (IsLater reason → ⊥) → r.story ≡ []
     at-once reason is first = elim x.empty [ inl empty ↦ empty | inr later ↦ absurd (first (subst IsLater is later)) ]
@@ -99,7 +101,7 @@ module _ (reads : IsReader definition_in) (r : Run) (command : Command) (parts :
       opened h =
           inr (unopened reads r command does x (kept_in h.found) (well-here (shape_of command) r.before.devices.bytes h) (halted (kept_in h.found) e r.status status)
           (λ told. opens-here (shape_of command) r.before.devices.bytes reads h)
-          (x.rests (kept_in h.found) (λ told. record { image = r.before.devices.bytes; comes = λ dev low. refl; is = stands-here (shape_of command) r.before.devices.bytes h })))
+          (x.rests (kept_in h.found) (λ told. record { image = r.before.devices.bytes; comes = λ dev low. refl; is = stands-here (shape_of command) r.before.devices.bytes h })) stops)
 
       -- they are refused
       module _ (told : IsTrue r.before.devices.told) (h : RefusedHere (shape_of command) r.before.devices.bytes) where
@@ -140,5 +142,5 @@ module _ (reads : IsReader definition_in) (r : Run) (command : Command) (parts :
     found-nothing (Halted e) is = of-halt e is
 
   pub goes : Runs command r.before.devices r.after.devices r.status r.flight (streams_of r) r.story → Goes
-  goes (inl x) = inr (over r reads command parts count x.may x (does x.replays.trace x.replays.does))
+  goes (inl x) = inr (over r reads command parts count x.may x (does x.replays.trace x.replays.does) stops)
   goes (inr x) = found-nothing x x.reason refl

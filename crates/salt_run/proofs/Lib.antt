@@ -18,3 +18,4 @@ mod Refused
 mod Unopened
 mod Goes
 mod Running
+mod Drained

@@ -16,6 +16,8 @@ use Rattle.salt_run.proofs.Ways.{lines-way, load-lines-way}
 use Rattle.salt_run.specs.Doing.{Does, Streams, streams}
 use Rattle.salt_run.specs.Running.{RunsOver}
 use Rattle.salt_run.specs.Summing.{IsSummary}
+use Rattle.salt_promise.specs.Counting.{Stops}
+use Rattle.salt_run.proofs.Tallied.{stops-by-lines}
 use Rattle.salt_place.specs.Placement.{IsParts}
 use Rattle.salt_place.specs.declared.placement.Shape.{Shape}
 use Rattle.salt_promise.specs.declared.command.Command.TheVariants.{Load, Script}
@@ -43,16 +45,21 @@ module _ (r : Run) where
   }
 
   module _ (reads : IsReader definition_in) (command : Command) (parts : IsParts (shape_of command).parts) (count : 26 ≤ r.before.devices.count) where
-    pub over : IsNoRefusal r.status → (x : RunsOver command r.before.devices r.after.devices r.status r.flight streams_of r.story) → promise.Does command r x.replays.trace → promised.RunsOver r command
-    over may x does = record {
+    pub over : IsNoRefusal r.status → (x : RunsOver command r.before.devices r.after.devices r.status r.flight streams_of r.story) → promise.Does command r x.replays.trace →
+        Stops r.status r.before.devices.armed r.story r.after.devices.armed → promised.RunsOver r command
+    over may x does stops = record {
       start = x.start;
       trace = x.replays.trace;
       opens = λ told. open-as reads r.before.devices (shape_of command) parts count x.start.kept x.unspent x.stood told;
       well = x.sound.well;
       can_stop = x.stops;
+      early = x.early;
+      over_net = x.over_net;
       tells = x.replays.played;
       promises = x.replays.promises;
       unspent = x.replays.unspent;
+      drains = x.drains;
+      stops = stops-by-lines r.status r.before.devices.armed x.start x.replays.trace r.story r.after.devices.armed x.replays.played x.over_net stops;
       does = does;
       may = may;
       leaves = x.replays.leaves;

@@ -46,13 +46,14 @@ module _ (reads : IsReader definition_in) (r : Run) (count : 26 ≤ r.before.dev
   counted : (command : Command) → IsCommand command → StaysWithin (shape_of command) (shape_of command) r.before.devices r.after.devices →
       ((trace : Trace) → Does command r.status (streams_of r) trace → promise.Does command r trace) → Runs command r.before.devices r.after.devices r.status r.flight (streams_of r) r.story → RunsAs r command
   counted command limits within does runs = record {
-    goes = goes reads r command (parts-of-command command limits) count within.shape does runs;
+    goes = goes reads r command (parts-of-command command limits) count within.shape does
+        (stops-of r.status r.before.devices.armed r.story r.after.devices.armed stops) runs;
     source = reads-fail r.status r.before.source r.after.source read_fault no_read_fault reads_later;
     sink = writes-fail r.status r.before.sink r.after.sink write_fault no_write_fault writes_later;
     downs = downs-of r.status r.before.devices.faults r.story r.after.devices.faults downs;
     stops = stops-of r.status r.before.devices.armed r.story r.after.devices.armed stops;
     shape = within.shape;
-    others = λ told dev low out. within.others told dev low out;
+    others = within.others;
   }
 
   pub script-runs : (shape : Shape) → r.command ≡ Some (Script shape) → IsCommand (Script shape) → StaysWithin shape shape r.before.devices r.after.devices →

@@ -1,14 +1,18 @@
 -- Faults and stops, as a run counts them.
+use Rattle.law_story.proofs.Arming.{armed-same}
 use Rattle.salt_disk.specs.Disks.{Rose}
+use Rattle.salt_model.specs.Arming.{armed_behind}
+use Rattle.salt_model.specs.Played.{Tells}
+use Rattle.salt_model.specs.Trace.{Start, Trace}
 use Rattle.salt_model.specs.declared.events.Event.TheVariants.{Down}
 use Rattle.salt_model.specs.declared.events.Event.{Event}
 use Rattle.salt_model.specs.declared.events.Why.TheVariants as why
-use Rattle.salt_promise.specs.Counting.{AreArmed, Downs, RiseBehind, RiseTo, Stops}
+use Rattle.salt_promise.specs.Counting.{AreArmed, Downs, RiseBehind, RiseTo, Stops, StopsByLines}
 use Rattle.salt_promise.specs.declared.status.Status.{Status}
 use Rattle.salt_promise.specs.declared.status.Status.TheVariants.{DiskFault, Memory}
 use Rattle.salt_loop.specs.Counted.{AreFaults, AreFaultsOf, AreMet, AreStopsOf}
-use Rattle.std.proofs.Common.{arith}
-use Rattle.std.specs.Prelude.{List, [], ℕ, ◌∷◌, ◌≡◌, ◌≤◌}
+use Rattle.std.proofs.Common.{ap, arith, ◌∙◌}
+use Rattle.std.specs.Prelude.{List, Some, [], false, ℕ, ◌∷◌, ◌≡◌, ◌≤◌}
 
 met-as : (e : Event) (a n : ℕ) → AreMet e a n → RiseTo e a n
 met-as (Down why.Fault) a n h = h
@@ -34,3 +38,14 @@ stops-of status first story last h = record { stops = h.stops; behind = h.behind
     by : (s : Status) → ((s ≡ Memory → ⊥) → last ≡ h.stops) → AreArmed s h.stops last
     by Memory are = tt
     by s are = are (λ m. cc)
+
+-- and by the lines of its trace: commits do not go over messages, so each is armed by a `crash`
+pub stops-by-lines : (status : Status) (first : List (ℕ × ℕ)) (start : Start) (trace : Trace) (story : List Event) (last : List (ℕ × ℕ)) → Tells start trace story →
+    start.over_net ≡ false → Stops status first story last → StopsByLines status first trace last
+stops-by-lines status first start trace story last tells off h = record {
+  stops = h.stops;
+  behind =
+      armed-same trace tells.played (ap (λ (s : Start). s.over_net) tells.begins ∙ off) first
+      ∙ ap (λ (es : List Event). armed_behind es (Some first)) tells.told ∙ h.behind;
+  are = h.are;
+}

@@ -3,10 +3,12 @@ use Rattle.law_definitions.specs.Texts.{definition_in}
 use Rattle.salt_devices.specs.Leaving.{StandsFor}
 use Rattle.salt_disk.specs.Disks.{IsImage}
 use Rattle.salt_model.specs.After.{kept}
+use Rattle.salt_model.specs.Everywhere.{Always}
 use Rattle.salt_model.specs.Kept.{Kept, WellKept}
 use Rattle.salt_model.specs.Next.{next}
-use Rattle.salt_model.specs.Phases.{Fallen, Phase, Serving, phase}
+use Rattle.salt_model.specs.Phases.{Fallen, Opening, Phase, Serving, phase}
 use Rattle.salt_model.specs.Played.{IsPlayed}
+use Rattle.salt_model.specs.Rests.{DoesItsRests}
 use Rattle.salt_model.specs.Trace.{Start, Trace, from, start_of, story_of, ◌asks◌, ◌says◌, ◌turns◌}
 use Rattle.salt_model.specs.declared.events.Event.TheVariants.{Down}
 use Rattle.salt_model.specs.declared.events.Event.{Event}
@@ -26,9 +28,11 @@ use Rattle.salt_run.proofs.Standing.{stand-for}
 use Rattle.salt_run.proofs.Unwritten.{not-nil}
 use Rattle.salt_run.specs.Doing.{Does}
 use Rattle.salt_run.specs.Running.{FindsNothing, Replays}
+use Rattle.salt_promise.specs.Counting.{Stops}
+use Rattle.salt_run.proofs.Tallied.{stops-by-lines}
 use Rattle.salt_loop.specs.Ending.{IsStatusOf}
 use Rattle.salt_stands.specs.Stands.{are_spent}
-use Rattle.salt_driver.specs.Opening.{fallen_often}
+use Rattle.salt_driver.specs.Opening.{fallen_often, plain_start}
 use Rattle.salt_storage.specs.declared.halt.Halt.TheVariants as halt
 use Rattle.salt_storage.specs.declared.halt.Halt.{Halt}
 use Rattle.salt_storage.specs.declared.open.OpenErr.TheVariants as open_err
@@ -66,6 +70,19 @@ still (trace says e) (suc times) start played told =
     let before = still trace times start played.0 last.0 in
     subst (λ (f : Event). IsStill (trace says f)) (sym last.1) (record { kept = before.kept; down = refl })
 
+-- and so it opens nowhere
+not-opening : (trace : Trace) → phase trace ≡ Fallen → DoesItsRests trace
+not-opening trace down = λ opening. let both : Fallen ≡ Opening = sym down ∙ opening in absurd (cc both)
+
+still-rests : (trace : Trace) (times : ℕ) (start : Start) → IsPlayed trace → story_of trace ≡ story_of (fallen_often start times) → Always DoesItsRests trace
+still-rests (from k) times start played told = not-opening (from k) refl
+still-rests (trace asks asked) times start played told = absurd (not-both trace (still trace times start played.0 told).down played.1.0)
+still-rests (trace turns b) times start played told = absurd (not-both trace (still trace times start played.0 told).down played.1)
+still-rests (trace says e) zero start played told = absurd (not-nil (story_of trace) e told)
+still-rests (trace says e) (suc times) start played told =
+    let last = last-same (story_of trace) (story_of (fallen_often start times)) e (Down why.Stopped) told in
+    (still-rests trace times start played.0 last.0, not-opening (trace says e) (still (trace says e) (suc times) start played told).down)
+
 -- ITS STATUS
 
 -- no refusal but by spent numbers, which this has
@@ -102,9 +119,10 @@ module _ (reads : IsReader definition_in) (r : Run) (command : Command)
     (does : (trace : Trace) → Does command r.status (streams_of r) trace → promise.Does command r trace)
     (x : FindsNothing command r.before.devices r.after.devices r.status r.flight (streams_of r) r.story)
     (k : Kept) (well : WellKept k) (ends : IsEndOver k r.status) (opens : IsTrue r.before.devices.told → OpenAs (shape_of command) r.before.devices.bytes k)
-    (rests : IsTrue r.after.devices.told → (image : ℕ → List ℕ) → IsImage r.after.devices image → StandsFor (shape_of command) image k) where
+    (rests : IsTrue r.after.devices.told → (image : ℕ → List ℕ) → IsImage r.after.devices image → StandsFor (shape_of command) image k)
+    (stops : Stops r.status r.before.devices.armed r.story r.after.devices.armed) where
   abbrev start : Start
-  start = record { kept = k; can_stop = r.before.devices.can_stop }
+  start = plain_start k r.before.devices.can_stop
 
   replays : Replays command r.status r.flight (streams_of r) r.story start
   replays = x.replays start well
@@ -142,9 +160,13 @@ module _ (reads : IsReader definition_in) (r : Run) (command : Command)
     opens = opens;
     well = well;
     can_stop = refl;
+    early = refl;
+    over_net = refl;
     tells = replays.played;
     promises = replays.promises;
     unspent = replays.unspent;
+    drains = still-rests replays.trace x.unfound.0 start replays.played.played (replays.played.told ∙ sym (x.unfound.1 start));
+    stops = stops-by-lines r.status r.before.devices.armed start replays.trace r.story r.after.devices.armed replays.played refl stops;
     does = does replays.trace replays.does;
     may = ends.may;
     leaves = replays.leaves;

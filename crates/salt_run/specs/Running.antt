@@ -4,10 +4,11 @@ use Rattle.salt_devices.specs.Refusing.{Finds, Refuses}
 use Rattle.salt_disk.specs.Disks.{IsImage, View}
 use Rattle.salt_devices.specs.Leaving.{StandsFor}
 use Rattle.salt_model.specs.Ends.{MayLeave}
-use Rattle.salt_model.specs.Everywhere.{Each}
+use Rattle.salt_model.specs.Everywhere.{Always, Each}
 use Rattle.salt_model.specs.Kept.{Kept, WellKept}
-use Rattle.salt_model.specs.Played.{Tells}
-use Rattle.salt_model.specs.Trace.{Start, Trace}
+use Rattle.salt_model.specs.Played.{IsPlayed, Tells}
+use Rattle.salt_model.specs.Rests.{DoesItsRests}
+use Rattle.salt_model.specs.Trace.{Asked, Start, Trace, lines_of, start_of}
 use Rattle.salt_model.specs.declared.events.Event.{Event}
 use Rattle.salt_model.specs.declared.events.Flight.{Flight}
 use Rattle.salt_promise.specs.Promises.{Promises}
@@ -31,6 +32,11 @@ use Rattle.salt_storage.specs.declared.open.OpenErr.{OpenErr}
 use Rattle.salt_promise.specs.declared.command.Command.{Command}
 use Rattle.std.specs.Prelude.{IsTrue, List, Option, [], false, true, ℕ, ◌≡◌, ◌⊎◌}
 
+-- In each opening of a trace that is played from what may be kept, over such lines, no more statements are told than the programs that it
+-- found had left.
+abbrev pub DoTheirRests : (List Asked → Type 0) → Type 0
+DoTheirRests Lines = (trace : Trace) → IsPlayed trace → IsSoundKept (start_of trace).kept → Lines (lines_of trace) → Always DoesItsRests trace
+
 -- The story is that of a trace which is played from this start and keeps each promise; no opening goes on from spent numbers; the command's
 -- lines are done, and what is told of them is written.
 pub record Replays (command : Command) (status : Status) (flight : Option Flight) (s : Streams) (story : List Event) (start : Start) : Type 0 where
@@ -43,15 +49,18 @@ pub record Replays (command : Command) (status : Status) (flight : Option Flight
   pub flies : IsFlightTold status trace flight
 
 -- A run over what the devices stood for when it began, blank ones for nothing, if they tell, with numbers that are not spent; and whether
--- they can be stopped.
+-- they can be stopped. No opening is early, and no commit goes over messages.
 pub record RunsOver (command : Command) (old new : View) (status : Status) (flight : Option Flight) (s : Streams) (story : List Event) : Type 0 where
   pub start : Start
   pub stood : Finds old true (shape_of command) start.kept
   pub sound : IsSoundKept start.kept
   pub unspent : are_spent start.kept.boot start.kept.decisions ≡ false
   pub stops : start.can_stop ≡ old.can_stop
+  pub early : start.early ≡ false
+  pub over_net : start.over_net ≡ false
   pub may : IsNoRefusal status
   pub replays : Replays command status flight s story start
+  pub drains : Always DoesItsRests replays.trace
   pub ends : EndsBehind new (shape_of command) status flight replays.trace
 
 -- Or an opening did not find what they stood for: it was refused, failed, or memory ran out. Nothing is told but stops, so that it replays

@@ -7,7 +7,7 @@ ghost use Rattle.salt_place.specs.Placement.{GivesPlaceOf, TakesEachKey};
 ghost use Rattle.salt_promise.specs.Words.{command_of};
 ghost use Rattle.std.specs.Prelude.{◌≡◌, ◌≤◌};
 
-use crate::promises::played_keeps_promises;
+use crate::promises::{openings_do_their_rests, played_keeps_promises};
 use crate::runs::{run_load, run_script};
 use law_definitions::definitions_are_read;
 use salt_disk::Disks;
@@ -51,6 +51,7 @@ pub fn run<S: Source, K: Sink, D: Disks, F: Fn(PlaceKind, &Key, u32) -> u32>(
 {
     // For the proof alone: what holds of each story, and what reads definitions.
     played_keeps_promises();
+    openings_do_their_rests();
     definitions_are_read();
     match command_in(words) {
         Some(Command::Script(shape)) => run_script(alloc, shape, source, sink, disks, place),

@@ -5,15 +5,18 @@ ghost use Rattle.salt_disk.specs.Disks.{Rose};
 ghost use Rattle.salt_io.specs.Streams.{IsAtEnd};
 ghost use Rattle.salt_values.specs.declared.limits.TheConstants.{CALLS_MOST};
 ghost use Rattle.salt_model.specs.Kept.{WellKept};
+ghost use Rattle.salt_model.specs.Lines.{AskInOrder};
 ghost use Rattle.salt_model.specs.Played.{IsPlayed};
 ghost use Rattle.salt_model.specs.Trace.{Trace, start_of};
 ghost use Rattle.salt_promise.specs.Given.{shape_of};
 ghost use Rattle.salt_run.specs.Doing.{streams};
 ghost use Rattle.salt_run.specs.Ending.{flight_at};
+ghost use Rattle.salt_promise.specs.Doing.{IsFrontOf};
 ghost use Rattle.salt_promise.specs.Promises.{Promises};
-ghost use Rattle.salt_run.specs.Running.{Runs};
+ghost use Rattle.salt_run.specs.Running.{DoTheirRests, Runs};
 ghost use Rattle.salt_run.specs.Summing.{IsSummary};
 ghost use Rattle.salt_loop.specs.Counted.{AreFaultsOf, AreStopsOf};
+ghost use Rattle.salt_loop.specs.Loading.{asked_by_load};
 ghost use Rattle.salt_loop.specs.Stopping.{outcome};
 ghost use Rattle.salt_storage.specs.Staying.{StaysWithin};
 ghost use Rattle.salt_workload.specs.Summary.{summary_text};
@@ -70,6 +73,7 @@ pub fn run_script<S: Source, K: Sink, D: Disks, F: Fn(PlaceKind, &Key, u32) -> u
     requires callable { TakesEachKey (F.pre place.now.place) }
     requires answers { GivesPlaceOf (F.post place.now.place) }
     requires promised { (trace : Trace) → IsPlayed trace → WellKept (start_of trace).kept → Promises trace }
+    requires drained { (texts : List (List ℕ)) → DoTheirRests (AskInOrder texts) }
     ensures runs { Runs (Script shape) (D.view disks.old) (D.view disks.new) result.status result.flight
         (streams (S.left source.old) (S.left source.new) (K.held sink.old) (K.held sink.new)) result.story }
     ensures right { result.status ≢ Status.Usage }
@@ -145,6 +149,7 @@ pub fn run_load<K: Sink, D: Disks, F: Fn(PlaceKind, &Key, u32) -> u32>(
     requires callable { TakesEachKey (F.pre place.now.place) }
     requires answers { GivesPlaceOf (F.post place.now.place) }
     requires promised { (trace : Trace) → IsPlayed trace → WellKept (start_of trace).kept → Promises trace }
+    requires drained { DoTheirRests (λ lines. IsFrontOf lines (asked_by_load calls)) }
     ensures runs { (left : Option (List ℕ)) → Runs (Load calls) (D.view disks.old) (D.view disks.new) result.status result.flight
         (streams left left (K.held sink.old) (K.held sink.new)) result.story }
     ensures right { result.status ≢ Status.Usage }

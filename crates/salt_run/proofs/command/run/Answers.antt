@@ -36,6 +36,9 @@ returns-in-Some-Script-clause-runs g c =
     script-runs (record { each = c.definitions_are_read.ensures }) r c.requires.devices h.read_fault h.no_read_fault h.reads_later h.write_fault h.no_write_fault h.writes_later h.downs h.stops
     c.in-Some-Script.shape is (command-within c.args.words.now (Script c.in-Some-Script.shape) is) h.within h.done h.runs
 
+pub run_load-requires-clause-drained : goal.run_load-requires-clause-drained
+run_load-requires-clause-drained g c = c.openings_do_their_rests.ensures.load c.in-Some-Load.calls
+
 pub returns-in-Some-Load-clause-runs : goal.returns-in-Some-Load-clause-runs
 returns-in-Some-Load-clause-runs g c =
     let a = c.in-Some-Load.is in

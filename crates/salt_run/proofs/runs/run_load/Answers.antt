@@ -4,11 +4,12 @@ use Rattle.salt_database.specs.Halves.{database_flight}
 use Rattle.salt_devices.specs.Standing.{StandsHeld}
 use Rattle.salt_devices.specs.declared.devices.Devices.{Devices}
 use Rattle.salt_engine.specs.Flights.{flight_of}
-use Rattle.salt_model.specs.Trace.{Start}
+use Rattle.salt_driver.specs.Opening.{plain_start}
 use Rattle.salt_run.proofs.EngineEnds.{as-told, begins-over, behind-faults, behind-outcome, behind-stops, flight-none, found-counts, found-is, load-over, nothing, unfound-counts, unfound-load, unfound-status}
 use Rattle.salt_run.proofs.Replayed.{load-replays}
 use Rattle.salt_run.proofs.Staying.{stays-as, stays-from}
 use Rattle.salt_run.proofs.runs.run_load.Goals as goal
+use Rattle.salt_model.specs.Trace.{Start}
 use Rattle.salt_promise.specs.Given.{shape_of}
 use Rattle.salt_run.specs.Doing.{streams}
 use Rattle.salt_run.specs.Ending.{flight_at}
@@ -34,7 +35,7 @@ load-lines-requires-clause-begins g c =
     let new = c.new-opening.ensures.is_new f.kept f.is f.sound in
     let opens = opened-first _ _ mid.can_stop _ _ _ _ f.kept new (subst (λ (x : Devices). StandsHeld x.shape x.started x.store x.numbers x.pending mid f.kept) (sym c.new-opening.ensures.storage) f.holding) f.sound in
     let b = begins-over f.kept mid.can_stop _ _ c.find.new.story c.find.ensures.unfound f.sound opens (ap flight_of new.none) in
-    (record { kept = f.kept; can_stop = mid.can_stop }, b.0, b.1)
+    (plain_start f.kept mid.can_stop, b.0, b.1)
 
 pub returns-in-Ok-clause-runs : goal.returns-in-Ok-clause-runs
 returns-in-Ok-clause-runs g c left =
@@ -48,14 +49,14 @@ returns-in-Ok-clause-runs g c left =
     let r = c.load-lines.result in
     let status = c.write_summary-status.result in
     let s = streams left left (g.K.Sink.held c.args.sink.now) (g.K.Sink.held c.write_summary-status.new.sink) in
-    let start : Start = record { kept = f.kept; can_stop = mid.can_stop } in
+    let start = plain_start f.kept mid.can_stop in
     let new = c.new-opening.ensures.is_new f.kept f.is f.sound in
     let opens = opened-first _ _ mid.can_stop _ _ _ _ f.kept new (subst (λ (x : Devices). StandsHeld x.shape x.started x.store x.numbers x.pending mid f.kept) (sym c.new-opening.ensures.storage) f.holding) f.sound in
     let b = begins-over f.kept mid.can_stop _ _ c.find.new.story c.find.ensures.unfound f.sound opens (ap flight_of new.none) in
     let asked = c.new-devices.ensures.shape ∙ c.shape.ensures in
     as-told (Load c.args.calls) d e s c.load-lines.new.story status status flies c.flight_at.result refl (c.flight_at.ensures ∙ ap (flight_at status) c.flight.ensures)
-    (inl (load-over d e x c.requires.promised start f.sound ((λ i. are_spent (sym f.is.boot i) (sym f.is.decisions i)) ∙ f.unspent) c.find.ensures.within.shape.can_stop s c.load-lines.new.story
-    c.args.calls r.lines (c.load-lines.ensures.within.asked ∙ (λ i. (c.new-opening.ensures.storage i).shape) ∙ c.find.ensures.within.asked ∙ asked)
+    (inl (load-over d e x c.requires.promised start f.sound ((λ i. are_spent (sym f.is.boot i) (sym f.is.decisions i)) ∙ f.unspent) c.find.ensures.within.shape.can_stop refl refl s c.load-lines.new.story
+    c.args.calls r.lines c.requires.drained (c.load-lines.ensures.within.asked ∙ (λ i. (c.new-opening.ensures.storage i).shape) ∙ c.find.ensures.within.asked ∙ asked)
     (found-is (Load c.args.calls) d z.started z.shape c.new-devices.ensures.started asked f.kept f.found) (outcome r.done) status
     (behind-outcome (outcome r.done) c.status_behind.result status c.status_behind.ensures c.write_summary-status.ensures.written) c.write_summary-status.ensures.summed (c.load-lines.ensures.ended start b.0 b.1)))
 

@@ -4,7 +4,7 @@ use Rattle.salt_database.specs.Halves.{database_flight}
 use Rattle.salt_devices.specs.Standing.{StandsHeld}
 use Rattle.salt_devices.specs.declared.devices.Devices.{Devices}
 use Rattle.salt_engine.specs.Flights.{flight_of}
-use Rattle.salt_model.specs.Trace.{Start}
+use Rattle.salt_driver.specs.Opening.{plain_start}
 use Rattle.salt_run.proofs.EngineEnds.{as-told, begins-over, behind-faults, behind-stops, flight-none, found-counts, found-is, nothing, script-over, unfound-counts}
 use Rattle.salt_run.proofs.Replayed.{script-replays}
 use Rattle.salt_run.proofs.Staying.{stays-as, stays-from}
@@ -15,7 +15,7 @@ use Rattle.salt_loop.specs.Stopping.{outcome}
 use Rattle.salt_stands.specs.Stands.{are_spent}
 use Rattle.salt_storage.proofs.Staying.{stays-behind}
 use Rattle.salt_promise.specs.declared.command.Command.TheVariants.{Script}
-use Rattle.std.proofs.Common.{ap, inl, inr, subst, sym, ◌∙◌}
+use Rattle.std.proofs.Common.{ap, inl, inr, refl, subst, sym, ◌∙◌}
 use Rattle.std.specs.Prelude.{Err, None}
 
 pub new-opening-requires : goal.new-opening-requires
@@ -31,7 +31,7 @@ serve-done-requires-clause-begins g c =
     let new = c.new-opening.ensures.is_new f.kept f.is f.sound in
     let opens = opened-first _ _ mid.can_stop _ _ _ _ f.kept new (subst (λ (x : Devices). StandsHeld x.shape x.started x.store x.numbers x.pending mid f.kept) (sym c.new-opening.ensures.storage) f.holding) f.sound in
     let b = begins-over f.kept mid.can_stop _ _ c.find.new.story c.find.ensures.unfound f.sound opens (ap flight_of new.none) in
-    (record { kept = f.kept; can_stop = mid.can_stop }, b.0, b.1)
+    (plain_start f.kept mid.can_stop, b.0, b.1)
 
 pub returns-in-Ok-clause-runs : goal.returns-in-Ok-clause-runs
 returns-in-Ok-clause-runs g c =
@@ -44,14 +44,14 @@ returns-in-Ok-clause-runs g c =
     let z = c.new-devices.result in
     let status = c.status_behind-status.result in
     let s = streams (g.S.Source.left c.args.source.now) (g.S.Source.left c.serve-done.new.source) (g.K.Sink.held c.args.sink.now) (g.K.Sink.held c.serve-done.new.sink) in
-    let start : Start = record { kept = f.kept; can_stop = mid.can_stop } in
+    let start = plain_start f.kept mid.can_stop in
     let new = c.new-opening.ensures.is_new f.kept f.is f.sound in
     let opens = opened-first _ _ mid.can_stop _ _ _ _ f.kept new (subst (λ (x : Devices). StandsHeld x.shape x.started x.store x.numbers x.pending mid f.kept) (sym c.new-opening.ensures.storage) f.holding) f.sound in
     let b = begins-over f.kept mid.can_stop _ _ c.find.new.story c.find.ensures.unfound f.sound opens (ap flight_of new.none) in
     as-told (Script c.args.shape) d e s c.serve-done.new.story (outcome c.serve-done.result) status flies c.flight_at.result c.status_behind-status.ensures
     (c.flight_at.ensures ∙ ap (flight_at status) c.flight.ensures)
-    (inl (script-over d e x c.requires.promised start f.sound ((λ i. are_spent (sym f.is.boot i) (sym f.is.decisions i)) ∙ f.unspent) c.find.ensures.within.shape.can_stop s c.serve-done.new.story
-    c.args.shape (c.serve-done.ensures.within.asked ∙ (λ i. (c.new-opening.ensures.storage i).shape) ∙ c.find.ensures.within.asked ∙ c.new-devices.ensures.shape)
+    (inl (script-over d e x c.requires.promised start f.sound ((λ i. are_spent (sym f.is.boot i) (sym f.is.decisions i)) ∙ f.unspent) c.find.ensures.within.shape.can_stop refl refl s c.serve-done.new.story
+    c.requires.drained c.args.shape (c.serve-done.ensures.within.asked ∙ (λ i. (c.new-opening.ensures.storage i).shape) ∙ c.find.ensures.within.asked ∙ c.new-devices.ensures.shape)
     (found-is (Script c.args.shape) d z.started z.shape c.new-devices.ensures.started c.new-devices.ensures.shape f.kept f.found) (outcome c.serve-done.result) (c.serve-done.ensures.ended start b.0 b.1)))
 
 pub returns-in-Ok-clause-downs : goal.returns-in-Ok-clause-downs
