@@ -1,0 +1,56 @@
+opened 1 0
+ready
+refused 3 syntax
+refused 3 syntax
+refused 3 syntax
+refused 3 syntax
+refused 3 syntax
+refused 3 syntax
+defined 1 create table account (id int key, owner text null, balance int, check (balance >= 0))
+refused 3 syntax
+refused 3 syntax
+refused 3 syntax
+refused 3 syntax
+refused 3 syntax
+refused 3 syntax
+refused 3 syntax
+u1.1 began @1
+u1.1 did insert into account values (1, 'Ada', 100) -> count 1
+u1.1 committed 2
+refused 3 syntax
+refused 3 syntax
+refused 3 syntax
+refused 3 syntax
+refused 3 syntax
+refused 3 syntax
+refused 3 syntax
+refused 3 syntax
+refused 3 syntax
+refused 3 syntax
+refused 3 syntax
+refused 3 syntax
+refused 3 syntax
+refused 3 syntax
+refused 3 syntax
+refused 3 syntax
+refused 3 syntax
+refused 3 syntax
+refused 3 syntax
+refused 3 syntax
+refused 3 syntax
+refused 3 syntax
+refused 3 syntax
+refused 3 syntax
+refused 3 syntax
+refused 3 syntax
+refused 3 syntax
+refused 3 syntax
+defined 3 program pay(a int, n int) acid { update account set balance = (balance - :n) where key = :a } end
+refused 3 syntax
+refused 3 syntax
+refused 3 syntax
+refused 3 syntax
+refused 3 syntax
+refused 3 syntax
+refused 3 syntax
+refused 3 syntax
