@@ -4,7 +4,8 @@
 - locks: `take`, and `drop_owner` of an owner with one lock, beside 10 to 10,000 locks on other keys, on the least key
   and on the greatest. There is no clock to ask, so a `take` is told by rounds that take a tenth as many locks as there are, at least ten,
   and drop them together (what that drop costs is in it); and a drop by rounds of one of each, less a `take`
-- programs: 10 to 1,000 that read from each other in a chain, or all from one, from the first reading to the end of the last
+- programs: 10 to 1,000 that read from each other in a chain, or all from one, from the first reading to the end of the last. Those
+  of a chain finish from the last to the first, from the first on (hot), or from the second on and the first last (late)
 - waits: the victim of 63 units that wait each for the next, each for all later ones, and in one circle
 
 The program `bench_keeps` makes them and asks so often; for locks and waits the time of a run that asks never is taken off. Ends with 1
@@ -40,7 +41,7 @@ def measured(program, kind, many, times, answer, nothing):
 
 
 def rows():
-    for kind in ["chain", "star"]:
+    for kind in ["chain", "star", "hot", "late"]:
         for many in PROGRAMS:
             yield kind, many, PROGRAM_TIMES[many], many * PROGRAM_TIMES[many], 0
     for kind, found in [("next", 0), ("later", 0), ("circle", WAIT_TIMES)]:

@@ -1,5 +1,5 @@
-"""How the measures time a program."""
-import os, subprocess, sys, tempfile, time
+"""How the measures time a program, and count what it does."""
+import os, re, resource, signal, subprocess, sys, tempfile, time
 from pathlib import Path
 
 ROUNDS = 3
@@ -47,3 +47,23 @@ def processor_seconds(command, script, rounds=ROUNDS):
             took = usage.ru_utime + usage.ru_stime
             best = took if best is None else min(best, took)
     return best
+
+
+def instructions(command, script, limit):
+    """How many instructions of the processor a command takes on a script, as valgrind counts them; none where that takes it more than so many
+    seconds of the processor.
+
+    Of valgrind's tools cachegrind without its caches is the cheapest that counts; two counts of one run are the same, or nearly so.
+    """
+    with tempfile.NamedTemporaryFile("r") as log:
+        counting = ["valgrind", "--tool=cachegrind", "--cache-sim=no", "--cachegrind-out-file=/dev/null", f"--log-file={log.name}"]
+        # (one second more: valgrind may not end at the first signal)
+        limits = resource.RLIMIT_CPU, (limit, limit + 1)
+        ended = subprocess.run(
+            [*counting, *command], input=script, stdout=subprocess.DEVNULL, preexec_fn=lambda: resource.setrlimit(*limits)
+        ).returncode
+        if ended in [-signal.SIGXCPU, -signal.SIGKILL]:
+            return None
+        if ended != 0:
+            sys.exit(f"bench: {command} ends with {ended} under valgrind")
+        return int(re.search(r"I +refs: +([\d,]+)", log.read())[1].replace(",", ""))
