@@ -16,7 +16,9 @@ pub mod KeptGraph
 pub mod KeptPrograms
 pub mod Widening
 pub mod PairLists
+pub mod Circles
 pub mod WatchesGoOn
+pub mod CirclesAfter
 pub mod CallsFit
 pub mod LockCallsFit
 pub mod NoneDue

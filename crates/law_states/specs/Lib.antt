@@ -22,6 +22,7 @@ pub mod UnitFacts
 pub mod WatchSteps
 pub mod States
 pub mod Readings
+pub mod Circles
 pub mod Nexts
 pub mod Points
 pub mod Settling

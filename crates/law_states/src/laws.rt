@@ -5,13 +5,14 @@ ghost use Rattle.salt_model.specs.declared.locks.Family.{Family};
 ghost use Rattle.law_states.specs.Restoring.{AreKeys, ForgotEach, ReadEach, TakenEach, WroteEach, whole};
 ghost use Rattle.salt_ast.specs.declared.trees.Statement.{Statement};
 ghost use Rattle.law_states.specs.KeptCover.{KeepsCover, group_of};
+ghost use Rattle.law_states.specs.Circles.{BringsNoWait, NoneOnCircle};
 ghost use Rattle.law_states.specs.DependencyCalls.{AreSame, HasAbandoned, HasFinished, HasRead, IsCommitted, WroteAll, marked};
 ghost use Rattle.law_states.specs.Keeps.{KeepsUnit, KeepsUnits};
 ghost use Rattle.law_states.specs.KeptLocks.{AreBelow, KeepsLocks, Numbered, Sooner, clash_in, is_owned_by, numbered_from};
 ghost use Rattle.law_states.specs.KeptPrograms.{KeepsNothing, unreleased_after};
 ghost use Rattle.law_states.specs.KeptSources.{Dependencies, FinishedLive, IsDue, KeepsDependencies, no_dependencies};
 ghost use Rattle.law_states.specs.KeptSources.{ReadsLive, Through, first_of, live_writer};
-ghost use Rattle.law_states.specs.KeptWaits.{AreDistinct, AreSources, IsSettled, asker, clash_owners, served_in, victim_in};
+ghost use Rattle.law_states.specs.KeptWaits.{AreDistinct, AreSources, Asker, IsSettled, asker, clash_owners, served_in, victim_in};
 ghost use Rattle.law_states.specs.KeptWaits.{waiting};
 ghost use Rattle.law_states.specs.Laws.{DoesAlike, DoesUnder, IsListed, IsSound, LooksUp, is_of_run};
 ghost use Rattle.law_states.specs.LockCalls.{HasDropped, HasDroppedAll, HasSalted, HasTaken};
@@ -23,13 +24,13 @@ ghost use Rattle.law_states.specs.Overlays.{AreInOrder, AreRows, Edit, Views, en
 ghost use Rattle.law_states.specs.PairClosures.{LeadsBack, Pair, all_sources, dependencies_of, due_in, has_pair};
 ghost use Rattle.law_states.specs.PlainStates.{IsInTurn, PlainState, PlainWatch, as_state, state_after, state_of, watch_after, watch_of};
 ghost use Rattle.law_states.specs.Points.{Ask, Falls, IsIdle, KeepsPoint, Move, Moves, Point, Runs, Say, Turn, point_of, told_by, trace_on};
-ghost use Rattle.law_states.specs.Readings.{Reading, beside_by, clash_by, items_by, under_way_by};
+ghost use Rattle.law_states.specs.Readings.{Reading, beside_by, clash_by, items_by, locks_in, under_way_by};
 ghost use Rattle.law_states.specs.Rising.{Rising};
 ghost use Rattle.law_states.specs.Settling.{to_come, waiters};
 ghost use Rattle.law_states.specs.States.{After, Keeps, State, asked_of, started, turned_to};
 ghost use Rattle.law_states.specs.Steps.{units_after, units_asked, units_at, units_of, units_turned};
 ghost use Rattle.law_states.specs.UnitFacts.{UnitFacts};
-ghost use Rattle.law_states.specs.WatchSteps.{DependenciesAfter, DependenciesBy, WatchAfter, base_by, first_by, locks_after, table_after, table_by, waiting_after};
+ghost use Rattle.law_states.specs.WatchSteps.{DependenciesAfter, DependenciesBy, WatchAfter, WatchBy, base_by, first_by, locks_after, table_after, table_by, waiting_after};
 ghost use Rattle.law_states.specs.Watches.{Watch, Watches, empty_watch};
 ghost use Rattle.salt_model.specs.After.{reach_now, run_of, tables_after};
 ghost use Rattle.salt_model.specs.Kept.{Kept, cont_of};
@@ -213,6 +214,18 @@ pub fn victim_comes_from_what_is_kept()
     ensures { (trace : Trace) (d : Dependencies) (ls : List Lock) (sources : Id → List Id) → IsSound trace →
         KeepsDependencies d trace → SameMembers ls (held trace) → AreSources trace d sources →
         victim trace ≡ victim_in d ls (waiting trace) sources }
+{}
+
+/// The search finds no victim exactly where no unit waits for itself, and no circle comes but with a new wait, a program as the new
+/// owner of a lock that is waited for, or a new pair of programs. So behind any other event none has to be sought where there was
+/// none before it. Where none waits, as behind an opening, there is none, whatever pairs an early one begins with.
+pub fn circles_come_with_waits()
+    ensures found { (x : Watch) (sources : Id → List Id) → ((c b : Id) → In b (sources c) ↔ Through x.dependencies.reads c b) →
+        AreDistinct (map (λ (w : Asker). w.unit) x.waits) →
+        (victim_in x.dependencies (locks_in x) x.waits sources ≡ None) ↔ NoneOnCircle x }
+    ensures stay { (facts : UnitFacts) (e : Event) (old new : Watch) → WatchBy facts e old new → BringsNoWait facts e old →
+        NoneOnCircle old → NoneOnCircle new }
+    ensures idle { (x : Watch) → x.waits ≡ [] → NoneOnCircle x }
 {}
 
 /// When settling has ended each waiting unit clashes, and none lies on a cycle.
