@@ -7,6 +7,7 @@ mod locks;
 mod programs;
 mod waits;
 
+use crate::programs::Shape;
 use salt_io::{LineErr, Lines, StdSource};
 use std::alloc::{AllocError, Global};
 use std::process::ExitCode;
@@ -50,6 +51,23 @@ fn numbers(line: &[u8]) -> (u32, u32) {
     (first.min(COUNT_MOST), second.min(COUNT_MOST))
 }
 
+/// Which programs a line asks for.
+fn shape_of(line: &[u8]) -> Option<Shape> {
+    if line.starts_with(b"chain ") {
+        return Some(Shape::Chain);
+    }
+    if line.starts_with(b"star ") {
+        return Some(Shape::Star);
+    }
+    if line.starts_with(b"hot ") {
+        return Some(Shape::Hot);
+    }
+    if line.starts_with(b"late ") {
+        return Some(Shape::Late);
+    }
+    None
+}
+
 /// Does what a line says; how many locks there are after all, programs were released, or victims found.
 fn done(alloc: Global, line: &[u8]) -> Result<u64, BenchErr> {
     let (many, times) = numbers(line);
@@ -66,11 +84,8 @@ fn done(alloc: Global, line: &[u8]) -> Result<u64, BenchErr> {
     if line.starts_with(b"many greatest ") {
         return Ok(locks::taken_many(alloc, many, times, greater, 1)?);
     }
-    if line.starts_with(b"chain ") {
-        return Ok(programs::released(alloc, many, times, programs::Shape::Chain)?);
-    }
-    if line.starts_with(b"star ") {
-        return Ok(programs::released(alloc, many, times, programs::Shape::Star)?);
+    if let Some(shape) = shape_of(line) {
+        return Ok(programs::released(alloc, many, times, shape)?);
     }
     if line.starts_with(b"next ") {
         return Ok(waits::found(alloc, many, times, waits::Edges::Next)?);

@@ -5,13 +5,17 @@ use salt_ranges::KeyRange;
 use salt_values::{Id, Key, Value};
 use std::alloc::{AllocError, Global};
 
-/// Who reads from whom.
+/// Who reads from whom, and in which order they finish.
 #[derive(Clone, Copy, Debug, PartialEq, Eq)]
 pub enum Shape {
-    /// Each from the one before it.
+    /// Each from the one before it; the last finishes first.
     Chain,
-    /// All from the first.
+    /// All from the first; the last finishes first.
     Star,
+    /// Each from the one before it; the first finishes first.
+    Hot,
+    /// Each from the one before it; the second finishes first, and the first last.
+    Late,
 }
 
 const fn id(seq: u64) -> Id {
@@ -23,13 +27,25 @@ fn add(deps: &mut Deps, seq: u64, shape: Shape) -> Result<(), AllocError> {
     let key: Key = Value::Int(7);
     let range = KeyRange { lo: None, hi: None };
     deps.read(id(seq), 0, &range)?;
-    if shape == Shape::Chain || seq == 0 {
+    if shape != Shape::Star || seq == 0 {
         deps.wrote(Some(id(seq)), 0, &key)?;
     }
     Ok(())
 }
 
-/// All but the first finish, the last ones first; then the first one does, which releases all. How many were released.
+/// Which one finishes after so many.
+fn turn(shape: Shape, many: u64, seq: u64) -> u64 {
+    match shape {
+        Shape::Hot => seq,
+        Shape::Late => {
+            let next = seq.saturating_add(1);
+            if next < many { next } else { 0 }
+        }
+        Shape::Chain | Shape::Star => many.saturating_sub(seq).saturating_sub(1),
+    }
+}
+
+/// So many read and write, and then all finish. How many were released.
 fn once(alloc: Global, many: u64, shape: Shape) -> Result<u64, AllocError> {
     let mut deps = Deps::new(alloc);
     for seq in 0..many {
@@ -37,7 +53,7 @@ fn once(alloc: Global, many: u64, shape: Shape) -> Result<u64, AllocError> {
     }
     let mut released: u64 = 0;
     for seq in 0..many {
-        let names = deps.finished(id(many.saturating_sub(seq).saturating_sub(1)))?;
+        let names = deps.finished(id(turn(shape, many, seq)))?;
         released = released.saturating_add(names.len() as u64);
     }
     Ok(released)

@@ -1,20 +1,20 @@
 -- The pairs that a read adds are those with the last writers in its range.
-use Rattle.salt_deps.specs.Reads.{AreFresh, AreRead, is_read, reads_entry}
 use Rattle.law_states.proofs.Closures.{any-in, into-any}
 use Rattle.law_states.specs.KeptSources.{WritesIn}
 use Rattle.law_states.specs.Members.{In}
 use Rattle.law_story.proofs.Ids.{and_left, and_right, is_same_id-refl, is_same_id-sym, is_same_id-true}
 use Rattle.law_story.proofs.Lists.{not-true}
 use Rattle.law_story.proofs.Places.{place_same}
+use Rattle.salt_deps.proofs.Leaving.{of-those}
+use Rattle.salt_deps.specs.Reads.{AreFresh, AreRead, is_read, reads_entry}
 use Rattle.salt_model.specs.Tables.{place, place_cmp, place_total}
-use Rattle.salt_values.specs.Id.{has_id}
 use Rattle.salt_model.specs.declared.locks.Mode.{Mode}
 use Rattle.salt_model.specs.declared.places.Place.{Place}
 use Rattle.salt_ranges.specs.Ranges.{has_key}
 use Rattle.salt_ranges.specs.declared.range.KeyRange.{KeyRange}
-use Rattle.salt_values.specs.Id.{is_same_id}
+use Rattle.salt_values.specs.Id.{has_id, is_same_id}
 use Rattle.salt_values.specs.declared.id.Id.{Id}
-use Rattle.std.proofs.Common.{ap, arith, inl, inr, slice_get, suc, subst, sym, zero, ◌∙◌, ◌↔◌}
+use Rattle.std.proofs.Common.{ap, arith, inl, inr, slice_get, subst, suc, sym, zero, ◌↔◌, ◌∙◌}
 use Rattle.std.proofs.lemmas.Bool.Decides.{nat_tests}
 use Rattle.std.proofs.lemmas.Map.Entries.{btree_map_get_place}
 use Rattle.std.specs.BTreeMap.{BTreeMap, IsOrdered, get, is_at}
@@ -22,8 +22,8 @@ use Rattle.std.specs.List.{filter, list_any}
 use Rattle.std.specs.Map.{lookup}
 use Rattle.std.specs.Ordering.{is_eq}
 use Rattle.std.specs.Prelude.{Bool, List, Some, [], cond, false, not, refl, true, ℕ, ◌&&◌, ◌==◌, ◌||◌, ◌∷◌, ◌≡◌}
-use Rattle.std.specs.declared.cmp.Ordering.TheVariants.{Equal, Greater, Less}
 use Rattle.std.specs.declared.cmp.Ordering.{Ordering}
+use Rattle.std.specs.declared.cmp.Ordering.TheVariants.{Equal, Greater, Less}
 
 -- what is found, and what the writers to come add, is what it comes to
 pub record IsReading (reader : Id) (table : ℕ) (range : KeyRange) (writers : List (Place × Id)) (found : List Id) (rest : List (Place × Id)) : Type 0 where
@@ -133,21 +133,4 @@ are-writers reader table range mode m ordered y = (forth, back)
 -- of what is found, the sources that were not read from before
 pub are-fresh : (reader : Id) (table : ℕ) (range : KeyRange) (writers : List (Place × Id)) (reads : Id → Id → Bool) (found fresh : List Id) → AreRead reader table range writers found →
     fresh ≡ filter (λ y. not (reads reader y)) found → AreFresh reader table range writers reads fresh
-are-fresh reader table range writers reads found fresh read is y = ap (has_id y) is ∙ (has-filter (λ z. not (reads reader z)) y found ∙ ap (λ b. b && not (reads reader y)) (read y))
-  where
-    has-filter : (test : Id → Bool) (q : Id) (names : List Id) → has_id q (filter test names) ≡ (has_id q names && test q)
-    has-filter test q [] = refl
-    has-filter test q (x ∷ xs) = by (is_same_id q x) (test x) refl refl (has-filter test q xs)
-      where
-        by : (s t : Bool) → is_same_id q x ≡ s → test x ≡ t → has_id q (filter test xs) ≡ (has_id q xs && test q) → has_id q (cond t (x ∷ filter test xs) (filter test xs)) ≡ ((s || has_id q xs) && test q)
-        by true true e f more = ap (λ b. b || has_id q (filter test xs)) e ∙ sym (subst (λ z. test z ≡ true) (sym (is_same_id-true q x e)) f)
-        by true false e f more = more ∙ (ap (λ b. has_id q xs && b) no ∙ (none (has_id q xs) ∙ sym no))
-          where
-            no : test q ≡ false
-            no = subst (λ z. test z ≡ false) (sym (is_same_id-true q x e)) f
-
-            none : (a : Bool) → (a && false) ≡ false
-            none true = refl
-            none false = refl
-        by false true e f more = ap (λ b. b || has_id q (filter test xs)) e ∙ more
-        by false false e f more = more
+are-fresh reader table range writers reads found fresh read is y = ap (has_id y) is ∙ (of-those (λ z. not (reads reader z)) y found ∙ ap (λ b. b && not (reads reader y)) (read y))

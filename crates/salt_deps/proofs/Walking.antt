@@ -1,22 +1,21 @@
 -- A walk sees all to which steps lead from where it starts.
-use Rattle.law_story.proofs.Ids.{is_same_id-true}
+use Rattle.law_states.specs.KeptSources.{Through, itself, through}
+use Rattle.law_states.specs.Members.{In}
+use Rattle.law_story.proofs.Ids.{and_left, is_same_id-true}
 use Rattle.law_story.proofs.Lists.{either, has-in, in-cases, in-has, in-left, in-right, or_cases, or_left_true, or_right_true}
 use Rattle.salt_deps.proofs.Names.{same-at}
-use Rattle.salt_deps.specs.Due.{AreComers, AreReached, IsOpen}
+use Rattle.salt_deps.specs.Due.{AreComers, AreReached, reads_done}
 use Rattle.salt_deps.specs.Maps.{is_source, keys_in}
 use Rattle.salt_deps.specs.Order.{id_cmp}
 use Rattle.salt_deps.specs.Walks.{Sees, SeesAll, unseen}
-use Rattle.law_states.specs.KeptSources.{Through, itself, through}
-use Rattle.law_states.specs.Members.{In}
-use Rattle.salt_values.specs.Id.{has_id}
-use Rattle.salt_values.specs.Id.{is_same_id}
+use Rattle.salt_values.specs.Id.{has_id, is_same_id}
 use Rattle.salt_values.specs.declared.id.Id.{Id}
 use Rattle.std.proofs.Common.{ap, arith, inl, inr, length-append, subst, sym, ◌∙◌}
 use Rattle.std.specs.BTreeMap.{BTreeMap, is_at}
 use Rattle.std.specs.BTreeSet.{BTreeSet}
 use Rattle.std.specs.Map.{keys_of, lookup}
 use Rattle.std.specs.Ordering.{is_eq}
-use Rattle.std.specs.Prelude.{Bool, List, Some, [], cond, false, length, refl, true, ◌+◌, ◌++◌, ◌<◌, ◌||◌, ◌∷◌, ◌≡◌, ◌⊎◌}
+use Rattle.std.specs.Prelude.{Bool, List, Some, [], cond, false, length, refl, true, ◌++◌, ◌+◌, ◌<◌, ◌||◌, ◌∷◌, ◌≡◌, ◌⊎◌}
 
 -- steps lead from one name to another
 pub data Led (step : Id → Id → Bool) : Id → Id → Type 0 where
@@ -147,51 +146,6 @@ are-comers reads starts seen ahead w nil b = (
   (λ h. all-seen (against reads) starts seen ahead w nil h.0 b h.1 (led-back reads h.0 b h.2)),
 )
 
--- all that is seen and not ahead is finished
-pub record IsPassing (finished seen ahead : List Id) : Type 0 where
-  pub passed : (y : Id) → In y seen → In y ahead ⊎ (has_id y finished ≡ true)
-
-pub passes-one : (finished : List Id) (name : Id) (old none seen ahead : List Id) → old ≡ [] → Sees name old none seen ahead → IsPassing finished seen ahead
-passes-one finished name old none seen ahead empty s = record {
-  passed = λ y i. inl (subst (In y) (sym ahead-is) (in-right y none (name ∷ []) (inl (only y (in-has y seen i)))));
-}
-  where
-    ahead-is : ahead ≡ none ++ name ∷ []
-    ahead-is = s.ahead_of ∙ ap (λ t. cond t none (none ++ name ∷ [])) (ap (has_id name) empty)
-
-    only : (q : Id) → has_id q seen ≡ true → name ≡ q
-    only q h = is_same_id-true name q (either (λ e. e) (λ e. let no : has_id q [] ≡ true = subst (λ l. has_id q l ≡ true) empty e in absurd cc) (or_cases (is_same_id name q) (has_id q old) (sym (s.seen q) ∙ h)))
-
-pub passes-on : (finished seen rest new onward names : List Id) (next : Id) → IsPassing finished seen (rest ++ next ∷ []) → has_id next finished ≡ true → SeesAll names seen rest new onward →
-    IsPassing finished new onward
-passes-on finished seen rest new onward names next p done s = record {
-  passed = λ y i. either (λ e. was y (p.passed y (has-in y seen e))) (λ e. inl e) (s.fresh y (in-has y new i));
-}
-  where
-    last : (y : Id) → In y (next ∷ []) → has_id y finished ≡ true
-    last y (inl e) = subst (λ z. has_id z finished ≡ true) e done
-    last y (inr e) = absurd e
-
-    was : (y : Id) → In y (rest ++ next ∷ []) ⊎ (has_id y finished ≡ true) → In y onward ⊎ (has_id y finished ≡ true)
-    was y (inl i) = either (λ e. inl (s.kept y e)) (λ e. inr (last y e)) (in-cases y rest (next ∷ []) i)
-    was y (inr f) = inr f
-
--- an unfinished one is come to
-pub opens : (reads : Id → Id → Bool) (finished : List Id) (name : Id) (seen rest : List Id) (next : Id) → IsWalk reads (name ∷ []) seen (rest ++ next ∷ []) → has_id next finished ≡ false →
-    IsOpen reads finished name true
-opens reads finished name seen rest next w out =
-    let l = w.led next (w.among next (in-right next rest (next ∷ []) (inl refl))) in (next, only l.0 l.1 l.2, out)
-  where
-    only : (s : Id) → In s (name ∷ []) → Led reads s next → Through reads name next
-    only s (inl e) l = subst (λ z. Through reads z next) (sym e) (forth reads s next l)
-    only s (inr e) l = absurd e
-
--- none is
-pub closed : (reads : Id → Id → Bool) (finished : List Id) (name : Id) (seen ahead : List Id) → IsWalk reads (name ∷ []) seen ahead → IsPassing finished seen ahead → ahead ≡ [] →
-    IsOpen reads finished name false
-closed reads finished name seen ahead w p nil c r =
-    either (λ e. absurd (subst (In c) nil e)) (λ h. h) (p.passed c (all-seen reads (name ∷ []) seen ahead w nil name c (inl refl) (led-forth reads name c r)))
-
 -- all sources
 abbrev pub all_sources : List (Id × BTreeSet Id) → List Id
 all_sources [] = []
@@ -221,10 +175,11 @@ sources-less m next names seen rest new onward are s =
     let longer = length-append rest (next ∷ []) in
     omega (arith, less, longer)
 
-pub readers-less : (m : BTreeMap Id (BTreeSet Id)) (next : Id) (names seen rest new onward : List Id) → ((x : Id) → has_id x names ≡ is_source m x next) → SeesAll names seen rest new onward →
+pub readers-less : (m : BTreeMap Id (BTreeSet Id)) (finished : List Id) (next : Id) (names seen rest new onward : List Id) →
+    ((x : Id) → has_id x names ≡ reads_done (is_source m) finished x next) → SeesAll names seen rest new onward →
     unseen (keys_of m.entries) new + length onward < unseen (keys_of m.entries) seen + length (rest ++ next ∷ [])
-readers-less m next names seen rest new onward are s =
-    let less = s.once (keys_of m.entries) (λ q i. in-readers q next m.entries (sym (are q) ∙ in-has q names i)) in
+readers-less m finished next names seen rest new onward are s =
+    let less = s.once (keys_of m.entries) (λ q i. in-readers q next m.entries (and_left (is_source m q next) (has_id q finished) (sym (are q) ∙ in-has q names i))) in
     let longer = length-append rest (next ∷ []) in
     omega (arith, less, longer)
 

@@ -3,7 +3,7 @@ use Rattle.law_states.specs.KeptSources.{Through}
 use Rattle.law_states.specs.Members.{In}
 use Rattle.salt_values.specs.Id.{has_id}
 use Rattle.salt_values.specs.declared.id.Id.{Id}
-use Rattle.std.specs.Prelude.{Bool, List, false, true, ◌↔◌, ◌≡◌, ◌⊎◌}
+use Rattle.std.specs.Prelude.{Bool, List, false, true, ◌&&◌, ◌↔◌, ◌≡◌, ◌⊎◌}
 
 -- these are the program and all that it reads from, directly or through programs
 abbrev pub AreReached : (Id → Id → Bool) → Id → List Id → Type 0
@@ -13,14 +13,13 @@ AreReached reads b names = (c : Id) → In c names ↔ Through reads b c
 abbrev pub AreComers : (Id → Id → Bool) → List Id → List Id → Type 0
 AreComers reads starts names = (b : Id) → In b names ↔ ((s : Id) × In s starts × Through reads b s)
 
+-- a finished program reads from another
+abbrev pub reads_done : (Id → Id → Bool) → List Id → Id → Id → Bool
+reads_done reads finished x y = reads x y && has_id x finished
+
 -- a program comes to finished ones alone, itself among them
 abbrev pub IsSettled : (Id → Id → Bool) → List Id → Id → Type 0
 IsSettled reads finished b = (c : Id) → Through reads b c → has_id c finished ≡ true
-
--- whether it comes to one that is not finished
-abbrev pub IsOpen : (Id → Id → Bool) → List Id → Id → Bool → Type 0
-IsOpen reads finished b true = (c : Id) × Through reads b c × (has_id c finished ≡ false)
-IsOpen reads finished b false = IsSettled reads finished b
 
 -- these are the programs that come to finished ones alone
 abbrev pub AreSettled : (Id → Id → Bool) → List Id → List Id → Type 0

@@ -4,7 +4,6 @@ ghost use Rattle.salt_values.specs.Id.{has_id};
 ghost use Rattle.salt_deps.specs.Walks.{Sees, SeesAll};
 ghost use Rattle.law_states.specs.Rising.{Rising};
 ghost use Rattle.salt_values.specs.declared.id.Id.{Id};
-ghost use Rattle.std.specs.List.{list_all};
 ghost use Rattle.std.specs.Prelude.{◌≡◌, ◌&&◌, IfOk, OnOk, not};
 
 use salt_values::Id;
@@ -16,13 +15,6 @@ pub fn is_in(set: &BTreeSet<Id>, name: Id) -> bool
     ensures { result ≡ has_id name set.now.keys }
 {
     set.contains(&name)
-}
-
-/// Whether all these names are in the set.
-pub fn all_in(set: &BTreeSet<Id>, names: &[Id]) -> bool
-    ensures { result ≡ list_all (λ name. has_id name set.now.keys) names.now }
-{
-    names.iter().all(|name| is_in(set, *name))
 }
 
 /// Takes these names out of the set.
