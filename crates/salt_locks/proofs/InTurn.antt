@@ -5,16 +5,20 @@ use Rattle.law_states.specs.KeptLocks.{KeepsLocks, Numbered, Sooner, is_owned_by
 use Rattle.law_states.specs.Members.{Ascends, In}
 use Rattle.law_story.proofs.Lists.{either, in-filter, into-filter}
 use Rattle.salt_locks.specs.Tables.{numbered}
-use Rattle.salt_locks.specs.Turns.{in_turn, is_of, locks_in_turn, numbered_of, put_in_turn}
-use Rattle.salt_locks.specs.declared.turns.TakenLock.{TakenLock}
+use Rattle.salt_locks.specs.Turns.{at_numbers, in_turn, is_of, locks_in_turn, put_in_turn}
 use Rattle.salt_model.specs.Words.{Every}
 use Rattle.salt_model.specs.declared.events.Owner.{Owner}
 use Rattle.salt_model.specs.declared.locks.Lock.{Lock}
-use Rattle.std.proofs.Common.{ap, arith, inl, inr, refl, sym, ◌∙◌}
+use Rattle.std.proofs.Common.{ap, arith, inl, inr, refl, subst, sym, ◌∙◌}
 use Rattle.std.proofs.lemmas.Bool.{eqb-true, ltb-true}
 use Rattle.std.proofs.lemmas.Bool.Decides.{nat_tests}
+use Rattle.std.specs.BTreeMap.{insert_entry, is_at}
 use Rattle.std.specs.List.{filter}
-use Rattle.std.specs.Prelude.{Bool, List, [], cond, drop, false, get_or, length, map, nat_lt, suc, true, zero, ℕ, ◌-◌, ◌<◌, ◌==◌, ◌∷◌, ◌≡◌, ◌≤◌}
+use Rattle.std.specs.Map.{lookup}
+use Rattle.std.specs.Ordering.{is_eq, match_ordering, nat_cmp}
+use Rattle.std.specs.Prelude.{Bool, List, Some, [], cond, drop, false, get_or, is_some, length, map, nat_lt, suc, true, zero, ℕ, ◌-◌, ◌<◌, ◌==◌, ◌∷◌, ◌≡◌, ◌≤◌}
+use Rattle.std.specs.declared.cmp.Ordering.{Ordering}
+use Rattle.std.specs.declared.cmp.Ordering.TheVariants.{Equal, Greater, Less}
 
 abbrev put : Numbered → List Numbered → List Numbered
 put n ns = put_in_turn (λ m. m.number) n ns
@@ -106,18 +110,66 @@ turns table ls o k =
       (λ h. into-turn n mine (λ m x i j. ascending-named k.in_turn k.rises m x ((k.same m).0 (in-filter (is_of o) m table i).0) ((k.same x).0 (in-filter (is_of o) x table j).0)) (into-filter (is_of o) n table h.0 h.1)),
     ))
 
--- locks with their numbers, as the code lists them
+-- locks at their numbers in a map
 
-pub put-numbered : (t : TakenLock) (ts : List TakenLock) → map numbered_of (put_in_turn (λ s. s.number) t ts) ≡ put (numbered_of t) (map numbered_of ts)
-put-numbered t [] = refl
-put-numbered t (x ∷ xs) = by (put-numbered t xs) (nat_lt t.number x.number) (t.number == x.number)
+less-than : (m n : ℕ) → nat_cmp m n ≡ Less → nat_lt m n ≡ true
+less-than m n h = grind (arith, nat_tests)
+
+tied : (m n : ℕ) → nat_cmp m n ≡ Equal → m ≡ n
+tied m n h = grind (arith, nat_tests)
+
+more-than : (m n : ℕ) → nat_cmp m n ≡ Greater → (nat_lt m n ≡ false) × ((m == n) ≡ false)
+more-than m n h = (grind (arith, nat_tests), grind (arith, nat_tests))
+
+tied-itself : (m n : ℕ) → m ≡ n → (nat_lt m n ≡ false) × ((m == n) ≡ true)
+tied-itself m n h = (grind (arith, nat_tests), grind (arith, nat_tests))
+
+abbrev at : ℕ → Lock → Numbered
+at k l = record { number = k; lock = l }
+
+-- a lock whose number is not there comes before those of greater numbers
+pub put-new : (k : ℕ) (l : Lock) (es : List (ℕ × Lock)) → is_some (lookup (is_at (nat_cmp k)) es) ≡ false → at_numbers (insert_entry nat_cmp es k l) ≡ put (at k l) (at_numbers es)
+put-new k l [] h = refl
+put-new k l (e ∷ es) h = by (nat_cmp k e.0) refl h (put-new k l es)
   where
-    by : map numbered_of (put_in_turn (λ s. s.number) t xs) ≡ put (numbered_of t) (map numbered_of xs) → (a b : Bool) →
-        map numbered_of (cond a (t ∷ x ∷ xs) (cond b (x ∷ xs) (x ∷ put_in_turn (λ s. s.number) t xs)))
-        ≡ cond a (numbered_of t ∷ numbered_of x ∷ map numbered_of xs) (cond b (numbered_of x ∷ map numbered_of xs) (numbered_of x ∷ put (numbered_of t) (map numbered_of xs)))
-    by ih true b = refl
-    by ih false true = refl
-    by ih false false = ap (λ ns. numbered_of x ∷ ns) ih
+    by : (o : Ordering) → nat_cmp k e.0 ≡ o → is_some (cond (is_eq o) (Some e.1) (lookup (is_at (nat_cmp k)) es)) ≡ false →
+        (is_some (lookup (is_at (nat_cmp k)) es) ≡ false → at_numbers (insert_entry nat_cmp es k l) ≡ put (at k l) (at_numbers es)) →
+        at_numbers (match_ordering o ((k, l) ∷ e ∷ es) ((e.0, l) ∷ es) (e ∷ insert_entry nat_cmp es k l)) ≡ put (at k l) (at_numbers (e ∷ es))
+    by Less q g more = sym (ap (λ t. cond t (at k l ∷ at_numbers (e ∷ es)) (cond (k == e.0) (at_numbers (e ∷ es)) (at e.0 e.1 ∷ put (at k l) (at_numbers es)))) (less-than k e.0 q))
+    by Equal q g more = cc
+    by Greater q g more =
+        let apart = more-than k e.0 q in
+        ap (λ ns. at e.0 e.1 ∷ ns) (more g)
+        ∙ sym (ap (λ t. cond t (at k l ∷ at_numbers (e ∷ es)) (cond (k == e.0) (at_numbers (e ∷ es)) (at e.0 e.1 ∷ put (at k l) (at_numbers es)))) apart.0
+        ∙ ap (λ t. cond t (at_numbers (e ∷ es)) (at e.0 e.1 ∷ put (at k l) (at_numbers es))) apart.1)
+
+found-in : (k : ℕ) (es : List (ℕ × Lock)) → is_some (lookup (is_at (nat_cmp k)) es) ≡ true → (l : Lock) × In (at k l) (at_numbers es)
+found-in k [] h = cc
+found-in k (e ∷ es) h = by (nat_cmp k e.0) refl h (found-in k es)
+  where
+    by : (o : Ordering) → nat_cmp k e.0 ≡ o → is_some (cond (is_eq o) (Some e.1) (lookup (is_at (nat_cmp k)) es)) ≡ true →
+        (is_some (lookup (is_at (nat_cmp k)) es) ≡ true → (l : Lock) × In (at k l) (at_numbers es)) → (l : Lock) × In (at k l) (at_numbers (e ∷ es))
+    by Less q g more = let m = more g in (m.0, inr m.1)
+    by Equal q g more = (e.1, inl (ap (λ n. at n e.1) (sym (tied k e.0 q))))
+    by Greater q g more = let m = more g in (m.0, inr m.1)
+
+-- where the number is there, nothing is put
+pub put-old : (k : ℕ) (l m : Lock) (ns : List Numbered) → Ascends Sooner ns → In (at k m) ns → put (at k l) ns ≡ ns
+put-old k l m [] a i = absurd i
+put-old k l m (n ∷ ns) a (inl e) =
+    let same = tied-itself k n.number (sym (ap (λ (x : Numbered). x.number) e)) in
+    ap (λ t. cond t (at k l ∷ n ∷ ns) (cond (k == n.number) (n ∷ ns) (n ∷ put (at k l) ns))) same.0 ∙ ap (λ t. cond t (n ∷ ns) (n ∷ put (at k l) ns)) same.1
+put-old k l m (n ∷ ns) a (inr i) =
+    let s : n.number < k = every-in (Sooner n) (at k m) ns a.0 i in
+    let far = behind k n.number s in
+    ap (λ t. cond t (at k l ∷ n ∷ ns) (cond (k == n.number) (n ∷ ns) (n ∷ put (at k l) ns))) far.0
+    ∙ (ap (λ t. cond t (n ∷ ns) (n ∷ put (at k l) ns)) far.1 ∙ ap (λ x. n ∷ x) (put-old k l m ns a.1 i))
+  where
+    behind : (k n : ℕ) → n < k → (nat_lt k n ≡ false) × ((k == n) ≡ false)
+    behind k n h = (grind (arith, nat_tests), grind (arith, nat_tests))
+
+pub put-found : (k : ℕ) (l : Lock) (es : List (ℕ × Lock)) → Ascends Sooner (at_numbers es) → is_some (lookup (is_at (nat_cmp k)) es) ≡ true → at_numbers es ≡ put (at k l) (at_numbers es)
+put-found k l es a h = let m = found-in k es h in sym (put-old k l m.0 (at_numbers es) a m.1)
 
 numbered_at : (k : ℕ) (ns : List ℕ) (ls : List Lock) (n : ℕ) (l : Lock) → k < length ls → length ns ≡ length ls →
     numbered (drop k ns) (drop k ls) ≡ record { number = get_or ns k n; lock = get_or ls k l } ∷ numbered (drop (suc k) ns) (drop (suc k) ls)
@@ -141,23 +193,22 @@ one_before o ns ls left n l some h same =
     ∙ ap (λ k. locks_in_turn o (record { number = get_or ns (left - 1) n; lock = get_or ls (left - 1) l } ∷ numbered (drop k ns) (drop k ls))) back
 
 -- what the loop keeps, where the lock is the owner's
-pub owned_step : (o : Owner) (ns : List ℕ) (ls : List Lock) (left n : ℕ) (l copy : Lock) (ts new : List TakenLock) → 0 < left → left ≤ length ls → length ns ≡ length ls →
-    l ≡ get_or ls (left - 1) l → copy ≡ l → is_owned_by o l ≡ true → map numbered_of ts ≡ locks_in_turn o (numbered (drop left ns) (drop left ls)) →
-    new ≡ put_in_turn (λ s. s.number) (record { number = get_or ns (left - 1) n; lock = copy }) ts →
-    map numbered_of new ≡ locks_in_turn o (numbered (drop (left - 1) ns) (drop (left - 1) ls))
-owned_step o ns ls left n l copy ts new some h same at is own before e =
+pub owned_step : (o : Owner) (ns : List ℕ) (ls : List Lock) (left n : ℕ) (l : Lock) (old new : List Numbered) → 0 < left → left ≤ length ls → length ns ≡ length ls →
+    l ≡ get_or ls (left - 1) l → is_owned_by o l ≡ true → old ≡ locks_in_turn o (numbered (drop left ns) (drop left ls)) →
+    (Ascends Sooner old → new ≡ put (at (get_or ns (left - 1) n) l) old) →
+    new ≡ locks_in_turn o (numbered (drop (left - 1) ns) (drop (left - 1) ls))
+owned_step o ns ls left n l old new some h same here own before puts =
     let k = get_or ns (left - 1) n in
     let m : Numbered = record { number = k; lock = get_or ls (left - 1) l } in
     let rest = numbered (drop left ns) (drop left ls) in
-    ap (map numbered_of) e
-    ∙ (put-numbered (record { number = k; lock = copy }) ts
-    ∙ (ap (λ x. put (record { number = k; lock = x }) (map numbered_of ts)) (is ∙ at)
-    ∙ (ap (put m) before ∙ (sym (one_own o m rest (ap (is_owned_by o) (sym at) ∙ own)) ∙ sym (one_before o ns ls left n l some h same)))))
+    puts (subst (Ascends Sooner) (sym before) (in-turn-ascends (filter (is_of o) rest)))
+    ∙ (ap (λ x. put (at k x) old) here
+    ∙ (ap (put m) before ∙ (sym (one_own o m rest (ap (is_owned_by o) (sym here) ∙ own)) ∙ sym (one_before o ns ls left n l some h same))))
 
 -- and where it is another's
-pub other_step : (o : Owner) (ns : List ℕ) (ls : List Lock) (left : ℕ) (l : Lock) (ts : List TakenLock) → 0 < left → left ≤ length ls → length ns ≡ length ls →
-    l ≡ get_or ls (left - 1) l → is_owned_by o l ≡ false → map numbered_of ts ≡ locks_in_turn o (numbered (drop left ns) (drop left ls)) →
-    map numbered_of ts ≡ locks_in_turn o (numbered (drop (left - 1) ns) (drop (left - 1) ls))
-other_step o ns ls left l ts some h same at other before =
+pub other_step : (o : Owner) (ns : List ℕ) (ls : List Lock) (left : ℕ) (l : Lock) (old : List Numbered) → 0 < left → left ≤ length ls → length ns ≡ length ls →
+    l ≡ get_or ls (left - 1) l → is_owned_by o l ≡ false → old ≡ locks_in_turn o (numbered (drop left ns) (drop left ls)) →
+    old ≡ locks_in_turn o (numbered (drop (left - 1) ns) (drop (left - 1) ls))
+other_step o ns ls left l old some h same here other before =
     let m : Numbered = record { number = get_or ns (left - 1) 0; lock = get_or ls (left - 1) l } in
-    before ∙ (sym (one_other o m (numbered (drop left ns) (drop left ls)) (ap (is_owned_by o) (sym at) ∙ other)) ∙ sym (one_before o ns ls left 0 l some h same))
+    before ∙ (sym (one_other o m (numbered (drop left ns) (drop left ls)) (ap (is_owned_by o) (sym here) ∙ other)) ∙ sym (one_before o ns ls left 0 l some h same))

@@ -2,8 +2,9 @@
 use Rattle.law_states.specs.KeptLocks.{Numbered, is_owned_by}
 use Rattle.salt_locks.specs.declared.turns.TakenLock.{TakenLock}
 use Rattle.salt_model.specs.declared.events.Owner.{Owner}
+use Rattle.salt_model.specs.declared.locks.Lock.{Lock}
 use Rattle.std.specs.List.{filter}
-use Rattle.std.specs.Prelude.{Bool, List, [], if◌then◌else◌, nat_lt, ℕ, ◌==◌, ◌∷◌}
+use Rattle.std.specs.Prelude.{Bool, List, [], if◌then◌else◌, map, nat_lt, ℕ, ◌==◌, ◌∷◌}
 
 -- an element before those of greater numbers; where its number is there already, nothing is put
 abbrev pub put_in_turn : {A : Type 0} → (A → ℕ) → A → List A → List A
@@ -24,3 +25,7 @@ locks_in_turn o table = in_turn (λ n. n.number) (filter (is_of o) table)
 
 abbrev pub numbered_of : TakenLock → Numbered
 numbered_of t = record { number = t.number; lock = t.lock }
+
+-- the locks of a map from numbers
+abbrev pub at_numbers : List (ℕ × Lock) → List Numbered
+at_numbers es = map (λ (e : ℕ × Lock). record { number = e.0; lock = e.1 }) es

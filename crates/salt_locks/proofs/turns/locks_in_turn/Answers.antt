@@ -1,14 +1,15 @@
 use Rattle.salt_locks.proofs.InTurn.{other_step, owned_step}
-use Rattle.salt_locks.proofs.turns.locks_in_turn.Goals as goal
+use Rattle.salt_locks.specs.Turns.{at_numbers}
 use Rattle.std.proofs.Common.{arith, sym}
+use Rattle.salt_locks.proofs.turns.locks_in_turn.Goals as goal
 
-pub loop-left-preserved-in_ok-put_in_turn : goal.loop-left-preserved-in_ok-put_in_turn
-loop-left-preserved-in_ok-put_in_turn c =
+pub loop-left-preserved-in-Continue-1 : goal.loop-left-preserved-in-Continue-1
+loop-left-preserved-in-Continue-1 c =
     let inv = c.loop-left.invariant in
     let some = c.loop-left-test.true in (
       omega (arith, inv.0),
-      owned_step c.args.owner c.args.numbers.now c.args.locks.now c.loop-left.left 0 c.index-locks-left.result c.in_ok-copy_lock.field-0 c.loop-left.taken.items c.put_in_turn.new.locks.items
-          (omega (arith, some)) inv.0 c.requires c.index-locks-left.is c.in_ok-copy_lock.ensures (sym c.if-is_same_owner.ensures) inv.1 c.in_ok-put_in_turn.ensures,
+      owned_step c.args.owner c.args.numbers.now c.args.locks.now c.loop-left.left 0 c.index-locks-left.result (at_numbers c.loop-left.taken.entries) (at_numbers c.put_in_turn.new.taken.entries)
+          (omega (arith, some)) inv.0 c.requires c.index-locks-left.is (sym c.if-is_same_owner.ensures) inv.1 c.in_ok-put_in_turn.ensures,
     )
 
 pub loop-left-preserved : goal.loop-left-preserved
@@ -16,6 +17,6 @@ loop-left-preserved c =
     let inv = c.loop-left.invariant in
     let some = c.loop-left-test.true in (
       omega (arith, inv.0),
-      other_step c.args.owner c.args.numbers.now c.args.locks.now c.loop-left.left c.index-locks-left.result c.loop-left.taken.items
+      other_step c.args.owner c.args.numbers.now c.args.locks.now c.loop-left.left c.index-locks-left.result (at_numbers c.loop-left.taken.entries)
           (omega (arith, some)) inv.0 c.requires c.index-locks-left.is (sym c.if-is_same_owner.ensures) inv.1,
     )
