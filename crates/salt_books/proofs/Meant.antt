@@ -21,5 +21,3 @@ meant-first s (coming.Act a) rest can some =
     mapped-first (λ (o : OpenUnit). does_in s o a.statement) (unit_named a.unit s.units) rest (is-some (unit_named a.unit s.units) can.0 can.1.named)
 meant-first s (coming.Commit u) rest can some = mapped-first (commits_in s) (unit_named u s.units) rest can
 meant-first s (coming.Branch u b cause) rest can some = refl
-meant-first s (coming.Define text) rest can some = refl
-meant-first s (coming.Arm pairs) rest can some = refl

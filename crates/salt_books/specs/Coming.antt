@@ -5,7 +5,7 @@ use Rattle.salt_books.specs.declared.coming.Coming.{Coming}
 use Rattle.law_states.specs.OpenUnits.{OpenUnit, UnitState, unit_named}
 use Rattle.law_states.specs.Told.{commits_in, does_in, next_decision}
 use Rattle.salt_model.specs.declared.events.End.TheVariants.{Branched}
-use Rattle.salt_model.specs.declared.events.Event.TheVariants.{Armed, Defined, Ended}
+use Rattle.salt_model.specs.declared.events.Event.TheVariants.{Ended}
 use Rattle.salt_model.specs.declared.events.Event.{Event}
 use Rattle.salt_model.specs.declared.events.UnitKind.TheVariants.{Later}
 use Rattle.salt_values.specs.declared.id.Id.{Id}
@@ -18,8 +18,6 @@ event_meant s (coming.Told e) = Some e
 event_meant s (coming.Act a) = option_map (λ (o : OpenUnit). does_in s o a.statement) (unit_named a.unit s.units)
 event_meant s (coming.Commit u) = option_map (commits_in s) (unit_named u s.units)
 event_meant s (coming.Branch u b cause) = Some (Ended u (Branched (next_decision s) cause))
-event_meant s (coming.Define text) = Some (Defined (next_decision s) text)
-event_meant s (coming.Arm pairs) = Some (Armed pairs)
 
 -- an open unit is of a later part of the program
 pub record IsLaterUnit (s : UnitState) (u b : Id) : Type 0 where

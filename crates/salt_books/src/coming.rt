@@ -1,9 +1,8 @@
 //! What is to come next.
 
 use crate::asking::Asking;
-use salt_ast::Pairs;
 use salt_model::{Cause, Event};
-use salt_values::{Bytes, Id};
+use salt_values::Id;
 
 /// What is to come next: nothing more, an event that is done already, or one for which the devices are needed first.
 #[derive(Drop)]
@@ -17,8 +16,4 @@ pub enum Coming {
     Commit(Id),
     /// A unit of a later part of this program has failed, and the program goes on behind the failure.
     Branch { unit: Id, base: Id, cause: Cause },
-    /// The line's table or program is defined, by its canonical text.
-    Define(Bytes),
-    /// Stops are armed.
-    Arm(Pairs),
 }

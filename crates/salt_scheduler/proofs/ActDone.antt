@@ -4,11 +4,13 @@ use Rattle.salt_model.specs.declared.events.Owner.TheVariants.{Unit}
 use Rattle.salt_ast.specs.declared.trees.Statement.{Statement}
 use Rattle.salt_books.specs.Books.{AreBooks, HaveUnit}
 use Rattle.salt_scheduler.proofs.Beginning.{first-same}
+use Rattle.salt_scheduler.proofs.Calm.{calm-behind, did-brings-none, never-calm}
 use Rattle.salt_scheduler.proofs.Done.{at-follow, called-stays, gives, gives-same, state_by, sub-called}
 use Rattle.salt_scheduler.proofs.Facts.{facts-did, facts-waits}
 use Rattle.salt_scheduler.proofs.InTurn.{did}
 use Rattle.salt_books.proofs.Named.{is-some, named-unit}
 use Rattle.salt_books.specs.Asking.{IsAsked, IsAskedBy}
+use Rattle.salt_scheduler.specs.Calm.{is_calm_behind}
 use Rattle.salt_scheduler.specs.Standing.{AnswersWithComing, AnswersWith, StandsForState}
 use Rattle.salt_books.specs.declared.coming.Coming.TheVariants as coming
 use Rattle.salt_books.specs.declared.asking.Asking.{Asking}
@@ -33,7 +35,7 @@ use Rattle.salt_values.specs.declared.id.Id.{Id}
 use Rattle.salt_conflicts.specs.Waiters.{waiter_of}
 use Rattle.salt_conflicts.specs.Watched.{GoesBy, IsWatch}
 use Rattle.std.proofs.Common.{ap, subst, sym, ◌∙◌}
-use Rattle.std.specs.Prelude.{List, Option, Some, [], option_and_then, option_map, refl, ◌∷◌, ◌≡◌}
+use Rattle.std.specs.Prelude.{List, Option, Some, [], false, option_and_then, option_map, refl, ◌∷◌, ◌≡◌}
 
 -- the facts that a call of the watch asks for
 pub did-base : (s : UnitState) (a : Asking) (answer : Answer) (o : OpenUnit) → IsAskedBy a s o →
@@ -65,8 +67,8 @@ pub act-gives : (x new : Scheduler) (a : Asking) (answer : Answer) (s : State) (
     IsAskedBy a s.units o → given ≡ Some (Did a.unit a.statement answer) → answer ≡ (outcome_under s.units.kept o a.statement).answer →
     AreBooks new.books (units_after (Did a.unit a.statement answer) s.units) →
     GoesBy (facts_in s.units (Did a.unit a.statement answer)) (Did a.unit a.statement answer) s.watch new.watch → new.called ≡ x.called →
-    new.follow ≡ Done a.unit (cause_in answer) → AnswersWith s (Some (does_in s.units o a.statement)) new given
-act-gives x new a answer s o given stands asked told answers books watch same follow =
+    new.follow ≡ Done a.unit (cause_in answer) → new.calm ≡ is_calm_behind a.base x.calm → AnswersWith s (Some (does_in s.units o a.statement)) new given
+act-gives x new a answer s o given stands asked told answers books watch same follow calm =
     gives-same s (Some (does_in s.units o a.statement)) (Some (Did a.unit a.statement answer)) given new
     (λ i. Some (Did (named-unit a.unit s.units.units o asked.named i) a.statement (sym answers i)))
     (gives IsWatch (Did a.unit a.statement answer) s watch.0 x new given stands told
@@ -80,13 +82,15 @@ act-gives x new a answer s o given stands asked told answers books watch same fo
           (sub-called (Done a.unit (cause_in answer)) x.follow s (state_by (Did a.unit a.statement answer) s watch.0) refl
           (λ b i. subst (In b) watch.1.programs i)
           (λ b i. subst (In b) (first-same a.unit (doing_one s.units.kept a.statement) s.units.units (λ o. refl)) i));
+      calm = calm-behind a.base (Did a.unit a.statement answer) s watch.0 x.calm new.calm stands.calm watch.1
+          (λ none. did-brings-none (facts_in s.units (Did a.unit a.statement answer)) a.unit a.statement answer s.watch (did-base s.units a answer o asked ∙ none)) calm;
     })))
 
 pub wait-gives : (x new : Scheduler) (a : Asking) (owners : List Owner) (s : State) (o : OpenUnit) (given : Option Event) → StandsForState x s →
     IsAskedBy a s.units o → given ≡ Some (Waits a.unit owners) → AreBooks new.books (units_after (Waits a.unit owners) s.units) →
-    GoesBy (facts_in s.units (Waits a.unit owners)) (Waits a.unit owners) s.watch new.watch → new.called ≡ x.called → new.follow ≡ Nothing →
+    GoesBy (facts_in s.units (Waits a.unit owners)) (Waits a.unit owners) s.watch new.watch → new.called ≡ x.called → new.follow ≡ Nothing → new.calm ≡ false →
     AnswersWith s (Some (Waits a.unit owners)) new given
-wait-gives x new a owners s o given stands asked told books watch same follow =
+wait-gives x new a owners s o given stands asked told books watch same follow calm =
     gives IsWatch (Waits a.unit owners) s watch.0 x new given stands told
     (at-follow Nothing (Waits a.unit owners) s watch.0 new follow (record {
       served = refl;
@@ -98,6 +102,7 @@ wait-gives x new a owners s o given stands asked told books watch same follow =
           (sub-called Nothing x.follow s (state_by (Waits a.unit owners) s watch.0) refl
           (λ b i. subst (In b) watch.1.programs i)
           (λ b i. subst (In b) (first-same a.unit (waiting_by s.units.line) s.units.units (λ o. refl)) i));
+      calm = never-calm watch.0 new.calm calm;
     }))
 
 -- what a turn brings of a unit that asks

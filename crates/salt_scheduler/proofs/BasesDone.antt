@@ -2,6 +2,7 @@
 use Rattle.salt_books.specs.Books.{AreBooks}
 use Rattle.salt_books.specs.Called.{name_told}
 use Rattle.salt_scheduler.proofs.Done.{IsCalledAt, at-follow, brings-plain, called-at, called-stays, gives, into-accepting, into-first, into-programs, state_by, sub-called, a_program, beginning, to_accept}
+use Rattle.salt_scheduler.proofs.Calm.{calm-stays}
 use Rattle.salt_books.specs.declared.coming.Coming.TheVariants as coming
 use Rattle.salt_scheduler.specs.Standing.{AnswersWithComing, AnswersWith, StandsForState, StandsWith, accepting, bases_called, watched_by}
 use Rattle.salt_scheduler.specs.declared.scheduler.Scheduler.{Scheduler}
@@ -66,8 +67,8 @@ in-filtered p b (v ∷ vs) i = by (p v) i (in-filtered p b vs)
 
 pub accept-gives : (x new : Scheduler) (base : Id) (s : State) (given : Option Event) → StandsForState x s → x.follow ≡ Accept base → given ≡ Some (Accepted base) →
     new.books ≡ x.books → GoesBy (facts_in s.units (Accepted base)) (Accepted base) s.watch new.watch → new.called ≡ x.called → new.follow ≡ Finish base →
-    AnswersWith s (Some (Accepted base)) new given
-accept-gives x new base s given stands accepts told books watch same follow =
+    new.calm ≡ x.calm → AnswersWith s (Some (Accepted base)) new given
+accept-gives x new base s given stands accepts told books watch same follow calm =
     gives IsWatch (Accepted base) s watch.0 x new given stands told (at-follow (Finish base) (Accepted base) s watch.0 new follow (record {
       served = refl;
       follows = λ beside. refl;
@@ -75,6 +76,7 @@ accept-gives x new base s given stands accepts told books watch same follow =
       watched = watch.2;
       books = subst (λ b. AreBooks b s.units) (sym books) stands.books;
       called = called-stays IsWatch (Finish base) s t x new stands same (λ b. refl) sub;
+      calm = calm-stays (Accepted base) s watch.0 x.calm new.calm stands.calm watch.1 tt calm;
     }))
   where
     t : State
@@ -96,9 +98,9 @@ finishes-now : (s : State) (base : Id) → cont_of base s.units.kept ≡ None �
 finishes-now s base none = ap (λ (o : Option Cont). then_some (is_none o) (Finished base)) none
 
 pub finish-brings : (x new : Scheduler) (base : Id) (s : State) → StandsForState x s → cont_of base s.units.kept ≡ None →
-    new.books ≡ x.books → new.watch ≡ x.watch → new.called ≡ x.called → new.follow ≡ Release base →
+    new.books ≡ x.books → new.watch ≡ x.watch → new.called ≡ x.called → new.follow ≡ Release base → new.calm ≡ x.calm →
     AnswersWithComing s (finishes_in s.units base) new (coming.Told (Finished base))
-finish-brings x new base s stands none books watch same follow =
+finish-brings x new base s stands none books watch same follow calm =
     brings-plain s (finishes_in s.units base) new (Finished base) refl
     (subst (λ (want : Option Event). AnswersWith s want new (Some (Finished base))) (sym (finishes-now s base none))
     (gives IsWatch (Finished base) s w x new (Some (Finished base)) stands refl (at-follow (Release base) (Finished base) s w new follow (record {
@@ -109,6 +111,7 @@ finish-brings x new base s stands none books watch same follow =
       books = subst (λ b. AreBooks b s.units) (sym books) stands.books;
       called = called-stays IsWatch (Release base) s (state_by (Finished base) s w) x new stands same (λ b. refl)
           (sub-called (Release base) x.follow s (state_by (Finished base) s w) refl (λ b i. subst (In b) marked.1.programs i) (λ b i. i));
+      calm = calm-stays (Finished base) s w x.calm new.calm stands.calm marked.1 tt calm;
     }))))
   where
     marked : (w : Watch) × WatchBy (facts_in s.units (Finished base)) (Finished base) s.watch w × IsFinishing base x.watch w
@@ -127,8 +130,8 @@ pub release-brings : (x new : Scheduler) (base : Id) (s : State) (r : Reading s.
     StandsWith (watched_by (Release base)) x s → due ≡ in_order r.due → (due ≡ [] → ⊥) →
     GoesBy (facts_in s.units (Released due)) (Released due) s.watch new.watch → new.books ≡ x.books →
     ((w : Watch) (b : Id) → IsWatch new.watch w → In b (bases_called Nothing (state_by (Released due) s w)) → name_told new.called b ≡ name_told x.called b) →
-    new.follow ≡ Nothing → AnswersWithComing s (releases (in_order r.due)) new (coming.Told (Released due))
-release-brings x new base s r due stands told some watch books names follow =
+    new.follow ≡ Nothing → new.calm ≡ x.calm → AnswersWithComing s (releases (in_order r.due)) new (coming.Told (Released due))
+release-brings x new base s r due stands told some watch books names follow calm =
     brings-plain s (releases (in_order r.due)) new (Released due) refl
     (subst (λ (want : Option Event). AnswersWith s want new (Some (Released due))) (sym (releases-some due some) ∙ ap releases told)
     (gives (watched_by (Release base)) (Released due) s watch.0 x new (Some (Released due)) stands refl (at-follow Nothing (Released due) s watch.0 new follow (record {
@@ -140,4 +143,5 @@ release-brings x new base s r due stands told some watch books names follow =
       called = λ b i. names watch.0 b watch.2 i ∙ stands.called b
           (sub-called Nothing x.follow s (state_by (Released due) s watch.0) refl
           (λ c j. in-filtered _ c s.watch.programs (subst (In c) watch.1.programs j)) (λ c j. j) b i);
+      calm = calm-stays (Released due) s watch.0 x.calm new.calm stands.calm watch.1 tt calm;
     }))))

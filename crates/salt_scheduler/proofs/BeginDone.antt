@@ -12,6 +12,7 @@ use Rattle.salt_scheduler.specs.Standing.{AnswersWith, StandsForState, accepting
 use Rattle.salt_scheduler.specs.declared.scheduler.Scheduler.{Scheduler}
 use Rattle.salt_scheduler.specs.declared.follow.Follow.TheVariants.{Nothing, Turn}
 use Rattle.salt_scheduler.specs.declared.follow.Follow.{Follow}
+use Rattle.law_states.specs.Circles.{NoneOnCircle}
 use Rattle.law_states.specs.Members.{In}
 use Rattle.law_states.specs.Readings.{first_parts}
 use Rattle.law_states.specs.States.{State, named_by}
@@ -29,7 +30,7 @@ use Rattle.salt_values.specs.declared.id.Id.{Id}
 use Rattle.salt_conflicts.proofs.Others.{others}
 use Rattle.salt_conflicts.specs.Watched.{IsWatch}
 use Rattle.std.proofs.Common.{ap, inl, inr, subst, sym, ◌∙◌}
-use Rattle.std.specs.Prelude.{Bool, List, Option, Some, [], false, if◌then◌else◌, refl, true, ℕ, ◌≡◌, ◌⊎◌}
+use Rattle.std.specs.Prelude.{Bool, IsTrue, List, Option, Some, [], false, if◌then◌else◌, refl, true, ℕ, ◌≡◌, ◌⊎◌}
 
 called-by : (kind : UnitKind) (u b : Id) (old new : CalledNames) (names : Id → List ℕ) → IsCalled kind old new →
     (name_told old b ≡ Some (names b)) ⊎ (program_begun kind ≡ Some b) → name_told new b ≡ Some (named_by (Began u kind) names b)
@@ -67,13 +68,16 @@ follow_begun u alone = if alone then Nothing else Turn u
 
 pub begin-gives : (now : Line) (kind : UnitKind) (x new : Scheduler) (s : State) (given : Option Event) → StandsForState x s → s.units.line ≡ now →
     given ≡ Some (begins_in s.units kind) → IsWatch new.watch s.watch → AreBooks new.books (units_after (begins_in s.units kind) s.units) →
-    IsCalled kind x.called new.called → new.follow ≡ (if opens_alone now kind then Nothing else Turn (next_unit s.units)) →
+    IsCalled kind x.called new.called → new.follow ≡ (if opens_alone now kind then Nothing else Turn (next_unit s.units)) → new.calm ≡ x.calm →
     AnswersWith s (Some (begins_in s.units kind)) new given
-begin-gives now kind x new s given stands line told watch books called follow =
+begin-gives now kind x new s given stands line told watch books called follow calm =
     gives IsWatch (begins_in s.units kind) s s.watch x new given stands told (by (opens_alone s.units.line kind) refl)
   where
     follows : new.follow ≡ follow_begun (next_unit s.units) (opens_alone s.units.line kind)
     follows = follow ∙ ap (λ l. follow_begun (next_unit s.units) (opens_alone l kind)) (sym line)
+
+    begun-calm : IsTrue new.calm → NoneOnCircle s.watch
+    begun-calm is = stands.calm (sym calm ∙ is)
 
     by : (t : Bool) → opens_alone s.units.line kind ≡ t → HasCalled new.follow (begins_in s.units kind) s s.watch new
     by true is = at-follow Nothing (begins_in s.units kind) s s.watch new (follows ∙ ap (follow_begun (next_unit s.units)) is) (record {
@@ -83,6 +87,7 @@ begin-gives now kind x new s given stands line told watch books called follow =
       watched = watch;
       books = books;
       called = begun-called Nothing kind x new s refl stands called;
+      calm = begun-calm;
     })
     by false is = at-follow (Turn (next_unit s.units)) (begins_in s.units kind) s s.watch new (follows ∙ ap (follow_begun (next_unit s.units)) is) (record {
       served = refl;
@@ -91,6 +96,7 @@ begin-gives now kind x new s given stands line told watch books called follow =
       watched = watch;
       books = books;
       called = begun-called (Turn (next_unit s.units)) kind x new s refl stands called;
+      calm = begun-calm;
     })
 
 pub follows-alone : (now : Line) (kind : UnitKind) (u : Id) (f : Follow) (t : Bool) → t ≡ opens_alone now kind → t ≡ true → f ≡ Nothing →

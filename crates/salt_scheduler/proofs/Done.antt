@@ -9,6 +9,7 @@ use Rattle.salt_books.specs.declared.coming.Coming.{Coming}
 use Rattle.salt_scheduler.specs.declared.scheduler.Scheduler.{Scheduler}
 use Rattle.salt_scheduler.specs.declared.follow.Follow.TheVariants.{Nothing}
 use Rattle.salt_scheduler.specs.declared.follow.Follow.{Follow}
+use Rattle.law_states.specs.Circles.{NoneOnCircle}
 use Rattle.law_states.specs.Members.{In}
 use Rattle.law_states.specs.OpenUnits.{UnitState}
 use Rattle.law_states.specs.Readings.{first_parts}
@@ -23,7 +24,7 @@ use Rattle.salt_values.specs.declared.id.Id.{Id}
 use Rattle.salt_conflicts.specs.declared.watching.Watching.{Watching}
 use Rattle.salt_model.specs.Next.{decision_in}
 use Rattle.std.proofs.Common.{ap, inl, inr, subst, sym, ◌∙◌}
-use Rattle.std.specs.Prelude.{List, None, Option, Some, [], refl, true, ◌++◌, ◌∷◌, ◌≡◌, ◌⊎◌}
+use Rattle.std.specs.Prelude.{IsTrue, List, None, Option, Some, [], refl, true, ◌++◌, ◌∷◌, ◌≡◌, ◌⊎◌}
 
 in-left : (b : Id) (xs ys : List Id) → In b xs → In b (xs ++ ys)
 in-left b [] ys i = absurd i
@@ -83,6 +84,7 @@ pub record HasCalled (f : Follow) (e : Event) (s : State) (w : Watch) (new : Sch
   pub watched : watched_by f new.watch w
   pub books : AreBooks new.books (units_after e s.units)
   pub called : (b : Id) → In b (bases_called f (state_by e s w)) → name_told new.called b ≡ Some (named_by e s.names b)
+  pub calm : IsTrue new.calm → NoneOnCircle w
 
 pub at-follow : (f : Follow) (e : Event) (s : State) (w : Watch) (new : Scheduler) → new.follow ≡ f → HasCalled f e s w new → HasCalled new.follow e s w new
 at-follow f e s w new same h = subst (λ g. HasCalled g e s w new) (sym same) h
@@ -97,6 +99,7 @@ done watched e s w x new stands h = record {
     watch = h.watched;
     called = h.called;
     turns = turns-on e s.units h.served stands.turns;
+    calm = h.calm;
   };
   follows = h.follows;
 }

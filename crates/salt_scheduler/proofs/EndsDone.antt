@@ -7,10 +7,12 @@ use Rattle.salt_books.specs.Called.{name_told}
 use Rattle.salt_books.specs.Ends.{IsUndecided}
 use Rattle.salt_books.specs.declared.books.Books.{Books}
 use Rattle.salt_scheduler.proofs.Beginning.{first-in, first-without, without-none}
+use Rattle.salt_scheduler.proofs.Calm.{calm-behind, calm-stays, undecided-brings-none}
 use Rattle.salt_scheduler.proofs.Done.{IsCalledAt, at-follow, called-at, called-stays, gives, gives-same, into-first, into-programs, state_by, sub-called, a_program, beginning, to_accept}
 use Rattle.salt_scheduler.proofs.Facts.{facts-ended}
 use Rattle.salt_scheduler.proofs.InTurn.{branched, committed, undecided}
 use Rattle.salt_books.proofs.Named.{done-branched, is-some, named-unit}
+use Rattle.salt_scheduler.specs.Calm.{is_calm_behind}
 use Rattle.salt_scheduler.specs.Follows.{FollowsOn, behind_branch, behind_commit}
 use Rattle.salt_books.specs.Ends.{done_of}
 use Rattle.salt_scheduler.specs.Standing.{AnswersWithComing, AnswersWith, StandsForState, accepting, bases_called, watched_by}
@@ -88,8 +90,8 @@ pub commit-gives : (x new : Scheduler) (u : Id) (o : OpenUnit) (s : State) (give
     given ≡ Some (Ended u (Committed (next_decision s.units))) → AreBooks new.books (units_after (Ended u (Committed (next_decision s.units))) s.units) →
     GoesBy (facts_in s.units (Ended u (Committed (next_decision s.units)))) (Ended u (Committed (next_decision s.units))) s.watch new.watch →
     new.called ≡ x.called → new.follow ≡ behind_commit o.kind →
-    AnswersWith s (Some (commits_in s.units o)) new given
-commit-gives x new u o s given stands named told books watch same follow =
+    new.calm ≡ is_calm_behind (program_of_kind o.kind) x.calm → AnswersWith s (Some (commits_in s.units o)) new given
+commit-gives x new u o s given stands named told books watch same follow calm =
     gives-same s (Some (commits_in s.units o)) (Some e) given new
     (ap (λ v. Some (Ended v (Committed (next_decision s.units)))) (named-unit u s.units.units o named))
     (gives IsWatch e s watch.0 x new given stands told (at-follow (behind_commit o.kind) e s watch.0 new follow (record {
@@ -99,6 +101,8 @@ commit-gives x new u o s given stands named told books watch same follow =
       watched = plain-watch o.kind new.watch watch.0 watch.2;
       books = books;
       called = called-stays IsWatch (behind_commit o.kind) s t x new stands same (λ b. refl) sub;
+      calm = calm-behind (program_of_kind o.kind) e s watch.0 x.calm new.calm stands.calm watch.1
+          (λ none. inl (ended-base s.units u (Committed (next_decision s.units)) o named ∙ none)) calm;
     })))
   where
     e : Event
@@ -129,8 +133,8 @@ pub end-gives : (x new : Scheduler) (u : Id) (end : End) (s : State) (given : Op
     given ≡ Some (Ended u end) → AreBooks new.books (units_after (Ended u end) s.units) →
     GoesBy (facts_in s.units (Ended u end)) (Ended u end) s.watch new.watch →
     ((w : Watch) (b : Id) → IsWatch new.watch w → In b (bases_called Nothing (state_by (Ended u end) s w)) → name_told new.called b ≡ name_told x.called b) →
-    new.follow ≡ Nothing → AnswersWith s (Some (Ended u end)) new given
-end-gives x new u end s given stands free told books watch names follow =
+    new.follow ≡ Nothing → new.calm ≡ x.calm → AnswersWith s (Some (Ended u end)) new given
+end-gives x new u end s given stands free told books watch names follow calm =
     gives IsWatch (Ended u end) s watch.0 x new given stands told (at-follow Nothing (Ended u end) s watch.0 new follow (record {
       served = refl;
       follows = undecided u end s.units (units_after (Ended u end) s.units) free;
@@ -139,6 +143,7 @@ end-gives x new u end s given stands free told books watch names follow =
       books = books;
       called = λ b i. names watch.0 b watch.2 i ∙ stands.called b
           (sub-called Nothing x.follow s (state_by (Ended u end) s watch.0) refl (λ c j. subst (In c) watch.1.programs j) (λ c j. first-without u c s.units.units j) b i);
+      calm = calm-stays (Ended u end) s watch.0 x.calm new.calm stands.calm watch.1 (undecided-brings-none (facts_in s.units (Ended u end)) u end s.watch free) calm;
     }))
 
 -- a failure of a later part
@@ -147,9 +152,9 @@ pub branch-gives : (x new : Scheduler) (u base : Id) (part : ℕ) (cause : Cause
     unit_named u s.units.units ≡ Some o → o.kind ≡ Later base part → given ≡ Some (Ended u (Branched (next_decision s.units) cause)) →
     AreBooks new.books (units_after (Ended u (Branched (next_decision s.units) cause)) s.units) →
     GoesBy (facts_in s.units (Ended u (Branched (next_decision s.units) cause))) (Ended u (Branched (next_decision s.units) cause)) s.watch new.watch →
-    new.called ≡ x.called → new.follow ≡ Finish base →
+    new.called ≡ x.called → new.follow ≡ Finish base → new.calm ≡ x.calm →
     AnswersWith s (Some (Ended u (Branched (next_decision s.units) cause))) new given
-branch-gives x new u base part cause o s given stands named kind told books watch same follow =
+branch-gives x new u base part cause o s given stands named kind told books watch same follow calm =
     gives IsWatch e s watch.0 x new given stands told (at-follow (Finish base) e s watch.0 new follow (record {
       served = refl;
       follows = subst (λ k. FollowsAs k) kind (branched u (next_decision s.units) cause s.units (units_after e s.units) o named);
@@ -158,6 +163,7 @@ branch-gives x new u base part cause o s given stands named kind told books watc
       books = books;
       called = called-stays IsWatch (Finish base) s (state_by e s watch.0) x new stands same (λ b. refl)
           (sub-called (Finish base) x.follow s (state_by e s watch.0) refl (λ b i. subst (In b) watch.1.programs i) (λ b i. first-without u b s.units.units i));
+      calm = calm-stays e s watch.0 x.calm new.calm stands.calm watch.1 tt calm;
     }))
   where
     e : Event

@@ -3,6 +3,7 @@ pub mod Allowing
 mod BasesDone
 mod BeginDone
 mod Beginning
+mod Calm
 pub mod Counting
 pub mod Done
 pub mod EndsDone

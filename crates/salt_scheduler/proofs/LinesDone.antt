@@ -3,6 +3,7 @@ use Rattle.salt_ast.specs.ProgramJudgement.{line_fault}
 use Rattle.salt_ast.specs.declared.lines.Act.{Act}
 use Rattle.salt_ast.specs.declared.lines.Act.TheVariants.{Do, Rollback}
 use Rattle.salt_ast.specs.declared.lines.Line.{Line}
+use Rattle.salt_ast.specs.declared.lines.Line.TheVariants as line_of
 use Rattle.salt_ast.specs.declared.lines.Line.TheVariants.{Program, Table}
 use Rattle.salt_ast.specs.declared.programs.ProgramDef.{ProgramDef}
 use Rattle.salt_ast.specs.declared.trees.Statement.{Statement}
@@ -13,7 +14,7 @@ use Rattle.salt_scheduler.proofs.Allowing.{allowed-faultless, program-allowed, t
 use Rattle.salt_scheduler.proofs.Done.{at-follow, called-stays, gives, state_by, sub-called}
 use Rattle.salt_scheduler.proofs.Found.{found-named}
 use Rattle.salt_scheduler.specs.Follows.{FollowsOn}
-use Rattle.salt_scheduler.specs.Serving.{is_served}
+use Rattle.salt_scheduler.specs.Serving.{is_prepared_line, is_served}
 use Rattle.salt_books.specs.Sound.{IsSoundState}
 use Rattle.salt_scheduler.specs.Standing.{AnswersWith, IsAllowed, StandsForState}
 use Rattle.salt_scheduler.specs.declared.scheduler.Scheduler.{Scheduler}
@@ -25,7 +26,7 @@ use Rattle.law_states.specs.Readings.{first_parts, under_way_of}
 use Rattle.law_states.specs.Refused.{known_in}
 use Rattle.law_states.specs.States.{State, named_by}
 use Rattle.law_states.specs.Steps.{units_after}
-use Rattle.law_states.specs.Told.{Clashes, act_in, begins_in, calls_in, goes_on_in, kind_called_in, turn_of_in}
+use Rattle.law_states.specs.Told.{Clashes, Items, act_in, begins_in, calls_in, goes_on_in, kind_called_in, line_in, turn_of_in}
 use Rattle.law_states.specs.UnitFacts.{facts_in}
 use Rattle.salt_model.specs.Kept.{Kept, cont_of, kept_program}
 use Rattle.salt_model.specs.declared.events.End.TheVariants.{RolledBack}
@@ -44,7 +45,7 @@ use Rattle.salt_conflicts.proofs.Others.{others}
 use Rattle.salt_conflicts.specs.Watched.{IsOfNoWatch, IsWatch}
 use Rattle.std.proofs.Common.{ap, subst, sym, ◌∙◌}
 use Rattle.std.specs.List.{find}
-use Rattle.std.specs.Prelude.{Bool, List, None, Option, Some, option_map, refl, true, ℕ, ◌≡◌}
+use Rattle.std.specs.Prelude.{Bool, List, None, Option, Some, false, option_map, refl, true, ℕ, ◌≡◌}
 
 -- DEFINITIONS that are not refused.
 
@@ -68,8 +69,8 @@ program-may line x p h same =
 pub quiet : (e : Event) (s : State) (x new : Scheduler) (given : Option Event) → is_served e ≡ true → IsOfNoWatch e →
     FollowsOn Nothing e s.units (units_after e s.units) → (units_after e s.units).units ≡ s.units.units →
     ((b : Id) → named_by e s.names b ≡ s.names b) → StandsForState x s → new.follow ≡ Nothing → new.watch ≡ x.watch → new.called ≡ x.called →
-    AreBooks new.books (units_after e s.units) → given ≡ Some e → AnswersWith s (Some e) new given
-quiet e s x new given served none follows units names stands follow watch called books told =
+    new.calm ≡ x.calm → AreBooks new.books (units_after e s.units) → given ≡ Some e → AnswersWith s (Some e) new given
+quiet e s x new given served none follows units names stands follow watch called calm books told =
     let t = state_by e s s.watch in
     gives IsWatch e s s.watch x new given stands told (at-follow Nothing e s s.watch new follow (record {
       served = served;
@@ -79,7 +80,23 @@ quiet e s x new given served none follows units names stands follow watch called
       books = books;
       called = called-stays IsWatch Nothing s t x new stands called names
           (sub-called Nothing x.follow s t refl (λ b i. i) (λ b i. subst (λ os. In b (first_parts os)) units i));
+      calm = λ is. stands.calm (sym calm ∙ is);
     }))
+
+-- LINES that bring nothing: those that are not prepared, of no unit and no program, and show nothing.
+
+pub nothing-first : (s : UnitState) (clash : Clashes) (items : Items) (line : Line) → is_prepared_line line ≡ false → ((t : ℕ) (act : Act) → line ≡ line_of.Session t act → ⊥) →
+    ((b : Id) → line ≡ line_of.Go b → ⊥) → (line ≡ line_of.ShowLocks → ⊥) → (line ≡ line_of.ShowBases → ⊥) → line_in s clash items line ≡ None
+nothing-first s clash items (Table d) plain no_session no_go no_locks no_bases = cc
+nothing-first s clash items (Program p) plain no_session no_go no_locks no_bases = cc
+nothing-first s clash items (line_of.Crash pairs) plain no_session no_go no_locks no_bases = cc
+nothing-first s clash items (line_of.Net pairs) plain no_session no_go no_locks no_bases = cc
+nothing-first s clash items (line_of.Session t act) plain no_session no_go no_locks no_bases = absurd (no_session t act refl)
+nothing-first s clash items (line_of.Go b) plain no_session no_go no_locks no_bases = absurd (no_go b refl)
+nothing-first s clash items line_of.ShowLocks plain no_session no_go no_locks no_bases = absurd (no_locks refl)
+nothing-first s clash items line_of.ShowBases plain no_session no_go no_locks no_bases = absurd (no_bases refl)
+nothing-first s clash items line_of.Nothing plain no_session no_go no_locks no_bases = refl
+nothing-first s clash items line_of.GoAll plain no_session no_go no_locks no_bases = refl
 
 -- CALLS, by the kind of the unit that is to begin.
 

@@ -32,6 +32,7 @@ shown s x items wanted stands same =
       books = stands.books;
       called = called-stays IsWatch Nothing s (state_by (Shown wanted) s s.watch) x new stands refl (λ b. refl)
           (sub-called Nothing x.follow s (state_by (Shown wanted) s s.watch) refl (λ b i. i) (λ b i. i));
+      calm = stands.calm;
     })
 
 -- a program under way has the name by which it was called

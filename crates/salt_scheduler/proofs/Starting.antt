@@ -1,5 +1,7 @@
 -- A scheduler over books without a unit, which watches nothing.
 use Rattle.salt_books.specs.Books.{AreBooks}
+use Rattle.law_states.proofs.Circles.{none-waiting}
+use Rattle.law_states.specs.Circles.{NoneOnCircle}
 use Rattle.law_states.specs.Members.{In}
 use Rattle.law_states.specs.OpenUnits.{OpenUnit}
 use Rattle.law_states.specs.Readings.{first_parts}
@@ -11,7 +13,7 @@ use Rattle.salt_scheduler.specs.declared.follow.Follow.{Follow}
 use Rattle.salt_scheduler.specs.declared.scheduler.Scheduler.{Scheduler}
 use Rattle.salt_values.specs.declared.id.Id.{Id}
 use Rattle.salt_conflicts.specs.Watched.{IsWatch}
-use Rattle.std.proofs.Common.{subst, sym}
+use Rattle.std.proofs.Common.{refl, subst, sym}
 use Rattle.std.specs.Prelude.{List, [], ◌++◌, ◌≡◌}
 
 -- no program is called where there is no unit, and nothing is watched
@@ -28,4 +30,5 @@ opens x programs s nothing no_programs books none watch turns watched = record {
   watch = subst (IsWatch x.watch) (sym watch) (subst (λ (bs : List Id). IsWatch x.watch (record (empty_watch 0) { programs = bs })) no_programs watched);
   called = λ b i. absurd (none-called s x.follow b nothing none watch i);
   turns = turns;
+  calm = λ is. subst NoneOnCircle (sym watch) (none-waiting (empty_watch 0) refl);
 }

@@ -1,4 +1,5 @@
 pub mod Calling
+pub mod Calm
 pub mod Follows
 pub mod Refusals
 pub mod Refused

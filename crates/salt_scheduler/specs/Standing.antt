@@ -4,6 +4,7 @@ use Rattle.salt_ast.specs.declared.lines.Line.{Line}
 use Rattle.salt_books.specs.Books.{AreBooks}
 use Rattle.salt_books.specs.Called.{name_told}
 use Rattle.salt_books.specs.Coming.{CanCome, event_meant}
+use Rattle.law_states.specs.Circles.{NoneOnCircle}
 use Rattle.law_states.specs.Follows.{settles_in}
 use Rattle.law_states.specs.Members.{In}
 use Rattle.law_states.specs.OpenUnits.{UnitState}
@@ -27,7 +28,7 @@ use Rattle.salt_values.specs.declared.id.Id.{Id}
 use Rattle.salt_conflicts.specs.Watched.{IsFinishing, IsWatch}
 use Rattle.salt_conflicts.specs.declared.watching.Watching.{Watching}
 use Rattle.std.specs.Option.{option_or}
-use Rattle.std.specs.Prelude.{List, None, Option, Some, [], true, ◌++◌, ◌∷◌, ◌≡◌, ◌⊎◌}
+use Rattle.std.specs.Prelude.{IsTrue, List, None, Option, Some, [], true, ◌++◌, ◌∷◌, ◌≡◌, ◌⊎◌}
 
 -- a program of which the event at hand was the first commit
 abbrev pub accepting : Follow → List Id
@@ -42,12 +43,13 @@ bases_called f s = s.watch.programs ++ (first_parts s.units.units ++ accepting f
 abbrev pub IsTurning : UnitState → Type 0
 IsTurning s = (s.to_go ≡ []) ⊎ (s.line ≡ GoAll)
 
--- the watch, seen in this way, with all else
+-- the watch, seen in this way, with all else; where it is calm no units wait for each other in a circle
 pub record StandsWith (watched : Watching → Watch → Type 0) (x : Scheduler) (s : State) : Type 0 where
   pub books : AreBooks x.books s.units
   pub watch : watched x.watch s.watch
   pub called : (b : Id) → In b (bases_called x.follow s) → name_told x.called b ≡ Some (s.names b)
   pub turns : IsTurning s.units
+  pub calm : IsTrue x.calm → NoneOnCircle s.watch
 
 abbrev pub StandsForState : Scheduler → State → Type 0
 StandsForState x s = StandsWith IsWatch x s

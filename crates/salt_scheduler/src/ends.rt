@@ -21,6 +21,7 @@ ghost use Rattle.salt_model.specs.declared.events.UnitKind.TheVariants.{Later};
 ghost use Rattle.salt_values.specs.declared.id.Id.{Id};
 
 use crate::called::{forget, forget_first};
+use crate::circles::is_calm_behind;
 use crate::follow::{Follow, behind_commit};
 use crate::scheduler::Scheduler;
 use salt_ast::Line;
@@ -54,10 +55,11 @@ impl Scheduler {
             unreachable!()
         };
         let follow = behind_commit(&held.kind);
-        self.watch
-            .commit(unit, program_of(&held.kind), held.open.changes())?;
+        let base = program_of(&held.kind);
+        self.watch.commit(unit, base, held.open.changes())?;
         let number = self.books.commit(unit, made)?;
         self.follow = follow;
+        self.calm = is_calm_behind(base, self.calm);
         Ok(Event::Ended {
             unit,
             end: End::Committed(number),
@@ -192,7 +194,7 @@ impl Scheduler {
         requires { IsServing line.now self.old }
         ensures { IfOk result (λ coming. ChoosesNext (λ s r. settles_in s.units (beside_by s r)) line.now self.old self.new coming) }
     {
-        if let Some(unit) = self.watch.victim()? {
+        if let Some(unit) = self.victim()? {
             return Ok(Coming::Told(self.end(line, unit, End::Victim)?));
         }
         match self.watch.served()? {

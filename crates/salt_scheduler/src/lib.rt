@@ -7,6 +7,7 @@
 
 mod answers;
 mod called;
+mod circles;
 mod ends;
 mod follow;
 mod judge;

@@ -1,7 +1,7 @@
 //! The first event of a line.
 
 ghost use Rattle.std.specs.Option.{option_copied};
-ghost use Rattle.std.specs.Prelude.{◌≡◌, ◌<◌, ◌^◌, IfOk, Option, Some, length, option_map};
+ghost use Rattle.std.specs.Prelude.{◌≡◌, ◌<◌, ◌^◌, IfOk, Option, Some, false, length, option_map};
 ghost use Rattle.salt_ast.specs.declared.lines.Act.{Act};
 ghost use Rattle.salt_ast.specs.declared.lines.Line.{Line};
 ghost use Rattle.salt_books.specs.Books.{seen};
@@ -9,6 +9,7 @@ ghost use Rattle.law_states.specs.OpenUnits.{unit_of_session};
 ghost use Rattle.law_states.specs.Readings.{clash_by, items_by};
 ghost use Rattle.law_states.specs.States.{State};
 ghost use Rattle.salt_program.specs.Refusals.{parts_in};
+ghost use Rattle.salt_scheduler.specs.Serving.{is_prepared_line};
 ghost use Rattle.salt_ast.specs.ProgramTexts.{program_text};
 ghost use Rattle.salt_ast.specs.Texts.{table_text};
 ghost use Rattle.law_states.specs.Told.{act_in, calls_in, go_in, kind_called_in, line_in, next_decision};
@@ -18,10 +19,9 @@ ghost use Rattle.salt_model.specs.declared.events.Event.{Event};
 use crate::follow::Follow;
 use crate::scheduler::Scheduler;
 use salt_ast::{Act, Body, Line, Pairs, ProgramDef, TableDef};
-use salt_books::{Coming, Held, program_text, table_text};
+use salt_books::{Coming, Held};
 use salt_model::{End, Event, Refusal, UnitKind};
 use salt_values::{Id, Name, Row, TryCopy};
-use sqlite_items::Items;
 use std::alloc::AllocError;
 
 /// The name of a unit, if there is one.
@@ -169,22 +169,18 @@ impl Scheduler {
         Event::Armed(pairs)
     }
 
-    /// What the first event of a line that is not refused is to be.
+    /// What the first event of a line is to be that is not refused, defines nothing and arms nothing.
     pub fn first_of(&mut self, line: &Line) -> Result<Coming, AllocError>
-        requires { IsAllowed line.now self.old }
+        requires plain { is_prepared_line line.now ≡ false }
+        requires allowed { IsAllowed line.now self.old }
         ensures { IfOk result (λ coming. ChoosesAllowed (λ s r. line_in s.units (clash_by s) (items_by s r) line.now) line.now self.old self.new coming) }
     {
         match line {
-            Line::Table(def) => Ok(Coming::Define(table_text(self.alloc, def)?)),
-            Line::Program(def) => Ok(Coming::Define(program_text(self.alloc, def)?)),
             Line::Session { session, act } => self.act_of(line, *session, act),
             Line::Go(base) => self.go(line, *base),
             Line::ShowLocks => Ok(Coming::Told(self.show_locks(line)?)),
             Line::ShowBases => Ok(Coming::Told(self.show_bases(line)?)),
-            Line::Nothing => Ok(Coming::Nothing),
-            Line::GoAll => Ok(Coming::Nothing),
-            Line::Crash(pairs) => Ok(Coming::Arm(Items::from_slice(self.alloc, pairs.as_slice())?)),
-            Line::Net(pairs) => Ok(Coming::Arm(Items::from_slice(self.alloc, pairs.as_slice())?)),
+            _ => Ok(Coming::Nothing),
         }
     }
 }

@@ -3,7 +3,7 @@
 ghost use Rattle.std.specs.Prelude.{◌≡◌, IfOk};
 ghost use Rattle.salt_ast.specs.ProgramJudgement.{line_fault};
 ghost use Rattle.salt_books.specs.Books.{seen};
-ghost use Rattle.salt_scheduler.specs.Refused.{refusal_by_state};
+ghost use Rattle.salt_scheduler.specs.Refused.{IsCountFor, calls, refusal_by_state};
 ghost use Rattle.salt_scheduler.specs.Refusals.{HasFewParts, told};
 ghost use Rattle.law_states.specs.KeptWaits.{AreDistinct};
 ghost use Rattle.law_states.specs.Nexts.{refusal_of};
@@ -71,6 +71,19 @@ fn defines(line: &Line) -> bool
     match line {
         Line::Table(_) => true,
         Line::Program(_) => true,
+        _ => false,
+    }
+}
+
+/// Whether a line calls a program: of no other line it is asked how many programs are under way.
+fn calls(line: &Line) -> bool
+    ensures { result ≡ calls line.now }
+{
+    match line {
+        Line::Session { act, .. } => match act {
+            Act::Call { .. } => true,
+            _ => false,
+        },
         _ => false,
     }
 }
@@ -146,14 +159,25 @@ impl Scheduler {
         count_both(self.alloc, self.watch.programs(), beginning.as_slice())
     }
 
-    /// What is refused of a line by what is defined and how many programs are under way.
+    /// How many programs are under way, if the line calls one; else none are counted.
+    fn count_for(&self, line: &Line) -> Result<usize, AllocError>
+        ensures { IfOk result (λ count. (s : State) → StandsForState self.now s → AreDistinct s.watch.programs → IsCountFor line.now (under_way_of s).count count) }
+    {
+        if calls(line) {
+            self.count_under_way()
+        } else {
+            Ok(0)
+        }
+    }
+
+    /// What is refused of a line by what is defined and, of a call, how many programs are under way.
     fn fault(&self, line: &Line) -> Result<Option<Refusal>, AllocError>
         requires { HasFewParts line.now }
         ensures { IfOk result (λ refusal. (s : State) → StandsForState self.now s → AreDistinct s.watch.programs →
             refusal ≡ told (line_fault (known_in s.units (under_way_of s)) line.now)) }
     {
         let known = self.books.known();
-        let count = self.count_under_way()?;
+        let count = self.count_for(line)?;
         line_refusal(
             self.alloc,
             known.schema(),

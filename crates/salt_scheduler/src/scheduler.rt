@@ -25,6 +25,8 @@ pub struct Scheduler {
     pub(crate) watch: Watching,
     pub(crate) called: CalledNames,
     pub(crate) follow: Follow,
+    /// No units wait for each other in a circle. Where it is not set, some may.
+    pub(crate) calm: bool,
 }
 
 impl Drop for Scheduler {
@@ -35,6 +37,7 @@ impl Drop for Scheduler {
             watch: _watch,
             called: _called,
             follow: _follow,
+            calm: _calm,
         } = self;
     }
 }
@@ -52,6 +55,7 @@ impl Scheduler {
             watch: Watching::new(alloc, Vec::new(alloc)),
             called: CalledNames::new(alloc),
             follow: Follow::Nothing,
+            calm: true,
         }
     }
 
@@ -72,6 +76,7 @@ impl Scheduler {
             watch: _watch,
             called: _called,
             follow: _follow,
+            calm: _calm,
         } = self;
         books
     }

@@ -15,6 +15,7 @@ ghost use Rattle.salt_model.specs.declared.events.Event.{Event};
 ghost use Rattle.salt_units.specs.Acting.{leaves_keys};
 
 use crate::called::note_call;
+use crate::circles::is_calm_behind;
 use crate::follow::{Follow, opens_alone};
 use crate::kinds::{copy_kind, copy_statement, is_statement_line};
 use crate::scheduler::Scheduler;
@@ -61,6 +62,7 @@ impl Scheduler {
             reach,
         } = asking;
         let answer = self.books.act(unit, rows, &statement)?;
+        self.calm = is_calm_behind(base, self.calm);
         self.watch.did(unit, base, family, reach.as_ref())?;
         self.follow = Follow::Done {
             unit,
@@ -87,6 +89,7 @@ impl Scheduler {
             reach,
         } = asking;
         self.books.wait(unit, copy_statement(self.alloc, line)?);
+        self.calm = false;
         self.watch.wait(Waiter {
             unit,
             base,

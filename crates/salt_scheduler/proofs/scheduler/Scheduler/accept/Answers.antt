@@ -7,4 +7,4 @@ use Rattle.salt_model.specs.declared.events.Event.TheVariants.{Accepted}
 pub returns : goal.returns
 returns c = λ s r stands serves.
     accept-gives c.args.self.now _ c.args.base s _ stands c.requires refl refl
-    (c.in_ok-accept.ensures s.watch (facts_in s.units (Accepted c.args.base)) stands.watch) refl refl
+    (c.in_ok-accept.ensures s.watch (facts_in s.units (Accepted c.args.base)) stands.watch) refl refl refl

@@ -5,4 +5,4 @@ use Rattle.std.specs.Prelude.{refl}
 
 pub returns : goal.returns
 returns c = λ s r stands h.
-    quiet (Armed c.args.pairs) s c.args.self.now _ _ refl tt (λ x. refl) refl (λ b. refl) stands refl refl refl stands.books refl
+    quiet (Armed c.args.pairs) s c.args.self.now _ _ refl tt (λ x. refl) refl (λ b. refl) stands refl refl refl refl stands.books refl

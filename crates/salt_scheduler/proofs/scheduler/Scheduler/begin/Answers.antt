@@ -1,5 +1,5 @@
 use Rattle.salt_scheduler.proofs.scheduler.Scheduler.begin.Goals as goal
-use Rattle.std.specs.Prelude.{Some}
+use Rattle.std.specs.Prelude.{Some, refl}
 use Rattle.law_states.specs.Told.{next_unit}
 use Rattle.salt_model.specs.declared.events.Event.TheVariants.{Began}
 use Rattle.salt_model.specs.Turns.{is_statement_line}
@@ -19,3 +19,4 @@ returns c = λ s r stands serves.
       | then-alone w ↦ follows-alone c.args.line.now c.args.kind (next_unit s.units) c.if-alone.self c.opens_alone-alone.result c.opens_alone-alone.ensures w.if-alone.true w.self-is
       | else-alone w ↦ follows-turn c.args.line.now c.args.kind (next_unit s.units) c.in_ok-unit.unit c.if-alone.self c.opens_alone-alone.result c.opens_alone-alone.ensures w.if-alone.false name w.self-is
     ])
+    refl

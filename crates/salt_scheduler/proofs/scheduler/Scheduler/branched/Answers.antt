@@ -21,3 +21,4 @@ returns c = λ s o part stands sound named kind made.
     (ended-first s.units c.args.unit end o named ∙ ap program_begun kind))
     refl
     refl
+    refl

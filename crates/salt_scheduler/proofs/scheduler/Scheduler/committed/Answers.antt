@@ -9,10 +9,12 @@ use Rattle.salt_model.specs.declared.events.End.TheVariants.{Committed}
 use Rattle.salt_model.specs.declared.events.Event.TheVariants.{Ended}
 use Rattle.salt_scheduler.proofs.EndsDone.{commit-gives, ended-base, ended-places, one-found}
 use Rattle.salt_books.proofs.Named.{rising}
+use Rattle.salt_scheduler.specs.Calm.{is_calm_behind}
 use Rattle.salt_scheduler.specs.Follows.{behind_commit}
+use Rattle.salt_values.specs.declared.id.Id.{Id}
 use Rattle.salt_conflicts.specs.Watched.{place_of}
 use Rattle.std.proofs.Common.{ap, sym, ◌∙◌}
-use Rattle.std.specs.Prelude.{Some, map, refl, ◌≡◌}
+use Rattle.std.specs.Prelude.{Option, Some, map, refl, ◌≡◌}
 
 pub returns : goal.returns
 returns c = λ s o stands sound named made.
@@ -22,8 +24,9 @@ returns c = λ s o stands sound named made.
     (λ i. Some (Ended c.args.unit (Committed (c.in_ok-number.ensures.number s.units stands.books i))))
     (c.in_ok-number.ensures.state s.units o (conts_committed s.units.kept (next_decision s.units) o.kind o.vars) stands.books (rising s sound) named made refl)
     (c.in_ok-commit.ensures s.watch (facts_in s.units e) (next_decision s.units) stands.watch
-    (ended-base s.units c.args.unit (Committed (next_decision s.units)) o named ∙ ap (λ (o : OpenUnit). program_of_kind o.kind) is ∙ sym c.program_of.ensures)
+    (ended-base s.units c.args.unit (Committed (next_decision s.units)) o named ∙ ap (λ (o : OpenUnit). program_of_kind o.kind) is ∙ sym c.program_of-base.ensures)
     (ended-places s.units c.args.unit (Committed (next_decision s.units)) o c.in-Some.held.now.open.changes.items named (ap (λ (o : OpenUnit). o.changes) is)
     ∙ ap (map place_of) (sym c.changes.ensures.changes)))
     refl
     (c.behind_commit-follow.ensures ∙ ap (λ (o : OpenUnit). behind_commit o.kind) (sym is))
+    (c.is_calm_behind-self.ensures ∙ ap (λ (b : Option Id). is_calm_behind b c.args.self.now.calm) (c.program_of-base.ensures ∙ ap (λ (o : OpenUnit). program_of_kind o.kind) (sym is)))

@@ -23,3 +23,4 @@ returns c = λ s o stands sound asked loaded.
     (did-reach s.units c.args.asking c.in_ok-answer.answer o asked ∙ sym c.as_ref.ensures.value))
     refl
     (ap (Done c.args.asking.unit) c.cause_of.ensures)
+    c.is_calm_behind-self.ensures

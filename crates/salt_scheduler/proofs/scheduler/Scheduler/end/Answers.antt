@@ -20,6 +20,7 @@ returns-in_default c = λ s r stands serves.
     (ended-first-none s.units c.args.unit c.args.end none))
     (λ w b watched i. refl)
     refl
+    refl
 
 pub end-requires-3 : goal.end-requires-3
 end-requires-3 c =
@@ -37,4 +38,5 @@ returns c = λ s r stands serves.
     (ended-first s.units c.args.unit c.args.end (seen c.in-Some.held.now) named ∙ sym c.program_begun-first.ensures))
     (λ w b watched i. (c.in_ok-forget_first.ensures (units_after e s.units) w books watched).kept b
     (under-way b w.programs (first_parts (units_after e s.units).units) (under-way-at (state_by e s w) b i)))
+    refl
     refl

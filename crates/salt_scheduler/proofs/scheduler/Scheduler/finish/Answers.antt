@@ -12,4 +12,4 @@ returns c = λ s r stands serves.
     finish-brings c.args.self.now _ c.args.base s stands
     (copied-none c.cont.result (cont_of c.args.base s.units.kept)
     (c.cont.ensures s.units.kept (subst (λ (x : Known). IsKnown x s.units.kept) (sym c.known.ensures) stands.books.known)) (sym c.if-is_some.ensures))
-    refl refl refl refl
+    refl refl refl refl refl

@@ -1,4 +1,5 @@
-use Rattle.salt_scheduler.proofs.Done.{brings-same, brings-told}
+use Rattle.salt_scheduler.proofs.Done.{brings-none, brings-same, brings-told}
+use Rattle.salt_scheduler.proofs.LinesDone.{nothing-first}
 use Rattle.salt_scheduler.proofs.scheduler.Scheduler.first_of.Goals as goal
 use Rattle.law_states.specs.Readings.{clash_by, items_by}
 use Rattle.law_states.specs.Told.{line_in}
@@ -7,10 +8,10 @@ use Rattle.std.proofs.lemmas.Result.{IfOk-weaker}
 use Rattle.std.specs.Prelude.{refl}
 
 pub act_of-requires : goal.act_of-requires
-act_of-requires c = (c.requires.0, c.requires.1, c.requires.2.serves)
+act_of-requires c = (c.requires.allowed.0, c.requires.allowed.1, c.requires.allowed.2.serves)
 
 pub go-requires : goal.go-requires
-go-requires c = (c.requires.0, c.requires.1, c.requires.2.serves)
+go-requires c = (c.requires.allowed.0, c.requires.allowed.1, c.requires.allowed.2.serves)
 
 pub returns-in-Session : goal.returns-in-Session
 returns-in-Session c = IfOk-weaker c.act_of.result _ _ (λ e given s r stands h.
@@ -29,3 +30,10 @@ pub returns-in_ok-show_bases-in-ShowBases : goal.returns-in_ok-show_bases-in-Sho
 returns-in_ok-show_bases-in-ShowBases c = λ s r stands h.
     brings-same s _ _ _ _ (ap (line_in s.units (clash_by s) (items_by s r)) c.in-ShowBases.is)
     (brings-told s _ _ _ (c.in_ok-show_bases-in-ShowBases.ensures s r stands h.serves) refl)
+
+pub returns-in_default : goal.returns-in_default
+returns-in_default c = λ s r stands h.
+    brings-none s _ _
+    (nothing-first s.units (clash_by s) (items_by s r) c.args.line.now c.requires.plain (λ t act is. c.in_default.not-Session t act is) (λ b is. c.in_default.not-Go b is)
+    c.in_default.not-ShowLocks c.in_default.not-ShowBases)
+    stands

@@ -12,5 +12,5 @@ define_program-requires-clause-allowed c = program-may c.args.line.now c.args.se
 pub returns : goal.returns
 returns c = λ s r stands h.
     let told = c.in_ok-number.ensures.told s.units stands.books in
-    quiet (Defined (next_decision s.units) (program_text c.args.def.now)) s c.args.self.now _ _ refl tt (λ x. refl) refl (λ b. refl) stands refl refl refl
+    quiet (Defined (next_decision s.units) (program_text c.args.def.now)) s c.args.self.now _ _ refl tt (λ x. refl) refl (λ b. refl) stands refl refl refl refl
     (c.in_ok-number.ensures.state s.units stands.books (h.serves.line ∙ c.requires.line)) (λ i. Some (Defined (told.0 i) (told.1 i)))

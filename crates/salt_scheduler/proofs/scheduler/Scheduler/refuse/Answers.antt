@@ -5,5 +5,5 @@ use Rattle.std.specs.Prelude.{refl}
 
 pub returns : goal.returns
 returns c = λ s r stands h.
-    quiet (Refused c.args.refusal) s c.args.self.now _ _ refl tt (λ x. refl) refl (λ b. refl) stands refl refl refl
+    quiet (Refused c.args.refusal) s c.args.self.now _ _ refl tt (λ x. refl) refl (λ b. refl) stands refl refl refl refl
     (c.refuse.ensures s.units c.args.refusal stands.books) refl

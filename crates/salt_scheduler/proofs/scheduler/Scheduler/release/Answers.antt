@@ -21,3 +21,4 @@ returns c = λ s r behind serves.
     (λ w b watched i. (c.in_ok-forget.ensures s.units w stands.books watched).kept b
     (under-way b w.programs (first_parts s.units.units) (under-way-at (state_by (Released c.in_ok-due.due) s w) b i)))
     refl
+    refl

@@ -1,5 +1,5 @@
 use Rattle.salt_scheduler.proofs.scheduler.Scheduler.settle.Goals as goal
-use Rattle.salt_scheduler.proofs.SoundFacts.{waits-apart}
+use Rattle.salt_scheduler.proofs.SoundFacts.{reads}
 use Rattle.law_states.specs.Readings.{beside_by}
 use Rattle.salt_scheduler.proofs.Done.{brings-none, brings-same, brings-told}
 use Rattle.salt_scheduler.proofs.SettleDone.{none-of, settles-nothing, settles-serves, settles-victim}
@@ -7,25 +7,34 @@ use Rattle.std.proofs.lemmas.Result.{IfOk-weaker}
 use Rattle.std.proofs.Common.{sym, ◌∙◌}
 use Rattle.std.specs.Prelude.{refl}
 
+pub end-requires-clause-serving : goal.end-requires-clause-serving
+end-requires-clause-serving c =
+    let s = c.requires.0 in
+    let serves = c.requires.2 in
+    (s, (c.in_ok-unit.ensures s (reads s serves.sound) c.requires.1 serves.sound).1, serves)
+
 pub returns-in-Some : goal.returns-in-Some
 returns-in-Some c = λ s r stands serves.
+    let sought = c.in_ok-unit.ensures s r stands serves.sound in
     brings-same s _ _ _ _
-    (settles-victim s.units (beside_by s r) c.in-Some.unit (sym (c.in_ok-unit.ensures s.watch r stands.watch (waits-apart s serves.sound)) ∙ c.in-Some.is))
-    (brings-told s _ _ _ (c.in_ok-end.ensures s r stands serves) refl)
+    (settles-victim s.units (beside_by s r) c.in-Some.unit (sym sought.0 ∙ c.in-Some.is))
+    (brings-told s _ _ _ (c.in_ok-end.ensures s r sought.1 serves) refl)
 
 pub returns-in-Some-2 : goal.returns-in-Some-2
 returns-in-Some-2 c =
     IfOk-weaker c.serve.result _ _ (λ e h s r stands serves.
+    let sought = c.in_ok-unit.ensures s r stands serves.sound in
     brings-same s _ _ _ _
     (settles-serves s.units (beside_by s r) c.in-Some-2.unit
-    (sym (c.in_ok-unit.ensures s.watch r stands.watch (waits-apart s serves.sound)) ∙ none-of c.in_ok-unit.field-0 c.in_default.not-Some)
-    (sym (c.in_ok-unit-2.ensures s.watch stands.watch) ∙ c.in-Some-2.is))
-    (h s r stands serves)) c.serve.ensures
+    (sym sought.0 ∙ none-of c.in_ok-unit.field-0 c.in_default.not-Some)
+    (sym (c.in_ok-unit-2.ensures s.watch sought.1.watch) ∙ c.in-Some-2.is))
+    (h s r sought.1 serves)) c.serve.ensures
 
 pub returns-in-None : goal.returns-in-None
 returns-in-None c = λ s r stands serves.
+    let sought = c.in_ok-unit.ensures s r stands serves.sound in
     brings-none s _ _
     (settles-nothing s.units (beside_by s r)
-    (sym (c.in_ok-unit.ensures s.watch r stands.watch (waits-apart s serves.sound)) ∙ none-of c.in_ok-unit.field-0 c.in_default.not-Some)
-    (sym (c.in_ok-unit-2.ensures s.watch stands.watch) ∙ c.in-None.is))
-    stands
+    (sym sought.0 ∙ none-of c.in_ok-unit.field-0 c.in_default.not-Some)
+    (sym (c.in_ok-unit-2.ensures s.watch sought.1.watch) ∙ c.in-None.is))
+    sought.1

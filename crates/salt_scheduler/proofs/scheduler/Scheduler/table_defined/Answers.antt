@@ -12,5 +12,5 @@ define_table-requires c = table-may c.args.line.now c.args.self.now c.args.def.n
 pub returns : goal.returns
 returns c = λ s r stands h.
     let told = c.in_ok-number.ensures.told s.units stands.books in
-    quiet (Defined (next_decision s.units) (table_text c.args.def.now)) s c.args.self.now _ _ refl tt (λ x. refl) refl (λ b. refl) stands refl refl refl
+    quiet (Defined (next_decision s.units) (table_text c.args.def.now)) s c.args.self.now _ _ refl tt (λ x. refl) refl (λ b. refl) stands refl refl refl refl
     (c.in_ok-number.ensures.state s.units stands.books (h.serves.line ∙ c.requires.line)) (λ i. Some (Defined (told.0 i) (told.1 i)))

@@ -17,3 +17,4 @@ returns c = λ s o stands serves asked.
     (waits-waiter s.units c.args.asking o asked))
     refl
     refl
+    refl
