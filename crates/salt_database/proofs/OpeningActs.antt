@@ -253,8 +253,6 @@ goes-to-open holds is_new x y c s h may b = record {
     by (coming.Act a) meant r = h.stored
     by (coming.Commit u) meant r = h.stored
     by (coming.Branch u base cause) meant r = h.stored
-    by (coming.Define text) meant r = h.stored
-    by (coming.Arm pairs) meant r = h.stored
 
 -- what was given arms no stop
 plain-unarmed : (e : Event) → is_prepared (Some e) ≡ false → stops_armed e ≡ []
@@ -267,12 +265,6 @@ meant-unarmed e meant told plain = plain-unarmed e (ap is_prepared told ∙ plai
 -- no other is chosen in an opening
 pub comes-some : (holds : Kept → Type 0) (is_new : Id → Type 0) (x : Recovery) (c : Coming) (s : State) → IsToOpen holds is_new x c s → c ≡ coming.Nothing → ⊥
 comes-some holds is_new x c s h is = let some : IsSome (event_meant s.units coming.Nothing) = subst (λ (d : Coming). IsSome (event_meant s.units d)) is h.comes in cc
-
-pub comes-undefined : (holds : Kept → Type 0) (is_new : Id → Type 0) (x : Recovery) (c : Coming) (text : List ℕ) (s : State) → IsToOpen holds is_new x c s → c ≡ coming.Define text → ⊥
-comes-undefined holds is_new x c text s h is = let plain : is_prepared (event_meant s.units (coming.Define text)) ≡ false = subst (λ (d : Coming). is_prepared (event_meant s.units d) ≡ false) is h.plain in cc
-
-pub comes-unarmed : (holds : Kept → Type 0) (is_new : Id → Type 0) (x : Recovery) (c : Coming) (pairs : List (ℕ × ℕ)) (s : State) → IsToOpen holds is_new x c s → c ≡ coming.Arm pairs → ⊥
-comes-unarmed holds is_new x c pairs s h is = let plain : is_prepared (event_meant s.units (coming.Arm pairs)) ≡ false = subst (λ (d : Coming). is_prepared (event_meant s.units d) ≡ false) is h.plain in cc
 
 -- THE SAME of what was chosen, and of what was meant
 

@@ -11,7 +11,7 @@ use Rattle.law_states.specs.Told.{commits_in, does_in, next_decision, serve_in}
 use Rattle.salt_model.specs.Words.{is_empty}
 use Rattle.salt_model.specs.declared.events.End.TheVariants.{Branched, Cut}
 use Rattle.salt_model.specs.declared.events.Event.{Event}
-use Rattle.salt_model.specs.declared.events.Event.TheVariants.{Armed, Began, Defined, Early, Ended, Ready}
+use Rattle.salt_model.specs.declared.events.Event.TheVariants.{Began, Early, Ended, Ready}
 use Rattle.salt_drain.specs.Follows.{comes_behind, event_of, rest_in}
 use Rattle.salt_drain.specs.Recovering.{AnswersWithComing}
 use Rattle.salt_drain.specs.declared.behind.Behind.{Behind}
@@ -70,8 +70,6 @@ rest-told s x (coming.Commit u) b h = by (unit_named u s.units.units) refl b.rea
     by None e some = cc
     by (Some o) e some = let not : false ≡ true = rests-only s.units (commits_in s.units o) (sym (ap (option_map (commits_in s.units)) e) ∙ b.meant) in cc
 rest-told s x (coming.Branch u base cause) b h = let not : false ≡ true = rests-only s.units (Ended u (Branched (next_decision s.units) cause)) b.meant in cc
-rest-told s x (coming.Define text) b h = let not : false ≡ true = rests-only s.units (Defined (next_decision s.units) text) b.meant in cc
-rest-told s x (coming.Arm pairs) b h = let not : false ≡ true = rests-only s.units (Armed pairs) b.meant in cc
 
 pub told-event : (c : Coming) → IsTold c → (e : Event) × (c ≡ coming.Told e)
 told-event (coming.Told e) h = (e, refl)
@@ -79,8 +77,6 @@ told-event coming.Nothing h = absurd h
 told-event (coming.Act a) h = absurd h
 told-event (coming.Commit u) h = absurd h
 told-event (coming.Branch u base cause) h = absurd h
-told-event (coming.Define text) h = absurd h
-told-event (coming.Arm pairs) h = absurd h
 
 -- NO PREPARATION comes in an opening.
 

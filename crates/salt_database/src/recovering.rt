@@ -180,8 +180,6 @@ impl<S: Storage> Opening<S> {
                 disks, place, recovery, unit, base, cause,
             ),
             Coming::Nothing => unreachable!(),
-            Coming::Define(_text) => unreachable!(),
-            Coming::Arm(_pairs) => unreachable!(),
         }
     }
 

@@ -3,9 +3,9 @@ use Rattle.salt_ast.specs.declared.lines.Line.TheVariants.{Crash}
 use Rattle.salt_ast.specs.declared.lines.Line.{Line}
 use Rattle.salt_engine.proofs.Halting.{halts}
 use Rattle.salt_engine.proofs.LineGoes.{asked-moves, asked-played, asked-serves, asked_to, turned-moves, turned-played, turned-serves, turned_at}
-use Rattle.salt_engine.proofs.Stages.{goes-now, seen-at, serves-now}
+use Rattle.salt_engine.proofs.Stages.{goes-now, serves-now}
 use Rattle.salt_engine.specs.Flights.{flight_of}
-use Rattle.salt_engine.specs.Performing.{BreaksOff, IsServed, IsToAsk, Performs, Turns}
+use Rattle.salt_engine.specs.Performing.{BreaksOff, IsServed, IsToAskIn, Performs, TurnsIn}
 use Rattle.salt_engine.specs.Standing.{LeavesOnDevices, CanReopenAt, AgreesWithState, StandsAtEventIn, goes_in, serving_books}
 use Rattle.salt_engine.specs.declared.flights.InFlight.{InFlight}
 use Rattle.salt_engine.specs.declared.stage.Stage.TheVariants as at
@@ -60,21 +60,21 @@ spelled-of line h = h
 
 -- A LINE
 
-pub to-ask : (holds : Kept → Type 0) (is_new : Id → Type 0) (stoppable : Bool) (stage : Stage Scheduler) (single : Bool) (in_flight : Option InFlight) (line : Line) (x : Scheduler) (p : Point) →
+pub to-ask : (holds : Kept → Type 0) (is_new : Id → Type 0) (stoppable : Bool) (stage : Stage Scheduler) (single : Bool) (in_flight : Option InFlight) (line : Line) (p : Point) →
     IsSoundPoint p → IsIdle p → IsServed line → ((line : Line) → IsSpelledLine line → HasKey (Tree line)) → AgreesWithState (StandsAtEventIn holds is_new stage) stoppable single in_flight None p.state →
-    stage ≡ at.Going x → IsToAsk holds is_new stoppable line x p.state
-to-ask holds is_new stoppable stage single in_flight line x p sound idle served keys sees there =
-    let h = seen-at holds is_new stage (at.Going x) None p.state there sees.seen in
-    record {
-      played = asked-played (Tree line) p sound idle (keys line (spelled-of line served));
-      distinct = programs-apart p.state (sound-here p sound);
-      serves = asked-serves (Tree line) p sound idle;
-      stands = h.0;
-      stored = h.1;
-      served = served;
-      can_stop = sees.can_stop;
-      plain = sees.plain;
-    }
+    IsToAskIn holds is_new stoppable line stage p.state
+to-ask holds is_new stoppable (at.Going x) single in_flight line p sound idle served keys sees = record {
+  played = asked-played (Tree line) p sound idle (keys line (spelled-of line served));
+  distinct = programs-apart p.state (sound-here p sound);
+  serves = asked-serves (Tree line) p sound idle;
+  stands = sees.seen.0;
+  stored = sees.seen.1;
+  served = served;
+  can_stop = sees.can_stop;
+  plain = sees.plain;
+}
+to-ask holds is_new stoppable (at.Down books) single in_flight line p sound idle served keys sees = absurd sees.seen
+to-ask holds is_new stoppable at.Lost single in_flight line p sound idle served keys sees = absurd sees.seen
 
 pub asked-there : {E : Type 0} (sees : E → Option Event → State → Type 0) (e : E) (asked : Asked) (p : Point) (sound : IsSoundPoint p) (idle : IsIdle p) (r : Reading p.state.watch)
     (given : Option Event) → sees e given (asked_of asked p.state) → given ≡ asked_next p.state r asked → (q : Point) × Moves (Ask asked) p q × IsAt sees (line_asked asked) e given q
@@ -106,15 +106,15 @@ module _ (holds : Kept → Type 0) (leaves : Kept → Kept → Type 0) (fills : 
 
 -- A TURN
 
-pub to-turn : (holds : Kept → Type 0) (is_new : Id → Type 0) (stage : Stage Scheduler) (line : Line) (b : Id) (x : Scheduler) (p : Point) → IsSoundPoint p → p.state.units.phase ≡ Serving →
-    p.state.units.line ≡ line → p.next ≡ None → next_turn_of p.state ≡ Some b → StandsAtEventIn holds is_new stage None p.state → stage ≡ at.Going x → Turns holds is_new line b x p.state
-to-turn holds is_new stage line b x p sound serves served none turn seen there =
-    let h = seen-at holds is_new stage (at.Going x) None p.state there seen in
-    record {
-      turns = record { turn = turn; serves = turned-serves b p sound serves none turn line served; stands = h.0 };
-      played = turned-played b p sound serves none turn;
-      stored = h.1;
-    }
+pub to-turn : (holds : Kept → Type 0) (is_new : Id → Type 0) (stage : Stage Scheduler) (line : Line) (b : Id) (p : Point) → IsSoundPoint p → p.state.units.phase ≡ Serving →
+    p.state.units.line ≡ line → p.next ≡ None → next_turn_of p.state ≡ Some b → StandsAtEventIn holds is_new stage None p.state → TurnsIn holds is_new line b stage p.state
+to-turn holds is_new (at.Going x) line b p sound serves served none turn seen = record {
+  turns = record { turn = turn; serves = turned-serves b p sound serves none turn line served; stands = seen.0 };
+  played = turned-played b p sound serves none turn;
+  stored = seen.1;
+}
+to-turn holds is_new (at.Down books) line b p sound serves served none turn seen = absurd seen
+to-turn holds is_new at.Lost line b p sound serves served none turn seen = absurd seen
 
 pub turned-there : {E : Type 0} (sees : E → Option Event → State → Type 0) (e : E) (line : Line) (b : Id) (p : Point) (sound : IsSoundPoint p) (serves : p.state.units.phase ≡ Serving)
     (none : p.next ≡ None) (turn : next_turn_of p.state ≡ Some b) (r : Reading p.state.watch) (given : Option Event) → p.state.units.line ≡ line → sees e given (turned_to b p.state) →

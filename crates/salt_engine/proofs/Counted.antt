@@ -29,6 +29,9 @@ counts-broken old new (Err told) halt is h =
 pub cause-told : (old new : View) (halt told : Halt) → told ≡ halt → HasCause old new (Some (disk_err_of halt)) → HasCause old new (Some (disk_err_of told))
 cause-told old new halt told is h = subst (λ (t : Halt). HasCause old new (Some (disk_err_of t))) (sym is) h
 
+pub counts-told : (old new : View) (halt told : Halt) (armed : List (ℕ × ℕ)) → told ≡ halt → CountsStops old new (Some (disk_err_of halt)) armed 0 → CountsStops old new (Some (disk_err_of told)) armed 0
+counts-told old new halt told armed is h = subst (λ (t : Halt). CountsStops old new (Some (disk_err_of t)) armed 0) (sym is) h
+
 pub cause-broken : {T : Type 0} (old new : View) (result : Result T Halt) (halt : Halt) → IsErrAnd result (λ told. told ≡ halt) → HasCause old new (Some (disk_err_of halt)) →
     HasCause old new (disk_err result)
 cause-broken old new (Ok e) halt never h = absurd never

@@ -123,3 +123,12 @@ pub memory-at : {H : Type 0} (books_of : H → Books) (holds : Kept → Type 0) 
     HaltsAt (λ p. CanReopenAt holds leaves stoppable found (books_in books_of stage) single in_flight 0 p) (λ p. LeavesOnDevices holds leaves (IsSome in_flight) found 0 p × ⊤) fills (flight_of in_flight) Memory p
 memory-at books_of holds leaves fills stoppable found unfound stage single in_flight p k flight left is l =
     lost books_of holds leaves fills Memory stoppable found unfound stage single in_flight p (breaks-lost leaves fills stage in_flight p.next p.state.units k left is l) flight refl l
+
+-- as the halt is passed on
+pub memory-as : {H : Type 0} (books_of : H → Books) (holds : Kept → Type 0) (leaves : Kept → Kept → Type 0) (fills : ToWrite → ℕ → Type 0) (stoppable : Bool)
+    (stage : Stage H) (single : Bool) (in_flight : Option InFlight) (halt : Halt) (p : Point) (k : Kept) → halt ≡ Memory → p.flight ≡ decision_in p.next → leaves k k →
+    MayBeOther (IsSome in_flight) p.state.units.kept (kept_behind (decision_in p.next) p.state.units) k → IsLost stage in_flight p.next p.state.units →
+    HaltsAt (λ p. CanReopenAt holds leaves stoppable None (books_in books_of stage) single in_flight 0 p) (λ p. LeavesOnDevices holds leaves (IsSome in_flight) None 0 p × ⊤) fills (flight_of in_flight) halt p
+memory-as books_of holds leaves fills stoppable stage single in_flight halt p k memory flight left is l =
+    subst (λ (h : Halt). HaltsAt (λ p. CanReopenAt holds leaves stoppable None (books_in books_of stage) single in_flight 0 p) (λ p. LeavesOnDevices holds leaves (IsSome in_flight) None 0 p × ⊤) fills (flight_of in_flight) h p)
+    (sym memory) (memory-at books_of holds leaves fills stoppable None refl stage single in_flight p k flight left is l)

@@ -3,6 +3,7 @@ pub mod Decided
 pub mod Committing
 pub mod Broken
 pub mod Halting
+pub mod InStage
 pub mod Going
 pub mod Waiting
 pub mod ServingGoes

@@ -3,7 +3,7 @@ use Rattle.salt_ast.specs.declared.lines.Line.TheVariants.{Crash, Net}
 use Rattle.salt_ast.specs.declared.lines.Line.{Line}
 use Rattle.salt_engine.proofs.Flying.{none-flies}
 use Rattle.salt_engine.proofs.Performed.{serves-by, stored-plain}
-use Rattle.salt_engine.specs.Performing.{AsksLine, IsServed, Performs}
+use Rattle.salt_engine.specs.Performing.{AsksLine, AsksLineIn, IsServed, Performs}
 use Rattle.salt_engine.specs.Stored.{Stored}
 use Rattle.salt_engine.specs.declared.flights.InFlight.{InFlight}
 use Rattle.salt_engine.specs.declared.stage.Stage.TheVariants as at
@@ -54,11 +54,13 @@ module _ (holds : Kept → Type 0) (is_new : Id → Type 0) (stoppable : Bool) (
   arms-armed y e told same g = ap armed_at g.told ∙ same
 
 -- pairs of messages are armed by no line: it is refused
-pub net-refused : (holds : Kept → Type 0) (is_new : Id → Type 0) (stoppable : Bool) (line : Line) (x : Scheduler) (s : State) → AsksLine holds is_new stoppable line x s →
+pub net-refused : (holds : Kept → Type 0) (is_new : Id → Type 0) (stoppable : Bool) (line : Line) (stage : Stage Scheduler) (s : State) → AsksLineIn holds is_new stoppable line stage s →
     (pairs : List (ℕ × ℕ)) → line ≡ Net pairs → ⊥
-net-refused holds is_new stoppable line x s h pairs is =
+net-refused holds is_new stoppable line (at.Going x) s h pairs is =
     let allowed : refused_in s.units (under_way_of s) (Net pairs) ≡ None = subst (λ (l : Line). refusal_in s.units (under_way_of s) (Tree l) ≡ None) is h.allowed.allowed in
     let no : false ≡ true = sym h.plain.over_net ∙ unless-not s.over_net (allowed-right s.units (under_way_of s) (Net pairs) allowed) in cc
+net-refused holds is_new stoppable line (at.Down books) s h pairs is = h
+net-refused holds is_new stoppable line at.Lost s h pairs is = h
 
 -- each pair of a list picks so
 pub every-at : {A : Type 0} (P : A → Type 0) (xs : List A) (i : ℕ) (d : A) → i < length xs → Every P xs → P (get_or xs i d)

@@ -8,11 +8,13 @@ use Rattle.salt_engine.proofs.Counted.{same-cause}
 use Rattle.salt_engine.proofs.Flying.{none-flies}
 use Rattle.salt_engine.proofs.Performed.{serves-by, stored-plain}
 use Rattle.salt_engine.proofs.Plain.{first-plain}
-use Rattle.salt_engine.specs.Performing.{AsksLine, ComesOut, IsPlayedBefore, IsRefused, IsRejected, IsServed, IsToAsk, Performs, is_prepared, is_prepared_line}
+use Rattle.salt_engine.specs.Performing.{AsksLine, ComesOut, IsPlayedBefore, IsServed, IsToAsk, Performs, Rejects, is_prepared}
 use Rattle.salt_engine.specs.Stored.{Stored}
 use Rattle.salt_engine.specs.declared.flights.InFlight.{InFlight}
+use Rattle.salt_engine.specs.declared.stage.Stage.TheVariants as at
 use Rattle.salt_engine.specs.declared.stage.Stage.{Stage}
 use Rattle.salt_scheduler.specs.Refusals.{HasFewParts}
+use Rattle.salt_scheduler.specs.Serving.{is_prepared_line}
 use Rattle.law_states.specs.Nexts.{asked_next, refusal_of}
 use Rattle.law_states.specs.Points.{Point}
 use Rattle.law_states.specs.Readings.{Reading, clash_by, items_by}
@@ -101,32 +103,32 @@ module _ (holds : Kept → Type 0) (is_new : Id → Type 0) (stoppable : Bool) (
     pub is-refused : (r : Reading s.watch) → asked_next s r (Tree line) ≡ Some (Refused refusal)
     is-refused r = ap (λ (o : Option Refusal). option_or (option_map Refused o) (line_in now.units (clash_by now) (items_by now r) line)) refused
 
-    pub refused-performs : (stage : Stage Scheduler) (in_flight : Option InFlight) (e : Event) (y : Scheduler) → IsRefused line refusal y stage e → scheduling.StandsForState y now → in_flight ≡ None →
+    pub refused-performs : (stage : Stage Scheduler) (in_flight : Option InFlight) (e : Event) (y z : Scheduler) → stage ≡ at.Going z →
+        scheduling.DoesNext (λ s r. Some (Refused refusal)) line y z e → scheduling.StandsForState y now → in_flight ≡ None →
         (r : Reading s.watch) → Performs (StandsAtEventIn holds is_new stage) in_flight (asked_next s r (Tree line)) (Some e) now
-    refused-performs stage in_flight e y f stands none r =
-        serves-by holds is_new stage in_flight (asked_next s r (Tree line)) now f.scheduler (Refused refusal) e (none-flies in_flight None now.units none refl) f.there (is-refused r) (f.refuses now r stands h.serves) h.serves.phase
+    refused-performs stage in_flight e y z there does stands none r =
+        serves-by holds is_new stage in_flight (asked_next s r (Tree line)) now z (Refused refusal) e (none-flies in_flight None now.units none refl) there (is-refused r) (does now r stands h.serves) h.serves.phase
         (stored-plain holds is_new (Refused refusal) (asked_next s r (Tree line)) now (h.played r) (is-refused r) refl refl
         (record { holding = h.stored.holding; new = h.stored.new }))
 
-    pub refused-unarmed : (stage : Stage Scheduler) (e : Event) (y : Scheduler) → IsRefused line refusal y stage e → scheduling.StandsForState y now → (r : Reading s.watch) → armed_at (Some e) ≡ []
-    refused-unarmed stage e y f stands r = ap armed_at (f.refuses now r stands h.serves).told
+    pub refused-unarmed : (e : Event) (y z : Scheduler) → scheduling.DoesNext (λ s r. Some (Refused refusal)) line y z e → scheduling.StandsForState y now → (r : Reading s.watch) → armed_at (Some e) ≡ []
+    refused-unarmed e y z does stands r = ap armed_at (does now r stands h.serves).told
 
 -- A TEXT that is refused
 
-module _ (holds : Kept → Type 0) (is_new : Id → Type 0) (refusal : Refusal) (x : Scheduler) (p : Point) where
+module _ (holds : Kept → Type 0) (is_new : Id → Type 0) (refusal : Refusal) (x y : Scheduler) (p : Point) where
   abbrev pub rejected : State
   rejected = asked_of (Rejected refusal) p.state
 
-  pub rejected-performs : (stage : Stage Scheduler) (in_flight : Option InFlight) (e : Event) (r : Reading p.state.watch) → IsRejected refusal x stage e → scheduling.StandsForState x p.state →
+  pub rejected-performs : (in_flight : Option InFlight) (e : Event) (r : Reading p.state.watch) → Rejects refusal x y e → scheduling.StandsForState x p.state →
       scheduling.ServesLine Nothing rejected → IsPlayedBefore (asked_next p.state r (Rejected refusal)) rejected → Stored holds is_new p.state.units → in_flight ≡ None →
-      Performs (StandsAtEventIn holds is_new stage) in_flight (asked_next p.state r (Rejected refusal)) (Some e) rejected
-  rejected-performs stage in_flight e r f stands serves played stored none =
-      serves-by holds is_new stage in_flight (asked_next p.state r (Rejected refusal)) rejected f.scheduler (Refused refusal) e (none-flies in_flight None rejected.units none refl) f.there refl (f.refuses p.state r stands serves) serves.phase
+      Performs (StandsAtEventIn holds is_new (at.Going y)) in_flight (asked_next p.state r (Rejected refusal)) (Some e) rejected
+  rejected-performs in_flight e r f stands serves played stored none =
+      serves-by holds is_new (at.Going y) in_flight (asked_next p.state r (Rejected refusal)) rejected y (Refused refusal) e (none-flies in_flight None rejected.units none refl) refl refl (f p.state r stands serves) serves.phase
       (stored-plain holds is_new (Refused refusal) (asked_next p.state r (Rejected refusal)) rejected played refl refl refl (record { holding = stored.holding; new = stored.new }))
 
-  pub rejected-unarmed : (stage : Stage Scheduler) (e : Event) (r : Reading p.state.watch) → IsRejected refusal x stage e → scheduling.StandsForState x p.state →
-      scheduling.ServesLine Nothing rejected → armed_at (Some e) ≡ []
-  rejected-unarmed stage e r f stands serves = ap armed_at (f.refuses p.state r stands serves).told
+  pub rejected-unarmed : (e : Event) (r : Reading p.state.watch) → Rejects refusal x y e → scheduling.StandsForState x p.state → scheduling.ServesLine Nothing rejected → armed_at (Some e) ≡ []
+  rejected-unarmed e r f stands serves = ap armed_at (f p.state r stands serves).told
 
 -- no call of the storage was made
 pub counts-same : (d : View) (armed : List (ℕ × ℕ)) → armed ≡ [] → CountsStops d d None armed 0

@@ -4,7 +4,7 @@ use Rattle.salt_books.specs.declared.coming.Coming.TheVariants as coming
 use Rattle.salt_books.specs.declared.coming.Coming.{Coming}
 use Rattle.salt_engine.proofs.Flying.{none-flies}
 use Rattle.salt_engine.proofs.Performed.{acts-meant, commits-meant, stored-plain, unit-there}
-use Rattle.salt_engine.specs.Performing.{IsPlayedBefore, IsToServe, Performs, StoredAt, is_prepared}
+use Rattle.salt_engine.specs.Performing.{IsPlayedBefore, IsToServe, IsToServeIn, Performs, StoredAt, is_prepared}
 use Rattle.salt_engine.specs.Stored.{Stored}
 use Rattle.salt_engine.specs.declared.flights.InFlight.{InFlight}
 use Rattle.salt_engine.specs.declared.stage.Stage.TheVariants as at
@@ -19,7 +19,7 @@ use Rattle.salt_scheduler.specs.Standing as scheduling
 use Rattle.salt_scheduler.specs.declared.scheduler.Scheduler.{Scheduler}
 use Rattle.salt_values.specs.declared.id.Id.{Id}
 use Rattle.std.proofs.Common.{ap, subst, sym, ◌∙◌}
-use Rattle.std.specs.Prelude.{None, Option, Some, false, refl, true, ◌≡◌}
+use Rattle.std.specs.Prelude.{None, Option, Some, false, refl, ◌≡◌}
 use Rattle.salt_engine.specs.Standing.{StandsAtEventIn}
 
 stored-at : (holds : Kept → Type 0) (is_new : Id → Type 0) (x : Scheduler) (c : Coming) (meant : Option Event) (s : State) → IsPlayedBefore meant s →
@@ -30,8 +30,6 @@ stored-at holds is_new x coming.Nothing meant s played b stored = stored
 stored-at holds is_new x (coming.Act a) meant s played b stored = stored
 stored-at holds is_new x (coming.Commit u) meant s played b stored = stored
 stored-at holds is_new x (coming.Branch u base cause) meant s played b stored = stored
-stored-at holds is_new x (coming.Define text) meant s played b stored = stored
-stored-at holds is_new x (coming.Arm pairs) meant s played b stored = stored
 
 pub to-serve : (holds : Kept → Type 0) (is_new : Id → Type 0) (x : Scheduler) (c : Coming) (meant : Option Event) (s : State) → IsPlayedBefore meant s →
     s.units.phase ≡ Serving → is_prepared meant ≡ false → scheduling.AnswersWithComing s meant x c → Stored holds is_new s.units → IsToServe holds is_new x c s
@@ -51,23 +49,27 @@ performs-same holds is_new stage in_flight meant other given s same p = record {
 
 -- BY WHAT is to come: nothing, or an event that the scheduler has done
 
-pub serve-as : (holds : Kept → Type 0) (is_new : Id → Type 0) (x : Scheduler) (c d : Coming) (s : State) → c ≡ d → IsToServe holds is_new x c s → IsToServe holds is_new x d s
-serve-as holds is_new x c d s is h = subst (λ (k : Coming). IsToServe holds is_new x k s) is h
+pub serve-as : (holds : Kept → Type 0) (is_new : Id → Type 0) (stage : Stage Scheduler) (c d : Coming) (s : State) → c ≡ d → IsToServeIn holds is_new stage c s → IsToServeIn holds is_new stage d s
+serve-as holds is_new stage c d s is h = subst (λ (k : Coming). IsToServeIn holds is_new stage k s) is h
 
-pub nothing-performs : (holds : Kept → Type 0) (is_new : Id → Type 0) (x : Scheduler) (c : Coming) (in_flight : Option InFlight) (s : State) → c ≡ coming.Nothing →
-    IsToServe holds is_new x c s → in_flight ≡ None → Performs (StandsAtEventIn holds is_new (at.Going x)) in_flight (event_meant s.units c) None s
-nothing-performs holds is_new x c in_flight s is h none =
-    let k = serve-as holds is_new x c coming.Nothing s is h in
+pub nothing-performs : (holds : Kept → Type 0) (is_new : Id → Type 0) (stage : Stage Scheduler) (c : Coming) (in_flight : Option InFlight) (s : State) → c ≡ coming.Nothing →
+    IsToServeIn holds is_new stage c s → in_flight ≡ None → Performs (StandsAtEventIn holds is_new stage) in_flight (event_meant s.units c) None s
+nothing-performs holds is_new (at.Going x) c in_flight s is h none =
+    let k : IsToServe holds is_new x coming.Nothing s = serve-as holds is_new (at.Going x) c coming.Nothing s is h in
     performs-same holds is_new (at.Going x) in_flight (event_meant s.units c) None None s (ap (event_meant s.units) (sym is))
     (record { told = refl; sees = (k.ready.0, k.stored); flies = none-flies in_flight None s.units none refl })
+nothing-performs holds is_new (at.Down books) c in_flight s is h none = absurd h
+nothing-performs holds is_new at.Lost c in_flight s is h none = absurd h
 
-pub told-performs : (holds : Kept → Type 0) (is_new : Id → Type 0) (x : Scheduler) (c : Coming) (e : Event) (in_flight : Option InFlight) (s : State) → c ≡ coming.Told e →
-    IsToServe holds is_new x c s → in_flight ≡ None → Performs (StandsAtEventIn holds is_new (at.Going x)) in_flight (event_meant s.units c) (Some e) s
-told-performs holds is_new x c e in_flight s is h none =
-    let k = serve-as holds is_new x c (coming.Told e) s is h in
+pub told-performs : (holds : Kept → Type 0) (is_new : Id → Type 0) (stage : Stage Scheduler) (c : Coming) (e : Event) (in_flight : Option InFlight) (s : State) → c ≡ coming.Told e →
+    IsToServeIn holds is_new stage c s → in_flight ≡ None → Performs (StandsAtEventIn holds is_new stage) in_flight (event_meant s.units c) (Some e) s
+told-performs holds is_new (at.Going x) c e in_flight s is h none =
+    let k : IsToServe holds is_new x (coming.Told e) s = serve-as holds is_new (at.Going x) c (coming.Told e) s is h in
     let done = k.ready.0 in
     performs-same holds is_new (at.Going x) in_flight (event_meant s.units c) (Some e) (Some e) s (ap (event_meant s.units) (sym is))
     (record { told = refl; sees = (done.0, done.1, subst (Stored holds is_new) (sym done.1.after.units) k.stored, k.serves); flies = none-flies in_flight (decision_in (Some e)) s.units none k.ready.1 })
+told-performs holds is_new (at.Down books) c e in_flight s is h none = absurd h
+told-performs holds is_new at.Lost c e in_flight s is h none = absurd h
 
 -- where nothing is meant, nothing is to come
 pub nothing-comes : (s : State) (x : Scheduler) (c : Coming) (meant : Option Event) → scheduling.AnswersWithComing s meant x c → meant ≡ None → c ≡ coming.Nothing
@@ -77,11 +79,3 @@ nothing-comes s x (coming.Act a) meant b none = let no = sym (acts-meant s.units
 nothing-comes s x (coming.Commit u) meant b none =
     let there = unit-there s.units u b.ready.1 in let no = sym (commits-meant s.units u there.0 there.1) ∙ b.meant ∙ none in cc
 nothing-comes s x (coming.Branch u base cause) meant b none = let no = b.meant ∙ none in cc
-nothing-comes s x (coming.Define text) meant b none = let no = b.meant ∙ none in cc
-nothing-comes s x (coming.Arm pairs) meant b none = let no = b.meant ∙ none in cc
-
--- a definition, and stops that are armed, are to be prepared
-pub never-prepared : (holds : Kept → Type 0) (is_new : Id → Type 0) (x : Scheduler) (c d : Coming) (s : State) → c ≡ d → is_prepared (event_meant s.units d) ≡ true →
-    IsToServe holds is_new x c s → ⊥
-never-prepared holds is_new x c d s is prepared h =
-    let no : true ≡ false = sym prepared ∙ (serve-as holds is_new x c d s is h).plain in cc

@@ -6,7 +6,7 @@ use Rattle.salt_ast.specs.declared.lines.Line.TheVariants.{Crash, Go, GoAll, Net
 use Rattle.salt_ast.specs.declared.programs.ProgramDef.{ProgramDef}
 use Rattle.salt_ast.specs.declared.trees.Statement.{Statement}
 use Rattle.salt_engine.proofs.Unprepared.{done-plain, either-plain, finish-plain, serves-plain}
-use Rattle.salt_engine.specs.Performing.{is_prepared, is_prepared_line}
+use Rattle.salt_engine.specs.Performing.{is_prepared}
 use Rattle.law_states.specs.Follows.{settles_in}
 use Rattle.law_states.specs.OpenUnits.{OpenUnit, UnitState, asks_next, unit_named, unit_of_program, unit_of_session}
 use Rattle.law_states.specs.Readings.{Reading, beside_by}
@@ -19,6 +19,7 @@ use Rattle.salt_model.specs.declared.events.Event.TheVariants.{Armed, Defined, R
 use Rattle.salt_model.specs.declared.events.Owner.{Owner}
 use Rattle.salt_model.specs.declared.events.UnitKind.TheVariants.{Later}
 use Rattle.salt_scheduler.specs.Follows.{event_of}
+use Rattle.salt_scheduler.specs.Serving.{is_prepared_line}
 use Rattle.salt_scheduler.specs.Standing.{behind_in}
 use Rattle.salt_scheduler.specs.declared.follow.Follow.{Follow}
 use Rattle.salt_scheduler.specs.declared.follow.Follow.TheVariants as follow

@@ -3,12 +3,13 @@ use Rattle.salt_ast.specs.declared.lines.Line.{Line}
 use Rattle.salt_engine.proofs.Broken.{noted}
 use Rattle.salt_engine.proofs.Flying.{flight-next, kept-decided}
 use Rattle.salt_engine.proofs.Going.{flight-decides}
-use Rattle.salt_engine.proofs.Halting.{halts, memory-at}
+use Rattle.salt_engine.proofs.Halting.{halts, memory-as}
+use Rattle.salt_engine.proofs.InStage.{broken-out, followed}
 use Rattle.salt_engine.proofs.ServingGoes.{goes, meant, moves, plain, point, read, serves, serves-on}
 use Rattle.salt_engine.proofs.Stages.{goes-now, left-at, serves-now}
 use Rattle.salt_engine.specs.Flights.{IsInFlight, flight_of}
-use Rattle.salt_engine.specs.Performing.{BreaksOff, GoesOnServing, Performs}
-use Rattle.salt_engine.specs.Standing.{IsGoingStage, LeavesOnDevices, CanReopenAt, AgreesWithState, StandsAtEventIn, goes_in, waits_in, serving_books}
+use Rattle.salt_engine.specs.Performing.{BreaksOff, GoesOnServingIn, Performs, broken_by}
+use Rattle.salt_engine.specs.Standing.{IsGoingStage, LeavesOnDevices, CanReopenAt, AgreesWithState, StandsAtEventIn, follow_in, goes_in, waits_in, serving_books}
 use Rattle.salt_engine.specs.Stored.{Stored, kept_behind}
 use Rattle.salt_engine.specs.declared.flights.InFlight.{InFlight}
 use Rattle.salt_engine.specs.declared.stage.Stage.TheVariants as at
@@ -26,7 +27,7 @@ use Rattle.salt_model.specs.declared.events.Event.TheVariants.{Refused}
 use Rattle.salt_model.specs.declared.events.Event.{Event}
 use Rattle.salt_model.specs.declared.events.Refusal.{Refusal}
 use Rattle.salt_scheduler.proofs.Following.{not-of-run}
-use Rattle.salt_scheduler.specs.Standing.{HasDoneEvent}
+use Rattle.salt_scheduler.specs.Standing.{HasDoneEvent, behind_in}
 use Rattle.salt_scheduler.specs.declared.scheduler.Scheduler.{Scheduler}
 use Rattle.salt_driver.proofs.Advancing.{sound-moved}
 use Rattle.salt_driver.proofs.PlainStarts.{plain-after}
@@ -67,8 +68,26 @@ module _ (line : Line) (x : Scheduler) (e : Event) (p : Point) (sound : IsSoundP
       let s = serves line x e p sound t d comes phase served in
       (now, moves line x e p sound t d comes phase served, record { state = state; comes = sym told; serves = s.phase; line = s.line })
 
-  pub said-goes : (holds : Kept → Type 0) (is_new : Id → Type 0) → Stored holds is_new t.units → GoesOnServing holds is_new line x t
-  said-goes holds is_new stored = goes line x e p sound t d comes phase served holds is_new stored
+  pub said-goes : (holds : Kept → Type 0) (is_new : Id → Type 0) (stage : Stage Scheduler) → stage ≡ at.Going x → Stored holds is_new t.units → GoesOnServingIn holds is_new line stage t
+  said-goes holds is_new stage there stored =
+      subst (λ (q : Stage Scheduler). GoesOnServingIn holds is_new line q t) (sym there) (goes line x e p sound t d comes phase served holds is_new stored)
+
+  -- what was meant, by the stage that it stood in
+  behind-as : (stage : Stage Scheduler) → stage ≡ at.Going x → behind_in t (read line x e p sound t d comes phase served) (follow_in stage) ≡ wanted
+  behind-as stage there = sym (followed t (read line x e p sound t d comes phase served) stage x there)
+
+  pub said-performs : (holds : Kept → Type 0) (is_new : Id → Type 0) (stage later : Stage Scheduler) (in_flight : Option InFlight) (given : Option Event) → stage ≡ at.Going x →
+      Performs (StandsAtEventIn holds is_new later) in_flight (behind_in t (read line x e p sound t d comes phase served) (follow_in stage)) given t →
+      Performs (StandsAtEventIn holds is_new later) in_flight wanted given t
+  said-performs holds is_new stage later in_flight given there h = record { told = h.told ∙ behind-as stage there; sees = h.sees; flies = h.flies }
+
+  pub said-breaks : (leaves : Kept → Kept → Type 0) (fills : ToWrite → ℕ → Type 0) (halt told : Halt) (stage later now : Stage Scheduler) (in_flight : Option InFlight) → stage ≡ at.Going x →
+      told ≡ halt → now ≡ broken_by halt later →
+      BreaksOff leaves fills halt (broken_by halt later) in_flight (behind_in t (read line x e p sound t d comes phase served) (follow_in stage)) t.units →
+      BreaksOff leaves fills told now in_flight wanted t.units
+  said-breaks leaves fills halt told stage later now in_flight there same broken b =
+      subst (λ (m : Option Event). BreaksOff leaves fills told now in_flight m t.units) (behind-as stage there)
+      (broken-out leaves fills halt told later now in_flight (behind_in t (read line x e p sound t d comes phase served) (follow_in stage)) t.units same broken b)
 
   pub said-sees : (holds : Kept → Type 0) (is_new : Id → Type 0) (old stoppable : Bool) (was single : Bool) (stage : Stage Scheduler) (in_flight : Option InFlight) (given : Option Event) →
       Performs (StandsAtEventIn holds is_new stage) in_flight wanted given t → p.state.can_stop ≡ old → HasPlainStart p.state → stoppable ≡ old → was ≡ is_statement_line p.state.units.line → single ≡ was →
@@ -96,16 +115,16 @@ module _ (line : Line) (x : Scheduler) (e : Event) (p : Point) (sound : IsSoundP
   )
 
   -- or before it was told
-  pub said-lost : (holds : Kept → Type 0) (leaves : Kept → Kept → Type 0) (fills : ToWrite → ℕ → Type 0) (stoppable : Bool) (single : Bool) (stage : Stage Scheduler)
-      (in_flight : Option InFlight) (story told : List Event) → leaves t.units.kept t.units.kept → stage ≡ at.Lost → IsInFlight in_flight (decision_in (Some e)) p.state.units → told ≡ story →
-      BreaksAt (λ p. CanReopenAt holds leaves stoppable None (serving_books stage) single in_flight 0 p) (λ p. LeavesOnDevices holds leaves (IsSome in_flight) None 0 p × ⊤) fills (flight_of in_flight) Memory p e story told
-  said-lost holds leaves fills stoppable single stage in_flight story told left there flies same =
+  pub said-lost : (holds : Kept → Type 0) (leaves : Kept → Kept → Type 0) (fills : ToWrite → ℕ → Type 0) (halt : Halt) (stoppable : Bool) (single : Bool) (stage : Stage Scheduler)
+      (in_flight : Option InFlight) (story told : List Event) → halt ≡ Memory → leaves t.units.kept t.units.kept → stage ≡ at.Lost → IsInFlight in_flight (decision_in (Some e)) p.state.units → told ≡ story →
+      BreaksAt (λ p. CanReopenAt holds leaves stoppable None (serving_books stage) single in_flight 0 p) (λ p. LeavesOnDevices holds leaves (IsSome in_flight) None 0 p × ⊤) fills (flight_of in_flight) halt p e story told
+  said-lost holds leaves fills halt stoppable single stage in_flight story told memory left there flies same =
       let flown : IsInFlight in_flight (decision_in p.next) p.state.units = subst (λ (m : Option Event). IsInFlight in_flight (decision_in m) p.state.units) (sym comes) flies in
       inl (
         same,
-        memory-at (λ (x : Scheduler). x.books) holds leaves fills stoppable None refl stage single in_flight p t.units.kept (flight-next p sound.trace sound.keeps (never-fallen p phase)) left
+        memory-as (λ (x : Scheduler). x.books) holds leaves fills stoppable stage single in_flight halt p t.units.kept memory (flight-next p sound.trace sound.keeps (never-fallen p phase)) left
             (noted in_flight (decision_in p.next) p.state.units t.units.kept flown (inr (tt, kept-behind-next p sound e t x comes d phase))) (record { there = there; flies = inr flown }),
-        refl,
+        memory,
       )
 
   -- less is still to come, and it has still to turn to as many programs

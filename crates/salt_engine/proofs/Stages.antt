@@ -2,6 +2,7 @@
 use Rattle.salt_engine.proofs.Going.{says-keeps}
 use Rattle.salt_engine.proofs.Waiting.{goes-behind, left-now}
 use Rattle.salt_engine.specs.Standing.{IsGoingStage, StandsAtEventIn, goes_in, waits_in}
+use Rattle.salt_engine.specs.Stored.{Stored}
 use Rattle.salt_engine.specs.declared.stage.Stage.TheVariants as at
 use Rattle.salt_engine.specs.declared.stage.Stage.{Stage}
 use Rattle.law_states.specs.Points.{Point}
@@ -10,6 +11,7 @@ use Rattle.law_states.specs.States.{State}
 use Rattle.salt_model.specs.Kept.{Kept}
 use Rattle.salt_model.specs.declared.events.Event.{Event}
 use Rattle.salt_scheduler.proofs.Following.{not-of-run}
+use Rattle.salt_scheduler.specs.Standing.{HasDoneEvent}
 use Rattle.salt_scheduler.specs.declared.scheduler.Scheduler.{Scheduler}
 use Rattle.salt_driver.specs.Standing.{IsSoundPoint, left_to_come}
 use Rattle.salt_values.specs.declared.id.Id.{Id}
@@ -21,7 +23,13 @@ serves-now holds is_new (at.Going x) given s h = tt
 serves-now holds is_new (at.Down books) given s h = absurd h
 serves-now holds is_new at.Lost given s h = absurd h
 
--- by the stage that was taken out
+-- what the storage holds between events
+pub held-now : (holds : Kept → Type 0) (is_new : Id → Type 0) (stage : Stage Scheduler) (s : State) → StandsAtEventIn holds is_new stage None s → holds s.units.kept
+held-now holds is_new (at.Going x) s h = h.1.holding
+held-now holds is_new (at.Down books) s h = absurd h
+held-now holds is_new at.Lost s h = absurd h
+
+-- by the scheduler that stands in the stage
 pub seen-at : (holds : Kept → Type 0) (is_new : Id → Type 0) (stage now : Stage Scheduler) (given : Option Event) (s : State) → stage ≡ now → StandsAtEventIn holds is_new stage given s →
     StandsAtEventIn holds is_new now given s
 seen-at holds is_new stage now given s same h = subst (λ (q : Stage Scheduler). StandsAtEventIn holds is_new q given s) same h
@@ -55,3 +63,16 @@ pub serving-of : (stage : Stage Scheduler) → IsGoingStage stage → (x : Sched
 serving-of (at.Going x) serves = (x, refl)
 serving-of (at.Down books) serves = absurd serves
 serving-of at.Lost serves = absurd serves
+
+-- with an event at hand, which its scheduler has done
+pub record HasDoneIn (holds : Kept → Type 0) (is_new : Id → Type 0) (stage : Stage Scheduler) (e : Event) (s : State) : Type 0 where
+  pub scheduler : Scheduler
+  pub there : stage ≡ at.Going scheduler
+  pub behind : State
+  pub done : HasDoneEvent scheduler e s behind
+  pub stored : Stored holds is_new behind.units
+
+pub done-in : (holds : Kept → Type 0) (is_new : Id → Type 0) (stage : Stage Scheduler) (e : Event) (s : State) → StandsAtEventIn holds is_new stage (Some e) s → HasDoneIn holds is_new stage e s
+done-in holds is_new (at.Going x) e s h = record { scheduler = x; there = refl; behind = h.0; done = h.1; stored = h.2 }
+done-in holds is_new (at.Down books) e s h = absurd h
+done-in holds is_new at.Lost e s h = absurd h

@@ -1,5 +1,5 @@
 -- What is to come is performed, over the half in memory that has chosen it; or it is broken off.
-use Rattle.salt_ast.specs.declared.lines.Line.TheVariants.{Crash, Net, Nothing, Program, Table}
+use Rattle.salt_ast.specs.declared.lines.Line.TheVariants.{Crash, Nothing, Program, Table}
 use Rattle.salt_ast.specs.declared.lines.Line.{Line}
 use Rattle.salt_books.specs.Books.{AreBooks}
 use Rattle.salt_books.specs.Coming.{event_meant}
@@ -8,6 +8,7 @@ use Rattle.salt_books.specs.declared.coming.Coming.TheVariants as coming
 use Rattle.salt_books.specs.declared.coming.Coming.{Coming}
 use Rattle.salt_disk.specs.Disks.{View}
 use Rattle.salt_engine.specs.Flights.{IsInFlight}
+use Rattle.salt_engine.specs.Standing.{GoesWith}
 use Rattle.salt_engine.specs.Stored.{LeavesEither, Stored, kept_behind}
 use Rattle.salt_engine.specs.declared.flights.InFlight.{InFlight}
 use Rattle.salt_engine.specs.declared.stage.Stage.TheVariants.{Down, Going, Lost}
@@ -30,7 +31,7 @@ use Rattle.salt_model.specs.declared.events.Event.TheVariants.{Armed, Defined, R
 use Rattle.salt_model.specs.declared.events.Event.{Event}
 use Rattle.salt_model.specs.declared.events.Refusal.{Refusal}
 use Rattle.salt_scheduler.specs.Standing as scheduling
-use Rattle.salt_scheduler.specs.Standing.{DoesNext, ServesAllowed, ServesLine, behind_in}
+use Rattle.salt_scheduler.specs.Standing.{ServesAllowed, ServesLine, behind_in}
 use Rattle.salt_scheduler.specs.declared.scheduler.Scheduler.{Scheduler}
 use Rattle.law_decisions.specs.Spelled.{IsSpelledLine}
 use Rattle.salt_driver.specs.Opening.{HasPlainStart}
@@ -44,7 +45,7 @@ use Rattle.law_types.specs.Typed.{IsTyped}
 use Rattle.salt_values.specs.declared.id.Id.{Id}
 use Rattle.salt_place.specs.declared.placement.Shape.{Shape}
 use Rattle.std.specs.Result.{MatchResult}
-use Rattle.std.specs.Prelude.{Bool, IsSome, None, Option, Result, Some, false, true, ℕ, ◌≡◌, ◌≤◌, ◌⊎◌}
+use Rattle.std.specs.Prelude.{Bool, Err, IsSome, None, Ok, Option, Result, Some, false, true, ℕ, ◌≡◌, ◌≤◌, ◌⊎◌}
 
 -- this comes next in a state of a played trace, of a typed start and over lines whose tables have keys
 pub record IsPlayedBefore (comes : Option Event) (s : State) : Type 0 where
@@ -76,12 +77,19 @@ pub record IsToServe (holds : Kept → Type 0) (is_new : Id → Type 0) (x : Sch
   pub ready : scheduling.IsReady x s c
   pub stored : StoredAt holds is_new c s
 
+-- so is the scheduler in a stage
+abbrev pub IsToServeIn : (holds : Kept → Type 0) (is_new : Id → Type 0) → Stage Scheduler → Coming → State → Type 0
+IsToServeIn holds is_new stage c s = GoesWith (λ (x : Scheduler). IsToServe holds is_new x c s) stage
+
 -- a scheduler stands for a state behind an event in a line, and what comes behind that comes next
 pub record GoesOnServing (holds : Kept → Type 0) (is_new : Id → Type 0) (line : Line) (x : Scheduler) (s : State) : Type 0 where
   pub played : (r : Reading s.watch) → IsPlayedBefore (behind_in s r x.follow) s
   pub serves : ServesLine line s
   pub stands : scheduling.StandsBehindEvent x s
   pub stored : Stored holds is_new s.units
+
+abbrev pub GoesOnServingIn : (holds : Kept → Type 0) (is_new : Id → Type 0) → Line → Stage Scheduler → State → Type 0
+GoesOnServingIn holds is_new line stage s = GoesWith (λ (x : Scheduler). GoesOnServing holds is_new line x s) stage
 
 -- a program is to have its turn
 pub record TurnsTo (line : Line) (base : Id) (x : Scheduler) (s : State) : Type 0 where
@@ -95,18 +103,13 @@ pub record Turns (holds : Kept → Type 0) (is_new : Id → Type 0) (line : Line
   pub played : (r : Reading s.watch) → IsPlayedBefore (turned_next s r base) (turned_to base s)
   pub stored : Stored holds is_new s.units
 
+abbrev pub TurnsIn : (holds : Kept → Type 0) (is_new : Id → Type 0) → Line → Id → Stage Scheduler → State → Type 0
+TurnsIn holds is_new line base stage s = GoesWith (λ (x : Scheduler). Turns holds is_new line base x s) stage
+
 -- the lines that an engine can be asked: a definition is spelled by a text, and stops leave one of the images that there are
 abbrev pub IsServed : Line → Type 0
 IsServed (Crash pairs) = Every (λ (p : ℕ × ℕ). p.1 ≤ 4) pairs
 IsServed line = IsSpelledLine line
-
--- lines that have to be prepared: definitions, stops that are armed, and pairs of messages
-abbrev pub is_prepared_line : Line → Bool
-is_prepared_line (Table d) = true
-is_prepared_line (Program p) = true
-is_prepared_line (Crash pairs) = true
-is_prepared_line (Net pairs) = true
-is_prepared_line line = false
 
 abbrev pub is_definition : Line → Bool
 is_definition (Table d) = true
@@ -123,6 +126,9 @@ pub record AsksLine (holds : Kept → Type 0) (is_new : Id → Type 0) (stoppabl
   pub can_stop : s.can_stop ≡ stoppable
   pub plain : HasPlainStart s
 
+abbrev pub AsksLineIn : (holds : Kept → Type 0) (is_new : Id → Type 0) → Bool → Line → Stage Scheduler → State → Type 0
+AsksLineIn holds is_new stoppable line stage s = GoesWith (λ (x : Scheduler). AsksLine holds is_new stoppable line x s) stage
+
 -- before it is asked, and may be refused
 pub record IsToAsk (holds : Kept → Type 0) (is_new : Id → Type 0) (stoppable : Bool) (line : Line) (x : Scheduler) (s : State) : Type 0 where
   pub played : (r : Reading s.watch) → IsPlayedBefore (asked_next s r (Tree line)) (asked_of (Tree line) s)
@@ -133,6 +139,9 @@ pub record IsToAsk (holds : Kept → Type 0) (is_new : Id → Type 0) (stoppable
   pub served : IsServed line
   pub can_stop : s.can_stop ≡ stoppable
   pub plain : HasPlainStart s
+
+abbrev pub IsToAskIn : (holds : Kept → Type 0) (is_new : Id → Type 0) → Bool → Line → Stage Scheduler → State → Type 0
+IsToAskIn holds is_new stoppable line stage s = GoesWith (λ (x : Scheduler). IsToAsk holds is_new stoppable line x s) stage
 
 -- the event that was meant is given, and the engine has done it; a decision is in flight until it is told
 pub record Performs (seen : Option Event → State → Type 0) (in_flight : Option InFlight) (meant given : Option Event) (s : State) : Type 0 where
@@ -169,6 +178,17 @@ pub record BreaksOff {H : Type 0} (leaves : Kept → Kept → Type 0) (fills : T
 abbrev pub WasBroken : {H : Type 0} → Halt → Books → Stage H → Type 0
 WasBroken halt books stage = ((halt ≡ Memory) × (stage ≡ Lost)) ⊎ ((halt ≡ Memory → ⊥) × (stage ≡ Down books))
 
+-- a stage that is broken off by a halt: unless memory ran out, its books stay
+abbrev pub broken_by : Halt → Stage Scheduler → Stage Scheduler
+broken_by Memory stage = Lost
+broken_by halt (Going x) = Down x.books
+broken_by halt stage = stage
+
+-- the stage behind a move: where that halted, it is broken off
+abbrev pub stage_behind : {T : Type 0} → Result T Halt → Stage Scheduler → Stage Scheduler
+stage_behind (Ok x) stage = stage
+stage_behind (Err halt) stage = broken_by halt stage
+
 -- How it comes out: what was meant is given, and done; or it is broken off.
 abbrev pub ComesOut : {H T : Type 0} → (given : T → Option Event) (seen : Option Event → State → Type 0) (leaves : Kept → Kept → Type 0) (fills : ToWrite → ℕ → Type 0) → Stage H →
     Option InFlight → (meant : Option Event) → State → Result T Halt → Type 0
@@ -180,15 +200,7 @@ pub record Stays {A : Type 0} (before now : A) (was is : Shape) (old new : View)
   pub noted : now ≡ before
   pub within : StaysWithin was is old new
 
--- a line is refused, and the scheduler has told it
-pub record IsRefused (line : Line) (refusal : Refusal) (x : Scheduler) (stage : Stage Scheduler) (e : Event) : Type 0 where
-  pub scheduler : Scheduler
-  pub there : stage ≡ Going scheduler
-  pub refuses : DoesNext (λ s r. Some (Refused refusal)) line x scheduler e
-
--- a line whose text is refused
-pub record IsRejected (refusal : Refusal) (x : Scheduler) (stage : Stage Scheduler) (e : Event) : Type 0 where
-  pub scheduler : Scheduler
-  pub there : stage ≡ Going scheduler
-  pub refuses : (s : State) (r : Reading s.watch) → scheduling.StandsForState x s → ServesLine Nothing (asked_of (Rejected refusal) s) →
-      scheduling.AnswersWith (asked_of (Rejected refusal) s) (Some (Refused refusal)) scheduler (Some e)
+-- a line whose text is refused is asked, and its refusal has been told
+abbrev pub Rejects : Refusal → (old new : Scheduler) → Event → Type 0
+Rejects refusal old new e = (s : State) (r : Reading s.watch) → scheduling.StandsForState old s → ServesLine Nothing (asked_of (Rejected refusal) s) →
+    scheduling.AnswersWith (asked_of (Rejected refusal) s) (Some (Refused refusal)) new (Some e)

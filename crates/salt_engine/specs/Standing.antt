@@ -19,6 +19,8 @@ use Rattle.salt_model.specs.Phases as phases
 use Rattle.salt_model.specs.Turns.{is_statement_line}
 use Rattle.salt_model.specs.declared.events.Event.{Event}
 use Rattle.salt_scheduler.specs.Standing as scheduling
+use Rattle.salt_scheduler.specs.declared.follow.Follow.TheVariants.{Nothing}
+use Rattle.salt_scheduler.specs.declared.follow.Follow.{Follow}
 use Rattle.salt_scheduler.specs.declared.scheduler.Scheduler.{Scheduler}
 use Rattle.salt_driver.specs.Opening.{HasPlainStart}
 use Rattle.salt_storage.specs.Storing.{IsSoundKept}
@@ -46,6 +48,11 @@ pub record AgreesWithState (sees : Option Event → State → Type 0) (stoppable
 abbrev pub IsGoingStage : {H : Type 0} → Stage H → Type 0
 IsGoingStage (Going x) = ⊤
 IsGoingStage stage = ⊥
+
+-- it goes on, and this holds of what goes on
+abbrev pub GoesWith : {H : Type 0} → (H → Type 0) → Stage H → Type 0
+GoesWith holds (Going x) = holds x
+GoesWith holds stage = ⊥
 
 -- it was broken off, and its books stay
 abbrev pub IsBrokenStage : {H : Type 0} → Stage H → Type 0
@@ -116,6 +123,11 @@ pub record CanReopenAt (holds : Kept → Type 0) (leaves : Kept → Kept → Typ
   pub flies : IsInFlight in_flight p.flight p.state.units
 
 -- WHAT IS STILL TO COME.
+
+-- what follows the event at hand
+abbrev pub follow_in : Stage Scheduler → Follow
+follow_in (Going x) = x.follow
+follow_in stage = Nothing
 
 -- the waiting units, and the programs to which `go all` has still to turn
 abbrev pub waits_in : Stage Scheduler → List Id

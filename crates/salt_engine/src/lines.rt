@@ -2,11 +2,11 @@
 
 ghost use Rattle.salt_ast.specs.declared.lines.Line.TheVariants as line_of;
 ghost use Rattle.salt_engine.specs.Flights.{definition_of};
-ghost use Rattle.salt_engine.specs.Performing.{AsksLine, ComesOut, IsRefused, IsRejected, IsToAsk, Stays, is_definition, is_prepared_line};
+ghost use Rattle.salt_engine.specs.Performing.{AsksLineIn, ComesOut, IsToAskIn, Rejects, Stays, is_definition, stage_behind};
 ghost use Rattle.salt_engine.specs.Stored.{Stored};
 ghost use Rattle.salt_engine.specs.Standing.{StandsAtEventIn};
-ghost use Rattle.salt_engine.specs.declared.stage.Stage.TheVariants.{Lost};
 ghost use Rattle.salt_scheduler.specs.Refusals.{HasFewParts};
+ghost use Rattle.salt_scheduler.specs.Serving.{is_prepared_line};
 ghost use Rattle.law_states.specs.Readings.{Reading, clash_by, items_by};
 ghost use Rattle.law_states.specs.KeptWaits.{AreDistinct};
 ghost use Rattle.law_states.specs.Nexts.{asked_next, refusal_of};
@@ -22,7 +22,7 @@ ghost use Rattle.salt_scheduler.specs.Standing.{DoesAllowed, IsAllowed, StandsFo
 ghost use Rattle.salt_storage.specs.Answers.{disk_err};
 ghost use Rattle.salt_storage.specs.Staying.{StaysWithin};
 ghost use Rattle.salt_place.specs.Placement.{GivesPlaceOf, TakesEachKey};
-ghost use Rattle.std.specs.Prelude.{IfOk, IsTrue, None, Ok, OnErr, OnOk, Some, false, true, ℕ, ◌++◌, ◌≡◌, ◌≤◌};
+ghost use Rattle.std.specs.Prelude.{IfOk, IsTrue, None, Ok, OnOk, Some, false, true, ℕ, ◌++◌, ◌≡◌, ◌≤◌};
 
 use crate::engine::Engine;
 use crate::flights::InFlight;
@@ -86,6 +86,14 @@ fn ask(
     Ok(refusal)
 }
 
+/// A line whose text is refused is asked.
+pub(crate) fn reject(scheduler: &mut Scheduler, refusal: Refusal) -> Result<Event, AllocError>
+    ensures { IfOk result (λ e. Rejects refusal scheduler.old scheduler.new e) }
+{
+    scheduler.ask(&Line::Nothing)?;
+    Ok(scheduler.refuse(&Line::Nothing, refusal))
+}
+
 /// Stops are armed, one by one.
 fn arm_each<S: Storage, D: Disks>(
     storage: &mut S,
@@ -111,35 +119,34 @@ impl<S: Storage> Engine<S> {
         &mut self,
         disks: &mut D,
         place: &Placement<F>,
-        scheduler: Scheduler,
         line: &Line,
     ) -> Result<Option<Event>, Halt>
         requires callable { TakesEachKey (F.pre place.now.place) }
         requires answers { GivesPlaceOf (F.post place.now.place) }
         requires definition { is_definition line.now ≡ true }
-        requires lost { self.old.stage ≡ Lost }
         requires none { self.old.in_flight ≡ None }
-        requires ready { (s : State) × AsksLine (S.holds (D.view disks.old) self.old.storage) (S.is_new (D.view disks.old) self.old.storage) (D.view disks.old).can_stop line.now scheduler s }
-        ensures comes { (s : State) (r : Reading s.watch) → AsksLine (S.holds (D.view disks.old) self.old.storage) (S.is_new (D.view disks.old) self.old.storage) (D.view disks.old).can_stop line.now scheduler s
-            → ComesOut (λ e. e) (StandsAtEventIn (S.holds (D.view disks.new) self.new.storage) (S.is_new (D.view disks.new) self.new.storage) self.new.stage) (S.leaves (D.view disks.new) self.new.storage) (S.fills (D.view disks.new) self.new.storage) self.new.stage self.new.in_flight (line_in s.units (clash_by s) (items_by s r) line.now) s result }
+        requires ready { (s : State) × AsksLineIn (S.holds (D.view disks.old) self.old.storage) (S.is_new (D.view disks.old) self.old.storage) (D.view disks.old).can_stop line.now self.old.stage s }
+        ensures comes { (s : State) (r : Reading s.watch) → AsksLineIn (S.holds (D.view disks.old) self.old.storage) (S.is_new (D.view disks.old) self.old.storage) (D.view disks.old).can_stop line.now self.old.stage s
+            → ComesOut (λ e. e) (StandsAtEventIn (S.holds (D.view disks.new) self.new.storage) (S.is_new (D.view disks.new) self.new.storage) self.new.stage) (S.leaves (D.view disks.new) self.new.storage) (S.fills (D.view disks.new) self.new.storage) (stage_behind result self.new.stage) self.new.in_flight (line_in s.units (clash_by s) (items_by s r) line.now) s result }
         ensures stays { Stays self.old.single self.new.single (S.asked self.old.storage) (S.asked self.new.storage) (D.view disks.old) (D.view disks.new) }
         ensures counts { CountsStops (D.view disks.old) (D.view disks.new) (disk_err result) (armed_by result) 0 }
     {
         definitions_may_be_kept();
-        let mut scheduler = scheduler;
         self.storage.stands(disks);
+        let Stage::Going(scheduler) = &mut self.stage else {
+            unreachable!()
+        };
         let asked = definition_of(self.alloc, line)?;
         match self.storage.define(disks, place, asked.text()) {
             Ok(_number) => {
                 self.storage.stands(disks);
                 self.in_flight = Some(asked);
-                let event = defined(&mut scheduler, line)?;
-                self.stage = Stage::Going(scheduler);
+                let event = defined(scheduler, line)?;
                 Ok(Some(event))
             }
             Err(halt) => {
                 self.in_flight = Some(asked);
-                Err(self.stage.break_off(scheduler.into_books(), halt))
+                Err(halt)
             }
         }
     }
@@ -148,26 +155,25 @@ impl<S: Storage> Engine<S> {
     fn arm<D: Disks>(
         &mut self,
         disks: &mut D,
-        scheduler: Scheduler,
         line: &Line,
         pairs: &Pairs,
     ) -> Result<Option<Event>, Halt>
         requires line { line.now ≡ line_of.Crash pairs.now }
-        requires lost { self.old.stage ≡ Lost }
         requires none { self.old.in_flight ≡ None }
-        requires ready { (s : State) × AsksLine (S.holds (D.view disks.old) self.old.storage) (S.is_new (D.view disks.old) self.old.storage) (D.view disks.old).can_stop line.now scheduler s }
-        ensures comes { (s : State) (r : Reading s.watch) → AsksLine (S.holds (D.view disks.old) self.old.storage) (S.is_new (D.view disks.old) self.old.storage) (D.view disks.old).can_stop line.now scheduler s
-            → ComesOut (λ e. e) (StandsAtEventIn (S.holds (D.view disks.new) self.new.storage) (S.is_new (D.view disks.new) self.new.storage) self.new.stage) (S.leaves (D.view disks.new) self.new.storage) (S.fills (D.view disks.new) self.new.storage) self.new.stage self.new.in_flight (line_in s.units (clash_by s) (items_by s r) line.now) s result }
+        requires ready { (s : State) × AsksLineIn (S.holds (D.view disks.old) self.old.storage) (S.is_new (D.view disks.old) self.old.storage) (D.view disks.old).can_stop line.now self.old.stage s }
+        ensures comes { (s : State) (r : Reading s.watch) → AsksLineIn (S.holds (D.view disks.old) self.old.storage) (S.is_new (D.view disks.old) self.old.storage) (D.view disks.old).can_stop line.now self.old.stage s
+            → ComesOut (λ e. e) (StandsAtEventIn (S.holds (D.view disks.new) self.new.storage) (S.is_new (D.view disks.new) self.new.storage) self.new.stage) (S.leaves (D.view disks.new) self.new.storage) (S.fills (D.view disks.new) self.new.storage) (stage_behind result self.new.stage) self.new.in_flight (line_in s.units (clash_by s) (items_by s r) line.now) s result }
         ensures stays { Stays self.old.single self.new.single (S.asked self.old.storage) (S.asked self.new.storage) (D.view disks.old) (D.view disks.new) }
         ensures counts { CountsStops (D.view disks.old) (D.view disks.new) (disk_err result) (armed_by result) 0 }
     {
-        let mut scheduler = scheduler;
         self.storage.stands(disks);
+        let Stage::Going(scheduler) = &mut self.stage else {
+            unreachable!()
+        };
         let told = Items::from_slice(self.alloc, pairs.as_slice())?;
         match arm_each(&mut self.storage, disks, pairs.as_slice()) {
             Ok(()) => {
                 let event = scheduler.armed(line, told);
-                self.stage = Stage::Going(scheduler);
                 Ok(Some(event))
             }
             Err(_) => {
@@ -182,24 +188,24 @@ impl<S: Storage> Engine<S> {
         &mut self,
         disks: &mut D,
         place: &Placement<F>,
-        scheduler: Scheduler,
         line: &Line,
     ) -> Result<Option<Event>, Halt>
         requires callable { TakesEachKey (F.pre place.now.place) }
         requires answers { GivesPlaceOf (F.post place.now.place) }
         requires plain { is_prepared_line line.now ≡ false }
-        requires lost { self.old.stage ≡ Lost }
         requires none { self.old.in_flight ≡ None }
-        requires ready { (s : State) × AsksLine (S.holds (D.view disks.old) self.old.storage) (S.is_new (D.view disks.old) self.old.storage) (D.view disks.old).can_stop line.now scheduler s }
-        ensures comes { (s : State) (r : Reading s.watch) → AsksLine (S.holds (D.view disks.old) self.old.storage) (S.is_new (D.view disks.old) self.old.storage) (D.view disks.old).can_stop line.now scheduler s
-            → ComesOut (λ e. e) (StandsAtEventIn (S.holds (D.view disks.new) self.new.storage) (S.is_new (D.view disks.new) self.new.storage) self.new.stage) (S.leaves (D.view disks.new) self.new.storage) (S.fills (D.view disks.new) self.new.storage) self.new.stage self.new.in_flight (line_in s.units (clash_by s) (items_by s r) line.now) s result }
+        requires ready { (s : State) × AsksLineIn (S.holds (D.view disks.old) self.old.storage) (S.is_new (D.view disks.old) self.old.storage) (D.view disks.old).can_stop line.now self.old.stage s }
+        ensures comes { (s : State) (r : Reading s.watch) → AsksLineIn (S.holds (D.view disks.old) self.old.storage) (S.is_new (D.view disks.old) self.old.storage) (D.view disks.old).can_stop line.now self.old.stage s
+            → ComesOut (λ e. e) (StandsAtEventIn (S.holds (D.view disks.new) self.new.storage) (S.is_new (D.view disks.new) self.new.storage) self.new.stage) (S.leaves (D.view disks.new) self.new.storage) (S.fills (D.view disks.new) self.new.storage) (stage_behind result self.new.stage) self.new.in_flight (line_in s.units (clash_by s) (items_by s r) line.now) s result }
         ensures stays { Stays self.old.single self.new.single (S.asked self.old.storage) (S.asked self.new.storage) (D.view disks.old) (D.view disks.new) }
         ensures counts { CountsStops (D.view disks.old) (D.view disks.new) (disk_err result) (armed_by result) 0 }
     {
-        let mut scheduler = scheduler;
         self.storage.stands(disks);
+        let Stage::Going(scheduler) = &mut self.stage else {
+            unreachable!()
+        };
         let coming = scheduler.first_of(line)?;
-        self.perform(disks, place, scheduler, coming)
+        self.perform(disks, place, coming)
     }
 
     /// A line that is not refused is begun.
@@ -207,61 +213,23 @@ impl<S: Storage> Engine<S> {
         &mut self,
         disks: &mut D,
         place: &Placement<F>,
-        scheduler: Scheduler,
         line: &Line,
     ) -> Result<Option<Event>, Halt>
         requires callable { TakesEachKey (F.pre place.now.place) }
         requires answers { GivesPlaceOf (F.post place.now.place) }
-        requires lost { self.old.stage ≡ Lost }
         requires none { self.old.in_flight ≡ None }
-        requires ready { (s : State) × AsksLine (S.holds (D.view disks.old) self.old.storage) (S.is_new (D.view disks.old) self.old.storage) (D.view disks.old).can_stop line.now scheduler s }
-        ensures comes { (s : State) (r : Reading s.watch) → AsksLine (S.holds (D.view disks.old) self.old.storage) (S.is_new (D.view disks.old) self.old.storage) (D.view disks.old).can_stop line.now scheduler s
-            → ComesOut (λ e. e) (StandsAtEventIn (S.holds (D.view disks.new) self.new.storage) (S.is_new (D.view disks.new) self.new.storage) self.new.stage) (S.leaves (D.view disks.new) self.new.storage) (S.fills (D.view disks.new) self.new.storage) self.new.stage self.new.in_flight (line_in s.units (clash_by s) (items_by s r) line.now) s result }
+        requires ready { (s : State) × AsksLineIn (S.holds (D.view disks.old) self.old.storage) (S.is_new (D.view disks.old) self.old.storage) (D.view disks.old).can_stop line.now self.old.stage s }
+        ensures comes { (s : State) (r : Reading s.watch) → AsksLineIn (S.holds (D.view disks.old) self.old.storage) (S.is_new (D.view disks.old) self.old.storage) (D.view disks.old).can_stop line.now self.old.stage s
+            → ComesOut (λ e. e) (StandsAtEventIn (S.holds (D.view disks.new) self.new.storage) (S.is_new (D.view disks.new) self.new.storage) self.new.stage) (S.leaves (D.view disks.new) self.new.storage) (S.fills (D.view disks.new) self.new.storage) (stage_behind result self.new.stage) self.new.in_flight (line_in s.units (clash_by s) (items_by s r) line.now) s result }
         ensures stays { Stays self.old.single self.new.single (S.asked self.old.storage) (S.asked self.new.storage) (D.view disks.old) (D.view disks.new) }
         ensures counts { CountsStops (D.view disks.old) (D.view disks.new) (disk_err result) (armed_by result) 0 }
     {
         match line {
-            Line::Table(_def) => self.define(disks, place, scheduler, line),
-            Line::Program(_def) => self.define(disks, place, scheduler, line),
-            Line::Crash(pairs) => self.arm(disks, scheduler, line, pairs),
-            Line::Net(_pairs) => unreachable!(),
-            _ => self.follow_line(disks, place, scheduler, line),
+            Line::Table(_def) => self.define(disks, place, line),
+            Line::Program(_def) => self.define(disks, place, line),
+            Line::Crash(pairs) => self.arm(disks, line, pairs),
+            _ => self.follow_line(disks, place, line),
         }
-    }
-
-    /// A line is refused.
-    pub(crate) fn refuse_line(
-        &mut self,
-        scheduler: Scheduler,
-        line: &Line,
-        refusal: Refusal,
-    ) -> Event
-        ensures stage { IsRefused line.now refusal scheduler self.new.stage result }
-        ensures storage { self.new.storage ≡ self.old.storage }
-        ensures single { self.new.single ≡ self.old.single }
-        ensures flies { self.new.in_flight ≡ self.old.in_flight }
-    {
-        let mut scheduler = scheduler;
-        let event = scheduler.refuse(line, refusal);
-        self.stage = Stage::Going(scheduler);
-        event
-    }
-
-    /// A line whose text is refused is asked.
-    pub(crate) fn reject_line(
-        &mut self,
-        scheduler: Scheduler,
-        refusal: Refusal,
-    ) -> Result<Event, AllocError>
-        ensures told { IfOk result (λ e. IsRejected refusal scheduler self.new.stage e) }
-        ensures stage { OnErr result (self.new.stage ≡ self.old.stage) }
-        ensures storage { self.new.storage ≡ self.old.storage }
-        ensures single { self.new.single ≡ self.old.single }
-        ensures flies { self.new.in_flight ≡ self.old.in_flight }
-    {
-        let mut scheduler = scheduler;
-        scheduler.ask(&Line::Nothing)?;
-        Ok(self.refuse_line(scheduler, &Line::Nothing, refusal))
     }
 
     /// A line is asked: it is refused, or begun.
@@ -269,26 +237,26 @@ impl<S: Storage> Engine<S> {
         &mut self,
         disks: &mut D,
         place: &Placement<F>,
-        scheduler: Scheduler,
         line: &Line,
     ) -> Result<Option<Event>, Halt>
         requires callable { TakesEachKey (F.pre place.now.place) }
         requires answers { GivesPlaceOf (F.post place.now.place) }
-        requires lost { self.old.stage ≡ Lost }
         requires none { self.old.in_flight ≡ None }
-        requires ready { (s : State) × IsToAsk (S.holds (D.view disks.old) self.old.storage) (S.is_new (D.view disks.old) self.old.storage) (D.view disks.old).can_stop line.now scheduler s }
-        ensures comes { (s : State) (r : Reading s.watch) → IsToAsk (S.holds (D.view disks.old) self.old.storage) (S.is_new (D.view disks.old) self.old.storage) (D.view disks.old).can_stop line.now scheduler s
-            → ComesOut (λ e. e) (StandsAtEventIn (S.holds (D.view disks.new) self.new.storage) (S.is_new (D.view disks.new) self.new.storage) self.new.stage) (S.leaves (D.view disks.new) self.new.storage) (S.fills (D.view disks.new) self.new.storage) self.new.stage self.new.in_flight (asked_next s r (Tree line.now)) (asked_of (Tree line.now) s) result }
+        requires ready { (s : State) × IsToAskIn (S.holds (D.view disks.old) self.old.storage) (S.is_new (D.view disks.old) self.old.storage) (D.view disks.old).can_stop line.now self.old.stage s }
+        ensures comes { (s : State) (r : Reading s.watch) → IsToAskIn (S.holds (D.view disks.old) self.old.storage) (S.is_new (D.view disks.old) self.old.storage) (D.view disks.old).can_stop line.now self.old.stage s
+            → ComesOut (λ e. e) (StandsAtEventIn (S.holds (D.view disks.new) self.new.storage) (S.is_new (D.view disks.new) self.new.storage) self.new.stage) (S.leaves (D.view disks.new) self.new.storage) (S.fills (D.view disks.new) self.new.storage) (stage_behind result self.new.stage) self.new.in_flight (asked_next s r (Tree line.now)) (asked_of (Tree line.now) s) result }
         ensures stays { Stays self.old.single self.new.single (S.asked self.old.storage) (S.asked self.new.storage) (D.view disks.old) (D.view disks.new) }
         ensures refused { (refusal : Refusal) → result ≡ Ok (Some (Refused refusal)) → disks.new ≡ disks.old }
         ensures counts { CountsStops (D.view disks.old) (D.view disks.new) (disk_err result) (armed_by result) 0 }
     {
-        let mut scheduler = scheduler;
         self.storage.stands(disks);
-        let refusal = ask(&mut scheduler, line, disks.can_stop())?;
+        let Stage::Going(scheduler) = &mut self.stage else {
+            unreachable!()
+        };
+        let refusal = ask(scheduler, line, disks.can_stop())?;
         match refusal {
-            Some(refusal) => Ok(Some(self.refuse_line(scheduler, line, refusal))),
-            None => self.begin_line(disks, place, scheduler, line),
+            Some(refusal) => Ok(Some(scheduler.refuse(line, refusal))),
+            None => self.begin_line(disks, place, line),
         }
     }
 }

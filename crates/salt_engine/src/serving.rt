@@ -4,9 +4,8 @@ ghost use Rattle.salt_books.specs.Coming.{event_meant};
 ghost use Rattle.salt_books.specs.declared.coming.Coming.TheVariants as coming;
 ghost use Rattle.salt_books.specs.declared.coming.Coming.TheVariants.{Nothing};
 ghost use Rattle.salt_disk.specs.Disks.{HasCause};
-ghost use Rattle.salt_engine.specs.Performing.{ComesOut, GoesOnServing, IsToServe, Stays, Turns, TurnsTo};
-ghost use Rattle.salt_engine.specs.Standing.{StandsAtEventIn};
-ghost use Rattle.salt_engine.specs.declared.stage.Stage.TheVariants.{Lost};
+ghost use Rattle.salt_engine.specs.Performing.{ComesOut, GoesOnServingIn, IsToServeIn, Stays, TurnsIn, TurnsTo, stage_behind};
+ghost use Rattle.salt_engine.specs.Standing.{StandsAtEventIn, follow_in};
 ghost use Rattle.law_states.specs.Nexts.{turned_next};
 ghost use Rattle.law_states.specs.Readings.{Reading};
 ghost use Rattle.law_states.specs.States.{State, turned_to};
@@ -46,36 +45,31 @@ impl<S: Storage> Engine<S> {
         &mut self,
         disks: &mut D,
         place: &Placement<F>,
-        scheduler: Scheduler,
         asking: Asking,
     ) -> Result<Option<Event>, Halt>
         requires callable { TakesEachKey (F.pre place.now.place) }
         requires answers { GivesPlaceOf (F.post place.now.place) }
-        requires lost { self.old.stage ≡ Lost }
         requires none { self.old.in_flight ≡ None }
-        requires ready { (s : State) × IsToServe (S.holds (D.view disks.old) self.old.storage) (S.is_new (D.view disks.old) self.old.storage) scheduler (coming.Act asking) s }
-        ensures comes { (s : State) → IsToServe (S.holds (D.view disks.old) self.old.storage) (S.is_new (D.view disks.old) self.old.storage) scheduler (coming.Act asking) s
-            → ComesOut (λ e. e) (StandsAtEventIn (S.holds (D.view disks.new) self.new.storage) (S.is_new (D.view disks.new) self.new.storage) self.new.stage) (S.leaves (D.view disks.new) self.new.storage) (S.fills (D.view disks.new) self.new.storage) self.new.stage self.new.in_flight (event_meant s.units (coming.Act asking)) s result }
+        requires ready { (s : State) × IsToServeIn (S.holds (D.view disks.old) self.old.storage) (S.is_new (D.view disks.old) self.old.storage) self.old.stage (coming.Act asking) s }
+        ensures comes { (s : State) → IsToServeIn (S.holds (D.view disks.old) self.old.storage) (S.is_new (D.view disks.old) self.old.storage) self.old.stage (coming.Act asking) s
+            → ComesOut (λ e. e) (StandsAtEventIn (S.holds (D.view disks.new) self.new.storage) (S.is_new (D.view disks.new) self.new.storage) self.new.stage) (S.leaves (D.view disks.new) self.new.storage) (S.fills (D.view disks.new) self.new.storage) (stage_behind result self.new.stage) self.new.in_flight (event_meant s.units (coming.Act asking)) s result }
         ensures stays { Stays self.old.single self.new.single (S.asked self.old.storage) (S.asked self.new.storage) (D.view disks.old) (D.view disks.new) }
         ensures cause { HasCause (D.view disks.old) (D.view disks.new) (disk_err result) }
     {
-        let mut scheduler = scheduler;
-        match load(
+        let Stage::Going(scheduler) = &mut self.stage else {
+            unreachable!()
+        };
+        let rows = load(
             self.alloc,
             &mut self.storage,
             disks,
             place,
             scheduler.books(),
             &asking,
-        ) {
-            Ok(rows) => {
-                self.storage.stands(disks);
-                let event = scheduler.done(asking, &rows)?;
-                self.stage = Stage::Going(scheduler);
-                Ok(Some(event))
-            }
-            Err(halt) => Err(self.stage.break_off(scheduler.into_books(), halt)),
-        }
+        )?;
+        self.storage.stands(disks);
+        let event = scheduler.done(asking, &rows)?;
+        Ok(Some(event))
     }
 
     /// A unit commits.
@@ -83,37 +77,32 @@ impl<S: Storage> Engine<S> {
         &mut self,
         disks: &mut D,
         place: &Placement<F>,
-        scheduler: Scheduler,
         unit: Id,
     ) -> Result<Option<Event>, Halt>
         requires callable { TakesEachKey (F.pre place.now.place) }
         requires answers { GivesPlaceOf (F.post place.now.place) }
-        requires lost { self.old.stage ≡ Lost }
         requires none { self.old.in_flight ≡ None }
-        requires ready { (s : State) × IsToServe (S.holds (D.view disks.old) self.old.storage) (S.is_new (D.view disks.old) self.old.storage) scheduler (coming.Commit unit) s }
-        ensures comes { (s : State) → IsToServe (S.holds (D.view disks.old) self.old.storage) (S.is_new (D.view disks.old) self.old.storage) scheduler (coming.Commit unit) s
-            → ComesOut (λ e. e) (StandsAtEventIn (S.holds (D.view disks.new) self.new.storage) (S.is_new (D.view disks.new) self.new.storage) self.new.stage) (S.leaves (D.view disks.new) self.new.storage) (S.fills (D.view disks.new) self.new.storage) self.new.stage self.new.in_flight (event_meant s.units (coming.Commit unit)) s result }
+        requires ready { (s : State) × IsToServeIn (S.holds (D.view disks.old) self.old.storage) (S.is_new (D.view disks.old) self.old.storage) self.old.stage (coming.Commit unit) s }
+        ensures comes { (s : State) → IsToServeIn (S.holds (D.view disks.old) self.old.storage) (S.is_new (D.view disks.old) self.old.storage) self.old.stage (coming.Commit unit) s
+            → ComesOut (λ e. e) (StandsAtEventIn (S.holds (D.view disks.new) self.new.storage) (S.is_new (D.view disks.new) self.new.storage) self.new.stage) (S.leaves (D.view disks.new) self.new.storage) (S.fills (D.view disks.new) self.new.storage) (stage_behind result self.new.stage) self.new.in_flight (event_meant s.units (coming.Commit unit)) s result }
         ensures stays { Stays self.old.single self.new.single (S.asked self.old.storage) (S.asked self.new.storage) (D.view disks.old) (D.view disks.new) }
         ensures cause { HasCause (D.view disks.old) (D.view disks.new) (disk_err result) }
     {
-        let mut scheduler = scheduler;
         self.in_flight = Some(InFlight::Commit(unit));
-        match commit(
+        let Stage::Going(scheduler) = &mut self.stage else {
+            unreachable!()
+        };
+        let made = commit(
             self.alloc,
             &mut self.storage,
             disks,
             place,
             scheduler.books(),
             unit,
-        ) {
-            Ok(made) => {
-                self.storage.stands(disks);
-                let event = scheduler.committed(unit, made)?;
-                self.stage = Stage::Going(scheduler);
-                Ok(Some(event))
-            }
-            Err(halt) => Err(self.stage.break_off(scheduler.into_books(), halt)),
-        }
+        )?;
+        self.storage.stands(disks);
+        let event = scheduler.committed(unit, made)?;
+        Ok(Some(event))
     }
 
     /// A program goes on behind the failure of its part.
@@ -121,39 +110,34 @@ impl<S: Storage> Engine<S> {
         &mut self,
         disks: &mut D,
         place: &Placement<F>,
-        scheduler: Scheduler,
         unit: Id,
         base: Id,
         cause: Cause,
     ) -> Result<Option<Event>, Halt>
         requires callable { TakesEachKey (F.pre place.now.place) }
         requires answers { GivesPlaceOf (F.post place.now.place) }
-        requires lost { self.old.stage ≡ Lost }
         requires none { self.old.in_flight ≡ None }
-        requires ready { (s : State) × IsToServe (S.holds (D.view disks.old) self.old.storage) (S.is_new (D.view disks.old) self.old.storage) scheduler (coming.Branch unit base cause) s }
-        ensures comes { (s : State) → IsToServe (S.holds (D.view disks.old) self.old.storage) (S.is_new (D.view disks.old) self.old.storage) scheduler (coming.Branch unit base cause) s
-            → ComesOut (λ e. e) (StandsAtEventIn (S.holds (D.view disks.new) self.new.storage) (S.is_new (D.view disks.new) self.new.storage) self.new.stage) (S.leaves (D.view disks.new) self.new.storage) (S.fills (D.view disks.new) self.new.storage) self.new.stage self.new.in_flight (event_meant s.units (coming.Branch unit base cause)) s result }
+        requires ready { (s : State) × IsToServeIn (S.holds (D.view disks.old) self.old.storage) (S.is_new (D.view disks.old) self.old.storage) self.old.stage (coming.Branch unit base cause) s }
+        ensures comes { (s : State) → IsToServeIn (S.holds (D.view disks.old) self.old.storage) (S.is_new (D.view disks.old) self.old.storage) self.old.stage (coming.Branch unit base cause) s
+            → ComesOut (λ e. e) (StandsAtEventIn (S.holds (D.view disks.new) self.new.storage) (S.is_new (D.view disks.new) self.new.storage) self.new.stage) (S.leaves (D.view disks.new) self.new.storage) (S.fills (D.view disks.new) self.new.storage) (stage_behind result self.new.stage) self.new.in_flight (event_meant s.units (coming.Branch unit base cause)) s result }
         ensures stays { Stays self.old.single self.new.single (S.asked self.old.storage) (S.asked self.new.storage) (D.view disks.old) (D.view disks.new) }
         ensures cause { HasCause (D.view disks.old) (D.view disks.new) (disk_err result) }
     {
-        let mut scheduler = scheduler;
         self.in_flight = Some(InFlight::Branch { unit, base, cause });
-        match branch(
+        let Stage::Going(scheduler) = &mut self.stage else {
+            unreachable!()
+        };
+        let made = branch(
             self.alloc,
             &mut self.storage,
             disks,
             place,
             scheduler.books(),
             unit,
-        ) {
-            Ok(made) => {
-                self.storage.stands(disks);
-                let event = scheduler.branched(unit, base, cause, made)?;
-                self.stage = Stage::Going(scheduler);
-                Ok(Some(event))
-            }
-            Err(halt) => Err(self.stage.break_off(scheduler.into_books(), halt)),
-        }
+        )?;
+        self.storage.stands(disks);
+        let event = scheduler.branched(unit, base, cause, made)?;
+        Ok(Some(event))
     }
 
     /// What is to come in a line, behind its preparations.
@@ -161,36 +145,24 @@ impl<S: Storage> Engine<S> {
         &mut self,
         disks: &mut D,
         place: &Placement<F>,
-        scheduler: Scheduler,
         coming: Coming,
     ) -> Result<Option<Event>, Halt>
         requires callable { TakesEachKey (F.pre place.now.place) }
         requires answers { GivesPlaceOf (F.post place.now.place) }
-        requires lost { self.old.stage ≡ Lost }
         requires none { self.old.in_flight ≡ None }
-        requires ready { (s : State) × IsToServe (S.holds (D.view disks.old) self.old.storage) (S.is_new (D.view disks.old) self.old.storage) scheduler coming s }
-        ensures comes { (s : State) → IsToServe (S.holds (D.view disks.old) self.old.storage) (S.is_new (D.view disks.old) self.old.storage) scheduler coming s
-            → ComesOut (λ e. e) (StandsAtEventIn (S.holds (D.view disks.new) self.new.storage) (S.is_new (D.view disks.new) self.new.storage) self.new.stage) (S.leaves (D.view disks.new) self.new.storage) (S.fills (D.view disks.new) self.new.storage) self.new.stage self.new.in_flight (event_meant s.units coming) s result }
+        requires ready { (s : State) × IsToServeIn (S.holds (D.view disks.old) self.old.storage) (S.is_new (D.view disks.old) self.old.storage) self.old.stage coming s }
+        ensures comes { (s : State) → IsToServeIn (S.holds (D.view disks.old) self.old.storage) (S.is_new (D.view disks.old) self.old.storage) self.old.stage coming s
+            → ComesOut (λ e. e) (StandsAtEventIn (S.holds (D.view disks.new) self.new.storage) (S.is_new (D.view disks.new) self.new.storage) self.new.stage) (S.leaves (D.view disks.new) self.new.storage) (S.fills (D.view disks.new) self.new.storage) (stage_behind result self.new.stage) self.new.in_flight (event_meant s.units coming) s result }
         ensures stays { Stays self.old.single self.new.single (S.asked self.old.storage) (S.asked self.new.storage) (D.view disks.old) (D.view disks.new) }
         ensures cause { HasCause (D.view disks.old) (D.view disks.new) (disk_err result) }
         ensures still { coming ≡ Nothing → disks.new ≡ disks.old }
     {
         match coming {
-            Coming::Nothing => {
-                self.stage = Stage::Going(scheduler);
-                Ok(None)
-            }
-            Coming::Told(event) => {
-                self.stage = Stage::Going(scheduler);
-                Ok(Some(event))
-            }
-            Coming::Act(asking) => self.act(disks, place, scheduler, asking),
-            Coming::Commit(unit) => self.commit(disks, place, scheduler, unit),
-            Coming::Branch { unit, base, cause } => {
-                self.branch(disks, place, scheduler, unit, base, cause)
-            }
-            Coming::Define(_text) => unreachable!(),
-            Coming::Arm(_pairs) => unreachable!(),
+            Coming::Nothing => Ok(None),
+            Coming::Told(event) => Ok(Some(event)),
+            Coming::Act(asking) => self.act(disks, place, asking),
+            Coming::Commit(unit) => self.commit(disks, place, unit),
+            Coming::Branch { unit, base, cause } => self.branch(disks, place, unit, base, cause),
         }
     }
 
@@ -199,26 +171,26 @@ impl<S: Storage> Engine<S> {
         &mut self,
         disks: &mut D,
         place: &Placement<F>,
-        scheduler: Scheduler,
         line: &Line,
     ) -> Result<Option<Event>, Halt>
         requires callable { TakesEachKey (F.pre place.now.place) }
         requires answers { GivesPlaceOf (F.post place.now.place) }
-        requires lost { self.old.stage ≡ Lost }
         requires none { self.old.in_flight ≡ None }
-        requires ready { (s : State) × GoesOnServing (S.holds (D.view disks.old) self.old.storage) (S.is_new (D.view disks.old) self.old.storage) line.now scheduler s }
-        ensures comes { (s : State) (r : Reading s.watch) → GoesOnServing (S.holds (D.view disks.old) self.old.storage) (S.is_new (D.view disks.old) self.old.storage) line.now scheduler s
-            → ComesOut (λ e. e) (StandsAtEventIn (S.holds (D.view disks.new) self.new.storage) (S.is_new (D.view disks.new) self.new.storage) self.new.stage) (S.leaves (D.view disks.new) self.new.storage) (S.fills (D.view disks.new) self.new.storage) self.new.stage self.new.in_flight (behind_in s r scheduler.follow) s result }
+        requires ready { (s : State) × GoesOnServingIn (S.holds (D.view disks.old) self.old.storage) (S.is_new (D.view disks.old) self.old.storage) line.now self.old.stage s }
+        ensures comes { (s : State) (r : Reading s.watch) → GoesOnServingIn (S.holds (D.view disks.old) self.old.storage) (S.is_new (D.view disks.old) self.old.storage) line.now self.old.stage s
+            → ComesOut (λ e. e) (StandsAtEventIn (S.holds (D.view disks.new) self.new.storage) (S.is_new (D.view disks.new) self.new.storage) self.new.stage) (S.leaves (D.view disks.new) self.new.storage) (S.fills (D.view disks.new) self.new.storage) (stage_behind result self.new.stage) self.new.in_flight (behind_in s r (follow_in self.old.stage)) s result }
         ensures stays { Stays self.old.single self.new.single (S.asked self.old.storage) (S.asked self.new.storage) (D.view disks.old) (D.view disks.new) }
         ensures cause { HasCause (D.view disks.old) (D.view disks.new) (disk_err result) }
         ensures unarmed { IfOk result (λ next. armed_at next ≡ []) }
-        ensures still { (s : State) (r : Reading s.watch) → GoesOnServing (S.holds (D.view disks.old) self.old.storage) (S.is_new (D.view disks.old) self.old.storage) line.now scheduler s
-            → behind_in s r scheduler.follow ≡ None → disks.new ≡ disks.old }
+        ensures still { (s : State) (r : Reading s.watch) → GoesOnServingIn (S.holds (D.view disks.old) self.old.storage) (S.is_new (D.view disks.old) self.old.storage) line.now self.old.stage s
+            → behind_in s r (follow_in self.old.stage) ≡ None → disks.new ≡ disks.old }
     {
-        let mut scheduler = scheduler;
         self.storage.stands(disks);
+        let Stage::Going(scheduler) = &mut self.stage else {
+            unreachable!()
+        };
         let coming = scheduler.go_on(line)?;
-        self.perform(disks, place, scheduler, coming)
+        self.perform(disks, place, coming)
     }
 
     /// A program has its turn, and what that brings is performed.
@@ -226,24 +198,24 @@ impl<S: Storage> Engine<S> {
         &mut self,
         disks: &mut D,
         place: &Placement<F>,
-        scheduler: Scheduler,
         line: &Line,
         base: Id,
     ) -> Result<Option<Event>, Halt>
         requires callable { TakesEachKey (F.pre place.now.place) }
         requires answers { GivesPlaceOf (F.post place.now.place) }
-        requires lost { self.old.stage ≡ Lost }
         requires none { self.old.in_flight ≡ None }
-        requires ready { (s : State) × Turns (S.holds (D.view disks.old) self.old.storage) (S.is_new (D.view disks.old) self.old.storage) line.now base scheduler s }
-        ensures comes { (s : State) (r : Reading s.watch) → Turns (S.holds (D.view disks.old) self.old.storage) (S.is_new (D.view disks.old) self.old.storage) line.now base scheduler s
-            → ComesOut (λ e. e) (StandsAtEventIn (S.holds (D.view disks.new) self.new.storage) (S.is_new (D.view disks.new) self.new.storage) self.new.stage) (S.leaves (D.view disks.new) self.new.storage) (S.fills (D.view disks.new) self.new.storage) self.new.stage self.new.in_flight (turned_next s r base) (turned_to base s) result }
+        requires ready { (s : State) × TurnsIn (S.holds (D.view disks.old) self.old.storage) (S.is_new (D.view disks.old) self.old.storage) line.now base self.old.stage s }
+        ensures comes { (s : State) (r : Reading s.watch) → TurnsIn (S.holds (D.view disks.old) self.old.storage) (S.is_new (D.view disks.old) self.old.storage) line.now base self.old.stage s
+            → ComesOut (λ e. e) (StandsAtEventIn (S.holds (D.view disks.new) self.new.storage) (S.is_new (D.view disks.new) self.new.storage) self.new.stage) (S.leaves (D.view disks.new) self.new.storage) (S.fills (D.view disks.new) self.new.storage) (stage_behind result self.new.stage) self.new.in_flight (turned_next s r base) (turned_to base s) result }
         ensures stays { Stays self.old.single self.new.single (S.asked self.old.storage) (S.asked self.new.storage) (D.view disks.old) (D.view disks.new) }
         ensures cause { HasCause (D.view disks.old) (D.view disks.new) (disk_err result) }
         ensures unarmed { IfOk result (λ next. armed_at next ≡ []) }
     {
-        let mut scheduler = scheduler;
         self.storage.stands(disks);
-        let coming = turn_to(&mut scheduler, line, base)?;
-        self.perform(disks, place, scheduler, coming)
+        let Stage::Going(scheduler) = &mut self.stage else {
+            unreachable!()
+        };
+        let coming = turn_to(scheduler, line, base)?;
+        self.perform(disks, place, coming)
     }
 }

@@ -1,6 +1,6 @@
 //! What a half in memory is doing: that of an engine, or that of an opening.
 
-ghost use Rattle.salt_engine.specs.Performing.{WasBroken};
+ghost use Rattle.salt_engine.specs.Performing.{WasBroken, broken_by};
 ghost use Rattle.salt_engine.specs.Standing.{IsBrokenStage, IsGoingStage, serving_books};
 ghost use Rattle.salt_engine.specs.declared.stage.Stage.TheVariants.{Down, Going, Lost};
 ghost use Rattle.std.specs.Prelude.{◌≡◌};
@@ -8,6 +8,7 @@ ghost use Rattle.std.specs.Prelude.{◌≡◌};
 use salt_books::Books;
 use salt_scheduler::Scheduler;
 use salt_storage::Halt;
+use std::mem;
 
 /// What a half in memory is doing: the scheduler of an engine, or the recovery of an opening.
 pub enum Stage<H> {
@@ -77,6 +78,17 @@ impl Stage<Scheduler> {
             Stage::Going(scheduler) => Some(scheduler.into_books()),
             Stage::Down(books) => Some(books),
             Stage::Lost => None,
+        }
+    }
+
+    /// A move was broken off by this halt: unless memory ran out, the books stay.
+    pub(crate) fn break_by(&mut self, halt: Halt) -> Halt
+        ensures halt { result ≡ halt }
+        ensures broken { self.new ≡ broken_by halt self.old }
+    {
+        match mem::replace(self, Stage::Lost).into_books() {
+            Some(books) => self.break_off(books, halt),
+            None => halt,
         }
     }
 }

@@ -15,6 +15,7 @@ ghost use Rattle.salt_place.specs.Placement.{GivesPlaceOf, TakesEachKey};
 ghost use Rattle.std.specs.Prelude.{IfErr, None, OnOk, [], ◌++◌, ◌∷◌, ◌≡◌};
 
 use crate::engine::Engine;
+use crate::lines::reject;
 use crate::stage::Stage;
 use law_decisions::read_lines_are_spelled;
 use salt_ast::Line;
@@ -25,7 +26,6 @@ use salt_place::{PlaceKind, Placement};
 use salt_scheduler::is_statement_line;
 use salt_storage::{Halt, Storage};
 use salt_values::{Id, Key};
-use std::mem;
 
 impl<S: Storage + Drop> Stepping for Engine<S> {
     ghost use Rattle.salt_engine.specs.Engines.{engine_left, engine_lies, engine_sees};
@@ -56,9 +56,11 @@ impl<S: Storage + Drop> Stepping for Engine<S> {
     ) -> Result<Option<Event>, Halt> {
         read_lines_are_spelled();
         self.storage.stands(disks);
-        let scheduler = mem::replace(&mut self.stage, Stage::Lost).going();
         self.single = is_statement_line(line);
-        self.ask_line(disks, place, scheduler, line)
+        match self.ask_line(disks, place, line) {
+            Ok(next) => Ok(next),
+            Err(halt) => Err(self.stage.break_by(halt)),
+        }
     }
 
     fn ask_rejected<D: Disks>(
@@ -66,10 +68,15 @@ impl<S: Storage + Drop> Stepping for Engine<S> {
         disks: &mut D,
         refusal: Refusal,
     ) -> Result<Option<Event>, Halt> {
-        let scheduler = mem::replace(&mut self.stage, Stage::Lost).going();
         self.single = false;
         self.storage.stands(disks);
-        Ok(Some(self.reject_line(scheduler, refusal)?))
+        let Stage::Going(scheduler) = &mut self.stage else {
+            unreachable!()
+        };
+        match reject(scheduler, refusal) {
+            Ok(event) => Ok(Some(event)),
+            Err(_) => Err(self.stage.break_by(Halt::Memory)),
+        }
     }
 
     fn next_turn<D: Disks>(&self, _disks: &D) -> Option<Id> {
@@ -87,8 +94,10 @@ impl<S: Storage + Drop> Stepping for Engine<S> {
         base: Id,
     ) -> Result<Option<Event>, Halt> {
         self.storage.stands(disks);
-        let scheduler = mem::replace(&mut self.stage, Stage::Lost).going();
-        self.turn_in_line(disks, place, scheduler, line, base)
+        match self.turn_in_line(disks, place, line, base) {
+            Ok(next) => Ok(next),
+            Err(halt) => Err(self.stage.break_by(halt)),
+        }
     }
 
     fn say<D: Disks, F: Fn(PlaceKind, &Key, u32) -> u32>(
@@ -100,10 +109,16 @@ impl<S: Storage + Drop> Stepping for Engine<S> {
         story: &mut Story,
     ) -> Result<Option<Event>, Halt> {
         self.storage.stands(disks);
-        let scheduler = mem::replace(&mut self.stage, Stage::Lost).going();
-        story.push(event)?;
-        self.in_flight = None;
-        self.go_on_in_line(disks, place, scheduler, line)
+        match story.push(event) {
+            Ok(()) => {
+                self.in_flight = None;
+                match self.go_on_in_line(disks, place, line) {
+                    Ok(next) => Ok(next),
+                    Err(halt) => Err(self.stage.break_by(halt)),
+                }
+            }
+            Err(_) => Err(self.stage.break_by(Halt::Memory)),
+        }
     }
 
     fn stands<D: Disks>(&self, disks: &D) {

@@ -1,4 +1,4 @@
-use Rattle.salt_database.proofs.OpeningActs.{comes-some, comes-unarmed, comes-undefined, commit-step, on-err, to-open-as, told-performs, told-step}
+use Rattle.salt_database.proofs.OpeningActs.{comes-some, commit-step, on-err, to-open-as, told-performs, told-step}
 use Rattle.salt_database.proofs.opening.Opening.perform_in_opening.Goals as goal
 use Rattle.salt_database.specs.Performing.{IsToOpen}
 use Rattle.salt_engine.proofs.Counted.{same-cause}
@@ -135,9 +135,3 @@ returns-in-Branch-clause-short g c = on-err c.branch_in_opening.result (λ s h. 
 
 pub unreachable-requires : goal.unreachable-requires
 unreachable-requires g c = comes-some _ _ c.args.recovery c.args.coming c.requires.ready.0 c.requires.ready.1 c.in-Nothing.is
-
-pub unreachable-requires-in-Define : goal.unreachable-requires-in-Define
-unreachable-requires-in-Define g c = comes-undefined _ _ c.args.recovery c.args.coming c.in-Define._text c.requires.ready.0 c.requires.ready.1 c.in-Define.is
-
-pub unreachable-requires-in-Arm : goal.unreachable-requires-in-Arm
-unreachable-requires-in-Arm g c = comes-unarmed _ _ c.args.recovery c.args.coming c.in-Arm._pairs c.requires.ready.0 c.requires.ready.1 c.in-Arm.is

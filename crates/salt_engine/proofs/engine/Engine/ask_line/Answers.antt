@@ -1,14 +1,18 @@
 use Rattle.salt_engine.proofs.Counted.{cause-lost, counts-broken, same-cause}
+use Rattle.salt_engine.proofs.InStage.{behind-lost, never-else, stands-there}
 use Rattle.salt_engine.proofs.LineAsked.{asks-line, begun-unrefused, counts-same, err-unrefused, few-of, refused-performs, refused-unarmed, unrefused}
 use Rattle.salt_engine.proofs.Outcome.{comes-lost, comes-same, stays-same}
 use Rattle.salt_engine.proofs.engine.Engine.ask_line.Goals as goal
 use Rattle.law_states.specs.States.{asked_of}
 use Rattle.salt_model.specs.Trace.{Tree}
 use Rattle.salt_scheduler.proofs.SoundFacts.{reads}
-use Rattle.std.proofs.Common.{inl, sym, ◌∙◌}
+use Rattle.std.proofs.Common.{inl, refl, sym, ◌∙◌}
+
+pub unreachable-requires : goal.unreachable-requires
+unreachable-requires g c = never-else _ c.args.self.now.stage c.in_default.not-Going c.requires.ready.1
 
 pub ask-requires : goal.ask-requires
-ask-requires g c = few-of c.args.line.now c.requires.ready.1.served
+ask-requires g c = few-of c.args.line.now (stands-there _ _ c.in-Going.scheduler c.in-Going.is c.requires.ready.1).served
 
 pub begin_line-requires-clause-callable : goal.begin_line-requires-clause-callable
 begin_line-requires-clause-callable g c = c.requires.callable
@@ -16,34 +20,37 @@ begin_line-requires-clause-callable g c = c.requires.callable
 pub begin_line-requires-clause-answers : goal.begin_line-requires-clause-answers
 begin_line-requires-clause-answers g c = c.requires.answers
 
-pub begin_line-requires-clause-lost : goal.begin_line-requires-clause-lost
-begin_line-requires-clause-lost g c = c.requires.lost
-
 pub begin_line-requires-clause-none : goal.begin_line-requires-clause-none
 begin_line-requires-clause-none g c = c.requires.none
 
 pub begin_line-requires-clause-ready : goal.begin_line-requires-clause-ready
 begin_line-requires-clause-ready g c =
     let s = c.requires.ready.0 in
-    let h = c.requires.ready.1 in (
+    let h = stands-there _ _ c.in-Going.scheduler c.in-Going.is c.requires.ready.1 in (
       asked_of (Tree c.args.line.now) s,
       asks-line _ _ _ c.args.line.now _ s h _ (sym (c.in_ok-refusal.ensures s h.stands (h.can_stop ∙ sym c.can_stop.ensures) h.plain.over_net h.distinct).0 ∙ c.in-None.is) (c.in_ok-refusal.ensures s h.stands (h.can_stop ∙ sym c.can_stop.ensures) h.plain.over_net h.distinct).1,
     )
 
 pub returns-in-Some-clause-comes : goal.returns-in-Some-clause-comes
-returns-in-Some-clause-comes g c = rw c.refuse_line.ensures.storage (λ s r h.
-    refused-performs _ _ _ c.args.line.now _ s h c.in-Some.refusal (sym (c.in_ok-refusal.ensures s h.stands (h.can_stop ∙ sym c.can_stop.ensures) h.plain.over_net h.distinct).0 ∙ c.in-Some.is) _ _ _ _ c.refuse_line.ensures.stage
-    (c.in_ok-refusal.ensures s h.stands (h.can_stop ∙ sym c.can_stop.ensures) h.plain.over_net h.distinct).1 (c.refuse_line.ensures.flies ∙ c.requires.none) r)
+returns-in-Some-clause-comes g c = λ s r k.
+    let h = stands-there _ _ c.in-Going.scheduler c.in-Going.is k in
+    let asks = c.in_ok-refusal.ensures s h.stands (h.can_stop ∙ sym c.can_stop.ensures) h.plain.over_net h.distinct in
+    refused-performs _ _ _ c.args.line.now _ s h c.in-Some.refusal (sym asks.0 ∙ c.in-Some.is) _ _ _ _ c.refuse.new.self refl c.refuse.ensures asks.1 c.requires.none r
+
+pub returns-in-Some-clause-stays : goal.returns-in-Some-clause-stays
+returns-in-Some-clause-stays g c = stays-same _ _ _
 
 pub returns-in-Some-clause-counts : goal.returns-in-Some-clause-counts
 returns-in-Some-clause-counts g c =
     let s = c.requires.ready.0 in
-    let h = c.requires.ready.1 in
-    counts-same _ _ (refused-unarmed _ _ _ c.args.line.now _ s h c.in-Some.refusal (sym (c.in_ok-refusal.ensures s h.stands (h.can_stop ∙ sym c.can_stop.ensures) h.plain.over_net h.distinct).0 ∙ c.in-Some.is) _ _ _ c.refuse_line.ensures.stage
-    (c.in_ok-refusal.ensures s h.stands (h.can_stop ∙ sym c.can_stop.ensures) h.plain.over_net h.distinct).1 (reads (asked_of (Tree c.args.line.now) s) h.serves.sound))
+    let h = stands-there _ _ c.in-Going.scheduler c.in-Going.is c.requires.ready.1 in
+    let asks = c.in_ok-refusal.ensures s h.stands (h.can_stop ∙ sym c.can_stop.ensures) h.plain.over_net h.distinct in
+    counts-same _ _
+    (refused-unarmed _ _ _ c.args.line.now _ s h c.in-Some.refusal (sym asks.0 ∙ c.in-Some.is) _ _ c.refuse.new.self c.refuse.ensures asks.1 (reads (asked_of (Tree c.args.line.now) s) h.serves.sound))
 
 pub returns-in-None-clause-comes : goal.returns-in-None-clause-comes
-returns-in-None-clause-comes g c = λ s r h.
+returns-in-None-clause-comes g c = λ s r k.
+    let h = stands-there _ _ c.in-Going.scheduler c.in-Going.is k in
     let none = sym (c.in_ok-refusal.ensures s h.stands (h.can_stop ∙ sym c.can_stop.ensures) h.plain.over_net h.distinct).0 ∙ c.in-None.is in
     comes-same _ _ _ _ _ _ _ _ (asked_of (Tree c.args.line.now) s) c.begin_line.result (sym (unrefused _ _ _ c.args.line.now _ s h none r))
     (c.begin_line.ensures.comes (asked_of (Tree c.args.line.now) s) r (asks-line _ _ _ c.args.line.now _ s h _ none (c.in_ok-refusal.ensures s h.stands (h.can_stop ∙ sym c.can_stop.ensures) h.plain.over_net h.distinct).1))
@@ -55,8 +62,10 @@ pub returns-in-None-clause-counts : goal.returns-in-None-clause-counts
 returns-in-None-clause-counts g c = c.begin_line.ensures.counts
 
 pub returns-in_err-refusal-clause-comes : goal.returns-in_err-refusal-clause-comes
-returns-in_err-refusal-clause-comes g c = λ s r h.
-    comes-lost _ _ _ _ _ _ _ (asked_of (Tree c.args.line.now) s) c.from_residual.result c.from_residual.ensures.1 (c.stands.ensures.stays s.units.kept h.stored.holding) (record { there = c.requires.lost; flies = inl c.requires.none })
+returns-in_err-refusal-clause-comes g c = λ s r k.
+    let h = stands-there _ _ c.in-Going.scheduler c.in-Going.is k in
+    comes-lost _ _ _ _ _ _ _ (asked_of (Tree c.args.line.now) s) c.from_residual.result c.from_residual.ensures.1 (c.stands.ensures.stays s.units.kept h.stored.holding)
+    (record { there = behind-lost c.from_residual.result _ c.from_residual.ensures.1; flies = inl c.requires.none })
 
 pub returns-in_err-refusal-clause-stays : goal.returns-in_err-refusal-clause-stays
 returns-in_err-refusal-clause-stays g c = stays-same _ _ _
@@ -67,7 +76,7 @@ returns-in_err-refusal-clause-counts g c = counts-broken _ _ c.from_residual.res
 pub returns-in-None-clause-refused : goal.returns-in-None-clause-refused
 returns-in-None-clause-refused g c = λ refusal is.
     let s = c.requires.ready.0 in
-    let h = c.requires.ready.1 in
+    let h = stands-there _ _ c.in-Going.scheduler c.in-Going.is c.requires.ready.1 in
     let t = asked_of (Tree c.args.line.now) s in
     let asks = c.in_ok-refusal.ensures s h.stands (h.can_stop ∙ sym c.can_stop.ensures) h.plain.over_net h.distinct in
     let r = reads t h.serves.sound in

@@ -1,79 +1,83 @@
-use Rattle.salt_engine.proofs.Broken.{broken-as}
-use Rattle.salt_engine.proofs.Counted.{cause-broken, cause-lost, cause-told}
+use Rattle.salt_engine.proofs.Counted.{cause-broken, cause-lost}
+use Rattle.salt_engine.proofs.InStage.{behind-broken, behind-lost, never-else, stands-there}
 use Rattle.salt_engine.proofs.Outcome.{comes-broken}
 use Rattle.salt_engine.proofs.ServingActs.{branch-before, branch-breaks, branch-done, branch-lost, branch-stands, branch-stored, branch-there, branch-unit, sound-state}
 use Rattle.salt_engine.proofs.engine.Engine.branch.Goals as goal
 use Rattle.std.specs.Prelude.{refl}
 
-pub branch-made-requires-clause-callable : goal.branch-made-requires-clause-callable
-branch-made-requires-clause-callable g c = c.requires.callable
+pub unreachable-requires : goal.unreachable-requires
+unreachable-requires g c = never-else _ c.args.self.now.stage c.in_default.not-Going c.requires.ready.1
 
-pub branch-made-requires-clause-answers : goal.branch-made-requires-clause-answers
-branch-made-requires-clause-answers g c = c.requires.answers
+pub branch-self-requires-clause-callable : goal.branch-self-requires-clause-callable
+branch-self-requires-clause-callable g c = c.requires.callable
 
-pub branch-made-requires-clause-ready : goal.branch-made-requires-clause-ready
-branch-made-requires-clause-ready g c =
+pub branch-self-requires-clause-answers : goal.branch-self-requires-clause-answers
+branch-self-requires-clause-answers g c = c.requires.answers
+
+pub branch-self-requires-clause-ready : goal.branch-self-requires-clause-ready
+branch-self-requires-clause-ready g c =
+    let x = c.in-Going.scheduler in
+    let u = c.args.unit in
+    let b = c.args.base in
+    let cause = c.args.cause in
     let s = c.requires.ready.0 in
-    let h = c.requires.ready.1 in (
-      s.units,
-      c.args.base,
-      c.args.cause,
-      branch-before _ _ c.args.scheduler c.args.unit c.args.base c.args.cause s h c.books.result.now c.books.ensures,
-      branch-unit _ _ c.args.scheduler c.args.unit c.args.base c.args.cause s h,
-    )
+    let h = stands-there _ _ x c.in-Going.is c.requires.ready.1 in
+    (s.units, b, cause, branch-before _ _ x u b cause s h c.books.result.now c.books.ensures, branch-unit _ _ x u b cause s h)
 
 pub branched-requires : goal.branched-requires
-branched-requires g c = branch-there _ _ c.args.scheduler c.args.unit c.args.base c.args.cause c.requires.ready.0 c.requires.ready.1
+branched-requires g c =
+    branch-there _ _ c.in-Going.scheduler c.args.unit c.args.base c.args.cause c.requires.ready.0 (stands-there _ _ c.in-Going.scheduler c.in-Going.is c.requires.ready.1)
 
-pub break_off-requires : goal.break_off-requires
-break_off-requires g c = c.requires.lost
-
-pub returns-in_ok-event-in_Ok-made-clause-comes : goal.returns-in_ok-event-in_Ok-made-clause-comes
-returns-in_ok-event-in_Ok-made-clause-comes g c = λ s h.
-    let x = c.args.scheduler in
+pub returns-clause-comes : goal.returns-clause-comes
+returns-clause-comes g c = λ s k.
+    let x = c.in-Going.scheduler in
     let u = c.args.unit in
     let b = c.args.base in
     let cause = c.args.cause in
+    let h = stands-there _ _ x c.in-Going.is k in
     let later = branch-unit _ _ x u b cause s h in
-    let done = c.in_Ok-made.ensures.branched s.units b cause (branch-before _ _ x u b cause s h c.books.result.now c.books.ensures) later in
+    let done = c.in_ok-made.ensures.branched s.units b cause (branch-before _ _ x u b cause s h c.books.result.now c.books.ensures) later in
     branch-done _ _ x u b cause s h _ _ _ _ _ refl done.stored
-    (c.in_ok-event-in_Ok-made.ensures s later.unit later.part (branch-stands _ _ x u b cause s h) (sound-state _ s h.played) later.named later.kind done.moves)
+    (c.in_ok-event.ensures s later.unit later.part (branch-stands _ _ x u b cause s h) (sound-state _ s h.played) later.named later.kind done.moves)
 
-pub returns-in_err-event-in_Ok-made-clause-comes : goal.returns-in_err-event-in_Ok-made-clause-comes
-returns-in_err-event-in_Ok-made-clause-comes g c = λ s h.
-    let x = c.args.scheduler in
+pub returns-clause-stays : goal.returns-clause-stays
+returns-clause-stays g c = record { noted = refl; within = c.branch-self.ensures.within }
+
+pub returns-clause-cause : goal.returns-clause-cause
+returns-clause-cause g c = c.in_ok-made.ensures.cause
+
+pub returns-in_err-made-clause-comes : goal.returns-in_err-made-clause-comes
+returns-in_err-made-clause-comes g c = λ s k.
+    let x = c.in-Going.scheduler in
     let u = c.args.unit in
     let b = c.args.base in
     let cause = c.args.cause in
-    let done = c.in_Ok-made.ensures.branched s.units b cause (branch-before _ _ x u b cause s h c.books.result.now c.books.ensures) (branch-unit _ _ x u b cause s h) in
+    let h = stands-there _ _ x c.in-Going.is k in
     comes-broken _ _ _ _ _ _ _ s _ c.from_residual.result c.from_residual.ensures.1
-    (branch-lost _ _ x u b cause s h _ _ _ c.requires.lost
+    (branch-breaks _ _ x u b cause s h _ _ _ _ x.books refl
+    (c.in_err-made.ensures.undone s.units b cause (branch-before _ _ x u b cause s h c.books.result.now c.books.ensures) (branch-unit _ _ x u b cause s h))
+    (behind-broken c.from_residual.result _ _ x refl c.from_residual.ensures.1))
+
+pub returns-in_err-made-clause-stays : goal.returns-in_err-made-clause-stays
+returns-in_err-made-clause-stays g c = record { noted = refl; within = c.branch-self.ensures.within }
+
+pub returns-in_err-made-clause-cause : goal.returns-in_err-made-clause-cause
+returns-in_err-made-clause-cause g c = cause-broken _ _ c.from_residual.result _ c.from_residual.ensures.1 c.in_err-made.ensures.cause
+
+pub returns-in_err-event-clause-comes : goal.returns-in_err-event-clause-comes
+returns-in_err-event-clause-comes g c = λ s k.
+    let x = c.in-Going.scheduler in
+    let u = c.args.unit in
+    let b = c.args.base in
+    let cause = c.args.cause in
+    let h = stands-there _ _ x c.in-Going.is k in
+    let done = c.in_ok-made.ensures.branched s.units b cause (branch-before _ _ x u b cause s h c.books.result.now c.books.ensures) (branch-unit _ _ x u b cause s h) in
+    comes-broken _ _ _ _ _ _ _ s _ c.from_residual-in_err-event.result c.from_residual-in_err-event.ensures.1
+    (branch-lost _ _ x u b cause s h _ _ _ (behind-lost c.from_residual-in_err-event.result _ c.from_residual-in_err-event.ensures.1)
     (c.stands.ensures.stays _ (branch-stored _ _ x u b cause s h _ _ done.stored).holding))
 
-pub returns-in_err-event-in_Ok-made-clause-stays : goal.returns-in_err-event-in_Ok-made-clause-stays
-returns-in_err-event-in_Ok-made-clause-stays g c = record { noted = refl; within = c.branch-made.ensures.within }
+pub returns-in_err-event-clause-stays : goal.returns-in_err-event-clause-stays
+returns-in_err-event-clause-stays g c = record { noted = refl; within = c.branch-self.ensures.within }
 
-pub returns-in_ok-event-in_Ok-made-clause-stays : goal.returns-in_ok-event-in_Ok-made-clause-stays
-returns-in_ok-event-in_Ok-made-clause-stays g c = record { noted = refl; within = c.branch-made.ensures.within }
-
-pub returns-in_ok-event-in_Ok-made-clause-cause : goal.returns-in_ok-event-in_Ok-made-clause-cause
-returns-in_ok-event-in_Ok-made-clause-cause g c = c.in_Ok-made.ensures.cause
-
-pub returns-in_err-event-in_Ok-made-clause-cause : goal.returns-in_err-event-in_Ok-made-clause-cause
-returns-in_err-event-in_Ok-made-clause-cause g c = cause-broken _ _ c.from_residual.result _ c.from_residual.ensures.1 (cause-lost _ _ c.in_Ok-made.ensures.cause)
-
-pub returns-in_Err-made-clause-comes : goal.returns-in_Err-made-clause-comes
-returns-in_Err-made-clause-comes g c = λ s h.
-    let x = c.args.scheduler in
-    let u = c.args.unit in
-    let b = c.args.base in
-    let cause = c.args.cause in
-    broken-as _ _ _ _ _ s.units c.in_Err-made.halt c.break_off.result c.break_off.ensures.halt
-    (branch-breaks _ _ x u b cause s h _ _ _ c.in_Err-made.halt c.into_books.result c.into_books.ensures
-    (c.in_Err-made.ensures.undone s.units b cause (branch-before _ _ x u b cause s h c.books.result.now c.books.ensures) (branch-unit _ _ x u b cause s h)) c.break_off.ensures.broken)
-
-pub returns-in_Err-made-clause-stays : goal.returns-in_Err-made-clause-stays
-returns-in_Err-made-clause-stays g c = record { noted = refl; within = c.branch-made.ensures.within }
-
-pub returns-in_Err-made-clause-cause : goal.returns-in_Err-made-clause-cause
-returns-in_Err-made-clause-cause g c = cause-told _ _ c.in_Err-made.halt c.break_off.result c.break_off.ensures.halt c.in_Err-made.ensures.cause
+pub returns-in_err-event-clause-cause : goal.returns-in_err-event-clause-cause
+returns-in_err-event-clause-cause g c = cause-broken _ _ c.from_residual-in_err-event.result _ c.from_residual-in_err-event.ensures.1 (cause-lost _ _ c.in_ok-made.ensures.cause)

@@ -1,4 +1,5 @@
 use Rattle.salt_engine.proofs.Counted.{cause-lost, counts-broken, same-cause}
+use Rattle.salt_engine.proofs.InStage.{behind-lost, never-else, stands-there}
 use Rattle.salt_engine.proofs.LineAsked.{armed-none}
 use Rattle.salt_engine.proofs.LineChosen.{to-serve}
 use Rattle.salt_engine.proofs.Outcome.{comes-lost, comes-same, comes-unarmed, stays-same}
@@ -9,8 +10,14 @@ use Rattle.salt_scheduler.proofs.SoundFacts.{reads}
 use Rattle.salt_driver.proofs.Counted.{counts-cause}
 use Rattle.std.proofs.Common.{inl}
 
-pub first_of-requires : goal.first_of-requires
-first_of-requires g c = (c.requires.ready.0, c.requires.ready.1.stands, c.requires.ready.1.allowed)
+pub unreachable-requires : goal.unreachable-requires
+unreachable-requires g c = never-else _ c.args.self.now.stage c.in_default.not-Going c.requires.ready.1
+
+pub first_of-requires-clause-plain : goal.first_of-requires-clause-plain
+first_of-requires-clause-plain g c = c.requires.plain
+
+pub first_of-requires-clause-allowed : goal.first_of-requires-clause-allowed
+first_of-requires-clause-allowed g c = let h = stands-there _ _ c.in-Going.scheduler c.in-Going.is c.requires.ready.1 in (c.requires.ready.0, h.stands, h.allowed)
 
 pub perform-requires-clause-callable : goal.perform-requires-clause-callable
 perform-requires-clause-callable g c = c.requires.callable
@@ -18,16 +25,13 @@ perform-requires-clause-callable g c = c.requires.callable
 pub perform-requires-clause-answers : goal.perform-requires-clause-answers
 perform-requires-clause-answers g c = c.requires.answers
 
-pub perform-requires-clause-lost : goal.perform-requires-clause-lost
-perform-requires-clause-lost g c = c.requires.lost
-
 pub perform-requires-clause-none : goal.perform-requires-clause-none
 perform-requires-clause-none g c = c.requires.none
 
 pub perform-requires-clause-ready : goal.perform-requires-clause-ready
 perform-requires-clause-ready g c =
     let s = c.requires.ready.0 in
-    let h = c.requires.ready.1 in
+    let h = stands-there _ _ c.in-Going.scheduler c.in-Going.is c.requires.ready.1 in
     let r = reads s h.allowed.serves.sound in (
       s,
       to-serve _ _ _ _ _ s (h.played r) h.allowed.serves.phase (first-plain s.units (clash_by s) (items_by s r) c.args.line.now c.requires.plain)
@@ -35,7 +39,8 @@ perform-requires-clause-ready g c =
     )
 
 pub returns-clause-comes : goal.returns-clause-comes
-returns-clause-comes g c = λ s r h.
+returns-clause-comes g c = λ s r k.
+    let h = stands-there _ _ c.in-Going.scheduler c.in-Going.is k in
     let b = c.in_ok-coming.ensures s r h.stands h.allowed in
     comes-same _ _ _ _ _ _ _ _ s c.perform.result b.meant
     (c.perform.ensures.comes s (to-serve _ _ _ _ _ s (h.played r) h.allowed.serves.phase (first-plain s.units (clash_by s) (items_by s r) c.args.line.now c.requires.plain) b h.stored))
@@ -46,7 +51,7 @@ returns-clause-stays g c = c.perform.ensures.stays
 pub returns-clause-counts : goal.returns-clause-counts
 returns-clause-counts g c =
     let s = c.requires.ready.0 in
-    let h = c.requires.ready.1 in
+    let h = stands-there _ _ c.in-Going.scheduler c.in-Going.is c.requires.ready.1 in
     let r = reads s h.allowed.serves.sound in
     let plain = first-plain s.units (clash_by s) (items_by s r) c.args.line.now c.requires.plain in
     let b = c.in_ok-coming.ensures s r h.stands h.allowed in
@@ -56,8 +61,10 @@ returns-clause-counts g c =
     c.perform.ensures.cause
 
 pub returns-in_err-coming-clause-comes : goal.returns-in_err-coming-clause-comes
-returns-in_err-coming-clause-comes g c = λ s r h.
-    comes-lost _ _ _ _ _ _ _ s c.from_residual.result c.from_residual.ensures.1 (c.stands.ensures.stays s.units.kept h.stored.holding) (record { there = c.requires.lost; flies = inl c.requires.none })
+returns-in_err-coming-clause-comes g c = λ s r k.
+    let h = stands-there _ _ c.in-Going.scheduler c.in-Going.is k in
+    comes-lost _ _ _ _ _ _ _ s c.from_residual.result c.from_residual.ensures.1 (c.stands.ensures.stays s.units.kept h.stored.holding)
+    (record { there = behind-lost c.from_residual.result _ c.from_residual.ensures.1; flies = inl c.requires.none })
 
 pub returns-in_err-coming-clause-stays : goal.returns-in_err-coming-clause-stays
 returns-in_err-coming-clause-stays g c = stays-same _ _ _

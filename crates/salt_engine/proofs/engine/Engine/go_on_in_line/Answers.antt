@@ -1,13 +1,17 @@
 use Rattle.salt_engine.proofs.Counted.{cause-broken, cause-lost, same-cause}
+use Rattle.salt_engine.proofs.InStage.{behind-lost, followed, never-else, stands-there}
 use Rattle.salt_engine.proofs.LineChosen.{nothing-comes, to-serve}
 use Rattle.salt_engine.proofs.Outcome.{comes-lost, comes-same, comes-unarmed, not-ok, stays-same}
 use Rattle.salt_engine.proofs.Plain.{line-plain}
 use Rattle.salt_engine.proofs.engine.Engine.go_on_in_line.Goals as goal
 use Rattle.salt_scheduler.proofs.SoundFacts.{reads}
-use Rattle.std.proofs.Common.{inl}
+use Rattle.std.proofs.Common.{inl, ◌∙◌}
+
+pub unreachable-requires : goal.unreachable-requires
+unreachable-requires g c = never-else _ c.args.self.now.stage c.in_default.not-Going c.requires.ready.1
 
 pub go_on-requires : goal.go_on-requires
-go_on-requires g c = (c.requires.ready.0, c.requires.ready.1.stands, c.requires.ready.1.serves)
+go_on-requires g c = let h = stands-there _ _ c.in-Going.scheduler c.in-Going.is c.requires.ready.1 in (c.requires.ready.0, h.stands, h.serves)
 
 pub perform-requires-clause-callable : goal.perform-requires-clause-callable
 perform-requires-clause-callable g c = c.requires.callable
@@ -15,23 +19,22 @@ perform-requires-clause-callable g c = c.requires.callable
 pub perform-requires-clause-answers : goal.perform-requires-clause-answers
 perform-requires-clause-answers g c = c.requires.answers
 
-pub perform-requires-clause-lost : goal.perform-requires-clause-lost
-perform-requires-clause-lost g c = c.requires.lost
-
 pub perform-requires-clause-none : goal.perform-requires-clause-none
 perform-requires-clause-none g c = c.requires.none
 
 pub perform-requires-clause-ready : goal.perform-requires-clause-ready
 perform-requires-clause-ready g c =
     let s = c.requires.ready.0 in
-    let h = c.requires.ready.1 in
+    let h = stands-there _ _ c.in-Going.scheduler c.in-Going.is c.requires.ready.1 in
     let r = reads s h.serves.sound in
-    (s, to-serve _ _ _ _ _ s (h.played r) h.serves.phase (line-plain s r c.args.scheduler.follow) (c.in_ok-coming.ensures s r h.stands h.serves) h.stored)
+    (s, to-serve _ _ _ _ _ s (h.played r) h.serves.phase (line-plain s r c.in-Going.scheduler.follow) (c.in_ok-coming.ensures s r h.stands h.serves) h.stored)
 
 pub returns-clause-comes : goal.returns-clause-comes
-returns-clause-comes g c = λ s r h.
+returns-clause-comes g c = λ s r k.
+    let h = stands-there _ _ c.in-Going.scheduler c.in-Going.is k in
     let b = c.in_ok-coming.ensures s r h.stands h.serves in
-    comes-same _ _ _ _ _ _ _ _ s c.perform.result b.meant (c.perform.ensures.comes s (to-serve _ _ _ _ _ s (h.played r) h.serves.phase (line-plain s r c.args.scheduler.follow) b h.stored))
+    comes-same _ _ _ _ _ _ _ _ s c.perform.result (b.meant ∙ followed s r _ c.in-Going.scheduler c.in-Going.is)
+    (c.perform.ensures.comes s (to-serve _ _ _ _ _ s (h.played r) h.serves.phase (line-plain s r c.in-Going.scheduler.follow) b h.stored))
 
 pub returns-clause-stays : goal.returns-clause-stays
 returns-clause-stays g c = c.perform.ensures.stays
@@ -42,15 +45,17 @@ returns-clause-cause g c = c.perform.ensures.cause
 pub returns-clause-unarmed : goal.returns-clause-unarmed
 returns-clause-unarmed g c =
     let s = c.requires.ready.0 in
-    let h = c.requires.ready.1 in
+    let h = stands-there _ _ c.in-Going.scheduler c.in-Going.is c.requires.ready.1 in
     let r = reads s h.serves.sound in
     let b = c.in_ok-coming.ensures s r h.stands h.serves in
-    comes-unarmed _ _ _ _ _ _ _ s c.perform.result (line-plain s r c.args.scheduler.follow)
-    (comes-same _ _ _ _ _ _ _ _ s c.perform.result b.meant (c.perform.ensures.comes s (to-serve _ _ _ _ _ s (h.played r) h.serves.phase (line-plain s r c.args.scheduler.follow) b h.stored)))
+    comes-unarmed _ _ _ _ _ _ _ s c.perform.result (line-plain s r c.in-Going.scheduler.follow)
+    (comes-same _ _ _ _ _ _ _ _ s c.perform.result b.meant (c.perform.ensures.comes s (to-serve _ _ _ _ _ s (h.played r) h.serves.phase (line-plain s r c.in-Going.scheduler.follow) b h.stored)))
 
 pub returns-in_err-coming-clause-comes : goal.returns-in_err-coming-clause-comes
-returns-in_err-coming-clause-comes g c = λ s r h.
-    comes-lost _ _ _ _ _ _ _ s c.from_residual.result c.from_residual.ensures.1 (c.stands.ensures.stays s.units.kept h.stored.holding) (record { there = c.requires.lost; flies = inl c.requires.none })
+returns-in_err-coming-clause-comes g c = λ s r k.
+    let h = stands-there _ _ c.in-Going.scheduler c.in-Going.is k in
+    comes-lost _ _ _ _ _ _ _ s c.from_residual.result c.from_residual.ensures.1 (c.stands.ensures.stays s.units.kept h.stored.holding)
+    (record { there = behind-lost c.from_residual.result _ c.from_residual.ensures.1; flies = inl c.requires.none })
 
 pub returns-in_err-coming-clause-stays : goal.returns-in_err-coming-clause-stays
 returns-in_err-coming-clause-stays g c = stays-same _ _ _
@@ -62,4 +67,6 @@ pub returns-in_err-coming-clause-unarmed : goal.returns-in_err-coming-clause-una
 returns-in_err-coming-clause-unarmed g c = not-ok _ _ c.from_residual.result c.from_residual.ensures.1
 
 pub returns-clause-still : goal.returns-clause-still
-returns-clause-still g c = λ s r h none. c.perform.ensures.still (nothing-comes s _ _ _ (c.in_ok-coming.ensures s r h.stands h.serves) none)
+returns-clause-still g c = λ s r k none.
+    let h = stands-there _ _ c.in-Going.scheduler c.in-Going.is k in
+    c.perform.ensures.still (nothing-comes s _ _ _ (c.in_ok-coming.ensures s r h.stands h.serves) (followed s r _ c.in-Going.scheduler c.in-Going.is ∙ none))

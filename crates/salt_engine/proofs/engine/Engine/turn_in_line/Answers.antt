@@ -1,4 +1,5 @@
 use Rattle.salt_engine.proofs.Counted.{cause-broken, cause-lost, same-cause}
+use Rattle.salt_engine.proofs.InStage.{behind-lost, never-else, stands-there}
 use Rattle.salt_engine.proofs.LineChosen.{to-serve}
 use Rattle.salt_engine.proofs.Outcome.{comes-lost, comes-same, comes-unarmed, not-ok, stays-same}
 use Rattle.salt_engine.proofs.Plain.{go-plain}
@@ -8,8 +9,11 @@ use Rattle.law_states.specs.States.{turned_to}
 use Rattle.salt_scheduler.proofs.SoundFacts.{reads}
 use Rattle.std.proofs.Common.{inl}
 
+pub unreachable-requires : goal.unreachable-requires
+unreachable-requires g c = never-else _ c.args.self.now.stage c.in_default.not-Going c.requires.ready.1
+
 pub turn_to-requires : goal.turn_to-requires
-turn_to-requires g c = (c.requires.ready.0, c.requires.ready.1.turns)
+turn_to-requires g c = let h = stands-there _ _ c.in-Going.scheduler c.in-Going.is c.requires.ready.1 in (c.requires.ready.0, h.turns)
 
 pub perform-requires-clause-callable : goal.perform-requires-clause-callable
 perform-requires-clause-callable g c = c.requires.callable
@@ -17,16 +21,13 @@ perform-requires-clause-callable g c = c.requires.callable
 pub perform-requires-clause-answers : goal.perform-requires-clause-answers
 perform-requires-clause-answers g c = c.requires.answers
 
-pub perform-requires-clause-lost : goal.perform-requires-clause-lost
-perform-requires-clause-lost g c = c.requires.lost
-
 pub perform-requires-clause-none : goal.perform-requires-clause-none
 perform-requires-clause-none g c = c.requires.none
 
 pub perform-requires-clause-ready : goal.perform-requires-clause-ready
 perform-requires-clause-ready g c =
     let s = c.requires.ready.0 in
-    let h = c.requires.ready.1 in
+    let h = stands-there _ _ c.in-Going.scheduler c.in-Going.is c.requires.ready.1 in
     let t = turned_to c.args.base s in
     let r = reads t h.turns.serves.sound in (
       t,
@@ -35,7 +36,8 @@ perform-requires-clause-ready g c =
     )
 
 pub returns-clause-comes : goal.returns-clause-comes
-returns-clause-comes g c = λ s r h.
+returns-clause-comes g c = λ s r k.
+    let h = stands-there _ _ c.in-Going.scheduler c.in-Going.is k in
     let t = turned_to c.args.base s in
     let b = c.in_ok-coming.ensures s r h.turns in
     comes-same _ _ _ _ _ _ _ _ t c.perform.result b.meant
@@ -50,7 +52,7 @@ returns-clause-cause g c = c.perform.ensures.cause
 pub returns-clause-unarmed : goal.returns-clause-unarmed
 returns-clause-unarmed g c =
     let s = c.requires.ready.0 in
-    let h = c.requires.ready.1 in
+    let h = stands-there _ _ c.in-Going.scheduler c.in-Going.is c.requires.ready.1 in
     let t = turned_to c.args.base s in
     let r = reads t h.turns.serves.sound in
     let b = c.in_ok-coming.ensures s r h.turns in
@@ -59,8 +61,10 @@ returns-clause-unarmed g c =
     (c.perform.ensures.comes t (to-serve _ _ _ _ _ t (h.played r) h.turns.serves.phase (go-plain t.units (clash_by t) c.args.base) b (record { holding = h.stored.holding; new = h.stored.new }))))
 
 pub returns-in_err-coming-clause-comes : goal.returns-in_err-coming-clause-comes
-returns-in_err-coming-clause-comes g c = λ s r h.
-    comes-lost _ _ _ _ _ _ _ (turned_to c.args.base s) c.from_residual.result c.from_residual.ensures.1 (c.stands.ensures.stays s.units.kept h.stored.holding) (record { there = c.requires.lost; flies = inl c.requires.none })
+returns-in_err-coming-clause-comes g c = λ s r k.
+    let h = stands-there _ _ c.in-Going.scheduler c.in-Going.is k in
+    comes-lost _ _ _ _ _ _ _ (turned_to c.args.base s) c.from_residual.result c.from_residual.ensures.1 (c.stands.ensures.stays s.units.kept h.stored.holding)
+    (record { there = behind-lost c.from_residual.result _ c.from_residual.ensures.1; flies = inl c.requires.none })
 
 pub returns-in_err-coming-clause-stays : goal.returns-in_err-coming-clause-stays
 returns-in_err-coming-clause-stays g c = stays-same _ _ _
