@@ -109,25 +109,39 @@ fn print_event_line<K: Sink>(out: &mut Printer<'_, K>, schema: &Schema, event: &
     }
 }
 
-/// Prints an event's text, and writes what waits: who reads the sink sees an event when it is told.
+/// Prints an event's text.
+fn print_whole<K: Sink>(out: &mut Printer<'_, K>, schema: &Schema, event: &Event)
+    ensures { Prints K.held K.faults out.old out.new (event_text schema.now event.now) }
+{
+    print_event_line(out, schema, event);
+    out.bytes(b"\n");
+}
+
+/// Prints an event's text, and writes what waits.
 fn print_event<K: Sink>(out: &mut Printer<'_, K>, schema: &Schema, event: &Event)
     ensures prints { Prints K.held K.faults out.old out.new (event_text schema.now event.now) }
     ensures empty { OnOk out.new.outcome (out.new.waiting ≡ []) }
 {
-    print_event_line(out, schema, event);
-    out.bytes(b"\n");
+    print_whole(out, schema, event);
     out.flush();
 }
 
 /// Prints the texts of events, one after another.
+fn print_each<K: Sink>(out: &mut Printer<'_, K>, schema: &Schema, events: &[Event])
+    ensures { Prints K.held K.faults out.old out.new (story_text schema.now events.now) }
+{
+    for event in events {
+        print_whole(out, schema, event);
+    }
+}
+
+/// Prints the texts of events, one after another, and writes what waits: who reads the sink sees them when they are told.
 fn print_events<K: Sink>(out: &mut Printer<'_, K>, schema: &Schema, events: &[Event])
-    requires { out.old.waiting ≡ [] }
     ensures prints { Prints K.held K.faults out.old out.new (story_text schema.now events.now) }
     ensures empty { OnOk out.new.outcome (out.new.waiting ≡ []) }
 {
-    for event in events {
-        print_event(out, schema, event);
-    }
+    print_each(out, schema, events);
+    out.flush();
 }
 
 /// Appends an event's text to what the sink holds, in one write for each 4,096 bytes where each takes
@@ -145,8 +159,8 @@ pub fn print<K: Sink>(sink: &mut K, event: &Event, schema: &Schema) -> Result<()
     out.outcome
 }
 
-/// Appends the texts of events, one after another, to what the sink holds, each written by its end;
-/// the schema names the tables of locks. It takes no memory. `IoFailed` where a write failed: the sink has counted the
+/// Appends the texts of events, one after another, to what the sink holds, in one write for each 4,096 bytes where each takes
+/// all that it is given; the schema names the tables of locks. It takes no memory. `IoFailed` where a write failed: the sink has counted the
 /// fault, and some first part of the texts was written, with at least one byte left out.
 pub fn print_story<K: Sink>(sink: &mut K, events: &[Event], schema: &Schema) -> Result<(), IoFailed>
     ensures { Sends K.held K.faults sink.old sink.new result (story_text schema.now events.now) }

@@ -89,10 +89,17 @@ fn writes_of(alloc: Global, length: usize) -> Result<usize, Fail> {
     Ok(sink.writes)
 }
 
-// Each event is one write where it has no more than 4,096 bytes, and else one for each 4,096 of them.
+// One write for each 4,096 bytes of what is printed by one call.
 #[test]
 fn writes_of_events(rt: HostRuntime) -> Result<(), Fail> {
-    for (length, writes) in [(4085, 4), (4086, 8), (12_277, 12), (12_278, 16)] {
+    for (length, writes) in [
+        (2037, 3),
+        (2038, 4),
+        (4085, 4),
+        (4086, 7),
+        (12_277, 12),
+        (12_278, 15),
+    ] {
         assert_eq!(rt; writes_of(rt.alloc(), length)?, writes);
     }
     Ok(())
