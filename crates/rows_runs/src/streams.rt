@@ -16,8 +16,8 @@ const LINES: usize = 256;
 /// What a run tells before its first line.
 const OPENED: &[u8] = b"opened 1 0\nready\n";
 
-/// How many writes the first script's story is: one for each line.
-const WRITES: u64 = 12;
+/// How many writes the first script's story is: one for what the opening tells, and one for what each of four lines does.
+const WRITES: u64 = 5;
 
 /// A line, what it tells, and each of its fronts that is another line, by its length, with what that tells. Any other front is none.
 #[derive(Clone, Copy)]
