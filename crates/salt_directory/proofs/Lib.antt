@@ -1,0 +1,11 @@
+pub mod Alike
+pub mod Bounds
+pub mod Changed
+pub mod Keys
+pub mod Listed
+pub mod Nexts
+pub mod PageAt
+pub mod Placed
+pub mod Rooms
+pub mod Split
+pub mod Wider

@@ -1,0 +1,30 @@
+-- What is found in a directory: the page of a place, and the next place of a range.
+use Rattle.salt_eval.specs.Views.{start_of}
+use Rattle.salt_model.specs.Tables.{place_cmp}
+use Rattle.salt_model.specs.Words.{first_of_list}
+use Rattle.salt_model.specs.declared.places.Place.{Place}
+use Rattle.salt_ranges.specs.Ranges.{has_key}
+use Rattle.salt_ranges.specs.declared.range.KeyRange.{KeyRange}
+use Rattle.salt_directory.specs.Pages.{page_of}
+use Rattle.salt_values.specs.declared.value.Value.{Value}
+use Rattle.std.specs.BTreeMap.Range.{entries_between}
+use Rattle.std.specs.Prelude.{Bool, List, None, Option, Some, false, true, ℕ, ⊤, ◌&&◌, ◌<◌, ◌==◌, ◌≡◌}
+use Rattle.std.specs.declared.ops.Bound.TheVariants.{Unbounded}
+
+-- each page that it has is one of the first so many
+abbrev pub HasPagesBelow : List (Place × ℕ) → ℕ → Type 0
+HasPagesBelow directory count = (q : Place) (page : ℕ) → page_of directory q ≡ Some page → page < count
+
+-- the first place at or above the lower end of a range, and behind a key, with its page
+abbrev pub first_behind : ℕ → KeyRange → Option Value → List (Place × ℕ) → Option (Place × ℕ)
+first_behind table range after directory = first_of_list (entries_between place_cmp (start_of table range.lo after) Unbounded directory)
+
+abbrev pub is_in : ℕ → KeyRange → Place → Bool
+is_in table range q = (table == q.table) && has_key range q.key
+
+-- it is the next one where it is of the table and in the range; else there is none
+abbrev pub IsNextPlace : ℕ → KeyRange → Option (Place × ℕ) → Option (Value × ℕ) → Type 0
+IsNextPlace table range None None = ⊤
+IsNextPlace table range None (Some found) = ⊥
+IsNextPlace table range (Some e) None = is_in table range e.0 ≡ false
+IsNextPlace table range (Some e) (Some found) = (is_in table range e.0 ≡ true) × (found.0 ≡ e.0.key) × (found.1 ≡ e.1)

@@ -1,0 +1,6 @@
+pub mod Bytes
+pub mod Directories
+pub mod Listing
+pub mod Pages
+pub mod Rows
+pub mod Space

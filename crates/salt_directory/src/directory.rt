@@ -1,0 +1,88 @@
+//! The page of each row, by its place.
+
+ghost use Rattle.salt_directory.specs.Directories.{HasPagesBelow, IsNextPlace, first_behind};
+ghost use Rattle.salt_directory.specs.Pages.{page_of};
+ghost use Rattle.std.specs.BTreeMap.Range.{entries_between};
+ghost use Rattle.std.specs.Map.Iter.{deref_pair};
+ghost use Rattle.std.specs.Option.{option_copied};
+ghost use Rattle.std.specs.Prelude.{IfOk, IfSome, Some, option_map, ◌<◌, ◌≡◌};
+ghost use Rattle.std.specs.declared.ops.Bound.TheVariants.{Unbounded};
+ghost use Rattle.salt_eval.specs.Views.{start_of};
+ghost use Rattle.salt_model.specs.Tables.{place, place_cmp};
+ghost use Rattle.salt_model.specs.Words.{first_of_list};
+
+use salt_model::{Place, first_place};
+use salt_ranges::{KeyRange, is_above_low};
+use salt_values::{Key, TryCopy};
+use std::alloc::{AllocError, Global};
+use std::collections::BTreeMap;
+use std::ops::Bound;
+
+/// The page of each row, by its place.
+pub type Directory = BTreeMap<Place, u32>;
+
+/// The page of the row at a place, `None` exactly where there is no row.
+pub fn page_of(directory: &Directory, place: &Place) -> Option<u32>
+    ensures { result ≡ page_of directory.now.entries place.now }
+{
+    match directory.get(place) {
+        Some(page) => Some(*page),
+        None => None,
+    }
+}
+
+/// The page of the row of the greatest place below this one, of which the clause says that it is one of the pages: where a new row goes is free.
+pub fn page_before(directory: &Directory, place: &Place) -> Option<u32>
+    ensures { (count : _) → HasPagesBelow directory.now.entries count → IfSome result (λ page. page < count) }
+{
+    let (_place, page) = directory.range(..place).next_back()?;
+    Some(*page)
+}
+
+/// From the lower end of a range on, and behind a key.
+fn start_of(
+    alloc: Global,
+    table: u16,
+    lo: &Option<Key>,
+    after: Option<&Key>,
+) -> Result<Bound<Place>, AllocError>
+    ensures { IfOk result (λ start. start ≡ start_of table lo.now (option_copied after.entry)) }
+{
+    match after {
+        Some(after) if is_above_low(lo, after) => {
+            let key = after.copy(alloc)?;
+            Ok(Bound::Excluded(Place { table, key }))
+        }
+        _ => first_place(alloc, table, lo),
+    }
+}
+
+/// The first place from there on, with its page.
+fn first_from<'a>(directory: &'a Directory, start: Bound<Place>) -> Option<(&'a Place, &'a u32)>
+    ensures first { option_map deref_pair result ≡ first_of_list (entries_between place_cmp start Unbounded directory.now.entries) }
+    ensures found { IfSome result (λ e. page_of directory.now.entries e.0.now ≡ Some e.1.now) }
+{
+    directory.range((start, Bound::Unbounded)).next()
+}
+
+/// The key of the next row of a range, behind a key where one is given, and its page.
+pub fn next_place(
+    alloc: Global,
+    directory: &Directory,
+    table: u16,
+    range: &KeyRange,
+    after: Option<&Key>,
+) -> Result<Option<(Key, u32)>, AllocError>
+    ensures next { IfOk result (IsNextPlace table range.now (first_behind table range.now (option_copied after.entry) directory.now.entries)) }
+    ensures found { IfOk result (λ found. IfSome found (λ f. page_of directory.now.entries (place table f.0) ≡ Some f.1)) }
+{
+    let start = start_of(alloc, table, &range.lo, after)?;
+    let Some((place, page)) = first_from(directory, start) else {
+        return Ok(None);
+    };
+    if place.table == table && range.has(&place.key) {
+        Ok(Some((place.key.copy(alloc)?, *page)))
+    } else {
+        Ok(None)
+    }
+}

@@ -1,0 +1,12 @@
+//! Rows on pages, with a directory of them by their places, and the pages by their free bytes.
+#![tactic(auto)]
+
+mod directory;
+mod listing;
+mod page;
+mod space;
+
+pub use directory::{Directory, next_place, page_before, page_of};
+pub use listing::list_page;
+pub use page::{Replaced, new_page, put_on, replace_on, row_of};
+pub use space::Space;

@@ -1,0 +1,118 @@
+//! Rows of one page are found, put and replaced by their keys.
+
+ghost use Rattle.salt_bytes.specs.Values.{is_row_length, spell_row};
+ghost use Rattle.salt_directory.specs.Pages.{free_on};
+ghost use Rattle.salt_directory.specs.Rows.{HasRowTo, IsPut, IsReplaced, IsRowFound, one_row};
+ghost use Rattle.salt_pages.specs.Pages.{used_by};
+ghost use Rattle.std.specs.Option.{option_copied};
+ghost use Rattle.std.specs.Prelude.{IfOk, IsTrue, Some, false, is_some, length, true, ◌+◌, ◌++◌, ◌<◌, ◌≡◌};
+
+use salt_pages::{Page, PageErr, row_room};
+use salt_values::{Key, Row};
+use std::alloc::{AllocError, Global};
+
+/// What became of a page where the row of a key was to be replaced, and how many bytes are free on it then.
+#[derive(Clone, Copy, Debug)]
+pub enum Replaced {
+    /// The new row stands on it.
+    Put(u16),
+    /// The old row is gone, and no new one was given, or it has no room.
+    Gone(u16),
+    /// It has no row of this key, and is as it was.
+    Missing,
+}
+
+/// The row of a key, made of its bytes; `None` exactly where the page has none.
+pub fn row_of(alloc: Global, page: &Page, table: u16, key: &Key) -> Result<Option<Row>, AllocError>
+    ensures { IfOk result (IsRowFound table key.now page.now) }
+{
+    match page.find(table, key) {
+        Some(i) => {
+            let (_table, row) = page.row(alloc, i)?;
+            Ok(Some(row))
+        }
+        None => Ok(None),
+    }
+}
+
+/// How many bytes are free on a page.
+fn free_bytes(page: &Page) -> u16
+    ensures { result ≡ free_on page.now }
+{
+    page.free() as u16
+}
+
+/// Puts a row behind the others, where it has room. Whether it had.
+fn put_if_room(page: &mut Page, table: u16, row: &Row) -> Result<bool, AllocError>
+    requires { is_row_length (length row.now) ≡ true }
+    ensures put { IfOk result (λ put. IsTrue put → page.new ≡ page.old ++ one_row table (Some row.now)) }
+    ensures same { IfOk result (λ put. put ≡ false → page.new ≡ page.old) }
+    ensures full { IfOk result (λ put. put ≡ false → 8190 < used_by page.old + (2 + length (spell_row row.now))) }
+{
+    match page.insert(table, row) {
+        Ok(()) => Ok(true),
+        Err(PageErr::Full) => Ok(false),
+        Err(PageErr::Memory) => Err(AllocError),
+    }
+}
+
+/// The same of a row that may be given.
+fn put_given(page: &mut Page, table: u16, row: Option<&Row>) -> Result<bool, AllocError>
+    requires { HasRowTo (option_copied row) }
+    ensures put { IfOk result (λ put. IsTrue put → page.new ≡ page.old ++ one_row table (option_copied row.entry)) }
+    ensures given { IfOk result (λ put. IsTrue put → is_some (option_copied row.entry) ≡ true) }
+    ensures same { IfOk result (λ put. put ≡ false → page.new ≡ page.old) }
+{
+    match row {
+        Some(row) => put_if_room(page, table, row),
+        None => Ok(false),
+    }
+}
+
+/// The row of a key goes from its page, and the new one comes on it, where one is given that has room.
+pub fn replace_on(
+    page: &mut Page,
+    table: u16,
+    key: &Key,
+    row: Option<&Row>,
+) -> Result<Replaced, AllocError>
+    requires { HasRowTo (option_copied row) }
+    ensures { IfOk result (IsReplaced table key.now (option_copied row.entry) page.old page.new) }
+{
+    let Some(i) = page.find(table, key) else {
+        return Ok(Replaced::Missing);
+    };
+    page.remove(i);
+    if put_given(page, table, row)? {
+        Ok(Replaced::Put(free_bytes(page)))
+    } else {
+        Ok(Replaced::Gone(free_bytes(page)))
+    }
+}
+
+/// A new row comes on a page. How many bytes are free on it then; `None` where it had no room.
+pub fn put_on(page: &mut Page, table: u16, row: &Row) -> Result<Option<u16>, AllocError>
+    requires { is_row_length (length row.now) ≡ true }
+    ensures { IfOk result (IsPut table row.now page.old page.new) }
+{
+    if put_if_room(page, table, row)? {
+        Ok(Some(free_bytes(page)))
+    } else {
+        Ok(None)
+    }
+}
+
+/// A page with one row, and how many bytes are free on it.
+pub fn new_page(alloc: Global, table: u16, row: &Row) -> Result<(Page, u16), AllocError>
+    requires { is_row_length (length row.now) ≡ true }
+    ensures rows { IfOk result (λ made. made.0 ≡ one_row table (Some row.now)) }
+    ensures free { IfOk result (λ made. made.1 ≡ free_on made.0) }
+{
+    let _room = row_room(row.as_slice());
+    let mut page = Page::new(alloc)?;
+    match put_on(&mut page, table, row)? {
+        Some(free) => Ok((page, free)),
+        // the longest row has room on a page of its own
+        None => unreachable!(),
+    }
+}
