@@ -6,7 +6,6 @@ use Rattle.salt_stands.proofs.Booleans.{all_push, join, left, right}
 use Rattle.salt_stands.proofs.Decided.{same_id_sym}
 use Rattle.salt_stands.proofs.OpenConts.{all_filter, replace_rises}
 use Rattle.salt_stands.specs.OpenConts.{do_rise, end_of, go_to, is_accepted_before, is_later_than, is_not_of, make_move, replace_cont, without_cont}
-use Rattle.salt_stands.specs.Words.{given}
 use Rattle.salt_values.specs.Id.{is_same_id}
 use Rattle.salt_values.specs.declared.cont.Cont.{Cont}
 use Rattle.salt_values.specs.declared.id.Id.{Id}
@@ -14,6 +13,7 @@ use Rattle.std.proofs.Common.{ap, subst, sym, ◌∙◌}
 use Rattle.std.proofs.lemmas.Bool.Decides.{Decides-eqb}
 use Rattle.std.specs.List.{filter, list_all}
 use Rattle.std.specs.Prelude.{Bool, List, None, Option, Some, [], cond, false, if◌then◌else◌, nat_lt, not, refl, true, ◌++◌, ◌==◌, ◌∷◌, ◌≡◌}
+use Rattle.std.specs.Bool.{then_some}
 
 rise-filter : (q : Cont → Bool) (cs : List Cont) → do_rise cs ≡ true → do_rise (filter q cs) ≡ true
 rise-filter q [] e = refl
@@ -40,7 +40,7 @@ rise-push c (d ∷ ds) e before new =
     none-here true e = cc
     none-here false e = refl
 
-given-is : {A : Type 0} (b : Bool) (x y : A) → given b x ≡ Some y → (b ≡ true) × (x ≡ y)
+given-is : {A : Type 0} (b : Bool) (x y : A) → then_some b x ≡ Some y → (b ≡ true) × (x ≡ y)
 given-is true x y e = (refl, cc)
 given-is false x y e = cc
 

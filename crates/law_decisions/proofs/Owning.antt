@@ -6,7 +6,7 @@ use Rattle.law_story.proofs.OfBoot.{owns-at}
 use Rattle.law_story.proofs.Sound.{Sound, boot-ended, none-open, none-open-early, open-back}
 use Rattle.law_story.proofs.Upheld.{OfBoots, holds, may-fit}
 use Rattle.salt_model.specs.After.{kept}
-use Rattle.salt_model.specs.Decided.{IsOfBoot, IsOwnIn, OwnUnless, TellsOwn, counts_flight}
+use Rattle.salt_model.specs.Decided.{IsOfBoot, IsOwnIn, TellsOwn, counts_flight}
 use Rattle.salt_model.specs.Next.{is_decision, next, said_event}
 use Rattle.salt_model.specs.Phases.{Fallen, Opening, Phase, Serving, phase}
 use Rattle.salt_model.specs.Played.{IsPlayed}
@@ -19,7 +19,7 @@ use Rattle.salt_model.specs.declared.events.Event.TheVariants.{Began, Down, Earl
 use Rattle.salt_model.specs.declared.events.Event.{Event}
 use Rattle.salt_values.specs.declared.id.Id.{Id}
 use Rattle.std.proofs.Common.{ap, subst, sym, ◌∙◌}
-use Rattle.std.specs.Prelude.{Bool, Some, false, refl, true, ◌≡◌}
+use Rattle.std.specs.Prelude.{Some, false, refl, true, ◌≡◌}
 
 -- WHILE THE RUN SERVES
 
@@ -65,8 +65,7 @@ pub decided-own : (trace : Trace) (u : Id) (end : End) → IsPlayed trace → Of
     is_decision (Ended u end) ≡ true → is_just_opened trace ≡ false → u.boot ≡ (kept trace).boot
 decided-own trace u end p w n d j =
     let told : TellsOwn trace (Ended u end) = owns-at trace (Ended u end) p w (may-fit trace (Ended u end) (holds trace p w).comes n) n in
-    let own = subst (λ (b : Bool). OwnUnless b (phase trace) trace (Ended u end)) (no-flight trace j) told in
-    of-this-boot trace u end d (own-in (phase trace) trace u end own)
+    of-this-boot trace u end d (own-in (phase trace) trace u end (told (no-flight trace j)))
 
 -- while the run is down nothing comes
 pub fallen-none : (trace : Trace) (e : Event) → IsPlayed trace → phase trace ≡ Fallen → next trace ≡ Some e → ⊥

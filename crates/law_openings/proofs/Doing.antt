@@ -5,7 +5,7 @@ use Rattle.law_states.specs.Follows.{cut_in, cuts_or_drains_in, opened_in, stand
 use Rattle.law_states.specs.Keeps.{KeepsUnits}
 use Rattle.law_states.specs.Laws.{IsSound, is_of_run}
 use Rattle.law_states.specs.OpenUnits.{UnitState}
-use Rattle.law_states.specs.Points.{Ask, KeepsPoint, Move, Moves, Point, Runs, Say, Says, Turn, told_by}
+use Rattle.law_states.specs.Points.{Ask, KeepsPoint, TraceStep, Moves, Point, Runs, Say, Says, Turn, told_by}
 use Rattle.law_states.specs.Steps.{units_after, units_of}
 use Rattle.law_states.specs.Told.{next_decision}
 use Rattle.law_story.proofs.Coming.{Good}
@@ -111,7 +111,7 @@ phase-on Ready s r = inr refl
 phase-on (Early bs) s r = inr refl
 phase-on e s r = inl refl
 
-serves-on : (m : Move) (p q : Point) → Moves m p q → p.state.units.phase ≡ Serving → q.state.units.phase ≡ Serving
+serves-on : (m : TraceStep) (p q : Point) → Moves m p q → p.state.units.phase ≡ Serving → q.state.units.phase ≡ Serving
 serves-on (Ask asked) p q a h = ap (λ s. s.units.phase) a.state ∙ h
 serves-on (Turn b) p q a h = ap (λ s. s.units.phase) a.state ∙ h
 serves-on (Say e) p q a h = ap (λ (s : UnitState). s.phase) a.0.after.units ∙ by (phase-on e p.state.units a.1)
@@ -120,7 +120,7 @@ serves-on (Say e) p q a h = ap (λ (s : UnitState). s.phase) a.0.after.units ∙
     by (inl x) = x ∙ h
     by (inr x) = x
 
-serves-through : (ms : List Move) (p q : Point) → Runs p ms q → p.state.units.phase ≡ Serving → q.state.units.phase ≡ Serving
+serves-through : (ms : List TraceStep) (p q : Point) → Runs p ms q → p.state.units.phase ≡ Serving → q.state.units.phase ≡ Serving
 serves-through [] p q r h = ap (λ (p : Point). p.state.units.phase) (sym r) ∙ h
 serves-through (m ∷ ms) p q r h = serves-through ms r.0 q r.2 (serves-on m p r.0 r.1 h)
 
@@ -131,7 +131,7 @@ pub left-most : (s : UnitState) → statements_left s ≤ rests_of (programs_of 
 left-most s = omega arith
 
 -- within an opening each point is in it
-mid-opens : (e : Event) (ms : List Move) (old mid new : Point) → Moves (Say e) old mid → old.state.units.phase ≡ Opening → Runs mid ms new → new.state.units.phase ≡ Opening →
+mid-opens : (e : Event) (ms : List TraceStep) (old mid new : Point) → Moves (Say e) old mid → old.state.units.phase ≡ Opening → Runs mid ms new → new.state.units.phase ≡ Opening →
     mid.state.units.phase ≡ Opening
 mid-opens e ms old mid new m h r g = by (phase-on e old.state.units m.1)
   where
@@ -143,7 +143,7 @@ mid-opens e ms old mid new m h r g = by (phase-on e old.state.units m.1)
     by (inr x) = not-both new g (serves-through ms mid new r (after ∙ x))
 
 -- where a run within an opening has come to, and what it has done
-record Drained (ms : List Move) (old new : Point) : Type 0 where
+record Drained (ms : List TraceStep) (old new : Point) : Type 0 where
   trace : Trace
   keeps : KeepsPoint new trace
   sound : IsSound trace
@@ -151,7 +151,7 @@ record Drained (ms : List Move) (old new : Point) : Type 0 where
   behind : IsBehindFlight trace new.next
   less : statements_left new.state.units + statements_told (told_by ms) ≤ statements_left old.state.units
 
-drained : (ms : List Move) (old new : Point) (trace : Trace) → KeepsPoint old trace → IsSound trace → CanDrain old.state.units.kept →
+drained : (ms : List TraceStep) (old new : Point) (trace : Trace) → KeepsPoint old trace → IsSound trace → CanDrain old.state.units.kept →
     old.state.units.phase ≡ Opening → IsBehindFlight trace old.next → Runs old ms new → new.state.units.phase ≡ Opening → Drained ms old new
 drained [] old new trace k sound can h q r g =
     subst (Drained [] old) r (record { trace = trace; keeps = k; sound = sound; can = can; behind = q; less = omega arith })
@@ -171,7 +171,7 @@ drained (Say e ∷ ms) old new trace k sound can h q r g =
     let less = rest.less in
     record { trace = rest.trace; keeps = rest.keeps; sound = rest.sound; can = rest.can; behind = rest.behind; less = omega arith }
 
-pub does-no-more : (ms : List Move) (old new : Point) (trace : Trace) → KeepsPoint old trace → IsSound trace → CanDrain old.state.units.kept →
+pub does-no-more : (ms : List TraceStep) (old new : Point) (trace : Trace) → KeepsPoint old trace → IsSound trace → CanDrain old.state.units.kept →
     old.state.units.phase ≡ Opening → IsBehindFlight trace old.next → Runs old ms new → new.state.units.phase ≡ Opening →
     statements_left new.state.units + statements_told (told_by ms) ≤ statements_left old.state.units
 does-no-more ms old new trace k sound can h q r g = (drained ms old new trace k sound can h q r g).less
@@ -188,7 +188,7 @@ idle-of-run (Opened boot n) r = refl
 idle-of-run e r = cc
 
 -- nor with the event at hand
-does-no-more-next : (ms : List Move) (old new : Point) (trace : Trace) (e : Event) → KeepsPoint old trace → IsSound trace → CanDrain old.state.units.kept →
+does-no-more-next : (ms : List TraceStep) (old new : Point) (trace : Trace) (e : Event) → KeepsPoint old trace → IsSound trace → CanDrain old.state.units.kept →
     old.state.units.phase ≡ Opening → IsBehindFlight trace old.next → Runs old ms new → new.state.units.phase ≡ Opening → new.next ≡ Some e →
     statements_told (told_by ms) + statements_in e ≤ statements_left old.state.units
 does-no-more-next ms old new trace e k sound can h q r g comes = by (is_of_run e) refl
@@ -205,7 +205,7 @@ does-no-more-next ms old new trace e k sound can h q r g comes = by (is_of_run e
         omega arith
 
 -- from what comes next in an opening on, also the decision in flight
-pub does-its-rests : (ms : List Move) (old new : Point) (trace : Trace) (first e : Event) → KeepsPoint old trace → IsSound trace → old.state.units.phase ≡ Opening →
+pub does-its-rests : (ms : List TraceStep) (old new : Point) (trace : Trace) (first e : Event) → KeepsPoint old trace → IsSound trace → old.state.units.phase ≡ Opening →
     old.next ≡ Some first → CanDrain (units_after first old.state.units).kept → Runs old ms new → new.state.units.phase ≡ Opening → new.next ≡ Some e →
     statements_told (told_by ms) + statements_in e ≤ rests_behind first old.state.units + statements_in first
 does-its-rests [] old new trace first e k sound h comes can r g at =

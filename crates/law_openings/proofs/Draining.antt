@@ -1,6 +1,6 @@
 -- How the units of an opening go on: each event's state, and what is left of it.
 use Rattle.salt_ast.proofs.Rests.{rest_of_part}
-use Rattle.salt_ast.specs.Paths.{Position, at_number, rest_of}
+use Rattle.salt_ast.specs.Paths.{Position, at_number, rest_of, next_on_commit, next_on_failure}
 use Rattle.salt_ast.specs.ProgramJudgement.{branch_fault, fault_in_parts, program_named}
 use Rattle.salt_ast.specs.declared.programs.Body.{Body}
 use Rattle.salt_ast.specs.declared.programs.Body.TheVariants.{Acid, Base}
@@ -18,7 +18,7 @@ use Rattle.law_story.proofs.Fresh.{IfComes, comes-option_or, comes-then_some}
 use Rattle.law_story.proofs.Ids.{is_same_id-refl}
 use Rattle.law_story.proofs.Lists.{In, all-in, filter-less, in-filter, in-map, in-order}
 use Rattle.law_story.proofs.NextFits.{comes-map-at, comes-then_some-at}
-use Rattle.salt_model.specs.Kept.{Kept, block_of_kind, block_of_part, branch_of, cont_of, conts_branched, conts_committed, kept_program, moved, parts_of, programs_of, then_of, tries_left, values_kept}
+use Rattle.salt_model.specs.Kept.{Kept, block_of_kind, block_of_part, cont_of, conts_branched, conts_committed, kept_program, moved, parts_of, programs_of, tries_left, values_kept}
 use Rattle.salt_model.specs.Words.{Every, is_empty}
 use Rattle.salt_values.specs.Id.{in_order}
 use Rattle.salt_model.specs.declared.events.Answer.{Answer}
@@ -112,7 +112,7 @@ module _ (k : Kept) (can : CanDrain k) (c : Cont) (at : StandsAtPart k c) where
   leads = named-program LeadsOn (programs_of k) c.program at.program can.programs at.found
 
   rest-is : rest_of_cont (programs_of k) c
-      ≡ length at.part.block + max (rest_of (parts_of at.program) (then_of at.program c.next)) (rest_of (parts_of at.program) (branch_of at.program c.next c.tries))
+      ≡ length at.part.block + max (rest_of (parts_of at.program) (next_on_commit (parts_of at.program) c.next)) (rest_of (parts_of at.program) (next_on_failure (parts_of at.program) c.next c.tries))
   rest-is =
       ap (λ o. elim o [ None ↦ 0 | Some p ↦ rest_of (parts_of p) (Some (record { part = c.next; tries = c.tries })) ]) at.found
       ∙ rest_of_part (parts_of at.program) c.next c.tries at.part (ways-of at.program.body leads.ways (parts_of at.program) refl) at.there
@@ -123,10 +123,10 @@ module _ (k : Kept) (can : CanDrain k) (c : Cont) (at : StandsAtPart k c) where
   pub rest-block : length at.part.block ≤ rest_of_cont (programs_of k) c
   rest-block = let r = rest-is in omega arith
 
-  rest-commit : length at.part.block + rest_of (parts_of at.program) (then_of at.program c.next) ≤ rest_of_cont (programs_of k) c
+  rest-commit : length at.part.block + rest_of (parts_of at.program) (next_on_commit (parts_of at.program) c.next) ≤ rest_of_cont (programs_of k) c
   rest-commit = let r = rest-is in omega arith
 
-  rest-branch : length at.part.block + rest_of (parts_of at.program) (branch_of at.program c.next c.tries) ≤ rest_of_cont (programs_of k) c
+  rest-branch : length at.part.block + rest_of (parts_of at.program) (next_on_failure (parts_of at.program) c.next c.tries) ≤ rest_of_cont (programs_of k) c
   rest-branch = let r = rest-is in omega arith
 
 -- the first continuation goes on at a position, or ends
@@ -231,19 +231,19 @@ module _ (s : UnitState) (o : OpenUnit) (c : Cont) (cs : List Cont) (boot : o.un
   commit-left n can w =
       let at : StandsAtPart State.kept c = can.conts.0 in
       let f : Cont → Cont = λ c. record c { vars = values_kept at.program o.vars } in
-      ends-left can w (then_of at.program c.next) (conts_committed State.kept n (Later c.base c.next) o.vars) (rest-commit State.kept can c at)
-      (ap (λ q. rests_of (programs_of State.kept) (elim q [ None ↦ c ∷ cs | Some p ↦ moved c.base (then_of p c.next) (λ c. record c { vars = values_kept p o.vars }) (c ∷ cs) ])) (program-found at)
-      ∙ moved-rests (programs_of State.kept) c cs at.program (then_of at.program c.next) f refl at.found)
+      ends-left can w (next_on_commit (parts_of at.program) c.next) (conts_committed State.kept n (Later c.base c.next) o.vars) (rest-commit State.kept can c at)
+      (ap (λ q. rests_of (programs_of State.kept) (elim q [ None ↦ c ∷ cs | Some p ↦ moved c.base (next_on_commit (parts_of p) c.next) (λ c. record c { vars = values_kept p o.vars }) (c ∷ cs) ])) (program-found at)
+      ∙ moved-rests (programs_of State.kept) c cs at.program (next_on_commit (parts_of at.program) c.next) f refl at.found)
 
   branch-left : (can : CanDrain State.kept) → IsWithin →
       rests_of (programs_of State.kept) (conts_branched State.kept (Later c.base c.next)) - 0 + 0 ≤ rests_of (programs_of State.kept) (c ∷ cs) - done_now s.kept.boot State.units
   branch-left can w =
       let at : StandsAtPart State.kept c = can.conts.0 in
       let tries : tries_left c.base State.kept ≡ c.tries = ap (λ (q : Option Cont). elim q [ None ↦ 0 | Some d ↦ d.tries ]) cont-found in
-      ends-left can w (branch_of at.program c.next c.tries) (conts_branched State.kept (Later c.base c.next)) (rest-branch State.kept can c at)
-      (ap (λ q. rests_of (programs_of State.kept) (elim q [ None ↦ c ∷ cs | Some p ↦ moved c.base (branch_of p c.next (tries_left c.base State.kept)) (λ c. c) (c ∷ cs) ])) (program-found at)
-      ∙ ap (λ t. rests_of (programs_of State.kept) (moved c.base (branch_of at.program c.next t) (λ c. c) (c ∷ cs))) tries
-      ∙ moved-rests (programs_of State.kept) c cs at.program (branch_of at.program c.next c.tries) (λ c. c) refl at.found)
+      ends-left can w (next_on_failure (parts_of at.program) c.next c.tries) (conts_branched State.kept (Later c.base c.next)) (rest-branch State.kept can c at)
+      (ap (λ q. rests_of (programs_of State.kept) (elim q [ None ↦ c ∷ cs | Some p ↦ moved c.base (next_on_failure (parts_of p) c.next (tries_left c.base State.kept)) (λ c. c) (c ∷ cs) ])) (program-found at)
+      ∙ ap (λ t. rests_of (programs_of State.kept) (moved c.base (next_on_failure (parts_of at.program) c.next t) (λ c. c) (c ∷ cs))) tries
+      ∙ moved-rests (programs_of State.kept) c cs at.program (next_on_failure (parts_of at.program) c.next c.tries) (λ c. c) refl at.found)
 
   commits-goes : (u : Id) (st : Statement) (a : Answer) → IsWithin → Goes (Did u st a) State (commits_in State Unit)
   commits-goes u st a w =

@@ -6,7 +6,7 @@ use Rattle.law_states.proofs.PointsGoOn.{flight-kept, said-kept}
 use Rattle.law_states.specs.Laws.{IsSound, is_of_run}
 use Rattle.law_states.specs.PlainStates.{as_state, state_of, watch_of}
 use Rattle.law_states.specs.Points.{point_of}
-use Rattle.law_states.specs.Readings.{Reading}
+use Rattle.law_states.specs.Readings.{WatchReading}
 use Rattle.law_story.proofs.Replays.{good-event, replays}
 use Rattle.salt_model.specs.Next.{next}
 use Rattle.salt_model.specs.Phases.{Fallen, Opening, Phase, Serving, phase}
@@ -80,7 +80,7 @@ trace-opens trace boot n sound =
     let e = Opened boot n in
     let keeps = each-kept trace sound.played.0 sound.well in
     let m = may-open (phase trace) trace boot n sound.played.1 in
-    let read : Reading (watch_of (state_of (trace says e)).watch) = plain-reading (state_of (trace says e)).watch (always-in-turn (trace says e)) in (
+    let read : WatchReading (watch_of (state_of (trace says e)).watch) = plain-reading (state_of (trace says e)).watch (always-in-turn (trace says e)) in (
       m.1,
       record {
         fallen = sym keeps.units.phase ∙ m.0;

@@ -4,7 +4,7 @@ use Rattle.law_states.specs.Follows.{opening_in, said_in, unit_of}
 use Rattle.law_states.specs.Laws.{IsSound, is_of_run}
 use Rattle.law_states.specs.Nexts.{said_next}
 use Rattle.law_states.specs.OpenUnits.{UnitState}
-use Rattle.law_states.specs.Readings.{Reading, beside_by}
+use Rattle.law_states.specs.Readings.{WatchReading, beside_by}
 use Rattle.law_states.specs.States.{After, Keeps, State}
 use Rattle.law_states.specs.Steps.{units_after, units_of}
 use Rattle.law_story.proofs.Fresh.{IfComes}
@@ -40,7 +40,7 @@ within-stands old new trace e k sound a h =
     let same : old.units ≡ units_of trace = one-state trace old.units (units_of trace) k.units (state-kept trace sound.played.0 sound.well) in
     subst (λ s. Stands s e) (ap (units_after e) (sym same) ∙ sym a.units) (stands-at trace e sound.played sound.well h)
 
-falls-within : (e : Event) (old new : State) (x : Reading new.watch) (flight : Option Event) (trace : Trace) → is_of_run e ≡ false → is_within e ≡ true →
+falls-within : (e : Event) (old new : State) (x : WatchReading new.watch) (flight : Option Event) (trace : Trace) → is_of_run e ≡ false → is_within e ≡ true →
     phase (trace says e) ≡ Opening → new.units.phase ≡ Opening → Keeps old trace → IsSound (trace says e) → CanDrain new.units.kept → After e old new →
     left_to_open new.units (said_next e old new x flight) < left_to_open old.units (Some e)
 falls-within e old new x flight trace r w h opening k sound can a =
@@ -48,7 +48,7 @@ falls-within e old new x flight trace r w h opening k sound can a =
     (subst (λ s. left_to_open new.units (opening_in new.units e (unit_of e old.units new.units)) < 8 * (units_to_cut s + statements_left s) + opening_stage e) a.units
     (left-falls e new.units can (opening_in new.units e (unit_of e old.units new.units)) (opening-follows old.units new.units e w (within-stands old new trace e k sound a h))))
 
-pub openings-end : (e : Event) (old new : State) (x : Reading new.watch) (flight : Option Event) (trace : Trace) → is_of_run e ≡ false → old.units.phase ≡ Opening →
+pub openings-end : (e : Event) (old new : State) (x : WatchReading new.watch) (flight : Option Event) (trace : Trace) → is_of_run e ≡ false → old.units.phase ≡ Opening →
     Keeps old trace → IsSound (trace says e) → CanDrain new.units.kept → After e old new →
     left_to_open new.units (said_next e old new x flight) < left_to_open old.units (Some e)
 openings-end (Down why) old new x flight trace r h k sound can a = cc

@@ -8,7 +8,7 @@ use Rattle.law_states.specs.Laws.{IsSound, is_of_run}
 use Rattle.law_states.specs.Nexts.{flight_next, said_next}
 use Rattle.law_states.specs.OpenUnits.{UnitState, can_go_in, next_turn_in}
 use Rattle.law_states.specs.Points.{IsIdle, KeepsPoint, Point, Says}
-use Rattle.law_states.specs.Readings.{Reading, beside_by}
+use Rattle.law_states.specs.Readings.{WatchReading, beside_by}
 use Rattle.law_states.specs.States.{State, started}
 use Rattle.law_states.specs.Told.{at_devices_in}
 use Rattle.law_story.proofs.Replays.{good-event, replays}
@@ -18,7 +18,7 @@ use Rattle.salt_model.specs.Kept.{WellKept}
 use Rattle.salt_model.specs.Next.{next}
 use Rattle.salt_model.specs.Phases.{Fallen, Opening, Phase, Serving, phase}
 use Rattle.salt_model.specs.Played.{IsPlayed}
-use Rattle.salt_model.specs.Stops.{MayFall, MayOpen, is_device_next, is_drain_at_devices, is_just_opened}
+use Rattle.salt_model.specs.Stops.{MayFall, MayOpen, is_device_next, is_just_opened}
 use Rattle.salt_model.specs.Trace.{Start, Trace, from, start_of, ◌asks◌, ◌says◌, ◌turns◌}
 use Rattle.salt_model.specs.Turns.{owes_turn, still_to_go}
 use Rattle.salt_model.specs.declared.events.Event.{Event}
@@ -32,7 +32,7 @@ use Rattle.std.specs.Option.{option_or}
 use Rattle.std.specs.Prelude.{List, None, Option, Some, [], cond, false, not, refl, true, ℕ, ◌&&◌, ◌≡◌, ◌⊎◌}
 
 -- what follows an event of an opening is told by the states alone
-pub said-in-opening : (e : Event) (old new : State) (x : Reading new.watch) (flight : Option Event) → is_of_run e ≡ false →
+pub said-in-opening : (e : Event) (old new : State) (x : WatchReading new.watch) (flight : Option Event) → is_of_run e ≡ false →
     new.units.phase ≡ Opening → said_next e old new x flight ≡ opening_in new.units e (unit_of e old.units new.units)
 said-in-opening (Down why) old new x flight r h = cc
 said-in-opening (Opened boot n) old new x flight r h = cc
@@ -57,7 +57,7 @@ falls-in-opening old new trace e k sound r f =
     let comes : next here ≡ Some f.event = k.next ∙ f.comes in
     let good = good-event here f.event (replays here sound.played) (may-stand here f.event (of-units old.state.units f.event f.devices) comes) in
     let device : is_device_next here (next here) ≡ true = ap (is_device_next here) comes ∙ devices-told old.state.units here f.event k.state.units sound.played good ∙ f.devices in
-    let drain : is_drain_at_devices here ≡ true = (λ i. not (said-last trace e r i) && device i) in
+    let drain : (not (is_just_opened here) && is_device_next here (next here)) ≡ true = (λ i. not (said-last trace e r i) && device i) in
     let p : IsPlayed (here says Down Stopped) = (sound.played, subst (λ (x : Phase). MayFall x here Stopped) (sym (k.state.units.phase ∙ f.opening)) (refl, drain)) in (
       record {
         state = states-say old.state new.state here (Down Stopped) k.state p sound.well f.after;

@@ -1,6 +1,6 @@
 -- What can be drained stays so with each event of a played trace, if the programs that it defines lead on.
 use Rattle.salt_ast.proofs.Ways.{branch_leads_on, commit_leads_on}
-use Rattle.salt_ast.specs.Paths.{Position, at_number}
+use Rattle.salt_ast.specs.Paths.{Position, at_number, next_on_commit, next_on_failure}
 use Rattle.salt_ast.specs.ProgramJudgement.{fault_in_parts, program_named}
 use Rattle.salt_ast.specs.declared.programs.PartDef.{PartDef}
 use Rattle.salt_ast.specs.declared.programs.ProgramDef.{ProgramDef}
@@ -15,7 +15,7 @@ use Rattle.law_story.proofs.Every.{every-append, every-map}
 use Rattle.law_story.proofs.Replays.{good-event, replays}
 use Rattle.law_story.proofs.Rising.{every-without}
 use Rattle.salt_model.specs.After.{defined_by}
-use Rattle.salt_model.specs.Kept.{Definition, Kept, OfProgram, OfTable, begun_cont, branch_of, change_cont, cont_in, cont_of, conts_branched, conts_committed, kept_program, moved, parts_of, program_of_definition, programs_of, then_of, tries_left, values_kept}
+use Rattle.salt_model.specs.Kept.{Definition, Kept, OfProgram, OfTable, begun_cont, change_cont, cont_in, cont_of, conts_branched, conts_committed, kept_program, moved, parts_of, program_of_definition, programs_of, tries_left, values_kept}
 use Rattle.salt_model.specs.Trace.{Trace, ◌says◌}
 use Rattle.salt_model.specs.Words.{Every}
 use Rattle.salt_model.specs.declared.events.Cause.{Cause}
@@ -51,10 +51,10 @@ module _ (p : ProgramDef) (leads : LeadsOn p) where
   ways : fault_in_parts (length (parts_of p)) 1 (parts_of p) ≡ None
   ways = ways-of p.body leads.ways (parts_of p) refl
 
-  then-there : (part : ℕ) (at : Position) → then_of p part ≡ Some at → IsThere p at.part
+  then-there : (part : ℕ) (at : Position) → next_on_commit (parts_of p) part ≡ Some at → IsThere p at.part
   then-there part at h = let l = commit_leads_on (parts_of p) ways part at h in in-range (parts_of p) at.part (omega (arith, l.0)) l.1
 
-  branch-there : (part tries : ℕ) (at : Position) → ((m : ℕ) → tries ≡ suc m → IsThere p part) → branch_of p part tries ≡ Some at → IsThere p at.part
+  branch-there : (part tries : ℕ) (at : Position) → ((m : ℕ) → tries ≡ suc m → IsThere p part) → next_on_failure (parts_of p) part tries ≡ Some at → IsThere p at.part
   branch-there part zero at there h = let l = branch_leads_on (parts_of p) ways part at h in in-range (parts_of p) at.part (omega (arith, l.0)) l.1
   branch-there part (suc m) at there h =
       let same : record { part = part; tries = m } ≡ at = same_Some {A = Position} (record { part = part; tries = m }) at h in
@@ -122,22 +122,22 @@ module _ (k : Kept) (can : CanDrain k) where
   committed-stands n (First s b name args) vars = go (kept_program name k) refl
     where
       go : (o : Option ProgramDef) → kept_program name k ≡ o →
-          Every (StandsAtPart k) (elim o [ None ↦ k.conts | Some p ↦ begun_cont b n p args vars (then_of p 1) k.conts ])
+          Every (StandsAtPart k) (elim o [ None ↦ k.conts | Some p ↦ begun_cont b n p args vars (next_on_commit (parts_of p) 1) k.conts ])
       go None e = can.conts
       go (Some p) e =
-          begun-stands b n p args vars (then_of p 1) (subst (λ x. kept_program x k ≡ Some p) (named-own (programs_of k) name p e) e)
+          begun-stands b n p args vars (next_on_commit (parts_of p) 1) (subst (λ x. kept_program x k ≡ Some p) (named-own (programs_of k) name p e) e)
           (then-there p (named-program LeadsOn (programs_of k) name p can.programs e) 1)
   committed-stands n (Later b part) vars = by (cont_of b k) refl
     where
       go : (c : Cont) → cont_of b k ≡ Some c → (o : Option ProgramDef) → kept_program c.program k ≡ o →
-          Every (StandsAtPart k) (elim o [ None ↦ k.conts | Some p ↦ moved b (then_of p part) (λ x. record x { vars = values_kept p vars }) k.conts ])
+          Every (StandsAtPart k) (elim o [ None ↦ k.conts | Some p ↦ moved b (next_on_commit (parts_of p) part) (λ x. record x { vars = values_kept p vars }) k.conts ])
       go c e None g = can.conts
-      go c e (Some p) g = moved-stands b c p (then_of p part) (λ x. record x { vars = values_kept p vars }) (λ x. refl) g (then-there p (leads c p g) part) e
+      go c e (Some p) g = moved-stands b c p (next_on_commit (parts_of p) part) (λ x. record x { vars = values_kept p vars }) (λ x. refl) g (then-there p (leads c p g) part) e
 
       by : (o : Option Cont) → cont_of b k ≡ o →
           Every (StandsAtPart k)
           (elim (option_and_then (λ c. kept_program c.program k) o)
-          [ None ↦ k.conts | Some p ↦ moved b (then_of p part) (λ x. record x { vars = values_kept p vars }) k.conts ])
+          [ None ↦ k.conts | Some p ↦ moved b (next_on_commit (parts_of p) part) (λ x. record x { vars = values_kept p vars }) k.conts ])
       by None e = can.conts
       by (Some c) e = go c e (kept_program c.program k) refl
 
@@ -158,16 +158,16 @@ module _ (k : Kept) (can : CanDrain k) where
           (at.part, subst (λ n. at_number n (parts_of p) ≡ Some at.part) (stays b part m c refl e t) (subst (λ (p : ProgramDef). at_number c.next (parts_of p) ≡ Some at.part) same at.there))
 
       go : (c : Cont) → cont_of b k ≡ Some c → (o : Option ProgramDef) → kept_program c.program k ≡ o →
-          Every (StandsAtPart k) (elim o [ None ↦ k.conts | Some p ↦ moved b (branch_of p part c.tries) (λ x. x) k.conts ])
+          Every (StandsAtPart k) (elim o [ None ↦ k.conts | Some p ↦ moved b (next_on_failure (parts_of p) part c.tries) (λ x. x) k.conts ])
       go c e None g = can.conts
       go c e (Some p) g =
-          moved-stands b c p (branch_of p part c.tries) (λ x. x) (λ x. refl) g
+          moved-stands b c p (next_on_failure (parts_of p) part c.tries) (λ x. x) (λ x. refl) g
           (λ at h. branch-there p (leads c p g) part c.tries at (λ m t. its c p e g m t) h) e
 
       by : (o : Option Cont) → cont_of b k ≡ o →
           Every (StandsAtPart k)
           (elim (option_and_then (λ c. kept_program c.program k) o)
-          [ None ↦ k.conts | Some p ↦ moved b (branch_of p part (left o)) (λ x. x) k.conts ])
+          [ None ↦ k.conts | Some p ↦ moved b (next_on_failure (parts_of p) part (left o)) (λ x. x) k.conts ])
       by None e = can.conts
       by (Some c) e = go c e (kept_program c.program k) refl
   branched-stands kind stays = can.conts
@@ -184,9 +184,9 @@ failed-at : (k : Kept) → CanDrain k → (b : Id) (part m : ℕ) (c : Cont) →
     cont_in b (conts_branched k (Later b part)) ≡ Some (record c { next = part; tries = m })
 failed-at k can b part m c e t =
     let at = found-in (StandsAtPart k) b c k.conts can.conts e in
-    ap (λ q. cont_in b (elim q [ None ↦ k.conts | Some p ↦ moved b (branch_of p part (tries_left b k)) (λ c. c) k.conts ]))
+    ap (λ q. cont_in b (elim q [ None ↦ k.conts | Some p ↦ moved b (next_on_failure (parts_of p) part (tries_left b k)) (λ c. c) k.conts ]))
     (ap (option_and_then (λ (c : Cont). kept_program c.program k)) e ∙ at.found)
-    ∙ ap (λ t. cont_in b (moved b (branch_of at.program part t) (λ c. c) k.conts)) (ap (λ (q : Option Cont). elim q [ None ↦ 0 | Some d ↦ d.tries ]) e ∙ t)
+    ∙ ap (λ t. cont_in b (moved b (next_on_failure (parts_of at.program) part t) (λ c. c) k.conts)) (ap (λ (q : Option Cont). elim q [ None ↦ 0 | Some d ↦ d.tries ]) e ∙ t)
     ∙ found-change b (λ c. record c { next = part; tries = m }) (λ x. refl) k.conts c e
 
 module _ (s : UnitState) (trace : Trace) (keeps : KeepsUnits s trace) (can : CanDrain s.kept) where

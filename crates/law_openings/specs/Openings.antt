@@ -1,7 +1,7 @@
 -- How a run falls in an opening and while it is down, and how it is opened again, as moves of its point.
 use Rattle.law_states.specs.Nexts.{flight_next, said_next}
 use Rattle.law_states.specs.Points.{Point}
-use Rattle.law_states.specs.Readings.{Reading}
+use Rattle.law_states.specs.Readings.{WatchReading}
 use Rattle.law_states.specs.States.{After, State, named_by, net_by}
 use Rattle.law_states.specs.Steps.{units_after}
 use Rattle.law_states.specs.Told.{at_devices_in}
@@ -33,7 +33,7 @@ pub record FallsAgain (old new : Point) : Type 0 where
 pub record Opens (boot n : ℕ) (old new : Point) : Type 0 where
   pub fallen : old.state.units.phase ≡ Fallen
   pub after : After (Opened boot n) old.state new.state
-  pub read : Reading new.state.watch
+  pub read : WatchReading new.state.watch
   pub next : new.next ≡ said_next (Opened boot n) old.state new.state read old.flight
   pub flight : new.flight ≡ flight_next (Opened boot n) old.flight new.next
 

@@ -5,8 +5,8 @@ ghost use Rattle.law_states.specs.Keeps.{KeepsUnits};
 ghost use Rattle.law_states.specs.Laws.{IsSound, is_of_run};
 ghost use Rattle.law_states.specs.Nexts.{said_next};
 ghost use Rattle.law_states.specs.OpenUnits.{UnitState};
-ghost use Rattle.law_states.specs.Points.{IsIdle, KeepsPoint, Move, Point, Runs, Says, point_of, told_by};
-ghost use Rattle.law_states.specs.Readings.{Reading};
+ghost use Rattle.law_states.specs.Points.{IsIdle, KeepsPoint, TraceStep, Point, Runs, Says, point_of, told_by};
+ghost use Rattle.law_states.specs.Readings.{WatchReading};
 ghost use Rattle.law_states.specs.States.{After, Keeps, State, started};
 ghost use Rattle.law_states.specs.Steps.{units_after};
 ghost use Rattle.salt_model.specs.After.{kept};
@@ -61,10 +61,10 @@ pub fn traces_open_their_points()
 
 /// What follows an event of an opening is told by the states of units alone.
 pub fn openings_tell_what_follows()
-    ensures said { (e : Event) (old new : State) (x : Reading new.watch) (flight : Option Event) → is_of_run e ≡ false →
+    ensures said { (e : Event) (old new : State) (x : WatchReading new.watch) (flight : Option Event) → is_of_run e ≡ false →
         new.units.phase ≡ Opening →
         said_next e old new x flight ≡ opening_in new.units e (unit_of e old.units new.units) }
-    ensures opened { (boot n : ℕ) (old new : State) (x : Reading new.watch) (flight : Option Event) →
+    ensures opened { (boot n : ℕ) (old new : State) (x : WatchReading new.watch) (flight : Option Event) →
         said_next (Opened boot n) old new x flight ≡ opened_in new.units n flight }
 {}
 
@@ -76,7 +76,7 @@ pub fn drains_never_rest()
 
 /// What is left of an opening falls with each event, so it comes to its end: its Ready, or its Early.
 pub fn openings_end()
-    ensures { (e : Event) (old new : State) (x : Reading new.watch) (flight : Option Event) (trace : Trace) →
+    ensures { (e : Event) (old new : State) (x : WatchReading new.watch) (flight : Option Event) (trace : Trace) →
         is_of_run e ≡ false → old.units.phase ≡ Opening → Keeps old trace → IsSound (trace says e) →
         CanDrain new.units.kept → After e old new →
         left_to_open new.units (said_next e old new x flight) < left_to_open old.units (Some e) }
@@ -108,11 +108,11 @@ pub fn drains_do_their_rests()
     ensures one { (e : Event) (s : UnitState) (trace : Trace) → KeepsUnits s trace → IsSound (trace says e) → is_of_run e ≡ false →
         s.phase ≡ Opening → IsBehindFlight trace (Some e) → CanDrain s.kept →
         statements_left (units_after e s) + statements_in e ≤ statements_left s }
-    ensures all { (ms : List Move) (old new : Point) (trace : Trace) → KeepsPoint old trace → IsSound trace →
+    ensures all { (ms : List TraceStep) (old new : Point) (trace : Trace) → KeepsPoint old trace → IsSound trace →
         CanDrain old.state.units.kept → old.state.units.phase ≡ Opening → IsBehindFlight trace old.next → Runs old ms new →
         new.state.units.phase ≡ Opening →
         statements_left new.state.units + statements_told (told_by ms) ≤ statements_left old.state.units }
-    ensures next { (ms : List Move) (old new : Point) (trace : Trace) (first e : Event) → KeepsPoint old trace → IsSound trace →
+    ensures next { (ms : List TraceStep) (old new : Point) (trace : Trace) (first e : Event) → KeepsPoint old trace → IsSound trace →
         old.state.units.phase ≡ Opening → old.next ≡ Some first → CanDrain (units_after first old.state.units).kept → Runs old ms new →
         new.state.units.phase ≡ Opening → new.next ≡ Some e →
         statements_told (told_by ms) + statements_in e ≤ rests_behind first old.state.units + statements_in first }

@@ -15,7 +15,7 @@ use Rattle.law_states.specs.KeptSources.{gone_in}
 use Rattle.law_states.specs.KeptWaits.{served_in, victim_in}
 use Rattle.law_states.specs.Members.{In, SameMembers}
 use Rattle.law_states.specs.OpenUnits.{OpenUnit, names_in}
-use Rattle.law_states.specs.Readings.{Reading, base_item_by, beside_by, clash_by, first_parts, items_by, locks_by, locks_in, under_way_by, under_way_of}
+use Rattle.law_states.specs.Readings.{WatchReading, base_item_by, beside_by, clash_by, first_parts, items_by, locks_by, locks_in, under_way_by, under_way_of}
 use Rattle.law_states.specs.States.{Keeps, State}
 use Rattle.law_story.proofs.Hiding.{Hides, hides}
 use Rattle.law_story.proofs.Ids.{is_same_id-refl}
@@ -27,7 +27,7 @@ use Rattle.salt_ast.specs.declared.trees.Statement.{Statement}
 use Rattle.salt_model.specs.Kept.{WellKept, cont_of}
 use Rattle.salt_model.specs.Locks.{clashing, family_of, held, owners_of}
 use Rattle.salt_model.specs.Played.{IsPlayed}
-use Rattle.salt_model.specs.Programs.{finished_in, in_part_1, shares, under_way, unreleased}
+use Rattle.salt_model.specs.Programs.{finished_in, shares, under_way, unreleased}
 use Rattle.salt_model.specs.Reads.{is_finished}
 use Rattle.salt_model.specs.Shown.{base_item, base_items, lock_items}
 use Rattle.salt_model.specs.Trace.{Trace, start_of}
@@ -79,9 +79,12 @@ module _ (s : State) (trace : Trace) (keeps : Keeps s trace) (p : IsPlayed trace
   alive : (b : Id) → In b (under_way trace) → has_id b (gone_in trace) ≡ false
   alive b i =
       either (λ j. let r = unreleased-in trace b j in sym (accepted-over trace b hidden r.0) ∙ r.1) (λ j. part b j)
-      (in-cases b (unreleased trace) (in_part_1 trace) (in-order b (unreleased trace ++ in_part_1 trace) i))
+      (in-cases b (unreleased trace) first (in-order b (unreleased trace ++ first) i))
     where
-      part : (b : Id) → In b (in_part_1 trace) → has_id b (gone_in trace) ≡ false
+      first : List Id
+      first = filter_map (λ u. option_and_then program_begun (kind_of u trace)) (open_units trace)
+
+      part : (b : Id) → In b first → has_id b (gone_in trace) ≡ false
       part b j =
           let m = in-filter_map (λ u. option_and_then program_begun (kind_of u trace)) b (open_units trace) j in
           let q = first-program (kind_of m.0 trace) b m.2 in
@@ -111,7 +114,7 @@ module _ (s : State) (trace : Trace) (keeps : Keeps s trace) (p : IsPlayed trace
     over_net = keeps.over_net;
   }
 
-  module _ (x : Reading s.watch) where
+  module _ (x : WatchReading s.watch) where
     part-told : (o : Owner) → filter (is_owned_by o) (held trace) ≡ locks_by x o
     part-told o = sym (keeps-shown s.watch.table (x.part o) (held trace) o keeps.watch.locks (x.rises o) (x.whose o))
 

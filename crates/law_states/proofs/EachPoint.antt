@@ -6,7 +6,7 @@ use Rattle.law_states.proofs.PointsGoOn.{asked-kept, flight-kept, said-kept, tur
 use Rattle.law_states.specs.Laws.{is_of_run}
 use Rattle.law_states.specs.PlainStates.{as_state, state_of, watch_of}
 use Rattle.law_states.specs.Points.{Asks, Falls, KeepsPoint, Says, Turns, point_of}
-use Rattle.law_states.specs.Readings.{Reading}
+use Rattle.law_states.specs.Readings.{WatchReading}
 use Rattle.law_story.proofs.Replays.{good-event, replays}
 use Rattle.salt_model.specs.Kept.{WellKept}
 use Rattle.salt_model.specs.Next.{next}
@@ -22,7 +22,7 @@ use Rattle.salt_values.specs.declared.id.Id.{Id}
 use Rattle.std.proofs.Common.{subst, sym, ◌∙◌}
 use Rattle.std.specs.Prelude.{None, Option, Some, false, refl, true, ◌≡◌}
 
-reading-of : (trace : Trace) → Reading (watch_of (state_of trace).watch)
+reading-of : (trace : Trace) → WatchReading (watch_of (state_of trace).watch)
 reading-of trace = plain-reading (state_of trace).watch (always-in-turn trace)
 
 pub point-kept : (trace : Trace) → IsPlayed trace → WellKept (start_of trace).kept → KeepsPoint (point_of trace) trace

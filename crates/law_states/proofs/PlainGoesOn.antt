@@ -9,7 +9,7 @@ use Rattle.law_states.specs.Members.{Ascends, In}
 use Rattle.law_states.specs.Overlays.{Edit}
 use Rattle.law_states.specs.PairClosures.{Pair, all_sources, due_in, has_pair}
 use Rattle.law_states.specs.PlainStates.{IsInTurn, PlainState, PlainWatch, as_state, finished_after, pair_at, pair_with, pairs_after, pairs_among, pairs_read, state_after, watch_after, watch_of, writer_in, writers_after, written_by}
-use Rattle.law_states.specs.Readings.{Reading}
+use Rattle.law_states.specs.Readings.{WatchReading}
 use Rattle.law_states.specs.States.{After}
 use Rattle.law_states.specs.UnitFacts.{UnitFacts, facts_in}
 use Rattle.law_states.specs.WatchSteps.{ReadsBy, base_by, fate_by, first_by, taken_by_now, won_by, writer_by}
@@ -289,7 +289,7 @@ filter-rises test (n ∷ ns) h = by (test n) (filter-rises test ns h.1)
     by true more = (every-filter (Sooner n) test ns h.0, more)
     by false more = more
 
-pub plain-reading : (w : PlainWatch) → IsInTurn w → Reading (watch_of w)
+pub plain-reading : (w : PlainWatch) → IsInTurn w → WatchReading (watch_of w)
 plain-reading w h = record {
   sources = all_sources w.pairs;
   due = due_in w.pairs w.finished;

@@ -6,8 +6,8 @@ use Rattle.law_states.proofs.StatesGoOn.{states-ask, states-say, states-turn}
 use Rattle.law_states.proofs.Told.{next-turn-told}
 use Rattle.law_states.specs.Laws.{IsSound, is_of_run}
 use Rattle.law_states.specs.Nexts.{asked_next, flight_next, next_turn_of, refusal_of, said_next, turned_next}
-use Rattle.law_states.specs.Points.{Ask, Asks, IsIdle, KeepsPoint, Move, Moves, Point, Runs, Say, Says, Turn, Turns, moved, told_by, trace_on}
-use Rattle.law_states.specs.Readings.{Reading, beside_by, under_way_of}
+use Rattle.law_states.specs.Points.{Ask, Asks, IsIdle, KeepsPoint, TraceStep, Moves, Point, Runs, Say, Says, Turn, Turns, moved, told_by, trace_on}
+use Rattle.law_states.specs.Readings.{WatchReading, beside_by, under_way_of}
 use Rattle.law_states.specs.States.{After, Keeps, State, asked_of, turned_to}
 use Rattle.law_states.specs.Steps.{units_asked}
 use Rattle.law_states.specs.Follows.{said_in, unit_of}
@@ -31,14 +31,14 @@ pub refusal-kept : (s : State) (trace : Trace) (asked : Asked) → Keeps s trace
     refusal trace asked ≡ refusal_of s asked
 refusal-kept s trace asked keeps p w = refusal-told s.units trace keeps.units (under_way_of s) (under-way-kept s trace keeps p w) asked
 
-pub asked-kept : (s : State) (trace : Trace) (asked : Asked) (x : Reading s.watch) → Keeps s trace → IsPlayed (trace asks asked) →
+pub asked-kept : (s : State) (trace : Trace) (asked : Asked) (x : WatchReading s.watch) → Keeps s trace → IsPlayed (trace asks asked) →
     WellKept (start_of trace).kept → next (trace asks asked) ≡ asked_next s x asked
 asked-kept s trace asked x keeps p w =
     let now = asked_of asked s in
     asked-told s.units trace asked (beside_by now x) (beside-kept now (trace asks asked) (states-ask s trace asked keeps p.0 w) p w x) keeps.units
     ∙ ap (λ r. option_or (option_map Refused r) (line_in (units_asked asked s.units) (beside_by now x).clash (beside_by now x).items (line_asked asked))) (refusal-kept s trace asked keeps p.0 w)
 
-pub turned-kept : (s : State) (trace : Trace) (b : Id) (x : Reading s.watch) → Keeps s trace → IsPlayed (trace turns b) →
+pub turned-kept : (s : State) (trace : Trace) (b : Id) (x : WatchReading s.watch) → Keeps s trace → IsPlayed (trace turns b) →
     WellKept (start_of trace).kept → next (trace turns b) ≡ turned_next s x b
 turned-kept s trace b x keeps p w =
     let now = turned_to b s in
@@ -47,7 +47,7 @@ turned-kept s trace b x keeps p w =
 pub turn-kept : (s : State) (trace : Trace) → Keeps s trace → next_turn trace ≡ next_turn_of s
 turn-kept s trace keeps = next-turn-told s.units trace keeps.units
 
-pub said-kept : (old new : State) (trace : Trace) (e : Event) (x : Reading new.watch) → Keeps old trace → IsPlayed (trace says e) →
+pub said-kept : (old new : State) (trace : Trace) (e : Event) (x : WatchReading new.watch) → Keeps old trace → IsPlayed (trace says e) →
     WellKept (start_of trace).kept → After e old new → next (trace says e) ≡ said_next e old new x (flight trace)
 said-kept old new trace (Down why) x keeps p w a = refl
 said-kept old new trace (Opened boot n) x keeps p w a =
@@ -107,23 +107,23 @@ says-point e old new trace k sound a r =
       record { played = p; well = sound.well },
     )
 
-pub moves-point : (m : Move) (old new : Point) (trace : Trace) → KeepsPoint old trace → IsSound trace → Moves m old new →
+pub moves-point : (m : TraceStep) (old new : Point) (trace : Trace) → KeepsPoint old trace → IsSound trace → Moves m old new →
     KeepsPoint new (moved trace m) × IsSound (moved trace m)
 moves-point (Ask asked) old new trace k sound a = asks-point asked old new trace k sound a
 moves-point (Turn b) old new trace k sound a = turns-point b old new trace k sound a
 moves-point (Say e) old new trace k sound a = says-point e old new trace k sound a.0 a.1
 
-pub runs-point : (ms : List Move) (old new : Point) (trace : Trace) → KeepsPoint old trace → IsSound trace → Runs old ms new →
+pub runs-point : (ms : List TraceStep) (old new : Point) (trace : Trace) → KeepsPoint old trace → IsSound trace → Runs old ms new →
     KeepsPoint new (trace_on trace ms) × IsSound (trace_on trace ms)
 runs-point [] old new trace k sound r = (subst (λ p. KeepsPoint p trace) r k, sound)
 runs-point (m ∷ ms) old new trace k sound r = let n = moves-point m old r.0 trace k sound r.1 in runs-point ms r.0 new (moved trace m) n.0 n.1 r.2
 
 -- one move more
-pub runs-append : (ms : List Move) (m : Move) (old mid new : Point) → Runs old ms mid → Moves m mid new → Runs old (ms ++ m ∷ []) new
+pub runs-append : (ms : List TraceStep) (m : TraceStep) (old mid new : Point) → Runs old ms mid → Moves m mid new → Runs old (ms ++ m ∷ []) new
 runs-append [] m old mid new r a = (new, subst (λ p. Moves m p new) (sym r) a, refl)
 runs-append (n ∷ ms) m old mid new r a = (r.0, r.1, runs-append ms m r.0 mid new r.2 a)
 
-pub told-append : (ms : List Move) (m : Move) → told_by (ms ++ m ∷ []) ≡ told_by ms ++ told_by (m ∷ [])
+pub told-append : (ms : List TraceStep) (m : TraceStep) → told_by (ms ++ m ∷ []) ≡ told_by ms ++ told_by (m ∷ [])
 told-append [] m = refl
 told-append (Say e ∷ ms) m = ap (λ es. e ∷ es) (told-append ms m)
 told-append (Ask asked ∷ ms) m = told-append ms m
@@ -137,13 +137,13 @@ pub no-more : (es : List Event) → es ++ [] ≡ es
 no-more [] = refl
 no-more (e ∷ es) = ap (λ l. e ∷ l) (no-more es)
 
-pub story-on : (ms : List Move) (trace : Trace) → story_of (trace_on trace ms) ≡ story_of trace ++ told_by ms
+pub story-on : (ms : List TraceStep) (trace : Trace) → story_of (trace_on trace ms) ≡ story_of trace ++ told_by ms
 story-on [] trace = sym (no-more (story_of trace))
 story-on (Say e ∷ ms) trace = story-on ms (trace says e) ∙ append-one (story_of trace) (told_by ms) e
 story-on (Ask asked ∷ ms) trace = story-on ms (trace asks asked)
 story-on (Turn b ∷ ms) trace = story-on ms (trace turns b)
 
-pub start-on : (ms : List Move) (trace : Trace) → start_of (trace_on trace ms) ≡ start_of trace
+pub start-on : (ms : List TraceStep) (trace : Trace) → start_of (trace_on trace ms) ≡ start_of trace
 start-on [] trace = refl
 start-on (Say e ∷ ms) trace = start-on ms (trace says e)
 start-on (Ask asked ∷ ms) trace = start-on ms (trace asks asked)

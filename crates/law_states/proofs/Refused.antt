@@ -13,7 +13,7 @@ use Rattle.salt_ast.specs.declared.lines.Line.TheVariants.{Crash, Go, Net, Sessi
 use Rattle.salt_model.specs.Kept.{kept_program, programs_of, schema_of}
 use Rattle.salt_model.specs.Locks.{is_holding}
 use Rattle.salt_model.specs.Programs.{accepted_in, under_way}
-use Rattle.salt_model.specs.Refusals.{defines, has_block, is_base_program, is_busy, is_called, is_covering, is_held_back, is_state_wrong, is_waiting_unit, known_at, refusal, refusal_by, state_wrong}
+use Rattle.salt_model.specs.Refusals.{defines, has_block, is_base_program, is_busy, is_called, is_covering, is_held_back, is_state_wrong, known_at, refusal, refusal_by, state_wrong}
 use Rattle.salt_model.specs.Trace.{Asked, Rejected, Trace, Tree, start_of}
 use Rattle.salt_model.specs.Words.{is_empty}
 use Rattle.salt_model.specs.declared.events.UnitKind.{UnitKind}
@@ -21,8 +21,10 @@ use Rattle.salt_values.specs.declared.cont.Cont.{Cont}
 use Rattle.std.proofs.Common.{ap, ◌∙◌}
 use Rattle.std.specs.Bool.{then_some}
 use Rattle.std.specs.List.{list_any}
-use Rattle.std.specs.Option.{option_or}
+use Rattle.std.specs.Option.{option_or, option_map_or}
 use Rattle.std.specs.Prelude.{None, Option, Some, false, length, map, not, option_map, refl, ◌&&◌, ◌||◌, ◌≡◌}
+use Rattle.salt_model.specs.Units.{is_waiting}
+use Rattle.salt_values.specs.declared.id.Id.{Id}
 use Rattle.salt_model.specs.declared.events.Refusal.TheVariants as refused
 
 -- what is known beside the units is the trace's
@@ -54,7 +56,7 @@ module _ (s : UnitState) (trace : Trace) (keeps : KeepsUnits s trace) (way : Und
   act-wrong-told Rollback (Some o) k = refl
   act-wrong-told act None k = refl
 
-  waits-told : (o : Option OpenUnit) → IfSome (KeepsUnit trace) o → is_waiting_unit trace (name_of o) ≡ waits o
+  waits-told : (o : Option OpenUnit) → IfSome (KeepsUnit trace) o → option_map_or (is_waiting trace) (name_of o) false ≡ waits o
   waits-told None k = refl
   waits-told (Some o) k = k.waiting
 
@@ -67,7 +69,7 @@ module _ (s : UnitState) (trace : Trace) (keeps : KeepsUnits s trace) (way : Und
       ap (λ o. state_wrong trace o act || is_held_back trace act) (session-kept s trace t keeps)
       ∙ (λ i. act-wrong-told act (unit_of_session t s) (every-found (KeepsUnit trace) _ s.units keeps.each) i || held-back-told act i)
   wrong-told (Go b) =
-      ap (is_waiting_unit trace) (program-kept s trace b keeps)
+      ap (λ (u : Option Id). option_map_or (is_waiting trace) u false) (program-kept s trace b keeps)
       ∙ waits-told (unit_of_program b s) (every-found (KeepsUnit trace) _ s.units keeps.each)
   wrong-told (Crash pairs) = ap not ways.can_stop
   wrong-told (Net pairs) = ap not ways.over_net

@@ -7,7 +7,7 @@ use Rattle.law_states.specs.Laws.{is_of_run}
 use Rattle.law_states.specs.Members.{In}
 use Rattle.law_states.specs.Nexts.{said_next}
 use Rattle.law_states.specs.OpenUnits.{OpenUnit, UnitState, asks_next, unit_named}
-use Rattle.law_states.specs.Readings.{Reading, beside_by, locks_in}
+use Rattle.law_states.specs.Readings.{WatchReading, beside_by, locks_in}
 use Rattle.law_states.specs.Settling.{stage, to_come, waiters, waiters_after}
 use Rattle.law_states.specs.States.{After, State}
 use Rattle.law_states.specs.Told.{Beside, Clashes, after_began_in, after_did_in, after_end_in, asks_in, commits_in, does_in, fails_in, finishes_in, is_at_end_in, settle_in, turn_in}
@@ -186,7 +186,7 @@ settle-falls s us None (Some u) f g = by (unit_named u s.units) refl
         let h = less-without o.unit us (subst (λ x. In x us) (sym same) (g u refl)) in
         comes-map-at (Falls us (6 * length us + 1)) (does_in s o) (asks_next s o) (λ st q. omega arith)
 
-settles-fall : (s : State) (x : Reading s.watch) → IfComes (Falls (waiters s) (6 * length (waiters s) + 1)) (settles_in s.units (beside_by s x))
+settles-fall : (s : State) (x : WatchReading s.watch) → IfComes (Falls (waiters s) (6 * length (waiters s) + 1)) (settles_in s.units (beside_by s x))
 settles-fall s x =
     settle-falls s.units (map (λ w. w.unit) s.watch.waits) (beside_by s x).victim (beside_by s x).served
     (λ u e. victim-waits s.watch.dependencies (locks_in s.watch) s.watch.waits x.sources u e)
@@ -212,7 +212,7 @@ comes-else : (P : Event → Type 0) (o p : Option Event) → IfComes P o → IfC
 comes-else P None p f g = g
 comes-else P (Some e) p f g = f
 
-serving-falls : (s : State) (x : Reading s.watch) (e : Event) (o : Option OpenUnit) →
+serving-falls : (s : State) (x : WatchReading s.watch) (e : Event) (o : Option OpenUnit) →
     IfComes (Falls (waiters s) (6 * length (waiters s) + stage e)) (serving_in s.units (beside_by s x) e o)
 serving-falls s x Ready o = tt
 serving-falls s x (Early bs) o = tt
@@ -259,7 +259,7 @@ to-come-less us n None h f = h
 to-come-less us n (Some e) h f = f
 
 -- while serving, what is still to come falls with each event
-pub to-come-falls : (e : Event) (old new : State) (x : Reading new.watch) (flight : Option Event) → is_of_run e ≡ false → new.units.phase ≡ Serving →
+pub to-come-falls : (e : Event) (old new : State) (x : WatchReading new.watch) (flight : Option Event) → is_of_run e ≡ false → new.units.phase ≡ Serving →
     After e old new → to_come (waiters new) (said_next e old new x flight) < to_come (waiters old) (Some e)
 to-come-falls (Down why) old new x flight r serves a = cc
 to-come-falls (Opened boot n) old new x flight r serves a = cc

@@ -21,7 +21,7 @@ use Rattle.salt_model.specs.Openings.{cuts_or_drains, drains, to_cut, unfinished
 use Rattle.salt_model.specs.Programs.{named_early}
 use Rattle.salt_model.specs.Shown.{base_items, lock_items}
 use Rattle.salt_model.specs.Trace.{Trace}
-use Rattle.salt_model.specs.Turns.{act_event, after_began, after_did, after_end, asks_for, begins, calls, can_go, commits, does, does_next, fails, finishes, go, goes_on, is_at_end, kind_called, line_event, next_to_go, next_turn, settle_by, turn, turn_of, turn_owed}
+use Rattle.salt_model.specs.Turns.{act_event, after_began, after_did, after_end, asks_for, begins, calls, can_go, commits, does, does_next, fails, finishes, go, goes_on, is_at_end, kind_called, line_event, next_to_go, next_turn, settle_by, turn, turn_owed}
 use Rattle.salt_model.specs.Units.{done_of, is_waiting, open_units, program_unit}
 use Rattle.salt_model.specs.Waiting.{block_of}
 use Rattle.salt_model.specs.Words.{Every, is_empty}
@@ -43,6 +43,7 @@ use Rattle.std.specs.Bool.{then_some}
 use Rattle.std.specs.List.{filter, find}
 use Rattle.std.specs.Option.{option_or}
 use Rattle.std.specs.Prelude.{Bool, List, None, Option, Some, [], cond, false, if◌then◌else◌, is_none, is_some, length, nat_lt, not, option_map, refl, true, ℕ, ◌&&◌, ◌==◌, ◌∷◌, ◌≡◌}
+use Rattle.std.specs.Prelude.{option_and_then}
 
 pub every-found : {A : Type 0} (P : A → Type 0) (q : A → Bool) (xs : List A) → Every P xs → IfSome P (find q xs)
 every-found P q [] h = tt
@@ -85,7 +86,7 @@ module _ (s : UnitState) (trace : Trace) (keeps : KeepsUnits s trace) where
   pub serve-told : (o : OpenUnit) → KeepsUnit trace o → does_next trace o.unit ≡ serve_in s o
   serve-told o k = λ i. option_map (λ st. does-told o st k i) (asked-kept s trace o keeps k i)
 
-  turn-of-told : (c : Clashes) → AreClashes c → (o : Option OpenUnit) → IfSome (KeepsUnit trace) o → turn_of trace (name_of o) ≡ turn_of_in s c o
+  turn-of-told : (c : Clashes) → AreClashes c → (o : Option OpenUnit) → IfSome (KeepsUnit trace) o → option_and_then (turn trace) (name_of o) ≡ turn_of_in s c o
   turn-of-told c f None k = refl
   turn-of-told c f (Some o) k = turn-told c f o k
 

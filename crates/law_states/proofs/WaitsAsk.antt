@@ -19,7 +19,7 @@ use Rattle.salt_model.specs.Phases.{Fallen, Opening, Phase, Serving, phase}
 use Rattle.salt_model.specs.Played.{IsPlayed}
 use Rattle.salt_model.specs.Programs.{named_early}
 use Rattle.salt_model.specs.Reads.{to_release}
-use Rattle.salt_model.specs.Refusals.{is_held_back, is_state_wrong, is_waiting_unit, judged, refusal, state_wrong}
+use Rattle.salt_model.specs.Refusals.{is_held_back, is_state_wrong, judged, refusal, state_wrong}
 use Rattle.salt_model.specs.Trace.{Asked, Rejected, Trace, Tree, from, line_asked, line_of, start_of, ◌asks◌, ◌says◌, ◌turns◌}
 use Rattle.salt_model.specs.Turns.{act_event, after_began, after_did, after_end, asks_for, can_go, commits, does_next, fails, finishes, follow, go, goes_on, is_at_end, line_event, next_to_go, next_turn, owes_turn, releases, settle, settle_by, still_to_go, turn, turn_owed}
 use Rattle.salt_model.specs.Units.{is_waiting, kind_of, open_units, program_unit, session_unit}
@@ -42,7 +42,7 @@ use Rattle.salt_values.specs.declared.id.Id.{Id}
 use Rattle.std.proofs.Common.{inl, inr, subst}
 use Rattle.std.specs.Bool.{then_some}
 use Rattle.std.specs.List.{find}
-use Rattle.std.specs.Option.{option_or}
+use Rattle.std.specs.Option.{option_or, option_map_or}
 use Rattle.std.specs.Prelude.{Bool, List, None, Option, Some, [], cond, false, is_none, is_some, not, option_map, refl, true, ℕ, ⊤, ◌||◌, ◌∷◌, ◌≡◌, ◌⊎◌}
 
 -- what is known of a Waits that comes
@@ -89,7 +89,7 @@ module _ (trace : Trace) where
 
   asks-line : (line : Line) → is_state_wrong trace line ≡ false → IfComes P (line_event trace line)
   asks-line (Session s act) w = asks-act s act (session_unit s trace) (or-first-false _ (is_held_back trace act) w)
-  asks-line (Go b) w = asks-go b (λ u e. subst (λ o. is_waiting_unit trace o ≡ false) e w)
+  asks-line (Go b) w = asks-go b (λ u e. subst (λ o. option_map_or (is_waiting trace) o false ≡ false) e w)
   asks-line line w = tt
 
   asks-fails : (u : Id) (c : Cause) (o : Option UnitKind) → P (fails trace u c o)

@@ -14,8 +14,8 @@ use Rattle.law_story.proofs.Sound.{Sound, kind-in, kind-stays, of-program}
 use Rattle.law_story.specs.Rewordings.{WritesAtEnd}
 use Rattle.salt_model.specs.After.{changes_now}
 use Rattle.salt_model.specs.Programs.{passed_in, programs_in, released_in}
-use Rattle.salt_model.specs.Reads.{Written, is_reached, is_written_at, last_of_each, last_writer, programs_among, writers_in, written_at, written_by, written_in, wrote_of}
-use Rattle.salt_model.specs.Tables.{place, place_cmp, place_total}
+use Rattle.salt_model.specs.Reads.{Written, is_written_at, last_of_each, last_writer, programs_among, writers_in, written_at, written_by, written_in, wrote_of}
+use Rattle.salt_model.specs.Tables.{place, place_cmp, place_total, is_within}
 use Rattle.salt_model.specs.Trace.{Trace, from, ◌asks◌, ◌says◌, ◌turns◌}
 use Rattle.salt_model.specs.Units.{is_open, kind_of, program_of, program_of_kind, units_begun}
 use Rattle.salt_model.specs.declared.events.End.TheVariants.{Committed}
@@ -117,8 +117,8 @@ pub writes-in : (trace : Trace) (r : Option Reach) (y : Id) → In y (programs_a
 writes-in trace None y h n = absurd (in-filter_map (λ u. program_of u trace) y [] h).1
 writes-in trace (Some r) y h n =
     let u = in-filter_map (λ u. program_of u trace) y (writers_in trace (Some r)) h in
-    let w = in-map (λ (w : Written). w.unit) u.0 (filter (is_reached r) (last_of_each (written_in trace))) u.1 in
-    let i = in-filter (is_reached r) w.0 (last_of_each (written_in trace)) w.1 in
+    let w = in-map (λ (w : Written). w.unit) u.0 (filter (λ (w : Written). is_within r (written_at w)) (last_of_each (written_in trace))) u.1 in
+    let i = in-filter (λ (w : Written). is_within r (written_at w)) w.0 (last_of_each (written_in trace)) w.1 in
     let table : w.0.table ≡ r.table = sym (eqb-true r.table w.0.table (and_left (r.table == w.0.table) _ i.1)) in
     let found : find (is_written_at (place r.table w.0.key)) (written_in trace) ≡ Some w.0 = subst (λ t. find (is_written_at (place t w.0.key)) (written_in trace) ≡ Some w.0) table (last-found w.0 (written_in trace) i.0) in
     early u.0 u.2 (has_id u.0 (begun_early trace)) refl (λ e. (w.0.key, and_right (r.table == w.0.table) _ i.1, ap (λ o. option_and_then (live_program trace) (option_map (λ (w : Written). w.unit) o)) found ∙ ap (live_program trace) w.2 ∙ some-live trace u.0 y u.2 n e))
@@ -147,8 +147,8 @@ in-writes trace (Some r) y k h = by (find (is_written_at (place r.table h.0)) (w
         let at : place r.table h.0 ≡ written_at w = tie-same _ _ (find-in (is_written_at (place r.table h.0)) w (written_in trace) e).1 in
         let table : (r.table == w.table) ≡ true = eq-eqb r.table w.table (ap (λ (p : Place). p.table) at) in
         let key : has_key r.range w.key ≡ true = subst (λ k. has_key r.range k ≡ true) (ap (λ (p : Place). p.key) at) h.1 in
-        let reached : is_reached r w ≡ true = rw (table, key) refl in
-        let i : In w (filter (is_reached r) (last_of_each (written_in trace))) = into-filter (is_reached r) w _ (found-last (place r.table h.0) w (written_in trace) e) reached in
+        let reached : is_within r (written_at w) ≡ true = rw (table, key) refl in
+        let i : In w (filter (λ (w : Written). is_within r (written_at w)) (last_of_each (written_in trace))) = into-filter (λ (w : Written). is_within r (written_at w)) w _ (found-last (place r.table h.0) w (written_in trace) e) reached in
         (into-filter_map (λ u. program_of u trace) w.unit y (writers_in trace (Some r)) (mapped w _ i) l.0, not-gone trace y (absent y (passed_in trace) (λ j. present w.unit (begun_early trace) (k.passed w.unit y l.0 j) l.2)) l.1)
 
 -- an event that neither commits nor releases

@@ -2,7 +2,7 @@
 use Rattle.law_states.specs.Laws.{is_of_run}
 use Rattle.law_states.specs.Nexts.{asked_next, flight_next, next_turn_of, said_next, turned_next}
 use Rattle.law_states.specs.PlainStates.{as_state, state_of}
-use Rattle.law_states.specs.Readings.{Reading}
+use Rattle.law_states.specs.Readings.{WatchReading}
 use Rattle.law_states.specs.States.{After, Keeps, State, asked_of, turned_to}
 use Rattle.law_states.specs.Told.{at_devices_in}
 use Rattle.salt_model.specs.Next.{decision_in, flight, next}
@@ -39,7 +39,7 @@ pub record IsIdle (p : Point) : Type 0 where
 pub record Asks (asked : Asked) (old new : Point) : Type 0 where
   pub idle : IsIdle old
   pub state : new.state ≡ asked_of asked old.state
-  pub read : Reading old.state.watch
+  pub read : WatchReading old.state.watch
   pub next : new.next ≡ asked_next old.state read asked
   pub flight : new.flight ≡ decision_in new.next
 
@@ -49,7 +49,7 @@ pub record Turns (b : Id) (old new : Point) : Type 0 where
   pub none : old.next ≡ None
   pub turn : next_turn_of old.state ≡ Some b
   pub state : new.state ≡ turned_to b old.state
-  pub read : Reading old.state.watch
+  pub read : WatchReading old.state.watch
   pub next : new.next ≡ turned_next old.state read b
   pub flight : new.flight ≡ decision_in new.next
 
@@ -57,37 +57,37 @@ pub record Turns (b : Id) (old new : Point) : Type 0 where
 pub record Says (e : Event) (old new : Point) : Type 0 where
   pub comes : old.next ≡ Some e
   pub after : After e old.state new.state
-  pub read : Reading new.state.watch
+  pub read : WatchReading new.state.watch
   pub next : new.next ≡ said_next e old.state new.state read old.flight
   pub flight : new.flight ≡ flight_next e old.flight new.next
 
-pub data Move : Type 0 where
-  Ask : Asked → Move
-  Turn : Id → Move
-  Say : Event → Move
+pub data TraceStep : Type 0 where
+  Ask : Asked → TraceStep
+  Turn : Id → TraceStep
+  Say : Event → TraceStep
 
-abbrev pub Moves : Move → Point → Point → Type 0
+abbrev pub Moves : TraceStep → Point → Point → Type 0
 Moves (Ask asked) old new = Asks asked old new
 Moves (Turn b) old new = Turns b old new
 Moves (Say e) old new = Says e old new × (is_of_run e ≡ false)
 
 -- one move after another
-abbrev pub Runs : Point → List Move → Point → Type 0
+abbrev pub Runs : Point → List TraceStep → Point → Type 0
 Runs p [] q = p ≡ q
 Runs p (m ∷ ms) q = (mid : Point) × Moves m p mid × Runs mid ms q
 
-abbrev pub moved : Trace → Move → Trace
+abbrev pub moved : Trace → TraceStep → Trace
 moved trace (Ask asked) = trace asks asked
 moved trace (Turn b) = trace turns b
 moved trace (Say e) = trace says e
 
 -- the trace with these moves
-abbrev pub trace_on : Trace → List Move → Trace
+abbrev pub trace_on : Trace → List TraceStep → Trace
 trace_on trace [] = trace
 trace_on trace (m ∷ ms) = trace_on (moved trace m) ms
 
 -- the events said
-abbrev pub told_by : List Move → List Event
+abbrev pub told_by : List TraceStep → List Event
 told_by [] = []
 told_by (Say e ∷ ms) = e ∷ told_by ms
 told_by (m ∷ ms) = told_by ms

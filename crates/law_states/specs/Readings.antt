@@ -28,7 +28,7 @@ use Rattle.std.specs.Prelude.{List, None, Some, if◌then◌else◌, length, map
 
 -- what is computed of a watch, in whatever way: the programs that each comes to by kept pairs, those that are due, and each owner's
 -- locks in the order taken
-pub record Reading (w : Watch) : Type 0 where
+pub record WatchReading (w : Watch) : Type 0 where
   pub sources : Id → List Id
   pub due : List Id
   pub part : Owner → List Numbered
@@ -44,7 +44,7 @@ locks_in w = map (λ (n : Numbered). n.lock) w.table
 abbrev pub clash_by : State → OpenUnit → Statement → List Owner
 clash_by s o st = owners_of (clash_in (Unit o.unit) (family_of (Some o.kind)) (reach_under s.units.kept o st) (locks_in s.watch))
 
-abbrev pub locks_by : {w : Watch} → Reading w → Owner → List Lock
+abbrev pub locks_by : {w : Watch} → WatchReading w → Owner → List Lock
 locks_by x o = map (λ (n : Numbered). n.lock) (x.part o)
 
 -- programs in their first part
@@ -62,7 +62,7 @@ base_at_by s b = elim (cont_of b s.units.kept) [ Some c ↦ Next c.next | None �
 abbrev pub base_item_by : State → Id → Item
 base_item_by s b = Item.Base b (s.names b) (base_at_by s b)
 
-abbrev pub items_by : (s : State) → Reading s.watch → Items
+abbrev pub items_by : (s : State) → WatchReading s.watch → Items
 items_by s x = record {
   locks =
       map Item.Lock (flat_map (λ b. locks_by x (Base b)) s.watch.programs) ++
@@ -70,7 +70,7 @@ items_by s x = record {
   bases = map (base_item_by s) (under_way_by s);
 }
 
-abbrev pub beside_by : (s : State) → Reading s.watch → Beside
+abbrev pub beside_by : (s : State) → WatchReading s.watch → Beside
 beside_by s x = record {
   clash = clash_by s;
   items = items_by s x;

@@ -23,8 +23,8 @@ ghost use Rattle.law_states.specs.OpenUnits.{OpenUnit, UnitState, change_unit, n
 ghost use Rattle.law_states.specs.Overlays.{AreInOrder, AreRows, Edit, Views, entry_at, row_edited, with_edits};
 ghost use Rattle.law_states.specs.PairClosures.{LeadsBack, Pair, all_sources, dependencies_of, due_in, has_pair};
 ghost use Rattle.law_states.specs.PlainStates.{IsInTurn, PlainState, PlainWatch, as_state, state_after, state_of, watch_after, watch_of};
-ghost use Rattle.law_states.specs.Points.{Ask, Falls, IsIdle, KeepsPoint, Move, Moves, Point, Runs, Say, Turn, point_of, told_by, trace_on};
-ghost use Rattle.law_states.specs.Readings.{Reading, beside_by, clash_by, items_by, locks_in, under_way_by};
+ghost use Rattle.law_states.specs.Points.{Ask, Falls, IsIdle, KeepsPoint, TraceStep, Moves, Point, Runs, Say, Turn, point_of, told_by, trace_on};
+ghost use Rattle.law_states.specs.Readings.{WatchReading, beside_by, clash_by, items_by, locks_in, under_way_by};
 ghost use Rattle.law_states.specs.Rising.{Rising};
 ghost use Rattle.law_states.specs.Settling.{to_come, waiters};
 ghost use Rattle.law_states.specs.States.{After, Keeps, State, asked_of, started, turned_to};
@@ -377,15 +377,15 @@ pub fn states_go_on()
 pub fn states_tell_what_stands_beside()
     ensures clash { (s : State) (trace : Trace) (o : OpenUnit) (st : Statement) → Keeps s trace → IsSound trace →
         KeepsUnit trace o → clashing trace o.unit st ≡ clash_by s o st }
-    ensures locks { (s : State) (trace : Trace) (x : Reading s.watch) → Keeps s trace → IsSound trace →
+    ensures locks { (s : State) (trace : Trace) (x : WatchReading s.watch) → Keeps s trace → IsSound trace →
         lock_items trace ≡ (items_by s x).locks }
-    ensures bases { (s : State) (trace : Trace) (x : Reading s.watch) → Keeps s trace → IsSound trace →
+    ensures bases { (s : State) (trace : Trace) (x : WatchReading s.watch) → Keeps s trace → IsSound trace →
         base_items trace ≡ (items_by s x).bases }
-    ensures victim { (s : State) (trace : Trace) (x : Reading s.watch) → Keeps s trace → IsSound trace →
+    ensures victim { (s : State) (trace : Trace) (x : WatchReading s.watch) → Keeps s trace → IsSound trace →
         victim trace ≡ (beside_by s x).victim }
-    ensures served { (s : State) (trace : Trace) (x : Reading s.watch) → Keeps s trace → IsSound trace →
+    ensures served { (s : State) (trace : Trace) (x : WatchReading s.watch) → Keeps s trace → IsSound trace →
         next_unblocked trace ≡ (beside_by s x).served }
-    ensures due { (s : State) (trace : Trace) (x : Reading s.watch) → Keeps s trace → IsSound trace →
+    ensures due { (s : State) (trace : Trace) (x : WatchReading s.watch) → Keeps s trace → IsSound trace →
         to_release trace ≡ (beside_by s x).due }
     ensures under_way { (s : State) (trace : Trace) → Keeps s trace → IsSound trace → under_way trace ≡ under_way_by s }
 {}
@@ -394,12 +394,12 @@ pub fn states_tell_what_stands_beside()
 pub fn states_tell_what_comes_next()
     ensures refuses { (s : State) (trace : Trace) (asked : Asked) → Keeps s trace → IsSound trace →
         refusal trace asked ≡ refusal_of s asked }
-    ensures asked { (s : State) (trace : Trace) (asked : Asked) (x : Reading s.watch) → Keeps s trace →
+    ensures asked { (s : State) (trace : Trace) (asked : Asked) (x : WatchReading s.watch) → Keeps s trace →
         IsSound (trace asks asked) → next (trace asks asked) ≡ asked_next s x asked }
     ensures turn { (s : State) (trace : Trace) → Keeps s trace → next_turn trace ≡ next_turn_of s }
-    ensures turned { (s : State) (trace : Trace) (b : Id) (x : Reading s.watch) → Keeps s trace → IsSound (trace turns b) →
+    ensures turned { (s : State) (trace : Trace) (b : Id) (x : WatchReading s.watch) → Keeps s trace → IsSound (trace turns b) →
         next (trace turns b) ≡ turned_next s x b }
-    ensures said { (old new : State) (trace : Trace) (e : Event) (x : Reading new.watch) → Keeps old trace →
+    ensures said { (old new : State) (trace : Trace) (e : Event) (x : WatchReading new.watch) → Keeps old trace →
         IsSound (trace says e) → After e old new → next (trace says e) ≡ said_next e old new x (flight trace) }
     ensures flight { (trace : Trace) (e : Event) →
         flight (trace says e) ≡ flight_next e (flight trace) (next (trace says e)) }
@@ -407,15 +407,15 @@ pub fn states_tell_what_comes_next()
 
 /// Moves of a point are moves of its trace; where the point is idle, nothing is missing of the trace's last segment.
 pub fn points_go_on()
-    ensures runs { (ms : List Move) (old new : Point) (trace : Trace) → KeepsPoint old trace → IsSound trace →
+    ensures runs { (ms : List TraceStep) (old new : Point) (trace : Trace) → KeepsPoint old trace → IsSound trace →
         Runs old ms new → KeepsPoint new (trace_on trace ms) × IsSound (trace_on trace ms) }
     ensures falls { (why : Why) (old new : Point) (trace : Trace) → KeepsPoint old trace → IsSound trace →
         Falls why old new → KeepsPoint new (trace says Event.Down why) × IsSound (trace says Event.Down why) }
     ensures idle { (p : Point) (trace : Trace) → KeepsPoint p trace → IsIdle p → IsComplete trace }
-    ensures one_more { (ms : List Move) (m : Move) (old mid new : Point) → Runs old ms mid → Moves m mid new →
+    ensures one_more { (ms : List TraceStep) (m : TraceStep) (old mid new : Point) → Runs old ms mid → Moves m mid new →
         Runs old (ms ++ m ∷ []) new }
-    ensures story { (ms : List Move) (trace : Trace) → story_of (trace_on trace ms) ≡ story_of trace ++ told_by ms }
-    ensures start { (ms : List Move) (trace : Trace) → start_of (trace_on trace ms) ≡ start_of trace }
+    ensures story { (ms : List TraceStep) (trace : Trace) → story_of (trace_on trace ms) ≡ story_of trace ++ told_by ms }
+    ensures start { (ms : List TraceStep) (trace : Trace) → start_of (trace_on trace ms) ≡ start_of trace }
 {}
 
 /// Each trace that is played moves its own point: each line, turn of `go all`, event and stop of a run that serves is a
@@ -434,7 +434,7 @@ pub fn traces_move_their_points()
 
 /// While serving, what is still to come falls with each event.
 pub fn settling_ends()
-    ensures { (e : Event) (old new : State) (x : Reading new.watch) (flight : Option Event) → is_of_run e ≡ false →
+    ensures { (e : Event) (old new : State) (x : WatchReading new.watch) (flight : Option Event) → is_of_run e ≡ false →
         new.units.phase ≡ Serving → After e old new →
         to_come (waiters new) (said_next e old new x flight) < to_come (waiters old) (Some e) }
 {}
@@ -443,5 +443,5 @@ pub fn settling_ends()
 pub fn plain_states_go_on()
     ensures says { (e : Event) (p : PlainState) → After e (as_state p) (as_state (state_after e p)) }
     ensures in_turn { (facts : UnitFacts) (e : Event) (w : PlainWatch) → IsInTurn w → IsInTurn (watch_after facts e w) }
-    ensures reads { (w : PlainWatch) → IsInTurn w → Reading (watch_of w) }
+    ensures reads { (w : PlainWatch) → IsInTurn w → WatchReading (watch_of w) }
 {}

@@ -8,7 +8,7 @@ use Rattle.law_story.proofs.Upheld.{OfBoots, holds}
 use Rattle.salt_ast.specs.declared.programs.ProgramDef.{ProgramDef}
 use Rattle.salt_model.specs.After.{branched, conts_at, kept, run_of}
 use Rattle.salt_model.specs.Continuing.{AcceptsDue, FinishesDue, GoesAlong, accepted_after, finished_after, if_ended, is_unfinished, last_said, program_continued}
-use Rattle.salt_model.specs.Kept.{begun_cont, branch_of, cont_of, kept_program, moved, then_of, tries_left, values_kept}
+use Rattle.salt_model.specs.Kept.{begun_cont, cont_of, kept_program, moved, tries_left, values_kept, parts_of}
 use Rattle.salt_model.specs.Played.{IsPlayed}
 use Rattle.salt_model.specs.Programs.{accepted_in, finished_in}
 use Rattle.salt_model.specs.Trace.{Trace, from, start_of, ◌asks◌, ◌says◌, ◌turns◌}
@@ -26,6 +26,7 @@ use Rattle.salt_values.specs.declared.value.Value.{Value}
 use Rattle.std.proofs.Common.{ap, inl, inr, subst, sym, ◌∙◌}
 use Rattle.std.specs.Bool.{then_some}
 use Rattle.std.specs.Prelude.{Bool, List, None, Option, Some, [], false, is_none, map, not, option_and_then, option_map, refl, true, ℕ, ◌&&◌, ◌∷◌, ◌≡◌, ◌⊎◌}
+use Rattle.salt_ast.specs.Paths.{next_on_commit, next_on_failure}
 
 abbrev bases : List Cont → List Id
 bases cs = map (λ (c : Cont). c.base) cs
@@ -62,9 +63,9 @@ module _ (trace : Trace) (u : Id) (end : End) (b : Id) (there : In b (bases_in t
 bases-forth : (trace : Trace) (u : Id) (end : End) (b : Id) → In b (bases_in trace) → In b (bases_in (trace says Ended u end)) ⊎ (finished_after (trace says Ended u end) (Some (Ended u end)) ≡ Some b)
 bases-forth trace u (Committed n) b i = by (kind_of u trace) refl
   where
-    begun : (c : Id) (args : List Value) (o : Option ProgramDef) → In b (bases (elim o [ None ↦ (kept trace).conts | Some p ↦ begun_cont c n p args (run_of u trace).vars (then_of p 1) (kept trace).conts ]))
+    begun : (c : Id) (args : List Value) (o : Option ProgramDef) → In b (bases (elim o [ None ↦ (kept trace).conts | Some p ↦ begun_cont c n p args (run_of u trace).vars (next_on_commit (parts_of p) 1) (kept trace).conts ]))
     begun c args None = i
-    begun c args (Some p) = base-kept-begun b c n p args (run_of u trace).vars (then_of p 1) (kept trace).conts i
+    begun c args (Some p) = base-kept-begun b c n p args (run_of u trace).vars (next_on_commit (parts_of p) 1) (kept trace).conts i
 
     at : (o : Option UnitKind) → kind_of u trace ≡ o → In b (bases (conts_at (kept trace) n o (run_of u trace).vars)) → In b (bases_in (trace says Ended u (Committed n)))
     at o e h = subst (λ x. In b (bases (conts_at (kept trace) n x (run_of u trace).vars))) (sym e) h
@@ -92,13 +93,13 @@ bases-forth trace u end b i = inl i
 bases-back : (trace : Trace) (u : Id) (end : End) (b : Id) → In b (bases_in (trace says Ended u end)) → In b (bases_in trace) ⊎ (accepted_after (trace says Ended u end) (Some (Ended u end)) ≡ Some b)
 bases-back trace u (Committed n) b i = by (kind_of u trace) refl i
   where
-    begun : (c : Id) (args : List Value) (o : Option ProgramDef) → In b (bases (elim o [ None ↦ (kept trace).conts | Some p ↦ begun_cont c n p args (run_of u trace).vars (then_of p 1) (kept trace).conts ])) → In b (bases_in trace) ⊎ (c ≡ b)
+    begun : (c : Id) (args : List Value) (o : Option ProgramDef) → In b (bases (elim o [ None ↦ (kept trace).conts | Some p ↦ begun_cont c n p args (run_of u trace).vars (next_on_commit (parts_of p) 1) (kept trace).conts ])) → In b (bases_in trace) ⊎ (c ≡ b)
     begun c args None h = inl h
-    begun c args (Some p) h = base-begun b c n p args (run_of u trace).vars (then_of p 1) (kept trace).conts h
+    begun c args (Some p) h = base-begun b c n p args (run_of u trace).vars (next_on_commit (parts_of p) 1) (kept trace).conts h
 
-    on : (c : Id) (part : ℕ) (o : Option ProgramDef) → In b (bases (elim o [ None ↦ (kept trace).conts | Some p ↦ moved c (then_of p part) (λ x. record x { vars = values_kept p (run_of u trace).vars }) (kept trace).conts ])) → In b (bases_in trace)
+    on : (c : Id) (part : ℕ) (o : Option ProgramDef) → In b (bases (elim o [ None ↦ (kept trace).conts | Some p ↦ moved c (next_on_commit (parts_of p) part) (λ x. record x { vars = values_kept p (run_of u trace).vars }) (kept trace).conts ])) → In b (bases_in trace)
     on c part None h = h
-    on c part (Some p) h = base-moved b c (then_of p part) _ (λ x. refl) (kept trace).conts h
+    on c part (Some p) h = base-moved b c (next_on_commit (parts_of p) part) _ (λ x. refl) (kept trace).conts h
 
     by : (o : Option UnitKind) → kind_of u trace ≡ o → In b (bases (conts_at (kept trace) n o (run_of u trace).vars)) → In b (bases_in trace) ⊎ (option_and_then program_begun o ≡ Some b)
     by None e h = inl h
@@ -108,9 +109,9 @@ bases-back trace u (Committed n) b i = by (kind_of u trace) refl i
     by (Some (Later c part)) e h = inl (on c part _ h)
 bases-back trace u (Branched n cause) b i = inl (by (kind_of u trace) i)
   where
-    on : (c : Id) (part : ℕ) (o : Option ProgramDef) → In b (bases (elim o [ None ↦ (kept trace).conts | Some p ↦ moved c (branch_of p part (tries_left c (kept trace))) (λ x. x) (kept trace).conts ])) → In b (bases_in trace)
+    on : (c : Id) (part : ℕ) (o : Option ProgramDef) → In b (bases (elim o [ None ↦ (kept trace).conts | Some p ↦ moved c (next_on_failure (parts_of p) part (tries_left c (kept trace))) (λ x. x) (kept trace).conts ])) → In b (bases_in trace)
     on c part None h = h
-    on c part (Some p) h = base-moved b c (branch_of p part (tries_left c (kept trace))) _ (λ x. refl) (kept trace).conts h
+    on c part (Some p) h = base-moved b c (next_on_failure (parts_of p) part (tries_left c (kept trace))) _ (λ x. refl) (kept trace).conts h
 
     by : (o : Option UnitKind) → In b (bases (branched (kept trace) n o).conts) → In b (bases_in trace)
     by None h = h

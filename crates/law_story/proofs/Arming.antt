@@ -7,10 +7,10 @@ use Rattle.law_story.proofs.Replays.{replays}
 use Rattle.salt_ast.specs.declared.lines.Act.{Act}
 use Rattle.salt_ast.specs.declared.lines.Act.TheVariants.{Begin, Call, Commit, Do, Rollback, Step}
 use Rattle.salt_ast.specs.declared.lines.Line.{Line}
-use Rattle.salt_ast.specs.declared.lines.Line.TheVariants.{Crash, Go, Net, Session}
+use Rattle.salt_ast.specs.declared.lines.Line.TheVariants.{Crash, Go, Net, Session, Nothing}
 use Rattle.salt_ast.specs.declared.trees.Statement.{Statement}
 use Rattle.salt_model.specs.After.{kept}
-use Rattle.salt_model.specs.Arming.{armed_after, armed_behind, armed_by, armed_by_lines, stops_asked}
+use Rattle.salt_model.specs.Arming.{armed_behind, armed_by, armed_by_lines, stops_asked}
 use Rattle.salt_model.specs.Kept.{cont_of, kept_program}
 use Rattle.salt_model.specs.Locks.{clashing}
 use Rattle.salt_model.specs.Next.{flight, is_decision, next, said_event, serving_event}
@@ -20,7 +20,7 @@ use Rattle.salt_model.specs.Played.{IsPlayed}
 use Rattle.salt_model.specs.Reads.{to_release}
 use Rattle.salt_model.specs.Refusals.{judged, refusal, refused_line}
 use Rattle.salt_model.specs.Trace.{Asked, Rejected, Trace, Tree, from, line_asked, line_of, start_of, story_of, ◌asks◌, ◌says◌, ◌turns◌}
-use Rattle.salt_model.specs.Turns.{act_event, after_began, after_did, after_end, asks_for, commits, does_next, fails, finishes, follow, go, goes_on, is_at_end, line_event, next_number, releases, settle, settle_by, turn, turn_of}
+use Rattle.salt_model.specs.Turns.{act_event, after_began, after_did, after_end, asks_for, commits, does_next, fails, finishes, follow, go, goes_on, is_at_end, line_event, next_number, releases, settle, settle_by, turn}
 use Rattle.salt_model.specs.Units.{kind_of, open_units, program_unit, session_unit}
 use Rattle.salt_model.specs.Waiting.{asked_by, block_of, next_unblocked, victim}
 use Rattle.salt_model.specs.Words.{is_empty}
@@ -62,7 +62,7 @@ module _ (line : Line) (trace : Trace) where
   by-turn : (u : Id) → IfComes P (turn trace u)
   by-turn u = comes-map P _ (asked_by u trace) (λ st. by-asks u st (clashing trace u st))
 
-  by-turn_of : (o : Option Id) → IfComes P (turn_of trace o)
+  by-turn_of : (o : Option Id) → IfComes P (option_and_then (turn trace) o)
   by-turn_of None = tt
   by-turn_of (Some u) = by-turn u
 
@@ -203,13 +203,13 @@ said-armed trace e p off = tt
 
 -- STOPS, one event after another
 
-same-after : (line : Line) (e : Event) (stops : List (ℕ × ℕ)) → IsArmedBy line e → armed_by line e stops ≡ armed_after e stops
+same-after : (line : Line) (e : Event) (stops : List (ℕ × ℕ)) → IsArmedBy line e → armed_by line e stops ≡ armed_by Nothing e stops
 same-after line (Armed pairs) stops h = ap (λ more. Some (stops ++ more)) h
 same-after line (Down Stopped) stops h = refl
 same-after line (Down why) stops h = refl
 same-after line e stops h = refl
 
-same-on : (line : Line) (e : Event) (o : Option (List (ℕ × ℕ))) → IsArmedBy line e → option_and_then (armed_by line e) o ≡ option_and_then (armed_after e) o
+same-on : (line : Line) (e : Event) (o : Option (List (ℕ × ℕ))) → IsArmedBy line e → option_and_then (armed_by line e) o ≡ option_and_then (armed_by Nothing e) o
 same-on line e None h = refl
 same-on line e (Some stops) h = same-after line e stops h
 
@@ -217,11 +217,11 @@ behind-nothing : (o : Option (List (ℕ × ℕ))) → armed_behind [] o ≡ o
 behind-nothing None = refl
 behind-nothing (Some stops) = refl
 
-behind-one : (es : List Event) (e : Event) (o : Option (List (ℕ × ℕ))) → armed_behind (es ++ e ∷ []) o ≡ option_and_then (armed_after e) (armed_behind es o)
+behind-one : (es : List Event) (e : Event) (o : Option (List (ℕ × ℕ))) → armed_behind (es ++ e ∷ []) o ≡ option_and_then (armed_by Nothing e) (armed_behind es o)
 behind-one [] e None = refl
 behind-one (x ∷ es) e None = refl
-behind-one [] e (Some stops) = behind-nothing (armed_after e stops)
-behind-one (x ∷ es) e (Some stops) = behind-one es e (armed_after x stops)
+behind-one [] e (Some stops) = behind-nothing (armed_by Nothing e stops)
+behind-one (x ∷ es) e (Some stops) = behind-one es e (armed_by Nothing x stops)
 
 pub armed-same : (trace : Trace) → IsPlayed trace → (start_of trace).over_net ≡ false → (first : List (ℕ × ℕ)) →
     armed_by_lines first trace ≡ armed_behind (story_of trace) (Some first)
@@ -230,5 +230,5 @@ armed-same (trace asks asked) p off first = armed-same trace p.0 off first
 armed-same (trace turns b) p off first = armed-same trace p.0 off first
 armed-same (trace says e) p off first =
     same-on (line_of trace) e (armed_by_lines first trace) (said-armed trace e p off)
-    ∙ ap (option_and_then (armed_after e)) (armed-same trace p.0 off first)
+    ∙ ap (option_and_then (armed_by Nothing e)) (armed-same trace p.0 off first)
     ∙ sym (behind-one (story_of trace) e (Some first))

@@ -14,12 +14,12 @@ use Rattle.salt_ast.specs.declared.trees.Statement.{Statement}
 use Rattle.salt_ast.specs.declared.trees.Statement.TheVariants.{Delete, Ensure, Insert, Select, SelectInto, Update}
 use Rattle.salt_ast.specs.declared.trees.TableDef.{TableDef}
 use Rattle.salt_model.specs.After.{branched, defined_by, kept, reach_now, run_of}
-use Rattle.salt_model.specs.AsDeclared.{DoesDeclared, IsDeclaredBy, IsNextOfBlock}
+use Rattle.salt_model.specs.AsDeclared.{DoesDeclared, IsDeclaredBy}
 use Rattle.salt_model.specs.Eval.{value_of}
 use Rattle.salt_model.specs.Kept.{Definition, Kept, block_of_kind, block_of_part, cont_of, kept_program, parts_of, program_of_definition, programs_of, schema_of, table_of_definition}
 use Rattle.salt_model.specs.Locks.{Taken, base_tables, is_base_table, is_of_table, names_table, numbers_from, taken_by, taken_in}
 use Rattle.salt_model.specs.Played.{IsPlayed}
-use Rattle.salt_model.specs.Reaches.{first_value, key_reached, no_row, range_of, reach, reach_at, reach_in, reached, table_from, table_in, table_named}
+use Rattle.salt_model.specs.Reaches.{first_value, key_reached, no_row, range_of, reach, reach_in, reached, table_from, table_in, table_named}
 use Rattle.salt_model.specs.Trace.{Trace, from, line_of, start_of, ◌asks◌, ◌says◌, ◌turns◌}
 use Rattle.salt_model.specs.Units.{done_of, kind_of, program_of, program_of_kind}
 use Rattle.salt_model.specs.declared.events.Cause.{Cause}
@@ -169,35 +169,38 @@ named-base k p part i st tn there h t = into-any (names_table tn) p (programs_of
     by (Some q) e g = into-any (λ (x : PartDef). list_any (is_of_table tn) x.block) q (parts_of p) (number-in q part (parts_of p) e) (into-any (is_of_table tn) st q.block (slice-in st q.block i g) t)
 
 -- the statement of a program's unit
-of-block : (k : Kept) (kind : UnitKind) (b : Id) (done : List Statement) (st : Statement) (tn : List ℕ) → program_of_kind kind ≡ Some b → IsNextOfBlock (block_of_kind k kind) done st → is_of_table tn st ≡ true → list_any (names_table tn) (programs_of k) ≡ true
+abbrev NextOf : Option (List Statement) → List Statement → Statement → Type 0
+NextOf o done st = option_and_then (λ block. slice_get block (length done)) o ≡ Some st
+
+of-block : (k : Kept) (kind : UnitKind) (b : Id) (done : List Statement) (st : Statement) (tn : List ℕ) → program_of_kind kind ≡ Some b → NextOf (block_of_kind k kind) done st → is_of_table tn st ≡ true → list_any (names_table tn) (programs_of k) ≡ true
 of-block k (Acid s) b done st tn q h t = cc
 of-block k (Call s n args) b done st tn q h t = cc
 of-block k (First s c n args) b done st tn q h t = by (kept_program n k) refl h
   where
-    by : (o : Option ProgramDef) → kept_program n k ≡ o → IsNextOfBlock (option_map (λ p. block_of_part p 1) o) done st → list_any (names_table tn) (programs_of k) ≡ true
-    by None e g = absurd g
+    by : (o : Option ProgramDef) → kept_program n k ≡ o → NextOf (option_map (λ p. block_of_part p 1) o) done st → list_any (names_table tn) (programs_of k) ≡ true
+    by None e g = cc
     by (Some p) e g = named-base k p 1 (length done) st tn (named-in n p (programs_of k) e) g t
 of-block k (Later c part) b done st tn q h t = by (cont_of c k) h
   where
-    program : (n : List ℕ) (o : Option ProgramDef) → kept_program n k ≡ o → IsNextOfBlock (option_map (λ p. block_of_part p part) o) done st → list_any (names_table tn) (programs_of k) ≡ true
-    program n None e g = absurd g
+    program : (n : List ℕ) (o : Option ProgramDef) → kept_program n k ≡ o → NextOf (option_map (λ p. block_of_part p part) o) done st → list_any (names_table tn) (programs_of k) ≡ true
+    program n None e g = cc
     program n (Some p) e g = named-base k p part (length done) st tn (named-in n p (programs_of k) e) g t
 
-    by : (o : Option Cont) → IsNextOfBlock (option_and_then (λ c. option_map (λ p. block_of_part p part) (kept_program c.program k)) o) done st → list_any (names_table tn) (programs_of k) ≡ true
-    by None g = absurd g
+    by : (o : Option Cont) → NextOf (option_and_then (λ c. option_map (λ p. block_of_part p part) (kept_program c.program k)) o) done st → list_any (names_table tn) (programs_of k) ≡ true
+    by None g = cc
     by (Some x) g = program x.program (kept_program x.program k) refl g
 
 reach-base : (k : Kept) (vars : List Binding) (st : Statement) (r : Reach) → ((tn : List ℕ) → is_of_table tn st ≡ true → list_any (names_table tn) (programs_of k) ≡ true) → reach (schema_of k) vars st ≡ Some r → In r.table (base_tables k)
 unfolding reach
 reach-base k vars st r f h = by (table_in st) refl h
   where
-    found : (name : List ℕ) → table_in st ≡ Some name → (o : Option (ℕ × TableDef)) → table_named name (schema_of k) ≡ o → reach_at vars st o ≡ Some r → In r.table (base_tables k)
+    found : (name : List ℕ) → table_in st ≡ Some name → (o : Option (ℕ × TableDef)) → table_named name (schema_of k) ≡ o → option_and_then (λ (d : ℕ × TableDef). reach_in d.0 vars st) o ≡ Some r → In r.table (base_tables k)
     found name e None q g = cc
     found name e (Some x) q g =
         let same : is_of_table x.1.name st ≡ true = subst (λ o. elim o [ None ↦ false | Some m ↦ same_bytes m x.1.name ] ≡ true) (sym e) (from-name 0 name (schema_of k) x q) in
         subst (λ n. In n (base_tables k)) (in-table x.0 vars st r g) (from-numbers 0 name (is_base_table k) (schema_of k) x q (f x.1.name same))
 
-    by : (o : Option (List ℕ)) → table_in st ≡ o → reach_at vars st (option_and_then (λ name. table_named name (schema_of k)) o) ≡ Some r → In r.table (base_tables k)
+    by : (o : Option (List ℕ)) → table_in st ≡ o → option_and_then (λ (d : ℕ × TableDef). reach_in d.0 vars st) (option_and_then (λ name. table_named name (schema_of k)) o) ≡ Some r → In r.table (base_tables k)
     by None e g = cc
     by (Some name) e g = found name e (table_named name (schema_of k)) refl g
 

@@ -8,11 +8,11 @@ use Rattle.law_story.proofs.Rising.{every-without}
 use Rattle.law_story.proofs.Sound.{Old, OldAt, Sound, of-program, old-not}
 use Rattle.law_story.proofs.Upheld.{OfBoots, holds, may-fit}
 use Rattle.law_story.specs.ContNames.{AreNamed}
-use Rattle.salt_ast.specs.Paths.{Position}
+use Rattle.salt_ast.specs.Paths.{Position, next_on_commit, next_on_failure}
 use Rattle.salt_ast.specs.ProgramJudgement.{program_named}
 use Rattle.salt_ast.specs.declared.programs.ProgramDef.{ProgramDef}
 use Rattle.salt_model.specs.After.{branched, conts_at, kept, run_of}
-use Rattle.salt_model.specs.Kept.{Kept, begun_cont, branch_of, change_cont, cont_of, kept_program, moved, programs_of, then_of, tries_left, values_kept}
+use Rattle.salt_model.specs.Kept.{Kept, begun_cont, change_cont, cont_of, kept_program, moved, programs_of, tries_left, values_kept, parts_of}
 use Rattle.salt_model.specs.Phases.{phase}
 use Rattle.salt_model.specs.Played.{IsPlayed}
 use Rattle.salt_model.specs.Shown.{name_of_base}
@@ -64,19 +64,19 @@ module _ (N : Id → List ℕ) where
   named-begun b n p args vars (Some at) cs q h = every-append Q cs _ h (q, tt)
 
   named-first : (k : Kept) (n : ℕ) (b : Id) (name : List ℕ) (args : List Value) (vars : List Binding) (o : Option ProgramDef) → kept_program name k ≡ o → N b ≡ name → Every Q k.conts →
-      Every Q (elim o [ None ↦ k.conts | Some p ↦ begun_cont b n p args vars (then_of p 1) k.conts ])
+      Every Q (elim o [ None ↦ k.conts | Some p ↦ begun_cont b n p args vars (next_on_commit (parts_of p) 1) k.conts ])
   named-first k n b name args vars None e q h = h
-  named-first k n b name args vars (Some p) e q h = named-begun b n p args vars (then_of p 1) k.conts (q ∙ named-program (programs_of k) name p e) h
+  named-first k n b name args vars (Some p) e q h = named-begun b n p args vars (next_on_commit (parts_of p) 1) k.conts (q ∙ named-program (programs_of k) name p e) h
 
   named-later : (k : Kept) (b : Id) (part : ℕ) (vars : List Binding) (o : Option ProgramDef) → Every Q k.conts →
-      Every Q (elim o [ None ↦ k.conts | Some p ↦ moved b (then_of p part) (λ c. record c { vars = values_kept p vars }) k.conts ])
+      Every Q (elim o [ None ↦ k.conts | Some p ↦ moved b (next_on_commit (parts_of p) part) (λ c. record c { vars = values_kept p vars }) k.conts ])
   named-later k b part vars None h = h
-  named-later k b part vars (Some p) h = named-moved b (then_of p part) (λ c. record c { vars = values_kept p vars }) (λ c at q. q) k.conts h
+  named-later k b part vars (Some p) h = named-moved b (next_on_commit (parts_of p) part) (λ c. record c { vars = values_kept p vars }) (λ c at q. q) k.conts h
 
   named-failed : (k : Kept) (b : Id) (part : ℕ) (o : Option ProgramDef) → Every Q k.conts →
-      Every Q (elim o [ None ↦ k.conts | Some p ↦ moved b (branch_of p part (tries_left b k)) (λ c. c) k.conts ])
+      Every Q (elim o [ None ↦ k.conts | Some p ↦ moved b (next_on_failure (parts_of p) part (tries_left b k)) (λ c. c) k.conts ])
   named-failed k b part None h = h
-  named-failed k b part (Some p) h = named-moved b (branch_of p part (tries_left b k)) (λ c. c) (λ c at q. q) k.conts h
+  named-failed k b part (Some p) h = named-moved b (next_on_failure (parts_of p) part (tries_left b k)) (λ c. c) (λ c at q. q) k.conts h
 
   named-committed : (k : Kept) (n : ℕ) (o : Option UnitKind) (vars : List Binding) → ((s : ℕ) (b : Id) (name : List ℕ) (args : List Value) → o ≡ Some (First s b name args) → N b ≡ name) →
       Every Q k.conts → Every Q (conts_at k n o vars)

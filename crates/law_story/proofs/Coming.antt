@@ -19,7 +19,7 @@ use Rattle.salt_model.specs.Programs.{accepted_in}
 use Rattle.salt_model.specs.Reads.{to_release}
 use Rattle.salt_model.specs.Refusals.{is_busy, judged, refusal, refused_line}
 use Rattle.salt_model.specs.Trace.{Asked, Rejected, Trace, Tree, from, line_asked, line_of, start_of, ◌asks◌, ◌says◌, ◌turns◌}
-use Rattle.salt_model.specs.Turns.{act_event, after_began, after_did, after_end, asks_for, commits, does, does_next, fails, finishes, follow, fresh_unit, go, goes_on, is_at_end, line_event, next_number, releases, settle, settle_by, turn, turn_of}
+use Rattle.salt_model.specs.Turns.{act_event, after_began, after_did, after_end, asks_for, commits, does, does_next, fails, finishes, follow, fresh_unit, go, goes_on, is_at_end, line_event, next_number, releases, settle, settle_by, turn}
 use Rattle.salt_model.specs.Units.{Running, Waiting, is_of_program, is_of_session, is_open, is_open_standing, kind_of, open_units, program_unit, session_unit, standing, units_begun, wait_list}
 use Rattle.salt_model.specs.Waiting.{WaitUnit, asked_by, block_of, clashing_now, is_on_cycle, names_of, next_unblocked, victim, wait_graph, wait_unit}
 use Rattle.salt_model.specs.Words.{Every, first_of_list, greatest, is_empty}
@@ -46,6 +46,7 @@ use Rattle.std.specs.Bool.{then_some}
 use Rattle.std.specs.List.{filter, find, list_any}
 use Rattle.std.specs.Option.{option_or}
 use Rattle.std.specs.Prelude.{Bool, List, None, Option, Some, [], cond, false, if◌then◌else◌, is_none, map, nat_lt, not, option_map, option_to_list, refl, true, ℕ, ⊤, ◌||◌, ◌∷◌, ◌≡◌}
+use Rattle.std.specs.Prelude.{option_and_then}
 
 -- what a statement would reach is free of what other open units have taken
 abbrev pub Free : Trace → Id → Statement → Type 0
@@ -170,7 +171,7 @@ module _ (trace : Trace) where
 
   good-did : (u : Id) (a : Answer) → Open trace u → failing u trace ≡ cause_in a → IfSome G (after_did trace u a)
   good-did u (Answer.Failed c) h f = good-fails u c (kind_of u trace) h f
-  good-did u a h f = some-then_some G (is_at_end trace u (block_of u trace)) (commits trace u) (h, fits-none (Committed (next_number trace)) (failing u trace) f tt, tt)
+  good-did u a h f = some-then_some G (is_at_end trace u (block_of u trace)) (commits trace u) (h, fits-none (Committed (next_number trace)) (failing u trace) f refl, tt)
 
   good-finishes : (b : Id) → IfSome G (finishes trace b)
   good-finishes b = some-then_some G (is_none (cont_of b (kept trace))) (Finished b) tt
@@ -204,7 +205,7 @@ module _ (trace : Trace) (serving : phase trace ≡ Serving) where
       by None h = tt
       by (Some st) h = good-asks u st [] o (nothing (clashing trace u st) h)
 
-  good-turn_of : (o : Option Id) → IfSome (Open trace) o → IfSome (Good trace) (turn_of trace o)
+  good-turn_of : (o : Option Id) → IfSome (Open trace) o → IfSome (Good trace) (option_and_then (turn trace) o)
   good-turn_of None h = tt
   good-turn_of (Some u) h = good-turn u h
 
@@ -215,7 +216,7 @@ module _ (trace : Trace) (serving : phase trace ≡ Serving) where
   good-act q s (Call n args) o h = some-map (Good trace) _ (kept_program n (kept trace)) (some-all _ (kept_program n (kept trace)) (λ p. (not-opening, refl)))
   good-act q s Step o h = good-turn_of o h
   good-act q s Commit None h = tt
-  good-act q s Commit (Some u) h = (h, fits-none (Committed (next_number trace)) (failing u trace) (q u) tt, tt)
+  good-act q s Commit (Some u) h = (h, fits-none (Committed (next_number trace)) (failing u trace) (q u) refl, tt)
   good-act q s Rollback None h = tt
   good-act q s Rollback (Some u) h = (h, q u, tt)
 

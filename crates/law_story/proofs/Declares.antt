@@ -9,7 +9,7 @@ use Rattle.law_story.proofs.Sound.{Sound, bases_in, conts-kept, due-in, of-progr
 use Rattle.law_story.proofs.Upheld.{OfBoots, holds, may-fit}
 use Rattle.salt_ast.specs.declared.trees.Statement.{Statement}
 use Rattle.salt_model.specs.After.{kept}
-use Rattle.salt_model.specs.AsDeclared.{DoesDeclared, HasDoneAll, IsDeclared, IsDeclaredBy, IsNextOfBlock, IsWholeBlock}
+use Rattle.salt_model.specs.AsDeclared.{DoesDeclared, HasDoneAll, IsDeclared, IsDeclaredBy}
 use Rattle.salt_model.specs.Kept.{Kept, block_of_call, block_of_kind, block_of_part, cont_in, kept_program}
 use Rattle.salt_model.specs.Next.{flight, next}
 use Rattle.salt_model.specs.Phases.{Serving, phase}
@@ -26,10 +26,10 @@ use Rattle.salt_model.specs.declared.events.UnitKind.TheVariants.{Acid, Call, Fi
 use Rattle.salt_values.specs.Id.{is_same_id}
 use Rattle.salt_values.specs.declared.cont.Cont.{Cont}
 use Rattle.salt_values.specs.declared.id.Id.{Id}
-use Rattle.std.proofs.Common.{inl, inr, subst, sym, ◌∙◌}
+use Rattle.std.proofs.Common.{ap, inl, inr, subst, sym, ◌∙◌}
 use Rattle.std.specs.Bool.{then_some}
 use Rattle.std.specs.Option.{option_or}
-use Rattle.std.specs.Prelude.{Bool, List, None, Option, Some, [], cond, false, is_some, length, map, option_and_then, option_map, refl, true, ℕ, ⊤, ◌∷◌, ◌≡◌}
+use Rattle.std.specs.Prelude.{Bool, List, None, Option, Some, [], cond, false, is_some, length, map, option_and_then, option_map, refl, slice_get, true, ℕ, ⊤, ◌∷◌, ◌≡◌}
 
 -- a unit's program is kept, and a part's goes on
 abbrev HasBlock : Kept → Option UnitKind → Type 0
@@ -153,7 +153,8 @@ block-some k (Later b part) d h n =
     let c = cont-defined k b k.conts d h in
     subst (λ o. is_some (option_and_then (λ c. option_map (λ p. block_of_part p part) (kept_program c.program k)) o) ≡ true) (sym c.1) (map-some (λ p. block_of_part p part) (kept_program c.0.program k) c.2)
 
-next-of : (trace : Trace) (u : Id) (st : Statement) (o : Option (List Statement)) → is_some o ≡ true → statement_in u trace o ≡ Some st → IsNextOfBlock o (done_of u trace) st
+next-of : (trace : Trace) (u : Id) (st : Statement) (o : Option (List Statement)) → is_some o ≡ true → statement_in u trace o ≡ Some st →
+    option_and_then (λ block. slice_get block (length (done_of u trace))) o ≡ Some st
 next-of trace u st None i h = cc
 next-of trace u st (Some block) i h = h
 
@@ -165,9 +166,9 @@ declared-by trace u st (Some (Call s n args)) e d h a l = next-of trace u st (bl
 declared-by trace u st (Some (First s b n args)) e d h a l = next-of trace u st (block_of_kind (kept trace) (First s b n args)) (block-some (kept trace) (First s b n args) d h (λ t q. cc)) a
 declared-by trace u st (Some (Later b part)) e d h a l = next-of trace u st (block_of_kind (kept trace) (Later b part)) (block-some (kept trace) (Later b part) d h (λ t q. cc)) a
 
-whole-of : (done : List Statement) (o : Option (List Statement)) → is_some o ≡ true → ((block : List Statement) → o ≡ Some block → length done ≡ length block) → IsWholeBlock o done
+whole-of : (done : List Statement) (o : Option (List Statement)) → is_some o ≡ true → ((block : List Statement) → o ≡ Some block → length done ≡ length block) → option_map length o ≡ Some (length done)
 whole-of done None i h = cc
-whole-of done (Some block) i h = h block refl
+whole-of done (Some block) i h = ap (λ n. Some n) (sym (h block refl))
 
 done-all : (trace : Trace) (u : Id) (o : Option UnitKind) → AreDefined (kept trace) (kept trace).conts → HasBlock (kept trace) o → AllDone trace u o → HasDoneAll trace u o
 done-all trace u None d h a = h

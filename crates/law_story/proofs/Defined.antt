@@ -1,13 +1,13 @@
 -- The programs that go on are defined: definitions stay, and a continuation is of a program that is kept.
 use Rattle.salt_ast.specs.ProgramJudgement.{program_named}
-use Rattle.salt_ast.specs.Paths.{Position}
+use Rattle.salt_ast.specs.Paths.{Position, next_on_commit, next_on_failure}
 use Rattle.salt_ast.specs.declared.programs.ProgramDef.{ProgramDef}
 use Rattle.law_story.proofs.Every.{every-append, every-map}
 use Rattle.law_story.proofs.Ids.{and_left, and_right}
 use Rattle.law_story.proofs.Rising.{every-without}
 use Rattle.salt_model.specs.After.{branched, conts_at, defined_by, keep, kept, run_of, stage}
 use Rattle.salt_model.specs.Ends.{kept_with}
-use Rattle.salt_model.specs.Kept.{Definition, Kept, OfProgram, OfTable, begun_cont, branch_of, change_cont, cont_of, kept_program, moved, program_of_definition, programs_of, then_of, tries_left, values_kept}
+use Rattle.salt_model.specs.Kept.{Definition, Kept, OfProgram, OfTable, begun_cont, change_cont, cont_of, kept_program, moved, program_of_definition, programs_of, tries_left, values_kept}
 use Rattle.salt_model.specs.Trace.{Trace, from, line_of, start_of, ◌asks◌, ◌says◌, ◌turns◌}
 use Rattle.salt_model.specs.Units.{kind_of}
 use Rattle.salt_model.specs.Words.{Every}
@@ -26,6 +26,7 @@ use Rattle.std.proofs.Common.{ap, subst, sym, ◌∙◌}
 use Rattle.std.proofs.lemmas.Bool.{eqb-true}
 use Rattle.std.specs.List.{filter_map}
 use Rattle.std.specs.Prelude.{Bool, List, None, Option, Some, [], cond, false, is_some, option_and_then, refl, true, ℕ, ◌++◌, ◌==◌, ◌∷◌, ◌≡◌}
+use Rattle.salt_model.specs.Kept.{parts_of}
 
 -- a program of this name is kept
 abbrev pub IsKeptProgram : Kept → List ℕ → Type 0
@@ -107,14 +108,14 @@ defined-committed k n (Some (Acid s)) vars h = h
 defined-committed k n (Some (Call s name args)) vars h = h
 defined-committed k n (Some (First s c name args)) vars h = go (kept_program name k) refl
   where
-    go : (o : Option ProgramDef) → kept_program name k ≡ o → AreDefined k (elim o [ None ↦ k.conts | Some p ↦ begun_cont c n p args vars (then_of p 1) k.conts ])
+    go : (o : Option ProgramDef) → kept_program name k ≡ o → AreDefined k (elim o [ None ↦ k.conts | Some p ↦ begun_cont c n p args vars (next_on_commit (parts_of p) 1) k.conts ])
     go None e = h
-    go (Some p) e = defined-begun k c n p args vars (then_of p 1) k.conts (kept-own k name p e) h
+    go (Some p) e = defined-begun k c n p args vars (next_on_commit (parts_of p) 1) k.conts (kept-own k name p e) h
 defined-committed k n (Some (Later c part)) vars h = go (option_and_then (λ c. kept_program c.program k) (cont_of c k))
   where
-    go : (o : Option ProgramDef) → AreDefined k (elim o [ None ↦ k.conts | Some p ↦ moved c (then_of p part) (λ x. record x { vars = values_kept p vars }) k.conts ])
+    go : (o : Option ProgramDef) → AreDefined k (elim o [ None ↦ k.conts | Some p ↦ moved c (next_on_commit (parts_of p) part) (λ x. record x { vars = values_kept p vars }) k.conts ])
     go None = h
-    go (Some p) = defined-moved k c (then_of p part) _ (λ x. refl) k.conts h
+    go (Some p) = defined-moved k c (next_on_commit (parts_of p) part) _ (λ x. refl) k.conts h
 
 defined-branched : (k : Kept) (n : ℕ) (o : Option UnitKind) → AreDefined k k.conts → AreDefined (branched k n o) (branched k n o).conts
 defined-branched k n None h = h
@@ -123,9 +124,9 @@ defined-branched k n (Some (Call s name args)) h = h
 defined-branched k n (Some (First s c name args)) h = h
 defined-branched k n (Some (Later c part)) h = go (option_and_then (λ c. kept_program c.program k) (cont_of c k))
   where
-    go : (o : Option ProgramDef) → AreDefined k (elim o [ None ↦ k.conts | Some p ↦ moved c (branch_of p part (tries_left c k)) (λ x. x) k.conts ])
+    go : (o : Option ProgramDef) → AreDefined k (elim o [ None ↦ k.conts | Some p ↦ moved c (next_on_failure (parts_of p) part (tries_left c k)) (λ x. x) k.conts ])
     go None = h
-    go (Some p) = defined-moved k c (branch_of p part (tries_left c k)) _ (λ x. refl) k.conts h
+    go (Some p) = defined-moved k c (next_on_failure (parts_of p) part (tries_left c k)) _ (λ x. refl) k.conts h
 
 defined-says : (trace : Trace) (e : Event) → AreDefined (kept trace) (kept trace).conts → AreDefined (keep trace e (stage trace)) (keep trace e (stage trace)).conts
 defined-says trace (Ended u (Committed n)) h = defined-committed (kept trace) n (kind_of u trace) (run_of u trace).vars h

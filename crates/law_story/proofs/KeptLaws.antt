@@ -3,9 +3,9 @@ use Rattle.law_story.proofs.NextFits.{Fits}
 use Rattle.law_story.proofs.OfBoot.{cuts-at, owns-at}
 use Rattle.law_story.proofs.Upheld.{OfBoots, each, holds, may-fit}
 use Rattle.salt_model.specs.After.{kept}
-use Rattle.salt_model.specs.Decided.{CutsRight, IsKept, NumbersOn, OnlyAfter, OpensRight, TellsFlight, TellsOwn, number_in}
+use Rattle.salt_model.specs.Decided.{CutsRight, IsKept, NumbersOn, OnlyAfter, OpensRight, TellsFlight, TellsOwn}
 use Rattle.salt_model.specs.Everywhere.{Each}
-use Rattle.salt_model.specs.Next.{flight, next}
+use Rattle.salt_model.specs.Next.{flight, next, number_in}
 use Rattle.salt_model.specs.Openings.{cuts_or_drains, drains, stands_now, to_cut, unfinished}
 use Rattle.salt_model.specs.Phases.{Fallen, Opening, Phase, Serving, phase}
 use Rattle.salt_model.specs.Played.{IsPlayed}

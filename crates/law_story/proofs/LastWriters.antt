@@ -2,7 +2,7 @@
 use Rattle.law_story.proofs.Lists.{In, has-in, in-filter, in-has, in-map, into-filter, into-map, not-true}
 use Rattle.law_story.proofs.Places.{equal-is, place_same}
 use Rattle.law_story.specs.Rewordings.{WritersAreLast}
-use Rattle.salt_model.specs.Reads.{Written, is_reached, is_written_at, last_of_each, last_writer, writers_in, written_at, written_in}
+use Rattle.salt_model.specs.Reads.{Written, is_written_at, last_of_each, last_writer, writers_in, written_at, written_in}
 use Rattle.salt_model.specs.Tables.{is_within, place_total}
 use Rattle.salt_model.specs.Trace.{Trace}
 use Rattle.salt_model.specs.declared.places.Place.{Place}
@@ -67,14 +67,14 @@ writers-last trace r u = (
   (λ h. in-has u _ (into h.0 h.1 (find (is_written_at h.0) (written_in trace)) refl h.2)),
 )
   where
-    from : (w : Written) × In w (filter (is_reached r) (last_of_each (written_in trace))) × (w.unit ≡ u) → (p : Place) × IsTrue (is_within r p) × (last_writer trace p ≡ Some u)
+    from : (w : Written) × In w (filter (λ (w : Written). is_within r (written_at w)) (last_of_each (written_in trace))) × (w.unit ≡ u) → (p : Place) × IsTrue (is_within r p) × (last_writer trace p ≡ Some u)
     from m =
-        let i = in-filter (is_reached r) m.0 (last_of_each (written_in trace)) m.1 in
+        let i = in-filter (λ (w : Written). is_within r (written_at w)) m.0 (last_of_each (written_in trace)) m.1 in
         (written_at m.0, i.1, ap (option_map unit_of) (last-found m.0 (written_in trace) i.0) ∙ ap Some m.2)
 
     into : (p : Place) → IsTrue (is_within r p) → (o : Option Written) → find (is_written_at p) (written_in trace) ≡ o → option_map unit_of o ≡ Some u → In u (writers_in trace (Some r))
     into p h None e g = cc
     into p h (Some w) e g =
         let s : w.unit ≡ u = cc in
-        let i = into-filter (is_reached r) w (last_of_each (written_in trace)) (found-last p w (written_in trace) e) (subst (λ q. is_within r q ≡ true) (found-at p w (written_in trace) e) h) in
+        let i = into-filter (λ (w : Written). is_within r (written_at w)) w (last_of_each (written_in trace)) (found-last p w (written_in trace) e) (subst (λ q. is_within r q ≡ true) (found-at p w (written_in trace) e) h) in
         subst (λ v. In v (writers_in trace (Some r))) s (into-map unit_of w _ i)

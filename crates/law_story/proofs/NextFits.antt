@@ -20,7 +20,7 @@ use Rattle.salt_model.specs.Programs.{accepted_in}
 use Rattle.salt_model.specs.Reads.{to_release}
 use Rattle.salt_model.specs.Refusals.{is_base_program, is_busy, is_covering, is_held_back, judged, refusal, refused_line, state_wrong}
 use Rattle.salt_model.specs.Trace.{Asked, Rejected, Trace, Tree, from, line_asked, line_of, start_of, ◌asks◌, ◌says◌, ◌turns◌}
-use Rattle.salt_model.specs.Turns.{act_event, after_began, after_did, after_end, asks_for, commits, does, does_next, fails, follow, fresh_base, fresh_unit, go, goes_on, is_at_end, kind_called, line_event, next_number, releases, settle, settle_by, turn, turn_of}
+use Rattle.salt_model.specs.Turns.{act_event, after_began, after_did, after_end, asks_for, commits, does, does_next, fails, follow, fresh_base, fresh_unit, go, goes_on, is_at_end, kind_called, line_event, next_number, releases, settle, settle_by, turn}
 use Rattle.salt_model.specs.Units.{Running, Waiting, is_of_program, is_of_session, is_open, is_open_standing, kind_of, open_units, program_unit, session_unit, standing, units_begun, wait_list}
 use Rattle.salt_model.specs.Waiting.{WaitUnit, asked_by, block_of, clashing_now, is_acid, is_on_cycle, names_of, next_unblocked, victim, wait_graph, wait_unit}
 use Rattle.salt_model.specs.Words.{first_of_list, greatest, is_empty}
@@ -193,7 +193,7 @@ module _ (trace : Trace) (serving : phase trace ≡ Serving) where
   fits-turn : (u : Id) → is_open trace u ≡ true → IfComes P (turn trace u)
   fits-turn u o = comes-map P _ (asked_by u trace) (λ st. fits-asks u st (clashing trace u st) o refl)
 
-  fits-turn_of : (o : Option Id) → ((u : Id) → o ≡ Some u → is_open trace u ≡ true) → IfComes P (turn_of trace o)
+  fits-turn_of : (o : Option Id) → ((u : Id) → o ≡ Some u → is_open trace u ≡ true) → IfComes P (option_and_then (turn trace) o)
   fits-turn_of None h = tt
   fits-turn_of (Some u) h = fits-turn u (h u refl)
 

@@ -10,7 +10,7 @@ use Rattle.law_story.proofs.Sound.{Sound, boot-ended, kind-in, none-open, none-o
 use Rattle.law_story.proofs.Upheld.{OfBoots, holds, may-fit}
 use Rattle.salt_model.specs.After.{kept}
 use Rattle.salt_model.specs.Continuing.{last_said}
-use Rattle.salt_model.specs.Decided.{CutsRight, IsLeftOpen, IsOfBoot, IsOwnIn, OwnUnless, TellsOwn, counts_flight}
+use Rattle.salt_model.specs.Decided.{CutsRight, IsLeftOpen, IsOfBoot, IsOwnIn, TellsOwn, counts_flight}
 use Rattle.salt_model.specs.Kept.{cont_of}
 use Rattle.salt_model.specs.Next.{flight, is_decision, next, said_event}
 use Rattle.salt_model.specs.Openings.{cuts_or_drains, drains, follow_opening, stands_now, to_cut, unfinished}
@@ -220,22 +220,20 @@ fallen-none (trace says Down why) e p o n = cc
 fallen-none (trace says Opened boot m) e p o n = cc
 fallen-none (trace says x) e p o n = let g : said_event Fallen (trace says x) x ≡ Some e = subst (λ q. said_event q (trace says x) x ≡ Some e) o n in cc
 
-of-boot : (trace : Trace) (e : Event) → IsOfBoot trace e → IsOfOpening trace e → (b : Bool) (p : Phase) → OwnUnless b p trace e
-of-boot trace e h g true p = tt
-of-boot trace e h g false Opening = g
-of-boot trace e h g false Serving = h
-of-boot trace e h g false Fallen = h
+of-boot : (trace : Trace) (e : Event) → IsOfBoot trace e → IsOfOpening trace e → (p : Phase) → IsOwnIn p trace e
+of-boot trace e h g Opening = g
+of-boot trace e h g Serving = h
+of-boot trace e h g Fallen = h
 
 next-at : (trace : Trace) (e : Event) → IsPlayed trace → OfBoots (start_of trace).kept → Fits trace e → next trace ≡ Some e → TellsOwn trace e
-next-at trace e p w f n = go (counts_flight trace) refl (phase trace) refl
+next-at trace e p w f n = λ c. go c (phase trace) refl
   where
-    go : (b : Bool) → counts_flight trace ≡ b → (q : Phase) → phase trace ≡ q → OwnUnless b q trace e
-    go true c q o = tt
-    go false c Opening o = either (λ f. let x = f.0 in cc) (λ h. h) (next-own trace e p (own trace p) o n)
-    go false c Serving o = serving-own trace e f (open-own trace p w) o
-    go false c Fallen o = absurd (fallen-none trace e p o n)
+    go : counts_flight trace ≡ false → (q : Phase) → phase trace ≡ q → IsOwnIn q trace e
+    go c Opening o = either (λ f. let x = f.0 in cc) (λ h. h) (next-own trace e p (own trace p) o n)
+    go c Serving o = serving-own trace e f (open-own trace p w) o
+    go c Fallen o = absurd (fallen-none trace e p o n)
 
 pub owns-at : (trace : Trace) (e : Event) → IsPlayed trace → OfBoots (start_of trace).kept → Fits trace e → May trace e → TellsOwn trace e
-owns-at trace (Down why) p w f m = of-boot trace (Down why) tt tt (counts_flight trace) (phase trace)
-owns-at trace (Opened boot n) p w f m = of-boot trace (Opened boot n) tt tt (counts_flight trace) (phase trace)
+owns-at trace (Down why) p w f m = λ c. of-boot trace (Down why) tt tt (phase trace)
+owns-at trace (Opened boot n) p w f m = λ c. of-boot trace (Opened boot n) tt tt (phase trace)
 owns-at trace e p w f m = next-at trace e p w f m

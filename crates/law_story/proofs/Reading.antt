@@ -14,7 +14,7 @@ use Rattle.salt_model.specs.Isolation.{is_committed_standing, is_open_or_committ
 use Rattle.salt_model.specs.Kept.{schema_of}
 use Rattle.salt_model.specs.Locks.{Taken, is_read, taken_by, taken_in, touches}
 use Rattle.salt_model.specs.Programs.{freed_by, left_out, programs_in, released_in}
-use Rattle.salt_model.specs.Reads.{Written, is_reached, last_of_each, programs_among, read_directly, releasable, writers_in, written_by, written_in, wrote_of}
+use Rattle.salt_model.specs.Reads.{Written, last_of_each, programs_among, read_directly, releasable, writers_in, written_by, written_in, wrote_of, written_at}
 use Rattle.salt_model.specs.Trace.{Trace, from, ◌asks◌, ◌says◌, ◌turns◌}
 use Rattle.salt_model.specs.Units.{Never, Over, Running, Standing, Waiting, is_of_program, is_open, is_open_standing, kind_of, program_of, program_of_kind, standing, standing_after}
 use Rattle.salt_model.specs.declared.events.Answer.{Answer}
@@ -28,6 +28,7 @@ use Rattle.salt_values.specs.declared.id.Id.{Id}
 use Rattle.std.proofs.Common.{ap, inl, inr, subst, sym, ◌∙◌}
 use Rattle.std.specs.List.{filter}
 use Rattle.std.specs.Prelude.{Bool, List, None, Option, Some, [], cond, false, is_none, is_some, not, option_and_then, refl, true, ⊤, ◌&&◌, ◌++◌, ◌==◌, ◌∷◌, ◌≡◌, ◌⊎◌}
+use Rattle.salt_model.specs.Tables.{is_within}
 
 -- reaches that cover a key to be written
 abbrev Wrote : Taken → Written → Type 0
@@ -137,14 +138,14 @@ last-in w [] h = h
 last-in w (x ∷ ws) (inl e) = inl e
 last-in w (x ∷ ws) (inr h) = inr (last-in w ws (in-filter _ w (last_of_each ws) h).0)
 
-pub writer-in : (trace : Trace) (r : Reach) (v : Id) → In v (writers_in trace (Some r)) → (w : Written) × In w (written_in trace) × (is_reached r w ≡ true) × (w.unit ≡ v)
+pub writer-in : (trace : Trace) (r : Reach) (v : Id) → In v (writers_in trace (Some r)) → (w : Written) × In w (written_in trace) × (is_within r (written_at w) ≡ true) × (w.unit ≡ v)
 writer-in trace r v h =
-    let m = in-map (λ (w : Written). w.unit) v (filter (is_reached r) (last_of_each (written_in trace))) h in
-    let i = in-filter (is_reached r) m.0 (last_of_each (written_in trace)) m.1 in
+    let m = in-map (λ (w : Written). w.unit) v (filter (λ (w : Written). is_within r (written_at w)) (last_of_each (written_in trace))) h in
+    let i = in-filter (λ (w : Written). is_within r (written_at w)) m.0 (last_of_each (written_in trace)) m.1 in
     (m.0, last-in m.0 (written_in trace) i.0, i.1, m.2)
 
 -- fact 4: whoever wrote a key that an ACID unit reaches is ACID, or of a released program
-reached-released : (trace : Trace) (r : Reach) (w : Written) → touches_unreleased trace (Some r) ≡ false → Covered trace w → is_reached r w ≡ true → is_program_released trace (program_of w.unit trace) ≡ true
+reached-released : (trace : Trace) (r : Reach) (w : Written) → touches_unreleased trace (Some r) ≡ false → Covered trace w → is_within r (written_at w) ≡ true → is_program_released trace (program_of w.unit trace) ≡ true
 reached-released trace r w none c h =
     let t = c.taken.0 in
     let x = c.taken.2 in

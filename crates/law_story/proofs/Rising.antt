@@ -4,12 +4,12 @@ use Rattle.law_story.proofs.Fresh.{IfComes}
 use Rattle.law_story.proofs.Ids.{is_same_id-refl}
 use Rattle.law_story.proofs.NextFits.{Fits, Flies}
 use Rattle.law_story.proofs.Upheld.{OfBoots, holds, may-fit}
-use Rattle.salt_ast.specs.Paths.{Position}
+use Rattle.salt_ast.specs.Paths.{Position, next_on_commit, next_on_failure}
 use Rattle.salt_ast.specs.declared.programs.ProgramDef.{ProgramDef}
 use Rattle.salt_model.specs.After.{branched, conts_at, kept, run_of}
 use Rattle.salt_model.specs.Continuing.{IsFirstAccepted}
 use Rattle.salt_model.specs.Ends.{kept_with}
-use Rattle.salt_model.specs.Kept.{Kept, Rise, begun_cont, branch_of, change_cont, cont_in, cont_of, kept_program, moved, then_of, tries_left, values_kept, without_cont}
+use Rattle.salt_model.specs.Kept.{Kept, Rise, begun_cont, change_cont, cont_in, cont_of, kept_program, moved, tries_left, values_kept, without_cont}
 use Rattle.salt_model.specs.Played.{IsPlayed}
 use Rattle.salt_model.specs.Trace.{Trace, from, start_of, ◌asks◌, ◌says◌, ◌turns◌}
 use Rattle.salt_model.specs.Units.{kind_of}
@@ -26,6 +26,7 @@ use Rattle.salt_values.specs.declared.id.Id.{Id}
 use Rattle.salt_values.specs.declared.value.Value.{Value}
 use Rattle.std.proofs.Common.{ap, arith, subst, sym, ◌∙◌}
 use Rattle.std.specs.Prelude.{Bool, List, None, Option, Some, [], cond, false, map, option_and_then, refl, true, ℕ, ◌++◌, ◌+◌, ◌<◌, ◌∷◌, ◌≡◌, ◌≤◌}
+use Rattle.salt_model.specs.Kept.{parts_of}
 
 -- b was accepted after a
 abbrev After : Cont → Cont → Type 0
@@ -89,14 +90,14 @@ rise-committed k (Some (Acid s)) vars h = rise-up k.decisions k.conts h
 rise-committed k (Some (Call s name args)) vars h = rise-up k.decisions k.conts h
 rise-committed k (Some (First s c name args)) vars h = go (kept_program name k)
   where
-    go : (o : Option ProgramDef) → Rise (k.decisions + 1) (elim o [ None ↦ k.conts | Some p ↦ begun_cont c (k.decisions + 1) p args vars (then_of p 1) k.conts ])
+    go : (o : Option ProgramDef) → Rise (k.decisions + 1) (elim o [ None ↦ k.conts | Some p ↦ begun_cont c (k.decisions + 1) p args vars (next_on_commit (parts_of p) 1) k.conts ])
     go None = rise-up k.decisions k.conts h
-    go (Some p) = rise-begun k.decisions c p args vars (then_of p 1) k.conts h
+    go (Some p) = rise-begun k.decisions c p args vars (next_on_commit (parts_of p) 1) k.conts h
 rise-committed k (Some (Later c part)) vars h = rise-up k.decisions _ (go (option_and_then (λ c. kept_program c.program k) (cont_of c k)))
   where
-    go : (o : Option ProgramDef) → Rise k.decisions (elim o [ None ↦ k.conts | Some p ↦ moved c (then_of p part) (λ x. record x { vars = values_kept p vars }) k.conts ])
+    go : (o : Option ProgramDef) → Rise k.decisions (elim o [ None ↦ k.conts | Some p ↦ moved c (next_on_commit (parts_of p) part) (λ x. record x { vars = values_kept p vars }) k.conts ])
     go None = h
-    go (Some p) = rise-moved k.decisions c (then_of p part) _ (λ x. refl) k.conts h
+    go (Some p) = rise-moved k.decisions c (next_on_commit (parts_of p) part) _ (λ x. refl) k.conts h
 
 abbrev pub Rises : Kept → Type 0
 Rises k = Rise k.decisions k.conts
@@ -108,9 +109,9 @@ rise-branched k (Some (Call s name args)) h = rise-up k.decisions k.conts h
 rise-branched k (Some (First s c name args)) h = rise-up k.decisions k.conts h
 rise-branched k (Some (Later c part)) h = rise-up k.decisions _ (go (option_and_then (λ c. kept_program c.program k) (cont_of c k)))
   where
-    go : (o : Option ProgramDef) → Rise k.decisions (elim o [ None ↦ k.conts | Some p ↦ moved c (branch_of p part (tries_left c k)) (λ x. x) k.conts ])
+    go : (o : Option ProgramDef) → Rise k.decisions (elim o [ None ↦ k.conts | Some p ↦ moved c (next_on_failure (parts_of p) part (tries_left c k)) (λ x. x) k.conts ])
     go None = h
-    go (Some p) = rise-moved k.decisions c (branch_of p part (tries_left c k)) _ (λ x. refl) k.conts h
+    go (Some p) = rise-moved k.decisions c (next_on_failure (parts_of p) part (tries_left c k)) _ (λ x. refl) k.conts h
 
 ends-rise : (trace : Trace) (u : Id) (n : ℕ) → n ≡ (kept trace).decisions + 1 → Rises (kept trace) → Rises (kept (trace says Ended u (Committed n)))
 ends-rise trace u n e h = subst (λ m. Rise m (conts_at (kept trace) m (kind_of u trace) (run_of u trace).vars)) (sym e) (rise-committed (kept trace) (kind_of u trace) (run_of u trace).vars h)

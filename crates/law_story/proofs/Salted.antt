@@ -12,7 +12,7 @@ use Rattle.law_story.proofs.Unreleased.{whole-did}
 use Rattle.law_story.proofs.Upheld.{OfBoots, comes-at, holds, may-fit, may-open}
 use Rattle.salt_model.specs.Continuing.{last_said}
 use Rattle.salt_model.specs.Everywhere.{Each}
-use Rattle.salt_model.specs.Isolation.{IsChain, IsSalted, IsWhole, ReadsReleased, is_linked, is_program_released, is_same_program, read_by}
+use Rattle.salt_model.specs.Isolation.{IsChain, IsSalted, IsWhole, ReadsReleased, is_linked, is_program_released, read_by}
 use Rattle.salt_model.specs.Next.{next, said_event}
 use Rattle.salt_model.specs.Phases.{Fallen, Opening, Phase, Serving, phase}
 use Rattle.salt_model.specs.Played.{IsPlayed}
@@ -23,17 +23,18 @@ use Rattle.salt_model.specs.Segments.{May}
 use Rattle.salt_model.specs.Stops.{MayFall, is_at_devices, is_device_next}
 use Rattle.salt_model.specs.Trace.{Asked, Start, Trace, from, start_of, ◌asks◌, ◌says◌, ◌turns◌}
 use Rattle.salt_model.specs.Turns.{releases, settle}
-use Rattle.salt_model.specs.Units.{program_of}
+use Rattle.salt_model.specs.Units.{is_of_program, program_of}
+use Rattle.std.specs.Option.{option_map_or}
 use Rattle.salt_model.specs.declared.events.Event.{Event}
 use Rattle.salt_model.specs.declared.events.Event.TheVariants.{Did, Down, Finished, Opened, Released}
 use Rattle.salt_model.specs.declared.events.Why.{Why}
 use Rattle.salt_model.specs.declared.shown.BaseAt.TheVariants.{Finished}
-use Rattle.salt_values.specs.Id.{has_id}
+use Rattle.salt_values.specs.Id.{has_id, is_same_id}
 use Rattle.salt_values.specs.declared.id.Id.{Id}
 use Rattle.std.proofs.Common.{ap, subst, sym, ◌∙◌}
 use Rattle.std.specs.List.{list_all}
 use Rattle.std.specs.Option.{option_or}
-use Rattle.std.specs.Prelude.{List, None, Option, Some, [], is_none, not, refl, true, ◌∷◌, ◌≡◌}
+use Rattle.std.specs.Prelude.{List, None, Option, Some, [], false, is_none, not, refl, true, ◌∷◌, ◌≡◌}
 
 salty-start : (k : Start) → Salty (from k)
 salty-start k = record { written = λ w h. absurd h; reads = λ u v h. absurd h; closed = λ b c r h. absurd h }
@@ -72,13 +73,17 @@ good-read trace None q z h g = h
 good-read trace (Some b) None z h g = refl
 good-read trace (Some b) (Some c) z h g = either (λ e. subst (λ x. has_id x (released_in trace) ≡ true) (sym e) g) (λ i. in-has c _ (z.closed b c (has-in b _ g) i)) h
 
-good-same : (trace : Trace) (p q : Option Id) → is_same_program p q ≡ true → is_program_released trace p ≡ true → is_program_released trace q ≡ true
-good-same trace (Some b) (Some c) h g = subst (λ x. has_id x (released_in trace) ≡ true) (is_same_id-true b c h) g
-good-same trace None q h g = cc
-good-same trace (Some b) None h g = cc
+good-same : (trace : Trace) (v : Id) (p : Option Id) → option_map_or (λ b. is_of_program b trace v) p false ≡ true → is_program_released trace p ≡ true →
+    is_program_released trace (program_of v trace) ≡ true
+good-same trace v None h g = cc
+good-same trace v (Some b) h g = by (program_of v trace) h
+  where
+    by : (q : Option Id) → elim q [ None ↦ false | Some c ↦ is_same_id b c ] ≡ true → is_program_released trace q ≡ true
+    by None e = cc
+    by (Some c) e = subst (λ x. has_id x (released_in trace) ≡ true) (is_same_id-true b c e) g
 
 good-linked : (trace : Trace) (u v : Id) → Salty trace → is_linked trace u v ≡ true → Good trace u → Good trace v
-good-linked trace u v z h g = either (λ r. good-read trace (program_of u trace) (program_of v trace) z (z.reads u v (has-in v _ r)).fits g) (λ m. good-same trace (program_of u trace) (program_of v trace) m g) (or_cases (has_id v (read_by u trace)) _ h)
+good-linked trace u v z h g = either (λ r. good-read trace (program_of u trace) (program_of v trace) z (z.reads u v (has-in v _ r)).fits g) (λ m. good-same trace v (program_of u trace) m g) (or_cases (has_id v (read_by u trace)) _ h)
 
 good-chain : (trace : Trace) (u : Id) (chain : List Id) → Salty trace → IsChain trace u chain → Good trace u → list_all (λ v. is_program_released trace (program_of v trace)) chain ≡ true
 good-chain trace u [] z c g = refl

@@ -5,14 +5,14 @@ use Rattle.law_story.proofs.Ids.{is_same_id-refl, is_same_id-true}
 use Rattle.law_story.proofs.Lists.{In, either, in-cases, in-has, in-left, in-order, in-right, in-shrink, in-without, into-filter, into-order, or_cases, order-none}
 use Rattle.law_story.proofs.NextFits.{Drains, Fits, FitsKind, IsAcceptance, IsLastEnd, is_first_of}
 use Rattle.law_story.specs.Names.{is_named, is_unit_of}
-use Rattle.salt_ast.specs.Paths.{Position}
+use Rattle.salt_ast.specs.Paths.{Position, next_on_commit, next_on_failure}
 use Rattle.salt_ast.specs.declared.lines.Act.TheVariants.{Call}
 use Rattle.salt_ast.specs.declared.programs.Body.TheVariants.{Acid}
 use Rattle.salt_ast.specs.declared.programs.ProgramDef.{ProgramDef}
 use Rattle.salt_model.specs.After.{branched, conts_at, kept, run_of}
 use Rattle.salt_model.specs.Continuing.{last_said, part_due, program_continued}
 use Rattle.salt_model.specs.Isolation.{is_committed_standing}
-use Rattle.salt_model.specs.Kept.{Kept, begun_cont, branch_of, change_cont, cont_in, cont_of, conts_branched, conts_committed, kept_program, moved, then_of, tries_left, values_kept, without_cont}
+use Rattle.salt_model.specs.Kept.{Kept, begun_cont, change_cont, cont_in, cont_of, conts_branched, conts_committed, kept_program, moved, tries_left, values_kept, without_cont}
 use Rattle.salt_model.specs.Phases.{Fallen, Opening, Phase, Serving, phase}
 use Rattle.salt_model.specs.Programs.{finished_in, freed_by, left_out, passed_in, programs_in, released_in, shares}
 use Rattle.salt_model.specs.Reads.{reads_within, releasable, to_release}
@@ -40,6 +40,7 @@ use Rattle.std.specs.Bool.{then_some}
 use Rattle.std.specs.List.{filter}
 use Rattle.std.specs.Option.{option_or}
 use Rattle.std.specs.Prelude.{Bool, List, None, Option, Some, [], cond, false, is_some, map, nat_lt, option_and_then, option_map, refl, true, ℕ, ◌++◌, ◌+◌, ◌<◌, ◌∷◌, ◌≡◌, ◌≤◌, ◌⊎◌}
+use Rattle.salt_model.specs.Kept.{parts_of}
 
 -- numbers of names
 
@@ -338,21 +339,21 @@ base-committed b k n (Acid s) vars h = inl h
 base-committed b k n (Call s name args) vars h = inl h
 base-committed b k n (First s c name args) vars h = go (kept_program name k) h
   where
-    go : (o : Option ProgramDef) → In b (map (λ (x : Cont). x.base) (elim o [ None ↦ k.conts | Some p ↦ begun_cont c n p args vars (then_of p 1) k.conts ])) → In b (map (λ (x : Cont). x.base) k.conts) ⊎ (Some c ≡ Some b)
+    go : (o : Option ProgramDef) → In b (map (λ (x : Cont). x.base) (elim o [ None ↦ k.conts | Some p ↦ begun_cont c n p args vars (next_on_commit (parts_of p) 1) k.conts ])) → In b (map (λ (x : Cont). x.base) k.conts) ⊎ (Some c ≡ Some b)
     go None g = inl g
-    go (Some p) g = either (λ i. inl i) (λ e. inr (ap Some e)) (base-begun b c n p args vars (then_of p 1) k.conts g)
+    go (Some p) g = either (λ i. inl i) (λ e. inr (ap Some e)) (base-begun b c n p args vars (next_on_commit (parts_of p) 1) k.conts g)
 base-committed b k n (Later c part) vars h = inl (go (option_and_then (λ c. kept_program c.program k) (cont_of c k)) h)
   where
-    go : (o : Option ProgramDef) → In b (map (λ (x : Cont). x.base) (elim o [ None ↦ k.conts | Some p ↦ moved c (then_of p part) (λ c. record c { vars = values_kept p vars }) k.conts ])) → In b (map (λ (x : Cont). x.base) k.conts)
+    go : (o : Option ProgramDef) → In b (map (λ (x : Cont). x.base) (elim o [ None ↦ k.conts | Some p ↦ moved c (next_on_commit (parts_of p) part) (λ c. record c { vars = values_kept p vars }) k.conts ])) → In b (map (λ (x : Cont). x.base) k.conts)
     go None g = g
-    go (Some p) g = base-moved b c (then_of p part) _ (λ x. refl) k.conts g
+    go (Some p) g = base-moved b c (next_on_commit (parts_of p) part) _ (λ x. refl) k.conts g
 
 base-branched : (b : Id) (k : Kept) (kind : UnitKind) → In b (map (λ (x : Cont). x.base) (conts_branched k kind)) → In b (map (λ (x : Cont). x.base) k.conts)
 base-branched b k (Later c part) h = go (option_and_then (λ c. kept_program c.program k) (cont_of c k)) h
   where
-    go : (o : Option ProgramDef) → In b (map (λ (x : Cont). x.base) (elim o [ None ↦ k.conts | Some p ↦ moved c (branch_of p part (tries_left c k)) (λ c. c) k.conts ])) → In b (map (λ (x : Cont). x.base) k.conts)
+    go : (o : Option ProgramDef) → In b (map (λ (x : Cont). x.base) (elim o [ None ↦ k.conts | Some p ↦ moved c (next_on_failure (parts_of p) part (tries_left c k)) (λ c. c) k.conts ])) → In b (map (λ (x : Cont). x.base) k.conts)
     go None g = g
-    go (Some p) g = base-moved b c (branch_of p part (tries_left c k)) _ (λ x. refl) k.conts g
+    go (Some p) g = base-moved b c (next_on_failure (parts_of p) part (tries_left c k)) _ (λ x. refl) k.conts g
 base-branched b k kind h = h
 
 committed-bases : (b : Id) (k : Kept) (n : ℕ) (o : Option UnitKind) (vars : List Binding) → In b (map (λ (x : Cont). x.base) (conts_at k n o vars)) → In b (map (λ (x : Cont). x.base) k.conts) ⊎ (option_and_then program_of_kind o ≡ Some b)
@@ -603,23 +604,23 @@ stays-committed b k n (Call s name args) vars x = refl
 stays-committed b k n (First s c name args) vars x = go (kept_program name k)
   where
     go : (o : Option ProgramDef) →
-        cont_in b (elim o [ None ↦ k.conts | Some p ↦ begun_cont c n p args vars (then_of p 1) k.conts ]) ≡ cont_in b k.conts
+        cont_in b (elim o [ None ↦ k.conts | Some p ↦ begun_cont c n p args vars (next_on_commit (parts_of p) 1) k.conts ]) ≡ cont_in b k.conts
     go None = refl
-    go (Some p) = stays-begun b c (λ e. x (ap Some e)) n p args vars (then_of p 1) k.conts
+    go (Some p) = stays-begun b c (λ e. x (ap Some e)) n p args vars (next_on_commit (parts_of p) 1) k.conts
 stays-committed b k n (Later c part) vars x = go (option_and_then (λ c. kept_program c.program k) (cont_of c k))
   where
     go : (o : Option ProgramDef) →
-        cont_in b (elim o [ None ↦ k.conts | Some p ↦ moved c (then_of p part) (λ c. record c { vars = values_kept p vars }) k.conts ]) ≡ cont_in b k.conts
+        cont_in b (elim o [ None ↦ k.conts | Some p ↦ moved c (next_on_commit (parts_of p) part) (λ c. record c { vars = values_kept p vars }) k.conts ]) ≡ cont_in b k.conts
     go None = refl
-    go (Some p) = stays-moved b c (λ e. x (ap Some e)) (then_of p part) _ (λ x. refl) k.conts
+    go (Some p) = stays-moved b c (λ e. x (ap Some e)) (next_on_commit (parts_of p) part) _ (λ x. refl) k.conts
 
 pub stays-branched : (b : Id) (k : Kept) (kind : UnitKind) → (program_of_kind kind ≡ Some b → ⊥) → cont_in b (conts_branched k kind) ≡ cont_in b k.conts
 stays-branched b k (Later c part) x = go (option_and_then (λ c. kept_program c.program k) (cont_of c k))
   where
     go : (o : Option ProgramDef) →
-        cont_in b (elim o [ None ↦ k.conts | Some p ↦ moved c (branch_of p part (tries_left c k)) (λ c. c) k.conts ]) ≡ cont_in b k.conts
+        cont_in b (elim o [ None ↦ k.conts | Some p ↦ moved c (next_on_failure (parts_of p) part (tries_left c k)) (λ c. c) k.conts ]) ≡ cont_in b k.conts
     go None = refl
-    go (Some p) = stays-moved b c (λ e. x (ap Some e)) (branch_of p part (tries_left c k)) _ (λ x. refl) k.conts
+    go (Some p) = stays-moved b c (λ e. x (ap Some e)) (next_on_failure (parts_of p) part (tries_left c k)) _ (λ x. refl) k.conts
 stays-branched b k kind x = refl
 
 pub cont-stays : (trace : Trace) (u : Id) (end : End) (b : Id) → (program_of u trace ≡ Some b → ⊥) →

@@ -8,13 +8,13 @@ use Rattle.law_story.proofs.NextFits.{Fits, Flies}
 use Rattle.law_story.proofs.Rising.{every-without}
 use Rattle.law_story.proofs.Sound.{Sound, cont-stays, of-program, open-back}
 use Rattle.law_story.proofs.Upheld.{OfBoots, holds, may-fit}
-use Rattle.salt_ast.specs.Paths.{Position, at_number, position_at, retries}
+use Rattle.salt_ast.specs.Paths.{Position, at_number, position_at, retries, next_on_commit, next_on_failure}
 use Rattle.salt_ast.specs.declared.programs.ProgramDef.{ProgramDef}
 use Rattle.salt_model.specs.After.{branched, conts_at, defined_by, kept, run_of}
 use Rattle.salt_model.specs.Continuing.{UsesTry, part_due}
 use Rattle.salt_model.specs.Ends.{kept_with}
 use Rattle.salt_model.specs.Everywhere.{Always, Each}
-use Rattle.salt_model.specs.Kept.{AreTriesWithin, IsWithinTries, Kept, begun_cont, branch_of, change_cont, cont_in, cont_of, kept_program, moved, parts_of, programs_of, retries_of, then_of, values_kept}
+use Rattle.salt_model.specs.Kept.{AreTriesWithin, IsWithinTries, Kept, begun_cont, change_cont, cont_in, cont_of, kept_program, moved, parts_of, programs_of, retries_of, values_kept}
 use Rattle.salt_model.specs.Next.{flight}
 use Rattle.salt_model.specs.Played.{IsPlayed}
 use Rattle.salt_model.specs.Trace.{Trace, from, line_of, start_of, ◌asks◌, ◌says◌, ◌turns◌}
@@ -90,7 +90,7 @@ way-within p (Some n) at h =
     subst (IsWithin p) same own
 
 branch-within : (p : ProgramDef) (part tries : ℕ) → tries ≤ retries (at_number part (parts_of p)) → (at : Position) →
-    branch_of p part tries ≡ Some at → IsWithin p at
+    next_on_failure (parts_of p) part tries ≡ Some at → IsWithin p at
 branch-within p part zero l at h = way-within p _ at h
 branch-within p part (suc tries) l at h =
     let same : record { part = part; tries = tries } ≡ at = cc in
@@ -143,21 +143,21 @@ module _ (k : Kept) where
   within-committed n (Some (First s b name args)) vars h = go (kept_program name k) refl
     where
       go : (o : Option ProgramDef) → kept_program name k ≡ o →
-          Every P (elim o [ None ↦ k.conts | Some p ↦ begun_cont b n p args vars (then_of p 1) k.conts ])
+          Every P (elim o [ None ↦ k.conts | Some p ↦ begun_cont b n p args vars (next_on_commit (parts_of p) 1) k.conts ])
       go None e = h
-      go (Some p) e = within-begun b n p args vars (then_of p 1) (subst (λ x. kept_program x k ≡ Some p) (named-own (programs_of k) name p e) e)
+      go (Some p) e = within-begun b n p args vars (next_on_commit (parts_of p) 1) (subst (λ x. kept_program x k ≡ Some p) (named-own (programs_of k) name p e) e)
           (λ at. way-within p _ at) h
   within-committed n (Some (Later b part)) vars h = by (cont_of b k) refl
     where
       go : (c : Cont) → cont_of b k ≡ Some c → (o : Option ProgramDef) → kept_program c.program k ≡ o →
-          Every P (elim o [ None ↦ k.conts | Some p ↦ moved b (then_of p part) (λ x. record x { vars = values_kept p vars }) k.conts ])
+          Every P (elim o [ None ↦ k.conts | Some p ↦ moved b (next_on_commit (parts_of p) part) (λ x. record x { vars = values_kept p vars }) k.conts ])
       go c e None g = h
-      go c e (Some p) g = within-moved b c p (then_of p part) _ (λ x. refl) g (λ at. way-within p _ at) k.conts e h
+      go c e (Some p) g = within-moved b c p (next_on_commit (parts_of p) part) _ (λ x. refl) g (λ at. way-within p _ at) k.conts e h
 
       by : (o : Option Cont) → cont_of b k ≡ o →
           Every P
           (elim (option_and_then (λ c. kept_program c.program k) o)
-          [ None ↦ k.conts | Some p ↦ moved b (then_of p part) (λ x. record x { vars = values_kept p vars }) k.conts ])
+          [ None ↦ k.conts | Some p ↦ moved b (next_on_commit (parts_of p) part) (λ x. record x { vars = values_kept p vars }) k.conts ])
       by None e = h
       by (Some c) e = go c e (kept_program c.program k) refl
 
@@ -182,14 +182,14 @@ module _ (k : Kept) where
           subst (λ m. c.tries ≤ retries (at_number m (parts_of p))) at (subst (λ q. c.tries ≤ retries_of q c.next) g (found-in P b c k.conts h e))
 
       go : (c : Cont) → cont_of b k ≡ Some c → (o : Option ProgramDef) → kept_program c.program k ≡ o →
-          Every P (elim o [ None ↦ k.conts | Some p ↦ moved b (branch_of p part c.tries) (λ x. x) k.conts ])
+          Every P (elim o [ None ↦ k.conts | Some p ↦ moved b (next_on_failure (parts_of p) part c.tries) (λ x. x) k.conts ])
       go c e None g = h
-      go c e (Some p) g = within-moved b c p (branch_of p part c.tries) _ (λ x. refl) g (branch-within p part c.tries (within c p e g)) k.conts e h
+      go c e (Some p) g = within-moved b c p (next_on_failure (parts_of p) part c.tries) _ (λ x. refl) g (branch-within p part c.tries (within c p e g)) k.conts e h
 
       by : (o : Option Cont) → cont_of b k ≡ o →
           Every P
           (elim (option_and_then (λ c. kept_program c.program k) o)
-          [ None ↦ k.conts | Some p ↦ moved b (branch_of p part (left o)) (λ x. x) k.conts ])
+          [ None ↦ k.conts | Some p ↦ moved b (next_on_failure (parts_of p) part (left o)) (λ x. x) k.conts ])
       by None e = h
       by (Some c) e = go c e (kept_program c.program k) refl
 
@@ -271,15 +271,15 @@ failed-uses k n o b part c tries kind e at left d = subst (λ q. cont_of b (bran
     (subst (λ m. cont_of b (branched k n (Some (Later b m))) ≡ Some (record c { tries = tries })) at (by (cont_of b k) e))
   where
     go : (q : Option ProgramDef) → is_some q ≡ true →
-        cont_in b (elim q [ None ↦ k.conts | Some p ↦ moved b (branch_of p c.next c.tries) (λ x. x) k.conts ]) ≡ Some (record c { tries = tries })
+        cont_in b (elim q [ None ↦ k.conts | Some p ↦ moved b (next_on_failure (parts_of p) c.next c.tries) (λ x. x) k.conts ]) ≡ Some (record c { tries = tries })
     go None h = cc
-    go (Some p) h = subst (λ m. cont_in b (moved b (branch_of p c.next m) (λ x. x) k.conts) ≡ Some (record c { tries = tries })) (sym left)
+    go (Some p) h = subst (λ m. cont_in b (moved b (next_on_failure (parts_of p) c.next m) (λ x. x) k.conts) ≡ Some (record c { tries = tries })) (sym left)
         (found-change b (λ x. record x { next = c.next; tries = tries }) (λ x. refl) k.conts c e)
 
     left_of : Option Cont → List Cont
     left_of q =
         elim (option_and_then (λ (x : Cont). kept_program x.program k) q)
-        [ None ↦ k.conts | Some p ↦ moved b (branch_of p c.next (elim q [ None ↦ 0 | Some x ↦ x.tries ])) (λ x. x) k.conts ]
+        [ None ↦ k.conts | Some p ↦ moved b (next_on_failure (parts_of p) c.next (elim q [ None ↦ 0 | Some x ↦ x.tries ])) (λ x. x) k.conts ]
 
     by : (q : Option Cont) → q ≡ Some c → cont_in b (left_of q) ≡ Some (record c { tries = tries })
     by q same = subst (λ q. cont_in b (left_of q) ≡ Some (record c { tries = tries })) (sym same) (go (kept_program c.program k) d)

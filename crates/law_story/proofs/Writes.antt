@@ -10,8 +10,8 @@ use Rattle.law_story.proofs.Every.{IfOk, IfSome, every-collect, every-passes, ok
 use Rattle.law_story.proofs.Places.{has-itself}
 use Rattle.salt_model.specs.Eval.{holds, passes, value_of, values_of}
 use Rattle.salt_model.specs.Statements.{Done, answering, change_to, changing, checked, collect, do_at, do_in, done, inserted, on_match, outcome_of, removed, seen, shown, stored, updated, with_sets}
-use Rattle.salt_model.specs.Reaches.{first_value, in_row, key_reached, no_row, range_of, reach, reach_at, reach_in, reached, table_for}
-use Rattle.salt_model.specs.Tables.{Entry, Tables, changed_at, is_within, key_of, place, rows_in}
+use Rattle.salt_model.specs.Reaches.{first_value, in_row, key_reached, no_row, range_of, reach, reach_in, reached, table_for}
+use Rattle.salt_model.specs.Tables.{Entry, Tables, changed_at, is_within, place, rows_in}
 use Rattle.salt_model.specs.Words.{Every, and_then}
 use Rattle.salt_model.specs.declared.events.Answer.TheVariants.{Count}
 use Rattle.salt_model.specs.declared.events.Answer.{Answer}
@@ -27,7 +27,8 @@ use Rattle.salt_values.specs.declared.change.Change.{Change}
 use Rattle.salt_values.specs.declared.value.Value.{Value}
 use Rattle.std.proofs.Common.{ap, subst, sym}
 use Rattle.std.specs.List.{filter}
-use Rattle.std.specs.Prelude.{Bool, Err, List, None, Ok, Option, Result, Some, [], cond, false, if◌then◌else◌, pos, refl, true, ℕ, ◌∷◌, ◌≡◌}
+use Rattle.std.specs.Prelude.{Bool, Err, List, None, Ok, Option, Result, Some, [], cond, false, if◌then◌else◌, pos, refl, true, ℕ, ◌∷◌, ◌≡◌, option_and_then}
+use Rattle.salt_values.specs.Value.{key_of}
 
 abbrev pub In : Option Reach → Place → Type 0
 In None p = ⊥
@@ -114,10 +115,10 @@ done-writes : (o : Option Reach) (vars : List Binding) (r : Result Done Cause) �
 done-writes o vars (Ok d) h = h
 done-writes o vars (Err c) h = tt
 
-at-writes : (vars : List Binding) (st : Statement) (d : Option (ℕ × TableDef)) (rows : List Entry) → Every (λ e. In (reach_at vars st d) e.0) rows → Every (Writes (reach_at vars st d)) (do_at vars st d rows).changes
+at-writes : (vars : List Binding) (st : Statement) (d : Option (ℕ × TableDef)) (rows : List Entry) → Every (λ e. In (option_and_then (λ (d : ℕ × TableDef). reach_in d.0 vars st) d) e.0) rows → Every (Writes (option_and_then (λ (d : ℕ × TableDef). reach_in d.0 vars st) d)) (do_at vars st d rows).changes
 at-writes vars (Ensure e) d rows h = ensure-none (holds (no_row vars) e)
   where
-    ensure-none : (r : Result Bool Cause) → Every (Writes (reach_at vars (Ensure e) d)) (done vars (and_then r (λ b. if b then Ok (answering vars Answer.Held) else Err Cause.Ensure))).changes
+    ensure-none : (r : Result Bool Cause) → Every (Writes (option_and_then (λ (d : ℕ × TableDef). reach_in d.0 vars (Ensure e)) d)) (done vars (and_then r (λ b. if b then Ok (answering vars Answer.Held) else Err Cause.Ensure))).changes
     ensure-none (Err c) = tt
     ensure-none (Ok true) = tt
     ensure-none (Ok false) = tt

@@ -15,7 +15,7 @@ use Rattle.law_story.proofs.Upheld.{Upheld, holds, may-fit}
 use Rattle.law_story.proofs.Sound.{Sound, cont-stays, kind-in, of-program, open-back}
 use Rattle.law_story.proofs.WellKept.{of-start}
 use Rattle.salt_model.specs.After.{branched, committed, defined_by, keep, kept, run_of, stage, vars_of}
-use Rattle.salt_model.specs.AsDeclared.{DoesDeclared, IsDeclaredBy, IsNextOfBlock}
+use Rattle.salt_model.specs.AsDeclared.{DoesDeclared, IsDeclaredBy}
 use Rattle.salt_model.specs.Ends.{kept_with}
 use Rattle.salt_model.specs.Everywhere.{Each}
 use Rattle.salt_model.specs.Kept.{Definition, Kept, WellKept, block_of_kind, cont_of, program_of_definition, schema_of, table_of_definition, vars_of_kind}
@@ -164,8 +164,9 @@ in-block Q [] n st h e = absurd cc
 in-block Q (x ∷ block) zero st h e = let same : x ≡ st = cc in subst Q same h.0
 in-block Q (x ∷ block) (suc n) st h e = in-block Q block n st h.1 e
 
-of-block : (Q : Statement → Type 0) (o : Option (List Statement)) (done : List Statement) (st : Statement) → IfSome o (Every Q) → IsNextOfBlock o done st → Q st
-of-block Q None done st h e = absurd e
+of-block : (Q : Statement → Type 0) (o : Option (List Statement)) (done : List Statement) (st : Statement) → IfSome o (Every Q) →
+    option_and_then (λ block. slice_get block (length done)) o ≡ Some st → Q st
+of-block Q None done st h e = absurd cc
 of-block Q (Some block) done st h e = in-block Q block (length done) st h e
 
 -- a unit's statement is not refused

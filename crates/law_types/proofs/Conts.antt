@@ -1,8 +1,8 @@
 -- Continuations fit their programs behind a commit and a branch, and units begin with variables of their types.
 use Rattle.salt_ast.proofs.Ways.{branch_leads_on, commit_leads_on}
 use Rattle.salt_ast.specs.Judgement.{bindings}
-use Rattle.salt_ast.specs.Paths.{Position, at_number, next_on_branch, position_at, retries}
-use Rattle.salt_ast.specs.ProgramJudgement.{are_arguments, branch_fault, fault_in_parts, fits_program, program_named, program_scope}
+use Rattle.salt_ast.specs.Paths.{Position, at_number, next_on_branch, position_at, retries, next_on_commit, next_on_failure}
+use Rattle.salt_ast.specs.ProgramJudgement.{are_arguments, branch_fault, fault_in_parts, program_named, program_scope}
 use Rattle.salt_ast.specs.declared.programs.Body.TheVariants.{Acid, Base}
 use Rattle.salt_ast.specs.declared.programs.Body.{Body}
 use Rattle.salt_ast.specs.declared.programs.PartDef.{PartDef}
@@ -13,7 +13,7 @@ use Rattle.law_story.proofs.Every.{every-append}
 use Rattle.law_story.proofs.Ids.{and_left, and_right}
 use Rattle.law_story.proofs.Rising.{every-without}
 use Rattle.salt_model.specs.After.{branched, committed}
-use Rattle.salt_model.specs.Kept.{Kept, begun_cont, branch_of, change_cont, cont_in, cont_of, conts_branched, conts_committed, kept_program, moved, parts_of, programs_of, schema_of, then_of, values_kept, vars_at_call, vars_at_cont, vars_of_kind, zeros}
+use Rattle.salt_model.specs.Kept.{Kept, begun_cont, change_cont, cont_in, cont_of, conts_branched, conts_committed, kept_program, moved, parts_of, programs_of, schema_of, values_kept, vars_at_call, vars_at_cont, vars_of_kind, zeros}
 use Rattle.salt_model.specs.Statements.{Run}
 use Rattle.salt_model.specs.Words.{Every}
 use Rattle.salt_model.specs.declared.events.UnitKind.TheVariants as kind
@@ -30,6 +30,7 @@ use Rattle.salt_values.specs.declared.value.Value.{Value}
 use Rattle.std.proofs.Common.{ap, arith, subst, sym, ◌∙◌}
 use Rattle.std.proofs.lemmas.Bool.Decides.{nat_tests}
 use Rattle.std.specs.Prelude.{Bool, List, None, Option, Some, [], cond, false, is_some, length, nat_le, nat_lt, option_and_then, option_map, refl, suc, true, zero, ℕ, ◌<◌, ◌∷◌, ◌≡◌, ◌≤◌}
+use Rattle.std.specs.Option.{option_map_or}
 
 -- PARTS
 
@@ -59,7 +60,7 @@ stands p part tries late there few =
     both _ _ a (both _ _ there b)
 
 module _ (p : ProgramDef) (sound : branch_fault p.body ≡ None) where
-  behind-commit : (part : ℕ) (at : Position) → 0 < part → then_of p part ≡ Some at → stands_at_part p at.part at.tries ≡ true
+  behind-commit : (part : ℕ) (at : Position) → 0 < part → next_on_commit (parts_of p) part ≡ Some at → stands_at_part p at.part at.tries ≡ true
   behind-commit part at some e =
       let on = commit_leads_on (parts_of p) (sound-parts p sound) part at e in
       let tries = tries-whole (parts_of p) _ at e in
@@ -74,7 +75,7 @@ module _ (p : ProgramDef) (sound : branch_fault p.body ≡ None) where
   late : (part tries : ℕ) → stands_at_part p part tries ≡ true → 1 < part
   late part tries h = let a : nat_lt 1 part ≡ true = and_left _ _ h in grind (arith, nat_tests)
 
-  behind-failure : (part tries : ℕ) (at : Position) → stands_at_part p part tries ≡ true → branch_of p part tries ≡ Some at → stands_at_part p at.part at.tries ≡ true
+  behind-failure : (part tries : ℕ) (at : Position) → stands_at_part p part tries ≡ true → next_on_failure (parts_of p) part tries ≡ Some at → stands_at_part p at.part at.tries ≡ true
   behind-failure part zero at h e = let l = late part zero h in behind-branch part at (omega arith) e
   behind-failure part (suc tries) at h e =
       let same : record { part = part; tries = tries } ≡ at = cc in
@@ -133,7 +134,7 @@ module _ (k : Kept) (typed : IsTyped k) where
 
   -- the continuation with which a program begins
   pub begun-fits : (b : Id) (n : ℕ) (name : List ℕ) (args : List Value) (vars : List Binding) (p : ProgramDef) (at : Position) → kept_program name k ≡ Some p → are_arguments p.params args ≡ true →
-      AreVariables (bindings (program_scope p)) vars → then_of p 1 ≡ Some at →
+      AreVariables (bindings (program_scope p)) vars → next_on_commit (parts_of p) 1 ≡ Some at →
       IsContOf k (record { base = b; accepted = n; program = p.name; args = args; vars = values_kept p vars; next = at.part; tries = at.tries })
   begun-fits b n name args vars p at e fit held way =
       cont-fits _ p (subst (λ (m : List ℕ). kept_program m k ≡ Some p) (named-own (programs_of k) name p e) e)
@@ -141,7 +142,7 @@ module _ (k : Kept) (typed : IsTyped k) where
 
   -- where a program goes on behind the commit of its part
   pub on-commit : (b : Id) (c : Cont) (p : ProgramDef) (vars : List Binding) (at : Position) → cont_of b k ≡ Some c → kept_program c.program k ≡ Some p →
-      AreVariables (bindings (program_scope p)) vars → then_of p c.next ≡ Some at → IsContOf k (record c { vars = values_kept p vars; next = at.part; tries = at.tries })
+      AreVariables (bindings (program_scope p)) vars → next_on_commit (parts_of p) c.next ≡ Some at → IsContOf k (record c { vars = values_kept p vars; next = at.part; tries = at.tries })
   on-commit b c p vars at here e held way =
       let own = own-fits b c p here e in
       let sound = (proper c.program p e).branches in
@@ -150,7 +151,7 @@ module _ (k : Kept) (typed : IsTyped k) where
       (both _ _ (and_left _ _ own) (both _ _ (kept-behind p.params p.vars vars held) (behind-commit p sound c.next at (omega arith) way)))
 
   -- and behind its failure
-  pub on-failure : (b : Id) (c : Cont) (p : ProgramDef) (at : Position) → cont_of b k ≡ Some c → kept_program c.program k ≡ Some p → branch_of p c.next c.tries ≡ Some at →
+  pub on-failure : (b : Id) (c : Cont) (p : ProgramDef) (at : Position) → cont_of b k ≡ Some c → kept_program c.program k ≡ Some p → next_on_failure (parts_of p) c.next c.tries ≡ Some at →
       IsContOf k (record c { next = at.part; tries = at.tries })
   on-failure b c p at here e way =
       let own = own-fits b c p here e in
@@ -159,7 +160,7 @@ module _ (k : Kept) (typed : IsTyped k) where
       (behind-failure p (proper c.program p e).branches c.next c.tries at (own-part p c own) way)))
 
   begun : (b : Id) (n : ℕ) (name : List ℕ) (args : List Value) (vars : List Binding) (p : ProgramDef) → kept_program name k ≡ Some p → are_arguments p.params args ≡ true →
-      AreVariables (bindings (program_scope p)) vars → (o : Option Position) → then_of p 1 ≡ o → Every (IsContOf k) (begun_cont b n p args vars o k.conts)
+      AreVariables (bindings (program_scope p)) vars → (o : Option Position) → next_on_commit (parts_of p) 1 ≡ o → Every (IsContOf k) (begun_cont b n p args vars o k.conts)
   begun b n name args vars p e fit held None way = typed.conts
   begun b n name args vars p e fit held (Some at) way = every-append (IsContOf k) k.conts _ typed.conts (begun-fits b n name args vars p at e fit held way, tt)
 
@@ -168,23 +169,23 @@ module _ (k : Kept) (typed : IsTyped k) where
   conts-committed n (kind.Call s name args) vars is held = typed.conts
   conts-committed n (kind.First s b name args) vars is held = by (kept_program name k) refl is held
     where
-      by : (o : Option ProgramDef) → kept_program name k ≡ o → fits_program o args ≡ true → AreVariables (bindings (scope_of_program o)) vars →
-          Every (IsContOf k) (elim o [ None ↦ k.conts | Some p ↦ begun_cont b n p args vars (then_of p 1) k.conts ])
+      by : (o : Option ProgramDef) → kept_program name k ≡ o → option_map_or (λ (p : ProgramDef). are_arguments p.params args) o false ≡ true → AreVariables (bindings (scope_of_program o)) vars →
+          Every (IsContOf k) (elim o [ None ↦ k.conts | Some p ↦ begun_cont b n p args vars (next_on_commit (parts_of p) 1) k.conts ])
       by None e g h = typed.conts
-      by (Some p) e g h = begun b n name args vars p e g h (then_of p 1) refl
+      by (Some p) e g h = begun b n name args vars p e g h (next_on_commit (parts_of p) 1) refl
   conts-committed n (kind.Later b part) vars is held = of-cont (cont_of b k) refl is held
     where
       of-program : (c : Cont) (o : Option ProgramDef) → cont_of b k ≡ Some c → kept_program c.program k ≡ o → c.next ≡ part → AreVariables (bindings (scope_of_program o)) vars →
-          Every (IsContOf k) (elim o [ None ↦ k.conts | Some p ↦ moved b (then_of p part) (λ x. record x { vars = values_kept p vars }) k.conts ])
+          Every (IsContOf k) (elim o [ None ↦ k.conts | Some p ↦ moved b (next_on_commit (parts_of p) part) (λ x. record x { vars = values_kept p vars }) k.conts ])
       of-program c None at e there h = typed.conts
       of-program c (Some p) at e there h =
-          every-moved (IsContOf k) b c (then_of p part) (λ x. record x { vars = values_kept p vars }) k.conts at
-          (λ to way. on-commit b c p vars to at e h (ap (then_of p) there ∙ way))
+          every-moved (IsContOf k) b c (next_on_commit (parts_of p) part) (λ x. record x { vars = values_kept p vars }) k.conts at
+          (λ to way. on-commit b c p vars to at e h (ap (next_on_commit (parts_of p)) there ∙ way))
           typed.conts
 
       of-cont : (o : Option Cont) → cont_of b k ≡ o → option_map (λ (c : Cont). c.next) o ≡ Some part →
           AreVariables (bindings (scope_of_program (option_and_then (λ (c : Cont). kept_program c.program k) o))) vars →
-          Every (IsContOf k) (elim (option_and_then (λ (c : Cont). kept_program c.program k) o) [ None ↦ k.conts | Some p ↦ moved b (then_of p part) (λ x. record x { vars = values_kept p vars }) k.conts ])
+          Every (IsContOf k) (elim (option_and_then (λ (c : Cont). kept_program c.program k) o) [ None ↦ k.conts | Some p ↦ moved b (next_on_commit (parts_of p) part) (λ x. record x { vars = values_kept p vars }) k.conts ])
       of-cont None at g h = typed.conts
       of-cont (Some c) at g h = let there : c.next ≡ part = cc in of-program c (kept_program c.program k) at refl there h
 
@@ -195,16 +196,16 @@ module _ (k : Kept) (typed : IsTyped k) where
   conts-branched (kind.Later b part) is = of-cont (cont_of b k) refl is
     where
       of-program : (c : Cont) (o : Option ProgramDef) → cont_of b k ≡ Some c → kept_program c.program k ≡ o → c.next ≡ part →
-          Every (IsContOf k) (elim o [ None ↦ k.conts | Some p ↦ moved b (branch_of p part c.tries) (λ x. x) k.conts ])
+          Every (IsContOf k) (elim o [ None ↦ k.conts | Some p ↦ moved b (next_on_failure (parts_of p) part c.tries) (λ x. x) k.conts ])
       of-program c None at e there = typed.conts
       of-program c (Some p) at e there =
-          every-moved (IsContOf k) b c (branch_of p part c.tries) (λ x. x) k.conts at
-          (λ to way. on-failure b c p to at e (ap (λ (n : ℕ). branch_of p n c.tries) there ∙ way))
+          every-moved (IsContOf k) b c (next_on_failure (parts_of p) part c.tries) (λ x. x) k.conts at
+          (λ to way. on-failure b c p to at e (ap (λ (n : ℕ). next_on_failure (parts_of p) n c.tries) there ∙ way))
           typed.conts
 
       of-cont : (o : Option Cont) → cont_of b k ≡ o → option_map (λ (c : Cont). c.next) o ≡ Some part →
           Every (IsContOf k) (elim (option_and_then (λ (c : Cont). kept_program c.program k) o)
-          [ None ↦ k.conts | Some p ↦ moved b (branch_of p part (elim o [ None ↦ 0 | Some c ↦ c.tries ])) (λ x. x) k.conts ])
+          [ None ↦ k.conts | Some p ↦ moved b (next_on_failure (parts_of p) part (elim o [ None ↦ 0 | Some c ↦ c.tries ])) (λ x. x) k.conts ])
       of-cont None at g = typed.conts
       of-cont (Some c) at g = let there : c.next ≡ part = cc in of-program c (kept_program c.program k) at refl there
 
@@ -220,7 +221,7 @@ module _ (k : Kept) (typed : IsTyped k) where
   nothing-held : AreVariables [] []
   nothing-held = record { values = []; named = refl; typed = refl }
 
-  called : (o : Option ProgramDef) (args : List Value) → fits_program o args ≡ true → AreVariables (bindings (scope_of_program o)) (elim o [ None ↦ [] | Some p ↦ vars_at_call p args ])
+  called : (o : Option ProgramDef) (args : List Value) → option_map_or (λ (p : ProgramDef). are_arguments p.params args) o false ≡ true → AreVariables (bindings (scope_of_program o)) (elim o [ None ↦ [] | Some p ↦ vars_at_call p args ])
   called None args h = nothing-held
   called (Some p) args h = joined p.params p.vars args (zeros p.vars) h (zeros-typed p.vars)
 

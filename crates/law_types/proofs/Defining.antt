@@ -3,7 +3,7 @@ use Rattle.salt_ast.specs.Judgement.{table_fault}
 use Rattle.salt_ast.specs.ProgramJudgement.{program_fault, program_named}
 use Rattle.salt_ast.specs.declared.programs.ProgramDef.{ProgramDef}
 use Rattle.salt_ast.specs.declared.trees.TableDef.{TableDef}
-use Rattle.salt_stands.specs.Fitting.{at_place, is_cont_of, is_row_of}
+use Rattle.salt_stands.specs.Fitting.{is_cont_of, is_row_of}
 use Rattle.law_story.proofs.Every.{every-append, every-map}
 use Rattle.salt_model.specs.Kept.{Definition, Kept, OfProgram, OfTable, program_of_definition, programs_of, schema_of, table_of_definition}
 use Rattle.salt_model.specs.Tables.{Entry}
@@ -16,7 +16,7 @@ use Rattle.salt_values.specs.declared.cont.Cont.{Cont}
 use Rattle.salt_values.specs.declared.value.Value.{Value}
 use Rattle.std.proofs.Common.{ap, append-nil, subst, sym, ◌∙◌}
 use Rattle.std.specs.List.{cons_option, filter_map}
-use Rattle.std.specs.Prelude.{Bool, List, None, Option, Some, [], cond, false, refl, suc, true, zero, ℕ, ◌++◌, ◌∷◌, ◌≡◌}
+use Rattle.std.specs.Prelude.{Bool, List, None, Option, Some, [], cond, false, refl, suc, true, zero, ℕ, ◌++◌, ◌∷◌, ◌≡◌, slice_get}
 
 filtered-append : {A B : Type 0} (f : A → Option B) (xs ys : List A) → filter_map f (xs ++ ys) ≡ filter_map f xs ++ filter_map f ys
 filtered-append f [] ys = refl
@@ -26,15 +26,15 @@ filtered-append {A} {B} f (x ∷ xs) ys = ap (cons_option (f x)) (filtered-appen
     front None = refl
     front (Some y) = refl
 
-place-stays : (schema more : List TableDef) (n : ℕ) (d : TableDef) → at_place schema n ≡ Some d → at_place (schema ++ more) n ≡ Some d
+place-stays : (schema more : List TableDef) (n : ℕ) (d : TableDef) → slice_get schema n ≡ Some d → slice_get (schema ++ more) n ≡ Some d
 place-stays [] more n d e = absurd cc
 place-stays (x ∷ schema) more zero d e = e
 place-stays (x ∷ schema) more (suc n) d e = place-stays schema more n d e
 
 row-stays : (schema more : List TableDef) (p : Place) (row : List Value) → IsRowAt schema p row → IsRowAt (schema ++ more) p row
-row-stays schema more p row h = record { fits = by (at_place schema p.table) refl h.fits; key = h.key }
+row-stays schema more p row h = record { fits = by (slice_get schema p.table) refl h.fits; key = h.key }
   where
-    by : (o : Option TableDef) → at_place schema p.table ≡ o → is_row_of o row ≡ true → is_row_of (at_place (schema ++ more) p.table) row ≡ true
+    by : (o : Option TableDef) → slice_get schema p.table ≡ o → is_row_of o row ≡ true → is_row_of (slice_get (schema ++ more) p.table) row ≡ true
     by None e g = absurd cc
     by (Some d) e g = ap (λ (o : Option TableDef). is_row_of o row) (place-stays schema more p.table d e) ∙ g
 

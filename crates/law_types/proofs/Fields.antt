@@ -9,13 +9,13 @@ use Rattle.law_story.proofs.Ids.{and_left, and_right}
 use Rattle.law_story.proofs.Lists.{or_left_true, or_right_true}
 use Rattle.salt_model.specs.Eval.{named_values}
 use Rattle.salt_model.specs.Statements.{set_field, set_var}
-use Rattle.salt_model.specs.Tables.{key_of}
 use Rattle.salt_tokens.specs.Spelling.{same_bytes}
 use Rattle.law_types.specs.Typed.{AreVariables}
 use Rattle.salt_values.specs.declared.value.Value.{Value}
 use Rattle.std.proofs.Common.{ap, subst}
 use Rattle.std.proofs.lemmas.Bool.{eq-eqb, eqb-true}
 use Rattle.std.specs.Prelude.{Bool, List, None, Some, [], cond, false, option_map, refl, true, ℕ, ◌++◌, ◌==◌, ◌∷◌, ◌≡◌}
+use Rattle.salt_values.specs.Value.{key_of}
 
 pub same-true : (n m : List ℕ) → same_bytes n m ≡ true → n ≡ m
 same-true [] [] h = refl

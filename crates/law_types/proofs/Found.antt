@@ -11,7 +11,7 @@ use Rattle.salt_bytes.specs.Page.{TableRow}
 use Rattle.salt_bytes.specs.Partition.{Prepared}
 use Rattle.salt_bytes.specs.declared.moves.Move.TheVariants.{Continue, Finish, Plain}
 use Rattle.salt_bytes.specs.declared.moves.Move.{Move}
-use Rattle.salt_stands.specs.Fitting.{at_place, definitions_reading, is_cont_of, is_refused, is_row_of, kept_in, programs_of, tables_of}
+use Rattle.salt_stands.specs.Fitting.{definitions_reading, is_cont_of, is_refused, is_row_of, kept_in, programs_of, tables_of}
 use Rattle.law_story.proofs.Every.{every-append, every-filter}
 use Rattle.law_story.proofs.Ids.{and_left, and_right}
 use Rattle.salt_model.specs.Kept.{Definition, Kept, OfProgram, OfTable, cont_in, nothing_kept}
@@ -25,11 +25,11 @@ use Rattle.salt_stands.specs.Partition.{are_sound_rows, changes_if, decided_chan
 use Rattle.salt_stands.specs.PartitionLog.{PartitionLog, partition_generation, partition_in}
 use Rattle.salt_stands.specs.Stands.{Found, found_with, if_ok, judged, logs_of, nothing_found, parts_at, stands_of, with_parts}
 use Rattle.salt_stands.specs.Tables.{change_of_row, joined, put_entries}
-use Rattle.salt_stands.specs.Words.{and_then, each_from, given, if_sound, or_fault}
+use Rattle.salt_stands.specs.Words.{each_from, if_sound, or_fault}
 use Rattle.law_types.proofs.Defining.{program-defined, table-defined}
 use Rattle.law_types.proofs.Judged.{unmapped}
 use Rattle.law_types.proofs.Rows.{every-put, rows-changed}
-use Rattle.law_types.proofs.Taken.{AreKeyed, IsKeyed, IsLogKeyed, log-keyed, same-key}
+use Rattle.law_types.proofs.Taken.{AreKeyed, IsKeyed, IsLogKeyed, log-keyed}
 use Rattle.law_types.specs.Typed.{AreChangesOf, AreRowsOf, FitsAt, IsRowAt, IsTyped, has_key}
 use Rattle.salt_values.specs.Id.{is_same_id}
 use Rattle.salt_values.specs.declared.change.Change.{Change}
@@ -40,14 +40,16 @@ use Rattle.salt_values.specs.declared.value.Value.{Value}
 use Rattle.std.proofs.Common.{ap, subst}
 use Rattle.std.specs.List.{list_all}
 use Rattle.std.specs.Prelude.{Bool, Err, List, None, Ok, Option, Result, Some, [], cond, false, is_some, map, nat_le, nat_lt, not, option_map, refl, suc, true, zero, ℕ, ⊤, ◌+◌, ◌++◌, ◌==◌, ◌∷◌, ◌≡◌}
+use Rattle.std.specs.Bool.{then_some}
+use Rattle.std.specs.Prelude.{option_and_then, slice_get}
 
 -- WORDS
 
-then-some : {A B : Type 0} (f : A → Option B) (o : Option A) (y : B) → and_then f o ≡ Some y → (x : A) × (o ≡ Some x) × (f x ≡ Some y)
+then-some : {A B : Type 0} (f : A → Option B) (o : Option A) (y : B) → option_and_then f o ≡ Some y → (x : A) × (o ≡ Some x) × (f x ≡ Some y)
 then-some f None y h = absurd cc
 then-some f (Some x) y h = (x, refl, h)
 
-given-some : {A : Type 0} (b : Bool) (x y : A) → given b x ≡ Some y → (b ≡ true) × (x ≡ y)
+given-some : {A : Type 0} (b : Bool) (x y : A) → then_some b x ≡ Some y → (b ≡ true) × (x ≡ y)
 given-some true x y h = (refl, cc)
 given-some false x y h = absurd cc
 
@@ -116,7 +118,7 @@ module _ (read : List ℕ → Option Definition) (c : Coordinator Definition) wh
     where
       by : (row : Option (List Value)) → IsKeyed (record ch { row = row }) → is_sound_to (definitions_reading read) c p (changed_at ch) row ≡ true → FitsAt schema (changed_at ch) row
       by None keyed g = g
-      by (Some row) keyed g = record { fits = and_left (is_row_of (at_place schema ch.table) row) _ g; key = keyed }
+      by (Some row) keyed g = record { fits = and_left (is_row_of (slice_get schema ch.table) row) _ g; key = keyed }
 
   -- THE TABLES of a partition
 
@@ -136,11 +138,11 @@ module _ (read : List ℕ → Option Definition) (c : Coordinator Definition) wh
 
   rows-keyed : (rows : List TableRow) → Every IsKeyed (map change_of_row rows)
   rows-keyed [] = tt
-  rows-keyed (row ∷ rows) = (same-key row.row, rows-keyed rows)
+  rows-keyed (row ∷ rows) = (refl, rows-keyed rows)
 
   pages-fit : (p : ℕ) (log : PartitionLog) (pages : List ℕ) (rows : List Change) → rows_of_pages (definitions_reading read) c p log pages ≡ Some rows → AreChangesOf schema rows
   pages-fit p log pages rows h =
-      let r = then-some (λ (found : List TableRow). given (are_sound_rows (definitions_reading read) c p (map change_of_row found)) (map change_of_row found))
+      let r = then-some (λ (found : List TableRow). then_some (are_sound_rows (definitions_reading read) c p (map change_of_row found)) (map change_of_row found))
       (rows_from (has_nulls log.header.format) pages 0 log.header.sides) rows h in
       let g = given-some (are_sound_rows (definitions_reading read) c p (map change_of_row r.0)) (map change_of_row r.0) rows r.2 in
       subst (AreChangesOf schema) g.1
@@ -156,7 +158,7 @@ module _ (read : List ℕ → Option Definition) (c : Coordinator Definition) wh
   judged-fits p pages BothBlank tables keyed h = absurd cc
   judged-fits p pages (Faulty which) tables keyed h = absurd cc
   judged-fits p pages (Counts which log) tables keyed h =
-      let r = sound-ok _ (or_fault (device_of (part_device p) which) (given (is_sound_log (definitions_reading read) c p log) log)) tables h in
+      let r = sound-ok _ (or_fault (device_of (part_device p) which) (then_some (is_sound_log (definitions_reading read) c p log) log)) tables h in
       let g = given-some (is_sound_log (definitions_reading read) c p log) log r.0 (no-fault (device_of (part_device p) which) _ r.0 r.1) in
       let m = map-some (part_tables (decided_for p c.log.told.decided) r.0) (rows_of_pages (definitions_reading read) c p r.0 pages) tables (no-fault (pages_device p) _ tables r.2) in
       let prepared = subst (λ (l : PartitionLog). Every (λ (x : Prepared). AreChangesOf schema x.changes) l.prepared) g.1 (log-fits p log keyed g.0) in
@@ -227,7 +229,7 @@ module _ (read : List ℕ → Option Definition) (keys : (text : List ℕ) (d : 
     AllFit None = ⊤
     AllFit (Some cs) = Every Fits cs
 
-    all-given : (b : Bool) (cs : List Cont) → Every Fits cs → AllFit (given b cs)
+    all-given : (b : Bool) (cs : List Cont) → Every Fits cs → AllFit (then_some b cs)
     all-given true cs h = h
     all-given false cs h = tt
 
@@ -260,7 +262,7 @@ module _ (read : List ℕ → Option Definition) (keys : (text : List ℕ) (d : 
     one-moved d None h all = tt
     one-moved d (Some cs) h all = by (move_in format d.move) (and_right (nat_le d.unit.boot told.boot) _ h)
       where
-        by : (m : Option Move) → list_all (is_sound_cont (definitions_reading read) ds told) (conts_of_move m) ≡ true → AllFit (and_then (make_move cs) m)
+        by : (m : Option Move) → list_all (is_sound_cont (definitions_reading read) ds told) (conts_of_move m) ≡ true → AllFit (option_and_then (make_move cs) m)
         by None g = tt
         by (Some m) g = made m cs (named (conts_of_move (Some m)) g) all
 
@@ -276,11 +278,11 @@ module _ (read : List ℕ → Option Definition) (keys : (text : List ℕ) (d : 
     pub conts : Every (λ (x : Cont). is_cont_of (program_named (programs_of c.definitions) x.program) x ≡ true) c.conts
 
   abbrev with_conts : CoordinatorLog → List Definition → List Cont → Option (Coordinator Definition)
-  with_conts log ds cs = given (are_sound (definitions_reading read) log ds) (record { log = log; definitions = ds; conts = cs })
+  with_conts log ds cs = then_some (are_sound (definitions_reading read) log ds) (record { log = log; definitions = ds; conts = cs })
 
   pub coordinator-typed : (log : CoordinatorLog) (c : Coordinator Definition) → coordinator_of (definitions_reading read) log ≡ Some c → IsFoundTyped c
   coordinator-typed log c h =
-      let a = then-some (λ (ds : List Definition). and_then (with_conts log ds) (moved log.header.format (Some log.header.conts) log.told.decided)) (defined_by (definitions_reading read) (Some []) log.told.definitions) c h in
+      let a = then-some (λ (ds : List Definition). option_and_then (with_conts log ds) (moved log.header.format (Some log.header.conts) log.told.decided)) (defined_by (definitions_reading read) (Some []) log.told.definitions) c h in
       let b = then-some (with_conts log a.0) (moved log.header.format (Some log.header.conts) log.told.decided) c a.2 in
       let g = given-some (are_sound (definitions_reading read) log a.0) (record { log = log; definitions = a.0; conts = b.0 }) c b.2 in
       let sound = and_right _ _ g.0 in

@@ -15,7 +15,7 @@ use Rattle.salt_model.specs.Reads.{to_release}
 use Rattle.salt_model.specs.Refusals.{refusal}
 use Rattle.salt_model.specs.Shown.{base_items, lock_items}
 use Rattle.salt_model.specs.Trace.{Trace, from, line_asked, line_of, start_of, ◌asks◌, ◌says◌, ◌turns◌}
-use Rattle.salt_model.specs.Turns.{act_event, after_began, after_did, after_end, asks_for, commits, does_next, fails, finishes, follow, go, goes_on, is_at_end, line_event, next_number, releases, settle, settle_by, turn, turn_of}
+use Rattle.salt_model.specs.Turns.{act_event, after_began, after_did, after_end, asks_for, commits, does_next, fails, finishes, follow, go, goes_on, is_at_end, line_event, next_number, releases, settle, settle_by, turn}
 use Rattle.salt_model.specs.Units.{kind_of, open_units, program_unit, session_unit}
 use Rattle.salt_model.specs.Waiting.{asked_by, block_of, next_unblocked, victim}
 use Rattle.salt_model.specs.Words.{is_empty}
@@ -33,7 +33,7 @@ use Rattle.salt_values.specs.declared.cont.Cont.{Cont}
 use Rattle.salt_values.specs.declared.id.Id.{Id}
 use Rattle.std.proofs.Common.{inl, inr}
 use Rattle.std.specs.Bool.{then_some}
-use Rattle.std.specs.Prelude.{Bool, List, None, Option, Some, [], false, is_none, option_map, refl, true, ℕ, ⊤, ◌==◌, ◌∷◌, ◌≡◌, ◌⊎◌}
+use Rattle.std.specs.Prelude.{Bool, List, None, Option, Some, [], false, is_none, option_map, refl, true, ℕ, ⊤, ◌==◌, ◌∷◌, ◌≡◌, ◌⊎◌, option_and_then}
 
 abbrev pub IsShownBy : Trace → Event → Type 0
 IsShownBy trace (Shown items) = (items ≡ lock_items trace) ⊎ (items ≡ base_items trace)
@@ -53,7 +53,7 @@ module _ (trace : Trace) where
   by-turn : (u : Id) → IfComes P (turn trace u)
   by-turn u = comes-map P _ (asked_by u trace) (λ st. by-asks u st (clashing trace u st))
 
-  by-turn_of : (o : Option Id) → IfComes P (turn_of trace o)
+  by-turn_of : (o : Option Id) → IfComes P (option_and_then (turn trace) o)
   by-turn_of None = tt
   by-turn_of (Some u) = by-turn u
 

@@ -11,7 +11,7 @@ use Rattle.salt_model.specs.Kept.{WellKept, schema_of}
 use Rattle.salt_model.specs.Locks.{held, is_same_owner}
 use Rattle.salt_model.specs.Played.{IsPlayed}
 use Rattle.salt_model.specs.Programs.{under_way, unreleased}
-use Rattle.salt_model.specs.Shown.{base_item, base_items, lock_items, locks_of_base, locks_of_unit}
+use Rattle.salt_model.specs.Shown.{base_item, base_items, lock_items, locks_of}
 use Rattle.salt_model.specs.Trace.{Trace, from, start_of, story_of, ◌asks◌, ◌says◌, ◌turns◌}
 use Rattle.salt_model.specs.Units.{open_units}
 use Rattle.salt_model.specs.Words.{Every}
@@ -48,11 +48,17 @@ bases-within n trace (b ∷ bs) = (tt, bases-within n trace bs)
 
 locks-within : (n : ℕ) (trace : Trace) → ((l : Lock) → In l (held trace) → l.table < n) → Every (IsItemOf n) (lock_items trace)
 locks-within n trace h =
-    every-append (IsItemOf n) (map item.Lock (flat_map (locks_of_base trace) (unreleased trace))) (map item.Lock (flat_map (locks_of_unit trace) (in_order (open_units trace))))
-    (locks-items n (flat_map (locks_of_base trace) (unreleased trace))
-    (flat-within (λ (l : Lock). l.table < n) (locks_of_base trace) (λ b. filter-within n (λ l. is_same_owner (Base b) l.owner) (held trace) h) (unreleased trace)))
-    (locks-items n (flat_map (locks_of_unit trace) (in_order (open_units trace)))
-    (flat-within (λ (l : Lock). l.table < n) (locks_of_unit trace) (λ u. filter-within n (λ l. is_same_owner (Unit u) l.owner) (held trace) h) (in_order (open_units trace))))
+    every-append (IsItemOf n) (map item.Lock (flat_map bases (unreleased trace))) (map item.Lock (flat_map units (in_order (open_units trace))))
+    (locks-items n (flat_map bases (unreleased trace))
+    (flat-within (λ (l : Lock). l.table < n) bases (λ b. filter-within n (λ l. is_same_owner (Base b) l.owner) (held trace) h) (unreleased trace)))
+    (locks-items n (flat_map units (in_order (open_units trace)))
+    (flat-within (λ (l : Lock). l.table < n) units (λ u. filter-within n (λ l. is_same_owner (Unit u) l.owner) (held trace) h) (in_order (open_units trace))))
+  where
+    bases : Id → List Lock
+    bases b = locks_of trace (Base b)
+
+    units : Id → List Lock
+    units u = locks_of trace (Unit u)
 
 said-within : (trace : Trace) (e : Event) → IsPlayed (trace says e) → WellKept (start_of trace).kept → IsEventOf (length (schema_of (kept trace))) e
 said-within trace (Shown items) p w = by (subst (IfComes (IsShownBy trace)) p.1 (shown-next trace))

@@ -1,6 +1,6 @@
 -- Changes that fit are sound in the partitions of their keys.
 use Rattle.salt_ast.specs.declared.trees.TableDef.{TableDef}
-use Rattle.salt_stands.specs.Fitting.{at_place, definitions_reading, is_key_of, is_row_of, tables_of}
+use Rattle.salt_stands.specs.Fitting.{definitions_reading, is_key_of, is_row_of, tables_of}
 use Rattle.salt_model.specs.Kept.{Definition}
 use Rattle.salt_model.specs.Tables.{changed_at}
 use Rattle.salt_stands.specs.Coordinator.{Coordinator}
@@ -13,24 +13,24 @@ use Rattle.std.proofs.Common.{arith}
 use Rattle.std.proofs.lemmas.Bool.Decides.{nat_tests}
 use Rattle.std.proofs.lemmas.Bool.{eq-eqb}
 use Rattle.std.specs.List.{list_all}
-use Rattle.std.specs.Prelude.{List, None, Option, Some, [], length, nat_lt, refl, suc, true, zero, ℕ, ◌&&◌, ◌<◌, ◌∷◌, ◌≡◌}
+use Rattle.std.specs.Prelude.{List, None, Option, Some, [], length, nat_lt, refl, suc, true, zero, ℕ, ◌&&◌, ◌<◌, ◌∷◌, ◌≡◌, slice_get}
 
-below : (schema : List TableDef) (n : ℕ) (d : TableDef) → at_place schema n ≡ Some d → n < length schema
+below : (schema : List TableDef) (n : ℕ) (d : TableDef) → slice_get schema n ≡ Some d → n < length schema
 below [] n d e = absurd cc
 below (x ∷ schema) zero d e = omega arith
 below (x ∷ schema) (suc n) d e = let h = below schema n d e in omega arith
 
-of-row : (schema : List TableDef) (n : ℕ) (row : List Value) → is_row_of (at_place schema n) row ≡ true → nat_lt n (length schema) ≡ true
-of-row schema n row h = by (at_place schema n) refl h
+of-row : (schema : List TableDef) (n : ℕ) (row : List Value) → is_row_of (slice_get schema n) row ≡ true → nat_lt n (length schema) ≡ true
+of-row schema n row h = by (slice_get schema n) refl h
   where
-    by : (o : Option TableDef) → at_place schema n ≡ o → is_row_of o row ≡ true → nat_lt n (length schema) ≡ true
+    by : (o : Option TableDef) → slice_get schema n ≡ o → is_row_of o row ≡ true → nat_lt n (length schema) ≡ true
     by None e g = absurd cc
     by (Some d) e g = let b = below schema n d e in grind (arith, nat_tests)
 
-of-key : (schema : List TableDef) (n : ℕ) (key : Value) → is_key_of (at_place schema n) key ≡ true → nat_lt n (length schema) ≡ true
-of-key schema n key h = by (at_place schema n) refl h
+of-key : (schema : List TableDef) (n : ℕ) (key : Value) → is_key_of (slice_get schema n) key ≡ true → nat_lt n (length schema) ≡ true
+of-key schema n key h = by (slice_get schema n) refl h
   where
-    by : (o : Option TableDef) → at_place schema n ≡ o → is_key_of o key ≡ true → nat_lt n (length schema) ≡ true
+    by : (o : Option TableDef) → slice_get schema n ≡ o → is_key_of o key ≡ true → nat_lt n (length schema) ≡ true
     by None e g = absurd cc
     by (Some d) e g = let b = below schema n d e in grind (arith, nat_tests)
 

@@ -9,14 +9,14 @@ use Rattle.salt_ast.specs.declared.trees.Set.{Set}
 use Rattle.salt_ast.specs.declared.trees.Statement.TheVariants.{Delete, Ensure, Insert, Select, SelectInto, Update}
 use Rattle.salt_ast.specs.declared.trees.Statement.{Statement}
 use Rattle.salt_ast.specs.declared.trees.TableDef.{TableDef}
-use Rattle.salt_stands.specs.Fitting.{are_of_columns, at_place, is_key_of, is_of_column, is_row_of, passes_checks}
+use Rattle.salt_stands.specs.Fitting.{are_of_columns, is_key_of, is_of_column, is_row_of, passes_checks}
 use Rattle.law_story.proofs.Every.{IfOk, IfSome, every-collect, every-filter, every-passes, ok-map}
 use Rattle.law_story.proofs.Ids.{and_left, and_right}
 use Rattle.law_story.proofs.Lists.{not-true}
 use Rattle.salt_model.specs.Eval.{holds, known, named_values, passes, value_named, value_of, values_of}
-use Rattle.salt_model.specs.Reaches.{first_value, in_row, key_reached, no_row, range_of, reach, reach_at, reach_in, reached, table_for, table_in, table_named}
+use Rattle.salt_model.specs.Reaches.{first_value, in_row, key_reached, no_row, range_of, reach, reach_in, reached, table_for, table_in, table_named}
 use Rattle.salt_model.specs.Statements.{Done, answering, changing, checked, collect, column_of, do_at, do_in, done, inserted, on_match, outcome_of, removed, seen, set_field, shown, stored, updated, with_sets}
-use Rattle.salt_model.specs.Tables.{Entry, Tables, is_within, key_of, place, rows_in}
+use Rattle.salt_model.specs.Tables.{Entry, Tables, is_within, place, rows_in}
 use Rattle.salt_model.specs.Words.{Every, and_then}
 use Rattle.salt_model.specs.declared.events.Answer.{Answer}
 use Rattle.salt_model.specs.declared.events.Cause.{Cause}
@@ -31,7 +31,7 @@ use Rattle.law_types.proofs.Fields.{key-stays, not-before, set-column, set-varia
 use Rattle.law_types.proofs.Values.{column-given, IsGiven, or_none, taken}
 use Rattle.law_types.proofs.Words.{alike, both, every-of, found, ok-then, ok-with}
 use Rattle.law_types.specs.Typed.{AreApart, AreChangesOf, AreRowsOf, AreVariables, FitsAt, IsProperTable, IsRowAt, IsTypedDone, has_key}
-use Rattle.salt_values.specs.Value.{is_null}
+use Rattle.salt_values.specs.Value.{is_null, key_of}
 use Rattle.salt_values.specs.declared.change.Change.{Change}
 use Rattle.salt_values.specs.declared.value.Value.TheVariants.{Int}
 use Rattle.salt_values.specs.declared.value.Value.{Value}
@@ -39,6 +39,7 @@ use Rattle.std.proofs.Common.{ap, subst, sym, ◌∙◌}
 use Rattle.std.proofs.lemmas.Bool.{eqb-true}
 use Rattle.std.specs.List.{list_all}
 use Rattle.std.specs.Prelude.{Bool, Err, List, None, Ok, Option, Result, Some, [], cond, false, is_ok, not, option_and_then, option_map, pos, refl, true, unwrap_or, ℕ, ◌&&◌, ◌==◌, ◌||◌, ◌∷◌, ◌≡◌}
+use Rattle.std.specs.Prelude.{slice_get}
 
 -- ROWS THAT ARE REACHED are of the table
 
@@ -136,9 +137,9 @@ module _ (schema : List TableDef) (scope : Scope) (apart : AreApart (bindings sc
       (λ v first. ok-then (λ row. are_of_columns fs row ≡ true) (λ row. are_of_columns (f ∷ fs) row ≡ true) (values_of (no_row vars) es) _
       (values-typed fs es (and_right (takes [] fields f e) _ h)) (λ row rest. both (is_of_column f v) _ first rest))
 
-  module _ (t : ℕ) (def : TableDef) (here : at_place schema t ≡ Some def) (proper : IsProperTable def) where
-    at-table : (p : Place) → p.table ≡ t → at_place schema p.table ≡ Some def
-    at-table p e = ap (at_place schema) e ∙ here
+  module _ (t : ℕ) (def : TableDef) (here : slice_get schema t ≡ Some def) (proper : IsProperTable def) where
+    at-table : (p : Place) → p.table ≡ t → slice_get schema p.table ≡ Some def
+    at-table p e = ap (slice_get schema) e ∙ here
 
     cells : (e : Entry) → IsOwn schema t e → are_of_columns def.columns e.1 ≡ true
     cells e is = and_left (are_of_columns def.columns e.1) _ (sym (ap (λ (o : Option TableDef). is_row_of o e.1) (at-table e.0 is.1)) ∙ is.0.fits)
@@ -266,11 +267,11 @@ module _ (schema : List TableDef) (scope : Scope) (apart : AreApart (bindings sc
 
   module _ (each : Every IsProperTable schema) (es : Tables) (fit : AreRowsOf schema es) where
     -- the table of the statement
-    looked-up : (st : Statement) (d : ℕ × TableDef) → table_for schema st ≡ Some d → (at_place schema d.0 ≡ Some d.1) × IsProperTable d.1 × IfSome (λ name. columns_of schema name ≡ d.1.columns) (table_in st)
+    looked-up : (st : Statement) (d : ℕ × TableDef) → table_for schema st ≡ Some d → (slice_get schema d.0 ≡ Some d.1) × IsProperTable d.1 × IfSome (λ name. columns_of schema name ≡ d.1.columns) (table_in st)
     looked-up st d e = by (table_in st) e
       where
         by : (o : Option (List ℕ)) → option_and_then (λ name. table_named name schema) o ≡ Some d →
-            (at_place schema d.0 ≡ Some d.1) × IsProperTable d.1 × IfSome (λ name. columns_of schema name ≡ d.1.columns) o
+            (slice_get schema d.0 ≡ Some d.1) × IsProperTable d.1 × IfSome (λ name. columns_of schema name ≡ d.1.columns) o
         by None g = absurd cc
         by (Some name) g = let f = found schema name d g in (f.place, every-of IsProperTable d.1 schema each f.one, f.columns)
 
@@ -278,7 +279,7 @@ module _ (schema : List TableDef) (scope : Scope) (apart : AreApart (bindings sc
     unfolding outcome_of reach
     outcome-typed st h = by (table_for schema st) refl
       where
-        by : (o : Option (ℕ × TableDef)) → table_for schema st ≡ o → Typed (do_at vars st o (rows_in (reach_at vars st o) es))
+        by : (o : Option (ℕ × TableDef)) → table_for schema st ≡ o → Typed (do_at vars st o (rows_in (option_and_then (λ (d : ℕ × TableDef). reach_in d.0 vars st) o) es))
         by None e = none-typed st (rows_in None es)
         by (Some d) e =
             let is = looked-up st d e in

@@ -7,14 +7,14 @@ use Rattle.salt_bytes.specs.Partition.{PartitionHeader, Prepared, partition_head
 use Rattle.salt_bytes.specs.Taking.{Take, give, go_on, if_all, only_if, take_byte, take_each, then_take, whole}
 use Rattle.salt_bytes.specs.Values as bytes
 use Rattle.law_story.proofs.Every.{every-append}
-use Rattle.salt_model.specs.Tables.{key_of}
 use Rattle.salt_model.specs.Words.{Every}
 use Rattle.salt_stands.specs.PartitionLog.{PartitionLog, gather, gathered, own_log, partition_in, with_prepared}
-use Rattle.salt_stands.specs.Words.{and_then, given}
 use Rattle.salt_values.specs.declared.change.Change.{Change}
 use Rattle.salt_values.specs.declared.value.Value.{Value}
 use Rattle.std.proofs.Common.{ap, subst}
-use Rattle.std.specs.Prelude.{Bool, List, None, Option, Some, [], false, option_map, refl, suc, true, zero, ℕ, ⊤, ◌++◌, ◌==◌, ◌∷◌, ◌≡◌}
+use Rattle.std.specs.Prelude.{Bool, List, None, Option, Some, [], false, option_map, refl, suc, true, zero, ℕ, ⊤, ◌++◌, ◌==◌, ◌∷◌, ◌≡◌, option_and_then}
+use Rattle.std.specs.Bool.{then_some}
+use Rattle.salt_values.specs.Value.{key_of}
 
 abbrev Gives : {A : Type 0} → (A → Type 0) → Take A → Type 0
 Gives {A} P take = (text : List ℕ) (x : A) (rest : List ℕ) → take text ≡ Some (x, rest) → P x
@@ -63,16 +63,12 @@ StandsAtKey key (Some row) = key ≡ key_of row
 abbrev pub IsKeyed : Change → Type 0
 IsKeyed ch = StandsAtKey ch.key ch.row
 
-pub same-key : (row : List Value) → bytes.key_of row ≡ key_of row
-same-key [] = refl
-same-key (v ∷ vs) = refl
-
 change-keyed : (nulls : Bool) → Gives IsKeyed (take_change nulls)
 change-keyed nulls = behind-gives IsKeyed take_16 _ (λ table. behind-gives IsKeyed take_byte (take_change_to nulls table) (to table))
   where
     to : (table n : ℕ) → Gives IsKeyed (take_change_to nulls table n)
     to table zero = behind-gives IsKeyed (bytes.take_value false) _ (λ key. give-gives IsKeyed (record { table = table; key = key; row = None }) tt)
-    to table (suc zero) = behind-gives IsKeyed (bytes.take_row nulls) _ (λ row. give-gives IsKeyed (record { table = table; key = bytes.key_of row; row = Some row }) (same-key row))
+    to table (suc zero) = behind-gives IsKeyed (bytes.take_row nulls) _ (λ row. give-gives IsKeyed (record { table = table; key = key_of row; row = Some row }) refl)
     to table (suc (suc n)) = λ text x rest e. absurd cc
 
 abbrev pub AreKeyed : Prepared → Type 0
@@ -118,10 +114,10 @@ log-keyed p (first ∷ payloads) log e = by (partition_header_in first) e
     filled h None k g = absurd cc
     filled h (Some ps) k g = let same : record { header = h; prepared = ps } ≡ log = cc in subst IsLogKeyed same k
 
-    given-log : (h : PartitionHeader) (b : Bool) → and_then (λ own. with_prepared own (gathered (has_nulls own.format) (Some []) payloads)) (given b h) ≡ Some log → IsLogKeyed log
+    given-log : (h : PartitionHeader) (b : Bool) → option_and_then (λ own. with_prepared own (gathered (has_nulls own.format) (Some []) payloads)) (then_some b h) ≡ Some log → IsLogKeyed log
     given-log h true g = filled h _ (gathered-keyed (has_nulls h.format) (Some []) payloads tt) g
     given-log h false g = absurd cc
 
-    by : (o : Option PartitionHeader) → and_then (λ h. own_log p h payloads) o ≡ Some log → IsLogKeyed log
+    by : (o : Option PartitionHeader) → option_and_then (λ h. own_log p h payloads) o ≡ Some log → IsLogKeyed log
     by None g = absurd cc
     by (Some h) g = given-log h (h.part == p) g

@@ -1,5 +1,5 @@
 -- What expressions give is of their kinds.
-use Rattle.salt_ast.specs.Judgement.{Kind, closed_kind, comparison_kind, expr_kind, field_named, is_null_literal, is_nullable, is_of_kind, is_same_kind, is_same_type, is_value, gives_type, may_be_null, operation_kind, same_types, takes, truths, type_named, value_kind, value_type, values}
+use Rattle.salt_ast.specs.Judgement.{Kind, closed_kind, comparison_kind, expr_kind, field_named, is_null_literal, is_nullable, is_of_kind, is_same_kind, is_same_type, is_value, gives_type, may_be_null, operation_kind, same_types, takes, truths, type_named, value_type, values}
 use Rattle.salt_ast.specs.ProgramJudgement.{are_arguments}
 use Rattle.salt_ast.specs.declared.trees.ColType.TheVariants as kind
 use Rattle.salt_ast.specs.declared.trees.ColType.{ColType}
@@ -253,7 +253,7 @@ variable-given (f ∷ fields) (v ∷ vs) n k h e = by (same_bytes n f.name) e (v
 
 -- EXPRESSIONS
 
-literal-given : (v : Value) (k : Kind) → value_kind v ≡ Some k → is_datum_of (is_null v) k (Gives v) ≡ true
+literal-given : (v : Value) (k : Kind) → option_map values (value_type v) ≡ Some k → is_datum_of (is_null v) k (Gives v) ≡ true
 literal-given (Int z) k h = let same : values kind.Int ≡ k = cc in subst (λ j. is_datum_of false j (Gives (Int z)) ≡ true) same refl
 literal-given (Text s) k h = let same : values kind.Text ≡ k = cc in subst (λ j. is_datum_of false j (Gives (Text s)) ≡ true) same refl
 literal-given Null k h = absurd cc

@@ -14,7 +14,7 @@ use Rattle.salt_model.specs.Statements.{Run}
 use Rattle.salt_model.specs.Kept.{Kept, WellKept, schema_of, table_of_definition}
 use Rattle.salt_model.specs.Locks.{base_tables, cover_lock, cover_of, held, is_base_table, numbers_from}
 use Rattle.salt_model.specs.Played.{IsPlayed}
-use Rattle.salt_model.specs.Reaches.{first_value, key_reached, no_row, range_of, reach, reach_at, reach_in, reached, table_for, table_from, table_in, table_named}
+use Rattle.salt_model.specs.Reaches.{first_value, key_reached, no_row, range_of, reach, reach_in, reached, table_for, table_from, table_in, table_named}
 use Rattle.salt_model.specs.Trace.{Trace, from, line_of, start_of, ◌asks◌, ◌says◌, ◌turns◌}
 use Rattle.salt_model.specs.Units.{kind_of}
 use Rattle.salt_model.specs.Words.{first_of_list}
@@ -86,7 +86,7 @@ pub reach-within : (schema : List TableDef) (vars : List Binding) (st : Statemen
 unfolding reach
 reach-within schema vars st r h = by (table_for schema st) refl h
   where
-    by : (o : Option (ℕ × TableDef)) → table_for schema st ≡ o → reach_at vars st o ≡ Some r → r.table < length schema
+    by : (o : Option (ℕ × TableDef)) → table_for schema st ≡ o → option_and_then (λ (d : ℕ × TableDef). reach_in d.0 vars st) o ≡ Some r → r.table < length schema
     by None e h = cc
     by (Some d) e h = subst (λ t. t < length schema) (in-table d.0 vars st r h) (table-within schema st d e)
 

@@ -3,7 +3,6 @@ use Rattle.salt_ast.specs.Judgement.{columns_of, same_types}
 use Rattle.salt_ast.specs.declared.trees.ColType.TheVariants as kind
 use Rattle.salt_ast.specs.declared.trees.ColType.{ColType}
 use Rattle.salt_ast.specs.declared.trees.TableDef.{TableDef}
-use Rattle.salt_stands.specs.Fitting.{at_place}
 use Rattle.law_story.proofs.Every.{IfOk}
 use Rattle.law_story.proofs.Lists.{In}
 use Rattle.salt_model.specs.Reaches.{table_from, table_named}
@@ -11,7 +10,7 @@ use Rattle.salt_model.specs.Words.{Every, and_then}
 use Rattle.salt_model.specs.declared.events.Cause.{Cause}
 use Rattle.salt_tokens.specs.Spelling.{same_bytes}
 use Rattle.std.proofs.Common.{ap, arith, inl, inr, subst}
-use Rattle.std.specs.Prelude.{Bool, Err, List, None, Ok, Option, Result, Some, [], cond, false, refl, suc, true, zero, ℕ, ◌&&◌, ◌+◌, ◌∷◌, ◌≡◌}
+use Rattle.std.specs.Prelude.{Bool, Err, List, None, Ok, Option, Result, Some, [], cond, false, refl, suc, true, zero, ℕ, ◌&&◌, ◌+◌, ◌∷◌, ◌≡◌, slice_get}
 
 pub both : (p q : Bool) → p ≡ true → q ≡ true → (p && q) ≡ true
 both true q h g = g
@@ -40,7 +39,7 @@ alike None b h = absurd cc
 
 -- a table that is found by its name stands at its number, and has the columns of the name
 pub record IsFound (schema : List TableDef) (name : List ℕ) (n : ℕ) (def : TableDef) : Type 0 where
-  pub place : at_place schema n ≡ Some def
+  pub place : slice_get schema n ≡ Some def
   pub columns : columns_of schema name ≡ def.columns
   pub one : In def schema
 

@@ -7,11 +7,11 @@ use Rattle.salt_ast.specs.declared.trees.Field.{Field}
 use Rattle.salt_ast.specs.declared.trees.Scope.{Scope}
 use Rattle.salt_ast.specs.declared.trees.Statement.{Statement}
 use Rattle.salt_ast.specs.declared.trees.TableDef.{TableDef}
-use Rattle.salt_stands.specs.Fitting.{at_place, is_cont_of, is_key_of, is_of_column, is_row_of}
+use Rattle.salt_stands.specs.Fitting.{is_cont_of, is_key_of, is_of_column, is_row_of}
 use Rattle.salt_model.specs.Eval.{Datum, Gives, Holds, named_values}
 use Rattle.salt_model.specs.Kept.{Kept, cont_of, kept_program, programs_of, schema_of}
 use Rattle.salt_model.specs.Statements.{Done, Run}
-use Rattle.salt_model.specs.Tables.{Entry, Tables, changed_at, key_of}
+use Rattle.salt_model.specs.Tables.{Entry, Tables, changed_at}
 use Rattle.salt_model.specs.Words.{Every}
 use Rattle.salt_model.specs.declared.events.UnitKind.TheVariants.{Acid, Call, First, Later}
 use Rattle.salt_model.specs.declared.events.UnitKind.{UnitKind}
@@ -20,7 +20,8 @@ use Rattle.salt_model.specs.declared.vars.Binding.{Binding}
 use Rattle.salt_values.specs.declared.change.Change.{Change}
 use Rattle.salt_values.specs.declared.cont.Cont.{Cont}
 use Rattle.salt_values.specs.declared.value.Value.{Value}
-use Rattle.std.specs.Prelude.{Bool, List, None, Option, Some, [], false, not, option_and_then, option_map, true, ⊤, ◌++◌, ◌∷◌, ◌≡◌}
+use Rattle.std.specs.Prelude.{Bool, List, None, Option, Some, [], false, not, option_and_then, option_map, true, ⊤, ◌++◌, ◌∷◌, ◌≡◌, slice_get}
+use Rattle.salt_values.specs.Value.{key_of}
 
 -- what an expression of the kind gives: a value of its type, or NULL where it may be; or a truth value
 abbrev pub is_datum_of : (nullable : Bool) → Kind → Datum → Bool
@@ -37,7 +38,7 @@ pub record AreVariables (fields : List Field) (vars : List Binding) : Type 0 whe
 
 -- the row fits its table, and stands at the place of its key
 pub record IsRowAt (schema : List TableDef) (p : Place) (row : List Value) : Type 0 where
-  pub fits : is_row_of (at_place schema p.table) row ≡ true
+  pub fits : is_row_of (slice_get schema p.table) row ≡ true
   pub key : p.key ≡ key_of row
 
 abbrev pub AreRowsOf : List TableDef → Tables → Type 0
@@ -45,7 +46,7 @@ AreRowsOf schema es = Every (λ (e : Entry). IsRowAt schema e.0 e.1) es.list
 
 -- what a change puts: a row that fits; what it removes has a key of its table
 abbrev pub FitsAt : List TableDef → Place → Option (List Value) → Type 0
-FitsAt schema p None = is_key_of (at_place schema p.table) p.key ≡ true
+FitsAt schema p None = is_key_of (slice_get schema p.table) p.key ≡ true
 FitsAt schema p (Some row) = IsRowAt schema p row
 
 abbrev pub AreChangesOf : List TableDef → List Change → Type 0

@@ -1,7 +1,7 @@
 //! The laws, each on a function that does nothing.
 
 ghost use Rattle.salt_ast.specs.Judgement.{Kind, bindings, expr_kind, may_be_null, statement_fault, table_fault, takes};
-ghost use Rattle.salt_ast.specs.Paths.{Position};
+ghost use Rattle.salt_ast.specs.Paths.{Position, next_on_commit, next_on_failure};
 ghost use Rattle.salt_ast.specs.ProgramJudgement.{are_arguments, program_fault, program_scope};
 ghost use Rattle.salt_ast.specs.Spelling.{SpellsTable};
 ghost use Rattle.salt_ast.specs.declared.programs.ProgramDef.{ProgramDef};
@@ -19,8 +19,8 @@ ghost use Rattle.salt_model.specs.After.{branched, committed};
 ghost use Rattle.salt_model.specs.Ends.{kept_with};
 ghost use Rattle.salt_model.specs.Eval.{eval, named_values, value_of};
 ghost use Rattle.salt_model.specs.Everywhere.{Each};
-ghost use Rattle.salt_model.specs.Kept.{Definition, Kept, OfProgram, OfTable, WellKept, block_of_kind, branch_of, cont_of};
-ghost use Rattle.salt_model.specs.Kept.{kept_program, nothing_kept, programs_of, schema_of, then_of, values_kept, vars_of_kind};
+ghost use Rattle.salt_model.specs.Kept.{Definition, Kept, OfProgram, OfTable, WellKept, block_of_kind, cont_of, parts_of};
+ghost use Rattle.salt_model.specs.Kept.{kept_program, nothing_kept, programs_of, schema_of, values_kept, vars_of_kind};
 ghost use Rattle.salt_model.specs.Lines.{AskInOrder};
 ghost use Rattle.salt_model.specs.Next.{flight};
 ghost use Rattle.salt_model.specs.Played.{IsPlayed};
@@ -116,13 +116,13 @@ pub fn ends_keep_types()
 /// failure.
 pub fn moves_keep_types()
     ensures begun { (k : Kept) (b : Id) (n : ℕ) (name : List ℕ) (args : List Value) (vars : List Binding) (p : ProgramDef) (at : Position) →
-        IsTyped k → kept_program name k ≡ Some p → are_arguments p.params args ≡ true → AreVariables (bindings (program_scope p)) vars → then_of p 1 ≡ Some at →
+        IsTyped k → kept_program name k ≡ Some p → are_arguments p.params args ≡ true → AreVariables (bindings (program_scope p)) vars → next_on_commit (parts_of p) 1 ≡ Some at →
         IsContOf k (record { base = b; accepted = n; program = p.name; args = args; vars = values_kept p vars; next = at.part; tries = at.tries }) }
     ensures commit { (k : Kept) (b : Id) (c : Cont) (p : ProgramDef) (vars : List Binding) (at : Position) →
-        IsTyped k → cont_of b k ≡ Some c → kept_program c.program k ≡ Some p → AreVariables (bindings (program_scope p)) vars → then_of p c.next ≡ Some at →
+        IsTyped k → cont_of b k ≡ Some c → kept_program c.program k ≡ Some p → AreVariables (bindings (program_scope p)) vars → next_on_commit (parts_of p) c.next ≡ Some at →
         IsContOf k (record c { vars = values_kept p vars; next = at.part; tries = at.tries }) }
     ensures failure { (k : Kept) (b : Id) (c : Cont) (p : ProgramDef) (at : Position) →
-        IsTyped k → cont_of b k ≡ Some c → kept_program c.program k ≡ Some p → branch_of p c.next c.tries ≡ Some at →
+        IsTyped k → cont_of b k ≡ Some c → kept_program c.program k ≡ Some p → next_on_failure (parts_of p) c.next c.tries ≡ Some at →
         IsContOf k (record c { next = at.part; tries = at.tries }) }
 {}
 

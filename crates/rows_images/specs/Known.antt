@@ -10,15 +10,14 @@ use Rattle.salt_bytes.specs.Log.{entries_in}
 use Rattle.salt_bytes.specs.Page.{page_length, page_place, rows_in_page, spell_page}
 use Rattle.salt_bytes.specs.Partition.{partition_header_in, prepared_in, spell_partition_header, spell_prepared}
 use Rattle.salt_bytes.specs.Numbers.{spell_16, spell_64}
-use Rattle.salt_bytes.specs.Taking.{spell_each}
-use Rattle.salt_bytes.specs.Values.{spell_row}
 use Rattle.salt_stands.specs.Reading.{Reading}
 use Rattle.salt_stands.specs.Stands.{NotSalt, NumbersSpent, Opening, OtherShape, Stands, opening_of}
 use Rattle.salt_place.specs.declared.placement.PlaceKind.TheVariants.{Bands, Remainder}
 use Rattle.salt_place.specs.declared.placement.PlaceKind.{PlaceKind}
 use Rattle.salt_place.specs.declared.placement.Shape.{Shape}
-use Rattle.std.specs.List.{filter_map, list_all, list_any}
+use Rattle.std.specs.List.{filter_map, list_all, list_any, flat_map}
 use Rattle.std.specs.Prelude.{Bool, List, None, Option, Some, [], codes, drop, false, int_lt, length, map, nat_le, nat_lt, not, pos, replicate, suc, take, true, zero, ℕ, ℤ, ◌&&◌, ◌*◌, ◌+◌, ◌++◌, ◌-◌, ◌==◌, ◌∷◌, ◌||◌}
+use Rattle.salt_bytes.specs.Values.{spell_values}
 
 abbrev pub nibble : ℕ → ℕ
 nibble c = elim (nat_lt c 58) [ true ↦ c - 48 | false ↦ c - 87 ]
@@ -133,7 +132,7 @@ reading_of known refused = record {
 -- WHAT IS COMPARED: the answer as bytes
 
 abbrev pub spell_entry_of : Entry → List ℕ
-spell_entry_of e = spell_16 e.0.table ++ spell_row e.1
+spell_entry_of e = spell_16 e.0.table ++ spell_values e.1
 
 abbrev pub spell_known : Known → List ℕ
 spell_known d = spell_text (text_of d)
@@ -143,7 +142,7 @@ spell_shape s = s.parts ∷ spell_kind s.kind
 
 abbrev pub spell_opening : Opening Known → List ℕ
 spell_opening (Stands f) =
-    0 ∷ spell_shape f.shape ++ (f.format ∷ spell_64 f.kept.boot ++ (spell_64 f.kept.decisions ++ (spell_each spell_known f.kept.definitions ++ (spell_each spell_entry_of f.kept.tables.list ++ spell_each (spell_cont 3) f.kept.conts))))
+    0 ∷ spell_shape f.shape ++ (f.format ∷ spell_64 f.kept.boot ++ (spell_64 f.kept.decisions ++ (flat_map spell_known f.kept.definitions ++ (flat_map spell_entry_of f.kept.tables.list ++ flat_map (spell_cont 3) f.kept.conts))))
 spell_opening (NotSalt dev) = 1 ∷ dev ∷ []
 spell_opening (OtherShape kept asked) = 2 ∷ spell_shape kept ++ spell_shape asked
 spell_opening (NumbersSpent boot decisions) = 3 ∷ spell_64 boot ++ spell_64 decisions

@@ -36,7 +36,7 @@ told_flight = cut_short says event.Opened 2 5 says event.Ended (unit 3) (end.Com
 
 another_told : TellsOwn told_flight (event.Ended (unit 4) (end.Committed 6)) → ⊥
 unfolding computing
-another_told h = cc
+another_told h = let own = h refl in cc
 
 -- Two stops: a unit is cut, and the drain begins its part anew.
 

@@ -11,7 +11,7 @@ use Rattle.salt_ast.specs.Limits.{height_passed, statement_limit, statement_pass
 use Rattle.salt_ast.specs.Spelling.{SpellsShallowStatement, SpellsStatement}
 use Rattle.salt_ast.specs.Statements.{ColumnValue, IsAnd, IsName, IsScan, IsSet, IsStatement, IsWhat, and, count_rows, every_column, is_delete, is_ensure, is_expression, is_insert, is_name, is_null, is_select, is_select_into, is_set, is_update, max_of, min_of, named_columns, no_and, no_where, sum_of, where_between, where_filter, where_key}
 use Rattle.salt_ast.specs.Texts.{bound_text, expr_text, filter_text, name_text, scan_text, set_text, statement_text, what_text}
-use Rattle.salt_ast.specs.Trees.{filter_exprs, scan_exprs, set_value, statement_exprs}
+use Rattle.salt_ast.specs.Trees.{scan_exprs, statement_exprs}
 use Rattle.salt_ast.specs.declared.trees.Bound.{Bound}
 use Rattle.salt_ast.specs.declared.trees.Bound.TheVariants as bound
 use Rattle.salt_ast.specs.declared.trees.Expr.{Expr}
@@ -23,6 +23,8 @@ use Rattle.salt_tokens.specs.declared.keyword.Keyword.{Keyword}
 use Rattle.salt_tokens.specs.declared.keyword.Keyword.TheVariants as word
 use Rattle.salt_tokens.specs.declared.sign.Sign.TheVariants as mark
 use Rattle.std.proofs.Common.{List, None, Option, Some, [], codes, map, refl, ℕ, ◌++◌, ◌∷◌, ◌≡◌}
+use Rattle.std.specs.Prelude.{option_to_list}
+use Rattle.salt_ast.specs.declared.trees.Set.{Set}
 
 -- ---- names, and what is shown
 
@@ -74,7 +76,7 @@ scan_stops : (scan : Scan) (rest : List ℕ) → Stops rest → Stops (scan_text
 scan_stops scan = bound_stops scan.bound scan.filter
 
 module _ (laws : TokenLaws) {Inner : Spells} (inner : AreRead Inner) where
-  and_read : AreReadAs (IsAnd Inner) (IsAnd Shallow) (filter_text (codes " and ")) (λ f. Each IsLow (filter_exprs f))
+  and_read : AreReadAs (IsAnd Inner) (IsAnd Shallow) (filter_text (codes " and ")) (λ f. Each IsLow (option_to_list f))
   and_read _ _ no_and h low = record { symbols = []; fragment = nothing; spelled = no_and }
   and_read _ _ (and {ts = ts} {e = e} d) (_, row) (low, _) = space_first (word_first laws word.And (λ _ d. and d) (low_conjunction laws inner ts e d row low))
 
@@ -112,7 +114,7 @@ module _ (laws : TokenLaws) {Inner : Spells} (inner : AreRead Inner) where
   value_read _ _ (is_expression {ts = ts} {e = e} d) h low = respelled (λ _ d. is_expression d) (low_expression laws inner ts e d h low)
   value_read _ _ is_null h low = record { symbols = key word.Null ∷ []; fragment = word_fragment laws word.Null; spelled = is_null }
 
-  set_read : AreReadAs (IsSet Inner) (IsSet Shallow) set_text (λ set. IsLow (set_value set))
+  set_read : AreReadAs (IsSet Inner) (IsSet Shallow) set_text (λ set. IsLow set.value)
   set_read _ _ (is_set {n = n} {ts = ts} {e = e} d) (named, (_, row)) low =
       let x = value_read ts e d row low in
       record {
@@ -159,8 +161,8 @@ module _ (laws : TokenLaws) {Inner Deeper : Spells} (inner : AreRead Inner) (dee
       }
   statement_read _ _ (is_update {t = t} {a = a} {b = b} {sets = sets} {scan = scan} d k) (_, (named, (_, row))) low =
       let rows = each_of_append HasToken a b row in
-      let lows = each_of_append IsLow (map set_value sets) (scan_exprs scan) low in
-      let x = listed_read laws (set_read laws inner) a sets d rows.0 (each_of_map IsLow set_value sets lows.0) in
+      let lows = each_of_append IsLow (map (λ (s : Set). s.value) sets) (scan_exprs scan) low in
+      let x = listed_read laws (set_read laws inner) a sets d rows.0 (each_of_map IsLow (λ (s : Set). s.value) sets lows.0) in
       let y = scan_read laws inner b scan k rows.1 lows.1 in
       let changes = spaced_word laws word.Set (behind x.fragment (scan_stops scan) y.fragment) in
       record {

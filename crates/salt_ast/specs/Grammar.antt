@@ -62,10 +62,7 @@ Conjunction Inner = Left 2 (Negation Inner)
 abbrev pub Expression : Spells → Spells
 Expression Inner = Left 1 (Conjunction Inner)
 
-abbrev pub Nothing : Spells
-Nothing ts e = ⊥
-
 -- an expression whose tokens stand within fewer than `depth` of its parentheses
 unfoldable pub Within : ℕ → Spells
-Within zero = Nothing
+Within zero = λ ts e. ⊥
 Within (suc depth) = Expression (Within depth)

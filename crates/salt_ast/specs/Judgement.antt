@@ -5,7 +5,7 @@ use Rattle.salt_ast.specs.Trees.{bound_exprs}
 use Rattle.salt_ast.specs.Words.{first_in, is_among}
 use Rattle.salt_tokens.specs.Spelling.{same_bytes}
 use Rattle.std.specs.Bool.{then_some}
-use Rattle.std.specs.Option.{option_or}
+use Rattle.std.specs.Option.{option_or, option_map_or}
 use Rattle.salt_ast.specs.declared.limit.LimitName.{LimitName}
 use Rattle.salt_ast.specs.declared.limit.LimitName.TheVariants as limit
 use Rattle.salt_ast.specs.declared.trees.ColType.{ColType}
@@ -66,12 +66,11 @@ unknown_in_expr columns variables (Binary' o _ (more_of-Expr l end_of-Expr) _ (m
     option_or (unknown_in_expr columns variables l) (unknown_in_expr columns variables r)
 
 abbrev pub unknown_in_what : List Field → What → Option (List ℕ)
-unknown_in_what columns what.All = None
 unknown_in_what columns (what.Columns ns) = first_in (unknown_name columns) ns
-unknown_in_what columns what.Count = None
 unknown_in_what columns (what.Sum n) = unknown_name columns n
 unknown_in_what columns (what.Min n) = unknown_name columns n
 unknown_in_what columns (what.Max n) = unknown_name columns n
+unknown_in_what columns _ = None
 
 -- no column stands in a key's bound
 abbrev pub unknown_in_scan : (columns variables : List Field) → Scan → Option (List ℕ)
@@ -114,11 +113,7 @@ doubled_name before (n ∷ ns) = if is_among n before then Some n else doubled_n
 -- no statement but UPDATE names what it changes twice
 abbrev pub doubled_in_statement : Statement → Option (List ℕ)
 doubled_in_statement (statement.Update table sets scan) = doubled_name [] (map (λ s. s.column) sets)
-doubled_in_statement (statement.Insert table es) = None
-doubled_in_statement (statement.Select w table scan) = None
-doubled_in_statement (statement.SelectInto column var table key) = None
-doubled_in_statement (statement.Delete table scan) = None
-doubled_in_statement (statement.Ensure e) = None
+doubled_in_statement _ = None
 
 abbrev pub doubled_in_table : List TableDef → TableDef → Option (List ℕ)
 doubled_in_table schema d = option_or (then_some (is_table schema d.name) d.name) (doubled_name [] (field_names d.columns))
@@ -133,24 +128,20 @@ pub data Kind : Type 0 where
 abbrev pub is_same_type : ColType → ColType → Bool
 is_same_type kind.Int kind.Int = true
 is_same_type kind.Text kind.Text = true
-is_same_type kind.Int kind.Text = false
-is_same_type kind.Text kind.Int = false
+is_same_type _ _ = false
 
 abbrev pub is_same_kind : Kind → Kind → Bool
 is_same_kind (values a) (values b) = is_same_type a b
 is_same_kind truths truths = true
-is_same_kind (values a) truths = false
-is_same_kind truths (values b) = false
+is_same_kind _ _ = false
 
 abbrev pub is_of_kind : Kind → Option Kind → Bool
-is_of_kind k None = false
-is_of_kind k (Some j) = is_same_kind k j
+is_of_kind k o = option_map_or (is_same_kind k) o false
 
 -- a value, and no truth value
 abbrev pub is_value : Option Kind → Bool
 is_value (Some (values t)) = true
-is_value (Some truths) = false
-is_value None = false
+is_value _ = false
 
 abbrev pub field_named : List Field → List ℕ → Option Field
 field_named [] n = None
@@ -164,8 +155,7 @@ type_named fields n = option_map (λ f. f.kind) (field_named fields n)
 -- two values of one type
 abbrev pub comparison_kind : Kind → Kind → Option Kind
 comparison_kind (values a) (values b) = then_some (is_same_type a b) truths
-comparison_kind (values a) truths = None
-comparison_kind truths k = None
+comparison_kind _ _ = None
 
 -- two operands of a kind, which it gives
 abbrev pub closed_kind : Kind → Kind → Kind → Option Kind
@@ -174,16 +164,11 @@ closed_kind k l r = then_some (is_same_kind k l && is_same_kind k r) k
 abbrev pub operation_kind : Op → Kind → Kind → Option Kind
 operation_kind op.Or l r = closed_kind truths l r
 operation_kind op.And l r = closed_kind truths l r
-operation_kind op.Equal l r = comparison_kind l r
-operation_kind op.Unequal l r = comparison_kind l r
-operation_kind op.Less l r = comparison_kind l r
-operation_kind op.AtMost l r = comparison_kind l r
-operation_kind op.Greater l r = comparison_kind l r
-operation_kind op.AtLeast l r = comparison_kind l r
 operation_kind op.Add l r = closed_kind (values kind.Int) l r
 operation_kind op.Sub l r = closed_kind (values kind.Int) l r
 operation_kind op.Join l r = closed_kind (values kind.Text) l r
 operation_kind op.Mul l r = closed_kind (values kind.Int) l r
+operation_kind _ l r = comparison_kind l r
 
 -- NULL has no type of its own
 abbrev pub value_type : Value → Option ColType
@@ -191,12 +176,9 @@ value_type (value.Int z) = Some kind.Int
 value_type (value.Text t) = Some kind.Text
 value_type value.Null = None
 
-abbrev pub value_kind : Value → Option Kind
-value_kind v = option_map values (value_type v)
-
 -- what an expression gives over these columns, and these parameters and variables: nothing where its types are wrong
 abbrev pub expr_kind : (columns variables : List Field) → Expr → Option Kind
-expr_kind columns variables (Lit v) = value_kind v
+expr_kind columns variables (Lit v) = option_map values (value_type v)
 expr_kind columns variables (Column n) = option_map values (type_named columns n)
 expr_kind columns variables (Variable n) = option_map values (type_named variables n)
 expr_kind columns variables (Not' _ (more_of-Expr e end_of-Expr)) =
@@ -253,21 +235,15 @@ takes_in columns variables (Some f) e = takes columns variables f e
 abbrev pub are_row : (columns variables : List Field) → List Expr → Bool
 are_row [] variables [] = true
 are_row (f ∷ fs) variables (e ∷ es) = takes [] variables f e && are_row fs variables es
-are_row [] variables (e ∷ es) = false
-are_row (f ∷ fs) variables [] = false
+are_row fs variables es = false
 
 -- a sum is one of numbers
 abbrev pub is_typed_what : List Field → What → Bool
 is_typed_what columns (what.Sum n) = is_of_kind (values kind.Int) (option_map values (type_named columns n))
-is_typed_what columns what.All = true
-is_typed_what columns (what.Columns ns) = true
-is_typed_what columns what.Count = true
-is_typed_what columns (what.Min n) = true
-is_typed_what columns (what.Max n) = true
+is_typed_what columns _ = true
 
 abbrev pub is_typed_filter : (columns variables : List Field) → Option Expr → Bool
-is_typed_filter columns variables None = true
-is_typed_filter columns variables (Some e) = gives_truth columns variables e
+is_typed_filter columns variables filter = option_map_or (gives_truth columns variables) filter true
 
 abbrev pub is_typed_scan : (columns variables : List Field) → Scan → Bool
 is_typed_scan columns variables scan =
@@ -280,8 +256,7 @@ is_typed_set columns variables set =
 
 abbrev pub same_types : Option ColType → Option ColType → Bool
 same_types (Some a) (Some b) = is_same_type a b
-same_types None t = false
-same_types (Some a) None = false
+same_types _ _ = false
 
 abbrev pub is_typed_statement : List TableDef → Scope → Statement → Bool
 is_typed_statement schema scope (statement.Insert table es) = are_row (columns_of schema table) (bindings scope) es

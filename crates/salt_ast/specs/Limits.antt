@@ -20,7 +20,7 @@ use Rattle.salt_ast.specs.declared.trees.What.TheVariants as what
 use Rattle.salt_values.specs.declared.value.Value.{Value}
 use Rattle.salt_values.specs.declared.value.Value.TheVariants as value
 use Rattle.std.specs.List.{list_any}
-use Rattle.std.specs.Prelude.{Bool, List, None, Option, Some, [], codes, length, max, nat_lt, negsuc, pos, suc, zero, ℕ, ℤ, ◌+◌, ◌-◌, ◌^◌, ◌∷◌, option_and_then}
+use Rattle.std.specs.Prelude.{Bool, List, None, Option, Some, [], codes, length, max, nat_lt, negsuc, pos, suc, zero, ℕ, ◌+◌, ◌-◌, ◌^◌, ◌∷◌, option_and_then}
 
 abbrev pub limit_word : LimitName → List ℕ
 limit_word limit.Session = codes "session"
@@ -59,13 +59,10 @@ passed_in_list (suc room) l passed (x ∷ xs) = option_or (passed x) (passed_in_
 abbrev pub name_passed : List ℕ → Option LimitName
 name_passed n = above NAME_MOST limit.Name (length n)
 
--- one more behind a minus sign
-abbrev pub int_passed : ℤ → Option LimitName
-int_passed (pos n) = above (2 ^ 63 - 1) limit.Number n
-int_passed (negsuc n) = above (2 ^ 63) limit.Number (n + 1)
-
+-- a number may be one more behind a minus sign
 abbrev pub value_passed : Value → Option LimitName
-value_passed (value.Int z) = int_passed z
+value_passed (value.Int (pos n)) = above (2 ^ 63 - 1) limit.Number n
+value_passed (value.Int (negsuc n)) = above (2 ^ 63) limit.Number (n + 1)
 value_passed (value.Text t) = above TEXT_MOST limit.Text (length t)
 value_passed value.Null = None
 
@@ -79,12 +76,11 @@ expr_passed (Binary' o _ (more_of-Expr l end_of-Expr) _ (more_of-Expr r end_of-E
     option_or (expr_passed l) (expr_passed r)
 
 abbrev pub what_passed : What → Option LimitName
-what_passed what.All = None
 what_passed (what.Columns ns) = first_in name_passed ns
-what_passed what.Count = None
 what_passed (what.Sum n) = name_passed n
 what_passed (what.Min n) = name_passed n
 what_passed (what.Max n) = name_passed n
+what_passed _ = None
 
 abbrev pub bound_passed : Bound → Option LimitName
 bound_passed bound.All = None
@@ -118,12 +114,10 @@ table_passed d =
 
 -- a literal, a column, a parameter or variable is 1 high
 abbrev pub height : Expr → ℕ
-height (Lit v) = 1
-height (Column n) = 1
-height (Variable n) = 1
 height (Not' _ (more_of-Expr e end_of-Expr)) = suc (height e)
 height (IsNull' _ (more_of-Expr e end_of-Expr) negated) = suc (height e)
 height (Binary' o _ (more_of-Expr l end_of-Expr) _ (more_of-Expr r end_of-Expr)) = suc (max (height l) (height r))
+height e = 1
 
 abbrev pub is_high : Expr → Bool
 is_high e = nat_lt DEPTH_MOST (height e)

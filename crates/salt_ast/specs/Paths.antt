@@ -8,6 +8,7 @@ use Rattle.salt_ast.specs.declared.programs.PartDef.{PartDef}
 use Rattle.salt_ast.specs.declared.trees.Statement.{Statement}
 use Rattle.std.specs.Prelude.{List, None, Option, Some, [], if◌then◌else◌, length, map, max, nat_lt, option_and_then, option_map}
 use Rattle.std.specs.Prelude.{suc, unwrap_or, zero, ℕ, ◌+◌, ◌++◌, ◌==◌, ◌∷◌}
+use Rattle.std.specs.Option.{option_map_or}
 
 -- Parts are numbered from 1. The block of a part is what its unit does; the whole of an ACID program is one unit.
 
@@ -110,5 +111,4 @@ rest_from count k (p ∷ ps) at =
 
 -- from a position on, or from the end
 abbrev pub rest_of : List PartDef → Option Position → ℕ
-rest_of parts None = 0
-rest_of parts (Some at) = rest_from (length parts) 1 parts at
+rest_of parts at = option_map_or (rest_from (length parts) 1 parts) at 0

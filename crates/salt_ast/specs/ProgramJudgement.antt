@@ -8,7 +8,7 @@ use Rattle.salt_ast.specs.ProgramTexts.{base_text}
 use Rattle.salt_ast.specs.Words.{first_in}
 use Rattle.salt_tokens.specs.Spelling.{same_bytes}
 use Rattle.std.specs.Bool.{then_some}
-use Rattle.std.specs.Option.{option_or}
+use Rattle.std.specs.Option.{option_map_or, option_or}
 use Rattle.salt_ast.specs.declared.limit.LimitName.{LimitName}
 use Rattle.salt_ast.specs.declared.limit.LimitName.TheVariants as limit
 use Rattle.salt_ast.specs.declared.lines.Act.{Act}
@@ -17,6 +17,7 @@ use Rattle.salt_ast.specs.declared.lines.Line.{Line}
 use Rattle.salt_ast.specs.declared.lines.Line.TheVariants as line
 use Rattle.salt_ast.specs.declared.programs.Body.{Body}
 use Rattle.salt_ast.specs.declared.programs.Body.TheVariants as body
+use Rattle.salt_ast.specs.declared.programs.Body.TheVariants.{Acid, Base}
 use Rattle.salt_ast.specs.declared.programs.Next.{Next}
 use Rattle.salt_ast.specs.declared.programs.Next.TheVariants as next
 use Rattle.salt_ast.specs.declared.programs.PartDef.{PartDef}
@@ -42,15 +43,10 @@ is_program catalogue n = is_some (program_named catalogue n)
 
 -- BRANCHES: ways lead to later parts or to the end, and each part but the first has one for its failure.
 
--- it leads from part `k` of `count` parts to a later one, or to the end
-abbrev pub is_forward : (count k : ℕ) → Next → Bool
-is_forward count k (next.Part j) = nat_lt k j && nat_le j count
-is_forward count k next.End = true
-
--- a way that is declared is not forward
+-- a way that is declared leads from part `k` of `count` parts neither to a later one nor to the end
 abbrev pub is_backward : (count k : ℕ) → Option Next → Bool
-is_backward count k None = false
-is_backward count k (Some n) = not (is_forward count k n)
+is_backward count k (Some (next.Part j)) = not (nat_lt k j && nat_le j count)
+is_backward count k way = false
 
 pub data BranchFault : Type 0 where
   -- a part above 1 says nothing of its failure
@@ -72,11 +68,6 @@ fault_in_parts count k (p ∷ ps) = option_or (part_fault count k p) (fault_in_p
 abbrev pub branch_fault : Body → Option BranchFault
 branch_fault (body.Acid block) = None
 branch_fault (body.Base parts) = fault_in_parts (length parts) 1 parts
-
--- the part that is told of it
-abbrev pub faulty_part : BranchFault → ℕ
-faulty_part (no_branch k) = k
-faulty_part (backward k) = k
 
 -- Of a program.
 
@@ -115,26 +106,17 @@ program_kept_limit catalogue = then_some (nat_le PROGRAMS_MOST (length catalogue
 abbrev pub are_arguments : List Field → List Value → Bool
 are_arguments [] [] = true
 are_arguments (f ∷ fs) (v ∷ vs) = same_types (Some f.kind) (value_type v) && are_arguments fs vs
-are_arguments [] (v ∷ vs) = false
-are_arguments (f ∷ fs) [] = false
+are_arguments fs vs = false
 
 -- a program of this name is defined, and these are arguments for its parameters
-abbrev pub fits_program : Option ProgramDef → List Value → Bool
-fits_program None args = false
-fits_program (Some p) args = are_arguments p.params args
-
 abbrev pub fits : List ProgramDef → List ℕ → List Value → Bool
-fits catalogue n args = fits_program (program_named catalogue n) args
+fits catalogue n args = option_map_or (λ p. are_arguments p.params args) (program_named catalogue n) false
 
 unfoldable pub call_fault : List ProgramDef → List ℕ → List Value → Option Fault
 call_fault catalogue n args = first_fault (then_some (not (is_program catalogue n)) n) None (fits catalogue n args)
 
 abbrev pub is_base : ProgramDef → Bool
-is_base p = is_base_body p.body
-  where
-    is_base_body : Body → Bool
-    is_base_body (body.Acid block) = false
-    is_base_body (body.Base parts) = true
+is_base p = elim p.body [ Acid block ↦ false | Base parts ↦ true ]
 
 -- the limit that a further run of a BASE program passes where so many are in their first part, or accepted and not released
 abbrev pub call_kept_limit : List ProgramDef → (unreleased : ℕ) → List ℕ → Option LimitName
@@ -159,7 +141,8 @@ pub data LineFault : Type 0 where
 
 abbrev pub of_program_fault : ProgramFault → LineFault
 of_program_fault (in_text f) = faulty f
-of_program_fault (in_branches b) = branch (faulty_part b)
+of_program_fault (in_branches (no_branch k)) = branch k
+of_program_fault (in_branches (backward k)) = branch k
 
 abbrev pub go_fault : List Id → Id → Option Fault
 go_fault unfinished base = then_some (not (list_any (is_same_id base) unfinished)) (unknown (base_text base))
@@ -172,10 +155,7 @@ act_fault known (act.Call program args) =
     option_or (option_map kept (call_kept_limit known.catalogue known.unreleased program))
     (option_map faulty (call_fault known.catalogue program args))
 act_fault known (act.Do st) = option_map faulty (statement_fault known.schema session_scope st)
-act_fault known act.Begin = None
-act_fault known act.Commit = None
-act_fault known act.Rollback = None
-act_fault known act.Step = None
+act_fault known _ = None
 
 -- what is refused of a line that passes no limit of its text: limits of what is kept, names, types and branches
 unfoldable pub line_fault : Known → Line → Option LineFault
@@ -186,9 +166,4 @@ line_fault known (line.Program p) =
     (option_map of_program_fault (program_fault known.schema known.catalogue p))
 line_fault known (line.Session session a) = act_fault known a
 line_fault known (line.Go base) = option_map faulty (go_fault known.unfinished base)
-line_fault known line.Nothing = None
-line_fault known line.GoAll = None
-line_fault known line.ShowLocks = None
-line_fault known line.ShowBases = None
-line_fault known (line.Crash stops) = None
-line_fault known (line.Net twists) = None
+line_fault known _ = None

@@ -60,12 +60,9 @@ program_passed p =
     (option_or (passed_in_list VARIABLES_MOST limit.Variables field_passed p.vars) (body_passed p.body)))
 
 abbrev pub act_passed : Act → Option LimitName
-act_passed act.Begin = None
-act_passed act.Commit = None
-act_passed act.Rollback = None
-act_passed act.Step = None
 act_passed (act.Call program args) = option_or (name_passed program) (first_in value_passed args)
 act_passed (act.Do st) = statement_passed st
+act_passed _ = None
 
 -- the call that stops, and what it leaves
 abbrev pub stop_passed : ℕ × ℕ → Option LimitName
@@ -76,16 +73,13 @@ abbrev pub twist_passed : ℕ × ℕ → Option LimitName
 twist_passed twist = option_or (outside 1 TURN_MOST limit.Net twist.0) (above TWIST_MOST limit.Act twist.1)
 
 abbrev pub line_passed : Line → Option LimitName
-line_passed line.Nothing = None
 line_passed (line.Table d) = table_passed d
 line_passed (line.Program p) = program_passed p
 line_passed (line.Session session a) = option_or (outside 1 SESSION_MOST limit.Session session) (act_passed a)
 line_passed (line.Go base) = option_or (number_passed base.boot) (number_passed base.seq)
-line_passed line.GoAll = None
-line_passed line.ShowLocks = None
-line_passed line.ShowBases = None
 line_passed (line.Crash stops) = passed_in_list PAIRS_MOST limit.Pairs stop_passed stops
 line_passed (line.Net twists) = passed_in_list PAIRS_MOST limit.Pairs twist_passed twists
+line_passed _ = None
 
 -- The depth, which comes after all other limits of a text.
 
@@ -95,23 +89,13 @@ program_exprs p = flat_map statement_exprs (body_statements p.body)
 
 abbrev pub act_exprs : Act → List Expr
 act_exprs (act.Do st) = statement_exprs st
-act_exprs (act.Call program args) = []
-act_exprs act.Begin = []
-act_exprs act.Commit = []
-act_exprs act.Rollback = []
-act_exprs act.Step = []
+act_exprs _ = []
 
 abbrev pub line_exprs : Line → List Expr
-line_exprs line.Nothing = []
 line_exprs (line.Table d) = d.checks
 line_exprs (line.Program p) = program_exprs p
 line_exprs (line.Session session a) = act_exprs a
-line_exprs (line.Go base) = []
-line_exprs line.GoAll = []
-line_exprs line.ShowLocks = []
-line_exprs line.ShowBases = []
-line_exprs (line.Crash stops) = []
-line_exprs (line.Net twists) = []
+line_exprs _ = []
 
 -- the first limit that a program passes by its tree
 unfoldable pub program_limit : ProgramDef → Option LimitName

@@ -16,6 +16,7 @@ use Rattle.salt_values.specs.declared.id.Id.{Id}
 use Rattle.salt_values.specs.declared.value.Value.{Value}
 use Rattle.std.specs.Fmt.{decimal}
 use Rattle.std.specs.Prelude.{List, None, Option, Some, [], codes, ℕ, ◌++◌, ◌∷◌}
+use Rattle.std.specs.Option.{option_map_or}
 
 abbrev pub block_text : List Statement → List ℕ
 block_text [] = codes "{ }"
@@ -27,13 +28,11 @@ next_text next.End = codes "end"
 
 -- where the program goes on behind a commit, if it is said
 abbrev pub then_text : Option Next → List ℕ
-then_text None = []
-then_text (Some n) = codes " then " ++ next_text n
+then_text way = option_map_or (λ n. codes " then " ++ next_text n) way []
 
 -- how often a part is tried again, if it is said
 abbrev pub retry_text : Option ℕ → List ℕ
-retry_text None = []
-retry_text (Some n) = codes "retry " ++ (decimal n ++ codes " then ")
+retry_text tries = option_map_or (λ n. codes "retry " ++ (decimal n ++ codes " then ")) tries []
 
 -- where the program goes on behind a failure, if it is said
 abbrev pub failure_text : Option ℕ → Option Next → List ℕ

@@ -52,12 +52,9 @@ pub data IsWhat : Symbols → What → Type 0 where
   every_column : IsWhat (sign mark.Star ∷ []) what.All
   named_columns : {ts : Symbols} {ns : List (List ℕ)} → Listed IsName ts ns → IsWhat ts (what.Columns ns)
   count_rows : IsWhat (key word.Count ∷ sign mark.Open ∷ sign mark.Star ∷ sign mark.Close ∷ []) what.Count
-  sum_of : {n : List ℕ} →
-      IsWhat (key word.Sum ∷ sign mark.Open ∷ name n ∷ sign mark.Close ∷ []) (what.Sum n)
-  min_of : {n : List ℕ} →
-      IsWhat (key word.Min ∷ sign mark.Open ∷ name n ∷ sign mark.Close ∷ []) (what.Min n)
-  max_of : {n : List ℕ} →
-      IsWhat (key word.Max ∷ sign mark.Open ∷ name n ∷ sign mark.Close ∷ []) (what.Max n)
+  sum_of : {n : List ℕ} → IsWhat (key word.Sum ∷ sign mark.Open ∷ name n ∷ sign mark.Close ∷ []) (what.Sum n)
+  min_of : {n : List ℕ} → IsWhat (key word.Min ∷ sign mark.Open ∷ name n ∷ sign mark.Close ∷ []) (what.Min n)
+  max_of : {n : List ℕ} → IsWhat (key word.Max ∷ sign mark.Open ∷ name n ∷ sign mark.Close ∷ []) (what.Max n)
 
 -- ["and" conjunction]
 pub data IsAnd (Inner : Symbols → Expr → Type 0) : Symbols → Option Expr → Type 0 where
@@ -73,8 +70,7 @@ pub data IsScan (Inner : Symbols → Expr → Type 0) : Symbols → Scan → Typ
   where_between : {a b c : Symbols} {low high : Expr} {f : Option Expr} → Sum Inner a low → Sum Inner b high → IsAnd Inner c f →
       IsScan Inner (key word.Where ∷ key word.Key ∷ key word.Between ∷ (a ++ key word.And ∷ (b ++ c)))
       (record { bound = bound.Between low high; filter = f })
-  where_filter : {ts : Symbols} {e : Expr} → Expression Inner ts e →
-      IsScan Inner (key word.Where ∷ ts) (record { bound = bound.All; filter = Some e })
+  where_filter : {ts : Symbols} {e : Expr} → Expression Inner ts e → IsScan Inner (key word.Where ∷ ts) (record { bound = bound.All; filter = Some e })
 
 -- a statement, where `Inner` stands in the parentheses of its expressions, and `Deeper` in those of expressions that
 -- stand in a parenthesis of the statement
@@ -92,5 +88,4 @@ pub data IsStatement (Inner Deeper : Symbols → Expr → Type 0) : Symbols → 
       IsStatement Inner Deeper (key word.Update ∷ name t ∷ key word.Set ∷ (a ++ b)) (statement.Update t sets scan)
   is_delete : {t : List ℕ} {ts : Symbols} {scan : Scan} → IsScan Inner ts scan →
       IsStatement Inner Deeper (key word.Delete ∷ key word.From ∷ name t ∷ ts) (statement.Delete t scan)
-  is_ensure : {ts : Symbols} {e : Expr} → Expression Inner ts e →
-      IsStatement Inner Deeper (key word.Ensure ∷ ts) (statement.Ensure e)
+  is_ensure : {ts : Symbols} {e : Expr} → Expression Inner ts e → IsStatement Inner Deeper (key word.Ensure ∷ ts) (statement.Ensure e)

@@ -17,7 +17,8 @@ use Rattle.salt_tokens.specs.Pieces.{quoted}
 use Rattle.salt_values.specs.declared.value.Value.{Value}
 use Rattle.salt_values.specs.declared.value.Value.TheVariants as value
 use Rattle.std.specs.Fmt.{signed_decimal}
-use Rattle.std.specs.Prelude.{Bool, List, None, Option, Some, [], codes, false, true, ℕ, ◌++◌, ◌∷◌}
+use Rattle.std.specs.Prelude.{Bool, List, Option, [], codes, false, true, ℕ, ◌++◌, ◌∷◌}
+use Rattle.std.specs.Option.{option_map_or}
 
 -- each with these bytes before it
 abbrev pub preceded : {A : Type 0} → List ℕ → (A → List ℕ) → List A → List ℕ
@@ -63,8 +64,7 @@ what_text (what.Max n) = codes "max(" ++ (n ++ codes ")")
 
 -- a filter, if there is one, behind this word
 abbrev pub filter_text : List ℕ → Option Expr → List ℕ
-filter_text word None = []
-filter_text word (Some e) = word ++ expr_text e
+filter_text word filter = option_map_or (λ e. word ++ expr_text e) filter []
 
 abbrev pub bound_text : Bound → Option Expr → List ℕ
 bound_text bound.All filter = filter_text (codes " where ") filter

@@ -1,7 +1,8 @@
 -- Small words on options, lists, names and bytes.
 use Rattle.salt_tokens.specs.Spelling.{same_bytes}
 use Rattle.std.specs.Option.{option_or}
-use Rattle.std.specs.Prelude.{Bool, List, None, Option, [], false, not, ℕ, ◌==◌, ◌∷◌, ◌||◌}
+use Rattle.std.specs.Prelude.{Bool, List, None, Option, [], not, ℕ, ◌==◌, ◌∷◌}
+use Rattle.std.specs.List.{list_any}
 
 -- the first answer in a list's order
 abbrev pub first_in : {A B : Type 0} → (A → Option B) → List A → Option B
@@ -10,8 +11,7 @@ first_in f (x ∷ xs) = option_or (f x) (first_in f xs)
 
 -- the name stands among these
 abbrev pub is_among : List ℕ → List (List ℕ) → Bool
-is_among n [] = false
-is_among n (m ∷ ms) = same_bytes n m || is_among n ms
+is_among n ns = list_any (same_bytes n) ns
 
 abbrev pub is_no_quote : ℕ → Bool
 is_no_quote b = not (b == 39)

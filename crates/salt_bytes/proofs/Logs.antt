@@ -14,10 +14,11 @@ use Rattle.salt_bytes.specs.Page.{TableRow, spell_table_row, take_table_row}
 use Rattle.salt_bytes.specs.Partition.{PartitionHeader, Prepared, partition_header_in, prepared_in, spell_partition_header, spell_prepared, take_partition_header, take_prepared}
 use Rattle.salt_bytes.specs.Spellable.{Every, IsSpellableChange, IsSpellableCont, IsSpellableDecision, IsSpellableEntry, IsSpellableHeader, IsSpellableMove, IsSpellableNumbered, IsSpellablePartitionHeader, IsSpellablePrepared, IsSpellableTableRow, IsSpellableTo}
 use Rattle.salt_bytes.specs.Taking.{Take, take_byte, then_take}
-use Rattle.salt_bytes.specs.Values.{key_of, spell_row}
+use Rattle.salt_bytes.specs.Values.{spell_values}
 use Rattle.salt_place.specs.declared.placement.PlaceKind.TheVariants.{Bands, Remainder}
 use Rattle.salt_place.specs.declared.placement.PlaceKind.{PlaceKind}
 use Rattle.std.proofs.Common.{Bool, List, false, length, refl, subst, ℕ, ◌≡◌, ◌++◌, ◌∷◌, ◌<◌, ◌^◌, Some, None, Option, codes}
+use Rattle.salt_values.specs.Value.{key_of}
 
 takes_text : (text : List ℕ) → length text < 2 ^ 64 → Takes take_text (spell_text text) text
 takes_text text fits = both _ (takes_64 (length text) fits) (takes_bytes text (length text) refl)
@@ -64,7 +65,7 @@ takes_entry parts (Decides d) good = behind_byte (take_entry_of parts) 3 (at_las
 takes_to : (nulls : Bool) (table : ℕ) (key : Value) (row : Option (List Value)) → IsSpellableTo nulls key row → Takes (then_take take_byte (take_change_to nulls table)) (spell_change_to key row) (record { table = table; key = key; row = row })
 takes_to nulls table key None good = behind_byte (take_change_to nulls table) 0 (at_last _ (takes_value false key good) (given (record { table = table; key = key; row = None })))
 takes_to nulls table key (Some row) good =
-    subst (λ k. Takes (then_take take_byte (take_change_to nulls table)) (1 ∷ spell_row row) (record { table = table; key = k; row = Some row })) good.1
+    subst (λ k. Takes (then_take take_byte (take_change_to nulls table)) (1 ∷ spell_values row) (record { table = table; key = k; row = Some row })) good.1
     (behind_byte (take_change_to nulls table) 1 (at_last _ (takes_row nulls row good.0) (given (record { table = table; key = key_of row; row = Some row }))))
 
 takes_change : (nulls : Bool) (c : Change) → IsSpellableChange nulls c → Takes (take_change nulls) (spell_change c) c

@@ -3,13 +3,14 @@ use Rattle.salt_values.specs.declared.value.Value.{Value}
 use Rattle.salt_values.specs.declared.value.Value.TheVariants.{Int, Null, Text}
 use Rattle.salt_bytes.specs.Numbers.{spell_16, spell_32, spell_64, take_16, take_32, take_64, take_number}
 use Rattle.salt_bytes.specs.Spellable.{AreBytes}
-use Rattle.salt_bytes.specs.Taking.{Take, give, go_on, only_if, spell_each, take_bytes, take_each, then_take}
-use Rattle.salt_bytes.specs.Values.{is_row_length, spell_row, spell_value, spell_values, take_row, take_value, take_value_of, take_values}
+use Rattle.salt_bytes.specs.Taking.{Take, give, go_on, only_if, take_bytes, take_each, then_take}
+use Rattle.salt_bytes.specs.Values.{is_row_length, spell_value, spell_values, take_row, take_value, take_value_of, take_values}
 use Rattle.salt_values.specs.Text.{is_text}
 use Rattle.std.proofs.Common.{Bool, List, None, Option, Some, [], ap, append_assoc, arith, false, get_or, length, refl, subst, suc, sym, true, zero, ℕ, ◌++◌, ◌<◌, ◌^◌, ◌≡◌, ◌∙◌, ◌∷◌}
 use Rattle.std.proofs.lemmas.Int.{of_z-to_z}
 use Rattle.std.proofs.lemmas.Nat.{be_bytes_2, be_bytes_4, be_bytes_8}
 use Rattle.std.specs.Int.{Width, byte_len, cast_signed, cast_unsigned, from_be_bytes, to_be_bytes, w16, w32, w64}
+use Rattle.std.specs.List.{flat_map}
 
 -- from bytes, no spelling but one is taken
 pub record Only {A : Type 0} (take : Take A) (spell : A → List ℕ) : Type 0 where
@@ -133,23 +134,23 @@ only_value nulls = record { only = by }
     by [] small v rest e = cc
     by (b ∷ bytes) small v rest e = only_value_of nulls b bytes small.1 v rest e
 
-pub only_each : {A : Type 0} (take : Take A) (spell : A → List ℕ) → Only take spell → (n : ℕ) (bytes : List ℕ) → AreBytes bytes → (xs : List A) (rest : List ℕ) → take_each take n bytes ≡ Some (xs, rest) → (bytes ≡ spell_each spell xs ++ rest) × (length xs ≡ n)
+pub only_each : {A : Type 0} (take : Take A) (spell : A → List ℕ) → Only take spell → (n : ℕ) (bytes : List ℕ) → AreBytes bytes → (xs : List A) (rest : List ℕ) → take_each take n bytes ≡ Some (xs, rest) → (bytes ≡ flat_map spell xs ++ rest) × (length xs ≡ n)
 only_each take spell one zero bytes small xs rest e = by (pair_only [] xs bytes rest e)
   where
-    by : ([] ≡ xs) × (bytes ≡ rest) → (bytes ≡ spell_each spell xs ++ rest) × (length xs ≡ zero)
-    by (x, r) = (r ∙ ap (λ ys. spell_each spell ys ++ rest) x, sym (ap length x))
+    by : ([] ≡ xs) × (bytes ≡ rest) → (bytes ≡ flat_map spell xs ++ rest) × (length xs ≡ zero)
+    by (x, r) = (r ∙ ap (λ ys. flat_map spell ys ++ rest) x, sym (ap length x))
 only_each {A = A} take spell one (suc n) bytes small xs rest e =
     by (took (λ x. then_take (take_each take n) (λ xs. give (x ∷ xs))) (take bytes) (xs, rest) e) (λ b s ys r f. only_each take spell one n b s ys r f)
   where
     by : Took (λ x. then_take (take_each take n) (λ xs. give (x ∷ xs))) (take bytes) (xs, rest)
-        → ((b : List ℕ) → AreBytes b → (ys : List A) (r : List ℕ) → take_each take n b ≡ Some (ys, r) → (b ≡ spell_each spell ys ++ r) × (length ys ≡ n))
-        → (bytes ≡ spell_each spell xs ++ rest) × (length xs ≡ suc n)
+        → ((b : List ℕ) → AreBytes b → (ys : List A) (r : List ℕ) → take_each take n b ≡ Some (ys, r) → (b ≡ flat_map spell ys ++ r) × (length ys ≡ n))
+        → (bytes ≡ flat_map spell xs ++ rest) × (length xs ≡ suc n)
     by t h =
         let u = took (λ ys. give (t.x ∷ ys)) (take_each take n t.rest) (xs, rest) t.goes in
         let g = given_only (t.x ∷ u.x) xs u.rest rest u.goes in
         let first = one.only bytes small t.x t.rest t.was in
         let i = h t.rest (rest_of one bytes small t.x t.rest t.was) u.x u.rest u.was in (
-          first ∙ ap (λ (l : List ℕ). spell t.x ++ l) (i.0 ∙ ap (λ (l : List ℕ). spell_each spell u.x ++ l) g.1) ∙ sym (append_assoc (spell t.x) (spell_each spell u.x) rest) ∙ ap (λ ys. spell_each spell ys ++ rest) g.0,
+          first ∙ ap (λ (l : List ℕ). spell t.x ++ l) (i.0 ∙ ap (λ (l : List ℕ). flat_map spell u.x ++ l) g.1) ∙ sym (append_assoc (spell t.x) (flat_map spell u.x) rest) ∙ ap (λ ys. flat_map spell ys ++ rest) g.0,
           sym (ap length g.0) ∙ ap suc i.1,
         )
 
@@ -162,10 +163,10 @@ only_values nulls = record { only = by }
         let i = only_each (take_value nulls) spell_value (only_value nulls) n bytes small.1 vs rest e in
         ap (λ (k : ℕ). k ∷ bytes) (sym i.1) ∙ ap (λ (l : List ℕ). length vs ∷ l) i.0
 
-pub only_row : (nulls : Bool) → Only (take_row nulls) spell_row
+pub only_row : (nulls : Bool) → Only (take_row nulls) spell_values
 only_row nulls = record { only = by }
   where
-    by : (bytes : List ℕ) → AreBytes bytes → (vs : List Value) (rest : List ℕ) → take_row nulls bytes ≡ Some (vs, rest) → bytes ≡ spell_row vs ++ rest
+    by : (bytes : List ℕ) → AreBytes bytes → (vs : List Value) (rest : List ℕ) → take_row nulls bytes ≡ Some (vs, rest) → bytes ≡ spell_values vs ++ rest
     by [] small vs rest e = cc
     by (n ∷ bytes) small vs rest e =
         let t = if_only (is_row_length n) (take_each (take_value nulls) n) bytes (vs, rest) e in

@@ -10,7 +10,7 @@ use Rattle.salt_bytes.specs.Conts.{spell_cont, spell_move, spell_tries, take_con
 use Rattle.salt_bytes.specs.Formats.{has_nulls, has_tries}
 use Rattle.salt_bytes.specs.Spellable.{IsSpellableCont, IsSpellableMove, IsSpellableRow, IsSpellableTries, IsSpellableValue, AreSpellableValues}
 use Rattle.salt_bytes.specs.Taking.{give, only_if, take_byte, take_bytes, take_each, then_take}
-use Rattle.salt_bytes.specs.Values.{is_row_length, spell_row, spell_value, spell_values, take_row, take_value, take_value_of, take_values}
+use Rattle.salt_bytes.specs.Values.{is_row_length, spell_value, spell_values, take_row, take_value, take_value_of, take_values}
 use Rattle.salt_values.specs.Text.{is_text}
 use Rattle.std.proofs.Common.{Bool, List, [], false, length, refl, subst, true, ℕ, ◌∷◌, sym}
 use Rattle.std.proofs.Math.Facts.{Fits-of_z}
@@ -27,7 +27,7 @@ takes_value nulls Null good = behind_byte (take_value_of nulls) 0 (checked good 
 pub takes_values : (nulls : Bool) (vs : List Value) → AreSpellableValues nulls vs → Takes (take_values nulls) (spell_values vs) vs
 takes_values nulls vs good = behind_byte (take_each (take_value nulls)) (length vs) (takes_each (IsSpellableValue nulls) (take_value nulls) spell_value (takes_value nulls) vs good)
 
-pub takes_row : (nulls : Bool) (row : List Value) → IsSpellableRow nulls row → Takes (take_row nulls) (spell_row row) row
+pub takes_row : (nulls : Bool) (row : List Value) → IsSpellableRow nulls row → Takes (take_row nulls) (spell_values row) row
 takes_row nulls row good = behind_byte (λ n. only_if (is_row_length n) (take_each (take_value nulls) n)) (length row) (checked good.0 (takes_each (IsSpellableValue nulls) (take_value nulls) spell_value (takes_value nulls) row good.1))
 
 takes_tries : (told : Bool) (tries : ℕ) → IsSpellableTries told tries → Takes (take_tries told) (spell_tries told tries) tries

@@ -1,10 +1,10 @@
 -- What a unit changes, in order of table and key.
-use Rattle.salt_values.specs.Value.{value_cmp}
+use Rattle.salt_values.specs.Value.{value_cmp, key_of}
 use Rattle.salt_values.specs.declared.value.Value.{Value}
 use Rattle.salt_values.specs.declared.change.Change.{Change}
 use Rattle.salt_bytes.specs.Numbers.{spell_16, take_16}
 use Rattle.salt_bytes.specs.Taking.{Take, give, take_byte, then_take}
-use Rattle.salt_bytes.specs.Values.{key_of, spell_row, spell_value, take_row, take_value}
+use Rattle.salt_bytes.specs.Values.{spell_value, take_row, take_value, spell_values}
 use Rattle.std.specs.Ordering.{is_lt, nat_cmp, on, then_cmp}
 use Rattle.std.specs.Prelude.{Bool, List, None, Option, Some, [], false, suc, true, zero, ℕ, ◌&&◌, ◌++◌, ◌∷◌}
 use Rattle.std.specs.declared.cmp.Ordering.{Ordering}
@@ -15,7 +15,7 @@ change_cmp = then_cmp (on (λ c. c.table) nat_cmp) (on (λ c. c.key) value_cmp)
 
 abbrev pub spell_change_to : Value → Option (List Value) → List ℕ
 spell_change_to key None = 0 ∷ spell_value key
-spell_change_to key (Some row) = 1 ∷ spell_row row
+spell_change_to key (Some row) = 1 ∷ spell_values row
 
 abbrev pub spell_change : Change → List ℕ
 spell_change c = spell_16 c.table ++ spell_change_to c.key c.row

@@ -31,7 +31,7 @@ spell_kind Bands = 1 ∷ []
 abbrev pub kind_of : ℕ → Take PlaceKind
 kind_of zero = give Remainder
 kind_of (suc zero) = give Bands
-kind_of (suc (suc n)) = λ bytes. None
+kind_of n = λ bytes. None
 
 abbrev pub take_kind : Take PlaceKind
 take_kind = then_take take_byte kind_of
@@ -105,11 +105,10 @@ take_decision parts =
     give (record { number = number; unit = unit; mask = mask; move = move }))))))
 
 abbrev pub take_entry_of : ℕ → ℕ → Take CoordinatorEntry
-take_entry_of parts zero = λ bytes. None
 take_entry_of parts (suc zero) = then_take take_64 (λ boot. give (Boots boot))
 take_entry_of parts (suc (suc zero)) = then_take take_numbered (λ d. give (Defines d))
 take_entry_of parts (suc (suc (suc zero))) = then_take (take_decision parts) (λ d. give (Decides d))
-take_entry_of parts (suc (suc (suc (suc n)))) = λ bytes. None
+take_entry_of parts n = λ bytes. None
 
 abbrev pub take_entry : ℕ → Take CoordinatorEntry
 take_entry parts = then_take take_byte (take_entry_of parts)

@@ -6,7 +6,7 @@ use Rattle.salt_bytes.specs.Generations.{Blank, IsRead, Outside}
 use Rattle.salt_bytes.specs.Log.{entries_in, entries_up_to, split_payload}
 use Rattle.salt_bytes.specs.Page.{if_zeros, page_place, take_rows}
 use Rattle.salt_bytes.specs.Partition.{partition_header_in, prepared_in}
-use Rattle.salt_bytes.specs.Values.{spell_row, take_row}
+use Rattle.salt_bytes.specs.Values.{take_row, spell_values}
 use Rattle.salt_bytes.specs.declared.moves.Move.TheVariants.{Continue, Finish, Plain}
 use Rattle.salt_values.specs.declared.cont.Cont.{Cont}
 use Rattle.salt_place.specs.declared.placement.PlaceKind.TheVariants.{Bands}
@@ -19,7 +19,7 @@ use Rattle.std.specs.Prelude.{List, None, Some, [], codes, false, negsuc, pos, r
 abbrev row_bytes : List ℕ
 row_bytes = 2 ∷ 1 ∷ replicate 7 0 ++ 1 ∷ 2 ∷ 2 ∷ 97 ∷ 98 ∷ []
 
-row_spelled : spell_row (Int (pos 1) ∷ Text (codes "ab") ∷ []) ≡ row_bytes
+row_spelled : spell_values (Int (pos 1) ∷ Text (codes "ab") ∷ []) ≡ row_bytes
 row_spelled = refl
 
 row_taken : take_row true (row_bytes ++ 7 ∷ []) ≡ Some (Int (pos 1) ∷ Text (codes "ab") ∷ [], 7 ∷ [])
@@ -28,7 +28,7 @@ row_taken = refl
 row_cut : take_row true (2 ∷ 1 ∷ replicate 7 0 ++ 1 ∷ 2 ∷ 2 ∷ 97 ∷ []) ≡ None
 row_cut = refl
 
-negative : spell_row (Int (negsuc 0) ∷ []) ≡ 1 ∷ 1 ∷ replicate 8 255
+negative : spell_values (Int (negsuc 0) ∷ []) ≡ 1 ∷ 1 ∷ replicate 8 255
 negative = refl
 
 null_taken : take_row true (1 ∷ 0 ∷ []) ≡ Some (Null ∷ [], [])

@@ -45,8 +45,7 @@ later_of generation a b = chosen (follows (generation a) (generation b)) (follow
 
 abbrev pub pair_of : {L : Type 0} → (L → ℕ) → Content L → Content L → Pair L
 pair_of generation Outside b = Faulty LogA
-pair_of generation Blank Outside = Faulty LogB
-pair_of generation (IsRead a) Outside = Faulty LogB
+pair_of generation a Outside = Faulty LogB
 pair_of generation Blank Blank = BothBlank
 pair_of generation Blank (IsRead b) = Counts LogB b
 pair_of generation (IsRead a) Blank = Counts LogA a

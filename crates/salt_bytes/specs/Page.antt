@@ -1,10 +1,11 @@
 -- A page: its rows, each behind its table's number, and then zeros.
 use Rattle.salt_values.specs.declared.value.Value.{Value}
 use Rattle.salt_bytes.specs.Numbers.{spell_16, take_16}
-use Rattle.salt_bytes.specs.Taking.{Take, give, spell_each, take_bytes, take_each, then_take}
-use Rattle.salt_bytes.specs.Values.{spell_row, take_row}
-use Rattle.std.specs.List.{list_all}
-use Rattle.std.specs.Prelude.{Bool, List, None, Option, Some, length, false, replicate, true, ℕ, ◌++◌, ◌+◌, ◌*◌, ◌-◌, ◌==◌}
+use Rattle.salt_bytes.specs.Taking.{Take, give, take_bytes, take_each, then_take}
+use Rattle.salt_bytes.specs.Values.{take_row, spell_values}
+use Rattle.std.specs.List.{list_all, flat_map}
+use Rattle.std.specs.Prelude.{Bool, List, None, Option, Some, length, option_map, replicate, ℕ, ◌++◌, ◌+◌, ◌*◌, ◌-◌, ◌==◌}
+use Rattle.std.specs.Bool.{then_some}
 
 abbrev pub page_length : ℕ
 page_length = 8192
@@ -15,13 +16,13 @@ pub record TableRow : Type 0 where
   pub row : List Value
 
 abbrev pub spell_table_row : TableRow → List ℕ
-spell_table_row r = spell_16 r.table ++ spell_row r.row
+spell_table_row r = spell_16 r.table ++ spell_values r.row
 
 abbrev pub take_table_row : Bool → Take TableRow
 take_table_row nulls = then_take take_16 (λ table. then_take (take_row nulls) (λ row. give (record { table = table; row = row })))
 
 abbrev pub page_front : List TableRow → List ℕ
-page_front rows = spell_16 (length rows) ++ spell_each spell_table_row rows
+page_front rows = spell_16 (length rows) ++ flat_map spell_table_row rows
 
 -- the rows take at most a page's length
 abbrev pub spell_page : List TableRow → List ℕ
@@ -33,25 +34,17 @@ take_rows nulls = then_take take_16 (take_each (take_table_row nulls))
 abbrev pub is_zero : ℕ → Bool
 is_zero b = b == 0
 
-abbrev pub if_all_zeros : {A : Type 0} → Bool → A → Option A
-if_all_zeros true x = Some x
-if_all_zeros false x = None
-
 -- nothing but zeros is left
 abbrev pub if_zeros : {A : Type 0} → Option (A × List ℕ) → Option A
 if_zeros None = None
-if_zeros (Some taken) = if_all_zeros (list_all is_zero taken.1) taken.0
+if_zeros (Some taken) = then_some (list_all is_zero taken.1) taken.0
 
 abbrev pub rows_in_page : Bool → List ℕ → Option (List TableRow)
 rows_in_page nulls bytes = if_zeros (take_rows nulls bytes)
 
-abbrev pub give_rows : List ℕ → Option (List TableRow) → Option (List TableRow × List ℕ)
-give_rows rest None = None
-give_rows rest (Some rows) = Some (rows, rest)
-
 -- the rows of a page that stands at the front of these bytes
 abbrev pub take_page : Bool → Take (List TableRow)
-take_page nulls = then_take (take_bytes page_length) (λ bytes rest. give_rows rest (rows_in_page nulls bytes))
+take_page nulls = then_take (take_bytes page_length) (λ bytes rest. option_map (λ rows. (rows, rest)) (rows_in_page nulls bytes))
 
 -- what `side` of page number `page` of a pages device spells
 abbrev pub page_place : ℕ → ℕ → ℕ

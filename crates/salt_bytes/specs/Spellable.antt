@@ -10,12 +10,13 @@ use Rattle.salt_bytes.specs.Coordinator.{Boots, CoordinatorEntry, CoordinatorHea
 use Rattle.salt_bytes.specs.Formats.{has_nulls, has_tries, is_coordinator_format, is_partition_format}
 use Rattle.salt_bytes.specs.Page.{TableRow, page_front, page_length}
 use Rattle.salt_bytes.specs.Partition.{PartitionHeader, Prepared, is_side}
-use Rattle.salt_bytes.specs.Values.{is_row_length, key_of}
+use Rattle.salt_bytes.specs.Values.{is_row_length}
 use Rattle.salt_values.specs.Text.{is_text}
 use Rattle.salt_values.specs.declared.id.Id.{Id}
 use Rattle.std.specs.Int.{w64}
 use Rattle.std.specs.List.{list_all}
 use Rattle.std.specs.Prelude.{Bool, FitsSigned, List, None, Option, Some, [], false, length, nat_le, nat_lt, true, ℕ, ⊤, ◌^◌, ◌∷◌, ◌≡◌, ◌<◌, ◌≤◌}
+use Rattle.salt_values.specs.Value.{key_of}
 
 -- a fact of each element
 abbrev pub Every : {A : Type 0} → (A → Type 0) → List A → Type 0

@@ -1,11 +1,12 @@
 -- Values and rows, as they are spelled.
 use Rattle.salt_bytes.specs.Numbers.{spell_64, take_64}
-use Rattle.salt_bytes.specs.Taking.{Take, give, only_if, spell_each, take_byte, take_bytes, take_each, then_take}
+use Rattle.salt_bytes.specs.Taking.{Take, give, only_if, take_byte, take_bytes, take_each, then_take}
 use Rattle.salt_values.specs.Text.{is_text}
 use Rattle.salt_values.specs.declared.value.Value.TheVariants.{Int, Null, Text}
 use Rattle.salt_values.specs.declared.value.Value.{Value}
 use Rattle.std.specs.Int.{cast_signed, cast_unsigned, w64}
-use Rattle.std.specs.Prelude.{Bool, List, None, [], length, nat_le, pos, suc, zero, ℕ, ◌&&◌, ◌∷◌}
+use Rattle.std.specs.Prelude.{Bool, List, None, [], length, nat_le, suc, zero, ℕ, ◌&&◌, ◌∷◌}
+use Rattle.std.specs.List.{flat_map}
 
 -- byte 0 is Null; byte 1 and eight bytes are a number; byte 2, a length and the bytes are a text
 abbrev pub spell_value : Value → List ℕ
@@ -25,7 +26,7 @@ take_value nulls = then_take take_byte (take_value_of nulls)
 
 -- a number of values and the values, where there may be none
 abbrev pub spell_values : List Value → List ℕ
-spell_values vs = length vs ∷ spell_each spell_value vs
+spell_values vs = length vs ∷ flat_map spell_value vs
 
 abbrev pub take_values : Bool → Take (List Value)
 take_values nulls = then_take take_byte (take_each (take_value nulls))
@@ -34,13 +35,5 @@ take_values nulls = then_take take_byte (take_each (take_value nulls))
 abbrev pub is_row_length : ℕ → Bool
 is_row_length n = nat_le 1 n && nat_le n 16
 
-abbrev pub spell_row : List Value → List ℕ
-spell_row row = spell_values row
-
 abbrev pub take_row : Bool → Take (List Value)
 take_row nulls = then_take take_byte (λ n. only_if (is_row_length n) (take_each (take_value nulls) n))
-
--- the row's key is its first value; a row has one
-abbrev pub key_of : List Value → Value
-key_of [] = Int (pos 0)
-key_of (key ∷ values) = key

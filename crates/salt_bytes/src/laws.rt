@@ -8,21 +8,21 @@ ghost use Rattle.salt_bytes.specs.Coordinator.{CoordinatorEntry, CoordinatorHead
 ghost use Rattle.salt_bytes.specs.Page.{TableRow, page_length, rows_in_page, spell_page};
 ghost use Rattle.salt_bytes.specs.Partition.{PartitionHeader, Prepared, partition_header_in, prepared_in, spell_partition_header, spell_prepared};
 ghost use Rattle.salt_bytes.specs.Spellable.{AreBytes, IsSpellableEntry, IsSpellableHeader, IsSpellableMove, IsSpellablePage, IsSpellablePartitionHeader, IsSpellablePrepared, IsSpellableRow};
-ghost use Rattle.salt_bytes.specs.Values.{spell_row, take_row};
+ghost use Rattle.salt_bytes.specs.Values.{take_row, spell_values};
 
 /// A row that was spelled is taken, and what stood behind it is left.
 pub fn rows_are_taken()
-    ensures { (nulls : Bool) (row : List Value) (rest : List ℕ) → IsSpellableRow nulls row → take_row nulls (spell_row row ++ rest) ≡ Some (row, rest) }
+    ensures { (nulls : Bool) (row : List Value) (rest : List ℕ) → IsSpellableRow nulls row → take_row nulls (spell_values row ++ rest) ≡ Some (row, rest) }
 {}
 
 /// What is taken as a row was spelled so.
 pub fn rows_have_one_spelling()
-    ensures { (nulls : Bool) (bytes : List ℕ) (row : List Value) (rest : List ℕ) → AreBytes bytes → take_row nulls bytes ≡ Some (row, rest) → bytes ≡ spell_row row ++ rest }
+    ensures { (nulls : Bool) (bytes : List ℕ) (row : List Value) (rest : List ℕ) → AreBytes bytes → take_row nulls bytes ≡ Some (row, rest) → bytes ≡ spell_values row ++ rest }
 {}
 
 /// No spelling of a row is the beginning of another one's.
 pub fn no_row_begins_another()
-    ensures { (nulls : Bool) (a b : List Value) (r s : List ℕ) → IsSpellableRow nulls a → IsSpellableRow nulls b → spell_row a ++ r ≡ spell_row b ++ s → (a ≡ b) × (r ≡ s) }
+    ensures { (nulls : Bool) (a b : List Value) (r s : List ℕ) → IsSpellableRow nulls a → IsSpellableRow nulls b → spell_values a ++ r ≡ spell_values b ++ s → (a ≡ b) × (r ≡ s) }
 {}
 
 /// A move that was spelled is read.

@@ -6,7 +6,7 @@ use Rattle.salt_ast.specs.declared.programs.ProgramDef.{ProgramDef}
 use Rattle.salt_cont.specs.Continued.{StandsAt, after_move}
 use Rattle.salt_cont.specs.Moves.{move_on, move_to, parts_if_defined, parts_named}
 use Rattle.law_story.proofs.Ids.{is_same_id-true}
-use Rattle.salt_model.specs.Kept.{Kept, branch_of, change_cont, cont_in, cont_of, conts_branched, conts_committed, kept_program, moved, parts_of, programs_of, then_of, tries_left, values_kept, without_cont}
+use Rattle.salt_model.specs.Kept.{Kept, change_cont, cont_in, cont_of, conts_branched, conts_committed, kept_program, moved, parts_of, programs_of, tries_left, values_kept, without_cont}
 use Rattle.salt_model.specs.declared.events.UnitKind.TheVariants.{Later}
 use Rattle.salt_model.specs.declared.vars.Binding.{Binding}
 use Rattle.salt_program.specs.Refusals.{parts_in}
@@ -63,14 +63,14 @@ stays-to b cs c h (Some at) = change-one b (λ d. record d { next = at.part; tri
 pub commits : (k : Kept) (n : ℕ) (b : Id) (c : Cont) (p : ProgramDef) (vars : List Binding) → StandsAt k b c p →
     conts_committed k n (Later b c.next) vars ≡ after_move b (move_on (programs_of k) c (values_kept p vars) false) k.conts
 commits k n b c p vars s =
-    ap (λ o. elim o [ None ↦ k.conts | Some q ↦ moved b (then_of q c.next) (λ d. record d { vars = values_kept q vars }) k.conts ]) (its-program k b c p s)
-    ∙ (moves-to b k.conts c (values_kept p vars) s.kept (then_of p c.next)
+    ap (λ o. elim o [ None ↦ k.conts | Some q ↦ moved b (next_on_commit (parts_of q) c.next) (λ d. record d { vars = values_kept q vars }) k.conts ]) (its-program k b c p s)
+    ∙ (moves-to b k.conts c (values_kept p vars) s.kept (next_on_commit (parts_of p) c.next)
     ∙ ap (λ parts. after_move b (move_to c (values_kept p vars) (next_on_commit parts c.next)) k.conts) (sym (its-parts k b c p s)))
 
 pub branches : (k : Kept) (b : Id) (c : Cont) (p : ProgramDef) (vars : List Value) → StandsAt k b c p →
     conts_branched k (Later b c.next) ≡ after_move b (move_on (programs_of k) c vars true) k.conts
 branches k b c p vars s =
-    ap (λ o. elim o [ None ↦ k.conts | Some q ↦ moved b (branch_of q c.next (tries_left b k)) (λ d. d) k.conts ]) (its-program k b c p s)
-    ∙ (ap (λ o. moved b (branch_of p c.next (elim o [ None ↦ 0 | Some d ↦ d.tries ])) (λ d. d) k.conts) s.kept
-    ∙ (stays-to b k.conts c s.kept (branch_of p c.next c.tries)
+    ap (λ o. elim o [ None ↦ k.conts | Some q ↦ moved b (next_on_failure (parts_of q) c.next (tries_left b k)) (λ d. d) k.conts ]) (its-program k b c p s)
+    ∙ (ap (λ o. moved b (next_on_failure (parts_of p) c.next (elim o [ None ↦ 0 | Some d ↦ d.tries ])) (λ d. d) k.conts) s.kept
+    ∙ (stays-to b k.conts c s.kept (next_on_failure (parts_of p) c.next c.tries)
     ∙ ap (λ parts. after_move b (move_to c c.vars (next_on_failure parts c.next c.tries)) k.conts) (sym (its-parts k b c p s))))

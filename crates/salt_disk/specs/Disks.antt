@@ -1,5 +1,5 @@
 -- What contracts see of the devices, what each call does to it, and what a stop may leave.
-use Rattle.std.specs.Prelude.{◌≡◌, ℕ, ◌+◌, ◌-◌, ◌^◌, ◌<◌, ◌≤◌, min, max, Bool, IsTrue, List, ◌++◌, length, take, drop, Option, Some, None}
+use Rattle.std.specs.Prelude.{◌≡◌, ℕ, ◌+◌, ◌-◌, ◌^◌, ◌<◌, ◌≤◌, min, max, Bool, IsTrue, List, ◌++◌, length, take, drop, Option, Some}
 use Rattle.salt_disk.specs.declared.disks.DiskErr.{DiskErr}
 use Rattle.salt_disk.specs.declared.disks.DiskErr.TheVariants.{Failed, Stopped, Full, Memory}
 
@@ -54,17 +54,13 @@ pub record AreUnchanged (old new : View) : Type 0 where
 abbrev pub UnlessDown : Option DiskErr → Type 0 → Type 0
 UnlessDown (Some Failed) P = Unit {0}
 UnlessDown (Some Stopped) P = Unit {0}
-UnlessDown (Some (Full dev)) P = P
-UnlessDown (Some Memory) P = P
-UnlessDown None P = P
+UnlessDown answer P = P
 
 -- The fact holds where the call has done nothing: it met a limit, or found no memory.
 abbrev pub IfNothingDone : Option DiskErr → Type 0 → Type 0
-IfNothingDone (Some Failed) P = Unit {0}
-IfNothingDone (Some Stopped) P = Unit {0}
 IfNothingDone (Some (Full dev)) P = P
 IfNothingDone (Some Memory) P = P
-IfNothingDone None P = Unit {0}
+IfNothingDone answer P = Unit {0}
 
 -- A call leaves each device but these as it was; after a fault or a stop their images are some of those from before.
 pub record KeepsBut (touched : ℕ → Type 0) (old new : View) (answer : Option DiskErr) : Type 0 where
@@ -86,10 +82,7 @@ Rose before now = min (before + 1) (2 ^ 64 - 1) ≤ now
 -- how many stops an answer uses up
 abbrev pub stops_in : Option DiskErr → ℕ
 stops_in (Some Stopped) = 1
-stops_in (Some Failed) = 0
-stops_in (Some (Full dev)) = 0
-stops_in (Some Memory) = 0
-stops_in None = 0
+stops_in answer = 0
 
 -- Stops come in the order in which they were armed: these are left where so many have come.
 pub record HaveCome (came : ℕ) (old new : List (ℕ × ℕ)) : Type 0 where
@@ -105,33 +98,23 @@ pub record HasCause (old new : View) (answer : Option DiskErr) : Type 0 where
 
 -- `Full` comes exactly where the end of the write passes the limit, unless memory runs out.
 abbrev pub FullExactly : ℕ → ℕ → ℕ → Option DiskErr → Type 0
-FullExactly dev limit end None = end ≤ limit
-FullExactly dev limit end (Some Failed) = end ≤ limit
-FullExactly dev limit end (Some Stopped) = end ≤ limit
 FullExactly dev limit end (Some (Full n)) = (n ≡ dev) × (limit < end)
 FullExactly dev limit end (Some Memory) = Unit {0}
+FullExactly dev limit end answer = end ≤ limit
 
 -- `Full` comes only where the write would pass the limit.
 abbrev pub FullOnly : ℕ → ℕ → ℕ → Option DiskErr → Type 0
-FullOnly dev limit end None = Unit {0}
-FullOnly dev limit end (Some Failed) = Unit {0}
-FullOnly dev limit end (Some Stopped) = Unit {0}
 FullOnly dev limit end (Some (Full n)) = (n ≡ dev) × (limit < end)
-FullOnly dev limit end (Some Memory) = Unit {0}
+FullOnly dev limit end answer = Unit {0}
 
 abbrev pub NeverFull : Option DiskErr → Type 0
 NeverFull (Some (Full n)) = ⊥
-NeverFull (Some Failed) = Unit {0}
-NeverFull (Some Stopped) = Unit {0}
-NeverFull (Some Memory) = Unit {0}
-NeverFull None = Unit {0}
+NeverFull answer = Unit {0}
 
 abbrev pub OnlyFails : Option DiskErr → Type 0
 OnlyFails (Some (Full n)) = ⊥
-OnlyFails (Some Failed) = Unit {0}
 OnlyFails (Some Stopped) = ⊥
-OnlyFails (Some Memory) = Unit {0}
-OnlyFails None = Unit {0}
+OnlyFails answer = Unit {0}
 
 -- Old bytes with these in the place of what stood there.
 abbrev pub written : List ℕ → ℕ → List ℕ → List ℕ

@@ -4,7 +4,7 @@ use Rattle.salt_disk.specs.declared.disks.DiskErr.TheVariants as disk
 use Rattle.law_states.proofs.PointsGoOn.{no-more, runs-point, start-on}
 use Rattle.law_states.specs.Laws.{is_of_run}
 use Rattle.law_states.specs.Nexts.{next_turn_of}
-use Rattle.law_states.specs.Points.{Ask, Move, Moves, Point, Runs, Say, Turn, told_by, trace_on}
+use Rattle.law_states.specs.Points.{Ask, TraceStep, Moves, Point, Runs, Say, Turn, told_by, trace_on}
 use Rattle.law_states.specs.States.{State}
 use Rattle.salt_model.specs.Trace.{Asked, Start, Trace, lines_of, start_of, ◌asks◌, ◌says◌, ◌turns◌}
 use Rattle.salt_model.specs.Words.{Every}
@@ -24,36 +24,36 @@ pub append-both : (es fs gs : List Event) → (es ++ fs) ++ gs ≡ es ++ (fs ++ 
 append-both [] fs gs = refl
 append-both (e ∷ es) fs gs = ap (λ l. e ∷ l) (append-both es fs gs)
 
-pub runs-both : (ms ns : List Move) (p q r : Point) → Runs p ms q → Runs q ns r → Runs p (ms ++ ns) r
+pub runs-both : (ms ns : List TraceStep) (p q r : Point) → Runs p ms q → Runs q ns r → Runs p (ms ++ ns) r
 runs-both [] ns p q r f g = subst (λ x. Runs x ns r) (sym f) g
 runs-both (m ∷ ms) ns p q r f g = (f.0, f.1, runs-both ms ns f.0 q r f.2 g)
 
-pub told-both : (ms ns : List Move) → told_by (ms ++ ns) ≡ told_by ms ++ told_by ns
+pub told-both : (ms ns : List TraceStep) → told_by (ms ++ ns) ≡ told_by ms ++ told_by ns
 told-both [] ns = refl
 told-both (Say e ∷ ms) ns = ap (λ es. e ∷ es) (told-both ms ns)
 told-both (Ask asked ∷ ms) ns = told-both ms ns
 told-both (Turn b ∷ ms) ns = told-both ms ns
 
-pub inside-both : (ms ns : List Move) → Every IsInside ms → Every IsInside ns → Every IsInside (ms ++ ns)
+pub inside-both : (ms ns : List TraceStep) → Every IsInside ms → Every IsInside ns → Every IsInside (ms ++ ns)
 inside-both [] ns f g = g
 inside-both (m ∷ ms) ns f g = (f.0, inside-both ms ns f.1 g)
 
-pub tells-both : (story told now : List Event) (ms ns : List Move) → told ≡ story ++ told_by ms → now ≡ told ++ told_by ns → now ≡ story ++ told_by (ms ++ ns)
+pub tells-both : (story told now : List Event) (ms ns : List TraceStep) → told ≡ story ++ told_by ms → now ≡ told ++ told_by ns → now ≡ story ++ told_by (ms ++ ns)
 tells-both story told now ms ns t u =
     u ∙ ap (λ es. es ++ told_by ns) t ∙ append-both story (told_by ms) (told_by ns) ∙ ap (λ es. story ++ es) (sym (told-both ms ns))
 
 -- lines are asked by Ask alone
-pub lines-on : (ms : List Move) (trace : Trace) → Every IsInside ms → lines_of (trace_on trace ms) ≡ lines_of trace
+pub lines-on : (ms : List TraceStep) (trace : Trace) → Every IsInside ms → lines_of (trace_on trace ms) ≡ lines_of trace
 lines-on [] trace h = refl
 lines-on (Ask asked ∷ ms) trace h = absurd h.0
 lines-on (Turn b ∷ ms) trace h = lines-on ms (trace turns b) h.1
 lines-on (Say e ∷ ms) trace h = lines-on ms (trace says e) h.1
 
-typed-on : (ms : List Move) (trace : Trace) → IsTyped (start_of trace).kept → IsTyped (start_of (trace_on trace ms)).kept
+typed-on : (ms : List TraceStep) (trace : Trace) → IsTyped (start_of trace).kept → IsTyped (start_of (trace_on trace ms)).kept
 typed-on ms trace h = subst (λ (s : Start). IsTyped s.kept) (sym (start-on ms trace)) h
 
 -- the point that moves lead to is sound
-pub sound-on : (ms : List Move) (p q : Point) → IsSoundPoint p → Every IsInside ms → Runs p ms q → IsSoundPoint q
+pub sound-on : (ms : List TraceStep) (p q : Point) → IsSoundPoint p → Every IsInside ms → Runs p ms q → IsSoundPoint q
 sound-on ms p q s inside r =
     let k = runs-point ms p q s.trace s.keeps s.sound r in
     record {
@@ -64,7 +64,7 @@ sound-on ms p q s inside r =
       keyed = subst (Every HasKey) (sym (lines-on ms s.trace inside)) s.keyed;
     }
 
-pub sound-moved : (m : Move) (p q : Point) → IsInside m → IsSoundPoint p → Moves m p q → IsSoundPoint q
+pub sound-moved : (m : TraceStep) (p q : Point) → IsInside m → IsSoundPoint p → Moves m p q → IsSoundPoint q
 sound-moved m p q i s n = sound-on (m ∷ []) p q s (i, tt) (q, n, refl)
 
 -- behind a line whose table has a key, if it defines one
@@ -99,7 +99,7 @@ module _ {E : Type 0} (sees : E → Option Event → State → Type 0) (line : L
   pub advance-none : (p : Point) (story : List Event) (e : E) (next : Option Event) → IsAt sees line e next p → Advances sees line p story e next story
   advance-none p story e next at = record { moves = []; point = p; runs = refl; inside = tt; stands = at; tells = sym (no-more story) }
 
-  pub advance-once : (m : Move) → IsInside m → (p q : Point) (told now : List Event) (e : E) (next : Option Event) → Moves m p q → IsAt sees line e next q →
+  pub advance-once : (m : TraceStep) → IsInside m → (p q : Point) (told now : List Event) (e : E) (next : Option Event) → Moves m p q → IsAt sees line e next q →
       now ≡ told ++ told_by (m ∷ []) → Advances sees line p told e next now
   advance-once m i p q told now e next moves at tells = record { moves = m ∷ []; point = q; runs = (q, moves, refl); inside = (i, tt); stands = at; tells = tells }
 

@@ -1,6 +1,6 @@
 -- An opening is drained from a point on: what is told of it, the steps that are taken, and that there are no more than its programs have left.
 use Rattle.law_states.proofs.PointsGoOn.{no-more}
-use Rattle.law_states.specs.Points.{Move, Moves, Point, Runs, Say, told_by}
+use Rattle.law_states.specs.Points.{TraceStep, Moves, Point, Runs, Say, told_by}
 use Rattle.law_states.specs.States.{State}
 use Rattle.law_states.specs.Steps.{units_after}
 use Rattle.salt_model.specs.Phases.{Opening}
@@ -24,7 +24,7 @@ pub statements-both : (es fs : List Event) → statements_told (es ++ fs) ≡ st
 statements-both [] fs = omega arith
 statements-both (e ∷ es) fs = let rest = statements-both es fs in omega arith
 
-statements-on : (ms : List Move) (e : Event) → statements_told (told_by (ms ++ Say e ∷ [])) ≡ statements_told (told_by ms) + statements_in e
+statements-on : (ms : List TraceStep) (e : Event) → statements_told (told_by (ms ++ Say e ∷ [])) ≡ statements_told (told_by ms) + statements_in e
 statements-on ms e =
     let both = ap statements_told (told-both ms (Say e ∷ [])) in
     let sum = statements-both (told_by ms) (e ∷ []) in
@@ -89,7 +89,7 @@ drains-counted sees p first story e told old new d = record { more = told_by d.o
 module _ {E : Type 0} (sees : E → Option Event → State → Type 0) (p : Point) (sound : IsSoundPoint p) (first : Event) (comes : p.next ≡ Some first) (opening : p.state.units.phase ≡ Opening)
     (story : List Event) (e : E) (event : Event) (told : List Event) (old steps : ℕ) (d : Drains sees p first story e (Some event) told old steps) where
   -- the moves with this one
-  abbrev pub moves-on : List Move
+  abbrev pub moves-on : List TraceStep
   moves-on = d.on.moves ++ Say event ∷ []
 
   runs-on : (q : Point) → Moves (Say event) d.on.point q → Runs p moves-on q

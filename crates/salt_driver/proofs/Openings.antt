@@ -3,7 +3,7 @@ use Rattle.law_states.proofs.PointsGoOn.{idle-complete, no-more, runs-point, sta
 use Rattle.law_states.specs.Laws.{IsSound, is_of_run}
 use Rattle.law_states.specs.Follows.{said_in}
 use Rattle.law_states.specs.OpenUnits.{UnitState}
-use Rattle.law_states.specs.Points.{KeepsPoint, Move, Moves, Point, Runs, Say, moved, told_by, trace_on}
+use Rattle.law_states.specs.Points.{KeepsPoint, TraceStep, Moves, Point, Runs, Say, moved, told_by, trace_on}
 use Rattle.law_states.specs.Readings.{beside_by}
 use Rattle.law_states.specs.States.{State}
 use Rattle.law_states.specs.Steps.{units_after}
@@ -118,10 +118,10 @@ same-halt a b h = cc
 
 module _ (lies : ℕ → Point → Type 0) (flies : Option Flight) (start : Start) (story : List Event) (trace : Trace) (d : IsDown lies flies start story trace) where
   -- the trace with moves of the opening
-  abbrev behind : HasOpened d.room d.point → List Move → Trace
+  abbrev behind : HasOpened d.room d.point → List TraceStep → Trace
   behind h ms = trace_on (trace says Opened h.boot h.number) ms
 
-  behind-fits : (h : HasOpened d.room d.point) (ms : List Move) (q : Point) → Runs h.point ms q → Every IsInside ms → IsFitting start (behind h ms)
+  behind-fits : (h : HasOpened d.room d.point) (ms : List TraceStep) (q : Point) → Runs h.point ms q → Every IsInside ms → IsFitting start (behind h ms)
   behind-fits h ms q runs inside = record {
     well = d.fits.well;
     typed = d.fits.typed;
@@ -129,16 +129,16 @@ module _ (lies : ℕ → Point → Type 0) (flies : Option Flight) (start : Star
     unspent = unspent-on ms h.point q (trace says Opened h.boot h.number) runs (d.fits.unspent, h.unspent);
   }
 
-  behind-keeps : (h : HasOpened d.room d.point) (ms : List Move) (q : Point) → Runs h.point ms q → KeepsPoint q (behind h ms) × IsSound (behind h ms)
+  behind-keeps : (h : HasOpened d.room d.point) (ms : List TraceStep) (q : Point) → Runs h.point ms q → KeepsPoint q (behind h ms) × IsSound (behind h ms)
   behind-keeps h ms q runs =
       let k = opened-keeps lies flies start story trace d h in
       runs-point ms h.point q (trace says Opened h.boot h.number) k.0 k.1 runs
 
-  behind-told : (h : HasOpened d.room d.point) (ms : List Move) (told : List Event) → told ≡ (story ++ Opened h.boot h.number ∷ []) ++ told_by ms → story_of (behind h ms) ≡ told
+  behind-told : (h : HasOpened d.room d.point) (ms : List TraceStep) (told : List Event) → told ≡ (story ++ Opened h.boot h.number ∷ []) ++ told_by ms → story_of (behind h ms) ≡ told
   behind-told h ms told tells =
       story-on ms (trace says Opened h.boot h.number) ∙ ap (λ es. (es ++ Opened h.boot h.number ∷ []) ++ told_by ms) d.tells.told ∙ sym tells
 
-  behind-grows : (h : HasOpened d.room d.point) (ms : List Move) (told : List Event) → told ≡ (story ++ Opened h.boot h.number ∷ []) ++ told_by ms →
+  behind-grows : (h : HasOpened d.room d.point) (ms : List TraceStep) (told : List Event) → told ≡ (story ++ Opened h.boot h.number ∷ []) ++ told_by ms →
       (more : List Event) × (told ≡ story ++ more)
   behind-grows h ms told tells = (Opened h.boot h.number ∷ told_by ms, tells ∙ append-both story (Opened h.boot h.number ∷ []) (told_by ms))
 
@@ -194,7 +194,7 @@ module _ (lies : ℕ → Point → Type 0) (flies : Option Flight) (start : Star
 
   -- or at an event
 
-  breaks-here : (now : ℕ → Point → Type 0) (left : Option Numbers → ℕ → Point → Type 0) (fills : ToWrite → ℕ → Type 0) (flight : Option Flight) (halt : Halt) (h : HasOpened d.room d.point) (ms : List Move) (q : Point) (told : List Event) →
+  breaks-here : (now : ℕ → Point → Type 0) (left : Option Numbers → ℕ → Point → Type 0) (fills : ToWrite → ℕ → Type 0) (flight : Option Flight) (halt : Halt) (h : HasOpened d.room d.point) (ms : List TraceStep) (q : Point) (told : List Event) →
       Runs h.point ms q → Every IsInside ms → told ≡ (story ++ Opened h.boot h.number ∷ []) ++ told_by ms → HaltsAt (now 0) (left None 0) fills flight halt q →
       (halt ≡ Memory) ⊎ EndsWithin (behind h ms) → BreaksOpening now left fills flight (Halted halt) start trace story told
   breaks-here now left fills flight halt h ms q told runs inside tells halts place =
@@ -211,10 +211,10 @@ module _ (lies : ℕ → Point → Type 0) (flies : Option Flight) (start : Star
         stops = inr (record { halt = halt; halted = refl; halts = halts; place = place });
       }
 
-  last-of : (h : HasOpened d.room d.point) (ms : List Move) (e : Event) → behind h (ms ++ Say e ∷ []) ≡ (behind h ms says e)
+  last-of : (h : HasOpened d.room d.point) (ms : List TraceStep) (e : Event) → behind h (ms ++ Say e ∷ []) ≡ (behind h ms says e)
   last-of h ms e = go (trace says Opened h.boot h.number) ms
     where
-      go : (t : Trace) (ms : List Move) → trace_on t (ms ++ Say e ∷ []) ≡ (trace_on t ms says e)
+      go : (t : Trace) (ms : List TraceStep) → trace_on t (ms ++ Say e ∷ []) ≡ (trace_on t ms says e)
       go t [] = refl
       go t (m ∷ ms) = go (moved t m) ms
 

@@ -6,8 +6,8 @@ use Rattle.law_states.proofs.PointsGoOn.{runs-point}
 use Rattle.law_states.specs.Laws.{IsSound, is_of_run}
 use Rattle.law_states.specs.Nexts.{asked_next, next_turn_of}
 use Rattle.law_states.specs.OpenUnits.{UnitState, can_go_in, next_to_go_in}
-use Rattle.law_states.specs.Points.{Ask, KeepsPoint, Move, Moves, Point, Runs, Say, Turn, told_by}
-use Rattle.law_states.specs.Readings.{Reading}
+use Rattle.law_states.specs.Points.{Ask, KeepsPoint, TraceStep, Moves, Point, Runs, Say, Turn, told_by}
+use Rattle.law_states.specs.Readings.{WatchReading}
 use Rattle.law_states.specs.States.{State}
 use Rattle.law_states.specs.Steps.{to_go_by, units_after}
 use Rattle.salt_driver.proofs.Refusing.{refused-asked}
@@ -30,7 +30,7 @@ use Rattle.std.specs.Option.{option_or}
 use Rattle.std.specs.Prelude.{Bool, Err, IfErr, List, None, Ok, OnOk, Option, Result, Some, [], cond, false, is_some, refl, ℕ, ◌&&◌, ◌++◌, ◌∷◌, ◌≡◌, ◌⊎◌}
 
 -- no move within a segment but a line's own is one that a Refused follows
-turned-not : (r : Refusal) (ms : List Move) (p q : Point) (before : Trace) (b : Id) → KeepsPoint p (before turns b) → IsSound (before turns b) → p.state.units.phase ≡ Serving →
+turned-not : (r : Refusal) (ms : List TraceStep) (p q : Point) (before : Trace) (b : Id) → KeepsPoint p (before turns b) → IsSound (before turns b) → p.state.units.phase ≡ Serving →
     Every IsInside ms → Runs p ms q → told_by ms ≡ Refused r ∷ [] → ⊥
 turned-not r [] p q before b keeps sound serves inside runs told = cc
 turned-not r (Ask asked ∷ ms) p q before b keeps sound serves inside runs told = absurd inside.0
@@ -43,7 +43,7 @@ turned-not r (Say e ∷ ms) p q before b keeps sound serves inside runs told =
     let no : before turns b ≡ a.0 asks a.1 = a.2 in cc
 
 -- so it is what comes next at first
-pub told-first : (r : Refusal) (ms : List Move) (p q : Point) → IsSoundPoint p → p.state.units.phase ≡ Serving → Every IsInside ms → Runs p ms q → told_by ms ≡ Refused r ∷ [] →
+pub told-first : (r : Refusal) (ms : List TraceStep) (p q : Point) → IsSoundPoint p → p.state.units.phase ≡ Serving → Every IsInside ms → Runs p ms q → told_by ms ≡ Refused r ∷ [] →
     p.next ≡ Some (Refused r)
 told-first r [] p q sound serves inside runs told = cc
 told-first r (Ask asked ∷ ms) p q sound serves inside runs told = absurd inside.0
@@ -53,7 +53,7 @@ told-first r (Turn b ∷ ms) p q sound serves inside runs told =
 told-first r (Say e ∷ ms) p q sound serves inside runs told = let first : e ≡ Refused r = cc in runs.1.0.comes ∙ ap (λ (f : Event). Some f) first
 
 -- `go all` itself is not refused
-all-asked : (s : State) (x : Reading s.watch) → asked_next s x (Tree GoAll) ≡ None
+all-asked : (s : State) (x : WatchReading s.watch) → asked_next s x (Tree GoAll) ≡ None
 unfolding line_fault
 all-asked s x = refl
 
@@ -77,7 +77,7 @@ to-go-stays (Opened boot n) s h = cc
 to-go-stays Ready s h = refl
 to-go-stays e s h = refl
 
-none-to-go : (ms : List Move) (p q : Point) → Every IsInside ms → Runs p ms q → p.state.units.to_go ≡ [] → q.state.units.to_go ≡ []
+none-to-go : (ms : List TraceStep) (p q : Point) → Every IsInside ms → Runs p ms q → p.state.units.to_go ≡ [] → q.state.units.to_go ≡ []
 none-to-go [] p q inside runs none = sym (ap (λ (x : Point). x.state.units.to_go) runs) ∙ none
 none-to-go (Ask asked ∷ ms) p q inside runs none = absurd inside.0
 none-to-go (Turn b ∷ ms) p q inside runs none = none-to-go ms runs.0 q inside.1 runs.2 (ap (λ (s : State). s.units.to_go) runs.1.state ∙ ap (ids_after b) none)
@@ -90,7 +90,7 @@ owes-no-more (Down why) s h = refl
 owes-no-more (Refused r) s h = refl
 owes-no-more e s h = h
 
-none-owed : (ms : List Move) (p q : Point) → Every IsInside ms → Runs p ms q → p.state.units.owes ≡ false → q.state.units.owes ≡ false
+none-owed : (ms : List TraceStep) (p q : Point) → Every IsInside ms → Runs p ms q → p.state.units.owes ≡ false → q.state.units.owes ≡ false
 none-owed [] p q inside runs none = sym (ap (λ (x : Point). x.state.units.owes) runs) ∙ none
 none-owed (Ask asked ∷ ms) p q inside runs none = absurd inside.0
 none-owed (Turn b ∷ ms) p q inside runs none =
@@ -100,7 +100,7 @@ none-owed (Say e ∷ ms) p q inside runs none =
     none-owed ms runs.0 q inside.1 runs.2 (ap (λ (u : UnitState). u.owes) runs.1.0.after.units ∙ owes-no-more e p.state.units none)
 
 -- and behind a Refused none is
-refused-owes : (r : Refusal) (ms : List Move) (p q : Point) → Every IsInside ms → Runs p ms q → p.next ≡ Some (Refused r) → q.next ≡ None → q.state.units.owes ≡ false
+refused-owes : (r : Refusal) (ms : List TraceStep) (p q : Point) → Every IsInside ms → Runs p ms q → p.next ≡ Some (Refused r) → q.next ≡ None → q.state.units.owes ≡ false
 refused-owes r [] p q inside runs comes rests = let no : Some (Refused r) ≡ None = sym comes ∙ ap (λ (x : Point). x.next) runs ∙ rests in cc
 refused-owes r (Ask asked ∷ ms) p q inside runs comes rests = absurd inside.0
 refused-owes r (Turn b ∷ ms) p q inside runs comes rests = let no : Some (Refused r) ≡ None = sym comes ∙ runs.1.none in cc
@@ -111,7 +111,7 @@ refused-owes r (Say e ∷ ms) p q inside runs comes rests =
     (ap (λ (u : UnitState). u.owes) runs.1.0.after.units ∙ ap (λ (f : Event). (units_after f p.state.units).owes) same)
 
 -- so within the segment none comes
-no-turn : (r : Refusal) (ms : List Move) (p q : Point) → Every IsInside ms → Runs p ms q → p.state.units.to_go ≡ [] → p.next ≡ Some (Refused r) → q.next ≡ None →
+no-turn : (r : Refusal) (ms : List TraceStep) (p q : Point) → Every IsInside ms → Runs p ms q → p.state.units.to_go ≡ [] → p.next ≡ Some (Refused r) → q.next ≡ None →
     next_turn_of q.state ≡ None
 no-turn r ms p q inside runs none comes rests =
     let s = q.state.units in
@@ -119,7 +119,7 @@ no-turn r ms p q inside runs none comes rests =
     let owes = refused-owes r ms p q inside runs comes rests in
     λ i. option_or (find (can_go_in s) (goes i)) (cond (owes i) (find (can_go_in s) s.named) None)
 
-pub turned-to-none : (r : Refusal) (ms : List Move) (p q : Point) (turn : Option Id) (b : Id) → Every IsInside ms → Runs p ms q → p.state.units.to_go ≡ [] →
+pub turned-to-none : (r : Refusal) (ms : List TraceStep) (p q : Point) (turn : Option Id) (b : Id) → Every IsInside ms → Runs p ms q → p.state.units.to_go ≡ [] →
     p.next ≡ Some (Refused r) → q.next ≡ None → turn ≡ next_turn_of q.state → turn ≡ Some b → ⊥
 turned-to-none r ms p q turn b inside runs none comes rests is some =
     let no : Some b ≡ None = sym some ∙ is ∙ no-turn r ms p q inside runs none comes rests in cc
@@ -131,7 +131,7 @@ at-hand r first next event is (inr none) some = let no : Some event ≡ None = s
 
 -- what the story has gained is the events of moves within the segment, whether it was finished or broken off
 pub record Gains (p : Point) (story told : List Event) : Type 0 where
-  pub moves : List Move
+  pub moves : List TraceStep
   pub point : Point
   pub runs : Runs p moves point
   pub inside : Every IsInside moves

@@ -2,7 +2,7 @@
 use Rattle.salt_ast.specs.declared.lines.Line.{Line}
 use Rattle.law_states.proofs.PointsGoOn.{idle-complete, no-more, runs-point, start-on, story-on}
 use Rattle.law_states.specs.Laws.{IsSound, is_of_run}
-use Rattle.law_states.specs.Points.{Ask, KeepsPoint, Move, Moves, Point, Runs, Say, Turn, told_by, trace_on}
+use Rattle.law_states.specs.Points.{Ask, KeepsPoint, TraceStep, Moves, Point, Runs, Say, Turn, told_by, trace_on}
 use Rattle.law_states.specs.States.{State}
 use Rattle.salt_model.specs.Everywhere.{Each}
 use Rattle.salt_model.specs.Kept.{WellKept}
@@ -30,7 +30,7 @@ before-says : (e : Event) (trace : Trace) → is_of_run e ≡ false → story_be
 before-says (Opened boot n) trace r = cc
 before-says e trace r = refl
 
-before-on : (ms : List Move) (p q : Point) (trace : Trace) → Runs p ms q → Every IsInside ms → story_before (trace_on trace ms) ≡ story_before trace
+before-on : (ms : List TraceStep) (p q : Point) (trace : Trace) → Runs p ms q → Every IsInside ms → story_before (trace_on trace ms) ≡ story_before trace
 before-on [] p q trace r h = refl
 before-on (Ask asked ∷ ms) p q trace r h = absurd h.0
 before-on (Turn b ∷ ms) p q trace r h = before-on ms r.0 q (trace turns b) r.2 h.1
@@ -43,7 +43,7 @@ serving-says Ready trace r h = refl
 serving-says (Early bs) trace r h = refl
 serving-says e trace r h = h
 
-serving-on : (ms : List Move) (p q : Point) (trace : Trace) → Runs p ms q → Every IsInside ms → phase trace ≡ Serving → phase (trace_on trace ms) ≡ Serving
+serving-on : (ms : List TraceStep) (p q : Point) (trace : Trace) → Runs p ms q → Every IsInside ms → phase trace ≡ Serving → phase (trace_on trace ms) ≡ Serving
 serving-on [] p q trace r h at = at
 serving-on (Ask asked ∷ ms) p q trace r h at = absurd h.0
 serving-on (Turn b ∷ ms) p q trace r h at = serving-on ms r.0 q (trace turns b) r.2 h.1 at
@@ -67,13 +67,13 @@ unspent-says : (e : Event) (trace : Trace) → is_of_run e ≡ false → OpensUn
 unspent-says (Opened boot n) trace r = cc
 unspent-says e trace r = tt
 
-pub unspent-on : (ms : List Move) (p q : Point) (trace : Trace) → Runs p ms q → Each OpensUnspent trace → Each OpensUnspent (trace_on trace ms)
+pub unspent-on : (ms : List TraceStep) (p q : Point) (trace : Trace) → Runs p ms q → Each OpensUnspent trace → Each OpensUnspent (trace_on trace ms)
 unspent-on [] p q trace r h = h
 unspent-on (Ask asked ∷ ms) p q trace r h = unspent-on ms r.0 q (trace asks asked) r.2 h
 unspent-on (Turn b ∷ ms) p q trace r h = unspent-on ms r.0 q (trace turns b) r.2 h
 unspent-on (Say e ∷ ms) p q trace r h = unspent-on ms r.0 q (trace says e) r.2 (h, unspent-says e trace r.1.1)
 
-fits-on : (start : Start) (trace : Trace) (asked : Asked) (ms : List Move) (p q : Point) → Runs p ms q → Every IsInside ms → HasKey asked → IsFitting start trace →
+fits-on : (start : Start) (trace : Trace) (asked : Asked) (ms : List TraceStep) (p q : Point) → Runs p ms q → Every IsInside ms → HasKey asked → IsFitting start trace →
     IsFitting start (trace_on (trace asks asked) ms)
 fits-on start trace asked ms p q runs inside key f = record {
   well = f.well;

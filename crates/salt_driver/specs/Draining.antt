@@ -1,5 +1,5 @@
 -- How an opening is drained: what is left of it is told from a point on, and counted.
-use Rattle.law_states.specs.Points.{Move, Moves, Point, Runs, Say, told_by}
+use Rattle.law_states.specs.Points.{TraceStep, Moves, Point, Runs, Say, told_by}
 use Rattle.salt_model.specs.Phases.{Opening}
 use Rattle.salt_model.specs.Words.{Every}
 use Rattle.salt_model.specs.declared.events.Event.TheVariants.{Began}
@@ -38,7 +38,7 @@ CountsOff first story told old new = (untold : ℕ) × (untold ≤ 1) × CountsS
 
 -- an opening breaks off in telling an event, to which it has come from a point by moves of it
 pub record BreaksWithin (lies left : Point → Type 0) (fills : ToWrite → ℕ → Type 0) (flight : Option Flight) (halt : Halt) (p : Point) (story told : List Event) : Type 0 where
-  pub moves : List Move
+  pub moves : List TraceStep
   pub point : Point
   pub event : Event
   pub before : List Event

@@ -1,7 +1,7 @@
 -- An engine stands at a point of a run, with what comes next at hand, and goes on from it by moves that its story tells.
 use Rattle.salt_ast.specs.declared.lines.Line.{Line}
 use Rattle.law_states.specs.Laws.{IsSound}
-use Rattle.law_states.specs.Points.{Ask, IsIdle, KeepsPoint, Move, Moves, Point, Runs, Say, told_by}
+use Rattle.law_states.specs.Points.{Ask, IsIdle, KeepsPoint, TraceStep, Moves, Point, Runs, Say, told_by}
 use Rattle.law_states.specs.Settling.{stage}
 use Rattle.law_states.specs.States.{State}
 use Rattle.law_states.specs.Told.{at_devices_in}
@@ -78,14 +78,14 @@ left_to_come us None = 0
 left_to_come us (Some e) = 6 * length us + stage e
 
 -- a move within the segment of a line
-abbrev pub IsInside : Move → Type 0
+abbrev pub IsInside : TraceStep → Type 0
 IsInside (Ask asked) = ⊥
 IsInside m = ⊤
 
 -- from a point, where this story was told, it has come by moves of one segment to where it stands, and its story has gained their events
 pub record Advances {E : Type 0} (sees : E → Option Event → State → Type 0) (line : Line) (p : Point) (story : List Event) (e : E)
     (next : Option Event) (told : List Event) : Type 0 where
-  pub moves : List Move
+  pub moves : List TraceStep
   pub point : Point
   pub runs : Runs p moves point
   pub inside : Every IsInside moves
@@ -100,7 +100,7 @@ pub record Finishes {E : Type 0} (sees : E → Option Event → State → Type 0
 
 -- or it broke off: the story has gained the events of such moves, and the engine is to be opened anew
 pub record StopsWithin (lies left : Point → Type 0) (fills : ToWrite → ℕ → Type 0) (flight : Option Flight) (halt : Halt) (p : Point) (story told : List Event) : Type 0 where
-  pub moves : List Move
+  pub moves : List TraceStep
   pub point : Point
   pub runs : Runs p moves point
   pub inside : Every IsInside moves
@@ -110,7 +110,7 @@ pub record StopsWithin (lies left : Point → Type 0) (fills : ToWrite → ℕ �
 -- it has come by events of an opening to where it stands
 pub record OpensOn {E : Type 0} (sees : E → Option Event → State → Type 0) (p : Point) (story : List Event) (e : E)
     (next : Option Event) (told : List Event) : Type 0 where
-  pub moves : List Move
+  pub moves : List TraceStep
   pub point : Point
   pub runs : Runs p moves point
   pub inside : Every IsInside moves

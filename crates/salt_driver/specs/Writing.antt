@@ -1,7 +1,6 @@
 -- What is written where a run halts: the decision that comes next.
 use Rattle.salt_bytes.specs.declared.moves.Move.{Move}
 use Rattle.law_states.specs.OpenUnits.{OpenUnit, UnitState, unit_named}
-use Rattle.law_states.specs.Overlays.{Edit}
 use Rattle.law_states.specs.Points.{Point}
 use Rattle.law_states.specs.Steps.{units_after}
 use Rattle.salt_model.specs.declared.events.End.TheVariants.{Branched, Committed}
@@ -13,13 +12,11 @@ use Rattle.salt_storage.specs.Writing.{OfDefinition, OfUnit, ToWrite}
 use Rattle.salt_values.specs.declared.change.Change.{Change}
 use Rattle.salt_values.specs.declared.id.Id.{Id}
 use Rattle.std.specs.Prelude.{List, Option, Some, [], map, ◌≡◌}
-
-abbrev pub change_of : Edit → Change
-change_of d = record { table = d.0.table; key = d.0.key; row = d.1 }
+use Rattle.salt_stands.specs.Turning.{change_at}
 
 -- the changes that an end decides: a commit those of its unit, any other none
 abbrev pub changes_decided : End → Option OpenUnit → List Change
-changes_decided (Committed n) (Some o) = map change_of o.changes
+changes_decided (Committed n) (Some o) = map change_at o.changes
 changes_decided end o = []
 
 -- the unit with these changes, and with a move to the continuations that are kept behind its end

@@ -20,6 +20,7 @@ use Rattle.salt_values.specs.declared.change.Change.{Change}
 use Rattle.salt_values.specs.declared.cont.Cont.{Cont}
 use Rattle.salt_values.specs.declared.id.Id.{Id}
 use Rattle.std.specs.Prelude.{List, None, Option, Some, [], if◌then◌else◌, ℕ, ◌++◌, ◌∷◌}
+use Rattle.std.specs.Option.{option_map_or}
 
 abbrev pub defined_by : Line → List Definition
 defined_by (Table d) = OfTable d ∷ []
@@ -27,8 +28,7 @@ defined_by (Program p) = OfProgram p ∷ []
 defined_by line = []
 
 abbrev pub conts_at : Kept → ℕ → Option UnitKind → List Binding → List Cont
-conts_at k n None vars = k.conts
-conts_at k n (Some kind) vars = conts_committed k n kind vars
+conts_at k n o vars = option_map_or (λ kind. conts_committed k n kind vars) o k.conts
 
 -- a unit that commits by decision n, with what its statements gave
 abbrev pub committed : Kept → ℕ → Option UnitKind → Run → Kept

@@ -14,12 +14,7 @@ use Rattle.salt_model.specs.declared.events.Event.{Event}
 use Rattle.salt_model.specs.declared.events.UnitKind.TheVariants.{Acid}
 use Rattle.salt_model.specs.declared.events.UnitKind.{UnitKind}
 use Rattle.salt_values.specs.declared.id.Id.{Id}
-use Rattle.std.specs.Prelude.{List, None, Option, Some, [], length, slice_get, ℕ, ⊤, ◌∷◌, ◌≡◌}
-
--- the block's statement behind those done
-abbrev pub IsNextOfBlock : Option (List Statement) → List Statement → Statement → Type 0
-IsNextOfBlock None done st = ⊥
-IsNextOfBlock (Some block) done st = slice_get block (length done) ≡ Some st
+use Rattle.std.specs.Prelude.{List, None, Option, Some, [], length, option_and_then, option_map, slice_get, ℕ, ⊤, ◌∷◌, ◌≡◌}
 
 -- the session's line asks for it: the line in whose segment it is done, or that in whose segment the unit began to wait
 abbrev pub IsOfLine : ℕ → Trace → Id → Standing → Statement → Type 0
@@ -31,27 +26,22 @@ abbrev pub IsOnly : Trace → Id → Statement → Line → Type 0
 IsOnly trace u st (Session s (Do only)) = (st ≡ only) × (done_of u trace ≡ [])
 IsOnly trace u st line = ⊤
 
--- a program's unit does its block, of the program as it is kept; a session's unit what lines ask
+-- a program's unit does the statement of its block behind those done, of the program as it is kept; a session's unit what lines ask
 abbrev pub IsDeclaredBy : Trace → Id → Statement → Option UnitKind → Type 0
 IsDeclaredBy trace u st None = ⊥
 IsDeclaredBy trace u st (Some (Acid s)) = IsOfLine s trace u (standing u trace) st × IsOnly trace u st (line_begun u trace)
-IsDeclaredBy trace u st (Some kind) = IsNextOfBlock (block_of_kind (kept trace) kind) (done_of u trace) st
-
--- as many as the block has
-abbrev pub IsWholeBlock : Option (List Statement) → List Statement → Type 0
-IsWholeBlock None done = ⊥
-IsWholeBlock (Some block) done = length done ≡ length block
+IsDeclaredBy trace u st (Some kind) = option_and_then (λ block. slice_get block (length (done_of u trace))) (block_of_kind (kept trace) kind) ≡ Some st
 
 -- where the unit began with a statement's line, that statement
 abbrev pub IsOnlyDone : List Statement → Line → Type 0
 IsOnlyDone done (Session s (Do only)) = done ≡ only ∷ []
 IsOnlyDone done line = ⊤
 
--- nothing is left that the unit has to do
+-- nothing is left that the unit has to do: a program's has done as many statements as its block has
 abbrev pub HasDoneAll : Trace → Id → Option UnitKind → Type 0
 HasDoneAll trace u None = ⊥
 HasDoneAll trace u (Some (Acid s)) = IsOnlyDone (done_of u trace) (line_begun u trace)
-HasDoneAll trace u (Some kind) = IsWholeBlock (block_of_kind (kept trace) kind) (done_of u trace)
+HasDoneAll trace u (Some kind) = option_map length (block_of_kind (kept trace) kind) ≡ Some (length (done_of u trace))
 
 -- a unit does what is declared, and commits when it has done all of it
 abbrev pub DoesDeclared : Trace → Event → Type 0

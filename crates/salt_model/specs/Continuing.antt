@@ -2,7 +2,7 @@
 use Rattle.salt_model.specs.After.{kept}
 use Rattle.salt_model.specs.Everywhere.{Each}
 use Rattle.salt_model.specs.Kept.{cont_of}
-use Rattle.salt_model.specs.Phases.{Opening, Phase, phase}
+use Rattle.salt_model.specs.Phases.{Opening, phase}
 use Rattle.salt_model.specs.Programs.{accepted_in, finished_in}
 use Rattle.salt_model.specs.Trace.{Trace, from, start_of, ◌asks◌, ◌says◌, ◌turns◌}
 use Rattle.salt_model.specs.Units.{kind_of, open_units, program_begun}
@@ -11,7 +11,7 @@ use Rattle.salt_model.specs.declared.events.End.TheVariants.{Branched, Committed
 use Rattle.salt_model.specs.declared.events.Event.{Event}
 use Rattle.salt_model.specs.declared.events.Event.TheVariants.{Accepted, Armed, Began, Early, Ended, Finished, Ready, Refused, Released, Shown, Waits}
 use Rattle.salt_model.specs.declared.events.UnitKind.{UnitKind}
-use Rattle.salt_model.specs.declared.events.UnitKind.TheVariants.{Acid, Call, First, Later}
+use Rattle.salt_model.specs.declared.events.UnitKind.TheVariants.{Later}
 use Rattle.salt_values.specs.Id.{has_id, in_order}
 use Rattle.salt_values.specs.declared.cont.Cont.{Cont}
 use Rattle.salt_values.specs.declared.id.Id.{Id}
@@ -49,15 +49,12 @@ AcceptsDue trace e = accepted_after trace (last_said trace) ≡ accepted_by e
 -- FINISHED stands directly after the decided end of a Later unit, or the acceptance, whose way is the end, and nowhere else.
 
 abbrev pub program_continued : UnitKind → Option Id
-program_continued (Acid s) = None
-program_continued (Call s n args) = None
-program_continued (First s b n args) = None
 program_continued (Later b part) = Some b
+program_continued kind = None
 
 -- a program for which no part is due
 abbrev pub if_ended : Trace → Option Id → Option Id
-if_ended trace None = None
-if_ended trace (Some b) = then_some (is_none (part_due trace b)) b
+if_ended trace o = option_and_then (λ b. then_some (is_none (part_due trace b)) b) o
 
 abbrev pub finished_after : Trace → Option Event → Option Id
 finished_after trace (Some (Ended u (Committed n))) = if_ended trace (option_and_then program_continued (kind_of u trace))
@@ -115,12 +112,8 @@ IsForOpening trace Ready = open_units trace ≡ []
 IsForOpening trace (Early bs) = open_units trace ≡ []
 IsForOpening trace e = ⊤
 
-abbrev pub InOpening : Phase → Trace → Event → Type 0
-InOpening Opening trace e = IsForOpening trace e
-InOpening phase trace e = ⊤
-
 abbrev pub Opens : Trace → Event → Type 0
-Opens trace e = InOpening (phase trace) trace e
+Opens trace e = phase trace ≡ Opening → IsForOpening trace e
 
 pub record IsContinued (trace : Trace) : Type 0 where
   pub accepts : Each AcceptsDue trace

@@ -1,23 +1,17 @@
 -- Decision numbers, boots, and what an opening tells of what a stop left.
 use Rattle.salt_model.specs.After.{kept}
-use Rattle.salt_model.specs.Trace.{Trace, from, ◌asks◌, ◌says◌, ◌turns◌}
-use Rattle.salt_model.specs.Next.{flight}
+use Rattle.salt_model.specs.Trace.{Trace, ◌says◌}
+use Rattle.salt_model.specs.Next.{flight, number_in}
 use Rattle.salt_model.specs.Phases.{Fallen, Opening, Phase, phase}
 use Rattle.salt_model.specs.Stops.{MayOpen}
 use Rattle.salt_model.specs.Everywhere.{Each}
 use Rattle.salt_model.specs.Units.{is_open}
-use Rattle.salt_model.specs.declared.events.End.TheVariants.{Branched, Committed, Cut}
+use Rattle.salt_model.specs.declared.events.End.TheVariants.{Cut}
 use Rattle.salt_model.specs.declared.events.Event.TheVariants.{Began, Defined, Did, Down, Ended, Opened, Waits}
 use Rattle.salt_model.specs.declared.events.Event.{Event}
 use Rattle.salt_values.specs.Id.{is_older}
 use Rattle.salt_values.specs.declared.id.Id.{Id}
-use Rattle.std.specs.Prelude.{Bool, IsTrue, None, Option, Some, false, true, ℕ, ⊤, ◌+◌, ◌<◌, ◌==◌, ◌≡◌}
-
-abbrev pub number_in : Event → Option ℕ
-number_in (Defined n text) = Some n
-number_in (Ended u (Committed n)) = Some n
-number_in (Ended u (Branched n c)) = Some n
-number_in e = None
+use Rattle.std.specs.Prelude.{Bool, IsTrue, None, Option, Some, false, true, ⊤, ◌+◌, ◌<◌, ◌==◌, ◌≡◌}
 
 -- decisions carry the numbers after the start's, one by one
 abbrev pub NumbersOn : Trace → Event → Type 0
@@ -30,11 +24,8 @@ OpensRight trace e = ⊤
 
 -- the trace ends with an Opened that counts the decision in flight
 abbrev pub counts_flight : Trace → Bool
-counts_flight (from k) = false
-counts_flight (trace asks asked) = false
-counts_flight (trace turns b) = false
 counts_flight (trace says Opened boot n) = n == (kept trace).decisions + 1
-counts_flight (trace says e) = false
+counts_flight trace = false
 
 abbrev pub OnlyAfter : Bool → Option Event → Event → Type 0
 OnlyAfter true f e = f ≡ Some e
@@ -60,13 +51,9 @@ abbrev pub IsOwnIn : Phase → Trace → Event → Type 0
 IsOwnIn Opening trace (Defined n text) = ⊥
 IsOwnIn phase trace e = IsOfBoot trace e
 
-abbrev pub OwnUnless : Bool → Phase → Trace → Event → Type 0
-OwnUnless true phase trace e = ⊤
-OwnUnless false phase trace e = IsOwnIn phase trace e
-
 -- but for the flight, which stands directly after its Opened, nothing is told of units of earlier boots but that they are cut
 abbrev pub TellsOwn : Trace → Event → Type 0
-TellsOwn trace e = OwnUnless (counts_flight trace) (phase trace) trace e
+TellsOwn trace e = counts_flight trace ≡ false → IsOwnIn (phase trace) trace e
 
 -- open, and of an earlier boot
 abbrev pub IsLeftOpen : Trace → Id → Type 0

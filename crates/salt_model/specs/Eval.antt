@@ -14,6 +14,7 @@ use Rattle.salt_values.specs.declared.value.Value.TheVariants.{Int, Null, Text}
 use Rattle.salt_values.specs.declared.value.Value.{Value}
 use Rattle.std.specs.Prelude.{Bool, Err, List, None, Ok, Option, Result, Some, [], false, if◌then◌else◌}
 use Rattle.std.specs.Prelude.{int_le, length, nat_le, negsuc, not, pos, true, ℕ, ℤ, ◌&&◌, ◌*ℤ◌, ◌++◌, ◌+ℤ◌, ◌-ℤ◌, ◌∷◌, ◌||◌}
+use Rattle.std.specs.Option.{option_map_or}
 
 -- the three truth values
 pub data Truth : Type 0 where
@@ -133,8 +134,7 @@ null_tested true (Gives v) = Ok (Holds (yes_or_no (not (is_null v))))
 null_tested negated (Holds t) = mistyped
 
 abbrev pub known : Option Value → Result Datum Cause
-known (Some v) = Ok (Gives v)
-known None = mistyped
+known v = option_map_or (λ w. Ok (Gives w)) v mistyped
 
 -- the value of an expression, or its cause
 abbrev pub eval : Visible → Expr → Result Datum Cause
@@ -173,8 +173,7 @@ holds s e = and_then (truth_of s e) (λ t. Ok (is_yes t))
 
 -- a filter that is not there is true
 abbrev pub passes : Visible → Option Expr → Result Bool Cause
-passes s None = Ok true
-passes s (Some e) = holds s e
+passes s filter = option_map_or (holds s) filter (Ok true)
 
 -- the values of expressions, from left to right
 abbrev pub values_of : Visible → List Expr → Result (List Value) Cause

@@ -20,6 +20,7 @@ use Rattle.salt_values.specs.declared.id.Id.{Id}
 use Rattle.salt_values.specs.declared.value.Value.{Value}
 use Rattle.std.specs.Fmt.{decimal}
 use Rattle.std.specs.Prelude.{List, None, Option, Some, [], codes, flat_map, length, slice_get, ℕ, ⊤, ◌++◌, ◌∷◌}
+use Rattle.std.specs.Option.{option_map_or}
 use Rattle.salt_model.specs.declared.events.Answer.TheVariants as answer
 use Rattle.salt_model.specs.declared.events.Cause.TheVariants as cause
 use Rattle.salt_model.specs.declared.events.End.TheVariants as end
@@ -57,8 +58,7 @@ kind_text (kind.First s b n args) =
 kind_text (kind.Later b part) = codes " began " ++ (base_text b ++ (codes " part " ++ decimal part))
 
 abbrev pub cell_text : Option Value → List ℕ
-cell_text None = codes "none"
-cell_text (Some v) = value_text v
+cell_text v = option_map_or value_text v (codes "none")
 
 abbrev pub answer_text : Answer → List ℕ
 answer_text (answer.Count n) = codes "count " ++ decimal n
@@ -108,8 +108,7 @@ table_name schema n = elim (slice_get schema n) [ None ↦ [] | Some d ↦ d.nam
 -- a printed range has both ends or none
 abbrev pub range_text : Option Value → Option Value → List ℕ
 range_text (Some lo) (Some hi) = value_text lo ++ (codes ".." ++ value_text hi)
-range_text (Some lo) None = codes "all"
-range_text None hi = codes "all"
+range_text lo hi = codes "all"
 
 abbrev pub lock_text : List TableDef → Lock → List ℕ
 lock_text schema l =

@@ -6,7 +6,7 @@ use Rattle.salt_model.specs.Units.{answers_of, is_open}
 use Rattle.salt_model.specs.Everywhere.{Always, Each}
 use Rattle.salt_model.specs.declared.events.Answer.{Answer}
 use Rattle.salt_model.specs.declared.events.Cause.{Cause}
-use Rattle.salt_model.specs.declared.events.End.TheVariants.{Branched, Committed, Cut, RolledBack, Victim}
+use Rattle.salt_model.specs.declared.events.End.TheVariants.{Branched, Cut}
 use Rattle.salt_model.specs.declared.events.End.{End}
 use Rattle.salt_model.specs.declared.events.Event.TheVariants.{Did, Ended}
 use Rattle.salt_model.specs.declared.events.Event.{Event}
@@ -28,13 +28,10 @@ cause_among (a ∷ more) = option_or (cause_in a) (cause_among more)
 
 -- how a unit with this cause, or with none, may end
 abbrev pub FitsEnd : End → Option Cause → Type 0
-FitsEnd (Committed n) None = ⊤
-FitsEnd (Committed n) (Some c) = ⊥
 FitsEnd (End.Failed c) cause = cause ≡ Some c
 FitsEnd (Branched n c) cause = cause ≡ Some c
 FitsEnd Cut cause = ⊤
-FitsEnd RolledBack cause = cause ≡ None
-FitsEnd Victim cause = cause ≡ None
+FitsEnd end cause = cause ≡ None
 
 -- a failed answer is a unit's last, and its end says so
 abbrev pub FailsOnce : Trace → Event → Type 0

@@ -3,7 +3,7 @@ use Rattle.salt_model.specs.After.{reach_now}
 use Rattle.salt_model.specs.Locks.{Taken, taken_in, touches}
 use Rattle.salt_model.specs.Trace.{Trace, from, ◌asks◌, ◌says◌, ◌turns◌}
 use Rattle.salt_model.specs.Programs.{released_in}
-use Rattle.salt_model.specs.Units.{Over, Standing, is_open_standing, program_of, standing}
+use Rattle.salt_model.specs.Units.{Over, Standing, is_of_program, is_open_standing, program_of, standing}
 use Rattle.salt_model.specs.Everywhere.{Each}
 use Rattle.salt_model.specs.Reads.{writers_in}
 use Rattle.salt_model.specs.Waiting.{is_acid}
@@ -15,7 +15,8 @@ use Rattle.salt_model.specs.declared.locks.Reach.{Reach}
 use Rattle.salt_values.specs.Id.{is_same_id}
 use Rattle.salt_values.specs.declared.id.Id.{Id}
 use Rattle.std.specs.List.{list_all, list_any}
-use Rattle.std.specs.Prelude.{Bool, IsTrue, List, None, Option, Some, [], false, if◌then◌else◌, not, true, ⊤, ◌&&◌, ◌++◌, ◌||◌, ◌∷◌}
+use Rattle.std.specs.Option.{option_map_or}
+use Rattle.std.specs.Prelude.{Bool, IsTrue, List, Option, [], false, if◌then◌else◌, not, true, ⊤, ◌&&◌, ◌++◌, ◌||◌, ◌∷◌}
 
 -- the units that u reads from at a trace: the last writers of keys that its statements reached
 abbrev pub read_by : Id → Trace → List Id
@@ -25,13 +26,9 @@ read_by u (trace turns b) = read_by u trace
 read_by u (trace says Did v st answer) = if is_same_id u v then writers_in trace (reach_now v trace st) ++ read_by u trace else read_by u trace
 read_by u (trace says e) = read_by u trace
 
-abbrev pub is_same_program : Option Id → Option Id → Bool
-is_same_program (Some b) (Some c) = is_same_id b c
-is_same_program p q = false
-
 -- u is linked to v: it reads from v, or they are subtransactions of one program
 abbrev pub is_linked : Trace → Id → Id → Bool
-is_linked trace u v = has_id v (read_by u trace) || is_same_program (program_of u trace) (program_of v trace)
+is_linked trace u v = has_id v (read_by u trace) || option_map_or (λ b. is_of_program b trace v) (program_of u trace) false
 
 -- a chain from u: each unit is linked to the next
 abbrev pub IsChain : Trace → Id → List Id → Type 0
@@ -39,8 +36,7 @@ IsChain trace u [] = ⊤
 IsChain trace u (v ∷ vs) = IsTrue (is_linked trace u v) × IsChain trace v vs
 
 abbrev pub is_program_released : Trace → Option Id → Bool
-is_program_released trace None = true
-is_program_released trace (Some b) = has_id b (released_in trace)
+is_program_released trace o = option_map_or (λ b. has_id b (released_in trace)) o true
 
 -- at a Did of an ACID unit, each program with a subtransaction in a chain from it is released before
 abbrev pub ReadsReleased : Trace → Event → Type 0
@@ -64,8 +60,7 @@ abbrev pub is_unreleased_part : Trace → Taken → Bool
 is_unreleased_part trace t = is_open_or_committed (standing t.unit trace) && not (is_program_released trace (program_of t.unit trace))
 
 abbrev pub touches_unreleased : Trace → Option Reach → Bool
-touches_unreleased trace None = false
-touches_unreleased trace (Some r) = list_any (λ t. touches t.reach r && is_unreleased_part trace t) (taken_in trace)
+touches_unreleased trace o = option_map_or (λ r. list_any (λ t. touches t.reach r && is_unreleased_part trace t) (taken_in trace)) o false
 
 -- what an ACID unit touches of a program's open and committed parts, it touches when the program is released
 abbrev pub TouchesWhole : Trace → Event → Type 0

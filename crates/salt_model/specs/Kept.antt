@@ -22,6 +22,7 @@ use Rattle.salt_values.specs.declared.value.Value.{Value}
 use Rattle.std.specs.List.{filter_map}
 use Rattle.std.specs.Prelude.{IsSome, List, None, Option, Some, []}
 use Rattle.std.specs.Prelude.{drop, if◌then◌else◌, length, map, option_and_then, option_map, pos, ℕ, ⊤, ◌++◌, ◌<◌, ◌∷◌, ◌≤◌}
+use Rattle.std.specs.Option.{option_map_or}
 
 -- a definition, as the line that made it
 pub data Definition : Type 0 where
@@ -73,8 +74,7 @@ parts_of p = elim p.body [ Acid block ↦ [] | Base parts ↦ parts ]
 
 -- how often a part of a program is tried again; never, where there is no such part
 abbrev pub retries_of : Option ProgramDef → (part : ℕ) → ℕ
-retries_of None part = 0
-retries_of (Some p) part = retries (at_number part (parts_of p))
+retries_of o part = option_map_or (λ p. retries (at_number part (parts_of p))) o 0
 
 -- a program has no more tries left than the part at which it stands is tried again
 abbrev pub IsWithinTries : Kept → Cont → Type 0
@@ -89,14 +89,6 @@ pub record WellKept (k : Kept) : Type 0 where
   pub accepted : Rise k.decisions k.conts
   pub defined : Every (λ (c : Cont). IsSome (kept_program c.program k)) k.conts
   pub tries : AreTriesWithin k
-
--- where part n goes on after a commit: its way, else the next part; none is the end
-abbrev pub then_of : ProgramDef → ℕ → Option Position
-then_of p n = next_on_commit (parts_of p) n
-
--- where it goes on after a failure, with so many tries left: at the part itself, or by its branch
-abbrev pub branch_of : ProgramDef → (n tries : ℕ) → Option Position
-branch_of p n tries = next_on_failure (parts_of p) n tries
 
 abbrev pub zero_of : ColType → Value
 zero_of ColType.Int = Int (pos 0)
@@ -159,12 +151,11 @@ begun_cont b n p args vars (Some at) cs =
 
 -- the continuations after a commit
 abbrev pub conts_committed : Kept → ℕ → UnitKind → List Binding → List Cont
-conts_committed k n (Acid s) vars = k.conts
-conts_committed k n (Call s name args) vars = k.conts
-conts_committed k n (First s b name args) vars = elim (kept_program name k) [ None ↦ k.conts | Some p ↦ begun_cont b n p args vars (then_of p 1) k.conts ]
-conts_committed k n (Later b part) vars =
-    elim (option_and_then (λ c. kept_program c.program k) (cont_of b k))
-    [ None ↦ k.conts | Some p ↦ moved b (then_of p part) (λ c. record c { vars = values_kept p vars }) k.conts ]
+conts_committed k n (First s b name args) vars = elim (kept_program name k)
+    [ None ↦ k.conts | Some p ↦ begun_cont b n p args vars (next_on_commit (parts_of p) 1) k.conts ]
+conts_committed k n (Later b part) vars = elim (option_and_then (λ c. kept_program c.program k) (cont_of b k))
+    [ None ↦ k.conts | Some p ↦ moved b (next_on_commit (parts_of p) part) (λ c. record c { vars = values_kept p vars }) k.conts ]
+conts_committed k n kind vars = k.conts
 
 -- how often the part at which a program stands may still fail and be tried again
 abbrev pub tries_left : Id → Kept → ℕ
@@ -172,7 +163,6 @@ tries_left b k = elim (cont_of b k) [ None ↦ 0 | Some c ↦ c.tries ]
 
 -- the continuations after a branch
 abbrev pub conts_branched : Kept → UnitKind → List Cont
-conts_branched k (Later b part) =
-    elim (option_and_then (λ c. kept_program c.program k) (cont_of b k))
-    [ None ↦ k.conts | Some p ↦ moved b (branch_of p part (tries_left b k)) (λ c. c) k.conts ]
+conts_branched k (Later b part) = elim (option_and_then (λ c. kept_program c.program k) (cont_of b k))
+    [ None ↦ k.conts | Some p ↦ moved b (next_on_failure (parts_of p) part (tries_left b k)) (λ c. c) k.conts ]
 conts_branched k kind = k.conts

@@ -7,8 +7,8 @@ use Rattle.salt_model.specs.Trace.{Asked, Rejected, Tree}
 use Rattle.salt_model.specs.declared.events.Refusal.TheVariants.{Byte, Limit, Long, Syntax}
 use Rattle.salt_tokens.specs.Bytes.{is_blank, is_printable}
 use Rattle.salt_values.specs.declared.limits.TheConstants.{LINE_MOST}
-use Rattle.std.specs.List.{list_all}
-use Rattle.std.specs.Prelude.{Bool, List, [], false, length, true, ℕ, ⊤, ◌&&◌, ◌<◌, ◌==◌, ◌||◌, ◌∷◌, ◌≡◌, ◌≤◌}
+use Rattle.std.specs.List.{AllZip, list_all}
+use Rattle.std.specs.Prelude.{Bool, List, false, length, true, ℕ, ◌&&◌, ◌<◌, ◌==◌, ◌||◌, ◌∷◌, ◌≡◌, ◌≤◌}
 
 abbrev pub begins_comment : List ℕ → Bool
 begins_comment (a ∷ b ∷ bs) = (a == 45) && (b == 45)
@@ -39,7 +39,4 @@ pub data Asks (text : List ℕ) : Asked → Type 0 where
 
 -- what lines of these bytes ask, one after another
 abbrev pub AskInOrder : List (List ℕ) → List Asked → Type 0
-AskInOrder [] [] = ⊤
-AskInOrder (text ∷ texts) (line ∷ lines) = Asks text line × AskInOrder texts lines
-AskInOrder [] (line ∷ lines) = ⊥
-AskInOrder (text ∷ texts) [] = ⊥
+AskInOrder = AllZip Asks

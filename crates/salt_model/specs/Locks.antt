@@ -28,6 +28,8 @@ use Rattle.salt_values.specs.declared.id.Id.{Id}
 use Rattle.std.specs.Bool.{then_some}
 use Rattle.std.specs.List.{filter, filter_map, list_any}
 use Rattle.std.specs.Prelude.{Bool, List, None, Option, Some, [], false, if◌then◌else◌, map, not, option_and_then, true, ℕ, ◌&&◌, ◌++◌, ◌+◌, ◌==◌, ◌∷◌, ◌≡◌}
+use Rattle.std.specs.Option.{option_map_or}
+use Rattle.std.specs.Prelude.{option_to_list}
 
 -- a statement done, by its unit, that reached something
 pub record Taken : Type 0 where
@@ -35,8 +37,7 @@ pub record Taken : Type 0 where
   pub reach : Reach
 
 abbrev pub taken_by : Id → Option Reach → List Taken
-taken_by u None = []
-taken_by u (Some r) = record { unit = u; reach = r } ∷ []
+taken_by u o = map (λ r. record { unit = u; reach = r }) (option_to_list o)
 
 -- what the statements done reached, each with the variables that its unit had there
 abbrev pub taken_in : Trace → List Taken
@@ -69,8 +70,7 @@ is_holding trace b = not (has_id b (released_in trace))
 
 -- a committed subtransaction's reach is its program's, until that is released
 abbrev pub saline_lock : Trace → Option Id → Reach → Option Lock
-saline_lock trace None r = None
-saline_lock trace (Some b) r = then_some (is_holding trace b) (lock_of (Base b) Saline r)
+saline_lock trace o r = option_and_then (λ b. then_some (is_holding trace b) (lock_of (Base b) Saline r)) o
 
 -- an open unit's reach is its own; when it ends otherwise than by a commit, it goes
 abbrev pub lock_by : Trace → Taken → Standing → Option UnitKind → Option Lock
@@ -131,8 +131,7 @@ touches r s = (r.table == s.table) && meets r.range s.range && not (is_read r.mo
 abbrev pub is_same_owner : Owner → Owner → Bool
 is_same_owner (Unit u) (Unit v) = is_same_id u v
 is_same_owner (Base b) (Base c) = is_same_id b c
-is_same_owner (Unit u) (Base b) = false
-is_same_owner (Base b) (Unit u) = false
+is_same_owner o p = false
 
 -- two held locks of different owners that may not stand together
 abbrev pub may_not_stand_together : Family → Family → Bool
@@ -168,8 +167,7 @@ owners_of locks = map Owner.Unit (in_order (filter_map unit_owner locks)) ++ map
 
 -- the locks that clash with what a unit would reach
 abbrev pub clash_locks : Trace → Id → Option UnitKind → Option Reach → List Lock
-clash_locks trace u kind (Some r) = filter (clashes (Unit u) (family_of kind) r) (held trace)
-clash_locks trace u kind None = []
+clash_locks trace u kind o = option_map_or (λ r. filter (clashes (Unit u) (family_of kind) r) (held trace)) o []
 
 -- the owners that clash with a statement of a unit
 abbrev pub clashing : Trace → Id → Statement → List Owner

@@ -10,7 +10,7 @@ use Rattle.salt_model.specs.declared.events.Event.{Event}
 use Rattle.salt_model.specs.declared.events.Event.TheVariants.{Defined, Down, Early, Ended, Opened, Ready, Refused}
 use Rattle.std.specs.Bool.{then_some}
 use Rattle.std.specs.Option.{option_or}
-use Rattle.std.specs.Prelude.{Bool, None, Option, Some, false, option_map, true}
+use Rattle.std.specs.Prelude.{Bool, None, Option, Some, is_some, option_map, ℕ, option_and_then}
 
 -- while serving
 abbrev pub serving_event : Trace → Event → Option Event
@@ -23,16 +23,18 @@ said_event Serving trace e = serving_event trace e
 said_event Opening trace e = opening_event trace e
 said_event Fallen trace e = None
 
--- a decision: a definition, a committed unit, a branch
+-- the number of a decision: of a definition, of a committed unit, of a branch
+abbrev pub number_in : Event → Option ℕ
+number_in (Defined n text) = Some n
+number_in (Ended u (Committed n)) = Some n
+number_in (Ended u (Branched n c)) = Some n
+number_in e = None
+
 abbrev pub is_decision : Event → Bool
-is_decision (Defined n text) = true
-is_decision (Ended u (Committed n)) = true
-is_decision (Ended u (Branched n c)) = true
-is_decision e = false
+is_decision e = is_some (number_in e)
 
 abbrev pub decision_in : Option Event → Option Event
-decision_in None = None
-decision_in (Some e) = then_some (is_decision e) e
+decision_in o = option_and_then (λ e. then_some (is_decision e) e) o
 
 -- what comes next, and what is in flight: the decision that comes next, kept while the run is down
 pub record Ahead : Type 0 where

@@ -4,7 +4,6 @@ use Rattle.salt_model.specs.Trace.{Trace, start_of}
 use Rattle.salt_model.specs.Turns.{after_did, after_end, begins, does_next, finishes, next_number}
 use Rattle.salt_model.specs.Units.{kind_of, open_units}
 use Rattle.salt_model.specs.Words.{is_empty}
-use Rattle.salt_model.specs.declared.events.Answer.{Answer}
 use Rattle.salt_model.specs.declared.events.End.TheVariants.{Cut}
 use Rattle.salt_model.specs.declared.events.Event.{Event}
 use Rattle.salt_model.specs.declared.events.Event.TheVariants.{Accepted, Began, Did, Early, Ended, Ready}
@@ -15,20 +14,17 @@ use Rattle.salt_values.specs.declared.id.Id.{Id}
 use Rattle.std.specs.Bool.{then_some}
 use Rattle.std.specs.List.{filter}
 use Rattle.std.specs.Option.{option_or}
-use Rattle.std.specs.Prelude.{Bool, List, None, Option, Some, [], false, map, nat_lt, true, ℕ, ◌==◌, ◌∷◌}
+use Rattle.std.specs.Prelude.{Bool, List, None, Option, Some, [], false, map, nat_lt, true, ℕ, ◌==◌, ◌∷◌, option_and_then}
 
 -- open units of earlier boots, in order of names
 abbrev pub to_cut : Trace → List Id
 to_cut trace = in_order (filter (λ u. nat_lt u.boot (kept trace).boot) (open_units trace))
 
--- a unit ends with its last statement; else it does the next. Nothing is locked
-abbrev pub drains_on : Trace → Id → Answer → Option Event
-drains_on trace u answer = option_or (after_did trace u answer) (does_next trace u)
-
--- what follows an event of the opening: a program that has ended is finished, and none is released
+-- What follows an event of the opening: a unit does its next statement, or ends with its last; a program that has ended is finished.
+-- Nothing is locked, and none is released.
 abbrev pub follow_opening : Trace → Event → Option Event
 follow_opening trace (Began u kind) = does_next trace u
-follow_opening trace (Did u st answer) = drains_on trace u answer
+follow_opening trace (Did u st answer) = option_or (after_did trace u answer) (does_next trace u)
 follow_opening trace (Ended u end) = after_end trace end (kind_of u trace)
 follow_opening trace (Accepted b) = finishes trace b
 follow_opening trace e = None
@@ -49,8 +45,7 @@ cuts_or_drains trace [] = then_some (is_empty (open_units trace)) (drains trace 
 
 -- the decision in flight stands where the Opened carries the number after the last
 abbrev pub stands_now : Trace → ℕ → Option Event → Option Event
-stands_now trace n None = None
-stands_now trace n (Some decision) = then_some (n == next_number trace) decision
+stands_now trace n pending = option_and_then (λ decision. then_some (n == next_number trace) decision) pending
 
 -- directly after the Opened
 abbrev pub after_opened : Trace → ℕ → Option Event → Option Event

@@ -82,10 +82,6 @@ over_in trace = left_out trace ++ released_in trace
 abbrev pub unreleased : Trace → List Id
 unreleased trace = in_order (without (over_in trace) (accepted_in trace))
 
--- in their first part
-abbrev pub in_part_1 : Trace → List Id
-in_part_1 trace = filter_map (λ u. option_and_then program_begun (kind_of u trace)) (open_units trace)
-
 -- in their first part, or accepted, and neither released nor left out
 abbrev pub under_way : Trace → List Id
-under_way trace = in_order (unreleased trace ++ in_part_1 trace)
+under_way trace = in_order (unreleased trace ++ filter_map (λ u. option_and_then program_begun (kind_of u trace)) (open_units trace))

@@ -75,10 +75,6 @@ reach_in t vars (Ensure e) = None
 abbrev pub table_for : List TableDef → Statement → Option (ℕ × TableDef)
 table_for schema st = option_and_then (λ name. table_named name schema) (table_in st)
 
-abbrev pub reach_at : List Binding → Statement → Option (ℕ × TableDef) → Option Reach
-reach_at vars st None = None
-reach_at vars st (Some d) = reach_in d.0 vars st
-
 -- a statement reaches one range of one table, or nothing
 unfoldable pub reach : List TableDef → List Binding → Statement → Option Reach
-reach schema vars st = reach_at vars st (table_for schema st)
+reach schema vars st = option_and_then (λ d. reach_in d.0 vars st) (table_for schema st)

@@ -15,7 +15,8 @@ use Rattle.salt_values.specs.declared.id.Id.{Id}
 use Rattle.salt_values.specs.declared.value.Value.{Value}
 use Rattle.std.specs.List.{filter, filter_map, find, list_all}
 use Rattle.std.specs.Ordering.{is_eq}
-use Rattle.std.specs.Prelude.{Bool, List, None, Option, Some, [], if◌then◌else◌, length, map, not, option_map, ℕ, ◌++◌, ◌||◌, ◌∷◌}
+use Rattle.std.specs.Prelude.{Bool, List, Option, [], if◌then◌else◌, length, map, not, option_map, ℕ, ◌++◌, ◌||◌, ◌∷◌}
+use Rattle.std.specs.Option.{option_map_or}
 
 -- a key that a committed unit changed
 pub record Written : Type 0 where
@@ -57,13 +58,9 @@ abbrev pub last_of_each : List Written → List Written
 last_of_each [] = []
 last_of_each (w ∷ ws) = w ∷ filter (λ v. not (is_written_at (written_at w) v)) (last_of_each ws)
 
-abbrev pub is_reached : Reach → Written → Bool
-is_reached r w = is_within r (written_at w)
-
 -- the last writers of the keys in a reach
 abbrev pub writers_in : Trace → Option Reach → List Id
-writers_in trace None = []
-writers_in trace (Some r) = map (λ w. w.unit) (filter (is_reached r) (last_of_each (written_in trace)))
+writers_in trace o = option_map_or (λ r. map (λ w. w.unit) (filter (λ w. is_within r (written_at w)) (last_of_each (written_in trace)))) o []
 
 -- the programs whose subtransactions are among these units
 abbrev pub programs_among : Trace → List Id → List Id

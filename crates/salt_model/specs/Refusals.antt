@@ -1,11 +1,10 @@
 -- The refusal of a line: the first that applies, by the trace before it.
-use Rattle.salt_ast.specs.Judgement.{Fault, exists, mistyped, unknown}
-use Rattle.salt_ast.specs.ProgramJudgement.{Known, LineFault, branch, faulty, kept as of_kept, line_fault}
+use Rattle.salt_ast.specs.Judgement.{exists, mistyped, unknown}
+use Rattle.salt_ast.specs.ProgramJudgement.{Known, LineFault, branch, faulty, is_base, kept as of_kept, line_fault}
 use Rattle.salt_ast.specs.declared.lines.Act.{Act}
 use Rattle.salt_ast.specs.declared.lines.Act.TheVariants.{Begin, Call, Commit, Do, Rollback, Step}
 use Rattle.salt_ast.specs.declared.lines.Line.{Line}
 use Rattle.salt_ast.specs.declared.lines.Line.TheVariants.{Crash, Go, Net, Program, Session, Table}
-use Rattle.salt_ast.specs.declared.programs.Body.TheVariants.{Acid, Base}
 use Rattle.salt_ast.specs.declared.programs.ProgramDef.{ProgramDef}
 use Rattle.salt_model.specs.After.{kept}
 use Rattle.salt_model.specs.Kept.{kept_program, programs_of, schema_of}
@@ -20,7 +19,7 @@ use Rattle.salt_model.specs.declared.events.UnitKind.TheVariants.{Acid}
 use Rattle.salt_values.specs.declared.id.Id.{Id}
 use Rattle.std.specs.Bool.{then_some}
 use Rattle.std.specs.List.{list_any}
-use Rattle.std.specs.Option.{option_or}
+use Rattle.std.specs.Option.{option_map_or, option_or}
 use Rattle.std.specs.Prelude.{Bool, None, Option, Some, false, length, map, not, option_map, true, ◌&&◌, ◌||◌}
 use Rattle.salt_model.specs.declared.events.Refusal.TheVariants as refused
 
@@ -34,14 +33,11 @@ known_at trace = record {
   unreleased = length (under_way trace);
 }
 
-abbrev pub refusal_by_fault : Fault → Refusal
-refusal_by_fault (unknown n) = refused.Unknown n
-refusal_by_fault (exists n) = refused.Exists n
-refusal_by_fault mistyped = refused.Mistyped
-
 abbrev pub refusal_by : LineFault → Refusal
 refusal_by (of_kept limit) = refused.Limit limit
-refusal_by (faulty f) = refusal_by_fault f
+refusal_by (faulty (unknown n)) = refused.Unknown n
+refusal_by (faulty (exists n)) = refused.Exists n
+refusal_by (faulty mistyped) = refused.Mistyped
 refusal_by (branch part) = refused.Branch part
 
 abbrev pub judged : Trace → Line → Option Refusal
@@ -70,17 +66,13 @@ state_wrong trace None Commit = true
 state_wrong trace None Rollback = true
 state_wrong trace None act = false
 
-abbrev pub is_waiting_unit : Trace → Option Id → Bool
-is_waiting_unit trace None = false
-is_waiting_unit trace (Some u) = is_waiting trace u
-
 -- a program that the last early opening names is not released
 abbrev pub is_covering : Trace → Bool
 is_covering trace = list_any (is_holding trace) (named_early trace)
 
 abbrev pub is_base_program : Option ProgramDef → Bool
 is_base_program None = false
-is_base_program (Some p) = elim p.body [ Acid block ↦ false | Base parts ↦ true ]
+is_base_program (Some p) = is_base p
 
 -- until then no BASE program is called
 abbrev pub is_held_back : Trace → Act → Bool
@@ -89,7 +81,7 @@ is_held_back trace act = false
 
 abbrev pub is_state_wrong : Trace → Line → Bool
 is_state_wrong trace (Session s act) = state_wrong trace (session_unit s trace) act || is_held_back trace act
-is_state_wrong trace (Go b) = is_waiting_unit trace (program_unit b trace)
+is_state_wrong trace (Go b) = option_map_or (is_waiting trace) (program_unit b trace) false
 is_state_wrong trace (Crash pairs) = not (start_of trace).can_stop
 is_state_wrong trace (Net pairs) = not (start_of trace).over_net
 is_state_wrong trace line = false

@@ -9,6 +9,7 @@ use Rattle.salt_model.specs.Reads.{is_finished}
 use Rattle.salt_values.specs.Id.{in_order}
 use Rattle.salt_model.specs.declared.events.Event.TheVariants.{Began}
 use Rattle.salt_model.specs.declared.events.Owner.TheVariants.{Base, Unit}
+use Rattle.salt_model.specs.declared.events.Owner.{Owner}
 use Rattle.salt_model.specs.declared.events.UnitKind.TheVariants.{First}
 use Rattle.salt_model.specs.declared.locks.Lock.{Lock}
 use Rattle.salt_model.specs.declared.shown.BaseAt.TheVariants.{Next}
@@ -20,15 +21,13 @@ use Rattle.std.specs.List.{filter, flat_map}
 use Rattle.std.specs.Prelude.{List, None, Some, [], if◌then◌else◌, map, ℕ, ◌++◌}
 
 -- the locks of one owner, in the order in which their statements were done
-abbrev pub locks_of_base : Trace → Id → List Lock
-locks_of_base trace b = filter (λ l. is_same_owner (Base b) l.owner) (held trace)
-
-abbrev pub locks_of_unit : Trace → Id → List Lock
-locks_of_unit trace u = filter (λ l. is_same_owner (Unit u) l.owner) (held trace)
+abbrev pub locks_of : Trace → Owner → List Lock
+locks_of trace owner = filter (λ l. is_same_owner owner l.owner) (held trace)
 
 abbrev pub lock_items : Trace → List Item
 lock_items trace =
-    map Item.Lock (flat_map (locks_of_base trace) (unreleased trace)) ++ map Item.Lock (flat_map (locks_of_unit trace) (in_order (open_units trace)))
+    map Item.Lock (flat_map (λ b. locks_of trace (Base b)) (unreleased trace)) ++
+    map Item.Lock (flat_map (λ u. locks_of trace (Unit u)) (in_order (open_units trace)))
 
 -- the name of the program b, by its First unit
 abbrev pub name_of_base : Id → Trace → List ℕ

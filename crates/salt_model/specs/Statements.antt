@@ -10,7 +10,7 @@ use Rattle.salt_ast.specs.declared.trees.TableDef.{TableDef}
 use Rattle.salt_ast.specs.declared.trees.What.TheVariants.{All, Columns, Count, Max, Min, Sum}
 use Rattle.salt_ast.specs.declared.trees.What.{What}
 use Rattle.salt_model.specs.Eval.{Visible, holds, is_int64, is_no, named_values, passes, truth_of, value_named, value_of, values_of}
-use Rattle.salt_model.specs.Tables.{Edits, Entry, Tables, key_of, no_edits, place, put_changes, rows_in, with_changes}
+use Rattle.salt_model.specs.Tables.{Edits, Entry, Tables, no_edits, place, put_changes, rows_in, with_changes}
 use Rattle.salt_model.specs.Words.{and_then}
 use Rattle.salt_model.specs.declared.events.Answer.TheVariants.{Cell, Count, Failed, Rows, Stored}
 use Rattle.salt_model.specs.declared.events.Answer.{Answer}
@@ -20,7 +20,7 @@ use Rattle.salt_model.specs.declared.events.End.TheVariants.{Failed}
 use Rattle.salt_model.specs.declared.locks.Reach.{Reach}
 use Rattle.salt_model.specs.declared.places.Place.{Place}
 use Rattle.salt_model.specs.declared.vars.Binding.{Binding}
-use Rattle.salt_values.specs.Value.{int_in, is_null, is_value_below}
+use Rattle.salt_values.specs.Value.{int_in, is_null, is_value_below, key_of}
 use Rattle.salt_values.specs.declared.change.Change.{Change}
 use Rattle.salt_values.specs.declared.value.Value.TheVariants.{Int}
 use Rattle.salt_values.specs.declared.value.Value.{Value}
@@ -36,12 +36,9 @@ pub record Done : Type 0 where
   pub vars : List Binding
 
 -- a statement that fails changes nothing
-abbrev pub failing : List Binding → Cause → Done
-failing vars c = record { answer = Failed c; changes = []; vars = vars }
-
 abbrev pub done : List Binding → Result Done Cause → Done
 done vars (Ok d) = d
-done vars (Err c) = failing vars c
+done vars (Err c) = record { answer = Failed c; changes = []; vars = vars }
 
 abbrev pub answering : List Binding → Answer → Done
 answering vars a = record { answer = a; changes = []; vars = vars }
@@ -144,7 +141,7 @@ do_in t def vars (Ensure e) rows = and_then (holds (no_row vars) e) (λ b. if b 
 
 abbrev pub do_at : List Binding → Statement → Option (ℕ × TableDef) → List Entry → Done
 do_at vars (Ensure e) d rows = done vars (do_in 0 (record { name = []; columns = []; checks = [] }) vars (Ensure e) rows)
-do_at vars st None rows = failing vars Missing
+do_at vars st None rows = done vars (Err Missing)
 do_at vars st (Some d) rows = done vars (do_in d.0 d.1 vars st rows)
 
 -- doing a statement on the tables: it sees the entries in its reach, and no others

@@ -2,13 +2,14 @@
 use Rattle.salt_model.specs.After.{kept, reach_now}
 use Rattle.salt_model.specs.Next.{flight, is_decision, next}
 use Rattle.salt_model.specs.Phases.{Fallen, Opening, Phase, Serving, downs, has_opened}
-use Rattle.salt_model.specs.Trace.{Trace, from, ◌asks◌, ◌says◌, ◌turns◌}
+use Rattle.salt_model.specs.Trace.{Trace, ◌says◌}
 use Rattle.salt_model.specs.Turns.{next_number}
 use Rattle.salt_model.specs.declared.events.Event.TheVariants.{Did, Opened}
 use Rattle.salt_model.specs.declared.events.Event.{Event}
 use Rattle.salt_model.specs.declared.events.Why.TheVariants.{Stopped}
 use Rattle.salt_model.specs.declared.events.Why.{Why}
-use Rattle.std.specs.Prelude.{Bool, IsSome, IsTrue, None, Option, Some, false, if◌then◌else◌, is_some, not, true, ℕ, ◌&&◌, ◌+◌, ◌<◌, ◌≡◌, ◌≤◌, ◌⊎◌}
+use Rattle.std.specs.Prelude.{Bool, IsSome, IsTrue, Option, false, if◌then◌else◌, is_some, not, true, ℕ, ◌&&◌, ◌+◌, ◌<◌, ◌≡◌, ◌≤◌, ◌⊎◌}
+use Rattle.std.specs.Option.{option_map_or}
 
 -- a stop or a fault falls where devices are written or read
 abbrev pub is_at_devices : Trace → Event → Bool
@@ -16,25 +17,18 @@ is_at_devices trace (Did u st answer) = is_some (reach_now u trace st)
 is_at_devices trace e = is_decision e
 
 abbrev pub is_device_next : Trace → Option Event → Bool
-is_device_next trace None = false
-is_device_next trace (Some e) = is_at_devices trace e
+is_device_next trace o = option_map_or (is_at_devices trace) o false
 
 -- the trace ends with an Opened: what may come next is the flight's decision, which is at the devices already
 abbrev pub is_just_opened : Trace → Bool
-is_just_opened (from k) = false
-is_just_opened (trace asks asked) = false
-is_just_opened (trace turns b) = false
 is_just_opened (trace says Opened boot n) = true
-is_just_opened (trace says e) = false
+is_just_opened trace = false
 
--- the drain is about to read or write the devices
-abbrev pub is_drain_at_devices : Trace → Bool
-is_drain_at_devices trace = not (is_just_opened trace) && is_device_next trace (next trace)
-
--- a Down: while serving, where the next missing event is at the devices; in an opening as a stop, before its Opened or in the drain
+-- a Down: while serving, where the next missing event is at the devices; in an opening as a stop, before its Opened, or in the drain where
+-- that is about to read or write them
 abbrev pub MayFall : Phase → Trace → Why → Type 0
 MayFall Serving trace why = IsTrue (is_device_next trace (next trace))
-MayFall Opening trace why = (why ≡ Stopped) × IsTrue (is_drain_at_devices trace)
+MayFall Opening trace why = (why ≡ Stopped) × IsTrue (not (is_just_opened trace) && is_device_next trace (next trace))
 MayFall Fallen trace why = why ≡ Stopped
 
 -- the boots that an opening may have, and its decision number: the last, or the flight's

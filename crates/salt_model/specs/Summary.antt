@@ -3,7 +3,6 @@ use Rattle.salt_model.specs.EventTexts.{cell_text}
 use Rattle.salt_model.specs.declared.events.Answer.TheVariants as answer
 use Rattle.salt_model.specs.declared.events.Answer.{Answer}
 use Rattle.salt_model.specs.declared.events.End.TheVariants as end
-use Rattle.salt_model.specs.declared.events.End.{End}
 use Rattle.salt_model.specs.declared.events.Event.TheVariants as event
 use Rattle.salt_model.specs.declared.events.Event.{Event}
 use Rattle.salt_values.specs.declared.value.Value.{Value}
@@ -15,20 +14,12 @@ abbrev pub is_began : Event → Bool
 is_began (event.Began u k) = true
 is_began e = false
 
-abbrev pub is_commit : End → Bool
-is_commit (end.Committed n) = true
-is_commit e = false
-
 abbrev pub is_committed : Event → Bool
-is_committed (event.Ended u e) = is_commit e
+is_committed (event.Ended u (end.Committed n)) = true
 is_committed e = false
 
-abbrev pub is_victim_end : End → Bool
-is_victim_end end.Victim = true
-is_victim_end e = false
-
 abbrev pub is_victim : Event → Bool
-is_victim (event.Ended u e) = is_victim_end e
+is_victim (event.Ended u end.Victim) = true
 is_victim e = false
 
 abbrev pub is_acceptance : Event → Bool

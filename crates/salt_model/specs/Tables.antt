@@ -4,26 +4,19 @@ use Rattle.salt_model.specs.declared.places.Place.{Place}
 use Rattle.salt_ranges.specs.Ranges.{has_key}
 use Rattle.salt_values.specs.Value.{value_cmp, value_total}
 use Rattle.salt_values.specs.declared.change.Change.{Change}
-use Rattle.salt_values.specs.declared.value.Value.TheVariants.{Int}
 use Rattle.salt_values.specs.declared.value.Value.{Value}
 use Rattle.std.specs.Cmp.{IsTotalOrder, nat_cmp_total, on_total, then_total}
 use Rattle.std.specs.FinMap.Entries.{find, is_sorted, is_sorted-put, is_sorted-where_key, put, where_key}
 use Rattle.std.specs.Ordering.{is_eq, nat_cmp, on, then_cmp}
-use Rattle.std.specs.Prelude.{Bool, List, None, Option, Some, [], not, pos, ℕ, ◌&&◌, ◌==◌, ◌∷◌}
+use Rattle.std.specs.Prelude.{Bool, List, None, Option, Some, [], not, ℕ, ◌&&◌, ◌==◌, ◌∷◌}
 use Rattle.std.specs.declared.cmp.Ordering.{Ordering}
 use lib.Dec.{T}
 
-abbrev pub table_at : Place → ℕ
-table_at p = p.table
-
-abbrev pub key_at : Place → Value
-key_at p = p.key
-
 abbrev pub place_cmp : Place → Place → Ordering
-place_cmp = then_cmp (on table_at nat_cmp) (on key_at value_cmp)
+place_cmp = then_cmp (on (λ (p : Place). p.table) nat_cmp) (on (λ (p : Place). p.key) value_cmp)
 
 pub place_total : IsTotalOrder place_cmp
-place_total = then_total (on_total table_at nat_cmp_total) (on_total key_at value_total)
+place_total = then_total (on_total (λ (p : Place). p.table) nat_cmp_total) (on_total (λ (p : Place). p.key) value_total)
 
 abbrev pub place : ℕ → Value → Place
 place t k = record { table = t; key = k }
@@ -37,11 +30,6 @@ pub record Tables : Type 0 where
 
 abbrev pub no_rows : Tables
 no_rows = record { list = []; sorted = tt }
-
--- a row's key is its first value
-abbrev pub key_of : List Value → Value
-key_of [] = Int (pos 0)
-key_of (k ∷ vs) = k
 
 -- the row at a place
 abbrev pub row_at : Place → Tables → Option (List Value)

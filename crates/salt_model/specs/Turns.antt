@@ -33,7 +33,7 @@ use Rattle.salt_values.specs.declared.value.Value.{Value}
 use Rattle.std.specs.Bool.{then_some}
 use Rattle.std.specs.List.{find}
 use Rattle.std.specs.Option.{option_or}
-use Rattle.std.specs.Prelude.{Bool, List, None, Option, Some, [], false, if◌then◌else◌, is_none, is_some, length, map, not, option_map, true, ℕ, ◌&&◌, ◌+◌, ◌==◌, ◌∷◌}
+use Rattle.std.specs.Prelude.{Bool, List, None, Option, Some, [], false, if◌then◌else◌, is_none, is_some, length, map, not, option_and_then, option_map, true, ℕ, ◌&&◌, ◌+◌, ◌==◌, ◌∷◌}
 
 -- the names that come next
 abbrev pub fresh_unit : Trace → Id
@@ -67,10 +67,6 @@ does_next trace u = option_map (does trace u) (asked_by u trace)
 
 -- 1. The first event of a line.
 
-abbrev pub turn_of : Trace → Option Id → Option Event
-turn_of trace None = None
-turn_of trace (Some u) = turn trace u
-
 abbrev pub kind_called : Trace → ℕ → List ℕ → List Value → Body → UnitKind
 kind_called trace s n args (Acid block) = Call s n args
 kind_called trace s n args (Base parts) = First s (fresh_base trace) n args
@@ -86,7 +82,7 @@ act_event trace s Begin u = Some (begins trace (Acid s))
 act_event trace s (Do st) None = Some (begins trace (Acid s))
 act_event trace s (Do st) (Some u) = turn trace u
 act_event trace s (Call n args) u = calls trace s n args
-act_event trace s Step u = turn_of trace u
+act_event trace s Step u = option_and_then (turn trace) u
 act_event trace s Commit u = option_map (commits trace) u
 act_event trace s Rollback u = option_map (λ v. Ended v RolledBack) u
 
@@ -99,16 +95,15 @@ abbrev pub go : Trace → Id → Option Event
 go trace b = goes_on trace b (program_unit b trace)
 
 abbrev pub line_event : Trace → Line → Option Event
-line_event trace Nothing = None
 line_event trace (Table d) = Some (Defined (next_number trace) (table_text d))
 line_event trace (Program p) = Some (Defined (next_number trace) (program_text p))
 line_event trace (Session s act) = act_event trace s act (session_unit s trace)
 line_event trace (Go b) = go trace b
-line_event trace GoAll = None
 line_event trace ShowLocks = Some (Shown (lock_items trace))
 line_event trace ShowBases = Some (Shown (base_items trace))
 line_event trace (Crash pairs) = Some (Armed pairs)
 line_event trace (Net pairs) = Some (Armed pairs)
+line_event trace line = None
 
 -- 2. What follows an event in its turn, given the trace with it.
 
@@ -172,12 +167,11 @@ ids_after b [] = []
 ids_after b (c ∷ cs) = if is_same_id b c then cs else ids_after b cs
 
 abbrev pub still_to_go : Trace → List Id
-still_to_go (from k) = []
 still_to_go (trace asks Tree GoAll) = in_order (map (λ c. c.base) (kept trace).conts)
-still_to_go (trace asks asked) = []
 still_to_go (trace turns b) = ids_after b (still_to_go trace)
 still_to_go (trace says Down why) = []
 still_to_go (trace says e) = still_to_go trace
+still_to_go trace = []
 
 -- one that has finished, or waits, when its turn comes is left out
 abbrev pub can_go : Trace → Id → Bool

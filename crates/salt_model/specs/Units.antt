@@ -166,10 +166,8 @@ unit_count (trace says e) = unit_count trace
 
 -- the program that a unit begins, by its kind
 abbrev pub program_begun : UnitKind → Option Id
-program_begun (Acid s) = None
-program_begun (Call s n args) = None
 program_begun (First s b n args) = Some b
-program_begun (Later b part) = None
+program_begun kind = None
 
 abbrev pub base_count : Trace → ℕ
 base_count (from k) = 0

@@ -1,7 +1,6 @@
 -- Turns: which statement a unit asks for. Who waits for whom, and the victim.
 use Rattle.std.specs.Option.{option_or}
 use Rattle.salt_ast.specs.declared.lines.Act.TheVariants.{Do}
-use Rattle.salt_ast.specs.declared.lines.Act.{Act}
 use Rattle.salt_ast.specs.declared.lines.Line.TheVariants.{Session}
 use Rattle.salt_ast.specs.declared.lines.Line.{Line}
 use Rattle.salt_ast.specs.declared.trees.Statement.{Statement}
@@ -20,13 +19,9 @@ use Rattle.salt_values.specs.declared.id.Id.{Id}
 use Rattle.std.specs.List.{filter, find, flat_map, list_any}
 use Rattle.std.specs.Prelude.{Bool, List, None, Option, Some, [], if◌then◌else◌, is_none, length, map, not, option_and_then, slice_get, ◌&&◌, ◌∷◌}
 
-abbrev pub statement_of_act : Act → Option Statement
-statement_of_act (Do st) = Some st
-statement_of_act act = None
-
 -- the statement of a session's line
 abbrev pub statement_of_line : Line → Option Statement
-statement_of_line (Session s act) = statement_of_act act
+statement_of_line (Session s (Do st)) = Some st
 statement_of_line line = None
 
 -- the line whose statement a session's unit asks for: that of its Waits, or this one

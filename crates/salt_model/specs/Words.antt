@@ -2,7 +2,9 @@
 use Rattle.salt_values.specs.Id.{in_order, is_older}
 use Rattle.salt_values.specs.declared.id.Id.{Id}
 use Rattle.std.specs.List.{filter, flat_map, list_all}
-use Rattle.std.specs.Prelude.{Bool, Err, List, None, Ok, Option, Result, Some, [], false, if◌then◌else◌, suc, true, zero, ℕ, ⊤, ◌++◌, ◌∷◌}
+use Rattle.std.specs.Prelude.{Bool, Err, List, None, Ok, Option, Result, Some, [], false, if◌then◌else◌, suc, true, zero, ℕ, ◌++◌, ◌∷◌}
+-- a fact of each element
+pub use Rattle.std.specs.List.{AllByRecursion as Every}
 
 abbrev pub first_of_list : {A : Type 0} → List A → Option A
 first_of_list [] = None
@@ -25,11 +27,6 @@ greatest (u ∷ us) = elim (greatest us) [ None ↦ Some u | Some v ↦ Some (if
 abbrev pub widened : (Id → List Id) → ℕ → List Id → List Id
 widened next zero seen = seen
 widened next (suc n) seen = widened next n (in_order (seen ++ flat_map next seen))
-
--- a fact of each element
-abbrev pub Every : {A : Type 0} → (A → Type 0) → List A → Type 0
-Every P [] = ⊤
-Every P (x ∷ xs) = P x × Every P xs
 
 -- a list without those that the test on what is left drops, again and again
 abbrev pub shrink : {A : Type 0} → (List A → A → Bool) → ℕ → List A → List A

@@ -11,11 +11,12 @@ use Rattle.salt_model.specs.Tables.{Tables}
 use Rattle.salt_stands.specs.Reading.{Reading}
 use Rattle.salt_stands.specs.Stands as opening
 use Rattle.salt_stands.specs.Stands.{Found, Opening, Stands, are_spent, found_with, is_same_shape, judged, logs_of, of_coordinator, of_parts, opening_of, parts_at, with_parts}
-use Rattle.salt_stands.specs.Words.{and_then, given, if_sound, or_fault}
+use Rattle.salt_stands.specs.Words.{if_sound, or_fault}
 use Rattle.salt_values.specs.declared.cont.Cont.{Cont}
 use Rattle.salt_place.specs.declared.placement.Shape.{Shape}
 use Rattle.std.proofs.Common.{ap, arith, inl, inr, sym, ◌∙◌}
-use Rattle.std.specs.Prelude.{Bool, Err, List, None, Ok, Option, Result, Some, [], false, not, option_map, refl, true, ℕ, ◌++◌, ◌∷◌, ◌≡◌, ◌⊎◌}
+use Rattle.std.specs.Prelude.{Bool, Err, List, None, Ok, Option, Result, Some, [], false, if◌then◌else◌, not, option_map, refl, true, ℕ, ◌++◌, ◌∷◌, ◌≡◌, ◌⊎◌, option_and_then}
+use Rattle.std.specs.Bool.{then_some}
 
 -- TWO READERS are the same at each text
 same_read : (a b : List ℕ → Option Definition) → IsReader a → IsReader b → (text : List ℕ) → a text ≡ b text
@@ -29,14 +30,14 @@ same_read a b x y text = by (a text) (b text) refl refl
 module _ (a b : List ℕ → Option Definition) (same : (text : List ℕ) → a text ≡ b text) where
   same_define : (t : NumberedText) (ds : Option (List Definition)) → define (definitions_reading a) t ds ≡ define (definitions_reading b) t ds
   same_define t None = refl
-  same_define t (Some ds) = ap (λ o. and_then (λ d. given (not ((definitions_reading a).is_refused ds d)) (ds ++ d ∷ [])) o) (same t.text)
+  same_define t (Some ds) = ap (λ o. option_and_then (λ d. then_some (not ((definitions_reading a).is_refused ds d)) (ds ++ d ∷ [])) o) (same t.text)
 
   same_defined : (ts : List NumberedText) (ds : Option (List Definition)) → defined_by (definitions_reading a) ds ts ≡ defined_by (definitions_reading b) ds ts
   same_defined [] ds = refl
   same_defined (t ∷ ts) ds = ap (λ o. defined_by (definitions_reading a) o ts) (same_define t ds) ∙ same_defined ts (define (definitions_reading b) t ds)
 
   abbrev sound : CoordinatorLog → Option (List Definition) → Option (Coordinator Definition)
-  sound log o = and_then (λ ds. and_then (λ cs. given (are_sound (definitions_reading a) log ds) (record { log = log; definitions = ds; conts = cs })) (moved log.header.format (Some log.header.conts) log.told.decided)) o
+  sound log o = option_and_then (λ ds. option_and_then (λ cs. then_some (are_sound (definitions_reading a) log ds) (record { log = log; definitions = ds; conts = cs })) (moved log.header.format (Some log.header.conts) log.told.decided)) o
 
   same_coordinator : (log : CoordinatorLog) → coordinator_of (definitions_reading a) log ≡ coordinator_of (definitions_reading b) log
   same_coordinator log = ap (sound log) (same_defined log.told.definitions (Some []))
@@ -77,16 +78,16 @@ module _ (read : List ℕ → Option Definition) where
   log-of : (log : CoordinatorLog) (c : Coordinator Definition) → coordinator_of reading log ≡ Some c → c.log ≡ log
   log-of log c e = by (defined_by reading (Some []) log.told.definitions) e
     where
-      sound : (ds : List Definition) (cs : List Cont) (t : Bool) → given t (record { log = log; definitions = ds; conts = cs }) ≡ Some c → c.log ≡ log
+      sound : (ds : List Definition) (cs : List Cont) (t : Bool) → then_some t (record { log = log; definitions = ds; conts = cs }) ≡ Some c → c.log ≡ log
       sound ds cs true h = let same : record { log = log; definitions = ds; conts = cs } ≡ c = cc in ap (λ (x : Coordinator Definition). x.log) (sym same)
       sound ds cs false h = absurd cc
 
-      moves : (ds : List Definition) (m : Option (List Cont)) → and_then (λ cs. given (are_sound reading log ds) (record { log = log; definitions = ds; conts = cs })) m ≡ Some c → c.log ≡ log
+      moves : (ds : List Definition) (m : Option (List Cont)) → option_and_then (λ cs. then_some (are_sound reading log ds) (record { log = log; definitions = ds; conts = cs })) m ≡ Some c → c.log ≡ log
       moves ds None h = absurd cc
       moves ds (Some cs) h = sound ds cs (are_sound reading log ds) h
 
       by : (o : Option (List Definition)) →
-          and_then (λ ds. and_then (λ cs. given (are_sound reading log ds) (record { log = log; definitions = ds; conts = cs })) (moved log.header.format (Some log.header.conts) log.told.decided)) o ≡ Some c → c.log ≡ log
+          option_and_then (λ ds. option_and_then (λ cs. then_some (are_sound reading log ds) (record { log = log; definitions = ds; conts = cs })) (moved log.header.format (Some log.header.conts) log.told.decided)) o ≡ Some c → c.log ≡ log
       by None h = absurd cc
       by (Some ds) h = moves ds (moved log.header.format (Some log.header.conts) log.told.decided) h
 
@@ -94,10 +95,10 @@ module _ (read : List ℕ → Option Definition) where
     format-of : (which : WhichLog) (log : CoordinatorLog) → coordinator_pair (logs_of bytes) ≡ Counts which log → found.format ≡ log.header.format
     format-of which log counts = by (coordinator_of reading log) refl (ap (λ p. of_coordinator reading bytes shape (judge_coordinator reading p)) (sym counts) ∙ opens)
       where
-        parts : (c : Coordinator Definition) → c.log ≡ log → (same spent : Bool) (p : Result (List Tables) ℕ) → elim same [
-          | false ↦ opening.OtherShape c.log.header.shape shape
-          | true ↦ elim spent [ true ↦ opening.NumbersSpent c.log.told.boot c.log.told.decisions | false ↦ of_parts c p ]
-        ] ≡ Stands found → found.format ≡ log.header.format
+        parts : (c : Coordinator Definition) → c.log ≡ log → (same spent : Bool) (p : Result (List Tables) ℕ) →
+            (if not same then opening.OtherShape c.log.header.shape shape else
+            if spent then opening.NumbersSpent c.log.told.boot c.log.told.decisions else
+            of_parts c p) ≡ Stands found → found.format ≡ log.header.format
         parts c is false spent p h = absurd cc
         parts c is true true p h = absurd cc
         parts c is true false (Err dev) h = absurd cc

@@ -12,7 +12,7 @@ use Rattle.salt_place.specs.declared.placement.PlaceKind.TheVariants.{Bands, Rem
 use Rattle.salt_place.specs.declared.placement.PlaceKind.{PlaceKind}
 use Rattle.salt_place.specs.declared.placement.Shape.{Shape}
 use Rattle.std.proofs.Common.{ap, arith, ◌∙◌, ◌&&◌}
-use Rattle.std.specs.Prelude.{Bool, Err, List, None, Ok, Option, Result, Some, false, refl, true, ℕ, ◌==◌, ◌≡◌}
+use Rattle.std.specs.Prelude.{Bool, Err, List, None, Ok, Option, Result, Some, false, if◌then◌else◌, not, refl, true, ℕ, ◌==◌, ◌≡◌}
 
 same-number : (n : ℕ) → (n == n) ≡ true
 same-number n = grind arith
@@ -32,7 +32,7 @@ ok-one : {x y : Found Definition} → ◌≡◌ {A = Result (Found Definition) �
 ok-one h = cc
 
 choose : (same spent : Bool) (x y z : Opening Definition) → same ≡ true → spent ≡ false
-    → elim same [ false ↦ x | true ↦ elim spent [ true ↦ y | false ↦ z ] ] ≡ z
+    → (if not same then x else if spent then y else z) ≡ z
 choose true false x y z e f = refl
 choose true true x y z e f = absurd cc
 choose false spent x y z e f = absurd cc
@@ -43,10 +43,9 @@ module _ (read : List ℕ → Option Definition) (bytes : ℕ → List ℕ) (sha
   reading = definitions_reading read
 
   parts : (c : Coordinator Definition) (p : Result (List Tables) ℕ) → if_sound (λ ts. Ok (found_with c ts)) p ≡ Ok found
-      → elim (is_same_shape c.log.header.shape shape) [
-        | false ↦ opening.OtherShape c.log.header.shape shape
-        | true ↦ elim (are_spent c.log.told.boot c.log.told.decisions) [ true ↦ opening.NumbersSpent c.log.told.boot c.log.told.decisions | false ↦ of_parts c p ]
-      ] ≡ Stands found
+      → (if not (is_same_shape c.log.header.shape shape) then opening.OtherShape c.log.header.shape shape else
+      if are_spent c.log.told.boot c.log.told.decisions then opening.NumbersSpent c.log.told.boot c.log.told.decisions else
+      of_parts c p) ≡ Stands found
   parts c (Err dev) h = absurd cc
   parts c (Ok ts) h =
       let f : found_with c ts ≡ found = ok-one h in

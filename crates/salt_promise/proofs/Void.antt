@@ -15,7 +15,7 @@ use Rattle.salt_model.specs.Played.{Tells}
 use Rattle.salt_model.specs.Trace.{Trace, Tree, ◌asks◌}
 use Rattle.salt_model.specs.declared.events.Event.TheVariants.{Defined}
 use Rattle.salt_promise.proofs.OneLine.{complete, played, start, trace}
-use Rattle.salt_promise.specs.Filling.{EntryFills, IsFullBehind, NextFills, next_definition}
+use Rattle.salt_promise.specs.Filling.{EntryFills, IsFullBehind, NextFills}
 use Rattle.salt_promise.specs.Worked.{after, header_at, one_line, one_part, opened}
 use Rattle.salt_stands.specs.Coordinator.{coordinator_pair}
 use Rattle.salt_stands.specs.CoordinatorLog.{CoordinatorLog}
@@ -73,7 +73,7 @@ more a b h = omega arith
 abbrev behind : List ℕ → List ℕ
 behind name = codes " (" ++ (columns_text (table name).columns ++ (preceded (codes ", check ") expr_text (table name).checks ++ codes ")"))
 
-fills : (name : List ℕ) → 67108864 < length name → EntryFills after.devices (next_definition (table_text (table name))) 0
+fills : (name : List ℕ) → 67108864 < length name → EntryFills after.devices (λ (log : CoordinatorLog). Defines (record { number = log.told.decisions + 1; text = table_text (table name) })) 0
 fills name h = record {
   which = LogA;
   log = log;

@@ -34,8 +34,8 @@ use Rattle.salt_model.specs.declared.events.Event.{Event}
 use Rattle.salt_model.specs.declared.events.Flight.{Flight}
 use Rattle.salt_model.specs.declared.events.Why.TheVariants as why
 use Rattle.salt_promise.specs.Worked.{after, ample, begun, blank, header_at, holding, on, one_line, one_part, opened}
-use Rattle.salt_model.specs.Arming.{armed_behind}
-use Rattle.salt_promise.specs.Counting.{AreArmed, Stops, StopsByLines}
+use Rattle.salt_model.specs.Arming.{armed_behind, armed_by_lines}
+use Rattle.salt_promise.specs.Counting.{AreArmed, Stops}
 use Rattle.salt_promise.specs.Ending.{IsLeftBehind, StandsBehind, raised}
 use Rattle.salt_promise.specs.Filling.{IsFullBehind, NewPairFills, NextFills, coordinator_format, partition_format}
 use Rattle.salt_promise.specs.Given.{Run}
@@ -434,10 +434,10 @@ stopped_by_net =
     from (record { kept = nothing_kept; can_stop = true; early = false; over_net = true })
     says Opened 1 0 says Ready asks Tree (Net ((1, 0) ∷ [])) says Armed ((1, 0) ∷ []) says Down why.Stopped
 
-by-its-story : Stops Done [] (story_of stopped_by_net) []
+by-its-story : Stops Done (armed_behind (story_of stopped_by_net) (Some [])) []
 by-its-story = record { stops = []; behind = refl; are = refl }
 
-twists-are-no-stops : (status : Status) (last : List (ℕ × ℕ)) → StopsByLines status [] stopped_by_net last → ⊥
+twists-are-no-stops : (status : Status) (last : List (ℕ × ℕ)) → Stops status (armed_by_lines [] stopped_by_net) last → ⊥
 twists-are-no-stops status last h = let none : None ≡ Some h.stops = h.behind in cc
 
 -- MORE STATEMENTS in an opening than its programs had left: here over blank devices, where no program goes on

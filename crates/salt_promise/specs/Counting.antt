@@ -1,14 +1,12 @@
 -- Faults and stops, as they are counted over a run.
 use Rattle.salt_disk.specs.Disks.{Rose}
-use Rattle.salt_model.specs.Arming.{armed_behind, armed_by_lines}
-use Rattle.salt_model.specs.Trace.{Trace}
 use Rattle.salt_model.specs.declared.events.Event.TheVariants.{Down}
 use Rattle.salt_model.specs.declared.events.Event.{Event}
 use Rattle.salt_model.specs.declared.events.Why.TheVariants.{Fault}
 use Rattle.salt_promise.specs.Given.{Stream}
 use Rattle.salt_promise.specs.declared.status.Status.TheVariants.{DiskFault, Memory}
 use Rattle.salt_promise.specs.declared.status.Status.{Status}
-use Rattle.std.specs.Prelude.{Bool, List, Some, [], false, true, ℕ, ⊤, ◌∷◌, ◌≡◌, ◌≤◌}
+use Rattle.std.specs.Prelude.{Bool, List, Option, Some, [], false, true, ℕ, ⊤, ◌∷◌, ◌≡◌, ◌≤◌}
 
 -- A stream fails only where the run ends by that.
 abbrev pub FailsOnly : Bool → (before after : Stream) → Type 0
@@ -36,14 +34,8 @@ abbrev pub AreArmed : Status → (told last : List (ℕ × ℕ)) → Type 0
 AreArmed Memory told last = ⊤
 AreArmed status told last = last ≡ told
 
--- each stop was armed before it came; and unless memory ran out, those are armed at last that the story leaves
-pub record Stops (status : Status) (first : List (ℕ × ℕ)) (story : List Event) (last : List (ℕ × ℕ)) : Type 0 where
+-- each stop was armed before it came, as those that are left behind them tell; and unless memory ran out, these are armed at last
+pub record Stops (status : Status) (left : Option (List (ℕ × ℕ))) (last : List (ℕ × ℕ)) : Type 0 where
   pub stops : List (ℕ × ℕ)
-  pub behind : armed_behind story (Some first) ≡ Some stops
-  pub are : AreArmed status stops last
-
--- the same by the lines of a trace: what `net` arms befalls messages, and is no stop
-pub record StopsByLines (status : Status) (first : List (ℕ × ℕ)) (trace : Trace) (last : List (ℕ × ℕ)) : Type 0 where
-  pub stops : List (ℕ × ℕ)
-  pub behind : armed_by_lines first trace ≡ Some stops
+  pub behind : left ≡ Some stops
   pub are : AreArmed status stops last

@@ -27,7 +27,7 @@ use Rattle.salt_stands.specs.Words.{has_bit}
 use Rattle.salt_values.specs.declared.change.Change.{Change}
 use Rattle.salt_values.specs.declared.id.Id.{Id}
 use Rattle.salt_place.specs.declared.placement.Shape.{Shape}
-use Rattle.std.specs.Prelude.{List, None, Option, Some, [], false, length, not, ℕ, ◌+◌, ◌<◌, ◌≡◌, ◌⊎◌}
+use Rattle.std.specs.Prelude.{List, Option, Some, [], false, length, not, ℕ, ◌+◌, ◌<◌, ◌≡◌, ◌⊎◌}
 
 -- the format of the coordinator's entries, and that of a new partition's log
 abbrev pub coordinator_format : ℕ
@@ -76,13 +76,7 @@ pub record ShareFills (d : View) (shape : Shape) (u : Id) (changes : List Change
   pub changed : is_empty (changes_at shape p changes) ≡ false
   pub over : IsTooLong d dev (spell_prepared (record { unit = u; changes = changes_at shape p changes }))
 
--- what comes next in the log: a boot; a definition; a decision, with the bits of the partitions that it changes
-abbrev pub next_boot : CoordinatorLog → CoordinatorEntry
-next_boot log = Boots (log.told.boot + 1)
-
-abbrev pub next_definition : List ℕ → CoordinatorLog → CoordinatorEntry
-next_definition text log = Defines (record { number = log.told.decisions + 1; text = text })
-
+-- a decision that comes next in the log, with the bits of the partitions that it changes
 abbrev pub next_decision : Id → (mask : ℕ) → Move → CoordinatorLog → CoordinatorEntry
 next_decision u mask move log = Decides (record { number = log.told.decisions + 1; unit = u; mask = mask; move = spell_move coordinator_format move })
 
@@ -99,13 +93,12 @@ pub record DecisionFills (d : View) (shape : Shape) (trace : Trace) (e : Event) 
 
 -- of a run that is down an opening; else the decision that comes next
 abbrev pub NextFills : View → Shape → Trace → Phase → Option Event → (dev : ℕ) → Type 0
-NextFills d shape trace Fallen e dev = FirstFills d shape dev ⊎ EntryFills d next_boot dev
-NextFills d shape trace phase None dev = ⊥
-NextFills d shape trace phase (Some (Defined n text)) dev = EntryFills d (next_definition text) dev
+NextFills d shape trace Fallen e dev = FirstFills d shape dev ⊎ EntryFills d (λ log. Boots (log.told.boot + 1)) dev
+NextFills d shape trace phase (Some (Defined n text)) dev = EntryFills d (λ log. Defines (record { number = log.told.decisions + 1; text = text })) dev
 NextFills d shape trace phase (Some (Ended u (Committed n))) dev =
     ShareFills d shape u (changes_of u trace) dev ⊎ DecisionFills d shape trace (Ended u (Committed n)) u (changes_of u trace) dev
 NextFills d shape trace phase (Some (Ended u (Branched n cause))) dev = DecisionFills d shape trace (Ended u (Branched n cause)) u [] dev
-NextFills d shape trace phase (Some e) dev = ⊥
+NextFills d shape trace phase e dev = ⊥
 
 -- the device is full behind the trace
 abbrev pub IsFullBehind : View → Shape → Trace → (dev : ℕ) → Type 0

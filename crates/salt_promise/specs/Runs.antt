@@ -6,7 +6,8 @@ use Rattle.salt_model.specs.Kept.{Definition, WellKept, nothing_kept}
 use Rattle.salt_model.specs.Played.{Tells}
 use Rattle.salt_model.specs.Rests.{DoesItsRests}
 use Rattle.salt_model.specs.Trace.{Start, Trace, from}
-use Rattle.salt_promise.specs.Counting.{Downs, FailsOnly, Stops, StopsByLines}
+use Rattle.salt_promise.specs.Counting.{Downs, FailsOnly, Stops}
+use Rattle.salt_model.specs.Arming.{armed_behind, armed_by_lines}
 use Rattle.salt_promise.specs.Doing.{Does}
 use Rattle.salt_promise.specs.Ending.{Ends, Flies}
 use Rattle.salt_promise.specs.Given.{Run, shape_of}
@@ -88,7 +89,7 @@ pub record RunsOver (r : Run) (command : Command) : Type 0 where
   pub promises : Promises trace
   pub unspent : Each OpensUnspent trace
   pub drains : Always DoesItsRests trace
-  pub stops : StopsByLines r.status r.before.devices.armed trace r.after.devices.armed
+  pub stops : Stops r.status (armed_by_lines r.before.devices.armed trace) r.after.devices.armed
   pub does : Does command r trace
   pub may : IsNoRefusal r.status
   pub leaves : MayLeave (way_of r.status).leave trace
@@ -114,7 +115,7 @@ pub record RunsAs (r : Run) (command : Command) : Type 0 where
   pub source : FailsOnly (ends_reading r.status) r.before.source r.after.source
   pub sink : FailsOnly (ends_writing r.status) r.before.sink r.after.sink
   pub downs : Downs r.status r.before.devices.faults r.story r.after.devices.faults
-  pub stops : Stops r.status r.before.devices.armed r.story r.after.devices.armed
+  pub stops : Stops r.status (armed_behind r.story (Some r.before.devices.armed)) r.after.devices.armed
   pub shape : SameShape r.before.devices r.after.devices
   pub others : AreOthersKept (shape_of command) r.before.devices r.after.devices
 

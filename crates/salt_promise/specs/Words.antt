@@ -8,7 +8,7 @@ use Rattle.salt_values.specs.declared.limits.TheConstants.{CALLS_MOST, PARTITION
 use Rattle.std.specs.Bool.{then_some}
 use Rattle.std.specs.Char.{is_ascii_digit}
 use Rattle.std.specs.Global.{Global}
-use Rattle.std.specs.List.{list_all, position}
+use Rattle.std.specs.List.{find, list_all, position}
 use Rattle.std.specs.Prelude.{Bool, List, None, Option, Some, [], codes, drop, false, if◌then◌else◌, map, nat_le, nat_lt, option_and_then, option_map, string_bytes, take, true, ℕ, ◌&&◌, ◌+◌, ◌==◌, ◌∷◌}
 use Rattle.std.specs.Str.Parse.{digits_value}
 use Rattle.std.specs.Str.{byte, bytes_eq}
@@ -39,8 +39,7 @@ name_of Parts = codes "--parts"
 name_of Folder = codes "--dir"
 
 abbrev pub setting_named : List ℕ → Option Setting
-setting_named name =
-    if bytes_eq name (name_of Parts) then Some Parts else if bytes_eq name (name_of Folder) then Some Folder else None
+setting_named name = find (λ setting. bytes_eq name (name_of setting)) (Parts ∷ Folder ∷ [])
 
 abbrev pub given_to : List ℕ → List ℕ → Option Given
 given_to name value = option_map (λ setting. given setting value) (setting_named name)
@@ -108,8 +107,7 @@ folder_said (path ∷ another ∷ paths) = None
 
 abbrev pub settings_of : Option ℕ → Option (Option (List ℕ)) → Option Settings
 settings_of (Some parts) (Some folder) = Some (record { parts = parts; folder = folder })
-settings_of (Some parts) None = None
-settings_of None folder = None
+settings_of parts folder = None
 
 abbrev pub settings_given : List Given → Option Settings
 settings_given gs = settings_of (parts_said (values_of Parts gs)) (folder_said (values_of Folder gs))

@@ -17,9 +17,8 @@ abbrev pub has_key : KeyRange → Value → Bool
 has_key r k = is_above_low r.lo k && is_below_high r.hi k
 
 abbrev pub ends_meet : Option Value → Option Value → Bool
-ends_meet None hi = true
-ends_meet (Some lo) None = true
 ends_meet (Some lo) (Some hi) = is_value_at_most lo hi
+ends_meet lo hi = true
 
 -- the lower end is above the upper one
 abbrev pub is_range_empty : KeyRange → Bool

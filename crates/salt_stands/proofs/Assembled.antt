@@ -8,10 +8,11 @@ use Rattle.salt_stands.specs.PartitionLog.{PartitionLog}
 use Rattle.salt_stands.specs.Pieces.{CoordinatorStands, PartStands, PartView, listed, tables_of}
 use Rattle.salt_stands.specs.Reading.{Reading}
 use Rattle.salt_stands.specs.Stands.{found_with, stands_in, with_parts}
-use Rattle.salt_stands.specs.Words.{each_from, given, if_sound, or_fault}
+use Rattle.salt_stands.specs.Words.{each_from, if_sound, or_fault}
 use Rattle.salt_place.specs.declared.placement.Shape.{Shape}
 use Rattle.std.proofs.Common.{List, Ok, Result, ap, arith, refl, suc, zero, ℕ, ◌+◌, ◌<◌, ◌≡◌, ◌≤◌, ◌∙◌, ◌∷◌}
 use Rattle.std.specs.Prelude.{option_map}
+use Rattle.std.specs.Bool.{then_some}
 
 each_listed : {A : Type 0} (f : ℕ → Result A ℕ) (g : ℕ → A) (p n : ℕ) → ((k : ℕ) → p ≤ k → k < p + n → f k ≡ Ok (g k)) → each_from f p n ≡ Ok (listed g p n)
 each_listed f g p zero h = refl
@@ -24,7 +25,7 @@ module _ {D : Type 0} (r : Reading D) where
   part_is_at c logs devices p v h =
       let us = decided_for p c.log.told.decided in
       ap (judge_part r c p (devices (pages_device p))) h.counts
-      ∙ ap (λ b. if_sound (λ (sound : PartitionLog). or_fault (pages_device p) (option_map (part_tables us sound) (rows_of_pages r c p sound (devices (pages_device p))))) (or_fault (device_of (part_device p) v.which) (given b v.log))) h.sound
+      ∙ ap (λ b. if_sound (λ (sound : PartitionLog). or_fault (pages_device p) (option_map (part_tables us sound) (rows_of_pages r c p sound (devices (pages_device p))))) (or_fault (device_of (part_device p) v.which) (then_some b v.log))) h.sound
       ∙ ap (λ o. or_fault (pages_device p) (option_map (part_tables us v.log) o)) h.rows
 
   -- WHAT STANDS, from its parts

@@ -12,11 +12,12 @@ use Rattle.salt_stands.specs.CoordinatorLog.{CoordinatorLog, Told, coordinator_g
 use Rattle.salt_stands.specs.OpenConts.{conts_of_move, do_rise, make_move, move_on, moved}
 use Rattle.salt_stands.specs.Pieces.{CoordinatorStands, Grows, HasOneMore, IsCoordinator, IsSameAt, other_log, with_boot, with_decision, with_definition}
 use Rattle.salt_stands.specs.Reading.{Reading}
-use Rattle.salt_stands.specs.Words.{and_then, given, or_fault}
+use Rattle.salt_stands.specs.Words.{or_fault}
 use Rattle.std.proofs.Common.{List, Ok, Option, Some, [], ap, arith, false, refl, subst, sym, true, ℕ, ◌+◌, ◌++◌, ◌≡◌, ◌≤◌, ◌∙◌, ◌∷◌}
 use Rattle.std.proofs.lemmas.Bool.Decides.{Decides-eqb, nat_tests}
 use Rattle.std.specs.List.{list_all}
-use Rattle.std.specs.Prelude.{nat_le, not, option_map, ◌&&◌, ◌==◌}
+use Rattle.std.specs.Prelude.{nat_le, not, option_map, ◌&&◌, ◌==◌, option_and_then}
+use Rattle.std.specs.Bool.{then_some}
 
 pub at_most_later : (a b c : ℕ) → b ≤ c → nat_le a b ≡ true → nat_le a c ≡ true
 at_most_later a b c h e = grind (arith, nat_tests)
@@ -33,9 +34,9 @@ module _ {D : Type 0} (r : Reading D) where
   -- such a coordinator is what its log gives, and what its devices stand for
   pub is_coordinator : (c : Coordinator D) → IsCoordinator r c → coordinator_of r c.log ≡ Some c
   is_coordinator c h =
-      ap (and_then (λ ds. and_then (λ cs. given (are_sound r c.log ds) (record { log = c.log; definitions = ds; conts = cs })) (moved c.log.header.format (Some c.log.header.conts) c.log.told.decided))) h.defined
-      ∙ ap (and_then (λ cs. given (are_sound r c.log c.definitions) (record { log = c.log; definitions = c.definitions; conts = cs }))) h.moves
-      ∙ ap (λ b. given b c) sound
+      ap (option_and_then (λ ds. option_and_then (λ cs. then_some (are_sound r c.log ds) (record { log = c.log; definitions = ds; conts = cs })) (moved c.log.header.format (Some c.log.header.conts) c.log.told.decided))) h.defined
+      ∙ ap (option_and_then (λ cs. then_some (are_sound r c.log c.definitions) (record { log = c.log; definitions = c.definitions; conts = cs }))) h.moves
+      ∙ ap (λ b. then_some b c) sound
     where
       sound : are_sound r c.log c.definitions ≡ true
       sound = join (do_rise c.log.header.conts) (list_all (is_sound_cont r c.definitions c.log.told) c.log.header.conts && list_all (is_sound_decision r c.definitions c.log.told c.log.header.format) c.log.told.decided) h.rise
@@ -81,8 +82,8 @@ module _ {D : Type 0} (r : Reading D) where
   counts_push old new which log payload e now counts one same reads tells =
       pair_push coordinator_generation coordinator_in 0 old new which log (record log { told = now }) payload counts one same refl (λ es is. coordinator_push payload e now es log is reads tells)
 
-  follows_on : {A : Type 0} (n m : ℕ) (x : A) → n ≡ m + 1 → given (n == m + 1) x ≡ Some x
-  follows_on n m x e = ap (λ b. given b x) ((Decides-eqb n (m + 1)).1 e)
+  follows_on : {A : Type 0} (n m : ℕ) (x : A) → n ≡ m + 1 → then_some (n == m + 1) x ≡ Some x
+  follows_on n m x e = ap (λ b. then_some b x) ((Decides-eqb n (m + 1)).1 e)
 
   -- A BOOT
   pub boot_stands : (old new : Logs) (which : WhichLog) (c : Coordinator D) (payload : List ℕ)
@@ -122,7 +123,7 @@ module _ {D : Type 0} (r : Reading D) where
         counts = counts_push old new which c.log payload (Decides d) now h.counts one same reads (follows_on d.number c.log.told.decisions now number);
         is = record {
           defined = h.is.defined;
-          moves = moved_push format (Some c.log.header.conts) c.log.told.decided d ∙ ap (move_on format d) h.is.moves ∙ ap (and_then (make_move c.conts)) spells ∙ moves;
+          moves = moved_push format (Some c.log.header.conts) c.log.told.decided d ∙ ap (move_on format d) h.is.moves ∙ ap (option_and_then (make_move c.conts)) spells ∙ moves;
           rise = h.is.rise;
           named = all_weaker (is_sound_cont r c.definitions c.log.told) (is_sound_cont r c.definitions now) (later_cont c.definitions c.log.told now late more) c.log.header.conts h.is.named;
           decided = all_push (is_sound_decision r c.definitions now format) c.log.told.decided d
@@ -148,7 +149,7 @@ module _ {D : Type 0} (r : Reading D) where
       record {
         counts = counts_push old new which c.log payload (Defines t) now h.counts one same reads (follows_on t.number c.log.told.decisions now number);
         is = record {
-          defined = defined_push (Some []) c.log.told.definitions t ∙ ap (define r t) h.is.defined ∙ ap (and_then (λ x. given (not (r.is_refused ds x)) (ds ++ x ∷ []))) is_text ∙ ap (λ b. given (not b) (ds ++ d ∷ [])) accepted;
+          defined = defined_push (Some []) c.log.told.definitions t ∙ ap (define r t) h.is.defined ∙ ap (option_and_then (λ x. then_some (not (r.is_refused ds x)) (ds ++ x ∷ []))) is_text ∙ ap (λ b. then_some (not b) (ds ++ d ∷ [])) accepted;
           moves = h.is.moves;
           rise = h.is.rise;
           named = all_weaker (is_sound_cont r ds c.log.told) (is_sound_cont r (ds ++ d ∷ []) now) (λ x e. more_cont ds d now grows x (later_cont ds c.log.told now late more x e)) c.log.header.conts h.is.named;

@@ -13,10 +13,11 @@ use Rattle.salt_stands.specs.Pieces.{CoordinatorStands, PartStands, listed}
 use Rattle.salt_stands.specs.Reading.{Reading}
 use Rattle.salt_stands.specs.Stands.{nothing_found, stands_in, with_parts}
 use Rattle.salt_stands.specs.Tables.{joined}
-use Rattle.salt_stands.specs.Words.{and_then, if_sound}
+use Rattle.salt_stands.specs.Words.{if_sound}
 use Rattle.salt_place.specs.declared.placement.Shape.{Shape}
 use Rattle.std.proofs.Common.{List, Ok, Some, [], ap, inl, inr, refl, suc, true, zero, ℕ, ◌+◌, ◌<◌, ◌≡◌, ◌≢◌, ◌∙◌, ◌∷◌}
 use Rattle.std.proofs.lemmas.Bool.{cases_eq}
+use Rattle.std.specs.Prelude.{option_and_then}
 
 no_tables : (T : ℕ → Tables) → ((k : ℕ) → T k ≡ no_rows) → (p n : ℕ) → joined (listed T p n) ≡ no_rows
 unfolding joined
@@ -47,7 +48,7 @@ module _ {D : Type 0} (r : Reading D) where
   made_stands logs devices shape format part_format coordinator part fits h = record { coordinator = own; part = each }
     where
       reads_a : content_of coordinator_in (logs 0) ≡ IsRead (record { header = first_header shape format; told = told_by_header (first_header shape format) })
-      reads_a = ap (content_of coordinator_in) h.a ∙ ap read_or_outside (ap (and_then (λ x. with_told x (Some (told_by_header x)))) h.spells)
+      reads_a = ap (content_of coordinator_in) h.a ∙ ap read_or_outside (ap (option_and_then (λ x. with_told x (Some (told_by_header x)))) h.spells)
 
       own : CoordinatorStands r logs LogA (first_coordinator shape format)
       own = record {

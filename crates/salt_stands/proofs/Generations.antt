@@ -17,12 +17,12 @@ use Rattle.salt_stands.specs.PartitionLog.{own_log, partition_generation, partit
 use Rattle.salt_stands.specs.Pieces.{CoordinatorStands, IsSameAt, PartStands, PartView, ReadsSamePages, checkpointed, next_header, next_part_header, other_log, tables_of, with_snapshot}
 use Rattle.salt_stands.specs.Reading.{Reading}
 use Rattle.salt_stands.specs.Tables.{change_of_row}
-use Rattle.salt_stands.specs.Words.{and_then, given}
 use Rattle.std.proofs.Common.{Bool, List, Option, Some, [], ap, arith, false, refl, sym, true, ℕ, ◌+◌, ◌++◌, ◌≡◌, ◌∙◌, ◌∷◌}
 use Rattle.std.proofs.lemmas.Bool.Decides.{Decides-eqb, nat_tests}
 use Rattle.std.proofs.lemmas.List.{append-nil}
 use Rattle.std.specs.List.{list_all}
-use Rattle.std.specs.Prelude.{map, nat_le, nat_lt, ◌||◌}
+use Rattle.std.specs.Prelude.{map, nat_le, nat_lt, ◌||◌, option_and_then}
+use Rattle.std.specs.Bool.{then_some}
 
 -- WHICH COUNTS
 
@@ -75,7 +75,7 @@ module _ {L : Type 0} (generation : L → ℕ) where
 -- PARTITIONS
 
 pub alone : (p : ℕ) (payload : List ℕ) (h : PartitionHeader) → partition_header_in payload ≡ Some h → h.part ≡ p → partition_in p (payload ∷ []) ≡ Some (record { header = h; prepared = [] })
-alone p payload h is own = ap (and_then (λ h. own_log p h [])) is ∙ ap (λ b. and_then (λ (o : PartitionHeader). with_prepared o (Some [])) (given b h)) ((Decides-eqb h.part p).1 own)
+alone p payload h is own = ap (option_and_then (λ h. own_log p h [])) is ∙ ap (λ b. option_and_then (λ (o : PartitionHeader). with_prepared o (Some [])) (then_some b h)) ((Decides-eqb h.part p).1 own)
 
 module _ {D : Type 0} (r : Reading D) where
   -- writing pages on sides that the header does not name changes nothing
@@ -84,7 +84,7 @@ module _ {D : Type 0} (r : Reading D) where
   pages_elsewhere c logs old new p v h same = record {
     counts = h.counts;
     sound = h.sound;
-    rows = ap (and_then (λ rows. given (are_sound_rows r c p (map change_of_row rows)) (map change_of_row rows))) same ∙ h.rows;
+    rows = ap (option_and_then (λ rows. then_some (are_sound_rows r c p (map change_of_row rows)) (map change_of_row rows))) same ∙ h.rows;
   }
 
   -- nor does making the other log blank
@@ -137,7 +137,7 @@ module _ {D : Type 0} (r : Reading D) where
       (all_weaker (is_sound_decision r c.definitions c.log.told c.log.header.format) one (λ d e. right (nat_le d.unit.boot c.log.told.boot) (one d) e) c.log.told.decided h.is.decided)
       (record { rise = h.is.rise; each = h.is.named }) h.is.moves in
       record {
-        counts = pair_next coordinator_generation coordinator_in 0 old new which c.log (with_snapshot c format).log payload h.counts is same (ap (and_then (λ x. with_told x (Some (told_by_header x)))) spells) refl;
+        counts = pair_next coordinator_generation coordinator_in 0 old new which c.log (with_snapshot c format).log payload h.counts is same (ap (option_and_then (λ x. with_told x (Some (told_by_header x)))) spells) refl;
         is = record { defined = h.is.defined; moves = refl; rise = open'.rise; named = open'.each; decided = refl };
       }
 

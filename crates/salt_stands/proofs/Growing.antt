@@ -2,7 +2,7 @@
 use Rattle.salt_ast.specs.ProgramJudgement.{program_named}
 use Rattle.salt_ast.specs.declared.programs.ProgramDef.{ProgramDef}
 use Rattle.salt_ast.specs.declared.trees.TableDef.{TableDef}
-use Rattle.salt_stands.specs.Fitting.{at_place, definitions_reading, is_cont_of, is_key_of, is_row_of, programs_of, tables_of}
+use Rattle.salt_stands.specs.Fitting.{definitions_reading, is_cont_of, is_key_of, is_row_of, programs_of, tables_of}
 use Rattle.salt_model.specs.Kept.{Definition, program_of_definition, table_of_definition}
 use Rattle.salt_stands.specs.Pieces.{Grows}
 use Rattle.salt_tokens.specs.Spelling.{same_bytes}
@@ -10,7 +10,7 @@ use Rattle.salt_values.specs.declared.cont.Cont.{Cont}
 use Rattle.salt_values.specs.declared.value.Value.{Value}
 use Rattle.std.proofs.Common.{Bool, List, None, Option, Some, [], ap, arith, false, length, length-append, refl, suc, true, zero, ℕ, ◌++◌, ◌≡◌, ◌∙◌, ◌∷◌}
 use Rattle.std.specs.List.{cons_option, filter_map}
-use Rattle.std.specs.Prelude.{cond}
+use Rattle.std.specs.Prelude.{cond, slice_get}
 
 filter_map-append : {A B : Type 0} (f : A → Option B) (xs ys : List A) → filter_map f (xs ++ ys) ≡ filter_map f xs ++ filter_map f ys
 filter_map-append f [] ys = refl
@@ -21,7 +21,7 @@ filter_map-append {A} {B} f (x ∷ xs) ys = ap (cons_option (f x)) (filter_map-a
     front (Some y) = refl
 
 -- what stands at a place stands there with more behind
-at_place-append : {A : Type 0} (xs ys : List A) (n : ℕ) (x : A) → at_place xs n ≡ Some x → at_place (xs ++ ys) n ≡ Some x
+at_place-append : {A : Type 0} (xs ys : List A) (n : ℕ) (x : A) → slice_get xs n ≡ Some x → slice_get (xs ++ ys) n ≡ Some x
 at_place-append [] ys n x e = absurd cc
 at_place-append (y ∷ xs) ys zero x e = e
 at_place-append (y ∷ xs) ys (suc n) x e = at_place-append xs ys n x e
@@ -41,17 +41,17 @@ module _ (read : List ℕ → Option Definition) (ds : List Definition) (d : Def
   programs_more : programs_of (ds ++ d ∷ []) ≡ programs_of ds ++ programs_of (d ∷ [])
   programs_more = filter_map-append program_of_definition ds (d ∷ [])
 
-  table_stays : (n : ℕ) (t : TableDef) → at_place (tables_of ds) n ≡ Some t → at_place (tables_of (ds ++ d ∷ [])) n ≡ Some t
-  table_stays n t e = ap (λ ts. at_place ts n) tables_more ∙ at_place-append (tables_of ds) (tables_of (d ∷ [])) n t e
+  table_stays : (n : ℕ) (t : TableDef) → slice_get (tables_of ds) n ≡ Some t → slice_get (tables_of (ds ++ d ∷ [])) n ≡ Some t
+  table_stays n t e = ap (λ ts. slice_get ts n) tables_more ∙ at_place-append (tables_of ds) (tables_of (d ∷ [])) n t e
 
   program_stays : (name : List ℕ) (p : ProgramDef) → program_named (programs_of ds) name ≡ Some p → program_named (programs_of (ds ++ d ∷ [])) name ≡ Some p
   program_stays name p e = ap (λ ps. program_named ps name) programs_more ∙ named-append (programs_of ds) (programs_of (d ∷ [])) name p e
 
-  row_fits : (n : ℕ) (row : List Value) (o : Option TableDef) → at_place (tables_of ds) n ≡ o → is_row_of o row ≡ true → is_row_of (at_place (tables_of (ds ++ d ∷ [])) n) row ≡ true
+  row_fits : (n : ℕ) (row : List Value) (o : Option TableDef) → slice_get (tables_of ds) n ≡ o → is_row_of o row ≡ true → is_row_of (slice_get (tables_of (ds ++ d ∷ [])) n) row ≡ true
   row_fits n row None is e = absurd cc
   row_fits n row (Some t) is e = ap (λ o. is_row_of o row) (table_stays n t is) ∙ e
 
-  key_fits : (n : ℕ) (key : Value) (o : Option TableDef) → at_place (tables_of ds) n ≡ o → is_key_of o key ≡ true → is_key_of (at_place (tables_of (ds ++ d ∷ [])) n) key ≡ true
+  key_fits : (n : ℕ) (key : Value) (o : Option TableDef) → slice_get (tables_of ds) n ≡ o → is_key_of o key ≡ true → is_key_of (slice_get (tables_of (ds ++ d ∷ [])) n) key ≡ true
   key_fits n key None is e = absurd cc
   key_fits n key (Some t) is e = ap (λ o. is_key_of o key) (table_stays n t is) ∙ e
 
@@ -62,7 +62,7 @@ module _ (read : List ℕ → Option Definition) (ds : List Definition) (d : Def
   pub grows : Grows (definitions_reading read) ds d
   grows = record {
     tables = omega (arith, ap length tables_more, length-append (tables_of ds) (tables_of (d ∷ [])));
-    row = λ n row few e. row_fits n row (at_place (tables_of ds) n) refl e;
-    key = λ n key few e. key_fits n key (at_place (tables_of ds) n) refl e;
+    row = λ n row few e. row_fits n row (slice_get (tables_of ds) n) refl e;
+    key = λ n key few e. key_fits n key (slice_get (tables_of ds) n) refl e;
     cont = λ c e. cont_fits c (program_named (programs_of ds) c.program) refl e;
   }

@@ -15,11 +15,11 @@ use Rattle.salt_stands.specs.PartitionLog.{PartitionLog}
 use Rattle.salt_stands.specs.Pieces.{Grows, PartStands, PartView, with_boot, with_definition}
 use Rattle.salt_stands.specs.Reading.{Reading}
 use Rattle.salt_stands.specs.Tables.{change_of_row}
-use Rattle.salt_stands.specs.Words.{and_then, given}
 use Rattle.std.proofs.Common.{Bool, List, None, Option, Some, [], ap, arith, false, refl, true, ℕ, ◌+◌, ◌++◌, ◌≡◌, ◌≤◌, ◌∙◌, ◌∷◌}
 use Rattle.std.proofs.lemmas.Bool.Decides.{nat_tests}
 use Rattle.std.specs.List.{list_all}
-use Rattle.std.specs.Prelude.{map, nat_le, nat_lt, ◌==◌}
+use Rattle.std.specs.Prelude.{map, nat_le, nat_lt, ◌==◌, option_and_then}
+use Rattle.std.specs.Bool.{then_some}
 
 below_later : (a b c : ℕ) → b ≤ c → nat_lt a b ≡ true → nat_lt a c ≡ true
 below_later a b c h e = grind (arith, nat_tests)
@@ -31,11 +31,11 @@ module _ {D : Type 0} (r : Reading D) where
       → rows_of_pages r c p log bytes ≡ Some rows → rows_of_pages r d p log bytes ≡ Some rows
   rows_again c d p log bytes rows more e = by (rows_from (has_nulls log.header.format) bytes 0 log.header.sides) e
     where
-      chosen : (a b : Bool) (x : List Change) → (a ≡ true → b ≡ true) → given a x ≡ Some rows → given b x ≡ Some rows
-      chosen true b x h e = ap (λ v. given v x) (h refl) ∙ e
+      chosen : (a b : Bool) (x : List Change) → (a ≡ true → b ≡ true) → then_some a x ≡ Some rows → then_some b x ≡ Some rows
+      chosen true b x h e = ap (λ v. then_some v x) (h refl) ∙ e
       chosen false b x h e = cc
 
-      by : (o : Option (List TableRow)) → and_then (λ rs. given (are_sound_rows r c p (map change_of_row rs)) (map change_of_row rs)) o ≡ Some rows → and_then (λ rs. given (are_sound_rows r d p (map change_of_row rs)) (map change_of_row rs)) o ≡ Some rows
+      by : (o : Option (List TableRow)) → option_and_then (λ rs. then_some (are_sound_rows r c p (map change_of_row rs)) (map change_of_row rs)) o ≡ Some rows → option_and_then (λ rs. then_some (are_sound_rows r d p (map change_of_row rs)) (map change_of_row rs)) o ≡ Some rows
       by None e = cc
       by (Some rs) e =
           let cs = map change_of_row rs in

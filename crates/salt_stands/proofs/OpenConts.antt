@@ -8,13 +8,13 @@ use Rattle.salt_bytes.specs.Coordinator.{Decision}
 use Rattle.salt_stands.proofs.Booleans.{all_push, join, left, right}
 use Rattle.salt_stands.proofs.Decided.{same_id_sym}
 use Rattle.salt_stands.specs.OpenConts.{conts_of_move, do_rise, end_of, go_to, is_accepted_before, is_later_than, is_not_of, make_move, moved, replace_cont, without_cont}
-use Rattle.salt_stands.specs.Words.{and_then, given}
 use Rattle.salt_values.specs.Id.{is_same_id}
 use Rattle.salt_values.specs.declared.id.Id.{Id}
 use Rattle.std.proofs.Common.{Bool, List, None, Option, Some, [], ap, false, refl, subst, sym, true, ℕ, ◌++◌, ◌≡◌, ◌∙◌, ◌∷◌}
 use Rattle.std.proofs.lemmas.Bool.Decides.{Decides-eqb}
 use Rattle.std.specs.List.{filter, list_all}
-use Rattle.std.specs.Prelude.{cond, if◌then◌else◌, nat_lt, not, ◌&&◌, ◌==◌}
+use Rattle.std.specs.Prelude.{cond, if◌then◌else◌, nat_lt, not, ◌&&◌, ◌==◌, option_and_then}
+use Rattle.std.specs.Bool.{then_some}
 
 pub same_id : (u v : Id) → is_same_id u v ≡ true → u ≡ v
 same_id u v e =
@@ -124,7 +124,7 @@ pub record AreOpen (p : Cont → Bool) (cs : List Cont) : Type 0 where
   pub rise : do_rise cs ≡ true
   pub each : list_all p cs ≡ true
 
-given_is : {A : Type 0} (b : Bool) (x y : A) → given b x ≡ Some y → (b ≡ true) × (x ≡ y)
+given_is : {A : Type 0} (b : Bool) (x y : A) → then_some b x ≡ Some y → (b ≡ true) × (x ≡ y)
 given_is true x y e = (refl, cc)
 given_is false x y e = cc
 
@@ -158,7 +158,7 @@ module _ (p : Cont → Bool) where
 
   on_move : (format : ℕ) (ds : List Decision) (cs es : List Cont) (o : Option Move) → list_all p (conts_of_move o) ≡ true → AreOpen p cs
       → ((now : List Cont) → AreOpen p now → moved format (Some now) ds ≡ Some es → AreOpen p es)
-      → moved format (and_then (make_move cs) o) ds ≡ Some es → AreOpen p es
+      → moved format (option_and_then (make_move cs) o) ds ≡ Some es → AreOpen p es
   on_move format ds cs es None good open' h e = none (sym (nothing format ds) ∙ e)
     where
       none : None ≡ Some es → AreOpen p es

@@ -2,9 +2,9 @@
 use Rattle.salt_bytes.specs.Formats.{has_nulls}
 use Rattle.salt_bytes.specs.Partition.{PartitionHeader, Prepared, partition_header_in, prepared_in}
 use Rattle.salt_stands.specs.PartitionLog.{PartitionLog, gather, gathered, own_log, partition_in, with_prepared}
-use Rattle.salt_stands.specs.Words.{and_then, given}
 use Rattle.std.proofs.Common.{Bool, List, None, Option, Some, [], ap, false, refl, subst, true, ℕ, ◌++◌, ◌≡◌, ◌∙◌, ◌∷◌}
-use Rattle.std.specs.Prelude.{option_map, ◌==◌}
+use Rattle.std.specs.Prelude.{option_map, ◌==◌, option_and_then}
+use Rattle.std.specs.Bool.{then_some}
 
 gathered_push : (nulls : Bool) (found : Option (List Prepared)) (ps : List (List ℕ)) (p : List ℕ) → gathered nulls found (ps ++ p ∷ []) ≡ gather nulls p (gathered nulls found ps)
 gathered_push nulls found [] p = refl
@@ -25,16 +25,16 @@ module _ (payload : List ℕ) (x : Prepared) where
       same = cc
 
   own : (b : Bool) (h : PartitionHeader) (ps : List (List ℕ)) (log : PartitionLog)
-      → and_then (λ own. with_prepared own (gathered (has_nulls own.format) (Some []) ps)) (given b h) ≡ Some log
+      → option_and_then (λ own. with_prepared own (gathered (has_nulls own.format) (Some []) ps)) (then_some b h) ≡ Some log
       → prepared_in (has_nulls log.header.format) payload ≡ Some x
-      → and_then (λ own. with_prepared own (gathered (has_nulls own.format) (Some []) (ps ++ payload ∷ []))) (given b h) ≡ Some (with_one log)
+      → option_and_then (λ own. with_prepared own (gathered (has_nulls own.format) (Some []) (ps ++ payload ∷ []))) (then_some b h) ≡ Some (with_one log)
   own false h ps log is reads = cc
   own true h ps log is reads =
       ap (with_prepared h) (gathered_push (has_nulls h.format) (Some []) ps payload) ∙ one_more h (gathered (has_nulls h.format) (Some []) ps) log is reads
 
   from_header : (p : ℕ) (o : Option PartitionHeader) (ps : List (List ℕ)) (log : PartitionLog)
-      → and_then (λ h. own_log p h ps) o ≡ Some log → prepared_in (has_nulls log.header.format) payload ≡ Some x
-      → and_then (λ h. own_log p h (ps ++ payload ∷ [])) o ≡ Some (with_one log)
+      → option_and_then (λ h. own_log p h ps) o ≡ Some log → prepared_in (has_nulls log.header.format) payload ≡ Some x
+      → option_and_then (λ h. own_log p h (ps ++ payload ∷ [])) o ≡ Some (with_one log)
   from_header p None ps log is reads = cc
   from_header p (Some h) ps log is reads = own (h.part == p) h ps log is reads
 

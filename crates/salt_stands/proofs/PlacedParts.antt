@@ -17,14 +17,14 @@ use Rattle.salt_stands.specs.Pieces.{PartStands, PartView, tables_of}
 use Rattle.salt_stands.specs.Placed.{IsPlaced}
 use Rattle.salt_stands.specs.Reading.{Reading}
 use Rattle.salt_stands.specs.Tables.{change_of_row}
-use Rattle.salt_stands.specs.Words.{and_then, given}
 use Rattle.salt_values.specs.declared.id.Id.{Id}
 use Rattle.std.proofs.Common.{Bool, List, None, Option, Some, [], ap, false, refl, sym, true, ℕ, ◌++◌, ◌≡◌, ◌∙◌, ◌∷◌}
 use Rattle.std.proofs.lemmas.Bool.Decides.{Decides-eqb}
 use Rattle.std.proofs.lemmas.List.Folds.{list_all-append}
 use Rattle.std.specs.List.{list_all}
 use Rattle.std.specs.Ordering.{is_eq}
-use Rattle.std.specs.Prelude.{cond, map, nat_le, nat_lt, ◌&&◌, ◌==◌}
+use Rattle.std.specs.Prelude.{cond, map, nat_le, nat_lt, ◌&&◌, ◌==◌, option_and_then}
+use Rattle.std.specs.Bool.{then_some}
 
 module _ {D : Type 0} (r : Reading D) (c : Coordinator D) (p : ℕ) where
   sound_placed : (cs : List Change) (t : Tables) → list_all (is_sound_change r c p) cs ≡ true → IsPlaced c.log.header.shape p t → IsPlaced c.log.header.shape p (with_changes cs t)
@@ -59,14 +59,14 @@ module _ {D : Type 0} (r : Reading D) (c : Coordinator D) (p : ℕ) where
   rows_sound : (log : PartitionLog) (bytes : List ℕ) (rows : List Change) → rows_of_pages r c p log bytes ≡ Some rows → list_all (is_sound_change r c p) rows ≡ true
   rows_sound log bytes rows e = by (rows_from (has_nulls log.header.format) bytes 0 log.header.sides) e
     where
-      chosen : (xs : List Change) (b : Bool) → are_sound_rows r c p xs ≡ b → given b xs ≡ Some rows → list_all (is_sound_change r c p) rows ≡ true
+      chosen : (xs : List Change) (b : Bool) → are_sound_rows r c p xs ≡ b → then_some b xs ≡ Some rows → list_all (is_sound_change r c p) rows ≡ true
       chosen xs false s e = cc
       chosen xs true s e = ap (list_all (is_sound_change r c p)) (sym same) ∙ left (list_all (is_sound_change r c p) xs) (are_distinct xs) s
         where
           same : xs ≡ rows
           same = cc
 
-      by : (o : Option (List TableRow)) → and_then (λ rs. given (are_sound_rows r c p (map change_of_row rs)) (map change_of_row rs)) o ≡ Some rows → list_all (is_sound_change r c p) rows ≡ true
+      by : (o : Option (List TableRow)) → option_and_then (λ rs. then_some (are_sound_rows r c p (map change_of_row rs)) (map change_of_row rs)) o ≡ Some rows → list_all (is_sound_change r c p) rows ≡ true
       by None e = cc
       by (Some rs) e = chosen (map change_of_row rs) (are_sound_rows r c p (map change_of_row rs)) refl e
 

@@ -6,10 +6,11 @@ use Rattle.salt_bytes.specs.Generations.{BothBlank, Counts, Faulty, LogA, LogB, 
 use Rattle.salt_stands.specs.CoordinatorLog.{CoordinatorLog, Told, coordinator_generation, coordinator_in}
 use Rattle.salt_stands.specs.OpenConts.{conts_of_move, do_rise, moved}
 use Rattle.salt_stands.specs.Reading.{Reading}
-use Rattle.salt_stands.specs.Words.{and_then, given, has_bit, or_fault}
+use Rattle.salt_stands.specs.Words.{has_bit, or_fault}
 use Rattle.salt_values.specs.declared.id.Id.{Id}
 use Rattle.std.specs.List.{filter, list_all}
-use Rattle.std.specs.Prelude.{Bool, Err, List, None, Ok, Option, Result, Some, [], map, nat_le, not, option_map, ℕ, ◌&&◌, ◌+◌, ◌++◌, ◌∷◌}
+use Rattle.std.specs.Prelude.{Bool, Err, List, None, Ok, Option, Result, Some, [], map, nat_le, not, option_map, ℕ, ◌&&◌, ◌+◌, ◌++◌, ◌∷◌, option_and_then}
+use Rattle.std.specs.Bool.{then_some}
 
 -- the entries of each device, None where it is neither blank nor a log
 abbrev pub Logs : Type 0
@@ -22,7 +23,7 @@ device_of a LogB = a + 1
 
 -- the definitions with one more, which is read and not refused
 abbrev pub define : {D : Type 0} → Reading D → NumberedText → Option (List D) → Option (List D)
-define r t defined = and_then (λ ds. and_then (λ d. given (not (r.is_refused ds d)) (ds ++ d ∷ [])) (r.read t.text)) defined
+define r t defined = option_and_then (λ ds. option_and_then (λ d. then_some (not (r.is_refused ds d)) (ds ++ d ∷ [])) (r.read t.text)) defined
 
 abbrev pub defined_by : {D : Type 0} → Reading D → Option (List D) → List NumberedText → Option (List D)
 defined_by r defined [] = defined
@@ -46,7 +47,8 @@ are_sound r log ds =
 
 abbrev pub coordinator_of : {D : Type 0} → Reading D → CoordinatorLog → Option (Coordinator D)
 coordinator_of r log =
-    and_then (λ ds. and_then (λ cs. given (are_sound r log ds) (record { log = log; definitions = ds; conts = cs })) (moved log.header.format (Some log.header.conts) log.told.decided))
+    option_and_then (λ ds. option_and_then (λ cs. then_some (are_sound r log ds) (record { log = log; definitions = ds; conts = cs }))
+    (moved log.header.format (Some log.header.conts) log.told.decided))
     (defined_by r (Some []) log.told.definitions)
 
 abbrev pub coordinator_pair : Logs → Pair CoordinatorLog

@@ -16,7 +16,7 @@ use Rattle.salt_values.specs.Value.{is_null}
 use Rattle.salt_values.specs.declared.cont.Cont.{Cont}
 use Rattle.salt_values.specs.declared.value.Value.{Value}
 use Rattle.std.specs.List.{filter_map}
-use Rattle.std.specs.Prelude.{Bool, List, None, Option, Some, [], false, is_ok, is_some, length, nat_le, nat_lt, suc, true, zero, ℕ, ◌&&◌, ◌∷◌, ◌||◌}
+use Rattle.std.specs.Prelude.{Bool, List, None, Option, Some, [], false, is_ok, is_some, length, nat_le, nat_lt, true, ℕ, ◌&&◌, ◌∷◌, ◌||◌, slice_get}
 
 abbrev pub tables_of : List Definition → List TableDef
 tables_of ds = filter_map table_of_definition ds
@@ -36,12 +36,6 @@ known_by ds = record { schema = tables_of ds; catalogue = programs_of ds; unfini
 abbrev pub is_refused : List Definition → Definition → Bool
 is_refused ds d = is_some (line_fault (known_by ds) (line_of d))
 
--- what stands at this place, the first at 0
-abbrev pub at_place : {A : Type 0} → List A → ℕ → Option A
-at_place [] n = None
-at_place (x ∷ xs) zero = Some x
-at_place (x ∷ xs) (suc n) = at_place xs n
-
 -- a value of the column's type, or NULL where it may hold it
 abbrev pub is_of_column : Field → Value → Bool
 is_of_column f v = same_types (Some f.kind) (value_type v) || (f.nullable && is_null v)
@@ -50,8 +44,7 @@ is_of_column f v = same_types (Some f.kind) (value_type v) || (f.nullable && is_
 abbrev pub are_of_columns : List Field → List Value → Bool
 are_of_columns [] [] = true
 are_of_columns (f ∷ fs) (v ∷ vs) = is_of_column f v && are_of_columns fs vs
-are_of_columns [] (v ∷ vs) = false
-are_of_columns (f ∷ fs) [] = false
+are_of_columns fs vs = false
 
 -- no check is false of the row, and none has a cause
 abbrev pub passes_checks : TableDef → List Value → Bool
@@ -80,8 +73,8 @@ definitions_reading read = record {
   read = read;
   is_refused = is_refused;
   count_tables = λ ds. length (tables_of ds);
-  fits_row = λ ds table row. is_row_of (at_place (tables_of ds) table) row;
-  fits_key = λ ds table key. is_key_of (at_place (tables_of ds) table) key;
+  fits_row = λ ds table row. is_row_of (slice_get (tables_of ds) table) row;
+  fits_key = λ ds table key. is_key_of (slice_get (tables_of ds) table) key;
   fits_cont = λ ds c. is_cont_of (program_named (programs_of ds) c.program) c;
 }
 

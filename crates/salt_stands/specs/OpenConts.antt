@@ -4,12 +4,12 @@ use Rattle.salt_bytes.specs.declared.moves.Move.TheVariants.{Continue, Finish, P
 use Rattle.salt_values.specs.declared.cont.Cont.{Cont}
 use Rattle.salt_bytes.specs.Conts.{move_in}
 use Rattle.salt_bytes.specs.Coordinator.{Decision}
-use Rattle.salt_stands.specs.Words.{and_then, given}
 use Rattle.salt_values.specs.Id.{is_same_id}
 use Rattle.salt_values.specs.declared.id.Id.{Id}
 use Rattle.salt_model.specs.Kept.{cont_in}
 use Rattle.std.specs.List.{filter, list_all}
-use Rattle.std.specs.Prelude.{Bool, List, None, Option, Some, [], if◌then◌else◌, nat_lt, not, true, ℕ, ◌&&◌, ◌++◌, ◌==◌, ◌∷◌}
+use Rattle.std.specs.Prelude.{Bool, List, None, Option, Some, [], if◌then◌else◌, nat_lt, not, true, ℕ, ◌&&◌, ◌++◌, ◌==◌, ◌∷◌, option_and_then}
+use Rattle.std.specs.Bool.{then_some}
 
 abbrev pub is_not_of : Id → Cont → Bool
 is_not_of b c = not (is_same_id b c.base)
@@ -26,8 +26,8 @@ is_accepted_before c d = nat_lt d.accepted c.accepted
 
 -- it keeps the number of the open one that it replaces, or has a number above those of all open ones
 abbrev pub go_to : Cont → Option Cont → List Cont → Option (List Cont)
-go_to c None cs = given (list_all (is_accepted_before c) cs) (cs ++ c ∷ [])
-go_to c (Some d) cs = given (c.accepted == d.accepted) (replace_cont c cs)
+go_to c None cs = then_some (list_all (is_accepted_before c) cs) (cs ++ c ∷ [])
+go_to c (Some d) cs = then_some (c.accepted == d.accepted) (replace_cont c cs)
 
 -- what is finished is open
 abbrev pub end_of : Id → Option Cont → List Cont → Option (List Cont)
@@ -41,7 +41,7 @@ make_move cs (Finish b) = end_of b (cont_in b cs) cs
 
 -- with one more decision, whose move is spelled under this format
 abbrev pub move_on : ℕ → Decision → Option (List Cont) → Option (List Cont)
-move_on format d conts = and_then (λ cs. and_then (make_move cs) (move_in format d.move)) conts
+move_on format d conts = option_and_then (λ cs. option_and_then (make_move cs) (move_in format d.move)) conts
 
 abbrev pub moved : ℕ → Option (List Cont) → List Decision → Option (List Cont)
 moved format conts [] = conts
@@ -57,7 +57,5 @@ do_rise (c ∷ cs) = list_all (is_later_than c) cs && do_rise cs
 
 -- what a move names
 abbrev pub conts_of_move : Option Move → List Cont
-conts_of_move None = []
-conts_of_move (Some Plain) = []
 conts_of_move (Some (Continue c)) = c ∷ []
-conts_of_move (Some (Finish b)) = []
+conts_of_move move = []

@@ -12,13 +12,15 @@ use Rattle.salt_stands.specs.Coordinator.{Coordinator, Logs, decided_for, device
 use Rattle.salt_stands.specs.PartitionLog.{PartitionLog, partition_generation, partition_in}
 use Rattle.salt_stands.specs.Reading.{Reading}
 use Rattle.salt_stands.specs.Tables.{change_of_row}
-use Rattle.salt_stands.specs.Words.{and_then, given, if_sound, or_fault}
+use Rattle.salt_stands.specs.Words.{if_sound, or_fault}
 use Rattle.salt_place.specs.Placement.{place_of}
 use Rattle.salt_values.specs.declared.id.Id.{Id}
 use Rattle.salt_place.specs.declared.placement.Shape.{Shape}
 use Rattle.std.specs.List.{list_all}
 use Rattle.std.specs.Ordering.{is_eq}
 use Rattle.std.specs.Prelude.{Bool, Err, List, None, Option, Result, Some, [], drop, false, map, nat_le, nat_lt, not, option_map, suc, true, ℕ, ◌&&◌, ◌*◌, ◌+◌, ◌++◌, ◌==◌, ◌∷◌, ◌||◌}
+use Rattle.std.specs.Bool.{then_some}
+use Rattle.std.specs.Prelude.{option_and_then}
 
 abbrev pub part_of_key : Shape → Value → ℕ
 part_of_key shape key = place_of shape.kind key shape.parts
@@ -61,7 +63,8 @@ page_at nulls bytes page side = option_map (λ taken. taken.0) (take_page nulls 
 -- the rows of the pages from this one on, which stand on these sides
 abbrev pub rows_from : Bool → List ℕ → ℕ → List ℕ → Option (List TableRow)
 rows_from nulls bytes page [] = Some []
-rows_from nulls bytes page (side ∷ sides) = and_then (λ rows. option_map (λ more. rows ++ more) (rows_from nulls bytes (suc page) sides)) (page_at nulls bytes page side)
+rows_from nulls bytes page (side ∷ sides) =
+    option_and_then (λ rows. option_map (λ more. rows ++ more) (rows_from nulls bytes (suc page) sides)) (page_at nulls bytes page side)
 
 abbrev pub is_at_other : Place → Change → Bool
 is_at_other p c = not (is_eq (place_cmp p (changed_at c)))
@@ -77,7 +80,8 @@ are_sound_rows r c p rows = list_all (is_sound_change r c p) rows && are_distinc
 -- the rows on the pages, each as the change that puts it
 abbrev pub rows_of_pages : {D : Type 0} → Reading D → Coordinator D → ℕ → PartitionLog → List ℕ → Option (List Change)
 rows_of_pages r c p log bytes =
-    and_then (λ rows. given (are_sound_rows r c p (map change_of_row rows)) (map change_of_row rows)) (rows_from (has_nulls log.header.format) bytes 0 log.header.sides)
+    option_and_then (λ rows. then_some (are_sound_rows r c p (map change_of_row rows)) (map change_of_row rows))
+    (rows_from (has_nulls log.header.format) bytes 0 log.header.sides)
 
 -- THE TABLES of the partition: the rows on its pages, then the changes of the units that are decided, in order of entries
 
@@ -107,7 +111,7 @@ judge_part r c p pages BothBlank = Err (device_of (part_device p) LogB)
 judge_part r c p pages (Faulty which) = Err (device_of (part_device p) which)
 judge_part r c p pages (Counts which log) =
     if_sound (λ sound. or_fault (pages_device p) (option_map (part_tables (decided_for p c.log.told.decided) sound) (rows_of_pages r c p sound pages)))
-    (or_fault (device_of (part_device p) which) (given (is_sound_log r c p log) log))
+    (or_fault (device_of (part_device p) which) (then_some (is_sound_log r c p log) log))
 
 abbrev pub part_at : {D : Type 0} → Reading D → Coordinator D → Logs → (ℕ → List ℕ) → ℕ → Result Tables ℕ
 part_at r c logs devices p = judge_part r c p (devices (pages_device p)) (part_pair p logs)

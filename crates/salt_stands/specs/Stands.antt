@@ -10,7 +10,7 @@ use Rattle.salt_stands.specs.Words.{each_from, if_sound}
 use Rattle.salt_place.specs.declared.placement.PlaceKind.TheVariants.{Bands, Remainder}
 use Rattle.salt_place.specs.declared.placement.PlaceKind.{PlaceKind}
 use Rattle.salt_place.specs.declared.placement.Shape.{Shape}
-use Rattle.std.specs.Prelude.{Bool, Err, List, None, Ok, Option, Result, Some, [], false, nat_le, true, ℕ, ◌&&◌, ◌==◌, ◌^◌, ◌||◌}
+use Rattle.std.specs.Prelude.{Bool, Err, List, None, Ok, Option, Result, Some, [], false, if◌then◌else◌, nat_le, not, true, ℕ, ◌&&◌, ◌==◌, ◌^◌, ◌||◌}
 
 pub record Kept (D : Type 0) : Type 0 where
   pub boot : ℕ
@@ -71,8 +71,7 @@ pub data Opening (D : Type 0) : Type 0 where
 abbrev pub is_same_kind : PlaceKind → PlaceKind → Bool
 is_same_kind Remainder Remainder = true
 is_same_kind Bands Bands = true
-is_same_kind Remainder Bands = false
-is_same_kind Bands Remainder = false
+is_same_kind _ _ = false
 
 abbrev pub is_same_shape : Shape → Shape → Bool
 is_same_shape s t = (s.parts == t.parts) && is_same_kind s.kind t.kind
@@ -88,13 +87,9 @@ abbrev pub of_coordinator : {D : Type 0} → Reading D → (ℕ → List ℕ) �
 of_coordinator r devices asked (Err dev) = NotSalt dev
 of_coordinator r devices asked (Ok None) = Stands (nothing_found asked)
 of_coordinator r devices asked (Ok (Some c)) =
-    elim (is_same_shape c.log.header.shape asked) [
-      | false ↦ OtherShape c.log.header.shape asked
-      | true ↦ elim (are_spent c.log.told.boot c.log.told.decisions) [
-        | true ↦ NumbersSpent c.log.told.boot c.log.told.decisions
-        | false ↦ of_parts c (parts_at r c (logs_of devices) devices)
-      ]
-    ]
+    if not (is_same_shape c.log.header.shape asked) then OtherShape c.log.header.shape asked else
+    if are_spent c.log.told.boot c.log.told.decisions then NumbersSpent c.log.told.boot c.log.told.decisions else
+    of_parts c (parts_at r c (logs_of devices) devices)
 
 abbrev pub opening_of : {D : Type 0} → Reading D → (ℕ → List ℕ) → Shape → Opening D
 opening_of r devices asked = of_coordinator r devices asked (coordinator_at r (logs_of devices))

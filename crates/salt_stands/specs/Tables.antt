@@ -1,9 +1,9 @@
 -- The tables of parts, as one.
 use Rattle.salt_bytes.specs.Page.{TableRow}
-use Rattle.salt_bytes.specs.Values.{key_of}
 use Rattle.salt_model.specs.Tables.{Entry, Tables, no_rows, put_row}
 use Rattle.salt_values.specs.declared.change.Change.{Change}
 use Rattle.std.specs.Prelude.{List, Some, [], ◌∷◌}
+use Rattle.salt_values.specs.Value.{key_of}
 
 -- a row of a page, as the change that puts it
 abbrev pub change_of_row : TableRow → Change

@@ -1,14 +1,5 @@
 -- Small words on answers.
-use Rattle.std.specs.Prelude.{Bool, Err, List, None, Ok, Option, Result, Some, [], false, suc, true, zero, ℕ, ◌/◌, ◌%◌, ◌==◌, ◌^◌, ◌∷◌}
-
--- x where the test holds
-abbrev pub given : {A : Type 0} → Bool → A → Option A
-given true x = Some x
-given false x = None
-
-abbrev pub and_then : {A B : Type 0} → (A → Option B) → Option A → Option B
-and_then f None = None
-and_then f (Some x) = f x
+use Rattle.std.specs.Prelude.{Bool, Err, List, None, Ok, Option, Result, Some, [], suc, zero, ℕ, ◌/◌, ◌%◌, ◌==◌, ◌^◌, ◌∷◌}
 
 -- what is there, else the fault that counts against this device
 abbrev pub or_fault : {A : Type 0} → ℕ → Option A → Result A ℕ
