@@ -3,13 +3,13 @@ use Rattle.salt_values.specs.declared.limits.TheConstants.{LINE_MOST}
 use Rattle.std.proofs.Common.{◌≡◌, ℕ, ◌+◌, ◌-◌, ◌<◌, ◌≤◌, Bool, true, false, List, [], ◌∷◌, ◌++◌, length, Option, Some, None, inl, inr, IfSome, refl, sym, ◌∙◌, ◌⊎◌, ap, append_assoc, arith, length-append}
 use Rattle.std.proofs.Math.Seq.{take-append_seam}
 use Rattle.std.proofs.lemmas.List.{append-nil}
-use Rattle.salt_io.specs.Lines.{Reading, spaced, without_cr, last_text, ends_in_backslash, Script, script_of, TakesLine, TakesLong, EndsNoLine, TakesNoLine, IsCutOff}
-use Rattle.salt_io.specs.LineText.{KeepsFront, IsText}
+use Rattle.salt_io.specs.Lines.{ScriptReading, IsReadingOf, spaced, without_cr, last_text, ends_in_backslash, Script, script_of, TakesLine, TakesLong, EndsNoLine, TakesNoLine, IsCutOff}
+use Rattle.salt_io.specs.LineText.{KeepsFront, IsText, TakesText}
 use Rattle.salt_io.specs.Streams.{bytes_before, Takes, IsAtEnd}
 use Rattle.salt_io.specs.declared.line_text.LineText.{LineText}
-use Rattle.salt_io.proofs.OpenLines.{IsOpen, open-none, open-byte, open-join, open-line, open-end}
+use Rattle.salt_io.proofs.OpenLines.{IsOpen, open-none, open-byte, open-text, open-join, open-line, open-end}
 use Rattle.salt_io.proofs.ScriptLaws.{ended-prefix, last_text-nil}
-use Rattle.salt_io.proofs.Taking.{takes-none, takes-append}
+use Rattle.salt_io.proofs.Taking.{takes-none, takes-append, takes-part}
 
 -- These bytes have been taken since, and of the line's text so far that much is kept. Either the source was not asked, and what was in
 -- hand is what was taken and what is kept; or all that was in hand has been taken.
@@ -62,6 +62,37 @@ reads-byte before now next taken_before taken after line new state state' byte i
   hand = hand-more r.used in_hand kept kept' byte Unasked Unasked' steps r.hand;
 }
 
+hand-text : (used in_hand kept kept' bytes : List ℕ) (Unasked : Type 0) → kept ≡ bytes ++ kept'
+    → (Unasked × (in_hand ≡ used ++ kept)) ⊎ ((more : List ℕ) × (used ≡ in_hand ++ more))
+    → (Unasked × (in_hand ≡ (used ++ bytes) ++ kept')) ⊎ ((more : List ℕ) × (used ++ bytes ≡ in_hand ++ more))
+hand-text used in_hand kept kept' bytes Unasked given (inl h) = inl (h.0, h.1 ∙ ap (λ l. used ++ l) given ∙ sym (append_assoc used bytes kept'))
+hand-text used in_hand kept kept' bytes Unasked given (inr h) = inr (h.0 ++ bytes, ap (λ l. l ++ bytes) h.1 ∙ append_assoc in_hand h.0 bytes)
+
+-- bytes in hand that have no LF, taken at once
+pub reads-text : (before left : Option (List ℕ)) (taken_before : ℕ) (reading after : ScriptReading) (line new : List ℕ) (state state' : LineText) (in_hand : List ℕ) (Unasked : Type 0)
+    → TakesText reading after line new state state' → Reads before (bytes_before reading.kept left) taken_before reading.taken line state in_hand reading.kept Unasked
+    → Reads before (bytes_before after.kept left) taken_before after.taken new state' in_hand after.kept Unasked
+reads-text before left taken_before reading after line new state state' in_hand Unasked t r = record {
+  used = r.used ++ t.bytes;
+  text = r.text ++ t.bytes;
+  given = takes-append before (bytes_before reading.kept left) (bytes_before after.kept left) r.used t.bytes r.given
+      (ap (λ kept. bytes_before kept left) t.given ∙ takes-part t.bytes after.kept left);
+  counted = omega (arith, r.counted, t.counted, length-append r.used t.bytes);
+  stands_for = open-text r.used r.text t.bytes r.stands_for t.no_lf;
+  is = t.puts r.text r.is;
+  hand = hand-text r.used in_hand reading.kept after.kept t.bytes Unasked t.given r.hand;
+}
+
+behind-none : (bytes kept : List ℕ) → bytes ++ kept ≡ [] → kept ≡ []
+behind-none [] kept e = e
+behind-none (x ∷ xs) kept e = cc
+
+-- the reader goes on with its source
+pub reading-of : (reading after : ScriptReading) (left : Option (List ℕ)) (line new : List ℕ) (state state' : LineText) → TakesText reading after line new state state'
+    → IsReadingOf reading left → IsReadingOf after left
+reading-of reading after left line new state state' t of =
+    λ ended. (behind-none t.bytes after.kept (sym t.given ∙ (of (sym t.ended ∙ ended)).0), (of (sym t.ended ∙ ended)).1)
+
 pub reads-join : (before now next : Option (List ℕ)) (taken_before taken after : ℕ) (line new : List ℕ) (state state' : LineText) (byte : ℕ) (in_hand kept kept' : List ℕ) (Unasked Unasked' : Type 0)
     → Reads before now taken_before taken line state in_hand kept Unasked → Steps kept kept' byte Unasked Unasked' → Takes now (byte ∷ []) next → after ≡ taken + 1 → byte ≡ 10
     → ((text : List ℕ) → IsText line state text → (ends_in_backslash (without_cr text) ≡ true) × IsText new state' (spaced (without_cr text)))
@@ -97,12 +128,12 @@ unasked before now taken_before taken line state in_hand kept Unasked r whole = 
     by (inr h) = let p = ended-prefix in_hand h.0 in absurd (whole (front-none _ p.0 (sym p.1 ∙ ap (λ l. (script_of l).ended) (sym h.1) ∙ none)))
 
 -- a line with this text has been taken, and that much of it is kept
-pub record Found (most : ℕ) (before after : Option (List ℕ)) (taken_before : ℕ) (reading : Reading) (line : List ℕ) (is_long : Bool) : Type 0 where
+pub record Found (most : ℕ) (before after : Option (List ℕ)) (taken_before : ℕ) (reading : ScriptReading) (line : List ℕ) (is_long : Bool) : Type 0 where
   pub text : List ℕ
   pub kept : KeepsFront line is_long text
   pub takes : TakesLine most before after taken_before reading text
 
-pub reads-line : (most : ℕ) (before now next : Option (List ℕ)) (taken_before taken : ℕ) (after : Reading) (line new : List ℕ) (state : LineText) (in_hand kept : List ℕ) (Unasked : Type 0) (is_long : Bool) (byte : ℕ)
+pub reads-line : (most : ℕ) (before now next : Option (List ℕ)) (taken_before taken : ℕ) (after : ScriptReading) (line new : List ℕ) (state : LineText) (in_hand kept : List ℕ) (Unasked : Type 0) (is_long : Bool) (byte : ℕ)
     → Reads before now taken_before taken line state in_hand kept Unasked → Takes now (byte ∷ []) next → after.taken ≡ taken + 1 → after.taken ≤ most → byte ≡ 10
     → ((text : List ℕ) → IsText line state text → (ends_in_backslash (without_cr text) ≡ false) × KeepsFront new is_long (without_cr text)) → Found most before next taken_before after new is_long
 reads-line most before now next taken_before taken after line new state in_hand kept Unasked is_long byte r given counted within lf end = record {
@@ -127,7 +158,7 @@ kept-some [] is_long text kept some none = some refl
 kept-some (x ∷ xs) is_long text kept some none = let e : x ∷ xs ++ kept.dropped ≡ [] = sym kept.whole ∙ none in cc
 
 -- at the script's end
-pub reads-last : (most : ℕ) (before now next : Option (List ℕ)) (taken_before taken : ℕ) (after : Reading) (line new : List ℕ) (state : LineText) (in_hand kept : List ℕ) (Unasked : Type 0) (is_long : Bool)
+pub reads-last : (most : ℕ) (before now next : Option (List ℕ)) (taken_before taken : ℕ) (after : ScriptReading) (line new : List ℕ) (state : LineText) (in_hand kept : List ℕ) (Unasked : Type 0) (is_long : Bool)
     → Reads before now taken_before taken line state in_hand kept Unasked → now ≡ next → after.taken ≡ taken → after.taken ≤ most → after.ended ≡ true → (new ≡ [] → ⊥)
     → ((text : List ℕ) → IsText line state text → KeepsFront new is_long (last_text text)) → Found most before next taken_before after new is_long
 reads-last most before now next taken_before taken after line new state in_hand hand Unasked is_long r same counted within at_end some end = record {
@@ -191,12 +222,12 @@ reads-cut_off most before (Some rest) taken_before taken line state in_hand kept
   gone = omega (arith, r.counted)
 
 -- all of a line that is not long is kept
-pub found-line : (most : ℕ) (before after : Option (List ℕ)) (taken_before : ℕ) (taken : Reading) (line : List ℕ) (is_long : Bool) → is_long ≡ false → Found most before after taken_before taken line is_long → TakesLine most before after taken_before taken line
+pub found-line : (most : ℕ) (before after : Option (List ℕ)) (taken_before : ℕ) (taken : ScriptReading) (line : List ℕ) (is_long : Bool) → is_long ≡ false → Found most before after taken_before taken line is_long → TakesLine most before after taken_before taken line
 found-line most before after taken_before taken line is_long short found = rw (← same) found.takes where
   same : found.text ≡ line
   same = found.kept.whole ∙ ap (λ others. line ++ others) (found.kept.short short) ∙ append-nil line
 
-pub found-long : (most : ℕ) (before after : Option (List ℕ)) (taken_before : ℕ) (taken : Reading) (line : List ℕ) (is_long : Bool) → is_long ≡ true → Found most before after taken_before taken line is_long → TakesLong LINE_MOST most before after taken_before taken
+pub found-long : (most : ℕ) (before after : Option (List ℕ)) (taken_before : ℕ) (taken : ScriptReading) (line : List ℕ) (is_long : Bool) → is_long ≡ true → Found most before after taken_before taken line is_long → TakesLong LINE_MOST most before after taken_before taken
 found-long most before after taken_before taken line is_long long found = record {
   text = found.text;
   long = let e : length found.text ≡ length line + length found.kept.dropped = ap length found.kept.whole ∙ length-append line found.kept.dropped in let f = found.kept.long long in omega (arith, e, f.0, f.1);

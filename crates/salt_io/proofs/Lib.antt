@@ -3,6 +3,8 @@ pub mod Ends
 pub mod HowFar
 pub mod LineTexts
 pub mod OpenLines
+pub mod Parts
 pub mod Results
 pub mod ScriptLaws
+pub mod Tails
 pub mod Taking

@@ -1,10 +1,11 @@
 -- What is kept of a line, byte by byte.
 use Rattle.salt_values.specs.declared.limits.TheConstants.{LINE_MOST}
-use Rattle.std.proofs.Common.{◌≡◌, ℕ, ◌<◌, ◌≤◌, Bool, true, false, eqb, ◌⊎◌, inl, inr, List, [], ◌∷◌, ◌++◌, length, refl, sym, ◌∙◌, ap, append_assoc, arith, length-append}
-use Rattle.std.proofs.lemmas.List.{append-nil}
+use Rattle.std.proofs.Common.{◌≡◌, ℕ, ◌+◌, ◌-◌, ◌<◌, ◌≤◌, Bool, true, false, eqb, ◌⊎◌, inl, inr, List, [], ◌∷◌, ◌++◌, length, take, drop, refl, sym, ◌∙◌, ap, subst, append_assoc, arith, length-append, length-drop}
+use Rattle.std.proofs.Math.Seq.{take-append_seam}
+use Rattle.std.proofs.lemmas.List.{append-nil, length-take-le, take-append-drop}
 use Rattle.std.proofs.lemmas.Bool.Decides.{nat_tests}
 use Rattle.salt_io.specs.Lines.{ends_in_backslash, spaced, without_cr, last_text}
-use Rattle.salt_io.specs.LineText.{tail_bytes, KeepsFront, IsBeforeTail, IsText}
+use Rattle.salt_io.specs.LineText.{tail_bytes, EndsInTail, KeepsFront, IsBeforeTail, IsText}
 use Rattle.salt_io.specs.declared.line_text.LineText.{LineText}
 use Rattle.salt_io.specs.declared.line_text.Tail.{Tail}
 use Rattle.salt_io.specs.declared.line_text.Tail.TheVariants.{Nothing, Cr, Backslash, BackslashCr}
@@ -29,6 +30,48 @@ kept-full line is_long text byte k full = record {
   within = k.within;
   short = λ e. cc;
   long = λ _. (omega (arith, k.within), omega (arith, length-append k.dropped (byte ∷ [])));
+}
+
+-- bytes that there is room for
+pub kept-all : (line : List ℕ) (is_long : Bool) (text bytes : List ℕ) → KeepsFront line is_long text → length line + length bytes ≤ LINE_MOST → KeepsFront (line ++ bytes) is_long (text ++ bytes)
+kept-all line is_long text [] k room = rw (append-nil line, append-nil text) k
+kept-all line true text (b ∷ bs) k room = absurd (omega (arith, (k.long refl).0))
+kept-all line false text (b ∷ bs) k room = record {
+  dropped = [];
+  whole = rw k.whole (rw (k.short refl) (rw (append-nil line, append-nil (line ++ b ∷ bs)) refl));
+  within = omega (arith, length-append line (b ∷ bs));
+  short = λ _. refl;
+  long = λ e. cc;
+}
+
+take-none : (bytes : List ℕ) → take 0 bytes ≡ []
+take-none [] = refl
+take-none (b ∷ bs) = refl
+
+-- bytes behind a line that is full
+kept-past : (line : List ℕ) (text bytes : List ℕ) → KeepsFront line true text → KeepsFront line true (text ++ bytes)
+kept-past line text bytes k = record {
+  dropped = k.dropped ++ bytes;
+  whole = ap (λ first. first ++ bytes) k.whole ∙ append_assoc line k.dropped bytes;
+  within = k.within;
+  short = λ e. cc;
+  long = λ _. ((k.long refl).0, omega (arith, (k.long refl).1, length-append k.dropped bytes));
+}
+
+-- bytes for the first of which alone there is room
+pub kept-cut : (line : List ℕ) (is_long : Bool) (text bytes : List ℕ) (room : ℕ) → KeepsFront line is_long text → room ≡ LINE_MOST - length line → room < length bytes
+    → KeepsFront (line ++ take room bytes) true (text ++ bytes)
+kept-cut line true text bytes room k is cut =
+    let none : room ≡ 0 = omega (arith, (k.long refl).0) in
+    let same : line ≡ line ++ take room bytes = sym (ap (λ n. line ++ take n bytes) none ∙ ap (λ first. line ++ first) (take-none bytes) ∙ append-nil line) in
+    subst (λ (kept : List ℕ). KeepsFront kept true (text ++ bytes)) same (kept-past line text bytes k)
+kept-cut line false text bytes room k is cut = record {
+  dropped = drop room bytes;
+  whole = rw k.whole (rw (k.short refl) (rw (append-nil line)
+      (sym (append_assoc line (take room bytes) (drop room bytes) ∙ ap (λ rest. line ++ rest) (take-append-drop room bytes)))));
+  within = omega (arith, k.within, length-append line (take room bytes), length-take-le room bytes (omega arith));
+  short = λ e. cc;
+  long = λ _. (omega (arith, k.within, length-append line (take room bytes), length-take-le room bytes (omega arith)), omega (arith, length-drop room bytes));
 }
 
 -- the text with its tail kept too
@@ -126,6 +169,24 @@ text-other line new state after text byte no_cr no_backslash none kept = record 
 } where
   other : (n : ℕ) → (byte ≡ n → ⊥) → eqb byte n ≡ false
   other n ne = grind (arith, nat_tests)
+
+-- bytes whose tail is told
+pub text-all : (new : List ℕ) (after : LineText) (text bytes : List ℕ) (tail : Tail) (dropped : ℕ) → EndsInTail bytes tail → dropped ≡ length (tail_bytes tail) → after.tail ≡ tail
+    → KeepsFront new after.is_long (text ++ take (length bytes - dropped) bytes) → IsText new after (text ++ bytes)
+text-all new after text bytes tail dropped ends count same kept = record {
+  before_tail = text ++ ends.front;
+  whole = rw same (ap (λ more. text ++ more) ends.whole ∙ sym (append_assoc text ends.front (tail_bytes tail)));
+  kept = subst (λ (more : List ℕ). KeepsFront new after.is_long (text ++ more)) first kept;
+  cut = rw same (ends.cut text);
+} where
+  long : length bytes ≡ length ends.front + length (tail_bytes tail)
+  long = ap length ends.whole ∙ length-append ends.front (tail_bytes tail)
+
+  first_count : length bytes - dropped ≡ length ends.front
+  first_count = omega (arith, long, count)
+
+  first : take (length bytes - dropped) bytes ≡ ends.front
+  first = ap (λ n. take n bytes) first_count ∙ ap (λ more. take (length ends.front) more) ends.whole ∙ take-append_seam ends.front (tail_bytes tail)
 
 -- the script ends behind a backslash
 pub last-backslash : (line new : List ℕ) (state after : LineText) (text : List ℕ) → state.tail ≡ Backslash

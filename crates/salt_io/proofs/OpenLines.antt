@@ -2,12 +2,9 @@
 use Rattle.std.proofs.Common.{◌≡◌, ℕ, ◌++◌, arith, Bool, true, false, eqb, List, [], ◌∷◌, refl, sym, ◌∙◌, ap, append_assoc}
 use Rattle.std.proofs.lemmas.Bool.Decides.{nat_tests}
 use Rattle.std.proofs.lemmas.List.{append-nil}
+use Rattle.salt_io.specs.LineText.{HasNoLf}
 use Rattle.salt_io.specs.Lines.{Pieces, with_byte, pieces_of, Script, ends_in, ends_in_backslash, front, spaced, joined_on, before_script, last_text, without_cr, script_from, script_of}
 use Rattle.salt_io.proofs.Ends.{append-is-some, ends_in-append}
-
-abbrev pub HasNoLf : List ℕ → Type 0
-HasNoLf [] = Unit {0}
-HasNoLf (byte ∷ bytes) = (eqb byte 10 ≡ false) × HasNoLf bytes
 
 HasNoLf-append : (a b : List ℕ) → HasNoLf a → HasNoLf b → HasNoLf (a ++ b)
 HasNoLf-append [] b p q = q
@@ -120,6 +117,18 @@ open-byte used text byte so_far no_lf = record {
 } where
   other : eqb byte 10 ≡ false
   other = grind (arith, nat_tests)
+
+-- a text that goes on is empty only where it was, and what was taken with it
+both-none : (used text bytes : List ℕ) → (text ≡ [] → used ≡ []) → text ++ bytes ≡ [] → used ++ bytes ≡ []
+both-none used [] bytes some e = rw (some refl) e
+both-none used (x ∷ xs) bytes some e = cc
+
+pub open-text : (used text bytes : List ℕ) → IsOpen used text → HasNoLf bytes → IsOpen (used ++ bytes) (text ++ bytes)
+open-text used text bytes so_far none = record {
+  no_lf = HasNoLf-append text bytes so_far.no_lf none;
+  goes_on = λ v. rw (append_assoc used bytes v, append_assoc text bytes v) (so_far.goes_on (bytes ++ v));
+  some = λ e. both-none used text bytes so_far.some e;
+}
 
 pub open-join : (used text : List ℕ) → IsOpen used text → ends_in_backslash (without_cr text) ≡ true → IsOpen (used ++ 10 ∷ []) (spaced (without_cr text))
 open-join used text so_far joins = record {

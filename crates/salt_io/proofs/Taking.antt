@@ -17,6 +17,11 @@ pub takes-first : (byte : ℕ) (others : List ℕ) (left : Option (List ℕ)) �
 takes-first byte others None = refl
 takes-first byte others (Some rest) = refl
 
+-- bytes that stand before others have been taken
+pub takes-part : (bytes others : List ℕ) (left : Option (List ℕ)) → Takes (bytes_before (bytes ++ others) left) bytes (bytes_before others left)
+takes-part bytes others None = refl
+takes-part bytes others (Some rest) = ap Some (append_assoc bytes others rest)
+
 -- the first byte of a part of an array
 pub part-first : (bytes : List ℕ) (from to : ℕ) → from < to → to ≤ length bytes → take (to - from) (drop from bytes) ≡ slice_index_or bytes from 0 ∷ take (to - (from + 1)) (drop (from + 1) bytes)
 part-first bytes from to some within =

@@ -123,7 +123,7 @@ backslash_before_a_last_cr : lines_of (92 ∷ 13 ∷ []) ≡ (92 ∷ 13 ∷ []) 
 backslash_before_a_last_cr = refl
 
 -- What a reader of lines is seen as.
-pub record Reading : Type 0 where
+pub record ScriptReading : Type 0 where
   -- the bytes that it took from a source and has not given yet
   pub kept : List ℕ
   -- how many of the script's bytes it has given as lines
@@ -132,7 +132,7 @@ pub record Reading : Type 0 where
   pub ended : Bool
 
 -- The reader reads a source that has these bytes left: once that told its end, nothing is kept, and none are left.
-abbrev pub IsReadingOf : Reading → Option (List ℕ) → Type 0
+abbrev pub IsReadingOf : ScriptReading → Option (List ℕ) → Type 0
 IsReadingOf reading left = reading.ended ≡ true → (reading.kept ≡ []) × IsAtEnd left
 
 -- The bytes are those of one line with this text: an LF ends it, or the script's end, where the source has told that.
@@ -142,7 +142,7 @@ IsLineOf text bytes ended =
     ⊎ ((ended ≡ true) × (text ≢ []) × (script_of bytes ≡ record { ended = []; rest = text }))
 
 -- One line with this text has been taken, of a script of at most so many bytes.
-pub record TakesLine (most : ℕ) (before after : Option (List ℕ)) (taken_before : ℕ) (now : Reading) (text : List ℕ) : Type 0 where
+pub record TakesLine (most : ℕ) (before after : Option (List ℕ)) (taken_before : ℕ) (now : ScriptReading) (text : List ℕ) : Type 0 where
   pub used : List ℕ
   pub given : Takes before used after
   pub line : IsLineOf text used now.ended
@@ -151,7 +151,7 @@ pub record TakesLine (most : ℕ) (before after : Option (List ℕ)) (taken_befo
   pub within : now.taken ≤ most
 
 -- One line that is longer than this has been taken.
-pub record TakesLong (longest most : ℕ) (before after : Option (List ℕ)) (taken_before : ℕ) (now : Reading) : Type 0 where
+pub record TakesLong (longest most : ℕ) (before after : Option (List ℕ)) (taken_before : ℕ) (now : ScriptReading) : Type 0 where
   pub text : List ℕ
   pub long : longest < length text
   pub taken : TakesLine most before after taken_before now text

@@ -1,7 +1,7 @@
 //! A line while its bytes come in.
 ghost use Rattle.std.specs.Prelude.{◌≡◌, ℕ, ◌≤◌, List, [], ◌∷◌, ◌++◌, length, OnOk, IfOk, MatchBool, true, false};
 ghost use Rattle.salt_io.specs.Lines.{last_text, spaced, without_cr, ends_in_backslash};
-ghost use Rattle.salt_io.specs.LineText.{tail_bytes, KeepsFront, IsText};
+ghost use Rattle.salt_io.specs.LineText.{tail_bytes, EndsInTail, KeepsFront, IsText};
 
 use salt_values::limits::LINE_MOST;
 use std::alloc::AllocError;
@@ -17,6 +17,40 @@ pub enum Tail {
     Cr,
     Backslash,
     BackslashCr,
+}
+
+impl Tail {
+    /// How many bytes it is.
+    fn byte_count(self) -> usize
+        ensures value { result ≡ length (tail_bytes self) }
+        ensures few { result ≤ 2 }
+    {
+        match self {
+            Tail::Nothing => 0,
+            Tail::Cr => 1,
+            Tail::Backslash => 1,
+            Tail::BackslashCr => 2,
+        }
+    }
+}
+
+/// The tail in which bytes end, two at least.
+fn tail_of(bytes: &[u8]) -> Tail
+    requires { 2 ≤ length bytes.now }
+    ensures { EndsInTail bytes.now result }
+{
+    let last = bytes[bytes.len() - 1];
+    if last == BACKSLASH {
+        return Tail::Backslash;
+    }
+    if last != CR {
+        return Tail::Nothing;
+    }
+    let before = bytes[bytes.len() - 2];
+    if before == BACKSLASH {
+        return Tail::BackslashCr;
+    }
+    Tail::Cr
 }
 
 /// What is known of a line beside the bytes that are kept of it, which are all but its tail, and no
@@ -51,6 +85,24 @@ impl LineText {
         } else {
             self.is_long = true;
         }
+        Ok(())
+    }
+
+    /// Puts bytes behind those that are kept, as many as there is room for, and drops the others.
+    #[tactic(auto, using(crate::proofs::Parts::lengths))]
+    fn keep_all(&mut self, line: &mut Vec<u8>, bytes: &[u8]) -> Result<(), AllocError>
+        ensures kept { OnOk result ((text : List ℕ) → KeepsFront line.old.items self.old.is_long text
+            → KeepsFront line.new.items self.new.is_long (text ++ bytes.now)) }
+        ensures tail { self.new.tail ≡ self.old.tail }
+        ensures within { length line.old.items ≤ LINE_MOST → length line.new.items ≤ LINE_MOST }
+    {
+        let room = LINE_MOST.saturating_sub(line.len());
+        if bytes.len() <= room {
+            line.extend_from_slice(bytes)?;
+            return Ok(());
+        }
+        self.is_long = true;
+        line.extend_from_slice(&bytes[..room])?;
         Ok(())
     }
 
@@ -107,6 +159,20 @@ impl LineText {
         }
         self.tail = Tail::Nothing;
         self.keep(line, byte)
+    }
+
+    /// The line goes on with these bytes, two at least, none of which is an LF.
+    pub fn add_all(&mut self, line: &mut Vec<u8>, bytes: &[u8]) -> Result<(), AllocError>
+        requires { 2 ≤ length bytes.now }
+        ensures text { OnOk result ((text : List ℕ) → IsText line.old.items self.old text
+            → IsText line.new.items self.new (text ++ bytes.now)) }
+        ensures within { length line.old.items ≤ LINE_MOST → length line.new.items ≤ LINE_MOST }
+    {
+        self.keep_tail(line)?;
+        let tail = tail_of(bytes);
+        let dropped = tail.byte_count();
+        self.tail = tail;
+        self.keep_all(line, &bytes[..bytes.len() - dropped])
     }
 
     /// An LF comes: gives whether it ends the line. If not, the next line is joined on.

@@ -1,6 +1,8 @@
 //! The lines of a script.
 ghost use Rattle.std.specs.Prelude.{◌≡◌, ◌≢◌, ℕ, ◌+◌, ◌<◌, ◌≤◌, ◌-◌, List, [], ◌∷◌, ◌++◌, length, take, IfOk, OnOk, OnErr, IfSome, IfNone, true, false};
 ghost use Rattle.salt_io.specs.Streams.{Rose, Takes, IsAtEnd, bytes_before};
+ghost use Rattle.std.specs.List.{prefix_len};
+ghost use Rattle.salt_io.specs.LineText.{is_no_lf, TakesText};
 ghost use Rattle.salt_io.specs.Lines.{script_of, IsReadingOf, TakesLine, TakesLong, TakesNoLine, IsCutOff};
 ghost use Rattle.salt_io.specs.declared.lines.LineErr.TheVariants.{ReadFault, Memory};
 
@@ -66,10 +68,10 @@ pub struct Lines {
 
 impl Model for Lines {
     ghost use Rattle.std.specs.Prelude.{◌-◌, ◌≤◌, take, drop};
-    ghost use Rattle.salt_io.specs.Lines.{Reading};
+    ghost use Rattle.salt_io.specs.Lines.{ScriptReading};
     ghost use Rattle.salt_values.specs.declared.limits.TheConstants.{SCRIPT_MOST};
 
-    ghost Value = { Reading };
+    ghost Value = { ScriptReading };
 
     ghost view = { λ r. record { kept = take (r.to - r.from) (drop r.from r.buf); taken = r.taken; ended = r.ended } };
 
@@ -154,6 +156,28 @@ impl Lines {
         Ok(Some(byte))
     }
 
+    /// Takes the bytes in hand before the next LF, as many as a script may still have, and puts them behind the line's text so far;
+    /// none where they are fewer than two.
+    #[tactic(auto, using(crate::proofs::Parts::lengths))]
+    fn take_text(&mut self, text: &mut LineText, line: &mut Vec<u8>) -> Result<(), AllocError>
+        ensures taken { OnOk result (TakesText self.old self.new line.old.items line.new.items text.old text.new) }
+        ensures fits { length line.old.items ≤ LINE_MOST → length line.new.items ≤ LINE_MOST }
+        ensures counts { self.old.taken ≤ self.new.taken }
+        ensures within { self.new.taken ≤ SCRIPT_MOST }
+        ensures err { OnErr result (self.new ≡ self.old) }
+    {
+        let most = (self.to - self.from).min((SCRIPT_MOST - self.taken) as usize);
+        let in_hand = &self.buf[self.from..self.from + most];
+        let len = text_len(in_hand);
+        if len < 2 {
+            return Ok(());
+        }
+        text.add_all(line, &in_hand[..len])?;
+        self.from += len;
+        self.taken += len as u64;
+        Ok(())
+    }
+
     /// Puts the next line's text into `line`, in place of what is there. After an error, or a line
     /// that is too long, `line` holds some bytes, no more than a line may have.
     ///
@@ -200,6 +224,7 @@ impl Lines {
             };
             if byte != LF {
                 text.add(line, byte)?;
+                self.take_text(&mut text, line)?;
                 continue;
             }
             if text.end_piece(line)? {
@@ -212,6 +237,21 @@ impl Lines {
         }
         Ok(kind_of(text.is_long))
     }
+}
+
+fn is_no_lf(byte: u8) -> bool
+    ensures { result ≡ is_no_lf byte }
+{
+    byte != LF
+}
+
+/// How many bytes stand before the first LF, which are all where there is none.
+#[tactic(auto, using(crate::proofs::Parts::lengths))]
+fn text_len(bytes: &[u8]) -> usize
+    ensures value { result ≡ prefix_len is_no_lf bytes.now }
+    ensures within { result ≤ length bytes.now }
+{
+    bytes.iter().take_while(|byte| is_no_lf(**byte)).count()
 }
 
 /// What a line is that was cut, or not.

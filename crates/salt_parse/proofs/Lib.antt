@@ -3,6 +3,7 @@ pub mod ExpressionLaws
 pub mod Levels
 pub mod ListLaws
 pub mod Listing
+pub mod Lone
 pub mod Loop
 pub mod Mirror
 pub mod MirrorLists
@@ -11,6 +12,7 @@ pub mod MirrorStatements
 pub mod Nodes
 pub mod ProgramLaws
 pub mod ProgramTrees
+pub mod Quotes
 pub mod StatementComplete
 pub mod StatementSound
 pub mod StatementTrees

@@ -3,9 +3,9 @@ use Rattle.std.proofs.Common.{◌≡◌, ℕ, Bool, true, false, cond, ◌||◌,
 use Rattle.std.specs.List.{list_any}
 use Rattle.salt_ast.specs.Limits.{expr_passed, field_passed, is_high, name_passed, passed_in_list, scan_passed, set_passed, statement_passed}
 use Rattle.salt_ast.specs.Limits.{table_passed, what_passed}
-use Rattle.salt_ast.specs.Trees.{filter_exprs, null, scan_exprs, set_value, statement_exprs}
+use Rattle.salt_ast.specs.Trees.{null, scan_exprs, statement_exprs}
 use Rattle.salt_ast.specs.Words.{first_in}
-use Rattle.std.specs.Prelude.{option_and_then}
+use Rattle.std.specs.Prelude.{option_and_then, option_to_list}
 use Rattle.std.specs.Option.{option_or}
 use Rattle.salt_ast.specs.declared.limit.LimitName.{LimitName}
 use Rattle.salt_ast.specs.declared.limit.LimitName.TheVariants as limit
@@ -70,7 +70,7 @@ into_note f p q r s d =
 -- ---- what is passed
 
 abbrev filter_marks : Marks (Option Expr)
-filter_marks = record { passed = option_and_then expr_passed; high = λ w. list_any is_high (filter_exprs w) }
+filter_marks = record { passed = option_and_then expr_passed; high = λ w. list_any is_high (option_to_list w) }
 
 abbrev scan_marks : Marks Scan
 scan_marks = record { passed = scan_passed; high = λ s. list_any is_high (scan_exprs s) }
@@ -104,7 +104,7 @@ none_high [] = refl
 none_high (x ∷ xs) = none_high xs
 
 -- the heights of values and of further expressions
-sets_high : (sets : List Set) (es : List Expr) → (list_any set_marks.high sets || list_any is_high es) ≡ list_any is_high (map set_value sets ++ es)
+sets_high : (sets : List Set) (es : List Expr) → (list_any set_marks.high sets || list_any is_high es) ≡ list_any is_high (map (λ (s : Set). s.value) sets ++ es)
 sets_high [] es = refl
 sets_high (x ∷ xs) es = or_assoc (is_high x.value) (list_any set_marks.high xs) (list_any is_high es)
     ∙ ap (λ (b : Bool). is_high x.value || b) (sets_high xs es)
@@ -269,7 +269,7 @@ module _ (read : Reader BuiltTree) (find : TreeReader Expr) (c : Mirrors read fi
       (λ x2 a2 u2 i2 p2.
       done scan_marks f (record { bound = bound.Key x1; filter = x2 }) (record { bound = bound.Key a1; filter = a2 })
       (noted filter_marks (noted expr_marks f a1) a2) u2
-      (note_note f (expr_passed a1) (option_and_then expr_passed a2) (is_high a1) (list_any is_high (filter_exprs a2)))
+      (note_note f (expr_passed a1) (option_and_then expr_passed a2) (is_high a1) (list_any is_high (option_to_list a2)))
       (λ c2. (let c1 : clear (noted expr_marks f a1) ≡ true = clear_before (noted expr_marks f a1) (filter_marks.passed a2)
       (filter_marks.high a2) c2 in let e0 : x1 ≡ a1 = i1 c1 in let e1 : x2 ≡ a2 = i2 c2 in λ t. record { bound = bound.Key (e0 t); filter = (e1 t) })) p2)))
 
@@ -299,7 +299,7 @@ module _ (read : Reader BuiltTree) (find : TreeReader Expr) (c : Mirrors read fi
       done scan_marks f (record { bound = bound.Between x0 x2; filter = x3 }) (record { bound = bound.Between a0 a2; filter = a3 })
       (noted filter_marks (noted expr_marks (noted expr_marks f a0) a2) a3) u3
       (between_note f (expr_passed a0) (expr_passed a2) (option_and_then expr_passed a3) (is_high a0) (is_high a2)
-      (list_any is_high (filter_exprs a3)))
+      (list_any is_high (option_to_list a3)))
       (λ c3. (let c2 : clear (noted expr_marks (noted expr_marks f a0) a2) ≡ true = clear_before (noted expr_marks (noted expr_marks f a0) a2)
       (filter_marks.passed a3) (filter_marks.high a3) c3 in let c1 : clear (noted expr_marks f a0) ≡ true = clear_before (noted expr_marks f a0)
       (expr_marks.passed a2) (expr_marks.high a2) c2 in let e0 : x0 ≡ a0 = i0 c1 in let e1 : x2 ≡ a2 = i2 c2 in let e2 : x3 ≡ a3 = i3 c3 in λ t.

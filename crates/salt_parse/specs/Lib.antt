@@ -3,6 +3,7 @@ pub mod Attempts
 pub mod Combining
 pub mod Flags
 pub mod Lists
+pub mod Lone
 pub mod Parsing
 pub mod ProgramReading
 pub mod Reading

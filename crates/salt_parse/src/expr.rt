@@ -1,13 +1,15 @@
 //! Expressions. There is room for so many parentheses, and only they are read by calls within calls.
 
-ghost use Rattle.std.specs.Prelude.{◌≡◌, ◌<◌, OnOk, length};
+ghost use Rattle.std.specs.Prelude.{◌≡◌, ◌<◌, OnOk, length, true};
+ghost use Rattle.salt_parse.specs.Lone.{ends_operand, is_lone};
 ghost use Rattle.salt_parse.specs.Parsing.{ReadsBuilt};
 ghost use Rattle.salt_parse.specs.Reading.{atom_at, colon_at, comparison_at, level_at, level_precedence, minus_at, negation_at, operand_at, paren_at, within_at};
+ghost use Rattle.salt_tokens.specs.Symbols.{symbols_in};
 
 use crate::built::{Built, Unary};
 use crate::error::ParseErr;
 use crate::parser::{Parser, signed};
-use salt_tokens::{Lexeme, Sign};
+use salt_tokens::{Keyword, Lexeme, Sign};
 
 /// Operations that group to the left, from those that bind loosest.
 #[derive(Clone, Copy)]
@@ -36,11 +38,47 @@ impl Level {
     }
 }
 
+/// Whether the operand in front of these tokens ends: no operation and no test for NULL comes next.
+fn ends_operand(tokens: &[Lexeme<'_>]) -> bool
+    ensures { result ≡ true → ends_operand (symbols_in tokens.now) ≡ true }
+{
+    match tokens {
+        [] => true,
+        [Lexeme::Sign(Sign::Comma), ..] => true,
+        [Lexeme::Sign(Sign::Close), ..] => true,
+        [Lexeme::Key(Keyword::Where), ..] => true,
+        _ => false,
+    }
+}
+
 impl<'a> Parser<'a> {
+    /// Whether a literal or a name stands alone next.
+    fn is_lone(&self) -> bool
+        ensures { result ≡ true → is_lone self.now.left ≡ true }
+    {
+        match self.rest {
+            [Lexeme::Int(_), rest @ ..] => ends_operand(rest),
+            [Lexeme::Text(_), rest @ ..] => ends_operand(rest),
+            [Lexeme::Name(_), rest @ ..] => ends_operand(rest),
+            _ => false,
+        }
+    }
+
+    /// Operands with operations of the level between them. What stands alone is read at once, and not by each level.
+    pub fn expression(&mut self, level: Level, room: u32) -> Result<Built, ParseErr>
+        ensures reads { ReadsBuilt result (level_at level (within_at room)) self.old self.new }
+        ensures shrinks { OnOk result (length self.new.left < length self.old.left) }
+    {
+        if self.is_lone() {
+            return self.atom(room);
+        }
+        self.operation(level, room)
+    }
+
     /// Operands with operations of the level between them.
     #[cycle(expr)]
     #[tactic(auto, using(crate::proofs::Loop::tail_steps), unfolding(crate::specs::Reading::left_at))]
-    pub fn operation(&mut self, level: Level, room: u32) -> Result<Built, ParseErr>
+    fn operation(&mut self, level: Level, room: u32) -> Result<Built, ParseErr>
         ensures reads { ReadsBuilt result (level_at level (within_at room)) self.old self.new }
         ensures shrinks { OnOk result (length self.new.left < length self.old.left) }
     {

@@ -32,7 +32,7 @@ impl<'a> Parser<'a> {
         ensures reads { Reads result (tree_at (expression_at (within_at room))) self.old self.new }
         ensures shrinks { OnOk result (length self.new.left < length self.old.left) }
     {
-        let Built { tree, height: _ } = self.operation(Level::Disjunction, room)?;
+        let Built { tree, height: _ } = self.expression(Level::Disjunction, room)?;
         Ok(tree)
     }
 
@@ -41,7 +41,7 @@ impl<'a> Parser<'a> {
         ensures reads { Reads result (tree_at (sum_at (within_at room))) self.old self.new }
         ensures shrinks { OnOk result (length self.new.left < length self.old.left) }
     {
-        let Built { tree, height: _ } = self.operation(Level::Sum, room)?;
+        let Built { tree, height: _ } = self.expression(Level::Sum, room)?;
         Ok(tree)
     }
 
@@ -50,7 +50,7 @@ impl<'a> Parser<'a> {
         ensures reads { Reads result (tree_at (conjunction_at (within_at room))) self.old self.new }
         ensures shrinks { OnOk result (length self.new.left < length self.old.left) }
     {
-        let Built { tree, height: _ } = self.operation(Level::Conjunction, room)?;
+        let Built { tree, height: _ } = self.expression(Level::Conjunction, room)?;
         Ok(tree)
     }
 

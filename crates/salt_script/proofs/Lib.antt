@@ -3,5 +3,6 @@ pub mod Reading
 pub mod Calls
 pub mod Acts
 pub mod Lines
+pub mod LineBytes
 pub mod Asking
 pub mod Unique

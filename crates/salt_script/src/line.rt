@@ -12,6 +12,7 @@ ghost use Rattle.salt_model.specs.Trace.{Rejected, Tree};
 ghost use Rattle.salt_model.specs.declared.events.Refusal.{Refusal};
 ghost use Rattle.salt_parse.specs.Settling.{ArePrintable, Settles};
 ghost use Rattle.salt_parse.specs.declared.error.ParseErr.TheVariants.{Limit, Syntax};
+ghost use Rattle.salt_script.specs.Answers.{no_line, read_err};
 ghost use Rattle.salt_script.specs.Forms.{a_turn, an_act, line_begins, pairs as begins_pairs};
 ghost use Rattle.salt_script.specs.Spelled.{DeepLine, ShallowLine, line_of};
 ghost use Rattle.salt_script.specs.declared.error.ReadErr.TheVariants.{Refused};
@@ -19,7 +20,7 @@ ghost use Rattle.salt_tokens.specs.Bytes.{is_blank};
 ghost use Rattle.salt_tokens.specs.Symbols.{Symbols, symbols_in};
 
 use crate::act::act_in;
-use crate::error::{ReadErr, read_err};
+use crate::error::ReadErr;
 use crate::form::{Form, line_form};
 use crate::pairs::{Armed, armed_pairs};
 use salt_ast::{LimitName, Line, Pairs};
@@ -181,6 +182,28 @@ fn are_line_bytes(bytes: &[u8]) -> bool
     bytes.iter().all(|b| is_line_byte(*b))
 }
 
+/// The refusal of a line that spells none: a byte that no line holds comes before the grammar.
+fn no_line(text: &[u8]) -> Refusal
+    ensures { result ≡ no_line (list_all is_line_byte text.now) }
+{
+    if are_line_bytes(text) {
+        Refusal::Syntax
+    } else {
+        Refusal::Byte
+    }
+}
+
+/// Why a line gives none that has no tree.
+fn read_err(text: &[u8], e: ParseErr) -> ReadErr
+    ensures { result ≡ read_err (list_all is_line_byte text.now) e }
+{
+    match e {
+        ParseErr::Syntax => ReadErr::Refused(no_line(text)),
+        ParseErr::Limit(limit) => ReadErr::Refused(Refusal::Limit(limit)),
+        ParseErr::Memory => ReadErr::Memory,
+    }
+}
+
 /// The line that the bytes spell; the time is linear in the bytes.
 ///
 /// `Refused` where the text alone refuses the line: it has more than 65,536 bytes, or a byte that no line holds, is outside the grammar,
@@ -195,11 +218,8 @@ pub fn read_line(alloc: Global, text: &[u8]) -> Result<Line, ReadErr>
     if does_nothing(text) {
         return Ok(Line::Nothing);
     }
-    if !are_line_bytes(text) {
-        return Err(ReadErr::Refused(Refusal::Byte));
-    }
     match read_tokens(alloc, text) {
         Ok(line) => Ok(line),
-        Err(e) => Err(read_err(e)),
+        Err(e) => Err(read_err(text, e)),
     }
 }

@@ -1,13 +1,13 @@
 -- What a search among spellings finds.
-use Rattle.std.proofs.Common.{◌≡◌, ℕ, ◌-◌, Bool, true, false, cond, eqb, ◌&&◌, List, [], ◌∷◌, length, map, Option, Some, None, refl, sym, ap, subst, ◌∙◌, arith, is_some, rules, length-append}
+use Rattle.std.proofs.Common.{◌≡◌, ℕ, ◌-◌, ◌<◌, Bool, true, false, cond, eqb, ◌&&◌, List, [], ◌∷◌, get_or, length, map, Option, Some, None, refl, sym, ap, subst, ◌∙◌, arith, is_some, rules, length-append}
 use Rattle.std.specs.Prelude.{find}
 use Rattle.std.proofs.lemmas.Bool.{eqb-true}
 use Rattle.std.proofs.lemmas.List.{take_at}
 use Rattle.salt_tokens.specs.declared.keyword.Keyword.{Keyword}
 use Rattle.salt_tokens.specs.declared.sign.Sign.{Sign}
-use Rattle.salt_tokens.specs.Bytes.{lower, is_blank, is_letter, is_digit}
+use Rattle.salt_tokens.specs.Bytes.{ends_pair, lower, is_blank, is_letter, is_digit}
 use Rattle.salt_tokens.specs.Pieces.{doubled, quoted}
-use Rattle.salt_tokens.specs.Spelling.{keyword_spelling, sign_spelling, all_keywords, all_signs, same_bytes, keyword_of, sign_of}
+use Rattle.salt_tokens.specs.Spelling.{keyword_spelling, sign_spelling, all_keywords, all_signs, among, same_bytes, keyword_of, sign_of}
 use Rattle.salt_tokens.specs.Symbols.{undoubled, between}
 
 same_is : (xs ys : List ℕ) → same_bytes xs ys ≡ true → xs ≡ ys
@@ -31,6 +31,21 @@ found_passes p (y ∷ ys) x h = go (p y) refl (found_passes p ys x) h
 pub keyword_only : (bs : List ℕ) (k : Keyword) → keyword_of bs ≡ Some k → map lower bs ≡ keyword_spelling k
 unfolding keyword_of
 keyword_only bs k h = same_is (map lower bs) (keyword_spelling k) (found_passes (λ j. same_bytes (map lower bs) (keyword_spelling j)) all_keywords k h)
+
+pub no_word : (bs : List ℕ) → length bs ≡ 0 → keyword_of bs ≡ None
+unfolding keyword_of
+no_word [] h = refl
+no_word (b ∷ bs) h = absurd (omega arith)
+
+-- a word that begins with a letter is looked for among the keywords that do
+pub of_letter : (keywords : List Keyword) (letter : ℕ) (bs rest : List ℕ) → map lower bs ≡ letter ∷ rest
+    → ((others : List ℕ) → among keywords (letter ∷ others) ≡ among all_keywords (letter ∷ others)) → among keywords (map lower bs) ≡ keyword_of bs
+unfolding keyword_of
+of_letter keywords letter bs rest is same = ap (among keywords) is ∙ same rest ∙ ap (among all_keywords) (sym is)
+
+pub begins : (bs : List ℕ) (letter : ℕ) → 0 < length bs → letter ≡ lower (get_or bs 0 0) → (rest : List ℕ) × (map lower bs ≡ letter ∷ rest)
+begins [] letter some is = absurd (omega arith)
+begins (b ∷ bs) letter some is = (map lower bs, rw is refl)
 
 -- ---- signs
 
@@ -75,6 +90,39 @@ no_three a b c = go (is_some (sign_of (a ∷ b ∷ c ∷ []))) refl
     go : (u : Bool) → is_some (sign_of (a ∷ b ∷ c ∷ [])) ≡ u → u ≡ false
     go true f = absurd (sign_bytes (a ∷ b ∷ c ∷ []) (sign_is (a ∷ b ∷ c ∷ []) f))
     go false f = refl
+
+-- one byte or two, byte by byte
+pub of_one : (bs : List ℕ) → length bs ≡ 1 → sign_of (get_or bs 0 0 ∷ []) ≡ sign_of bs
+of_one [] h = absurd (omega arith)
+of_one (a ∷ []) h = refl
+of_one (a ∷ b ∷ bs) h = absurd (omega arith)
+
+pub of_two : (bs : List ℕ) → length bs ≡ 2 → sign_of (get_or bs 0 0 ∷ get_or bs 1 0 ∷ []) ≡ sign_of bs
+of_two [] h = absurd (omega arith)
+of_two (a ∷ []) h = absurd (omega arith)
+of_two (a ∷ b ∷ []) h = refl
+of_two (a ∷ b ∷ c ∷ cs) h = absurd (omega arith)
+
+pub ruleset of_few = (of_one, of_two)
+
+-- a pair ends in one of three bytes
+abbrev EndsAsPair : List ℕ → Type 0
+EndsAsPair [] = Unit {0}
+EndsAsPair (a ∷ []) = Unit {0}
+EndsAsPair (a ∷ b ∷ bs) = ends_pair b ≡ true
+
+spelling_EndsAsPair : (s : Sign) → EndsAsPair (sign_spelling s)
+spelling_EndsAsPair = search rules
+
+pub no_pair : (a b : ℕ) → ends_pair b ≡ false → sign_of (a ∷ b ∷ []) ≡ None
+no_pair a b other = go (sign_of (a ∷ b ∷ [])) refl
+  where
+    go : (found : Option Sign) → sign_of (a ∷ b ∷ []) ≡ found → sign_of (a ∷ b ∷ []) ≡ None
+    go None e = e
+    go (Some s) e =
+        let h = sign_is (a ∷ b ∷ []) (rw e refl) in
+        let ends : ends_pair b ≡ true = subst EndsAsPair (sym h.1) (spelling_EndsAsPair h.0) in
+        absurd cc
 
 -- ---- texts
 

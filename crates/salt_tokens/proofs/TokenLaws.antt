@@ -176,6 +176,10 @@ first_sound (b ∷ bs) t h =
       ]
     ]
 
+-- the bytes of the token at the front
+pub token_at_front : (bs : List ℕ) (k : TokenKind) (n : ℕ) → first_at bs ≡ Some (k, n) → IsToken k (take n bs)
+token_at_front bs k n h = (first_sound bs (k, n) h).0
+
 sign_complete : (text rest : List ℕ) → is_some (sign_of text) ≡ true → AreSignBytes text → Ends Sign text rest → first_at (text ++ rest) ≡ Some (Sign, length text)
 unfolding first_at
 sign_complete [] rest is h e = absurd h
@@ -250,6 +254,10 @@ lex_complete (token {rest = rest} {ps = ps} k text h e d) = go text h e (lex_com
     go (b ∷ text) h e ih =
         lex_token b (text ++ rest) k (length (b ∷ text)) (not_blank k b text h) (first_complete k (b ∷ text) rest h e) (omega arith) (omega (arith, length-append text rest))
         ∙ rw (drop_at (b ∷ text) rest (length (b ∷ text)) refl, take_at (b ∷ text) rest (length (b ∷ text)) refl, ih) refl
+
+-- no row is one of bytes that give none
+pub no_row : (bs : List ℕ) (ps : List Piece) → lex 0 bs ≡ None → Lexes bs ps → ⊥
+no_row bs ps n d = let p : None ≡ found ps = sym n ∙ lex_complete d in cc
 
 pub is_found : (bs : List ℕ) (r : Result (List Token) ScanErr) → Gives bs r (lex 0 bs) → IfOk r (λ ts. Lexes bs (pieces bs ts))
 is_found bs (Ok ts) h = lex_sound 0 bs (pieces bs ts) (omega arith) h

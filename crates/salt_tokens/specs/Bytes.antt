@@ -23,3 +23,7 @@ is_printable b = nat_le 32 b && nat_le b 126
 -- a letter's small form
 abbrev pub lower : ℕ → ℕ
 lower b = if nat_le 65 b && nat_le b 90 then b + 32 else b
+
+-- what a sign of two bytes ends in
+abbrev pub ends_pair : ℕ → Bool
+ends_pair b = b == 124 || b == 62 || b == 61

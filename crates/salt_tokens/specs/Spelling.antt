@@ -96,6 +96,10 @@ same_bytes [] (y ∷ ys) = false
 same_bytes (x ∷ xs) [] = false
 same_bytes (x ∷ xs) (y ∷ ys) = (x == y) && same_bytes xs ys
 
+-- the first of these keywords that is spelled with these small letters
+abbrev pub among : List Keyword → List ℕ → Option Keyword
+among keywords small = find (λ k. same_bytes small (keyword_spelling k)) keywords
+
 -- the keyword that a word is, in capital or small letters
 unfoldable pub keyword_of : List ℕ → Option Keyword
 keyword_of bs = find (λ k. same_bytes (map lower bs) (keyword_spelling k)) all_keywords

@@ -1,10 +1,10 @@
 //! The keywords and their spellings.
 
-ghost use Rattle.std.specs.Prelude.{◌≡◌, map};
+ghost use Rattle.std.specs.Prelude.{◌≡◌, ◌∷◌, List, ℕ, map};
 ghost use Rattle.salt_tokens.specs.Bytes.{lower};
-ghost use Rattle.salt_tokens.specs.Spelling.{keyword_spelling, keyword_of, same_bytes};
+ghost use Rattle.salt_tokens.specs.Spelling.{among, keyword_spelling, keyword_of, same_bytes};
 
-use crate::same::same_in_any_case;
+use crate::same::{lower, same_in_any_case};
 
 /// A word that is no name, written in capital or small letters.
 #[derive(Clone, Copy, Debug, PartialEq, Eq)]
@@ -108,6 +108,16 @@ const ALL: [Keyword; 47] = [
     Keyword::Retry,
 ];
 
+/// The first of these keywords that the word is in capital or small letters.
+fn among(keywords: &[Keyword], word: &[u8]) -> Option<Keyword>
+    ensures { result ≡ among keywords.now (map lower word.now) }
+{
+    keywords
+        .iter()
+        .copied()
+        .find(|keyword| keyword.is_spelled(word))
+}
+
 impl Keyword {
     /// The keyword in small letters.
     pub fn spelling(self) -> &'static [u8]
@@ -172,10 +182,81 @@ impl Keyword {
     }
 
     /// The keyword that the bytes are in capital or small letters.
-    #[tactic(auto, unfolding(crate::specs::Spelling::keyword_of))]
+    #[tactic(auto, using(crate::proofs::SpellingLaws::no_word))]
     pub fn of_word(word: &[u8]) -> Option<Keyword>
         ensures { result ≡ keyword_of word.now }
     {
-        ALL.iter().copied().find(|keyword| keyword.is_spelled(word))
+        let [first, ..] = word else {
+            return None;
+        };
+        Keyword::beginning_with(lower(*first), word)
+    }
+
+    /// The keyword that a word is which begins with this letter, capital or small. Few are compared with it.
+    #[tactic(auto, unfolding(crate::specs::Spelling::keyword_of))]
+    fn beginning_with(letter: u8, word: &[u8]) -> Option<Keyword>
+        requires { (rest : List ℕ) × (map lower word.now ≡ letter ∷ rest) }
+        ensures { result ≡ keyword_of word.now }
+    {
+        match letter {
+            b'a' => among(&[Keyword::And, Keyword::Acid, Keyword::All], word),
+            b'b' => among(
+                &[
+                    Keyword::Between,
+                    Keyword::Base,
+                    Keyword::Begin,
+                    Keyword::Bases,
+                ],
+                word,
+            ),
+            b'c' => among(
+                &[
+                    Keyword::Create,
+                    Keyword::Check,
+                    Keyword::Count,
+                    Keyword::Commit,
+                    Keyword::Call,
+                    Keyword::Crash,
+                ],
+                word,
+            ),
+            b'd' => among(&[Keyword::Delete], word),
+            b'e' => among(&[Keyword::Ensure, Keyword::End], word),
+            b'f' => among(&[Keyword::From, Keyword::Failure], word),
+            b'g' => among(&[Keyword::Go], word),
+            b'h' => None,
+            b'i' => among(
+                &[Keyword::Int, Keyword::Insert, Keyword::Into, Keyword::Is],
+                word,
+            ),
+            b'j' => None,
+            b'k' => among(&[Keyword::Key], word),
+            b'l' => among(&[Keyword::Locks], word),
+            b'm' => among(&[Keyword::Min, Keyword::Max], word),
+            b'n' => among(&[Keyword::Not, Keyword::Null], word),
+            b'o' => among(&[Keyword::Or, Keyword::On], word),
+            b'p' => among(&[Keyword::Program, Keyword::Part], word),
+            b'q' => None,
+            b'r' => among(&[Keyword::Rollback, Keyword::Retry], word),
+            b's' => among(
+                &[
+                    Keyword::Select,
+                    Keyword::Set,
+                    Keyword::Sum,
+                    Keyword::Step,
+                    Keyword::Show,
+                ],
+                word,
+            ),
+            b't' => among(&[Keyword::Table, Keyword::Text, Keyword::Then], word),
+            b'u' => among(&[Keyword::Update], word),
+            b'v' => among(&[Keyword::Values, Keyword::Var], word),
+            b'w' => among(&[Keyword::Where], word),
+            b'x' => None,
+            b'y' => None,
+            b'z' => None,
+            b'_' => None,
+            _ => among(&ALL, word),
+        }
     }
 }

@@ -9,7 +9,7 @@ ghost use Rattle.salt_tokens.specs.declared.error.ScanErr.TheVariants.{Syntax};
 
 use crate::error::ScanErr;
 use crate::keyword::Keyword;
-use crate::scanner::scan;
+use crate::scanner::{first, is_blank};
 use crate::sign::Sign;
 use crate::token::TokenKind;
 use std::alloc::Global;
@@ -75,11 +75,20 @@ pub fn lexemes<'a>(alloc: Global, bytes: &'a [u8]) -> Result<Vec<Lexeme<'a>>, Sc
     ensures short { IfOk result (λ v. vec_len v ≤ length bytes.now) }
     ensures syntax { result ≡ Err Syntax → (r : Symbols) → ¬ (HasSymbols bytes.now r) }
 {
-    let tokens = scan(alloc, bytes)?;
-    let mut lexemes = Vec::new(alloc);
-    for token in tokens.as_slice() {
-        let text = &bytes[token.at..token.at + token.len];
-        lexemes.push(lexeme_of(token.kind, text))?;
+    // few lines have more tokens than one for two bytes
+    let mut lexemes = Vec::with_capacity(alloc, bytes.len() / 2 + 1)?;
+    let mut at = 0;
+    while at < bytes.len() {
+        if is_blank(bytes[at]) {
+            at += 1;
+        } else {
+            let Some((kind, len)) = first(&bytes[at..]) else {
+                return Err(ScanErr::Syntax);
+            };
+            let text = &bytes[at..at + len];
+            lexemes.push(lexeme_of(kind, text))?;
+            at += len;
+        }
     }
     Ok(lexemes)
 }

@@ -5,7 +5,7 @@ ghost use Rattle.salt_tokens.specs.Bytes.{lower};
 ghost use Rattle.salt_tokens.specs.Spelling.{same_bytes};
 
 /// A capital letter in small.
-fn lower(b: u8) -> u8
+pub fn lower(b: u8) -> u8
     ensures { result ≡ lower b }
 {
     if b'A' <= b && b <= b'Z' { b + 32 } else { b }

@@ -1,6 +1,6 @@
 //! From bytes to tokens.
 
-ghost use Rattle.std.specs.Prelude.{◌≡◌, ℕ, List, ◌<◌, ◌≤◌, ◌+◌, ◌-◌, length, drop, IfOk, IfSome, Err, false, is_some};
+ghost use Rattle.std.specs.Prelude.{◌≡◌, ℕ, List, [], ◌∷◌, ◌<◌, ◌≤◌, ◌+◌, ◌-◌, length, drop, IfOk, IfSome, Err, false, is_some};
 ghost use Rattle.std.specs.List.{prefix_len};
 ghost use Rattle.salt_tokens.specs.Bytes.{is_blank, is_digit, is_letter, is_word, is_printable};
 ghost use Rattle.salt_tokens.specs.Pieces.{Piece, Lexes};
@@ -46,10 +46,16 @@ fn is_printable(b: u8) -> bool
     32 <= b && b <= 126
 }
 
-fn is_sign(bytes: &[u8]) -> bool
-    ensures { result ≡ is_some (sign_of bytes.now) }
+fn is_sign(byte: u8) -> bool
+    ensures { result ≡ is_some (sign_of (byte ∷ [])) }
 {
-    Sign::of_bytes(bytes).is_some()
+    Sign::of_byte(byte).is_some()
+}
+
+fn are_sign(first: u8, second: u8) -> bool
+    ensures { result ≡ is_some (sign_of (first ∷ second ∷ [])) }
+{
+    Sign::of_pair(first, second).is_some()
 }
 
 #[tactic(auto, using(crate::proofs::Quoted::lengths))]
@@ -95,15 +101,15 @@ fn sign_len(bytes: &[u8]) -> Option<usize>
     ensures within { IfSome result (λ n. (0 < n) × (n ≤ length bytes.now)) }
 {
     match bytes {
-        [a, b, ..] if is_sign(&[*a, *b]) => Some(2),
-        [a, ..] if is_sign(&[*a]) => Some(1),
+        [a, b, ..] if are_sign(*a, *b) => Some(2),
+        [a, ..] if is_sign(*a) => Some(1),
         _ => None,
     }
 }
 
 /// The kind and the length of the token at the front.
 #[tactic(auto, unfolding(crate::specs::Scanning::first_at))]
-fn first(bytes: &[u8]) -> Option<(TokenKind, usize)>
+pub fn first(bytes: &[u8]) -> Option<(TokenKind, usize)>
     ensures value { result ≡ first_at bytes.now }
     ensures within { IfSome result (λ t. (0 < t.1) × (t.1 ≤ length bytes.now)) }
 {

@@ -1,6 +1,7 @@
 //! The signs and their spellings.
 
-ghost use Rattle.std.specs.Prelude.{◌≡◌};
+ghost use Rattle.std.specs.Prelude.{◌≡◌, [], ◌∷◌};
+ghost use Rattle.salt_tokens.specs.Bytes.{ends_pair};
 ghost use Rattle.salt_tokens.specs.Spelling.{sign_spelling, sign_of};
 
 use crate::same::same_bytes;
@@ -51,6 +52,13 @@ const ALL: [Sign; 19] = [
     Sign::AtLeast,
 ];
 
+/// Whether a sign of two bytes ends in this one.
+fn ends_pair(b: u8) -> bool
+    ensures { result ≡ ends_pair b }
+{
+    b == b'|' || b == b'>' || b == b'='
+}
+
 impl Sign {
     /// The sign's bytes.
     pub fn spelling(self) -> &'static [u8]
@@ -79,9 +87,56 @@ impl Sign {
         }
     }
 
+    /// The sign that the byte is.
+    pub fn of_byte(byte: u8) -> Option<Sign>
+        ensures { result ≡ sign_of (byte ∷ []) }
+    {
+        match byte {
+            b'(' => Some(Sign::Open),
+            b')' => Some(Sign::Close),
+            b'{' => Some(Sign::OpenBrace),
+            b'}' => Some(Sign::CloseBrace),
+            b',' => Some(Sign::Comma),
+            b';' => Some(Sign::Semicolon),
+            b':' => Some(Sign::Colon),
+            b'@' => Some(Sign::At),
+            b'.' => Some(Sign::Dot),
+            b'*' => Some(Sign::Star),
+            b'+' => Some(Sign::Plus),
+            b'-' => Some(Sign::Minus),
+            b'=' => Some(Sign::Equal),
+            b'<' => Some(Sign::Less),
+            b'>' => Some(Sign::Greater),
+            _ => Sign::among_all(&[byte]),
+        }
+    }
+
+    /// The sign that the two bytes are.
+    #[tactic(auto, using(crate::proofs::SpellingLaws::no_pair))]
+    pub fn of_pair(first: u8, second: u8) -> Option<Sign>
+        ensures { result ≡ sign_of (first ∷ second ∷ []) }
+    {
+        if ends_pair(second) {
+            Sign::among_all(&[first, second])
+        } else {
+            None
+        }
+    }
+
     /// The sign that the bytes are.
-    #[tactic(auto, unfolding(crate::specs::Spelling::sign_of))]
+    #[tactic(auto, using(crate::proofs::SpellingLaws::of_few))]
     pub fn of_bytes(bytes: &[u8]) -> Option<Sign>
+        ensures { result ≡ sign_of bytes.now }
+    {
+        match bytes {
+            [byte] => Sign::of_byte(*byte),
+            [first, second] => Sign::of_pair(*first, *second),
+            _ => Sign::among_all(bytes),
+        }
+    }
+
+    #[tactic(auto, unfolding(crate::specs::Spelling::sign_of))]
+    fn among_all(bytes: &[u8]) -> Option<Sign>
         ensures { result ≡ sign_of bytes.now }
     {
         ALL.iter()

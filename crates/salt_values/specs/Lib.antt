@@ -1,3 +1,4 @@
 pub mod Id
+pub mod Order
 pub mod Text
 pub mod Value

@@ -6,7 +6,7 @@ use Rattle.std.specs.Cmp.{IsTotalOrder, int_cmp_total, nat_cmp_total, on_total, 
 use Rattle.std.specs.Cmp.Lexicographic.{nat_list_cmp_total, slice_cmp}
 use Rattle.std.specs.Int.{w64}
 use Rattle.std.specs.Ordering.{int_cmp, is_eq, is_gt, is_lt, nat_cmp, on, then_cmp}
-use Rattle.std.specs.Prelude.{Bool, FitsSigned, List, [], false, not, pos, true, ℕ, ℤ, ⊤, ◌≡◌}
+use Rattle.std.specs.Prelude.{Bool, FitsSigned, List, [], false, not, pos, true, ℕ, ℤ, ⊤, ◌∷◌, ◌≡◌}
 use Rattle.std.specs.declared.cmp.Ordering.{Ordering}
 
 -- a number of 64 bits, a text, or NULL
@@ -31,13 +31,11 @@ kind_number Null = 2
 
 abbrev pub int_in : Value → ℤ
 int_in (Int z) = z
-int_in (Text t) = pos 0
-int_in Null = pos 0
+int_in v = pos 0
 
 abbrev pub text_in : Value → List ℕ
-text_in (Int z) = []
 text_in (Text t) = t
-text_in Null = []
+text_in v = []
 
 -- numbers by number, texts by their bytes
 abbrev pub value_cmp : Value → Value → Ordering
@@ -54,3 +52,8 @@ is_value_below v w = is_lt (value_cmp v w)
 
 abbrev pub is_value_at_most : Value → Value → Bool
 is_value_at_most v w = not (is_gt (value_cmp v w))
+
+-- a row's key is its first value
+abbrev pub key_of : List Value → Value
+key_of [] = Int (pos 0)
+key_of (key ∷ values) = key

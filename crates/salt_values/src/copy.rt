@@ -10,11 +10,28 @@ pub trait TryCopy: Sized {
     /// An equal value.
     fn copy(&self, alloc: Global) -> Result<Self, AllocError>
         ensures { IfOk result (λ made. made ≡ self.now) };
+
+    /// Copies, in their order; room for all of them is asked for at once.
+    fn copy_all(alloc: Global, items: &[Self]) -> Result<Items<Self>, AllocError>
+    where
+        Self: Drop,
+        ensures { IfOk result (λ made. made ≡ items.now) }
+    {
+        let mut made = Vec::with_capacity(alloc, items.len())?;
+        for item in items {
+            made.push(item.copy(alloc)?)?;
+        }
+        Ok(Items::from_vec(made))
+    }
 }
 
 impl TryCopy for u8 {
     fn copy(&self, _alloc: Global) -> Result<u8, AllocError> {
         Ok(*self)
+    }
+
+    fn copy_all(alloc: Global, items: &[u8]) -> Result<Items<u8>, AllocError> {
+        Items::from_slice(alloc, items)
     }
 }
 
@@ -22,11 +39,7 @@ impl TryCopy for u8 {
 pub fn copies<T: TryCopy + Drop>(alloc: Global, items: &[T]) -> Result<Items<T>, AllocError>
     ensures { IfOk result (λ made. made ≡ items.now) }
 {
-    let mut made = Items::new(alloc);
-    for item in items {
-        made.push(item.copy(alloc)?)?;
-    }
-    Ok(made)
+    T::copy_all(alloc, items)
 }
 
 impl<T: TryCopy + Drop> TryCopy for Items<T> {

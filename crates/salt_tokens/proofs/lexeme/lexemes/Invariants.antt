@@ -1,7 +1,12 @@
-use Rattle.std.proofs.Common.{◌≡◌, take}
-use Rattle.salt_tokens.specs.Spans.{pieces}
-use Rattle.salt_tokens.specs.Symbols.{symbols_in, symbols_of}
+use Rattle.std.proofs.Common.{◌≤◌, ◌-◌, length}
+use Rattle.salt_tokens.proofs.Lexing.{IsLexed}
 use Rattle.salt_tokens.proofs.lexeme.lexemes.Given as goal
 
-abbrev pub invariant-loop-token : goal.invariant-loop-token
-invariant-loop-token l = symbols_in l.lexemes.items ≡ symbols_of (pieces l.bytes (take l.token-index l.token-items))
+abbrev pub invariant-loop-at : goal.invariant-loop-at
+invariant-loop-at l = record {
+  lexed : IsLexed l.bytes l.at l.lexemes.items;
+  in_range : l.at ≤ length l.bytes;
+}
+
+abbrev pub decreases-loop-at : goal.decreases-loop-at
+decreases-loop-at l = length l.bytes - l.at

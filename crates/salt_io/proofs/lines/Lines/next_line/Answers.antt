@@ -8,7 +8,7 @@ use Rattle.salt_io.specs.declared.lines.Next.{Next}
 use Rattle.salt_io.specs.declared.lines.Next.TheVariants.{Line, TooLong}
 use Rattle.salt_io.specs.declared.lines.LineErr.{LineErr}
 use Rattle.salt_io.specs.declared.lines.LineErr.TheVariants.{ReadFault, ScriptTooLong}
-use Rattle.salt_io.proofs.HowFar.{Found, IsEmpty, Reads, Steps, at_end-before, reads-byte, reads-join, reads-line, reads-last, reads-nothing, reads-fault, reads-cut_off, found-line, found-long, reads-none, unasked}
+use Rattle.salt_io.proofs.HowFar.{Found, IsEmpty, Reads, Steps, at_end-before, reading-of, reads-byte, reads-text, reads-join, reads-line, reads-last, reads-nothing, reads-fault, reads-cut_off, found-line, found-long, reads-none, unasked}
 use Rattle.salt_io.proofs.lines.Lines.next_line.Goals as goal
 
 pub returns-in_err-byte-clause-cut_off : goal.returns-in_err-byte-clause-cut_off
@@ -54,10 +54,11 @@ loop-byte-preserved-then-byte-ne-LF g c =
     let first = rw c.in-Some.is at c.in_ok-byte.ensures.first in
     let goes_on = rw c.in-Some.is at c.in_ok-byte.ensures.goes_on in
     record {
-      of = c.in_ok-byte.ensures.of;
-      reads = reads-byte _ _ _ _ _ _ _ _ _ _ _ _ _ _ _ _ c.loop-byte.invariant.reads (steps _ _ _ _ _ _ c.in_ok-byte.ensures.in_hand first) given counted c.if-byte-ne-LF.true c.in_ok-add.ensures.text;
+      of = reading-of c.next_byte.new.self c.take_text.new.self (g.S.Source.left c.next_byte.new.source) _ _ _ _ c.in_ok-take_text.ensures.taken c.in_ok-byte.ensures.of;
+      reads = reads-text _ (g.S.Source.left c.next_byte.new.source) _ c.next_byte.new.self c.take_text.new.self _ _ _ _ _ _ c.in_ok-take_text.ensures.taken
+          (reads-byte _ _ _ _ _ _ _ _ _ _ _ _ _ _ _ _ c.loop-byte.invariant.reads (steps _ _ _ _ _ _ c.in_ok-byte.ensures.in_hand first) given counted c.if-byte-ne-LF.true c.in_ok-add.ensures.text);
       over = λ ended. absurd (not-over _ _ c.loop-byte.invariant.over goes_on ended);
-      fits = c.in_ok-add.ensures.within c.loop-byte.invariant.fits;
+      fits = c.in_ok-take_text.ensures.fits (c.in_ok-add.ensures.within c.loop-byte.invariant.fits);
       no_fault = c.in_ok-byte.ensures.no_fault (λ e. cc) ∙ c.loop-byte.invariant.no_fault;
     }
 
@@ -143,6 +144,12 @@ returns-in_err-byte-clause-in_hand g c whole = unasked-then _ _ _ _ _ _ _ _ _ _ 
 
 pub returns-in_err-add-clause-in_hand : goal.returns-in_err-add-clause-in_hand
 returns-in_err-add-clause-in_hand g c whole = unasked-then _ _ _ _ _ _ _ _ _ _ _ c.loop-byte.invariant.reads c.in_ok-byte.ensures.in_hand whole
+
+pub returns-in_err-take_text-clause-in_hand : goal.returns-in_err-take_text-clause-in_hand
+returns-in_err-take_text-clause-in_hand g c whole = unasked-then _ _ _ _ _ _ _ _ _ _ _ c.loop-byte.invariant.reads c.in_ok-byte.ensures.in_hand whole
+
+pub returns-in_err-take_text-clause-of : goal.returns-in_err-take_text-clause-of
+returns-in_err-take_text-clause-of g c = rw c.in_err-take_text.ensures.err c.in_ok-byte.ensures.of
 
 pub returns-in_err-end_piece-clause-in_hand : goal.returns-in_err-end_piece-clause-in_hand
 returns-in_err-end_piece-clause-in_hand g c whole = unasked-then _ _ _ _ _ _ _ _ _ _ _ c.loop-byte.invariant.reads c.in_ok-byte.ensures.in_hand whole
