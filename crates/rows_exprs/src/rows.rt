@@ -3,8 +3,8 @@
 use crate::words::{bool_words, cause_words, given_words, row_words};
 use salt_ast::{Expr, Field, Scan, Sets, Statement, TableDef};
 use salt_exprs::{
-    EvalErr, check, condition_outside, passes, resolve, resolve_checks, resolve_filter,
-    resolve_sets, row_after, value_outside, values_outside,
+    EvalErr, check, condition_outside, passes, resolve, resolve_filter, row_after, value_outside,
+    values_outside,
 };
 use salt_model::{Binding, Vars};
 use salt_parse::{ParseErr, read_statement, read_table};
@@ -103,10 +103,19 @@ fn updated(
     sets: &Sets,
     old: &Row,
 ) -> Result<Row, EvalErr> {
-    let checks = resolve_checks(alloc, def.columns.as_slice(), &[], def.checks.as_slice())?;
-    let sets = resolve_sets(alloc, def, vars.as_slice(), sets.as_slice())?;
-    let row = row_after(alloc, sets.as_slice(), old)?;
-    check(alloc, checks.as_slice(), row.as_slice())?;
+    let row = row_after(
+        alloc,
+        def,
+        vars.as_slice(),
+        sets.as_slice(),
+        old.copy(alloc)?,
+    )?;
+    check(
+        alloc,
+        def.columns.as_slice(),
+        def.checks.as_slice(),
+        row.as_slice(),
+    )?;
     Ok(row)
 }
 

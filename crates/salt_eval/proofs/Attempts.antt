@@ -5,7 +5,7 @@ use Rattle.salt_ast.specs.declared.trees.TableDef.{TableDef}
 use Rattle.salt_eval.proofs.Tabled.{named-known, named-unknown}
 use Rattle.salt_eval.specs.Effects.{IsEffect, attempted, effect_at, effect_of, ensured, table_effect}
 use Rattle.salt_model.specs.Eval.{holds}
-use Rattle.salt_model.specs.Reaches.{no_row, reach, reach_at, reach_in, table_for, table_in, table_named}
+use Rattle.salt_model.specs.Reaches.{no_row, reach, reach_in, table_for, table_in, table_named}
 use Rattle.salt_model.specs.Statements.{Done, answering, do_at, do_in, done, outcome_of}
 use Rattle.salt_model.specs.Tables.{Tables, rows_in}
 use Rattle.salt_model.specs.Words.{and_then}
@@ -30,7 +30,7 @@ module _ (vars : List Binding) (es : Tables) where
   told-done (Err c) = record { answer = refl; changes = refl }
 
   abbrev Goes : Statement → Option (ℕ × TableDef) → Type 0
-  Goes st d = Told (effect_at vars st d es) (do_at vars st d (rows_in (reach_at vars st d) es))
+  Goes st d = Told (effect_at vars st d es) (do_at vars st d (rows_in (option_and_then (λ (d : ℕ × TableDef). reach_in d.0 vars st) d) es))
 
   told-ensured : (r : Result Bool Cause) → Told (and_then r (λ b. cond b (Ok (answer.Held, [])) (Err cause.Ensure))) (done vars (and_then r (λ b. cond b (Ok (answering vars answer.Held)) (Err cause.Ensure))))
   told-ensured (Ok true) = record { answer = refl; changes = refl }
@@ -52,7 +52,7 @@ module _ (vars : List Binding) (es : Tables) where
 
   pub outcome-told : (schema : List TableDef) (st : Statement) (r : Result (Answer × List Change) Cause) → attempted schema vars st es ≡ r → Told r (outcome_of schema es vars st)
   unfolding outcome_of reach
-  outcome-told schema st r is = subst (λ x. Told x (do_at vars st (table_for schema st) (rows_in (reach_at vars st (table_for schema st)) es))) is (told st (table_for schema st))
+  outcome-told schema st r is = subst (λ x. Told x (do_at vars st (table_for schema st) (rows_in (option_and_then (λ (d : ℕ × TableDef). reach_in d.0 vars st) (table_for schema st)) es))) is (told st (table_for schema st))
 
   at-none : (st : Statement) (name : List ℕ) → table_in st ≡ Some name → effect_at vars st None es ≡ Err cause.Missing
   at-none (Ensure e) name h = absurd cc

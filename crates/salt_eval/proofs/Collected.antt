@@ -9,7 +9,7 @@ use Rattle.salt_eval.specs.Views.{is_next, rows_after}
 use Rattle.salt_model.specs.Eval as eval
 use Rattle.salt_model.specs.Reaches.{in_row}
 use Rattle.salt_model.specs.Statements.{collect, on_match}
-use Rattle.salt_model.specs.Tables.{Entry, Tables, key_of, place, place_cmp, place_total}
+use Rattle.salt_model.specs.Tables.{Entry, Tables, place, place_cmp, place_total}
 use Rattle.salt_model.specs.Words.{Every, and_then}
 use Rattle.salt_model.specs.declared.events.Cause.{Cause}
 use Rattle.salt_model.specs.declared.places.Place.{Place}
@@ -26,6 +26,7 @@ use Rattle.std.specs.Ordering.{is_eq}
 use Rattle.std.specs.Prelude.{Bool, Err, IfSome, List, None, Ok, Option, Result, Some, [], cond, false, fold, map, refl, true, ℕ, ◌&&◌, ◌==◌, ◌∷◌, ◌≡◌}
 use Rattle.std.specs.declared.cmp.Ordering.TheVariants.{Equal, Greater, Less}
 use Rattle.std.specs.declared.cmp.Ordering.{Ordering}
+use Rattle.salt_values.specs.Value.{key_of}
 use lib.Dec.{T}
 
 -- each stands at the place of its key, in the table

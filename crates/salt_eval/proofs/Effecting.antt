@@ -21,14 +21,12 @@ use Rattle.salt_eval.specs.declared.error.StatementErr.{StatementErr}
 use Rattle.salt_exprs.specs.Operands.{IsCause}
 use Rattle.salt_exprs.specs.declared.error.EvalErr.TheVariants as eval
 use Rattle.salt_exprs.specs.declared.error.EvalErr.{EvalErr}
-use Rattle.salt_exprs.specs.Resolving.{ResolvesChecks, ResolvesFilter, resolved_checked}
-use Rattle.salt_exprs.specs.Sets.{ResolvesSets, row_set}
+use Rattle.salt_exprs.specs.Resolving.{ResolvesFilter}
 use Rattle.salt_exprs.specs.declared.resolved.Resolved.{Resolved}
-use Rattle.salt_exprs.specs.declared.sets.ResolvedSet.{ResolvedSet}
 use Rattle.salt_model.specs.Eval.{holds, value_of, values_of}
 use Rattle.salt_model.specs.Reaches.{first_value, in_row, key_reached, no_row, range_of, reach_in, reached}
 use Rattle.salt_model.specs.Statements.{answering, change_to, changing, checked, collect, column_of, inserted, on_match, removed, seen, shown, stored, updated, with_sets}
-use Rattle.salt_model.specs.Tables.{Entry, Tables, is_within, key_of, place, row_at, rows_in}
+use Rattle.salt_model.specs.Tables.{Entry, Tables, is_within, place, row_at, rows_in}
 use Rattle.salt_model.specs.Words.{and_then}
 use Rattle.salt_model.specs.declared.events.Answer.TheVariants.{Count, Held, Stored}
 use Rattle.salt_model.specs.declared.events.Answer.{Answer}
@@ -39,7 +37,7 @@ use Rattle.salt_model.specs.declared.locks.Mode.{Mode}
 use Rattle.salt_model.specs.declared.vars.Binding.{Binding}
 use Rattle.salt_ranges.specs.Ranges.{ends_meet, has_key, is_above_low, is_below_high, is_range_empty, one_key}
 use Rattle.salt_ranges.specs.declared.range.KeyRange.{KeyRange}
-use Rattle.salt_values.specs.Value.{value_cmp, value_total}
+use Rattle.salt_values.specs.Value.{value_cmp, value_total, key_of}
 use Rattle.salt_values.specs.declared.change.Change.{Change}
 use Rattle.salt_values.specs.declared.value.Value.{Value}
 use Rattle.std.proofs.Common.{ap, append-nil, append_assoc, subst, sym, ◌∙◌}
@@ -219,19 +217,20 @@ module _ (t : ℕ) (def : TableDef) (vars : List Binding) (es : Tables) where
       updates-folded start [] = sym (append-nil start.changes)
       updates-folded start (c ∷ cs) = updates-folded (with_change start c) cs ∙ append_assoc start.changes (c ∷ []) cs
 
-      module _ (sets : List Set) (rs : List ResolvedSet) (cs : List Resolved) (are_sets : ResolvesSets rs def vars sets) (are_checks : ResolvesChecks cs def.columns [] def.checks) where
+      module _ (sets : List Set) where
         record Fits (s : Updates) : Type 0 where
           of_table : s.table ≡ t
-          of_sets : s.sets ≡ rs
-          of_checks : s.checks ≡ cs
+          of_def : s.def.now ≡ def
+          of_vars : s.vars.now ≡ vars
+          of_sets : s.sets.now ≡ sets
 
         update-step : (s : Updates) (e : Entry) → Fits s → e.0 ≡ place t (key_of e.1) → with_update s e.1 ≡ and_then (updated def vars sets e) (λ c. Ok (with_change s c))
         update-step s e fits at =
-            ap (λ r. and_then r more) (ap (λ (l : List ResolvedSet). row_set e.1 l e.1) fits.of_sets ∙ are_sets e.1 e.1)
+            (λ i. and_then (with_sets (fits.of_def i) (in_row (fits.of_def i) e.1 (fits.of_vars i)) (fits.of_sets i) e.1) more)
             ∙ on (with_sets def (in_row def e.1 vars) sets e.1)
           where
             more : List Value → Result Updates Cause
-            more new = and_then (resolved_checked new s.checks) (λ b. Ok (with_change s (change_to (place s.table (key_of e.1)) (Some new))))
+            more new = and_then (checked (in_row s.def.now new []) s.def.now.checks) (λ b. Ok (with_change s (change_to (place s.table (key_of e.1)) (Some new))))
 
             where_it_was : place s.table (key_of e.1) ≡ e.0
             where_it_was = (λ i. place (fits.of_table i) (key_of e.1)) ∙ sym at
@@ -243,25 +242,22 @@ module _ (t : ℕ) (def : TableDef) (vars : List Binding) (es : Tables) where
             on : (r : Result (List Value) Cause) → and_then r more ≡ and_then (and_then r (λ new. and_then (checked (in_row def new []) def.checks) (λ b. Ok (change_to e.0 (Some new))))) (λ c. Ok (with_change s c))
             on (Err c) = refl
             on (Ok new) =
-                ap (λ r. and_then r (λ b. Ok (with_change s (change_to (place s.table (key_of e.1)) (Some new))))) (ap (λ (l : List Resolved). resolved_checked new l) fits.of_checks ∙ are_checks new)
+                ap (λ r. and_then r (λ b. Ok (with_change s (change_to (place s.table (key_of e.1)) (Some new))))) (ap (λ (d : TableDef). checked (in_row d new []) d.checks) fits.of_def)
                 ∙ checked-then new (checked (in_row def new []) def.checks)
 
-        pub updates : (first : List Change) → first ≡ []
+        pub updates : (start : Updates) → start.table ≡ t → start.def.now ≡ def → start.vars.now ≡ vars → start.sets.now ≡ sets → start.changes ≡ []
             → ShownBy (table_effect t def vars (Update name sets scan) es)
-            (gathered (filtered (kept_by test) with_update) (record { table = t; sets = rs; checks = cs; changes = first }) (range_rows t range es))
+            (gathered (filtered (kept_by test) with_update) start (range_rows t range es))
             (λ s. counted s.changes)
-        updates first none = record {
+        updates start of_table of_def of_vars of_sets none = record {
           is =
               changes-rows (updated def vars sets)
               ∙ told (collect (on_match def vars scan.filter (updated def vars sets)) (rows_after t range None es))
               ∙ sym (then-then (collect (on_match def vars scan.filter (updated def vars sets)) (rows_after t range None es)) (λ cs. fold with_change start cs) (λ (s : Updates). counted s.changes))
               ∙ ap (λ r. and_then r (λ (s : Updates). counted s.changes))
-              (sym (gathered-collected t def vars scan.filter (updated def vars sets) (kept_by test) with_update with_change Fits (λ s b h. record { of_table = h.of_table; of_sets = h.of_sets; of_checks = h.of_checks }) fits update-step start (rows_after t range None es) (record { of_table = refl; of_sets = refl; of_checks = refl }) (rows-at_keys t range es keys)));
+              (sym (gathered-collected t def vars scan.filter (updated def vars sets) (kept_by test) with_update with_change Fits (λ s b h. record { of_table = h.of_table; of_def = h.of_def; of_vars = h.of_vars; of_sets = h.of_sets }) fits update-step start (rows_after t range None es) (record { of_table = of_table; of_def = of_def; of_vars = of_vars; of_sets = of_sets }) (rows-at_keys t range es keys)));
         }
           where
-            start : Updates
-            start = record { table = t; sets = rs; checks = cs; changes = first }
-
             told : (r : Result (List Change) Cause) → and_then r counted ≡ and_then r (λ l. counted (fold with_change start l).changes)
             told (Ok l) = ap counted (sym (updates-folded start l ∙ ap (λ (x : List Change). x ++ l) none))
             told (Err c) = refl

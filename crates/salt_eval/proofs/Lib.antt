@@ -1,5 +1,6 @@
 pub mod Attempts
 pub mod Collected
+pub mod Cursors
 pub mod Effecting
 pub mod Framing
 pub mod InOrder

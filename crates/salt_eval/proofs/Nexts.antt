@@ -31,7 +31,7 @@ pub and_true : (a : Bool) → (a && true) ≡ a
 and_true true = refl
 and_true false = refl
 
-le_is : (o : Ordering) → is_le o ≡ not (is_gt o)
+pub le_is : (o : Ordering) → is_le o ≡ not (is_gt o)
 le_is Less = refl
 le_is Equal = refl
 le_is Greater = refl
@@ -41,7 +41,7 @@ not_above Less h = refl
 not_above Equal h = refl
 not_above Greater h = absurd cc
 
-at_most : (o : Ordering) → is_lt o ≡ true → is_le o ≡ true
+pub at_most : (o : Ordering) → is_lt o ≡ true → is_le o ≡ true
 at_most Less h = refl
 at_most Equal h = absurd cc
 at_most Greater h = absurd cc

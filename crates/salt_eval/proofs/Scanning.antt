@@ -3,13 +3,13 @@ use Rattle.salt_eval.proofs.InOrder.{less_is, parted}
 use Rattle.salt_eval.proofs.Nexts.{and_true, both_true, same_table}
 use Rattle.salt_eval.specs.Scans.{IsKeyed, gathered}
 use Rattle.salt_eval.specs.Views.{is_behind, is_next, next_row, rows_after}
-use Rattle.salt_model.specs.Tables.{Entry, Tables, key_of, place, place_cmp, place_total}
+use Rattle.salt_model.specs.Tables.{Entry, Tables, place, place_cmp, place_total}
 use Rattle.salt_model.specs.Words.{and_then, first_of_list}
 use Rattle.salt_model.specs.declared.events.Cause.{Cause}
 use Rattle.salt_model.specs.declared.places.Place.{Place}
 use Rattle.salt_ranges.specs.Ranges.{has_key}
 use Rattle.salt_ranges.specs.declared.range.KeyRange.{KeyRange}
-use Rattle.salt_values.specs.Value.{value_cmp, value_total}
+use Rattle.salt_values.specs.Value.{value_cmp, value_total, key_of}
 use Rattle.salt_values.specs.declared.value.Value.{Value}
 use Rattle.std.proofs.Common.{ap, arith, subst, sym, ◌∙◌}
 use Rattle.std.proofs.lemmas.Bool.{eqb-true}

@@ -1,7 +1,7 @@
 -- The table that a statement names, by its number.
 use Rattle.salt_ast.specs.declared.trees.Statement.{Statement}
 use Rattle.salt_ast.specs.declared.trees.TableDef.{TableDef}
-use Rattle.salt_model.specs.Reaches.{reach, reach_at, reach_in, table_from, table_in, table_named}
+use Rattle.salt_model.specs.Reaches.{reach, reach_in, table_from, table_in, table_named}
 use Rattle.salt_model.specs.declared.vars.Binding.{Binding}
 use Rattle.salt_schema.specs.Definitions.{is_named}
 use Rattle.salt_schema.specs.Schemas.{table_number}
@@ -75,16 +75,16 @@ number-found name schema t number none = by (table_named name schema) refl (numb
 module _ (schema : List TableDef) (vars : List Binding) (st : Statement) where
   pub reach-none : table_in st ≡ None → None ≡ reach schema vars st
   unfolding reach
-  reach-none h = sym (ap (λ o. reach_at vars st (option_and_then (λ name. table_named name schema) o)) h)
+  reach-none h = sym (ap (λ o. option_and_then (λ (d : ℕ × TableDef). reach_in d.0 vars st) (option_and_then (λ name. table_named name schema) o)) h)
 
   pub reach-unknown : (name : List ℕ) → table_in st ≡ Some name → table_number schema name ≡ None → None ≡ reach schema vars st
   unfolding reach
-  reach-unknown name h none = sym (ap (λ o. reach_at vars st (option_and_then (λ name. table_named name schema) o)) h ∙ ap (reach_at vars st) (named-unknown name schema none))
+  reach-unknown name h none = sym (ap (λ o. option_and_then (λ (d : ℕ × TableDef). reach_in d.0 vars st) (option_and_then (λ name. table_named name schema) o)) h ∙ ap (option_and_then (λ (d : ℕ × TableDef). reach_in d.0 vars st)) (named-unknown name schema none))
 
   pub reach-known : (name : List ℕ) (t : ℕ) → table_in st ≡ Some name → table_number schema name ≡ Some t → reach_in t vars st ≡ reach schema vars st
   unfolding reach
-  reach-known name t h number = sym (ap (λ o. reach_at vars st (option_and_then (λ name. table_named name schema) o)) h ∙ by (table_named name schema) (number-named name schema ∙ number))
+  reach-known name t h number = sym (ap (λ o. option_and_then (λ (d : ℕ × TableDef). reach_in d.0 vars st) (option_and_then (λ name. table_named name schema) o)) h ∙ by (table_named name schema) (number-named name schema ∙ number))
     where
-      by : (o : Option (ℕ × TableDef)) → option_map (λ (d : ℕ × TableDef). d.0) o ≡ Some t → reach_at vars st o ≡ reach_in t vars st
+      by : (o : Option (ℕ × TableDef)) → option_map (λ (d : ℕ × TableDef). d.0) o ≡ Some t → option_and_then (λ (d : ℕ × TableDef). reach_in d.0 vars st) o ≡ reach_in t vars st
       by None h = absurd cc
       by (Some d) h = let same : d.0 ≡ t = cc in ap (λ n. reach_in n vars st) same

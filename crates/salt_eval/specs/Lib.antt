@@ -1,4 +1,5 @@
 pub mod Cells
+pub mod Cursors
 pub mod Effects
 pub mod Filtered
 pub mod Frames

@@ -7,12 +7,12 @@ use Rattle.salt_eval.specs.declared.error.StatementErr.{StatementErr}
 use Rattle.salt_eval.specs.declared.view.ViewErr.TheVariants.{Fault, Memory}
 use Rattle.salt_exprs.specs.Operands as exprs
 use Rattle.salt_io.specs.Streams.{Rose}
-use Rattle.salt_model.specs.Tables.{Tables, key_of, row_at}
+use Rattle.salt_model.specs.Tables.{Tables, row_at}
 use Rattle.salt_model.specs.Words.{and_then}
 use Rattle.salt_model.specs.declared.events.Cause as cause
 use Rattle.salt_model.specs.declared.places.Place.{Place}
 use Rattle.salt_ranges.specs.declared.range.KeyRange.{KeyRange}
-use Rattle.salt_values.specs.Value.{is_same_value}
+use Rattle.salt_values.specs.Value.{is_same_value, key_of}
 use Rattle.salt_values.specs.declared.value.Value.{Value}
 use Rattle.std.specs.Prelude.{Err, IfSome, List, None, Ok, Option, Result, Some, [], if◌then◌else◌, map, ℕ, ⊤, ◌∷◌, ◌≡◌}
 

@@ -2,12 +2,14 @@
 
 ghost use Rattle.std.specs.Prelude.{◌++◌, ◌∷◌, [], None, Ok};
 ghost use Rattle.salt_model.specs.Statements.{change_to};
-ghost use Rattle.salt_model.specs.Tables.{key_of, place};
+ghost use Rattle.salt_model.specs.Tables.{place};
+ghost use Rattle.salt_values.specs.Value.{key_of};
 
 use crate::scan::{Gather, key_of};
-use salt_exprs::{EvalErr, Resolved, ResolvedSet, check, row_after};
+use salt_ast::{Set, TableDef};
+use salt_exprs::{EvalErr, check, row_after};
+use salt_model::Binding;
 use salt_values::{Change, Changes, Row};
-use sqlite_items::Items;
 use std::alloc::Global;
 
 /// The removals of rows of a table.
@@ -31,12 +33,13 @@ impl Gather for Removals {
     }
 }
 
-/// The new rows of a table: what is set of each, and the checks that it then has to meet.
+/// The new rows of a table, whose checks each then has to meet, and what is set of each.
 #[derive(Drop)]
 pub struct Updates<'a> {
     pub table: u16,
-    pub sets: Items<ResolvedSet<'a>>,
-    pub checks: Items<Resolved<'a>>,
+    pub def: &'a TableDef,
+    pub vars: &'a [Binding],
+    pub sets: &'a [Set],
     pub changes: Changes,
 }
 
@@ -46,9 +49,14 @@ impl<'a> Gather for Updates<'a> {
     ghost with_row = { with_update };
 
     fn take(&mut self, alloc: Global, row: Row) -> Result<(), EvalErr> {
-        let new = row_after(alloc, self.sets.as_slice(), &row)?;
-        check(alloc, self.checks.as_slice(), new.as_slice())?;
         let key = key_of(alloc, row.as_slice())?;
+        let new = row_after(alloc, self.def, self.vars, self.sets, row)?;
+        check(
+            alloc,
+            self.def.columns.as_slice(),
+            self.def.checks.as_slice(),
+            new.as_slice(),
+        )?;
         self.changes.push(Change {
             table: self.table,
             key,

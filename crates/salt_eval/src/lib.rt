@@ -3,6 +3,7 @@
 
 mod cells;
 mod changed;
+mod cursor;
 mod error;
 mod laws;
 mod map_view;

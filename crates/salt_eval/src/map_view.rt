@@ -1,31 +1,34 @@
 //! The view of rows in a map.
 
-ghost use Rattle.std.specs.Prelude.{◌≡◌, IfOk, option_map};
+ghost use Rattle.std.proofs.Props.{props};
+ghost use Rattle.std.specs.Prelude.{◌≡◌, IfOk, OnOk};
 ghost use Rattle.std.specs.Option.{option_copied};
-ghost use Rattle.std.specs.Map.Iter.{deref_pair};
-ghost use Rattle.std.specs.BTreeMap.{IsOrdered};
 ghost use Rattle.std.specs.BTreeMap.Range.{entries_between};
 ghost use Rattle.std.specs.declared.ops.Bound.TheVariants.{Unbounded};
 ghost use Rattle.salt_model.specs.Tables.{place_cmp};
-ghost use Rattle.salt_model.specs.Words.{first_of_list};
+ghost use Rattle.salt_eval.specs.Cursors.{AreInOrder, IsCursorOf};
 ghost use Rattle.salt_eval.specs.Views.{start_of, tables_of};
 
+use crate::cursor::{Cursor, first_of, rest_at};
 use crate::view::{RowView, ViewErr};
 use salt_model::{Place, first_place};
 use salt_ranges::{KeyRange, is_above_low};
 use salt_values::{Key, Row, TryCopy};
 use std::alloc::{AllocError, Global};
 use std::collections::BTreeMap;
+use std::collections::btree_map::Range;
 use std::ops::Bound;
 
 /// The rows of all tables, by their places.
 pub type Tables = BTreeMap<Place, Row>;
 
-/// Shows the rows of a map. It has no faults.
+/// Shows the rows of a map, and keeps where the last one stands, so that the next is not searched for. It has no faults.
 #[derive(Drop)]
 pub struct MapView<'a> {
     alloc: Global,
     rows: &'a Tables,
+    cursor: Option<Cursor<'a>>,
+    ghost follows: { IsCursorOf rows.now.entries cursor } by { Prim.hlevel props },
 }
 
 impl<'a> MapView<'a> {
@@ -35,7 +38,11 @@ impl<'a> MapView<'a> {
     pub fn new(alloc: Global, rows: &'a Tables) -> MapView<'a>
         ensures { shown_by result ≡ tables_of rows.now.entries }
     {
-        MapView { alloc, rows }
+        MapView {
+            alloc,
+            rows,
+            cursor: None,
+        }
     }
 }
 
@@ -57,12 +64,34 @@ fn start_of(
     }
 }
 
-/// The first row from there on, with its place.
-fn first_from<'a>(rows: &'a Tables, start: Bound<Place>) -> Option<(&'a Place, &'a Row)>
-    ensures first { option_map deref_pair result ≡ first_of_list (entries_between place_cmp start Unbounded rows.now.entries) }
-    ensures ordered { IsOrdered place_cmp rows.now }
+/// The entries from there on.
+fn entries_from<'a>(rows: &'a Tables, start: Bound<Place>) -> Range<'a, Place, Row>
+    ensures entries { result ≡ entries_between place_cmp start Unbounded rows.now.entries }
+    ensures ordered { AreInOrder rows.now.entries }
 {
-    rows.range((start, Bound::Unbounded)).next()
+    rows.range((start, Bound::Unbounded))
+}
+
+/// The entries from the lower end of a range on, and behind a key. Where a cursor was left there, nothing is searched for.
+fn entries_after<'a>(
+    alloc: Global,
+    rows: &'a Tables,
+    cursor: Option<Cursor<'a>>,
+    table: u16,
+    lo: &Option<Key>,
+    after: Option<&Key>,
+) -> Result<Range<'a, Place, Row>, AllocError>
+    requires { IsCursorOf rows.now.entries cursor }
+    ensures entries { IfOk result (λ entries. entries ≡ entries_between place_cmp (start_of table lo.now (option_copied after.entry)) Unbounded rows.now.entries) }
+    ensures ordered { OnOk result (AreInOrder rows.now.entries) }
+{
+    match rest_at(cursor, table, lo, after) {
+        Some(rest) => Ok(rest),
+        None => {
+            let start = start_of(alloc, table, lo, after)?;
+            Ok(entries_from(rows, start))
+        }
+    }
 }
 
 impl<'a> RowView for MapView<'a> {
@@ -90,12 +119,16 @@ impl<'a> RowView for MapView<'a> {
         range: &KeyRange,
         after: Option<&Key>,
     ) -> Result<Option<Row>, ViewErr> {
-        let start = start_of(self.alloc, table, &range.lo, after)?;
-        let Some((place, row)) = first_from(self.rows, start) else {
+        let cursor = self.cursor.take();
+        let entries = entries_after(self.alloc, self.rows, cursor, table, &range.lo, after)?;
+        let Some(cursor) = first_of(entries) else {
             return Ok(None);
         };
+        let place = cursor.place;
         if place.table == table && range.has(&place.key) {
-            Ok(Some(row.copy(self.alloc)?))
+            let row = cursor.row.copy(self.alloc)?;
+            self.cursor = Some(cursor);
+            Ok(Some(row))
         } else {
             Ok(None)
         }

@@ -4,7 +4,7 @@ ghost use Rattle.std.specs.Prelude.{◌≡◌, IfOk};
 ghost use Rattle.salt_eval.specs.Meets.{are_of_columns, is_of_column, meets_table};
 
 use salt_ast::{ColType, Field};
-use salt_exprs::{EvalErr, check, resolve_checks};
+use salt_exprs::{EvalErr, check};
 use salt_schema::Schema;
 use salt_values::{Row, Value};
 use std::alloc::{AllocError, Global};
@@ -51,8 +51,12 @@ pub fn meets_table(
     if !are_of_columns(def.columns.as_slice(), row.as_slice()) {
         return Ok(false);
     }
-    let checks = resolve_checks(alloc, def.columns.as_slice(), &[], def.checks.as_slice())?;
-    match check(alloc, checks.as_slice(), row.as_slice()) {
+    match check(
+        alloc,
+        def.columns.as_slice(),
+        def.checks.as_slice(),
+        row.as_slice(),
+    ) {
         Ok(()) => Ok(true),
         Err(EvalErr::Cause(_)) => Ok(false),
         Err(EvalErr::Memory) => Err(AllocError),

@@ -2,12 +2,13 @@
 
 ghost use Rattle.std.specs.Prelude.{◌≡◌, IfOk, Ok, Option, Result, List, Some};
 ghost use Rattle.std.specs.Option.{option_copied};
-ghost use Rattle.salt_model.specs.Tables.{key_of, place, row_at};
+ghost use Rattle.salt_model.specs.Tables.{place, row_at};
 ghost use Rattle.salt_model.specs.declared.events.Cause.{Cause};
 ghost use Rattle.salt_ranges.specs.declared.range.KeyRange.{KeyRange};
 ghost use Rattle.salt_values.specs.declared.value.Value.{Value};
 ghost use Rattle.salt_eval.specs.Filtered.{filtered, kept_by};
 ghost use Rattle.salt_eval.specs.Scans.{CountsFaultsOf, IsKeyed, Leaves, Takes, gathered, point_of, range_rows, row_list};
+ghost use Rattle.salt_values.specs.Value.{key_of};
 
 use crate::error::StatementErr;
 use crate::view::RowView;

@@ -16,8 +16,7 @@ use crate::select::show;
 use crate::view::{RowView, ViewErr};
 use salt_ast::{Expr, Scan, Set, Statement, TableDef, What};
 use salt_exprs::{
-    check, column_number, condition_outside, resolve_checks, resolve_filter, resolve_sets,
-    value_outside, values_outside,
+    check, column_number, condition_outside, resolve_filter, value_outside, values_outside,
 };
 use salt_model::{Answer, Binding, Cause, Vars};
 use salt_schema::Schema;
@@ -47,8 +46,12 @@ fn insert<V: RowView>(
     if view.get(table, &key)?.is_some() {
         return Err(StatementErr::Cause(Cause::Duplicate));
     }
-    let checks = resolve_checks(alloc, def.columns.as_slice(), &[], def.checks.as_slice())?;
-    check(alloc, checks.as_slice(), row.as_slice())?;
+    check(
+        alloc,
+        def.columns.as_slice(),
+        def.checks.as_slice(),
+        row.as_slice(),
+    )?;
     let mut changes = Items::new(alloc);
     changes.push(Change {
         table,
@@ -124,8 +127,9 @@ fn update<V: RowView>(
     let filter = resolve_filter(alloc, def.columns.as_slice(), vars, &rows.filter)?;
     let mut updates = Updates {
         table,
-        sets: resolve_sets(alloc, def, vars, sets)?,
-        checks: resolve_checks(alloc, def.columns.as_slice(), &[], def.checks.as_slice())?,
+        def,
+        vars,
+        sets,
         changes: Items::new(alloc),
     };
     scan(alloc, view, table, &range, &filter, &mut updates)?;

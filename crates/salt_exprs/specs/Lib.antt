@@ -1,5 +1,3 @@
 pub mod Operands
 pub mod Resolving
 pub mod Names
-pub mod Pairs
-pub mod Sets

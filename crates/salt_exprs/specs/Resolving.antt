@@ -3,14 +3,12 @@ use Rattle.salt_ast.specs.declared.trees.Expr.{Expr}
 use Rattle.salt_ast.specs.declared.trees.Field.{Field}
 use Rattle.salt_ast.specs.declared.trees.Op.{Op}
 use Rattle.salt_exprs.specs.declared.resolved.Resolved.{Binary', Column, Given, IsNull', Not', Resolved, Unknown, end_of-Resolved, more_of-Resolved}
-use Rattle.salt_model.specs.Eval.{Datum, Gives, Truth, Visible, eval, is_no, is_yes, known, mistyped, named_values, negated, null_tested, operate, passes, truth_in, value_in}
-use Rattle.salt_model.specs.Statements.{checked}
+use Rattle.salt_model.specs.Eval.{Datum, Gives, Truth, Visible, eval, is_yes, known, mistyped, named_values, negated, null_tested, operate, passes, truth_in, value_in}
 use Rattle.salt_model.specs.Words.{and_then}
-use Rattle.salt_model.specs.declared.events.Cause.TheVariants.{Check}
 use Rattle.salt_model.specs.declared.events.Cause.{Cause}
 use Rattle.salt_model.specs.declared.vars.Binding.{Binding}
 use Rattle.salt_values.specs.declared.value.Value.{Value}
-use Rattle.std.specs.Prelude.{Bool, Err, List, None, Ok, Option, Result, Some, [], if◌then◌else◌, slice_get, true, ◌≡◌, ◌∷◌}
+use Rattle.std.specs.Prelude.{Bool, List, None, Ok, Option, Result, Some, slice_get, true, ◌≡◌}
 
 abbrev pub negation : Resolved → Resolved
 negation r = Not' tt (more_of-Resolved r end_of-Resolved)
@@ -53,15 +51,6 @@ abbrev pub resolved_passes : List Value → Option Resolved → Result Bool Caus
 resolved_passes row None = Ok true
 resolved_passes row (Some r) = resolved_holds row r
 
--- the first check that is false, or its cause; one that is unknown passes
-abbrev pub resolved_checked : List Value → List Resolved → Result Bool Cause
-resolved_checked row [] = Ok true
-resolved_checked row (r ∷ rs) = and_then (resolved_truth row r) (λ t. if is_no t then Err Check else resolved_checked row rs)
-
 -- of each row it is what the filter is
 abbrev pub ResolvesFilter : Option Resolved → List Field → List Binding → Option Expr → Type 0
 ResolvesFilter r columns vars filter = (row : List Value) → resolved_passes row r ≡ passes (visible columns row vars) filter
-
--- of each row they tell what the checks tell
-abbrev pub ResolvesChecks : List Resolved → List Field → List Binding → List Expr → Type 0
-ResolvesChecks rs columns vars checks = (row : List Value) → resolved_checked row rs ≡ checked (visible columns row vars) checks

@@ -3,6 +3,7 @@
 
 mod conditions;
 mod error;
+mod in_row;
 mod names;
 mod operand;
 mod operations;
@@ -11,10 +12,10 @@ mod resolved;
 mod sets;
 mod truth;
 
-pub use conditions::{check, passes, resolve_checks, resolve_filter};
+pub use conditions::{check, passes, resolve_filter};
 pub use error::EvalErr;
 pub use names::{cell, column_number};
 pub use outside::{condition_outside, value_outside, values_outside};
 pub use resolved::{Resolved, resolve};
-pub use sets::{ResolvedSet, resolve_sets, row_after};
+pub use sets::row_after;
 pub use truth::Truth;

@@ -1,6 +1,6 @@
 //! Names of columns and variables, found.
 
-ghost use Rattle.std.specs.Prelude.{◌≡◌, IfOk, find, map, option_and_then, slice_get};
+ghost use Rattle.std.specs.Prelude.{◌≡◌, find, option_and_then, slice_get};
 ghost use Rattle.std.specs.List.{position_from};
 ghost use Rattle.std.specs.Option.{option_copied};
 ghost use Rattle.salt_model.specs.Eval.{value_named};
@@ -9,9 +9,8 @@ ghost use Rattle.salt_exprs.specs.Names.{IsNumberOf, has_name, is_named};
 use salt_ast::Field;
 use salt_model::Binding;
 use salt_tokens::same_bytes;
-use salt_values::Value;
-use sqlite_items::{Items, at};
-use std::alloc::{AllocError, Global};
+use salt_values::{Name, Value};
+use sqlite_items::at;
 
 fn position_of(columns: &[Field], name: &[u8]) -> Option<usize>
     ensures { result ≡ position_from (has_name name.now) 0 columns.now }
@@ -45,15 +44,11 @@ pub fn variable_value<'a>(vars: &'a [Binding], name: &[u8]) -> Option<&'a Value>
     }
 }
 
-/// Of each column, whether it has this name.
-pub fn takers(alloc: Global, columns: &[Field], name: &[u8]) -> Result<Items<bool>, AllocError>
-    ensures { IfOk result (λ ts. ts ≡ map (has_name name.now) columns.now) }
+/// Whether a column has this name.
+pub fn has_name(name: &Name, column: &Field) -> bool
+    ensures { result ≡ has_name name.now column.now }
 {
-    let mut takers = Items::new(alloc);
-    for column in columns {
-        takers.push(same_bytes(name, column.name.as_slice()))?;
-    }
-    Ok(takers)
+    same_bytes(name.as_slice(), column.name.as_slice())
 }
 
 /// The value in the column of this number: none where there is no such column, or the row ends before it. The definitions

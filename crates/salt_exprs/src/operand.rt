@@ -1,12 +1,13 @@
 //! What a part of an expression gives to the operation that it stands under.
 
-ghost use Rattle.std.specs.Prelude.{◌≡◌, Ok};
-ghost use Rattle.salt_model.specs.Eval.{Gives, Holds, mistyped, negated, null_tested, yes_or_no};
+ghost use Rattle.std.specs.Prelude.{◌≡◌, Ok, slice_get};
+ghost use Rattle.salt_model.specs.Eval.{Gives, Holds, known, mistyped, negated, null_tested, yes_or_no};
 ghost use Rattle.salt_exprs.specs.Operands.{datum_of};
 ghost use Rattle.salt_values.specs.Value.{is_null};
 
 use crate::truth::Truth;
 use salt_values::Value;
+use sqlite_items::at;
 
 /// A value that stands in a row, in the expression or in a variable, a value made by an operation, or a truth value.
 #[derive(Drop)]
@@ -22,6 +23,16 @@ pub fn mistyped<'r>() -> Operand<'r>
     ensures { Ok (datum_of result) ≡ mistyped }
 {
     Operand::Made(Value::Int(0))
+}
+
+/// The value of the column of this number in a row; what is mistyped where the row ends before it.
+pub fn in_column(row: &[Value], number: usize) -> Operand<'_>
+    ensures { Ok (datum_of result) ≡ known (slice_get row.now number) }
+{
+    match at(row, number) {
+        Some(value) => Operand::Lent(value),
+        None => mistyped(),
+    }
 }
 
 /// Yes or no.

@@ -6,7 +6,7 @@ ghost use Rattle.salt_model.specs.Reaches.{no_row};
 ghost use Rattle.salt_exprs.specs.Operands.{Tells, same};
 
 use crate::error::EvalErr;
-use crate::resolved::resolve;
+use crate::in_row::{truth_in_row, value_in_row};
 use salt_ast::Expr;
 use salt_model::Binding;
 use salt_values::{Row, Value};
@@ -17,8 +17,7 @@ use std::alloc::Global;
 pub fn value_outside(alloc: Global, vars: &[Binding], expr: &Expr) -> Result<Value, EvalErr>
     ensures { Tells same (value_of (no_row vars.now) expr.now) result }
 {
-    let resolved = resolve(alloc, &[], vars, expr)?;
-    resolved.value(alloc, &[])
+    value_in_row(alloc, &[], &[], vars, expr)
 }
 
 /// Whether a condition that sees the variables alone is true, and neither false nor unknown: what ENSURE asks; or its first
@@ -26,8 +25,7 @@ pub fn value_outside(alloc: Global, vars: &[Binding], expr: &Expr) -> Result<Val
 pub fn condition_outside(alloc: Global, vars: &[Binding], condition: &Expr) -> Result<bool, EvalErr>
     ensures { Tells same (holds (no_row vars.now) condition.now) result }
 {
-    let resolved = resolve(alloc, &[], vars, condition)?;
-    resolved.holds(alloc, &[])
+    Ok(truth_in_row(alloc, &[], &[], vars, condition)?.is_yes())
 }
 
 /// The values of expressions that see the variables alone, from left to right, or the first cause.

@@ -1,20 +1,19 @@
 //! Expressions whose names are found.
 
-ghost use Rattle.std.specs.Prelude.{◌≡◌, IfOk, Ok, slice_get};
-ghost use Rattle.salt_model.specs.Eval.{known};
+ghost use Rattle.std.specs.Prelude.{◌≡◌, IfOk};
 ghost use Rattle.salt_exprs.specs.Operands.{Tells, datum_of, same, truth_meant};
 ghost use Rattle.salt_exprs.specs.Resolving.{Resolves, eval_resolved, negation, null_test, operation, resolved_holds, resolved_truth, resolved_value};
 ghost use Rattle.salt_ast.specs.declared.trees.Expr.{Column, Variable};
 
 use crate::error::EvalErr;
 use crate::names::{column_number, variable_value};
-use crate::operand::{Operand, mistyped, negated, null_tested};
+use crate::operand::{Operand, in_column, mistyped, negated, null_tested};
 use crate::operations::{is_decided, operate};
 use crate::truth::Truth;
 use salt_ast::{Expr, Field, Op};
 use salt_model::Binding;
 use salt_values::{Name, TryCopy, Value};
-use sqlite_items::{Boxed, at};
+use sqlite_items::Boxed;
 use std::alloc::{AllocError, Global};
 
 /// An expression whose columns are numbers, and whose variables are their values.
@@ -37,15 +36,6 @@ pub enum Resolved<'a> {
         left: Boxed<Resolved<'a>>,
         right: Boxed<Resolved<'a>>,
     },
-}
-
-fn in_column(row: &[Value], number: usize) -> Operand<'_>
-    ensures { Ok (datum_of result) ≡ known (slice_get row.now number) }
-{
-    match at(row, number) {
-        Some(value) => Operand::Lent(value),
-        None => mistyped(),
-    }
 }
 
 impl<'a> Resolved<'a> {

@@ -16,7 +16,7 @@ use Rattle.law_story.proofs.Every.{IfOk, IfSome, every-collect, every-filter, ok
 use Rattle.salt_model.specs.Eval.{Visible, holds, passes, value_of, values_of}
 use Rattle.salt_model.specs.Reaches.{in_row, no_row, range_of, reach, table_for, table_from}
 use Rattle.salt_model.specs.Statements.{Done, answering, change_to, changing, checked, collect, do_at, do_in, done, inserted, on_match, outcome_of, removed, seen, set_field, shown, stored, updated, with_sets}
-use Rattle.salt_model.specs.Tables.{Entry, Tables, is_within, key_of, place, place_cmp, rows_in}
+use Rattle.salt_model.specs.Tables.{Entry, Tables, is_within, place, place_cmp, rows_in}
 use Rattle.salt_model.specs.Words.{Every, and_then}
 use Rattle.salt_model.specs.declared.events.Answer.TheVariants.{Count, Held}
 use Rattle.salt_model.specs.declared.events.Cause.TheVariants as cause
@@ -32,6 +32,7 @@ use Rattle.std.proofs.Common.{ap, sym, ◌∙◌}
 use Rattle.std.specs.FinMap.Entries.{is_sorted}
 use Rattle.std.specs.List.{list_all}
 use Rattle.std.specs.Prelude.{Bool, Err, List, None, Ok, Option, Result, Some, [], cond, false, if◌then◌else◌, not, refl, true, ℕ, ◌+◌, ◌∷◌, ◌≡◌}
+use Rattle.salt_values.specs.Value.{key_of}
 use lib.Dec.{T}
 
 -- an entry stands at the place of its key

@@ -3,7 +3,7 @@ use Rattle.salt_eval.specs.Scans.{IsKeyed}
 use Rattle.law_states.proofs.Overlays.{edited-row}
 use Rattle.law_states.specs.Overlays.{AreInOrder, Edit, over, put_all, with_edits}
 use Rattle.law_story.proofs.Places.{equal-is, place_same}
-use Rattle.salt_model.specs.Tables.{Tables, changed_at, key_of, place_cmp, place_total, row_at}
+use Rattle.salt_model.specs.Tables.{Tables, changed_at, place_cmp, place_total, row_at}
 use Rattle.salt_model.specs.Words.{Every}
 use Rattle.salt_model.specs.declared.places.Place.{Place}
 use Rattle.salt_units.specs.Acting.{HaveTheirKeys}
@@ -17,6 +17,7 @@ use Rattle.std.specs.Ordering.{is_eq}
 use Rattle.std.specs.Prelude.{Bool, IfSome, List, None, Option, Some, [], cond, false, refl, suc, true, zero, ◌∷◌, ◌≡◌}
 use Rattle.std.specs.declared.cmp.Ordering.TheVariants.{Equal, Greater, Less}
 use Rattle.std.specs.declared.cmp.Ordering.{Ordering}
+use Rattle.salt_values.specs.Value.{key_of}
 
 abbrev IsAt : Place → Option (List Value) → Type 0
 IsAt p row = IfSome row (λ r. key_of r ≡ p.key)

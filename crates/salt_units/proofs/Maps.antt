@@ -3,7 +3,7 @@ use Rattle.salt_eval.proofs.InOrder.{row_at-tables_of}
 use Rattle.salt_eval.specs.Scans.{IsKeyed}
 use Rattle.salt_eval.specs.Views.{tables_of}
 use Rattle.law_story.proofs.Places.{equal-is, place_same}
-use Rattle.salt_model.specs.Tables.{Entry, key_of, place_cmp}
+use Rattle.salt_model.specs.Tables.{Entry, place_cmp}
 use Rattle.salt_model.specs.declared.places.Place.{Place}
 use Rattle.salt_values.specs.declared.value.Value.{Value}
 use Rattle.std.proofs.Common.{subst, sym, ◌∙◌}
@@ -11,6 +11,7 @@ use Rattle.std.specs.BTreeMap.{is_at}
 use Rattle.std.specs.Map.{lookup}
 use Rattle.std.specs.Ordering.{is_eq}
 use Rattle.std.specs.Prelude.{Bool, IfSome, List, Option, cond, false, refl, true, ◌≡◌}
+use Rattle.salt_values.specs.Value.{key_of}
 
 abbrev pub HasKeyOf : Place → Option (List Value) → Type 0
 HasKeyOf p row = IfSome row (λ r. key_of r ≡ p.key)

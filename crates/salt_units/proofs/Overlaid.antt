@@ -6,7 +6,7 @@ use Rattle.salt_eval.specs.Views.{is_behind, is_next, next_row, rows_after}
 use Rattle.law_states.proofs.Overlays.{edited-row}
 use Rattle.law_states.specs.Overlays.{AreInOrder, edits_of, over, with_edits}
 use Rattle.law_story.proofs.Places.{place_same}
-use Rattle.salt_model.specs.Tables.{Entry, Tables, changed_at, key_of, place, place_cmp, place_total, row_at}
+use Rattle.salt_model.specs.Tables.{Entry, Tables, changed_at, place, place_cmp, place_total, row_at}
 use Rattle.salt_model.specs.Words.{first_of_list}
 use Rattle.salt_model.specs.declared.places.Place.{Place}
 use Rattle.salt_ranges.specs.Ranges.{has_key}
@@ -14,7 +14,7 @@ use Rattle.salt_ranges.specs.declared.range.KeyRange.{KeyRange}
 use Rattle.salt_units.proofs.Changed.{edit-found, first-passes, first-there, none-before, none-changed}
 use Rattle.salt_units.proofs.Firsts.{IsFirst, IsNone, first-listed, listed-first, listed-none, none-listed}
 use Rattle.salt_units.specs.Edited.{is_change_at, is_next_change, is_sooner}
-use Rattle.salt_values.specs.Value.{value_cmp}
+use Rattle.salt_values.specs.Value.{value_cmp, key_of}
 use Rattle.salt_values.specs.declared.change.Change.{Change}
 use Rattle.salt_values.specs.declared.value.Value.{Value}
 use Rattle.std.proofs.Common.{ap, subst, sym, ◌∙◌}

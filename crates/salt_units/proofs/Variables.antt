@@ -8,7 +8,7 @@ use Rattle.law_story.proofs.Every.{IfOk, ok-all, ok-bind}
 use Rattle.salt_model.specs.Eval.{holds, value_of, values_of}
 use Rattle.salt_model.specs.Reaches.{in_row, no_row, range_of, reach, table_for}
 use Rattle.salt_model.specs.Statements.{Done, answering, change_to, changing, checked, collect, do_at, do_in, done, inserted, on_match, outcome_of, removed, seen, set_var, shown, stored, updated}
-use Rattle.salt_model.specs.Tables.{Entry, Tables, key_of, place, rows_in}
+use Rattle.salt_model.specs.Tables.{Entry, Tables, place, rows_in}
 use Rattle.salt_model.specs.Words.{and_then}
 use Rattle.salt_model.specs.declared.events.Answer.TheVariants.{Count, Failed, Held}
 use Rattle.salt_model.specs.declared.events.Cause.TheVariants as cause
@@ -20,6 +20,7 @@ use Rattle.salt_values.specs.declared.value.Value.{Value}
 use Rattle.std.proofs.Common.{ap, arith, ◌<◌}
 use Rattle.std.specs.List.{position_from}
 use Rattle.std.specs.Prelude.{Bool, Err, List, None, Ok, Option, Result, Some, [], cond, false, if◌then◌else◌, length, refl, slice_set, suc, true, ℕ, ◌+◌, ◌∷◌, ◌≡◌}
+use Rattle.salt_values.specs.Value.{key_of}
 
 module _ (vars : List Binding) where
   abbrev Stores : Statement → Done → Type 0

@@ -6,13 +6,13 @@ use Rattle.salt_ast.specs.declared.trees.Statement.{Statement}
 use Rattle.salt_ast.specs.declared.trees.TableDef.{TableDef}
 use Rattle.law_states.specs.Overlays.{Edit, put_all}
 use Rattle.salt_model.specs.Statements.{Done, set_var}
-use Rattle.salt_model.specs.Tables.{key_of}
 use Rattle.salt_model.specs.declared.events.Answer.TheVariants.{Stored}
 use Rattle.salt_model.specs.declared.events.Answer.{Answer}
 use Rattle.salt_model.specs.declared.vars.Binding.{Binding}
 use Rattle.std.specs.List.{list_all}
 use Rattle.std.specs.Option.{ForSome}
 use Rattle.std.specs.Prelude.{Bool, List, None, Option, Some, not, slice_get, true, ℕ, ◌≡◌}
+use Rattle.salt_values.specs.Value.{key_of}
 
 -- each row that is put has the key of its place
 abbrev pub HaveTheirKeys : List Edit → Type 0

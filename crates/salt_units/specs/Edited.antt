@@ -1,10 +1,10 @@
 -- A unit's changes as edits of tables, and the next of them in a range.
 use Rattle.salt_eval.specs.Views.{is_behind, is_next}
-use Rattle.salt_model.specs.Tables.{changed_at, key_of}
+use Rattle.salt_model.specs.Tables.{changed_at}
 use Rattle.salt_model.specs.declared.places.Place.{Place}
 use Rattle.salt_ranges.specs.Ranges.{is_above_low}
 use Rattle.salt_ranges.specs.declared.range.KeyRange.{KeyRange}
-use Rattle.salt_values.specs.Value.{is_same_value, is_value_below}
+use Rattle.salt_values.specs.Value.{is_same_value, is_value_below, key_of}
 use Rattle.salt_values.specs.declared.change.Change.{Change}
 use Rattle.salt_values.specs.declared.value.Value.{Value}
 use Rattle.std.specs.Prelude.{Bool, IfSome, List, None, Option, Some, false, if◌then◌else◌, nat_lt, not, ℕ, ◌&&◌, ◌==◌, ◌≡◌}

@@ -4,8 +4,9 @@ ghost use Rattle.std.specs.Borrow.{GName};
 ghost use Rattle.std.specs.Option.{ForSome};
 ghost use Rattle.std.specs.Prelude.{◌≡◌};
 ghost use Rattle.law_states.specs.Overlays.{AreInOrder, edits_of, with_edits};
-ghost use Rattle.salt_model.specs.Tables.{Tables, key_of, row_at};
+ghost use Rattle.salt_model.specs.Tables.{Tables, row_at};
 ghost use Rattle.salt_model.specs.declared.places.Place.{Place};
+ghost use Rattle.salt_values.specs.Value.{key_of};
 
 use crate::edits::{change_at, row_put};
 use crate::merging::next_under;

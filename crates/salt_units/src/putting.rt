@@ -1,6 +1,6 @@
 //! Changes put into changes that are in order of their places.
 
-ghost use Rattle.std.specs.Prelude.{◌≡◌, ◌<◌, ◌≤◌, ◌+◌, IfOk, IsOk, OnErr, OnOk, reverse, vec_capacity, vec_len};
+ghost use Rattle.std.specs.Prelude.{◌≡◌, ◌<◌, ◌≤◌, ◌+◌, IfOk, IsOk, OnErr, OnOk, length, reverse, vec_capacity, vec_len};
 ghost use Rattle.law_states.specs.Overlays.{AreInOrder, edits_of, put_all};
 ghost use Rattle.salt_units.specs.Putting.{put_change, put_each};
 
@@ -51,6 +51,19 @@ fn put_waiting(changes: &mut Vec<Change>, mut waiting: Vec<Change>)
     }
 }
 
+/// Puts one change, or none. An error leaves those that there are.
+fn put_one(changes: &mut Vec<Change>, mut new: Changes) -> Result<(), AllocError>
+    requires in_order { AreInOrder (edits_of changes.old.items) }
+    requires few { length new < 2 }
+    ensures put { OnOk result (edits_of changes.new.items ≡ put_all new (edits_of changes.old.items)) }
+    ensures err { OnErr result (changes.new.items ≡ changes.old.items) }
+{
+    match new.pop() {
+        Some(change) => put_change(changes, change),
+        None => Ok(()),
+    }
+}
+
 /// Puts changes into changes in order, one after another; those put may be in any order, and repeat places. An error leaves
 /// those that there are.
 pub fn put_changes(alloc: Global, changes: &mut Vec<Change>, new: Changes) -> Result<(), AllocError>
@@ -58,6 +71,9 @@ pub fn put_changes(alloc: Global, changes: &mut Vec<Change>, new: Changes) -> Re
     ensures put { OnOk result (edits_of changes.new.items ≡ put_all new (edits_of changes.old.items)) }
     ensures err { OnErr result (changes.new.items ≡ changes.old.items) }
 {
+    if new.len() < 2 {
+        return put_one(changes, new);
+    }
     let waiting = reversed(alloc, new)?;
     changes.reserve(waiting.len())?;
     put_waiting(changes, waiting);

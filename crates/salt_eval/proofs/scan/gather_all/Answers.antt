@@ -3,8 +3,8 @@ use Rattle.salt_eval.proofs.scan.gather_all.Goals as goal
 use Rattle.salt_eval.specs.Filtered.{filtered, kept_by}
 use Rattle.salt_eval.specs.Scans.{IsKeyed}
 use Rattle.salt_eval.specs.Views.{next_row}
-use Rattle.salt_model.specs.Tables.{key_of}
 use Rattle.std.proofs.Common.{Some, ap, subst, sym, ◌∙◌, ◌≡◌}
+use Rattle.salt_values.specs.Value.{key_of}
 
 pub loop-after-smaller : goal.loop-after-smaller
 loop-after-smaller g c =

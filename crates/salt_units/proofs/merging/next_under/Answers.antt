@@ -5,6 +5,8 @@ use Rattle.salt_units.proofs.Overlaid.{next-below, next-put, next-skipped, soone
 use Rattle.salt_units.proofs.merging.next_under.Goals as goal
 use Rattle.salt_units.specs.Edited.{is_next_change, is_sooner}
 use Rattle.std.proofs.Common.{IfOk, None, Some, ap, false, find, length, subst, sym, true, ◌<◌, ◌∙◌, ◌≡◌}
+use Rattle.std.proofs.Common.{refl}
+use Rattle.std.proofs.lemmas.Result.{err_from_is_err_and}
 use Rattle.std.specs.List.{filter}
 use Rattle.std.specs.Option.{option_copied}
 
@@ -122,3 +124,83 @@ returns-clause-row g c =
     ∙ c.loop-change.invariant.rest
     ∙ ap (λ o. next_row t range o (with_edits (edits_of cs) es)) c.in_ok-from.ensures in
     subst (λ x. IfOk c.next_in-2.result (λ row. row ≡ x)) next c.next_in-2.ensures.row
+
+pub next_change-requires : goal.next_change-requires
+next_change-requires g c = c.requires.in_order
+
+pub returns-in_err-below-clause-row : goal.returns-in_err-below-clause-row
+returns-in_err-below-clause-row g c =
+    rw (err_from_is_err_and c.from_residual-in_err-below.result c.from_residual-in_err-below.ensures.1).1 tt
+
+pub returns-in_err-copy-2-clause-row : goal.returns-in_err-copy-2-clause-row
+returns-in_err-copy-2-clause-row g c =
+    rw (err_from_is_err_and c.from_residual-in_err-copy-2.result c.from_residual-in_err-copy-2.ensures.1).1 tt
+
+pub returns-in_err-copy-clause-row : goal.returns-in_err-copy-clause-row
+returns-in_err-copy-clause-row g c =
+    rw (err_from_is_err_and c.from_residual-in_err-copy.result c.from_residual-in_err-copy.ensures.1).1 tt
+
+pub returns-in_err-from-clause-kept : goal.returns-in_err-from-clause-kept
+returns-in_err-from-clause-kept g c = refl
+
+pub returns-in_err-from-clause-row : goal.returns-in_err-from-clause-row
+returns-in_err-from-clause-row g c =
+    rw (err_from_is_err_and c.from_residual.result c.from_residual.ensures.1).1 tt
+
+pub returns-in_err-from-clause-source : goal.returns-in_err-from-clause-source
+returns-in_err-from-clause-source g c = refl
+
+pub returns-clause-kept : goal.returns-clause-kept
+returns-clause-kept g c = c.next_in-2.ensures.kept ∙ c.loop-change.invariant.kept
+
+pub returns-clause-source : goal.returns-clause-source
+returns-clause-source g c = c.next_in-2.ensures.source ∙ c.loop-change.invariant.source
+
+pub returns-clause-faults : goal.returns-clause-faults
+returns-clause-faults g c = rw (← c.loop-change.invariant.faults) c.next_in-2.ensures.faults
+
+pub returns-then-is_sooner-clause-kept : goal.returns-then-is_sooner-clause-kept
+returns-then-is_sooner-clause-kept g c = c.in_ok-below.ensures.kept ∙ c.loop-change.invariant.kept
+
+pub returns-then-is_sooner-clause-source : goal.returns-then-is_sooner-clause-source
+returns-then-is_sooner-clause-source g c = c.in_ok-below.ensures.source ∙ c.loop-change.invariant.source
+
+pub returns-then-is_sooner-clause-faults : goal.returns-then-is_sooner-clause-faults
+returns-then-is_sooner-clause-faults g c = c.in_ok-below.ensures.faults ∙ c.loop-change.invariant.faults
+
+pub returns-in-Some-row-clause-kept : goal.returns-in-Some-row-clause-kept
+returns-in-Some-row-clause-kept g c = c.in_ok-below.ensures.kept ∙ c.loop-change.invariant.kept
+
+pub returns-in-Some-row-clause-source : goal.returns-in-Some-row-clause-source
+returns-in-Some-row-clause-source g c = c.in_ok-below.ensures.source ∙ c.loop-change.invariant.source
+
+pub returns-in-Some-row-clause-faults : goal.returns-in-Some-row-clause-faults
+returns-in-Some-row-clause-faults g c = c.in_ok-below.ensures.faults ∙ c.loop-change.invariant.faults
+
+pub returns-in_err-below-clause-kept : goal.returns-in_err-below-clause-kept
+returns-in_err-below-clause-kept g c = c.in_err-below.ensures.kept ∙ c.loop-change.invariant.kept
+
+pub returns-in_err-below-clause-source : goal.returns-in_err-below-clause-source
+returns-in_err-below-clause-source g c = c.in_err-below.ensures.source ∙ c.loop-change.invariant.source
+
+pub returns-in_err-copy-clause-kept : goal.returns-in_err-copy-clause-kept
+returns-in_err-copy-clause-kept g c = c.in_ok-below.ensures.kept ∙ c.loop-change.invariant.kept
+
+pub returns-in_err-copy-clause-source : goal.returns-in_err-copy-clause-source
+returns-in_err-copy-clause-source g c = c.in_ok-below.ensures.source ∙ c.loop-change.invariant.source
+
+pub returns-in_err-copy-clause-faults : goal.returns-in_err-copy-clause-faults
+returns-in_err-copy-clause-faults g c =
+    let err = err_from_is_err_and c.from_residual-in_err-copy.result c.from_residual-in_err-copy.ensures.1 in
+    rw (err.1, err.2) (c.in_ok-below.ensures.faults ∙ c.loop-change.invariant.faults)
+
+pub returns-in_err-copy-2-clause-kept : goal.returns-in_err-copy-2-clause-kept
+returns-in_err-copy-2-clause-kept g c = c.in_ok-below.ensures.kept ∙ c.loop-change.invariant.kept
+
+pub returns-in_err-copy-2-clause-source : goal.returns-in_err-copy-2-clause-source
+returns-in_err-copy-2-clause-source g c = c.in_ok-below.ensures.source ∙ c.loop-change.invariant.source
+
+pub returns-in_err-copy-2-clause-faults : goal.returns-in_err-copy-2-clause-faults
+returns-in_err-copy-2-clause-faults g c =
+    let err = err_from_is_err_and c.from_residual-in_err-copy-2.result c.from_residual-in_err-copy-2.ensures.1 in
+    rw (err.1, err.2) (c.in_ok-below.ensures.faults ∙ c.loop-change.invariant.faults)
