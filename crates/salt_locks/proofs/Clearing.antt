@@ -154,7 +154,7 @@ before_other ls t low n m o some h is other k d g =
 pub before_place : (l : Lock) (ls : List Lock) (k : ℕ) (d : Lock) → k < prefix_len (up_to_low l.table l.range.lo) ls → NoLater (get_or ls k d) l
 before_place l ls k d h = prefix_len_passes (up_to_low l.table l.range.lo) ls k d h
 
-low_back : (t : ℕ) (low : Option Value) → IsClosedBack (up_to_low t low)
+pub low_back : (t : ℕ) (low : Option Value) → IsClosedBack (up_to_low t low)
 low_back t low = up_to_earlier t (λ lo. is_low_at_most lo low) (low_closed low)
 
 pub behind_place : (l : Lock) (ls : List Lock) (k : ℕ) (d : Lock) → AreInOrder ls → prefix_len (up_to_low l.table l.range.lo) ls ≤ k → k < length ls → NoLater l (get_or ls k d)

@@ -124,6 +124,19 @@ own_gone o ns new_ns ls new_ls left l same some under n_is l_is is own others =
       subst (λ xs. filter (is_of_another o) (drop k xs) ≡ drop k xs) (sym new) (subst (λ xs. filter (is_of_another o) xs ≡ xs) (sym rest) others),
     )
 
+-- one of the owner's locks goes
+pub own_out : (o : Owner) (ns new_ns : List ℕ) (ls new_ls : List Lock) (left : ℕ) (l : Lock) → length ns ≡ length ls → 0 < left → left ≤ length ls →
+    new_ns ≡ remove ns (left - 1) → new_ls ≡ remove ls (left - 1) → l ≡ get_or ls (left - 1) l → is_owned_by o l ≡ true →
+    filter (is_of_another o) (numbered new_ns new_ls) ≡ filter (is_of_another o) (numbered ns ls)
+own_out o ns new_ns ls new_ls left l same some under n_is l_is is own =
+    let k = left - 1 in
+    let table = numbered ns ls in
+    let len = numbered_length ns ls same in
+    let new : numbered new_ns new_ls ≡ remove table k = ap (λ xs. numbered xs new_ls) n_is ∙ (ap (numbered (remove ns k)) l_is ∙ numbered_removed ns ls k same) in
+    let m : Numbered = record { number = 0; lock = l } in
+    let mine : is_of_another o (get_or table k m) ≡ false = ap (is_left o) (lock_at ns ls k m same (omega (arith, some, under)) ∙ sym is) ∙ ap not own in
+    ap (filter (is_of_another o)) new ∙ filter_removed (is_of_another o) table k m (omega (arith, some, under, len)) mine
+
 filter_one : {X : Type 0} (p : X → Bool) (x : X) (xs : List X) → p x ≡ true → filter p xs ≡ xs → filter p (x ∷ xs) ≡ x ∷ xs
 filter_one p x xs e h = rw e (ap (λ l. x ∷ l) h)
 

@@ -6,5 +6,8 @@ pub mod Meeting
 pub mod Moved
 pub mod Near
 pub mod OneByOne
+pub mod OneLock
 pub mod Orders
 pub mod Puts
+pub mod Runs
+pub mod Spotting

@@ -10,12 +10,12 @@ use Rattle.salt_model.specs.declared.locks.Lock.{Lock}
 use Rattle.salt_model.specs.declared.locks.Reach.{Reach}
 use Rattle.salt_ranges.specs.Ranges.{ends_meet, meets}
 use Rattle.salt_ranges.specs.declared.range.KeyRange.{KeyRange}
-use Rattle.std.proofs.Common.{ap, arith, refl, ◌∙◌}
+use Rattle.std.proofs.Common.{ap, arith, refl, sym, ◌∙◌}
 use Rattle.std.proofs.lemmas.Bool.{and_from, and_parts, both_ways}
 use Rattle.std.proofs.lemmas.List.{get_or-drop, length-drop}
 use Rattle.std.proofs.lemmas.List.Sums.{prefix_len_stops}
-use Rattle.std.specs.List.{filter, prefix_len}
-use Rattle.std.specs.Prelude.{Bool, List, [], drop, false, get_or, length, nat_lt, not, suc, take, true, zero, ℕ, ◌&&◌, ◌+◌, ◌-◌, ◌<◌, ◌==◌, ◌∷◌, ◌≡◌, ◌≤◌}
+use Rattle.std.specs.List.{filter, find, prefix_len}
+use Rattle.std.specs.Prelude.{Bool, List, None, Option, Some, [], drop, false, get_or, length, nat_lt, not, suc, take, true, zero, ℕ, ◌&&◌, ◌+◌, ◌-◌, ◌<◌, ◌==◌, ◌∷◌, ◌≡◌, ◌≤◌}
 
 from_place : {X : Type 0} (p : X → Bool) (xs : List X) (n : ℕ) → ((k : ℕ) (d : X) → k < n → k < length xs → p (get_or xs k d) ≡ false) → filter p (drop n xs) ≡ filter p xs
 from_place p xs zero f = refl
@@ -83,3 +83,23 @@ clash_is_met o f r l h =
 -- what clashes is met
 pub clash_met : (o : Owner) (f : Family) (r : Reach) (ls : List Lock) → filter (clashes o f r) (filter (is_met r.table r.range) ls) ≡ filter (clashes o f r) ls
 clash_met o f r ls = filter_twice (clashes o f r) (is_met r.table r.range) (clash_is_met o f r) ls
+
+abbrev first_of : {X : Type 0} → List X → Option X
+first_of [] = None
+first_of (x ∷ xs) = Some x
+
+-- the first that passes a test is the first of those that are left by it
+find_left : {X : Type 0} (p : X → Bool) (xs : List X) → find p xs ≡ first_of (filter p xs)
+find_left p [] = refl
+find_left {X} p (x ∷ xs) = by (find_left p xs) (p x) refl
+  where
+    by : find p xs ≡ first_of (filter p xs) → (b : Bool) → p x ≡ b → find p (x ∷ xs) ≡ first_of (filter p (x ∷ xs))
+    by ih true e = rw e refl
+    by ih false e = rw e ih
+
+-- so the first that clashes is the first of the met that does
+pub find_met : (o : Owner) (f : Family) (r : Reach) (part ls : List Lock) → filter (is_met r.table r.range) part ≡ filter (is_met r.table r.range) ls →
+    find (clashes o f r) part ≡ find (clashes o f r) ls
+find_met o f r part ls same =
+    find_left (clashes o f r) part
+    ∙ (ap first_of (sym (clash_met o f r part) ∙ (ap (filter (clashes o f r)) same ∙ clash_met o f r ls)) ∙ sym (find_left (clashes o f r) ls))

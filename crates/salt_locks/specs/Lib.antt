@@ -1,4 +1,6 @@
+pub mod Alike
 pub mod Clear
 pub mod Places
+pub mod Spots
 pub mod Tables
 pub mod Turns

@@ -2,6 +2,8 @@
 
 ghost use Rattle.salt_locks.specs.Tables.{owners_against};
 ghost use Rattle.salt_model.specs.Locks.{clashes, is_clash, is_read};
+ghost use Rattle.std.specs.List.{find};
+ghost use Rattle.std.specs.Option.{option_copied};
 ghost use Rattle.std.specs.Prelude.{IfOk, ◌≡◌};
 
 use crate::owners::{is_same_owner, joined};
@@ -28,13 +30,27 @@ fn is_clash(held: Family, mode: Mode, asked: Family, other: Mode) -> bool
 }
 
 /// Whether a held lock clashes with what an owner asks.
-fn clashes(owner: Owner, family: Family, reach: &Reach, lock: &Lock) -> bool
+pub fn clashes(owner: Owner, family: Family, reach: &Reach, lock: &Lock) -> bool
     ensures { result ≡ clashes owner family reach.now lock.now }
 {
     !is_same_owner(owner, lock.owner)
         && lock.table == reach.table
         && lock.range.meets(&reach.range)
         && is_clash(lock.family, lock.mode, family, reach.mode)
+}
+
+/// The first of the locks that clashes with what an owner asks. None is looked at behind it.
+pub fn first_against<'a>(
+    locks: &'a [Lock],
+    owner: Owner,
+    family: Family,
+    reach: &Reach,
+) -> Option<&'a Lock>
+    ensures { option_copied result ≡ find (clashes owner family reach.now) locks.now }
+{
+    locks
+        .iter()
+        .find(|lock| clashes(owner, family, reach, lock))
 }
 
 /// The owners of those of the locks that clash with what an owner asks.

@@ -20,7 +20,8 @@ fn is_high_at_most(hi: &Option<Key>, lo: &Option<Key>) -> bool
     }
 }
 
-fn ends_no_later(hi: &Option<Key>, other: &Option<Key>) -> bool
+/// Whether an upper end is at most another. None at all is the greatest.
+pub fn ends_no_later(hi: &Option<Key>, other: &Option<Key>) -> bool
     ensures { result ≡ ends_no_later hi.now other.now }
 {
     match (hi, other) {

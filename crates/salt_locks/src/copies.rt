@@ -7,7 +7,8 @@ use salt_ranges::KeyRange;
 use salt_values::{Key, TryCopy};
 use std::alloc::{AllocError, Global};
 
-fn copy_end(alloc: Global, end: &Option<Key>) -> Result<Option<Key>, AllocError>
+/// The same end.
+pub fn copy_end(alloc: Global, end: &Option<Key>) -> Result<Option<Key>, AllocError>
     ensures { IfOk result (λ made. made ≡ end.now) }
 {
     match end {

@@ -2,16 +2,21 @@
 
 ghost use Rattle.salt_locks.specs.Clear.{IsMarked};
 ghost use Rattle.salt_locks.specs.Places.{AreInOrder};
+ghost use Rattle.salt_locks.specs.Spots.{AreAt, spot_of};
 ghost use Rattle.salt_locks.specs.Tables.{is_of_another, numbered};
+ghost use Rattle.salt_locks.specs.declared.spots.Spot.{Spot};
+ghost use Rattle.salt_model.specs.declared.locks.Lock.{Lock};
 ghost use Rattle.std.specs.List.{filter, remove};
-ghost use Rattle.std.specs.Prelude.{length, map, ◌<◌, ◌≡◌};
+ghost use Rattle.std.specs.Prelude.{List, get_or, length, map, ℕ, ◌<◌, ◌∷◌, ◌≡◌, ◌≤◌};
 
 use crate::clear::{ends_by, mark};
 use crate::owners::is_same_owner;
+use crate::places::{count_below, count_no_later};
+use crate::spots::Spot;
 use salt_model::{Lock, Owner};
 
 /// So many locks go one after another; where there are more, all are moved at once.
-const FEW: usize = 8;
+pub const FEW: usize = 8;
 
 /// The lock at a place goes. Whether it was on more than one key.
 fn remove_at(
@@ -31,6 +36,87 @@ fn remove_at(
     clear.remove(at);
     let lock = locks.remove(at);
     !ends_by(&lock, &lock)
+}
+
+/// An owner's locks of one spot go, which stand between these places. Whether one of them was on more than one key.
+fn drop_between(
+    owner: Owner,
+    spot: &Spot,
+    from: usize,
+    to: usize,
+    numbers: &mut Vec<u64>,
+    clear: &mut Vec<bool>,
+    locks: &mut Vec<Lock>,
+) -> bool
+    requires numbers { length numbers.old.items ≡ length locks.old.items }
+    requires order { AreInOrder locks.old.items }
+    requires marked { IsMarked clear.old.items locks.old.items }
+    requires within { to ≤ length locks.old.items }
+    requires before { (k : ℕ) (d : Lock) → k < from → spot_of (get_or locks.old.items k d) ≡ spot.now → ⊥ }
+    requires behind { (k : ℕ) (d : Lock) → to ≤ k → k < length locks.old.items → spot_of (get_or locks.old.items k d) ≡ spot.now → ⊥ }
+    ensures numbers { length numbers.new.items ≡ length locks.new.items }
+    ensures order { AreInOrder locks.new.items }
+    ensures marked { IsMarked clear.new.items locks.new.items }
+    ensures others { filter (is_of_another owner) (numbered numbers.new.items locks.new.items) ≡ filter (is_of_another owner) (numbered numbers.old.items locks.old.items) }
+    ensures gone { (rest : List Spot) → AreAt owner (spot.now ∷ rest) locks.old.items → AreAt owner rest locks.new.items }
+{
+    let mut is_long = false;
+    let mut left = to;
+    while left > from {
+        left -= 1;
+        if is_same_owner(owner, locks[left].owner) {
+            is_long = remove_at(left, numbers, clear, locks) || is_long;
+        }
+    }
+    is_long
+}
+
+/// An owner's locks of one spot go. Whether one of them was on more than one key.
+fn drop_spot(
+    owner: Owner,
+    spot: &Spot,
+    numbers: &mut Vec<u64>,
+    clear: &mut Vec<bool>,
+    locks: &mut Vec<Lock>,
+) -> bool
+    requires numbers { length numbers.old.items ≡ length locks.old.items }
+    requires order { AreInOrder locks.old.items }
+    requires marked { IsMarked clear.old.items locks.old.items }
+    ensures numbers { length numbers.new.items ≡ length locks.new.items }
+    ensures order { AreInOrder locks.new.items }
+    ensures marked { IsMarked clear.new.items locks.new.items }
+    ensures others { filter (is_of_another owner) (numbered numbers.new.items locks.new.items) ≡ filter (is_of_another owner) (numbered numbers.old.items locks.old.items) }
+    ensures gone { (rest : List Spot) → AreAt owner (spot.now ∷ rest) locks.old.items → AreAt owner rest locks.new.items }
+{
+    let from = count_below(locks, spot.table, &spot.low);
+    let to = count_no_later(locks, spot.table, &spot.low);
+    drop_between(owner, spot, from, to, numbers, clear, locks)
+}
+
+/// An owner's locks go, which all begin at these spots. No others are looked at.
+pub fn drop_at(
+    owner: Owner,
+    spots: &[Spot],
+    numbers: &mut Vec<u64>,
+    clear: &mut Vec<bool>,
+    locks: &mut Vec<Lock>,
+)
+    requires numbers { length numbers.old.items ≡ length locks.old.items }
+    requires order { AreInOrder locks.old.items }
+    requires marked { IsMarked clear.old.items locks.old.items }
+    requires all { AreAt owner spots.now locks.old.items }
+    ensures numbers { length numbers.new.items ≡ length locks.new.items }
+    ensures order { AreInOrder locks.new.items }
+    ensures marked { IsMarked clear.new.items locks.new.items }
+    ensures all { numbered numbers.new.items locks.new.items ≡ filter (is_of_another owner) (numbered numbers.old.items locks.old.items) }
+{
+    let mut is_long = false;
+    for spot in spots {
+        is_long = drop_spot(owner, spot, numbers, clear, locks) || is_long;
+    }
+    if is_long {
+        mark(clear, locks);
+    }
 }
 
 /// An owner's locks go, from the last one on, until a few have. How many locks it has not looked at.

@@ -10,7 +10,8 @@ use salt_model::Lock;
 use salt_ranges::{KeyRange, ends_meet};
 use salt_values::Key;
 
-fn is_low_at_most(lo: &Option<Key>, other: &Option<Key>) -> bool
+/// Whether a lower end is at most another. None at all is the least.
+pub fn is_low_at_most(lo: &Option<Key>, other: &Option<Key>) -> bool
     ensures { result ≡ is_low_at_most lo.now other.now }
 {
     match (lo, other) {

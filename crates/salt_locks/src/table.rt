@@ -1,20 +1,24 @@
 //! The lock table.
 
 ghost use Rattle.law_states.specs.KeptLocks.{Numbered};
+ghost use Rattle.law_states.specs.Members.{In};
 ghost use Rattle.salt_locks.specs.Places.{AreInOrder, is_near};
-ghost use Rattle.salt_locks.specs.Tables.{Answers, is_of_another, locks_in, numbered, numbers_in, owners_against, put, salted, salted_lock};
+ghost use Rattle.salt_locks.specs.Tables.{Answers, is_of_another, locks_in, numbered, numbers_in, owners_against, put, salted};
 ghost use Rattle.salt_locks.specs.Turns.{locks_in_turn, numbered_of};
 ghost use Rattle.salt_locks.specs.declared.table.TakeErr.TheVariants.{Memory};
-ghost use Rattle.salt_model.specs.Locks.{lock_of};
-ghost use Rattle.std.specs.List.{filter};
-ghost use Rattle.std.specs.Prelude.{IfOk, OnErr, OnOk, [], length, map, ◌≡◌};
+ghost use Rattle.salt_model.specs.Locks.{clashes, lock_of};
+ghost use Rattle.std.specs.List.{filter, find};
+ghost use Rattle.std.specs.Option.{option_copied};
+ghost use Rattle.std.specs.Prelude.{IfOk, OnErr, OnOk, [], length, map, true, ◌≡◌};
 
-use crate::clash::owners_against;
+use crate::alike::is_lock_of;
+use crate::clash::{first_against, owners_against};
 use crate::clear::{cover, is_clear, met};
 use crate::copies::copy_range;
-use crate::drops::{drop_all, drop_few};
-use crate::owners::is_same_owner;
+use crate::drops::{FEW, drop_all, drop_at, drop_few};
 use crate::places::{count_no_later, near};
+use crate::salts::salt;
+use crate::spots::Spots;
 use crate::turns::{TakenLock, locks_in_turn};
 use salt_model::{Family, Lock, Owner, Owners, Reach};
 use salt_ranges::KeyRange;
@@ -40,18 +44,20 @@ impl From<AllocError> for TakeErr {
 }
 
 /// The held locks, by table and then by lower end, those without one first, of each the number of its statement, and whether it
-/// is clear, so that a search need not look before it. Contracts see a list of locks with their numbers.
+/// is clear, so that a search need not look before it; and where each owner has locks. Contracts see a list of locks with their numbers.
 #[derive(Drop)]
 pub struct LockTable {
     numbers: Vec<u64>,
     clear: Vec<bool>,
     locks: Vec<Lock>,
+    spots: Spots,
 }
 
 impl Model for LockTable {
     ghost use Rattle.law_states.specs.KeptLocks.{Numbered};
     ghost use Rattle.salt_locks.specs.Clear.{IsMarked};
     ghost use Rattle.salt_locks.specs.Places.{AreInOrder};
+    ghost use Rattle.salt_locks.specs.Spots.{AreSpotted};
     ghost use Rattle.salt_locks.specs.Tables.{numbered};
     ghost use Rattle.std.specs.Prelude.{List, length, ◌≡◌};
 
@@ -59,7 +65,7 @@ impl Model for LockTable {
 
     ghost view = { λ t. numbered t.numbers.items t.locks.items };
 
-    ghost invariant = { λ t. (length t.numbers.items ≡ length t.locks.items) × AreInOrder t.locks.items × IsMarked t.clear.items t.locks.items };
+    ghost invariant = { λ t. (length t.numbers.items ≡ length t.locks.items) × AreInOrder t.locks.items × IsMarked t.clear.items t.locks.items × AreSpotted t.spots t.locks.items };
 }
 
 fn lock_of(alloc: Global, owner: Owner, family: Family, reach: &Reach) -> Result<Lock, AllocError>
@@ -74,25 +80,6 @@ fn lock_of(alloc: Global, owner: Owner, family: Family, reach: &Reach) -> Result
     })
 }
 
-fn salt_lock(unit: Id, base: Id, lock: &mut Lock)
-    ensures { lock.new ≡ salted_lock unit base lock.old }
-{
-    if is_same_owner(Owner::Unit(unit), lock.owner) {
-        lock.owner = Owner::Base(base);
-        lock.family = Family::Saline;
-    }
-}
-
-fn salt_all(unit: Id, base: Id, locks: &mut Vec<Lock>)
-    ensures { locks.new.items ≡ map (salted_lock unit base) locks.old.items }
-{
-    let mut at = 0;
-    while at < locks.len() {
-        salt_lock(unit, base, &mut locks[at]);
-        at += 1;
-    }
-}
-
 impl LockTable {
     /// No lock is held.
     pub fn new(alloc: Global) -> LockTable
@@ -102,6 +89,7 @@ impl LockTable {
             numbers: Vec::new(alloc),
             clear: Vec::new(alloc),
             locks: Vec::new(alloc),
+            spots: Spots::new(alloc),
         }
     }
 
@@ -149,6 +137,26 @@ impl LockTable {
         owners_against(alloc, locks, owner, family, reach)
     }
 
+    /// The first of the held locks that clashes with what is asked, if one does.
+    pub fn first_clash(&self, owner: Owner, family: Family, reach: &Reach) -> Option<&Lock>
+        ensures { option_copied result ≡ find (clashes owner family reach.now) (locks_in self.now) }
+    {
+        let locks = met(&self.locks, &self.clear, reach.table, &reach.range);
+        first_against(locks, owner, family, reach)
+    }
+
+    /// Whether the last of the held locks that begin where this reach does is just the one that is asked for. It may be held where this
+    /// gives false.
+    pub fn holds(&self, owner: Owner, family: Family, reach: &Reach) -> bool
+        ensures { result ≡ true → In (lock_of owner family reach.now) (locks_in self.now) }
+    {
+        let behind = count_no_later(&self.locks, reach.table, &reach.range.lo);
+        if behind == 0 {
+            return false;
+        }
+        is_lock_of(owner, family, reach, &self.locks[behind - 1])
+    }
+
     /// Puts a lock in its place; without memory all stays.
     fn put(&mut self, number: u64, lock: Lock) -> Result<(), AllocError>
         ensures ok { OnOk result (self.new ≡ put (record { number = number; lock = lock }) self.old) }
@@ -162,6 +170,7 @@ impl LockTable {
         self.locks.insert(place, lock)?;
         self.clear.insert(place, is_clear)?;
         self.numbers.insert(place, number)?;
+        self.spots.list(&self.locks[place]);
         Ok(())
     }
 
@@ -205,13 +214,28 @@ impl LockTable {
     pub fn to_saline(&mut self, unit: Id, base: Id)
         ensures { self.new ≡ map (salted unit base) self.old }
     {
-        salt_all(unit, base, &mut self.locks);
+        let owner = Owner::Unit(unit);
+        let few = self.spots.are_few(owner, FEW);
+        salt(unit, base, few, self.spots.of_owner(owner), &mut self.locks);
+        self.spots.hand_over(unit, base);
     }
 
     /// An owner's locks go.
     pub fn drop_owner(&mut self, owner: Owner)
         ensures { self.new ≡ filter (is_of_another owner) self.old }
     {
+        if self.spots.are_few(owner, FEW) {
+            drop_at(
+                owner,
+                self.spots.of_owner(owner),
+                &mut self.numbers,
+                &mut self.clear,
+                &mut self.locks,
+            );
+            self.spots.forget(owner);
+            return;
+        }
+        self.spots.forget(owner);
         if drop_few(owner, &mut self.numbers, &mut self.clear, &mut self.locks) == 0 {
             return;
         }

@@ -40,6 +40,7 @@ fn listed(alloc: Global, taken: BTreeMap<u64, Lock>) -> Result<Vec<TakenLock>, A
     ensures { IfOk result (λ list. map numbered_of list.items ≡ at_numbers taken.entries) }
 {
     let mut list = Vec::new(alloc);
+    list.reserve(taken.len())?;
     for (number, lock) in taken {
         list.push(TakenLock { number, lock })?;
     }

@@ -1,10 +1,13 @@
+use Rattle.law_states.specs.Members.{In}
 use Rattle.salt_locks.proofs.Clearing.{put_marked}
 use Rattle.salt_locks.proofs.Puts.{place_of, put_invariant, put_view}
+use Rattle.salt_locks.proofs.Spotting.{in-put, spotted-part}
 use Rattle.salt_locks.proofs.table.LockTable.put.Goals as goal
 use Rattle.salt_locks.specs.Clear.{IsMarked, ends_by}
 use Rattle.salt_locks.specs.Tables.{put}
 use Rattle.salt_model.specs.declared.locks.Lock.{Lock}
-use Rattle.std.proofs.Common.{ap, arith, length, subst, sym, true, ℕ, ◌<◌, ◌≡◌, ◌≤◌, ◌∙◌}
+use Rattle.std.proofs.Common.{ap, arith, length, subst, sym, true, ℕ, ◌<◌, ◌∷◌, ◌≡◌, ◌≤◌, ◌∙◌}
+use Rattle.std.proofs.lemmas.List.Edits.{get_or-insert_at}
 use Rattle.std.specs.List.{insert}
 use Rattle.std.specs.Prelude.{Bool, List, get_or}
 
@@ -28,6 +31,10 @@ invariant_of-self-2 c =
       both.1,
       subst (IsMarked c.insert-2.new.self.items) (sym c.in_ok-insert.ensures.items)
           (subst (λ xs. IsMarked xs (insert ls place l)) (sym (c.in_ok-insert-2.ensures.items ∙ ap (λ xs. insert xs place flag) c.reserve-2.ensures.items)) marked),
+      spotted-part c.list.new.self (c.index.result.now ∷ ls) c.insert.new.self.items
+          (λ x i. subst (λ (y : Lock). In x (y ∷ ls)) (sym (c.index.ensures ∙ (ap (λ (xs : List Lock). get_or xs place c.index.result.now) c.in_ok-insert.ensures.items ∙ get_or-insert_at ls place l c.index.result.now (omega (arith, bound, len)))))
+          (in-put ls place l x (subst (In x) c.in_ok-insert.ensures.items i)))
+          (c.list.ensures ls inv.3),
     )
 
 pub returns-clause-ok : goal.returns-clause-ok

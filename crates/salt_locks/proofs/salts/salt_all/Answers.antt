@@ -1,5 +1,5 @@
 use Rattle.salt_locks.proofs.OneByOne.{set-next}
-use Rattle.salt_locks.proofs.table.salt_all.Goals as goal
+use Rattle.salt_locks.proofs.salts.salt_all.Goals as goal
 use Rattle.salt_locks.specs.Tables.{salted_lock}
 use Rattle.std.proofs.Common.{arith, ◌∙◌}
 use Rattle.std.proofs.lemmas.List.{length-set}

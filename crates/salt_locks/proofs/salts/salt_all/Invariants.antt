@@ -1,4 +1,4 @@
-use Rattle.salt_locks.proofs.table.salt_all.Given as goal
+use Rattle.salt_locks.proofs.salts.salt_all.Given as goal
 use Rattle.salt_locks.specs.Tables.{salted_lock}
 use Rattle.std.proofs.Common.{length, map, ◌-◌, ◌++◌, ◌≡◌, ◌≤◌}
 use Rattle.std.specs.Prelude.{drop, take}
