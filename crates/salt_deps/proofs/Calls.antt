@@ -8,17 +8,16 @@ use Rattle.law_states.specs.DependencyCalls.{HasFinished}
 use Rattle.law_states.specs.KeptSources.{WritesIn, itself, unless_among}
 use Rattle.law_story.proofs.Ids.{and_left, and_right, is_same_id-refl, is_same_id-sym, is_same_id-true}
 use Rattle.law_story.proofs.Lists.{either, or_cases, or_left_true}
-use Rattle.salt_model.specs.Tables.{place, place_cmp, place_total}
+use Rattle.salt_model.specs.Tables.{place_cmp, place_total}
 use Rattle.salt_values.specs.Id.{has_id}
 use Rattle.salt_model.specs.declared.locks.Mode.{Mode}
 use Rattle.salt_model.specs.declared.places.Place.{Place}
 use Rattle.salt_ranges.specs.declared.range.KeyRange.{KeyRange}
 use Rattle.salt_values.specs.Id.{is_same_id}
 use Rattle.salt_values.specs.declared.id.Id.{Id}
-use Rattle.salt_values.specs.declared.value.Value.{Value}
 use Rattle.std.proofs.Common.{ap, inl, inr, subst, sym, ◌∙◌, ◌↔◌, ◌⊎◌}
 use Rattle.std.specs.BTreeSet.{BTreeSet}
-use Rattle.std.specs.BTreeMap.{BTreeMap, IsOrdered, Updates, get}
+use Rattle.std.specs.BTreeMap.{BTreeMap, IsOrdered, get}
 use Rattle.std.specs.List.{list_any}
 use Rattle.std.specs.Ordering.{is_eq, ordering_reverse}
 use Rattle.std.specs.Prelude.{Bool, IsTrue, List, Option, Some, cond, false, if◌then◌else◌, not, refl, true, ℕ, ◌&&◌, ◌||◌, ◌∷◌, ◌≡◌}
@@ -33,16 +32,11 @@ eq-reversed Greater = refl
 swapped : (p q : Place) → is_eq (place_cmp p q) ≡ is_eq (place_cmp q p)
 swapped p q = ap is_eq (place_total.antisymm p q) ∙ eq-reversed (place_cmp q p)
 
-written : (base : Option Id) (p : Place) (old new : BTreeMap Place Id) → Updates place_cmp old new p base → (q : Place) →
-    get place_cmp new q ≡ (if is_eq (place_cmp q p) then base else get place_cmp old q)
-written base p old new u q = u.0 q ∙ ap (λ t. cond t base (get place_cmp old q)) (swapped p q)
-
 -- the last writers, where one is written or taken out
-pub wrote : (base made : Option Id) (t : ℕ) (key copied : Value) (old new : BTreeMap Place Id) → base ≡ made → copied ≡ key →
-    Updates place_cmp old new (place t copied) made → (q : Place) → get place_cmp new q ≡ (if is_eq (place_cmp q (place t key)) then base else get place_cmp old q)
-wrote base made t key copied old new is same u q =
-    subst (λ b. get place_cmp new q ≡ (if is_eq (place_cmp q (place t key)) then b else get place_cmp old q)) (sym is)
-    (subst (λ k. get place_cmp new q ≡ (if is_eq (place_cmp q (place t k)) then made else get place_cmp old q)) same (written made (place t copied) old new u q))
+pub wrote : (base made : Option Id) (p : Place) (old new : Place → Option Id) → base ≡ made → ((q : Place) → new q ≡ cond (is_eq (place_cmp p q)) made (old q)) →
+    (q : Place) → new q ≡ (if is_eq (place_cmp q p) then base else old q)
+wrote base made p old new is u q =
+    subst (λ b. new q ≡ (if is_eq (place_cmp q p) then b else old q)) (sym is) (u q ∙ ap (λ t. cond t made (old q)) (swapped p q))
 
 -- a read adds what was written last in its range
 pub read-more : (base : Id) (t : ℕ) (range : KeyRange) (mode : Mode) (m : BTreeMap Place Id) (old new : Id → Id → Bool) (fresh : List Id) → IsOrdered place_cmp m →

@@ -6,6 +6,6 @@ pub mod Walking
 pub mod Leaving
 pub mod Reading
 pub mod Spanning
-pub mod Forgetting
+pub mod Writing
 pub mod Settling
 pub mod Calls

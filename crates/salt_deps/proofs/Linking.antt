@@ -3,7 +3,7 @@ use Rattle.law_story.proofs.Ids.{and_left, and_right, is_same_id-sym, is_same_id
 use Rattle.law_story.proofs.Lists.{has-in, in-filter, in-has, into-filter, or_right_true}
 use Rattle.salt_deps.proofs.Names.{has-key, same-at}
 use Rattle.salt_deps.specs.Maps.{is_listed, is_source, items_in, keys_in, readers_at, sources_at}
-use Rattle.salt_deps.specs.Order.{id_cmp}
+use Rattle.salt_values.specs.Order.{id_cmp}
 use Rattle.salt_values.specs.Id.{has_id}
 use Rattle.salt_values.specs.Id.{is_same_id}
 use Rattle.salt_values.specs.declared.id.Id.{Id}
@@ -17,10 +17,10 @@ use Rattle.std.specs.Ordering.{is_eq}
 use Rattle.std.specs.Prelude.{Bool, List, None, Option, Some, Vec, [], cond, false, not, refl, true, ◌&&◌, ◌++◌, ◌||◌, ◌∷◌, ◌≡◌}
 
 -- the names at each key of a map that changes at one
-pub viewed : {V : Type 0} (view : Option V → List Id) (old new : BTreeMap Id V) (k : Id) (w : Option V) →
+pub viewed : {V A : Type 0} (view : Option V → List A) (old new : BTreeMap Id V) (k : Id) (w : Option V) →
     ((q : Id) → get id_cmp new q ≡ cond (is_eq (id_cmp k q)) w (get id_cmp old q)) → (x : Id) →
     view (get id_cmp new x) ≡ cond (is_same_id x k) (view w) (view (get id_cmp old x))
-viewed {V = V} view old new k w u x = ap view (u x) ∙ (ap (λ t. view (cond t w (get id_cmp old x))) (same-at k x ∙ is_same_id-sym k x) ∙ by (is_same_id x k) (get id_cmp old x))
+viewed {V = V} {A = A} view old new k w u x = ap view (u x) ∙ (ap (λ t. view (cond t w (get id_cmp old x))) (same-at k x ∙ is_same_id-sym k x) ∙ by (is_same_id x k) (get id_cmp old x))
   where
     by : (t : Bool) (o : Option V) → view (cond t w o) ≡ cond t (view w) (view o)
     by true o = refl

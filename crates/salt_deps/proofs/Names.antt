@@ -1,5 +1,5 @@
 -- Names by their order and by their test.
-use Rattle.salt_deps.specs.Order.{id_cmp}
+use Rattle.salt_values.specs.Order.{id_cmp}
 use Rattle.salt_values.specs.Id.{has_id}
 use Rattle.law_states.specs.Rising.{Rising}
 use Rattle.law_story.proofs.Lists.{or_left_true, or_right_true}

@@ -6,9 +6,9 @@ use Rattle.law_story.proofs.Lists.{either, has-in, in-cases, in-has, in-left, in
 use Rattle.salt_deps.proofs.Names.{same-at}
 use Rattle.salt_deps.specs.Due.{AreComers, AreReached, reads_done}
 use Rattle.salt_deps.specs.Maps.{is_source, keys_in}
-use Rattle.salt_deps.specs.Order.{id_cmp}
 use Rattle.salt_deps.specs.Walks.{Sees, SeesAll, unseen}
 use Rattle.salt_values.specs.Id.{has_id, is_same_id}
+use Rattle.salt_values.specs.Order.{id_cmp}
 use Rattle.salt_values.specs.declared.id.Id.{Id}
 use Rattle.std.proofs.Common.{ap, arith, inl, inr, length-append, subst, sym, ◌∙◌}
 use Rattle.std.specs.BTreeMap.{BTreeMap, is_at}

@@ -18,4 +18,4 @@ kept_of writers sources finished = record {
 }
 
 abbrev pub dependencies : Deps → Dependencies
-dependencies d = kept_of d.writers d.links.sources d.finished.keys
+dependencies d = kept_of d.writers.last d.links.sources d.finished.keys

@@ -1,5 +1,5 @@
 -- Who reads from whom, in a map from each reader to its sources, and who is listed at each source.
-use Rattle.salt_deps.specs.Order.{id_cmp}
+use Rattle.salt_values.specs.Order.{id_cmp}
 use Rattle.salt_values.specs.Id.{has_id}
 use Rattle.salt_values.specs.declared.id.Id.{Id}
 use Rattle.std.specs.BTreeMap.{BTreeMap, get}

@@ -6,22 +6,22 @@ ghost use Rattle.std.specs.Prelude.{IsTrue};
 
 use crate::due::{due, is_still_known};
 use crate::links::Links;
+use crate::places::Writers;
 use crate::sets::{listed, take_out};
 use crate::walks::reached;
-use crate::writers::{drop_writers, fresh_sources};
-use salt_model::Place;
+use crate::writers::fresh_sources;
 use salt_ranges::KeyRange;
-use salt_values::{Id, Ids, Key, TryCopy};
+use salt_values::{Id, Ids, Key};
 use sqlite_items::Items;
 use std::alloc::{AllocError, Global};
-use std::collections::{BTreeMap, BTreeSet};
+use std::collections::BTreeSet;
 
 /// Of the programs that are neither released nor given up: which wrote a key last, which read from which, and which are
 /// finished.
 #[derive(Drop)]
 pub struct Deps {
     alloc: Global,
-    writers: BTreeMap<Place, Id>,
+    writers: Writers,
     links: Links,
     finished: BTreeSet<Id>,
     /// Whether it is known that no finished program is to be released.
@@ -39,7 +39,7 @@ impl Deps {
     ghost use Rattle.salt_model.specs.declared.locks.Mode.{Mode};
     ghost use Rattle.salt_values.specs.declared.id.Id.{Id};
     ghost use Rattle.salt_model.specs.declared.locks.Reach.{Reach};
-    ghost use Rattle.std.specs.Prelude.{◌≡◌, ◌↔◌, IfOk, OnOk, OnErr};
+    ghost use Rattle.std.specs.Prelude.{◌≡◌, ◌↔◌, IfOk, OnOk, OnErr, false};
 
     /// Nothing is kept.
     pub fn new(alloc: Global) -> Deps
@@ -47,7 +47,7 @@ impl Deps {
     {
         Deps {
             alloc,
-            writers: BTreeMap::new(alloc),
+            writers: Writers::new(alloc),
             links: Links::new(alloc),
             finished: BTreeSet::new(alloc),
             none_due: true,
@@ -60,33 +60,32 @@ impl Deps {
         ensures ok { OnOk result (Wrote base (place table key.now) (dependencies self.old) (dependencies self.new)) }
         ensures err { OnErr result (AreSame (dependencies self.old) (dependencies self.new)) }
     {
-        let place = Place {
-            table,
-            key: key.copy(self.alloc)?,
-        };
         match base {
-            Some(base) => {
-                self.writers.insert(place, base)?;
-            }
-            None => {
-                self.writers.remove(&place);
-            }
+            Some(base) => self.writers.write(base, table, key),
+            None => self.writers.forget(table, key),
         }
-        Ok(())
     }
 
     /// A unit of the program `base` read a range of a table: the program reads from each other one that is the last writer of a
-    /// key there. Want of memory leaves all as it was.
-    pub fn read(&mut self, base: Id, table: u16, range: &KeyRange) -> Result<(), AllocError>
+    /// key there. Gives whether it did not read from one of them before; if not, all is as it was, as it is for want of memory.
+    pub fn read(&mut self, base: Id, table: u16, range: &KeyRange) -> Result<bool, AllocError>
         ensures ok { OnOk result ((mode : Mode) → HasRead base (record { table = table; range = range.now; mode = mode }) (dependencies self.old) (dependencies self.new)) }
+        ensures same { IfOk result (λ more. more ≡ false → AreSame (dependencies self.old) (dependencies self.new)) }
         ensures err { OnErr result (AreSame (dependencies self.old) (dependencies self.new)) }
     {
         if range.is_empty() {
-            return Ok(());
+            return Ok(false);
         }
-        let fresh = fresh_sources(self.alloc, &self.links, &self.writers, base, table, range)?;
-        self.links.add(base, &fresh)?;
-        Ok(())
+        let fresh = fresh_sources(
+            self.alloc,
+            &self.links,
+            &self.writers.last,
+            base,
+            table,
+            range,
+        )?;
+        let more = self.links.add(base, &fresh)?;
+        Ok(more)
     }
 
     /// The program, whose first part failed, reads nothing: it is no last writer and no source.
@@ -107,7 +106,7 @@ impl Deps {
         let due = due(self.alloc, &self.links, &self.finished, base, self.none_due)?;
         let released = listed(self.alloc, &due)?;
         self.finished.insert(base)?;
-        drop_writers(&mut self.writers, &due);
+        self.writers.drop_programs(&released);
         self.links.forget_all(&released);
         take_out(&mut self.finished, &released);
         self.none_due = true;

@@ -5,6 +5,7 @@ mod deps;
 mod due;
 mod ends;
 mod links;
+mod places;
 mod sets;
 mod walks;
 mod writers;

@@ -143,21 +143,22 @@ impl Links {
         Ok(left)
     }
 
-    /// The program reads from these too. Want of memory leaves all as it was.
-    pub fn add(&mut self, reader: Id, fresh: &[Id]) -> Result<(), AllocError>
+    /// The program reads from these too. Gives whether there is one of them. Want of memory leaves all as it was.
+    pub fn add(&mut self, reader: Id, fresh: &[Id]) -> Result<bool, AllocError>
         ensures ok { OnOk result ((x y : Id) → is_source self.new.sources x y ≡ (is_source self.old.sources x y || (is_same_id x reader && has_id y fresh.now))) }
+        ensures none { IfOk result (λ some. some ≡ false → (x y : Id) → is_source self.new.sources x y ≡ is_source self.old.sources x y) }
         ensures err { OnErr result ((x y : Id) → is_source self.new.sources x y ≡ is_source self.old.sources x y) }
         ensures kept { (x y : Id) → is_source self.old.sources x y ≡ true → is_source self.new.sources x y ≡ true }
     {
         if fresh.is_empty() {
-            return Ok(());
+            return Ok(false);
         }
         let mut names = self.sources_of(reader)?;
         names.extend_from_slice(fresh)?;
         let set = set_of(self.alloc, &names)?;
         list_readers(self.alloc, &mut self.readers, reader, fresh)?;
         self.sources.insert(reader, set)?;
-        Ok(())
+        Ok(true)
     }
 
     /// The program reads from none.

@@ -2,18 +2,17 @@
 
 ghost use Rattle.salt_deps.specs.Maps.{is_source};
 ghost use Rattle.salt_deps.specs.Reads.{AreFresh, AreRead, is_read, reads_entry};
-ghost use Rattle.law_states.specs.KeptSources.{unless_among};
 ghost use Rattle.salt_model.specs.Tables.{place_cmp};
 ghost use Rattle.salt_values.specs.Id.{has_id};
 ghost use Rattle.salt_model.specs.declared.places.Place.{Place};
 ghost use Rattle.salt_ranges.specs.Ranges.{is_range_empty};
 ghost use Rattle.salt_values.specs.declared.id.Id.{Id};
-ghost use Rattle.std.specs.BTreeMap.{IsOrdered, get};
+ghost use Rattle.std.specs.BTreeMap.{IsOrdered};
 ghost use Rattle.std.specs.Prelude.{◌≡◌, ◌||◌, IfOk, OnOk, false};
 
 use crate::ends::last_place;
 use crate::links::Links;
-use crate::sets::{is_in, listed};
+use crate::sets::listed;
 use salt_model::{Place, first_place};
 use salt_ranges::KeyRange;
 use salt_values::Id;
@@ -82,14 +81,4 @@ pub fn fresh_sources(
     let mut fresh = listed(alloc, &found)?;
     fresh.retain(|source| !links.reads(reader, *source));
     Ok(fresh)
-}
-
-/// Forgets the last writers that are among these programs.
-pub fn drop_writers(writers: &mut BTreeMap<Place, Id>, dropped: &BTreeSet<Id>)
-    ensures { (q : Place) → get place_cmp writers.new q ≡ unless_among dropped.now.keys (get place_cmp writers.old q) }
-{
-    if dropped.is_empty() {
-        return;
-    }
-    writers.retain(|_, writer| !is_in(dropped, *writer));
 }

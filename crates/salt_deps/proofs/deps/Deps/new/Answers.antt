@@ -1,12 +1,8 @@
 use Rattle.salt_deps.proofs.deps.Deps.new.Goals as goal
 use Rattle.law_states.specs.KeptSources.{itself}
-use Rattle.salt_model.specs.Tables.{place_cmp}
 use Rattle.salt_values.specs.Id.{has_id}
-use Rattle.salt_model.specs.declared.places.Place.{Place}
 use Rattle.salt_values.specs.declared.id.Id.{Id}
 use Rattle.std.proofs.Common.{List, [], ap, subst, true, ◌≡◌}
-use Rattle.std.specs.BTreeMap.{is_at}
-use Rattle.std.specs.Map.{lookup}
 
 pub invariant_of-result : goal.invariant_of-result
 invariant_of-result c = record {
@@ -15,7 +11,7 @@ invariant_of-result c = record {
 
 pub returns : goal.returns
 returns c = λ i. record {
-  writer = λ q. ap (λ (es : List (Place × Id)). lookup (is_at (place_cmp q)) es) c.new.ensures.empty i;
+  writer = λ q. c.new.ensures q i;
   reads = λ x y. c.new-2.ensures x y i;
   finished = λ b. ap (λ (l : List Id). has_id b l) c.new-3.ensures.empty i;
 }

@@ -11,9 +11,9 @@ use Rattle.std.proofs.Common.{⊎_elim, inl, refl, subst, sym, ◌&&◌, ◌||�
 pub returns-clause-ok : goal.returns-clause-ok
 returns-clause-ok c mode = record {
   writer = λ q. refl;
-  reads = read-more c.args.base c.args.table c.args.range.now mode c.args.self.now.writers (is_source c.args.self.now.links.sources) (is_source c.add.new.self.sources) c.in_ok-fresh.fresh.items
+  reads = read-more c.args.base c.args.table c.args.range.now mode c.args.self.now.writers.last (is_source c.args.self.now.links.sources) (is_source c.add.new.self.sources) c.in_ok-fresh.fresh.items
       c.in_ok-fresh.ensures.ordered c.in_ok-fresh.ensures.fresh
-      (subst (λ l. (x y : Id) → is_source c.add.new.self.sources x y ≡ (is_source c.args.self.now.links.sources x y || (is_same_id x c.args.base && has_id y l))) c.deref.ensures.value c.in_ok-add.ensures.ok);
+      (subst (λ l. (x y : Id) → is_source c.add.new.self.sources x y ≡ (is_source c.args.self.now.links.sources x y || (is_same_id x c.args.base && has_id y l))) c.deref.ensures.value c.in_ok-more.ensures.ok);
   finished = λ b. (λ h. h, λ h. h);
 }
 
@@ -21,6 +21,13 @@ pub returns-then-is_empty-clause-ok : goal.returns-then-is_empty-clause-ok
 returns-then-is_empty-clause-ok c mode = record {
   writer = λ q. refl;
   reads = λ x y. ((λ h. inl h), (λ h. ⊎_elim (λ old. old) (λ read. absurd (none-inside c.args.range.now read.2.0 (sym c.is_empty.ensures ∙ c.if-is_empty.true) read.2.1)) h));
+  finished = λ b. (λ h. h, λ h. h);
+}
+
+pub returns-clause-same : goal.returns-clause-same
+returns-clause-same c none = record {
+  writer = λ q. refl;
+  reads = λ x y. let e = c.in_ok-more.ensures.none none x y in ((λ h. sym e ∙ h), (λ h. e ∙ h));
   finished = λ b. (λ h. h, λ h. h);
 }
 
