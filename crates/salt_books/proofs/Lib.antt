@@ -14,3 +14,4 @@ pub mod Named
 pub mod OneHeld
 pub mod Phases
 pub mod Replaced
+mod Ordered

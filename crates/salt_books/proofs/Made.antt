@@ -2,13 +2,13 @@
 use Rattle.salt_bytes.specs.declared.moves.Move.TheVariants.{Continue, Finish}
 use Rattle.salt_model.specs.Kept.{cont_in}
 use Rattle.salt_stands.specs.OpenConts.{end_of, go_to, is_accepted_before, make_move, replace_cont, without_cont}
-use Rattle.salt_stands.specs.Words.{given}
 use Rattle.salt_values.specs.declared.cont.Cont.{Cont}
 use Rattle.salt_values.specs.declared.id.Id.{Id}
 use Rattle.std.specs.List.{list_all}
 use Rattle.std.specs.Prelude.{Bool, List, None, Option, Some, [], false, is_some, true, ◌++◌, ◌==◌, ◌∷◌, ◌≡◌}
+use Rattle.std.specs.Bool.{then_some}
 
-allowed : (t : Bool) (x y : List Cont) → given t x ≡ Some y → x ≡ y
+allowed : (t : Bool) (x y : List Cont) → then_some t x ≡ Some y → x ≡ y
 allowed true x y e = cc
 allowed false x y e = cc
 

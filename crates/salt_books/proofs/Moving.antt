@@ -1,5 +1,5 @@
 -- A move made among continuations that rise is what the definitions say of its unit.
-use Rattle.salt_ast.specs.Paths.{Position, next_on_commit}
+use Rattle.salt_ast.specs.Paths.{Position, next_on_commit, next_on_failure}
 use Rattle.salt_ast.specs.declared.programs.Body.TheVariants.{Acid, Base}
 use Rattle.salt_ast.specs.declared.programs.Body.{Body}
 use Rattle.salt_ast.specs.declared.programs.PartDef.{PartDef}
@@ -11,13 +11,12 @@ use Rattle.salt_books.specs.Moves.{begun, conts_ended}
 use Rattle.law_story.proofs.Defined.{named-own}
 use Rattle.law_story.proofs.Ids.{is_same_id-true}
 use Rattle.salt_model.specs.Kept as kept
-use Rattle.salt_model.specs.Kept.{Kept, begun_cont, change_cont, cont_in, cont_of, kept_program, parts_of, programs_of, then_of, values_kept}
+use Rattle.salt_model.specs.Kept.{Kept, begun_cont, change_cont, cont_in, cont_of, kept_program, parts_of, programs_of, values_kept}
 use Rattle.salt_model.specs.Words.{Every}
 use Rattle.salt_model.specs.declared.events.UnitKind.TheVariants.{Later}
 use Rattle.salt_model.specs.declared.vars.Binding.{Binding}
 use Rattle.salt_stands.proofs.Booleans.{all_weaker, join, left, right}
 use Rattle.salt_stands.specs.OpenConts.{do_rise, end_of, go_to, is_accepted_before, is_later_than, is_not_of, make_move, replace_cont, without_cont}
-use Rattle.salt_stands.specs.Words.{given}
 use Rattle.salt_values.specs.Id.{is_same_id}
 use Rattle.salt_values.specs.declared.cont.Cont.{Cont}
 use Rattle.salt_values.specs.declared.id.Id.{Id}
@@ -26,6 +25,7 @@ use Rattle.std.proofs.Common.{ap, arith, subst, sym, ◌∙◌}
 use Rattle.std.proofs.lemmas.Bool.Decides.{Decides-eqb, nat_tests}
 use Rattle.std.specs.List.{filter, list_all}
 use Rattle.std.specs.Prelude.{Bool, List, None, Option, Some, [], cond, false, if◌then◌else◌, nat_lt, not, option_and_then, refl, true, ℕ, ◌+◌, ◌++◌, ◌∷◌, ◌≡◌, ◌≤◌}
+use Rattle.std.specs.Bool.{then_some}
 
 -- WHERE NONE, OR ONE, IS OF THE PROGRAM
 
@@ -86,7 +86,7 @@ made_own cs c vars None here rise = ap (λ o. end_of c.base o cs) here ∙ ap (�
 made_own cs c vars (Some p) here rise =
     let moved : Cont = with_place c vars p in
     ap (λ o. go_to moved o cs) here
-    ∙ ap (λ t. given t (replace_cont moved cs)) ((Decides-eqb c.accepted c.accepted).1 refl)
+    ∙ ap (λ t. then_some t (replace_cont moved cs)) ((Decides-eqb c.accepted c.accepted).1 refl)
     ∙ ap (λ l. Some l) (changed_one moved cs rise)
 
 made_to : (b : Id) (cs : List Cont) (c : Cont) (vars : List Value) (at : Option Position) → cont_in b cs ≡ Some c → do_rise cs ≡ true →
@@ -112,9 +112,9 @@ goes_on failed k n b part vars c p stands next rise =
 pub stays : (failed : Bool) (k : Kept) (n : ℕ) (b : Id) (part : ℕ) (vars : List Binding) →
     option_and_then (λ (c : Cont). kept_program c.program k) (cont_of b k) ≡ None → k.conts ≡ conts_ended failed k n (Later b part) vars
 stays false k n b part vars h =
-    sym (ap (λ (o : Option ProgramDef). elim o as (λ _. List Cont) [ None ↦ k.conts | Some p ↦ kept.moved b (then_of p part) (λ c. record c { vars = values_kept p vars }) k.conts ]) h)
+    sym (ap (λ (o : Option ProgramDef). elim o as (λ _. List Cont) [ None ↦ k.conts | Some p ↦ kept.moved b (next_on_commit (parts_of p) part) (λ c. record c { vars = values_kept p vars }) k.conts ]) h)
 stays true k n b part vars h =
-    sym (ap (λ (o : Option ProgramDef). elim o as (λ _. List Cont) [ None ↦ k.conts | Some p ↦ kept.moved b (kept.branch_of p part (kept.tries_left b k)) (λ c. c) k.conts ]) h)
+    sym (ap (λ (o : Option ProgramDef). elim o as (λ _. List Cont) [ None ↦ k.conts | Some p ↦ kept.moved b (next_on_failure (parts_of p) part (kept.tries_left b k)) (λ c. c) k.conts ]) h)
 
 -- A FIRST PART
 
@@ -136,7 +136,7 @@ begun_at k b n p args vars None number new before = refl
 begun_at k b n p args vars (Some at) number new before =
     let c : Cont = with_place (at_first b n p args vars) (values_kept p vars) at in
     ap (λ o. go_to c o k.conts) new
-    ∙ ap (λ t. given t (k.conts ++ c ∷ [])) (all_before k.decisions c k.conts number before)
+    ∙ ap (λ t. then_some t (k.conts ++ c ∷ [])) (all_before k.decisions c k.conts number before)
 
 parts-of : (p : ProgramDef) → parts_if_defined (Some p) ≡ parts_of p
 parts-of p = by p.body
@@ -147,11 +147,11 @@ parts-of p = by p.body
 
 pub begins : (k : Kept) (b : Id) (n : ℕ) (p : ProgramDef) (args : List Value) (vars : List Binding) → kept_program p.name k ≡ Some p → n ≡ k.decisions + 1 →
     cont_of b k ≡ None → Every (λ (c : Cont). c.accepted ≤ k.decisions) k.conts →
-    make_move k.conts (begun (move_on (programs_of k) (at_first b n p args vars) (values_kept p vars) false)) ≡ Some (begun_cont b n p args vars (then_of p 1) k.conts)
+    make_move k.conts (begun (move_on (programs_of k) (at_first b n p args vars) (values_kept p vars) false)) ≡ Some (begun_cont b n p args vars (next_on_commit (parts_of p) 1) k.conts)
 begins k b n p args vars defined number new before =
-    subst (λ at. make_move k.conts (begun (move_to (at_first b n p args vars) (values_kept p vars) at)) ≡ Some (begun_cont b n p args vars (then_of p 1) k.conts))
+    subst (λ at. make_move k.conts (begun (move_to (at_first b n p args vars) (values_kept p vars) at)) ≡ Some (begun_cont b n p args vars (next_on_commit (parts_of p) 1) k.conts))
     (sym (ap (λ (ps : List PartDef). next_on_commit ps 1) (ap parts_if_defined defined ∙ parts-of p)))
-    (begun_at k b n p args vars (then_of p 1) number new before)
+    (begun_at k b n p args vars (next_on_commit (parts_of p) 1) number new before)
 
 -- found by a name, a program is found by its own
 pub found-own : (k : Kept) (n : List ℕ) (p : ProgramDef) → kept_program n k ≡ Some p → kept_program p.name k ≡ Some p

@@ -1,4 +1,5 @@
 pub mod Asking
+pub mod Bases
 pub mod Books
 pub mod Called
 pub mod Coming

@@ -2,31 +2,18 @@
 
 ghost use Rattle.salt_values.specs.Id.{has_id};
 ghost use Rattle.salt_values.specs.Id.{is_same_id};
-ghost use Rattle.std.specs.List.{filter};
 ghost use Rattle.std.specs.Option.{option_copied};
-ghost use Rattle.std.specs.Prelude.{None, OnOk, Some, if◌then◌else◌, not, ◌≡◌};
+ghost use Rattle.std.specs.Prelude.{None, OnOk, Some, if◌then◌else◌, ◌≡◌};
 
-use salt_values::{Id, Name, TryCopy, is_same_id};
+use salt_values::{Id, Name, TryCopy};
 use std::alloc::{AllocError, Global};
-
-/// A program under way, and the name by which it was called.
-#[derive(Drop)]
-struct Called {
-    base: Id,
-    name: Name,
-}
+use std::collections::BTreeMap;
 
 /// The names by which BASE programs under way were called. Contracts see what is told of each.
 #[derive(Drop)]
 pub struct CalledNames {
     alloc: Global,
-    calls: Vec<Called>,
-}
-
-fn drop_base(calls: &mut Vec<Called>, base: Id)
-    ensures { calls.new.items ≡ filter (λ c. not (is_same_id base c.base)) calls.old.items }
-{
-    calls.retain(|call| !is_same_id(base, call.base));
+    names: BTreeMap<Id, Name>,
 }
 
 impl CalledNames {
@@ -38,7 +25,7 @@ impl CalledNames {
     {
         CalledNames {
             alloc,
-            calls: Vec::new(alloc),
+            names: BTreeMap::new(alloc),
         }
     }
 
@@ -46,8 +33,7 @@ impl CalledNames {
     pub fn name(&self, base: Id) -> Option<&Name>
         ensures { option_copied result ≡ name_told self.now base }
     {
-        let call = self.calls.iter().find(|call| is_same_id(base, call.base))?;
-        Some(&call.name)
+        self.names.get(&base)
     }
 
     /// A program is called by a name. An `AllocError` leaves the names in no state that is told.
@@ -55,8 +41,7 @@ impl CalledNames {
         ensures ok { OnOk result ((b : Id) → name_told self.new b ≡ (if is_same_id b base then Some name.now else name_told self.old b)) }
     {
         let name = name.copy(self.alloc)?;
-        drop_base(&mut self.calls, base);
-        self.calls.push(Called { base, name })?;
+        self.names.insert(base, name)?;
         Ok(())
     }
 
@@ -64,7 +49,7 @@ impl CalledNames {
     pub fn forget(&mut self, base: Id)
         ensures { (b : Id) → name_told self.new b ≡ (if is_same_id b base then None else name_told self.old b) }
     {
-        drop_base(&mut self.calls, base);
+        self.names.remove(&base);
     }
 
     /// Programs are no longer under way.

@@ -8,16 +8,15 @@ ghost use Rattle.salt_model.specs.Tables.{Tables};
 ghost use Rattle.salt_values.specs.Id.{in_order};
 ghost use Rattle.salt_program.specs.Refusals.{parts_in, program_refusal};
 ghost use Rattle.salt_schema.specs.Refusals.{table_refusal};
-ghost use Rattle.salt_books.specs.Known.{AllLeadOn, IsKnown};
-ghost use Rattle.salt_books.specs.Moves.{CanMove, IsAtPart, MovesTo};
+ghost use Rattle.salt_books.specs.Bases.{AreInOrder, bases_in};
 ghost use Rattle.salt_model.specs.declared.events.UnitKind.TheVariants.{Call, Later};
 ghost use Rattle.salt_values.specs.declared.cont.Cont.{Cont};
 ghost use Rattle.std.specs.Option.{option_copied};
-ghost use Rattle.std.specs.Prelude.{IfOk, List, None, OnOk, [], length, map, ◌++◌, ◌+◌, ◌<◌, ◌^◌, ℕ, ◌∷◌, ◌≡◌};
+ghost use Rattle.std.specs.Prelude.{IfOk, IsTrue, List, None, OnOk, [], length, map, ◌++◌, ◌+◌, ◌<◌, ◌^◌, ℕ, ◌∷◌, ◌≡◌};
 
 use crate::bindings::{vars_at_call, vars_at_cont};
 use crate::blocks::{block_of_call, block_of_part, is_base_program};
-use crate::conts::{cont_in, make_move};
+use crate::conts::{cont_among, make_move};
 use crate::ids::bases_in_order;
 use crate::moves::{move_of_branch, move_of_commit};
 use crate::texts::{program_text, table_text};
@@ -37,8 +36,11 @@ pub struct Known {
     schema: Schema,
     catalogue: Catalogue,
     conts: Conts,
+    /// Whether it is known that programs go on in the order of their names.
+    rising: bool,
     boot: u64,
     decisions: u64,
+    ghost ordered: { IsTrue rising → AreInOrder (bases_in conts) },
 }
 
 impl Drop for Known {
@@ -48,6 +50,7 @@ impl Drop for Known {
             schema: _schema,
             catalogue: _catalogue,
             conts: _conts,
+            rising: _rising,
             boot: _boot,
             decisions: _decisions,
         } = self;
@@ -58,6 +61,9 @@ impl Drop for Known {
 pub type Defined = (u64, Bytes);
 
 impl Known {
+    ghost use Rattle.salt_books.specs.Known.{AllLeadOn, IsKnown};
+    ghost use Rattle.salt_books.specs.Moves.{CanMove, IsAtPart, MovesTo};
+
     /// What a storage was found to hold.
     pub fn new(
         alloc: Global,
@@ -70,11 +76,13 @@ impl Known {
         ensures { (k : Kept) → schema ≡ schema_of k → catalogue ≡ programs_of k → conts ≡ k.conts → boot ≡ k.boot
             → decisions ≡ k.decisions → AllLeadOn (programs_of k) → IsKnown result k }
     {
+        let rising = conts.is_empty();
         Known {
             alloc,
             schema,
             catalogue,
             conts,
+            rising,
             boot,
             decisions,
         }
@@ -92,6 +100,7 @@ impl Known {
             schema,
             catalogue,
             conts: _conts,
+            rising: _rising,
             boot,
             decisions,
         } = self;
@@ -144,7 +153,7 @@ impl Known {
     pub fn cont(&self, base: Id) -> Option<&Cont>
         ensures { (k : Kept) → IsKnown self.now k → option_copied result ≡ cont_of base k }
     {
-        cont_in(self.conts.as_slice(), base)
+        cont_among(self.conts.as_slice(), self.rising, base)
     }
 
     /// Where the programs go on that are accepted and not finished, in the order in which they were accepted.
@@ -232,6 +241,7 @@ impl Known {
             self.alloc,
             &self.catalogue,
             self.conts.as_slice(),
+            self.rising,
             number,
             kind,
             vars,
@@ -244,7 +254,13 @@ impl Known {
         ensures { IfOk result (λ made. (k : Kept) → IsKnown self.now k → IsAtPart k kind.now → CanMove k kind.now
             → MovesTo made k (conts_branched k kind.now)) }
     {
-        move_of_branch(self.alloc, &self.catalogue, self.conts.as_slice(), kind)
+        move_of_branch(
+            self.alloc,
+            &self.catalogue,
+            self.conts.as_slice(),
+            self.rising,
+            kind,
+        )
     }
 
     /// A decided unit has made this move. The number of the decision.
@@ -254,7 +270,10 @@ impl Known {
             → (es : Tables) → IsKnown self.new (record k { decisions = k.decisions + 1; tables = es; conts = conts })) }
     {
         let number = next_number(self.decisions)?;
-        make_move(self.alloc, &mut self.conts, made)?;
+        let was = self.rising;
+        self.rising = false;
+        let rising = make_move(self.alloc, &mut self.conts, was, made)?;
+        self.rising = rising;
         self.decisions = number;
         Ok(number)
     }

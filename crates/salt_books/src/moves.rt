@@ -1,14 +1,16 @@
 //! The moves of programs at the decided ends of their units.
 
+ghost use Rattle.law_states.specs.Rising.{Rising};
+ghost use Rattle.salt_books.specs.Bases.{bases_in};
 ghost use Rattle.salt_books.specs.Known.{AllLeadOn};
 ghost use Rattle.salt_books.specs.Moves.{CanMove, IsAtPart, IsNext, MovesTo, begun, conts_ended};
 ghost use Rattle.salt_model.specs.Kept.{Kept, conts_branched, conts_committed, programs_of, values_kept};
 ghost use Rattle.salt_model.specs.declared.events.UnitKind.TheVariants.{First, Later};
 ghost use Rattle.salt_stands.specs.OpenConts.{do_rise};
-ghost use Rattle.std.specs.Prelude.{IfOk, true, ℕ, ◌+◌, ◌≡◌};
+ghost use Rattle.std.specs.Prelude.{IfOk, IsTrue, true, ℕ, ◌+◌, ◌≡◌};
 
 use crate::bindings::values_kept;
-use crate::conts::cont_in;
+use crate::conts::cont_among;
 use salt_ast::ProgramDef;
 use salt_cont::{Move, advance};
 use salt_model::{UnitKind, Vars};
@@ -87,15 +89,17 @@ fn move_of_part(
     alloc: Global,
     catalogue: &Catalogue,
     conts: &[Cont],
+    rising: bool,
     base: Id,
     vars: &Vars,
     failed: bool,
 ) -> Result<Move, AllocError>
-    requires { AllLeadOn catalogue.now }
+    requires lead_on { AllLeadOn catalogue.now }
+    requires ordered { IsTrue rising → Rising (bases_in conts.now) }
     ensures { IfOk result (λ made. (k : Kept) (number part : ℕ) → catalogue.now ≡ programs_of k → conts.now ≡ k.conts → IsNext k base part
         → do_rise k.conts ≡ true → MovesTo made k (conts_ended failed k number (Later base part) vars.now)) }
 {
-    let Some(cont) = cont_in(conts, base) else {
+    let Some(cont) = cont_among(conts, rising, base) else {
         return Ok(Move::Plain);
     };
     let Some(def) = catalogue.find(&cont.program) else {
@@ -110,11 +114,13 @@ pub fn move_of_commit(
     alloc: Global,
     catalogue: &Catalogue,
     conts: &[Cont],
+    rising: bool,
     number: u64,
     kind: &UnitKind,
     vars: &Vars,
 ) -> Result<Move, AllocError>
-    requires { AllLeadOn catalogue.now }
+    requires lead_on { AllLeadOn catalogue.now }
+    requires ordered { IsTrue rising → Rising (bases_in conts.now) }
     ensures { IfOk result (λ made. (k : Kept) → catalogue.now ≡ programs_of k → conts.now ≡ k.conts → number ≡ k.decisions + 1
         → IsAtPart k kind.now → CanMove k kind.now → MovesTo made k (conts_committed k number kind.now vars.now)) }
 {
@@ -127,7 +133,9 @@ pub fn move_of_commit(
             args,
             ..
         } => move_of_first(alloc, catalogue, *base, number, program, args, vars),
-        UnitKind::Later { base, .. } => move_of_part(alloc, catalogue, conts, *base, vars, false),
+        UnitKind::Later { base, .. } => {
+            move_of_part(alloc, catalogue, conts, rising, *base, vars, false)
+        }
     }
 }
 
@@ -136,9 +144,11 @@ pub fn move_of_branch(
     alloc: Global,
     catalogue: &Catalogue,
     conts: &[Cont],
+    rising: bool,
     kind: &UnitKind,
 ) -> Result<Move, AllocError>
-    requires { AllLeadOn catalogue.now }
+    requires lead_on { AllLeadOn catalogue.now }
+    requires ordered { IsTrue rising → Rising (bases_in conts.now) }
     ensures { IfOk result (λ made. (k : Kept) → catalogue.now ≡ programs_of k → conts.now ≡ k.conts
         → IsAtPart k kind.now → CanMove k kind.now → MovesTo made k (conts_branched k kind.now)) }
 {
@@ -148,7 +158,7 @@ pub fn move_of_branch(
         UnitKind::First { .. } => Ok(Move::Plain),
         UnitKind::Later { base, .. } => {
             let vars = Items::new(alloc);
-            move_of_part(alloc, catalogue, conts, *base, &vars, true)
+            move_of_part(alloc, catalogue, conts, rising, *base, &vars, true)
         }
     }
 }

@@ -15,7 +15,9 @@ ghost use Rattle.salt_program.specs.Refusals.{parts_in, program_refusal};
 ghost use Rattle.salt_schema.specs.Refusals.{table_refusal};
 ghost use Rattle.std.specs.List.{find};
 ghost use Rattle.std.specs.Option.{option_copied};
-ghost use Rattle.std.specs.Prelude.{IfOk, None, OnOk, is_some, length, option_map, ◌&&◌, ◌<◌, ◌^◌, ◌≡◌};
+ghost use Rattle.salt_values.specs.Id.{is_same_id};
+ghost use Rattle.salt_values.specs.declared.id.Id.{Id};
+ghost use Rattle.std.specs.Prelude.{IfOk, None, OnOk, get_or, is_some, length, option_map, true, ◌&&◌, ◌<◌, ◌^◌, ◌≡◌};
 
 use crate::books::Books;
 use crate::held::Held;
@@ -37,6 +39,31 @@ fn ids_after(alloc: Global, base: Id, ids: &[Id]) -> Result<Vec<Id>, AllocError>
     } else {
         Ok(Vec::new(alloc))
     }
+}
+
+/// Whether the first of the names is this one.
+fn is_first(ids: &[Id], base: Id) -> bool
+    ensures { result ≡ true → (d : Id) → (0 < length ids.now) × (is_same_id base (get_or ids.now 0 d) ≡ true) }
+{
+    if ids.is_empty() {
+        false
+    } else {
+        is_same_id(base, ids[0])
+    }
+}
+
+/// Leaves the names behind the first that is this one. As a rule that is the first of all, and then none is copied.
+fn pass(alloc: Global, ids: &mut Vec<Id>, base: Id) -> Result<(), AllocError>
+    ensures { OnOk result (ids.new.items ≡ ids_after base ids.old.items) }
+{
+    if is_first(ids, base) {
+        ids.remove(0);
+        return Ok(());
+    }
+    let mut left = ids_after(alloc, base, ids)?;
+    ids.clear();
+    ids.append(&mut left)?;
+    Ok(())
 }
 
 /// Whether a line does something, if it is not refused.
@@ -95,8 +122,7 @@ impl Books {
         ensures { OnOk result ((s : UnitState) → AreBooks self.old s → AreBooks self.new (units_turned base s)) }
     {
         let owes = self.still_owes();
-        let left = ids_after(self.alloc, base, self.to_go.as_slice())?;
-        self.to_go = left;
+        pass(self.alloc, &mut self.to_go, base)?;
         self.owes = owes;
         Ok(())
     }

@@ -6,7 +6,7 @@ use Rattle.law_states.specs.KeptLocks.{Numbered}
 use Rattle.law_states.specs.KeptSources.{Dependencies, Through}
 use Rattle.law_states.specs.KeptWaits.{AreDistinct, Asker, clash_owners, edges_of, graph_unit, is_base_of, victim_in, waiting_for}
 use Rattle.law_states.specs.Members.{In}
-use Rattle.law_states.specs.Readings.{Reading}
+use Rattle.law_states.specs.Readings.{WatchReading}
 use Rattle.law_states.specs.Watches.{Watch}
 use Rattle.law_story.proofs.Ids.{and_left, and_right, is_same_id-refl, is_same_id-true}
 use Rattle.law_story.proofs.Lists.{has-in, in-has}
@@ -22,13 +22,13 @@ use Rattle.salt_waits.proofs.Fits.{fits}
 use Rattle.salt_waits.specs.Victims.{IsRightVictim, graph_of}
 use Rattle.salt_waits.specs.declared.units.WaitUnit.{WaitUnit}
 use Rattle.salt_conflicts.proofs.Same.{same-dependencies}
-use Rattle.salt_conflicts.specs.Waiters.{asker_of, askers, waiter_of}
+use Rattle.salt_conflicts.specs.Waiters.{asker_of, askers, is_of_program, waiter_of}
 use Rattle.salt_conflicts.specs.Watched.{AreSourcesOf, IsWatch}
 use Rattle.salt_conflicts.specs.declared.waiters.Waiter.{Waiter}
 use Rattle.salt_conflicts.specs.declared.watching.Watching.{Watching}
 use Rattle.std.proofs.Common.{ap, subst, sym, ◌∙◌}
 use Rattle.std.specs.List.{filter, flat_map, list_any}
-use Rattle.std.specs.Prelude.{Bool, List, None, Option, Some, [], cond, false, is_none, map, not, refl, true, ◌&&◌, ◌||◌, ◌↔◌, ◌∷◌, ◌≡◌}
+use Rattle.std.specs.Prelude.{Bool, List, None, Option, Some, [], cond, false, is_none, is_some, map, not, refl, true, ◌&&◌, ◌||◌, ◌↔◌, ◌∷◌, ◌≡◌}
 
 -- an unfinished program of these
 pub is-awaited : (f : Id → Bool) (c : Id) (bs : List Id) → list_any (λ b. not (f b) && is_same_id b c) bs ≡ (has_id c bs && not (f c))
@@ -125,8 +125,28 @@ edges-members d ws sources owner c cs e are h =
     waiting-members d ws cs (sources c) (λ b. ((λ i. (are c b).1 ((h b).0 i)), (λ i. (h b).1 ((are c b).0 i))))
     ∙ ap (edges_of d ws sources) (sym e)
 
+-- where no unit of a program waits
+none-waiting-for : (d : Dependencies) (ws : List Waiter) (bs : List Id) → list_any is_of_program ws ≡ false → waiting_for d (askers ws) bs ≡ []
+none-waiting-for d [] bs none = refl
+none-waiting-for d (w ∷ ws) bs none = by (is_some w.base) refl none (none-waiting-for d ws bs)
+  where
+    here : (o : Option Id) → is_some o ≡ false → list_any (λ b. not (d.finished b) && is_base_of o b) bs ≡ false
+    here None e = none-awaited d.finished bs
+    here (Some c) e = cc
+
+    by : (t : Bool) → is_some w.base ≡ t → (t || list_any is_of_program ws) ≡ false → (list_any is_of_program ws ≡ false → waiting_for d (askers ws) bs ≡ []) →
+        waiting_for d (askers (w ∷ ws)) bs ≡ []
+    by true e h more = cc
+    by false e h more =
+        ap (λ t. map (λ (a : Asker). a.unit) (cond t (asker_of w ∷ filter (λ a. list_any (λ b. not (d.finished b) && is_base_of a.base b) bs) (askers ws)) (filter (λ a. list_any (λ b. not (d.finished b) && is_base_of a.base b) bs) (askers ws)))) (here w.base e)
+        ∙ more h
+
+pub no-edges : (d : Dependencies) (ws : List Waiter) (sources : Id → List Id) (owner : Owner) (c : Id) → owner ≡ Base c → list_any is_of_program ws ≡ false →
+    edges_of d (askers ws) sources owner ≡ []
+no-edges d ws sources owner c e none = ap (edges_of d (askers ws) sources) e ∙ none-waiting-for d ws (sources c) none
+
 -- the victim of what is kept is that of the watch
-pub victim-read : (x : Watching) (w : Watch) (r : Reading w) (waits : List Waiter) (list : List WaitUnit) (found : Option Id) → waits ≡ x.waits.items → IsWatch x w →
+pub victim-read : (x : Watching) (w : Watch) (r : WatchReading w) (waits : List Waiter) (list : List WaitUnit) (found : Option Id) → waits ≡ x.waits.items → IsWatch x w →
     AreDistinct (map (λ (a : Asker). a.unit) w.waits) →
     ((sources : Id → List Id) → AreSourcesOf (dependencies x.deps) sources → graph_of list ≡ map (graph_unit (dependencies x.deps) (locks_in x.locks) (askers waits) sources) (askers waits)) →
     IsRightVictim list found → found ≡ victim_in w.dependencies (map (λ (n : Numbered). n.lock) w.table) w.waits r.sources

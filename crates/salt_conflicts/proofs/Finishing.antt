@@ -6,7 +6,7 @@ use Rattle.law_states.specs.DependencyCalls.{AreSame, HasFinished, marked}
 use Rattle.law_states.specs.KeptLocks.{is_base_among}
 use Rattle.law_states.specs.KeptSources.{Dependencies, IsDue, unless_among}
 use Rattle.law_states.specs.Members.{Ascends}
-use Rattle.law_states.specs.Readings.{Reading}
+use Rattle.law_states.specs.Readings.{WatchReading}
 use Rattle.law_states.specs.Rising.{Rising}
 use Rattle.law_states.specs.UnitFacts.{UnitFacts}
 use Rattle.law_states.specs.WatchSteps.{DependenciesBy}
@@ -32,7 +32,7 @@ ascending (u ∷ us) r = (r.0, ascending us r.1)
 pub in-order-already : (us : List Id) → Rising us → us ≡ in_order us
 in-order-already us r = order-of-ascending us us (ascending us r) (λ b i. i) (λ b i. i)
 
-pub due-told : (b : Id) (old new : Watching) (w : Watch) (r : Reading w) (due : List Id) → IsFinishing b old w → Rising due →
+pub due-told : (b : Id) (old new : Watching) (w : Watch) (r : WatchReading w) (due : List Id) → IsFinishing b old w → Rising due →
     HasFinished b due (dependencies old.deps) (dependencies new.deps) → due ≡ in_order r.due
 due-told b old new w r due s rising h =
     let e = same-dependencies (marked b (dependencies old.deps)) w.dependencies s.dependencies in
@@ -51,12 +51,12 @@ no-owner (Base b) = refl
 -- where none is due, only the mark is set
 pub none-due : (b : Id) (old new : Watching) (w : Watch) (due : List Id) → due ≡ [] → IsFinishing b old w → HasFinished b due (dependencies old.deps) (dependencies new.deps) →
     new.locks ≡ filter (is_unreleased due) old.locks → new.taken ≡ old.taken → new.waits.items ≡ old.waits.items →
-    new.programs.items ≡ without due old.programs.items → IsWatch new w
+    new.programs.names.items ≡ without due old.programs.names.items → IsWatch new w
 none-due b old new w due none s h locks taken waits programs = record {
   table = s.table ∙ sym (subst (λ bs. new.locks ≡ filter (is_unreleased bs) old.locks) none locks ∙ filter-all (is_unreleased []) old.locks (λ n i. no-owner n.lock.owner));
   taken = s.taken ∙ sym taken;
   waits = s.waits ∙ sym waits;
-  programs = s.programs ∙ sym (subst (λ bs. new.programs.items ≡ without bs old.programs.items) none programs ∙ filter-all (λ (u : Id). true) old.programs.items (λ n i. refl));
+  programs = s.programs ∙ sym (subst (λ bs. new.programs.names.items ≡ without bs old.programs.names.items) none programs ∙ filter-all (λ (u : Id). true) old.programs.names.items (λ n i. refl));
   dependencies = subst (AreSame (dependencies new.deps)) (sym (same-dependencies (marked b (dependencies old.deps)) w.dependencies s.dependencies)) (same (subst (λ bs. HasFinished b bs (dependencies old.deps) (dependencies new.deps)) none h));
 }
   where

@@ -2,14 +2,15 @@
 use Rattle.salt_deps.specs.Kept.{dependencies}
 use Rattle.law_states.proofs.CallsFit.{abandon-fits, read-fits, unread-fits}
 use Rattle.law_states.proofs.LockCallsFit.{acid-fits, salt-fits, take-fits}
-use Rattle.law_states.specs.DependencyCalls.{IsCommitted}
+use Rattle.law_states.specs.Circles.{BringsNoWait}
+use Rattle.law_states.specs.DependencyCalls.{AreSame, IsCommitted}
 use Rattle.law_states.specs.KeptLocks.{Numbered, is_base_among, lock_taken, numbered_from, on_lock}
-use Rattle.law_states.specs.KeptSources.{Dependencies, given_up}
+use Rattle.law_states.specs.KeptSources.{Dependencies, WritesIn, given_up}
 use Rattle.law_states.specs.LockCalls.{HasDropped, HasSalted, HasTaken}
 use Rattle.law_states.specs.KeptWaits.{Asker, drop_asker}
 use Rattle.law_states.specs.Members.{SameMembers}
 use Rattle.law_states.specs.UnitFacts.{UnitFacts}
-use Rattle.law_states.specs.WatchSteps.{DependenciesBy, WatchBy, base_by, counted_by, first_by, table_by, waits_by, won_by, writer_by}
+use Rattle.law_states.specs.WatchSteps.{DependenciesBy, ReadsBy, WatchBy, base_by, counted_by, first_by, table_by, waits_by, won_by, writer_by}
 use Rattle.law_states.specs.KeptPrograms.{unreleased_after}
 use Rattle.law_states.specs.Watches.{Watch}
 use Rattle.salt_ast.specs.declared.trees.Statement.{Statement}
@@ -34,16 +35,16 @@ use Rattle.salt_conflicts.specs.Waiters.{is_another, waiter_of}
 use Rattle.salt_conflicts.specs.Watched.{GoesBy, IsWatchBeside}
 use Rattle.salt_conflicts.specs.declared.waiters.Waiter.{Waiter}
 use Rattle.salt_conflicts.specs.declared.watching.Watching.{Watching}
-use Rattle.std.proofs.Common.{ap, append-nil, arith, inl, subst, sym, ◌∙◌}
+use Rattle.std.proofs.Common.{ap, append-nil, arith, inl, inr, subst, sym, ◌∙◌}
 use Rattle.std.proofs.lemmas.List.{map_push}
 use Rattle.std.specs.Bool.{then_some}
 use Rattle.std.specs.List.{cons_option, filter, filter_map}
-use Rattle.std.specs.Prelude.{Bool, List, None, Option, Some, [], cond, false, length, map, not, option_map, refl, true, ℕ, ◌+◌, ◌++◌, ◌∷◌, ◌≡◌, ◌||◌}
+use Rattle.std.specs.Prelude.{Bool, IsTrue, List, None, Option, Some, [], cond, false, length, map, not, option_map, refl, true, ℕ, ◌+◌, ◌++◌, ◌∷◌, ◌≡◌, ◌||◌}
 
 -- of any call: what it makes of each part
 pub goes : (d : Dependencies) (old x : Watching) (w : Watch) (f : UnitFacts) (e : Event) → IsWatchBeside d old w →
     SameMembers x.locks (table_by f old.taken e old.locks) → x.taken ≡ counted_by f e old.taken →
-    map waiter_of (waits_by f e w.waits) ≡ x.waits.items → x.programs.items ≡ unreleased_after e old.programs.items →
+    map waiter_of (waits_by f e w.waits) ≡ x.waits.items → x.programs.names.items ≡ unreleased_after e old.programs.names.items →
     DependenciesBy f e d (dependencies x.deps) → GoesBy f e w x
 goes d old x w f e s table taken waits programs deps =
     let new = watch_beside (dependencies x.deps) x (waits_by f e w.waits) in (
@@ -120,6 +121,17 @@ pub did-read : (f : UnitFacts) (u : Id) (st : Statement) (a : Answer) (base : Op
     f.reach ≡ Some r → HasReadBy base r old new → DependenciesBy f (Did u st a) old new
 did-read f u st a None r old new p e h = subst (DependenciesBy f (Did u st a) old) (sym (same-dependencies old new h)) (unread-fits f u st a old (inl p))
 did-read f u st a (Some b) r old new p e h = read-fits f u b st a r old new p e h
+
+-- where none is read from anew, no pair is new
+pub reads-none : (f : UnitFacts) (u : Id) (st : Statement) (a : Answer) (base : Option Id) (r : Reach) (old new : Dependencies) (w : Watch) → AreSame old w.dependencies →
+    base_by f ≡ base → f.reach ≡ Some r → HasReadBy base r old new → AreSame old new → BringsNoWait f (Did u st a) w
+reads-none f u st a base r old new w same p e h none b c =
+    subst (λ (x : Dependencies). ReadsBy f (Did u st a) x b c → IsTrue (x.reads b c)) (sym (same-dependencies old w.dependencies same))
+    (λ g. (none.reads b c).0 (((did-read f u st a base r old new p e h).reads b c).1 g))
+
+pub reaches-none : (f : UnitFacts) (u : Id) (st : Statement) (a : Answer) (w : Watch) → f.reach ≡ None → BringsNoWait f (Did u st a) w
+reaches-none f u st a w e b c (inl h) = h
+reaches-none f u st a w e b c (inr h) = absurd (subst (λ (r : Option Reach). WritesIn w.dependencies.writer r c) e h.2)
 
 ended-none : (f : UnitFacts) (u : Id) (end : End) (d : Dependencies) → (IsCommitted end → ⊥) → first_by f ≡ None → DependenciesBy f (Ended u end) d d
 ended-none f u end d never e = record {

@@ -7,3 +7,4 @@ pub mod Finishing
 pub mod Readable
 pub mod Others
 pub mod Resuming
+pub mod Naming

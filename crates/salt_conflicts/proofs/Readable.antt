@@ -8,7 +8,7 @@ use Rattle.law_states.specs.KeptWaits.{AreDistinct, Asker, asker}
 use Rattle.law_states.specs.Laws.{IsSound}
 use Rattle.law_states.specs.Members.{In}
 use Rattle.law_states.specs.PlainStates.{PlainWatch, state_of, watch_of}
-use Rattle.law_states.specs.Readings.{Reading}
+use Rattle.law_states.specs.Readings.{WatchReading}
 use Rattle.law_states.specs.Watches.{Watch, Watches}
 use Rattle.salt_model.specs.Trace.{Trace}
 use Rattle.salt_model.specs.Units.{wait_list}
@@ -24,7 +24,7 @@ same-kept trace d e k m = record {
   finished = λ b. ((λ t. (k.finished b).1 ((m.finished b).0 t)), (λ t. (m.finished b).1 ((k.finished b).0 t)));
 }
 
-pub readable : (w : Watch) (trace : Trace) → Watches w trace → IsSound trace → Reading w
+pub readable : (w : Watch) (trace : Trace) → Watches w trace → IsSound trace → WatchReading w
 readable w trace k s =
     let plain : PlainWatch = (state_of trace).watch in
     let shown : PlainWatch = record plain { table = k.locks.in_turn; taken = w.taken } in

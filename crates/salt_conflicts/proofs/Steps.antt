@@ -31,32 +31,26 @@ wrote-more base (q ∷ qs) p old mid new w last = (w.0, w.1, wrote-more base qs 
 
 -- the locks of one more program go
 
-has-more : (b c : Id) (bs : List Id) → has_id c (bs ++ b ∷ []) ≡ (has_id c bs || is_same_id c b)
-has-more b c [] = by (is_same_id c b)
-  where
-    by : (t : Bool) → (t || false) ≡ t
-    by true = refl
-    by false = refl
-has-more b c (x ∷ xs) = by (is_same_id c x) (has-more b c xs)
-  where
-    by : (t : Bool) → has_id c (xs ++ b ∷ []) ≡ (has_id c xs || is_same_id c b) → (t || has_id c (xs ++ b ∷ [])) ≡ ((t || has_id c xs) || is_same_id c b)
-    by true e = refl
-    by false e = e
+or-turned : (s t : Bool) → (t || s) ≡ (s || t)
+or-turned true true = refl
+or-turned true false = refl
+or-turned false true = refl
+or-turned false false = refl
 
-owner-more : (b : Id) (bs : List Id) (o : Owner) → is_base_among (bs ++ b ∷ []) o ≡ (is_base_among bs o || is_same_owner (Base b) o)
-owner-more b bs (Unit u) = refl
-owner-more b bs (Base c) = has-more b c bs ∙ ap (λ t. has_id c bs || t) (is_same_id-sym c b)
+owner-first : (b : Id) (bs : List Id) (o : Owner) → is_base_among (b ∷ bs) o ≡ (is_base_among bs o || is_same_owner (Base b) o)
+owner-first b bs (Unit u) = refl
+owner-first b bs (Base c) = or-turned (has_id c bs) (is_same_id c b) ∙ ap (λ t. has_id c bs || t) (is_same_id-sym c b)
 
-pub release-more : (b : Id) (bs : List Id) (table : List Numbered) →
-    filter (is_of_another (Base b)) (filter (is_unreleased bs) table) ≡ filter (is_unreleased (bs ++ b ∷ [])) table
-release-more b bs [] = refl
-release-more b bs (n ∷ ns) =
-    by (is_base_among bs n.lock.owner) (is_same_owner (Base b) n.lock.owner) refl (release-more b bs ns)
-    ∙ ap (λ t. cond (not t) (n ∷ filter (is_unreleased (bs ++ b ∷ [])) ns) (filter (is_unreleased (bs ++ b ∷ [])) ns)) (sym (owner-more b bs n.lock.owner))
+pub release-first : (b : Id) (bs : List Id) (table : List Numbered) →
+    filter (is_of_another (Base b)) (filter (is_unreleased bs) table) ≡ filter (is_unreleased (b ∷ bs)) table
+release-first b bs [] = refl
+release-first b bs (n ∷ ns) =
+    by (is_base_among bs n.lock.owner) (is_same_owner (Base b) n.lock.owner) refl (release-first b bs ns)
+    ∙ ap (λ t. cond (not t) (n ∷ filter (is_unreleased (b ∷ bs)) ns) (filter (is_unreleased (b ∷ bs)) ns)) (sym (owner-first b bs n.lock.owner))
   where
-    by : (s t : Bool) → is_same_owner (Base b) n.lock.owner ≡ t → filter (is_of_another (Base b)) (filter (is_unreleased bs) ns) ≡ filter (is_unreleased (bs ++ b ∷ [])) ns →
+    by : (s t : Bool) → is_same_owner (Base b) n.lock.owner ≡ t → filter (is_of_another (Base b)) (filter (is_unreleased bs) ns) ≡ filter (is_unreleased (b ∷ bs)) ns →
         filter (is_of_another (Base b)) (cond (not s) (n ∷ filter (is_unreleased bs) ns) (filter (is_unreleased bs) ns))
-        ≡ cond (not (s || t)) (n ∷ filter (is_unreleased (bs ++ b ∷ [])) ns) (filter (is_unreleased (bs ++ b ∷ [])) ns)
+        ≡ cond (not (s || t)) (n ∷ filter (is_unreleased (b ∷ bs)) ns) (filter (is_unreleased (b ∷ bs)) ns)
     by true t e ih = ih
     by false t e ih =
         ap (λ v. cond (not v) (n ∷ filter (is_of_another (Base b)) (filter (is_unreleased bs) ns)) (filter (is_of_another (Base b)) (filter (is_unreleased bs) ns))) e

@@ -1,4 +1,5 @@
 pub mod Waiters
 pub mod Shown
 pub mod Calls
+pub mod Names
 pub mod Watched

@@ -21,7 +21,7 @@ pub record IsWatchBeside (d : Dependencies) (x : Watching) (w : Watch) : Type 0 
   pub table : w.table ≡ x.locks
   pub taken : w.taken ≡ x.taken
   pub waits : map waiter_of w.waits ≡ x.waits.items
-  pub programs : w.programs ≡ x.programs.items
+  pub programs : w.programs ≡ x.programs.names.items
   pub dependencies : AreSame d w.dependencies
 
 abbrev pub IsWatch : Watching → Watch → Type 0

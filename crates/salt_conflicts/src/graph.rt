@@ -11,7 +11,7 @@ ghost use Rattle.std.specs.List.{flat_map, list_any};
 ghost use Rattle.std.specs.Prelude.{IfOk, List, OnOk, map, not, ◌&&◌, ◌++◌, ◌≡◌};
 
 use crate::served::against;
-use crate::waiters::Waiter;
+use crate::waiters::{Waiter, has_program};
 use salt_deps::Deps;
 use salt_locks::LockTable;
 use salt_model::Owner;
@@ -46,14 +46,20 @@ fn add_waiting(
     Ok(())
 }
 
-/// Adds the units that one waits for, where it waits for a lock of this owner.
+/// Adds the units that one waits for, where it waits for a lock of this owner. What a program reads from is looked at only where a unit of
+/// some program waits.
 fn add_edges(deps: &Deps, waits: &[Waiter], owner: Owner, edges: &mut Ids) -> Result<(), AllocError>
     ensures { OnOk result ((sources : Id → List Id) → AreSourcesOf (dependencies deps.now) sources →
         edges.new ≡ edges.old ++ edges_of (dependencies deps.now) (askers waits.now) sources owner) }
 {
     match owner {
         Owner::Unit(unit) => edges.push(unit),
-        Owner::Base(base) => add_waiting(deps, waits, deps.sources(base)?.as_slice(), edges),
+        Owner::Base(base) => {
+            if !has_program(waits) {
+                return Ok(());
+            }
+            add_waiting(deps, waits, deps.sources(base)?.as_slice(), edges)
+        }
     }
 }
 

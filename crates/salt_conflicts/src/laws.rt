@@ -2,7 +2,7 @@
 
 ghost use Rattle.law_states.specs.KeptWaits.{AreDistinct, Asker};
 ghost use Rattle.law_states.specs.Laws.{IsSound};
-ghost use Rattle.law_states.specs.Readings.{Reading};
+ghost use Rattle.law_states.specs.Readings.{WatchReading};
 ghost use Rattle.law_states.specs.UnitFacts.{UnitFacts};
 ghost use Rattle.law_states.specs.WatchSteps.{WatchBy};
 ghost use Rattle.law_states.specs.Watches.{Watch, Watches};
@@ -26,7 +26,7 @@ pub fn finishes_are_marked()
 
 /// What is kept of a trace that is played can be read.
 pub fn readings_are_there()
-    ensures { (w : Watch) (trace : Trace) → Watches w trace → IsSound trace → Reading w }
+    ensures { (w : Watch) (trace : Trace) → Watches w trace → IsSound trace → WatchReading w }
 {}
 
 /// No unit waits twice.

@@ -6,6 +6,7 @@
 
 mod graph;
 mod laws;
+mod programs;
 mod served;
 mod shown;
 mod waiters;

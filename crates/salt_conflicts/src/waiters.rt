@@ -1,7 +1,7 @@
 //! Units that wait.
 
-ghost use Rattle.salt_conflicts.specs.Waiters.{is_another};
-ghost use Rattle.std.specs.List.{filter};
+ghost use Rattle.salt_conflicts.specs.Waiters.{is_another, is_of_program};
+ghost use Rattle.std.specs.List.{filter, list_any};
 ghost use Rattle.std.specs.Prelude.{◌≡◌};
 
 use salt_model::{Family, Reach};
@@ -22,4 +22,20 @@ pub fn leave(waits: &mut Vec<Waiter>, unit: Id)
     ensures { waits.new.items ≡ filter (is_another unit) waits.old.items }
 {
     waits.retain(|waiter| waiter.unit != unit);
+}
+
+fn is_of_program(waiter: &Waiter) -> bool
+    ensures { result ≡ is_of_program waiter.now }
+{
+    match waiter.base {
+        Some(_) => true,
+        None => false,
+    }
+}
+
+/// Whether one of them is a unit of a program.
+pub fn has_program(waits: &[Waiter]) -> bool
+    ensures { result ≡ list_any is_of_program waits.now }
+{
+    waits.iter().any(|waiter| is_of_program(waiter))
 }

@@ -2,18 +2,19 @@
 
 ghost use Rattle.salt_ast.specs.declared.trees.Statement.{Statement};
 ghost use Rattle.salt_deps.specs.Kept.{dependencies};
+ghost use Rattle.law_states.specs.Circles.{BringsNoWait};
 ghost use Rattle.law_states.specs.DependencyCalls.{AreSame, IsCommitted, WroteAll};
 ghost use Rattle.law_states.specs.KeptCover.{group_of};
 ghost use Rattle.law_states.specs.KeptLocks.{clash_in, numbered_from};
 ghost use Rattle.law_states.specs.KeptSources.{no_dependencies};
 ghost use Rattle.law_states.specs.KeptWaits.{Asker, AreDistinct, served_in, victim_in};
 ghost use Rattle.law_states.specs.Members.{SameMembers};
-ghost use Rattle.law_states.specs.Readings.{Reading, locks_by, locks_in};
+ghost use Rattle.law_states.specs.Readings.{WatchReading, locks_by, locks_in};
 ghost use Rattle.law_states.specs.UnitFacts.{UnitFacts};
 ghost use Rattle.law_states.specs.WatchSteps.{base_by, first_by};
 ghost use Rattle.law_states.specs.Watches.{Watch};
 ghost use Rattle.salt_model.specs.Locks.{family_of, owners_of};
-ghost use Rattle.salt_values.specs.Id.{in_order};
+ghost use Rattle.salt_values.specs.Id.{has_id, in_order, without};
 ghost use Rattle.salt_model.specs.declared.events.Answer.{Answer};
 ghost use Rattle.salt_model.specs.declared.events.End.{End};
 ghost use Rattle.salt_model.specs.declared.events.End.TheVariants.{Committed};
@@ -21,20 +22,21 @@ ghost use Rattle.salt_model.specs.declared.events.Event.TheVariants.{Accepted, D
 ghost use Rattle.salt_model.specs.declared.events.Owner.{Owner};
 ghost use Rattle.salt_model.specs.declared.shown.Item.{Item};
 ghost use Rattle.salt_conflicts.specs.Calls.{HasGivenUp, HasReached, HasReadBy, handed_over, is_unreleased};
-ghost use Rattle.salt_conflicts.specs.Waiters.{waiter_of};
+ghost use Rattle.salt_conflicts.specs.Waiters.{HoldsAlready, has_program, waiter_of};
 ghost use Rattle.salt_conflicts.specs.Watched.{GoesBy, IsFinishing, IsWatch, place_of};
 ghost use Rattle.std.specs.List.{filter, flat_map};
 ghost use Rattle.std.specs.Option.{option_copied};
-ghost use Rattle.std.specs.Prelude.{IfOk, List, OnOk, [], length, map, ℕ, ◌++◌, ◌∷◌, ◌≡◌};
+ghost use Rattle.std.specs.Prelude.{IfOk, List, OnOk, [], false, length, map, true, ℕ, ◌++◌, ◌∷◌, ◌≡◌};
 
 use crate::graph::wait_graph;
-use crate::served::{clashing, served};
+use crate::programs::Programs;
+use crate::served::{clashing, holds, served};
 use crate::shown::lock_items;
-use crate::waiters::{Waiter, leave};
+use crate::waiters::{Waiter, has_program, leave};
 use salt_deps::Deps;
 use salt_locks::LockTable;
 use salt_model::{Family, Items, Owner, Owners, Reach};
-use salt_values::{Change, Id, Ids, drop_ids, insert_id, next_number};
+use salt_values::{Change, Id, Ids, next_number};
 use salt_waits::victim;
 use std::alloc::{AllocError, Global};
 
@@ -45,7 +47,7 @@ pub struct Watching {
     locks: LockTable,
     taken: u64,
     waits: Vec<Waiter>,
-    programs: Vec<Id>,
+    programs: Programs,
     deps: Deps,
 }
 
@@ -62,12 +64,14 @@ impl Drop for Watching {
     }
 }
 
-/// Locks of these programs go.
+/// Locks of these programs go. Those of the last go first: as a rule they stand last, and so nothing behind them moves.
 fn release(locks: &mut LockTable, bases: &[Id])
     ensures { locks.new ≡ filter (is_unreleased bases.now) locks.old }
 {
-    for base in bases {
-        locks.drop_owner(Owner::Base(*base));
+    let mut left = bases.len();
+    while left > 0 {
+        left -= 1;
+        locks.drop_owner(Owner::Base(bases[left]));
     }
 }
 
@@ -91,13 +95,15 @@ fn wrote(deps: &mut Deps, base: Option<Id>, changes: &[Change]) -> Result<(), Al
     Ok(())
 }
 
-/// A program's unit reads what is reached; an ACID unit has no sources.
-fn read(deps: &mut Deps, base: Option<Id>, reach: &Reach) -> Result<(), AllocError>
-    ensures { OnOk result (HasReadBy base reach.now (dependencies deps.old) (dependencies deps.new)) }
+/// A program's unit reads what is reached; an ACID unit has no sources. Gives whether the program reads from one from which it did
+/// not read before.
+fn read(deps: &mut Deps, base: Option<Id>, reach: &Reach) -> Result<bool, AllocError>
+    ensures reads { OnOk result (HasReadBy base reach.now (dependencies deps.old) (dependencies deps.new)) }
+    ensures same { IfOk result (λ more. more ≡ false → AreSame (dependencies deps.old) (dependencies deps.new)) }
 {
     match base {
         Some(base) => deps.read(base, reach.table, &reach.range),
-        None => Ok(()),
+        None => Ok(false),
     }
 }
 
@@ -121,7 +127,7 @@ impl Watching {
             locks: LockTable::new(alloc),
             taken: 0,
             waits: Vec::new(alloc),
-            programs,
+            programs: Programs::new(programs),
             deps: Deps::new(alloc),
         }
     }
@@ -143,20 +149,22 @@ impl Watching {
             locks,
             taken,
             waits: Vec::new(alloc),
-            programs,
+            programs: Programs::new(programs),
             deps,
         }
     }
 
-    /// What a unit's statement reached is locked with the next number, and read by its program.
+    /// What a unit's statement reached is locked with the next number, and read by its program. Gives whether that reads from one
+    /// from which it did not read before.
     fn reached(
         &mut self,
         unit: Id,
         base: Option<Id>,
         family: Family,
         reach: &Reach,
-    ) -> Result<(), AllocError>
-        ensures { OnOk result (HasReached unit base family reach.now self.old self.new) }
+    ) -> Result<bool, AllocError>
+        ensures all { OnOk result (HasReached unit base family reach.now self.old self.new) }
+        ensures same { IfOk result (λ more. more ≡ false → AreSame (dependencies self.old.deps) (dependencies self.new.deps)) }
     {
         let next = next_number(self.taken)?;
         self.locks
@@ -166,21 +174,24 @@ impl Watching {
     }
 
     /// A unit's statement, that clashed with nothing, is done: it waits no more, and what was reached is locked and read by its
-    /// program. Want of memory also where no greater number of a lock is left.
+    /// program. Gives whether that reads from one from which it did not read before: if not, no circle of waits comes by it. Want of
+    /// memory also where no greater number of a lock is left.
     pub fn did(
         &mut self,
         unit: Id,
         base: Option<Id>,
         family: Family,
         reach: Option<&Reach>,
-    ) -> Result<(), AllocError>
-        ensures { OnOk result ((w : Watch) (f : UnitFacts) (st : Statement) (a : Answer) → IsWatch self.old w → base_by f ≡ base →
+    ) -> Result<bool, AllocError>
+        ensures goes { OnOk result ((w : Watch) (f : UnitFacts) (st : Statement) (a : Answer) → IsWatch self.old w → base_by f ≡ base →
             family_of f.kind ≡ family → f.reach ≡ option_copied reach.entry → GoesBy f (Did unit st a) w self.new) }
+        ensures quiet { IfOk result (λ more. more ≡ false → (w : Watch) (f : UnitFacts) (st : Statement) (a : Answer) → IsWatch self.old w →
+            base_by f ≡ base → f.reach ≡ option_copied reach.entry → BringsNoWait f (Did unit st a) w) }
     {
         leave(&mut self.waits, unit);
         match reach {
             Some(reach) => self.reached(unit, base, family, reach),
-            None => Ok(()),
+            None => Ok(false),
         }
     }
 
@@ -224,20 +235,27 @@ impl Watching {
     pub fn accept(&mut self, base: Id) -> Result<(), AllocError>
         ensures { OnOk result ((w : Watch) (f : UnitFacts) → IsWatch self.old w → GoesBy f (Accepted base) w self.new) }
     {
-        insert_id(&mut self.programs, base)
+        self.programs.insert(base)
     }
 
     /// A program has come to its end: those that are released by this, in order of their names. They are forgotten, and their locks
     /// go; where there is none, only the program's mark is set.
     pub fn finish(&mut self, base: Id) -> Result<Ids, AllocError>
-        ensures due { IfOk result (λ due. (w : Watch) (r : Reading w) → IsFinishing base self.old w → due ≡ in_order r.due) }
+        ensures due { IfOk result (λ due. (w : Watch) (r : WatchReading w) → IsFinishing base self.old w → due ≡ in_order r.due) }
         ensures none { IfOk result (λ due. (w : Watch) → IsFinishing base self.old w → due ≡ [] → IsWatch self.new w) }
         ensures released { IfOk result (λ due. (w : Watch) (f : UnitFacts) → IsFinishing base self.old w → GoesBy f (Released due) w self.new) }
     {
         let due = self.deps.finished(base)?;
         release(&mut self.locks, due.as_slice());
-        drop_ids(&mut self.programs, due.as_slice());
+        self.programs.drop_all(due.as_slice());
         Ok(due)
+    }
+
+    /// Whether a unit is seen to hold just what it asks for: then nothing clashes with it. It may hold it where this gives false.
+    pub fn holds(&self, unit: Id, family: Family, reach: Option<&Reach>) -> bool
+        ensures { result ≡ true → (w : Watch) → IsWatch self.now w → HoldsAlready (Owner.Unit unit) family (option_copied reach.entry) (locks_in w) }
+    {
+        holds(&self.locks, unit, family, reach)
     }
 
     /// The owners whose locks clash with what a unit asks, units before programs, each in order of their names.
@@ -254,16 +272,23 @@ impl Watching {
     }
 
     /// The unit that has waited longest of those that clash with nothing any more.
-    pub fn served(&self) -> Result<Option<Id>, AllocError>
-        ensures { IfOk result (λ unit. (w : Watch) → IsWatch self.now w → unit ≡ served_in (locks_in w) w.waits) }
+    pub fn served(&self) -> Option<Id>
+        ensures { (w : Watch) → IsWatch self.now w → result ≡ served_in (locks_in w) w.waits }
     {
-        served(self.alloc, &self.locks, &self.waits)
+        served(&self.locks, &self.waits)
+    }
+
+    /// Whether a unit of a program waits. Where none does, nobody waits for another through a lock of a program.
+    pub fn has_waiting_program(&self) -> bool
+        ensures { (w : Watch) → IsWatch self.now w → result ≡ has_program w.waits }
+    {
+        has_program(&self.waits)
     }
 
     /// The unit to be given up where units wait for each other in a circle. That no unit waits twice comes from the law
     /// `waiting_units_are_distinct`.
     pub fn victim(&self) -> Result<Option<Id>, AllocError>
-        ensures { IfOk result (λ unit. (w : Watch) (r : Reading w) → IsWatch self.now w → AreDistinct (map (λ (a : Asker). a.unit) w.waits) →
+        ensures { IfOk result (λ unit. (w : Watch) (r : WatchReading w) → IsWatch self.now w → AreDistinct (map (λ (a : Asker). a.unit) w.waits) →
             unit ≡ victim_in w.dependencies (locks_in w) w.waits r.sources) }
     {
         if self.waits.is_empty() {
@@ -275,17 +300,38 @@ impl Watching {
 
     /// The locks of the unreleased programs and then those of these units, of each owner in the order taken.
     pub fn lock_items(&self, units: &[Id]) -> Result<Items, AllocError>
-        ensures { IfOk result (λ items. (w : Watch) (r : Reading w) → IsWatch self.now w → items ≡
+        ensures { IfOk result (λ items. (w : Watch) (r : WatchReading w) → IsWatch self.now w → items ≡
             map Item.Lock (flat_map (λ b. locks_by r (Owner.Base b)) w.programs) ++ map Item.Lock (flat_map (λ u. locks_by r (Owner.Unit u)) units.now)) }
     {
-        lock_items(self.alloc, &self.locks, &self.programs, units)
+        lock_items(self.alloc, &self.locks, self.programs.names(), units)
     }
 
     /// The accepted programs that are not released, in order of their names.
     pub fn programs(&self) -> &[Id]
         ensures { (w : Watch) → IsWatch self.now w → result.now ≡ w.programs }
     {
-        &self.programs
+        self.programs.names()
+    }
+
+    /// Whether the program is accepted and not released.
+    pub fn is_unreleased(&self, base: Id) -> bool
+        ensures { (w : Watch) → IsWatch self.now w → result ≡ has_id base w.programs }
+    {
+        self.programs.has(base)
+    }
+
+    /// Takes those of some names out that are of such programs.
+    pub fn strike_unreleased(&self, others: &mut Vec<Id>)
+        ensures { (w : Watch) → IsWatch self.now w → others.new.items ≡ without w.programs others.old.items }
+    {
+        self.programs.strike(others);
+    }
+
+    /// The accepted programs that are not released, put in order of their names.
+    pub fn programs_in_order(&self) -> Result<Vec<Id>, AllocError>
+        ensures { IfOk result (λ bases. (w : Watch) → IsWatch self.now w → bases.items ≡ in_order w.programs) }
+    {
+        self.programs.in_order(self.alloc)
     }
 
     /// Whether the program has come to its end and is not yet released.

@@ -4,7 +4,8 @@ use Rattle.salt_model.specs.declared.events.Owner.TheVariants.{Unit}
 use Rattle.salt_ast.specs.declared.trees.Statement.{Statement}
 use Rattle.salt_books.specs.Books.{AreBooks, HaveUnit}
 use Rattle.salt_scheduler.proofs.Beginning.{first-same}
-use Rattle.salt_scheduler.proofs.Calm.{calm-behind, did-brings-none, never-calm}
+use Rattle.salt_scheduler.proofs.ApartCircles.{reads-close-none}
+use Rattle.salt_scheduler.proofs.Calm.{calm-behind, never-calm}
 use Rattle.salt_scheduler.proofs.Done.{at-follow, called-stays, gives, gives-same, state_by, sub-called}
 use Rattle.salt_scheduler.proofs.Facts.{facts-did, facts-waits}
 use Rattle.salt_scheduler.proofs.InTurn.{did}
@@ -16,6 +17,7 @@ use Rattle.salt_books.specs.declared.coming.Coming.TheVariants as coming
 use Rattle.salt_books.specs.declared.asking.Asking.{Asking}
 use Rattle.salt_scheduler.specs.declared.scheduler.Scheduler.{Scheduler}
 use Rattle.salt_scheduler.specs.declared.follow.Follow.TheVariants.{Done, Nothing}
+use Rattle.law_states.specs.Circles.{BringsNoWait}
 use Rattle.law_states.specs.KeptLocks.{clash_in}
 use Rattle.law_states.specs.Members.{In}
 use Rattle.law_states.specs.OpenUnits.{OpenUnit, UnitState, asks_next, unit_named}
@@ -25,6 +27,7 @@ use Rattle.law_states.specs.Steps.{doing_one, outcome_under, units_after, waitin
 use Rattle.law_states.specs.Told.{Clashes, asks_in, does_in, serve_in, turn_of_in}
 use Rattle.law_states.specs.UnitFacts.{UnitFacts, asker_in, facts_in, reach_under}
 use Rattle.law_states.specs.WatchSteps.{base_by}
+use Rattle.law_states.specs.Watches.{Watch}
 use Rattle.salt_model.specs.Honest.{cause_in}
 use Rattle.salt_model.specs.Locks.{family_of, owners_of}
 use Rattle.salt_model.specs.declared.events.Answer.{Answer}
@@ -35,7 +38,7 @@ use Rattle.salt_values.specs.declared.id.Id.{Id}
 use Rattle.salt_conflicts.specs.Waiters.{waiter_of}
 use Rattle.salt_conflicts.specs.Watched.{GoesBy, IsWatch}
 use Rattle.std.proofs.Common.{ap, subst, sym, ◌∙◌}
-use Rattle.std.specs.Prelude.{List, Option, Some, [], false, option_and_then, option_map, refl, ◌∷◌, ◌≡◌}
+use Rattle.std.specs.Prelude.{Bool, List, Option, Some, [], false, option_and_then, option_map, refl, true, ◌∷◌, ◌≡◌}
 
 -- the facts that a call of the watch asks for
 pub did-base : (s : UnitState) (a : Asking) (answer : Answer) (o : OpenUnit) → IsAskedBy a s o →
@@ -63,12 +66,13 @@ waits-waiter s a o h = λ i. record {
   reach = (ap (option_and_then (reach_under s.kept o)) h.asks ∙ sym h.reach) i;
 }
 
-pub act-gives : (x new : Scheduler) (a : Asking) (answer : Answer) (s : State) (o : OpenUnit) (given : Option Event) → StandsForState x s →
+pub act-gives : (x new : Scheduler) (a : Asking) (answer : Answer) (quiet : Bool) (s : State) (o : OpenUnit) (given : Option Event) → StandsForState x s →
     IsAskedBy a s.units o → given ≡ Some (Did a.unit a.statement answer) → answer ≡ (outcome_under s.units.kept o a.statement).answer →
     AreBooks new.books (units_after (Did a.unit a.statement answer) s.units) →
     GoesBy (facts_in s.units (Did a.unit a.statement answer)) (Did a.unit a.statement answer) s.watch new.watch → new.called ≡ x.called →
-    new.follow ≡ Done a.unit (cause_in answer) → new.calm ≡ is_calm_behind a.base x.calm → AnswersWith s (Some (does_in s.units o a.statement)) new given
-act-gives x new a answer s o given stands asked told answers books watch same follow calm =
+    new.follow ≡ Done a.unit (cause_in answer) → (quiet ≡ true → BringsNoWait (facts_in s.units (Did a.unit a.statement answer)) (Did a.unit a.statement answer) s.watch) →
+    ((w : Watch) → IsWatch new.watch w → new.calm ≡ is_calm_behind x.calm quiet w.waits) → AnswersWith s (Some (does_in s.units o a.statement)) new given
+act-gives x new a answer quiet s o given stands asked told answers books watch same follow brings calm =
     gives-same s (Some (does_in s.units o a.statement)) (Some (Did a.unit a.statement answer)) given new
     (λ i. Some (Did (named-unit a.unit s.units.units o asked.named i) a.statement (sym answers i)))
     (gives IsWatch (Did a.unit a.statement answer) s watch.0 x new given stands told
@@ -82,8 +86,8 @@ act-gives x new a answer s o given stands asked told answers books watch same fo
           (sub-called (Done a.unit (cause_in answer)) x.follow s (state_by (Did a.unit a.statement answer) s watch.0) refl
           (λ b i. subst (In b) watch.1.programs i)
           (λ b i. subst (In b) (first-same a.unit (doing_one s.units.kept a.statement) s.units.units (λ o. refl)) i));
-      calm = calm-behind a.base (Did a.unit a.statement answer) s watch.0 x.calm new.calm stands.calm watch.1
-          (λ none. did-brings-none (facts_in s.units (Did a.unit a.statement answer)) a.unit a.statement answer s.watch (did-base s.units a answer o asked ∙ none)) calm;
+      calm = calm-behind (Did a.unit a.statement answer) s watch.0 x.calm quiet new.calm stands.calm watch.1 brings
+          (reads-close-none (facts_in s.units (Did a.unit a.statement answer)) a.unit a.statement answer s.watch watch.0 watch.1) (calm watch.0 watch.2);
     })))
 
 pub wait-gives : (x new : Scheduler) (a : Asking) (owners : List Owner) (s : State) (o : OpenUnit) (given : Option Event) → StandsForState x s →

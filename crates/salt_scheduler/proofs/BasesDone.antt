@@ -8,7 +8,7 @@ use Rattle.salt_scheduler.specs.Standing.{AnswersWithComing, AnswersWith, Stands
 use Rattle.salt_scheduler.specs.declared.scheduler.Scheduler.{Scheduler}
 use Rattle.salt_scheduler.specs.declared.follow.Follow.TheVariants.{Accept, Finish, Nothing, Release}
 use Rattle.law_states.specs.Members.{In}
-use Rattle.law_states.specs.Readings.{Reading}
+use Rattle.law_states.specs.Readings.{WatchReading}
 use Rattle.law_states.specs.States.{State}
 use Rattle.law_states.specs.Told.{finishes_in}
 use Rattle.law_states.specs.UnitFacts.{facts_in}
@@ -126,7 +126,7 @@ releases-some : (due : List Id) → (due ≡ [] → ⊥) → releases due ≡ So
 releases-some [] h = absurd (h refl)
 releases-some (b ∷ bs) h = refl
 
-pub release-brings : (x new : Scheduler) (base : Id) (s : State) (r : Reading s.watch) (due : List Id) →
+pub release-brings : (x new : Scheduler) (base : Id) (s : State) (r : WatchReading s.watch) (due : List Id) →
     StandsWith (watched_by (Release base)) x s → due ≡ in_order r.due → (due ≡ [] → ⊥) →
     GoesBy (facts_in s.units (Released due)) (Released due) s.watch new.watch → new.books ≡ x.books →
     ((w : Watch) (b : Id) → IsWatch new.watch w → In b (bases_called Nothing (state_by (Released due) s w)) → name_told new.called b ≡ name_told x.called b) →

@@ -1,12 +1,12 @@
 -- How many names two lists have together.
-use Rattle.law_states.proofs.Ascending.{Older, every-in, older-strict, order-ascends}
+use Rattle.law_states.proofs.Ascending.{Older, every-in, older-strict, order-ascends, order-of-ascending}
 use Rattle.law_states.specs.KeptWaits.{AreDistinct}
 use Rattle.law_states.specs.Members.{Ascends, In}
 use Rattle.law_states.specs.States.{State}
 use Rattle.salt_model.specs.Programs.{accepted_in, over_in, unreleased}
 use Rattle.salt_books.specs.Sound.{IsSoundState}
 use Rattle.law_story.proofs.Ids.{is_same_id-refl, is_same_id-true}
-use Rattle.law_story.proofs.Lists.{has-in, in-cases, in-has, in-order, in-right, into-order}
+use Rattle.law_story.proofs.Lists.{has-in, in-cases, in-has, in-left, in-order, in-right, into-order}
 use Rattle.salt_values.specs.Id.{has_id, in_order, insert_id, without}
 use Rattle.salt_values.specs.Id.{is_older, is_same_id}
 use Rattle.salt_values.specs.declared.id.Id.{Id}
@@ -65,3 +65,29 @@ ascends-apart (u ∷ us) h = ((λ i. older-strict.not_self u (every-in (Older u)
 pub programs-apart : (s : State) → IsSoundState s → AreDistinct s.watch.programs
 programs-apart s h =
     subst AreDistinct h.keeps.watch.programs (ascends-apart (unreleased h.trace) (order-ascends (without (over_in h.trace) (accepted_in h.trace))))
+
+distinct-long : (xs : List Id) → AreDistinct xs → length (in_order xs) ≡ length xs
+distinct-long [] d = refl
+distinct-long (x ∷ xs) d = insert-new x (in_order xs) (λ i. d.0 (in-order x xs i)) ∙ ap suc (distinct-long xs d.1)
+
+-- the names of the first list, and those of the second that are not among them
+pub counted-apart : (xs ys : List Id) → AreDistinct xs → length (in_order (xs ++ ys)) ≡ length xs + length (without xs (in_order ys))
+counted-apart xs ys d =
+    let turned = counted (in_order ys) xs (ascends-apart (in_order ys) (order-ascends ys)) in
+    let long = distinct-long xs d in
+    let same = ap length (order-of-ascending (in_order (in_order ys ++ xs)) (xs ++ ys) (order-ascends (in_order ys ++ xs)) forth back) in
+    omega (arith, turned, long, same)
+  where
+    forth : (b : Id) → In b (in_order (in_order ys ++ xs)) → In b (xs ++ ys)
+    forth b i = by (in-cases b (in_order ys) xs (in-order b (in_order ys ++ xs) i))
+      where
+        by : In b (in_order ys) ⊎ In b xs → In b (xs ++ ys)
+        by (inl j) = in-right b xs ys (in-order b ys j)
+        by (inr j) = in-left b xs ys j
+
+    back : (b : Id) → In b (xs ++ ys) → In b (in_order (in_order ys ++ xs))
+    back b i = into-order b (in_order ys ++ xs) (by (in-cases b xs ys i))
+      where
+        by : In b xs ⊎ In b ys → In b (in_order ys ++ xs)
+        by (inl j) = in-right b (in_order ys) xs j
+        by (inr j) = in-left b (in_order ys) xs (into-order b ys j)

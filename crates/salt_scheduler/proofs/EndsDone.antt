@@ -6,6 +6,7 @@ use Rattle.salt_books.specs.Books.{AreBooks, HaveUnit}
 use Rattle.salt_books.specs.Called.{name_told}
 use Rattle.salt_books.specs.Ends.{IsUndecided}
 use Rattle.salt_books.specs.declared.books.Books.{Books}
+use Rattle.salt_scheduler.proofs.ApartCircles.{commits-close-none}
 use Rattle.salt_scheduler.proofs.Beginning.{first-in, first-without, without-none}
 use Rattle.salt_scheduler.proofs.Calm.{calm-behind, calm-stays, undecided-brings-none}
 use Rattle.salt_scheduler.proofs.Done.{IsCalledAt, at-follow, called-at, called-stays, gives, gives-same, into-first, into-programs, state_by, sub-called, a_program, beginning, to_accept}
@@ -43,7 +44,7 @@ use Rattle.salt_values.specs.declared.id.Id.{Id}
 use Rattle.salt_conflicts.specs.Watched.{GoesBy, IsWatch, place_of}
 use Rattle.salt_conflicts.specs.declared.watching.Watching.{Watching}
 use Rattle.std.proofs.Common.{Bor, ap, inl, inr, subst, sym, ◌∙◌}
-use Rattle.std.specs.Prelude.{List, None, Option, Some, [], false, is_some, map, option_map, refl, true, ℕ, ◌∷◌, ◌≡◌}
+use Rattle.std.specs.Prelude.{Bool, List, None, Option, Some, [], false, is_some, map, option_map, refl, true, ℕ, ◌∷◌, ◌≡◌}
 
 -- the facts that calls of the watch ask for
 
@@ -86,12 +87,13 @@ accepts-first (First t c n args) b (inl e) = ap Some e
 accepts-first (First t c n args) b (inr i) = absurd i
 accepts-first (Later c part) b i = absurd i
 
-pub commit-gives : (x new : Scheduler) (u : Id) (o : OpenUnit) (s : State) (given : Option Event) → StandsForState x s → unit_named u s.units.units ≡ Some o →
+pub commit-gives : (x new : Scheduler) (u : Id) (o : OpenUnit) (quiet : Bool) (s : State) (given : Option Event) → StandsForState x s → unit_named u s.units.units ≡ Some o →
     given ≡ Some (Ended u (Committed (next_decision s.units))) → AreBooks new.books (units_after (Ended u (Committed (next_decision s.units))) s.units) →
     GoesBy (facts_in s.units (Ended u (Committed (next_decision s.units)))) (Ended u (Committed (next_decision s.units))) s.watch new.watch →
     new.called ≡ x.called → new.follow ≡ behind_commit o.kind →
-    new.calm ≡ is_calm_behind (program_of_kind o.kind) x.calm → AnswersWith s (Some (commits_in s.units o)) new given
-commit-gives x new u o s given stands named told books watch same follow calm =
+    (quiet ≡ true → program_of_kind o.kind ≡ None) → ((w : Watch) → IsWatch new.watch w → new.calm ≡ is_calm_behind x.calm quiet w.waits) →
+    AnswersWith s (Some (commits_in s.units o)) new given
+commit-gives x new u o quiet s given stands named told books watch same follow acid calm =
     gives-same s (Some (commits_in s.units o)) (Some e) given new
     (ap (λ v. Some (Ended v (Committed (next_decision s.units)))) (named-unit u s.units.units o named))
     (gives IsWatch e s watch.0 x new given stands told (at-follow (behind_commit o.kind) e s watch.0 new follow (record {
@@ -101,8 +103,9 @@ commit-gives x new u o s given stands named told books watch same follow calm =
       watched = plain-watch o.kind new.watch watch.0 watch.2;
       books = books;
       called = called-stays IsWatch (behind_commit o.kind) s t x new stands same (λ b. refl) sub;
-      calm = calm-behind (program_of_kind o.kind) e s watch.0 x.calm new.calm stands.calm watch.1
-          (λ none. inl (ended-base s.units u (Committed (next_decision s.units)) o named ∙ none)) calm;
+      calm = calm-behind e s watch.0 x.calm quiet new.calm stands.calm watch.1
+          (λ is. inl (ended-base s.units u (Committed (next_decision s.units)) o named ∙ acid is))
+          (commits-close-none (facts_in s.units e) u (next_decision s.units) s.watch watch.0 watch.1) (calm watch.0 watch.2);
     })))
   where
     e : Event

@@ -5,7 +5,7 @@ use Rattle.salt_scheduler.specs.declared.follow.Follow.{Follow}
 use Rattle.law_states.specs.Follows.{settles_in}
 use Rattle.law_states.specs.Laws.{is_of_run}
 use Rattle.law_states.specs.Nexts.{said_next}
-use Rattle.law_states.specs.Readings.{Reading, beside_by}
+use Rattle.law_states.specs.Readings.{WatchReading, beside_by}
 use Rattle.law_states.specs.States.{State}
 use Rattle.law_states.specs.Follows.{said_in, unit_of}
 use Rattle.salt_model.specs.Phases.{Serving}
@@ -20,7 +20,7 @@ not-of-run (Down why) h = cc
 not-of-run (Opened boot n) h = cc
 not-of-run e h = refl
 
-pub goes-on : (e : Event) (f : Follow) (old new : State) (x : Reading new.watch) (flight : Option Event) → is_served e ≡ true →
+pub goes-on : (e : Event) (f : Follow) (old new : State) (x : WatchReading new.watch) (flight : Option Event) → is_served e ≡ true →
     new.units.phase ≡ Serving → FollowsOn f e old.units new.units →
     said_next e old new x flight ≡ option_or (event_of f new.units (beside_by new x)) (settles_in new.units (beside_by new x))
 goes-on (Down why) f old new x flight h p g = cc

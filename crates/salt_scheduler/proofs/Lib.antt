@@ -1,5 +1,6 @@
 pub mod ActDone
 pub mod Allowing
+mod ApartCircles
 mod BasesDone
 mod BeginDone
 mod Beginning
@@ -10,6 +11,7 @@ pub mod EndsDone
 mod Facts
 pub mod Following
 mod Found
+mod HeldAlready
 mod InTurn
 mod LinesDone
 mod Refusing

@@ -9,7 +9,7 @@ use Rattle.salt_scheduler.specs.declared.scheduler.Scheduler.{Scheduler}
 use Rattle.salt_scheduler.specs.declared.follow.Follow.{Follow}
 use Rattle.law_states.specs.Follows.{settles_in}
 use Rattle.law_states.specs.OpenUnits.{OpenUnit, UnitState, unit_named}
-use Rattle.law_states.specs.Readings.{Reading, beside_by}
+use Rattle.law_states.specs.Readings.{WatchReading, beside_by}
 use Rattle.law_states.specs.States.{State}
 use Rattle.law_states.specs.Told.{Beside, serve_in, settle_in}
 use Rattle.salt_model.specs.declared.events.End.TheVariants.{Victim}
@@ -52,14 +52,14 @@ may-come : (s : State) (x : Scheduler) (c : Coming) → IsReady x s c → CanCom
 may-come s x (coming.Told e) ready = tt
 may-come s x c ready = ready.1
 
-pub follows-first : (s : State) (r : Reading s.watch) (f : Follow) (new : Scheduler) (c : Coming) → (c ≡ coming.Nothing → ⊥) →
+pub follows-first : (s : State) (r : WatchReading s.watch) (f : Follow) (new : Scheduler) (c : Coming) → (c ≡ coming.Nothing → ⊥) →
     AnswersWithComing s (event_of f s.units (beside_by s r)) new c → AnswersWithComing s (behind_in s r f) new c
 follows-first s r f new c some h = record {
   meant = sym (meant-first s.units c (settles_in s.units (beside_by s r)) (may-come s new c h.ready) some) ∙ ap (λ o. option_or o (settles_in s.units (beside_by s r))) h.meant;
   ready = h.ready;
 }
 
-pub settles-then : (s : State) (r : Reading s.watch) (f : Follow) (new : Scheduler) (c : Coming) → c ≡ coming.Nothing →
+pub settles-then : (s : State) (r : WatchReading s.watch) (f : Follow) (new : Scheduler) (c : Coming) → c ≡ coming.Nothing →
     AnswersWithComing s (event_of f s.units (beside_by s r)) new c → behind_in s r f ≡ settles_in s.units (beside_by s r)
 settles-then s r f new c none h = ap (λ o. option_or o (settles_in s.units (beside_by s r))) (sym h.meant ∙ ap (event_meant s.units) none)
 

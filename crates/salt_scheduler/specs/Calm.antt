@@ -1,9 +1,9 @@
 -- When no circle of waits can have come.
-use Rattle.salt_values.specs.declared.id.Id.{Id}
-use Rattle.std.specs.Prelude.{Bool, None, Option, Some, false}
+use Rattle.law_states.specs.KeptWaits.{Asker}
+use Rattle.salt_conflicts.specs.Waiters.{has_program}
+use Rattle.std.specs.Prelude.{Bool, List, not, ◌&&◌, ◌||◌}
 
--- behind what a unit of this program, or of none, has done or committed: what a program reads, and a lock that becomes a program's, may
--- close a circle
-abbrev pub is_calm_behind : Option Id → Bool → Bool
-is_calm_behind None calm = calm
-is_calm_behind (Some b) calm = false
+-- behind what a unit has done or committed, where these wait: what a program reads, and a lock that becomes a program's, may close a
+-- circle, but only through a waiting unit of a program
+abbrev pub is_calm_behind : Bool → Bool → List Asker → Bool
+is_calm_behind calm quiet waits = calm && (quiet || not (has_program waits))

@@ -8,7 +8,7 @@ use Rattle.law_states.specs.Circles.{NoneOnCircle}
 use Rattle.law_states.specs.Follows.{settles_in}
 use Rattle.law_states.specs.Members.{In}
 use Rattle.law_states.specs.OpenUnits.{UnitState}
-use Rattle.law_states.specs.Readings.{Reading, beside_by, first_parts, under_way_of}
+use Rattle.law_states.specs.Readings.{WatchReading, beside_by, first_parts, under_way_of}
 use Rattle.law_states.specs.Refused.{refusal_in}
 use Rattle.law_states.specs.States.{After, State}
 use Rattle.law_states.specs.Watches.{Watch}
@@ -101,22 +101,22 @@ pub record AnswersWithComing (s : State) (want : Option Event) (new : Scheduler)
 
 -- what a state tells of what comes next, in whatever way it is read
 abbrev pub NextTold : Type 0
-NextTold = (s : State) → Reading s.watch → Option Event
+NextTold = (s : State) → WatchReading s.watch → Option Event
 
 -- from a scheduler that stands for a state to one that has done what this tells of it, in a line
 abbrev pub DoesNext : NextTold → Line → Scheduler → Scheduler → Event → Type 0
-DoesNext want now old new e = (s : State) (r : Reading s.watch) → StandsForState old s → ServesLine now s → AnswersWith s (want s r) new (Some e)
+DoesNext want now old new e = (s : State) (r : WatchReading s.watch) → StandsForState old s → ServesLine now s → AnswersWith s (want s r) new (Some e)
 
 -- to one that is ready for what this tells
 abbrev pub ChoosesNext : NextTold → Line → Scheduler → Scheduler → Coming → Type 0
-ChoosesNext want now old new c = (s : State) (r : Reading s.watch) → StandsForState old s → ServesLine now s → AnswersWithComing s (want s r) new c
+ChoosesNext want now old new c = (s : State) (r : WatchReading s.watch) → StandsForState old s → ServesLine now s → AnswersWithComing s (want s r) new c
 
 -- in a line that is not refused
 abbrev pub DoesAllowed : NextTold → Line → Scheduler → Scheduler → Event → Type 0
-DoesAllowed want now old new e = (s : State) (r : Reading s.watch) → StandsForState old s → ServesAllowed now s → AnswersWith s (want s r) new (Some e)
+DoesAllowed want now old new e = (s : State) (r : WatchReading s.watch) → StandsForState old s → ServesAllowed now s → AnswersWith s (want s r) new (Some e)
 
 abbrev pub ChoosesAllowed : NextTold → Line → Scheduler → Scheduler → Coming → Type 0
-ChoosesAllowed want now old new c = (s : State) (r : Reading s.watch) → StandsForState old s → ServesAllowed now s → AnswersWithComing s (want s r) new c
+ChoosesAllowed want now old new c = (s : State) (r : WatchReading s.watch) → StandsForState old s → ServesAllowed now s → AnswersWithComing s (want s r) new c
 
 -- it stands for some state in which a line is served
 abbrev pub IsServing : Line → Scheduler → Type 0
@@ -129,5 +129,5 @@ abbrev pub IsAllowed : Line → Scheduler → Type 0
 IsAllowed now x = (s : State) × StandsForState x s × ServesAllowed now s
 
 -- what comes behind an event: what follows it, or what settles
-abbrev pub behind_in : (s : State) → Reading s.watch → Follow → Option Event
+abbrev pub behind_in : (s : State) → WatchReading s.watch → Follow → Option Event
 behind_in s r f = option_or (event_of f s.units (beside_by s r)) (settles_in s.units (beside_by s r))

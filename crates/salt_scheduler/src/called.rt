@@ -1,6 +1,8 @@
 //! The names by which programs under way were called.
 
 ghost use Rattle.std.specs.Prelude.{◌≡◌, OnOk};
+ghost use Rattle.law_states.specs.Watches.{Watch};
+ghost use Rattle.salt_conflicts.specs.Watched.{IsWatch};
 ghost use Rattle.salt_scheduler.specs.Calling.{Forgets, ForgetsIdle, IsCalled, is_under_way, listed};
 
 use salt_books::{Books, CalledNames};
@@ -19,19 +21,19 @@ pub fn note_call(called: &mut CalledNames, kind: &UnitKind) -> Result<(), AllocE
     }
 }
 
-/// Whether a program is accepted or in its first part.
-fn is_under_way(base: Id, accepted: &[Id], beginning: &[Id]) -> bool
-    ensures { result ≡ is_under_way accepted.now beginning.now base }
+/// Whether a program is accepted and not released, or in its first part.
+fn is_under_way(base: Id, watch: &Watching, beginning: &[Id]) -> bool
+    ensures { (w : Watch) → IsWatch watch.now w → result ≡ is_under_way w.programs beginning.now base }
 {
-    has_id(accepted, base) || has_id(beginning, base)
+    watch.is_unreleased(base) || has_id(beginning, base)
 }
 
-/// The names of these programs are forgotten, but of those that are accepted or in their first part.
-fn forget_idle(called: &mut CalledNames, gone: &[Id], accepted: &[Id], beginning: &[Id])
-    ensures { Forgets accepted.now beginning.now gone.now called.old called.new }
+/// The names of these programs are forgotten, but of those that are not released or in their first part.
+fn forget_idle(called: &mut CalledNames, gone: &[Id], watch: &Watching, beginning: &[Id])
+    ensures { (w : Watch) → IsWatch watch.now w → Forgets w.programs beginning.now gone.now called.old called.new }
 {
     for base in gone {
-        if !is_under_way(*base, accepted, beginning) {
+        if !is_under_way(*base, watch, beginning) {
             called.forget(*base);
         }
     }
@@ -47,7 +49,7 @@ pub fn forget(
     ensures { OnOk result (ForgetsIdle books.now watch.now gone.now called.old called.new) }
 {
     let beginning = books.first_parts()?;
-    forget_idle(called, gone, watch.programs(), beginning.as_slice());
+    forget_idle(called, gone, watch, beginning.as_slice());
     Ok(())
 }
 

@@ -9,7 +9,7 @@ ghost use Rattle.salt_scheduler.specs.Follows.{event_of};
 ghost use Rattle.salt_scheduler.specs.declared.follow.Follow.TheVariants.{Accept, Release};
 ghost use Rattle.law_states.specs.Follows.{settles_in};
 ghost use Rattle.law_states.specs.OpenUnits.{OpenUnit, unit_named};
-ghost use Rattle.law_states.specs.Readings.{Reading, beside_by};
+ghost use Rattle.law_states.specs.Readings.{WatchReading, beside_by};
 ghost use Rattle.law_states.specs.States.{State};
 ghost use Rattle.law_states.specs.Told.{commits_in, finishes_in, next_decision};
 ghost use Rattle.salt_model.specs.Kept.{conts_branched, conts_committed};
@@ -59,7 +59,7 @@ impl Scheduler {
         self.watch.commit(unit, base, held.open.changes())?;
         let number = self.books.commit(unit, made)?;
         self.follow = follow;
-        self.calm = is_calm_behind(base, self.calm);
+        self.calm = is_calm_behind(self.calm, base.is_none(), &self.watch);
         Ok(Event::Ended {
             unit,
             end: End::Committed(number),
@@ -176,7 +176,7 @@ impl Scheduler {
     /// The programs are released that are due now that this one has finished.
     fn release(&mut self, line: &Line, base: Id) -> Result<Coming, AllocError>
         requires { self.old.follow ≡ Release base }
-        ensures { IfOk result (λ coming. (s : State) (r : Reading s.watch) → StandsBehindEvent self.old s → ServesLine line.now s
+        ensures { IfOk result (λ coming. (s : State) (r : WatchReading s.watch) → StandsBehindEvent self.old s → ServesLine line.now s
             → AnswersWithComing s (releases (beside_by s r).due) self.new coming) }
     {
         let due = self.watch.finish(base)?;
@@ -197,7 +197,7 @@ impl Scheduler {
         if let Some(unit) = self.victim()? {
             return Ok(Coming::Told(self.end(line, unit, End::Victim)?));
         }
-        match self.watch.served()? {
+        match self.watch.served() {
             Some(unit) => self.serve(line, unit),
             None => Ok(Coming::Nothing),
         }
@@ -206,7 +206,7 @@ impl Scheduler {
     /// What follows the event at hand in its turn.
     fn follow_up(&mut self, line: &Line) -> Result<Coming, AllocError>
         requires { IsServingBehind line.now self.old }
-        ensures { IfOk result (λ coming. (s : State) (r : Reading s.watch) → StandsBehindEvent self.old s → ServesLine line.now s
+        ensures { IfOk result (λ coming. (s : State) (r : WatchReading s.watch) → StandsBehindEvent self.old s → ServesLine line.now s
             → AnswersWithComing s (event_of self.old.follow s.units (beside_by s r)) self.new coming) }
     {
         match self.follow {
@@ -222,7 +222,7 @@ impl Scheduler {
     /// What comes behind the event at hand: what follows it in its turn, or what settles.
     pub fn go_on(&mut self, line: &Line) -> Result<Coming, AllocError>
         requires { IsServingBehind line.now self.old }
-        ensures { IfOk result (λ coming. (s : State) (r : Reading s.watch) → StandsBehindEvent self.old s → ServesLine line.now s
+        ensures { IfOk result (λ coming. (s : State) (r : WatchReading s.watch) → StandsBehindEvent self.old s → ServesLine line.now s
             → AnswersWithComing s (behind_in s r self.old.follow) self.new coming) }
     {
         let following = self.follow_up(line)?;

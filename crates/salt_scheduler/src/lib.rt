@@ -13,7 +13,6 @@ mod follow;
 mod judge;
 mod kinds;
 mod lines;
-mod names;
 mod programs;
 mod refusal;
 mod scheduler;

@@ -16,12 +16,11 @@ ghost use Rattle.salt_model.specs.Refusals.{defines, has_block};
 ghost use Rattle.salt_model.specs.Trace.{Tree};
 
 use crate::judge::line_refusal;
-use crate::names::count_both;
 use crate::scheduler::Scheduler;
 use salt_ast::{Act, Line};
 use salt_books::Held;
 use salt_model::{Refusal, UnitKind};
-use salt_values::{Id, has_id};
+use salt_values::{Id, has_id, in_order};
 use std::alloc::AllocError;
 
 /// Whether a unit of this kind has the statements of a program or part.
@@ -156,7 +155,9 @@ impl Scheduler {
         ensures { IfOk result (λ count. (s : State) → StandsForState self.now s → AreDistinct s.watch.programs → count ≡ (under_way_of s).count) }
     {
         let beginning = self.books.first_parts()?;
-        count_both(self.alloc, self.watch.programs(), beginning.as_slice())
+        let mut others = in_order(self.alloc, beginning.as_slice())?;
+        self.watch.strike_unreleased(&mut others);
+        Ok(self.watch.programs().len() + others.len())
     }
 
     /// How many programs are under way, if the line calls one; else none are counted.

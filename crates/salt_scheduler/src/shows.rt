@@ -22,6 +22,9 @@ impl Scheduler {
         ensures { IfOk result (λ bases. (s : State) → StandsForState self.now s → bases.items ≡ under_way_by s) }
     {
         let beginning = self.books.first_parts()?;
+        if beginning.as_slice().is_empty() {
+            return self.watch.programs_in_order();
+        }
         both_in_order(self.alloc, self.watch.programs(), beginning.as_slice())
     }
 

@@ -62,8 +62,8 @@ impl Scheduler {
             reach,
         } = asking;
         let answer = self.books.act(unit, rows, &statement)?;
-        self.calm = is_calm_behind(base, self.calm);
-        self.watch.did(unit, base, family, reach.as_ref())?;
+        let more = self.watch.did(unit, base, family, reach.as_ref())?;
+        self.calm = is_calm_behind(self.calm, !more, &self.watch);
         self.follow = Follow::Done {
             unit,
             failed: cause_of(&answer),
@@ -100,7 +100,8 @@ impl Scheduler {
         Ok(Event::Waits { unit, owners })
     }
 
-    /// A unit takes a turn: it is to do its next statement, or waits for those that hold what it would reach.
+    /// A unit takes a turn: it is to do its next statement, or waits for those that hold what it would reach. Where it holds that itself
+    /// nobody else does, so that nobody is looked for: as where one row is changed again and again.
     pub(crate) fn take_turn(&mut self, line: &Line, unit: Id) -> Result<Coming, AllocError>
         requires { IsServing line.now self.old }
         ensures { IfOk result (λ coming. ChoosesNext (λ s r. turn_of_in s.units (clash_by s) (unit_named unit s.units.units)) line.now self.old self.new coming) }
@@ -108,9 +109,11 @@ impl Scheduler {
         let Some(asking) = self.books.asking(line, unit)? else {
             return Ok(Coming::Nothing);
         };
-        let owners = self
-            .watch
-            .clashing(unit, asking.family, asking.reach.as_ref())?;
+        let reach = asking.reach.as_ref();
+        if self.watch.holds(unit, asking.family, reach) {
+            return Ok(Coming::Act(asking));
+        }
+        let owners = self.watch.clashing(unit, asking.family, reach)?;
         if owners.is_empty() {
             Ok(Coming::Act(asking))
         } else {

@@ -4,12 +4,13 @@ use Rattle.salt_cont.specs.Moves.{move_on}
 use Rattle.salt_books.proofs.Moving.{at_first, begins, found-own}
 use Rattle.salt_books.proofs.moves.move_of_first.Goals as goal
 use Rattle.salt_books.specs.Moves.{begun}
-use Rattle.salt_model.specs.Kept.{begun_cont, kept_program, then_of}
+use Rattle.salt_model.specs.Kept.{begun_cont, kept_program, parts_of}
 use Rattle.salt_stands.specs.OpenConts.{make_move}
 use Rattle.salt_values.specs.declared.cont.Cont.{Cont}
 use Rattle.std.proofs.Common.{List, None, Option, Some, ap, sym, ◌∙◌, ◌≡◌}
 use Rattle.std.specs.Option.{option_copied}
 use Rattle.std.specs.Prelude.{false}
+use Rattle.salt_ast.specs.Paths.{next_on_commit}
 
 pub returns : goal.returns
 returns c = λ k session cat number can.
@@ -24,4 +25,4 @@ returns c = λ k session cat number can.
     ap (make_move k.conts) (c.begun.ensures ∙ ap begun c.in_ok-made.ensures ∙ (λ i. begun (move_on (cat i) (cont i) (cont i).vars false)))
     ∙ begins k b n def args vars (found-own k c.args.program.now def defined) number can.new can.accepted
     ∙ ap (λ (l : List Cont). Some l)
-    (sym (ap (λ (o : Option ProgramDef). elim o as (λ _. List Cont) [ None ↦ k.conts | Some p ↦ begun_cont b n p args vars (then_of p 1) k.conts ]) defined))
+    (sym (ap (λ (o : Option ProgramDef). elim o as (λ _. List Cont) [ None ↦ k.conts | Some p ↦ begun_cont b n p args vars (next_on_commit (parts_of p) 1) k.conts ]) defined))

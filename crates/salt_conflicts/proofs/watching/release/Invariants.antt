@@ -1,7 +1,10 @@
 use Rattle.salt_conflicts.proofs.watching.release.Given as goal
 use Rattle.salt_conflicts.specs.Calls.{is_unreleased}
-use Rattle.std.proofs.Common.{take, ◌≡◌}
+use Rattle.std.proofs.Common.{drop, length, ◌≡◌, ◌≤◌}
 use Rattle.std.specs.List.{filter}
 
-abbrev pub invariant-loop-base : goal.invariant-loop-base
-invariant-loop-base l = l.locks ≡ filter (is_unreleased (take l.base-index l.bases)) l.initial.locks
+abbrev pub invariant-loop-left : goal.invariant-loop-left
+invariant-loop-left l = (l.left ≤ length l.bases) × (l.locks ≡ filter (is_unreleased (drop l.left l.bases)) l.initial.locks)
+
+abbrev pub decreases-loop-left : goal.decreases-loop-left
+decreases-loop-left l = l.left

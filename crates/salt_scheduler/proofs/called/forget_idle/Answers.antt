@@ -8,15 +8,15 @@ use Rattle.std.proofs.Common.{ap, subst, sym, ◌∙◌}
 use Rattle.std.proofs.lemmas.List.{take_more}
 
 pub loop-base-preserved : goal.loop-base-preserved
-loop-base-preserved c =
-    subst (λ gone. Forgets c.args.accepted.now c.args.beginning.now gone c.args.called.now c.if-not-is_under_way.called)
+loop-base-preserved c = λ watch watched.
+    subst (λ gone. Forgets watch.programs c.args.beginning.now gone c.args.called.now c.if-not-is_under_way.called)
     (sym (take_more c.args.gone.now c.loop-base.base-index _ c.loop-base-test.true))
     (elim c.if-not-is_under_way.branch [
       | then-not-is_under_way w ↦
-          one-forgotten c.args.accepted.now c.args.beginning.now _ _ c.args.called.now c.loop-base.called c.if-not-is_under_way.called c.loop-base.invariant
-          (sym c.is_under_way.ensures ∙ w.if-not-is_under_way.true)
+          one-forgotten watch.programs c.args.beginning.now _ _ c.args.called.now c.loop-base.called c.if-not-is_under_way.called (c.loop-base.invariant watch watched)
+          (sym (c.is_under_way.ensures watch watched) ∙ w.if-not-is_under_way.true)
           (λ b. ap (λ (x : CalledNames). name_told x b) w.called-is ∙ w.forget.ensures b)
       | else-not-is_under_way w ↦
-          one-left c.args.accepted.now c.args.beginning.now _ _ c.args.called.now c.loop-base.called c.if-not-is_under_way.called c.loop-base.invariant
-          (sym c.is_under_way.ensures ∙ w.if-not-is_under_way.false) w.called-is
+          one-left watch.programs c.args.beginning.now _ _ c.args.called.now c.loop-base.called c.if-not-is_under_way.called (c.loop-base.invariant watch watched)
+          (sym (c.is_under_way.ensures watch watched) ∙ w.if-not-is_under_way.false) w.called-is
     ])

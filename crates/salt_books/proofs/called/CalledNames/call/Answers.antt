@@ -1,11 +1,12 @@
-use Rattle.salt_books.proofs.Calls.{called}
+use Rattle.salt_books.proofs.Calls.{told-anew}
 use Rattle.salt_books.proofs.called.CalledNames.call.Goals as goal
-use Rattle.salt_books.specs.Called.{name_called}
-use Rattle.std.proofs.Common.{[], ap, ◌++◌, ◌∙◌, ◌∷◌}
+use Rattle.salt_books.specs.Called.{name_told}
+use Rattle.salt_values.specs.Id.{is_same_id}
+use Rattle.std.proofs.Common.{List, Some, ap, cond, ℕ, ◌∙◌}
 
 pub returns : goal.returns
 returns c = record {
   ok = λ b.
-      ap (name_called b) (c.in_ok-push.ensures.items ∙ (λ i. c.drop_base.ensures i ++ record { base = c.args.base; name = c.in_ok-name.ensures i } ∷ []))
-      ∙ called b c.args.base c.args.name.now c.args.self.now.calls.items;
+      told-anew c.args.base b (Some c.in_ok-name.name) (name_told c.args.self.now b) _ (c.in_ok-insert.ensures.updates.0 b)
+      ∙ ap (λ (n : List ℕ). cond (is_same_id b c.args.base) (Some n) (name_told c.args.self.now b)) c.in_ok-name.ensures;
 }

@@ -1,7 +1,7 @@
-use Rattle.salt_books.proofs.Calls.{forgotten}
+use Rattle.salt_books.proofs.Calls.{told-anew}
 use Rattle.salt_books.proofs.called.CalledNames.forget.Goals as goal
-use Rattle.salt_books.specs.Called.{name_called}
-use Rattle.std.proofs.Common.{ap, ◌∙◌}
+use Rattle.salt_books.specs.Called.{name_told}
+use Rattle.std.proofs.Common.{None}
 
 pub returns : goal.returns
-returns c = λ b. ap (name_called b) c.drop_base.ensures ∙ forgotten b c.args.base c.args.self.now.calls.items
+returns c = λ b. told-anew c.args.base b None (name_told c.args.self.now b) _ (c.remove.ensures.updates.0 b)

@@ -1,14 +1,28 @@
+use Rattle.salt_books.proofs.Ordered.{in-order, rising-of}
 use Rattle.salt_books.proofs.known.Known.commit.Goals as goal
+use Rattle.salt_books.specs.Bases.{bases_in}
 use Rattle.salt_stands.specs.OpenConts.{make_move}
-use Rattle.std.proofs.Common.{List, ap, ◌+◌, ◌∙◌}
+use Rattle.std.proofs.Common.{List, ap, false, true, ◌+◌, ◌≡◌, ◌∙◌}
 use Rattle.salt_values.specs.declared.cont.Cont.{Cont}
 
 pub returns-clause-kept : goal.returns-clause-kept
 returns-clause-kept c = λ k conts same moves es. record {
   schema = same.schema;
   catalogue = same.catalogue;
-  conts = c.in_ok-make_move.ensures conts (ap (λ (cs : List Cont). make_move cs c.args.made) same.conts ∙ moves);
+  conts = c.in_ok-rising.ensures.moved conts (ap (λ (cs : List Cont). make_move cs c.args.made) same.conts ∙ moves);
   boot = same.boot;
   decisions = c.in_ok-number.ensures ∙ ap (λ n. n + 1) same.decisions;
   lead_on = same.lead_on;
 }
+
+pub make_move-requires : goal.make_move-requires
+make_move-requires c = λ is. rising-of (bases_in c.args.self.now.conts) (c.args.self.now.ordered is)
+
+never : false ≡ true → ⊥
+never h = cc
+
+pub invariant_of-self : goal.invariant_of-self
+invariant_of-self c = record { ordered = λ is. absurd (never is) }
+
+pub invariant_of-self-2 : goal.invariant_of-self-2
+invariant_of-self-2 c = record { ordered = λ is. in-order (bases_in c.make_move.new.conts) (c.in_ok-rising.ensures.rising is) }

@@ -2,14 +2,19 @@ use Rattle.salt_deps.specs.Kept.{dependencies}
 use Rattle.salt_conflicts.specs.declared.watching.Watching.{Watching}
 use Rattle.law_states.proofs.CallsFit.{unread-fits}
 use Rattle.salt_model.specs.declared.events.Event.TheVariants.{Did}
-use Rattle.salt_conflicts.proofs.Goes.{did-read, goes, has-left, plus-none, reached, unreached, won-none, won-one}
+use Rattle.salt_conflicts.proofs.Goes.{did-read, goes, has-left, plus-none, reached, reaches-none, reads-none, unreached, won-none, won-one}
 use Rattle.salt_conflicts.proofs.watching.Watching.did.Goals as goal
 use Rattle.std.proofs.Common.{ap, inr, refl, sym, ◌+◌, ◌∙◌}
 use Rattle.std.proofs.lemmas.Result.{on_ok_weaker}
 use Rattle.std.specs.Option.{option_copied}
+use Rattle.std.specs.Prelude.{Err, IfOk, Ok, OnOk, Result}
 
-pub returns-in-Some : goal.returns-in-Some
-returns-in-Some c =
+if-both : {T E : Type 0} (r : Result T E) {A : Type 0} {B C : T → Type 0} → (A → (t : T) → B t → C t) → OnOk r A → IfOk r B → IfOk r C
+if-both (Ok t) f a b = f a t b
+if-both (Err e) f a b = tt
+
+pub returns-in-Some-clause-goes : goal.returns-in-Some-clause-goes
+returns-in-Some-clause-goes c =
     let old = c.args.self.now in
     let new = c.reached.new.self in
     let d = dependencies old.deps in
@@ -23,10 +28,18 @@ returns-in-Some c =
     (has-left u w.waits old.waits.items new.waits.items s.waits (h.waits ∙ c.leave.ensures))
     h.programs
     (did-read f u st a c.args.base r d (dependencies new.deps) base e h.reads))
-    c.reached.ensures
+    c.reached.ensures.all
 
-pub returns-in-None : goal.returns-in-None
-returns-in-None c w f st a s base family reach =
+pub returns-in-Some-clause-quiet : goal.returns-in-Some-clause-quiet
+returns-in-Some-clause-quiet c =
+    if-both c.reached.result
+    (λ h more same none w f st a s base reach.
+    reads-none f c.args.unit st a c.args.base c.in-Some.reach.now (dependencies c.args.self.now.deps) (dependencies c.reached.new.self.deps) w s.dependencies base
+    (reach ∙ ap option_copied c.in-Some.is) h.reads (same none))
+    c.reached.ensures.all c.reached.ensures.same
+
+pub returns-in-None-clause-goes : goal.returns-in-None-clause-goes
+returns-in-None-clause-goes c w f st a s base family reach =
     let old = c.args.self.now in
     let new : Watching = record { alloc = old.alloc; locks = old.locks; taken = old.taken; waits = c.leave.new.waits; programs = old.programs; deps = old.deps } in
     let d = dependencies old.deps in
@@ -35,3 +48,6 @@ returns-in-None c w f st a s base family reach =
     goes d old new w f (Did u st a) s (unreached f old.taken u st a old.locks e) (plus-none old.taken ∙ ap (λ n. old.taken + n) (sym (won-none f u st a e)))
     (has-left u w.waits old.waits.items c.leave.new.waits.items s.waits c.leave.ensures)
     refl (unread-fits f u st a d (inr e))
+
+pub returns-in-None-clause-quiet : goal.returns-in-None-clause-quiet
+returns-in-None-clause-quiet c none w f st a s base reach = reaches-none f c.args.unit st a w (reach ∙ ap option_copied c.in-None.is)

@@ -15,7 +15,7 @@ use Rattle.std.specs.List.{filter}
 pub returns-clause-due : goal.returns-clause-due
 returns-clause-due c w r s =
     let old = c.args.self.now in
-    let new : Watching = record { alloc = old.alloc; locks = c.release.new.locks; taken = old.taken; waits = old.waits; programs = c.drop_ids.new.ids; deps = c.finished.new.self } in
+    let new : Watching = record { alloc = old.alloc; locks = c.release.new.locks; taken = old.taken; waits = old.waits; programs = c.drop_all.new.self; deps = c.finished.new.self } in
     let d = dependencies old.deps in
     let due = c.in_ok-due.due in
     due-told c.args.base old new w r due s c.in_ok-due.ensures.order c.in_ok-due.ensures.ok
@@ -23,22 +23,22 @@ returns-clause-due c w r s =
 pub returns-clause-none : goal.returns-clause-none
 returns-clause-none c w s none =
     let old = c.args.self.now in
-    let new : Watching = record { alloc = old.alloc; locks = c.release.new.locks; taken = old.taken; waits = old.waits; programs = c.drop_ids.new.ids; deps = c.finished.new.self } in
+    let new : Watching = record { alloc = old.alloc; locks = c.release.new.locks; taken = old.taken; waits = old.waits; programs = c.drop_all.new.self; deps = c.finished.new.self } in
     let d = dependencies old.deps in
     let due = c.in_ok-due.due in
     none-due c.args.base old new w due none s c.in_ok-due.ensures.ok
     (c.release.ensures ∙ ap (λ bs. filter (is_unreleased bs) old.locks) c.as_slice.ensures)
     refl refl
-    (c.drop_ids.ensures ∙ ap (λ bs. without bs old.programs.items) c.as_slice-2.ensures)
+    (c.drop_all.ensures ∙ ap (λ bs. without bs old.programs.names.items) c.as_slice-2.ensures)
 
 pub returns-clause-released : goal.returns-clause-released
 returns-clause-released c w f s =
     let old = c.args.self.now in
-    let new : Watching = record { alloc = old.alloc; locks = c.release.new.locks; taken = old.taken; waits = old.waits; programs = c.drop_ids.new.ids; deps = c.finished.new.self } in
+    let new : Watching = record { alloc = old.alloc; locks = c.release.new.locks; taken = old.taken; waits = old.waits; programs = c.drop_all.new.self; deps = c.finished.new.self } in
     let d = dependencies old.deps in
     let due = c.in_ok-due.due in
     goes (marked c.args.base d) old new w f (Released due) s
     (subst (λ ns. SameMembers ns (table_by f old.taken (Released due) old.locks)) (sym (c.release.ensures ∙ ap (λ bs. filter (is_unreleased bs) old.locks) c.as_slice.ensures)) (released f old.taken due old.locks))
     (plus-none old.taken) s.waits
-    (c.drop_ids.ensures ∙ ap (λ bs. without bs old.programs.items) c.as_slice-2.ensures)
+    (c.drop_all.ensures ∙ ap (λ bs. without bs old.programs.names.items) c.as_slice-2.ensures)
     (leaves f c.args.base due d (dependencies new.deps) c.in_ok-due.ensures.order c.in_ok-due.ensures.ok)

@@ -10,6 +10,6 @@ returns c =
     IfOk-weaker c.lock_items.result _ _
     (λ items h w r s.
     h
-    ∙ (ap (λ bs. owned_by_bases x.locks bs ++ owned_by_units x.locks c.args.units.now) c.deref.ensures.value
-    ∙ items-told w r x.locks x.programs.items c.args.units.now s.table s.programs))
+    ∙ (ap (λ bs. owned_by_bases x.locks bs ++ owned_by_units x.locks c.args.units.now) c.names.ensures
+    ∙ items-told w r x.locks x.programs.names.items c.args.units.now s.table s.programs))
     c.lock_items.ensures

@@ -9,6 +9,6 @@ returns c = record {
   table = sym c.new.ensures;
   taken = refl;
   waits = sym c.new-2.ensures.items;
-  programs = refl;
-  dependencies = subst (AreSame (dependencies c.new-3.result)) c.new-3.ensures (itself (dependencies c.new-3.result));
+  programs = sym c.new-3.ensures;
+  dependencies = subst (AreSame (dependencies c.new-4.result)) c.new-4.ensures (itself (dependencies c.new-4.result));
 }

@@ -7,20 +7,19 @@ use Rattle.salt_model.specs.Kept.{conts_committed}
 use Rattle.salt_model.specs.Units.{program_of_kind}
 use Rattle.salt_model.specs.declared.events.End.TheVariants.{Committed}
 use Rattle.salt_model.specs.declared.events.Event.TheVariants.{Ended}
+use Rattle.salt_scheduler.proofs.Calm.{none-told}
 use Rattle.salt_scheduler.proofs.EndsDone.{commit-gives, ended-base, ended-places, one-found}
 use Rattle.salt_books.proofs.Named.{rising}
-use Rattle.salt_scheduler.specs.Calm.{is_calm_behind}
 use Rattle.salt_scheduler.specs.Follows.{behind_commit}
-use Rattle.salt_values.specs.declared.id.Id.{Id}
 use Rattle.salt_conflicts.specs.Watched.{place_of}
 use Rattle.std.proofs.Common.{ap, sym, ◌∙◌}
-use Rattle.std.specs.Prelude.{Option, Some, map, refl, ◌≡◌}
+use Rattle.std.specs.Prelude.{Some, map, refl, ◌≡◌}
 
 pub returns : goal.returns
 returns c = λ s o stands sound named made.
     let is : o ≡ seen c.in-Some.held.now = one-found _ o (seen c.in-Some.held.now) named (sym (c.in-Some.ensures s.units stands.books)) in
     let e = Ended c.args.unit (Committed (next_decision s.units)) in
-    commit-gives c.args.self.now _ c.args.unit o s _ stands named
+    commit-gives c.args.self.now _ c.args.unit o c.is_none.result s _ stands named
     (λ i. Some (Ended c.args.unit (Committed (c.in_ok-number.ensures.number s.units stands.books i))))
     (c.in_ok-number.ensures.state s.units o (conts_committed s.units.kept (next_decision s.units) o.kind o.vars) stands.books (rising s sound) named made refl)
     (c.in_ok-commit.ensures s.watch (facts_in s.units e) (next_decision s.units) stands.watch
@@ -29,4 +28,5 @@ returns c = λ s o stands sound named made.
     ∙ ap (map place_of) (sym c.changes.ensures.changes)))
     refl
     (c.behind_commit-follow.ensures ∙ ap (λ (o : OpenUnit). behind_commit o.kind) (sym is))
-    (c.is_calm_behind-self.ensures ∙ ap (λ (b : Option Id). is_calm_behind b c.args.self.now.calm) (c.program_of-base.ensures ∙ ap (λ (o : OpenUnit). program_of_kind o.kind) (sym is)))
+    (λ acid. ap (λ (o : OpenUnit). program_of_kind o.kind) is ∙ (sym c.program_of-base.ensures ∙ none-told c.program_of-base.result c.is_none.result c.is_none.ensures acid))
+    c.is_calm_behind-self.ensures

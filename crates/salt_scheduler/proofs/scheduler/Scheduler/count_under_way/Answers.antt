@@ -1,12 +1,16 @@
 use Rattle.salt_scheduler.proofs.scheduler.Scheduler.count_under_way.Goals as goal
-use Rattle.law_states.specs.KeptWaits.{AreDistinct}
-use Rattle.salt_values.specs.Id.{in_order}
-use Rattle.std.proofs.Common.{subst, sym, ◌++◌, ◌∙◌}
-use Rattle.std.proofs.lemmas.Result.{IfOk-weaker}
+use Rattle.law_states.specs.Readings.{first_parts}
+use Rattle.salt_scheduler.proofs.Counting.{counted-apart}
+use Rattle.salt_values.specs.Id.{in_order, without}
+use Rattle.std.proofs.Common.{ap, arith, ◌∙◌}
 use Rattle.std.specs.Prelude.{length}
 
 pub returns : goal.returns
-returns c = IfOk-weaker c.count_both.result _ _ (λ count counts s stands distinct.
-    let programs = c.programs.ensures s.watch stands.watch in
-    counts (subst AreDistinct (sym programs) distinct)
-    ∙ (λ i. length (in_order (programs i ++ (c.as_slice.ensures.value ∙ c.in_ok-beginning.ensures s.units stands.books) i)))) c.count_both.ensures
+returns c = λ s stands distinct.
+    let programs = s.watch.programs in
+    let first = first_parts s.units.units in
+    let same = ap length (c.programs.ensures s.watch stands.watch) in
+    let left = ap length (c.strike_unreleased.ensures s.watch stands.watch
+    ∙ ap (without programs) (c.in_ok-others.ensures ∙ ap in_order (c.as_slice.ensures.value ∙ c.in_ok-beginning.ensures s.units stands.books))) in
+    let both = counted-apart programs first distinct in
+    omega (arith, c.len.ensures, c.strike_unreleased.new.others.ok.0, same, left, both)

@@ -20,14 +20,14 @@ returns-in-Some c = λ s r stands serves.
     (settles-victim s.units (beside_by s r) c.in-Some.unit (sym sought.0 ∙ c.in-Some.is))
     (brings-told s _ _ _ (c.in_ok-end.ensures s r sought.1 serves) refl)
 
-pub returns-in-Some-2 : goal.returns-in-Some-2
-returns-in-Some-2 c =
+pub returns-in-Some-served : goal.returns-in-Some-served
+returns-in-Some-served c =
     IfOk-weaker c.serve.result _ _ (λ e h s r stands serves.
     let sought = c.in_ok-unit.ensures s r stands serves.sound in
     brings-same s _ _ _ _
-    (settles-serves s.units (beside_by s r) c.in-Some-2.unit
+    (settles-serves s.units (beside_by s r) c.in-Some-served.unit
     (sym sought.0 ∙ none-of c.in_ok-unit.field-0 c.in_default.not-Some)
-    (sym (c.in_ok-unit-2.ensures s.watch sought.1.watch) ∙ c.in-Some-2.is))
+    (sym (c.served.ensures s.watch sought.1.watch) ∙ c.in-Some-served.is))
     (h s r sought.1 serves)) c.serve.ensures
 
 pub returns-in-None : goal.returns-in-None
@@ -36,5 +36,5 @@ returns-in-None c = λ s r stands serves.
     brings-none s _ _
     (settles-nothing s.units (beside_by s r)
     (sym sought.0 ∙ none-of c.in_ok-unit.field-0 c.in_default.not-Some)
-    (sym (c.in_ok-unit-2.ensures s.watch sought.1.watch) ∙ c.in-None.is))
+    (sym (c.served.ensures s.watch sought.1.watch) ∙ c.in-None.is))
     sought.1

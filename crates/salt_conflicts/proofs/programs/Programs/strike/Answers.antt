@@ -1,4 +1,4 @@
-use Rattle.salt_books.proofs.called.drop_base.Goals as goal
+use Rattle.salt_conflicts.proofs.programs.Programs.strike.Goals as goal
 use Rattle.std.proofs.Common.{rules}
 use Rattle.std.proofs.lemmas.Fn.{filter_same}
 
