@@ -50,12 +50,12 @@ pub fn appended(alloc: Global, count: u32, times: u32) -> Result<u64, DiskErr> {
     Ok(entries)
 }
 
-fn count_in(disks: &mut MemDisks) -> Result<u64, DiskErr>
+fn count_in(alloc: Global, disks: &mut MemDisks) -> Result<u64, DiskErr>
     requires known { 0 < (seen disks.old).count }
     requires settled { IsSettled (seen disks.old) 0 }
     ensures { OnOk result ((seen disks.new).count ≡ (seen disks.old).count) }
 {
-    match open_log(disks, 0) {
+    match open_log(alloc, disks, 0) {
         Ok(log) => Ok(log.count()),
         Err(LogErr::Disk(e)) => Err(e),
         Err(LogErr::Blank | LogErr::NotLog) => Ok(0),
@@ -69,7 +69,7 @@ pub fn opened(alloc: Global, count: u32, times: u32) -> Result<u64, DiskErr> {
     let mut entries: u64 = 0;
     for _time in 0..times {
         disks.restart();
-        let found = count_in(&mut disks)?;
+        let found = count_in(alloc, &mut disks)?;
         entries = entries.saturating_add(found);
     }
     Ok(entries)

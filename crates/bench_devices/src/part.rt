@@ -8,7 +8,7 @@ ghost use Rattle.salt_gatelog.specs.Log.{IsLog};
 ghost use Rattle.salt_partition.specs.Partitions.{StandsOnDevices};
 ghost use Rattle.std.specs.Prelude.{IfOk, List, OnOk, ℕ, ◌<◌, ◌≡◌};
 
-use salt_codec::{Header, spell_header, spell_prepared};
+use salt_codec::{Header, spell_header, with_prepared};
 use salt_disk::{DiskErr, Disks, MemDisks};
 use salt_gatelog::{GateLog, PairErr, create};
 use salt_partition::{Partition, open_partition};
@@ -55,7 +55,7 @@ fn unit_changes(alloc: Global, number: u32) -> Result<Vec<Change>, AllocError>
 
 fn unit_entry(alloc: Global, number: u32) -> Result<Vec<u8>, AllocError> {
     let changes = unit_changes(alloc, number)?;
-    spell_prepared(alloc, unit_id(number), &changes)
+    with_prepared(Vec::new(alloc), unit_id(number), &changes)
 }
 
 fn header_entry(alloc: Global) -> Result<Vec<u8>, AllocError> {

@@ -77,7 +77,7 @@ fn made_lines<D: Disks>(alloc: Global, disks: &mut D, dev: u32) -> Result<Vec<u8
 {
     make_log(alloc, disks, dev)?;
     disks.restart();
-    let mut log = open_log(disks, dev)?;
+    let mut log = open_log(alloc, disks, dev)?;
     Ok(lines_of(alloc, disks, &mut log)?)
 }
 
@@ -86,7 +86,7 @@ fn opened_as<D: Disks>(alloc: Global, disks: &mut D, dev: u32) -> Result<String,
     requires known { dev < (D.view disks.old).count }
     requires settled { IsSettled (D.view disks.old) dev }
 {
-    match open_log(disks, dev) {
+    match open_log(alloc, disks, dev) {
         Ok(log) => format!(in alloc; "{} entries", log.count()),
         Err(why) => word_of(why).to_string(alloc),
     }

@@ -110,7 +110,7 @@ fn after_stop(alloc: Global, calls: u64, pick: u8) -> Result<char, AllocError>
         let _stopped = append_all(alloc, &mut disks, &mut log);
     }
     disks.restart();
-    match open_log(&mut disks, 0) {
+    match open_log(alloc, &mut disks, 0) {
         Ok(mut log) => {
             let letter = letter_of(log.count());
             match has_payloads(alloc, &mut disks, &mut log) {
@@ -126,7 +126,7 @@ fn after_stop(alloc: Global, calls: u64, pick: u8) -> Result<char, AllocError>
 fn opened_as(alloc: Global, bytes: &[u8]) -> Result<char, AllocError> {
     let mut disks = MemDisks::new(alloc, 1, 1000)?;
     disks.set_bytes(0, bytes)?;
-    let letter = match open_log(&mut disks, 0) {
+    let letter = match open_log(alloc, &mut disks, 0) {
         Ok(log) => letter_of(log.count()),
         Err(why) => letter_of_none(why),
     };
@@ -211,7 +211,7 @@ fn long_log(alloc: Global, count: u64) -> Result<u64, AllocError> {
         let _stopped = append_numbers(alloc, &mut disks, &mut log, count);
     }
     disks.restart();
-    match open_log(&mut disks, 0) {
+    match open_log(alloc, &mut disks, 0) {
         Ok(mut log) => Ok(numbers_in(alloc, &mut disks, &mut log).unwrap_or(0)),
         Err(_) => Ok(0),
     }

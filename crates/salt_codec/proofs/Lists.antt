@@ -12,3 +12,9 @@ pub each_fails : {A : Type 0} (take : Take A) (n : ℕ) (bytes : List ℕ) (xs :
     → Takes {A = A} (Err e) (take rest) → Took take n bytes xs i rest → TakesVec {A = A} (Err e) (take_each take n bytes)
 each_fails take n bytes xs i rest Misspelled low is h = took_fails take n bytes xs i rest low is h
 each_fails take n bytes xs i rest Memory low is h = tt
+
+-- likewise, of a list
+pub list_fails : {A : Type 0} (take : Take A) (n : ℕ) (bytes : List ℕ) (xs : List A) (i : ℕ) (rest : List ℕ) (e : TakeErr) → i < n
+    → Takes {A = A} (Err e) (take rest) → Took take n bytes xs i rest → Takes {A = List A} (Err e) (take_each take n bytes)
+list_fails take n bytes xs i rest Misspelled low is h = took_fails take n bytes xs i rest low is h
+list_fails take n bytes xs i rest Memory low is h = tt

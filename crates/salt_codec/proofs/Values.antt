@@ -1,9 +1,10 @@
 -- Things put, and taken, one behind the other.
 use Rattle.salt_bytes.specs.Spellable.{Every}
-use Rattle.salt_bytes.specs.Taking.{Take, give, go_on, spell_each, take_each, then_take}
+use Rattle.salt_bytes.specs.Taking.{Take, give, go_on, take_each, then_take}
 use Rattle.std.proofs.Common.{List, None, Option, Some, [], ap, append_assoc, arith, drop, get_or, length, refl, subst, suc, sym, take, zero, ℕ, ◌+◌, ◌++◌, ◌-◌, ◌<◌, ◌≡◌, ◌≤◌, ◌∙◌, ◌∷◌}
 use Rattle.std.proofs.lemmas.List.{append-nil, take_all, take_more}
 use Rattle.std.specs.Prelude.{map}
+use Rattle.std.specs.List.{flat_map}
 
 -- ONE BEHIND THE OTHER
 
@@ -23,17 +24,17 @@ drop_all (x ∷ xs) (suc i) h = drop_all xs i (omega (arith, h))
 module _ {A : Type 0} (spell : A → List ℕ) (xs : List A) (start : List ℕ) where
   -- what is put so far, and what is still to be put
   abbrev pub Puts : List ℕ → ℕ → Type 0
-  Puts out i = out ++ spell_each spell (drop i xs) ≡ start ++ spell_each spell xs
+  Puts out i = out ++ flat_map spell (drop i xs) ≡ start ++ flat_map spell xs
 
   pub puts_next : (out more : List ℕ) (i : ℕ) (x : A) → i < length xs → x ≡ get_or xs i x → more ≡ out ++ spell x → Puts out i → Puts more (i + 1)
   puts_next out more i x low is put so_far =
-      ap (λ l. l ++ spell_each spell (drop (i + 1) xs)) put
-      ∙ append_assoc out (spell x) (spell_each spell (drop (i + 1) xs))
-      ∙ ap (λ l. out ++ spell_each spell l) (sym (drop_next xs i x low is))
+      ap (λ l. l ++ flat_map spell (drop (i + 1) xs)) put
+      ∙ append_assoc out (spell x) (flat_map spell (drop (i + 1) xs))
+      ∙ ap (λ l. out ++ flat_map spell l) (sym (drop_next xs i x low is))
       ∙ so_far
 
-  pub puts_all : (out : List ℕ) (i : ℕ) → length xs ≤ i → Puts out i → out ≡ start ++ spell_each spell xs
-  puts_all out i end so_far = sym (append-nil out) ∙ ap (λ l. out ++ spell_each spell l) (sym (drop_all xs i end)) ∙ so_far
+  pub puts_all : (out : List ℕ) (i : ℕ) → length xs ≤ i → Puts out i → out ≡ start ++ flat_map spell xs
+  puts_all out i end so_far = sym (append-nil out) ∙ ap (λ l. out ++ flat_map spell l) (sym (drop_all xs i end)) ∙ so_far
 
 -- these stand before what is taken
 abbrev pub behind : {A : Type 0} → List A → Option (List A × List ℕ) → Option (List A × List ℕ)

@@ -3,10 +3,10 @@ use Rattle.salt_bytes.specs.Numbers.{take_32}
 use Rattle.salt_bytes.specs.Partition.{PartitionHeader, Prepared, is_side}
 use Rattle.salt_bytes.specs.Spellable.{Every}
 use Rattle.salt_bytes.specs.Taking.{Take, give, only_if, take_byte, take_bytes, then_take}
-use Rattle.salt_bytes.specs.Values.{is_row_length, key_of}
+use Rattle.salt_bytes.specs.Values.{is_row_length}
 use Rattle.salt_codec.specs.declared.header.Header.{Header}
 use Rattle.salt_codec.specs.declared.prepared.PreparedUnit.{PreparedUnit}
-use Rattle.salt_values.specs.Value.{IsValue, is_null}
+use Rattle.salt_values.specs.Value.{IsValue, is_null, key_of}
 use Rattle.salt_values.specs.declared.change.Change.{Change}
 use Rattle.salt_values.specs.declared.value.Value.TheVariants.{Int, Null, Text}
 use Rattle.salt_values.specs.declared.value.Value.{Value}

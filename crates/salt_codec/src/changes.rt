@@ -3,12 +3,13 @@
 ghost use Rattle.salt_bytes.specs.Changes.{spell_change, take_change};
 ghost use Rattle.salt_bytes.specs.Numbers.{spell_counted, take_counted};
 ghost use Rattle.salt_bytes.specs.Spellable.{Every};
-ghost use Rattle.salt_bytes.specs.Taking.{spell_each, take_each};
-ghost use Rattle.salt_bytes.specs.Values.{key_of};
+ghost use Rattle.salt_bytes.specs.Taking.{take_each};
 ghost use Rattle.salt_codec.specs.Entries.{HasRow};
 ghost use Rattle.salt_codec.specs.Taking.{Takes};
 ghost use Rattle.salt_codec.specs.EntryTaking.{TakesVec};
 ghost use Rattle.std.specs.Prelude.{IfOk, ◌++◌, ◌≡◌};
+ghost use Rattle.salt_values.specs.Value.{key_of};
+ghost use Rattle.std.specs.List.{flat_map};
 
 use crate::error::TakeErr;
 use crate::put::{with_byte, with_row, with_u16, with_u64, with_value};
@@ -35,7 +36,7 @@ fn with_change(out: Vec<u8>, change: &Change) -> Result<Vec<u8>, AllocError>
 
 fn with_each_change(mut out: Vec<u8>, changes: &[Change]) -> Result<Vec<u8>, AllocError>
     requires { Every HasRow changes.now }
-    ensures { IfOk result (λ made. made.items ≡ out.items ++ spell_each spell_change changes.now) }
+    ensures { IfOk result (λ made. made.items ≡ out.items ++ flat_map spell_change changes.now) }
 {
     for change in changes {
         out = with_change(out, change)?;
@@ -91,7 +92,8 @@ fn take_each_change(
 ) -> Result<(Vec<Change>, &[u8]), TakeErr>
     ensures { TakesVec result (take_each (take_change nulls) count bytes.now) }
 {
-    let mut changes = Vec::new(alloc);
+    // the number is not judged yet, and asks for no more room than few changes take
+    let mut changes = Vec::with_capacity(alloc, count.min(16) as usize)?;
     let mut rest = bytes;
     for _taken in 0..count {
         let (change, behind) = take_change(alloc, nulls, rest)?;

@@ -33,7 +33,8 @@ pub fn spell_header(alloc: Global, header: &Header) -> Result<Vec<u8>, AllocErro
     requires { length header.now.sides < 2 ^ 32 }
     ensures { IfOk result (λ made. made.items ≡ spell_partition_header (header_of header.now)) }
 {
-    let out = with_bytes(Vec::new(alloc), b"SALTP")?;
+    let room = Vec::with_capacity(alloc, header.sides.len().saturating_add(19))?;
+    let out = with_bytes(room, b"SALTP")?;
     let out = with_byte(out, header.format)?;
     let out = with_u64(out, header.generation)?;
     let out = with_byte(out, header.part)?;

@@ -16,6 +16,9 @@ use salt_values::{Cont, Id, Name, Row};
 use sqlite_items::Items;
 use std::alloc::{AllocError, Global};
 
+/// A guess at how many bytes a move takes.
+const ROOM_OF_MOVE: usize = 64;
+
 /// Whether NULL is spelled under this format.
 pub fn has_nulls(format: u8) -> bool
     ensures { result ≡ has_nulls format }
@@ -91,7 +94,8 @@ pub fn put_move(out: &mut Vec<u8>, format: u8, made: &Move) -> Result<(), AllocE
     requires { IsShortMove made.now }
     ensures { out.new.items ≡ (if is_ok result then out.old.items ++ spell_move format made.now else out.old.items) }
 {
-    let spelled = with_move(Vec::new(*out.allocator()), format, made)?;
+    let room = Vec::with_capacity(*out.allocator(), ROOM_OF_MOVE)?;
+    let spelled = with_move(room, format, made)?;
     out.extend_from_slice(&spelled)
 }
 

@@ -5,7 +5,7 @@ ghost use Rattle.salt_bytes.specs.Partition.{prepared_in, spell_prepared, take_p
 ghost use Rattle.salt_bytes.specs.Spellable.{Every};
 ghost use Rattle.salt_codec.specs.Entries.{HasRow, IsPut, prepared_of};
 ghost use Rattle.salt_codec.specs.Taking.{TakesAs};
-ghost use Rattle.std.specs.Prelude.{Bool, IfOk, Some, option_map, true, ◌≡◌};
+ghost use Rattle.std.specs.Prelude.{Bool, IfOk, Some, option_map, true, ◌++◌, ◌≡◌};
 
 use crate::changes::{take_changes, with_changes};
 use crate::error::TakeErr;
@@ -23,25 +23,26 @@ pub struct PreparedUnit {
     pub changes: Vec<Change>,
 }
 
-fn spelled(alloc: Global, unit: Id, changes: &[Change]) -> Result<Vec<u8>, AllocError>
+fn with_unit(out: Vec<u8>, unit: Id, changes: &[Change]) -> Result<Vec<u8>, AllocError>
     requires { Every HasRow changes.now }
-    ensures { IfOk result (λ made. made.items ≡ spell_prepared (record { unit = unit; changes = changes.now })) }
+    ensures { IfOk result (λ made. made.items ≡ out.items ++ spell_prepared (record { unit = unit; changes = changes.now })) }
 {
-    let out = with_byte(Vec::new(alloc), 1)?;
+    let out = with_byte(out, 1)?;
     let out = with_id(out, unit)?;
     with_changes(out, changes)
 }
 
-/// The entry of a unit whose rows have 1 to 16 values. It is read again where its changes are in order, each row's first value
-/// is its key, no key is NULL, and NULL stands only where it is spelled.
-pub fn spell_prepared(alloc: Global, unit: Id, changes: &[Change]) -> Result<Vec<u8>, AllocError>
+/// The entry of a unit whose rows have 1 to 16 values, appended to bytes, which are handed back, or given up where memory runs
+/// out. It is read again where its changes are in order, each row's first value is its key, no key is NULL, and NULL stands only
+/// where it is spelled.
+pub fn with_prepared(out: Vec<u8>, unit: Id, changes: &[Change]) -> Result<Vec<u8>, AllocError>
     requires { Every HasRow changes.now }
-    ensures bytes { IfOk result (λ made. made.items ≡ spell_prepared (record { unit = unit; changes = changes.now })) }
+    ensures bytes { IfOk result (λ made. made.items ≡ out.items ++ spell_prepared (record { unit = unit; changes = changes.now })) }
     ensures read { (nulls : Bool) → Every (IsPut nulls) changes.now → are_in_order changes.now ≡ true
         → prepared_in nulls (spell_prepared (record { unit = unit; changes = changes.now })) ≡ Some (record { unit = unit; changes = changes.now }) }
 {
     told_changes(changes);
-    spelled(alloc, unit, changes)
+    with_unit(out, unit, changes)
 }
 
 fn take_prepared(alloc: Global, nulls: bool, bytes: &[u8]) -> Result<(PreparedUnit, &[u8]), TakeErr>

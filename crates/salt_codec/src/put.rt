@@ -4,10 +4,10 @@ ghost use Rattle.salt_bytes.specs.Coordinator.{spell_text};
 ghost use Rattle.salt_bytes.specs.Ids.{spell_id};
 ghost use Rattle.salt_bytes.specs.Numbers.{spell_16, spell_32, spell_64};
 ghost use Rattle.salt_bytes.specs.Spellable.{AreSpellableValues, IsSpellableId, IsSpellableValue};
-ghost use Rattle.salt_bytes.specs.Taking.{spell_each};
-ghost use Rattle.salt_bytes.specs.Values.{is_row_length, spell_row, spell_value};
+ghost use Rattle.salt_bytes.specs.Values.{is_row_length, spell_value, spell_values};
 ghost use Rattle.std.specs.Int.{cast_unsigned, w64};
 ghost use Rattle.std.specs.Prelude.{IfOk, OnOk, [], length, true, ◌++◌, ◌∷◌, ◌≡◌};
+ghost use Rattle.std.specs.List.{flat_map};
 
 use salt_values::{Id, Text, Value};
 use std::alloc::AllocError;
@@ -98,7 +98,7 @@ pub fn with_value(out: Vec<u8>, value: &Value) -> Result<Vec<u8>, AllocError>
 
 /// Values, one behind the other.
 pub fn with_values(mut out: Vec<u8>, values: &[Value]) -> Result<Vec<u8>, AllocError>
-    ensures put { IfOk result (λ made. made.items ≡ out.items ++ spell_each spell_value values.now) }
+    ensures put { IfOk result (λ made. made.items ≡ out.items ++ flat_map spell_value values.now) }
     ensures spellable { OnOk result (AreSpellableValues true values.now) }
 {
     for value in values {
@@ -110,7 +110,7 @@ pub fn with_values(mut out: Vec<u8>, values: &[Value]) -> Result<Vec<u8>, AllocE
 /// A row, which has 1 to 16 values: their number, and then each.
 pub fn with_row(out: Vec<u8>, row: &[Value]) -> Result<Vec<u8>, AllocError>
     requires { is_row_length (length row.now) ≡ true }
-    ensures { IfOk result (λ made. made.items ≡ out.items ++ spell_row row.now) }
+    ensures { IfOk result (λ made. made.items ≡ out.items ++ spell_values row.now) }
 {
     let out = with_byte(out, row.len() as u8)?;
     with_values(out, row)

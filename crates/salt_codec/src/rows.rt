@@ -1,6 +1,6 @@
 //! Rows as bytes.
 
-ghost use Rattle.salt_bytes.specs.Values.{is_row_length, spell_row, take_row};
+ghost use Rattle.salt_bytes.specs.Values.{is_row_length, take_row, spell_values};
 ghost use Rattle.salt_codec.specs.Taking.{IsRowAtFront};
 ghost use Rattle.salt_codec.specs.declared.error.RowErr.TheVariants.{NotRow};
 ghost use Rattle.std.specs.Prelude.{Err, IfOk, None, if◌then◌else◌, is_ok, length, true, ◌++◌, ◌≡◌};
@@ -14,7 +14,7 @@ use std::alloc::{AllocError, Global};
 /// Appends the spelling of a row, which has 1 to 16 values: their number, and then each. Where memory runs out nothing is appended.
 pub fn put_row(out: &mut Vec<u8>, row: &Row) -> Result<(), AllocError>
     requires { is_row_length (length row.now) ≡ true }
-    ensures { out.new.items ≡ (if is_ok result then out.old.items ++ spell_row row.now else out.old.items) }
+    ensures { out.new.items ≡ (if is_ok result then out.old.items ++ spell_values row.now else out.old.items) }
 {
     let spelled = with_row(Vec::new(*out.allocator()), row.as_slice())?;
     out.extend_from_slice(&spelled)

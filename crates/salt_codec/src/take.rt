@@ -23,7 +23,6 @@ pub fn take_byte(bytes: &[u8]) -> Result<(u8, &[u8]), TakeErr>
     }
 }
 
-/// The first byte.
 /// So many bytes.
 pub fn take_bytes(bytes: &[u8], count: usize) -> Result<(&[u8], &[u8]), TakeErr>
     ensures { TakesBytes result (take_bytes count bytes.now) }
@@ -100,14 +99,14 @@ pub fn take_values(
 ) -> Result<(Row, &[u8]), TakeErr>
     ensures { Takes result (take_each (take_value nulls) count bytes.now) }
 {
-    let mut values = Items::new(alloc);
+    let mut values = Vec::with_capacity(alloc, count as usize)?;
     let mut rest = bytes;
     for _taken in 0..count {
         let (value, behind) = take_value(alloc, nulls, rest)?;
         values.push(value)?;
         rest = behind;
     }
-    Ok((values, rest))
+    Ok((Items::from_vec(values), rest))
 }
 
 /// A row; NULL only where it is spelled.

@@ -5,7 +5,7 @@ use Rattle.salt_ast.specs.declared.trees.Field.{Field}
 use Rattle.salt_ast.specs.declared.trees.TableDef.{TableDef}
 use Rattle.salt_commit.specs.Openings.{HasTables}
 use Rattle.salt_commit.specs.Stores.{reading}
-use Rattle.salt_stands.specs.Fitting.{are_of_columns, at_place, is_key_of, is_of_column, is_row_of, passes_checks, tables_of}
+use Rattle.salt_stands.specs.Fitting.{are_of_columns, is_key_of, is_of_column, is_row_of, passes_checks, tables_of}
 use Rattle.salt_eval.specs.Meets as eval
 use Rattle.salt_eval.specs.Meets.{meets_found, meets_table}
 use Rattle.salt_model.specs.Kept.{Definition}
@@ -20,11 +20,6 @@ use Rattle.std.proofs.Common.{Bool, List, None, Option, Some, [], ap, arith, fal
 use Rattle.std.proofs.lemmas.Bool.Decides.{nat_tests}
 use Rattle.std.specs.List.{list_all}
 use Rattle.std.specs.Prelude.{nat_lt, suc, take, zero, ◌&&◌, ◌<◌, ◌==◌, ◌≤◌}
-
-at_place_is : {A : Type 0} (xs : List A) (n : ℕ) → at_place xs n ≡ slice_get xs n
-at_place_is [] n = refl
-at_place_is (x ∷ xs) zero = refl
-at_place_is (x ∷ xs) (suc n) = at_place_is xs n
 
 pub nor : (b : Bool) → (b && false) ≡ false
 nor true = refl
@@ -53,15 +48,15 @@ row_of None row = refl
 row_of (Some d) row = ap (λ b. b && passes_checks d row) (of_columns d.columns row)
 
 -- what meets its table is a row of it
-pub is_row_at : (schema : List TableDef) (table : ℕ) (row : List Value) → meets_table schema table row ≡ true → is_row_of (at_place schema table) row ≡ true
-is_row_at schema table row meets = ap (λ o. is_row_of o row) (at_place_is schema table) ∙ row_of (slice_get schema table) row ∙ meets
+pub is_row_at : (schema : List TableDef) (table : ℕ) (row : List Value) → meets_table schema table row ≡ true → is_row_of (slice_get schema table) row ≡ true
+is_row_at schema table row meets = row_of (slice_get schema table) row ∙ meets
 
 lower : (a b : ℕ) → a < b → nat_lt a b ≡ true
 lower a b h = grind (arith, nat_tests)
 
 module _ (schema : List TableDef) (shape : Shape) (c : Coordinator Definition) (has : HasTables schema shape c) where
-  table_at : (table : ℕ) → at_place (tables_of c.definitions) table ≡ slice_get schema table
-  table_at table = at_place_is (tables_of c.definitions) table ∙ ap (λ (ds : List TableDef). slice_get ds table) has.tables
+  table_at : (table : ℕ) → slice_get (tables_of c.definitions) table ≡ slice_get schema table
+  table_at table = ap (λ (ds : List TableDef). slice_get ds table) has.tables
 
   pub row_fits : (table : ℕ) (row : List Value) → meets_table schema table row ≡ reading.fits_row c.definitions table row
   row_fits table row = sym (ap (λ o. is_row_of o row) (table_at table) ∙ row_of (slice_get schema table) row)

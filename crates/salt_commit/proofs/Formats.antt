@@ -12,11 +12,11 @@ use Rattle.salt_stands.specs.Coordinator.{Logs, coordinator_pair}
 use Rattle.salt_stands.specs.CoordinatorLog.{CoordinatorLog, Told, coordinator_generation, coordinator_in, heard, told_by_header, with_told}
 use Rattle.salt_stands.specs.Partition.{is_format_under}
 use Rattle.salt_stands.specs.PartitionLog.{PartitionLog, gathered, own_log, partition_in, with_prepared}
-use Rattle.salt_stands.specs.Words.{and_then, given}
 use Rattle.std.proofs.Common.{Bool, List, None, Option, Some, [], ap, arith, codes, false, refl, subst, true, ℕ, ◌<◌, ◌≡◌, ◌≤◌, ◌∙◌, ◌∷◌}
 use Rattle.std.proofs.lemmas.Bool.Decides.{nat_tests}
 use Rattle.std.specs.List.{list_all}
-use Rattle.std.specs.Prelude.{nat_le, nat_lt, ◌==◌, ◌||◌}
+use Rattle.std.specs.Prelude.{nat_le, nat_lt, ◌==◌, ◌||◌, option_and_then}
+use Rattle.std.specs.Bool.{then_some}
 
 -- whatever is taken has P
 record Gives {A : Type 0} (take : Take A) (P : A → Type 0) : Type 0 where
@@ -66,7 +66,7 @@ pub log_format : (p : ℕ) (entries : List (List ℕ)) (log : PartitionLog) → 
 log_format p [] log e = absurd (cc e)
 log_format p (first ∷ payloads) log e = by (partition_header_in first) refl e
   where
-    own : (h : PartitionHeader) (b : Bool) → and_then (λ own. with_prepared own (gathered (has_nulls own.format) (Some []) payloads)) (given b h) ≡ Some log → h.format ≡ log.header.format
+    own : (h : PartitionHeader) (b : Bool) → option_and_then (λ own. with_prepared own (gathered (has_nulls own.format) (Some []) payloads)) (then_some b h) ≡ Some log → h.format ≡ log.header.format
     own h false e' = absurd (cc e')
     own h true e' = found (gathered (has_nulls h.format) (Some []) payloads) e'
       where
@@ -74,7 +74,7 @@ log_format p (first ∷ payloads) log e = by (partition_header_in first) refl e
         found None e'' = absurd (cc e'')
         found (Some ps) e'' = let same : record { header = h; prepared = ps } ≡ log = cc e'' in ap (λ (l : PartitionLog). l.header.format) same
 
-    by : (o : Option PartitionHeader) → partition_header_in first ≡ o → and_then (λ h. own_log p h payloads) o ≡ Some log → log.header.format < 3
+    by : (o : Option PartitionHeader) → partition_header_in first ≡ o → option_and_then (λ h. own_log p h payloads) o ≡ Some log → log.header.format < 3
     by None is e' = absurd (cc e')
     by (Some h) is e' = let f = header_format first h is in let same = own h (h.part == p) e' in omega (arith, f, same)
 
@@ -124,7 +124,7 @@ coordinator_format (first ∷ payloads) log e = by (header_in first) refl e
     found h None e' = absurd (cc e')
     found h (Some t) e' = let same : record { header = h; told = t } ≡ log = cc e' in ap (λ (l : CoordinatorLog). l.header.format) same
 
-    by : (o : Option CoordinatorHeader) → header_in first ≡ o → and_then (λ h. with_told h (heard h.shape.parts (Some (told_by_header h)) payloads)) o ≡ Some log → log.header.format ≤ 3
+    by : (o : Option CoordinatorHeader) → header_in first ≡ o → option_and_then (λ h. with_told h (heard h.shape.parts (Some (told_by_header h)) payloads)) o ≡ Some log → log.header.format ≤ 3
     by None is e' = absurd (cc e')
     by (Some h) is e' = let f = coordinator_header_format first h is in let same = found h (heard h.shape.parts (Some (told_by_header h)) payloads) e' in omega (arith, f, same)
 

@@ -2,6 +2,7 @@ mod Applying
 pub mod Beginning
 mod Committed
 mod Decided
+mod Ended
 mod Entered
 mod Firsts
 mod Fit

@@ -20,7 +20,7 @@ use Rattle.salt_eval.specs.Meets.{meets_table}
 use Rattle.salt_eval.specs.Scans.{IsKeyed}
 use Rattle.salt_eval.specs.Views.{is_next, next_row, rows_after, tables_of}
 use Rattle.salt_model.specs.Kept.{Definition}
-use Rattle.salt_model.specs.Tables.{Entry, Tables, is_within, key_of, place, place_cmp, place_total, row_at}
+use Rattle.salt_model.specs.Tables.{Entry, Tables, is_within, place, place_cmp, place_total, row_at}
 use Rattle.salt_model.specs.Words.{Every}
 use Rattle.salt_model.specs.declared.locks.Reach.{Reach}
 use Rattle.salt_model.specs.declared.places.Place.{Place}
@@ -39,6 +39,7 @@ use Rattle.std.specs.FinMap.Entries.{below_all, find, find-where_key, is_sorted,
 use Rattle.std.specs.Ordering.{match_ordering, ordering_reverse}
 use Rattle.std.specs.Prelude.{Bool, cond, false, if◌then◌else◌, ◌&&◌, ◌==◌}
 use Rattle.std.specs.declared.cmp.Ordering.TheVariants.{Greater, Less}
+use Rattle.salt_values.specs.Value.{key_of}
 use lib.Dec.{T}
 
 -- ROWS IN ORDER

@@ -20,7 +20,7 @@ use Rattle.salt_ranges.specs.Ranges.{has_key}
 use Rattle.salt_ranges.specs.declared.range.KeyRange.{KeyRange}
 use Rattle.salt_stands.proofs.Booleans.{left}
 use Rattle.salt_stands.proofs.Places.{or_row}
-use Rattle.salt_values.specs.Value.{value_cmp}
+use Rattle.salt_values.specs.Value.{key_of, value_cmp}
 use Rattle.std.proofs.lemmas.Bool.Decides.{Decides-eqb}
 use Rattle.std.proofs.lemmas.Cmp.{tied_itself}
 use Rattle.std.specs.Cmp.{nat_cmp_total}
@@ -122,8 +122,8 @@ module _ (t : ℕ) (range : KeyRange) (after : Option Value) where
   pub next_merged : (A B C : Tables) → ((q : Place) → row_at q C ≡ or_row (row_at q A) (row_at q B)) → IsKeyed A → IsKeyed B → lesser_row (next_row t range after A) (next_row t range after B) ≡ next_row t range after C
   next_merged A B C all keyed_a keyed_b = by (where_key place_cmp passes A.list) (where_key place_cmp passes B.list) refl refl
     where
-      key_at : (s : Tables) → IsKeyed s → (e : Entry) → row_at e.0 s ≡ Some e.1 → Rattle.salt_model.specs.Tables.key_of e.1 ≡ e.0.key
-      key_at s keyed e is = subst (λ o. IfSome o (λ row. Rattle.salt_model.specs.Tables.key_of row ≡ e.0.key)) is (keyed e.0)
+      key_at : (s : Tables) → IsKeyed s → (e : Entry) → row_at e.0 s ≡ Some e.1 → key_of e.1 ≡ e.0.key
+      key_at s keyed e is = subst (λ o. IfSome o (λ row. key_of row ≡ e.0.key)) is (keyed e.0)
 
       by : (la lb : List Entry) → where_key place_cmp passes A.list ≡ la → where_key place_cmp passes B.list ≡ lb
           → lesser_row (option_map (λ e. e.1) (first_of_list la)) (option_map (λ e. e.1) (first_of_list lb)) ≡ next_row t range after C
@@ -152,10 +152,10 @@ module _ (t : ℕ) (range : KeyRange) (after : Option Value) where
           gb : IsFirst passes (λ q. find place_cmp q B.list) f.0 f.1
           gb = listed-first passes B.list B.sorted f fs b
 
-          compared : value_cmp (Rattle.salt_model.specs.Tables.key_of f.1) (Rattle.salt_model.specs.Tables.key_of e.1) ≡ place_cmp f.0 e.0
-          compared = ap (λ k. value_cmp k (Rattle.salt_model.specs.Tables.key_of e.1)) (key_at B keyed_b f gb.there) ∙ ap (value_cmp f.0.key) (key_at A keyed_a e ga.there) ∙ sym (by_keys f.0 e.0 gb.passed ga.passed)
+          compared : value_cmp (key_of f.1) (key_of e.1) ≡ place_cmp f.0 e.0
+          compared = ap (λ k. value_cmp k (key_of e.1)) (key_at B keyed_b f gb.there) ∙ ap (value_cmp f.0.key) (key_at A keyed_a e ga.there) ∙ sym (by_keys f.0 e.0 gb.passed ga.passed)
 
-          chosen : (o : Ordering) → place_cmp f.0 e.0 ≡ o → (if is_lt (value_cmp (Rattle.salt_model.specs.Tables.key_of f.1) (Rattle.salt_model.specs.Tables.key_of e.1)) then Some f.1 else Some e.1) ≡ (if is_lt o then Some f.1 else Some e.1)
+          chosen : (o : Ordering) → place_cmp f.0 e.0 ≡ o → (if is_lt (value_cmp (key_of f.1) (key_of e.1)) then Some f.1 else Some e.1) ≡ (if is_lt o then Some f.1 else Some e.1)
           chosen o is = ap (λ k. if is_lt k then Some f.1 else Some e.1) (compared ∙ is)
 
           kept : ((q : Place) → place_cmp q e.0 ≡ Less → place_cmp q f.0 ≡ Less) → Some e.1 ≡ next_row t range after C

@@ -32,7 +32,7 @@ use Rattle.salt_stands.specs.Partition.{part_at, part_pair}
 use Rattle.salt_stands.specs.Pieces.{IsCoordinator, PartStands, listed, other_log, tables_of}
 use Rattle.salt_stands.specs.Stands as opening
 use Rattle.salt_stands.specs.Stands.{Opening, Stands, are_spent, is_same_kind, is_same_shape, logs_of, of_coordinator, of_parts, opening_of, parts_at}
-use Rattle.salt_stands.specs.Words.{and_then, each_from, given, if_sound, or_fault}
+use Rattle.salt_stands.specs.Words.{each_from, if_sound, or_fault}
 use Rattle.salt_values.specs.declared.cont.Cont.{Cont}
 use Rattle.salt_place.specs.declared.placement.PlaceKind.TheVariants.{Bands, Remainder}
 use Rattle.salt_place.specs.declared.placement.PlaceKind.{PlaceKind}
@@ -40,7 +40,8 @@ use Rattle.salt_place.specs.declared.placement.Shape.{Shape}
 use Rattle.std.proofs.Common.{Bool, Err, IsTrue, List, None, Ok, Option, Result, Some, [], ap, arith, false, inl, inr, refl, subst, sym, true, ℕ, ◌+◌, ◌<◌, ◌≡◌, ◌∙◌, ◌∷◌}
 use Rattle.std.proofs.lemmas.Bool.Decides.{Decides-eqb}
 use Rattle.std.specs.List.{list_all}
-use Rattle.std.specs.Prelude.{IfOk, option_map, suc, zero, ◌&&◌, ◌==◌}
+use Rattle.std.specs.Prelude.{IfOk, if◌then◌else◌, not, option_and_then, option_map, suc, zero, ◌&&◌, ◌==◌}
+use Rattle.std.specs.Bool.{then_some}
 
 -- SHAPES
 
@@ -77,14 +78,14 @@ of_log log c e = by (defined_by reading (Some []) log.told.definitions) (moved l
         record { defined = is; moves = moves; rise = left (do_rise log.header.conts) (named && decided) sound; named = left named decided rest; decided = right named decided rest }
 
     with_sound : (ds : List Definition) (cs : List Cont) (b : Bool) → defined_by reading (Some []) log.told.definitions ≡ Some ds → moved log.header.format (Some log.header.conts) log.told.decided ≡ Some cs → are_sound reading log ds ≡ b
-        → given b (record { log = log; definitions = ds; conts = cs }) ≡ Some c → IsOfLog c log
+        → then_some b (record { log = log; definitions = ds; conts = cs }) ≡ Some c → IsOfLog c log
     with_sound ds cs false is moves sound e' = absurd (cc e')
     with_sound ds cs true is moves sound e' =
         let same : record { log = log; definitions = ds; conts = cs } ≡ c = cc e' in
         subst (λ (k : Coordinator Definition). IsOfLog k log) same (record { log_is = refl; is = facts ds cs is moves sound })
 
     by : (o : Option (List Definition)) (m : Option (List Cont)) → defined_by reading (Some []) log.told.definitions ≡ o → moved log.header.format (Some log.header.conts) log.told.decided ≡ m
-        → and_then (λ ds. and_then (λ cs. given (are_sound reading log ds) (record { log = log; definitions = ds; conts = cs })) m) o ≡ Some c → IsOfLog c log
+        → option_and_then (λ ds. option_and_then (λ cs. then_some (are_sound reading log ds) (record { log = log; definitions = ds; conts = cs })) m) o ≡ Some c → IsOfLog c log
     by None m is moves e' = absurd (cc e')
     by (Some ds) None is moves e' = absurd (cc e')
     by (Some ds) (Some cs) is moves e' = with_sound ds cs (are_sound reading log ds) is moves refl e'
@@ -95,13 +96,10 @@ judged_as which log c e = ap (λ o. or_fault (device_of 0 which) (option_map Som
 -- WHAT AN OPENING ANSWERS
 
 asked_as : (c : Coordinator Definition) (asked : Shape) (same spent : Bool) → Result (List Tables) ℕ → Opening Definition
-asked_as c asked same spent parts = elim same [
-  | false ↦ opening.OtherShape c.log.header.shape asked
-  | true ↦ elim spent [
-    | true ↦ opening.NumbersSpent c.log.told.boot c.log.told.decisions
-    | false ↦ of_parts c parts
-  ]
-]
+asked_as c asked same spent parts =
+    if not same then opening.OtherShape c.log.header.shape asked else
+    if spent then opening.NumbersSpent c.log.told.boot c.log.told.decisions else
+    of_parts c parts
 
 module _ (bytes : ℕ → List ℕ) (asked : Shape) (c : Coordinator Definition) (at : coordinator_at reading (logs_of bytes) ≡ Ok (Some c)) where
   answered : opening_of reading bytes asked ≡ asked_as c asked (is_same_shape c.log.header.shape asked) (are_spent c.log.told.boot c.log.told.decisions) (parts_at reading c (logs_of bytes) bytes)

@@ -1,12 +1,14 @@
--- What a pair of logs answers, as an opening of the store answers it.
+-- What a pair of logs or a call on disks answers, as an opening of the store answers it.
 use Rattle.salt_bytes.specs.Generations.{Pair}
-use Rattle.salt_commit.specs.Openings.{OpeningFails, PartFails}
+use Rattle.salt_commit.specs.Openings.{OpeningFails, PartFails, RefusesWhere}
 use Rattle.salt_commit.specs.Prepares.{FullWhere}
 use Rattle.salt_commit.specs.Stores.{reading}
-use Rattle.salt_decisions.specs.Errors.{disk_err_in, open_err, open_err_of_pair}
+use Rattle.salt_decisions.specs.Errors.{disk_err_in, open_err, open_err_of, open_err_of_pair}
 use Rattle.salt_decisions.specs.Opened.{PeekFails}
 use Rattle.salt_decisions.specs.declared.error.OpenErr.{OpenErr}
+use Rattle.salt_disk.specs.Disks.{OnlyFails}
 use Rattle.salt_disk.specs.declared.disks.DiskErr.TheVariants.{Failed, Full, Memory, Stopped}
+use Rattle.salt_disk.specs.declared.disks.DiskErr.{DiskErr}
 use Rattle.salt_gatelog.specs.Pair.{pair_err_of}
 use Rattle.salt_gatelog.specs.declared.pair.PairErr.TheVariants.{Disk, NotSalt}
 use Rattle.salt_gatelog.specs.declared.pair.PairErr.{PairErr}
@@ -17,7 +19,7 @@ use Rattle.salt_stands.specs.CoordinatorLog.{CoordinatorLog}
 use Rattle.salt_stands.specs.Stands as opening
 use Rattle.salt_stands.specs.Stands.{logs_of, of_coordinator}
 use Rattle.salt_values.specs.declared.id.Id.{Id}
-use Rattle.std.proofs.Common.{Err, List, Result, ap, inl, refl, sym, ℕ, ◌≡◌, ◌∙◌}
+use Rattle.std.proofs.Common.{Err, List, Result, Some, ap, inl, refl, sym, ℕ, ◌≡◌, ◌∙◌}
 
 -- a partition's
 pub fails_so : (bytes : ℕ → List ℕ) (boot : ℕ) (us : List Id) (p : ℕ) (e : PairErr) → IsWhy bytes boot us p e → PartFails bytes boot us p (open_err_of_pair e)
@@ -26,6 +28,13 @@ fails_so bytes boot us p (Disk Failed) h = tt
 fails_so bytes boot us p (Disk Stopped) h = absurd h
 fails_so bytes boot us p (Disk (Full dev)) h = absurd h
 fails_so bytes boot us p (Disk Memory) h = tt
+
+-- a call's that only fails
+pub fails_only : (is_fault : ℕ → Type 0) (e : DiskErr) → OnlyFails (Some e) → RefusesWhere is_fault (open_err_of e)
+fails_only is_fault Failed h = tt
+fails_only is_fault Stopped h = absurd h
+fails_only is_fault (Full dev) h = absurd h
+fails_only is_fault Memory h = tt
 
 same_err : (e : PairErr) → disk_err_in (open_err_of_pair e) ≡ pair_err_of e
 same_err (NotSalt dev) = refl

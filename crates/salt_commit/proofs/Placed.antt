@@ -14,7 +14,7 @@ use Rattle.salt_disk.specs.Disks.{View}
 use Rattle.salt_eval.proofs.InOrder.{less_is, parted}
 use Rattle.salt_eval.specs.Meets.{meets_table}
 use Rattle.salt_model.specs.Kept.{Definition}
-use Rattle.salt_model.specs.Tables.{Entry, Tables, key_of, place_cmp, place_total, row_at}
+use Rattle.salt_model.specs.Tables.{Entry, Tables, place_cmp, place_total, row_at}
 use Rattle.salt_model.specs.Words.{Every}
 use Rattle.salt_model.specs.declared.places.Place.{Place}
 use Rattle.salt_partition.specs.Partitions.{IsPartition}
@@ -37,6 +37,7 @@ use Rattle.std.specs.FinMap.Entries.{below_all, find, is_sorted}
 use Rattle.std.specs.List.{list_all}
 use Rattle.std.specs.Ordering.{is_eq}
 use Rattle.std.specs.Prelude.{IfSome, cond, slice_get, suc, zero, ◌==◌}
+use Rattle.salt_values.specs.Value.{key_of}
 use lib.Dec.{T}
 
 -- ROWS OF A LIST in order

@@ -20,13 +20,13 @@ use Rattle.salt_stands.specs.Coordinator.{Coordinator, coordinator_pair}
 use Rattle.salt_stands.specs.FirstOpening.{first_coordinator}
 use Rattle.salt_stands.specs.Pieces.{IsCoordinator, PartView, with_definition}
 use Rattle.salt_stands.specs.Stands.{logs_of}
-use Rattle.salt_stands.specs.Words.{and_then, given}
 use Rattle.salt_tokens.specs.Scanning.{first_at, lex, quoted_at}
 use Rattle.salt_tokens.specs.Spelling.{keyword_of, sign_of}
 use Rattle.salt_place.specs.declared.placement.PlaceKind.TheVariants.{Remainder}
 use Rattle.salt_place.specs.declared.placement.Shape.{Shape}
 use Rattle.std.proofs.Common.{IsTrue, List, Some, [], ap, false, refl, subst, sym, ℕ, ◌++◌, ◌≡◌, ◌∙◌, ◌∷◌}
-use Rattle.std.specs.Prelude.{codes, not}
+use Rattle.std.specs.Prelude.{codes, not, option_and_then}
+use Rattle.std.specs.Bool.{then_some}
 
 pub opens_again : (d : View) (x : Store) (which : WhichLog) (c : Coordinator Definition) (v : ℕ → PartView) → IsStore reading d x which c v → IsTrue d.told → IsSchemaWhere (tables_of c.definitions) (coordinator_pair (logs_of d.bytes))
 opens_again d x which c v is told =
@@ -62,7 +62,7 @@ may_define = record { reads = text_read; accepted = accepted }
 -- and the log that then counts is that of a schema with it
 is_of_table : IsCoordinator reading with_table
 is_of_table = record {
-  defined = ap (λ o. and_then (λ d. given (not (is_refused [] d)) ([] ++ d ∷ [])) o) text_read ∙ ap (λ b. given (not b) (OfTable table ∷ [])) accepted;
+  defined = ap (λ o. option_and_then (λ d. then_some (not (is_refused [] d)) ([] ++ d ∷ [])) o) text_read ∙ ap (λ b. then_some (not b) (OfTable table ∷ [])) accepted;
   moves = refl;
   rise = refl;
   named = refl;

@@ -13,7 +13,7 @@ use Rattle.salt_eval.proofs.Scanning.{first-found, rows_after-next}
 use Rattle.salt_eval.specs.Meets.{meets_table}
 use Rattle.salt_eval.specs.Views.{is_next, next_row, rows_after}
 use Rattle.salt_model.specs.Kept.{Definition}
-use Rattle.salt_model.specs.Tables.{Tables, changed_at, key_of, make_change, no_rows, place, place_cmp, row_at, with_changes}
+use Rattle.salt_model.specs.Tables.{Tables, changed_at, make_change, no_rows, place, place_cmp, row_at, with_changes}
 use Rattle.salt_values.specs.Id.{has_id}
 use Rattle.salt_model.specs.declared.places.Place.{Place}
 use Rattle.salt_ranges.specs.declared.range.KeyRange.{KeyRange}
@@ -34,6 +34,7 @@ use Rattle.std.proofs.Common.{Bool, IsTrue, List, None, Option, Some, [], ap, ar
 use Rattle.std.specs.List.{list_all}
 use Rattle.std.specs.Ordering.{is_eq}
 use Rattle.std.specs.Prelude.{cond, nat_le, nat_lt, suc, zero, ◌==◌}
+use Rattle.salt_values.specs.Value.{key_of}
 
 -- each row fits the table of its place
 abbrev pub AreFit : {D : Type 0} → Reading D → Coordinator D → Tables → Type 0

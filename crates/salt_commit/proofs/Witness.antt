@@ -28,13 +28,12 @@ use Rattle.salt_stands.specs.FirstOpening.{first_coordinator, first_part_header,
 use Rattle.salt_stands.specs.Partition.{part_tables}
 use Rattle.salt_stands.specs.PartitionLog.{own_log, partition_generation, partition_in}
 use Rattle.salt_stands.specs.Stands.{logs_of}
-use Rattle.salt_stands.specs.Words.{and_then}
 use Rattle.salt_place.specs.declared.placement.PlaceKind.TheVariants.{Remainder}
 use Rattle.salt_place.specs.declared.placement.Shape.{Shape}
-use Rattle.std.proofs.Common.{List, Some, [], ap, arith, false, refl, suc, true, zero, ℕ, ◌++◌, ◌≡◌, ◌∙◌, ◌∷◌}
+use Rattle.std.proofs.Common.{List, None, Some, [], ap, arith, false, refl, suc, true, zero, ℕ, ◌++◌, ◌≡◌, ◌∙◌, ◌∷◌}
 use Rattle.salt_model.specs.Tables.{with_changes}
 use Rattle.std.proofs.Common.{subst, sym}
-use Rattle.std.specs.Prelude.{IfSome, length, slice_get}
+use Rattle.std.specs.Prelude.{IfSome, length, slice_get, option_and_then}
 
 abbrev shape : Shape
 shape = record { parts = 1; kind = Remainder }
@@ -52,7 +51,7 @@ abbrev view : View
 view = record { count = 5; limit = λ dev. 1000; can_stop = false; told = true; bytes = bytes; image = λ dev c. c ≡ bytes dev; faults = 0; armed = [] }
 
 abbrev gate : GateLog
-gate = record { dev = 0; end = 57; count = 1; next = 0; place = 0 }
+gate = record { dev = 0; end = 57; count = 1; next = 0; place = 0; block = None }
 
 abbrev counting : Decisions
 counting = record { which = A; gate = gate; format = 3; generation = 1; shape = shape; boot = 0; decisions = 0; definitions = []; conts = [] }
@@ -72,6 +71,7 @@ is_log = record {
   next = omega arith;
   within = omega arith;
   place = λ told. refl;
+  block = tt;
 }
 
 blank_behind : pair_of coordinator_generation (IsRead (begun shape)) (content_of coordinator_in (entries_in [])) ≡ Counts LogA (begun shape)
@@ -96,7 +96,7 @@ decisions_stand = record {
 }
 
 abbrev part_gate : GateLog
-part_gate = record { dev = 2; end = 28; count = 1; next = 0; place = 0 }
+part_gate = record { dev = 2; end = 28; count = 1; next = 0; place = 0; block = None }
 
 part_end : 28 ≡ length (spelled (header ∷ []))
 unfolding framed
@@ -113,10 +113,11 @@ part_log = record {
   next = omega arith;
   within = omega arith;
   place = λ told. refl;
+  block = tt;
 }
 
 part_reads : partition_in 0 (header ∷ []) ≡ Some (first_view 2 0).log
-part_reads = ap (and_then (λ h. own_log 0 h [])) (reads_partition_header (first_part_header 2 0) (record { format = refl; generation = omega arith; first = refl; count = omega arith; sides = refl }))
+part_reads = ap (option_and_then (λ h. own_log 0 h [])) (reads_partition_header (first_part_header 2 0) (record { format = refl; generation = omega arith; first = refl; count = omega arith; sides = refl }))
 
 part_behind : pair_of partition_generation (IsRead (first_view 2 0).log) (content_of (partition_in 0) (entries_in [])) ≡ Counts LogA (first_view 2 0).log
 unfolding entries_in

@@ -1,11 +1,11 @@
 -- Rows that are loaded, and rows that were read.
 use Rattle.salt_ast.specs.declared.trees.TableDef.{TableDef}
-use Rattle.salt_stands.specs.Fitting.{at_place, is_row_of}
+use Rattle.salt_stands.specs.Fitting.{is_row_of}
 use Rattle.salt_commit.specs.Reads.{ArePlaced}
 use Rattle.salt_eval.specs.Meets.{meets_table}
 use Rattle.salt_eval.specs.Views.{tables_of}
 use Rattle.salt_model.specs.Kept.{Definition}
-use Rattle.salt_model.specs.Tables.{Entry, Tables, is_within, key_of, row_at}
+use Rattle.salt_model.specs.Tables.{Entry, Tables, is_within, row_at}
 use Rattle.salt_model.specs.Words.{Every}
 use Rattle.salt_model.specs.declared.locks.Reach.{Reach}
 use Rattle.salt_model.specs.declared.places.Place.{Place}
@@ -17,7 +17,8 @@ use Rattle.salt_stands.specs.Pieces.{PartView}
 use Rattle.salt_stands.specs.Tables.{joined}
 use Rattle.salt_place.specs.declared.placement.Shape.{Shape}
 use Rattle.salt_values.specs.declared.value.Value.{Value}
-use Rattle.std.specs.Prelude.{Bool, List, None, if◌then◌else◌, map, true, ℕ, ◌&&◌, ◌==◌, ◌≡◌}
+use Rattle.std.specs.Prelude.{Bool, List, None, if◌then◌else◌, map, true, ℕ, ◌&&◌, ◌==◌, ◌≡◌, slice_get}
+use Rattle.salt_values.specs.Value.{key_of}
 
 -- these are the rows of a reach, and no others
 abbrev pub IsPartOf : Reach → (part whole : Tables) → Type 0
@@ -25,7 +26,7 @@ IsPartOf r part whole = (q : Place) → row_at q part ≡ (if is_within r q then
 
 -- the row fits its table, and stands at the place of its key
 abbrev pub IsRowAt : List TableDef → Place → List Value → Type 0
-IsRowAt schema p row = (is_row_of (at_place schema p.table) row ≡ true) × (p.key ≡ key_of row)
+IsRowAt schema p row = (is_row_of (slice_get schema p.table) row ≡ true) × (p.key ≡ key_of row)
 
 abbrev pub AreRowsOf : List TableDef → Tables → Type 0
 AreRowsOf schema es = Every (λ (e : Entry). IsRowAt schema e.0 e.1) es.list

@@ -10,7 +10,7 @@ ghost use Rattle.salt_disk.specs.Disks.{HasCause, KeepsAll, OnlyFails, UnlessDow
 ghost use Rattle.salt_eval.specs.Meets.{meets_table};
 ghost use Rattle.salt_eval.specs.Views as view;
 ghost use Rattle.salt_model.specs.Kept.{Definition};
-ghost use Rattle.salt_model.specs.Tables.{key_of, place, place_cmp};
+ghost use Rattle.salt_model.specs.Tables.{place, place_cmp};
 ghost use Rattle.salt_stands.specs.Commits.{found_of};
 ghost use Rattle.salt_stands.specs.Coordinator.{Coordinator};
 ghost use Rattle.salt_stands.specs.Pieces.{PartView};
@@ -18,6 +18,7 @@ ghost use Rattle.salt_place.specs.Placement.{GivesPlaceOf, TakesEachKey};
 ghost use Rattle.std.specs.BTreeMap.{insert_entry};
 ghost use Rattle.std.specs.Prelude.{IfOk, IsTrue, OnOk, false, length, true, ℕ, ◌<◌, ◌≡◌};
 ghost use Rattle.std.specs.Result.{result_err};
+ghost use Rattle.salt_values.specs.Value.{key_of};
 
 use crate::error::StoreErr;
 use crate::store::Store;

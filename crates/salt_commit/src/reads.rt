@@ -2,7 +2,7 @@
 
 ghost use Rattle.salt_bytes.specs.Generations.{WhichLog};
 ghost use Rattle.salt_commit.specs.Errors.{store_err};
-ghost use Rattle.salt_commit.specs.Reads.{StandsInPlace};
+ghost use Rattle.salt_commit.specs.Reads.{StandsInPlace, is_over, is_past};
 ghost use Rattle.salt_commit.specs.Stores.{IsStore, StandsOnDevices, reading, row_in, rows_of_store};
 ghost use Rattle.salt_disk.specs.Disks.{HasCause, KeepsAll, OnlyFails, UnlessDown};
 ghost use Rattle.salt_eval.specs.Views.{next_row};
@@ -22,6 +22,26 @@ use salt_disk::Disks;
 use salt_place::{PlaceKind, Placement, one_part};
 use salt_ranges::KeyRange;
 use salt_values::{Key, Row};
+
+/// Whether a key is at the upper end or above it.
+fn is_past(hi: &Option<Key>, key: &Key) -> bool
+    ensures { result ≡ is_past hi.now key.now }
+{
+    match hi {
+        Some(hi) => hi <= key,
+        None => false,
+    }
+}
+
+/// Whether no key of the range is behind.
+fn is_over(range: &KeyRange, after: Option<&Key>) -> bool
+    ensures { result ≡ is_over range.now (option_copied after.entry) }
+{
+    match after {
+        Some(after) => is_past(&range.hi, after),
+        None => false,
+    }
+}
 
 impl Store {
     /// The row of a key, `None` exactly where there is none. Where memory runs out the store stands as before.
@@ -96,9 +116,9 @@ impl Store {
         Ok(row)
     }
 
-    /// The row of the least key in the range that is above `after`, where one is given; `None` exactly where there is none. One
-    /// partition is asked where the range tells that its keys stand in one, and else each. Where memory runs out the store
-    /// stands as before.
+    /// The row of the least key in the range that is above `after`, where one is given; `None` exactly where there is none. Behind the
+    /// range's end none is asked, else one partition where the range tells that its keys stand in one, and else each. Where memory
+    /// runs out the store stands as before.
     pub fn next_in<D: Disks, F: Fn(PlaceKind, &Key, u32) -> u32>(
         &mut self,
         disks: &mut D,
@@ -119,6 +139,9 @@ impl Store {
         ensures cause { HasCause (D.view disks.old) (D.view disks.new) (store_err result) }
         ensures answers { OnlyFails (store_err result) }
     {
+        if is_over(range, after) {
+            return Ok(None);
+        }
         match one_part(place, self.decisions.shape(), range) {
             Some(number) => self.next_in_part(disks, number, table, range, after),
             None => self.next_in_all(disks, table, range, after),

@@ -31,7 +31,6 @@ use Rattle.salt_stands.specs.LogDevices.{IsCoordinatorLog}
 use Rattle.salt_stands.specs.OpenConts.{do_rise}
 use Rattle.salt_stands.specs.Pieces.{other_log}
 use Rattle.salt_stands.specs.Stands.{is_same_kind, is_same_shape, logs_of}
-use Rattle.salt_stands.specs.Words.{and_then}
 use Rattle.salt_place.specs.Placement.{IsParts}
 use Rattle.salt_values.specs.declared.cont.Cont.{Cont}
 use Rattle.salt_place.specs.declared.placement.PlaceKind.TheVariants.{Bands, Remainder}
@@ -39,7 +38,7 @@ use Rattle.salt_place.specs.declared.placement.PlaceKind.{PlaceKind}
 use Rattle.salt_place.specs.declared.placement.Shape.{Shape}
 use Rattle.std.proofs.Common.{Bool, IsTrue, List, None, Option, Some, [], ap, arith, false, inl, inr, length, refl, subst, sym, true, ℕ, ◌+◌, ◌<◌, ◌≡◌, ◌≢◌, ◌≤◌, ◌⊎◌, ◌∙◌, ◌∷◌}
 use Rattle.std.proofs.lemmas.Bool.Decides.{Decides-eqb, nat_tests}
-use Rattle.std.specs.Prelude.{◌&&◌}
+use Rattle.std.specs.Prelude.{◌&&◌, option_and_then}
 
 -- BLANK DEVICES
 
@@ -126,7 +125,7 @@ first_is_spellable asked parts = record {
 
 pub first_log : (asked : Shape) (payload : List ℕ) → IsParts asked.parts → payload ≡ first_payload asked → coordinator_in (payload ∷ []) ≡ Some (begun asked)
 first_log asked payload parts is =
-    ap (and_then (λ h. with_told h (heard h.shape.parts (Some (told_by_header h)) []))) (ap header_in is ∙ reads_header (first_header asked 3) (first_is_spellable asked parts))
+    ap (option_and_then (λ h. with_told h (heard h.shape.parts (Some (told_by_header h)) []))) (ap header_in is ∙ reads_header (first_header asked 3) (first_is_spellable asked parts))
 
 settled_kept : (d e : View) (dev : ℕ) → IsUnchanged d e dev → IsSettled d dev → IsSettled e dev
 settled_kept d e dev same settled c left = settled c (same.images c left) ∙ sym same.bytes

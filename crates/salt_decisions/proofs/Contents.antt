@@ -15,8 +15,8 @@ use Rattle.salt_gatelog.proofs.Bytes.{entries_in-closed}
 use Rattle.salt_gatelog.specs.Log.{IsLog, device_of}
 use Rattle.salt_gatelog.specs.declared.log.GateLog.{GateLog}
 use Rattle.salt_stands.specs.CoordinatorLog.{coordinator_in, heard, told_by_header, with_told}
-use Rattle.salt_stands.specs.Words.{and_then}
 use Rattle.std.proofs.Common.{IsTrue, List, None, Option, Some, [], ap, arith, drop, false, refl, slice_get, sym, true, ℕ, ◌≡◌, ◌∙◌, ◌∷◌}
+use Rattle.std.specs.Prelude.{option_and_then}
 
 -- the bytes of a log's device stand for its entries
 pub log_bytes : (d : View) (gate : GateLog) (entries : List (List ℕ)) → IsTrue d.told → IsLog d gate entries → entries_in (d.bytes (device_of gate)) ≡ Some entries
@@ -35,11 +35,11 @@ pub outside : (entries : List (List ℕ)) (first : List ℕ) (bytes : List ℕ) 
 outside entries first bytes is stands none = ap (content_of coordinator_in) (stands ∙ ap (λ (es : List (List ℕ)). Some es) (first_of entries first is)) ∙ ap read_or_outside none
 
 pub no_header : (first : List ℕ) (ps : List (List ℕ)) → header_in first ≡ None → coordinator_in (first ∷ ps) ≡ None
-no_header first ps none = ap (and_then (λ h. with_told h (heard h.shape.parts (Some (told_by_header h)) ps))) none
+no_header first ps none = ap (option_and_then (λ h. with_told h (heard h.shape.parts (Some (told_by_header h)) ps))) none
 
 module _ (header : Header) (first : List ℕ) (reads : header_in first ≡ Some (header_of header)) where
   by_header : (ps : List (List ℕ)) → coordinator_in (first ∷ ps) ≡ with_told (header_of header) (heard header.shape.parts (Some (told_by_header (header_of header))) ps)
-  by_header ps = ap (and_then (λ h. with_told h (heard h.shape.parts (Some (told_by_header h)) ps))) reads
+  by_header ps = ap (option_and_then (λ h. with_told h (heard h.shape.parts (Some (told_by_header h)) ps))) reads
 
   module _ (d e : View) (gate gate' : GateLog) (entries : List (List ℕ)) (is : IsLog d gate entries) (stands : IsTrue d.told → Some first ≡ slice_get entries 0) (said : Said)
       (is' : IsLog e gate' entries) (same : device_of gate' ≡ device_of gate) (told : IsTrue e.told → IsTrue d.told) where

@@ -1,11 +1,12 @@
 -- Things taken one behind the other: with one more, and where the next is misspelled.
-use Rattle.salt_bytes.specs.Taking.{Take, spell_each, take_each}
+use Rattle.salt_bytes.specs.Taking.{Take, take_each}
 use Rattle.salt_codec.proofs.Values.{Took, took_fails, took_next}
 use Rattle.salt_codec.specs.Taking.{Takes, TakesAs}
 use Rattle.salt_codec.specs.declared.error.TakeErr.TheVariants.{Memory, Misspelled}
 use Rattle.salt_codec.specs.declared.error.TakeErr.{TakeErr}
 use Rattle.std.proofs.Common.{Err, List, Some, [], ap, refl, ℕ, ◌++◌, ◌+◌, ◌<◌, ◌≡◌, ◌∙◌, ◌∷◌}
 use Rattle.std.specs.Prelude.{map}
+use Rattle.std.specs.List.{flat_map}
 
 pub map_push : {A B : Type 0} (f : A → B) (xs : List A) (x : A) → map f (xs ++ x ∷ []) ≡ map f xs ++ f x ∷ []
 map_push f [] x = refl
@@ -27,6 +28,6 @@ each_next_as f take n bytes xs more i rest back x low is made h =
     took_next take n bytes (map f xs) (map f more) i rest back (f x) low is (ap (map f) made ∙ map_push f xs x) h
 
 -- spelled one by one, of things that stand for others
-pub spell_each_as : {A B : Type 0} (f : B → A) (spell : A → List ℕ) (xs : List B) → spell_each (λ x. spell (f x)) xs ≡ spell_each spell (map f xs)
+pub spell_each_as : {A B : Type 0} (f : B → A) (spell : A → List ℕ) (xs : List B) → flat_map (λ x. spell (f x)) xs ≡ flat_map spell (map f xs)
 spell_each_as f spell [] = refl
 spell_each_as f spell (x ∷ xs) = ap (λ l. spell (f x) ++ l) (spell_each_as f spell xs)

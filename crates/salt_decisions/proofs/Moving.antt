@@ -6,11 +6,10 @@ use Rattle.salt_decisions.specs.Moves.{moved_by, then_moved}
 use Rattle.salt_decisions.specs.Said.{move_of}
 use Rattle.salt_stands.proofs.OpenConts.{moved_keeps}
 use Rattle.salt_stands.specs.OpenConts.{conts_of_move, do_rise, make_move, move_on, moved}
-use Rattle.salt_stands.specs.Words.{and_then}
 use Rattle.salt_values.specs.declared.cont.Cont.{Cont}
 use Rattle.std.proofs.Common.{Bool, Err, List, None, Ok, OnOk, Option, Result, Some, [], ap, refl, slice_get, sym, take, true, ℕ, ◌+◌, ◌++◌, ◌≡◌, ◌∙◌, ◌∷◌}
 use Rattle.std.specs.List.{list_all}
-use Rattle.std.specs.Prelude.{map}
+use Rattle.std.specs.Prelude.{map, option_and_then}
 
 pub on_ok : {T E : Type 0} (r : Result T E) (P Q : Type 0) → OnOk r P → (P → Q) → OnOk r Q
 on_ok (Ok x) P Q h f = f h
@@ -34,7 +33,7 @@ moved_rises format ds cs es h e = (moved_keeps any format ds cs es (all_moves fo
 abbrev with_move : List ℕ → Decision
 with_move mv = record { number = 0; unit = record { boot = 0; seq = 0 }; mask = 0; move = mv }
 
-pub then_rises : (format : ℕ) (mv : List ℕ) (cs es : List Cont) → do_rise cs ≡ true → and_then (make_move cs) (move_in format mv) ≡ Some es → do_rise es ≡ true
+pub then_rises : (format : ℕ) (mv : List ℕ) (cs es : List Cont) → do_rise cs ≡ true → option_and_then (make_move cs) (move_in format mv) ≡ Some es → do_rise es ≡ true
 then_rises format mv cs es h e = moved_rises format (with_move mv ∷ []) cs es h e
 
 pub moved_push : (format : ℕ) (cs : Option (List Cont)) (ds : List Decision) (d : Decision) → moved format cs (ds ++ d ∷ []) ≡ move_on format d (moved format cs ds)
@@ -55,7 +54,7 @@ pub record Before (o : Option (List Cont)) (next : List Cont → Option (List Co
   pub was : o ≡ Some conts
   pub goes : next conts ≡ Some es
 
-pub before : (o : Option (List Cont)) (next : List Cont → Option (List Cont)) (es : List Cont) → and_then next o ≡ Some es → Before o next es
+pub before : (o : Option (List Cont)) (next : List Cont → Option (List Cont)) (es : List Cont) → option_and_then next o ≡ Some es → Before o next es
 before None next es e = cc
 before (Some cs) next es e = record { conts = cs; was = refl; goes = e }
 
@@ -64,15 +63,15 @@ pub record MadeTo (format : ℕ) (conts : List Cont) (moves : List (List ℕ)) (
   pub made_are : do_rise conts ≡ true → (cs : List Cont) → moved_by format (Some conts) (take i moves) ≡ Some cs → made ≡ cs
 
 pub made_next : (format : ℕ) (conts : List Cont) (moves : List (List ℕ)) (i : ℕ) (made more : List Cont) (mv : List ℕ) → Some mv ≡ slice_get moves i
-    → (do_rise made ≡ true → (cs : List Cont) → and_then (make_move made) (move_in format mv) ≡ Some cs → more ≡ cs)
+    → (do_rise made ≡ true → (cs : List Cont) → option_and_then (make_move made) (move_in format mv) ≡ Some cs → more ≡ cs)
     → MadeTo format conts moves i made → MadeTo format conts moves (i + 1) more
 made_next format conts moves i made more mv here step h = record {
   made_are = λ rise es e.
       let so_far = moved_by format (Some conts) (take i moves) in
-      let b = before so_far (λ cs. and_then (make_move cs) (move_in format mv)) es (sym (moved_by_push format (Some conts) (take i moves) mv) ∙ ap (moved_by format (Some conts)) (push_take moves i mv here) ∙ e) in
+      let b = before so_far (λ cs. option_and_then (make_move cs) (move_in format mv)) es (sym (moved_by_push format (Some conts) (take i moves) mv) ∙ ap (moved_by format (Some conts)) (push_take moves i mv here) ∙ e) in
       let same : made ≡ b.conts = h.made_are rise b.conts b.was in
       let up : do_rise b.conts ≡ true = rises format conts (take i moves) b.conts rise b.was in
-      step (ap do_rise same ∙ up) es (ap (λ cs. and_then (make_move cs) (move_in format mv)) same ∙ b.goes);
+      step (ap do_rise same ∙ up) es (ap (λ cs. option_and_then (make_move cs) (move_in format mv)) same ∙ b.goes);
 }
   where
     moves_of : (ms : List (List ℕ)) → map move_of (map with_move ms) ≡ ms

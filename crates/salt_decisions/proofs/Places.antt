@@ -4,7 +4,6 @@ use Rattle.salt_model.specs.Kept.{cont_in}
 use Rattle.salt_stands.proofs.Booleans.{all_weaker, left, right}
 use Rattle.salt_stands.proofs.OpenConts.{same_id}
 use Rattle.salt_stands.specs.OpenConts.{do_rise, end_of, go_to, is_later_than, is_not_of, make_move, replace_cont, without_cont}
-use Rattle.salt_stands.specs.Words.{given}
 use Rattle.salt_values.specs.Id.{is_same_id}
 use Rattle.salt_values.specs.declared.cont.Cont.{Cont}
 use Rattle.salt_values.specs.declared.id.Id.{Id}
@@ -13,6 +12,7 @@ use Rattle.std.proofs.lemmas.Bool.Decides.{nat_tests}
 use Rattle.std.proofs.lemmas.List.Quantifiers.{position-Some}
 use Rattle.std.specs.List.{filter, find, list_all, position, position_or_len, remove}
 use Rattle.std.specs.Prelude.{Bool, List, None, Option, Some, [], cond, false, get_or, if◌then◌else◌, length, nat_lt, not, refl, set, suc, true, zero, ℕ, ◌+◌, ◌++◌, ◌<◌, ◌==◌, ◌∷◌, ◌≡◌}
+use Rattle.std.specs.Bool.{then_some}
 
 abbrev is_of : Id → Cont → Bool
 is_of b c = is_same_id b c.base
@@ -106,7 +106,7 @@ taken_out b (d ∷ ds) zero h rise =
 taken_out b (d ∷ ds) (suc at) h rise =
     ap (λ t. cond (not t) (d ∷ filter (is_not_of b) ds) (filter (is_not_of b) ds)) h.0 ∙ ap (λ l. d ∷ l) (taken_out b ds at h.1 (tail_rises d ds rise))
 
-given_is : {A : Type 0} (b : Bool) (x y : A) → given b x ≡ Some y → x ≡ y
+given_is : {A : Type 0} (b : Bool) (x y : A) → then_some b x ≡ Some y → x ≡ y
 given_is true x y e = cc
 given_is false x y e = cc
 

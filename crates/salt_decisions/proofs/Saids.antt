@@ -9,13 +9,13 @@ use Rattle.salt_decisions.specs.declared.header.Definition.{Definition}
 use Rattle.salt_decisions.specs.declared.said.Said.{Said}
 use Rattle.salt_stands.specs.Coordinator.{unit_of}
 use Rattle.salt_stands.specs.CoordinatorLog.{Told, tell}
-use Rattle.salt_stands.specs.Words.{given}
 use Rattle.salt_values.specs.declared.id.Id.{Id}
 use Rattle.std.proofs.Common.{List, Some, [], ap, refl, sym, true, ℕ, ◌+◌, ◌++◌, ◌≡◌, ◌∙◌, ◌∷◌}
 use Rattle.std.specs.Prelude.{map, ◌==◌}
+use Rattle.std.specs.Bool.{then_some}
 
-next_is : {A : Type 0} (n m k : ℕ) (x : A) → (n == m + 1) ≡ true → m ≡ k → given (n == k + 1) x ≡ Some x
-next_is n m k x fits same = ap (λ j. given (n == j + 1) x) (sym same) ∙ ap (λ b. given b x) fits
+next_is : {A : Type 0} (n m k : ℕ) (x : A) → (n == m + 1) ≡ true → m ≡ k → then_some (n == k + 1) x ≡ Some x
+next_is n m k x fits same = ap (λ j. then_some (n == j + 1) x) (sym same) ∙ ap (λ b. then_some b x) fits
 
 module _ (s : Said) (t : Told) (h : Says s t) where
   pub heard_boot : (boot : ℕ) → (boot == s.boot + 1) ≡ true → HasHeard true (record s { boot = boot }) (tell t (Boots boot))

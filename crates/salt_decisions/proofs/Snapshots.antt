@@ -20,11 +20,10 @@ use Rattle.salt_stands.specs.Coordinator.{Logs, device_of}
 use Rattle.salt_stands.specs.CoordinatorLog.{CoordinatorLog, coordinator_generation, coordinator_in, told_by_header, with_told}
 use Rattle.salt_stands.specs.Pieces.{IsSameAt, other_log}
 use Rattle.salt_stands.specs.Stands.{logs_of}
-use Rattle.salt_stands.specs.Words.{and_then}
 use Rattle.salt_values.specs.declared.cont.Cont.{Cont}
 use Rattle.std.proofs.Common.{List, None, Option, Some, [], ap, arith, false, inl, inr, refl, subst, sym, true, ℕ, ◌<◌, ◌≡◌, ◌≤◌, ◌⊎◌, ◌∙◌, ◌∷◌}
 use Rattle.std.proofs.lemmas.Bool.Decides.{Decides-eqb, nat_tests}
-use Rattle.std.specs.Prelude.{nat_le}
+use Rattle.std.specs.Prelude.{nat_le, option_and_then}
 
 -- THE NEXT GENERATION COUNTS
 
@@ -112,7 +111,7 @@ module _ (d0 : View) (x : Decisions) (which : WhichLog) (log : CoordinatorLog) (
       known = omega (arith, h.counting.known, first.shape.count, second.shape.count);
       other = twice d2 which (settled_kept d1 d2 (device_of 0 which) (second.kept (device_of 0 which) apart) (settled_kept d0 d1 (device_of 0 which) (first.kept (device_of 0 which) apart) settled));
       counts = λ told.
-          pair_next coordinator_generation coordinator_in log (snapshotted log conts) payload (ap (and_then (λ k. with_told k (Some (told_by_header k)))) reads) refl (logs_of d0.bytes) (logs_of d2.bytes) which
+          pair_next coordinator_generation coordinator_in log (snapshotted log conts) payload (ap (option_and_then (λ k. with_told k (Some (told_by_header k)))) reads) refl (logs_of d0.bytes) (logs_of d2.bytes) which
           (h.counting.counts (sym first.shape.told ∙ sym second.shape.told ∙ told))
           (ap (λ dev. entries_in (d2.bytes dev)) (sym device ∙ sym same) ∙ log_bytes d2 gate' (payload ∷ []) told is_log)
           (ap entries_in ((second.kept (device_of 0 which) apart).bytes ∙ (first.kept (device_of 0 which) apart).bytes));

@@ -13,7 +13,7 @@ use Rattle.salt_gatelog.specs.declared.log.GateLog.{GateLog}
 use Rattle.salt_stands.specs.CoordinatorLog.{coordinator_generation, coordinator_in}
 use Rattle.salt_place.specs.declared.placement.PlaceKind.TheVariants.{Remainder}
 use Rattle.salt_place.specs.declared.placement.Shape.{Shape}
-use Rattle.std.proofs.Common.{List, [], ap, arith, false, refl, suc, true, zero, ℕ, ◌++◌, ◌∙◌, ◌∷◌, ◌≡◌}
+use Rattle.std.proofs.Common.{List, None, [], ap, arith, false, refl, suc, true, zero, ℕ, ◌++◌, ◌∙◌, ◌∷◌, ◌≡◌}
 use Rattle.std.specs.Prelude.{length}
 
 abbrev shape : Shape
@@ -27,7 +27,7 @@ abbrev view : View
 view = record { count = 2; limit = λ dev. 1000; can_stop = false; told = true; bytes = bytes; image = λ dev c. c ≡ bytes dev; faults = 0; armed = [] }
 
 abbrev gate : GateLog
-gate = record { dev = 0; end = 57; count = 1; next = 0; place = 0 }
+gate = record { dev = 0; end = 57; count = 1; next = 0; place = 0; block = None }
 
 abbrev counting : Decisions
 counting = record { which = A; gate = gate; format = 3; generation = 1; shape = shape; boot = 0; decisions = 0; definitions = []; conts = [] }
@@ -47,6 +47,7 @@ is_log = record {
   next = omega arith;
   within = omega arith;
   place = λ told. refl;
+  block = tt;
 }
 
 blank_behind : pair_of coordinator_generation (IsRead (begun shape)) (content_of coordinator_in (entries_in [])) ≡ Counts LogA (begun shape)

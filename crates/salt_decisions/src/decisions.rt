@@ -6,17 +6,17 @@ ghost use Rattle.salt_decisions.specs.Decisions.{HasSameEntries, IsBeforeOrWith,
 ghost use Rattle.salt_disk.specs.Disks.{EachImage, FullExactly, FullOnly, HasCause, IsUnchanged, KeepsOthers};
 ghost use Rattle.salt_disk.specs.declared.disks.DiskErr.TheVariants.{Full};
 ghost use Rattle.salt_gatelog.specs.Log as gates;
-ghost use Rattle.salt_gatelog.specs.Log.{gate_of};
+ghost use Rattle.salt_gatelog.specs.Log.{gate_of, payload_in};
 ghost use Rattle.salt_stands.specs.Coordinator.{device_of};
 ghost use Rattle.salt_stands.specs.CoordinatorLog.{CoordinatorLog, Told, tell};
 ghost use Rattle.salt_stands.specs.Pieces.{other_log};
-ghost use Rattle.std.specs.Prelude.{Err, IfOk, OnOk, Some, length, nat_lt, true, ℕ, ◌+◌, ◌-◌, ◌<◌, ◌^◌, ◌≡◌};
+ghost use Rattle.std.specs.Prelude.{Err, IfOk, OnOk, Some, length, nat_lt, true, ℕ, ◌+◌, ◌-◌, ◌<◌, ◌≤◌, ◌^◌, ◌≡◌};
 ghost use Rattle.std.specs.Result.{result_err};
 
 use crate::header::{Definition, Definitions};
 use crate::header_payload::{FORMAT, header_payload};
 use crate::moves::make_move;
-use crate::payload::{boot_payload, decision_payload, definition_payload};
+use crate::payload::{boot_frame, decision_frame, definition_frame};
 use crate::which::Which;
 use salt_disk::{DiskErr, Disks};
 use salt_gatelog::{GateLog, create, next_generation};
@@ -41,25 +41,21 @@ pub struct Decisions {
     pub(crate) conts: Conts,
 }
 
-/// Appends an entry to the log that counts. After Ok the log says what the entry tells. Whatever it answers, each image of the
-/// device has the entries from before, with this one or without it.
-fn append_entry<D: Disks>(
-    alloc: Global,
-    disks: &mut D,
-    gate: &mut GateLog,
-    payload: &[u8],
-) -> Result<(), DiskErr>
-    requires { (which : WhichLog) × ((log : CoordinatorLog) × IsCounting (D.view disks.old) gate.old which log) }
+/// Appends the entry that a frame holds to the log that counts. After Ok the log says what the entry tells. Whatever it answers,
+/// each image of the device has the entries from before, with this one or without it.
+fn append_entry<D: Disks>(disks: &mut D, gate: &mut GateLog, frame: Vec<u8>) -> Result<(), DiskErr>
+    requires front { 8 ≤ length frame.items }
+    requires counting { (which : WhichLog) × ((log : CoordinatorLog) × IsCounting (D.view disks.old) gate.old which log) }
     ensures ok { (which : WhichLog) (log : CoordinatorLog) (entry : CoordinatorEntry) (now : Told) → IsCounting (D.view disks.old) gate.old which log
-        → entry_in log.header.shape.parts payload.now ≡ Some entry → tell log.told entry ≡ Some now → OnOk result (IsCounting (D.view disks.new) gate.new which (log_with log now)) }
+        → entry_in log.header.shape.parts (payload_in frame.items) ≡ Some entry → tell log.told entry ≡ Some now → OnOk result (IsCounting (D.view disks.new) gate.new which (log_with log now)) }
     ensures images { (which : WhichLog) (log : CoordinatorLog) → IsCounting (D.view disks.old) gate.old which log
-        → EachImage (D.view disks.new) (device_of 0 which) (IsBeforeOrWith ((D.view disks.old).bytes (device_of 0 which)) payload.now) }
+        → EachImage (D.view disks.new) (device_of 0 which) (IsBeforeOrWith ((D.view disks.old).bytes (device_of 0 which)) (payload_in frame.items)) }
     ensures others { KeepsOthers (gates.device_of gate.old) (D.view disks.old) (D.view disks.new) (result_err result) }
     ensures cause { HasCause (D.view disks.old) (D.view disks.new) (result_err result) }
-    ensures full { FullExactly (gates.device_of gate.old) ((D.view disks.old).limit (gates.device_of gate.old)) (gate_of gate.old + 10 + length payload.now) (result_err result) }
+    ensures full { FullExactly (gates.device_of gate.old) ((D.view disks.old).limit (gates.device_of gate.old)) (gate_of gate.old + 10 + length (payload_in frame.items)) (result_err result) }
     ensures untouched { (n : ℕ) → result ≡ Err (Full n) → IsUnchanged (D.view disks.old) (D.view disks.new) (gates.device_of gate.old) }
 {
-    gate.append(alloc, disks, payload)
+    gate.append_frame(disks, frame)
 }
 
 impl Decisions {
@@ -128,8 +124,8 @@ impl Decisions {
         ensures untouched { (n : ℕ) → result ≡ Err (Full n) → IsUnchanged (D.view disks.old) (D.view disks.new) (device_in self.old) }
     {
         let boot = self.boot + 1;
-        let payload = boot_payload(alloc, boot)?;
-        append_entry(alloc, disks, &mut self.gate, &payload)?;
+        let frame = boot_frame(alloc, boot)?;
+        append_entry(disks, &mut self.gate, frame)?;
         self.boot = boot;
         Ok(boot)
     }
@@ -162,8 +158,8 @@ impl Decisions {
             text: Items::from_slice(alloc, text)?,
         };
         self.definitions.push(definition)?;
-        let payload = definition_payload(alloc, number, text)?;
-        append_entry(alloc, disks, &mut self.gate, &payload)?;
+        let frame = definition_frame(alloc, number, text)?;
+        append_entry(disks, &mut self.gate, frame)?;
         self.decisions = number;
         Ok(number)
     }
@@ -196,8 +192,8 @@ impl Decisions {
     {
         let number = self.decisions + 1;
         make_move(alloc, self.format, &mut self.conts, mv)?;
-        let payload = decision_payload(alloc, number, unit, parts, mv)?;
-        append_entry(alloc, disks, &mut self.gate, &payload)?;
+        let frame = decision_frame(alloc, number, unit, parts, mv)?;
+        append_entry(disks, &mut self.gate, frame)?;
         self.decisions = number;
         Ok(number)
     }

@@ -4,13 +4,13 @@ ghost use Rattle.salt_bytes.specs.Conts.{spell_cont};
 ghost use Rattle.salt_bytes.specs.Coordinator.{is_number_of_parts, spell_header, spell_kind, spell_numbered};
 ghost use Rattle.salt_bytes.specs.Numbers.{spell_64, spell_counted};
 ghost use Rattle.salt_bytes.specs.Spellable.{AreSpellableValues, Every, IsSpellableCont, IsSpellableHeader, IsSpellableNumbered};
-ghost use Rattle.salt_bytes.specs.Taking.{spell_each};
 ghost use Rattle.salt_bytes.specs.Values.{spell_values};
 ghost use Rattle.salt_decisions.specs.Header.{mark, numbered_of};
 ghost use Rattle.salt_decisions.specs.HeaderPayload.{header_with};
 ghost use Rattle.salt_decisions.specs.declared.header_payload.TheConstants.{FORMAT};
 ghost use Rattle.salt_place.specs.declared.placement.PlaceKind.{PlaceKind};
 ghost use Rattle.std.specs.Prelude.{IfOk, OnOk, [], length, map, nat_le, true, ◌++◌, ◌∷◌, ◌≡◌};
+ghost use Rattle.std.specs.List.{flat_map};
 
 use crate::header::{Definition, MARK};
 use salt_codec::put::{with_byte, with_bytes, with_id, with_text, with_u32, with_u64, with_values};
@@ -20,6 +20,9 @@ use std::alloc::{AllocError, Global};
 
 /// The format of each header that is written.
 pub const FORMAT: u8 = 3;
+
+/// A guess at how many bytes a header takes.
+const ROOM_OF_HEADER: usize = 256;
 
 /// A length in one byte. A greater one has no spelling, which is told as want of memory: no name or list that was read has one.
 fn with_length(out: Vec<u8>, length: usize) -> Result<Vec<u8>, AllocError>
@@ -60,7 +63,7 @@ fn with_cont(out: Vec<u8>, cont: &Cont) -> Result<Vec<u8>, AllocError>
 }
 
 fn with_each_cont(mut out: Vec<u8>, conts: &[Cont]) -> Result<Vec<u8>, AllocError>
-    ensures put { IfOk result (λ made. made.items ≡ out.items ++ spell_each (spell_cont FORMAT) conts.now) }
+    ensures put { IfOk result (λ made. made.items ≡ out.items ++ flat_map (spell_cont FORMAT) conts.now) }
     ensures spellable { OnOk result (Every (IsSpellableCont FORMAT) conts.now) }
 {
     for cont in conts {
@@ -78,7 +81,7 @@ fn with_definition(out: Vec<u8>, definition: &Definition) -> Result<Vec<u8>, All
 }
 
 fn with_each_definition(mut out: Vec<u8>, definitions: &[Definition]) -> Result<Vec<u8>, AllocError>
-    ensures put { IfOk result (λ made. made.items ≡ out.items ++ spell_each spell_numbered (map numbered_of definitions.now)) }
+    ensures put { IfOk result (λ made. made.items ≡ out.items ++ flat_map spell_numbered (map numbered_of definitions.now)) }
     ensures spellable { OnOk result (Every IsSpellableNumbered (map numbered_of definitions.now)) }
 {
     for definition in definitions {
@@ -136,7 +139,8 @@ pub fn header_payload(
     ensures put { IfOk result (λ made. made.items ≡ spell_header (header_with generation shape boot decisions definitions.now conts.now)) }
     ensures spellable { nat_le 1 generation ≡ true → is_number_of_parts shape.parts ≡ true → OnOk result (IsSpellableHeader (header_with generation shape boot decisions definitions.now conts.now)) }
 {
-    let out = with_front(Vec::new(alloc), generation, shape)?;
+    let room = Vec::with_capacity(alloc, ROOM_OF_HEADER)?;
+    let out = with_front(room, generation, shape)?;
     let out = with_u64(out, boot)?;
     let out = with_u64(out, decisions)?;
     with_lists(out, definitions, conts)

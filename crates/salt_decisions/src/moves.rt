@@ -4,11 +4,10 @@ ghost use Rattle.salt_bytes.specs.Conts.{move_in};
 ghost use Rattle.salt_bytes.specs.declared.moves.Move.TheVariants.{Continue, Finish};
 ghost use Rattle.salt_decisions.specs.Moves.{moved_by};
 ghost use Rattle.salt_stands.specs.OpenConts.{do_rise, make_move};
-ghost use Rattle.salt_stands.specs.Words.{and_then};
 ghost use Rattle.salt_values.specs.Id.{is_same_id};
 ghost use Rattle.salt_values.specs.declared.cont.Cont.{Cont};
 ghost use Rattle.std.specs.List.{position};
-ghost use Rattle.std.specs.Prelude.{IfOk, List, OnOk, Some, true, ◌≡◌};
+ghost use Rattle.std.specs.Prelude.{IfOk, List, OnOk, Some, true, ◌≡◌, option_and_then};
 
 use salt_bytes::Move;
 use salt_codec::take_move;
@@ -64,7 +63,7 @@ pub fn apply_move(conts: &mut Conts, made: Move) -> Result<(), AllocError>
 /// Makes the move that these bytes are, under the format of the header that it stands behind. Bytes that are no move change
 /// nothing. After an error the continuations are as before.
 pub fn make_move(alloc: Global, format: u8, conts: &mut Conts, mv: &[u8]) -> Result<(), AllocError>
-    ensures { do_rise conts.old ≡ true → (cs : List Cont) → and_then (make_move conts.old) (move_in format mv.now) ≡ Some cs → OnOk result (conts.new ≡ cs) }
+    ensures { do_rise conts.old ≡ true → (cs : List Cont) → option_and_then (make_move conts.old) (move_in format mv.now) ≡ Some cs → OnOk result (conts.new ≡ cs) }
 {
     match take_move(alloc, format, mv)? {
         Some(made) => apply_move(conts, made),

@@ -183,7 +183,7 @@ pub fn read_device<D: Disks>(alloc: Global, disks: &mut D, dev: u32) -> Result<C
     ensures cause { HasCause (D.view disks.old) (D.view disks.new) (result_err result) }
     ensures answers { IsTrue (D.view disks.old).told → OnlyFails (result_err result) }
 {
-    match open_log(disks, dev) {
+    match open_log(alloc, disks, dev) {
         Ok(gate) => read_log(alloc, disks, gate),
         Err(LogErr::Blank) => Ok(Content::Blank),
         Err(LogErr::NotLog) => Ok(Content::Outside),

@@ -1,15 +1,17 @@
 -- Where an entry stands on its device, and that a log is one whatever entry was found last.
 use Rattle.salt_bytes.specs.Log.{framed, spelled}
-use Rattle.salt_disk.proofs.CallAfterCall.{keeps_on}
-use Rattle.salt_disk.specs.Disks.{HasCause, IsRead, KeepsAll, UnlessDown, View}
+use Rattle.salt_disk.proofs.CallAfterCall.{cause_none, keeps_on, same_shape, unless_down}
+use Rattle.salt_disk.specs.Disks.{HasCause, IsRead, IsUnchanged, KeepsAll, UnlessDown, View}
 use Rattle.salt_disk.specs.declared.disks.DiskErr.TheVariants.{Failed, Full, Memory, Stopped}
 use Rattle.salt_disk.specs.declared.disks.DiskErr.{DiskErr}
 use Rattle.salt_gatelog.proofs.Bytes.{length-framed, length-spelled-push}
 use Rattle.salt_gatelog.proofs.Frame.{log_kept}
+use Rattle.salt_gatelog.specs.Block.{IsBlock, IsBlockOf}
 use Rattle.salt_gatelog.specs.Entry.{EntryEnds, HasMoved, IsAtFirst}
 use Rattle.salt_gatelog.specs.Log.{EndsClosed, IsLog, StandsAt}
+use Rattle.salt_gatelog.specs.declared.block.Block.{Block}
 use Rattle.salt_gatelog.specs.declared.log.GateLog.{GateLog}
-use Rattle.std.proofs.Common.{Bool, IsTrue, List, None, Option, Some, [], ap, append_assoc, arith, drop, false, get_or, length, length-append, length-take, refl, slice_get, subst, suc, sym, take, take-append-drop, true, zero, ℕ, ◌++◌, ◌+◌, ◌<◌, ◌^◌, ◌≡◌, ◌≤◌, ◌∙◌, ◌∷◌}
+use Rattle.std.proofs.Common.{Bool, IsTrue, List, None, Option, Some, [], ap, append_assoc, arith, drop, false, get_or, inl, inr, length, length-append, length-take, refl, slice_get, subst, suc, sym, take, take-append-drop, true, zero, ℕ, ◌++◌, ◌+◌, ◌<◌, ◌^◌, ◌≡◌, ◌≤◌, ◌∙◌, ◌∷◌, ◌⊎◌}
 use Rattle.std.proofs.lemmas.List.{drop-drop, drop_at, drop_more, take_all, take_at, take_more}
 use Rattle.std.proofs.lemmas.Nat.{from_be_bytes-to_be_bytes_8}
 use Rattle.std.specs.Int.{from_be_bytes, to_be_bytes, w64}
@@ -48,10 +50,14 @@ entry_stands d log entries is below told =
       ends = omega (arith, is.end, is.place told, ap length cut, length-append before (1 ∷ (framed p ++ behind)), length-append (framed p) behind, length-framed p);
     }
 
+-- the same piece of the same device
+same_block : (d : View) (log new : GateLog) → new.dev ≡ log.dev → new.block ≡ log.block → IsBlockOf d log.dev log.block → IsBlockOf d new.dev new.block
+same_block d log new device block is = subst (λ (dev : ℕ). IsBlockOf d dev new.block) (sym device) (subst (IsBlockOf d log.dev) (sym block) is)
+
 -- one entry further
-pub goes_on : (d : View) (log new : GateLog) (entries : List (List ℕ)) (size : ℕ) → IsLog d log entries → HasMoved log new → new.next ≡ log.next + 1 → new.place ≡ log.place + 9 + size
+pub goes_on : (d : View) (log new : GateLog) (entries : List (List ℕ)) (size : ℕ) → IsLog d log entries → HasMoved log new → new.block ≡ log.block → new.next ≡ log.next + 1 → new.place ≡ log.place + 9 + size
     → log.next < length entries → log.place + 9 + size ≤ log.end → (IsTrue d.told → size ≡ length (entry_of entries log.next)) → IsLog d new entries
-goes_on d log new entries size is same next place below within sized = record {
+goes_on d log new entries size is same block next place below within sized = record {
   known = omega (arith, is.known, same.device);
   end = same.gate ∙ is.end;
   room = omega (arith, is.room, same.gate);
@@ -65,6 +71,7 @@ goes_on d log new entries size is same next place below within sized = record {
   place = λ told.
       let longer : take new.next entries ≡ take log.next entries ++ entry_of entries log.next ∷ [] = ap (λ (k : ℕ). take k entries) next ∙ take_more entries log.next [] below in
       omega (arith, place, sized told, is.place told, ap (λ (es : List (List ℕ)). length (spelled es)) longer, length-spelled-push (take log.next entries) (entry_of entries log.next));
+  block = same_block d log new same.device block is.block;
 }
 
 -- back at the first entry
@@ -81,22 +88,81 @@ at_first d log new entries is first = record {
   next = omega (arith, first.next);
   within = omega (arith, first.place);
   place = λ told. first.place ∙ ap (λ (k : ℕ). length (spelled (take k entries))) (sym first.next);
+  block = same_block d log new first.same.device first.block is.block;
 }
 
 -- one entry further, after calls that write nothing
-pub step_on : (d e : View) (log new : GateLog) (entries : List (List ℕ)) (size : ℕ) → IsLog d log entries → KeepsAll d e None → HasMoved log new → new.next ≡ log.next + 1 → new.place ≡ log.place + 9 + size
+pub step_on : (d e : View) (log new : GateLog) (entries : List (List ℕ)) (size : ℕ) → IsLog d log entries → KeepsAll d e None → HasMoved log new → new.block ≡ log.block → new.next ≡ log.next + 1 → new.place ≡ log.place + 9 + size
     → log.next < length entries → log.place + 9 + size ≤ log.end → (IsTrue d.told → (payload : List ℕ) → EntryEnds payload (d.bytes log.dev) log.place log.end → size ≡ length payload) → IsLog e new entries
-step_on d e log new entries size is keeps same next place below within sized =
-    goes_on e log new entries size (log_kept d e log entries keeps.shape (keeps.kept log.dev (λ none. none)) is) same next place below within
+step_on d e log new entries size is keeps same block next place below within sized =
+    goes_on e log new entries size (log_kept d e log entries keeps.shape (keeps.kept log.dev (λ none. none)) is) same block next place below within
     (λ told. sized (sym keeps.shape.told ∙ told) (entry_of entries log.next) (entry_stands d log entries is below (sym keeps.shape.told ∙ told)))
 
+keeps_same : (d : View) → KeepsAll d d None
+keeps_same d = record { shape = same_shape d; kept = λ dev other. record { bytes = refl; images = λ c left. left }; images = λ dev other c left. left }
+
 -- How far a search has come.
-pub record Found (d0 d : View) (log now : GateLog) (i : ℕ) : Type 0 where
+pub record Found (d0 d : View) (log now : GateLog) (i : ℕ) (block : Block) : Type 0 where
   pub is_log : (entries : List (List ℕ)) → IsLog d0 log entries → IsLog d now entries
   pub same : HasMoved log now
   pub before : now.next ≤ i
+  pub piece : IsBlock d now.dev block
   pub keeps : KeepsAll d0 d None
   pub cause : HasCause d0 d None
+
+pub found_first : (d : View) (log now : GateLog) (i : ℕ) (block : Block) → now.next ≤ i → (now ≡ log) ⊎ IsAtFirst log now → IsBlock d log.dev block → Found d d log now i block
+found_first d log now i block before (inl same) piece = record {
+  is_log = λ entries is. subst (λ (l : GateLog). IsLog d l entries) (sym same) is;
+  same = record { device = ap (λ (l : GateLog). l.dev) same; gate = ap (λ (l : GateLog). l.end) same; count = ap (λ (l : GateLog). l.count) same };
+  before = before;
+  piece = subst (λ (l : GateLog). IsBlock d l.dev block) (sym same) piece;
+  keeps = keeps_same d;
+  cause = cause_none d;
+}
+found_first d log now i block before (inr first) piece = record {
+  is_log = λ entries is. at_first d log now entries is first;
+  same = first.same;
+  before = before;
+  piece = subst (λ (dev : ℕ). IsBlock d dev block) (sym first.same.device) piece;
+  keeps = keeps_same d;
+  cause = cause_none d;
+}
+
+-- A PIECE TAKEN OUT, AND PUT BACK
+
+pub without_block : (d : View) (log new : GateLog) (entries : List (List ℕ)) → new ≡ record log { block = None } → IsLog d log entries → IsLog d new entries
+without_block d log new entries is h = subst (λ (l : GateLog). IsLog d l entries) (sym is) (record {
+  known = h.known;
+  end = h.end;
+  room = h.room;
+  count = h.count;
+  file = h.file;
+  settled = h.settled;
+  next = h.next;
+  within = h.within;
+  place = h.place;
+  block = tt;
+})
+
+pub without_moved : (log new : GateLog) → new ≡ record log { block = None } → HasMoved log new
+without_moved log new is = record { device = ap (λ (l : GateLog). l.dev) is; gate = ap (λ (l : GateLog). l.end) is; count = ap (λ (l : GateLog). l.count) is }
+
+pub moved_on : (log more new : GateLog) → HasMoved log more → HasMoved more new → HasMoved log new
+moved_on log more new p q = record { device = q.device ∙ p.device; gate = q.gate ∙ p.gate; count = q.count ∙ p.count }
+
+pub with_block : (d : View) (log : GateLog) (block : Block) (entries : List (List ℕ)) → IsBlock d log.dev block → IsLog d log entries → IsLog d (record log { block = Some block }) entries
+with_block d log block entries piece h = record {
+  known = h.known;
+  end = h.end;
+  room = h.room;
+  count = h.count;
+  file = h.file;
+  settled = h.settled;
+  next = h.next;
+  within = h.within;
+  place = h.place;
+  block = piece;
+}
 
 -- WHAT IS READ
 
@@ -172,6 +238,11 @@ whatever (Some Memory) P h = h
 
 pub keeps_without_memory : (d e : View) → KeepsAll d e None → KeepsAll d e (Some Memory)
 keeps_without_memory d e keeps = record { shape = keeps.shape; kept = keeps.kept; images = keeps.images }
+
+-- a log stays one over a call that writes nothing
+pub stays_log : (d e : View) (log : GateLog) (entries : List (List ℕ)) (answer : Option DiskErr) → KeepsAll d e answer → IsLog d log entries → UnlessDown answer (IsLog e log entries)
+stays_log d e log entries answer keeps is =
+    unless_down answer ((dev : ℕ) → ¬ ⊥ → IsUnchanged d e dev) (IsLog e log entries) (λ h. log_kept d e log entries keeps.shape (h log.dev (λ none. none)) is) keeps.kept
 
 pub keeps_then : (a b c : View) (answer : Option DiskErr) → KeepsAll a b None → KeepsAll b c answer → KeepsAll a c answer
 keeps_then a b c answer p q = keeps_on (λ x. ⊥) a b c answer p q

@@ -5,6 +5,7 @@ use Rattle.salt_bytes.specs.Log.{entries_in}
 use Rattle.salt_gatelog.specs.Log.{EndsClosed, IsLog}
 use Rattle.salt_gatelog.specs.declared.log.GateLog.{GateLog}
 use Rattle.salt_gatelog.proofs.Appends.{at_start}
+use Rattle.salt_gatelog.proofs.Blocks.{block_of_stays}
 
 -- a log is as it was where its device is
 pub log_kept : (d e : View) (log : GateLog) (entries : List (List ℕ)) → SameShape d e → IsUnchanged d e log.dev → IsLog d log entries → IsLog e log entries
@@ -18,6 +19,7 @@ log_kept d e log entries shape kept is = record {
   next = is.next;
   within = is.within;
   place = λ told. is.place (sym shape.told ∙ told);
+  block = block_of_stays d e log.dev log.block shape.told kept.bytes is.block;
 }
 
 -- each image stands for its entries

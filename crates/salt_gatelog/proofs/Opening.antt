@@ -9,7 +9,10 @@ use Rattle.salt_gatelog.specs.Open.{HasNoEnd, OpenEntry, OpensAs}
 use Rattle.salt_gatelog.specs.declared.log.GateLog.{GateLog}
 use Rattle.salt_gatelog.proofs.Bytes.{length-framed, spelled-push, length-spelled-push, entries_in-closed}
 use Rattle.salt_gatelog.proofs.Opens.{no_end, cut_entry, entries_in-none, entries_in-short}
+use Rattle.salt_gatelog.proofs.Blocks.{block_of_stays}
 use Rattle.salt_gatelog.proofs.Frame.{log_kept}
+use Rattle.salt_gatelog.specs.Block.{IsBlock, IsBlockOf}
+use Rattle.salt_gatelog.specs.declared.block.Block.{Block}
 
 -- the device begins with these entries, or a payload that it cannot hold was passed
 abbrev pub InFile : List ℕ → List (List ℕ) → ℕ → Type 0
@@ -102,20 +105,22 @@ goes_on d0 d e dev end next count so_far small small' past entry keeps cause = e
     differ t u = cc
 
 -- so far each entry was one step, of at least nine bytes that the device has
-pub record Counted (d0 d : View) (dev end count before now : ℕ) : Type 0 where
+pub record Counted (d0 d : View) (dev end count before now : ℕ) (block : Block) : Type 0 where
   pub opened : Opened d0 d dev end count
   pub steps : now ≡ before + count
   pub within : IsTrue d0.told → 9 * count ≤ length (d0.bytes dev)
+  pub piece : IsBlock d dev block
 
-pub counts_on : (d0 d e : View) (dev end next count before now after : ℕ) → Counted d0 d dev end count before now → after ≡ now + 1 → next < 2 ^ 64 → end + 9 ≤ next → (IsTrue d.told → OpenEntry (drop end (d.bytes dev)) end next)
-    → KeepsAll d0 e None → HasCause d0 e None → Counted d0 e dev next (count + 1) before after
-counts_on d0 d e dev end next count before now after so_far one small past entry keeps cause = record {
+pub counts_on : (d0 d e : View) (dev end next count before now after : ℕ) (block more : Block) → Counted d0 d dev end count before now block → IsBlock e dev more → after ≡ now + 1 → next < 2 ^ 64 → end + 9 ≤ next → (IsTrue d.told → OpenEntry (drop end (d.bytes dev)) end next)
+    → KeepsAll d0 e None → HasCause d0 e None → Counted d0 e dev next (count + 1) before after more
+counts_on d0 d e dev end next count before now after block more so_far piece one small past entry keeps cause = record {
   opened = goes_on d0 d e dev end next count so_far.opened so_far.opened.small small past entry keeps cause;
   steps = omega (arith, one, so_far.steps);
   within = λ told.
       let here : OpenEntry (drop end (d.bytes dev)) end next = entry (so_far.opened.keeps.shape.told ∙ told) in
       let same : length (d.bytes dev) ≡ length (d0.bytes dev) = ap (λ (f : List ℕ). length f) (so_far.opened.keeps.kept dev (λ none. none)).bytes in
       omega (arith, same, ap length here.bytes_are, length-append (to_be_bytes w64 here.size) here.rest, length-drop end (d.bytes dev), so_far.opened.end_is, so_far.opened.size, nine_each so_far.opened.entries);
+  piece = piece;
 }
 
 module _ (d0 d e : View) (dev end count : ℕ) (so_far : Opened d0 d dev end count) (told : IsTrue d0.told) where
@@ -163,8 +168,8 @@ module _ (d0 d e : View) (dev end count : ℕ) (so_far : Opened d0 d dev end cou
 pub first_none : (d0 d : View) (dev end count : ℕ) (so_far : Opened d0 d dev end count) → count ≡ 0 → so_far.entries ≡ []
 first_none d0 d dev end count so_far first = nil_from_length so_far.entries (so_far.size ∙ first)
 
-pub opens : (d0 d e : View) (dev end count : ℕ) (log : GateLog) → log.dev ≡ dev → log.end ≡ end → log.count ≡ count → log.next ≡ 0 → log.place ≡ 0 → Opened d0 d dev end count → IsSettled d0 dev → dev < d0.count → end + 1 < 2 ^ 64 → 0 < count → (IsTrue d.told → HasClosedGate (drop end (d.bytes dev))) → KeepsAll d0 e None → OpensAs d0 e log
-opens d0 d e dev end count log dev_is end_is count_is first_is place_is so_far settled known room some gate keeps =
+pub opens : (d0 d e : View) (dev end count : ℕ) (log : GateLog) → log.dev ≡ dev → log.end ≡ end → log.count ≡ count → log.next ≡ 0 → log.place ≡ 0 → IsBlockOf e log.dev log.block → Opened d0 d dev end count → IsSettled d0 dev → dev < d0.count → end + 1 < 2 ^ 64 → 0 < count → (IsTrue d.told → HasClosedGate (drop end (d.bytes dev))) → KeepsAll d0 e None → OpensAs d0 e log
+opens d0 d e dev end count log dev_is end_is count_is first_is place_is block so_far settled known room some gate keeps =
     let file : IsTrue d0.told → EndsClosed so_far.entries (d0.bytes dev) = λ told. ends_closed d0 d e dev end count so_far told (omega (arith, room)) (gate (was_told d0 d e dev end count so_far told)) in
     let first : IsLog d0 log so_far.entries = record {
       known = omega (arith, known, dev_is);
@@ -176,6 +181,7 @@ opens d0 d e dev end count log dev_is end_is count_is first_is place_is so_far s
       next = omega (arith, first_is);
       within = omega (arith, place_is);
       place = λ told. place_is ∙ ap (λ (k : ℕ). length (spelled (take k so_far.entries))) (sym first_is);
+      block = block_of_stays e d0 log.dev log.block (sym keeps.shape.told) (sym (keeps.kept log.dev (λ none. none)).bytes) block;
     } in
     record {
       entries = so_far.entries;

@@ -19,3 +19,4 @@ pub record IsAtFirst (old new : GateLog) : Type 0 where
   pub same : HasMoved old new
   pub next : new.next ≡ 0
   pub place : new.place ≡ 0
+  pub block : new.block ≡ old.block

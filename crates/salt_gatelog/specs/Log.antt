@@ -2,6 +2,7 @@
 use Rattle.std.specs.Prelude.{◌≡◌, ◌≢◌, ◌⊎◌, ℕ, ◌+◌, ◌≤◌, ◌^◌, ◌<◌, IsTrue, List, [], ◌∷◌, ◌++◌, drop, length, take, Some}
 use Rattle.salt_bytes.specs.Log.{entries_in, framed, spelled}
 use Rattle.salt_disk.specs.Disks.{View, IsSettled}
+use Rattle.salt_gatelog.specs.Block.{IsBlockOf}
 use Rattle.salt_gatelog.specs.declared.log.GateLog.{GateLog}
 
 abbrev pub device_of : GateLog → ℕ
@@ -40,10 +41,18 @@ pub record IsLog (d : View) (log : GateLog) (entries : List (List ℕ)) : Type 0
   pub next : log.next ≤ log.count
   pub within : log.place ≤ log.end
   pub place : IsTrue d.told → log.place ≡ length (spelled (take log.next entries))
+  pub block : IsBlockOf d log.dev log.block
 
 -- These bytes stand for the entries, with one more or without it.
 abbrev pub IsBeforeOrWith : List (List ℕ) → List ℕ → List ℕ → Type 0
 IsBeforeOrWith entries payload bytes = (entries_in bytes ≡ Some entries) ⊎ (entries_in bytes ≡ Some (entries ++ payload ∷ []))
+
+-- what stands in a frame before its payload: room for its length
+abbrev pub front : List ℕ
+front = 0 ∷ 0 ∷ 0 ∷ 0 ∷ 0 ∷ 0 ∷ 0 ∷ 0 ∷ []
+
+abbrev pub payload_in : List ℕ → List ℕ
+payload_in frame = drop 8 frame
 
 -- An entry with this payload stands at a place.
 pub record StandsAt (payload bytes : List ℕ) (at : ℕ) : Type 0 where

@@ -2,12 +2,13 @@
 //! written and is opened by a write of its own. So a stop leaves the entries from before, with the new one or without it.
 #![tactic(auto)]
 
+mod block;
 mod entry;
 mod log;
 mod open;
 mod pair;
 
 pub use entry::rejected;
-pub use log::{GateLog, create};
+pub use log::{GateLog, create, new_frame};
 pub use open::{LogErr, open_log};
 pub use pair::{PairErr, follows, next_generation};

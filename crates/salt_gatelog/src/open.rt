@@ -1,16 +1,20 @@
 //! A log that a device has is opened.
-ghost use Rattle.std.specs.Prelude.{◌≡◌, ℕ, ◌+◌, ◌<◌, ◌≤◌, ◌^◌, ◌*◌, List, length, drop, IsTrue, IfOk, IfErr, Some};
+ghost use Rattle.std.specs.Prelude.{◌≡◌, ℕ, ◌+◌, ◌<◌, ◌≤◌, ◌^◌, ◌*◌, List, length, drop, IsTrue, IfOk, IfErr, OnOk, Some};
 ghost use Rattle.std.specs.Result.{result_err};
 ghost use Rattle.std.specs.Int.{w64, to_be_bytes};
 ghost use Rattle.salt_disk.specs.Disks.{IsSettled, KeepsAll, HasCause, OnlyFails};
+ghost use Rattle.salt_disk.specs.declared.disks.DiskErr.TheVariants.{Memory};
 ghost use Rattle.salt_bytes.specs.Log.{entries_in};
+ghost use Rattle.salt_gatelog.specs.Block.{IsBlock};
 ghost use Rattle.salt_gatelog.specs.Log.{count_of, device_of};
 ghost use Rattle.salt_gatelog.specs.Open.{IsStep, IsPast, disk_err, IsWhy, OpensAs};
 ghost use Rattle.salt_gatelog.specs.declared.open.LogErr.TheVariants.{Disk};
 
 use crate::GateLog;
+use crate::block::Block;
 use salt_disk::{DiskErr, Disks};
 use salt_values::Steps;
+use std::alloc::{AllocError, Global};
 use std::marker::Brand;
 use std::sync::ledger::{Blank, Ledger};
 
@@ -30,6 +34,14 @@ impl From<DiskErr> for LogErr {
 
     fn from(e: DiskErr) -> Self {
         LogErr::Disk(e)
+    }
+}
+
+impl From<AllocError> for LogErr {
+    ghost from_gives = { λ _ r. r ≡ Disk Memory };
+
+    fn from(_: AllocError) -> Self {
+        LogErr::Disk(DiskErr::Memory)
     }
 }
 
@@ -53,17 +65,24 @@ pub fn size_of(bytes: &[u8; 8]) -> u64
     u64::from_be_bytes(*bytes)
 }
 
-/// What stands at a place of a device.
-pub fn step_at<D: Disks>(disks: &mut D, dev: u32, at: u64) -> Result<Step, DiskErr>
-    requires { dev < (D.view disks.old).count }
+/// What stands at a place of a device, of which a piece is in hand.
+pub fn step_at<D: Disks>(
+    disks: &mut D,
+    dev: u32,
+    at: u64,
+    block: &mut Block,
+) -> Result<Step, DiskErr>
+    requires known { dev < (D.view disks.old).count }
+    requires block { IsBlock (D.view disks.old) dev block.old }
     ensures step { IfOk result (λ step. IsTrue (D.view disks.old).told → IsStep (drop at ((D.view disks.old).bytes dev)) at step) }
     ensures past { IfOk result (IsPast at) }
+    ensures block { OnOk result (IsBlock (D.view disks.new) dev block.new) }
     ensures kept { KeepsAll (D.view disks.old) (D.view disks.new) (result_err result) }
     ensures cause { HasCause (D.view disks.old) (D.view disks.new) (result_err result) }
     ensures answers { OnlyFails (result_err result) }
 {
     let mut gate = [0; 1];
-    if disks.read(dev, at, &mut gate)? == 0 {
+    if block.read(disks, dev, at, &mut gate)? == 0 {
         return Ok(Step::Ends);
     }
     let Some(behind) = at.checked_add(1) else {
@@ -73,7 +92,7 @@ pub fn step_at<D: Disks>(disks: &mut D, dev: u32, at: u64) -> Result<Step, DiskE
         return Ok(Step::Closed);
     }
     let mut spelled = [0; 8];
-    let count = disks.read(dev, behind, &mut spelled)?;
+    let count = block.read(disks, dev, behind, &mut spelled)?;
     if count < 8 {
         return Ok(if count == 0 { Step::Ends } else { Step::Cut });
     }
@@ -92,10 +111,12 @@ pub fn step_at<D: Disks>(disks: &mut D, dev: u32, at: u64) -> Result<Step, DiskE
 fn open_counted<D: Disks, L: Ledger>(
     disks: &mut D,
     dev: u32,
+    block: &mut Block,
     steps: &mut Steps<L>,
 ) -> Result<GateLog, LogErr>
     requires known { dev < (D.view disks.old).count }
     requires settled { IsSettled (D.view disks.old) dev }
+    requires block { IsBlock (D.view disks.old) dev block.old }
     ensures log { IfOk result (λ log. (device_of log ≡ dev) × OpensAs (D.view disks.old) (D.view disks.new) log) }
     ensures why { IsTrue (D.view disks.old).told → IfErr result (IsWhy ((D.view disks.old).bytes dev)) }
     ensures kept { KeepsAll (D.view disks.old) (D.view disks.new) (disk_err result) }
@@ -106,7 +127,7 @@ fn open_counted<D: Disks, L: Ledger>(
     let mut end = 0;
     for count in 0..u64::MAX {
         steps.tick();
-        match step_at(disks, dev, end)? {
+        match step_at(disks, dev, end, block)? {
             Step::Closed => {
                 return if count == 0 {
                     Err(LogErr::Blank)
@@ -117,6 +138,7 @@ fn open_counted<D: Disks, L: Ledger>(
                         count,
                         next: 0,
                         place: 0,
+                        block: None,
                     })
                 };
             }
@@ -135,9 +157,15 @@ fn open_counted<D: Disks, L: Ledger>(
 }
 
 /// Opens a log, and counts no steps.
-fn open_anew<D: Disks, L: Ledger>(disks: &mut D, dev: u32, blank: Blank) -> Result<GateLog, LogErr>
+fn open_anew<D: Disks, L: Ledger>(
+    disks: &mut D,
+    dev: u32,
+    block: &mut Block,
+    blank: Blank,
+) -> Result<GateLog, LogErr>
     requires known { dev < (D.view disks.old).count }
     requires settled { IsSettled (D.view disks.old) dev }
+    requires block { IsBlock (D.view disks.old) dev block.old }
     requires name { blank.name ≡ L.name }
     requires parts { blank.parts ≡ L.parts }
     requires some { 0 < blank.parts }
@@ -147,12 +175,11 @@ fn open_anew<D: Disks, L: Ledger>(disks: &mut D, dev: u32, blank: Blank) -> Resu
     ensures cause { HasCause (D.view disks.old) (D.view disks.new) (disk_err result) }
 {
     let mut steps = Steps::<L>::new(blank);
-    open_counted(disks, dev, &mut steps)
+    open_counted(disks, dev, block, &mut steps)
 }
 
-/// Opens the log of a device on which nothing is pending, by two small reads for each entry and one of the closed gate. It writes
-/// nothing.
-pub fn open_log<D: Disks>(disks: &mut D, dev: u32) -> Result<GateLog, LogErr>
+/// Opens the log of a device on which nothing is pending. It writes nothing.
+pub fn open_log<D: Disks>(alloc: Global, disks: &mut D, dev: u32) -> Result<GateLog, LogErr>
     requires known { dev < (D.view disks.old).count }
     requires settled { IsSettled (D.view disks.old) dev }
     ensures log { IfOk result (λ log. (device_of log ≡ dev) × OpensAs (D.view disks.old) (D.view disks.new) log) }
@@ -160,5 +187,6 @@ pub fn open_log<D: Disks>(disks: &mut D, dev: u32) -> Result<GateLog, LogErr>
     ensures kept { KeepsAll (D.view disks.old) (D.view disks.new) (disk_err result) }
     ensures cause { HasCause (D.view disks.old) (D.view disks.new) (disk_err result) }
 {
-    open_anew::<D, Brand>(disks, dev, Blank::new(1))
+    let mut block = Block::new(alloc)?;
+    open_anew::<D, Brand>(disks, dev, &mut block, Blank::new(1))
 }

@@ -20,9 +20,10 @@ use Rattle.salt_stands.specs.FirstOpening.{IsCreated, first_part_header, first_v
 use Rattle.salt_stands.specs.LogDevices.{IsPartitionLog}
 use Rattle.salt_stands.specs.Partition.{pages_device, part_device}
 use Rattle.salt_stands.specs.PartitionLog.{own_log, partition_generation, partition_in, with_prepared}
-use Rattle.salt_stands.specs.Words.{and_then, given}
 use Rattle.std.proofs.Common.{Bool, List, None, Some, [], ap, arith, inl, inr, refl, subst, sym, true, ℕ, ◌+◌, ◌++◌, ◌<◌, ◌≡◌, ◌≤◌, ◌∙◌, ◌∷◌}
 use Rattle.std.proofs.lemmas.Bool.{eq-eqb}
+use Rattle.std.specs.Bool.{then_some}
+use Rattle.std.specs.Prelude.{option_and_then}
 
 no_changes : [] ≡ (with_changes [] no_rows).list
 unfolding with_changes
@@ -32,8 +33,8 @@ reads_first : (part : ℕ) → partition_in part (spell_partition_header (first_
 reads_first part =
     let h = first_part_header 2 part in
     let read : partition_header_in (spell_partition_header h) ≡ Some h = reads_partition_header h (record { format = refl; generation = omega arith; first = refl; count = omega arith; sides = refl }) in
-    ap (and_then (λ h. own_log part h [])) read
-    ∙ ap (λ (b : Bool). and_then (λ own. with_prepared own (Some [])) (given b h)) (eq-eqb part part refl)
+    ap (option_and_then (λ h. own_log part h [])) read
+    ∙ ap (λ (b : Bool). option_and_then (λ own. with_prepared own (Some [])) (then_some b h)) (eq-eqb part part refl)
 
 module _ (d0 d1 d2 e : View) (part : ℕ) (first : KeepsOthers (part_device part + 1) d0 d1 None) (second : KeepsOthers (part_device part) d1 d2 None) (third : KeepsOthers (part_device part) d2 e None) where
   pub made_others : KeepsBut (IsPartitionLog part) d0 e None

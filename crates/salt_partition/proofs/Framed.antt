@@ -17,12 +17,12 @@ use Rattle.salt_stands.specs.PartitionLog.{PartitionLog, partition_generation, p
 use Rattle.salt_stands.specs.Pieces.{PartStands, PartView, other_log, with_prepared_unit}
 use Rattle.salt_stands.specs.Reading.{Reading}
 use Rattle.salt_stands.specs.Tables.{change_of_row}
-use Rattle.salt_stands.specs.Words.{and_then, given}
 use Rattle.salt_stands.specs.Stands.{logs_of}
 use Rattle.salt_values.specs.declared.change.Change.{Change}
 use Rattle.salt_values.specs.declared.id.Id.{Id}
-use Rattle.std.specs.Prelude.{if◌then◌else◌, map}
+use Rattle.std.specs.Prelude.{if◌then◌else◌, map, option_and_then}
 use Rattle.std.proofs.Common.{Bool, IsTrue, List, None, Some, ap, arith, false, length, refl, subst, sym, true, ℕ, ◌+◌, ◌≡◌, ◌∙◌}
+use Rattle.std.specs.Bool.{then_some}
 
 -- what holds of both logs holds of each
 at_log : (P : ℕ → Type 0) (a : ℕ) (which : WhichLog) → P a → P (a + 1) → P (device_of a which)
@@ -91,6 +91,6 @@ part_stands r c d x p v applied is told sound =
     record {
       counts = t.counts;
       sound = sound;
-      rows = ap (λ sides. and_then (λ rows. given (are_sound_rows r c p (map change_of_row rows)) (map change_of_row rows)) (rows_from (has_nulls v.log.header.format) (d.bytes (pages_device p)) 0 sides)) is.pages
+      rows = ap (λ sides. option_and_then (λ rows. then_some (are_sound_rows r c p (map change_of_row rows)) (map change_of_row rows)) (rows_from (has_nulls v.log.header.format) (d.bytes (pages_device p)) 0 sides)) is.pages
           ∙ ap Some (sym is.none);
     }

@@ -2,10 +2,10 @@
 use Rattle.salt_bytes.specs.Formats.{has_nulls}
 use Rattle.salt_bytes.specs.Partition.{PartitionHeader, Prepared, partition_header_in, prepared_in}
 use Rattle.salt_stands.specs.PartitionLog.{PartitionLog, gathered, own_log, partition_in, with_prepared}
-use Rattle.salt_stands.specs.Words.{and_then, given}
 use Rattle.std.proofs.Common.{Bool, List, None, Option, Some, [], ap, append_assoc, arith, drop, false, length, refl, slice_get, subst, suc, sym, true, zero, ℕ, ◌+◌, ◌++◌, ◌<◌, ◌≡◌, ◌≤◌, ◌∙◌, ◌∷◌}
 use Rattle.std.proofs.lemmas.List.{append-nil}
-use Rattle.std.specs.Prelude.{option_map, ◌==◌}
+use Rattle.std.specs.Prelude.{option_map, ◌==◌, option_and_then}
+use Rattle.std.specs.Bool.{then_some}
 
 -- AN ENTRY OF THE LIST
 
@@ -34,18 +34,18 @@ gathered_none nulls (e ∷ entries) = gathered_none nulls entries
 
 -- ONE ENTRY FURTHER
 
-pub gathered_next : (nulls : Bool) (xs : List Prepared) (entries : List (List ℕ)) (i : ℕ) (x : Prepared) → i < length entries → Some x ≡ and_then (prepared_in nulls) (slice_get entries i)
+pub gathered_next : (nulls : Bool) (xs : List Prepared) (entries : List (List ℕ)) (i : ℕ) (x : Prepared) → i < length entries → Some x ≡ option_and_then (prepared_in nulls) (slice_get entries i)
     → gathered nulls (Some xs) (drop i entries) ≡ gathered nulls (Some (xs ++ x ∷ [])) (drop (i + 1) entries)
 gathered_next nulls xs entries i x low is =
     let e = entry_at entries i low in
-    let reads : prepared_in nulls e.payload ≡ Some x = sym (is ∙ ap (and_then (prepared_in nulls)) e.got) in
+    let reads : prepared_in nulls e.payload ≡ Some x = sym (is ∙ ap (option_and_then (prepared_in nulls)) e.got) in
     ap (gathered nulls (Some xs)) e.left ∙ ap (λ o. gathered nulls (option_map (λ y. xs ++ y ∷ []) o) (drop (i + 1) entries)) reads
 
-pub gathered_fails : (nulls : Bool) (xs : List Prepared) (entries : List (List ℕ)) (i : ℕ) → i < length entries → None ≡ and_then (prepared_in nulls) (slice_get entries i)
+pub gathered_fails : (nulls : Bool) (xs : List Prepared) (entries : List (List ℕ)) (i : ℕ) → i < length entries → None ≡ option_and_then (prepared_in nulls) (slice_get entries i)
     → gathered nulls (Some xs) (drop i entries) ≡ None
 gathered_fails nulls xs entries i low is =
     let e = entry_at entries i low in
-    let reads : prepared_in nulls e.payload ≡ None = sym (is ∙ ap (and_then (prepared_in nulls)) e.got) in
+    let reads : prepared_in nulls e.payload ≡ None = sym (is ∙ ap (option_and_then (prepared_in nulls)) e.got) in
     ap (gathered nulls (Some xs)) e.left ∙ ap (λ o. gathered nulls (option_map (λ y. xs ++ y ∷ []) o) (drop (i + 1) entries)) reads ∙ gathered_none nulls (drop (i + 1) entries)
 
 pub gathered_end : (nulls : Bool) (xs : List Prepared) (entries : List (List ℕ)) (i : ℕ) → length entries ≤ i → gathered nulls (Some xs) (drop i entries) ≡ Some xs
@@ -55,7 +55,7 @@ gathered_end nulls xs entries i long = ap (gathered nulls (Some xs)) (drop_all e
 
 each : Bool → List (List ℕ) → Option (List Prepared)
 each nulls [] = Some []
-each nulls (e ∷ entries) = and_then (λ x. option_map (λ xs. x ∷ xs) (each nulls entries)) (prepared_in nulls e)
+each nulls (e ∷ entries) = option_and_then (λ x. option_map (λ xs. x ∷ xs) (each nulls entries)) (prepared_in nulls e)
 
 gathered_each : (nulls : Bool) (xs : List Prepared) (entries : List (List ℕ)) → gathered nulls (Some xs) entries ≡ option_map (λ ys. xs ++ ys) (each nulls entries)
 unfolding each
@@ -67,7 +67,7 @@ gathered_each nulls xs (e ∷ entries) = by (prepared_in nulls e) (λ x. gathere
     more x (Some ys) = ap (λ l. Some l) (append_assoc xs (x ∷ []) ys)
 
     by : (o : Option Prepared) → ((x : Prepared) → gathered nulls (Some (xs ++ x ∷ [])) entries ≡ option_map (λ ys. xs ++ x ∷ [] ++ ys) (each nulls entries))
-        → gathered nulls (option_map (λ y. xs ++ y ∷ []) o) entries ≡ option_map (λ ys. xs ++ ys) (and_then (λ x. option_map (λ ys. x ∷ ys) (each nulls entries)) o)
+        → gathered nulls (option_map (λ y. xs ++ y ∷ []) o) entries ≡ option_map (λ ys. xs ++ ys) (option_and_then (λ x. option_map (λ ys. x ∷ ys) (each nulls entries)) o)
     by None rest = gathered_none nulls entries
     by (Some x) rest = rest x ∙ more x (each nulls entries)
 
@@ -78,29 +78,29 @@ each_is nulls entries ps is = same (each nulls entries) (sym (gathered_each null
     same None h = cc
     same (Some ys) h = h
 
-each_at : (nulls : Bool) (entries : List (List ℕ)) (ps : List Prepared) → each nulls entries ≡ Some ps → (i : ℕ) → i < length entries → and_then (prepared_in nulls) (slice_get entries i) ≡ slice_get ps i
+each_at : (nulls : Bool) (entries : List (List ℕ)) (ps : List Prepared) → each nulls entries ≡ Some ps → (i : ℕ) → i < length entries → option_and_then (prepared_in nulls) (slice_get entries i) ≡ slice_get ps i
 unfolding each
 each_at nulls [] ps is i low = absurd (omega (arith, low))
 each_at nulls (e ∷ entries) ps is i low = by (prepared_in nulls e) refl (each nulls entries) (λ xs rest j below. each_at nulls entries xs rest j below) is i low
   where
-    at : (x : Prepared) (xs : List Prepared) → prepared_in nulls e ≡ Some x → ((j : ℕ) → j < length entries → and_then (prepared_in nulls) (slice_get entries j) ≡ slice_get xs j)
-        → (i : ℕ) → i < suc (length entries) → and_then (prepared_in nulls) (slice_get (e ∷ entries) i) ≡ slice_get (x ∷ xs) i
+    at : (x : Prepared) (xs : List Prepared) → prepared_in nulls e ≡ Some x → ((j : ℕ) → j < length entries → option_and_then (prepared_in nulls) (slice_get entries j) ≡ slice_get xs j)
+        → (i : ℕ) → i < suc (length entries) → option_and_then (prepared_in nulls) (slice_get (e ∷ entries) i) ≡ slice_get (x ∷ xs) i
     at x xs first rest zero low = first
     at x xs first rest (suc i) low = rest i (omega (arith, low))
 
     by : (o : Option Prepared) → prepared_in nulls e ≡ o → (r : Option (List Prepared))
-        → ((xs : List Prepared) → r ≡ Some xs → (j : ℕ) → j < length entries → and_then (prepared_in nulls) (slice_get entries j) ≡ slice_get xs j)
-        → and_then (λ x. option_map (λ xs. x ∷ xs) r) o ≡ Some ps → (i : ℕ) → i < suc (length entries) → and_then (prepared_in nulls) (slice_get (e ∷ entries) i) ≡ slice_get ps i
+        → ((xs : List Prepared) → r ≡ Some xs → (j : ℕ) → j < length entries → option_and_then (prepared_in nulls) (slice_get entries j) ≡ slice_get xs j)
+        → option_and_then (λ x. option_map (λ xs. x ∷ xs) r) o ≡ Some ps → (i : ℕ) → i < suc (length entries) → option_and_then (prepared_in nulls) (slice_get (e ∷ entries) i) ≡ slice_get ps i
     by None first r rest h i low = cc
     by (Some x) first None rest h i low = cc
-    by (Some x) first (Some xs) rest h i low = let same : x ∷ xs ≡ ps = cc in subst (λ (l : List Prepared). and_then (prepared_in nulls) (slice_get (e ∷ entries) i) ≡ slice_get l i) same (at x xs first (rest xs refl) i low)
+    by (Some x) first (Some xs) rest h i low = let same : x ∷ xs ≡ ps = cc in subst (λ (l : List Prepared). option_and_then (prepared_in nulls) (slice_get (e ∷ entries) i) ≡ slice_get l i) same (at x xs first (rest xs refl) i low)
 
 each_length : (nulls : Bool) (entries : List (List ℕ)) (ps : List Prepared) → each nulls entries ≡ Some ps → length entries ≡ length ps
 unfolding each
 each_length nulls [] ps is = let same : [] ≡ ps = cc in ap length same
 each_length nulls (e ∷ entries) ps is = by (prepared_in nulls e) (each nulls entries) (λ xs rest. each_length nulls entries xs rest) is
   where
-    by : (o : Option Prepared) (r : Option (List Prepared)) → ((xs : List Prepared) → r ≡ Some xs → length entries ≡ length xs) → and_then (λ x. option_map (λ xs. x ∷ xs) r) o ≡ Some ps → suc (length entries) ≡ length ps
+    by : (o : Option Prepared) (r : Option (List Prepared)) → ((xs : List Prepared) → r ≡ Some xs → length entries ≡ length xs) → option_and_then (λ x. option_map (λ xs. x ∷ xs) r) o ≡ Some ps → suc (length entries) ≡ length ps
     by None r rest h = cc
     by (Some x) None rest h = cc
     by (Some x) (Some xs) rest h = let same : x ∷ xs ≡ ps = cc in ap suc (rest xs refl) ∙ ap length same
@@ -117,21 +117,21 @@ units_gathered p first payloads log is = by (partition_header_in first) is
         same : record { header = h; prepared = ps } ≡ log
         same = cc
 
-    own : (b : Bool) (h : PartitionHeader) → and_then (λ own. with_prepared own (gathered (has_nulls own.format) (Some []) payloads)) (given b h) ≡ Some log → gathered (has_nulls log.header.format) (Some []) payloads ≡ Some log.prepared
+    own : (b : Bool) (h : PartitionHeader) → option_and_then (λ own. with_prepared own (gathered (has_nulls own.format) (Some []) payloads)) (then_some b h) ≡ Some log → gathered (has_nulls log.header.format) (Some []) payloads ≡ Some log.prepared
     own false h e = cc
     own true h e = whole h (gathered (has_nulls h.format) (Some []) payloads) refl e
 
-    by : (o : Option PartitionHeader) → and_then (λ h. own_log p h payloads) o ≡ Some log → gathered (has_nulls log.header.format) (Some []) payloads ≡ Some log.prepared
+    by : (o : Option PartitionHeader) → option_and_then (λ h. own_log p h payloads) o ≡ Some log → gathered (has_nulls log.header.format) (Some []) payloads ≡ Some log.prepared
     by None e = cc
     by (Some h) e = own (h.part == p) h e
 
 pub logged_at : (p : ℕ) (entries : List (List ℕ)) (log : PartitionLog) → partition_in p entries ≡ Some log → (i : ℕ) → i + 1 < length entries
-    → and_then (prepared_in (has_nulls log.header.format)) (slice_get entries (i + 1)) ≡ slice_get log.prepared i
+    → option_and_then (prepared_in (has_nulls log.header.format)) (slice_get entries (i + 1)) ≡ slice_get log.prepared i
 logged_at p [] log is i low = cc
 logged_at p (first ∷ payloads) log is i low =
     let nulls = has_nulls log.header.format in
     let next : i + 1 ≡ suc i = omega arith in
-    ap (λ k. and_then (prepared_in nulls) (slice_get (first ∷ payloads) k)) next
+    ap (λ k. option_and_then (prepared_in nulls) (slice_get (first ∷ payloads) k)) next
     ∙ each_at nulls payloads log.prepared (each_is nulls payloads log.prepared (units_gathered p first payloads log is)) i (omega (arith, low))
 
 pub logged_count : (p : ℕ) (entries : List (List ℕ)) (log : PartitionLog) → partition_in p entries ≡ Some log → length entries ≡ suc (length log.prepared)

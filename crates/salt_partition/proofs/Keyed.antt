@@ -6,7 +6,7 @@ use Rattle.salt_bytes.specs.Numbers.{take_16, take_64, take_counted}
 use Rattle.salt_bytes.specs.Partition.{Prepared, prepared_in, take_prepared}
 use Rattle.salt_bytes.specs.Spellable.{Every}
 use Rattle.salt_bytes.specs.Taking.{give, if_all, only_if, take_byte, take_each, then_take}
-use Rattle.salt_bytes.specs.Values.{key_of, take_row, take_value}
+use Rattle.salt_bytes.specs.Values.{take_row, take_value}
 use Rattle.salt_disk.specs.Disks.{View}
 use Rattle.salt_codec.specs.Entries.{IsPut, IsPutTo, prepared_of}
 use Rattle.salt_codec.specs.declared.prepared.PreparedUnit.{PreparedUnit}
@@ -26,6 +26,7 @@ use Rattle.salt_values.specs.declared.value.Value.{Value}
 use Rattle.std.proofs.Common.{List, None, Option, Some, [], ap, false, refl, subst, sym, true, ℕ, ◌++◌, ◌≡◌, ◌∙◌, ◌∷◌}
 use Rattle.std.specs.Ordering.{is_eq}
 use Rattle.std.specs.Prelude.{Bool, IfSome, cond, option_map, suc, zero, ◌==◌}
+use Rattle.salt_values.specs.Value.{key_of}
 
 given_first : {A : Type 0} (x y : A) (bytes rest : List ℕ) → give x bytes ≡ Some (y, rest) → x ≡ y
 given_first x y bytes rest e = (Rattle.salt_bytes.proofs.Only.given_only x y bytes rest e).0
@@ -108,18 +109,14 @@ decided_keyed us (x ∷ xs) h = every_append HasKey (changes_if (has_id x.unit u
     by true = h.0
     by false = tt
 
-same_key : (row : List Value) → Rattle.salt_model.specs.Tables.key_of row ≡ key_of row
-same_key [] = refl
-same_key (v ∷ vs) = refl
-
 one_keyed : (c : Change) (t : Tables) → HasKey c → IsKeyed t → IsKeyed (make_change c t)
-one_keyed c t own keyed q = subst (λ o. IfSome o (λ row. Rattle.salt_model.specs.Tables.key_of row ≡ q.key)) (sym (row_at_set q (changed_at c) c.row t)) (by (is_eq (place_cmp q (changed_at c))) refl)
+one_keyed c t own keyed q = subst (λ o. IfSome o (λ row. key_of row ≡ q.key)) (sym (row_at_set q (changed_at c) c.row t)) (by (is_eq (place_cmp q (changed_at c))) refl)
   where
-    there : (row : Option (List Value)) → HasKeyTo c.key row → q.key ≡ c.key → IfSome row (λ row. Rattle.salt_model.specs.Tables.key_of row ≡ q.key)
+    there : (row : Option (List Value)) → HasKeyTo c.key row → q.key ≡ c.key → IfSome row (λ row. key_of row ≡ q.key)
     there None h e = tt
-    there (Some row) h e = same_key row ∙ h ∙ sym e
+    there (Some row) h e = h ∙ sym e
 
-    by : (b : Bool) → is_eq (place_cmp q (changed_at c)) ≡ b → IfSome (cond b c.row (row_at q t)) (λ row. Rattle.salt_model.specs.Tables.key_of row ≡ q.key)
+    by : (b : Bool) → is_eq (place_cmp q (changed_at c)) ≡ b → IfSome (cond b c.row (row_at q t)) (λ row. key_of row ≡ q.key)
     by true e = there c.row own (ap (λ (p : Place). p.key) (place_same q (changed_at c) (equal_is (place_cmp q (changed_at c)) e)))
     by false e = keyed q
 

@@ -8,16 +8,15 @@ use Rattle.salt_partition.specs.Contents.{SpellsUnit}
 use Rattle.salt_partition.specs.Partitions.{IsPartition, changes_in}
 use Rattle.salt_partition.specs.declared.partition.Partition.{Partition}
 use Rattle.salt_stands.specs.Pieces.{PartView}
-use Rattle.salt_stands.specs.Words.{and_then}
 use Rattle.salt_values.specs.declared.id.Id.{Id}
 use Rattle.std.proofs.Common.{Bool, IsTrue, List, None, Some, ap, arith, length, slice_get, suc, sym, ℕ, ◌+◌, ◌-◌, ◌<◌, ◌≡◌, ◌≤◌, ◌∙◌}
-use Rattle.std.specs.Prelude.{option_map}
+use Rattle.std.specs.Prelude.{option_map, option_and_then}
 
 module _ (d : View) (x : Partition) (p : ℕ) (v : PartView) (applied : List Id) (is : IsPartition d x p v applied) (told : IsTrue d.told) where
   -- the entry of a prepared unit
-  pub entry_of : (i : ℕ) → i + 1 < length is.entries → and_then (prepared_in x.nulls) (slice_get is.entries (i + 1)) ≡ slice_get v.log.prepared i
+  pub entry_of : (i : ℕ) → i + 1 < length is.entries → option_and_then (prepared_in x.nulls) (slice_get is.entries (i + 1)) ≡ slice_get v.log.prepared i
   entry_of i low =
-      ap (λ (nulls : Bool). and_then (prepared_in nulls) (slice_get is.entries (i + 1))) is.nulls ∙ logged_at p is.entries v.log (is.told told).reads i low
+      ap (λ (nulls : Bool). option_and_then (prepared_in nulls) (slice_get is.entries (i + 1))) is.nulls ∙ logged_at p is.entries v.log (is.told told).reads i low
 
   pub count_of_units : length is.entries ≡ suc (length v.log.prepared)
   count_of_units = logged_count p is.entries v.log (is.told told).reads
@@ -32,5 +31,5 @@ module _ (d : View) (x : Partition) (p : ℕ) (v : PartView) (applied : List Id)
   pub none_at : (i : ℕ) → x.log.count - 1 ≤ i → None ≡ option_map changes_in (slice_get v.log.prepared i)
   none_at i high = sym (ap (option_map changes_in) (past v.log.prepared i (omega (arith, high, is.is_log.count, count_of_units))))
 
-  pub changes_at : (i : ℕ) (unit : PreparedUnit) → i < x.log.count - 1 → Some (prepared_of unit) ≡ and_then (prepared_in x.nulls) (slice_get is.entries (i + 1)) → Some unit.changes.items ≡ option_map changes_in (slice_get v.log.prepared i)
+  pub changes_at : (i : ℕ) (unit : PreparedUnit) → i < x.log.count - 1 → Some (prepared_of unit) ≡ option_and_then (prepared_in x.nulls) (slice_get is.entries (i + 1)) → Some unit.changes.items ≡ option_map changes_in (slice_get v.log.prepared i)
   changes_at i unit low reads = ap (option_map changes_in) (reads ∙ entry_of i (omega (arith, low, is.is_log.count)))

@@ -6,6 +6,7 @@ use Rattle.salt_partition.specs.Contents.{units_of}
 use Rattle.salt_stands.specs.Partition.{unit_prepared}
 use Rattle.salt_stands.specs.Pieces.{is_prepared_in}
 use Rattle.salt_values.specs.Id.{is_same_id}
+use Rattle.salt_values.specs.Order.{id_cmp}
 use Rattle.salt_values.specs.declared.id.Id.{Id}
 use Rattle.std.proofs.Common.{Bool, List, [], ap, arith, cond, false, refl, sym, true, ℕ, ◌++◌, ◌≡◌, ◌∙◌, ◌∷◌}
 use Rattle.std.proofs.lemmas.Bool.Decides.{nat_tests}
@@ -13,13 +14,10 @@ use Rattle.std.proofs.lemmas.List.Folds.{list_any-append}
 use Rattle.std.specs.BTreeMap.{is_at}
 use Rattle.std.specs.BTreeSet.{BTreeSet}
 use Rattle.std.specs.List.{list_any}
-use Rattle.std.specs.Ordering.{is_eq, nat_cmp, on, ordering_then, then_cmp}
+use Rattle.std.specs.Ordering.{is_eq, nat_cmp, ordering_then}
 use Rattle.std.specs.Prelude.{map, ◌&&◌, ◌==◌, ◌||◌}
 use Rattle.std.specs.declared.cmp.Ordering.TheVariants.{Equal, Greater, Less}
 use Rattle.std.specs.declared.cmp.Ordering.{Ordering}
-
-abbrev pub id_cmp : Id → Id → Ordering
-id_cmp = then_cmp (on (λ (a : Id). a.boot) nat_cmp) (on (λ (a : Id). a.seq) nat_cmp)
 
 tied : (m n : ℕ) → is_eq (nat_cmp m n) ≡ (m == n)
 tied m n = grind (arith, nat_tests)

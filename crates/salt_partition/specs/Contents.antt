@@ -3,7 +3,6 @@ use Rattle.salt_bytes.specs.Generations.{Blank, Content, IsRead, Outside, conten
 use Rattle.salt_bytes.specs.Log.{entries_in}
 use Rattle.salt_bytes.specs.Partition.{Prepared, prepared_in}
 use Rattle.salt_bytes.specs.Spellable.{Every}
-use Rattle.salt_bytes.specs.Values.{key_of}
 use Rattle.salt_disk.specs.Disks.{View}
 use Rattle.salt_codec.specs.Entries.{header_of, prepared_of}
 use Rattle.salt_codec.specs.declared.prepared.PreparedUnit.{PreparedUnit}
@@ -13,10 +12,10 @@ use Rattle.salt_partition.specs.declared.contents.LogContent.TheVariants as foun
 use Rattle.salt_partition.specs.declared.contents.LogContent.{LogContent}
 use Rattle.salt_partition.specs.declared.contents.ReadLog.{ReadLog}
 use Rattle.salt_stands.specs.PartitionLog.{PartitionLog, partition_in}
-use Rattle.salt_stands.specs.Words.{and_then}
 use Rattle.salt_values.specs.declared.change.Change.{Change}
 use Rattle.salt_values.specs.declared.value.Value.{Value}
-use Rattle.std.specs.Prelude.{Bool, IsTrue, List, None, Option, Some, length, map, slice_get, ℕ, ⊤, ◌<◌, ◌≡◌}
+use Rattle.std.specs.Prelude.{Bool, IsTrue, List, None, Option, Some, length, map, slice_get, ℕ, ⊤, ◌<◌, ◌≡◌, option_and_then}
+use Rattle.salt_values.specs.Value.{key_of}
 
 abbrev pub units_of : List PreparedUnit → List Prepared
 units_of units = map prepared_of units
@@ -70,7 +69,7 @@ pub record SpellsUnit (d : View) (log : GateLog) (nulls : Bool) (i : ℕ) : Type
   pub entries : List (List ℕ)
   pub is_log : IsLog d log entries
   pub unit : Prepared
-  pub spells : Some unit ≡ and_then (prepared_in nulls) (slice_get entries i)
+  pub spells : Some unit ≡ option_and_then (prepared_in nulls) (slice_get entries i)
 
 -- what was found on a device
 pub record IsContent (old new : View) (part dev : ℕ) (c : LogContent) : Type 0 where

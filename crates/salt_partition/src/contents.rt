@@ -70,7 +70,7 @@ pub fn content_of<D: Disks>(
     ensures cause { HasCause (D.view disks.old) (D.view disks.new) (result_err result) }
     ensures answers { IsTrue (D.view disks.old).told → OnlyFails (result_err result) }
 {
-    match open_log(disks, dev) {
+    match open_log(alloc, disks, dev) {
         Ok(log) => read_log(alloc, disks, log, part),
         Err(LogErr::Blank) => Ok(LogContent::Blank),
         Err(LogErr::NotLog) => Ok(LogContent::Outside),

@@ -9,7 +9,7 @@ use std::alloc::{AllocError, Global};
 pub fn changes_copied(alloc: Global, changes: &[Change]) -> Result<Vec<Change>, AllocError>
     ensures { IfOk result (λ made. made.items ≡ changes.now) }
 {
-    let mut made = Vec::new(alloc);
+    let mut made = Vec::with_capacity(alloc, changes.len())?;
     for change in changes {
         made.push(change.copy(alloc)?)?;
     }

@@ -7,6 +7,7 @@ mod contents;
 mod copies;
 mod create;
 mod devices;
+mod frame;
 mod generations;
 mod known;
 mod open;

@@ -18,9 +18,10 @@ ghost use Rattle.std.specs.Result.{result_err};
 
 use crate::compared::are_rows_with;
 use crate::copies::changes_copied;
+use crate::frame::prepared_frame;
 use crate::rows::make_changes;
 use crate::units::unit_told;
-use salt_codec::{PreparedUnit, spell_prepared};
+use salt_codec::PreparedUnit;
 use salt_disk::{DiskErr, Disks};
 use salt_eval::{MapView, RowView, Tables};
 use salt_gatelog::GateLog;
@@ -99,10 +100,10 @@ impl Partition {
         ensures full { FullExactly (log_device self.old) ((D.view disks.old).limit (log_device self.old)) (log_gate self.old + 10 + length (spell_prepared (prepared unit changes.now))) (result_err result) }
         ensures untouched { (n : ℕ) → result ≡ Err (Full n) → IsUnchanged (D.view disks.old) (D.view disks.new) (log_device self.old) }
     {
-        let entry = spell_prepared(self.alloc, unit, changes.as_slice())?;
+        let frame = prepared_frame(self.alloc, unit, changes.as_slice())?;
         let changes = changes_copied(self.alloc, changes.as_slice())?;
         self.last = Some(PreparedUnit { unit, changes });
-        self.log.append(self.alloc, disks, &entry)
+        self.log.append_frame(disks, frame)
     }
 
     /// Applies the unit that was prepared last: its changes are made in the rows. No byte is written. After an error the partition

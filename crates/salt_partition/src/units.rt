@@ -8,8 +8,7 @@ ghost use Rattle.salt_gatelog.specs.Entry.{HasMoved};
 ghost use Rattle.salt_gatelog.specs.Log.{IsLog, count_of};
 ghost use Rattle.salt_partition.specs.Contents.{AreKeyed, SpellsUnit, units_of};
 ghost use Rattle.salt_stands.specs.PartitionLog.{gathered};
-ghost use Rattle.salt_stands.specs.Words.{and_then};
-ghost use Rattle.std.specs.Prelude.{IfOk, IfSome, IsTrue, List, Some, [], drop, option_map, slice_get, ℕ, ◌<◌, ◌≡◌};
+ghost use Rattle.std.specs.Prelude.{IfOk, IfSome, IsTrue, List, Some, [], drop, option_map, slice_get, ℕ, ◌<◌, ◌≡◌, option_and_then};
 ghost use Rattle.std.specs.Result.{result_err};
 
 use salt_codec::{Header, PreparedUnit, read_header, read_prepared};
@@ -26,7 +25,7 @@ pub fn header_at<D: Disks>(
     requires log { (entries : List (List ℕ)) × IsLog (D.view disks.old) log.old entries }
     requires some { 0 < count_of log.old }
     ensures header { IfOk result (λ found. (entries : List (List ℕ)) → IsLog (D.view disks.old) log.old entries → IsTrue (D.view disks.old).told
-        → option_map header_of found ≡ and_then partition_header_in (slice_get entries 0)) }
+        → option_map header_of found ≡ option_and_then partition_header_in (slice_get entries 0)) }
     ensures log { (entries : List (List ℕ)) → IsLog (D.view disks.old) log.old entries → UnlessDown (result_err result) (IsLog (D.view disks.new) log.new entries) }
     ensures same { HasMoved log.old log.new }
     ensures kept { KeepsAll (D.view disks.old) (D.view disks.new) (result_err result) }
@@ -49,7 +48,7 @@ pub fn unit_at<D: Disks>(
     requires log { (entries : List (List ℕ)) × IsLog (D.view disks.old) log.old entries }
     requires below { i < count_of log.old }
     ensures unit { IfOk result (λ found. (entries : List (List ℕ)) → IsLog (D.view disks.old) log.old entries → IsTrue (D.view disks.old).told
-        → option_map prepared_of found ≡ and_then (prepared_in nulls) (slice_get entries i)) }
+        → option_map prepared_of found ≡ option_and_then (prepared_in nulls) (slice_get entries i)) }
     ensures keyed { IfOk result (λ found. IfSome found (λ unit. AreKeyed (prepared_of unit))) }
     ensures log { (entries : List (List ℕ)) → IsLog (D.view disks.old) log.old entries → UnlessDown (result_err result) (IsLog (D.view disks.new) log.new entries) }
     ensures same { HasMoved log.old log.new }
@@ -74,7 +73,7 @@ pub fn unit_told<D: Disks>(
     requires below { i < count_of log.old }
     requires spelled { IsTrue (D.view disks.old).told → SpellsUnit (D.view disks.old) log.old nulls i }
     ensures unit { IfOk result (λ unit. (entries : List (List ℕ)) → IsLog (D.view disks.old) log.old entries → IsTrue (D.view disks.old).told
-        → Some (prepared_of unit) ≡ and_then (prepared_in nulls) (slice_get entries i)) }
+        → Some (prepared_of unit) ≡ option_and_then (prepared_in nulls) (slice_get entries i)) }
     ensures log { (entries : List (List ℕ)) → IsLog (D.view disks.old) log.old entries → UnlessDown (result_err result) (IsLog (D.view disks.new) log.new entries) }
     ensures same { HasMoved log.old log.new }
     ensures kept { KeepsAll (D.view disks.old) (D.view disks.new) (result_err result) }

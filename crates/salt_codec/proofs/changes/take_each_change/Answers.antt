@@ -11,5 +11,5 @@ loop-taken-preserved c =
 
 pub returns-in_err-change : goal.returns-in_err-change
 returns-in_err-change c =
-    let p = err_from_is_err_and c.from_residual.result c.from_residual.ensures.1 in
+    let p = err_from_is_err_and c.from_residual-in_err-change.result c.from_residual-in_err-change.ensures.1 in
     rw (p.1, p.2) (each_fails (take_change c.args.nulls) c.args.count c.args.bytes.now c.loop-taken.changes.items c.loop-taken._taken c.loop-taken.rest.now c.in_err-change.field-0.0 c.loop-taken-test.true c.in_err-change.ensures c.loop-taken.invariant)

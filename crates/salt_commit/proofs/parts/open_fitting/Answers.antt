@@ -1,6 +1,8 @@
 use Rattle.salt_bytes.specs.Formats.{has_nulls}
 use Rattle.salt_commit.proofs.Opened.{both_stand, entries_not, fails_as, low_format, not_under, nulls_are}
+use Rattle.salt_commit.proofs.Paired.{fails_only}
 use Rattle.salt_commit.proofs.parts.open_fitting.Goals as goal
+use Rattle.salt_commit.specs.Openings.{IsPartFault}
 use Rattle.salt_commit.specs.Stores.{decided_by}
 use Rattle.salt_stands.specs.Partition.{is_format_under}
 use Rattle.salt_disk.proofs.CallAfterCall.{cause_on, keeps_on}
@@ -12,6 +14,11 @@ pub returns-in_err-partition-clause-why : goal.returns-in_err-partition-clause-w
 returns-in_err-partition-clause-why g c c' k has told =
     let p = err_from_is_err_and c.from_residual.result c.from_residual.ensures.1 in
     rw (p.1, p.2) (fails_as c' (g.D.Disks.view c.args.disks.now).bytes c.args.part c.in_err-partition.field-0.0 (c.in_err-partition.ensures.why c'.log k told))
+
+pub returns-in_err-entries_fit-clause-why : goal.returns-in_err-entries_fit-clause-why
+returns-in_err-entries_fit-clause-why g c c' k has told =
+    let r = err_from_is_err_and c.from_residual-in_err-entries_fit.result c.from_residual-in_err-entries_fit.ensures.1 in
+    rw (r.1, r.2) (fails_only (IsPartFault c' (g.D.Disks.view c.args.disks.now).bytes c.args.part) c.in_err-entries_fit.field-0.0 c.in_err-entries_fit.ensures.answers)
 
 pub returns-then-not-is_format_under-clause-why : goal.returns-then-not-is_format_under-clause-why
 returns-then-not-is_format_under-clause-why g c c' k has told =

@@ -13,8 +13,8 @@ pub returns-in-Some-clause-kept : goal.returns-in-Some-clause-kept
 returns-in-Some-clause-kept g c =
     keeps_then (g.D.Disks.view c.args.disks.now) (g.D.Disks.view c.payload_at.new.disks) (g.D.Disks.view c.read_entries.new.disks) (result_err c.read_entries.result) c.in_ok-payload.ensures.kept c.read_entries.ensures.kept
 
-pub returns-clause-content : goal.returns-clause-content
-returns-clause-content g c told' =
+pub returns-in-None-clause-content : goal.returns-in-None-clause-content
+returns-in-None-clause-content g c told' =
     let e = g.D.Disks.view c.payload_at.new.disks in
     let told = sym c.in_ok-payload.ensures.kept.shape.told ∙ told' in
     let entries = c.requires.log.0 in

@@ -10,7 +10,7 @@ pub rejected-requires-then-count-lt8 : goal.rejected-requires-then-count-lt8
 rejected-requires-then-count-lt8 g c =
     let d0 = g.D.Disks.view c.args.disks.now in
     let bytes = d0.bytes c.args.dev in
-    not_told (g.D.Disks.view c.read.new.self).told (λ told'.
+    not_told (g.D.Disks.view c.read.new.disks).told (λ told'.
     let told : IsTrue d0.told = sym c.read.ensures.kept.shape.told ∙ told' in
     let here = c.requires.entry told in
     let r = read_size here.0 bytes zeros c.read.new.buf c.args.at c.args.end c.in_ok-count.count c.size_of-size.result here.1 c.ranges.end.fits c.size_of-size.type_inv refl (c.in_ok-count.ensures.bytes told) c.size_of-size.ensures in

@@ -27,7 +27,7 @@ returns-else-count-eq0-clause-log g c =
     let room : l.end + 1 < 2 ^ 64 = subst (λ (s : Step). IsPast l.end s) c.in-Closed.is c.in_ok-step_at.ensures.past in
     let keeps : KeepsAll d0 e None = keeps_on (λ x. ⊥) d0 d e None l.invariant.opened.keeps c.in_ok-step_at.ensures.kept in (
       refl,
-      opens d0 d e dev l.end l.count _ refl refl refl refl refl l.invariant.opened c.requires.settled c.requires.known room (omega (arith, c.if-count-eq0.false))
+      opens d0 d e dev l.end l.count _ refl refl refl refl refl tt l.invariant.opened c.requires.settled c.requires.known room (omega (arith, c.if-count-eq0.false))
           (λ told. subst (λ (s : Step). IsStep (drop l.end (d.bytes dev)) l.end s) c.in-Closed.is (c.in_ok-step_at.ensures.step told)) keeps,
     )
 
@@ -69,7 +69,7 @@ loop-count-preserved g c =
     let dev = c.args.dev in
     let e = g.D.Disks.view c.step_at.new.disks in
     let past : (l.end + 9 ≤ c.in-Entry.next) × (c.in-Entry.next < 2 ^ 64) = subst (λ (s : Step). IsPast l.end s) c.in-Entry.is c.in_ok-step_at.ensures.past in
-    counts_on d0 d e dev l.end c.in-Entry.next l.count c.args.steps.now l.steps c.tick.new.self l.invariant c.tick.ensures past.1 past.0
+    counts_on d0 d e dev l.end c.in-Entry.next l.count c.args.steps.now l.steps c.tick.new.self l.block c.step_at.new.block l.invariant c.in_ok-step_at.ensures.block c.tick.ensures past.1 past.0
     (λ told. subst (λ (s : Step). IsStep (drop l.end (d.bytes dev)) l.end s) c.in-Entry.is (c.in_ok-step_at.ensures.step told))
     (keeps_on (λ x. ⊥) d0 d e None l.invariant.opened.keeps c.in_ok-step_at.ensures.kept) (cause_on d0 d e None l.invariant.opened.cause c.in_ok-step_at.ensures.cause)
 

@@ -5,14 +5,13 @@ use Rattle.salt_gatelog.proofs.Entries.{keeps_then}
 use Rattle.salt_partition.proofs.contents.read_log.Goals as goal
 use Rattle.salt_bytes.specs.Spellable.{Every}
 use Rattle.salt_partition.proofs.Keyed.{if_some}
-use Rattle.salt_partition.proofs.Seen.{no_units, whole}
+use Rattle.salt_partition.proofs.Seen.{no_units, other_part, whole}
 use Rattle.salt_partition.specs.Contents.{AreKeyed, units_of}
 use Rattle.salt_stands.specs.PartitionLog.{gathered}
-use Rattle.salt_stands.specs.Words.{and_then}
 use Rattle.std.proofs.Common.{None, Some, [], ap, drop, slice_get, sym, true, ◌≡◌, ◌∙◌}
-use Rattle.std.proofs.lemmas.Bool.{eq-eqb}
+use Rattle.std.proofs.lemmas.Bool.{eq-eqb, ne_eqb}
 use Rattle.std.proofs.lemmas.Result.{err_from_is_err_and}
-use Rattle.std.specs.Prelude.{option_map, ◌==◌}
+use Rattle.std.specs.Prelude.{option_map, ◌==◌, option_and_then}
 
 pub returns-in_err-units-clause-kept : goal.returns-in_err-units-clause-kept
 returns-in_err-units-clause-kept g c =
@@ -28,12 +27,22 @@ returns-in-None-clause-content g c entries first some = record {
       let told1 = sym c.in_ok-units.ensures.kept.shape.told ∙ now in
       let told = sym c.in_ok-header.ensures.kept.shape.told ∙ told1 in
       let h = header_of c.in-Some.header in
-      let head : Some h ≡ and_then partition_header_in (slice_get entries 0) = ap (option_map header_of) (sym c.in-Some.is) ∙ c.in_ok-header.ensures.header entries first told in
+      let head : Some h ≡ option_and_then partition_header_in (slice_get entries 0) = ap (option_map header_of) (sym c.in-Some.is) ∙ c.in_ok-header.ensures.header entries first told in
       let own : (h.part == c.args.part) ≡ true = eq-eqb _ _ c.if-header-part.false in
       let none : None ≡ gathered (has_nulls h.format) (Some []) (drop 1 entries) =
       ap (option_map (λ units. units_of units.items)) (sym c.in-None.is) ∙ c.in_ok-units.ensures.units entries (c.in_ok-header.ensures.log entries first) told1
       ∙ ap (λ nulls. gathered nulls (Some []) (drop 1 entries)) c.has_nulls.ensures in
       no_units c.args.part entries h some head own none;
+  log = tt;
+}
+
+pub returns-then-header-part-clause-content : goal.returns-then-header-part-clause-content
+returns-then-header-part-clause-content g c entries first some = record {
+  seen = λ now.
+      let told = sym c.in_ok-header.ensures.kept.shape.told ∙ now in
+      let h = header_of c.in-Some.header in
+      let head : Some h ≡ option_and_then partition_header_in (slice_get entries 0) = ap (option_map header_of) (sym c.in-Some.is) ∙ c.in_ok-header.ensures.header entries first told in
+      other_part c.args.part entries h some head (ne_eqb h.part c.args.part c.if-header-part.true);
   log = tt;
 }
 
@@ -46,7 +55,7 @@ returns-in-Some-2-clause-content g c entries first some = record {
       let told1 = sym c.in_ok-units.ensures.kept.shape.told ∙ now in
       let told = sym c.in_ok-header.ensures.kept.shape.told ∙ told1 in
       let h = header_of c.in-Some.header in
-      let head : Some h ≡ and_then partition_header_in (slice_get entries 0) = ap (option_map header_of) (sym c.in-Some.is) ∙ c.in_ok-header.ensures.header entries first told in
+      let head : Some h ≡ option_and_then partition_header_in (slice_get entries 0) = ap (option_map header_of) (sym c.in-Some.is) ∙ c.in_ok-header.ensures.header entries first told in
       let own : (h.part == c.args.part) ≡ true = eq-eqb _ _ c.if-header-part.false in
       let all : Some (units_of c.in-Some-2.units.items) ≡ gathered (has_nulls h.format) (Some []) (drop 1 entries) =
       ap (option_map (λ units. units_of units.items)) (sym c.in-Some-2.is) ∙ c.in_ok-units.ensures.units entries (c.in_ok-header.ensures.log entries first) told1

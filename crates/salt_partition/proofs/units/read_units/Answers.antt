@@ -9,10 +9,9 @@ use Rattle.salt_partition.proofs.Seeing.{units_pushed}
 use Rattle.salt_partition.proofs.units.read_units.Goals as goal
 use Rattle.salt_partition.specs.Contents.{AreKeyed, units_of}
 use Rattle.salt_stands.specs.PartitionLog.{gathered}
-use Rattle.salt_stands.specs.Words.{and_then}
 use Rattle.std.proofs.Common.{None, Some, ap, arith, drop, slice_get, subst, sym, ◌+◌, ◌≡◌, ◌∙◌}
 use Rattle.std.proofs.lemmas.Result.{err_from_is_err_and}
-use Rattle.std.specs.Prelude.{option_map}
+use Rattle.std.specs.Prelude.{option_map, option_and_then}
 
 pub returns-in_err-unit-clause-kept : goal.returns-in_err-unit-clause-kept
 returns-in_err-unit-clause-kept g c =
@@ -35,7 +34,7 @@ pub returns-in-None-clause-units : goal.returns-in-None-clause-units
 returns-in-None-clause-units g c entries first told =
     let l = c.loop-i in
     let told' = l.invariant.keeps.shape.told ∙ told in
-    let read : None ≡ and_then (prepared_in c.args.nulls) (slice_get entries l.i) = ap (option_map prepared_of) (sym c.in-None.is) ∙ c.in_ok-unit.ensures.unit entries (l.invariant.is_log entries first) told' in
+    let read : None ≡ option_and_then (prepared_in c.args.nulls) (slice_get entries l.i) = ap (option_map prepared_of) (sym c.in-None.is) ∙ c.in_ok-unit.ensures.unit entries (l.invariant.is_log entries first) told' in
     sym (gathered_fails c.args.nulls (units_of l.units.items) entries l.i (omega (arith, c.loop-i-test.true, c.count-i-end.ensures, first.count)) read) ∙ l.invariant.so_far entries first told
 
 pub returns-in-None-clause-kept : goal.returns-in-None-clause-kept
@@ -62,7 +61,7 @@ loop-i-preserved g c =
           let told' = l.invariant.keeps.shape.told ∙ told in
           let nulls = c.args.nulls in
           let x = prepared_of c.in-Some.unit in
-          let read : Some x ≡ and_then (prepared_in nulls) (slice_get entries l.i) = ap (option_map prepared_of) (sym c.in-Some.is) ∙ c.in_ok-unit.ensures.unit entries (l.invariant.is_log entries first) told' in
+          let read : Some x ≡ option_and_then (prepared_in nulls) (slice_get entries l.i) = ap (option_map prepared_of) (sym c.in-Some.is) ∙ c.in_ok-unit.ensures.unit entries (l.invariant.is_log entries first) told' in
           ap (λ us. gathered nulls (Some us) (drop (l.i + 1) entries)) (units_pushed l.units.items c.push.new.self.items c.in-Some.unit c.in_ok-push-in-Some.ensures.items)
           ∙ sym (gathered_next nulls (units_of l.units.items) entries l.i x (omega (arith, c.loop-i-test.true, c.count-i-end.ensures, first.count)) read)
           ∙ l.invariant.so_far entries first told;

@@ -1,11 +1,16 @@
+use Rattle.salt_commit.proofs.Ended.{none_behind}
 use Rattle.salt_commit.proofs.OnePart.{next_of_store}
 use Rattle.salt_commit.proofs.store.Store.next_in.Goals as goal
 use Rattle.salt_eval.specs.Views.{next_row}
-use Rattle.salt_stands.specs.Commits.{parts_of}
+use Rattle.salt_stands.specs.Commits.{found_of, parts_of}
 use Rattle.salt_stands.specs.Partition.{part_of_key}
-use Rattle.std.proofs.Common.{ap, arith, subst, ◌<◌, ◌≡◌, ◌∙◌}
+use Rattle.std.proofs.Common.{ap, arith, subst, sym, ◌<◌, ◌≡◌, ◌∙◌}
 use Rattle.std.specs.Option.{option_copied}
 use Rattle.std.specs.Prelude.{IfOk}
+
+pub returns-then-is_over-clause-row : goal.returns-then-is_over-clause-row
+returns-then-is_over-clause-row g c which co v is =
+    none_behind c.args.table c.args.range.now (option_copied c.args.after) (sym c.is_over.ensures ∙ c.if-is_over.true) (found_of co v).kept.tables
 
 pub next_in_part-requires : goal.next_in_part-requires
 next_in_part-requires g c =

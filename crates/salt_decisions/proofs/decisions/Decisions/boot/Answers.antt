@@ -3,18 +3,19 @@ use Rattle.salt_bytes.specs.Spellable.{IsSpellableEntry}
 use Rattle.salt_decisions.proofs.Appended.{next_told, read_so, spelled_so}
 use Rattle.salt_decisions.proofs.decisions.Decisions.boot.Goals as goal
 use Rattle.salt_decisions.specs.Decisions.{booted}
+use Rattle.salt_gatelog.specs.Log.{payload_in}
 use Rattle.salt_stands.specs.Coordinator.{device_of}
 use Rattle.salt_stands.specs.CoordinatorLog.{tell}
-use Rattle.std.proofs.Common.{Some, ap, arith, ◌+◌, ◌≡◌, ◌∙◌}
+use Rattle.std.proofs.Common.{Some, ap, arith, refl, ◌+◌, ◌≡◌, ◌∙◌}
 
 pub returns-in_err-append_entry-clause-images : goal.returns-in_err-append_entry-clause-images
 returns-in_err-append_entry-clause-images g c which log h =
-    spelled_so (g.D.Disks.view c.append_entry.new.disks) (device_of 0 which) ((g.D.Disks.view c.args.disks.now).bytes (device_of 0 which)) c.deref.result.now (spell_entry (Boots (c.args.self.now.boot + 1))) (c.deref.ensures.value ∙ c.in_ok-payload.ensures)
+    spelled_so (g.D.Disks.view c.append_entry.new.disks) (device_of 0 which) ((g.D.Disks.view c.args.disks.now).bytes (device_of 0 which)) (payload_in c.in_ok-frame.frame.items) (spell_entry (Boots (c.args.self.now.boot + 1))) c.in_ok-frame.ensures.payload
     (c.in_err-append_entry.ensures.images which log h.counting)
 
 pub returns-clause-images : goal.returns-clause-images
 returns-clause-images g c which log h =
-    spelled_so (g.D.Disks.view c.append_entry.new.disks) (device_of 0 which) ((g.D.Disks.view c.args.disks.now).bytes (device_of 0 which)) c.deref.result.now (spell_entry (Boots (c.args.self.now.boot + 1))) (c.deref.ensures.value ∙ c.in_ok-payload.ensures)
+    spelled_so (g.D.Disks.view c.append_entry.new.disks) (device_of 0 which) ((g.D.Disks.view c.args.disks.now).bytes (device_of 0 which)) (payload_in c.in_ok-frame.frame.items) (spell_entry (Boots (c.args.self.now.boot + 1))) c.in_ok-frame.ensures.payload
     (c.in_ok-append_entry.ensures.images which log h.counting)
 
 pub returns-clause-ok : goal.returns-clause-ok
@@ -35,5 +36,5 @@ returns-clause-ok g c which log h =
         conts = h.holds.conts;
         parts = h.holds.parts;
       };
-      counting = c.in_ok-append_entry.ensures.ok which log entry (booted log).told h.counting (read_so log.header.shape.parts entry c.deref.result.now c.in_ok-payload.payload.items c.deref.ensures.value c.in_ok-payload.ensures good) tells;
+      counting = c.in_ok-append_entry.ensures.ok which log entry (booted log).told h.counting (read_so log.header.shape.parts entry (payload_in c.in_ok-frame.frame.items) (payload_in c.in_ok-frame.frame.items) refl c.in_ok-frame.ensures.payload good) tells;
     }

@@ -3,6 +3,7 @@ use Rattle.salt_bytes.specs.Spellable.{IsSpellableEntry}
 use Rattle.salt_decisions.proofs.Appended.{next_told, open_next, read_so, spelled_so}
 use Rattle.salt_decisions.proofs.decisions.Decisions.decide.Goals as goal
 use Rattle.salt_decisions.specs.Decisions.{decided, next_decision}
+use Rattle.salt_gatelog.specs.Log.{payload_in}
 use Rattle.salt_stands.specs.Coordinator.{device_of}
 use Rattle.std.proofs.Common.{ap, arith, refl, sym, true, ◌^◌, ◌≡◌, ◌∙◌}
 use Rattle.std.specs.Prelude.{nat_lt}
@@ -10,13 +11,13 @@ use Rattle.std.specs.Prelude.{nat_lt}
 pub returns-in_err-append_entry-clause-images : goal.returns-in_err-append_entry-clause-images
 returns-in_err-append_entry-clause-images g c which log h =
     let d : Decision = next_decision c.args.self.now c.args.unit c.args.parts c.args.mv.now in
-    spelled_so (g.D.Disks.view c.append_entry.new.disks) (device_of 0 which) ((g.D.Disks.view c.args.disks.now).bytes (device_of 0 which)) c.deref.result.now (spell_entry (Decides d)) (c.deref.ensures.value ∙ c.in_ok-payload.ensures)
+    spelled_so (g.D.Disks.view c.append_entry.new.disks) (device_of 0 which) ((g.D.Disks.view c.args.disks.now).bytes (device_of 0 which)) (payload_in c.in_ok-frame.frame.items) (spell_entry (Decides d)) c.in_ok-frame.ensures.payload
     (c.in_err-append_entry.ensures.images which log h.counting)
 
 pub returns-clause-images : goal.returns-clause-images
 returns-clause-images g c which log h =
     let d : Decision = next_decision c.args.self.now c.args.unit c.args.parts c.args.mv.now in
-    spelled_so (g.D.Disks.view c.append_entry.new.disks) (device_of 0 which) ((g.D.Disks.view c.args.disks.now).bytes (device_of 0 which)) c.deref.result.now (spell_entry (Decides d)) (c.deref.ensures.value ∙ c.in_ok-payload.ensures)
+    spelled_so (g.D.Disks.view c.append_entry.new.disks) (device_of 0 which) ((g.D.Disks.view c.args.disks.now).bytes (device_of 0 which)) (payload_in c.in_ok-frame.frame.items) (spell_entry (Decides d)) c.in_ok-frame.ensures.payload
     (c.in_ok-append_entry.ensures.images which log h.counting)
 
 pub returns-clause-ok : goal.returns-clause-ok
@@ -37,6 +38,6 @@ returns-clause-ok g c which log h =
         conts = open_next x.conts c.make_move.new.conts log d x.format h.holds.format h.holds.conts c.in_ok-make_move.ensures;
         parts = h.holds.parts;
       };
-      counting = c.in_ok-append_entry.ensures.ok which log (Decides d) (decided log d).told h.counting (read_so log.header.shape.parts (Decides d) c.deref.result.now c.in_ok-payload.payload.items c.deref.ensures.value c.in_ok-payload.ensures good)
+      counting = c.in_ok-append_entry.ensures.ok which log (Decides d) (decided log d).told h.counting (read_so log.header.shape.parts (Decides d) (payload_in c.in_ok-frame.frame.items) (payload_in c.in_ok-frame.frame.items) refl c.in_ok-frame.ensures.payload good)
           (next_told x.decisions log.told.decisions (decided log d).told h.holds.decisions);
     }

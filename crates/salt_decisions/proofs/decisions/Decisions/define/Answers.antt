@@ -6,6 +6,7 @@ use Rattle.salt_decisions.proofs.decisions.Decisions.define.Goals as goal
 use Rattle.salt_decisions.specs.Decisions.{defined, next_definition}
 use Rattle.salt_decisions.specs.Header.{numbered_of}
 use Rattle.salt_decisions.specs.declared.header.Definition.{Definition}
+use Rattle.salt_gatelog.specs.Log.{payload_in}
 use Rattle.salt_stands.specs.Coordinator.{device_of}
 use Rattle.std.proofs.Common.{List, [], ap, arith, refl, ℕ, ◌+◌, ◌++◌, ◌∙◌, ◌∷◌}
 use Rattle.std.specs.Prelude.{map}
@@ -13,13 +14,13 @@ use Rattle.std.specs.Prelude.{map}
 pub returns-in_err-append_entry-clause-images : goal.returns-in_err-append_entry-clause-images
 returns-in_err-append_entry-clause-images g c which log h =
     let t : NumberedText = next_definition c.args.self.now c.args.text.now in
-    spelled_so (g.D.Disks.view c.append_entry.new.disks) (device_of 0 which) ((g.D.Disks.view c.args.disks.now).bytes (device_of 0 which)) c.deref.result.now (spell_entry (Defines t)) (c.deref.ensures.value ∙ c.in_ok-payload.ensures)
+    spelled_so (g.D.Disks.view c.append_entry.new.disks) (device_of 0 which) ((g.D.Disks.view c.args.disks.now).bytes (device_of 0 which)) (payload_in c.in_ok-frame.frame.items) (spell_entry (Defines t)) c.in_ok-frame.ensures.payload
     (c.in_err-append_entry.ensures.images which log h.counting)
 
 pub returns-clause-images : goal.returns-clause-images
 returns-clause-images g c which log h =
     let t : NumberedText = next_definition c.args.self.now c.args.text.now in
-    spelled_so (g.D.Disks.view c.append_entry.new.disks) (device_of 0 which) ((g.D.Disks.view c.args.disks.now).bytes (device_of 0 which)) c.deref.result.now (spell_entry (Defines t)) (c.deref.ensures.value ∙ c.in_ok-payload.ensures)
+    spelled_so (g.D.Disks.view c.append_entry.new.disks) (device_of 0 which) ((g.D.Disks.view c.args.disks.now).bytes (device_of 0 which)) (payload_in c.in_ok-frame.frame.items) (spell_entry (Defines t)) c.in_ok-frame.ensures.payload
     (c.in_ok-append_entry.ensures.images which log h.counting)
 
 pub returns-clause-ok : goal.returns-clause-ok
@@ -43,6 +44,6 @@ returns-clause-ok g c which log h =
         conts = h.holds.conts;
         parts = h.holds.parts;
       };
-      counting = c.in_ok-append_entry.ensures.ok which log entry (defined log t).told h.counting (read_so log.header.shape.parts entry c.deref.result.now c.in_ok-payload.payload.items c.deref.ensures.value c.in_ok-payload.ensures good)
+      counting = c.in_ok-append_entry.ensures.ok which log entry (defined log t).told h.counting (read_so log.header.shape.parts entry (payload_in c.in_ok-frame.frame.items) (payload_in c.in_ok-frame.frame.items) refl c.in_ok-frame.ensures.payload good)
           (next_told x.decisions log.told.decisions (defined log t).told h.holds.decisions);
     }

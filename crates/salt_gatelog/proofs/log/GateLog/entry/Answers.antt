@@ -1,89 +1,52 @@
-use Rattle.salt_disk.specs.Disks.{KeepsAll}
-use Rattle.salt_gatelog.proofs.Entries.{entry_of, entry_stands, got, keeps_then, keeps_without_memory, payload_there, step_on, whatever}
-use Rattle.salt_gatelog.proofs.Frame.{log_kept}
+use Rattle.salt_gatelog.proofs.Blocks.{taken_block}
+use Rattle.salt_gatelog.proofs.Entries.{moved_on, whatever, with_block, without_block, without_moved}
 use Rattle.salt_gatelog.proofs.log.GateLog.entry.Goals as goal
+use Rattle.salt_gatelog.specs.Block.{IsBlock}
+use Rattle.salt_gatelog.specs.declared.log.GateLog.{GateLog}
 use Rattle.salt_gatelog.specs.Log.{IsLog}
-use Rattle.std.proofs.Common.{None, Some, arith, refl, sym, ◌∙◌}
+use Rattle.std.proofs.Common.{subst, sym}
 use Rattle.std.proofs.lemmas.Result.{err_from_is_err_and}
 
-pub size_at-requires-clause-entry : goal.size_at-requires-clause-entry
-size_at-requires-clause-entry g c told =
-    let entries = c.requires.log.0 in
-    let first = c.requires.log.1 in
-    let is = c.in_ok-find.ensures.moved entries first in
-    (entry_of entries c.find.new.self.next, entry_stands (g.D.Disks.view c.find.new.disks) c.find.new.self entries is (omega (arith, c.in_ok-find.ensures.found, c.requires.below, first.count)) told)
+pub read_entry-requires-clause-log : goal.read_entry-requires-clause-log
+read_entry-requires-clause-log g c =
+    (c.requires.log.0, without_block (g.D.Disks.view c.args.disks.now) c.args.self.now c.take_block.new.self c.requires.log.0 c.take_block.ensures.log c.requires.log.1)
 
-pub bytes_at-requires-clause-there : goal.bytes_at-requires-clause-there
-bytes_at-requires-clause-there g c told' =
-    let d = g.D.Disks.view c.find.new.disks in
-    let e = g.D.Disks.view c.size_at.new.disks in
-    let keeps : KeepsAll d e None = c.in_ok-size.ensures.kept in
-    let told = sym keeps.shape.told ∙ told' in
-    let log = c.find.new.self in
-    let entries = c.requires.log.0 in
-    let first = c.requires.log.1 in
-    let is = c.in_ok-find.ensures.moved entries first in
-    let here = entry_stands d log entries is (omega (arith, c.in_ok-find.ensures.found, c.requires.below, first.count)) told in
-    rw (keeps.kept log.dev (λ none. none)).bytes (payload_there (entry_of entries log.next) (d.bytes log.dev) log.place log.end c.in_ok-size.size here (c.in_ok-size.ensures.size told (entry_of entries log.next) here))
-
-pub returns-in_err-size-clause-kept : goal.returns-in_err-size-clause-kept
-returns-in_err-size-clause-kept g c =
-    let p = err_from_is_err_and c.from_residual-in_err-size.result c.from_residual-in_err-size.ensures.1 in
-    rw (p.1, p.2) (keeps_then (g.D.Disks.view c.args.disks.now) (g.D.Disks.view c.find.new.disks) (g.D.Disks.view c.size_at.new.disks) (Some c.in_err-size.field-0.0) c.in_ok-find.ensures.kept c.in_err-size.ensures.kept)
-
-pub returns-in_err-payload-clause-kept : goal.returns-in_err-payload-clause-kept
-returns-in_err-payload-clause-kept g c =
-    let d0 = g.D.Disks.view c.args.disks.now in
-    let d2 = g.D.Disks.view c.size_at.new.disks in
-    let before : KeepsAll d0 d2 None = keeps_then d0 (g.D.Disks.view c.find.new.disks) d2 None c.in_ok-find.ensures.kept c.in_ok-size.ensures.kept in
-    let p = err_from_is_err_and c.from_residual-in_err-payload.result c.from_residual-in_err-payload.ensures.1 in
-    rw (p.1, p.2) (keeps_then d0 d2 (g.D.Disks.view c.bytes_at.new.disks) (Some c.in_err-payload.field-0.0) before c.in_err-payload.ensures.kept)
-
-pub returns-in_err-extend_from_slice-clause-log : goal.returns-in_err-extend_from_slice-clause-log
-returns-in_err-extend_from_slice-clause-log g c entries first =
-    let d1 = g.D.Disks.view c.find.new.disks in
-    let d2 = g.D.Disks.view c.size_at.new.disks in
-    let d3 = g.D.Disks.view c.bytes_at.new.disks in
-    let log = c.find.new.self in
-    let keeps : KeepsAll d1 d3 None = keeps_then d1 d2 d3 None c.in_ok-size.ensures.kept c.in_ok-payload.ensures.kept in
-    whatever _ (IsLog d3 log entries) (log_kept d1 d3 log entries keeps.shape (keeps.kept log.dev (λ none. none)) (c.in_ok-find.ensures.moved entries first))
-
-pub returns-in_err-extend_from_slice-clause-kept : goal.returns-in_err-extend_from_slice-clause-kept
-returns-in_err-extend_from_slice-clause-kept g c =
-    let d0 = g.D.Disks.view c.args.disks.now in
-    let d2 = g.D.Disks.view c.size_at.new.disks in
-    let d3 = g.D.Disks.view c.bytes_at.new.disks in
-    let before : KeepsAll d0 d2 None = keeps_then d0 (g.D.Disks.view c.find.new.disks) d2 None c.in_ok-find.ensures.kept c.in_ok-size.ensures.kept in
-    let p = err_from_is_err_and c.from_residual-in_err-extend_from_slice.result c.from_residual-in_err-extend_from_slice.ensures.1 in
-    rw (p.1, p.2) (keeps_without_memory d0 d3 (keeps_then d0 d2 d3 None before c.in_ok-payload.ensures.kept))
+pub read_entry-requires-clause-block : goal.read_entry-requires-clause-block
+read_entry-requires-clause-block g c =
+    let d = g.D.Disks.view c.args.disks.now in
+    let log = c.args.self.now in
+    subst (λ (l : GateLog). IsBlock d l.dev c.in_ok-block.block) (sym c.take_block.ensures.log) (taken_block d log.dev log.block c.in_ok-block.block c.in_ok-block.ensures.block c.requires.log.1.block)
 
 pub returns-clause-entry : goal.returns-clause-entry
 returns-clause-entry g c =
-    let d0 = g.D.Disks.view c.args.disks.now in
-    let d1 = g.D.Disks.view c.find.new.disks in
-    let d2 = g.D.Disks.view c.size_at.new.disks in (
-      c.deref.result.now,
-      (
-        c.in_ok-extend_from_slice.ensures.items,
-        λ entries first told.
-            let told1 = c.in_ok-find.ensures.kept.shape.told ∙ told in
-            let told2 = c.in_ok-size.ensures.kept.shape.told ∙ told1 in
-            got d1 d2 c.find.new.self entries c.deref.result.now c.args.i c.in_ok-size.size (c.in_ok-find.ensures.moved entries first) c.in_ok-size.ensures.kept c.in_ok-find.ensures.found
-            (omega (arith, c.requires.below, first.count)) told1 (c.in_ok-size.ensures.size told1) (c.deref.ensures.value ∙ c.in_ok-payload.ensures.bytes told2),
-      ),
-    )
+    let d = g.D.Disks.view c.args.disks.now in
+    let read = c.in_ok-read_entry.ensures.entry in
+    (read.0, (read.1.0, λ entries first told. read.1.1 entries (without_block d c.args.self.now c.take_block.new.self entries c.take_block.ensures.log first) told))
 
 pub returns-clause-log : goal.returns-clause-log
 returns-clause-log g c entries first =
-    let d1 = g.D.Disks.view c.find.new.disks in
-    let d2 = g.D.Disks.view c.size_at.new.disks in
-    let d3 = g.D.Disks.view c.bytes_at.new.disks in
-    step_on d1 d3 c.find.new.self _ entries c.in_ok-size.size (c.in_ok-find.ensures.moved entries first) (keeps_then d1 d2 d3 None c.in_ok-size.ensures.kept c.in_ok-payload.ensures.kept)
-    (record { device = refl; gate = refl; count = refl }) refl (omega arith) (omega (arith, c.in_ok-find.ensures.found, c.requires.below, first.count)) c.in_ok-size.ensures.ends c.in_ok-size.ensures.size
+    let d = g.D.Disks.view c.args.disks.now in
+    with_block (g.D.Disks.view c.read_entry.new.disks) c.read_entry.new.self c.read_entry.new.block entries c.in_ok-read_entry.ensures.block
+    (c.in_ok-read_entry.ensures.log entries (without_block d c.args.self.now c.take_block.new.self entries c.take_block.ensures.log first))
 
-pub returns-clause-kept : goal.returns-clause-kept
-returns-clause-kept g c =
-    let d0 = g.D.Disks.view c.args.disks.now in
-    let d2 = g.D.Disks.view c.size_at.new.disks in
-    let before : KeepsAll d0 d2 None = keeps_then d0 (g.D.Disks.view c.find.new.disks) d2 None c.in_ok-find.ensures.kept c.in_ok-size.ensures.kept in
-    keeps_then d0 d2 (g.D.Disks.view c.bytes_at.new.disks) None before c.in_ok-payload.ensures.kept
+pub returns-in_err-block-clause-log : goal.returns-in_err-block-clause-log
+returns-in_err-block-clause-log g c entries first =
+    let d = g.D.Disks.view c.args.disks.now in
+    whatever _ (IsLog d c.take_block.new.self entries) (without_block d c.args.self.now c.take_block.new.self entries c.take_block.ensures.log first)
+
+pub returns-in_err-block-clause-same : goal.returns-in_err-block-clause-same
+returns-in_err-block-clause-same g c = without_moved c.args.self.now c.take_block.new.self c.take_block.ensures.log
+
+pub returns-in_err-read_entry-clause-log : goal.returns-in_err-read_entry-clause-log
+returns-in_err-read_entry-clause-log g c entries first =
+    let d = g.D.Disks.view c.args.disks.now in
+    let p = err_from_is_err_and c.from_residual-in_err-read_entry.result c.from_residual-in_err-read_entry.ensures.1 in
+    rw (p.1, p.2) (c.in_err-read_entry.ensures.log entries (without_block d c.args.self.now c.take_block.new.self entries c.take_block.ensures.log first))
+
+pub returns-in_err-read_entry-clause-same : goal.returns-in_err-read_entry-clause-same
+returns-in_err-read_entry-clause-same g c = moved_on c.args.self.now c.take_block.new.self c.read_entry.new.self (without_moved c.args.self.now c.take_block.new.self c.take_block.ensures.log) c.in_err-read_entry.ensures.same
+
+pub returns-clause-same : goal.returns-clause-same
+returns-clause-same g c =
+    let same = moved_on c.args.self.now c.take_block.new.self c.read_entry.new.self (without_moved c.args.self.now c.take_block.new.self c.take_block.ensures.log) c.in_ok-read_entry.ensures.same in
+    record { device = same.device; gate = same.gate; count = same.count }

@@ -1,5 +1,5 @@
 use Rattle.salt_codec.proofs.Puttable.{read_again}
-use Rattle.salt_codec.proofs.prepared.spell_prepared.Goals as goal
+use Rattle.salt_codec.proofs.prepared.with_prepared.Goals as goal
 use Rattle.std.proofs.Common.{arith}
 
 pub returns-clause-read : goal.returns-clause-read
