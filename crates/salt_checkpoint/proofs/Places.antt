@@ -25,7 +25,8 @@ sides_low (s ∷ sides) are (suc page) side e = sides_low sides (rest (is_side s
     rest true b h = h
     rest false b h = cc
 
-places_apart : (i s j t : ℕ) → s ≤ 1 → t ≤ 1 → ((i ≡ j) × (s ≡ t) → ⊥) → (page_place j t + page_length ≤ page_place i s) ⊎ (page_place i s + page_length ≤ page_place j t)
+-- one page on one side, and another page or the other side: their places do not meet
+pub places_apart : (i s j t : ℕ) → s ≤ 1 → t ≤ 1 → ((i ≡ j) × (s ≡ t) → ⊥) → (page_place j t + page_length ≤ page_place i s) ⊎ (page_place i s + page_length ≤ page_place j t)
 places_apart i s j t s_low t_low apart = by (cases_order (2 * i + s) (2 * j + t))
   where
     by : (2 * i + s ≡ 2 * j + t) ⊎ ((2 * i + s < 2 * j + t) ⊎ (2 * j + t < 2 * i + s)) → (page_place j t + page_length ≤ page_place i s) ⊎ (page_place i s + page_length ≤ page_place j t)

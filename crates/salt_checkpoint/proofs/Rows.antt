@@ -15,7 +15,7 @@ use Rattle.std.specs.Ordering.{is_eq}
 use Rattle.std.specs.Prelude.{cond, map, not}
 use Rattle.salt_model.specs.Tables.{Tables}
 
-with_after : (q : Place) (cs : List Change) (t : Tables) → row_at q (with_changes cs t) ≡ after q cs (row_at q t)
+pub with_after : (q : Place) (cs : List Change) (t : Tables) → row_at q (with_changes cs t) ≡ after q cs (row_at q t)
 unfolding with_changes
 with_after q [] t = refl
 with_after q (c ∷ cs) t = with_after q cs (make_change c t) ∙ ap (after q cs) (row_at_set q (changed_at c) c.row t)

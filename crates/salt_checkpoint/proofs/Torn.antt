@@ -1,5 +1,5 @@
 -- A write that spares the named sides leaves them as they were, whatever a stop makes of it.
-use Rattle.salt_checkpoint.specs.Sides.{KeepsNamed, NamedSame, SpareNamed, Spares, side_bytes}
+use Rattle.salt_checkpoint.specs.Sides.{KeepsNamed, NamedSame, SpareNamed, Spares, side_bytes, writes_end}
 use Rattle.salt_checkpoint.specs.declared.writes.Write.{Write}
 use Rattle.salt_bytes.specs.Page.{page_length, page_place}
 use Rattle.salt_disk.specs.Disks.{IsTorn, Shrinks, Tears, View, written}
@@ -88,3 +88,14 @@ spares_rest sides ws spare = subst (SpareNamed sides) (sym (rest_whole ws)) (by 
     by : (xs : List Write) → SpareNamed sides xs → SpareNamed sides (drop 1 xs)
     by [] spare = tt
     by (x ∷ xs) spare = spare.1
+
+pub end_first : (ws : List Write) (w : Write) → 1 ≤ length ws → w ≡ get_or ws 0 w → w.at + length w.bytes ≤ writes_end ws
+end_first [] w some is = absurd (omega (arith, some))
+end_first (x ∷ ws) w some is = subst (λ (k : Write). k.at + length k.bytes ≤ writes_end (x ∷ ws)) (sym is) (omega arith)
+
+pub end_rest : (ws : List Write) → writes_end (take (length ws - 1) (drop 1 ws)) ≤ writes_end ws
+end_rest ws = subst (λ (l : List Write). writes_end l ≤ writes_end ws) (sym (rest_whole ws)) (by ws)
+  where
+    by : (xs : List Write) → writes_end (drop 1 xs) ≤ writes_end xs
+    by [] = omega arith
+    by (x ∷ xs) = omega arith

@@ -34,3 +34,8 @@ all_written (w ∷ ws) bytes = all_written ws (written bytes w.at w.bytes)
 -- each image of the device was one before, but for sides that are not named
 abbrev pub KeepsNamed : List ℕ → View → View → ℕ → Type 0
 KeepsNamed sides old new dev = (c : List ℕ) → new.image dev c → (d : List ℕ) × old.image dev d × NamedSame sides d c
+
+-- where the furthest of these writes ends; 0 where there is none
+abbrev pub writes_end : List Write → ℕ
+writes_end [] = 0
+writes_end (w ∷ ws) = max (w.at + length w.bytes) (writes_end ws)

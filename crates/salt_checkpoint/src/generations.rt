@@ -1,7 +1,7 @@
 //! A checkpoint of one partition, over the devices.
 
-ghost use Rattle.salt_checkpoint.specs.Checkpoints.{IsNext, IsReady, StandsAlways};
-ghost use Rattle.salt_checkpoint.specs.Sides.{AreInPlace};
+ghost use Rattle.salt_checkpoint.specs.Checkpoints.{FullAt, IsNext, IsReady, StandsAlways};
+ghost use Rattle.salt_checkpoint.specs.Sides.{AreInPlace, all_written};
 ghost use Rattle.salt_bytes.specs.Generations.{WhichLog};
 ghost use Rattle.salt_disk.specs.Disks.{HasCause, IsSettled, KeepsBut};
 ghost use Rattle.salt_gatelog.specs.Log.{IsLog};
@@ -29,7 +29,8 @@ pub fn pages_of(part: u8) -> u32
 
 /// Checkpoints a partition into its other log, on which nothing is pending: writes its pages, makes them stable, makes the other log
 /// blank, and begins it with the header. Where these writes go to no side that the header before it names, and behind them the sides
-/// that it names have the partition's rows, each image of the devices stands for what stood before, whatever the call answers.
+/// that it names have the partition's rows, each image of the devices stands for what stood before, whatever the call answers. `Full`
+/// comes only where pages pass the limit of their device, or the header that of the other log's.
 pub fn checkpoint<D: Disks>(
     alloc: Global,
     disks: &mut D,
@@ -52,8 +53,12 @@ pub fn checkpoint<D: Disks>(
         → IsNext r c part (v part) ((D.view disks.old).bytes (pages_device part)) writes.now header.now format sides rows
         → IsReady r (D.view disks.new) which c (with_view part (checkpointed (v part) (next_part_header (v part) format sides) rows) v)) }
     ensures log { IfOk result (λ log. IsLog (D.view disks.new) log (header.now ∷ [])) }
+    ensures device { IfOk result (λ log. log.dev ≡ other) }
+    ensures bytes { OnOk result (IsTrue (D.view disks.old).told → (D.view disks.new).bytes (pages_device part) ≡ all_written writes.now ((D.view disks.old).bytes (pages_device part))) }
+    ensures stable { OnOk result (IsSettled (D.view disks.new) (pages_device part)) }
     ensures others { KeepsBut (λ dev. (dev ≡ pages_device part) ⊎ (dev ≡ other)) (D.view disks.old) (D.view disks.new) (result_err result) }
     ensures cause { HasCause (D.view disks.old) (D.view disks.new) (result_err result) }
+    ensures full { FullAt (D.view disks.old) (pages_device part) other writes.now (length header.now) (result_err result) }
 {
     let pages = pages_of(part);
     write_all(disks, pages, writes)?;

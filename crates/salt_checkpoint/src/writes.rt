@@ -1,7 +1,7 @@
 //! Writes to a device of pages.
 
-ghost use Rattle.salt_checkpoint.specs.Sides.{AreInPlace, KeepsNamed, SpareNamed, all_written};
-ghost use Rattle.salt_disk.specs.Disks.{HasCause, KeepsOthers};
+ghost use Rattle.salt_checkpoint.specs.Sides.{AreInPlace, KeepsNamed, SpareNamed, all_written, writes_end};
+ghost use Rattle.salt_disk.specs.Disks.{FullOnly, HasCause, KeepsOthers};
 ghost use Rattle.std.specs.Prelude.{IsTrue, List, OnOk, length, ℕ, ◌<◌, ◌≡◌};
 ghost use Rattle.std.specs.Result.{result_err};
 
@@ -16,7 +16,8 @@ pub struct Write {
 }
 
 /// Writes one after another. Whatever it answers, each image of the device is one from before, but for bytes on sides that no header
-/// names, where no write goes to a side that is named.
+/// names, where no write goes to a side that is named. `Full` comes only where one of the writes would pass the device's limit; those
+/// before it are made then.
 pub fn write_all<D: Disks>(disks: &mut D, dev: u32, writes: &[Write]) -> Result<(), DiskErr>
     requires known { dev < (D.view disks.old).count }
     requires place { IsTrue (D.view disks.old).told → AreInPlace (length ((D.view disks.old).bytes dev)) writes.now }
@@ -24,6 +25,7 @@ pub fn write_all<D: Disks>(disks: &mut D, dev: u32, writes: &[Write]) -> Result<
     ensures images { (sides : List ℕ) → SpareNamed sides writes.now → KeepsNamed sides (D.view disks.old) (D.view disks.new) dev }
     ensures others { KeepsOthers dev (D.view disks.old) (D.view disks.new) (result_err result) }
     ensures cause { HasCause (D.view disks.old) (D.view disks.new) (result_err result) }
+    ensures full { FullOnly dev ((D.view disks.old).limit dev) (writes_end writes.now) (result_err result) }
 {
     match writes {
         [] => Ok(()),

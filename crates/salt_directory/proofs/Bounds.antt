@@ -1,7 +1,6 @@
 -- How many bytes rows take, and how many pages they fill.
 use Rattle.salt_bytes.specs.Page.{TableRow, spell_table_row}
 use Rattle.salt_bytes.specs.Spellable.{Every}
-use Rattle.salt_bytes.specs.Taking.{spell_each}
 use Rattle.salt_checkpoint.proofs.Flushed.{few_pages, sum_of}
 use Rattle.salt_checkpoint.proofs.Moved.{are_apart, are_away, place_of}
 use Rattle.salt_model.specs.Tables.{Entry, Tables, changed_at, is_other, make_change, no_rows, place_cmp, put_row, remove_at, row_at, set_row, with_changes}
@@ -20,6 +19,7 @@ use Rattle.salt_values.specs.declared.value.Value.{Value}
 use Rattle.std.proofs.Common.{Bool, Equal, Greater, Less, List, None, Option, Ordering, Some, [], ap, arith, cond, false, get_or, length, length-append, map, not, refl, subst, suc, sym, true, ℕ, ◌*◌, ◌+◌, ◌++◌, ◌/◌, ◌-◌, ◌<◌, ◌≡◌, ◌≤◌, ◌∙◌, ◌∷◌}
 use Rattle.std.proofs.lemmas.List.{get_or-map, length-map}
 use Rattle.std.specs.FinMap.Entries.{by_order, find, put, where_key}
+use Rattle.std.specs.List.{flat_map}
 use Rattle.std.specs.Ordering.{is_eq}
 
 -- BYTES OF ROWS
@@ -31,7 +31,7 @@ rows_bytes (r ∷ rows) = row_bytes r.row + rows_bytes rows
 pub used_is : (rows : List TableRow) → used_by rows ≡ rows_bytes rows
 unfolding rows_bytes
 used_is [] = refl
-used_is (r ∷ rows) = omega (arith, used_is rows, length-append (spell_table_row r) (spell_each spell_table_row rows))
+used_is (r ∷ rows) = omega (arith, used_is rows, length-append (spell_table_row r) (flat_map spell_table_row rows))
 
 bytes_append : (xs ys : List TableRow) → rows_bytes (xs ++ ys) ≡ rows_bytes xs + rows_bytes ys
 unfolding rows_bytes

@@ -13,7 +13,6 @@ use Rattle.salt_directory.specs.Listing.{AreNoPages, HaveTwins, IsDirectory, tab
 use Rattle.salt_directory.specs.Pages.{AreRowsOf, all_rows, page_of}
 use Rattle.salt_stands.specs.Partition.{page_at, rows_from}
 use Rattle.std.proofs.Common.{Bool, List, None, Option, Some, [], ap, append_assoc, arith, cond, drop, false, get_or, inl, inr, is_some, length, refl, set, subst, sym, take, true, ℕ, ◌+◌, ◌++◌, ◌<◌, ◌≡◌, ◌≤◌, ◌∙◌, ◌∷◌}
-use Rattle.salt_values.specs.declared.value.Value.{Value}
 use Rattle.std.proofs.lemmas.List.{append-nil, get_or_push, length_push, set_at, take-append-drop, take_all, take_more}
 use Rattle.std.proofs.lemmas.Option.{get_or_from_slice_get, slice_get_within}
 use Rattle.std.specs.BTreeMap.{insert_entry}
@@ -136,8 +135,3 @@ module _ (before now : List (Place × ℕ)) (number : ℕ) (rows : List TableRow
 
 pub all_listed : (before now : List (Place × ℕ)) (number : ℕ) (rows : List TableRow) (i : ℕ) → ListedSoFar before now number rows i → length rows ≤ i → (pages : List (List TableRow)) → number ≡ length pages → IsDirectory before (pages ++ [] ∷ []) → IsDirectory now (pages ++ rows ∷ [])
 all_listed before now number rows i so end pages last are = subst (λ (l : List TableRow). IsDirectory now (pages ++ l ∷ [])) (take_all i rows end) (so.is pages last are)
-
--- a row's key, as tables and as bytes have it
-pub same_key : (row : List Value) → Rattle.salt_model.specs.Tables.key_of row ≡ Rattle.salt_bytes.specs.Values.key_of row
-same_key [] = refl
-same_key (v ∷ vs) = refl

@@ -1,5 +1,5 @@
 -- A page is read of its side's bytes, and pages of a list of sides.
-use Rattle.salt_bytes.specs.Page.{TableRow, give_rows, page_length, page_place, rows_in_page}
+use Rattle.salt_bytes.specs.Page.{TableRow, page_length, page_place, rows_in_page}
 use Rattle.salt_bytes.specs.Taking.{go_on}
 use Rattle.salt_checkpoint.proofs.Moved.{are_apart}
 use Rattle.salt_checkpoint.specs.Sides.{side_bytes}
@@ -8,13 +8,12 @@ use Rattle.salt_directory.proofs.Alike.{apart_front}
 use Rattle.salt_directory.specs.Pages.{all_rows}
 use Rattle.salt_stands.proofs.PageReads.{page_at_same}
 use Rattle.salt_stands.specs.Partition.{page_at, rows_from}
-use Rattle.salt_stands.specs.Words.{and_then}
 use Rattle.std.proofs.Common.{Bool, List, None, Option, Some, [], ap, append_assoc, arith, drop, false, get_or, inl, inr, length, length-drop, length-take, refl, subst, suc, sym, take, true, zero, ℕ, ◌+◌, ◌++◌, ◌<◌, ◌≡◌, ◌≤◌, ◌⊎◌, ◌∙◌, ◌∷◌}
 use Rattle.std.proofs.lemmas.Bool.{cases_lt}
-use Rattle.std.specs.Prelude.{option_map}
+use Rattle.std.specs.Prelude.{option_and_then, option_map}
 
 abbrev page_of_taken : Bool → Option (List ℕ × List ℕ) → Option (List TableRow)
-page_of_taken nulls o = option_map (λ taken. taken.0) (go_on (λ bytes rest. give_rows rest (rows_in_page nulls bytes)) o)
+page_of_taken nulls o = option_map (λ (taken : List TableRow × List ℕ). taken.0) (go_on (λ bytes rest. option_map (λ (rows : List TableRow). (rows, rest)) (rows_in_page nulls bytes)) o)
 
 module _ (nulls : Bool) (bytes : List ℕ) (page side : ℕ) where
   pub page_is : length (side_bytes bytes page side) ≡ page_length → page_at nulls bytes page side ≡ rows_in_page nulls (side_bytes bytes page side)
@@ -23,7 +22,7 @@ module _ (nulls : Bool) (bytes : List ℕ) (page side : ℕ) where
       let long : page_length ≤ length behind = omega (arith, length-take page_length behind, whole) in
       ap (page_of_taken nulls) (some_behind page_length behind long) ∙ by (rows_in_page nulls (take page_length behind))
     where
-      by : (o : Option (List TableRow)) → option_map (λ taken. taken.0) (give_rows (drop page_length (drop (page_place page side) bytes)) o) ≡ o
+      by : (o : Option (List TableRow)) → option_map (λ (taken : List TableRow × List ℕ). taken.0) (option_map (λ (rows : List TableRow). (rows, drop page_length (drop (page_place page side) bytes))) o) ≡ o
       by None = refl
       by (Some rows) = refl
 
@@ -63,7 +62,7 @@ module _ (nulls : Bool) (bytes : List ℕ) where
   same_page k = omega arith
 
   abbrev with_more : (k : ℕ) → List ℕ → Option (List TableRow) → Option (List TableRow)
-  with_more k sides o = and_then (λ rows. option_map (λ more. rows ++ more) (rows_from nulls bytes k sides)) o
+  with_more k sides o = option_and_then (λ rows. option_map (λ more. rows ++ more) (rows_from nulls bytes k sides)) o
 
   pub rows_all : (k : ℕ) (sides : List ℕ) (pages : List (List TableRow)) → length pages ≡ length sides
       → ((i : ℕ) → i < length sides → page_at nulls bytes (k + i) (get_or sides i 0) ≡ Some (get_or pages i [])) → rows_from nulls bytes k sides ≡ Some (all_rows pages)

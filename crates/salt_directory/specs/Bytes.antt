@@ -1,5 +1,5 @@
 -- How many bytes rows take on pages, and how many pages they fill.
-use Rattle.salt_bytes.specs.Values.{spell_row}
+use Rattle.salt_bytes.specs.Values.{spell_values}
 use Rattle.salt_model.specs.Tables.{Entry}
 use Rattle.salt_values.specs.declared.change.Change.{Change}
 use Rattle.salt_values.specs.declared.value.Value.{Value}
@@ -7,7 +7,7 @@ use Rattle.std.specs.Prelude.{List, None, Option, Some, [], length, max, ℕ, �
 
 -- how many bytes a row takes on a page, with its table's number
 abbrev pub row_bytes : List Value → ℕ
-row_bytes row = 2 + length (spell_row row)
+row_bytes row = 2 + length (spell_values row)
 
 abbrev pub bytes_of_entries : List Entry → ℕ
 bytes_of_entries [] = 0

@@ -1,6 +1,6 @@
 -- Rows that are found on a page, and what calls make of one.
 use Rattle.salt_bytes.specs.Page.{TableRow}
-use Rattle.salt_bytes.specs.Values.{is_row_length, spell_row}
+use Rattle.salt_bytes.specs.Values.{is_row_length, spell_values}
 use Rattle.salt_directory.specs.Pages.{free_on}
 use Rattle.salt_directory.specs.declared.page.Replaced.TheVariants.{Gone, Missing, Put}
 use Rattle.salt_directory.specs.declared.page.Replaced.{Replaced}
@@ -40,4 +40,4 @@ IsReplaced table key row old new Missing = (new ≡ old) × IsRowFound table key
 -- what became of a page on which this row was to be put
 abbrev pub IsPut : ℕ → List Value → List TableRow → List TableRow → Option ℕ → Type 0
 IsPut table row old new (Some free) = (new ≡ old ++ one_row table (Some row)) × (free ≡ free_on new)
-IsPut table row old new None = (new ≡ old) × (8190 < used_by old + (2 + length (spell_row row)))
+IsPut table row old new None = (new ≡ old) × (8190 < used_by old + (2 + length (spell_values row)))

@@ -1,11 +1,11 @@
 //! Rows of pages are listed in a directory.
 
 ghost use Rattle.salt_bytes.specs.Page.{TableRow};
-ghost use Rattle.salt_bytes.specs.Values.{key_of};
 ghost use Rattle.salt_directory.specs.Directories.{HasPagesBelow};
 ghost use Rattle.salt_directory.specs.Listing.{HaveTwins, IsDirectory};
 ghost use Rattle.salt_directory.specs.Pages.{all_rows, page_of};
 ghost use Rattle.salt_model.specs.Tables.{place, place_cmp};
+ghost use Rattle.salt_values.specs.Value.{key_of};
 ghost use Rattle.std.specs.BTreeMap.{insert_entry};
 ghost use Rattle.std.specs.Prelude.{IfOk, IsTrue, List, None, [], false, is_some, length, true, ◌+◌, ◌++◌, ◌∷◌, ◌≡◌};
 

@@ -1,6 +1,6 @@
 //! Rows of one page are found, put and replaced by their keys.
 
-ghost use Rattle.salt_bytes.specs.Values.{is_row_length, spell_row};
+ghost use Rattle.salt_bytes.specs.Values.{is_row_length, spell_values};
 ghost use Rattle.salt_directory.specs.Pages.{free_on};
 ghost use Rattle.salt_directory.specs.Rows.{HasRowTo, IsPut, IsReplaced, IsRowFound, one_row};
 ghost use Rattle.salt_pages.specs.Pages.{used_by};
@@ -47,7 +47,7 @@ fn put_if_room(page: &mut Page, table: u16, row: &Row) -> Result<bool, AllocErro
     requires { is_row_length (length row.now) ≡ true }
     ensures put { IfOk result (λ put. IsTrue put → page.new ≡ page.old ++ one_row table (Some row.now)) }
     ensures same { IfOk result (λ put. put ≡ false → page.new ≡ page.old) }
-    ensures full { IfOk result (λ put. put ≡ false → 8190 < used_by page.old + (2 + length (spell_row row.now))) }
+    ensures full { IfOk result (λ put. put ≡ false → 8190 < used_by page.old + (2 + length (spell_values row.now))) }
 {
     match page.insert(table, row) {
         Ok(()) => Ok(true),

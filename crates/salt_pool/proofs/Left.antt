@@ -1,6 +1,7 @@
 -- What writes of pages leave of a device: sides to which none goes, and how long it is.
 use Rattle.salt_bytes.specs.Page.{page_length, page_place}
 use Rattle.salt_checkpoint.proofs.Named.{written_front}
+use Rattle.salt_checkpoint.proofs.Places.{places_apart}
 use Rattle.salt_checkpoint.proofs.Torn.{length-written, side_same}
 use Rattle.salt_checkpoint.specs.Sides.{all_written}
 use Rattle.salt_disk.specs.Disks.{FullExactly, FullOnly, IfNothingDone, Shrinks, Tears, UnlessDown, View, written}
@@ -10,8 +11,7 @@ use Rattle.salt_pool.proofs.Numbers.{true_is_not_false}
 use Rattle.salt_pool.specs.Dirtied.{goes_to}
 use Rattle.salt_pool.specs.Flushing.{IsLeftBy, KeepsSides, SameSides, place_of}
 use Rattle.salt_pool.specs.declared.places.Dirty.{Dirty}
-use Rattle.std.proofs.Common.{Bool, List, None, Option, Some, [], ap, append_assoc, arith, drop, false, inl, inr, length, nat_eq, refl, subst, sym, take, true, ℕ, ◌*◌, ◌+◌, ◌++◌, ◌-◌, ◌||◌, ◌<◌, ◌≡◌, ◌≤◌, ◌⊎◌, ◌∙◌, ◌∷◌}
-use Rattle.std.proofs.lemmas.Bool.{cases_order}
+use Rattle.std.proofs.Common.{Bool, List, None, Option, Some, [], ap, append_assoc, arith, drop, false, inl, length, nat_eq, refl, subst, sym, take, true, ℕ, ◌+◌, ◌++◌, ◌-◌, ◌||◌, ◌<◌, ◌≡◌, ◌≤◌, ◌∙◌, ◌∷◌}
 use Rattle.std.proofs.lemmas.Bool.Decides.{Decides-eqb}
 use Rattle.std.proofs.lemmas.List.{drop_at, length-take-le, take_at}
 use Rattle.std.specs.Prelude.{IsTrue, max, ◌&&◌}
@@ -32,14 +32,6 @@ same_refl len ds b = record { each = λ page side low within clean. refl }
 pub same_behind : (len at n : ℕ) (ds : List Dirty) (old new : List ℕ) → len ≤ at → take at new ≡ take at old → drop (at + n) new ≡ drop (at + n) old → SameSides len ds old new
 same_behind len at n ds old new high before after = record { each = λ page side low within clean. side_same page side at n old new (inl (omega (arith, within, high))) before after }
 
-sides_apart : (i s j t : ℕ) → s ≤ 1 → t ≤ 1 → ((i ≡ j) × (s ≡ t) → ⊥) → (page_place j t + page_length ≤ page_place i s) ⊎ (page_place i s + page_length ≤ page_place j t)
-sides_apart i s j t s_low t_low apart = by (cases_order (2 * i + s) (2 * j + t))
-  where
-    by : (2 * i + s ≡ 2 * j + t) ⊎ ((2 * i + s < 2 * j + t) ⊎ (2 * j + t < 2 * i + s)) → (page_place j t + page_length ≤ page_place i s) ⊎ (page_place i s + page_length ≤ page_place j t)
-    by (inl same) = absurd (apart (omega (arith, same, s_low, t_low), omega (arith, same, s_low, t_low)))
-    by (inr (inl less)) = inr (omega (arith, less))
-    by (inr (inr more)) = inl (omega (arith, more))
-
 goes : (d : Dirty) (page side : ℕ) → goes_to (d ∷ []) page side ≡ false → (d.page ≡ page) × (d.side ≡ side) → ⊥
 goes d page side clean same =
     let first : nat_eq d.page page ≡ true = (Decides-eqb d.page page).1 same.0 in
@@ -49,7 +41,7 @@ goes d page side clean same =
 
 -- a page on its side leaves all others
 pub same_written : (len : ℕ) (d : Dirty) (old new : List ℕ) → d.side ≤ 1 → take (place_of d) new ≡ take (place_of d) old → drop (place_of d + page_length) new ≡ drop (place_of d + page_length) old → SameSides len (d ∷ []) old new
-same_written len d old new own before after = record { each = λ page side low within clean. side_same page side (place_of d) page_length old new (sides_apart d.page d.side page side own low (goes d page side clean)) before after }
+same_written len d old new own before after = record { each = λ page side low within clean. side_same page side (place_of d) page_length old new (places_apart d.page d.side page side own low (goes d page side clean)) before after }
 
 -- some of these pages, and then the rest
 pub same_on : (len len' : ℕ) (us vs ws : List Dirty) (a b c : List ℕ) → len ≤ len' → ((page side : ℕ) → goes_to ws page side ≡ false → (goes_to us page side ≡ false) × (goes_to vs page side ≡ false)) → SameSides len us a b → SameSides len' vs b c → SameSides len ws a c

@@ -1,12 +1,15 @@
 use Rattle.salt_checkpoint.proofs.Calls.{IsSynced, IsWriting, after_ready, beginning, beginning_stands, creating, other_no_page, syncing, syncs, writing, writing_stands}
+use Rattle.salt_checkpoint.proofs.Limits.{full_never, full_only, full_other, full_pages}
 use Rattle.salt_checkpoint.proofs.generations.checkpoint.Goals as goal
-use Rattle.salt_disk.proofs.CallAfterCall.{keeps_on, keeps_wider}
+use Rattle.salt_checkpoint.specs.Sides.{all_written}
+use Rattle.salt_disk.proofs.CallAfterCall.{keeps_on, keeps_wider, shape_goes_on}
 use Rattle.salt_disk.specs.Disks.{EachImage, IsSettled, KeepsBut, KeepsOthers}
 use Rattle.salt_bytes.specs.Log.{entries_in}
 use Rattle.salt_gatelog.specs.Log.{IsBeforeOrWith}
 use Rattle.salt_checkpoint.proofs.Calls.{log_bytes}
 use Rattle.salt_stands.specs.Partition.{pages_device}
-use Rattle.std.proofs.Common.{None, [], ap, inl, inr, subst, sym, ◌≡◌, ◌≢◌, ◌⊎◌, ◌∙◌, ◌∷◌, ℕ}
+use Rattle.std.proofs.Common.{None, [], ap, arith, inl, inr, length, refl, subst, sym, ◌+◌, ◌≡◌, ◌≢◌, ◌⊎◌, ◌∙◌, ◌∷◌, ℕ}
+use Rattle.std.proofs.lemmas.Result.{err_from_is_err_and}
 use Rattle.std.specs.Result.{result_err}
 
 pub returns-in_err-write_all-clause-images : goal.returns-in_err-write_all-clause-images
@@ -130,3 +133,65 @@ returns-clause-others g c =
     let third : KeepsBut touched d2 d3 None = keeps_wider (λ dev. dev ≡ other) touched d2 d3 None (λ dev e. inr e) c.in_ok-log.ensures.others in
     let fourth : KeepsBut touched d3 d4 None = keeps_wider (λ dev. dev ≡ c.in_ok-log.log.dev) touched d3 d4 None (λ dev e. inr (e ∙ c.in_ok-log.ensures.log.0)) c.in_ok-append.ensures.others in
     keeps_on touched d0 d3 d4 None (keeps_on touched d0 d2 d3 None (keeps_on touched d0 d1 d2 None first second) third) fourth
+
+-- WHAT IT LEAVES of the devices
+
+pub returns-clause-device : goal.returns-clause-device
+returns-clause-device g c = c.append.ensures.device ∙ c.in_ok-log.ensures.log.0
+
+pub returns-clause-bytes : goal.returns-clause-bytes
+returns-clause-bytes g c told =
+    let d1 = g.D.Disks.view c.write_all.new.disks in
+    let d2 = g.D.Disks.view c.sync.new.self in
+    let d0 = g.D.Disks.view c.args.disks.now in
+    let pages = pages_device c.args.part in
+    let apart : pages ≢ c.args.other = λ e. other_no_page c.args.part c.args.other c.requires.other (sym e) in
+    let synced : d2.bytes pages ≡ all_written c.args.writes.now (d0.bytes pages) =
+    subst (λ dev. d2.bytes dev ≡ all_written c.args.writes.now (d0.bytes dev)) c.pages_of-pages.ensures (c.in_ok-sync.ensures.bytes ∙ c.in_ok-write_all.ensures.bytes told) in
+    (c.in_ok-append.ensures.others.kept pages (λ e. apart (e ∙ c.in_ok-log.ensures.log.0))).bytes ∙ (c.in_ok-log.ensures.others.kept pages apart).bytes ∙ synced
+
+pub returns-clause-stable : goal.returns-clause-stable
+returns-clause-stable g c =
+    let d2 = g.D.Disks.view c.sync.new.self in
+    let pages = pages_device c.args.part in
+    let apart : pages ≢ c.args.other = λ e. other_no_page c.args.part c.args.other c.requires.other (sym e) in
+    let third = c.in_ok-log.ensures.others.kept pages apart in
+    let fourth = c.in_ok-append.ensures.others.kept pages (λ e. apart (e ∙ c.in_ok-log.ensures.log.0)) in
+    let settled : IsSettled d2 pages = subst (IsSettled d2) c.pages_of-pages.ensures c.in_ok-sync.ensures.ok in
+    λ image left. settled image (third.images image (fourth.images image left)) ∙ sym third.bytes ∙ sym fourth.bytes
+
+-- WHERE IT IS FULL
+
+pub returns-in_err-write_all-clause-full : goal.returns-in_err-write_all-clause-full
+returns-in_err-write_all-clause-full g c =
+    let d0 = g.D.Disks.view c.args.disks.now in
+    let p = err_from_is_err_and c.from_residual.result c.from_residual.ensures.1 in
+    rw (p.1, p.2) (full_pages d0 (pages_device c.args.part) c.args.other c.args.writes.now (length c.args.header.now) c.pages_of-pages.result c.in_err-write_all.field-0.0 c.pages_of-pages.ensures c.in_err-write_all.ensures.full)
+
+pub returns-in_err-sync-clause-full : goal.returns-in_err-sync-clause-full
+returns-in_err-sync-clause-full g c =
+    let d0 = g.D.Disks.view c.args.disks.now in
+    let p = err_from_is_err_and c.from_residual-in_err-sync.result c.from_residual-in_err-sync.ensures.1 in
+    rw (p.1, p.2) (full_never d0 (pages_device c.args.part) c.args.other c.args.writes.now (length c.args.header.now) c.in_err-sync.field-0.0 c.in_err-sync.ensures.answers)
+
+pub returns-in_err-log-clause-full : goal.returns-in_err-log-clause-full
+returns-in_err-log-clause-full g c =
+    let d0 = g.D.Disks.view c.args.disks.now in
+    let d1 = g.D.Disks.view c.write_all.new.disks in
+    let d2 = g.D.Disks.view c.sync.new.self in
+    let shape = shape_goes_on d0 d1 d2 c.in_ok-write_all.ensures.others.shape c.in_ok-sync.ensures.others.shape in
+    let p = err_from_is_err_and c.from_residual-in_err-log.result c.from_residual-in_err-log.ensures.1 in
+    rw (p.1, p.2) (full_other d0 (pages_device c.args.part) c.args.other c.args.writes.now (length c.args.header.now) d2 c.args.other 1 c.in_err-log.field-0.0 shape refl (omega arith) c.in_err-log.ensures.full)
+
+pub returns-in_err-append-clause-full : goal.returns-in_err-append-clause-full
+returns-in_err-append-clause-full g c =
+    let d0 = g.D.Disks.view c.args.disks.now in
+    let d1 = g.D.Disks.view c.write_all.new.disks in
+    let d2 = g.D.Disks.view c.sync.new.self in
+    let d3 = g.D.Disks.view c.create.new.disks in
+    let header = length c.args.header.now in
+    let log = c.in_ok-log.log in
+    let shape = shape_goes_on d0 d2 d3 (shape_goes_on d0 d1 d2 c.in_ok-write_all.ensures.others.shape c.in_ok-sync.ensures.others.shape) c.in_ok-log.ensures.others.shape in
+    let p = err_from_is_err_and c.from_residual-in_err-append.result c.from_residual-in_err-append.ensures.1 in
+    let full = full_only log.dev (d3.limit log.dev) (10 + header) (log.end + 10 + header) c.in_err-append.field-0.0 (omega (arith, c.in_ok-log.ensures.log.1.end)) c.in_err-append.ensures.full in
+    rw (p.1, p.2) (full_other d0 (pages_device c.args.part) c.args.other c.args.writes.now header d3 log.dev (10 + header) c.in_err-append.field-0.0 shape c.in_ok-log.ensures.log.0 (omega arith) full)
