@@ -1,19 +1,21 @@
 -- A text is read as a tree exactly where it is the tree's canonical text.
-use Rattle.salt_ast.specs.Limits.{table_limit}
+use Rattle.salt_ast.specs.Limits.{statement_limit, table_limit}
 use Rattle.salt_ast.specs.ProgramLimits.{program_limit}
 use Rattle.salt_ast.specs.ProgramTexts.{program_text}
-use Rattle.salt_ast.specs.Spelling.{Passes, Spells, SpellsProgram, SpellsShallowProgram, SpellsShallowTable, SpellsTable, by_parentheses, by_tree}
-use Rattle.salt_ast.specs.Texts.{table_text}
+use Rattle.salt_ast.specs.Spelling.{Passes, Spells, SpellsProgram, SpellsShallowProgram, SpellsShallowStatement, SpellsShallowTable, SpellsStatement, SpellsTable, by_parentheses, by_tree}
+use Rattle.salt_ast.specs.Texts.{statement_text, table_text}
 use Rattle.salt_ast.specs.declared.limit.LimitName.{LimitName}
 use Rattle.salt_ast.specs.declared.programs.ProgramDef.{ProgramDef}
+use Rattle.salt_ast.specs.declared.trees.Statement.{Statement}
 use Rattle.salt_ast.specs.declared.trees.TableDef.{TableDef}
 use Rattle.law_definitions.proofs.Rows.{never_memory}
-use Rattle.law_definitions.specs.Texts.{IsTextOf, definition_in, if_canonical, program_in, symbols_at, table_in, tree_in}
+use Rattle.law_definitions.specs.Texts.{IsStatementText, IsTextOf, definition_in, if_canonical, program_in, statement_in, symbols_at, table_in, tree_in}
 use Rattle.salt_model.specs.Kept.{Definition, OfProgram, OfTable}
-use Rattle.salt_parse.proofs.Whole.{TextLaw, program_deepens, program_settles, row_printable, row_program, row_table, table_deepens, table_settles}
+use Rattle.salt_parse.proofs.Whole.{TextLaw, program_deepens, program_settles, row_printable, row_program, row_statement, row_table, statement_deepens, statement_settles, table_deepens, table_settles}
 use Rattle.salt_parse.specs.Attempts.{IsAnswer, answer_for}
 use Rattle.salt_parse.specs.ProgramReading.{program_within}
-use Rattle.salt_parse.specs.Settling.{ArePrintable, DeepProgram, DeepTable, Settles, ShallowProgram, ShallowTable}
+use Rattle.salt_parse.specs.Settling.{ArePrintable, DeepProgram, DeepStatement, DeepTable, Settles, ShallowProgram, ShallowStatement, ShallowTable}
+use Rattle.salt_parse.specs.StatementReading.{statement_within}
 use Rattle.salt_parse.specs.TableReading.{table_within}
 use Rattle.salt_parse.specs.declared.error.ParseErr.TheVariants.{Limit, Memory, Syntax}
 use Rattle.salt_parse.specs.declared.error.ParseErr.{ParseErr}
@@ -163,3 +165,24 @@ module _ (law : TextLaw) (table : CanonicalTable) (program : CanonicalProgram) w
 
   pub read_exactly : (text : List ℕ) (d : Definition) → (definition_in text ≡ Some d) ↔ IsTextOf d text
   read_exactly text d = (read_sound text d, read_complete d text)
+
+abbrev CanonicalStatement : Type 0
+CanonicalStatement = (bytes : List ℕ) (st : Statement) → SpellsStatement bytes st → statement_limit st ≡ None → SpellsShallowStatement (statement_text st) st
+
+module _ (law : TextLaw) (canonical : CanonicalStatement) where
+  statements : Kind statement_limit ShallowStatement DeepStatement (answer_for statement_within) statement_text
+  statements = record { settles = statement_settles; deepens = statement_deepens; one = row_statement; never = never_memory statement_within; canonical = canonical }
+
+  statement_sound : (text : List ℕ) (st : Statement) → statement_in text ≡ Some st → IsStatementText st text
+  unfolding statement_in
+  statement_sound text st e =
+      let r = sound statement_limit ShallowStatement DeepStatement (answer_for statement_within) statement_text law statements text st e in
+      (record { text = r.bytes; spells = r.spells; within = r.within }, r.same)
+
+  statement_complete : (text : List ℕ) (st : Statement) → IsStatementText st text → statement_in text ≡ Some st
+  unfolding statement_in
+  statement_complete text st h =
+      ap statement_in h.1 ∙ complete statement_limit ShallowStatement DeepStatement (answer_for statement_within) statement_text law statements st h.0.text h.0.spells h.0.within
+
+  pub statement_exactly : (text : List ℕ) (st : Statement) → (statement_in text ≡ Some st) ↔ IsStatementText st text
+  statement_exactly text st = (statement_sound text st, statement_complete text st)
