@@ -16,7 +16,7 @@ use Rattle.salt_engine.specs.declared.stage.Stage.{Stage}
 use Rattle.salt_engine.specs.declared.stage.Stage.TheVariants as at
 use Rattle.law_states.specs.OpenUnits.{UnitState}
 use Rattle.law_states.specs.Points.{Moves, Point, Say}
-use Rattle.law_states.specs.Readings.{Reading}
+use Rattle.law_states.specs.Readings.{WatchReading}
 use Rattle.law_states.specs.States.{State}
 use Rattle.salt_model.specs.Kept.{Kept}
 use Rattle.salt_model.specs.Next.{decision_in}
@@ -103,7 +103,7 @@ module _ (x : Recovery) (p : Point) (sound : IsSoundPoint p) (t : State) (d : Ha
   abbrev pub there : State
   there = ready-state x p sound t d comes opening
 
-  read-there : Reading there.watch
+  read-there : WatchReading there.watch
   read-there = reads p sound Ready there refl comes (ready-after x p sound t d comes opening)
 
   pub ready-idles : {E : Type 0} (sees : E → Option Event → State → Type 0) (f : E) → sees f None there → (q : Point) × Moves (Say Ready) p q × IsOpenedOn sees f None q

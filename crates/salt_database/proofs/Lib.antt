@@ -19,3 +19,4 @@ pub mod ReadyDone
 pub mod Resting
 pub mod Spent
 pub mod Stages
+pub mod TakenUp

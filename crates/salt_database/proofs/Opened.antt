@@ -10,7 +10,7 @@ use Rattle.law_states.proofs.StatesGoOn.{states-say}
 use Rattle.law_states.specs.Follows.{opened_in}
 use Rattle.law_states.specs.Laws.{IsSound}
 use Rattle.law_states.specs.Points.{KeepsPoint, Point}
-use Rattle.law_states.specs.Readings.{Reading}
+use Rattle.law_states.specs.Readings.{WatchReading}
 use Rattle.law_states.specs.States.{Keeps, State, named_by, net_by}
 use Rattle.law_states.specs.Steps.{units_after}
 use Rattle.salt_model.specs.After.{kept}
@@ -168,7 +168,7 @@ module _ (p : Point) (sound : IsSoundPoint p) (fallen : p.state.units.phase ≡ 
     above = above;
   }
 
-  pub read : Reading state.watch
+  pub read : WatchReading state.watch
   read = readable state.watch (before says Opened boot number) opened-keeps.watch opened-sound
 
   -- where it is opened

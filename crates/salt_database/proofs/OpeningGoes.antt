@@ -13,7 +13,7 @@ use Rattle.salt_engine.specs.declared.stage.Stage.TheVariants as at
 use Rattle.law_states.specs.Nexts.{said_next}
 use Rattle.law_states.specs.OpenUnits.{UnitState}
 use Rattle.law_states.specs.Points.{Moves, Point, Say}
-use Rattle.law_states.specs.Readings.{Reading}
+use Rattle.law_states.specs.Readings.{WatchReading}
 use Rattle.law_states.specs.States.{State}
 use Rattle.salt_model.specs.Kept.{Kept}
 use Rattle.salt_model.specs.Phases.{Opening}
@@ -47,7 +47,7 @@ module _ (x : Recovery) (e : Event) (p : Point) (sound : IsSoundPoint p) (t : St
   pub stands : StandsForState x t
   stands = behind-stands e x t.units going d.behind
 
-  meant-is : (r : Reading t.watch) → said_next e p.state t r p.flight ≡ meant
+  meant-is : (r : WatchReading t.watch) → said_next e p.state t r p.flight ≡ meant
   meant-is r = said-in-opening e p.state t r p.flight d.plain stands.opening ∙ ap (λ o. option_or o (rest_in t.units)) d.follows
 
   pub goes-on : (holds : Kept → Type 0) (is_new : Id → Type 0) → Stored holds is_new t.units → GoesOnOpening holds is_new x t

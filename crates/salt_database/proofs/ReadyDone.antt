@@ -11,7 +11,7 @@ use Rattle.law_states.specs.Members.{In}
 use Rattle.law_states.specs.Nexts.{said_next}
 use Rattle.law_states.specs.OpenUnits.{OpenUnit, UnitState, names_in}
 use Rattle.law_states.specs.Points.{Moves, Point, Say}
-use Rattle.law_states.specs.Readings.{Reading, beside_by}
+use Rattle.law_states.specs.Readings.{WatchReading, beside_by}
 use Rattle.law_states.specs.States.{After, State}
 use Rattle.law_states.specs.UnitFacts.{UnitFacts, facts_in}
 use Rattle.law_states.specs.WatchSteps.{WatchBy, fate_by}
@@ -124,11 +124,11 @@ module _ (x : Recovery) (p : Point) (sound : IsSoundPoint p) (t : State) (d : Ha
       ap (λ (s : UnitState). s.base_count) d.after.units ∙ sym sound.keeps.state.units.base_count
       ∙ no-bases sound.trace sound.sound.played sound.sound.well (sound.keeps.state.units.phase ∙ opening)
 
-  ready-rests : (r : Reading ready-state.watch) → said_next Ready p.state ready-state r p.flight ≡ None
+  ready-rests : (r : WatchReading ready-state.watch) → said_next Ready p.state ready-state r p.flight ≡ None
   ready-rests r = ap (λ (q : Phase). said_in q t.units (beside_by ready-state r) Ready (unit_of Ready p.state.units t.units)) d.behind.1
 
   abbrev pub ready-point : Point
   ready-point = onwards p sound Ready ready-state refl comes ready-after None
 
-  pub ready-moves : (r : Reading ready-state.watch) → Moves (Say Ready) p ready-point
+  pub ready-moves : (r : WatchReading ready-state.watch) → Moves (Say Ready) p ready-point
   ready-moves r = says-moves p sound Ready ready-state refl comes ready-after None r (ready-rests r)

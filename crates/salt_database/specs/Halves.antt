@@ -3,9 +3,9 @@ use Rattle.salt_database.specs.Standing.{OpensIn, opening_books}
 use Rattle.salt_database.specs.declared.database.Database.{Database}
 use Rattle.salt_database.specs.declared.database.Database.TheVariants.{Closed, Moving, Open}
 use Rattle.salt_database.specs.declared.opening.Opening.{Opening}
-use Rattle.salt_engine.specs.Engines.{engine_left, engine_lies, engine_sees}
+use Rattle.salt_engine.specs.Engines.{engine_books, engine_flight, engine_left, engine_lies, engine_sees, engine_storage}
 use Rattle.salt_engine.specs.Flights.{flight_of}
-use Rattle.salt_engine.specs.Standing.{LeavesOnDevices, CanReopenAt, AgreesWithState, serving_books}
+use Rattle.salt_engine.specs.Standing.{AgreesWithState, CanReopenAt, LeavesOnDevices}
 use Rattle.salt_engine.specs.Stored.{IsAlone}
 use Rattle.salt_engine.specs.declared.engine.Engine.{Engine}
 use Rattle.law_states.specs.Points.{Point}
@@ -47,7 +47,7 @@ IfClosed P (Closed o) = P o
 IfClosed P x = ⊥
 
 abbrev pub database_flight : {S : Type 0} → Database S → Option Flight
-database_flight x = by_half (λ o. flight_of o.in_flight) (λ e. flight_of e.in_flight) None x
+database_flight x = by_half (λ o. flight_of o.in_flight) (λ e. flight_of (engine_flight e)) None x
 
 -- it is the one or the other
 abbrev pub IsMade : {S : Type 0} → Database S → Type 0
@@ -56,11 +56,11 @@ IsMade x = ⊤
 
 -- an opening of what an engine has left: its storage, its books and what is in flight
 pub record IsBehind {S : Type 0} (e : Engine S) (o : Opening S) : Type 0 where
-  pub storage : o.storage ≡ e.storage
-  pub books : opening_books o.stage ≡ serving_books e.stage
+  pub storage : o.storage ≡ engine_storage e
+  pub books : opening_books o.stage ≡ engine_books e
   pub found : o.found ≡ None
   pub single : o.single ≡ e.single
-  pub flies : o.in_flight ≡ e.in_flight
+  pub flies : o.in_flight ≡ engine_flight e
 
 -- what is opened behind a fall
 abbrev pub IsLeftBy : {S : Type 0} → Database S → Opening S → Type 0

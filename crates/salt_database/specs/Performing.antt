@@ -1,8 +1,10 @@
 -- What is to come in an opening is performed, over the recovery that has chosen it.
 use Rattle.salt_books.specs.Coming.{event_meant}
 use Rattle.salt_books.specs.declared.coming.Coming.{Coming}
+use Rattle.salt_engine.specs.Giving.{FitsUnits, coming_of}
 use Rattle.salt_engine.specs.Performing.{IsPlayedBefore, StoredAt, is_prepared}
 use Rattle.salt_engine.specs.Stored.{Stored}
+use Rattle.salt_engine.specs.declared.given.Given.{Given}
 use Rattle.law_states.specs.States.{State}
 use Rattle.salt_model.specs.Kept.{Kept}
 use Rattle.salt_model.specs.Phases as phases
@@ -23,9 +25,16 @@ pub record IsToOpen (holds : Kept → Type 0) (is_new : Id → Type 0) (x : Reco
   pub ready : recovering.IsReady x s c
   pub stored : StoredAt holds is_new c s
 
+-- it is ready for that, and what was given for it fits
+pub record CanTakeUp (x : Recovery) (g : Given) (s : State) : Type 0 where
+  pub ready : recovering.IsReady x s (coming_of g)
+  pub comes : IsSome (event_meant s.units (coming_of g))
+  pub fits : FitsUnits g s.units
+  pub recovers : recovering.IsRecovering s
+
 -- a recovery stands for a state behind an event of an opening, and what comes behind that comes next
 pub record GoesOnOpening (holds : Kept → Type 0) (is_new : Id → Type 0) (x : Recovery) (s : State) : Type 0 where
-  pub played : IsPlayedBefore (comes_behind x.behind s.units) s
+  pub played : IsPlayedBefore (comes_behind (recovering.behind_of x) s.units) s
   pub stands : recovering.StandsForState x s
   pub stored : Stored holds is_new s.units
 

@@ -35,7 +35,7 @@ pub record AreOpened (x : Books) (s : State) : Type 0 where
 
 -- of a recovery, an opening goes on, or is done
 abbrev pub OpensIn : (holds : Kept → Type 0) (is_new : Id → Type 0) → Stage Recovery → Option Event → State → Type 0
-OpensIn holds is_new (Going x) None s = AreOpened x.books s × Stored holds is_new s.units
+OpensIn holds is_new (Going x) None s = AreOpened (recovering.books_of x) s × Stored holds is_new s.units
 OpensIn holds is_new (Going x) (Some e) s = (t : State) × recovering.HasDoneEvent x e s t × Stored holds is_new t.units × (s.units.phase ≡ phases.Opening)
 OpensIn holds is_new stage next s = ⊥
 
@@ -46,7 +46,7 @@ IsFoundStage found stage = ⊥
 
 -- the books that it has
 abbrev pub opening_books : Stage Recovery → Option Books
-opening_books stage = books_in (λ (x : Recovery). x.books) stage
+opening_books stage = books_in recovering.books_of stage
 
 -- for it to be opened: what the storage holds is found, or it was broken off, and a stop has left something there
 abbrev pub CanFind : (settled : Type 0) (leaves : Kept → Kept → Type 0) → Option Numbers → Stage Recovery → Type 0
@@ -63,7 +63,7 @@ left_by x =
     length (filter (is_earlier x.known.boot) units) + (rests_of x.known.catalogue x.known.conts - done_now x.known.boot units)
 
 abbrev pub left_in : Stage Recovery → Option Event → ℕ
-left_in (Going x) (Some e) = 8 * left_by x.books + opening_stage e
+left_in (Going x) (Some e) = 8 * left_by (recovering.books_of x) + opening_stage e
 left_in stage next = 0
 
 -- an opening ends by this event

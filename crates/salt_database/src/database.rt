@@ -2,7 +2,7 @@
 
 ghost use Rattle.salt_database.specs.Standing.{CanFind, IsFoundStage, left_in};
 ghost use Rattle.salt_engine.specs.Performing.{IsServed};
-ghost use Rattle.salt_engine.specs.Standing.{goes_in, waits_in};
+ghost use Rattle.salt_engine.specs.Engines.{engine_storage, engine_turns, engine_waits};
 ghost use Rattle.std.specs.Prelude.{[], ⊤, ◌≡◌};
 
 use crate::opening::Opening;
@@ -77,13 +77,13 @@ impl<S: Storage + Drop> Stepping for Database<S> {
 
     ghost flight = { database_flight };
 
-    ghost asked = { λ x. by_half (λ o. S.asked o.storage) (λ e. S.asked e.storage) no_shape x };
+    ghost asked = { λ x. by_half (λ o. S.asked o.storage) (λ e. S.asked (engine_storage e)) no_shape x };
 
-    ghost fills = { λ d x w dev. IfEither (λ o. S.fills d o.storage w dev) (λ e. S.fills d e.storage w dev) x };
+    ghost fills = { λ d x w dev. IfEither (λ o. S.fills d o.storage w dev) (λ e. S.fills d (engine_storage e) w dev) x };
 
-    ghost waiting = { λ x. by_half (λ o. []) (λ e. waits_in e.stage) [] x };
+    ghost waiting = { λ x. by_half (λ o. []) engine_waits [] x };
 
-    ghost turns = { λ x. by_half (λ o. []) (λ e. goes_in e.stage) [] x };
+    ghost turns = { λ x. by_half (λ o. []) engine_turns [] x };
 
     ghost serves = { IsServed };
 

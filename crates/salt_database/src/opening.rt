@@ -2,7 +2,8 @@
 
 ghost use Rattle.salt_database.specs.Finding.{IsNew};
 ghost use Rattle.salt_database.specs.Standing.{AreOpened, IsFoundStage, opening_books};
-ghost use Rattle.salt_engine.specs.Standing.{ServesFrom, serving_books};
+ghost use Rattle.salt_drain.specs.Recovering.{books_of};
+ghost use Rattle.salt_engine.specs.Engines.{EngineServes, engine_books, engine_flight, engine_storage};
 ghost use Rattle.salt_engine.specs.declared.stage.Stage.TheVariants.{Going};
 ghost use Rattle.law_states.specs.States.{State};
 ghost use Rattle.salt_model.specs.Kept.{Kept};
@@ -74,11 +75,11 @@ impl<S: Drop> Opening<S> {
 
     /// An opening of what an engine has left that is given up.
     pub fn behind(engine: Engine<S>) -> Opening<S>
-        ensures storage { result.storage ≡ engine.storage }
-        ensures books { opening_books result.stage ≡ serving_books engine.stage }
+        ensures storage { result.storage ≡ engine_storage engine }
+        ensures books { opening_books result.stage ≡ engine_books engine }
         ensures found { result.found ≡ None }
         ensures single { result.single ≡ engine.single }
-        ensures flies { result.in_flight ≡ engine.in_flight }
+        ensures flies { result.in_flight ≡ engine_flight engine }
     {
         let GivenUp {
             alloc,
@@ -100,11 +101,11 @@ impl<S: Drop> Opening<S> {
 
     /// An engine over what an opening has left that is done.
     pub fn into_engine(self) -> Engine<S>
-        requires { (x : Recovery) × (s : State) × (self.stage ≡ Going x) × AreOpened x.books s }
-        ensures storage { result.storage ≡ self.storage }
-        ensures serves { (x : Recovery) (s : State) → self.stage ≡ Going x → AreOpened x.books s → ServesFrom result.stage s }
+        requires { (x : Recovery) × (s : State) × (self.stage ≡ Going x) × AreOpened (books_of x) s }
+        ensures storage { engine_storage result ≡ self.storage }
+        ensures serves { (x : Recovery) (s : State) → self.stage ≡ Going x → AreOpened (books_of x) s → EngineServes result s }
         ensures single { result.single ≡ self.single }
-        ensures none { result.in_flight ≡ None }
+        ensures none { engine_flight result ≡ None }
     {
         let Opening {
             alloc,

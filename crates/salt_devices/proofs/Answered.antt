@@ -26,18 +26,15 @@ use Rattle.salt_place.specs.declared.placement.PlaceKind.{PlaceKind}
 use Rattle.salt_place.specs.declared.placement.Shape.{Shape}
 use Rattle.std.proofs.Common.{Bool, Err, List, None, Ok, Option, Result, Some, ap, arith, false, inl, inr, refl, subst, sym, true, ℕ, ◌+◌, ◌<◌, ◌≡◌, ◌⊎◌, ◌∙◌, ◌∷◌}
 use Rattle.std.proofs.lemmas.Bool.Decides.{Decides-eqb}
-use Rattle.std.specs.Prelude.{option_map, suc, zero, ◌&&◌}
+use Rattle.std.specs.Prelude.{if◌then◌else◌, not, option_map, suc, zero, ◌&&◌}
 
 -- THE ANSWER, by what the coordinator's log says
 
 abbrev asked_as : Coordinator Definition → Shape → (same spent : Bool) → Result (List Tables) ℕ → Opening Definition
-asked_as c asked same spent parts = elim same [
-  | false ↦ opening.OtherShape c.log.header.shape asked
-  | true ↦ elim spent [
-    | true ↦ opening.NumbersSpent c.log.told.boot c.log.told.decisions
-    | false ↦ of_parts c parts
-  ]
-]
+asked_as c asked same spent parts =
+    if not same then opening.OtherShape c.log.header.shape asked else
+    if spent then opening.NumbersSpent c.log.told.boot c.log.told.decisions else
+    of_parts c parts
 
 -- where a log counts and stands for something
 answered : (bytes : ℕ → List ℕ) (asked : Shape) (c : Coordinator Definition)

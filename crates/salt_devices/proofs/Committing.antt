@@ -6,14 +6,14 @@ use Rattle.salt_ast.specs.declared.trees.ColType.{ColType}
 use Rattle.salt_ast.specs.declared.trees.TableDef.{TableDef}
 use Rattle.salt_bytes.specs.Conts.{move_in, spell_move}
 use Rattle.salt_bytes.specs.Spellable as bytes
-use Rattle.salt_bytes.specs.Values.{is_row_length, key_of}
+use Rattle.salt_bytes.specs.Values.{is_row_length}
 use Rattle.salt_bytes.specs.declared.moves.Move.TheVariants.{Continue, Finish, Plain}
 use Rattle.salt_bytes.specs.declared.moves.Move.{Move}
 use Rattle.salt_codec.specs.Moves.{IsShort, IsShortMove}
 use Rattle.salt_commit.specs.Commits.{MayCommitUnit, fits_its_part}
 use Rattle.salt_commit.specs.Shares.{next_decision}
 use Rattle.salt_commit.specs.Stores.{reading}
-use Rattle.salt_stands.specs.Fitting.{are_of_columns, at_place, is_cont_of, is_key_of, is_row_of, passes_checks, programs_of, tables_of}
+use Rattle.salt_stands.specs.Fitting.{are_of_columns, is_cont_of, is_key_of, is_row_of, passes_checks, programs_of, tables_of}
 use Rattle.salt_devices.proofs.Limits.{arguments_length, at_every, columns_length, few_columns, few_params, few_vars, short_name}
 use Rattle.salt_devices.specs.Holding.{IsFresh, Keeps}
 use Rattle.salt_codec.specs.Entries.{IsPut, MayStand}
@@ -25,7 +25,6 @@ use Rattle.salt_stands.specs.Coordinator.{Coordinator, is_sound_cont}
 use Rattle.salt_stands.specs.OpenConts.{conts_of_move, go_to, is_accepted_before, make_move, replace_cont}
 use Rattle.salt_stands.specs.Pieces.{PartView, with_decision}
 use Rattle.salt_stands.specs.Placed.{changes_at, is_of_part}
-use Rattle.salt_stands.specs.Words.{given}
 use Rattle.salt_storage.specs.Storing.{IsSoundKept, IsSpelledDefinition, MayDecide, decided}
 use Rattle.salt_tokens.specs.Spelling.{same_bytes}
 use Rattle.law_types.specs.Typed.{AreChangesOf, FitsAt, IsContOf, IsProperTable, has_key}
@@ -40,7 +39,8 @@ use Rattle.salt_values.specs.declared.value.Value.{Value}
 use Rattle.std.proofs.Common.{Bool, List, None, Option, Some, [], ap, arith, false, length, refl, subst, sym, true, ℕ, ◌+◌, ◌++◌, ◌≡◌, ◌≤◌, ◌∙◌, ◌∷◌}
 use Rattle.std.proofs.lemmas.Bool.Decides.{nat_tests}
 use Rattle.std.specs.List.{filter, list_all}
-use Rattle.std.specs.Prelude.{eqb, if◌then◌else◌, nat_le, suc, ◌&&◌, ◌==◌}
+use Rattle.std.specs.Prelude.{eqb, if◌then◌else◌, nat_le, suc, ◌&&◌, ◌==◌, slice_get}
+use Rattle.std.specs.Bool.{then_some}
 
 -- THE CONTINUATION OF A MOVE is one of those that it leaves
 
@@ -56,7 +56,7 @@ every_replaced P c (x ∷ cs) d e h = by (is_same_id c.base x.base) refl e h (λ
     by true same e' h' more = h'.0
     by false same e' h' more = more e' h'.1
 
-given_is : {A : Type 0} (b : Bool) (x y : A) → given b x ≡ Some y → x ≡ y
+given_is : {A : Type 0} (b : Bool) (x y : A) → then_some b x ≡ Some y → x ≡ y
 given_is true x y e = cc
 given_is false x y e = absurd cc
 
@@ -124,10 +124,10 @@ plain_tables : (ts : List TableDef) → Every IsProperTable ts → Every (λ (d 
 plain_tables [] p f = tt
 plain_tables (t ∷ ts) p f = (record { key = p.0.key; few = f.0 }, plain_tables ts p.1 f.1)
 
-put_row : (schema : List TableDef) (table : ℕ) (row : List Value) → Every IsPlain schema → is_row_of (at_place schema table) row ≡ true → is_row_length (length row) ≡ true
-put_row schema table row plain fits = by (at_place schema table) refl fits
+put_row : (schema : List TableDef) (table : ℕ) (row : List Value) → Every IsPlain schema → is_row_of (slice_get schema table) row ≡ true → is_row_length (length row) ≡ true
+put_row schema table row plain fits = by (slice_get schema table) refl fits
   where
-    by : (o : Option TableDef) → at_place schema table ≡ o → is_row_of o row ≡ true → is_row_length (length row) ≡ true
+    by : (o : Option TableDef) → slice_get schema table ≡ o → is_row_of o row ≡ true → is_row_length (length row) ≡ true
     by None is e = absurd cc
     by (Some d) is e =
         let p = at_every IsPlain schema table d plain is in
@@ -137,12 +137,8 @@ put_change : (schema : List TableDef) (c : Change) → Every IsPlain schema → 
 put_change schema c plain fits = by c.row fits
   where
     by : (o : Option (List Value)) → FitsAt schema (changed_at c) o → Rattle.salt_codec.specs.Entries.IsPutTo true c.key o
-    by None h = key_is_some (at_place schema c.table) c.key h
-    by (Some row) h = (put_row schema c.table row plain h.fits, same row h.key, all_stand row)
-      where
-        same : (row : List Value) → c.key ≡ Rattle.salt_model.specs.Tables.key_of row → key_of row ≡ c.key
-        same [] e = sym e
-        same (v ∷ vs) e = sym e
+    by None h = key_is_some (slice_get schema c.table) c.key h
+    by (Some row) h = (put_row schema c.table row plain h.fits, sym h.key, all_stand row)
 
 put_changes : (schema : List TableDef) (cs : List Change) → Every IsPlain schema → AreChangesOf schema cs → bytes.Every (IsPut true) cs
 put_changes schema [] plain h = tt

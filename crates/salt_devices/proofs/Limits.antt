@@ -6,14 +6,14 @@ use Rattle.salt_ast.specs.declared.limit.LimitName.{LimitName}
 use Rattle.salt_ast.specs.declared.programs.ProgramDef.{ProgramDef}
 use Rattle.salt_ast.specs.declared.trees.Field.{Field}
 use Rattle.salt_ast.specs.declared.trees.TableDef.{TableDef}
-use Rattle.salt_stands.specs.Fitting.{are_of_columns, at_place}
+use Rattle.salt_stands.specs.Fitting.{are_of_columns}
 use Rattle.salt_model.specs.Words.{Every}
 use Rattle.salt_values.specs.declared.value.Value.{Value}
 use Rattle.std.proofs.Common.{Bool, List, None, Option, Some, [], ap, arith, false, length, refl, subst, true, ℕ, ◌≡◌, ◌≤◌, ◌∷◌}
 use Rattle.std.proofs.lemmas.Bool.Decides.{nat_tests}
 use Rattle.std.specs.Bool.{then_some}
 use Rattle.std.specs.Option.{option_or}
-use Rattle.std.specs.Prelude.{nat_lt, suc, zero}
+use Rattle.std.specs.Prelude.{nat_lt, suc, zero, slice_get}
 
 pub or_first : {A : Type 0} (a b : Option A) → option_or a b ≡ None → a ≡ None
 or_first None b e = refl
@@ -64,7 +64,7 @@ unfolding program_limit
 short_name p e = at_most 32 _ (length p.name) (or_first (name_passed p.name) _ (or_first _ _ e))
 
 -- what is found in a list
-pub at_every : {A : Type 0} (P : A → Type 0) (xs : List A) (n : ℕ) (x : A) → Every P xs → at_place xs n ≡ Some x → P x
+pub at_every : {A : Type 0} (P : A → Type 0) (xs : List A) (n : ℕ) (x : A) → Every P xs → slice_get xs n ≡ Some x → P x
 at_every P [] n x all e = absurd cc
 at_every P (y ∷ ys) zero x all e = let same : y ≡ x = cc e in subst P same all.0
 at_every P (y ∷ ys) (suc n) x all e = at_every P ys n x all.1 e

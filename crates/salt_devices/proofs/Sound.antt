@@ -14,14 +14,14 @@ use Rattle.salt_stands.proofs.OpenConts.{AreOpen, moved_keeps}
 use Rattle.salt_stands.specs.Coordinator.{Coordinator, define, defined_by, is_sound_cont, is_sound_decision}
 use Rattle.salt_stands.specs.OpenConts.{conts_of_move, do_rise, is_later_than, is_not_of}
 use Rattle.salt_stands.specs.Pieces.{IsCoordinator}
-use Rattle.salt_stands.specs.Words.{and_then, given}
 use Rattle.salt_storage.specs.Storing.{IsSoundKept, IsSpelledDefinition}
 use Rattle.law_types.specs.Typed.{IsTyped}
 use Rattle.salt_values.specs.declared.cont.Cont.{Cont}
 use Rattle.std.proofs.Common.{Bool, List, None, Option, Some, [], ap, arith, false, refl, subst, sym, true, ℕ, ◌++◌, ◌<◌, ◌≡◌, ◌≤◌, ◌∙◌, ◌∷◌}
 use Rattle.std.proofs.lemmas.Bool.Decides.{nat_tests}
 use Rattle.std.specs.List.{list_all}
-use Rattle.std.specs.Prelude.{IsSome, is_some, nat_le, nat_lt, not, ⊤, ◌&&◌}
+use Rattle.std.specs.Prelude.{IsSome, is_some, nat_le, nat_lt, not, ⊤, ◌&&◌, option_and_then}
+use Rattle.std.specs.Bool.{then_some}
 
 -- TEXTS
 
@@ -38,11 +38,11 @@ AllSpelled None = ⊤
 AllSpelled (Some ds) = Every IsSpelledDefinition ds
 
 module _ (texts : (text : List ℕ) (d : Definition) → definition_in text ≡ Some d → IsTextOf d text) where
-  with_one : (ds : List Definition) (text : List ℕ) (o : Option Definition) → definition_in text ≡ o → Every IsSpelledDefinition ds → AllSpelled (and_then (λ d. given (not (reading.is_refused ds d)) (ds ++ d ∷ [])) o)
+  with_one : (ds : List Definition) (text : List ℕ) (o : Option Definition) → definition_in text ≡ o → Every IsSpelledDefinition ds → AllSpelled (option_and_then (λ d. then_some (not (reading.is_refused ds d)) (ds ++ d ∷ [])) o)
   with_one ds text None is h = tt
   with_one ds text (Some d) is h = by (not (reading.is_refused ds d))
     where
-      by : (b : Bool) → AllSpelled (given b (ds ++ d ∷ []))
+      by : (b : Bool) → AllSpelled (then_some b (ds ++ d ∷ []))
       by true = every_more ds d h (spelled_text d text (texts text d is))
       by false = tt
 

@@ -3,6 +3,7 @@ use Rattle.salt_books.specs.Asking.{IsAskedBy}
 use Rattle.salt_books.specs.Books.{AreBooks}
 use Rattle.salt_books.specs.Coming.{CanCome, event_meant}
 use Rattle.salt_books.specs.Sound.{IsSoundState}
+use Rattle.salt_books.specs.declared.books.Books.{Books}
 use Rattle.salt_books.specs.declared.coming.Coming.TheVariants as coming
 use Rattle.salt_books.specs.declared.coming.Coming.{Coming}
 use Rattle.law_states.specs.Laws.{is_of_run}
@@ -21,6 +22,13 @@ use Rattle.salt_drain.specs.declared.behind.Behind.{Behind}
 use Rattle.salt_drain.specs.declared.recovery.Recovery.{Recovery}
 use Rattle.salt_values.specs.declared.id.Id.{Id}
 use Rattle.std.specs.Prelude.{None, Option, Some, false, ℕ, ⊤, ◌≡◌}
+
+-- the books of a recovery, and what follows its last event
+abbrev pub books_of : Recovery → Books
+books_of x = x.books
+
+abbrev pub behind_of : Recovery → Behind
+behind_of x = x.behind
 
 -- a state in an opening of a sound trace
 pub record IsRecovering (s : State) : Type 0 where

@@ -32,7 +32,7 @@ impl Drop for Recovery {
 }
 
 impl Recovery {
-    ghost use Rattle.salt_drain.specs.Recovering.{StandsForState};
+    ghost use Rattle.salt_drain.specs.Recovering.{StandsForState, books_of};
 
     /// Behind an Opened: the books of its boot, and whether the last line that was asked is one statement.
     pub fn new(alloc: Global, books: Books, single: bool) -> Recovery
@@ -48,14 +48,14 @@ impl Recovery {
 
     /// The books.
     pub fn books(&self) -> &Books
-        ensures { result.now ≡ self.now.books }
+        ensures { result.now ≡ books_of self.now }
     {
         &self.books
     }
 
     /// The books alone.
     pub fn into_books(self) -> Books
-        ensures { result ≡ self.books }
+        ensures { result ≡ books_of self }
     {
         let Recovery {
             alloc: _alloc,

@@ -15,7 +15,7 @@ use Rattle.law_states.proofs.PointsGoOn.{turn-kept}
 use Rattle.law_states.specs.Members.{In}
 use Rattle.law_states.specs.Nexts.{asked_next, next_turn_of, turned_next}
 use Rattle.law_states.specs.Points.{Ask, IsIdle, Moves, Point, Turn}
-use Rattle.law_states.specs.Readings.{Reading}
+use Rattle.law_states.specs.Readings.{WatchReading}
 use Rattle.law_states.specs.States.{State, asked_of, turned_to}
 use Rattle.law_story.proofs.Ids.{is_same_id-refl}
 use Rattle.law_story.proofs.LateOpenings.{as-ever}
@@ -45,7 +45,7 @@ use Rattle.std.specs.Prelude.{Bool, Err, IfOk, IsSome, List, None, Ok, OnOk, Opt
 pub sound-here : (p : Point) → IsSoundPoint p → IsSoundState p.state
 sound-here p sound = record { trace = sound.trace; keeps = sound.keeps.state; sound = sound.sound }
 
-pub reads-here : (p : Point) → IsSoundPoint p → Reading p.state.watch
+pub reads-here : (p : Point) → IsSoundPoint p → WatchReading p.state.watch
 reads-here p sound = readable p.state.watch sound.trace sound.keeps.state.watch sound.sound
 
 -- what an Ok tells whatever its value is
@@ -76,7 +76,7 @@ to-ask holds is_new stoppable (at.Going x) single in_flight line p sound idle se
 to-ask holds is_new stoppable (at.Down books) single in_flight line p sound idle served keys sees = absurd sees.seen
 to-ask holds is_new stoppable at.Lost single in_flight line p sound idle served keys sees = absurd sees.seen
 
-pub asked-there : {E : Type 0} (sees : E → Option Event → State → Type 0) (e : E) (asked : Asked) (p : Point) (sound : IsSoundPoint p) (idle : IsIdle p) (r : Reading p.state.watch)
+pub asked-there : {E : Type 0} (sees : E → Option Event → State → Type 0) (e : E) (asked : Asked) (p : Point) (sound : IsSoundPoint p) (idle : IsIdle p) (r : WatchReading p.state.watch)
     (given : Option Event) → sees e given (asked_of asked p.state) → given ≡ asked_next p.state r asked → (q : Point) × Moves (Ask asked) p q × IsAt sees (line_asked asked) e given q
 asked-there sees e asked p sound idle r given state told = (
   asked_to asked p sound idle r,
@@ -86,7 +86,7 @@ asked-there sees e asked p sound idle r given state told = (
 
 module _ (holds : Kept → Type 0) (leaves : Kept → Kept → Type 0) (fills : ToWrite → ℕ → Type 0) (halt : Halt) (old stoppable : Bool) (stage : Stage Scheduler) (single : Bool)
     (in_flight : Option InFlight) (p : Point) (sound : IsSoundPoint p) (can : p.state.can_stop ≡ old) (plain : HasPlainStart p.state) (same : stoppable ≡ old) (kept : IsSoundKept p.state.units.kept) where
-  pub asked-halts : (asked : Asked) (idle : IsIdle p) (r : Reading p.state.watch) → BreaksOff leaves fills halt stage in_flight (asked_next p.state r asked) (asked_of asked p.state).units →
+  pub asked-halts : (asked : Asked) (idle : IsIdle p) (r : WatchReading p.state.watch) → BreaksOff leaves fills halt stage in_flight (asked_next p.state r asked) (asked_of asked p.state).units →
       single ≡ is_statement_line (line_asked asked) →
       (q : Point) × Moves (Ask asked) p q × HaltsAt (λ p. CanReopenAt holds leaves stoppable None (serving_books stage) single in_flight 0 p) (λ p. LeavesOnDevices holds leaves (IsSome in_flight) None 0 p × ⊤) fills (flight_of in_flight) halt q
   asked-halts asked idle r b line = (
@@ -95,7 +95,7 @@ module _ (holds : Kept → Type 0) (leaves : Kept → Kept → Type 0) (fills : 
     halts (λ (x : Scheduler). x.books) holds leaves fills halt stoppable None refl stage single in_flight (asked_to asked p sound idle r) b refl (can ∙ sym same) (record { early = plain.early; over_net = plain.over_net }) line kept,
   )
 
-  pub turned-halts : (b : Id) (serves : p.state.units.phase ≡ Serving) (none : p.next ≡ None) (turn : next_turn_of p.state ≡ Some b) (r : Reading p.state.watch) →
+  pub turned-halts : (b : Id) (serves : p.state.units.phase ≡ Serving) (none : p.next ≡ None) (turn : next_turn_of p.state ≡ Some b) (r : WatchReading p.state.watch) →
       BreaksOff leaves fills halt stage in_flight (turned_next p.state r b) (turned_to b p.state).units → single ≡ is_statement_line p.state.units.line →
       (q : Point) × Moves (Turn b) p q × HaltsAt (λ p. CanReopenAt holds leaves stoppable None (serving_books stage) single in_flight 0 p) (λ p. LeavesOnDevices holds leaves (IsSome in_flight) None 0 p × ⊤) fills (flight_of in_flight) halt q
   turned-halts b serves none turn r broken line = (
@@ -117,7 +117,7 @@ to-turn holds is_new (at.Down books) line b p sound serves served none turn seen
 to-turn holds is_new at.Lost line b p sound serves served none turn seen = absurd seen
 
 pub turned-there : {E : Type 0} (sees : E → Option Event → State → Type 0) (e : E) (line : Line) (b : Id) (p : Point) (sound : IsSoundPoint p) (serves : p.state.units.phase ≡ Serving)
-    (none : p.next ≡ None) (turn : next_turn_of p.state ≡ Some b) (r : Reading p.state.watch) (given : Option Event) → p.state.units.line ≡ line → sees e given (turned_to b p.state) →
+    (none : p.next ≡ None) (turn : next_turn_of p.state ≡ Some b) (r : WatchReading p.state.watch) (given : Option Event) → p.state.units.line ≡ line → sees e given (turned_to b p.state) →
     given ≡ turned_next p.state r b → (q : Point) × Moves (Turn b) p q × IsAt sees line e given q
 turned-there sees e line b p sound serves none turn r given served state told = (
   turned_at b p sound serves none turn r,
@@ -157,7 +157,7 @@ turn-goes b p sound plain turn =
     subst (In b) keeps.units.to_go (find-in (can_go trace) b (still_to_go trace) goes).0
 
 pub turned-fewer : (holds now : Kept → Type 0) (is_new new_now : Id → Type 0) (stage later : Stage Scheduler) (b : Id) (given : Option Event) (p : Point) (sound : IsSoundPoint p)
-    (serves : p.state.units.phase ≡ Serving) (none : p.next ≡ None) (turn : next_turn_of p.state ≡ Some b) (r : Reading p.state.watch) → HasPlainStart p.state →
+    (serves : p.state.units.phase ≡ Serving) (none : p.next ≡ None) (turn : next_turn_of p.state ≡ Some b) (r : WatchReading p.state.watch) → HasPlainStart p.state →
     StandsAtEventIn holds is_new stage None p.state → StandsAtEventIn now new_now later given (turned_to b p.state) → given ≡ turned_next p.state r b → length (goes_in later) < length (goes_in stage)
 turned-fewer holds now is_new new_now stage later b given p sound serves none turn r plain seen sees told =
     let q = turned_at b p sound serves none turn r in

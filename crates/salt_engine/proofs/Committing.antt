@@ -17,7 +17,6 @@ use Rattle.salt_model.specs.declared.events.Cause.{Cause}
 use Rattle.salt_model.specs.declared.events.End.TheVariants.{Branched, Committed}
 use Rattle.law_decisions.specs.Ending.{EndsNext, MayEnd}
 use Rattle.salt_stands.specs.OpenConts.{make_move}
-use Rattle.salt_driver.specs.Writing.{change_of}
 use Rattle.salt_storage.specs.Storing.{IsSoundKept, MayDecide, decided}
 use Rattle.salt_storage.specs.Writing.{OfUnit, ToWrite}
 use Rattle.salt_storage.specs.declared.halt.Halt.TheVariants.{DeviceFull}
@@ -28,6 +27,7 @@ use Rattle.salt_values.specs.declared.cont.Cont.{Cont}
 use Rattle.salt_values.specs.declared.id.Id.{Id}
 use Rattle.std.proofs.Common.{ap, subst, sym, ◌∙◌}
 use Rattle.std.specs.Prelude.{List, Some, [], false, map, refl, ℕ, ◌≡◌}
+use Rattle.salt_stands.specs.Turning.{change_at}
 
 -- the law of commits, and of branches, of law_decisions
 abbrev pub CommitLaw : Type 0
@@ -49,7 +49,7 @@ module _ (holds : Kept → Type 0) (is_new : Id → Type 0) (x : Books) (s : Uni
         made s o b.books named (at-part s b.comes.trace u b.comes.keeps b.comes.sound)
         (can-move s b.comes.trace u o b.comes.keeps b.comes.sound (may s.kept b.stored.holding).rise named)
 
-    module _ (law : CommitLaw) (cs : List Change) (m : Move) (are : cs ≡ map change_of o.changes)
+    module _ (law : CommitLaw) (cs : List Change) (m : Move) (are : cs ≡ map change_at o.changes)
         (moves : make_move s.kept.conts m ≡ Some (conts_committed s.kept (next_decision s) o.kind o.vars)) where
       ends : MayEnd s o (Committed (next_decision s)) cs m (conts_committed s.kept (next_decision s) o.kind o.vars)
       ends =

@@ -23,7 +23,7 @@ use Rattle.law_decisions.proofs.Naming.{decided-boot, may-be-before, may-no-more
 use Rattle.law_decisions.specs.Ending.{EndsNext}
 use Rattle.law_decisions.specs.Naming.{IsToCome}
 use Rattle.salt_stands.specs.OpenConts.{make_move}
-use Rattle.salt_driver.specs.Writing.{IsWrittenBy, change_of, changes_decided}
+use Rattle.salt_driver.specs.Writing.{IsWrittenBy, changes_decided}
 use Rattle.salt_storage.specs.Storing.{IsSoundKept}
 use Rattle.salt_storage.specs.Writing.{OfUnit, ToWrite}
 use Rattle.salt_storage.specs.declared.halt.Halt.TheVariants.{DeviceFull, Memory}
@@ -33,14 +33,15 @@ use Rattle.salt_values.specs.declared.change.Change.{Change}
 use Rattle.salt_values.specs.declared.id.Id.{Id}
 use Rattle.std.proofs.Common.{ap, inl, inr, subst, sym, ◌∙◌}
 use Rattle.std.specs.Prelude.{List, Option, Some, [], false, map, refl, true, ℕ, ◌∷◌, ◌≡◌}
+use Rattle.salt_stands.specs.Turning.{change_at}
 
 -- CHANGES
 
-pub edits-back : (ds : List Edit) → edits_of (map change_of ds) ≡ ds
+pub edits-back : (ds : List Edit) → edits_of (map change_at ds) ≡ ds
 edits-back [] = refl
 edits-back (d ∷ ds) = ap (λ (es : List Edit). d ∷ es) (edits-back ds)
 
-pub changes-back : (cs : List Change) → map change_of (edits_of cs) ≡ cs
+pub changes-back : (cs : List Change) → map change_at (edits_of cs) ≡ cs
 changes-back [] = refl
 changes-back (c ∷ cs) = ap (λ (ds : List Change). c ∷ ds) (changes-back cs)
 
@@ -115,7 +116,7 @@ module _ (holds : Kept → Type 0) (is_new : Id → Type 0) (x : Books) (s : Uni
     full = λ dev h. (OfUnit u cs m, written (OfUnit u cs m) refl, full dev h);
   }
 
-pub commit-written : (s : UnitState) (o : OpenUnit) (u : Id) (cs : List Change) (m : Move) → unit_named u s.units ≡ Some o → cs ≡ map change_of o.changes →
+pub commit-written : (s : UnitState) (o : OpenUnit) (u : Id) (cs : List Change) (m : Move) → unit_named u s.units ≡ Some o → cs ≡ map change_at o.changes →
     make_move s.kept.conts m ≡ Some (conts_committed s.kept (next_decision s) o.kind o.vars) → (w : ToWrite) → w ≡ OfUnit u cs m → IsWrittenBy s (Some (commits_in s o)) w
 commit-written s o u cs m named are moves w is =
     let own = named-own u s.units o named in

@@ -7,7 +7,7 @@ use Rattle.law_states.specs.Laws.{IsSound, is_of_run}
 use Rattle.law_states.specs.Nexts.{flight_next, said_next}
 use Rattle.law_states.specs.OpenUnits.{UnitState}
 use Rattle.law_states.specs.Points.{Moves, Point, Say}
-use Rattle.law_states.specs.Readings.{Reading}
+use Rattle.law_states.specs.Readings.{WatchReading}
 use Rattle.law_states.specs.States.{After, Keeps, State}
 use Rattle.law_states.specs.Steps.{units_after}
 use Rattle.salt_model.specs.Next.{decision_in, next}
@@ -40,15 +40,15 @@ module _ (p : Point) (sound : IsSoundPoint p) (e : Event) (t : State) (plain : i
   pub says-keeps : Keeps t (sound.trace says e)
   says-keeps = states-say p.state t sound.trace e sound.keeps.state says-played sound.sound.well after
 
-  pub reads : Reading t.watch
+  pub reads : WatchReading t.watch
   reads = readable t.watch (sound.trace says e) says-keeps.watch says-sound
 
-  pub says-next : (r : Reading t.watch) → next (sound.trace says e) ≡ said_next e p.state t r p.flight
+  pub says-next : (r : WatchReading t.watch) → next (sound.trace says e) ≡ said_next e p.state t r p.flight
   says-next r =
       said-kept p.state t sound.trace e r sound.keeps.state says-played sound.sound.well after
       ∙ ap (λ (f : Option Event). said_next e p.state t r f) sound.keeps.flight
 
-  pub played-before : (meant : Option Event) (r : Reading t.watch) → said_next e p.state t r p.flight ≡ meant → IsPlayedBefore meant t
+  pub played-before : (meant : Option Event) (r : WatchReading t.watch) → said_next e p.state t r p.flight ≡ meant → IsPlayedBefore meant t
   played-before meant r is = record {
     trace = sound.trace says e;
     keeps = says-keeps;
@@ -63,7 +63,7 @@ module _ (p : Point) (sound : IsSoundPoint p) (e : Event) (t : State) (plain : i
   abbrev pub onwards : Option Event → Point
   onwards meant = record { state = t; next = meant; flight = flight_next e p.flight meant }
 
-  pub says-moves : (meant : Option Event) (r : Reading t.watch) → said_next e p.state t r p.flight ≡ meant → Moves (Say e) p (onwards meant)
+  pub says-moves : (meant : Option Event) (r : WatchReading t.watch) → said_next e p.state t r p.flight ≡ meant → Moves (Say e) p (onwards meant)
   says-moves meant r is = (record { comes = comes; after = after; read = r; next = sym is; flight = refl }, plain)
 
   pub onwards-line : t.units.line ≡ p.state.units.line

@@ -6,7 +6,7 @@ use Rattle.salt_engine.specs.declared.flights.InFlight.{InFlight}
 use Rattle.salt_engine.specs.declared.stage.Stage.TheVariants as at
 use Rattle.salt_engine.specs.declared.stage.Stage.{Stage}
 use Rattle.law_states.specs.OpenUnits.{UnitState}
-use Rattle.law_states.specs.Readings.{Reading}
+use Rattle.law_states.specs.Readings.{WatchReading}
 use Rattle.law_states.specs.States.{State}
 use Rattle.salt_model.specs.Kept.{Kept}
 use Rattle.salt_model.specs.declared.events.Event.{Event}
@@ -30,7 +30,7 @@ never-else P (at.Down books) never h = h
 never-else P at.Lost never h = h
 
 -- what follows on it
-pub followed : (s : State) (r : Reading s.watch) (stage : Stage Scheduler) (x : Scheduler) → stage ≡ at.Going x → behind_in s r x.follow ≡ behind_in s r (follow_in stage)
+pub followed : (s : State) (r : WatchReading s.watch) (stage : Stage Scheduler) (x : Scheduler) → stage ≡ at.Going x → behind_in s r x.follow ≡ behind_in s r (follow_in stage)
 followed s r stage x is = ap (λ (q : Stage Scheduler). behind_in s r (follow_in q)) (sym is)
 
 -- BROKEN OFF

@@ -21,6 +21,7 @@ pub mod LineChosen
 pub mod LineDefines
 pub mod Outcome
 pub mod SayDone
-pub mod ServingActs
+pub mod Providing
+pub mod TakenUp
 pub mod Stages
 pub mod Unprepared

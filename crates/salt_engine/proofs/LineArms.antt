@@ -8,7 +8,7 @@ use Rattle.salt_engine.specs.Stored.{Stored}
 use Rattle.salt_engine.specs.declared.flights.InFlight.{InFlight}
 use Rattle.salt_engine.specs.declared.stage.Stage.TheVariants as at
 use Rattle.salt_engine.specs.declared.stage.Stage.{Stage}
-use Rattle.law_states.specs.Readings.{Reading, clash_by, items_by, under_way_of}
+use Rattle.law_states.specs.Readings.{WatchReading, clash_by, items_by, under_way_of}
 use Rattle.law_states.specs.Refused.{refusal_in, refused_in}
 use Rattle.law_states.specs.States.{State}
 use Rattle.law_states.specs.Told.{line_in}
@@ -40,11 +40,11 @@ module _ (holds : Kept → Type 0) (is_new : Id → Type 0) (stoppable : Bool) (
   pub arms-picks : Every (λ (p : ℕ × ℕ). p.1 ≤ 4) pairs
   arms-picks = subst IsServed is h.served
 
-  pub arms-meant : (told : List (ℕ × ℕ)) → told ≡ pairs → (r : Reading s.watch) → line_in s.units (clash_by s) (items_by s r) line ≡ Some (Armed told)
+  pub arms-meant : (told : List (ℕ × ℕ)) → told ≡ pairs → (r : WatchReading s.watch) → line_in s.units (clash_by s) (items_by s r) line ≡ Some (Armed told)
   arms-meant told same r = ap (line_in s.units (clash_by s) (items_by s r)) is ∙ ap (λ (ps : List (ℕ × ℕ)). Some (Armed ps)) (sym same)
 
   pub arms-performs : (now : Kept → Type 0) (new_now : Id → Type 0) (stage : Stage Scheduler) (in_flight : Option InFlight) (y : Scheduler) (e : Event) (told : List (ℕ × ℕ)) → told ≡ pairs →
-      in_flight ≡ None → stage ≡ at.Going y → Stored now new_now s.units → (r : Reading s.watch) → scheduling.AnswersWith s (Some (Armed told)) y (Some e) →
+      in_flight ≡ None → stage ≡ at.Going y → Stored now new_now s.units → (r : WatchReading s.watch) → scheduling.AnswersWith s (Some (Armed told)) y (Some e) →
       Performs (StandsAtEventIn now new_now stage) in_flight (line_in s.units (clash_by s) (items_by s r) line) (Some e) s
   arms-performs now new_now stage in_flight y e told same none there stored r g =
       serves-by now new_now stage in_flight (line_in s.units (clash_by s) (items_by s r) line) s y (Armed told) e (none-flies in_flight None s.units none refl) there (arms-meant told same r) g h.allowed.serves.phase

@@ -17,7 +17,7 @@ use Rattle.salt_scheduler.specs.Refusals.{HasFewParts}
 use Rattle.salt_scheduler.specs.Serving.{is_prepared_line}
 use Rattle.law_states.specs.Nexts.{asked_next, refusal_of}
 use Rattle.law_states.specs.Points.{Point}
-use Rattle.law_states.specs.Readings.{Reading, clash_by, items_by}
+use Rattle.law_states.specs.Readings.{WatchReading, clash_by, items_by}
 use Rattle.law_states.specs.States.{State, asked_of}
 use Rattle.law_states.specs.OpenUnits.{UnitState}
 use Rattle.law_states.specs.Told.{Clashes, Items, line_in}
@@ -68,7 +68,7 @@ never-refused s clash items line refusal h = let no : true ≡ false = ap is_pre
 
 -- what a line brings is no refusal
 pub begun-unrefused : (seen : Option Event → State → Type 0) (leaves : Kept → Kept → Type 0) (fills : ToWrite → ℕ → Type 0) (stage : Stage Scheduler) (in_flight : Option InFlight) (s : State)
-    (r : Reading s.watch) (line : Line) (result : Result (Option Event) Halt) → ComesOut (λ e. e) seen leaves fills stage in_flight (line_in s.units (clash_by s) (items_by s r) line) s result →
+    (r : WatchReading s.watch) (line : Line) (result : Result (Option Event) Halt) → ComesOut (λ e. e) seen leaves fills stage in_flight (line_in s.units (clash_by s) (items_by s r) line) s result →
     (refusal : Refusal) → result ≡ Ok (Some (Refused refusal)) → ⊥
 begun-unrefused seen leaves fills stage in_flight s r line (Ok given) performs refusal is =
     let same : given ≡ Some (Refused refusal) = cc in never-refused s.units (clash_by s) (items_by s r) line refusal (sym performs.told ∙ same)
@@ -83,7 +83,7 @@ module _ (holds : Kept → Type 0) (is_new : Id → Type 0) (stoppable : Bool) (
   abbrev pub now : State
   now = asked_of (Tree line) s
 
-  pub unrefused : refusal_of s (Tree line) ≡ None → (r : Reading s.watch) → asked_next s r (Tree line) ≡ line_in now.units (clash_by now) (items_by now r) line
+  pub unrefused : refusal_of s (Tree line) ≡ None → (r : WatchReading s.watch) → asked_next s r (Tree line) ≡ line_in now.units (clash_by now) (items_by now r) line
   unrefused none r = ap (λ (o : Option Refusal). option_or (option_map Refused o) (line_in now.units (clash_by now) (items_by now r) line)) none
 
   pub asks-line : (y : Scheduler) → refusal_of s (Tree line) ≡ None → scheduling.StandsForState y now → AsksLine holds is_new stoppable line y now
@@ -100,18 +100,18 @@ module _ (holds : Kept → Type 0) (is_new : Id → Type 0) (stoppable : Bool) (
   -- OR IT IS
 
   module _ (refusal : Refusal) (refused : refusal_of s (Tree line) ≡ Some refusal) where
-    pub is-refused : (r : Reading s.watch) → asked_next s r (Tree line) ≡ Some (Refused refusal)
+    pub is-refused : (r : WatchReading s.watch) → asked_next s r (Tree line) ≡ Some (Refused refusal)
     is-refused r = ap (λ (o : Option Refusal). option_or (option_map Refused o) (line_in now.units (clash_by now) (items_by now r) line)) refused
 
     pub refused-performs : (stage : Stage Scheduler) (in_flight : Option InFlight) (e : Event) (y z : Scheduler) → stage ≡ at.Going z →
         scheduling.DoesNext (λ s r. Some (Refused refusal)) line y z e → scheduling.StandsForState y now → in_flight ≡ None →
-        (r : Reading s.watch) → Performs (StandsAtEventIn holds is_new stage) in_flight (asked_next s r (Tree line)) (Some e) now
+        (r : WatchReading s.watch) → Performs (StandsAtEventIn holds is_new stage) in_flight (asked_next s r (Tree line)) (Some e) now
     refused-performs stage in_flight e y z there does stands none r =
         serves-by holds is_new stage in_flight (asked_next s r (Tree line)) now z (Refused refusal) e (none-flies in_flight None now.units none refl) there (is-refused r) (does now r stands h.serves) h.serves.phase
         (stored-plain holds is_new (Refused refusal) (asked_next s r (Tree line)) now (h.played r) (is-refused r) refl refl
         (record { holding = h.stored.holding; new = h.stored.new }))
 
-    pub refused-unarmed : (e : Event) (y z : Scheduler) → scheduling.DoesNext (λ s r. Some (Refused refusal)) line y z e → scheduling.StandsForState y now → (r : Reading s.watch) → armed_at (Some e) ≡ []
+    pub refused-unarmed : (e : Event) (y z : Scheduler) → scheduling.DoesNext (λ s r. Some (Refused refusal)) line y z e → scheduling.StandsForState y now → (r : WatchReading s.watch) → armed_at (Some e) ≡ []
     refused-unarmed e y z does stands r = ap armed_at (does now r stands h.serves).told
 
 -- A TEXT that is refused
@@ -120,14 +120,14 @@ module _ (holds : Kept → Type 0) (is_new : Id → Type 0) (refusal : Refusal) 
   abbrev pub rejected : State
   rejected = asked_of (Rejected refusal) p.state
 
-  pub rejected-performs : (in_flight : Option InFlight) (e : Event) (r : Reading p.state.watch) → Rejects refusal x y e → scheduling.StandsForState x p.state →
+  pub rejected-performs : (in_flight : Option InFlight) (e : Event) (r : WatchReading p.state.watch) → Rejects refusal x y e → scheduling.StandsForState x p.state →
       scheduling.ServesLine Nothing rejected → IsPlayedBefore (asked_next p.state r (Rejected refusal)) rejected → Stored holds is_new p.state.units → in_flight ≡ None →
       Performs (StandsAtEventIn holds is_new (at.Going y)) in_flight (asked_next p.state r (Rejected refusal)) (Some e) rejected
   rejected-performs in_flight e r f stands serves played stored none =
       serves-by holds is_new (at.Going y) in_flight (asked_next p.state r (Rejected refusal)) rejected y (Refused refusal) e (none-flies in_flight None rejected.units none refl) refl refl (f p.state r stands serves) serves.phase
       (stored-plain holds is_new (Refused refusal) (asked_next p.state r (Rejected refusal)) rejected played refl refl refl (record { holding = stored.holding; new = stored.new }))
 
-  pub rejected-unarmed : (e : Event) (r : Reading p.state.watch) → Rejects refusal x y e → scheduling.StandsForState x p.state → scheduling.ServesLine Nothing rejected → armed_at (Some e) ≡ []
+  pub rejected-unarmed : (e : Event) (r : WatchReading p.state.watch) → Rejects refusal x y e → scheduling.StandsForState x p.state → scheduling.ServesLine Nothing rejected → armed_at (Some e) ≡ []
   rejected-unarmed e r f stands serves = ap armed_at (f p.state r stands serves).told
 
 -- no call of the storage was made

@@ -21,7 +21,7 @@ use Rattle.salt_engine.specs.declared.stage.Stage.{Stage}
 use Rattle.law_states.proofs.NextTold.{may-stand}
 use Rattle.law_states.specs.Laws.{IsSound}
 use Rattle.law_states.specs.OpenUnits.{UnitState}
-use Rattle.law_states.specs.Readings.{Reading, clash_by, items_by, under_way_of}
+use Rattle.law_states.specs.Readings.{WatchReading, clash_by, items_by, under_way_of}
 use Rattle.law_states.specs.Refused.{known_in}
 use Rattle.law_states.specs.States.{State}
 use Rattle.law_states.specs.Steps.{units_after}
@@ -57,14 +57,14 @@ abbrev pub ProgramLaw : Type 0
 ProgramLaw = (s : UnitState) (p : ProgramDef) → IsSoundKept s.kept → s.line ≡ line_of.Program p → IsSpelledProgram p →
     program_refusal (schema_of s.kept) (programs_of s.kept) p ≡ None → MayBeDefined s (program_text p) (OfProgram p)
 
-pub reads-there : (holds : Kept → Type 0) (is_new : Id → Type 0) (stoppable : Bool) (line : Line) (x : Scheduler) (s : State) → AsksLine holds is_new stoppable line x s → Reading s.watch
+pub reads-there : (holds : Kept → Type 0) (is_new : Id → Type 0) (stoppable : Bool) (line : Line) (x : Scheduler) (s : State) → AsksLine holds is_new stoppable line x s → WatchReading s.watch
 reads-there holds is_new stoppable line x s h = reads s h.allowed.serves.sound
 
 -- by what is asked of the storage, which may be made, and is the event that comes
 pub record Defines (line : Line) (asked : InFlight) (s : State) : Type 0 where
   pub definition : Definition
   pub may : MayBeDefined s.units (text_of asked) definition
-  pub meant : (r : Reading s.watch) → line_in s.units (clash_by s) (items_by s r) line ≡ Some (Defined (next_decision s.units) (text_of asked))
+  pub meant : (r : WatchReading s.watch) → line_in s.units (clash_by s) (items_by s r) line ≡ Some (Defined (next_decision s.units) (text_of asked))
   pub flies : IsInFlight (Some asked) (Some (Defined (next_decision s.units) (text_of asked))) s.units
 
 module _ (holds : Kept → Type 0) (is_new : Id → Type 0) (stoppable : Bool) (x : Scheduler) (s : State) (tables : TableLaw) (programs : ProgramLaw)
@@ -105,18 +105,18 @@ module _ (holds : Kept → Type 0) (is_new : Id → Type 0) (stoppable : Bool) (
   abbrev event : Event
   event = Defined (next_decision s.units) (text_of f)
 
-  sound-behind : (r : Reading s.watch) → IsSound ((h.played r).trace says event)
+  sound-behind : (r : WatchReading s.watch) → IsSound ((h.played r).trace says event)
   sound-behind r =
       let p = h.played r in
       record { played = (p.sound.played, may-stand p.trace event refl (p.next ∙ d.meant r)); well = p.sound.well }
 
-  defined-stored : (now : Kept → Type 0) (new_now : Id → Type 0) → Reading s.watch → now (defined s.units.kept d.definition) → ((u : Id) → is_new u → new_now u) →
+  defined-stored : (now : Kept → Type 0) (new_now : Id → Type 0) → WatchReading s.watch → now (defined s.units.kept d.definition) → ((u : Id) → is_new u → new_now u) →
       Stored now new_now (units_after event s.units)
   defined-stored now new_now r holding stays =
       stored-behind holds now is_new new_now s.units (h.played r).trace event (h.played r).keeps.units (sound-behind r) refl h.stored
       (subst now d.may.leaves holding) (λ u i n. stays u n)
 
-  pub defined-performs : (now : Kept → Type 0) (new_now : Id → Type 0) (y : Scheduler) (e : Event) (r : Reading s.watch) → now (defined s.units.kept d.definition) →
+  pub defined-performs : (now : Kept → Type 0) (new_now : Id → Type 0) (y : Scheduler) (e : Event) (r : WatchReading s.watch) → now (defined s.units.kept d.definition) →
       ((u : Id) → is_new u → new_now u) → scheduling.AnswersWith s (line_in s.units (clash_by s) (items_by s r) line) y (Some e) →
       Performs (StandsAtEventIn now new_now (at.Going y)) (Some f) (line_in s.units (clash_by s) (items_by s r) line) (Some e) s
   defined-performs now new_now y e r holding stays g =
@@ -124,10 +124,10 @@ module _ (holds : Kept → Type 0) (is_new : Id → Type 0) (stoppable : Bool) (
       (subst (λ (m : Option Event). scheduling.AnswersWith s m y (Some e)) (d.meant r) g) h.allowed.serves.phase (defined-stored now new_now r holding stays)
 
   -- it arms nothing
-  pub defined-unarmed : (y : Scheduler) (e : Event) (r : Reading s.watch) → scheduling.AnswersWith s (line_in s.units (clash_by s) (items_by s r) line) y (Some e) → armed_at (Some e) ≡ []
+  pub defined-unarmed : (y : Scheduler) (e : Event) (r : WatchReading s.watch) → scheduling.AnswersWith s (line_in s.units (clash_by s) (items_by s r) line) y (Some e) → armed_at (Some e) ≡ []
   defined-unarmed y e r g = ap armed_at (g.told ∙ d.meant r)
 
-  module _ (leaves : Kept → Kept → Type 0) (fills : ToWrite → ℕ → Type 0) (stage : Stage Scheduler) (r : Reading s.watch) where
+  module _ (leaves : Kept → Kept → Type 0) (fills : ToWrite → ℕ → Type 0) (stage : Stage Scheduler) (r : WatchReading s.watch) where
     -- memory ran out behind it
     pub defined-lost : stage ≡ at.Lost → leaves (defined s.units.kept d.definition) (defined s.units.kept d.definition) →
         BreaksOff leaves fills Memory stage (Some f) (line_in s.units (clash_by s) (items_by s r) line) s.units

@@ -9,7 +9,7 @@ use Rattle.law_states.proofs.StatesGoOn.{states-ask, states-turn}
 use Rattle.law_states.specs.Laws.{IsSound}
 use Rattle.law_states.specs.Nexts.{asked_next, next_turn_of, turned_next}
 use Rattle.law_states.specs.Points.{Ask, IsIdle, Moves, Point, Turn}
-use Rattle.law_states.specs.Readings.{Reading}
+use Rattle.law_states.specs.Readings.{WatchReading}
 use Rattle.law_states.specs.States.{Keeps, asked_of, turned_to}
 use Rattle.salt_model.specs.Next.{decision_in}
 use Rattle.salt_model.specs.Kept.{Kept}
@@ -41,10 +41,10 @@ module _ (asked : Asked) (p : Point) (sound : IsSoundPoint p) (idle : IsIdle p) 
   asks-keeps : Keeps (asked_of asked p.state) (sound.trace asks asked)
   asks-keeps = states-ask p.state sound.trace asked sound.keeps.state sound.sound.played sound.sound.well
 
-  pub reads-line : Reading p.state.watch
+  pub reads-line : WatchReading p.state.watch
   reads-line = readable p.state.watch sound.trace sound.keeps.state.watch sound.sound
 
-  pub asked-played : HasKey asked → (r : Reading p.state.watch) → IsPlayedBefore (asked_next p.state r asked) (asked_of asked p.state)
+  pub asked-played : HasKey asked → (r : WatchReading p.state.watch) → IsPlayedBefore (asked_next p.state r asked) (asked_of asked p.state)
   asked-played key r = record {
     trace = sound.trace asks asked;
     keeps = asks-keeps;
@@ -59,13 +59,13 @@ module _ (asked : Asked) (p : Point) (sound : IsSoundPoint p) (idle : IsIdle p) 
   asked-serves = record { sound = record { trace = sound.trace asks asked; keeps = asks-keeps; sound = asks-sound }; phase = idle.serves; line = refl }
 
   -- where it comes by it
-  abbrev pub asked_to : Reading p.state.watch → Point
+  abbrev pub asked_to : WatchReading p.state.watch → Point
   asked_to r = record { state = asked_of asked p.state; next = asked_next p.state r asked; flight = decision_in (asked_next p.state r asked) }
 
-  pub asked-moves : (r : Reading p.state.watch) → Moves (Ask asked) p (asked_to r)
+  pub asked-moves : (r : WatchReading p.state.watch) → Moves (Ask asked) p (asked_to r)
   asked-moves r = record { idle = idle; state = refl; read = r; next = refl; flight = refl }
 
-  pub asked-at : (holds : Kept → Type 0) (is_new : Id → Type 0) (old now single : Bool) (stage : Stage Scheduler) (in_flight : Option InFlight) (given : Option Event) (r : Reading p.state.watch) →
+  pub asked-at : (holds : Kept → Type 0) (is_new : Id → Type 0) (old now single : Bool) (stage : Stage Scheduler) (in_flight : Option InFlight) (given : Option Event) (r : WatchReading p.state.watch) →
       Performs (StandsAtEventIn holds is_new stage) in_flight (asked_next p.state r asked) given (asked_of asked p.state) → p.state.can_stop ≡ old → HasPlainStart p.state → now ≡ old →
       single ≡ is_statement_line (line_asked asked) → AgreesWithState (StandsAtEventIn holds is_new stage) now single in_flight given (asked_of asked p.state)
   asked-at holds is_new old now single stage in_flight given r h can plain same line = record {
@@ -88,7 +88,7 @@ module _ (b : Id) (p : Point) (sound : IsSoundPoint p) (serves : p.state.units.p
   turns-keeps : Keeps (turned_to b p.state) (sound.trace turns b)
   turns-keeps = states-turn p.state sound.trace b sound.keeps.state sound.sound.played sound.sound.well
 
-  pub turned-played : (r : Reading p.state.watch) → IsPlayedBefore (turned_next p.state r b) (turned_to b p.state)
+  pub turned-played : (r : WatchReading p.state.watch) → IsPlayedBefore (turned_next p.state r b) (turned_to b p.state)
   turned-played r = record {
     trace = sound.trace turns b;
     keeps = turns-keeps;
@@ -102,8 +102,8 @@ module _ (b : Id) (p : Point) (sound : IsSoundPoint p) (serves : p.state.units.p
   pub turned-serves : (line : Line) → p.state.units.line ≡ line → ServesLine line (turned_to b p.state)
   turned-serves line served = record { sound = record { trace = sound.trace turns b; keeps = turns-keeps; sound = turns-sound }; phase = serves; line = served }
 
-  abbrev pub turned_at : Reading p.state.watch → Point
+  abbrev pub turned_at : WatchReading p.state.watch → Point
   turned_at r = record { state = turned_to b p.state; next = turned_next p.state r b; flight = decision_in (turned_next p.state r b) }
 
-  pub turned-moves : (r : Reading p.state.watch) → Moves (Turn b) p (turned_at r)
+  pub turned-moves : (r : WatchReading p.state.watch) → Moves (Turn b) p (turned_at r)
   turned-moves r = record { serves = serves; none = none; turn = turn; state = refl; read = r; next = refl; flight = refl }

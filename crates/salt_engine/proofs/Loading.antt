@@ -15,8 +15,8 @@ use Rattle.law_states.specs.OpenUnits.{OpenUnit, UnitState, unit_named}
 use Rattle.law_states.specs.Told.{at_devices_in, does_in}
 use Rattle.law_states.specs.UnitFacts.{reach_under}
 use Rattle.salt_model.specs.Kept.{Kept, schema_of}
-use Rattle.salt_model.specs.Reaches.{first_value, key_reached, no_row, range_of, reach, reach_at, reach_in, reached, table_for, table_from, table_named}
-use Rattle.salt_model.specs.Tables.{Entry, Tables, is_within, key_of, place_cmp, row_at}
+use Rattle.salt_model.specs.Reaches.{first_value, key_reached, no_row, range_of, reach, reach_in, reached, table_for, table_from, table_named}
+use Rattle.salt_model.specs.Tables.{Entry, Tables, is_within, place_cmp, row_at}
 use Rattle.salt_model.specs.Words.{Every}
 use Rattle.salt_model.specs.declared.events.Cause.{Cause}
 use Rattle.salt_model.specs.Eval.{value_of}
@@ -43,6 +43,7 @@ use Rattle.std.specs.Ordering.{is_eq}
 use Rattle.std.specs.Prelude.{Bool, Err, IfSome, List, None, Ok, Option, Result, Some, [], cond, false, is_some, length, option_and_then, refl, true, ℕ, ◌+◌, ◌<◌, ◌∷◌, ◌≡◌}
 use Rattle.std.specs.declared.cmp.Ordering.TheVariants.{Equal, Greater, Less}
 use Rattle.std.specs.declared.cmp.Ordering.{Ordering}
+use Rattle.salt_values.specs.Value.{key_of}
 
 -- THE TABLE OF A REACH
 
@@ -84,7 +85,7 @@ pub reach-within : (schema : List TableDef) (vars : List Binding) (st : Statemen
 unfolding reach
 reach-within schema vars st r h = by (table_for schema st) refl h
   where
-    by : (o : Option (ℕ × TableDef)) → table_for schema st ≡ o → reach_at vars st o ≡ Some r → r.table < length schema
+    by : (o : Option (ℕ × TableDef)) → table_for schema st ≡ o → option_and_then (λ (d : ℕ × TableDef). reach_in d.0 vars st) o ≡ Some r → r.table < length schema
     by None e h = absurd cc
     by (Some found) e h = subst (λ n. n < length schema) (sym (in-table found.0 vars st r h)) (for-within schema _ found e)
 

@@ -1,13 +1,10 @@
 -- How what was meant comes out: as a call has answered, and in other words.
-use Rattle.salt_books.specs.Coming.{event_meant}
-use Rattle.salt_books.specs.declared.coming.Coming.{Coming}
 use Rattle.salt_disk.specs.Disks.{View}
 use Rattle.salt_engine.proofs.Broken.{breaks-before}
 use Rattle.salt_engine.proofs.Plain.{plain-unarmed}
 use Rattle.salt_engine.specs.Performing.{BreaksOff, ComesOut, IsLost, Stays, is_prepared}
 use Rattle.salt_engine.specs.declared.flights.InFlight.{InFlight}
 use Rattle.salt_engine.specs.declared.stage.Stage.{Stage}
-use Rattle.law_states.specs.Readings.{Reading}
 use Rattle.law_states.specs.States.{State}
 use Rattle.salt_model.specs.Kept.{Kept}
 use Rattle.salt_model.specs.declared.events.Event.{Event}
@@ -38,30 +35,13 @@ module _ {H T : Type 0} (given : T → Option Event) (seen : Option Event → St
       ComesOut given seen leaves fills stage in_flight meant s result
   comes-same meant other s result same comes = subst (λ (m : Option Event). ComesOut given seen leaves fills stage in_flight m s result) same comes
 
-  -- of what is to come in other words
-  pub comes-as : (ready : Coming → State → Type 0) (c d : Coming) (result : Result T Halt) → c ≡ d →
-      ((s : State) → ready d s → ComesOut given seen leaves fills stage in_flight (event_meant s.units d) s result) →
-      (s : State) → ready c s → ComesOut given seen leaves fills stage in_flight (event_meant s.units c) s result
-  comes-as ready c d result is comes =
-      subst (λ (k : Coming). (s : State) → ready k s → ComesOut given seen leaves fills stage in_flight (event_meant s.units k) s result) (sym is) comes
-
   -- what is no preparation arms nothing
   pub comes-unarmed : (meant : Option Event) (s : State) (result : Result T Halt) → is_prepared meant ≡ false → ComesOut given seen leaves fills stage in_flight meant s result →
       IfOk result (λ x. armed_at (given x) ≡ [])
   comes-unarmed meant s (Ok x) plain p = ap armed_at p.told ∙ plain-unarmed meant plain
   comes-unarmed meant s (Err halt) plain b = tt
 
--- in the one case, and in the other
-
-pub when-ok : {T E : Type 0} (P : State → Type 0) (Q : (s : State) → Reading s.watch → T → Type 0) (R : (s : State) → Reading s.watch → E → Type 0) (result : Result T E) →
-    ((s : State) (r : Reading s.watch) → P s → MatchResult result (Q s r) (R s r)) → IfOk result (λ given. (s : State) (r : Reading s.watch) → P s → Q s r given)
-when-ok P Q R (Ok given) comes = comes
-when-ok P Q R (Err halt) comes = tt
-
-pub when-err : {T E : Type 0} (P : State → Type 0) (Q : (s : State) → Reading s.watch → T → Type 0) (R : (s : State) → Reading s.watch → E → Type 0) (result : Result T E) →
-    ((s : State) (r : Reading s.watch) → P s → MatchResult result (Q s r) (R s r)) → IfErr result (λ halt. (s : State) (r : Reading s.watch) → P s → R s r halt)
-when-err P Q R (Ok given) comes = tt
-when-err P Q R (Err halt) comes = comes
+-- where it is done
 
 pub when-opened : {T E : Type 0} (P : State → Type 0) (Q : State → T → Type 0) (R : State → E → Type 0) (result : Result T E) →
     ((s : State) → P s → MatchResult result (Q s) (R s)) → IfOk result (λ given. (s : State) → P s → Q s given)

@@ -9,7 +9,7 @@ use Rattle.salt_engine.proofs.Unprepared.{done-plain, either-plain, finish-plain
 use Rattle.salt_engine.specs.Performing.{is_prepared}
 use Rattle.law_states.specs.Follows.{settles_in}
 use Rattle.law_states.specs.OpenUnits.{OpenUnit, UnitState, asks_next, unit_named, unit_of_program, unit_of_session}
-use Rattle.law_states.specs.Readings.{Reading, beside_by}
+use Rattle.law_states.specs.Readings.{WatchReading, beside_by}
 use Rattle.law_states.specs.States.{State}
 use Rattle.law_states.specs.Told.{Beside, Clashes, Items, act_in, asks_in, begins_in, calls_in, commits_in, go_in, goes_on_in, kind_called_in, line_in, settle_in, turn_in, turn_of_in}
 use Rattle.salt_model.specs.Kept.{cont_of, kept_program}
@@ -68,7 +68,7 @@ follows-plain (follow.Accept b) s x = refl
 follows-plain (follow.Finish b) s x = finish-plain s b
 follows-plain (follow.Release b) s x = releases-plain x.due
 
-pub line-plain : (s : State) (r : Reading s.watch) (f : Follow) → is_prepared (behind_in s r f) ≡ false
+pub line-plain : (s : State) (r : WatchReading s.watch) (f : Follow) → is_prepared (behind_in s r f) ≡ false
 line-plain s r f =
     either-plain (event_of f s.units (beside_by s r)) (settles_in s.units (beside_by s r)) (follows-plain f s.units (beside_by s r)) (settles-plain s.units (beside_by s r))
 

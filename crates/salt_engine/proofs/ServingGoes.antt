@@ -10,7 +10,7 @@ use Rattle.law_states.specs.Laws.{is_of_run}
 use Rattle.law_states.specs.Nexts.{said_next}
 use Rattle.law_states.specs.OpenUnits.{UnitState}
 use Rattle.law_states.specs.Points.{Moves, Point, Say}
-use Rattle.law_states.specs.Readings.{Reading}
+use Rattle.law_states.specs.Readings.{WatchReading}
 use Rattle.law_states.specs.States.{State}
 use Rattle.law_states.specs.Steps.{units_after}
 use Rattle.salt_model.specs.Kept.{Kept}
@@ -49,10 +49,10 @@ module _ (line : Line) (x : Scheduler) (e : Event) (p : Point) (sound : IsSoundP
     line = onwards-line p sound e t plain comes d.after ∙ served;
   }
 
-  abbrev pub meant : Reading t.watch → Option Event
+  abbrev pub meant : WatchReading t.watch → Option Event
   meant r = behind_in t r x.follow
 
-  meant-is : (r : Reading t.watch) → said_next e p.state t r p.flight ≡ meant r
+  meant-is : (r : WatchReading t.watch) → said_next e p.state t r p.flight ≡ meant r
   meant-is r = goes-on e x.follow p.state t r p.flight d.served serves.phase d.follows
 
   pub goes : (holds : Kept → Type 0) (is_new : Id → Type 0) → Stored holds is_new t.units → GoesOnServing holds is_new line x t
@@ -63,7 +63,7 @@ module _ (line : Line) (x : Scheduler) (e : Event) (p : Point) (sound : IsSoundP
     stored = stored;
   }
 
-  pub read : Reading t.watch
+  pub read : WatchReading t.watch
   read = reads p sound e t plain comes d.after
 
   abbrev pub point : Point

@@ -3,4 +3,5 @@ pub mod Deciding
 pub mod Flights
 pub mod Standing
 pub mod Performing
+pub mod Giving
 pub mod Engines

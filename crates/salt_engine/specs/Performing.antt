@@ -17,7 +17,7 @@ use Rattle.law_states.specs.KeptWaits.{AreDistinct}
 use Rattle.law_states.specs.Laws.{IsSound}
 use Rattle.law_states.specs.Nexts.{asked_next, next_turn_of, turned_next}
 use Rattle.law_states.specs.OpenUnits.{UnitState}
-use Rattle.law_states.specs.Readings.{Reading, clash_by, items_by}
+use Rattle.law_states.specs.Readings.{WatchReading, clash_by, items_by}
 use Rattle.law_states.specs.States.{Keeps, State, asked_of, turned_to}
 use Rattle.law_states.specs.Steps.{units_after}
 use Rattle.law_states.specs.Told.{at_devices_in, line_in}
@@ -83,7 +83,7 @@ IsToServeIn holds is_new stage c s = GoesWith (λ (x : Scheduler). IsToServe hol
 
 -- a scheduler stands for a state behind an event in a line, and what comes behind that comes next
 pub record GoesOnServing (holds : Kept → Type 0) (is_new : Id → Type 0) (line : Line) (x : Scheduler) (s : State) : Type 0 where
-  pub played : (r : Reading s.watch) → IsPlayedBefore (behind_in s r x.follow) s
+  pub played : (r : WatchReading s.watch) → IsPlayedBefore (behind_in s r x.follow) s
   pub serves : ServesLine line s
   pub stands : scheduling.StandsBehindEvent x s
   pub stored : Stored holds is_new s.units
@@ -100,7 +100,7 @@ pub record TurnsTo (line : Line) (base : Id) (x : Scheduler) (s : State) : Type 
 -- and what that brings comes next
 pub record Turns (holds : Kept → Type 0) (is_new : Id → Type 0) (line : Line) (base : Id) (x : Scheduler) (s : State) : Type 0 where
   pub turns : TurnsTo line base x s
-  pub played : (r : Reading s.watch) → IsPlayedBefore (turned_next s r base) (turned_to base s)
+  pub played : (r : WatchReading s.watch) → IsPlayedBefore (turned_next s r base) (turned_to base s)
   pub stored : Stored holds is_new s.units
 
 abbrev pub TurnsIn : (holds : Kept → Type 0) (is_new : Id → Type 0) → Line → Id → Stage Scheduler → State → Type 0
@@ -118,7 +118,7 @@ is_definition line = false
 
 -- a line has been asked that is not refused, and its first event comes next
 pub record AsksLine (holds : Kept → Type 0) (is_new : Id → Type 0) (stoppable : Bool) (line : Line) (x : Scheduler) (s : State) : Type 0 where
-  pub played : (r : Reading s.watch) → IsPlayedBefore (line_in s.units (clash_by s) (items_by s r) line) s
+  pub played : (r : WatchReading s.watch) → IsPlayedBefore (line_in s.units (clash_by s) (items_by s r) line) s
   pub allowed : ServesAllowed line s
   pub stands : scheduling.StandsForState x s
   pub stored : Stored holds is_new s.units
@@ -131,7 +131,7 @@ AsksLineIn holds is_new stoppable line stage s = GoesWith (λ (x : Scheduler). A
 
 -- before it is asked, and may be refused
 pub record IsToAsk (holds : Kept → Type 0) (is_new : Id → Type 0) (stoppable : Bool) (line : Line) (x : Scheduler) (s : State) : Type 0 where
-  pub played : (r : Reading s.watch) → IsPlayedBefore (asked_next s r (Tree line)) (asked_of (Tree line) s)
+  pub played : (r : WatchReading s.watch) → IsPlayedBefore (asked_next s r (Tree line)) (asked_of (Tree line) s)
   pub distinct : AreDistinct s.watch.programs
   pub serves : ServesLine line (asked_of (Tree line) s)
   pub stands : scheduling.StandsForState x s
@@ -202,5 +202,5 @@ pub record Stays {A : Type 0} (before now : A) (was is : Shape) (old new : View)
 
 -- a line whose text is refused is asked, and its refusal has been told
 abbrev pub Rejects : Refusal → (old new : Scheduler) → Event → Type 0
-Rejects refusal old new e = (s : State) (r : Reading s.watch) → scheduling.StandsForState old s → ServesLine Nothing (asked_of (Rejected refusal) s) →
+Rejects refusal old new e = (s : State) (r : WatchReading s.watch) → scheduling.StandsForState old s → ServesLine Nothing (asked_of (Rejected refusal) s) →
     scheduling.AnswersWith (asked_of (Rejected refusal) s) (Some (Refused refusal)) new (Some e)

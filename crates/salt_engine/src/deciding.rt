@@ -11,12 +11,12 @@ ghost use Rattle.salt_eval.specs.Views.{tables_of};
 ghost use Rattle.law_states.specs.OpenUnits.{OpenUnit, UnitState, unit_named};
 ghost use Rattle.law_states.specs.Told.{commits_in, does_in};
 ghost use Rattle.salt_model.specs.declared.events.Cause.{Cause};
-ghost use Rattle.salt_driver.specs.Writing.{change_of};
 ghost use Rattle.salt_storage.specs.Answers.{disk_err};
 ghost use Rattle.salt_storage.specs.Staying.{StaysWithin};
 ghost use Rattle.salt_place.specs.Placement.{GivesPlaceOf, TakesEachKey};
 ghost use Rattle.salt_values.specs.declared.id.Id.{Id};
 ghost use Rattle.std.specs.Prelude.{IfErr, IfOk, OnOk, Some, map, ◌≡◌};
+ghost use Rattle.salt_stands.specs.Turning.{change_at};
 
 use law_decisions::decided_ends_may_be_kept;
 use salt_books::{Asking, Books};
@@ -30,7 +30,7 @@ use sqlite_items::Items;
 use std::alloc::{AllocError, Global};
 
 /// The rows in the reach of the statement that a unit is to do; none where it reaches nothing.
-pub fn load<S: Storage, D: Disks, F: Fn(PlaceKind, &Key, u32) -> u32>(
+pub(crate) fn load<S: Storage, D: Disks, F: Fn(PlaceKind, &Key, u32) -> u32>(
     alloc: Global,
     storage: &mut S,
     disks: &mut D,
@@ -65,7 +65,7 @@ pub fn load<S: Storage, D: Disks, F: Fn(PlaceKind, &Key, u32) -> u32>(
 
 /// The changes of an open unit.
 fn changes_of(alloc: Global, books: &Books, unit: Id) -> Result<Changes, AllocError>
-    ensures { IfOk result (λ changes. (s : UnitState) (o : OpenUnit) → AreBooks books.now s → unit_named unit s.units ≡ Some o → changes ≡ map change_of o.changes) }
+    ensures { IfOk result (λ changes. (s : UnitState) (o : OpenUnit) → AreBooks books.now s → unit_named unit s.units ≡ Some o → changes ≡ map change_at o.changes) }
 {
     match books.unit_named(unit) {
         Some(held) => copies(alloc, held.open.changes()),
@@ -74,7 +74,7 @@ fn changes_of(alloc: Global, books: &Books, unit: Id) -> Result<Changes, AllocEr
 }
 
 /// Decides the commit of a unit. The move of its program.
-pub fn commit<S: Storage, D: Disks, F: Fn(PlaceKind, &Key, u32) -> u32>(
+pub(crate) fn decide_commit<S: Storage, D: Disks, F: Fn(PlaceKind, &Key, u32) -> u32>(
     alloc: Global,
     storage: &mut S,
     disks: &mut D,
@@ -101,7 +101,7 @@ pub fn commit<S: Storage, D: Disks, F: Fn(PlaceKind, &Key, u32) -> u32>(
 }
 
 /// Decides the branch of a unit of a later part, which has failed by this cause. The move of its program.
-pub fn branch<S: Storage, D: Disks, F: Fn(PlaceKind, &Key, u32) -> u32>(
+pub(crate) fn decide_branch<S: Storage, D: Disks, F: Fn(PlaceKind, &Key, u32) -> u32>(
     alloc: Global,
     storage: &mut S,
     disks: &mut D,

@@ -8,12 +8,13 @@
 mod deciding;
 mod engine;
 mod flights;
+mod given;
 mod lines;
 mod serving;
 mod stage;
 mod stepping;
 
-pub use deciding::{branch, commit, load};
 pub use engine::{Engine, GivenUp};
 pub use flights::{InFlight, flight_of};
+pub use given::{Given, provide};
 pub use stage::Stage;

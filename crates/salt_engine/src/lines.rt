@@ -7,7 +7,7 @@ ghost use Rattle.salt_engine.specs.Stored.{Stored};
 ghost use Rattle.salt_engine.specs.Standing.{StandsAtEventIn};
 ghost use Rattle.salt_scheduler.specs.Refusals.{HasFewParts};
 ghost use Rattle.salt_scheduler.specs.Serving.{is_prepared_line};
-ghost use Rattle.law_states.specs.Readings.{Reading, clash_by, items_by};
+ghost use Rattle.law_states.specs.Readings.{WatchReading, clash_by, items_by};
 ghost use Rattle.law_states.specs.KeptWaits.{AreDistinct};
 ghost use Rattle.law_states.specs.Nexts.{asked_next, refusal_of};
 ghost use Rattle.law_states.specs.OpenUnits.{UnitState};
@@ -126,7 +126,7 @@ impl<S: Storage> Engine<S> {
         requires definition { is_definition line.now ≡ true }
         requires none { self.old.in_flight ≡ None }
         requires ready { (s : State) × AsksLineIn (S.holds (D.view disks.old) self.old.storage) (S.is_new (D.view disks.old) self.old.storage) (D.view disks.old).can_stop line.now self.old.stage s }
-        ensures comes { (s : State) (r : Reading s.watch) → AsksLineIn (S.holds (D.view disks.old) self.old.storage) (S.is_new (D.view disks.old) self.old.storage) (D.view disks.old).can_stop line.now self.old.stage s
+        ensures comes { (s : State) (r : WatchReading s.watch) → AsksLineIn (S.holds (D.view disks.old) self.old.storage) (S.is_new (D.view disks.old) self.old.storage) (D.view disks.old).can_stop line.now self.old.stage s
             → ComesOut (λ e. e) (StandsAtEventIn (S.holds (D.view disks.new) self.new.storage) (S.is_new (D.view disks.new) self.new.storage) self.new.stage) (S.leaves (D.view disks.new) self.new.storage) (S.fills (D.view disks.new) self.new.storage) (stage_behind result self.new.stage) self.new.in_flight (line_in s.units (clash_by s) (items_by s r) line.now) s result }
         ensures stays { Stays self.old.single self.new.single (S.asked self.old.storage) (S.asked self.new.storage) (D.view disks.old) (D.view disks.new) }
         ensures counts { CountsStops (D.view disks.old) (D.view disks.new) (disk_err result) (armed_by result) 0 }
@@ -161,7 +161,7 @@ impl<S: Storage> Engine<S> {
         requires line { line.now ≡ line_of.Crash pairs.now }
         requires none { self.old.in_flight ≡ None }
         requires ready { (s : State) × AsksLineIn (S.holds (D.view disks.old) self.old.storage) (S.is_new (D.view disks.old) self.old.storage) (D.view disks.old).can_stop line.now self.old.stage s }
-        ensures comes { (s : State) (r : Reading s.watch) → AsksLineIn (S.holds (D.view disks.old) self.old.storage) (S.is_new (D.view disks.old) self.old.storage) (D.view disks.old).can_stop line.now self.old.stage s
+        ensures comes { (s : State) (r : WatchReading s.watch) → AsksLineIn (S.holds (D.view disks.old) self.old.storage) (S.is_new (D.view disks.old) self.old.storage) (D.view disks.old).can_stop line.now self.old.stage s
             → ComesOut (λ e. e) (StandsAtEventIn (S.holds (D.view disks.new) self.new.storage) (S.is_new (D.view disks.new) self.new.storage) self.new.stage) (S.leaves (D.view disks.new) self.new.storage) (S.fills (D.view disks.new) self.new.storage) (stage_behind result self.new.stage) self.new.in_flight (line_in s.units (clash_by s) (items_by s r) line.now) s result }
         ensures stays { Stays self.old.single self.new.single (S.asked self.old.storage) (S.asked self.new.storage) (D.view disks.old) (D.view disks.new) }
         ensures counts { CountsStops (D.view disks.old) (D.view disks.new) (disk_err result) (armed_by result) 0 }
@@ -195,7 +195,7 @@ impl<S: Storage> Engine<S> {
         requires plain { is_prepared_line line.now ≡ false }
         requires none { self.old.in_flight ≡ None }
         requires ready { (s : State) × AsksLineIn (S.holds (D.view disks.old) self.old.storage) (S.is_new (D.view disks.old) self.old.storage) (D.view disks.old).can_stop line.now self.old.stage s }
-        ensures comes { (s : State) (r : Reading s.watch) → AsksLineIn (S.holds (D.view disks.old) self.old.storage) (S.is_new (D.view disks.old) self.old.storage) (D.view disks.old).can_stop line.now self.old.stage s
+        ensures comes { (s : State) (r : WatchReading s.watch) → AsksLineIn (S.holds (D.view disks.old) self.old.storage) (S.is_new (D.view disks.old) self.old.storage) (D.view disks.old).can_stop line.now self.old.stage s
             → ComesOut (λ e. e) (StandsAtEventIn (S.holds (D.view disks.new) self.new.storage) (S.is_new (D.view disks.new) self.new.storage) self.new.stage) (S.leaves (D.view disks.new) self.new.storage) (S.fills (D.view disks.new) self.new.storage) (stage_behind result self.new.stage) self.new.in_flight (line_in s.units (clash_by s) (items_by s r) line.now) s result }
         ensures stays { Stays self.old.single self.new.single (S.asked self.old.storage) (S.asked self.new.storage) (D.view disks.old) (D.view disks.new) }
         ensures counts { CountsStops (D.view disks.old) (D.view disks.new) (disk_err result) (armed_by result) 0 }
@@ -219,7 +219,7 @@ impl<S: Storage> Engine<S> {
         requires answers { GivesPlaceOf (F.post place.now.place) }
         requires none { self.old.in_flight ≡ None }
         requires ready { (s : State) × AsksLineIn (S.holds (D.view disks.old) self.old.storage) (S.is_new (D.view disks.old) self.old.storage) (D.view disks.old).can_stop line.now self.old.stage s }
-        ensures comes { (s : State) (r : Reading s.watch) → AsksLineIn (S.holds (D.view disks.old) self.old.storage) (S.is_new (D.view disks.old) self.old.storage) (D.view disks.old).can_stop line.now self.old.stage s
+        ensures comes { (s : State) (r : WatchReading s.watch) → AsksLineIn (S.holds (D.view disks.old) self.old.storage) (S.is_new (D.view disks.old) self.old.storage) (D.view disks.old).can_stop line.now self.old.stage s
             → ComesOut (λ e. e) (StandsAtEventIn (S.holds (D.view disks.new) self.new.storage) (S.is_new (D.view disks.new) self.new.storage) self.new.stage) (S.leaves (D.view disks.new) self.new.storage) (S.fills (D.view disks.new) self.new.storage) (stage_behind result self.new.stage) self.new.in_flight (line_in s.units (clash_by s) (items_by s r) line.now) s result }
         ensures stays { Stays self.old.single self.new.single (S.asked self.old.storage) (S.asked self.new.storage) (D.view disks.old) (D.view disks.new) }
         ensures counts { CountsStops (D.view disks.old) (D.view disks.new) (disk_err result) (armed_by result) 0 }
@@ -243,7 +243,7 @@ impl<S: Storage> Engine<S> {
         requires answers { GivesPlaceOf (F.post place.now.place) }
         requires none { self.old.in_flight ≡ None }
         requires ready { (s : State) × IsToAskIn (S.holds (D.view disks.old) self.old.storage) (S.is_new (D.view disks.old) self.old.storage) (D.view disks.old).can_stop line.now self.old.stage s }
-        ensures comes { (s : State) (r : Reading s.watch) → IsToAskIn (S.holds (D.view disks.old) self.old.storage) (S.is_new (D.view disks.old) self.old.storage) (D.view disks.old).can_stop line.now self.old.stage s
+        ensures comes { (s : State) (r : WatchReading s.watch) → IsToAskIn (S.holds (D.view disks.old) self.old.storage) (S.is_new (D.view disks.old) self.old.storage) (D.view disks.old).can_stop line.now self.old.stage s
             → ComesOut (λ e. e) (StandsAtEventIn (S.holds (D.view disks.new) self.new.storage) (S.is_new (D.view disks.new) self.new.storage) self.new.stage) (S.leaves (D.view disks.new) self.new.storage) (S.fills (D.view disks.new) self.new.storage) (stage_behind result self.new.stage) self.new.in_flight (asked_next s r (Tree line.now)) (asked_of (Tree line.now) s) result }
         ensures stays { Stays self.old.single self.new.single (S.asked self.old.storage) (S.asked self.new.storage) (D.view disks.old) (D.view disks.new) }
         ensures refused { (refusal : Refusal) → result ≡ Ok (Some (Refused refusal)) → disks.new ≡ disks.old }

@@ -7,18 +7,18 @@ use Rattle.salt_decisions.specs.Said.{text_of}
 use Rattle.salt_stands.specs.Fitting.{is_refused, programs_of, tables_of}
 use Rattle.salt_found.proofs.Refusals.{program_refused, table_refused}
 use Rattle.salt_found.specs.Definitions.{AreOf, AreOfSome, Defines, FailsToDefine, IsJudged, IsProgramIn, IsTableIn, define_text, defined_by_texts, is_of_table, reading}
-use Rattle.salt_found.specs.declared.error.DefinitionErr.TheVariants.{Memory, Refused}
-use Rattle.salt_found.specs.declared.error.DefinitionErr.{DefinitionErr}
+use Rattle.salt_found.specs.declared.error.RecoverErr.TheVariants.{Memory, NotSalt}
+use Rattle.salt_found.specs.declared.error.RecoverErr.{RecoverErr}
 use Rattle.salt_model.specs.Kept.{Definition, OfProgram, OfTable, program_of_definition, table_of_definition}
 use Rattle.salt_program.specs.Refusals.{program_refusal}
 use Rattle.salt_schema.specs.Refusals.{table_refusal}
 use Rattle.salt_stands.specs.Coordinator.{define, defined_by}
 use Rattle.salt_stands.specs.Reading.{Reading}
-use Rattle.salt_stands.specs.Words.{and_then, given}
 use Rattle.std.proofs.Common.{Err, List, None, Ok, Option, Result, Some, [], ap, cond, drop, false, get_or, is_ok, is_some, length, not, refl, subst, sym, true, ℕ, ◌+◌, ◌++◌, ◌<◌, ◌≡◌, ◌≤◌, ◌∙◌, ◌∷◌}
 use Rattle.std.proofs.lemmas.List.{drop_all, drop_more}
 use Rattle.std.specs.List.{cons_option, filter_map}
-use Rattle.std.specs.Prelude.{OnOk, map, option_map, ◌↔◌}
+use Rattle.std.specs.Prelude.{OnOk, map, option_map, ◌↔◌, option_and_then}
+use Rattle.std.specs.Bool.{then_some}
 
 -- numbers of texts say nothing of what is defined
 pub defined_by_its_texts : {D : Type 0} (r : Reading D) (o : Option (List D)) (ts : List NumberedText) → defined_by r o ts ≡ defined_by_texts r o (map text_of ts)
@@ -56,18 +56,18 @@ with_program schema catalogue new ds p are e = record {
 
 -- the text is that of this definition
 module _ (text : List ℕ) (d : Definition) (is : definition_in text ≡ Some d) (ds : List Definition) where
-  text_defines : define_text reading text (Some ds) ≡ given (not (is_refused ds d)) (ds ++ d ∷ [])
-  text_defines = ap (and_then (λ x. given (not (is_refused ds x)) (ds ++ x ∷ []))) is
+  text_defines : define_text reading text (Some ds) ≡ then_some (not (is_refused ds d)) (ds ++ d ∷ [])
+  text_defines = ap (option_and_then (λ x. then_some (not (is_refused ds x)) (ds ++ x ∷ []))) is
 
   accepted : is_refused ds d ≡ false → define_text reading text (Some ds) ≡ Some (ds ++ d ∷ [])
-  accepted e = text_defines ∙ ap (λ b. given (not b) (ds ++ d ∷ [])) e
+  accepted e = text_defines ∙ ap (λ b. then_some (not b) (ds ++ d ∷ [])) e
 
   refused : is_refused ds d ≡ true → define_text reading text (Some ds) ≡ None
-  refused e = text_defines ∙ ap (λ b. given (not b) (ds ++ d ∷ [])) e
+  refused e = text_defines ∙ ap (λ b. then_some (not b) (ds ++ d ∷ [])) e
 
 -- the text is that of no definition
 unread : (text : List ℕ) (ds : List Definition) → definition_in text ≡ None → define_text reading text (Some ds) ≡ None
-unread text ds is = ap (and_then (λ x. given (not (is_refused ds x)) (ds ++ x ∷ []))) is
+unread text ds is = ap (option_and_then (λ x. then_some (not (is_refused ds x)) (ds ++ x ∷ []))) is
 
 -- its first letter tells whether it is a table's
 no_program : (text : List ℕ) (p : ProgramDef) → is_of_table text ≡ true → definition_in text ≡ Some (OfProgram p) → ⊥
@@ -106,18 +106,18 @@ module _ (law : (text : List ℕ) (d : Definition) → (definition_in text ≡ S
       by (Some (OfTable d)) e = absurd (no_table text d first e)
       by (Some (OfProgram p)) e = absurd (none p ((law text (OfProgram p)).0 e))
 
-  pub table_added : {A : Type 0} (r : Result A DefinitionErr) (schema new : List TableDef) (catalogue : List ProgramDef) (d : TableDef) → IsTextOf (OfTable d) text → AreOf schema catalogue ds
+  pub table_added : {A : Type 0} (r : Result A RecoverErr) (schema new : List TableDef) (catalogue : List ProgramDef) (d : TableDef) → IsTextOf (OfTable d) text → AreOf schema catalogue ds
       → IsJudged r (is_some (table_refusal schema d)) → (is_ok r ≡ true → new ≡ schema ++ d ∷ []) → Defines r new catalogue (define_text reading text (Some ds))
   table_added (Ok x) schema new catalogue d t are judged more = record {
     definitions = ds ++ OfTable d ∷ [];
     is = accepted text (OfTable d) ((law text (OfTable d)).1 t) ds (table_refused ds d ∙ ap (λ s. is_some (table_refusal s d)) (sym are.tables) ∙ judged);
     are = with_table schema new catalogue ds d are (more refl);
   }
-  table_added (Err Refused) schema new catalogue d t are judged more =
+  table_added (Err NotSalt) schema new catalogue d t are judged more =
       refused text (OfTable d) ((law text (OfTable d)).1 t) ds (table_refused ds d ∙ ap (λ s. is_some (table_refusal s d)) (sym are.tables) ∙ judged)
   table_added (Err Memory) schema new catalogue d t are judged more = tt
 
-  pub program_added : {A : Type 0} (r : Result A DefinitionErr) (schema : List TableDef) (catalogue new : List ProgramDef) (p : ProgramDef) → IsTextOf (OfProgram p) text → AreOf schema catalogue ds
+  pub program_added : {A : Type 0} (r : Result A RecoverErr) (schema : List TableDef) (catalogue new : List ProgramDef) (p : ProgramDef) → IsTextOf (OfProgram p) text → AreOf schema catalogue ds
       → IsJudged r (is_some (program_refusal schema catalogue p)) → (is_ok r ≡ true → new ≡ catalogue ++ p ∷ []) → Defines r schema new (define_text reading text (Some ds))
   program_added (Ok x) schema catalogue new p t are judged more = record {
     definitions = ds ++ OfProgram p ∷ [];
@@ -127,7 +127,7 @@ module _ (law : (text : List ℕ) (d : Definition) → (definition_in text ≡ S
     where
       known : AreOf schema catalogue ds → is_some (program_refusal (tables_of ds) (programs_of ds) p) ≡ is_some (program_refusal schema catalogue p)
       known are = ap (λ s. is_some (program_refusal s (programs_of ds) p)) (sym are.tables) ∙ ap (λ c. is_some (program_refusal schema c p)) (sym are.programs)
-  program_added (Err Refused) schema catalogue new p t are judged more =
+  program_added (Err NotSalt) schema catalogue new p t are judged more =
       refused text (OfProgram p) ((law text (OfProgram p)).1 t) ds (program_refused ds p ∙ known are ∙ judged)
     where
       known : AreOf schema catalogue ds → is_some (program_refusal (tables_of ds) (programs_of ds) p) ≡ is_some (program_refusal schema catalogue p)
@@ -161,12 +161,12 @@ module _ (texts : List (List ℕ)) (i : ℕ) (schema : List TableDef) (catalogue
       are = some.are;
     }
 
-    pub one_fails : (e : DefinitionErr) → FailsToDefine e (define_text reading text (Some so_far.definitions)) → FailsToDefine e (defined_by_texts reading (Some []) texts)
-    one_fails Refused none = one_on ∙ ap (λ o. defined_by_texts reading o (drop (i + 1) texts)) none ∙ undefined reading (drop (i + 1) texts)
+    pub one_fails : (e : RecoverErr) → FailsToDefine e (define_text reading text (Some so_far.definitions)) → FailsToDefine e (defined_by_texts reading (Some []) texts)
+    one_fails NotSalt none = one_on ∙ ap (λ o. defined_by_texts reading o (drop (i + 1) texts)) none ∙ undefined reading (drop (i + 1) texts)
     one_fails Memory none = tt
 
   -- the text of an item
-  pub text_fails : (items : List (List ℕ)) → items ≡ texts → (item : List ℕ) → i < length items → item ≡ get_or items i item → (text : List ℕ) → text ≡ item → (e : DefinitionErr)
+  pub text_fails : (items : List (List ℕ)) → items ≡ texts → (item : List ℕ) → i < length items → item ≡ get_or items i item → (text : List ℕ) → text ≡ item → (e : RecoverErr)
       → FailsToDefine e (define_text reading text (Some so_far.definitions)) → FailsToDefine e (defined_by_texts reading (Some []) texts)
   text_fails items all item low here text same e fails =
       one_fails item (subst (λ ts. i < length ts) all low) (subst (λ ts. item ≡ get_or ts i item) all here) e (subst (λ t. FailsToDefine e (define_text reading t (Some so_far.definitions))) same fails)

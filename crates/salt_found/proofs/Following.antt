@@ -19,28 +19,28 @@ use Rattle.salt_model.specs.Kept.{Definition, cont_in}
 use Rattle.salt_stands.specs.Coordinator.{are_sound, is_sound_cont, is_sound_decision, unit_of}
 use Rattle.salt_stands.specs.CoordinatorLog.{CoordinatorLog, Told}
 use Rattle.salt_stands.specs.OpenConts.{conts_of_move, do_rise, go_to, is_accepted_before, make_move, moved}
-use Rattle.salt_stands.specs.Words.{and_then, given}
 use Rattle.salt_values.specs.Id.{is_same_id}
 use Rattle.salt_values.specs.declared.cont.Cont.{Cont}
 use Rattle.salt_values.specs.declared.id.Id.{Id}
 use Rattle.std.proofs.Common.{Bool, Err, List, None, Option, Some, [], ap, cond, drop, false, get_or, is_some, length, nat_le, refl, subst, sym, true, ℕ, ◌&&◌, ◌+◌, ◌++◌, ◌<◌, ◌≡◌, ◌∙◌, ◌∷◌}
 use Rattle.std.proofs.lemmas.List.{drop_more}
 use Rattle.std.specs.List.{find, list_all}
-use Rattle.std.specs.Prelude.{map, ⊤}
+use Rattle.std.specs.Prelude.{map, ⊤, option_and_then}
+use Rattle.std.specs.Bool.{then_some}
 
 -- WHAT IS GIVEN where a test holds
 
-pub where_true : {A : Type 0} (b : Bool) (o : Option A) → b ≡ true → and_then (given b) o ≡ o
+pub where_true : {A : Type 0} (b : Bool) (o : Option A) → b ≡ true → option_and_then (then_some b) o ≡ o
 where_true true None e = refl
 where_true true (Some x) e = refl
 where_true false o e = absurd cc
 
-pub where_false : {A : Type 0} (b : Bool) (o : Option A) → b ≡ false → and_then (given b) o ≡ None
+pub where_false : {A : Type 0} (b : Bool) (o : Option A) → b ≡ false → option_and_then (then_some b) o ≡ None
 where_false false None e = refl
 where_false false (Some x) e = refl
 where_false true o e = absurd cc
 
-where_both : {A : Type 0} (a b : Bool) (o : Option A) → and_then (given a) (and_then (given b) o) ≡ and_then (given (a && b)) o
+where_both : {A : Type 0} (a b : Bool) (o : Option A) → option_and_then (then_some a) (option_and_then (then_some b) o) ≡ option_and_then (then_some (a && b)) o
 where_both a b None = refl
 where_both true true (Some x) = refl
 where_both true false (Some x) = refl
@@ -60,14 +60,14 @@ unmoved format (mv ∷ moves) = unmoved format moves
 abbrev all_fit : List ProgramDef → Kept → List (List ℕ) → Bool
 all_fit ps k moves = list_all (λ mv. fits_move ps k (move_in k.format mv)) moves
 
-follows_all : (ps : List ProgramDef) (k : Kept) (o : Option (List Cont)) (moves : List (List ℕ)) → followed ps k o moves ≡ and_then (given (all_fit ps k moves)) (moved_by k.format o moves)
+follows_all : (ps : List ProgramDef) (k : Kept) (o : Option (List Cont)) (moves : List (List ℕ)) → followed ps k o moves ≡ option_and_then (then_some (all_fit ps k moves)) (moved_by k.format o moves)
 follows_all ps k o [] = sym (where_true true o refl)
-follows_all ps k None (mv ∷ moves) = unfollowed ps k moves ∙ sym (ap (and_then (given (all_fit ps k (mv ∷ moves)))) (unmoved k.format moves))
+follows_all ps k None (mv ∷ moves) = unfollowed ps k moves ∙ sym (ap (option_and_then (then_some (all_fit ps k (mv ∷ moves)))) (unmoved k.format moves))
 follows_all ps k (Some cs) (mv ∷ moves) =
-    by (fits_move ps k (move_in k.format mv)) (and_then (make_move cs) (move_in k.format mv)) (λ o. follows_all ps k o moves)
+    by (fits_move ps k (move_in k.format mv)) (option_and_then (make_move cs) (move_in k.format mv)) (λ o. follows_all ps k o moves)
   where
-    by : (fits : Bool) (next : Option (List Cont)) → ((o : Option (List Cont)) → followed ps k o moves ≡ and_then (given (all_fit ps k moves)) (moved_by k.format o moves)) →
-        followed ps k (and_then (given fits) next) moves ≡ and_then (given (fits && all_fit ps k moves)) (moved_by k.format next moves)
+    by : (fits : Bool) (next : Option (List Cont)) → ((o : Option (List Cont)) → followed ps k o moves ≡ option_and_then (then_some (all_fit ps k moves)) (moved_by k.format o moves)) →
+        followed ps k (option_and_then (then_some fits) next) moves ≡ option_and_then (then_some (fits && all_fit ps k moves)) (moved_by k.format next moves)
     by true next ih = ap (λ o. followed ps k o moves) (where_true true next refl) ∙ ih next
     by false next ih = ap (λ o. followed ps k o moves) (where_false false next refl) ∙ unfollowed ps k moves ∙ sym (where_false false (moved_by k.format next moves) refl)
 
@@ -139,12 +139,12 @@ module _ (ps : List ProgramDef) (k : Kept) (log : CoordinatorLog) (ds : List Def
       ∙ ap (moved_by log.header.format (Some log.header.conts)) is.moves
       ∙ sym (moved_by_moves log.header.format (Some log.header.conts) log.told.decided)
 
-  pub followed_is : and_then (given (fits_header ps k)) (followed ps k (Some k.conts) k.moves) ≡ open_conts_of log ds
+  pub followed_is : option_and_then (then_some (fits_header ps k)) (followed ps k (Some k.conts) k.moves) ≡ open_conts_of log ds
   followed_is =
-      ap (and_then (given (fits_header ps k))) (follows_all ps k (Some k.conts) k.moves)
+      ap (option_and_then (then_some (fits_header ps k))) (follows_all ps k (Some k.conts) k.moves)
       ∙ where_both (fits_header ps k) (all_fit ps k k.moves) (moved_by k.format (Some k.conts) k.moves)
-      ∙ ap (λ b. and_then (given b) (moved_by k.format (Some k.conts) k.moves)) sound_same
-      ∙ ap (and_then (given (are_sound reading log ds))) moved_same
+      ∙ ap (λ b. option_and_then (then_some b) (moved_by k.format (Some k.conts) k.moves)) sound_same
+      ∙ ap (option_and_then (then_some (are_sound reading log ds))) moved_same
 
 -- SO MANY MOVES are followed
 
@@ -167,16 +167,16 @@ module _ (ps : List ProgramDef) (k : Kept) (i : ℕ) (conts : List Cont) (so_far
 module _ (ps : List ProgramDef) (k : Kept) (i : ℕ) (conts : List Cont) (so_far : FollowedTo ps k i conts) where
   -- the move of an item
   pub one_fails : (items : List (List ℕ)) → items ≡ k.moves → (item : List ℕ) → i < length items → item ≡ get_or items i item → (mv : List ℕ) → mv ≡ item → (e : ContErr) (more : List Cont)
-      → Follows {A = ⊤} (Err e) more (follow ps k (move_in k.format mv) conts) → OpensConts (Err e) (and_then (given (fits_header ps k)) (followed ps k (Some k.conts) k.moves))
+      → Follows {A = ⊤} (Err e) more (follow ps k (move_in k.format mv) conts) → OpensConts (Err e) (option_and_then (then_some (fits_header ps k)) (followed ps k (Some k.conts) k.moves))
   one_fails items all item low here mv same Memory more fails = tt
   one_fails items all item low here mv same NotMove more fails =
-      ap (and_then (given (fits_header ps k)))
+      ap (option_and_then (then_some (fits_header ps k)))
       (fails_here ps k i conts so_far item (subst (λ ms. i < length ms) all low) (subst (λ ms. item ≡ get_or ms i item) all here) (subst (λ m. follow ps k (move_in k.format m) conts ≡ None) same fails))
 
 -- A MOVE is followed
 
 module _ (ps : List ProgramDef) (k : Kept) (mv : List ℕ) (conts : List Cont) (made : Move) (is : move_in k.format mv ≡ Some made) where
-  follow_is : follow ps k (move_in k.format mv) conts ≡ and_then (given (fits_move ps k (Some made))) (make_move conts made)
+  follow_is : follow ps k (move_in k.format mv) conts ≡ option_and_then (then_some (fits_move ps k (Some made))) (make_move conts made)
   follow_is = ap (λ o. follow ps k o conts) is
 
   pub unfit : fits_move ps k (Some made) ≡ false → follow ps k (move_in k.format mv) conts ≡ None
@@ -185,7 +185,7 @@ module _ (ps : List ProgramDef) (k : Kept) (mv : List ℕ) (conts : List Cont) (
   pub unmade : is_some (make_move conts made) ≡ false → follow ps k (move_in k.format mv) conts ≡ None
   unmade e = follow_is ∙ by (make_move conts made) e
     where
-      by : (o : Option (List Cont)) → is_some o ≡ false → and_then (given (fits_move ps k (Some made))) o ≡ None
+      by : (o : Option (List Cont)) → is_some o ≡ false → option_and_then (then_some (fits_move ps k (Some made))) o ≡ None
       by None e = refl
       by (Some x) e = absurd cc
 
@@ -198,7 +198,7 @@ module _ (ps : List ProgramDef) (k : Kept) (mv : List ℕ) (conts : List Cont) (
       by (Some cs) e s =
           let same : cs ≡ more = sym (makes cs e) in (
             follow_is ∙ where_true (fits_move ps k (Some made)) (make_move conts made) fits ∙ e ∙ ap Some same,
-            then_rises k.format mv conts more rises (ap (and_then (make_move conts)) is ∙ e ∙ ap Some same),
+            then_rises k.format mv conts more rises (ap (option_and_then (make_move conts)) is ∙ e ∙ ap Some same),
           )
 
 pub find_cont : (b : Id) (cs : List Cont) → find (λ (c : Cont). is_same_id b c.base) cs ≡ cont_in b cs
@@ -209,6 +209,6 @@ find_cont b (c ∷ cs) = ap (λ (o : Option Cont). cond (is_same_id b c.base) (S
 pub goes_new : (c : Cont) (cs : List Cont) (o : Option Cont) (r : Bool) → o ≡ None → o ≡ cont_in c.base cs → r ≡ list_all (is_accepted_before c) cs → r ≡ is_some (go_to c (cont_in c.base cs) cs)
 goes_new c cs o r none is e = e ∙ sym (ap (λ p. is_some (go_to c p cs)) (sym is ∙ none) ∙ some_given (list_all (is_accepted_before c) cs) (cs ++ c ∷ []))
   where
-    some_given : {A : Type 0} (b : Bool) (x : A) → is_some (given b x) ≡ b
+    some_given : {A : Type 0} (b : Bool) (x : A) → is_some (then_some b x) ≡ b
     some_given true x = refl
     some_given false x = refl

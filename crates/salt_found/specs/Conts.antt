@@ -12,15 +12,15 @@ use Rattle.salt_model.specs.Kept.{Definition}
 use Rattle.salt_stands.specs.Coordinator.{are_sound}
 use Rattle.salt_stands.specs.CoordinatorLog.{CoordinatorLog}
 use Rattle.salt_stands.specs.OpenConts.{conts_of_move, do_rise, make_move, moved}
-use Rattle.salt_stands.specs.Words.{and_then, given}
 use Rattle.salt_values.specs.declared.cont.Cont.{Cont}
 use Rattle.salt_values.specs.declared.id.Id.{Id}
 use Rattle.std.specs.List.{list_all}
-use Rattle.std.specs.Prelude.{Bool, Err, List, None, Ok, Option, Result, Some, [], nat_le, ℕ, ⊤, ◌&&◌, ◌∷◌, ◌≡◌}
+use Rattle.std.specs.Prelude.{Bool, Err, List, None, Ok, Option, Result, Some, [], nat_le, ℕ, ⊤, ◌&&◌, ◌∷◌, ◌≡◌, option_and_then}
+use Rattle.std.specs.Bool.{then_some}
 
 -- the continuations that a log leaves open under these definitions; none where what it says of continuations and units is not sound
 abbrev pub open_conts_of : CoordinatorLog → List Definition → Option (List Cont)
-open_conts_of log ds = and_then (given (are_sound reading log ds)) (moved log.header.format (Some log.header.conts) log.told.decided)
+open_conts_of log ds = option_and_then (then_some (are_sound reading log ds)) (moved log.header.format (Some log.header.conts) log.told.decided)
 
 abbrev pub OpensConts : Result (List Cont) ContErr → Option (List Cont) → Type 0
 OpensConts (Ok conts) going = going ≡ Some conts
@@ -45,8 +45,8 @@ fits_header ps k = do_rise k.conts && (list_all (fits_kept ps k) k.conts && list
 
 -- the continuations behind a move that fits and may be made
 abbrev pub follow : List ProgramDef → Kept → Option Move → List Cont → Option (List Cont)
-follow ps k made conts = and_then (given (fits_move ps k made)) (and_then (make_move conts) made)
+follow ps k made conts = option_and_then (then_some (fits_move ps k made)) (option_and_then (make_move conts) made)
 
 abbrev pub followed : List ProgramDef → Kept → Option (List Cont) → List (List ℕ) → Option (List Cont)
 followed ps k conts [] = conts
-followed ps k conts (mv ∷ moves) = followed ps k (and_then (follow ps k (move_in k.format mv)) conts) moves
+followed ps k conts (mv ∷ moves) = followed ps k (option_and_then (follow ps k (move_in k.format mv)) conts) moves

@@ -3,12 +3,12 @@ use Rattle.salt_ast.specs.declared.programs.ProgramDef.{ProgramDef}
 use Rattle.salt_ast.specs.declared.trees.TableDef.{TableDef}
 use Rattle.law_definitions.specs.Texts.{IsTextOf, definition_in}
 use Rattle.salt_stands.specs.Fitting.{definitions_reading, programs_of, tables_of}
-use Rattle.salt_found.specs.declared.error.DefinitionErr.TheVariants.{Memory, Refused}
-use Rattle.salt_found.specs.declared.error.DefinitionErr.{DefinitionErr}
+use Rattle.salt_found.specs.declared.error.RecoverErr.TheVariants.{Memory, NotSalt}
+use Rattle.salt_found.specs.declared.error.RecoverErr.{RecoverErr}
 use Rattle.salt_model.specs.Kept.{Definition, OfProgram, OfTable}
 use Rattle.salt_stands.specs.Reading.{Reading}
-use Rattle.salt_stands.specs.Words.{and_then, given}
-use Rattle.std.specs.Prelude.{Bool, Err, List, None, Ok, Option, Result, Some, [], false, not, true, ℕ, ⊤, ◌++◌, ◌==◌, ◌∷◌, ◌≡◌}
+use Rattle.std.specs.Prelude.{Bool, Err, List, None, Ok, Option, Result, Some, [], false, not, true, ℕ, ⊤, ◌++◌, ◌==◌, ◌∷◌, ◌≡◌, option_and_then}
+use Rattle.std.specs.Bool.{then_some}
 
 -- definitions are read from their canonical texts
 abbrev pub reading : Reading Definition
@@ -16,7 +16,7 @@ reading = definitions_reading definition_in
 
 -- the definitions with that of one more text, which is read and not refused
 abbrev pub define_text : {D : Type 0} → Reading D → List ℕ → Option (List D) → Option (List D)
-define_text r text defined = and_then (λ ds. and_then (λ d. given (not (r.is_refused ds d)) (ds ++ d ∷ [])) (r.read text)) defined
+define_text r text defined = option_and_then (λ ds. option_and_then (λ d. then_some (not (r.is_refused ds d)) (ds ++ d ∷ [])) (r.read text)) defined
 
 abbrev pub defined_by_texts : {D : Type 0} → Reading D → Option (List D) → List (List ℕ) → Option (List D)
 defined_by_texts r defined [] = defined
@@ -34,22 +34,22 @@ pub record AreOfSome (schema : List TableDef) (catalogue : List ProgramDef) (def
   pub are : AreOf schema catalogue definitions
 
 -- what an answer says of a definition
-abbrev pub IsJudged : {A : Type 0} → Result A DefinitionErr → (is_refused : Bool) → Type 0
+abbrev pub IsJudged : {A : Type 0} → Result A RecoverErr → (is_refused : Bool) → Type 0
 IsJudged (Ok x) is_refused = is_refused ≡ false
-IsJudged (Err Refused) is_refused = is_refused ≡ true
+IsJudged (Err NotSalt) is_refused = is_refused ≡ true
 IsJudged (Err Memory) is_refused = ⊤
 
 -- what is refused is not defined
-abbrev pub FailsToDefine : DefinitionErr → Option (List Definition) → Type 0
-FailsToDefine Refused defined = defined ≡ None
+abbrev pub FailsToDefine : RecoverErr → Option (List Definition) → Type 0
+FailsToDefine NotSalt defined = defined ≡ None
 FailsToDefine Memory defined = ⊤
 
 -- tables and programs that an answer leaves
-abbrev pub Defines : {A : Type 0} → Result A DefinitionErr → List TableDef → List ProgramDef → Option (List Definition) → Type 0
+abbrev pub Defines : {A : Type 0} → Result A RecoverErr → List TableDef → List ProgramDef → Option (List Definition) → Type 0
 Defines (Ok x) schema catalogue defined = AreOfSome schema catalogue defined
 Defines (Err e) schema catalogue defined = FailsToDefine e defined
 
-abbrev pub OpensDefinitions : Result (List TableDef × List ProgramDef) DefinitionErr → Option (List Definition) → Type 0
+abbrev pub OpensDefinitions : Result (List TableDef × List ProgramDef) RecoverErr → Option (List Definition) → Type 0
 OpensDefinitions (Ok made) defined = AreOfSome made.0 made.1 defined
 OpensDefinitions (Err e) defined = FailsToDefine e defined
 

@@ -6,10 +6,10 @@ ghost use Rattle.salt_found.specs.Conts.{OpensConts, fits_header, fits_kept, fol
 ghost use Rattle.salt_model.specs.Kept.{Definition};
 ghost use Rattle.salt_stands.specs.CoordinatorLog.{CoordinatorLog};
 ghost use Rattle.salt_stands.specs.OpenConts.{do_rise, is_later_than};
-ghost use Rattle.salt_stands.specs.Words.{and_then, given};
 ghost use Rattle.salt_values.specs.declared.cont.Cont.{Cont};
 ghost use Rattle.std.specs.List.{list_all};
-ghost use Rattle.std.specs.Prelude.{List, Some, ◌≡◌};
+ghost use Rattle.std.specs.Prelude.{List, Some, ◌≡◌, option_and_then};
+ghost use Rattle.std.specs.Bool.{then_some};
 
 use crate::error::ContErr;
 use crate::fits::fits_kept;
@@ -68,7 +68,7 @@ fn fits_header(catalogue: &Catalogue, kept: &Kept) -> bool
 
 /// The continuations that are kept, as far as they can be followed.
 fn follow_all(alloc: Global, catalogue: &Catalogue, kept: &Kept) -> Result<Conts, ContErr>
-    ensures { OpensConts result (and_then (given (fits_header catalogue.now kept.now)) (followed catalogue.now kept.now (Some kept.now.conts) kept.now.moves)) }
+    ensures { OpensConts result (option_and_then (then_some (fits_header catalogue.now kept.now)) (followed catalogue.now kept.now (Some kept.now.conts) kept.now.moves)) }
 {
     if !fits_header(catalogue, kept) {
         return Err(ContErr::NotMove);

@@ -1,28 +1,11 @@
 //! Why what is kept is not opened.
 
-ghost use Rattle.salt_found.specs.Errors.{recover_err_of_cont, recover_err_of_definition};
+ghost use Rattle.salt_found.specs.Errors.{recover_err_of_cont};
 ghost use Rattle.salt_found.specs.declared.error.ContErr.TheVariants as cont;
-ghost use Rattle.salt_found.specs.declared.error.DefinitionErr.TheVariants as definition;
+ghost use Rattle.salt_found.specs.declared.error.RecoverErr.TheVariants.{Memory};
 ghost use Rattle.std.specs.Prelude.{◌≡◌};
 
 use std::alloc::AllocError;
-
-/// Why texts are not opened as definitions.
-#[derive(Clone, Copy, Debug, PartialEq, Eq)]
-pub enum DefinitionErr {
-    /// A text is the canonical one of no definition, or of one that is refused under those before it.
-    Refused,
-    /// Memory ran out.
-    Memory,
-}
-
-impl From<AllocError> for DefinitionErr {
-    ghost from_gives = { λ _ e. e ≡ definition.Memory };
-
-    fn from(_e: AllocError) -> DefinitionErr {
-        DefinitionErr::Memory
-    }
-}
 
 /// Why continuations are not opened.
 #[derive(Clone, Copy, Debug, PartialEq, Eq)]
@@ -44,20 +27,18 @@ impl From<AllocError> for ContErr {
 /// Why what a coordinator's log keeps is not recovered.
 #[derive(Clone, Copy, Debug, PartialEq, Eq)]
 pub enum RecoverErr {
-    /// The log's definitions or continuations are none that were written here.
+    /// The log's definitions or continuations are none that were written here: a text is the canonical one of no definition or of one
+    /// that is refused under those before it, or the continuations are none that the programs have.
     NotSalt,
     /// Memory ran out.
     Memory,
 }
 
-impl From<DefinitionErr> for RecoverErr {
-    ghost from_gives = { λ e f. f ≡ recover_err_of_definition e };
+impl From<AllocError> for RecoverErr {
+    ghost from_gives = { λ _ e. e ≡ Memory };
 
-    fn from(e: DefinitionErr) -> RecoverErr {
-        match e {
-            DefinitionErr::Refused => RecoverErr::NotSalt,
-            DefinitionErr::Memory => RecoverErr::Memory,
-        }
+    fn from(_e: AllocError) -> RecoverErr {
+        RecoverErr::Memory
     }
 }
 

@@ -12,5 +12,5 @@ mod recovery;
 
 pub use conts::open_conts;
 pub use definitions::open_definitions;
-pub use error::{ContErr, DefinitionErr, RecoverErr};
+pub use error::{ContErr, RecoverErr};
 pub use recovery::{Recovered, recover};

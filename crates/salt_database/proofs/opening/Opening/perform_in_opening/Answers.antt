@@ -1,137 +1,82 @@
-use Rattle.salt_database.proofs.OpeningActs.{comes-some, commit-step, on-err, to-open-as, told-performs, told-step}
+use Rattle.salt_database.proofs.TakenUp.{opens-asks, opens-takes, taken-opens, taken-steps}
 use Rattle.salt_database.proofs.opening.Opening.perform_in_opening.Goals as goal
-use Rattle.salt_database.specs.Performing.{IsToOpen}
-use Rattle.salt_engine.proofs.Counted.{same-cause}
-use Rattle.salt_engine.proofs.Outcome.{comes-as, stays-same, when-opened}
-use Rattle.law_openings.specs.Draining.{statements_at}
-use Rattle.salt_model.specs.Rests.{statements_in}
-use Rattle.std.proofs.Common.{ap, arith, inl, refl, ◌∙◌, ◌≡◌}
-use Rattle.std.proofs.lemmas.Result.{IfOk-weaker}
+use Rattle.salt_engine.proofs.Broken.{broken-as}
+use Rattle.salt_engine.proofs.Counted.{cause-broken, cause-lost, cause-told}
+use Rattle.salt_engine.proofs.Outcome.{comes-broken}
+use Rattle.salt_engine.proofs.Providing.{breaks-given, breaks-undone}
+use Rattle.std.proofs.Common.{inl, refl, sym, ◌∙◌}
+use Rattle.std.proofs.lemmas.Result.{err_from_is_err_and}
 
-pub returns-in-Told-clause-comes : goal.returns-in-Told-clause-comes
-returns-in-Told-clause-comes g c = λ s h. told-performs _ _ c.args.recovery c.args.coming c.in-Told.event s _ _ c.in-Told.is c.requires.none refl h
+pub provide-requires-clause-callable : goal.provide-requires-clause-callable
+provide-requires-clause-callable g c = c.requires.callable
 
-pub returns-in-Told-clause-stays : goal.returns-in-Told-clause-stays
-returns-in-Told-clause-stays g c = stays-same _ _ _
+pub provide-requires-clause-answers : goal.provide-requires-clause-answers
+provide-requires-clause-answers g c = c.requires.answers
 
-pub returns-in-Told-clause-cause : goal.returns-in-Told-clause-cause
-returns-in-Told-clause-cause g c = same-cause (g.D.Disks.view c.args.disks.now)
+pub provide-requires-clause-none : goal.provide-requires-clause-none
+provide-requires-clause-none g c = c.requires.none
 
-pub returns-in-Told-clause-ticks : goal.returns-in-Told-clause-ticks
-returns-in-Told-clause-ticks g c = let none = told-step _ _ c.args.recovery c.args.coming c.in-Told.event c.requires.ready.0 c.in-Told.is c.requires.ready.1 in omega arith
-
-pub act_in_opening-requires-clause-callable : goal.act_in_opening-requires-clause-callable
-act_in_opening-requires-clause-callable g c = c.requires.callable
-
-pub act_in_opening-requires-clause-answers : goal.act_in_opening-requires-clause-answers
-act_in_opening-requires-clause-answers g c = c.requires.answers
-
-pub act_in_opening-requires-clause-lost : goal.act_in_opening-requires-clause-lost
-act_in_opening-requires-clause-lost g c = c.requires.lost
-
-pub act_in_opening-requires-clause-none : goal.act_in_opening-requires-clause-none
-act_in_opening-requires-clause-none g c = c.requires.none
-
-pub act_in_opening-requires-clause-ready : goal.act_in_opening-requires-clause-ready
-act_in_opening-requires-clause-ready g c =
-    (c.requires.ready.0, to-open-as _ _ c.args.recovery _ _ c.requires.ready.0 c.in-Act.is c.requires.ready.1)
-
-pub returns-in-Act-clause-comes : goal.returns-in-Act-clause-comes
-returns-in-Act-clause-comes g c =
-    let view = g.D.Disks.view c.args.disks.now in
-    let holds = g.S.Storage.holds view c.args.self.now.storage in
-    let is_new = g.S.Storage.is_new view c.args.self.now.storage in
-    comes-as _ _ _ _ _ _ (IsToOpen holds is_new c.args.recovery) c.args.coming _ c.act_in_opening.result c.in-Act.is c.act_in_opening.ensures.comes
-
-pub returns-in-Act-clause-stays : goal.returns-in-Act-clause-stays
-returns-in-Act-clause-stays g c = c.act_in_opening.ensures.stays
-
-pub returns-in-Act-clause-cause : goal.returns-in-Act-clause-cause
-returns-in-Act-clause-cause g c = c.act_in_opening.ensures.cause
-
-pub returns-in-Act-clause-short : goal.returns-in-Act-clause-short
-returns-in-Act-clause-short g c = rw c.in-Act.is c.act_in_opening.ensures.short
-
-pub returns-in-Act-clause-ticks : goal.returns-in-Act-clause-ticks
-returns-in-Act-clause-ticks g c = c.act_in_opening.ensures.ticks
-
-pub commit_in_opening-requires-clause-callable : goal.commit_in_opening-requires-clause-callable
-commit_in_opening-requires-clause-callable g c = c.requires.callable
-
-pub commit_in_opening-requires-clause-answers : goal.commit_in_opening-requires-clause-answers
-commit_in_opening-requires-clause-answers g c = c.requires.answers
-
-pub commit_in_opening-requires-clause-lost : goal.commit_in_opening-requires-clause-lost
-commit_in_opening-requires-clause-lost g c = c.requires.lost
-
-pub commit_in_opening-requires-clause-none : goal.commit_in_opening-requires-clause-none
-commit_in_opening-requires-clause-none g c = c.requires.none
-
-pub commit_in_opening-requires-clause-ready : goal.commit_in_opening-requires-clause-ready
-commit_in_opening-requires-clause-ready g c =
-    (c.requires.ready.0, to-open-as _ _ c.args.recovery _ _ c.requires.ready.0 c.in-Commit.is c.requires.ready.1)
-
-pub returns-in-Commit-clause-comes : goal.returns-in-Commit-clause-comes
-returns-in-Commit-clause-comes g c =
-    let view = g.D.Disks.view c.args.disks.now in
-    let holds = g.S.Storage.holds view c.args.self.now.storage in
-    let is_new = g.S.Storage.is_new view c.args.self.now.storage in
-    comes-as _ _ _ _ _ _ (IsToOpen holds is_new c.args.recovery) c.args.coming _ c.commit_in_opening.result c.in-Commit.is c.commit_in_opening.ensures.comes
-
-pub returns-in-Commit-clause-stays : goal.returns-in-Commit-clause-stays
-returns-in-Commit-clause-stays g c = c.commit_in_opening.ensures.stays
-
-pub returns-in-Commit-clause-cause : goal.returns-in-Commit-clause-cause
-returns-in-Commit-clause-cause g c = c.commit_in_opening.ensures.cause
-
-pub returns-in-Commit-clause-ticks : goal.returns-in-Commit-clause-ticks
-returns-in-Commit-clause-ticks g c = IfOk-weaker c.commit_in_opening.result _ _ (λ e performs.
+pub provide-requires-clause-ready : goal.provide-requires-clause-ready
+provide-requires-clause-ready g c =
     let s = c.requires.ready.0 in
-    let h = to-open-as _ _ c.args.recovery _ _ s c.in-Commit.is c.requires.ready.1 in
-    let none : statements_in e ≡ 0 = ap statements_at (performs s h).told ∙ commit-step _ _ c.args.recovery c.in-Commit.unit s h in
-    omega arith) (when-opened _ _ _ c.commit_in_opening.result c.commit_in_opening.ensures.comes)
+    (s, opens-asks _ _ c.args.recovery c.args.coming s c.requires.ready.1 c.books.result.now c.books.ensures)
 
-pub returns-in-Commit-clause-short : goal.returns-in-Commit-clause-short
-returns-in-Commit-clause-short g c = on-err c.commit_in_opening.result (λ s h. inl refl)
-
-pub branch_in_opening-requires-clause-callable : goal.branch_in_opening-requires-clause-callable
-branch_in_opening-requires-clause-callable g c = c.requires.callable
-
-pub branch_in_opening-requires-clause-answers : goal.branch_in_opening-requires-clause-answers
-branch_in_opening-requires-clause-answers g c = c.requires.answers
-
-pub branch_in_opening-requires-clause-lost : goal.branch_in_opening-requires-clause-lost
-branch_in_opening-requires-clause-lost g c = c.requires.lost
-
-pub branch_in_opening-requires-clause-none : goal.branch_in_opening-requires-clause-none
-branch_in_opening-requires-clause-none g c = c.requires.none
-
-pub branch_in_opening-requires-clause-ready : goal.branch_in_opening-requires-clause-ready
-branch_in_opening-requires-clause-ready g c =
-    (c.requires.ready.0, to-open-as _ _ c.args.recovery _ _ c.requires.ready.0 c.in-Branch.is c.requires.ready.1)
-
-pub returns-in-Branch-clause-comes : goal.returns-in-Branch-clause-comes
-returns-in-Branch-clause-comes g c =
-    let view = g.D.Disks.view c.args.disks.now in
-    let holds = g.S.Storage.holds view c.args.self.now.storage in
-    let is_new = g.S.Storage.is_new view c.args.self.now.storage in
-    comes-as _ _ _ _ _ _ (IsToOpen holds is_new c.args.recovery) c.args.coming _ c.branch_in_opening.result c.in-Branch.is c.branch_in_opening.ensures.comes
-
-pub returns-in-Branch-clause-stays : goal.returns-in-Branch-clause-stays
-returns-in-Branch-clause-stays g c = c.branch_in_opening.ensures.stays
-
-pub returns-in-Branch-clause-cause : goal.returns-in-Branch-clause-cause
-returns-in-Branch-clause-cause g c = c.branch_in_opening.ensures.cause
-
-pub returns-in-Branch-clause-ticks : goal.returns-in-Branch-clause-ticks
-returns-in-Branch-clause-ticks g c = IfOk-weaker c.branch_in_opening.result _ _ (λ e performs.
+pub take_up-requires : goal.take_up-requires
+take_up-requires g c =
+    let x = c.args.recovery in
     let s = c.requires.ready.0 in
-    let h = to-open-as _ _ c.args.recovery _ _ s c.in-Branch.is c.requires.ready.1 in
-    let none : statements_in e ≡ 0 = ap statements_at (performs s h).told in
-    omega arith) (when-opened _ _ _ c.branch_in_opening.result c.branch_in_opening.ensures.comes)
+    let h = c.requires.ready.1 in
+    (s, opens-takes _ _ x c.args.coming s h _ _ _ c.in-Ok.given (c.in-Ok.ensures.given s (opens-asks _ _ x c.args.coming s h c.books.result.now c.books.ensures)))
 
-pub returns-in-Branch-clause-short : goal.returns-in-Branch-clause-short
-returns-in-Branch-clause-short g c = on-err c.branch_in_opening.result (λ s h. inl refl)
+pub break_off-requires : goal.break_off-requires
+break_off-requires g c = c.requires.lost
 
-pub unreachable-requires : goal.unreachable-requires
-unreachable-requires g c = comes-some _ _ c.args.recovery c.args.coming c.requires.ready.0 c.requires.ready.1 c.in-Nothing.is
+pub returns-in_ok-event-in-Ok-clause-comes : goal.returns-in_ok-event-in-Ok-clause-comes
+returns-in_ok-event-in-Ok-clause-comes g c = λ s h.
+    let x = c.args.recovery in
+    let p = c.in-Ok.ensures.given s (opens-asks _ _ x c.args.coming s h c.books.result.now c.books.ensures) in
+    taken-opens _ _ x c.args.coming s h _ _ _ _ c.in-Ok.given c.take_up.new.recovery c.in_ok-event-in-Ok.event refl p
+    (c.in_ok-event-in-Ok.ensures.gives s (opens-takes _ _ x c.args.coming s h _ _ _ c.in-Ok.given p))
+
+pub returns-in_ok-event-in-Ok-clause-ticks : goal.returns-in_ok-event-in-Ok-clause-ticks
+returns-in_ok-event-in-Ok-clause-ticks g c = c.in_ok-event-in-Ok.ensures.ticks
+
+pub returns-in_ok-event-in-Ok-clause-stays : goal.returns-in_ok-event-in-Ok-clause-stays
+returns-in_ok-event-in-Ok-clause-stays g c = record { noted = refl; within = c.provide.ensures.within }
+
+pub returns-in_ok-event-in-Ok-clause-cause : goal.returns-in_ok-event-in-Ok-clause-cause
+returns-in_ok-event-in-Ok-clause-cause g c = c.in-Ok.ensures.cause
+
+pub returns-in_err-event-in-Ok-clause-comes : goal.returns-in_err-event-in-Ok-clause-comes
+returns-in_err-event-in-Ok-clause-comes g c = λ s h.
+    let p = c.in-Ok.ensures.given s (opens-asks _ _ c.args.recovery c.args.coming s h c.books.result.now c.books.ensures) in
+    comes-broken _ _ _ _ _ _ _ s _ c.from_residual.result c.from_residual.ensures.1
+    (breaks-given _ _ _ _ _ _ c.args.coming c.in-Ok.given s p c.stands.ensures.stays c.requires.lost)
+
+pub returns-in_err-event-in-Ok-clause-short : goal.returns-in_err-event-in-Ok-clause-short
+returns-in_err-event-in-Ok-clause-short g c =
+    let p = err_from_is_err_and c.from_residual.result c.from_residual.ensures.1 in
+    rw p.1 (λ s h.
+    taken-steps _ _ c.args.recovery c.args.coming s h _ _ _ c.in-Ok.given _ _
+    (c.in-Ok.ensures.given s (opens-asks _ _ c.args.recovery c.args.coming s h c.books.result.now c.books.ensures)) (c.in_err-event-in-Ok.ensures.short s))
+
+pub returns-in_err-event-in-Ok-clause-stays : goal.returns-in_err-event-in-Ok-clause-stays
+returns-in_err-event-in-Ok-clause-stays g c = record { noted = refl; within = c.provide.ensures.within }
+
+pub returns-in_err-event-in-Ok-clause-cause : goal.returns-in_err-event-in-Ok-clause-cause
+returns-in_err-event-in-Ok-clause-cause g c = cause-broken _ _ c.from_residual.result _ c.from_residual.ensures.1 (cause-lost _ _ c.in-Ok.ensures.cause)
+
+pub returns-in-Err-clause-comes : goal.returns-in-Err-clause-comes
+returns-in-Err-clause-comes g c = λ s h.
+    broken-as _ _ _ _ _ s.units c.in-Err.halt c.break_off.result c.break_off.ensures.halt
+    (breaks-undone _ _ _ _ _ _ s.units c.books.result.now c.into_books.result (c.books.ensures ∙ sym c.into_books.ensures)
+    (c.in-Err.ensures.undone s (opens-asks _ _ c.args.recovery c.args.coming s h c.books.result.now c.books.ensures)) c.break_off.ensures.broken)
+
+pub returns-in-Err-clause-short : goal.returns-in-Err-clause-short
+returns-in-Err-clause-short g c = λ s h. inl refl
+
+pub returns-in-Err-clause-stays : goal.returns-in-Err-clause-stays
+returns-in-Err-clause-stays g c = record { noted = refl; within = c.provide.ensures.within }
+
+pub returns-in-Err-clause-cause : goal.returns-in-Err-clause-cause
+returns-in-Err-clause-cause g c = cause-told _ _ c.in-Err.halt c.break_off.result c.break_off.ensures.halt c.in-Err.ensures.cause

@@ -3,7 +3,7 @@ use Rattle.salt_engine.proofs.Outcome.{by-err, not-ok}
 use Rattle.salt_engine.proofs.Committing.{commit-done, commit-may, commit-moves, commit-new, commit-undone}
 use Rattle.salt_engine.proofs.Decided.{undone-before}
 use Rattle.salt_engine.proofs.Performed.{have-unit}
-use Rattle.salt_engine.proofs.deciding.commit.Goals as goal
+use Rattle.salt_engine.proofs.deciding.decide_commit.Goals as goal
 use Rattle.law_states.specs.Told.{next_decision}
 use Rattle.salt_model.specs.Kept.{conts_committed}
 use Rattle.salt_storage.proofs.Staying.{stays-same}

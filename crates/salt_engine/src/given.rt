@@ -1,0 +1,96 @@
+//! What is to come, with what the storage gives for it.
+
+ghost use Rattle.salt_books.specs.Coming.{event_meant};
+ghost use Rattle.salt_books.specs.declared.coming.Coming.TheVariants.{Nothing};
+ghost use Rattle.salt_disk.specs.Disks.{HasCause};
+ghost use Rattle.salt_engine.specs.Giving.{AsksFor, IsGiven, IsUndone};
+ghost use Rattle.law_states.specs.States.{State};
+ghost use Rattle.salt_storage.specs.Answers.{disk_err};
+ghost use Rattle.salt_storage.specs.Staying.{StaysWithin};
+ghost use Rattle.salt_place.specs.Placement.{GivesPlaceOf, TakesEachKey};
+ghost use Rattle.std.specs.Prelude.{IfErr, IfOk, None, ◌≡◌};
+
+use crate::deciding::{decide_branch, decide_commit, load};
+use crate::flights::InFlight;
+use salt_books::{Asking, Books, Coming};
+use salt_cont::Move;
+use salt_disk::Disks;
+use salt_eval::Tables;
+use salt_model::{Cause, Event};
+use salt_place::{PlaceKind, Placement};
+use salt_storage::{Halt, Storage};
+use salt_values::{Id, Key};
+use std::alloc::Global;
+
+/// What is to come, with what the storage has given for it.
+#[derive(Drop)]
+pub enum Given {
+    Nothing,
+    /// The event is done already: nothing was asked for it.
+    Told(Event),
+    /// The rows in the reach of the statement that a unit is to do.
+    Rows {
+        asking: Asking,
+        rows: Tables,
+    },
+    /// The commit of a unit is decided, with this move of its program.
+    Committed {
+        unit: Id,
+        made: Move,
+    },
+    /// The branch of a unit of a later part of this program is decided, with this move.
+    Branched {
+        unit: Id,
+        base: Id,
+        cause: Cause,
+        made: Move,
+    },
+}
+
+/// What the storage gives for what is to come, whether in a line or in an opening: the rows that a statement reaches, or a decision,
+/// which is in flight from when it is asked.
+pub fn provide<S: Storage, D: Disks, F: Fn(PlaceKind, &Key, u32) -> u32>(
+    alloc: Global,
+    storage: &mut S,
+    disks: &mut D,
+    place: &Placement<F>,
+    books: &Books,
+    in_flight: &mut Option<InFlight>,
+    coming: Coming,
+) -> Result<Given, Halt>
+    requires callable { TakesEachKey (F.pre place.now.place) }
+    requires answers { GivesPlaceOf (F.post place.now.place) }
+    requires none { in_flight.old ≡ None }
+    requires ready { (s : State) × AsksFor (S.holds (D.view disks.old) storage.old) (S.is_new (D.view disks.old) storage.old) books.now coming s }
+    ensures given { IfOk result (λ given. (s : State) → AsksFor (S.holds (D.view disks.old) storage.old) (S.is_new (D.view disks.old) storage.old) books.now coming s
+        → IsGiven (S.holds (D.view disks.new) storage.new) (S.is_new (D.view disks.new) storage.new) in_flight.new coming given s) }
+    ensures undone { IfErr result (λ halt. (s : State) → AsksFor (S.holds (D.view disks.old) storage.old) (S.is_new (D.view disks.old) storage.old) books.now coming s
+        → IsUndone (S.leaves (D.view disks.new) storage.new) (S.fills (D.view disks.new) storage.new) halt books.now in_flight.new (event_meant s.units coming) s.units) }
+    ensures within { StaysWithin (S.asked storage.old) (S.asked storage.new) (D.view disks.old) (D.view disks.new) }
+    ensures cause { HasCause (D.view disks.old) (D.view disks.new) (disk_err result) }
+    ensures still { coming ≡ Nothing → disks.new ≡ disks.old }
+{
+    match coming {
+        Coming::Nothing => Ok(Given::Nothing),
+        Coming::Told(event) => Ok(Given::Told(event)),
+        Coming::Act(asking) => {
+            let rows = load(alloc, storage, disks, place, books, &asking)?;
+            Ok(Given::Rows { asking, rows })
+        }
+        Coming::Commit(unit) => {
+            *in_flight = Some(InFlight::Commit(unit));
+            let made = decide_commit(alloc, storage, disks, place, books, unit)?;
+            Ok(Given::Committed { unit, made })
+        }
+        Coming::Branch { unit, base, cause } => {
+            *in_flight = Some(InFlight::Branch { unit, base, cause });
+            let made = decide_branch(alloc, storage, disks, place, books, unit)?;
+            Ok(Given::Branched {
+                unit,
+                base,
+                cause,
+                made,
+            })
+        }
+    }
+}
