@@ -1,6 +1,6 @@
 -- A run that ends before its first line.
 use Rattle.salt_io.proofs.Taking.{gains-none}
-use Rattle.salt_io.specs.Lines.{Reading, lines_of}
+use Rattle.salt_io.specs.Lines.{ScriptReading, lines_of}
 use Rattle.salt_io.specs.Streams.{Gains, GainsShort, bytes_before}
 use Rattle.salt_ast.specs.declared.trees.TableDef.{TableDef}
 use Rattle.law_states.specs.Points.{Point}
@@ -335,7 +335,7 @@ never-read d (Err s) before held text of w is = by w.0
 -- BETWEEN LINES, FROM THEN ON
 
 -- a reader that has read nothing
-abbrev unread : Reading
+abbrev unread : ScriptReading
 unread = record { kept = []; taken = 0; ended = false }
 
 no-lines : (left : Option (List ℕ)) → IsAt left unread (bytes_before [] left) []
@@ -345,10 +345,10 @@ no-lines (Some script) = record { given = []; whole = refl; counted = refl; line
 unended : false ≡ true → ⊥
 unended e = cc
 
-pub serving-begun : {E : Type 0} (sees : E → Option Event → State → Type 0) (start : Start) (e : E) (reading : Reading) (left before held : Option (List ℕ)) (story : List Event) →
+pub serving-begun : {E : Type 0} (sees : E → Option Event → State → Type 0) (start : Start) (e : E) (reading : ScriptReading) (left before held : Option (List ℕ)) (story : List Event) →
     IsBegun sees start e story before held → reading ≡ unread → IsServing sees start left before e reading left story held
 serving-begun sees start e reading left before held story b is =
-    subst (λ (r : Reading). IsServing sees start left before e r left story held) (sym is) (record {
+    subst (λ (r : ScriptReading). IsServing sees start left before e r left story held) (sym is) (record {
       trace = b.trace;
       texts = [];
       serves = b.serves;

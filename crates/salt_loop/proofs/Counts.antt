@@ -9,7 +9,7 @@ use Rattle.salt_model.specs.declared.events.Why.TheVariants as why
 use Rattle.salt_model.specs.declared.events.Why.{Why}
 use Rattle.salt_loop.specs.Counted.{AreFaults, AreFaultsOf, AreMet, AreStopsOf, CountsAdded, CountsNothing, CountsResumed, CountsRun}
 use Rattle.salt_io.specs.declared.lines.LineErr.{LineErr}
-use Rattle.salt_model.specs.Arming.{armed_after, armed_behind, behind_first}
+use Rattle.salt_model.specs.Arming.{armed_behind, behind_first, armed_by}
 use Rattle.salt_promise.specs.declared.status.Status.{Status}
 use Rattle.salt_promise.specs.declared.status.Status.TheVariants.{DeviceFull, DiskFault, Done, Memory, NotSalt, NumbersSpent, OtherShape, ReadFault, ScriptTooLong, Usage, WriteFault}
 use Rattle.salt_loop.specs.Stopping.{answer_of, outcome, status_of, stop_of}
@@ -23,6 +23,7 @@ use Rattle.std.proofs.Common.{ap, append-nil, append_assoc, arith, inl, inr, sub
 use Rattle.std.specs.Prelude.{Err, List, None, Ok, Option, Result, Some, [], drop, length, refl, take, ℕ, ◌+◌, ◌++◌, ◌∷◌, ◌≡◌, ◌≤◌, ◌⊎◌}
 use Rattle.std.proofs.lemmas.List.{length-take-le, take-append-drop}
 use Rattle.std.specs.Result.{IsErrAnd}
+use Rattle.salt_ast.specs.declared.lines.Line.TheVariants.{Nothing}
 
 -- FAULTS
 
@@ -89,7 +90,7 @@ behind-both : (es fs : List Event) (stops : Option (List (ℕ × ℕ))) → arme
 behind-both [] fs None = refl
 behind-both [] fs (Some stops) = refl
 behind-both (e ∷ es) fs None = refl
-behind-both (e ∷ es) fs (Some stops) = behind-both es fs (armed_after e stops)
+behind-both (e ∷ es) fs (Some stops) = behind-both es fs (armed_by Nothing e stops)
 
 stops-behind : (status : Status) (first mid last : List (ℕ × ℕ)) (es fs : List Event) → armed_behind es (Some first) ≡ Some mid → AreStopsOf status mid fs last → AreStopsOf status first (es ++ fs) last
 stops-behind status first mid last es fs here h =

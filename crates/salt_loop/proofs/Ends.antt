@@ -1,7 +1,7 @@
 -- From line to line, and how a run ends.
 use Rattle.salt_values.specs.declared.limits.TheConstants.{LINE_MOST, SCRIPT_MOST}
 use Rattle.salt_io.proofs.Taking.{gains-append}
-use Rattle.salt_io.specs.Lines.{IsCutOff, IsReadingOf, Reading, TakesLine, TakesLong, TakesNoLine}
+use Rattle.salt_io.specs.Lines.{IsCutOff, IsReadingOf, ScriptReading, TakesLine, TakesLong, TakesNoLine}
 use Rattle.salt_io.specs.Streams.{Gains, GainsShort, IsAtEnd}
 use Rattle.salt_io.specs.declared.lines.LineErr.{LineErr}
 use Rattle.salt_io.specs.declared.lines.Next.TheVariants.{End, Line, TooLong}
@@ -75,7 +75,7 @@ ends-written stop.ScriptTooLong a b before mid held g h = gains-append before mi
 ends-written (stop.NumbersSpent boot decisions) a b before mid held g h = gains-append before mid held a b g h
 
 -- a line was taken, which asks what its text or its length says
-pub record HasTaken (text : Option (List ℕ)) (before after : Option (List ℕ)) (taken : ℕ) (now : Reading) : Type 0 where
+pub record HasTaken (text : Option (List ℕ)) (before after : Option (List ℕ)) (taken : ℕ) (now : ScriptReading) : Type 0 where
   pub line : List ℕ
   pub takes : TakesLine SCRIPT_MOST before after taken now line
   pub asks : (asked : Asked) → TextAsks text asked → Asks line asked
@@ -89,7 +89,7 @@ ends-at lies left fills flies status start trace story texts script rest before 
   x.ends,
 )
 
-module _ {E : Type 0} (old_sees : E → Option Event → State → Type 0) (start : Start) (script before : Option (List ℕ)) (old : E) (reading : Reading) (left : Option (List ℕ))
+module _ {E : Type 0} (old_sees : E → Option Event → State → Type 0) (start : Start) (script before : Option (List ℕ)) (old : E) (reading : ScriptReading) (left : Option (List ℕ))
     (story : List Event) (held : Option (List ℕ)) (serving : IsServing old_sees start script before old reading left story held) where
   over : reading.ended ≡ true → IsAtEnd (rest_of reading left)
   over = over-before reading left serving.of
@@ -98,7 +98,7 @@ module _ {E : Type 0} (old_sees : E → Option Event → State → Type 0) (star
   written-so-far : Gains before (text_under serving.trace (story_of serving.trace)) held
   written-so-far = subst (λ es. Gains before (text_under serving.trace es) held) (sym serving.serves.tells.told) serving.written
 
-  module _ (reading_after : Reading) (left_after : Option (List ℕ)) (of : IsReadingOf reading_after left_after) (text : Option (List ℕ))
+  module _ (reading_after : ScriptReading) (left_after : Option (List ℕ)) (of : IsReadingOf reading_after left_after) (text : Option (List ℕ))
       (taken : HasTaken text (rest_of reading left) (rest_of reading_after left_after) reading.taken reading_after) (told : List Event) where
     here : IsAt script reading_after (rest_of reading_after left_after) (serving.texts ++ taken.line ∷ [])
     here = next-place reading reading_after left (rest_of reading_after left_after) serving.texts taken.line serving.of taken.takes script serving.place
@@ -219,7 +219,7 @@ if_err_gives (Ok x) e P h p = tt
 if_err_gives (Err x) e P h p = subst P (sym h) p
 
 -- a line that was taken, with the text that it has
-pub next-taken : (next : Next) (line : List ℕ) (before after : Option (List ℕ)) (taken : ℕ) (now : Reading) → (next ≡ End → ⊥) →
+pub next-taken : (next : Next) (line : List ℕ) (before after : Option (List ℕ)) (taken : ℕ) (now : ScriptReading) → (next ≡ End → ⊥) →
     (next ≡ Line → TakesLine SCRIPT_MOST before after taken now line) → (next ≡ TooLong → TakesLong LINE_MOST SCRIPT_MOST before after taken now) →
     HasTaken (text_of next line) before after taken now
 next-taken Line line before after taken now more takes long = record { line = line; takes = takes refl; asks = λ asked h. h }

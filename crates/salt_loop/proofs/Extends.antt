@@ -1,6 +1,6 @@
 -- A played trace is told by its lines and its story: where another one has more of both, it goes on from this one.
 use Rattle.law_states.proofs.PointsGoOn.{story-on}
-use Rattle.law_states.specs.Points.{Ask, Move, Say, Turn, moved, told_by, trace_on}
+use Rattle.law_states.specs.Points.{Ask, TraceStep, Say, Turn, moved, told_by, trace_on}
 use Rattle.salt_model.specs.Next.{next}
 use Rattle.salt_model.specs.Phases.{Phase, Serving, phase}
 use Rattle.salt_model.specs.Played.{IsPlayed}
@@ -18,13 +18,13 @@ use Rattle.std.specs.Prelude.{IsTrue, List, None, Option, Some, [], false, refl,
 
 -- a trace by its moves
 
-abbrev moves_of : Trace → List Move
+abbrev moves_of : Trace → List TraceStep
 moves_of (from k) = []
 moves_of (trace asks asked) = moves_of trace ++ Ask asked ∷ []
 moves_of (trace turns b) = moves_of trace ++ Turn b ∷ []
 moves_of (trace says e) = moves_of trace ++ Say e ∷ []
 
-on-both : (trace : Trace) (ms ns : List Move) → trace_on trace (ms ++ ns) ≡ trace_on (trace_on trace ms) ns
+on-both : (trace : Trace) (ms ns : List TraceStep) → trace_on trace (ms ++ ns) ≡ trace_on (trace_on trace ms) ns
 on-both trace [] ns = refl
 on-both trace (m ∷ ms) ns = on-both (moved trace m) ms ns
 
@@ -34,7 +34,7 @@ by-moves (trace asks asked) = ap (λ t. t asks asked) (by-moves trace) ∙ sym (
 by-moves (trace turns b) = ap (λ t. t turns b) (by-moves trace) ∙ sym (on-both (from (start_of trace)) (moves_of trace) (Turn b ∷ []))
 by-moves (trace says e) = ap (λ t. t says e) (by-moves trace) ∙ sym (on-both (from (start_of trace)) (moves_of trace) (Say e ∷ []))
 
-abbrev asked_in : List Move → List Asked
+abbrev asked_in : List TraceStep → List Asked
 asked_in [] = []
 asked_in (Ask asked ∷ ms) = asked ∷ asked_in ms
 asked_in (Turn b ∷ ms) = asked_in ms
@@ -48,7 +48,7 @@ nil-behind : (xs : List Asked) → xs ++ [] ≡ xs
 nil-behind [] = refl
 nil-behind (x ∷ xs) = ap (λ l. x ∷ l) (nil-behind xs)
 
-lines-on : (ms : List Move) (trace : Trace) → lines_of (trace_on trace ms) ≡ lines_of trace ++ asked_in ms
+lines-on : (ms : List TraceStep) (trace : Trace) → lines_of (trace_on trace ms) ≡ lines_of trace ++ asked_in ms
 lines-on [] trace = sym (nil-behind (lines_of trace))
 lines-on (Ask asked ∷ ms) trace = lines-on ms (trace asks asked) ∙ append-one (lines_of trace) (asked_in ms) asked
 lines-on (Turn b ∷ ms) trace = lines-on ms (trace turns b)
@@ -56,7 +56,7 @@ lines-on (Say e ∷ ms) trace = lines-on ms (trace says e)
 
 -- what is played and up is so before its last moves
 
-played-before : (ms : List Move) (trace : Trace) → IsPlayed (trace_on trace ms) → IsPlayed trace
+played-before : (ms : List TraceStep) (trace : Trace) → IsPlayed (trace_on trace ms) → IsPlayed trace
 played-before [] trace p = p
 played-before (Ask asked ∷ ms) trace p = (played-before ms (trace asks asked) p).0
 played-before (Turn b ∷ ms) trace p = (played-before ms (trace turns b) p).0
@@ -101,14 +101,14 @@ nothing-asked : (xs : List Asked) (x : Asked) → [] ≡ xs ++ x ∷ [] → ⊥
 nothing-asked [] x e = cc
 nothing-asked (y ∷ xs) x e = cc
 
-abbrev GoesOn : List Move → List Move → Type 0
-GoesOn ms ns = (rest : List Move) × (ns ≡ ms ++ rest)
+abbrev GoesOn : List TraceStep → List TraceStep → Type 0
+GoesOn ms ns = (rest : List TraceStep) × (ns ≡ ms ++ rest)
 
-also : (m n : Move) (ms ns : List Move) → n ≡ m → GoesOn ms ns → GoesOn (m ∷ ms) (n ∷ ns)
+also : (m n : TraceStep) (ms ns : List TraceStep) → n ≡ m → GoesOn ms ns → GoesOn (m ∷ ms) (n ∷ ns)
 also m n ms ns same g = (g.0, ap (λ x. x ∷ ns) same ∙ ap (λ l. m ∷ l) g.1)
 
 -- after the second's moves one more line is asked, and its story has gained events
-goes-on : (trace : Trace) (ms ns : List Move) (asked : Asked) (more : List Event) → IsPlayed (trace_on trace ms) → IsPlayed (trace_on trace ns) →
+goes-on : (trace : Trace) (ms ns : List TraceStep) (asked : Asked) (more : List Event) → IsPlayed (trace_on trace ms) → IsPlayed (trace_on trace ns) →
     asked_in ns ≡ asked_in ms ++ asked ∷ [] → told_by ns ≡ told_by ms ++ more → GoesOn ms ns
 goes-on trace [] ns asked more p q lines story = (ns, refl)
 goes-on trace (m ∷ ms) [] asked more p q lines story = absurd (nothing-asked (asked_in (m ∷ ms)) asked lines)
@@ -145,16 +145,16 @@ goes-on trace (Say e ∷ ms) (Turn b ∷ ns) asked more p q lines story =
 
 -- the other trace is this one with more moves
 pub extends : (trace after : Trace) (asked : Asked) (more : List Event) → start_of after ≡ start_of trace → IsPlayed trace → IsPlayed after →
-    lines_of after ≡ lines_of trace ++ asked ∷ [] → story_of after ≡ story_of trace ++ more → (rest : List Move) × (after ≡ trace_on trace rest)
+    lines_of after ≡ lines_of trace ++ asked ∷ [] → story_of after ≡ story_of trace ++ more → (rest : List TraceStep) × (after ≡ trace_on trace rest)
 extends trace after asked more start p q lines story = (g.0, there)
   where
     k : Start
     k = start_of trace
 
-    ms : List Move
+    ms : List TraceStep
     ms = moves_of trace
 
-    ns : List Move
+    ns : List TraceStep
     ns = moves_of after
 
     one : trace ≡ trace_on (from k) ms
@@ -185,13 +185,13 @@ none-behind : (xs ys : List Asked) (x y : Asked) → xs ++ x ∷ ys ≡ xs ++ y 
 none-behind [] ys x y e = tail x y ys [] e
 none-behind (z ∷ xs) ys x y e = none-behind xs ys x y (tail z z (xs ++ x ∷ ys) (xs ++ y ∷ []) e)
 
-same-line : (ms : List Move) (trace : Trace) → asked_in ms ≡ [] → story_before_line (trace_on trace ms) ≡ story_before_line trace
+same-line : (ms : List TraceStep) (trace : Trace) → asked_in ms ≡ [] → story_before_line (trace_on trace ms) ≡ story_before_line trace
 same-line [] trace h = refl
 same-line (Ask a ∷ ms) trace h = absurd (not-empty a (asked_in ms) (sym h))
 same-line (Turn b ∷ ms) trace h = same-line ms (trace turns b) h
 same-line (Say e ∷ ms) trace h = same-line ms (trace says e) h
 
-before-asked : (ms : List Move) (trace : Trace) (asked : Asked) → IsComplete trace → IsPlayed (trace_on trace ms) → lines_of (trace_on trace ms) ≡ lines_of trace ++ asked ∷ [] →
+before-asked : (ms : List TraceStep) (trace : Trace) (asked : Asked) → IsComplete trace → IsPlayed (trace_on trace ms) → lines_of (trace_on trace ms) ≡ lines_of trace ++ asked ∷ [] →
     story_before_line (trace_on trace ms) ≡ story_of trace
 before-asked [] trace asked c p lines = absurd (asked-none (lines_of trace) asked lines)
 before-asked (Say e ∷ ms) trace asked c p lines = absurd (none-stands trace e c.0 c.1 (played-before ms (trace says e) p).1)

@@ -1,7 +1,7 @@
 -- How far a run came in its script: from one line to the next, and where it ends.
 use Rattle.salt_values.specs.declared.limits.TheConstants.{SCRIPT_MOST}
 use Rattle.salt_io.proofs.ScriptLaws.{script_of-append}
-use Rattle.salt_io.specs.Lines.{IsCutOff, IsLineOf, IsReadingOf, Reading, TakesLine, TakesNoLine, lines_of, script_of, with_rest}
+use Rattle.salt_io.specs.Lines.{IsCutOff, IsLineOf, IsReadingOf, ScriptReading, TakesLine, TakesNoLine, lines_of, script_of, with_rest}
 use Rattle.salt_io.specs.Streams.{IsAtEnd, Takes, bytes_before}
 use Rattle.salt_promise.specs.Doing.{AreFirstLines, IsFrontOf}
 use Rattle.salt_promise.specs.declared.status.Status.TheVariants.{Done, ReadFault, ScriptTooLong}
@@ -61,14 +61,14 @@ none-taken used before after bytes is end takes some =
     absurd (omega (arith, length-append used b.0, ap length (sym b.2 ∙ none)))
 
 -- once the source told its end, nothing stands behind
-pub over-before : (reading : Reading) (left : Option (List ℕ)) → IsReadingOf reading left → reading.ended ≡ true → IsAtEnd (rest_of reading left)
+pub over-before : (reading : ScriptReading) (left : Option (List ℕ)) → IsReadingOf reading left → reading.ended ≡ true → IsAtEnd (rest_of reading left)
 over-before reading left of ended = let over = of ended in rw over.0 (nil-before left over.1)
   where
     nil-before : (left : Option (List ℕ)) → IsAtEnd left → IsAtEnd (bytes_before [] left)
     nil-before None h = tt
     nil-before (Some rest) h = h
 
-module _ (reading reading_after : Reading) (left : Option (List ℕ)) (after : Option (List ℕ)) (texts : List (List ℕ)) (text : List ℕ) (of : IsReadingOf reading left)
+module _ (reading reading_after : ScriptReading) (left : Option (List ℕ)) (after : Option (List ℕ)) (texts : List (List ℕ)) (text : List ℕ) (of : IsReadingOf reading left)
     (line : TakesLine SCRIPT_MOST (rest_of reading left) after reading.taken reading_after text) where
   next-line-place : (script : List ℕ) → IsAtLine script reading (rest_of reading left) texts → IsAtLine script reading_after after (texts ++ text ∷ [])
   next-line-place script at = by at.at_start
@@ -90,7 +90,7 @@ module _ (reading reading_after : Reading) (left : Option (List ℕ)) (after : O
   next-place (Some script) at = next-line-place script at
 
 -- the script's end
-pub end-place : (script : Option (List ℕ)) (reading : Reading) (rest left : Option (List ℕ)) (texts : List (List ℕ)) → IsAt script reading rest texts → IsAtEnd rest → reading.taken ≤ SCRIPT_MOST → AreLinesOf Done script left texts
+pub end-place : (script : Option (List ℕ)) (reading : ScriptReading) (rest left : Option (List ℕ)) (texts : List (List ℕ)) → IsAt script reading rest texts → IsAtEnd rest → reading.taken ≤ SCRIPT_MOST → AreLinesOf Done script left texts
 end-place None reading rest left texts at end within = tt
 end-place (Some script) reading rest left texts at end within =
     let b = behind script at.given rest at.whole in
@@ -99,7 +99,7 @@ end-place (Some script) reading rest left texts at end within =
     (at.lines ∙ ap lines_of (sym all), omega (arith, ap length all, at.counted))
 
 -- a source that failed, which had not told its end
-pub fault-place : (script : Option (List ℕ)) (reading : Reading) (before left : Option (List ℕ)) (texts : List (List ℕ)) → IsAt script reading before texts → reading.ended ≡ false
+pub fault-place : (script : Option (List ℕ)) (reading : ScriptReading) (before left : Option (List ℕ)) (texts : List (List ℕ)) → IsAt script reading before texts → reading.ended ≡ false
     → TakesNoLine (SCRIPT_MOST - reading.taken) before left → reading.taken ≤ SCRIPT_MOST → AreLinesOf ReadFault script left texts
 fault-place None reading before left texts at unended cut within = tt
 fault-place (Some script) reading before left texts at unended cut within = record {
@@ -120,7 +120,7 @@ fault-place (Some script) reading before left texts at unended cut within = reco
         both a b = cc
 
 -- a script of too many bytes
-pub long-place : (script : Option (List ℕ)) (reading : Reading) (before left : Option (List ℕ)) (texts : List (List ℕ)) → IsAt script reading before texts
+pub long-place : (script : Option (List ℕ)) (reading : ScriptReading) (before left : Option (List ℕ)) (texts : List (List ℕ)) → IsAt script reading before texts
     → (reading.ended ≡ true → IsAtEnd before) → IsCutOff (SCRIPT_MOST - reading.taken) before → reading.taken ≤ SCRIPT_MOST → AreLinesOf ScriptTooLong script left texts
 long-place None reading before left texts at over cut within = tt
 long-place (Some script) reading before left texts at over cut within = by at.at_start
@@ -149,7 +149,7 @@ long-place (Some script) reading before left texts at over cut within = by at.at
     by (inr ended) = let empty : b.0 ≡ [] = subst IsAtEnd b.1 (over ended) in absurd (omega (arith, ap length empty, cut_here.0))
 
 -- anywhere, the lines so far are the first lines
-first-lines : (script : List ℕ) (reading : Reading) (rest : Option (List ℕ)) (texts : List (List ℕ)) → IsAtLine script reading rest texts → (reading.ended ≡ true → IsAtEnd rest)
+first-lines : (script : List ℕ) (reading : ScriptReading) (rest : Option (List ℕ)) (texts : List (List ℕ)) → IsAtLine script reading rest texts → (reading.ended ≡ true → IsAtEnd rest)
     → reading.taken ≤ SCRIPT_MOST → AreFirstLines script texts
 first-lines script reading rest texts at over within = record {
   got = at.given;
@@ -169,7 +169,7 @@ first-lines script reading rest texts at over within = record {
         ([], ap lines_of (b.2 ∙ ap (λ l. at.given ++ l) empty ∙ append-nil at.given) ∙ sym at.lines ∙ sym (append-nil texts))
 
 -- so where a run ends in a line
-pub first-place : (s : Stop) → IsOfLine s → (script : Option (List ℕ)) (reading : Reading) (rest left : Option (List ℕ)) (texts : List (List ℕ)) → IsAt script reading rest texts
+pub first-place : (s : Stop) → IsOfLine s → (script : Option (List ℕ)) (reading : ScriptReading) (rest left : Option (List ℕ)) (texts : List (List ℕ)) → IsAt script reading rest texts
     → (reading.ended ≡ true → IsAtEnd rest) → reading.taken ≤ SCRIPT_MOST → AreLinesOf (status_of s) script left texts
 first-place s of None reading rest left texts at over within = tt
 first-place stop.Memory of (Some script) reading rest left texts at over within = first-lines script reading rest texts at over within

@@ -1,6 +1,6 @@
 -- The text of a story that goes on: what was told reads as it did, under the tables that are defined now.
 use Rattle.salt_ast.specs.declared.trees.TableDef.{TableDef}
-use Rattle.law_states.specs.Points.{Ask, Move, Say, Turn, trace_on}
+use Rattle.law_states.specs.Points.{Ask, TraceStep, Say, Turn, trace_on}
 use Rattle.salt_model.specs.After.{kept}
 use Rattle.salt_model.specs.EventTexts.{event_text, story_text}
 use Rattle.salt_model.specs.Kept.{WellKept, schema_of}
@@ -34,7 +34,7 @@ grows-by a b c g h = record { more = g.more ++ h.more; is = h.is ∙ ap (λ l. l
 grows-not : (a : List TableDef) → Grows a a
 grows-not a = record { more = []; is = sym (append-nil a) }
 
-grows-on : (ms : List Move) (trace : Trace) → Grows (schema_of (kept trace)) (schema_of (kept (trace_on trace ms)))
+grows-on : (ms : List TraceStep) (trace : Trace) → Grows (schema_of (kept trace)) (schema_of (kept (trace_on trace ms)))
 grows-on [] trace = grows-not (schema_of (kept trace))
 grows-on (Ask asked ∷ ms) trace = grows-on ms (trace asks asked)
 grows-on (Turn b ∷ ms) trace = grows-on ms (trace turns b)
@@ -42,7 +42,7 @@ grows-on (Say e ∷ ms) trace =
     grows-by (schema_of (kept trace)) (schema_of (kept (trace says e))) (schema_of (kept (trace_on (trace says e) ms))) (schema-grows trace e) (grows-on ms (trace says e))
 
 -- a played trace's story reads the same when there are more tables
-stays-on : (ms : List Move) (trace : Trace) → IsPlayed trace → WellKept (start_of trace).kept → text_under (trace_on trace ms) (story_of trace) ≡ text_under trace (story_of trace)
+stays-on : (ms : List TraceStep) (trace : Trace) → IsPlayed trace → WellKept (start_of trace).kept → text_under (trace_on trace ms) (story_of trace) ≡ text_under trace (story_of trace)
 stays-on ms trace p w =
     let g = grows-on ms trace in
     ap (λ schema. story_text schema (story_of trace)) g.is ∙ story-stays (schema_of (kept trace)) g.more (story_of trace) (shown-within trace p w)
@@ -53,7 +53,7 @@ pub grown-text : (start : Start) (trace after : Trace) (asked : Asked) (story to
     (text_under after story ≡ text_under trace story) × (text_under after told ≡ text_under trace story ++ text_under after (drop (length story) told))
 grown-text start trace after asked story told well one other lines grows = (same, whole)
   where
-    longer : (rest : List Move) × (after ≡ trace_on trace rest)
+    longer : (rest : List TraceStep) × (after ≡ trace_on trace rest)
     longer = extends trace after asked grows.0 (other.begins ∙ sym one.begins) one.played other.played lines (other.told ∙ grows.1 ∙ ap (λ es. es ++ grows.0) (sym one.told))
 
     same : text_under after story ≡ text_under trace story

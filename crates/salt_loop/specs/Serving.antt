@@ -1,7 +1,7 @@
 -- What holds of a run between its lines, and what a line adds.
 use Rattle.salt_ast.specs.declared.lines.Line.TheVariants.{Crash}
 use Rattle.salt_ast.specs.declared.lines.Line.{Line}
-use Rattle.salt_io.specs.Lines.{IsReadingOf, Reading, lines_of, script_of}
+use Rattle.salt_io.specs.Lines.{IsReadingOf, ScriptReading, lines_of, script_of}
 use Rattle.salt_io.specs.Streams.{Gains, GainsShort, IsAtEnd, bytes_before}
 use Rattle.salt_io.specs.declared.lines.Next.TheVariants.{TooLong}
 use Rattle.salt_io.specs.declared.lines.Next.{Next}
@@ -30,7 +30,7 @@ use Rattle.salt_storage.specs.declared.found.Numbers.{Numbers}
 use Rattle.std.specs.Prelude.{Bool, Err, List, None, Ok, Option, Result, Some, [], drop, false, length, true, ℕ, ⊤, ◌++◌, ◌∷◌, ◌≡◌, ◌≤◌, ◌⊎◌}
 
 -- The texts are the lines of the bytes that were given of a script, and the rest of it begins a line, or the source has told its end.
-pub record IsAtLine (script : List ℕ) (reading : Reading) (rest : Option (List ℕ)) (texts : List (List ℕ)) : Type 0 where
+pub record IsAtLine (script : List ℕ) (reading : ScriptReading) (rest : Option (List ℕ)) (texts : List (List ℕ)) : Type 0 where
   pub given : List ℕ
   pub whole : Some script ≡ bytes_before given rest
   pub counted : length given ≡ reading.taken
@@ -38,17 +38,17 @@ pub record IsAtLine (script : List ℕ) (reading : Reading) (rest : Option (List
   pub at_start : ((script_of given).rest ≡ []) ⊎ (reading.ended ≡ true)
 
 -- where the source tells its bytes
-abbrev pub IsAt : Option (List ℕ) → Reading → Option (List ℕ) → List (List ℕ) → Type 0
+abbrev pub IsAt : Option (List ℕ) → ScriptReading → Option (List ℕ) → List (List ℕ) → Type 0
 IsAt None reading rest texts = ⊤
 IsAt (Some script) reading rest texts = IsAtLine script reading rest texts
 
 -- the bytes that a reader has taken and not given, and those that its source has left
-abbrev pub rest_of : Reading → Option (List ℕ) → Option (List ℕ)
+abbrev pub rest_of : ScriptReading → Option (List ℕ) → Option (List ℕ)
 rest_of reading left = bytes_before reading.kept left
 
 -- a run between its lines, from this start: of a script, over a sink that held these bytes
 pub record IsServing {E : Type 0} (sees : E → Option Event → State → Type 0) (start : Start) (script before : Option (List ℕ)) (e : E)
-    (reading : Reading) (left : Option (List ℕ)) (story : List Event) (held : Option (List ℕ)) : Type 0 where
+    (reading : ScriptReading) (left : Option (List ℕ)) (story : List Event) (held : Option (List ℕ)) : Type 0 where
   pub trace : Trace
   pub texts : List (List ℕ)
   pub serves : Serves sees start e story trace
@@ -152,7 +152,7 @@ pub record IsBegun {E : Type 0} (sees : E → Option Event → State → Type 0)
 
 -- after a line: the run goes on, or the script was at its end
 abbrev pub IsAfterLine : {E : Type 0} → Bool → (E → Option Event → State → Type 0) → (lies : ℕ → Point → Type 0) (left : Option Numbers → ℕ → Point → Type 0) → (ToWrite → ℕ → Type 0) → Option Flight →
-    Start → (script before : Option (List ℕ)) → E → Reading → Option (List ℕ) → List Event → Option (List ℕ) → Type 0
+    Start → (script before : Option (List ℕ)) → E → ScriptReading → Option (List ℕ) → List Event → Option (List ℕ) → Type 0
 IsAfterLine true sees lies left fills flight start script before e reading rest story held = IsServing sees start script before e reading rest story held
 IsAfterLine false sees lies left fills flight start script before e reading rest story held =
     EndsServing lies left fills flight start status.Done script rest before story held × IsAtEnd rest

@@ -12,4 +12,4 @@ pub use loading::{Loaded, load};
 pub use salt_promise::Status;
 pub use serving::serve;
 pub use starting::tell_unfound;
-pub use stop::{Stop, status_of, stop_opening};
+pub use stop::{Stop, stop_opening};

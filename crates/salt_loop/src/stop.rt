@@ -54,6 +54,25 @@ impl From<LineErr> for Stop {
     }
 }
 
+/// How a run ends that stops so.
+impl From<Stop> for Status {
+    ghost from_gives = { λ stop status. status ≡ status_of stop };
+
+    fn from(stop: Stop) -> Status {
+        match stop {
+            Stop::Memory => Status::Memory,
+            Stop::ReadFault => Status::ReadFault,
+            Stop::WriteFault => Status::WriteFault,
+            Stop::DiskFault => Status::DiskFault,
+            Stop::NotSalt(dev) => Status::NotSalt(dev),
+            Stop::DeviceFull(dev) => Status::DeviceFull(dev),
+            Stop::OtherShape { kept, asked } => Status::OtherShape { kept, asked },
+            Stop::ScriptTooLong => Status::ScriptTooLong,
+            Stop::NumbersSpent { boot, decisions } => Status::NumbersSpent { boot, decisions },
+        }
+    }
+}
+
 /// Why a run ends whose opening is halted so. A stop of the devices ends no run: it is opened again.
 fn stop_at(halt: Halt) -> Stop
     requires { halt ≢ Stopped }
@@ -99,22 +118,5 @@ pub fn ran_short(done: &Result<(), Stop>) -> bool
     match done {
         Ok(()) => false,
         Err(stop) => is_memory(*stop),
-    }
-}
-
-/// How a run ends that stops so.
-pub fn status_of(stop: Stop) -> Status
-    ensures { result ≡ status_of stop }
-{
-    match stop {
-        Stop::Memory => Status::Memory,
-        Stop::ReadFault => Status::ReadFault,
-        Stop::WriteFault => Status::WriteFault,
-        Stop::DiskFault => Status::DiskFault,
-        Stop::NotSalt(dev) => Status::NotSalt(dev),
-        Stop::DeviceFull(dev) => Status::DeviceFull(dev),
-        Stop::OtherShape { kept, asked } => Status::OtherShape { kept, asked },
-        Stop::ScriptTooLong => Status::ScriptTooLong,
-        Stop::NumbersSpent { boot, decisions } => Status::NumbersSpent { boot, decisions },
     }
 }

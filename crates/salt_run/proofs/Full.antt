@@ -1,5 +1,5 @@
 -- Where a device is full: what is written next, told by the trace.
-use Rattle.salt_bytes.specs.Coordinator.{CoordinatorEntry, spell_header}
+use Rattle.salt_bytes.specs.Coordinator.{Boots, CoordinatorEntry, Defines, spell_header}
 use Rattle.salt_bytes.specs.Partition.{spell_partition_header}
 use Rattle.salt_commit.proofs.Shared.{mask_bit, share_is}
 use Rattle.salt_commit.specs.Openings.{PartPassesLimit, StorePassesLimit}
@@ -26,7 +26,7 @@ use Rattle.salt_model.specs.declared.events.End.TheVariants.{Branched, Committed
 use Rattle.salt_model.specs.declared.events.End.{End}
 use Rattle.salt_model.specs.declared.events.Event.TheVariants.{Defined, Ended}
 use Rattle.salt_model.specs.declared.events.Event.{Event}
-use Rattle.salt_promise.specs.Filling.{DecisionFills, FirstFills, NewPairFills, NextFills, coordinator_format, next_boot, next_decision, next_definition, partition_format}
+use Rattle.salt_promise.specs.Filling.{DecisionFills, FirstFills, NewPairFills, NextFills, coordinator_format, next_decision, partition_format}
 use Rattle.salt_promise.specs.Filling as promise
 use Rattle.salt_run.specs.Ending.{IsFullBehind}
 use Rattle.salt_loop.specs.Ending.{MayBeWritten}
@@ -35,9 +35,9 @@ use Rattle.salt_stands.specs.FirstOpening.{IsCreated, first_header, first_part_h
 use Rattle.salt_stands.specs.OpenConts.{make_move}
 use Rattle.salt_stands.specs.Partition.{part_device}
 use Rattle.salt_stands.specs.Placed.{changes_at}
-use Rattle.salt_stands.specs.Turning.{changes_of}
+use Rattle.salt_stands.specs.Turning.{changes_of, change_at}
 use Rattle.salt_stands.specs.Words.{has_bit}
-use Rattle.salt_driver.specs.Writing.{IsUnitWritten, IsWrittenBy, change_of, changes_decided}
+use Rattle.salt_driver.specs.Writing.{IsUnitWritten, IsWrittenBy, changes_decided}
 use Rattle.salt_storage.specs.Writing.{OfUnit, ToWrite}
 use Rattle.salt_values.specs.declared.change.Change.{Change}
 use Rattle.salt_values.specs.declared.id.Id.{Id}
@@ -103,7 +103,7 @@ module _ (d : View) (shape : Shape) (dev : ℕ) where
     committed : (u : Id) (n : ℕ) → Good trace (Ended u (Committed n)) → changes_decided (Committed n) (unit_named u s.units) ≡ changes_of u trace
     committed u n good =
         let r = open-listed s trace u ground keeps.state.units good.0 in
-        ap (changes_decided (Committed n)) r.1 ∙ ap (map change_of) (sym r.3.changes) ∙ ap (λ (v : Id). changes_of v trace) r.2
+        ap (changes_decided (Committed n)) r.1 ∙ ap (map change_at) (sym r.3.changes) ∙ ap (λ (v : Id). changes_of v trace) r.2
 
     decision : (u : Id) (end : End) (cs : List Change) → Good trace (Ended u end) → (w : ToWrite) → Fills d shape w dev → IsUnitWritten s u end w → changes_decided end (unit_named u s.units) ≡ cs →
         promise.ShareFills d shape u cs dev ⊎ DecisionFills d shape trace (Ended u end) u cs dev
@@ -128,7 +128,7 @@ module _ (d : View) (shape : Shape) (dev : ℕ) where
     told-next Fallen is (Some e) comes good w h fills = let both : None ≡ Some e = sym (nothing-fallen trace played is) ∙ comes in absurd (cc both)
     told-next ph is (Some (Ended u (Committed n))) comes good w h fills = decision u (Committed n) (changes_of u trace) good w fills h (committed u n good)
     told-next ph is (Some (Ended u (Branched n cause))) comes good w h fills = elim (decision u (Branched n cause) [] good w fills h refl) [ inl f ↦ absurd (no-share u f) | inr f ↦ f ]
-    told-next ph is (Some (Defined n text)) comes good w h fills = entry-fills (next_definition text) (subst (λ (v : ToWrite). Fills d shape v dev) h fills)
+    told-next ph is (Some (Defined n text)) comes good w h fills = entry-fills (λ (log : CoordinatorLog). Defines (record { number = log.told.decisions + 1; text = text })) (subst (λ (v : ToWrite). Fills d shape v dev) h fills)
     told-next ph is o comes good w h fills = absurd h
 
 pub full-behind : (d : View) (shape : Shape) (trace : Trace) (dev : ℕ) → IsPlayed trace → IsFullBehind d shape trace dev → promise.IsFullBehind d shape trace dev
@@ -140,4 +140,4 @@ full-behind d shape trace dev played f = by f.writes
         (subst (λ (o : Option Event). IsWrittenBy f.point.state.units o f.next) (sym f.keeps.next) h) f.fills
     by (inr h) =
         subst (λ (ph : Phase). NextFills d shape trace ph (next trace) dev) (sym (f.keeps.state.units.phase ∙ h.0))
-        (inr (entry-fills d shape dev next_boot (subst (λ (v : ToWrite). Fills d shape v dev) h.1 f.fills)))
+        (inr (entry-fills d shape dev (λ (log : CoordinatorLog). Boots (log.told.boot + 1)) (subst (λ (v : ToWrite). Fills d shape v dev) h.1 f.fills)))

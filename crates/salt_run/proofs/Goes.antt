@@ -4,6 +4,7 @@ use Rattle.law_definitions.specs.Texts.{definition_in}
 use Rattle.salt_stands.specs.Fitting.{kept_in}
 use Rattle.salt_devices.specs.Refusing.{RefusedAs, Refuses}
 use Rattle.salt_disk.specs.Disks.{SameShape}
+use Rattle.salt_model.specs.Arming.{armed_behind}
 use Rattle.salt_model.specs.Kept.{Definition, Kept, WellKept, nothing_kept}
 use Rattle.salt_model.specs.Trace.{Trace}
 use Rattle.salt_promise.specs.Doing as promise
@@ -36,7 +37,7 @@ use Rattle.salt_place.specs.Placement.{IsParts}
 use Rattle.salt_place.specs.declared.placement.Shape.{Shape}
 use Rattle.salt_promise.specs.declared.command.Command.{Command}
 use Rattle.std.proofs.Common.{ap, inl, inr, subst, sym, ◌∙◌}
-use Rattle.std.specs.Prelude.{Bool, IsTrue, [], false, refl, true, ℕ, ◌≡◌, ◌≤◌, ◌⊎◌}
+use Rattle.std.specs.Prelude.{Bool, IsTrue, Some, [], false, refl, true, ℕ, ◌≡◌, ◌≤◌, ◌⊎◌}
 
 not-told : (told : Bool) → told ≡ false → IsTrue told → ⊥
 not-told told is t = let both : false ≡ true = sym is ∙ t in absurd (cc both)
@@ -57,7 +58,7 @@ ends-anyway halt.Memory status (inl is) full = subst EndsAnyway (sym is) (record
 
 module _ (reads : IsReader definition_in) (r : Run) (command : Command) (parts : IsParts (shape_of command).parts)
     (count : 26 ≤ r.before.devices.count) (shape : SameShape r.before.devices r.after.devices) (does : (trace : Trace) → Does command r.status (streams_of r) trace → promise.Does command r trace)
-    (stops : Stops r.status r.before.devices.armed r.story r.after.devices.armed) where
+    (stops : Stops r.status (armed_behind r.story (Some r.before.devices.armed)) r.after.devices.armed) where
   abbrev Goes : Type 0
   Goes = promised.FindsNothing r command ⊎ promised.RunsOver r command
 

@@ -1,6 +1,7 @@
 -- A run over what its devices stood for is as promised.
 use Rattle.law_definitions.specs.Texts.{definition_in}
 use Rattle.salt_io.specs.Streams.{IsAtEnd}
+use Rattle.salt_model.specs.Arming.{armed_behind}
 use Rattle.salt_model.specs.Trace.{Trace, lines_of, story_of}
 use Rattle.salt_promise.specs.Doing.{DoesLoad, DoesScript}
 use Rattle.salt_promise.specs.Doing as promise
@@ -23,7 +24,7 @@ use Rattle.salt_place.specs.declared.placement.Shape.{Shape}
 use Rattle.salt_promise.specs.declared.command.Command.TheVariants.{Load, Script}
 use Rattle.salt_promise.specs.declared.command.Command.{Command}
 use Rattle.std.proofs.Common.{subst}
-use Rattle.std.specs.Prelude.{List, length, ℕ, ◌≡◌, ◌≤◌}
+use Rattle.std.specs.Prelude.{List, Some, length, ℕ, ◌≡◌, ◌≤◌}
 
 module _ (r : Run) where
   abbrev pub streams_of : Streams
@@ -46,7 +47,7 @@ module _ (r : Run) where
 
   module _ (reads : IsReader definition_in) (command : Command) (parts : IsParts (shape_of command).parts) (count : 26 ≤ r.before.devices.count) where
     pub over : IsNoRefusal r.status → (x : RunsOver command r.before.devices r.after.devices r.status r.flight streams_of r.story) → promise.Does command r x.replays.trace →
-        Stops r.status r.before.devices.armed r.story r.after.devices.armed → promised.RunsOver r command
+        Stops r.status (armed_behind r.story (Some r.before.devices.armed)) r.after.devices.armed → promised.RunsOver r command
     over may x does stops = record {
       start = x.start;
       trace = x.replays.trace;

@@ -1,13 +1,13 @@
 -- Faults and stops, as a run counts them.
 use Rattle.law_story.proofs.Arming.{armed-same}
 use Rattle.salt_disk.specs.Disks.{Rose}
-use Rattle.salt_model.specs.Arming.{armed_behind}
+use Rattle.salt_model.specs.Arming.{armed_behind, armed_by_lines}
 use Rattle.salt_model.specs.Played.{Tells}
 use Rattle.salt_model.specs.Trace.{Start, Trace}
 use Rattle.salt_model.specs.declared.events.Event.TheVariants.{Down}
 use Rattle.salt_model.specs.declared.events.Event.{Event}
 use Rattle.salt_model.specs.declared.events.Why.TheVariants as why
-use Rattle.salt_promise.specs.Counting.{AreArmed, Downs, RiseBehind, RiseTo, Stops, StopsByLines}
+use Rattle.salt_promise.specs.Counting.{AreArmed, Downs, RiseBehind, RiseTo, Stops}
 use Rattle.salt_promise.specs.declared.status.Status.{Status}
 use Rattle.salt_promise.specs.declared.status.Status.TheVariants.{DiskFault, Memory}
 use Rattle.salt_loop.specs.Counted.{AreFaults, AreFaultsOf, AreMet, AreStopsOf}
@@ -32,7 +32,8 @@ pub downs-of : (status : Status) (first : ℕ) (story : List Event) (last : ℕ)
 downs-of DiskFault first story last h = falls DiskFault h.0 last (λ a low. (let most = h.2 in omega arith, rose-from a h.0 last low h.3)) first story h.1
 downs-of status first story last h = falls status last last (λ a low. low) first story h
 
-pub stops-of : (status : Status) (first : List (ℕ × ℕ)) (story : List Event) (last : List (ℕ × ℕ)) → AreStopsOf status first story last → Stops status first story last
+pub stops-of : (status : Status) (first : List (ℕ × ℕ)) (story : List Event) (last : List (ℕ × ℕ)) → AreStopsOf status first story last →
+    Stops status (armed_behind story (Some first)) last
 stops-of status first story last h = record { stops = h.stops; behind = h.behind; are = by status h.are }
   where
     by : (s : Status) → ((s ≡ Memory → ⊥) → last ≡ h.stops) → AreArmed s h.stops last
@@ -41,7 +42,7 @@ stops-of status first story last h = record { stops = h.stops; behind = h.behind
 
 -- and by the lines of its trace: commits do not go over messages, so each is armed by a `crash`
 pub stops-by-lines : (status : Status) (first : List (ℕ × ℕ)) (start : Start) (trace : Trace) (story : List Event) (last : List (ℕ × ℕ)) → Tells start trace story →
-    start.over_net ≡ false → Stops status first story last → StopsByLines status first trace last
+    start.over_net ≡ false → Stops status (armed_behind story (Some first)) last → Stops status (armed_by_lines first trace) last
 stops-by-lines status first start trace story last tells off h = record {
   stops = h.stops;
   behind =

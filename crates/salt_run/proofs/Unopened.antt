@@ -3,6 +3,7 @@ use Rattle.law_definitions.specs.Texts.{definition_in}
 use Rattle.salt_devices.specs.Leaving.{StandsFor}
 use Rattle.salt_disk.specs.Disks.{IsImage}
 use Rattle.salt_model.specs.After.{kept}
+use Rattle.salt_model.specs.Arming.{armed_behind}
 use Rattle.salt_model.specs.Everywhere.{Always}
 use Rattle.salt_model.specs.Kept.{Kept, WellKept}
 use Rattle.salt_model.specs.Next.{next}
@@ -39,7 +40,7 @@ use Rattle.salt_storage.specs.declared.open.OpenErr.TheVariants as open_err
 use Rattle.salt_storage.specs.declared.open.OpenErr.TheVariants.{Halted}
 use Rattle.salt_promise.specs.declared.command.Command.{Command}
 use Rattle.std.proofs.Common.{ap, arith, inl, inr, subst, sym, ◌∙◌}
-use Rattle.std.specs.Prelude.{IsTrue, List, [], refl, suc, true, zero, ℕ, ◌+◌, ◌++◌, ◌∷◌, ◌≡◌}
+use Rattle.std.specs.Prelude.{IsTrue, List, Some, [], refl, suc, true, zero, ℕ, ◌+◌, ◌++◌, ◌∷◌, ◌≡◌}
 
 -- A TRACE of nothing but stops
 
@@ -120,7 +121,7 @@ module _ (reads : IsReader definition_in) (r : Run) (command : Command)
     (x : FindsNothing command r.before.devices r.after.devices r.status r.flight (streams_of r) r.story)
     (k : Kept) (well : WellKept k) (ends : IsEndOver k r.status) (opens : IsTrue r.before.devices.told → OpenAs (shape_of command) r.before.devices.bytes k)
     (rests : IsTrue r.after.devices.told → (image : ℕ → List ℕ) → IsImage r.after.devices image → StandsFor (shape_of command) image k)
-    (stops : Stops r.status r.before.devices.armed r.story r.after.devices.armed) where
+    (stops : Stops r.status (armed_behind r.story (Some r.before.devices.armed)) r.after.devices.armed) where
   abbrev start : Start
   start = plain_start k r.before.devices.can_stop
 

@@ -29,7 +29,7 @@ use salt_devices::Devices;
 use salt_disk::Disks;
 use salt_driver::{Openable, find};
 use salt_io::{Sink, Source};
-use salt_loop::{Loaded, Stop, load, serve, status_of, stop_opening, tell_unfound};
+use salt_loop::{Loaded, Stop, load, serve, stop_opening, tell_unfound};
 use salt_model::{Flight, Story};
 use salt_place::{PlaceKind, Placement, Shape};
 use salt_promise::{Command, Ended, Status};
@@ -54,7 +54,7 @@ fn status_behind(done: Result<(), Stop>) -> Status
 {
     match done {
         Ok(()) => Status::Done,
-        Err(stop) => status_of(stop),
+        Err(stop) => Status::from(stop),
     }
 }
 
@@ -183,7 +183,7 @@ pub fn run_load<K: Sink, D: Disks, F: Fn(PlaceKind, &Key, u32) -> u32>(
             }
         }
         Err(reason) => Ended {
-            status: write_summary(calls, 0, status_of(stop_opening(reason)), sink, &story),
+            status: write_summary(calls, 0, Status::from(stop_opening(reason)), sink, &story),
             story,
             flight: None,
         },

@@ -98,7 +98,7 @@ returns-in-Err-clause-runs g c left =
     let status = c.write_summary.result in
     let s = streams left left (g.K.Sink.held c.args.sink.now) (g.K.Sink.held c.write_summary.new.sink) in
     let old = status_opening c.in-Err.reason in
-    let how = behind-outcome old c.status_of.result status (c.status_of.ensures ∙ ap status_of c.stop_opening.ensures.is) c.write_summary.ensures.written in
+    let how = behind-outcome old c.from.result status (c.from.ensures ∙ ap status_of c.stop_opening.ensures.is) c.write_summary.ensures.written in
     let run : (start : Start) → IsPlayedLoad start status None c.args.calls 0 c.find.new.story = λ start. unfound-load c.args.calls old status how start c.find.new.story (unfound-loaded c.in-Err.reason c.args.calls c.find.new.story c.find.ensures.unfound c.in-Err.ensures.err.empty start) in
     as-told (Load c.args.calls) d e s c.find.new.story status status None None refl (sym (flight-none status))
     (inr (nothing (Load c.args.calls) d z.started z.shape c.new-devices.ensures.started (c.new-devices.ensures.shape ∙ c.shape.ensures) e y.shape y.started c.find.ensures.within.asked c.in-Err.ensures.rests
@@ -110,7 +110,7 @@ returns-in-Err-clause-downs g c =
     let view = g.D.Disks.view in
     let status = c.write_summary.result in
     let old = status_opening c.in-Err.reason in
-    let how = behind-outcome old c.status_of.result status (c.status_of.ensures ∙ ap status_of c.stop_opening.ensures.is) c.write_summary.ensures.written in
+    let how = behind-outcome old c.from.result status (c.from.ensures ∙ ap status_of c.stop_opening.ensures.is) c.write_summary.ensures.written in
     (unfound-counts (view c.args.disks.now) (view c.find.new.disks) c.in-Err.reason status c.find.new.story (λ is. c.find.ensures.unstopped (c.in-Err.is ∙ ap Err is)) c.in-Err.ensures.counts
     (unfound-status c.in-Err.reason old status refl how)).faults
 
@@ -119,7 +119,7 @@ returns-in-Err-clause-stops g c =
     let view = g.D.Disks.view in
     let status = c.write_summary.result in
     let old = status_opening c.in-Err.reason in
-    let how = behind-outcome old c.status_of.result status (c.status_of.ensures ∙ ap status_of c.stop_opening.ensures.is) c.write_summary.ensures.written in
+    let how = behind-outcome old c.from.result status (c.from.ensures ∙ ap status_of c.stop_opening.ensures.is) c.write_summary.ensures.written in
     (unfound-counts (view c.args.disks.now) (view c.find.new.disks) c.in-Err.reason status c.find.new.story (λ is. c.find.ensures.unstopped (c.in-Err.is ∙ ap Err is)) c.in-Err.ensures.counts
     (unfound-status c.in-Err.reason old status refl how)).stops
 
