@@ -1,0 +1,9 @@
+pub mod Fronts
+pub mod Lists
+pub mod Values
+pub mod Names
+pub mod Definitions
+pub mod Reading
+pub mod Refusing
+pub mod Items
+pub mod Lines
