@@ -1,0 +1,9 @@
+use Rattle.salt_audit.proofs.conts.branch.Goals as goal
+use Rattle.salt_audit.specs.Telling.{branched_by}
+use Rattle.salt_model.specs.declared.events.UnitKind.{UnitKind}
+use Rattle.std.proofs.Common.{ap, sym, ◌∙◌}
+use Rattle.std.proofs.lemmas.Result.{on_ok_weaker}
+
+pub returns-in-Later : goal.returns-in-Later
+returns-in-Later c =
+    on_ok_weaker c.later.result (λ e. e ∙ sym (ap (λ (kind : UnitKind). branched_by c.args.catalogue.now kind c.args.conts.now) c.in-Later.is)) c.later.ensures

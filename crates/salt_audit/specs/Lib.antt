@@ -1,0 +1,12 @@
+pub mod Retelling
+pub mod Formed
+pub mod Laws
+pub mod Verdicts
+pub mod Transcripts
+pub mod Stories
+pub mod Order
+pub mod Standing
+pub mod Knowing
+pub mod Telling
+pub mod Replaying
+pub mod Rows
