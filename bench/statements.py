@@ -9,12 +9,13 @@ Prints for each kind and size the statements per second of both (of a sum, the r
 cost grew from the size before. Ends with 1 where Salt is slower than half of sqlite3, or where a statement on one row costs more than
 twice as much at the last size as at the first.
 
-    bench/statements.py [PROGRAM]     with the program of another commit
+    bench/statements.py [PROGRAM]                    with the program of another commit
+    bench/statements.py --instructions [PROGRAM]     what a statement on one row costs, in instructions, which do not vary; judges nothing
 """
 import random, sys
 from pathlib import Path
 
-from timing import made, processor_seconds
+from timing import instructions, made, processor_seconds
 
 ROUNDS = 5
 SIZES = [1_000, 10_000, 100_000]
@@ -24,6 +25,9 @@ SUMMED = 10_000_000
 WIDTH = 100
 GROWTH = 2.0
 SLOWEST = 0.5
+# Statements that are counted of each kind, and the seconds that a count may take.
+COUNTED = 2_000
+LIMIT = 60
 
 # How often a kind of statement is done over so many rows, and its text at a key.
 KINDS = {
@@ -86,8 +90,26 @@ def tell(kind, rows, count, programs, took):
     return ratio
 
 
+def counted(program):
+    """Prints what a statement on one row costs the program, and sqlite3 beside it."""
+    for rows in SIZES[:2]:
+        filled = inserts(rows)
+        more = [f"insert into t values ({rows + key}, {key % 1_000}, 'item {key}')" for key in range(COUNTED)]
+        points = {kind: asked(kind, rows)[:COUNTED] for kind in KINDS if kind in ("point select", "point update", "delete")}
+        for kind, work in {"insert": more, **points}.items():
+            costs = []
+            for command, script_of in [([program, "run"], salt_script), (["sqlite3", ":memory:"], sqlite_script)]:
+                fewer, all_of_it = (instructions(command, script_of(statements), LIMIT) for statements in [filled, filled + work])
+                costs.append((all_of_it - fewer) / len(work))
+            print(f"{kind:12} {rows:7} rows: {costs[0]:7.0f} instructions, sqlite3 {costs[1]:7.0f}, ratio {costs[1] / costs[0]:5.2f}", flush=True)
+
+
 def main():
-    salt = Path(sys.argv[1]) if len(sys.argv) > 1 else made("salt", "run")
+    words = [word for word in sys.argv[1:] if word != "--instructions"]
+    salt = Path(words[0]) if words else made("salt", "run")
+    if "--instructions" in sys.argv:
+        counted(salt)
+        return 0
     programs = [Measured([salt, "run"], salt_script), Measured(["sqlite3", ":memory:"], sqlite_script)]
     ratios = []
     for rows in SIZES:
