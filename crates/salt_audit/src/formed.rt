@@ -226,7 +226,7 @@ fn may_come(alloc: Global, state: &State, event: &Event) -> Result<bool, AllocEr
             unit,
             statement,
             answer: _answer,
-        } => may_do(alloc, state, *unit, statement),
+        } => may_do(alloc, state, *unit, statement.get()),
         Event::Waits {
             unit,
             owners: _owners,

@@ -8,6 +8,7 @@ use crate::kinds::{family_of, program_of};
 use salt_ast::{Line, Statement};
 use salt_model::{Family, Reach};
 use salt_values::{Id, TryCopy};
+use sqlite_items::Boxed;
 use std::alloc::AllocError;
 
 /// An open unit's next statement, and what that would reach.
@@ -17,7 +18,7 @@ pub struct Asking {
     /// The BASE program of the unit, if it is of one.
     pub base: Option<Id>,
     pub family: Family,
-    pub statement: Statement,
+    pub statement: Boxed<Statement>,
     pub reach: Option<Reach>,
 }
 
@@ -39,7 +40,7 @@ impl Books {
             unit,
             base: program_of(&held.kind),
             family: family_of(&held.kind),
-            statement: statement.copy(self.alloc)?,
+            statement: Boxed::new(self.alloc, statement.copy(self.alloc)?)?,
             reach: self.reach(held, statement)?,
         }))
     }

@@ -26,6 +26,7 @@ use salt_cont::Move;
 use salt_eval::Tables;
 use salt_model::Answer;
 use salt_values::Id;
+use sqlite_items::Boxed;
 use std::alloc::AllocError;
 
 impl Books {
@@ -34,7 +35,7 @@ impl Books {
         &mut self,
         unit: Id,
         rows: &Tables,
-        statement: &Statement,
+        statement: &Boxed<Statement>,
     ) -> Result<Answer, AllocError>
         requires there { HaveUnit self.old unit }
         requires leaves_keys { leaves_keys self.old.known.schema statement.now ≡ true }
@@ -48,7 +49,7 @@ impl Books {
     {
         let at = self.place(unit);
         let schema = self.known.schema();
-        let answer = self.units[at].act(self.alloc, rows, schema, statement)?;
+        let answer = self.units[at].act(self.alloc, rows, schema, statement.get())?;
         Ok(answer)
     }
 

@@ -14,7 +14,7 @@ use crate::statements::{answer, before_arrow, behind_arrow, statement};
 use salt_model::{Event, Why};
 use salt_tokens::same_bytes;
 use salt_values::Id;
-use sqlite_items::Items;
+use sqlite_items::{Boxed, Items};
 use std::alloc::{AllocError, Global};
 
 fn began(alloc: Global, unit: Id, bytes: &[u8]) -> Result<Option<Event>, AllocError>
@@ -51,7 +51,7 @@ fn did(alloc: Global, unit: Id, bytes: &[u8]) -> Result<Option<Event>, AllocErro
     };
     Ok(Some(Event::Did {
         unit,
-        statement,
+        statement: Boxed::new(alloc, statement)?,
         answer,
     }))
 }

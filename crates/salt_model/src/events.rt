@@ -3,7 +3,7 @@
 use crate::shown::Items as ShownItems;
 use salt_ast::{LimitName, Pairs, Statement};
 use salt_values::{Bytes, Id, Ids, Name, Row, Rows, Value};
-use sqlite_items::Items;
+use sqlite_items::{Boxed, Items};
 
 /// A unit, or a BASE program.
 #[derive(Clone, Copy, Debug, PartialEq, Eq)]
@@ -182,7 +182,8 @@ pub enum Event {
     /// A unit's statement is done.
     Did {
         unit: Id,
-        statement: Statement,
+        /// Boxed: each event takes the room of the widest, and is moved often.
+        statement: Boxed<Statement>,
         answer: Answer,
     },
     /// A unit's statement clashes with what these hold.

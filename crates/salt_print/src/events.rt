@@ -78,7 +78,7 @@ fn print_event_line<K: Sink>(out: &mut Printer<'_, K>, schema: &Schema, event: &
             answer,
         } => {
             print_unit(out, *unit);
-            print_did(out, statement, answer);
+            print_did(out, statement.get(), answer);
         }
         Event::Waits { unit, owners } => {
             print_unit(out, *unit);

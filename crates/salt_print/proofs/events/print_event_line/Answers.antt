@@ -5,7 +5,7 @@ pub returns-in-Began : goal.returns-in-Began
 returns-in-Began g c = rw c.in-Began.is (c.print_unit.ensures ⨾ c.print_kind.ensures)
 
 pub returns-in-Did : goal.returns-in-Did
-returns-in-Did g c = rw c.in-Did.is (c.print_unit-in-Did.ensures ⨾ c.print_did.ensures)
+returns-in-Did g c = rw (c.in-Did.is, ← c.get.ensures) (c.print_unit-in-Did.ensures ⨾ c.print_did.ensures)
 
 pub returns-in-Waits : goal.returns-in-Waits
 returns-in-Waits g c =
