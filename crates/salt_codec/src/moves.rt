@@ -6,7 +6,7 @@ ghost use Rattle.salt_bytes.specs.Taking.{take_byte, take_bytes, then_take};
 ghost use Rattle.salt_bytes.specs.Values.{spell_values, take_values};
 ghost use Rattle.salt_codec.specs.Moves.{IsShort, IsShortMove, take_place, take_standing};
 ghost use Rattle.salt_codec.specs.Taking.{Takes};
-ghost use Rattle.std.specs.Prelude.{IfOk, if◌then◌else◌, is_ok, length, ◌++◌, ◌<◌, ◌∷◌, ◌≡◌};
+ghost use Rattle.std.specs.Prelude.{IfOk, length, ◌++◌, ◌<◌, ◌∷◌, ◌≡◌};
 
 use crate::error::TakeErr;
 use crate::put::{with_byte, with_bytes, with_id, with_u32, with_u64, with_values};
@@ -16,8 +16,8 @@ use salt_values::{Cont, Id, Name, Row};
 use sqlite_items::Items;
 use std::alloc::{AllocError, Global};
 
-/// A guess at how many bytes a move takes.
-const ROOM_OF_MOVE: usize = 64;
+/// A guess at how many bytes a move takes: that of a program that goes on with three arguments takes some 70.
+const ROOM_OF_MOVE: usize = 128;
 
 /// Whether NULL is spelled under this format.
 pub fn has_nulls(format: u8) -> bool
@@ -88,15 +88,14 @@ fn with_move(out: Vec<u8>, format: u8, made: &Move) -> Result<Vec<u8>, AllocErro
     }
 }
 
-/// Appends the spelling of a move, whose name has at most 255 bytes, and each of its lists at most 255 values. Where memory runs
-/// out nothing is appended.
-pub fn put_move(out: &mut Vec<u8>, format: u8, made: &Move) -> Result<(), AllocError>
+/// The spelling of a move, whose name has at most 255 bytes, and each of its lists at most 255 values.
+pub fn spelled_move(alloc: Global, format: u8, made: &Move) -> Result<Vec<u8>, AllocError>
     requires { IsShortMove made.now }
-    ensures { out.new.items ≡ (if is_ok result then out.old.items ++ spell_move format made.now else out.old.items) }
+    ensures { IfOk result (λ spelled. spelled.items ≡ spell_move format made.now) }
 {
-    let room = Vec::with_capacity(*out.allocator(), ROOM_OF_MOVE)?;
+    let room = Vec::with_capacity(alloc, ROOM_OF_MOVE)?;
     let spelled = with_move(room, format, made)?;
-    out.extend_from_slice(&spelled)
+    Ok(spelled)
 }
 
 fn take_name(alloc: Global, bytes: &[u8]) -> Result<(Name, &[u8]), TakeErr>

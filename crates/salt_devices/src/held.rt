@@ -27,7 +27,7 @@ ghost use Rattle.std.specs.Prelude.{Err, IfOk, List, OnErr, OnOk, Some, false, l
 use crate::told::{told_keys, told_move};
 use law_types::typed_changes_are_sound;
 use salt_bytes::{Move, moves_are_read};
-use salt_codec::put_move;
+use salt_codec::spelled_move;
 use salt_commit::{Store, StoreErr};
 use salt_decisions::FORMAT;
 use salt_disk::Disks;
@@ -158,8 +158,7 @@ pub fn decide_unit<D: Disks, F: Fn(PlaceKind, &Key, u32) -> u32>(
     moves_are_read();
     told_move(made);
     told_keys(changes.as_slice());
-    let mut spelled = Vec::new(alloc);
-    put_move(&mut spelled, FORMAT, made)?;
+    let spelled = spelled_move(alloc, FORMAT, made)?;
     match store.commit(disks, place, unit, changes, &spelled) {
         Ok(number) => Ok(number),
         Err(e) => Err(halt_of(e)),
