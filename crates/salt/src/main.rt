@@ -15,7 +15,7 @@ use std::alloc::AllocError;
 use std::fs::File;
 use std::process::ExitCode;
 use std::rt::Env;
-use std::{env, io};
+use std::{env, io, mem};
 
 /// How many devices there are in memory, and how long each may be.
 const DEVICES: u32 = 26;
@@ -56,7 +56,11 @@ fn run_over<D: Disks>(rt: &HostRuntime, words: &[String], disks: &mut D) -> Stat
     );
     let mut source = StdSource::new(rt.reader());
     let mut sink = StdSink::new(io::writer(rt));
-    run(rt.alloc(), words, &mut source, &mut sink, disks, &place).status
+    let ended = run(rt.alloc(), words, &mut source, &mut sink, disks, &place);
+    let status = ended.status;
+    // the process ends next: its memory goes at once, and the events of a story need not be let go one by one
+    mem::forget(ended);
+    status
 }
 
 /// Runs what the words say: over the files of the folder that they name, or in memory. No device's file is opened where a closed stream
