@@ -1,10 +1,11 @@
 //! Which held locks clash with what is asked.
 
 ghost use Rattle.salt_locks.specs.Tables.{owners_against};
-ghost use Rattle.salt_model.specs.Locks.{clashes, is_clash, is_read};
+ghost use Rattle.salt_model.specs.Locks.{clashes, is_clash, is_read, is_same_owner};
+ghost use Rattle.salt_ranges.specs.Ranges.{meets};
 ghost use Rattle.std.specs.List.{find};
 ghost use Rattle.std.specs.Option.{option_copied};
-ghost use Rattle.std.specs.Prelude.{IfOk, ◌≡◌};
+ghost use Rattle.std.specs.Prelude.{IfOk, not, ◌&&◌, ◌==◌, ◌≡◌};
 
 use crate::owners::{is_same_owner, joined};
 use salt_model::{Family, Lock, Mode, Owner, Owners, Reach};
@@ -29,14 +30,19 @@ fn is_clash(held: Family, mode: Mode, asked: Family, other: Mode) -> bool
     }
 }
 
-/// Whether a held lock clashes with what an owner asks.
+/// Whether a held lock is another owner's, and has a key in common with what an owner asks.
+fn is_against(owner: Owner, reach: &Reach, lock: &Lock) -> bool
+    ensures { result ≡ (not (is_same_owner owner lock.now.owner) && (lock.now.table == reach.now.table) && meets lock.now.range reach.now.range) }
+{
+    !is_same_owner(owner, lock.owner) && lock.table == reach.table && lock.range.meets(&reach.range)
+}
+
+/// Whether a held lock clashes with what an owner asks. Whether the two may stand together is looked at first: keys cost more to
+/// compare, and where many locks stand on one row they are as a rule those of programs, which let each other's statements pass.
 pub fn clashes(owner: Owner, family: Family, reach: &Reach, lock: &Lock) -> bool
     ensures { result ≡ clashes owner family reach.now lock.now }
 {
-    !is_same_owner(owner, lock.owner)
-        && lock.table == reach.table
-        && lock.range.meets(&reach.range)
-        && is_clash(lock.family, lock.mode, family, reach.mode)
+    is_clash(lock.family, lock.mode, family, reach.mode) && is_against(owner, reach, lock)
 }
 
 /// The first of the locks that clashes with what an owner asks. None is looked at behind it.
